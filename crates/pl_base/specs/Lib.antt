@@ -1,0 +1,12 @@
+pub mod Bytes
+pub mod Answers
+pub mod Each
+pub mod Below
+pub mod Counts
+pub mod Streams
+pub mod Names
+pub mod Files
+pub mod Digits
+pub mod Sums
+pub mod Memory
+pub mod Windows

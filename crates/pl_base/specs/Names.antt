@@ -1,0 +1,25 @@
+-- Names of files, as bytes.
+use Rattle.std.specs.Prelude.{ℕ, ◌≤◌, Bool, ◌&&◌, ◌||◌, not, List, length, codes, ◌==◌, nat_le, nat_eq}
+use Rattle.std.specs.List.{list_all, starts_with}
+use Rattle.std.specs.Str.{bytes_eq}
+
+-- a name that a call of a folder may be given: 1 to 255 bytes
+abbrev pub IsNameLength : List ℕ → Type 0
+IsNameLength name = (1 ≤ length name) × (length name ≤ 255)
+
+-- a byte from 0x21 to 0x7e that is no `/`
+unfoldable pub is_name_byte : ℕ → Bool
+is_name_byte byte = nat_le 0x21 byte && nat_le byte 0x7e && not (byte == 0x2f)
+
+-- the program's own names begin so
+unfoldable pub is_own_name : List ℕ → Bool
+is_own_name name = starts_with nat_eq name (codes ".prelink.")
+
+-- the names that stand for folders
+unfoldable pub is_dots : List ℕ → Bool
+is_dots name = bytes_eq name (codes ".") || bytes_eq name (codes "..")
+
+-- a valid name has 1 to 255 bytes, each from 0x21 to 0x7e and no `/`, is not the program's own, and is neither `.` nor `..`
+unfoldable pub is_valid_name : List ℕ → Bool
+is_valid_name name =
+    nat_le 1 (length name) && nat_le (length name) 255 && list_all is_name_byte name && not (is_own_name name) && not (is_dots name)
