@@ -1,2 +1,3 @@
-pub mod HexLemmas
 pub mod PutLemmas
+pub mod HexLemmas
+pub mod FilesLaws

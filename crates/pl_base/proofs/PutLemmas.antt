@@ -1,5 +1,5 @@
 -- A number written through the rest of a slice is put at its offset.
-use Rattle.std.proofs.Common.{◌≡◌, ◌≤◌, ℕ, ◌+◌, ◌-◌, List, [], ◌++◌, length, take, drop, refl, sym, ap, ◌∙◌, append_assoc, arith, length-drop}
+use Rattle.std.proofs.Common.{◌≡◌, ◌≤◌, ℕ, ◌+◌, ◌-◌, List, [], ◌++◌, length, take, drop, sym, ap, ◌∙◌, append_assoc, arith, length-drop}
 use Rattle.std.proofs.lemmas.List.{drop-drop, drop_all, take_rest, append-nil}
 use borrow.Rule.Slice.PartMut.{put_mid, mid_of}
 use Rattle.pl_base.specs.Bytes.{put}

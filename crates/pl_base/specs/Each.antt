@@ -1,5 +1,5 @@
 -- Steps over a list that may refuse.
-use Rattle.std.specs.Prelude.{List, [], ◌∷◌, Result, Ok, Err}
+use Rattle.std.specs.Prelude.{List, [], ◌∷◌, Result, Ok}
 use Rattle.pl_base.specs.Answers.{◌>>=◌}
 
 -- a step at each row in turn: all the results, or the first refusal
