@@ -1,20 +1,22 @@
 -- A map from names to bytes as files: what a look-up finds, and what a write makes.
-use Rattle.std.proofs.Common.{◌≡◌, ℕ, List, [], ◌∷◌, map, cond, Bool, true, false, Option, Some, None, refl, sym, ap, ◌∙◌}
-use Rattle.std.specs.Prelude.{String, Vec, string_bytes, string_cmp}
+use Rattle.std.proofs.Common.{◌≡◌, ℕ, suc, ◌+◌, ◌<◌, ◌≤◌, List, [], ◌∷◌, map, length, take, get_or, cond, Bool, true, false, Option, Some, None, refl, sym, ap, subst, ◌∙◌, arith, inl, inr}
+use Rattle.std.proofs.lemmas.List.{take_more, take_all, map-append, get_or-take, get_or_default, length-take-le}
+use Rattle.std.specs.Prelude.{String, Vec, string_bytes, string_cmp, AllPairs, ◌≢◌}
 use Rattle.std.specs.declared.alloc.Global.{Global}
 use Rattle.std.specs.Option.{option_map}
 use Rattle.std.specs.List.{find}
 use Rattle.std.specs.Str.{bytes_eq}
 use Rattle.std.specs.Ordering.{nat_cmp, eq_by_cmp}
 use Rattle.std.specs.Cmp.{eq_by_cmp_equiv}
-use Rattle.std.specs.Cmp.Lexicographic.{slice_cmp, texts_ties, nat_list_cmp_total}
-use Rattle.std.specs.FinMap.{empty, get, insert, remove, get-insert, get-remove, get-from_entries, same_map, slice_cmp-IsAntisymmetric, nat_cmp-IsAntisymmetric}
+use Rattle.std.specs.Cmp.Lexicographic.{slice_cmp, texts_ties, nat_list_cmp_total, bytes_decides}
+use Rattle.std.specs.FinMap.{empty, get, insert, remove, from_entries, get-insert, get-remove, get-from_entries, same_map, from_entries_push, slice_cmp-IsAntisymmetric, nat_cmp-IsAntisymmetric}
 use Rattle.std.specs.FinMap.Entries as entries
 use Rattle.std.specs.BTreeMap.{BTreeMap, get_by_text, is_at}
 use Rattle.std.specs.BTreeMap as tree
 use Rattle.std.specs.Map.{lookup}
+use Rattle.std.proofs.lemmas.Bool.{cases_Bool}
 use Rattle.std.proofs.lemmas.Map.Text.{btree_map_updates_text}
-use Rattle.pl_base.specs.Files.{file_entry, files_of}
+use Rattle.pl_base.specs.Files.{Files, file_entry, files_of}
 
 abbrev bytes_in : Option (Vec ℕ Global) → Option (List ℕ)
 bytes_in found = option_map (λ bytes. bytes.items) found
@@ -80,3 +82,55 @@ removed name m n updates =
 -- a map with no entries has no files
 pub no_entries : (es : List (String Global × Vec ℕ Global)) → es ≡ [] → files_of es ≡ empty
 no_entries es none = rw none refl
+
+-- ---- files inserted one after the other, from a list of distinct names
+
+-- no two of the files have one name
+abbrev pub AreDistinct : List (String Global × Vec ℕ Global) → Type 0
+AreDistinct files = AllPairs (λ x y. string_bytes x.0 ≢ string_bytes y.0) files
+
+-- a name that none of the files has is not found
+pub no_such_name : (es : List (String Global × Vec ℕ Global)) (name : List ℕ) → ((i : ℕ) (d : String Global × Vec ℕ Global) → i < length es → string_bytes (get_or es i d).0 ≢ name) → get (files_of es) name ≡ None
+no_such_name es name other = get-files_of_list es name ∙ ap (option_map (λ (file : String Global × Vec ℕ Global). file.1.items)) (missed es other)
+  where
+    missed : (es : List (String Global × Vec ℕ Global)) → ((i : ℕ) (d : String Global × Vec ℕ Global) → i < length es → string_bytes (get_or es i d).0 ≢ name) → find (λ file. bytes_eq name (string_bytes file.0)) es ≡ None
+    missed [] other = refl
+    missed (e ∷ es) other =
+        let differs : bytes_eq name (string_bytes e.0) ≡ false = elim (cases_Bool (bytes_eq name (string_bytes e.0))) [
+          | inl same ↦ absurd (other 0 e (omega arith) (sym ((bytes_decides name (string_bytes e.0)).0 same)))
+          | inr miss ↦ miss
+        ] in
+        rw differs (missed es (λ i d lt. other (suc i) d (omega (arith, lt))))
+
+-- of distinct names, the next is not among those before
+pub next_is_new : (files : List (String Global × Vec ℕ Global)) (i : ℕ) (d : String Global × Vec ℕ Global) → AreDistinct files → i < length files → get (files_of (take i files)) (string_bytes (get_or files i d).0) ≡ None
+next_is_new files i d distinct lt =
+    no_such_name (take i files) (string_bytes (get_or files i d).0)
+    (λ j e within. let below : j < i = omega (arith, within, length-take-le i files (omega (arith, lt))) in
+    subst (λ (file : String Global × Vec ℕ Global). string_bytes file.0 ≢ string_bytes (get_or files i d).0) (sym (get_or-take i files j e below)) (λ same. distinct j i e below lt (same ∙ ap (λ (file : String Global × Vec ℕ Global). string_bytes file.0) (get_or_default files i d e lt))))
+
+-- one file more, with a name that is new
+pub files_of_more : (files : List (String Global × Vec ℕ Global)) (i : ℕ) (d : String Global × Vec ℕ Global) → i < length files → get (files_of (take i files)) (string_bytes (get_or files i d).0) ≡ None
+    → files_of (take (i + 1) files) ≡ insert (files_of (take i files)) (string_bytes (get_or files i d).0) (get_or files i d).1.items
+files_of_more files i d lt new =
+    let none : entries.find (slice_cmp nat_cmp) (string_bytes (get_or files i d).0) (map file_entry (take i files)) ≡ None = sym (get-from_entries nat_list_cmp_total (map file_entry (take i files)) (string_bytes (get_or files i d).0)) ∙ new in
+    ap files_of (take_more files i d lt)
+    ∙ ap (λ (es : List (List ℕ × List ℕ)). from_entries es) (map-append file_entry (take i files) (get_or files i d ∷ []))
+    ∙ from_entries_push nat_list_cmp_total (slice_cmp-IsAntisymmetric nat_cmp-IsAntisymmetric) (map file_entry (take i files)) (string_bytes (get_or files i d).0) (get_or files i d).1.items none
+
+-- a loop that inserts a copy of each file: the map has the files so far
+pub copies_begin : (m : BTreeMap (String Global) (Vec ℕ Global)) (files : List (String Global × Vec ℕ Global)) → m.entries ≡ [] → files_of m.entries ≡ files_of (take 0 files)
+copies_begin m files none = rw none refl
+
+pub copies_more : (files : List (String Global × Vec ℕ Global)) (i : ℕ) (d : String Global × Vec ℕ Global) (name : String Global) (bytes : Vec ℕ Global) (m n : BTreeMap (String Global) (Vec ℕ Global)) → i < length files
+    → get (files_of (take i files)) (string_bytes (get_or files i d).0) ≡ None → string_bytes name ≡ string_bytes (get_or files i d).0 → bytes.items ≡ (get_or files i d).1.items
+    → tree.Updates string_cmp m n name (Some bytes) → files_of m.entries ≡ files_of (take i files) → files_of n.entries ≡ files_of (take (i + 1) files)
+copies_more files i d name bytes m n lt new name_is bytes_are updates so_far =
+    inserted (string_bytes name) bytes m n updates
+    ∙ ap (λ (fs : Files). insert fs (string_bytes name) bytes.items) so_far
+    ∙ ap (λ (key : List ℕ). insert (files_of (take i files)) key bytes.items) name_is
+    ∙ ap (λ (xs : List ℕ). insert (files_of (take i files)) (string_bytes (get_or files i d).0) xs) bytes_are
+    ∙ sym (files_of_more files i d lt new)
+
+pub copies_done : (m : BTreeMap (String Global) (Vec ℕ Global)) (files : List (String Global × Vec ℕ Global)) (i : ℕ) → length files ≤ i → files_of m.entries ≡ files_of (take i files) → files_of m.entries ≡ files_of files
+copies_done m files i le so_far = so_far ∙ ap files_of (take_all i files le)

@@ -1,3 +1,9 @@
 pub mod PutLemmas
 pub mod HexLemmas
 pub mod FilesLaws
+pub mod BelowLaws
+pub mod ResultLaws
+pub mod StreamLaws
+pub mod EachLaws
+pub mod RunLaws
+pub mod SumLaws
