@@ -7,3 +7,4 @@ pub mod StreamLaws
 pub mod EachLaws
 pub mod RunLaws
 pub mod SumLaws
+pub mod WindowLaws
