@@ -8,3 +8,5 @@ pub mod EachLaws
 pub mod RunLaws
 pub mod SumLaws
 pub mod WindowLaws
+pub mod WordLaws
+pub mod MemoryLaws

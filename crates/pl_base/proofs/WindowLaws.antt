@@ -1,13 +1,14 @@
 -- What is written into windows, and what stays.
 use Rattle.std.proofs.Common.{◌≡◌, ℕ, zero, suc, ◌+◌, ◌-◌, ◌*◌, ◌/◌, ◌%◌, ◌<◌, ◌≤◌, Bool, true, false, List, [], ◌∷◌, ◌++◌, length, get_or, take, drop, replicate, refl, sym, ap, ◌∙◌, append_assoc, arith, inl, inr, rules}
-use Rattle.std.specs.Prelude.{◌⊎◌, ◌||◌, ◌&&◌, slice_index, nat_lt, nat_le, AllPairs}
+use Rattle.std.specs.Prelude.{◌⊎◌, ◌||◌, nat_le, min, AllPairs}
 use Rattle.std.specs.List.{list_any}
-use Rattle.std.proofs.lemmas.Bool.{cases_Bool, cases_lt, or_parts, and_parts, false≢true}
+use Rattle.std.proofs.lemmas.Bool.{cases_Bool, cases_lt, or_parts, and_parts}
 use Rattle.std.proofs.lemmas.Bool.Decides.{nat_tests}
-use Rattle.std.proofs.lemmas.List.{places, ext_get_or, length-append, length-take, length-drop, length-take-le, length-replicate, get_or-take, get_or-drop, drop-drop, take-append-drop, take-append-le, drop-append-le, append-nil, take_at, drop_at}
+use Rattle.std.proofs.Math.Nat.{min-le_left}
+use Rattle.std.proofs.lemmas.List.{places, ext_get_or, length-append, length-take, length-drop, length-take-le, length-replicate, get_or-take, get_or-drop, drop-drop, drop-take, take-take, take_all, take-append-drop, take-append-le, drop-append-le, append-nil, take_at, drop_at}
 use Rattle.std.proofs.lemmas.List.Folds.{list_any-append}
 use Rattle.pl_base.specs.Bytes.{part, put}
-use Rattle.pl_base.specs.Windows.{Window, end_of, within, on, Put, window_of, windows, put_all, own, holds, share, any_share, are_in, IsIn, AllIn, AreApart, IsApart, Agree, gap, ◌⊕◌}
+use Rattle.pl_base.specs.Windows.{Window, end_of, within, Put, window_of, windows, put_all, own, holds, share, any_share, are_in, IsIn, AllIn, AreApart, IsApart, Agree, gap, ◌⊕◌}
 
 pub length-put : (at : ℕ) (new bytes : List ℕ) → at + length new ≤ length bytes → length (put at new bytes) ≡ length bytes
 unfolding put
@@ -144,3 +145,203 @@ agree_edits (p ∷ ps) ws xs ys h fits =
     let same_size : length (put p.at p.bytes xs) ≡ length xs = one.size ∙ sym h.size in
     let rest = agree_edits ps (window_of p ∷ ws) (put p.at p.bytes xs) ys one (rw same_size fits.1) in
     agree_wider (windows ps ++ (window_of p ∷ ws)) (windows (p ∷ ps) ++ ws) (put_all ps (put p.at p.bytes xs)) ys (carried (window_of p) (windows ps) ws) rest
+
+-- the other file's bytes written into windows: so many windows less
+pub agree_own : (ws vs : List Window) (xs ys : List ℕ) → Agree (ws ++ vs) xs ys → AllIn (length ys) ws → Agree vs (put_all (own ws ys) xs) ys
+unfolding put_all
+agree_own [] vs xs ys h fits = h
+agree_own (w ∷ ws) vs xs ys h fits = agree_own ws vs (put w.at (within w ys) xs) ys (agree_back w (ws ++ vs) xs ys h fits.0) fits.1
+
+-- the other file's bytes written into all windows give the other file
+pub agree_undo : (ws : List Window) (xs ys : List ℕ) → Agree ws xs ys → AllIn (length ys) ws → put_all (own ws ys) xs ≡ ys
+agree_undo ws xs ys h fits = agree_nowhere (put_all (own ws ys) xs) ys (agree_own ws [] xs ys (rw (append-nil ws) h) fits)
+
+-- either way round, and through a third file
+pub agree_turned : (ws : List Window) (xs ys : List ℕ) → Agree ws xs ys → Agree ws ys xs
+agree_turned ws xs ys h = record { size = sym h.size; bytes = λ k out. sym (h.bytes k out) }
+
+pub agree_through : (ws : List Window) (xs ys zs : List ℕ) → Agree ws xs ys → Agree ws ys zs → Agree ws xs zs
+agree_through ws xs ys zs h k = record { size = h.size ∙ k.size; bytes = λ at out. h.bytes at out ∙ k.bytes at out }
+
+-- a file agrees with itself
+pub agree_itself : (ws : List Window) (xs : List ℕ) → Agree ws xs xs
+agree_itself ws xs = record { size = refl; bytes = λ at out. refl }
+
+-- puts change no length
+pub length-put_all : (ps : List Put) (xs : List ℕ) → AllIn (length xs) (windows ps) → length (put_all ps xs) ≡ length xs
+unfolding put_all
+length-put_all [] xs fits = refl
+length-put_all (p ∷ ps) xs fits =
+    let same_size : length (put p.at p.bytes xs) ≡ length xs = length-put p.at p.bytes xs fits.0 in
+    length-put_all ps (put p.at p.bytes xs) (rw same_size fits.1) ∙ same_size
+
+-- the windows of a file's own bytes
+pub windows-own : (ws : List Window) (xs : List ℕ) → AllIn (length xs) ws → windows (own ws xs) ≡ ws
+windows-own [] xs fits = refl
+windows-own (w ∷ ws) xs fits =
+    let size : length (within w xs) ≡ w.size = length-within w xs fits.0 in
+    let rest : windows (own ws xs) ≡ ws = windows-own ws xs fits.1 in
+    ap (λ (n : ℕ). record { at = w.at; size = n } ∷ windows (own ws xs)) size ∙ ap (λ (vs : List Window). w ∷ vs) rest
+
+-- ---- parts
+
+-- a byte of a part
+pub part_byte : (at size : ℕ) (bytes : List ℕ) (i : ℕ) → i < size → get_or (part at size bytes) i 0 ≡ get_or bytes (at + i) 0
+part_byte at size bytes i lt = get_or-take size (drop at bytes) i 0 lt ∙ get_or-drop at bytes i 0
+
+-- how many bytes a part has
+pub length-part : (at size : ℕ) (bytes : List ℕ) → at + size ≤ length bytes → length (part at size bytes) ≡ size
+length-part at size bytes fits = length-take-le size (drop at bytes) (omega (arith, length-drop at bytes))
+
+-- the same bytes there: the same part
+pub part_same : (at size : ℕ) (xs ys : List ℕ) → length xs ≡ length ys → ((k : ℕ) → at ≤ k → k < at + size → get_or xs k 0 ≡ get_or ys k 0) → part at size xs ≡ part at size ys
+part_same at size xs ys len same =
+    let lengths : length (part at size xs) ≡ length (part at size ys) =
+    length-take size (drop at xs) ∙ ap (min size) (length-drop at xs ∙ ap (λ (n : ℕ). n - at) len ∙ sym (length-drop at ys)) ∙ sym (length-take size (drop at ys)) in
+    ext_get_or 0 (part at size xs) (part at size ys) lengths
+    (λ i lt. let within_size : i < size = omega (arith, lt, length-take size (drop at xs), min-le_left size (length (drop at xs))) in
+    part_byte at size xs i within_size ∙ same (at + i) (omega arith) (omega (arith, within_size)) ∙ sym (part_byte at size ys i within_size))
+
+-- a part that lies apart from what is put stays
+pub part_apart : (at size put_at : ℕ) (new bytes : List ℕ) → put_at + length new ≤ length bytes → (at + size ≤ put_at) ⊎ (put_at + length new ≤ at) → part at size (put put_at new bytes) ≡ part at size bytes
+part_apart at size put_at new bytes fits (inl le) = part_same at size (put put_at new bytes) bytes (length-put put_at new bytes fits) (λ k from to. put_out put_at new bytes k fits (inl (omega (arith, to, le))))
+part_apart at size put_at new bytes fits (inr le) = part_same at size (put put_at new bytes) bytes (length-put put_at new bytes fits) (λ k from to. put_out put_at new bytes k fits (inr (omega (arith, from, le))))
+
+-- a part put over itself changes nothing
+pub put_itself : (at size : ℕ) (bytes : List ℕ) → at + size ≤ length bytes → put at (part at size bytes) bytes ≡ bytes
+unfolding put
+put_itself at size bytes fits =
+    ap (λ (n : ℕ). take at bytes ++ part at size bytes ++ drop (at + n) bytes) (length-part at size bytes fits)
+    ∙ append_assoc (take at bytes) (take size (drop at bytes)) (drop (at + size) bytes)
+    ∙ ap (λ (x : List ℕ). take at bytes ++ (take size (drop at bytes) ++ x)) (sym (drop-drop size at bytes))
+    ∙ ap (λ (x : List ℕ). take at bytes ++ x) (take-append-drop size (drop at bytes))
+    ∙ take-append-drop at bytes
+
+-- a part of a part
+pub part_part : (at size i n : ℕ) (bytes : List ℕ) → i + n ≤ size → part i n (part at size bytes) ≡ part (at + i) n bytes
+part_part at size i n bytes le =
+    let whole : size ≡ i + (size - i) = omega (arith, le) in
+    ap (λ (m : ℕ). take n (drop i (take m (drop at bytes)))) whole
+    ∙ ap (take n) (drop-take i (size - i) (drop at bytes))
+    ∙ take-take n (size - i) (drop i (drop at bytes)) (omega (arith, le))
+    ∙ ap (take n) (drop-drop i at bytes)
+
+-- the whole
+pub part_all : (bytes : List ℕ) → part 0 (length bytes) bytes ≡ bytes
+part_all bytes = take_all (length bytes) bytes (omega arith)
+
+-- a part wholly in the front of two lists, and one wholly behind
+pub part_front : (at size : ℕ) (xs ys : List ℕ) → at + size ≤ length xs → part at size (xs ++ ys) ≡ part at size xs
+part_front at size xs ys le =
+    ap (take size) (drop-append-le at xs ys (omega (arith, le))) ∙ take-append-le size (drop at xs) ys (omega (arith, le, length-drop at xs))
+
+pub part_behind : (i size : ℕ) (xs ys : List ℕ) → part (length xs + i) size (xs ++ ys) ≡ part i size ys
+part_behind i size xs ys =
+    ap (take size) (sym (drop-drop i (length xs) (xs ++ ys)) ∙ ap (drop i) (drop_at xs ys (length xs) refl))
+
+-- ---- windows that lie apart, and windows that lie in a file
+
+pub apart_turned : (v w : Window) → AreApart v w → AreApart w v
+apart_turned v w (inl le) = inr (inl le)
+apart_turned v w (inr (inl le)) = inl le
+apart_turned v w (inr (inr (inl none))) = inr (inr (inr none))
+apart_turned v w (inr (inr (inr none))) = inr (inr (inl none))
+
+-- windows that share no byte lie apart
+pub not_share : (v w : Window) → share v w ≡ false → AreApart v w
+not_share v w none = elim (cases_lt v.at (end_of w)) [
+  | inr le ↦ inr (inl le)
+  | inl a ↦ elim (cases_lt w.at (end_of v)) [
+    | inr le ↦ inl le
+    | inl b ↦ elim (cases_lt 0 v.size) [
+      | inr none ↦ inr (inr (inl (omega (arith, none))))
+      | inl c ↦ elim (cases_lt 0 w.size) [
+        | inr none ↦ inr (inr (inr (omega (arith, none))))
+        | inl d ↦ absurd (grind (arith, nat_tests))
+      ]
+    ]
+  ]
+]
+
+-- no two of the windows share a byte
+abbrev pub AreAllApart : List Window → Type 0
+AreAllApart [] = Unit {0}
+AreAllApart (w ∷ ws) = IsApart w ws × AreAllApart ws
+
+none_shared : (v : Window) (ws : List Window) → list_any (share v) ws ≡ false → IsApart v ws
+none_shared v [] none = tt
+none_shared v (w ∷ ws) none =
+    let p = or_parts (share v w) (list_any (share v) ws) none in
+    (not_share v w p.0, none_shared v ws p.1)
+
+pub none_share : (ws : List Window) → any_share ws ≡ false → AreAllApart ws
+none_share [] none = tt
+none_share (w ∷ ws) none =
+    let p = or_parts (list_any (share w) ws) (any_share ws) none in
+    (none_shared w ws p.0, none_share ws p.1)
+
+-- the same by places in the list
+pub apart_at : (v : Window) (ws : List Window) → IsApart v ws → (i : ℕ) (d : Window) → i < length ws → AreApart v (get_or ws i d)
+apart_at v [] h i d lt = absurd (omega (arith, lt))
+apart_at v (w ∷ ws) h zero d lt = h.0
+apart_at v (w ∷ ws) h (suc i) d lt = apart_at v ws h.1 i d (omega (arith, lt))
+
+pub all_apart_at : (ws : List Window) → AreAllApart ws → AllPairs AreApart ws
+all_apart_at [] h i j d lt within = absurd (omega (arith, within))
+all_apart_at (w ∷ ws) h i zero d lt within = absurd (omega (arith, lt))
+all_apart_at (w ∷ ws) h zero (suc j) d lt within = apart_at w ws h.0 j d (omega (arith, within))
+all_apart_at (w ∷ ws) h (suc i) (suc j) d lt within = all_apart_at ws h.1 i j d (omega (arith, lt)) (omega (arith, within))
+
+-- windows that are in so many bytes
+pub all_in : (size : ℕ) (ws : List Window) → are_in size ws ≡ true → AllIn size ws
+all_in size [] given = tt
+all_in size (w ∷ ws) given =
+    let p = and_parts (nat_le (end_of w) size) (are_in size ws) given in
+    (grind (arith, nat_tests), all_in size ws p.1)
+
+pub in_at : (size : ℕ) (ws : List Window) → AllIn size ws → (i : ℕ) (d : Window) → i < length ws → IsIn size (get_or ws i d)
+in_at size [] h i d lt = absurd (omega (arith, lt))
+in_at size (w ∷ ws) h zero d lt = h.0
+in_at size (w ∷ ws) h (suc i) d lt = in_at size ws h.1 i d (omega (arith, lt))
+
+-- ---- parts one after the other
+
+-- a size and its gap are a multiple of 8
+pub gap_to : (size : ℕ) → size + gap size ≡ (size + 7) / 8 * 8
+gap_to size = omega arith
+
+pub gap_multiple : (size : ℕ) → (size + gap size) % 8 ≡ 0
+gap_multiple size = omega arith
+
+pub gap_none : (size : ℕ) → size % 8 ≡ 0 → gap size ≡ 0
+gap_none size multiple = omega (arith, multiple)
+
+pub gap_small : (size : ℕ) → gap size < 8
+gap_small size = omega arith
+
+length-front : (front : List ℕ) → length (front ++ replicate (gap (length front)) 0) ≡ (length front + 7) / 8 * 8
+length-front front = length-append front (replicate (gap (length front)) 0) ∙ ap (λ (n : ℕ). length front + n) (length-replicate (gap (length front)) 0) ∙ gap_to (length front)
+
+-- how long the sum is
+pub length-⊕ : (front next : List ℕ) → length (front ⊕ next) ≡ (length front + 7) / 8 * 8 + length next
+length-⊕ front next = length-append (front ++ replicate (gap (length front)) 0) next ∙ ap (λ (n : ℕ). n + length next) (length-front front)
+
+pub ⊕-multiple : (front next : List ℕ) → length next % 8 ≡ 0 → length (front ⊕ next) % 8 ≡ 0
+⊕-multiple front next multiple = omega (arith, length-⊕ front next, multiple)
+
+-- behind a multiple of 8 there is no gap
+pub ⊕-plain : (front next : List ℕ) → length front % 8 ≡ 0 → front ⊕ next ≡ front ++ next
+⊕-plain front next multiple = ap (λ (n : ℕ). (front ++ replicate n 0) ++ next) (gap_none (length front) multiple) ∙ ap (λ (xs : List ℕ). xs ++ next) (append-nil front)
+
+-- a part wholly in the front stays
+pub part_under : (at size : ℕ) (front next : List ℕ) → at + size ≤ length front → part at size (front ⊕ next) ≡ part at size front
+part_under at size front next le =
+    part_front at size (front ++ replicate (gap (length front)) 0) next (omega (arith, le, length-front front))
+    ∙ part_front at size front (replicate (gap (length front)) 0) le
+
+-- the added part is found at its place
+pub part_added : (front next : List ℕ) → part ((length front + 7) / 8 * 8) (length next) (front ⊕ next) ≡ next
+part_added front next =
+    ap (λ (at : ℕ). part at (length next) (front ⊕ next)) (sym (length-front front) ∙ omega arith)
+    ∙ part_behind 0 (length next) (front ++ replicate (gap (length front)) 0) next
+    ∙ part_all next

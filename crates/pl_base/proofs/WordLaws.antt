@@ -1,0 +1,276 @@
+-- Words in bytes: a word depends on its own bytes, is read as it was written, and stays where a put lies apart.
+use Rattle.std.proofs.Common.{◌≡◌, ℕ, zero, suc, ◌+◌, ◌-◌, ◌/◌, ◌^◌, ◌<◌, ◌≤◌, List, [], ◌++◌, length, take, drop, replicate, refl, sym, ap, ◌∙◌, arith, inl, inr, rules}
+use Rattle.std.specs.Prelude.{◌⊎◌}
+use Rattle.std.specs.Int.{w16, w32, w64, to_le_bytes, from_le_bytes, byte_at, bytes_low_first}
+use Rattle.std.proofs.lemmas.Bool.{cases_lt}
+use Rattle.std.proofs.lemmas.List.{places, append-nil, get_or-drop, get_or_append_left, get_or-append_right}
+use Rattle.std.proofs.lemmas.Nat.{le_bytes_2, le_bytes_4, le_bytes_8, mod_below}
+use Rattle.byteorder.specs.Endian.{little_from, little_number, little_bytes}
+use Rattle.byteorder.specs.Numbers.{little_from-take, little_from-lt, little_number-reads_back, length-bytes_low_first}
+use Rattle.pl_base.specs.Bytes.{IsBytes, word16, word32, word64, bytes16, bytes32, bytes64, part, put}
+use Rattle.pl_base.specs.Windows.{gap, ◌⊕◌}
+use Rattle.pl_base.proofs.WindowLaws.{within_put, part_apart, part_part, part_front, put_itself, length-part}
+
+-- ---- lists of bytes
+
+pub IsBytes-nil : IsBytes []
+IsBytes-nil i = omega arith
+
+-- what is dropped, taken, joined, or put leaves bytes
+pub IsBytes-drop : (n : ℕ) (xs : List ℕ) → IsBytes xs → IsBytes (drop n xs)
+IsBytes-drop n xs h i = rw (get_or-drop n xs i 0) (h (n + i))
+
+pub IsBytes-take : (n : ℕ) (xs : List ℕ) → IsBytes xs → IsBytes (take n xs)
+IsBytes-take n xs h i = search (rules, places)
+
+pub IsBytes-part : (at size : ℕ) (xs : List ℕ) → IsBytes xs → IsBytes (part at size xs)
+IsBytes-part at size xs h = IsBytes-take size (drop at xs) (IsBytes-drop at xs h)
+
+pub IsBytes-append : (xs ys : List ℕ) → IsBytes xs → IsBytes ys → IsBytes (xs ++ ys)
+IsBytes-append xs ys h k i = elim (cases_lt i (length xs)) [
+  | inl lt ↦ rw (get_or_append_left xs ys 0 i lt) (h i)
+  | inr le ↦ rw (get_or-append_right xs ys (length xs) i 0 refl le) (k (i - length xs))
+]
+
+pub IsBytes-put : (at : ℕ) (new xs : List ℕ) → IsBytes new → IsBytes xs → IsBytes (put at new xs)
+unfolding put
+IsBytes-put at new xs h k = IsBytes-append (take at xs ++ new) (drop (at + length new) xs) (IsBytes-append (take at xs) new (IsBytes-take at xs k) h) (IsBytes-drop (at + length new) xs k)
+
+pub IsBytes-zeros : (n : ℕ) → IsBytes (replicate n 0)
+IsBytes-zeros zero i = omega arith
+IsBytes-zeros (suc n) zero = omega arith
+IsBytes-zeros (suc n) (suc i) = IsBytes-zeros n i
+
+pub IsBytes-⊕ : (front next : List ℕ) → IsBytes front → IsBytes next → IsBytes (front ⊕ next)
+IsBytes-⊕ front next h k = IsBytes-append (front ++ replicate (gap (length front)) 0) next (IsBytes-append front (replicate (gap (length front)) 0) h (IsBytes-zeros (gap (length front)))) k
+
+-- ---- numbers of k bytes
+
+-- a number by its bytes alone
+number_within : (k at : ℕ) (xs : List ℕ) → little_number k (drop at xs) ≡ little_number k (drop 0 (part at k xs))
+number_within k at xs = sym (little_from-take 0 k k (drop at xs) (omega arith))
+
+number_same : (k at at' : ℕ) (xs ys : List ℕ) → part at k xs ≡ part at' k ys → little_number k (drop at xs) ≡ little_number k (drop at' ys)
+number_same k at at' xs ys same = number_within k at xs ∙ ap (little_number k) same ∙ sym (number_within k at' ys)
+
+-- what was put is read
+number_put : (k at number : ℕ) (new xs : List ℕ) → new ≡ little_bytes k number → at + k ≤ length xs → number < 256 ^ k → little_number k (drop at (put at new xs)) ≡ number
+number_put k at number new xs is fits small =
+    let size : length new ≡ k = ap length is ∙ length-bytes_low_first 0 k number in
+    let there : part at k (put at new xs) ≡ new = ap (λ (n : ℕ). part at n (put at new xs)) (sym size) ∙ within_put at new xs (omega (arith, size, fits)) in
+    number_within k at (put at new xs)
+    ∙ ap (little_number k) (there ∙ is ∙ sym (append-nil (little_bytes k number)))
+    ∙ little_number-reads_back k number [] small
+
+number_apart : (k at put_at : ℕ) (new xs : List ℕ) → put_at + length new ≤ length xs → (at + k ≤ put_at) ⊎ (put_at + length new ≤ at) → little_number k (drop at (put put_at new xs)) ≡ little_number k (drop at xs)
+number_apart k at put_at new xs fits apart = number_same k at at (put put_at new xs) xs (part_apart at k put_at new xs fits apart)
+
+number_part : (k at size i : ℕ) (xs : List ℕ) → i + k ≤ size → little_number k (drop i (part at size xs)) ≡ little_number k (drop (at + i) xs)
+number_part k at size i xs le = number_same k i (at + i) (part at size xs) xs (part_part at size i k xs le)
+
+number_front : (k at : ℕ) (xs ys : List ℕ) → at + k ≤ length xs → little_number k (drop at (xs ++ ys)) ≡ little_number k (drop at xs)
+number_front k at xs ys le = number_same k at at (xs ++ ys) xs (part_front at k xs ys le)
+
+one_byte : (j number : ℕ) → byte_at j number < 256
+one_byte zero number = omega arith
+one_byte (suc j) number = mod_below (number / 256 ^ suc j) 256 (omega arith)
+
+bytes_are_bytes : (j k number : ℕ) → IsBytes (bytes_low_first j k number)
+bytes_are_bytes j zero number i = omega arith
+bytes_are_bytes j (suc k) number zero = one_byte j number
+bytes_are_bytes j (suc k) number (suc i) = bytes_are_bytes (suc j) k number i
+
+-- ---- 16 bits
+
+-- in std's words
+pub word16-std : (at : ℕ) (xs : List ℕ) → word16 at xs ≡ from_le_bytes w16 (drop at xs)
+unfolding word16
+word16-std at xs = omega arith
+
+pub bytes16-std : (number : ℕ) → bytes16 number ≡ to_le_bytes w16 number
+unfolding bytes16
+bytes16-std number = refl
+
+-- the bytes of a number, how many and that they are bytes
+pub length-bytes16 : (number : ℕ) → length (bytes16 number) ≡ 2
+unfolding bytes16
+length-bytes16 number = length-bytes_low_first 0 2 number
+
+pub IsBytes-bytes16 : (number : ℕ) → IsBytes (bytes16 number)
+unfolding bytes16
+IsBytes-bytes16 number = bytes_are_bytes 0 2 number
+
+-- how great a word is
+pub word16-below : (at : ℕ) (xs : List ℕ) → IsBytes xs → word16 at xs < 2 ^ 16
+unfolding word16
+word16-below at xs h =
+    let below : little_from 0 2 (drop at xs) < 256 ^ 2 = little_from-lt 0 2 (drop at xs) (IsBytes-drop at xs h) in
+    below
+
+-- a word by its bytes alone
+pub word16-within : (at : ℕ) (xs : List ℕ) → word16 at xs ≡ word16 0 (part at 2 xs)
+unfolding word16
+word16-within at xs = number_within 2 at xs
+
+pub word16-same : (at at' : ℕ) (xs ys : List ℕ) → part at 2 xs ≡ part at' 2 ys → word16 at xs ≡ word16 at' ys
+unfolding word16
+word16-same at at' xs ys same = number_same 2 at at' xs ys same
+
+-- a word in a part, and in the front of two lists
+pub word16-part : (at size i : ℕ) (xs : List ℕ) → i + 2 ≤ size → word16 i (part at size xs) ≡ word16 (at + i) xs
+unfolding word16
+word16-part at size i xs le = number_part 2 at size i xs le
+
+pub word16-front : (at : ℕ) (xs ys : List ℕ) → at + 2 ≤ length xs → word16 at (xs ++ ys) ≡ word16 at xs
+unfolding word16
+word16-front at xs ys le = number_front 2 at xs ys le
+
+-- what was written is read
+pub word16-put : (at number : ℕ) (xs : List ℕ) → at + 2 ≤ length xs → number < 2 ^ 16 → word16 at (put at (bytes16 number) xs) ≡ number
+unfolding word16 bytes16
+word16-put at number xs fits small = number_put 2 at number (little_bytes 2 number) xs refl fits small
+
+-- a word apart from a put stays
+pub word16-apart : (at put_at : ℕ) (new xs : List ℕ) → put_at + length new ≤ length xs → (at + 2 ≤ put_at) ⊎ (put_at + length new ≤ at) → word16 at (put put_at new xs) ≡ word16 at xs
+unfolding word16
+word16-apart at put_at new xs fits apart = number_apart 2 at put_at new xs fits apart
+
+-- a word's bytes are those that stand there
+pub bytes16-word : (at : ℕ) (xs : List ℕ) → at + 2 ≤ length xs → IsBytes xs → bytes16 (word16 at xs) ≡ part at 2 xs
+bytes16-word at xs fits h =
+    bytes16-std (word16 at xs)
+    ∙ le_bytes_2 (part at 2 xs) (word16 at xs) (length-part at 2 xs fits) (IsBytes-part at 2 xs h) (word16-within at xs ∙ word16-std 0 (part at 2 xs))
+
+-- a word written over itself changes nothing
+pub put-word16 : (at : ℕ) (xs : List ℕ) → at + 2 ≤ length xs → IsBytes xs → put at (bytes16 (word16 at xs)) xs ≡ xs
+put-word16 at xs fits h = ap (λ (new : List ℕ). put at new xs) (bytes16-word at xs fits h) ∙ put_itself at 2 xs fits
+
+-- ---- 32 bits
+
+-- in std's words
+pub word32-std : (at : ℕ) (xs : List ℕ) → word32 at xs ≡ from_le_bytes w32 (drop at xs)
+unfolding word32
+word32-std at xs = omega arith
+
+pub bytes32-std : (number : ℕ) → bytes32 number ≡ to_le_bytes w32 number
+unfolding bytes32
+bytes32-std number = refl
+
+-- the bytes of a number, how many and that they are bytes
+pub length-bytes32 : (number : ℕ) → length (bytes32 number) ≡ 4
+unfolding bytes32
+length-bytes32 number = length-bytes_low_first 0 4 number
+
+pub IsBytes-bytes32 : (number : ℕ) → IsBytes (bytes32 number)
+unfolding bytes32
+IsBytes-bytes32 number = bytes_are_bytes 0 4 number
+
+-- how great a word is
+pub word32-below : (at : ℕ) (xs : List ℕ) → IsBytes xs → word32 at xs < 2 ^ 32
+unfolding word32
+word32-below at xs h =
+    let below : little_from 0 4 (drop at xs) < 256 ^ 4 = little_from-lt 0 4 (drop at xs) (IsBytes-drop at xs h) in
+    below
+
+-- a word by its bytes alone
+pub word32-within : (at : ℕ) (xs : List ℕ) → word32 at xs ≡ word32 0 (part at 4 xs)
+unfolding word32
+word32-within at xs = number_within 4 at xs
+
+pub word32-same : (at at' : ℕ) (xs ys : List ℕ) → part at 4 xs ≡ part at' 4 ys → word32 at xs ≡ word32 at' ys
+unfolding word32
+word32-same at at' xs ys same = number_same 4 at at' xs ys same
+
+-- a word in a part, and in the front of two lists
+pub word32-part : (at size i : ℕ) (xs : List ℕ) → i + 4 ≤ size → word32 i (part at size xs) ≡ word32 (at + i) xs
+unfolding word32
+word32-part at size i xs le = number_part 4 at size i xs le
+
+pub word32-front : (at : ℕ) (xs ys : List ℕ) → at + 4 ≤ length xs → word32 at (xs ++ ys) ≡ word32 at xs
+unfolding word32
+word32-front at xs ys le = number_front 4 at xs ys le
+
+-- what was written is read
+pub word32-put : (at number : ℕ) (xs : List ℕ) → at + 4 ≤ length xs → number < 2 ^ 32 → word32 at (put at (bytes32 number) xs) ≡ number
+unfolding word32 bytes32
+word32-put at number xs fits small = number_put 4 at number (little_bytes 4 number) xs refl fits small
+
+-- a word apart from a put stays
+pub word32-apart : (at put_at : ℕ) (new xs : List ℕ) → put_at + length new ≤ length xs → (at + 4 ≤ put_at) ⊎ (put_at + length new ≤ at) → word32 at (put put_at new xs) ≡ word32 at xs
+unfolding word32
+word32-apart at put_at new xs fits apart = number_apart 4 at put_at new xs fits apart
+
+-- a word's bytes are those that stand there
+pub bytes32-word : (at : ℕ) (xs : List ℕ) → at + 4 ≤ length xs → IsBytes xs → bytes32 (word32 at xs) ≡ part at 4 xs
+bytes32-word at xs fits h =
+    bytes32-std (word32 at xs)
+    ∙ le_bytes_4 (part at 4 xs) (word32 at xs) (length-part at 4 xs fits) (IsBytes-part at 4 xs h) (word32-within at xs ∙ word32-std 0 (part at 4 xs))
+
+-- a word written over itself changes nothing
+pub put-word32 : (at : ℕ) (xs : List ℕ) → at + 4 ≤ length xs → IsBytes xs → put at (bytes32 (word32 at xs)) xs ≡ xs
+put-word32 at xs fits h = ap (λ (new : List ℕ). put at new xs) (bytes32-word at xs fits h) ∙ put_itself at 4 xs fits
+
+-- ---- 64 bits
+
+-- in std's words
+pub word64-std : (at : ℕ) (xs : List ℕ) → word64 at xs ≡ from_le_bytes w64 (drop at xs)
+unfolding word64
+word64-std at xs = omega arith
+
+pub bytes64-std : (number : ℕ) → bytes64 number ≡ to_le_bytes w64 number
+unfolding bytes64
+bytes64-std number = refl
+
+-- the bytes of a number, how many and that they are bytes
+pub length-bytes64 : (number : ℕ) → length (bytes64 number) ≡ 8
+unfolding bytes64
+length-bytes64 number = length-bytes_low_first 0 8 number
+
+pub IsBytes-bytes64 : (number : ℕ) → IsBytes (bytes64 number)
+unfolding bytes64
+IsBytes-bytes64 number = bytes_are_bytes 0 8 number
+
+-- how great a word is
+pub word64-below : (at : ℕ) (xs : List ℕ) → IsBytes xs → word64 at xs < 2 ^ 64
+unfolding word64
+word64-below at xs h =
+    let below : little_from 0 8 (drop at xs) < 256 ^ 8 = little_from-lt 0 8 (drop at xs) (IsBytes-drop at xs h) in
+    below
+
+-- a word by its bytes alone
+pub word64-within : (at : ℕ) (xs : List ℕ) → word64 at xs ≡ word64 0 (part at 8 xs)
+unfolding word64
+word64-within at xs = number_within 8 at xs
+
+pub word64-same : (at at' : ℕ) (xs ys : List ℕ) → part at 8 xs ≡ part at' 8 ys → word64 at xs ≡ word64 at' ys
+unfolding word64
+word64-same at at' xs ys same = number_same 8 at at' xs ys same
+
+-- a word in a part, and in the front of two lists
+pub word64-part : (at size i : ℕ) (xs : List ℕ) → i + 8 ≤ size → word64 i (part at size xs) ≡ word64 (at + i) xs
+unfolding word64
+word64-part at size i xs le = number_part 8 at size i xs le
+
+pub word64-front : (at : ℕ) (xs ys : List ℕ) → at + 8 ≤ length xs → word64 at (xs ++ ys) ≡ word64 at xs
+unfolding word64
+word64-front at xs ys le = number_front 8 at xs ys le
+
+-- what was written is read
+pub word64-put : (at number : ℕ) (xs : List ℕ) → at + 8 ≤ length xs → number < 2 ^ 64 → word64 at (put at (bytes64 number) xs) ≡ number
+unfolding word64 bytes64
+word64-put at number xs fits small = number_put 8 at number (little_bytes 8 number) xs refl fits small
+
+-- a word apart from a put stays
+pub word64-apart : (at put_at : ℕ) (new xs : List ℕ) → put_at + length new ≤ length xs → (at + 8 ≤ put_at) ⊎ (put_at + length new ≤ at) → word64 at (put put_at new xs) ≡ word64 at xs
+unfolding word64
+word64-apart at put_at new xs fits apart = number_apart 8 at put_at new xs fits apart
+
+-- a word's bytes are those that stand there
+pub bytes64-word : (at : ℕ) (xs : List ℕ) → at + 8 ≤ length xs → IsBytes xs → bytes64 (word64 at xs) ≡ part at 8 xs
+bytes64-word at xs fits h =
+    bytes64-std (word64 at xs)
+    ∙ le_bytes_8 (part at 8 xs) (word64 at xs) (length-part at 8 xs fits) (IsBytes-part at 8 xs h) (word64-within at xs ∙ word64-std 0 (part at 8 xs))
+
+-- a word written over itself changes nothing
+pub put-word64 : (at : ℕ) (xs : List ℕ) → at + 8 ≤ length xs → IsBytes xs → put at (bytes64 (word64 at xs)) xs ≡ xs
+put-word64 at xs fits h = ap (λ (new : List ℕ). put at new xs) (bytes64-word at xs fits h) ∙ put_itself at 8 xs fits
