@@ -10,3 +10,4 @@ pub mod SumLaws
 pub mod WindowLaws
 pub mod WordLaws
 pub mod MemoryLaws
+pub mod HexLaws
