@@ -1,9 +1,9 @@
 -- A map from names to bytes as files: what a look-up finds, and what a write makes.
-use Rattle.std.proofs.Common.{◌≡◌, ℕ, suc, ◌+◌, ◌<◌, ◌≤◌, List, [], ◌∷◌, map, length, take, get_or, cond, Bool, true, false, Option, Some, None, refl, sym, ap, subst, ◌∙◌, arith, inl, inr}
+use Rattle.std.proofs.Common.{◌≡◌, ℕ, suc, ◌+◌, ◌<◌, ◌≤◌, List, [], ◌∷◌, ◌++◌, map, length, take, get_or, cond, Bool, true, false, Option, Some, None, refl, sym, ap, subst, ◌∙◌, arith, inl, inr}
 use Rattle.std.proofs.lemmas.List.{take_more, take_all, map-append, get_or-take, get_or_default, length-take-le}
-use Rattle.std.specs.Prelude.{String, Vec, string_bytes, string_cmp, AllPairs, ◌≢◌}
+use Rattle.std.specs.Prelude.{String, Vec, string_bytes, string_cmp, ◌≢◌}
 use Rattle.std.specs.declared.alloc.Global.{Global}
-use Rattle.std.specs.Option.{option_map}
+use Rattle.std.specs.Option.{option_map, is_some}
 use Rattle.std.specs.List.{find}
 use Rattle.std.specs.Str.{bytes_eq}
 use Rattle.std.specs.Ordering.{nat_cmp, eq_by_cmp}
@@ -14,9 +14,9 @@ use Rattle.std.specs.FinMap.Entries as entries
 use Rattle.std.specs.BTreeMap.{BTreeMap, get_by_text, is_at}
 use Rattle.std.specs.BTreeMap as tree
 use Rattle.std.specs.Map.{lookup}
-use Rattle.std.proofs.lemmas.Bool.{cases_Bool}
+use Rattle.std.proofs.lemmas.Bool.{cases_Bool, false≢true}
 use Rattle.std.proofs.lemmas.Map.Text.{btree_map_updates_text}
-use Rattle.pl_base.specs.Files.{Files, file_entry, files_of}
+use Rattle.pl_base.specs.Files.{Files, file_entry, files_of, AreDistinct}
 
 abbrev bytes_in : Option (Vec ℕ Global) → Option (List ℕ)
 bytes_in found = option_map (λ bytes. bytes.items) found
@@ -85,10 +85,6 @@ no_entries es none = rw none refl
 
 -- ---- files inserted one after the other, from a list of distinct names
 
--- no two of the files have one name
-abbrev pub AreDistinct : List (String Global × Vec ℕ Global) → Type 0
-AreDistinct files = AllPairs (λ x y. string_bytes x.0 ≢ string_bytes y.0) files
-
 -- a name that none of the files has is not found
 pub no_such_name : (es : List (String Global × Vec ℕ Global)) (name : List ℕ) → ((i : ℕ) (d : String Global × Vec ℕ Global) → i < length es → string_bytes (get_or es i d).0 ≢ name) → get (files_of es) name ≡ None
 no_such_name es name other = get-files_of_list es name ∙ ap (option_map (λ (file : String Global × Vec ℕ Global). file.1.items)) (missed es other)
@@ -117,6 +113,35 @@ files_of_more files i d lt new =
     ap files_of (take_more files i d lt)
     ∙ ap (λ (es : List (List ℕ × List ℕ)). from_entries es) (map-append file_entry (take i files) (get_or files i d ∷ []))
     ∙ from_entries_push nat_list_cmp_total (slice_cmp-IsAntisymmetric nat_cmp-IsAntisymmetric) (map file_entry (take i files)) (string_bytes (get_or files i d).0) (get_or files i d).1.items none
+
+-- an entry behind others changes nothing at other names, nor at a name that is there
+other_name : (es : List (List ℕ × List ℕ)) (name bytes q : List ℕ) → eq_by_cmp (slice_cmp nat_cmp) q name ≡ false → entries.find (slice_cmp nat_cmp) q (es ++ (name, bytes) ∷ []) ≡ entries.find (slice_cmp nat_cmp) q es
+other_name [] name bytes q differs = rw differs refl
+other_name (e ∷ es) name bytes q differs = ap (λ (rest : Option (List ℕ)). cond (eq_by_cmp (slice_cmp nat_cmp) q e.0) (Some e.1) rest) (other_name es name bytes q differs)
+
+shadowed : (es : List (List ℕ × List ℕ)) (name bytes q : List ℕ) → is_some (entries.find (slice_cmp nat_cmp) name es) ≡ true → entries.find (slice_cmp nat_cmp) q (es ++ (name, bytes) ∷ []) ≡ entries.find (slice_cmp nat_cmp) q es
+shadowed [] name bytes q found = absurd (false≢true found)
+shadowed (e ∷ es) name bytes q found = elim (cases_Bool (eq_by_cmp (slice_cmp nat_cmp) q e.0)) [
+  | inl hit ↦ rw hit refl
+  | inr miss ↦ rw miss (elim (cases_Bool (eq_by_cmp (slice_cmp nat_cmp) name e.0)) [
+    | inl first ↦
+        let same : name ≡ e.0 = (bytes_decides name e.0).0 (texts_ties name e.0 ∙ first) in
+        other_name es name bytes q (ap (eq_by_cmp (slice_cmp nat_cmp) q) same ∙ miss)
+    | inr other ↦ shadowed es name bytes q (rw other at found)
+  ])
+]
+
+-- one file more, with a name that is there: the first counts
+pub files_of_again : (files : List (String Global × Vec ℕ Global)) (i : ℕ) (d : String Global × Vec ℕ Global) → i < length files → is_some (get (files_of (take i files)) (string_bytes (get_or files i d).0)) ≡ true
+    → files_of (take (i + 1) files) ≡ files_of (take i files)
+files_of_again files i d lt there =
+    let es = map file_entry (take i files) in
+    let file = get_or files i d in
+    let found : is_some (entries.find (slice_cmp nat_cmp) (string_bytes file.0) es) ≡ true = ap (λ (o : Option (List ℕ)). is_some o) (sym (get-from_entries nat_list_cmp_total es (string_bytes file.0))) ∙ there in
+    ap files_of (take_more files i d lt)
+    ∙ ap (λ (all : List (List ℕ × List ℕ)). from_entries all) (map-append file_entry (take i files) (file ∷ []))
+    ∙ same_map nat_list_cmp_total (slice_cmp-IsAntisymmetric nat_cmp-IsAntisymmetric) _ _
+    (λ q. get-from_entries nat_list_cmp_total (es ++ file_entry file ∷ []) q ∙ shadowed es (string_bytes file.0) file.1.items q found ∙ sym (get-from_entries nat_list_cmp_total es q))
 
 -- a loop that inserts a copy of each file: the map has the files so far
 pub copies_begin : (m : BTreeMap (String Global) (Vec ℕ Global)) (files : List (String Global × Vec ℕ Global)) → m.entries ≡ [] → files_of m.entries ≡ files_of (take 0 files)

@@ -59,9 +59,9 @@ filled_up (suc m) (suc fuel) n acc some enough small =
     ]
 
 -- 16 digits, as `format!("{n:016x}")` writes them
-pub hex16-format : (n : ℕ) → n < 2 ^ 64 → hex16 n ≡ padded_integral (format_spec 32 0 4 16 (2 ^ 64 - 1)) false [] (digits 16 false n)
+pub hex16_format : (n : ℕ) → n < 2 ^ 64 → hex16 n ≡ padded_integral (format_spec 32 0 4 16 (2 ^ 64 - 1)) false [] (digits 16 false n)
 unfolding hex16 padded_integral char_count digits
-hex16-format n small = sym (
+hex16_format n small = sym (
     ap (λ (ds : List ℕ). replicate (16 - length (digits_onto 64 16 false n []) - 0 - 0) 48 ++ ds) (append-nil (digits_onto 64 16 false n []))
     ∙ ap (λ (k : ℕ). replicate k 48 ++ digits_onto 64 16 false n []) (omega arith)
     ∙ filled_up 16 64 n [] (omega arith) (omega arith) small

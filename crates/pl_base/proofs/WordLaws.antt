@@ -13,36 +13,36 @@ use Rattle.pl_base.proofs.WindowLaws.{within_put, part_apart, part_part, part_fr
 
 -- ---- lists of bytes
 
-pub IsBytes-nil : IsBytes []
-IsBytes-nil i = omega arith
+pub is_bytes_nil : IsBytes []
+is_bytes_nil i = omega arith
 
 -- what is dropped, taken, joined, or put leaves bytes
-pub IsBytes-drop : (n : ℕ) (xs : List ℕ) → IsBytes xs → IsBytes (drop n xs)
-IsBytes-drop n xs h i = rw (get_or-drop n xs i 0) (h (n + i))
+pub is_bytes_drop : (n : ℕ) (xs : List ℕ) → IsBytes xs → IsBytes (drop n xs)
+is_bytes_drop n xs h i = rw (get_or-drop n xs i 0) (h (n + i))
 
-pub IsBytes-take : (n : ℕ) (xs : List ℕ) → IsBytes xs → IsBytes (take n xs)
-IsBytes-take n xs h i = search (rules, places)
+pub is_bytes_take : (n : ℕ) (xs : List ℕ) → IsBytes xs → IsBytes (take n xs)
+is_bytes_take n xs h i = search (rules, places)
 
-pub IsBytes-part : (at size : ℕ) (xs : List ℕ) → IsBytes xs → IsBytes (part at size xs)
-IsBytes-part at size xs h = IsBytes-take size (drop at xs) (IsBytes-drop at xs h)
+pub is_bytes_part : (at size : ℕ) (xs : List ℕ) → IsBytes xs → IsBytes (part at size xs)
+is_bytes_part at size xs h = is_bytes_take size (drop at xs) (is_bytes_drop at xs h)
 
-pub IsBytes-append : (xs ys : List ℕ) → IsBytes xs → IsBytes ys → IsBytes (xs ++ ys)
-IsBytes-append xs ys h k i = elim (cases_lt i (length xs)) [
+pub is_bytes_append : (xs ys : List ℕ) → IsBytes xs → IsBytes ys → IsBytes (xs ++ ys)
+is_bytes_append xs ys h k i = elim (cases_lt i (length xs)) [
   | inl lt ↦ rw (get_or_append_left xs ys 0 i lt) (h i)
   | inr le ↦ rw (get_or-append_right xs ys (length xs) i 0 refl le) (k (i - length xs))
 ]
 
-pub IsBytes-put : (at : ℕ) (new xs : List ℕ) → IsBytes new → IsBytes xs → IsBytes (put at new xs)
+pub is_bytes_put : (at : ℕ) (new xs : List ℕ) → IsBytes new → IsBytes xs → IsBytes (put at new xs)
 unfolding put
-IsBytes-put at new xs h k = IsBytes-append (take at xs ++ new) (drop (at + length new) xs) (IsBytes-append (take at xs) new (IsBytes-take at xs k) h) (IsBytes-drop (at + length new) xs k)
+is_bytes_put at new xs h k = is_bytes_append (take at xs ++ new) (drop (at + length new) xs) (is_bytes_append (take at xs) new (is_bytes_take at xs k) h) (is_bytes_drop (at + length new) xs k)
 
-pub IsBytes-zeros : (n : ℕ) → IsBytes (replicate n 0)
-IsBytes-zeros zero i = omega arith
-IsBytes-zeros (suc n) zero = omega arith
-IsBytes-zeros (suc n) (suc i) = IsBytes-zeros n i
+pub is_bytes_zeros : (n : ℕ) → IsBytes (replicate n 0)
+is_bytes_zeros zero i = omega arith
+is_bytes_zeros (suc n) zero = omega arith
+is_bytes_zeros (suc n) (suc i) = is_bytes_zeros n i
 
-pub IsBytes-⊕ : (front next : List ℕ) → IsBytes front → IsBytes next → IsBytes (front ⊕ next)
-IsBytes-⊕ front next h k = IsBytes-append (front ++ replicate (gap (length front)) 0) next (IsBytes-append front (replicate (gap (length front)) 0) h (IsBytes-zeros (gap (length front)))) k
+pub is_bytes_⊕ : (front next : List ℕ) → IsBytes front → IsBytes next → IsBytes (front ⊕ next)
+is_bytes_⊕ front next h k = is_bytes_append (front ++ replicate (gap (length front)) 0) next (is_bytes_append front (replicate (gap (length front)) 0) h (is_bytes_zeros (gap (length front)))) k
 
 -- ---- numbers of k bytes
 
@@ -83,194 +83,194 @@ bytes_are_bytes j (suc k) number (suc i) = bytes_are_bytes (suc j) k number i
 -- ---- 16 bits
 
 -- in std's words
-pub word16-std : (at : ℕ) (xs : List ℕ) → word16 at xs ≡ from_le_bytes w16 (drop at xs)
+pub word16_std : (at : ℕ) (xs : List ℕ) → word16 at xs ≡ from_le_bytes w16 (drop at xs)
 unfolding word16
-word16-std at xs = omega arith
+word16_std at xs = omega arith
 
-pub bytes16-std : (number : ℕ) → bytes16 number ≡ to_le_bytes w16 number
+pub bytes16_std : (number : ℕ) → bytes16 number ≡ to_le_bytes w16 number
 unfolding bytes16
-bytes16-std number = refl
+bytes16_std number = refl
 
 -- the bytes of a number, how many and that they are bytes
-pub length-bytes16 : (number : ℕ) → length (bytes16 number) ≡ 2
+pub length_bytes16 : (number : ℕ) → length (bytes16 number) ≡ 2
 unfolding bytes16
-length-bytes16 number = length-bytes_low_first 0 2 number
+length_bytes16 number = length-bytes_low_first 0 2 number
 
-pub IsBytes-bytes16 : (number : ℕ) → IsBytes (bytes16 number)
+pub is_bytes_bytes16 : (number : ℕ) → IsBytes (bytes16 number)
 unfolding bytes16
-IsBytes-bytes16 number = bytes_are_bytes 0 2 number
+is_bytes_bytes16 number = bytes_are_bytes 0 2 number
 
 -- how great a word is
-pub word16-below : (at : ℕ) (xs : List ℕ) → IsBytes xs → word16 at xs < 2 ^ 16
+pub word16_below : (at : ℕ) (xs : List ℕ) → IsBytes xs → word16 at xs < 2 ^ 16
 unfolding word16
-word16-below at xs h =
-    let below : little_from 0 2 (drop at xs) < 256 ^ 2 = little_from-lt 0 2 (drop at xs) (IsBytes-drop at xs h) in
+word16_below at xs h =
+    let below : little_from 0 2 (drop at xs) < 256 ^ 2 = little_from-lt 0 2 (drop at xs) (is_bytes_drop at xs h) in
     below
 
 -- a word by its bytes alone
-pub word16-within : (at : ℕ) (xs : List ℕ) → word16 at xs ≡ word16 0 (part at 2 xs)
+pub word16_within : (at : ℕ) (xs : List ℕ) → word16 at xs ≡ word16 0 (part at 2 xs)
 unfolding word16
-word16-within at xs = number_within 2 at xs
+word16_within at xs = number_within 2 at xs
 
-pub word16-same : (at at' : ℕ) (xs ys : List ℕ) → part at 2 xs ≡ part at' 2 ys → word16 at xs ≡ word16 at' ys
+pub word16_same : (at at' : ℕ) (xs ys : List ℕ) → part at 2 xs ≡ part at' 2 ys → word16 at xs ≡ word16 at' ys
 unfolding word16
-word16-same at at' xs ys same = number_same 2 at at' xs ys same
+word16_same at at' xs ys same = number_same 2 at at' xs ys same
 
 -- a word in a part, and in the front of two lists
-pub word16-part : (at size i : ℕ) (xs : List ℕ) → i + 2 ≤ size → word16 i (part at size xs) ≡ word16 (at + i) xs
+pub word16_part : (at size i : ℕ) (xs : List ℕ) → i + 2 ≤ size → word16 i (part at size xs) ≡ word16 (at + i) xs
 unfolding word16
-word16-part at size i xs le = number_part 2 at size i xs le
+word16_part at size i xs le = number_part 2 at size i xs le
 
-pub word16-front : (at : ℕ) (xs ys : List ℕ) → at + 2 ≤ length xs → word16 at (xs ++ ys) ≡ word16 at xs
+pub word16_front : (at : ℕ) (xs ys : List ℕ) → at + 2 ≤ length xs → word16 at (xs ++ ys) ≡ word16 at xs
 unfolding word16
-word16-front at xs ys le = number_front 2 at xs ys le
+word16_front at xs ys le = number_front 2 at xs ys le
 
 -- what was written is read
-pub word16-put : (at number : ℕ) (xs : List ℕ) → at + 2 ≤ length xs → number < 2 ^ 16 → word16 at (put at (bytes16 number) xs) ≡ number
+pub word16_put : (at number : ℕ) (xs : List ℕ) → at + 2 ≤ length xs → number < 2 ^ 16 → word16 at (put at (bytes16 number) xs) ≡ number
 unfolding word16 bytes16
-word16-put at number xs fits small = number_put 2 at number (little_bytes 2 number) xs refl fits small
+word16_put at number xs fits small = number_put 2 at number (little_bytes 2 number) xs refl fits small
 
 -- a word apart from a put stays
-pub word16-apart : (at put_at : ℕ) (new xs : List ℕ) → put_at + length new ≤ length xs → (at + 2 ≤ put_at) ⊎ (put_at + length new ≤ at) → word16 at (put put_at new xs) ≡ word16 at xs
+pub word16_apart : (at put_at : ℕ) (new xs : List ℕ) → put_at + length new ≤ length xs → (at + 2 ≤ put_at) ⊎ (put_at + length new ≤ at) → word16 at (put put_at new xs) ≡ word16 at xs
 unfolding word16
-word16-apart at put_at new xs fits apart = number_apart 2 at put_at new xs fits apart
+word16_apart at put_at new xs fits apart = number_apart 2 at put_at new xs fits apart
 
 -- a word's bytes are those that stand there
-pub bytes16-word : (at : ℕ) (xs : List ℕ) → at + 2 ≤ length xs → IsBytes xs → bytes16 (word16 at xs) ≡ part at 2 xs
-bytes16-word at xs fits h =
-    bytes16-std (word16 at xs)
-    ∙ le_bytes_2 (part at 2 xs) (word16 at xs) (length-part at 2 xs fits) (IsBytes-part at 2 xs h) (word16-within at xs ∙ word16-std 0 (part at 2 xs))
+pub bytes16_word : (at : ℕ) (xs : List ℕ) → at + 2 ≤ length xs → IsBytes xs → bytes16 (word16 at xs) ≡ part at 2 xs
+bytes16_word at xs fits h =
+    bytes16_std (word16 at xs)
+    ∙ le_bytes_2 (part at 2 xs) (word16 at xs) (length-part at 2 xs fits) (is_bytes_part at 2 xs h) (word16_within at xs ∙ word16_std 0 (part at 2 xs))
 
 -- a word written over itself changes nothing
-pub put-word16 : (at : ℕ) (xs : List ℕ) → at + 2 ≤ length xs → IsBytes xs → put at (bytes16 (word16 at xs)) xs ≡ xs
-put-word16 at xs fits h = ap (λ (new : List ℕ). put at new xs) (bytes16-word at xs fits h) ∙ put_itself at 2 xs fits
+pub put_word16 : (at : ℕ) (xs : List ℕ) → at + 2 ≤ length xs → IsBytes xs → put at (bytes16 (word16 at xs)) xs ≡ xs
+put_word16 at xs fits h = ap (λ (new : List ℕ). put at new xs) (bytes16_word at xs fits h) ∙ put_itself at 2 xs fits
 
 -- ---- 32 bits
 
 -- in std's words
-pub word32-std : (at : ℕ) (xs : List ℕ) → word32 at xs ≡ from_le_bytes w32 (drop at xs)
+pub word32_std : (at : ℕ) (xs : List ℕ) → word32 at xs ≡ from_le_bytes w32 (drop at xs)
 unfolding word32
-word32-std at xs = omega arith
+word32_std at xs = omega arith
 
-pub bytes32-std : (number : ℕ) → bytes32 number ≡ to_le_bytes w32 number
+pub bytes32_std : (number : ℕ) → bytes32 number ≡ to_le_bytes w32 number
 unfolding bytes32
-bytes32-std number = refl
+bytes32_std number = refl
 
 -- the bytes of a number, how many and that they are bytes
-pub length-bytes32 : (number : ℕ) → length (bytes32 number) ≡ 4
+pub length_bytes32 : (number : ℕ) → length (bytes32 number) ≡ 4
 unfolding bytes32
-length-bytes32 number = length-bytes_low_first 0 4 number
+length_bytes32 number = length-bytes_low_first 0 4 number
 
-pub IsBytes-bytes32 : (number : ℕ) → IsBytes (bytes32 number)
+pub is_bytes_bytes32 : (number : ℕ) → IsBytes (bytes32 number)
 unfolding bytes32
-IsBytes-bytes32 number = bytes_are_bytes 0 4 number
+is_bytes_bytes32 number = bytes_are_bytes 0 4 number
 
 -- how great a word is
-pub word32-below : (at : ℕ) (xs : List ℕ) → IsBytes xs → word32 at xs < 2 ^ 32
+pub word32_below : (at : ℕ) (xs : List ℕ) → IsBytes xs → word32 at xs < 2 ^ 32
 unfolding word32
-word32-below at xs h =
-    let below : little_from 0 4 (drop at xs) < 256 ^ 4 = little_from-lt 0 4 (drop at xs) (IsBytes-drop at xs h) in
+word32_below at xs h =
+    let below : little_from 0 4 (drop at xs) < 256 ^ 4 = little_from-lt 0 4 (drop at xs) (is_bytes_drop at xs h) in
     below
 
 -- a word by its bytes alone
-pub word32-within : (at : ℕ) (xs : List ℕ) → word32 at xs ≡ word32 0 (part at 4 xs)
+pub word32_within : (at : ℕ) (xs : List ℕ) → word32 at xs ≡ word32 0 (part at 4 xs)
 unfolding word32
-word32-within at xs = number_within 4 at xs
+word32_within at xs = number_within 4 at xs
 
-pub word32-same : (at at' : ℕ) (xs ys : List ℕ) → part at 4 xs ≡ part at' 4 ys → word32 at xs ≡ word32 at' ys
+pub word32_same : (at at' : ℕ) (xs ys : List ℕ) → part at 4 xs ≡ part at' 4 ys → word32 at xs ≡ word32 at' ys
 unfolding word32
-word32-same at at' xs ys same = number_same 4 at at' xs ys same
+word32_same at at' xs ys same = number_same 4 at at' xs ys same
 
 -- a word in a part, and in the front of two lists
-pub word32-part : (at size i : ℕ) (xs : List ℕ) → i + 4 ≤ size → word32 i (part at size xs) ≡ word32 (at + i) xs
+pub word32_part : (at size i : ℕ) (xs : List ℕ) → i + 4 ≤ size → word32 i (part at size xs) ≡ word32 (at + i) xs
 unfolding word32
-word32-part at size i xs le = number_part 4 at size i xs le
+word32_part at size i xs le = number_part 4 at size i xs le
 
-pub word32-front : (at : ℕ) (xs ys : List ℕ) → at + 4 ≤ length xs → word32 at (xs ++ ys) ≡ word32 at xs
+pub word32_front : (at : ℕ) (xs ys : List ℕ) → at + 4 ≤ length xs → word32 at (xs ++ ys) ≡ word32 at xs
 unfolding word32
-word32-front at xs ys le = number_front 4 at xs ys le
+word32_front at xs ys le = number_front 4 at xs ys le
 
 -- what was written is read
-pub word32-put : (at number : ℕ) (xs : List ℕ) → at + 4 ≤ length xs → number < 2 ^ 32 → word32 at (put at (bytes32 number) xs) ≡ number
+pub word32_put : (at number : ℕ) (xs : List ℕ) → at + 4 ≤ length xs → number < 2 ^ 32 → word32 at (put at (bytes32 number) xs) ≡ number
 unfolding word32 bytes32
-word32-put at number xs fits small = number_put 4 at number (little_bytes 4 number) xs refl fits small
+word32_put at number xs fits small = number_put 4 at number (little_bytes 4 number) xs refl fits small
 
 -- a word apart from a put stays
-pub word32-apart : (at put_at : ℕ) (new xs : List ℕ) → put_at + length new ≤ length xs → (at + 4 ≤ put_at) ⊎ (put_at + length new ≤ at) → word32 at (put put_at new xs) ≡ word32 at xs
+pub word32_apart : (at put_at : ℕ) (new xs : List ℕ) → put_at + length new ≤ length xs → (at + 4 ≤ put_at) ⊎ (put_at + length new ≤ at) → word32 at (put put_at new xs) ≡ word32 at xs
 unfolding word32
-word32-apart at put_at new xs fits apart = number_apart 4 at put_at new xs fits apart
+word32_apart at put_at new xs fits apart = number_apart 4 at put_at new xs fits apart
 
 -- a word's bytes are those that stand there
-pub bytes32-word : (at : ℕ) (xs : List ℕ) → at + 4 ≤ length xs → IsBytes xs → bytes32 (word32 at xs) ≡ part at 4 xs
-bytes32-word at xs fits h =
-    bytes32-std (word32 at xs)
-    ∙ le_bytes_4 (part at 4 xs) (word32 at xs) (length-part at 4 xs fits) (IsBytes-part at 4 xs h) (word32-within at xs ∙ word32-std 0 (part at 4 xs))
+pub bytes32_word : (at : ℕ) (xs : List ℕ) → at + 4 ≤ length xs → IsBytes xs → bytes32 (word32 at xs) ≡ part at 4 xs
+bytes32_word at xs fits h =
+    bytes32_std (word32 at xs)
+    ∙ le_bytes_4 (part at 4 xs) (word32 at xs) (length-part at 4 xs fits) (is_bytes_part at 4 xs h) (word32_within at xs ∙ word32_std 0 (part at 4 xs))
 
 -- a word written over itself changes nothing
-pub put-word32 : (at : ℕ) (xs : List ℕ) → at + 4 ≤ length xs → IsBytes xs → put at (bytes32 (word32 at xs)) xs ≡ xs
-put-word32 at xs fits h = ap (λ (new : List ℕ). put at new xs) (bytes32-word at xs fits h) ∙ put_itself at 4 xs fits
+pub put_word32 : (at : ℕ) (xs : List ℕ) → at + 4 ≤ length xs → IsBytes xs → put at (bytes32 (word32 at xs)) xs ≡ xs
+put_word32 at xs fits h = ap (λ (new : List ℕ). put at new xs) (bytes32_word at xs fits h) ∙ put_itself at 4 xs fits
 
 -- ---- 64 bits
 
 -- in std's words
-pub word64-std : (at : ℕ) (xs : List ℕ) → word64 at xs ≡ from_le_bytes w64 (drop at xs)
+pub word64_std : (at : ℕ) (xs : List ℕ) → word64 at xs ≡ from_le_bytes w64 (drop at xs)
 unfolding word64
-word64-std at xs = omega arith
+word64_std at xs = omega arith
 
-pub bytes64-std : (number : ℕ) → bytes64 number ≡ to_le_bytes w64 number
+pub bytes64_std : (number : ℕ) → bytes64 number ≡ to_le_bytes w64 number
 unfolding bytes64
-bytes64-std number = refl
+bytes64_std number = refl
 
 -- the bytes of a number, how many and that they are bytes
-pub length-bytes64 : (number : ℕ) → length (bytes64 number) ≡ 8
+pub length_bytes64 : (number : ℕ) → length (bytes64 number) ≡ 8
 unfolding bytes64
-length-bytes64 number = length-bytes_low_first 0 8 number
+length_bytes64 number = length-bytes_low_first 0 8 number
 
-pub IsBytes-bytes64 : (number : ℕ) → IsBytes (bytes64 number)
+pub is_bytes_bytes64 : (number : ℕ) → IsBytes (bytes64 number)
 unfolding bytes64
-IsBytes-bytes64 number = bytes_are_bytes 0 8 number
+is_bytes_bytes64 number = bytes_are_bytes 0 8 number
 
 -- how great a word is
-pub word64-below : (at : ℕ) (xs : List ℕ) → IsBytes xs → word64 at xs < 2 ^ 64
+pub word64_below : (at : ℕ) (xs : List ℕ) → IsBytes xs → word64 at xs < 2 ^ 64
 unfolding word64
-word64-below at xs h =
-    let below : little_from 0 8 (drop at xs) < 256 ^ 8 = little_from-lt 0 8 (drop at xs) (IsBytes-drop at xs h) in
+word64_below at xs h =
+    let below : little_from 0 8 (drop at xs) < 256 ^ 8 = little_from-lt 0 8 (drop at xs) (is_bytes_drop at xs h) in
     below
 
 -- a word by its bytes alone
-pub word64-within : (at : ℕ) (xs : List ℕ) → word64 at xs ≡ word64 0 (part at 8 xs)
+pub word64_within : (at : ℕ) (xs : List ℕ) → word64 at xs ≡ word64 0 (part at 8 xs)
 unfolding word64
-word64-within at xs = number_within 8 at xs
+word64_within at xs = number_within 8 at xs
 
-pub word64-same : (at at' : ℕ) (xs ys : List ℕ) → part at 8 xs ≡ part at' 8 ys → word64 at xs ≡ word64 at' ys
+pub word64_same : (at at' : ℕ) (xs ys : List ℕ) → part at 8 xs ≡ part at' 8 ys → word64 at xs ≡ word64 at' ys
 unfolding word64
-word64-same at at' xs ys same = number_same 8 at at' xs ys same
+word64_same at at' xs ys same = number_same 8 at at' xs ys same
 
 -- a word in a part, and in the front of two lists
-pub word64-part : (at size i : ℕ) (xs : List ℕ) → i + 8 ≤ size → word64 i (part at size xs) ≡ word64 (at + i) xs
+pub word64_part : (at size i : ℕ) (xs : List ℕ) → i + 8 ≤ size → word64 i (part at size xs) ≡ word64 (at + i) xs
 unfolding word64
-word64-part at size i xs le = number_part 8 at size i xs le
+word64_part at size i xs le = number_part 8 at size i xs le
 
-pub word64-front : (at : ℕ) (xs ys : List ℕ) → at + 8 ≤ length xs → word64 at (xs ++ ys) ≡ word64 at xs
+pub word64_front : (at : ℕ) (xs ys : List ℕ) → at + 8 ≤ length xs → word64 at (xs ++ ys) ≡ word64 at xs
 unfolding word64
-word64-front at xs ys le = number_front 8 at xs ys le
+word64_front at xs ys le = number_front 8 at xs ys le
 
 -- what was written is read
-pub word64-put : (at number : ℕ) (xs : List ℕ) → at + 8 ≤ length xs → number < 2 ^ 64 → word64 at (put at (bytes64 number) xs) ≡ number
+pub word64_put : (at number : ℕ) (xs : List ℕ) → at + 8 ≤ length xs → number < 2 ^ 64 → word64 at (put at (bytes64 number) xs) ≡ number
 unfolding word64 bytes64
-word64-put at number xs fits small = number_put 8 at number (little_bytes 8 number) xs refl fits small
+word64_put at number xs fits small = number_put 8 at number (little_bytes 8 number) xs refl fits small
 
 -- a word apart from a put stays
-pub word64-apart : (at put_at : ℕ) (new xs : List ℕ) → put_at + length new ≤ length xs → (at + 8 ≤ put_at) ⊎ (put_at + length new ≤ at) → word64 at (put put_at new xs) ≡ word64 at xs
+pub word64_apart : (at put_at : ℕ) (new xs : List ℕ) → put_at + length new ≤ length xs → (at + 8 ≤ put_at) ⊎ (put_at + length new ≤ at) → word64 at (put put_at new xs) ≡ word64 at xs
 unfolding word64
-word64-apart at put_at new xs fits apart = number_apart 8 at put_at new xs fits apart
+word64_apart at put_at new xs fits apart = number_apart 8 at put_at new xs fits apart
 
 -- a word's bytes are those that stand there
-pub bytes64-word : (at : ℕ) (xs : List ℕ) → at + 8 ≤ length xs → IsBytes xs → bytes64 (word64 at xs) ≡ part at 8 xs
-bytes64-word at xs fits h =
-    bytes64-std (word64 at xs)
-    ∙ le_bytes_8 (part at 8 xs) (word64 at xs) (length-part at 8 xs fits) (IsBytes-part at 8 xs h) (word64-within at xs ∙ word64-std 0 (part at 8 xs))
+pub bytes64_word : (at : ℕ) (xs : List ℕ) → at + 8 ≤ length xs → IsBytes xs → bytes64 (word64 at xs) ≡ part at 8 xs
+bytes64_word at xs fits h =
+    bytes64_std (word64 at xs)
+    ∙ le_bytes_8 (part at 8 xs) (word64 at xs) (length-part at 8 xs fits) (is_bytes_part at 8 xs h) (word64_within at xs ∙ word64_std 0 (part at 8 xs))
 
 -- a word written over itself changes nothing
-pub put-word64 : (at : ℕ) (xs : List ℕ) → at + 8 ≤ length xs → IsBytes xs → put at (bytes64 (word64 at xs)) xs ≡ xs
-put-word64 at xs fits h = ap (λ (new : List ℕ). put at new xs) (bytes64-word at xs fits h) ∙ put_itself at 8 xs fits
+pub put_word64 : (at : ℕ) (xs : List ℕ) → at + 8 ≤ length xs → IsBytes xs → put at (bytes64 (word64 at xs)) xs ≡ xs
+put_word64 at xs fits h = ap (λ (new : List ℕ). put at new xs) (bytes64_word at xs fits h) ∙ put_itself at 8 xs fits
