@@ -2,8 +2,9 @@
 use Rattle.std.proofs.Common.{◌≡◌, ℕ, suc, ◌+◌, ◌<◌, ◌≤◌, List, [], ◌∷◌, ◌++◌, map, length, take, get_or, cond, Bool, true, false, Option, Some, None, refl, sym, ap, subst, ◌∙◌, arith, inl, inr}
 use Rattle.std.proofs.lemmas.List.{take_more, take_all, map-append, get_or-take, get_or_default, length-take-le}
 use Rattle.std.specs.Prelude.{String, Vec, string_bytes, string_cmp, ◌≢◌}
+use Rattle.std.specs.Borrow.{Bor}
 use Rattle.std.specs.declared.alloc.Global.{Global}
-use Rattle.std.specs.Option.{option_map, is_some}
+use Rattle.std.specs.Option.{option_map, option_copied, is_some}
 use Rattle.std.specs.List.{find}
 use Rattle.std.specs.Str.{bytes_eq}
 use Rattle.std.specs.Ordering.{nat_cmp, eq_by_cmp}
@@ -34,6 +35,19 @@ looked_up (e ∷ es) name =
 -- what `get` of a map finds
 pub get-files_of : (m : BTreeMap (String Global) (Vec ℕ Global)) (name : List ℕ) → get (files_of m.entries) name ≡ option_map (λ bytes. bytes.items) (get_by_text m name)
 get-files_of m name = get-from_entries nat_list_cmp_total (map file_entry m.entries) name ∙ looked_up m.entries name
+
+-- what a look-up lends
+pub found : (m : BTreeMap (String Global) (Vec ℕ Global)) (name : List ℕ) (lent : Option (Bor (Vec ℕ Global))) → option_copied lent ≡ get_by_text m name → option_map (λ bytes. bytes.now.items) lent ≡ get (files_of m.entries) name
+found m name None is = ap bytes_in is ∙ sym (get-files_of m name)
+found m name (Some bytes) is = ap bytes_in is ∙ sym (get-files_of m name)
+
+-- what `contains_key` of a map answers
+pub contains-files_of : (m : BTreeMap (String Global) (Vec ℕ Global)) (name : List ℕ) → is_some (get_by_text m name) ≡ is_some (get (files_of m.entries) name)
+contains-files_of m name = still_some (get_by_text m name) ∙ ap (λ (o : Option (List ℕ)). is_some o) (sym (get-files_of m name))
+  where
+    still_some : (o : Option (Vec ℕ Global)) → is_some o ≡ is_some (bytes_in o)
+    still_some None = refl
+    still_some (Some bytes) = refl
 
 scanned : (es : List (String Global × Vec ℕ Global)) (name : List ℕ)
     → entries.find (slice_cmp nat_cmp) name (map file_entry es) ≡ option_map (λ file. file.1.items) (find (λ file. bytes_eq name (string_bytes file.0)) es)
