@@ -15,6 +15,7 @@ regroup : {B E : Type 0} (front : List B) (y : B) (rest : Result (List B) E) →
 regroup {B = B} front y (Ok ys) = ap (λ (zs : List B). Ok zs) (sym (append_assoc front (y ∷ []) ys))
 regroup front y (Err e) = refl
 
+-- a step that gives a result: one more in front
 pub each_more : {A B E : Type 0} (f : A → Result B E) (xs : List A) (i : ℕ) (d : A) (front : List B) (y : B) (whole : Result (List B) E) → i < length xs → f (get_or xs i d) ≡ Ok y
     → with_front front (each f (drop i xs)) ≡ whole → with_front (front ++ y ∷ []) (each f (drop (i + 1) xs)) ≡ whole
 unfolding each
@@ -23,12 +24,14 @@ each_more f xs i d front y whole lt h so_far =
     ap (with_front front) (at_drop_more (each f) xs i d lt) ∙ rw h (regroup front y (each f (drop (i + 1) xs))) in
     sym one ∙ so_far
 
+-- a step that refuses decides the whole
 pub each_stops : {A B E : Type 0} (f : A → Result B E) (xs : List A) (i : ℕ) (d : A) (front : List B) (e : E) (whole : Result (List B) E) → i < length xs → f (get_or xs i d) ≡ Err e
     → with_front front (each f (drop i xs)) ≡ whole → whole ≡ Err e
 unfolding each
 each_stops f xs i d front e whole lt h so_far =
     sym so_far ∙ ap (with_front front) (at_drop_more (each f) xs i d lt) ∙ rw h refl
 
+-- behind the last row the results in front are the whole
 pub each_done : {A B E : Type 0} (f : A → Result B E) (xs : List A) (i : ℕ) (front : List B) (whole : Result (List B) E) → length xs ≤ i
     → with_front front (each f (drop i xs)) ≡ whole → whole ≡ Ok front
 unfolding each
@@ -46,24 +49,29 @@ each_fails m f xs i d front e whole lt h so_far =
 
 -- ---- the same over the numbers below n
 
+-- the results of the rows below i in front, and what the rows from i on give, are the whole
 abbrev pub SoFar : {B E : Type 0} → (ℕ → Result B E) → ℕ → ℕ → List B → Result (List B) E → Type 0
 SoFar f n i front whole = with_front front (each f (drop i (range_with_len 0 n))) ≡ whole
 
 at_row : {B E : Type 0} (f : ℕ → Result B E) (n i : ℕ) → i < n → f (get_or (range_with_len 0 n) i 0) ≡ f i
 at_row f n i lt = ap f (get_or-range_with_len 0 n i 0 lt ∙ omega arith)
 
+-- before the first row
 pub rows_begin : {B E : Type 0} (f : ℕ → Result B E) (n : ℕ) → SoFar f n 0 [] (each f (range_with_len 0 n))
 rows_begin {B = B} {E = E} f n =
     let keeps : (r : Result (List B) E) → with_front [] r ≡ r = λ r. elim r as (λ r. with_front [] r ≡ r) [ Ok ys ↦ refl | Err e ↦ refl ] in
     keeps (each f (range_with_len 0 n))
 
+-- a row that gives a result
 pub rows_more : {B E : Type 0} (f : ℕ → Result B E) (n i : ℕ) (front : List B) (y : B) (whole : Result (List B) E) → i < n → f i ≡ Ok y → SoFar f n i front whole → SoFar f n (i + 1) (front ++ y ∷ []) whole
 rows_more f n i front y whole lt h so_far =
     each_more f (range_with_len 0 n) i 0 front y whole (omega (arith, length-range_with_len 0 n)) (at_row f n i lt ∙ h) so_far
 
+-- a row that refuses, or a want of memory, ends the loop
 pub rows_fail : {B E : Type 0} (m : E → Bool) (f : ℕ → Result B E) (n i : ℕ) (front : List B) (e : E) (whole : Result (List B) E) → i < n → MatchBool (m e) ⊤ (f i ≡ Err e) → SoFar f n i front whole → MatchBool (m e) ⊤ (whole ≡ Err e)
 rows_fail m f n i front e whole lt h so_far =
     each_fails m f (range_with_len 0 n) i 0 front e whole (omega (arith, length-range_with_len 0 n)) (rw (at_row f n i lt) h) so_far
 
+-- behind the last row
 pub rows_done : {B E : Type 0} (f : ℕ → Result B E) (n i : ℕ) (front : List B) (whole : Result (List B) E) → n ≤ i → SoFar f n i front whole → whole ≡ Ok front
 rows_done f n i front whole le so_far = each_done f (range_with_len 0 n) i front whole (omega (arith, length-range_with_len 0 n)) so_far

@@ -49,6 +49,18 @@ contains-files_of m name = still_some (get_by_text m name) ∙ ap (λ (o : Optio
     still_some None = refl
     still_some (Some bytes) = refl
 
+-- a name that `contains_key` finds
+pub is_there : (m : BTreeMap (String Global) (Vec ℕ Global)) (files : Files) (name : List ℕ) → is_some (get_by_text m name) ≡ true → files_of m.entries ≡ files → is_some (get files name) ≡ true
+is_there m files name is same = ap (λ (fs : Files). is_some (get fs name)) (sym same) ∙ sym (contains-files_of m name) ∙ is
+
+-- and one that it does not find
+pub not_there : (m : BTreeMap (String Global) (Vec ℕ Global)) (files : Files) (name : List ℕ) → is_some (get_by_text m name) ≡ false → files_of m.entries ≡ files → get files name ≡ None
+not_there m files name is same = none (get files name) (ap (λ (fs : Files). is_some (get fs name)) (sym same) ∙ sym (contains-files_of m name) ∙ is)
+  where
+    none : (o : Option (List ℕ)) → is_some o ≡ false → o ≡ None
+    none None e = refl
+    none (Some bytes) e = absurd (false≢true (sym e))
+
 scanned : (es : List (String Global × Vec ℕ Global)) (name : List ℕ)
     → entries.find (slice_cmp nat_cmp) name (map file_entry es) ≡ option_map (λ file. file.1.items) (find (λ file. bytes_eq name (string_bytes file.0)) es)
 scanned [] name = refl
@@ -157,10 +169,11 @@ files_of_again files i d lt there =
     ∙ same_map nat_list_cmp_total (slice_cmp-IsAntisymmetric nat_cmp-IsAntisymmetric) _ _
     (λ q. get-from_entries nat_list_cmp_total (es ++ file_entry file ∷ []) q ∙ shadowed es (string_bytes file.0) file.1.items q found ∙ sym (get-from_entries nat_list_cmp_total es q))
 
--- a loop that inserts a copy of each file: the map has the files so far
+-- in a loop that inserts a copy of each file the map has the files so far: at the start
 pub copies_begin : (m : BTreeMap (String Global) (Vec ℕ Global)) (files : List (String Global × Vec ℕ Global)) → m.entries ≡ [] → files_of m.entries ≡ files_of (take 0 files)
 copies_begin m files none = rw none refl
 
+-- one copy more
 pub copies_more : (files : List (String Global × Vec ℕ Global)) (i : ℕ) (d : String Global × Vec ℕ Global) (name : String Global) (bytes : Vec ℕ Global) (m n : BTreeMap (String Global) (Vec ℕ Global)) → i < length files
     → get (files_of (take i files)) (string_bytes (get_or files i d).0) ≡ None → string_bytes name ≡ string_bytes (get_or files i d).0 → bytes.items ≡ (get_or files i d).1.items
     → tree.Updates string_cmp m n name (Some bytes) → files_of m.entries ≡ files_of (take i files) → files_of n.entries ≡ files_of (take (i + 1) files)
@@ -171,5 +184,6 @@ copies_more files i d name bytes m n lt new name_is bytes_are updates so_far =
     ∙ ap (λ (xs : List ℕ). insert (files_of (take i files)) (string_bytes (get_or files i d).0) xs) bytes_are
     ∙ sym (files_of_more files i d lt new)
 
+-- all copies are made
 pub copies_done : (m : BTreeMap (String Global) (Vec ℕ Global)) (files : List (String Global × Vec ℕ Global)) (i : ℕ) → length files ≤ i → files_of m.entries ≡ files_of (take i files) → files_of m.entries ≡ files_of files
 copies_done m files i le so_far = so_far ∙ ap files_of (take_all i files le)

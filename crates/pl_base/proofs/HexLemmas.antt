@@ -2,6 +2,7 @@
 use Rattle.std.proofs.Common.{◌≡◌, ◌<◌, ℕ, zero, suc, ◌-◌, ◌*◌, ◌/◌, ◌%◌, ◌^◌, List, [], ◌∷◌, ◌++◌, length, append_assoc, refl, ap, arith}
 use Rattle.pl_base.specs.Digits.{hex_digit, hex_digits}
 
+-- a digit written from the left
 pub hex_step : (k n : ℕ) (xs : List ℕ) → 0 < k → (xs ++ hex_digit (n / 2 ^ (4 * (k - 1)) % 16) ∷ []) ++ hex_digits (k - 1) n ≡ xs ++ hex_digits k n
 unfolding hex_digits
 hex_step zero n xs h = absurd (omega arith)
@@ -9,6 +10,7 @@ hex_step (suc k) n xs h =
     let e : suc k - 1 ≡ k = omega arith in
     rw e (simp append_assoc)
 
+-- how many digits there are
 pub length-hex_digits : (k n : ℕ) → length (hex_digits k n) ≡ k
 unfolding hex_digits
 length-hex_digits zero n = refl

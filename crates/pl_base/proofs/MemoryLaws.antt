@@ -5,23 +5,27 @@ use Rattle.std.specs.Option.{IfSome, unwrap_or, is_some}
 use Rattle.std.specs.List.{list_any, filter_map, cons_option, range_with_len, Any, AllZip}
 use Rattle.std.proofs.lemmas.Bool.{cases_Bool, false≢true, cases_order, or_parts}
 use Rattle.std.proofs.lemmas.Bool.Decides.{nat_tests}
-use Rattle.std.proofs.lemmas.List.{length-map, get_or_default}
-use Rattle.std.proofs.lemmas.List.FromFn.{length-range_with_len}
+use Rattle.std.proofs.lemmas.List.{get_or-map, length-map, get_or_default}
+use Rattle.std.proofs.lemmas.List.FromFn.{length-range_with_len, get_or-range_with_len}
 use Rattle.std.proofs.lemmas.List.Folds.{list_any_at}
 use Rattle.std.proofs.lemmas.List.Elements.{All-head, All-tail, All-nil, All-cons}
 use Rattle.pl_base.specs.Memory.{Memory, is_within, over, read, AtMostOne, Piece, lies, byte_at, layered, Fill, covers, byte_of, filled, shown}
 
 -- ---- addresses of a range
 
+-- an address within
 pub within_true : (s n a : ℕ) → is_within s n a ≡ true → (s ≤ a) × (a < s + n)
 within_true s n a h = grind (arith, nat_tests)
 
+-- an address outside
 pub within_false : (s n a : ℕ) → is_within s n a ≡ false → (a < s) ⊎ (s + n ≤ a)
 within_false s n a h = grind (arith, nat_tests)
 
+-- what makes an address one within
 pub within_is : (s n a : ℕ) → s ≤ a → a < s + n → is_within s n a ≡ true
 within_is s n a from to = grind (arith, nat_tests)
 
+-- what makes an address one outside
 pub within_not : (s n a : ℕ) → (a < s) ⊎ (s + n ≤ a) → is_within s n a ≡ false
 within_not s n a (inl lt) = grind (arith, nat_tests)
 within_not s n a (inr le) = grind (arith, nat_tests)
@@ -30,6 +34,7 @@ within_not s n a (inr le) = grind (arith, nat_tests)
 pub within_more : (s n m a : ℕ) → n ≤ m → is_within s n a ≡ true → is_within s m a ≡ true
 within_more s n m a le h = grind (arith, nat_tests)
 
+-- and a shorter one lacks those of a longer
 pub within_less : (s n m a : ℕ) → n ≤ m → is_within s m a ≡ false → is_within s n a ≡ false
 within_less s n m a le h = grind (arith, nat_tests)
 
@@ -60,9 +65,18 @@ lone_same test xs i a d lone lt hit = λ k e within here.
 
 -- ---- bytes from an address on
 
+-- as many as were asked for
 pub read_length : (m : Memory) (start n : ℕ) → length (read m start n) ≡ n
 unfolding read
 read_length m start n = length-map (range_with_len 0 n) (λ (k : ℕ). unwrap_or (m (start + k)) 0) ∙ length-range_with_len 0 n
+
+-- a byte that is read
+pub read_byte : (m : Memory) (start n k : ℕ) → k < n → get_or (read m start n) k 0 ≡ unwrap_or (m (start + k)) 0
+unfolding read
+read_byte m start n k lt =
+    let within : k < length (range_with_len 0 n) = omega (arith, lt, length-range_with_len 0 n) in
+    get_or-map (λ (i : ℕ). unwrap_or (m (start + i)) 0) (range_with_len 0 n) k 0 0 within
+    ∙ ap (λ (i : ℕ). unwrap_or (m (start + i)) 0) (get_or-range_with_len 0 n k 0 lt ∙ omega arith)
 
 -- ---- what holds of each row that is made
 

@@ -4,6 +4,7 @@ use Rattle.std.proofs.lemmas.List.{drop-drop, drop_all, take_rest, append-nil}
 use borrow.Rule.Slice.PartMut.{put_mid, mid_of}
 use Rattle.pl_base.specs.Bytes.{put}
 
+-- what is written first into the rest of a slice is put at its offset
 pub put_through : (at : ℕ) (new bytes written : List ℕ) → at + length new ≤ length bytes → written ≡ new ++ drop (length new) (mid_of at (length bytes - at) bytes) → put_mid at (length bytes - at) bytes written ≡ put at new bytes
 unfolding put
 put_through at new bytes written fits is =

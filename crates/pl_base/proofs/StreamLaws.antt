@@ -4,10 +4,12 @@ use Rattle.std.proofs.lemmas.List.{append-nil, take-append-le}
 use Rattle.std.proofs.Math.Seq.{take-add, take-append-add, take-length}
 use Rattle.pl_base.specs.Streams.{got_after, GotPrefix}
 
+-- no bytes more
 pub got_after-nil : (old : Option (List ℕ)) → got_after old [] ≡ old
 got_after-nil None = refl
 got_after-nil (Some got) = ap Some (append-nil got)
 
+-- bytes, and then others
 pub got_after-got_after : (old : Option (List ℕ)) (xs ys : List ℕ) → got_after (got_after old xs) ys ≡ got_after old (xs ++ ys)
 got_after-got_after None xs ys = refl
 got_after-got_after (Some got) xs ys = ap Some (simp append_assoc)
@@ -32,8 +34,10 @@ GotPrefix-more old new xs ys p =
     let short : p.0 ≤ length xs = p.1 in
     (p.0, simp length-append (omega arith), p.2 ∙ ap (got_after old) (sym (take-append-le p.0 xs ys short)))
 
+-- all of them
 pub GotPrefix-all : (old new : Option (List ℕ)) (xs : List ℕ) → new ≡ got_after old xs → GotPrefix old new xs
 GotPrefix-all old new xs e = (length xs, omega arith, e ∙ ap (got_after old) (sym (take-length xs)))
 
+-- none of them
 pub GotPrefix-none : (old : Option (List ℕ)) (xs : List ℕ) → GotPrefix old old xs
 GotPrefix-none old xs = (0, omega arith, sym (got_after-nil old))

@@ -10,36 +10,44 @@ use Rattle.std.proofs.lemmas.List.Folds.{list_any-append}
 use Rattle.pl_base.specs.Bytes.{part, put}
 use Rattle.pl_base.specs.Windows.{Window, end_of, within, Put, window_of, windows, put_all, own, holds, share, any_share, are_in, IsIn, AllIn, AreApart, IsApart, Agree, gap, ◌⊕◌}
 
+-- a put changes no length
 pub length-put : (at : ℕ) (new bytes : List ℕ) → at + length new ≤ length bytes → length (put at new bytes) ≡ length bytes
 unfolding put
 length-put at new bytes fits = simp (length-append, length-take, length-drop) (omega arith)
 
+-- a byte that was put
 pub put_in : (at : ℕ) (new bytes : List ℕ) (k : ℕ) → at + length new ≤ length bytes → at ≤ k → k < at + length new → get_or (put at new bytes) k 0 ≡ get_or new (k - at) 0
 unfolding put
 put_in at new bytes k fits from to = search (rules, places)
 
+-- a byte outside of what was put
 pub put_out : (at : ℕ) (new bytes : List ℕ) (k : ℕ) → at + length new ≤ length bytes → (k < at) ⊎ (at + length new ≤ k) → get_or (put at new bytes) k 0 ≡ get_or bytes k 0
 unfolding put
 put_out at new bytes k fits (inl lt) = search (rules, places)
 put_out at new bytes k fits (inr le) = search (rules, places)
 
+-- an offset in a window
 pub holds_true : (k : ℕ) (w : Window) → holds k w ≡ true → (w.at ≤ k) × (k < w.at + w.size)
 holds_true k w h = grind (arith, nat_tests)
 
+-- an offset outside of a window
 pub holds_false : (k : ℕ) (w : Window) → holds k w ≡ false → (k < w.at) ⊎ (w.at + w.size ≤ k)
 holds_false k w h = grind (arith, nat_tests)
 
+-- what makes an offset one outside
 pub holds_not : (k : ℕ) (w : Window) → (k < w.at) ⊎ (w.at + w.size ≤ k) → holds k w ≡ false
 holds_not k w h = grind (arith, nat_tests)
 
 part_at : (w : Window) (bytes : List ℕ) (i : ℕ) → i < w.size → get_or (within w bytes) i 0 ≡ get_or bytes (w.at + i) 0
 part_at w bytes i lt = get_or-take w.size (drop w.at bytes) i 0 lt ∙ get_or-drop w.at bytes i 0
 
+-- how many bytes a window has
 pub length-within : (w : Window) (bytes : List ℕ) → IsIn (length bytes) w → length (within w bytes) ≡ w.size
 length-within w bytes fits = length-take-le w.size (drop w.at bytes) (omega (arith, length-drop w.at bytes))
 
 -- ---- files that agree
 
+-- a file differs from itself in no window
 pub agree_same : (xs : List ℕ) → Agree [] xs xs
 agree_same xs = record { size = refl; bytes = λ k _. refl }
 
@@ -69,7 +77,7 @@ agree_back w ws xs ys h fits =
       ];
     }
 
--- a window apart from all of them has the same bytes in both
+-- a window apart from another holds none of its offsets
 apart_holds : (v w : Window) (k : ℕ) → AreApart v w → v.at ≤ k → k < v.at + v.size → holds k w ≡ false
 apart_holds v w k (inl le) from to = holds_not k w (inl (omega (arith, le, to)))
 apart_holds v w k (inr (inl le)) from to = holds_not k w (inr (omega (arith, le, from)))
@@ -80,6 +88,7 @@ out_of_all : (v : Window) (ws : List Window) (k : ℕ) → IsApart v ws → v.at
 out_of_all v [] k h from to = refl
 out_of_all v (w ∷ ws) k h from to = rw (apart_holds v w k h.0 from to, out_of_all v ws k h.1 from to) refl
 
+-- a window apart from all windows has the same bytes in both files
 pub agree_within : (v : Window) (ws : List Window) (xs ys : List ℕ) → Agree ws xs ys → IsIn (length ys) v → IsApart v ws → within v xs ≡ within v ys
 agree_within v ws xs ys h fits apart =
     let lx = length-within v xs (omega (arith, fits, h.size)) in
@@ -104,6 +113,7 @@ agree_put ws at new xs ys h fits =
 
 -- ---- many puts
 
+-- the other file's bytes put into windows: so many windows less
 pub agree_puts : (ps : List Put) (ws : List Window) (xs ys : List ℕ) → Agree (windows ps ++ ws) xs ys → AllIn (length ys) (windows ps) → ((k : ℕ) (d : Put) → k < length ps → (get_or ps k d).bytes ≡ within (window_of (get_or ps k d)) ys)
     → Agree ws (put_all ps xs) ys
 unfolding put_all
@@ -126,6 +136,7 @@ within_put at new xs fits =
 pub agree_wider : (vs ws : List Window) (xs ys : List ℕ) → ((k : ℕ) → list_any (holds k) ws ≡ false → list_any (holds k) vs ≡ false) → Agree vs xs ys → Agree ws xs ys
 agree_wider vs ws xs ys wider h = record { size = h.size; bytes = λ k out. h.bytes k (wider k out) }
 
+-- neither of two tests
 pub or_false : (a b : Bool) → a ≡ false → b ≡ false → (a || b) ≡ false
 or_false a b h k = rw (h, k) refl
 
@@ -156,10 +167,11 @@ agree_own (w ∷ ws) vs xs ys h fits = agree_own ws vs (put w.at (within w ys) x
 pub agree_undo : (ws : List Window) (xs ys : List ℕ) → Agree ws xs ys → AllIn (length ys) ws → put_all (own ws ys) xs ≡ ys
 agree_undo ws xs ys h fits = agree_nowhere (put_all (own ws ys) xs) ys (agree_own ws [] xs ys (rw (append-nil ws) h) fits)
 
--- either way round, and through a third file
+-- either way round
 pub agree_turned : (ws : List Window) (xs ys : List ℕ) → Agree ws xs ys → Agree ws ys xs
 agree_turned ws xs ys h = record { size = sym h.size; bytes = λ k out. sym (h.bytes k out) }
 
+-- through a third file
 pub agree_through : (ws : List Window) (xs ys zs : List ℕ) → Agree ws xs ys → Agree ws ys zs → Agree ws xs zs
 agree_through ws xs ys zs h k = record { size = h.size ∙ k.size; bytes = λ at out. h.bytes at out ∙ k.bytes at out }
 
@@ -230,17 +242,19 @@ part_part at size i n bytes le =
 pub part_all : (bytes : List ℕ) → part 0 (length bytes) bytes ≡ bytes
 part_all bytes = take_all (length bytes) bytes (omega arith)
 
--- a part wholly in the front of two lists, and one wholly behind
+-- a part wholly in the front of two lists
 pub part_front : (at size : ℕ) (xs ys : List ℕ) → at + size ≤ length xs → part at size (xs ++ ys) ≡ part at size xs
 part_front at size xs ys le =
     ap (take size) (drop-append-le at xs ys (omega (arith, le))) ∙ take-append-le size (drop at xs) ys (omega (arith, le, length-drop at xs))
 
+-- a part wholly behind the first of two lists
 pub part_behind : (i size : ℕ) (xs ys : List ℕ) → part (length xs + i) size (xs ++ ys) ≡ part i size ys
 part_behind i size xs ys =
     ap (take size) (sym (drop-drop i (length xs) (xs ++ ys)) ∙ ap (drop i) (drop_at xs ys (length xs) refl))
 
 -- ---- windows that lie apart, and windows that lie in a file
 
+-- lying apart, the other way round
 pub apart_turned : (v w : Window) → AreApart v w → AreApart w v
 apart_turned v w (inl le) = inr (inl le)
 apart_turned v w (inr (inl le)) = inl le
@@ -274,18 +288,20 @@ none_shared v (w ∷ ws) none =
     let p = or_parts (share v w) (list_any (share v) ws) none in
     (not_share v w p.0, none_shared v ws p.1)
 
+-- windows of which no two share a byte
 pub none_share : (ws : List Window) → any_share ws ≡ false → AreAllApart ws
 none_share [] none = tt
 none_share (w ∷ ws) none =
     let p = or_parts (list_any (share w) ws) (any_share ws) none in
     (none_shared w ws p.0, none_share ws p.1)
 
--- the same by places in the list
+-- a window by its place lies apart
 pub apart_at : (v : Window) (ws : List Window) → IsApart v ws → (i : ℕ) (d : Window) → i < length ws → AreApart v (get_or ws i d)
 apart_at v [] h i d lt = absurd (omega (arith, lt))
 apart_at v (w ∷ ws) h zero d lt = h.0
 apart_at v (w ∷ ws) h (suc i) d lt = apart_at v ws h.1 i d (omega (arith, lt))
 
+-- all of them by their places
 pub all_apart_at : (ws : List Window) → AreAllApart ws → AllPairs AreApart ws
 all_apart_at [] h i j d lt within = absurd (omega (arith, within))
 all_apart_at (w ∷ ws) h i zero d lt within = absurd (omega (arith, lt))
@@ -299,6 +315,7 @@ all_in size (w ∷ ws) given =
     let p = and_parts (nat_le (end_of w) size) (are_in size ws) given in
     (grind (arith, nat_tests), all_in size ws p.1)
 
+-- a window by its place lies in so many bytes
 pub in_at : (size : ℕ) (ws : List Window) → AllIn size ws → (i : ℕ) (d : Window) → i < length ws → IsIn size (get_or ws i d)
 in_at size [] h i d lt = absurd (omega (arith, lt))
 in_at size (w ∷ ws) h zero d lt = h.0
@@ -306,16 +323,19 @@ in_at size (w ∷ ws) h (suc i) d lt = in_at size ws h.1 i d (omega (arith, lt))
 
 -- ---- parts one after the other
 
--- a size and its gap are a multiple of 8
+-- where the gap leads
 pub gap_to : (size : ℕ) → size + gap size ≡ (size + 7) / 8 * 8
 gap_to size = omega arith
 
+-- a size with its gap is a multiple of 8
 pub gap_multiple : (size : ℕ) → (size + gap size) % 8 ≡ 0
 gap_multiple size = omega arith
 
+-- a multiple of 8 has no gap
 pub gap_none : (size : ℕ) → size % 8 ≡ 0 → gap size ≡ 0
 gap_none size multiple = omega (arith, multiple)
 
+-- a gap is less than 8
 pub gap_small : (size : ℕ) → gap size < 8
 gap_small size = omega arith
 
@@ -326,6 +346,7 @@ length-front front = length-append front (replicate (gap (length front)) 0) ∙ 
 pub length-⊕ : (front next : List ℕ) → length (front ⊕ next) ≡ (length front + 7) / 8 * 8 + length next
 length-⊕ front next = length-append (front ++ replicate (gap (length front)) 0) next ∙ ap (λ (n : ℕ). n + length next) (length-front front)
 
+-- behind a part whose length is a multiple of 8, the sum has a length that is one
 pub ⊕-multiple : (front next : List ℕ) → length next % 8 ≡ 0 → length (front ⊕ next) % 8 ≡ 0
 ⊕-multiple front next multiple = omega (arith, length-⊕ front next, multiple)
 

@@ -13,34 +13,41 @@ use Rattle.pl_base.proofs.WindowLaws.{within_put, part_apart, part_part, part_fr
 
 -- ---- lists of bytes
 
+-- no bytes
 pub is_bytes_nil : IsBytes []
 is_bytes_nil i = omega arith
 
--- what is dropped, taken, joined, or put leaves bytes
+-- what is left after a drop
 pub is_bytes_drop : (n : ℕ) (xs : List ℕ) → IsBytes xs → IsBytes (drop n xs)
 is_bytes_drop n xs h i = rw (get_or-drop n xs i 0) (h (n + i))
 
+-- what is taken
 pub is_bytes_take : (n : ℕ) (xs : List ℕ) → IsBytes xs → IsBytes (take n xs)
 is_bytes_take n xs h i = search (rules, places)
 
+-- a part
 pub is_bytes_part : (at size : ℕ) (xs : List ℕ) → IsBytes xs → IsBytes (part at size xs)
 is_bytes_part at size xs h = is_bytes_take size (drop at xs) (is_bytes_drop at xs h)
 
+-- two lists
 pub is_bytes_append : (xs ys : List ℕ) → IsBytes xs → IsBytes ys → IsBytes (xs ++ ys)
 is_bytes_append xs ys h k i = elim (cases_lt i (length xs)) [
   | inl lt ↦ rw (get_or_append_left xs ys 0 i lt) (h i)
   | inr le ↦ rw (get_or-append_right xs ys (length xs) i 0 refl le) (k (i - length xs))
 ]
 
+-- what is put
 pub is_bytes_put : (at : ℕ) (new xs : List ℕ) → IsBytes new → IsBytes xs → IsBytes (put at new xs)
 unfolding put
 is_bytes_put at new xs h k = is_bytes_append (take at xs ++ new) (drop (at + length new) xs) (is_bytes_append (take at xs) new (is_bytes_take at xs k) h) (is_bytes_drop (at + length new) xs k)
 
+-- zeros
 pub is_bytes_zeros : (n : ℕ) → IsBytes (replicate n 0)
 is_bytes_zeros zero i = omega arith
 is_bytes_zeros (suc n) zero = omega arith
 is_bytes_zeros (suc n) (suc i) = is_bytes_zeros n i
 
+-- parts one after the other
 pub is_bytes_⊕ : (front next : List ℕ) → IsBytes front → IsBytes next → IsBytes (front ⊕ next)
 is_bytes_⊕ front next h k = is_bytes_append (front ++ replicate (gap (length front)) 0) next (is_bytes_append front (replicate (gap (length front)) 0) h (is_bytes_zeros (gap (length front)))) k
 
@@ -82,20 +89,22 @@ bytes_are_bytes j (suc k) number (suc i) = bytes_are_bytes (suc j) k number i
 
 -- ---- 16 bits
 
--- in std's words
+-- a word in std's words
 pub word16_std : (at : ℕ) (xs : List ℕ) → word16 at xs ≡ from_le_bytes w16 (drop at xs)
 unfolding word16
 word16_std at xs = omega arith
 
+-- a number's bytes in std's words
 pub bytes16_std : (number : ℕ) → bytes16 number ≡ to_le_bytes w16 number
 unfolding bytes16
 bytes16_std number = refl
 
--- the bytes of a number, how many and that they are bytes
+-- how many bytes a number has
 pub length_bytes16 : (number : ℕ) → length (bytes16 number) ≡ 2
 unfolding bytes16
 length_bytes16 number = length-bytes_low_first 0 2 number
 
+-- they are bytes
 pub is_bytes_bytes16 : (number : ℕ) → IsBytes (bytes16 number)
 unfolding bytes16
 is_bytes_bytes16 number = bytes_are_bytes 0 2 number
@@ -112,15 +121,17 @@ pub word16_within : (at : ℕ) (xs : List ℕ) → word16 at xs ≡ word16 0 (pa
 unfolding word16
 word16_within at xs = number_within 2 at xs
 
+-- the same bytes give the same word
 pub word16_same : (at at' : ℕ) (xs ys : List ℕ) → part at 2 xs ≡ part at' 2 ys → word16 at xs ≡ word16 at' ys
 unfolding word16
 word16_same at at' xs ys same = number_same 2 at at' xs ys same
 
--- a word in a part, and in the front of two lists
+-- a word in a part
 pub word16_part : (at size i : ℕ) (xs : List ℕ) → i + 2 ≤ size → word16 i (part at size xs) ≡ word16 (at + i) xs
 unfolding word16
 word16_part at size i xs le = number_part 2 at size i xs le
 
+-- a word wholly in the front of two lists
 pub word16_front : (at : ℕ) (xs ys : List ℕ) → at + 2 ≤ length xs → word16 at (xs ++ ys) ≡ word16 at xs
 unfolding word16
 word16_front at xs ys le = number_front 2 at xs ys le
@@ -147,20 +158,22 @@ put_word16 at xs fits h = ap (λ (new : List ℕ). put at new xs) (bytes16_word 
 
 -- ---- 32 bits
 
--- in std's words
+-- a word in std's words
 pub word32_std : (at : ℕ) (xs : List ℕ) → word32 at xs ≡ from_le_bytes w32 (drop at xs)
 unfolding word32
 word32_std at xs = omega arith
 
+-- a number's bytes in std's words
 pub bytes32_std : (number : ℕ) → bytes32 number ≡ to_le_bytes w32 number
 unfolding bytes32
 bytes32_std number = refl
 
--- the bytes of a number, how many and that they are bytes
+-- how many bytes a number has
 pub length_bytes32 : (number : ℕ) → length (bytes32 number) ≡ 4
 unfolding bytes32
 length_bytes32 number = length-bytes_low_first 0 4 number
 
+-- they are bytes
 pub is_bytes_bytes32 : (number : ℕ) → IsBytes (bytes32 number)
 unfolding bytes32
 is_bytes_bytes32 number = bytes_are_bytes 0 4 number
@@ -177,15 +190,17 @@ pub word32_within : (at : ℕ) (xs : List ℕ) → word32 at xs ≡ word32 0 (pa
 unfolding word32
 word32_within at xs = number_within 4 at xs
 
+-- the same bytes give the same word
 pub word32_same : (at at' : ℕ) (xs ys : List ℕ) → part at 4 xs ≡ part at' 4 ys → word32 at xs ≡ word32 at' ys
 unfolding word32
 word32_same at at' xs ys same = number_same 4 at at' xs ys same
 
--- a word in a part, and in the front of two lists
+-- a word in a part
 pub word32_part : (at size i : ℕ) (xs : List ℕ) → i + 4 ≤ size → word32 i (part at size xs) ≡ word32 (at + i) xs
 unfolding word32
 word32_part at size i xs le = number_part 4 at size i xs le
 
+-- a word wholly in the front of two lists
 pub word32_front : (at : ℕ) (xs ys : List ℕ) → at + 4 ≤ length xs → word32 at (xs ++ ys) ≡ word32 at xs
 unfolding word32
 word32_front at xs ys le = number_front 4 at xs ys le
@@ -212,20 +227,22 @@ put_word32 at xs fits h = ap (λ (new : List ℕ). put at new xs) (bytes32_word 
 
 -- ---- 64 bits
 
--- in std's words
+-- a word in std's words
 pub word64_std : (at : ℕ) (xs : List ℕ) → word64 at xs ≡ from_le_bytes w64 (drop at xs)
 unfolding word64
 word64_std at xs = omega arith
 
+-- a number's bytes in std's words
 pub bytes64_std : (number : ℕ) → bytes64 number ≡ to_le_bytes w64 number
 unfolding bytes64
 bytes64_std number = refl
 
--- the bytes of a number, how many and that they are bytes
+-- how many bytes a number has
 pub length_bytes64 : (number : ℕ) → length (bytes64 number) ≡ 8
 unfolding bytes64
 length_bytes64 number = length-bytes_low_first 0 8 number
 
+-- they are bytes
 pub is_bytes_bytes64 : (number : ℕ) → IsBytes (bytes64 number)
 unfolding bytes64
 is_bytes_bytes64 number = bytes_are_bytes 0 8 number
@@ -242,15 +259,17 @@ pub word64_within : (at : ℕ) (xs : List ℕ) → word64 at xs ≡ word64 0 (pa
 unfolding word64
 word64_within at xs = number_within 8 at xs
 
+-- the same bytes give the same word
 pub word64_same : (at at' : ℕ) (xs ys : List ℕ) → part at 8 xs ≡ part at' 8 ys → word64 at xs ≡ word64 at' ys
 unfolding word64
 word64_same at at' xs ys same = number_same 8 at at' xs ys same
 
--- a word in a part, and in the front of two lists
+-- a word in a part
 pub word64_part : (at size i : ℕ) (xs : List ℕ) → i + 8 ≤ size → word64 i (part at size xs) ≡ word64 (at + i) xs
 unfolding word64
 word64_part at size i xs le = number_part 8 at size i xs le
 
+-- a word wholly in the front of two lists
 pub word64_front : (at : ℕ) (xs ys : List ℕ) → at + 8 ≤ length xs → word64 at (xs ++ ys) ≡ word64 at xs
 unfolding word64
 word64_front at xs ys le = number_front 8 at xs ys le
