@@ -11,3 +11,4 @@ pub mod WindowLaws
 pub mod WordLaws
 pub mod MemoryLaws
 pub mod HexLaws
+pub mod AnswerLaws

@@ -1,0 +1,25 @@
+-- What a table of refusals says where nothing is refused.
+use Rattle.std.proofs.Common.{◌≡◌, inl, inr, Bool, true, false, List, [], ◌∷◌, Result, Ok, Err, refl, sym, ap, ◌∙◌}
+use Rattle.std.specs.Prelude.{◌||◌}
+use Rattle.std.specs.List.{list_any}
+use Rattle.std.specs.Result.{is_ok}
+use Rattle.std.proofs.lemmas.Bool.{cases_Bool, false≢true}
+use Rattle.pl_base.specs.Answers.{refuse, unless}
+
+-- no test of the table holds
+pub refuse_none : {X E : Type 0} (rows : List (Bool × E)) (next : Result X E) → is_ok (refuse rows next) ≡ true → list_any (λ row. row.0) rows ≡ false
+refuse_none [] next ok = refl
+refuse_none {X} {E} (row ∷ rows) next ok =
+    elim (cases_Bool row.0) [
+      | inl hit ↦ absurd (false≢true (ap (λ (b : Bool). is_ok (unless b row.1 (refuse rows next))) (sym hit) ∙ ok))
+      | inr miss ↦ ap (λ (b : Bool). b || list_any (λ (r : Bool × E). r.0) rows) miss ∙ refuse_none rows next (ap (λ (b : Bool). is_ok (unless b row.1 (refuse rows next))) (sym miss) ∙ ok)
+    ]
+
+-- and the answer is what follows it
+pub refuse_next : {X E : Type 0} (rows : List (Bool × E)) (next : Result X E) → list_any (λ row. row.0) rows ≡ false → refuse rows next ≡ next
+refuse_next [] next none = refl
+refuse_next {X} {E} (row ∷ rows) next none =
+    elim (cases_Bool row.0) [
+      | inl hit ↦ absurd (false≢true (sym none ∙ ap (λ (b : Bool). b || list_any (λ (r : Bool × E). r.0) rows) hit))
+      | inr miss ↦ ap (λ (b : Bool). unless b row.1 (refuse rows next)) miss ∙ refuse_next rows next (ap (λ (b : Bool). b || list_any (λ (r : Bool × E). r.0) rows) (sym miss) ∙ none)
+    ]
