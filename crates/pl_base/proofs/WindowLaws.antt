@@ -1,5 +1,5 @@
 -- What is written into windows, and what stays.
-use Rattle.std.proofs.Common.{◌≡◌, ℕ, zero, suc, ◌+◌, ◌-◌, ◌*◌, ◌/◌, ◌%◌, ◌<◌, ◌≤◌, Bool, true, false, List, [], ◌∷◌, ◌++◌, length, get_or, take, drop, replicate, refl, sym, ap, ◌∙◌, append_assoc, arith, inl, inr, rules}
+use Rattle.std.proofs.Common.{◌≡◌, ℕ, zero, suc, ◌+◌, ◌-◌, ◌*◌, ◌/◌, ◌%◌, ◌<◌, ◌≤◌, Bool, true, false, List, [], ◌∷◌, ◌++◌, length, get_or, take, drop, replicate, refl, sym, ap, subst, ◌∙◌, append_assoc, arith, inl, inr, rules}
 use Rattle.std.specs.Prelude.{◌⊎◌, ◌||◌, nat_le, min, AllPairs}
 use Rattle.std.specs.List.{list_any}
 use Rattle.std.proofs.lemmas.Bool.{cases_Bool, cases_lt, or_parts, and_parts}
@@ -8,7 +8,7 @@ use Rattle.std.proofs.Math.Nat.{min-le_left}
 use Rattle.std.proofs.lemmas.List.{places, ext_get_or, length-append, length-take, length-drop, length-take-le, length-replicate, get_or-take, get_or-drop, drop-drop, drop-take, take-take, take_all, take-append-drop, take-append-le, drop-append-le, append-nil, take_at, drop_at}
 use Rattle.std.proofs.lemmas.List.Folds.{list_any-append}
 use Rattle.pl_base.specs.Bytes.{part, put}
-use Rattle.pl_base.specs.Windows.{Window, end_of, within, Put, window_of, windows, put_all, own, holds, share, any_share, are_in, IsIn, AllIn, AreApart, IsApart, Agree, gap, ◌⊕◌}
+use Rattle.pl_base.specs.Windows.{Window, end_of, within, on, Put, window_of, windows, put_all, own, holds, share, any_share, are_in, IsIn, AllIn, AreApart, IsApart, Agree, gap, ◌⊕◌}
 
 -- a put changes no length
 pub length-put : (at : ℕ) (new bytes : List ℕ) → at + length new ≤ length bytes → length (put at new bytes) ≡ length bytes
@@ -320,6 +320,32 @@ pub in_at : (size : ℕ) (ws : List Window) → AllIn size ws → (i : ℕ) (d :
 in_at size [] h i d lt = absurd (omega (arith, lt))
 in_at size (w ∷ ws) h zero d lt = h.0
 in_at size (w ∷ ws) h (suc i) d lt = in_at size ws h.1 i d (omega (arith, lt))
+
+-- ---- what many puts leave and make
+
+-- a window's bytes changed: one window more
+pub agree_on : (w : Window) (f : List ℕ → List ℕ) (ws : List Window) (xs ys : List ℕ) → Agree ws xs ys → IsIn (length xs) w → length (f (within w xs)) ≡ w.size → Agree (w ∷ ws) (on w f xs) ys
+unfolding on
+agree_on w f ws xs ys h fits same_size =
+    let one = agree_edit ws w.at (f (within w xs)) xs ys h (omega (arith, same_size, fits)) in
+    subst (λ (n : ℕ). Agree (record { at = w.at; size = n } ∷ ws) (put w.at (f (within w xs)) xs) ys) same_size one
+
+-- a window apart from all puts keeps its bytes
+pub within_apart_of_puts : (v : Window) (ps : List Put) (xs : List ℕ) → IsApart v (windows ps) → IsIn (length xs) v → AllIn (length xs) (windows ps) → within v (put_all ps xs) ≡ within v xs
+within_apart_of_puts v ps xs apart fits all =
+    let edited : Agree (windows ps ++ []) (put_all ps xs) xs = agree_edits ps [] xs xs (agree_same xs) all in
+    agree_within v (windows ps) (put_all ps xs) xs (subst (λ (ws : List Window). Agree ws (put_all ps xs) xs) (append-nil (windows ps)) edited) fits apart
+
+-- of puts that lie apart each is there
+pub put_all_at : (ps : List Put) (xs : List ℕ) → AreAllApart (windows ps) → AllIn (length xs) (windows ps) → (i : ℕ) (d : Put) → i < length ps → within (window_of (get_or ps i d)) (put_all ps xs) ≡ (get_or ps i d).bytes
+unfolding put_all
+put_all_at [] xs apart fits i d lt = absurd (omega (arith, lt))
+put_all_at (p ∷ ps) xs apart fits zero d lt =
+    let same_size : length (put p.at p.bytes xs) ≡ length xs = length-put p.at p.bytes xs fits.0 in
+    within_apart_of_puts (window_of p) ps (put p.at p.bytes xs) apart.0 (rw same_size fits.0) (rw same_size fits.1) ∙ within_put p.at p.bytes xs fits.0
+put_all_at (p ∷ ps) xs apart fits (suc i) d lt =
+    let same_size : length (put p.at p.bytes xs) ≡ length xs = length-put p.at p.bytes xs fits.0 in
+    put_all_at ps (put p.at p.bytes xs) apart.1 (rw same_size fits.1) i d (omega (arith, lt))
 
 -- ---- parts one after the other
 
