@@ -1,0 +1,26 @@
+//! Sources and sinks of bytes, in memory and over std's readers and writers, and names of files.
+#![tactic(auto)]
+
+mod failed;
+mod memory_sink;
+mod memory_source;
+mod names;
+mod no_memory;
+mod script;
+mod sink;
+mod source;
+mod std_sink;
+mod std_source;
+#[cfg(test)]
+mod tests;
+
+pub use failed::Failed;
+pub use memory_sink::MemorySink;
+pub use memory_source::MemorySource;
+pub use names::valid_name;
+pub use no_memory::NoMemory;
+pub use script::Script;
+pub use sink::{Sink, write_all};
+pub use source::Source;
+pub use std_sink::StdSink;
+pub use std_source::StdSource;
