@@ -1,1 +1,74 @@
-//
+use crate::{Failed, MemorySink, MemorySource, Sink, Source, StdSink, StdSource, valid_name, write_all};
+use std::test::Fail;
+
+#[test]
+fn reads_to_the_end(rt: HostRuntime) -> Result<(), Fail> {
+    let alloc = rt.alloc();
+    let bytes = b"hello".to_vec(alloc)?;
+    let mut source = MemorySource::new(bytes, vec![in alloc; 1u64]?);
+    let mut into = [0u8; 3];
+    let answers = [
+        (Ok(3), *b"hel"),
+        (Err(Failed), *b"hel"),
+        (Ok(2), *b"lol"),
+        (Ok(0), *b"lol"),
+    ];
+    for (answer, holds) in answers {
+        assert_eq!(rt; source.read(&mut into), answer);
+        assert_eq!(rt; into, holds);
+    }
+    let mut source = StdSource::new(b"hello".as_slice());
+    assert_eq!(rt; source.read(&mut into), Ok(3));
+    assert_eq!(rt; source.read(&mut into), Ok(2));
+    assert_eq!(rt; source.read(&mut into), Ok(0));
+    Ok(())
+}
+
+#[test]
+fn writes_until_it_fails(rt: HostRuntime) -> Result<(), Fail> {
+    let alloc = rt.alloc();
+    let mut sink = MemorySink::new(alloc, 8, vec![in alloc; 1u64]?, 3)?;
+    assert_eq!(rt; sink.write(b"hello"), Ok(3));
+    assert_eq!(rt; sink.write(b"lo"), Err(Failed));
+    assert_eq!(rt; write_all(&mut sink, b"lo"), Ok(()));
+    assert_eq!(rt; sink.bytes(), b"hello".as_slice());
+    assert_eq!(rt; write_all(&mut sink, b" world"), Err(Failed));
+    assert_eq!(rt; sink.bytes(), b"hello wo".as_slice());
+    assert_eq!(rt; sink.write(b""), Ok(0));
+
+    let mut room = [0u8; 4];
+    let mut sink = StdSink::new(room.as_mut_slice());
+    assert_eq!(rt; sink.write(b"hello"), Ok(4));
+    assert_eq!(rt; sink.write(b"o"), Err(Failed));
+    assert_eq!(rt; sink.write(b""), Ok(0));
+    Ok(())
+}
+
+#[test]
+fn knows_valid_names(rt: HostRuntime) -> Result<(), Fail> {
+    let alloc = rt.alloc();
+    let names = [
+        ("libc.so.6", true),
+        ("a", true),
+        ("~", true),
+        ("...", true),
+        (".prelink", true),
+        ("", false),
+        (".", false),
+        ("..", false),
+        ("a b", false),
+        ("a/b", false),
+        ("\u{7f}", false),
+        ("é", false),
+        (".prelink.", false),
+        (".prelink.cache", false),
+    ];
+    for (name, is_valid) in names {
+        assert_eq!(rt; valid_name(name), is_valid, "{name}");
+    }
+    for (len, is_valid) in [(255, true), (256, false)] {
+        let name = "n".repeat(alloc, len)?;
+        assert_eq!(rt; valid_name(&name), is_valid, "{len} bytes");
+    }
+    Ok(())
+}

@@ -1,7 +1,8 @@
 use Rattle.std.proofs.Common.{◌≡◌, ◌≤◌, take, drop, length, arith, length-drop, ap, ◌∙◌}
 use Rattle.std.proofs.lemmas.List.{take_rest}
 use Rattle.pl_base.specs.Streams.{got_after, GotPrefix}
-use Rattle.pl_io.proofs.StreamLemmas.{got_after-take, GotPrefix-rest, on_err}
+use Rattle.pl_base.proofs.ResultLaws.{OnErr-from}
+use Rattle.pl_base.proofs.StreamLaws.{got_after-take, GotPrefix-rest}
 use Rattle.pl_io.proofs.sink.write_all.Goals as goal
 
 pub returns-in_err-done-clause-err : goal.returns-in_err-done-clause-err
@@ -10,7 +11,7 @@ returns-in_err-done-clause-err g c =
     let i = c.loop-done.done in
     let bytes = c.args.bytes.now in
     let prefix : GotPrefix (written c.loop-done.sink) (written c.write.new.self) (drop i bytes) = rw (take_rest bytes i) at c.in_err-done.ensures.bytes_err in
-    on_err _ _ (GotPrefix-rest (written c.args.sink.now) (written c.loop-done.sink) (written c.write.new.self) i bytes c.loop-done.invariant.0 c.loop-done.invariant.1 prefix)
+    OnErr-from _ _ (GotPrefix-rest (written c.args.sink.now) (written c.loop-done.sink) (written c.write.new.self) i bytes c.loop-done.invariant.0 c.loop-done.invariant.1 prefix)
 
 pub loop-done-preserved : goal.loop-done-preserved
 loop-done-preserved g c =
