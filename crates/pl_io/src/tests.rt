@@ -1,4 +1,6 @@
-use crate::{Failed, MemorySink, MemorySource, Sink, Source, StdSink, StdSource, valid_name, write_all};
+use crate::{
+    Failed, MemorySink, MemorySource, Sink, Source, StdSink, StdSource, valid_name, write_all,
+};
 use std::test::Fail;
 
 #[test]

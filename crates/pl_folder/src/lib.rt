@@ -1,0 +1,15 @@
+//! A flat folder of files: what a call of it gives, and a folder in memory whose calls fail by a script.
+#![tactic(auto)]
+
+mod fault;
+mod folder;
+mod memory_folder;
+#[cfg(test)]
+mod tests;
+
+pub use fault::FolderFault;
+pub use folder::Folder;
+pub use memory_folder::MemoryFolder;
+
+/// The most bytes of a file that a folder gives: 64 MiB.
+pub const STORED: usize = 67_108_864;

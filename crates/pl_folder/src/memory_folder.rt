@@ -1,0 +1,121 @@
+ghost use Rattle.std.specs.Prelude.{◌≡◌, ◌≢◌, ◌≤◌, length, not, is_ok, true, Ok, All, AllPairs, IfOk, IfErr, OnErr, string_bytes};
+ghost use Rattle.std.specs.Option.{option_copied};
+ghost use Rattle.std.specs.FinMap.{get};
+ghost use Rattle.pl_base.specs.Counts.{Rose};
+ghost use Rattle.pl_base.specs.Files.{files_of};
+ghost use Rattle.pl_base.specs.Names.{IsNameLength};
+ghost use Rattle.pl_io.specs.Scripts.{IsAfterCall};
+ghost use Rattle.pl_folder.specs.InMemory.{call_fails, folder_files, folder_script, most_calls, taken_next};
+ghost use Rattle.pl_folder.specs.Taken.{Explains, IsMeant, taken};
+
+use crate::{Folder, FolderFault, STORED};
+use pl_io::{Failed, NoMemory, Script};
+use std::alloc::{AllocError, Global};
+use std::collections::BTreeMap;
+
+/// A folder in memory, which tells its files.
+#[derive(Drop)]
+pub struct MemoryFolder {
+    files: BTreeMap<String, Vec<u8>>,
+    script: Script,
+    calls: u32,
+}
+
+fn copies_of(
+    alloc: Global,
+    files: &[(String, Vec<u8>)],
+) -> Result<BTreeMap<String, Vec<u8>>, AllocError>
+    requires differ { AllPairs (λ a b. string_bytes a.0 ≢ string_bytes b.0) files.now }
+    ensures { IfOk result (λ copies. files_of copies.entries ≡ files_of files.now) }
+{
+    let mut copies = BTreeMap::new(alloc);
+    for file in files {
+        let name = String::from_str(alloc, file.0.as_str())?;
+        let bytes = Vec::from_slice(alloc, file.1.as_slice())?;
+        copies.insert(name, bytes)?;
+    }
+    Ok(copies)
+}
+
+fn look_up<'a>(files: &'a BTreeMap<String, Vec<u8>>, name: &str) -> Option<&'a [u8]>
+    ensures { option_copied result ≡ get (files_of files.now.entries) name.now }
+{
+    match files.get(name) {
+        None => None,
+        Some(bytes) => Some(bytes.as_slice()),
+    }
+}
+
+impl MemoryFolder {
+    /// A folder of these files. Its calls of the listed numbers, counted from 0, fail and change nothing, and so does each call after the first `calls` ones.
+    ///
+    /// Each name has 1 to 255 bytes, and no two files have one name.
+    pub fn new(
+        alloc: Global,
+        files: &[(String, Vec<u8>)],
+        fail_at: Vec<u64>,
+        calls: u32,
+    ) -> Result<MemoryFolder, NoMemory>
+        requires named { All (λ file. IsNameLength (string_bytes file.0)) files.now }
+        requires differ { AllPairs (λ a b. string_bytes a.0 ≢ string_bytes b.0) files.now }
+        ensures tells { IfOk result (λ folder. ⟦<MemoryFolder as Folder>⟧.tells_files folder ≡ true) }
+        ensures files { IfOk result (λ folder. ⟦<MemoryFolder as Folder>⟧.files folder ≡ files_of files.now) }
+        ensures faults { IfOk result (λ folder. ⟦<MemoryFolder as Folder>⟧.faults folder ≡ 0) }
+        ensures fail_at { IfOk result (λ folder. (folder_script folder).fail_at.items ≡ fail_at.items) }
+        ensures made { IfOk result (λ folder. (folder_script folder).calls ≡ 0) }
+        ensures calls { IfOk result (λ folder. most_calls folder ≡ calls) }
+    {
+        Ok(MemoryFolder {
+            files: copies_of(alloc, files)?,
+            script: Script::new(fail_at),
+            calls,
+        })
+    }
+
+    // Counts a call.
+    fn call(&mut self) -> Result<(), Failed>
+        ensures fails { is_ok result ≡ not (call_fails self.old) }
+        ensures call { IsAfterCall (folder_script self.old) (folder_script self.new) }
+        ensures failed { OnErr result (Rose (folder_script self.old).faults (folder_script self.new).faults) }
+        ensures counts { (folder_script self.old).faults ≤ (folder_script self.new).faults }
+        ensures files { self.new.files.entries ≡ self.old.files.entries }
+        ensures most { most_calls self.new ≡ most_calls self.old }
+    {
+        let is_past = self.script.calls >= u64::from(self.calls);
+        self.script.call()?;
+        if is_past {
+            return Err(self.script.fail());
+        }
+        Ok(())
+    }
+}
+
+impl Folder for MemoryFolder {
+    ghost tells_files = { λ _. true };
+
+    ghost files = { λ folder. folder_files folder };
+
+    ghost faults = { λ folder. (folder_script folder).faults };
+
+    /// Fails exactly where the script says so.
+    fn take(&mut self, alloc: Global, name: &str) -> Result<Vec<u8>, FolderFault>
+        ensures bytes { IfOk result (λ bytes. taken (folder_files self.old) name.now ≡ Ok bytes.items) }
+        ensures stored { IfOk result (λ bytes. length bytes.items ≤ STORED) }
+        ensures fault { IfErr result (Explains true (taken (folder_files self.old) name.now) (Rose (folder_script self.old).faults (folder_script self.new).faults)) }
+        ensures same { folder_files self.new ≡ folder_files self.old }
+        ensures counts { (folder_script self.old).faults ≤ (folder_script self.new).faults }
+        ensures scripted_ok { IfOk result (λ bytes. taken_next self.old name.now ≡ Ok bytes.items) }
+        ensures scripted { IfErr result (IsMeant (taken_next self.old name.now)) }
+        ensures call { IsAfterCall (folder_script self.old) (folder_script self.new) }
+        ensures most { most_calls self.new ≡ most_calls self.old }
+    {
+        self.call()?;
+        let Some(bytes) = look_up(&self.files, name) else {
+            return Err(FolderFault::NotThere);
+        };
+        if bytes.len() > STORED {
+            return Err(FolderFault::TooLarge);
+        }
+        Ok(Vec::from_slice(alloc, bytes)?)
+    }
+}
