@@ -1,5 +1,5 @@
 -- What a folder in memory holds, and which of its calls fail.
-use Rattle.std.specs.Prelude.{ℕ, Bool, ◌||◌, List, Result, Ok, Err, nat_le, if◌then◌else◌}
+use Rattle.std.specs.Prelude.{ℕ, Bool, ◌||◌, List, Result, Err, nat_le, if◌then◌else◌}
 use Rattle.pl_base.specs.Files.{Files, files_of}
 use Rattle.pl_io.specs.declared.script.Script.{Script}
 use Rattle.pl_io.specs.Scripts.{fails_next}

@@ -2,12 +2,14 @@
 #![tactic(auto)]
 
 mod fault;
+mod file_list;
 mod folder;
 mod memory_folder;
 #[cfg(test)]
 mod tests;
 
 pub use fault::FolderFault;
+pub use file_list::are_files;
 pub use folder::Folder;
 pub use memory_folder::MemoryFolder;
 

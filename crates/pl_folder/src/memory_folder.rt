@@ -1,10 +1,10 @@
-ghost use Rattle.std.specs.Prelude.{◌≡◌, ◌≢◌, ◌≤◌, length, not, is_ok, true, Ok, All, AllPairs, IfOk, IfErr, OnErr, string_bytes};
+ghost use Rattle.std.specs.Prelude.{◌≡◌, ◌≤◌, length, not, is_ok, true, Ok, IfOk, IfErr, OnErr};
 ghost use Rattle.std.specs.Option.{option_copied};
 ghost use Rattle.std.specs.FinMap.{get};
 ghost use Rattle.pl_base.specs.Counts.{Rose};
 ghost use Rattle.pl_base.specs.Files.{files_of};
-ghost use Rattle.pl_base.specs.Names.{IsNameLength};
 ghost use Rattle.pl_io.specs.Scripts.{IsAfterCall};
+ghost use Rattle.pl_folder.specs.FileLists.{are_files};
 ghost use Rattle.pl_folder.specs.InMemory.{call_fails, folder_files, folder_script, most_calls, taken_next};
 ghost use Rattle.pl_folder.specs.Taken.{Explains, IsMeant, taken};
 
@@ -25,7 +25,7 @@ fn copies_of(
     alloc: Global,
     files: &[(String, Vec<u8>)],
 ) -> Result<BTreeMap<String, Vec<u8>>, AllocError>
-    requires differ { AllPairs (λ a b. string_bytes a.0 ≢ string_bytes b.0) files.now }
+    requires { are_files files.now ≡ true }
     ensures { IfOk result (λ copies. files_of copies.entries ≡ files_of files.now) }
 {
     let mut copies = BTreeMap::new(alloc);
@@ -49,15 +49,14 @@ fn look_up<'a>(files: &'a BTreeMap<String, Vec<u8>>, name: &str) -> Option<&'a [
 impl MemoryFolder {
     /// A folder of these files. Its calls of the listed numbers, counted from 0, fail and change nothing, and so does each call after the first `calls` ones.
     ///
-    /// Each name has 1 to 255 bytes, and no two files have one name.
+    /// Each name has 1 to 255 bytes, and no two files have one name, as `are_files` tells.
     pub fn new(
         alloc: Global,
         files: &[(String, Vec<u8>)],
         fail_at: Vec<u64>,
         calls: u32,
     ) -> Result<MemoryFolder, NoMemory>
-        requires named { All (λ file. IsNameLength (string_bytes file.0)) files.now }
-        requires differ { AllPairs (λ a b. string_bytes a.0 ≢ string_bytes b.0) files.now }
+        requires { are_files files.now ≡ true }
         ensures tells { IfOk result (λ folder. ⟦<MemoryFolder as Folder>⟧.tells_files folder ≡ true) }
         ensures files { IfOk result (λ folder. ⟦<MemoryFolder as Folder>⟧.files folder ≡ files_of files.now) }
         ensures faults { IfOk result (λ folder. ⟦<MemoryFolder as Folder>⟧.faults folder ≡ 0) }

@@ -1,1 +1,58 @@
-//
+ghost use Rattle.std.specs.Prelude.{◌≡◌, ◌≤◌, length};
+ghost use Rattle.pl_base.specs.Names.{IsNameLength};
+
+use crate::{Folder, FolderFault, MemoryFolder, are_files};
+use std::alloc::{AllocError, Global};
+use std::test::Fail;
+
+fn file(alloc: Global, name: &str, bytes: &[u8]) -> Result<(String, Vec<u8>), AllocError> {
+    Ok((String::from_str(alloc, name)?, bytes.to_vec(alloc)?))
+}
+
+fn take_of<D: Folder>(alloc: Global, folder: &mut D, name: &str) -> Result<Vec<u8>, FolderFault>
+    requires { IsNameLength name.now }
+{
+    folder.take(alloc, name)
+}
+
+#[test]
+fn takes_files_by_its_script(rt: HostRuntime) -> Result<(), Fail> {
+    let alloc = rt.alloc();
+    let files = [file(alloc, "q", b"bytes of q")?, file(alloc, "liba", b"")?];
+    assert!(rt; are_files(&files));
+    let mut folder = MemoryFolder::new(alloc, &files, vec![in alloc; 1u64]?, 5)?;
+    let mut lent = &mut folder;
+    let calls = [
+        ("q", Ok(b"bytes of q".as_slice())),
+        ("q", Err(FolderFault::Failed)),
+        ("libb", Err(FolderFault::NotThere)),
+        ("liba", Ok(b"".as_slice())),
+        ("q", Ok(b"bytes of q".as_slice())),
+        ("q", Err(FolderFault::Failed)),
+    ];
+    for (i, (name, answer)) in calls.into_iter().enumerate() {
+        assert!(rt; !name.is_empty() && name.len() <= 255);
+        let taken = take_of(alloc, &mut lent, name);
+        assert_eq!(rt; taken.as_deref(), answer.as_deref(), "call {i}");
+    }
+    Ok(())
+}
+
+#[test]
+fn refuses_lists_that_are_no_files(rt: HostRuntime) -> Result<(), Fail> {
+    let alloc = rt.alloc();
+    let twice = [
+        file(alloc, "a", b"1")?,
+        file(alloc, "b", b"")?,
+        file(alloc, "a", b"2")?,
+    ];
+    assert!(rt; !are_files(&twice));
+    let empty = [file(alloc, "", b"1")?];
+    assert!(rt; !are_files(&empty));
+    for (len, fine) in [(255, true), (256, false)] {
+        let name = "n".repeat(alloc, len)?;
+        let long = [file(alloc, name.as_str(), b"1")?];
+        assert_eq!(rt; are_files(&long), fine, "{len}");
+    }
+    Ok(())
+}
