@@ -1,4 +1,4 @@
-ghost use Rattle.std.specs.Prelude.{◌≡◌, ◌≤◌, Some, drop, length, min, not, is_ok, is_some, vec_len, IfOk, OnErr};
+ghost use Rattle.std.specs.Prelude.{◌≡◌, ◌≤◌, Some, length, min, not, is_ok, vec_len, IfOk, OnErr};
 ghost use Rattle.pl_base.specs.Counts.{Rose};
 ghost use Rattle.pl_io.specs.Reads.{TookKnown};
 ghost use Rattle.pl_io.specs.Scripts.{IsAfterCall, fails_next};
