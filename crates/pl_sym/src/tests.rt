@@ -6,9 +6,14 @@ use crate::constants::{
 use crate::{Class, SymFault, Symbol, is_definer, read_symbols, string_at};
 use pl_base::Rows;
 use std::alloc::Global;
+use std::process::Abort;
 use std::test::Fail;
 
-fn symbol(alloc: Global, value: u64, bind: u8, kind: u8, visibility: u8, section: u16) -> Symbol {
+// value, binding, type, visibility, section
+type Fields = (u64, u8, u8, u8, u16);
+
+fn symbol(alloc: Global, fields: Fields) -> Symbol {
+    let (value, bind, kind, visibility, section) = fields;
     Symbol {
         name: Rows::new(alloc),
         value,
@@ -21,207 +26,85 @@ fn symbol(alloc: Global, value: u64, bind: u8, kind: u8, visibility: u8, section
     }
 }
 
+// Whether it is a definer for jump slots and for other references, in a library, then in a program.
+fn answers(symbol: &Symbol) -> [bool; 4] {
+    [
+        is_definer(symbol, Class::Jump, false),
+        is_definer(symbol, Class::Other, false),
+        is_definer(symbol, Class::Jump, true),
+        is_definer(symbol, Class::Other, true),
+    ]
+}
+
+fn expect_answers(rt: &impl Abort, alloc: Global, symbols: &[Fields], wanted: [bool; 4]) {
+    for fields in symbols {
+        assert_eq!(rt; answers(&symbol(alloc, *fields)), wanted, "{fields:?}");
+    }
+}
+
 #[test]
 fn knows_definers(rt: HostRuntime) {
-    // value, binding, type, visibility, section; whether it is of the program; for a jump slot, for another reference
-    let cases = [
-        (
-            (0x4000, STB_GLOBAL, STT_FUNC, STV_DEFAULT, 7),
-            false,
-            true,
-            true,
-        ),
-        (
-            (0x4000, STB_GLOBAL, STT_FUNC, STV_DEFAULT, 7),
-            true,
-            true,
-            true,
-        ),
-        (
-            (0x4000, STB_WEAK, STT_FUNC, STV_DEFAULT, 7),
-            false,
-            true,
-            true,
-        ),
-        (
-            (0x4000, STB_GNU_UNIQUE, STT_FUNC, STV_DEFAULT, 7),
-            false,
-            true,
-            true,
-        ),
-        (
-            (0x4000, STB_LOCAL, STT_FUNC, STV_DEFAULT, 7),
-            false,
-            false,
-            false,
-        ),
-        ((0x4000, 3, STT_FUNC, STV_DEFAULT, 7), false, false, false),
-        (
-            (0x4000, STB_GLOBAL, STT_NOTYPE, STV_DEFAULT, 7),
-            false,
-            true,
-            true,
-        ),
-        (
-            (0x4000, STB_GLOBAL, STT_OBJECT, STV_DEFAULT, 7),
-            false,
-            true,
-            true,
-        ),
-        (
-            (0x4000, STB_GLOBAL, STT_COMMON, STV_DEFAULT, 7),
-            false,
-            true,
-            true,
-        ),
-        (
-            (0x4000, STB_GLOBAL, STT_TLS, STV_DEFAULT, 7),
-            false,
-            true,
-            true,
-        ),
-        (
-            (0x4000, STB_GLOBAL, STT_SECTION, STV_DEFAULT, 7),
-            false,
-            false,
-            false,
-        ),
-        (
-            (0x4000, STB_GLOBAL, STT_FILE, STV_DEFAULT, 7),
-            false,
-            false,
-            false,
-        ),
-        (
-            (0x4000, STB_GLOBAL, STT_GNU_IFUNC, STV_DEFAULT, 7),
-            false,
-            false,
-            false,
-        ),
-        (
-            (0x4000, STB_GLOBAL, STT_FUNC, STV_PROTECTED, 7),
-            false,
-            true,
-            true,
-        ),
-        (
-            (0x4000, STB_GLOBAL, STT_FUNC, STV_HIDDEN, 7),
-            false,
-            false,
-            false,
-        ),
-        (
-            (0x4000, STB_GLOBAL, STT_FUNC, STV_INTERNAL, 7),
-            false,
-            false,
-            false,
-        ),
-        (
-            (0x4000, STB_GLOBAL, STT_FUNC, STV_DEFAULT, 0xfeff),
-            false,
-            true,
-            true,
-        ),
-        (
-            (0x4000, STB_GLOBAL, STT_FUNC, STV_DEFAULT, SHN_LORESERVE),
-            false,
-            false,
-            false,
-        ),
-        (
-            (0x4000, STB_GLOBAL, STT_FUNC, STV_DEFAULT, SHN_ABS),
-            false,
-            true,
-            true,
-        ),
-        (
-            (0x4000, STB_GLOBAL, STT_FUNC, STV_DEFAULT, SHN_HIRESERVE),
-            false,
-            false,
-            false,
-        ),
-        (
-            (0x4000, STB_GLOBAL, STT_FUNC, STV_DEFAULT, SHN_UNDEF),
-            false,
-            false,
-            false,
-        ),
-        (
-            (0, STB_GLOBAL, STT_FUNC, STV_DEFAULT, 7),
-            false,
-            false,
-            false,
-        ),
-        (
-            (0, STB_GLOBAL, STT_NOTYPE, STV_DEFAULT, SHN_ABS),
-            false,
-            true,
-            true,
-        ),
-        ((0, STB_GLOBAL, STT_TLS, STV_DEFAULT, 7), false, true, true),
-        (
-            (0x4000, STB_GLOBAL, STT_FUNC, STV_DEFAULT, SHN_UNDEF),
-            true,
-            false,
-            true,
-        ),
-        (
-            (0x4000, STB_WEAK, STT_NOTYPE, STV_HIDDEN, SHN_UNDEF),
-            true,
-            false,
-            true,
-        ),
-        (
-            (0x4000, STB_LOCAL, STT_FUNC, STV_DEFAULT, SHN_UNDEF),
-            true,
-            false,
-            false,
-        ),
-        (
-            (0, STB_GLOBAL, STT_FUNC, STV_DEFAULT, SHN_UNDEF),
-            true,
-            false,
-            false,
-        ),
-        (
-            (0, STB_GLOBAL, STT_TLS, STV_DEFAULT, SHN_UNDEF),
-            true,
-            false,
-            false,
-        ),
+    let always = [
+        (0x4000, STB_GLOBAL, STT_FUNC, STV_DEFAULT, 7),
+        (0x4000, STB_WEAK, STT_FUNC, STV_DEFAULT, 7),
+        (0x4000, STB_GNU_UNIQUE, STT_FUNC, STV_DEFAULT, 7),
+        (0x4000, STB_GLOBAL, STT_NOTYPE, STV_DEFAULT, 7),
+        (0x4000, STB_GLOBAL, STT_OBJECT, STV_DEFAULT, 7),
+        (0x4000, STB_GLOBAL, STT_COMMON, STV_DEFAULT, 7),
+        (0x4000, STB_GLOBAL, STT_TLS, STV_DEFAULT, 7),
+        (0x4000, STB_GLOBAL, STT_FUNC, STV_PROTECTED, 7),
+        (0x4000, STB_GLOBAL, STT_FUNC, STV_DEFAULT, 1),
+        (0x4000, STB_GLOBAL, STT_FUNC, STV_DEFAULT, 0xfeff),
+        (0x4000, STB_GLOBAL, STT_FUNC, STV_DEFAULT, SHN_ABS),
+        (0, STB_GLOBAL, STT_NOTYPE, STV_DEFAULT, SHN_ABS),
+        (0, STB_GLOBAL, STT_TLS, STV_DEFAULT, 7),
     ];
-    for (number, (fields, program, jump, other)) in cases.into_iter().enumerate() {
-        let (value, bind, kind, visibility, section) = fields;
-        let symbol = symbol(rt.alloc(), value, bind, kind, visibility, section);
-        assert_eq!(rt;
-            is_definer(&symbol, Class::Jump, program),
-            jump,
-            "case {number}"
-        );
-        assert_eq!(rt;
-            is_definer(&symbol, Class::Other, program),
-            other,
-            "case {number}"
-        );
-    }
+    expect_answers(&rt, rt.alloc(), &always, [true; 4]);
+
+    let never = [
+        (0x4000, STB_LOCAL, STT_FUNC, STV_DEFAULT, 7),
+        (0x4000, 3, STT_FUNC, STV_DEFAULT, 7),
+        (0x4000, STB_GLOBAL, STT_SECTION, STV_DEFAULT, 7),
+        (0x4000, STB_GLOBAL, STT_FILE, STV_DEFAULT, 7),
+        (0x4000, STB_GLOBAL, STT_GNU_IFUNC, STV_DEFAULT, 7),
+        (0x4000, STB_GLOBAL, STT_FUNC, STV_HIDDEN, 7),
+        (0x4000, STB_GLOBAL, STT_FUNC, STV_INTERNAL, 7),
+        (0x4000, STB_GLOBAL, STT_FUNC, STV_DEFAULT, SHN_LORESERVE),
+        (0x4000, STB_GLOBAL, STT_FUNC, STV_DEFAULT, SHN_HIRESERVE),
+        (0, STB_GLOBAL, STT_FUNC, STV_DEFAULT, 7),
+        (0x4000, STB_LOCAL, STT_FUNC, STV_DEFAULT, SHN_UNDEF),
+        (0, STB_GLOBAL, STT_FUNC, STV_DEFAULT, SHN_UNDEF),
+        (0, STB_GLOBAL, STT_TLS, STV_DEFAULT, SHN_UNDEF),
+    ];
+    expect_answers(&rt, rt.alloc(), &never, [false; 4]);
+
+    let canonical = [
+        (0x40_1000, STB_GLOBAL, STT_FUNC, STV_DEFAULT, SHN_UNDEF),
+        (0x40_1000, STB_WEAK, STT_NOTYPE, STV_DEFAULT, SHN_UNDEF),
+        (0x40_1000, 3, STT_GNU_IFUNC, STV_HIDDEN, SHN_UNDEF),
+    ];
+    expect_answers(&rt, rt.alloc(), &canonical, [false, false, false, true]);
 }
 
 #[test]
 fn knows_sections(rt: HostRuntime) {
     // section; whether the symbol is undefined, absolute, in a section
     let cases = [
-        (SHN_UNDEF, true, false, false),
-        (1, false, false, true),
-        (0xfeff, false, false, true),
-        (SHN_LORESERVE, false, false, false),
-        (SHN_ABS, false, true, false),
-        (SHN_HIRESERVE, false, false, false),
+        (SHN_UNDEF, [true, false, false]),
+        (1, [false, false, true]),
+        (0xfeff, [false, false, true]),
+        (SHN_LORESERVE, [false, false, false]),
+        (SHN_ABS, [false, true, false]),
+        (SHN_HIRESERVE, [false, false, false]),
     ];
-    for (section, undefined, absolute, in_section) in cases {
-        let symbol = symbol(rt.alloc(), 0, STB_LOCAL, STT_TLS, STV_DEFAULT, section);
-        assert_eq!(rt; symbol.is_undefined(), undefined, "{section}");
-        assert_eq!(rt; symbol.is_absolute(), absolute, "{section}");
-        assert_eq!(rt; symbol.is_in_section(), in_section, "{section}");
+    for (section, wanted) in cases {
+        let symbol = symbol(rt.alloc(), (0, STB_LOCAL, STT_TLS, STV_DEFAULT, section));
+        let found = [
+            symbol.is_undefined(),
+            symbol.is_absolute(),
+            symbol.is_in_section(),
+        ];
+        assert_eq!(rt; found, wanted, "{section}");
         assert!(rt; symbol.is_local() && symbol.is_tls());
     }
 }
@@ -245,52 +128,42 @@ fn reads_strings(rt: HostRuntime) {
     }
 }
 
-const NULL: [u8; 24] = [0; 24];
-
 // A protected global function in section 7, with other bits in the field `other`.
-const MAIN: [u8; 24] = [
-    1, 0, 0, 0, 0x12, 0xfb, 7, 0, 0x10, 0x20, 0x40, 0, 0, 0, 0, 0x80, 0x2a, 0, 0, 0, 0, 0, 0, 1,
-];
+const MAIN: [u8; 24] = *b"\x01\0\0\0\x12\xfb\x07\0\x10\x20\x40\0\0\0\0\x80\x2a\0\0\0\0\0\0\x01";
 
 // An absolute unique symbol without type.
-const X: [u8; 24] = [
-    6, 0, 0, 0, 0xa0, 0, 0xf1, 0xff, 5, 0, 0, 0, 0, 0, 0, 0, 0, 0, 0, 0, 0, 0, 0, 0,
-];
+const X: [u8; 24] = *b"\x06\0\0\0\xa0\0\xf1\xff\x05\0\0\0\0\0\0\0\0\0\0\0\0\0\0\0";
 
 #[test]
 fn reads_symbols(rt: HostRuntime) -> Result<(), Fail> {
     let alloc = rt.alloc();
-    let mut table = Vec::new(alloc);
-    table.extend_from_slice(&NULL)?;
+    let mut table = vec![in alloc; 0; 24]?;
     table.extend_from_slice(&MAIN)?;
     table.extend_from_slice(&X)?;
     table.extend_from_slice(&MAIN[..23])?;
     let symbols = read_symbols(alloc, &table, STRINGS)?;
-    let wanted: [(&[u8], u64, u64, u8, u8, u8, u16); 3] = [
-        (b"", 0, 0, 0, 0, 0, 0),
+    let mut found = Vec::new(alloc);
+    for symbol in symbols.as_slice() {
+        let fields = (
+            symbol.value,
+            symbol.bind,
+            symbol.kind,
+            symbol.visibility,
+            symbol.section,
+        );
+        found.push((symbol.name.as_slice(), fields, symbol.size, symbol.version))?;
+    }
+    let wanted: [(&[u8], Fields, u64, u16); 3] = [
+        (b"", (0, 0, 0, 0, 0), 0, 1),
         (
             b"main",
-            0x8000_0000_0040_2010,
+            (0x8000_0000_0040_2010, 1, 2, 3, 7),
             0x0100_0000_0000_002a,
             1,
-            2,
-            3,
-            7,
         ),
-        (b"x", 5, 0, 10, 0, 0, 0xfff1),
+        (b"x", (5, 10, 0, 0, 0xfff1), 0, 1),
     ];
-    assert_eq!(rt; symbols.len(), wanted.len());
-    for (symbol, (name, value, size, bind, kind, visibility, section)) in symbols
-        .as_slice()
-        .iter()
-        .zip(wanted)
-    {
-        assert_eq!(rt; symbol.name.as_slice(), name);
-        assert_eq!(rt; (symbol.value, symbol.size), (value, size));
-        assert_eq!(rt; (symbol.bind, symbol.kind), (bind, kind));
-        assert_eq!(rt; (symbol.visibility, symbol.section), (visibility, section));
-        assert_eq!(rt; symbol.version, 1);
-    }
+    assert_eq!(rt; found.as_slice(), wanted.as_slice());
 
     // The name's offset in the second row, and whether the name has an end.
     for (at, ends) in [
