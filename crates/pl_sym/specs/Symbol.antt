@@ -1,5 +1,5 @@
 -- Tests of a symbol by its fields (gABI chapter 4, "Symbol Table").
-use Rattle.std.specs.Prelude.{Bool, not, ◌&&◌, ◌||◌, ◌==◌, nat_le}
+use Rattle.std.specs.Prelude.{Bool, not, ◌&&◌, ◌==◌, nat_le}
 use Rattle.pl_sym.specs.declared.constants.TheConstants.{SHN_UNDEF, SHN_LORESERVE, SHN_ABS, SHN_HIRESERVE, STB_LOCAL, STT_TLS}
 use Rattle.pl_sym.specs.declared.symbol.Symbol.{Symbol}
 

@@ -1,4 +1,4 @@
-use Rattle.std.proofs.Common.{◌≡◌, ◌/◌, length}
+use Rattle.std.proofs.Common.{◌/◌, length}
 use Rattle.std.proofs.lemmas.Result.{err_from_is_err_and}
 use Rattle.pl_base.proofs.EachLaws.{rows_begin, rows_more, rows_fail, rows_done}
 use Rattle.pl_sym.specs.Table as spec
