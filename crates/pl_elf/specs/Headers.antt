@@ -1,6 +1,6 @@
 -- The header, the segments and the sections of a file, as they stand in its bytes (System V gABI, chapters 4 and 5, ELF-64, little-endian).
-use Rattle.std.specs.Prelude.{ℕ, ◌+◌, ◌*◌, ◌≤◌, Bool, ◌==◌, List, length, map, count_by}
-use Rattle.std.specs.List.{range_with_len, filter}
+use Rattle.std.specs.Prelude.{ℕ, ◌+◌, ◌*◌, ◌≤◌, Bool, ◌==◌, List, length, map, count_by, Option}
+use Rattle.std.specs.List.{range_with_len, filter, find}
 use Rattle.pl_base.specs.Bytes.{part, word16, word32, word64}
 use Rattle.pl_elf.specs.declared.constants.TheConstants.{EI_NIDENT, SEGMENT_SIZE, SECTION_SIZE, PT_LOAD, PT_DYNAMIC}
 use Rattle.pl_elf.specs.declared.header.Header.{Header}
@@ -98,3 +98,7 @@ loads ss = filter is_load ss
 -- how many segments of a kind there are
 abbrev pub count_of_kind : ℕ → List Segment → ℕ
 count_of_kind kind ss = count_by (is_of_kind kind) ss
+
+-- the first segment of a kind
+abbrev pub segment_of_kind : ℕ → List Segment → Option Segment
+segment_of_kind kind ss = find (is_of_kind kind) ss
