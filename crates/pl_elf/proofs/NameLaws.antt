@@ -35,5 +35,6 @@ no_end_before xs size at le last lt =
 pub no_end_last : (xs : List ℕ) (size at : ℕ) → size ≤ length xs → list_any is_zero (drop size xs) ≡ false → (0 < size → get_or xs (size - 1) 0 ≡ 0) → no_end xs at ≡ nat_le size at
 no_end_last xs size at le none last =
     elim (leb_tells size at) [
-      inl (e, h) ↦ no_end_after xs size at none h ∙ sym e |
-      inr (e, h) ↦ no_end_before xs size at le (last (omega (arith, h))) h ∙ sym e ]
+      | inl (e, h) ↦ no_end_after xs size at none h ∙ sym e
+      | inr (e, h) ↦ no_end_before xs size at le (last (omega (arith, h))) h ∙ sym e
+    ]

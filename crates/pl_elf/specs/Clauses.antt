@@ -133,7 +133,7 @@ unfoldable pub bad_section : List ℕ → Header → List Section → Bool
 bad_section bytes h ss =
     not (h.shnum == 0)
     && (not (h.shentsize == SECTION_SIZE) || nat_lt MAX_SECTIONS h.shnum || nat_le h.shnum h.shstrndx
-        || list_any (λ s. no_end (names bytes h) s.name) ss)
+    || list_any (λ s. no_end (names bytes h) s.name) ss)
 
 -- ---- 8. NoSections
 
@@ -146,7 +146,7 @@ no_sections h = h.shnum == 0
 unfoldable pub read : List ℕ → Result Header HeaderFault
 read bytes = let h = header bytes in
     refuse (
-      (not_elf bytes, NotElf) ∷ (other_class bytes, Class) ∷ (other_machine h, Machine) ∷ (other_kind bytes h, Kind)
-      ∷ (truncated bytes h, Truncated) ∷ (bad_segment h (segments bytes h), BadSegment)
-      ∷ (bad_section bytes h (sections bytes h), BadSection) ∷ (no_sections h, NoSections) ∷ [])
+    (not_elf bytes, NotElf) ∷ (other_class bytes, Class) ∷ (other_machine h, Machine) ∷ (other_kind bytes h, Kind)
+    ∷ (truncated bytes h, Truncated) ∷ (bad_segment h (segments bytes h), BadSegment)
+    ∷ (bad_section bytes h (sections bytes h), BadSection) ∷ (no_sections h, NoSections) ∷ [])
     (Ok h)

@@ -23,7 +23,7 @@ header bytes = record {
   shentsize = word16 58 bytes;
   shnum = word16 60 bytes;
   shstrndx = word16 62 bytes;
-  }
+}
 
 -- the segment whose program header begins at an offset
 unfoldable pub segment_at : List ℕ → ℕ → Segment
@@ -36,7 +36,7 @@ segment_at bytes at = record {
   filesz = word64 (at + 32) bytes;
   memsz = word64 (at + 40) bytes;
   align = word64 (at + 48) bytes;
-  }
+}
 
 -- the section whose section header begins at an offset
 unfoldable pub section_at : List ℕ → ℕ → Section
@@ -51,7 +51,7 @@ section_at bytes at = record {
   info = word32 (at + 44) bytes;
   addralign = word64 (at + 48) bytes;
   entsize = word64 (at + 56) bytes;
-  }
+}
 
 -- where the program header and the section header of an index begin
 abbrev pub segment_place : Header → ℕ → ℕ

@@ -25,7 +25,10 @@ pub fn not_elf(bytes: &[u8]) -> bool
     ensures long { OnFalse result (HEADER_SIZE ≤ length bytes.now) }
 {
     bytes.len() < HEADER_SIZE
-        || !(bytes[0] == ELFMAG0 && bytes[1] == ELFMAG1 && bytes[2] == ELFMAG2 && bytes[3] == ELFMAG3)
+        || !(bytes[0] == ELFMAG0
+            && bytes[1] == ELFMAG1
+            && bytes[2] == ELFMAG2
+            && bytes[3] == ELFMAG3)
 }
 
 #[tactic(auto, unfolding(crate::specs::Clauses::other_class))]
@@ -33,7 +36,9 @@ pub fn other_class(bytes: &[u8]) -> bool
     requires { HEADER_SIZE ≤ length bytes.now }
     ensures { result ≡ spec.other_class bytes.now }
 {
-    !(bytes[EI_CLASS] == ELFCLASS64 && bytes[EI_DATA] == ELFDATA2LSB && bytes[EI_VERSION] == EV_CURRENT)
+    !(bytes[EI_CLASS] == ELFCLASS64
+        && bytes[EI_DATA] == ELFDATA2LSB
+        && bytes[EI_VERSION] == EV_CURRENT)
 }
 
 fn place_of_segment(header: &Header, index: u16) -> u128
@@ -91,7 +96,9 @@ fn any_segment_passes(bytes: &[u8], header: &Header, is_static: bool) -> bool
     requires { HasSegments bytes.now header.now }
     ensures { result ≡ list_any (spec.segment_passes bytes.now is_static) (segments bytes.now header.now) }
 {
-    (0..header.phnum).map(|index| read_segment(bytes, header, index)).any(|segment| segment_passes(bytes, is_static, &segment))
+    (0..header.phnum)
+        .map(|index| read_segment(bytes, header, index))
+        .any(|segment| segment_passes(bytes, is_static, &segment))
 }
 
 #[tactic(auto, unfolding(crate::specs::Headers::sections))]
@@ -99,7 +106,9 @@ fn any_section_passes(bytes: &[u8], header: &Header) -> bool
     requires { HasSections bytes.now header.now }
     ensures { result ≡ list_any (spec.section_passes bytes.now) (sections bytes.now header.now) }
 {
-    (0..header.shnum).map(|index| read_section(bytes, header, index)).any(|section| section_passes(bytes, &section))
+    (0..header.shnum)
+        .map(|index| read_section(bytes, header, index))
+        .any(|section| section_passes(bytes, &section))
 }
 
 #[tactic(auto, unfolding(crate::specs::Clauses::truncated, crate::specs::Clauses::passes))]
@@ -108,8 +117,14 @@ pub fn truncated(bytes: &[u8], header: &Header) -> bool
     ensures segments { OnFalse result (HasSegments bytes.now header.now) }
     ensures sections { OnFalse result (HasSections bytes.now header.now) }
 {
-    passes(bytes, u128::from(header.phoff), SEGMENT_SIZE as u64 * u64::from(header.phnum))
-        || passes(bytes, u128::from(header.shoff), SECTION_SIZE as u64 * u64::from(header.shnum))
-        || any_segment_passes(bytes, header, is_static(bytes, header))
+    passes(
+        bytes,
+        u128::from(header.phoff),
+        SEGMENT_SIZE as u64 * u64::from(header.phnum),
+    ) || passes(
+        bytes,
+        u128::from(header.shoff),
+        SECTION_SIZE as u64 * u64::from(header.shnum),
+    ) || any_segment_passes(bytes, header, is_static(bytes, header))
         || any_section_passes(bytes, header)
 }

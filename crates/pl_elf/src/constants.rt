@@ -14,8 +14,11 @@ pub const EI_NIDENT: usize = 16;
 
 /// The first four bytes of an ELF file.
 pub const ELFMAG0: u8 = 0x7f;
+
 pub const ELFMAG1: u8 = 0x45;
+
 pub const ELFMAG2: u8 = 0x4c;
+
 pub const ELFMAG3: u8 = 0x46;
 
 /// Index of the class in the identification.

@@ -45,7 +45,9 @@ fn any_no_end(bytes: &[u8], header: &Header, strings: &[u8]) -> bool
     ensures { result ≡ list_any (λ s. spec.no_end strings.now s.name) (sections bytes.now header.now) }
 {
     let ended = ended(strings);
-    (0..header.shnum).map(|index| read_section(bytes, header, index)).any(|section| no_end(strings, ended, section.name))
+    (0..header.shnum)
+        .map(|index| read_section(bytes, header, index))
+        .any(|section| no_end(strings, ended, section.name))
 }
 
 #[tactic(auto, unfolding(crate::specs::Clauses::bad_section))]
@@ -56,7 +58,10 @@ pub fn bad_section(bytes: &[u8], header: &Header) -> bool
     if header.shnum == 0 {
         return false;
     }
-    if usize::from(header.shentsize) != SECTION_SIZE || header.shnum > MAX_SECTIONS || header.shstrndx >= header.shnum {
+    if usize::from(header.shentsize) != SECTION_SIZE
+        || header.shnum > MAX_SECTIONS
+        || header.shstrndx >= header.shnum
+    {
         return true;
     }
     let names = read_section(bytes, header, header.shstrndx);

@@ -60,14 +60,23 @@ pub fn read_section(bytes: &[u8], header: &Header, index: u16) -> Section
     requires { spec.section_place header.now index + SECTION_SIZE ≤ length bytes.now }
     ensures { result ≡ spec.section bytes.now header.now index }
 {
-    section_at(bytes, header.shoff as usize + SECTION_SIZE * usize::from(index))
+    section_at(
+        bytes,
+        header.shoff as usize + SECTION_SIZE * usize::from(index),
+    )
 }
 
 /// All sections, in the order of the section header table.
 #[tactic(auto, unfolding(crate::specs::Headers::sections))]
-pub fn read_sections(alloc: Global, bytes: &[u8], header: &Header) -> Result<Vec<Section>, AllocError>
+pub fn read_sections(
+    alloc: Global,
+    bytes: &[u8],
+    header: &Header,
+) -> Result<Vec<Section>, AllocError>
     requires { spec.HasSections bytes.now header.now }
     ensures { IfOk result (λ v. v.items ≡ spec.sections bytes.now header.now) }
 {
-    (0..header.shnum).map(|index| read_section(bytes, header, index)).collect(alloc)
+    (0..header.shnum)
+        .map(|index| read_section(bytes, header, index))
+        .collect(alloc)
 }

@@ -68,14 +68,23 @@ pub fn read_segment(bytes: &[u8], header: &Header, index: u16) -> Segment
     requires { spec.segment_place header.now index + SEGMENT_SIZE ≤ length bytes.now }
     ensures { result ≡ spec.segment bytes.now header.now index }
 {
-    segment_at(bytes, header.phoff as usize + SEGMENT_SIZE * usize::from(index))
+    segment_at(
+        bytes,
+        header.phoff as usize + SEGMENT_SIZE * usize::from(index),
+    )
 }
 
 /// All segments, in the order of the program header table.
 #[tactic(auto, unfolding(crate::specs::Headers::segments))]
-pub fn read_segments(alloc: Global, bytes: &[u8], header: &Header) -> Result<Vec<Segment>, AllocError>
+pub fn read_segments(
+    alloc: Global,
+    bytes: &[u8],
+    header: &Header,
+) -> Result<Vec<Segment>, AllocError>
     requires { spec.HasSegments bytes.now header.now }
     ensures { IfOk result (λ v. v.items ≡ spec.segments bytes.now header.now) }
 {
-    (0..header.phnum).map(|index| read_segment(bytes, header, index)).collect(alloc)
+    (0..header.phnum)
+        .map(|index| read_segment(bytes, header, index))
+        .collect(alloc)
 }

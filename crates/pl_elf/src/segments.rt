@@ -41,7 +41,9 @@ fn has_load(bytes: &[u8], header: &Header) -> bool
     requires { HasSegments bytes.now header.now }
     ensures { result ≡ list_any is_load (segments bytes.now header.now) }
 {
-    (0..header.phnum).map(|index| read_segment(bytes, header, index)).any(|segment| segment.is_load())
+    (0..header.phnum)
+        .map(|index| read_segment(bytes, header, index))
+        .any(|segment| segment.is_load())
 }
 
 #[tactic(auto, unfolding(crate::specs::Headers::segments))]
@@ -49,7 +51,10 @@ fn count_in_table(bytes: &[u8], header: &Header, kind: u32) -> usize
     requires { HasSegments bytes.now header.now }
     ensures { result ≡ count_of_kind kind (segments bytes.now header.now) }
 {
-    (0..header.phnum).map(|index| read_segment(bytes, header, index)).filter(|segment| segment.kind == kind).count()
+    (0..header.phnum)
+        .map(|index| read_segment(bytes, header, index))
+        .filter(|segment| segment.kind == kind)
+        .count()
 }
 
 #[tactic(auto, unfolding(crate::specs::Clauses::has_twice))]
@@ -67,7 +72,9 @@ fn has_bad_load(bytes: &[u8], header: &Header) -> bool
     requires { HasSegments bytes.now header.now }
     ensures { result ≡ list_any (λ s. is_load s && spec.bad_load s) (segments bytes.now header.now) }
 {
-    (0..header.phnum).map(|index| read_segment(bytes, header, index)).any(|segment| segment.is_load() && bad_load(&segment))
+    (0..header.phnum)
+        .map(|index| read_segment(bytes, header, index))
+        .any(|segment| segment.is_load() && bad_load(&segment))
 }
 
 #[tactic(auto, unfolding(crate::specs::Headers::segments))]
@@ -75,7 +82,9 @@ fn has_bad_tls(bytes: &[u8], header: &Header) -> bool
     requires { HasSegments bytes.now header.now }
     ensures { result ≡ list_any spec.bad_tls (segments bytes.now header.now) }
 {
-    (0..header.phnum).map(|index| read_segment(bytes, header, index)).any(|segment| segment.kind == PT_TLS && bad_align(segment.align))
+    (0..header.phnum)
+        .map(|index| read_segment(bytes, header, index))
+        .any(|segment| segment.kind == PT_TLS && bad_align(segment.align))
 }
 
 /// Whether each PT_LOAD begins in memory at or after the end of the one before.
