@@ -14,9 +14,9 @@ fn change(file: &mut [u8], (at, size, number): Change) {
         return;
     }
     match size {
-        1 => file[at] = number as u8,
-        2 => put16(file, at, number as u16),
-        4 => put32(file, at, number as u32),
+        1 => file[at] = (number % 0x100) as u8,
+        2 => put16(file, at, (number % 0x1_0000) as u16),
+        4 => put32(file, at, (number % 0x1_0000_0000) as u32),
         _ => put64(file, at, number),
     }
 }
