@@ -1,6 +1,8 @@
-use crate::constants::{ET_EXEC, PT_DYNAMIC, PT_LOAD, SECTION_SIZE, SEGMENT_SIZE, SHT_STRTAB};
+use crate::constants::{
+    ET_EXEC, HEADER_SIZE, PT_DYNAMIC, PT_LOAD, SECTION_SIZE, SEGMENT_SIZE, SHT_STRTAB,
+};
 use crate::*;
-use pl_base::{put16, put32, put64};
+use pl_base::{part, put16, put32, put64};
 use std::alloc::{AllocError, Global};
 use std::test::Fail;
 
@@ -72,72 +74,92 @@ fn program(alloc: Global) -> Result<Vec<u8>, AllocError> {
     Ok(file)
 }
 
+const HEADER: Header = Header {
+    ident: [0x7f, 0x45, 0x4c, 0x46, 2, 1, 1, 0, 0, 0, 0, 0, 0, 0, 0, 0],
+    kind: ET_EXEC,
+    machine: 62,
+    version: 1,
+    entry: 0x40_0000,
+    phoff: 64,
+    shoff: 4128,
+    flags: 0,
+    ehsize: 64,
+    phentsize: 56,
+    phnum: 2,
+    shentsize: 64,
+    shnum: 2,
+    shstrndx: 1,
+};
+
+// The second segment and the second section.
+const DATA: Segment = Segment {
+    kind: PT_LOAD,
+    flags: 6,
+    offset: 0x1000,
+    vaddr: 0x50_0000,
+    paddr: 0x50_0000,
+    filesz: 16,
+    memsz: 16,
+    align: 0x1000,
+};
+
+const NAMES: Section = Section {
+    name: 1,
+    kind: SHT_STRTAB,
+    flags: 0,
+    addr: 0,
+    offset: 0x1010,
+    size: 11,
+    link: 0,
+    info: 0,
+    addralign: 1,
+    entsize: 0,
+};
+
 #[test]
 fn reads_headers(rt: HostRuntime) -> Result<(), Fail> {
     let alloc = rt.alloc();
     let file = program(alloc)?;
     let bytes = file.as_slice();
-    let header = Header {
-        ident: [0x7f, 0x45, 0x4c, 0x46, 2, 1, 1, 0, 0, 0, 0, 0, 0, 0, 0, 0],
-        kind: ET_EXEC,
-        machine: 62,
-        version: 1,
-        entry: 0x40_0000,
-        phoff: 64,
-        shoff: 4128,
-        flags: 0,
-        ehsize: 64,
-        phentsize: 56,
-        phnum: 2,
-        shentsize: 64,
-        shnum: 2,
-        shstrndx: 1,
-    };
-    let data = Segment {
-        kind: PT_LOAD,
-        flags: 6,
-        offset: 0x1000,
-        vaddr: 0x50_0000,
-        paddr: 0x50_0000,
-        filesz: 16,
-        memsz: 16,
-        align: 0x1000,
-    };
-    let names = Section {
-        name: 1,
-        kind: SHT_STRTAB,
-        flags: 0,
-        addr: 0,
-        offset: 0x1010,
-        size: 11,
-        link: 0,
-        info: 0,
-        addralign: 1,
-        entsize: 0,
-    };
-    assert_eq!(rt; read_header(bytes), Ok(header));
-    if let Ok(read) = read_header(bytes) {
-        let segments = read_segments(alloc, bytes, &read)?;
-        assert_eq!(rt; segments.len(), 2);
-        assert_eq!(rt; segments.get(1), Some(&data));
-        assert_eq!(rt; loads(alloc, segments.as_slice())?.len(), 2);
-        assert_eq!(rt; count_of_kind(segments.as_slice(), PT_DYNAMIC), 0);
-        assert_eq!(rt; segment_of_kind(segments.as_slice(), PT_DYNAMIC), None);
-        let sections = read_sections(alloc, bytes, &read)?;
-        assert_eq!(rt; sections.get(1), Some(&names));
-        assert_eq!(rt; section_bytes(bytes, &names), b"\0.shstrtab\0".as_slice());
-        assert!(rt; is_static(bytes, &read));
+    let answer = read_header(bytes);
+    assert_eq!(rt; answer, Ok(HEADER));
+    if let Ok(header) = answer {
+        assert!(rt; is_static(bytes, &header));
+        let segments = read_segments(alloc, bytes, &header)?;
+        assert_eq!(rt; segments.get(1), Some(&DATA));
+        let sections = read_sections(alloc, bytes, &header)?;
+        assert_eq!(rt; sections.get(1), Some(&NAMES));
     }
+    assert_eq!(rt; section_bytes(bytes, &NAMES), b"\0.shstrtab\0".as_slice());
+    Ok(())
+}
 
-    let mut row = [0xffu8; 64];
-    write_header(&header, &mut row);
-    assert_eq!(rt; row.as_slice(), &bytes[..64]);
+#[test]
+fn lists_by_kind(rt: HostRuntime) -> Result<(), Fail> {
+    let dynamic = Segment {
+        kind: PT_DYNAMIC,
+        ..DATA
+    };
+    let segments = [DATA, dynamic, DATA];
+    assert_eq!(rt; loads(rt.alloc(), &segments)?.len(), 2);
+    assert_eq!(rt; count_of_kind(&segments, PT_LOAD), 2);
+    assert_eq!(rt; segment_of_kind(&segments, PT_DYNAMIC), Some(dynamic));
+    Ok(())
+}
+
+#[test]
+fn writes_headers(rt: HostRuntime) -> Result<(), Fail> {
+    let file = program(rt.alloc())?;
+    let bytes = file.as_slice();
+    let mut row = [0xffu8; HEADER_SIZE];
+    write_header(&HEADER, &mut row);
+    assert_eq!(rt; row.as_slice(), part(bytes, 0, 64));
     let mut row = [0xffu8; SEGMENT_SIZE];
-    write_segment(&data, &mut row);
-    assert_eq!(rt; row.as_slice(), &bytes[0x78..0xb0]);
+    write_segment(&DATA, &mut row);
+    assert_eq!(rt; row.as_slice(), part(bytes, 0x78, 56));
     let mut row = [0xffu8; SECTION_SIZE];
-    write_section(&names, &mut row);
-    assert_eq!(rt; row.as_slice(), &bytes[0x1060..0x10a0]);
+    write_section(&NAMES, &mut row);
+    assert_eq!(rt; row.as_slice(), part(bytes, 0x1060, 64));
     Ok(())
 }
 
@@ -222,8 +244,7 @@ fn refuses_by_the_first_clause(rt: HostRuntime) -> Result<(), Fail> {
     let file = program(rt.alloc())?;
     let bytes = file.as_slice();
     assert_eq!(rt; number(read_header(&[])), 1);
-    assert!(rt; bytes.len() == 4256);
-    assert_eq!(rt; number(read_header(&bytes[..63])), 1);
-    assert_eq!(rt; number(read_header(&bytes[..4255])), 5);
+    assert_eq!(rt; number(read_header(part(bytes, 0, 63))), 1);
+    assert_eq!(rt; number(read_header(part(bytes, 0, 4255))), 5);
     Ok(())
 }
