@@ -15,13 +15,13 @@ use Rattle.pl_elf.specs.declared.fault.HeaderFault.TheVariants.{NotElf, Class, M
 
 -- none of the eight tests holds
 tests_fail : (bytes : List ℕ) → is_ok (read bytes) ≡ true
-  → (not_elf bytes || (other_class bytes || (other_machine (header bytes) || (other_kind bytes (header bytes) || (truncated bytes (header bytes)
-     || (bad_segment (header bytes) (segments bytes (header bytes)) || (bad_section bytes (header bytes) (sections bytes (header bytes)) || (no_sections (header bytes) || false)))))))) ≡ false
+    → (not_elf bytes || (other_class bytes || (other_machine (header bytes) || (other_kind bytes (header bytes) || (truncated bytes (header bytes)
+    || (bad_segment (header bytes) (segments bytes (header bytes)) || (bad_section bytes (header bytes) (sections bytes (header bytes)) || (no_sections (header bytes) || false)))))))) ≡ false
 unfolding read
 tests_fail bytes ok = refuse_none (
-      (not_elf bytes, NotElf) ∷ (other_class bytes, Class) ∷ (other_machine (header bytes), Machine) ∷ (other_kind bytes (header bytes), Kind)
-      ∷ (truncated bytes (header bytes), Truncated) ∷ (bad_segment (header bytes) (segments bytes (header bytes)), BadSegment)
-      ∷ (bad_section bytes (header bytes) (sections bytes (header bytes)), BadSection) ∷ (no_sections (header bytes), NoSections) ∷ [])
+    (not_elf bytes, NotElf) ∷ (other_class bytes, Class) ∷ (other_machine (header bytes), Machine) ∷ (other_kind bytes (header bytes), Kind)
+    ∷ (truncated bytes (header bytes), Truncated) ∷ (bad_segment (header bytes) (segments bytes (header bytes)), BadSegment)
+    ∷ (bad_section bytes (header bytes) (sections bytes (header bytes)), BadSection) ∷ (no_sections (header bytes), NoSections) ∷ [])
     (Ok (header bytes)) ok
 
 sixth_fails : (a b c d e f rest : Bool) → (a || (b || (c || (d || (e || (f || rest)))))) ≡ false → f ≡ false
@@ -73,7 +73,7 @@ loads_accepted bytes ok =
     let ss = segments bytes h in
     let all = segments_pass bytes ok in
     let fit : list_any (λ s. is_load s && bad_load s) ss ≡ false =
-        fourth_fails (not (h.phentsize == SEGMENT_SIZE)) (not (list_any is_load ss)) (has_twice ss) (list_any (λ s. is_load s && bad_load s) ss) (not (ascend_from 0 (loads ss))) (overlap_in_file ss) (list_any bad_tls ss) all in
+    fourth_fails (not (h.phentsize == SEGMENT_SIZE)) (not (list_any is_load ss)) (has_twice ss) (list_any (λ s. is_load s && bad_load s) ss) (not (ascend_from 0 (loads ss))) (overlap_in_file ss) (list_any bad_tls ss) all in
     let ascend : not (ascend_from 0 (loads ss)) ≡ false =
-        fifth_fails (not (h.phentsize == SEGMENT_SIZE)) (not (list_any is_load ss)) (has_twice ss) (list_any (λ s. is_load s && bad_load s) ss) (not (ascend_from 0 (loads ss))) (overlap_in_file ss) (list_any bad_tls ss) all in
+    fifth_fails (not (h.phentsize == SEGMENT_SIZE)) (not (list_any is_load ss)) (has_twice ss) (list_any (λ s. is_load s && bad_load s) ss) (not (ascend_from 0 (loads ss))) (overlap_in_file ss) (list_any bad_tls ss) all in
     record { ascend = holds (ascend_from 0 (loads ss)) ascend; fit = any_filtered is_load bad_load ss fit }
