@@ -1,5 +1,5 @@
 // A static program without a C library. It counts the digits of a table, and its exit status is the digit that comes most often.
-// The table lies in .rodata, the counts in .bss, the first guess in .data. `-DNO_RODATA` and `-DNO_BSS` leave a section out.
+// The table lies in .rodata, the counts in .bss, the first guess in .data. With NO_RODATA or NO_BSS they lie in .data too.
 
 #ifdef NO_RODATA
 #define TABLE static
@@ -8,14 +8,14 @@
 #endif
 
 #ifdef NO_BSS
-#define FIRST_COUNT 1
+#define COUNTS __attribute__((section(".data"))) static
 #else
-#define FIRST_COUNT 0
+#define COUNTS static
 #endif
 
 TABLE int digits[] = {3, 1, 4, 1, 5, 9, 2, 6, 5, 3, 5, 8, 9, 7, 9, 3, 2, 3};
 
-static long counts[10] = {FIRST_COUNT};
+COUNTS long counts[10];
 static long most = 7;
 
 // System call 60 of Linux ends the process.
