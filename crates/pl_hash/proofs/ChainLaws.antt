@@ -4,7 +4,7 @@ use Rattle.std.specs.Prelude.{IsTrue, IsSome, is_some, is_none, not}
 use Rattle.pl_hash.specs.declared.table.Table.{Table}
 use Rattle.pl_hash.specs.Chain.{chain_from, chain, following, is_linked, with_first}
 
-some_is : (x y : List ℕ) → Some x ≡ Some y → x ≡ y
+pub some_is : (x y : List ℕ) → Some x ≡ Some y → x ≡ y
 some_is x y e = cc
 
 -- a chain from a symbol on is the symbol and the chain from the following one

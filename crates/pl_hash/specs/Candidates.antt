@@ -1,5 +1,6 @@
 -- The symbols that a hash leads to.
-use Rattle.std.specs.Prelude.{ℕ, ◌%◌, List, [], ◌∷◌, Option, Some, None, filter, ◌==◌, if◌then◌else◌}
+use Rattle.std.specs.Prelude.{ℕ, ◌%◌, Bool, List, [], ◌∷◌, Option, Some, None, filter, ◌==◌, if◌then◌else◌}
+use Rattle.std.specs.List.{list_any}
 use Rattle.std.specs.Option.{unwrap_or}
 use Rattle.pl_hash.specs.declared.table.Table.{Table}
 use Rattle.pl_hash.specs.Table.{bucket_count, admits, matches}
@@ -12,6 +13,11 @@ matching table hash start = filter (matches table hash) (unwrap_or (chain table 
 -- The symbols that a hash leads to, in the order of their chain. System V: its bucket's chain. GNU: none where the bloom word refuses the hash, else those of the chain whose link has the upper 31 bits of the hash.
 unfoldable pub candidates : Table → ℕ → List ℕ
 candidates table hash = if admits table hash then matching table hash (head table (hash % bucket_count table)) else []
+
+abbrev pub is_candidate : Table → ℕ → ℕ → Bool
+is_candidate table hash index = list_any (λ k. k == index) (candidates table hash)
+
+-- ---- one after the other
 
 abbrev pub first_of : List ℕ → Option ℕ
 first_of [] = None

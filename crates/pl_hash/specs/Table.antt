@@ -68,12 +68,19 @@ bloom_word table hash = word64 (GNU_HEADER_SIZE + BLOOM_WORD_SIZE * (hash / BLOO
 abbrev pub has_bit : ℕ → ℕ → Bool
 has_bit word bit = word / 2 ^ bit % 2 == 1
 
+-- the two bits of a hash
+abbrev pub first_bit : ℕ → ℕ
+first_bit hash = hash % BLOOM_WORD_BITS
+
+abbrev pub second_bit : ℕ → ℕ → ℕ
+second_bit hash shift = hash / 2 ^ shift % BLOOM_WORD_BITS
+
 -- whether the bloom word lets a hash pass: both of its bits are set. A System V table has no such words.
 unfoldable pub admits : Table → ℕ → Bool
 admits table hash =
     not table.gnu
-    || has_bit (bloom_word table hash) (hash % BLOOM_WORD_BITS)
-    && has_bit (bloom_word table hash) (hash / 2 ^ bloom_shift table % BLOOM_WORD_BITS)
+    || has_bit (bloom_word table hash) (first_bit hash)
+    && has_bit (bloom_word table hash) (second_bit hash (bloom_shift table))
 
 -- whether a symbol may have a hash: in a GNU table the upper 31 bits of its chain word are those of its hash
 unfoldable pub matches : Table → ℕ → ℕ → Bool

@@ -3,9 +3,11 @@
 
 mod chain;
 mod hash;
+mod lookup;
 mod table;
 mod whole;
 
 pub use hash::{gnu_hash, sysv_hash};
+pub use lookup::{first, next};
 pub use table::Table;
 pub use whole::well_formed;

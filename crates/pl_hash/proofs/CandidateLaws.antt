@@ -1,0 +1,124 @@
+-- What the candidates of a hash are, one symbol at a time.
+use Rattle.std.proofs.Common.{◌≡◌, ℕ, zero, suc, ◌+◌, ◌<◌, ◌≤◌, Bool, true, false, cond, eqb, ◌||◌, List, [], ◌∷◌, Option, Some, None, refl, sym, ap, ◌∙◌, arith, inl, inr, length}
+use Rattle.std.specs.Prelude.{IsTrue, IsSome, is_some, filter, ◌==◌, ◌%◌}
+use Rattle.std.specs.Option.{unwrap_or}
+use Rattle.std.specs.List.{list_any}
+use Rattle.std.proofs.lemmas.Bool.{false≢true, eqb-true, or_cases, or_left, or_right, and_parts, leb-true, ltb-true}
+use Rattle.std.proofs.lemmas.Nat.{mod_below}
+use Rattle.pl_hash.specs.declared.table.Table.{Table}
+use Rattle.pl_hash.specs.declared.table.TheConstants.{WORD_SIZE}
+use Rattle.pl_hash.specs.Table.{bucket_count, admits, matches, link_at, first_linked}
+use Rattle.pl_hash.specs.Chain.{chain_from, chain, following, head, is_linked, IsLinked, IsWellFormed}
+use Rattle.pl_hash.specs.Candidates.{matching, candidates, is_candidate, first_of, rest_after}
+use Rattle.pl_hash.proofs.ChainLaws.{some_is, opened, chain_from-none, chain_from-zero, more_steps, same_chain}
+
+pub IsLinked-from : (t : Table) (index : ℕ) → is_linked t index ≡ true → IsLinked t index
+unfolding is_linked
+IsLinked-from t index h =
+    let p = and_parts _ _ h in
+    let q = and_parts _ _ p.0 in
+    record { below = ltb-true index t.symbols q.1; within = leb-true (link_at t index + WORD_SIZE) (length t.words) p.1 }
+
+-- ---- a chain from a symbol on
+
+opened_within : (t : Table) (n index : ℕ) (xs : List ℕ) → chain_from t n (Some index) ≡ Some xs
+    → (rest : List ℕ) × (is_linked t index ≡ true) × (chain_from t n (following t index) ≡ Some rest) × (xs ≡ index ∷ rest)
+opened_within t zero index xs e = let none = chain_from-zero t index in absurd (cc)
+opened_within t (suc n) index xs e =
+    let o = opened t n index xs e in
+    (o.0, o.1, more_steps t n (suc n) (following t index) o.0 (omega arith) o.2, o.3)
+
+chain_value : (o : Option (List ℕ)) → IsSome o → (xs : List ℕ) × (o ≡ Some xs)
+chain_value (Some xs) h = (xs, refl)
+chain_value None h = absurd (false≢true h)
+
+-- the chain from a symbol on has it first; the rest is the chain from the following one
+pub record Opens (t : Table) (index : ℕ) : Type 0 where
+  pub rest : List ℕ
+  pub linked : is_linked t index ≡ true
+  pub whole : chain t (Some index) ≡ Some (index ∷ rest)
+  pub more : chain t (following t index) ≡ Some rest
+
+pub opens : (t : Table) (index : ℕ) → IsSome (chain t (Some index)) → Opens t index
+unfolding chain
+opens t index h =
+    let v = chain_value (chain_from t t.symbols (Some index)) h in
+    let o = opened_within t t.symbols index v.0 v.1 in
+    record { rest = o.0; linked = o.1; whole = v.1 ∙ ap (λ (xs : List ℕ). Some xs) o.3; more = o.2 }
+
+-- ---- the first that may have a hash
+
+abbrev pub left : Table → Option ℕ → ℕ
+left t at = length (unwrap_or (chain t at) [])
+
+pub none_left : (t : Table) (hash : ℕ) → first_of (matching t hash None) ≡ None
+unfolding matching chain
+none_left t hash = rw (chain_from-none t t.symbols) refl
+
+pub hit : (t : Table) (hash index : ℕ) → IsSome (chain t (Some index)) → matches t hash index ≡ true → first_of (matching t hash (Some index)) ≡ Some index
+unfolding matching
+hit t hash index h match = let o = opens t index h in rw (o.whole, match) refl
+
+pub miss : (t : Table) (hash index : ℕ) → IsSome (chain t (Some index)) → matches t hash index ≡ false → matching t hash (Some index) ≡ matching t hash (following t index)
+unfolding matching
+miss t hash index h match = let o = opens t index h in rw (o.whole, o.more, match) refl
+
+pub still_ends : (t : Table) (index : ℕ) → IsSome (chain t (Some index)) → IsSome (chain t (following t index))
+still_ends t index h = let o = opens t index h in rw o.more refl
+
+pub fewer_left : (t : Table) (index : ℕ) → IsSome (chain t (Some index)) → left t (following t index) < left t (Some index)
+fewer_left t index h = let o = opens t index h in rw (o.more, o.whole) (omega arith)
+
+-- ---- the ones after a symbol of a list
+
+-- a symbol of the list is there
+abbrev pub has : ℕ → List ℕ → Bool
+has index xs = list_any (λ k. k == index) xs
+
+filter_has_by : (p : ℕ → Bool) (x index : ℕ) (xs : List ℕ) (b : Bool) → p x ≡ b → (has index (filter p xs) ≡ true → (p index ≡ true) × (has index xs ≡ true))
+    → has index (cond b (x ∷ filter p xs) (filter p xs)) ≡ true → (p index ≡ true) × (has index (x ∷ xs) ≡ true)
+filter_has_by p x index xs false e more h = let m = more h in (m.0, or_right (eqb x index) (has index xs) m.1)
+filter_has_by p x index xs true e more h =
+    elim (or_cases (eqb x index) (has index (filter p xs)) h) [
+      | inl same ↦ let k = eqb-true x index same in (rw k at e, or_left (eqb x index) (has index xs) same)
+      | inr later ↦ let m = more later in (m.0, or_right (eqb x index) (has index xs) m.1)
+    ]
+
+-- a symbol that passes a test in a list passes it, and is in the list
+pub filter_has : (p : ℕ → Bool) (index : ℕ) (xs : List ℕ) → has index (filter p xs) ≡ true → (p index ≡ true) × (has index xs ≡ true)
+filter_has p index [] h = absurd (false≢true h)
+filter_has p index (x ∷ xs) h = filter_has_by p x index xs (p x) refl (filter_has p index xs) h
+
+rest_after-filter_by : (p : ℕ → Bool) (x index : ℕ) (xs : List ℕ) (b same : Bool) → p x ≡ b → eqb x index ≡ same → p index ≡ true
+    → rest_after index (filter p xs) ≡ filter p (rest_after index xs)
+    → rest_after index (cond b (x ∷ filter p xs) (filter p xs)) ≡ filter p (cond same xs (rest_after index xs))
+rest_after-filter_by p x index xs true true e is_same passes more = rw is_same refl
+rest_after-filter_by p x index xs true false e is_same passes more = rw is_same more
+rest_after-filter_by p x index xs false true e is_same passes more = let k = eqb-true x index is_same in absurd (false≢true (sym e ∙ ap p k ∙ passes))
+rest_after-filter_by p x index xs false false e is_same passes more = more
+
+pub rest_after-filter : (p : ℕ → Bool) (index : ℕ) (xs : List ℕ) → p index ≡ true → rest_after index (filter p xs) ≡ filter p (rest_after index xs)
+rest_after-filter p index [] passes = refl
+rest_after-filter p index (x ∷ xs) passes = rest_after-filter_by p x index xs (p x) (eqb x index) refl refl passes (rest_after-filter p index xs passes)
+
+-- after a symbol of a chain comes the chain from the following one
+abbrev pub Follows : Table → ℕ → List ℕ → Type 0
+Follows t index xs = (is_linked t index ≡ true) × (chain_from t t.symbols (following t index) ≡ Some (rest_after index xs))
+
+follows_by : (t : Table) (n first index : ℕ) (rest : List ℕ) (same : Bool) → eqb first index ≡ same → n ≤ t.symbols → is_linked t first ≡ true
+    → chain_from t n (following t first) ≡ Some rest → (has index rest ≡ true → Follows t index rest) → (same || has index rest) ≡ true
+    → (is_linked t index ≡ true) × (chain_from t t.symbols (following t index) ≡ Some (cond same rest (rest_after index rest)))
+follows_by t n first index rest true is_same le linked e more h =
+    let k = eqb-true first index is_same in
+    (rw k at linked, more_steps t n t.symbols (following t index) rest le (rw k at e))
+follows_by t n first index rest false is_same le linked e more h = more h
+
+pub follows : (t : Table) (n : ℕ) (start : Option ℕ) (xs : List ℕ) (index : ℕ) → n ≤ t.symbols → chain_from t n start ≡ Some xs → has index xs ≡ true → Follows t index xs
+unfolding chain_from
+follows t n None xs index le e h =
+    let none : xs ≡ [] = some_is xs [] (sym e ∙ chain_from-none t n) in
+    absurd (false≢true (rw none at h))
+follows t zero (Some first) xs index le e h = absurd cc
+follows t (suc n) (Some first) xs index le e h =
+    let o = opened t n first xs e in
+    rw o.3 (follows_by t n first index o.0 (eqb first index) refl (omega arith) o.1 o.2 (follows t n (following t first) o.0 index (omega arith) o.2) (rw o.3 at h))
