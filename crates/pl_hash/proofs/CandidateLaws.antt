@@ -122,3 +122,29 @@ follows t zero (Some first) xs index le e h = absurd cc
 follows t (suc n) (Some first) xs index le e h =
     let o = opened t n first xs e in
     rw o.3 (follows_by t n first index o.0 (eqb first index) refl (omega arith) o.1 o.2 (follows t n (following t first) o.0 index (omega arith) o.2) (rw o.3 at h))
+
+-- ---- the candidates
+
+-- after a symbol of a list of candidates come those from the following one
+pub record GoesOn (t : Table) (hash index : ℕ) (xs : List ℕ) : Type 0 where
+  pub linked : is_linked t index ≡ true
+  pub ends : IsSome (chain t (following t index))
+  pub rest : rest_after index xs ≡ matching t hash (following t index)
+
+goes_on_from : (t : Table) (hash index : ℕ) (start : Option ℕ) (xs : List ℕ) → chain t start ≡ Some xs → has index (matching t hash start) ≡ true → GoesOn t hash index (matching t hash start)
+unfolding matching chain
+goes_on_from t hash index start xs e h =
+    let f = filter_has (matches t hash) index xs (rw e at h) in
+    let g = follows t t.symbols start xs index (omega arith) e f.1 in
+    record { linked = g.0; ends = rw g.1 refl; rest = rw (e, g.1) (rest_after-filter (matches t hash) index xs f.0) }
+
+goes_on_by : (t : Table) (hash index : ℕ) (start : Option ℕ) (admitted : Bool) → IsSome (chain t start) → has index (cond admitted (matching t hash start) []) ≡ true
+    → GoesOn t hash index (cond admitted (matching t hash start) [])
+goes_on_by t hash index start false ends h = absurd (false≢true h)
+goes_on_by t hash index start true ends h = let v = chain_value (chain t start) ends in goes_on_from t hash index start v.0 v.1 h
+
+pub goes_on : (t : Table) (hash index : ℕ) → IsWellFormed t → IsTrue (is_candidate t hash index) → GoesOn t hash index (candidates t hash)
+unfolding candidates
+goes_on t hash index formed h =
+    let k = hash % bucket_count t in
+    goes_on_by t hash index (head t k) (admits t hash) (formed.ends k (mod_below hash (bucket_count t) formed.buckets.some)) h
