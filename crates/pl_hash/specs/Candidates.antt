@@ -27,3 +27,8 @@ first_of (x ∷ xs) = Some x
 abbrev pub rest_after : ℕ → List ℕ → List ℕ
 rest_after index [] = []
 rest_after index (x ∷ xs) = if x == index then xs else rest_after index xs
+
+-- a symbol and the ones after it
+abbrev pub rest_from : Option ℕ → List ℕ → List ℕ
+rest_from None xs = []
+rest_from (Some index) xs = index ∷ rest_after index xs

@@ -1,5 +1,5 @@
 // The symbols that a hash leads to.
-ghost use Rattle.std.specs.Prelude.{◌≡◌, ◌+◌, ◌*◌, ◌<◌, ◌≤◌, ◌%◌, nat_eq, length, IsTrue, IsSome, IfSome};
+ghost use Rattle.std.specs.Prelude.{◌≡◌, ℕ, ◌<◌, nat_eq, IsTrue, IsSome, IfSome};
 ghost use Rattle.std.specs.List.{IsDistinct};
 ghost use Rattle.pl_hash.specs.Table as part;
 ghost use Rattle.pl_hash.specs.Chain.{HasBuckets, IsLinked, IsWellFormed, chain};
@@ -66,11 +66,19 @@ fn first_matching(table: &Table, hash: u32, start: Option<u32>) -> Option<u32>
     None
 }
 
-/// The first symbol that a hash leads to.
+/// The first symbol that a hash leads to: the first of the table's candidates of that hash (System V gABI chapter 5, "Hash Table"; GNU hash table). `None` exactly where there is none: the bloom word refuses the hash, its bucket is empty or, in a GNU table, no chain word has the upper 31 bits of the hash.
+///
+/// The candidates are distinct and below the count of symbols. No memory is taken, and no more steps than the chain has symbols.
 #[tactic(auto, unfolding(crate::specs::Candidates::candidates))]
 pub fn first(table: &Table, hash: u32) -> Option<u32>
     requires { IsWellFormed table.now }
-    ensures { result ≡ spec.first_of (spec.candidates table.now hash) }
+    ensures value { result ≡ spec.first_of (spec.candidates table.now hash) }
+    ensures rest { spec.rest_from result (spec.candidates table.now hash) ≡ spec.candidates table.now hash }
+    ensures given { IfSome result (λ index. IsTrue (spec.is_candidate table.now hash index)) }
+
+    // Each candidate is a symbol, and is listed once.
+    ensures within { (index : ℕ) → IsTrue (spec.is_candidate table.now hash index) → index < table.now.symbols }
+    ensures once { IsDistinct nat_eq (spec.candidates table.now hash) }
 {
     if !admits(table, hash) {
         return None;
@@ -78,11 +86,30 @@ pub fn first(table: &Table, hash: u32) -> Option<u32>
     first_matching(table, hash, head(table, hash % bucket_count(table)))
 }
 
-/// The symbol after one that `first` or `next` gave for this table and hash.
+/// The symbol after one that `first` or `next` gave for this table and hash: the next of the table's candidates of that hash. `None` exactly after the last.
+///
+/// No memory is taken, and no more steps than the chain has symbols left.
 pub fn next(table: &Table, hash: u32, index: u32) -> Option<u32>
     requires formed { IsWellFormed table.now }
     requires given { IsTrue (spec.is_candidate table.now hash index) }
-    ensures { result ≡ spec.first_of (spec.rest_after index (spec.candidates table.now hash)) }
+    ensures value { result ≡ spec.first_of (spec.rest_after index (spec.candidates table.now hash)) }
+    ensures rest { spec.rest_from result (spec.candidates table.now hash) ≡ spec.rest_after index (spec.candidates table.now hash) }
+    ensures given { IfSome result (λ index. IsTrue (spec.is_candidate table.now hash index)) }
 {
     first_matching(table, hash, following(table, index))
+}
+
+/// Whether a symbol is one of a table's candidates of a hash.
+pub fn is_candidate(table: &Table, hash: u32, index: u32) -> bool
+    requires { IsWellFormed table.now }
+    ensures { result ≡ spec.is_candidate table.now hash index }
+{
+    let mut at = first(table, hash);
+    while let Some(candidate) = at {
+        if candidate == index {
+            return true;
+        }
+        at = next(table, hash, candidate);
+    }
+    false
 }

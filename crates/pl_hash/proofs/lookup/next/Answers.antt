@@ -1,6 +1,6 @@
 use Rattle.std.proofs.Common.{◌≡◌, sym, ◌∙◌, ap}
-use Rattle.pl_hash.specs.Candidates.{first_of}
-use Rattle.pl_hash.proofs.CandidateLaws.{IsLinked-from, goes_on}
+use Rattle.pl_hash.specs.Candidates.{candidates, first_of, rest_after}
+use Rattle.pl_hash.proofs.CandidateLaws.{IsLinked-from, goes_on, candidates-distinct, given_after, rest_from-next}
 use Rattle.pl_hash.proofs.lookup.next.Goals as goal
 
 pub following-requires-clause-linked : goal.following-requires-clause-linked
@@ -10,7 +10,23 @@ following-requires-clause-linked c =
 pub first_matching-requires-clause-ends : goal.first_matching-requires-clause-ends
 first_matching-requires-clause-ends c = rw c.following.ensures (goes_on c.args.table.now c.args.hash c.args.index c.requires.formed c.requires.given).ends
 
-pub returns : goal.returns
-returns c =
+pub returns-clause-value : goal.returns-clause-value
+returns-clause-value c =
     rw (c.first_matching.ensures, c.following.ensures)
       (ap first_of (sym (goes_on c.args.table.now c.args.hash c.args.index c.requires.formed c.requires.given).rest))
+
+pub returns-clause-rest : goal.returns-clause-rest
+returns-clause-rest c =
+    let xs = candidates c.args.table.now c.args.hash in
+    let value : c.first_matching.result ≡ first_of (rest_after c.args.index xs) =
+        rw (c.first_matching.ensures, c.following.ensures)
+          (ap first_of (sym (goes_on c.args.table.now c.args.hash c.args.index c.requires.formed c.requires.given).rest)) in
+    rw value (rest_from-next c.args.index xs (candidates-distinct c.args.table.now c.args.hash c.requires.formed))
+
+pub returns-clause-given : goal.returns-clause-given
+returns-clause-given c =
+    let xs = candidates c.args.table.now c.args.hash in
+    let value : c.first_matching.result ≡ first_of (rest_after c.args.index xs) =
+        rw (c.first_matching.ensures, c.following.ensures)
+          (ap first_of (sym (goes_on c.args.table.now c.args.hash c.args.index c.requires.formed c.requires.given).rest)) in
+    rw value (given_after c.args.index xs)
