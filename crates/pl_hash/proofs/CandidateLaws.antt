@@ -172,9 +172,9 @@ reaches t (suc n) (Some first) xs index e h =
 not_again : (t : Table) (n index : ℕ) (rest : List ℕ) → chain_from t (suc n) (Some index) ≡ Some (index ∷ rest) → chain_from t n (following t index) ≡ Some rest → has index rest ≡ false
 not_again t n index rest whole more =
     false_from_ne_true (has index rest) (λ h.
-      let r = reaches t n (following t index) rest index more h in
-      let same : index ∷ rest ≡ index ∷ r.1 = same_chain t (suc n) r.0 (Some index) (index ∷ rest) (index ∷ r.1) whole r.2 in
-      omega (arith, ap length same, r.3))
+    let r = reaches t n (following t index) rest index more h in
+    let same : index ∷ rest ≡ index ∷ r.1 = same_chain t (suc n) r.0 (Some index) (index ∷ rest) (index ∷ r.1) whole r.2 in
+    omega (arith, ap length same, r.3))
 
 apart_from : (x : ℕ) (ys : List ℕ) → has x ys ≡ false → AllByRecursion (λ y. nat_eq x y ≡ false) ys
 apart_from x [] h = tt

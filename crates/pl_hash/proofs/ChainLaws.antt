@@ -72,7 +72,7 @@ pub walk_more : (t : Table) (steps i index : ℕ) (whole : Bool) → i < steps �
 walk_more t steps i index whole lt linked so_far =
     let k : steps - i ≡ suc (steps - (i + 1)) = omega arith in
     let one : ends_within t (steps - i) (Some index) ≡ ends_within t (steps - (i + 1)) (following t index) =
-        rw (k, chain_from-linked t (steps - (i + 1)) index linked) (is_some-with_first index (chain_from t (steps - (i + 1)) (following t index))) in
+    rw (k, chain_from-linked t (steps - (i + 1)) index linked) (is_some-with_first index (chain_from t (steps - (i + 1)) (following t index))) in
     sym one ∙ so_far
 
 pub walk_over : (t : Table) (steps i : ℕ) (at : Option ℕ) → steps ≤ i → ends_within t (steps - i) at ≡ is_none at

@@ -4,7 +4,9 @@ ghost use Rattle.std.specs.Bool.{OnTrue};
 ghost use Rattle.pl_hash.specs.Table.{HasHeader, bucket_count};
 ghost use Rattle.pl_hash.specs.Chain as spec;
 
-use crate::table::{Table, WORD_SIZE, bucket, bucket_count, chains_at, first_linked, has_header, link, link_at};
+use crate::table::{
+    Table, WORD_SIZE, bucket, bucket_count, chains_at, first_linked, has_header, link, link_at,
+};
 
 /// Whether there is a bucket and the buckets lie in the table.
 #[tactic(auto, unfolding(crate::specs::Chain::has_buckets))]
@@ -34,7 +36,9 @@ pub fn is_linked(table: &Table, index: u32) -> bool
     ensures value { result ≡ spec.is_linked table.now index }
     ensures facts { OnTrue result (spec.IsLinked table.now index) }
 {
-    first_linked(table) <= index && index < table.symbols && link_at(table, index) + WORD_SIZE <= table.words.len()
+    first_linked(table) <= index
+        && index < table.symbols
+        && link_at(table, index) + WORD_SIZE <= table.words.len()
 }
 
 /// The symbol after one in its chain.

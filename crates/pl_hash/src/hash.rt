@@ -39,5 +39,6 @@ pub fn sysv_hash(name: &[u8]) -> u32
 pub fn gnu_hash(name: &[u8]) -> u32
     ensures { result ≡ spec.gnu name.now }
 {
-    name.iter().fold(GNU_START, |hash, byte| gnu_step(hash, *byte))
+    name.iter()
+        .fold(GNU_START, |hash, byte| gnu_step(hash, *byte))
 }

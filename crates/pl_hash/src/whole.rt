@@ -57,5 +57,9 @@ pub fn well_formed(table: &Table) -> bool
     ensures value { result ≡ spec.well_formed table.now }
     ensures facts { OnTrue result (spec.IsWellFormed table.now) }
 {
-    has_header(table) && has_buckets(table) && is_counted(table) && has_links(table) && chains_end(table)
+    has_header(table)
+        && has_buckets(table)
+        && is_counted(table)
+        && has_links(table)
+        && chains_end(table)
 }

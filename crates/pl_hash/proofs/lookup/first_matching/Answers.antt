@@ -33,10 +33,10 @@ pub loop-at-preserved : goal.loop-at-preserved
 loop-at-preserved c =
     let t = c.args.table.now in
     let ends : IsSome (chain t (Some c.in-Some.index)) = rw c.in-Some.is at c.loop-at.invariant.0 in
-    rw c.following-at.ensures
-      ( still_ends t c.in-Some.index ends
-      , sym (ap first_of (miss t c.args.hash c.in-Some.index ends (sym c.if-matches.ensures))) ∙ rw c.in-Some.is at c.loop-at.invariant.1
-      )
+    rw c.following-at.ensures (
+      still_ends t c.in-Some.index ends,
+      sym (ap first_of (miss t c.args.hash c.in-Some.index ends (sym c.if-matches.ensures))) ∙ rw c.in-Some.is at c.loop-at.invariant.1,
+    )
 
 pub returns : goal.returns
 returns c = sym (none_left c.args.table.now c.args.hash) ∙ rw c.in_default.is at c.loop-at.invariant.1
