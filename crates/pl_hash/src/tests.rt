@@ -1,6 +1,7 @@
 use super::*;
 use pl_base::Rows;
 use std::alloc::{AllocError, Global};
+use std::process::Abort;
 use std::test::Fail;
 
 /// A table of words of 32 bits; its bytes are the first so many of them.
@@ -37,189 +38,309 @@ fn listed(alloc: Global, table: &Table, hash: u32) -> Result<Vec<u32>, AllocErro
     Ok(symbols)
 }
 
+/// Names with their hashes in the two tables.
+const NAMES: [(&[u8], u32, u32); 8] = [
+    (b"", 0, 5381),
+    (b"f", 0x66, 0x2b60b),
+    (b"printf", 0x77905a6, 0x156b2bb8),
+    (b"exit", 0x6cf04, 0x7c967e3f),
+    (b"syscall", 0xb09985c, 0xbac212a0),
+    (b"flapenguin.me", 0x3987915, 0x8ae9f18e),
+    (b"a_name_that_is_long_enough_to_wrap", 0x3e0d720, 0x1ec3e280),
+    (
+        &[0xff, 0xff, 0xff, 0xff, 0xff, 0xff, 0xff, 0xff],
+        0x10ef,
+        0xe3f2ee7d,
+    ),
+];
+
 #[test]
 fn hashes_names(rt: HostRuntime) {
-    for (name, sysv, gnu) in [
-        ("", 0, 5381),
-        ("f", 0x66, 0x2b60b),
-        ("printf", 0x77905a6, 0x156b2bb8),
-        ("exit", 0x6cf04, 0x7c967e3f),
-        ("syscall", 0xb09985c, 0xbac212a0),
-        ("flapenguin.me", 0x3987915, 0x8ae9f18e),
-        ("a_name_that_is_long_enough_to_wrap", 0x3e0d720, 0x1ec3e280),
-    ] {
-        assert_eq!(rt; sysv_hash(name.as_bytes()), sysv, "{name}");
-        assert_eq!(rt; gnu_hash(name.as_bytes()), gnu, "{name}");
+    for (name, sysv, gnu) in NAMES {
+        assert_eq!(rt; sysv_hash(name), sysv);
+        assert_eq!(rt; gnu_hash(name), gnu);
     }
-    assert_eq!(rt; sysv_hash(&[0xff; 8]), 0x10ef);
-    assert_eq!(rt; gnu_hash(&[0xff; 8]), 0xe3f2ee7d);
+}
+
+/// A table: its count of symbols, its words, how many bytes of them it has, and whether it is well formed.
+struct Form {
+    name: &'static str,
+    symbols: u32,
+    words: &'static [u32],
+    size: usize,
+    good: bool,
 }
 
 /// Two buckets, of symbol 3 and of symbols 1 and 2.
 const SYSV: [u32; 8] = [2, 4, 3, 1, 0, 2, 0, 0];
 
-#[test]
-fn tests_sysv_tables(rt: HostRuntime) -> Result<(), Fail> {
-    for (name, symbols, words, size, want) in [
-        ("whole", 4, SYSV, 32, true),
-        ("a byte short", 4, SYSV, 31, false),
-        ("no header", 4, SYSV, 7, false),
-        ("more symbols", 5, SYSV, 32, false),
-        ("fewer symbols", 3, SYSV, 32, false),
-        ("no bucket", 6, [0, 6, 0, 0, 0, 0, 0, 0], 32, false),
-        ("bytes after it", 2, [1, 2, 1, 0, 0, 9, 9, 9], 32, true),
-        (
-            "a bucket past the symbols",
-            4,
-            [2, 4, 4, 1, 0, 2, 0, 0],
-            32,
-            false,
-        ),
-        (
-            "a link past the symbols",
-            4,
-            [2, 4, 3, 1, 0, 2, 4, 0],
-            32,
-            false,
-        ),
-        (
-            "a chain without end",
-            4,
-            [2, 4, 3, 1, 0, 2, 1, 0],
-            32,
-            false,
-        ),
-        (
-            "a symbol that follows itself",
-            4,
-            [2, 4, 3, 1, 0, 2, 0, 3],
-            32,
-            false,
-        ),
-        ("a link of no chain", 4, [2, 4, 3, 1, 7, 2, 0, 0], 32, true),
-        (
-            "counts past all bytes",
-            0xffffffff,
-            [0xffffffff, 0xffffffff, 0, 0, 0, 0, 0, 0],
-            32,
-            false,
-        ),
-    ] {
-        let table = table(rt.alloc(), false, symbols, words.as_slice(), size)?;
-        assert_eq!(rt; well_formed(&table), want, "{name}");
-    }
-    let table = table(rt.alloc(), false, 4, SYSV.as_slice(), 32)?;
-    assert_eq!(rt; listed(rt.alloc(), &table, 4)?.as_slice(), [3].as_slice());
-    assert_eq!(rt;
-        listed(rt.alloc(), &table, 5)?.as_slice(),
-        [1, 2].as_slice()
-    );
-    Ok(())
-}
+const SYSV_FORMS: [Form; 13] = [
+    Form {
+        name: "whole",
+        symbols: 4,
+        words: &SYSV,
+        size: 32,
+        good: true,
+    },
+    Form {
+        name: "a byte short",
+        symbols: 4,
+        words: &SYSV,
+        size: 31,
+        good: false,
+    },
+    Form {
+        name: "no header",
+        symbols: 4,
+        words: &SYSV,
+        size: 7,
+        good: false,
+    },
+    Form {
+        name: "more symbols",
+        symbols: 5,
+        words: &SYSV,
+        size: 32,
+        good: false,
+    },
+    Form {
+        name: "fewer symbols",
+        symbols: 3,
+        words: &SYSV,
+        size: 32,
+        good: false,
+    },
+    Form {
+        name: "no bucket",
+        symbols: 6,
+        words: &[0, 6, 0, 0, 0, 0, 0, 0],
+        size: 32,
+        good: false,
+    },
+    Form {
+        name: "bytes after it",
+        symbols: 2,
+        words: &[1, 2, 1, 0, 0, 9, 9, 9],
+        size: 32,
+        good: true,
+    },
+    Form {
+        name: "a bucket past the symbols",
+        symbols: 4,
+        words: &[2, 4, 4, 1, 0, 2, 0, 0],
+        size: 32,
+        good: false,
+    },
+    Form {
+        name: "a link past the symbols",
+        symbols: 4,
+        words: &[2, 4, 3, 1, 0, 2, 4, 0],
+        size: 32,
+        good: false,
+    },
+    Form {
+        name: "a chain without end",
+        symbols: 4,
+        words: &[2, 4, 3, 1, 0, 2, 1, 0],
+        size: 32,
+        good: false,
+    },
+    Form {
+        name: "a symbol after itself",
+        symbols: 4,
+        words: &[2, 4, 3, 1, 0, 2, 0, 3],
+        size: 32,
+        good: false,
+    },
+    Form {
+        name: "a link of no chain",
+        symbols: 4,
+        words: &[2, 4, 3, 1, 7, 2, 0, 0],
+        size: 32,
+        good: true,
+    },
+    Form {
+        name: "counts past all bytes",
+        symbols: 0xffffffff,
+        words: &[0xffffffff, 0xffffffff],
+        size: 8,
+        good: false,
+    },
+];
 
 /// Symbols 1 and 2 of hashes 0x100 and 0x104 in the first bucket, symbol 3 of hash 0x241 in the second.
 const GNU: [u32; 13] = [2, 1, 2, 6, 0x11, 0, 0x202, 0, 1, 3, 0x100, 0x105, 0x241];
 
-#[test]
-fn tests_gnu_tables(rt: HostRuntime) -> Result<(), Fail> {
-    for (name, symbols, words, size, want) in [
-        ("whole", 4, GNU, 52, true),
-        ("a byte short", 4, GNU, 51, false),
-        ("no header", 4, GNU, 15, false),
-        ("a symbol without a link", 5, GNU, 52, false),
-        ("a bucket past the symbols", 3, GNU, 52, false),
-        (
-            "no bucket",
-            4,
-            [0, 1, 2, 6, 0, 0, 0, 0, 1, 1, 1, 1, 1],
-            52,
-            false,
-        ),
-        (
-            "no bloom word",
-            4,
-            [2, 1, 0, 6, 1, 3, 0x100, 0x105, 0x241, 0, 0, 0, 0],
-            52,
-            false,
-        ),
-        (
-            "three bloom words",
-            2,
-            [1, 1, 3, 6, 0, 0, 0, 0, 0, 0, 1, 1, 0],
-            52,
-            false,
-        ),
-        (
-            "a bucket below symoffset",
-            4,
-            [2, 2, 2, 6, 0x11, 0, 0x202, 0, 1, 3, 0x101, 0x105, 0x241],
-            52,
-            false,
-        ),
-        (
-            "a chain without end",
-            4,
-            [2, 1, 2, 6, 0x11, 0, 0x202, 0, 1, 3, 0x100, 0x105, 0x240],
-            52,
-            false,
-        ),
-        (
-            "a large shift",
-            4,
-            [
-                2, 1, 2, 0xffffffff, 0x11, 0, 0x202, 0, 1, 3, 0x100, 0x105, 0x241,
-            ],
-            52,
-            true,
-        ),
-        (
-            "empty buckets",
-            9,
-            [2, 1, 2, 6, 0, 0, 0, 0, 0, 0, 0, 0, 0],
-            40,
-            true,
-        ),
-        (
-            "empty buckets cut off",
-            9,
-            [2, 1, 2, 6, 0, 0, 0, 0, 0, 0, 0, 0, 0],
-            39,
-            false,
-        ),
-    ] {
-        let table = table(rt.alloc(), true, symbols, words.as_slice(), size)?;
-        assert_eq!(rt; well_formed(&table), want, "{name}");
-    }
-    let table = table(rt.alloc(), true, 4, GNU.as_slice(), 52)?;
-    assert_eq!(rt;
-        listed(rt.alloc(), &table, 0x100)?.as_slice(),
-        [1].as_slice()
-    );
-    assert_eq!(rt;
-        listed(rt.alloc(), &table, 0x104)?.as_slice(),
-        [2].as_slice()
-    );
-    assert_eq!(rt;
-        listed(rt.alloc(), &table, 0x241)?.as_slice(),
-        [3].as_slice()
-    );
-    for hash in [0, 4, 0x101, 0x240, 0x100 + 0x80] {
-        assert!(rt; listed(rt.alloc(), &table, hash)?.is_empty(), "{hash}");
+/// The empty table that GNU ld writes.
+const EMPTY: [u32; 7] = [1, 1, 1, 0, 0, 0, 0];
+
+const GNU_FORMS: [Form; 15] = [
+    Form {
+        name: "whole",
+        symbols: 4,
+        words: &GNU,
+        size: 52,
+        good: true,
+    },
+    Form {
+        name: "a byte short",
+        symbols: 4,
+        words: &GNU,
+        size: 51,
+        good: false,
+    },
+    Form {
+        name: "no header",
+        symbols: 4,
+        words: &GNU,
+        size: 15,
+        good: false,
+    },
+    Form {
+        name: "a symbol without a link",
+        symbols: 5,
+        words: &GNU,
+        size: 52,
+        good: false,
+    },
+    Form {
+        name: "a bucket past the symbols",
+        symbols: 3,
+        words: &GNU,
+        size: 52,
+        good: false,
+    },
+    Form {
+        name: "no bucket",
+        symbols: 1,
+        words: &[0, 1, 1, 6, 0, 0],
+        size: 24,
+        good: false,
+    },
+    Form {
+        name: "no bloom word",
+        symbols: 4,
+        words: &[2, 1, 0, 6, 1, 3, 0x100, 0x105, 0x241],
+        size: 36,
+        good: false,
+    },
+    Form {
+        name: "three bloom words",
+        symbols: 2,
+        words: &[1, 1, 3, 6, 0, 0, 0, 0, 0, 0, 1, 1],
+        size: 48,
+        good: false,
+    },
+    Form {
+        name: "a bucket below symoffset",
+        symbols: 4,
+        words: &[1, 2, 1, 6, 0, 0, 1, 1, 1],
+        size: 36,
+        good: false,
+    },
+    Form {
+        name: "a chain without end",
+        symbols: 4,
+        words: &[1, 1, 1, 6, 0, 0, 1, 0, 0, 0],
+        size: 40,
+        good: false,
+    },
+    Form {
+        name: "a large shift",
+        symbols: 2,
+        words: &[1, 1, 1, 0xffffffff, 0, 0, 1, 1],
+        size: 32,
+        good: true,
+    },
+    Form {
+        name: "empty of no symbols",
+        symbols: 0,
+        words: &EMPTY,
+        size: 28,
+        good: true,
+    },
+    Form {
+        name: "empty of two symbols",
+        symbols: 2,
+        words: &EMPTY,
+        size: 28,
+        good: true,
+    },
+    Form {
+        name: "empty of many symbols",
+        symbols: 0xffffffff,
+        words: &EMPTY,
+        size: 28,
+        good: true,
+    },
+    Form {
+        name: "empty and cut off",
+        symbols: 1,
+        words: &EMPTY,
+        size: 27,
+        good: false,
+    },
+];
+
+fn tests_forms(
+    rt: &impl Abort,
+    alloc: Global,
+    gnu: bool,
+    forms: &[Form],
+) -> Result<(), AllocError> {
+    for form in forms {
+        let table = table(alloc, gnu, form.symbols, form.words, form.size)?;
+        assert_eq!(rt; well_formed(&table), form.good, "{}", form.name);
     }
     Ok(())
 }
 
-/// The empty table that GNU ld writes is well formed for each count of symbols, and lists nothing.
 #[test]
-fn takes_the_empty_table(rt: HostRuntime) -> Result<(), Fail> {
-    for symbols in [0, 1, 2, 1000, 0xffffffff] {
-        let table = table(rt.alloc(), true, symbols, &[1, 1, 1, 0, 0, 0, 0], 28)?;
-        assert!(rt; well_formed(&table), "{symbols}");
-        assert!(rt;
-            listed(rt.alloc(), &table, gnu_hash(b"f"))?.is_empty(),
-            "{symbols}"
-        );
+fn tells_forms(rt: HostRuntime) -> Result<(), Fail> {
+    tests_forms(&rt, rt.alloc(), false, &SYSV_FORMS)?;
+    tests_forms(&rt, rt.alloc(), true, &GNU_FORMS)?;
+    Ok(())
+}
+
+/// A hash, and the symbols that it leads to.
+type List = (u32, &'static [u32]);
+
+const SYSV_LISTS: [List; 2] = [(4, &[3]), (5, &[1, 2])];
+
+/// The bloom words refuse the last three.
+const GNU_LISTS: [List; 9] = [
+    (0x100, &[1]),
+    (0x104, &[2]),
+    (0x105, &[]),
+    (0x241, &[3]),
+    (0, &[]),
+    (4, &[]),
+    (0x101, &[]),
+    (0x240, &[]),
+    (0x180, &[]),
+];
+
+fn tests_lists(
+    rt: &impl Abort,
+    alloc: Global,
+    table: &Table,
+    lists: &[List],
+) -> Result<(), AllocError> {
+    for (hash, symbols) in lists {
+        let found = listed(alloc, table, *hash)?;
+        assert_eq!(rt; found.as_slice(), *symbols, "{hash}");
     }
+    Ok(())
+}
+
+#[test]
+fn lists_candidates(rt: HostRuntime) -> Result<(), Fail> {
+    let sysv = table(rt.alloc(), false, 4, &SYSV, 32)?;
+    tests_lists(&rt, rt.alloc(), &sysv, &SYSV_LISTS)?;
+    let gnu = table(rt.alloc(), true, 4, &GNU, 52)?;
+    tests_lists(&rt, rt.alloc(), &gnu, &GNU_LISTS)?;
+    let empty = table(rt.alloc(), true, 9, &EMPTY, 28)?;
+    tests_lists(&rt, rt.alloc(), &empty, &[(0, &[]), (0x2b60b, &[])])?;
     Ok(())
 }
 
@@ -238,59 +359,49 @@ const LIBRARY_GNU_HASH: [u32; 46] = [
 ];
 
 /// Its symbols: each name, its number, and its bucket in `.hash`. The first two are undefined, so `.gnu.hash` does not list them.
-const LIBRARY_NAMES: [(&str, u32, &[u32]); 23] = [
-    ("outside", 1, &[20, 1]),
-    ("other_data", 2, &[6, 2]),
-    ("epsilon", 3, &[3, 18]),
-    ("mu", 4, &[4]),
-    ("theta", 5, &[7, 21, 5]),
-    ("pi", 6, &[6, 2]),
-    ("alpha", 7, &[7, 21, 5]),
-    ("zeta", 8, &[8]),
-    ("eta", 9, &[9]),
-    ("f", 10, &[11, 10]),
-    ("tau", 11, &[11, 10]),
-    ("sigma", 12, &[12]),
-    ("beta", 13, &[13, 16]),
-    ("rho", 14, &[17, 14]),
-    ("upsilon", 15, &[15]),
-    ("gamma", 16, &[13, 16]),
-    ("xi", 17, &[17, 14]),
-    ("omicron", 18, &[3, 18]),
-    ("iota", 19, &[19]),
-    ("delta", 20, &[20, 1]),
-    ("lambda", 21, &[7, 21, 5]),
-    ("kappa", 22, &[22]),
-    ("nu", 23, &[23]),
+const LIBRARY_NAMES: [(&[u8], u32, &[u32]); 23] = [
+    (b"outside", 1, &[20, 1]),
+    (b"other_data", 2, &[6, 2]),
+    (b"epsilon", 3, &[3, 18]),
+    (b"mu", 4, &[4]),
+    (b"theta", 5, &[7, 21, 5]),
+    (b"pi", 6, &[6, 2]),
+    (b"alpha", 7, &[7, 21, 5]),
+    (b"zeta", 8, &[8]),
+    (b"eta", 9, &[9]),
+    (b"f", 10, &[11, 10]),
+    (b"tau", 11, &[11, 10]),
+    (b"sigma", 12, &[12]),
+    (b"beta", 13, &[13, 16]),
+    (b"rho", 14, &[17, 14]),
+    (b"upsilon", 15, &[15]),
+    (b"gamma", 16, &[13, 16]),
+    (b"xi", 17, &[17, 14]),
+    (b"omicron", 18, &[3, 18]),
+    (b"iota", 19, &[19]),
+    (b"delta", 20, &[20, 1]),
+    (b"lambda", 21, &[7, 21, 5]),
+    (b"kappa", 22, &[22]),
+    (b"nu", 23, &[23]),
 ];
 
 #[test]
 fn reads_a_library(rt: HostRuntime) -> Result<(), Fail> {
-    let sysv = table(rt.alloc(), false, 24, LIBRARY_HASH.as_slice(), 172)?;
-    let gnu = table(rt.alloc(), true, 24, LIBRARY_GNU_HASH.as_slice(), 184)?;
+    let sysv = table(rt.alloc(), false, 24, &LIBRARY_HASH, 172)?;
+    let gnu = table(rt.alloc(), true, 24, &LIBRARY_GNU_HASH, 184)?;
     assert!(rt; well_formed(&sysv));
     assert!(rt; well_formed(&gnu));
     for (name, index, bucket) in LIBRARY_NAMES {
-        let hash = sysv_hash(name.as_bytes());
-        assert_eq!(rt;
-            listed(rt.alloc(), &sysv, hash)?.as_slice(),
-            bucket,
-            "{name}"
-        );
-        assert!(rt; is_candidate(&sysv, hash, index), "{name}");
+        let found = listed(rt.alloc(), &sysv, sysv_hash(name))?;
+        assert_eq!(rt; found.as_slice(), bucket, "{index}");
+        assert!(rt; is_candidate(&sysv, sysv_hash(name), index), "{index}");
 
-        let hash = gnu_hash(name.as_bytes());
-        assert_eq!(rt; is_candidate(&gnu, hash, index), index > 2, "{name}");
+        let found = listed(rt.alloc(), &gnu, gnu_hash(name))?;
+        assert_eq!(rt; found.len(), usize::from(index > 2), "{index}");
         assert_eq!(rt;
-            listed(rt.alloc(), &gnu, hash)?.len(),
-            usize::from(index > 2),
-            "{name}"
-        );
-    }
-    for name in ["missing", "printf", "main"] {
-        assert!(rt;
-            listed(rt.alloc(), &gnu, gnu_hash(name.as_bytes()))?.is_empty(),
-            "{name}"
+            is_candidate(&gnu, gnu_hash(name), index),
+            index > 2,
+            "{index}"
         );
     }
     Ok(())
