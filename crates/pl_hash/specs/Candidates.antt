@@ -3,8 +3,13 @@ use Rattle.std.specs.Prelude.{ℕ, ◌%◌, Bool, List, [], ◌∷◌, Option, S
 use Rattle.std.specs.List.{list_any}
 use Rattle.std.specs.Option.{unwrap_or}
 use Rattle.pl_hash.specs.declared.table.Table.{Table}
+use Rattle.pl_hash.specs.Hash.{gnu, sysv}
 use Rattle.pl_hash.specs.Table.{bucket_count, admits, matches}
 use Rattle.pl_hash.specs.Chain.{head, chain}
+
+-- the hash that a table goes by
+abbrev pub name_hash : Table → List ℕ → ℕ
+name_hash table name = if table.gnu then gnu name else sysv name
 
 -- the symbols of a chain that may have a hash
 unfoldable pub matching : Table → ℕ → Option ℕ → List ℕ

@@ -9,7 +9,10 @@ mod table;
 mod tests;
 mod whole;
 
-pub use hash::{gnu_hash, sysv_hash};
-pub use lookup::{first, is_candidate, next};
-pub use table::Table;
+pub use hash::{GNU_START, SYSV_TOP, gnu_hash, sysv_hash};
+pub use lookup::{first, is_candidate, name_hash, next};
+pub use table::{
+    BLOOM_SHIFT, BLOOM_SIZE, BLOOM_WORD_BITS, BLOOM_WORD_SIZE, GNU_HEADER_SIZE, NBUCKET, NCHAIN,
+    SYMOFFSET, SYSV_HEADER_SIZE, Table, WORD_SIZE,
+};
 pub use whole::well_formed;

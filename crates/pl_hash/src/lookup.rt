@@ -6,6 +6,7 @@ ghost use Rattle.pl_hash.specs.Chain.{HasBuckets, IsLinked, IsWellFormed, chain}
 ghost use Rattle.pl_hash.specs.Candidates as spec;
 
 use crate::chain::{following, head};
+use crate::hash::{gnu_hash, sysv_hash};
 use crate::table::{BLOOM_WORD_BITS, Table, bloom_shift, bloom_word, bucket_count, link};
 
 /// Whether a bit of a bloom word is set.
@@ -97,6 +98,17 @@ pub fn next(table: &Table, hash: u32, index: u32) -> Option<u32>
     ensures given { IfSome result (λ index. IsTrue (spec.is_candidate table.now hash index)) }
 {
     first_matching(table, hash, following(table, index))
+}
+
+/// The hash of a symbol's name that a table goes by.
+pub fn name_hash(table: &Table, name: &[u8]) -> u32
+    ensures { result ≡ spec.name_hash table.now name.now }
+{
+    if table.gnu {
+        gnu_hash(name)
+    } else {
+        sysv_hash(name)
+    }
 }
 
 /// Whether a symbol is one of a table's candidates of a hash.

@@ -57,6 +57,7 @@ pub fn has_header(table: &Table) -> bool
     size <= table.words.len()
 }
 
+/// The count of buckets.
 pub fn bucket_count(table: &Table) -> u32
     requires { spec.HasHeader table.now }
     ensures { result ≡ spec.bucket_count table.now }
@@ -64,6 +65,7 @@ pub fn bucket_count(table: &Table) -> u32
     word32(table.words.as_slice(), NBUCKET)
 }
 
+/// The count of chain words in a System V table.
 pub fn chain_count(table: &Table) -> u32
     requires { spec.HasHeader table.now }
     ensures { result ≡ spec.chain_count table.now }
@@ -71,6 +73,7 @@ pub fn chain_count(table: &Table) -> u32
     word32(table.words.as_slice(), NCHAIN)
 }
 
+/// The first symbol with a chain word in a GNU table.
 pub fn symoffset(table: &Table) -> u32
     requires header { spec.HasHeader table.now }
     requires gnu { IsTrue table.now.gnu }
@@ -79,6 +82,7 @@ pub fn symoffset(table: &Table) -> u32
     word32(table.words.as_slice(), SYMOFFSET)
 }
 
+/// The count of bloom words in a GNU table.
 pub fn bloom_size(table: &Table) -> u32
     requires header { spec.HasHeader table.now }
     requires gnu { IsTrue table.now.gnu }
@@ -87,6 +91,7 @@ pub fn bloom_size(table: &Table) -> u32
     word32(table.words.as_slice(), BLOOM_SIZE)
 }
 
+/// By how many bits a hash is shifted for its second bit in a GNU table's bloom word.
 pub fn bloom_shift(table: &Table) -> u32
     requires header { spec.HasHeader table.now }
     requires gnu { IsTrue table.now.gnu }
@@ -138,6 +143,7 @@ pub fn link_at(table: &Table, index: u32) -> usize
     chains_at(table) + WORD_SIZE * index.saturating_sub(first_linked(table)) as usize
 }
 
+/// A bucket.
 #[tactic(auto, unfolding(crate::specs::Table::bucket, crate::specs::Table::chains_at))]
 pub fn bucket(table: &Table, k: u32) -> u32
     requires header { spec.HasHeader table.now }
