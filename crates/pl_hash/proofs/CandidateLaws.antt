@@ -1,6 +1,6 @@
 -- What the candidates of a hash are, one symbol at a time.
 use Rattle.std.proofs.Common.{◌≡◌, ℕ, zero, suc, ◌+◌, ◌<◌, ◌≤◌, Bool, true, false, cond, eqb, ◌||◌, List, [], ◌∷◌, Option, Some, None, refl, sym, ap, subst, ◌∙◌, arith, inl, inr, length}
-use Rattle.std.specs.Prelude.{IsTrue, IsSome, IfSome, is_some, nat_eq, filter, ◌==◌, ◌%◌}
+use Rattle.std.specs.Prelude.{IsTrue, IsSome, IfSome, nat_eq, filter, ◌==◌, ◌%◌}
 use Rattle.std.specs.Option.{unwrap_or}
 use Rattle.std.specs.List.{list_any, AllByRecursion, IsDistinct}
 use Rattle.std.proofs.lemmas.Bool.{false≢true, false_from_ne_true, eqb-true, eqb-false, eq-eqb, ne_eqb, or_parts, or_cases, or_left, or_right, and_parts, leb-true, ltb-true}
@@ -8,7 +8,7 @@ use Rattle.std.proofs.lemmas.Map.Keys.{IsDistinct-cons, IsDistinct-head, IsDisti
 use Rattle.std.proofs.lemmas.Nat.{mod_below}
 use Rattle.pl_hash.specs.declared.table.Table.{Table}
 use Rattle.pl_hash.specs.declared.table.TheConstants.{WORD_SIZE}
-use Rattle.pl_hash.specs.Table.{bucket_count, admits, matches, link_at, first_linked}
+use Rattle.pl_hash.specs.Table.{bucket_count, admits, matches, link_at}
 use Rattle.pl_hash.specs.Chain.{chain_from, chain, following, head, is_linked, IsLinked, IsWellFormed}
 use Rattle.pl_hash.specs.Candidates.{matching, candidates, is_candidate, first_of, rest_after, rest_from}
 use Rattle.pl_hash.proofs.ChainLaws.{some_is, opened, chain_from-none, chain_from-zero, more_steps, same_chain}

@@ -1,8 +1,8 @@
 -- What a chain is, one symbol at a time.
-use Rattle.std.proofs.Common.{◌≡◌, ℕ, zero, suc, ◌+◌, ◌<◌, ◌≤◌, ◌-◌, Bool, true, false, cond, List, [], ◌∷◌, Option, Some, None, refl, sym, ap, ◌∙◌, arith, length}
-use Rattle.std.specs.Prelude.{IsTrue, IsSome, is_some, is_none, not}
+use Rattle.std.proofs.Common.{◌≡◌, ℕ, zero, suc, ◌+◌, ◌<◌, ◌≤◌, ◌-◌, Bool, true, false, cond, List, [], ◌∷◌, Option, Some, None, refl, sym, ap, ◌∙◌, arith}
+use Rattle.std.specs.Prelude.{is_some, is_none, not}
 use Rattle.pl_hash.specs.declared.table.Table.{Table}
-use Rattle.pl_hash.specs.Chain.{chain_from, chain, following, is_linked, with_first}
+use Rattle.pl_hash.specs.Chain.{chain_from, following, is_linked, with_first}
 
 pub some_is : (x y : List ℕ) → Some x ≡ Some y → x ≡ y
 some_is x y e = cc

@@ -1,7 +1,7 @@
 -- What a well formed table gives to a look-up.
-use Rattle.std.proofs.Common.{◌≡◌, ℕ, zero, suc, ◌+◌, ◌<◌, ◌≤◌, Bool, true, false, cond, ◌&&◌, List, length, slice_index_or, refl, sym, arith, zero-add}
+use Rattle.std.proofs.Common.{◌≡◌, ℕ, zero, suc, ◌<◌, ◌≤◌, Bool, true, false, cond, length, slice_index_or, arith, zero-add}
 use Rattle.std.specs.Prelude.{IsTrue, IsSome, is_some}
-use Rattle.std.specs.List.{list_all, range_with_len}
+use Rattle.std.specs.List.{range_with_len}
 use Rattle.std.specs.Int.{is_power_of_two}
 use Rattle.std.proofs.lemmas.Bool.{eqb-true, leb-true, ltb-true, and_parts, false≢true}
 use Rattle.std.proofs.lemmas.Nat.{ones_le_self}
@@ -10,7 +10,7 @@ use Rattle.std.proofs.lemmas.List.FromFn.{length-range_with_len, get_or-range_wi
 use Rattle.pl_hash.specs.declared.table.Table.{Table}
 use Rattle.pl_hash.specs.declared.table.TheConstants.{SYSV_HEADER_SIZE, GNU_HEADER_SIZE}
 use Rattle.pl_hash.specs.Table.{has_header, HasHeader, header_size, bucket_count, bloom_size, chains_at}
-use Rattle.pl_hash.specs.Chain.{head, chain, has_buckets, HasBuckets, is_counted, has_links, chains_end, well_formed, IsWellFormed}
+use Rattle.pl_hash.specs.Chain.{head, chain, has_buckets, HasBuckets, is_counted, chains_end, well_formed, IsWellFormed}
 
 sizes : (gnu : Bool) (n : ℕ) → cond gnu GNU_HEADER_SIZE SYSV_HEADER_SIZE ≤ n → (SYSV_HEADER_SIZE ≤ n) × (IsTrue gnu → GNU_HEADER_SIZE ≤ n)
 sizes true n h = (omega arith, λ _. h)

@@ -1,7 +1,7 @@
 -- The parts of a hash table of symbols.
 --   System V (gABI chapter 5, "Hash Table"), in words of 32 bits: nbucket, nchain, the buckets, and for each symbol a chain word.
 --   GNU: nbuckets, symoffset, bloom size and bloom shift in words of 32 bits, bloom words of 64 bits, the buckets, and for each symbol from symoffset on a chain word.
-use Rattle.std.specs.Prelude.{◌≡◌, ◌≤◌, IsTrue, ℕ, ◌+◌, ◌-◌, ◌*◌, ◌/◌, ◌%◌, ◌^◌, Bool, not, ◌&&◌, ◌||◌, ◌==◌, nat_le, length, if◌then◌else◌}
+use Rattle.std.specs.Prelude.{◌≤◌, IsTrue, ℕ, ◌+◌, ◌-◌, ◌*◌, ◌/◌, ◌%◌, ◌^◌, Bool, not, ◌&&◌, ◌||◌, ◌==◌, nat_le, length, if◌then◌else◌}
 use Rattle.pl_base.specs.Bytes.{word32, word64}
 use Rattle.pl_hash.specs.declared.table.Table.{Table}
 use Rattle.pl_hash.specs.declared.table.TheConstants.{NBUCKET, NCHAIN, SYMOFFSET, BLOOM_SIZE, BLOOM_SHIFT, SYSV_HEADER_SIZE, GNU_HEADER_SIZE, WORD_SIZE, BLOOM_WORD_SIZE, BLOOM_WORD_BITS}

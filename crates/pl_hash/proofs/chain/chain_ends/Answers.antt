@@ -1,6 +1,6 @@
-use Rattle.std.proofs.Common.{◌≡◌, ◌+◌, ◌-◌, sym, ◌∙◌}
+use Rattle.std.proofs.Common.{sym, ◌∙◌}
 use Rattle.pl_hash.specs.Chain.{chain}
-use Rattle.pl_hash.proofs.ChainLaws.{ends_within, walk_ended, walk_left, walk_more, walk_over, flipped}
+use Rattle.pl_hash.proofs.ChainLaws.{walk_ended, walk_left, walk_more, walk_over, flipped}
 use Rattle.pl_hash.proofs.chain.chain_ends.Goals as goal
 
 pub returns-in_default : goal.returns-in_default

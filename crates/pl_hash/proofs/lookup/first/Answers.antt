@@ -1,4 +1,3 @@
-use Rattle.std.proofs.Common.{◌≡◌}
 use Rattle.pl_hash.proofs.CandidateLaws.{candidates-distinct, candidate_below}
 use Rattle.pl_hash.proofs.lookup.first.Goals as goal
 

@@ -1,4 +1,4 @@
-use Rattle.std.proofs.Common.{◌≡◌, sym, ◌∙◌, ap, Some, None}
+use Rattle.std.proofs.Common.{sym, ◌∙◌, ap, Some}
 use Rattle.std.specs.Prelude.{IsSome}
 use Rattle.pl_hash.specs.Chain.{chain}
 use Rattle.pl_hash.specs.Candidates.{first_of}

@@ -1,4 +1,4 @@
-use Rattle.std.proofs.Common.{◌≡◌, sym, ◌∙◌, ap}
+use Rattle.std.proofs.Common.{◌≡◌, sym, ap}
 use Rattle.pl_hash.specs.Candidates.{candidates, first_of, rest_after}
 use Rattle.pl_hash.proofs.CandidateLaws.{IsLinked-from, goes_on, candidates-distinct, given_after, rest_from-next}
 use Rattle.pl_hash.proofs.lookup.next.Goals as goal
