@@ -281,3 +281,7 @@ rest_from_by xs (y ∷ zs) goes = ap (λ rest. y ∷ rest) (goes y zs refl)
 -- what is left from the symbol after one on is what comes after that one
 pub rest_from-next : (index : ℕ) (xs : List ℕ) → IsDistinct nat_eq xs → rest_from (first_of (rest_after index xs)) xs ≡ rest_after index xs
 rest_from-next index xs distinct = rest_from_by xs (rest_after index xs) (λ y zs e. after_next index y xs zs distinct e)
+
+-- the first from the following one on is the one after it
+pub next_is : (t : Table) (hash index : ℕ) → IsWellFormed t → IsTrue (is_candidate t hash index) → first_of (matching t hash (following t index)) ≡ first_of (rest_after index (candidates t hash))
+next_is t hash index formed given = ap first_of (sym (goes_on t hash index formed given).rest)

@@ -19,11 +19,13 @@ matching table hash start = filter (matches table hash) (unwrap_or (chain table 
 unfoldable pub candidates : Table → ℕ → List ℕ
 candidates table hash = if admits table hash then matching table hash (head table (hash % bucket_count table)) else []
 
+-- whether a hash leads to a symbol
 abbrev pub is_candidate : Table → ℕ → ℕ → Bool
 is_candidate table hash index = list_any (λ k. k == index) (candidates table hash)
 
 -- ---- one after the other
 
+-- the first, where there is one
 abbrev pub first_of : List ℕ → Option ℕ
 first_of [] = None
 first_of (x ∷ xs) = Some x

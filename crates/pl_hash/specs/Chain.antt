@@ -28,6 +28,7 @@ pub record IsLinked (table : Table) (index : ℕ) : Type 0 where
   pub below : index < table.symbols
   pub within : link_at table index + WORD_SIZE ≤ length table.words
 
+-- a symbol before the rest of its chain, where there is one
 abbrev pub with_first : ℕ → Option (List ℕ) → Option (List ℕ)
 with_first index None = None
 with_first index (Some rest) = Some (index ∷ rest)
@@ -58,6 +59,7 @@ pub record HasBuckets (table : Table) : Type 0 where
 unfoldable pub is_counted : Table → Bool
 is_counted table = if table.gnu then is_power_of_two (bloom_size table) else chain_count table == table.symbols
 
+-- each bucket is 0
 unfoldable pub has_empty_buckets : Table → Bool
 has_empty_buckets table = list_all (λ k. bucket table k == 0) (range_with_len 0 (bucket_count table))
 
@@ -69,6 +71,7 @@ has_links table = table.gnu && has_empty_buckets table || nat_le (link_at table 
 unfoldable pub chains_end : Table → Bool
 chains_end table = list_all (λ k. is_some (chain table (head table k))) (range_with_len 0 (bucket_count table))
 
+-- counts, buckets, links and chains stay in the table and below the count of symbols, and each chain ends
 unfoldable pub well_formed : Table → Bool
 well_formed table = has_header table && has_buckets table && is_counted table && has_links table && chains_end table
 
