@@ -28,7 +28,10 @@ fn load(
 {
     let alloc: Global = rt.alloc();
     assert!(rt; are_files(files));
-    let words = vec![in alloc; String::from_str(alloc, "--load")?, String::from_str(alloc, name)?]?;
+    let words = vec![in alloc;
+        String::from_str(alloc, "--load")?,
+        String::from_str(alloc, name)?,
+    ]?;
     let mut folder = MemoryFolder::new(alloc, files, folder_fails.to_vec(alloc)?, 100)?;
     let mut input = MemorySource::new(Vec::new(alloc), Vec::new(alloc));
     let mut output = MemorySink::new(alloc, 4096, sink_fails.to_vec(alloc)?, most)?;
@@ -64,7 +67,7 @@ fn refuses_by_the_first_cause(rt: HostRuntime) -> Result<(), Fail> {
     let files = vec![in alloc;
         (String::from_str(alloc, "t1")?, vec![in alloc; 0x7fu8]?),
         (String::from_str(alloc, "dynamic")?, dynamic),
-        (String::from_str(alloc, "cut")?, cut)
+        (String::from_str(alloc, "cut")?, cut),
     ]?;
     for (name, line) in [
         ("a", "refused NotThere a\n"),
@@ -92,7 +95,10 @@ fn answers_faults(rt: HostRuntime) -> Result<(), Fail> {
     assert_eq!(rt; text.as_slice(), b"".as_slice());
     assert_eq!(rt; status, Status::DiskFault);
     let Ran { status, text } = load(&rt, "-st", &files, &[0], &[], 4096)?;
-    assert_eq!(rt; text.as_slice(), b"usage: prelink MODE [OPTIONS] [NAME..]\n".as_slice());
+    assert_eq!(rt;
+        text.as_slice(),
+        b"usage: prelink MODE [OPTIONS] [NAME..]\n".as_slice()
+    );
     assert_eq!(rt; status, Status::Usage);
     Ok(())
 }
