@@ -62,11 +62,12 @@ fn only_nulls_follow(table: &[u8]) -> bool
 }
 
 /// Whether a table ends as it should: its size is a multiple of an entry's, it has an entry of tag DT_NULL, and no other entry stands after that one.
-#[tactic(auto, unfolding(crate::specs::Entries::is_ended))]
+#[tactic(auto, using(crate::proofs::EntryLaws::whole), unfolding(crate::specs::Entries::is_ended))]
 pub fn is_ended(table: &[u8]) -> bool
     requires { length table.now < 2 ^ 32 }
     ensures exact { result ≡ spec.is_ended table.now }
     ensures some { OnTrue result (0 < spec.null_count table.now) }
+    ensures whole { OnTrue result (spec.IsWhole table.now) }
 {
     table.len() % ENTRY_SIZE == 0 && null_count(table) > 0 && only_nulls_follow(table)
 }

@@ -1,8 +1,9 @@
-ghost use Rattle.std.specs.Prelude.{◌≡◌, ◌<◌, ◌^◌, length};
+ghost use Rattle.std.specs.Prelude.{◌≡◌, ◌+◌, ◌*◌, ◌<◌, ◌^◌, length, IfOk};
 ghost use Rattle.pl_base.specs.Answers.{Answers};
+ghost use Rattle.pl_dyn.specs.Entries.{AreEntries};
 ghost use Rattle.pl_dyn.specs.Read as spec;
 
-use crate::constants::DT_NEEDED;
+use crate::constants::{DT_NEEDED, ENTRY_SIZE};
 use crate::entries::{is_ended, null_count, tags};
 use crate::kinds::is_unknown;
 use crate::{DynFault, Dynamic, Tag};
@@ -23,7 +24,7 @@ fn first_unknown(tags: &[Tag]) -> Option<Tag>
     tags.iter().copied().find(|tag| is_unknown(tag.number))
 }
 
-// Each tag before the one that is found is another listed one or DT_NEEDED, which is not counted: so the rows are gone through at most 297 times.
+// No tag is counted twice, DT_NEEDED never, and all are listed by now: so this goes through the tags at most 295 times.
 #[tactic(auto, unfolding(crate::specs::Read::first_twice))]
 fn first_twice(tags: &[Tag]) -> Option<Tag>
     ensures { result ≡ spec.first_twice tags.now }
@@ -31,11 +32,13 @@ fn first_twice(tags: &[Tag]) -> Option<Tag>
     tags.iter().copied().find(|tag| tag.number != DT_NEEDED && stands_twice(tags, tag.number))
 }
 
-/// The tags of a dynamic table, or its first fault by acceptance clauses 9 to 11. Its time grows as the table's length.
-#[tactic(auto, unfolding(crate::specs::Read::read))]
+/// The tags of a dynamic table, or the first of acceptance clauses 9 to 11 that refuses it, as far as its bytes alone show. The time grows as the table's length.
+#[tactic(auto, using(crate::proofs::EntryLaws::are_entries), unfolding(crate::specs::Read::read))]
 pub fn read_dynamic(alloc: Global, table: &[u8]) -> Result<Dynamic, DynFault>
     requires { length table.now < 2 ^ 32 }
-    ensures { Answers spec.is_memory result (spec.read table.now) }
+    ensures exact { Answers spec.is_memory result (spec.read table.now) }
+    ensures places { IfOk result (λ dynamic. AreEntries table.now dynamic.tags) }
+    ensures whole { IfOk result (λ dynamic. ENTRY_SIZE * (length dynamic.tags + dynamic.spare + 1) ≡ length table.now) }
 {
     if !is_ended(table) {
         return Err(DynFault::NoEnd);
