@@ -7,7 +7,7 @@ use crate::constants::{
     VALUE_TAGS,
 };
 
-/// Whether a tag's value is an address, which moves with the file.
+/// Whether a tag is a listed one whose value is an address, which moves with the file. The prelink tags are none of them.
 #[tactic(auto, unfolding(crate::specs::Kinds::is_address_tag))]
 pub fn is_address_tag(number: u64) -> bool
     ensures { result ≡ spec.is_address_tag number }
@@ -15,7 +15,7 @@ pub fn is_address_tag(number: u64) -> bool
     ADDRESS_TAGS.iter().any(|tag| *tag == number)
 }
 
-/// Whether a tag's value is no address: a listed one, or any from DT_VALRNGLO to DT_VALRNGHI.
+/// Whether a tag is one whose value is no address: a listed one, or any from DT_VALRNGLO to DT_VALRNGHI, so also four of the prelink tags.
 #[tactic(auto, unfolding(crate::specs::Kinds::is_value_tag))]
 pub fn is_value_tag(number: u64) -> bool
     ensures { result ≡ spec.is_value_tag number }
@@ -57,7 +57,7 @@ pub fn is_listed(number: u64) -> bool
         || is_packed_tag(number)
 }
 
-/// Whether acceptance clause 10 refuses a tag.
+/// Whether acceptance clause 10 refuses a tag: it is of no kind, or a prelink tag that GNU counts among the addresses.
 #[tactic(auto, unfolding(crate::specs::Kinds::is_unknown))]
 pub fn is_unknown(number: u64) -> bool
     ensures { result ≡ spec.is_unknown number }

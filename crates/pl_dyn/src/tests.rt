@@ -1,5 +1,5 @@
 use crate::{
-    DynFault, Tag, entry, is_address_tag, is_ended, is_listed, is_packed_tag, is_prelink_tag,
+    DynFault, entry, is_address_tag, is_ended, is_listed, is_packed_tag, is_prelink_tag,
     is_value_tag, read_dynamic, tag,
 };
 use std::alloc::{AllocError, Global};
@@ -75,21 +75,11 @@ fn finds_tags(rt: HostRuntime) -> Result<(), Fail> {
     let alloc = rt.alloc();
     let table = bytes_of(alloc, &[1, 9, 5, 0x400, 1, 4, 0, 0, 0, 7])?;
     assert!(rt; table.len() == 80);
-    assert_eq!(rt;
-        entry(&table, 4),
-        Tag {
-            number: 0,
-            value: 7
-        }
-    );
-    let dynamic = read_dynamic(alloc, &table).unwrap();
-    assert_eq!(rt;
-        dynamic.tags.as_slice()[2],
-        Tag {
-            number: 1,
-            value: 4
-        }
-    );
+    let end = entry(&table, 4);
+    assert_eq!(rt; (end.number, end.value), (0, 7));
+    let dynamic = read_dynamic(alloc, &table).expect(&rt, "a table that is accepted");
+    let last = dynamic.tags.as_slice().last().copied();
+    assert_eq!(rt; last, Some(entry(&table, 2)));
     for (number, value) in [(1, Some(9)), (5, Some(0x400)), (6, None), (0, None)] {
         assert_eq!(rt; tag(&dynamic, number), value);
     }
