@@ -1,5 +1,5 @@
 -- How the entries of a table divide into tags and ends.
-use Rattle.std.proofs.Common.{◌≡◌, ℕ, suc, ◌+◌, ◌*◌, ◌/◌, ◌%◌, ◌<◌, List, [], ◌∷◌, Bool, true, ◌&&◌, refl, ap, sym, ◌∙◌, inl, inr, arith, length, drop, eqb, nat_lt, take, get_or, Some, slice_get}
+use Rattle.std.proofs.Common.{◌≡◌, ℕ, suc, ◌+◌, ◌/◌, ◌%◌, ◌<◌, List, [], ◌∷◌, Bool, true, ◌&&◌, refl, ap, sym, ◌∙◌, inl, inr, arith, length, drop, eqb, nat_lt, take, get_or, Some, slice_get}
 use Rattle.std.proofs.lemmas.Bool.{and_parts, cases_Bool, eqb-true}
 use Rattle.std.proofs.lemmas.List.{get_or-take}
 use Rattle.std.proofs.lemmas.List.Folds.{length-prefix_len}

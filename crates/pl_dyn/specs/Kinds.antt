@@ -1,5 +1,5 @@
 -- The lists that a tag may stand in (gABI chapter 5, "Dynamic Section"; GNU extensions).
-use Rattle.std.specs.Prelude.{ℕ, Bool, not, ◌&&◌, ◌||◌, ◌==◌, nat_le, List}
+use Rattle.std.specs.Prelude.{ℕ, Bool, not, ◌&&◌, ◌||◌, ◌==◌, nat_le}
 use Rattle.std.specs.List.{list_any}
 use Rattle.pl_dyn.specs.declared.constants.TheConstants.{ADDRESS_TAGS, VALUE_TAGS, PRELINK_TAGS, PACKED_TAGS, DT_VALRNGLO, DT_VALRNGHI, DT_ADDRRNGLO, DT_ADDRRNGHI}
 
