@@ -8,11 +8,8 @@ unfoldable pub is_address_tag : ℕ → Bool
 is_address_tag number = list_any (λ tag. tag == number) ADDRESS_TAGS
 
 -- a value that is no address
-unfoldable pub is_named_value_tag : ℕ → Bool
-is_named_value_tag number = list_any (λ tag. tag == number) VALUE_TAGS
-
 unfoldable pub is_value_tag : ℕ → Bool
-is_value_tag number = is_named_value_tag number || nat_le DT_VALRNGLO number && nat_le number DT_VALRNGHI
+is_value_tag number = list_any (λ tag. tag == number) VALUE_TAGS || nat_le DT_VALRNGLO number && nat_le number DT_VALRNGHI
 
 -- one of the six of a prelinked file
 unfoldable pub is_prelink_tag : ℕ → Bool

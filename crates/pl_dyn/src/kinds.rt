@@ -12,7 +12,7 @@ use crate::constants::{
 pub fn is_address_tag(number: u64) -> bool
     ensures { result ≡ spec.is_address_tag number }
 {
-    ADDRESS_TAGS.iter().any(|tag| *tag == number)
+    ADDRESS_TAGS.contains(&number)
 }
 
 /// Whether a tag is one whose value is no address: a listed one, or any from DT_VALRNGLO to DT_VALRNGHI, so also four of the prelink tags.
@@ -20,14 +20,7 @@ pub fn is_address_tag(number: u64) -> bool
 pub fn is_value_tag(number: u64) -> bool
     ensures { result ≡ spec.is_value_tag number }
 {
-    is_named_value_tag(number) || DT_VALRNGLO <= number && number <= DT_VALRNGHI
-}
-
-#[tactic(auto, unfolding(crate::specs::Kinds::is_named_value_tag))]
-fn is_named_value_tag(number: u64) -> bool
-    ensures { result ≡ spec.is_named_value_tag number }
-{
-    VALUE_TAGS.iter().any(|tag| *tag == number)
+    VALUE_TAGS.contains(&number) || (DT_VALRNGLO..=DT_VALRNGHI).contains(&number)
 }
 
 /// Whether a tag is one of the six of a prelinked file.
@@ -35,7 +28,7 @@ fn is_named_value_tag(number: u64) -> bool
 pub fn is_prelink_tag(number: u64) -> bool
     ensures { result ≡ spec.is_prelink_tag number }
 {
-    PRELINK_TAGS.iter().any(|tag| *tag == number)
+    PRELINK_TAGS.contains(&number)
 }
 
 /// Whether a tag is one of the three of packed relative relocations.
@@ -43,7 +36,7 @@ pub fn is_prelink_tag(number: u64) -> bool
 pub fn is_packed_tag(number: u64) -> bool
     ensures { result ≡ spec.is_packed_tag number }
 {
-    PACKED_TAGS.iter().any(|tag| *tag == number)
+    PACKED_TAGS.contains(&number)
 }
 
 /// Whether a tag is one of the four kinds. DT_NULL is none of them.
@@ -62,5 +55,5 @@ pub fn is_listed(number: u64) -> bool
 pub fn is_unknown(number: u64) -> bool
     ensures { result ≡ spec.is_unknown number }
 {
-    !is_listed(number) || is_prelink_tag(number) && DT_ADDRRNGLO <= number && number <= DT_ADDRRNGHI
+    !is_listed(number) || is_prelink_tag(number) && (DT_ADDRRNGLO..=DT_ADDRRNGHI).contains(&number)
 }

@@ -140,7 +140,7 @@ fn knows_the_lists(rt: HostRuntime) {
     let packed = [35, 36, 37];
     for number in (0..64).chain(0x6fff_fc00..0x7000_0100) {
         let is_address = address.contains(&number);
-        let is_value = value.contains(&number) || number >= 0x6fff_fd00 && number <= 0x6fff_fdff;
+        let is_value = value.contains(&number) || (0x6fff_fd00..=0x6fff_fdff).contains(&number);
         let is_prelink = prelink.contains(&number);
         let is_packed = packed.contains(&number);
         assert_eq!(rt; is_address_tag(number), is_address, "{number:x}");
