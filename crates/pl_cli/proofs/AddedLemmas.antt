@@ -1,13 +1,13 @@
 -- The lines of one piece more.
-use Rattle.std.proofs.Common.{◌≡◌, ℕ, zero, suc, ◌+◌, ◌-◌, ◌*◌, ◌/◌, ◌^◌, ◌<◌, ◌≤◌, max, true, List, [], ◌∷◌, ◌++◌, length, get_or, map, drop, Option, refl, sym, ap, subst, ◌∙◌, append_assoc, arith}
+use Rattle.std.proofs.Common.{◌≡◌, ℕ, ◌+◌, ◌-◌, ◌*◌, ◌/◌, ◌^◌, ◌<◌, ◌≤◌, max, true, List, [], ◌++◌, length, get_or, map, drop, Option, sym, ap, subst, ◌∙◌, append_assoc, arith}
 use Rattle.std.proofs.lemmas.List.{append-nil}
 use Rattle.pl_base.specs.Memory.{Memory}
 use Rattle.pl_base.specs.Streams.{got_after, GotPrefix}
 use Rattle.pl_base.proofs.StreamLaws.{GotPrefix-more}
 use Rattle.pl_cli.specs.declared.piece.Piece.{Piece}
-use Rattle.pl_cli.specs.Image.{piece_of, memory_of, byte_in, ascends, IsRest, words_end}
-use Rattle.pl_cli.specs.Lines.{lines_from, word_lines, Passes}
-use Rattle.pl_cli.proofs.LineLemmas.{IsClear, lines_none, lines_clear, lines_between}
+use Rattle.pl_cli.specs.Image.{piece_of, memory_of, ascends, IsRest, words_end}
+use Rattle.pl_cli.specs.Lines.{lines_from, Passes}
+use Rattle.pl_cli.proofs.LineLemmas.{IsClear, lines_clear, lines_between}
 use Rattle.pl_cli.proofs.RestLemmas.{piece_limit, rest_more, rest_clear, rest_done, words_end_past}
 use Rattle.pl_cli.proofs.PassLemmas.{passes_none, passes_more, stopped_behind, got_all}
 

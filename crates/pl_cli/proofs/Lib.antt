@@ -11,3 +11,5 @@ pub mod BoundLemmas
 pub mod NameLemmas
 pub mod PartLemmas
 pub mod OutcomeLemmas
+pub mod MaskLemmas
+pub mod ProgramLemmas

@@ -1,9 +1,9 @@
 -- The lines of words one after the other.
-use Rattle.std.proofs.Common.{◌≡◌, ◌≤◌, ◌<◌, ℕ, zero, suc, ◌+◌, ◌-◌, ◌*◌, List, [], ◌++◌, refl, sym, ap, ◌∙◌, append_assoc, add-one, add-zero, add-suc, subst, arith}
+use Rattle.std.proofs.Common.{◌≡◌, ◌≤◌, ◌<◌, ℕ, zero, suc, ◌+◌, ◌-◌, ◌*◌, [], ◌++◌, refl, sym, ap, ◌∙◌, append_assoc, add-one, add-zero, add-suc, arith}
 use Rattle.std.proofs.lemmas.List.{append-nil}
 use Rattle.pl_base.specs.Memory.{Memory}
 use Rattle.pl_cli.specs.Image.{byte_in, word_in}
-use Rattle.pl_cli.specs.Lines.{word_text, unless_zero, word_line, lines_from}
+use Rattle.pl_cli.specs.Lines.{word_line, lines_from}
 use Rattle.pl_cli.proofs.PieceLemmas.{zero_word}
 
 -- from one address up to another the memory has no byte but 0

@@ -1,6 +1,6 @@
 -- The pieces of accepted segments ascend.
-use Rattle.std.proofs.Common.{◌≡◌, ℕ, ◌+◌, ◌^◌, ◌<◌, ◌≤◌, Bool, true, false, List, [], ◌∷◌, length, take, drop, map, refl, sym, ap, ◌∙◌, arith}
-use Rattle.std.specs.Prelude.{◌||◌, ◌&&◌, not, nat_le, nat_lt}
+use Rattle.std.proofs.Common.{◌≡◌, ℕ, ◌+◌, ◌≤◌, true, false, List, [], ◌∷◌, length, drop, refl, arith}
+use Rattle.std.specs.Prelude.{◌||◌, nat_le, nat_lt}
 use Rattle.std.specs.List.{list_any}
 use Rattle.std.proofs.lemmas.Bool.{or_parts, and_parts}
 use Rattle.std.proofs.lemmas.Bool.Decides.{nat_tests}
@@ -13,7 +13,7 @@ use Rattle.pl_cli.specs.Static.{loaded_pieces}
 use Rattle.pl_cli.specs.Image.{ascends}
 
 -- a load that is not refused has room for its bytes, and ends within the limit
-load_fits : (s : Segment) → bad_load s ≡ false → (s.filesz ≤ s.memsz) × (s.vaddr + s.memsz ≤ ADDRESS_LIMIT)
+pub load_fits : (s : Segment) → bad_load s ≡ false → (s.filesz ≤ s.memsz) × (s.vaddr + s.memsz ≤ ADDRESS_LIMIT)
 unfolding bad_load
 load_fits s h =
     let p1 = or_parts (((nat_lt s.memsz s.filesz || bad_align s.align) || nat_lt MAX_LOAD_ALIGN s.align) || not_congruent s) (nat_lt ADDRESS_LIMIT (s.vaddr + s.memsz)) h in

@@ -1,5 +1,5 @@
 -- What an outcome says of its status.
-use Rattle.std.proofs.Common.{◌≡◌, List, ℕ, Bool, true, false, Option, sym, ap, subst, ◌∙◌}
+use Rattle.std.proofs.Common.{◌≡◌, List, ℕ, Bool, true, Option, sym, subst}
 use Rattle.pl_base.specs.Streams.{got_after, GotPrefix}
 use Rattle.pl_base.proofs.StreamLaws.{GotPrefix-all, GotPrefix-none}
 use Rattle.pl_cli.specs.declared.status.Status.{Status}

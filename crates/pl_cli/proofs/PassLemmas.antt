@@ -1,8 +1,8 @@
 -- Bytes that pass through a buffer into a sink.
-use Rattle.std.proofs.Common.{◌≡◌, ℕ, List, [], ◌++◌, Option, refl, sym, ap, ◌∙◌, append_assoc, subst}
+use Rattle.std.proofs.Common.{◌≡◌, ℕ, List, [], ◌++◌, Option, sym, ap, ◌∙◌, append_assoc, subst}
 use Rattle.std.proofs.lemmas.List.{append-nil}
 use Rattle.pl_base.specs.Streams.{got_after, GotPrefix}
-use Rattle.pl_base.proofs.StreamLaws.{got_after-nil, got_after-got_after, GotPrefix-behind, GotPrefix-more}
+use Rattle.pl_base.proofs.StreamLaws.{got_after-nil, got_after-got_after, GotPrefix-behind}
 use Rattle.pl_cli.specs.Lines.{Passes}
 
 -- no bytes

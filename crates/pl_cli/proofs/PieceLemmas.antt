@@ -1,11 +1,10 @@
 -- The memory of pieces that ascend.
-use Rattle.std.proofs.Common.{◌≡◌, ℕ, zero, suc, ◌+◌, ◌-◌, ◌*◌, ◌<◌, ◌≤◌, ◌^◌, Bool, true, false, List, [], ◌∷◌, length, get_or, drop, map, Option, Some, None, refl, sym, ap, subst, ◌∙◌, arith, inl, inr}
-use Rattle.std.specs.Prelude.{◌&&◌, ◌⊎◌, slice_index, nat_le, nat_lt}
-use Rattle.std.specs.Option.{unwrap_or}
+use Rattle.std.proofs.Common.{◌≡◌, ℕ, zero, suc, ◌+◌, ◌-◌, ◌<◌, ◌≤◌, ◌^◌, true, false, List, [], ◌∷◌, length, get_or, drop, Option, Some, None, refl, arith, inl, inr}
+use Rattle.std.specs.Prelude.{slice_index, nat_le}
 use Rattle.std.specs.List.{find}
-use Rattle.std.proofs.lemmas.Bool.{cases_Bool, false≢true, and_parts}
+use Rattle.std.proofs.lemmas.Bool.{cases_Bool, and_parts}
 use Rattle.std.proofs.lemmas.Bool.Decides.{nat_tests}
-use Rattle.std.proofs.lemmas.List.{get_or-drop, get_or_past}
+use Rattle.std.proofs.lemmas.List.{get_or_past}
 use Rattle.pl_base.specs.Bytes.{word64}
 use Rattle.pl_base.specs.Memory.{Memory, layered, read, lies, is_within, byte_at}
 use Rattle.pl_base.specs.Memory as memory

@@ -1,5 +1,5 @@
 -- Pieces that ascend, one after the other: from an address on the memory is that of the pieces left.
-use Rattle.std.proofs.Common.{◌≡◌, ℕ, zero, suc, ◌+◌, ◌-◌, ◌*◌, ◌/◌, ◌%◌, ◌^◌, ◌<◌, ◌≤◌, true, List, [], ◌∷◌, length, get_or, map, drop, Option, Some, None, refl, sym, ap, subst, ◌∙◌, arith}
+use Rattle.std.proofs.Common.{◌≡◌, ℕ, zero, suc, ◌+◌, ◌*◌, ◌^◌, ◌<◌, ◌≤◌, true, List, [], ◌∷◌, length, get_or, map, drop, Option, ap, subst, ◌∙◌, arith}
 use Rattle.std.specs.Option.{unwrap_or}
 use Rattle.std.proofs.lemmas.Bool.Decides.{nat_tests}
 use Rattle.std.proofs.lemmas.List.{drop_more, drop_all}
@@ -7,7 +7,7 @@ use Rattle.pl_base.specs.Memory.{Memory, layered}
 use Rattle.pl_base.specs.Memory as memory
 use Rattle.pl_cli.specs.declared.piece.Piece.{Piece}
 use Rattle.pl_cli.specs.Image.{piece_of, memory_of, byte_in, ascends, IsRest, words_end}
-use Rattle.pl_cli.proofs.PieceLemmas.{Ascends, ascends_parts, layered_below, byte_past}
+use Rattle.pl_cli.proofs.PieceLemmas.{ascends_parts, layered_below, byte_past}
 use Rattle.pl_cli.proofs.LineLemmas.{IsClear}
 
 -- pieces that ascend from an address ascend from the first one's start

@@ -1,7 +1,7 @@
 -- Lines of words that pass through a buffer, one more and all.
-use Rattle.std.proofs.Common.{◌≡◌, ℕ, ◌+◌, ◌-◌, ◌*◌, ◌<◌, ◌≤◌, List, [], ◌++◌, Option, refl, sym, ap, subst, ◌∙◌, arith}
+use Rattle.std.proofs.Common.{◌≡◌, ℕ, ◌+◌, ◌-◌, ◌*◌, ◌≤◌, List, [], ◌++◌, Option, sym, ap, subst, ◌∙◌, arith}
 use Rattle.pl_base.specs.Memory.{Memory}
-use Rattle.pl_base.specs.Streams.{got_after, GotPrefix}
+use Rattle.pl_base.specs.Streams.{GotPrefix}
 use Rattle.pl_base.proofs.StreamLaws.{GotPrefix-more}
 use Rattle.pl_cli.specs.Image.{word_in}
 use Rattle.pl_cli.specs.Lines.{unless_zero, word_line, lines_from, Passes}

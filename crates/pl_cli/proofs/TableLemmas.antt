@@ -1,6 +1,5 @@
 -- Windows that are cleared one after the other.
-use Rattle.std.proofs.Common.{◌≡◌, inl, inr, ℕ, ◌+◌, ◌-◌, ◌<◌, ◌≤◌, min, Bool, true, false, cond, List, [], ◌∷◌, ◌++◌, length, get_or, take, drop, map, replicate, zero, suc, append_assoc, refl, sym, ap, ◌∙◌, arith}
-use Rattle.std.specs.Prelude.{filter}
+use Rattle.std.proofs.Common.{◌≡◌, inl, inr, ℕ, ◌+◌, ◌-◌, ◌<◌, ◌≤◌, min, List, [], ◌∷◌, ◌++◌, length, get_or, take, drop, replicate, zero, suc, append_assoc, refl, sym, ap, ◌∙◌, arith}
 use Rattle.std.proofs.lemmas.Bool.{cases_Bool}
 use Rattle.std.proofs.lemmas.List.{drop_more, drop_all, drop-drop, append-nil, length-take, length-drop, length-replicate}
 use Rattle.std.proofs.Math.Seq.{take_all}
@@ -8,7 +7,8 @@ use borrow.Rule.Slice.PartMut.{put_mid, mid_of}
 use Rattle.pl_base.specs.Bytes.{part, put}
 use Rattle.pl_base.specs.Windows.{on}
 use Rattle.pl_elf.specs.declared.section.Section.{Section}
-use Rattle.pl_cli.specs.Static.{cleared, all_cleared, symbol_windows, symbols_cleared, is_symbol_table}
+use Rattle.pl_cli.specs.Static.{symbol_windows, is_symbol_table}
+use Rattle.pl_cli.specs.Cleared.{cleared, all_cleared, symbols_cleared}
 
 module _ (sections : List Section) (i : ℕ) (bytes : List ℕ) where
   pub symbols_more : (d : Section) (new whole : List ℕ) → i < length sections → new ≡ symbols_cleared (get_or sections i d) bytes → all_cleared (symbol_windows (drop i sections)) bytes ≡ whole

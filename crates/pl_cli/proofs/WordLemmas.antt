@@ -1,12 +1,12 @@
 -- A word that lies in one piece.
-use Rattle.std.proofs.Common.{◌≡◌, ℕ, ◌+◌, ◌-◌, ◌<◌, ◌≤◌, true, List, length, get_or, map, drop, Some, Option, refl, sym, ap, subst, ◌∙◌, arith}
+use Rattle.std.proofs.Common.{◌≡◌, ℕ, ◌+◌, ◌-◌, ◌<◌, ◌≤◌, true, List, length, get_or, map, drop, Some, Option, sym, ap, ◌∙◌, arith}
 use Rattle.std.specs.Prelude.{slice_index}
 use Rattle.std.specs.Option.{unwrap_or}
 use Rattle.std.proofs.lemmas.List.{get_or-drop, get_or-map, length-map}
 use Rattle.pl_base.specs.Bytes.{word64}
-use Rattle.pl_base.specs.Memory.{layered, byte_at}
+use Rattle.pl_base.specs.Memory.{byte_at}
 use Rattle.pl_cli.specs.declared.piece.Piece.{Piece}
-use Rattle.pl_cli.specs.Image.{piece_of, memory_of, byte_in, word_in, ascends}
+use Rattle.pl_cli.specs.Image.{piece_of, memory_of, word_in, ascends}
 use Rattle.pl_cli.proofs.PieceLemmas.{word_by, layered_at}
 
 pub word_within : (pieces : List Piece) (index address : ℕ) (piece : Piece) → ascends 0 (map piece_of pieces) ≡ true → index < length pieces → piece ≡ get_or pieces index piece → piece.start ≤ address → address + 8 ≤ piece.start + length piece.bytes.items

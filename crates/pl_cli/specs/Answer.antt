@@ -5,14 +5,13 @@ use Rattle.std.specs.Str.{bytes_eq}
 use Rattle.std.specs.Fmt.{decimal}
 use Rattle.pl_base.specs.Digits.{hex16, line}
 use Rattle.pl_base.specs.Files.{Files}
-use Rattle.pl_base.specs.Memory.{Piece, layered}
 use Rattle.pl_base.specs.Sums.{round_down, round_up}
 use Rattle.pl_cli.specs.declared.status.Status.{Status}
 use Rattle.pl_cli.specs.declared.status.Status.TheVariants as statuses
 use Rattle.pl_cli.specs.declared.cause.Cause.{Cause}
 use Rattle.pl_cli.specs.declared.cause.Cause.TheVariants.{BadName, NotThere, NotYet, Refused}
 use Rattle.pl_cli.specs.declared.text.TheConstants.{PAGE}
-use Rattle.pl_cli.specs.Static.{Program, lowest, highest}
+use Rattle.pl_cli.specs.Static.{Program}
 use Rattle.pl_cli.specs.Lines.{word_lines}
 use Rattle.pl_cli.specs.Load.{loaded}
 
@@ -28,19 +27,19 @@ load_name words = None
 abbrev pub newline : List ℕ
 newline = 10 ∷ []
 
--- the path, the bounds of the object, and the entry
+-- three lines: the path, the bounds of the object, and the entry
 unfoldable pub head_text : List ℕ → Program → List ℕ
 head_text name program =
     line (
     codes "slow" ∷ newline
-    ∷ codes "object " ∷ hex16 (round_down (lowest program.pieces) PAGE) ∷ codes " " ∷ hex16 (round_up (highest program.pieces) PAGE) ∷ codes " " ∷ name ∷ newline
+    ∷ codes "object " ∷ hex16 (round_down program.start PAGE) ∷ codes " " ∷ hex16 (round_up program.end PAGE) ∷ codes " " ∷ name ∷ newline
     ∷ codes "entry " ∷ hex16 program.entry ∷ [])
 
 abbrev pub end_text : List ℕ
 end_text = line (codes "end" ∷ [])
 
 unfoldable pub load_text : List ℕ → Program → List ℕ
-load_text name program = head_text name program ++ word_lines (layered program.pieces) ++ end_text
+load_text name program = head_text name program ++ word_lines program.image ++ end_text
 
 unfoldable pub refusal : List ℕ → Cause → List ℕ
 refusal name BadName = line (codes "refused BadName" ∷ [])

@@ -1,5 +1,5 @@
 -- The image of a program in pieces, and its words.
-use Rattle.std.specs.Prelude.{◌≡◌, ℕ, ◌+◌, ◌*◌, ◌/◌, ◌^◌, ◌≤◌, Bool, true, ◌&&◌, List, [], ◌∷◌, length, map, nat_le}
+use Rattle.std.specs.Prelude.{◌≡◌, ℕ, ◌+◌, ◌/◌, ◌≤◌, Bool, true, ◌&&◌, List, [], ◌∷◌, length, map, fold, min, max, nat_le}
 use Rattle.std.specs.Option.{unwrap_or}
 use Rattle.pl_base.specs.Bytes.{word64}
 use Rattle.pl_base.specs.Memory.{Memory, layered, read}
@@ -17,12 +17,19 @@ piece_of piece = record { start = piece.start; size = piece.size; bytes = piece.
 abbrev pub lies_in : ℕ → Piece → Bool
 lies_in address piece = memory.lies address (piece_of piece)
 
--- what a program loads
-abbrev pub program : Program → static.Program
-program p = record { entry = p.entry; pieces = map piece_of p.pieces.items }
-
 unfoldable pub memory_of : List Piece → Memory
 memory_of pieces = layered (map piece_of pieces)
+
+-- the lowest address of pieces, and the highest end
+unfoldable pub lowest_start : List memory.Piece → ℕ
+lowest_start pieces = fold (λ least piece. min least piece.start) ADDRESS_LIMIT pieces
+
+unfoldable pub highest_end : List memory.Piece → ℕ
+highest_end pieces = fold (λ most piece. max most (piece.start + piece.size)) 0 pieces
+
+-- what a program loads
+abbrev pub program : Program → static.Program
+program p = record { entry = p.entry; start = lowest_start (map piece_of p.pieces.items); end = highest_end (map piece_of p.pieces.items); image = memory_of p.pieces.items }
 
 -- the byte at an address, 0 where there is none
 abbrev pub byte_in : Memory → ℕ → ℕ

@@ -1,6 +1,7 @@
 pub mod Image
 pub mod Lines
 pub mod Static
+pub mod Cleared
 pub mod Statuses
 pub mod Load
 pub mod Answer

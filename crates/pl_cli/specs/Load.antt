@@ -1,11 +1,10 @@
 -- A static program of a folder's files by its name, or the first cause why there is none.
-use Rattle.std.specs.Prelude.{ℕ, Bool, ◌||◌, not, List, length, nat_lt, Result, Ok, Err}
+use Rattle.std.specs.Prelude.{ℕ, Bool, ◌||◌, not, List, length, nat_lt, Option, Some, None, Result, Ok, Err}
+use Rattle.std.specs.FinMap.{get}
 use Rattle.pl_base.specs.Answers.{◌>>=◌, unless, because}
 use Rattle.pl_base.specs.Files.{Files}
 use Rattle.pl_base.specs.Names.{is_valid_name}
-use Rattle.pl_folder.specs.Taken.{taken}
-use Rattle.pl_folder.specs.declared.fault.FolderFault.{FolderFault}
-use Rattle.pl_folder.specs.declared.fault.FolderFault.TheVariants as folder_faults
+use Rattle.pl_folder.specs.declared.TheConstants.{STORED}
 use Rattle.pl_elf.specs.declared.constants.TheConstants.{PT_DYNAMIC, PT_TLS}
 use Rattle.pl_elf.specs.declared.header.Header.{Header}
 use Rattle.pl_elf.specs.declared.segment.Segment.{Segment}
@@ -32,9 +31,10 @@ of_header fault = NotYet
 unfoldable pub program_in : List ℕ → Result Program Cause
 program_in bytes = because of_header (read bytes) >>= static_program bytes
 
-abbrev pub of_folder : FolderFault → Cause
-of_folder folder_faults.TooLarge = NotYet
-of_folder fault = NotThere
+-- a file that was looked up by its name
+abbrev pub in_file : Option (List ℕ) → Result Program Cause
+in_file None = Err NotThere
+in_file (Some bytes) = unless (nat_lt STORED (length bytes)) NotYet (program_in bytes)
 
 unfoldable pub loaded : Files → List ℕ → Result Program Cause
-loaded files name = unless (not (is_valid_name name)) BadName (because of_folder (taken files name) >>= program_in)
+loaded files name = unless (not (is_valid_name name)) BadName (in_file (get files name))

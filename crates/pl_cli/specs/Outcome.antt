@@ -1,5 +1,5 @@
 -- What came of a load and of a run, by cases.
-use Rattle.std.specs.Prelude.{◌≡◌, ◌⊎◌, ℕ, Bool, true, List, Result, Ok, Err, Option, ⊤}
+use Rattle.std.specs.Prelude.{◌≡◌, ◌≢◌, ◌⊎◌, ℕ, Bool, true, List, Result, Ok, Err, Option, Some, None, ⊤}
 use Rattle.pl_base.specs.Streams.{got_after, GotPrefix}
 use Rattle.pl_folder.specs.declared.fault.FolderFault.{FolderFault}
 use Rattle.pl_folder.specs.declared.fault.FolderFault.TheVariants as folder_faults
@@ -7,12 +7,12 @@ use Rattle.pl_cli.specs.declared.status.Status.{Status}
 use Rattle.pl_cli.specs.declared.status.Status.TheVariants as statuses
 use Rattle.pl_cli.specs.declared.cause.Cause.{Cause}
 use Rattle.pl_cli.specs.declared.cause.Cause.TheVariants.{NotThere, NotYet}
-use Rattle.pl_cli.specs.declared.cause.Stop.{Stop}
-use Rattle.pl_cli.specs.declared.cause.Stop.TheVariants as stops
+use Rattle.pl_cli.specs.declared.stop.Stop.{Stop}
+use Rattle.pl_cli.specs.declared.stop.Stop.TheVariants as stops
 use Rattle.pl_cli.specs.declared.program.Program as program
 use Rattle.pl_cli.specs.Image.{program}
 use Rattle.pl_cli.specs.Static.{Program}
-use Rattle.pl_cli.specs.Answer.{Answer}
+use Rattle.pl_cli.specs.Answer.{Answer, usage}
 
 -- Why a load stopped: at a fault of the folder its count rose; a want of memory may come at any time; a cause is the one that the files mean, if the folder tells them.
 abbrev pub Stops : Bool → Result Program Cause → Type 0 → Stop → Type 0
@@ -43,6 +43,11 @@ IsPart tells answer old new = tells ≡ true → GotPrefix old new answer.text
 -- a text was written whole and the run ended so, or the output failed in it
 abbrev pub Ends : Status → List ℕ → Type 0 → Option (List ℕ) → Option (List ℕ) → Status → Type 0
 Ends status text sink old new result = ((result ≡ status) × (new ≡ got_after old text)) ⊎ ((result ≡ statuses.WriteFault) × sink × GotPrefix old new text)
+
+-- Words that are no command, which give no name: the usage line was written whole or the output failed in it, and the folder is as it was. Other words never end with the usage line.
+abbrev pub IsUsage : Option (List ℕ) → Type 0 → Option (List ℕ) → Option (List ℕ) → Status → Type 0
+IsUsage None same old new result = same × (((result ≡ statuses.Usage) × (new ≡ got_after old usage)) ⊎ ((result ≡ statuses.WriteFault) × GotPrefix old new usage))
+IsUsage (Some name) same old new result = result ≢ statuses.Usage
 
 -- What came of a run, by its status. disk and sink say that the count of the folder and of the sink rose.
 abbrev pub IsOutcome : Bool → Answer → Type 0 → Type 0 → Option (List ℕ) → Option (List ℕ) → Status → Type 0

@@ -1,8 +1,9 @@
 -- What a static program loads: the file bytes and zeros of its PT_LOADs, with 0 at each byte of a link table.
-use Rattle.std.specs.Prelude.{◌≡◌, ℕ, ◌+◌, ◌*◌, min, max, Bool, List, [], ◌∷◌, length, map, filter, fold, replicate, ◌==◌, if◌then◌else◌}
+use Rattle.std.specs.Prelude.{ℕ, ◌+◌, ◌-◌, ◌*◌, min, max, Bool, ◌&&◌, List, ◌∷◌, map, filter, fold, ◌==◌}
+use Rattle.std.specs.List.{list_any}
 use Rattle.pl_base.specs.Bytes.{part}
-use Rattle.pl_base.specs.Memory.{Piece}
-use Rattle.pl_base.specs.Windows.{Window, on}
+use Rattle.pl_base.specs.Memory.{Memory, Piece, is_within, layered, shown}
+use Rattle.pl_base.specs.Windows.{Window, holds}
 use Rattle.pl_elf.specs.declared.constants.TheConstants.{HEADER_SIZE, SEGMENT_SIZE, SHT_SYMTAB, ADDRESS_LIMIT}
 use Rattle.pl_elf.specs.declared.header.Header.{Header}
 use Rattle.pl_elf.specs.declared.segment.Segment.{Segment}
@@ -29,43 +30,44 @@ symbol_windows ss = map section_window (filter is_symbol_table ss)
 abbrev pub table_windows : Header → List Section → List Window
 table_windows h ss = header_window ∷ segments_window h ∷ symbol_windows ss
 
--- ---- a file without them
-
--- zeros for the bytes of a window
-unfoldable pub cleared : Window → List ℕ → List ℕ
-cleared window bytes = on window (λ xs. replicate (length xs) 0) bytes
-
-abbrev pub symbols_cleared : Section → List ℕ → List ℕ
-symbols_cleared s bytes = if is_symbol_table s then cleared (section_window s) bytes else bytes
-
-unfoldable pub all_cleared : List Window → List ℕ → List ℕ
-all_cleared [] bytes = bytes
-all_cleared (window ∷ windows) bytes = all_cleared windows (cleared window bytes)
-
-unfoldable pub without_tables : List ℕ → Header → List ℕ
-without_tables bytes h = all_cleared (table_windows h (sections bytes h)) bytes
-
 -- ---- memory
 
+-- what a segment loads: its file bytes from its address on, then zeros
 abbrev pub loaded_piece : List ℕ → Segment → Piece
 loaded_piece bytes s = record { start = s.vaddr; size = s.memsz; bytes = part s.offset s.filesz bytes }
 
 abbrev pub loaded_pieces : List ℕ → List Segment → List Piece
 loaded_pieces bytes ss = map (loaded_piece bytes) ss
 
--- a program as it is loaded
-pub record Program : Type 0 where
-  pub entry : ℕ
-  pub pieces : List Piece
+-- whether a segment loads at an address a file byte of one of the windows
+abbrev pub loads_from : List Window → ℕ → Segment → Bool
+loads_from windows address s = is_within s.vaddr s.filesz address && list_any (holds (s.offset + (address - s.vaddr))) windows
 
-unfoldable pub program_of : List ℕ → Header → Program
-program_of bytes h = record { entry = h.entry; pieces = loaded_pieces (without_tables bytes h) (loads (segments bytes h)) }
+-- an address is masked where a file byte of a link table is loaded
+unfoldable pub is_masked : List Window → List Segment → ℕ → Bool
+is_masked windows ss address = list_any (loads_from windows address) ss
+
+-- the image: what the segments load, and 0 at each masked byte
+unfoldable pub image_of : List ℕ → List Window → List Segment → Memory
+image_of bytes windows ss = let memory = layered (loaded_pieces bytes ss) in shown memory (is_masked windows ss) memory
 
 -- ---- bounds
 
--- the lowest address of the pieces, and the highest end
-unfoldable pub lowest : List Piece → ℕ
-lowest pieces = fold (λ least piece. min least piece.start) ADDRESS_LIMIT pieces
+-- the lowest address of the segments, and the highest end
+unfoldable pub lowest : List Segment → ℕ
+lowest ss = fold (λ least s. min least s.vaddr) ADDRESS_LIMIT ss
 
-unfoldable pub highest : List Piece → ℕ
-highest pieces = fold (λ most piece. max most (piece.start + piece.size)) 0 pieces
+unfoldable pub highest : List Segment → ℕ
+highest ss = fold (λ most s. max most (s.vaddr + s.memsz)) 0 ss
+
+-- ---- a program as it is loaded: where it starts, its bounds, and its memory
+
+pub record Program : Type 0 where
+  pub entry : ℕ
+  pub start : ℕ
+  pub end : ℕ
+  pub image : Memory
+
+unfoldable pub program_of : List ℕ → Header → Program
+program_of bytes h = let ss = loads (segments bytes h) in
+    record { entry = h.entry; start = lowest ss; end = highest ss; image = image_of bytes (table_windows h (sections bytes h)) ss }

@@ -2,17 +2,20 @@
 #![tactic(auto)]
 
 mod cause;
+mod image_text;
 mod lines;
 mod load;
 mod piece;
 mod program;
 mod status;
+mod stop;
 mod tables;
 mod text;
 mod top;
 mod words;
-mod words_out;
 mod write;
+mod write_stop;
 
+pub use load::ORIGINAL;
 pub use status::Status;
 pub use top::run;

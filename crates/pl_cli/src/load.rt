@@ -7,8 +7,9 @@ ghost use Rattle.pl_cli.specs.Image as image;
 ghost use Rattle.pl_cli.specs.Load as spec;
 ghost use Rattle.pl_cli.specs.Outcome.{Means, Stops};
 
-use crate::cause::{Cause, Stop};
+use crate::cause::Cause;
 use crate::program::{Program, load_program};
+use crate::stop::Stop;
 use pl_elf::constants::{PT_DYNAMIC, PT_TLS};
 use pl_elf::{Header, Segment, count_of_kind, read_header, read_segments};
 use pl_folder::Folder;

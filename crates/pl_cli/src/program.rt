@@ -2,6 +2,7 @@
 ghost use Rattle.std.specs.Prelude.{◌≡◌, length, map, true, Ok, IfOk};
 ghost use Rattle.pl_elf.specs.Headers as elf;
 ghost use Rattle.pl_elf.specs.Clauses.{AreLoads};
+ghost use Rattle.pl_cli.specs.Cleared.{all_cleared};
 ghost use Rattle.pl_cli.specs.Image as image;
 ghost use Rattle.pl_cli.specs.Static as spec;
 
@@ -42,11 +43,32 @@ fn load_pieces(alloc: Global, bytes: &[u8], loads: &[Segment]) -> Result<Vec<Pie
     Ok(pieces)
 }
 
-/// Loads a static program of its file and its segments.
-#[tactic(auto, using(crate::proofs::LoadedLemmas::pieces_ascend), unfolding(crate::specs::Static::program_of, crate::specs::Static::without_tables))]
-pub fn load_program(
+/// Loads the segments of a copy of the file that has zeros in its link tables.
+fn load_cleared(
     alloc: Global,
     mut bytes: Vec<u8>,
+    header: &Header,
+    segments: &[Segment],
+) -> Result<Program, AllocError>
+    requires { elf.HasSections bytes.items header.now }
+    ensures entry { IfOk result (λ program. program.entry ≡ header.now.entry) }
+    ensures pieces { IfOk result (λ program. map image.piece_of program.pieces.items
+        ≡ spec.loaded_pieces (all_cleared (spec.table_windows header.now (elf.sections bytes.items header.now)) bytes.items) (elf.loads segments.now)) }
+{
+    let sections = read_sections(alloc, &bytes, header)?;
+    let loads = loads(alloc, segments)?;
+    clear_tables(&mut bytes, header, &sections);
+    Ok(Program {
+        entry: header.entry,
+        pieces: load_pieces(alloc, &bytes, &loads)?,
+    })
+}
+
+/// Loads a static program of its file and its segments.
+#[tactic(auto, using(crate::proofs::ProgramLemmas::program_loaded, crate::proofs::LoadedLemmas::pieces_ascend))]
+pub fn load_program(
+    alloc: Global,
+    bytes: Vec<u8>,
     header: &Header,
     segments: &[Segment],
 ) -> Result<Program, AllocError>
@@ -56,11 +78,6 @@ pub fn load_program(
     ensures program { IfOk result (λ program. image.program program ≡ spec.program_of bytes.items header.now) }
     ensures ascends { IfOk result (λ program. image.ascends 0 (map image.piece_of program.pieces.items) ≡ true) }
 {
-    let sections = read_sections(alloc, &bytes, header)?;
-    let loads = loads(alloc, segments)?;
-    clear_tables(&mut bytes, header, &sections);
-    Ok(Program {
-        entry: header.entry,
-        pieces: load_pieces(alloc, &bytes, &loads)?,
-    })
+    let program = load_cleared(alloc, bytes, header, segments)?;
+    Ok(program)
 }

@@ -2,14 +2,14 @@
 ghost use Rattle.std.specs.Prelude.{◌≡◌, ◌≤◌, ◌<◌, ◌+◌, ◌^◌, length};
 ghost use Rattle.pl_base.specs.Windows.{Window};
 ghost use Rattle.pl_elf.specs.Headers.{sections};
-ghost use Rattle.pl_cli.specs.Static as spec;
+ghost use Rattle.pl_cli.specs.Cleared as spec;
+ghost use Rattle.pl_cli.specs.Static.{symbol_windows, table_windows};
 
-use pl_base::end;
 use pl_elf::constants::{HEADER_SIZE, SEGMENT_SIZE, SHT_SYMTAB};
 use pl_elf::{Header, Section};
 
 /// Writes zeros over size bytes from an offset on, as far as there are bytes.
-#[tactic(auto, unfolding(crate::specs::Static::cleared))]
+#[tactic(auto, unfolding(crate::specs::Cleared::cleared))]
 fn clear(bytes: &mut [u8], at: u64, size: u64)
     ensures { bytes.new ≡ spec.cleared (record { at = at; size = size }) bytes.old }
 {
@@ -30,7 +30,7 @@ fn clear_symbol_table(bytes: &mut [u8], section: &Section)
 
 /// Writes zeros over each symbol table.
 fn clear_symbols(bytes: &mut [u8], sections: &[Section])
-    ensures { bytes.new ≡ spec.all_cleared (spec.symbol_windows sections.now) bytes.old }
+    ensures { bytes.new ≡ spec.all_cleared (symbol_windows sections.now) bytes.old }
 {
     for section in sections {
         clear_symbol_table(bytes, section);
@@ -38,9 +38,9 @@ fn clear_symbols(bytes: &mut [u8], sections: &[Section])
 }
 
 /// Writes zeros over the ELF header, the program header table and each symbol table.
-#[tactic(auto, unfolding(crate::specs::Static::all_cleared))]
+#[tactic(auto, unfolding(crate::specs::Cleared::all_cleared))]
 pub fn clear_tables(bytes: &mut [u8], header: &Header, sections: &[Section])
-    ensures { bytes.new ≡ spec.all_cleared (spec.table_windows header.now sections.now) bytes.old }
+    ensures { bytes.new ≡ spec.all_cleared (table_windows header.now sections.now) bytes.old }
 {
     clear(bytes, 0, HEADER_SIZE as u64);
     clear(

@@ -2,7 +2,6 @@
 ghost use Rattle.std.specs.Prelude.{◌≡◌, ◌≤◌, ◌<◌, ◌^◌, map, true, IfOk, string_bytes};
 ghost use Rattle.pl_cli.specs.Answer as spec;
 ghost use Rattle.pl_cli.specs.Image as image;
-ghost use Rattle.pl_cli.specs.Static.{highest, lowest};
 
 use crate::cause::Cause;
 use crate::piece::Piece;
@@ -18,18 +17,18 @@ pub const PAGE: u64 = 4096;
 pub const USAGE: &[u8] = b"usage: prelink MODE [OPTIONS] [NAME..]\n";
 
 /// The lowest address of the pieces.
-#[tactic(auto, using(crate::proofs::BoundLemmas::lowest_of), unfolding(crate::specs::Static::lowest))]
+#[tactic(auto, using(crate::proofs::BoundLemmas::lowest_of), unfolding(crate::specs::Image::lowest_start))]
 fn lowest(pieces: &[Piece]) -> u64
-    ensures { result ≡ lowest (map image.piece_of pieces.now) }
+    ensures { result ≡ image.lowest_start (map image.piece_of pieces.now) }
 {
     pieces
         .iter()
         .fold(ADDRESS_LIMIT, |least, piece| least.min(piece.start))
 }
 
-#[tactic(auto, using(crate::proofs::BoundLemmas::highest_of), unfolding(crate::specs::Static::highest))]
+#[tactic(auto, using(crate::proofs::BoundLemmas::highest_of), unfolding(crate::specs::Image::highest_end))]
 fn highest_end(pieces: &[Piece]) -> u128
-    ensures { result ≡ highest (map image.piece_of pieces.now) }
+    ensures { result ≡ image.highest_end (map image.piece_of pieces.now) }
 {
     pieces.iter().fold(
         0,
@@ -41,7 +40,7 @@ fn highest_end(pieces: &[Piece]) -> u128
 #[tactic(auto, using(crate::proofs::BoundLemmas::highest_limit))]
 fn highest(pieces: &[Piece]) -> u64
     requires { image.ascends 0 (map image.piece_of pieces.now) ≡ true }
-    ensures value { result ≡ highest (map image.piece_of pieces.now) }
+    ensures value { result ≡ image.highest_end (map image.piece_of pieces.now) }
     ensures limit { result ≤ 2 ^ 47 }
 {
     highest_end(pieces) as u64

@@ -2,16 +2,17 @@
 ghost use Rattle.std.specs.Prelude.{◌≡◌, ◌≢◌, ◌≤◌, true, map, string_bytes};
 ghost use Rattle.pl_base.specs.Counts.{Rose};
 ghost use Rattle.pl_base.specs.Streams.{GotPrefix, got_after};
-ghost use Rattle.pl_cli.specs.Answer.{answer, is_answer, load_answer};
+ghost use Rattle.pl_cli.specs.Answer.{answer, is_answer, load_answer, load_name};
 ghost use Rattle.pl_cli.specs.Load.{loaded};
-ghost use Rattle.pl_cli.specs.Outcome.{IsOutcome, Ends};
+ghost use Rattle.pl_cli.specs.Outcome.{Ends, IsOutcome, IsUsage};
 
 use crate::Status;
-use crate::cause::{Stop, WriteStop};
 use crate::load::load;
+use crate::stop::Stop;
 use crate::text::{USAGE, refusal};
 use crate::words::load_name;
 use crate::write::write_program;
+use crate::write_stop::WriteStop;
 use pl_folder::Folder;
 use pl_io::{Sink, Source, write_all};
 use std::alloc::Global;
@@ -68,7 +69,7 @@ fn run_words<D: Folder, K: Sink>(
     ensures outcome { IsOutcome (D.tells_files folder.old) (answer (map string_bytes words.now) (D.files folder.old))
         (Rose (D.faults folder.old) (D.faults folder.new)) (Rose (K.faults output.old) (K.faults output.new))
         (K.written output.old) (K.written output.new) result }
-    ensures usage { result ≡ Status.Usage → folder.new ≡ folder.old }
+    ensures usage { IsUsage (load_name (map string_bytes words.now)) (folder.new ≡ folder.old) (K.written output.old) (K.written output.new) result }
     ensures tells { D.tells_files folder.new ≡ D.tells_files folder.old }
     ensures folder { D.tells_files folder.old ≡ true → D.files folder.new ≡ D.files folder.old }
     ensures place { D.place folder.new ≡ D.place folder.old }
@@ -108,11 +109,13 @@ pub fn run<D: Folder, S: Source, K: Sink>(
     ensures disk_fault { result ≡ Status.DiskFault → Rose (D.faults folder.old) (D.faults folder.new) }
     ensures disk_fault_early { result ≡ Status.DiskFault → K.written output.new ≡ K.written output.old }
 
-    // No command writes to the folder or reads the input. Where the words are no command, no call of the folder is made.
+    // Words that are no command are answered by the usage line, over every folder, and no call of the folder is made.
+    ensures usage { IsUsage (load_name (map string_bytes words.now)) (folder.new ≡ folder.old) (K.written output.old) (K.written output.new) result }
+
+    // No command writes to the folder or reads the input.
     ensures folder { D.tells_files folder.old ≡ true → D.files folder.new ≡ D.files folder.old }
     ensures tells { D.tells_files folder.new ≡ D.tells_files folder.old }
     ensures place { D.place folder.new ≡ D.place folder.old }
-    ensures usage { result ≡ Status.Usage → folder.new ≡ folder.old }
     ensures input { input.new ≡ input.old }
 
     // The counts never fall.

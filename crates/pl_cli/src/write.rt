@@ -5,10 +5,10 @@ ghost use Rattle.pl_base.specs.Streams.{GotPrefix, got_after};
 ghost use Rattle.pl_cli.specs.Answer.{load_text};
 ghost use Rattle.pl_cli.specs.Image as image;
 
-use crate::cause::WriteStop;
+use crate::image_text::write_words;
 use crate::program::Program;
 use crate::text::head_text;
-use crate::words_out::write_words;
+use crate::write_stop::WriteStop;
 use pl_io::{Sink, write_all};
 use std::alloc::Global;
 

@@ -1,7 +1,5 @@
-use Rattle.std.proofs.Common.{◌≡◌, ◌+◌, ◌-◌, ℕ, List, min, replicate, length, arith, ap, sym, refl, ◌∙◌, subst, rules}
-use Rattle.std.specs.Prelude.{slice_index}
+use Rattle.std.proofs.Common.{◌≡◌, ◌+◌, ◌-◌, ℕ, min, replicate, length, arith, ap, ◌∙◌}
 use borrow.Rule.Slice.PartMut.{put_mid, mid_of}
-use Rattle.pl_cli.specs.Static.{cleared}
 use Rattle.pl_cli.proofs.TableLemmas.{cleared_none, cleared_some}
 use Rattle.pl_cli.proofs.tables.clear.Goals as goal
 

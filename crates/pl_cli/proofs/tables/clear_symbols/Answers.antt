@@ -1,5 +1,4 @@
-use Rattle.std.proofs.Common.{◌≡◌, ap, sym, ◌∙◌, arith}
-use Rattle.pl_cli.specs.Static.{all_cleared, symbol_windows}
+use Rattle.std.proofs.Common.{arith}
 use Rattle.pl_cli.proofs.TableLemmas.{symbols_more, symbols_done}
 use Rattle.pl_cli.proofs.tables.clear_symbols.Goals as goal
 

@@ -1,5 +1,6 @@
 use Rattle.std.proofs.Common.{◌≡◌, drop}
-use Rattle.pl_cli.specs.Static.{all_cleared, symbol_windows}
+use Rattle.pl_cli.specs.Static.{symbol_windows}
+use Rattle.pl_cli.specs.Cleared.{all_cleared}
 use Rattle.pl_cli.proofs.tables.clear_symbols.Given as goal
 
 abbrev pub invariant-loop-section : goal.invariant-loop-section

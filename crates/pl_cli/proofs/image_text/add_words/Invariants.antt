@@ -1,7 +1,7 @@
 use Rattle.std.proofs.Common.{◌-◌, ◌≤◌}
 use Rattle.pl_cli.specs.Image.{memory_of}
 use Rattle.pl_cli.specs.Lines.{Passes, lines_from}
-use Rattle.pl_cli.proofs.words_out.add_words.Given as goal
+use Rattle.pl_cli.proofs.image_text.add_words.Given as goal
 
 abbrev pub invariant-loop-number : goal.invariant-loop-number
 invariant-loop-number g l =

@@ -3,7 +3,7 @@ use Rattle.pl_cli.specs.Image.{memory_of}
 use Rattle.pl_cli.specs.Lines.{word_lines}
 use Rattle.pl_cli.proofs.AddedLemmas.{all_begin, all_more, all_stopped, all_done, all_cut}
 use Rattle.pl_base.proofs.ResultLaws.{OnErr-from, OnOk-map, OnErr-map}
-use Rattle.pl_cli.proofs.words_out.write_words.Goals as goal
+use Rattle.pl_cli.proofs.image_text.write_words.Goals as goal
 
 pub loop-index-init : goal.loop-index-init
 loop-index-init g c = (omega arith, λ a above. refl, all_begin (memory_of c.args.pieces.now) (g.K.Sink.written c.args.sink.now) c.new-lines.result.items c.new-lines.ensures, omega arith)

@@ -1,7 +1,7 @@
 use Rattle.std.proofs.Common.{◌-◌, ◌*◌, ◌^◌, ◌≤◌, [], drop}
 use Rattle.pl_cli.specs.Image.{memory_of, IsRest}
 use Rattle.pl_cli.specs.Lines.{Passes, lines_from}
-use Rattle.pl_cli.proofs.words_out.write_words.Given as goal
+use Rattle.pl_cli.proofs.image_text.write_words.Given as goal
 
 abbrev pub invariant-loop-index : goal.invariant-loop-index
 invariant-loop-index g l =

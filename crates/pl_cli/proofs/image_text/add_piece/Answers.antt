@@ -2,7 +2,7 @@ use Rattle.std.proofs.Common.{◌^◌, arith}
 use Rattle.pl_base.proofs.ResultLaws.{OnErr-from}
 use Rattle.pl_cli.specs.Image.{memory_of}
 use Rattle.pl_cli.proofs.AddedLemmas.{skipped_passes, skipped_stopped, limit_of, clear_before, rest_after}
-use Rattle.pl_cli.proofs.words_out.add_piece.Goals as goal
+use Rattle.pl_cli.proofs.image_text.add_piece.Goals as goal
 
 pub words_end-requires : goal.words_end-requires
 words_end-requires g c = limit_of c.args.pieces.now c.args.index c.index-pieces-index.result c.requires.ascending c.requires.within c.index-pieces-index.is

@@ -3,7 +3,7 @@ use Rattle.pl_base.proofs.ResultLaws.{OnErr-from}
 use Rattle.pl_cli.specs.Image.{memory_of}
 use Rattle.pl_cli.specs.Lines.{Passes, lines_from}
 use Rattle.pl_cli.proofs.StreamedLemmas.{words_begin, words_more, words_stopped}
-use Rattle.pl_cli.proofs.words_out.add_words.Goals as goal
+use Rattle.pl_cli.proofs.image_text.add_words.Goals as goal
 
 pub loop-number-init : goal.loop-number-init
 loop-number-init g c = (words_begin (memory_of c.args.pieces.now) (g.K.Sink.written c.args.sink.now) c.args.lines.now.items c.args.first, omega arith)

@@ -1,0 +1,41 @@
+ghost use Rattle.std.specs.Prelude.{◌≡◌};
+
+use crate::cause::Cause;
+use pl_folder::FolderFault;
+use std::alloc::AllocError;
+
+/// Why a load stopped.
+#[derive(Clone, Copy, Debug, PartialEq, Eq)]
+pub enum Stop {
+    /// The name is refused.
+    Cause(Cause),
+    /// The folder failed.
+    Failed,
+    /// There was no memory.
+    NoMemory,
+}
+
+impl From<AllocError> for Stop {
+    ghost use Rattle.pl_cli.specs.declared.stop.Stop.TheVariants.{NoMemory};
+
+    ghost from_gives = { λ _ stop. stop ≡ NoMemory };
+
+    fn from(_: AllocError) -> Stop {
+        Stop::NoMemory
+    }
+}
+
+impl From<FolderFault> for Stop {
+    ghost use Rattle.pl_cli.specs.Outcome.{of_fault};
+
+    ghost from_gives = { λ fault stop. stop ≡ of_fault fault };
+
+    fn from(fault: FolderFault) -> Stop {
+        match fault {
+            FolderFault::Failed => Stop::Failed,
+            FolderFault::NotThere => Stop::Cause(Cause::NotThere),
+            FolderFault::TooLarge => Stop::Cause(Cause::NotYet),
+            FolderFault::NoMemory => Stop::NoMemory,
+        }
+    }
+}
