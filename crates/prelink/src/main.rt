@@ -2,6 +2,8 @@
 #![tactic(auto)]
 
 mod host_folder;
+#[cfg(test)]
+mod tests;
 
 use host_folder::HostFolder;
 use pl_cli::{Status, run};
