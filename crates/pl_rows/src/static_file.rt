@@ -18,7 +18,8 @@ pub fn put(file: &mut [u8], at: usize, bytes: &[u8]) {
     }
 }
 
-fn put_load(file: &mut [u8], at: usize, flags: u8, offset: u64, address: u64, size: u64) {
+/// Puts the program header of a PT_LOAD.
+pub fn put_load(file: &mut [u8], at: usize, flags: u8, offset: u64, address: u64, size: u64) {
     put(file, at, &[1, 0, 0, 0, flags]);
     put(file, at.wrapping_add(8), &offset.to_le_bytes());
     put(file, at.wrapping_add(16), &address.to_le_bytes());

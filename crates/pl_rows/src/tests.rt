@@ -1,8 +1,8 @@
 // Runs of the top call, row by row.
 ghost use Rattle.std.specs.Prelude.{◌≤◌};
 
-use crate::static_file::{put, static_file};
-use pl_cli::{Status, run};
+use crate::static_file::{put, put_load, static_file};
+use pl_cli::{ORIGINAL, Status, run};
 use pl_folder::{MemoryFolder, are_files};
 use pl_io::{MemorySink, MemorySource};
 use std::alloc::Global;
@@ -15,10 +15,10 @@ struct Ran {
     text: Vec<u8>,
 }
 
-/// A run of `--load` of a name over these files. Calls of the folder and of the sink fail where they are listed, and the sink takes at most so many bytes in a call.
-fn load(
+/// A run of these words over these files. Calls of the folder and of the sink fail where they are listed, and the sink takes at most so many bytes in a call.
+fn run_words(
     rt: &(impl Abort + AllocGlobal),
-    name: &str,
+    given: &[&str],
     files: &[(String, Vec<u8>)],
     folder_fails: &[u64],
     sink_fails: &[u64],
@@ -28,10 +28,10 @@ fn load(
 {
     let alloc: Global = rt.alloc();
     assert!(rt; are_files(files));
-    let words = vec![in alloc;
-        String::from_str(alloc, "--load")?,
-        String::from_str(alloc, name)?,
-    ]?;
+    let mut words = Vec::new(alloc);
+    for word in given {
+        words.push(String::from_str(alloc, word)?)?;
+    }
     let mut folder = MemoryFolder::new(alloc, files, folder_fails.to_vec(alloc)?, 100)?;
     let mut input = MemorySource::new(Vec::new(alloc), Vec::new(alloc));
     let mut output = MemorySink::new(alloc, 4096, sink_fails.to_vec(alloc)?, most)?;
@@ -51,7 +51,7 @@ end
 fn loads_a_static_program(rt: HostRuntime) -> Result<(), Fail> {
     let alloc = rt.alloc();
     let files = vec![in alloc; (String::from_str(alloc, "st")?, static_file(alloc)?)]?;
-    let Ran { status, text } = load(&rt, "st", &files, &[], &[], 4096)?;
+    let Ran { status, text } = run_words(&rt, &["--load", "st"], &files, &[], &[], 4096)?;
     assert_eq!(rt; text.as_slice(), TEXT);
     assert_eq!(rt; status, Status::Done);
     Ok(())
@@ -75,9 +75,10 @@ fn refuses_by_the_first_cause(rt: HostRuntime) -> Result<(), Fail> {
         ("dynamic", "refused NotYet dynamic\n"),
         ("cut", "refused NotYet cut\n"),
         ("a/b", "refused BadName\n"),
+        ("a b", "refused BadName\n"),
         (".prelink.cache", "refused BadName\n"),
     ] {
-        let Ran { status, text } = load(&rt, name, &files, &[], &[], 4096)?;
+        let Ran { status, text } = run_words(&rt, &["--load", name], &files, &[], &[], 4096)?;
         assert_eq!(rt; text.as_slice(), line.as_bytes(), "at {name}");
         assert_eq!(rt; status, Status::Refused, "at {name}");
     }
@@ -88,17 +89,82 @@ fn refuses_by_the_first_cause(rt: HostRuntime) -> Result<(), Fail> {
 fn answers_faults(rt: HostRuntime) -> Result<(), Fail> {
     let alloc = rt.alloc();
     let files = vec![in alloc; (String::from_str(alloc, "st")?, static_file(alloc)?)]?;
-    let Ran { status, text } = load(&rt, "st", &files, &[], &[1], 10)?;
+    let Ran { status, text } = run_words(&rt, &["--load", "st"], &files, &[], &[1], 10)?;
     assert_eq!(rt; text.as_slice(), b"slow\nobjec".as_slice());
     assert_eq!(rt; status, Status::WriteFault);
-    let Ran { status, text } = load(&rt, "st", &files, &[0], &[], 4096)?;
+    let Ran { status, text } = run_words(&rt, &["--load", "st"], &files, &[0], &[], 4096)?;
     assert_eq!(rt; text.as_slice(), b"".as_slice());
     assert_eq!(rt; status, Status::DiskFault);
-    let Ran { status, text } = load(&rt, "-st", &files, &[0], &[], 4096)?;
-    assert_eq!(rt;
-        text.as_slice(),
-        b"usage: prelink MODE [OPTIONS] [NAME..]\n".as_slice()
+    Ok(())
+}
+
+#[test]
+fn answers_words_that_are_no_command(rt: HostRuntime) -> Result<(), Fail> {
+    let alloc = rt.alloc();
+    let files = Vec::new(alloc);
+    let lists: [&[&str]; 6] = [
+        &[],
+        &["--load"],
+        &["--load", "st", "st"],
+        &["--load=st"],
+        &["--load", "-st"],
+        &["--loads", "st"],
+    ];
+    for words in lists {
+        let Ran { status, text } = run_words(&rt, words, &files, &[0], &[], 4096)?;
+        assert_eq!(rt;
+            text.as_slice(),
+            b"usage: prelink MODE [OPTIONS] [NAME..]\n".as_slice()
+        );
+        assert_eq!(rt; status, Status::Usage);
+    }
+    Ok(())
+}
+
+const BORDERS: &[u8] = b"slow
+object 0000000000400000 0000000000501000 st
+entry 0000000000400000
+word 0000000000500000 8877665500002211
+end
+";
+
+const EMPTY_SEGMENT: &[u8] = b"slow
+object 0000000000400000 0000000000600000 st
+entry 0000000000400000
+word 0000000000500008 0000000000000007
+end
+";
+
+/// Two segments share a word, in whose middle two bytes are those of a symbol table. Then a segment of no bytes ends the object at a page's border, in a file of the greatest length and of one byte more.
+#[test]
+fn shows_borders(rt: HostRuntime) -> Result<(), Fail> {
+    let alloc = rt.alloc();
+    let mut shared = static_file(alloc)?;
+    put(&mut shared, 0x38, &[3]);
+    put_load(&mut shared, 0x78, 6, 0x1000, 0x50_0000, 4);
+    put_load(&mut shared, 0xb0, 6, 0x1004, 0x50_0004, 4);
+    put(
+        &mut shared,
+        0x1000,
+        &[0x11, 0x22, 0x33, 0x44, 0x55, 0x66, 0x77, 0x88],
     );
-    assert_eq!(rt; status, Status::Usage);
+    put(&mut shared, 0x1024, &[2]);
+    put(&mut shared, 0x1038, &0x1002u64.to_le_bytes());
+    put(&mut shared, 0x1040, &[2]);
+    let mut longest = static_file(alloc)?;
+    put(&mut longest, 0x38, &[3]);
+    put_load(&mut longest, 0xb0, 6, 0x1000, 0x60_0000, 0);
+    longest.resize(ORIGINAL, 0)?;
+    let mut longer = longest.clone()?;
+    longer.push(0)?;
+    for (file, want) in [
+        (shared, BORDERS),
+        (longest, EMPTY_SEGMENT),
+        (longer, b"refused NotYet st\n".as_slice()),
+    ] {
+        let files = vec![in alloc; (String::from_str(alloc, "st")?, file)]?;
+        let Ran { status: _, text } = run_words(&rt, &["--load", "st"], &files, &[], &[], 4096)?;
+        assert_eq!(rt; text.as_slice(), want);
+    }
     Ok(())
 }
