@@ -1,0 +1,113 @@
+// Chains of version records, and acceptance clause 17.
+ghost use Rattle.std.specs.Prelude.{◌≡◌, ◌+◌, ◌≤◌, length, IsTrue};
+ghost use Rattle.pl_ver.specs.Chains as spec;
+
+use crate::constants::{NEXT_SIZE, VERDAUX_SIZE, VERDEF_SIZE, VERNAUX_SIZE, VERNEED_SIZE};
+use crate::fields::{next, verdef_count, verdef_names, verneed_count, verneed_versions};
+use crate::strings::Strings;
+use pl_base::{end, word32};
+
+/// Whether a record lies in its section, and its `next` is 0 exactly where no more records follow.
+#[tactic(auto, unfolding(crate::specs::Chains::is_linked))]
+fn is_linked(section: &[u8], size: usize, more: u64, at: usize) -> bool
+    requires { NEXT_SIZE ≤ size }
+    ensures test { result ≡ spec.is_linked size section.now more at }
+    ensures within { IsTrue result → at + size ≤ length section.now }
+{
+    if end(at as u64, size as u64) > section.len() as u128 {
+        return false;
+    }
+    let next = next(section, size, at);
+    if more == 0 { next == 0 } else { next != 0 }
+}
+
+/// Whether a record's name, whose place in the strings stands so many bytes behind the record's begin, has an end.
+#[tactic(auto, unfolding(crate::specs::Chains::is_named))]
+fn is_named(strings: &Strings<'_>, section: &[u8], field: usize, at: usize) -> bool
+    requires { at + field + 4 ≤ length section.now }
+    ensures { result ≡ spec.is_named strings.now section.now field at }
+{
+    strings.has_end(word32(section, at + field))
+}
+
+/// Whether so many records, the first of them at an offset, are a chain, and each has a name with an end.
+#[tactic(auto, using(crate::proofs::ChainLaws::is_chain_step, crate::proofs::ChainLaws::is_chain_none))]
+fn are_named(strings: &Strings<'_>, section: &[u8], size: usize, field: usize, count: u16, first: usize) -> bool
+    requires next { NEXT_SIZE ≤ size }
+    requires field { field + 4 ≤ size }
+    ensures { result ≡ spec.is_chain (spec.is_named strings.now section.now field) size section.now count first }
+{
+    let mut at = first;
+    let mut more = count;
+    while more > 0 {
+        more -= 1;
+        if !is_linked(section, size, u64::from(more), at) {
+            return false;
+        }
+        if !is_named(strings, section, field, at) {
+            return false;
+        }
+        at += next(section, size, at) as usize;
+    }
+    true
+}
+
+/// Whether a Verdef has a name, and each of its names an end.
+#[tactic(auto, unfolding(crate::specs::Chains::is_verdef))]
+fn is_verdef(strings: &Strings<'_>, verdef: &[u8], at: usize) -> bool
+    requires { at + VERDEF_SIZE ≤ length verdef.now }
+    ensures { result ≡ spec.is_verdef strings.now verdef.now at }
+{
+    let count = verdef_count(verdef, at);
+    count != 0 && are_named(strings, verdef, VERDAUX_SIZE, 0, count, verdef_names(verdef, at))
+}
+
+/// Whether the names of a Verneed's file and of the versions that are needed of it have an end.
+#[tactic(auto, unfolding(crate::specs::Chains::is_verneed))]
+fn is_verneed(strings: &Strings<'_>, verneed: &[u8], at: usize) -> bool
+    requires { at + VERNEED_SIZE ≤ length verneed.now }
+    ensures { result ≡ spec.is_verneed strings.now verneed.now at }
+{
+    let count = verneed_count(verneed, at);
+    is_named(strings, verneed, 4, at) && are_named(strings, verneed, VERNAUX_SIZE, 8, count, verneed_versions(verneed, at))
+}
+
+/// Whether so many Verdefs from the section's begin on are a chain.
+#[tactic(auto, using(crate::proofs::ChainLaws::is_chain_step, crate::proofs::ChainLaws::is_chain_none), unfolding(crate::specs::Chains::are_verdefs))]
+pub fn are_verdefs(strings: &Strings<'_>, verdef: &[u8], defs: u64) -> bool
+    ensures { result ≡ spec.are_verdefs strings.now verdef.now defs }
+{
+    let mut at = 0;
+    let mut more = defs;
+    while more > 0 {
+        more -= 1;
+        if !is_linked(verdef, VERDEF_SIZE, more, at) {
+            return false;
+        }
+        if !is_verdef(strings, verdef, at) {
+            return false;
+        }
+        at += next(verdef, VERDEF_SIZE, at) as usize;
+    }
+    true
+}
+
+/// Whether so many Verneeds from the section's begin on are a chain.
+#[tactic(auto, using(crate::proofs::ChainLaws::is_chain_step, crate::proofs::ChainLaws::is_chain_none), unfolding(crate::specs::Chains::are_verneeds))]
+pub fn are_verneeds(strings: &Strings<'_>, verneed: &[u8], needs: u64) -> bool
+    ensures { result ≡ spec.are_verneeds strings.now verneed.now needs }
+{
+    let mut at = 0;
+    let mut more = needs;
+    while more > 0 {
+        more -= 1;
+        if !is_linked(verneed, VERNEED_SIZE, more, at) {
+            return false;
+        }
+        if !is_verneed(strings, verneed, at) {
+            return false;
+        }
+        at += next(verneed, VERNEED_SIZE, at) as usize;
+    }
+    true
+}

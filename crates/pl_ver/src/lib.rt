@@ -1,0 +1,14 @@
+//! The versions of symbols: the records of GNU symbol versioning (the sections `.gnu.version`, `.gnu.version_d` and `.gnu.version_r`), and acceptance clauses 17 and 18 as far as these sections show them.
+#![tactic(auto)]
+
+mod chains;
+pub mod constants;
+mod fault;
+mod fields;
+mod record;
+// mod records;
+mod strings;
+mod versions;
+
+pub use fault::VerFault;
+pub use versions::{VersionName, Versions};
