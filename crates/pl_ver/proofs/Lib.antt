@@ -1,2 +1,4 @@
 pub mod StringLaws
 pub mod ChainLaws
+pub mod TakenLaws
+pub mod CollectingLaws

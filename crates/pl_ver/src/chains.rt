@@ -3,7 +3,7 @@ ghost use Rattle.std.specs.Prelude.{◌≡◌, ◌+◌, ◌≤◌, length, IsTru
 ghost use Rattle.pl_ver.specs.Chains as spec;
 
 use crate::constants::{NEXT_SIZE, VERDAUX_SIZE, VERDEF_SIZE, VERNAUX_SIZE, VERNEED_SIZE};
-use crate::fields::{next, verdef_count, verdef_names, verneed_count, verneed_versions};
+use crate::fields::{following, next, verdef_count, verdef_names, verneed_count, verneed_versions};
 use crate::strings::Strings;
 use pl_base::{end, word32};
 
@@ -47,7 +47,7 @@ fn are_named(strings: &Strings<'_>, section: &[u8], size: usize, field: usize, c
         if !is_named(strings, section, field, at) {
             return false;
         }
-        at += next(section, size, at) as usize;
+        at = following(section, size, at);
     }
     true
 }
@@ -87,7 +87,7 @@ pub fn are_verdefs(strings: &Strings<'_>, verdef: &[u8], defs: u64) -> bool
         if !is_verdef(strings, verdef, at) {
             return false;
         }
-        at += next(verdef, VERDEF_SIZE, at) as usize;
+        at = following(verdef, VERDEF_SIZE, at);
     }
     true
 }
@@ -107,7 +107,7 @@ pub fn are_verneeds(strings: &Strings<'_>, verneed: &[u8], needs: u64) -> bool
         if !is_verneed(strings, verneed, at) {
             return false;
         }
-        at += next(verneed, VERNEED_SIZE, at) as usize;
+        at = following(verneed, VERNEED_SIZE, at);
     }
     true
 }

@@ -19,6 +19,15 @@ pub fn next(section: &[u8], size: usize, at: usize) -> u32
     word32(section, at + (size - NEXT_SIZE))
 }
 
+/// Where the record after one of a size begins; the same place where there is none.
+pub fn following(section: &[u8], size: usize, at: usize) -> usize
+    requires field { NEXT_SIZE ≤ size }
+    requires within { at + size ≤ length section.now }
+    ensures { result ≡ at + spec.next size section.now at }
+{
+    at + next(section, size, at) as usize
+}
+
 #[tactic(auto, unfolding(crate::specs::Fields::verdef_count))]
 pub fn verdef_count(verdef: &[u8], at: usize) -> u16
     requires { at + VERDEF_SIZE ≤ length verdef.now }

@@ -2,13 +2,19 @@
 #![tactic(auto)]
 
 mod chains;
+mod collecting;
 pub mod constants;
 mod fault;
 mod fields;
+mod indices;
+mod look_up;
+mod read;
 mod record;
-// mod records;
+mod records;
 mod strings;
 mod versions;
 
 pub use fault::VerFault;
+pub use look_up::version_of;
+pub use read::read_versions;
 pub use versions::{VersionName, Versions};
