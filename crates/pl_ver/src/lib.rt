@@ -14,6 +14,9 @@ mod records;
 mod strings;
 mod versions;
 
+#[cfg(test)]
+mod tests;
+
 pub use fault::VerFault;
 pub use look_up::version_of;
 pub use read::read_versions;
