@@ -1,7 +1,6 @@
 -- A chain, one record at a time.
-use Rattle.std.proofs.Common.{◌≡◌, ℕ, zero, suc, ◌+◌, ◌-◌, ◌<◌, ◌≤◌, Bool, true, false, not, ◌&&◌, cond, List, [], ◌∷◌, length, refl, sym, ap, ◌∙◌, arith, eqb, leb}
+use Rattle.std.proofs.Common.{◌≡◌, ℕ, zero, suc, ◌+◌, ◌-◌, ◌<◌, ◌≤◌, Bool, true, not, ◌&&◌, List, [], ◌∷◌, length, refl, sym, ◌∙◌, arith, eqb}
 use Rattle.std.proofs.lemmas.Bool.{and_parts, leb-true}
-use Rattle.std.proofs.lemmas.Bool.Decides.{eqb_tells}
 use Rattle.pl_ver.specs.declared.constants.TheConstants.{VERDAUX_SIZE, VERNAUX_SIZE}
 use Rattle.pl_ver.specs.Fields.{next, verdef_count, verdef_names, verneed_count, verneed_versions}
 use Rattle.pl_ver.specs.Chains.{chain, is_linked, is_chain, is_named, is_verdef, is_verneed}

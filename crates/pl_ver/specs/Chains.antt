@@ -1,5 +1,5 @@
 -- Chains of version records: one record after the other, each by the `next` of the one before. And what acceptance clause 17 refuses.
-use Rattle.std.specs.Prelude.{ℕ, zero, suc, ◌+◌, Bool, true, false, not, ◌&&◌, ◌==◌, nat_le, nat_lt, List, [], ◌∷◌, ◌++◌, map, flat_map, length, drop, if◌then◌else◌}
+use Rattle.std.specs.Prelude.{ℕ, zero, suc, ◌+◌, Bool, true, not, ◌&&◌, ◌==◌, nat_le, List, [], ◌∷◌, map, flat_map, length, drop, if◌then◌else◌}
 use Rattle.std.specs.List.{list_any}
 use Rattle.pl_base.specs.Bytes.{word32}
 use Rattle.pl_ver.specs.declared.constants.TheConstants.{VERDEF_SIZE, VERDAUX_SIZE, VERNEED_SIZE, VERNAUX_SIZE}

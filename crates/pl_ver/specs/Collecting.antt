@@ -1,5 +1,5 @@
 -- How the records are collected: one after the other, each with an index that none before it has.
-use Rattle.std.specs.Prelude.{◌≡◌, ℕ, Bool, true, List, [], ◌∷◌, ◌++◌, Result, Ok, Err}
+use Rattle.std.specs.Prelude.{◌≡◌, ℕ, true, List, [], ◌∷◌, ◌++◌, Result, Ok}
 use Rattle.pl_base.specs.Answers.{unless}
 use Rattle.pl_base.specs.Each.{run}
 use Rattle.pl_ver.specs.declared.fault.VerFault.{VerFault}

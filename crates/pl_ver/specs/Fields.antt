@@ -33,7 +33,7 @@ verdef_at verdef at = record {
   name = word32 (verdef_names verdef at) verdef;
   defined = true;
   base = is_base verdef at;
-  }
+}
 
 -- ---- Verneed
 
@@ -50,7 +50,7 @@ vernaux_at verneed at = record {
   name = word32 (at + 8) verneed;
   defined = false;
   base = false;
-  }
+}
 
 -- ---- version words
 

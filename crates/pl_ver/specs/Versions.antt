@@ -1,5 +1,5 @@
 -- The versions of an object's symbols, and the first of acceptance clauses 17 and 18 that refuses them.
-use Rattle.std.specs.Prelude.{ℕ, Bool, true, false, not, ◌&&◌, ◌||◌, ◌==◌, nat_le, nat_lt, List, [], ◌∷◌, ◌++◌, map, drop, Option, Some, None, Result, Ok, Err, find, option_map}
+use Rattle.std.specs.Prelude.{ℕ, Bool, true, false, not, ◌&&◌, ◌||◌, ◌==◌, nat_le, nat_lt, List, [], ◌∷◌, ◌++◌, map, drop, Option, Result, Ok, find, option_map}
 use Rattle.std.specs.List.{list_any, before_first}
 use Rattle.pl_base.specs.Answers.{refuse}
 use Rattle.pl_ver.specs.declared.constants.TheConstants.{VER_NDX_GLOBAL}

@@ -7,7 +7,7 @@ ghost use Rattle.pl_ver.specs.Collecting.{AreVerdefs, AreVerneeds, IsVerneed, ad
 
 use crate::constants::{VERDEF_SIZE, VERNAUX_SIZE, VERNEED_SIZE};
 use crate::fault::VerFault;
-use crate::fields::{following, vernaux_at, verdef_at, verneed_count, verneed_versions};
+use crate::fields::{following, verdef_at, vernaux_at, verneed_count, verneed_versions};
 use crate::records::Records;
 use std::alloc::Global;
 
@@ -61,7 +61,13 @@ fn with_needed(records: Records, verneed: &[u8], needs: u64) -> Result<Records, 
 }
 
 /// The records of both sections, or `BadIndex` where two of them have the same index.
-pub fn collect(alloc: Global, verdef: &[u8], defs: u64, verneed: &[u8], needs: u64) -> Result<Records, VerFault>
+pub fn collect(
+    alloc: Global,
+    verdef: &[u8],
+    defs: u64,
+    verneed: &[u8],
+    needs: u64,
+) -> Result<Records, VerFault>
     requires verdefs { AreVerdefs verdef.now defs }
     requires verneeds { AreVerneeds verneed.now needs }
     ensures { Answers spec.is_memory result (distinct (defined verdef.now defs ++ needed verneed.now needs)) }

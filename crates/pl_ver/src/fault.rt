@@ -19,6 +19,7 @@ pub enum VerFault {
 impl From<AllocError> for VerFault {
     ghost use Rattle.std.specs.Prelude.{◌≡◌};
     ghost use Rattle.pl_ver.specs.declared.fault.VerFault.TheVariants.{NoMemory};
+
     ghost from_gives = { λ _ e. e ≡ NoMemory };
 
     fn from(_e: AllocError) -> VerFault {
@@ -29,6 +30,7 @@ impl From<AllocError> for VerFault {
 impl<T: Drop> From<AllocFailed<T>> for VerFault {
     ghost use Rattle.std.specs.Prelude.{◌≡◌};
     ghost use Rattle.pl_ver.specs.declared.fault.VerFault.TheVariants.{NoMemory};
+
     ghost from_gives = { λ _ e. e ≡ NoMemory };
 
     fn from(_e: AllocFailed<T>) -> VerFault {

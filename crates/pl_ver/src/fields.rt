@@ -3,7 +3,8 @@ ghost use Rattle.std.specs.Prelude.{◌≡◌, ◌+◌, ◌*◌, ◌≤◌, leng
 ghost use Rattle.pl_ver.specs.Fields as spec;
 
 use crate::constants::{
-    NEXT_SIZE, VER_FLG_BASE, VERDAUX_SIZE, VERDEF_SIZE, VERNAUX_SIZE, VERNEED_SIZE, VERSYM_HIDDEN, VERSYM_SIZE,
+    NEXT_SIZE, VER_FLG_BASE, VERDAUX_SIZE, VERDEF_SIZE, VERNAUX_SIZE, VERNEED_SIZE, VERSYM_HIDDEN,
+    VERSYM_SIZE,
 };
 use crate::record::Record;
 use pl_base::{word16, word32};
@@ -102,7 +103,9 @@ pub fn vernaux_at(verneed: &[u8], at: usize) -> Record
 pub fn words(alloc: Global, versym: &[u8]) -> Result<Vec<u16>, AllocError>
     ensures { IfOk result (λ v. v.items ≡ spec.words versym.now) }
 {
-    (0..versym.len() / VERSYM_SIZE).map(|k| word16(versym, VERSYM_SIZE * k)).collect(alloc)
+    (0..versym.len() / VERSYM_SIZE)
+        .map(|k| word16(versym, VERSYM_SIZE * k))
+        .collect(alloc)
 }
 
 /// The index of a version word, all of it but bit 15.

@@ -7,15 +7,15 @@ pub mod constants;
 mod fault;
 mod fields;
 mod indices;
+mod lengths;
 mod look_up;
 mod read;
 mod record;
 mod records;
 mod strings;
-mod versions;
-
 #[cfg(test)]
 mod tests;
+mod versions;
 
 pub use fault::VerFault;
 pub use look_up::version_of;

@@ -25,7 +25,11 @@ fn named(alloc: Global, strings: &Strings<'_>, row: &Record) -> Result<VersionNa
     })
 }
 
-fn names(alloc: Global, strings: &Strings<'_>, records: &[Record]) -> Result<Rows<VersionName>, AllocError>
+fn names(
+    alloc: Global,
+    strings: &Strings<'_>,
+    records: &[Record],
+) -> Result<Rows<VersionName>, AllocError>
     ensures { IfOk result (λ names. names ≡ map (spec.named strings.now) records.now) }
 {
     let mut names = Rows::new(alloc);
@@ -51,7 +55,9 @@ pub fn read_versions(
     ensures { Answers spec.is_memory result (spec.versions versym.now verdef.now defs verneed.now needs strings.now) }
 {
     let strings = Strings::new(strings);
-    if !(are_verdefs(&strings, verdef, defs) && are_verneeds(&strings, verneed, needs)) {
+    if !(are_verdefs(alloc, &strings, verdef, defs)?
+        && are_verneeds(alloc, &strings, verneed, needs)?)
+    {
         return Err(VerFault::BadChain);
     }
     let records = collect(alloc, verdef, defs, verneed, needs)?;

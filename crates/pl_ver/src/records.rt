@@ -62,7 +62,10 @@ impl Records {
         if self.has(row.index) {
             return Err(VerFault::BadIndex);
         }
-        let Records { mut rows, mut taken } = self;
+        let Records {
+            mut rows,
+            mut taken,
+        } = self;
         rows.push(row)?;
         taken[usize::from(row.index)] = true;
         Ok(Records { rows, taken })

@@ -36,45 +36,39 @@ enum Edit {
 const STRINGS: &[u8] = b"\0base\0V1\0V2\0libb\0B1\0B2\0";
 
 /// Two symbols without version, then V1, V1 hidden, V2, B1, B2, and one without.
-const VERSYM: [u8; 16] = [
-    0, 0, 1, 0, 2, 0, 2, 128, 3, 0, 4, 0, 5, 0, 1, 0,
-];
+const VERSYM: [u8; 16] = [0, 0, 1, 0, 2, 0, 2, 128, 3, 0, 4, 0, 5, 0, 1, 0];
 
 /// Defines base with index 1, V1 with 2 and V2 with 3, each with one Verdaux behind it.
 const VERDEF: [u8; 84] = [
-    1, 0, 1, 0, 1, 0, 1, 0, 149, 136, 6, 0, 20, 0, 0, 0, 28, 0, 0, 0, 1, 0, 0, 0, 0, 0, 0, 0,
-    1, 0, 0, 0, 2, 0, 1, 0, 145, 5, 0, 0, 20, 0, 0, 0, 28, 0, 0, 0, 6, 0, 0, 0, 0, 0, 0, 0,
-    1, 0, 0, 0, 3, 0, 1, 0, 146, 5, 0, 0, 20, 0, 0, 0, 0, 0, 0, 0, 9, 0, 0, 0, 0, 0, 0, 0,
+    1, 0, 1, 0, 1, 0, 1, 0, 149, 136, 6, 0, 20, 0, 0, 0, 28, 0, 0, 0, 1, 0, 0, 0, 0, 0, 0, 0, 1, 0,
+    0, 0, 2, 0, 1, 0, 145, 5, 0, 0, 20, 0, 0, 0, 28, 0, 0, 0, 6, 0, 0, 0, 0, 0, 0, 0, 1, 0, 0, 0,
+    3, 0, 1, 0, 146, 5, 0, 0, 20, 0, 0, 0, 0, 0, 0, 0, 9, 0, 0, 0, 0, 0, 0, 0,
 ];
 
 /// Needs B1 with index 4 and B2 with 5 of libb.
 const VERNEED: [u8; 48] = [
-    1, 0, 2, 0, 12, 0, 0, 0, 16, 0, 0, 0, 0, 0, 0, 0,
-    81, 4, 0, 0, 0, 0, 4, 0, 17, 0, 0, 0, 16, 0, 0, 0,
-    82, 4, 0, 0, 0, 0, 5, 0, 20, 0, 0, 0, 0, 0, 0, 0,
+    1, 0, 2, 0, 12, 0, 0, 0, 16, 0, 0, 0, 0, 0, 0, 0, 81, 4, 0, 0, 0, 0, 4, 0, 17, 0, 0, 0, 16, 0,
+    0, 0, 82, 4, 0, 0, 0, 0, 5, 0, 20, 0, 0, 0, 0, 0, 0, 0,
 ];
 
 // What GNU ld 2.40 wrote into a library `liba.so` that defines V1, and V2 over V1, and needs B1 and B2 of `libb.so`.
 const LINKED_STRINGS: &[u8] = b"\0g\0h\0outer\0outer2\0f\0libb.so\0liba.so\0V1\0V2\0B1\0B2\0";
 
 /// Its `.gnu.version`.
-const LINKED_VERSYM: [u8; 18] = [
-    0, 0, 4, 0, 5, 0, 2, 128, 3, 0, 3, 0, 2, 0, 2, 0, 3, 0,
-];
+const LINKED_VERSYM: [u8; 18] = [0, 0, 4, 0, 5, 0, 2, 128, 3, 0, 3, 0, 2, 0, 2, 0, 3, 0];
 
 /// Its `.gnu.version_d`.
 const LINKED_VERDEF: [u8; 92] = [
-    1, 0, 1, 0, 1, 0, 1, 0, 239, 69, 248, 2, 20, 0, 0, 0, 28, 0, 0, 0, 28, 0, 0, 0, 0, 0, 0, 0,
-    1, 0, 0, 0, 2, 0, 1, 0, 145, 5, 0, 0, 20, 0, 0, 0, 28, 0, 0, 0, 36, 0, 0, 0, 0, 0, 0, 0,
-    1, 0, 0, 0, 3, 0, 2, 0, 146, 5, 0, 0, 20, 0, 0, 0, 0, 0, 0, 0, 39, 0, 0, 0, 8, 0, 0, 0,
-    36, 0, 0, 0, 0, 0, 0, 0,
+    1, 0, 1, 0, 1, 0, 1, 0, 239, 69, 248, 2, 20, 0, 0, 0, 28, 0, 0, 0, 28, 0, 0, 0, 0, 0, 0, 0, 1,
+    0, 0, 0, 2, 0, 1, 0, 145, 5, 0, 0, 20, 0, 0, 0, 28, 0, 0, 0, 36, 0, 0, 0, 0, 0, 0, 0, 1, 0, 0,
+    0, 3, 0, 2, 0, 146, 5, 0, 0, 20, 0, 0, 0, 0, 0, 0, 0, 39, 0, 0, 0, 8, 0, 0, 0, 36, 0, 0, 0, 0,
+    0, 0, 0,
 ];
 
 /// Its `.gnu.version_r`.
 const LINKED_VERNEED: [u8; 48] = [
-    1, 0, 2, 0, 20, 0, 0, 0, 16, 0, 0, 0, 0, 0, 0, 0,
-    81, 4, 0, 0, 0, 0, 5, 0, 42, 0, 0, 0, 16, 0, 0, 0,
-    82, 4, 0, 0, 0, 0, 4, 0, 45, 0, 0, 0, 0, 0, 0, 0,
+    1, 0, 2, 0, 20, 0, 0, 0, 16, 0, 0, 0, 0, 0, 0, 0, 81, 4, 0, 0, 0, 0, 5, 0, 42, 0, 0, 0, 16, 0,
+    0, 0, 82, 4, 0, 0, 0, 0, 4, 0, 45, 0, 0, 0, 0, 0, 0, 0,
 ];
 
 fn made(alloc: Global) -> Result<Sections, AllocError> {
@@ -141,6 +135,7 @@ fn fault(alloc: Global, sections: &Sections) -> Option<VerFault> {
 }
 
 const BAD_CHAIN: Option<VerFault> = Some(VerFault::BadChain);
+
 const BAD_INDEX: Option<VerFault> = Some(VerFault::BadIndex);
 
 #[test]
@@ -215,9 +210,15 @@ fn refuses_by_the_first_clause(rt: HostRuntime) -> Result<(), Fail> {
 fn reads_what_a_linker_wrote(rt: HostRuntime) -> Result<(), Fail> {
     let alloc = rt.alloc();
     let made = read(alloc, &made(alloc)?)?;
-    assert_eq!(rt; made.index.as_slice(), [0, 1, 2, 0x8002, 3, 4, 5, 1].as_slice());
+    assert_eq!(rt;
+        made.index.as_slice(),
+        [0, 1, 2, 0x8002, 3, 4, 5, 1].as_slice()
+    );
     let linked = read(alloc, &linked(alloc)?)?;
-    assert_eq!(rt; linked.index.as_slice(), [0, 4, 5, 0x8002, 3, 3, 2, 2, 3].as_slice());
+    assert_eq!(rt;
+        linked.index.as_slice(),
+        [0, 4, 5, 0x8002, 3, 3, 2, 2, 3].as_slice()
+    );
     let names: [(u16, &[u8], bool); 5] = [
         (1, b"liba.so", true),
         (2, b"V1", true),

@@ -30,9 +30,10 @@ returns-in_err-records c =
     rw (p.1, p.2) (each_fails (verdef_at c.args.verdef.now) VERDEF_SIZE c.args.verdef.now _ _ _ _ _ _ c.loop-more-test.true c.verdef_at.ensures c.in_err-records.ensures c.loop-more.invariant.1)
 
 pub loop-more-preserved : goal.loop-more-preserved
-loop-more-preserved c =
-    ((c.loop-more.invariant.0.0, goes_on (is_verdef c.loop-more.invariant.0.0 c.args.verdef.now) VERDEF_SIZE c.args.verdef.now _ _ _ c.loop-more-test.true c.following-at.ensures c.loop-more.invariant.0.1),
-    each_more (verdef_at c.args.verdef.now) VERDEF_SIZE c.args.verdef.now _ _ _ _ _ _ _ c.loop-more-test.true c.verdef_at.ensures c.following-at.ensures c.in_ok-records.ensures c.loop-more.invariant.1)
+loop-more-preserved c = (
+  (c.loop-more.invariant.0.0, goes_on (is_verdef c.loop-more.invariant.0.0 c.args.verdef.now) VERDEF_SIZE c.args.verdef.now _ _ _ c.loop-more-test.true c.following-at.ensures c.loop-more.invariant.0.1),
+  each_more (verdef_at c.args.verdef.now) VERDEF_SIZE c.args.verdef.now _ _ _ _ _ _ _ c.loop-more-test.true c.verdef_at.ensures c.following-at.ensures c.in_ok-records.ensures c.loop-more.invariant.1,
+)
 
 pub returns : goal.returns
 returns c = each_done (verdef_at c.args.verdef.now) VERDEF_SIZE c.args.verdef.now _ _ _ _ c.loop-more-test.false c.loop-more.invariant.1

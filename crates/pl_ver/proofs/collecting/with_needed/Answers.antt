@@ -15,9 +15,10 @@ with_needed_at-requires-clause-record c =
     (opened (is_verneed c.loop-more.invariant.0.0 c.args.verneed.now) VERNEED_SIZE c.args.verneed.now _ _ c.loop-more-test.true c.loop-more.invariant.0.1).within
 
 pub with_needed_at-requires-clause-chain : goal.with_needed_at-requires-clause-chain
-with_needed_at-requires-clause-chain c =
-    (c.loop-more.invariant.0.0,
-    (opened (is_verneed c.loop-more.invariant.0.0 c.args.verneed.now) VERNEED_SIZE c.args.verneed.now _ _ c.loop-more-test.true c.loop-more.invariant.0.1).passed)
+with_needed_at-requires-clause-chain c = (
+  c.loop-more.invariant.0.0,
+  (opened (is_verneed c.loop-more.invariant.0.0 c.args.verneed.now) VERNEED_SIZE c.args.verneed.now _ _ c.loop-more-test.true c.loop-more.invariant.0.1).passed,
+)
 
 pub following-at-requires-clause-within : goal.following-at-requires-clause-within
 following-at-requires-clause-within c =
@@ -29,9 +30,10 @@ returns-in_err-records c =
     rw (p.1, p.2) (lists_fail (needed_at c.args.verneed.now) VERNEED_SIZE c.args.verneed.now _ _ _ _ _ c.loop-more-test.true c.in_err-records.ensures c.loop-more.invariant.1)
 
 pub loop-more-preserved : goal.loop-more-preserved
-loop-more-preserved c =
-    ((c.loop-more.invariant.0.0, goes_on (is_verneed c.loop-more.invariant.0.0 c.args.verneed.now) VERNEED_SIZE c.args.verneed.now _ _ _ c.loop-more-test.true c.following-at.ensures c.loop-more.invariant.0.1),
-    lists_more (needed_at c.args.verneed.now) VERNEED_SIZE c.args.verneed.now _ _ _ _ _ _ c.loop-more-test.true c.following-at.ensures c.in_ok-records.ensures c.loop-more.invariant.1)
+loop-more-preserved c = (
+  (c.loop-more.invariant.0.0, goes_on (is_verneed c.loop-more.invariant.0.0 c.args.verneed.now) VERNEED_SIZE c.args.verneed.now _ _ _ c.loop-more-test.true c.following-at.ensures c.loop-more.invariant.0.1),
+  lists_more (needed_at c.args.verneed.now) VERNEED_SIZE c.args.verneed.now _ _ _ _ _ _ c.loop-more-test.true c.following-at.ensures c.in_ok-records.ensures c.loop-more.invariant.1,
+)
 
 pub returns : goal.returns
 returns c = lists_done (needed_at c.args.verneed.now) VERNEED_SIZE c.args.verneed.now _ _ _ _ c.loop-more-test.false c.loop-more.invariant.1

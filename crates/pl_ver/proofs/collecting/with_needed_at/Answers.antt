@@ -27,9 +27,10 @@ returns-in_err-records c =
     rw (p.1, p.2) (each_fails (vernaux_at c.args.verneed.now) VERNAUX_SIZE c.args.verneed.now _ _ _ _ _ _ c.loop-more-test.true c.vernaux_at.ensures c.in_err-records.ensures c.loop-more.invariant.1)
 
 pub loop-more-preserved : goal.loop-more-preserved
-loop-more-preserved c =
-    ((c.loop-more.invariant.0.0, goes_on (is_named c.loop-more.invariant.0.0 c.args.verneed.now 8) VERNAUX_SIZE c.args.verneed.now _ _ _ c.loop-more-test.true c.following-at.ensures c.loop-more.invariant.0.1),
-    each_more (vernaux_at c.args.verneed.now) VERNAUX_SIZE c.args.verneed.now _ _ _ _ _ _ _ c.loop-more-test.true c.vernaux_at.ensures c.following-at.ensures c.in_ok-records.ensures c.loop-more.invariant.1)
+loop-more-preserved c = (
+  (c.loop-more.invariant.0.0, goes_on (is_named c.loop-more.invariant.0.0 c.args.verneed.now 8) VERNAUX_SIZE c.args.verneed.now _ _ _ c.loop-more-test.true c.following-at.ensures c.loop-more.invariant.0.1),
+  each_more (vernaux_at c.args.verneed.now) VERNAUX_SIZE c.args.verneed.now _ _ _ _ _ _ _ c.loop-more-test.true c.vernaux_at.ensures c.following-at.ensures c.in_ok-records.ensures c.loop-more.invariant.1,
+)
 
 pub returns : goal.returns
 returns c = each_done (vernaux_at c.args.verneed.now) VERNAUX_SIZE c.args.verneed.now _ _ _ _ c.loop-more-test.false c.loop-more.invariant.1

@@ -1,4 +1,4 @@
-use Rattle.std.proofs.Common.{refl, [], false}
+use Rattle.std.proofs.Common.{refl}
 use Rattle.pl_ver.proofs.TakenLaws.{none_taken}
 use Rattle.pl_ver.proofs.records.Records.new.Goals as goal
 
