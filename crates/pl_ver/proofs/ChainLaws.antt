@@ -1,7 +1,7 @@
 -- A chain, one record at a time.
 use Rattle.std.proofs.Common.{◌≡◌, ℕ, zero, suc, ◌+◌, ◌-◌, ◌<◌, ◌≤◌, Bool, true, not, ◌&&◌, List, [], ◌∷◌, length, refl, sym, ◌∙◌, arith, eqb}
 use Rattle.std.proofs.lemmas.Bool.{and_parts, leb-true}
-use Rattle.pl_ver.specs.declared.constants.TheConstants.{VERDAUX_SIZE, VERNAUX_SIZE}
+use Rattle.pl_ver.specs.declared.constants.TheConstants.{VERDAUX_SIZE, VERNAUX_SIZE, VDA_NAME, VN_FILE, VNA_NAME}
 use Rattle.pl_ver.specs.Fields.{next, verdef_count, verdef_names, verneed_count, verneed_versions}
 use Rattle.pl_ver.specs.Chains.{chain, is_linked, is_chain, is_named, is_verdef, is_verneed}
 
@@ -68,11 +68,11 @@ pub first_name_lies : (strings verdef : List ℕ) (at : ℕ) → is_verdef strin
 unfolding is_verdef
 first_name_lies strings verdef at good =
     let parts = and_parts (not (eqb (verdef_count verdef at) 0)) _ good in
-    let o = opened (is_named strings verdef 0) VERDAUX_SIZE verdef (verdef_count verdef at) (verdef_names verdef at) (not_zero (verdef_count verdef at) parts.0) parts.1 in
+    let o = opened (is_named strings verdef VDA_NAME) VERDAUX_SIZE verdef (verdef_count verdef at) (verdef_names verdef at) (not_zero (verdef_count verdef at) parts.0) parts.1 in
     o.within
 
 -- its versions are a chain
 pub versions_chain : (strings verneed : List ℕ) (at : ℕ) → is_verneed strings verneed at ≡ true
-    → is_chain (is_named strings verneed 8) VERNAUX_SIZE verneed (verneed_count verneed at) (verneed_versions verneed at) ≡ true
+    → is_chain (is_named strings verneed VNA_NAME) VERNAUX_SIZE verneed (verneed_count verneed at) (verneed_versions verneed at) ≡ true
 unfolding is_verneed
-versions_chain strings verneed at good = (and_parts (is_named strings verneed 4 at) _ good).1
+versions_chain strings verneed at good = (and_parts (is_named strings verneed VN_FILE at) _ good).1

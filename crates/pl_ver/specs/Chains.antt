@@ -2,7 +2,7 @@
 use Rattle.std.specs.Prelude.{ℕ, zero, suc, ◌+◌, Bool, true, not, ◌&&◌, ◌==◌, nat_le, List, [], ◌∷◌, map, flat_map, length, drop, if◌then◌else◌}
 use Rattle.std.specs.List.{list_any}
 use Rattle.pl_base.specs.Bytes.{word32}
-use Rattle.pl_ver.specs.declared.constants.TheConstants.{VERDEF_SIZE, VERDAUX_SIZE, VERNEED_SIZE, VERNAUX_SIZE}
+use Rattle.pl_ver.specs.declared.constants.TheConstants.{VERDEF_SIZE, VERDAUX_SIZE, VERNEED_SIZE, VERNAUX_SIZE, VDA_NAME, VN_FILE, VNA_NAME}
 use Rattle.pl_ver.specs.declared.record.Record.{Record}
 use Rattle.pl_ver.specs.Fields.{next, verdef_count, verdef_names, verdef_at, verneed_count, verneed_versions, vernaux_at}
 
@@ -31,7 +31,7 @@ is_zero byte = byte == 0
 unfoldable pub has_end : List ℕ → ℕ → Bool
 has_end strings at = list_any is_zero (drop at strings)
 
--- a record's name, whose place in the strings stands so far behind the record's begin, has an end
+-- the string whose place stands in a record, so many bytes behind the record's begin, has an end
 unfoldable pub is_named : List ℕ → List ℕ → ℕ → ℕ → Bool
 is_named strings section field at = has_end strings (word32 (at + field) section)
 
@@ -39,13 +39,13 @@ is_named strings section field at = has_end strings (word32 (at + field) section
 unfoldable pub is_verdef : List ℕ → List ℕ → ℕ → Bool
 is_verdef strings verdef at =
     not (verdef_count verdef at == 0)
-    && is_chain (is_named strings verdef 0) VERDAUX_SIZE verdef (verdef_count verdef at) (verdef_names verdef at)
+    && is_chain (is_named strings verdef VDA_NAME) VERDAUX_SIZE verdef (verdef_count verdef at) (verdef_names verdef at)
 
 -- the names of a Verneed's file and of each version that is needed of it have an end
 unfoldable pub is_verneed : List ℕ → List ℕ → ℕ → Bool
 is_verneed strings verneed at =
-    is_named strings verneed 4 at
-    && is_chain (is_named strings verneed 8) VERNAUX_SIZE verneed (verneed_count verneed at) (verneed_versions verneed at)
+    is_named strings verneed VN_FILE at
+    && is_chain (is_named strings verneed VNA_NAME) VERNAUX_SIZE verneed (verneed_count verneed at) (verneed_versions verneed at)
 
 unfoldable pub are_verdefs : List ℕ → List ℕ → ℕ → Bool
 are_verdefs strings verdef defs = is_chain (is_verdef strings verdef) VERDEF_SIZE verdef defs 0

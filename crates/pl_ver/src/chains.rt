@@ -3,7 +3,9 @@ ghost use Rattle.std.specs.Prelude.{◌≡◌, ℕ, ◌+◌, ◌≤◌, List, le
 ghost use Rattle.pl_ver.specs.Lengths.{AreLengths};
 ghost use Rattle.pl_ver.specs.Chains as spec;
 
-use crate::constants::{NEXT_SIZE, VERDAUX_SIZE, VERDEF_SIZE, VERNAUX_SIZE, VERNEED_SIZE};
+use crate::constants::{
+    NEXT_SIZE, VDA_NAME, VERDAUX_SIZE, VERDEF_SIZE, VERNAUX_SIZE, VERNEED_SIZE, VN_FILE, VNA_NAME,
+};
 use crate::fields::{following, next, verdef_count, verdef_names, verneed_count, verneed_versions};
 use crate::lengths::{has_length, lengths};
 use crate::strings::Strings;
@@ -24,7 +26,7 @@ fn is_linked(section: &[u8], size: usize, more: u64, at: usize) -> bool
     if more == 0 { next == 0 } else { next != 0 }
 }
 
-/// Whether a record's name, whose place in the strings stands so many bytes behind the record's begin, has an end.
+/// Whether the string whose place stands in a record, so many bytes behind the record's begin, has an end.
 #[tactic(auto, unfolding(crate::specs::Chains::is_named))]
 pub fn is_named(strings: &Strings<'_>, section: &[u8], field: usize, at: usize) -> bool
     requires { at + field + 4 ≤ length section.now }
@@ -37,7 +39,7 @@ pub fn is_named(strings: &Strings<'_>, section: &[u8], field: usize, at: usize) 
 #[tactic(auto, unfolding(crate::specs::Chains::is_verdef))]
 fn is_verdef(lengths: &[u16], verdef: &[u8], at: usize) -> bool
     requires { at + VERDEF_SIZE ≤ length verdef.now }
-    ensures { (strings : List ℕ) → AreLengths (spec.is_named strings verdef.now 0) VERDAUX_SIZE verdef.now lengths.now 0 → result ≡ spec.is_verdef strings verdef.now at }
+    ensures { (strings : List ℕ) → AreLengths (spec.is_named strings verdef.now VDA_NAME) VERDAUX_SIZE verdef.now lengths.now 0 → result ≡ spec.is_verdef strings verdef.now at }
 {
     let count = verdef_count(verdef, at);
     count != 0 && has_length(lengths, count, verdef_names(verdef, at))
@@ -47,11 +49,12 @@ fn is_verdef(lengths: &[u16], verdef: &[u8], at: usize) -> bool
 #[tactic(auto, unfolding(crate::specs::Chains::is_verneed))]
 fn is_verneed(strings: &Strings<'_>, lengths: &[u16], verneed: &[u8], at: usize) -> bool
     requires record { at + VERNEED_SIZE ≤ length verneed.now }
-    requires lengths { AreLengths (spec.is_named strings.now verneed.now 8) VERNAUX_SIZE verneed.now lengths.now 0 }
+    requires lengths { AreLengths (spec.is_named strings.now verneed.now VNA_NAME) VERNAUX_SIZE verneed.now lengths.now 0 }
     ensures { result ≡ spec.is_verneed strings.now verneed.now at }
 {
     let count = verneed_count(verneed, at);
-    is_named(strings, verneed, 4, at) && has_length(lengths, count, verneed_versions(verneed, at))
+    is_named(strings, verneed, VN_FILE, at)
+        && has_length(lengths, count, verneed_versions(verneed, at))
 }
 
 /// Whether so many Verdefs from the section's begin on are a chain.
@@ -64,7 +67,7 @@ pub fn are_verdefs(
 ) -> Result<bool, AllocError>
     ensures { IfOk result (λ all. all ≡ spec.are_verdefs strings.now verdef.now defs) }
 {
-    let lengths = lengths(alloc, strings, verdef, VERDAUX_SIZE, 0)?;
+    let lengths = lengths(alloc, strings, verdef, VERDAUX_SIZE, VDA_NAME)?;
     let mut at = 0;
     let mut more = defs;
     while more > 0 {
@@ -90,7 +93,7 @@ pub fn are_verneeds(
 ) -> Result<bool, AllocError>
     ensures { IfOk result (λ all. all ≡ spec.are_verneeds strings.now verneed.now needs) }
 {
-    let lengths = lengths(alloc, strings, verneed, VERNAUX_SIZE, 8)?;
+    let lengths = lengths(alloc, strings, verneed, VERNAUX_SIZE, VNA_NAME)?;
     let mut at = 0;
     let mut more = needs;
     while more > 0 {

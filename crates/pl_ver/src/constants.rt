@@ -15,6 +15,15 @@ pub const VERNAUX_SIZE: usize = 16;
 /// Bytes of the field `next`, which ends each of these records.
 pub const NEXT_SIZE: usize = 4;
 
+/// Offset in a Verdaux of the field that tells where the version's name begins in the strings.
+pub const VDA_NAME: usize = 0;
+
+/// Offset in a Verneed of the field that tells where the file's name begins in the strings.
+pub const VN_FILE: usize = 4;
+
+/// Offset in a Vernaux of the field that tells where the version's name begins in the strings.
+pub const VNA_NAME: usize = 8;
+
 /// Bytes of a symbol's version word.
 pub const VERSYM_SIZE: usize = 2;
 

@@ -189,6 +189,8 @@ fn refuses_by_the_first_clause(rt: HostRuntime) -> Result<(), Fail> {
         (Edit::Verdef(4, 0), None),
         (Edit::Verdef(30, 1), None),
         (Edit::Verneed(38, 0), BAD_INDEX),
+        // a Verdaux that two Verdefs share
+        (Edit::Verdef(12, 48), None),
         // versions, hashes, flags of Vernaux records
         (Edit::Verdef(0, 9), None),
         (Edit::Verdef(8, 9), None),

@@ -1,6 +1,6 @@
 use Rattle.std.proofs.Common.{refl}
 use Rattle.std.proofs.lemmas.Result.{err_from_is_err_and}
-use Rattle.pl_ver.specs.declared.constants.TheConstants.{VERNAUX_SIZE}
+use Rattle.pl_ver.specs.declared.constants.TheConstants.{VERNAUX_SIZE, VNA_NAME}
 use Rattle.pl_ver.specs.Fields.{vernaux_at}
 use Rattle.pl_ver.specs.Chains.{is_named, needed_at}
 use Rattle.pl_ver.proofs.ChainLaws.{opened, goes_on, versions_chain}
@@ -15,11 +15,11 @@ loop-more-init c =
 
 pub vernaux_at-requires : goal.vernaux_at-requires
 vernaux_at-requires c =
-    (opened (is_named c.loop-more.invariant.0.0 c.args.verneed.now 8) VERNAUX_SIZE c.args.verneed.now _ _ c.loop-more-test.true c.loop-more.invariant.0.1).within
+    (opened (is_named c.loop-more.invariant.0.0 c.args.verneed.now VNA_NAME) VERNAUX_SIZE c.args.verneed.now _ _ c.loop-more-test.true c.loop-more.invariant.0.1).within
 
 pub following-at-requires-clause-within : goal.following-at-requires-clause-within
 following-at-requires-clause-within c =
-    (opened (is_named c.loop-more.invariant.0.0 c.args.verneed.now 8) VERNAUX_SIZE c.args.verneed.now _ _ c.loop-more-test.true c.loop-more.invariant.0.1).within
+    (opened (is_named c.loop-more.invariant.0.0 c.args.verneed.now VNA_NAME) VERNAUX_SIZE c.args.verneed.now _ _ c.loop-more-test.true c.loop-more.invariant.0.1).within
 
 pub returns-in_err-records : goal.returns-in_err-records
 returns-in_err-records c =
@@ -28,7 +28,7 @@ returns-in_err-records c =
 
 pub loop-more-preserved : goal.loop-more-preserved
 loop-more-preserved c = (
-  (c.loop-more.invariant.0.0, goes_on (is_named c.loop-more.invariant.0.0 c.args.verneed.now 8) VERNAUX_SIZE c.args.verneed.now _ _ _ c.loop-more-test.true c.following-at.ensures c.loop-more.invariant.0.1),
+  (c.loop-more.invariant.0.0, goes_on (is_named c.loop-more.invariant.0.0 c.args.verneed.now VNA_NAME) VERNAUX_SIZE c.args.verneed.now _ _ _ c.loop-more-test.true c.following-at.ensures c.loop-more.invariant.0.1),
   each_more (vernaux_at c.args.verneed.now) VERNAUX_SIZE c.args.verneed.now _ _ _ _ _ _ _ c.loop-more-test.true c.vernaux_at.ensures c.following-at.ensures c.in_ok-records.ensures c.loop-more.invariant.1,
 )
 
