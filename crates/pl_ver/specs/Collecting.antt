@@ -20,7 +20,7 @@ add_all before records = run add before records
 unfoldable pub distinct : List Record → Result (List Record) VerFault
 distinct records = unless (any_share records) BadIndex (Ok records)
 
--- a section that clause 17 does not refuse, whatever the strings are
+-- a section, and a Verneed, that clause 17 does not refuse with some strings
 abbrev pub AreVerdefs : List ℕ → ℕ → Type 0
 AreVerdefs verdef defs = (strings : List ℕ) × (are_verdefs strings verdef defs ≡ true)
 

@@ -2,7 +2,7 @@
 use Rattle.std.specs.Prelude.{◌≡◌, ◌<◌, ◌≤◌, ℕ, Bool, ◌==◌, List, length, slice_index}
 use Rattle.pl_ver.specs.Chains.{is_chain}
 
--- what a length says: of which count the chain from an offset on is, among those that a record can tell
+-- what a length says: the chain from an offset on has this count and no other, among the counts above 0 that fit the field of a record
 abbrev pub IsLength : (ℕ → Bool) → ℕ → List ℕ → ℕ → ℕ → Type 0
 IsLength passes size section at size_of_chain = (count : ℕ) → 0 < count → count < 0x10000 → is_chain passes size section count at ≡ (count == size_of_chain)
 

@@ -1,4 +1,4 @@
-// The records of all versions that a chain of records has.
+// Collects the records of the versions that an object defines and needs.
 ghost use Rattle.std.specs.Prelude.{◌≡◌, ◌+◌, ◌++◌, ◌≤◌, [], length};
 ghost use Rattle.pl_base.specs.Answers.{Answers};
 ghost use Rattle.pl_ver.specs.Chains.{defined, needed, needed_at};

@@ -17,7 +17,7 @@ fn length_from(lengths: &[u16], at: usize) -> u16
     if at < lengths.len() { lengths[at] } else { 0 }
 }
 
-/// The length of the chain from an offset on, where the lengths behind it are known.
+/// The length of the chain from an offset on, where the lengths behind it are known. A chain of more than 65535 records counts as none, since no record's count is so great.
 #[tactic(auto, using(crate::proofs::LengthLaws::outside, crate::proofs::LengthLaws::unnamed, crate::proofs::LengthLaws::last, crate::proofs::LengthLaws::linked, crate::proofs::LengthLaws::cut_off))]
 fn length_at(
     strings: &Strings<'_>,
