@@ -15,7 +15,7 @@ stored (Some bytes) = if nat_le (length bytes) STORED then Ok bytes else Err Too
 abbrev pub taken : Files → List ℕ → Result (List ℕ) FolderFault
 taken files name = stored (get files name)
 
--- why there is no answer: a fault of the folder has its reason, as that its count rose, or that it was the call's turn to fail; a want of memory may come at any time; all else is what the files mean, if the folder tells them
+-- why there is no answer: a fault of the folder has the reason that is given, such as that its count rose; a want of memory may come at any time; all else is what the files mean, if the folder tells them
 abbrev pub Explains : Bool → Result (List ℕ) FolderFault → Type 0 → FolderFault → Type 0
 Explains tells meant why Failed = why
 Explains tells meant why NotThere = tells ≡ true → meant ≡ Err NotThere
