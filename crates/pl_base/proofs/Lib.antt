@@ -12,3 +12,4 @@ pub mod WordLaws
 pub mod MemoryLaws
 pub mod HexLaws
 pub mod AnswerLaws
+pub mod NameLaws

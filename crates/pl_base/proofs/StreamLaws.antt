@@ -1,7 +1,7 @@
 -- What a sink has got after one piece and then another.
-use Rattle.std.proofs.Common.{◌≡◌, ◌≤◌, ℕ, ◌+◌, List, [], ◌++◌, length, length-append, take, drop, Option, Some, None, refl, ap, ◌∙◌, sym, append_assoc, arith, length-drop}
+use Rattle.std.proofs.Common.{◌≡◌, ◌≤◌, ℕ, ◌+◌, ◌-◌, List, [], ◌++◌, length, length-append, take, drop, Option, Some, None, refl, ap, ◌∙◌, sym, append_assoc, arith, length-drop}
 use Rattle.std.proofs.lemmas.List.{append-nil, take-append-le}
-use Rattle.std.proofs.Math.Seq.{take-add, take-append-add, take-length}
+use Rattle.std.proofs.Math.Seq.{take-add, take-append-add, take-append_seam, take-length}
 use Rattle.pl_base.specs.Streams.{got_after, GotPrefix}
 
 -- no bytes more
@@ -41,3 +41,11 @@ GotPrefix-all old new xs e = (length xs, omega arith, e ∙ ap (got_after old) (
 -- none of them
 pub GotPrefix-none : (old : Option (List ℕ)) (xs : List ℕ) → GotPrefix old old xs
 GotPrefix-none old xs = (0, omega arith, sym (got_after-nil old))
+
+-- what is got, with the last of the bytes still to come
+pub GotPrefix-left : (old got rest bytes : List ℕ) → length rest ≤ length bytes → got ++ rest ≡ old ++ bytes → GotPrefix (Some old) (Some got) bytes
+GotPrefix-left old got rest bytes le e =
+    let n = length bytes - length rest in
+    let sizes : length got + length rest ≡ length old + length bytes = sym (length-append got rest) ∙ ap length e ∙ length-append old bytes in
+    let size : length got ≡ length old + n = omega (arith, sizes, le) in
+    (n, omega arith, ap Some (sym (take-append_seam got rest) ∙ ap (take (length got)) e ∙ ap (λ m. take m (old ++ bytes)) size ∙ take-append-add old bytes n))

@@ -25,12 +25,14 @@ impl<T> Rows<T> {
         }
     }
 
+    /// The rows of a vector, which it takes over. It takes no memory.
     pub fn from_vec(rows: Vec<T>) -> Rows<T>
         ensures { result ≡ rows.items }
     {
         Rows { rows }
     }
 
+    /// The rows as a vector. It takes no memory.
     pub fn into_vec(self) -> Vec<T>
         ensures { result.items ≡ self }
     {
@@ -38,18 +40,21 @@ impl<T> Rows<T> {
         rows
     }
 
+    /// The rows, lent.
     pub fn as_slice(&self) -> &[T]
         ensures { result.now ≡ self.now }
     {
         self.rows.as_slice()
     }
 
+    /// How many rows there are.
     pub fn len(&self) -> usize
         ensures { result ≡ length self.now }
     {
         self.rows.len()
     }
 
+    /// Whether there are no rows.
     pub fn is_empty(&self) -> bool
         ensures { IsTrue result ↔ (self.now ≡ []) }
     {

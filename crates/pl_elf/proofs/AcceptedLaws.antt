@@ -10,7 +10,7 @@ use Rattle.pl_elf.specs.declared.constants.TheConstants.{SEGMENT_SIZE}
 use Rattle.pl_elf.specs.declared.header.Header.{Header}
 use Rattle.pl_elf.specs.declared.segment.Segment.{Segment}
 use Rattle.pl_elf.specs.Headers.{header, segments, sections, is_load, loads}
-use Rattle.pl_elf.specs.Clauses.{read, not_elf, other_class, other_machine, other_kind, truncated, bad_segment, bad_section, no_sections, has_twice, bad_load, bad_tls, ascend_from, overlap_in_file, AreLoads}
+use Rattle.pl_elf.specs.Clauses.{read, not_elf, other_class, other_machine, other_kind, truncated, bad_segment, bad_section, no_sections, has_second_of_a_kind, bad_load, bad_tls, ascend_from, overlap_in_file, AreLoads}
 use Rattle.pl_elf.specs.declared.fault.HeaderFault.TheVariants.{NotElf, Class, Machine, Kind, Truncated, BadSegment, BadSection, NoSections}
 
 -- none of the eight tests holds
@@ -73,7 +73,7 @@ loads_accepted bytes ok =
     let ss = segments bytes h in
     let all = segments_pass bytes ok in
     let fit : list_any (λ s. is_load s && bad_load s) ss ≡ false =
-    fourth_fails (not (h.phentsize == SEGMENT_SIZE)) (not (list_any is_load ss)) (has_twice ss) (list_any (λ s. is_load s && bad_load s) ss) (not (ascend_from 0 (loads ss))) (overlap_in_file ss) (list_any bad_tls ss) all in
+    fourth_fails (not (h.phentsize == SEGMENT_SIZE)) (not (list_any is_load ss)) (has_second_of_a_kind ss) (list_any (λ s. is_load s && bad_load s) ss) (not (ascend_from 0 (loads ss))) (overlap_in_file ss) (list_any bad_tls ss) all in
     let ascend : not (ascend_from 0 (loads ss)) ≡ false =
-    fifth_fails (not (h.phentsize == SEGMENT_SIZE)) (not (list_any is_load ss)) (has_twice ss) (list_any (λ s. is_load s && bad_load s) ss) (not (ascend_from 0 (loads ss))) (overlap_in_file ss) (list_any bad_tls ss) all in
+    fifth_fails (not (h.phentsize == SEGMENT_SIZE)) (not (list_any is_load ss)) (has_second_of_a_kind ss) (list_any (λ s. is_load s && bad_load s) ss) (not (ascend_from 0 (loads ss))) (overlap_in_file ss) (list_any bad_tls ss) all in
     record { ascend = holds (ascend_from 0 (loads ss)) ascend; fit = any_filtered is_load bad_load ss fit }

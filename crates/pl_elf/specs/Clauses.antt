@@ -1,4 +1,4 @@
--- What acceptance clauses 1 to 8 refuse, each a test of the whole file. The first that refuses is the file's fault.
+-- What acceptance clauses 1 to 8 refuse, each a test of the whole file. The first that refuses is the file's fault. At the head of each stands where its rules come from: System V gABI, chapters 4 and 5, or this project's profile, which takes fewer files.
 use Rattle.std.specs.Prelude.{◌≡◌, ℕ, ◌+◌, ◌*◌, ◌%◌, Bool, true, false, not, ◌&&◌, ◌||◌, ◌==◌, nat_lt, nat_le, List, [], ◌∷◌, length, drop, map, Result, Ok, Err, if◌then◌else◌}
 use Rattle.std.specs.List.{range_with_len, list_any}
 use Rattle.std.specs.Int.{is_power_of_two}
@@ -6,7 +6,7 @@ use Rattle.pl_base.specs.Bytes.{byte, part}
 use Rattle.pl_base.specs.Answers.{refuse}
 use Rattle.pl_base.specs.Windows.{Window, any_share}
 use Rattle.pl_elf.specs.Headers.{header, segment, segment_place, segments, section, sections, is_of_kind, is_load, is_dynamic, loads, count_of_kind}
-use Rattle.pl_elf.specs.declared.constants.TheConstants.{HEADER_SIZE, SEGMENT_SIZE, SECTION_SIZE, ELFMAG0, ELFMAG1, ELFMAG2, ELFMAG3, EI_CLASS, EI_DATA, EI_VERSION, ELFCLASS64, ELFDATA2LSB, EV_CURRENT, ET_EXEC, ET_DYN, EM_X86_64, PT_DYNAMIC, PT_INTERP, PT_TLS, SHT_NOBITS, MAX_LOAD_ALIGN, ADDRESS_LIMIT, MAX_SECTIONS}
+use Rattle.pl_elf.specs.declared.constants.TheConstants.{HEADER_SIZE, SEGMENT_SIZE, SECTION_SIZE, EI_MAG0, EI_MAG1, EI_MAG2, EI_MAG3, ELFMAG0, ELFMAG1, ELFMAG2, ELFMAG3, EI_CLASS, EI_DATA, EI_VERSION, ELFCLASS64, ELFDATA2LSB, EV_CURRENT, ET_EXEC, ET_DYN, EM_X86_64, PT_DYNAMIC, PT_INTERP, PT_TLS, SHT_NOBITS, MAX_LOAD_ALIGN, ADDRESS_LIMIT, MAX_SECTIONS}
 use Rattle.pl_elf.specs.declared.header.Header.{Header}
 use Rattle.pl_elf.specs.declared.segment.Segment.{Segment}
 use Rattle.pl_elf.specs.declared.section.Section.{Section}
@@ -18,23 +18,27 @@ unfoldable pub passes : List ℕ → ℕ → ℕ → Bool
 passes bytes offset size = nat_lt (length bytes) (offset + size)
 
 -- ---- 1. NotElf
+-- the magic bytes, and the size of a header: gABI chapter 4, "ELF Identification" and "ELF Header"
 
 unfoldable pub not_elf : List ℕ → Bool
 not_elf bytes =
     nat_lt (length bytes) HEADER_SIZE
-    || not (byte 0 bytes == ELFMAG0 && byte 1 bytes == ELFMAG1 && byte 2 bytes == ELFMAG2 && byte 3 bytes == ELFMAG3)
+    || not (byte EI_MAG0 bytes == ELFMAG0 && byte EI_MAG1 bytes == ELFMAG1 && byte EI_MAG2 bytes == ELFMAG2 && byte EI_MAG3 bytes == ELFMAG3)
 
 -- ---- 2. Class
+-- the numbers: gABI chapter 4, "ELF Identification"; that only these are taken: x86-64 psABI, "Machine Information"
 
 unfoldable pub other_class : List ℕ → Bool
 other_class bytes = not (byte EI_CLASS bytes == ELFCLASS64 && byte EI_DATA bytes == ELFDATA2LSB && byte EI_VERSION bytes == EV_CURRENT)
 
 -- ---- 3. Machine
+-- the number: x86-64 psABI, "Machine Information"; that only it is taken: this project's profile
 
 abbrev pub other_machine : Header → Bool
 other_machine h = not (h.machine == EM_X86_64)
 
 -- ---- 4. Kind
+-- the types: gABI chapter 4, "ELF Header"; that only these are taken, and an ET_DYN only with PT_DYNAMIC: this project's profile
 
 -- a program header that lies in the file and is PT_DYNAMIC
 unfoldable pub is_seen_dynamic : List ℕ → Header → ℕ → Bool
@@ -48,6 +52,8 @@ unfoldable pub other_kind : List ℕ → Header → Bool
 other_kind bytes h = not (h.kind == ET_EXEC) && not (h.kind == ET_DYN && has_dynamic bytes h)
 
 -- ---- 5. Truncated
+-- where tables, sections and segments stand in a file: gABI chapter 4, "ELF Header" and "Sections", and chapter 5, "Program Header"
+-- which of them are looked at, and when: this project's profile
 
 -- a program without a dynamic table
 unfoldable pub is_static : List ℕ → Header → Bool
@@ -67,6 +73,8 @@ truncated bytes h =
     || list_any (section_passes bytes) (sections bytes h)
 
 -- ---- 6. BadSegment
+-- gABI chapter 5, "Program Header": memsz is at least filesz, an alignment is 0 or a power of two, address and file offset are congruent modulo it, PT_LOADs ascend, PT_INTERP stands at most once
+-- this project's profile: the size of a program header, at least one PT_LOAD, at most one PT_DYNAMIC and PT_TLS, the greatest alignment and address, no byte in common
 
 -- neither 0 nor a power of two
 unfoldable pub bad_align : ℕ → Bool
@@ -103,12 +111,12 @@ abbrev pub bad_tls : Segment → Bool
 bad_tls s = is_of_kind PT_TLS s && bad_align s.align
 
 -- more than one segment of a kind that may stand once
-unfoldable pub has_twice : List Segment → Bool
-has_twice ss = nat_lt 1 (count_of_kind PT_DYNAMIC ss) || nat_lt 1 (count_of_kind PT_TLS ss) || nat_lt 1 (count_of_kind PT_INTERP ss)
+unfoldable pub has_second_of_a_kind : List Segment → Bool
+has_second_of_a_kind ss = nat_lt 1 (count_of_kind PT_DYNAMIC ss) || nat_lt 1 (count_of_kind PT_TLS ss) || nat_lt 1 (count_of_kind PT_INTERP ss)
 
 unfoldable pub bad_segment : Header → List Segment → Bool
 bad_segment h ss =
-    not (h.phentsize == SEGMENT_SIZE) || not (list_any is_load ss) || has_twice ss
+    not (h.phentsize == SEGMENT_SIZE) || not (list_any is_load ss) || has_second_of_a_kind ss
     || list_any (λ s. is_load s && bad_load s) ss || not (ascend_from 0 (loads ss)) || overlap_in_file ss
     || list_any bad_tls ss
 
@@ -118,6 +126,8 @@ pub record AreLoads (ss : List Segment) : Type 0 where
   pub fit : list_any bad_load ss ≡ false
 
 -- ---- 7. BadSection
+-- gABI chapter 4, "ELF Header", "Sections" and "String Table": the index of the section of names, and names that a 0 byte ends
+-- this project's profile: the size of a section header, and the most sections
 
 -- the bytes of a section in the file
 unfoldable pub section_bytes : List ℕ → Section → List ℕ
@@ -141,11 +151,13 @@ bad_section bytes h ss =
     || list_any (λ s. no_end (names bytes h) s.name) ss)
 
 -- ---- 8. NoSections
+-- this project's profile
 
 abbrev pub no_sections : Header → Bool
 no_sections h = h.shnum == 0
 
 -- ---- the eight in order
+-- this project's profile
 
 -- the header, or the first clause that refuses the file
 unfoldable pub read : List ℕ → Result Header HeaderFault

@@ -6,8 +6,9 @@ ghost use Rattle.pl_elf.specs.Headers.{HasSections, HasSegments, sections, segme
 ghost use Rattle.pl_elf.specs.Clauses as spec;
 
 use crate::constants::{
-    EI_CLASS, EI_DATA, EI_VERSION, ELFCLASS64, ELFDATA2LSB, ELFMAG0, ELFMAG1, ELFMAG2, ELFMAG3,
-    ET_DYN, ET_EXEC, EV_CURRENT, HEADER_SIZE, SECTION_SIZE, SEGMENT_SIZE, SHT_NOBITS,
+    EI_CLASS, EI_DATA, EI_MAG0, EI_MAG1, EI_MAG2, EI_MAG3, EI_VERSION, ELFCLASS64, ELFDATA2LSB,
+    ELFMAG0, ELFMAG1, ELFMAG2, ELFMAG3, ET_DYN, ET_EXEC, EV_CURRENT, HEADER_SIZE, SECTION_SIZE,
+    SEGMENT_SIZE, SHT_NOBITS,
 };
 use crate::{Header, Section, Segment, read_section, read_segment};
 
@@ -19,18 +20,20 @@ fn passes(bytes: &[u8], offset: u128, size: u64) -> bool
     offset + u128::from(size) > bytes.len() as u128
 }
 
+/// Acceptance clause 1: whether the file is shorter than a header or begins with other magic bytes (gABI chapter 4, "ELF Identification").
 #[tactic(auto, unfolding(crate::specs::Clauses::not_elf))]
 pub fn not_elf(bytes: &[u8]) -> bool
     ensures test { result ≡ spec.not_elf bytes.now }
     ensures long { OnFalse result (HEADER_SIZE ≤ length bytes.now) }
 {
     bytes.len() < HEADER_SIZE
-        || !(bytes[0] == ELFMAG0
-            && bytes[1] == ELFMAG1
-            && bytes[2] == ELFMAG2
-            && bytes[3] == ELFMAG3)
+        || !(bytes[EI_MAG0] == ELFMAG0
+            && bytes[EI_MAG1] == ELFMAG1
+            && bytes[EI_MAG2] == ELFMAG2
+            && bytes[EI_MAG3] == ELFMAG3)
 }
 
+/// Acceptance clause 2: whether the class, the byte order or the version is another (gABI chapter 4, "ELF Identification").
 #[tactic(auto, unfolding(crate::specs::Clauses::other_class))]
 pub fn other_class(bytes: &[u8]) -> bool
     requires { HEADER_SIZE ≤ length bytes.now }
@@ -64,6 +67,7 @@ pub fn has_dynamic(bytes: &[u8], header: &Header) -> bool
     (0..header.phnum).any(|index| is_seen_dynamic(bytes, header, index))
 }
 
+/// Acceptance clause 4: whether the file is neither ET_EXEC nor an ET_DYN with PT_DYNAMIC.
 #[tactic(auto, unfolding(crate::specs::Clauses::other_kind))]
 pub fn other_kind(bytes: &[u8], header: &Header) -> bool
     ensures { result ≡ spec.other_kind bytes.now header.now }
@@ -111,6 +115,7 @@ fn any_section_passes(bytes: &[u8], header: &Header) -> bool
         .any(|section| section_passes(bytes, &section))
 }
 
+/// Acceptance clause 5: whether a table, a segment or a section passes the end of the file. In a static program a segment without file bytes is not looked at.
 #[tactic(auto, unfolding(crate::specs::Clauses::truncated, crate::specs::Clauses::passes))]
 pub fn truncated(bytes: &[u8], header: &Header) -> bool
     ensures test { result ≡ spec.truncated bytes.now header.now }

@@ -12,13 +12,28 @@ pub const SECTION_SIZE: usize = 64;
 /// Bytes of the identification that begins the header.
 pub const EI_NIDENT: usize = 16;
 
-/// The first four bytes of an ELF file.
+/// Index of the first of the four magic bytes in the identification.
+pub const EI_MAG0: usize = 0;
+
+/// Index of the second magic byte.
+pub const EI_MAG1: usize = 1;
+
+/// Index of the third magic byte.
+pub const EI_MAG2: usize = 2;
+
+/// Index of the last magic byte.
+pub const EI_MAG3: usize = 3;
+
+/// The first magic byte.
 pub const ELFMAG0: u8 = 0x7f;
 
+/// The second magic byte, `E`.
 pub const ELFMAG1: u8 = 0x45;
 
+/// The third magic byte, `L`.
 pub const ELFMAG2: u8 = 0x4c;
 
+/// The last magic byte, `F`.
 pub const ELFMAG3: u8 = 0x46;
 
 /// Index of the class in the identification.

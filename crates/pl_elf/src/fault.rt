@@ -23,11 +23,11 @@ pub enum HeaderFault {
     #[error("cut short")]
     Truncated,
 
-    /// Acceptance clause 6: the program headers do not fit together.
+    /// Acceptance clause 6: program headers of another size than 56 bytes, no PT_LOAD, or more than one PT_DYNAMIC, PT_TLS or PT_INTERP; a PT_LOAD with more bytes in the file than in memory, whose alignment is neither 0 nor a power of two or is above 2 MiB, whose address and file offset are not congruent modulo the alignment, or that ends above 2^47; PT_LOADs that do not ascend in memory, each at or after the end of the one before, or that have a byte of the file in common; or a PT_TLS whose alignment is neither 0 nor a power of two.
     #[error("a bad segment")]
     BadSegment,
 
-    /// Acceptance clause 7: the section headers do not fit together.
+    /// Acceptance clause 7, of a file that has section headers: they are of another size than 64 bytes or more than 65000, the index of the section of section names is none of theirs, or a section's name has no 0 byte that ends it there.
     #[error("a bad section")]
     BadSection,
 

@@ -7,14 +7,16 @@ use pl_base::{word16, word32, word64};
 /// The ELF header, the first 64 bytes of a file (gABI chapter 4, "ELF Header").
 #[derive(Clone, Copy, Debug, PartialEq, Eq)]
 pub struct Header {
-    /// Magic bytes, class, byte order and version.
-    pub ident: [u8; 16],
+    /// The identification: magic bytes, class, byte order and version, at the `EI_` indices.
+    pub ident: [u8; EI_NIDENT],
 
     /// The header's type, one of the `ET_` numbers.
     pub kind: u16,
 
-    /// One of the `EM_` numbers.
+    /// The machine, one of the `EM_` numbers.
     pub machine: u16,
+
+    /// The version of the format, 1 in each file so far. Acceptance clauses 1 to 8 do not look at it.
     pub version: u32,
 
     /// The address at which the program begins, 0 for none.
@@ -25,24 +27,30 @@ pub struct Header {
 
     /// File offset of the section header table.
     pub shoff: u64,
+
+    /// Flags of the machine. x86-64 has none.
     pub flags: u32,
 
-    /// Bytes of this header.
+    /// Bytes of this header. Acceptance clauses 1 to 8 do not look at it.
     pub ehsize: u16,
 
-    /// Bytes of a program header, and how many there are.
+    /// Bytes of a program header.
     pub phentsize: u16,
+
+    /// How many program headers there are.
     pub phnum: u16,
 
-    /// Bytes of a section header, and how many there are.
+    /// Bytes of a section header.
     pub shentsize: u16,
+
+    /// How many section headers there are.
     pub shnum: u16,
 
     /// Index of the section of section names.
     pub shstrndx: u16,
 }
 
-/// The header's fields as they stand. It tests nothing.
+/// The header's fields as they stand in the first 64 bytes of a file (gABI chapter 4, "ELF Header"). It tests nothing.
 #[tactic(auto, unfolding(crate::specs::Headers::header))]
 pub fn header_fields(bytes: &[u8]) -> Header
     requires { HEADER_SIZE ≤ length bytes.now }

@@ -45,7 +45,7 @@ fn shares_later(bytes: &[u8], header: &Header, first: &Segment, index: u16) -> b
     false
 }
 
-/// It compares each PT_LOAD with each later one, since no memory is taken to sort them.
+/// Whether two PT_LOADs have a byte of the file in common. It compares each with each later one, since no memory is taken to sort them: less than 2^31 comparisons.
 #[tactic(auto, using(crate::proofs::TableLaws::pair_more, crate::proofs::TableLaws::pair_done), unfolding(crate::specs::Clauses::overlap_in_file))]
 pub fn overlap_in_file(bytes: &[u8], header: &Header) -> bool
     requires { HasSegments bytes.now header.now }

@@ -4,11 +4,13 @@ ghost use Rattle.pl_elf.specs.Clauses as spec;
 
 use crate::clauses::{not_elf, other_class, other_kind, truncated};
 use crate::constants::{EM_X86_64, HEADER_SIZE};
-use crate::names::bad_section;
+use crate::section_table::bad_section;
 use crate::segments::bad_segment;
 use crate::{Header, HeaderFault, header_fields};
 
-/// The header of a file that acceptance clauses 1 to 8 accept, or the first of them that refuses it.
+/// The header of a file that acceptance clauses 1 to 8 accept, or the first of them that refuses it (gABI chapter 4, "ELF Header" and "Sections", and chapter 5, "Program Header"; `HeaderFault` says what each refuses).
+///
+/// The header and both tables then lie in the file. It takes no memory: each PT_LOAD's bytes in the file are compared with those of each later one, which is less than 2^31 comparisons for the 65535 program headers that a file has at most.
 #[tactic(auto, unfolding(crate::specs::Clauses::read))]
 pub fn read_header(bytes: &[u8]) -> Result<Header, HeaderFault>
     ensures exact { result ≡ spec.read bytes.now }

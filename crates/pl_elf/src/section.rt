@@ -9,19 +9,19 @@ use std::alloc::{AllocError, Global};
 /// A section as a section header describes it (gABI chapter 4, "Sections").
 #[derive(Clone, Copy, Debug, PartialEq, Eq)]
 pub struct Section {
-    /// Where its name begins in the section of section names.
+    /// Where its name begins in the section of section names, in bytes.
     pub name: u32,
 
-    /// One of the `SHT_` numbers.
+    /// The kind, one of the `SHT_` numbers.
     pub kind: u32,
 
     /// A union of the `SHF_` numbers.
     pub flags: u64,
 
-    /// Where it stands in memory, 0 where it does not.
+    /// The address at which it begins in memory, 0 for none.
     pub addr: u64,
 
-    /// Where its bytes stand in the file.
+    /// File offset of its bytes.
     pub offset: u64,
 
     /// Bytes in the file, or for NOBITS in memory.
@@ -29,7 +29,11 @@ pub struct Section {
 
     /// Index of another section, whose meaning the kind gives.
     pub link: u32,
+
+    /// A number whose meaning the kind gives.
     pub info: u32,
+
+    /// Alignment of the address in bytes: 0 or 1 for none, else a power of two.
     pub addralign: u64,
 
     /// Bytes of an entry, 0 where it has no entries of one size.
@@ -55,7 +59,7 @@ fn section_at(bytes: &[u8], at: usize) -> Section
     }
 }
 
-/// The section at an index of the section header table.
+/// The section at an index of the section header table (gABI chapter 4, "Sections"). Its section header, 64 bytes, has to lie in the file.
 pub fn read_section(bytes: &[u8], header: &Header, index: u16) -> Section
     requires { spec.section_place header.now index + SECTION_SIZE ≤ length bytes.now }
     ensures { result ≡ spec.section bytes.now header.now index }
@@ -66,7 +70,7 @@ pub fn read_section(bytes: &[u8], header: &Header, index: u16) -> Section
     )
 }
 
-/// All sections, in the order of the section header table.
+/// All sections, in the order of the section header table (gABI chapter 4, "Sections"). The table has to lie in the file, as it does after `read_header`. It fails only for want of memory.
 #[tactic(auto, unfolding(crate::specs::Headers::sections))]
 pub fn read_sections(
     alloc: Global,

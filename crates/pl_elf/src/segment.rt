@@ -9,15 +9,19 @@ use std::alloc::{AllocError, Global};
 /// A segment as a program header describes it (gABI chapter 5, "Program Header").
 #[derive(Clone, Copy, Debug, PartialEq, Eq)]
 pub struct Segment {
-    /// One of the `PT_` numbers.
+    /// The kind, one of the `PT_` numbers.
     pub kind: u32,
+
+    /// Permissions: 1 to execute, 2 to write, 4 to read, or a sum of these.
     pub flags: u32,
 
-    /// Where its bytes stand in the file.
+    /// File offset of its bytes.
     pub offset: u64,
 
-    /// Where it stands in memory.
+    /// The address at which it begins in memory.
     pub vaddr: u64,
+
+    /// Its physical address, which System V ignores for application programs.
     pub paddr: u64,
 
     /// Bytes in the file.
@@ -26,7 +30,7 @@ pub struct Segment {
     /// Bytes in memory. Those past the file's are 0.
     pub memsz: u64,
 
-    /// 0, or what the address is a multiple of.
+    /// Alignment in bytes: 0 or 1 for none, else a power of two. The address and the file offset are congruent modulo it.
     pub align: u64,
 }
 
@@ -63,7 +67,7 @@ fn segment_at(bytes: &[u8], at: usize) -> Segment
     }
 }
 
-/// The segment at an index of the program header table.
+/// The segment at an index of the program header table (gABI chapter 5, "Program Header"). Its program header, 56 bytes, has to lie in the file.
 pub fn read_segment(bytes: &[u8], header: &Header, index: u16) -> Segment
     requires { spec.segment_place header.now index + SEGMENT_SIZE ≤ length bytes.now }
     ensures { result ≡ spec.segment bytes.now header.now index }
@@ -74,7 +78,7 @@ pub fn read_segment(bytes: &[u8], header: &Header, index: u16) -> Segment
     )
 }
 
-/// All segments, in the order of the program header table.
+/// All segments, in the order of the program header table (gABI chapter 5, "Program Header"). The table has to lie in the file, as it does after `read_header`. It fails only for want of memory.
 #[tactic(auto, unfolding(crate::specs::Headers::segments))]
 pub fn read_segments(
     alloc: Global,

@@ -57,10 +57,11 @@ fn count_in_table(bytes: &[u8], header: &Header, kind: u32) -> usize
         .count()
 }
 
-#[tactic(auto, unfolding(crate::specs::Clauses::has_twice))]
-fn has_twice(bytes: &[u8], header: &Header) -> bool
+/// Whether there is more than one segment of a kind that may stand once.
+#[tactic(auto, unfolding(crate::specs::Clauses::has_second_of_a_kind))]
+fn has_second_of_a_kind(bytes: &[u8], header: &Header) -> bool
     requires { HasSegments bytes.now header.now }
-    ensures { result ≡ spec.has_twice (segments bytes.now header.now) }
+    ensures { result ≡ spec.has_second_of_a_kind (segments bytes.now header.now) }
 {
     count_in_table(bytes, header, PT_DYNAMIC) > 1
         || count_in_table(bytes, header, PT_TLS) > 1
@@ -106,6 +107,7 @@ fn ascend(bytes: &[u8], header: &Header) -> bool
     true
 }
 
+/// Acceptance clause 6: whether what `HeaderFault::BadSegment` says is wrong with the program headers.
 #[tactic(auto, unfolding(crate::specs::Clauses::bad_segment))]
 pub fn bad_segment(bytes: &[u8], header: &Header) -> bool
     requires { HasSegments bytes.now header.now }
@@ -113,7 +115,7 @@ pub fn bad_segment(bytes: &[u8], header: &Header) -> bool
 {
     usize::from(header.phentsize) != SEGMENT_SIZE
         || !has_load(bytes, header)
-        || has_twice(bytes, header)
+        || has_second_of_a_kind(bytes, header)
         || has_bad_load(bytes, header)
         || !ascend(bytes, header)
         || overlap_in_file(bytes, header)

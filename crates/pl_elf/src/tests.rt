@@ -11,10 +11,8 @@ type Change = (usize, usize, u64);
 
 const SAME: Change = (7, 1, 0);
 
-fn change(file: &mut [u8], (at, size, number): Change) {
-    if at >= file.len() || file.len() - at < 8 {
-        return;
-    }
+fn change(rt: &impl Abort, file: &mut [u8], (at, size, number): Change) {
+    assert!(rt; at < file.len() && file.len() - at >= 8);
     match size {
         1 => file[at] = (number % 0x100) as u8,
         2 => put16(file, at, (number % 0x1_0000) as u16),
@@ -66,10 +64,10 @@ const PROGRAM: [Change; 38] = [
     SAME,
 ];
 
-fn program(alloc: Global) -> Result<Vec<u8>, AllocError> {
+fn program(rt: &impl Abort, alloc: Global) -> Result<Vec<u8>, AllocError> {
     let mut file = vec![in alloc; 0u8; 4256]?;
     for field in PROGRAM {
-        change(file.as_mut_slice(), field);
+        change(rt, file.as_mut_slice(), field);
     }
     Ok(file)
 }
@@ -119,7 +117,7 @@ const NAMES: Section = Section {
 #[test]
 fn reads_headers(rt: HostRuntime) -> Result<(), Fail> {
     let alloc = rt.alloc();
-    let file = program(alloc)?;
+    let file = program(&rt, alloc)?;
     let bytes = file.as_slice();
     let answer = read_header(bytes);
     assert_eq!(rt; answer, Ok(HEADER));
@@ -149,7 +147,7 @@ fn lists_by_kind(rt: HostRuntime) -> Result<(), Fail> {
 
 #[test]
 fn writes_headers(rt: HostRuntime) -> Result<(), Fail> {
-    let file = program(rt.alloc())?;
+    let file = program(&rt, rt.alloc())?;
     let bytes = file.as_slice();
     let mut row = [0xffu8; HEADER_SIZE];
     write_header(&HEADER, &mut row);
@@ -232,16 +230,14 @@ fn number(answer: Result<Header, HeaderFault>) -> u8 {
 
 #[test]
 fn refuses_by_the_first_clause(rt: HostRuntime) -> Result<(), Fail> {
-    let mut case: usize = 0;
-    for (changes, clause) in CHANGED {
-        let mut file = program(rt.alloc())?;
+    for (case, (changes, clause)) in CHANGED.into_iter().enumerate() {
+        let mut file = program(&rt, rt.alloc())?;
         for field in changes {
-            change(file.as_mut_slice(), field);
+            change(&rt, file.as_mut_slice(), field);
         }
         assert_eq!(rt; number(read_header(file.as_slice())), clause, "at {case}");
-        case = case.wrapping_add(1);
     }
-    let file = program(rt.alloc())?;
+    let file = program(&rt, rt.alloc())?;
     let bytes = file.as_slice();
     assert_eq!(rt; number(read_header(&[])), 1);
     assert_eq!(rt; number(read_header(part(bytes, 0, 63))), 1);

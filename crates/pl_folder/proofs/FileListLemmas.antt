@@ -6,7 +6,8 @@ use Rattle.std.specs.Str.{bytes_eq}
 use Rattle.std.proofs.lemmas.Bool.{and_parts, not-true}
 use Rattle.std.proofs.lemmas.List.Folds.{list_any_at}
 use Rattle.std.proofs.lemmas.Slice.Eq.{bytes_eq-Decides}
-use Rattle.pl_folder.specs.FileLists.{are_files, has_name, has_name_length}
+use Rattle.pl_base.specs.Names.{has_name_length}
+use Rattle.pl_folder.specs.FileLists.{are_files, has_name}
 
 -- the names of files that pass differ
 pub names_differ : (files : List (String Global × Vec ℕ Global)) → are_files files ≡ true → AllPairs (λ a b. string_bytes a.0 ≢ string_bytes b.0) files

@@ -1,12 +1,9 @@
 -- Lists of files that a folder in memory may hold.
-use Rattle.std.specs.Prelude.{ℕ, Bool, true, ◌&&◌, not, List, [], ◌∷◌, String, Vec, length, nat_le, string_bytes}
+use Rattle.std.specs.Prelude.{ℕ, Bool, true, ◌&&◌, not, List, [], ◌∷◌, String, Vec, string_bytes}
 use Rattle.std.specs.declared.alloc.Global.{Global}
 use Rattle.std.specs.List.{list_any}
 use Rattle.std.specs.Str.{bytes_eq}
-
--- whether a name has 1 to 255 bytes
-abbrev pub has_name_length : List ℕ → Bool
-has_name_length name = nat_le 1 (length name) && nat_le (length name) 255
+use Rattle.pl_base.specs.Names.{has_name_length}
 
 -- whether one of the files has the name
 abbrev pub has_name : List ℕ → List (String Global × Vec ℕ Global) → Bool

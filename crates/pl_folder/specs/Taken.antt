@@ -15,16 +15,9 @@ stored (Some bytes) = if nat_le (length bytes) STORED then Ok bytes else Err Too
 abbrev pub taken : Files → List ℕ → Result (List ℕ) FolderFault
 taken files name = stored (get files name)
 
--- why there is no answer: at a fault of the folder its count rose; a want of memory may come at any time; all else is what the files mean, if the folder tells them
+-- why there is no answer: a fault of the folder has the reason that is given, such as that its count rose; a want of memory may come at any time; all else is what the files mean, if the folder tells them
 abbrev pub Explains : Bool → Result (List ℕ) FolderFault → Type 0 → FolderFault → Type 0
-Explains tells meant rose Failed = rose
-Explains tells meant rose NotThere = tells ≡ true → meant ≡ Err NotThere
-Explains tells meant rose TooLarge = tells ≡ true → meant ≡ Err TooLarge
-Explains tells meant rose NoMemory = ⊤
-
--- the same where it is known which calls fail
-abbrev pub IsMeant : Result (List ℕ) FolderFault → FolderFault → Type 0
-IsMeant meant Failed = meant ≡ Err Failed
-IsMeant meant NotThere = meant ≡ Err NotThere
-IsMeant meant TooLarge = meant ≡ Err TooLarge
-IsMeant meant NoMemory = ⊤
+Explains tells meant why Failed = why
+Explains tells meant why NotThere = tells ≡ true → meant ≡ Err NotThere
+Explains tells meant why TooLarge = tells ≡ true → meant ≡ Err TooLarge
+Explains tells meant why NoMemory = ⊤

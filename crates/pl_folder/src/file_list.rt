@@ -1,10 +1,13 @@
 ghost use Rattle.std.specs.Prelude.{◌≡◌};
+ghost use Rattle.pl_base.specs.Names as names;
 ghost use Rattle.pl_folder.specs.FileLists as spec;
 
+use pl_base::MAX_NAME;
+
 fn has_name_length(name: &str) -> bool
-    ensures { result ≡ spec.has_name_length name.now }
+    ensures { result ≡ names.has_name_length name.now }
 {
-    !name.is_empty() && name.len() <= 255
+    !name.is_empty() && name.len() <= MAX_NAME
 }
 
 fn has_name(name: &str, files: &[(String, Vec<u8>)]) -> bool

@@ -1,4 +1,4 @@
-ghost use Rattle.std.specs.Prelude.{◌≡◌, ◌≤◌, length, not, is_ok, true, Ok, IfOk, IfErr, OnErr};
+ghost use Rattle.std.specs.Prelude.{◌≡◌, ◌≤◌, length, not, is_ok, true, false, Ok, IfOk, IfErr, OnOk, OnErr};
 ghost use Rattle.std.specs.Option.{option_copied};
 ghost use Rattle.std.specs.FinMap.{get};
 ghost use Rattle.pl_base.specs.Counts.{Rose};
@@ -6,7 +6,7 @@ ghost use Rattle.pl_base.specs.Files.{files_of};
 ghost use Rattle.pl_io.specs.Scripts.{IsAfterCall};
 ghost use Rattle.pl_folder.specs.FileLists.{are_files};
 ghost use Rattle.pl_folder.specs.InMemory.{call_fails, folder_files, folder_script, most_calls, taken_next};
-ghost use Rattle.pl_folder.specs.Taken.{Explains, IsMeant, taken};
+ghost use Rattle.pl_folder.specs.Taken.{Explains, taken};
 
 use crate::{Folder, FolderFault, STORED};
 use pl_io::{Failed, NoMemory, Script};
@@ -75,6 +75,7 @@ impl MemoryFolder {
     fn call(&mut self) -> Result<(), Failed>
         ensures fails { is_ok result ≡ not (call_fails self.old) }
         ensures call { IsAfterCall (folder_script self.old) (folder_script self.new) }
+        ensures quiet { OnOk result ((folder_script self.new).faults ≡ (folder_script self.old).faults) }
         ensures failed { OnErr result (Rose (folder_script self.old).faults (folder_script self.new).faults) }
         ensures counts { (folder_script self.old).faults ≤ (folder_script self.new).faults }
         ensures files { self.new.files.entries ≡ self.old.files.entries }
@@ -96,15 +97,16 @@ impl Folder for MemoryFolder {
 
     ghost faults = { λ folder. (folder_script folder).faults };
 
-    /// Fails exactly where the script says so.
+    /// Fails exactly where the script says so, or there were as many calls as the folder answers. At every other answer the count of faults stands still.
     fn take(&mut self, alloc: Global, name: &str) -> Result<Vec<u8>, FolderFault>
         ensures bytes { IfOk result (λ bytes. taken (folder_files self.old) name.now ≡ Ok bytes.items) }
         ensures stored { IfOk result (λ bytes. length bytes.items ≤ STORED) }
         ensures fault { IfErr result (Explains true (taken (folder_files self.old) name.now) (Rose (folder_script self.old).faults (folder_script self.new).faults)) }
         ensures same { folder_files self.new ≡ folder_files self.old }
+        ensures quiet { call_fails self.old ≡ false → (folder_script self.new).faults ≡ (folder_script self.old).faults }
         ensures counts { (folder_script self.old).faults ≤ (folder_script self.new).faults }
         ensures scripted_ok { IfOk result (λ bytes. taken_next self.old name.now ≡ Ok bytes.items) }
-        ensures scripted { IfErr result (IsMeant (taken_next self.old name.now)) }
+        ensures scripted { IfErr result (Explains true (taken_next self.old name.now) (call_fails self.old ≡ true)) }
         ensures call { IsAfterCall (folder_script self.old) (folder_script self.new) }
         ensures most { most_calls self.new ≡ most_calls self.old }
     {

@@ -3,11 +3,13 @@ ghost use Rattle.std.specs.Prelude.{◌≡◌};
 ghost use Rattle.std.specs.List.{list_all};
 ghost use Rattle.pl_base.specs.Names as spec;
 
+use pl_base::{FIRST_NAME_BYTE, LAST_NAME_BYTE, MAX_NAME, SEPARATOR};
+
 #[tactic(auto, unfolding(pl_base::specs::Names::is_name_byte))]
 fn is_name_byte(byte: u8) -> bool
     ensures { result ≡ spec.is_name_byte byte }
 {
-    (0x21..=0x7e).contains(&byte) && byte != b'/'
+    (FIRST_NAME_BYTE..=LAST_NAME_BYTE).contains(&byte) && byte != SEPARATOR
 }
 
 fn has_name_bytes(name: &[u8]) -> bool
@@ -37,7 +39,7 @@ pub fn valid_name(name: &str) -> bool
 {
     let bytes = name.as_bytes();
     !bytes.is_empty()
-        && bytes.len() <= 255
+        && bytes.len() <= MAX_NAME
         && has_name_bytes(bytes)
         && !is_own_name(bytes)
         && !is_dots(name)

@@ -12,7 +12,7 @@ pub trait Source {
     /// How many calls have failed. The count never falls, and stands still at 2^64 - 1.
     ghost faults: { Self → ℕ };
 
-    /// Reads the next bytes into the front of the buffer, and answers how many. 0, for a buffer with room, is the end of input.
+    /// Reads the next bytes into the front of the buffer, and answers how many. 0, for a buffer with room, is the end of input. After a fault nothing is promised of the buffer and of the bytes left.
     fn read(&mut self, into: &mut [u8]) -> Result<usize, Failed>
         ensures bound { IfOk result (λ n. n ≤ length into.old) }
         ensures bytes { IfOk result (λ n. TookKnown (left self.old) (left self.new) n into.old into.new) }

@@ -14,7 +14,7 @@ use std::rt::{Clock, Env};
 use std::time::{SystemTime, UNIX_EPOCH};
 use std::{env, io};
 
-/// The words after the program's name. Words that are not text are no command, and so are no words: these stand for them.
+/// The words after the program's name. Words that are not text are no command: the call is then made with no words, which prints the usage line.
 fn words(rt: &(impl Env + AllocGlobal)) -> Result<Vec<String>, AllocError> {
     match env::args(rt) {
         Ok(words) => words.skip(1).collect(rt.alloc()),

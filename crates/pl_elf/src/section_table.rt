@@ -1,4 +1,4 @@
-// Acceptance clause 7: what the sections of a file have to meet.
+// Acceptance clause 7: what the section header table has to meet, and the bytes of a section.
 ghost use Rattle.std.specs.Prelude.{◌≡◌, ℕ, ◌≤◌, length, nat_le};
 ghost use Rattle.std.specs.List.{list_any};
 ghost use Rattle.pl_elf.specs.Headers.{HasSections, sections};
@@ -8,7 +8,7 @@ use crate::constants::{MAX_SECTIONS, SECTION_SIZE, SHT_NOBITS};
 use crate::{Header, Section, read_section};
 use pl_base::part;
 
-/// The bytes of a section in the file, as far as the file goes. A NOBITS section has none.
+/// The bytes of a section in the file, as far as the file goes (gABI chapter 4, "Sections"). A NOBITS section has none.
 #[tactic(auto, unfolding(crate::specs::Clauses::section_bytes))]
 pub fn section_bytes<'a>(bytes: &'a [u8], section: &Section) -> &'a [u8]
     ensures bytes { result.now ≡ spec.section_bytes bytes.now section.now }
@@ -50,6 +50,7 @@ fn any_no_end(bytes: &[u8], header: &Header, strings: &[u8]) -> bool
         .any(|section| no_end(strings, ended, section.name))
 }
 
+/// Acceptance clause 7: whether the file has section headers, and `HeaderFault::BadSection` says what is wrong with them.
 #[tactic(auto, unfolding(crate::specs::Clauses::bad_section))]
 pub fn bad_section(bytes: &[u8], header: &Header) -> bool
     requires { HasSections bytes.now header.now }
