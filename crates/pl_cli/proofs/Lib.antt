@@ -8,7 +8,6 @@ pub mod AddedLemmas
 pub mod TableLemmas
 pub mod LoadedLemmas
 pub mod BoundLemmas
-pub mod NameLemmas
 pub mod PartLemmas
 pub mod OutcomeLemmas
 pub mod MaskLemmas

@@ -1,6 +1,6 @@
 use Rattle.std.proofs.Common.{◌≡◌, rules, true}
 use Rattle.pl_base.specs.Names.{is_valid_name}
-use Rattle.pl_cli.proofs.NameLemmas.{valid_length}
+use Rattle.pl_base.proofs.NameLaws.{valid_length}
 use Rattle.pl_cli.proofs.load.load.Goals as goal
 
 pub take-requires : goal.take-requires
