@@ -4,6 +4,7 @@ use crate::constants::{
 use crate::*;
 use pl_base::{part, put16, put32, put64};
 use std::alloc::{AllocError, Global};
+use std::process::Abort;
 use std::test::Fail;
 
 // A number of 1, 2, 4 or 8 bytes at an offset of a file.
