@@ -8,7 +8,7 @@ use crate::constants::{DT_NULL, ENTRY_SIZE};
 use pl_base::word64;
 use std::alloc::{AllocError, Global};
 
-/// The entry at an index. It tests nothing.
+/// The entry at an index, from 0: 16 bytes, first the tag's number, then its value, each a word of 64 bits (System V gABI chapter 5, "Dynamic Section"). The entry lies in the table; nothing else of it is tested.
 pub fn entry(table: &[u8], index: u32) -> Tag
     requires { ENTRY_SIZE * index + ENTRY_SIZE ≤ length table.now }
     ensures { result ≡ spec.entry table.now index }
@@ -61,7 +61,7 @@ fn only_nulls_follow(table: &[u8]) -> bool
         .all(|tag| tag.number == DT_NULL)
 }
 
-/// Whether a table ends as it should: its size is a multiple of an entry's, it has an entry of tag DT_NULL, and no other entry stands after that one.
+/// Whether a dynamic table (System V gABI chapter 5, "Dynamic Section") of fewer than 2^32 bytes, since `Dynamic`'s `spare` holds 32 bits, ends as it should: its size is a multiple of an entry's, it has an entry of tag DT_NULL, and no entry of another tag stands after that one. No memory is taken.
 #[tactic(auto, using(crate::proofs::EntryLaws::whole), unfolding(crate::specs::Entries::is_ended))]
 pub fn is_ended(table: &[u8]) -> bool
     requires { length table.now < 2 ^ 32 }

@@ -8,7 +8,7 @@ pub enum DynFault {
     #[error("no end")]
     NoEnd,
 
-    /// Acceptance clause 10: the first tag that is not listed, or that a prelinked program alone has.
+    /// Acceptance clause 10: the first tag that is not listed, or that is DT_GNU_CONFLICT or DT_GNU_LIBLIST.
     #[error("unknown tag {0}")]
     UnknownTag(u64),
 

@@ -10,7 +10,7 @@ fn first_of(number: u64, tags: &[Tag]) -> Option<Tag>
     tags.iter().copied().find(|tag| tag.number == number)
 }
 
-/// The value of the first entry with a tag, or None where no entry has it.
+/// The value of the first entry with a tag, of those before the one of tag DT_NULL (System V gABI chapter 5, "Dynamic Section"); None exactly where none of them has it. Of DT_NEEDED, which may stand many times, it is the first alone.
 #[tactic(auto, unfolding(crate::specs::Read::value_of))]
 pub fn tag(dynamic: &Dynamic, number: u64) -> Option<u64>
     ensures exact { result ≡ spec.value_of number dynamic.now.tags }

@@ -32,7 +32,7 @@ fn first_twice(tags: &[Tag]) -> Option<Tag>
     tags.iter().copied().find(|tag| tag.number != DT_NEEDED && stands_twice(tags, tag.number))
 }
 
-/// The tags of a dynamic table, or the first of acceptance clauses 9 to 11 that refuses it, as far as its bytes alone show. The time grows as the table's length.
+/// The tags of a dynamic table (System V gABI chapter 5, "Dynamic Section") of fewer than 2^32 bytes, since `spare` holds 32 bits; or the first of acceptance clauses 9 to 11 that refuses it, as far as its bytes alone show; or NoMemory where there is no memory for the tags. The time grows as the table's length.
 #[tactic(auto, using(crate::proofs::EntryLaws::are_entries), unfolding(crate::specs::Read::read))]
 pub fn read_dynamic(alloc: Global, table: &[u8]) -> Result<Dynamic, DynFault>
     requires { length table.now < 2 ^ 32 }

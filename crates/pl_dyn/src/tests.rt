@@ -1,3 +1,8 @@
+use crate::constants::{
+    DT_GNU_HASH, DT_HASH, DT_INIT_ARRAY, DT_INIT_ARRAYSZ, DT_JMPREL, DT_NEEDED, DT_PLTGOT,
+    DT_PLTREL, DT_PLTRELSZ, DT_RELA, DT_RELACOUNT, DT_RELAENT, DT_RELASZ, DT_SONAME, DT_STRSZ,
+    DT_STRTAB, DT_SYMENT, DT_SYMTAB, DT_VERDEF, DT_VERDEFNUM, DT_VERSYM,
+};
 use crate::{
     DynFault, entry, is_address_tag, is_ended, is_listed, is_packed_tag, is_prelink_tag,
     is_value_tag, read_dynamic, tag,
@@ -153,4 +158,61 @@ fn knows_the_lists(rt: HostRuntime) {
             "{number:x}"
         );
     }
+}
+
+/// The whole `.dynamic` of a library that gcc and GNU ld 2.40 made (`gcc -shared -nostdlib -Wl,--hash-style=both`, with a version script and a library that it needs).
+const LIBRARY: [u8; 416] = [
+    1, 0, 0, 0, 0, 0, 0, 0, 70, 0, 0, 0, 0, 0, 0, 0, 14, 0, 0, 0, 0, 0, 0, 0, 78, 0, 0, 0, 0, 0, 0,
+    0, 25, 0, 0, 0, 0, 0, 0, 0, 40, 62, 0, 0, 0, 0, 0, 0, 27, 0, 0, 0, 0, 0, 0, 0, 8, 0, 0, 0, 0,
+    0, 0, 0, 4, 0, 0, 0, 0, 0, 0, 0, 152, 2, 0, 0, 0, 0, 0, 0, 245, 254, 255, 111, 0, 0, 0, 0, 224,
+    2, 0, 0, 0, 0, 0, 0, 5, 0, 0, 0, 0, 0, 0, 0, 72, 4, 0, 0, 0, 0, 0, 0, 6, 0, 0, 0, 0, 0, 0, 0,
+    40, 3, 0, 0, 0, 0, 0, 0, 10, 0, 0, 0, 0, 0, 0, 0, 92, 0, 0, 0, 0, 0, 0, 0, 11, 0, 0, 0, 0, 0,
+    0, 0, 24, 0, 0, 0, 0, 0, 0, 0, 3, 0, 0, 0, 0, 0, 0, 0, 232, 63, 0, 0, 0, 0, 0, 0, 2, 0, 0, 0,
+    0, 0, 0, 0, 48, 0, 0, 0, 0, 0, 0, 0, 20, 0, 0, 0, 0, 0, 0, 0, 7, 0, 0, 0, 0, 0, 0, 0, 23, 0, 0,
+    0, 0, 0, 0, 0, 128, 5, 0, 0, 0, 0, 0, 0, 7, 0, 0, 0, 0, 0, 0, 0, 32, 5, 0, 0, 0, 0, 0, 0, 8, 0,
+    0, 0, 0, 0, 0, 0, 96, 0, 0, 0, 0, 0, 0, 0, 9, 0, 0, 0, 0, 0, 0, 0, 24, 0, 0, 0, 0, 0, 0, 0,
+    252, 255, 255, 111, 0, 0, 0, 0, 192, 4, 0, 0, 0, 0, 0, 0, 253, 255, 255, 111, 0, 0, 0, 0, 3, 0,
+    0, 0, 0, 0, 0, 0, 240, 255, 255, 111, 0, 0, 0, 0, 164, 4, 0, 0, 0, 0, 0, 0, 249, 255, 255, 111,
+    0, 0, 0, 0, 1, 0, 0, 0, 0, 0, 0, 0, 0, 0, 0, 0, 0, 0, 0, 0, 0, 0, 0, 0, 0, 0, 0, 0, 0, 0, 0, 0,
+    0, 0, 0, 0, 0, 0, 0, 0, 0, 0, 0, 0, 0, 0, 0, 0, 0, 0, 0, 0, 0, 0, 0, 0, 0, 0, 0, 0, 0, 0, 0, 0,
+    0, 0, 0, 0, 0, 0, 0, 0, 0, 0, 0, 0, 0, 0, 0, 0, 0, 0, 0, 0, 0, 0, 0, 0, 0, 0, 0, 0,
+];
+
+/// Its entries before the first of tag DT_NULL, as `readelf -d` tells them. For DT_NEEDED and DT_SONAME it tells the strings, which begin at these offsets of `.dynstr`.
+const LIBRARY_TAGS: [(u64, u64); 21] = [
+    (DT_NEEDED, 0x46),
+    (DT_SONAME, 0x4e),
+    (DT_INIT_ARRAY, 0x3e28),
+    (DT_INIT_ARRAYSZ, 8),
+    (DT_HASH, 0x298),
+    (DT_GNU_HASH, 0x2e0),
+    (DT_STRTAB, 0x448),
+    (DT_SYMTAB, 0x328),
+    (DT_STRSZ, 92),
+    (DT_SYMENT, 24),
+    (DT_PLTGOT, 0x3fe8),
+    (DT_PLTRELSZ, 48),
+    (DT_PLTREL, DT_RELA),
+    (DT_JMPREL, 0x580),
+    (DT_RELA, 0x520),
+    (DT_RELASZ, 96),
+    (DT_RELAENT, 24),
+    (DT_VERDEF, 0x4c0),
+    (DT_VERDEFNUM, 3),
+    (DT_VERSYM, 0x4a4),
+    (DT_RELACOUNT, 1),
+];
+
+#[test]
+fn reads_a_library(rt: HostRuntime) -> Result<(), Fail> {
+    let dynamic = read_dynamic(rt.alloc(), &LIBRARY).expect(&rt, "a table that is accepted");
+    assert_eq!(rt; dynamic.tags.len(), LIBRARY_TAGS.len());
+    for (entry, (number, value)) in dynamic.tags.as_slice().iter().zip(LIBRARY_TAGS) {
+        assert_eq!(rt; (entry.number, entry.value), (number, value));
+        assert_eq!(rt; tag(&dynamic, number), Some(value));
+    }
+
+    // Five entries of tag DT_NULL end the section.
+    assert_eq!(rt; dynamic.spare, 4);
+    Ok(())
 }

@@ -1,4 +1,4 @@
--- The symbols that a hash leads to.
+-- The symbols that a hash leads to (System V: gABI chapter 5, "Hash Table"; GNU: the GNU hash table of binutils).
 use Rattle.std.specs.Prelude.{ℕ, ◌%◌, Bool, List, [], ◌∷◌, Option, Some, None, filter, ◌==◌, if◌then◌else◌}
 use Rattle.std.specs.List.{list_any}
 use Rattle.std.specs.Option.{unwrap_or}

@@ -1,4 +1,4 @@
--- The chains of a hash table, and what makes a table well formed.
+-- The chains of a hash table (System V: gABI chapter 5, "Hash Table"; GNU: the GNU hash table of binutils), and what makes a table well formed.
 use Rattle.std.specs.Prelude.{◌<◌, ◌≤◌, IsTrue, IsSome, ℕ, zero, suc, ◌+◌, ◌%◌, Bool, ◌&&◌, ◌||◌, ◌==◌, nat_lt, nat_le, List, [], ◌∷◌, length, Option, Some, None, is_some, if◌then◌else◌}
 use Rattle.std.specs.List.{range_with_len, list_all}
 use Rattle.std.specs.Int.{is_power_of_two}

@@ -51,8 +51,10 @@ pub fn following(table: &Table, index: u32) -> Option<u32>
     let link = link(table, index);
     if table.gnu {
         if link % 2 == 1 { None } else { Some(index + 1) }
+    } else if link == 0 {
+        None
     } else {
-        if link == 0 { None } else { Some(link) }
+        Some(link)
     }
 }
 

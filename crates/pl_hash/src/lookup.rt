@@ -87,9 +87,9 @@ pub fn first(table: &Table, hash: u32) -> Option<u32>
     first_matching(table, hash, head(table, hash % bucket_count(table)))
 }
 
-/// The symbol after one that `first` or `next` gave for this table and hash: the next of the table's candidates of that hash. `None` exactly after the last.
+/// The symbol after one that `first` or `next` gave for this table and hash: the next of the table's candidates of that hash, in the order of their chain (System V gABI chapter 5, "Hash Table"; GNU hash table). `None` exactly after the last.
 ///
-/// No memory is taken, and no more steps than the chain has symbols left.
+/// A candidate may have another name: its name, and its version, are the caller's to compare. No memory is taken, and no more steps than the chain has symbols left.
 pub fn next(table: &Table, hash: u32, index: u32) -> Option<u32>
     requires formed { IsWellFormed table.now }
     requires given { IsTrue (spec.is_candidate table.now hash index) }
@@ -100,7 +100,7 @@ pub fn next(table: &Table, hash: u32, index: u32) -> Option<u32>
     first_matching(table, hash, following(table, index))
 }
 
-/// The hash of a symbol's name that a table goes by.
+/// The hash of 32 bits of a symbol's name that a table goes by: that of `gnu_hash` in a GNU table, that of `sysv_hash` in a System V one (System V gABI chapter 5, "Hash Table"; GNU hash table). The name is without the 0 that ends it.
 pub fn name_hash(table: &Table, name: &[u8]) -> u32
     ensures { result ≡ spec.name_hash table.now name.now }
 {
@@ -111,7 +111,7 @@ pub fn name_hash(table: &Table, name: &[u8]) -> u32
     }
 }
 
-/// Whether a symbol is one of a table's candidates of a hash.
+/// Whether a symbol is one of a table's candidates of a hash, that is, whether `first`, or a `next` after it, gives it for that hash (System V gABI chapter 5, "Hash Table"; GNU hash table). No memory is taken, and no more steps than the chain has symbols.
 pub fn is_candidate(table: &Table, hash: u32, index: u32) -> bool
     requires { IsWellFormed table.now }
     ensures { result ≡ spec.is_candidate table.now hash index }

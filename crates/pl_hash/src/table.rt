@@ -35,11 +35,16 @@ pub const BLOOM_WORD_SIZE: usize = 8;
 /// The size of a bloom word, in bits.
 pub const BLOOM_WORD_BITS: u32 = 64;
 
-/// A hash table's bytes, its kind, and how many symbols there are. The bytes may go on after the table.
+/// A hash table of symbols (System V gABI chapter 5, "Hash Table"; GNU hash table of binutils).
 #[derive(Drop)]
 pub struct Table {
+    /// The table's bytes, from its header on. They may go on after the table.
     pub words: Rows<u8>,
+
+    /// Whether it is a GNU table; otherwise it is a System V one.
     pub gnu: bool,
+
+    /// How many symbols the object's symbol table has, the one of index 0 among them.
     pub symbols: u32,
 }
 

@@ -406,3 +406,30 @@ fn reads_a_library(rt: HostRuntime) -> Result<(), Fail> {
     }
     Ok(())
 }
+
+/// The `.gnu.hash` of a library that gcc and GNU ld made (`gcc -shared -nostdlib -Wl,--hash-style=gnu`), in words. Two pairs of its names have one hash each.
+const TWINS: [u32; 16] = [
+    3, 1, 1, 6, 0x10000000, 0x605c0, 1, 3, 4, 0xb885c6a, 0xb885c6b, 0xb885c69, 0x597728, 0x597728,
+    0xb8899a6, 0xb885ca9,
+];
+
+/// Its names, and the numbers that `readelf --dyn-syms` gives those with the same hash.
+const TWIN_NAMES: [(&[u8], &[u32]); 7] = [
+    (b"bAB", &[1, 2]),
+    (b"abB", &[1, 2]),
+    (b"aaa", &[3]),
+    (b"ab", &[4, 5]),
+    (b"bA", &[4, 5]),
+    (b"one", &[6]),
+    (b"ac_", &[7]),
+];
+
+#[test]
+fn lists_names_of_one_hash(rt: HostRuntime) -> Result<(), Fail> {
+    let gnu = table(rt.alloc(), true, 8, &TWINS, 64)?;
+    for (name, symbols) in TWIN_NAMES {
+        let found = listed(rt.alloc(), &gnu, gnu_hash(name))?;
+        assert_eq!(rt; found.as_slice(), symbols);
+    }
+    Ok(())
+}

@@ -188,3 +188,80 @@ fn reads_symbols(rt: HostRuntime) -> Result<(), Fail> {
     }
     Ok(())
 }
+
+/// The `.dynsym` of a library that gcc and GNU ld 2.40 made (`gcc -shared -nostdlib -Wl,--hash-style=both`, with a version script and a library that it needs).
+const LIBRARY_SYMBOLS: [u8; 288] = [
+    0, 0, 0, 0, 0, 0, 0, 0, 0, 0, 0, 0, 0, 0, 0, 0, 0, 0, 0, 0, 0, 0, 0, 0, 6, 0, 0, 0, 18, 0, 0,
+    0, 0, 0, 0, 0, 0, 0, 0, 0, 0, 0, 0, 0, 0, 0, 0, 0, 47, 0, 0, 0, 16, 0, 0, 0, 0, 0, 0, 0, 0, 0,
+    0, 0, 0, 0, 0, 0, 0, 0, 0, 0, 68, 0, 0, 0, 18, 0, 11, 0, 106, 16, 0, 0, 0, 0, 0, 0, 6, 0, 0, 0,
+    0, 0, 0, 0, 23, 0, 0, 0, 18, 0, 11, 0, 75, 16, 0, 0, 0, 0, 0, 0, 25, 0, 0, 0, 0, 0, 0, 0, 86,
+    0, 0, 0, 17, 0, 241, 255, 0, 0, 0, 0, 0, 0, 0, 0, 0, 0, 0, 0, 0, 0, 0, 0, 62, 0, 0, 0, 17, 0,
+    20, 0, 32, 64, 0, 0, 0, 0, 0, 0, 24, 0, 0, 0, 0, 0, 0, 0, 35, 0, 0, 0, 22, 0, 14, 0, 0, 0, 0,
+    0, 0, 0, 0, 0, 4, 0, 0, 0, 0, 0, 0, 0, 41, 0, 0, 0, 17, 0, 19, 0, 16, 64, 0, 0, 0, 0, 0, 0, 4,
+    0, 0, 0, 0, 0, 0, 0, 1, 0, 0, 0, 18, 0, 11, 0, 48, 16, 0, 0, 0, 0, 0, 0, 21, 0, 0, 0, 0, 0, 0,
+    0, 14, 0, 0, 0, 34, 0, 11, 0, 69, 16, 0, 0, 0, 0, 0, 0, 6, 0, 0, 0, 0, 0, 0, 0, 89, 0, 0, 0,
+    17, 0, 241, 255, 0, 0, 0, 0, 0, 0, 0, 0, 0, 0, 0, 0, 0, 0, 0, 0,
+];
+
+/// Its `.dynstr`.
+const LIBRARY_STRINGS: &[u8] =
+    b"\0call\0outside\0weak_one\0local_place\0local_count\0__tls_get_addr\0table\0f\0libb.so\0liba.so\0V1\0V2\0";
+
+/// Its symbols as `readelf --dyn-syms` tells them: name, size and the other fields.
+const LIBRARY: [(&[u8], u64, Fields); 12] = [
+    (b"", 0, (0, STB_LOCAL, STT_NOTYPE, STV_DEFAULT, SHN_UNDEF)),
+    (
+        b"outside",
+        0,
+        (0, STB_GLOBAL, STT_FUNC, STV_DEFAULT, SHN_UNDEF),
+    ),
+    (
+        b"__tls_get_addr",
+        0,
+        (0, STB_GLOBAL, STT_NOTYPE, STV_DEFAULT, SHN_UNDEF),
+    ),
+    (b"f", 6, (0x106a, STB_GLOBAL, STT_FUNC, STV_DEFAULT, 11)),
+    (
+        b"local_place",
+        25,
+        (0x104b, STB_GLOBAL, STT_FUNC, STV_DEFAULT, 11),
+    ),
+    (b"V1", 0, (0, STB_GLOBAL, STT_OBJECT, STV_DEFAULT, SHN_ABS)),
+    (
+        b"table",
+        24,
+        (0x4020, STB_GLOBAL, STT_OBJECT, STV_DEFAULT, 20),
+    ),
+    (b"local_count", 4, (0, STB_GLOBAL, STT_TLS, STV_DEFAULT, 14)),
+    (
+        b"count",
+        4,
+        (0x4010, STB_GLOBAL, STT_OBJECT, STV_DEFAULT, 19),
+    ),
+    (b"call", 21, (0x1030, STB_GLOBAL, STT_FUNC, STV_DEFAULT, 11)),
+    (
+        b"weak_one",
+        6,
+        (0x1045, STB_WEAK, STT_FUNC, STV_DEFAULT, 11),
+    ),
+    (b"V2", 0, (0, STB_GLOBAL, STT_OBJECT, STV_DEFAULT, SHN_ABS)),
+];
+
+#[test]
+fn reads_a_library(rt: HostRuntime) -> Result<(), Fail> {
+    let symbols = read_symbols(rt.alloc(), &LIBRARY_SYMBOLS, LIBRARY_STRINGS)?;
+    assert_eq!(rt; symbols.len(), LIBRARY.len());
+    for (symbol, (name, size, fields)) in symbols.as_slice().iter().zip(LIBRARY) {
+        let found = (
+            symbol.value,
+            symbol.bind,
+            symbol.kind,
+            symbol.visibility,
+            symbol.section,
+        );
+        assert_eq!(rt; symbol.name.as_slice(), name);
+        assert_eq!(rt; symbol.size, size, "{name:?}");
+        assert_eq!(rt; found, fields, "{name:?}");
+    }
+    Ok(())
+}

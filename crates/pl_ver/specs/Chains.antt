@@ -1,4 +1,4 @@
--- Chains of version records: one record after the other, each by the `next` of the one before. And what acceptance clause 17 refuses.
+-- Chains of version records (GNU symbol versioning records): one record after the other, each by the `next` of the one before. And what acceptance clause 17 refuses, which is this project's profile: the records' format asks for none of it.
 use Rattle.std.specs.Prelude.{ℕ, zero, suc, ◌+◌, Bool, true, not, ◌&&◌, ◌==◌, nat_le, List, [], ◌∷◌, map, flat_map, length, drop, if◌then◌else◌}
 use Rattle.std.specs.List.{list_any}
 use Rattle.pl_base.specs.Bytes.{word32}

@@ -7,7 +7,7 @@
 use Rattle.std.specs.Prelude.{ℕ, ◌+◌, ◌-◌, ◌*◌, ◌/◌, ◌%◌, Bool, true, false, not, ◌==◌, List, map, length, bit_and}
 use Rattle.std.specs.List.{range_with_len}
 use Rattle.pl_base.specs.Bytes.{word16, word32}
-use Rattle.pl_ver.specs.declared.constants.TheConstants.{NEXT_SIZE, VERSYM_SIZE, VER_FLG_BASE, VERSYM_HIDDEN}
+use Rattle.pl_ver.specs.declared.constants.TheConstants.{NEXT_SIZE, VDA_NAME, VNA_NAME, VERSYM_SIZE, VER_FLG_BASE, VERSYM_HIDDEN}
 use Rattle.pl_ver.specs.declared.record.Record.{Record}
 
 -- each kind of record, of its own size, ends with its field `next`
@@ -30,7 +30,7 @@ is_base verdef at = not (bit_and (word16 (at + 2) verdef) VER_FLG_BASE == 0)
 unfoldable pub verdef_at : List ℕ → ℕ → Record
 verdef_at verdef at = record {
   index = word16 (at + 4) verdef;
-  name = word32 (verdef_names verdef at) verdef;
+  name = word32 (verdef_names verdef at + VDA_NAME) verdef;
   defined = true;
   base = is_base verdef at;
 }
@@ -47,7 +47,7 @@ verneed_versions verneed at = at + word32 (at + 8) verneed
 unfoldable pub vernaux_at : List ℕ → ℕ → Record
 vernaux_at verneed at = record {
   index = word16 (at + 6) verneed;
-  name = word32 (at + 8) verneed;
+  name = word32 (at + VNA_NAME) verneed;
   defined = false;
   base = false;
 }

@@ -1,4 +1,4 @@
--- The versions of an object's symbols, and the first of acceptance clauses 17 and 18 that refuses them.
+-- The versions of an object's symbols (GNU symbol versioning records), and the first of acceptance clauses 17 and 18 that refuses them. Both clauses are this project's profile.
 use Rattle.std.specs.Prelude.{ℕ, Bool, true, false, not, ◌&&◌, ◌||◌, ◌==◌, nat_le, nat_lt, List, [], ◌∷◌, ◌++◌, map, drop, Option, Result, Ok, find, option_map}
 use Rattle.std.specs.List.{list_any, before_first}
 use Rattle.pl_base.specs.Answers.{refuse}

@@ -36,5 +36,5 @@ pub const VER_NDX_LOCAL: u16 = 0;
 /// Version index of a symbol without a version.
 pub const VER_NDX_GLOBAL: u16 = 1;
 
-/// Bit 15 of a version word: the symbol is hidden from references without a version. The other bits are the index.
+/// Bit 15 of a version word, which marks a version that is not the default of its name; the other 15 bits are the index.
 pub const VERSYM_HIDDEN: u16 = 0x8000;

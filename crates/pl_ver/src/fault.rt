@@ -12,6 +12,7 @@ pub enum VerFault {
     #[error("a bad version index")]
     BadIndex,
 
+    /// There was no memory for the answer.
     #[error("out of memory")]
     NoMemory,
 }

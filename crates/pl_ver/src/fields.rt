@@ -3,8 +3,8 @@ ghost use Rattle.std.specs.Prelude.{◌≡◌, ◌+◌, ◌*◌, ◌≤◌, leng
 ghost use Rattle.pl_ver.specs.Fields as spec;
 
 use crate::constants::{
-    NEXT_SIZE, VER_FLG_BASE, VERDAUX_SIZE, VERDEF_SIZE, VERNAUX_SIZE, VERNEED_SIZE, VERSYM_HIDDEN,
-    VERSYM_SIZE,
+    NEXT_SIZE, VDA_NAME, VER_FLG_BASE, VERDAUX_SIZE, VERDEF_SIZE, VERNAUX_SIZE, VERNEED_SIZE,
+    VERSYM_HIDDEN, VERSYM_SIZE, VNA_NAME,
 };
 use crate::record::Record;
 use pl_base::{word16, word32};
@@ -62,7 +62,7 @@ pub fn verdef_at(verdef: &[u8], at: usize) -> Record
 {
     Record {
         index: word16(verdef, at + 4),
-        name: word32(verdef, verdef_names(verdef, at)),
+        name: word32(verdef, verdef_names(verdef, at) + VDA_NAME),
         defined: true,
         base: is_base(verdef, at),
     }
@@ -92,7 +92,7 @@ pub fn vernaux_at(verneed: &[u8], at: usize) -> Record
 {
     Record {
         index: word16(verneed, at + 6),
-        name: word32(verneed, at + 8),
+        name: word32(verneed, at + VNA_NAME),
         defined: false,
         base: false,
     }

@@ -12,7 +12,7 @@ fn first_of_index(names: &[VersionName], index: u16) -> Option<&VersionName>
     names.iter().find(|row| row.index == index)
 }
 
-/// The name of the version of a version word, of which bit 15 does not count. None exactly where no row has that index.
+/// The name of the version that a version word stands for (GNU symbol versioning): the name of the first row of `versions.names` with the word's index, which is all of it but bit 15. None exactly where no row has that index.
 #[tactic(auto, unfolding(crate::specs::Versions::version_of))]
 pub fn version_of(versions: &Versions, index: u16) -> Option<&[u8]>
     ensures { option_map (λ name. name.now) result ≡ spec.version_of versions.now index }

@@ -39,7 +39,7 @@ fn names(
     Ok(names)
 }
 
-/// The versions of an object's symbols, from the bytes of its sections `.gnu.version`, `.gnu.version_d` and `.gnu.version_r` and of its strings (GNU symbol versioning). `defs` and `needs` are the counts of Verdef and Verneed records, which begin their sections; where a count is 0, its section is not read. `index` is the whole words of `versym`, and `names` has first a row for each Verdef, with its first name, then one for each Vernaux.
+/// The versions of an object's symbols, from the bytes of its sections `.gnu.version`, `.gnu.version_d` and `.gnu.version_r` and of its strings (GNU symbol versioning). `defs` and `needs` are the counts of Verdef and Verneed records, which begin their sections; where a count is 0, nothing of its section counts. `index` is the whole words of `versym`, and `names` has first a row for each Verdef, with its first name, then one for each Vernaux.
 ///
 /// `BadChain` is acceptance clause 17: a record passes its section, a chain is longer or shorter than its count (`next` is 0 in the last record alone), a Verdef has no name, or a name has no end in the strings. Else `BadIndex` is clause 18: two records have the same index, an index of 0 or 1 has a record other than a Verdef with flag `VER_FLG_BASE`, or a word's index of 2 or more, bit 15 aside, has no record. That the sections belong together, and that there is a word for each symbol, is the caller's to test. Versions, hashes and revisions of records are not looked at.
 #[tactic(auto, unfolding(crate::specs::Versions::versions, crate::specs::Versions::checked, crate::specs::Versions::bad_index, crate::specs::Collecting::distinct))]
