@@ -1,0 +1,7 @@
+pub mod NameLaws
+pub mod DistinctLaws
+pub mod StepLaws
+pub mod FieldLaws
+pub mod ListLaws
+pub mod ConflictLaws
+pub mod WriteLaws

@@ -1,0 +1,45 @@
+ghost use Rattle.std.specs.Prelude.{◌≡◌, ◌<◌, ◌≤◌, ◌^◌, length, IfOk};
+ghost use Rattle.pl_base.specs.Answers.{Answers};
+ghost use Rattle.pl_tls.specs.Layout as spec;
+
+use crate::{Block, Module, OFFSET_LIMIT, TlsFault};
+use pl_base::{Rows, end};
+use std::alloc::Global;
+
+/// The offset of the next block, which is 65 bits long at most: rounding goes by sums that do not wrap.
+#[tactic(auto, unfolding(crate::specs::Layout::offset_after, pl_base::specs::Sums::round_up))]
+fn offset_after(reached: u64, block: &Block) -> u128
+    ensures { result ≡ spec.offset_after reached block.now }
+{
+    let align = u128::from(block.align.max(1));
+    (end(reached, block.size) + (align - 1)) / align * align
+}
+
+/// The modules of objects in scope order: those with a block are numbered from 1, and each offset is the least one that is aligned and leaves the block its room. An alignment may be any number.
+///
+/// `TooLarge` comes exactly where an offset is greater than `OFFSET_LIMIT`.
+pub fn offsets(alloc: Global, blocks: &[Option<Block>]) -> Result<Rows<Module>, TlsFault>
+    requires { length blocks.now < 2 ^ 32 }
+    ensures { Answers spec.is_memory result (spec.offsets blocks.now) }
+{
+    let mut modules = Rows::new(alloc);
+    let mut number = 1;
+    let mut reached = 0;
+    for (member, block) in blocks.iter().enumerate() {
+        let Some(block) = block else {
+            continue;
+        };
+        let offset = offset_after(reached, block);
+        if offset > u128::from(OFFSET_LIMIT) {
+            return Err(TlsFault::TooLarge);
+        }
+        reached = offset as u64;
+        modules.push(Module {
+            member: member as u32,
+            number,
+            offset: reached,
+        })?;
+        number += 1;
+    }
+    Ok(modules)
+}
