@@ -1,3 +1,5 @@
+ghost use Rattle.std.specs.Prelude.{◌≡◌, IfOk};
+
 use crate::{
     ConflictRow, ListFault, ListRow, read_conflicts, read_list, write_conflicts, write_list,
 };
@@ -5,7 +7,9 @@ use pl_base::Text;
 use std::alloc::{AllocError, Global};
 use std::test::Fail;
 
-fn row(alloc: Global, name: &str, stamp: u32, checksum: u32) -> Result<ListRow, AllocError> {
+fn row(alloc: Global, name: &str, stamp: u32, checksum: u32) -> Result<ListRow, AllocError>
+    ensures { IfOk result (λ row. row.name ≡ name.now) }
+{
     Ok(ListRow {
         name: Text::copy_of(alloc, name)?,
         stamp,
@@ -25,6 +29,7 @@ const TABLE: [u8; 40] = [
 ];
 
 #[test]
+#[tactic(auto, unfolding(crate::specs::Lists::list_strings))]
 fn list_both_ways(rt: HostRuntime) -> Result<(), Fail> {
     let alloc = rt.alloc();
     let rows = read_list(alloc, &TABLE, STRINGS)?;
