@@ -1,0 +1,139 @@
+//! The numbers of ELF under the standard's names (System V gABI, chapters 4 and 5; GNU extensions), and the limits of the acceptance clauses.
+
+/// Bytes of the ELF header.
+pub const HEADER_SIZE: usize = 64;
+
+/// Bytes of a program header.
+pub const SEGMENT_SIZE: usize = 56;
+
+/// Bytes of a section header.
+pub const SECTION_SIZE: usize = 64;
+
+/// Bytes of the identification that begins the header.
+pub const EI_NIDENT: usize = 16;
+
+/// The first four bytes of an ELF file.
+pub const ELFMAG0: u8 = 0x7f;
+
+pub const ELFMAG1: u8 = 0x45;
+
+pub const ELFMAG2: u8 = 0x4c;
+
+pub const ELFMAG3: u8 = 0x46;
+
+/// Index of the class in the identification.
+pub const EI_CLASS: usize = 4;
+
+/// Index of the byte order in the identification.
+pub const EI_DATA: usize = 5;
+
+/// Index of the format's version in the identification.
+pub const EI_VERSION: usize = 6;
+
+/// Class: addresses of 64 bits.
+pub const ELFCLASS64: u8 = 2;
+
+/// Byte order: little-endian.
+pub const ELFDATA2LSB: u8 = 1;
+
+/// The format's only version.
+pub const EV_CURRENT: u8 = 1;
+
+/// Header type: a program at fixed addresses.
+pub const ET_EXEC: u16 = 2;
+
+/// Header type: a library, or a position-independent program.
+pub const ET_DYN: u16 = 3;
+
+/// Machine: x86-64.
+pub const EM_X86_64: u16 = 62;
+
+/// Segment kind: bytes to be loaded.
+pub const PT_LOAD: u32 = 1;
+
+/// Segment kind: the dynamic table.
+pub const PT_DYNAMIC: u32 = 2;
+
+/// Segment kind: the path of the program's interpreter.
+pub const PT_INTERP: u32 = 3;
+
+/// Segment kind: notes.
+pub const PT_NOTE: u32 = 4;
+
+/// Segment kind: the program header table itself.
+pub const PT_PHDR: u32 = 6;
+
+/// Segment kind: the initial image of thread-local storage.
+pub const PT_TLS: u32 = 7;
+
+/// Segment kind: exception tables.
+pub const PT_GNU_EH_FRAME: u32 = 0x6474_e550;
+
+/// Segment kind: permissions of the stack. It has no addresses.
+pub const PT_GNU_STACK: u32 = 0x6474_e551;
+
+/// Segment kind: memory that is read-only after relocation.
+pub const PT_GNU_RELRO: u32 = 0x6474_e552;
+
+/// Segment kind: properties of the program.
+pub const PT_GNU_PROPERTY: u32 = 0x6474_e553;
+
+/// Section kind: no section.
+pub const SHT_NULL: u32 = 0;
+
+/// Section kind: bytes whose meaning is the program's.
+pub const SHT_PROGBITS: u32 = 1;
+
+/// Section kind: the symbols of the link editor.
+pub const SHT_SYMTAB: u32 = 2;
+
+/// Section kind: strings, each ended by a 0 byte.
+pub const SHT_STRTAB: u32 = 3;
+
+/// Section kind: relocations with addends.
+pub const SHT_RELA: u32 = 4;
+
+/// Section kind: a SysV hash table.
+pub const SHT_HASH: u32 = 5;
+
+/// Section kind: the dynamic table.
+pub const SHT_DYNAMIC: u32 = 6;
+
+/// Section kind: zeros in memory and no bytes in the file.
+pub const SHT_NOBITS: u32 = 8;
+
+/// Section kind: the symbols of the dynamic linker.
+pub const SHT_DYNSYM: u32 = 11;
+
+/// Section kind: a GNU hash table.
+pub const SHT_GNU_HASH: u32 = 0x6fff_fff6;
+
+/// Section kind: the library list of a prelinked file.
+pub const SHT_GNU_LIBLIST: u32 = 0x6fff_fff7;
+
+/// Section kind: versions that are defined.
+pub const SHT_GNU_VERDEF: u32 = 0x6fff_fffd;
+
+/// Section kind: versions that are needed.
+pub const SHT_GNU_VERNEED: u32 = 0x6fff_fffe;
+
+/// Section kind: the version index of each symbol.
+pub const SHT_GNU_VERSYM: u32 = 0x6fff_ffff;
+
+/// Section flag: writable in memory.
+pub const SHF_WRITE: u64 = 0x1;
+
+/// Section flag: has addresses in memory.
+pub const SHF_ALLOC: u64 = 0x2;
+
+/// Section flag: thread-local storage.
+pub const SHF_TLS: u64 = 0x400;
+
+/// The greatest alignment of a PT_LOAD in bytes, 2 MiB.
+pub const MAX_LOAD_ALIGN: u64 = 0x20_0000;
+
+/// No PT_LOAD ends above this address, 2^47.
+pub const ADDRESS_LIMIT: u64 = 0x8000_0000_0000;
+
+/// The most sections.
+pub const MAX_SECTIONS: u16 = 65000;

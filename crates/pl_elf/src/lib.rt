@@ -1,0 +1,29 @@
+//! The header, the program header table and the section header table of an ELF-64 file (System V gABI, chapters 4 and 5), and the first eight acceptance clauses.
+#![tactic(auto)]
+
+mod clauses;
+pub mod constants;
+mod fault;
+mod header;
+mod kinds;
+mod names;
+mod overlaps;
+mod range;
+mod read;
+mod section;
+mod segment;
+mod segments;
+#[cfg(test)]
+mod tests;
+mod write;
+
+pub use clauses::{has_dynamic, is_static};
+pub use fault::HeaderFault;
+pub use header::{Header, header_fields};
+pub use kinds::{count_of_kind, loads, segment_of_kind};
+pub use names::section_bytes;
+pub use range::Range;
+pub use read::read_header;
+pub use section::{Section, read_section, read_sections};
+pub use segment::{Segment, read_segment, read_segments};
+pub use write::{write_header, write_section, write_segment};
