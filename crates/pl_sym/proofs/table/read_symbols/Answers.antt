@@ -1,0 +1,23 @@
+use Rattle.std.proofs.Common.{◌/◌, length}
+use Rattle.std.proofs.lemmas.Result.{err_from_is_err_and}
+use Rattle.pl_base.proofs.EachLaws.{rows_begin, rows_more, rows_fail, rows_done}
+use Rattle.pl_sym.specs.Table as spec
+use Rattle.pl_sym.specs.Table.{symbols}
+use Rattle.pl_sym.specs.declared.constants.TheConstants.{SYMBOL_SIZE}
+use Rattle.pl_sym.proofs.table.read_symbols.Goals as goal
+
+pub loop-index-init : goal.loop-index-init
+unfolding symbols
+loop-index-init c = rw c.new-symbols.ensures (rows_begin (spec.symbol c.args.table.now c.args.strings.now) (length c.args.table.now / SYMBOL_SIZE))
+
+pub returns-in_err-symbol_at : goal.returns-in_err-symbol_at
+returns-in_err-symbol_at c =
+    let p = err_from_is_err_and c.from_residual.result c.from_residual.ensures.1 in
+    rw (p.1, p.2) (rows_fail spec.is_memory (spec.symbol c.args.table.now c.args.strings.now) _ _ _ _ _ c.loop-index-test.true c.in_err-symbol_at.ensures c.loop-index.invariant)
+
+pub loop-index-preserved : goal.loop-index-preserved
+loop-index-preserved c =
+    rw c.in_ok-push.ensures.ok (rows_more (spec.symbol c.args.table.now c.args.strings.now) _ _ _ _ _ c.loop-index-test.true c.in_ok-symbol_at.ensures c.loop-index.invariant)
+
+pub returns : goal.returns
+returns c = rows_done (spec.symbol c.args.table.now c.args.strings.now) _ _ _ _ c.loop-index-test.false c.loop-index.invariant

@@ -1,0 +1,4 @@
+pub mod Strings
+pub mod Symbol
+pub mod Table
+pub mod Definers
