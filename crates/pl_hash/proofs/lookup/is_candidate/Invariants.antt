@@ -1,0 +1,13 @@
+use Rattle.std.proofs.Common.{◌≡◌, length}
+use Rattle.std.specs.Prelude.{IsTrue, IfSome}
+use Rattle.pl_hash.specs.Candidates.{candidates, is_candidate, rest_from}
+use Rattle.pl_hash.proofs.CandidateLaws.{has}
+use Rattle.pl_hash.proofs.lookup.is_candidate.Given as goal
+
+abbrev pub invariant-loop-at : goal.invariant-loop-at
+invariant-loop-at l =
+    (IfSome l.at (λ index. IsTrue (is_candidate l.table l.hash index)))
+    × (has l.index (rest_from l.at (candidates l.table l.hash)) ≡ is_candidate l.table l.hash l.index)
+
+abbrev pub decreases-loop-at : goal.decreases-loop-at
+decreases-loop-at l = length (rest_from l.at (candidates l.table l.hash))

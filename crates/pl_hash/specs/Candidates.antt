@@ -1,0 +1,41 @@
+-- The symbols that a hash leads to.
+use Rattle.std.specs.Prelude.{ℕ, ◌%◌, Bool, List, [], ◌∷◌, Option, Some, None, filter, ◌==◌, if◌then◌else◌}
+use Rattle.std.specs.List.{list_any}
+use Rattle.std.specs.Option.{unwrap_or}
+use Rattle.pl_hash.specs.declared.table.Table.{Table}
+use Rattle.pl_hash.specs.Hash.{gnu, sysv}
+use Rattle.pl_hash.specs.Table.{bucket_count, admits, matches}
+use Rattle.pl_hash.specs.Chain.{head, chain}
+
+-- the hash that a table goes by
+abbrev pub name_hash : Table → List ℕ → ℕ
+name_hash table name = if table.gnu then gnu name else sysv name
+
+-- the symbols of a chain that may have a hash
+unfoldable pub matching : Table → ℕ → Option ℕ → List ℕ
+matching table hash start = filter (matches table hash) (unwrap_or (chain table start) [])
+
+-- The symbols that a hash leads to, in the order of their chain. System V: its bucket's chain. GNU: none where the bloom word refuses the hash, else those of the chain whose link has the upper 31 bits of the hash.
+unfoldable pub candidates : Table → ℕ → List ℕ
+candidates table hash = if admits table hash then matching table hash (head table (hash % bucket_count table)) else []
+
+-- whether a hash leads to a symbol
+abbrev pub is_candidate : Table → ℕ → ℕ → Bool
+is_candidate table hash index = list_any (λ k. k == index) (candidates table hash)
+
+-- ---- one after the other
+
+-- the first, where there is one
+abbrev pub first_of : List ℕ → Option ℕ
+first_of [] = None
+first_of (x ∷ xs) = Some x
+
+-- the ones after this one
+abbrev pub rest_after : ℕ → List ℕ → List ℕ
+rest_after index [] = []
+rest_after index (x ∷ xs) = if x == index then xs else rest_after index xs
+
+-- a symbol and the ones after it
+abbrev pub rest_from : Option ℕ → List ℕ → List ℕ
+rest_from None xs = []
+rest_from (Some index) xs = index ∷ rest_after index xs

@@ -1,0 +1,127 @@
+// The symbols that a hash leads to.
+ghost use Rattle.std.specs.Prelude.{◌≡◌, ℕ, ◌<◌, nat_eq, IsTrue, IsSome, IfSome};
+ghost use Rattle.std.specs.List.{IsDistinct};
+ghost use Rattle.pl_hash.specs.Table as part;
+ghost use Rattle.pl_hash.specs.Chain.{HasBuckets, IsLinked, IsWellFormed, chain};
+ghost use Rattle.pl_hash.specs.Candidates as spec;
+
+use crate::chain::{following, head};
+use crate::hash::{gnu_hash, sysv_hash};
+use crate::table::{BLOOM_WORD_BITS, Table, bloom_shift, bloom_word, bucket_count, link};
+
+/// Whether a bit of a bloom word is set.
+fn has_bit(word: u64, bit: u32) -> bool
+    requires { bit < BLOOM_WORD_BITS }
+    ensures { result ≡ part.has_bit word bit }
+{
+    (word >> bit) % 2 == 1
+}
+
+/// The bit of a bloom word that a shifted hash stands for.
+fn second_bit(hash: u32, shift: u32) -> u32
+    ensures { result ≡ part.second_bit hash shift }
+{
+    if shift < u32::BITS {
+        (hash >> shift) % BLOOM_WORD_BITS
+    } else {
+        0
+    }
+}
+
+/// Whether the bloom word lets a hash pass.
+#[tactic(auto, unfolding(crate::specs::Table::admits))]
+fn admits(table: &Table, hash: u32) -> bool
+    requires formed { IsWellFormed table.now }
+    ensures { result ≡ part.admits table.now hash }
+{
+    if !table.gnu {
+        return true;
+    }
+    let word = bloom_word(table, hash);
+    has_bit(word, hash % BLOOM_WORD_BITS) && has_bit(word, second_bit(hash, bloom_shift(table)))
+}
+
+/// Whether a symbol may have a hash.
+#[tactic(auto, unfolding(crate::specs::Table::matches))]
+fn matches(table: &Table, hash: u32, index: u32) -> bool
+    requires header { part.HasHeader table.now }
+    requires linked { IsLinked table.now index }
+    ensures { result ≡ part.matches table.now hash index }
+{
+    !table.gnu || link(table, index) / 2 == hash / 2
+}
+
+/// The first symbol that may have a hash, from one on in its chain.
+fn first_matching(table: &Table, hash: u32, start: Option<u32>) -> Option<u32>
+    requires header { part.HasHeader table.now }
+    requires ends { IsSome (chain table.now start) }
+    ensures { result ≡ spec.first_of (spec.matching table.now hash start) }
+{
+    let mut at = start;
+    while let Some(index) = at {
+        if matches(table, hash, index) {
+            return Some(index);
+        }
+        at = following(table, index);
+    }
+    None
+}
+
+/// The first symbol that a hash leads to: the first of the table's candidates of that hash (System V gABI chapter 5, "Hash Table"; GNU hash table). `None` exactly where there is none: the bloom word refuses the hash, its bucket is empty or, in a GNU table, no chain word has the upper 31 bits of the hash.
+///
+/// The candidates are distinct and below the count of symbols. No memory is taken, and no more steps than the chain has symbols.
+#[tactic(auto, unfolding(crate::specs::Candidates::candidates))]
+pub fn first(table: &Table, hash: u32) -> Option<u32>
+    requires { IsWellFormed table.now }
+    ensures value { result ≡ spec.first_of (spec.candidates table.now hash) }
+    ensures rest { spec.rest_from result (spec.candidates table.now hash) ≡ spec.candidates table.now hash }
+    ensures given { IfSome result (λ index. IsTrue (spec.is_candidate table.now hash index)) }
+
+    // Each candidate is a symbol, and is listed once.
+    ensures within { (index : ℕ) → IsTrue (spec.is_candidate table.now hash index) → index < table.now.symbols }
+    ensures once { IsDistinct nat_eq (spec.candidates table.now hash) }
+{
+    if !admits(table, hash) {
+        return None;
+    }
+    first_matching(table, hash, head(table, hash % bucket_count(table)))
+}
+
+/// The symbol after one that `first` or `next` gave for this table and hash: the next of the table's candidates of that hash. `None` exactly after the last.
+///
+/// No memory is taken, and no more steps than the chain has symbols left.
+pub fn next(table: &Table, hash: u32, index: u32) -> Option<u32>
+    requires formed { IsWellFormed table.now }
+    requires given { IsTrue (spec.is_candidate table.now hash index) }
+    ensures value { result ≡ spec.first_of (spec.rest_after index (spec.candidates table.now hash)) }
+    ensures rest { spec.rest_from result (spec.candidates table.now hash) ≡ spec.rest_after index (spec.candidates table.now hash) }
+    ensures given { IfSome result (λ index. IsTrue (spec.is_candidate table.now hash index)) }
+{
+    first_matching(table, hash, following(table, index))
+}
+
+/// The hash of a symbol's name that a table goes by.
+pub fn name_hash(table: &Table, name: &[u8]) -> u32
+    ensures { result ≡ spec.name_hash table.now name.now }
+{
+    if table.gnu {
+        gnu_hash(name)
+    } else {
+        sysv_hash(name)
+    }
+}
+
+/// Whether a symbol is one of a table's candidates of a hash.
+pub fn is_candidate(table: &Table, hash: u32, index: u32) -> bool
+    requires { IsWellFormed table.now }
+    ensures { result ≡ spec.is_candidate table.now hash index }
+{
+    let mut at = first(table, hash);
+    while let Some(candidate) = at {
+        if candidate == index {
+            return true;
+        }
+        at = next(table, hash, candidate);
+    }
+    false
+}
