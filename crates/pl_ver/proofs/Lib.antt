@@ -1,0 +1,5 @@
+pub mod StringLaws
+pub mod ChainLaws
+pub mod LengthLaws
+pub mod TakenLaws
+pub mod CollectingLaws

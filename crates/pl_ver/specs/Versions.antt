@@ -1,0 +1,67 @@
+-- The versions of an object's symbols, and the first of acceptance clauses 17 and 18 that refuses them.
+use Rattle.std.specs.Prelude.{ℕ, Bool, true, false, not, ◌&&◌, ◌||◌, ◌==◌, nat_le, nat_lt, List, [], ◌∷◌, ◌++◌, map, drop, Option, Result, Ok, find, option_map}
+use Rattle.std.specs.List.{list_any, before_first}
+use Rattle.pl_base.specs.Answers.{refuse}
+use Rattle.pl_ver.specs.declared.constants.TheConstants.{VER_NDX_GLOBAL}
+use Rattle.pl_ver.specs.declared.fault.VerFault.{VerFault}
+use Rattle.pl_ver.specs.declared.fault.VerFault.TheVariants.{BadChain, BadIndex, NoMemory}
+use Rattle.pl_ver.specs.declared.record.Record.{Record}
+use Rattle.pl_ver.specs.declared.versions.VersionName.{VersionName}
+use Rattle.pl_ver.specs.declared.versions.Versions.{Versions}
+use Rattle.pl_ver.specs.Fields.{words, index_of}
+use Rattle.pl_ver.specs.Chains.{is_zero, are_verdefs, are_verneeds, defined, needed}
+
+abbrev pub is_memory : VerFault → Bool
+is_memory NoMemory = true
+is_memory BadChain = false
+is_memory BadIndex = false
+
+-- ---- clause 18
+
+abbrev pub has_index : ℕ → Record → Bool
+has_index index r = r.index == index
+
+abbrev pub any_has : ℕ → List Record → Bool
+any_has index records = list_any (has_index index) records
+
+-- two records have the same index
+abbrev pub any_share : List Record → Bool
+any_share [] = false
+any_share (r ∷ records) = any_has r.index records || any_share records
+
+-- a record with the index of symbols without a version, or of local ones, that is not the base version's
+unfoldable pub is_misplaced : Record → Bool
+is_misplaced r = nat_le r.index VER_NDX_GLOBAL && not r.base
+
+-- the index of a symbol with a version has no record
+unfoldable pub is_unknown : List Record → ℕ → Bool
+is_unknown records word = nat_lt VER_NDX_GLOBAL (index_of word) && not (any_has (index_of word) records)
+
+unfoldable pub bad_index : List Record → List ℕ → Bool
+bad_index records versym = any_share records || list_any is_misplaced records || list_any (is_unknown records) versym
+
+-- ---- the versions
+
+-- the string that begins at an offset, without the 0 that ends it
+unfoldable pub string : List ℕ → ℕ → List ℕ
+string strings at = before_first is_zero (drop at strings)
+
+unfoldable pub named : List ℕ → Record → VersionName
+named strings r = record { index = r.index; name = string strings r.name; defined = r.defined }
+
+-- the version words of a section, and the records with their names
+unfoldable pub checked : List ℕ → List Record → List ℕ → Result Versions VerFault
+checked versym records strings =
+    refuse ((bad_index records (words versym), BadIndex) ∷ [])
+    (Ok (record { index = words versym; names = map (named strings) records }))
+
+unfoldable pub versions : List ℕ → List ℕ → ℕ → List ℕ → ℕ → List ℕ → Result Versions VerFault
+versions versym verdef defs verneed needs strings =
+    refuse ((not (are_verdefs strings verdef defs && are_verneeds strings verneed needs), BadChain) ∷ [])
+    (checked versym (defined verdef defs ++ needed verneed needs) strings)
+
+-- ---- look-up
+
+-- the name of the first row that has an index
+unfoldable pub version_of : Versions → ℕ → Option (List ℕ)
+version_of vs index = option_map (λ row. row.name) (find (λ row. row.index == index_of index) vs.names)
