@@ -1,5 +1,5 @@
 -- What acceptance clauses 1 to 8 refuse, each a test of the whole file. The first that refuses is the file's fault.
-use Rattle.std.specs.Prelude.{ℕ, ◌+◌, ◌*◌, ◌%◌, Bool, true, false, not, ◌&&◌, ◌||◌, ◌==◌, nat_lt, nat_le, List, [], ◌∷◌, length, drop, map, Result, Ok, Err, if◌then◌else◌}
+use Rattle.std.specs.Prelude.{◌≡◌, ℕ, ◌+◌, ◌*◌, ◌%◌, Bool, true, false, not, ◌&&◌, ◌||◌, ◌==◌, nat_lt, nat_le, List, [], ◌∷◌, length, drop, map, Result, Ok, Err, if◌then◌else◌}
 use Rattle.std.specs.List.{range_with_len, list_any}
 use Rattle.std.specs.Int.{is_power_of_two}
 use Rattle.pl_base.specs.Bytes.{byte, part}
@@ -111,6 +111,11 @@ bad_segment h ss =
     not (h.phentsize == SEGMENT_SIZE) || not (list_any is_load ss) || has_twice ss
     || list_any (λ s. is_load s && bad_load s) ss || not (ascend_from 0 (loads ss)) || overlap_in_file ss
     || list_any bad_tls ss
+
+-- what is known of accepted PT_LOADs: they ascend in memory, and none of them is refused by itself
+pub record AreLoads (ss : List Segment) : Type 0 where
+  pub ascend : ascend_from 0 ss ≡ true
+  pub fit : list_any bad_load ss ≡ false
 
 -- ---- 7. BadSection
 

@@ -1,5 +1,5 @@
 ghost use Rattle.std.specs.Prelude.{◌≡◌, ◌≤◌, length, IfOk, OnOk};
-ghost use Rattle.pl_elf.specs.Headers.{HasSections, HasSegments};
+ghost use Rattle.pl_elf.specs.Headers.{HasSections, HasSegments, loads, segments};
 ghost use Rattle.pl_elf.specs.Clauses as spec;
 
 use crate::clauses::{not_elf, other_class, other_kind, truncated};
@@ -15,6 +15,7 @@ pub fn read_header(bytes: &[u8]) -> Result<Header, HeaderFault>
     ensures long { OnOk result (HEADER_SIZE ≤ length bytes.now) }
     ensures segments { IfOk result (HasSegments bytes.now) }
     ensures sections { IfOk result (HasSections bytes.now) }
+    ensures loads { IfOk result (λ h. spec.AreLoads (loads (segments bytes.now h))) }
 {
     if not_elf(bytes) {
         return Err(HeaderFault::NotElf);

@@ -1,0 +1,13 @@
+pub mod PieceLemmas
+pub mod WordLemmas
+pub mod PassLemmas
+pub mod LineLemmas
+pub mod StreamedLemmas
+pub mod RestLemmas
+pub mod AddedLemmas
+pub mod TableLemmas
+pub mod LoadedLemmas
+pub mod BoundLemmas
+pub mod NameLemmas
+pub mod PartLemmas
+pub mod OutcomeLemmas

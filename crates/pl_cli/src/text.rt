@@ -1,0 +1,80 @@
+// The texts that a run writes.
+ghost use Rattle.std.specs.Prelude.{◌≡◌, ◌≤◌, ◌<◌, ◌^◌, map, true, IfOk, string_bytes};
+ghost use Rattle.pl_cli.specs.Answer as spec;
+ghost use Rattle.pl_cli.specs.Image as image;
+ghost use Rattle.pl_cli.specs.Static.{highest, lowest};
+
+use crate::cause::Cause;
+use crate::piece::Piece;
+use crate::program::Program;
+use pl_base::{end, round_down, round_up};
+use pl_elf::constants::ADDRESS_LIMIT;
+use std::alloc::{AllocError, Global};
+
+/// The bounds of an object are rounded to so many bytes.
+pub const PAGE: u64 = 4096;
+
+/// What is printed where the words are no command.
+pub const USAGE: &[u8] = b"usage: prelink MODE [OPTIONS] [NAME..]\n";
+
+/// The lowest address of the pieces.
+#[tactic(auto, using(crate::proofs::BoundLemmas::lowest_of), unfolding(crate::specs::Static::lowest))]
+fn lowest(pieces: &[Piece]) -> u64
+    ensures { result ≡ lowest (map image.piece_of pieces.now) }
+{
+    pieces
+        .iter()
+        .fold(ADDRESS_LIMIT, |least, piece| least.min(piece.start))
+}
+
+#[tactic(auto, using(crate::proofs::BoundLemmas::highest_of), unfolding(crate::specs::Static::highest))]
+fn highest_end(pieces: &[Piece]) -> u128
+    ensures { result ≡ highest (map image.piece_of pieces.now) }
+{
+    pieces.iter().fold(
+        0,
+        |most: u128, piece| most.max(end(piece.start, piece.size)),
+    )
+}
+
+/// The highest end of the pieces.
+#[tactic(auto, using(crate::proofs::BoundLemmas::highest_limit))]
+fn highest(pieces: &[Piece]) -> u64
+    requires { image.ascends 0 (map image.piece_of pieces.now) ≡ true }
+    ensures value { result ≡ highest (map image.piece_of pieces.now) }
+    ensures limit { result ≤ 2 ^ 47 }
+{
+    highest_end(pieces) as u64
+}
+
+/// The lines before those of the words.
+#[tactic(auto, using(pl_base::proofs::HexLaws::hex16_format), unfolding(crate::specs::Answer::head_text))]
+pub fn head_text(alloc: Global, name: &str, program: &Program) -> Result<String, AllocError>
+    requires { image.ascends 0 (map image.piece_of program.now.pieces.items) ≡ true }
+    ensures { IfOk result (λ text. string_bytes text ≡ spec.head_text name.now (image.program program.now)) }
+{
+    let start = round_down(lowest(&program.pieces), PAGE);
+    let end = round_up(highest(&program.pieces), PAGE);
+    let entry = program.entry;
+    format!(in alloc; "slow\nobject {start:016x} {end:016x} {name}\nentry {entry:016x}\n")
+}
+
+#[tactic(auto, unfolding(crate::specs::Answer::refusal))]
+fn refused_text(alloc: Global, name: &str, clause: u32) -> Result<String, AllocError>
+    ensures { IfOk result (λ text. string_bytes text ≡ spec.refusal name.now (Cause.Refused clause)) }
+{
+    format!(in alloc; "refused Refused {name} {clause}\n")
+}
+
+/// The line of a refusal.
+#[tactic(auto, unfolding(crate::specs::Answer::refusal))]
+pub fn refusal(alloc: Global, name: &str, cause: Cause) -> Result<String, AllocError>
+    ensures { IfOk result (λ text. string_bytes text ≡ spec.refusal name.now cause) }
+{
+    match cause {
+        Cause::BadName => format!(in alloc; "refused BadName\n"),
+        Cause::NotThere => format!(in alloc; "refused NotThere {name}\n"),
+        Cause::NotYet => format!(in alloc; "refused NotYet {name}\n"),
+        Cause::Refused(clause) => refused_text(alloc, name, clause),
+    }
+}

@@ -1,0 +1,7 @@
+//! Whole runs over folders, sources and sinks in memory.
+#![tactic(auto)]
+
+#[cfg(test)]
+mod static_file;
+#[cfg(test)]
+mod tests;
