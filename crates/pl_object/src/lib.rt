@@ -2,15 +2,19 @@
 #![tactic(auto)]
 
 pub mod constants;
+mod file_part;
 mod headers;
 mod kind;
 mod linking;
 mod object;
 mod refusal;
 mod reloc;
+mod tables;
+mod tags;
 mod window;
 
 pub use constants::ORIGINAL;
+pub use file_part::{file_window, in_file_part, loaded};
 pub use kind::Kind;
 pub use object::Object;
 pub use refusal::Refusal;
