@@ -1,1 +1,2 @@
 pub mod FilePartLaws
+pub mod OverlapLaws
