@@ -1,2 +1,5 @@
 pub mod FilePartLaws
 pub mod OverlapLaws
+pub mod SymbolLaws
+pub mod NameLaws
+pub mod LoadLaws

@@ -41,12 +41,12 @@ base_not_zero program ss = not program && is_above (segment_of_kind PT_LOAD ss)
 
 -- the hash table of a tag, where the tag is there
 unfoldable pub hash_table : List ℕ → List Segment → List Section → List Tag → ℕ → Bool → ℕ → List Table
-hash_table bytes ss secs tags number gnu count =
+hash_table bytes ss secs tags count gnu number =
     if has_tag number tags then record { words = loaded bytes ss (section_range number tags secs); gnu = gnu; symbols = count } ∷ [] else []
 
 unfoldable pub hash_tables : List ℕ → List Segment → List Section → List Tag → ℕ → List Table
 hash_tables bytes ss secs tags count =
-    hash_table bytes ss secs tags DT_HASH false count ++ hash_table bytes ss secs tags DT_GNU_HASH true count
+    hash_table bytes ss secs tags count false DT_HASH ++ hash_table bytes ss secs tags count true DT_GNU_HASH
 
 -- a definer for every reference, jump slots too
 abbrev pub defines : Symbol → Bool
@@ -79,8 +79,9 @@ version_name None word = None
 version_name (Some versions) word = version_of versions word
 
 abbrev pub is_same_name : Option (List ℕ) → Option (List ℕ) → Bool
-is_same_name (Some x) (Some y) = bytes_eq x y
-is_same_name _ _ = false
+is_same_name None other = false
+is_same_name (Some name) None = false
+is_same_name (Some name) (Some other) = bytes_eq name other
 
 unfoldable pub is_same_version : Option Versions → Symbol → Symbol → Bool
 is_same_version versions s t =
