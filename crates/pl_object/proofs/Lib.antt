@@ -3,3 +3,5 @@ pub mod OverlapLaws
 pub mod SymbolLaws
 pub mod NameLaws
 pub mod LoadLaws
+pub mod ExtentLaws
+pub mod ReadLaws

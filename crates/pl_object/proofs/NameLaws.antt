@@ -1,8 +1,8 @@
 -- Names that are text, lists that are as long as what they are read from, and symbols with version words.
-use Rattle.std.proofs.Common.{◌≡◌, ℕ, zero, suc, ◌+◌, ◌-◌, ◌*◌, ◌/◌, ◌<◌, ◌≤◌, Bool, true, false, not, ◌&&◌, List, [], ◌∷◌, length, take, get_or, set, Result, Ok, Err, refl, sym, ap, ◌∙◌, inl, inr, arith, add-one}
+use Rattle.std.proofs.Common.{◌≡◌, ℕ, zero, suc, ◌+◌, ◌/◌, ◌<◌, ◌≤◌, true, false, not, ◌&&◌, List, [], ◌∷◌, length, take, get_or, set, Option, Some, None, Result, Ok, Err, refl, sym, ap, ◌∙◌, inl, inr, arith, add-one}
 use Rattle.std.specs.Prelude.{◌⊎◌, nat_le, ◌==◌}
-use Rattle.std.specs.List.{list_all, All}
-use Rattle.std.specs.Str.{IsUtf8, IsAscii}
+use Rattle.std.specs.List.{list_all}
+use Rattle.std.specs.Str.{IsUtf8}
 use Rattle.std.proofs.lemmas.Bool.{cases_Bool, and_parts, leb-true}
 use Rattle.std.proofs.lemmas.List.{take_all}
 use Rattle.std.proofs.lemmas.List.Sums.{AllPass-from_list_all}
@@ -16,7 +16,8 @@ use Rattle.pl_base.specs.Each.{each}
 use Rattle.pl_sym.specs.Table.{symbol, symbols}
 use Rattle.pl_sym.specs.declared.constants.TheConstants.{SYMBOL_SIZE}
 use Rattle.pl_sym.specs.declared.symbol.Symbol.{Symbol}
-use Rattle.pl_object.specs.Names.{with_version, with_versions}
+use Rattle.pl_ver.specs.declared.versions.Versions.{Versions}
+use Rattle.pl_object.specs.Names.{with_version, with_versions, versioned}
 
 -- ---- names
 
@@ -101,3 +102,8 @@ unfolding with_versions
 length-with_versions [] words = refl
 length-with_versions (s ∷ ss) [] = refl
 length-with_versions (s ∷ ss) (word ∷ words) = ap suc (length-with_versions ss words)
+
+-- with their version words symbols are as many as before
+pub length-versioned : (ss : List Symbol) (versions : Option Versions) → length (versioned ss versions) ≡ length ss
+length-versioned ss None = refl
+length-versioned ss (Some versions) = length-with_versions ss versions.index

@@ -1,6 +1,5 @@
 -- Where bytes of memory stand in the file. A PT_LOAD loads the first filesz of its memsz bytes of memory from the file (System V gABI chapter 5, "Program Header").
 use Rattle.std.specs.Prelude.{ℕ, ◌+◌, ◌-◌, min, Bool, ◌&&◌, ◌==◌, nat_le, nat_lt, List, Option, Some, None, find}
-use Rattle.pl_base.specs.Bytes.{part}
 use Rattle.pl_base.specs.Windows.{Window, within}
 use Rattle.pl_elf.specs.Headers.{is_load}
 use Rattle.pl_elf.specs.declared.segment.Segment.{Segment}

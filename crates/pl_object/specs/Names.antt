@@ -1,5 +1,5 @@
 -- The names of an object: its needed libraries, its symbols and their versions (System V gABI chapter 5, "Dynamic Section"; GNU symbol versioning). Clauses 15 to 18.
-use Rattle.std.specs.Prelude.{ℕ, ◌*◌, Bool, true, false, not, ◌&&◌, ◌||◌, ◌==◌, List, [], ◌∷◌, filter, length, Option, Some, None, Result, Ok, Err, if◌then◌else◌}
+use Rattle.std.specs.Prelude.{ℕ, ◌*◌, Bool, not, ◌&&◌, ◌||◌, ◌==◌, List, [], ◌∷◌, filter, length, Option, Some, None, Result, Ok, Err, if◌then◌else◌}
 use Rattle.pl_base.specs.Answers.{◌>>=◌, refuse, because}
 use Rattle.pl_base.specs.Each.{each}
 use Rattle.pl_base.specs.Names.{is_valid_name}

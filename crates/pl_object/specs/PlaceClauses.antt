@@ -1,5 +1,5 @@
 -- What acceptance clauses 23 to 27 and 29 refuse: relocations, and the places that they change.
-use Rattle.std.specs.Prelude.{ℕ, ◌+◌, Bool, true, false, not, ◌&&◌, ◌||◌, ◌==◌, nat_le, List, [], ◌∷◌, map, fold, find, length, Option, Some, None, Result, Ok, if◌then◌else◌, pos}
+use Rattle.std.specs.Prelude.{ℕ, ◌+◌, Bool, false, not, ◌&&◌, ◌||◌, ◌==◌, nat_le, List, [], ◌∷◌, map, fold, find, Option, Some, None, Result, Ok, if◌then◌else◌, pos}
 use Rattle.std.specs.List.{list_any}
 use Rattle.std.specs.Ordering.{int_eq}
 use Rattle.pl_base.specs.Answers.{refuse, unless_found}
@@ -7,7 +7,7 @@ use Rattle.pl_base.specs.Windows.{Window, end_of, share, any_share}
 use Rattle.pl_elf.specs.Headers.{is_load}
 use Rattle.pl_elf.specs.declared.segment.Segment.{Segment}
 use Rattle.pl_object.specs.FilePart.{file_window, in_file_part}
-use Rattle.pl_object.specs.Relocations.{place, places}
+use Rattle.pl_object.specs.Relocations.{places}
 use Rattle.pl_object.specs.declared.constants.TheConstants.{RELOC_KINDS, R_X86_64_COPY, R_X86_64_GLOB_DAT, R_X86_64_JUMP_SLOT}
 use Rattle.pl_object.specs.declared.reloc.Reloc.{Reloc}
 use Rattle.pl_object.specs.declared.refusal.Refusal.{Refusal}

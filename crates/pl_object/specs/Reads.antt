@@ -1,5 +1,5 @@
 -- One object, or the first acceptance clause that refuses the file.
-use Rattle.std.specs.Prelude.{ℕ, ◌+◌, ◌^◌, ◌<◌, Bool, true, false, not, ◌&&◌, ◌||◌, ◌==◌, nat_lt, max, List, [], ◌∷◌, ◌++◌, map, fold, length, bit_and, Option, Some, None, Result, Ok, Err, if◌then◌else◌, is_some}
+use Rattle.std.specs.Prelude.{◌≡◌, ℕ, ◌+◌, Bool, false, not, ◌&&◌, ◌||◌, ◌==◌, nat_lt, max, List, [], ◌∷◌, ◌++◌, map, fold, length, bit_and, Option, Some, None, Result, Ok, Err, if◌then◌else◌, is_some}
 use Rattle.std.specs.Option.{option_map}
 use Rattle.pl_base.specs.Answers.{◌>>=◌, refuse, because}
 use Rattle.pl_base.specs.Sums.{round_up}
@@ -8,7 +8,6 @@ use Rattle.pl_elf.specs.Clauses as elf
 use Rattle.pl_elf.specs.declared.constants.TheConstants.{ET_EXEC, ET_DYN, PT_TLS, PT_INTERP}
 use Rattle.pl_elf.specs.declared.header.Header.{Header}
 use Rattle.pl_elf.specs.declared.segment.Segment.{Segment}
-use Rattle.pl_elf.specs.declared.section.Section.{Section}
 use Rattle.pl_dyn.specs.Read as dyn
 use Rattle.pl_dyn.specs.declared.constants.TheConstants.{DT_SONAME, DT_SYMBOLIC, DT_FLAGS, DT_FLAGS_1, DF_SYMBOLIC, DF_1_PIE}
 use Rattle.pl_dyn.specs.declared.tags.Tag.{Tag}
@@ -16,7 +15,6 @@ use Rattle.pl_dyn.specs.declared.dynamic.Dynamic.{Dynamic}
 use Rattle.pl_dyn.specs.declared.fault.DynFault.{DynFault}
 use Rattle.pl_dyn.specs.declared.fault.DynFault.TheVariants as dyn_fault
 use Rattle.pl_sym.specs.declared.symbol.Symbol.{Symbol}
-use Rattle.pl_ver.specs.declared.versions.Versions.{Versions}
 use Rattle.pl_tls.specs.declared.block.Block.{Block}
 use Rattle.pl_object.specs.FilePart.{loaded, in_file_part}
 use Rattle.pl_object.specs.Tables.{has_tag, value, dynamic_range, rela_range, jmprel_range, sections_window, link_windows, static_windows, range_of}
@@ -28,6 +26,7 @@ use Rattle.pl_object.specs.PlaceClauses.{last_load, check_relocs, misplaced_copy
 use Rattle.pl_object.specs.Refusals.{of_header, of_dynamic}
 use Rattle.pl_object.specs.declared.constants.TheConstants.{ORIGINAL, PAGE}
 use Rattle.pl_object.specs.declared.headers.Headers.{Headers}
+use Rattle.pl_object.specs.declared.layout.Layout.{Layout}
 use Rattle.pl_object.specs.declared.linking.Linking.{Linking}
 use Rattle.pl_object.specs.declared.kind.Kind.{Kind}
 use Rattle.pl_object.specs.declared.kind.Kind.TheVariants.{Program, Library, Static}
@@ -99,8 +98,16 @@ unfoldable pub relocations : List ℕ → List Segment → List Tag → List Sym
 relocations bytes ss tags symbols =
     relocs symbols (loaded bytes ss (rela_range tags)) ++ relocs symbols (loaded bytes ss (jmprel_range tags))
 
-unfoldable pub object : List ℕ → Headers → Dynamic → Linking → Object
-object bytes f d l = record {
+-- the hash tables, the relocations of both tables, and the link tables
+unfoldable pub layout : List ℕ → Headers → List Tag → Linking → Layout
+layout bytes f tags l = record {
+  hashes = hash_tables bytes f.segments f.sections tags (length l.symbols);
+  relocations = relocations bytes f.segments tags l.symbols;
+  windows = link_windows f.header f.segments f.sections tags;
+}
+
+unfoldable pub object : Headers → Dynamic → Linking → Layout → Object
+object f d l places = record {
   kind = kind_of f.header;
   header = f.header;
   sections = f.sections;
@@ -109,9 +116,9 @@ object bytes f d l = record {
   needed = l.needed;
   symbols = l.symbols;
   versions = l.versions;
-  hashes = hash_tables bytes f.segments f.sections d.tags (length l.symbols);
-  relocations = relocations bytes f.segments d.tags l.symbols;
-  tables = map range_of (link_windows f.header f.segments f.sections d.tags);
+  hashes = places.hashes;
+  relocations = places.relocations;
+  tables = map range_of places.windows;
   tls = tls f.segments;
   symbolic = is_symbolic d.tags;
   spare = d.spare;
@@ -150,30 +157,38 @@ linking bytes f tags = do
   Ok (record { needed = names; symbols = versioned bare known; versions = known })
 
 -- 20 to 31: the names and places of an object
-unfoldable pub check : List ℕ → Headers → List Tag → Linking → Result (Unit {0}) Refusal
-check bytes f tags l = do
-  _ ← check_symbols (f.header.kind == ET_EXEC) f.segments (hash_tables bytes f.segments f.sections tags (length l.symbols)) l.versions l.symbols
-  _ ← check_relocs (f.header.kind == ET_EXEC) f.segments (sections_window f.header ∷ link_windows f.header f.segments f.sections tags) (length l.symbols) (relocations bytes f.segments tags l.symbols)
-  check_rest bytes f.header f.segments tags l.symbols (relocations bytes f.segments tags l.symbols)
+unfoldable pub check : List ℕ → Headers → List Tag → Linking → Layout → Result (Unit {0}) Refusal
+check bytes f tags l places = do
+  _ ← check_symbols (f.header.kind == ET_EXEC) f.segments places.hashes l.versions l.symbols
+  _ ← check_relocs (f.header.kind == ET_EXEC) f.segments (sections_window f.header ∷ places.windows) (length l.symbols) places.relocations
+  check_rest bytes f.header f.segments tags l.symbols places.relocations
+
+unfoldable pub checked : List ℕ → Headers → Dynamic → Linking → Layout → Result Object Refusal
+checked bytes f d l places = check bytes f d.tags l places >>= λ _. Ok (object f d l places)
 
 -- 12 to 31: a program or library by its dynamic table
 unfoldable pub linked : List ℕ → Headers → Dynamic → Result Object Refusal
 linked bytes f d = do
   _ ← check_tables f.header f.segments f.sections d.tags
   l ← linking bytes f d.tags
-  _ ← check bytes f d.tags l
-  Ok (object bytes f d l)
+  checked bytes f d l (layout bytes f d.tags l)
 
 -- a static program has no dynamic table: of what follows clause 8 its size alone counts
-unfoldable pub static : List ℕ → Headers → Result Object Refusal
-static bytes f = refuse ((too_large bytes, Clause 30 0) ∷ []) (Ok (static_object f))
+unfoldable pub static_program : List ℕ → Headers → Result Object Refusal
+static_program bytes f = refuse ((too_large bytes, Clause 30 0) ∷ []) (Ok (static_object f))
 
 -- 9 to 31
 unfoldable pub parts : List ℕ → Headers → Result Object Refusal
-parts bytes f = if elf.is_static bytes f.header then static bytes f else (because of_dynamic (dynamic bytes f.segments) >>= linked bytes f)
+parts bytes f = if elf.is_static bytes f.header then static_program bytes f else (because of_dynamic (dynamic bytes f.segments) >>= linked bytes f)
 
 unfoldable pub headers : List ℕ → Header → Headers
 headers bytes h = record { header = h; segments = segments bytes h; sections = sections bytes h }
+
+-- what clauses 1 to 8 read of a file that they accept
+pub record IsRead (bytes : List ℕ) (f : Headers) : Type 0 where
+  pub accepted : elf.read bytes ≡ Ok f.header
+  pub same : f ≡ headers bytes f.header
+  pub loads : elf.AreLoads (loads f.segments)
 
 -- 1 to 31
 unfoldable pub reads : List ℕ → Result Object Refusal

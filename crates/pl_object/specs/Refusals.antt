@@ -1,5 +1,5 @@
 -- The faults of an object's parts as acceptance clauses.
-use Rattle.std.specs.Prelude.{ℕ, Bool, true, false}
+use Rattle.std.specs.Prelude.{Bool, true, false}
 use Rattle.pl_elf.specs.declared.fault.HeaderFault.{HeaderFault}
 use Rattle.pl_elf.specs.declared.fault.HeaderFault.TheVariants as header_fault
 use Rattle.pl_dyn.specs.declared.fault.DynFault.{DynFault}

@@ -1,7 +1,7 @@
 -- The relocations of an object, and the places in memory that they change (x86-64 psABI, "Relocation").
 -- A row has the place's address (64 bits) at 0, the kind (32 bits) at 8, the symbol's index (32 bits) at 12, and the signed addend (64 bits) at 16.
-use Rattle.std.specs.Prelude.{ℕ, ◌+◌, ◌*◌, ◌/◌, Bool, ◌==◌, List, ◌++◌, map, length, slice_get, Option, Some, None, if◌then◌else◌}
-use Rattle.std.specs.List.{range_with_len, list_any}
+use Rattle.std.specs.Prelude.{ℕ, ◌+◌, ◌*◌, ◌/◌, ◌==◌, List, map, length, slice_get, Option, Some, None, if◌then◌else◌}
+use Rattle.std.specs.List.{range_with_len}
 use Rattle.std.specs.Int.{w64, cast_signed}
 use Rattle.pl_base.specs.Bytes.{word32, word64}
 use Rattle.pl_base.specs.Windows.{Window}

@@ -1,9 +1,9 @@
 -- What acceptance clauses 20 to 22 and 28 refuse: how symbols are found. A hash table leads to each definer, and no two definers answer to one name and version.
-use Rattle.std.specs.Prelude.{ℕ, ◌/◌, Bool, true, false, not, ◌&&◌, ◌||◌, ◌==◌, nat_lt, nat_le, List, [], ◌∷◌, ◌++◌, length, slice_get, Option, Some, None, Result, Ok, if◌then◌else◌}
+use Rattle.std.specs.Prelude.{ℕ, ◌/◌, Bool, true, false, not, ◌&&◌, ◌||◌, ◌==◌, nat_le, List, [], ◌∷◌, ◌++◌, length, slice_get, Option, Some, None, Result, Ok, if◌then◌else◌}
 use Rattle.std.specs.List.{range_with_len, list_any}
 use Rattle.std.specs.Str.{bytes_eq}
 use Rattle.pl_base.specs.Answers.{refuse}
-use Rattle.pl_elf.specs.Headers.{is_load, segment_of_kind}
+use Rattle.pl_elf.specs.Headers.{segment_of_kind}
 use Rattle.pl_elf.specs.declared.constants.TheConstants.{PT_LOAD}
 use Rattle.pl_elf.specs.declared.segment.Segment.{Segment}
 use Rattle.pl_elf.specs.declared.section.Section.{Section}

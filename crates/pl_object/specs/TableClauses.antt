@@ -1,5 +1,5 @@
 -- What acceptance clauses 12 to 14 refuse: tables that do not fit together. The first of them that refuses is the file's fault.
-use Rattle.std.specs.Prelude.{ℕ, ◌%◌, Bool, true, false, not, ◌&&◌, ◌||◌, ◌==◌, List, [], ◌∷◌, count_by, Result, Ok, if◌then◌else◌}
+use Rattle.std.specs.Prelude.{ℕ, ◌%◌, Bool, not, ◌&&◌, ◌||◌, ◌==◌, List, [], ◌∷◌, count_by, Result, Ok, if◌then◌else◌}
 use Rattle.std.specs.List.{list_any}
 use Rattle.pl_base.specs.Answers.{refuse}
 use Rattle.pl_base.specs.Windows.{any_share}

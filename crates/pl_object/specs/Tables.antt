@@ -1,5 +1,5 @@
 -- Where the tables of an object stand: each extent once, as a window of memory or of the file (System V gABI chapter 5, "Dynamic Section"; GNU hash table; GNU symbol versioning).
-use Rattle.std.specs.Prelude.{ℕ, ◌+◌, ◌*◌, Bool, true, false, not, ◌&&◌, ◌||◌, ◌==◌, nat_lt, List, [], ◌∷◌, ◌++◌, map, filter, find, bit_and, Option, Some, None, is_some, unwrap_or, if◌then◌else◌}
+use Rattle.std.specs.Prelude.{ℕ, ◌+◌, ◌*◌, Bool, not, ◌&&◌, ◌==◌, nat_lt, List, [], ◌∷◌, ◌++◌, map, filter, find, bit_and, Option, Some, None, is_some, unwrap_or, if◌then◌else◌}
 use Rattle.std.specs.List.{list_any}
 use Rattle.pl_base.specs.Windows.{Window}
 use Rattle.pl_elf.specs.Headers.{segment_of_kind}

@@ -1,10 +1,12 @@
 //! Accepted objects: a file taken apart, or the first acceptance clause that refuses it.
 #![tactic(auto)]
 
+mod acceptance;
 pub mod constants;
 mod file_part;
 mod headers;
 mod kind;
+mod layout;
 mod linking;
 mod names;
 mod object;
@@ -19,8 +21,11 @@ mod symbol_clauses;
 mod table_clauses;
 mod tables;
 mod tags;
+#[cfg(test)]
+mod tests;
 mod window;
 
+pub use acceptance::accept;
 pub use constants::ORIGINAL;
 pub use file_part::{file_window, in_file_part, loaded};
 pub use kind::Kind;

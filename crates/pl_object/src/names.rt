@@ -214,7 +214,8 @@ fn set_versions(symbols: &mut [Symbol], words: &[u16])
 
 /// The symbols with their version words.
 pub fn versioned(symbols: Rows<Symbol>, versions: &Option<Versions>) -> Rows<Symbol>
-    ensures { result ≡ spec.versioned symbols versions.now }
+    ensures value { result ≡ spec.versioned symbols versions.now }
+    ensures few { length result ≡ length symbols }
 {
     match versions {
         None => symbols,

@@ -1,5 +1,4 @@
-use Rattle.std.proofs.Common.{[], ◌≡◌, ◌<◌, length, sym, ap, ◌∙◌, arith, inl, refl, take}
-use Rattle.pl_object.specs.Names.{with_versions}
+use Rattle.std.proofs.Common.{[], sym, ◌∙◌, arith, inl}
 use Rattle.pl_object.proofs.NameLaws.{versions_begin, versions_more, versions_done}
 use Rattle.pl_object.proofs.names.set_versions.Goals as goal
 
