@@ -73,7 +73,7 @@ pub are_in_file : (bytes : List ℕ) (h : Header) → read bytes ≡ Ok h → Ar
 are_in_file bytes h e =
     let none = none_holds bytes h e in
     let whole : AreInFile bytes (header bytes) = not_truncated bytes (header bytes) (long_enough bytes (first_fails (not_elf bytes) _ none))
-        (fifth_fails (not_elf bytes) (other_class bytes) (other_machine (header bytes)) (other_kind bytes (header bytes)) (truncated bytes (header bytes)) _ none) in
+    (fifth_fails (not_elf bytes) (other_class bytes) (other_machine (header bytes)) (other_kind bytes (header bytes)) (truncated bytes (header bytes)) _ none) in
     rw (header_read bytes h e) at whole
 
 -- ---- windows in the file

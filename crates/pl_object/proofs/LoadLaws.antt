@@ -18,7 +18,6 @@ load_fits s h = ltb-false ADDRESS_LIMIT (s.vaddr + s.memsz)
 abbrev Fits : Segment → Type 0
 Fits s = s.vaddr + s.memsz ≤ ADDRESS_LIMIT
 
-
 -- the last one after those before, all of which fit
 fits_from : (found : Option Segment) (ss : List Segment) → IfSome found Fits → list_any bad_load (loads ss) ≡ false → IfSome (fold (λ f s. if is_load s then Some s else f) found ss) Fits
 fits_from found [] before none = before

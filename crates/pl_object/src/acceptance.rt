@@ -47,7 +47,12 @@ fn dynamic(alloc: Global, bytes: &[u8], segments: &[Segment]) -> Result<Dynamic,
 
 /// The names: clauses 15 to 18.
 #[tactic(auto, unfolding(crate::specs::Reads::linking))]
-fn linking(alloc: Global, bytes: &[u8], headers: &Headers, dynamic: &Dynamic) -> Result<Linking, Refusal>
+fn linking(
+    alloc: Global,
+    bytes: &[u8],
+    headers: &Headers,
+    dynamic: &Dynamic,
+) -> Result<Linking, Refusal>
     requires { length bytes.now < 2 ^ 32 }
     ensures exact { Answers is_memory result (spec.linking bytes.now headers.now dynamic.now.tags) }
     ensures few { IfOk result (λ l. length l.symbols ≤ length bytes.now) }
@@ -76,7 +81,11 @@ fn relocations(
     ensures { IfOk result (λ v. v.items ≡ spec.relocations bytes.now segments.now dynamic.now.tags symbols.now) }
 {
     let mut all = relocs(alloc, symbols, loaded(bytes, segments, rela_range(dynamic)))?;
-    let slots = relocs(alloc, symbols, loaded(bytes, segments, jmprel_range(dynamic)))?;
+    let slots = relocs(
+        alloc,
+        symbols,
+        loaded(bytes, segments, jmprel_range(dynamic)),
+    )?;
     all.extend_from_slice(&slots)?;
     Ok(all)
 }
@@ -104,7 +113,14 @@ fn layout(
     let segments = headers.segments.as_slice();
     let sections = headers.sections.as_slice();
     let symbols = linking.symbols.as_slice();
-    let hashes = hash_tables(alloc, bytes, segments, sections, dynamic, symbols.len() as u32)?;
+    let hashes = hash_tables(
+        alloc,
+        bytes,
+        segments,
+        sections,
+        dynamic,
+        symbols.len() as u32,
+    )?;
     let relocations = relocations(alloc, bytes, segments, dynamic, symbols)?;
     let windows = link_windows(alloc, &headers.header, segments, sections, dynamic)?;
     Ok(Layout {
@@ -131,21 +147,52 @@ fn check(
     let segments = headers.segments.as_slice();
     let symbols = linking.symbols.as_slice();
     let relocs = layout.relocations.as_slice();
-    check_symbols(program, segments, layout.hashes.as_slice(), &linking.versions, symbols)?;
+    check_symbols(
+        program,
+        segments,
+        layout.hashes.as_slice(),
+        &linking.versions,
+        symbols,
+    )?;
     let kept = kept_windows(alloc, &headers.header, layout.windows.as_slice())?;
-    check_relocs(alloc, program, segments, &kept, symbols.len() as u32, relocs)?;
+    check_relocs(
+        alloc,
+        program,
+        segments,
+        &kept,
+        symbols.len() as u32,
+        relocs,
+    )?;
     check_rest(bytes, &headers.header, segments, dynamic, symbols, relocs)
 }
 
 #[tactic(auto, unfolding(crate::specs::Reads::object))]
-fn object(alloc: Global, headers: Headers, dynamic: &Dynamic, linking: Linking, layout: Layout) -> Result<Object, AllocError>
+fn object(
+    alloc: Global,
+    headers: Headers,
+    dynamic: &Dynamic,
+    linking: Linking,
+    layout: Layout,
+) -> Result<Object, AllocError>
     requires loads { AreLoads (loads headers.segments) }
     requires windows { All (λ w. end_of w < 2 ^ 64) layout.windows }
     ensures { IfOk result (λ o. o ≡ spec.object headers dynamic.now linking layout) }
 {
-    let Headers { header, segments, sections } = headers;
-    let Linking { needed, symbols, versions } = linking;
-    let Layout { hashes, relocations, windows } = layout;
+    let Headers {
+        header,
+        segments,
+        sections,
+    } = headers;
+    let Linking {
+        needed,
+        symbols,
+        versions,
+    } = linking;
+    let Layout {
+        hashes,
+        relocations,
+        windows,
+    } = layout;
     let tables = ranges_of(alloc, windows.as_slice())?;
     let tls = tls(segments.as_slice());
     let span = span(segments.as_slice());
@@ -176,7 +223,11 @@ fn static_object(alloc: Global, headers: Headers) -> Result<Object, AllocError>
     requires windows { All (λ w. end_of w < 2 ^ 64) (tables.static_windows headers.header headers.sections) }
     ensures { IfOk result (λ o. o ≡ spec.static_object headers) }
 {
-    let Headers { header, segments, sections } = headers;
+    let Headers {
+        header,
+        segments,
+        sections,
+    } = headers;
     let windows = static_windows(alloc, &header, sections.as_slice())?;
     let tables = ranges_of(alloc, &windows)?;
     let tls = tls(segments.as_slice());
@@ -222,7 +273,12 @@ fn checked(
 
 /// A program or library by its dynamic table: clauses 12 to 31.
 #[tactic(auto, using(crate::proofs::ReadLaws::layout_fits), unfolding(crate::specs::Reads::linked))]
-fn linked(alloc: Global, bytes: &[u8], headers: Headers, dynamic: &Dynamic) -> Result<Object, Refusal>
+fn linked(
+    alloc: Global,
+    bytes: &[u8],
+    headers: Headers,
+    dynamic: &Dynamic,
+) -> Result<Object, Refusal>
     requires few { length bytes.now < 2 ^ 32 }
     requires read { spec.IsRead bytes.now headers }
     requires dynamic { elf.is_static bytes.now headers.header ≡ false }
@@ -248,7 +304,10 @@ fn static_program(alloc: Global, bytes: &[u8], headers: Headers) -> Result<Objec
     ensures { Answers is_memory result (spec.static_program bytes.now headers) }
 {
     if too_large(bytes) {
-        return Err(Refusal::Clause { number: 30, argument: 0 });
+        return Err(Refusal::Clause {
+            number: 30,
+            argument: 0,
+        });
     }
     Ok(static_object(alloc, headers)?)
 }

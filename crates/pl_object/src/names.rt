@@ -27,13 +27,7 @@ fn checked_name(name: &[u8]) -> Option<&str>
 {
     match str::from_utf8(name) {
         Err(_) => None,
-        Ok(text) => {
-            if valid_name(text) {
-                Some(text)
-            } else {
-                None
-            }
-        }
+        Ok(text) => { if valid_name(text) { Some(text) } else { None } }
     }
 }
 
@@ -42,10 +36,16 @@ fn needed_name(alloc: Global, strings: &[u8], tag: &Tag) -> Result<Text, Refusal
     ensures { Answers is_memory result (spec.needed_name strings.now tag.now) }
 {
     let Some(bytes) = string_at(strings, tag.value) else {
-        return Err(Refusal::Clause { number: 15, argument: 0 });
+        return Err(Refusal::Clause {
+            number: 15,
+            argument: 0,
+        });
     };
     match checked_name(bytes) {
-        None => Err(Refusal::Clause { number: 15, argument: 0 }),
+        None => Err(Refusal::Clause {
+            number: 15,
+            argument: 0,
+        }),
         Some(name) => Ok(Text::copy_of(alloc, name)?),
     }
 }
@@ -145,7 +145,11 @@ fn table_versions(
         loaded(bytes, segments, section_range(dynamic, sections, DT_VERSYM)),
         loaded(bytes, segments, section_range(dynamic, sections, DT_VERDEF)),
         record_count(dynamic, DT_VERDEF, DT_VERDEFNUM),
-        loaded(bytes, segments, section_range(dynamic, sections, DT_VERNEED)),
+        loaded(
+            bytes,
+            segments,
+            section_range(dynamic, sections, DT_VERNEED),
+        ),
         record_count(dynamic, DT_VERNEED, DT_VERNEEDNUM),
         strings(bytes, segments, dynamic),
     )?;
@@ -153,12 +157,19 @@ fn table_versions(
 }
 
 #[tactic(auto, unfolding(crate::specs::Names::counted))]
-fn counted(versym: &[u8], symbols: &[Symbol], versions: Versions) -> Result<Option<Versions>, Refusal>
+fn counted(
+    versym: &[u8],
+    symbols: &[Symbol],
+    versions: Versions,
+) -> Result<Option<Versions>, Refusal>
     requires { length symbols.now < 2 ^ 32 }
     ensures { result ≡ spec.counted versym.now symbols.now versions }
 {
     if miscounted(versym, symbols) {
-        return Err(Refusal::Clause { number: 18, argument: 0 });
+        return Err(Refusal::Clause {
+            number: 18,
+            argument: 0,
+        });
     }
     Ok(Some(versions))
 }
@@ -179,7 +190,11 @@ fn known_versions(
         return Ok(None);
     }
     let versions = table_versions(alloc, bytes, segments, sections, dynamic)?;
-    counted(loaded(bytes, segments, section_range(dynamic, sections, DT_VERSYM)), symbols, versions)
+    counted(
+        loaded(bytes, segments, section_range(dynamic, sections, DT_VERSYM)),
+        symbols,
+        versions,
+    )
 }
 
 /// The versions, where there is a table of version words: clauses 17 and 18.
@@ -196,7 +211,10 @@ pub fn versions(
     ensures { Answers is_memory result (spec.versions bytes.now segments.now sections.now dynamic.now.tags symbols.now) }
 {
     if bad_version_tags(dynamic) {
-        return Err(Refusal::Clause { number: 17, argument: 0 });
+        return Err(Refusal::Clause {
+            number: 17,
+            argument: 0,
+        });
     }
     known_versions(alloc, bytes, segments, sections, dynamic, symbols)
 }

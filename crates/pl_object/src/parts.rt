@@ -118,16 +118,28 @@ pub fn check_rest(
     ensures { result ≡ spec.check_rest bytes.now header.now segments.now dynamic.now.tags symbols.now relocs.now }
 {
     if has_ifunc(symbols) {
-        return Err(Refusal::Clause { number: 28, argument: 0 });
+        return Err(Refusal::Clause {
+            number: 28,
+            argument: 0,
+        });
     }
     if misplaced_copy(header.kind == ET_EXEC, relocs) {
-        return Err(Refusal::Clause { number: 29, argument: 0 });
+        return Err(Refusal::Clause {
+            number: 29,
+            argument: 0,
+        });
     }
     if too_large(bytes) {
-        return Err(Refusal::Clause { number: 30, argument: 0 });
+        return Err(Refusal::Clause {
+            number: 30,
+            argument: 0,
+        });
     }
     if is_pie(header, segments, dynamic) {
-        return Err(Refusal::Clause { number: 31, argument: 0 });
+        return Err(Refusal::Clause {
+            number: 31,
+            argument: 0,
+        });
     }
     Ok(())
 }

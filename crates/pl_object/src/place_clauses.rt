@@ -144,9 +144,7 @@ fn is_misplaced_copy(program: bool, reloc: &Reloc) -> bool
 pub fn misplaced_copy(program: bool, relocs: &[Reloc]) -> bool
     ensures { result ≡ spec.misplaced_copy program relocs.now }
 {
-    relocs
-        .iter()
-        .any(|reloc| is_misplaced_copy(program, reloc))
+    relocs.iter().any(|reloc| is_misplaced_copy(program, reloc))
 }
 
 /// The first of clauses 24 to 27 that refuses the file.
@@ -161,16 +159,28 @@ fn check_places(
     ensures { Answers is_memory result (spec.check_places program segments.now tables.now relocs.now) }
 {
     if reloc_outside(program, segments, relocs) {
-        return Err(Refusal::Clause { number: 24, argument: 0 });
+        return Err(Refusal::Clause {
+            number: 24,
+            argument: 0,
+        });
     }
     if reloc_overlap(alloc, relocs)? {
-        return Err(Refusal::Clause { number: 25, argument: 0 });
+        return Err(Refusal::Clause {
+            number: 25,
+            argument: 0,
+        });
     }
     if reloc_in_tables(tables, segments, relocs) {
-        return Err(Refusal::Clause { number: 26, argument: 0 });
+        return Err(Refusal::Clause {
+            number: 26,
+            argument: 0,
+        });
     }
     if odd_addend(relocs) {
-        return Err(Refusal::Clause { number: 27, argument: 0 });
+        return Err(Refusal::Clause {
+            number: 27,
+            argument: 0,
+        });
     }
     Ok(())
 }

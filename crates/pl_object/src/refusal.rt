@@ -53,7 +53,10 @@ impl From<HeaderFault> for Refusal {
             HeaderFault::BadSection => 7,
             HeaderFault::NoSections => 8,
         };
-        Refusal::Clause { number, argument: 0 }
+        Refusal::Clause {
+            number,
+            argument: 0,
+        }
     }
 }
 
@@ -65,9 +68,18 @@ impl From<DynFault> for Refusal {
 
     fn from(fault: DynFault) -> Refusal {
         match fault {
-            DynFault::NoEnd => Refusal::Clause { number: 9, argument: 0 },
-            DynFault::UnknownTag(argument) => Refusal::Clause { number: 10, argument },
-            DynFault::Twice(argument) => Refusal::Clause { number: 11, argument },
+            DynFault::NoEnd => Refusal::Clause {
+                number: 9,
+                argument: 0,
+            },
+            DynFault::UnknownTag(argument) => Refusal::Clause {
+                number: 10,
+                argument,
+            },
+            DynFault::Twice(argument) => Refusal::Clause {
+                number: 11,
+                argument,
+            },
             DynFault::NoMemory => Refusal::NoMemory,
         }
     }
@@ -81,7 +93,10 @@ impl From<SymFault> for Refusal {
 
     fn from(fault: SymFault) -> Refusal {
         match fault {
-            SymFault::BadSymbol => Refusal::Clause { number: 16, argument: 0 },
+            SymFault::BadSymbol => Refusal::Clause {
+                number: 16,
+                argument: 0,
+            },
             SymFault::NoMemory => Refusal::NoMemory,
         }
     }
@@ -95,8 +110,14 @@ impl From<VerFault> for Refusal {
 
     fn from(fault: VerFault) -> Refusal {
         match fault {
-            VerFault::BadChain => Refusal::Clause { number: 17, argument: 0 },
-            VerFault::BadIndex => Refusal::Clause { number: 18, argument: 0 },
+            VerFault::BadChain => Refusal::Clause {
+                number: 17,
+                argument: 0,
+            },
+            VerFault::BadIndex => Refusal::Clause {
+                number: 18,
+                argument: 0,
+            },
             VerFault::NoMemory => Refusal::NoMemory,
         }
     }

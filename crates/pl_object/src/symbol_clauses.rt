@@ -86,8 +86,28 @@ pub fn hash_tables(
     ensures { IfOk result (λ tables. tables ≡ spec.hash_tables bytes.now segments.now sections.now dynamic.now.tags count) }
 {
     let mut tables = Rows::new(alloc);
-    add_hash_table(alloc, &mut tables, bytes, segments, sections, dynamic, count, false, DT_HASH)?;
-    add_hash_table(alloc, &mut tables, bytes, segments, sections, dynamic, count, true, DT_GNU_HASH)?;
+    add_hash_table(
+        alloc,
+        &mut tables,
+        bytes,
+        segments,
+        sections,
+        dynamic,
+        count,
+        false,
+        DT_HASH,
+    )?;
+    add_hash_table(
+        alloc,
+        &mut tables,
+        bytes,
+        segments,
+        sections,
+        dynamic,
+        count,
+        true,
+        DT_GNU_HASH,
+    )?;
     Ok(tables)
 }
 
@@ -106,7 +126,11 @@ fn is_missed(table: &Table, index: usize, symbols: &[Symbol]) -> bool
         None => false,
         Some(symbol) => {
             defines(symbol)
-                && !is_candidate(table, name_hash(table, symbol.name.as_slice()), index as u32)
+                && !is_candidate(
+                    table,
+                    name_hash(table, symbol.name.as_slice()),
+                    index as u32,
+                )
         }
     }
 }
@@ -181,8 +205,7 @@ fn is_same_name(versions: &Option<Versions>, word: u16, other: u16) -> bool
 fn is_same_version(versions: &Option<Versions>, symbol: &Symbol, other: &Symbol) -> bool
     ensures { result ≡ spec.is_same_version versions.now symbol.now other.now }
 {
-    is_plain(symbol) && is_plain(other)
-        || is_same_name(versions, symbol.version, other.version)
+    is_plain(symbol) && is_plain(other) || is_same_name(versions, symbol.version, other.version)
 }
 
 #[tactic(auto, unfolding(crate::specs::SymbolClauses::is_twin))]
@@ -244,13 +267,22 @@ pub fn check_symbols(
     ensures { result ≡ spec.check_symbols program segments.now tables.now versions.now symbols.now }
 {
     if base_not_zero(program, segments) {
-        return Err(Refusal::Clause { number: 20, argument: 0 });
+        return Err(Refusal::Clause {
+            number: 20,
+            argument: 0,
+        });
     }
     if hash_incomplete(tables, symbols) {
-        return Err(Refusal::Clause { number: 21, argument: 0 });
+        return Err(Refusal::Clause {
+            number: 21,
+            argument: 0,
+        });
     }
     if duplicate_definer(versions, program, symbols) {
-        return Err(Refusal::Clause { number: 22, argument: 0 });
+        return Err(Refusal::Clause {
+            number: 22,
+            argument: 0,
+        });
     }
     Ok(())
 }

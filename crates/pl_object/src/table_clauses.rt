@@ -14,8 +14,8 @@ use crate::tables::main_windows;
 use crate::tags::{has_tag, is_lost, tag_ranges, value};
 use crate::{Refusal, Window};
 use pl_dyn::constants::{
-    DT_GNU_HASH, DT_HASH, DT_JMPREL, DT_PLTREL, DT_PLTRELSZ, DT_RELA, DT_RELAENT, DT_RELASZ, DT_STRSZ,
-    DT_STRTAB, DT_SYMENT, DT_SYMTAB, DT_VERDEF, DT_VERNEED, DT_VERSYM,
+    DT_GNU_HASH, DT_HASH, DT_JMPREL, DT_PLTREL, DT_PLTRELSZ, DT_RELA, DT_RELAENT, DT_RELASZ,
+    DT_STRSZ, DT_STRTAB, DT_SYMENT, DT_SYMTAB, DT_VERDEF, DT_VERNEED, DT_VERSYM,
 };
 use pl_dyn::{Dynamic, Tag, is_packed_tag};
 use pl_elf::constants::SHT_DYNSYM;
@@ -80,9 +80,7 @@ fn any_lost(dynamic: &Dynamic, sections: &[Section]) -> bool
 fn any_not_in_file(segments: &[Segment], ranges: &[Window]) -> bool
     ensures { result ≡ list_any (λ w. not (part.in_file_part segments.now w)) ranges.now }
 {
-    ranges
-        .iter()
-        .any(|memory| !in_file_part(segments, *memory))
+    ranges.iter().any(|memory| !in_file_part(segments, *memory))
 }
 
 #[tactic(auto, unfolding(crate::specs::TableClauses::any_outside))]
@@ -118,10 +116,12 @@ fn bad_tables(
     ensures { IfOk result (λ b. b ≡ spec.bad_tables header.now segments.now sections.now dynamic.now.tags) }
 {
     let overlap = tables_overlap(alloc, header, segments, sections, dynamic)?;
-    Ok(lacks_tags(dynamic)
-        || other_dynsym(dynamic, sections)
-        || any_outside(segments, sections, dynamic)
-        || overlap)
+    Ok(
+        lacks_tags(dynamic)
+            || other_dynsym(dynamic, sections)
+            || any_outside(segments, sections, dynamic)
+            || overlap,
+    )
 }
 
 fn parted(dynamic: &Dynamic, x: u64, y: u64) -> bool
@@ -194,13 +194,22 @@ pub fn check_tables(
     ensures { Answers is_memory result (spec.check_tables header.now segments.now sections.now dynamic.now.tags) }
 {
     if bad_tables(alloc, header, segments, sections, dynamic)? {
-        return Err(Refusal::Clause { number: 12, argument: 0 });
+        return Err(Refusal::Clause {
+            number: 12,
+            argument: 0,
+        });
     }
     if bad_relocation_tables(dynamic) {
-        return Err(Refusal::Clause { number: 13, argument: 0 });
+        return Err(Refusal::Clause {
+            number: 13,
+            argument: 0,
+        });
     }
     if has_packed(dynamic.tags.as_slice()) {
-        return Err(Refusal::Clause { number: 14, argument: 0 });
+        return Err(Refusal::Clause {
+            number: 14,
+            argument: 0,
+        });
     }
     Ok(())
 }

@@ -20,14 +20,20 @@ fn header_window() -> Window
 fn segments_window(header: &Header) -> Window
     ensures { result ≡ spec.segments_window header.now }
 {
-    Window::new(u128::from(header.phoff), SEGMENT_SIZE as u64 * u64::from(header.phnum))
+    Window::new(
+        u128::from(header.phoff),
+        SEGMENT_SIZE as u64 * u64::from(header.phnum),
+    )
 }
 
 /// The section header table.
 pub fn sections_window(header: &Header) -> Window
     ensures { result ≡ spec.sections_window header.now }
 {
-    Window::new(u128::from(header.shoff), SECTION_SIZE as u64 * u64::from(header.shnum))
+    Window::new(
+        u128::from(header.shoff),
+        SECTION_SIZE as u64 * u64::from(header.shnum),
+    )
 }
 
 fn section_window(section: &Section) -> Window
@@ -70,7 +76,11 @@ pub fn main_windows(
     with_symtabs(alloc, &main, sections)
 }
 
-fn with_symtabs(alloc: Global, windows: &[Window], sections: &[Section]) -> Result<Vec<Window>, AllocError>
+fn with_symtabs(
+    alloc: Global,
+    windows: &[Window],
+    sections: &[Section],
+) -> Result<Vec<Window>, AllocError>
     ensures { IfOk result (λ v. v.items ≡ windows.now ++ spec.symtab_windows sections.now) }
 {
     let symtabs = symtab_windows(alloc, sections)?;
@@ -79,7 +89,11 @@ fn with_symtabs(alloc: Global, windows: &[Window], sections: &[Section]) -> Resu
     Ok(all)
 }
 
-fn file_windows(alloc: Global, segments: &[Segment], ranges: &[Window]) -> Result<Vec<Window>, AllocError>
+fn file_windows(
+    alloc: Global,
+    segments: &[Segment],
+    ranges: &[Window],
+) -> Result<Vec<Window>, AllocError>
     ensures { IfOk result (λ v. v.items ≡ map (part.file_window segments.now) ranges.now) }
 {
     ranges
@@ -100,18 +114,25 @@ pub fn link_windows(
     ensures { IfOk result (λ v. v.items ≡ spec.link_windows header.now segments.now sections.now dynamic.now.tags) }
 {
     let named = file_windows(alloc, segments, &tag_ranges(dynamic, sections))?;
-    let mut windows = Vec::from_array(alloc, [
-        header_window(),
-        segments_window(header),
-        file_window(segments, dynamic_range(segments)),
-    ])?;
+    let mut windows = Vec::from_array(
+        alloc,
+        [
+            header_window(),
+            segments_window(header),
+            file_window(segments, dynamic_range(segments)),
+        ],
+    )?;
     windows.extend_from_slice(&named)?;
     with_symtabs(alloc, &windows, sections)
 }
 
 /// The link tables of a static program in the file.
 #[tactic(auto, unfolding(crate::specs::Tables::static_windows))]
-pub fn static_windows(alloc: Global, header: &Header, sections: &[Section]) -> Result<Vec<Window>, AllocError>
+pub fn static_windows(
+    alloc: Global,
+    header: &Header,
+    sections: &[Section],
+) -> Result<Vec<Window>, AllocError>
     ensures { IfOk result (λ v. v.items ≡ spec.static_windows header.now sections.now) }
 {
     with_symtabs(alloc, &[header_window(), segments_window(header)], sections)

@@ -6,8 +6,8 @@ ghost use Rattle.pl_object.specs.Tables as spec;
 
 use crate::Window;
 use pl_dyn::constants::{
-    DT_GNU_HASH, DT_HASH, DT_JMPREL, DT_PLTRELSZ, DT_RELA, DT_RELASZ, DT_STRSZ, DT_STRTAB, DT_SYMTAB,
-    DT_VERDEF, DT_VERNEED, DT_VERSYM,
+    DT_GNU_HASH, DT_HASH, DT_JMPREL, DT_PLTRELSZ, DT_RELA, DT_RELASZ, DT_STRSZ, DT_STRTAB,
+    DT_SYMTAB, DT_VERDEF, DT_VERNEED, DT_VERSYM,
 };
 use pl_dyn::{Dynamic, tag};
 use pl_elf::constants::{PT_DYNAMIC, SHF_ALLOC, SHT_DYNSYM, SHT_NOBITS};

@@ -1,8 +1,8 @@
 use crate::*;
 use pl_base::{part, put16, put32, put64};
 use pl_elf::constants::{
-    ET_DYN, ET_EXEC, PT_DYNAMIC, PT_LOAD, PT_TLS, SHF_ALLOC, SHT_DYNSYM, SHT_GNU_HASH, SHT_GNU_VERDEF,
-    SHT_GNU_VERNEED, SHT_GNU_VERSYM, SHT_HASH, SHT_NULL, SHT_STRTAB,
+    ET_DYN, ET_EXEC, PT_DYNAMIC, PT_LOAD, PT_TLS, SHF_ALLOC, SHT_DYNSYM, SHT_GNU_HASH,
+    SHT_GNU_VERDEF, SHT_GNU_VERNEED, SHT_GNU_VERSYM, SHT_HASH, SHT_NULL, SHT_STRTAB,
 };
 use pl_elf::{Header, Section, Segment, write_header, write_section, write_segment};
 use std::alloc::{AllocError, Global};
@@ -86,7 +86,11 @@ fn segments(file: &mut Vec<u8>, base: u64) -> Result<(), AllocError> {
     let data = base.wrapping_add(0x10_0000);
     segment(file, PT_LOAD, [0, base, 0x3f0, 0x3f0, 0x1000])?;
     segment(file, PT_LOAD, [0x1000, data, 0x40, 0x80, 0x1000])?;
-    segment(file, PT_DYNAMIC, [0x2a0, base.wrapping_add(0x2a0), 0x150, 0x150, 8])?;
+    segment(
+        file,
+        PT_DYNAMIC,
+        [0x2a0, base.wrapping_add(0x2a0), 0x150, 0x150, 8],
+    )?;
     segment(file, PT_TLS, [0x1000, data, 8, 0x10, 8])
 }
 
@@ -101,7 +105,11 @@ fn sections(file: &mut Vec<u8>, base: u64) -> Result<(), AllocError> {
     ];
     section(file, SHT_NULL, [0; 4])?;
     for (kind, offset, size) in tables {
-        section(file, kind, [SHF_ALLOC, base.wrapping_add(offset), offset, size])?;
+        section(
+            file,
+            kind,
+            [SHF_ALLOC, base.wrapping_add(offset), offset, size],
+        )?;
     }
     section(file, SHT_STRTAB, [0, 0, 0x1040, 1])
 }
@@ -195,7 +203,12 @@ fn answer(alloc: Global, bytes: &[u8]) -> (u32, u64) {
     }
 }
 
-fn refused(alloc: Global, kind: u16, base: u64, changes: &[Change]) -> Result<(u32, u64), AllocError> {
+fn refused(
+    alloc: Global,
+    kind: u16,
+    base: u64,
+    changes: &[Change],
+) -> Result<(u32, u64), AllocError> {
     let mut file = object(alloc, kind, base)?;
     for field in changes {
         change(file.as_mut_slice(), *field);
@@ -265,12 +278,24 @@ const LIBRARIES: [([Change; 3], u32, u64); 61] = [
     ([(0x240, 8, 0), (0x268, 8, 1), SAME], 26, 0),
     ([(0x240, 8, 0x11c), SAME, SAME], 26, 0),
     ([(0x240, 8, 0x1df), SAME, SAME], 26, 0),
-    ([(0x98, 8, 0x60), (0xa0, 8, 0x60), (0x240, 8, 0x10_0048)], 26, 0),
+    (
+        [(0x98, 8, 0x60), (0xa0, 8, 0x60), (0x240, 8, 0x10_0048)],
+        26,
+        0,
+    ),
     ([(0x268, 8, 1), (0x19c, 1, 0x1a), SAME], 27, 0),
     ([(0x19c, 1, 0x1a), (0x260, 4, 5), SAME], 28, 0),
     ([(0x260, 4, 5), SAME, SAME], 29, 0),
-    ([(0x3c0, 8, 0x6fff_fffb), (0x3c8, 8, 0x800_0000), SAME], 31, 0),
-    ([(0x3c0, 8, 0x6fff_fffb), (0x3c8, 8, 0x400_0000), SAME], 0, 0),
+    (
+        [(0x3c0, 8, 0x6fff_fffb), (0x3c8, 8, 0x800_0000), SAME],
+        31,
+        0,
+    ),
+    (
+        [(0x3c0, 8, 0x6fff_fffb), (0x3c8, 8, 0x400_0000), SAME],
+        0,
+        0,
+    ),
     ([(0xe8, 4, 3), SAME, SAME], 31, 0),
     ([(0xe8, 4, 3), (0x3c0, 8, 14), SAME], 0, 0),
     ([SAME, SAME, SAME], 0, 0),
@@ -286,7 +311,10 @@ fn refuses_libraries(rt: HostRuntime) -> Result<(), Fail> {
     }
     assert_eq!(rt; refused(rt.alloc(), ET_DYN, 0x1000, &[])?, (20, 0));
     let mut file = object(rt.alloc(), ET_DYN, 0)?;
-    assert_eq!(rt; answer(rt.alloc(), part(file.as_slice(), 0, 0x1247)), (5, 0));
+    assert_eq!(rt;
+        answer(rt.alloc(), part(file.as_slice(), 0, 0x1247)),
+        (5, 0)
+    );
     file.resize(ORIGINAL, 0)?;
     assert_eq!(rt; answer(rt.alloc(), file.as_slice()), (0, 0));
     file.push(0)?;
