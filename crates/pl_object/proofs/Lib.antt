@@ -5,3 +5,4 @@ pub mod NameLaws
 pub mod LoadLaws
 pub mod ExtentLaws
 pub mod ReadLaws
+pub mod AcceptedLaws

@@ -7,3 +7,4 @@ pub mod Relocations
 pub mod SymbolClauses
 pub mod PlaceClauses
 pub mod Reads
+pub mod Accepted

@@ -6,6 +6,7 @@ ghost use Rattle.pl_elf.specs.Headers.{HasSections, HasSegments, loads};
 ghost use Rattle.pl_elf.specs.Clauses.{AreLoads};
 ghost use Rattle.pl_elf.specs.Clauses as elf;
 ghost use Rattle.pl_dyn.specs.Read as dyn;
+ghost use Rattle.pl_object.specs.Accepted.{Accepted};
 ghost use Rattle.pl_object.specs.Tables as tables;
 ghost use Rattle.pl_object.specs.Refusals.{is_memory};
 ghost use Rattle.pl_object.specs.Reads as spec;
@@ -341,13 +342,21 @@ fn headers(alloc: Global, bytes: &[u8], header: Header) -> Result<Headers, Alloc
     })
 }
 
-/// The object that a file is: Ok exactly where no acceptance clause refuses it. Else the first clause in the order of their numbers that refuses it, with its argument, or NoMemory. The file is not changed, and nothing of it is kept but what the object holds.
 #[tactic(auto, unfolding(crate::specs::Reads::reads, crate::specs::Reads::headers))]
-pub fn accept(alloc: Global, bytes: &[u8]) -> Result<Object, Refusal>
+fn read_object(alloc: Global, bytes: &[u8]) -> Result<Object, Refusal>
     requires { length bytes.now < 2 ^ 32 }
     ensures { Answers is_memory result (spec.reads bytes.now) }
 {
     let header = read_header(bytes)?;
     let headers = headers(alloc, bytes, header)?;
     parts(alloc, bytes, headers)
+}
+
+/// The object that a file is: Ok exactly where no acceptance clause refuses it. Else the first clause in the order of their numbers that refuses it, with its argument, or NoMemory. The file has fewer than 2^32 bytes. Nothing of it is kept but what the object holds.
+pub fn accept(alloc: Global, bytes: &[u8]) -> Result<Object, Refusal>
+    requires { length bytes.now < 2 ^ 32 }
+    ensures exact { Answers is_memory result (spec.reads bytes.now) }
+    ensures facts { IfOk result (λ o. Accepted bytes.now o) }
+{
+    read_object(alloc, bytes)
 }
