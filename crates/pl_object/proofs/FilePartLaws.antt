@@ -1,0 +1,29 @@
+-- What is known of the PT_LOAD that loads a byte.
+use Rattle.std.proofs.Common.{◌≡◌, ℕ, ◌+◌, ◌<◌, ◌≤◌, Bool, true, false, cond, ◌&&◌, List, [], ◌∷◌, Option, Some, refl}
+use Rattle.std.specs.Prelude.{find, nat_le, nat_lt}
+use Rattle.std.proofs.lemmas.Bool.{and_parts, leb-true, ltb-true}
+use Rattle.pl_elf.specs.declared.segment.Segment.{Segment}
+use Rattle.pl_elf.specs.Headers.{is_load}
+use Rattle.pl_object.specs.FilePart.{loads_byte, loader}
+
+passes_by : {A : Type 0} (p : A → Bool) (y x : A) (rest : Option A) (b : Bool) → p y ≡ b → cond b (Some y) rest ≡ Some x → (rest ≡ Some x → p x ≡ true) → p x ≡ true
+passes_by p y x rest true is e more = let same : y ≡ x = cc in rw same at is
+passes_by p y x rest false is e more = more e
+
+-- what was found passes its test
+pub find_passes : {A : Type 0} (p : A → Bool) (xs : List A) (x : A) → find p xs ≡ Some x → p x ≡ true
+find_passes p [] x e = absurd cc
+find_passes p (y ∷ ys) x e = passes_by p y x (find p ys) (p y) refl e (λ more. find_passes p ys x more)
+
+pub loads_parts : (address : ℕ) (s : Segment) → loads_byte address s ≡ true → (is_load s ≡ true) × (s.vaddr ≤ address) × (address < s.vaddr + s.filesz)
+unfolding loads_byte
+loads_parts address s h =
+    let p = and_parts (is_load s && nat_le s.vaddr address) (nat_lt address (s.vaddr + s.filesz)) h in
+    let q = and_parts (is_load s) (nat_le s.vaddr address) p.0 in
+    (q.0, leb-true s.vaddr address q.1, ltb-true address (s.vaddr + s.filesz) p.1)
+
+pub loader_below : (address : ℕ) (ss : List Segment) (s : Segment) → loader ss address ≡ Some s → s.vaddr ≤ address
+loader_below address ss s e = (loads_parts address s (find_passes (loads_byte address) ss s e)).1
+
+pub loader_above : (address : ℕ) (ss : List Segment) (s : Segment) → loader ss address ≡ Some s → address < s.vaddr + s.filesz
+loader_above address ss s e = (loads_parts address s (find_passes (loads_byte address) ss s e)).2

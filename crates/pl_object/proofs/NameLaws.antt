@@ -1,0 +1,109 @@
+-- Names that are text, lists that are as long as what they are read from, and symbols with version words.
+use Rattle.std.proofs.Common.{◌≡◌, ℕ, zero, suc, ◌+◌, ◌/◌, ◌<◌, ◌≤◌, true, false, not, ◌&&◌, List, [], ◌∷◌, length, take, get_or, set, Option, Some, None, Result, Ok, Err, refl, sym, ap, ◌∙◌, inl, inr, arith, add-one}
+use Rattle.std.specs.Prelude.{◌⊎◌, nat_le, ◌==◌}
+use Rattle.std.specs.List.{list_all}
+use Rattle.std.specs.Str.{IsUtf8}
+use Rattle.std.proofs.lemmas.Bool.{cases_Bool, and_parts, leb-true}
+use Rattle.std.proofs.lemmas.List.{take_all}
+use Rattle.std.proofs.lemmas.List.Sums.{AllPass-from_list_all}
+use Rattle.std.proofs.lemmas.List.FromFn.{length-range_with_len}
+use Rattle.std.proofs.lemmas.Str.{IsUtf8-from_ascii}
+use Rattle.std.proofs.lemmas.Str.Ascii.{IsAscii-from_all}
+use Rattle.std.specs.List.{range_with_len}
+use Rattle.pl_base.specs.Names.{is_name_byte, is_own_name, is_dots, is_valid_name}
+use Rattle.pl_base.specs.Answers.{◌>>=◌}
+use Rattle.pl_base.specs.Each.{each}
+use Rattle.pl_sym.specs.Table.{symbol, symbols}
+use Rattle.pl_sym.specs.declared.constants.TheConstants.{SYMBOL_SIZE}
+use Rattle.pl_sym.specs.declared.symbol.Symbol.{Symbol}
+use Rattle.pl_ver.specs.declared.versions.Versions.{Versions}
+use Rattle.pl_object.specs.Names.{with_version, with_versions, versioned}
+
+-- ---- names
+
+name_byte_below : (b : ℕ) → is_name_byte b ≡ true → b < 128
+unfolding is_name_byte
+name_byte_below b h =
+    let p = and_parts (nat_le 0x21 b && nat_le b 0x7e) (not (b == 0x2f)) h in
+    let q = and_parts (nat_le 0x21 b) (nat_le b 0x7e) p.0 in
+    omega (arith, leb-true b 0x7e q.1)
+
+valid_bytes : (name : List ℕ) → is_valid_name name ≡ true → list_all is_name_byte name ≡ true
+unfolding is_valid_name
+valid_bytes name h =
+    let p = and_parts (nat_le 1 (length name) && nat_le (length name) 255 && list_all is_name_byte name && not (is_own_name name)) (not (is_dots name)) h in
+    let q = and_parts (nat_le 1 (length name) && nat_le (length name) 255 && list_all is_name_byte name) (not (is_own_name name)) p.0 in
+    (and_parts (nat_le 1 (length name) && nat_le (length name) 255) (list_all is_name_byte name) q.0).1
+
+valid_is_text : (name : List ℕ) → is_valid_name name ≡ true → IsUtf8 name
+valid_is_text name h =
+    let all = AllPass-from_list_all is_name_byte name (valid_bytes name h) in
+    IsUtf8-from_ascii name (IsAscii-from_all name (λ i d lt. name_byte_below (get_or name i d) (all i d lt)))
+
+-- what is no text is no valid name
+pub not_text : (name : List ℕ) → (IsUtf8 name → ⊥) → is_valid_name name ≡ false
+not_text name other = elim (cases_Bool (is_valid_name name)) [
+  | inl valid ↦ absurd (other (valid_is_text name valid))
+  | inr not_valid ↦ not_valid
+]
+
+-- ---- as many results as rows
+
+each_one : {A B E : Type 0} (f : A → Result B E) (xs : List A) (first : Result B E) (rest : Result (List B) E) (ys : List B)
+    → (first >>= λ y. rest >>= λ zs. Ok (y ∷ zs)) ≡ Ok ys → ((zs : List B) → rest ≡ Ok zs → length zs ≡ length xs) → length ys ≡ suc (length xs)
+each_one f xs (Err e) rest ys h more = absurd cc
+each_one f xs (Ok y) (Err e) ys h more = absurd cc
+each_one {B = B} f xs (Ok y) (Ok zs) ys h more = let same : (y ∷ zs) ≡ ys = cc in ap length (sym same) ∙ ap suc (more zs refl)
+
+pub length-each : {A B E : Type 0} (f : A → Result B E) (xs : List A) (ys : List B) → each f xs ≡ Ok ys → length ys ≡ length xs
+unfolding each
+length-each f [] ys h = let same : [] ≡ ys = cc in ap length (sym same)
+length-each f (x ∷ xs) ys h = each_one f xs (f x) (each f xs) ys h (λ zs e. length-each f xs zs e)
+
+-- a symbol table has no more symbols than bytes
+pub symbols_fit : (table strings : List ℕ) (ss : List Symbol) → symbols table strings ≡ Ok ss → length ss ≤ length table
+unfolding symbols
+symbols_fit table strings ss h =
+    let same = length-each (symbol table strings) (range_with_len 0 (length table / SYMBOL_SIZE)) ss h ∙ length-range_with_len 0 (length table / SYMBOL_SIZE) in
+    omega (arith, same)
+
+-- ---- symbols with version words
+
+pub versions_begin : (ss : List Symbol) (words : List ℕ) → with_versions ss (take 0 words) ≡ ss
+unfolding with_versions
+versions_begin [] words = refl
+versions_begin (s ∷ ss) words = refl
+
+versions_step : (ss : List Symbol) (words : List ℕ) (i : ℕ) (d : Symbol) → i < length ss → i < length words
+    → with_versions ss (take (suc i) words) ≡ set (with_versions ss (take i words)) i (with_version (get_or (with_versions ss (take i words)) i d) (get_or words i 0))
+unfolding with_versions
+versions_step [] words i d lt few = absurd (omega (arith, lt))
+versions_step (s ∷ ss) [] i d lt few = absurd (omega (arith, few))
+versions_step (s ∷ ss) (word ∷ words) zero d lt few = ap (λ (xs : List Symbol). with_version s word ∷ xs) (versions_begin ss words)
+versions_step (s ∷ ss) (word ∷ words) (suc i) d lt few =
+    ap (λ (xs : List Symbol). with_version s word ∷ xs) (versions_step ss words i d (omega (arith, lt)) (omega (arith, few)))
+
+-- one word more
+pub versions_more : (ss : List Symbol) (words : List ℕ) (i : ℕ) (d : Symbol) → i < length ss → i < length words
+    → with_versions ss (take (i + 1) words) ≡ set (with_versions ss (take i words)) i (with_version (get_or (with_versions ss (take i words)) i d) (get_or words i 0))
+versions_more ss words i d lt few = rw add-one (versions_step ss words i d lt few)
+
+-- no more symbols, or no more words
+pub versions_done : (ss : List Symbol) (words : List ℕ) (i : ℕ) → (length ss ≤ i) ⊎ (length words ≤ i) → with_versions ss (take i words) ≡ with_versions ss words
+unfolding with_versions
+versions_done ss words i (inr le) = ap (with_versions ss) (take_all i words le)
+versions_done [] words i (inl le) = refl
+versions_done (s ∷ ss) words zero (inl le) = absurd (omega (arith, le))
+versions_done (s ∷ ss) [] (suc i) (inl le) = refl
+versions_done (s ∷ ss) (word ∷ words) (suc i) (inl le) = ap (λ (xs : List Symbol). with_version s word ∷ xs) (versions_done ss words i (inl (omega (arith, le))))
+
+pub length-with_versions : (ss : List Symbol) (words : List ℕ) → length (with_versions ss words) ≡ length ss
+unfolding with_versions
+length-with_versions [] words = refl
+length-with_versions (s ∷ ss) [] = refl
+length-with_versions (s ∷ ss) (word ∷ words) = ap suc (length-with_versions ss words)
+
+-- with their version words symbols are as many as before
+pub length-versioned : (ss : List Symbol) (versions : Option Versions) → length (versioned ss versions) ≡ length ss
+length-versioned ss None = refl
+length-versioned ss (Some versions) = length-with_versions ss versions.index

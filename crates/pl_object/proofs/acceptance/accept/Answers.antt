@@ -1,0 +1,5 @@
+use Rattle.pl_object.proofs.AcceptedLaws.{accepted_answer}
+use Rattle.pl_object.proofs.acceptance.accept.Goals as goal
+
+pub returns-clause-facts : goal.returns-clause-facts
+returns-clause-facts c = accepted_answer c.args.bytes.now c.read_object.result c.read_object.ensures

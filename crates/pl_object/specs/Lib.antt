@@ -1,0 +1,10 @@
+pub mod Refusals
+pub mod FilePart
+pub mod Tables
+pub mod TableClauses
+pub mod Names
+pub mod Relocations
+pub mod SymbolClauses
+pub mod PlaceClauses
+pub mod Reads
+pub mod Accepted

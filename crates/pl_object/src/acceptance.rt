@@ -1,0 +1,362 @@
+ghost use Rattle.std.specs.Prelude.{◌≡◌, ◌<◌, ◌≤◌, ◌^◌, ◌∷◌, length, false, IfOk};
+ghost use Rattle.std.specs.List.{All};
+ghost use Rattle.pl_base.specs.Answers.{Answers};
+ghost use Rattle.pl_base.specs.Windows.{end_of};
+ghost use Rattle.pl_elf.specs.Headers.{HasSections, HasSegments, loads};
+ghost use Rattle.pl_elf.specs.Clauses.{AreLoads};
+ghost use Rattle.pl_elf.specs.Clauses as elf;
+ghost use Rattle.pl_dyn.specs.Read as dyn;
+ghost use Rattle.pl_object.specs.Accepted.{Accepted};
+ghost use Rattle.pl_object.specs.Tables as tables;
+ghost use Rattle.pl_object.specs.Refusals.{is_memory};
+ghost use Rattle.pl_object.specs.Reads as spec;
+
+use crate::file_part::{in_file_part, loaded};
+use crate::headers::Headers;
+use crate::layout::Layout;
+use crate::linking::Linking;
+use crate::names::{read_needed, strings, symbols, versioned, versions};
+use crate::parts::{align, check_rest, is_symbolic, kind_of, span, tls, too_large};
+use crate::place_clauses::check_relocs;
+use crate::ranges::ranges_of;
+use crate::relocations::relocs;
+use crate::symbol_clauses::{check_symbols, hash_tables};
+use crate::table_clauses::check_tables;
+use crate::tables::{link_windows, sections_window, static_windows};
+use crate::tags::{dynamic_range, jmprel_range, rela_range};
+use crate::{Kind, Object, Refusal, Reloc, Window};
+use pl_base::Rows;
+use pl_dyn::{DynFault, Dynamic, read_dynamic};
+use pl_elf::constants::ET_EXEC;
+use pl_elf::{Header, Segment, is_static, read_header, read_sections, read_segments};
+use pl_hash::Table;
+use pl_sym::Symbol;
+use std::alloc::{AllocError, Global};
+
+/// The dynamic table: clauses 9 to 11.
+#[tactic(auto, unfolding(crate::specs::Reads::dynamic))]
+fn dynamic(alloc: Global, bytes: &[u8], segments: &[Segment]) -> Result<Dynamic, DynFault>
+    requires { length bytes.now < 2 ^ 32 }
+    ensures { Answers dyn.is_memory result (spec.dynamic bytes.now segments.now) }
+{
+    let memory = dynamic_range(segments);
+    if !in_file_part(segments, memory) {
+        return Err(DynFault::NoEnd);
+    }
+    read_dynamic(alloc, loaded(bytes, segments, memory))
+}
+
+/// The names: clauses 15 to 18.
+#[tactic(auto, unfolding(crate::specs::Reads::linking))]
+fn linking(
+    alloc: Global,
+    bytes: &[u8],
+    headers: &Headers,
+    dynamic: &Dynamic,
+) -> Result<Linking, Refusal>
+    requires { length bytes.now < 2 ^ 32 }
+    ensures exact { Answers is_memory result (spec.linking bytes.now headers.now dynamic.now.tags) }
+    ensures few { IfOk result (λ l. length l.symbols ≤ length bytes.now) }
+{
+    let segments = headers.segments.as_slice();
+    let sections = headers.sections.as_slice();
+    let needed = read_needed(alloc, dynamic, strings(bytes, segments, dynamic))?;
+    let bare = symbols(alloc, bytes, segments, sections, dynamic)?;
+    let versions = versions(alloc, bytes, segments, sections, dynamic, bare.as_slice())?;
+    Ok(Linking {
+        needed,
+        symbols: versioned(bare, &versions),
+        versions,
+    })
+}
+
+/// The relocations of both tables.
+#[tactic(auto, unfolding(crate::specs::Reads::relocations))]
+fn relocations(
+    alloc: Global,
+    bytes: &[u8],
+    segments: &[Segment],
+    dynamic: &Dynamic,
+    symbols: &[Symbol],
+) -> Result<Vec<Reloc>, AllocError>
+    ensures { IfOk result (λ v. v.items ≡ spec.relocations bytes.now segments.now dynamic.now.tags symbols.now) }
+{
+    let mut all = relocs(alloc, symbols, loaded(bytes, segments, rela_range(dynamic)))?;
+    let slots = relocs(
+        alloc,
+        symbols,
+        loaded(bytes, segments, jmprel_range(dynamic)),
+    )?;
+    all.extend_from_slice(&slots)?;
+    Ok(all)
+}
+
+/// The tables that no place may share a byte with.
+fn kept_windows(alloc: Global, header: &Header, link: &[Window]) -> Result<Vec<Window>, AllocError>
+    ensures { IfOk result (λ v. v.items ≡ tables.sections_window header.now ∷ link.now) }
+{
+    let mut windows = Vec::from_array(alloc, [sections_window(header)])?;
+    windows.extend_from_slice(link)?;
+    Ok(windows)
+}
+
+#[tactic(auto, unfolding(crate::specs::Reads::layout))]
+fn layout(
+    alloc: Global,
+    bytes: &[u8],
+    headers: &Headers,
+    dynamic: &Dynamic,
+    linking: &Linking,
+) -> Result<Layout, AllocError>
+    requires { length linking.now.symbols < 2 ^ 32 }
+    ensures { IfOk result (λ layout. layout ≡ spec.layout bytes.now headers.now dynamic.now.tags linking.now) }
+{
+    let segments = headers.segments.as_slice();
+    let sections = headers.sections.as_slice();
+    let symbols = linking.symbols.as_slice();
+    let hashes = hash_tables(
+        alloc,
+        bytes,
+        segments,
+        sections,
+        dynamic,
+        symbols.len() as u32,
+    )?;
+    let relocations = relocations(alloc, bytes, segments, dynamic, symbols)?;
+    let windows = link_windows(alloc, &headers.header, segments, sections, dynamic)?;
+    Ok(Layout {
+        hashes,
+        relocations: Rows::from_vec(relocations),
+        windows: Rows::from_vec(windows),
+    })
+}
+
+/// The first of clauses 20 to 31 that refuses a file.
+#[tactic(auto, unfolding(crate::specs::Reads::check))]
+fn check(
+    alloc: Global,
+    bytes: &[u8],
+    headers: &Headers,
+    dynamic: &Dynamic,
+    linking: &Linking,
+    layout: &Layout,
+) -> Result<(), Refusal>
+    requires { length linking.now.symbols < 2 ^ 32 }
+    ensures { Answers is_memory result (spec.check bytes.now headers.now dynamic.now.tags linking.now layout.now) }
+{
+    let program = headers.header.kind == ET_EXEC;
+    let segments = headers.segments.as_slice();
+    let symbols = linking.symbols.as_slice();
+    let relocs = layout.relocations.as_slice();
+    check_symbols(
+        program,
+        segments,
+        layout.hashes.as_slice(),
+        &linking.versions,
+        symbols,
+    )?;
+    let kept = kept_windows(alloc, &headers.header, layout.windows.as_slice())?;
+    check_relocs(
+        alloc,
+        program,
+        segments,
+        &kept,
+        symbols.len() as u32,
+        relocs,
+    )?;
+    check_rest(bytes, &headers.header, segments, dynamic, symbols, relocs)
+}
+
+#[tactic(auto, unfolding(crate::specs::Reads::object))]
+fn object(
+    alloc: Global,
+    headers: Headers,
+    dynamic: &Dynamic,
+    linking: Linking,
+    layout: Layout,
+) -> Result<Object, AllocError>
+    requires loads { AreLoads (loads headers.segments) }
+    requires windows { All (λ w. end_of w < 2 ^ 64) layout.windows }
+    ensures { IfOk result (λ o. o ≡ spec.object headers dynamic.now linking layout) }
+{
+    let Headers {
+        header,
+        segments,
+        sections,
+    } = headers;
+    let Linking {
+        needed,
+        symbols,
+        versions,
+    } = linking;
+    let Layout {
+        hashes,
+        relocations,
+        windows,
+    } = layout;
+    let tables = ranges_of(alloc, windows.as_slice())?;
+    let tls = tls(segments.as_slice());
+    let span = span(segments.as_slice());
+    let align = align(segments.as_slice());
+    Ok(Object {
+        kind: kind_of(&header),
+        header,
+        sections,
+        entry: header.entry,
+        segments,
+        needed,
+        symbols,
+        versions,
+        hashes,
+        relocations,
+        tables,
+        tls,
+        symbolic: is_symbolic(dynamic),
+        spare: dynamic.spare,
+        span,
+        align,
+    })
+}
+
+#[tactic(auto, unfolding(crate::specs::Reads::static_object))]
+fn static_object(alloc: Global, headers: Headers) -> Result<Object, AllocError>
+    requires loads { AreLoads (loads headers.segments) }
+    requires windows { All (λ w. end_of w < 2 ^ 64) (tables.static_windows headers.header headers.sections) }
+    ensures { IfOk result (λ o. o ≡ spec.static_object headers) }
+{
+    let Headers {
+        header,
+        segments,
+        sections,
+    } = headers;
+    let windows = static_windows(alloc, &header, sections.as_slice())?;
+    let tables = ranges_of(alloc, &windows)?;
+    let tls = tls(segments.as_slice());
+    let span = span(segments.as_slice());
+    let align = align(segments.as_slice());
+    Ok(Object {
+        kind: Kind::Static,
+        header,
+        sections,
+        entry: header.entry,
+        segments,
+        needed: Rows::new(alloc),
+        symbols: Rows::new(alloc),
+        versions: None,
+        hashes: Rows::new(alloc),
+        relocations: Rows::new(alloc),
+        tables,
+        tls,
+        symbolic: false,
+        spare: 0,
+        span,
+        align,
+    })
+}
+
+#[tactic(auto, unfolding(crate::specs::Reads::checked))]
+fn checked(
+    alloc: Global,
+    bytes: &[u8],
+    headers: Headers,
+    dynamic: &Dynamic,
+    linking: Linking,
+    layout: Layout,
+) -> Result<Object, Refusal>
+    requires few { length linking.symbols < 2 ^ 32 }
+    requires loads { AreLoads (loads headers.segments) }
+    requires windows { All (λ w. end_of w < 2 ^ 64) layout.windows }
+    ensures { Answers is_memory result (spec.checked bytes.now headers dynamic.now linking layout) }
+{
+    check(alloc, bytes, &headers, dynamic, &linking, &layout)?;
+    Ok(object(alloc, headers, dynamic, linking, layout)?)
+}
+
+/// A program or library by its dynamic table: clauses 12 to 31.
+#[tactic(auto, using(crate::proofs::ReadLaws::layout_fits), unfolding(crate::specs::Reads::linked))]
+fn linked(
+    alloc: Global,
+    bytes: &[u8],
+    headers: Headers,
+    dynamic: &Dynamic,
+) -> Result<Object, Refusal>
+    requires few { length bytes.now < 2 ^ 32 }
+    requires read { spec.IsRead bytes.now headers }
+    requires dynamic { elf.is_static bytes.now headers.header ≡ false }
+    ensures { Answers is_memory result (spec.linked bytes.now headers dynamic.now) }
+{
+    check_tables(
+        alloc,
+        &headers.header,
+        headers.segments.as_slice(),
+        headers.sections.as_slice(),
+        dynamic,
+    )?;
+    let linking = linking(alloc, bytes, &headers, dynamic)?;
+    let layout = layout(alloc, bytes, &headers, dynamic, &linking)?;
+    checked(alloc, bytes, headers, dynamic, linking, layout)
+}
+
+/// A static program: of the clauses after 8 the 30th alone.
+#[tactic(auto, using(crate::proofs::ReadLaws::static_fits), unfolding(crate::specs::Reads::static_program))]
+fn static_program(alloc: Global, bytes: &[u8], headers: Headers) -> Result<Object, Refusal>
+    requires few { length bytes.now < 2 ^ 32 }
+    requires read { spec.IsRead bytes.now headers }
+    ensures { Answers is_memory result (spec.static_program bytes.now headers) }
+{
+    if too_large(bytes) {
+        return Err(Refusal::Clause {
+            number: 30,
+            argument: 0,
+        });
+    }
+    Ok(static_object(alloc, headers)?)
+}
+
+/// Clauses 9 to 31.
+#[tactic(auto, unfolding(crate::specs::Reads::parts))]
+fn parts(alloc: Global, bytes: &[u8], headers: Headers) -> Result<Object, Refusal>
+    requires few { length bytes.now < 2 ^ 32 }
+    requires read { spec.IsRead bytes.now headers }
+    ensures { Answers is_memory result (spec.parts bytes.now headers) }
+{
+    if is_static(bytes, &headers.header) {
+        return static_program(alloc, bytes, headers);
+    }
+    let dynamic = dynamic(alloc, bytes, headers.segments.as_slice())?;
+    linked(alloc, bytes, headers, &dynamic)
+}
+
+#[tactic(auto, unfolding(crate::specs::Reads::headers))]
+fn headers(alloc: Global, bytes: &[u8], header: Header) -> Result<Headers, AllocError>
+    requires segments { HasSegments bytes.now header }
+    requires sections { HasSections bytes.now header }
+    ensures { IfOk result (λ headers. headers ≡ spec.headers bytes.now header) }
+{
+    let segments = read_segments(alloc, bytes, &header)?;
+    let sections = read_sections(alloc, bytes, &header)?;
+    Ok(Headers {
+        header,
+        segments: Rows::from_vec(segments),
+        sections: Rows::from_vec(sections),
+    })
+}
+
+#[tactic(auto, unfolding(crate::specs::Reads::reads, crate::specs::Reads::headers))]
+fn read_object(alloc: Global, bytes: &[u8]) -> Result<Object, Refusal>
+    requires { length bytes.now < 2 ^ 32 }
+    ensures { Answers is_memory result (spec.reads bytes.now) }
+{
+    let header = read_header(bytes)?;
+    let headers = headers(alloc, bytes, header)?;
+    parts(alloc, bytes, headers)
+}
+
+/// The object that a file is: Ok exactly where no acceptance clause refuses it. Else the first clause in the order of their numbers that refuses it, with its argument, or NoMemory. The file has fewer than 2^32 bytes. Nothing of it is kept but what the object holds.
+pub fn accept(alloc: Global, bytes: &[u8]) -> Result<Object, Refusal>
+    requires { length bytes.now < 2 ^ 32 }
+    ensures exact { Answers is_memory result (spec.reads bytes.now) }
+    ensures facts { IfOk result (λ o. Accepted bytes.now o) }
+{
+    read_object(alloc, bytes)
+}

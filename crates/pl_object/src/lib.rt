@@ -1,0 +1,38 @@
+//! Accepted objects: a file taken apart, or the first acceptance clause that refuses it.
+#![tactic(auto)]
+
+mod acceptance;
+pub mod constants;
+mod file_part;
+mod headers;
+mod kind;
+mod layout;
+mod linking;
+mod names;
+mod object;
+mod overlaps;
+mod parts;
+mod place_clauses;
+mod ranges;
+mod refusal;
+mod reloc;
+mod relocations;
+mod symbol_clauses;
+mod table_clauses;
+mod tables;
+mod tags;
+#[cfg(test)]
+mod tests;
+mod window;
+
+pub use acceptance::accept;
+pub use constants::ORIGINAL;
+pub use file_part::{file_window, in_file_part, loaded};
+pub use kind::Kind;
+pub use names::read_needed;
+pub use object::Object;
+pub use place_clauses::last_load;
+pub use refusal::Refusal;
+pub use reloc::Reloc;
+pub use relocations::{place, places};
+pub use window::Window;

@@ -1,0 +1,246 @@
+// Acceptance clauses 15 to 18: the names of needed libraries, of symbols and of versions.
+ghost use Rattle.std.specs.Prelude.{◌≡◌, ◌<◌, ◌≤◌, ◌^◌, length, filter, if◌then◌else◌, Some, None, IfOk};
+ghost use Rattle.std.specs.Option.{option_map};
+ghost use Rattle.pl_base.specs.Answers.{Answers};
+ghost use Rattle.pl_base.specs.Each.{each};
+ghost use Rattle.pl_base.specs.Names.{is_valid_name};
+ghost use Rattle.pl_dyn.specs.Read.{has_number};
+ghost use Rattle.pl_object.specs.Refusals.{is_memory};
+ghost use Rattle.pl_object.specs.Names as spec;
+
+use crate::Refusal;
+use crate::file_part::loaded;
+use crate::tags::{has_tag, section_range, strings_range, symbols_range, value};
+use pl_base::{Rows, Text};
+use pl_dyn::constants::{DT_NEEDED, DT_VERDEF, DT_VERDEFNUM, DT_VERNEED, DT_VERNEEDNUM, DT_VERSYM};
+use pl_dyn::{Dynamic, Tag};
+use pl_elf::{Section, Segment};
+use pl_io::valid_name;
+use pl_sym::{Symbol, read_symbols, string_at};
+use pl_ver::constants::VERSYM_SIZE;
+use pl_ver::{Versions, read_versions};
+use std::alloc::{AllocError, Global};
+
+/// A name's bytes as text, where it is valid.
+fn checked_name(name: &[u8]) -> Option<&str>
+    ensures { option_map (λ x. x.now) result ≡ (if is_valid_name name.now then Some name.now else None) }
+{
+    match str::from_utf8(name) {
+        Err(_) => None,
+        Ok(text) => { if valid_name(text) { Some(text) } else { None } }
+    }
+}
+
+#[tactic(auto, unfolding(crate::specs::Names::needed_name))]
+fn needed_name(alloc: Global, strings: &[u8], tag: &Tag) -> Result<Text, Refusal>
+    ensures { Answers is_memory result (spec.needed_name strings.now tag.now) }
+{
+    let Some(bytes) = string_at(strings, tag.value) else {
+        return Err(Refusal::Clause {
+            number: 15,
+            argument: 0,
+        });
+    };
+    match checked_name(bytes) {
+        None => Err(Refusal::Clause {
+            number: 15,
+            argument: 0,
+        }),
+        Some(name) => Ok(Text::copy_of(alloc, name)?),
+    }
+}
+
+fn needed_tags(alloc: Global, tags: &[Tag]) -> Result<Vec<Tag>, AllocError>
+    ensures { IfOk result (λ v. v.items ≡ filter (has_number DT_NEEDED) tags.now) }
+{
+    tags.iter()
+        .copied()
+        .filter(|tag| tag.number == DT_NEEDED)
+        .collect(alloc)
+}
+
+fn needed_names(alloc: Global, tags: &[Tag], strings: &[u8]) -> Result<Rows<Text>, Refusal>
+    ensures { Answers is_memory result (each (spec.needed_name strings.now) tags.now) }
+{
+    let mut names = Rows::new(alloc);
+    for tag in tags {
+        names.push(needed_name(alloc, strings, tag)?)?;
+    }
+    Ok(names)
+}
+
+/// The names of the needed libraries, in the order of their tags (gABI chapter 5, "Dynamic Section"): acceptance clause 15 where one has no end inside the strings or is no valid name.
+#[tactic(auto, unfolding(crate::specs::Names::needed))]
+pub fn read_needed(alloc: Global, dynamic: &Dynamic, strings: &[u8]) -> Result<Rows<Text>, Refusal>
+    ensures { Answers is_memory result (spec.needed dynamic.now.tags strings.now) }
+{
+    let tags = needed_tags(alloc, dynamic.tags.as_slice())?;
+    needed_names(alloc, &tags, strings)
+}
+
+/// The strings that symbols, needed libraries and versions are named by.
+#[tactic(auto, unfolding(crate::specs::Names::strings))]
+pub fn strings<'a>(bytes: &'a [u8], segments: &[Segment], dynamic: &Dynamic) -> &'a [u8]
+    ensures { result.now ≡ spec.strings bytes.now segments.now dynamic.now.tags }
+{
+    loaded(bytes, segments, strings_range(dynamic))
+}
+
+/// The symbols, not yet with their versions: clause 16.
+#[tactic(auto, using(crate::proofs::NameLaws::symbols_fit), unfolding(crate::specs::Names::symbols))]
+pub fn symbols(
+    alloc: Global,
+    bytes: &[u8],
+    segments: &[Segment],
+    sections: &[Section],
+    dynamic: &Dynamic,
+) -> Result<Rows<Symbol>, Refusal>
+    ensures exact { Answers is_memory result (spec.symbols bytes.now segments.now sections.now dynamic.now.tags) }
+    ensures few { IfOk result (λ symbols. length symbols ≤ length bytes.now) }
+{
+    let table = loaded(bytes, segments, symbols_range(dynamic, sections));
+    let symbols = read_symbols(alloc, table, strings(bytes, segments, dynamic))?;
+    Ok(symbols)
+}
+
+#[tactic(auto, unfolding(crate::specs::Names::bad_version_tags))]
+fn bad_version_tags(dynamic: &Dynamic) -> bool
+    ensures { result ≡ spec.bad_version_tags dynamic.now.tags }
+{
+    has_tag(dynamic, DT_VERDEF) && !(has_tag(dynamic, DT_VERDEFNUM) && has_tag(dynamic, DT_VERSYM))
+        || has_tag(dynamic, DT_VERNEED)
+            && !(has_tag(dynamic, DT_VERNEEDNUM) && has_tag(dynamic, DT_VERSYM))
+}
+
+fn record_count(dynamic: &Dynamic, address: u64, count: u64) -> u64
+    ensures { result ≡ spec.record_count address count dynamic.now.tags }
+{
+    if has_tag(dynamic, address) {
+        value(dynamic, count)
+    } else {
+        0
+    }
+}
+
+#[tactic(auto, unfolding(crate::specs::Names::miscounted))]
+fn miscounted(versym: &[u8], symbols: &[Symbol]) -> bool
+    requires { length symbols.now < 2 ^ 32 }
+    ensures { result ≡ spec.miscounted versym.now symbols.now }
+{
+    versym.len() != VERSYM_SIZE * symbols.len()
+}
+
+#[tactic(auto, unfolding(crate::specs::Names::table_versions))]
+fn table_versions(
+    alloc: Global,
+    bytes: &[u8],
+    segments: &[Segment],
+    sections: &[Section],
+    dynamic: &Dynamic,
+) -> Result<Versions, Refusal>
+    ensures { Answers is_memory result (spec.table_versions bytes.now segments.now sections.now dynamic.now.tags) }
+{
+    let versions = read_versions(
+        alloc,
+        loaded(bytes, segments, section_range(dynamic, sections, DT_VERSYM)),
+        loaded(bytes, segments, section_range(dynamic, sections, DT_VERDEF)),
+        record_count(dynamic, DT_VERDEF, DT_VERDEFNUM),
+        loaded(
+            bytes,
+            segments,
+            section_range(dynamic, sections, DT_VERNEED),
+        ),
+        record_count(dynamic, DT_VERNEED, DT_VERNEEDNUM),
+        strings(bytes, segments, dynamic),
+    )?;
+    Ok(versions)
+}
+
+#[tactic(auto, unfolding(crate::specs::Names::counted))]
+fn counted(
+    versym: &[u8],
+    symbols: &[Symbol],
+    versions: Versions,
+) -> Result<Option<Versions>, Refusal>
+    requires { length symbols.now < 2 ^ 32 }
+    ensures { result ≡ spec.counted versym.now symbols.now versions }
+{
+    if miscounted(versym, symbols) {
+        return Err(Refusal::Clause {
+            number: 18,
+            argument: 0,
+        });
+    }
+    Ok(Some(versions))
+}
+
+#[tactic(auto, unfolding(crate::specs::Names::known_versions))]
+fn known_versions(
+    alloc: Global,
+    bytes: &[u8],
+    segments: &[Segment],
+    sections: &[Section],
+    dynamic: &Dynamic,
+    symbols: &[Symbol],
+) -> Result<Option<Versions>, Refusal>
+    requires { length symbols.now < 2 ^ 32 }
+    ensures { Answers is_memory result (spec.known_versions bytes.now segments.now sections.now dynamic.now.tags symbols.now) }
+{
+    if !has_tag(dynamic, DT_VERSYM) {
+        return Ok(None);
+    }
+    let versions = table_versions(alloc, bytes, segments, sections, dynamic)?;
+    counted(
+        loaded(bytes, segments, section_range(dynamic, sections, DT_VERSYM)),
+        symbols,
+        versions,
+    )
+}
+
+/// The versions, where there is a table of version words: clauses 17 and 18.
+#[tactic(auto, unfolding(crate::specs::Names::versions))]
+pub fn versions(
+    alloc: Global,
+    bytes: &[u8],
+    segments: &[Segment],
+    sections: &[Section],
+    dynamic: &Dynamic,
+    symbols: &[Symbol],
+) -> Result<Option<Versions>, Refusal>
+    requires { length symbols.now < 2 ^ 32 }
+    ensures { Answers is_memory result (spec.versions bytes.now segments.now sections.now dynamic.now.tags symbols.now) }
+{
+    if bad_version_tags(dynamic) {
+        return Err(Refusal::Clause {
+            number: 17,
+            argument: 0,
+        });
+    }
+    known_versions(alloc, bytes, segments, sections, dynamic, symbols)
+}
+
+/// Gives each symbol its version word.
+fn set_versions(symbols: &mut [Symbol], words: &[u16])
+    ensures { symbols.new ≡ spec.with_versions symbols.old words.now }
+{
+    let mut index = 0;
+    while index < symbols.len() && index < words.len() {
+        symbols[index].version = words[index];
+        index += 1;
+    }
+}
+
+/// The symbols with their version words.
+pub fn versioned(symbols: Rows<Symbol>, versions: &Option<Versions>) -> Rows<Symbol>
+    ensures value { result ≡ spec.versioned symbols versions.now }
+    ensures few { length result ≡ length symbols }
+{
+    match versions {
+        None => symbols,
+        Some(versions) => {
+            let mut symbols = symbols.into_vec();
+            set_versions(&mut symbols, versions.index.as_slice());
+            Rows::from_vec(symbols)
+        }
+    }
+}

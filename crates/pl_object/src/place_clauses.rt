@@ -1,0 +1,207 @@
+// Acceptance clauses 23 to 27 and 29: relocations, and the places that they change. A test is true where the clause refuses the file.
+ghost use Rattle.std.specs.Prelude.{◌≡◌, if◌then◌else◌, Some, IfOk};
+ghost use Rattle.pl_elf.specs.Headers.{is_load};
+ghost use Rattle.pl_base.specs.Answers.{Answers};
+ghost use Rattle.pl_object.specs.Refusals.{is_memory};
+ghost use Rattle.pl_object.specs.PlaceClauses as spec;
+
+use crate::constants::{R_X86_64_COPY, R_X86_64_GLOB_DAT, R_X86_64_JUMP_SLOT, RELOC_KINDS};
+use crate::file_part::{file_window, in_file_part};
+use crate::overlaps::{any_share, meets};
+use crate::relocations::{place, places};
+use crate::{Refusal, Reloc, Window};
+use pl_base::end;
+use pl_elf::Segment;
+use std::alloc::{AllocError, Global};
+
+#[tactic(auto, unfolding(crate::specs::PlaceClauses::is_known))]
+fn is_known(kind: u32) -> bool
+    ensures { result ≡ spec.is_known kind }
+{
+    RELOC_KINDS.iter().any(|known| *known == kind)
+}
+
+#[tactic(auto, unfolding(crate::specs::PlaceClauses::is_bad))]
+fn is_bad(count: u32, reloc: &Reloc) -> bool
+    ensures { result ≡ spec.is_bad count reloc.now }
+{
+    !is_known(reloc.kind) || reloc.symbol >= count
+}
+
+/// The first relocation of a kind that is not known, or by a symbol that is not there: clause 23.
+#[tactic(auto, unfolding(crate::specs::PlaceClauses::first_bad))]
+fn first_bad(count: u32, relocs: &[Reloc]) -> Option<Reloc>
+    ensures { result ≡ spec.first_bad count relocs.now }
+{
+    relocs.iter().copied().find(|reloc| is_bad(count, reloc))
+}
+
+/// The last PT_LOAD of a program header table.
+#[tactic(auto, unfolding(crate::specs::PlaceClauses::last_load))]
+pub fn last_load(segments: &[Segment]) -> Option<Segment>
+    ensures { result ≡ spec.last_load segments.now }
+{
+    segments
+        .iter()
+        .fold(None, |found, segment| later_load(found, segment))
+}
+
+fn later_load(found: Option<Segment>, segment: &Segment) -> Option<Segment>
+    ensures { result ≡ (if is_load segment.now then Some segment.now else found) }
+{
+    if segment.is_load() {
+        Some(*segment)
+    } else {
+        found
+    }
+}
+
+fn is_in_memory(memory: Window, segment: Option<Segment>) -> bool
+    ensures { result ≡ spec.is_in_memory memory segment }
+{
+    match segment {
+        None => false,
+        Some(segment) => lies_in(memory, &segment),
+    }
+}
+
+fn lies_in(memory: Window, segment: &Segment) -> bool
+    ensures { result ≡ spec.is_in_memory memory (Some segment.now) }
+{
+    u128::from(segment.vaddr) <= memory.at()
+        && memory.at() <= end(segment.vaddr, segment.memsz)
+        && memory.at() + u128::from(memory.size()) <= end(segment.vaddr, segment.memsz)
+}
+
+#[tactic(auto, unfolding(crate::specs::PlaceClauses::is_held))]
+fn is_held(program: bool, segments: &[Segment], last: Option<Segment>, memory: Window) -> bool
+    requires { last ≡ spec.last_load segments.now }
+    ensures { result ≡ spec.is_held program segments.now memory }
+{
+    in_file_part(segments, memory) || program && is_in_memory(memory, last)
+}
+
+/// Clause 24.
+#[tactic(auto, unfolding(crate::specs::PlaceClauses::reloc_outside))]
+fn reloc_outside(program: bool, segments: &[Segment], relocs: &[Reloc]) -> bool
+    ensures { result ≡ spec.reloc_outside program segments.now relocs.now }
+{
+    let last = last_load(segments);
+    relocs
+        .iter()
+        .map(|reloc| place(reloc))
+        .any(|memory| !is_held(program, segments, last, memory))
+}
+
+/// Clause 25.
+#[tactic(auto, unfolding(crate::specs::PlaceClauses::reloc_overlap))]
+fn reloc_overlap(alloc: Global, relocs: &[Reloc]) -> Result<bool, AllocError>
+    ensures { IfOk result (λ b. b ≡ spec.reloc_overlap relocs.now) }
+{
+    let places = places(alloc, relocs)?;
+    Ok(any_share(&places))
+}
+
+/// Clause 26.
+#[tactic(auto, unfolding(crate::specs::PlaceClauses::reloc_in_tables, crate::specs::PlaceClauses::spots))]
+fn reloc_in_tables(tables: &[Window], segments: &[Segment], relocs: &[Reloc]) -> bool
+    ensures { result ≡ spec.reloc_in_tables tables.now segments.now relocs.now }
+{
+    relocs
+        .iter()
+        .map(|reloc| place(reloc))
+        .map(|memory| file_window(segments, memory))
+        .any(|spot| meets(tables, &spot))
+}
+
+#[tactic(auto, unfolding(crate::specs::PlaceClauses::is_odd))]
+fn is_odd(reloc: &Reloc) -> bool
+    ensures { result ≡ spec.is_odd reloc.now }
+{
+    (reloc.kind == R_X86_64_GLOB_DAT
+        || reloc.kind == R_X86_64_JUMP_SLOT
+        || reloc.kind == R_X86_64_COPY)
+        && reloc.addend != 0
+}
+
+/// Clause 27.
+#[tactic(auto, unfolding(crate::specs::PlaceClauses::odd_addend))]
+fn odd_addend(relocs: &[Reloc]) -> bool
+    ensures { result ≡ spec.odd_addend relocs.now }
+{
+    relocs.iter().any(|reloc| is_odd(reloc))
+}
+
+#[tactic(auto, unfolding(crate::specs::PlaceClauses::is_misplaced_copy))]
+fn is_misplaced_copy(program: bool, reloc: &Reloc) -> bool
+    ensures { result ≡ spec.is_misplaced_copy program reloc.now }
+{
+    reloc.kind == R_X86_64_COPY && (!program || reloc.symbol == 0)
+}
+
+/// Clause 29.
+#[tactic(auto, unfolding(crate::specs::PlaceClauses::misplaced_copy))]
+pub fn misplaced_copy(program: bool, relocs: &[Reloc]) -> bool
+    ensures { result ≡ spec.misplaced_copy program relocs.now }
+{
+    relocs.iter().any(|reloc| is_misplaced_copy(program, reloc))
+}
+
+/// The first of clauses 24 to 27 that refuses the file.
+#[tactic(auto, unfolding(crate::specs::PlaceClauses::check_places))]
+fn check_places(
+    alloc: Global,
+    program: bool,
+    segments: &[Segment],
+    tables: &[Window],
+    relocs: &[Reloc],
+) -> Result<(), Refusal>
+    ensures { Answers is_memory result (spec.check_places program segments.now tables.now relocs.now) }
+{
+    if reloc_outside(program, segments, relocs) {
+        return Err(Refusal::Clause {
+            number: 24,
+            argument: 0,
+        });
+    }
+    if reloc_overlap(alloc, relocs)? {
+        return Err(Refusal::Clause {
+            number: 25,
+            argument: 0,
+        });
+    }
+    if reloc_in_tables(tables, segments, relocs) {
+        return Err(Refusal::Clause {
+            number: 26,
+            argument: 0,
+        });
+    }
+    if odd_addend(relocs) {
+        return Err(Refusal::Clause {
+            number: 27,
+            argument: 0,
+        });
+    }
+    Ok(())
+}
+
+/// The first of clauses 23 to 27 that refuses the file.
+#[tactic(auto, unfolding(crate::specs::PlaceClauses::check_relocs))]
+pub fn check_relocs(
+    alloc: Global,
+    program: bool,
+    segments: &[Segment],
+    tables: &[Window],
+    count: u32,
+    relocs: &[Reloc],
+) -> Result<(), Refusal>
+    ensures { Answers is_memory result (spec.check_relocs program segments.now tables.now count relocs.now) }
+{
+    if let Some(reloc) = first_bad(count, relocs) {
+        return Err(Refusal::Clause {
+            number: 23,
+            argument: u64::from(reloc.kind),
+        });
+    }
+    check_places(alloc, program, segments, tables, relocs)
+}

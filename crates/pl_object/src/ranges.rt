@@ -1,0 +1,31 @@
+ghost use Rattle.std.specs.Prelude.{◌≡◌, ◌+◌, ◌<◌, ◌^◌, map, IfOk};
+ghost use Rattle.std.specs.List.{All};
+ghost use Rattle.pl_base.specs.Windows.{end_of};
+ghost use Rattle.pl_object.specs.Tables as spec;
+
+use crate::Window;
+use pl_base::Rows;
+use pl_elf::Range;
+use std::alloc::{AllocError, Global};
+
+fn range_of(window: &Window) -> Range
+    requires { end_of window.now < 2 ^ 64 }
+    ensures { result ≡ spec.range_of window.now }
+{
+    Range {
+        start: window.at() as u64,
+        end: (window.at() + u128::from(window.size())) as u64,
+    }
+}
+
+/// Windows as ranges.
+pub fn ranges_of(alloc: Global, windows: &[Window]) -> Result<Rows<Range>, AllocError>
+    requires { All (λ w. end_of w < 2 ^ 64) windows.now }
+    ensures { IfOk result (λ ranges. ranges ≡ map spec.range_of windows.now) }
+{
+    let mut ranges = Rows::new(alloc);
+    for window in windows {
+        ranges.push(range_of(window))?;
+    }
+    Ok(ranges)
+}

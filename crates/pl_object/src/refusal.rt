@@ -1,0 +1,124 @@
+use pl_dyn::DynFault;
+use pl_elf::HeaderFault;
+use pl_sym::SymFault;
+use pl_ver::VerFault;
+use std::alloc::{AllocError, AllocFailed};
+
+/// Why a file is no object.
+#[derive(Clone, Copy, Debug, PartialEq, Eq)]
+pub enum Refusal {
+    /// The first acceptance clause that refuses it, and what of it does: a tag's number for clauses 10 and 11, a relocation's kind for clause 23, else 0.
+    Clause { number: u32, argument: u64 },
+
+    /// There was no memory for the answer.
+    NoMemory,
+}
+
+impl From<AllocError> for Refusal {
+    ghost use Rattle.std.specs.Prelude.{◌≡◌};
+    ghost use Rattle.pl_object.specs.declared.refusal.Refusal.TheVariants.{NoMemory};
+
+    ghost from_gives = { λ _ refusal. refusal ≡ NoMemory };
+
+    fn from(_: AllocError) -> Refusal {
+        Refusal::NoMemory
+    }
+}
+
+impl<T: Drop> From<AllocFailed<T>> for Refusal {
+    ghost use Rattle.std.specs.Prelude.{◌≡◌};
+    ghost use Rattle.pl_object.specs.declared.refusal.Refusal.TheVariants.{NoMemory};
+
+    ghost from_gives = { λ _ refusal. refusal ≡ NoMemory };
+
+    fn from(_: AllocFailed<T>) -> Refusal {
+        Refusal::NoMemory
+    }
+}
+
+impl From<HeaderFault> for Refusal {
+    ghost use Rattle.std.specs.Prelude.{◌≡◌};
+    ghost use Rattle.pl_object.specs.Refusals.{of_header};
+
+    ghost from_gives = { λ fault refusal. refusal ≡ of_header fault };
+
+    fn from(fault: HeaderFault) -> Refusal {
+        let number = match fault {
+            HeaderFault::NotElf => 1,
+            HeaderFault::Class => 2,
+            HeaderFault::Machine => 3,
+            HeaderFault::Kind => 4,
+            HeaderFault::Truncated => 5,
+            HeaderFault::BadSegment => 6,
+            HeaderFault::BadSection => 7,
+            HeaderFault::NoSections => 8,
+        };
+        Refusal::Clause {
+            number,
+            argument: 0,
+        }
+    }
+}
+
+impl From<DynFault> for Refusal {
+    ghost use Rattle.std.specs.Prelude.{◌≡◌};
+    ghost use Rattle.pl_object.specs.Refusals.{of_dynamic};
+
+    ghost from_gives = { λ fault refusal. refusal ≡ of_dynamic fault };
+
+    fn from(fault: DynFault) -> Refusal {
+        match fault {
+            DynFault::NoEnd => Refusal::Clause {
+                number: 9,
+                argument: 0,
+            },
+            DynFault::UnknownTag(argument) => Refusal::Clause {
+                number: 10,
+                argument,
+            },
+            DynFault::Twice(argument) => Refusal::Clause {
+                number: 11,
+                argument,
+            },
+            DynFault::NoMemory => Refusal::NoMemory,
+        }
+    }
+}
+
+impl From<SymFault> for Refusal {
+    ghost use Rattle.std.specs.Prelude.{◌≡◌};
+    ghost use Rattle.pl_object.specs.Refusals.{of_symbols};
+
+    ghost from_gives = { λ fault refusal. refusal ≡ of_symbols fault };
+
+    fn from(fault: SymFault) -> Refusal {
+        match fault {
+            SymFault::BadSymbol => Refusal::Clause {
+                number: 16,
+                argument: 0,
+            },
+            SymFault::NoMemory => Refusal::NoMemory,
+        }
+    }
+}
+
+impl From<VerFault> for Refusal {
+    ghost use Rattle.std.specs.Prelude.{◌≡◌};
+    ghost use Rattle.pl_object.specs.Refusals.{of_versions};
+
+    ghost from_gives = { λ fault refusal. refusal ≡ of_versions fault };
+
+    fn from(fault: VerFault) -> Refusal {
+        match fault {
+            VerFault::BadChain => Refusal::Clause {
+                number: 17,
+                argument: 0,
+            },
+            VerFault::BadIndex => Refusal::Clause {
+                number: 18,
+                argument: 0,
+            },
+            VerFault::NoMemory => Refusal::NoMemory,
+        }
+    }
+}

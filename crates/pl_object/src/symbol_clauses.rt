@@ -1,0 +1,288 @@
+// Acceptance clauses 20 to 22 and 28: how symbols are found. A test is true where the clause refuses the file.
+ghost use Rattle.std.specs.Prelude.{◌≡◌, ◌++◌, ◌<◌, ◌^◌, length, slice_get, OnOk, IfOk};
+ghost use Rattle.std.specs.List.{list_any};
+ghost use Rattle.std.specs.Option.{option_map};
+ghost use Rattle.pl_base.specs.Answers.{Answers};
+ghost use Rattle.pl_hash.specs.Chain.{IsWellFormed};
+ghost use Rattle.pl_object.specs.Refusals.{is_memory};
+ghost use Rattle.pl_object.specs.SymbolClauses as spec;
+
+use crate::Refusal;
+use crate::constants::PAGE;
+use crate::file_part::loaded;
+use crate::tags::{has_tag, section_range};
+use pl_base::Rows;
+use pl_dyn::Dynamic;
+use pl_dyn::constants::{DT_GNU_HASH, DT_HASH};
+use pl_elf::constants::PT_LOAD;
+use pl_elf::{Section, Segment, segment_of_kind};
+use pl_hash::{Table, is_candidate, name_hash, well_formed};
+use pl_sym::constants::{STT_GNU_IFUNC, VER_NDX_GLOBAL};
+use pl_sym::{Class, Symbol, is_definer};
+use pl_ver::constants::VERSYM_HIDDEN;
+use pl_ver::{Versions, version_of};
+use std::alloc::{AllocError, Global};
+
+/// Clause 20.
+#[tactic(auto, unfolding(crate::specs::SymbolClauses::base_not_zero))]
+fn base_not_zero(program: bool, segments: &[Segment]) -> bool
+    ensures { result ≡ spec.base_not_zero program segments.now }
+{
+    !program && is_above(segment_of_kind(segments, PT_LOAD))
+}
+
+fn is_above(segment: Option<Segment>) -> bool
+    ensures { result ≡ spec.is_above segment }
+{
+    match segment {
+        None => false,
+        Some(segment) => segment.vaddr / PAGE != 0,
+    }
+}
+
+fn table_of(alloc: Global, words: &[u8], gnu: bool, symbols: u32) -> Result<Table, AllocError>
+    ensures { IfOk result (λ table. table ≡ record { words = words.now; gnu = gnu; symbols = symbols }) }
+{
+    let words = Vec::from_slice(alloc, words)?;
+    Ok(Table {
+        words: Rows::from_vec(words),
+        gnu,
+        symbols,
+    })
+}
+
+/// Adds the hash table of a tag, where the tag is there.
+#[tactic(auto, unfolding(crate::specs::SymbolClauses::hash_table))]
+fn add_hash_table(
+    alloc: Global,
+    tables: &mut Rows<Table>,
+    bytes: &[u8],
+    segments: &[Segment],
+    sections: &[Section],
+    dynamic: &Dynamic,
+    count: u32,
+    gnu: bool,
+    number: u64,
+) -> Result<(), AllocError>
+    ensures { OnOk result (tables.new ≡ tables.old ++ spec.hash_table bytes.now segments.now sections.now dynamic.now.tags count gnu number) }
+{
+    if has_tag(dynamic, number) {
+        let memory = section_range(dynamic, sections, number);
+        tables.push(table_of(alloc, loaded(bytes, segments, memory), gnu, count)?)?;
+    }
+    Ok(())
+}
+
+/// The hash tables, the System V table first.
+#[tactic(auto, unfolding(crate::specs::SymbolClauses::hash_tables))]
+pub fn hash_tables(
+    alloc: Global,
+    bytes: &[u8],
+    segments: &[Segment],
+    sections: &[Section],
+    dynamic: &Dynamic,
+    count: u32,
+) -> Result<Rows<Table>, AllocError>
+    ensures { IfOk result (λ tables. tables ≡ spec.hash_tables bytes.now segments.now sections.now dynamic.now.tags count) }
+{
+    let mut tables = Rows::new(alloc);
+    add_hash_table(
+        alloc,
+        &mut tables,
+        bytes,
+        segments,
+        sections,
+        dynamic,
+        count,
+        false,
+        DT_HASH,
+    )?;
+    add_hash_table(
+        alloc,
+        &mut tables,
+        bytes,
+        segments,
+        sections,
+        dynamic,
+        count,
+        true,
+        DT_GNU_HASH,
+    )?;
+    Ok(tables)
+}
+
+fn defines(symbol: &Symbol) -> bool
+    ensures { result ≡ spec.defines symbol.now }
+{
+    is_definer(symbol, Class::Jump, false)
+}
+
+fn is_missed(table: &Table, index: usize, symbols: &[Symbol]) -> bool
+    requires formed { IsWellFormed table.now }
+    requires few { index < 2 ^ 32 }
+    ensures { result ≡ spec.is_missed table.now index (slice_get symbols.now index) }
+{
+    match symbols.get(index) {
+        None => false,
+        Some(symbol) => {
+            defines(symbol)
+                && !is_candidate(
+                    table,
+                    name_hash(table, symbol.name.as_slice()),
+                    index as u32,
+                )
+        }
+    }
+}
+
+#[tactic(auto, unfolding(crate::specs::SymbolClauses::misses_one))]
+fn misses_one(symbols: &[Symbol], table: &Table) -> bool
+    requires formed { IsWellFormed table.now }
+    requires few { length symbols.now < 2 ^ 32 }
+    ensures { result ≡ spec.misses_one symbols.now table.now }
+{
+    (0..symbols.len()).any(|index| is_missed(table, index, symbols))
+}
+
+#[tactic(auto, unfolding(crate::specs::SymbolClauses::is_incomplete))]
+fn is_incomplete(symbols: &[Symbol], table: &Table) -> bool
+    requires { length symbols.now < 2 ^ 32 }
+    ensures { result ≡ spec.is_incomplete symbols.now table.now }
+{
+    !well_formed(table) || misses_one(symbols, table)
+}
+
+fn any_defines(symbols: &[Symbol]) -> bool
+    ensures { result ≡ list_any spec.defines symbols.now }
+{
+    symbols.iter().any(|symbol| defines(symbol))
+}
+
+fn any_incomplete(tables: &[Table], symbols: &[Symbol]) -> bool
+    requires { length symbols.now < 2 ^ 32 }
+    ensures { result ≡ list_any (spec.is_incomplete symbols.now) tables.now }
+{
+    tables.iter().any(|table| is_incomplete(symbols, table))
+}
+
+/// Clause 21.
+#[tactic(auto, unfolding(crate::specs::SymbolClauses::hash_incomplete))]
+fn hash_incomplete(tables: &[Table], symbols: &[Symbol]) -> bool
+    requires { length symbols.now < 2 ^ 32 }
+    ensures { result ≡ spec.hash_incomplete tables.now symbols.now }
+{
+    tables.len() == 0 && any_defines(symbols) || any_incomplete(tables, symbols)
+}
+
+fn is_plain(symbol: &Symbol) -> bool
+    ensures { result ≡ spec.is_plain symbol.now }
+{
+    symbol.version % VERSYM_HIDDEN <= VER_NDX_GLOBAL
+}
+
+fn version_name(versions: &Option<Versions>, word: u16) -> Option<&[u8]>
+    ensures { option_map (λ x. x.now) result ≡ spec.version_name versions.now word }
+{
+    match versions {
+        None => None,
+        Some(versions) => version_of(versions, word),
+    }
+}
+
+fn is_same_name(versions: &Option<Versions>, word: u16, other: u16) -> bool
+    ensures { result ≡ spec.is_same_name (spec.version_name versions.now word) (spec.version_name versions.now other) }
+{
+    let Some(name) = version_name(versions, word) else {
+        return false;
+    };
+    match version_name(versions, other) {
+        None => false,
+        Some(other) => name == other,
+    }
+}
+
+#[tactic(auto, unfolding(crate::specs::SymbolClauses::is_same_version))]
+fn is_same_version(versions: &Option<Versions>, symbol: &Symbol, other: &Symbol) -> bool
+    ensures { result ≡ spec.is_same_version versions.now symbol.now other.now }
+{
+    is_plain(symbol) && is_plain(other) || is_same_name(versions, symbol.version, other.version)
+}
+
+#[tactic(auto, unfolding(crate::specs::SymbolClauses::is_twin))]
+fn is_twin(versions: &Option<Versions>, program: bool, symbol: &Symbol, other: &Symbol) -> bool
+    ensures { result ≡ spec.is_twin versions.now program symbol.now other.now }
+{
+    is_definer(symbol, Class::Other, program)
+        && is_definer(other, Class::Other, program)
+        && symbol.name.as_slice() == other.name.as_slice()
+        && is_same_version(versions, symbol, other)
+}
+
+fn has_twin(versions: &Option<Versions>, program: bool, symbol: &Symbol, others: &[Symbol]) -> bool
+    ensures { result ≡ list_any (spec.is_twin versions.now program symbol.now) others.now }
+{
+    others
+        .iter()
+        .any(|other| is_twin(versions, program, symbol, other))
+}
+
+/// Clause 22.
+#[tactic(auto, using(crate::proofs::SymbolLaws::twins_done))]
+fn duplicate_definer(versions: &Option<Versions>, program: bool, symbols: &[Symbol]) -> bool
+    ensures { result ≡ spec.duplicate_definer versions.now program symbols.now }
+{
+    for index in 0..symbols.len() {
+        if has_twin(versions, program, &symbols[index], &symbols[index + 1..]) {
+            return true;
+        }
+    }
+    false
+}
+
+#[tactic(auto, unfolding(crate::specs::SymbolClauses::is_ifunc))]
+fn is_ifunc(symbol: &Symbol) -> bool
+    ensures { result ≡ spec.is_ifunc symbol.now }
+{
+    !symbol.is_undefined() && symbol.kind == STT_GNU_IFUNC
+}
+
+/// Clause 28.
+#[tactic(auto, unfolding(crate::specs::SymbolClauses::has_ifunc))]
+pub fn has_ifunc(symbols: &[Symbol]) -> bool
+    ensures { result ≡ spec.has_ifunc symbols.now }
+{
+    symbols.iter().any(|symbol| is_ifunc(symbol))
+}
+
+/// The first of clauses 20 to 22 that refuses the file.
+#[tactic(auto, unfolding(crate::specs::SymbolClauses::check_symbols))]
+pub fn check_symbols(
+    program: bool,
+    segments: &[Segment],
+    tables: &[Table],
+    versions: &Option<Versions>,
+    symbols: &[Symbol],
+) -> Result<(), Refusal>
+    requires { length symbols.now < 2 ^ 32 }
+    ensures { result ≡ spec.check_symbols program segments.now tables.now versions.now symbols.now }
+{
+    if base_not_zero(program, segments) {
+        return Err(Refusal::Clause {
+            number: 20,
+            argument: 0,
+        });
+    }
+    if hash_incomplete(tables, symbols) {
+        return Err(Refusal::Clause {
+            number: 21,
+            argument: 0,
+        });
+    }
+    if duplicate_definer(versions, program, symbols) {
+        return Err(Refusal::Clause {
+            number: 22,
+            argument: 0,
+        });
+    }
+    Ok(())
+}

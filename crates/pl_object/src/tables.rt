@@ -1,0 +1,139 @@
+// Where the tables of an object stand in the file.
+ghost use Rattle.std.specs.Prelude.{◌≡◌, ◌++◌, ◌∷◌, map, IfOk};
+ghost use Rattle.pl_object.specs.FilePart as part;
+ghost use Rattle.pl_object.specs.Tables as spec;
+
+use crate::Window;
+use crate::file_part::file_window;
+use crate::tags::{dynamic_range, jmprel_range, rela_range, symbols_range, tag_ranges};
+use pl_dyn::Dynamic;
+use pl_elf::constants::{HEADER_SIZE, SECTION_SIZE, SEGMENT_SIZE, SHT_SYMTAB};
+use pl_elf::{Header, Section, Segment};
+use std::alloc::{AllocError, Global};
+
+fn header_window() -> Window
+    ensures { result ≡ spec.header_window }
+{
+    Window::new(0, HEADER_SIZE as u64)
+}
+
+fn segments_window(header: &Header) -> Window
+    ensures { result ≡ spec.segments_window header.now }
+{
+    Window::new(
+        u128::from(header.phoff),
+        SEGMENT_SIZE as u64 * u64::from(header.phnum),
+    )
+}
+
+/// The section header table.
+pub fn sections_window(header: &Header) -> Window
+    ensures { result ≡ spec.sections_window header.now }
+{
+    Window::new(
+        u128::from(header.shoff),
+        SECTION_SIZE as u64 * u64::from(header.shnum),
+    )
+}
+
+fn section_window(section: &Section) -> Window
+    ensures { result ≡ spec.section_window section.now }
+{
+    Window::new(u128::from(section.offset), section.size)
+}
+
+#[tactic(auto, unfolding(crate::specs::Tables::symtab_windows))]
+fn symtab_windows(alloc: Global, sections: &[Section]) -> Result<Vec<Window>, AllocError>
+    ensures { IfOk result (λ v. v.items ≡ spec.symtab_windows sections.now) }
+{
+    sections
+        .iter()
+        .filter(|section| section.kind == SHT_SYMTAB)
+        .map(|section| section_window(section))
+        .collect(alloc)
+}
+
+/// The tables of which no two may overlap in the file.
+#[tactic(auto, unfolding(crate::specs::Tables::main_windows))]
+pub fn main_windows(
+    alloc: Global,
+    header: &Header,
+    segments: &[Segment],
+    sections: &[Section],
+    dynamic: &Dynamic,
+) -> Result<Vec<Window>, AllocError>
+    ensures { IfOk result (λ v. v.items ≡ spec.main_windows header.now segments.now sections.now dynamic.now.tags) }
+{
+    let main = [
+        header_window(),
+        segments_window(header),
+        sections_window(header),
+        file_window(segments, dynamic_range(segments)),
+        file_window(segments, symbols_range(dynamic, sections)),
+        file_window(segments, rela_range(dynamic)),
+        file_window(segments, jmprel_range(dynamic)),
+    ];
+    with_symtabs(alloc, &main, sections)
+}
+
+fn with_symtabs(
+    alloc: Global,
+    windows: &[Window],
+    sections: &[Section],
+) -> Result<Vec<Window>, AllocError>
+    ensures { IfOk result (λ v. v.items ≡ windows.now ++ spec.symtab_windows sections.now) }
+{
+    let symtabs = symtab_windows(alloc, sections)?;
+    let mut all = Vec::from_slice(alloc, windows)?;
+    all.extend_from_slice(&symtabs)?;
+    Ok(all)
+}
+
+fn file_windows(
+    alloc: Global,
+    segments: &[Segment],
+    ranges: &[Window],
+) -> Result<Vec<Window>, AllocError>
+    ensures { IfOk result (λ v. v.items ≡ map (part.file_window segments.now) ranges.now) }
+{
+    ranges
+        .iter()
+        .map(|memory| file_window(segments, *memory))
+        .collect(alloc)
+}
+
+/// The link tables of an object with a PT_DYNAMIC in the file.
+#[tactic(auto, unfolding(crate::specs::Tables::link_windows))]
+pub fn link_windows(
+    alloc: Global,
+    header: &Header,
+    segments: &[Segment],
+    sections: &[Section],
+    dynamic: &Dynamic,
+) -> Result<Vec<Window>, AllocError>
+    ensures { IfOk result (λ v. v.items ≡ spec.link_windows header.now segments.now sections.now dynamic.now.tags) }
+{
+    let named = file_windows(alloc, segments, &tag_ranges(dynamic, sections))?;
+    let mut windows = Vec::from_array(
+        alloc,
+        [
+            header_window(),
+            segments_window(header),
+            file_window(segments, dynamic_range(segments)),
+        ],
+    )?;
+    windows.extend_from_slice(&named)?;
+    with_symtabs(alloc, &windows, sections)
+}
+
+/// The link tables of a static program in the file.
+#[tactic(auto, unfolding(crate::specs::Tables::static_windows))]
+pub fn static_windows(
+    alloc: Global,
+    header: &Header,
+    sections: &[Section],
+) -> Result<Vec<Window>, AllocError>
+    ensures { IfOk result (λ v. v.items ≡ spec.static_windows header.now sections.now) }
+{
+    with_symtabs(alloc, &[header_window(), segments_window(header)], sections)
+}
