@@ -216,6 +216,16 @@ fn refused(
     Ok(answer(alloc, file.as_slice()))
 }
 
+/// What refuses an object after three changes.
+fn refused_by(
+    alloc: Global,
+    kind: u16,
+    base: u64,
+    changes: &[Change; 3],
+) -> Result<(u32, u64), AllocError> {
+    refused(alloc, kind, base, changes)
+}
+
 const SAME: Change = (0x1000, 1, 0);
 
 // Three changes of the library that begins at 0, and what refuses it then.
@@ -305,7 +315,7 @@ const LIBRARIES: [([Change; 3], u32, u64); 61] = [
 fn refuses_libraries(rt: HostRuntime) -> Result<(), Fail> {
     let mut case: usize = 0;
     for (changes, number, argument) in LIBRARIES {
-        let found = refused(rt.alloc(), ET_DYN, 0, &changes)?;
+        let found = refused_by(rt.alloc(), ET_DYN, 0, &changes)?;
         assert_eq!(rt; found, (number, argument), "at {case}");
         case = case.wrapping_add(1);
     }
@@ -343,7 +353,7 @@ const PROGRAMS: [([Change; 3], u32, u64); 9] = [
 fn refuses_programs(rt: HostRuntime) -> Result<(), Fail> {
     let mut case: usize = 0;
     for (changes, number, argument) in PROGRAMS {
-        let found = refused(rt.alloc(), ET_EXEC, 0x40_0000, &changes)?;
+        let found = refused_by(rt.alloc(), ET_EXEC, 0x40_0000, &changes)?;
         assert_eq!(rt; found, (number, argument), "at {case}");
         case = case.wrapping_add(1);
     }
