@@ -1,31 +1,24 @@
 -- Windows that are cleared one after the other.
-use Rattle.std.proofs.Common.{◌≡◌, inl, inr, ℕ, ◌+◌, ◌-◌, ◌<◌, ◌≤◌, min, List, [], ◌∷◌, ◌++◌, length, get_or, take, drop, replicate, zero, suc, append_assoc, refl, sym, ap, ◌∙◌, arith}
-use Rattle.std.proofs.lemmas.Bool.{cases_Bool}
+use Rattle.std.proofs.Common.{◌≡◌, ℕ, ◌+◌, ◌-◌, ◌<◌, ◌≤◌, min, List, [], ◌∷◌, ◌++◌, length, get_or, take, drop, map, replicate, zero, suc, append_assoc, refl, sym, ap, ◌∙◌, arith}
 use Rattle.std.proofs.lemmas.List.{drop_more, drop_all, drop-drop, append-nil, length-take, length-drop, length-replicate}
 use Rattle.std.proofs.Math.Seq.{take_all}
 use borrow.Rule.Slice.PartMut.{put_mid, mid_of}
 use Rattle.pl_base.specs.Bytes.{part, put}
 use Rattle.pl_base.specs.Windows.{on}
-use Rattle.pl_elf.specs.declared.section.Section.{Section}
-use Rattle.pl_cli.specs.Static.{symbol_windows, is_symbol_table}
-use Rattle.pl_cli.specs.Cleared.{cleared, all_cleared, symbols_cleared}
+use Rattle.pl_elf.specs.declared.range.Range.{Range}
+use Rattle.pl_object.specs.Accepted.{window_of}
+use Rattle.pl_cli.specs.Cleared.{cleared, all_cleared}
 
-module _ (sections : List Section) (i : ℕ) (bytes : List ℕ) where
-  pub symbols_more : (d : Section) (new whole : List ℕ) → i < length sections → new ≡ symbols_cleared (get_or sections i d) bytes → all_cleared (symbol_windows (drop i sections)) bytes ≡ whole
-      → all_cleared (symbol_windows (drop (i + 1) sections)) new ≡ whole
+module _ (tables : List Range) (i : ℕ) (bytes : List ℕ) where
+  pub tables_more : (d : Range) (new whole : List ℕ) → i < length tables → new ≡ cleared (window_of (get_or tables i d)) bytes → all_cleared (map window_of (drop i tables)) bytes ≡ whole
+      → all_cleared (map window_of (drop (i + 1) tables)) new ≡ whole
   unfolding all_cleared
-  symbols_more d new whole lt is so_far =
-      let s = get_or sections i d in
-      let left : all_cleared (symbol_windows (drop i sections)) bytes ≡ all_cleared (symbol_windows (s ∷ drop (i + 1) sections)) bytes = ap (λ (ss : List Section). all_cleared (symbol_windows ss) bytes) (drop_more sections i d lt) in
-      let one : all_cleared (symbol_windows (s ∷ drop (i + 1) sections)) bytes ≡ all_cleared (symbol_windows (drop (i + 1) sections)) (symbols_cleared s bytes) =
-      elim (cases_Bool (is_symbol_table s)) [ inl hit ↦ rw hit refl | inr miss ↦ rw miss refl ] in
-      ap (all_cleared (symbol_windows (drop (i + 1) sections))) is ∙ sym one ∙ sym left ∙ so_far
+  tables_more d new whole lt is so_far =
+      ap (all_cleared (map window_of (drop (i + 1) tables))) is ∙ sym (ap (λ (rs : List Range). all_cleared (map window_of rs) bytes) (drop_more tables i d lt)) ∙ so_far
 
-  pub symbols_done : (whole : List ℕ) → length sections ≤ i → all_cleared (symbol_windows (drop i sections)) bytes ≡ whole → bytes ≡ whole
+  pub tables_done : (whole : List ℕ) → length tables ≤ i → all_cleared (map window_of (drop i tables)) bytes ≡ whole → bytes ≡ whole
   unfolding all_cleared
-  symbols_done whole le so_far =
-      let none : all_cleared (symbol_windows (drop i sections)) bytes ≡ bytes = ap (λ (ss : List Section). all_cleared (symbol_windows ss) bytes) (drop_all i sections le) in
-      sym none ∙ so_far
+  tables_done whole le so_far = sym (ap (λ (rs : List Range). all_cleared (map window_of rs) bytes) (drop_all i tables le)) ∙ so_far
 
 -- ---- one window
 

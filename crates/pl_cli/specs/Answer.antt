@@ -1,5 +1,5 @@
 -- What a run answers to its words, for the files of its folder.
-use Rattle.std.specs.Prelude.{ℕ, Bool, true, false, ◌&&◌, not, List, [], ◌∷◌, ◌++◌, codes, Option, Some, None, Result, Ok, Err, nat_eq, if◌then◌else◌}
+use Rattle.std.specs.Prelude.{ℕ, Bool, true, false, ◌&&◌, ◌||◌, ◌==◌, not, List, [], ◌∷◌, ◌++◌, codes, Option, Some, None, Result, Ok, Err, nat_eq, if◌then◌else◌}
 use Rattle.std.specs.List.{starts_with}
 use Rattle.std.specs.Str.{bytes_eq}
 use Rattle.std.specs.Fmt.{decimal}
@@ -9,7 +9,7 @@ use Rattle.pl_base.specs.Sums.{round_down, round_up}
 use Rattle.pl_cli.specs.declared.status.Status.{Status}
 use Rattle.pl_cli.specs.declared.status.Status.TheVariants as statuses
 use Rattle.pl_cli.specs.declared.cause.Cause.{Cause}
-use Rattle.pl_cli.specs.declared.cause.Cause.TheVariants.{BadName, NotThere, NotYet, Refused}
+use Rattle.pl_cli.specs.declared.cause.Cause.TheVariants.{BadName, NotThere, FileTooLarge, Refused, NotYet}
 use Rattle.pl_cli.specs.declared.text.TheConstants.{PAGE}
 use Rattle.pl_cli.specs.Static.{Program}
 use Rattle.pl_cli.specs.Lines.{word_lines}
@@ -41,11 +41,23 @@ end_text = line (codes "end" ∷ [])
 unfoldable pub load_text : List ℕ → Program → List ℕ
 load_text name program = head_text name program ++ word_lines program.image ++ end_text
 
+-- a refusal by one of these clauses tells a tag's number or a relocation's kind
+abbrev pub has_argument : ℕ → Bool
+has_argument clause = clause == 10 || clause == 11 || clause == 23
+
+-- a file's name, the acceptance clause that refuses it, and its argument where it has one
+unfoldable pub refused : List ℕ → ℕ → ℕ → List ℕ
+refused name clause argument =
+    if has_argument clause
+    then line (codes "refused Refused " ∷ name ∷ codes " " ∷ decimal clause ∷ codes " " ∷ decimal argument ∷ [])
+    else line (codes "refused Refused " ∷ name ∷ codes " " ∷ decimal clause ∷ [])
+
 unfoldable pub refusal : List ℕ → Cause → List ℕ
 refusal name BadName = line (codes "refused BadName" ∷ [])
 refusal name NotThere = line (codes "refused NotThere " ∷ name ∷ [])
+refusal name FileTooLarge = line (codes "refused FileTooLarge " ∷ name ∷ [])
+refusal name (Refused clause argument) = refused name clause argument
 refusal name NotYet = line (codes "refused NotYet " ∷ name ∷ [])
-refusal name (Refused clause) = line (codes "refused Refused " ∷ name ∷ codes " " ∷ decimal clause ∷ [])
 
 abbrev pub usage : List ℕ
 usage = line (codes "usage: prelink MODE [OPTIONS] [NAME..]" ∷ [])

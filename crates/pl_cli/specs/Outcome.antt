@@ -3,10 +3,12 @@ use Rattle.std.specs.Prelude.{◌≡◌, ◌≢◌, ◌⊎◌, ℕ, Bool, true, 
 use Rattle.pl_base.specs.Streams.{got_after, GotPrefix}
 use Rattle.pl_folder.specs.declared.fault.FolderFault.{FolderFault}
 use Rattle.pl_folder.specs.declared.fault.FolderFault.TheVariants as folder_faults
+use Rattle.pl_object.specs.declared.refusal.Refusal.{Refusal}
+use Rattle.pl_object.specs.declared.refusal.Refusal.TheVariants as refusals
 use Rattle.pl_cli.specs.declared.status.Status.{Status}
 use Rattle.pl_cli.specs.declared.status.Status.TheVariants as statuses
 use Rattle.pl_cli.specs.declared.cause.Cause.{Cause}
-use Rattle.pl_cli.specs.declared.cause.Cause.TheVariants.{NotThere, NotYet}
+use Rattle.pl_cli.specs.declared.cause.Cause.TheVariants.{NotThere, FileTooLarge, Refused}
 use Rattle.pl_cli.specs.declared.stop.Stop.{Stop}
 use Rattle.pl_cli.specs.declared.stop.Stop.TheVariants as stops
 use Rattle.pl_cli.specs.declared.program.Program as program
@@ -29,8 +31,13 @@ Means (Err stop) meant = Stops true meant ⊥ stop
 abbrev pub of_fault : FolderFault → Stop
 of_fault folder_faults.Failed = stops.Failed
 of_fault folder_faults.NotThere = stops.Cause NotThere
-of_fault folder_faults.TooLarge = stops.Cause NotYet
+of_fault folder_faults.TooLarge = stops.Cause FileTooLarge
 of_fault folder_faults.NoMemory = stops.NoMemory
+
+-- what a refusal of the file stops
+abbrev pub of_refusal : Refusal → Stop
+of_refusal (refusals.Clause number argument) = stops.Cause (Refused number argument)
+of_refusal refusals.NoMemory = stops.NoMemory
 
 -- the run ended as the answer says, with the whole of its text
 abbrev pub IsWhole : Bool → Answer → Option (List ℕ) → Option (List ℕ) → Status → Type 0

@@ -1,34 +1,19 @@
 -- What a static program loads: the file bytes and zeros of its PT_LOADs, with 0 at each byte of a link table.
-use Rattle.std.specs.Prelude.{ℕ, ◌+◌, ◌-◌, ◌*◌, min, max, Bool, ◌&&◌, List, ◌∷◌, map, filter, fold, ◌==◌}
+use Rattle.std.specs.Prelude.{ℕ, ◌+◌, ◌-◌, min, max, Bool, ◌&&◌, List, map, fold}
 use Rattle.std.specs.List.{list_any}
 use Rattle.pl_base.specs.Bytes.{part}
 use Rattle.pl_base.specs.Memory.{Memory, Piece, is_within, layered, shown}
 use Rattle.pl_base.specs.Windows.{Window, holds}
-use Rattle.pl_elf.specs.declared.constants.TheConstants.{HEADER_SIZE, SEGMENT_SIZE, SHT_SYMTAB, ADDRESS_LIMIT}
-use Rattle.pl_elf.specs.declared.header.Header.{Header}
+use Rattle.pl_elf.specs.declared.constants.TheConstants.{ADDRESS_LIMIT}
 use Rattle.pl_elf.specs.declared.segment.Segment.{Segment}
-use Rattle.pl_elf.specs.declared.section.Section.{Section}
-use Rattle.pl_elf.specs.Headers.{segments, sections, loads}
+use Rattle.pl_elf.specs.Headers.{loads}
+use Rattle.pl_object.specs.Accepted.{window_of}
+use Rattle.pl_object.specs.declared.object.Object.{Object}
 
--- ---- the link tables of a static program: the ELF header, the program header table and each symbol table
+-- ---- the link tables, as windows of the file
 
-abbrev pub header_window : Window
-header_window = record { at = 0; size = HEADER_SIZE }
-
-abbrev pub segments_window : Header → Window
-segments_window h = record { at = h.phoff; size = SEGMENT_SIZE * h.phnum }
-
-abbrev pub section_window : Section → Window
-section_window s = record { at = s.offset; size = s.size }
-
-abbrev pub is_symbol_table : Section → Bool
-is_symbol_table s = s.kind == SHT_SYMTAB
-
-abbrev pub symbol_windows : List Section → List Window
-symbol_windows ss = map section_window (filter is_symbol_table ss)
-
-abbrev pub table_windows : Header → List Section → List Window
-table_windows h ss = header_window ∷ segments_window h ∷ symbol_windows ss
+abbrev pub table_windows : Object → List Window
+table_windows o = map window_of o.tables
 
 -- ---- memory
 
@@ -68,6 +53,6 @@ pub record Program : Type 0 where
   pub end : ℕ
   pub image : Memory
 
-unfoldable pub program_of : List ℕ → Header → Program
-program_of bytes h = let ss = loads (segments bytes h) in
-    record { entry = h.entry; start = lowest ss; end = highest ss; image = image_of bytes (table_windows h (sections bytes h)) ss }
+unfoldable pub program_of : List ℕ → Object → Program
+program_of bytes o = let ss = loads o.segments in
+    record { entry = o.entry; start = lowest ss; end = highest ss; image = image_of bytes (table_windows o) ss }

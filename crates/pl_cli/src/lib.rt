@@ -16,6 +16,5 @@ mod words;
 mod write;
 mod write_stop;
 
-pub use load::ORIGINAL;
 pub use status::Status;
 pub use top::run;

@@ -1,7 +1,7 @@
 // A static program of a folder by its name.
-ghost use Rattle.std.specs.Prelude.{◌≡◌, ◌≤◌, Ok, IfErr, IfOk, true, map};
+ghost use Rattle.std.specs.Prelude.{◌≡◌, ◌≤◌, ◌<◌, ◌^◌, Ok, IfErr, IfOk, true, map, length};
 ghost use Rattle.pl_base.specs.Counts.{Rose};
-ghost use Rattle.pl_elf.specs.Headers.{HasSections, HasSegments, loads, segments};
+ghost use Rattle.pl_elf.specs.Headers.{loads};
 ghost use Rattle.pl_elf.specs.Clauses.{AreLoads};
 ghost use Rattle.pl_cli.specs.Image as image;
 ghost use Rattle.pl_cli.specs.Load as spec;
@@ -11,48 +11,41 @@ use crate::cause::Cause;
 use crate::program::{Program, load_program};
 use crate::stop::Stop;
 use pl_elf::constants::{PT_DYNAMIC, PT_TLS};
-use pl_elf::{Header, Segment, count_of_kind, read_header, read_segments};
+use pl_elf::segment_of_kind;
 use pl_folder::Folder;
 use pl_io::valid_name;
+use pl_object::{Object, accept};
 use std::alloc::Global;
 
-/// The most bytes that an original file has.
-pub const ORIGINAL: usize = 16_777_216;
-
-/// Whether the file is too long, or has a dynamic table or thread-local storage.
+/// Whether the object is linked when it starts, or has thread-local storage.
 #[tactic(auto, unfolding(crate::specs::Load::is_for_later))]
-fn is_for_later(bytes: &[u8], segments: &[Segment]) -> bool
-    ensures { result ≡ spec.is_for_later bytes.now segments.now }
+fn is_for_later(object: &Object) -> bool
+    ensures { result ≡ spec.is_for_later object.now }
 {
-    bytes.len() > ORIGINAL
-        || count_of_kind(segments, PT_DYNAMIC) > 0
-        || count_of_kind(segments, PT_TLS) > 0
+    let segments = object.segments.as_slice();
+    segment_of_kind(segments, PT_DYNAMIC).is_some() || segment_of_kind(segments, PT_TLS).is_some()
 }
 
 #[tactic(auto, unfolding(crate::specs::Load::static_program))]
-fn static_program(alloc: Global, bytes: Vec<u8>, header: &Header) -> Result<Program, Stop>
-    requires segments { HasSegments bytes.items header.now }
-    requires sections { HasSections bytes.items header.now }
-    requires loads { AreLoads (loads (segments bytes.items header.now)) }
-    ensures value { Means result (spec.static_program bytes.items header.now) }
+fn static_program(alloc: Global, bytes: Vec<u8>, object: &Object) -> Result<Program, Stop>
+    requires { AreLoads (loads object.now.segments) }
+    ensures value { Means result (spec.static_program bytes.items object.now) }
     ensures ascends { IfOk result (λ program. image.ascends 0 (map image.piece_of program.pieces.items) ≡ true) }
 {
-    let segments = read_segments(alloc, &bytes, header)?;
-    if is_for_later(&bytes, &segments) {
+    if is_for_later(object) {
         return Err(Stop::Cause(Cause::NotYet));
     }
-    Ok(load_program(alloc, bytes, header, &segments)?)
+    Ok(load_program(alloc, bytes, object)?)
 }
 
 #[tactic(auto, unfolding(crate::specs::Load::program_in))]
 fn program_in(alloc: Global, bytes: Vec<u8>) -> Result<Program, Stop>
+    requires { length bytes.items < 2 ^ 32 }
     ensures value { Means result (spec.program_in bytes.items) }
     ensures ascends { IfOk result (λ program. image.ascends 0 (map image.piece_of program.pieces.items) ≡ true) }
 {
-    match read_header(&bytes) {
-        Ok(header) => static_program(alloc, bytes, &header),
-        Err(fault) => Err(Stop::Cause(Cause::from(fault))),
-    }
+    let object = accept(alloc, &bytes)?;
+    static_program(alloc, bytes, &object)
 }
 
 /// The static program of a valid name, or the first cause why there is none.

@@ -9,7 +9,8 @@ ghost use Rattle.pl_cli.specs.Static as spec;
 use crate::piece::Piece;
 use crate::tables::clear_tables;
 use pl_base::part;
-use pl_elf::{Header, Segment, loads, read_sections};
+use pl_elf::{Segment, loads};
+use pl_object::Object;
 use std::alloc::{AllocError, Global};
 
 /// Where a program starts, and its pieces in ascending order of addresses, with 0 at each byte of a link table.
@@ -47,37 +48,31 @@ fn load_pieces(alloc: Global, bytes: &[u8], loads: &[Segment]) -> Result<Vec<Pie
 fn load_cleared(
     alloc: Global,
     mut bytes: Vec<u8>,
-    header: &Header,
-    segments: &[Segment],
+    object: &Object,
 ) -> Result<Program, AllocError>
-    requires { elf.HasSections bytes.items header.now }
-    ensures entry { IfOk result (λ program. program.entry ≡ header.now.entry) }
+    ensures entry { IfOk result (λ program. program.entry ≡ object.now.entry) }
     ensures pieces { IfOk result (λ program. map image.piece_of program.pieces.items
-        ≡ spec.loaded_pieces (all_cleared (spec.table_windows header.now (elf.sections bytes.items header.now)) bytes.items) (elf.loads segments.now)) }
+        ≡ spec.loaded_pieces (all_cleared (spec.table_windows object.now) bytes.items) (elf.loads object.now.segments)) }
 {
-    let sections = read_sections(alloc, &bytes, header)?;
-    let loads = loads(alloc, segments)?;
-    clear_tables(&mut bytes, header, &sections);
+    let loads = loads(alloc, object.segments.as_slice())?;
+    clear_tables(&mut bytes, object.tables.as_slice());
     Ok(Program {
-        entry: header.entry,
+        entry: object.entry,
         pieces: load_pieces(alloc, &bytes, &loads)?,
     })
 }
 
-/// Loads a static program of its file and its segments.
+/// Loads a static program of its file and the object that it is.
 #[tactic(auto, using(crate::proofs::ProgramLemmas::program_loaded, crate::proofs::LoadedLemmas::pieces_ascend))]
 pub fn load_program(
     alloc: Global,
     bytes: Vec<u8>,
-    header: &Header,
-    segments: &[Segment],
+    object: &Object,
 ) -> Result<Program, AllocError>
-    requires sections { elf.HasSections bytes.items header.now }
-    requires loads { AreLoads (elf.loads segments.now) }
-    requires segments { segments.now ≡ elf.segments bytes.items header.now }
-    ensures program { IfOk result (λ program. image.program program ≡ spec.program_of bytes.items header.now) }
+    requires { AreLoads (elf.loads object.now.segments) }
+    ensures program { IfOk result (λ program. image.program program ≡ spec.program_of bytes.items object.now) }
     ensures ascends { IfOk result (λ program. image.ascends 0 (map image.piece_of program.pieces.items) ≡ true) }
 {
-    let program = load_cleared(alloc, bytes, header, segments)?;
+    let program = load_cleared(alloc, bytes, object)?;
     Ok(program)
 }

@@ -2,6 +2,7 @@ ghost use Rattle.std.specs.Prelude.{◌≡◌};
 
 use crate::cause::Cause;
 use pl_folder::FolderFault;
+use pl_object::Refusal;
 use std::alloc::AllocError;
 
 /// Why a load stopped.
@@ -34,8 +35,24 @@ impl From<FolderFault> for Stop {
         match fault {
             FolderFault::Failed => Stop::Failed,
             FolderFault::NotThere => Stop::Cause(Cause::NotThere),
-            FolderFault::TooLarge => Stop::Cause(Cause::NotYet),
+            FolderFault::TooLarge => Stop::Cause(Cause::FileTooLarge),
             FolderFault::NoMemory => Stop::NoMemory,
+        }
+    }
+}
+
+impl From<Refusal> for Stop {
+    ghost use Rattle.pl_cli.specs.Outcome.{of_refusal};
+
+    ghost from_gives = { λ refusal stop. stop ≡ of_refusal refusal };
+
+    fn from(refusal: Refusal) -> Stop {
+        match refusal {
+            Refusal::Clause { number, argument } => Stop::Cause(Cause::Refused {
+                clause: number,
+                argument,
+            }),
+            Refusal::NoMemory => Stop::NoMemory,
         }
     }
 }

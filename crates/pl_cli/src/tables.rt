@@ -1,12 +1,9 @@
-// The link tables of a static program, cleared in a copy of its file.
-ghost use Rattle.std.specs.Prelude.{◌≡◌, ◌≤◌, ◌<◌, ◌+◌, ◌^◌, length};
-ghost use Rattle.pl_base.specs.Windows.{Window};
-ghost use Rattle.pl_elf.specs.Headers.{sections};
+// The link tables of a file, cleared in a copy of it.
+ghost use Rattle.std.specs.Prelude.{◌≡◌, map};
+ghost use Rattle.pl_object.specs.Accepted.{window_of};
 ghost use Rattle.pl_cli.specs.Cleared as spec;
-ghost use Rattle.pl_cli.specs.Static.{symbol_windows, table_windows};
 
-use pl_elf::constants::{HEADER_SIZE, SEGMENT_SIZE, SHT_SYMTAB};
-use pl_elf::{Header, Section};
+use pl_elf::Range;
 
 /// Writes zeros over size bytes from an offset on, as far as there are bytes.
 #[tactic(auto, unfolding(crate::specs::Cleared::cleared))]
@@ -20,33 +17,18 @@ fn clear(bytes: &mut [u8], at: u64, size: u64)
     }
 }
 
-fn clear_symbol_table(bytes: &mut [u8], section: &Section)
-    ensures { bytes.new ≡ spec.symbols_cleared section.now bytes.old }
+fn clear_table(bytes: &mut [u8], table: &Range)
+    ensures { bytes.new ≡ spec.cleared (window_of table.now) bytes.old }
 {
-    if section.kind == SHT_SYMTAB {
-        clear(bytes, section.offset, section.size);
-    }
+    clear(bytes, table.start, table.end.saturating_sub(table.start));
 }
 
-/// Writes zeros over each symbol table.
-fn clear_symbols(bytes: &mut [u8], sections: &[Section])
-    ensures { bytes.new ≡ spec.all_cleared (symbol_windows sections.now) bytes.old }
-{
-    for section in sections {
-        clear_symbol_table(bytes, section);
-    }
-}
-
-/// Writes zeros over the ELF header, the program header table and each symbol table.
+/// Writes zeros over each table.
 #[tactic(auto, unfolding(crate::specs::Cleared::all_cleared))]
-pub fn clear_tables(bytes: &mut [u8], header: &Header, sections: &[Section])
-    ensures { bytes.new ≡ spec.all_cleared (table_windows header.now sections.now) bytes.old }
+pub fn clear_tables(bytes: &mut [u8], tables: &[Range])
+    ensures { bytes.new ≡ spec.all_cleared (map window_of tables.now) bytes.old }
 {
-    clear(bytes, 0, HEADER_SIZE as u64);
-    clear(
-        bytes,
-        header.phoff,
-        SEGMENT_SIZE as u64 * u64::from(header.phnum),
-    );
-    clear_symbols(bytes, sections);
+    for table in tables {
+        clear_table(bytes, table);
+    }
 }

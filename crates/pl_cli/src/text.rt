@@ -58,11 +58,23 @@ pub fn head_text(alloc: Global, name: &str, program: &Program) -> Result<String,
     format!(in alloc; "slow\nobject {start:016x} {end:016x} {name}\nentry {entry:016x}\n")
 }
 
-#[tactic(auto, unfolding(crate::specs::Answer::refusal))]
-fn refused_text(alloc: Global, name: &str, clause: u32) -> Result<String, AllocError>
-    ensures { IfOk result (λ text. string_bytes text ≡ spec.refusal name.now (Cause.Refused clause)) }
+/// Whether a refusal by the acceptance clause has an argument: a tag's number or a relocation's kind.
+fn has_argument(clause: u32) -> bool
+    ensures { result ≡ spec.has_argument clause }
 {
-    format!(in alloc; "refused Refused {name} {clause}\n")
+    matches!(clause, 10 | 11 | 23)
+}
+
+/// The line of a refusal by an acceptance clause.
+#[tactic(auto, unfolding(crate::specs::Answer::refused))]
+fn refused(alloc: Global, name: &str, clause: u32, argument: u64) -> Result<String, AllocError>
+    ensures { IfOk result (λ text. string_bytes text ≡ spec.refused name.now clause argument) }
+{
+    if has_argument(clause) {
+        format!(in alloc; "refused Refused {name} {clause} {argument}\n")
+    } else {
+        format!(in alloc; "refused Refused {name} {clause}\n")
+    }
 }
 
 /// The line of a refusal.
@@ -73,7 +85,8 @@ pub fn refusal(alloc: Global, name: &str, cause: Cause) -> Result<String, AllocE
     match cause {
         Cause::BadName => format!(in alloc; "refused BadName\n"),
         Cause::NotThere => format!(in alloc; "refused NotThere {name}\n"),
+        Cause::FileTooLarge => format!(in alloc; "refused FileTooLarge {name}\n"),
+        Cause::Refused { clause, argument } => refused(alloc, name, clause, argument),
         Cause::NotYet => format!(in alloc; "refused NotYet {name}\n"),
-        Cause::Refused(clause) => refused_text(alloc, name, clause),
     }
 }
