@@ -45,11 +45,7 @@ fn load_pieces(alloc: Global, bytes: &[u8], loads: &[Segment]) -> Result<Vec<Pie
 }
 
 /// Loads the segments of a copy of the file that has zeros in its link tables.
-fn load_cleared(
-    alloc: Global,
-    mut bytes: Vec<u8>,
-    object: &Object,
-) -> Result<Program, AllocError>
+fn load_cleared(alloc: Global, mut bytes: Vec<u8>, object: &Object) -> Result<Program, AllocError>
     ensures entry { IfOk result (λ program. program.entry ≡ object.now.entry) }
     ensures pieces { IfOk result (λ program. map image.piece_of program.pieces.items
         ≡ spec.loaded_pieces (all_cleared (spec.table_windows object.now) bytes.items) (elf.loads object.now.segments)) }
@@ -64,11 +60,7 @@ fn load_cleared(
 
 /// Loads a static program of its file and the object that it is.
 #[tactic(auto, using(crate::proofs::ProgramLemmas::program_loaded, crate::proofs::LoadedLemmas::pieces_ascend))]
-pub fn load_program(
-    alloc: Global,
-    bytes: Vec<u8>,
-    object: &Object,
-) -> Result<Program, AllocError>
+pub fn load_program(alloc: Global, bytes: Vec<u8>, object: &Object) -> Result<Program, AllocError>
     requires { AreLoads (elf.loads object.now.segments) }
     ensures program { IfOk result (λ program. image.program program ≡ spec.program_of bytes.items object.now) }
     ensures ascends { IfOk result (λ program. image.ascends 0 (map image.piece_of program.pieces.items) ≡ true) }

@@ -2,6 +2,8 @@
 #![tactic(auto)]
 
 #[cfg(test)]
+mod dynamic_file;
+#[cfg(test)]
 mod static_file;
 #[cfg(test)]
 mod tests;

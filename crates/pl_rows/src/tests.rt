@@ -1,10 +1,13 @@
 // Runs of the top call, row by row.
 ghost use Rattle.std.specs.Prelude.{◌≤◌};
 
+use crate::dynamic_file::{DYNAMIC, RELOCATION, THIRD_SEGMENT, dynamic_file};
 use crate::static_file::{put, put_load, static_file};
-use pl_cli::{ORIGINAL, Status, run};
-use pl_folder::{MemoryFolder, are_files};
+use pl_cli::{Status, run};
+use pl_elf::constants::{ET_DYN, ET_EXEC};
+use pl_folder::{MemoryFolder, STORED, are_files};
 use pl_io::{MemorySink, MemorySource};
+use pl_object::ORIGINAL;
 use std::alloc::Global;
 use std::process::Abort;
 use std::test::Fail;
@@ -64,16 +67,20 @@ fn refuses_by_the_first_cause(rt: HostRuntime) -> Result<(), Fail> {
     put(&mut dynamic, 0x78, &[2]);
     let mut cut = static_file(alloc)?;
     cut.truncate(4255);
+    let mut bare = static_file(alloc)?;
+    put(&mut bare, 0x3c, &[0]);
     let files = vec![in alloc;
         (String::from_str(alloc, "t1")?, vec![in alloc; 0x7fu8]?),
         (String::from_str(alloc, "dynamic")?, dynamic),
         (String::from_str(alloc, "cut")?, cut),
+        (String::from_str(alloc, "bare")?, bare),
     ]?;
     for (name, line) in [
         ("a", "refused NotThere a\n"),
         ("t1", "refused Refused t1 1\n"),
-        ("dynamic", "refused NotYet dynamic\n"),
-        ("cut", "refused NotYet cut\n"),
+        ("dynamic", "refused Refused dynamic 9\n"),
+        ("cut", "refused Refused cut 5\n"),
+        ("bare", "refused Refused bare 8\n"),
         ("a/b", "refused BadName\n"),
         ("a b", "refused BadName\n"),
         (".prelink.cache", "refused BadName\n"),
@@ -160,11 +167,74 @@ fn shows_borders(rt: HostRuntime) -> Result<(), Fail> {
     for (file, want) in [
         (shared, BORDERS),
         (longest, EMPTY_SEGMENT),
-        (longer, b"refused NotYet st\n".as_slice()),
+        (longer, b"refused Refused st 30\n".as_slice()),
     ] {
         let files = vec![in alloc; (String::from_str(alloc, "st")?, file)]?;
         let Ran { status: _, text } = run_words(&rt, &["--load", "st"], &files, &[], &[], 4096)?;
         assert_eq!(rt; text.as_slice(), want);
     }
+    Ok(())
+}
+
+/// The answer to `--load x` where the folder has that file alone.
+fn load_alone(rt: &(impl Abort + AllocGlobal), file: Vec<u8>) -> Result<Vec<u8>, Fail> {
+    let alloc: Global = rt.alloc();
+    let files = vec![in alloc; (String::from_str(alloc, "x")?, file)]?;
+    let Ran { status, text } = run_words(rt, &["--load", "x"], &files, &[], &[], 4096)?;
+    assert_eq!(rt; status, Status::Refused);
+    Ok(text)
+}
+
+const NOT_YET: &[u8] = b"refused NotYet x\n";
+
+#[test]
+fn loads_no_dynamic_object_yet(rt: HostRuntime) -> Result<(), Fail> {
+    let alloc = rt.alloc();
+    let library = dynamic_file(alloc, ET_DYN, 0)?;
+    let program = dynamic_file(alloc, ET_EXEC, 0x40_0000)?;
+    let mut with_storage = dynamic_file(alloc, ET_DYN, 0)?;
+    put(&mut with_storage, THIRD_SEGMENT, &[7]);
+    let mut storage_alone = static_file(alloc)?;
+    put(&mut storage_alone, 0x38, &[3]);
+    put(&mut storage_alone, 0xb0, &[7]);
+    for file in [library, program, with_storage, storage_alone] {
+        assert_eq!(rt; load_alone(&rt, file)?.as_slice(), NOT_YET);
+    }
+    Ok(())
+}
+
+// A word at an offset of the file, and what refuses a program and a library then: a tag that is unknown or stands twice, a relocation of an unknown kind, one of a symbol that is not there and one outside of the memory, a dynamic table that ends within an entry.
+const REFUSALS: [(usize, u64, &str); 7] = [
+    (DYNAMIC, 0x12345, "refused Refused x 10 74565\n"),
+    (
+        DYNAMIC,
+        u64::MAX,
+        "refused Refused x 10 18446744073709551615\n",
+    ),
+    (DYNAMIC, 10, "refused Refused x 11 10\n"),
+    (RELOCATION + 8, 37, "refused Refused x 23 37\n"),
+    (RELOCATION + 8, 0x1_0000_0000, "refused Refused x 23 0\n"),
+    (RELOCATION, 0x1000_0000, "refused Refused x 24\n"),
+    (0x98, 0x88, "refused Refused x 9\n"),
+];
+
+#[test]
+fn refuses_by_the_first_clause(rt: HostRuntime) -> Result<(), Fail> {
+    let alloc = rt.alloc();
+    for (at, word, line) in REFUSALS {
+        for (kind, base) in [(ET_DYN, 0), (ET_EXEC, 0x40_0000)] {
+            let mut file = dynamic_file(alloc, kind, base)?;
+            put(&mut file, at, &word.to_le_bytes());
+            let text = load_alone(&rt, file)?;
+            assert_eq!(rt; text.as_slice(), line.as_bytes(), "at {at}");
+        }
+    }
+    Ok(())
+}
+
+#[test]
+fn refuses_what_a_folder_does_not_give(rt: HostRuntime) -> Result<(), Fail> {
+    let text = load_alone(&rt, vec![in rt.alloc(); 0u8; STORED + 1]?)?;
+    assert_eq!(rt; text.as_slice(), b"refused FileTooLarge x\n".as_slice());
     Ok(())
 }
