@@ -23,6 +23,7 @@ mod tables;
 mod tags;
 #[cfg(test)]
 mod tests;
+mod twins;
 mod window;
 
 pub use acceptance::accept;

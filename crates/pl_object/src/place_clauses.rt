@@ -99,7 +99,7 @@ fn reloc_overlap(alloc: Global, relocs: &[Reloc]) -> Result<bool, AllocError>
     ensures { IfOk result (λ b. b ≡ spec.reloc_overlap relocs.now) }
 {
     let places = places(alloc, relocs)?;
-    Ok(any_share(&places))
+    any_share(alloc, &places)
 }
 
 /// Clause 26.
