@@ -6,5 +6,6 @@ pub mod ReadLaws
 pub mod AcceptedLaws
 pub mod PairLaws
 pub mod SweepLaws
+pub mod CrossingLaws
 pub mod RunLaws
 pub mod TwinLaws

@@ -9,5 +9,6 @@ pub mod PlaceClauses
 pub mod Reads
 pub mod Accepted
 pub mod Sweep
+pub mod Crossing
 pub mod Runs
 pub mod Twins

@@ -3,6 +3,7 @@
 
 mod acceptance;
 pub mod constants;
+mod crossing;
 mod file_part;
 mod headers;
 mod kind;

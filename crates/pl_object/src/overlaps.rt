@@ -1,6 +1,5 @@
 // Windows that share a byte.
 ghost use Rattle.std.specs.Prelude.{◌≡◌, length, IfOk};
-ghost use Rattle.std.specs.List.{list_any};
 ghost use Rattle.std.specs.List.Sorted.{IsNonDecreasingBy, IsPermutation};
 ghost use Rattle.pl_base.specs.Windows as spec;
 ghost use Rattle.pl_object.specs.FilePart.{nothing};
@@ -8,13 +7,6 @@ ghost use Rattle.pl_object.specs.Sweep as walk;
 
 use crate::Window;
 use std::alloc::{AllocError, Global};
-
-/// Whether a window shares a byte with one of the others.
-pub fn meets(others: &[Window], window: &Window) -> bool
-    ensures { result ≡ list_any (spec.share window.now) others.now }
-{
-    others.iter().any(|other| window.shares(other))
-}
 
 fn later(last: Window, window: &Window) -> Window
     ensures { result ≡ walk.later last window.now }
