@@ -1,8 +1,11 @@
 pub mod FilePartLaws
-pub mod OverlapLaws
-pub mod SymbolLaws
 pub mod NameLaws
 pub mod LoadLaws
 pub mod ExtentLaws
 pub mod ReadLaws
 pub mod AcceptedLaws
+pub mod PairLaws
+pub mod SweepLaws
+pub mod CrossingLaws
+pub mod RunLaws
+pub mod TwinLaws

@@ -149,6 +149,7 @@ fn check(
     let symbols = linking.symbols.as_slice();
     let relocs = layout.relocations.as_slice();
     check_symbols(
+        alloc,
         program,
         segments,
         layout.hashes.as_slice(),

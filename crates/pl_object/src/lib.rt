@@ -3,6 +3,7 @@
 
 mod acceptance;
 pub mod constants;
+mod crossing;
 mod file_part;
 mod headers;
 mod kind;
@@ -23,6 +24,7 @@ mod tables;
 mod tags;
 #[cfg(test)]
 mod tests;
+mod twins;
 mod window;
 
 pub use acceptance::accept;

@@ -1,26 +1,48 @@
 // Windows that share a byte.
-ghost use Rattle.std.specs.Prelude.{◌≡◌};
-ghost use Rattle.std.specs.List.{list_any};
+ghost use Rattle.std.specs.Prelude.{◌≡◌, length, IfOk};
+ghost use Rattle.std.specs.List.Sorted.{IsNonDecreasingBy, IsPermutation};
 ghost use Rattle.pl_base.specs.Windows as spec;
+ghost use Rattle.pl_object.specs.FilePart.{nothing};
+ghost use Rattle.pl_object.specs.Sweep as walk;
 
 use crate::Window;
+use std::alloc::{AllocError, Global};
 
-/// Whether a window shares a byte with one of the others.
-pub fn meets(others: &[Window], window: &Window) -> bool
-    ensures { result ≡ list_any (spec.share window.now) others.now }
+fn later(last: Window, window: &Window) -> Window
+    ensures { result ≡ walk.later last window.now }
 {
-    others.iter().any(|other| window.shares(other))
+    if window.size() == 0 { last } else { *window }
 }
 
-/// Whether two of the windows share a byte.
-#[tactic(auto, using(crate::proofs::OverlapLaws::any_share_more, crate::proofs::OverlapLaws::any_share_done))]
-pub fn any_share(windows: &[Window]) -> bool
-    ensures { result ≡ spec.any_share windows.now }
+/// Whether a window shares a byte with the last one before it that has some.
+#[tactic(auto, using(crate::proofs::SweepLaws::sweep_done))]
+fn sweep(windows: &[Window]) -> bool
+    ensures { result ≡ walk.sweep nothing windows.now }
 {
-    for index in 0..windows.len() {
-        if meets(&windows[index + 1..], &windows[index]) {
+    let mut last = Window::new(0, 0);
+    for window in windows {
+        if last.shares(window) {
             return true;
         }
+        last = later(last, window);
     }
     false
+}
+
+/// Puts windows into the order of where they begin.
+fn sort_windows(windows: &mut [Window])
+    ensures same { IsPermutation windows.old windows.new }
+    ensures len { length windows.new ≡ length windows.old }
+    ensures rising { IsNonDecreasingBy (λ w. w.at) windows.new }
+{
+    windows.sort_unstable_by_key(|window| window.at());
+}
+
+/// Whether two of the windows share a byte. They are sorted once: the time grows as `n log n`.
+pub fn any_share(alloc: Global, windows: &[Window]) -> Result<bool, AllocError>
+    ensures { IfOk result (λ b. b ≡ spec.any_share windows.now) }
+{
+    let mut sorted = Vec::from_slice(alloc, windows)?;
+    sort_windows(&mut sorted);
+    Ok(sweep(&sorted))
 }

@@ -6,8 +6,9 @@ ghost use Rattle.pl_object.specs.Refusals.{is_memory};
 ghost use Rattle.pl_object.specs.PlaceClauses as spec;
 
 use crate::constants::{R_X86_64_COPY, R_X86_64_GLOB_DAT, R_X86_64_JUMP_SLOT, RELOC_KINDS};
+use crate::crossing::any_meets;
 use crate::file_part::{file_window, in_file_part};
-use crate::overlaps::{any_share, meets};
+use crate::overlaps::any_share;
 use crate::relocations::{place, places};
 use crate::{Refusal, Reloc, Window};
 use pl_base::end;
@@ -99,19 +100,33 @@ fn reloc_overlap(alloc: Global, relocs: &[Reloc]) -> Result<bool, AllocError>
     ensures { IfOk result (λ b. b ≡ spec.reloc_overlap relocs.now) }
 {
     let places = places(alloc, relocs)?;
-    Ok(any_share(&places))
+    any_share(alloc, &places)
 }
 
-/// Clause 26.
-#[tactic(auto, unfolding(crate::specs::PlaceClauses::reloc_in_tables, crate::specs::PlaceClauses::spots))]
-fn reloc_in_tables(tables: &[Window], segments: &[Segment], relocs: &[Reloc]) -> bool
-    ensures { result ≡ spec.reloc_in_tables tables.now segments.now relocs.now }
+/// The file bytes of the places.
+#[tactic(auto, unfolding(crate::specs::PlaceClauses::spots))]
+fn spots(alloc: Global, segments: &[Segment], relocs: &[Reloc]) -> Result<Vec<Window>, AllocError>
+    ensures { IfOk result (λ v. v.items ≡ spec.spots segments.now relocs.now) }
 {
     relocs
         .iter()
         .map(|reloc| place(reloc))
         .map(|memory| file_window(segments, memory))
-        .any(|spot| meets(tables, &spot))
+        .collect(alloc)
+}
+
+/// Clause 26.
+#[tactic(auto, unfolding(crate::specs::PlaceClauses::reloc_in_tables))]
+fn reloc_in_tables(
+    alloc: Global,
+    tables: &[Window],
+    segments: &[Segment],
+    relocs: &[Reloc],
+) -> Result<bool, AllocError>
+    ensures { IfOk result (λ b. b ≡ spec.reloc_in_tables tables.now segments.now relocs.now) }
+{
+    let spots = spots(alloc, segments, relocs)?;
+    any_meets(alloc, tables, &spots)
 }
 
 #[tactic(auto, unfolding(crate::specs::PlaceClauses::is_odd))]
@@ -170,7 +185,7 @@ fn check_places(
             argument: 0,
         });
     }
-    if reloc_in_tables(tables, segments, relocs) {
+    if reloc_in_tables(alloc, tables, segments, relocs)? {
         return Err(Refusal::Clause {
             number: 26,
             argument: 0,

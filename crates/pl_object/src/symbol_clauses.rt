@@ -1,7 +1,6 @@
 // Acceptance clauses 20 to 22 and 28: how symbols are found. A test is true where the clause refuses the file.
 ghost use Rattle.std.specs.Prelude.{◌≡◌, ◌++◌, ◌<◌, ◌^◌, length, slice_get, OnOk, IfOk};
 ghost use Rattle.std.specs.List.{list_any};
-ghost use Rattle.std.specs.Option.{option_map};
 ghost use Rattle.pl_base.specs.Answers.{Answers};
 ghost use Rattle.pl_hash.specs.Chain.{IsWellFormed};
 ghost use Rattle.pl_object.specs.Refusals.{is_memory};
@@ -11,16 +10,16 @@ use crate::Refusal;
 use crate::constants::PAGE;
 use crate::file_part::loaded;
 use crate::tags::{has_tag, section_range};
+use crate::twins::duplicate_definer;
 use pl_base::Rows;
 use pl_dyn::Dynamic;
 use pl_dyn::constants::{DT_GNU_HASH, DT_HASH};
 use pl_elf::constants::PT_LOAD;
 use pl_elf::{Section, Segment, segment_of_kind};
 use pl_hash::{Table, is_candidate, name_hash, well_formed};
-use pl_sym::constants::{STT_GNU_IFUNC, VER_NDX_GLOBAL};
+use pl_sym::constants::STT_GNU_IFUNC;
 use pl_sym::{Class, Symbol, is_definer};
-use pl_ver::constants::VERSYM_HIDDEN;
-use pl_ver::{Versions, version_of};
+use pl_ver::Versions;
 use std::alloc::{AllocError, Global};
 
 /// Clause 20.
@@ -174,71 +173,6 @@ fn hash_incomplete(tables: &[Table], symbols: &[Symbol]) -> bool
     tables.len() == 0 && any_defines(symbols) || any_incomplete(tables, symbols)
 }
 
-fn is_plain(symbol: &Symbol) -> bool
-    ensures { result ≡ spec.is_plain symbol.now }
-{
-    symbol.version % VERSYM_HIDDEN <= VER_NDX_GLOBAL
-}
-
-fn version_name(versions: &Option<Versions>, word: u16) -> Option<&[u8]>
-    ensures { option_map (λ x. x.now) result ≡ spec.version_name versions.now word }
-{
-    match versions {
-        None => None,
-        Some(versions) => version_of(versions, word),
-    }
-}
-
-fn is_same_name(versions: &Option<Versions>, word: u16, other: u16) -> bool
-    ensures { result ≡ spec.is_same_name (spec.version_name versions.now word) (spec.version_name versions.now other) }
-{
-    let Some(name) = version_name(versions, word) else {
-        return false;
-    };
-    match version_name(versions, other) {
-        None => false,
-        Some(other) => name == other,
-    }
-}
-
-#[tactic(auto, unfolding(crate::specs::SymbolClauses::is_same_version))]
-fn is_same_version(versions: &Option<Versions>, symbol: &Symbol, other: &Symbol) -> bool
-    ensures { result ≡ spec.is_same_version versions.now symbol.now other.now }
-{
-    is_plain(symbol) && is_plain(other) || is_same_name(versions, symbol.version, other.version)
-}
-
-#[tactic(auto, unfolding(crate::specs::SymbolClauses::is_twin))]
-fn is_twin(versions: &Option<Versions>, program: bool, symbol: &Symbol, other: &Symbol) -> bool
-    ensures { result ≡ spec.is_twin versions.now program symbol.now other.now }
-{
-    is_definer(symbol, Class::Other, program)
-        && is_definer(other, Class::Other, program)
-        && symbol.name.as_slice() == other.name.as_slice()
-        && is_same_version(versions, symbol, other)
-}
-
-fn has_twin(versions: &Option<Versions>, program: bool, symbol: &Symbol, others: &[Symbol]) -> bool
-    ensures { result ≡ list_any (spec.is_twin versions.now program symbol.now) others.now }
-{
-    others
-        .iter()
-        .any(|other| is_twin(versions, program, symbol, other))
-}
-
-/// Clause 22.
-#[tactic(auto, using(crate::proofs::SymbolLaws::twins_done))]
-fn duplicate_definer(versions: &Option<Versions>, program: bool, symbols: &[Symbol]) -> bool
-    ensures { result ≡ spec.duplicate_definer versions.now program symbols.now }
-{
-    for index in 0..symbols.len() {
-        if has_twin(versions, program, &symbols[index], &symbols[index + 1..]) {
-            return true;
-        }
-    }
-    false
-}
-
 #[tactic(auto, unfolding(crate::specs::SymbolClauses::is_ifunc))]
 fn is_ifunc(symbol: &Symbol) -> bool
     ensures { result ≡ spec.is_ifunc symbol.now }
@@ -257,6 +191,7 @@ pub fn has_ifunc(symbols: &[Symbol]) -> bool
 /// The first of clauses 20 to 22 that refuses the file.
 #[tactic(auto, unfolding(crate::specs::SymbolClauses::check_symbols))]
 pub fn check_symbols(
+    alloc: Global,
     program: bool,
     segments: &[Segment],
     tables: &[Table],
@@ -264,7 +199,7 @@ pub fn check_symbols(
     symbols: &[Symbol],
 ) -> Result<(), Refusal>
     requires { length symbols.now < 2 ^ 32 }
-    ensures { result ≡ spec.check_symbols program segments.now tables.now versions.now symbols.now }
+    ensures { Answers is_memory result (spec.check_symbols program segments.now tables.now versions.now symbols.now) }
 {
     if base_not_zero(program, segments) {
         return Err(Refusal::Clause {
@@ -278,7 +213,7 @@ pub fn check_symbols(
             argument: 0,
         });
     }
-    if duplicate_definer(versions, program, symbols) {
+    if duplicate_definer(alloc, versions, program, symbols)? {
         return Err(Refusal::Clause {
             number: 22,
             argument: 0,

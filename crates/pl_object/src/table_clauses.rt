@@ -101,7 +101,7 @@ fn tables_overlap(
     ensures { IfOk result (λ b. b ≡ spec.tables_overlap header.now segments.now sections.now dynamic.now.tags) }
 {
     let windows = main_windows(alloc, header, segments, sections, dynamic)?;
-    Ok(any_share(&windows))
+    any_share(alloc, &windows)
 }
 
 /// Clause 12.

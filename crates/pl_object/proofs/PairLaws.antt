@@ -1,0 +1,41 @@
+-- Two rows of a list that meet a test, in whatever order the rows are.
+use Rattle.std.proofs.Common.{◌≡◌, Bool, false, ◌||◌, List, [], ◌∷◌, refl, sym, ◌∙◌, inl, inr}
+use Rattle.std.specs.List.{list_any, IsDistinct, AllByRecursion}
+use Rattle.std.specs.List.Sorted.{IsPermutation}
+use Rattle.std.proofs.lemmas.Bool.{cases_Bool, or_parts, true≢false}
+use Rattle.std.proofs.lemmas.List.Sorted.{IsPermutation-sym}
+use Rattle.std.proofs.lemmas.Map.Keys.{IsDistinct-IsPermutation}
+
+-- two rows, one after the other, meet a test
+abbrev pub any_pair : {X : Type 0} → (X → X → Bool) → List X → Bool
+any_pair p [] = false
+any_pair p (x ∷ xs) = list_any (p x) xs || any_pair p xs
+
+none_of : {X : Type 0} (p : X → Bool) (xs : List X) → list_any p xs ≡ false → AllByRecursion (λ y. p y ≡ false) xs
+none_of p [] e = tt
+none_of p (x ∷ xs) e = let parts = or_parts (p x) (list_any p xs) e in (parts.0, none_of p xs parts.1)
+
+of_none : {X : Type 0} (p : X → Bool) (xs : List X) → AllByRecursion (λ y. p y ≡ false) xs → list_any p xs ≡ false
+of_none p [] h = refl
+of_none p (x ∷ xs) h = rw h.0 (of_none p xs h.1)
+
+distinct : {X : Type 0} (p : X → X → Bool) (xs : List X) → any_pair p xs ≡ false → IsDistinct p xs
+unfolding IsDistinct
+distinct p [] e = tt
+distinct p (x ∷ xs) e = let parts = or_parts (list_any (p x) xs) (any_pair p xs) e in (none_of (p x) xs parts.0, distinct p xs parts.1)
+
+no_pair : {X : Type 0} (p : X → X → Bool) (xs : List X) → IsDistinct p xs → any_pair p xs ≡ false
+unfolding IsDistinct
+no_pair p [] h = refl
+no_pair p (x ∷ xs) h = rw (of_none (p x) xs h.0) (no_pair p xs h.1)
+
+-- the rows in another order
+pub any_pair_permuted : {X : Type 0} (p : X → X → Bool) → ((x y : X) → p x y ≡ p y x) → (xs ys : List X) → IsPermutation xs ys → any_pair p xs ≡ any_pair p ys
+any_pair_permuted p flips xs ys same =
+    elim (cases_Bool (any_pair p xs)) [
+      | inl some ↦ elim (cases_Bool (any_pair p ys)) [
+        | inl also ↦ some ∙ sym also
+        | inr none ↦ absurd (true≢false (sym some ∙ no_pair p xs (IsDistinct-IsPermutation p flips ys xs (IsPermutation-sym xs ys same) (distinct p ys none))))
+      ]
+      | inr none ↦ none ∙ sym (no_pair p ys (IsDistinct-IsPermutation p flips xs ys same (distinct p xs none)))
+    ]

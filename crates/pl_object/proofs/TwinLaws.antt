@@ -1,0 +1,122 @@
+-- Runs of one hash tell whether two symbols are definers of one name and version.
+use Rattle.std.proofs.Common.{◌≡◌, ℕ, Bool, true, false, ◌&&◌, ◌||◌, List, [], ◌∷◌, length, map, Option, Some, None, refl, sym, ap, ◌∙◌, inl, inr, eqb, eq-eqb}
+use Rattle.std.specs.Prelude.{slice_get}
+use Rattle.std.specs.List.{list_any, range_with_len}
+use Rattle.std.specs.List.Sorted.{IsPermutation, IsNonDecreasingBy}
+use Rattle.std.specs.Str.{bytes_eq}
+use Rattle.std.specs.Cmp.{eq_by_cmp_equiv}
+use Rattle.std.specs.Cmp.Lexicographic.{texts_ties, nat_list_cmp_total, bytes_decides}
+use Rattle.std.proofs.lemmas.Bool.{cases_Bool, and_parts, eqb-true}
+use Rattle.pl_sym.specs.declared.symbol.Symbol.{Symbol}
+use Rattle.pl_sym.specs.declared.class.Class.TheVariants.{Other}
+use Rattle.pl_sym.specs.Definers.{is_definer}
+use Rattle.pl_hash.specs.Hash.{gnu}
+use Rattle.pl_ver.specs.declared.versions.Versions.{Versions}
+use Rattle.pl_object.specs.SymbolClauses.{is_plain, version_name, is_same_name, is_same_version, is_twin, duplicate_definer}
+use Rattle.pl_object.specs.declared.twins.Entry.{Entry}
+use Rattle.pl_object.specs.Runs.{any_run}
+use Rattle.pl_object.specs.Twins.{hash_of, entry_of, twins_by, are_twins, key}
+use Rattle.pl_object.proofs.PairLaws.{any_pair}
+use Rattle.pl_object.proofs.RunLaws.{runs_tell, any_pair_map, at_places}
+
+-- ---- either way round
+
+and_flips : (a b : Bool) → (a && b) ≡ (b && a)
+and_flips true true = refl
+and_flips true false = refl
+and_flips false true = refl
+and_flips false false = refl
+
+bytes_flip : (xs ys : List ℕ) → bytes_eq xs ys ≡ bytes_eq ys xs
+bytes_flip xs ys = texts_ties xs ys ∙ (eq_by_cmp_equiv nat_list_cmp_total).symm xs ys ∙ sym (texts_ties ys xs)
+
+number_flips : (x y : ℕ) → eqb x y ≡ eqb y x
+number_flips x y = elim (cases_Bool (eqb x y)) [
+  | inl e ↦ e ∙ sym (eq-eqb y x (sym (eqb-true x y e)))
+  | inr e ↦ elim (cases_Bool (eqb y x)) [
+    | inl f ↦ eq-eqb x y (sym (eqb-true y x f)) ∙ sym f
+    | inr f ↦ e ∙ sym f
+  ]
+]
+
+names_flip : (x y : Option (List ℕ)) → is_same_name x y ≡ is_same_name y x
+names_flip None None = refl
+names_flip None (Some y) = refl
+names_flip (Some x) None = refl
+names_flip (Some x) (Some y) = bytes_flip x y
+
+versions_flip : (versions : Option Versions) (s t : Symbol) → is_same_version versions s t ≡ is_same_version versions t s
+unfolding is_same_version
+versions_flip versions s t = rw (and_flips (is_plain s) (is_plain t), names_flip (version_name versions s.version) (version_name versions t.version)) refl
+
+twin_flips : (versions : Option Versions) (program : Bool) (s t : Symbol) → is_twin versions program s t ≡ is_twin versions program t s
+unfolding is_twin
+twin_flips versions program s t =
+    rw (and_flips (is_definer s Other program) (is_definer t Other program), bytes_flip s.name t.name, versions_flip versions s t) refl
+
+both_flip : (p : Symbol → Symbol → Bool) → ((s t : Symbol) → p s t ≡ p t s) → (x y : Option Symbol) → twins_by p x y ≡ twins_by p y x
+both_flip p flips None None = refl
+both_flip p flips None (Some y) = refl
+both_flip p flips (Some x) None = refl
+both_flip p flips (Some x) (Some y) = flips x y
+
+entries_flip : (versions : Option Versions) (program : Bool) (symbols : List Symbol) (a b : Entry) → are_twins versions program symbols a b ≡ are_twins versions program symbols b a
+entries_flip versions program symbols a b =
+    rw (number_flips a.hash b.hash, both_flip (is_twin versions program) (twin_flips versions program) (slice_get symbols a.index) (slice_get symbols b.index)) refl
+
+-- ---- one hash
+
+same_key : (versions : Option Versions) (program : Bool) (symbols : List Symbol) (a b : Entry) → are_twins versions program symbols a b ≡ true → key a ≡ key b
+same_key versions program symbols a b h = eqb-true a.hash b.hash (and_parts (eqb a.hash b.hash) (twins_by (is_twin versions program) (slice_get symbols a.index) (slice_get symbols b.index)) h).0
+
+-- twins have one name
+one_name : (versions : Option Versions) (program : Bool) (s t : Symbol) → is_twin versions program s t ≡ true → s.name ≡ t.name
+unfolding is_twin
+one_name versions program s t h =
+    let p = and_parts (is_definer s Other program && is_definer t Other program && bytes_eq s.name t.name) (is_same_version versions s t) h in
+    (bytes_decides s.name t.name).0 (and_parts (is_definer s Other program && is_definer t Other program) (bytes_eq s.name t.name) p.0).1
+
+one_hash : (versions : Option Versions) (program : Bool) (x y : Option Symbol) → twins_by (is_twin versions program) x y ≡ true → hash_of x ≡ hash_of y
+one_hash versions program None other h = absurd cc
+one_hash versions program (Some s) None h = absurd cc
+one_hash versions program (Some s) (Some t) h = ap gnu (one_name versions program s t h)
+
+and_of : (a b : Bool) → (b ≡ true → a ≡ true) → (a && b) ≡ b
+and_of a true h = rw (h refl) refl
+and_of true false h = refl
+and_of false false h = refl
+
+-- at entries of symbols the hash adds nothing
+hash_adds : (versions : Option Versions) (program : Bool) (symbols : List Symbol) (i j : ℕ)
+    → are_twins versions program symbols (entry_of symbols i) (entry_of symbols j) ≡ twins_by (is_twin versions program) (slice_get symbols i) (slice_get symbols j)
+hash_adds versions program symbols i j =
+    and_of (eqb (hash_of (slice_get symbols i)) (hash_of (slice_get symbols j))) (twins_by (is_twin versions program) (slice_get symbols i) (slice_get symbols j))
+    (λ h. eq-eqb (hash_of (slice_get symbols i)) (hash_of (slice_get symbols j)) (one_hash versions program (slice_get symbols i) (slice_get symbols j) h))
+
+any_same : {X : Type 0} (p q : X → Bool) (xs : List X) → ((x : X) → p x ≡ q x) → list_any p xs ≡ list_any q xs
+any_same p q [] same = refl
+any_same p q (x ∷ xs) same = rw (same x, any_same p q xs same) refl
+
+pairs_same : {X : Type 0} (p q : X → X → Bool) (xs : List X) → ((x y : X) → p x y ≡ q x y) → any_pair p xs ≡ any_pair q xs
+pairs_same p q [] same = refl
+pairs_same p q (x ∷ xs) same = rw (any_same (p x) (q x) xs (same x), pairs_same p q xs same) refl
+
+duplicate_pair : (versions : Option Versions) (program : Bool) (symbols : List Symbol) → duplicate_definer versions program symbols ≡ any_pair (is_twin versions program) symbols
+unfolding duplicate_definer
+duplicate_pair versions program [] = refl
+duplicate_pair versions program (s ∷ symbols) = ap (λ (b : Bool). list_any (is_twin versions program s) symbols || b) (duplicate_pair versions program symbols)
+
+-- entries in the order of their hashes tell whether a name is defined twice
+pub twins_tell : (versions : Option Versions) (program : Bool) (symbols : List Symbol) (sorted : List Entry)
+    → IsPermutation (map (entry_of symbols) (range_with_len 0 (length symbols))) sorted → IsNonDecreasingBy key sorted
+    → any_run (are_twins versions program symbols) key sorted ≡ duplicate_definer versions program symbols
+twins_tell versions program symbols sorted same up =
+    let p = is_twin versions program in
+    let places = range_with_len 0 (length symbols) in
+    runs_tell (are_twins versions program symbols) key (same_key versions program symbols) (entries_flip versions program symbols) (map (entry_of symbols) places) sorted same up
+    ∙ any_pair_map (are_twins versions program symbols) (entry_of symbols) places
+    ∙ pairs_same (λ (i : ℕ) (j : ℕ). are_twins versions program symbols (entry_of symbols i) (entry_of symbols j)) (λ (i : ℕ) (j : ℕ). twins_by p (slice_get symbols i) (slice_get symbols j)) places (hash_adds versions program symbols)
+    ∙ sym (any_pair_map (twins_by p) (slice_get symbols) places)
+    ∙ ap (any_pair (twins_by p)) (at_places symbols)
+    ∙ any_pair_map (twins_by p) (λ (s : Symbol). Some s) symbols
+    ∙ sym (duplicate_pair versions program symbols)

@@ -1,0 +1,33 @@
+-- Whether a table and a spot share a byte, by one walk over both in the order of where they begin.
+use Rattle.std.specs.Prelude.{Bool, true, false, ◌&&◌, ◌||◌, nat_lt, List, [], ◌∷◌, if◌then◌else◌}
+use Rattle.pl_base.specs.Windows.{Window, end_of}
+use Rattle.pl_object.specs.declared.crossing.Mark.{Mark}
+
+abbrev pub table_mark : Window → Mark
+table_mark w = record { window = w; is_table = true }
+
+abbrev pub spot_mark : Window → Mark
+spot_mark w = record { window = w; is_table = false }
+
+-- of two windows the one whose bytes end later
+unfoldable pub further : Window → Window → Window
+further last w = if nat_lt (end_of last) (end_of w) && nat_lt 0 w.size then w else last
+
+-- a window begins before the end of another, which began before it
+unfoldable pub is_met : Window → Window → Bool
+is_met last w = nat_lt 0 w.size && nat_lt w.at (end_of last)
+
+-- of the table and the spot that end last: the one that is of another kind than a mark, and either of them after the mark
+abbrev pub other : Window → Window → Mark → Window
+other table spot m = if m.is_table then spot else table
+
+abbrev pub table_after : Window → Mark → Window
+table_after table m = if m.is_table then further table m.window else table
+
+abbrev pub spot_after : Window → Mark → Window
+spot_after spot m = if m.is_table then spot else further spot m.window
+
+-- a mark begins before the end of those of the other kind before it
+unfoldable pub cross : Window → Window → List Mark → Bool
+cross table spot [] = false
+cross table spot (m ∷ ms) = is_met (other table spot m) m.window || cross (table_after table m) (spot_after spot m) ms
