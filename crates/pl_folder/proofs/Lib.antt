@@ -1,1 +1,4 @@
 pub mod FileListLemmas
+pub mod FolderLaws
+pub mod NameLemmas
+pub mod TableLemmas

@@ -1,3 +1,5 @@
-pub mod Taken
-pub mod InMemory
+pub mod Calls
+pub mod Entries
 pub mod FileLists
+pub mod InMemory
+pub mod Taken

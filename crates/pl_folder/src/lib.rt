@@ -1,10 +1,13 @@
-//! A flat folder of files: what a call of it gives, and a folder in memory whose calls fail by a script.
+//! A flat folder of files: what its calls give and change, and a folder in memory whose calls fail by a script.
 #![tactic(auto)]
 
 mod fault;
+mod file;
 mod file_list;
+mod file_table;
 mod folder;
 mod memory_folder;
+mod name;
 #[cfg(test)]
 mod tests;
 
