@@ -7,12 +7,12 @@ use Rattle.std.specs.declared.cmp.Ordering.{Ordering}
 use Rattle.std.specs.declared.cmp.Ordering.TheVariants.{Less, Equal, Greater}
 use Rattle.std.specs.Ordering.{nat_cmp, match_ordering}
 use Rattle.std.specs.Cmp.Lexicographic.{slice_cmp, nat_list_cmp_total}
-use Rattle.std.specs.FinMap.{entries, keys, insert, empty, from_entries, entries-insert, len-empty, len-entries}
+use Rattle.std.specs.FinMap.{entries, keys, insert, entries-insert, len-empty, len-entries}
 use Rattle.std.specs.FinMap.Entries.{put, by_order}
 use Rattle.std.specs.BTreeSet.{insert_key}
 use Rattle.std.proofs.lemmas.List.Elements.{All-nil, All-cons, All-tail}
 use Rattle.pl_folder.specs.declared.file.File.{File}
-use Rattle.pl_folder.specs.Entries.{name_bytes, entries_of}
+use Rattle.pl_folder.specs.Entries.{name_bytes}
 use Rattle.pl_folder.proofs.TableLemmas.{Entry, files_in}
 
 no_entries : (es : List Entry) → length es ≡ 0 → es ≡ []

@@ -41,7 +41,9 @@ impl FileTable {
     fn index_of(&self, name: &str) -> Option<usize>
         ensures { result ≡ position (λ file. bytes_eq name.now (name_bytes file.name)) self.now.files.items }
     {
-        self.files.iter().position(|file| name == file.name.as_str())
+        self.files
+            .iter()
+            .position(|file| name == file.name.as_str())
     }
 
     /// The bytes of a name.

@@ -10,11 +10,13 @@ mod memory_folder;
 mod name;
 #[cfg(test)]
 mod tests;
+mod writing;
 
 pub use fault::FolderFault;
 pub use file_list::are_files;
 pub use folder::Folder;
 pub use memory_folder::MemoryFolder;
+pub use writing::{NEW_FILE, replace};
 
 /// The most bytes of a file that a folder gives: 64 MiB.
 pub const STORED: usize = 67_108_864;

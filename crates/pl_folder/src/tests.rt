@@ -1,7 +1,7 @@
 ghost use Rattle.std.specs.Prelude.{◌≡◌, ◌≤◌, length};
 ghost use Rattle.pl_base.specs.Names.{IsNameLength};
 
-use crate::{Folder, FolderFault, MemoryFolder, are_files};
+use crate::{Folder, FolderFault, MemoryFolder, are_files, replace};
 use pl_io::Failed;
 use std::alloc::{AllocError, Global};
 use std::test::Fail;
@@ -64,7 +64,32 @@ fn changes_files(rt: HostRuntime) -> Result<(), Fail> {
     folder.remove("a")?;
     assert!(rt; matches!(folder.take(alloc, "a"), Err(FolderFault::NotThere)));
     assert_eq!(rt; folder.take(alloc, "b")?.as_slice(), b"".as_slice());
-    assert_eq!(rt; folder.take(alloc, "q")?.as_slice(), b"two pieces".as_slice());
+    assert_eq!(rt;
+        folder.take(alloc, "q")?.as_slice(),
+        b"two pieces".as_slice()
+    );
+    Ok(())
+}
+
+#[test]
+fn replaces_files_whole(rt: HostRuntime) -> Result<(), Fail> {
+    let alloc = rt.alloc();
+    let files = [
+        file(alloc, "q", b"old")?,
+        file(alloc, ".prelink.new.0", b"left")?,
+    ];
+    assert!(rt; are_files(&files));
+    let mut folder = MemoryFolder::new(alloc, &files, vec![in alloc; 4u64]?, 100)?;
+    assert_eq!(rt;
+        replace(alloc, &mut folder, "q", b"new"),
+        Err(FolderFault::Failed)
+    );
+    replace(alloc, &mut folder, "r", b"newer")?;
+    for (name, bytes) in [("q", b"new".as_slice()), ("r", b"newer".as_slice())] {
+        assert!(rt; !name.is_empty() && name.len() <= 255);
+        assert_eq!(rt; folder.take(alloc, name)?.as_slice(), bytes, "{name}");
+    }
+    assert_eq!(rt; folder.names(alloc)?.len(), 2);
     Ok(())
 }
 

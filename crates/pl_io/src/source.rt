@@ -28,11 +28,7 @@ const PIECE: usize = 4096;
 /// Reads all bytes of a source to its end, where they are at most `most`. It takes at most `most + 1` bytes.
 ///
 /// `TooLarge` comes where the source has more than `most` bytes left, and `Failed` only where its count of faults rose.
-pub fn read_all<S: Source>(
-    alloc: Global,
-    source: &mut S,
-    most: usize,
-) -> Result<Vec<u8>, ReadFault>
+pub fn read_all<S: Source>(alloc: Global, source: &mut S, most: usize) -> Result<Vec<u8>, ReadFault>
     ensures bytes { IfOk result (λ bytes. is_some (S.left source.old) ≡ true → S.left source.old ≡ Some bytes.items) }
     ensures end { OnOk result (is_some (S.left source.old) ≡ true → S.left source.new ≡ Some []) }
     ensures most { IfOk result (λ bytes. length bytes.items ≤ most) }

@@ -45,7 +45,11 @@ fn reads_all_or_says_why_not(rt: HostRuntime) -> Result<(), Fail> {
         let bytes = vec![in alloc; 7u8; len]?;
         let mut source = MemorySource::new(bytes, vec![in alloc; fails]?);
         let read = read_all(alloc, &mut source, most);
-        assert_eq!(rt; read.map(|bytes| bytes.len()), answer, "{len} {fails} {most}");
+        assert_eq!(rt;
+            read.map(|bytes| bytes.len()),
+            answer,
+            "{len} {fails} {most}"
+        );
     }
     let mut source = StdSource::new(b"hello".as_slice());
     let read = read_all(alloc, &mut source, 5)?;

@@ -1,4 +1,4 @@
-use Rattle.std.proofs.Common.{◌≡◌, ℕ, List, [], sym, ap, ◌∙◌}
+use Rattle.std.proofs.Common.{ℕ, List, [], sym, ap, ◌∙◌}
 use Rattle.std.specs.FinMap.{get, insert}
 use Rattle.pl_base.specs.Files.{Files}
 use Rattle.pl_base.proofs.ResultLaws.{OnOk-map, OnErr-map}

@@ -1,4 +1,4 @@
-use Rattle.std.proofs.Common.{◌≡◌, ℕ, List, [], map, drop, length, sym, ap, subst, ◌∙◌, arith}
+use Rattle.std.proofs.Common.{◌≡◌, List, [], map, drop, sym, ap, subst, ◌∙◌, arith}
 use Rattle.std.proofs.Math.ListN.{drop_of_length-le}
 use Rattle.std.specs.Prelude.{String, string_bytes, string_cmp, All}
 use Rattle.std.specs.declared.alloc.Global.{Global}
@@ -31,9 +31,9 @@ loop-i-preserved c =
     record {
       within = omega (arith, c.loop-i.invariant.within);
       names = ap (λ (ks : List (String Global)). map string_bytes ks) put
-      ∙ name_more files c.loop-i.i c.index.result.now c.loop-i.names.keys c.in_ok-name.name c.loop-i-test.true c.loop-i.invariant.within
-      (c.in_ok-name.ensures.ok ∙ c.as_str.ensures.value ∙ ap (λ (file : File). name_bytes file.name) c.index.ensures)
-      c.loop-i.invariant.names;
+          ∙ name_more files c.loop-i.i c.index.result.now c.loop-i.names.keys c.in_ok-name.name c.loop-i-test.true c.loop-i.invariant.within
+          (c.in_ok-name.ensures.ok ∙ c.as_str.ensures.value ∙ ap (λ (file : File). name_bytes file.name) c.index.ensures)
+          c.loop-i.invariant.names;
       lengths = subst (λ (ks : List (String Global)). All named ks) (sym put)
-      (All-put named string_cmp c.loop-i.names.keys c.in_ok-name.name c.loop-i.invariant.lengths (subst IsNameLength (sym c.in_ok-name.ensures.ok) c.as_str.ensures.length));
+          (All-put named string_cmp c.loop-i.names.keys c.in_ok-name.name c.loop-i.invariant.lengths (subst IsNameLength (sym c.in_ok-name.ensures.ok) c.as_str.ensures.length));
     }
