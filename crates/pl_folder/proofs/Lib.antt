@@ -1,1 +1,5 @@
 pub mod FileListLemmas
+pub mod FolderLaws
+pub mod NameLemmas
+pub mod ReplaceLemmas
+pub mod TableLemmas

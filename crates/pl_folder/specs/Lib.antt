@@ -1,3 +1,6 @@
-pub mod Taken
-pub mod InMemory
+pub mod Calls
+pub mod Entries
 pub mod FileLists
+pub mod InMemory
+pub mod Replaced
+pub mod Taken

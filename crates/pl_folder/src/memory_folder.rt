@@ -1,49 +1,24 @@
-ghost use Rattle.std.specs.Prelude.{◌≡◌, ◌≤◌, length, not, is_ok, true, false, Ok, IfOk, IfErr, OnOk, OnErr};
-ghost use Rattle.std.specs.Option.{option_copied};
-ghost use Rattle.std.specs.FinMap.{get};
+ghost use Rattle.std.specs.Prelude.{◌≡◌, ◌≤◌, length, map, not, is_ok, true, false, All, string_bytes, Ok, IfOk, IfErr, OnOk, OnErr};
+ghost use Rattle.std.specs.FinMap.{contains_key, keys, remove};
 ghost use Rattle.pl_base.specs.Counts.{Rose};
 ghost use Rattle.pl_base.specs.Files.{files_of};
-ghost use Rattle.pl_io.specs.Scripts.{IsAfterCall};
+ghost use Rattle.pl_base.specs.Names.{IsNameLength};
+ghost use Rattle.pl_folder.specs.Calls.{LeavesPrefix, Stops, appended, created, renamed};
 ghost use Rattle.pl_folder.specs.FileLists.{are_files};
-ghost use Rattle.pl_folder.specs.InMemory.{call_fails, folder_files, folder_script, most_calls, taken_next};
+ghost use Rattle.pl_folder.specs.InMemory.{IsCounted, call_fails, folder_files, folder_script, most_calls, taken_next};
 ghost use Rattle.pl_folder.specs.Taken.{Explains, taken};
 
+use crate::file_table::FileTable;
 use crate::{Folder, FolderFault, STORED};
 use pl_io::{Failed, NoMemory, Script};
-use std::alloc::{AllocError, Global};
-use std::collections::BTreeMap;
+use std::alloc::Global;
 
 /// A folder in memory, which tells its files.
 #[derive(Drop)]
 pub struct MemoryFolder {
-    files: BTreeMap<String, Vec<u8>>,
+    files: FileTable,
     script: Script,
     calls: u32,
-}
-
-fn copies_of(
-    alloc: Global,
-    files: &[(String, Vec<u8>)],
-) -> Result<BTreeMap<String, Vec<u8>>, AllocError>
-    requires { are_files files.now ≡ true }
-    ensures { IfOk result (λ copies. files_of copies.entries ≡ files_of files.now) }
-{
-    let mut copies = BTreeMap::new(alloc);
-    for file in files {
-        let name = String::from_str(alloc, file.0.as_str())?;
-        let bytes = Vec::from_slice(alloc, file.1.as_slice())?;
-        copies.insert(name, bytes)?;
-    }
-    Ok(copies)
-}
-
-fn look_up<'a>(files: &'a BTreeMap<String, Vec<u8>>, name: &str) -> Option<&'a [u8]>
-    ensures { option_copied result ≡ get (files_of files.now.entries) name.now }
-{
-    match files.get(name) {
-        None => None,
-        Some(bytes) => Some(bytes.as_slice()),
-    }
 }
 
 impl MemoryFolder {
@@ -65,7 +40,7 @@ impl MemoryFolder {
         ensures calls { IfOk result (λ folder. most_calls folder ≡ calls) }
     {
         Ok(MemoryFolder {
-            files: copies_of(alloc, files)?,
+            files: FileTable::copies_of(alloc, files)?,
             script: Script::new(fail_at),
             calls,
         })
@@ -74,12 +49,10 @@ impl MemoryFolder {
     // Counts a call.
     fn call(&mut self) -> Result<(), Failed>
         ensures fails { is_ok result ≡ not (call_fails self.old) }
-        ensures call { IsAfterCall (folder_script self.old) (folder_script self.new) }
-        ensures quiet { OnOk result ((folder_script self.new).faults ≡ (folder_script self.old).faults) }
+        ensures call { IsCounted self.old self.new }
         ensures failed { OnErr result (Rose (folder_script self.old).faults (folder_script self.new).faults) }
         ensures counts { (folder_script self.old).faults ≤ (folder_script self.new).faults }
-        ensures files { self.new.files.entries ≡ self.old.files.entries }
-        ensures most { most_calls self.new ≡ most_calls self.old }
+        ensures files { self.new.files ≡ self.old.files }
     {
         let is_past = self.script.calls >= u64::from(self.calls);
         self.script.call()?;
@@ -90,6 +63,7 @@ impl MemoryFolder {
     }
 }
 
+/// Each call fails exactly where the script says so, or there were as many calls as the folder answers, and then changes nothing. At every other answer the count of faults stands still.
 impl Folder for MemoryFolder {
     ghost tells_files = { λ _. true };
 
@@ -97,26 +71,114 @@ impl Folder for MemoryFolder {
 
     ghost faults = { λ folder. (folder_script folder).faults };
 
-    /// Fails exactly where the script says so, or there were as many calls as the folder answers. At every other answer the count of faults stands still.
+    fn names(&mut self, alloc: Global) -> Result<Vec<String>, FolderFault>
+        ensures names { IfOk result (λ names. map string_bytes names.items ≡ keys (folder_files self.old)) }
+        ensures lengths { IfOk result (λ names. All (λ name. IsNameLength (string_bytes name)) names.items) }
+        ensures fault { IfErr result (Stops (Rose (folder_script self.old).faults (folder_script self.new).faults)) }
+        ensures same { folder_files self.new ≡ folder_files self.old }
+        ensures counts { (folder_script self.old).faults ≤ (folder_script self.new).faults }
+        ensures scripted_ok { OnOk result (call_fails self.old ≡ false) }
+        ensures scripted { IfErr result (Stops (call_fails self.old ≡ true)) }
+        ensures call { IsCounted self.old self.new }
+    {
+        self.call()?;
+        Ok(self.files.names(alloc)?)
+    }
+
     fn take(&mut self, alloc: Global, name: &str) -> Result<Vec<u8>, FolderFault>
         ensures bytes { IfOk result (λ bytes. taken (folder_files self.old) name.now ≡ Ok bytes.items) }
         ensures stored { IfOk result (λ bytes. length bytes.items ≤ STORED) }
         ensures fault { IfErr result (Explains true (taken (folder_files self.old) name.now) (Rose (folder_script self.old).faults (folder_script self.new).faults)) }
         ensures same { folder_files self.new ≡ folder_files self.old }
-        ensures quiet { call_fails self.old ≡ false → (folder_script self.new).faults ≡ (folder_script self.old).faults }
         ensures counts { (folder_script self.old).faults ≤ (folder_script self.new).faults }
         ensures scripted_ok { IfOk result (λ bytes. taken_next self.old name.now ≡ Ok bytes.items) }
         ensures scripted { IfErr result (Explains true (taken_next self.old name.now) (call_fails self.old ≡ true)) }
-        ensures call { IsAfterCall (folder_script self.old) (folder_script self.new) }
-        ensures most { most_calls self.new ≡ most_calls self.old }
+        ensures call { IsCounted self.old self.new }
     {
         self.call()?;
-        let Some(bytes) = look_up(&self.files, name) else {
+        let Some(bytes) = self.files.look_up(name) else {
             return Err(FolderFault::NotThere);
         };
         if bytes.len() > STORED {
             return Err(FolderFault::TooLarge);
         }
         Ok(Vec::from_slice(alloc, bytes)?)
+    }
+
+    fn create(&mut self, alloc: Global, name: &str) -> Result<(), FolderFault>
+        requires { IsNameLength name.now }
+        ensures ok { OnOk result (folder_files self.new ≡ created (folder_files self.old) name.now) }
+        ensures same { OnErr result (folder_files self.new ≡ folder_files self.old) }
+        ensures fault { IfErr result (Stops (Rose (folder_script self.old).faults (folder_script self.new).faults)) }
+        ensures counts { (folder_script self.old).faults ≤ (folder_script self.new).faults }
+        ensures scripted_ok { OnOk result (call_fails self.old ≡ false) }
+        ensures scripted { IfErr result (Stops (call_fails self.old ≡ true)) }
+        ensures call { IsCounted self.old self.new }
+    {
+        self.call()?;
+        Ok(self.files.create(alloc, name)?)
+    }
+
+    fn append(&mut self, _alloc: Global, name: &str, bytes: &[u8]) -> Result<(), FolderFault>
+        requires { contains_key (folder_files self.old) name.now ≡ true }
+        ensures ok { OnOk result (folder_files self.new ≡ appended (folder_files self.old) name.now bytes.now) }
+        ensures err { IfErr result (LeavesPrefix (folder_files self.old) name.now bytes.now (folder_files self.new)) }
+        ensures same { OnErr result (folder_files self.new ≡ folder_files self.old) }
+        ensures fault { IfErr result (Stops (Rose (folder_script self.old).faults (folder_script self.new).faults)) }
+        ensures counts { (folder_script self.old).faults ≤ (folder_script self.new).faults }
+        ensures scripted_ok { OnOk result (call_fails self.old ≡ false) }
+        ensures scripted { IfErr result (Stops (call_fails self.old ≡ true)) }
+        ensures call { IsCounted self.old self.new }
+    {
+        self.call()?;
+        Ok(self.files.append(name, bytes)?)
+    }
+
+    fn firm(&mut self, _name: &str) -> Result<(), Failed>
+        ensures failed { OnErr result (Rose (folder_script self.old).faults (folder_script self.new).faults) }
+        ensures same { folder_files self.new ≡ folder_files self.old }
+        ensures counts { (folder_script self.old).faults ≤ (folder_script self.new).faults }
+        ensures scripted { is_ok result ≡ not (call_fails self.old) }
+        ensures call { IsCounted self.old self.new }
+    {
+        self.call()
+    }
+
+    fn rename(&mut self, from: &str, to: &str) -> Result<(), Failed>
+        requires there { contains_key (folder_files self.old) from.now ≡ true }
+        requires to_length { IsNameLength to.now }
+        ensures ok { OnOk result (folder_files self.new ≡ renamed (folder_files self.old) from.now to.now) }
+        ensures same { OnErr result (folder_files self.new ≡ folder_files self.old) }
+        ensures failed { OnErr result (Rose (folder_script self.old).faults (folder_script self.new).faults) }
+        ensures counts { (folder_script self.old).faults ≤ (folder_script self.new).faults }
+        ensures scripted { is_ok result ≡ not (call_fails self.old) }
+        ensures call { IsCounted self.old self.new }
+    {
+        self.call()?;
+        self.files.rename(from, to);
+        Ok(())
+    }
+
+    fn remove(&mut self, name: &str) -> Result<(), Failed>
+        ensures ok { OnOk result (folder_files self.new ≡ remove (folder_files self.old) name.now) }
+        ensures same { OnErr result (folder_files self.new ≡ folder_files self.old) }
+        ensures failed { OnErr result (Rose (folder_script self.old).faults (folder_script self.new).faults) }
+        ensures counts { (folder_script self.old).faults ≤ (folder_script self.new).faults }
+        ensures scripted { is_ok result ≡ not (call_fails self.old) }
+        ensures call { IsCounted self.old self.new }
+    {
+        self.call()?;
+        self.files.remove(name);
+        Ok(())
+    }
+
+    fn settle(&mut self) -> Result<(), Failed>
+        ensures failed { OnErr result (Rose (folder_script self.old).faults (folder_script self.new).faults) }
+        ensures same { folder_files self.new ≡ folder_files self.old }
+        ensures counts { (folder_script self.old).faults ≤ (folder_script self.new).faults }
+        ensures scripted { is_ok result ≡ not (call_fails self.old) }
+        ensures call { IsCounted self.old self.new }
+    {
+        self.call()
     }
 }

@@ -18,11 +18,12 @@ fn has_name_bytes(name: &[u8]) -> bool
     name.iter().all(|byte| is_name_byte(*byte))
 }
 
+/// Whether the name is one of the program's own: it begins with `.prelink.`.
 #[tactic(auto, unfolding(pl_base::specs::Names::is_own_name))]
-fn is_own_name(name: &[u8]) -> bool
+pub fn own_name(name: &str) -> bool
     ensures { result ≡ spec.is_own_name name.now }
 {
-    name.starts_with(b".prelink.")
+    name.as_bytes().starts_with(b".prelink.")
 }
 
 #[tactic(auto, unfolding(pl_base::specs::Names::is_dots))]
@@ -41,6 +42,6 @@ pub fn valid_name(name: &str) -> bool
     !bytes.is_empty()
         && bytes.len() <= MAX_NAME
         && has_name_bytes(bytes)
-        && !is_own_name(bytes)
+        && !own_name(name)
         && !is_dots(name)
 }

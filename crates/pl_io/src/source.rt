@@ -1,8 +1,9 @@
-ghost use Rattle.std.specs.Prelude.{◌≡◌, ℕ, ◌≤◌, List, length, Option, is_some, IfOk, OnErr};
+ghost use Rattle.std.specs.Prelude.{◌≡◌, ℕ, ◌≤◌, List, [], length, Option, Some, is_some, true, IfOk, IfErr, OnOk, OnErr};
 ghost use Rattle.pl_base.specs.Counts.{Rose};
-ghost use Rattle.pl_io.specs.Reads.{TookKnown};
+ghost use Rattle.pl_io.specs.Reads.{StopsReading, TookKnown};
 
-use crate::Failed;
+use crate::{Failed, ReadFault};
+use std::alloc::Global;
 
 /// What gives bytes until its end. Whether it tells its bytes is the same before and after each call.
 pub trait Source {
@@ -19,4 +20,33 @@ pub trait Source {
         ensures tells { is_some (left self.new) ≡ is_some (left self.old) }
         ensures failed { OnErr result (Rose (faults self.old) (faults self.new)) }
         ensures counts { faults self.old ≤ faults self.new };
+}
+
+// The most bytes that are read in one call.
+const PIECE: usize = 4096;
+
+/// Reads all bytes of a source to its end, where they are at most `most`. It takes at most `most + 1` bytes.
+///
+/// `TooLarge` comes where the source has more than `most` bytes left, and `Failed` only where its count of faults rose.
+pub fn read_all<S: Source>(alloc: Global, source: &mut S, most: usize) -> Result<Vec<u8>, ReadFault>
+    ensures bytes { IfOk result (λ bytes. is_some (S.left source.old) ≡ true → S.left source.old ≡ Some bytes.items) }
+    ensures end { OnOk result (is_some (S.left source.old) ≡ true → S.left source.new ≡ Some []) }
+    ensures most { IfOk result (λ bytes. length bytes.items ≤ most) }
+    ensures fault { IfErr result (StopsReading (S.left source.old) (S.left source.new) most (Rose (S.faults source.old) (S.faults source.new))) }
+    ensures tells { is_some (S.left source.new) ≡ is_some (S.left source.old) }
+    ensures counts { S.faults source.old ≤ S.faults source.new }
+{
+    let mut bytes = Vec::new(alloc);
+    let mut piece = [0u8; PIECE];
+    loop {
+        let room = most - bytes.len();
+        let n = source.read(&mut piece[..room.min(PIECE - 1) + 1])?;
+        if n == 0 {
+            return Ok(bytes);
+        }
+        if n > room {
+            return Err(ReadFault::TooLarge);
+        }
+        bytes.extend_from_slice(&piece[..n])?;
+    }
 }

@@ -1,5 +1,6 @@
 use crate::{
-    Failed, MemorySink, MemorySource, Sink, Source, StdSink, StdSource, valid_name, write_all,
+    Failed, MemorySink, MemorySource, ReadFault, Sink, Source, StdSink, StdSource, own_name,
+    read_all, valid_name, write_all,
 };
 use std::test::Fail;
 
@@ -23,6 +24,36 @@ fn reads_to_the_end(rt: HostRuntime) -> Result<(), Fail> {
     assert_eq!(rt; source.read(&mut into), Ok(3));
     assert_eq!(rt; source.read(&mut into), Ok(2));
     assert_eq!(rt; source.read(&mut into), Ok(0));
+    Ok(())
+}
+
+#[test]
+fn reads_all_or_says_why_not(rt: HostRuntime) -> Result<(), Fail> {
+    let alloc = rt.alloc();
+    // bytes of the source, the call that fails, the most bytes that may come, the answer
+    let cases = [
+        (5000, 9, 5000, Ok(5000)),
+        (5000, 9, 4999, Err(ReadFault::TooLarge)),
+        (5000, 9, usize::MAX, Ok(5000)),
+        (0, 9, 0, Ok(0)),
+        (1, 9, 0, Err(ReadFault::TooLarge)),
+        (5000, 0, 5000, Err(ReadFault::Failed)),
+        (5000, 2, 5000, Err(ReadFault::Failed)),
+        (5000, 3, 5000, Ok(5000)),
+    ];
+    for (len, fails, most, answer) in cases {
+        let bytes = vec![in alloc; 7u8; len]?;
+        let mut source = MemorySource::new(bytes, vec![in alloc; fails]?);
+        let read = read_all(alloc, &mut source, most);
+        assert_eq!(rt;
+            read.map(|bytes| bytes.len()),
+            answer,
+            "{len} {fails} {most}"
+        );
+    }
+    let mut source = StdSource::new(b"hello".as_slice());
+    let read = read_all(alloc, &mut source, 5)?;
+    assert_eq!(rt; read.as_slice(), b"hello".as_slice());
     Ok(())
 }
 
@@ -67,6 +98,7 @@ fn knows_valid_names(rt: HostRuntime) -> Result<(), Fail> {
     ];
     for (name, is_valid) in names {
         assert_eq!(rt; valid_name(name), is_valid, "{name}");
+        assert_eq!(rt; own_name(name), name.starts_with(".prelink."), "{name}");
     }
     for (len, is_valid) in [(255, true), (256, false)] {
         let name = "n".repeat(alloc, len)?;

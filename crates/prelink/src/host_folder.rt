@@ -1,15 +1,20 @@
-ghost use Rattle.std.specs.Prelude.{◌≡◌, ◌≤◌, length, [], false, IfOk};
+ghost use Rattle.std.specs.Prelude.{◌≡◌, ◌≤◌, length, [], false, string_bytes, All, IfOk};
+ghost use Rattle.pl_base.specs.Counts.{Rose};
 ghost use Rattle.pl_base.specs.Files.{files_of};
+ghost use Rattle.pl_base.specs.Names.{IsNameLength};
+ghost use Rattle.pl_folder.specs.Calls.{Stops};
 ghost use Rattle.pl_folder.specs.declared.TheConstants.{STORED};
 
+use pl_base::MAX_NAME;
 use pl_folder::{Folder, FolderFault, STORED};
+use pl_io::{Failed, own_name, valid_name};
 use std::alloc::Global;
-use std::fs::{self, Files};
-use std::io::{self, Read};
+use std::fs::{self, Files, OpenFile};
+use std::io::{self, Read, Write};
 
 /// The folder that the program runs in, at the trusted edge: it tells no files.
 ///
-/// Its files are the regular files there: a symbolic link, a directory or a device is none of them.
+/// Its files are the regular files there: a symbolic link, a directory or a device is none of them. It lists those whose names are valid or the program's own.
 #[derive(Drop)]
 pub struct HostFolder<'a, R: Files> {
     rt: &'a R,
@@ -23,15 +28,56 @@ impl<'a, R: Files> HostFolder<'a, R> {
     {
         HostFolder { rt, faults: 0 }
     }
+
+    // Counts a fault.
+    fn fail(&mut self) -> Failed
+        ensures rose { Rose self.old.faults self.new.faults }
+        ensures counts { self.old.faults ≤ self.new.faults }
+    {
+        self.faults = self.faults.saturating_add(1);
+        Failed
+    }
+
+    // What an error means for a call that takes memory: a want of memory, or else a fault, which is counted.
+    fn stop(&mut self, error: io::Error) -> FolderFault
+        ensures fault { Stops (Rose self.old.faults self.new.faults) result }
+        ensures counts { self.old.faults ≤ self.new.faults }
+    {
+        if error.kind() == io::ErrorKind::OutOfMemory {
+            return FolderFault::NoMemory;
+        }
+        FolderFault::from(self.fail())
+    }
 }
 
-// What an error of the system means for a folder: a missing file, a want of memory, or else a fault of the folder.
+// What an error of the system means for `take`: a missing file, a want of memory, or else a fault of the folder.
 fn fault_of(error: io::Error) -> FolderFault {
     match error.kind() {
         io::ErrorKind::NotFound => FolderFault::NotThere,
         io::ErrorKind::OutOfMemory => FolderFault::NoMemory,
         _ => FolderFault::Failed,
     }
+}
+
+// Whether the folder lists a file of this name.
+fn is_listed(name: &str) -> bool {
+    !name.is_empty() && name.len() <= MAX_NAME && (valid_name(name) || own_name(name))
+}
+
+// The names of the regular files that the folder lists, ascending.
+fn list_names<R: Files + AllocGlobal + Clone + Drop>(rt: &R) -> io::Result<Vec<String>>
+    ensures { IfOk result (λ names. All (λ name. IsNameLength (string_bytes name)) names.items) }
+{
+    let mut names = Vec::new(rt.alloc());
+    for entry in fs::read_dir(rt, ".")? {
+        let entry = entry?;
+        let name = String::from_str(rt.alloc(), entry.file_name())?;
+        if is_listed(name.as_str()) && entry.file_type()?.is_file() {
+            names.push(name)?;
+        }
+    }
+    names.sort()?;
+    Ok(names)
 }
 
 // The bytes of a file that had this length, and at most one byte more than a file may have.
@@ -61,12 +107,79 @@ fn take_file(rt: &impl Files, alloc: Global, name: &str) -> Result<Vec<u8>, Fold
     Ok(bytes)
 }
 
-impl<R: Files> Folder for HostFolder<'_, R> {
+// Whether the name has a regular file.
+fn is_file(rt: &impl Files, name: &str) -> io::Result<bool> {
+    match fs::symlink_metadata(rt, name) {
+        Ok(metadata) => Ok(metadata.is_file()),
+        Err(error) if error.kind() == io::ErrorKind::NotFound => Ok(false),
+        Err(error) => Err(error),
+    }
+}
+
+// An error where the name has no regular file.
+fn require_file(rt: &impl Files, name: &str) -> io::Result<()> {
+    if is_file(rt, name)? {
+        Ok(())
+    } else {
+        Err(io::Error::from(io::ErrorKind::NotFound))
+    }
+}
+
+// Gives the name an empty file. It is an error where something else has the name, such as a symbolic link.
+fn create_file(rt: &impl Files, name: &str) -> io::Result<()> {
+    if is_file(rt, name)? {
+        fs::File::create(rt, name)?;
+    } else {
+        fs::File::create_new(rt, name)?;
+    }
+    Ok(())
+}
+
+fn open_to_append<R: Files>(rt: &R, name: &str) -> io::Result<R::File> {
+    require_file(rt, name)?;
+    fs::File::options().append(true).open(rt, name)
+}
+
+// Syncs a file, or the folder where the name is `.`.
+fn sync(rt: &impl Files, name: &str) -> io::Result<()> {
+    fs::File::open(rt, name)?.sync_all()
+}
+
+fn sync_file(rt: &impl Files, name: &str) -> io::Result<()> {
+    require_file(rt, name)?;
+    sync(rt, name)
+}
+
+// Gives a file another name. In place of a file it takes over the permission bits of that one, so that a program can still be started.
+fn rename_file(rt: &impl Files, from: &str, to: &str) -> io::Result<()> {
+    require_file(rt, from)?;
+    if is_file(rt, to)? {
+        let replaced = fs::symlink_metadata(rt, to)?;
+        fs::set_permissions(rt, from, replaced.permissions())?;
+    }
+    fs::rename(rt, from, to)
+}
+
+fn remove_file(rt: &impl Files, name: &str) -> io::Result<()> {
+    if is_file(rt, name)? {
+        fs::remove_file(rt, name)?;
+    }
+    Ok(())
+}
+
+impl<R: Files + AllocGlobal + Clone + Drop> Folder for HostFolder<'_, R> {
     ghost tells_files = { λ _. false };
 
     ghost files = { λ _. files_of [] };
 
     ghost faults = { λ folder. folder.faults };
+
+    fn names(&mut self, _alloc: Global) -> Result<Vec<String>, FolderFault> {
+        match list_names(self.rt) {
+            Ok(names) => Ok(names),
+            Err(error) => Err(self.stop(error)),
+        }
+    }
 
     fn take(&mut self, alloc: Global, name: &str) -> Result<Vec<u8>, FolderFault> {
         let taken = take_file(self.rt, alloc, name);
@@ -74,5 +187,48 @@ impl<R: Files> Folder for HostFolder<'_, R> {
             self.faults = self.faults.saturating_add(1);
         }
         taken
+    }
+
+    fn create(&mut self, _alloc: Global, name: &str) -> Result<(), FolderFault> {
+        match create_file(self.rt, name) {
+            Ok(()) => Ok(()),
+            Err(error) => Err(self.stop(error)),
+        }
+    }
+
+    fn append(&mut self, _alloc: Global, name: &str, bytes: &[u8]) -> Result<(), FolderFault> {
+        match open_to_append(self.rt, name) {
+            Ok(mut file) if file.write_all(bytes).is_ok() => Ok(()),
+            Ok(_) => Err(FolderFault::from(self.fail())),
+            Err(error) => Err(self.stop(error)),
+        }
+    }
+
+    fn firm(&mut self, name: &str) -> Result<(), Failed> {
+        match sync_file(self.rt, name) {
+            Ok(()) => Ok(()),
+            Err(_) => Err(self.fail()),
+        }
+    }
+
+    fn rename(&mut self, from: &str, to: &str) -> Result<(), Failed> {
+        match rename_file(self.rt, from, to) {
+            Ok(()) => Ok(()),
+            Err(_) => Err(self.fail()),
+        }
+    }
+
+    fn remove(&mut self, name: &str) -> Result<(), Failed> {
+        match remove_file(self.rt, name) {
+            Ok(()) => Ok(()),
+            Err(_) => Err(self.fail()),
+        }
+    }
+
+    fn settle(&mut self) -> Result<(), Failed> {
+        match sync(self.rt, ".") {
+            Ok(()) => Ok(()),
+            Err(_) => Err(self.fail()),
+        }
     }
 }
