@@ -1,5 +1,5 @@
 -- An undo section that is read is spelled so, and one that is spelled so is read.
-use Rattle.std.proofs.Common.{◌≡◌, ℕ, suc, ◌+◌, ◌-◌, ◌*◌, ◌^◌, ◌<◌, ◌≤◌, Bool, true, false, ◌&&◌, ◌==◌, not, cond, nat_eq, nat_lt, List, [], ◌∷◌, ◌++◌, length, take, drop, Result, Ok, Err, refl, sym, ap, subst, ◌∙◌, append_assoc, arith, eq-eqb, add-zero, take-append-drop, length-append, length-drop, length-take}
+use Rattle.std.proofs.Common.{◌≡◌, ℕ, ◌+◌, ◌-◌, ◌^◌, ◌<◌, ◌≤◌, Bool, true, false, ◌&&◌, ◌==◌, not, nat_eq, nat_lt, List, [], ◌∷◌, ◌++◌, length, take, drop, Result, Ok, Err, refl, sym, ap, subst, ◌∙◌, append_assoc, arith, eq-eqb, take-append-drop, length-append, length-drop, length-take}
 use Rattle.std.specs.List.{starts_with}
 use Rattle.std.specs.Prelude.{IfOk}
 use Rattle.std.proofs.lemmas.Bool.{lt-ltb, le-ltb, ltb-true, ltb-false, eqb-true}
@@ -7,7 +7,7 @@ use Rattle.std.proofs.lemmas.Bool.Decides.{Decides-eqb}
 use Rattle.std.proofs.lemmas.List.{drop-drop, drop_at, take_at}
 use Rattle.std.proofs.lemmas.Slice.Eq.{starts_is}
 use Rattle.pl_base.specs.Answers.{Answers, refuse}
-use Rattle.pl_base.specs.Bytes.{IsBytes, word16, word64, bytes64, part, put}
+use Rattle.pl_base.specs.Bytes.{IsBytes, word64, bytes64, part, put}
 use Rattle.pl_base.proofs.WordLaws.{bytes64_word, length_bytes64, word16_front, word64_below, word64_put}
 use Rattle.pl_elf.specs.Headers.{header}
 use Rattle.pl_elf.specs.declared.header.Header.{Header}
@@ -15,7 +15,7 @@ use Rattle.pl_undo.specs.declared.constants.TheConstants.{UNDO_MAGIC}
 use Rattle.pl_undo.specs.declared.undo.Undo.{Undo}
 use Rattle.pl_undo.specs.declared.fault.UndoFault.{UndoFault}
 use Rattle.pl_undo.specs.declared.fault.UndoFault.TheVariants.{BadUndo}
-use Rattle.pl_undo.specs.Section.{undo_bytes, headers_size, fits_kind, are_words, has_headers, is_undo, IsUndoOf}
+use Rattle.pl_undo.specs.Section.{undo_bytes, headers_size, fits_kind, are_words, has_headers, IsUndoOf}
 use Rattle.pl_undo.specs.Reading.{is_memory, has_front, stored, ends_at, fitting, behind_front, undo_of}
 
 -- ---- steps and tests that led to an answer

@@ -17,7 +17,7 @@ const FRONT: [u8; 48] = [
 /// A header of a type, with one program header and two section headers behind it.
 fn headers(alloc: Global, kind: u16) -> Result<Vec<u8>, AllocError> {
     let mut bytes = vec![in alloc; 0u8; 64 + 56 + 2 * 64]?;
-    bytes[16] = kind as u8;
+    bytes[16..18].copy_from_slice(&kind.to_le_bytes());
     bytes[56] = 1;
     bytes[60] = 2;
     Ok(bytes)

@@ -1,4 +1,4 @@
-use Rattle.std.proofs.Common.{arith, subst, Result, Ok, ◌≡◌}
+use Rattle.std.proofs.Common.{arith, subst, Result}
 use Rattle.pl_base.specs.Answers.{Answers}
 use Rattle.pl_undo.specs.Reading as spec
 use Rattle.pl_undo.specs.declared.fault.UndoFault.{UndoFault}
