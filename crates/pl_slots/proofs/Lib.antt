@@ -1,0 +1,3 @@
+pub mod HoleLaws
+pub mod PlanLaws
+pub mod LowestLaws
