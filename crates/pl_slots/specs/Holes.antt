@@ -29,7 +29,7 @@ holds span align hole = nat_le (round_up hole.start align + span) hole.end
 unfoldable pub lowest : ℕ → ℕ → List Range → Option ℕ
 lowest span align holes = option_map (λ hole. round_up hole.start align) (find (holds span align) holes)
 
--- the size of the greatest hole
+-- the size of the greatest hole, 0 where there is none
 unfoldable pub greatest : List Range → ℕ
 greatest holes = fold (λ most hole. max most (hole.end - hole.start)) 0 holes
 

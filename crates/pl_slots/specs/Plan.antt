@@ -1,5 +1,5 @@
 -- The plan: kept rows first, then the others in their order, each at the least aligned address of a hole.
-use Rattle.std.specs.Prelude.{ℕ, ◌+◌, Bool, true, false, ◌&&◌, nat_le, List, [], ◌∷◌, ◌++◌, Option, Some, None, Result, Ok, Err, fold}
+use Rattle.std.specs.Prelude.{◌≡◌, ◌≤◌, ℕ, ◌+◌, Bool, true, false, ◌&&◌, nat_le, List, [], ◌∷◌, ◌++◌, Option, Some, None, Result, Ok, Err, fold}
 use Rattle.std.specs.List.{find}
 use Rattle.std.specs.Str.{bytes_eq}
 use Rattle.pl_base.specs.Answers.{◌>>=◌}
@@ -69,3 +69,25 @@ next kept region planned want = kept_or_placed planned want (kept_row kept regio
 unfoldable pub plan : List Slot → List Want → Range → Result (List Slot) PlanFault
 plan kept wants region =
     run (next kept region) (record { rows = []; holes = kept_holes kept region wants }) wants >>= λ planned. Ok planned.rows
+
+-- ---- what a plan is known to give
+
+-- the row that a want keeps, whole, or else as many bytes as it wants
+abbrev pub Gets : Option Slot → Want → Slot → Type 0
+Gets (Some row) want slot = slot ≡ row
+Gets None want slot = slot.span ≡ want.span
+
+-- a slot serves a want: it is the want's, no smaller than the want, aligned as the want asks, and in the region
+pub record Serves (kept : List Slot) (region : Range) (want : Want) (slot : Slot) : Type 0 where
+  pub gets : Gets (kept_row kept region want) want slot
+  pub name : slot.name ≡ want.name
+  pub large : want.span ≤ slot.span
+  pub aligned : is_aligned slot.start want.align ≡ true
+  pub within : lies_in region slot ≡ true
+
+-- one slot for each want, in their order
+abbrev pub AllServe : List Slot → Range → List Want → List Slot → Type 0
+AllServe kept region [] [] = Unit {0}
+AllServe kept region (want ∷ wants) (slot ∷ slots) = Serves kept region want slot × AllServe kept region wants slots
+AllServe kept region [] (slot ∷ slots) = ⊥
+AllServe kept region (want ∷ wants) [] = ⊥

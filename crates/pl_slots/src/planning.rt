@@ -1,6 +1,7 @@
-ghost use Rattle.std.specs.Prelude.{◌≡◌, ◌+◌, ◌<◌, ◌≤◌, ◌^◌, Option, IfOk, IfSome, All};
+ghost use Rattle.std.specs.Prelude.{◌≡◌, ◌≢◌, ◌+◌, ◌<◌, ◌≤◌, ◌^◌, true, Option, IfOk, IfSome, All, AllPairs};
 ghost use Rattle.std.specs.Option.{option_map};
 ghost use Rattle.pl_base.specs.Answers.{Answers};
+ghost use Rattle.pl_slots.specs.Apart.{are_apart};
 ghost use Rattle.pl_slots.specs.Plan as spec;
 
 use crate::holes::{greatest, lowest_place, region_holes, without};
@@ -120,16 +121,15 @@ fn next(
     }
 }
 
-/// The slots of all wants, in their order. A want keeps the row of its name where the row is large enough, aligned as the library wants, and in the region; all of the row then. Each other want, in its turn, takes the least aligned address at which it fits in a hole of the region beside the kept rows and the slots placed before. NoSlot comes at the first want that fits in no hole.
 #[tactic(auto, unfolding(crate::specs::Plan::plan))]
-pub fn plan(
+fn all_placed(
     alloc: Global,
     kept: &[Slot],
     wants: &[Want],
     region: Range,
 ) -> Result<Rows<Slot>, PlanFault>
     requires { All (λ want. 0 < want.align) wants.now }
-    ensures exact { Answers spec.is_memory result (spec.plan kept.now wants.now region) }
+    ensures { Answers spec.is_memory result (spec.plan kept.now wants.now region) }
 {
     let holes = Rows::from_vec(kept_holes(alloc, kept, region, wants)?);
     let mut planned = Planned {
@@ -141,4 +141,22 @@ pub fn plan(
     }
     let Planned { rows, holes: _ } = planned;
     Ok(rows)
+}
+
+/// The slots of all wants, in their order; callers hand the wants in ascending by name. A want keeps the row of its name where the row is large enough, aligned as the library wants, and in the region; all of the row then. Each other want, in its turn, takes the least aligned address at which it fits in a hole of the region beside the kept rows and the slots placed before. NoSlot comes at the first want that fits in no hole.
+pub fn plan(
+    alloc: Global,
+    kept: &[Slot],
+    wants: &[Want],
+    region: Range,
+) -> Result<Rows<Slot>, PlanFault>
+    requires { All (λ want. 0 < want.align) wants.now }
+    // Which slots, or which fault.
+    ensures exact { Answers spec.is_memory result (spec.plan kept.now wants.now region) }
+    // Each want's slot is its kept row, or as large as it wants; it is aligned and in the region.
+    ensures serve { IfOk result (λ rows. All (λ want. 0 < want.span) wants.now → spec.AllServe kept.now region wants.now rows) }
+    // No two slots share an address.
+    ensures apart { IfOk result (λ rows. All (λ want. 0 < want.span) wants.now → AllPairs (λ a b. a.name ≢ b.name) wants.now → are_apart kept.now ≡ true → are_apart rows ≡ true) }
+{
+    all_placed(alloc, kept, wants, region)
 }

@@ -14,7 +14,7 @@ pub struct Want {
     /// How many bytes of addresses it takes.
     pub span: u64,
 
-    /// What its address is to be a multiple of.
+    /// What its first address is to be a multiple of, above 0.
     pub align: u64,
 }
 
