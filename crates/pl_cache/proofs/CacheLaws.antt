@@ -20,7 +20,7 @@ use Rattle.pl_cache.specs.declared.cache.Cache.{Cache}
 use Rattle.pl_cache.specs.declared.constants.TheConstants.{MAGIC, MAX_ROWS, PAGE, ADDRESS_END}
 use Rattle.pl_cache.specs.declared.fault.CacheFault.{CacheFault}
 use Rattle.pl_cache.specs.declared.fault.CacheFault.TheVariants.{BadCache, NoMemory}
-use Rattle.pl_cache.specs.Spelling.{cache_bytes, row_bytes, is_row, is_cache, ascend}
+use Rattle.pl_cache.specs.Spelling.{cache_bytes, row_bytes, is_row, is_cache, ascend, IsCacheOf}
 use Rattle.pl_cache.specs.Reading.{number32_at, rows_at, behind_magic, all_rows, fields, checked, read, is_memory, Gives}
 use Rattle.pl_cache.proofs.Fields.{bind_ok, passed, guard_then, ok_is, Takes, Takes-then, number32_takes, number32_again, rows_take, rows_again, RowFits, all_fit}
 
@@ -73,8 +73,10 @@ answers (Ok cache) meant given = given
 answers (Err NoMemory) meant given = tt
 answers (Err BadCache) meant given = given
 
-pub is_found : (bytes : List ℕ) (r : Result Cache CacheFault) → IsBytes bytes → Gives (λ x. x) r (read bytes) → IfOk r (λ cache. (is_cache cache ≡ true) × (bytes ≡ cache_bytes cache))
-is_found bytes (Ok cache) fits given = read_takes bytes cache fits given
+pub is_found : (bytes : List ℕ) (r : Result Cache CacheFault) → IsBytes bytes → Gives (λ x. x) r (read bytes) → IfOk r (IsCacheOf bytes)
+is_found bytes (Ok cache) fits given =
+    let taken = read_takes bytes cache fits given in
+    record { in_bytes = taken.1; is_spelled = taken.0 }
 is_found bytes (Err e) fits given = tt
 
 -- ---- what is spelled
@@ -132,6 +134,12 @@ fields_again cache fits =
 pub read_again : (cache : Cache) → is_cache cache ≡ true → read (cache_bytes cache) ≡ Ok cache
 unfolding read
 read_again cache good = rw (fields_again cache (cache_fits cache good), good) refl
+
+pub is_read : (bytes : List ℕ) (cache : Cache) → IsCacheOf bytes cache → read bytes ≡ Ok cache
+is_read bytes cache of = ap read of.in_bytes ∙ read_again cache of.is_spelled
+
+pub is_one : (bytes : List ℕ) (cache other : Cache) → IsCacheOf bytes cache → IsCacheOf bytes other → cache ≡ other
+is_one bytes cache other one two = ok_is cache other (sym (is_read bytes cache one) ∙ is_read bytes other two)
 
 -- ---- what a writer needs
 

@@ -1,16 +1,14 @@
 -- A field that is read is the field that was written, and what was written is read again.
-use Rattle.std.proofs.Common.{◌≡◌, ℕ, zero, suc, ◌+◌, ◌^◌, ◌<◌, ◌≤◌, Bool, true, false, cond, ltb, List, [], ◌∷◌, ◌++◌, length, get_or, take, drop, Result, Ok, Err, refl, sym, ap, subst, ◌∙◌, append_assoc, arith, inl, inr}
+use Rattle.std.proofs.Common.{◌≡◌, ℕ, zero, suc, ◌+◌, ◌^◌, ◌<◌, ◌≤◌, Bool, true, false, cond, ltb, List, [], ◌∷◌, ◌++◌, length, get_or, take, drop, Result, Ok, Err, refl, sym, ap, subst, ◌∙◌, append_assoc, arith, inl, inr, zero-add}
 use Rattle.std.specs.Prelude.{◌&&◌, nat_lt, nat_le, if◌then◌else◌}
 use Rattle.std.proofs.lemmas.Bool.{ltb-false, le-ltb, ltb-true, leb-true, and_parts}
 use Rattle.std.proofs.lemmas.List.{take_at, drop_at, take-append-drop, length-append, length-take}
 use Rattle.std.specs.List.{flat_map}
 use Rattle.std.proofs.lemmas.List.Concat.{flat_map-cons}
-use Rattle.byteorder.specs.Endian.{little_bytes}
-use Rattle.byteorder.specs.Numbers.{little_number-reads_back}
 use Rattle.pl_base.specs.Answers.{◌>>=◌}
-use Rattle.pl_base.specs.Bytes.{IsBytes, word32, word64, bytes32, bytes64}
+use Rattle.pl_base.specs.Bytes.{IsBytes, word32, word64, bytes32, bytes64, put}
 use Rattle.pl_base.specs.Names.{is_valid_name}
-use Rattle.pl_base.proofs.WordLaws.{is_bytes_drop, bytes32_word, bytes64_word, length_bytes32, length_bytes64, word32_below}
+use Rattle.pl_base.proofs.WordLaws.{is_bytes_drop, bytes32_word, bytes64_word, length_bytes32, length_bytes64, word32_put, word64_put}
 use Rattle.pl_slots.specs.declared.slot.Slot.{Slot}
 use Rattle.pl_cache.specs.declared.fault.CacheFault.{CacheFault}
 use Rattle.pl_cache.specs.declared.fault.CacheFault.TheVariants.{BadCache}
@@ -61,9 +59,13 @@ number32_takes bytes x fits e =
     let front : bytes32 (word32 0 bytes) ≡ take 4 bytes = bytes32_word 0 bytes (omega (arith, long)) fits in
     subst (λ (y : ℕ × List ℕ). Takes bytes (bytes32 y.0) y.1) g.1 (record { parts = rw front (sym (take-append-drop 4 bytes)); rest_fits = is_bytes_drop 4 bytes fits })
 
+put_front : (new rest : List ℕ) → put 0 new (new ++ rest) ≡ new ++ rest
+unfolding put
+put_front new rest = rw (zero-add, drop_at new rest (length new) refl) refl
+
 word32_again : (n : ℕ) (rest : List ℕ) → n < 2 ^ 32 → word32 0 (bytes32 n ++ rest) ≡ n
-unfolding word32 bytes32
-word32_again n rest lt = little_number-reads_back 4 n rest lt
+word32_again n rest lt =
+    sym (ap (word32 0) (put_front (bytes32 n) rest)) ∙ word32_put 0 n (bytes32 n ++ rest) (omega (arith, length-append (bytes32 n) rest, length_bytes32 n)) lt
 
 pub number32_again : (n : ℕ) (rest : List ℕ) → n < 2 ^ 32 → number32_at (bytes32 n ++ rest) ≡ Ok (n, rest)
 unfolding number32_at
@@ -80,8 +82,8 @@ number64_takes bytes x fits e =
     subst (λ (y : ℕ × List ℕ). Takes bytes (bytes64 y.0) y.1) g.1 (record { parts = rw front (sym (take-append-drop 8 bytes)); rest_fits = is_bytes_drop 8 bytes fits })
 
 word64_again : (n : ℕ) (rest : List ℕ) → n < 2 ^ 64 → word64 0 (bytes64 n ++ rest) ≡ n
-unfolding word64 bytes64
-word64_again n rest lt = little_number-reads_back 8 n rest lt
+word64_again n rest lt =
+    sym (ap (word64 0) (put_front (bytes64 n) rest)) ∙ word64_put 0 n (bytes64 n ++ rest) (omega (arith, length-append (bytes64 n) rest, length_bytes64 n)) lt
 
 pub number64_again : (n : ℕ) (rest : List ℕ) → n < 2 ^ 64 → number64_at (bytes64 n ++ rest) ≡ Ok (n, rest)
 unfolding number64_at

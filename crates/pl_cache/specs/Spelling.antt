@@ -1,5 +1,5 @@
 -- What a cache is, and the one spelling of each.
-use Rattle.std.specs.Prelude.{ℕ, ◌+◌, ◌^◌, Bool, true, ◌&&◌, nat_le, nat_lt, List, [], ◌∷◌, ◌++◌, length}
+use Rattle.std.specs.Prelude.{◌≡◌, ℕ, ◌+◌, ◌^◌, Bool, true, ◌&&◌, nat_le, nat_lt, List, [], ◌∷◌, ◌++◌, length}
 use Rattle.std.specs.List.{flat_map, list_all}
 use Rattle.std.specs.Ordering.{nat_cmp, is_lt}
 use Rattle.std.specs.Cmp.Lexicographic.{slice_cmp}
@@ -49,3 +49,9 @@ ascend (slot ∷ slots) = is_followed slot slots && ascend slots
 unfoldable pub is_cache : Cache → Bool
 is_cache cache =
     nat_lt cache.last (2 ^ 32) && nat_le (length cache.rows) MAX_ROWS && list_all is_row cache.rows && ascend cache.rows && are_apart cache.rows
+
+-- ---- the grammar
+
+pub record IsCacheOf (bytes : List ℕ) (cache : Cache) : Type 0 where
+  pub in_bytes : bytes ≡ cache_bytes cache
+  pub is_spelled : is_cache cache ≡ true

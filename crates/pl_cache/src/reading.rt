@@ -1,4 +1,4 @@
-ghost use Rattle.std.specs.Prelude.{◌≡◌, true, if◌then◌else◌, Some, None, Ok, IfOk};
+ghost use Rattle.std.specs.Prelude.{◌≡◌, if◌then◌else◌, Some, None, Ok, IfOk};
 ghost use Rattle.std.specs.Option.{option_map};
 ghost use Rattle.pl_base.specs.Answers.{Answers};
 ghost use Rattle.pl_base.specs.Names.{is_valid_name};
@@ -46,13 +46,7 @@ fn name_text(bytes: &[u8]) -> Option<&str>
 {
     match str::from_utf8(bytes) {
         Err(_) => None,
-        Ok(name) => {
-            if valid_name(name) {
-                Some(name)
-            } else {
-                None
-            }
-        }
+        Ok(name) => { if valid_name(name) { Some(name) } else { None } }
     }
 }
 
@@ -151,13 +145,16 @@ fn read(alloc: Global, bytes: &[u8]) -> Result<Cache, CacheFault>
     }
 }
 
-/// The cache that the bytes spell. BadCache comes exactly where they spell none.
+/// The cache that bytes spell.
+///
+/// BadCache comes exactly where they spell none: the magic `PLCACHE1`, the last stamp and the number of rows in 32 bits each, at most 1024 rows, and nothing behind them; a row is one byte of length, the name, the slot's first address and its span in 64 bits each, and the rows are such that `is_cache` holds. All numbers are little-endian.
 pub fn read_cache(alloc: Global, bytes: &[u8]) -> Result<Cache, CacheFault>
-    // What is read is a cache, spelled so.
-    ensures found { IfOk result (λ c. (spelling.is_cache c ≡ true) × (bytes.now ≡ spelling.cache_bytes c)) }
-    // What is spelled so is read, unless memory runs out: it is the only one, and no other bytes are refused.
-    ensures only { (c : declared.Cache) → spelling.is_cache c ≡ true → bytes.now ≡ spelling.cache_bytes c → Answers spec.is_memory result (Ok c) }
-    // Which answer it is.
+    // What is read is spelled so.
+    ensures found { IfOk result (spelling.IsCacheOf bytes.now) }
+    // What is spelled so is read, unless there is no memory.
+    ensures only { (cache : declared.Cache) → spelling.IsCacheOf bytes.now cache → Answers spec.is_memory result (Ok cache) }
+    // No bytes spell two caches.
+    ensures unique { (cache other : declared.Cache) → spelling.IsCacheOf bytes.now cache → spelling.IsCacheOf bytes.now other → cache ≡ other }
     ensures exact { Answers spec.is_memory result (spec.read bytes.now) }
 {
     read(alloc, bytes)

@@ -1,4 +1,4 @@
-use crate::{Cache, CacheFault, read_cache, write_cache};
+use crate::{Cache, CacheFault, is_cache, read_cache, write_cache};
 use pl_base::Rows;
 use std::test::Fail;
 
@@ -16,6 +16,9 @@ fn one_row(rt: HostRuntime) -> Result<(), Fail> {
     assert_eq!(rt; rows.len(), 1);
     assert_eq!(rt; rows[0].name.as_str(), "liba");
     assert_eq!(rt; (rows[0].start, rows[0].span), (0x30_0000_0000, 0x10_1000));
+    assert!(rt; is_cache(&cache));
+    let bytes = write_cache(alloc, &cache).ok().ok_or("bytes")?;
+    assert_eq!(rt; bytes.as_slice(), ONE_ROW.as_slice());
     Ok(())
 }
 
@@ -27,15 +30,19 @@ fn no_rows(rt: HostRuntime) -> Result<(), Fail> {
         rows: Rows::new(alloc),
     };
     let bytes = write_cache(alloc, &cache).ok().ok_or("bytes")?;
-    assert_eq!(rt; bytes.as_slice(), b"PLCACHE1\x84\x03\0\0\0\0\0\0".as_slice());
+    assert_eq!(rt;
+        bytes.as_slice(),
+        b"PLCACHE1\x84\x03\0\0\0\0\0\0".as_slice()
+    );
     Ok(())
 }
 
 #[test]
 fn refusals(rt: HostRuntime) {
     let alloc = rt.alloc();
-    let cases: [&[u8]; 4] = [
+    let cases: [&[u8]; 5] = [
         b"",
+        b"abc",
         b"PLCACHE2\x84\x03\0\0\0\0\0\0",
         b"PLCACHE1\x84\x03\0\0\0\0\0\0\0",
         &ONE_ROW[..36],
