@@ -1,3 +1,4 @@
 pub mod ChainLaws
 pub mod WholeLaws
 pub mod CandidateLaws
+pub mod MarkLaws

@@ -30,7 +30,7 @@ fn second_bit(hash: u32, shift: u32) -> u32
 
 /// Whether the bloom word lets a hash pass.
 #[tactic(auto, unfolding(crate::specs::Table::admits))]
-fn admits(table: &Table, hash: u32) -> bool
+pub fn admits(table: &Table, hash: u32) -> bool
     requires formed { IsWellFormed table.now }
     ensures { result ≡ part.admits table.now hash }
 {
@@ -43,7 +43,7 @@ fn admits(table: &Table, hash: u32) -> bool
 
 /// Whether a symbol may have a hash.
 #[tactic(auto, unfolding(crate::specs::Table::matches))]
-fn matches(table: &Table, hash: u32, index: u32) -> bool
+pub fn matches(table: &Table, hash: u32, index: u32) -> bool
     requires header { part.HasHeader table.now }
     requires linked { IsLinked table.now index }
     ensures { result ≡ part.matches table.now hash index }

@@ -433,3 +433,23 @@ fn lists_names_of_one_hash(rt: HostRuntime) -> Result<(), Fail> {
     }
     Ok(())
 }
+
+/// What `found` tells of symbols with such hashes.
+fn own(alloc: Global, table: &Table, hashes: &[u32]) -> Result<Vec<bool>, AllocError> {
+    if !well_formed(table) {
+        return Ok(Vec::new(alloc));
+    }
+    found(alloc, table, hashes)
+}
+
+/// Symbol 2 has a hash of the other bucket of `SYSV`, and one that the bloom words of `GNU` refuse.
+#[test]
+fn finds_own_hashes(rt: HostRuntime) -> Result<(), Fail> {
+    let sysv = table(rt.alloc(), false, 4, &SYSV, 32)?;
+    let found = own(rt.alloc(), &sysv, &[0, 5, 4, 8])?;
+    assert_eq!(rt; found.as_slice(), [false, true, false, true].as_slice());
+    let gnu = table(rt.alloc(), true, 4, &GNU, 52)?;
+    let found = own(rt.alloc(), &gnu, &[0, 0x100, 0x105, 0x241])?;
+    assert_eq!(rt; found.as_slice(), [false, true, false, true].as_slice());
+    Ok(())
+}

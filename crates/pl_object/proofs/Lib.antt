@@ -5,6 +5,7 @@ pub mod ExtentLaws
 pub mod ReadLaws
 pub mod AcceptedLaws
 pub mod PairLaws
+pub mod FindingLaws
 pub mod SweepLaws
 pub mod CrossingLaws
 pub mod RunLaws

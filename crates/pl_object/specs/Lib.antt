@@ -8,6 +8,7 @@ pub mod SymbolClauses
 pub mod PlaceClauses
 pub mod Reads
 pub mod Accepted
+pub mod Finding
 pub mod Sweep
 pub mod Crossing
 pub mod Runs

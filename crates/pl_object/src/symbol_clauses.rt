@@ -1,8 +1,10 @@
 // Acceptance clauses 20 to 22 and 28: how symbols are found. A test is true where the clause refuses the file.
-ghost use Rattle.std.specs.Prelude.{◌≡◌, ◌++◌, ◌<◌, ◌^◌, length, slice_get, OnOk, IfOk};
-ghost use Rattle.std.specs.List.{list_any};
+ghost use Rattle.std.specs.Prelude.{◌≡◌, ◌++◌, ◌<◌, ◌^◌, false, length, map, slice_get, slice_index_or, OnOk, IfOk};
+ghost use Rattle.std.specs.List.{list_any, range_with_len};
 ghost use Rattle.pl_base.specs.Answers.{Answers};
+ghost use Rattle.pl_hash.specs.Candidates as candidates;
 ghost use Rattle.pl_hash.specs.Chain.{IsWellFormed};
+ghost use Rattle.pl_object.specs.Finding as finding;
 ghost use Rattle.pl_object.specs.Refusals.{is_memory};
 ghost use Rattle.pl_object.specs.SymbolClauses as spec;
 
@@ -16,7 +18,7 @@ use pl_dyn::Dynamic;
 use pl_dyn::constants::{DT_GNU_HASH, DT_HASH};
 use pl_elf::constants::PT_LOAD;
 use pl_elf::{Section, Segment, segment_of_kind};
-use pl_hash::{Table, is_candidate, name_hash, well_formed};
+use pl_hash::{Table, found, name_hash, well_formed};
 use pl_sym::constants::STT_GNU_IFUNC;
 use pl_sym::{Class, Symbol, is_definer};
 use pl_ver::Versions;
@@ -116,39 +118,51 @@ fn defines(symbol: &Symbol) -> bool
     is_definer(symbol, Class::Jump, false)
 }
 
-fn is_missed(table: &Table, index: usize, symbols: &[Symbol]) -> bool
-    requires formed { IsWellFormed table.now }
-    requires few { index < 2 ^ 32 }
-    ensures { result ≡ spec.is_missed table.now index (slice_get symbols.now index) }
+/// The hashes of the symbols' names that a table goes by.
+fn hashes(alloc: Global, table: &Table, symbols: &[Symbol]) -> Result<Vec<u32>, AllocError>
+    ensures { IfOk result (λ v. v.items ≡ map (λ s. candidates.name_hash table.now s.name) symbols.now) }
+{
+    symbols
+        .iter()
+        .map(|symbol| name_hash(table, symbol.name.as_slice()))
+        .collect(alloc)
+}
+
+fn is_unfound(found: &[bool], index: usize, symbols: &[Symbol]) -> bool
+    requires { length found.now ≡ length symbols.now }
+    ensures { result ≡ finding.is_unfound (slice_index_or found.now index false) (slice_get symbols.now index) }
 {
     match symbols.get(index) {
         None => false,
-        Some(symbol) => {
-            defines(symbol)
-                && !is_candidate(
-                    table,
-                    name_hash(table, symbol.name.as_slice()),
-                    index as u32,
-                )
-        }
+        Some(symbol) => defines(symbol) && !found[index],
     }
 }
 
-#[tactic(auto, unfolding(crate::specs::SymbolClauses::misses_one))]
-fn misses_one(symbols: &[Symbol], table: &Table) -> bool
-    requires formed { IsWellFormed table.now }
-    requires few { length symbols.now < 2 ^ 32 }
-    ensures { result ≡ spec.misses_one symbols.now table.now }
+fn any_unfound(found: &[bool], symbols: &[Symbol]) -> bool
+    requires { length found.now ≡ length symbols.now }
+    ensures { result ≡ list_any (λ index. finding.is_unfound (slice_index_or found.now index false) (slice_get symbols.now index)) (range_with_len 0 (length symbols.now)) }
 {
-    (0..symbols.len()).any(|index| is_missed(table, index, symbols))
+    (0..symbols.len()).any(|index| is_unfound(found, index, symbols))
+}
+
+/// Whether the table's candidates of a definer's own hash lack it.
+fn misses_one(alloc: Global, symbols: &[Symbol], table: &Table) -> Result<bool, AllocError>
+    requires { IsWellFormed table.now }
+    ensures { IfOk result (λ b. b ≡ spec.misses_one symbols.now table.now) }
+{
+    let hashes = hashes(alloc, table, symbols)?;
+    let found = found(alloc, table, &hashes)?;
+    Ok(any_unfound(&found, symbols))
 }
 
 #[tactic(auto, unfolding(crate::specs::SymbolClauses::is_incomplete))]
-fn is_incomplete(symbols: &[Symbol], table: &Table) -> bool
-    requires { length symbols.now < 2 ^ 32 }
-    ensures { result ≡ spec.is_incomplete symbols.now table.now }
+fn is_incomplete(alloc: Global, symbols: &[Symbol], table: &Table) -> Result<bool, AllocError>
+    ensures { IfOk result (λ b. b ≡ spec.is_incomplete symbols.now table.now) }
 {
-    !well_formed(table) || misses_one(symbols, table)
+    if !well_formed(table) {
+        return Ok(true);
+    }
+    misses_one(alloc, symbols, table)
 }
 
 fn any_defines(symbols: &[Symbol]) -> bool
@@ -157,20 +171,26 @@ fn any_defines(symbols: &[Symbol]) -> bool
     symbols.iter().any(|symbol| defines(symbol))
 }
 
-fn any_incomplete(tables: &[Table], symbols: &[Symbol]) -> bool
-    requires { length symbols.now < 2 ^ 32 }
-    ensures { result ≡ list_any (spec.is_incomplete symbols.now) tables.now }
+fn any_incomplete(alloc: Global, tables: &[Table], symbols: &[Symbol]) -> Result<bool, AllocError>
+    ensures { IfOk result (λ b. b ≡ list_any (spec.is_incomplete symbols.now) tables.now) }
 {
-    tables.iter().any(|table| is_incomplete(symbols, table))
+    for table in tables {
+        if is_incomplete(alloc, symbols, table)? {
+            return Ok(true);
+        }
+    }
+    Ok(false)
 }
 
 /// Clause 21.
 #[tactic(auto, unfolding(crate::specs::SymbolClauses::hash_incomplete))]
-fn hash_incomplete(tables: &[Table], symbols: &[Symbol]) -> bool
-    requires { length symbols.now < 2 ^ 32 }
-    ensures { result ≡ spec.hash_incomplete tables.now symbols.now }
+fn hash_incomplete(alloc: Global, tables: &[Table], symbols: &[Symbol]) -> Result<bool, AllocError>
+    ensures { IfOk result (λ b. b ≡ spec.hash_incomplete tables.now symbols.now) }
 {
-    tables.len() == 0 && any_defines(symbols) || any_incomplete(tables, symbols)
+    if tables.len() == 0 && any_defines(symbols) {
+        return Ok(true);
+    }
+    any_incomplete(alloc, tables, symbols)
 }
 
 #[tactic(auto, unfolding(crate::specs::SymbolClauses::is_ifunc))]
@@ -207,7 +227,7 @@ pub fn check_symbols(
             argument: 0,
         });
     }
-    if hash_incomplete(tables, symbols) {
+    if hash_incomplete(alloc, tables, symbols)? {
         return Err(Refusal::Clause {
             number: 21,
             argument: 0,
