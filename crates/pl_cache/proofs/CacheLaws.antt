@@ -1,17 +1,16 @@
 -- The two laws: what is read is spelled so, and what is spelled so is read.
-use Rattle.std.proofs.Common.{◌≡◌, ℕ, zero, suc, ◌+◌, ◌^◌, ◌<◌, ◌≤◌, Bool, true, false, cond, ltb, eqb, List, [], ◌∷◌, ◌++◌, length, take, drop, Result, Ok, Err, refl, sym, ap, subst, ◌∙◌, append_assoc, arith}
+use Rattle.std.proofs.Common.{◌≡◌, ℕ, ◌+◌, ◌^◌, ◌<◌, ◌≤◌, true, false, cond, ltb, eqb, List, [], ◌∷◌, ◌++◌, length, take, drop, Result, Ok, Err, refl, sym, ap, subst, ◌∙◌, append_assoc, arith}
 use Rattle.std.specs.Prelude.{◌&&◌, nat_lt, nat_le, IfOk, All}
 use Rattle.std.specs.Str.{bytes_eq}
 use Rattle.std.specs.List.{flat_map, list_all, AllByRecursion}
 use Rattle.std.specs.Cmp.Lexicographic.{bytes_decides}
-use Rattle.std.proofs.lemmas.Bool.{ltb-false, le-ltb, ltb-true, leb-true, eqb-true, and_parts}
-use Rattle.std.proofs.lemmas.List.{take-append-drop, append-nil, nil_from_length, take_at, drop_at}
+use Rattle.std.proofs.lemmas.Bool.{le-ltb, ltb-true, leb-true, eqb-true, and_parts}
+use Rattle.std.proofs.lemmas.List.{take-append-drop, append-nil, nil_from_length}
 use Rattle.std.proofs.lemmas.List.Elements.{All-from_recursion}
 use Rattle.pl_base.specs.Answers.{◌>>=◌, Answers}
 use Rattle.pl_base.specs.Bytes.{IsBytes, bytes32}
 use Rattle.pl_base.specs.Sums.{is_aligned}
 use Rattle.pl_base.specs.Names.{is_valid_name}
-use Rattle.pl_base.specs.declared.names.TheConstants.{MAX_NAME}
 use Rattle.pl_base.proofs.NameLaws.{valid_length}
 use Rattle.pl_base.proofs.WordLaws.{is_bytes_drop}
 use Rattle.pl_slots.specs.declared.slot.Slot.{Slot}

@@ -1,13 +1,12 @@
 -- A valid name is text.
-use Rattle.std.proofs.Common.{◌≡◌, ℕ, zero, suc, ◌<◌, ◌≤◌, List, [], ◌∷◌, true, false, get_or, arith}
+use Rattle.std.proofs.Common.{◌≡◌, ℕ, zero, suc, List, [], ◌∷◌, true, false, arith}
 use Rattle.std.specs.Prelude.{◌&&◌, not, nat_le, ◌==◌}
 use Rattle.std.specs.List.{list_all}
 use Rattle.std.specs.Str.{IsUtf8, IsAscii}
 use Rattle.std.proofs.lemmas.Str.{IsUtf8-from_ascii}
 use Rattle.std.proofs.lemmas.Bool.{and_parts, leb-true, false_from_ne_true}
 use Rattle.pl_base.specs.declared.names.TheConstants.{FIRST_NAME_BYTE, LAST_NAME_BYTE, SEPARATOR}
-use Rattle.pl_base.specs.Names.{is_valid_name, is_name_byte, is_own_name, is_dots, has_name_length, IsNameLength}
-use Rattle.pl_base.proofs.NameLaws.{valid_length}
+use Rattle.pl_base.specs.Names.{is_valid_name, is_name_byte, is_own_name, is_dots, has_name_length}
 
 name_bytes_ascii : (name : List ℕ) → list_all is_name_byte name ≡ true → IsAscii name
 unfolding is_name_byte

@@ -29,6 +29,7 @@ fn no_rows(rt: HostRuntime) -> Result<(), Fail> {
         last: 900,
         rows: Rows::new(alloc),
     };
+    assert!(rt; is_cache(&cache));
     let bytes = write_cache(alloc, &cache).ok().ok_or("bytes")?;
     assert_eq!(rt;
         bytes.as_slice(),
