@@ -1,5 +1,5 @@
 -- Two rows of a list that meet a test, in whatever order the rows are.
-use Rattle.std.proofs.Common.{◌≡◌, Bool, false, ◌||◌, List, [], ◌∷◌, refl, sym, ◌∙◌, inl, inr}
+use Rattle.std.proofs.Common.{◌≡◌, Bool, true, false, ◌||◌, cond, filter, List, [], ◌∷◌, refl, sym, ap, ◌∙◌, inl, inr}
 use Rattle.std.specs.List.{list_any, IsDistinct, AllByRecursion}
 use Rattle.std.specs.List.Sorted.{IsPermutation}
 use Rattle.std.proofs.lemmas.Bool.{cases_Bool, or_parts, true≢false}
@@ -39,3 +39,28 @@ any_pair_permuted p flips xs ys same =
       ]
       | inr none ↦ none ∙ sym (no_pair p ys (IsDistinct-IsPermutation p flips xs ys same (distinct p xs none)))
     ]
+
+-- ---- rows of which no pair meets the test, left out
+
+none_left_by : {X : Type 0} (p : X → Bool) (d : X → Bool) (x : X) (xs : List X) (b : Bool) → d x ≡ b → ((x : X) → d x ≡ false → p x ≡ false)
+    → list_any p (filter d xs) ≡ list_any p xs → list_any p (cond b (x ∷ filter d xs) (filter d xs)) ≡ (p x || list_any p xs)
+none_left_by p d x xs true e without more = ap (λ (b : Bool). p x || b) more
+none_left_by p d x xs false e without more = more ∙ sym (ap (λ (b : Bool). b || list_any p xs) (without x e))
+
+none_with : {X : Type 0} (p : X → X → Bool) (d : X → Bool) (x : X) (xs : List X) → d x ≡ false → ((x y : X) → d x ≡ false → p x y ≡ false) → list_any (p x) xs ≡ false
+none_with p d x [] e without = refl
+none_with p d x (y ∷ ys) e without = rw (without x y e) (none_with p d x ys e without)
+
+none_left : {X : Type 0} (p : X → Bool) (d : X → Bool) → ((x : X) → d x ≡ false → p x ≡ false) → (xs : List X) → list_any p (filter d xs) ≡ list_any p xs
+none_left p d without [] = refl
+none_left {X} p d without (x ∷ xs) = none_left_by p d x xs (d x) refl without (none_left p d without xs)
+
+pairs_left_by : {X : Type 0} (p : X → X → Bool) (d : X → Bool) (x : X) (xs : List X) (b : Bool) → d x ≡ b → ((x y : X) → d x ≡ false → p x y ≡ false)
+    → list_any (p x) (filter d xs) ≡ list_any (p x) xs → any_pair p (filter d xs) ≡ any_pair p xs → any_pair p (cond b (x ∷ filter d xs) (filter d xs)) ≡ (list_any (p x) xs || any_pair p xs)
+pairs_left_by p d x xs true e without one more = rw (one, more) refl
+pairs_left_by p d x xs false e without one more = more ∙ sym (ap (λ (b : Bool). b || any_pair p xs) (none_with p d x xs e without))
+
+pub any_pair_left : {X : Type 0} (p : X → X → Bool) (d : X → Bool) → ((x y : X) → p x y ≡ p y x) → ((x y : X) → d x ≡ false → p x y ≡ false) → (xs : List X) → any_pair p (filter d xs) ≡ any_pair p xs
+any_pair_left p d flips without [] = refl
+any_pair_left p d flips without (x ∷ xs) =
+    pairs_left_by p d x xs (d x) refl without (none_left (p x) d (λ y e. flips x y ∙ without y x e) xs) (any_pair_left p d flips without xs)

@@ -1,6 +1,6 @@
 -- Runs of one hash tell whether two symbols are definers of one name and version.
 use Rattle.std.proofs.Common.{◌≡◌, ℕ, Bool, true, false, ◌&&◌, ◌||◌, List, [], ◌∷◌, length, map, Option, Some, None, refl, sym, ap, ◌∙◌, inl, inr, eqb, eq-eqb}
-use Rattle.std.specs.Prelude.{slice_get}
+use Rattle.std.specs.Prelude.{slice_get, filter}
 use Rattle.std.specs.List.{list_any, range_with_len}
 use Rattle.std.specs.List.Sorted.{IsPermutation, IsNonDecreasingBy}
 use Rattle.std.specs.Str.{bytes_eq}
@@ -15,8 +15,8 @@ use Rattle.pl_ver.specs.declared.versions.Versions.{Versions}
 use Rattle.pl_object.specs.SymbolClauses.{is_plain, version_name, is_same_name, is_same_version, is_twin, duplicate_definer}
 use Rattle.pl_object.specs.declared.twins.Entry.{Entry}
 use Rattle.pl_object.specs.Runs.{any_run}
-use Rattle.pl_object.specs.Twins.{hash_of, entry_of, twins_by, are_twins, key}
-use Rattle.pl_object.proofs.PairLaws.{any_pair}
+use Rattle.pl_object.specs.Twins.{hash_of, entry_of, defines_by, defines, twins_by, are_twins, key}
+use Rattle.pl_object.proofs.PairLaws.{any_pair, any_pair_left}
 use Rattle.pl_object.proofs.RunLaws.{runs_tell, any_pair_map, at_places}
 
 -- ---- either way round
@@ -106,14 +106,32 @@ unfolding duplicate_definer
 duplicate_pair versions program [] = refl
 duplicate_pair versions program (s ∷ symbols) = ap (λ (b : Bool). list_any (is_twin versions program s) symbols || b) (duplicate_pair versions program symbols)
 
--- entries in the order of their hashes tell whether a name is defined twice
+-- ---- definers alone
+
+and_none : (b : Bool) → (b && false) ≡ false
+and_none true = refl
+and_none false = refl
+
+defines_none : (versions : Option Versions) (program : Bool) (x y : Option Symbol) → defines_by program x ≡ false → twins_by (is_twin versions program) x y ≡ false
+unfolding is_twin
+defines_none versions program None y e = refl
+defines_none versions program (Some s) None e = refl
+defines_none versions program (Some s) (Some t) e = rw e refl
+
+no_twin : (versions : Option Versions) (program : Bool) (symbols : List Symbol) (a b : Entry) → defines program symbols a ≡ false → are_twins versions program symbols a b ≡ false
+no_twin versions program symbols a b e =
+    ap (λ (c : Bool). eqb a.hash b.hash && c) (defines_none versions program (slice_get symbols a.index) (slice_get symbols b.index) e) ∙ and_none (eqb a.hash b.hash)
+
+-- entries of definers in the order of their hashes tell whether a name is defined twice
 pub twins_tell : (versions : Option Versions) (program : Bool) (symbols : List Symbol) (sorted : List Entry)
-    → IsPermutation (map (entry_of symbols) (range_with_len 0 (length symbols))) sorted → IsNonDecreasingBy key sorted
+    → IsPermutation (filter (defines program symbols) (map (entry_of symbols) (range_with_len 0 (length symbols)))) sorted → IsNonDecreasingBy key sorted
     → any_run (are_twins versions program symbols) key sorted ≡ duplicate_definer versions program symbols
 twins_tell versions program symbols sorted same up =
     let p = is_twin versions program in
     let places = range_with_len 0 (length symbols) in
-    runs_tell (are_twins versions program symbols) key (same_key versions program symbols) (entries_flip versions program symbols) (map (entry_of symbols) places) sorted same up
+    let q = are_twins versions program symbols in
+    runs_tell q key (same_key versions program symbols) (entries_flip versions program symbols) (filter (defines program symbols) (map (entry_of symbols) places)) sorted same up
+    ∙ any_pair_left q (defines program symbols) (entries_flip versions program symbols) (no_twin versions program symbols) (map (entry_of symbols) places)
     ∙ any_pair_map (are_twins versions program symbols) (entry_of symbols) places
     ∙ pairs_same (λ (i : ℕ) (j : ℕ). are_twins versions program symbols (entry_of symbols i) (entry_of symbols j)) (λ (i : ℕ) (j : ℕ). twins_by p (slice_get symbols i) (slice_get symbols j)) places (hash_adds versions program symbols)
     ∙ sym (any_pair_map (twins_by p) (slice_get symbols) places)

@@ -1,6 +1,8 @@
 -- Definers of one name and version, looked for among symbols whose names have one hash.
 use Rattle.std.specs.Prelude.{ℕ, Bool, false, ◌&&◌, ◌==◌, List, slice_get, Option, Some, None}
 use Rattle.pl_sym.specs.declared.symbol.Symbol.{Symbol}
+use Rattle.pl_sym.specs.declared.class.Class.TheVariants.{Other}
+use Rattle.pl_sym.specs.Definers.{is_definer}
 use Rattle.pl_hash.specs.Hash.{gnu}
 use Rattle.pl_ver.specs.declared.versions.Versions.{Versions}
 use Rattle.pl_object.specs.SymbolClauses.{is_twin}
@@ -13,6 +15,14 @@ hash_of (Some s) = gnu s.name
 -- a symbol's place under its name's hash
 abbrev pub entry_of : List Symbol → ℕ → Entry
 entry_of symbols index = record { hash = hash_of (slice_get symbols index); index = index }
+
+abbrev pub defines_by : Bool → Option Symbol → Bool
+defines_by program None = false
+defines_by program (Some s) = is_definer s Other program
+
+-- an entry of a definer
+abbrev pub defines : Bool → List Symbol → Entry → Bool
+defines program symbols e = defines_by program (slice_get symbols e.index)
 
 abbrev pub twins_by : (Symbol → Symbol → Bool) → Option Symbol → Option Symbol → Bool
 twins_by p None other = false

@@ -1,5 +1,5 @@
 // Acceptance clause 22: two definers of one name and version.
-ghost use Rattle.std.specs.Prelude.{◌≡◌, ◌<◌, ◌^◌, length, map, slice_get, IfOk};
+ghost use Rattle.std.specs.Prelude.{◌≡◌, ◌<◌, ◌^◌, filter, length, map, slice_get, IfOk};
 ghost use Rattle.std.specs.List.{range_with_len};
 ghost use Rattle.std.specs.Option.{option_map};
 ghost use Rattle.std.specs.List.Sorted.{IsNonDecreasingBy, IsPermutation};
@@ -40,12 +40,23 @@ fn entry_of(symbols: &[Symbol], index: usize) -> Entry
     }
 }
 
-fn entries(alloc: Global, symbols: &[Symbol]) -> Result<Vec<Entry>, AllocError>
+fn defines(program: bool, symbols: &[Symbol], entry: &Entry) -> bool
+    ensures { result ≡ spec.defines program symbols.now entry.now }
+{
+    match symbols.get(entry.index as usize) {
+        None => false,
+        Some(symbol) => is_definer(symbol, Class::Other, program),
+    }
+}
+
+/// The definers.
+fn entries(alloc: Global, program: bool, symbols: &[Symbol]) -> Result<Vec<Entry>, AllocError>
     requires { length symbols.now < 2 ^ 32 }
-    ensures { IfOk result (λ v. v.items ≡ map (spec.entry_of symbols.now) (range_with_len 0 (length symbols.now))) }
+    ensures { IfOk result (λ v. v.items ≡ filter (spec.defines program symbols.now) (map (spec.entry_of symbols.now) (range_with_len 0 (length symbols.now)))) }
 {
     (0..symbols.len())
         .map(|index| entry_of(symbols, index))
+        .filter(|entry| defines(program, symbols, entry))
         .collect(alloc)
 }
 
@@ -167,7 +178,7 @@ fn any_run(
     false
 }
 
-/// Whether two symbols are definers of one name and version. They are sorted by the hashes of their names once: the time grows as `n log n`, where few names have one hash.
+/// Whether two symbols are definers of one name and version. The definers are sorted by the hashes of their names once: the time grows as `n log n`, where few of them have one hash.
 pub fn duplicate_definer(
     alloc: Global,
     versions: &Option<Versions>,
@@ -177,7 +188,7 @@ pub fn duplicate_definer(
     requires { length symbols.now < 2 ^ 32 }
     ensures { IfOk result (λ b. b ≡ clauses.duplicate_definer versions.now program symbols.now) }
 {
-    let mut sorted = entries(alloc, symbols)?;
+    let mut sorted = entries(alloc, program, symbols)?;
     sort_entries(&mut sorted);
     Ok(any_run(versions, program, symbols, &sorted))
 }
