@@ -1,4 +1,4 @@
-ghost use Rattle.std.specs.Prelude.{◌≡◌, ◌≤◌, length, [], false, string_bytes, All, IfOk};
+ghost use Rattle.std.specs.Prelude.{◌≡◌, ◌≤◌, length, [], true, false, string_bytes, All, IfOk};
 ghost use Rattle.pl_base.specs.Counts.{Rose};
 ghost use Rattle.pl_base.specs.Files.{files_of};
 ghost use Rattle.pl_base.specs.Names.{IsNameLength};
@@ -8,7 +8,7 @@ ghost use Rattle.pl_folder.specs.declared.TheConstants.{STORED};
 use pl_base::MAX_NAME;
 use pl_folder::{Folder, FolderFault, STORED};
 use pl_io::{Failed, own_name, valid_name};
-use std::alloc::Global;
+use std::alloc::{AllocError, Global};
 use std::fs::{self, Files, OpenFile};
 use std::io::{self, Read, Write};
 
@@ -21,7 +21,7 @@ pub struct HostFolder<'a, R: Files> {
     faults: u64,
 }
 
-impl<'a, R: Files> HostFolder<'a, R> {
+impl<'a, R: Files + AllocGlobal + Clone + Drop> HostFolder<'a, R> {
     /// The folder that the program runs in, before any call.
     pub fn new(rt: &'a R) -> HostFolder<'a, R>
         ensures { ⟦<HostFolder<'a, R> as Folder>⟧.faults result ≡ 0 }
@@ -60,8 +60,22 @@ fn fault_of(error: io::Error) -> FolderFault {
 }
 
 // Whether the folder lists a file of this name.
-fn is_listed(name: &str) -> bool {
+fn is_listed(name: &str) -> bool
+    ensures { result ≡ true → IsNameLength name.now }
+{
     !name.is_empty() && name.len() <= MAX_NAME && (valid_name(name) || own_name(name))
+}
+
+// Adds the name of a file, where the folder lists it.
+fn push_listed(names: &mut Vec<String>, name: String) -> Result<(), AllocError>
+    requires { All (λ name. IsNameLength (string_bytes name)) names.old.items }
+    ensures { All (λ name. IsNameLength (string_bytes name)) names.new.items }
+{
+    if !is_listed(name.as_str()) {
+        return Ok(());
+    }
+    names.push(name)?;
+    Ok(())
 }
 
 // The names of the regular files that the folder lists, ascending.
@@ -71,9 +85,9 @@ fn list_names<R: Files + AllocGlobal + Clone + Drop>(rt: &R) -> io::Result<Vec<S
     let mut names = Vec::new(rt.alloc());
     for entry in fs::read_dir(rt, ".")? {
         let entry = entry?;
-        let name = String::from_str(rt.alloc(), entry.file_name())?;
-        if is_listed(name.as_str()) && entry.file_type()?.is_file() {
-            names.push(name)?;
+        if entry.file_type()?.is_file() {
+            let name = String::from_str(rt.alloc(), entry.file_name())?;
+            push_listed(&mut names, name)?;
         }
     }
     names.sort()?;
@@ -198,8 +212,10 @@ impl<R: Files + AllocGlobal + Clone + Drop> Folder for HostFolder<'_, R> {
 
     fn append(&mut self, _alloc: Global, name: &str, bytes: &[u8]) -> Result<(), FolderFault> {
         match open_to_append(self.rt, name) {
-            Ok(mut file) if file.write_all(bytes).is_ok() => Ok(()),
-            Ok(_) => Err(FolderFault::from(self.fail())),
+            Ok(mut file) => match file.write_all(bytes) {
+                Ok(()) => Ok(()),
+                Err(_) => Err(FolderFault::from(self.fail())),
+            },
             Err(error) => Err(self.stop(error)),
         }
     }
