@@ -1,10 +1,10 @@
 -- Reading a source piece by piece: the bytes that it had are those that were read and those that are left.
-use Rattle.std.proofs.Common.{◌≡◌, ℕ, ◌+◌, ◌-◌, ◌<◌, ◌≤◌, List, [], ◌++◌, length, length-append, length-drop, take, drop, Option, Some, None, refl, sym, ap, subst, ◌∙◌, append_assoc, arith, true}
+use Rattle.std.proofs.Common.{◌≡◌, ℕ, ◌+◌, ◌-◌, ◌<◌, ◌≤◌, List, [], ◌++◌, length, length-append, length-drop, take, drop, Option, Some, None, refl, sym, ap, ◌∙◌, append_assoc, arith, true}
 use Rattle.std.specs.Prelude.{is_some}
 use Rattle.std.proofs.lemmas.Bool.{false≢true}
-use Rattle.std.proofs.lemmas.List.{take-append-drop, take-append-le, append-nil}
-use Rattle.std.proofs.Math.Seq.{take-append_seam, drop-append_seam, take-length}
-use Rattle.pl_io.specs.Reads.{Took, TookKnown, HasMore}
+use Rattle.std.proofs.lemmas.List.{take-append-drop, append-nil}
+use Rattle.std.proofs.Math.Seq.{take-append_seam, drop-append_seam}
+use Rattle.pl_io.specs.Reads.{TookKnown, HasMore}
 
 -- these bytes, and then those that a source has left
 abbrev pub before : List ℕ → Option (List ℕ) → Option (List ℕ)

@@ -1,4 +1,4 @@
-use Rattle.std.proofs.Common.{◌≡◌, ℕ, ◌+◌, ◌-◌, ◌≤◌, ◌++◌, length, length-append, take, ap, ◌∙◌, arith}
+use Rattle.std.proofs.Common.{◌≡◌, ◌+◌, ◌≤◌, ◌++◌, length, length-append, take, ap, ◌∙◌, arith}
 use Rattle.std.proofs.lemmas.List.{length-take, length-take-le}
 use Rattle.pl_io.proofs.ReadLemmas.{before, took, joined, too_many}
 use Rattle.pl_io.proofs.source.read_all.Goals as goal
