@@ -1,0 +1,7 @@
+use Rattle.std.proofs.Common.{◌≡◌, ◌≤◌, ◌+◌, ◌++◌, length, map}
+use Rattle.pl_build.specs.Grammar.{line}
+use Rattle.pl_build.specs.Build as spec
+use Rattle.pl_build.proofs.builder.lines.Given as goal
+
+abbrev pub invariant-loop-text : goal.invariant-loop-text
+invariant-loop-text l = (l.lines.items ++ map line l.text-iterator ≡ spec.lines l.recipe) × (length l.lines.items + length l.text-iterator ≤ length l.recipe + 2)
