@@ -52,8 +52,8 @@ passed p xs i x lt is = at_drop_more (filter p) xs i x lt ∙ rw (← is) refl
 
 pub filter_more : {X : Type 0} (p : X → Bool) (out : List X) (xs : List X) (i : ℕ) (x : X) (whole : List X) → i < length xs → x ≡ get_or xs i x → p x ≡ true
     → out ++ filter p (drop i xs) ≡ whole → (out ++ x ∷ []) ++ filter p (drop (i + 1) xs) ≡ whole
-filter_more {X = X} p out xs i x whole lt is yes so_far =
-    let one : filter p (drop i xs) ≡ x ∷ filter p (drop (i + 1) xs) = passed p xs i x lt is ∙ rw yes refl in
+filter_more {X = X} p out xs i x whole lt is passes so_far =
+    let one : filter p (drop i xs) ≡ x ∷ filter p (drop (i + 1) xs) = passed p xs i x lt is ∙ rw passes refl in
     append_assoc out (x ∷ []) (filter p (drop (i + 1) xs)) ∙ sym (ap (λ (u : List X). out ++ u) one) ∙ so_far
 
 pub filter_less : {X : Type 0} (p : X → Bool) (out : List X) (xs : List X) (i : ℕ) (x : X) (whole : List X) → i < length xs → x ≡ get_or xs i x → p x ≡ false
@@ -67,7 +67,7 @@ pub kept_more : (p : Symbol → Bool) (out new : List Symbol) (xs : List Symbol)
     → out ++ filter p (drop i xs) ≡ whole → new ++ filter p (drop (i + 1) xs) ≡ whole
 kept_more p out new xs i x whole lt is step so_far =
     elim (cases_Bool (p x)) [
-      | inl yes ↦ ap (λ (u : List Symbol). u ++ filter p (drop (i + 1) xs)) (step ∙ ap (λ (b : Bool). kept b x out) yes) ∙ filter_more p out xs i x whole lt is yes so_far
+      | inl passes ↦ ap (λ (u : List Symbol). u ++ filter p (drop (i + 1) xs)) (step ∙ ap (λ (b : Bool). kept b x out) passes) ∙ filter_more p out xs i x whole lt is passes so_far
       | inr miss ↦ ap (λ (u : List Symbol). u ++ filter p (drop (i + 1) xs)) (step ∙ ap (λ (b : Bool). kept b x out) miss) ∙ filter_less p out xs i x whole lt is miss so_far
     ]
 

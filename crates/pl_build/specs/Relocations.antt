@@ -23,7 +23,7 @@ is_written_as name s = bytes_eq s.written name
 
 abbrev pub number_at : Option ℕ → ℕ
 number_at None = 0
-number_at (Some index) = index + 1
+number_at (Some index) = plus index 1
 
 -- the number of the symbol of a written name, 0 for `-`
 unfoldable pub symbol_number : Plan → List ℕ → ℕ

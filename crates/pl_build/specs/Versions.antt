@@ -25,7 +25,7 @@ unfoldable pub first_needed : Plan → ℕ
 first_needed p = first_defined + length p.versions
 
 unfoldable pub defined_index : Plan → Symbol → ℕ
-defined_index p s = first_defined + unwrap_or (position (λ v. bytes_eq v s.version) p.versions) 0
+defined_index p s = plus first_defined (unwrap_or (position (λ v. bytes_eq v s.version) p.versions) 0)
 
 unfoldable pub needed_index : Plan → Symbol → ℕ
 needed_index p s = plus (first_needed p) (unwrap_or (position (is_need_of s) p.needs) 0)
@@ -35,7 +35,7 @@ version_word p s =
     if length s.version == 0 then VER_NDX_GLOBAL
     else if not (length s.file == 0) then needed_index p s
     else if s.visible then defined_index p s
-    else VERSYM_HIDDEN + defined_index p s
+    else plus VERSYM_HIDDEN (defined_index p s)
 
 unfoldable pub version_words : Plan → List ℕ
 version_words p = fields (Half VER_NDX_GLOBAL ∷ []) ++ fields (map (λ s. Half (version_word p s)) p.symbols)

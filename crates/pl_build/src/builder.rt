@@ -14,7 +14,7 @@ use bstr::ByteSlice;
 use pl_base::Rows;
 use std::alloc::{AllocError, Global};
 
-#[tactic(auto, unfolding(crate::specs::Build::lines))]
+#[tactic(auto, unfolding(crate::specs::Build::lines, crate::specs::Words::pieces))]
 fn lines(alloc: Global, recipe: &[u8]) -> Result<Vec<Line>, AllocError>
     ensures value { IfOk result (λ v. v.items ≡ spec.lines recipe.now) }
     ensures count { IfOk result (λ v. length v.items ≤ length recipe.now + 2) }

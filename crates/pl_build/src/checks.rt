@@ -1,6 +1,7 @@
 // The faults of a recipe's lines.
 ghost use Rattle.std.specs.Prelude.{◌≡◌, ◌-◌, ◌<◌, ◌^◌, find, length, map};
 ghost use Rattle.std.specs.List.{list_any, range_with_len};
+ghost use Rattle.std.specs.Option.{option_copied};
 ghost use Rattle.std.specs.Str.{bytes_eq};
 ghost use Rattle.pl_build.specs.Checks as spec;
 
@@ -11,7 +12,7 @@ use crate::relocation_lines::is_no_symbol;
 use pl_base::end;
 
 /// The lowest kind of a line's faults, 0 for none.
-#[derive(Clone, Copy, Debug, PartialEq, Eq)]
+#[derive(Clone, Copy)]
 pub struct Fault {
     /// The number of the line, from 1 on.
     pub line: u32,
@@ -176,11 +177,17 @@ fn is_data(line: &Line) -> bool
     matches!(line, Line::Data(_))
 }
 
+fn find_data(lines: &[Line]) -> Option<&Line>
+    ensures { option_copied result ≡ find spec.is_data lines.now }
+{
+    lines.iter().find(|line| is_data(line))
+}
+
 #[tactic(auto, unfolding(crate::specs::Checks::data_size))]
 fn data_size(lines: &[Line]) -> u64
     ensures { result ≡ spec.data_size lines.now }
 {
-    match lines.iter().find(|line| is_data(line)) {
+    match find_data(lines) {
         Some(Line::Data(size)) => *size,
         _ => 0,
     }

@@ -6,7 +6,7 @@ ghost use Rattle.pl_build.specs.Fields as spec;
 use std::alloc::AllocError;
 
 /// A number of 1, 2, 4 or 8 bytes: the lowest of its bytes are written.
-#[derive(Clone, Copy, Debug, PartialEq, Eq)]
+#[derive(Clone, Copy)]
 pub enum Field {
     Byte(u64),
     Half(u64),

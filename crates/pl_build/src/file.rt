@@ -206,7 +206,9 @@ fn file_of(
 #[tactic(auto, unfolding(crate::specs::File::parts_end))]
 fn parts_end(plan: &Plan, tables_end: u64, names: &Strings) -> u128
     requires { tables_end < 2 ^ 32 }
-    ensures { result ≡ spec.parts_end plan.now tables_end names.now }
+    ensures value { result ≡ spec.parts_end plan.now tables_end names.now }
+    ensures holds_data { plan.now.settings.data_size ≤ result }
+    ensures small { result < 2 ^ 66 }
 {
     u128::from(data_offset(tables_end))
         + u128::from(plan.settings.data_size)
@@ -218,6 +220,7 @@ fn sections_offset(plan: &Plan, tables_end: u64, names: &Strings) -> u128
     requires { tables_end < 2 ^ 32 }
     ensures value { result ≡ spec.sections_offset plan.now tables_end names.now }
     ensures holds_data { plan.now.settings.data_size ≤ result }
+    ensures small { result < 2 ^ 67 }
 {
     (parts_end(plan, tables_end, names) + 7) / 8 * 8
 }

@@ -1,6 +1,7 @@
 // The hash tables of symbols.
 ghost use Rattle.std.specs.Prelude.{◌≡◌, ◌==◌, ◌++◌, ◌+◌, ◌<◌, ◌≤◌, IfOk, OnOk, map, filter, count_by, length, slice_index, drop};
 ghost use Rattle.std.specs.List.{list_any, range_with_len};
+ghost use Rattle.pl_hash.specs.Hash.{gnu};
 ghost use Rattle.pl_build.specs.Symbols.{is_undefined};
 ghost use Rattle.pl_build.specs.HashTables as spec;
 
@@ -96,15 +97,27 @@ pub fn sysv_table(alloc: Global, plan: &Plan) -> Result<Vec<u8>, AllocError>
     sysv_words(alloc, plan.settings.buckets, buckets.as_slice())
 }
 
+fn is_defined(symbol: &Symbol) -> bool
+    ensures { result ≡ spec.is_defined symbol.now }
+{
+    symbol.defined
+}
+
+fn gnu_hash_of(symbol: &Symbol) -> u32
+    ensures { result ≡ gnu symbol.now.name }
+{
+    gnu_hash(symbol.name.as_slice())
+}
+
 #[tactic(auto, unfolding(crate::specs::HashTables::gnu_hashes))]
 fn gnu_hashes(alloc: Global, plan: &Plan) -> Result<Vec<u32>, AllocError>
     ensures { IfOk result (λ v. v.items ≡ spec.gnu_hashes plan.now) }
 {
-    plan.symbols
-        .as_slice()
+    let symbols = plan.symbols.as_slice();
+    symbols
         .iter()
-        .filter(|symbol| symbol.defined)
-        .map(|symbol| gnu_hash(symbol.name.as_slice()))
+        .filter(|symbol| is_defined(symbol))
+        .map(|symbol| gnu_hash_of(symbol))
         .collect(alloc)
 }
 

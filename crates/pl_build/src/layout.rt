@@ -1,6 +1,7 @@
 // The tables, one after the other.
 ghost use Rattle.std.specs.Prelude.{◌≡◌, ◌++◌, ◌∷◌, ◌+◌, ◌<◌, ◌≤◌, ◌^◌, [], IfOk, OnOk, length};
 ghost use Rattle.pl_base.specs.Answers.{Answers};
+ghost use Rattle.pl_base.specs.Each.{run};
 ghost use Rattle.pl_build.specs.Build.{is_memory};
 ghost use Rattle.pl_build.specs.Layout as spec;
 
@@ -124,15 +125,22 @@ fn add_role(alloc: Global, plan: &Plan, tables: Tables, role: Role) -> Result<Ta
     in_limit(tables)
 }
 
+fn add_roles(alloc: Global, plan: &Plan, roles: &[Role]) -> Result<Tables, RecipeFault>
+    ensures answer { Answers is_memory result (run (spec.role_added plan.now) spec.start roles.now) }
+    ensures small { IfOk result (λ t. spec.end_of t ≤ MAX_TABLES) }
+{
+    let mut tables = start(alloc);
+    for role in roles {
+        tables = add_role(alloc, plan, tables, *role)?;
+    }
+    Ok(tables)
+}
+
 /// All tables. Fault 5 where they would end past their limit.
 #[tactic(auto, unfolding(crate::specs::Layout::tables))]
 pub fn lay_out(alloc: Global, plan: &Plan) -> Result<Tables, RecipeFault>
     ensures answer { Answers is_memory result (spec.tables plan.now) }
     ensures small { IfOk result (λ t. spec.end_of t ≤ MAX_TABLES) }
 {
-    let mut tables = start(alloc);
-    for role in plan.roles.as_slice() {
-        tables = add_role(alloc, plan, tables, *role)?;
-    }
-    Ok(tables)
+    add_roles(alloc, plan, plan.roles.as_slice())
 }

@@ -1,7 +1,7 @@
 use pl_base::Rows;
 
 /// What a recipe's first line says that the file is.
-#[derive(Clone, Copy, Debug, PartialEq, Eq)]
+#[derive(Clone, Copy)]
 pub enum Kind {
     Program,
     Library,
@@ -9,21 +9,21 @@ pub enum Kind {
 }
 
 /// Which hash tables a file has.
-#[derive(Clone, Copy, Debug, PartialEq, Eq)]
+#[derive(Clone, Copy)]
 pub struct Hashes {
     pub sysv: bool,
     pub gnu: bool,
 }
 
 /// A word of the data: eight bytes at an offset.
-#[derive(Clone, Copy, Debug, PartialEq, Eq)]
+#[derive(Clone, Copy)]
 pub struct DataWord {
     pub offset: u64,
     pub value: u64,
 }
 
 /// What the segment PT_TLS is to say. The offset is one in the data.
-#[derive(Clone, Copy, Debug, PartialEq, Eq)]
+#[derive(Clone, Copy)]
 pub struct TlsBlock {
     pub offset: u64,
     pub filesz: u64,

@@ -9,7 +9,7 @@ use pl_base::Rows;
 use std::alloc::{AllocError, Global};
 
 /// The lines of a recipe that stand once.
-#[derive(Clone, Copy, Debug, PartialEq, Eq)]
+#[derive(Clone, Copy)]
 pub struct Settings {
     pub kind: Kind,
     pub usual: bool,

@@ -1,19 +1,19 @@
 // The tables of relocations.
-ghost use Rattle.std.specs.Prelude.{◌≡◌, ◌++◌, IfOk, OnOk, map, filter};
+ghost use Rattle.std.specs.Prelude.{◌≡◌, ◌++◌, IfOk, OnOk, map, filter, position};
 ghost use Rattle.std.specs.List.{flat_map};
 ghost use Rattle.pl_build.specs.Plan.{is_jump_slot, is_other};
 ghost use Rattle.pl_build.specs.Relocations as spec;
 
 use crate::constants::R_X86_64_RELATIVE;
 use crate::fields::{Field, Row, push_fields, push_rows};
-use crate::line::Relocation;
+use crate::line::{Relocation, Symbol};
 use crate::names::is;
 use crate::plan::{Plan, data_address, is_jump_slot};
 use crate::relocation_lines::is_no_symbol;
 use std::alloc::{AllocError, Global};
 
 /// A row of a table of relocations (System V gABI chapter 4, "Relocation").
-#[derive(Clone, Copy, Debug, PartialEq, Eq)]
+#[derive(Clone, Copy)]
 pub struct Rela {
     /// The address of the word.
     pub offset: u64,
@@ -43,6 +43,14 @@ impl Row for Rela {
     }
 }
 
+fn position_of(symbols: &[Symbol], name: &[u8]) -> Option<usize>
+    ensures { result ≡ position (spec.is_written_as name.now) symbols.now }
+{
+    symbols
+        .iter()
+        .position(|symbol| is(symbol.written.as_slice(), name))
+}
+
 #[tactic(auto, unfolding(crate::specs::Relocations::symbol_number))]
 fn symbol_number(plan: &Plan, name: &[u8]) -> u64
     ensures { result ≡ spec.symbol_number plan.now name.now }
@@ -50,12 +58,8 @@ fn symbol_number(plan: &Plan, name: &[u8]) -> u64
     if is_no_symbol(name) {
         return 0;
     }
-    let symbols = plan.symbols.as_slice();
-    match symbols
-        .iter()
-        .position(|symbol| is(symbol.written.as_slice(), name))
-    {
-        Some(index) => index as u64 + 1,
+    match position_of(plan.symbols.as_slice(), name) {
+        Some(index) => (index as u64).wrapping_add(1),
         None => 0,
     }
 }

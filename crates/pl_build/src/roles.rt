@@ -15,7 +15,7 @@ use pl_ver::constants::VERSYM_SIZE;
 use std::alloc::{AllocError, Global};
 
 /// What a section holds, in the order of the section header table.
-#[derive(Clone, Copy, Debug, PartialEq, Eq)]
+#[derive(Clone, Copy)]
 pub enum Role {
     Null,
     Interp,
@@ -35,7 +35,7 @@ pub enum Role {
 }
 
 /// Where a section stands in memory and in the file.
-#[derive(Clone, Copy, Debug, PartialEq, Eq)]
+#[derive(Clone, Copy)]
 pub struct Place {
     pub role: Role,
     pub addr: u64,

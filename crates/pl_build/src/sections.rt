@@ -15,7 +15,7 @@ use crate::strings::{Strings, text_at};
 use std::alloc::{AllocError, Global};
 
 /// A section header (System V gABI chapter 4, "Sections").
-#[derive(Clone, Copy, Debug, PartialEq, Eq)]
+#[derive(Clone, Copy)]
 pub struct SectionRow {
     /// Where its name begins in the section of section names.
     pub name: u64,

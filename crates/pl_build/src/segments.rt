@@ -61,9 +61,11 @@ fn readable(kind: u32, offset: u64, address: u64, size: u64, align: u64) -> Segm
 }
 
 /// The file offset of the data, where the tables end at an offset.
+#[tactic(auto, unfolding(pl_base::specs::Sums::round_up))]
 pub fn data_offset(tables_end: u64) -> u64
     requires { tables_end < 2 ^ 32 }
-    ensures { result ≡ spec.data_offset tables_end }
+    ensures value { result ≡ spec.data_offset tables_end }
+    ensures small { result < 2 ^ 33 }
 {
     round_up(tables_end, PAGE)
 }

@@ -12,7 +12,7 @@ use pl_sym::constants::{SHN_ABS, SHN_UNDEF, STT_NOTYPE, STT_TLS};
 use std::alloc::{AllocError, Global};
 
 /// A row of the symbol table (System V gABI chapter 4, "Symbol Table").
-#[derive(Clone, Copy, Debug, PartialEq, Eq)]
+#[derive(Clone, Copy)]
 pub struct SymbolEntry {
     /// Where the name begins in the strings.
     pub name: u64,

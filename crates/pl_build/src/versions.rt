@@ -1,6 +1,7 @@
 // The tables of symbol versions.
 ghost use Rattle.std.specs.Prelude.{◌≡◌, ◌++◌, ◌+◌, ◌<◌, ◌≤◌, IfOk, OnOk, map, drop, length, position, count_by};
 ghost use Rattle.std.specs.List.{flat_map, list_any, range_with_len};
+ghost use Rattle.std.specs.Str.{bytes_eq};
 ghost use Rattle.pl_build.specs.Needed.{is_of, is_need_of};
 ghost use Rattle.pl_build.specs.Versions as spec;
 
@@ -11,6 +12,7 @@ use crate::needed::{Need, is_need_of, is_of};
 use crate::plan::Plan;
 use crate::strings::text_at;
 use crate::words::word;
+use pl_base::Rows;
 use pl_hash::sysv_hash;
 use pl_ver::constants::{
     VER_FLG_BASE, VER_NDX_GLOBAL, VERDAUX_SIZE, VERDEF_SIZE, VERNAUX_SIZE, VERNEED_SIZE,
@@ -27,17 +29,20 @@ fn first_needed(plan: &Plan) -> usize
     FIRST_DEFINED + plan.versions.as_slice().len()
 }
 
+fn position_of_version(versions: &[Rows<u8>], symbol: &Symbol) -> Option<usize>
+    ensures { result ≡ position (λ v. bytes_eq v symbol.now.version) versions.now }
+{
+    versions
+        .iter()
+        .position(|version| is(version.as_slice(), symbol.version.as_slice()))
+}
+
 #[tactic(auto, unfolding(crate::specs::Versions::defined_index))]
 fn defined_index(plan: &Plan, symbol: &Symbol) -> usize
     ensures { result ≡ spec.defined_index plan.now symbol.now }
 {
-    let index = plan
-        .versions
-        .as_slice()
-        .iter()
-        .position(|version| is(version.as_slice(), symbol.version.as_slice()))
-        .unwrap_or(0);
-    FIRST_DEFINED + index
+    let index = position_of_version(plan.versions.as_slice(), symbol).unwrap_or(0);
+    FIRST_DEFINED.wrapping_add(index)
 }
 
 fn position_of_need(needs: &[Need], symbol: &Symbol) -> Option<usize>
@@ -65,7 +70,7 @@ fn version_word(plan: &Plan, symbol: &Symbol) -> u64
     } else if symbol.visible {
         defined_index(plan, symbol) as u64
     } else {
-        u64::from(VERSYM_HIDDEN) + defined_index(plan, symbol) as u64
+        u64::from(VERSYM_HIDDEN).wrapping_add(defined_index(plan, symbol) as u64)
     }
 }
 

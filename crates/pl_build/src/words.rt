@@ -1,5 +1,5 @@
 // The words of a line, and the numbers and written names among them.
-ghost use Rattle.std.specs.Prelude.{◌≡◌, ◌<◌, ◌≤◌, ◌+◌, ◌^◌, IfOk, drop, length};
+ghost use Rattle.std.specs.Prelude.{◌≡◌, ◌<◌, ◌≤◌, ◌+◌, ◌^◌, IfOk, drop, length, take};
 ghost use Rattle.std.specs.List.{list_all};
 ghost use Rattle.pl_build.specs.Words as spec;
 
@@ -17,6 +17,7 @@ pub fn copy_of(alloc: Global, bytes: &[u8]) -> Result<Rows<u8>, AllocError>
 }
 
 /// The pieces of a text between a separator's places.
+#[tactic(auto, unfolding(crate::specs::Words::pieces))]
 pub fn pieces(alloc: Global, text: &[u8], separator: &[u8]) -> Result<Vec<Rows<u8>>, AllocError>
     ensures { IfOk result (λ v. v.items ≡ spec.pieces separator.now text.now) }
 {
@@ -57,6 +58,17 @@ fn bytes_from(bytes: &[u8], index: usize) -> &[u8]
         &bytes[index..]
     } else {
         &[]
+    }
+}
+
+#[tactic(auto, using(std::proofs::lemmas::List::take_all))]
+fn bytes_before(bytes: &[u8], index: usize) -> &[u8]
+    ensures { result.now ≡ take index bytes.now }
+{
+    if index < bytes.len() {
+        &bytes[..index]
+    } else {
+        bytes
     }
 }
 
@@ -146,12 +158,12 @@ fn cut(text: &[u8]) -> Option<usize>
 }
 
 /// A written name without its version.
-#[tactic(auto, unfolding(crate::specs::Words::name_of, crate::specs::Words::cut))]
+#[tactic(auto, unfolding(crate::specs::Words::name_of))]
 pub fn name_of(text: &[u8]) -> &[u8]
     ensures { result.now ≡ spec.name_of text.now }
 {
-    match text.iter().position(|byte| *byte == b'@') {
-        Some(at) => &text[..at],
+    match cut(text) {
+        Some(at) => bytes_before(text, at),
         None => text,
     }
 }

@@ -1,8 +1,0 @@
-use Rattle.std.proofs.Common.{◌≡◌, ◌≤◌, drop}
-use Rattle.pl_base.specs.Each.{run}
-use Rattle.pl_build.specs.declared.constants.TheConstants.{MAX_TABLES}
-use Rattle.pl_build.specs.Layout.{role_added, tables, end_of}
-use Rattle.pl_build.proofs.layout.lay_out.Given as goal
-
-abbrev pub invariant-loop-role : goal.invariant-loop-role
-invariant-loop-role l = (run (role_added l.plan) l.tables (drop l.role-index l.plan.roles) ≡ tables l.plan) × (end_of l.tables ≤ MAX_TABLES)
