@@ -51,8 +51,11 @@ sysv_table p = sysv_words p.settings.buckets (sysv_buckets p)
 abbrev pub is_defined : Symbol → Bool
 is_defined s = s.defined
 
-unfoldable pub gnu_hashes : Plan → List ℕ
-gnu_hashes p = map (λ s. gnu s.name) (filter is_defined p.symbols)
+unfoldable pub hash_of : Symbol → ℕ
+hash_of s = gnu s.name
+
+abbrev pub gnu_hashes : List Symbol → List ℕ
+gnu_hashes symbols = map hash_of (filter is_defined symbols)
 
 unfoldable pub gnu_buckets : ℕ → List ℕ → List ℕ
 gnu_buckets count hashes = map (bucket_of count) hashes
@@ -90,4 +93,4 @@ gnu_words count first hashes buckets =
     ++ fields (map (λ k. Word (gnu_chain hashes buckets k)) (range_with_len 0 (length hashes)))
 
 unfoldable pub gnu_table : Plan → List ℕ
-gnu_table p = gnu_words p.settings.buckets (symoffset p) (gnu_hashes p) (gnu_buckets p.settings.buckets (gnu_hashes p))
+gnu_table p = gnu_words p.settings.buckets (symoffset p) (gnu_hashes p.symbols) (gnu_buckets p.settings.buckets (gnu_hashes p.symbols))

@@ -1,7 +1,6 @@
 // The hash tables of symbols.
 ghost use Rattle.std.specs.Prelude.{◌≡◌, ◌==◌, ◌++◌, ◌+◌, ◌<◌, ◌≤◌, IfOk, OnOk, map, filter, count_by, length, slice_index, drop};
 ghost use Rattle.std.specs.List.{list_any, range_with_len};
-ghost use Rattle.pl_hash.specs.Hash.{gnu};
 ghost use Rattle.pl_build.specs.Symbols.{is_undefined};
 ghost use Rattle.pl_build.specs.HashTables as spec;
 
@@ -103,21 +102,20 @@ fn is_defined(symbol: &Symbol) -> bool
     symbol.defined
 }
 
-fn gnu_hash_of(symbol: &Symbol) -> u32
-    ensures { result ≡ gnu symbol.now.name }
+#[tactic(auto, unfolding(crate::specs::HashTables::hash_of))]
+fn hash_of(symbol: &Symbol) -> u32
+    ensures { result ≡ spec.hash_of symbol.now }
 {
     gnu_hash(symbol.name.as_slice())
 }
 
-#[tactic(auto, unfolding(crate::specs::HashTables::gnu_hashes))]
-fn gnu_hashes(alloc: Global, plan: &Plan) -> Result<Vec<u32>, AllocError>
-    ensures { IfOk result (λ v. v.items ≡ spec.gnu_hashes plan.now) }
+fn gnu_hashes(alloc: Global, symbols: &[Symbol]) -> Result<Vec<u32>, AllocError>
+    ensures { IfOk result (λ v. v.items ≡ spec.gnu_hashes symbols.now) }
 {
-    let symbols = plan.symbols.as_slice();
     symbols
         .iter()
         .filter(|symbol| is_defined(symbol))
-        .map(|symbol| gnu_hash_of(symbol))
+        .map(|symbol| hash_of(symbol))
         .collect(alloc)
 }
 
@@ -258,7 +256,7 @@ pub fn gnu_table(alloc: Global, plan: &Plan) -> Result<Vec<u8>, AllocError>
     ensures { IfOk result (λ v. v.items ≡ spec.gnu_table plan.now) }
 {
     let count = plan.settings.buckets;
-    let hashes = gnu_hashes(alloc, plan)?;
+    let hashes = gnu_hashes(alloc, plan.symbols.as_slice())?;
     let buckets = gnu_buckets(alloc, count, hashes.as_slice())?;
     gnu_words(
         alloc,
