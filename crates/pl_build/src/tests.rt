@@ -1,12 +1,12 @@
-use crate::recipes::EXAMPLES;
+use crate::recipes::{EXAMPLES, Example};
 use crate::{RecipeFault, build};
-use pl_base::hex_digit;
+use pl_base::{Rows, hex_digit};
 use sha2::{Digest, Sha256};
 use std::alloc::{AllocError, Global};
 use std::test::Fail;
 
 // Recipes beside the examples.
-const MORE: [(&str, &str); 2] = [
+const MORE: [Example; 2] = [
     ("pk", "program\nneeds libpk\ndata 8\n"),
     (
         "p2",
@@ -224,18 +224,26 @@ const FINE: [&str; 8] = [
     "program\nref f@V global tls from lib at 8\nref f global tls at 8\n",
 ];
 
+fn find(examples: &[Example], name: &str) -> Option<&'static str> {
+    for (example, recipe) in examples {
+        if *example == name {
+            return Some(*recipe);
+        }
+    }
+    None
+}
+
 fn recipe_of(name: &str) -> &'static str {
-    for (example, recipe) in EXAMPLES {
-        if example == name {
-            return recipe;
-        }
+    find(&EXAMPLES, name).or(find(&MORE, name)).unwrap_or("")
+}
+
+fn built(alloc: Global, recipe: &str) -> Result<Rows<u8>, RecipeFault> {
+    let bytes = recipe.as_bytes();
+    if bytes.len() < 0x1000 {
+        build(alloc, bytes)
+    } else {
+        Err(RecipeFault::NoMemory)
     }
-    for (example, recipe) in MORE {
-        if example == name {
-            return recipe;
-        }
-    }
-    ""
 }
 
 fn hex(alloc: Global, bytes: &[u8]) -> Result<Vec<u8>, AllocError> {
@@ -247,28 +255,64 @@ fn hex(alloc: Global, bytes: &[u8]) -> Result<Vec<u8>, AllocError> {
     Ok(text)
 }
 
+fn digest(alloc: Global, recipe: &str) -> Result<Vec<u8>, RecipeFault> {
+    let file = built(alloc, recipe)?;
+    Ok(hex(alloc, &Sha256::digest(file.as_slice()))?)
+}
+
+// The first row whose file is another one.
+fn other_file(
+    alloc: Global,
+    rows: &[(&'static str, &'static str)],
+) -> Result<Option<&'static str>, RecipeFault> {
+    for (name, expected) in rows {
+        if digest(alloc, recipe_of(name))?.as_slice() != expected.as_bytes() {
+            return Ok(Some(*name));
+        }
+    }
+    Ok(None)
+}
+
+fn fault_of(alloc: Global, recipe: &str) -> RecipeFault {
+    match built(alloc, recipe) {
+        Ok(_) => RecipeFault::Bad { line: 0, kind: 0 },
+        Err(fault) => fault,
+    }
+}
+
+// The first row whose fault is another one.
+fn other_fault(alloc: Global, rows: &[(&'static str, u32, u8)]) -> Option<&'static str> {
+    for (recipe, line, kind) in rows {
+        let expected = RecipeFault::Bad {
+            line: *line,
+            kind: *kind,
+        };
+        if fault_of(alloc, recipe) != expected {
+            return Some(*recipe);
+        }
+    }
+    None
+}
+
+// The first recipe that has a fault.
+fn refused(alloc: Global, recipes: &[&'static str]) -> Option<&'static str> {
+    for recipe in recipes {
+        if built(alloc, recipe).is_err() {
+            return Some(*recipe);
+        }
+    }
+    None
+}
+
 #[test]
 fn files_are_those_of_another_builder(rt: HostRuntime) -> Result<(), Fail> {
-    for (name, expected) in DIGESTS {
-        let file = build(rt.alloc(), recipe_of(name).as_bytes())?;
-        let digest = Sha256::digest(file.as_slice());
-        let text = hex(rt.alloc(), &digest)?;
-        assert!(rt; text.as_slice() == expected.as_bytes(), "{name}");
-    }
+    assert_eq!(rt; other_file(rt.alloc(), &DIGESTS)?, None);
     Ok(())
 }
 
 #[test]
 fn faults_have_their_line_and_kind(rt: HostRuntime) -> Result<(), Fail> {
-    for (recipe, line, kind) in FAULTS {
-        let fault = match build(rt.alloc(), recipe.as_bytes()) {
-            Ok(_) => RecipeFault::Bad { line: 0, kind: 0 },
-            Err(fault) => fault,
-        };
-        assert_eq!(rt; fault, RecipeFault::Bad { line, kind }, "{recipe}");
-    }
-    for recipe in FINE {
-        assert!(rt; build(rt.alloc(), recipe.as_bytes()).is_ok(), "{recipe}");
-    }
+    assert_eq!(rt; other_fault(rt.alloc(), &FAULTS), None);
+    assert_eq!(rt; refused(rt.alloc(), &FINE), None);
     Ok(())
 }

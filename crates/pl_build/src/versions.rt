@@ -32,9 +32,7 @@ fn first_needed(plan: &Plan) -> usize
 fn position_of_version(versions: &[Rows<u8>], symbol: &Symbol) -> Option<usize>
     ensures { result ≡ position (λ v. bytes_eq v symbol.now.version) versions.now }
 {
-    versions
-        .iter()
-        .position(|version| is(version.as_slice(), symbol.version.as_slice()))
+    versions.iter().position(|version| is(version.as_slice(), symbol.version.as_slice()))
 }
 
 #[tactic(auto, unfolding(crate::specs::Versions::defined_index))]
