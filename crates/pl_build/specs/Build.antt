@@ -1,5 +1,5 @@
 -- The file of a recipe, or the recipe's first fault.
-use Rattle.std.specs.Prelude.{ℕ, Bool, true, false, List, map, Result, Option}
+use Rattle.std.specs.Prelude.{ℕ, Bool, true, false, List, map, Result}
 use Rattle.pl_base.specs.Answers.{unless_found}
 use Rattle.pl_build.specs.declared.checks.Fault.{Fault}
 use Rattle.pl_build.specs.declared.fault.RecipeFault.{RecipeFault}

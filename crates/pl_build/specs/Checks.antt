@@ -1,12 +1,12 @@
 -- The faults of a recipe's lines.
-use Rattle.std.specs.Prelude.{ℕ, ◌+◌, Bool, true, false, not, ◌&&◌, ◌||◌, ◌==◌, nat_lt, List, [], ◌∷◌, length, take, map, find, Option, Some, None, slice_get, codes, if◌then◌else◌}
+use Rattle.std.specs.Prelude.{ℕ, ◌+◌, Bool, true, false, not, ◌&&◌, ◌||◌, ◌==◌, nat_lt, List, [], length, take, map, find, Option, Some, None, slice_get, codes, if◌then◌else◌}
 use Rattle.std.specs.List.{list_any, range_with_len}
 use Rattle.std.specs.Str.{bytes_eq}
 use Rattle.pl_build.specs.declared.constants.TheConstants.{MAX_BUCKETS, MAX_SPARE, MAX_DATA, MAX_BSS, MAX_ADDEND, WORD_SIZE}
 use Rattle.pl_build.specs.declared.checks.Fault.{Fault}
-use Rattle.pl_build.specs.declared.line.Kind.TheVariants.{Program, Library, Static}
+use Rattle.pl_build.specs.declared.line.Kind.TheVariants.{Static}
 use Rattle.pl_build.specs.declared.line.Line.{Line}
-use Rattle.pl_build.specs.declared.line.Line.TheVariants.{Wrong, Empty, First, Usual, Hash, Buckets, Spare, Needs, Symbolic, Entry, Data, Bss, Put, Tls, Version, Names, Relocates}
+use Rattle.pl_build.specs.declared.line.Line.TheVariants.{Wrong, Empty, First, Usual, Hash, Buckets, Spare, Symbolic, Entry, Data, Bss, Put, Tls, Version, Names, Relocates}
 use Rattle.pl_build.specs.declared.line.Relocation.{Relocation}
 use Rattle.pl_build.specs.declared.line.Symbol.{Symbol}
 use Rattle.pl_build.specs.RelocationLines.{is_no_symbol}

@@ -1,14 +1,11 @@
 -- The dynamic table (System V gABI chapter 5, "Dynamic Section").
-use Rattle.std.specs.Prelude.{ℕ, ◌+◌, Bool, true, false, not, ◌&&◌, ◌||◌, ◌==◌, List, [], ◌∷◌, ◌++◌, length, map, filter, find, Option, Some, None, codes, if◌then◌else◌}
+use Rattle.std.specs.Prelude.{ℕ, ◌+◌, Bool, true, not, ◌&&◌, ◌==◌, List, [], ◌∷◌, ◌++◌, length, map, filter, find, Option, Some, None, codes}
 use Rattle.std.specs.List.{flat_map, range_with_len}
-use Rattle.std.specs.Option.{is_some}
-use Rattle.std.specs.Str.{bytes_eq}
 use Rattle.pl_dyn.specs.declared.constants.TheConstants.{DT_NULL, DT_NEEDED, DT_PLTRELSZ, DT_HASH, DT_STRTAB, DT_SYMTAB, DT_RELA, DT_RELASZ, DT_RELAENT, DT_STRSZ, DT_SYMENT, DT_SYMBOLIC, DT_PLTREL, DT_DEBUG, DT_JMPREL, DT_BIND_NOW, DT_FLAGS, DT_GNU_HASH, DT_VERSYM, DT_FLAGS_1, DT_VERDEF, DT_VERDEFNUM, DT_VERNEED, DT_VERNEEDNUM}
 use Rattle.pl_dyn.specs.declared.tags.Tag.{Tag}
 use Rattle.pl_sym.specs.declared.constants.TheConstants.{SYMBOL_SIZE}
 use Rattle.pl_build.specs.declared.constants.TheConstants.{RELA_SIZE, DF_BIND_NOW, DF_1_NOW}
-use Rattle.pl_build.specs.declared.fields.Field.{Field}
-use Rattle.pl_build.specs.declared.fields.Field.TheVariants.{Byte, Half, Word, Long}
+use Rattle.pl_build.specs.declared.fields.Field.TheVariants.{Long}
 use Rattle.pl_build.specs.declared.roles.Role.TheVariants.{Null}
 use Rattle.pl_build.specs.declared.roles.Place.{Place}
 use Rattle.pl_build.specs.declared.plan.Plan.{Plan}

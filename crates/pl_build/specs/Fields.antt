@@ -1,5 +1,5 @@
 -- Tables as lists of fields.
-use Rattle.std.specs.Prelude.{ℕ, List, [], ◌∷◌}
+use Rattle.std.specs.Prelude.{ℕ, List}
 use Rattle.std.specs.List.{flat_map}
 use Rattle.byteorder.specs.Endian.{little_bytes}
 use Rattle.pl_build.specs.declared.fields.Field.{Field}

@@ -1,5 +1,5 @@
 -- A line by its words.
-use Rattle.std.specs.Prelude.{ℕ, Bool, true, false, not, ◌&&◌, ◌||◌, ◌==◌, List, [], ◌∷◌, length, drop, Option, Some, None, codes, if◌then◌else◌}
+use Rattle.std.specs.Prelude.{ℕ, true, false, ◌&&◌, ◌==◌, List, [], length, codes, if◌then◌else◌}
 use Rattle.std.specs.Str.{bytes_eq}
 use Rattle.pl_base.specs.Names.{is_valid_name}
 use Rattle.pl_build.specs.declared.line.Kind.TheVariants.{Program, Library, Static}

@@ -1,12 +1,11 @@
 -- The hash tables of symbols: System V (gABI chapter 5, "Hash Table") and GNU.
-use Rattle.std.specs.Prelude.{ℕ, ◌+◌, ◌*◌, ◌/◌, ◌%◌, ◌^◌, Bool, not, ◌==◌, List, [], ◌∷◌, ◌++◌, length, map, filter, drop, fold, count_by, position, Option, Some, None, bit_or, slice_index, if◌then◌else◌}
+use Rattle.std.specs.Prelude.{ℕ, ◌+◌, ◌*◌, ◌/◌, ◌%◌, ◌^◌, Bool, ◌==◌, List, [], ◌∷◌, ◌++◌, length, map, filter, drop, fold, count_by, position, Option, Some, None, bit_or, slice_index, if◌then◌else◌}
 use Rattle.std.specs.List.{list_any, range_with_len}
 use Rattle.pl_base.specs.Sums.{plus}
 use Rattle.pl_hash.specs.Hash.{sysv, gnu}
 use Rattle.pl_hash.specs.declared.table.TheConstants.{BLOOM_WORD_BITS}
 use Rattle.pl_build.specs.declared.constants.TheConstants.{BLOOM_COUNT, BLOOM_SHIFT_BITS}
-use Rattle.pl_build.specs.declared.fields.Field.{Field}
-use Rattle.pl_build.specs.declared.fields.Field.TheVariants.{Byte, Half, Word, Long}
+use Rattle.pl_build.specs.declared.fields.Field.TheVariants.{Word, Long}
 use Rattle.pl_build.specs.declared.line.Symbol.{Symbol}
 use Rattle.pl_build.specs.declared.plan.Plan.{Plan}
 use Rattle.pl_build.specs.Fields.{fields}

@@ -1,7 +1,6 @@
 -- What follows from a recipe before anything is laid out.
 use Rattle.std.specs.Prelude.{ℕ, ◌+◌, Bool, true, false, not, ◌&&◌, ◌||◌, ◌==◌, List, [], ◌∷◌, ◌++◌, length, if◌then◌else◌}
 use Rattle.std.specs.List.{list_any}
-use Rattle.pl_base.specs.Sums.{plus}
 use Rattle.pl_build.specs.declared.constants.TheConstants.{BASE, DATA_DISTANCE, R_X86_64_JUMP_SLOT}
 use Rattle.pl_build.specs.declared.line.Kind.{Kind}
 use Rattle.pl_build.specs.declared.line.Kind.TheVariants.{Program, Library, Static}

@@ -1,5 +1,5 @@
 -- What all lines of a recipe say together.
-use Rattle.std.specs.Prelude.{true, false, List, [], ◌∷◌, ◌++◌, Option, Some, None, fold}
+use Rattle.std.specs.Prelude.{true, false, List, [], ◌∷◌, ◌++◌, Some, None, fold}
 use Rattle.pl_build.specs.declared.constants.TheConstants.{BUCKETS, SPARE}
 use Rattle.pl_build.specs.declared.line.Kind.TheVariants.{Program}
 use Rattle.pl_build.specs.declared.line.Line.{Line}

@@ -1,11 +1,10 @@
 -- The tables of relocations (System V gABI chapter 4, "Relocation").
-use Rattle.std.specs.Prelude.{ℕ, ◌+◌, Bool, not, ◌==◌, List, [], ◌∷◌, map, filter, position, Option, Some, None, if◌then◌else◌}
+use Rattle.std.specs.Prelude.{ℕ, Bool, ◌==◌, List, [], ◌∷◌, map, filter, position, Option, Some, None, if◌then◌else◌}
 use Rattle.std.specs.List.{flat_map}
 use Rattle.std.specs.Str.{bytes_eq}
 use Rattle.pl_base.specs.Sums.{plus, minus}
 use Rattle.pl_build.specs.declared.constants.TheConstants.{R_X86_64_RELATIVE}
-use Rattle.pl_build.specs.declared.fields.Field.{Field}
-use Rattle.pl_build.specs.declared.fields.Field.TheVariants.{Byte, Half, Word, Long}
+use Rattle.pl_build.specs.declared.fields.Field.TheVariants.{Word, Long}
 use Rattle.pl_build.specs.declared.line.Relocation.{Relocation}
 use Rattle.pl_build.specs.declared.line.Symbol.{Symbol}
 use Rattle.pl_build.specs.declared.plan.Plan.{Plan}

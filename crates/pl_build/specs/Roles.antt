@@ -1,5 +1,5 @@
 -- The sections of a file by what they hold: their names and fields (System V gABI chapter 4, "Sections"; GNU symbol versioning; GNU hash table).
-use Rattle.std.specs.Prelude.{ℕ, ◌+◌, Bool, true, false, not, ◌&&◌, ◌||◌, List, [], ◌∷◌, map, filter, position, unwrap_or, codes, if◌then◌else◌}
+use Rattle.std.specs.Prelude.{ℕ, ◌+◌, Bool, List, [], map, filter, position, unwrap_or, codes}
 use Rattle.std.specs.Str.{bytes_eq}
 use Rattle.pl_elf.specs.declared.constants.TheConstants.{SHT_NULL, SHT_PROGBITS, SHT_STRTAB, SHT_RELA, SHT_HASH, SHT_DYNAMIC, SHT_NOBITS, SHT_DYNSYM, SHT_GNU_HASH, SHT_GNU_VERDEF, SHT_GNU_VERNEED, SHT_GNU_VERSYM, SHF_WRITE, SHF_ALLOC}
 use Rattle.pl_dyn.specs.declared.constants.TheConstants.{ENTRY_SIZE}

@@ -1,10 +1,9 @@
 -- The section header table (System V gABI chapter 4, "Sections").
-use Rattle.std.specs.Prelude.{ℕ, ◌+◌, Bool, List, [], ◌∷◌, ◌++◌, length, map, codes, if◌then◌else◌}
-use Rattle.std.specs.List.{flat_map}
+use Rattle.std.specs.Prelude.{ℕ, ◌+◌, List, [], ◌∷◌, ◌++◌, length, map, if◌then◌else◌}
 use Rattle.pl_base.specs.Sums.{plus}
 use Rattle.pl_build.specs.declared.constants.TheConstants.{INTERP_OFFSET}
 use Rattle.pl_build.specs.declared.fields.Field.{Field}
-use Rattle.pl_build.specs.declared.fields.Field.TheVariants.{Byte, Half, Word, Long}
+use Rattle.pl_build.specs.declared.fields.Field.TheVariants.{Word, Long}
 use Rattle.pl_build.specs.declared.roles.Role.{Role}
 use Rattle.pl_build.specs.declared.roles.Role.TheVariants.{Null, Interp, Dynsym, Verdef, Verneed, Data, Bss, Shstrtab}
 use Rattle.pl_build.specs.declared.roles.Place.{Place}

@@ -1,19 +1,17 @@
 -- The program header table (System V gABI chapter 5, "Program Header").
-use Rattle.std.specs.Prelude.{ℕ, ◌+◌, ◌*◌, Bool, true, false, not, ◌&&◌, ◌||◌, ◌==◌, nat_lt, List, [], ◌∷◌, ◌++◌, length, map, filter, Option, Some, None, codes, if◌then◌else◌}
-use Rattle.std.specs.List.{flat_map}
+use Rattle.std.specs.Prelude.{ℕ, ◌+◌, ◌*◌, Bool, true, false, ◌||◌, nat_lt, List, [], ◌∷◌, ◌++◌, length, map, filter, Option, Some, None, codes}
 use Rattle.std.specs.Option.{is_some}
 use Rattle.pl_base.specs.Sums.{plus, round_up}
 use Rattle.pl_elf.specs.declared.constants.TheConstants.{HEADER_SIZE, SEGMENT_SIZE, PT_LOAD, PT_DYNAMIC, PT_INTERP, PT_PHDR, PT_TLS, PT_GNU_STACK}
 use Rattle.pl_elf.specs.declared.segment.Segment.{Segment}
 use Rattle.pl_build.specs.declared.constants.TheConstants.{INTERP_OFFSET, PAGE, TABLE_ALIGN, STACK_ALIGN, PF_R, PF_RW}
-use Rattle.pl_build.specs.declared.fields.Field.{Field}
-use Rattle.pl_build.specs.declared.fields.Field.TheVariants.{Byte, Half, Word, Long}
+use Rattle.pl_build.specs.declared.fields.Field.TheVariants.{Word, Long}
 use Rattle.pl_build.specs.declared.line.TlsBlock.{TlsBlock}
 use Rattle.pl_build.specs.declared.recipe.Settings.{Settings}
 use Rattle.pl_build.specs.declared.roles.Place.{Place}
 use Rattle.pl_build.specs.Dynamic.{is_there}
 use Rattle.pl_build.specs.Fields.{fields}
-use Rattle.pl_build.specs.Plan.{base_of, data_address, has_interp, is_static}
+use Rattle.pl_build.specs.Plan.{base_of, data_address, has_interp}
 
 -- the path of the interpreter of x86-64 programs, ended by a 0 byte
 abbrev pub interp_bytes : List ℕ

@@ -3,7 +3,6 @@ use Rattle.std.specs.Prelude.{ℕ, ◌+◌, ◌*◌, Bool, not, ◌&&◌, ◌||�
 use Rattle.std.specs.List.{flat_map}
 use Rattle.pl_base.specs.Sums.{plus}
 use Rattle.pl_sym.specs.declared.constants.TheConstants.{SHN_UNDEF, SHN_ABS, STT_NOTYPE, STT_TLS}
-use Rattle.pl_build.specs.declared.fields.Field.{Field}
 use Rattle.pl_build.specs.declared.fields.Field.TheVariants.{Byte, Half, Word, Long}
 use Rattle.pl_build.specs.declared.line.Symbol.{Symbol}
 use Rattle.pl_build.specs.declared.plan.Plan.{Plan}

@@ -1,9 +1,8 @@
 -- The order of the symbols: those that a recipe refers to, then those that it defines, by their bucket in the GNU hash table if there is one.
-use Rattle.std.specs.Prelude.{ℕ, ◌%◌, Bool, true, false, not, ◌&&◌, ◌||◌, ◌==◌, List, [], ◌∷◌, ◌++◌, filter, if◌then◌else◌}
+use Rattle.std.specs.Prelude.{ℕ, ◌%◌, Bool, true, false, not, ◌&&◌, ◌==◌, List, [], ◌∷◌, ◌++◌, filter, if◌then◌else◌}
 use Rattle.std.specs.List.{flat_map, range_with_len}
 use Rattle.pl_hash.specs.Hash.{gnu}
 use Rattle.pl_build.specs.declared.line.Symbol.{Symbol}
-use Rattle.pl_build.specs.declared.recipe.Recipe.{Recipe}
 use Rattle.pl_build.specs.declared.recipe.Settings.{Settings}
 
 -- the bucket of a hash; a table has at least one

@@ -1,12 +1,11 @@
 -- The tables of GNU symbol versioning.
-use Rattle.std.specs.Prelude.{ℕ, ◌+◌, ◌*◌, ◌%◌, ◌^◌, Bool, not, ◌&&◌, ◌||◌, ◌==◌, List, [], ◌∷◌, ◌++◌, length, map, drop, position, unwrap_or, count_by, codes, slice_get, Option, Some, None, if◌then◌else◌}
+use Rattle.std.specs.Prelude.{ℕ, ◌+◌, ◌*◌, ◌%◌, ◌^◌, not, ◌==◌, List, [], ◌∷◌, ◌++◌, length, map, drop, position, unwrap_or, count_by, codes, slice_get, Option, Some, None, if◌then◌else◌}
 use Rattle.std.specs.List.{flat_map, list_any, range_with_len}
 use Rattle.std.specs.Str.{bytes_eq}
 use Rattle.pl_base.specs.Sums.{plus}
 use Rattle.pl_hash.specs.Hash.{sysv}
 use Rattle.pl_ver.specs.declared.constants.TheConstants.{VERDEF_SIZE, VERDAUX_SIZE, VERNEED_SIZE, VERNAUX_SIZE, VER_FLG_BASE, VER_NDX_GLOBAL, VERSYM_HIDDEN}
-use Rattle.pl_build.specs.declared.fields.Field.{Field}
-use Rattle.pl_build.specs.declared.fields.Field.TheVariants.{Byte, Half, Word, Long}
+use Rattle.pl_build.specs.declared.fields.Field.TheVariants.{Half, Word}
 use Rattle.pl_build.specs.declared.line.Symbol.{Symbol}
 use Rattle.pl_build.specs.declared.needed.Need.{Need}
 use Rattle.pl_build.specs.declared.plan.Plan.{Plan}

@@ -2,7 +2,6 @@
 use Rattle.std.specs.Prelude.{ℕ, ◌+◌, ◌-◌, ◌*◌, ◌%◌, ◌^◌, Bool, not, ◌&&◌, ◌||◌, nat_le, nat_eq, List, [], ◌∷◌, length, take, drop, fold, position, Option, Some, None, codes, slice_get, if◌then◌else◌}
 use Rattle.std.specs.List.{list_all, starts_with}
 use Rattle.std.specs.Option.{is_some}
-use Rattle.std.specs.Str.{bytes_eq}
 use Rattle.bstr.specs.Find.{matches}
 use Rattle.bstr.specs.Text.{split_at}
 use Rattle.pl_base.specs.Names.{is_valid_name}

@@ -1,6 +1,6 @@
 use Rattle.std.proofs.Common.{◌≡◌, drop}
 use Rattle.std.specs.List.{fold}
-use Rattle.pl_build.specs.Needed.{need_added, needs_of, file_added, files_of}
+use Rattle.pl_build.specs.Needed.{file_added, files_of}
 use Rattle.pl_build.proofs.needed.files_of.Given as goal
 
 abbrev pub invariant-loop-need : goal.invariant-loop-need

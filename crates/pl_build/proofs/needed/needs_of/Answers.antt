@@ -1,5 +1,5 @@
 use Rattle.pl_build.proofs.LoopLaws.{fold_more, fold_done}
-use Rattle.pl_build.specs.Needed.{need_added, needs_of, file_added, files_of}
+use Rattle.pl_build.specs.Needed.{need_added, needs_of}
 use Rattle.pl_build.proofs.needed.needs_of.Goals as goal
 
 pub loop-symbol-init : goal.loop-symbol-init

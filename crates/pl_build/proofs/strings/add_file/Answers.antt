@@ -1,5 +1,5 @@
 use Rattle.pl_build.proofs.LoopLaws.{fold_more, fold_done}
-use Rattle.pl_build.specs.Strings.{text_added, texts_added, symbol_added, symbols_added, need_added, file_added, files_added}
+use Rattle.pl_build.specs.Strings.{need_added, file_added}
 use Rattle.pl_build.proofs.strings.add_file.Goals as goal
 
 pub loop-need-init : goal.loop-need-init

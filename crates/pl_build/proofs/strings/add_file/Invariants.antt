@@ -1,6 +1,6 @@
 use Rattle.std.proofs.Common.{◌≡◌, drop}
 use Rattle.std.specs.List.{fold}
-use Rattle.pl_build.specs.Strings.{text_added, texts_added, symbol_added, symbols_added, need_added, file_added, files_added}
+use Rattle.pl_build.specs.Strings.{need_added, file_added}
 use Rattle.pl_build.proofs.strings.add_file.Given as goal
 
 abbrev pub invariant-loop-need : goal.invariant-loop-need

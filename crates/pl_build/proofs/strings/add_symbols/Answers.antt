@@ -1,5 +1,5 @@
 use Rattle.pl_build.proofs.LoopLaws.{fold_more, fold_done}
-use Rattle.pl_build.specs.Strings.{text_added, texts_added, symbol_added, symbols_added, need_added, file_added, files_added}
+use Rattle.pl_build.specs.Strings.{symbol_added}
 use Rattle.pl_build.proofs.strings.add_symbols.Goals as goal
 
 pub loop-symbol-preserved : goal.loop-symbol-preserved

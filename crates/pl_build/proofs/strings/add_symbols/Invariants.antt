@@ -1,6 +1,6 @@
 use Rattle.std.proofs.Common.{◌≡◌, drop}
 use Rattle.std.specs.List.{fold}
-use Rattle.pl_build.specs.Strings.{text_added, texts_added, symbol_added, symbols_added, need_added, file_added, files_added}
+use Rattle.pl_build.specs.Strings.{symbol_added, symbols_added}
 use Rattle.pl_build.proofs.strings.add_symbols.Given as goal
 
 abbrev pub invariant-loop-symbol : goal.invariant-loop-symbol

@@ -1,4 +1,4 @@
-use Rattle.pl_build.specs.Symbols.{is_undefined, is_in}
+use Rattle.pl_build.specs.Symbols.{is_undefined}
 use Rattle.pl_build.proofs.LoopLaws.{kept_more, filter_done}
 use Rattle.pl_build.proofs.symbols.undefined.Goals as goal
 

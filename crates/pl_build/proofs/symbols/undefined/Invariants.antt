@@ -1,6 +1,6 @@
 use Rattle.std.proofs.Common.{◌≡◌, ◌++◌, drop}
 use Rattle.std.specs.List.{filter}
-use Rattle.pl_build.specs.Symbols.{is_undefined, is_in}
+use Rattle.pl_build.specs.Symbols.{is_undefined}
 use Rattle.pl_build.proofs.symbols.undefined.Given as goal
 
 abbrev pub invariant-loop-symbol : goal.invariant-loop-symbol

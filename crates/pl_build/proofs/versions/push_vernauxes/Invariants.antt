@@ -1,6 +1,6 @@
 use Rattle.std.proofs.Common.{◌≡◌, ◌++◌, drop, length}
 use Rattle.std.specs.List.{flat_map, range_with_len}
-use Rattle.pl_build.specs.Versions.{verdef_at, vernaux_at, verneed_at}
+use Rattle.pl_build.specs.Versions.{vernaux_at}
 use Rattle.pl_build.proofs.versions.push_vernauxes.Given as goal
 
 abbrev pub invariant-loop-index : goal.invariant-loop-index

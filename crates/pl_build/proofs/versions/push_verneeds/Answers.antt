@@ -1,4 +1,4 @@
-use Rattle.pl_build.specs.Versions.{verdef_at, vernaux_at, verneed_at}
+use Rattle.pl_build.specs.Versions.{verneed_at}
 use Rattle.pl_build.proofs.LoopLaws.{numbers_more, numbers_done}
 use Rattle.pl_build.proofs.versions.push_verneeds.Goals as goal
 
