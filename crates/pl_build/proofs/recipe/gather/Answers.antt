@@ -1,0 +1,13 @@
+use Rattle.pl_build.proofs.LoopLaws.{fold_more, fold_done}
+use Rattle.pl_build.specs.Recipe.{added, gathered}
+use Rattle.pl_build.proofs.recipe.gather.Goals as goal
+
+pub loop-line-init : goal.loop-line-init
+unfolding gathered
+loop-line-init c = rw c.empty-recipe.ensures
+
+pub loop-line-preserved : goal.loop-line-preserved
+loop-line-preserved c = fold_more added _ _ _ _ c.line-item.result _ c.loop-line-test.true c.line-item.is c.in_ok-recipe.ensures c.loop-line.invariant
+
+pub returns : goal.returns
+returns c = fold_done added _ _ _ _ c.loop-line-test.false c.loop-line.invariant

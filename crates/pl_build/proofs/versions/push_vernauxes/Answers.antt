@@ -1,0 +1,12 @@
+use Rattle.pl_build.specs.Versions.{vernaux_at}
+use Rattle.pl_build.proofs.LoopLaws.{numbers_more, numbers_done}
+use Rattle.pl_build.proofs.versions.push_vernauxes.Goals as goal
+
+pub loop-index-init : goal.loop-index-init
+loop-index-init c = rw c.len-count.ensures
+
+pub loop-index-preserved : goal.loop-index-preserved
+loop-index-preserved c = numbers_more (vernaux_at c.args.plan.now c.args.file.now) _ _ _ _ _ c.loop-index-test.true c.in_ok-push_vernaux_at.ensures c.loop-index.invariant
+
+pub returns : goal.returns
+returns c = numbers_done (vernaux_at c.args.plan.now c.args.file.now) _ _ _ _ c.loop-index-test.false c.loop-index.invariant

@@ -1,0 +1,100 @@
+-- The dynamic table (System V gABI chapter 5, "Dynamic Section").
+use Rattle.std.specs.Prelude.{ℕ, ◌+◌, Bool, true, not, ◌&&◌, ◌==◌, List, [], ◌∷◌, ◌++◌, length, map, filter, find, Option, Some, None, codes}
+use Rattle.std.specs.List.{flat_map, range_with_len}
+use Rattle.pl_dyn.specs.declared.constants.TheConstants.{DT_NULL, DT_NEEDED, DT_PLTRELSZ, DT_HASH, DT_STRTAB, DT_SYMTAB, DT_RELA, DT_RELASZ, DT_RELAENT, DT_STRSZ, DT_SYMENT, DT_SYMBOLIC, DT_PLTREL, DT_DEBUG, DT_JMPREL, DT_BIND_NOW, DT_FLAGS, DT_GNU_HASH, DT_VERSYM, DT_FLAGS_1, DT_VERDEF, DT_VERDEFNUM, DT_VERNEED, DT_VERNEEDNUM}
+use Rattle.pl_dyn.specs.declared.tags.Tag.{Tag}
+use Rattle.pl_sym.specs.declared.constants.TheConstants.{SYMBOL_SIZE}
+use Rattle.pl_build.specs.declared.constants.TheConstants.{RELA_SIZE, DF_BIND_NOW, DF_1_NOW}
+use Rattle.pl_build.specs.declared.fields.Field.TheVariants.{Long}
+use Rattle.pl_build.specs.declared.roles.Role.TheVariants.{Null}
+use Rattle.pl_build.specs.declared.roles.Place.{Place}
+use Rattle.pl_build.specs.declared.plan.Plan.{Plan}
+use Rattle.pl_build.specs.Fields.{fields}
+use Rattle.pl_build.specs.Plan.{is_program}
+use Rattle.pl_build.specs.Roles.{has_name}
+use Rattle.pl_build.specs.Strings.{text_at}
+
+unfoldable pub tag_bytes : Tag → List ℕ
+tag_bytes tag = fields (Long tag.number ∷ Long tag.value ∷ [])
+
+abbrev pub tag : ℕ → ℕ → Tag
+tag number value = record { number = number; value = value }
+
+-- a tag that may be there
+unfoldable pub chosen : List (Bool × Tag) → List Tag
+chosen choices = map (λ choice. choice.1) (filter (λ choice. choice.0) choices)
+
+-- ---- where a section stands
+
+abbrev pub is_at : List ℕ → Place → Bool
+is_at name place = has_name name place.role
+
+abbrev pub or_nowhere : Option Place → Place
+or_nowhere (Some place) = place
+or_nowhere None = record { role = Null; addr = 0; offset = 0; size = 0 }
+
+-- a section of no bytes is not there
+unfoldable pub place_of : List Place → List ℕ → Place
+place_of places name = or_nowhere (find (is_at name) places)
+
+abbrev pub is_there : Place → Bool
+is_there place = not (place.size == 0)
+
+-- ---- the tags
+
+unfoldable pub needed_tags : Plan → List Tag
+needed_tags p = map (λ name. tag DT_NEEDED (text_at p.strings name)) p.needed
+
+unfoldable pub table_tags : Plan → List Place → List Tag
+table_tags p places =
+    let hash = place_of places (codes ".hash") in
+    let gnu_hash = place_of places (codes ".gnu.hash") in
+    let strings = place_of places (codes ".dynstr") in
+    let symbols = place_of places (codes ".dynsym") in
+    chosen (
+    (is_there hash, tag DT_HASH hash.addr) ∷ (is_there gnu_hash, tag DT_GNU_HASH gnu_hash.addr)
+    ∷ (true, tag DT_STRTAB strings.addr) ∷ (true, tag DT_SYMTAB symbols.addr) ∷ (true, tag DT_STRSZ strings.size)
+    ∷ (true, tag DT_SYMENT SYMBOL_SIZE) ∷ (p.settings.symbolic, tag DT_SYMBOLIC 0) ∷ [])
+
+unfoldable pub relocation_tags : List Place → List Tag
+relocation_tags places =
+    let slots = place_of places (codes ".rela.plt") in
+    let others = place_of places (codes ".rela.dyn") in
+    chosen (
+    (is_there slots, tag DT_PLTRELSZ slots.size) ∷ (is_there slots, tag DT_PLTREL DT_RELA) ∷ (is_there slots, tag DT_JMPREL slots.addr)
+    ∷ (is_there others, tag DT_RELA others.addr) ∷ (is_there others, tag DT_RELASZ others.size) ∷ (is_there others, tag DT_RELAENT RELA_SIZE) ∷ [])
+
+-- the base counts among the versions that are defined
+unfoldable pub version_tags : Plan → List Place → List Tag
+version_tags p places =
+    let words = place_of places (codes ".gnu.version") in
+    let defined = place_of places (codes ".gnu.version_d") in
+    let needed = place_of places (codes ".gnu.version_r") in
+    chosen (
+    (is_there words, tag DT_VERSYM words.addr)
+    ∷ (is_there defined, tag DT_VERDEF defined.addr) ∷ (is_there defined, tag DT_VERDEFNUM (length p.versions + 1))
+    ∷ (is_there needed, tag DT_VERNEED needed.addr) ∷ (is_there needed, tag DT_VERNEEDNUM (length p.files)) ∷ [])
+
+unfoldable pub usual_tags : Plan → List Tag
+usual_tags p =
+    let usual = p.settings.usual in
+    chosen (
+    (usual && is_program p.settings.kind, tag DT_DEBUG 0) ∷ (usual, tag DT_BIND_NOW 0)
+    ∷ (usual, tag DT_FLAGS DF_BIND_NOW) ∷ (usual, tag DT_FLAGS_1 DF_1_NOW) ∷ [])
+
+-- the entry that ends the table, and the spare ones behind it
+abbrev pub end_tag : Tag
+end_tag = tag DT_NULL 0
+
+unfoldable pub spare_tags : Plan → List Tag
+spare_tags p = map (λ k. end_tag) (range_with_len 0 p.settings.spare)
+
+unfoldable pub dynamic_table : Plan → List Place → List ℕ
+dynamic_table p places =
+    flat_map tag_bytes (needed_tags p)
+    ++ flat_map tag_bytes (table_tags p places)
+    ++ flat_map tag_bytes (relocation_tags places)
+    ++ flat_map tag_bytes (version_tags p places)
+    ++ flat_map tag_bytes (usual_tags p)
+    ++ flat_map tag_bytes (end_tag ∷ [])
+    ++ flat_map tag_bytes (spare_tags p)

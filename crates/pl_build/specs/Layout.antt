@@ -1,0 +1,70 @@
+-- The tables, one after the other from their offset on, each at a multiple of 8.
+use Rattle.std.specs.Prelude.{ℕ, ◌+◌, ◌==◌, List, [], ◌∷◌, ◌++◌, length, replicate, nat_lt, Result, Ok, Err, if◌then◌else◌}
+use Rattle.pl_base.specs.Each.{run}
+use Rattle.pl_base.specs.Sums.{plus}
+use Rattle.pl_base.specs.Windows.{gap}
+use Rattle.pl_build.specs.declared.constants.TheConstants.{TABLES_OFFSET, MAX_TABLES}
+use Rattle.pl_build.specs.declared.fault.RecipeFault.{RecipeFault}
+use Rattle.pl_build.specs.declared.fault.RecipeFault.TheVariants.{Bad}
+use Rattle.pl_build.specs.declared.roles.Role.{Role}
+use Rattle.pl_build.specs.declared.roles.Role.TheVariants.{Hash, GnuHash, Dynsym, Dynstr, Versym, Verdef, Verneed, RelaDyn, RelaPlt, Dynamic}
+use Rattle.pl_build.specs.declared.roles.Place.{Place}
+use Rattle.pl_build.specs.declared.plan.Plan.{Plan}
+use Rattle.pl_build.specs.declared.layout.Tables.{Tables}
+use Rattle.pl_build.specs.Plan.{base_of}
+use Rattle.pl_build.specs.SymbolTable.{symbol_table}
+use Rattle.pl_build.specs.Versions.{version_words, verdefs, verneeds}
+use Rattle.pl_build.specs.HashTables.{sysv_table, gnu_table}
+use Rattle.pl_build.specs.Relocations.{jump_slots, others}
+use Rattle.pl_build.specs.Dynamic.{dynamic_table}
+
+-- the file or its tables would be too large
+abbrev pub too_large : RecipeFault
+too_large = Bad 0 5
+
+-- a table's bytes. The dynamic table is the last, and names the places of those before it
+unfoldable pub contents : Plan → List Place → Role → List ℕ
+contents p places Hash = sysv_table p
+contents p places GnuHash = gnu_table p
+contents p places Dynsym = symbol_table p
+contents p places Dynstr = p.strings.bytes
+contents p places Versym = version_words p
+contents p places Verdef = verdefs p
+contents p places Verneed = verneeds p
+contents p places RelaDyn = others p
+contents p places RelaPlt = jump_slots p
+contents p places Dynamic = dynamic_table p places
+contents p places _ = []
+
+abbrev pub start : Tables
+start = record { bytes = []; places = [] }
+
+-- zeros up to the next multiple of 8
+unfoldable pub aligned : List ℕ → List ℕ
+aligned bytes = bytes ++ replicate (gap (length bytes)) 0
+
+unfoldable pub place_at : Plan → Role → ℕ → ℕ → Place
+place_at p role offset size = record { role = role; addr = plus (base_of p.settings) offset; offset = offset; size = size }
+
+-- one table more
+unfoldable pub table_added : Plan → Tables → Role → List ℕ → Tables
+table_added p t role content = record {
+  bytes = aligned t.bytes ++ content;
+  places = t.places ++ place_at p role (TABLES_OFFSET + length (aligned t.bytes)) (length content) ∷ [];
+}
+
+-- where the tables end
+abbrev pub end_of : Tables → ℕ
+end_of t = TABLES_OFFSET + length t.bytes
+
+abbrev pub in_limit : Tables → Result Tables RecipeFault
+in_limit t = if nat_lt MAX_TABLES (end_of t) then Err too_large else Ok t
+
+-- a section of no contents is no table
+unfoldable pub role_added : Plan → Tables → Role → Result Tables RecipeFault
+role_added p t role =
+    let content = contents p t.places role in
+    if length content == 0 then Ok t else in_limit (table_added p t role content)
+
+unfoldable pub tables : Plan → Result Tables RecipeFault
+tables p = run (role_added p) start p.roles

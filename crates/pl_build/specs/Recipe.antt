@@ -1,0 +1,51 @@
+-- What all lines of a recipe say together.
+use Rattle.std.specs.Prelude.{true, false, List, [], ◌∷◌, ◌++◌, Some, None, fold}
+use Rattle.pl_build.specs.declared.constants.TheConstants.{BUCKETS, SPARE}
+use Rattle.pl_build.specs.declared.line.Kind.TheVariants.{Program}
+use Rattle.pl_build.specs.declared.line.Line.{Line}
+use Rattle.pl_build.specs.declared.line.Line.TheVariants.{First, Usual, Hash, Buckets, Spare, Needs, Symbolic, Entry, Data, Bss, Put, Tls, Version, Names, Relocates}
+use Rattle.pl_build.specs.declared.recipe.Settings.{Settings}
+use Rattle.pl_build.specs.declared.recipe.Recipe.{Recipe}
+
+abbrev pub defaults : Settings
+defaults = record {
+  kind = Program;
+  usual = false;
+  hashes = record { sysv = true; gnu = false };
+  buckets = BUCKETS;
+  spare = SPARE;
+  symbolic = false;
+  entry = None;
+  data_size = 0;
+  bss = 0;
+  tls = None;
+}
+
+abbrev pub empty : Recipe
+empty = record { settings = defaults; needs = []; words = []; versions = []; symbols = []; relocations = [] }
+
+-- a line that stands once
+abbrev pub set : Settings → Line → Settings
+set s (First kind) = record s { kind = kind }
+set s Usual = record s { usual = true }
+set s (Hash hashes) = record s { hashes = hashes }
+set s (Buckets n) = record s { buckets = n }
+set s (Spare n) = record s { spare = n }
+set s Symbolic = record s { symbolic = true }
+set s (Entry offset) = record s { entry = Some offset }
+set s (Data n) = record s { data_size = n }
+set s (Bss n) = record s { bss = n }
+set s (Tls tls) = record s { tls = Some tls }
+set s _ = s
+
+-- one line more
+abbrev pub added : Recipe → Line → Recipe
+added r (Needs name) = record r { needs = r.needs ++ name ∷ [] }
+added r (Put w) = record r { words = r.words ++ w ∷ [] }
+added r (Version name) = record r { versions = r.versions ++ name ∷ [] }
+added r (Names s) = record r { symbols = r.symbols ++ s ∷ [] }
+added r (Relocates x) = record r { relocations = r.relocations ++ x ∷ [] }
+added r line = record r { settings = set r.settings line }
+
+unfoldable pub gathered : List Line → Recipe
+gathered lines = fold added empty lines

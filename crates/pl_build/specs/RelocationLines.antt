@@ -1,0 +1,43 @@
+-- The line `rel KIND OFF NAME ADDEND`.
+use Rattle.std.specs.Prelude.{ℕ, Bool, not, ◌&&◌, ◌||◌, ◌==◌, List, [], ◌∷◌, Option, codes, if◌then◌else◌}
+use Rattle.std.specs.Option.{option_or}
+use Rattle.std.specs.Str.{bytes_eq}
+use Rattle.pl_build.specs.declared.constants.TheConstants.{R_X86_64_NONE, R_X86_64_64, R_X86_64_COPY, R_X86_64_GLOB_DAT, R_X86_64_JUMP_SLOT, R_X86_64_RELATIVE, R_X86_64_DTPMOD64, R_X86_64_DTPOFF64, R_X86_64_TPOFF64, R_X86_64_TLSDESC, R_X86_64_IRELATIVE}
+use Rattle.pl_build.specs.declared.line.Line.{Line}
+use Rattle.pl_build.specs.declared.line.Line.TheVariants.{Wrong, Relocates}
+use Rattle.pl_build.specs.Words.{word, number, is_negative, magnitude, is_written}
+use Rattle.pl_build.specs.Options.{or_wrong, look_up}
+
+unfoldable pub symbol_kind : List ℕ → Option ℕ
+symbol_kind text = look_up text (
+    (codes "abs64", R_X86_64_64) ∷ (codes "copy", R_X86_64_COPY) ∷ (codes "globdat", R_X86_64_GLOB_DAT) ∷ (codes "jumpslot", R_X86_64_JUMP_SLOT)
+    ∷ (codes "relative", R_X86_64_RELATIVE) ∷ (codes "none", R_X86_64_NONE) ∷ [])
+
+unfoldable pub other_kind : List ℕ → Option ℕ
+other_kind text = look_up text (
+    (codes "dtpmod", R_X86_64_DTPMOD64) ∷ (codes "dtpoff", R_X86_64_DTPOFF64) ∷ (codes "tpoff", R_X86_64_TPOFF64)
+    ∷ (codes "irelative", R_X86_64_IRELATIVE) ∷ (codes "tlsdesc", R_X86_64_TLSDESC) ∷ [])
+
+unfoldable pub kind_of : List ℕ → Option ℕ
+kind_of text = option_or (symbol_kind text) (other_kind text)
+
+-- the name that stands for no symbol
+unfoldable pub is_no_symbol : List ℕ → Bool
+is_no_symbol text = bytes_eq text (codes "-")
+
+-- a relative relocation has no symbol
+unfoldable pub fits : ℕ → List ℕ → Bool
+fits kind text = is_written text && (is_no_symbol text || not (kind == R_X86_64_RELATIVE))
+
+unfoldable pub rel_line : List (List ℕ) → Line
+rel_line words =
+    or_wrong (kind_of (word 1 words)) (λ kind.
+    or_wrong (number (word 2 words)) (λ offset.
+    or_wrong (magnitude (word 4 words)) (λ m.
+    if fits kind (word 3 words) then Relocates (record {
+      kind = kind;
+      offset = offset;
+      name = word 3 words;
+      negative = is_negative (word 4 words);
+      magnitude = m;
+    }) else Wrong)))

@@ -1,0 +1,51 @@
+-- The tables of relocations (System V gABI chapter 4, "Relocation").
+use Rattle.std.specs.Prelude.{ℕ, Bool, ◌==◌, List, [], ◌∷◌, map, filter, position, Option, Some, None, if◌then◌else◌}
+use Rattle.std.specs.List.{flat_map}
+use Rattle.std.specs.Str.{bytes_eq}
+use Rattle.pl_base.specs.Sums.{plus, minus}
+use Rattle.pl_build.specs.declared.constants.TheConstants.{R_X86_64_RELATIVE}
+use Rattle.pl_build.specs.declared.fields.Field.TheVariants.{Word, Long}
+use Rattle.pl_build.specs.declared.line.Relocation.{Relocation}
+use Rattle.pl_build.specs.declared.line.Symbol.{Symbol}
+use Rattle.pl_build.specs.declared.plan.Plan.{Plan}
+use Rattle.pl_build.specs.declared.relocations.Rela.{Rela}
+use Rattle.pl_build.specs.Fields.{fields}
+use Rattle.pl_build.specs.Plan.{data_address, is_jump_slot, is_other}
+use Rattle.pl_build.specs.RelocationLines.{is_no_symbol}
+
+-- offset, info (the type in its low 32 bits, the symbol in the high ones), addend
+unfoldable pub rela_bytes : Rela → List ℕ
+rela_bytes r = fields (Long r.offset ∷ Word r.kind ∷ Word r.symbol ∷ Long r.addend ∷ [])
+
+abbrev pub is_written_as : List ℕ → Symbol → Bool
+is_written_as name s = bytes_eq s.written name
+
+abbrev pub number_at : Option ℕ → ℕ
+number_at None = 0
+number_at (Some index) = plus index 1
+
+-- the number of the symbol of a written name, 0 for `-`
+unfoldable pub symbol_number : Plan → List ℕ → ℕ
+symbol_number p name = if is_no_symbol name then 0 else number_at (position (is_written_as name) p.symbols)
+
+-- modulo 2^64
+unfoldable pub addend_of : Relocation → ℕ
+addend_of r = if r.negative then minus 0 r.magnitude else r.magnitude
+
+unfoldable pub moved_addend : Plan → Relocation → ℕ
+moved_addend p r = if r.kind == R_X86_64_RELATIVE then plus (data_address p.settings) (addend_of r) else addend_of r
+
+unfoldable pub rela_of : Plan → Relocation → Rela
+rela_of p r = record {
+  offset = plus (data_address p.settings) r.offset;
+  kind = r.kind;
+  symbol = symbol_number p r.name;
+  addend = moved_addend p r;
+}
+
+-- the relocations of jump slots, and all others
+unfoldable pub jump_slots : Plan → List ℕ
+jump_slots p = flat_map rela_bytes (map (rela_of p) (filter is_jump_slot p.relocations))
+
+unfoldable pub others : Plan → List ℕ
+others p = flat_map rela_bytes (map (rela_of p) (filter is_other p.relocations))

@@ -1,0 +1,28 @@
+-- The order of the symbols: those that a recipe refers to, then those that it defines, by their bucket in the GNU hash table if there is one.
+use Rattle.std.specs.Prelude.{ℕ, ◌%◌, Bool, true, false, not, ◌&&◌, ◌==◌, List, [], ◌∷◌, ◌++◌, filter, if◌then◌else◌}
+use Rattle.std.specs.List.{flat_map, range_with_len}
+use Rattle.pl_hash.specs.Hash.{gnu}
+use Rattle.pl_build.specs.declared.line.Symbol.{Symbol}
+use Rattle.pl_build.specs.declared.recipe.Settings.{Settings}
+
+-- the bucket of a hash; a table has at least one
+unfoldable pub bucket_of : ℕ → ℕ → ℕ
+bucket_of buckets hash = if buckets == 0 then 0 else hash % buckets
+
+unfoldable pub bucket : Settings → Symbol → ℕ
+bucket s symbol = if s.hashes.gnu then bucket_of s.buckets (gnu symbol.name) else 0
+
+unfoldable pub is_in : Settings → ℕ → Symbol → Bool
+is_in s b symbol = symbol.defined && bucket s symbol == b
+
+abbrev pub is_undefined : Symbol → Bool
+is_undefined symbol = not symbol.defined
+
+-- a symbol at the end of a list, if it is kept
+abbrev pub kept : Bool → Symbol → List Symbol → List Symbol
+kept true symbol symbols = symbols ++ symbol ∷ []
+kept false symbol symbols = symbols
+
+-- the symbols of a bucket stay in the recipe's order
+unfoldable pub ordered : Settings → List Symbol → List Symbol
+ordered s symbols = filter is_undefined symbols ++ flat_map (λ b. filter (is_in s b) symbols) (range_with_len 0 s.buckets)

@@ -1,0 +1,56 @@
+// A recipe's file.
+ghost use Rattle.std.specs.Prelude.{◌≡◌, ◌<◌, ◌≤◌, ◌+◌, ◌-◌, ◌^◌, IfOk, length};
+ghost use Rattle.pl_base.specs.Answers.{Answers};
+ghost use Rattle.pl_build.specs.Build as spec;
+
+use crate::checks::first_fault;
+use crate::fault::RecipeFault;
+use crate::file::made;
+use crate::grammar::line;
+use crate::line::Line;
+use crate::plan::plan_of;
+use crate::recipe::gather;
+use bstr::ByteSlice;
+use pl_base::Rows;
+use std::alloc::{AllocError, Global};
+
+#[tactic(auto, unfolding(crate::specs::Build::lines, crate::specs::Words::pieces))]
+fn lines(alloc: Global, recipe: &[u8]) -> Result<Vec<Line>, AllocError>
+    ensures value { IfOk result (λ v. v.items ≡ spec.lines recipe.now) }
+    ensures count { IfOk result (λ v. length v.items ≤ length recipe.now + 2) }
+{
+    let mut lines = Vec::new(alloc);
+    for text in recipe.split_str(b"\n") {
+        lines.push(line(alloc, text)?)?;
+    }
+    Ok(lines)
+}
+
+#[tactic(auto, unfolding(crate::specs::Build::made_of))]
+fn made_of(alloc: Global, lines: Vec<Line>) -> Result<Rows<u8>, RecipeFault>
+    requires { length lines.items < 2 ^ 32 - 1 }
+    ensures { Answers spec.is_memory result (spec.made_of lines.items) }
+{
+    if let Some(fault) = first_fault(lines.as_slice()) {
+        return Err(RecipeFault::Bad {
+            line: fault.line,
+            kind: fault.kind,
+        });
+    }
+    let recipe = gather(alloc, lines.as_slice())?;
+    let plan = plan_of(alloc, recipe)?;
+    made(alloc, &plan)
+}
+
+/// The file that a recipe describes.
+///
+/// A recipe is lines of text, with words parted by one space; an empty line says nothing. `Bad` names the first line with a
+/// fault and the lowest kind of its faults, or line 0 where the tables or the file would be too large.
+#[tactic(auto, unfolding(crate::specs::Build::build))]
+pub fn build(alloc: Global, recipe: &[u8]) -> Result<Rows<u8>, RecipeFault>
+    requires { length recipe.now < 2 ^ 31 }
+    ensures { Answers spec.is_memory result (spec.build recipe.now) }
+{
+    let lines = lines(alloc, recipe)?;
+    made_of(alloc, lines)
+}

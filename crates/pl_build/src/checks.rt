@@ -1,0 +1,239 @@
+// The faults of a recipe's lines.
+ghost use Rattle.std.specs.Prelude.{◌≡◌, ◌-◌, ◌<◌, ◌^◌, find, length, map};
+ghost use Rattle.std.specs.List.{list_any, range_with_len};
+ghost use Rattle.std.specs.Option.{option_copied};
+ghost use Rattle.std.specs.Str.{bytes_eq};
+ghost use Rattle.pl_build.specs.Checks as spec;
+
+use crate::constants::{MAX_ADDEND, MAX_BSS, MAX_BUCKETS, MAX_DATA, MAX_SPARE, WORD_SIZE};
+use crate::line::{Kind, Line, Relocation, Symbol};
+use crate::names::is;
+use crate::relocation_lines::is_no_symbol;
+use pl_base::end;
+
+/// The lowest kind of a line's faults, 0 for none.
+#[derive(Clone, Copy)]
+pub struct Fault {
+    /// The number of the line, from 1 on.
+    pub line: u32,
+    pub kind: u8,
+}
+
+fn is_first(line: &Line) -> bool
+    ensures { result ≡ spec.is_first line.now }
+{
+    matches!(line, Line::First(_))
+}
+
+#[tactic(auto, unfolding(crate::specs::Checks::is_static))]
+fn is_static(lines: &[Line]) -> bool
+    ensures { result ≡ spec.is_static lines.now }
+{
+    match lines.get(0) {
+        Some(Line::First(Kind::Static)) => true,
+        _ => false,
+    }
+}
+
+#[tactic(auto, unfolding(crate::specs::Checks::is_misplaced))]
+fn is_misplaced(is_static: bool, line: &Line) -> bool
+    ensures { result ≡ spec.is_misplaced is_static line.now }
+{
+    match line {
+        Line::Wrong | Line::First(_) => true,
+        Line::Empty | Line::Data(_) | Line::Bss(_) | Line::Put(_) | Line::Entry(_) => false,
+        _ => is_static,
+    }
+}
+
+#[tactic(auto, unfolding(crate::specs::Checks::is_wrong))]
+fn is_wrong(lines: &[Line], index: usize, line: &Line) -> bool
+    ensures { result ≡ spec.is_wrong lines.now index line.now }
+{
+    if index == 0 {
+        !is_first(line)
+    } else {
+        is_misplaced(is_static(lines), line)
+    }
+}
+
+#[tactic(auto, unfolding(crate::specs::Checks::is_over_addend))]
+fn is_over_addend(relocation: &Relocation) -> bool
+    ensures { result ≡ spec.is_over_addend relocation.now }
+{
+    let most = if relocation.negative {
+        MAX_ADDEND + 1
+    } else {
+        MAX_ADDEND
+    };
+    relocation.magnitude > most
+}
+
+#[tactic(auto, unfolding(crate::specs::Checks::is_over))]
+fn is_over(size: u64, line: &Line) -> bool
+    ensures { result ≡ spec.is_over size line.now }
+{
+    match line {
+        Line::Buckets(n) => *n == 0 || *n > MAX_BUCKETS,
+        Line::Spare(n) => *n > MAX_SPARE,
+        Line::Data(n) => *n > MAX_DATA,
+        Line::Bss(n) => *n > MAX_BSS,
+        Line::Put(word) => end(word.offset, WORD_SIZE) > u128::from(size),
+        Line::Relocates(relocation) => is_over_addend(relocation),
+        _ => false,
+    }
+}
+
+fn writes(name: &[u8], line: &Line) -> bool
+    ensures { result ≡ spec.writes name.now line.now }
+{
+    match line {
+        Line::Names(symbol) => is(symbol.written.as_slice(), name),
+        _ => false,
+    }
+}
+
+fn defines(name: &[u8], line: &Line) -> bool
+    ensures { result ≡ spec.defines name.now line.now }
+{
+    match line {
+        Line::Version(version) => is(version.as_slice(), name),
+        _ => false,
+    }
+}
+
+fn is_written_in(lines: &[Line], name: &[u8]) -> bool
+    ensures { result ≡ list_any (spec.writes name.now) lines.now }
+{
+    lines.iter().any(|line| writes(name, line))
+}
+
+fn is_defined_in(lines: &[Line], name: &[u8]) -> bool
+    ensures { result ≡ list_any (spec.defines name.now) lines.now }
+{
+    lines.iter().any(|line| defines(name, line))
+}
+
+#[tactic(auto, unfolding(crate::specs::Checks::wants_version))]
+fn wants_version(symbol: &Symbol) -> bool
+    ensures { result ≡ spec.wants_version symbol.now }
+{
+    symbol.version.len() != 0 && symbol.file.len() == 0
+}
+
+#[tactic(auto, unfolding(crate::specs::Checks::is_unknown))]
+fn is_unknown(lines: &[Line], line: &Line) -> bool
+    ensures { result ≡ spec.is_unknown lines.now line.now }
+{
+    match line {
+        Line::Relocates(relocation) => {
+            let name = relocation.name.as_slice();
+            !is_no_symbol(name) && !is_written_in(lines, name)
+        }
+        Line::Names(symbol) => {
+            wants_version(symbol) && !is_defined_in(lines, symbol.version.as_slice())
+        }
+        _ => false,
+    }
+}
+
+#[tactic(auto, unfolding(crate::specs::Checks::keyword))]
+fn keyword(line: &Line) -> &'static [u8]
+    ensures { result.now ≡ spec.keyword line.now }
+{
+    match line {
+        Line::Usual => b"usual",
+        Line::Hash(_) => b"hash",
+        Line::Buckets(_) => b"buckets",
+        Line::Spare(_) => b"spare",
+        Line::Symbolic => b"symbolic",
+        Line::Entry(_) => b"entry",
+        Line::Data(_) => b"data",
+        Line::Bss(_) => b"bss",
+        Line::Tls(_) => b"tls",
+        _ => b"",
+    }
+}
+
+fn stands_in(lines: &[Line], word: &[u8]) -> bool
+    ensures { result ≡ list_any (λ l. bytes_eq (spec.keyword l) word.now) lines.now }
+{
+    lines.iter().any(|line| is(keyword(line), word))
+}
+
+#[tactic(auto, unfolding(crate::specs::Checks::is_repeated))]
+fn is_repeated(before: &[Line], line: &Line) -> bool
+    ensures { result ≡ spec.is_repeated before.now line.now }
+{
+    match line {
+        Line::Names(symbol) => is_written_in(before, symbol.written.as_slice()),
+        _ => !keyword(line).is_empty() && stands_in(before, keyword(line)),
+    }
+}
+
+fn is_data(line: &Line) -> bool
+    ensures { result ≡ spec.is_data line.now }
+{
+    matches!(line, Line::Data(_))
+}
+
+fn find_data(lines: &[Line]) -> Option<&Line>
+    ensures { option_copied result ≡ find spec.is_data lines.now }
+{
+    lines.iter().find(|line| is_data(line))
+}
+
+#[tactic(auto, unfolding(crate::specs::Checks::data_size))]
+fn data_size(lines: &[Line]) -> u64
+    ensures { result ≡ spec.data_size lines.now }
+{
+    match find_data(lines) {
+        Some(Line::Data(size)) => *size,
+        _ => 0,
+    }
+}
+
+#[tactic(auto, unfolding(crate::specs::Checks::kind_of))]
+fn kind_of(lines: &[Line], size: u64, index: usize, line: &Line) -> u8
+    requires { index < length lines.now }
+    ensures { result ≡ spec.kind_of lines.now size index line.now }
+{
+    if is_wrong(lines, index, line) {
+        1
+    } else if is_over(size, line) {
+        2
+    } else if is_unknown(lines, line) {
+        3
+    } else if is_repeated(&lines[..index], line) {
+        4
+    } else {
+        0
+    }
+}
+
+#[tactic(auto, unfolding(crate::specs::Checks::fault_at))]
+fn fault_at(lines: &[Line], size: u64, index: usize) -> Fault
+    requires { index < 2 ^ 32 - 1 }
+    ensures { result ≡ spec.fault_at lines.now size index }
+{
+    let kind = match lines.get(index) {
+        Some(line) => kind_of(lines, size, index, line),
+        None => 0,
+    };
+    Fault {
+        line: index as u32 + 1,
+        kind,
+    }
+}
+
+/// The first line with a fault, and the lowest kind of its faults.
+#[tactic(auto, unfolding(crate::specs::Checks::first_fault, crate::specs::Checks::faults))]
+pub fn first_fault(lines: &[Line]) -> Option<Fault>
+    requires { length lines.now < 2 ^ 32 - 1 }
+    ensures { result ≡ spec.first_fault lines.now }
+{
+    let size = data_size(lines);
+    (0..lines.len())
+        .map(|index| fault_at(lines, size, index))
+        .find(|fault| fault.kind != 0)
+}

@@ -1,0 +1,36 @@
+//! Small ELF files from recipes: a recipe is some lines of text, and `build` gives the program or library that they describe.
+#![tactic(auto)]
+
+mod builder;
+mod checks;
+mod constants;
+mod data;
+mod dynamic;
+mod fault;
+mod fields;
+mod file;
+mod grammar;
+mod hash_tables;
+mod layout;
+mod line;
+mod names;
+mod needed;
+mod plan;
+mod recipe;
+pub mod recipes;
+mod relocation_lines;
+mod relocations;
+mod roles;
+mod sections;
+mod segments;
+mod strings;
+mod symbol_lines;
+mod symbol_table;
+mod symbols;
+#[cfg(test)]
+mod tests;
+mod versions;
+mod words;
+
+pub use builder::build;
+pub use fault::RecipeFault;

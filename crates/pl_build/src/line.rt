@@ -1,0 +1,108 @@
+use pl_base::Rows;
+
+/// What a recipe's first line says that the file is.
+#[derive(Clone, Copy)]
+pub enum Kind {
+    Program,
+    Library,
+    Static,
+}
+
+/// Which hash tables a file has.
+#[derive(Clone, Copy)]
+pub struct Hashes {
+    pub sysv: bool,
+    pub gnu: bool,
+}
+
+/// A word of the data: eight bytes at an offset.
+#[derive(Clone, Copy)]
+pub struct DataWord {
+    pub offset: u64,
+    pub value: u64,
+}
+
+/// What the segment PT_TLS is to say. The offset is one in the data.
+#[derive(Clone, Copy)]
+pub struct TlsBlock {
+    pub offset: u64,
+    pub filesz: u64,
+    pub memsz: u64,
+    pub align: u64,
+}
+
+/// A line `def` or `ref`.
+#[derive(Drop)]
+pub struct Symbol {
+    /// Whether it is a `def`.
+    pub defined: bool,
+
+    /// The name as the line writes it, with the version.
+    pub written: Rows<u8>,
+
+    /// The name alone.
+    pub name: Rows<u8>,
+
+    /// The version, empty for none.
+    pub version: Rows<u8>,
+
+    /// Whether the version stands behind two signs `@`: references without a version see the symbol.
+    pub visible: bool,
+
+    /// The file that the version is needed of, empty for none.
+    pub file: Rows<u8>,
+
+    /// One of the `STB_` numbers.
+    pub bind: u8,
+
+    /// One of the `STT_` numbers. STT_NOTYPE stands for an absolute symbol.
+    pub kind: u8,
+
+    /// One of the `STV_` numbers.
+    pub visibility: u8,
+
+    /// Whether the line has an offset.
+    pub placed: bool,
+    pub offset: u64,
+    pub size: u64,
+}
+
+/// A line `rel`.
+#[derive(Drop)]
+pub struct Relocation {
+    /// One of the `R_X86_64_` numbers.
+    pub kind: u64,
+
+    /// The data offset of the word.
+    pub offset: u64,
+
+    /// A symbol's name as its line writes it, or `-`.
+    pub name: Rows<u8>,
+
+    /// The addend's sign, and the number behind it.
+    pub negative: bool,
+    pub magnitude: u64,
+}
+
+/// A line of a recipe.
+#[derive(Drop)]
+pub enum Line {
+    /// Not in the grammar.
+    Wrong,
+    Empty,
+    First(Kind),
+    Usual,
+    Hash(Hashes),
+    Buckets(u64),
+    Spare(u64),
+    Needs(Rows<u8>),
+    Symbolic,
+    Entry(u64),
+    Data(u64),
+    Bss(u64),
+    Put(DataWord),
+    Tls(TlsBlock),
+    Version(Rows<u8>),
+    Names(Symbol),
+    Relocates(Relocation),
+}

@@ -1,0 +1,228 @@
+// What follows from a recipe before anything is laid out.
+ghost use Rattle.std.specs.Prelude.{◌≡◌, ◌<◌, ◌^◌, IfOk};
+ghost use Rattle.std.specs.List.{list_any};
+ghost use Rattle.pl_build.specs.Plan as spec;
+
+use crate::constants::{BASE, DATA_DISTANCE, R_X86_64_JUMP_SLOT};
+use crate::line::{DataWord, Kind, Relocation, Symbol};
+use crate::needed::{Need, files_of, needs_of};
+use crate::recipe::{Recipe, Settings};
+use crate::roles::{Role, present};
+use crate::strings::{Strings, add_files, add_symbols, add_texts, add_versions, start};
+use crate::symbols::ordered;
+use pl_base::Rows;
+use std::alloc::{AllocError, Global};
+
+/// What is to be laid out.
+#[derive(Drop)]
+pub struct Plan {
+    pub settings: Settings,
+
+    /// The names of needed libraries.
+    pub needed: Rows<Rows<u8>>,
+    pub words: Rows<DataWord>,
+
+    /// The versions that are defined.
+    pub versions: Rows<Rows<u8>>,
+
+    /// All symbols but the null one, in the order of the symbol table.
+    pub symbols: Rows<Symbol>,
+    pub relocations: Rows<Relocation>,
+
+    /// The versions that are needed, and the files that they are needed of.
+    pub needs: Rows<Need>,
+    pub files: Rows<Rows<u8>>,
+    pub strings: Strings,
+
+    /// The sections.
+    pub roles: Rows<Role>,
+}
+
+pub fn is_program(kind: Kind) -> bool
+    ensures { result ≡ spec.is_program kind }
+{
+    matches!(kind, Kind::Program)
+}
+
+pub fn is_library(kind: Kind) -> bool
+    ensures { result ≡ spec.is_library kind }
+{
+    matches!(kind, Kind::Library)
+}
+
+pub fn is_static(kind: Kind) -> bool
+    ensures { result ≡ spec.is_static kind }
+{
+    matches!(kind, Kind::Static)
+}
+
+/// The address of the file's first byte.
+#[tactic(auto, unfolding(crate::specs::Plan::base_of))]
+pub fn base_of(settings: &Settings) -> u64
+    ensures value { result ≡ spec.base_of settings.now }
+    ensures small { result < 2 ^ 32 }
+{
+    if is_library(settings.kind) { 0 } else { BASE }
+}
+
+/// The address of the data.
+#[tactic(auto, unfolding(crate::specs::Plan::data_address))]
+pub fn data_address(settings: &Settings) -> u64
+    ensures { result ≡ spec.data_address settings.now }
+{
+    base_of(settings) + DATA_DISTANCE
+}
+
+/// Whether the file names an interpreter.
+#[tactic(auto, unfolding(crate::specs::Plan::has_interp))]
+pub fn has_interp(settings: &Settings) -> bool
+    ensures { result ≡ spec.has_interp settings.now }
+{
+    settings.usual && is_program(settings.kind)
+}
+
+/// Whether a relocation is that of a jump slot.
+pub fn is_jump_slot(relocation: &Relocation) -> bool
+    ensures { result ≡ spec.is_jump_slot relocation.now }
+{
+    relocation.kind == R_X86_64_JUMP_SLOT
+}
+
+fn has_jump_slots(relocations: &[Relocation]) -> bool
+    ensures { result ≡ list_any spec.is_jump_slot relocations.now }
+{
+    relocations.iter().any(|r| is_jump_slot(r))
+}
+
+fn has_others(relocations: &[Relocation]) -> bool
+    ensures { result ≡ list_any spec.is_other relocations.now }
+{
+    relocations.iter().any(|r| !is_jump_slot(r))
+}
+
+fn has_versioned(symbols: &[Symbol]) -> bool
+    ensures { result ≡ list_any spec.is_versioned symbols.now }
+{
+    symbols.iter().any(|symbol| symbol.version.len() != 0)
+}
+
+#[tactic(auto, unfolding(crate::specs::Plan::has_versions))]
+fn has_versions(recipe: &Recipe) -> bool
+    ensures { result ≡ spec.has_versions recipe.now }
+{
+    recipe.versions.len() != 0 || has_versioned(recipe.symbols.as_slice())
+}
+
+#[tactic(auto, unfolding(crate::specs::Plan::first_roles))]
+fn first_roles(alloc: Global, settings: &Settings) -> Result<Vec<Role>, AllocError>
+    ensures { IfOk result (λ v. v.items ≡ spec.first_roles settings.now) }
+{
+    let linked = !is_static(settings.kind);
+    present(
+        alloc,
+        &[
+            (true, Role::Null),
+            (has_interp(settings), Role::Interp),
+            (linked && settings.hashes.sysv, Role::Hash),
+            (linked && settings.hashes.gnu, Role::GnuHash),
+            (linked, Role::Dynsym),
+            (linked, Role::Dynstr),
+        ],
+    )
+}
+
+#[tactic(auto, unfolding(crate::specs::Plan::next_roles))]
+fn next_roles(alloc: Global, recipe: &Recipe, needs: &[Need]) -> Result<Vec<Role>, AllocError>
+    ensures { IfOk result (λ v. v.items ≡ spec.next_roles recipe.now needs.now) }
+{
+    let relocations = recipe.relocations.as_slice();
+    present(
+        alloc,
+        &[
+            (has_versions(recipe), Role::Versym),
+            (recipe.versions.len() != 0, Role::Verdef),
+            (needs.len() != 0, Role::Verneed),
+            (has_others(relocations), Role::RelaDyn),
+            (has_jump_slots(relocations), Role::RelaPlt),
+        ],
+    )
+}
+
+#[tactic(auto, unfolding(crate::specs::Plan::last_roles))]
+fn last_roles(alloc: Global, settings: &Settings) -> Result<Vec<Role>, AllocError>
+    ensures { IfOk result (λ v. v.items ≡ spec.last_roles settings.now) }
+{
+    present(
+        alloc,
+        &[
+            (!is_static(settings.kind), Role::Dynamic),
+            (true, Role::Data),
+            (true, Role::Bss),
+            (true, Role::Shstrtab),
+        ],
+    )
+}
+
+#[tactic(auto, unfolding(crate::specs::Plan::roles_of))]
+fn roles_of(alloc: Global, recipe: &Recipe, needs: &[Need]) -> Result<Rows<Role>, AllocError>
+    ensures { IfOk result (λ v. v ≡ spec.roles_of recipe.now needs.now) }
+{
+    let mut roles = first_roles(alloc, &recipe.settings)?;
+    roles.extend_from_slice(next_roles(alloc, recipe, needs)?.as_slice())?;
+    roles.extend_from_slice(last_roles(alloc, &recipe.settings)?.as_slice())?;
+    Ok(Rows::from_vec(roles))
+}
+
+#[tactic(auto, unfolding(crate::specs::Plan::strings_of))]
+fn strings_of(
+    alloc: Global,
+    recipe: &Recipe,
+    symbols: &[Symbol],
+    needs: &[Need],
+    files: &[Rows<u8>],
+) -> Result<Strings, AllocError>
+    ensures { IfOk result (λ s. s ≡ spec.strings_of recipe.now symbols.now needs.now files.now) }
+{
+    let strings = add_texts(alloc, start(alloc)?, recipe.needs.as_slice())?;
+    let strings = add_symbols(alloc, strings, symbols)?;
+    let strings = add_versions(alloc, strings, recipe.versions.as_slice())?;
+    add_files(alloc, strings, needs, files)
+}
+
+/// What is to be laid out for a recipe.
+#[tactic(auto, unfolding(crate::specs::Plan::plan_of))]
+pub fn plan_of(alloc: Global, recipe: Recipe) -> Result<Plan, AllocError>
+    ensures { IfOk result (λ p. p ≡ spec.plan_of recipe) }
+{
+    let symbols = ordered(alloc, &recipe.settings, recipe.symbols.as_slice())?;
+    let needs = needs_of(alloc, recipe.symbols.as_slice())?;
+    let files = files_of(alloc, needs.as_slice())?;
+    let strings = strings_of(
+        alloc,
+        &recipe,
+        symbols.as_slice(),
+        needs.as_slice(),
+        files.as_slice(),
+    )?;
+    let roles = roles_of(alloc, &recipe, needs.as_slice())?;
+    let Recipe {
+        settings,
+        needs: needed,
+        words,
+        versions,
+        symbols: _,
+        relocations,
+    } = recipe;
+    Ok(Plan {
+        settings,
+        needed,
+        words,
+        versions,
+        symbols,
+        relocations,
+        needs,
+        files,
+        strings,
+        roles,
+    })
+}

@@ -1,0 +1,174 @@
+ghost use Rattle.std.specs.Prelude.{◌≡◌, IfOk, fold};
+ghost use Rattle.pl_build.specs.Recipe as spec;
+
+use crate::constants::{BUCKETS, SPARE};
+use crate::line::{DataWord, Hashes, Kind, Line, Relocation, Symbol, TlsBlock};
+use crate::symbols::copy_symbol;
+use crate::words::copy_of;
+use pl_base::Rows;
+use std::alloc::{AllocError, Global};
+
+/// The lines of a recipe that stand once.
+#[derive(Clone, Copy)]
+pub struct Settings {
+    pub kind: Kind,
+    pub usual: bool,
+    pub hashes: Hashes,
+    pub buckets: u64,
+    pub spare: u64,
+    pub symbolic: bool,
+    pub entry: Option<u64>,
+    pub data_size: u64,
+    pub bss: u64,
+    pub tls: Option<TlsBlock>,
+}
+
+/// What all lines of a recipe say, each list in their order.
+#[derive(Drop)]
+pub struct Recipe {
+    pub settings: Settings,
+    pub needs: Rows<Rows<u8>>,
+    pub words: Rows<DataWord>,
+    pub versions: Rows<Rows<u8>>,
+    pub symbols: Rows<Symbol>,
+    pub relocations: Rows<Relocation>,
+}
+
+fn defaults() -> Settings
+    ensures { result ≡ spec.defaults }
+{
+    Settings {
+        kind: Kind::Program,
+        usual: false,
+        hashes: Hashes {
+            sysv: true,
+            gnu: false,
+        },
+        buckets: BUCKETS,
+        spare: SPARE,
+        symbolic: false,
+        entry: None,
+        data_size: 0,
+        bss: 0,
+        tls: None,
+    }
+}
+
+fn empty(alloc: Global) -> Recipe
+    ensures { result ≡ spec.empty }
+{
+    Recipe {
+        settings: defaults(),
+        needs: Rows::new(alloc),
+        words: Rows::new(alloc),
+        versions: Rows::new(alloc),
+        symbols: Rows::new(alloc),
+        relocations: Rows::new(alloc),
+    }
+}
+
+fn set(settings: Settings, line: &Line) -> Settings
+    ensures { result ≡ spec.set settings line.now }
+{
+    match line {
+        Line::First(kind) => Settings {
+            kind: *kind,
+            ..settings
+        },
+        Line::Usual => Settings {
+            usual: true,
+            ..settings
+        },
+        Line::Hash(hashes) => Settings {
+            hashes: *hashes,
+            ..settings
+        },
+        Line::Buckets(buckets) => Settings {
+            buckets: *buckets,
+            ..settings
+        },
+        Line::Spare(spare) => Settings {
+            spare: *spare,
+            ..settings
+        },
+        Line::Symbolic => Settings {
+            symbolic: true,
+            ..settings
+        },
+        Line::Entry(offset) => Settings {
+            entry: Some(*offset),
+            ..settings
+        },
+        Line::Data(size) => Settings {
+            data_size: *size,
+            ..settings
+        },
+        Line::Bss(bss) => Settings {
+            bss: *bss,
+            ..settings
+        },
+        Line::Tls(tls) => Settings {
+            tls: Some(*tls),
+            ..settings
+        },
+        _ => settings,
+    }
+}
+
+fn copy_relocation(alloc: Global, relocation: &Relocation) -> Result<Relocation, AllocError>
+    ensures { IfOk result (λ r. r ≡ relocation.now) }
+{
+    Ok(Relocation {
+        kind: relocation.kind,
+        offset: relocation.offset,
+        name: copy_of(alloc, relocation.name.as_slice())?,
+        negative: relocation.negative,
+        magnitude: relocation.magnitude,
+    })
+}
+
+fn add(alloc: Global, recipe: Recipe, line: &Line) -> Result<Recipe, AllocError>
+    ensures { IfOk result (λ r. r ≡ spec.added recipe line.now) }
+{
+    let mut recipe = recipe;
+    match line {
+        Line::Needs(name) => {
+            recipe.needs.push(copy_of(alloc, name.as_slice())?)?;
+            Ok(recipe)
+        }
+        Line::Put(word) => {
+            recipe.words.push(*word)?;
+            Ok(recipe)
+        }
+        Line::Version(name) => {
+            recipe.versions.push(copy_of(alloc, name.as_slice())?)?;
+            Ok(recipe)
+        }
+        Line::Names(symbol) => {
+            recipe.symbols.push(copy_symbol(alloc, symbol)?)?;
+            Ok(recipe)
+        }
+        Line::Relocates(relocation) => {
+            recipe
+                .relocations
+                .push(copy_relocation(alloc, relocation)?)?;
+            Ok(recipe)
+        }
+        _ => {
+            recipe.settings = set(recipe.settings, line);
+            Ok(recipe)
+        }
+    }
+}
+
+/// All lines together.
+#[tactic(auto, unfolding(crate::specs::Recipe::gathered))]
+pub fn gather(alloc: Global, lines: &[Line]) -> Result<Recipe, AllocError>
+    ensures { IfOk result (λ r. r ≡ spec.gathered lines.now) }
+{
+    let mut recipe = empty(alloc);
+    for line in lines {
+        recipe = add(alloc, recipe, line)?;
+    }
+    Ok(recipe)
+}

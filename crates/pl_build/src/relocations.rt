@@ -1,0 +1,141 @@
+// The tables of relocations.
+ghost use Rattle.std.specs.Prelude.{◌≡◌, ◌++◌, IfOk, OnOk, map, filter, position};
+ghost use Rattle.std.specs.List.{flat_map};
+ghost use Rattle.pl_build.specs.Plan.{is_jump_slot, is_other};
+ghost use Rattle.pl_build.specs.Relocations as spec;
+
+use crate::constants::R_X86_64_RELATIVE;
+use crate::fields::{Field, Row, push_fields, push_rows};
+use crate::line::{Relocation, Symbol};
+use crate::names::is;
+use crate::plan::{Plan, data_address, is_jump_slot};
+use crate::relocation_lines::is_no_symbol;
+use std::alloc::{AllocError, Global};
+
+/// A row of a table of relocations (System V gABI chapter 4, "Relocation").
+#[derive(Clone, Copy)]
+pub struct Rela {
+    /// The address of the word.
+    pub offset: u64,
+
+    /// One of the `R_X86_64_` numbers.
+    pub kind: u64,
+
+    /// The symbol's number, 0 for none.
+    pub symbol: u64,
+    pub addend: u64,
+}
+
+impl Row for Rela {
+    ghost bytes = { spec.rela_bytes };
+
+    #[tactic(auto, unfolding(crate::specs::Relocations::rela_bytes))]
+    fn push_to(&self, out: &mut Vec<u8>) -> Result<(), AllocError> {
+        push_fields(
+            out,
+            &[
+                Field::Long(self.offset),
+                Field::Word(self.kind),
+                Field::Word(self.symbol),
+                Field::Long(self.addend),
+            ],
+        )
+    }
+}
+
+fn position_of(symbols: &[Symbol], name: &[u8]) -> Option<usize>
+    ensures { result ≡ position (spec.is_written_as name.now) symbols.now }
+{
+    symbols
+        .iter()
+        .position(|symbol| is(symbol.written.as_slice(), name))
+}
+
+#[tactic(auto, unfolding(crate::specs::Relocations::symbol_number))]
+fn symbol_number(plan: &Plan, name: &[u8]) -> u64
+    ensures { result ≡ spec.symbol_number plan.now name.now }
+{
+    if is_no_symbol(name) {
+        return 0;
+    }
+    match position_of(plan.symbols.as_slice(), name) {
+        Some(index) => (index as u64).wrapping_add(1),
+        None => 0,
+    }
+}
+
+#[tactic(auto, unfolding(crate::specs::Relocations::addend_of))]
+fn addend_of(relocation: &Relocation) -> u64
+    ensures { result ≡ spec.addend_of relocation.now }
+{
+    if relocation.negative {
+        0u64.wrapping_sub(relocation.magnitude)
+    } else {
+        relocation.magnitude
+    }
+}
+
+#[tactic(auto, unfolding(crate::specs::Relocations::moved_addend))]
+fn moved_addend(plan: &Plan, relocation: &Relocation) -> u64
+    ensures { result ≡ spec.moved_addend plan.now relocation.now }
+{
+    if relocation.kind == R_X86_64_RELATIVE {
+        data_address(&plan.settings).wrapping_add(addend_of(relocation))
+    } else {
+        addend_of(relocation)
+    }
+}
+
+#[tactic(auto, unfolding(crate::specs::Relocations::rela_of))]
+fn rela_of(plan: &Plan, relocation: &Relocation) -> Rela
+    ensures { result ≡ spec.rela_of plan.now relocation.now }
+{
+    Rela {
+        offset: data_address(&plan.settings).wrapping_add(relocation.offset),
+        kind: relocation.kind,
+        symbol: symbol_number(plan, relocation.name.as_slice()),
+        addend: moved_addend(plan, relocation),
+    }
+}
+
+fn jump_slot_rows(alloc: Global, plan: &Plan) -> Result<Vec<Rela>, AllocError>
+    ensures { IfOk result (λ v. v.items ≡ map (spec.rela_of plan.now) (filter is_jump_slot plan.now.relocations)) }
+{
+    let relocations = plan.relocations.as_slice();
+    relocations
+        .iter()
+        .filter(|r| is_jump_slot(r))
+        .map(|r| rela_of(plan, r))
+        .collect(alloc)
+}
+
+fn other_rows(alloc: Global, plan: &Plan) -> Result<Vec<Rela>, AllocError>
+    ensures { IfOk result (λ v. v.items ≡ map (spec.rela_of plan.now) (filter is_other plan.now.relocations)) }
+{
+    let relocations = plan.relocations.as_slice();
+    relocations
+        .iter()
+        .filter(|r| !is_jump_slot(r))
+        .map(|r| rela_of(plan, r))
+        .collect(alloc)
+}
+
+/// The bytes of `.rela.plt`: the relocations of jump slots.
+#[tactic(auto, unfolding(crate::specs::Relocations::jump_slots))]
+pub fn jump_slots(alloc: Global, plan: &Plan) -> Result<Vec<u8>, AllocError>
+    ensures { IfOk result (λ v. v.items ≡ spec.jump_slots plan.now) }
+{
+    let mut out = Vec::new(alloc);
+    push_rows(&mut out, jump_slot_rows(alloc, plan)?.as_slice())?;
+    Ok(out)
+}
+
+/// The bytes of `.rela.dyn`: all other relocations.
+#[tactic(auto, unfolding(crate::specs::Relocations::others))]
+pub fn others(alloc: Global, plan: &Plan) -> Result<Vec<u8>, AllocError>
+    ensures { IfOk result (λ v. v.items ≡ spec.others plan.now) }
+{
+    let mut out = Vec::new(alloc);
+    push_rows(&mut out, other_rows(alloc, plan)?.as_slice())?;
+    Ok(out)
+}

@@ -1,0 +1,260 @@
+// The program header table.
+ghost use Rattle.std.specs.Prelude.{◌≡◌, ◌++◌, ◌<◌, ◌≤◌, ◌+◌, ◌^◌, IfOk, OnOk, length};
+ghost use Rattle.pl_build.specs.Segments as spec;
+
+use crate::constants::{INTERP_OFFSET, PAGE, PF_R, PF_RW, STACK_ALIGN, TABLE_ALIGN};
+use crate::dynamic::is_there;
+use crate::fields::{Field, Row, push_fields};
+use crate::line::TlsBlock;
+use crate::plan::{base_of, data_address, has_interp};
+use crate::recipe::Settings;
+use crate::roles::Place;
+use pl_base::round_up;
+use pl_elf::Segment;
+use pl_elf::constants::{
+    HEADER_SIZE, PT_DYNAMIC, PT_GNU_STACK, PT_INTERP, PT_LOAD, PT_PHDR, PT_TLS, SEGMENT_SIZE,
+};
+use std::alloc::{AllocError, Global};
+
+impl Row for Segment {
+    ghost bytes = { spec.segment_bytes };
+
+    #[tactic(auto, unfolding(crate::specs::Segments::segment_bytes))]
+    fn push_to(&self, out: &mut Vec<u8>) -> Result<(), AllocError> {
+        push_fields(
+            out,
+            &[
+                Field::Word(u64::from(self.kind)),
+                Field::Word(u64::from(self.flags)),
+                Field::Long(self.offset),
+                Field::Long(self.vaddr),
+                Field::Long(self.paddr),
+                Field::Long(self.filesz),
+                Field::Long(self.memsz),
+                Field::Long(self.align),
+            ],
+        )
+    }
+}
+
+/// The path of the interpreter, ended by a 0 byte.
+pub fn interp_bytes() -> &'static [u8]
+    ensures { result.now ≡ spec.interp_bytes }
+{
+    b"/lib64/ld-linux-x86-64.so.2\0"
+}
+
+#[tactic(auto, unfolding(crate::specs::Segments::readable))]
+fn readable(kind: u32, offset: u64, address: u64, size: u64, align: u64) -> Segment
+    ensures { result ≡ spec.readable kind offset address size align }
+{
+    Segment {
+        kind,
+        flags: PF_R,
+        offset,
+        vaddr: address,
+        paddr: address,
+        filesz: size,
+        memsz: size,
+        align,
+    }
+}
+
+/// The file offset of the data, where the tables end at an offset.
+#[tactic(auto, unfolding(pl_base::specs::Sums::round_up))]
+pub fn data_offset(tables_end: u64) -> u64
+    requires { tables_end < 2 ^ 32 }
+    ensures value { result ≡ spec.data_offset tables_end }
+    ensures small { result < 2 ^ 33 }
+{
+    round_up(tables_end, PAGE)
+}
+
+#[tactic(auto, unfolding(crate::specs::Segments::first_load))]
+fn first_load(settings: &Settings, tables_end: u64) -> Segment
+    ensures { result ≡ spec.first_load settings.now tables_end }
+{
+    readable(PT_LOAD, 0, base_of(settings), tables_end, PAGE)
+}
+
+#[tactic(auto, unfolding(crate::specs::Segments::second_load))]
+fn second_load(settings: &Settings, tables_end: u64) -> Segment
+    requires { tables_end < 2 ^ 32 }
+    ensures { result ≡ spec.second_load settings.now tables_end }
+{
+    let address = data_address(settings);
+    Segment {
+        kind: PT_LOAD,
+        flags: PF_RW,
+        offset: data_offset(tables_end),
+        vaddr: address,
+        paddr: address,
+        filesz: settings.data_size,
+        memsz: settings.data_size.wrapping_add(settings.bss),
+        align: PAGE,
+    }
+}
+
+fn tls_or_none(tls: Option<TlsBlock>) -> TlsBlock
+    ensures { result ≡ spec.tls_or_none tls }
+{
+    match tls {
+        Some(tls) => tls,
+        None => TlsBlock {
+            offset: 0,
+            filesz: 0,
+            memsz: 0,
+            align: 0,
+        },
+    }
+}
+
+#[tactic(auto, unfolding(crate::specs::Segments::tls_segment))]
+fn tls_segment(settings: &Settings, tables_end: u64) -> Segment
+    requires { tables_end < 2 ^ 32 }
+    ensures { result ≡ spec.tls_segment settings.now tables_end }
+{
+    let tls = tls_or_none(settings.tls);
+    let address = data_address(settings).wrapping_add(tls.offset);
+    Segment {
+        kind: PT_TLS,
+        flags: PF_R,
+        offset: data_offset(tables_end).wrapping_add(tls.offset),
+        vaddr: address,
+        paddr: address,
+        filesz: tls.filesz,
+        memsz: tls.memsz,
+        align: tls.align,
+    }
+}
+
+fn stack_segment() -> Segment
+    ensures { result ≡ spec.stack_segment }
+{
+    Segment {
+        kind: PT_GNU_STACK,
+        flags: PF_RW,
+        offset: 0,
+        vaddr: 0,
+        paddr: 0,
+        filesz: 0,
+        memsz: 0,
+        align: STACK_ALIGN,
+    }
+}
+
+#[tactic(auto, unfolding(crate::specs::Segments::table_segment))]
+fn table_segment(settings: &Settings, count: u64) -> Segment
+    requires { count < 2 ^ 32 }
+    ensures { result ≡ spec.table_segment settings.now count }
+{
+    let offset = HEADER_SIZE as u64;
+    let size = SEGMENT_SIZE as u64 * count;
+    readable(
+        PT_PHDR,
+        offset,
+        base_of(settings) + offset,
+        size,
+        TABLE_ALIGN,
+    )
+}
+
+#[tactic(auto, unfolding(crate::specs::Segments::interp_segment))]
+fn interp_segment(settings: &Settings) -> Segment
+    ensures { result ≡ spec.interp_segment settings.now }
+{
+    let address = base_of(settings) + INTERP_OFFSET;
+    let size = interp_bytes().len() as u64;
+    readable(PT_INTERP, INTERP_OFFSET, address, size, 1)
+}
+
+#[tactic(auto, unfolding(crate::specs::Segments::dynamic_segment))]
+fn dynamic_segment(place: &Place) -> Segment
+    ensures { result ≡ spec.dynamic_segment place.now }
+{
+    readable(
+        PT_DYNAMIC,
+        place.offset,
+        place.addr,
+        place.size,
+        TABLE_ALIGN,
+    )
+}
+
+#[tactic(auto, unfolding(crate::specs::Segments::has_data))]
+fn has_data(settings: &Settings) -> bool
+    ensures { result ≡ spec.has_data settings.now }
+{
+    settings.data_size > 0 || settings.bss > 0
+}
+
+#[tactic(auto, unfolding(crate::specs::Segments::chosen))]
+fn chosen(alloc: Global, choices: &[(bool, Segment)]) -> Result<Vec<Segment>, AllocError>
+    ensures { IfOk result (λ v. v.items ≡ spec.chosen choices.now) }
+{
+    choices
+        .iter()
+        .filter(|choice| choice.0)
+        .map(|choice| choice.1)
+        .collect(alloc)
+}
+
+#[tactic(auto, unfolding(crate::specs::Segments::with_count))]
+fn with_count(
+    alloc: Global,
+    settings: &Settings,
+    tables_end: u64,
+    dynamic: &Place,
+    count: u64,
+) -> Result<Vec<Segment>, AllocError>
+    requires tables { tables_end < 2 ^ 32 }
+    requires small { count < 2 ^ 32 }
+    ensures { IfOk result (λ v. v.items ≡ spec.with_count settings.now tables_end dynamic.now count) }
+{
+    chosen(
+        alloc,
+        &[
+            (has_interp(settings), table_segment(settings, count)),
+            (has_interp(settings), interp_segment(settings)),
+            (true, first_load(settings, tables_end)),
+            (has_data(settings), second_load(settings, tables_end)),
+            (is_there(dynamic), dynamic_segment(dynamic)),
+            (settings.tls.is_some(), tls_segment(settings, tables_end)),
+            (settings.usual, stack_segment()),
+        ],
+    )
+}
+
+#[tactic(auto, unfolding(crate::specs::Segments::count_of))]
+fn count_of(settings: &Settings, dynamic: &Place) -> u64
+    ensures value { result ≡ spec.count_of settings.now dynamic.now }
+    ensures small { result ≤ 7 }
+{
+    u64::from(has_interp(settings))
+        + u64::from(has_interp(settings))
+        + 1
+        + u64::from(has_data(settings))
+        + u64::from(is_there(dynamic))
+        + u64::from(settings.tls.is_some())
+        + u64::from(settings.usual)
+}
+
+/// The segments, where the tables end at an offset of the file.
+#[tactic(auto, unfolding(crate::specs::Segments::segments))]
+pub fn segments(
+    alloc: Global,
+    settings: &Settings,
+    tables_end: u64,
+    dynamic: &Place,
+) -> Result<Vec<Segment>, AllocError>
+    requires { tables_end < 2 ^ 32 }
+    ensures { IfOk result (λ v. v.items ≡ spec.segments settings.now tables_end dynamic.now) }
+{
+    with_count(
+        alloc,
+        settings,
+        tables_end,
+        dynamic,
+        count_of(settings, dynamic),
+    )
+}

@@ -1,0 +1,124 @@
+// The symbol table.
+ghost use Rattle.std.specs.Prelude.{◌≡◌, ◌++◌, IfOk, OnOk, map};
+ghost use Rattle.std.specs.List.{flat_map};
+ghost use Rattle.pl_build.specs.SymbolTable as spec;
+
+use crate::fields::{Field, Row, push_fields, push_rows};
+use crate::line::Symbol;
+use crate::plan::{Plan, data_address};
+use crate::roles::index_of;
+use crate::strings::text_at;
+use pl_sym::constants::{SHN_ABS, SHN_UNDEF, STT_NOTYPE, STT_TLS};
+use std::alloc::{AllocError, Global};
+
+/// A row of the symbol table (System V gABI chapter 4, "Symbol Table").
+#[derive(Clone, Copy)]
+pub struct SymbolEntry {
+    /// Where the name begins in the strings.
+    pub name: u64,
+    pub bind: u8,
+    pub kind: u8,
+    pub visibility: u8,
+    pub section: u64,
+    pub value: u64,
+    pub size: u64,
+}
+
+impl Row for SymbolEntry {
+    ghost bytes = { spec.entry_bytes };
+
+    #[tactic(auto, unfolding(crate::specs::SymbolTable::entry_bytes))]
+    fn push_to(&self, out: &mut Vec<u8>) -> Result<(), AllocError> {
+        push_fields(
+            out,
+            &[
+                Field::Word(self.name),
+                Field::Byte(u64::from(self.bind) * 16 + u64::from(self.kind)),
+                Field::Byte(u64::from(self.visibility)),
+                Field::Half(self.section),
+                Field::Long(self.value),
+                Field::Long(self.size),
+            ],
+        )
+    }
+}
+
+const NULL_ENTRY: SymbolEntry = SymbolEntry {
+    name: 0,
+    bind: 0,
+    kind: 0,
+    visibility: 0,
+    section: 0,
+    value: 0,
+    size: 0,
+};
+
+fn is_number(symbol: &Symbol) -> bool
+    ensures { result ≡ spec.is_number symbol.now }
+{
+    symbol.defined && (symbol.kind == STT_NOTYPE || symbol.kind == STT_TLS)
+}
+
+#[tactic(auto, unfolding(crate::specs::SymbolTable::section_of))]
+fn section_of(plan: &Plan, symbol: &Symbol) -> u64
+    ensures { result ≡ spec.section_of plan.now symbol.now }
+{
+    if !symbol.defined {
+        u64::from(SHN_UNDEF)
+    } else if symbol.kind == STT_NOTYPE {
+        u64::from(SHN_ABS)
+    } else if symbol.kind == STT_TLS || symbol.offset < plan.settings.data_size {
+        index_of(plan.roles.as_slice(), b".data") as u64
+    } else {
+        index_of(plan.roles.as_slice(), b".bss") as u64
+    }
+}
+
+#[tactic(auto, unfolding(crate::specs::SymbolTable::value_of))]
+fn value_of(plan: &Plan, symbol: &Symbol) -> u64
+    ensures { result ≡ spec.value_of plan.now symbol.now }
+{
+    if !symbol.placed {
+        0
+    } else if is_number(symbol) {
+        symbol.offset
+    } else {
+        data_address(&plan.settings).wrapping_add(symbol.offset)
+    }
+}
+
+#[tactic(auto, unfolding(crate::specs::SymbolTable::entry_of))]
+fn entry_of(plan: &Plan, symbol: &Symbol) -> SymbolEntry
+    ensures { result ≡ spec.entry_of plan.now symbol.now }
+{
+    SymbolEntry {
+        name: text_at(&plan.strings, symbol.name.as_slice()),
+        bind: symbol.bind,
+        kind: symbol.kind,
+        visibility: symbol.visibility,
+        section: section_of(plan, symbol),
+        value: value_of(plan, symbol),
+        size: symbol.size,
+    }
+}
+
+fn entries(alloc: Global, plan: &Plan) -> Result<Vec<SymbolEntry>, AllocError>
+    ensures { IfOk result (λ v. v.items ≡ map (spec.entry_of plan.now) plan.now.symbols) }
+{
+    plan.symbols
+        .as_slice()
+        .iter()
+        .map(|symbol| entry_of(plan, symbol))
+        .collect(alloc)
+}
+
+/// The bytes of the symbol table: the null symbol, then all others.
+#[tactic(auto, unfolding(crate::specs::SymbolTable::symbol_table))]
+pub fn symbol_table(alloc: Global, plan: &Plan) -> Result<Vec<u8>, AllocError>
+    ensures { IfOk result (λ v. v.items ≡ spec.symbol_table plan.now) }
+{
+    let mut out = Vec::new(alloc);
+    NULL_ENTRY.push_to(&mut out)?;
+    push_rows(&mut out, entries(alloc, plan)?.as_slice())?;
+    Ok(out)
+}

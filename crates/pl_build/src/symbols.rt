@@ -1,0 +1,135 @@
+// The order of the symbols.
+ghost use Rattle.std.specs.Prelude.{◌≡◌, ◌++◌, IfOk, filter};
+ghost use Rattle.pl_build.specs.Symbols as spec;
+
+use crate::line::Symbol;
+use crate::recipe::Settings;
+use crate::words::copy_of;
+use pl_base::Rows;
+use pl_hash::gnu_hash;
+use std::alloc::{AllocError, Global};
+
+/// The bucket of a hash in a table of so many buckets.
+#[tactic(auto, unfolding(crate::specs::Symbols::bucket_of))]
+pub fn bucket_of(buckets: u64, hash: u32) -> u64
+    ensures { result ≡ spec.bucket_of buckets hash }
+{
+    if buckets == 0 {
+        0
+    } else {
+        u64::from(hash) % buckets
+    }
+}
+
+#[tactic(auto, unfolding(crate::specs::Symbols::bucket))]
+fn bucket(settings: &Settings, symbol: &Symbol) -> u64
+    ensures { result ≡ spec.bucket settings.now symbol.now }
+{
+    if settings.hashes.gnu {
+        bucket_of(settings.buckets, gnu_hash(symbol.name.as_slice()))
+    } else {
+        0
+    }
+}
+
+#[tactic(auto, unfolding(crate::specs::Symbols::is_in))]
+fn is_in(settings: &Settings, number: u64, symbol: &Symbol) -> bool
+    ensures { result ≡ spec.is_in settings.now number symbol.now }
+{
+    symbol.defined && bucket(settings, symbol) == number
+}
+
+/// A copy of a symbol.
+pub fn copy_symbol(alloc: Global, symbol: &Symbol) -> Result<Symbol, AllocError>
+    ensures { IfOk result (λ s. s ≡ symbol.now) }
+{
+    Ok(Symbol {
+        defined: symbol.defined,
+        written: copy_of(alloc, symbol.written.as_slice())?,
+        name: copy_of(alloc, symbol.name.as_slice())?,
+        version: copy_of(alloc, symbol.version.as_slice())?,
+        visible: symbol.visible,
+        file: copy_of(alloc, symbol.file.as_slice())?,
+        bind: symbol.bind,
+        kind: symbol.kind,
+        visibility: symbol.visibility,
+        placed: symbol.placed,
+        offset: symbol.offset,
+        size: symbol.size,
+    })
+}
+
+fn keep_undefined(
+    alloc: Global,
+    to: Rows<Symbol>,
+    symbol: &Symbol,
+) -> Result<Rows<Symbol>, AllocError>
+    ensures { IfOk result (λ v. v ≡ spec.kept (spec.is_undefined symbol.now) symbol.now to) }
+{
+    if symbol.defined {
+        return Ok(to);
+    }
+    let mut to = to;
+    to.push(copy_symbol(alloc, symbol)?)?;
+    Ok(to)
+}
+
+fn undefined(alloc: Global, symbols: &[Symbol]) -> Result<Rows<Symbol>, AllocError>
+    ensures { IfOk result (λ v. v ≡ filter spec.is_undefined symbols.now) }
+{
+    let mut to = Rows::new(alloc);
+    for symbol in symbols {
+        to = keep_undefined(alloc, to, symbol)?;
+    }
+    Ok(to)
+}
+
+fn keep_in(
+    alloc: Global,
+    to: Rows<Symbol>,
+    settings: &Settings,
+    number: u64,
+    symbol: &Symbol,
+) -> Result<Rows<Symbol>, AllocError>
+    ensures { IfOk result (λ v. v ≡ spec.kept (spec.is_in settings.now number symbol.now) symbol.now to) }
+{
+    if !is_in(settings, number, symbol) {
+        return Ok(to);
+    }
+    let mut to = to;
+    to.push(copy_symbol(alloc, symbol)?)?;
+    Ok(to)
+}
+
+fn with_bucket(
+    alloc: Global,
+    to: Rows<Symbol>,
+    settings: &Settings,
+    number: u64,
+    symbols: &[Symbol],
+) -> Result<Rows<Symbol>, AllocError>
+    ensures { IfOk result (λ v. v ≡ to ++ filter (spec.is_in settings.now number) symbols.now) }
+{
+    let mut to = to;
+    for symbol in symbols {
+        to = keep_in(alloc, to, settings, number, symbol)?;
+    }
+    Ok(to)
+}
+
+/// The symbols in the order of the symbol table.
+#[tactic(auto, unfolding(crate::specs::Symbols::ordered))]
+pub fn ordered(
+    alloc: Global,
+    settings: &Settings,
+    symbols: &[Symbol],
+) -> Result<Rows<Symbol>, AllocError>
+    ensures { IfOk result (λ v. v ≡ spec.ordered settings.now symbols.now) }
+{
+    let mut to = undefined(alloc, symbols)?;
+    let buckets = settings.buckets;
+    for number in 0..buckets {
+        to = with_bucket(alloc, to, settings, number, symbols)?;
+    }
+    Ok(to)
+}
