@@ -1,0 +1,4 @@
+pub mod NameLaws
+pub mod Fields
+pub mod CacheLaws
+pub mod LoopLaws

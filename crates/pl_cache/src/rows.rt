@@ -1,0 +1,65 @@
+// What rows of a cache are to be.
+ghost use Rattle.std.specs.Prelude.{◌≡◌, length};
+ghost use Rattle.std.specs.List.{list_all};
+ghost use Rattle.pl_cache.specs.Spelling as spec;
+
+use crate::Cache;
+use crate::constants::{ADDRESS_END, MAX_ROWS, PAGE};
+use pl_base::{end, is_aligned};
+use pl_io::valid_name;
+use pl_slots::{Slot, are_apart};
+
+#[tactic(auto, unfolding(crate::specs::Spelling::is_row))]
+fn is_row(slot: &Slot) -> bool
+    ensures { result ≡ spec.is_row slot.now }
+{
+    valid_name(slot.name.as_str())
+        && is_aligned(slot.start, PAGE)
+        && is_aligned(slot.span, PAGE)
+        && slot.span > 0
+        && end(slot.start, slot.span) <= u128::from(ADDRESS_END)
+}
+
+fn are_rows(rows: &[Slot]) -> bool
+    ensures { result ≡ list_all spec.is_row rows.now }
+{
+    rows.iter().all(is_row)
+}
+
+fn precedes(a: &Slot, b: &Slot) -> bool
+    ensures { result ≡ spec.precedes a.now b.now }
+{
+    a.name.as_str().cmp(b.name.as_str()).is_lt()
+}
+
+fn is_followed(slot: &Slot, others: &[Slot]) -> bool
+    ensures { result ≡ spec.is_followed slot.now others.now }
+{
+    match others {
+        [] => true,
+        [next, ..] => precedes(slot, next),
+    }
+}
+
+fn ascend(rows: &[Slot]) -> bool
+    ensures { result ≡ spec.ascend rows.now }
+{
+    let mut left = rows;
+    while let [slot, others @ ..] = left {
+        if !is_followed(slot, others) {
+            return false;
+        }
+        left = others;
+    }
+    true
+}
+
+/// Whether a cache has a spelling: its names are valid and ascend strictly, its slots and spans are multiples of 4096 and no span is 0, its slots end at or below 2^47 and share no address, and there are at most 1024.
+#[tactic(auto, unfolding(crate::specs::Spelling::is_cache))]
+pub fn is_cache(cache: &Cache) -> bool
+    ensures { result ≡ spec.is_cache cache.now }
+{
+    let _last = cache.last;
+    let rows = cache.rows.as_slice();
+    rows.len() <= MAX_ROWS as usize && are_rows(rows) && ascend(rows) && are_apart(rows)
+}

@@ -1,0 +1,17 @@
+//! The plan of slots: which address range each library gets in the region, and the holes that are left.
+#![tactic(auto)]
+
+mod apart;
+mod fault;
+mod holes;
+mod planned;
+mod planning;
+mod slot;
+#[cfg(test)]
+mod tests;
+
+pub use apart::are_apart;
+pub use fault::PlanFault;
+pub use holes::{greatest, lowest_place, region_holes, without};
+pub use planning::plan;
+pub use slot::{Slot, Want};
