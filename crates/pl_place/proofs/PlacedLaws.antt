@@ -12,9 +12,9 @@ use Rattle.pl_place.specs.declared.wish.Wish.{Wish}
 use Rattle.pl_place.specs.declared.fault.PlaceFault.{PlaceFault}
 use Rattle.pl_place.specs.declared.fault.PlaceFault.TheVariants.{NoPlace, NoMemory}
 use Rattle.pl_place.specs.Policy.{Answering}
-use Rattle.pl_place.specs.Left.{beside}
-use Rattle.pl_place.specs.Placing.{Chose, range_of, InTurn, ArePlaced, StopsAt, AllFit, MissesAll, AreApart, Because, IsFault, Lowest}
-use Rattle.pl_place.proofs.LeftLaws.{beside_some}
+use Rattle.pl_place.specs.Left.{beside, left}
+use Rattle.pl_place.specs.Placing.{Chose, range_of, InTurn, ArePlaced, StopsAt, AllFit, AllFree, MissesAll, AreApart, Because, IsFault, Lowest}
+use Rattle.pl_place.proofs.LeftLaws.{beside_some, free_left}
 
 -- ---- one wish more
 
@@ -134,6 +134,15 @@ misses taken holes (wish ∷ wishes) (start ∷ starts) all = (
   λ address hit. false_from_ne_true (is_in address (range_of wish start)) (λ there.
       no_both (is_free address holes) (is_in address taken) (sym (free_without address taken holes) ∙ fits_free address wish.span start (without taken holes) all.0.1 there) hit),
   misses taken holes wishes starts all.1,
+)
+
+-- what fits beside busy ranges is in the region and in none of them
+pub fit_free : (region : Range) (busy : List Range) (wishes : List Wish) (starts : List ℕ) → AllFit (left region busy) wishes starts → AllFree region busy wishes starts
+fit_free region busy [] starts all = tt
+fit_free region busy (wish ∷ wishes) [] all = tt
+fit_free region busy (wish ∷ wishes) (start ∷ starts) all = (
+  λ address within. sym (free_left address region busy) ∙ fits_free address wish.span start (left region busy) all.0.1 within,
+  fit_free region busy wishes starts all.1,
 )
 
 -- no two places share an address

@@ -1,7 +1,7 @@
 -- The places of wishes in turn.
-use Rattle.std.specs.Prelude.{◌≡◌, ℕ, ◌+◌, ◌⊎◌, true, false, List, [], ◌∷◌, Option, Some, None}
+use Rattle.std.specs.Prelude.{◌≡◌, ℕ, ◌+◌, ◌⊎◌, true, false, not, ◌&&◌, List, [], ◌∷◌, Option, Some, None}
 use Rattle.pl_elf.specs.declared.range.Range.{Range}
-use Rattle.pl_slots.specs.Holes.{without, is_in, IsPlace, IsLowest}
+use Rattle.pl_slots.specs.Holes.{without, is_in, is_free, IsPlace, IsLowest}
 use Rattle.pl_place.specs.declared.wish.Wish.{Wish}
 use Rattle.pl_place.specs.declared.fault.PlaceFault.{PlaceFault}
 use Rattle.pl_place.specs.declared.fault.PlaceFault.TheVariants.{NoPlace, NoMemory}
@@ -49,6 +49,14 @@ AllFit holes [] [] = Unit {0}
 AllFit holes [] (start ∷ starts) = ⊥
 AllFit holes (wish ∷ wishes) [] = ⊥
 AllFit holes (wish ∷ wishes) (start ∷ starts) = IsPlace holes wish.span wish.align start × AllFit holes wishes starts
+
+-- each address of a wish is in the region and in no busy range
+abbrev pub AllFree : Range → List Range → List Wish → List ℕ → Type 0
+AllFree region busy [] starts = Unit {0}
+AllFree region busy (wish ∷ wishes) [] = Unit {0}
+AllFree region busy (wish ∷ wishes) (start ∷ starts) =
+    ((address : ℕ) → is_in address (range_of wish start) ≡ true → (is_in address region && not (is_free address busy)) ≡ true)
+    × AllFree region busy wishes starts
 
 -- no address of a range is an address of a wish
 abbrev pub MissesAll : Range → List Wish → List ℕ → Type 0

@@ -76,8 +76,10 @@ pub fn place_all<F: Fn(&Holes, u64, u64) -> Option<u64>>(
     requires wishes { All spec.IsWish wishes.now }
     // Each place is the policy's answer for the holes that are left.
     ensures places { IfOk result (λ starts. spec.ArePlaced (F.post placer.now) (left region busy.now) wishes.now starts.items) }
-    // Each place is aligned, and lies whole in the region beside the busy ranges.
+    // Each place is aligned, and lies whole in a hole of the region beside the busy ranges,
     ensures fit { IfOk result (λ starts. spec.AllFit (left region busy.now) wishes.now starts.items) }
+    // so each of its addresses is in the region and in no busy range.
+    ensures free { IfOk result (λ starts. spec.AllFree region busy.now wishes.now starts.items) }
     // No two places share an address.
     ensures apart { IfOk result (λ starts. spec.AreApart wishes.now starts.items) }
     ensures fault { IfErr result (spec.IsFault (F.post placer.now) (left region busy.now) wishes.now) }
