@@ -1,6 +1,4 @@
-ghost use Rattle.std.specs.Prelude.{◌≡◌, Option, List};
-ghost use Rattle.std.specs.Borrow.{Bor};
-ghost use Rattle.pl_elf.specs.declared.range.Range.{Range};
+ghost use Rattle.std.specs.Prelude.{◌≡◌};
 ghost use Rattle.pl_place.specs.Policy as policy;
 
 use crate::Holes;

@@ -1,5 +1,5 @@
 // The places of wishes in turn.
-ghost use Rattle.std.specs.Prelude.{◌≡◌, ℕ, ◌<◌, ◌+◌, ◌^◌, IfOk, IfErr, IfSome, IfNone, Some, None, All};
+ghost use Rattle.std.specs.Prelude.{◌≡◌, ◌<◌, IfOk, IfErr, IfSome, IfNone, Some, None, All};
 ghost use Rattle.pl_place.specs.Left.{left};
 ghost use Rattle.pl_place.specs.Policy as policy;
 ghost use Rattle.pl_place.specs.Placing as spec;

@@ -1,8 +1,6 @@
 // The policies of the command line.
-ghost use Rattle.std.specs.Prelude.{◌≡◌, ◌<◌, true, IfSome};
-ghost use Rattle.std.specs.Int.{is_power_of_two};
+ghost use Rattle.std.specs.Prelude.{◌≡◌, IfSome};
 ghost use Rattle.pl_slots.specs.Holes.{IsLowest};
-ghost use Rattle.pl_base.specs.Sums.{plus};
 ghost use Rattle.pl_place.specs.Policy as policy;
 ghost use Rattle.pl_place.specs.Numbering as spec;
 
