@@ -1,0 +1,202 @@
+-- Places in turn: one wish more, and what all places are.
+use Rattle.std.proofs.Common.{◌≡◌, ℕ, ◌+◌, ◌≤◌, ◌<◌, Bool, true, false, ◌&&◌, not, List, [], ◌∷◌, ◌++◌, Option, Some, None, refl, sym, ◌∙◌, ap, subst, arith, length, drop, get_or, cond, append_assoc, append-nil, inl, inr}
+use Rattle.std.specs.Prelude.{nat_le, nat_lt, min, max, Result, Ok, Err, IfErr, IfSome}
+use Rattle.std.proofs.lemmas.Bool.{cases_Bool, leb-true, le-leb, lt-ltb, ltb-true, and_parts, and_from, or_cases, or_left, or_right, false_from_ne_true, false≢true}
+use Rattle.std.proofs.lemmas.List.{at_drop_more, at_drop_all}
+use Rattle.std.proofs.lemmas.List.Folds.{list_any-append}
+use Rattle.std.specs.Borrow.{Bor}
+use Rattle.pl_elf.specs.declared.range.Range.{Range}
+use Rattle.pl_slots.specs.Holes.{hole, cut, without, is_in, is_free, fits_at, IsLowest}
+use Rattle.pl_slots.proofs.HoleLaws.{free_without}
+use Rattle.pl_place.specs.declared.wish.Wish.{Wish}
+use Rattle.pl_place.specs.declared.fault.PlaceFault.{PlaceFault}
+use Rattle.pl_place.specs.declared.fault.PlaceFault.TheVariants.{NoPlace, NoMemory}
+use Rattle.pl_place.specs.Policy.{Answering}
+use Rattle.pl_place.specs.Left.{beside, left}
+use Rattle.pl_place.specs.Placing.{Chose, range_of, InTurn, ArePlaced, StopsAt, AllFit, AllFree, MissesAll, AreApart, Because, IsFault, Lowest}
+use Rattle.pl_place.proofs.LeftLaws.{beside_some, free_left}
+
+-- ---- one wish more
+
+-- some first wishes have their places: what comes of the others, comes of all
+pub record IsSoFar (post : Answering) (free : List Range) (wishes : List Wish) (holes : List Range) (rest : List Wish) (starts : List ℕ) : Type 0 where
+  pub places : (more : List ℕ) → InTurn post holes rest more → InTurn post free wishes (starts ++ more)
+  pub stops : (name : List ℕ) → StopsAt post holes rest name → StopsAt post free wishes name
+
+pub so_far_begins : (post : Answering) (free : List Range) (wishes : List Wish) → IsSoFar post free wishes free wishes []
+so_far_begins post free wishes = record { places = λ more p. p; stops = λ name p. p }
+
+-- the wish at i, as a loop reads it
+at_wish : (wishes : List Wish) (i : ℕ) (wish : Wish) → i < length wishes → wish ≡ get_or wishes i wish → drop i wishes ≡ wish ∷ drop (i + 1) wishes
+at_wish wishes i wish lt is = at_drop_more (λ (xs : List Wish). xs) wishes i wish lt ∙ rw (← is) refl
+
+pub so_far_more : (post : Answering) (free : List Range) (wishes : List Wish) (holes : List Range) (i : ℕ) (wish : Wish) (range : Range) (starts : List ℕ)
+    → i < length wishes → wish ≡ get_or wishes i wish → range ≡ range_of wish range.start → range.start < range.end → Chose post holes wish (Some range.start)
+    → IsSoFar post free wishes holes (drop i wishes) starts → IsSoFar post free wishes (beside holes range) (drop (i + 1) wishes) (starts ++ range.start ∷ [])
+so_far_more post free wishes holes i wish range starts lt is at some chose so_far =
+    let here : IsSoFar post free wishes holes (wish ∷ drop (i + 1) wishes) starts = subst (λ rest. IsSoFar post free wishes holes rest starts) (at_wish wishes i wish lt is) so_far in
+    let left : beside holes range ≡ without (range_of wish range.start) holes = beside_some holes range some ∙ ap (λ r. without r holes) at in
+    subst (λ holes. IsSoFar post free wishes holes (drop (i + 1) wishes) (starts ++ range.start ∷ [])) (sym left) (record {
+      places = λ more p. rw append_assoc (here.places (range.start ∷ more) (chose, p));
+      stops = λ name p. here.stops name (inr (range.start, chose, p));
+    })
+
+pub so_far_stops : (post : Answering) (free : List Range) (wishes : List Wish) (holes : List Range) (i : ℕ) (wish : Wish) (starts : List ℕ)
+    → i < length wishes → wish ≡ get_or wishes i wish → Chose post holes wish None → IsSoFar post free wishes holes (drop i wishes) starts → StopsAt post free wishes wish.name
+so_far_stops post free wishes holes i wish starts lt is chose so_far =
+    let here : IsSoFar post free wishes holes (wish ∷ drop (i + 1) wishes) starts = subst (λ rest. IsSoFar post free wishes holes rest starts) (at_wish wishes i wish lt is) so_far in
+    here.stops wish.name (inl (refl, chose))
+
+pub so_far_ends : (post : Answering) (free : List Range) (wishes : List Wish) (holes : List Range) (i : ℕ) (starts : List ℕ) → length wishes ≤ i → IsSoFar post free wishes holes (drop i wishes) starts → ArePlaced post free wishes starts
+so_far_ends post free wishes holes i starts le so_far =
+    let here : IsSoFar post free wishes holes [] starts = subst (λ rest. IsSoFar post free wishes holes rest starts) (at_drop_all (λ (xs : List Wish). xs) wishes i le) so_far in
+    record { in_turn = subst (InTurn post free wishes) (append-nil starts) (here.places [] tt) }
+
+-- ---- what fits beside a range that is taken
+
+fits_hole : (span start a b : ℕ) → fits_at (hole a b) span start ≡ true → (a ≤ start) × (start + span ≤ b)
+unfolding hole
+fits_hole span start a b fits = elim (cases_Bool (nat_lt a b)) [
+  | inl some ↦
+      let one : fits_at (record { start = a; end = b } ∷ []) span start ≡ true = subst (λ t. fits_at (cond t (record { start = a; end = b } ∷ []) []) span start ≡ true) some fits in
+      elim (or_cases (nat_le a start && nat_le (start + span) b) false one) [
+        | inl here ↦
+            let parts = and_parts (nat_le a start) (nat_le (start + span) b) here in
+            (leb-true a start parts.0, leb-true (start + span) b parts.1)
+        | inr never ↦ absurd (false≢true never)
+      ]
+  | inr none ↦ absurd (false≢true (subst (λ t. fits_at (cond t (record { start = a; end = b } ∷ []) []) span start ≡ true) none fits))
+]
+
+fits_cut : (span start : ℕ) (taken free : Range) → fits_at (cut taken free) span start ≡ true → (nat_le free.start start && nat_le (start + span) free.end) ≡ true
+unfolding cut
+fits_cut span start taken free fits =
+    let low : List Range = hole free.start (min free.end taken.start) in
+    let high : List Range = hole (max free.start taken.end) free.end in
+    elim (or_cases (fits_at low span start) (fits_at high span start) (sym (list_any-append (λ h. nat_le h.start start && nat_le (start + span) h.end) low high) ∙ fits)) [
+      | inl below ↦
+          let parts = fits_hole span start free.start (min free.end taken.start) below in
+          and_from _ _ (le-leb free.start start parts.0) (le-leb (start + span) free.end (omega (arith, parts.1)))
+      | inr above ↦
+          let parts = fits_hole span start (max free.start taken.end) free.end above in
+          and_from _ _ (le-leb free.start start (omega (arith, parts.0))) (le-leb (start + span) free.end parts.1)
+    ]
+
+fits_wider : (span start : ℕ) (taken : Range) (holes : List Range) → fits_at (without taken holes) span start ≡ true → fits_at holes span start ≡ true
+unfolding without
+fits_wider span start taken [] fits = absurd (false≢true fits)
+fits_wider span start taken (free ∷ holes) fits =
+    elim (or_cases (fits_at (cut taken free) span start) (fits_at (without taken holes) span start) (sym (list_any-append (λ h. nat_le h.start start && nat_le (start + span) h.end) (cut taken free) (without taken holes)) ∙ fits)) [
+      | inl first ↦ or_left (nat_le free.start start && nat_le (start + span) free.end) (fits_at holes span start) (fits_cut span start taken free first)
+      | inr later ↦ or_right (nat_le free.start start && nat_le (start + span) free.end) (fits_at holes span start) (fits_wider span start taken holes later)
+    ]
+
+all_wider : (taken : Range) (holes : List Range) (wishes : List Wish) (starts : List ℕ) → AllFit (without taken holes) wishes starts → AllFit holes wishes starts
+all_wider taken holes [] [] all = tt
+all_wider taken holes (wish ∷ wishes) (start ∷ starts) all = ((all.0.0, fits_wider wish.span start taken holes all.0.1), all_wider taken holes wishes starts all.1)
+all_wider taken holes [] (start ∷ starts) all = all
+all_wider taken holes (wish ∷ wishes) [] all = all
+
+-- each place fits
+placed_fit : (post : Answering) (holes : List Range) (wishes : List Wish) (starts : List ℕ) → InTurn post holes wishes starts → AllFit holes wishes starts
+placed_fit post holes [] [] placed = tt
+placed_fit post holes (wish ∷ wishes) (start ∷ starts) placed =
+    (placed.0.1, all_wider (range_of wish start) holes wishes starts (placed_fit post (without (range_of wish start) holes) wishes starts placed.1))
+placed_fit post holes [] (start ∷ starts) placed = placed
+placed_fit post holes (wish ∷ wishes) [] placed = placed
+
+pub all_fit : (post : Answering) (holes : List Range) (wishes : List Wish) (starts : List ℕ) → ArePlaced post holes wishes starts → AllFit holes wishes starts
+all_fit post holes wishes starts placed = placed_fit post holes wishes starts placed.in_turn
+
+-- the addresses of what fits are free
+fits_free : (address span start : ℕ) (holes : List Range) → fits_at holes span start ≡ true → is_in address (record { start = start; end = start + span }) ≡ true → is_free address holes ≡ true
+fits_free address span start [] fits within = absurd (false≢true fits)
+fits_free address span start (h ∷ holes) fits within =
+    let parts = and_parts (nat_le start address) (nat_lt address (start + span)) within in
+    elim (or_cases (nat_le h.start start && nat_le (start + span) h.end) (fits_at holes span start) fits) [
+      | inl first ↦
+          let ends = and_parts (nat_le h.start start) (nat_le (start + span) h.end) first in
+          or_left (is_in address h) (is_free address holes) (and_from _ _
+          (le-leb h.start address (omega (arith, leb-true h.start start ends.0, leb-true start address parts.0)))
+          (lt-ltb address h.end (omega (arith, leb-true (start + span) h.end ends.1, ltb-true address (start + span) parts.1))))
+      | inr later ↦ or_right (is_in address h) (is_free address holes) (fits_free address span start holes later within)
+    ]
+
+no_both : (f t : Bool) → (f && not t) ≡ true → t ≡ true → ⊥
+no_both true true is hit = false≢true is
+no_both true false is hit = false≢true hit
+no_both false t is hit = false≢true is
+
+misses : (taken : Range) (holes : List Range) (wishes : List Wish) (starts : List ℕ) → AllFit (without taken holes) wishes starts → MissesAll taken wishes starts
+misses taken holes [] starts all = tt
+misses taken holes (wish ∷ wishes) [] all = tt
+misses taken holes (wish ∷ wishes) (start ∷ starts) all = (
+  λ address hit. false_from_ne_true (is_in address (range_of wish start)) (λ there.
+      no_both (is_free address holes) (is_in address taken) (sym (free_without address taken holes) ∙ fits_free address wish.span start (without taken holes) all.0.1 there) hit),
+  misses taken holes wishes starts all.1,
+)
+
+-- what fits beside busy ranges is in the region and in none of them
+pub fit_free : (region : Range) (busy : List Range) (wishes : List Wish) (starts : List ℕ) → AllFit (left region busy) wishes starts → AllFree region busy wishes starts
+fit_free region busy [] starts all = tt
+fit_free region busy (wish ∷ wishes) [] all = tt
+fit_free region busy (wish ∷ wishes) (start ∷ starts) all = (
+  λ address within. sym (free_left address region busy) ∙ fits_free address wish.span start (left region busy) all.0.1 within,
+  fit_free region busy wishes starts all.1,
+)
+
+-- no two places share an address
+placed_apart : (post : Answering) (holes : List Range) (wishes : List Wish) (starts : List ℕ) → InTurn post holes wishes starts → AreApart wishes starts
+placed_apart post holes [] starts placed = tt
+placed_apart post holes (wish ∷ wishes) [] placed = tt
+placed_apart post holes (wish ∷ wishes) (start ∷ starts) placed = (
+  misses (range_of wish start) holes wishes starts (placed_fit post (without (range_of wish start) holes) wishes starts placed.1),
+  placed_apart post (without (range_of wish start) holes) wishes starts placed.1,
+)
+
+pub all_apart : (post : Answering) (holes : List Range) (wishes : List Wish) (starts : List ℕ) → ArePlaced post holes wishes starts → AreApart wishes starts
+all_apart post holes wishes starts placed = placed_apart post holes wishes starts placed.in_turn
+
+-- ---- what a policy answers, another may answer that answers as it does
+
+abbrev AnswersAs : Answering → Answering → Type 0
+AnswersAs post other = (at : Bor (List Range)) (span align : ℕ) (answer : Option ℕ) → post at span align answer → other at span align answer
+
+placed_as : (post other : Answering) → AnswersAs post other → (holes : List Range) (wishes : List Wish) (starts : List ℕ) → InTurn post holes wishes starts → InTurn other holes wishes starts
+placed_as post other same holes [] [] placed = tt
+placed_as post other same holes [] (start ∷ starts) placed = placed
+placed_as post other same holes (wish ∷ wishes) [] placed = placed
+placed_as post other same holes (wish ∷ wishes) (start ∷ starts) placed =
+    let call = placed.0.0 in (
+      ((call.0, call.1, same call.0 wish.span wish.align (Some start) call.2), placed.0.1),
+      placed_as post other same (without (range_of wish start) holes) wishes starts placed.1,
+    )
+
+stops_as : (post other : Answering) → AnswersAs post other → (holes : List Range) (wishes : List Wish) (name : List ℕ) → StopsAt post holes wishes name → StopsAt other holes wishes name
+stops_as post other same holes [] name stops = stops
+stops_as post other same holes (wish ∷ wishes) name (inl here) =
+    let call = here.1.0 in
+    inl (here.0, ((call.0, call.1, same call.0 wish.span wish.align None call.2), here.1.1))
+stops_as post other same holes (wish ∷ wishes) name (inr later) =
+    let call = later.1.0 in
+    inr (later.0, ((call.0, call.1, same call.0 wish.span wish.align (Some later.0) call.2), later.1.1), stops_as post other same (without (range_of wish later.0) holes) wishes name later.2)
+
+pub all_as : (post other : Answering) (holes : List Range) (wishes : List Wish) (starts : List ℕ) → ArePlaced post holes wishes starts → AnswersAs post other → ArePlaced other holes wishes starts
+all_as post other holes wishes starts placed same = record { in_turn = placed_as post other same holes wishes starts placed.in_turn }
+
+because_as : (post other : Answering) → AnswersAs post other → (holes : List Range) (wishes : List Wish) (fault : PlaceFault) → Because post holes wishes fault → Because other holes wishes fault
+because_as post other same holes wishes (NoPlace name) is = stops_as post other same holes wishes name is
+because_as post other same holes wishes NoMemory is = tt
+
+pub fault_as : (post other : Answering) (holes : List Range) (wishes : List Wish) (fault : PlaceFault) → IsFault post holes wishes fault → AnswersAs post other → IsFault other holes wishes fault
+fault_as post other holes wishes fault is same = record { because = because_as post other same holes wishes fault is.because }
+
+-- an answer of the lowest policy
+pub as_lowest : (at : Bor (List Range)) (span align : ℕ) (answer : Option ℕ) → IfSome answer (IsLowest at.now span align) → Lowest at span align answer
+as_lowest at span align (Some start) is = is
+as_lowest at span align None is = tt
+
+-- from one fact of a fault to another
+pub IfErr-map : {T E : Type 0} (r : Result T E) (P Q : E → Type 0) → ((e : E) → P e → Q e) → IfErr r P → IfErr r Q
+IfErr-map (Ok x) P Q f p = tt
+IfErr-map (Err e) P Q f p = f e p

@@ -1,0 +1,4 @@
+pub mod Left
+pub mod Policy
+pub mod Numbering
+pub mod Placing
