@@ -10,3 +10,4 @@ pub mod SweepLaws
 pub mod CrossingLaws
 pub mod RunLaws
 pub mod TwinLaws
+pub mod RefusalLaws

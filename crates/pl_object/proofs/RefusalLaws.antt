@@ -1,0 +1,184 @@
+-- What refuses a file is always an acceptance clause: the definition of an object means a want of memory of no file.
+use Rattle.std.proofs.Common.{◌≡◌, refl, subst, rules, ℕ, Bool, true, false, List, [], ◌∷◌, Option, Some, None, Result, Ok, Err}
+use Rattle.std.specs.Prelude.{if◌then◌else◌}
+use Rattle.pl_base.specs.Answers.{◌>>=◌, unless, unless_found, because}
+use Rattle.pl_base.specs.Each.{each}
+use Rattle.pl_elf.specs.Clauses as elf
+use Rattle.pl_elf.specs.declared.header.Header.{Header}
+use Rattle.pl_elf.specs.declared.segment.Segment.{Segment}
+use Rattle.pl_elf.specs.declared.section.Section.{Section}
+use Rattle.pl_elf.specs.declared.fault.HeaderFault.{HeaderFault}
+use Rattle.pl_elf.specs.declared.fault.HeaderFault.TheVariants as header_fault
+use Rattle.pl_dyn.specs.Read as dyn
+use Rattle.pl_dyn.specs.declared.tags.Tag.{Tag}
+use Rattle.pl_dyn.specs.declared.dynamic.Dynamic.{Dynamic}
+use Rattle.pl_dyn.specs.declared.fault.DynFault.{DynFault}
+use Rattle.pl_dyn.specs.declared.fault.DynFault.TheVariants as dyn_fault
+use Rattle.pl_sym.specs.Table as sym
+use Rattle.pl_sym.specs.declared.symbol.Symbol.{Symbol}
+use Rattle.pl_sym.specs.declared.fault.SymFault.{SymFault}
+use Rattle.pl_sym.specs.declared.fault.SymFault.TheVariants as sym_fault
+use Rattle.pl_ver.specs.Versions as ver
+use Rattle.pl_ver.specs.declared.versions.Versions.{Versions}
+use Rattle.pl_ver.specs.declared.fault.VerFault.{VerFault}
+use Rattle.pl_ver.specs.declared.fault.VerFault.TheVariants as ver_fault
+use Rattle.pl_object.specs.Refusals.{is_memory, of_header, of_dynamic, of_symbols, of_versions}
+use Rattle.pl_object.specs.TableClauses.{check_tables}
+use Rattle.pl_object.specs.Names as names
+use Rattle.pl_object.specs.SymbolClauses.{check_symbols}
+use Rattle.pl_object.specs.PlaceClauses.{check_places, check_relocs}
+use Rattle.pl_object.specs.Reads.{dynamic, check_rest, linking, check, checked, linked, static_program, parts, headers, layout, reads}
+use Rattle.pl_object.specs.declared.headers.Headers.{Headers}
+use Rattle.pl_object.specs.declared.linking.Linking.{Linking}
+use Rattle.pl_object.specs.declared.layout.Layout.{Layout}
+use Rattle.pl_object.specs.declared.refusal.Refusal.{Refusal}
+use Rattle.pl_object.specs.declared.refusal.Refusal.TheVariants.{NoMemory}
+
+-- a value, or a fault that is no want of memory
+unfoldable pub Tells : {X E : Type 0} → (E → Bool) → Result X E → Type 0
+Tells is_memory (Ok x) = Unit {0}
+Tells is_memory (Err e) = is_memory e ≡ false
+
+ok_tells : {X E : Type 0} (m : E → Bool) (x : X) → Tells m (Ok x)
+unfolding Tells
+ok_tells m x = tt
+
+err_tells : (X : Type 0) {E : Type 0} (m : E → Bool) (e : E) → m e ≡ false → Tells {X = X} m (Err e)
+unfolding Tells
+err_tells X m e h = h
+
+-- ---- steps
+
+unless_tells : {X E : Type 0} (m : E → Bool) (test : Bool) (fault : E) (next : Result X E) → m fault ≡ false → Tells m next → Tells m (unless test fault next)
+unfolding Tells
+unless_tells m true fault next f t = f
+unless_tells m false fault next f t = t
+
+found_tells : {A X E : Type 0} (m : E → Bool) (found : Option A) (fault : A → E) (next : Result X E) → ((x : A) → m (fault x) ≡ false) → Tells m next → Tells m (unless_found found fault next)
+unfolding Tells
+found_tells m (Some x) fault next f t = f x
+found_tells m None fault next f t = t
+
+then_tells : {A B E : Type 0} (m : E → Bool) (r : Result A E) (f : A → Result B E) → Tells m r → ((x : A) → Tells m (f x)) → Tells m (r >>= f)
+unfolding Tells
+then_tells m (Ok x) f t ts = ts x
+then_tells m (Err e) f t ts = t
+
+because_tells : {A E F : Type 0} (m : E → Bool) (n : F → Bool) (fault : E → F) (r : Result A E) → ((e : E) → m e ≡ false → n (fault e) ≡ false) → Tells m r → Tells n (because fault r)
+unfolding Tells
+because_tells m n fault (Ok x) f t = tt
+because_tells m n fault (Err e) f t = f e t
+
+each_tells : {A B E : Type 0} (m : E → Bool) (f : A → Result B E) (xs : List A) → ((x : A) → Tells m (f x)) → Tells m (each f xs)
+unfolding each
+each_tells m f [] ts = ok_tells m []
+each_tells m f (x ∷ xs) ts = then_tells m (f x) _ (ts x) (λ y. then_tells m (each f xs) _ (each_tells m f xs ts) (λ ys. ok_tells m _))
+
+either_tells : {X E : Type 0} (m : E → Bool) (test : Bool) (r s : Result X E) → Tells m r → Tells m s → Tells m (if test then r else s)
+either_tells m true r s t u = t
+either_tells m false r s t u = u
+
+-- ---- the parts' faults
+
+of_header_tells : (e : HeaderFault) → is_memory (of_header e) ≡ false
+of_header_tells header_fault.NotElf = refl
+of_header_tells header_fault.Class = refl
+of_header_tells header_fault.Machine = refl
+of_header_tells header_fault.Kind = refl
+of_header_tells header_fault.Truncated = refl
+of_header_tells header_fault.BadSegment = refl
+of_header_tells header_fault.BadSection = refl
+of_header_tells header_fault.NoSections = refl
+
+of_dynamic_tells : (e : DynFault) → dyn.is_memory e ≡ false → is_memory (of_dynamic e) ≡ false
+of_dynamic_tells dyn_fault.NoEnd t = refl
+of_dynamic_tells (dyn_fault.UnknownTag number) t = refl
+of_dynamic_tells (dyn_fault.Twice number) t = refl
+of_dynamic_tells dyn_fault.NoMemory t = t
+
+of_symbols_tells : (e : SymFault) → sym.is_memory e ≡ false → is_memory (of_symbols e) ≡ false
+of_symbols_tells sym_fault.BadSymbol t = refl
+of_symbols_tells sym_fault.NoMemory t = t
+
+of_versions_tells : (e : VerFault) → ver.is_memory e ≡ false → is_memory (of_versions e) ≡ false
+of_versions_tells ver_fault.BadChain t = refl
+of_versions_tells ver_fault.BadIndex t = refl
+of_versions_tells ver_fault.NoMemory t = t
+
+header_tells : (r : Result Header HeaderFault) → Tells is_memory (because of_header r)
+header_tells (Ok h) = ok_tells is_memory h
+header_tells (Err e) = err_tells _ is_memory _ (of_header_tells e)
+
+dynamic_tells : (bytes : List ℕ) (ss : List Segment) → Tells dyn.is_memory (dynamic bytes ss)
+unfolding dynamic dyn.read
+dynamic_tells bytes ss = search (rules, unless_tells, found_tells, either_tells, ok_tells, err_tells)
+
+named_tells : (table : List ℕ) (at : ℕ) (name : Option (List ℕ)) → Tells sym.is_memory (sym.named table at name)
+named_tells table at None = err_tells _ sym.is_memory _ refl
+named_tells table at (Some name) = ok_tells sym.is_memory _
+
+symbols_tells : (table strings : List ℕ) → Tells sym.is_memory (sym.symbols table strings)
+unfolding sym.symbols sym.symbol_at
+symbols_tells table strings = each_tells sym.is_memory _ _ (λ index. named_tells table _ _)
+
+versions_tells : (versym verdef verneed strings : List ℕ) (defs needs : ℕ) → Tells ver.is_memory (ver.versions versym verdef defs verneed needs strings)
+unfolding ver.versions ver.checked
+versions_tells versym verdef verneed strings defs needs = search (rules, unless_tells, found_tells, either_tells, ok_tells, err_tells)
+
+-- ---- the names of an object
+
+checked_name_tells : (name : Option (List ℕ)) → Tells is_memory (names.checked_name name)
+checked_name_tells None = err_tells _ is_memory _ refl
+checked_name_tells (Some name) = either_tells is_memory _ _ _ (ok_tells is_memory name) (err_tells _ is_memory _ refl)
+
+needed_tells : (tags : List Tag) (strings : List ℕ) → Tells is_memory (names.needed tags strings)
+unfolding names.needed names.needed_name
+needed_tells tags strings = each_tells is_memory _ _ (λ tag. checked_name_tells _)
+
+bare_tells : (bytes : List ℕ) (ss : List Segment) (secs : List Section) (tags : List Tag) → Tells is_memory (names.symbols bytes ss secs tags)
+unfolding names.symbols
+bare_tells bytes ss secs tags = because_tells sym.is_memory is_memory of_symbols _ of_symbols_tells (symbols_tells _ _)
+
+known_tells : (bytes : List ℕ) (ss : List Segment) (secs : List Section) (tags : List Tag) (symbols : List Symbol) → Tells is_memory (names.versions bytes ss secs tags symbols)
+unfolding names.versions names.known_versions names.table_versions names.counted
+known_tells bytes ss secs tags symbols = unless_tells is_memory _ _ _ refl (either_tells is_memory _ _ _
+    (then_tells is_memory _ _ (because_tells ver.is_memory is_memory of_versions _ of_versions_tells (versions_tells _ _ _ _ _ _)) (λ known. unless_tells is_memory _ _ _ refl (ok_tells is_memory _)))
+    (ok_tells is_memory _))
+
+linking_tells : (bytes : List ℕ) (f : Headers) (tags : List Tag) → Tells is_memory (linking bytes f tags)
+unfolding linking
+linking_tells bytes f tags =
+    then_tells is_memory _ _ (needed_tells tags _) (λ found. then_tells is_memory _ _ (bare_tells bytes f.segments f.sections tags)
+    (λ bare. then_tells is_memory _ _ (known_tells bytes f.segments f.sections tags bare) (λ known. ok_tells is_memory _)))
+
+-- ---- the clauses from 9 on
+
+tables_tell : (f : Headers) (tags : List Tag) → Tells is_memory (check_tables f.header f.segments f.sections tags)
+unfolding check_tables
+tables_tell f tags = search (rules, unless_tells, found_tells, either_tells, ok_tells, err_tells)
+
+check_tells : (bytes : List ℕ) (f : Headers) (tags : List Tag) (l : Linking) (places : Layout) → Tells is_memory (check bytes f tags l places)
+unfolding check check_symbols check_relocs check_places check_rest
+check_tells bytes f tags l places = search (rules, unless_tells, found_tells, either_tells, ok_tells, err_tells, then_tells)
+
+linked_tells : (bytes : List ℕ) (f : Headers) (d : Dynamic) → Tells is_memory (linked bytes f d)
+unfolding linked checked
+linked_tells bytes f d =
+    then_tells is_memory _ _ (tables_tell f d.tags) (λ u. then_tells is_memory _ _ (linking_tells bytes f d.tags)
+    (λ l. then_tells is_memory _ _ (check_tells bytes f d.tags l (layout bytes f d.tags l)) (λ v. ok_tells is_memory _)))
+
+parts_tell : (bytes : List ℕ) (f : Headers) → Tells is_memory (parts bytes f)
+unfolding parts static_program
+parts_tell bytes f = either_tells is_memory (elf.is_static bytes f.header) _ _ (unless_tells is_memory _ _ _ refl (ok_tells is_memory _))
+    (then_tells is_memory _ _ (because_tells dyn.is_memory is_memory of_dynamic _ of_dynamic_tells (dynamic_tells bytes f.segments)) (λ d. linked_tells bytes f d))
+
+pub reads_tells : (bytes : List ℕ) → Tells is_memory (reads bytes)
+unfolding reads
+reads_tells bytes = then_tells is_memory _ _ (header_tells (elf.read bytes)) (λ h. parts_tell bytes (headers bytes h))
+
+pub never_memory : (bytes : List ℕ) → reads bytes ≡ Err NoMemory → ⊥
+unfolding Tells
+never_memory bytes is = no (subst (Tells is_memory) is (reads_tells bytes))
+  where
+    no : true ≡ false → ⊥
+    no h = cc
