@@ -1,6 +1,6 @@
 -- What `--make` finds, step by step, and what it leaves where it stops.
 use Rattle.std.proofs.Common.{◌≡◌, ◌≤◌, ◌<◌, ℕ, List, length, Bool, true, false, Option, Some, None, refl, sym, ap, subst, ◌∙◌, inl, inr, arith}
-use Rattle.std.specs.Prelude.{Result, Ok, Err, is_some, not, nat_lt, MatchBool, ⊤}
+use Rattle.std.specs.Prelude.{Result, Ok, Err, is_some, not, nat_lt}
 use Rattle.std.specs.FinMap.{insert, keys}
 use Rattle.std.proofs.lemmas.Bool.Decides.{nat_tests}
 use Rattle.pl_base.specs.Answers.{unless, because, Answers, ◌>>=◌}
@@ -45,11 +45,15 @@ input_is_read input few =
     let test : nat_lt RECIPE (length input) ≡ false = grind (arith, nat_tests) in
     ap (λ (b : Bool). unless b InputTooLarge (because recipe_cause (build input))) test
 
+-- an input that tells its bytes has more of them
+has_more : (left after : Option (List ℕ)) → HasMore left after RECIPE → is_some left ≡ true → built (bytes_of left) ≡ Err InputTooLarge
+has_more (Some left) after more told = input_too_large left more.0
+has_more None after more told = cc
+
 -- reading stopped
 pub unread : (left after : Option (List ℕ)) (source : Type 0) (fault : ReadFault) → StopsReading left after RECIPE source fault → Stops true (is_some left) (built (bytes_of left)) ⊥ source (of_read_fault fault)
 unread left after source read_faults.Failed why = why
-unread (Some left) after source read_faults.TooLarge why = λ _ _. input_too_large left why.0
-unread None after source read_faults.TooLarge why = λ _ told. cc
+unread left after source read_faults.TooLarge why = λ _ told. has_more left after why told
 unread left after source read_faults.NoMemory why = why
 
 told_bytes : (left : Option (List ℕ)) (recipe : List ℕ) → (is_some left ≡ true → left ≡ Some recipe) → is_some left ≡ true → bytes_of left ≡ recipe

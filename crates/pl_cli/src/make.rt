@@ -3,6 +3,7 @@ ghost use Rattle.std.specs.Prelude.{◌≡◌, ◌≤◌, Ok, IfErr, IfOk, OnOk,
 ghost use Rattle.pl_base.specs.Counts.{Rose};
 ghost use Rattle.pl_base.specs.Names.{is_valid_name};
 ghost use Rattle.pl_cli.specs.Answer.{make_answer};
+ghost use Rattle.pl_cli.specs.declared.status.Status.TheVariants as statuses;
 ghost use Rattle.pl_cli.specs.Make as spec;
 ghost use Rattle.pl_cli.specs.Outcome.{LeavesAt, Stops};
 ghost use Rattle.pl_cli.specs.ValidFiles.{SameFiles};
@@ -10,7 +11,6 @@ ghost use Rattle.pl_cli.specs.Words.{bytes_of};
 
 use crate::cause::Cause;
 use crate::room::is_full;
-use crate::status::Status;
 use crate::stop::Stop;
 use crate::text::made_text;
 use pl_base::Rows;
@@ -23,7 +23,6 @@ use std::alloc::Global;
 pub const RECIPE: usize = 1_048_576;
 
 /// The file of the recipe in the input, or the first cause why there is none.
-#[tactic(auto, using(crate::proofs::MakeLemmas::too_large, crate::proofs::MakeLemmas::not_built, crate::proofs::MakeLemmas::is_built))]
 fn built<S: Source>(alloc: Global, input: &mut S) -> Result<Rows<u8>, Stop>
     ensures ok { IfOk result (λ bytes. is_some (S.left input.old) ≡ true → spec.built (bytes_of (S.left input.old)) ≡ Ok bytes) }
     ensures stop { IfErr result (Stops true (is_some (S.left input.old)) (spec.built (bytes_of (S.left input.old))) ⊥ (Rose (S.faults input.old) (S.faults input.new))) }
@@ -74,7 +73,7 @@ pub fn make<D: Folder, S: Source>(
 ) -> Result<String, Stop>
     ensures ok { IfOk result (λ line. D.tells_files folder.old ≡ true → is_some (S.left input.old) ≡ true →
         let a = make_answer name.now (D.files folder.old) (spec.made (D.files folder.old) name.now (bytes_of (S.left input.old))) in
-        (a.status ≡ Status.Done) × (a.text ≡ string_bytes line)) }
+        (a.status ≡ statuses.Done) × (a.text ≡ string_bytes line)) }
     ensures next { OnOk result (D.tells_files folder.old ≡ true → is_some (S.left input.old) ≡ true →
         SameFiles (make_answer name.now (D.files folder.old) (spec.made (D.files folder.old) name.now (bytes_of (S.left input.old)))).next (D.files folder.new)) }
     ensures stop { IfErr result (Stops (D.tells_files folder.old) (is_some (S.left input.old)) (spec.made (D.files folder.old) name.now (bytes_of (S.left input.old)))

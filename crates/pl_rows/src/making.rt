@@ -29,7 +29,10 @@ struct Made {
 }
 
 fn words(alloc: Global, mode: &str, name: &str) -> Result<Vec<String>, Fail> {
-    Ok(vec![in alloc; String::from_str(alloc, mode)?, String::from_str(alloc, name)?]?)
+    Ok(vec![in alloc;
+        String::from_str(alloc, mode)?,
+        String::from_str(alloc, name)?,
+    ]?)
 }
 
 /// A folder of files of these names, each of no bytes.
@@ -109,7 +112,11 @@ fn refuses_by_the_first_cause_of_a_recipe(rt: HostRuntime) -> Result<(), Fail> {
     let rows: [(&str, &[u8], &str); 7] = [
         ("z", b"library\nneeds\n", "refused Recipe 2 1\n"),
         ("z", b"", "refused Recipe 1 1\n"),
-        ("z", b"program\ndata 8\nword 9 1\nneeds\n", "refused Recipe 3 2\n"),
+        (
+            "z",
+            b"program\ndata 8\nword 9 1\nneeds\n",
+            "refused Recipe 3 2\n",
+        ),
         ("z", longest.as_slice(), "refused Recipe 1 1\n"),
         ("z", longer.as_slice(), "refused InputTooLarge\n"),
         (".prelink.z", longer.as_slice(), "refused BadName\n"),
@@ -213,7 +220,13 @@ fn load_line(alloc: Global, name: &str) -> Result<String, Fail> {
 fn makes_the_examples(rt: HostRuntime) -> Result<(), Fail> {
     let alloc = rt.alloc();
     for (name, recipe) in EXAMPLES {
-        let made = make(&rt, name, recipe.as_bytes(), &empty_files(alloc, &[])?, NONE)?;
+        let made = make(
+            &rt,
+            name,
+            recipe.as_bytes(),
+            &empty_files(alloc, &[])?,
+            NONE,
+        )?;
         let want = format!(in alloc; "made {name}\n")?;
         assert_eq!(rt; made.text.as_slice(), want.as_bytes());
         assert_eq!(rt; made.loaded.as_slice(), load_line(alloc, name)?.as_bytes());
