@@ -4,6 +4,7 @@ use Rattle.std.specs.Prelude.{Result, Ok, Err, is_some, not, nat_lt}
 use Rattle.std.specs.FinMap.{insert, keys}
 use Rattle.std.proofs.lemmas.Bool.Decides.{nat_tests}
 use Rattle.pl_base.specs.Answers.{unless, because, Answers, ◌>>=◌}
+use Rattle.pl_base.specs.Counts.{Rose}
 use Rattle.pl_base.specs.Files.{Files}
 use Rattle.pl_base.specs.Names.{is_valid_name}
 use Rattle.pl_io.specs.declared.read_fault.ReadFault.{ReadFault}
@@ -109,6 +110,18 @@ stopped_in_folder files_told input_told meant disk source folder_faults.Failed h
 stopped_in_folder files_told input_told meant disk source folder_faults.NotThere h = absurd h
 stopped_in_folder files_told input_told meant disk source folder_faults.TooLarge h = absurd h
 stopped_in_folder files_told input_told meant disk source folder_faults.NoMemory h = tt
+
+-- a count that rose after an earlier moment rose since that
+since : (first mid last : ℕ) → first ≤ mid → Rose mid last → Rose first last
+since first mid last le rose = grind arith
+
+-- the folder failed after other calls
+pub stopped_later : (files_told input_told : Bool) (meant : Result (List ℕ) Cause) (first mid last : ℕ) (source : Type 0) (fault : FolderFault) → first ≤ mid → calls.Stops (Rose mid last) fault
+    → Stops files_told input_told meant (Rose first last) source (of_fault fault)
+stopped_later files_told input_told meant first mid last source folder_faults.Failed le h = since first mid last le h
+stopped_later files_told input_told meant first mid last source folder_faults.NotThere le h = absurd h
+stopped_later files_told input_told meant first mid last source folder_faults.TooLarge le h = absurd h
+stopped_later files_told input_told meant first mid last source folder_faults.NoMemory le h = tt
 
 -- ---- the answer and the files
 
