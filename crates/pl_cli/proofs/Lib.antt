@@ -9,6 +9,9 @@ pub mod TableLemmas
 pub mod LoadedLemmas
 pub mod BoundLemmas
 pub mod PartLemmas
+pub mod RoomLemmas
+pub mod FilesLemmas
 pub mod OutcomeLemmas
+pub mod MakeLemmas
 pub mod MaskLemmas
 pub mod ProgramLemmas

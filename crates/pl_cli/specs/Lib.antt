@@ -3,6 +3,9 @@ pub mod Lines
 pub mod Static
 pub mod Cleared
 pub mod Statuses
+pub mod Words
+pub mod ValidFiles
 pub mod Load
+pub mod Make
 pub mod Answer
 pub mod Outcome

@@ -1,31 +1,39 @@
--- What came of a load and of a run, by cases.
+-- What came of a command and of a run, by cases.
 use Rattle.std.specs.Prelude.{◌≡◌, ◌≢◌, ◌⊎◌, ℕ, Bool, true, List, Result, Ok, Err, Option, Some, None, ⊤}
+use Rattle.pl_base.specs.Files.{Files}
 use Rattle.pl_base.specs.Streams.{got_after, GotPrefix}
+use Rattle.pl_io.specs.declared.read_fault.ReadFault.{ReadFault}
+use Rattle.pl_io.specs.declared.read_fault.ReadFault.TheVariants as read_faults
 use Rattle.pl_folder.specs.declared.fault.FolderFault.{FolderFault}
 use Rattle.pl_folder.specs.declared.fault.FolderFault.TheVariants as folder_faults
 use Rattle.pl_object.specs.declared.refusal.Refusal.{Refusal}
 use Rattle.pl_object.specs.declared.refusal.Refusal.TheVariants as refusals
+use Rattle.pl_build.specs.declared.fault.RecipeFault.{RecipeFault}
+use Rattle.pl_build.specs.declared.fault.RecipeFault.TheVariants as recipe_faults
 use Rattle.pl_cli.specs.declared.status.Status.{Status}
 use Rattle.pl_cli.specs.declared.status.Status.TheVariants as statuses
 use Rattle.pl_cli.specs.declared.cause.Cause.{Cause}
-use Rattle.pl_cli.specs.declared.cause.Cause.TheVariants.{NotThere, FileTooLarge, Refused}
+use Rattle.pl_cli.specs.declared.cause.Cause.TheVariants.{NotThere, FileTooLarge, Refused, InputTooLarge, Recipe}
 use Rattle.pl_cli.specs.declared.stop.Stop.{Stop}
 use Rattle.pl_cli.specs.declared.stop.Stop.TheVariants as stops
 use Rattle.pl_cli.specs.declared.program.Program as program
 use Rattle.pl_cli.specs.Image.{program}
 use Rattle.pl_cli.specs.Static.{Program}
+use Rattle.pl_cli.specs.ValidFiles.{SameFiles}
 use Rattle.pl_cli.specs.Answer.{Answer, usage}
+use Rattle.pl_cli.specs.Words.{Command}
 
--- Why a load stopped: at a fault of the folder its count rose; a want of memory may come at any time; a cause is the one that the files mean, if the folder tells them.
-abbrev pub Stops : Bool → Result Program Cause → Type 0 → Stop → Type 0
-Stops tells meant rose (stops.Cause cause) = tells ≡ true → meant ≡ Err cause
-Stops tells meant rose stops.Failed = rose
-Stops tells meant rose stops.NoMemory = ⊤
+-- Why a command stopped: at a fault of the folder its count rose, and so of the input; a want of memory may come at any time; a cause is the one that the files and the input mean, where the folder and the input tell them.
+abbrev pub Stops : {X : Type 0} → Bool → Bool → Result X Cause → Type 0 → Type 0 → Stop → Type 0
+Stops files input meant disk source (stops.Cause cause) = files ≡ true → input ≡ true → meant ≡ Err cause
+Stops files input meant disk source stops.Failed = disk
+Stops files input meant disk source stops.InputFailed = source
+Stops files input meant disk source stops.NoMemory = ⊤
 
 -- the program or the cause of a definition, or a want of memory
 abbrev pub Means : Result program.Program Stop → Result Program Cause → Type 0
 Means (Ok loaded) meant = meant ≡ Ok (program loaded)
-Means (Err stop) meant = Stops true meant ⊥ stop
+Means (Err stop) meant = Stops true true meant ⊥ ⊥ stop
 
 -- what a fault of the folder stops
 abbrev pub of_fault : FolderFault → Stop
@@ -39,30 +47,71 @@ abbrev pub of_refusal : Refusal → Stop
 of_refusal (refusals.Clause number argument) = stops.Cause (Refused number argument)
 of_refusal refusals.NoMemory = stops.NoMemory
 
+-- what a fault of the input stops
+abbrev pub of_read_fault : ReadFault → Stop
+of_read_fault read_faults.Failed = stops.InputFailed
+of_read_fault read_faults.TooLarge = stops.Cause InputTooLarge
+of_read_fault read_faults.NoMemory = stops.NoMemory
+
+-- what a fault of the recipe stops
+abbrev pub of_recipe_fault : RecipeFault → Stop
+of_recipe_fault (recipe_faults.Bad number kind) = stops.Cause (Recipe number kind)
+of_recipe_fault recipe_faults.NoMemory = stops.NoMemory
+
+-- ---- what was written. files and input say whether the folder tells its files and the input what is read of it.
+
 -- the run ended as the answer says, with the whole of its text
-abbrev pub IsWhole : Bool → Answer → Option (List ℕ) → Option (List ℕ) → Status → Type 0
-IsWhole tells answer old new status = tells ≡ true → (answer.status ≡ status) × (new ≡ got_after old answer.text)
+abbrev pub IsWhole : Bool → Bool → Answer → Option (List ℕ) → Option (List ℕ) → Status → Type 0
+IsWhole files input answer old new status = files ≡ true → input ≡ true → (answer.status ≡ status) × (new ≡ got_after old answer.text)
 
 -- some first bytes of the answer's text were written
-abbrev pub IsPart : Bool → Answer → Option (List ℕ) → Option (List ℕ) → Type 0
-IsPart tells answer old new = tells ≡ true → GotPrefix old new answer.text
+abbrev pub IsPart : Bool → Bool → Answer → Option (List ℕ) → Option (List ℕ) → Type 0
+IsPart files input answer old new = files ≡ true → input ≡ true → GotPrefix old new answer.text
 
 -- a text was written whole and the run ended so, or the output failed in it
 abbrev pub Ends : Status → List ℕ → Type 0 → Option (List ℕ) → Option (List ℕ) → Status → Type 0
 Ends status text sink old new result = ((result ≡ status) × (new ≡ got_after old text)) ⊎ ((result ≡ statuses.WriteFault) × sink × GotPrefix old new text)
 
--- Words that are no command, which give no name: the usage line was written whole or the output failed in it, and the folder is as it was. Other words never end with the usage line.
-abbrev pub IsUsage : Option (List ℕ) → Type 0 → Option (List ℕ) → Option (List ℕ) → Status → Type 0
+-- Words that are no command: the usage line was written whole or the output failed in it, and folder and input are as they were. Other words never end with the usage line.
+abbrev pub IsUsage : Option Command → Type 0 → Option (List ℕ) → Option (List ℕ) → Status → Type 0
 IsUsage None same old new result = same × (((result ≡ statuses.Usage) × (new ≡ got_after old usage)) ⊎ ((result ≡ statuses.WriteFault) × GotPrefix old new usage))
-IsUsage (Some name) same old new result = result ≢ statuses.Usage
+IsUsage (Some asked) same old new result = result ≢ statuses.Usage
 
--- What came of a run, by its status. disk and sink say that the count of the folder and of the sink rose.
-abbrev pub IsOutcome : Bool → Answer → Type 0 → Type 0 → Option (List ℕ) → Option (List ℕ) → Status → Type 0
-IsOutcome tells answer disk sink old new statuses.WriteFault = sink × IsPart tells answer old new
-IsOutcome tells answer disk sink old new statuses.DiskFault = disk × (new ≡ old)
-IsOutcome tells answer disk sink old new statuses.NoMemory = IsPart tells answer old new
-IsOutcome tells answer disk sink old new statuses.ReadFault = ⊥
-IsOutcome tells answer disk sink old new statuses.Done = IsWhole tells answer old new statuses.Done
-IsOutcome tells answer disk sink old new statuses.Differs = IsWhole tells answer old new statuses.Differs
-IsOutcome tells answer disk sink old new statuses.Usage = IsWhole tells answer old new statuses.Usage
-IsOutcome tells answer disk sink old new statuses.Refused = IsWhole tells answer old new statuses.Refused
+-- What a run wrote, by its status. disk and sink say that the count of the folder and of the sink rose.
+abbrev pub IsOutcome : Bool → Bool → Answer → Type 0 → Type 0 → Option (List ℕ) → Option (List ℕ) → Status → Type 0
+IsOutcome files input answer disk sink old new statuses.WriteFault = sink × IsPart files input answer old new
+IsOutcome files input answer disk sink old new statuses.DiskFault = disk × (new ≡ old)
+IsOutcome files input answer disk sink old new statuses.NoMemory = IsPart files input answer old new
+IsOutcome files input answer disk sink old new statuses.ReadFault = new ≡ old
+IsOutcome files input answer disk sink old new statuses.Done = IsWhole files input answer old new statuses.Done
+IsOutcome files input answer disk sink old new statuses.Differs = IsWhole files input answer old new statuses.Differs
+IsOutcome files input answer disk sink old new statuses.Usage = IsWhole files input answer old new statuses.Usage
+IsOutcome files input answer disk sink old new statuses.Refused = IsWhole files input answer old new statuses.Refused
+
+-- ---- what is left of the files, by those before, those of the answer and those after
+
+-- the files of the answer, where the input tells what is read of it
+abbrev pub LeavesNext : Bool → Files → Files → Type 0
+LeavesNext input next after = input ≡ true → SameFiles next after
+
+-- the files before or those of the answer
+abbrev pub LeavesEither : Bool → Files → Files → Files → Type 0
+LeavesEither input before next after = input ≡ true → SameFiles before after ⊎ SameFiles next after
+
+-- by the status of a run
+abbrev pub LeavesFiles : Bool → Files → Files → Files → Status → Type 0
+LeavesFiles input before next after statuses.DiskFault = LeavesEither input before next after
+LeavesFiles input before next after statuses.NoMemory = SameFiles before after
+LeavesFiles input before next after statuses.ReadFault = SameFiles before after
+LeavesFiles input before next after statuses.WriteFault = LeavesNext input next after
+LeavesFiles input before next after statuses.Done = LeavesNext input next after
+LeavesFiles input before next after statuses.Differs = LeavesNext input next after
+LeavesFiles input before next after statuses.Usage = LeavesNext input next after
+LeavesFiles input before next after statuses.Refused = LeavesNext input next after
+
+-- by why a command stopped
+abbrev pub LeavesAt : Bool → Files → Files → Files → Stop → Type 0
+LeavesAt input before next after stops.Failed = LeavesEither input before next after
+LeavesAt input before next after stops.InputFailed = SameFiles before after
+LeavesAt input before next after stops.NoMemory = SameFiles before after
+LeavesAt input before next after (stops.Cause cause) = SameFiles before after × LeavesNext input next after

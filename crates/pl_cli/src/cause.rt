@@ -1,7 +1,7 @@
-/// Why a name is refused, in the order in which the causes are looked for.
+/// Why a command is refused. Each command looks for its causes in the order in which they stand here.
 #[derive(Clone, Copy, Debug, PartialEq, Eq)]
 pub enum Cause {
-    /// It is no valid name.
+    /// The name is no valid name.
     BadName,
 
     /// There is no such file.
@@ -15,4 +15,13 @@ pub enum Cause {
 
     /// The file is accepted, but of a kind that is not loaded yet.
     NotYet,
+
+    /// The input is longer than a recipe may be.
+    InputTooLarge,
+
+    /// The number of the first line of the recipe that has a fault, counted from 1, and the lowest kind of its faults; line 0 where the file of the recipe would be too large.
+    Recipe { number: u32, kind: u8 },
+
+    /// The name is new, and the folder has no room for one more.
+    TooManyFiles,
 }

@@ -53,7 +53,7 @@ fn program_in(alloc: Global, bytes: Vec<u8>) -> Result<Program, Stop>
 pub fn load<D: Folder>(alloc: Global, folder: &mut D, name: &str) -> Result<Program, Stop>
     ensures ok { IfOk result (λ program. D.tells_files folder.old ≡ true → spec.loaded (D.files folder.old) name.now ≡ Ok (image.program program)) }
     ensures ascends { IfOk result (λ program. image.ascends 0 (map image.piece_of program.pieces.items) ≡ true) }
-    ensures stop { IfErr result (Stops (D.tells_files folder.old) (spec.loaded (D.files folder.old) name.now) (Rose (D.faults folder.old) (D.faults folder.new))) }
+    ensures stop { IfErr result (Stops (D.tells_files folder.old) true (spec.loaded (D.files folder.old) name.now) (Rose (D.faults folder.old) (D.faults folder.new)) ⊥) }
     ensures tells { D.tells_files folder.new ≡ D.tells_files folder.old }
     ensures same { D.tells_files folder.old ≡ true → D.files folder.new ≡ D.files folder.old }
     ensures counts { D.faults folder.old ≤ D.faults folder.new }

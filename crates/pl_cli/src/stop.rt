@@ -1,17 +1,21 @@
 ghost use Rattle.std.specs.Prelude.{◌≡◌};
 
 use crate::cause::Cause;
+use pl_build::RecipeFault;
 use pl_folder::FolderFault;
+use pl_io::ReadFault;
 use pl_object::Refusal;
 use std::alloc::AllocError;
 
-/// Why a load stopped.
+/// Why a command stopped.
 #[derive(Clone, Copy, Debug, PartialEq, Eq)]
 pub enum Stop {
-    /// The name is refused.
+    /// The command is refused.
     Cause(Cause),
     /// The folder failed.
     Failed,
+    /// The input failed.
+    InputFailed,
     /// There was no memory.
     NoMemory,
 }
@@ -53,6 +57,33 @@ impl From<Refusal> for Stop {
                 argument,
             }),
             Refusal::NoMemory => Stop::NoMemory,
+        }
+    }
+}
+
+impl From<ReadFault> for Stop {
+    ghost use Rattle.pl_cli.specs.Outcome.{of_read_fault};
+
+    ghost from_gives = { λ fault stop. stop ≡ of_read_fault fault };
+
+    fn from(fault: ReadFault) -> Stop {
+        match fault {
+            ReadFault::Failed => Stop::InputFailed,
+            ReadFault::TooLarge => Stop::Cause(Cause::InputTooLarge),
+            ReadFault::NoMemory => Stop::NoMemory,
+        }
+    }
+}
+
+impl From<RecipeFault> for Stop {
+    ghost use Rattle.pl_cli.specs.Outcome.{of_recipe_fault};
+
+    ghost from_gives = { λ fault stop. stop ≡ of_recipe_fault fault };
+
+    fn from(fault: RecipeFault) -> Stop {
+        match fault {
+            RecipeFault::Bad { line, kind } => Stop::Cause(Cause::Recipe { number: line, kind }),
+            RecipeFault::NoMemory => Stop::NoMemory,
         }
     }
 }

@@ -77,6 +77,22 @@ fn refused(alloc: Global, name: &str, clause: u32, argument: u64) -> Result<Stri
     }
 }
 
+/// The line of a refusal of a recipe.
+#[tactic(auto, unfolding(crate::specs::Answer::refused_recipe))]
+fn refused_recipe(alloc: Global, number: u32, kind: u8) -> Result<String, AllocError>
+    ensures { IfOk result (λ text. string_bytes text ≡ spec.refused_recipe number kind) }
+{
+    format!(in alloc; "refused Recipe {number} {kind}\n")
+}
+
+/// The line of a file that was made.
+#[tactic(auto, unfolding(crate::specs::Answer::made_text))]
+pub fn made_text(alloc: Global, name: &str) -> Result<String, AllocError>
+    ensures { IfOk result (λ text. string_bytes text ≡ spec.made_text name.now) }
+{
+    format!(in alloc; "made {name}\n")
+}
+
 /// The line of a refusal.
 #[tactic(auto, unfolding(crate::specs::Answer::refusal))]
 pub fn refusal(alloc: Global, name: &str, cause: Cause) -> Result<String, AllocError>
@@ -88,5 +104,8 @@ pub fn refusal(alloc: Global, name: &str, cause: Cause) -> Result<String, AllocE
         Cause::FileTooLarge => format!(in alloc; "refused FileTooLarge {name}\n"),
         Cause::Refused { clause, argument } => refused(alloc, name, clause, argument),
         Cause::NotYet => format!(in alloc; "refused NotYet {name}\n"),
+        Cause::InputTooLarge => format!(in alloc; "refused InputTooLarge\n"),
+        Cause::Recipe { number, kind } => refused_recipe(alloc, number, kind),
+        Cause::TooManyFiles => format!(in alloc; "refused TooManyFiles\n"),
     }
 }

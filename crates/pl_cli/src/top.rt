@@ -1,16 +1,20 @@
 // The top call and how its parts end.
-ghost use Rattle.std.specs.Prelude.{◌≡◌, ◌≢◌, ◌≤◌, true, map, string_bytes};
+ghost use Rattle.std.specs.Prelude.{◌≡◌, ◌≢◌, ◌≤◌, Some, false, is_some, map, string_bytes, true};
 ghost use Rattle.pl_base.specs.Counts.{Rose};
 ghost use Rattle.pl_base.specs.Streams.{GotPrefix, got_after};
-ghost use Rattle.pl_cli.specs.Answer.{answer, is_answer, load_answer, load_name};
+ghost use Rattle.pl_cli.specs.Answer.{answer, command_answer, is_answer, load_answer, make_answer};
 ghost use Rattle.pl_cli.specs.Load.{loaded};
-ghost use Rattle.pl_cli.specs.Outcome.{Ends, IsOutcome, IsUsage};
+ghost use Rattle.pl_cli.specs.Make.{made};
+ghost use Rattle.pl_cli.specs.Outcome.{Ends, IsOutcome, IsUsage, LeavesFiles};
+ghost use Rattle.pl_cli.specs.Words as spec;
 
 use crate::Status;
 use crate::load::load;
+use crate::make::make;
+use crate::mode::Mode;
 use crate::stop::Stop;
 use crate::text::{USAGE, refusal};
-use crate::words::load_name;
+use crate::words::command;
 use crate::write::write_program;
 use crate::write_stop::WriteStop;
 use pl_folder::Folder;
@@ -34,7 +38,7 @@ fn load_and_write<D: Folder, K: Sink>(
     folder: &mut D,
     output: &mut K,
 ) -> Status
-    ensures outcome { IsOutcome (D.tells_files folder.old) (load_answer name.now (loaded (D.files folder.old) name.now))
+    ensures outcome { IsOutcome (D.tells_files folder.old) true (load_answer name.now (D.files folder.old) (loaded (D.files folder.old) name.now))
         (Rose (D.faults folder.old) (D.faults folder.new)) (Rose (K.faults output.old) (K.faults output.new))
         (K.written output.old) (K.written output.new) result }
     ensures tells { D.tells_files folder.new ≡ D.tells_files folder.old }
@@ -42,7 +46,8 @@ fn load_and_write<D: Folder, K: Sink>(
     ensures place { D.place folder.new ≡ D.place folder.old }
     ensures folder_counts { D.faults folder.old ≤ D.faults folder.new }
     ensures output_counts { K.faults output.old ≤ K.faults output.new }
-    ensures load { result ≢ Status.Usage }
+    ensures usage { result ≢ Status.Usage }
+    ensures read_fault { result ≢ Status.ReadFault }
 {
     match load(alloc, folder, name) {
         Ok(program) => match write_program(alloc, name, &program, output) {
@@ -51,6 +56,7 @@ fn load_and_write<D: Folder, K: Sink>(
             Err(WriteStop::NoMemory) => Status::NoMemory,
         },
         Err(Stop::Failed) => Status::DiskFault,
+        Err(Stop::InputFailed) => Status::ReadFault,
         Err(Stop::NoMemory) => Status::NoMemory,
         Err(Stop::Cause(cause)) => match refusal(alloc, name, cause) {
             Ok(line) => finish(output, line.as_bytes(), Status::Refused),
@@ -59,32 +65,102 @@ fn load_and_write<D: Folder, K: Sink>(
     }
 }
 
+fn make_and_write<D: Folder, S: Source, K: Sink>(
+    alloc: Global,
+    name: &str,
+    folder: &mut D,
+    input: &mut S,
+    output: &mut K,
+) -> Status
+    ensures outcome { IsOutcome (D.tells_files folder.old) (is_some (S.left input.old)) (make_answer name.now (D.files folder.old) (made (D.files folder.old) name.now (spec.bytes_of (S.left input.old))))
+        (Rose (D.faults folder.old) (D.faults folder.new)) (Rose (K.faults output.old) (K.faults output.new))
+        (K.written output.old) (K.written output.new) result }
+    ensures files { D.tells_files folder.old ≡ true → LeavesFiles (is_some (S.left input.old)) (D.files folder.old)
+        (make_answer name.now (D.files folder.old) (made (D.files folder.old) name.now (spec.bytes_of (S.left input.old)))).next (D.files folder.new) result }
+    ensures read_fault { result ≡ Status.ReadFault → Rose (S.faults input.old) (S.faults input.new) }
+    ensures tells { D.tells_files folder.new ≡ D.tells_files folder.old }
+    ensures place { D.place folder.new ≡ D.place folder.old }
+    ensures input_tells { is_some (S.left input.new) ≡ is_some (S.left input.old) }
+    ensures folder_counts { D.faults folder.old ≤ D.faults folder.new }
+    ensures input_counts { S.faults input.old ≤ S.faults input.new }
+    ensures output_counts { K.faults output.old ≤ K.faults output.new }
+    ensures usage { result ≢ Status.Usage }
+{
+    match make(alloc, name, folder, input) {
+        Ok(line) => finish(output, line.as_bytes(), Status::Done),
+        Err(Stop::Failed) => Status::DiskFault,
+        Err(Stop::InputFailed) => Status::ReadFault,
+        Err(Stop::NoMemory) => Status::NoMemory,
+        Err(Stop::Cause(cause)) => match refusal(alloc, name, cause) {
+            Ok(line) => finish(output, line.as_bytes(), Status::Refused),
+            Err(_) => Status::NoMemory,
+        },
+    }
+}
+
+fn run_command<D: Folder, S: Source, K: Sink>(
+    alloc: Global,
+    mode: Mode,
+    name: &str,
+    folder: &mut D,
+    input: &mut S,
+    output: &mut K,
+) -> Status
+    ensures outcome { IsOutcome (D.tells_files folder.old) (spec.is_told (Some (mode, name.now)) (S.left input.old)) (command_answer (Some (mode, name.now)) (D.files folder.old) (spec.bytes_of (S.left input.old)))
+        (Rose (D.faults folder.old) (D.faults folder.new)) (Rose (K.faults output.old) (K.faults output.new))
+        (K.written output.old) (K.written output.new) result }
+    ensures files { D.tells_files folder.old ≡ true → LeavesFiles (spec.is_told (Some (mode, name.now)) (S.left input.old)) (D.files folder.old)
+        (command_answer (Some (mode, name.now)) (D.files folder.old) (spec.bytes_of (S.left input.old))).next (D.files folder.new) result }
+    ensures read_fault { result ≡ Status.ReadFault → (spec.is_make (Some (mode, name.now)) ≡ true) × Rose (S.faults input.old) (S.faults input.new) }
+    ensures folder { spec.is_make (Some (mode, name.now)) ≡ false → D.tells_files folder.old ≡ true → D.files folder.new ≡ D.files folder.old }
+    ensures input { spec.is_make (Some (mode, name.now)) ≡ false → input.new ≡ input.old }
+    ensures tells { D.tells_files folder.new ≡ D.tells_files folder.old }
+    ensures place { D.place folder.new ≡ D.place folder.old }
+    ensures input_tells { is_some (S.left input.new) ≡ is_some (S.left input.old) }
+    ensures folder_counts { D.faults folder.old ≤ D.faults folder.new }
+    ensures input_counts { S.faults input.old ≤ S.faults input.new }
+    ensures output_counts { K.faults output.old ≤ K.faults output.new }
+    ensures usage { result ≢ Status.Usage }
+{
+    match mode {
+        Mode::Load => load_and_write(alloc, name, folder, output),
+        Mode::Make => make_and_write(alloc, name, folder, input, output),
+    }
+}
+
 #[tactic(auto, unfolding(crate::specs::Answer::answer))]
-fn run_words<D: Folder, K: Sink>(
+fn run_words<D: Folder, S: Source, K: Sink>(
     alloc: Global,
     words: &[String],
     folder: &mut D,
+    input: &mut S,
     output: &mut K,
 ) -> Status
-    ensures outcome { IsOutcome (D.tells_files folder.old) (answer (map string_bytes words.now) (D.files folder.old))
+    ensures outcome { IsOutcome (D.tells_files folder.old) (spec.is_told (spec.command (map string_bytes words.now)) (S.left input.old)) (answer (map string_bytes words.now) (D.files folder.old) (spec.bytes_of (S.left input.old)))
         (Rose (D.faults folder.old) (D.faults folder.new)) (Rose (K.faults output.old) (K.faults output.new))
         (K.written output.old) (K.written output.new) result }
-    ensures usage { IsUsage (load_name (map string_bytes words.now)) (folder.new ≡ folder.old) (K.written output.old) (K.written output.new) result }
+    ensures files { D.tells_files folder.old ≡ true → LeavesFiles (spec.is_told (spec.command (map string_bytes words.now)) (S.left input.old)) (D.files folder.old)
+        (answer (map string_bytes words.now) (D.files folder.old) (spec.bytes_of (S.left input.old))).next (D.files folder.new) result }
+    ensures read_fault { result ≡ Status.ReadFault → (spec.is_make (spec.command (map string_bytes words.now)) ≡ true) × Rose (S.faults input.old) (S.faults input.new) }
+    ensures folder { spec.is_make (spec.command (map string_bytes words.now)) ≡ false → D.tells_files folder.old ≡ true → D.files folder.new ≡ D.files folder.old }
+    ensures input { spec.is_make (spec.command (map string_bytes words.now)) ≡ false → input.new ≡ input.old }
     ensures tells { D.tells_files folder.new ≡ D.tells_files folder.old }
-    ensures folder { D.tells_files folder.old ≡ true → D.files folder.new ≡ D.files folder.old }
     ensures place { D.place folder.new ≡ D.place folder.old }
+    ensures input_tells { is_some (S.left input.new) ≡ is_some (S.left input.old) }
     ensures folder_counts { D.faults folder.old ≤ D.faults folder.new }
+    ensures input_counts { S.faults input.old ≤ S.faults input.new }
     ensures output_counts { K.faults output.old ≤ K.faults output.new }
+    ensures usage { IsUsage (spec.command (map string_bytes words.now)) ((folder.new ≡ folder.old) × (input.new ≡ input.old)) (K.written output.old) (K.written output.new) result }
 {
-    match load_name(words) {
-        Some(name) => load_and_write(alloc, name, folder, output),
+    match command(words) {
+        Some((mode, name)) => run_command(alloc, mode, name, folder, input, output),
         None => finish(output, USAGE, Status::Usage),
     }
 }
 
 /// Does what the words after the program's name ask for.
 ///
-/// The answer is a definition over the words and the folder's files: a status, and a text for the output. `Done`, `Differs`, `Usage` and `Refused` come only with the whole of it. A fault comes only where the count of its object rose: `WriteFault` after some first bytes of the text, `DiskFault` before any. `NoMemory` may come at any time, after some first bytes. The folder stays as it is, and the input is not read.
+/// The answer is a definition over the words, the folder's files and the bytes of the input: a status, a text for the output, and the next files under valid names. `Done`, `Differs`, `Usage` and `Refused` come only with the whole of it. A fault comes only where the count of its object rose: `ReadFault` and `DiskFault` before anything was written, `WriteFault` after some first bytes of the text. `NoMemory` may come at any time, after some first bytes. Files under valid names are those of the answer, or after `ReadFault` and `NoMemory` those before, or after `DiskFault` all of the one or all of the other. Only `--make` reads the input and writes to the folder.
 #[tactic(auto, using(crate::proofs::OutcomeLemmas::outcome_is_whole, crate::proofs::OutcomeLemmas::outcome_is_part))]
 pub fn run<D: Folder, S: Source, K: Sink>(
     alloc: Global,
@@ -95,32 +171,39 @@ pub fn run<D: Folder, S: Source, K: Sink>(
     now: u32,
 ) -> Status
     // An answer comes only whole: with its status and the whole of its text.
-    ensures answer { is_answer result ≡ true → D.tells_files folder.old ≡ true →
-        let a = answer (map string_bytes words.now) (D.files folder.old) in
+    ensures answer { is_answer result ≡ true → D.tells_files folder.old ≡ true → spec.is_told (spec.command (map string_bytes words.now)) (S.left input.old) ≡ true →
+        let a = answer (map string_bytes words.now) (D.files folder.old) (spec.bytes_of (S.left input.old)) in
         (a.status ≡ result) × (K.written output.new ≡ got_after (K.written output.old) a.text) }
 
     // Whatever else comes, what was written is some first bytes of the answer's text.
-    ensures prefix { D.tells_files folder.old ≡ true →
-        GotPrefix (K.written output.old) (K.written output.new) (answer (map string_bytes words.now) (D.files folder.old)).text }
+    ensures prefix { D.tells_files folder.old ≡ true → spec.is_told (spec.command (map string_bytes words.now)) (S.left input.old) ≡ true →
+        GotPrefix (K.written output.old) (K.written output.new) (answer (map string_bytes words.now) (D.files folder.old) (spec.bytes_of (S.left input.old))).text }
+
+    // What is left of the files under valid names: those of the answer, or after a fault perhaps those before.
+    ensures files { D.tells_files folder.old ≡ true → LeavesFiles (spec.is_told (spec.command (map string_bytes words.now)) (S.left input.old)) (D.files folder.old)
+        (answer (map string_bytes words.now) (D.files folder.old) (spec.bytes_of (S.left input.old))).next (D.files folder.new) result }
 
     // A fault comes only where the count of its object rose.
-    ensures read_fault { result ≢ Status.ReadFault }
+    ensures read_fault { result ≡ Status.ReadFault → (spec.is_make (spec.command (map string_bytes words.now)) ≡ true) × Rose (S.faults input.old) (S.faults input.new) }
+    ensures read_fault_early { result ≡ Status.ReadFault → K.written output.new ≡ K.written output.old }
     ensures write_fault { result ≡ Status.WriteFault → Rose (K.faults output.old) (K.faults output.new) }
     ensures disk_fault { result ≡ Status.DiskFault → Rose (D.faults folder.old) (D.faults folder.new) }
     ensures disk_fault_early { result ≡ Status.DiskFault → K.written output.new ≡ K.written output.old }
 
-    // Words that are no command are answered by the usage line, over every folder, and no call of the folder is made.
-    ensures usage { IsUsage (load_name (map string_bytes words.now)) (folder.new ≡ folder.old) (K.written output.old) (K.written output.new) result }
+    // Words that are no command are answered by the usage line, over every folder and input, and no call of either is made.
+    ensures usage { IsUsage (spec.command (map string_bytes words.now)) ((folder.new ≡ folder.old) × (input.new ≡ input.old)) (K.written output.old) (K.written output.new) result }
 
-    // No command writes to the folder or reads the input.
-    ensures folder { D.tells_files folder.old ≡ true → D.files folder.new ≡ D.files folder.old }
+    // Only `--make` writes to the folder and reads the input.
+    ensures folder { spec.is_make (spec.command (map string_bytes words.now)) ≡ false → D.tells_files folder.old ≡ true → D.files folder.new ≡ D.files folder.old }
+    ensures input { spec.is_make (spec.command (map string_bytes words.now)) ≡ false → input.new ≡ input.old }
     ensures tells { D.tells_files folder.new ≡ D.tells_files folder.old }
     ensures place { D.place folder.new ≡ D.place folder.old }
-    ensures input { input.new ≡ input.old }
+    ensures input_tells { is_some (S.left input.new) ≡ is_some (S.left input.old) }
 
     // The counts never fall.
     ensures folder_counts { D.faults folder.old ≤ D.faults folder.new }
+    ensures input_counts { S.faults input.old ≤ S.faults input.new }
     ensures output_counts { K.faults output.old ≤ K.faults output.new }
 {
-    run_words(alloc, words, folder, output)
+    run_words(alloc, words, folder, input, output)
 }

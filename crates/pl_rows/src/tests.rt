@@ -109,13 +109,17 @@ fn answers_faults(rt: HostRuntime) -> Result<(), Fail> {
 fn answers_words_that_are_no_command(rt: HostRuntime) -> Result<(), Fail> {
     let alloc = rt.alloc();
     let files = Vec::new(alloc);
-    let lists: [&[&str]; 6] = [
+    let lists: [&[&str]; 10] = [
         &[],
         &["--load"],
         &["--load", "st", "st"],
         &["--load=st"],
         &["--load", "-st"],
         &["--loads", "st"],
+        &["--make"],
+        &["--make", "st", "st"],
+        &["--make=st"],
+        &["--make", "-st"],
     ];
     for words in lists {
         let Ran { status, text } = run_words(&rt, words, &files, &[0], &[], 4096)?;

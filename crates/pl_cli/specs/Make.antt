@@ -1,0 +1,29 @@
+-- The file that `--make` stores under a name, or the first cause why it stores none.
+use Rattle.std.specs.Prelude.{ℕ, not, List, length, nat_lt, Result, Ok, Err}
+use Rattle.std.specs.FinMap.{keys}
+use Rattle.pl_base.specs.Answers.{◌>>=◌, unless, because}
+use Rattle.pl_base.specs.Files.{Files}
+use Rattle.pl_base.specs.Names.{is_valid_name}
+use Rattle.pl_build.specs.Build.{build}
+use Rattle.pl_build.specs.declared.fault.RecipeFault.{RecipeFault}
+use Rattle.pl_build.specs.declared.fault.RecipeFault.TheVariants.{Bad, NoMemory}
+use Rattle.pl_cli.specs.declared.cause.Cause.{Cause}
+use Rattle.pl_cli.specs.declared.cause.Cause.TheVariants.{BadName, NotYet, InputTooLarge, Recipe, TooManyFiles}
+use Rattle.pl_cli.specs.declared.make.TheConstants.{RECIPE}
+use Rattle.pl_cli.specs.ValidFiles.{is_full}
+
+-- a fault of a recipe as a cause. No recipe means a want of memory, so what stands for it never comes.
+abbrev pub recipe_cause : RecipeFault → Cause
+recipe_cause (Bad number kind) = Recipe number kind
+recipe_cause NoMemory = NotYet
+
+-- the file of the recipe in an input, or why there is none
+unfoldable pub built : List ℕ → Result (List ℕ) Cause
+built input = unless (nat_lt RECIPE (length input)) InputTooLarge (because recipe_cause (build input))
+
+-- a file that is to be stored under a name, in a folder with files of these names
+abbrev pub with_room : List (List ℕ) → List ℕ → List ℕ → Result (List ℕ) Cause
+with_room names name bytes = unless (is_full names name) TooManyFiles (Ok bytes)
+
+unfoldable pub made : Files → List ℕ → List ℕ → Result (List ℕ) Cause
+made files name input = unless (not (is_valid_name name)) BadName (built input >>= with_room (keys files) name)
