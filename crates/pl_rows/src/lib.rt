@@ -4,6 +4,8 @@
 #[cfg(test)]
 mod dynamic_file;
 #[cfg(test)]
+mod generated;
+#[cfg(test)]
 mod making;
 #[cfg(test)]
 mod static_file;

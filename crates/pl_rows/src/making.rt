@@ -22,6 +22,7 @@ const NONE: Faults<'static> = Faults {
 };
 
 /// How a run of `--make` ended and what it wrote, and what `--load` wrote then.
+#[derive(Drop)]
 struct Made {
     status: Status,
     text: Vec<u8>,
