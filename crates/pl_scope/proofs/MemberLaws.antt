@@ -4,7 +4,6 @@ use Rattle.std.proofs.lemmas.List.{map_push}
 use Rattle.std.proofs.lemmas.List.Elements.{All-push}
 use Rattle.std.specs.List.{All, IsAmong}
 use Rattle.pl_object.specs.declared.object.Object.{Object}
-use Rattle.pl_scope.specs.Walk.{Walked}
 use Rattle.pl_scope.specs.Scope.{walked, HasFewSymbols}
 use Rattle.pl_scope.specs.declared.member.Member.{Member}
 
