@@ -172,27 +172,22 @@ fn scope_of<'a>(alloc: Global, objects: &[&'a Object]) -> Result<Scope<'a>, Allo
 // Member, symbol and kind of a reference, and what it finds.
 type Case = (u32, u32, u32, Option<(u32, u32)>);
 
-fn expect(rt: &impl Abort, scope: &Scope<'_>, cases: &[Case]) {
-    for (member, symbol, kind, wanted) in cases {
-        assert_eq!(rt;
-            search(scope, *member, *symbol, *kind),
-            *wanted,
-            "{member} {symbol} {kind}"
-        );
-    }
+fn expect(rt: &impl Abort, scope: &Scope<'_>, case: Case) {
+    let (member, symbol, kind, wanted) = case;
+    assert_eq!(rt;
+        search(scope, member, symbol, kind),
+        wanted,
+        "{member} {symbol} {kind}"
+    );
 }
 
 #[test]
 fn finds_the_first(rt: HostRuntime) -> Result<(), Fail> {
     let alloc = rt.alloc();
+    let weak: Row = (b"f", 8, STB_WEAK, STV_DEFAULT, 7, 1);
     let program = object(alloc, Kind::Program, &[undefined(b"g", 1)], &[])?;
     let libx = object(alloc, Kind::Library, &[defined(b"f", 1)], &[])?;
-    let liby = object(
-        alloc,
-        Kind::Library,
-        &[(b"f", 8, STB_WEAK, STV_DEFAULT, 7, 1)],
-        &[],
-    )?;
+    let liby = object(alloc, Kind::Library, &[weak], &[])?;
     let libz = object(
         alloc,
         Kind::Library,
@@ -200,78 +195,89 @@ fn finds_the_first(rt: HostRuntime) -> Result<(), Fail> {
         &[],
     )?;
     let whole = scope_of(alloc, &[&program, &libx, &libz, &liby])?;
-    expect(
-        &rt,
-        &whole,
-        &[
-            (2, 1, R_X86_64_GLOB_DAT, Some((1, 1))),
-            (2, 2, R_X86_64_GLOB_DAT, None),
-        ],
-    );
+    expect(&rt, &whole, (2, 1, R_X86_64_GLOB_DAT, Some((1, 1))));
+    expect(&rt, &whole, (2, 2, R_X86_64_GLOB_DAT, None));
     let own = scope_of(alloc, &[&libz, &liby, &libx])?;
-    expect(&rt, &own, &[(0, 1, R_X86_64_JUMP_SLOT, Some((1, 1)))]);
+    expect(&rt, &own, (0, 1, R_X86_64_JUMP_SLOT, Some((1, 1))));
     Ok(())
+}
+
+// What a reference of a library to a symbol finds behind another library that defines its name.
+fn behind_a_definer(alloc: Global, row: Row, kind: u32) -> Result<Option<(u32, u32)>, AllocError> {
+    let first = object(alloc, Kind::Library, &[defined(b"f", 1)], &[])?;
+    let library = object(alloc, Kind::Library, &[row], &[])?;
+    Ok(search(&scope_of(alloc, &[&first, &library])?, 1, 1, kind))
 }
 
 #[test]
 fn binds_to_itself(rt: HostRuntime) -> Result<(), Fail> {
-    let alloc = rt.alloc();
-    let first = object(alloc, Kind::Library, &[defined(b"f", 1)], &[])?;
-    let rows: [Row; 5] = [
-        (b"f", 0, STB_LOCAL, STV_DEFAULT, SHN_UNDEF, 1),
-        (b"f", 8, STB_GLOBAL, STV_HIDDEN, 7, 1),
-        (b"f", 8, STB_GLOBAL, STV_PROTECTED, 7, 1),
-        (b"f", 0, STB_GLOBAL, STV_HIDDEN, SHN_UNDEF, 1),
-        (b"f", 8, STB_GLOBAL, STV_DEFAULT, 7, 1),
-    ];
-    let library = object(alloc, Kind::Library, &rows, &[])?;
-    let scope = scope_of(alloc, &[&first, &library])?;
+    // value, binding, visibility, section; kind; the member that is found
     let cases = [
-        (1, 1, R_X86_64_COPY, Some((1, 1))),
-        (1, 2, R_X86_64_GLOB_DAT, Some((1, 2))),
-        (1, 3, R_X86_64_GLOB_DAT, Some((1, 3))),
-        (1, 4, R_X86_64_GLOB_DAT, Some((0, 1))),
-        (1, 5, R_X86_64_GLOB_DAT, Some((0, 1))),
+        (0, STB_LOCAL, STV_DEFAULT, SHN_UNDEF, R_X86_64_COPY, 1),
+        (8, STB_GLOBAL, STV_HIDDEN, 7, R_X86_64_GLOB_DAT, 1),
+        (8, STB_GLOBAL, STV_PROTECTED, 7, R_X86_64_GLOB_DAT, 1),
+        (0, STB_GLOBAL, STV_HIDDEN, SHN_UNDEF, R_X86_64_GLOB_DAT, 0),
+        (8, STB_GLOBAL, STV_DEFAULT, 7, R_X86_64_GLOB_DAT, 0),
     ];
-    expect(&rt, &scope, &cases);
+    for (value, bind, visibility, section, kind, member) in cases {
+        let row: Row = (b"f", value, bind, visibility, section, 1);
+        let found = behind_a_definer(rt.alloc(), row, kind)?;
+        assert_eq!(rt; found, Some((member, 1)), "{bind} {visibility} {section}");
+    }
     Ok(())
 }
 
-#[test]
-fn goes_by_symbolic_objects_copies_and_canonical_addresses(rt: HostRuntime) -> Result<(), Fail> {
-    let alloc = rt.alloc();
+// A program and a library that define `f`; the library needs `g`, too, of another one.
+fn defined_twice(
+    alloc: Global,
+    symbolic: bool,
+    member: u32,
+    symbol: u32,
+    kind: u32,
+) -> Result<Option<(u32, u32)>, AllocError> {
     let mut y = object(alloc, Kind::Program, &[defined(b"f", 1)], &[])?;
     let rows = [defined(b"f", 1), undefined(b"g", 1)];
     let mut libsy = object(alloc, Kind::Library, &rows, &[])?;
     let other = object(alloc, Kind::Library, &[defined(b"g", 1)], &[])?;
-    let plain = scope_of(alloc, &[&y, &libsy, &other])?;
+    y.symbolic = symbolic;
+    libsy.symbolic = symbolic;
+    let scope = scope_of(alloc, &[&y, &libsy, &other])?;
+    Ok(search(&scope, member, symbol, kind))
+}
+
+#[test]
+fn goes_by_symbolic_objects_and_copies(rt: HostRuntime) -> Result<(), Fail> {
+    // whether the objects are symbolic; member, symbol and kind; the member that is found
     let cases = [
-        (1, 1, R_X86_64_GLOB_DAT, Some((0, 1))),
-        (0, 1, R_X86_64_GLOB_DAT, Some((0, 1))),
-        (0, 1, R_X86_64_COPY, Some((1, 1))),
+        (false, 1, 1, R_X86_64_GLOB_DAT, 0),
+        (false, 0, 1, R_X86_64_GLOB_DAT, 0),
+        (false, 0, 1, R_X86_64_COPY, 1),
+        (true, 1, 1, R_X86_64_GLOB_DAT, 1),
+        (true, 1, 2, R_X86_64_GLOB_DAT, 2),
+        (true, 0, 1, R_X86_64_COPY, 1),
     ];
-    expect(&rt, &plain, &cases);
-    drop(plain);
-    y.symbolic = true;
-    libsy.symbolic = true;
-    let symbolic = scope_of(alloc, &[&y, &libsy, &other])?;
-    let cases = [
-        (1, 1, R_X86_64_GLOB_DAT, Some((1, 1))),
-        (1, 2, R_X86_64_GLOB_DAT, Some((2, 1))),
-        (0, 1, R_X86_64_COPY, Some((1, 1))),
-    ];
-    expect(&rt, &symbolic, &cases);
+    for (symbolic, member, symbol, kind, wanted) in cases {
+        let found = defined_twice(rt.alloc(), symbolic, member, symbol, kind)?;
+        assert_eq!(rt;
+            found,
+            Some((wanted, 1)),
+            "{symbolic} {member} {symbol} {kind}"
+        );
+    }
+    Ok(())
+}
+
+#[test]
+fn goes_by_canonical_addresses(rt: HostRuntime) -> Result<(), Fail> {
+    let alloc = rt.alloc();
     let canonical: Row = (b"h", 0x50_0010, STB_GLOBAL, STV_DEFAULT, SHN_UNDEF, 1);
     let k = object(alloc, Kind::Program, &[canonical], &[])?;
     let libk = object(alloc, Kind::Library, &[defined(b"h", 1)], &[])?;
     let scope = scope_of(alloc, &[&k, &libk])?;
-    let cases = [
-        (0, 1, R_X86_64_GLOB_DAT, Some((0, 1))),
-        (0, 1, R_X86_64_JUMP_SLOT, Some((1, 1))),
-        (1, 1, R_X86_64_GLOB_DAT, Some((0, 1))),
-        (1, 1, R_X86_64_JUMP_SLOT, Some((1, 1))),
-    ];
-    expect(&rt, &scope, &cases);
+    expect(&rt, &scope, (0, 1, R_X86_64_GLOB_DAT, Some((0, 1))));
+    expect(&rt, &scope, (0, 1, R_X86_64_JUMP_SLOT, Some((1, 1))));
+    expect(&rt, &scope, (1, 1, R_X86_64_GLOB_DAT, Some((0, 1))));
+    expect(&rt, &scope, (1, 1, R_X86_64_JUMP_SLOT, Some((1, 1))));
     Ok(())
 }
 
@@ -368,10 +374,11 @@ fn numbered(alloc: Global, count: u32) -> Result<String, Fail> {
     Ok(text)
 }
 
-#[test]
-fn walks(rt: HostRuntime) -> Result<(), Fail> {
-    let alloc = rt.alloc();
+// Objects by names.
+fn needy_objects(alloc: Global) -> Result<IndexMap<String, Object>, Fail> {
     let (program, library) = (Kind::Program, Kind::Library);
+    let many = numbered(alloc, 255)?;
+    let too_many = numbered(alloc, 257)?;
     let objects = [
         ("q", program, "libx libz"),
         ("libx", library, ""),
@@ -385,6 +392,8 @@ fn walks(rt: HostRuntime) -> Result<(), Fail> {
         ("libp", library, "p gone"),
         ("libs", library, "st"),
         ("libg", library, "gone libp"),
+        ("many", library, many.as_str()),
+        ("too_many", library, too_many.as_str()),
     ];
     let mut map = IndexMap::new(alloc);
     for (name, kind, needed) in objects {
@@ -393,10 +402,13 @@ fn walks(rt: HostRuntime) -> Result<(), Fail> {
             needing(alloc, kind, needed)?,
         )?;
     }
-    let many = needing(alloc, library, numbered(alloc, 255)?.as_str())?;
-    map.insert(String::from_str(alloc, "many")?, many)?;
-    let too_many = needing(alloc, library, numbered(alloc, 257)?.as_str())?;
-    map.insert(String::from_str(alloc, "too_many")?, too_many)?;
+    Ok(map)
+}
+
+#[test]
+fn walks(rt: HostRuntime) -> Result<(), Fail> {
+    let alloc = rt.alloc();
+    let map = needy_objects(alloc)?;
     let cases = [
         ("q", "q libx libz liby "),
         ("libz", "libz liby libx "),
