@@ -1,7 +1,8 @@
 -- How far a load has come that asks for one file after the other.
-use Rattle.std.specs.Prelude.{◌≡◌, ◌<◌, ◌^◌, ℕ, true, List, Ok, drop, length}
+use Rattle.std.specs.Prelude.{◌≡◌, ◌<◌, ◌^◌, ℕ, true, List, Ok, drop, length, map}
 use Rattle.std.specs.List.{All}
 use Rattle.pl_object.specs.Reads.{reads}
+use Rattle.pl_object.specs.declared.object.Object.{Object}
 use Rattle.pl_scope.specs.Kinds.{is_library}
 use Rattle.pl_scope.specs.Walking.{Walking, IsWalking}
 use Rattle.pl_loader.specs.declared.object_file.ObjectFile.{ObjectFile}
@@ -11,6 +12,12 @@ pub record Loading : Type 0 where
   pub name : List ℕ
   pub order : Walking
   pub files : List ObjectFile
+
+abbrev pub objects_of : List ObjectFile → List Object
+objects_of files = map (λ f. f.object) files
+
+abbrev pub parts_of : List ObjectFile → List (List ℕ)
+parts_of files = map (λ f. f.bytes) files
 
 -- a file's object is the one that acceptance reads in its bytes
 pub record IsRead (f : ObjectFile) : Type 0 where

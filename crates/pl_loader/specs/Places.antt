@@ -1,8 +1,10 @@
 -- Where the objects of a load are placed. Which addresses a loader chooses, the System V gABI leaves open: this project's profile.
-use Rattle.std.specs.Prelude.{ℕ, ◌+◌, List, [], ◌∷◌, map, Result, Ok}
+use Rattle.std.specs.Prelude.{ℕ, ◌+◌, ◌≤◌, List, [], ◌∷◌, map, Result, Ok}
+use Rattle.std.specs.List.{All}
 use Rattle.std.specs.Option.{ok_or}
 use Rattle.pl_base.specs.Answers.{◌>>=◌}
 use Rattle.pl_elf.specs.Headers.{loads}
+use Rattle.pl_elf.specs.declared.constants.TheConstants.{ADDRESS_LIMIT}
 use Rattle.pl_elf.specs.declared.range.Range.{Range}
 use Rattle.pl_elf.specs.declared.segment.Segment.{Segment}
 use Rattle.pl_object.specs.declared.object.Object.{Object}
@@ -43,3 +45,10 @@ unfoldable pub places : List ObjectFile → Result (List ℕ) LoadFault
 places [] = Ok []
 places (program ∷ libraries) =
     lowest_places (left region (taken program.object)) (map wish_of libraries) >>= λ starts. Ok (0 ∷ starts)
+
+-- ---- what places are
+
+-- an object ends at a place at or below the limit of addresses
+pub record IsAt (f : ObjectFile) (place : ℕ) : Type 0 where
+  pub place : place ≤ ADDRESS_LIMIT
+  pub ends : All (λ s. place + (s.vaddr + s.memsz) ≤ ADDRESS_LIMIT) (loads f.object.segments)
