@@ -3,7 +3,7 @@ use Rattle.std.proofs.Common.{◌≡◌, ℕ, zero, suc, ◌+◌, ◌-◌, ◌<�
 use Rattle.std.specs.Prelude.{nat_le, nat_lt}
 use Rattle.std.specs.List.{All, AllZip, list_any}
 use Rattle.std.proofs.lemmas.Bool.{and_parts, and_from, or_parts, or_left, le-leb, lt-ltb, leb-true, ltb-true, or_cases, false_from_ne_true, false≢true}
-use Rattle.std.proofs.lemmas.List.Elements.{All-head, All-tail, All-weaker}
+use Rattle.std.proofs.lemmas.List.Elements.{All-head, All-tail, All-cons, All-weaker}
 use Rattle.std.proofs.lemmas.List.Folds.{list_any-append}
 use Rattle.pl_base.specs.Memory.{Piece, AtMostOne, lies}
 use Rattle.pl_base.proofs.MemoryLaws.{within_true}
@@ -12,10 +12,16 @@ use Rattle.pl_elf.specs.Clauses.{ascend_from}
 use Rattle.pl_elf.specs.declared.constants.TheConstants.{ADDRESS_LIMIT}
 use Rattle.pl_elf.specs.declared.range.Range.{Range}
 use Rattle.pl_elf.specs.declared.segment.Segment.{Segment}
+use Rattle.pl_object.specs.declared.object.Object.{Object}
 use Rattle.pl_slots.specs.Holes.{is_in, is_free}
 use Rattle.pl_place.specs.Placing.{range_of, MissesAll, AllFree, AreApart}
-use Rattle.pl_image.specs.Loads.{loaded_piece, loaded_pieces, pieces_at}
-use Rattle.pl_loader.specs.Places.{load_range, taken, wish_of, pieces_of, IsAt}
+use Rattle.pl_image.specs.Image.{all_pieces}
+use Rattle.pl_image.specs.Loads.{loaded_piece, loaded_pieces, pieces_at, loaded_at, IsPlaced}
+use Rattle.pl_image.specs.declared.loaded.Loaded.{Loaded}
+use Rattle.pl_value.specs.Targets.{base_of}
+use Rattle.pl_value.specs.Ordinary.{part_of, loaded_from, loaded, ArePlaced}
+use Rattle.pl_loader.specs.Loading.{objects_of, parts_of}
+use Rattle.pl_loader.specs.Places.{load_range, taken, wish_of, IsAt}
 use Rattle.pl_loader.specs.declared.object_file.ObjectFile.{ObjectFile}
 use Rattle.pl_loader.proofs.SpanLaws.{Ends, IsSpanned}
 
@@ -85,6 +91,15 @@ alone_own place low bytes (s ∷ ss) ascend =
     )
 
 -- ---- the pieces of all objects
+
+-- files as loaded at places
+abbrev loaded_each : List ObjectFile → List ℕ → List Loaded
+loaded_each [] places = []
+loaded_each (f ∷ fs) [] = []
+loaded_each (f ∷ fs) (place ∷ places) = loaded_at place f.bytes f.object ∷ loaded_each fs places
+
+abbrev pieces_of : List ObjectFile → List ℕ → List Piece
+pieces_of fs places = all_pieces (loaded_each fs places)
 
 abbrev pub IsSpannedFile : ObjectFile → Type 0
 IsSpannedFile f = IsSpanned f.object
@@ -185,3 +200,53 @@ libraries_at region busy (f ∷ fs) (place ∷ places) limit size all some free 
 pub all_at : (region : Range) (busy : List Range) (program : ObjectFile) (fs : List ObjectFile) (places : List ℕ) → region.end ≤ ADDRESS_LIMIT → length fs ≡ length places → IsSpannedFile program → All IsSpannedFile fs → All HasSpan fs
     → AllFree region busy (map wish_of fs) places → AllZip IsAt (program ∷ fs) (0 ∷ places)
 all_at region busy program fs places limit size spanned all some free = (program_at program spanned, libraries_at region busy fs places limit size all some free)
+
+-- ---- as linking asks it
+
+-- what is loaded from a member on, by the members' indexes
+loaded_is : (fs : List ObjectFile) (places ps : List ℕ) (qs : List (List ℕ)) (member : ℕ) → length fs ≡ length places → ((i : ℕ) → i < length fs → base_of ps (member + i) ≡ get_or places i 0) → ((i : ℕ) → i < length fs → part_of qs (member + i) ≡ get_or (parts_of fs) i [])
+    → loaded_from ps qs member (objects_of fs) ≡ loaded_each fs places
+unfolding loaded_from
+loaded_is [] places ps qs member size bases parts = refl
+loaded_is (f ∷ fs) [] ps qs member size bases parts = absurd (omega (arith, size))
+loaded_is (f ∷ fs) (place ∷ places) ps qs member size bases parts =
+    let start : member + 0 ≡ member = omega arith in
+    let base : base_of ps member ≡ place = ap (base_of ps) (sym start) ∙ bases 0 (omega arith) in
+    let part : part_of qs member ≡ f.bytes = ap (part_of qs) (sym start) ∙ parts 0 (omega arith) in
+    let rest = loaded_is fs places ps qs (member + 1) (omega (arith, size))
+    (λ i lt. let next : member + 1 + i ≡ member + (i + 1) = omega arith in ap (base_of ps) next ∙ bases (i + 1) (omega (arith, lt)) ∙ next_at i places)
+    (λ i lt. let next : member + 1 + i ≡ member + (i + 1) = omega arith in ap (part_of qs) next ∙ parts (i + 1) (omega (arith, lt)) ∙ next_part i (parts_of fs)) in
+    rw (base, part, rest) refl
+  where
+    next_at : (i : ℕ) (xs : List ℕ) → get_or (place ∷ xs) (i + 1) 0 ≡ get_or xs i 0
+    next_at i xs = let s : i + 1 ≡ suc i = omega arith in rw s refl
+    next_part : (i : ℕ) (xs : List (List ℕ)) → get_or (f.bytes ∷ xs) (i + 1) [] ≡ get_or xs i []
+    next_part i xs = let s : i + 1 ≡ suc i = omega arith in rw s refl
+
+from_zero : (n : ℕ) → 0 + n ≡ n
+from_zero n = zero-add n
+
+loaded_all : (fs : List ObjectFile) (places : List ℕ) → length fs ≡ length places → loaded places (parts_of fs) (objects_of fs) ≡ loaded_each fs places
+loaded_all fs places size =
+    loaded_is fs places places (parts_of fs) 0 size (λ i lt. ap (base_of places) (from_zero i)) (λ i lt. ap (part_of (parts_of fs)) (from_zero i))
+
+placed_by : (fs : List ObjectFile) (places : List ℕ) → AllZip IsAt fs places → All IsSpannedFile fs → (member : ℕ) (d : Object) → member < length (objects_of fs) → IsPlaced (base_of places member) (get_or (objects_of fs) member d)
+placed_by [] [] at all member d lt = absurd (omega (arith, lt))
+placed_by [] (place ∷ places) at all member d lt = absurd at
+placed_by (f ∷ fs) [] at all member d lt = absurd at
+placed_by (f ∷ fs) (place ∷ places) at all zero d lt = record { loads = (All-head IsSpannedFile f fs all).loads; ends = at.0.ends }
+placed_by (f ∷ fs) (place ∷ places) at all (suc member) d lt = placed_by fs places at.1 (All-tail IsSpannedFile f fs all) member d (omega (arith, lt))
+
+pub are_placed : (region : Range) (program : ObjectFile) (fs : List ObjectFile) (places : List ℕ) → length fs ≡ length places → AllZip IsAt (program ∷ fs) (0 ∷ places) → IsSpannedFile program → All IsSpannedFile fs
+    → AllFree region (taken program.object) (map wish_of fs) places → AreApart (map wish_of fs) places → ArePlaced (0 ∷ places) (parts_of (program ∷ fs)) (objects_of (program ∷ fs))
+are_placed region program fs places size at spanned all free apart =
+    let same : loaded (0 ∷ places) (parts_of (program ∷ fs)) (objects_of (program ∷ fs)) ≡ loaded_each (program ∷ fs) (0 ∷ places) = loaded_all (program ∷ fs) (0 ∷ places) (omega (arith, size)) in
+    record {
+      placed = placed_by (program ∷ fs) (0 ∷ places) at (All-cons IsSpannedFile program fs spanned all);
+      apart = subst (λ (os : List Loaded). AtMostOne lies (all_pieces os)) (sym same) (alone_one (pieces_of (program ∷ fs) (0 ∷ places)) (alone_all region program fs places spanned all free apart));
+    }
+
+-- no objects
+pub none_placed : ArePlaced [] [] []
+unfolding loaded_from
+none_placed = record { placed = λ member d lt. absurd (omega (arith, lt)); apart = alone_one [] tt }

@@ -142,18 +142,4 @@ impl Loader {
             },
         )
     }
-
-    /// What the program starts from, where no name is wanted any more.
-    ///
-    /// The first cause counts, in this order: `TlsTooLarge` where an offset of thread-local storage is too great; `NoPlace` at the first library for which nothing fits in what is left of the region; and the first of `Undefined`, `UndefinedTls`, `TlsMismatch` and `CopyOutside` in the order of the relocations. The objects are placed so: the program where it was linked, and each library in turn at the lowest aligned address of the region beside the program's PT_LOADs and the libraries before it.
-    pub fn start(&self, alloc: Global) -> Result<Started<'_>, LoadFault>
-        requires { wants self.now.order ≡ None }
-        ensures ok { IfOk result (λ s. start.Starts s (start.started self.now.files)) }
-        ensures err { IfErr result (λ fault. Answers is_memory (Err fault) (start.started self.now.files)) }
-        // where all files are those that the names have, this is what the name starts from
-        ensures whole { IfOk result (λ s. (files : List ℕ → Result (List ℕ) fault.LoadFault) (name : List ℕ) → spec.IsUnderWay spec.itself files name self.now → start.Starts s (start.load spec.itself files name)) }
-        ensures fails { IfErr result (λ fault. (files : List ℕ → Result (List ℕ) fault.LoadFault) (name : List ℕ) → spec.IsUnderWay spec.itself files name self.now → Answers is_memory (Err fault) (start.load spec.itself files name)) }
-    {
-        started(alloc, self.files.as_slice())
-    }
 }
