@@ -1,0 +1,85 @@
+-- What is known of the files that were given to a load.
+use Rattle.std.proofs.Common.{◌≡◌, ℕ, ◌+◌, ◌<◌, ◌≤◌, ◌^◌, Bool, true, false, not, ◌||◌, List, [], ◌∷◌, length, map, Ok, refl, sym, ap, ◌∙◌, subst, arith, get_or}
+use Rattle.std.specs.Prelude.{nat_le}
+use Rattle.std.specs.List.{All, list_any}
+use Rattle.std.proofs.lemmas.Bool.{or_parts, leb-false}
+use Rattle.std.proofs.lemmas.List.{length-map}
+use Rattle.std.proofs.lemmas.List.Elements.{All-nil, All-cons, All-head, All-tail, All-map, All-weaker}
+use Rattle.pl_elf.specs.Headers.{loads}
+use Rattle.pl_elf.specs.declared.constants.TheConstants.{ADDRESS_LIMIT}
+use Rattle.pl_object.specs.Reads.{reads}
+use Rattle.pl_object.specs.PlaceClauses.{is_bad, is_known}
+use Rattle.pl_object.specs.declared.object.Object.{Object}
+use Rattle.pl_object.specs.declared.reloc.Reloc.{Reloc}
+use Rattle.pl_object.proofs.AcceptedLaws.{accepted}
+use Rattle.pl_place.specs.Placing.{IsWish}
+use Rattle.pl_scope.specs.Kinds.{is_library}
+use Rattle.pl_scope.specs.Scope.{objects, HasFewSymbols, IsScope}
+use Rattle.pl_scope.specs.declared.constants.TheConstants.{MAX_MEMBERS}
+use Rattle.pl_scope.specs.declared.member.Member.{Member}
+use Rattle.pl_value.specs.Linkable.{RefersToSymbols, IsLinkable}
+use Rattle.pl_loader.specs.Loading.{objects_of, IsRead, IsLibrary, AreFiles}
+use Rattle.pl_loader.specs.Places.{wish_of}
+use Rattle.pl_loader.specs.declared.object_file.ObjectFile.{ObjectFile}
+use Rattle.pl_loader.proofs.SpanLaws.{Ends, IsSpanned, spanned}
+use Rattle.pl_loader.proofs.ApartLaws.{IsSpannedFile, HasSpan}
+
+-- ---- the addresses that they take
+
+spanned_file : (f : ObjectFile) → IsRead f → IsSpannedFile f
+spanned_file f is = spanned f.bytes f.object is.object
+
+pub program_spanned : (program : ObjectFile) (fs : List ObjectFile) → AreFiles (program ∷ fs) → IsSpannedFile program
+program_spanned program fs are = spanned_file program (All-head IsRead program fs are.read)
+
+pub program_fits : (program : ObjectFile) (fs : List ObjectFile) → AreFiles (program ∷ fs) → All (λ s. s.vaddr + s.memsz ≤ ADDRESS_LIMIT) (loads program.object.segments)
+program_fits program fs are = (program_spanned program fs are).below
+
+pub libraries_spanned : (program : ObjectFile) (fs : List ObjectFile) → AreFiles (program ∷ fs) → All IsSpannedFile fs
+libraries_spanned program fs are = All-weaker IsRead IsSpannedFile spanned_file fs (All-tail IsRead program fs are.read)
+
+pub libraries_have_spans : (program : ObjectFile) (fs : List ObjectFile) → AreFiles (program ∷ fs) → All HasSpan fs
+libraries_have_spans program fs are = λ i d lt. (libraries_spanned program fs are i d lt).some (are.libraries i d lt)
+
+pub wishes_asked : (program : ObjectFile) (fs : List ObjectFile) → AreFiles (program ∷ fs) → All IsWish (map wish_of fs)
+wishes_asked program fs are =
+    All-map IsWish wish_of fs (λ i d lt. record { some = libraries_have_spans program fs are i d lt; power = (libraries_spanned program fs are i d lt).power })
+
+-- ---- their symbols
+
+few_symbols : (f : ObjectFile) → IsRead f → HasFewSymbols f.object
+few_symbols f is = omega (arith, (accepted f.bytes f.object is.object).few, is.size)
+
+symbols_below : (count : ℕ) (rs : List Reloc) → list_any (is_bad count) rs ≡ false → All (λ r. r.symbol < count) rs
+unfolding is_bad
+symbols_below count [] none = All-nil (λ (r : Reloc). r.symbol < count)
+symbols_below count (r ∷ rs) none =
+    let parts = or_parts (not (is_known r.kind) || nat_le count r.symbol) (list_any (is_bad count) rs) none in
+    let here = or_parts (not (is_known r.kind)) (nat_le count r.symbol) parts.0 in
+    All-cons (λ (s : Reloc). s.symbol < count) r rs (leb-false count r.symbol here.1) (symbols_below count rs parts.1)
+
+refers : (f : ObjectFile) → IsRead f → RefersToSymbols f.object
+refers f is = symbols_below (length f.object.symbols) f.object.relocations (accepted f.bytes f.object is.object).relocs
+
+-- ---- the scope of their objects
+
+of_map : (P : Object → Type 0) (ms : List Member) → All P (objects ms) → All (λ m. P m.object.now) ms
+of_map P [] all = All-nil (λ (m : Member). P m.object.now)
+of_map P (m ∷ ms) all = All-cons (λ (n : Member). P n.object.now) m ms (All-head P m.object.now (objects ms) all) (of_map P ms (All-tail P m.object.now (objects ms) all))
+
+all_members : (P : Object → Type 0) (fs : List ObjectFile) (ms : List Member) → objects ms ≡ objects_of fs → All (λ f. P f.object) fs → All (λ m. P m.object.now) ms
+all_members P fs ms same all = of_map P ms (subst (λ (os : List Object). All P os) (sym same) (All-map P (λ (f : ObjectFile). f.object) fs all))
+
+pub linkable : (fs : List ObjectFile) (ms : List Member) (places : List ℕ) → AreFiles fs → length fs ≤ MAX_MEMBERS → length places ≡ length fs → objects ms ≡ objects_of fs → IsLinkable ms places
+linkable fs ms places are few size same =
+    let members : length (objects ms) ≡ length ms = length-map (λ (m : Member). m.object.now) ms in
+    let files : length (objects_of fs) ≡ length fs = length-map (λ (f : ObjectFile). f.object) fs in
+    let count : length ms ≡ length fs = sym members ∙ ap length same ∙ files in
+    record {
+      scope = record {
+        few = omega (arith, count, few);
+        symbols = all_members HasFewSymbols fs ms same (All-weaker IsRead (λ (f : ObjectFile). HasFewSymbols f.object) few_symbols fs are.read);
+      };
+      symbols = all_members RefersToSymbols fs ms same (All-weaker IsRead (λ (f : ObjectFile). RefersToSymbols f.object) refers fs are.read);
+      placed = size ∙ sym count;
+    }

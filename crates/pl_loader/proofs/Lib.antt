@@ -1,0 +1,4 @@
+pub mod StepLaws
+pub mod LoadLaws
+pub mod SpanLaws
+pub mod PlaceLaws

@@ -1,0 +1,184 @@
+-- A load that goes from file to file: the files that were given, and those still to come, are the files of the walk of a name. Whoever takes the files from a folder goes by these laws.
+use Rattle.std.proofs.Common.{◌≡◌, ℕ, ◌+◌, ◌<◌, ◌≤◌, Bool, true, false, List, [], ◌∷◌, ◌++◌, Option, Some, None, Result, Ok, Err, refl, sym, ap, ◌∙◌, subst, arith, length, map, inl, inr}
+use Rattle.std.specs.Prelude.{MatchBool, ⊤, ◌⊎◌}
+use Rattle.std.proofs.lemmas.List.{map_push}
+use Rattle.std.proofs.lemmas.Option.{slice_get_within}
+use Rattle.pl_base.specs.Answers.{◌>>=◌, because}
+use Rattle.pl_base.specs.Each.{each}
+use Rattle.pl_object.specs.declared.object.Object.{Object}
+use Rattle.pl_object.proofs.AcceptedLaws.{bind_ok, because_ok}
+use Rattle.pl_scope.specs.Walking.{Walking, IsWalking, wants}
+use Rattle.pl_scope.specs.Walk.{Walked}
+use Rattle.pl_scope.specs.Walk as walk
+use Rattle.pl_scope.specs.declared.constants.TheConstants.{MAX_MEMBERS}
+use Rattle.pl_scope.specs.declared.fault.WalkFault.{WalkFault}
+use Rattle.pl_scope.proofs.WalkLaws.{walk_begins, walk_goes_on, walk_lacks, walk_stops, walk_ends, give_given}
+use Rattle.pl_loader.specs.Faults.{is_memory, of_walk}
+use Rattle.pl_loader.specs.Loading.{Loading}
+use Rattle.pl_loader.specs.Walk.{object_in, entered, taken, of_wanted, give, with_file, begun, walk_fault, object_of, walked, with_bytes, files, member, IsUnderWay, IsFile}
+use Rattle.pl_loader.specs.declared.object_file.ObjectFile.{ObjectFile}
+use Rattle.pl_loader.specs.declared.fault.LoadFault.{LoadFault}
+use Rattle.pl_loader.specs.declared.fault.LoadFault.TheVariants.{NotThere}
+use Rattle.pl_loader.proofs.StepLaws.{ok_is, bind_err, because_err, give_walking}
+
+-- ---- one more result
+
+each_push : {A B E : Type 0} (f : A → Result B E) (xs : List A) (ys : List B) (x : A) (y : B) → each f xs ≡ Ok ys → f x ≡ Ok y → each f (xs ++ x ∷ []) ≡ Ok (ys ++ y ∷ [])
+unfolding each
+each_push f [] ys x y front last = let none : [] ≡ ys = ok_is [] ys front in rw (last, ← none) refl
+each_push f (z ∷ xs) ys x y front last =
+    let p = bind_ok (f z) (λ b. each f xs >>= λ bs. Ok (b ∷ bs)) ys front in
+    let q = bind_ok (each f xs) (λ bs. Ok (p.0 ∷ bs)) ys p.2 in
+    let same : p.0 ∷ q.0 ≡ ys = ok_is (p.0 ∷ q.0) ys q.2 in
+    rw (p.1, each_push f xs q.0 x y q.1 last, ← same) refl
+
+-- ---- one file more
+
+-- the file was there, and its object was given to the walk
+record IsEntry (l m : Loading) (n bytes : List ℕ) : Type 0 where
+  pub object : Object
+  pub order : Walking
+  pub read : object_in l.name n bytes ≡ Ok object
+  pub given : walk.give l.order object ≡ Ok order
+  pub is : m ≡ with_file l order (record { name = n; bytes = bytes; object = object })
+
+entry_is : (l m : Loading) (n bytes : List ℕ) → wants l.order ≡ Some n → give l (Some bytes) ≡ Ok m → IsEntry l m n bytes
+unfolding taken entered
+entry_is l m n bytes is given =
+    let entry : taken l n (Some bytes) ≡ Ok m = sym (ap (of_wanted l (Some bytes)) is) ∙ given in
+    let p = bind_ok (object_in l.name n bytes) (entered l n bytes) m entry in
+    let q = bind_ok (because of_walk (walk.give l.order p.0)) (λ order. Ok (with_file l order (record { name = n; bytes = bytes; object = p.0 }))) m p.2 in
+    record {
+      object = p.0;
+      order = q.0;
+      read = p.1;
+      given = because_ok of_walk (walk.give l.order p.0) q.0 q.1;
+      is = sym (ok_is (with_file l q.0 (record { name = n; bytes = bytes; object = p.0 })) m q.2);
+    }
+
+-- one more file was given
+pub give_more : (l m : Loading) (n : List ℕ) (file : Option (List ℕ)) → wants l.order ≡ Some n → give l file ≡ Ok m → m.order.given ≡ l.order.given + 1
+unfolding taken
+give_more l m n None is given = absurd (no m (sym (ap (of_wanted l None) is) ∙ given))
+  where
+    no : (m : Loading) → Err (NotThere n) ≡ Ok m → ⊥
+    no m e = cc
+give_more l m n (Some bytes) is given =
+    let e = entry_is l m n bytes is given in
+    ap (λ (k : Loading). k.order.given) e.is ∙ give_given l.order e.order n e.object is e.given
+
+-- no more files are given than a walk has
+pub wanted_below : (w : Walking) (n : List ℕ) → IsWalking w → wants w ≡ Some n → w.given < MAX_MEMBERS
+wanted_below w n walking is = let within = slice_get_within w.names w.given n is in let few = walking.few in omega arith
+
+-- ---- what `file` tells of a name
+
+object_is : {E : Type 0} (fault : LoadFault → E) (file : List ℕ → Result (List ℕ) E) (name n bytes : List ℕ) (r : Result Object LoadFault) → file n ≡ Ok bytes → object_in name n bytes ≡ r → object_of fault file name n ≡ because fault r
+unfolding object_of
+object_is fault file name n bytes r there read = rw (there, read) refl
+
+object_lacks : {E : Type 0} (fault : LoadFault → E) (file : List ℕ → Result (List ℕ) E) (name n : List ℕ) (e : E) → file n ≡ Err e → object_of fault file name n ≡ Err e
+unfolding object_of
+object_lacks fault file name n e lacks = rw lacks refl
+
+bytes_are : {E : Type 0} (file : List ℕ → Result (List ℕ) E) (n bytes : List ℕ) (o : Object) → file n ≡ Ok bytes → with_bytes file (n, o) ≡ Ok (record { name = n; bytes = bytes; object = o })
+bytes_are file n bytes o there = rw there refl
+
+-- ---- the load begins, goes on, stops and ends
+
+-- no file was given yet
+pub load_begins : {E : Type 0} (fault : LoadFault → E) (file : List ℕ → Result (List ℕ) E) (name : List ℕ) → IsUnderWay fault file name (begun name)
+unfolding each
+load_begins fault file name = record {
+  named = refl;
+  walking = record { within = omega arith; few = omega arith };
+  walk = walk_begins (walk_fault fault) (object_of fault file name) name;
+  given = refl;
+}
+
+-- the wanted name is given its file
+pub load_goes_on : {E : Type 0} (fault : LoadFault → E) (file : List ℕ → Result (List ℕ) E) (name n : List ℕ) (given : Option (List ℕ)) (l m : Loading) → wants l.order ≡ Some n → IsFile fault file n given → give l given ≡ Ok m
+    → IsUnderWay fault file name l → IsUnderWay fault file name m
+unfolding taken
+load_goes_on fault file name n None l m is there went way = absurd (no m (sym (ap (of_wanted l None) is) ∙ went))
+  where
+    no : (m : Loading) → Err (NotThere n) ≡ Ok m → ⊥
+    no m e = cc
+load_goes_on {E} fault file name n (Some bytes) l m is there went way =
+    let e = entry_is l m n bytes is went in
+    let f : ObjectFile = record { name = n; bytes = bytes; object = e.object } in
+    let read : object_in name n bytes ≡ Ok e.object = ap (λ (k : List ℕ). object_in k n bytes) (sym way.named) ∙ e.read in
+    let object : object_of fault file name n ≡ Ok e.object = object_is fault file name n bytes (Ok e.object) there read in
+    let members : map member (l.files ++ f ∷ []) ≡ map member l.files ++ (n, e.object) ∷ [] = map_push member l.files f in
+    let on = walk_goes_on (walk_fault fault) (object_of fault file name) name (map member l.files) l.order e.order n e.object (wanted_below l.order n way.walking is) is object e.given way.walk in
+    let all = each_push (with_bytes file) (map member l.files) l.files (n, e.object) f way.given (bytes_are file n bytes e.object there) in
+    let more : IsUnderWay fault file name (with_file l e.order f) = record {
+      named = way.named;
+      walking = give_walking l.order e.order n e.object way.walking is e.given;
+      walk = rw members on;
+      given = rw members all;
+    } in
+    subst (λ (k : Loading). IsUnderWay fault file name k) (sym e.is) more
+
+-- why a file is not taken: for itself, or for its object
+entry_stops : (l : Loading) (n bytes : List ℕ) (f : LoadFault) → wants l.order ≡ Some n → give l (Some bytes) ≡ Err f
+    → (object_in l.name n bytes ≡ Err f) ⊎ ((o : Object) × (object_in l.name n bytes ≡ Ok o) × ((g : WalkFault) × (walk.give l.order o ≡ Err g) × (of_walk g ≡ f)))
+unfolding taken entered
+entry_stops l n bytes f is stops =
+    let entry : taken l n (Some bytes) ≡ Err f = sym (ap (of_wanted l (Some bytes)) is) ∙ stops in
+    elim (bind_err (object_in l.name n bytes) (entered l n bytes) f entry) [
+      | inl refused ↦ inl refused
+      | inr later ↦
+          inr (later.0, later.1,
+          elim (bind_err (because of_walk (walk.give l.order later.0)) (λ order. Ok (with_file l order (record { name = n; bytes = bytes; object = later.0 }))) f later.2) [
+            | inl walks ↦ because_err of_walk (walk.give l.order later.0) f walks
+            | inr never ↦ absurd (no _ never.2)
+          ])
+    ]
+  where
+    no : (m : Loading) → Ok m ≡ Err f → ⊥
+    no m e = cc
+
+-- the wanted name has no file
+pub load_lacks : {E : Type 0} (fault : LoadFault → E) (file : List ℕ → Result (List ℕ) E) (name n : List ℕ) (l : Loading) (e : E) → wants l.order ≡ Some n → file n ≡ Err e → IsUnderWay fault file name l → files fault file name ≡ Err e
+unfolding files walked
+load_lacks {E} fault file name n l e is lacks way =
+    ap (λ (r : Result Walked E). r >>= each (with_bytes file))
+    (walk_lacks (walk_fault fault) (object_of fault file name) name (map member l.files) l.order n e (wanted_below l.order n way.walking is) is (object_lacks fault file name n e lacks) way.walk)
+
+-- the wanted name's file is refused
+pub load_stops : {E : Type 0} (fault : LoadFault → E) (file : List ℕ → Result (List ℕ) E) (name n : List ℕ) (given : Option (List ℕ)) (l : Loading) (f : LoadFault) → wants l.order ≡ Some n → IsFile fault file n given → give l given ≡ Err f
+    → IsUnderWay fault file name l → files fault file name ≡ Err (fault f)
+unfolding taken files walked
+load_stops {E} fault file name n None l f is lacks stops way =
+    let same : NotThere n ≡ f = err_is (sym (ap (of_wanted l None) is) ∙ stops) in
+    load_lacks fault file name n l (fault f) is (lacks ∙ ap (λ (g : LoadFault). Err (fault g)) same) way
+  where
+    err_is : Err {T = Loading} (NotThere n) ≡ Err f → NotThere n ≡ f
+    err_is e = cc
+load_stops {E} fault file name n (Some bytes) l f is there stops way =
+    let lt = wanted_below l.order n way.walking is in
+    let as_named : (r : Result Object LoadFault) → object_in l.name n bytes ≡ r → object_in name n bytes ≡ r = λ r read. ap (λ (k : List ℕ). object_in k n bytes) (sym way.named) ∙ read in
+    ap (λ (r : Result Walked E). r >>= each (with_bytes file))
+    (elim (entry_stops l n bytes f is stops) [
+      | inl refused ↦
+          walk_lacks (walk_fault fault) (object_of fault file name) name (map member l.files) l.order n (fault f) lt is (object_is fault file name n bytes (Err f) there (as_named (Err f) refused)) way.walk
+      | inr later ↦
+          walk_stops (walk_fault fault) (object_of fault file name) name (map member l.files) l.order n later.0 later.2.0 lt is (object_is fault file name n bytes (Ok later.0) there (as_named (Ok later.0) later.1)) later.2.1 way.walk
+          ∙ ap (λ (g : LoadFault). Err (fault g)) later.2.2
+    ])
+
+-- the same, or a want of memory
+pub load_stops_or : {E : Type 0} (fault : LoadFault → E) (file : List ℕ → Result (List ℕ) E) (name n : List ℕ) (given : Option (List ℕ)) (l : Loading) (f : LoadFault) → wants l.order ≡ Some n → IsFile fault file n given
+    → MatchBool (is_memory f) ⊤ (give l given ≡ Err f) → IsUnderWay fault file name l → MatchBool (is_memory f) ⊤ (files fault file name ≡ Err (fault f))
+load_stops_or fault file name n given l f is there stops way =
+    elim (is_memory f) as (λ b. MatchBool b ⊤ (give l given ≡ Err f) → MatchBool b ⊤ (files fault file name ≡ Err (fault f))) [
+      | true ↦ λ _. tt
+      | false ↦ λ stop. load_stops fault file name n given l f is there stop way
+    ] stops
+
+-- no name is wanted: the files that were given are all
+pub load_ends : {E : Type 0} (fault : LoadFault → E) (file : List ℕ → Result (List ℕ) E) (name : List ℕ) (l : Loading) → wants l.order ≡ None → IsUnderWay fault file name l → files fault file name ≡ Ok l.files
+unfolding files walked
+load_ends {E} fault file name l is way =
+    ap (λ (r : Result Walked E). r >>= each (with_bytes file)) (walk_ends (walk_fault fault) (object_of fault file name) name (map member l.files) l.order is way.walk) ∙ way.given

@@ -1,0 +1,98 @@
+-- The places of libraries are those that pl_place gives: each is the lowest of all aligned addresses that fit.
+use Rattle.std.proofs.Common.{◌≡◌, ℕ, ◌+◌, ◌<◌, ◌≤◌, Bool, true, false, List, [], ◌∷◌, Option, Some, None, Result, Ok, Err, refl, sym, ap, ◌∙◌, subst, arith, inl, inr}
+use Rattle.std.specs.Prelude.{fold, nat_lt, IfSome, IfNone, IfOk, IfErr, MatchBool, ⊤, ◌⊎◌}
+use Rattle.std.specs.List.{All}
+use Rattle.std.proofs.lemmas.Bool.{cases_Bool, ltb-true}
+use Rattle.std.proofs.lemmas.List.Elements.{All-head, All-tail}
+use Rattle.pl_base.specs.Answers.{◌>>=◌, Answers}
+use Rattle.pl_elf.specs.declared.range.Range.{Range}
+use Rattle.pl_slots.specs.Holes.{region_holes, without, lowest, AreHoles, IsPlace, IsLowest}
+use Rattle.pl_slots.proofs.HoleLaws.{region_are_holes, without_are_holes}
+use Rattle.pl_slots.proofs.LowestLaws.{lowest_is, lowest_none}
+use Rattle.pl_place.specs.Left.{beside, left}
+use Rattle.pl_place.specs.Policy.{IsAsked}
+use Rattle.pl_place.specs.Placing.{Chose, range_of, InTurn, ArePlaced, StopsAt, Because, IsFault, IsWish, Lowest}
+use Rattle.pl_place.specs.declared.wish.Wish.{Wish}
+use Rattle.pl_place.specs.declared.fault.PlaceFault.{PlaceFault}
+use Rattle.pl_place.specs.declared.fault.PlaceFault.TheVariants as place
+use Rattle.pl_place.proofs.PolicyLaws.{align_some}
+use Rattle.pl_loader.specs.Places.{lowest_places}
+use Rattle.pl_loader.specs.declared.fault.LoadFault.{LoadFault}
+use Rattle.pl_loader.specs.declared.fault.LoadFault.TheVariants.{NoPlace}
+
+-- ---- holes
+
+beside_are_holes : (holes : List Range) (range : Range) → AreHoles holes → AreHoles (beside holes range)
+beside_are_holes holes range are =
+    elim (cases_Bool (nat_lt range.start range.end)) [
+      | inl some ↦ rw some (without_are_holes range holes (ltb-true range.start range.end some) are)
+      | inr none ↦ rw none are
+    ]
+
+all_are_holes : (holes busy : List Range) → AreHoles holes → AreHoles (fold beside holes busy)
+all_are_holes holes [] are = are
+all_are_holes holes (range ∷ busy) are = all_are_holes (beside holes range) busy (beside_are_holes holes range are)
+
+pub left_are_holes : (region : Range) (busy : List Range) → AreHoles (left region busy)
+unfolding left
+left_are_holes region busy = all_are_holes (region_holes region) busy (region_are_holes region)
+
+-- ---- one wish
+
+one_lowest : (span align start : ℕ) (holes : List Range) (answer : Option ℕ) → IfSome answer (IsLowest holes span align) → IfNone answer ((at : ℕ) → IsPlace holes span align at → ⊥) → IsLowest holes span align start → answer ≡ Some start
+one_lowest span align start holes (Some at) low none is =
+    let same : at ≡ start = omega (arith, low.1 start is.0, is.1 at low.0) in
+    ap (λ (n : ℕ). Some n) same
+one_lowest span align start holes None low none is = absurd (none start is.0)
+
+lowest_some : (span align start : ℕ) (holes : List Range) → 0 < align → AreHoles holes → IsLowest holes span align start → lowest span align holes ≡ Some start
+lowest_some span align start holes p are is =
+    one_lowest span align start holes (lowest span align holes) (lowest_is span align holes (lowest span align holes) p refl are) (lowest_none span align holes (lowest span align holes) p refl) is
+
+no_lowest : (span align : ℕ) (holes : List Range) (answer : Option ℕ) → IfSome answer (IsLowest holes span align) → ((at : ℕ) → IsPlace holes span align at → ⊥) → answer ≡ None
+no_lowest span align holes (Some at) low none = absurd (none at low.0)
+no_lowest span align holes None low none = refl
+
+lowest_absent : (span align : ℕ) (holes : List Range) → 0 < align → AreHoles holes → ((at : ℕ) → IsPlace holes span align at → ⊥) → lowest span align holes ≡ None
+lowest_absent span align holes p are none =
+    no_lowest span align holes (lowest span align holes) (lowest_is span align holes (lowest span align holes) p refl are) none
+
+-- ---- all wishes
+
+rest_are_holes : (wish : Wish) (start : ℕ) (holes : List Range) → IsWish wish → AreHoles holes → AreHoles (without (range_of wish start) holes)
+rest_are_holes wish start holes is are = without_are_holes (range_of wish start) holes (omega (arith, is.some)) are
+
+starts_are : (wish : Wish) (start : ℕ) (holes : List Range) → IsWish wish → AreHoles holes → Chose Lowest holes wish (Some start) → lowest wish.span wish.align holes ≡ Some start
+starts_are wish start holes is are chose =
+    let call = chose.0 in
+    lowest_some wish.span wish.align start holes (align_some wish.span wish.align is) are (subst (λ (hs : List Range). IsLowest hs wish.span wish.align start) call.1 call.2)
+
+in_turn : (holes : List Range) (wishes : List Wish) (starts : List ℕ) → AreHoles holes → All IsWish wishes → InTurn Lowest holes wishes starts → lowest_places holes wishes ≡ Ok starts
+unfolding lowest_places
+in_turn holes [] [] are all placed = refl
+in_turn holes [] (start ∷ starts) are all placed = absurd placed
+in_turn holes (wish ∷ wishes) [] are all placed = absurd placed
+in_turn holes (wish ∷ wishes) (start ∷ starts) are all placed =
+    let is : IsWish wish = All-head IsWish wish wishes all in
+    let here = starts_are wish start holes is are placed.0 in
+    let rest = in_turn (without (range_of wish start) holes) wishes starts (rest_are_holes wish start holes is are) (All-tail IsWish wish wishes all) placed.1 in
+    rw (here, rest) refl
+
+stops_at : (holes : List Range) (wishes : List Wish) (name : List ℕ) → AreHoles holes → All IsWish wishes → StopsAt Lowest holes wishes name → lowest_places holes wishes ≡ Err (NoPlace name)
+unfolding lowest_places
+stops_at holes [] name are all stops = absurd stops
+stops_at holes (wish ∷ wishes) name are all (inl here) =
+    let is : IsWish wish = All-head IsWish wish wishes all in
+    let none = lowest_absent wish.span wish.align holes (align_some wish.span wish.align is) are here.1.1 in
+    rw (none, here.0) refl
+stops_at holes (wish ∷ wishes) name are all (inr later) =
+    let is : IsWish wish = All-head IsWish wish wishes all in
+    let here = starts_are wish later.0 holes is are later.1 in
+    let rest = stops_at (without (range_of wish later.0) holes) wishes name (rest_are_holes wish later.0 holes is are) (All-tail IsWish wish wishes all) later.2 in
+    rw (here, rest) refl
+
+pub places_are : (region : Range) (busy : List Range) (wishes : List Wish) (starts : List ℕ) → All IsWish wishes → ArePlaced Lowest (left region busy) wishes starts → lowest_places (left region busy) wishes ≡ Ok starts
+places_are region busy wishes starts all placed = in_turn (left region busy) wishes starts (left_are_holes region busy) all placed.in_turn
+
+pub place_stops : (region : Range) (busy : List Range) (wishes : List Wish) (name : List ℕ) → All IsWish wishes → IsFault Lowest (left region busy) wishes (place.NoPlace name) → lowest_places (left region busy) wishes ≡ Err (NoPlace name)
+place_stops region busy wishes name all fault = stops_at (left region busy) wishes name (left_are_holes region busy) all fault.because

@@ -1,0 +1,256 @@
+-- What acceptance says of the addresses that an object takes.
+use Rattle.std.proofs.Common.{◌≡◌, ℕ, ◌+◌, ◌-◌, ◌<◌, ◌≤◌, Bool, true, false, not, ◌||◌, ◌&&◌, List, [], ◌∷◌, Option, Some, None, Result, Ok, Err, refl, sym, ap, ◌∙◌, subst, arith, cond, inl, inr, lit<}
+use Rattle.std.specs.Prelude.{fold, max, find, nat_lt, ◌==◌, if◌then◌else◌}
+use Rattle.std.specs.List.{All, list_any}
+use Rattle.std.specs.Int.{is_power_of_two}
+use Rattle.std.proofs.lemmas.Bool.{cases_Bool, cases_lt, or_parts, and_parts, ltb-false, leb-true, eqb-true, false≢true}
+use Rattle.std.proofs.lemmas.List.Elements.{All-nil, All-cons, All-head, All-tail, All-weaker}
+use Rattle.pl_base.specs.Answers.{◌>>=◌, because, unless, refuse}
+use Rattle.pl_base.specs.Sums.{round_up}
+use Rattle.pl_base.specs.Windows.{Window}
+use Rattle.pl_base.proofs.SumLaws.{round_up-at_least}
+use Rattle.pl_elf.specs.Headers.{is_load, loads}
+use Rattle.pl_elf.specs.Clauses.{AreLoads, ascend_from, bad_load, bad_align, not_congruent}
+use Rattle.pl_elf.specs.Clauses as elf
+use Rattle.pl_elf.specs.declared.constants.TheConstants.{ADDRESS_LIMIT, MAX_LOAD_ALIGN}
+use Rattle.pl_elf.specs.declared.header.Header.{Header}
+use Rattle.pl_elf.specs.declared.segment.Segment.{Segment}
+use Rattle.pl_dyn.specs.Entries.{entries, null_count, is_ended}
+use Rattle.pl_dyn.specs.Read as dyn
+use Rattle.pl_dyn.specs.declared.dynamic.Dynamic.{Dynamic}
+use Rattle.pl_dyn.specs.declared.fault.DynFault.{DynFault}
+use Rattle.pl_dyn.specs.declared.fault.DynFault.TheVariants as dyn_fault
+use Rattle.pl_object.specs.FilePart.{loads_byte, loader, loaded_by, file_window, in_file_part, loaded}
+use Rattle.pl_object.specs.PlaceClauses.{last_load}
+use Rattle.pl_object.specs.TableClauses.{check_tables}
+use Rattle.pl_object.specs.Tables.{dynamic_range}
+use Rattle.pl_object.specs.Reads.{reads, headers, parts, static_program, static_object, linked, linking, layout, check, checked, too_large, object, dynamic, span, align, end_in_memory}
+use Rattle.pl_object.specs.Refusals.{of_header, of_dynamic}
+use Rattle.pl_object.specs.declared.constants.TheConstants.{PAGE}
+use Rattle.pl_object.specs.declared.headers.Headers.{Headers}
+use Rattle.pl_object.specs.declared.object.Object.{Object}
+use Rattle.pl_object.specs.declared.refusal.Refusal.{Refusal}
+use Rattle.pl_object.specs.declared.refusal.Refusal.TheVariants.{Clause}
+use Rattle.pl_object.proofs.AcceptedLaws.{bind_ok, because_ok, accepted}
+use Rattle.pl_object.proofs.FilePartLaws.{loads_parts, find_passes}
+use Rattle.pl_scope.specs.Kinds.{is_library}
+use Rattle.pl_loader.proofs.StepLaws.{ok_is, unless_ok}
+
+-- ---- the parts of an object
+
+-- a dynamic table that is read is loaded from a PT_LOAD
+abbrev HasDynamic : List Segment → Type 0
+HasDynamic ss = (s : Segment) × (loader ss (dynamic_range ss).at ≡ Some s)
+
+record IsShaped (o : Object) : Type 0 where
+  pub span : o.span ≡ span o.segments
+  pub align : o.align ≡ align o.segments
+  pub dynamic : is_library o.kind ≡ true → HasDynamic o.segments
+
+never_ended : is_ended [] ≡ true → ⊥
+unfolding is_ended null_count entries
+never_ended ended = false≢true ended
+
+not_false : (b : Bool) → not b ≡ false → b ≡ true
+not_false true is = refl
+not_false false is = absurd (false≢true (sym is))
+
+read_ended : (table : List ℕ) (d : Dynamic) → dyn.read table ≡ Ok d → is_ended table ≡ true
+unfolding dyn.read
+read_ended table d is = not_false (is_ended table) (unless_ok (not (is_ended table)) dyn_fault.NoEnd _ d is).0
+
+loads_dynamic : (bytes : List ℕ) (ss : List Segment) (memory : Window) (d : Dynamic) (found : Option Segment) → loader ss memory.at ≡ found → dyn.read (loaded bytes ss memory) ≡ Ok d → (s : Segment) × (loader ss memory.at ≡ Some s)
+unfolding loaded file_window
+loads_dynamic bytes ss memory d (Some s) is read = (s, is)
+loads_dynamic bytes ss memory d None is read = absurd (never_ended (read_ended [] d (rw is at read)))
+
+dynamic_loaded : (bytes : List ℕ) (ss : List Segment) (d : Dynamic) → dynamic bytes ss ≡ Ok d → HasDynamic ss
+unfolding dynamic
+dynamic_loaded bytes ss d is =
+    elim (cases_Bool (in_file_part ss (dynamic_range ss))) [
+      | inl hit ↦ loads_dynamic bytes ss (dynamic_range ss) d (loader ss (dynamic_range ss).at) refl (rw hit at is)
+      | inr miss ↦ absurd (no (rw miss at is))
+    ]
+  where
+    no : Err dyn_fault.NoEnd ≡ Ok d → ⊥
+    no e = cc
+
+shaped_linked : (bytes : List ℕ) (f : Headers) (d : Dynamic) (o : Object) → HasDynamic f.segments → linked bytes f d ≡ Ok o → IsShaped o
+unfolding linked checked object
+shaped_linked bytes f d o has e =
+    let t = bind_ok (check_tables f.header f.segments f.sections d.tags) _ o e in
+    let l = bind_ok (linking bytes f d.tags) _ o t.2 in
+    let places = layout bytes f d.tags l.0 in
+    let c = bind_ok (check bytes f d.tags l.0 places) _ o l.2 in
+    let is : object f d l.0 places ≡ o = ok_is (object f d l.0 places) o c.2 in
+    let whole : IsShaped (object f d l.0 places) = record { span = refl; align = refl; dynamic = λ library. has } in
+    subst IsShaped is whole
+
+shaped_static : (bytes : List ℕ) (f : Headers) (o : Object) → static_program bytes f ≡ Ok o → IsShaped o
+unfolding static_program static_object
+shaped_static bytes f o e =
+    let p = unless_ok (too_large bytes) (Clause 30 0) (Ok (static_object f)) o e in
+    let is : static_object f ≡ o = ok_is (static_object f) o p.1 in
+    let whole : IsShaped (static_object f) = record { span = refl; align = refl; dynamic = λ library. absurd (false≢true library) } in
+    subst IsShaped is whole
+
+shaped_parts : (bytes : List ℕ) (f : Headers) (o : Object) → parts bytes f ≡ Ok o → IsShaped o
+unfolding parts
+shaped_parts bytes f o e =
+    elim (cases_Bool (elf.is_static bytes f.header)) [
+      | inl static ↦ shaped_static bytes f o (rw static at e)
+      | inr other ↦
+          let d = bind_ok (because of_dynamic (dynamic bytes f.segments)) (linked bytes f) o (rw other at e) in
+          shaped_linked bytes f d.0 o (dynamic_loaded bytes f.segments d.0 (because_ok of_dynamic (dynamic bytes f.segments) d.0 d.1)) d.2
+    ]
+
+shaped : (bytes : List ℕ) (o : Object) → reads bytes ≡ Ok o → IsShaped o
+unfolding reads
+shaped bytes o e =
+    let p = bind_ok (because of_header (elf.read bytes)) (λ h. parts bytes (headers bytes h)) o e in
+    shaped_parts bytes (headers bytes p.0) o p.2
+
+-- ---- the span
+
+-- the last PT_LOAD of a segment before and of those behind it
+abbrev last_from : Option Segment → List Segment → Option Segment
+last_from found ss = fold (λ f s. if is_load s then Some s else f) found ss
+
+-- a segment ends at or below an address
+abbrev pub Ends : ℕ → Segment → Type 0
+Ends most s = s.vaddr + s.memsz ≤ most
+
+record LastEnds (found : Option Segment) (ss : List Segment) : Type 0 where
+  pub before : end_in_memory found ≤ end_in_memory (last_from found ss)
+  pub loads : All (Ends (end_in_memory (last_from found ss))) (loads ss)
+
+last_ends : (found : Option Segment) (low : ℕ) (ss : List Segment) → end_in_memory found ≤ low → ascend_from low (loads ss) ≡ true → LastEnds found ss
+last_ends found low [] le ascend = record { before = omega arith; loads = All-nil (Ends (end_in_memory found)) }
+last_ends found low (s ∷ ss) le ascend =
+    elim (cases_Bool (is_load s)) [
+      | inl hit ↦
+          let parts = and_parts _ _ (rw hit at ascend) in
+          let from = leb-true low s.vaddr parts.0 in
+          let rest = last_ends (Some s) (s.vaddr + s.memsz) ss (omega arith) parts.1 in
+          let most : ℕ = end_in_memory (last_from (Some s) ss) in
+          rw hit (record { before = omega (arith, rest.before); loads = All-cons (Ends most) s (loads ss) rest.before rest.loads })
+      | inr miss ↦
+          let rest = last_ends found low ss le (rw miss at ascend) in
+          rw miss (record { before = rest.before; loads = rest.loads })
+    ]
+
+span_ends : (ss : List Segment) → AreLoads (loads ss) → All (Ends (span ss)) (loads ss)
+unfolding span last_load
+span_ends ss are =
+    let last = last_ends None 0 ss (omega arith) are.ascend in
+    let most : ℕ = end_in_memory (last_from None ss) in
+    All-weaker (Ends most) (Ends (round_up most PAGE)) (λ s le. omega (arith, le, round_up-at_least most PAGE (lit< tt))) (loads ss) last.loads
+
+-- what holds of all PT_LOADs holds of one that is found
+found_holds : (P : Segment → Type 0) (p : Segment → Bool) (ss : List Segment) (s : Segment) → All P (loads ss) → ((x : Segment) → p x ≡ true → is_load x ≡ true) → find p ss ≡ Some s → P s
+found_holds P p [] s all loaded found = absurd (no found)
+  where
+    no : None {T = Segment} ≡ Some s → ⊥
+    no e = cc
+found_holds P p (x ∷ ss) s all loaded found =
+    elim (cases_Bool (p x)) [
+      | inl hit ↦
+          let same : x ≡ s = some_is (rw hit at found) in
+          subst P same (All-head P x (loads ss) (rw (loaded x hit) at all))
+      | inr miss ↦
+          found_holds P p ss s (elim (cases_Bool (is_load x)) [
+            | inl load ↦ All-tail P x (loads ss) (rw load at all)
+            | inr other ↦ rw other at all
+          ]) loaded (rw miss at found)
+    ]
+  where
+    some_is : Some x ≡ Some s → x ≡ s
+    some_is e = cc
+
+-- no PT_LOAD is refused by itself
+abbrev IsFit : Segment → Type 0
+IsFit s = bad_load s ≡ false
+
+fit_all : (ss : List Segment) → list_any bad_load ss ≡ false → All IsFit ss
+fit_all [] none = All-nil IsFit
+fit_all (s ∷ ss) none = let p = or_parts (bad_load s) (list_any bad_load ss) none in All-cons IsFit s ss p.0 (fit_all ss p.1)
+
+record LoadFits (s : Segment) : Type 0 where
+  pub bytes : s.filesz ≤ s.memsz
+  pub align : bad_align s.align ≡ false
+  pub ends : s.vaddr + s.memsz ≤ ADDRESS_LIMIT
+
+load_fits : (s : Segment) → bad_load s ≡ false → LoadFits s
+unfolding bad_load
+load_fits s h =
+    let a = or_parts (nat_lt s.memsz s.filesz || bad_align s.align || nat_lt MAX_LOAD_ALIGN s.align || not_congruent s) (nat_lt ADDRESS_LIMIT (s.vaddr + s.memsz)) h in
+    let b = or_parts (nat_lt s.memsz s.filesz || bad_align s.align || nat_lt MAX_LOAD_ALIGN s.align) (not_congruent s) a.0 in
+    let c = or_parts (nat_lt s.memsz s.filesz || bad_align s.align) (nat_lt MAX_LOAD_ALIGN s.align) b.0 in
+    let d = or_parts (nat_lt s.memsz s.filesz) (bad_align s.align) c.0 in
+    record { bytes = ltb-false s.memsz s.filesz d.0; align = d.1; ends = ltb-false ADDRESS_LIMIT (s.vaddr + s.memsz) a.1 }
+
+-- ---- the alignment
+
+bad_align_is : (n : ℕ) → bad_align n ≡ false → (n ≡ 0) ⊎ (is_power_of_two n ≡ true)
+unfolding bad_align
+bad_align_is n h =
+    elim (cases_Bool (is_power_of_two n)) [
+      | inl power ↦ inr power
+      | inr other ↦ elim (cases_Bool (n == 0)) [
+          | inl none ↦ inl (eqb-true n 0 none)
+          | inr some ↦ absurd (false≢true (sym (rw (other, some) at h)))
+        ]
+    ]
+
+power_max : (most n : ℕ) → is_power_of_two most ≡ true → (n ≡ 0) ⊎ (is_power_of_two n ≡ true) → is_power_of_two (max most n) ≡ true
+power_max most n p (inl none) = let same : max most n ≡ most = omega (arith, none) in rw same p
+power_max most n p (inr power) =
+    elim (cases_lt most n) [
+      | inl lt ↦ let same : max most n ≡ n = omega (arith, lt) in rw same power
+      | inr le ↦ let same : max most n ≡ most = omega (arith, le) in rw same p
+    ]
+
+power_from : (most : ℕ) (ss : List Segment) → is_power_of_two most ≡ true → list_any bad_load ss ≡ false → is_power_of_two (fold (λ m s. max m s.align) most ss) ≡ true
+power_from most [] p none = p
+power_from most (s ∷ ss) p none =
+    let parts = or_parts (bad_load s) (list_any bad_load ss) none in
+    power_from (max most s.align) ss (power_max most s.align p (bad_align_is s.align (load_fits s parts.0).align)) parts.1
+
+page_power : is_power_of_two PAGE ≡ true
+page_power = refl
+
+-- ---- as the loader needs it
+
+-- what is known of an accepted object's addresses
+pub record IsSpanned (o : Object) : Type 0 where
+  pub loads : AreLoads (loads o.segments)
+  pub below : All (Ends ADDRESS_LIMIT) (loads o.segments)
+  pub span : All (Ends o.span) (loads o.segments)
+  pub power : is_power_of_two o.align ≡ true
+  pub some : is_library o.kind ≡ true → 0 < o.span
+
+power_of : (o : Object) → IsShaped o → AreLoads (loads o.segments) → is_power_of_two o.align ≡ true
+unfolding align
+power_of o shape are = rw shape.align (power_from PAGE (loads o.segments) page_power are.fit)
+
+some_span : (o : Object) → IsShaped o → AreLoads (loads o.segments) → All (Ends o.span) (loads o.segments) → is_library o.kind ≡ true → 0 < o.span
+some_span o shape are ends library =
+    let found = shape.dynamic library in
+    let at : ℕ = (dynamic_range o.segments).at in
+    let byte = loads_parts at found.0 (find_passes (loads_byte at) o.segments found.0 found.1) in
+    let fits = load_fits found.0 (found_holds IsFit (loads_byte at) o.segments found.0 (fit_all (loads o.segments) are.fit) (λ x hit. (loads_parts at x hit).0) found.1) in
+    let end = found_holds (Ends o.span) (loads_byte at) o.segments found.0 ends (λ x hit. (loads_parts at x hit).0) found.1 in
+    omega (arith, byte.1, byte.2, fits.bytes, end)
+
+pub spanned : (bytes : List ℕ) (o : Object) → reads bytes ≡ Ok o → IsSpanned o
+spanned bytes o e =
+    let shape = shaped bytes o e in
+    let are = (accepted bytes o e).loads in
+    let ends : All (Ends o.span) (loads o.segments) = rw shape.span (span_ends o.segments are) in
+    record {
+      loads = are;
+      below = All-weaker IsFit (Ends ADDRESS_LIMIT) (λ s fit. (load_fits s fit).ends) (loads o.segments) (fit_all (loads o.segments) are.fit);
+      span = ends;
+      power = power_of o shape are;
+      some = some_span o shape are ends;
+    }

@@ -1,0 +1,124 @@
+-- One object more of a walk, and one file more of a load.
+use Rattle.std.proofs.Common.{◌≡◌, ℕ, ◌+◌, ◌<◌, ◌≤◌, Bool, true, false, not, ◌&&◌, List, [], ◌∷◌, ◌++◌, Some, Result, Ok, Err, refl, sym, ap, ◌∙◌, subst, arith, length, drop, inl, inr, append_assoc}
+use Rattle.std.specs.Prelude.{nat_lt, nat_le, ◌⊎◌}
+use Rattle.std.specs.List.{All, list_any}
+use Rattle.std.specs.Str.{bytes_eq}
+use Rattle.std.proofs.lemmas.Bool.{cases_Bool, leb-false, lt-ltb, and_from, false≢true}
+use Rattle.std.proofs.lemmas.List.{length_push}
+use Rattle.std.proofs.lemmas.List.Elements.{All-nil, All-push}
+use Rattle.std.proofs.lemmas.Option.{slice_get_within}
+use Rattle.pl_base.specs.Answers.{◌>>=◌, because, unless, unless_found}
+use Rattle.pl_base.specs.Each.{run}
+use Rattle.pl_object.specs.declared.object.Object.{Object}
+use Rattle.pl_object.proofs.AcceptedLaws.{bind_ok}
+use Rattle.pl_scope.specs.Kinds.{is_library}
+use Rattle.pl_scope.specs.Walking.{Walking, IsWalking, wants}
+use Rattle.pl_scope.specs.Walk.{added, checked, needed_program, program_name, entered, next, of_wanted}
+use Rattle.pl_scope.specs.Walk as walk
+use Rattle.pl_scope.specs.declared.constants.TheConstants.{MAX_MEMBERS}
+use Rattle.pl_scope.specs.declared.fault.WalkFault.{WalkFault}
+use Rattle.pl_scope.specs.declared.fault.WalkFault.TheVariants.{TooMany, NeededIsProgram}
+use Rattle.pl_loader.specs.Loading.{Loading, IsRead, IsLibrary, AreFiles, IsLoading}
+use Rattle.pl_loader.specs.Walk.{with_file}
+use Rattle.pl_loader.specs.declared.object_file.ObjectFile.{ObjectFile}
+
+-- ---- results
+
+pub ok_is : {X E : Type 0} (x y : X) → Ok {E = E} x ≡ Ok y → x ≡ y
+ok_is x y e = cc
+
+pub unless_ok : {X E : Type 0} (test : Bool) (fault : E) (next : Result X E) (x : X) → unless test fault next ≡ Ok x → (test ≡ false) × (next ≡ Ok x)
+unless_ok true fault next x e = absurd cc
+unless_ok false fault next x e = (refl, e)
+
+-- a step whose end is a refusal: its own, or that of what goes on with its value
+pub bind_err : {A B E : Type 0} (r : Result A E) (f : A → Result B E) (e : E) → (r >>= f) ≡ Err e → (r ≡ Err e) ⊎ ((x : A) × (r ≡ Ok x) × (f x ≡ Err e))
+bind_err (Ok x) f e h = inr (x, refl, h)
+bind_err (Err d) f e h = inl (let same : d ≡ e = cc in rw same refl)
+
+pub because_err : {X E F : Type 0} (fault : E → F) (r : Result X E) (f : F) → because fault r ≡ Err f → (e : E) × (r ≡ Err e) × (fault e ≡ f)
+because_err fault (Ok x) f h = absurd cc
+because_err fault (Err e) f h = (e, refl, cc)
+
+-- ---- names of the walk
+
+added_few : (names new : List (List ℕ)) (n : List ℕ) → length names ≤ MAX_MEMBERS → added names n ≡ Ok new → (length names ≤ length new) × (length new ≤ MAX_MEMBERS)
+unfolding added
+added_few names new n le is =
+    elim (cases_Bool (list_any (λ m. bytes_eq m n) names)) [
+      | inl hit ↦
+          let same : names ≡ new = ok_is names new (rw hit at is) in
+          rw (← same) (omega arith, le)
+      | inr miss ↦
+          let p = unless_ok (nat_le MAX_MEMBERS (length names)) (TooMany n) (Ok (names ++ n ∷ [])) new (rw miss at is) in
+          let same : names ++ n ∷ [] ≡ new = ok_is (names ++ n ∷ []) new p.1 in
+          let room = leb-false MAX_MEMBERS (length names) p.0 in
+          let size = length_push names n in
+          rw (← same) (omega arith, omega arith)
+    ]
+
+run_few : (names new needed : List (List ℕ)) → length names ≤ MAX_MEMBERS → run added names needed ≡ Ok new → (length names ≤ length new) × (length new ≤ MAX_MEMBERS)
+unfolding run
+run_few names new [] le is = let same : names ≡ new = ok_is names new is in rw (← same) (omega arith, le)
+run_few names new (n ∷ ns) le is =
+    let p = bind_ok (added names n) (λ t. run added t ns) new is in
+    let one = added_few names p.0 n le p.1 in
+    let rest = run_few p.0 new ns one.1 p.2 in
+    (omega arith, rest.1)
+
+-- ---- one object more
+
+-- the wanted name's object passed the walk's checks, and its needed names were appended
+record IsStep (w v : Walking) (n : List ℕ) (o : Object) : Type 0 where
+  pub names : List (List ℕ)
+  pub unit : Unit {0}
+  pub checks : checked w n o ≡ Ok unit
+  pub adds : run added w.names o.needed ≡ Ok names
+  pub is : v ≡ next w o names
+
+give_is : (w v : Walking) (n : List ℕ) (o : Object) → wants w ≡ Some n → walk.give w o ≡ Ok v → IsStep w v n o
+unfolding entered
+give_is w v n o is given =
+    let entry : entered w n o ≡ Ok v = sym (ap (of_wanted w o) is) ∙ given in
+    let p = bind_ok (checked w n o) (λ _. run added w.names o.needed >>= λ all. Ok (next w o all)) v entry in
+    let q = bind_ok (run added w.names o.needed) (λ all. Ok (next w o all)) v p.2 in
+    record { names = q.0; unit = p.0; checks = p.1; adds = q.1; is = sym (ok_is (next w o q.0) v q.2) }
+
+pub give_walking : (w v : Walking) (n : List ℕ) (o : Object) → IsWalking w → wants w ≡ Some n → walk.give w o ≡ Ok v → IsWalking v
+give_walking w v n o walking is given =
+    let step = give_is w v n o is given in
+    let few = run_few w.names step.names o.needed walking.few step.adds in
+    let within = slice_get_within w.names w.given n is in
+    rw step.is (record { within = omega arith; few = few.1 })
+
+-- an object after the first is a library
+pub give_library : (w v : Walking) (n : List ℕ) (o : Object) → wants w ≡ Some n → walk.give w o ≡ Ok v → 0 < w.given → is_library o.kind ≡ true
+unfolding checked
+give_library w v n o is given lt =
+    let step = give_is w v n o is given in
+    let p = unless_ok (nat_lt 0 w.given && not (is_library o.kind)) (NeededIsProgram n) (unless_found (needed_program (program_name w) o.needed) NeededIsProgram (Ok tt)) step.unit step.checks in
+    elim (cases_Bool (is_library o.kind)) [
+      | inl library ↦ library
+      | inr other ↦
+          let both : (nat_lt 0 w.given && not (is_library o.kind)) ≡ true = and_from (nat_lt 0 w.given) (not (is_library o.kind)) (lt-ltb 0 w.given lt) (ap not other) in
+          absurd (false≢true (sym p.0 ∙ both))
+    ]
+
+-- ---- one file more
+
+libraries_more : (fs : List ObjectFile) (f : ObjectFile) → All IsLibrary (drop 1 fs) → (0 < length fs → IsLibrary f) → All IsLibrary (drop 1 (fs ++ f ∷ []))
+libraries_more [] f all last = All-nil IsLibrary
+libraries_more (g ∷ fs) f all last = All-push IsLibrary fs f all (last (omega arith))
+
+pub files_more : (fs : List ObjectFile) (f : ObjectFile) → AreFiles fs → IsRead f → (0 < length fs → IsLibrary f) → AreFiles (fs ++ f ∷ [])
+files_more fs f are read last = record {
+  read = All-push IsRead fs f are.read read;
+  libraries = libraries_more fs f are.libraries last;
+}
+
+pub loading_more : (l : Loading) (order : Walking) (f : ObjectFile) → IsLoading l → wants l.order ≡ Some f.name → IsRead f → walk.give l.order f.object ≡ Ok order → order.given ≡ l.order.given + 1 → IsLoading (with_file l order f)
+loading_more l order f loading is read given count = record {
+  walking = give_walking l.order order f.name f.object loading.walking is given;
+  given = let size = length_push l.files f in let before = loading.given in omega arith;
+  files = files_more l.files f loading.files read (λ lt. give_library l.order order f.name f.object is given (let before = loading.given in omega arith));
+}

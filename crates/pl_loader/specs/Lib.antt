@@ -1,0 +1,4 @@
+pub mod Faults
+pub mod Loading
+pub mod Walk
+pub mod Places

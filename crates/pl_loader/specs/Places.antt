@@ -1,0 +1,54 @@
+-- Where the objects of a load are placed. Which addresses a loader chooses, the System V gABI leaves open: this project's profile.
+use Rattle.std.specs.Prelude.{ℕ, ◌+◌, ◌≤◌, List, [], ◌∷◌, map, Result, Ok}
+use Rattle.std.specs.List.{All}
+use Rattle.std.specs.Option.{ok_or}
+use Rattle.pl_base.specs.Answers.{◌>>=◌}
+use Rattle.pl_elf.specs.Headers.{loads}
+use Rattle.pl_elf.specs.declared.constants.TheConstants.{ADDRESS_LIMIT}
+use Rattle.pl_elf.specs.declared.range.Range.{Range}
+use Rattle.pl_elf.specs.declared.segment.Segment.{Segment}
+use Rattle.pl_object.specs.declared.object.Object.{Object}
+use Rattle.pl_slots.specs.Holes.{without, lowest}
+use Rattle.pl_place.specs.Left.{left}
+use Rattle.pl_place.specs.Placing.{range_of}
+use Rattle.pl_place.specs.declared.wish.Wish.{Wish}
+use Rattle.pl_loader.specs.declared.constants.TheConstants.{REGION_START, REGION_END}
+use Rattle.pl_loader.specs.declared.object_file.ObjectFile.{ObjectFile}
+use Rattle.pl_loader.specs.declared.fault.LoadFault.{LoadFault}
+use Rattle.pl_loader.specs.declared.fault.LoadFault.TheVariants.{NoPlace}
+
+-- the region in which libraries are placed
+abbrev pub region : Range
+region = record { start = REGION_START; end = REGION_END }
+
+-- the addresses of a PT_LOAD, as linked
+abbrev pub load_range : Segment → Range
+load_range s = record { start = s.vaddr; end = s.vaddr + s.memsz }
+
+-- the addresses that a program takes
+unfoldable pub taken : Object → List Range
+taken program = map load_range (loads program.segments)
+
+-- the addresses that a library wants
+abbrev pub wish_of : ObjectFile → Wish
+wish_of f = record { name = f.name; span = f.object.span; align = f.object.align }
+
+-- each wish in turn at the lowest aligned address of the first hole that holds it, beside those before it
+unfoldable pub lowest_places : List Range → List Wish → Result (List ℕ) LoadFault
+lowest_places holes [] = Ok []
+lowest_places holes (wish ∷ wishes) =
+    ok_or (lowest wish.span wish.align holes) (NoPlace wish.name)
+    >>= λ start. lowest_places (without (range_of wish start) holes) wishes >>= λ starts. Ok (start ∷ starts)
+
+-- the load address of each object: a program's is 0, which stands first, and libraries are placed beside it
+unfoldable pub places : List ObjectFile → Result (List ℕ) LoadFault
+places [] = Ok []
+places (program ∷ libraries) =
+    lowest_places (left region (taken program.object)) (map wish_of libraries) >>= λ starts. Ok (0 ∷ starts)
+
+-- ---- what places are
+
+-- an object ends at a place at or below the limit of addresses
+pub record IsAt (f : ObjectFile) (place : ℕ) : Type 0 where
+  pub place : place ≤ ADDRESS_LIMIT
+  pub ends : All (λ s. place + (s.vaddr + s.memsz) ≤ ADDRESS_LIMIT) (loads f.object.segments)

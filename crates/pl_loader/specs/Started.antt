@@ -1,0 +1,156 @@
+-- What a load starts from: the objects at their addresses, the modules of thread-local storage, the entry and the memory (System V gABI, chapter 5; Drepper, "ELF Handling for Thread-Local Storage").
+use Rattle.std.specs.Prelude.{◌≡◌, ℕ, ◌+◌, List, [], ◌∷◌, map, fold, min, max, Option, Some, None, Result, Ok, Err, slice_get, ◌==◌, if◌then◌else◌}
+use Rattle.std.specs.Option.{option_map, option_map_or}
+use Rattle.std.specs.List.{zip}
+use Rattle.pl_base.specs.Answers.{◌>>=◌, because}
+use Rattle.pl_base.specs.Memory.{Memory}
+use Rattle.pl_base.specs.Sums.{round_up, round_down}
+use Rattle.pl_elf.specs.Headers.{loads}
+use Rattle.pl_elf.specs.declared.constants.TheConstants.{ADDRESS_LIMIT}
+use Rattle.pl_elf.specs.declared.range.Range.{Range}
+use Rattle.pl_elf.specs.declared.segment.Segment.{Segment}
+use Rattle.pl_sym.specs.declared.symbol.Symbol.{Symbol}
+use Rattle.pl_tls.specs.Layout.{offsets}
+use Rattle.pl_tls.specs.declared.block.Block.{Block}
+use Rattle.pl_tls.specs.declared.module.Module.{Module}
+use Rattle.pl_object.specs.declared.constants.TheConstants.{PAGE}
+use Rattle.pl_image.specs.Image.{Image, byte_of, extents_of}
+use Rattle.pl_value.specs.Ordinary.{loaded, ordinary}
+use Rattle.pl_value.specs.declared.fault.LinkFault.{LinkFault}
+use Rattle.pl_value.specs.declared.fault.LinkFault.TheVariants as link
+use Rattle.pl_loader.specs.Faults.{of_tls}
+use Rattle.pl_loader.specs.Loading.{objects_of, parts_of}
+use Rattle.pl_loader.specs.Places.{places}
+use Rattle.pl_loader.specs.Walk.{files}
+use Rattle.pl_loader.specs.declared.object_file.ObjectFile.{ObjectFile}
+use Rattle.pl_loader.specs.declared.placed.Placed.{Placed}
+use Rattle.pl_loader.specs.declared.tls_module.TlsModule.{TlsModule}
+use Rattle.pl_loader.specs.declared.started.Started as code
+use Rattle.pl_loader.specs.declared.fault.LoadFault.{LoadFault}
+use Rattle.pl_loader.specs.declared.fault.LoadFault.TheVariants.{Undefined, UndefinedTls, TlsMismatch, CopyOutside}
+
+-- ---- the bounds of an object in memory, in whole pages
+
+-- the lowest address of PT_LOADs, as linked
+unfoldable pub lowest_address : List Segment → ℕ
+lowest_address ss = fold (λ least s. min least s.vaddr) ADDRESS_LIMIT ss
+
+-- their highest end, as linked
+unfoldable pub highest_end : List Segment → ℕ
+highest_end ss = fold (λ most s. max most (s.vaddr + s.memsz)) 0 ss
+
+-- where an object is loaded at a place, which is the address that its address 0 gets
+unfoldable pub placed : ObjectFile → ℕ → Placed
+placed f place = record {
+  name = f.name;
+  start = round_down (place + lowest_address (loads f.object.segments)) PAGE;
+  end = round_up (place + highest_end (loads f.object.segments)) PAGE;
+}
+
+abbrev pub placed_at : ObjectFile × ℕ → Placed
+placed_at at = placed at.0 at.1
+
+unfoldable pub all_placed : List ObjectFile → List ℕ → List Placed
+all_placed files places = map placed_at (zip files places)
+
+-- ---- modules
+
+-- the thread-local storage of each object, as far as it has any
+unfoldable pub blocks : List ObjectFile → List (Option Block)
+blocks files = map (λ f. f.object.tls) files
+
+abbrev pub name_in : Option ObjectFile → List ℕ
+name_in None = []
+name_in (Some f) = f.name
+
+-- the name of the object of an index
+unfoldable pub name_of : List ObjectFile → ℕ → List ℕ
+name_of files index = name_in (slice_get files index)
+
+unfoldable pub tls_module : List ObjectFile → Module → TlsModule
+tls_module files m = record { number = m.number; offset = m.offset; name = name_of files m.member }
+
+-- ---- the entry: the first object's, which is the program
+
+abbrev pub entry_of : List ObjectFile → ℕ
+entry_of [] = 0
+entry_of (program ∷ libraries) = program.object.entry
+
+-- ---- link refusals
+
+abbrev pub symbols_in : Option ObjectFile → List Symbol
+symbols_in None = []
+symbols_in (Some f) = f.object.symbols
+
+abbrev pub name_of_symbol : Option Symbol → Option (List ℕ)
+name_of_symbol None = None
+name_of_symbol (Some s) = Some s.name
+
+-- the name of a symbol of the object of an index; symbol 0 stands for none
+unfoldable pub symbol_name : List ObjectFile → ℕ → ℕ → Option (List ℕ)
+symbol_name files member symbol = if symbol == 0 then None else name_of_symbol (slice_get (symbols_in (slice_get files member)) symbol)
+
+abbrev pub of_link : List ObjectFile → LinkFault → LoadFault
+of_link files (link.Undefined member symbol) = Undefined (name_of files member) (symbol_name files member symbol)
+of_link files (link.UndefinedTls member symbol) = UndefinedTls (name_of files member) (symbol_name files member symbol)
+of_link files (link.TlsMismatch member symbol) = TlsMismatch (name_of files member) (symbol_name files member symbol)
+of_link files (link.CopyOutside member symbol) = CopyOutside (name_of files member) (symbol_name files member symbol)
+
+-- ---- the start
+
+-- what a load starts from; the extents are the addresses that each object loads
+pub record Start : Type 0 where
+  pub objects : List Placed
+  pub modules : List TlsModule
+  pub entry : ℕ
+  pub memory : Memory
+  pub extents : List (List Range)
+
+unfoldable pub start : List ObjectFile → List ℕ → List Module → Memory → Start
+start files places modules memory = record {
+  objects = all_placed files places;
+  modules = map (tls_module files) modules;
+  entry = entry_of files;
+  memory = memory;
+  extents = extents_of (loaded places (parts_of files) (objects_of files));
+}
+
+-- the memory of objects at places, or the first link refusal
+unfoldable pub linked : List ObjectFile → List ℕ → List Module → Result Memory LoadFault
+linked files places modules = because (of_link files) (ordinary (objects_of files) (parts_of files) places modules)
+
+-- what the files of a walk start from, or the first cause why they do not
+unfoldable pub started : List ObjectFile → Result Start LoadFault
+started files = do
+  modules ← because of_tls (offsets (blocks files))
+  at ← places files
+  memory ← linked files at modules
+  Ok (start files at modules memory)
+
+-- ---- the whole load
+
+-- what a name starts from, or the first cause why it does not
+unfoldable pub load : {E : Type 0} → (LoadFault → E) → (List ℕ → Result (List ℕ) E) → List ℕ → Result Start E
+load fault file name = files fault file name >>= λ all. because fault (started all)
+
+-- ---- what code holds
+
+-- an image: the same memory, byte by byte, of objects at these places
+pub record IsImage (image : Image) (files : List ObjectFile) (places : List ℕ) (memory : Memory) : Type 0 where
+  pub bytes : (address : ℕ) → byte_of image address ≡ memory address
+  pub objects : image.objects ≡ loaded places (parts_of files) (objects_of files)
+
+abbrev pub IsLinked : Image → List ObjectFile → List ℕ → Result Memory LoadFault → Type 0
+IsLinked image files places meant = (memory : Memory) × (meant ≡ Ok memory) × IsImage image files places memory
+
+-- a start as the code has it: the same memory, byte by byte
+pub record IsStart (s : code.Started) (meant : Start) : Type 0 where
+  pub objects : s.objects ≡ meant.objects
+  pub modules : s.modules ≡ meant.modules
+  pub entry : s.entry ≡ meant.entry
+  pub bytes : (address : ℕ) → byte_of s.image address ≡ meant.memory address
+  pub extents : extents_of s.image.objects ≡ meant.extents
+
+-- the start that a definition means
+abbrev pub Starts : code.Started → Result Start LoadFault → Type 0
+Starts s meant = (whole : Start) × (meant ≡ Ok whole) × IsStart s whole

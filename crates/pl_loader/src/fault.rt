@@ -1,0 +1,191 @@
+use pl_base::{Rows, Text};
+use pl_io::NoMemory;
+use pl_place::PlaceFault;
+use pl_scope::WalkFault;
+use pl_tls::TlsFault;
+use std::alloc::{AllocError, AllocFailed};
+use std::fmt;
+use thiserror::Error;
+
+/// Why a load has no start. Of several causes the first in the order of the walk counts; of one object's, and after the walk, the first in the order of these variants, but that the four link refusals count in the order of the relocations.
+#[derive(Drop, Error)]
+pub enum LoadFault {
+    /// There is no file of this name.
+    #[error("a file is not there")]
+    NotThere(Text),
+
+    /// An acceptance clause refuses a file.
+    #[error("a file is refused")]
+    Refused {
+        /// The file's name.
+        name: Text,
+
+        /// The number of the clause.
+        number: u32,
+
+        /// What of the file the clause refuses: a tag's number for clauses 10 and 11, a relocation's kind for clause 23, else 0.
+        argument: u64,
+    },
+
+    /// The file of the name that is loaded is a library.
+    #[error("a library cannot be started")]
+    NotProgram(Text),
+
+    /// An object after the first is no library, and this is its name; or an object after the first needs the first, which is a program of this name.
+    #[error("a program is needed by another object")]
+    NeededIsProgram(Text),
+
+    /// The walk has too many names, and this is the first that is too many.
+    #[error("the walk has too many members")]
+    TooMany(Text),
+
+    /// An offset of thread-local storage is too great.
+    #[error("thread-local storage is too large")]
+    TlsTooLarge,
+
+    /// No hole that is left holds the library of this name.
+    #[error("no place")]
+    NoPlace(Text),
+
+    /// A reference that is not weak has no definer.
+    #[error("a symbol is undefined")]
+    Undefined {
+        /// The name of the object's file.
+        object: Text,
+
+        /// The name of the symbol to which a relocation of the object refers; none for symbol 0.
+        symbol: Option<Rows<u8>>,
+    },
+
+    /// A reference to thread-local data has no definer.
+    #[error("a thread-local symbol is undefined")]
+    UndefinedTls {
+        /// The name of the object's file.
+        object: Text,
+
+        /// The name of the symbol to which a relocation of the object refers; none for symbol 0.
+        symbol: Option<Rows<u8>>,
+    },
+
+    /// A relocation for thread-local storage refers to what is none, or another relocation to what is.
+    #[error("a symbol is thread-local, or should be")]
+    TlsMismatch {
+        /// The name of the object's file.
+        object: Text,
+
+        /// The name of the symbol to which a relocation of the object refers; none for symbol 0.
+        symbol: Option<Rows<u8>>,
+    },
+
+    /// The bytes that a COPY asks for do not lie in the memory of one PT_LOAD.
+    #[error("a copy's source is not in memory")]
+    CopyOutside {
+        /// The name of the object's file.
+        object: Text,
+
+        /// The name of the symbol to which a relocation of the object refers; none for symbol 0.
+        symbol: Option<Rows<u8>>,
+    },
+
+    /// There was no memory for the answer.
+    #[error("out of memory")]
+    NoMemory,
+}
+
+impl fmt::Debug for LoadFault {
+    fn fmt<W: fmt::Write>(&self, f: &mut fmt::Formatter<W>) -> fmt::Result {
+        let (cause, name) = match self {
+            LoadFault::NotThere(name) => ("NotThere ", name.as_str()),
+            LoadFault::Refused { name, .. } => ("Refused ", name.as_str()),
+            LoadFault::NotProgram(name) => ("NotProgram ", name.as_str()),
+            LoadFault::NeededIsProgram(name) => ("NeededIsProgram ", name.as_str()),
+            LoadFault::TooMany(name) => ("TooMany ", name.as_str()),
+            LoadFault::TlsTooLarge => ("TlsTooLarge", ""),
+            LoadFault::NoPlace(name) => ("NoPlace ", name.as_str()),
+            LoadFault::Undefined { object, .. } => ("Undefined ", object.as_str()),
+            LoadFault::UndefinedTls { object, .. } => ("UndefinedTls ", object.as_str()),
+            LoadFault::TlsMismatch { object, .. } => ("TlsMismatch ", object.as_str()),
+            LoadFault::CopyOutside { object, .. } => ("CopyOutside ", object.as_str()),
+            LoadFault::NoMemory => ("NoMemory", ""),
+        };
+        f.write_str(cause)?;
+        f.write_str(name)
+    }
+}
+
+impl From<NoMemory> for LoadFault {
+    ghost use Rattle.std.specs.Prelude.{◌≡◌};
+    ghost use Rattle.pl_loader.specs.declared.fault.LoadFault.TheVariants as faults;
+
+    ghost from_gives = { λ _ fault. fault ≡ faults.NoMemory };
+
+    fn from(_: NoMemory) -> LoadFault {
+        LoadFault::NoMemory
+    }
+}
+
+impl From<AllocError> for LoadFault {
+    ghost use Rattle.std.specs.Prelude.{◌≡◌};
+    ghost use Rattle.pl_loader.specs.declared.fault.LoadFault.TheVariants as faults;
+
+    ghost from_gives = { λ _ fault. fault ≡ faults.NoMemory };
+
+    fn from(_: AllocError) -> LoadFault {
+        LoadFault::NoMemory
+    }
+}
+
+impl<T: Drop> From<AllocFailed<T>> for LoadFault {
+    ghost use Rattle.std.specs.Prelude.{◌≡◌};
+    ghost use Rattle.pl_loader.specs.declared.fault.LoadFault.TheVariants as faults;
+
+    ghost from_gives = { λ _ fault. fault ≡ faults.NoMemory };
+
+    fn from(_: AllocFailed<T>) -> LoadFault {
+        LoadFault::NoMemory
+    }
+}
+
+impl From<WalkFault> for LoadFault {
+    ghost use Rattle.std.specs.Prelude.{◌≡◌};
+    ghost use Rattle.pl_loader.specs.Faults.{of_walk};
+
+    ghost from_gives = { λ fault load. load ≡ of_walk fault };
+
+    fn from(fault: WalkFault) -> LoadFault {
+        match fault {
+            WalkFault::NeededIsProgram(name) => LoadFault::NeededIsProgram(name),
+            WalkFault::TooMany(name) => LoadFault::TooMany(name),
+            WalkFault::NotThere(name) => LoadFault::NotThere(name),
+            WalkFault::NoMemory => LoadFault::NoMemory,
+        }
+    }
+}
+
+impl From<TlsFault> for LoadFault {
+    ghost use Rattle.std.specs.Prelude.{◌≡◌};
+    ghost use Rattle.pl_loader.specs.Faults.{of_tls};
+
+    ghost from_gives = { λ fault load. load ≡ of_tls fault };
+
+    fn from(fault: TlsFault) -> LoadFault {
+        match fault {
+            TlsFault::TooLarge => LoadFault::TlsTooLarge,
+            TlsFault::NoMemory => LoadFault::NoMemory,
+        }
+    }
+}
+
+impl From<PlaceFault> for LoadFault {
+    ghost use Rattle.std.specs.Prelude.{◌≡◌};
+    ghost use Rattle.pl_loader.specs.Faults.{of_place};
+
+    ghost from_gives = { λ fault load. load ≡ of_place fault };
+
+    fn from(fault: PlaceFault) -> LoadFault {
+        match fault {
+            PlaceFault::NoPlace { name } => LoadFault::NoPlace(name),
+            PlaceFault::NoMemory => LoadFault::NoMemory,
+        }
+    }
+}

@@ -1,0 +1,16 @@
+//! The loader: asks for one file of a program's walk after the other, places the objects, and gives the image from which the program starts, or the first cause why there is none (System V gABI, chapter 5).
+#![tactic(auto)]
+
+pub mod constants;
+mod fault;
+mod loader;
+mod object_file;
+mod placed;
+mod tls_module;
+
+pub use constants::{REGION_END, REGION_START};
+pub use fault::LoadFault;
+pub use loader::Loader;
+pub use object_file::ObjectFile;
+pub use placed::Placed;
+pub use tls_module::TlsModule;

@@ -1,0 +1,19 @@
+use crate::{Placed, TlsModule};
+use pl_base::Rows;
+use pl_image::Image;
+
+/// What a program starts from.
+#[derive(Drop)]
+pub struct Started<'a> {
+    /// The objects in memory, in scope order.
+    pub objects: Rows<Placed>,
+
+    /// The objects with thread-local storage, in scope order.
+    pub modules: Rows<TlsModule>,
+
+    /// The address at which the program begins.
+    pub entry: u64,
+
+    /// What is in memory at the start.
+    pub image: Image<'a>,
+}

@@ -1,0 +1,6 @@
+pub mod Kinds
+pub mod Walking
+pub mod Walk
+pub mod Matching
+pub mod Scope
+pub mod Finds

@@ -1,0 +1,26 @@
+//! Scopes: the walk over needed libraries, and the look-up of symbols (System V gABI, chapter 5, "Shared Object Dependencies"; GNU symbol versioning).
+#![tactic(auto)]
+
+pub mod constants;
+mod fault;
+mod found;
+mod kinds;
+mod lookup;
+mod matching;
+mod member;
+mod order;
+mod reference;
+mod scope;
+#[cfg(test)]
+mod tests;
+mod walks;
+
+pub use constants::MAX_MEMBERS;
+pub use fault::WalkFault;
+pub use found::Found;
+pub use lookup::find;
+pub use member::Member;
+pub use order::Order;
+pub use reference::Reference;
+pub use scope::Scope;
+pub use walks::walk;

@@ -1,0 +1,54 @@
+-- What holds of the meanings of an accepted scope at disjoint places.
+use Rattle.std.specs.Prelude.{◌≡◌, ◌≤◌, ℕ, Bool, true, false, not, List, length, Option, Some, None, Ok, slice_get}
+use Rattle.std.specs.List.{All, AllZip}
+use Rattle.pl_base.specs.Memory.{AtMostOne}
+use Rattle.pl_tls.specs.declared.module.Module.{Module}
+use Rattle.pl_object.specs.Accepted.{Accepted, is_program}
+use Rattle.pl_object.specs.Reads.{reads}
+use Rattle.pl_object.specs.declared.object.Object.{Object}
+use Rattle.pl_value.specs.Meanings.{meanings}
+use Rattle.pl_value.specs.Linked.{under}
+use Rattle.pl_value.specs.Ordinary.{ArePlaced}
+use Rattle.pl_value.specs.declared.meaning.Meaning.{Meaning}
+use Rattle.pl_value.specs.declared.word.Word.{Word}
+use Rattle.pl_value.specs.declared.word.Word.TheVariants.{Put, Copy, Nothing}
+
+-- ---- accepted scopes
+
+-- an object that acceptance reads of a file, with what is known of it
+pub record IsAccepted (bytes : List ℕ) (o : Object) : Type 0 where
+  pub read : reads bytes ≡ Ok o
+  pub facts : Accepted bytes o
+
+abbrev pub AreAccepted : List (List ℕ) → List Object → Type 0
+AreAccepted parts objects = AllZip IsAccepted parts objects
+
+-- ---- every word fits its place
+
+-- a word has the place's eight bytes; what is copied fits the place, and is copied in a program alone; in a library nothing but a place of no bytes stays as it is
+abbrev pub Fits : Bool → ℕ → Word → Type 0
+Fits library size (Put word) = size ≡ 8
+Fits library size (Copy member from bytes) = (library ≡ false) × (bytes ≤ size)
+Fits library size Nothing = library ≡ true → size ≡ 0
+
+abbrev pub is_library : Option Object → Bool
+is_library None = false
+is_library (Some o) = not (is_program o)
+
+abbrev pub is_library_at : List Object → ℕ → Bool
+is_library_at objects member = is_library (slice_get objects member)
+
+-- every meaning fits, where these members are libraries
+abbrev pub AllFit : (ℕ → Bool) → List Meaning → Type 0
+AllFit library gs = All (λ g. Fits (library g.member) g.size g.word) gs
+
+-- ---- the laws
+
+abbrev pub WordsFit : Type 0
+WordsFit = (parts : List (List ℕ)) (objects : List Object) (places : List ℕ) (modules : List Module) (gs : List Meaning)
+    → AreAccepted parts objects → meanings objects places modules ≡ Ok gs → AllFit (is_library_at objects) gs
+
+-- at most one place is over an address
+abbrev pub PlacesAreApart : Type 0
+PlacesAreApart = (parts : List (List ℕ)) (objects : List Object) (places : List ℕ) (modules : List Module) (gs : List Meaning)
+    → AreAccepted parts objects → ArePlaced places parts objects → meanings objects places modules ≡ Ok gs → AtMostOne under gs

@@ -1,0 +1,88 @@
+// What a COPY gives.
+ghost use Rattle.std.specs.Prelude.{◌≡◌, ◌<◌, length, slice_get};
+ghost use Rattle.pl_scope.specs.Scope.{objects, IsSymbol};
+ghost use Rattle.pl_value.specs.Definers.{seen};
+ghost use Rattle.pl_value.specs.Linkable.{IsLinkable};
+ghost use Rattle.pl_value.specs.Copies as spec;
+
+use crate::definer::{Definer, find_definer, is_weak};
+use crate::targets::address;
+use crate::{LinkFault, Places, Word};
+use pl_base::end;
+use pl_elf::Segment;
+use pl_scope::{Reference, Scope};
+
+#[tactic(auto, unfolding(crate::specs::Copies::is_in_load))]
+fn is_in_load(from: u64, size: u64, segment: &Segment) -> bool
+    ensures { result ≡ spec.is_in_load from size segment.now }
+{
+    segment.is_load()
+        && segment.vaddr <= from
+        && end(from, size) <= end(segment.vaddr, segment.memsz)
+}
+
+/// Whether bytes do not lie in the memory of one PT_LOAD. No bytes are outside nowhere.
+#[tactic(auto, unfolding(crate::specs::Copies::is_outside))]
+fn is_outside(segments: &[Segment], from: u64, size: u64) -> bool
+    ensures { result ≡ spec.is_outside segments.now from size }
+{
+    size != 0
+        && !segments
+            .iter()
+            .any(|segment| is_in_load(from, size, segment))
+}
+
+/// So many bytes of a definer, from its value on.
+#[tactic(auto, unfolding(crate::specs::Copies::copied))]
+fn copied(
+    places: &Places,
+    reference: Reference,
+    size: u64,
+    definer: &Definer<'_>,
+) -> Result<Word, LinkFault>
+    requires { definer.now.member < length places.now.rows }
+    ensures { result ≡ spec.copied places.now.rows reference size (seen definer.now) }
+{
+    let symbol = definer.symbol;
+    if symbol.is_tls() {
+        return Err(LinkFault::tls_mismatch(reference));
+    }
+    let segments = definer.object.segments.as_slice();
+    if symbol.is_absolute() || is_outside(segments, symbol.value, size) {
+        return Err(LinkFault::copy_outside(reference));
+    }
+    Ok(Word::Copy {
+        member: definer.member,
+        from: address(places, definer),
+        bytes: size,
+    })
+}
+
+/// The size of a reference's own symbol.
+fn size_of(scope: &Scope<'_>, reference: Reference) -> u64
+    requires { IsSymbol scope.now.members.items reference.member reference.symbol }
+    ensures { result ≡ spec.size_in (slice_get (objects scope.now.members.items) reference.member) reference.symbol }
+{
+    let object = scope.members[reference.member as usize].object;
+    object.symbols.as_slice()[reference.symbol as usize].size
+}
+
+/// What a COPY gives: the lesser of the two symbols' sizes is copied. Nothing for symbol 0, and for a weak symbol without definer.
+#[tactic(auto, unfolding(crate::specs::Copies::copy))]
+pub fn copy(scope: &Scope<'_>, places: &Places, reference: Reference) -> Result<Word, LinkFault>
+    requires linkable { IsLinkable scope.now.members.items places.now.rows }
+    requires reference { IsSymbol scope.now.members.items reference.member reference.symbol }
+    ensures { result ≡ spec.copy (objects scope.now.members.items) places.now.rows reference }
+{
+    if reference.symbol == 0 {
+        return Ok(Word::Nothing);
+    }
+    let Some(definer) = find_definer(scope, reference) else {
+        if !is_weak(scope, reference) {
+            return Err(LinkFault::undefined(reference));
+        }
+        return Ok(Word::Nothing);
+    };
+    let size = size_of(scope, reference).min(definer.symbol.size);
+    copied(places, reference, size, &definer)
+}

@@ -1,0 +1,49 @@
+// The symbol that a reference finds, with its object.
+ghost use Rattle.std.specs.Prelude.{◌≡◌, ◌<◌, length, IfSome};
+ghost use Rattle.std.specs.Option.{option_map};
+ghost use Rattle.pl_scope.specs.Scope.{objects, IsScope, IsSymbol};
+ghost use Rattle.pl_value.specs.Definers as spec;
+
+use pl_object::Object;
+use pl_scope::{Reference, Scope, find};
+use pl_sym::Symbol;
+use pl_sym::constants::STB_WEAK;
+
+/// A symbol that a reference found.
+#[derive(Clone, Copy)]
+pub struct Definer<'a> {
+    /// The index of its object among the members of the scope.
+    pub member: u32,
+    pub object: &'a Object,
+    pub symbol: &'a Symbol,
+}
+
+/// The definer that a reference finds. None exactly where there is none.
+#[tactic(auto, unfolding(crate::specs::Definers::definer))]
+pub fn find_definer<'a>(scope: &Scope<'a>, reference: Reference) -> Option<Definer<'a>>
+    requires scope { IsScope scope.now.members.items }
+    requires reference { IsSymbol scope.now.members.items reference.member reference.symbol }
+    ensures exact { option_map spec.seen result ≡ spec.definer (objects scope.now.members.items) reference }
+    ensures within { IfSome result (λ d. d.member < length scope.now.members.items) }
+{
+    let Some(found) = find(scope, reference) else {
+        return None;
+    };
+    let object = scope.members[found.member as usize].object;
+    let symbol = &object.symbols.as_slice()[found.symbol as usize];
+    Some(Definer {
+        member: found.member,
+        object,
+        symbol,
+    })
+}
+
+/// Whether a reference's own symbol is weak, so that it may stay without a definer.
+#[tactic(auto, unfolding(crate::specs::Definers::is_weak))]
+pub fn is_weak(scope: &Scope<'_>, reference: Reference) -> bool
+    requires { IsSymbol scope.now.members.items reference.member reference.symbol }
+    ensures { result ≡ spec.is_weak (objects scope.now.members.items) reference }
+{
+    let object = scope.members[reference.member as usize].object;
+    object.symbols.as_slice()[reference.symbol as usize].bind == STB_WEAK
+}

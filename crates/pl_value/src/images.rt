@@ -1,0 +1,126 @@
+// The ordinary image of a scope.
+ghost use Rattle.std.specs.Prelude.{◌≡◌, ◌<◌, length, IfOk};
+ghost use Rattle.pl_base.specs.Memory.{layered, filled};
+ghost use Rattle.pl_image.specs.Image.{all_pieces, AreLoaded};
+ghost use Rattle.pl_scope.specs.Scope.{objects};
+ghost use Rattle.pl_value.specs.Linkable.{IsLinkable};
+ghost use Rattle.pl_value.specs.Linked as linked;
+ghost use Rattle.pl_value.specs.Ordinary as spec;
+
+use crate::collecting::meanings;
+use crate::reading::read;
+use crate::targets::base_of;
+use crate::{Meaning, OrdinaryFault, Places, Word};
+use pl_image::{Image, Loaded, Parts, Patch, load_object};
+use pl_scope::Scope;
+use pl_tls::Module;
+use std::alloc::{AllocError, Global};
+
+/// The objects of a scope as loaded at their places.
+fn load<'a>(
+    alloc: Global,
+    scope: &Scope<'a>,
+    parts: &Parts<'a>,
+    places: &Places,
+) -> Result<Vec<Loaded<'a>>, AllocError>
+    requires places { length places.now.rows ≡ length scope.now.members.items }
+    requires parts { length parts.now ≡ length scope.now.members.items }
+    requires placed { spec.ArePlaced places.now.rows parts.now (objects scope.now.members.items) }
+    ensures value { IfOk result (λ v. v.items ≡ spec.loaded places.now.rows parts.now (objects scope.now.members.items)) }
+    ensures loaded { IfOk result (λ v. AreLoaded v.items) }
+{
+    let files = parts.as_slice();
+    let mut loaded = Vec::new(alloc);
+    for index in 0..scope.members.len() {
+        let object = scope.members[index].object;
+        let place = base_of(places, index as u32);
+        loaded.push(load_object(alloc, object, files[index], place)?)?;
+    }
+    Ok(loaded)
+}
+
+/// A word for its place, where there is one.
+fn word_of(alloc: Global, meaning: &Meaning) -> Result<Option<Patch>, AllocError>
+    ensures { IfOk result (λ patch. patch ≡ linked.put_of meaning.now.start meaning.now.word) }
+{
+    match meaning.word {
+        Word::Put(word) => Ok(Some(Patch {
+            address: meaning.start,
+            bytes: word.to_le_bytes().to_vec(alloc)?,
+        })),
+        _ => Ok(None),
+    }
+}
+
+/// The words for their places, in the order of the relocations.
+fn words(alloc: Global, meanings: &[Meaning]) -> Result<Vec<Patch>, AllocError>
+    ensures { IfOk result (λ v. v.items ≡ linked.words meanings.now) }
+{
+    let mut patches = Vec::new(alloc);
+    for meaning in meanings {
+        if let Some(patch) = word_of(alloc, meaning)? {
+            patches.push(patch)?;
+        }
+    }
+    Ok(patches)
+}
+
+/// The bytes for the place of a copy, where there are any, as they stand after the words.
+fn copy_of(
+    alloc: Global,
+    loaded: &[Loaded<'_>],
+    words: &[Patch],
+    meaning: &Meaning,
+) -> Result<Option<Patch>, AllocError>
+    ensures { IfOk result (λ patch. patch ≡ linked.copy_of (filled (layered (all_pieces loaded.now)) words.now) meaning.now.start meaning.now.word) }
+{
+    match meaning.word {
+        Word::Copy { from, bytes, .. } => Ok(Some(Patch {
+            address: meaning.start,
+            bytes: read(alloc, loaded, words, from, bytes)?,
+        })),
+        _ => Ok(None),
+    }
+}
+
+/// The bytes for the places of copies, in the order of the relocations. None reads what another copy writes.
+fn copies(
+    alloc: Global,
+    loaded: &[Loaded<'_>],
+    words: &[Patch],
+    meanings: &[Meaning],
+) -> Result<Vec<Patch>, AllocError>
+    ensures { IfOk result (λ v. v.items ≡ linked.copies (filled (layered (all_pieces loaded.now)) words.now) meanings.now) }
+{
+    let mut patches = Vec::new(alloc);
+    for meaning in meanings {
+        if let Some(patch) = copy_of(alloc, loaded, words, meaning)? {
+            patches.push(patch)?;
+        }
+    }
+    Ok(patches)
+}
+
+/// The image from which a program starts: its objects at their places, then each relocation's word, then each copy from the bytes as they stand after all words; a byte of a link table is shown as 0 (System V gABI chapter 5, "Program Loading"; x86-64 psABI, "Relocation"). `parts` are the files of the members. Else the first link refusal in scope order, in an object those of DT_RELA before those of DT_JMPREL, or NoMemory.
+///
+/// The conditions are those of `value` for every relocation, one part a member, and that the PT_LOADs have no address in common at the places and end there within the limit of addresses. For each copy all words are gone through once.
+pub fn ordinary<'a>(
+    alloc: Global,
+    scope: &Scope<'a>,
+    parts: &Parts<'a>,
+    places: &Places,
+    tls: &[Module],
+) -> Result<Image<'a>, OrdinaryFault>
+    requires linkable { IsLinkable scope.now.members.items places.now.rows }
+    requires parts { length parts.now ≡ length scope.now.members.items }
+    requires placed { spec.ArePlaced places.now.rows parts.now (objects scope.now.members.items) }
+    ensures exact { spec.IsOrdinary result (spec.ordinary (objects scope.now.members.items) parts.now places.now.rows tls.now) }
+    ensures objects { IfOk result (λ image. image.objects ≡ spec.loaded places.now.rows parts.now (objects scope.now.members.items)) }
+{
+    let meanings = meanings(alloc, scope, places, tls)?;
+    let loaded = load(alloc, scope, parts, places)?;
+    let mut patches = words(alloc, meanings.as_slice())?;
+    let mut copies = copies(alloc, &loaded, &patches, meanings.as_slice())?;
+    patches.append(&mut copies)?;
+    Ok(Image::new(alloc, loaded, patches)?)
+}

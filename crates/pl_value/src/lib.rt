@@ -1,0 +1,21 @@
+//! What relocations give, and the memory from which a program starts (x86-64 psABI, "Relocation"; Drepper, "ELF Handling for Thread-Local Storage").
+#![tactic(auto)]
+
+mod collecting;
+mod copies;
+mod definer;
+mod fault;
+mod meaning;
+mod places;
+mod targets;
+mod tls;
+mod tls_index;
+mod values;
+mod word;
+
+pub use collecting::meanings;
+pub use fault::{LinkFault, OrdinaryFault};
+pub use meaning::Meaning;
+pub use places::Places;
+pub use values::value;
+pub use word::Word;
