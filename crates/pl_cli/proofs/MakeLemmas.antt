@@ -112,7 +112,7 @@ stopped_in_folder files_told input_told meant disk source folder_faults.TooLarge
 stopped_in_folder files_told input_told meant disk source folder_faults.NoMemory h = tt
 
 -- a count that rose after an earlier moment rose since that
-since : (first mid last : ℕ) → first ≤ mid → Rose mid last → Rose first last
+pub since : (first mid last : ℕ) → first ≤ mid → Rose mid last → Rose first last
 since first mid last le rose = grind arith
 
 -- the folder failed after other calls

@@ -1,5 +1,5 @@
 -- What an outcome says of its status, and what is left where no file changes.
-use Rattle.std.proofs.Common.{◌≡◌, List, ℕ, Bool, true, Option, refl, sym, subst, ◌∙◌, inl}
+use Rattle.std.proofs.Common.{◌≡◌, List, ℕ, Bool, true, Option, refl, sym, ap, subst, ◌∙◌, inl}
 use Rattle.std.specs.Prelude.{Result, Ok, Err}
 use Rattle.pl_base.specs.Files.{Files}
 use Rattle.pl_base.specs.Streams.{got_after, GotPrefix}
@@ -7,9 +7,9 @@ use Rattle.pl_base.proofs.StreamLaws.{GotPrefix-all, GotPrefix-none}
 use Rattle.pl_cli.specs.declared.status.Status.{Status}
 use Rattle.pl_cli.specs.declared.status.Status.TheVariants as statuses
 use Rattle.pl_cli.specs.declared.cause.Cause.{Cause}
-use Rattle.pl_cli.specs.Static.{Program}
+use Rattle.pl_loader.specs.Started.{Start}
 use Rattle.pl_cli.specs.Answer.{Answer, is_answer, load_answer}
-use Rattle.pl_cli.specs.Outcome.{IsOutcome, LeavesFiles}
+use Rattle.pl_cli.specs.Outcome.{IsOutcome, IsWhole, IsPart, LeavesFiles}
 use Rattle.pl_cli.specs.ValidFiles.{SameFiles}
 use Rattle.pl_cli.proofs.FilesLemmas.{same_files}
 
@@ -49,9 +49,27 @@ module _ (input : Bool) (before next after : Files) (none : next ≡ before) (sa
   unchanged statuses.Usage = λ _. as_next
   unchanged statuses.Refused = λ _. as_next
 
-load_next : (name : List ℕ) (files : Files) (r : Result Program Cause) → (load_answer name files r).next ≡ files
-load_next name files (Ok program) = refl
-load_next name files (Err cause) = refl
+load_next : (files : Files) (r : Result Start Cause) → (load_answer files r).next ≡ files
+load_next files (Ok start) = refl
+load_next files (Err cause) = refl
 
-pub load_unchanged : (input : Bool) (name : List ℕ) (before after : Files) (r : Result Program Cause) (status : Status) → after ≡ before → LeavesFiles input before (load_answer name before r).next after status
-load_unchanged input name before after r status same = unchanged input before (load_answer name before r).next after (load_next name before r) same status
+pub load_unchanged : (input : Bool) (before after : Files) (r : Result Start Cause) (status : Status) → after ≡ before → LeavesFiles input before (load_answer before r).next after status
+load_unchanged input before after r status same = unchanged input before (load_answer before r).next after (load_next before r) same status
+
+-- an outcome over files that were told is that of an answer which is the same where they are told
+module _ (told : Bool) (a b : Answer) (disk sink : Type 0) (old new : Option (List ℕ)) (same : told ≡ true → b ≡ a) where
+  whole_told : (r : Status) → (a.status ≡ r) × (new ≡ got_after old a.text) → IsWhole told true b old new r
+  whole_told r h = λ tells _. (ap (λ (c : Answer). c.status) (same tells) ∙ h.0, h.1 ∙ ap (λ (c : Answer). got_after old c.text) (sym (same tells)))
+
+  part_told : GotPrefix old new a.text → IsPart told true b old new
+  part_told h = λ tells _. subst (λ (c : Answer). GotPrefix old new c.text) (sym (same tells)) h
+
+  pub outcome_told : (r : Status) → IsOutcome true true a ⊥ sink old new r → IsOutcome told true b disk sink old new r
+  outcome_told statuses.Done h = whole_told statuses.Done (h refl refl)
+  outcome_told statuses.Differs h = whole_told statuses.Differs (h refl refl)
+  outcome_told statuses.Usage h = whole_told statuses.Usage (h refl refl)
+  outcome_told statuses.Refused h = whole_told statuses.Refused (h refl refl)
+  outcome_told statuses.ReadFault h = h
+  outcome_told statuses.WriteFault h = (h.0, part_told (h.1 refl refl))
+  outcome_told statuses.DiskFault h = absurd h.0
+  outcome_told statuses.NoMemory h = part_told (h refl refl)

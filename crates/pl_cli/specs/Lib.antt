@@ -1,11 +1,9 @@
-pub mod Image
-pub mod Lines
-pub mod Static
-pub mod Cleared
 pub mod Statuses
 pub mod Words
 pub mod ValidFiles
 pub mod Load
+pub mod LoadText
 pub mod Make
+pub mod Refusals
 pub mod Answer
 pub mod Outcome

@@ -1,40 +1,46 @@
--- A static program of a folder's files by its name, or the first cause why there is none.
-use Rattle.std.specs.Prelude.{ℕ, Bool, ◌||◌, not, List, length, nat_lt, Option, Some, None, is_some, Result, Ok, Err}
+-- What a program of a folder's files starts from, or the first cause why it does not.
+use Rattle.std.specs.Prelude.{ℕ, not, List, length, nat_lt, Option, Some, None, Result, Ok, Err, if◌then◌else◌}
 use Rattle.std.specs.FinMap.{get}
-use Rattle.pl_base.specs.Answers.{◌>>=◌, unless, because}
+use Rattle.pl_base.specs.Answers.{unless}
 use Rattle.pl_base.specs.Files.{Files}
 use Rattle.pl_base.specs.Names.{is_valid_name}
 use Rattle.pl_folder.specs.declared.TheConstants.{STORED}
-use Rattle.pl_elf.specs.declared.constants.TheConstants.{PT_DYNAMIC, PT_TLS}
-use Rattle.pl_elf.specs.Headers.{segment_of_kind}
-use Rattle.pl_object.specs.Reads.{reads}
-use Rattle.pl_object.specs.declared.object.Object.{Object}
-use Rattle.pl_object.specs.declared.refusal.Refusal.{Refusal}
-use Rattle.pl_object.specs.declared.refusal.Refusal.TheVariants.{Clause, NoMemory}
+use Rattle.pl_loader.specs.Started.{Start, load}
+use Rattle.pl_loader.specs.declared.fault.LoadFault.{LoadFault}
+use Rattle.pl_loader.specs.declared.fault.LoadFault.TheVariants as faults
 use Rattle.pl_cli.specs.declared.cause.Cause.{Cause}
-use Rattle.pl_cli.specs.declared.cause.Cause.TheVariants.{BadName, NotThere, FileTooLarge, Refused, NotYet}
-use Rattle.pl_cli.specs.Static.{Program, program_of}
+use Rattle.pl_cli.specs.declared.cause.Cause.TheVariants.{BadName, NotThere, FileTooLarge, Refused, NotProgram, NeededIsProgram, TooMany, TlsTooLarge, NoPlace, Undefined, UndefinedTls, TlsMismatch, CopyOutside}
 
--- an object that is linked when it starts, or has thread-local storage
-unfoldable pub is_for_later : Object → Bool
-is_for_later o = is_some (segment_of_kind PT_DYNAMIC o.segments) || is_some (segment_of_kind PT_TLS o.segments)
+-- ---- files
 
-unfoldable pub static_program : List ℕ → Object → Result Program Cause
-static_program bytes o = unless (is_for_later o) NotYet (Ok (program_of bytes o))
+-- the file under a valid name. No other name has one
+abbrev pub valid_file : Files → List ℕ → Option (List ℕ)
+valid_file files name = if is_valid_name name then get files name else None
 
--- a refusal as a cause. No file means a want of memory, so what stands for it never comes.
-abbrev pub cause_of : Refusal → Cause
-cause_of (Clause number argument) = Refused number argument
-cause_of NoMemory = NotYet
+-- a file that was looked up: it is to be there, and no longer than a folder gives
+abbrev pub of_file : List ℕ → Option (List ℕ) → Result (List ℕ) Cause
+of_file name None = Err (NotThere name)
+of_file name (Some bytes) = unless (nat_lt STORED (length bytes)) (FileTooLarge name) (Ok bytes)
 
--- a file of a length that a folder gives: the object that it is, or the first acceptance clause that refuses it
-unfoldable pub program_in : List ℕ → Result Program Cause
-program_in bytes = because cause_of (reads bytes) >>= static_program bytes
+unfoldable pub file_in : Files → List ℕ → Result (List ℕ) Cause
+file_in files name = of_file name (valid_file files name)
 
--- a file that was looked up by its name
-abbrev pub in_file : Option (List ℕ) → Result Program Cause
-in_file None = Err NotThere
-in_file (Some bytes) = unless (nat_lt STORED (length bytes)) FileTooLarge (program_in bytes)
+-- ---- the load
 
-unfoldable pub loaded : Files → List ℕ → Result Program Cause
-loaded files name = unless (not (is_valid_name name)) BadName (in_file (get files name))
+-- a fault of the load as a cause. No load means a want of memory, so what stands for it never comes.
+abbrev pub cause_of : LoadFault → Cause
+cause_of (faults.NotThere name) = NotThere name
+cause_of (faults.Refused name number argument) = Refused name number argument
+cause_of (faults.NotProgram name) = NotProgram name
+cause_of (faults.NeededIsProgram name) = NeededIsProgram name
+cause_of (faults.TooMany name) = TooMany name
+cause_of faults.TlsTooLarge = TlsTooLarge
+cause_of (faults.NoPlace name) = NoPlace name
+cause_of (faults.Undefined object symbol) = Undefined object symbol
+cause_of (faults.UndefinedTls object symbol) = UndefinedTls object symbol
+cause_of (faults.TlsMismatch object symbol) = TlsMismatch object symbol
+cause_of (faults.CopyOutside object symbol) = CopyOutside object symbol
+cause_of faults.NoMemory = BadName
+
+unfoldable pub loaded : Files → List ℕ → Result Start Cause
+loaded files name = unless (not (is_valid_name name)) BadName (load cause_of (file_in files) name)

@@ -8,14 +8,14 @@ use Rattle.pl_build.specs.Build.{build}
 use Rattle.pl_build.specs.declared.fault.RecipeFault.{RecipeFault}
 use Rattle.pl_build.specs.declared.fault.RecipeFault.TheVariants.{Bad, NoMemory}
 use Rattle.pl_cli.specs.declared.cause.Cause.{Cause}
-use Rattle.pl_cli.specs.declared.cause.Cause.TheVariants.{BadName, NotYet, InputTooLarge, Recipe, TooManyFiles}
+use Rattle.pl_cli.specs.declared.cause.Cause.TheVariants.{BadName, InputTooLarge, Recipe, TooManyFiles}
 use Rattle.pl_cli.specs.declared.make.TheConstants.{RECIPE}
 use Rattle.pl_cli.specs.ValidFiles.{is_full}
 
 -- a fault of a recipe as a cause. No recipe means a want of memory, so what stands for it never comes.
 abbrev pub recipe_cause : RecipeFault → Cause
 recipe_cause (Bad number kind) = Recipe number kind
-recipe_cause NoMemory = NotYet
+recipe_cause NoMemory = BadName
 
 -- the file of the recipe in an input, or why there is none
 unfoldable pub built : List ℕ → Result (List ℕ) Cause

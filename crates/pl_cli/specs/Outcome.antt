@@ -1,25 +1,23 @@
 -- What came of a command and of a run, by cases.
-use Rattle.std.specs.Prelude.{◌≡◌, ◌≢◌, ◌⊎◌, ℕ, Bool, true, List, Result, Ok, Err, Option, Some, None, ⊤}
+use Rattle.std.specs.Prelude.{◌≡◌, ◌≢◌, ◌⊎◌, ℕ, Bool, true, List, Result, Err, Option, Some, None, ⊤, if◌then◌else◌}
 use Rattle.pl_base.specs.Files.{Files}
 use Rattle.pl_base.specs.Streams.{got_after, GotPrefix}
 use Rattle.pl_io.specs.declared.read_fault.ReadFault.{ReadFault}
 use Rattle.pl_io.specs.declared.read_fault.ReadFault.TheVariants as read_faults
 use Rattle.pl_folder.specs.declared.fault.FolderFault.{FolderFault}
 use Rattle.pl_folder.specs.declared.fault.FolderFault.TheVariants as folder_faults
-use Rattle.pl_object.specs.declared.refusal.Refusal.{Refusal}
-use Rattle.pl_object.specs.declared.refusal.Refusal.TheVariants as refusals
+use Rattle.pl_loader.specs.Faults.{is_memory}
+use Rattle.pl_loader.specs.declared.fault.LoadFault.{LoadFault}
 use Rattle.pl_build.specs.declared.fault.RecipeFault.{RecipeFault}
 use Rattle.pl_build.specs.declared.fault.RecipeFault.TheVariants as recipe_faults
 use Rattle.pl_cli.specs.declared.status.Status.{Status}
 use Rattle.pl_cli.specs.declared.status.Status.TheVariants as statuses
 use Rattle.pl_cli.specs.declared.cause.Cause.{Cause}
-use Rattle.pl_cli.specs.declared.cause.Cause.TheVariants.{NotThere, FileTooLarge, Refused, InputTooLarge, Recipe}
+use Rattle.pl_cli.specs.declared.cause.Cause.TheVariants.{NotThere, FileTooLarge, InputTooLarge, Recipe}
 use Rattle.pl_cli.specs.declared.stop.Stop.{Stop}
 use Rattle.pl_cli.specs.declared.stop.Stop.TheVariants as stops
-use Rattle.pl_cli.specs.declared.program.Program as program
-use Rattle.pl_cli.specs.Image.{program}
-use Rattle.pl_cli.specs.Static.{Program}
 use Rattle.pl_cli.specs.ValidFiles.{SameFiles}
+use Rattle.pl_cli.specs.Load.{cause_of}
 use Rattle.pl_cli.specs.Answer.{Answer, usage}
 use Rattle.pl_cli.specs.Words.{Command}
 
@@ -30,22 +28,23 @@ Stops files input meant disk source stops.Failed = disk
 Stops files input meant disk source stops.InputFailed = source
 Stops files input meant disk source stops.NoMemory = ⊤
 
--- the program or the cause of a definition, or a want of memory
-abbrev pub Means : Result program.Program Stop → Result Program Cause → Type 0
-Means (Ok loaded) meant = meant ≡ Ok (program loaded)
-Means (Err stop) meant = Stops true true meant ⊥ ⊥ stop
-
--- what a fault of the folder stops
+-- what a fault of the folder stops in a call that is given no file to take: it fails, or lacks memory
 abbrev pub of_fault : FolderFault → Stop
 of_fault folder_faults.Failed = stops.Failed
-of_fault folder_faults.NotThere = stops.Cause NotThere
-of_fault folder_faults.TooLarge = stops.Cause FileTooLarge
+of_fault folder_faults.NotThere = stops.Failed
+of_fault folder_faults.TooLarge = stops.Failed
 of_fault folder_faults.NoMemory = stops.NoMemory
 
--- what a refusal of the file stops
-abbrev pub of_refusal : Refusal → Stop
-of_refusal (refusals.Clause number argument) = stops.Cause (Refused number argument)
-of_refusal refusals.NoMemory = stops.NoMemory
+-- the same where a file of a name was to be taken
+abbrev pub of_take : List ℕ → FolderFault → Stop
+of_take name folder_faults.Failed = stops.Failed
+of_take name folder_faults.NotThere = stops.Cause (NotThere name)
+of_take name folder_faults.TooLarge = stops.Cause (FileTooLarge name)
+of_take name folder_faults.NoMemory = stops.NoMemory
+
+-- what a fault of a load stops
+abbrev pub of_load_fault : LoadFault → Stop
+of_load_fault fault = if is_memory fault then stops.NoMemory else stops.Cause (cause_of fault)
 
 -- what a fault of the input stops
 abbrev pub of_read_fault : ReadFault → Stop

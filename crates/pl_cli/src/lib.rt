@@ -2,17 +2,15 @@
 #![tactic(auto)]
 
 mod cause;
-mod image_text;
-mod lines;
+mod head;
 mod load;
 mod make;
 mod mode;
-mod piece;
-mod program;
+mod refusals;
 mod room;
 mod status;
 mod stop;
-mod tables;
+mod symbol_text;
 mod text;
 mod top;
 mod words;

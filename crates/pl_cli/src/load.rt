@@ -1,58 +1,55 @@
-// A static program of a folder by its name.
-ghost use Rattle.std.specs.Prelude.{◌≡◌, ◌≤◌, ◌<◌, ◌^◌, Ok, IfErr, IfOk, true, map, length};
+// The load of a folder's program by its name.
+ghost use Rattle.std.specs.Prelude.{◌≡◌, ◌≤◌, ◌<◌, ◌^◌, Ok, None, IfErr, IfOk, true, vec_len};
+ghost use Rattle.pl_base.specs.Answers.{because};
 ghost use Rattle.pl_base.specs.Counts.{Rose};
-ghost use Rattle.pl_elf.specs.Headers.{loads};
-ghost use Rattle.pl_elf.specs.Clauses.{AreLoads};
-ghost use Rattle.pl_cli.specs.Image as image;
+ghost use Rattle.pl_scope.specs.Walking.{wants};
+ghost use Rattle.pl_loader.specs.Started as meant;
 ghost use Rattle.pl_cli.specs.Load as spec;
-ghost use Rattle.pl_cli.specs.Outcome.{Means, Stops};
+ghost use Rattle.pl_cli.specs.Outcome.{Stops, of_take};
 
 use crate::cause::Cause;
-use crate::program::{Program, load_program};
 use crate::stop::Stop;
-use pl_elf::constants::{PT_DYNAMIC, PT_TLS};
-use pl_elf::segment_of_kind;
-use pl_folder::Folder;
+use pl_base::Text;
+use pl_folder::{Folder, FolderFault};
 use pl_io::valid_name;
-use pl_object::{Object, accept};
-use std::alloc::Global;
+use pl_loader::{Loader, Started};
+use std::alloc::{AllocError, Global};
 
-/// Whether the object is linked when it starts, or has thread-local storage.
-#[tactic(auto, unfolding(crate::specs::Load::is_for_later))]
-fn is_for_later(object: &Object) -> bool
-    ensures { result ≡ spec.is_for_later object.now }
+/// Why the file of a name was not taken.
+fn untaken(alloc: Global, name: &str, fault: FolderFault) -> Result<Stop, AllocError>
+    ensures { IfOk result (λ stop. stop ≡ of_take name.now fault) }
 {
-    let segments = object.segments.as_slice();
-    segment_of_kind(segments, PT_DYNAMIC).is_some() || segment_of_kind(segments, PT_TLS).is_some()
+    Ok(match fault {
+        FolderFault::Failed => Stop::Failed,
+        FolderFault::NotThere => Stop::Cause(Cause::NotThere(Text::copy_of(alloc, name)?)),
+        FolderFault::TooLarge => Stop::Cause(Cause::FileTooLarge(Text::copy_of(alloc, name)?)),
+        FolderFault::NoMemory => Stop::NoMemory,
+    })
 }
 
-#[tactic(auto, unfolding(crate::specs::Load::static_program))]
-fn static_program(alloc: Global, bytes: Vec<u8>, object: &Object) -> Result<Program, Stop>
-    requires { AreLoads (loads object.now.segments) }
-    ensures value { Means result (spec.static_program bytes.items object.now) }
-    ensures ascends { IfOk result (λ program. image.ascends 0 (map image.piece_of program.pieces.items) ≡ true) }
+/// The file of a name that a walk wants. A name that is no valid name has none, and the folder is not asked for it.
+fn take<D: Folder>(alloc: Global, folder: &mut D, name: &str) -> Result<Vec<u8>, Stop>
+    ensures ok { IfOk result (λ bytes. D.tells_files folder.old ≡ true → spec.file_in (D.files folder.old) name.now ≡ Ok bytes.items) }
+    ensures size { IfOk result (λ bytes. vec_len bytes < 2 ^ 32) }
+    ensures stop { IfErr result (Stops (D.tells_files folder.old) true (spec.file_in (D.files folder.old) name.now) (Rose (D.faults folder.old) (D.faults folder.new)) ⊥) }
+    ensures tells { D.tells_files folder.new ≡ D.tells_files folder.old }
+    ensures same { D.tells_files folder.old ≡ true → D.files folder.new ≡ D.files folder.old }
+    ensures counts { D.faults folder.old ≤ D.faults folder.new }
+    ensures place { D.place folder.new ≡ D.place folder.old }
 {
-    if is_for_later(object) {
-        return Err(Stop::Cause(Cause::NotYet));
+    if !valid_name(name) {
+        return Err(untaken(alloc, name, FolderFault::NotThere)?);
     }
-    Ok(load_program(alloc, bytes, object)?)
+    match folder.take(alloc, name) {
+        Ok(bytes) => Ok(bytes),
+        Err(fault) => Err(untaken(alloc, name, fault)?),
+    }
 }
 
-#[tactic(auto, unfolding(crate::specs::Load::program_in))]
-fn program_in(alloc: Global, bytes: Vec<u8>) -> Result<Program, Stop>
-    requires { length bytes.items < 2 ^ 32 }
-    ensures value { Means result (spec.program_in bytes.items) }
-    ensures ascends { IfOk result (λ program. image.ascends 0 (map image.piece_of program.pieces.items) ≡ true) }
-{
-    let object = accept(alloc, &bytes)?;
-    static_program(alloc, bytes, &object)
-}
-
-/// The static program of a valid name, or the first cause why there is none.
-#[tactic(auto, unfolding(crate::specs::Load::loaded))]
-pub fn load<D: Folder>(alloc: Global, folder: &mut D, name: &str) -> Result<Program, Stop>
-    ensures ok { IfOk result (λ program. D.tells_files folder.old ≡ true → spec.loaded (D.files folder.old) name.now ≡ Ok (image.program program)) }
-    ensures ascends { IfOk result (λ program. image.ascends 0 (map image.piece_of program.pieces.items) ≡ true) }
+/// The load of a name that was given the files of its whole walk, one after the other as it wanted them; or the first cause that came before.
+pub fn load<D: Folder>(alloc: Global, folder: &mut D, name: &str) -> Result<Loader, Stop>
+    ensures all { IfOk result (λ loader. wants loader.order ≡ None) }
+    ensures ok { IfOk result (λ loader. D.tells_files folder.old ≡ true → spec.loaded (D.files folder.old) name.now ≡ because spec.cause_of (meant.started loader.files)) }
     ensures stop { IfErr result (Stops (D.tells_files folder.old) true (spec.loaded (D.files folder.old) name.now) (Rose (D.faults folder.old) (D.faults folder.new)) ⊥) }
     ensures tells { D.tells_files folder.new ≡ D.tells_files folder.old }
     ensures same { D.tells_files folder.old ≡ true → D.files folder.new ≡ D.files folder.old }
@@ -62,6 +59,19 @@ pub fn load<D: Folder>(alloc: Global, folder: &mut D, name: &str) -> Result<Prog
     if !valid_name(name) {
         return Err(Stop::Cause(Cause::BadName));
     }
-    let bytes = folder.take(alloc, name)?;
-    program_in(alloc, bytes)
+    let mut loader = Loader::new(alloc, name)?;
+    while let Some(wanted) = loader.wants() {
+        let bytes = take(alloc, folder, wanted)?;
+        loader.give(alloc, Some(bytes))?;
+    }
+    Ok(loader)
+}
+
+/// What a program starts from whose files were all given, or the first cause why it does not.
+pub fn start(alloc: Global, loader: &Loader) -> Result<Started<'_>, Stop>
+    requires { wants loader.now.order ≡ None }
+    ensures ok { IfOk result (λ s. meant.Starts s (meant.started loader.now.files)) }
+    ensures stop { IfErr result (Stops true true (because spec.cause_of (meant.started loader.now.files)) ⊥ ⊥) }
+{
+    Ok(loader.start(alloc)?)
 }

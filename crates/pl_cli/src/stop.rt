@@ -3,12 +3,12 @@ ghost use Rattle.std.specs.Prelude.{◌≡◌};
 use crate::cause::Cause;
 use pl_build::RecipeFault;
 use pl_folder::FolderFault;
-use pl_io::ReadFault;
-use pl_object::Refusal;
+use pl_io::{NoMemory, ReadFault};
+use pl_loader::LoadFault;
 use std::alloc::AllocError;
 
 /// Why a command stopped.
-#[derive(Clone, Copy, Debug, PartialEq, Eq)]
+#[derive(Drop)]
 pub enum Stop {
     /// The command is refused.
     Cause(Cause),
@@ -21,15 +21,26 @@ pub enum Stop {
 }
 
 impl From<AllocError> for Stop {
-    ghost use Rattle.pl_cli.specs.declared.stop.Stop.TheVariants.{NoMemory};
+    ghost use Rattle.pl_cli.specs.declared.stop.Stop.TheVariants as stops;
 
-    ghost from_gives = { λ _ stop. stop ≡ NoMemory };
+    ghost from_gives = { λ _ stop. stop ≡ stops.NoMemory };
 
     fn from(_: AllocError) -> Stop {
         Stop::NoMemory
     }
 }
 
+impl From<NoMemory> for Stop {
+    ghost use Rattle.pl_cli.specs.declared.stop.Stop.TheVariants as stops;
+
+    ghost from_gives = { λ _ stop. stop ≡ stops.NoMemory };
+
+    fn from(_: NoMemory) -> Stop {
+        Stop::NoMemory
+    }
+}
+
+/// A fault of a call that is given no file to take: it fails, or lacks memory.
 impl From<FolderFault> for Stop {
     ghost use Rattle.pl_cli.specs.Outcome.{of_fault};
 
@@ -37,27 +48,40 @@ impl From<FolderFault> for Stop {
 
     fn from(fault: FolderFault) -> Stop {
         match fault {
-            FolderFault::Failed => Stop::Failed,
-            FolderFault::NotThere => Stop::Cause(Cause::NotThere),
-            FolderFault::TooLarge => Stop::Cause(Cause::FileTooLarge),
+            FolderFault::Failed | FolderFault::NotThere | FolderFault::TooLarge => Stop::Failed,
             FolderFault::NoMemory => Stop::NoMemory,
         }
     }
 }
 
-impl From<Refusal> for Stop {
-    ghost use Rattle.pl_cli.specs.Outcome.{of_refusal};
+impl From<LoadFault> for Stop {
+    ghost use Rattle.pl_cli.specs.Outcome.{of_load_fault};
 
-    ghost from_gives = { λ refusal stop. stop ≡ of_refusal refusal };
+    ghost from_gives = { λ fault stop. stop ≡ of_load_fault fault };
 
-    fn from(refusal: Refusal) -> Stop {
-        match refusal {
-            Refusal::Clause { number, argument } => Stop::Cause(Cause::Refused {
-                clause: number,
+    fn from(fault: LoadFault) -> Stop {
+        Stop::Cause(match fault {
+            LoadFault::NotThere(name) => Cause::NotThere(name),
+            LoadFault::Refused {
+                name,
+                number,
                 argument,
-            }),
-            Refusal::NoMemory => Stop::NoMemory,
-        }
+            } => Cause::Refused {
+                name,
+                number,
+                argument,
+            },
+            LoadFault::NotProgram(name) => Cause::NotProgram(name),
+            LoadFault::NeededIsProgram(name) => Cause::NeededIsProgram(name),
+            LoadFault::TooMany(name) => Cause::TooMany(name),
+            LoadFault::TlsTooLarge => Cause::TlsTooLarge,
+            LoadFault::NoPlace(name) => Cause::NoPlace(name),
+            LoadFault::Undefined { object, symbol } => Cause::Undefined { object, symbol },
+            LoadFault::UndefinedTls { object, symbol } => Cause::UndefinedTls { object, symbol },
+            LoadFault::TlsMismatch { object, symbol } => Cause::TlsMismatch { object, symbol },
+            LoadFault::CopyOutside { object, symbol } => Cause::CopyOutside { object, symbol },
+            LoadFault::NoMemory => return Stop::NoMemory,
+        })
     }
 }
 

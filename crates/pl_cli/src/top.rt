@@ -1,24 +1,30 @@
 // The top call and how its parts end.
-ghost use Rattle.std.specs.Prelude.{◌≡◌, ◌≢◌, ◌≤◌, Some, false, is_some, map, string_bytes, true};
+ghost use Rattle.std.specs.Prelude.{◌≡◌, ◌≢◌, ◌≤◌, None, Some, false, is_some, map, string_bytes, true};
+ghost use Rattle.pl_base.specs.Answers.{because};
 ghost use Rattle.pl_base.specs.Counts.{Rose};
+ghost use Rattle.pl_base.specs.Files.{Files};
 ghost use Rattle.pl_base.specs.Streams.{GotPrefix, got_after};
+ghost use Rattle.pl_scope.specs.Walking.{wants};
+ghost use Rattle.pl_loader.specs.Started.{started};
 ghost use Rattle.pl_cli.specs.Answer.{answer, command_answer, is_answer, load_answer, make_answer};
-ghost use Rattle.pl_cli.specs.Load.{loaded};
+ghost use Rattle.pl_cli.specs.Load.{cause_of, loaded};
 ghost use Rattle.pl_cli.specs.Make.{made};
 ghost use Rattle.pl_cli.specs.Outcome.{Ends, IsOutcome, IsUsage, LeavesFiles};
 ghost use Rattle.pl_cli.specs.Words as spec;
 
 use crate::Status;
-use crate::load::load;
+use crate::load::{load, start};
 use crate::make::make;
 use crate::mode::Mode;
+use crate::refusals::refusal;
 use crate::stop::Stop;
-use crate::text::{USAGE, refusal};
+use crate::text::USAGE;
 use crate::words::command;
-use crate::write::write_program;
+use crate::write::write_start;
 use crate::write_stop::WriteStop;
 use pl_folder::Folder;
 use pl_io::{Sink, Source, write_all};
+use pl_loader::Loader;
 use std::alloc::Global;
 
 /// Writes a whole text and ends so, or with a fault of the output.
@@ -32,13 +38,36 @@ fn finish<K: Sink>(output: &mut K, text: &[u8], status: Status) -> Status
     }
 }
 
+/// Writes what a program starts from whose files were all given, or the line of the first cause why it does not.
+fn start_and_write<K: Sink>(alloc: Global, loader: &Loader, output: &mut K) -> Status
+    requires { wants loader.now.order ≡ None }
+    ensures outcome { (files : Files) → IsOutcome true true (load_answer files (because cause_of (started loader.now.files)))
+        ⊥ (Rose (K.faults output.old) (K.faults output.new)) (K.written output.old) (K.written output.new) result }
+    ensures counts { K.faults output.old ≤ K.faults output.new }
+    ensures usage { result ≢ Status.Usage }
+    ensures read_fault { result ≢ Status.ReadFault }
+{
+    match start(alloc, loader) {
+        Ok(started) => match write_start(alloc, &started, output) {
+            Ok(()) => Status::Done,
+            Err(WriteStop::Failed) => Status::WriteFault,
+            Err(WriteStop::NoMemory) => Status::NoMemory,
+        },
+        Err(Stop::Cause(cause)) => match refusal(alloc, &cause) {
+            Ok(line) => finish(output, &line, Status::Refused),
+            Err(_) => Status::NoMemory,
+        },
+        Err(_) => Status::NoMemory,
+    }
+}
+
 fn load_and_write<D: Folder, K: Sink>(
     alloc: Global,
     name: &str,
     folder: &mut D,
     output: &mut K,
 ) -> Status
-    ensures outcome { IsOutcome (D.tells_files folder.old) true (load_answer name.now (D.files folder.old) (loaded (D.files folder.old) name.now))
+    ensures outcome { IsOutcome (D.tells_files folder.old) true (load_answer (D.files folder.old) (loaded (D.files folder.old) name.now))
         (Rose (D.faults folder.old) (D.faults folder.new)) (Rose (K.faults output.old) (K.faults output.new))
         (K.written output.old) (K.written output.new) result }
     ensures tells { D.tells_files folder.new ≡ D.tells_files folder.old }
@@ -50,16 +79,12 @@ fn load_and_write<D: Folder, K: Sink>(
     ensures read_fault { result ≢ Status.ReadFault }
 {
     match load(alloc, folder, name) {
-        Ok(program) => match write_program(alloc, name, &program, output) {
-            Ok(()) => Status::Done,
-            Err(WriteStop::Failed) => Status::WriteFault,
-            Err(WriteStop::NoMemory) => Status::NoMemory,
-        },
+        Ok(loader) => start_and_write(alloc, &loader, output),
         Err(Stop::Failed) => Status::DiskFault,
         Err(Stop::InputFailed) => Status::ReadFault,
         Err(Stop::NoMemory) => Status::NoMemory,
-        Err(Stop::Cause(cause)) => match refusal(alloc, name, cause) {
-            Ok(line) => finish(output, line.as_bytes(), Status::Refused),
+        Err(Stop::Cause(cause)) => match refusal(alloc, &cause) {
+            Ok(line) => finish(output, &line, Status::Refused),
             Err(_) => Status::NoMemory,
         },
     }
@@ -91,8 +116,8 @@ fn make_and_write<D: Folder, S: Source, K: Sink>(
         Err(Stop::Failed) => Status::DiskFault,
         Err(Stop::InputFailed) => Status::ReadFault,
         Err(Stop::NoMemory) => Status::NoMemory,
-        Err(Stop::Cause(cause)) => match refusal(alloc, name, cause) {
-            Ok(line) => finish(output, line.as_bytes(), Status::Refused),
+        Err(Stop::Cause(cause)) => match refusal(alloc, &cause) {
+            Ok(line) => finish(output, &line, Status::Refused),
             Err(_) => Status::NoMemory,
         },
     }

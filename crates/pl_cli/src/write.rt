@@ -1,33 +1,29 @@
-// The text of a static program, written piece by piece.
-ghost use Rattle.std.specs.Prelude.{◌≡◌, ◌≤◌, map, true, OnErr, OnOk, IsErrOf};
+// The text of a start, written piece by piece.
+ghost use Rattle.std.specs.Prelude.{◌≡◌, ◌≤◌, OnErr, OnOk, IsErrOf};
 ghost use Rattle.pl_base.specs.Counts.{Rose};
 ghost use Rattle.pl_base.specs.Streams.{GotPrefix, got_after};
-ghost use Rattle.pl_cli.specs.Answer.{load_text};
-ghost use Rattle.pl_cli.specs.Image as image;
+ghost use Rattle.pl_cli.specs.LoadText.{load_text, start_of};
 
-use crate::image_text::write_words;
-use crate::program::Program;
-use crate::text::head_text;
+use crate::head::head_text;
 use crate::write_stop::WriteStop;
 use pl_io::{Sink, write_all};
+use pl_loader::Started;
 use std::alloc::Global;
 
-/// Writes the text of a static program: what stands before the words in one piece, the lines of the words many at a time, and the end.
-pub fn write_program<K: Sink>(
+/// Writes the text of a start: what stands before the words in one piece, the lines of the words many at a time, and the end. After a fault some first bytes were written; after a want of memory, none.
+pub fn write_start<K: Sink>(
     alloc: Global,
-    name: &str,
-    program: &Program,
+    started: &Started<'_>,
     output: &mut K,
 ) -> Result<(), WriteStop>
-    requires { image.ascends 0 (map image.piece_of program.now.pieces.items) ≡ true }
-    ensures ok { OnOk result (K.written output.new ≡ got_after (K.written output.old) (load_text name.now (image.program program.now))) }
-    ensures err { OnErr result (GotPrefix (K.written output.old) (K.written output.new) (load_text name.now (image.program program.now))) }
+    ensures ok { OnOk result (K.written output.new ≡ got_after (K.written output.old) (load_text (start_of started.now))) }
+    ensures err { OnErr result (GotPrefix (K.written output.old) (K.written output.new) (load_text (start_of started.now))) }
     ensures failed { IsErrOf result WriteStop.Failed → Rose (K.faults output.old) (K.faults output.new) }
     ensures counts { K.faults output.old ≤ K.faults output.new }
 {
-    let head = head_text(alloc, name, program)?;
-    write_all(output, head.as_bytes())?;
-    write_words(&program.pieces, output)?;
+    let head = head_text(alloc, started)?;
+    write_all(output, &head)?;
+    started.image.write_text(output)?;
     write_all(output, b"end\n")?;
     Ok(())
 }

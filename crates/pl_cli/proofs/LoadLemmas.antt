@@ -1,0 +1,122 @@
+-- What `--load` finds, file by file.
+use Rattle.std.proofs.Common.{◌≡◌, ◌≤◌, ◌<◌, ℕ, List, length, Bool, true, false, Option, Some, None, refl, sym, ap, subst, ◌∙◌, arith}
+use Rattle.std.specs.Prelude.{Result, Ok, Err, MatchBool, ⊤, not, nat_lt, nat_le, if◌then◌else◌}
+use Rattle.std.specs.FinMap.{get}
+use Rattle.std.proofs.lemmas.Bool.{cases_Bool}
+use Rattle.std.proofs.lemmas.Bool.Decides.{nat_tests}
+use Rattle.pl_base.specs.Answers.{unless, because, ◌>>=◌, Answers}
+use Rattle.pl_base.specs.Counts.{Rose}
+use Rattle.pl_base.specs.Files.{Files}
+use Rattle.pl_base.specs.Names.{is_valid_name}
+use Rattle.pl_folder.specs.Taken.{taken, stored, Explains}
+use Rattle.pl_folder.specs.declared.TheConstants.{STORED}
+use Rattle.pl_folder.specs.declared.fault.FolderFault.{FolderFault}
+use Rattle.pl_folder.specs.declared.fault.FolderFault.TheVariants as folder_faults
+use Rattle.pl_scope.specs.Walking.{wants}
+use Rattle.pl_loader.specs.Faults.{is_memory}
+use Rattle.pl_loader.specs.Loading.{Loading}
+use Rattle.pl_loader.specs.Started as start
+use Rattle.pl_loader.specs.Walk.{IsUnderWay, IsFile, give}
+use Rattle.pl_loader.specs.declared.fault.LoadFault.{LoadFault}
+use Rattle.pl_loader.specs.declared.object_file.ObjectFile.{ObjectFile}
+use Rattle.pl_loader.proofs.LoadLaws.{load_ends}
+use Rattle.pl_loader.proofs.WholeLaws.{whole_lacks, whole_stops}
+use Rattle.pl_cli.specs.declared.cause.Cause.{Cause}
+use Rattle.pl_cli.specs.declared.cause.Cause.TheVariants.{BadName, NotThere, FileTooLarge}
+use Rattle.pl_cli.specs.declared.stop.Stop.{Stop}
+use Rattle.pl_cli.specs.declared.stop.Stop.TheVariants as stops
+use Rattle.pl_cli.specs.Load.{cause_of, of_file, file_in, valid_file, loaded}
+use Rattle.pl_cli.specs.Outcome.{Stops, of_take, of_load_fault}
+use Rattle.pl_cli.proofs.MakeLemmas.{since}
+
+-- ---- one file
+
+of_valid : (files : Files) (name : List ℕ) → is_valid_name name ≡ true → file_in files name ≡ of_file name (get files name)
+unfolding file_in
+of_valid files name valid = ap (λ (b : Bool). of_file name (if b then get files name else None)) valid
+
+stored_file : (name bytes : List ℕ) (file : Option (List ℕ)) → stored file ≡ Ok bytes → of_file name file ≡ Ok bytes
+stored_file name bytes None is = absurd cc
+stored_file name bytes (Some found) is = elim (cases_Bool (nat_le (length found) STORED)) [
+  | inl fits ↦
+      let same : Ok found ≡ Ok bytes = rw fits at is in
+      let test : nat_lt STORED (length found) ≡ false = grind (arith, nat_tests) in
+      rw test same
+  | inr longer ↦ absurd (no (rw longer at is))
+]
+
+-- the folder gave the file
+pub taken_file : (files : Files) (name bytes : List ℕ) → is_valid_name name ≡ true → taken files name ≡ Ok bytes → file_in files name ≡ Ok bytes
+taken_file files name bytes valid is = of_valid files name valid ∙ stored_file name bytes (get files name) is
+
+lacking_file : (name : List ℕ) (file : Option (List ℕ)) → stored file ≡ Err folder_faults.NotThere → of_file name file ≡ Err (NotThere name)
+lacking_file name None is = refl
+lacking_file name (Some found) is = ?
+
+longer_file : (name : List ℕ) (file : Option (List ℕ)) → stored file ≡ Err folder_faults.TooLarge → of_file name file ≡ Err (FileTooLarge name)
+longer_file name None is = absurd cc
+longer_file name (Some found) is = ?
+
+-- it gave none
+pub untaken_file : (told : Bool) (files : Files) (name : List ℕ) (disk : Type 0) (fault : FolderFault) → is_valid_name name ≡ true → Explains told (taken files name) disk fault
+    → Stops told true (file_in files name) disk ⊥ (of_take name fault)
+untaken_file told files name disk folder_faults.Failed valid why = why
+untaken_file told files name disk folder_faults.NotThere valid why = λ tells _. of_valid files name valid ∙ lacking_file name (get files name) (why tells)
+untaken_file told files name disk folder_faults.TooLarge valid why = λ tells _. of_valid files name valid ∙ longer_file name (get files name) (why tells)
+untaken_file told files name disk folder_faults.NoMemory valid why = tt
+
+-- no other name has one
+pub invalid_file : (files : Files) (name : List ℕ) → is_valid_name name ≡ false → file_in files name ≡ Err (NotThere name)
+unfolding file_in
+invalid_file files name invalid = ap (λ (b : Bool). of_file name (if b then get files name else None)) invalid
+
+-- ---- faults of the load
+
+-- a fault that the load means, or a want of memory
+pub stopped_by : (told : Bool) (meant : Result start.Start Cause) (disk : Type 0) (fault : LoadFault) → (told ≡ true → MatchBool (is_memory fault) ⊤ (meant ≡ Err (cause_of fault)))
+    → Stops told true meant disk ⊥ (of_load_fault fault)
+stopped_by told meant disk fault h =
+    elim (is_memory fault) as (λ b. (told ≡ true → MatchBool b ⊤ (meant ≡ Err (cause_of fault))) → Stops told true meant disk ⊥ (if b then stops.NoMemory else stops.Cause (cause_of fault))) [
+      | true ↦ λ _. tt
+      | false ↦ λ means. λ tells _. means tells
+    ] h
+
+-- files that were all given do not start
+pub fails_by : (fs : List ObjectFile) (fault : LoadFault) → Answers is_memory (Err fault) (start.started fs) → Stops true true (because cause_of (start.started fs)) ⊥ ⊥ (of_load_fault fault)
+fails_by fs fault h = stopped_by true (because cause_of (start.started fs)) ⊥ fault (λ _. means)
+  where
+    means : MatchBool (is_memory fault) ⊤ (because cause_of (start.started fs) ≡ Err (cause_of fault))
+    means =
+        elim (is_memory fault) as (λ b. MatchBool b ⊤ (start.started fs ≡ Err fault) → MatchBool b ⊤ (because cause_of (start.started fs) ≡ Err (cause_of fault))) [
+          | true ↦ λ _. tt
+          | false ↦ λ is. ap (because cause_of) is
+        ] h
+
+-- ---- the whole load of a valid name
+
+module _ (told : Bool) (files : Files) (name : List ℕ) (valid : is_valid_name name ≡ true) where
+  valid_loaded : loaded files name ≡ start.load cause_of (file_in files) name
+  unfolding loaded
+  valid_loaded = ap (λ (b : Bool). unless (not b) BadName (start.load cause_of (file_in files) name)) valid
+
+  -- the wanted file was not taken
+  pub stopped_in_folder : (now_told : Bool) (now : Files) (first mid last : ℕ) (n : List ℕ) (l : Loading) (stop : Stop) → now_told ≡ told → (told ≡ true → now ≡ files) → first ≤ mid → wants l.order ≡ Some n
+      → (told ≡ true → IsUnderWay cause_of (file_in files) name l) → Stops now_told true (file_in now n) (Rose mid last) ⊥ stop → Stops told true (loaded files name) (Rose first last) ⊥ stop
+  stopped_in_folder now_told now first mid last n l (stops.Cause cause) tells same le is way h = λ told_is _.
+      let lacks : file_in files n ≡ Err cause = ap (λ (fs : Files). file_in fs n) (sym (same told_is)) ∙ h (tells ∙ told_is) refl in
+      valid_loaded ∙ whole_lacks cause_of (file_in files) name n l cause is lacks (way told_is)
+  stopped_in_folder now_told now first mid last n l stops.Failed tells same le is way h = since first mid last le h
+  stopped_in_folder now_told now first mid last n l stops.InputFailed tells same le is way h = absurd h
+  stopped_in_folder now_told now first mid last n l stops.NoMemory tells same le is way h = tt
+
+  -- the wanted file is refused
+  pub stopped_at_file : (disk : Type 0) (n bytes : List ℕ) (l : Loading) (fault : LoadFault) → wants l.order ≡ Some n → (told ≡ true → file_in files n ≡ Ok bytes) → (told ≡ true → IsUnderWay cause_of (file_in files) name l)
+      → Answers is_memory (Err fault) (give l (Some bytes)) → Stops told true (loaded files name) disk ⊥ (of_load_fault fault)
+  stopped_at_file disk n bytes l fault is file way h = stopped_by told (loaded files name) disk fault (λ told_is.
+      let means = whole_stops cause_of (file_in files) name n (Some bytes) l fault is (file told_is) h (way told_is) in
+      subst (λ (r : Result start.Start Cause). MatchBool (is_memory fault) ⊤ (r ≡ Err (cause_of fault))) (sym valid_loaded) means)
+
+  -- all files were given
+  pub loaded_ends : (l : Loading) → wants l.order ≡ None → IsUnderWay cause_of (file_in files) name l → loaded files name ≡ because cause_of (start.started l.files)
+  unfolding start.load
+  loaded_ends l is way = valid_loaded ∙ ap (λ (r : Result (List ObjectFile) Cause). r >>= λ fs. because cause_of (start.started fs)) (load_ends cause_of (file_in files) name l is way)

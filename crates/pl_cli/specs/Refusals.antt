@@ -1,0 +1,68 @@
+-- The line of a refusal.
+use Rattle.std.specs.Prelude.{ℕ, ◌/◌, ◌%◌, Bool, ◌&&◌, ◌||◌, not, ◌==◌, nat_le, List, [], ◌∷◌, codes, Option, Some, None, if◌then◌else◌}
+use Rattle.std.specs.Fmt.{decimal}
+use Rattle.std.specs.List.{flat_map}
+use Rattle.pl_base.specs.Digits.{hex_digit, line}
+use Rattle.pl_cli.specs.declared.cause.Cause.{Cause}
+use Rattle.pl_cli.specs.declared.cause.Cause.TheVariants.{BadName, NotThere, FileTooLarge, Refused, NotProgram, NeededIsProgram, TooMany, TlsTooLarge, NoPlace, Undefined, UndefinedTls, TlsMismatch, CopyOutside, InputTooLarge, Recipe, TooManyFiles}
+use Rattle.pl_cli.specs.declared.symbol_text.TheConstants.{FIRST_PLAIN, LAST_PLAIN, BACKSLASH}
+
+-- ---- a symbol's name. It may have any bytes but 0
+
+-- a byte that stands for itself
+unfoldable pub is_plain : ℕ → Bool
+is_plain byte = nat_le FIRST_PLAIN byte && nat_le byte LAST_PLAIN && not (byte == BACKSLASH)
+
+-- any other byte is a backslash, an x and two hexadecimal digits
+unfoldable pub escaped : ℕ → List ℕ
+escaped byte = if is_plain byte then byte ∷ [] else BACKSLASH ∷ 120 ∷ hex_digit (byte / 16) ∷ hex_digit (byte % 16) ∷ []
+
+-- symbol 0 has no name
+abbrev pub symbol_text : Option (List ℕ) → List ℕ
+symbol_text None = codes "-"
+symbol_text (Some name) = flat_map escaped name
+
+-- ---- lines
+
+unfoldable pub bare : List ℕ → List ℕ
+bare cause = line (codes "refused " ∷ cause ∷ [])
+
+unfoldable pub named : List ℕ → List ℕ → List ℕ
+named cause name = line (codes "refused " ∷ cause ∷ codes " " ∷ name ∷ [])
+
+-- the object whose relocation is refused, and its symbol
+unfoldable pub linked : List ℕ → List ℕ → Option (List ℕ) → List ℕ
+linked cause object symbol = line (codes "refused " ∷ cause ∷ codes " " ∷ object ∷ codes " " ∷ symbol_text symbol ∷ [])
+
+-- a refusal by one of these clauses tells a tag's number or a relocation's kind
+abbrev pub has_argument : ℕ → Bool
+has_argument clause = clause == 10 || clause == 11 || clause == 23
+
+-- a file's name, the acceptance clause that refuses it, and its argument where it has one
+unfoldable pub refused : List ℕ → ℕ → ℕ → List ℕ
+refused name clause argument =
+    if has_argument clause
+    then line (codes "refused Refused " ∷ name ∷ codes " " ∷ decimal clause ∷ codes " " ∷ decimal argument ∷ [])
+    else line (codes "refused Refused " ∷ name ∷ codes " " ∷ decimal clause ∷ [])
+
+-- a line of a recipe, and the kind of its fault
+unfoldable pub refused_recipe : ℕ → ℕ → List ℕ
+refused_recipe number kind = line (codes "refused Recipe " ∷ decimal number ∷ codes " " ∷ decimal kind ∷ [])
+
+unfoldable pub refusal : Cause → List ℕ
+refusal BadName = bare (codes "BadName")
+refusal (NotThere name) = named (codes "NotThere") name
+refusal (FileTooLarge name) = named (codes "FileTooLarge") name
+refusal (Refused name number argument) = refused name number argument
+refusal (NotProgram name) = named (codes "NotProgram") name
+refusal (NeededIsProgram name) = named (codes "NeededIsProgram") name
+refusal (TooMany name) = named (codes "TooMany") name
+refusal TlsTooLarge = bare (codes "TlsTooLarge")
+refusal (NoPlace name) = named (codes "NoPlace") name
+refusal (Undefined object symbol) = linked (codes "Undefined") object symbol
+refusal (UndefinedTls object symbol) = linked (codes "UndefinedTls") object symbol
+refusal (TlsMismatch object symbol) = linked (codes "TlsMismatch") object symbol
+refusal (CopyOutside object symbol) = linked (codes "CopyOutside") object symbol
+refusal InputTooLarge = bare (codes "InputTooLarge")
+refusal (Recipe number kind) = refused_recipe number kind
+refusal TooManyFiles = bare (codes "TooManyFiles")

@@ -1,0 +1,102 @@
+// The lines of refusals.
+ghost use Rattle.std.specs.Prelude.{◌≡◌, IfOk};
+ghost use Rattle.pl_cli.specs.Refusals as spec;
+
+use crate::cause::Cause;
+use crate::symbol_text::push_symbol;
+use pl_base::Rows;
+use std::alloc::{AllocError, Global};
+
+/// The line of a cause that tells nothing more.
+#[tactic(auto, unfolding(crate::specs::Refusals::bare))]
+fn bare(alloc: Global, cause: &str) -> Result<Vec<u8>, AllocError>
+    ensures { IfOk result (λ line. line.items ≡ spec.bare cause.now) }
+{
+    Ok(format!(in alloc; "refused {cause}\n")?.into_bytes())
+}
+
+/// The line of a cause that tells a file's name.
+#[tactic(auto, unfolding(crate::specs::Refusals::named))]
+fn named(alloc: Global, cause: &str, name: &str) -> Result<Vec<u8>, AllocError>
+    ensures { IfOk result (λ line. line.items ≡ spec.named cause.now name.now) }
+{
+    Ok(format!(in alloc; "refused {cause} {name}\n")?.into_bytes())
+}
+
+/// The line of a link refusal, which tells an object's name and a symbol's.
+#[tactic(auto, unfolding(crate::specs::Refusals::linked))]
+fn linked(
+    alloc: Global,
+    cause: &str,
+    object: &str,
+    symbol: &Option<Rows<u8>>,
+) -> Result<Vec<u8>, AllocError>
+    ensures { IfOk result (λ line. line.items ≡ spec.linked cause.now object.now symbol.now) }
+{
+    let mut line = format!(in alloc; "refused {cause} {object} ")?.into_bytes();
+    push_symbol(&mut line, symbol)?;
+    line.extend_from_slice(b"\n")?;
+    Ok(line)
+}
+
+/// Whether a refusal by the acceptance clause has an argument: a tag's number or a relocation's kind.
+fn has_argument(clause: u32) -> bool
+    ensures { result ≡ spec.has_argument clause }
+{
+    matches!(clause, 10 | 11 | 23)
+}
+
+/// The line of a refusal by an acceptance clause.
+#[tactic(auto, unfolding(crate::specs::Refusals::refused))]
+fn refused(alloc: Global, name: &str, clause: u32, argument: u64) -> Result<Vec<u8>, AllocError>
+    ensures { IfOk result (λ line. line.items ≡ spec.refused name.now clause argument) }
+{
+    if has_argument(clause) {
+        Ok(format!(in alloc; "refused Refused {name} {clause} {argument}\n")?.into_bytes())
+    } else {
+        Ok(format!(in alloc; "refused Refused {name} {clause}\n")?.into_bytes())
+    }
+}
+
+/// The line of a refusal of a recipe.
+#[tactic(auto, unfolding(crate::specs::Refusals::refused_recipe))]
+fn refused_recipe(alloc: Global, number: u32, kind: u8) -> Result<Vec<u8>, AllocError>
+    ensures { IfOk result (λ line. line.items ≡ spec.refused_recipe number kind) }
+{
+    Ok(format!(in alloc; "refused Recipe {number} {kind}\n")?.into_bytes())
+}
+
+/// The line of a refusal.
+#[tactic(auto, unfolding(crate::specs::Refusals::refusal))]
+pub fn refusal(alloc: Global, cause: &Cause) -> Result<Vec<u8>, AllocError>
+    ensures { IfOk result (λ line. line.items ≡ spec.refusal cause.now) }
+{
+    match cause {
+        Cause::BadName => bare(alloc, "BadName"),
+        Cause::NotThere(name) => named(alloc, "NotThere", name.as_str()),
+        Cause::FileTooLarge(name) => named(alloc, "FileTooLarge", name.as_str()),
+        Cause::Refused {
+            name,
+            number,
+            argument,
+        } => refused(alloc, name.as_str(), *number, *argument),
+        Cause::NotProgram(name) => named(alloc, "NotProgram", name.as_str()),
+        Cause::NeededIsProgram(name) => named(alloc, "NeededIsProgram", name.as_str()),
+        Cause::TooMany(name) => named(alloc, "TooMany", name.as_str()),
+        Cause::TlsTooLarge => bare(alloc, "TlsTooLarge"),
+        Cause::NoPlace(name) => named(alloc, "NoPlace", name.as_str()),
+        Cause::Undefined { object, symbol } => linked(alloc, "Undefined", object.as_str(), symbol),
+        Cause::UndefinedTls { object, symbol } => {
+            linked(alloc, "UndefinedTls", object.as_str(), symbol)
+        }
+        Cause::TlsMismatch { object, symbol } => {
+            linked(alloc, "TlsMismatch", object.as_str(), symbol)
+        }
+        Cause::CopyOutside { object, symbol } => {
+            linked(alloc, "CopyOutside", object.as_str(), symbol)
+        }
+        Cause::InputTooLarge => bare(alloc, "InputTooLarge"),
+        Cause::Recipe { number, kind } => refused_recipe(alloc, *number, *kind),
+        Cause::TooManyFiles => bare(alloc, "TooManyFiles"),
+    }
+}
