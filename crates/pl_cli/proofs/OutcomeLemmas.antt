@@ -1,5 +1,5 @@
 -- What an outcome says of its status, and what is left where no file changes.
-use Rattle.std.proofs.Common.{◌≡◌, List, ℕ, Bool, true, Option, refl, sym, subst, ◌∙◌, inl}
+use Rattle.std.proofs.Common.{◌≡◌, List, ℕ, Bool, true, Option, Some, refl, sym, subst, ◌∙◌, inl}
 use Rattle.std.specs.Prelude.{Result, Ok, Err}
 use Rattle.pl_base.specs.Files.{Files}
 use Rattle.pl_base.specs.Streams.{got_after, GotPrefix}
@@ -7,10 +7,14 @@ use Rattle.pl_base.proofs.StreamLaws.{GotPrefix-all, GotPrefix-none}
 use Rattle.pl_cli.specs.declared.status.Status.{Status}
 use Rattle.pl_cli.specs.declared.status.Status.TheVariants as statuses
 use Rattle.pl_cli.specs.declared.cause.Cause.{Cause}
+use Rattle.pl_cli.specs.declared.mode.Mode.{Mode}
+use Rattle.pl_cli.specs.declared.mode.Mode.TheVariants.{Load, Make}
 use Rattle.pl_cli.specs.Static.{Program}
-use Rattle.pl_cli.specs.Answer.{Answer, is_answer, load_answer}
+use Rattle.pl_cli.specs.Load.{loaded}
+use Rattle.pl_cli.specs.Answer.{Answer, is_answer, load_answer, command_answer}
 use Rattle.pl_cli.specs.Outcome.{IsOutcome, LeavesFiles}
 use Rattle.pl_cli.specs.ValidFiles.{SameFiles}
+use Rattle.pl_cli.specs.Words.{is_told, bytes_of}
 use Rattle.pl_cli.proofs.FilesLemmas.{same_files}
 
 module _ (files input : Bool) (a : Answer) (disk sink : Type 0) (old new : Option (List ℕ)) where
@@ -53,5 +57,8 @@ load_next : (name : List ℕ) (files : Files) (r : Result Program Cause) → (lo
 load_next name files (Ok program) = refl
 load_next name files (Err cause) = refl
 
-pub load_unchanged : (input : Bool) (name : List ℕ) (before after : Files) (r : Result Program Cause) (status : Status) → after ≡ before → LeavesFiles input before (load_answer name before r).next after status
-load_unchanged input name before after r status same = unchanged input before (load_answer name before r).next after (load_next name before r) same status
+-- `--load` is to change no file
+pub load_leaves : (mode : Mode) (name : List ℕ) (left : Option (List ℕ)) (before after : Files) (status : Status) → mode ≡ Load → after ≡ before
+    → LeavesFiles (is_told (Some (mode, name)) left) before (command_answer (Some (mode, name)) before (bytes_of left)).next after status
+load_leaves Load name left before after status is same = unchanged (is_told (Some (Load, name)) left) before (load_answer name before (loaded before name)).next after (load_next name before (loaded before name)) same status
+load_leaves Make name left before after status is same = cc
