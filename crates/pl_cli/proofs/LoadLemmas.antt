@@ -1,5 +1,5 @@
 -- What `--load` finds, file by file.
-use Rattle.std.proofs.Common.{◌≡◌, ◌≤◌, ◌<◌, ℕ, List, length, Bool, true, false, Option, Some, None, refl, sym, ap, subst, ◌∙◌, arith}
+use Rattle.std.proofs.Common.{◌≡◌, ◌≤◌, ◌<◌, ℕ, List, length, Bool, true, false, Option, Some, None, refl, sym, ap, subst, ◌∙◌, inl, inr, arith}
 use Rattle.std.specs.Prelude.{Result, Ok, Err, MatchBool, ⊤, not, nat_lt, nat_le, if◌then◌else◌}
 use Rattle.std.specs.FinMap.{get}
 use Rattle.std.proofs.lemmas.Bool.{cases_Bool}
@@ -35,34 +35,48 @@ of_valid : (files : Files) (name : List ℕ) → is_valid_name name ≡ true →
 unfolding file_in
 of_valid files name valid = ap (λ (b : Bool). of_file name (if b then get files name else None)) valid
 
-stored_file : (name bytes : List ℕ) (file : Option (List ℕ)) → stored file ≡ Ok bytes → of_file name file ≡ Ok bytes
-stored_file name bytes None is = absurd cc
-stored_file name bytes (Some found) is = elim (cases_Bool (nat_le (length found) STORED)) [
-  | inl fits ↦
-      let same : Ok found ≡ Ok bytes = rw fits at is in
-      let test : nat_lt STORED (length found) ≡ false = grind (arith, nat_tests) in
-      rw test same
-  | inr longer ↦ absurd (no (rw longer at is))
+-- a file that is no longer than a folder gives, and one that is
+fits_file : (name found : List ℕ) → nat_le (length found) STORED ≡ true → of_file name (Some found) ≡ Ok found
+fits_file name found fits =
+    let test : nat_lt STORED (length found) ≡ false = grind (arith, nat_tests) in
+    ap (λ (b : Bool). unless b (FileTooLarge name) (Ok found)) test
+
+longer_file : (name found : List ℕ) → nat_le (length found) STORED ≡ false → of_file name (Some found) ≡ Err (FileTooLarge name)
+longer_file name found longer =
+    let test : nat_lt STORED (length found) ≡ true = grind (arith, nat_tests) in
+    ap (λ (b : Bool). unless b (FileTooLarge name) (Ok found)) test
+
+-- what a folder gives of a file that was looked up
+of_stored : List ℕ → Result (List ℕ) FolderFault → Result (List ℕ) Cause
+of_stored name (Ok bytes) = Ok bytes
+of_stored name (Err folder_faults.NotThere) = Err (NotThere name)
+of_stored name (Err folder_faults.TooLarge) = Err (FileTooLarge name)
+of_stored name (Err folder_faults.Failed) = Err BadName
+of_stored name (Err folder_faults.NoMemory) = Err BadName
+
+stored_file : (name : List ℕ) (file : Option (List ℕ)) → of_file name file ≡ of_stored name (stored file)
+unfolding of_stored
+stored_file name None = refl
+stored_file name (Some found) = elim (cases_Bool (nat_le (length found) STORED)) [
+  | inl fits ↦ rw fits (fits_file name found fits)
+  | inr longer ↦ rw longer (longer_file name found longer)
 ]
+
+valid_stored : (files : Files) (name : List ℕ) → is_valid_name name ≡ true → file_in files name ≡ of_stored name (taken files name)
+valid_stored files name valid = of_valid files name valid ∙ stored_file name (get files name)
 
 -- the folder gave the file
 pub taken_file : (files : Files) (name bytes : List ℕ) → is_valid_name name ≡ true → taken files name ≡ Ok bytes → file_in files name ≡ Ok bytes
-taken_file files name bytes valid is = of_valid files name valid ∙ stored_file name bytes (get files name) is
-
-lacking_file : (name : List ℕ) (file : Option (List ℕ)) → stored file ≡ Err folder_faults.NotThere → of_file name file ≡ Err (NotThere name)
-lacking_file name None is = refl
-lacking_file name (Some found) is = ?
-
-longer_file : (name : List ℕ) (file : Option (List ℕ)) → stored file ≡ Err folder_faults.TooLarge → of_file name file ≡ Err (FileTooLarge name)
-longer_file name None is = absurd cc
-longer_file name (Some found) is = ?
+unfolding of_stored
+taken_file files name bytes valid is = valid_stored files name valid ∙ ap (of_stored name) is
 
 -- it gave none
 pub untaken_file : (told : Bool) (files : Files) (name : List ℕ) (disk : Type 0) (fault : FolderFault) → is_valid_name name ≡ true → Explains told (taken files name) disk fault
     → Stops told true (file_in files name) disk ⊥ (of_take name fault)
+unfolding of_stored
 untaken_file told files name disk folder_faults.Failed valid why = why
-untaken_file told files name disk folder_faults.NotThere valid why = λ tells _. of_valid files name valid ∙ lacking_file name (get files name) (why tells)
-untaken_file told files name disk folder_faults.TooLarge valid why = λ tells _. of_valid files name valid ∙ longer_file name (get files name) (why tells)
+untaken_file told files name disk folder_faults.NotThere valid why = λ tells _. valid_stored files name valid ∙ ap (of_stored name) (why tells)
+untaken_file told files name disk folder_faults.TooLarge valid why = λ tells _. valid_stored files name valid ∙ ap (of_stored name) (why tells)
 untaken_file told files name disk folder_faults.NoMemory valid why = tt
 
 -- no other name has one
@@ -92,7 +106,13 @@ fails_by fs fault h = stopped_by true (because cause_of (start.started fs)) ⊥ 
           | false ↦ λ is. ap (because cause_of) is
         ] h
 
--- ---- the whole load of a valid name
+-- ---- the whole load
+
+pub bad_name : (files : Files) (name : List ℕ) → is_valid_name name ≡ false → loaded files name ≡ Err BadName
+unfolding loaded
+bad_name files name invalid = ap (λ (b : Bool). unless (not b) BadName (start.load cause_of (file_in files) name)) invalid
+
+-- ---- of a valid name
 
 module _ (told : Bool) (files : Files) (name : List ℕ) (valid : is_valid_name name ≡ true) where
   valid_loaded : loaded files name ≡ start.load cause_of (file_in files) name

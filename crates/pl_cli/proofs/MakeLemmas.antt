@@ -25,7 +25,7 @@ use Rattle.pl_cli.specs.declared.stop.Stop.{Stop}
 use Rattle.pl_cli.specs.declared.stop.Stop.TheVariants as stops
 use Rattle.pl_cli.specs.Answer.{make_answer, made_text}
 use Rattle.pl_cli.specs.Make.{built, made, with_room, recipe_cause}
-use Rattle.pl_cli.specs.Outcome.{Stops, LeavesAt, LeavesFiles, LeavesEither, of_fault, of_read_fault, of_recipe_fault}
+use Rattle.pl_cli.specs.Outcome.{Stops, LeavesAt, of_fault, of_read_fault, of_recipe_fault}
 use Rattle.pl_cli.specs.ValidFiles.{SameFiles, is_full}
 use Rattle.pl_cli.specs.Words.{bytes_of}
 use Rattle.pl_cli.proofs.FilesLemmas.{same_files, same_elsewhere, same_replaced}
@@ -140,9 +140,10 @@ done_files name before mid after meant bytes ok same is =
 -- it stopped before the folder changed
 pub left_before : (files_told input_told : Bool) (name : List ℕ) (before after : Files) (meant : Result (List ℕ) Cause) (disk source : Type 0) (stop : Stop) → files_told ≡ true → after ≡ before
     → Stops files_told input_told meant disk source stop → LeavesAt input_told before (make_answer name before meant).next after stop
-left_before files_told input_told name before after meant disk source (stops.Cause cause) tells same h =
-    (same_files before after same,
-    λ told. same_as (make_answer name before meant).next before after (ap (λ (m : Result (List ℕ) Cause). (make_answer name before m).next) (h tells told)) (same_files before after same))
+left_before files_told input_told name before after meant disk source (stops.Cause cause) tells same h = (
+  same_files before after same,
+  λ told. same_as (make_answer name before meant).next before after (ap (λ (m : Result (List ℕ) Cause). (make_answer name before m).next) (h tells told)) (same_files before after same),
+)
 left_before files_told input_told name before after meant disk source stops.Failed tells same h = λ _. inl (same_files before after same)
 left_before files_told input_told name before after meant disk source stops.InputFailed tells same h = same_files before after same
 left_before files_told input_told name before after meant disk source stops.NoMemory tells same h = same_files before after same

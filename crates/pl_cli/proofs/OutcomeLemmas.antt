@@ -1,5 +1,5 @@
 -- What an outcome says of its status, and what is left where no file changes.
-use Rattle.std.proofs.Common.{◌≡◌, List, ℕ, Bool, true, Option, refl, sym, ap, subst, ◌∙◌, inl}
+use Rattle.std.proofs.Common.{◌≡◌, List, ℕ, Bool, true, Option, Some, refl, sym, ap, subst, ◌∙◌, inl}
 use Rattle.std.specs.Prelude.{Result, Ok, Err}
 use Rattle.pl_base.specs.Files.{Files}
 use Rattle.pl_base.specs.Streams.{got_after, GotPrefix}
@@ -7,10 +7,14 @@ use Rattle.pl_base.proofs.StreamLaws.{GotPrefix-all, GotPrefix-none}
 use Rattle.pl_cli.specs.declared.status.Status.{Status}
 use Rattle.pl_cli.specs.declared.status.Status.TheVariants as statuses
 use Rattle.pl_cli.specs.declared.cause.Cause.{Cause}
+use Rattle.pl_cli.specs.declared.mode.Mode.{Mode}
+use Rattle.pl_cli.specs.declared.mode.Mode.TheVariants.{Load, Make}
 use Rattle.pl_loader.specs.Started.{Start}
-use Rattle.pl_cli.specs.Answer.{Answer, is_answer, load_answer}
+use Rattle.pl_cli.specs.Load.{loaded}
+use Rattle.pl_cli.specs.Answer.{Answer, is_answer, load_answer, command_answer}
 use Rattle.pl_cli.specs.Outcome.{IsOutcome, IsWhole, IsPart, LeavesFiles}
 use Rattle.pl_cli.specs.ValidFiles.{SameFiles}
+use Rattle.pl_cli.specs.Words.{is_told, bytes_of}
 use Rattle.pl_cli.proofs.FilesLemmas.{same_files}
 
 module _ (files input : Bool) (a : Answer) (disk sink : Type 0) (old new : Option (List ℕ)) where
@@ -53,8 +57,11 @@ load_next : (files : Files) (r : Result Start Cause) → (load_answer files r).n
 load_next files (Ok start) = refl
 load_next files (Err cause) = refl
 
-pub load_unchanged : (input : Bool) (before after : Files) (r : Result Start Cause) (status : Status) → after ≡ before → LeavesFiles input before (load_answer before r).next after status
-load_unchanged input before after r status same = unchanged input before (load_answer before r).next after (load_next before r) same status
+-- `--load` is to change no file
+pub load_leaves : (mode : Mode) (name : List ℕ) (left : Option (List ℕ)) (before after : Files) (status : Status) → mode ≡ Load → after ≡ before
+    → LeavesFiles (is_told (Some (mode, name)) left) before (command_answer (Some (mode, name)) before (bytes_of left)).next after status
+load_leaves Load name left before after status is same = unchanged (is_told (Some (Load, name)) left) before (load_answer before (loaded before name)).next after (load_next before (loaded before name)) same status
+load_leaves Make name left before after status is same = cc
 
 -- an outcome over files that were told is that of an answer which is the same where they are told
 module _ (told : Bool) (a b : Answer) (disk sink : Type 0) (old new : Option (List ℕ)) (same : told ≡ true → b ≡ a) where

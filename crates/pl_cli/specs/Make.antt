@@ -1,5 +1,5 @@
 -- The file that `--make` stores under a name, or the first cause why it stores none.
-use Rattle.std.specs.Prelude.{ℕ, not, List, length, nat_lt, Result, Ok, Err}
+use Rattle.std.specs.Prelude.{ℕ, not, List, length, nat_lt, Result, Ok}
 use Rattle.std.specs.FinMap.{keys}
 use Rattle.pl_base.specs.Answers.{◌>>=◌, unless, because}
 use Rattle.pl_base.specs.Files.{Files}

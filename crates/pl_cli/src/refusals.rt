@@ -4,7 +4,7 @@ ghost use Rattle.pl_cli.specs.Refusals as spec;
 
 use crate::cause::Cause;
 use crate::symbol_text::push_symbol;
-use pl_base::Rows;
+use pl_base::{Rows, Text};
 use std::alloc::{AllocError, Global};
 
 /// The line of a cause that tells nothing more.
@@ -17,9 +17,10 @@ fn bare(alloc: Global, cause: &str) -> Result<Vec<u8>, AllocError>
 
 /// The line of a cause that tells a file's name.
 #[tactic(auto, unfolding(crate::specs::Refusals::named))]
-fn named(alloc: Global, cause: &str, name: &str) -> Result<Vec<u8>, AllocError>
-    ensures { IfOk result (λ line. line.items ≡ spec.named cause.now name.now) }
+fn named(alloc: Global, cause: &str, name: Text) -> Result<Vec<u8>, AllocError>
+    ensures { IfOk result (λ line. line.items ≡ spec.named cause.now name) }
 {
+    let name = name.as_str();
     Ok(format!(in alloc; "refused {cause} {name}\n")?.into_bytes())
 }
 
@@ -28,13 +29,14 @@ fn named(alloc: Global, cause: &str, name: &str) -> Result<Vec<u8>, AllocError>
 fn linked(
     alloc: Global,
     cause: &str,
-    object: &str,
-    symbol: &Option<Rows<u8>>,
+    object: Text,
+    symbol: Option<Rows<u8>>,
 ) -> Result<Vec<u8>, AllocError>
-    ensures { IfOk result (λ line. line.items ≡ spec.linked cause.now object.now symbol.now) }
+    ensures { IfOk result (λ line. line.items ≡ spec.linked cause.now object symbol) }
 {
+    let object = object.as_str();
     let mut line = format!(in alloc; "refused {cause} {object} ")?.into_bytes();
-    push_symbol(&mut line, symbol)?;
+    push_symbol(&mut line, &symbol)?;
     line.extend_from_slice(b"\n")?;
     Ok(line)
 }
@@ -48,9 +50,10 @@ fn has_argument(clause: u32) -> bool
 
 /// The line of a refusal by an acceptance clause.
 #[tactic(auto, unfolding(crate::specs::Refusals::refused))]
-fn refused(alloc: Global, name: &str, clause: u32, argument: u64) -> Result<Vec<u8>, AllocError>
-    ensures { IfOk result (λ line. line.items ≡ spec.refused name.now clause argument) }
+fn refused(alloc: Global, name: Text, clause: u32, argument: u64) -> Result<Vec<u8>, AllocError>
+    ensures { IfOk result (λ line. line.items ≡ spec.refused name clause argument) }
 {
+    let name = name.as_str();
     if has_argument(clause) {
         Ok(format!(in alloc; "refused Refused {name} {clause} {argument}\n")?.into_bytes())
     } else {
@@ -68,35 +71,29 @@ fn refused_recipe(alloc: Global, number: u32, kind: u8) -> Result<Vec<u8>, Alloc
 
 /// The line of a refusal.
 #[tactic(auto, unfolding(crate::specs::Refusals::refusal))]
-pub fn refusal(alloc: Global, cause: &Cause) -> Result<Vec<u8>, AllocError>
-    ensures { IfOk result (λ line. line.items ≡ spec.refusal cause.now) }
+pub fn refusal(alloc: Global, cause: Cause) -> Result<Vec<u8>, AllocError>
+    ensures { IfOk result (λ line. line.items ≡ spec.refusal cause) }
 {
     match cause {
         Cause::BadName => bare(alloc, "BadName"),
-        Cause::NotThere(name) => named(alloc, "NotThere", name.as_str()),
-        Cause::FileTooLarge(name) => named(alloc, "FileTooLarge", name.as_str()),
+        Cause::NotThere(name) => named(alloc, "NotThere", name),
+        Cause::FileTooLarge(name) => named(alloc, "FileTooLarge", name),
         Cause::Refused {
             name,
             number,
             argument,
-        } => refused(alloc, name.as_str(), *number, *argument),
-        Cause::NotProgram(name) => named(alloc, "NotProgram", name.as_str()),
-        Cause::NeededIsProgram(name) => named(alloc, "NeededIsProgram", name.as_str()),
-        Cause::TooMany(name) => named(alloc, "TooMany", name.as_str()),
+        } => refused(alloc, name, number, argument),
+        Cause::NotProgram(name) => named(alloc, "NotProgram", name),
+        Cause::NeededIsProgram(name) => named(alloc, "NeededIsProgram", name),
+        Cause::TooMany(name) => named(alloc, "TooMany", name),
         Cause::TlsTooLarge => bare(alloc, "TlsTooLarge"),
-        Cause::NoPlace(name) => named(alloc, "NoPlace", name.as_str()),
-        Cause::Undefined { object, symbol } => linked(alloc, "Undefined", object.as_str(), symbol),
-        Cause::UndefinedTls { object, symbol } => {
-            linked(alloc, "UndefinedTls", object.as_str(), symbol)
-        }
-        Cause::TlsMismatch { object, symbol } => {
-            linked(alloc, "TlsMismatch", object.as_str(), symbol)
-        }
-        Cause::CopyOutside { object, symbol } => {
-            linked(alloc, "CopyOutside", object.as_str(), symbol)
-        }
+        Cause::NoPlace(name) => named(alloc, "NoPlace", name),
+        Cause::Undefined { object, symbol } => linked(alloc, "Undefined", object, symbol),
+        Cause::UndefinedTls { object, symbol } => linked(alloc, "UndefinedTls", object, symbol),
+        Cause::TlsMismatch { object, symbol } => linked(alloc, "TlsMismatch", object, symbol),
+        Cause::CopyOutside { object, symbol } => linked(alloc, "CopyOutside", object, symbol),
         Cause::InputTooLarge => bare(alloc, "InputTooLarge"),
-        Cause::Recipe { number, kind } => refused_recipe(alloc, *number, *kind),
+        Cause::Recipe { number, kind } => refused_recipe(alloc, number, kind),
         Cause::TooManyFiles => bare(alloc, "TooManyFiles"),
     }
 }

@@ -20,7 +20,10 @@ fn has_name(names: &[String], name: &str) -> bool
 fn count_valid(names: &[String]) -> usize
     ensures { result ≡ count_by is_valid_name (map string_bytes names.now) }
 {
-    names.iter().filter(|name| valid_name(name.as_str())).count()
+    names
+        .iter()
+        .filter(|name| valid_name(name.as_str()))
+        .count()
 }
 
 /// Whether a folder with files of these names has no room for one of that name.

@@ -53,7 +53,7 @@ fn start_and_write<K: Sink>(alloc: Global, loader: &Loader, output: &mut K) -> S
             Err(WriteStop::Failed) => Status::WriteFault,
             Err(WriteStop::NoMemory) => Status::NoMemory,
         },
-        Err(Stop::Cause(cause)) => match refusal(alloc, &cause) {
+        Err(Stop::Cause(cause)) => match refusal(alloc, cause) {
             Ok(line) => finish(output, &line, Status::Refused),
             Err(_) => Status::NoMemory,
         },
@@ -83,7 +83,7 @@ fn load_and_write<D: Folder, K: Sink>(
         Err(Stop::Failed) => Status::DiskFault,
         Err(Stop::InputFailed) => Status::ReadFault,
         Err(Stop::NoMemory) => Status::NoMemory,
-        Err(Stop::Cause(cause)) => match refusal(alloc, &cause) {
+        Err(Stop::Cause(cause)) => match refusal(alloc, cause) {
             Ok(line) => finish(output, &line, Status::Refused),
             Err(_) => Status::NoMemory,
         },
@@ -116,7 +116,7 @@ fn make_and_write<D: Folder, S: Source, K: Sink>(
         Err(Stop::Failed) => Status::DiskFault,
         Err(Stop::InputFailed) => Status::ReadFault,
         Err(Stop::NoMemory) => Status::NoMemory,
-        Err(Stop::Cause(cause)) => match refusal(alloc, &cause) {
+        Err(Stop::Cause(cause)) => match refusal(alloc, cause) {
             Ok(line) => finish(output, &line, Status::Refused),
             Err(_) => Status::NoMemory,
         },

@@ -1,5 +1,5 @@
-use Rattle.std.proofs.Common.{◌≡◌, ℕ, List, true, sym, subst, map, rules, ◌∙◌, ap}
-use Rattle.std.specs.Prelude.{Ok, Err, is_some, string_bytes}
+use Rattle.std.proofs.Common.{◌≡◌, true, sym, map, rules, ◌∙◌, ap}
+use Rattle.std.specs.Prelude.{is_some, string_bytes}
 use Rattle.pl_base.specs.Counts.{Rose}
 use Rattle.pl_base.specs.Names.{is_valid_name}
 use Rattle.pl_folder.proofs.ReplaceLemmas.{IfErr-at}

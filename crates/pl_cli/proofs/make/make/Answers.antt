@@ -1,9 +1,7 @@
-use Rattle.std.proofs.Common.{◌≡◌, ℕ, List, true, sym, subst, rules, ◌∙◌, ap}
-use Rattle.std.specs.Prelude.{Ok, Err, is_some, string_bytes}
+use Rattle.std.proofs.Common.{◌≡◌, ℕ, List, true, subst, ◌∙◌, ap}
+use Rattle.std.specs.Prelude.{is_some, string_bytes}
 use Rattle.pl_base.specs.Counts.{Rose}
-use Rattle.pl_base.specs.Names.{is_valid_name}
 use Rattle.pl_base.proofs.NameLaws.{valid_length}
-use Rattle.pl_folder.specs.declared.fault.FolderFault.{FolderFault}
 use Rattle.pl_folder.specs.Replaced.{replaced, LeavesOldOrNew}
 use Rattle.pl_folder.proofs.ReplaceLemmas.{IfErr-at}
 use Rattle.pl_cli.specs.declared.stop.Stop.{Stop}

@@ -1,5 +1,8 @@
-use Rattle.std.proofs.Common.{◌≡◌, append_assoc}
+use Rattle.std.proofs.Common.{◌≡◌, ap, rules, append_assoc}
+use Rattle.pl_cli.specs.Refusals.{linked, symbol_text}
 use Rattle.pl_cli.proofs.refusals.linked.Goals as goal
 
 pub returns : goal.returns
-returns c = ?
+unfolding linked
+returns c =
+    simp (c.in_ok-extend_from_slice.ensures.items, c.in_ok-push_symbol.ensures, c.into_bytes-line.ensures.value, c.in_ok-format.ensures.ok, append_assoc) ?
