@@ -1,8 +1,8 @@
-use Rattle.std.proofs.Common.{◌≡◌, ap, rules, append_assoc}
-use Rattle.pl_cli.specs.Refusals.{linked, symbol_text}
+use Rattle.std.proofs.Common.{refl, append_assoc}
+use Rattle.pl_cli.specs.Refusals.{linked}
 use Rattle.pl_cli.proofs.refusals.linked.Goals as goal
 
 pub returns : goal.returns
 unfolding linked
 returns c =
-    simp (c.in_ok-extend_from_slice.ensures.items, c.in_ok-push_symbol.ensures, c.into_bytes-line.ensures.value, c.in_ok-format.ensures.ok, append_assoc) ?
+    simp (c.in_ok-extend_from_slice.ensures.items, c.in_ok-push_symbol.ensures, c.into_bytes-line.ensures.value, c.in_ok-format.ensures.ok, c.as_str-object.ensures, append_assoc) refl
