@@ -109,7 +109,7 @@ module _ (ps : List Piece) (a i : ℕ) (h : ascends 0 ps ≡ true) (point : IsPa
   -- or none up to the start of the first one that does not end by it
   pub none_stored_before : (b : ℕ) (e : Piece) → i < length ps → a ≤ b → b < (get_or ps i e).start → list_any (stores b) ps ≡ false
   none_stored_before b e lt le below = any_none (stores b) ps (λ k d within. elim (cases_order k i) [
-      | inl same ↦ next same d within
+      | inl same ↦ next k same d within
       | inr other ↦ elim other [
         | inl less ↦ past_stored b k d le less
         | inr more ↦
@@ -134,7 +134,7 @@ unstored (x ∷ xs) a p none found =
       | inl hit ↦
           let is : Some x ≡ Some p = rw hit at found in
           let same : x ≡ p = cc in
-          let past : length x.bytes ≤ a - x.start = let no = out.0 in grind (arith, nat_tests) in
+          let past : length x.bytes ≤ a - x.start = let empty = out.0 in grind (arith, nat_tests) in
           rw (← same) (get_or_past x.bytes (a - x.start) 0 past)
     ]
 
