@@ -1,9 +1,9 @@
 -- Bytes of an image.
-use Rattle.std.proofs.Common.{◌≡◌, ℕ, zero, suc, ◌+◌, ◌*◌, ◌/◌, ◌<◌, ◌≤◌, Bool, true, false, cond, List, [], ◌∷◌, ◌++◌, length, get_or, Option, Some, None, refl, sym, ap, ◌∙◌, arith, inl, inr}
+use Rattle.std.proofs.Common.{◌≡◌, ℕ, zero, suc, ◌+◌, ◌*◌, ◌/◌, ◌<◌, ◌≤◌, Bool, true, false, cond, List, [], ◌∷◌, ◌++◌, length, get_or, drop, Option, Some, None, refl, sym, ap, subst, ◌∙◌, arith, inl, inr}
 use Rattle.std.specs.Prelude.{◌||◌, ◌==◌, fold, find, map}
 use Rattle.std.specs.List.{list_any, flat_map, All}
 use Rattle.std.proofs.lemmas.Bool.{cases_Bool, false≢true}
-use Rattle.std.proofs.lemmas.List.{get_or_append_left, get_or-append-add, length-append, get_or_default}
+use Rattle.std.proofs.lemmas.List.{get_or_append_left, get_or-append-add, length-append, get_or_default, drop_more, drop_all}
 use Rattle.std.proofs.lemmas.List.Folds.{Any-from_list_any}
 use Rattle.pl_base.specs.Memory.{Memory, Piece, Fill, AtMostOne, lies, byte_at, covers, byte_of as fill_byte, over, layered, filled, shown}
 use Rattle.pl_image.specs.declared.loaded.Loaded.{Loaded}
@@ -51,6 +51,26 @@ any_missed (x ∷ xs) a missed = elim (cases_Bool (lies a x)) [
   | inl hit ↦ absurd (let none : Some x ≡ None = rw hit at missed in cc)
   | inr miss ↦ rw miss (any_missed xs a (rw miss at missed))
 ]
+
+-- ---- objects one after the other
+
+module _ (objects : List Loaded) (k : ℕ) (item : Loaded) (ps : List Piece) (a : ℕ) (lt : k < length objects) (is : item ≡ get_or objects k item) (pieces : ps ≡ item.pieces) where
+  object_step : layered (all_pieces (drop k objects)) a ≡ cond (list_any (lies a) ps) (layered ps a) (layered (all_pieces (drop (k + 1) objects)) a)
+  object_step =
+      let there : (get_or objects k item).pieces ≡ ps = ap (λ (o : Loaded). o.pieces) (sym is) ∙ sym pieces in
+      ap (λ (os : List Loaded). layered (all_pieces os) a) (drop_more objects k item lt)
+      ∙ ap (λ (qs : List Piece). layered (qs ++ all_pieces (drop (k + 1) objects)) a) there
+      ∙ layered_append ps (all_pieces (drop (k + 1) objects)) a
+
+  pub object_hit : (p : Piece) → find (lies a) ps ≡ Some p → layered (all_pieces (drop k objects)) a ≡ Some (byte_at a p)
+  object_hit p found = object_step ∙ rw (any_found ps a p found) (layered_found ps a ∙ ap (found_byte a) found)
+
+  pub object_miss : find (lies a) ps ≡ None → layered (all_pieces (drop k objects)) a ≡ layered (all_pieces (drop (k + 1) objects)) a
+  object_miss missed = object_step ∙ rw (any_missed ps a missed) refl
+
+pub objects_past : (objects : List Loaded) (k a : ℕ) → length objects ≤ k → layered (all_pieces (drop k objects)) a ≡ None
+unfolding layered
+objects_past objects k a le = ap (λ (os : List Loaded). layered (all_pieces os) a) (drop_all k objects le)
 
 -- ---- patches
 
@@ -107,8 +127,17 @@ own_same (o ∷ os) (suc k) a d lone lt some =
       | inr miss ↦ layered_append o.pieces (all_pieces os) a ∙ rw miss (own_same os k a d (lone_rest o.pieces (all_pieces os) lone) (omega arith) some)
     ]
 
-pub own_pieces : (i : Image) (k : ℕ) (d : Loaded) → AreLoaded i.objects → k < length i.objects → AreOwn i (get_or i.objects k d).pieces
+own_pieces : (i : Image) (k : ℕ) (d : Loaded) → AreLoaded i.objects → k < length i.objects → AreOwn i (get_or i.objects k d).pieces
 own_pieces i k d are lt = record { ascend = are.ascend k d lt; same = λ a some. own_same i.objects k a d are.apart lt some }
+
+-- the pieces of one of the objects, as a loop over them reads them
+pub item_pieces : (i : Image) (objects : List Loaded) (k : ℕ) (item : Loaded) (ps : List Piece) → objects ≡ i.objects → item ≡ get_or objects k item → ps ≡ item.pieces → ps ≡ (get_or i.objects k item).pieces
+item_pieces i objects k item ps same is pieces = pieces ∙ ap (λ (o : Loaded). o.pieces) (is ∙ ap (λ (os : List Loaded). get_or os k item) same)
+
+pub item_own : (i : Image) (objects : List Loaded) (k : ℕ) (item : Loaded) (ps : List Piece) → AreLoaded i.objects → k < length objects → objects ≡ i.objects → item ≡ get_or objects k item → ps ≡ item.pieces → AreOwn i ps
+item_own i objects k item ps are lt same is pieces =
+    let within : k < length i.objects = subst (λ (os : List Loaded). k < length os) same lt in
+    subst (AreOwn i) (sym (item_pieces i objects k item ps same is pieces)) (own_pieces i k item are within)
 
 extents_have : (ps : List Piece) (a : ℕ) → list_any (has a) (map extent_of ps) ≡ list_any (lies a) ps
 extents_have [] a = refl

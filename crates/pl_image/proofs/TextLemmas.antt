@@ -67,24 +67,35 @@ flat_rest : (f : Loaded → List ℕ) (xs : List Loaded) (k : ℕ) (d : Loaded) 
 flat_rest f xs k d lt =
     ap (flat_map f) (sym (take-append-drop k xs)) ∙ flat_append f (take k xs) (drop k xs) ∙ ap (λ (ys : List Loaded). flat_map f (take k xs) ++ flat_map f ys) (drop_more xs k d lt)
 
-module _ (i : Image) (old mid new : Option (List ℕ)) (before between after : List ℕ) (k : ℕ) (d : Loaded) where
+module _ (i : Image) (old mid new : Option (List ℕ)) (before between after : List ℕ) (k : ℕ) where
   pub objects_begin : Passes old old before before (flat_map (object_lines i) (take 0 i.objects))
   objects_begin = passes_none old before
 
-  pub objects_more : k < length i.objects → Passes old mid before between (flat_map (object_lines i) (take k i.objects)) → Passes mid new between after (object_lines i (get_or i.objects k d))
-      → Passes old new before after (flat_map (object_lines i) (take (k + 1) i.objects))
-  objects_more lt p q =
+  pub objects_more : (d : Loaded) (ps : List Piece) → k < length i.objects → ps ≡ (get_or i.objects k d).pieces → Passes old mid before between (flat_map (object_lines i) (take k i.objects))
+      → Passes mid new between after (word_lines (own_memory i ps)) → Passes old new before after (flat_map (object_lines i) (take (k + 1) i.objects))
+  objects_more d ps lt is p q =
+      let one : Passes mid new between after (object_lines i (get_or i.objects k d)) = subst (λ (xs : List Piece). Passes mid new between after (word_lines (own_memory i xs))) is q in
       subst (Passes old new before after) (sym (flat_more (object_lines i) i.objects k d lt))
-      (passes_more old mid new before between after (flat_map (object_lines i) (take k i.objects)) (object_lines i (get_or i.objects k d)) p q)
+      (passes_more old mid new before between after (flat_map (object_lines i) (take k i.objects)) (object_lines i (get_or i.objects k d)) p one)
 
-  pub objects_stopped : k < length i.objects → Passes old mid before between (flat_map (object_lines i) (take k i.objects)) → GotPrefix mid new (between ++ object_lines i (get_or i.objects k d))
-      → GotPrefix old new (before ++ text_of i)
-  objects_stopped lt p q =
+  pub objects_stopped : (d : Loaded) (ps : List Piece) → k < length i.objects → ps ≡ (get_or i.objects k d).pieces → Passes old mid before between (flat_map (object_lines i) (take k i.objects))
+      → GotPrefix mid new (between ++ word_lines (own_memory i ps)) → GotPrefix old new (before ++ text_of i)
+  objects_stopped d ps lt is p q =
       let front = flat_map (object_lines i) (take k i.objects) in
       let one = object_lines i (get_or i.objects k d) in
       let rest = flat_map (object_lines i) (drop (k + 1) i.objects) in
-      let more : GotPrefix mid new (between ++ (one ++ rest)) = subst (GotPrefix mid new) (append_assoc between one rest) (GotPrefix-more mid new (between ++ one) rest q) in
+      let part : GotPrefix mid new (between ++ one) = subst (λ (xs : List Piece). GotPrefix mid new (between ++ word_lines (own_memory i xs))) is q in
+      let more : GotPrefix mid new (between ++ (one ++ rest)) = subst (GotPrefix mid new) (append_assoc between one rest) (GotPrefix-more mid new (between ++ one) rest part) in
       subst (λ (xs : List ℕ). GotPrefix old new (before ++ xs)) (sym (text_is i ∙ flat_rest (object_lines i) i.objects k d lt)) (stopped_behind old mid new before between front (one ++ rest) p more)
 
   pub objects_done : length i.objects ≤ k → Passes old new before after (flat_map (object_lines i) (take k i.objects)) → Passes old new before after (text_of i)
   objects_done all p = subst (Passes old new before after) (ap (flat_map (object_lines i)) (take_all k i.objects all) ∙ sym (text_is i)) p
+
+-- ---- the buffer at the end
+
+-- a fault as it is emptied
+pub text_stopped : (old mid new : Option (List ℕ)) (before between xs : List ℕ) → before ≡ [] → Passes old mid before between xs → GotPrefix mid new between → GotPrefix old new xs
+text_stopped old mid new before between xs empty p q =
+    let more : GotPrefix mid new (between ++ []) = GotPrefix-more mid new between [] q in
+    let all : before ++ (xs ++ []) ≡ xs = ap (λ (ys : List ℕ). ys ++ (xs ++ [])) empty ∙ append-nil xs in
+    subst (GotPrefix old new) all (stopped_behind old mid new before between xs [] p more)

@@ -2,13 +2,13 @@
 use Rattle.std.proofs.Common.{◌≡◌, ℕ, zero, suc, ◌+◌, ◌-◌, ◌*◌, ◌/◌, ◌<◌, ◌≤◌, Bool, true, false, cond, not, List, [], ◌∷◌, ◌++◌, length, get_or, take, drop, refl, sym, ap, ◌∙◌, arith, inl, inr}
 use Rattle.std.specs.Prelude.{◌&&◌, ◌==◌, nat_le, nat_lt, fold, filter}
 use Rattle.std.specs.List.{list_any, All}
-use Rattle.std.specs.List.Sorted.{IsNonDecreasingBy, IsPartitionedBy, IsPartitionPoint, IsPermutation, IsStableByKey, ties}
+use Rattle.std.specs.List.Sorted.{IsNonDecreasingBy, IsPartitionPoint, IsPermutation, IsStableByKey, ties}
 use Rattle.std.specs.Ordering.{nat_cmp, is_lt}
 use Rattle.std.proofs.lemmas.Bool.{cases_Bool, cases_lt, or_parts}
 use Rattle.std.proofs.lemmas.Bool.Decides.{nat_tests}
 use Rattle.std.proofs.lemmas.List.Elements.{All-nil, All-push, All-take, All-drop}
 use Rattle.std.proofs.lemmas.List.Sums.{fold_push, fold-append, fold_more}
-use Rattle.std.proofs.lemmas.List.Sorted.{All-permutation, IsPartitionedBy-leb, IsPartitionedBy-ltb}
+use Rattle.std.proofs.lemmas.List.Sorted.{All-permutation}
 use Rattle.std.proofs.lemmas.List.{take_all, take-append-drop, drop-drop, length-take, length-drop, get_or-take, get_or-drop, get_or_default}
 use Rattle.pl_base.specs.Memory.{Fill, covers, byte_of}
 use Rattle.pl_image.specs.declared.touched.Touch.{Touch}
@@ -124,15 +124,9 @@ fold_idle f (x ∷ xs) b idle =
     let one : f b x ≡ b = idle b 0 x (omega arith) in
     ap (λ c. fold f c xs) one ∙ fold_idle f xs b (λ c k d lt. idle c (suc k) d (omega arith))
 
-pub below_first : (ts : List Touch) (n : ℕ) → IsNonDecreasingBy (λ t. t.number) ts → IsPartitionedBy (λ t. nat_lt t.number n) ts
-below_first ts n rising = IsPartitionedBy-ltb (λ t. t.number) ts n rising
-
-pub up_to_first : (ts : List Touch) (n : ℕ) → IsNonDecreasingBy (λ t. t.number) ts → IsPartitionedBy (λ t. nat_le t.number n) ts
-up_to_first ts n rising = IsPartitionedBy-leb (λ t. t.number) ts n rising
-
 module _ (patches : List Fill) (ts : List Touch) (n i j : ℕ) (h : IsIndex patches ts)
     (first : IsPartitionPoint (λ t. nat_lt t.number n ≡ true) (λ t. nat_lt t.number n ≡ false) ts i)
-    (last : IsPartitionPoint (λ t. nat_le t.number n ≡ true) (λ t. nat_le t.number n ≡ false) ts j)
+    (last : IsPartitionPoint (λ t. nat_lt t.number (n + 1) ≡ true) (λ t. nat_lt t.number (n + 1) ≡ false) ts j)
     (i_within : i ≤ length ts) (j_within : j ≤ length ts) where
   pub in_order : i ≤ j
   in_order = elim (cases_lt j i) [
