@@ -5,4 +5,5 @@ use Rattle.pl_cli.proofs.refusals.linked.Goals as goal
 pub returns : goal.returns
 unfolding linked
 returns c =
-    simp (c.in_ok-extend_from_slice.ensures.items, c.in_ok-push_symbol.ensures, c.into_bytes-line.ensures.value, c.in_ok-format.ensures.ok, c.as_str-object.ensures, append_assoc) refl
+    simp (c.in_ok-extend_from_slice.ensures.items, c.in_ok-push_symbol.ensures, c.into_bytes-line.ensures.value, c.in_ok-format.ensures.ok, append_assoc)
+    (rw c.as_str-object.ensures refl)
