@@ -1,0 +1,4 @@
+pub mod Lines
+pub mod Loads
+pub mod Image
+pub mod Index

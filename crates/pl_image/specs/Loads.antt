@@ -1,0 +1,60 @@
+-- What an object loads at a place: the file bytes and zeros of its PT_LOADs, and which of these bytes belong to its link tables (System V gABI chapter 5, "Program Header" and "Program Loading"). A place is the address that the object's address 0 gets: 0 for a program.
+use Rattle.std.specs.Prelude.{◌≡◌, ℕ, ◌+◌, ◌-◌, ◌≤◌, Bool, ◌&&◌, List, map}
+use Rattle.std.specs.List.{list_any, All}
+use Rattle.pl_base.specs.Bytes.{part}
+use Rattle.pl_base.specs.Memory.{Memory, Piece, is_within, layered, shown}
+use Rattle.pl_base.specs.Windows.{Window, holds}
+use Rattle.pl_elf.specs.declared.constants.TheConstants.{ADDRESS_LIMIT}
+use Rattle.pl_elf.specs.declared.segment.Segment.{Segment}
+use Rattle.pl_elf.specs.declared.range.Range.{Range}
+use Rattle.pl_elf.specs.Headers.{loads}
+use Rattle.pl_elf.specs.Clauses.{AreLoads}
+use Rattle.pl_object.specs.Accepted.{window_of}
+use Rattle.pl_object.specs.declared.object.Object.{Object}
+use Rattle.pl_image.specs.declared.mask.Load.{Load}
+use Rattle.pl_image.specs.declared.mask.Mask.{Mask}
+use Rattle.pl_image.specs.declared.loaded.Loaded.{Loaded}
+
+-- ---- memory
+
+-- what a segment loads: its file bytes from its address on, then zeros
+abbrev pub loaded_piece : ℕ → List ℕ → Segment → Piece
+loaded_piece place bytes s = record { start = place + s.vaddr; size = s.memsz; bytes = part s.offset s.filesz bytes }
+
+abbrev pub loaded_pieces : ℕ → List ℕ → List Segment → List Piece
+loaded_pieces place bytes ss = map (loaded_piece place bytes) ss
+
+abbrev pub pieces_at : ℕ → List ℕ → Object → List Piece
+pieces_at place bytes o = loaded_pieces place bytes (loads o.segments)
+
+-- ---- the mask
+
+-- where the file bytes of a segment are loaded
+abbrev pub load_at : ℕ → Segment → Load
+load_at place s = record { start = place + s.vaddr; offset = s.offset; size = s.filesz }
+
+abbrev pub mask_at : ℕ → Object → Mask
+mask_at place o = record { loads = map (load_at place) (loads o.segments); tables = o.tables }
+
+-- whether a file byte of one of the windows is loaded at an address
+abbrev pub loads_from : List Window → ℕ → Load → Bool
+loads_from windows address load =
+    is_within load.start load.size address && list_any (holds (load.offset + (address - load.start))) windows
+
+-- an address is masked where a file byte of a link table is loaded
+unfoldable pub is_masked : Mask → ℕ → Bool
+is_masked mask address = list_any (loads_from (map window_of mask.tables) address) mask.loads
+
+-- ---- the whole
+
+abbrev pub loaded_at : ℕ → List ℕ → Object → Loaded
+loaded_at place bytes o = record { pieces = pieces_at place bytes o; mask = mask_at place o }
+
+-- the memory of an object in which nothing is relocated, with 0 at each masked byte: at 0 the image of a static program
+unfoldable pub image_of : ℕ → List ℕ → Object → Memory
+image_of place bytes o = let memory = layered (pieces_at place bytes o) in shown memory (is_masked (mask_at place o)) memory
+
+-- the PT_LOADs are accepted ones, and each ends at the place at or below the limit of addresses
+pub record IsPlaced (place : ℕ) (o : Object) : Type 0 where
+  pub loads : AreLoads (loads o.segments)
+  pub ends : All (λ s. place + (s.vaddr + s.memsz) ≤ ADDRESS_LIMIT) (loads o.segments)

@@ -1,0 +1,193 @@
+ghost use Rattle.std.specs.Prelude.{◌≡◌, ◌+◌, ◌*◌, ◌-◌, ◌≤◌, ◌<◌, ◌^◌, ◌++◌, length, fold, OnErr, OnOk, IfOk, if◌then◌else◌};
+ghost use Rattle.pl_base.specs.Counts.{Rose};
+ghost use Rattle.pl_base.specs.Memory.{layered};
+ghost use Rattle.pl_base.specs.Streams.{GotPrefix, got_after};
+ghost use Rattle.pl_image.specs.Image as spec;
+ghost use Rattle.pl_image.specs.Index.{AreTouching, laid};
+ghost use Rattle.pl_image.specs.Lines.{Passes, byte_in, lines_from, text, word_in, word_lines};
+ghost use Rattle.pl_image.specs.Lines as lines;
+
+use crate::image_text::{add_word, flush};
+use crate::lines::{Lines, WORDS};
+use crate::masked::masked_ranges;
+use crate::piece::{byte_at, next_stored, piece_at, words_end};
+use crate::ranges::any_has;
+use crate::touched::{Touch, index_patches, next_touched, patched, touching};
+use crate::{Loaded, Patch, Piece};
+use pl_base::word64;
+use pl_elf::Range;
+use pl_io::{Failed, Sink};
+use std::alloc::{AllocError, Global};
+use std::marker::Model;
+
+/// What is in memory at the start: what objects load, in scope order, and patches over it. A later patch wins. A byte of a link table that is loaded is 0.
+///
+/// Contracts see it as the objects and the patches, and `byte_of` of these as a map from addresses to bytes.
+#[derive(Drop)]
+pub struct Image<'a> {
+    objects: Vec<Loaded<'a>>,
+    patches: Vec<Patch>,
+
+    /// The words that patches touch.
+    touched: Vec<Touch>,
+
+    /// The masked addresses.
+    masked: Vec<Range>,
+}
+
+impl<'a> Model for Image<'a> {
+    ghost use Rattle.pl_image.specs.Image as words;
+    ghost use Rattle.pl_image.specs.Index.{IsImage};
+
+    ghost Value = { words.Image };
+
+    ghost view = { λ i. record { objects = i.objects.items; patches = i.patches.items } };
+
+    ghost invariant = { λ i. IsImage i.objects.items i.patches.items i.touched.items i.masked.items };
+}
+
+impl<'a> Image<'a> {
+    /// The image of objects in scope order, and of patches over them, one after the other. It fails only for want of memory.
+    pub fn new(
+        alloc: Global,
+        objects: Vec<Loaded<'a>>,
+        patches: Vec<Patch>,
+    ) -> Result<Image<'a>, AllocError>
+        requires { spec.AreLoaded objects.items }
+        ensures { IfOk result (λ i. i ≡ record { objects = objects.items; patches = patches.items }) }
+    {
+        let touched = index_patches(alloc, &patches)?;
+        let masked = masked_ranges(alloc, &objects)?;
+        Ok(Image {
+            objects,
+            patches,
+            touched,
+            masked,
+        })
+    }
+
+    /// The byte at an address, None exactly outside the PT_LOADs of the objects.
+    pub fn byte(&self, address: u64) -> Option<u8>
+        ensures { result ≡ spec.byte_of self.now address }
+    {
+        let below = loaded_byte(&self.objects, address)?;
+        let touching = touching(&self.patches, &self.touched, address / 8);
+        Some(self.shown(touching, below, address))
+    }
+
+    /// The byte that is shown at an address that an object loads.
+    fn shown(&self, touching: &[Touch], below: u8, address: u64) -> u8
+        requires { AreTouching self.now.patches touching.now (address / 8) }
+        ensures { result ≡ (if spec.any_masked self.now.objects address then 0 else fold (laid address) below self.now.patches) }
+    {
+        if any_has(&self.masked, address) {
+            0
+        } else {
+            patched(&self.patches, touching, below, address)
+        }
+    }
+
+    /// The byte at an address of an object with these pieces, 0 where it has none.
+    fn own_byte(&self, pieces: &[Piece<'_>], touching: &[Touch], address: u64) -> u8
+        requires own { spec.AreOwn self.now pieces.now }
+        requires touching { AreTouching self.now.patches touching.now (address / 8) }
+        ensures { result ≡ byte_in (spec.own_memory self.now pieces.now) address }
+    {
+        match piece_at(pieces, address) {
+            None => 0,
+            Some(piece) => self.shown(touching, byte_at(piece, address), address),
+        }
+    }
+
+    /// The word of a number of an object with these pieces.
+    #[tactic(auto, unfolding(crate::specs::Lines::word_in, pl_base::specs::Memory::read))]
+    fn word(&self, pieces: &[Piece<'_>], number: u64) -> u64
+        requires own { spec.AreOwn self.now pieces.now }
+        requires limit { number < WORDS }
+        ensures { result ≡ word_in (spec.own_memory self.now pieces.now) (8 * number) }
+    {
+        let touching = touching(&self.patches, &self.touched, number);
+        let address = 8 * number;
+        let bytes = [
+            self.own_byte(pieces, touching, address),
+            self.own_byte(pieces, touching, address + 1),
+            self.own_byte(pieces, touching, address + 2),
+            self.own_byte(pieces, touching, address + 3),
+            self.own_byte(pieces, touching, address + 4),
+            self.own_byte(pieces, touching, address + 5),
+            self.own_byte(pieces, touching, address + 6),
+            self.own_byte(pieces, touching, address + 7),
+        ];
+        word64(&bytes, 0)
+    }
+
+    /// A number from one on, up to which the words of an object with these pieces are 0.
+    fn next_word(&self, pieces: &[Piece<'_>], from: u64) -> u64
+        requires own { spec.AreOwn self.now pieces.now }
+        requires limit { from ≤ WORDS }
+        ensures within { (from ≤ result) × (result ≤ WORDS) }
+        ensures clear { lines.IsClear (spec.own_memory self.now pieces.now) (8 * from) (8 * result) }
+    {
+        next_stored(pieces, from).min(next_touched(&self.touched, from))
+    }
+
+    /// Adds the lines of an object with these pieces.
+    fn add_object<K: Sink>(
+        &self,
+        pieces: &[Piece<'_>],
+        lines: &mut Lines,
+        sink: &mut K,
+    ) -> Result<(), Failed>
+        requires { spec.AreOwn self.now pieces.now }
+        ensures ok { OnOk result (Passes (K.written sink.old) (K.written sink.new) lines.old.items lines.new.items (word_lines (spec.own_memory self.now pieces.now))) }
+        ensures err { OnErr result (GotPrefix (K.written sink.old) (K.written sink.new) (lines.old.items ++ word_lines (spec.own_memory self.now pieces.now))) }
+        ensures failed { OnErr result (Rose (K.faults sink.old) (K.faults sink.new)) }
+        ensures counts { K.faults sink.old ≤ K.faults sink.new }
+    {
+        let end = words_end(pieces);
+        let mut number = self.next_word(pieces, 0);
+        while number < end {
+            add_word(lines, sink, 8 * number, self.word(pieces, number))?;
+            number = self.next_word(pieces, number + 1);
+        }
+        Ok(())
+    }
+
+    /// Adds the lines of all objects.
+    fn add_objects<K: Sink>(&self, lines: &mut Lines, sink: &mut K) -> Result<(), Failed>
+        ensures ok { OnOk result (Passes (K.written sink.old) (K.written sink.new) lines.old.items lines.new.items (spec.text_of self.now)) }
+        ensures err { OnErr result (GotPrefix (K.written sink.old) (K.written sink.new) (lines.old.items ++ spec.text_of self.now)) }
+        ensures failed { OnErr result (Rose (K.faults sink.old) (K.faults sink.new)) }
+        ensures counts { K.faults sink.old ≤ K.faults sink.new }
+    {
+        for object in &self.objects {
+            self.add_object(object.pieces.as_slice(), lines, sink)?;
+        }
+        Ok(())
+    }
+
+    /// Writes the lines of the image's words, many at a time: object by object in scope order, and of each, in ascending order, the words at whose addresses it loads a byte that is shown as other than 0. It takes no memory. After a fault some first bytes were written.
+    pub fn write_text<K: Sink>(&self, sink: &mut K) -> Result<(), Failed>
+        ensures ok { OnOk result (K.written sink.new ≡ got_after (K.written sink.old) (spec.text_of self.now)) }
+        ensures err { OnErr result (GotPrefix (K.written sink.old) (K.written sink.new) (spec.text_of self.now)) }
+        ensures failed { OnErr result (Rose (K.faults sink.old) (K.faults sink.new)) }
+        ensures counts { K.faults sink.old ≤ K.faults sink.new }
+    {
+        let mut lines = Lines::new();
+        self.add_objects(&mut lines, sink)?;
+        flush(&mut lines, sink)
+    }
+}
+
+/// The byte that objects load at an address. Of several over it the first counts.
+fn loaded_byte(objects: &[Loaded<'_>], address: u64) -> Option<u8>
+    requires { spec.AreLoaded objects.now }
+    ensures { result ≡ layered (spec.all_pieces objects.now) address }
+{
+    for object in objects {
+        if let Some(piece) = piece_at(object.pieces.as_slice(), address) {
+            return Some(byte_at(piece, address));
+        }
+    }
+    None
+}

@@ -1,0 +1,24 @@
+//! Images: what objects load into memory, patches over it, and 0 at the bytes of link tables; and the lines of their words.
+#![tactic(auto)]
+
+mod image;
+mod image_text;
+mod lines;
+mod loaded;
+mod loading;
+mod mask;
+mod masked;
+mod parts;
+mod patch;
+mod piece;
+mod ranges;
+
+mod touched;
+
+pub use image::Image;
+pub use loaded::Loaded;
+pub use loading::{load_mask, load_object, load_pieces};
+pub use mask::{Load, Mask};
+pub use parts::Parts;
+pub use patch::Patch;
+pub use piece::Piece;

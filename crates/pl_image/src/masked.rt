@@ -1,0 +1,60 @@
+// The masked addresses of objects.
+ghost use Rattle.std.specs.Prelude.{◌≡◌, ◌+◌, ◌≤◌, ℕ, true, IfOk};
+ghost use Rattle.std.specs.List.{list_any, All};
+ghost use Rattle.pl_elf.specs.declared.constants.TheConstants.{ADDRESS_LIMIT};
+ghost use Rattle.pl_image.specs.Image.{any_masked};
+ghost use Rattle.pl_image.specs.Index.{rises};
+ghost use Rattle.pl_image.specs.Lines.{has};
+
+use crate::ranges::apart;
+use crate::{Load, Loaded, Mask};
+use pl_elf::Range;
+use std::alloc::{AllocError, Global};
+
+/// Adds the addresses at which bytes of a table are loaded.
+fn add_table(ranges: &mut Vec<Range>, load: &Load, table: &Range) -> Result<(), AllocError>
+    requires { load.now.start + load.now.size ≤ ADDRESS_LIMIT }
+{
+    let from = table.start.saturating_sub(load.offset);
+    let to = table.end.saturating_sub(load.offset).min(load.size);
+    if from < to {
+        ranges.push(Range {
+            start: load.start + from,
+            end: load.start + to,
+        })?;
+    }
+    Ok(())
+}
+
+fn add_load(ranges: &mut Vec<Range>, load: &Load, tables: &[Range]) -> Result<(), AllocError>
+    requires { load.now.start + load.now.size ≤ ADDRESS_LIMIT }
+{
+    for table in tables {
+        add_table(ranges, load, table)?;
+    }
+    Ok(())
+}
+
+/// Adds the masked addresses of an object.
+fn add_mask(alloc: Global, ranges: &mut Vec<Range>, mask: &Mask) -> Result<(), AllocError>
+    requires { All (λ l. l.start + l.size ≤ ADDRESS_LIMIT) mask.now.loads }
+{
+    let tables = apart(alloc, Vec::from_slice(alloc, mask.tables.as_slice())?)?;
+    for load in mask.loads.as_slice() {
+        add_load(ranges, load, &tables)?;
+    }
+    Ok(())
+}
+
+/// The masked addresses of objects, in ranges that ascend and do not overlap.
+pub fn masked_ranges(alloc: Global, objects: &[Loaded<'_>]) -> Result<Vec<Range>, AllocError>
+    requires { All (λ o. All (λ l. l.start + l.size ≤ ADDRESS_LIMIT) o.mask.loads) objects.now }
+    ensures rises { IfOk result (λ v. rises 0 v.items ≡ true) }
+    ensures masked { IfOk result (λ v. (a : ℕ) → list_any (has a) v.items ≡ any_masked objects.now a) }
+{
+    let mut ranges = Vec::new(alloc);
+    for object in objects {
+        add_mask(alloc, &mut ranges, &object.mask)?;
+    }
+    apart(alloc, ranges)
+}

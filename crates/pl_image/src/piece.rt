@@ -1,0 +1,93 @@
+ghost use Rattle.std.specs.Prelude.{◌≡◌, ℕ, ◌+◌, ◌*◌, ◌≤◌, ◌<◌, ◌^◌, true, false, length, min, nat_le};
+ghost use Rattle.std.specs.List.{find, list_any};
+ghost use Rattle.std.specs.Option.{option_copied};
+ghost use Rattle.pl_base.specs.Memory as memory;
+ghost use Rattle.pl_image.specs.Image.{ascends, stores};
+
+use crate::lines::WORDS;
+use std::marker::Model;
+
+/// Bytes of a file from an address on, then zeros up to the size. Contracts see it as a piece of memory.
+#[derive(Drop)]
+pub struct Piece<'a> {
+    /// The address of its first byte.
+    pub start: u64,
+
+    /// How many addresses it has. Bytes past it are not loaded.
+    pub size: u64,
+    pub bytes: &'a [u8],
+}
+
+impl<'a> Model for Piece<'a> {
+    ghost use Rattle.pl_base.specs.Memory as words;
+
+    ghost Value = { words.Piece };
+
+    ghost view = { λ p. record { start = p.start; size = p.size; bytes = p.bytes.now } };
+}
+
+/// The byte of a piece at an address that it has.
+pub fn byte_at(piece: &Piece<'_>, address: u64) -> u8
+    ensures { result ≡ memory.byte_at address piece.now }
+{
+    let at = address.saturating_sub(piece.start);
+    if at < piece.bytes.len() as u64 {
+        piece.bytes[at as usize]
+    } else {
+        0
+    }
+}
+
+/// The piece that has an address, of pieces that ascend.
+pub fn piece_at<'p, 'a>(pieces: &'p [Piece<'a>], address: u64) -> Option<&'p Piece<'a>>
+    requires { ascends 0 pieces.now ≡ true }
+    ensures { option_copied result ≡ find (memory.lies address) pieces.now }
+{
+    let after = pieces.partition_point(|piece| piece.start <= address);
+    if after == 0 {
+        return None;
+    }
+    let piece = &pieces[after - 1];
+    if address - piece.start < piece.size {
+        Some(piece)
+    } else {
+        None
+    }
+}
+
+/// Whether the bytes of a piece's file end at or before an address.
+fn ends_by(piece: &Piece<'_>, address: u64) -> bool
+    ensures { result ≡ nat_le (piece.now.start + min (length piece.now.bytes) piece.now.size) address }
+{
+    let stored = piece.size.min(piece.bytes.len() as u64);
+    piece.start <= address && stored <= address - piece.start
+}
+
+/// The number of the first word from one on that has a byte of a file, `WORDS` where there is none, of pieces that ascend.
+pub fn next_stored(pieces: &[Piece<'_>], from: u64) -> u64
+    requires ascending { ascends 0 pieces.now ≡ true }
+    requires limit { from ≤ WORDS }
+    ensures within { (from ≤ result) × (result ≤ WORDS) }
+    ensures none { (address : ℕ) → 8 * from ≤ address → address < 8 * result → list_any (stores address) pieces.now ≡ false }
+{
+    let address = 8 * from;
+    let index = pieces.partition_point(|piece| ends_by(piece, address));
+    if index == pieces.len() {
+        return WORDS;
+    }
+    let piece = &pieces[index];
+    from.max(piece.start / 8)
+}
+
+/// The number of the first word past pieces that ascend.
+pub fn words_end(pieces: &[Piece<'_>]) -> u64
+    requires { ascends 0 pieces.now ≡ true }
+    ensures limit { result ≤ WORDS }
+    ensures past { (address : ℕ) → 8 * result ≤ address → list_any (memory.lies address) pieces.now ≡ false }
+{
+    if pieces.is_empty() {
+        return 0;
+    }
+    let last = &pieces[pieces.len() - 1];
+    (last.start + last.size + 7) / 8
+}

@@ -1,0 +1,43 @@
+// Ranges of addresses.
+ghost use Rattle.std.specs.Prelude.{◌≡◌, ℕ, true, IfOk};
+ghost use Rattle.std.specs.List.{list_any};
+ghost use Rattle.pl_image.specs.Index as spec;
+ghost use Rattle.pl_image.specs.Lines.{has};
+
+use pl_elf::Range;
+use std::alloc::{AllocError, Global};
+
+/// Ranges that ascend and do not overlap, with the same addresses. The time grows as `n log n`.
+pub fn apart(alloc: Global, mut ranges: Vec<Range>) -> Result<Vec<Range>, AllocError>
+    ensures rises { IfOk result (λ v. spec.rises 0 v.items ≡ true) }
+    ensures same { IfOk result (λ v. (a : ℕ) → list_any (has a) v.items ≡ list_any (has a) ranges.items) }
+{
+    ranges.sort_unstable_by_key(|range| range.start);
+    rising(alloc, &ranges)
+}
+
+/// The same of ranges that ascend by where they start.
+fn rising(alloc: Global, ranges: &[Range]) -> Result<Vec<Range>, AllocError>
+{
+    let mut kept = Vec::new(alloc);
+    let mut end = 0;
+    for range in ranges {
+        if range.start < range.end && end < range.end {
+            kept.push(Range {
+                start: range.start.max(end),
+                end: range.end,
+            })?;
+            end = range.end;
+        }
+    }
+    Ok(kept)
+}
+
+/// Whether one of the ranges, which rise, has an address.
+pub fn any_has(ranges: &[Range], address: u64) -> bool
+    requires { spec.rises 0 ranges.now ≡ true }
+    ensures { result ≡ list_any (has address) ranges.now }
+{
+    let after = ranges.partition_point(|range| range.start <= address);
+    after > 0 && address < ranges[after - 1].end
+}

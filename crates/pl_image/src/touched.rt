@@ -1,0 +1,93 @@
+// Patches by the words that they touch.
+ghost use Rattle.std.specs.Prelude.{◌≡◌, ℕ, ◌≤◌, ◌<◌, ◌==◌, false, fold, length, IfOk};
+ghost use Rattle.std.specs.List.{All, list_any};
+ghost use Rattle.std.specs.List.Sorted.{IsNonDecreasingBy};
+ghost use Rattle.pl_image.specs.Index as spec;
+
+use crate::Patch;
+use crate::lines::WORDS;
+use crate::patch::laid;
+use pl_base::end;
+use std::alloc::{AllocError, Global};
+
+/// A patch touches a word.
+#[derive(Clone, Copy, Debug)]
+pub struct Touch {
+    /// The word's address divided by 8.
+    pub number: u64,
+
+    /// The index of the patch.
+    pub patch: usize,
+}
+
+/// The number of the first word past a patch.
+fn words_end(patch: &Patch) -> u64 {
+    ((end(patch.address, patch.bytes.len() as u64) + 7) / 8) as u64
+}
+
+/// Adds the words that a patch touches.
+fn add_touches(touched: &mut Vec<Touch>, patch: &Patch, index: usize) -> Result<(), AllocError> {
+    for number in patch.address / 8..words_end(patch) {
+        touched.push(Touch {
+            number,
+            patch: index,
+        })?;
+    }
+    Ok(())
+}
+
+fn touches(alloc: Global, patches: &[Patch]) -> Result<Vec<Touch>, AllocError> {
+    let mut touched = Vec::new(alloc);
+    for index in 0..patches.len() {
+        add_touches(&mut touched, &patches[index], index)?;
+    }
+    Ok(touched)
+}
+
+/// The words that patches touch, in ascending order, those of one word in the order of the patches. The time grows as `n log n`.
+pub fn index_patches(alloc: Global, patches: &[Patch]) -> Result<Vec<Touch>, AllocError>
+    ensures { IfOk result (λ touched. spec.IsIndex patches.now touched.items) }
+{
+    let mut touched = touches(alloc, patches)?;
+    touched.sort_by_key(|touch| touch.number)?;
+    Ok(touched)
+}
+
+/// The patches that touch a word.
+pub fn touching<'t>(patches: &[Patch], touched: &'t [Touch], number: u64) -> &'t [Touch]
+    requires { spec.IsIndex patches.now touched.now }
+    ensures { spec.AreTouching patches.now result.now number }
+{
+    let first = touched.partition_point(|touch| touch.number < number);
+    let end = touched.partition_point(|touch| touch.number <= number);
+    &touched[first..end]
+}
+
+/// The byte at an address with the patches over it, of which those that touch its word are given.
+pub fn patched(patches: &[Patch], touching: &[Touch], below: u8, address: u64) -> u8
+    requires inside { All (λ t. t.patch < length patches.now) touching.now }
+    ensures { result ≡ fold (spec.laid_by patches.now address) below touching.now }
+{
+    let mut found = below;
+    for touch in touching {
+        if touch.number == address / 8 {
+            found = laid(&patches[touch.patch], found, address);
+        }
+    }
+    found
+}
+
+/// The number of the first word from one on that a patch touches, `WORDS` where there is none.
+pub fn next_touched(touched: &[Touch], from: u64) -> u64
+    requires rising { IsNonDecreasingBy (λ t. t.number) touched.now }
+    requires limit { from ≤ WORDS }
+    ensures within { (from ≤ result) × (result ≤ WORDS) }
+    ensures none { (n : ℕ) → from ≤ n → n < result → list_any (λ t. t.number == n) touched.now ≡ false }
+{
+    let index = touched.partition_point(|touch| touch.number < from);
+    if index < touched.len() {
+        touched[index].number.min(WORDS)
+    } else {
+        WORDS
+    }
+}
