@@ -72,6 +72,7 @@ fn copy_of(
     words: &[Patch],
     meaning: &Meaning,
 ) -> Result<Option<Patch>, AllocError>
+    requires { AreLoaded loaded.now }
     ensures { IfOk result (λ patch. patch ≡ linked.copy_of (filled (layered (all_pieces loaded.now)) words.now) meaning.now.start meaning.now.word) }
 {
     match meaning.word {
@@ -90,6 +91,7 @@ fn copies(
     words: &[Patch],
     meanings: &[Meaning],
 ) -> Result<Vec<Patch>, AllocError>
+    requires { AreLoaded loaded.now }
     ensures { IfOk result (λ v. v.items ≡ linked.copies (filled (layered (all_pieces loaded.now)) words.now) meanings.now) }
 {
     let mut patches = Vec::new(alloc);
