@@ -23,6 +23,7 @@ use Rattle.pl_value.specs.Values.{reference, value}
 use Rattle.pl_value.specs.Meanings.{Row, rows, meanings}
 use Rattle.pl_value.specs.Laws.{Fits, is_library, is_library_at, AllFit, AreRead, WordsFit}
 use Rattle.pl_value.specs.declared.fault.LinkFault.{LinkFault}
+use Rattle.pl_value.specs.declared.fault.LinkFault.TheVariants.{Undefined, TlsMismatch, CopyOutside}
 use Rattle.pl_value.specs.declared.meaning.Meaning.{Meaning}
 use Rattle.pl_value.specs.declared.word.Word.{Word}
 use Rattle.pl_value.specs.declared.word.Word.TheVariants.{Put, Copy, Nothing}
@@ -106,11 +107,11 @@ nothing_fits size = word_fits false size Nothing (λ library. absurd (false≢tr
 
 copied_fits : (size n : ℕ) (places : List ℕ) (r : Reference) (d : Definer) → n ≤ size → FitsIfOk false size (copies.copied places r n d)
 unfolding copies.copied
-copied_fits size n places r d le = refuse_fits false size _ (Ok (Copy d.member (address places d) n)) (word_fits false size (Copy d.member (address places d) n) (refl, le))
+copied_fits size n places r d le = refuse_fits false size ((is_tls d.symbol, TlsMismatch r.member r.symbol) ∷ (is_absolute d.symbol || copies.is_outside d.object.segments d.symbol.value n, CopyOutside r.member r.symbol) ∷ []) (Ok (Copy d.member (address places d) n)) (word_fits false size (Copy d.member (address places d) n) (refl, le))
 
 copy_of_definer : (size : ℕ) (places : List ℕ) (r : Reference) (weak : Bool) (own : ℕ) (found : Option Definer) → own ≤ size → FitsIfOk false size (copies.of_definer places r weak own found)
 copy_of_definer size places r true own None le = nothing_fits size
-copy_of_definer size places r false own None le = fault_fits false size _
+copy_of_definer size places r false own None le = fault_fits false size (Undefined r.member r.symbol)
 copy_of_definer size places r weak own (Some d) le = copied_fits size (min own d.symbol.size) places r d (omega arith)
 
 copy_fits : (size : ℕ) (objects : List Object) (places : List ℕ) (r : Reference) → copies.size_in (slice_get objects r.member) r.symbol ≤ size → FitsIfOk false size (copies.copy objects places r)

@@ -86,7 +86,7 @@ pub lone_zip : {X Y : Type 0} (test : ℕ → X → Bool) (over : ℕ → Y → 
 lone_zip test over [] [] same lone = tt
 lone_zip test over [] (y ∷ ys) same lone = absurd same
 lone_zip test over (x ∷ xs) [] same lone = absurd same
-lone_zip test over (x ∷ xs) (y ∷ ys) same lone = (
+lone_zip {X = X} {Y = Y} test over (x ∷ xs) (y ∷ ys) same lone = (
   λ a hit. any_zip a xs ys same.1 ∙ lone.0 a (sym (same.0 a) ∙ hit),
   lone_zip test over xs ys same.1 lone.1
 )

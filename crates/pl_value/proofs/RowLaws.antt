@@ -46,7 +46,7 @@ unfolding relocs
 relocs_widths symbols table =
     All-map (HasWidth symbols) (reloc symbols table) (range_with_len 0 (length table / RELA_SIZE)) (λ k d lt. reloc_width symbols table (RELA_SIZE * get_or (range_with_len 0 (length table / RELA_SIZE)) k d))
 
-ok_is : {X E : Type 0} (x y : X) → Ok {E = E} x ≡ Ok y → x ≡ y
+ok_is : (x y : Object) → ◌≡◌ {A = Result Object Refusal} (Ok x) (Ok y) → x ≡ y
 ok_is x y e = cc
 
 linked_widths : (bytes : List ℕ) (f : Headers) (d : Dynamic) (o : Object) → linked bytes f d ≡ Ok o → HasWidths o
@@ -68,7 +68,7 @@ static_widths bytes f o e = elim (cases_Bool (too_large bytes)) [
   | inr miss ↦ subst HasWidths (ok_is (static_object f) o (rw miss at e)) (All-nil (HasWidth []))
 ]
   where
-  refused : Err {A = Object} (Clause 30 0) ≡ Ok o → ⊥
+  refused : ◌≡◌ {A = Result Object Refusal} (Err (Clause 30 0)) (Ok o) → ⊥
   refused h = cc
 
 pub widths : (bytes : List ℕ) (o : Object) → reads bytes ≡ Ok o → HasWidths o

@@ -1,5 +1,5 @@
 // Bytes of a memory in which words stand.
-ghost use Rattle.std.specs.Prelude.{◌≡◌, ◌+◌, length, IfOk, if◌then◌else◌, Some, None};
+ghost use Rattle.std.specs.Prelude.{◌≡◌, ◌≤◌, ◌<◌, ◌⊎◌, ◌+◌, ◌-◌, length, slice_set, IfOk, if◌then◌else◌, Some, None};
 ghost use Rattle.std.specs.Bool.{OnFalse};
 ghost use Rattle.std.specs.Option.{unwrap_or};
 ghost use Rattle.pl_base.specs.Memory as spec;
@@ -87,15 +87,27 @@ fn is_near(patch: &Patch, from: u64, size: u64) -> bool
         && u128::from(from) < end(patch.address, patch.bytes.len() as u64)
 }
 
+/// Writes a byte at its address over those that were read from one on, if it is among them.
+fn lay_byte(address: u128, byte: u8, from: u64, bytes: &mut [u8])
+    ensures here { from ≤ address → address < from + length bytes.old → bytes.new ≡ slice_set bytes.old (address - from) byte }
+    ensures there { (address < from) ⊎ (from + length bytes.old ≤ address) → bytes.new ≡ bytes.old }
+{
+    if address >= u128::from(from) && address < end(from, bytes.len() as u64) {
+        bytes[(address - u128::from(from)) as usize] = byte;
+    }
+}
+
 /// Writes the bytes of a patch over those that were read from an address on.
 fn lay(patch: &Patch, from: u64, bytes: &mut [u8])
     ensures { (m : spec.Memory) → bytes.old ≡ spec.read m from (length bytes.old) → bytes.new ≡ spec.read (spec.over patch.now.start patch.now.bytes m) from (length bytes.old) }
 {
-    for (index, byte) in patch.bytes.iter().enumerate() {
-        let address = end(patch.address, index as u64);
-        if address >= u128::from(from) && address < end(from, bytes.len() as u64) {
-            bytes[(address - u128::from(from)) as usize] = *byte;
-        }
+    for index in 0..patch.bytes.len() {
+        lay_byte(
+            end(patch.address, index as u64),
+            patch.bytes[index],
+            from,
+            bytes,
+        );
     }
 }
 
