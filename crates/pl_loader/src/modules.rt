@@ -42,14 +42,14 @@ pub fn name_of(alloc: Global, files: &[ObjectFile], index: u32) -> Result<Text, 
 fn tls_module(
     alloc: Global,
     files: &[ObjectFile],
-    module: &Module,
+    tls: &Module,
 ) -> Result<TlsModule, AllocError>
-    ensures { IfOk result (λ named. named ≡ spec.tls_module files.now module.now) }
+    ensures { IfOk result (λ named. named ≡ spec.tls_module files.now tls.now) }
 {
     Ok(TlsModule {
-        number: module.number,
-        offset: module.offset,
-        name: name_of(alloc, files, module.member)?,
+        number: tls.number,
+        offset: tls.offset,
+        name: name_of(alloc, files, tls.member)?,
     })
 }
 
@@ -62,8 +62,8 @@ pub fn tls_modules(
     ensures { IfOk result (λ rows. rows ≡ map (spec.tls_module files.now) modules.now) }
 {
     let mut rows = Rows::new(alloc);
-    for module in modules {
-        rows.push(tls_module(alloc, files, module)?)?;
+    for tls in modules {
+        rows.push(tls_module(alloc, files, tls)?)?;
     }
     Ok(rows)
 }
