@@ -1,2 +1,5 @@
 pub mod PassLemmas
 pub mod LineLemmas
+pub mod FindLemmas
+pub mod PieceLemmas
+pub mod RangeLemmas

@@ -56,5 +56,5 @@ image_of place bytes o = let memory = layered (pieces_at place bytes o) in shown
 
 -- the PT_LOADs are accepted ones, and each ends at the place at or below the limit of addresses
 pub record IsPlaced (place : ℕ) (o : Object) : Type 0 where
-  pub loads : AreLoads (loads o.segments)
+  pub accepted : AreLoads (loads o.segments)
   pub ends : All (λ s. place + (s.vaddr + s.memsz) ≤ ADDRESS_LIMIT) (loads o.segments)

@@ -33,8 +33,9 @@ pub fn load_pieces<'a>(
     ensures value { IfOk result (λ pieces. pieces ≡ spec.pieces_at place bytes.now object.now) }
     ensures ascends { IfOk result (λ pieces. ascends 0 pieces ≡ true) }
 {
+    let segments = loads(alloc, object.segments.as_slice())?;
     let mut pieces = Rows::new(alloc);
-    for segment in &loads(alloc, object.segments.as_slice())? {
+    for segment in &segments {
         pieces.push(loaded_piece(bytes, segment, place))?;
     }
     Ok(pieces)
@@ -63,8 +64,9 @@ pub fn load_mask(alloc: Global, object: &Object, place: u64) -> Result<Mask, All
     ensures value { IfOk result (λ mask. mask ≡ spec.mask_at place object.now) }
     ensures fits { IfOk result (λ mask. All (λ l. l.start + l.size ≤ ADDRESS_LIMIT) mask.loads) }
 {
+    let segments = loads(alloc, object.segments.as_slice())?;
     let mut parts = Rows::new(alloc);
-    for segment in &loads(alloc, object.segments.as_slice())? {
+    for segment in &segments {
         parts.push(load_at(segment, place))?;
     }
     Ok(Mask {

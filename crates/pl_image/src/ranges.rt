@@ -13,11 +13,13 @@ pub fn apart(alloc: Global, mut ranges: Vec<Range>) -> Result<Vec<Range>, AllocE
     ensures same { IfOk result (λ v. (a : ℕ) → list_any (has a) v.items ≡ list_any (has a) ranges.items) }
 {
     ranges.sort_unstable_by_key(|range| range.start);
-    rising(alloc, &ranges)
+    merged(alloc, &ranges)
 }
 
-/// The same of ranges that ascend by where they start.
-fn rising(alloc: Global, ranges: &[Range]) -> Result<Vec<Range>, AllocError>
+/// Ranges that ascend by where they start, each without its addresses before the end of those before it.
+#[tactic(auto, unfolding(crate::specs::Index::merged))]
+fn merged(alloc: Global, ranges: &[Range]) -> Result<Vec<Range>, AllocError>
+    ensures { IfOk result (λ v. v.items ≡ spec.merged 0 ranges.now) }
 {
     let mut kept = Vec::new(alloc);
     let mut end = 0;
@@ -39,5 +41,8 @@ pub fn any_has(ranges: &[Range], address: u64) -> bool
     ensures { result ≡ list_any (has address) ranges.now }
 {
     let after = ranges.partition_point(|range| range.start <= address);
-    after > 0 && address < ranges[after - 1].end
+    if after == 0 {
+        return false;
+    }
+    address < ranges[after - 1].end
 }

@@ -1,5 +1,5 @@
 // Patches by the words that they touch.
-ghost use Rattle.std.specs.Prelude.{◌≡◌, ℕ, ◌≤◌, ◌<◌, ◌==◌, false, fold, length, IfOk};
+ghost use Rattle.std.specs.Prelude.{◌≡◌, ℕ, ◌+◌, ◌≤◌, ◌<◌, ◌==◌, false, fold, length, IfOk, OnOk};
 ghost use Rattle.std.specs.List.{All, list_any};
 ghost use Rattle.std.specs.List.Sorted.{IsNonDecreasingBy};
 ghost use Rattle.pl_image.specs.Index as spec;
@@ -21,12 +21,19 @@ pub struct Touch {
 }
 
 /// The number of the first word past a patch.
-fn words_end(patch: &Patch) -> u64 {
+fn words_end(patch: &Patch) -> u64
+    ensures { result ≡ spec.words_end patch.now }
+{
     ((end(patch.address, patch.bytes.len() as u64) + 7) / 8) as u64
 }
 
-/// Adds the words that a patch touches.
-fn add_touches(touched: &mut Vec<Touch>, patch: &Patch, index: usize) -> Result<(), AllocError> {
+/// Adds the words that the patch of an index touches.
+fn add_touches(touched: &mut Vec<Touch>, patches: &[Patch], index: usize) -> Result<(), AllocError>
+    requires there { index < length patches.now }
+    requires before { spec.IsIndexOf patches.now touched.old.items index }
+    ensures { OnOk result (spec.IsIndexOf patches.now touched.new.items (index + 1)) }
+{
+    let patch = &patches[index];
     for number in patch.address / 8..words_end(patch) {
         touched.push(Touch {
             number,
@@ -36,10 +43,13 @@ fn add_touches(touched: &mut Vec<Touch>, patch: &Patch, index: usize) -> Result<
     Ok(())
 }
 
-fn touches(alloc: Global, patches: &[Patch]) -> Result<Vec<Touch>, AllocError> {
+/// The words that patches touch, in the order of the patches.
+fn touches(alloc: Global, patches: &[Patch]) -> Result<Vec<Touch>, AllocError>
+    ensures { IfOk result (λ touched. spec.IsIndexOf patches.now touched.items (length patches.now)) }
+{
     let mut touched = Vec::new(alloc);
     for index in 0..patches.len() {
-        add_touches(&mut touched, &patches[index], index)?;
+        add_touches(&mut touched, patches, index)?;
     }
     Ok(touched)
 }
