@@ -1,4 +1,4 @@
-ghost use Rattle.std.specs.Prelude.{◌≡◌, ◌<◌, ◌^◌, ℕ, List, length, Some, None, Result, Ok, Err, IsSome, IfOk, IfErr, OnOk, OnErr, vec_len};
+ghost use Rattle.std.specs.Prelude.{◌≡◌, ◌<◌, ◌^◌, ℕ, List, length, Some, None, Result, Ok, Err, IsSome, IfOk, IfErr, OnOk, OnErr};
 ghost use Rattle.std.specs.Option.{option_map, ForSome};
 ghost use Rattle.pl_base.specs.Answers.{Answers, because};
 ghost use Rattle.pl_object.specs.Reads.{reads};
@@ -120,7 +120,7 @@ impl Loader {
     /// The first cause counts, in this order: `NotThere` where there is no file; `Refused` where an acceptance clause refuses it; `NotProgram` where it is the first file, and a library; `NeededIsProgram` where it is a later file, and no library, or needs the first, which is a program; `TooMany` where a name would be wanted after `MAX_MEMBERS` names. After a fault the loader is unchanged.
     pub fn give(&mut self, alloc: Global, file: Option<Vec<u8>>) -> Result<(), LoadFault>
         requires wanted { IsSome (wants self.old.order) }
-        requires size { ForSome file (λ bytes. vec_len bytes < 2 ^ 32) }
+        requires size { ForSome file (λ bytes. length bytes.items < 2 ^ 32) }
         ensures ok { OnOk result (spec.give self.old (option_map (λ bytes. bytes.items) file) ≡ Ok self.new) }
         ensures err { IfErr result (λ fault. Answers is_memory (Err fault) (spec.give self.old (option_map (λ bytes. bytes.items) file))) }
         ensures unchanged { OnErr result (self.new ≡ self.old) }

@@ -10,12 +10,22 @@ use pl_base::{Rows, Text};
 use pl_tls::{Block, Module, offsets};
 use std::alloc::{AllocError, Global};
 
-/// The thread-local storage of each object, as far as it has any.
-#[tactic(auto, unfolding(crate::specs::Started::blocks))]
+/// The thread-local storage of an object, if it has any.
+#[tactic(auto, unfolding(crate::specs::Started::block_of))]
+fn block_of(file: &ObjectFile) -> Option<Block>
+    ensures { result ≡ spec.block_of file.now }
+{
+    file.object.tls
+}
+
 fn blocks(alloc: Global, files: &[ObjectFile]) -> Result<Vec<Option<Block>>, AllocError>
     ensures { IfOk result (λ blocks. blocks.items ≡ spec.blocks files.now) }
 {
-    files.iter().map(|file| file.object.tls).collect(alloc)
+    let mut blocks = Vec::new(alloc);
+    for file in files {
+        blocks.push(block_of(file))?;
+    }
+    Ok(blocks)
 }
 
 /// The modules of objects: those with thread-local storage, numbered from 1.
