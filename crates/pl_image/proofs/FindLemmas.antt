@@ -8,16 +8,16 @@ use Rattle.std.proofs.lemmas.List.Folds.{list_any-append, list_any_at}
 -- ---- none
 
 pub find_none : {X : Type 0} (p : X → Bool) (xs : List X) → ((k : ℕ) (d : X) → k < length xs → p (get_or xs k d) ≡ false) → find p xs ≡ None
-find_none p [] no = refl
-find_none p (x ∷ xs) no =
-    let miss : p x ≡ false = no 0 x (omega arith) in
-    rw miss (find_none p xs (λ k d lt. no (suc k) d (omega arith)))
+find_none p [] misses = refl
+find_none p (x ∷ xs) misses =
+    let miss : p x ≡ false = misses 0 x (omega arith) in
+    rw miss (find_none p xs (λ k d lt. misses (suc k) d (omega arith)))
 
 pub any_none : {X : Type 0} (p : X → Bool) (xs : List X) → ((k : ℕ) (d : X) → k < length xs → p (get_or xs k d) ≡ false) → list_any p xs ≡ false
-any_none p [] no = refl
-any_none p (x ∷ xs) no =
-    let miss : p x ≡ false = no 0 x (omega arith) in
-    rw miss (any_none p xs (λ k d lt. no (suc k) d (omega arith)))
+any_none p [] misses = refl
+any_none p (x ∷ xs) misses =
+    let miss : p x ≡ false = misses 0 x (omega arith) in
+    rw miss (any_none p xs (λ k d lt. misses (suc k) d (omega arith)))
 
 -- ---- one alone
 

@@ -1,5 +1,5 @@
 -- Pieces that ascend.
-use Rattle.std.proofs.Common.{◌≡◌, ℕ, zero, suc, ◌+◌, ◌-◌, ◌*◌, ◌<◌, ◌≤◌, ◌^◌, min, Bool, true, false, cond, List, [], ◌∷◌, length, get_or, Option, Some, None, refl, ap, ◌∙◌, arith, inl, inr}
+use Rattle.std.proofs.Common.{◌≡◌, ℕ, zero, suc, ◌+◌, ◌-◌, ◌*◌, ◌<◌, ◌≤◌, ◌^◌, min, Bool, true, false, cond, List, [], ◌∷◌, length, get_or, Option, Some, None, refl, sym, ap, subst, ◌∙◌, arith, inl, inr}
 use Rattle.std.specs.Prelude.{◌&&◌, nat_le, nat_lt, find}
 use Rattle.std.specs.List.{list_any}
 use Rattle.std.specs.List.Sorted.{IsNonDecreasingBy, IsPartitionedBy, IsPartitionPoint}
@@ -32,10 +32,16 @@ start_later from (p ∷ ps) (suc i) d h lt =
     let next = start_later (p.start + p.size) ps i d f.rest (omega arith) in
     omega arith
 
-pub end_limit : (from : ℕ) (ps : List Piece) (i : ℕ) (d : Piece) → ascends from ps ≡ true → i < length ps → (get_or ps i d).start + (get_or ps i d).size ≤ 2 ^ 47
+end_limit : (from : ℕ) (ps : List Piece) (i : ℕ) (d : Piece) → ascends from ps ≡ true → i < length ps → (get_or ps i d).start + (get_or ps i d).size ≤ 2 ^ 47
 end_limit from [] i d h lt = absurd (omega arith)
 end_limit from (p ∷ ps) zero d h lt = (ascends_parts from p ps h).limit
 end_limit from (p ∷ ps) (suc i) d h lt = end_limit (p.start + p.size) ps i d (ascends_parts from p ps h).rest (omega arith)
+
+pub piece_limit : (ps : List Piece) (i : ℕ) (p : Piece) → ascends 0 ps ≡ true → i < length ps → p ≡ get_or ps i p → p.start + p.size ≤ 2 ^ 47
+piece_limit ps i p h lt is = subst (λ (q : Piece). q.start + q.size ≤ 2 ^ 47) (sym is) (end_limit 0 ps i p h lt)
+
+pub start_limit : (ps : List Piece) (i : ℕ) (p : Piece) → ascends 0 ps ≡ true → i < length ps → p ≡ get_or ps i p → p.start ≤ 2 ^ 47
+start_limit ps i p h lt is = let limit = piece_limit ps i p h lt is in omega arith
 
 -- each begins at or after the end of every one before
 ends_before : (from : ℕ) (ps : List Piece) (i j : ℕ) (d : Piece) → ascends from ps ≡ true → i < j → j < length ps → (get_or ps i d).start + (get_or ps i d).size ≤ (get_or ps j d).start
@@ -74,13 +80,19 @@ module _ (ps : List Piece) (a i : ℕ) (h : ascends 0 ps ≡ true) (point : IsPa
   pub piece_missed : i ≡ 0 → find (lies a) ps ≡ None
   piece_missed is = find_none (lies a) ps (λ k d within. later_miss k d (omega arith) within)
 
-  pub piece_found : (e : Piece) → 0 < i → i ≤ length ps → find (lies a) ps ≡ cond (lies a (get_or ps (i - 1) e)) (Some (get_or ps (i - 1) e)) None
+  piece_found : (e : Piece) → 0 < i → i ≤ length ps → find (lies a) ps ≡ cond (lies a (get_or ps (i - 1) e)) (Some (get_or ps (i - 1) e)) None
   piece_found e some le = find_lone (lies a) ps (i - 1) e (omega arith)
       (λ k d less.
       let before = ends_before 0 ps k (i - 1) d h less (omega arith) in
       let begun = point.0 (i - 1) d (omega arith) (omega arith) in
       grind (arith, nat_tests))
       (λ k d more within. later_miss k d (omega arith) within)
+
+  pub piece_hit : (p : Piece) → 0 < i → i ≤ length ps → p ≡ get_or ps (i - 1) p → lies a p ≡ true → find (lies a) ps ≡ Some p
+  piece_hit p some le is hit = piece_found p some le ∙ subst (λ (q : Piece). cond (lies a q) (Some q) None ≡ Some p) is (rw hit refl)
+
+  pub piece_out : (p : Piece) → 0 < i → i ≤ length ps → p ≡ get_or ps (i - 1) p → lies a p ≡ false → find (lies a) ps ≡ None
+  piece_out p some le is miss = piece_found p some le ∙ subst (λ (q : Piece). cond (lies a q) (Some q) None ≡ None) is (rw miss refl)
 
 -- ---- bytes of files
 
@@ -109,7 +121,7 @@ module _ (ps : List Piece) (a i : ℕ) (h : ascends 0 ps ≡ true) (point : IsPa
   -- or none up to the start of the first one that does not end by it
   pub none_stored_before : (b : ℕ) (e : Piece) → i < length ps → a ≤ b → b < (get_or ps i e).start → list_any (stores b) ps ≡ false
   none_stored_before b e lt le below = any_none (stores b) ps (λ k d within. elim (cases_order k i) [
-      | inl same ↦ next same d within
+      | inl same ↦ next k same d within
       | inr other ↦ elim other [
         | inl less ↦ past_stored b k d le less
         | inr more ↦
@@ -134,7 +146,7 @@ unstored (x ∷ xs) a p none found =
       | inl hit ↦
           let is : Some x ≡ Some p = rw hit at found in
           let same : x ≡ p = cc in
-          let past : length x.bytes ≤ a - x.start = let no = out.0 in grind (arith, nat_tests) in
+          let past : length x.bytes ≤ a - x.start = let empty = out.0 in grind (arith, nat_tests) in
           rw (← same) (get_or_past x.bytes (a - x.start) 0 past)
     ]
 

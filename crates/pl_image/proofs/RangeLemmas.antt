@@ -2,9 +2,10 @@
 use Rattle.std.proofs.Common.{◌≡◌, ℕ, zero, suc, ◌+◌, ◌-◌, ◌<◌, ◌≤◌, max, Bool, true, false, List, [], ◌∷◌, length, get_or, refl, sym, ap, ◌∙◌, arith, inl, inr}
 use Rattle.std.specs.Prelude.{◌&&◌, ◌||◌, nat_le, nat_lt}
 use Rattle.std.specs.List.{list_any}
-use Rattle.std.specs.List.Sorted.{IsNonDecreasingBy, IsPartitionedBy, IsPartitionPoint}
+use Rattle.std.specs.List.Sorted.{IsNonDecreasingBy, IsPartitionedBy, IsPartitionPoint, IsPermutation}
 use Rattle.std.proofs.lemmas.Bool.{and_parts, and_from, cases_Bool, cases_order, false≢true}
 use Rattle.std.proofs.lemmas.Bool.Decides.{nat_tests}
+use Rattle.std.proofs.lemmas.List.Sorted.{list_any-IsPermutation}
 use Rattle.pl_elf.specs.declared.range.Range.{Range}
 use Rattle.pl_image.specs.Lines.{has}
 use Rattle.pl_image.specs.Index.{rises, merged}
@@ -121,3 +122,9 @@ merged_has end (r ∷ rs) a sorted =
           let parts = and_parts (nat_lt r.start r.end) (nat_lt end r.end) kept in
           rw (kept, merged_has r.end rs a left) (kept_has r.start r.end end a (list_any (has a) rs) parts.0 parts.1 (λ lt. none_before r rs a sorted lt))
     ]
+
+-- ranges in another order, made to rise
+pub apart_has : (old ranges : List Range) (a : ℕ) → IsPermutation old ranges → IsNonDecreasingBy (λ x. x.start) ranges → list_any (has a) (merged 0 ranges) ≡ list_any (has a) old
+apart_has old ranges a same sorted =
+    let all : nat_le 0 a ≡ true = grind (arith, nat_tests) in
+    merged_has 0 ranges a sorted ∙ ap (λ (b : Bool). b && list_any (has a) ranges) all ∙ sym (list_any-IsPermutation (has a) old ranges same)

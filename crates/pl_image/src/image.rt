@@ -53,7 +53,7 @@ impl<'a> Image<'a> {
         patches: Vec<Patch>,
     ) -> Result<Image<'a>, AllocError>
         requires { spec.AreLoaded objects.items }
-        ensures { IfOk result (λ i. i ≡ record { objects = objects.items; patches = patches.items }) }
+        ensures { IfOk result (λ i. i ≡ record { objects = objects.entry.items; patches = patches.items }) }
     {
         let touched = index_patches(alloc, &patches)?;
         let masked = masked_ranges(alloc, &objects)?;

@@ -62,7 +62,8 @@ fn add_mask(alloc: Global, ranges: &mut Vec<Range>, mask: &Mask) -> Result<(), A
 {
     let tables = Vec::from_slice(alloc, mask.tables.as_slice())?;
     let tables = apart(alloc, tables)?;
-    add_loads(ranges, mask.loads.as_slice(), &tables)
+    add_loads(ranges, mask.loads.as_slice(), &tables)?;
+    Ok(())
 }
 
 /// The masked addresses of objects, in any order.

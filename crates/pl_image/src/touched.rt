@@ -1,7 +1,7 @@
 // Patches by the words that they touch.
-ghost use Rattle.std.specs.Prelude.{◌≡◌, ℕ, ◌+◌, ◌≤◌, ◌<◌, ◌==◌, false, fold, length, IfOk, OnOk};
+ghost use Rattle.std.specs.Prelude.{◌≡◌, ℕ, ◌+◌, ◌≤◌, ◌<◌, ◌^◌, ◌==◌, true, false, nat_lt, fold, length, IfOk, OnOk};
 ghost use Rattle.std.specs.List.{All, list_any};
-ghost use Rattle.std.specs.List.Sorted.{IsNonDecreasingBy};
+ghost use Rattle.std.specs.List.Sorted.{IsNonDecreasingBy, IsPartitionPoint};
 ghost use Rattle.pl_image.specs.Index as spec;
 
 use crate::Patch;
@@ -63,13 +63,23 @@ pub fn index_patches(alloc: Global, patches: &[Patch]) -> Result<Vec<Touch>, All
     Ok(touched)
 }
 
+/// How many of the touches, which ascend, are of words before a number.
+fn before(touched: &[Touch], number: u64) -> usize
+    requires { IsNonDecreasingBy (λ t. t.number) touched.now }
+    ensures bound { result ≤ length touched.now }
+    ensures point { IsPartitionPoint (λ t. nat_lt t.number number ≡ true) (λ t. nat_lt t.number number ≡ false) touched.now result }
+{
+    touched.partition_point(|touch| touch.number < number)
+}
+
 /// The patches that touch a word.
 pub fn touching<'t>(patches: &[Patch], touched: &'t [Touch], number: u64) -> &'t [Touch]
-    requires { spec.IsIndex patches.now touched.now }
+    requires index { spec.IsIndex patches.now touched.now }
+    requires limit { number < 2 ^ 61 }
     ensures { spec.AreTouching patches.now result.now number }
 {
-    let first = touched.partition_point(|touch| touch.number < number);
-    let end = touched.partition_point(|touch| touch.number <= number);
+    let first = before(touched, number);
+    let end = before(touched, number + 1);
     &touched[first..end]
 }
 
@@ -94,7 +104,7 @@ pub fn next_touched(touched: &[Touch], from: u64) -> u64
     ensures within { (from ≤ result) × (result ≤ WORDS) }
     ensures none { (n : ℕ) → from ≤ n → n < result → list_any (λ t. t.number == n) touched.now ≡ false }
 {
-    let index = touched.partition_point(|touch| touch.number < from);
+    let index = before(touched, from);
     if index < touched.len() {
         touched[index].number.min(WORDS)
     } else {
