@@ -1,15 +1,15 @@
 -- Bytes of an image.
 use Rattle.std.proofs.Common.{◌≡◌, ℕ, zero, suc, ◌+◌, ◌*◌, ◌/◌, ◌<◌, ◌≤◌, Bool, true, false, cond, List, [], ◌∷◌, ◌++◌, length, get_or, drop, Option, Some, None, refl, sym, ap, subst, ◌∙◌, arith, inl, inr}
 use Rattle.std.specs.Prelude.{◌||◌, ◌==◌, fold, find, map}
-use Rattle.std.specs.List.{list_any, flat_map, All}
+use Rattle.std.specs.List.{list_any}
 use Rattle.std.proofs.lemmas.Bool.{cases_Bool, false≢true}
 use Rattle.std.proofs.lemmas.List.{get_or_append_left, get_or-append-add, length-append, get_or_default, drop_more, drop_all}
 use Rattle.std.proofs.lemmas.List.Folds.{Any-from_list_any}
-use Rattle.pl_base.specs.Memory.{Memory, Piece, Fill, AtMostOne, lies, byte_at, covers, byte_of as fill_byte, over, layered, filled, shown}
+use Rattle.pl_base.specs.Memory.{Memory, Piece, Fill, AtMostOne, lies, byte_at, covers, over, layered, filled}
 use Rattle.pl_image.specs.declared.loaded.Loaded.{Loaded}
 use Rattle.pl_image.specs.declared.touched.Touch.{Touch}
 use Rattle.pl_image.specs.Lines.{byte_in, has, only, IsClear}
-use Rattle.pl_image.specs.Image.{Image, all_pieces, any_masked, byte_of, extent_of, ascends, AreLoaded, AreOwn, own_memory, stores}
+use Rattle.pl_image.specs.Image.{Image, all_pieces, any_masked, byte_of, extent_of, AreLoaded, AreOwn, own_memory, stores}
 use Rattle.pl_image.specs.Index.{laid, IsIndex}
 use Rattle.pl_image.proofs.FindLemmas.{any_none, any_in_flat}
 use Rattle.pl_image.proofs.PieceLemmas.{unstored}

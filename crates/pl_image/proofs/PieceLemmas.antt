@@ -1,12 +1,12 @@
 -- Pieces that ascend.
-use Rattle.std.proofs.Common.{◌≡◌, ℕ, zero, suc, ◌+◌, ◌-◌, ◌*◌, ◌<◌, ◌≤◌, ◌^◌, min, Bool, true, false, cond, List, [], ◌∷◌, length, get_or, Option, Some, None, refl, sym, ap, subst, ◌∙◌, arith, inl, inr}
-use Rattle.std.specs.Prelude.{◌&&◌, nat_le, nat_lt, find}
+use Rattle.std.proofs.Common.{◌≡◌, ℕ, zero, suc, ◌+◌, ◌-◌, ◌*◌, ◌<◌, ◌≤◌, ◌^◌, min, true, false, cond, List, [], ◌∷◌, length, get_or, Some, None, refl, sym, subst, ◌∙◌, arith, inl, inr}
+use Rattle.std.specs.Prelude.{◌&&◌, nat_le, find}
 use Rattle.std.specs.List.{list_any}
 use Rattle.std.specs.List.Sorted.{IsNonDecreasingBy, IsPartitionedBy, IsPartitionPoint}
 use Rattle.std.proofs.lemmas.Bool.{and_parts, or_parts, cases_Bool, cases_order}
 use Rattle.std.proofs.lemmas.Bool.Decides.{nat_tests}
 use Rattle.std.proofs.lemmas.List.{get_or_past, get_or_default}
-use Rattle.pl_base.specs.Memory.{Piece, lies, byte_at, is_within, AtMostOne}
+use Rattle.pl_base.specs.Memory.{Piece, lies, byte_at, AtMostOne}
 use Rattle.pl_elf.specs.declared.constants.TheConstants.{ADDRESS_LIMIT}
 use Rattle.pl_image.specs.Image.{ascends, stores}
 use Rattle.pl_image.proofs.FindLemmas.{find_none, any_none, find_lone}
@@ -121,14 +121,14 @@ module _ (ps : List Piece) (a i : ℕ) (h : ascends 0 ps ≡ true) (point : IsPa
   -- or none up to the start of the first one that does not end by it
   pub none_stored_before : (b : ℕ) (e : Piece) → i < length ps → a ≤ b → b < (get_or ps i e).start → list_any (stores b) ps ≡ false
   none_stored_before b e lt le below = any_none (stores b) ps (λ k d within. elim (cases_order k i) [
-      | inl same ↦ next k same d within
-      | inr other ↦ elim other [
-        | inl less ↦ past_stored b k d le less
-        | inr more ↦
-            let before = ends_before 0 ps i k e h more within in
-            let there = get_or_default ps k e d within in
-            rw there at (let out : stores b (get_or ps k e) ≡ false = grind (arith, nat_tests) in out)
-      ]
+    | inl same ↦ next k same d within
+    | inr other ↦ elim other [
+      | inl less ↦ past_stored b k d le less
+      | inr more ↦
+          let before = ends_before 0 ps i k e h more within in
+          let there = get_or_default ps k e d within in
+          rw there at (let out : stores b (get_or ps k e) ≡ false = grind (arith, nat_tests) in out)
+    ]
   ])
     where
       next : (k : ℕ) → k ≡ i → (d : Piece) → k < length ps → stores b (get_or ps k d) ≡ false

@@ -1,7 +1,7 @@
 -- Patches by the words that they touch.
-use Rattle.std.proofs.Common.{◌≡◌, ℕ, zero, suc, ◌+◌, ◌-◌, ◌*◌, ◌/◌, ◌<◌, ◌≤◌, Bool, true, false, cond, not, List, [], ◌∷◌, ◌++◌, length, get_or, take, drop, refl, sym, ap, ◌∙◌, arith, inl, inr}
+use Rattle.std.proofs.Common.{◌≡◌, ℕ, suc, ◌+◌, ◌-◌, ◌/◌, ◌<◌, ◌≤◌, Bool, true, false, cond, not, List, [], ◌∷◌, ◌++◌, length, get_or, take, drop, refl, sym, ap, ◌∙◌, arith, inl, inr}
 use Rattle.std.specs.Prelude.{◌&&◌, ◌==◌, nat_le, nat_lt, fold, filter}
-use Rattle.std.specs.List.{list_any, All}
+use Rattle.std.specs.List.{list_any}
 use Rattle.std.specs.List.Sorted.{IsNonDecreasingBy, IsPartitionPoint, IsPermutation, IsStableByKey, ties}
 use Rattle.std.specs.Ordering.{nat_cmp, is_lt}
 use Rattle.std.proofs.lemmas.Bool.{cases_Bool, cases_lt, or_parts}
@@ -10,7 +10,7 @@ use Rattle.std.proofs.lemmas.List.Elements.{All-nil, All-push, All-take, All-dro
 use Rattle.std.proofs.lemmas.List.Sums.{fold_push, fold-append, fold_more}
 use Rattle.std.proofs.lemmas.List.Sorted.{All-permutation}
 use Rattle.std.proofs.lemmas.List.{take_all, take-append-drop, drop-drop, length-take, length-drop, get_or-take, get_or-drop, get_or_default}
-use Rattle.pl_base.specs.Memory.{Fill, covers, byte_of}
+use Rattle.pl_base.specs.Memory.{Fill, covers}
 use Rattle.pl_image.specs.declared.touched.Touch.{Touch}
 use Rattle.pl_image.specs.Index.{laid, laid_by, laid_up_to, patch_of, words_end, IsIndex, IsIndexOf, IsIndexTo, AreTouching}
 use Rattle.pl_image.proofs.FindLemmas.{any_none}

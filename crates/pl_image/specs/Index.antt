@@ -1,5 +1,5 @@
 -- How patches and masked addresses are looked up.
-use Rattle.std.specs.Prelude.{◌≡◌, ℕ, ◌+◌, ◌-◌, ◌/◌, ◌<◌, max, take, Bool, true, ◌&&◌, ◌==◌, nat_le, nat_lt, List, [], ◌∷◌, length, fold, slice_index_or, if◌then◌else◌}
+use Rattle.std.specs.Prelude.{◌≡◌, ℕ, ◌+◌, ◌/◌, ◌<◌, max, take, Bool, true, ◌&&◌, ◌==◌, nat_le, nat_lt, List, [], ◌∷◌, length, fold, slice_index_or, if◌then◌else◌}
 use Rattle.std.specs.List.{list_any, All}
 use Rattle.std.specs.List.Sorted.{IsNonDecreasingBy}
 use Rattle.pl_base.specs.Memory.{Fill, covers, byte_of}

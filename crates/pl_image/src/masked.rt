@@ -41,11 +41,7 @@ fn add_load(ranges: &mut Vec<Range>, load: &Load, tables: &[Range]) -> Result<()
 }
 
 /// Adds the addresses at which bytes of tables are loaded, of all parts of a file.
-fn add_loads(
-    ranges: &mut Vec<Range>,
-    loads: &[Load],
-    tables: &[Range],
-) -> Result<(), AllocError>
+fn add_loads(ranges: &mut Vec<Range>, loads: &[Load], tables: &[Range]) -> Result<(), AllocError>
     requires { All (λ l. l.start + l.size ≤ ADDRESS_LIMIT) loads.now }
     ensures { OnOk result ((a : ℕ) → list_any (has a) ranges.new.items ≡ (list_any (has a) ranges.old.items || list_any (λ l. list_any (spec.loads_table a l) tables.now) loads.now)) }
 {

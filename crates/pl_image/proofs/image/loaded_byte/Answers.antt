@@ -1,4 +1,4 @@
-use Rattle.std.proofs.Common.{◌≡◌, ◌∙◌, sym, ap, Some, ℕ}
+use Rattle.std.proofs.Common.{◌∙◌, sym, ap, Some, ℕ}
 use Rattle.std.specs.Option.{option_copied}
 use Rattle.pl_image.proofs.ByteLemmas.{object_hit, object_miss, objects_past}
 use Rattle.pl_image.proofs.image.loaded_byte.Goals as goal

@@ -1,7 +1,6 @@
-use Rattle.std.proofs.Common.{◌≡◌, ◌∙◌, ap, List, Bool}
+use Rattle.std.proofs.Common.{◌∙◌, ap, List, Bool}
 use Rattle.std.specs.Prelude.{◌||◌}
 use Rattle.std.specs.List.{list_any}
-use Rattle.pl_elf.specs.declared.range.Range.{Range}
 use Rattle.pl_image.specs.declared.mask.Load.{Load}
 use Rattle.pl_image.specs.Lines.{has}
 use Rattle.pl_image.specs.Masked.{loads_table}

@@ -1,4 +1,4 @@
-use Rattle.std.proofs.Common.{rules, ◌≡◌, ◌+◌, ◌*◌, ◌/◌, ◌^◌, ◌<◌, ◌≤◌, min, subst, arith, length}
+use Rattle.std.proofs.Common.{rules, ◌+◌, ◌*◌, ◌<◌, min, subst, arith, length}
 use Rattle.pl_base.specs.Memory.{Piece}
 use Rattle.std.specs.Prelude.{nat_le}
 use Rattle.std.proofs.lemmas.List.Sorted.{IsPartitionPoint-from_clause}

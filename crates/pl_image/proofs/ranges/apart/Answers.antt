@@ -1,6 +1,5 @@
-use Rattle.std.proofs.Common.{◌≡◌, ◌∙◌, ap, subst, List, true}
+use Rattle.std.proofs.Common.{◌∙◌, ap, List}
 use Rattle.std.specs.List.{list_any}
-use Rattle.std.specs.List.Sorted.{IsNonDecreasingBy, IsPermutation}
 use Rattle.pl_elf.specs.declared.range.Range.{Range}
 use Rattle.pl_image.specs.Lines.{has}
 use Rattle.pl_image.specs.Index.{rises, merged}

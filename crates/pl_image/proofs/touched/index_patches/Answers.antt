@@ -1,4 +1,4 @@
-use Rattle.std.proofs.Common.{rules, ◌≡◌}
+use Rattle.std.proofs.Common.{rules}
 use Rattle.std.proofs.lemmas.List.Sorted.{IsNonDecreasingBy-from_sort_by_key, answers_always}
 use Rattle.pl_image.proofs.TouchLemmas.{index_sorted}
 use Rattle.pl_image.proofs.touched.index_patches.Goals as goal

@@ -1,7 +1,5 @@
-use Rattle.std.proofs.Common.{◌≡◌, ◌*◌, ◌^◌, ◌<◌, ◌≤◌, arith, false}
-use Rattle.std.specs.Prelude.{nat_lt, slice_index_or}
+use Rattle.std.proofs.Common.{◌^◌, arith}
 use Rattle.std.proofs.lemmas.Bool.{ltb-false}
-use Rattle.pl_image.specs.declared.touched.Touch.{Touch}
 use Rattle.pl_image.proofs.TouchLemmas.{none_touched}
 use Rattle.pl_image.proofs.touched.next_touched.Goals as goal
 

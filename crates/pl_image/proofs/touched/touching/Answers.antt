@@ -1,4 +1,3 @@
-use Rattle.std.proofs.Common.{◌≤◌}
 use Rattle.pl_image.proofs.TouchLemmas.{in_order, are_touching}
 use Rattle.pl_image.proofs.touched.touching.Goals as goal
 

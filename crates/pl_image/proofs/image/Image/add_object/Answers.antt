@@ -1,4 +1,4 @@
-use Rattle.std.proofs.Common.{◌*◌, ◌^◌, ◌≤◌, arith}
+use Rattle.std.proofs.Common.{arith}
 use Rattle.pl_base.proofs.ResultLaws.{OnErr-from}
 use Rattle.pl_image.specs.Image.{own_memory}
 use Rattle.pl_image.proofs.ByteLemmas.{own_none}

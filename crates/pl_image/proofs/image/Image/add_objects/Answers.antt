@@ -3,7 +3,7 @@ use Rattle.pl_base.proofs.ResultLaws.{OnErr-from}
 use Rattle.pl_image.specs.declared.loaded.Loaded.{Loaded}
 use Rattle.pl_image.specs.Image.{Image, AreLoaded}
 use Rattle.pl_image.proofs.ByteLemmas.{item_own, item_pieces}
-use Rattle.pl_image.proofs.TextLemmas.{objects_begin, objects_more, objects_stopped, objects_done}
+use Rattle.pl_image.proofs.TextLemmas.{objects_more, objects_stopped, objects_done}
 use Rattle.pl_image.proofs.image.Image.add_objects.Goals as goal
 
 pub add_object-requires : goal.add_object-requires

@@ -1,4 +1,4 @@
-use Rattle.std.proofs.Common.{◌≡◌, ◌∙◌, sym, ap, ℕ, cond}
+use Rattle.std.proofs.Common.{◌∙◌, sym, ap, ℕ, cond}
 use Rattle.std.specs.Prelude.{fold}
 use Rattle.std.specs.Option.{option_copied}
 use Rattle.pl_image.specs.Image.{any_masked}
