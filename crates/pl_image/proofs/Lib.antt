@@ -1,2 +1,10 @@
 pub mod PassLemmas
 pub mod LineLemmas
+pub mod FindLemmas
+pub mod PieceLemmas
+pub mod PlacedLaws
+pub mod RangeLemmas
+pub mod MaskLemmas
+pub mod TouchLemmas
+pub mod ByteLemmas
+pub mod TextLemmas

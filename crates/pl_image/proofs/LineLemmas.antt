@@ -5,7 +5,7 @@ use Rattle.std.proofs.lemmas.List.{append-nil}
 use Rattle.pl_base.specs.Bytes.{word64}
 use Rattle.pl_base.specs.Memory.{Memory, read}
 use Rattle.pl_elf.specs.declared.range.Range.{Range}
-use Rattle.pl_image.specs.Lines.{byte_in, word_in, word_line, lines_from, word_lines, IsClear, only, text}
+use Rattle.pl_image.specs.Lines.{byte_in, word_in, word_line, lines_from, IsClear, text}
 
 -- ---- a word
 
@@ -27,7 +27,7 @@ pub lines_none : (m : Memory) (n : ℕ) → lines_from m n 0 ≡ []
 unfolding lines_from
 lines_none m n = refl
 
-pub lines_more : (m : Memory) (n k : ℕ) → lines_from m n (k + 1) ≡ lines_from m n k ++ word_line m (n + k)
+lines_more : (m : Memory) (n k : ℕ) → lines_from m n (k + 1) ≡ lines_from m n k ++ word_line m (n + k)
 unfolding lines_from
 lines_more m n k = rw add-one refl
 
@@ -50,21 +50,31 @@ lines_clear m n (suc k) clear =
     let last : word_line m (n + k) ≡ [] = zero_line m (n + k) (zero_word m (8 * (n + k)) (λ i lt. clear (8 * (n + k) + i) (omega arith) (omega arith))) in
     rw (front, last) refl
 
--- up to a word the lines are those up to one before it, where those between are 0
-pub lines_skip : (m : Memory) (from to : ℕ) → from ≤ to → IsClear m (8 * from) (8 * to) → lines_from m 0 to ≡ lines_from m 0 from
-lines_skip m from to le clear =
-    let whole : to ≡ from + (to - from) = omega arith in
-    let none : lines_from m from (to - from) ≡ [] = lines_clear m from (to - from) (λ a low high. clear a low (omega arith)) in
-    ap (lines_from m 0) whole ∙ lines_split m 0 from (to - from) ∙ ap (λ (xs : List ℕ). lines_from m 0 from ++ xs) none ∙ append-nil (lines_from m 0 from)
+-- the lines up to a word, and those from it on
+lines_join : (m : Memory) (i k : ℕ) → lines_from m 0 (i + k) ≡ lines_from m 0 i ++ lines_from m i k
+lines_join m i k =
+    let there : 0 + i ≡ i = omega arith in
+    lines_split m 0 i k ∙ ap (λ (n : ℕ). lines_from m 0 i ++ lines_from m n k) there
 
--- the lines up to a word are the first ones of all
 pub lines_part : (m : Memory) (from to : ℕ) → from ≤ to → lines_from m 0 to ≡ lines_from m 0 from ++ lines_from m from (to - from)
 lines_part m from to le =
     let whole : to ≡ from + (to - from) = omega arith in
-    ap (lines_from m 0) whole ∙ lines_split m 0 from (to - from)
+    ap (lines_from m 0) whole ∙ lines_join m from (to - from)
+
+-- where words are 0 there are no lines
+pub lines_skip : (m : Memory) (from to : ℕ) → from ≤ to → IsClear m (8 * from) (8 * to) → lines_from m 0 to ≡ lines_from m 0 from
+lines_skip m from to le clear =
+    let none : lines_from m from (to - from) ≡ [] = lines_clear m from (to - from) (λ a low high. clear a low (omega arith)) in
+    lines_part m from to le ∙ ap (λ (xs : List ℕ). lines_from m 0 from ++ xs) none ∙ append-nil (lines_from m 0 from)
+
+-- one word more
+pub lines_next : (m : Memory) (n : ℕ) → lines_from m 0 (n + 1) ≡ lines_from m 0 n ++ word_line m n
+lines_next m n =
+    let there : 0 + n ≡ n = omega arith in
+    lines_more m 0 n ∙ ap (λ (k : ℕ). lines_from m 0 n ++ word_line m k) there
 
 -- ---- text
 
 -- memories with the same byte at every address have the same text
 pub text_same : (m n : Memory) (objects : List (List Range)) → ((address : ℕ) → m address ≡ n address) → text m objects ≡ text n objects
-text_same m n objects same = ap (λ (memory : Memory). text memory objects) (λ i address. same address i)
+text_same m n objects same = let all : m ≡ n = λ i address. same address i in ap (λ (memory : Memory). text memory objects) all

@@ -1,5 +1,5 @@
 -- How patches and masked addresses are looked up.
-use Rattle.std.specs.Prelude.{◌≡◌, ℕ, ◌/◌, ◌<◌, Bool, true, ◌&&◌, ◌==◌, nat_le, List, [], ◌∷◌, length, fold, slice_index_or, if◌then◌else◌}
+use Rattle.std.specs.Prelude.{◌≡◌, ℕ, ◌+◌, ◌/◌, ◌<◌, max, take, Bool, true, ◌&&◌, ◌==◌, nat_le, nat_lt, List, [], ◌∷◌, length, fold, slice_index_or, if◌then◌else◌}
 use Rattle.std.specs.List.{list_any, All}
 use Rattle.std.specs.List.Sorted.{IsNonDecreasingBy}
 use Rattle.pl_base.specs.Memory.{Fill, covers, byte_of}
@@ -24,11 +24,30 @@ abbrev pub laid_by : List Fill → ℕ → ℕ → Touch → ℕ
 laid_by patches address found touch =
     if touch.number == address / 8 then laid address found (patch_of patches touch.patch) else found
 
+-- the number of the first word past a fill
+abbrev pub words_end : Fill → ℕ
+words_end fill = (fill.start + length fill.bytes + 7) / 8
+
+-- the byte at an address with a patch over it, if the address's word is one from the patch's first word up to a number
+abbrev pub laid_up_to : Fill → ℕ → ℕ → ℕ → ℕ
+laid_up_to fill number address found = if nat_le (fill.start / 8) (address / 8) && nat_lt (address / 8) number then laid address found fill else found
+
 -- the words that patches touch, in ascending order, those of one word in the order of the patches
 pub record IsIndex (patches : List Fill) (touched : List Touch) : Type 0 where
   pub rising : IsNonDecreasingBy (λ t. t.number) touched
   pub inside : All (λ t. t.patch < length patches) touched
   pub whole : (address found : ℕ) → fold (laid_by patches address) found touched ≡ fold (laid address) found patches
+
+-- the first patches alone, for an index that is being made
+pub record IsIndexOf (patches : List Fill) (touched : List Touch) (count : ℕ) : Type 0 where
+  pub inside : All (λ t. t.patch < count) touched
+  pub whole : (address found : ℕ) → fold (laid_by patches address) found touched ≡ fold (laid address) found (take count patches)
+
+-- the words of a patch from its first one up to a number, after those of the patches before it
+pub record IsIndexTo (patches : List Fill) (touched : List Touch) (index number : ℕ) : Type 0 where
+  pub inside : All (λ t. t.patch < index + 1) touched
+  pub whole : (address found : ℕ) → fold (laid_by patches address) found touched
+      ≡ laid_up_to (patch_of patches index) number address (fold (laid address) found (take index patches))
 
 -- the patches that touch a word
 pub record AreTouching (patches : List Fill) (touching : List Touch) (number : ℕ) : Type 0 where
@@ -42,10 +61,19 @@ unfoldable pub rises : ℕ → List Range → Bool
 rises from [] = true
 rises from (range ∷ ranges) = nat_le from range.start && nat_le range.start range.end && rises range.end ranges
 
+-- ranges that ascend by where they start, each without its addresses before the end of those before it
+unfoldable pub merged : ℕ → List Range → List Range
+merged end [] = []
+merged end (range ∷ ranges) =
+    if nat_lt range.start range.end && nat_lt end range.end
+    then record { start = max range.start end; end = range.end } ∷ merged range.end ranges
+    else merged end ranges
+
 -- ---- an image
 
+-- objects and patches, with the words that the patches touch and the masked addresses
 pub record IsImage (objects : List Loaded) (patches : List Fill) (touched : List Touch) (masked : List Range) : Type 0 where
   pub loaded : AreLoaded objects
   pub index : IsIndex patches touched
   pub rising : rises 0 masked ≡ true
-  pub masked : (address : ℕ) → list_any (has address) masked ≡ any_masked objects address
+  pub hidden : (address : ℕ) → list_any (has address) masked ≡ any_masked objects address

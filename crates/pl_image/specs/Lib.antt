@@ -1,4 +1,5 @@
 pub mod Lines
 pub mod Loads
 pub mod Image
+pub mod Masked
 pub mod Index

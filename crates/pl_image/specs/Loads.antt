@@ -1,12 +1,11 @@
 -- What an object loads at a place: the file bytes and zeros of its PT_LOADs, and which of these bytes belong to its link tables (System V gABI chapter 5, "Program Header" and "Program Loading"). A place is the address that the object's address 0 gets: 0 for a program.
-use Rattle.std.specs.Prelude.{◌≡◌, ℕ, ◌+◌, ◌-◌, ◌≤◌, Bool, ◌&&◌, List, map}
+use Rattle.std.specs.Prelude.{ℕ, ◌+◌, ◌-◌, ◌≤◌, Bool, ◌&&◌, List, map}
 use Rattle.std.specs.List.{list_any, All}
 use Rattle.pl_base.specs.Bytes.{part}
 use Rattle.pl_base.specs.Memory.{Memory, Piece, is_within, layered, shown}
 use Rattle.pl_base.specs.Windows.{Window, holds}
 use Rattle.pl_elf.specs.declared.constants.TheConstants.{ADDRESS_LIMIT}
 use Rattle.pl_elf.specs.declared.segment.Segment.{Segment}
-use Rattle.pl_elf.specs.declared.range.Range.{Range}
 use Rattle.pl_elf.specs.Headers.{loads}
 use Rattle.pl_elf.specs.Clauses.{AreLoads}
 use Rattle.pl_object.specs.Accepted.{window_of}
@@ -56,5 +55,5 @@ image_of place bytes o = let memory = layered (pieces_at place bytes o) in shown
 
 -- the PT_LOADs are accepted ones, and each ends at the place at or below the limit of addresses
 pub record IsPlaced (place : ℕ) (o : Object) : Type 0 where
-  pub loads : AreLoads (loads o.segments)
+  pub accepted : AreLoads (loads o.segments)
   pub ends : All (λ s. place + (s.vaddr + s.memsz) ≤ ADDRESS_LIMIT) (loads o.segments)

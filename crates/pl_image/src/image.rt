@@ -1,11 +1,10 @@
-ghost use Rattle.std.specs.Prelude.{◌≡◌, ◌+◌, ◌*◌, ◌-◌, ◌≤◌, ◌<◌, ◌^◌, ◌++◌, length, fold, OnErr, OnOk, IfOk, if◌then◌else◌};
+ghost use Rattle.std.specs.Prelude.{◌≡◌, ◌*◌, ◌/◌, ◌≤◌, ◌<◌, ◌++◌, fold, OnErr, OnOk, IfOk, if◌then◌else◌};
 ghost use Rattle.pl_base.specs.Counts.{Rose};
 ghost use Rattle.pl_base.specs.Memory.{layered};
 ghost use Rattle.pl_base.specs.Streams.{GotPrefix, got_after};
 ghost use Rattle.pl_image.specs.Image as spec;
 ghost use Rattle.pl_image.specs.Index.{AreTouching, laid};
-ghost use Rattle.pl_image.specs.Lines.{Passes, byte_in, lines_from, text, word_in, word_lines};
-ghost use Rattle.pl_image.specs.Lines as lines;
+ghost use Rattle.pl_image.specs.Lines.{IsClear, Passes, byte_in, word_in, word_lines};
 
 use crate::image_text::{add_word, flush};
 use crate::lines::{Lines, WORDS};
@@ -54,7 +53,7 @@ impl<'a> Image<'a> {
         patches: Vec<Patch>,
     ) -> Result<Image<'a>, AllocError>
         requires { spec.AreLoaded objects.items }
-        ensures { IfOk result (λ i. i ≡ record { objects = objects.items; patches = patches.items }) }
+        ensures { IfOk result (λ i. i ≡ record { objects = objects.entry.items; patches = patches.items }) }
     {
         let touched = index_patches(alloc, &patches)?;
         let masked = masked_ranges(alloc, &objects)?;
@@ -126,7 +125,7 @@ impl<'a> Image<'a> {
         requires own { spec.AreOwn self.now pieces.now }
         requires limit { from ≤ WORDS }
         ensures within { (from ≤ result) × (result ≤ WORDS) }
-        ensures clear { lines.IsClear (spec.own_memory self.now pieces.now) (8 * from) (8 * result) }
+        ensures clear { IsClear (spec.own_memory self.now pieces.now) (8 * from) (8 * result) }
     {
         next_stored(pieces, from).min(next_touched(&self.touched, from))
     }

@@ -22,7 +22,12 @@ pub fn flush<K: Sink>(lines: &mut Lines, sink: &mut K) -> Result<(), Failed>
 
 /// Adds the line of a word that is not 0. Where the buffer has no room for it, the sink gets the lines before.
 #[tactic(auto, using(crate::proofs::PassLemmas::passes_none, crate::proofs::PassLemmas::passes_held, crate::proofs::PassLemmas::passes_flushed))]
-pub fn add_word<K: Sink>(lines: &mut Lines, sink: &mut K, address: u64, word: u64) -> Result<(), Failed>
+pub fn add_word<K: Sink>(
+    lines: &mut Lines,
+    sink: &mut K,
+    address: u64,
+    word: u64,
+) -> Result<(), Failed>
     ensures ok { OnOk result (spec.Passes (K.written sink.old) (K.written sink.new) lines.old.items lines.new.items (spec.unless_zero address word)) }
     ensures err { OnErr result (GotPrefix (K.written sink.old) (K.written sink.new) lines.old.items) }
     ensures failed { OnErr result (Rose (K.faults sink.old) (K.faults sink.new)) }

@@ -12,7 +12,8 @@ mod parts;
 mod patch;
 mod piece;
 mod ranges;
-
+#[cfg(test)]
+mod tests;
 mod touched;
 
 pub use image::Image;

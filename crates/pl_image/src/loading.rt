@@ -1,5 +1,5 @@
 // What an object loads at a place.
-ghost use Rattle.std.specs.Prelude.{◌≡◌, ◌+◌, ◌≤◌, true, IfOk};
+ghost use Rattle.std.specs.Prelude.{◌≡◌, ◌+◌, ◌≤◌, map, true, IfOk};
 ghost use Rattle.std.specs.List.{All};
 ghost use Rattle.pl_elf.specs.declared.constants.TheConstants.{ADDRESS_LIMIT};
 ghost use Rattle.pl_image.specs.Image.{ascends};
@@ -22,7 +22,24 @@ fn loaded_piece<'a>(bytes: &'a [u8], segment: &Segment, place: u64) -> Piece<'a>
     }
 }
 
+fn loaded_pieces<'a>(
+    alloc: Global,
+    bytes: &'a [u8],
+    segments: &[Segment],
+    place: u64,
+) -> Result<Rows<Piece<'a>>, AllocError>
+    requires { All (λ s. place + (s.vaddr + s.memsz) ≤ ADDRESS_LIMIT) segments.now }
+    ensures { IfOk result (λ pieces. pieces ≡ spec.loaded_pieces place bytes.now segments.now) }
+{
+    let mut pieces = Rows::new(alloc);
+    for segment in segments {
+        pieces.push(loaded_piece(bytes, segment, place))?;
+    }
+    Ok(pieces)
+}
+
 /// What the PT_LOADs of an object load of its file, where the object's address 0 gets the address `place`, 0 for a program. It fails only for want of memory.
+#[tactic(auto, using(crate::proofs::PlacedLaws::pieces_ascend))]
 pub fn load_pieces<'a>(
     alloc: Global,
     object: &Object,
@@ -33,10 +50,8 @@ pub fn load_pieces<'a>(
     ensures value { IfOk result (λ pieces. pieces ≡ spec.pieces_at place bytes.now object.now) }
     ensures ascends { IfOk result (λ pieces. ascends 0 pieces ≡ true) }
 {
-    let mut pieces = Rows::new(alloc);
-    for segment in &loads(alloc, object.segments.as_slice())? {
-        pieces.push(loaded_piece(bytes, segment, place))?;
-    }
+    let segments = loads(alloc, object.segments.as_slice())?;
+    let pieces = loaded_pieces(alloc, bytes, &segments, place)?;
     Ok(pieces)
 }
 
@@ -51,6 +66,17 @@ fn load_at(segment: &Segment, place: u64) -> Load
     }
 }
 
+fn load_rows(alloc: Global, segments: &[Segment], place: u64) -> Result<Rows<Load>, AllocError>
+    requires { All (λ s. place + (s.vaddr + s.memsz) ≤ ADDRESS_LIMIT) segments.now }
+    ensures { IfOk result (λ rows. rows ≡ map (spec.load_at place) segments.now) }
+{
+    let mut rows = Rows::new(alloc);
+    for segment in segments {
+        rows.push(load_at(segment, place))?;
+    }
+    Ok(rows)
+}
+
 fn copied(alloc: Global, tables: &[Range]) -> Result<Rows<Range>, AllocError>
     ensures { IfOk result (λ rows. rows ≡ tables.now) }
 {
@@ -58,19 +84,18 @@ fn copied(alloc: Global, tables: &[Range]) -> Result<Rows<Range>, AllocError>
 }
 
 /// Where the link tables of an object are loaded at a place. It fails only for want of memory.
+#[tactic(auto, using(crate::proofs::PlacedLaws::mask_fits))]
 pub fn load_mask(alloc: Global, object: &Object, place: u64) -> Result<Mask, AllocError>
     requires { spec.IsPlaced place object.now }
     ensures value { IfOk result (λ mask. mask ≡ spec.mask_at place object.now) }
     ensures fits { IfOk result (λ mask. All (λ l. l.start + l.size ≤ ADDRESS_LIMIT) mask.loads) }
 {
-    let mut parts = Rows::new(alloc);
-    for segment in &loads(alloc, object.segments.as_slice())? {
-        parts.push(load_at(segment, place))?;
-    }
-    Ok(Mask {
-        loads: parts,
+    let segments = loads(alloc, object.segments.as_slice())?;
+    let mask = Mask {
+        loads: load_rows(alloc, &segments, place)?,
         tables: copied(alloc, object.tables.as_slice())?,
-    })
+    };
+    Ok(mask)
 }
 
 /// An object as it is loaded of its file at a place. It fails only for want of memory.

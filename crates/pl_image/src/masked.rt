@@ -1,9 +1,11 @@
 // The masked addresses of objects.
-ghost use Rattle.std.specs.Prelude.{◌≡◌, ◌+◌, ◌≤◌, ℕ, true, IfOk};
+ghost use Rattle.std.specs.Prelude.{◌≡◌, ◌+◌, ◌≤◌, ◌||◌, ℕ, true, IfOk, OnOk};
 ghost use Rattle.std.specs.List.{list_any, All};
 ghost use Rattle.pl_elf.specs.declared.constants.TheConstants.{ADDRESS_LIMIT};
 ghost use Rattle.pl_image.specs.Image.{any_masked};
 ghost use Rattle.pl_image.specs.Index.{rises};
+ghost use Rattle.pl_image.specs.Loads.{is_masked};
+ghost use Rattle.pl_image.specs.Masked as spec;
 ghost use Rattle.pl_image.specs.Lines.{has};
 
 use crate::ranges::apart;
@@ -14,6 +16,7 @@ use std::alloc::{AllocError, Global};
 /// Adds the addresses at which bytes of a table are loaded.
 fn add_table(ranges: &mut Vec<Range>, load: &Load, table: &Range) -> Result<(), AllocError>
     requires { load.now.start + load.now.size ≤ ADDRESS_LIMIT }
+    ensures { OnOk result ((a : ℕ) → list_any (has a) ranges.new.items ≡ (list_any (has a) ranges.old.items || spec.loads_table a load.now table.now)) }
 {
     let from = table.start.saturating_sub(load.offset);
     let to = table.end.saturating_sub(load.offset).min(load.size);
@@ -26,8 +29,10 @@ fn add_table(ranges: &mut Vec<Range>, load: &Load, table: &Range) -> Result<(), 
     Ok(())
 }
 
+/// Adds the addresses at which bytes of tables are loaded.
 fn add_load(ranges: &mut Vec<Range>, load: &Load, tables: &[Range]) -> Result<(), AllocError>
     requires { load.now.start + load.now.size ≤ ADDRESS_LIMIT }
+    ensures { OnOk result ((a : ℕ) → list_any (has a) ranges.new.items ≡ (list_any (has a) ranges.old.items || list_any (spec.loads_table a load.now) tables.now)) }
 {
     for table in tables {
         add_table(ranges, load, table)?;
@@ -35,15 +40,38 @@ fn add_load(ranges: &mut Vec<Range>, load: &Load, tables: &[Range]) -> Result<()
     Ok(())
 }
 
+/// Adds the addresses at which bytes of tables are loaded, of all parts of a file.
+fn add_loads(ranges: &mut Vec<Range>, loads: &[Load], tables: &[Range]) -> Result<(), AllocError>
+    requires { All (λ l. l.start + l.size ≤ ADDRESS_LIMIT) loads.now }
+    ensures { OnOk result ((a : ℕ) → list_any (has a) ranges.new.items ≡ (list_any (has a) ranges.old.items || list_any (λ l. list_any (spec.loads_table a l) tables.now) loads.now)) }
+{
+    for load in loads {
+        add_load(ranges, load, tables)?;
+    }
+    Ok(())
+}
+
 /// Adds the masked addresses of an object.
 fn add_mask(alloc: Global, ranges: &mut Vec<Range>, mask: &Mask) -> Result<(), AllocError>
     requires { All (λ l. l.start + l.size ≤ ADDRESS_LIMIT) mask.now.loads }
+    ensures { OnOk result ((a : ℕ) → list_any (has a) ranges.new.items ≡ (list_any (has a) ranges.old.items || is_masked mask.now a)) }
 {
-    let tables = apart(alloc, Vec::from_slice(alloc, mask.tables.as_slice())?)?;
-    for load in mask.loads.as_slice() {
-        add_load(ranges, load, &tables)?;
-    }
+    let tables = Vec::from_slice(alloc, mask.tables.as_slice())?;
+    let tables = apart(alloc, tables)?;
+    add_loads(ranges, mask.loads.as_slice(), &tables)?;
     Ok(())
+}
+
+/// The masked addresses of objects, in any order.
+fn all_masked(alloc: Global, objects: &[Loaded<'_>]) -> Result<Vec<Range>, AllocError>
+    requires { All (λ o. All (λ l. l.start + l.size ≤ ADDRESS_LIMIT) o.mask.loads) objects.now }
+    ensures { IfOk result (λ v. (a : ℕ) → list_any (has a) v.items ≡ any_masked objects.now a) }
+{
+    let mut ranges = Vec::new(alloc);
+    for object in objects {
+        add_mask(alloc, &mut ranges, &object.mask)?;
+    }
+    Ok(ranges)
 }
 
 /// The masked addresses of objects, in ranges that ascend and do not overlap.
@@ -52,9 +80,6 @@ pub fn masked_ranges(alloc: Global, objects: &[Loaded<'_>]) -> Result<Vec<Range>
     ensures rises { IfOk result (λ v. rises 0 v.items ≡ true) }
     ensures masked { IfOk result (λ v. (a : ℕ) → list_any (has a) v.items ≡ any_masked objects.now a) }
 {
-    let mut ranges = Vec::new(alloc);
-    for object in objects {
-        add_mask(alloc, &mut ranges, &object.mask)?;
-    }
+    let ranges = all_masked(alloc, objects)?;
     apart(alloc, ranges)
 }

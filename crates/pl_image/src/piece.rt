@@ -1,7 +1,8 @@
-ghost use Rattle.std.specs.Prelude.{◌≡◌, ℕ, ◌+◌, ◌*◌, ◌≤◌, ◌<◌, ◌^◌, true, false, length, min, nat_le};
+ghost use Rattle.std.specs.Prelude.{◌≡◌, ℕ, ◌+◌, ◌*◌, ◌/◌, ◌≤◌, ◌<◌, true, false, length, min, nat_le};
 ghost use Rattle.std.specs.List.{find, list_any};
 ghost use Rattle.std.specs.Option.{option_copied};
 ghost use Rattle.pl_base.specs.Memory as memory;
+ghost use Rattle.pl_elf.specs.declared.constants.TheConstants.{ADDRESS_LIMIT};
 ghost use Rattle.pl_image.specs.Image.{ascends, stores};
 
 use crate::lines::WORDS;
@@ -38,6 +39,13 @@ pub fn byte_at(piece: &Piece<'_>, address: u64) -> u8
     }
 }
 
+/// Whether the piece has the address.
+fn lies(address: u64, piece: &Piece<'_>) -> bool
+    ensures { result ≡ memory.lies address piece.now }
+{
+    piece.start <= address && address - piece.start < piece.size
+}
+
 /// The piece that has an address, of pieces that ascend.
 pub fn piece_at<'p, 'a>(pieces: &'p [Piece<'a>], address: u64) -> Option<&'p Piece<'a>>
     requires { ascends 0 pieces.now ≡ true }
@@ -48,7 +56,7 @@ pub fn piece_at<'p, 'a>(pieces: &'p [Piece<'a>], address: u64) -> Option<&'p Pie
         return None;
     }
     let piece = &pieces[after - 1];
-    if address - piece.start < piece.size {
+    if lies(address, piece) {
         Some(piece)
     } else {
         None
@@ -63,6 +71,13 @@ fn ends_by(piece: &Piece<'_>, address: u64) -> bool
     piece.start <= address && stored <= address - piece.start
 }
 
+/// The number of the word in which a piece begins.
+fn first_word(piece: &Piece<'_>) -> u64
+    ensures { result ≡ piece.now.start / 8 }
+{
+    piece.start / 8
+}
+
 /// The number of the first word from one on that has a byte of a file, `WORDS` where there is none, of pieces that ascend.
 pub fn next_stored(pieces: &[Piece<'_>], from: u64) -> u64
     requires ascending { ascends 0 pieces.now ≡ true }
@@ -75,8 +90,16 @@ pub fn next_stored(pieces: &[Piece<'_>], from: u64) -> u64
     if index == pieces.len() {
         return WORDS;
     }
-    let piece = &pieces[index];
-    from.max(piece.start / 8)
+    from.max(first_word(&pieces[index]))
+}
+
+/// Where a piece ends.
+fn end(piece: &Piece<'_>) -> u64
+    requires { piece.now.start + piece.now.size ≤ ADDRESS_LIMIT }
+    ensures value { result ≡ piece.now.start + piece.now.size }
+    ensures limit { result ≤ ADDRESS_LIMIT }
+{
+    piece.start + piece.size
 }
 
 /// The number of the first word past pieces that ascend.
@@ -88,6 +111,5 @@ pub fn words_end(pieces: &[Piece<'_>]) -> u64
     if pieces.is_empty() {
         return 0;
     }
-    let last = &pieces[pieces.len() - 1];
-    (last.start + last.size + 7) / 8
+    (end(&pieces[pieces.len() - 1]) + 7) / 8
 }

@@ -1,23 +1,35 @@
 // Ranges of addresses.
 ghost use Rattle.std.specs.Prelude.{◌≡◌, ℕ, true, IfOk};
 ghost use Rattle.std.specs.List.{list_any};
+ghost use Rattle.std.specs.List.Sorted.{IsNonDecreasingBy, IsPermutation};
 ghost use Rattle.pl_image.specs.Index as spec;
 ghost use Rattle.pl_image.specs.Lines.{has};
 
 use pl_elf::Range;
 use std::alloc::{AllocError, Global};
 
+/// Puts ranges into the order of where they start.
+fn sort_ranges(ranges: &mut Vec<Range>)
+    ensures same { IsPermutation ranges.old.items ranges.new.items }
+    ensures rising { IsNonDecreasingBy (λ r. r.start) ranges.new.items }
+{
+    ranges.sort_unstable_by_key(|range| range.start);
+}
+
 /// Ranges that ascend and do not overlap, with the same addresses. The time grows as `n log n`.
 pub fn apart(alloc: Global, mut ranges: Vec<Range>) -> Result<Vec<Range>, AllocError>
     ensures rises { IfOk result (λ v. spec.rises 0 v.items ≡ true) }
     ensures same { IfOk result (λ v. (a : ℕ) → list_any (has a) v.items ≡ list_any (has a) ranges.items) }
 {
-    ranges.sort_unstable_by_key(|range| range.start);
-    rising(alloc, &ranges)
+    sort_ranges(&mut ranges);
+    let kept = merged(alloc, &ranges)?;
+    Ok(kept)
 }
 
-/// The same of ranges that ascend by where they start.
-fn rising(alloc: Global, ranges: &[Range]) -> Result<Vec<Range>, AllocError>
+/// Ranges that ascend by where they start, each without its addresses before the end of those before it.
+#[tactic(auto, unfolding(crate::specs::Index::merged))]
+fn merged(alloc: Global, ranges: &[Range]) -> Result<Vec<Range>, AllocError>
+    ensures { IfOk result (λ v. v.items ≡ spec.merged 0 ranges.now) }
 {
     let mut kept = Vec::new(alloc);
     let mut end = 0;
@@ -39,5 +51,8 @@ pub fn any_has(ranges: &[Range], address: u64) -> bool
     ensures { result ≡ list_any (has address) ranges.now }
 {
     let after = ranges.partition_point(|range| range.start <= address);
-    after > 0 && address < ranges[after - 1].end
+    if after == 0 {
+        return false;
+    }
+    address < ranges[after - 1].end
 }

@@ -1,7 +1,7 @@
 // Patches by the words that they touch.
-ghost use Rattle.std.specs.Prelude.{◌≡◌, ℕ, ◌≤◌, ◌<◌, ◌==◌, false, fold, length, IfOk};
+ghost use Rattle.std.specs.Prelude.{◌≡◌, ℕ, ◌+◌, ◌≤◌, ◌<◌, ◌^◌, ◌==◌, true, false, nat_lt, fold, length, IfOk, OnOk};
 ghost use Rattle.std.specs.List.{All, list_any};
-ghost use Rattle.std.specs.List.Sorted.{IsNonDecreasingBy};
+ghost use Rattle.std.specs.List.Sorted.{IsNonDecreasingBy, IsPartitionPoint};
 ghost use Rattle.pl_image.specs.Index as spec;
 
 use crate::Patch;
@@ -21,12 +21,19 @@ pub struct Touch {
 }
 
 /// The number of the first word past a patch.
-fn words_end(patch: &Patch) -> u64 {
+fn words_end(patch: &Patch) -> u64
+    ensures { result ≡ spec.words_end patch.now }
+{
     ((end(patch.address, patch.bytes.len() as u64) + 7) / 8) as u64
 }
 
-/// Adds the words that a patch touches.
-fn add_touches(touched: &mut Vec<Touch>, patch: &Patch, index: usize) -> Result<(), AllocError> {
+/// Adds the words that the patch of an index touches.
+fn add_touches(touched: &mut Vec<Touch>, patches: &[Patch], index: usize) -> Result<(), AllocError>
+    requires there { index < length patches.now }
+    requires before { spec.IsIndexOf patches.now touched.old.items index }
+    ensures { OnOk result (spec.IsIndexOf patches.now touched.new.items (index + 1)) }
+{
+    let patch = &patches[index];
     for number in patch.address / 8..words_end(patch) {
         touched.push(Touch {
             number,
@@ -36,10 +43,13 @@ fn add_touches(touched: &mut Vec<Touch>, patch: &Patch, index: usize) -> Result<
     Ok(())
 }
 
-fn touches(alloc: Global, patches: &[Patch]) -> Result<Vec<Touch>, AllocError> {
+/// The words that patches touch, in the order of the patches.
+fn touches(alloc: Global, patches: &[Patch]) -> Result<Vec<Touch>, AllocError>
+    ensures { IfOk result (λ touched. spec.IsIndexOf patches.now touched.items (length patches.now)) }
+{
     let mut touched = Vec::new(alloc);
     for index in 0..patches.len() {
-        add_touches(&mut touched, &patches[index], index)?;
+        add_touches(&mut touched, patches, index)?;
     }
     Ok(touched)
 }
@@ -53,13 +63,23 @@ pub fn index_patches(alloc: Global, patches: &[Patch]) -> Result<Vec<Touch>, All
     Ok(touched)
 }
 
+/// How many of the touches, which ascend, are of words before a number.
+fn before(touched: &[Touch], number: u64) -> usize
+    requires { IsNonDecreasingBy (λ t. t.number) touched.now }
+    ensures bound { result ≤ length touched.now }
+    ensures point { IsPartitionPoint (λ t. nat_lt t.number number ≡ true) (λ t. nat_lt t.number number ≡ false) touched.now result }
+{
+    touched.partition_point(|touch| touch.number < number)
+}
+
 /// The patches that touch a word.
 pub fn touching<'t>(patches: &[Patch], touched: &'t [Touch], number: u64) -> &'t [Touch]
-    requires { spec.IsIndex patches.now touched.now }
+    requires index { spec.IsIndex patches.now touched.now }
+    requires limit { number < 2 ^ 61 }
     ensures { spec.AreTouching patches.now result.now number }
 {
-    let first = touched.partition_point(|touch| touch.number < number);
-    let end = touched.partition_point(|touch| touch.number <= number);
+    let first = before(touched, number);
+    let end = before(touched, number + 1);
     &touched[first..end]
 }
 
@@ -84,7 +104,7 @@ pub fn next_touched(touched: &[Touch], from: u64) -> u64
     ensures within { (from ≤ result) × (result ≤ WORDS) }
     ensures none { (n : ℕ) → from ≤ n → n < result → list_any (λ t. t.number == n) touched.now ≡ false }
 {
-    let index = touched.partition_point(|touch| touch.number < from);
+    let index = before(touched, from);
     if index < touched.len() {
         touched[index].number.min(WORDS)
     } else {

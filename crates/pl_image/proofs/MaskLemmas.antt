@@ -1,0 +1,86 @@
+-- The addresses at which file bytes of tables are loaded.
+use Rattle.std.proofs.Common.{◌≡◌, ℕ, ◌+◌, ◌-◌, ◌<◌, ◌≤◌, min, Bool, true, false, List, [], ◌∷◌, ◌++◌, refl, sym, ap, ◌∙◌, arith}
+use Rattle.std.specs.Prelude.{◌&&◌, ◌||◌, nat_le, nat_lt, map}
+use Rattle.std.specs.List.{list_any}
+use Rattle.std.proofs.lemmas.Bool.Decides.{nat_tests}
+use Rattle.std.proofs.lemmas.List.Folds.{list_any-append}
+use Rattle.pl_base.specs.Memory.{is_within}
+use Rattle.pl_base.specs.Windows.{holds}
+use Rattle.pl_elf.specs.declared.range.Range.{Range}
+use Rattle.pl_object.specs.Accepted.{window_of}
+use Rattle.pl_image.specs.declared.mask.Load.{Load}
+use Rattle.pl_image.specs.declared.mask.Mask.{Mask}
+use Rattle.pl_image.specs.Lines.{has}
+use Rattle.pl_image.specs.Loads.{loads_from, is_masked}
+use Rattle.pl_image.specs.Masked.{loads_table}
+
+or_none : (b : Bool) → (b || false) ≡ b
+or_none true = refl
+or_none false = refl
+
+pub or_assoc : (a b c : Bool) → ((a || b) || c) ≡ (a || (b || c))
+or_assoc true b c = refl
+or_assoc false b c = refl
+
+-- one range more
+pub any_push : (a : ℕ) (rs : List Range) (r : Range) → list_any (has a) (rs ++ r ∷ []) ≡ (list_any (has a) rs || has a r)
+any_push a rs r = list_any-append (has a) rs (r ∷ []) ∙ ap (λ (b : Bool). list_any (has a) rs || b) (or_none (has a r))
+
+-- ---- a part of a file and a table
+
+-- the first and the last offset in the part that are the table's
+module _ (start offset size from to a : ℕ) where
+  abbrev low : ℕ
+  low = from - offset
+
+  abbrev high : ℕ
+  high = min (to - offset) size
+
+  pub crossed : low < high → (nat_le (start + low) a && nat_lt a (start + high)) ≡ (is_within start size a && (nat_le from (offset + (a - start)) && nat_lt (offset + (a - start)) to))
+  crossed some = grind (arith, nat_tests)
+
+  pub not_crossed : high ≤ low → (is_within start size a && (nat_le from (offset + (a - start)) && nat_lt (offset + (a - start)) to)) ≡ false
+  not_crossed none = grind (arith, nat_tests)
+
+-- ---- tables
+
+-- a table as a range and as a window
+table_holds : (k : ℕ) (r : Range) → holds k (window_of r) ≡ has k r
+table_holds k r = grind (arith, nat_tests)
+
+any_holds : (k : ℕ) (rs : List Range) → list_any (holds k) (map window_of rs) ≡ list_any (has k) rs
+any_holds k [] = refl
+any_holds k (r ∷ rs) = ap (λ (b : Bool). b || list_any (holds k) (map window_of rs)) (table_holds k r) ∙ ap (λ (b : Bool). has k r || b) (any_holds k rs)
+
+and_or : (w x y : Bool) → ((w && x) || (w && y)) ≡ (w && (x || y))
+and_or true x y = refl
+and_or false x y = refl
+
+and_none : (w : Bool) → false ≡ (w && false)
+and_none true = refl
+and_none false = refl
+
+tables_of : (a : ℕ) (load : Load) (rs : List Range) → list_any (loads_table a load) rs ≡ (is_within load.start load.size a && list_any (has (load.offset + (a - load.start))) rs)
+tables_of a load [] = and_none (is_within load.start load.size a)
+tables_of a load (r ∷ rs) =
+    ap (λ (b : Bool). loads_table a load r || b) (tables_of a load rs)
+    ∙ and_or (is_within load.start load.size a) (has (load.offset + (a - load.start)) r) (list_any (has (load.offset + (a - load.start))) rs)
+
+-- other tables with the same bytes
+pub same_tables : (a : ℕ) (load : Load) (tables kept : List Range) → ((k : ℕ) → list_any (has k) kept ≡ list_any (has k) tables)
+    → list_any (loads_table a load) kept ≡ loads_from (map window_of tables) a load
+same_tables a load tables kept same =
+    let k = load.offset + (a - load.start) in
+    tables_of a load kept ∙ ap (λ (b : Bool). is_within load.start load.size a && b) (same k ∙ sym (any_holds k tables))
+
+masked_by : (a : ℕ) (loads : List Load) (tables kept : List Range) → ((k : ℕ) → list_any (has k) kept ≡ list_any (has k) tables)
+    → list_any (λ l. list_any (loads_table a l) kept) loads ≡ list_any (loads_from (map window_of tables) a) loads
+masked_by a [] tables kept same = refl
+masked_by a (l ∷ ls) tables kept same =
+    ap (λ (b : Bool). b || list_any (λ l. list_any (loads_table a l) kept) ls) (same_tables a l tables kept same)
+    ∙ ap (λ (b : Bool). loads_from (map window_of tables) a l || b) (masked_by a ls tables kept same)
+
+pub masked_is : (a : ℕ) (mask : Mask) (kept : List Range) → ((k : ℕ) → list_any (has k) kept ≡ list_any (has k) mask.tables)
+    → list_any (λ l. list_any (loads_table a l) kept) mask.loads ≡ is_masked mask a
+unfolding is_masked
+masked_is a mask kept same = masked_by a mask.loads mask.tables kept same

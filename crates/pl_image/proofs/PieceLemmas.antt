@@ -1,0 +1,164 @@
+-- Pieces that ascend.
+use Rattle.std.proofs.Common.{◌≡◌, ℕ, zero, suc, ◌+◌, ◌-◌, ◌*◌, ◌<◌, ◌≤◌, ◌^◌, min, true, false, cond, List, [], ◌∷◌, length, get_or, Some, None, refl, sym, subst, ◌∙◌, arith, inl, inr}
+use Rattle.std.specs.Prelude.{◌&&◌, nat_le, find}
+use Rattle.std.specs.List.{list_any}
+use Rattle.std.specs.List.Sorted.{IsNonDecreasingBy, IsPartitionedBy, IsPartitionPoint}
+use Rattle.std.proofs.lemmas.Bool.{and_parts, or_parts, cases_Bool, cases_order}
+use Rattle.std.proofs.lemmas.Bool.Decides.{nat_tests}
+use Rattle.std.proofs.lemmas.List.{get_or_past, get_or_default}
+use Rattle.pl_base.specs.Memory.{Piece, lies, byte_at, AtMostOne}
+use Rattle.pl_elf.specs.declared.constants.TheConstants.{ADDRESS_LIMIT}
+use Rattle.pl_image.specs.Image.{ascends, stores}
+use Rattle.pl_image.proofs.FindLemmas.{find_none, any_none, find_lone}
+
+record Ascends (from : ℕ) (p : Piece) (ps : List Piece) : Type 0 where
+  later : from ≤ p.start
+  limit : p.start + p.size ≤ 2 ^ 47
+  rest : ascends (p.start + p.size) ps ≡ true
+
+ascends_parts : (from : ℕ) (p : Piece) (ps : List Piece) → ascends from (p ∷ ps) ≡ true → Ascends from p ps
+unfolding ascends
+ascends_parts from p ps h =
+    let whole = and_parts (nat_le from p.start && nat_le (p.start + p.size) ADDRESS_LIMIT) (ascends (p.start + p.size) ps) h in
+    let front = and_parts (nat_le from p.start) (nat_le (p.start + p.size) ADDRESS_LIMIT) whole.0 in
+    record { later = grind (arith, nat_tests, front.0); limit = grind (arith, nat_tests, front.1); rest = whole.1 }
+
+start_later : (from : ℕ) (ps : List Piece) (i : ℕ) (d : Piece) → ascends from ps ≡ true → i < length ps → from ≤ (get_or ps i d).start
+start_later from [] i d h lt = absurd (omega arith)
+start_later from (p ∷ ps) zero d h lt = (ascends_parts from p ps h).later
+start_later from (p ∷ ps) (suc i) d h lt =
+    let f = ascends_parts from p ps h in
+    let later = f.later in
+    let next = start_later (p.start + p.size) ps i d f.rest (omega arith) in
+    omega arith
+
+end_limit : (from : ℕ) (ps : List Piece) (i : ℕ) (d : Piece) → ascends from ps ≡ true → i < length ps → (get_or ps i d).start + (get_or ps i d).size ≤ 2 ^ 47
+end_limit from [] i d h lt = absurd (omega arith)
+end_limit from (p ∷ ps) zero d h lt = (ascends_parts from p ps h).limit
+end_limit from (p ∷ ps) (suc i) d h lt = end_limit (p.start + p.size) ps i d (ascends_parts from p ps h).rest (omega arith)
+
+pub piece_limit : (ps : List Piece) (i : ℕ) (p : Piece) → ascends 0 ps ≡ true → i < length ps → p ≡ get_or ps i p → p.start + p.size ≤ 2 ^ 47
+piece_limit ps i p h lt is = subst (λ (q : Piece). q.start + q.size ≤ 2 ^ 47) (sym is) (end_limit 0 ps i p h lt)
+
+pub start_limit : (ps : List Piece) (i : ℕ) (p : Piece) → ascends 0 ps ≡ true → i < length ps → p ≡ get_or ps i p → p.start ≤ 2 ^ 47
+start_limit ps i p h lt is = let limit = piece_limit ps i p h lt is in omega arith
+
+-- each begins at or after the end of every one before
+ends_before : (from : ℕ) (ps : List Piece) (i j : ℕ) (d : Piece) → ascends from ps ≡ true → i < j → j < length ps → (get_or ps i d).start + (get_or ps i d).size ≤ (get_or ps j d).start
+ends_before from [] i j d h lt within = absurd (omega arith)
+ends_before from (p ∷ ps) i zero d h lt within = absurd (omega arith)
+ends_before from (p ∷ ps) zero (suc j) d h lt within = start_later (p.start + p.size) ps j d (ascends_parts from p ps h).rest (omega arith)
+ends_before from (p ∷ ps) (suc i) (suc j) d h lt within = ends_before (p.start + p.size) ps i j d (ascends_parts from p ps h).rest (omega arith) (omega arith)
+
+starts_rise : (ps : List Piece) → ascends 0 ps ≡ true → IsNonDecreasingBy (λ p. p.start) ps
+starts_rise ps h = λ i j d le within. elim (cases_order i j) [
+  | inl same ↦ rw same (omega arith)
+  | inr other ↦ elim other [
+    | inl less ↦ let before = ends_before 0 ps i j d h less within in omega arith
+    | inr more ↦ absurd (omega arith)
+  ]
+]
+
+-- no address is in two of them
+pub ascend_apart : (ps : List Piece) → ascends 0 ps ≡ true → AtMostOne lies ps
+ascend_apart ps h = λ i j a d less within hit.
+    let before = ends_before 0 ps i j d h less within in
+    grind (arith, nat_tests)
+
+-- ---- the piece that has an address
+
+-- the pieces that begin at or before an address are the first ones
+pub begun_first : (ps : List Piece) (a : ℕ) → ascends 0 ps ≡ true → IsPartitionedBy (λ p. nat_le p.start a) ps
+begun_first ps a h = λ i j d le within hit.
+    let rise = starts_rise ps h i j d le within in
+    grind (arith, nat_tests)
+
+module _ (ps : List Piece) (a i : ℕ) (h : ascends 0 ps ≡ true) (point : IsPartitionPoint (λ p. nat_le p.start a ≡ true) (λ p. nat_le p.start a ≡ false) ps i) where
+  later_miss : (k : ℕ) (d : Piece) → i ≤ k → k < length ps → lies a (get_or ps k d) ≡ false
+  later_miss k d le within = let after = point.1 k d le within in grind (arith, nat_tests)
+
+  pub piece_missed : i ≡ 0 → find (lies a) ps ≡ None
+  piece_missed is = find_none (lies a) ps (λ k d within. later_miss k d (omega arith) within)
+
+  piece_found : (e : Piece) → 0 < i → i ≤ length ps → find (lies a) ps ≡ cond (lies a (get_or ps (i - 1) e)) (Some (get_or ps (i - 1) e)) None
+  piece_found e some le = find_lone (lies a) ps (i - 1) e (omega arith)
+      (λ k d less.
+      let before = ends_before 0 ps k (i - 1) d h less (omega arith) in
+      let begun = point.0 (i - 1) d (omega arith) (omega arith) in
+      grind (arith, nat_tests))
+      (λ k d more within. later_miss k d (omega arith) within)
+
+  pub piece_hit : (p : Piece) → 0 < i → i ≤ length ps → p ≡ get_or ps (i - 1) p → lies a p ≡ true → find (lies a) ps ≡ Some p
+  piece_hit p some le is hit = piece_found p some le ∙ subst (λ (q : Piece). cond (lies a q) (Some q) None ≡ Some p) is (rw hit refl)
+
+  pub piece_out : (p : Piece) → 0 < i → i ≤ length ps → p ≡ get_or ps (i - 1) p → lies a p ≡ false → find (lies a) ps ≡ None
+  piece_out p some le is miss = piece_found p some le ∙ subst (λ (q : Piece). cond (lies a q) (Some q) None ≡ None) is (rw miss refl)
+
+-- ---- bytes of files
+
+-- the pieces whose bytes of a file end by an address are the first ones
+pub ended_first : (ps : List Piece) (a : ℕ) → ascends 0 ps ≡ true → IsPartitionedBy (λ p. nat_le (p.start + min (length p.bytes) p.size) a) ps
+ended_first ps a h = λ i j d le within hit. elim (cases_order i j) [
+  | inl same ↦ rw same hit
+  | inr other ↦ elim other [
+    | inl less ↦
+        let before = ends_before 0 ps i j d h less within in
+        let by : (get_or ps j d).start + min (length (get_or ps j d).bytes) (get_or ps j d).size ≤ a = grind (arith, nat_tests) in
+        let end : (get_or ps i d).start + min (length (get_or ps i d).bytes) (get_or ps i d).size ≤ a = omega arith in
+        grind (arith, nat_tests)
+    | inr more ↦ absurd (omega arith)
+  ]
+]
+
+module _ (ps : List Piece) (a i : ℕ) (h : ascends 0 ps ≡ true) (point : IsPartitionPoint (λ p. nat_le (p.start + min (length p.bytes) p.size) a ≡ true) (λ p. nat_le (p.start + min (length p.bytes) p.size) a ≡ false) ps i) where
+  past_stored : (b k : ℕ) (d : Piece) → a ≤ b → k < i → stores b (get_or ps k d) ≡ false
+  past_stored b k d le less = let by = point.0 k d (omega arith) less in grind (arith, nat_tests)
+
+  -- from the address on none has a byte of a file,
+  pub none_stored : (b : ℕ) → length ps ≤ i → a ≤ b → list_any (stores b) ps ≡ false
+  none_stored b all le = any_none (stores b) ps (λ k d within. past_stored b k d le (omega arith))
+
+  -- or none up to the start of the first one that does not end by it
+  pub none_stored_before : (b : ℕ) (e : Piece) → i < length ps → a ≤ b → b < (get_or ps i e).start → list_any (stores b) ps ≡ false
+  none_stored_before b e lt le below = any_none (stores b) ps (λ k d within. elim (cases_order k i) [
+    | inl same ↦ next k same d within
+    | inr other ↦ elim other [
+      | inl less ↦ past_stored b k d le less
+      | inr more ↦
+          let before = ends_before 0 ps i k e h more within in
+          let there = get_or_default ps k e d within in
+          rw there at (let out : stores b (get_or ps k e) ≡ false = grind (arith, nat_tests) in out)
+    ]
+  ])
+    where
+      next : (k : ℕ) → k ≡ i → (d : Piece) → k < length ps → stores b (get_or ps k d) ≡ false
+      next k same d within =
+          let there = get_or_default ps k d e within in
+          rw (there, same) (let out : stores b (get_or ps i e) ≡ false = grind (arith, nat_tests) in out)
+
+-- an address of a piece at which no byte of a file stands has a 0
+pub unstored : (ps : List Piece) (a : ℕ) (p : Piece) → list_any (stores a) ps ≡ false → find (lies a) ps ≡ Some p → byte_at a p ≡ 0
+unstored [] a p none found = absurd cc
+unstored (x ∷ xs) a p none found =
+    let out = or_parts (stores a x) (list_any (stores a) xs) none in
+    elim (cases_Bool (lies a x)) [
+      | inr miss ↦ unstored xs a p out.1 (rw miss at found)
+      | inl hit ↦
+          let is : Some x ≡ Some p = rw hit at found in
+          let same : x ≡ p = cc in
+          let past : length x.bytes ≤ a - x.start = let empty = out.0 in grind (arith, nat_tests) in
+          rw (← same) (get_or_past x.bytes (a - x.start) 0 past)
+    ]
+
+-- ---- the end of the last
+
+pub past_last : (ps : List Piece) (e : Piece) (end a : ℕ) → ascends 0 ps ≡ true → 0 < length ps → (get_or ps (length ps - 1) e).start + (get_or ps (length ps - 1) e).size ≤ 8 * end → 8 * end ≤ a → list_any (lies a) ps ≡ false
+past_last ps e end a h some last past = any_none (lies a) ps (λ k d within.
+    let there = get_or_default ps k d e within in
+    rw there (elim (cases_order k (length ps - 1)) [
+      | inl same ↦ rw same (let out : lies a (get_or ps (length ps - 1) e) ≡ false = grind (arith, nat_tests) in out)
+      | inr other ↦ elim other [
+        | inl less ↦ let before = ends_before 0 ps k (length ps - 1) e h less (omega arith) in grind (arith, nat_tests)
+        | inr more ↦ absurd (omega arith)
+      ]
+    ]))

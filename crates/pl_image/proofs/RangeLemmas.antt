@@ -1,0 +1,130 @@
+-- Ranges that rise, and ranges that are made so.
+use Rattle.std.proofs.Common.{◌≡◌, ℕ, zero, suc, ◌-◌, ◌<◌, ◌≤◌, max, Bool, true, false, List, [], ◌∷◌, length, get_or, refl, sym, ap, ◌∙◌, arith, inl, inr}
+use Rattle.std.specs.Prelude.{◌&&◌, ◌||◌, nat_le, nat_lt}
+use Rattle.std.specs.List.{list_any}
+use Rattle.std.specs.List.Sorted.{IsNonDecreasingBy, IsPartitionedBy, IsPartitionPoint, IsPermutation}
+use Rattle.std.proofs.lemmas.Bool.{and_parts, cases_Bool, cases_order, false≢true}
+use Rattle.std.proofs.lemmas.Bool.Decides.{nat_tests}
+use Rattle.std.proofs.lemmas.List.Sorted.{list_any-IsPermutation}
+use Rattle.pl_elf.specs.declared.range.Range.{Range}
+use Rattle.pl_image.specs.Lines.{has}
+use Rattle.pl_image.specs.Index.{rises, merged}
+use Rattle.pl_image.proofs.FindLemmas.{any_none, any_lone}
+
+-- ---- ranges that rise
+
+record Rises (from : ℕ) (r : Range) (rs : List Range) : Type 0 where
+  later : from ≤ r.start
+  whole : r.start ≤ r.end
+  rest : rises r.end rs ≡ true
+
+rises_parts : (from : ℕ) (r : Range) (rs : List Range) → rises from (r ∷ rs) ≡ true → Rises from r rs
+unfolding rises
+rises_parts from r rs h =
+    let all = and_parts (nat_le from r.start && nat_le r.start r.end) (rises r.end rs) h in
+    let front = and_parts (nat_le from r.start) (nat_le r.start r.end) all.0 in
+    record { later = grind (arith, nat_tests, front.0); whole = grind (arith, nat_tests, front.1); rest = all.1 }
+
+start_later : (from : ℕ) (rs : List Range) (i : ℕ) (d : Range) → rises from rs ≡ true → i < length rs → from ≤ (get_or rs i d).start
+start_later from [] i d h lt = absurd (omega arith)
+start_later from (r ∷ rs) zero d h lt = (rises_parts from r rs h).later
+start_later from (r ∷ rs) (suc i) d h lt =
+    let f = rises_parts from r rs h in
+    let later = f.later in
+    let whole = f.whole in
+    let next = start_later r.end rs i d f.rest (omega arith) in
+    omega arith
+
+ends_before : (from : ℕ) (rs : List Range) (i j : ℕ) (d : Range) → rises from rs ≡ true → i < j → j < length rs → ((get_or rs i d).start ≤ (get_or rs j d).start) × ((get_or rs i d).end ≤ (get_or rs j d).start)
+ends_before from [] i j d h lt within = absurd (omega arith)
+ends_before from (r ∷ rs) i zero d h lt within = absurd (omega arith)
+ends_before from (r ∷ rs) zero (suc j) d h lt within =
+    let f = rises_parts from r rs h in
+    let whole = f.whole in
+    let next = start_later r.end rs j d f.rest (omega arith) in
+    (omega arith, next)
+ends_before from (r ∷ rs) (suc i) (suc j) d h lt within = ends_before r.end rs i j d (rises_parts from r rs h).rest (omega arith) (omega arith)
+
+-- the ranges that begin at or before an address are the first ones
+pub begun_first : (rs : List Range) (a : ℕ) → rises 0 rs ≡ true → IsPartitionedBy (λ r. nat_le r.start a) rs
+begun_first rs a h = λ i j d le within hit. elim (cases_order i j) [
+  | inl same ↦ rw same hit
+  | inr other ↦ elim other [
+    | inl less ↦ let before = (ends_before 0 rs i j d h less within).0 in grind (arith, nat_tests)
+    | inr more ↦ absurd (omega arith)
+  ]
+]
+
+module _ (rs : List Range) (a i : ℕ) (h : rises 0 rs ≡ true) (point : IsPartitionPoint (λ r. nat_le r.start a ≡ true) (λ r. nat_le r.start a ≡ false) rs i) where
+  later_miss : (k : ℕ) (d : Range) → i ≤ k → k < length rs → has a (get_or rs k d) ≡ false
+  later_miss k d le within = let after = point.1 k d le within in grind (arith, nat_tests)
+
+  pub none_has : i ≡ 0 → list_any (has a) rs ≡ false
+  none_has is = any_none (has a) rs (λ k d within. later_miss k d (omega arith) within)
+
+  pub last_has : (e : Range) → 0 < i → i ≤ length rs → list_any (has a) rs ≡ nat_lt a (get_or rs (i - 1) e).end
+  last_has e some le =
+      let begun : nat_le (get_or rs (i - 1) e).start a ≡ true = point.0 (i - 1) e (omega arith) (omega arith) in
+      any_lone (has a) rs (i - 1) e (omega arith)
+      (λ k d less.
+      let before = (ends_before 0 rs k (i - 1) d h less (omega arith)).1 in
+      let here = point.0 (i - 1) d (omega arith) (omega arith) in
+      grind (arith, nat_tests))
+      (λ k d more within. later_miss k d (omega arith) within)
+      ∙ rw begun refl
+
+-- ---- ranges that are made to rise
+
+pub merged_rises : (end : ℕ) (rs : List Range) → rises end (merged end rs) ≡ true
+unfolding rises merged
+merged_rises end [] = refl
+merged_rises end (r ∷ rs) = elim (cases_Bool (nat_lt r.start r.end && nat_lt end r.end)) [
+  | inr skipped ↦ rw skipped (merged_rises end rs)
+  | inl kept ↦
+      let parts = and_parts (nat_lt r.start r.end) (nat_lt end r.end) kept in
+      let low : nat_le end (max r.start end) ≡ true = grind (arith, nat_tests) in
+      let high : nat_le (max r.start end) r.end ≡ true = let one = parts.0 in let two = parts.1 in grind (arith, nat_tests) in
+      rw (kept, low, high) (merged_rises r.end rs)
+]
+
+kept_has : (s e end a : ℕ) (rest : Bool) → nat_lt s e ≡ true → nat_lt end e ≡ true → (a < s → rest ≡ false)
+    → ((nat_le (max s end) a && nat_lt a e) || (nat_le e a && rest)) ≡ (nat_le end a && ((nat_le s a && nat_lt a e) || rest))
+kept_has s e end a false some past below = grind (arith, nat_tests)
+kept_has s e end a true some past below = elim (cases_Bool (nat_le s a)) [
+  | inl from ↦ grind (arith, nat_tests)
+  | inr before ↦
+      let lt : a < s = grind (arith, nat_tests) in
+      absurd (false≢true (sym (below lt)))
+]
+
+skipped_has : (s e end a : ℕ) (rest : Bool) → (nat_lt s e && nat_lt end e) ≡ false → (nat_le end a && rest) ≡ (nat_le end a && ((nat_le s a && nat_lt a e) || rest))
+skipped_has s e end a true skipped = grind (arith, nat_tests)
+skipped_has s e end a false skipped = grind (arith, nat_tests)
+
+none_before : (r : Range) (rs : List Range) (a : ℕ) → IsNonDecreasingBy (λ x. x.start) (r ∷ rs) → a < r.start → list_any (has a) rs ≡ false
+none_before r rs a sorted lt = any_none (has a) rs (λ k d within.
+    let le : r.start ≤ (get_or rs k d).start = sorted 0 (suc k) d (omega arith) (omega arith) in
+    grind (arith, nat_tests))
+
+and_none : (b : Bool) → false ≡ (b && false)
+and_none true = refl
+and_none false = refl
+
+-- they have the addresses from the end on
+pub merged_has : (end : ℕ) (rs : List Range) (a : ℕ) → IsNonDecreasingBy (λ x. x.start) rs → list_any (has a) (merged end rs) ≡ (nat_le end a && list_any (has a) rs)
+unfolding merged
+merged_has end [] a sorted = and_none (nat_le end a)
+merged_has end (r ∷ rs) a sorted =
+    let left : IsNonDecreasingBy (λ x. x.start) rs = λ i j d le within. sorted (suc i) (suc j) d (omega arith) (omega arith) in
+    elim (cases_Bool (nat_lt r.start r.end && nat_lt end r.end)) [
+      | inr skipped ↦ rw skipped (merged_has end rs a left ∙ skipped_has r.start r.end end a (list_any (has a) rs) skipped)
+      | inl kept ↦
+          let parts = and_parts (nat_lt r.start r.end) (nat_lt end r.end) kept in
+          rw (kept, merged_has r.end rs a left) (kept_has r.start r.end end a (list_any (has a) rs) parts.0 parts.1 (λ lt. none_before r rs a sorted lt))
+    ]
+
+-- ranges in another order, made to rise
+pub apart_has : (old ranges : List Range) (a : ℕ) → IsPermutation old ranges → IsNonDecreasingBy (λ x. x.start) ranges → list_any (has a) (merged 0 ranges) ≡ list_any (has a) old
+apart_has old ranges a same sorted =
+    let all : nat_le 0 a ≡ true = grind (arith, nat_tests) in
+    merged_has 0 ranges a sorted ∙ ap (λ (b : Bool). b && list_any (has a) ranges) all ∙ sym (list_any-IsPermutation (has a) old ranges same)

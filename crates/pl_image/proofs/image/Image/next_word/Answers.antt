@@ -1,0 +1,12 @@
+use Rattle.std.proofs.Common.{arith, sym, subst, List}
+use Rattle.pl_image.specs.declared.touched.Touch.{Touch}
+use Rattle.pl_image.specs.Image.{Image}
+use Rattle.pl_image.specs.Index.{IsIndex}
+use Rattle.pl_image.proofs.ByteLemmas.{own_clear}
+use Rattle.pl_image.proofs.image.Image.next_word.Goals as goal
+
+pub returns-clause-clear : goal.returns-clause-clear
+returns-clause-clear c =
+    let index = subst (λ (i : Image). IsIndex i.patches c.self.inside.touched.items) c.self.view_is c.self.invariant.index in
+    own_clear c.args.self.now c.args.pieces.now c.deref.result.now c.args.from c.min.result c.requires.own (subst (λ (ts : List Touch). IsIndex c.args.self.now.patches ts) (sym c.deref.ensures.value) index)
+    (λ a low high. c.next_stored.ensures.none a low (omega (arith, high, c.min.ensures))) (λ n low high. c.next_touched.ensures.none n low (omega (arith, high, c.min.ensures)))
