@@ -1,0 +1,12 @@
+pub mod LinkableLaws
+pub mod LoadedLaws
+pub mod ReadLaws
+pub mod CollectingLaws
+pub mod LinkedLaws
+pub mod OrdinaryLaws
+pub mod LoneLaws
+pub mod MeaningLaws
+pub mod RowLaws
+pub mod FitLaws
+pub mod PlaceLaws
+pub mod ApartLaws

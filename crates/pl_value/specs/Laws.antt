@@ -3,7 +3,7 @@ use Rattle.std.specs.Prelude.{◌≡◌, ◌≤◌, ℕ, Bool, true, false, not,
 use Rattle.std.specs.List.{All, AllZip}
 use Rattle.pl_base.specs.Memory.{AtMostOne}
 use Rattle.pl_tls.specs.declared.module.Module.{Module}
-use Rattle.pl_object.specs.Accepted.{Accepted, is_program}
+use Rattle.pl_object.specs.Accepted.{is_program}
 use Rattle.pl_object.specs.Reads.{reads}
 use Rattle.pl_object.specs.declared.object.Object.{Object}
 use Rattle.pl_value.specs.Meanings.{meanings}
@@ -15,13 +15,9 @@ use Rattle.pl_value.specs.declared.word.Word.TheVariants.{Put, Copy, Nothing}
 
 -- ---- accepted scopes
 
--- an object that acceptance reads of a file, with what is known of it
-pub record IsAccepted (bytes : List ℕ) (o : Object) : Type 0 where
-  pub read : reads bytes ≡ Ok o
-  pub facts : Accepted bytes o
-
-abbrev pub AreAccepted : List (List ℕ) → List Object → Type 0
-AreAccepted parts objects = AllZip IsAccepted parts objects
+-- acceptance reads each object of its file
+abbrev pub AreRead : List (List ℕ) → List Object → Type 0
+AreRead parts objects = AllZip (λ bytes o. reads bytes ≡ Ok o) parts objects
 
 -- ---- every word fits its place
 
@@ -46,9 +42,9 @@ AllFit library gs = All (λ g. Fits (library g.member) g.size g.word) gs
 
 abbrev pub WordsFit : Type 0
 WordsFit = (parts : List (List ℕ)) (objects : List Object) (places : List ℕ) (modules : List Module) (gs : List Meaning)
-    → AreAccepted parts objects → meanings objects places modules ≡ Ok gs → AllFit (is_library_at objects) gs
+    → AreRead parts objects → meanings objects places modules ≡ Ok gs → AllFit (is_library_at objects) gs
 
 -- at most one place is over an address
 abbrev pub PlacesAreApart : Type 0
 PlacesAreApart = (parts : List (List ℕ)) (objects : List Object) (places : List ℕ) (modules : List Module) (gs : List Meaning)
-    → AreAccepted parts objects → ArePlaced places parts objects → meanings objects places modules ≡ Ok gs → AtMostOne under gs
+    → AreRead parts objects → ArePlaced places parts objects → meanings objects places modules ≡ Ok gs → AtMostOne under gs

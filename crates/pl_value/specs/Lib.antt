@@ -1,7 +1,10 @@
+pub mod Linkable
 pub mod Definers
 pub mod Targets
 pub mod Copies
 pub mod Tls
 pub mod Values
-pub mod Linkable
 pub mod Meanings
+pub mod Linked
+pub mod Ordinary
+pub mod Laws

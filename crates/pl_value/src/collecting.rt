@@ -51,7 +51,7 @@ fn add_each(
     requires linkable { IsLinkable scope.now.members.items places.now.rows }
     requires references { All (λ r. IsSymbol scope.now.members.items member r.symbol) relocs.now }
     ensures ok { OnOk result (spec.behind meanings.old (each (spec.meaning (objects scope.now.members.items) places.now.rows tls.now) (map (spec.row member) relocs.now)) ≡ Ok meanings.new) }
-    ensures err { IfErr result (λ fault. Answers spec.is_memory (Err fault) (because Link (each (spec.meaning (objects scope.now.members.items) places.now.rows tls.now) (map (spec.row member) relocs.now)))) }
+    ensures err { IfErr result (λ fault. Answers spec.is_memory (Err fault) (because Link (spec.behind meanings.old (each (spec.meaning (objects scope.now.members.items) places.now.rows tls.now) (map (spec.row member) relocs.now))))) }
 {
     for reloc in relocs {
         let meaning = meaning(scope, places, tls, member, reloc)?;

@@ -1,5 +1,6 @@
 // What a COPY gives.
 ghost use Rattle.std.specs.Prelude.{◌≡◌, ◌<◌, length, slice_get};
+ghost use Rattle.std.specs.List.{list_any};
 ghost use Rattle.pl_scope.specs.Scope.{objects, IsSymbol};
 ghost use Rattle.pl_value.specs.Definers.{seen};
 ghost use Rattle.pl_value.specs.Linkable.{IsLinkable};
@@ -21,15 +22,20 @@ fn is_in_load(from: u64, size: u64, segment: &Segment) -> bool
         && end(from, size) <= end(segment.vaddr, segment.memsz)
 }
 
+fn is_in_one(segments: &[Segment], from: u64, size: u64) -> bool
+    ensures { result ≡ list_any (spec.is_in_load from size) segments.now }
+{
+    segments
+        .iter()
+        .any(|segment| is_in_load(from, size, segment))
+}
+
 /// Whether bytes do not lie in the memory of one PT_LOAD. No bytes are outside nowhere.
 #[tactic(auto, unfolding(crate::specs::Copies::is_outside))]
 fn is_outside(segments: &[Segment], from: u64, size: u64) -> bool
     ensures { result ≡ spec.is_outside segments.now from size }
 {
-    size != 0
-        && !segments
-            .iter()
-            .any(|segment| is_in_load(from, size, segment))
+    size != 0 && !is_in_one(segments, from, size)
 }
 
 /// So many bytes of a definer, from its value on.

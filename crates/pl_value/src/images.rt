@@ -23,7 +23,7 @@ fn load<'a>(
     parts: &Parts<'a>,
     places: &Places,
 ) -> Result<Vec<Loaded<'a>>, AllocError>
-    requires places { length places.now.rows ≡ length scope.now.members.items }
+    requires linkable { IsLinkable scope.now.members.items places.now.rows }
     requires parts { length parts.now ≡ length scope.now.members.items }
     requires placed { spec.ArePlaced places.now.rows parts.now (objects scope.now.members.items) }
     ensures value { IfOk result (λ v. v.items ≡ spec.loaded places.now.rows parts.now (objects scope.now.members.items)) }
@@ -31,15 +31,16 @@ fn load<'a>(
 {
     let files = parts.as_slice();
     let mut loaded = Vec::new(alloc);
-    for index in 0..scope.members.len() {
-        let object = scope.members[index].object;
-        let place = base_of(places, index as u32);
-        loaded.push(load_object(alloc, object, files[index], place)?)?;
+    for member in 0..scope.members.len() as u32 {
+        let object = scope.members[member as usize].object;
+        let place = base_of(places, member);
+        loaded.push(load_object(alloc, object, files[member as usize], place)?)?;
     }
     Ok(loaded)
 }
 
 /// A word for its place, where there is one.
+#[tactic(auto, using(pl_base::proofs::WordLaws::bytes64_std))]
 fn word_of(alloc: Global, meaning: &Meaning) -> Result<Option<Patch>, AllocError>
     ensures { IfOk result (λ patch. patch ≡ linked.put_of meaning.now.start meaning.now.word) }
 {
@@ -53,6 +54,7 @@ fn word_of(alloc: Global, meaning: &Meaning) -> Result<Option<Patch>, AllocError
 }
 
 /// The words for their places, in the order of the relocations.
+#[tactic(auto, unfolding(crate::specs::Linked::words))]
 fn words(alloc: Global, meanings: &[Meaning]) -> Result<Vec<Patch>, AllocError>
     ensures { IfOk result (λ v. v.items ≡ linked.words meanings.now) }
 {
@@ -72,6 +74,7 @@ fn copy_of(
     words: &[Patch],
     meaning: &Meaning,
 ) -> Result<Option<Patch>, AllocError>
+    requires { AreLoaded loaded.now }
     ensures { IfOk result (λ patch. patch ≡ linked.copy_of (filled (layered (all_pieces loaded.now)) words.now) meaning.now.start meaning.now.word) }
 {
     match meaning.word {
@@ -84,12 +87,14 @@ fn copy_of(
 }
 
 /// The bytes for the places of copies, in the order of the relocations. None reads what another copy writes.
+#[tactic(auto, unfolding(crate::specs::Linked::copies))]
 fn copies(
     alloc: Global,
     loaded: &[Loaded<'_>],
     words: &[Patch],
     meanings: &[Meaning],
 ) -> Result<Vec<Patch>, AllocError>
+    requires { AreLoaded loaded.now }
     ensures { IfOk result (λ v. v.items ≡ linked.copies (filled (layered (all_pieces loaded.now)) words.now) meanings.now) }
 {
     let mut patches = Vec::new(alloc);

@@ -1,16 +1,132 @@
-// The bytes of a memory with words in it.
-ghost use Rattle.std.specs.Prelude.{◌≡◌, ℕ, length, IfOk};
+// Bytes of a memory in which words stand.
+ghost use Rattle.std.specs.Prelude.{◌≡◌, ◌≤◌, ◌<◌, ◌⊎◌, ◌+◌, ◌-◌, length, slice_set, IfOk, if◌then◌else◌, Some, None};
 ghost use Rattle.std.specs.Bool.{OnFalse};
-ghost use Rattle.pl_base.specs.Memory.{Memory, layered, over, filled, read};
-ghost use Rattle.pl_image.specs.Image.{all_pieces};
-ghost use Rattle.pl_value.specs.Reading as spec;
+ghost use Rattle.std.specs.Option.{unwrap_or};
+ghost use Rattle.pl_base.specs.Memory as spec;
+ghost use Rattle.pl_image.specs.Image.{all_pieces, AreLoaded};
 
 use pl_base::end;
 use pl_image::{Loaded, Patch, Piece};
 use std::alloc::{AllocError, Global};
 
-fn has(piece: &Piece<'_>, address: u64) -> bool
-    ensures { result ≡ lies address piece.now }
+/// The byte of a piece at an address, where the piece has it.
+fn piece_byte(piece: &Piece<'_>, address: u64) -> Option<u8>
+    ensures { result ≡ (if spec.lies address piece.now then Some (spec.byte_at address piece.now) else None) }
 {
-    piece.start <= address && address - piece.start < piece.size
+    if address < piece.start || address - piece.start >= piece.size {
+        return None;
+    }
+    let index = (address - piece.start) as usize;
+    if index < piece.bytes.len() {
+        Some(piece.bytes[index])
+    } else {
+        Some(0)
+    }
+}
+
+/// The byte that pieces load at an address. Of several over it the first counts.
+fn byte_of(pieces: &[Piece<'_>], address: u64) -> Option<u8>
+    ensures { result ≡ spec.layered pieces.now address }
+{
+    for piece in pieces {
+        let byte = piece_byte(piece, address);
+        if byte.is_some() {
+            return byte;
+        }
+    }
+    None
+}
+
+/// The byte that objects load at an address. Of several over it the first counts.
+fn loaded_byte(loaded: &[Loaded<'_>], address: u64) -> Option<u8>
+    ensures { result ≡ spec.layered (all_pieces loaded.now) address }
+{
+    for object in loaded {
+        let byte = byte_of(object.pieces.as_slice(), address);
+        if byte.is_some() {
+            return byte;
+        }
+    }
+    None
+}
+
+/// The byte that objects load at so many addresses after one, 0 where there is none.
+#[tactic(auto, using(crate::proofs::LoadedLaws::none_above))]
+fn byte_after(loaded: &[Loaded<'_>], from: u64, distance: u64) -> u8
+    requires { AreLoaded loaded.now }
+    ensures { result ≡ unwrap_or (spec.layered (all_pieces loaded.now) (from + distance)) 0 }
+{
+    match from.checked_add(distance) {
+        None => 0,
+        Some(address) => loaded_byte(loaded, address).unwrap_or(0),
+    }
+}
+
+/// The bytes that objects load from an address on, 0 where there is none.
+#[tactic(auto, unfolding(pl_base::specs::Memory::read))]
+fn read_loaded(
+    alloc: Global,
+    loaded: &[Loaded<'_>],
+    from: u64,
+    size: u64,
+) -> Result<Vec<u8>, AllocError>
+    requires { AreLoaded loaded.now }
+    ensures { IfOk result (λ v. v.items ≡ spec.read (spec.layered (all_pieces loaded.now)) from size) }
+{
+    (0..size)
+        .map(|distance| byte_after(loaded, from, distance))
+        .collect(alloc)
+}
+
+/// Whether a patch may have bytes for so many addresses from one on.
+#[tactic(auto, using(crate::proofs::ReadLaws::read_far))]
+fn is_near(patch: &Patch, from: u64, size: u64) -> bool
+    ensures { OnFalse result ((m : spec.Memory) → spec.read (spec.over patch.now.start patch.now.bytes m) from size ≡ spec.read m from size) }
+{
+    u128::from(patch.address) < end(from, size)
+        && u128::from(from) < end(patch.address, patch.bytes.len() as u64)
+}
+
+/// Writes a byte at its address over those that were read from one on, if it is among them.
+fn lay_byte(address: u128, byte: u8, from: u64, bytes: &mut [u8])
+    ensures here { from ≤ address → address < from + length bytes.old → bytes.new ≡ slice_set bytes.old (address - from) byte }
+    ensures there { (address < from) ⊎ (from + length bytes.old ≤ address) → bytes.new ≡ bytes.old }
+{
+    if address >= u128::from(from) && address < end(from, bytes.len() as u64) {
+        bytes[(address - u128::from(from)) as usize] = byte;
+    }
+}
+
+/// Writes the bytes of a patch over those that were read from an address on.
+fn lay(patch: &Patch, from: u64, bytes: &mut [u8])
+    ensures { (m : spec.Memory) → bytes.old ≡ spec.read m from (length bytes.old) → bytes.new ≡ spec.read (spec.over patch.now.start patch.now.bytes m) from (length bytes.old) }
+{
+    for index in 0..patch.bytes.len() {
+        lay_byte(
+            end(patch.address, index as u64),
+            patch.bytes[index],
+            from,
+            bytes,
+        );
+    }
+}
+
+/// The bytes from an address on of the memory that objects load, with patches over it, one after the other; 0 where there is none. The time grows as the number of patches, and as the number of the bytes times that of the pieces.
+pub fn read(
+    alloc: Global,
+    loaded: &[Loaded<'_>],
+    patches: &[Patch],
+    from: u64,
+    size: u64,
+) -> Result<Vec<u8>, AllocError>
+    requires { AreLoaded loaded.now }
+    ensures { IfOk result (λ v. v.items ≡ spec.read (spec.filled (spec.layered (all_pieces loaded.now)) patches.now) from size) }
+{
+    let mut bytes = read_loaded(alloc, loaded, from, size)?;
+    for patch in patches {
+        if is_near(patch, from, size) {
+            lay(patch, from, &mut bytes);
+        }
+    }
+    Ok(bytes)
 }

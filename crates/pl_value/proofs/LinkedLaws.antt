@@ -1,0 +1,80 @@
+-- Fills that are made of meanings one after the other, and laid over a memory.
+use Rattle.std.proofs.Common.{◌≡◌, ℕ, ◌+◌, ◌<◌, List, [], ◌∷◌, ◌++◌, length, take, get_or, Option, Some, None, Result, Ok, Err, refl, sym, ap, ◌∙◌}
+use Rattle.std.specs.Prelude.{MatchBool, ⊤}
+use Rattle.std.specs.List.{filter_map}
+use Rattle.std.specs.Option.{option_to_list}
+use Rattle.std.proofs.lemmas.List.{take_more}
+use Rattle.std.proofs.lemmas.List.Elements.{filter_map-append}
+use Rattle.pl_base.specs.Answers.{because}
+use Rattle.pl_base.specs.Memory.{Memory, Fill, filled, layered, shown}
+use Rattle.pl_base.proofs.MemoryLaws.{filled-append}
+use Rattle.pl_image.specs.Image.{Image, all_pieces, any_masked, byte_of}
+use Rattle.pl_image.specs.declared.loaded.Loaded.{Loaded}
+use Rattle.pl_value.specs.Linked.{put_of, copy_of, words, copies, worded, linked}
+use Rattle.pl_tls.specs.declared.module.Module.{Module}
+use Rattle.pl_object.specs.declared.object.Object.{Object}
+use Rattle.pl_object.proofs.AcceptedLaws.{because_ok}
+use Rattle.pl_value.specs.Meanings.{meanings, is_memory}
+use Rattle.pl_value.specs.Ordinary.{loaded, shown_linked, ordinary, IsOrdinary}
+use Rattle.pl_value.specs.declared.fault.LinkFault.{LinkFault}
+use Rattle.pl_value.specs.declared.fault.OrdinaryFault.{OrdinaryFault}
+use Rattle.pl_value.specs.declared.fault.OrdinaryFault.TheVariants.{Link, NoMemory}
+use Rattle.pl_value.specs.declared.meaning.Meaning.{Meaning}
+
+single : {X Y : Type 0} (h : X → Option Y) (x : X) (o : Option Y) → h x ≡ o → filter_map h (x ∷ []) ≡ option_to_list o
+single h x None is = rw is refl
+single h x (Some y) is = rw is refl
+
+-- a meaning more, of which nothing or one row is made
+made_more : {Y : Type 0} (h : Meaning → Option Y) (gs : List Meaning) (i : ℕ) (d : Meaning) (front new : List Y) (o : Option Y) → i < length gs → o ≡ h (get_or gs i d) → new ≡ front ++ option_to_list o
+    → front ≡ filter_map h (take i gs) → new ≡ filter_map h (take (i + 1) gs)
+made_more {Y = Y} h gs i d front new o lt made more so_far =
+    let one = ap (filter_map h) (take_more gs i d lt) ∙ filter_map-append h (take i gs) (get_or gs i d ∷ []) in
+    more ∙ ap (λ (ys : List Y). ys ++ option_to_list o) so_far ∙ ap (λ (ys : List Y). filter_map h (take i gs) ++ ys) (sym (single h (get_or gs i d) o (sym made))) ∙ sym one
+
+pub words_more : (gs : List Meaning) (i : ℕ) (d : Meaning) (front new : List Fill) (o : Option Fill) → i < length gs → o ≡ put_of (get_or gs i d).start (get_or gs i d).word → new ≡ front ++ option_to_list o → front ≡ words (take i gs) → new ≡ words (take (i + 1) gs)
+unfolding words
+words_more gs i d front new o lt made more so_far = made_more (λ (h : Meaning). put_of h.start h.word) gs i d front new o lt made more so_far
+
+pub copies_more : (memory : Memory) (gs : List Meaning) (i : ℕ) (d : Meaning) (front new : List Fill) (o : Option Fill) → i < length gs → o ≡ copy_of memory (get_or gs i d).start (get_or gs i d).word → new ≡ front ++ option_to_list o
+    → front ≡ copies memory (take i gs) → new ≡ copies memory (take (i + 1) gs)
+unfolding copies
+copies_more memory gs i d front new o lt made more so_far = made_more (λ (h : Meaning). copy_of memory h.start h.word) gs i d front new o lt made more so_far
+
+-- ---- the image
+
+-- words and then copies as patches over what is loaded
+pub image_linked : (i : Image) (gs : List Meaning) (a : ℕ) → i.patches ≡ words gs ++ copies (worded (layered (all_pieces i.objects)) gs) gs → byte_of i a ≡ shown_linked i.objects gs a
+unfolding byte_of linked
+image_linked i gs a is =
+    let base : Memory = layered (all_pieces i.objects) in
+    let same : filled base i.patches ≡ filled (worded base gs) (copies (worded base gs) gs) = ap (filled base) is ∙ filled-append base (words gs) (copies (worded base gs) gs) in
+    ap (λ (m : Memory). shown base (any_masked i.objects) m a) same
+
+-- the patches of an image, where the words were given as patches for the copies
+pub patches_linked : (i : Image) (ls ks : List Loaded) (gs ms ns : List Meaning) (all ps qs cs : List Fill) → i ≡ record { objects = ls; patches = all } → all ≡ ps ++ cs → ps ≡ words ms → cs ≡ copies (filled (layered (all_pieces ks)) qs) ns
+    → ks ≡ ls → qs ≡ ps → ms ≡ gs → ns ≡ gs → i.patches ≡ words gs ++ copies (worded (layered (all_pieces i.objects)) gs) gs
+patches_linked i ls ks gs ms ns all ps qs cs is joined put copied same_objects same_words first second =
+    let base : List Loaded → Memory = λ (zs : List Loaded). layered (all_pieces zs) in
+    let objects : i.objects ≡ ls = ap (λ (j : Image). j.objects) is in
+    let front : ps ≡ words gs = put ∙ ap words first in
+    let memory : filled (base ks) qs ≡ worded (base i.objects) gs = ap (λ (zs : List Loaded). filled (base zs) qs) (same_objects ∙ sym objects) ∙ ap (filled (base i.objects)) (same_words ∙ front) in
+    let back : cs ≡ copies (worded (base i.objects) gs) gs = copied ∙ ap (λ (m : Memory). copies m ns) memory ∙ ap (copies (worded (base i.objects) gs)) second in
+    ap (λ (j : Image). j.patches) is ∙ joined ∙ ap (λ (fs : List Fill). fs ++ cs) front ∙ ap (λ (fs : List Fill). words gs ++ fs) back
+
+-- an image of the loaded objects with these patches is the ordinary one
+pub image_ordinary : (objects : List Object) (parts : List (List ℕ)) (places : List ℕ) (modules : List Module) (gs : List Meaning) (i : Image) → because Link (meanings objects places modules) ≡ Ok gs → i.objects ≡ loaded places parts objects
+    → i.patches ≡ words gs ++ copies (worded (layered (all_pieces i.objects)) gs) gs → IsOrdinary (Ok i) (ordinary objects parts places modules)
+unfolding ordinary
+image_ordinary objects parts places modules gs i is same patches =
+    rw (because_ok Link (meanings objects places modules) gs is) (λ a. image_linked i gs a patches ∙ ap (λ (ls : List Loaded). shown_linked ls gs a) same)
+
+-- a refusal of a meaning is that of the image
+pub refused_ordinary : (objects : List Object) (parts : List (List ℕ)) (places : List ℕ) (modules : List Module) (e : OrdinaryFault) → MatchBool (is_memory e) ⊤ (because Link (meanings objects places modules) ≡ Err e) → IsOrdinary (Err e) (ordinary objects parts places modules)
+unfolding ordinary
+refused_ordinary objects parts places modules NoMemory stop = tt
+refused_ordinary objects parts places modules (Link fault) stop = rw (linked_err (meanings objects places modules) fault stop) refl
+  where
+  linked_err : (r : Result (List Meaning) LinkFault) (fault : LinkFault) → ◌≡◌ {A = Result (List Meaning) OrdinaryFault} (because Link r) (Err (Link fault)) → r ≡ Err fault
+  linked_err (Ok x) fault e = absurd cc
+  linked_err (Err k) fault e = let same : k ≡ fault = cc in ap (λ f. Err f) same

@@ -1,0 +1,24 @@
+use Rattle.std.proofs.Common.{◌≡◌, arith, sym, ap}
+use Rattle.std.proofs.lemmas.Result.{err_from_is_err_and}
+use Rattle.pl_base.specs.Answers.{because}
+use Rattle.pl_scope.specs.Scope.{objects}
+use Rattle.pl_value.specs.Meanings.{meaning}
+use Rattle.pl_value.specs.declared.fault.OrdinaryFault.TheVariants.{Link}
+use Rattle.pl_value.proofs.CollectingLaws.{reloc_more, reloc_stops, relocs_done}
+use Rattle.pl_value.proofs.collecting.add_each.Goals as goal
+
+pub meaning-requires-clause-reference : goal.meaning-requires-clause-reference
+meaning-requires-clause-reference c = c.requires.references c.loop-reloc.reloc-index _ c.loop-reloc-test.true
+
+pub returns-in_err-meaning-clause-err : goal.returns-in_err-meaning-clause-err
+returns-in_err-meaning-clause-err c =
+    let p = err_from_is_err_and c.from_residual.result c.from_residual.ensures.1 in
+    rw (p.1, p.2) (ap (because Link) (reloc_stops (meaning (objects c.args.scope.now.members.items) c.args.places.now.rows c.args.tls.now) c.args.member c.args.relocs.now c.loop-reloc.reloc-index _ c.loop-reloc.meanings _ _ c.loop-reloc-test.true c.in_err-meaning.ensures c.loop-reloc.invariant))
+
+pub loop-reloc-preserved : goal.loop-reloc-preserved
+loop-reloc-preserved c =
+    reloc_more (meaning (objects c.args.scope.now.members.items) c.args.places.now.rows c.args.tls.now) c.args.member c.args.relocs.now c.loop-reloc.reloc-index _ c.loop-reloc.meanings _ _ _ c.loop-reloc-test.true c.in_ok-meaning.ensures c.in_ok-push.ensures.ok c.loop-reloc.invariant
+
+pub returns-clause-ok : goal.returns-clause-ok
+returns-clause-ok c =
+    relocs_done (meaning (objects c.args.scope.now.members.items) c.args.places.now.rows c.args.tls.now) c.args.member c.args.relocs.now c.loop-reloc.reloc-index c.loop-reloc.meanings _ c.loop-reloc-test.false c.loop-reloc.invariant
