@@ -1,5 +1,5 @@
 -- The objects of a load share no address, and end below the limit of addresses.
-use Rattle.std.proofs.Common.{◌≡◌, ℕ, zero, suc, ◌+◌, ◌-◌, ◌<◌, ◌≤◌, Bool, true, false, not, ◌||◌, ◌&&◌, List, [], ◌∷◌, ◌++◌, length, map, get_or, refl, sym, ap, ◌∙◌, subst, arith, zero-add}
+use Rattle.std.proofs.Common.{◌≡◌, ℕ, zero, suc, ◌+◌, ◌-◌, ◌<◌, ◌≤◌, Bool, true, false, not, ◌||◌, ◌&&◌, List, [], ◌∷◌, ◌++◌, length, map, get_or, refl, sym, ap, ◌∙◌, subst, arith, zero-add, inl, inr}
 use Rattle.std.specs.Prelude.{nat_le, nat_lt}
 use Rattle.std.specs.List.{All, AllZip, list_any}
 use Rattle.std.proofs.lemmas.Bool.{and_parts, and_from, or_parts, or_left, le-leb, lt-ltb, leb-true, ltb-true, or_cases, false_from_ne_true, false≢true}
@@ -107,7 +107,7 @@ IsSpannedFile f = IsSpanned f.object
 -- a library's pieces lie in the addresses that it wants
 in_wish : (f : ObjectFile) (place a : ℕ) → IsSpannedFile f → list_any (lies a) (pieces_at place f.bytes f.object) ≡ true → is_in a (range_of (wish_of f) place) ≡ true
 in_wish f place a spanned any =
-    let from : place + 0 ≤ a = lies_from place 0 a f.bytes (loads f.object.segments) spanned.loads.ascend any in
+    let from : place + 0 ≤ a = lies_from place 0 a f.bytes (loads f.object.segments) spanned.are.ascend any in
     let below = lies_below place f.object.span a f.bytes (loads f.object.segments) spanned.span any in
     and_from (nat_le place a) (nat_lt a (place + f.object.span)) (le-leb place a (omega arith)) (lt-ltb a (place + f.object.span) below)
 
@@ -143,7 +143,7 @@ alone_libraries (f ∷ fs) (place ∷ places) all apart =
     let spanned = All-head IsSpannedFile f fs all in
     let rest = All-tail IsSpannedFile f fs all in
     alone_append (pieces_at place f.bytes f.object) (pieces_of fs places)
-    (alone_own place 0 f.bytes (loads f.object.segments) spanned.loads.ascend)
+    (alone_own place 0 f.bytes (loads f.object.segments) spanned.are.ascend)
     (alone_libraries fs places rest apart.1)
     (λ a any. pieces_miss (range_of (wish_of f) place) fs places a rest apart.0 (in_wish f place a spanned any))
 
@@ -159,7 +159,7 @@ pub alone_all : (region : Range) (program : ObjectFile) (fs : List ObjectFile) (
 unfolding taken
 alone_all region program fs places spanned all free apart =
     alone_append (pieces_at 0 program.bytes program.object) (pieces_of fs places)
-    (alone_own 0 0 program.bytes (loads program.object.segments) spanned.loads.ascend)
+    (alone_own 0 0 program.bytes (loads program.object.segments) spanned.are.ascend)
     (alone_libraries fs places all apart)
     (λ a any. pieces_free region (taken program.object) fs places a all free (taken_is a program.bytes (loads program.object.segments) ∙ any))
 
@@ -167,7 +167,7 @@ alone_all region program fs places spanned all free apart =
 
 program_at : (f : ObjectFile) → IsSpannedFile f → IsAt f 0
 program_at f spanned = record {
-  place = omega arith;
+  low = omega arith;
   ends = All-weaker (Ends ADDRESS_LIMIT) (λ s. 0 + (s.vaddr + s.memsz) ≤ ADDRESS_LIMIT) (λ s le. omega (arith, le)) (loads f.object.segments) spanned.below;
 }
 
@@ -181,7 +181,7 @@ ends_in region busy start span some free =
     let below = ltb-true last region.end (and_parts (nat_le region.start last) (nat_lt last region.end) parts.0).1 in
     omega (arith, below, some)
 
-abbrev HasSpan : ObjectFile → Type 0
+abbrev pub HasSpan : ObjectFile → Type 0
 HasSpan f = 0 < f.object.span
 
 pub libraries_at : (region : Range) (busy : List Range) (fs : List ObjectFile) (places : List ℕ) → region.end ≤ ADDRESS_LIMIT → length fs ≡ length places → All IsSpannedFile fs → All HasSpan fs → AllFree region busy (map wish_of fs) places → AllZip IsAt fs places
@@ -192,7 +192,7 @@ libraries_at region busy (f ∷ fs) (place ∷ places) limit size all some free 
     let spanned = All-head IsSpannedFile f fs all in
     let end : place + f.object.span ≤ region.end = ends_in region busy place f.object.span (All-head HasSpan f fs some) free.0 in
     let here : IsAt f place = record {
-      place = omega (arith, end, limit);
+      low = omega (arith, end, limit);
       ends = All-weaker (Ends f.object.span) (λ s. place + (s.vaddr + s.memsz) ≤ ADDRESS_LIMIT) (λ s le. omega (arith, le, end, limit)) (loads f.object.segments) spanned.span;
     } in
     (here, libraries_at region busy fs places limit (omega (arith, size)) (All-tail IsSpannedFile f fs all) (All-tail HasSpan f fs some) free.1)
@@ -234,7 +234,7 @@ placed_by : (fs : List ObjectFile) (places : List ℕ) → AllZip IsAt fs places
 placed_by [] [] at all member d lt = absurd (omega (arith, lt))
 placed_by [] (place ∷ places) at all member d lt = absurd at
 placed_by (f ∷ fs) [] at all member d lt = absurd at
-placed_by (f ∷ fs) (place ∷ places) at all zero d lt = record { loads = (All-head IsSpannedFile f fs all).loads; ends = at.0.ends }
+placed_by (f ∷ fs) (place ∷ places) at all zero d lt = record { accepted = (All-head IsSpannedFile f fs all).are; ends = at.0.ends }
 placed_by (f ∷ fs) (place ∷ places) at all (suc member) d lt = placed_by fs places at.1 (All-tail IsSpannedFile f fs all) member d (omega (arith, lt))
 
 pub are_placed : (region : Range) (program : ObjectFile) (fs : List ObjectFile) (places : List ℕ) → length fs ≡ length places → AllZip IsAt (program ∷ fs) (0 ∷ places) → IsSpannedFile program → All IsSpannedFile fs
@@ -247,6 +247,10 @@ are_placed region program fs places size at spanned all free apart =
     }
 
 -- no objects
-pub none_placed : ArePlaced [] [] []
+none_placed : ArePlaced [] [] []
 unfolding loaded_from
 none_placed = record { placed = λ member d lt. absurd (omega (arith, lt)); apart = alone_one [] tt }
+
+pub nothing_placed : (fs : List ObjectFile) (places : List ℕ) → length fs < 1 → places ≡ [] → ArePlaced places (parts_of fs) (objects_of fs)
+nothing_placed [] places lt is = rw is none_placed
+nothing_placed (f ∷ fs) places lt is = absurd (omega (arith, lt))

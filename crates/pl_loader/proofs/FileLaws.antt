@@ -1,9 +1,9 @@
 -- What is known of the files that were given to a load.
-use Rattle.std.proofs.Common.{◌≡◌, ℕ, ◌+◌, ◌<◌, ◌≤◌, ◌^◌, Bool, true, false, not, ◌||◌, List, [], ◌∷◌, length, map, Ok, refl, sym, ap, ◌∙◌, subst, arith, get_or}
+use Rattle.std.proofs.Common.{◌≡◌, ℕ, ◌+◌, ◌<◌, ◌≤◌, ◌^◌, ◌-◌, Bool, true, false, not, ◌||◌, List, [], ◌∷◌, length, map, take, drop, Ok, refl, sym, ap, ◌∙◌, subst, arith, get_or}
 use Rattle.std.specs.Prelude.{nat_le}
-use Rattle.std.specs.List.{All, list_any}
+use Rattle.std.specs.List.{All, AllZip, list_any}
 use Rattle.std.proofs.lemmas.Bool.{or_parts, leb-false}
-use Rattle.std.proofs.lemmas.List.{length-map}
+use Rattle.std.proofs.lemmas.List.{length-map, take_all}
 use Rattle.std.proofs.lemmas.List.Elements.{All-nil, All-cons, All-head, All-tail, All-map, All-weaker}
 use Rattle.pl_elf.specs.Headers.{loads}
 use Rattle.pl_elf.specs.declared.constants.TheConstants.{ADDRESS_LIMIT}
@@ -18,11 +18,12 @@ use Rattle.pl_scope.specs.Scope.{objects, HasFewSymbols, IsScope}
 use Rattle.pl_scope.specs.declared.constants.TheConstants.{MAX_MEMBERS}
 use Rattle.pl_scope.specs.declared.member.Member.{Member}
 use Rattle.pl_value.specs.Linkable.{RefersToSymbols, IsLinkable}
-use Rattle.pl_loader.specs.Loading.{objects_of, IsRead, IsLibrary, AreFiles}
-use Rattle.pl_loader.specs.Places.{wish_of}
+use Rattle.pl_value.specs.Ordinary.{ArePlaced}
+use Rattle.pl_loader.specs.Loading.{objects_of, parts_of, IsRead, IsLibrary, AreFiles}
+use Rattle.pl_loader.specs.Places.{region, taken, wish_of, IsAt, IsFree}
 use Rattle.pl_loader.specs.declared.object_file.ObjectFile.{ObjectFile}
 use Rattle.pl_loader.proofs.SpanLaws.{Ends, IsSpanned, spanned}
-use Rattle.pl_loader.proofs.ApartLaws.{IsSpannedFile, HasSpan}
+use Rattle.pl_loader.proofs.ApartLaws.{IsSpannedFile, HasSpan, all_at, are_placed}
 
 -- ---- the addresses that they take
 
@@ -72,8 +73,8 @@ all_members P fs ms same all = of_map P ms (subst (λ (os : List Object). All P 
 
 pub linkable : (fs : List ObjectFile) (ms : List Member) (places : List ℕ) → AreFiles fs → length fs ≤ MAX_MEMBERS → length places ≡ length fs → objects ms ≡ objects_of fs → IsLinkable ms places
 linkable fs ms places are few size same =
-    let members : length (objects ms) ≡ length ms = length-map (λ (m : Member). m.object.now) ms in
-    let files : length (objects_of fs) ≡ length fs = length-map (λ (f : ObjectFile). f.object) fs in
+    let members : length (objects ms) ≡ length ms = length-map ms (λ (m : Member). m.object.now) in
+    let files : length (objects_of fs) ≡ length fs = length-map fs (λ (f : ObjectFile). f.object) in
     let count : length ms ≡ length fs = sym members ∙ ap length same ∙ files in
     record {
       scope = record {
@@ -83,3 +84,30 @@ linkable fs ms places are few size same =
       symbols = all_members RefersToSymbols fs ms same (All-weaker IsRead (λ (f : ObjectFile). RefersToSymbols f.object) refers fs are.read);
       placed = size ∙ sym count;
     }
+
+-- ---- their places
+
+-- the files as a slice pattern has them: the first, and the others
+pub files_are : (fs : List ObjectFile) (program : ObjectFile) → 1 ≤ length fs → program ≡ get_or fs 0 program → fs ≡ program ∷ take (length fs - 1) (drop 1 fs)
+files_are [] program le is = absurd (omega (arith, le))
+files_are (f ∷ fs) program le is =
+    let all : take (length (f ∷ fs) - 1) fs ≡ fs = take_all (length (f ∷ fs) - 1) fs (omega arith) in
+    rw (is, all) refl
+
+region_low : region.end ≤ ADDRESS_LIMIT
+region_low = omega arith
+
+in_places : (program : ObjectFile) (fs : List ObjectFile) (starts : List ℕ) → AreFiles (program ∷ fs) → IsFree (taken program.object) (map wish_of fs) starts
+    → AllZip IsAt (program ∷ fs) (0 ∷ starts) × ArePlaced (0 ∷ starts) (parts_of (program ∷ fs)) (objects_of (program ∷ fs))
+in_places program fs starts are is =
+    let size : length fs ≡ length starts = omega (arith, length-map fs wish_of, is.one_each) in
+    let first = program_spanned program fs are in
+    let rest = libraries_spanned program fs are in
+    let at = all_at region (taken program.object) program fs starts region_low size first rest (libraries_have_spans program fs are) is.free in
+    (at, are_placed region program fs starts size at first rest is.free is.apart)
+
+-- the first at 0 and the others at these places
+pub files_placed : (files : List ObjectFile) (places : List ℕ) (program : ObjectFile) (fs : List ObjectFile) (starts : List ℕ) → files ≡ program ∷ fs → places ≡ 0 ∷ starts → AreFiles files → IsFree (taken program.object) (map wish_of fs) starts
+    → AllZip IsAt files places × ArePlaced places (parts_of files) (objects_of files)
+files_placed files places program fs starts files_is places_is are is =
+    rw (files_is, places_is) (in_places program fs starts (subst AreFiles files_is are) is)

@@ -1,4 +1,10 @@
 pub mod StepLaws
 pub mod LoadLaws
+pub mod GiveLaws
 pub mod SpanLaws
 pub mod PlaceLaws
+pub mod ApartLaws
+pub mod FileLaws
+pub mod BoundsLaws
+pub mod StartLaws
+pub mod WholeLaws

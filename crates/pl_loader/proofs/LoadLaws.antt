@@ -23,14 +23,17 @@ use Rattle.pl_loader.proofs.StepLaws.{ok_is, bind_err, because_err, give_walking
 
 -- ---- one more result
 
+push_step : {A B E : Type 0} (f : A → Result B E) (xs : List A) (ys bs : List B) (x z : A) (y b : B) → f z ≡ Ok b → each f (xs ++ x ∷ []) ≡ Ok (bs ++ y ∷ []) → b ∷ bs ≡ ys → each f (z ∷ (xs ++ x ∷ [])) ≡ Ok (ys ++ y ∷ [])
+unfolding each
+push_step {B = B} f xs ys bs x z y b first rest is = rw (first, rest) (ap (λ (zs : List B). Ok (zs ++ y ∷ [])) is)
+
 each_push : {A B E : Type 0} (f : A → Result B E) (xs : List A) (ys : List B) (x : A) (y : B) → each f xs ≡ Ok ys → f x ≡ Ok y → each f (xs ++ x ∷ []) ≡ Ok (ys ++ y ∷ [])
 unfolding each
-each_push f [] ys x y front last = let none : [] ≡ ys = ok_is [] ys front in rw (last, ← none) refl
+each_push {B = B} f [] ys x y front last = rw last (ap (λ (zs : List B). Ok (zs ++ y ∷ [])) (ok_is [] ys _ refl front))
 each_push f (z ∷ xs) ys x y front last =
     let p = bind_ok (f z) (λ b. each f xs >>= λ bs. Ok (b ∷ bs)) ys front in
     let q = bind_ok (each f xs) (λ bs. Ok (p.0 ∷ bs)) ys p.2 in
-    let same : p.0 ∷ q.0 ≡ ys = ok_is (p.0 ∷ q.0) ys q.2 in
-    rw (p.1, each_push f xs q.0 x y q.1 last, ← same) refl
+    push_step f xs ys q.0 x z y p.0 p.1 (each_push f xs q.0 x y q.1 last) (ok_is (p.0 ∷ q.0) ys _ refl q.2)
 
 -- ---- one file more
 
@@ -53,7 +56,7 @@ entry_is l m n bytes is given =
       order = q.0;
       read = p.1;
       given = because_ok of_walk (walk.give l.order p.0) q.0 q.1;
-      is = sym (ok_is (with_file l q.0 (record { name = n; bytes = bytes; object = p.0 })) m q.2);
+      is = sym (ok_is (with_file l q.0 (record { name = n; bytes = bytes; object = p.0 })) m (Ok (with_file l q.0 (record { name = n; bytes = bytes; object = p.0 }))) refl q.2);
     }
 
 -- one more file was given
@@ -151,11 +154,11 @@ pub load_stops : {E : Type 0} (fault : LoadFault → E) (file : List ℕ → Res
     → IsUnderWay fault file name l → files fault file name ≡ Err (fault f)
 unfolding taken files walked
 load_stops {E} fault file name n None l f is lacks stops way =
-    let same : NotThere n ≡ f = err_is (sym (ap (of_wanted l None) is) ∙ stops) in
+    let same : NotThere n ≡ f = err_is (Err (NotThere n)) refl (sym (ap (of_wanted l None) is) ∙ stops) in
     load_lacks fault file name n l (fault f) is (lacks ∙ ap (λ (g : LoadFault). Err (fault g)) same) way
   where
-    err_is : Err {T = Loading} (NotThere n) ≡ Err f → NotThere n ≡ f
-    err_is e = cc
+    err_is : (r : Result Loading LoadFault) → r ≡ Err (NotThere n) → r ≡ Err f → NotThere n ≡ f
+    err_is r e g = cc
 load_stops {E} fault file name n (Some bytes) l f is there stops way =
     let lt = wanted_below l.order n way.walking is in
     let as_named : (r : Result Object LoadFault) → object_in l.name n bytes ≡ r → object_in name n bytes ≡ r = λ r read. ap (λ (k : List ℕ). object_in k n bytes) (sym way.named) ∙ read in

@@ -1,5 +1,5 @@
 -- The places of libraries are those that pl_place gives: each is the lowest of all aligned addresses that fit.
-use Rattle.std.proofs.Common.{◌≡◌, ℕ, ◌+◌, ◌<◌, ◌≤◌, Bool, true, false, List, [], ◌∷◌, Option, Some, None, Result, Ok, Err, refl, sym, ap, ◌∙◌, subst, arith, inl, inr}
+use Rattle.std.proofs.Common.{◌≡◌, ℕ, ◌+◌, ◌<◌, ◌≤◌, Bool, true, false, List, [], ◌∷◌, Option, Some, None, Result, Ok, Err, refl, sym, ap, ◌∙◌, subst, arith, length, inl, inr}
 use Rattle.std.specs.Prelude.{fold, nat_lt, IfSome, IfNone, IfOk, IfErr, MatchBool, ⊤, ◌⊎◌}
 use Rattle.std.specs.List.{All}
 use Rattle.std.proofs.lemmas.Bool.{cases_Bool, ltb-true}
@@ -16,7 +16,9 @@ use Rattle.pl_place.specs.declared.wish.Wish.{Wish}
 use Rattle.pl_place.specs.declared.fault.PlaceFault.{PlaceFault}
 use Rattle.pl_place.specs.declared.fault.PlaceFault.TheVariants as place
 use Rattle.pl_place.proofs.PolicyLaws.{align_some}
-use Rattle.pl_loader.specs.Places.{lowest_places}
+use Rattle.pl_place.proofs.PlacedLaws.{all_fit, fit_free, all_apart}
+use Rattle.pl_loader.specs.Faults.{is_memory, of_place}
+use Rattle.pl_loader.specs.Places.{region, lowest_places, IsFree}
 use Rattle.pl_loader.specs.declared.fault.LoadFault.{LoadFault}
 use Rattle.pl_loader.specs.declared.fault.LoadFault.TheVariants.{NoPlace}
 
@@ -96,3 +98,23 @@ places_are region busy wishes starts all placed = in_turn (left region busy) wis
 
 pub place_stops : (region : Range) (busy : List Range) (wishes : List Wish) (name : List ℕ) → All IsWish wishes → IsFault Lowest (left region busy) wishes (place.NoPlace name) → lowest_places (left region busy) wishes ≡ Err (NoPlace name)
 place_stops region busy wishes name all fault = stops_at (left region busy) wishes name (left_are_holes region busy) all fault.because
+
+-- ---- what places are
+
+one_each : (holes : List Range) (wishes : List Wish) (starts : List ℕ) → InTurn Lowest holes wishes starts → length starts ≡ length wishes
+one_each holes [] [] placed = refl
+one_each holes [] (start ∷ starts) placed = absurd placed
+one_each holes (wish ∷ wishes) [] placed = absurd placed
+one_each holes (wish ∷ wishes) (start ∷ starts) placed = let rest = one_each (without (range_of wish start) holes) wishes starts placed.1 in omega (arith, rest)
+
+pub places_free : (busy : List Range) (wishes : List Wish) (starts : List ℕ) → ArePlaced Lowest (left region busy) wishes starts → IsFree busy wishes starts
+places_free busy wishes starts placed = record {
+  one_each = one_each (left region busy) wishes starts placed.in_turn;
+  free = fit_free region busy wishes starts (all_fit Lowest (left region busy) wishes starts placed);
+  apart = all_apart Lowest (left region busy) wishes starts placed;
+}
+
+-- why there are none, as the load's fault
+pub fault_is : (busy : List Range) (wishes : List Wish) (fault : PlaceFault) → All IsWish wishes → IsFault Lowest (left region busy) wishes fault → Answers is_memory (Err (of_place fault)) (lowest_places (left region busy) wishes)
+fault_is busy wishes (place.NoPlace name) all is = place_stops region busy wishes name all is
+fault_is busy wishes place.NoMemory all is = tt

@@ -1,6 +1,6 @@
 -- What acceptance says of the addresses that an object takes.
 use Rattle.std.proofs.Common.{◌≡◌, ℕ, ◌+◌, ◌-◌, ◌<◌, ◌≤◌, Bool, true, false, not, ◌||◌, ◌&&◌, List, [], ◌∷◌, Option, Some, None, Result, Ok, Err, refl, sym, ap, ◌∙◌, subst, arith, cond, inl, inr, lit<}
-use Rattle.std.specs.Prelude.{fold, max, find, nat_lt, ◌==◌, if◌then◌else◌}
+use Rattle.std.specs.Prelude.{fold, max, find, nat_lt, ◌==◌, ◌⊎◌, if◌then◌else◌}
 use Rattle.std.specs.List.{All, list_any}
 use Rattle.std.specs.Int.{is_power_of_two}
 use Rattle.std.proofs.lemmas.Bool.{cases_Bool, cases_lt, or_parts, and_parts, ltb-false, leb-true, eqb-true, false≢true}
@@ -82,7 +82,7 @@ shaped_linked bytes f d o has e =
     let l = bind_ok (linking bytes f d.tags) _ o t.2 in
     let places = layout bytes f d.tags l.0 in
     let c = bind_ok (check bytes f d.tags l.0 places) _ o l.2 in
-    let is : object f d l.0 places ≡ o = ok_is (object f d l.0 places) o c.2 in
+    let is : object f d l.0 places ≡ o = ok_is (object f d l.0 places) o _ refl c.2 in
     let whole : IsShaped (object f d l.0 places) = record { span = refl; align = refl; dynamic = λ library. has } in
     subst IsShaped is whole
 
@@ -90,7 +90,7 @@ shaped_static : (bytes : List ℕ) (f : Headers) (o : Object) → static_program
 unfolding static_program static_object
 shaped_static bytes f o e =
     let p = unless_ok (too_large bytes) (Clause 30 0) (Ok (static_object f)) o e in
-    let is : static_object f ≡ o = ok_is (static_object f) o p.1 in
+    let is : static_object f ≡ o = ok_is (static_object f) o _ refl p.1 in
     let whole : IsShaped (static_object f) = record { span = refl; align = refl; dynamic = λ library. absurd (false≢true library) } in
     subst IsShaped is whole
 
@@ -120,12 +120,12 @@ last_from found ss = fold (λ f s. if is_load s then Some s else f) found ss
 abbrev pub Ends : ℕ → Segment → Type 0
 Ends most s = s.vaddr + s.memsz ≤ most
 
-record LastEnds (found : Option Segment) (ss : List Segment) : Type 0 where
-  pub before : end_in_memory found ≤ end_in_memory (last_from found ss)
-  pub loads : All (Ends (end_in_memory (last_from found ss))) (loads ss)
+-- the segment before ends at or below the end of the last one, and so do all PT_LOADs
+abbrev LastEnds : Option Segment → List Segment → Type 0
+LastEnds found ss = (end_in_memory found ≤ end_in_memory (last_from found ss)) × All (Ends (end_in_memory (last_from found ss))) (loads ss)
 
 last_ends : (found : Option Segment) (low : ℕ) (ss : List Segment) → end_in_memory found ≤ low → ascend_from low (loads ss) ≡ true → LastEnds found ss
-last_ends found low [] le ascend = record { before = omega arith; loads = All-nil (Ends (end_in_memory found)) }
+last_ends found low [] le ascend = (omega arith, All-nil (Ends (end_in_memory found)))
 last_ends found low (s ∷ ss) le ascend =
     elim (cases_Bool (is_load s)) [
       | inl hit ↦
@@ -133,10 +133,10 @@ last_ends found low (s ∷ ss) le ascend =
           let from = leb-true low s.vaddr parts.0 in
           let rest = last_ends (Some s) (s.vaddr + s.memsz) ss (omega arith) parts.1 in
           let most : ℕ = end_in_memory (last_from (Some s) ss) in
-          rw hit (record { before = omega (arith, rest.before); loads = All-cons (Ends most) s (loads ss) rest.before rest.loads })
+          rw hit (omega (arith, rest.0), All-cons (Ends most) s (loads ss) rest.0 rest.1)
       | inr miss ↦
           let rest = last_ends found low ss le (rw miss at ascend) in
-          rw miss (record { before = rest.before; loads = rest.loads })
+          rw miss rest
     ]
 
 span_ends : (ss : List Segment) → AreLoads (loads ss) → All (Ends (span ss)) (loads ss)
@@ -144,24 +144,21 @@ unfolding span last_load
 span_ends ss are =
     let last = last_ends None 0 ss (omega arith) are.ascend in
     let most : ℕ = end_in_memory (last_from None ss) in
-    All-weaker (Ends most) (Ends (round_up most PAGE)) (λ s le. omega (arith, le, round_up-at_least most PAGE (lit< tt))) (loads ss) last.loads
+    All-weaker (Ends most) (Ends (round_up most PAGE)) (λ s le. omega (arith, le, round_up-at_least most PAGE (lit< tt))) (loads ss) last.1
 
 -- what holds of all PT_LOADs holds of one that is found
 found_holds : (P : Segment → Type 0) (p : Segment → Bool) (ss : List Segment) (s : Segment) → All P (loads ss) → ((x : Segment) → p x ≡ true → is_load x ≡ true) → find p ss ≡ Some s → P s
-found_holds P p [] s all loaded found = absurd (no found)
-  where
-    no : None {T = Segment} ≡ Some s → ⊥
-    no e = cc
-found_holds P p (x ∷ ss) s all loaded found =
+found_holds P p [] s all passes found = absurd cc
+found_holds P p (x ∷ ss) s all passes found =
     elim (cases_Bool (p x)) [
       | inl hit ↦
           let same : x ≡ s = some_is (rw hit at found) in
-          subst P same (All-head P x (loads ss) (rw (loaded x hit) at all))
+          subst P same (All-head P x (loads ss) (rw (passes x hit) at all))
       | inr miss ↦
           found_holds P p ss s (elim (cases_Bool (is_load x)) [
             | inl load ↦ All-tail P x (loads ss) (rw load at all)
             | inr other ↦ rw other at all
-          ]) loaded (rw miss at found)
+          ]) passes (rw miss at found)
     ]
   where
     some_is : Some x ≡ Some s → x ≡ s
@@ -217,13 +214,14 @@ power_from most (s ∷ ss) p none =
     power_from (max most s.align) ss (power_max most s.align p (bad_align_is s.align (load_fits s parts.0).align)) parts.1
 
 page_power : is_power_of_two PAGE ≡ true
+unfolding lib.Count.ones
 page_power = refl
 
 -- ---- as the loader needs it
 
 -- what is known of an accepted object's addresses
 pub record IsSpanned (o : Object) : Type 0 where
-  pub loads : AreLoads (loads o.segments)
+  pub are : AreLoads (loads o.segments)
   pub below : All (Ends ADDRESS_LIMIT) (loads o.segments)
   pub span : All (Ends o.span) (loads o.segments)
   pub power : is_power_of_two o.align ≡ true
@@ -248,7 +246,7 @@ spanned bytes o e =
     let are = (accepted bytes o e).loads in
     let ends : All (Ends o.span) (loads o.segments) = rw shape.span (span_ends o.segments are) in
     record {
-      loads = are;
+      are = are;
       below = All-weaker IsFit (Ends ADDRESS_LIMIT) (λ s fit. (load_fits s fit).ends) (loads o.segments) (fit_all (loads o.segments) are.fit);
       span = ends;
       power = power_of o shape are;

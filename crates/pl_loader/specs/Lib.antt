@@ -2,3 +2,4 @@ pub mod Faults
 pub mod Loading
 pub mod Walk
 pub mod Places
+pub mod Started

@@ -1,5 +1,5 @@
 -- Where the objects of a load are placed. Which addresses a loader chooses, the System V gABI leaves open: this project's profile.
-use Rattle.std.specs.Prelude.{ℕ, ◌+◌, ◌≤◌, List, [], ◌∷◌, map, Result, Ok}
+use Rattle.std.specs.Prelude.{◌≡◌, ℕ, ◌+◌, ◌≤◌, List, [], ◌∷◌, map, length, Result, Ok}
 use Rattle.std.specs.List.{All}
 use Rattle.std.specs.Option.{ok_or}
 use Rattle.pl_base.specs.Answers.{◌>>=◌}
@@ -10,7 +10,7 @@ use Rattle.pl_elf.specs.declared.segment.Segment.{Segment}
 use Rattle.pl_object.specs.declared.object.Object.{Object}
 use Rattle.pl_slots.specs.Holes.{without, lowest}
 use Rattle.pl_place.specs.Left.{left}
-use Rattle.pl_place.specs.Placing.{range_of}
+use Rattle.pl_place.specs.Placing.{range_of, AllFree, AreApart}
 use Rattle.pl_place.specs.declared.wish.Wish.{Wish}
 use Rattle.pl_loader.specs.declared.constants.TheConstants.{REGION_START, REGION_END}
 use Rattle.pl_loader.specs.declared.object_file.ObjectFile.{ObjectFile}
@@ -50,5 +50,11 @@ places (program ∷ libraries) =
 
 -- an object ends at a place at or below the limit of addresses
 pub record IsAt (f : ObjectFile) (place : ℕ) : Type 0 where
-  pub place : place ≤ ADDRESS_LIMIT
+  pub low : place ≤ ADDRESS_LIMIT
   pub ends : All (λ s. place + (s.vaddr + s.memsz) ≤ ADDRESS_LIMIT) (loads f.object.segments)
+
+-- wishes have one place each, in the region and in no busy range, and no address in common
+pub record IsFree (busy : List Range) (wishes : List Wish) (starts : List ℕ) : Type 0 where
+  pub one_each : length starts ≡ length wishes
+  pub free : AllFree region busy wishes starts
+  pub apart : AreApart wishes starts

@@ -55,9 +55,12 @@ all_placed files places = map placed_at (zip files places)
 
 -- ---- modules
 
--- the thread-local storage of each object, as far as it has any
-unfoldable pub blocks : List ObjectFile → List (Option Block)
-blocks files = map (λ f. f.object.tls) files
+-- the thread-local storage of an object, if it has any
+unfoldable pub block_of : ObjectFile → Option Block
+block_of f = f.object.tls
+
+abbrev pub blocks : List ObjectFile → List (Option Block)
+blocks files = map block_of files
 
 abbrev pub name_in : Option ObjectFile → List ℕ
 name_in None = []

@@ -9,6 +9,7 @@ use Rattle.pl_scope.specs.Kinds.{is_library}
 use Rattle.pl_scope.specs.Walking.{Walking, IsWalking, wants}
 use Rattle.pl_scope.specs.Walk.{Walked}
 use Rattle.pl_scope.specs.Walk as walk
+use Rattle.pl_scope.specs.declared.fault.WalkFault.{WalkFault}
 use Rattle.pl_loader.specs.Faults.{of_refusal, of_walk}
 use Rattle.pl_loader.specs.Loading.{Loading}
 use Rattle.pl_loader.specs.declared.object_file.ObjectFile.{ObjectFile}
@@ -56,7 +57,7 @@ begun name = record { name = name; order = walk.begun name; files = [] }
 -- ---- all files. What a name's file holds, or why there is none, is what `file` tells; a fault of the load itself is told by `fault`
 
 -- a fault of the walk as the caller tells it
-abbrev pub walk_fault : {E : Type 0} → (LoadFault → E) → walk.WalkFault → E
+abbrev pub walk_fault : {E : Type 0} → (LoadFault → E) → WalkFault → E
 walk_fault fault e = fault (of_walk e)
 
 -- the object of a name of the walk

@@ -1,11 +1,19 @@
 //! The loader: asks for one file of a program's walk after the other, places the objects, and gives the image from which the program starts, or the first cause why there is none (System V gABI, chapter 5).
 #![tactic(auto)]
 
+mod bounds;
 pub mod constants;
 mod fault;
+mod linking;
 mod loader;
+mod modules;
 mod object_file;
 mod placed;
+mod placing;
+mod started;
+mod starting;
+#[cfg(test)]
+mod tests;
 mod tls_module;
 
 pub use constants::{REGION_END, REGION_START};
@@ -13,4 +21,5 @@ pub use fault::LoadFault;
 pub use loader::Loader;
 pub use object_file::ObjectFile;
 pub use placed::Placed;
+pub use started::Started;
 pub use tls_module::TlsModule;

@@ -1,14 +1,16 @@
-ghost use Rattle.std.specs.Prelude.{◌≡◌, ◌<◌, ◌^◌, ℕ, List, length, Some, Result, Ok, Err, IsSome, IfOk, IfErr, OnOk, OnErr, vec_len, vec_capacity};
+ghost use Rattle.std.specs.Prelude.{◌≡◌, ◌<◌, ◌^◌, ℕ, List, length, Some, None, Result, Ok, Err, IsSome, IfOk, IfErr, OnOk, OnErr};
 ghost use Rattle.std.specs.Option.{option_map, ForSome};
 ghost use Rattle.pl_base.specs.Answers.{Answers, because};
 ghost use Rattle.pl_object.specs.Reads.{reads};
 ghost use Rattle.pl_scope.specs.Walking.{wants};
-ghost use Rattle.pl_loader.specs.declared.fault.LoadFault as fault;
+ghost use Rattle.pl_loader.specs.declared.fault.LoadFault as faults;
 ghost use Rattle.pl_loader.specs.Faults.{is_memory, of_refusal};
-ghost use Rattle.pl_loader.specs.Loading.{IsLoading};
+ghost use Rattle.pl_loader.specs.Loading.{IsLoading, IsRead};
+ghost use Rattle.pl_loader.specs.Started as start;
 ghost use Rattle.pl_loader.specs.Walk as spec;
 
-use crate::{LoadFault, ObjectFile};
+use crate::starting::started;
+use crate::{LoadFault, ObjectFile, Started};
 use pl_base::{Rows, Text};
 use pl_io::NoMemory;
 use pl_object::{Kind, Object, Refusal, accept};
@@ -81,7 +83,7 @@ impl Loader {
     pub fn new(alloc: Global, name: &str) -> Result<Loader, NoMemory>
         ensures begun { IfOk result (λ loader. loader ≡ spec.begun name.now) }
         // all files of the walk of the name are still to come
-        ensures begins { IfOk result (λ loader. (file : List ℕ → Result (List ℕ) fault.LoadFault) → spec.IsUnderWay spec.itself file name.now loader) }
+        ensures begins { IfOk result (λ loader. (file : List ℕ → Result (List ℕ) faults.LoadFault) → spec.IsUnderWay spec.itself file name.now loader) }
     {
         Ok(Loader {
             name: Text::copy_of(alloc, name)?,
@@ -118,12 +120,12 @@ impl Loader {
     /// The first cause counts, in this order: `NotThere` where there is no file; `Refused` where an acceptance clause refuses it; `NotProgram` where it is the first file, and a library; `NeededIsProgram` where it is a later file, and no library, or needs the first, which is a program; `TooMany` where a name would be wanted after `MAX_MEMBERS` names. After a fault the loader is unchanged.
     pub fn give(&mut self, alloc: Global, file: Option<Vec<u8>>) -> Result<(), LoadFault>
         requires wanted { IsSome (wants self.old.order) }
-        requires size { ForSome file (λ bytes. vec_len bytes < 2 ^ 32) }
+        requires size { ForSome file (λ bytes. length bytes.items < 2 ^ 32) }
         ensures ok { OnOk result (spec.give self.old (option_map (λ bytes. bytes.items) file) ≡ Ok self.new) }
         ensures err { IfErr result (λ fault. Answers is_memory (Err fault) (spec.give self.old (option_map (λ bytes. bytes.items) file))) }
         ensures unchanged { OnErr result (self.new ≡ self.old) }
         // where the file is the one that the name has, the load goes on with one file more
-        ensures goes_on { OnOk result ((files : List ℕ → Result (List ℕ) fault.LoadFault) (name wanted : List ℕ) → wants self.old.order ≡ Some wanted → spec.IsFile spec.itself files wanted (option_map (λ bytes. bytes.items) file) → spec.IsUnderWay spec.itself files name self.old → spec.IsUnderWay spec.itself files name self.new) }
+        ensures goes_on { OnOk result ((files : List ℕ → Result (List ℕ) faults.LoadFault) (name wanted : List ℕ) → wants self.old.order ≡ Some wanted → spec.IsFile spec.itself files wanted (option_map (λ bytes. bytes.items) file) → spec.IsUnderWay spec.itself files name self.old → spec.IsUnderWay spec.itself files name self.new) }
     {
         let Some(wanted) = self.wants() else {
             return Ok(());
@@ -141,5 +143,19 @@ impl Loader {
                 object,
             },
         )
+    }
+
+    /// What the program starts from, where no name is wanted any more.
+    ///
+    /// The first cause counts, in this order: `TlsTooLarge` where an offset of thread-local storage is too great; `NoPlace` at the first library for which nothing fits in what is left of the region; and the first of `Undefined`, `UndefinedTls`, `TlsMismatch` and `CopyOutside` in the order of the relocations. The objects are placed so: the program where it was linked, and each library in turn at the lowest aligned address of the region beside the program's PT_LOADs and the libraries before it.
+    pub fn start(&self, alloc: Global) -> Result<Started<'_>, LoadFault>
+        requires { wants self.now.order ≡ None }
+        ensures ok { IfOk result (λ s. start.Starts s (start.started self.now.files)) }
+        ensures err { IfErr result (λ fault. Answers is_memory (Err fault) (start.started self.now.files)) }
+        // where all files are those that the names have, this is what the name starts from
+        ensures whole { IfOk result (λ s. (files : List ℕ → Result (List ℕ) faults.LoadFault) (name : List ℕ) → spec.IsUnderWay spec.itself files name self.now → start.Starts s (start.load spec.itself files name)) }
+        ensures fails { IfErr result (λ fault. (files : List ℕ → Result (List ℕ) faults.LoadFault) (name : List ℕ) → spec.IsUnderWay spec.itself files name self.now → Answers is_memory (Err fault) (start.load spec.itself files name)) }
+    {
+        started(alloc, self.files.as_slice())
     }
 }

@@ -10,12 +10,22 @@ use pl_base::{Rows, Text};
 use pl_tls::{Block, Module, offsets};
 use std::alloc::{AllocError, Global};
 
-/// The thread-local storage of each object, as far as it has any.
-#[tactic(auto, unfolding(crate::specs::Started::blocks))]
+/// The thread-local storage of an object, if it has any.
+#[tactic(auto, unfolding(crate::specs::Started::block_of))]
+fn block_of(file: &ObjectFile) -> Option<Block>
+    ensures { result ≡ spec.block_of file.now }
+{
+    file.object.tls
+}
+
 fn blocks(alloc: Global, files: &[ObjectFile]) -> Result<Vec<Option<Block>>, AllocError>
     ensures { IfOk result (λ blocks. blocks.items ≡ spec.blocks files.now) }
 {
-    files.iter().map(|file| file.object.tls).collect(alloc)
+    let mut blocks = Vec::new(alloc);
+    for file in files {
+        blocks.push(block_of(file))?;
+    }
+    Ok(blocks)
 }
 
 /// The modules of objects: those with thread-local storage, numbered from 1.
@@ -42,14 +52,14 @@ pub fn name_of(alloc: Global, files: &[ObjectFile], index: u32) -> Result<Text, 
 fn tls_module(
     alloc: Global,
     files: &[ObjectFile],
-    module: &Module,
+    tls: &Module,
 ) -> Result<TlsModule, AllocError>
-    ensures { IfOk result (λ named. named ≡ spec.tls_module files.now module.now) }
+    ensures { IfOk result (λ named. named ≡ spec.tls_module files.now tls.now) }
 {
     Ok(TlsModule {
-        number: module.number,
-        offset: module.offset,
-        name: name_of(alloc, files, module.member)?,
+        number: tls.number,
+        offset: tls.offset,
+        name: name_of(alloc, files, tls.member)?,
     })
 }
 
@@ -62,8 +72,8 @@ pub fn tls_modules(
     ensures { IfOk result (λ rows. rows ≡ map (spec.tls_module files.now) modules.now) }
 {
     let mut rows = Rows::new(alloc);
-    for module in modules {
-        rows.push(tls_module(alloc, files, module)?)?;
+    for tls in modules {
+        rows.push(tls_module(alloc, files, tls)?)?;
     }
     Ok(rows)
 }

@@ -1,11 +1,11 @@
 // Where the objects of a load are placed.
-ghost use Rattle.std.specs.Prelude.{◌≡◌, ◌+◌, ◌≤◌, map, length, Ok, Err, IfOk, IfErr, vec_len};
+ghost use Rattle.std.specs.Prelude.{◌≡◌, ◌+◌, ◌≤◌, map, Ok, Err, IfOk, IfErr};
 ghost use Rattle.std.specs.List.{All, AllZip};
 ghost use Rattle.pl_base.specs.Answers.{Answers};
 ghost use Rattle.pl_elf.specs.Headers.{loads};
 ghost use Rattle.pl_elf.specs.declared.constants.TheConstants.{ADDRESS_LIMIT};
 ghost use Rattle.pl_place.specs.Left.{left};
-ghost use Rattle.pl_place.specs.Placing.{AllFree, AreApart, IsWish};
+ghost use Rattle.pl_place.specs.Placing.{IsWish};
 ghost use Rattle.pl_value.specs.Ordinary.{ArePlaced};
 ghost use Rattle.pl_loader.specs.Faults.{is_memory};
 ghost use Rattle.pl_loader.specs.Loading.{AreFiles, objects_of, parts_of};
@@ -73,6 +73,16 @@ fn wishes_of(alloc: Global, libraries: &[ObjectFile]) -> Result<Vec<Wish>, Alloc
     Ok(wishes)
 }
 
+/// The lowest places of wishes in the region beside busy ranges.
+fn lowest_places(alloc: Global, wishes: &[Wish], busy: &[Range]) -> Result<Vec<u64>, LoadFault>
+    requires { All IsWish wishes.now }
+    ensures ok { IfOk result (λ starts. spec.lowest_places (left spec.region busy.now) wishes.now ≡ Ok starts.items) }
+    ensures err { IfErr result (λ fault. Answers is_memory (Err fault) (spec.lowest_places (left spec.region busy.now) wishes.now)) }
+    ensures free { IfOk result (λ starts. spec.IsFree busy.now wishes.now starts.items) }
+{
+    Ok(place_lowest(alloc, wishes, busy, region())?)
+}
+
 /// The places of libraries beside a program.
 fn library_places(
     alloc: Global,
@@ -83,13 +93,11 @@ fn library_places(
     requires wishes { All IsWish (map spec.wish_of libraries.now) }
     ensures ok { IfOk result (λ starts. spec.lowest_places (left spec.region (spec.taken program.now)) (map spec.wish_of libraries.now) ≡ Ok starts.items) }
     ensures err { IfErr result (λ fault. Answers is_memory (Err fault) (spec.lowest_places (left spec.region (spec.taken program.now)) (map spec.wish_of libraries.now))) }
-    ensures free { IfOk result (λ starts. AllFree spec.region (spec.taken program.now) (map spec.wish_of libraries.now) starts.items) }
-    ensures apart { IfOk result (λ starts. AreApart (map spec.wish_of libraries.now) starts.items) }
-    ensures one_each { IfOk result (λ starts. vec_len starts ≡ length libraries.now) }
+    ensures free { IfOk result (λ starts. spec.IsFree (spec.taken program.now) (map spec.wish_of libraries.now) starts.items) }
 {
     let taken = taken(alloc, program)?;
     let wishes = wishes_of(alloc, libraries)?;
-    Ok(place_lowest(alloc, &wishes, &taken, region())?)
+    lowest_places(alloc, &wishes, &taken)
 }
 
 /// The place of each object: 0 for the first, which is the program, and the lowest aligned addresses of the region beside it for libraries.

@@ -1,5 +1,5 @@
 use Rattle.std.proofs.Common.{◌≡◌, take}
-use Rattle.pl_loader.specs.Started.{parts_of}
+use Rattle.pl_loader.specs.Loading.{parts_of}
 use Rattle.pl_loader.proofs.linking.parts.Given as goal
 
 abbrev pub invariant-loop-file : goal.invariant-loop-file

@@ -1,6 +1,6 @@
 use Rattle.std.proofs.Common.{◌≡◌, take}
 use Rattle.pl_scope.specs.Scope.{objects}
-use Rattle.pl_loader.specs.Started.{objects_of}
+use Rattle.pl_loader.specs.Loading.{objects_of}
 use Rattle.pl_loader.proofs.linking.scope.Given as goal
 
 abbrev pub invariant-loop-file : goal.invariant-loop-file

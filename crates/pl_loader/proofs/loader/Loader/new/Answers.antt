@@ -1,0 +1,10 @@
+use Rattle.std.proofs.Common.{◌≡◌, ℕ, List, sym, subst, refl}
+use Rattle.pl_loader.specs.Loading.{Loading}
+use Rattle.pl_loader.specs.Walk.{begun, itself, IsUnderWay}
+use Rattle.pl_loader.proofs.LoadLaws.{load_begins}
+use Rattle.pl_loader.proofs.loader.Loader.new.Goals as goal
+
+pub returns-clause-begins : goal.returns-clause-begins
+returns-clause-begins c =
+    let same : record { name = c.in_ok-copy_of.field-0; order = c.in_ok-new.field-0; files = c.new-2.result.items } ≡ begun c.args.name.now = rw (c.in_ok-copy_of.ensures, c.in_ok-new.ensures.begun, c.new-2.ensures.items) refl in
+    λ file. subst (λ (l : Loading). IsUnderWay itself file c.args.name.now l) (sym same) (load_begins itself file c.args.name.now)

@@ -1,0 +1,31 @@
+use Rattle.std.proofs.Common.{◌≡◌, ◌-◌, List, ◌∷◌, length, take, drop, sym, subst, rules}
+use Rattle.pl_loader.specs.Loading.{AreFiles}
+use Rattle.pl_loader.specs.declared.object_file.ObjectFile.{ObjectFile}
+use Rattle.pl_loader.proofs.ApartLaws.{nothing_placed}
+use Rattle.pl_loader.proofs.FileLaws.{files_are, files_placed, program_fits, wishes_asked}
+use Rattle.pl_loader.proofs.placing.places.Goals as goal
+
+pub returns-in_default-clause-apart : goal.returns-in_default-clause-apart
+returns-in_default-clause-apart c = nothing_placed c.args.files.now c.new.result c.in_default.len_below c.new.ensures
+
+pub library_places-requires-clause-fits : goal.library_places-requires-clause-fits
+library_places-requires-clause-fits c =
+    let rest : List ObjectFile = take (length c.args.files.now - 1) (drop 1 c.args.files.now) in
+    program_fits c.program-item.result rest (subst AreFiles (files_are c.args.files.now c.program-item.result c.in-len1-up.len_at_least c.program-item.is) c.requires)
+
+pub library_places-requires-clause-wishes : goal.library_places-requires-clause-wishes
+library_places-requires-clause-wishes c =
+    let rest : List ObjectFile = take (length c.args.files.now - 1) (drop 1 c.args.files.now) in
+    wishes_asked c.program-item.result rest (subst AreFiles (files_are c.args.files.now c.program-item.result c.in-len1-up.len_at_least c.program-item.is) c.requires)
+
+pub returns-clause-within : goal.returns-clause-within
+returns-clause-within c =
+    let rest : List ObjectFile = take (length c.args.files.now - 1) (drop 1 c.args.files.now) in
+    let all : c.from_vec.result ≡ 0 ∷ c.in_ok-starts.starts.items = search rules in
+    (files_placed c.args.files.now c.from_vec.result c.program-item.result rest c.in_ok-starts.starts.items (files_are c.args.files.now c.program-item.result c.in-len1-up.len_at_least c.program-item.is) all c.requires c.in_ok-starts.ensures.free).0
+
+pub returns-clause-apart : goal.returns-clause-apart
+returns-clause-apart c =
+    let rest : List ObjectFile = take (length c.args.files.now - 1) (drop 1 c.args.files.now) in
+    let all : c.from_vec.result ≡ 0 ∷ c.in_ok-starts.starts.items = search rules in
+    (files_placed c.args.files.now c.from_vec.result c.program-item.result rest c.in_ok-starts.starts.items (files_are c.args.files.now c.program-item.result c.in-len1-up.len_at_least c.program-item.is) all c.requires c.in_ok-starts.ensures.free).1

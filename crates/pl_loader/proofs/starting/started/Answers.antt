@@ -1,0 +1,12 @@
+use Rattle.std.proofs.Common.{rules}
+use Rattle.std.proofs.lemmas.Slice.Zip.{AllZip-long}
+use Rattle.pl_loader.specs.Places.{IsAt}
+use Rattle.pl_loader.proofs.StartLaws.{start_is}
+use Rattle.pl_loader.proofs.starting.started.Goals as goal
+
+pub linked-requires-clause-one_each : goal.linked-requires-clause-one_each
+linked-requires-clause-one_each c = AllZip-long IsAt c.args.files.now c.in_ok-rows.rows c.in_ok-rows.ensures.within
+
+pub returns-clause-ok : goal.returns-clause-ok
+returns-clause-ok c =
+    start_is c.args.files.now c.in_ok-modules.modules c.in_ok-rows.rows _ c.in_ok-modules.ensures c.in_ok-rows.ensures.exact (rw c.as_slice.ensures at c.in_ok-image.ensures.ok) (search rules) (search rules) c.entry_of.ensures
