@@ -9,6 +9,7 @@ use std::process::Abort;
 use std::test::Fail;
 
 /// How a run ended, and what it wrote.
+#[derive(Drop)]
 pub struct Ran {
     pub status: Status,
     pub text: Vec<u8>,
