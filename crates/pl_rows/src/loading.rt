@@ -175,7 +175,10 @@ fn loads_the_examples(rt: HostRuntime) -> Result<(), Fail> {
 
 // Recipes of programs that do not start, and of what they need. The library `huge` is made larger than the region of libraries.
 const RECIPES: [(&str, &str); 22] = [
-    ("lacks", "program\nneeds none\ndata 8\nref g global object\nrel abs64 0 g 0\n"),
+    (
+        "lacks",
+        "program\nneeds none\ndata 8\nref g global object\nrel abs64 0 g 0\n",
+    ),
     ("libbad", "library\ndata 8\nrel tlsdesc 0 - 0\n"),
     ("bad", "program\nneeds libbad\nneeds none\n"),
     ("needed", "program\nneeds libback\n"),
@@ -184,19 +187,43 @@ const RECIPES: [(&str, &str); 22] = [
     ("libsecond", "library\nneeds plain\n"),
     ("plain", "static\n"),
     ("huge", "library\ndata 8\n"),
-    ("storage", "program\nneeds huge\ndata 8\ntls 0 0 40000001 1\n"),
-    ("room", "program\nneeds huge\ndata 8\nref g global object\nrel abs64 0 g 0\n"),
-    ("escaped", "program\ndata 8\nref a\\b\"~! global func\nrel abs64 0 a\\b\"~! 0\n"),
-    ("tables", "program\ndata 10\nref f global func\nref g global func\nrel jumpslot 0 f 0\nrel globdat 8 g 0\n"),
-    ("libref", "library\ndata 8\nref g global object\nrel abs64 0 g 0\n"),
+    (
+        "storage",
+        "program\nneeds huge\ndata 8\ntls 0 0 40000001 1\n",
+    ),
+    (
+        "room",
+        "program\nneeds huge\ndata 8\nref g global object\nrel abs64 0 g 0\n",
+    ),
+    (
+        "escaped",
+        "program\ndata 8\nref a\\b\"~! global func\nrel abs64 0 a\\b\"~! 0\n",
+    ),
+    (
+        "tables",
+        "program\ndata 10\nref f global func\nref g global func\nrel jumpslot 0 f 0\nrel globdat 8 g 0\n",
+    ),
+    (
+        "libref",
+        "library\ndata 8\nref g global object\nrel abs64 0 g 0\n",
+    ),
     ("later", "program\nneeds libref\n"),
     ("weak", "program\ndata 8\nref v weak tls\nrel tpoff 0 v 0\n"),
     ("libf", "library\ndata 8\ndef f global func 0 8\n"),
-    ("module", "program\nneeds libf\ndata 8\nref f global func\nrel dtpoff 0 f 0\n"),
+    (
+        "module",
+        "program\nneeds libf\ndata 8\nref f global func\nrel dtpoff 0 f 0\n",
+    ),
     ("own", "program\ndata 8\nrel dtpmod 0 - 0\n"),
     ("libabs", "library\ndata 8\ndef a global abs 5 8\n"),
-    ("copy", "program\nneeds libabs\ndata 8\ndef a global object 0 8\nrel copy 0 a 0\n"),
-    ("first", "program\nneeds libabs\ndata 10\ndef a global object 0 8\nrel copy 0 a 0\nref g global object\nrel globdat 8 g 0\n"),
+    (
+        "copy",
+        "program\nneeds libabs\ndata 8\ndef a global object 0 8\nrel copy 0 a 0\n",
+    ),
+    (
+        "first",
+        "program\nneeds libabs\ndata 10\ndef a global object 0 8\nrel copy 0 a 0\nref g global object\nrel globdat 8 g 0\n",
+    ),
 ];
 
 // The first cause of each of these programs. `later` is refused for a relocation of its library, `tables` for one of the table without jump slots, and `first` for its first one.
@@ -240,12 +267,23 @@ fn refuses_one_name_too_many(rt: HostRuntime) -> Result<(), Fail> {
         recipe.push_str(format!(in alloc; "needs l{number}\n")?.as_str())?;
     }
     let files = files_of(&rt, &[("many", recipe.as_str())])?;
-    check(&rt, &files, &[("many", "refused TooMany l255\n")], Status::Refused)
+    check(
+        &rt,
+        &files,
+        &[("many", "refused TooMany l255\n")],
+        Status::Refused,
+    )
 }
 
 const PAIR: [(&str, &str); 2] = [
-    ("liba", "library\ndata 8\nword 0 1111\ndef f global func 0 8\n"),
-    ("p", "program\nneeds liba\ndata 8\nref f global func\nrel globdat 0 f 0\n"),
+    (
+        "liba",
+        "library\ndata 8\nword 0 1111\ndef f global func 0 8\n",
+    ),
+    (
+        "p",
+        "program\nneeds liba\ndata 8\nref f global func\nrel globdat 0 f 0\n",
+    ),
 ];
 
 // What the sink gets in each call.
