@@ -1,5 +1,5 @@
 -- What `--load` finds, file by file.
-use Rattle.std.proofs.Common.{◌≡◌, ◌≤◌, ◌<◌, ℕ, List, length, Bool, true, false, Option, Some, None, refl, sym, ap, subst, ◌∙◌, inl, inr, arith}
+use Rattle.std.proofs.Common.{◌≡◌, ◌≤◌, ℕ, List, length, Bool, true, false, Option, Some, None, refl, sym, ap, subst, ◌∙◌, inl, inr, arith}
 use Rattle.std.specs.Prelude.{Result, Ok, Err, MatchBool, ⊤, not, nat_lt, nat_le, if◌then◌else◌}
 use Rattle.std.specs.FinMap.{get}
 use Rattle.std.proofs.lemmas.Bool.{cases_Bool}
@@ -16,7 +16,7 @@ use Rattle.pl_scope.specs.Walking.{wants}
 use Rattle.pl_loader.specs.Faults.{is_memory}
 use Rattle.pl_loader.specs.Loading.{Loading}
 use Rattle.pl_loader.specs.Started as start
-use Rattle.pl_loader.specs.Walk.{IsUnderWay, IsFile, give}
+use Rattle.pl_loader.specs.Walk.{IsUnderWay, give}
 use Rattle.pl_loader.specs.declared.fault.LoadFault.{LoadFault}
 use Rattle.pl_loader.specs.declared.object_file.ObjectFile.{ObjectFile}
 use Rattle.pl_loader.proofs.LoadLaws.{load_ends}
@@ -25,7 +25,7 @@ use Rattle.pl_cli.specs.declared.cause.Cause.{Cause}
 use Rattle.pl_cli.specs.declared.cause.Cause.TheVariants.{BadName, NotThere, FileTooLarge}
 use Rattle.pl_cli.specs.declared.stop.Stop.{Stop}
 use Rattle.pl_cli.specs.declared.stop.Stop.TheVariants as stops
-use Rattle.pl_cli.specs.Load.{cause_of, of_file, file_in, valid_file, loaded}
+use Rattle.pl_cli.specs.Load.{cause_of, of_file, file_in, loaded}
 use Rattle.pl_cli.specs.Outcome.{Stops, of_take, of_load_fault}
 use Rattle.pl_cli.proofs.MakeLemmas.{since}
 

@@ -79,7 +79,10 @@ pub enum Cause {
     InputTooLarge,
 
     /// The number of the first line of the recipe that has a fault, counted from 1, and the lowest kind of its faults; line 0 where the file of the recipe would be too large.
-    Recipe { number: u32, kind: u8 },
+    Recipe {
+        number: u32,
+        kind: u8,
+    },
 
     /// The name is new, and the folder has no room for one more.
     TooManyFiles,

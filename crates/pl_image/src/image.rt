@@ -178,8 +178,8 @@ impl<'a> Image<'a> {
     }
 }
 
-/// The byte that objects load at an address. Of several over it the first counts.
-fn loaded_byte(objects: &[Loaded<'_>], address: u64) -> Option<u8>
+/// The byte that objects load at an address, also of a link table; None where none of them loads one. Of several over it the first counts.
+pub fn loaded_byte(objects: &[Loaded<'_>], address: u64) -> Option<u8>
     requires { spec.AreLoaded objects.now }
     ensures { result ≡ layered (spec.all_pieces objects.now) address }
 {

@@ -16,7 +16,7 @@ mod ranges;
 mod tests;
 mod touched;
 
-pub use image::Image;
+pub use image::{Image, loaded_byte};
 pub use loaded::Loaded;
 pub use loading::{load_mask, load_object, load_pieces};
 pub use mask::{Load, Mask};

@@ -118,7 +118,7 @@ pieces_miss range (f ∷ fs) [] a all misses within = refl
 pieces_miss range (f ∷ fs) (place ∷ places) a all misses within =
     none_of_both a (pieces_at place f.bytes f.object) (pieces_of fs places)
     (false_from_ne_true (list_any (lies a) (pieces_at place f.bytes f.object)) (λ any.
-        false≢true (sym (misses.0 a within) ∙ in_wish f place a (All-head IsSpannedFile f fs all) any)))
+    false≢true (sym (misses.0 a within) ∙ in_wish f place a (All-head IsSpannedFile f fs all) any)))
     (pieces_miss range fs places a (All-tail IsSpannedFile f fs all) misses.1 within)
 
 -- and busy ranges beside which they are placed
@@ -133,7 +133,7 @@ pieces_free region busy (f ∷ fs) [] a all free hit = refl
 pieces_free region busy (f ∷ fs) (place ∷ places) a all free hit =
     none_of_both a (pieces_at place f.bytes f.object) (pieces_of fs places)
     (false_from_ne_true (list_any (lies a) (pieces_at place f.bytes f.object)) (λ any.
-        no_both (is_in a region) (is_free a busy) (free.0 a (in_wish f place a (All-head IsSpannedFile f fs all) any)) hit))
+    no_both (is_in a region) (is_free a busy) (free.0 a (in_wish f place a (All-head IsSpannedFile f fs all) any)) hit))
     (pieces_free region busy fs places a (All-tail IsSpannedFile f fs all) free.1 hit)
 
 alone_libraries : (fs : List ObjectFile) (places : List ℕ) → All IsSpannedFile fs → AreApart (map wish_of fs) places → Alone (pieces_of fs places)
@@ -220,6 +220,7 @@ loaded_is (f ∷ fs) (place ∷ places) ps qs member size bases parts =
   where
     next_at : (i : ℕ) (xs : List ℕ) → get_or (place ∷ xs) (i + 1) 0 ≡ get_or xs i 0
     next_at i xs = let s : i + 1 ≡ suc i = omega arith in rw s refl
+
     next_part : (i : ℕ) (xs : List (List ℕ)) → get_or (f.bytes ∷ xs) (i + 1) [] ≡ get_or xs i []
     next_part i xs = let s : i + 1 ≡ suc i = omega arith in rw s refl
 

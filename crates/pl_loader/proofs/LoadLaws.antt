@@ -132,11 +132,14 @@ entry_stops l n bytes f is stops =
     elim (bind_err (object_in l.name n bytes) (entered l n bytes) f entry) [
       | inl refused ↦ inl refused
       | inr later ↦
-          inr (later.0, later.1,
-          elim (bind_err (because of_walk (walk.give l.order later.0)) (λ order. Ok (with_file l order (record { name = n; bytes = bytes; object = later.0 }))) f later.2) [
-            | inl walks ↦ because_err of_walk (walk.give l.order later.0) f walks
-            | inr never ↦ absurd (no _ never.2)
-          ])
+          inr (
+            later.0,
+            later.1,
+            elim (bind_err (because of_walk (walk.give l.order later.0)) (λ order. Ok (with_file l order (record { name = n; bytes = bytes; object = later.0 }))) f later.2) [
+              | inl walks ↦ because_err of_walk (walk.give l.order later.0) f walks
+              | inr never ↦ absurd (no _ never.2)
+            ],
+          )
     ]
   where
     no : (m : Loading) → Ok m ≡ Err f → ⊥

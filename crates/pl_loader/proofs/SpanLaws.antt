@@ -194,9 +194,9 @@ bad_align_is n h =
     elim (cases_Bool (is_power_of_two n)) [
       | inl power ↦ inr power
       | inr other ↦ elim (cases_Bool (n == 0)) [
-          | inl none ↦ inl (eqb-true n 0 none)
-          | inr some ↦ absurd (false≢true (sym (rw (other, some) at h)))
-        ]
+        | inl none ↦ inl (eqb-true n 0 none)
+        | inr some ↦ absurd (false≢true (sym (rw (other, some) at h)))
+      ]
     ]
 
 power_max : (most n : ℕ) → is_power_of_two most ≡ true → (n ≡ 0) ⊎ (is_power_of_two n ≡ true) → is_power_of_two (max most n) ≡ true

@@ -65,12 +65,7 @@ fn loadable(alloc: Global, loaded: &str, name: &str, object: Object) -> Result<O
 
 /// The object of a name of the walk of the name that is loaded.
 #[tactic(auto, unfolding(crate::specs::Walk::object_in))]
-fn object_in(
-    alloc: Global,
-    loaded: &str,
-    name: &str,
-    bytes: &[u8],
-) -> Result<Object, LoadFault>
+fn object_in(alloc: Global, loaded: &str, name: &str, bytes: &[u8]) -> Result<Object, LoadFault>
     requires { length bytes.now < 2 ^ 32 }
     ensures { Answers is_memory result (spec.object_in loaded.now name.now bytes.now) }
 {

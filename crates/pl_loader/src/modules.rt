@@ -49,11 +49,7 @@ pub fn name_of(alloc: Global, files: &[ObjectFile], index: u32) -> Result<Text, 
 }
 
 #[tactic(auto, unfolding(crate::specs::Started::tls_module))]
-fn tls_module(
-    alloc: Global,
-    files: &[ObjectFile],
-    tls: &Module,
-) -> Result<TlsModule, AllocError>
+fn tls_module(alloc: Global, files: &[ObjectFile], tls: &Module) -> Result<TlsModule, AllocError>
     ensures { IfOk result (λ named. named ≡ spec.tls_module files.now tls.now) }
 {
     Ok(TlsModule {

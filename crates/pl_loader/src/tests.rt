@@ -60,18 +60,22 @@ fn static_program(rt: HostRuntime) -> Result<(), Fail> {
         _ => return Err("not there".into()),
     }
     match give(alloc, &mut loader, Some(Vec::new(alloc))) {
-        Err(LoadFault::Refused {
-            name,
-            number,
-            argument,
-        }) => {
+        Err(
+            LoadFault::Refused {
+                name,
+                number,
+                argument,
+            },
+        ) => {
             assert_eq!(rt; name.as_str(), "st");
             assert_eq!(rt; (number, argument), (1, 0));
         }
         _ => return Err("refused".into()),
     }
     assert_eq!(rt; loader.wants(), Some("st"));
-    give(alloc, &mut loader, Some(program(alloc)?)).ok().ok_or("given")?;
+    give(alloc, &mut loader, Some(program(alloc)?))
+        .ok()
+        .ok_or("given")?;
     if loader.wants().is_some() {
         return Err("all given".into());
     }

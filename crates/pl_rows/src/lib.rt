@@ -6,7 +6,11 @@ mod dynamic_file;
 #[cfg(test)]
 mod generated;
 #[cfg(test)]
+mod loading;
+#[cfg(test)]
 mod making;
+#[cfg(test)]
+mod running;
 #[cfg(test)]
 mod static_file;
 #[cfg(test)]

@@ -200,23 +200,6 @@ fn answers_faults_of_input_and_output(rt: HostRuntime) -> Result<(), Fail> {
     Ok(())
 }
 
-// The examples that acceptance refuses: a relocation across the end of the data, two that overlap, one of an unknown kind.
-const REFUSED: [(&str, &str); 3] = [
-    ("b1", "refused Refused b1 24\n"),
-    ("b2", "refused Refused b2 25\n"),
-    ("b3", "refused Refused b3 23 37\n"),
-];
-
-/// What `--load` says of an example until dynamic objects are loaded.
-fn load_line(alloc: Global, name: &str) -> Result<String, Fail> {
-    for (refused, line) in REFUSED {
-        if refused == name {
-            return Ok(String::from_str(alloc, line)?);
-        }
-    }
-    Ok(format!(in alloc; "refused NotYet {name}\n")?)
-}
-
 #[test]
 fn makes_the_examples(rt: HostRuntime) -> Result<(), Fail> {
     let alloc = rt.alloc();
@@ -230,7 +213,6 @@ fn makes_the_examples(rt: HostRuntime) -> Result<(), Fail> {
         )?;
         let want = format!(in alloc; "made {name}\n")?;
         assert_eq!(rt; made.text.as_slice(), want.as_bytes());
-        assert_eq!(rt; made.loaded.as_slice(), load_line(alloc, name)?.as_bytes());
     }
     Ok(())
 }

@@ -1,47 +1,14 @@
-// Runs of the top call, row by row.
-ghost use Rattle.std.specs.Prelude.{◌≤◌};
-
+// Runs of `--load` over files that are laid out byte by byte, and of words that are no command.
 use crate::dynamic_file::{DYNAMIC, RELOCATION, THIRD_SEGMENT, dynamic_file};
+use crate::running::{Ran, run_words};
 use crate::static_file::{put, put_load, static_file};
-use pl_cli::{Status, run};
+use pl_cli::Status;
 use pl_elf::constants::{ET_DYN, ET_EXEC};
-use pl_folder::{MemoryFolder, STORED, are_files};
-use pl_io::{MemorySink, MemorySource};
+use pl_folder::STORED;
 use pl_object::ORIGINAL;
 use std::alloc::Global;
 use std::process::Abort;
 use std::test::Fail;
-
-/// How a run ended, and what it wrote.
-struct Ran {
-    status: Status,
-    text: Vec<u8>,
-}
-
-/// A run of these words over these files. Calls of the folder and of the sink fail where they are listed, and the sink takes at most so many bytes in a call.
-fn run_words(
-    rt: &(impl Abort + AllocGlobal),
-    given: &[&str],
-    files: &[(String, Vec<u8>)],
-    folder_fails: &[u64],
-    sink_fails: &[u64],
-    most: usize,
-) -> Result<Ran, Fail>
-    requires { 1 ≤ most }
-{
-    let alloc: Global = rt.alloc();
-    assert!(rt; are_files(files));
-    let mut words = Vec::new(alloc);
-    for word in given {
-        words.push(String::from_str(alloc, word)?)?;
-    }
-    let mut folder = MemoryFolder::new(alloc, files, folder_fails.to_vec(alloc)?, 100)?;
-    let mut input = MemorySource::new(Vec::new(alloc), Vec::new(alloc));
-    let mut output = MemorySink::new(alloc, 4096, sink_fails.to_vec(alloc)?, most)?;
-    let status = run(alloc, &words, &mut folder, &mut input, &mut output, 1000);
-    let text = output.bytes().to_vec(alloc)?;
-    Ok(Ran { status, text })
-}
 
 const TEXT: &[u8] = b"slow
 object 0000000000400000 0000000000501000 st
@@ -184,25 +151,36 @@ fn shows_borders(rt: HostRuntime) -> Result<(), Fail> {
 fn load_alone(rt: &(impl Abort + AllocGlobal), file: Vec<u8>) -> Result<Vec<u8>, Fail> {
     let alloc: Global = rt.alloc();
     let files = vec![in alloc; (String::from_str(alloc, "x")?, file)]?;
-    let Ran { status, text } = run_words(rt, &["--load", "x"], &files, &[], &[], 4096)?;
-    assert_eq!(rt; status, Status::Refused);
+    let Ran { status: _, text } = run_words(rt, &["--load", "x"], &files, &[], &[], 4096)?;
     Ok(text)
 }
 
-const NOT_YET: &[u8] = b"refused NotYet x\n";
+const NOT_PROGRAM: &[u8] = b"refused NotProgram x\n";
 
+const STORAGE: &[u8] = b"slow
+object 0000000000400000 0000000000501000 x
+tls 1 0000000000000000 x
+entry 0000000000400000
+word 0000000000500008 0000000000000007
+end
+";
+
+/// A library, without and with a PT_TLS, and a static program with a PT_TLS of no bytes.
 #[test]
-fn loads_no_dynamic_object_yet(rt: HostRuntime) -> Result<(), Fail> {
+fn loads_no_library(rt: HostRuntime) -> Result<(), Fail> {
     let alloc = rt.alloc();
     let library = dynamic_file(alloc, ET_DYN, 0)?;
-    let program = dynamic_file(alloc, ET_EXEC, 0x40_0000)?;
     let mut with_storage = dynamic_file(alloc, ET_DYN, 0)?;
     put(&mut with_storage, THIRD_SEGMENT, &[7]);
     let mut storage_alone = static_file(alloc)?;
     put(&mut storage_alone, 0x38, &[3]);
     put(&mut storage_alone, 0xb0, &[7]);
-    for file in [library, program, with_storage, storage_alone] {
-        assert_eq!(rt; load_alone(&rt, file)?.as_slice(), NOT_YET);
+    for (file, want) in [
+        (library, NOT_PROGRAM),
+        (with_storage, NOT_PROGRAM),
+        (storage_alone, STORAGE),
+    ] {
+        assert_eq!(rt; load_alone(&rt, file)?.as_slice(), want);
     }
     Ok(())
 }

@@ -1,15 +1,14 @@
 -- At disjoint places at most one place of a relocation is over an address.
-use Rattle.std.proofs.Common.{◌≡◌, ℕ, zero, suc, ◌+◌, ◌<◌, ◌≤◌, Bool, true, false, List, [], ◌∷◌, ◌++◌, length, map, get_or, Ok, refl, sym, ap, subst, ◌∙◌, arith, inl, inr}
+use Rattle.std.proofs.Common.{◌≡◌, ℕ, zero, suc, ◌+◌, ◌<◌, Bool, true, false, List, [], ◌∷◌, ◌++◌, length, map, get_or, Ok, refl, sym, ap, subst, ◌∙◌, arith, inl, inr}
 use Rattle.std.specs.Prelude.{◌||◌}
-use Rattle.std.specs.List.{All, AllZip, list_any, flat_map}
+use Rattle.std.specs.List.{All, AllZip, list_any}
 use Rattle.std.proofs.lemmas.Bool.{cases_Bool, false≢true, or_parts}
 use Rattle.std.proofs.lemmas.Bool.Decides.{nat_tests}
 use Rattle.std.proofs.lemmas.List.Elements.{All-head, All-tail}
-use Rattle.pl_base.specs.Memory.{AtMostOne, Piece, lies, is_within}
+use Rattle.pl_base.specs.Memory.{Piece, lies}
 use Rattle.pl_base.specs.Sums.{plus}
 use Rattle.pl_base.specs.Windows.{share, any_share}
 use Rattle.pl_base.proofs.MemoryLaws.{within_true}
-use Rattle.pl_tls.specs.declared.module.Module.{Module}
 use Rattle.pl_object.specs.Reads.{reads}
 use Rattle.pl_object.specs.Relocations.{place, places}
 use Rattle.pl_object.specs.declared.object.Object.{Object}
@@ -17,12 +16,11 @@ use Rattle.pl_object.specs.declared.reloc.Reloc.{Reloc}
 use Rattle.pl_image.specs.Image.{all_pieces}
 use Rattle.pl_image.specs.Loads.{pieces_at, IsPlaced}
 use Rattle.pl_value.specs.Targets.{base_of}
-use Rattle.pl_value.specs.Meanings.{Row, row, rows, rows_from, given}
+use Rattle.pl_value.specs.Meanings.{Row, row, rows, rows_from}
 use Rattle.pl_value.specs.Linked.{under}
-use Rattle.pl_value.specs.Ordinary.{part_of, loaded_from, loaded, ArePlaced}
+use Rattle.pl_value.specs.Ordinary.{part_of, loaded_from, loaded}
 use Rattle.pl_value.specs.Laws.{AreRead, PlacesAreApart}
-use Rattle.pl_value.specs.declared.meaning.Meaning.{Meaning}
-use Rattle.pl_value.proofs.LoneLaws.{Lone, Cross, lone_most, most_lone, lone_rest, lone_cross, lone_join, lone_zip}
+use Rattle.pl_value.proofs.LoneLaws.{Lone, lone_most, most_lone, lone_rest, lone_cross, lone_join, lone_zip}
 use Rattle.pl_value.proofs.MeaningLaws.{IsGiven, meanings_given, zip_weaker}
 use Rattle.pl_value.proofs.PlaceLaws.{reloc_over, IsHeld, relocs_held, relocs_apart}
 
@@ -35,8 +33,8 @@ share_at base a r s one two straight also =
     let u = within_true (plus base s.address) s.width a two in
     shares r.address r.width s.address s.width (omega (arith, t.0, t.1, u.0, u.1)) (omega (arith, t.0, t.1, u.0, u.1)) (omega (arith, t.0, t.1)) (omega (arith, u.0, u.1))
   where
-  shares : (at size to n : ℕ) → at < to + n → to < at + size → 0 < size → 0 < n → share (record { at = at; size = size }) (record { at = to; size = n }) ≡ true
-  shares at size to n before behind some also = grind (arith, nat_tests)
+    shares : (at size to n : ℕ) → at < to + n → to < at + size → 0 < size → 0 < n → share (record { at = at; size = size }) (record { at = to; size = n }) ≡ true
+    shares at size to n before behind some also = grind (arith, nat_tests)
 
 -- the address of a place is that of none of those with which it shares no byte
 not_over : (base a : ℕ) (pieces : List Piece) (r : Reloc) (rs : List Reloc) → IsHeld base pieces r → All (IsHeld base pieces) rs → list_any (share (place r)) (places rs) ≡ false → reloc_over base a r ≡ true → list_any (reloc_over base a) rs ≡ false
@@ -57,7 +55,7 @@ relocs_lone base pieces (r ∷ rs) all apart =
     let parts = or_parts (list_any (share (place r)) (places rs)) (any_share (places rs)) apart in
     let rest : All (IsHeld base pieces) rs = All-tail (IsHeld base pieces) r rs all in (
       λ a over. not_over base a pieces r rs (All-head (IsHeld base pieces) r rs all) rest parts.0 over,
-      relocs_lone base pieces rs rest parts.1
+      relocs_lone base pieces rs rest parts.1,
     )
 
 -- what follows from each row that passes
@@ -104,20 +102,20 @@ joined places xs ys ps qs pieces first rest = record {
   held = λ a some. some_of (lies a) ps qs ∙ either a (sym (some_of (row_over places a) xs ys) ∙ some);
 }
   where
-  cross : (a : ℕ) → list_any (lies a) qs ≡ false → list_any (row_over places a) ys ≡ false
-  cross a none = elim (cases_Bool (list_any (row_over places a) ys)) [
-    | inl some ↦ absurd (false≢true (sym none ∙ rest.held a some))
-    | inr miss ↦ miss
-  ]
-
-  either : (a : ℕ) → (list_any (row_over places a) xs || list_any (row_over places a) ys) ≡ true → (list_any (lies a) ps || list_any (lies a) qs) ≡ true
-  either a some = elim (cases_Bool (list_any (row_over places a) xs)) [
-    | inl one ↦ rw (first.held a one) refl
-    | inr other ↦ elim (cases_Bool (list_any (lies a) ps)) [
-      | inl there ↦ rw there refl
-      | inr gone ↦ rw gone (rest.held a (rw other at some))
+    cross : (a : ℕ) → list_any (lies a) qs ≡ false → list_any (row_over places a) ys ≡ false
+    cross a none = elim (cases_Bool (list_any (row_over places a) ys)) [
+      | inl some ↦ absurd (false≢true (sym none ∙ rest.held a some))
+      | inr miss ↦ miss
     ]
-  ]
+
+    either : (a : ℕ) → (list_any (row_over places a) xs || list_any (row_over places a) ys) ≡ true → (list_any (lies a) ps || list_any (lies a) qs) ≡ true
+    either a some = elim (cases_Bool (list_any (row_over places a) xs)) [
+      | inl one ↦ rw (first.held a one) refl
+      | inr other ↦ elim (cases_Bool (list_any (lies a) ps)) [
+        | inl there ↦ rw there refl
+        | inr gone ↦ rw gone (rest.held a (rw other at some))
+      ]
+    ]
 
 object_apart : (places : List ℕ) (member : ℕ) (bytes file : List ℕ) (o : Object) → IsPlaced (base_of places member) o → reads file ≡ Ok o → IsApart places (map (row member) o.relocations) (pieces_at (base_of places member) bytes o)
 object_apart places member bytes file o placed read =

@@ -9,7 +9,7 @@ use Rattle.pl_object.specs.declared.object.Object.{Object}
 use Rattle.pl_object.specs.declared.reloc.Reloc.{Reloc}
 use Rattle.pl_scope.specs.Scope.{objects}
 use Rattle.pl_scope.specs.declared.member.Member.{Member}
-use Rattle.pl_value.specs.Meanings.{Row, row, rows, rows_from, behind, is_memory}
+use Rattle.pl_value.specs.Meanings.{Row, row, rows_from, behind, is_memory}
 use Rattle.pl_value.specs.declared.fault.LinkFault.{LinkFault}
 use Rattle.pl_value.specs.declared.fault.OrdinaryFault.{OrdinaryFault}
 use Rattle.pl_value.specs.declared.fault.OrdinaryFault.TheVariants.{Link, NoMemory}
@@ -28,11 +28,11 @@ each_append f [] ys = sym (behind_nothing (each f ys))
 each_append {B = B} {E = E} f (x ∷ xs) ys =
     ap (λ (r : Result (List B) E). f x >>= λ z. r >>= λ zs. Ok (z ∷ zs)) (each_append f xs ys) ∙ shift (f x) (each f xs) (each f ys)
   where
-  shift : (a : Result B E) (r s : Result (List B) E) → (a >>= λ z. (r >>= λ front. behind front s) >>= λ zs. Ok (z ∷ zs)) ≡ ((a >>= λ z. r >>= λ zs. Ok (z ∷ zs)) >>= λ front. behind front s)
-  shift (Ok z) (Ok zs) (Ok bs) = refl
-  shift (Ok z) (Ok zs) (Err e) = refl
-  shift (Ok z) (Err e) s = refl
-  shift (Err e) r s = refl
+    shift : (a : Result B E) (r s : Result (List B) E) → (a >>= λ z. (r >>= λ front. behind front s) >>= λ zs. Ok (z ∷ zs)) ≡ ((a >>= λ z. r >>= λ zs. Ok (z ∷ zs)) >>= λ front. behind front s)
+    shift (Ok z) (Ok zs) (Ok bs) = refl
+    shift (Ok z) (Ok zs) (Err e) = refl
+    shift (Ok z) (Err e) s = refl
+    shift (Err e) r s = refl
 
 behind_two : {X E : Type 0} (front : List X) (r s : Result (List X) E) → behind front (r >>= λ xs. behind xs s) ≡ (behind front r >>= λ xs. behind xs s)
 behind_two front (Ok xs) (Ok ys) = ap (λ zs. Ok zs) (sym (append_assoc front xs ys))
@@ -54,9 +54,9 @@ behind_stops_or f xs ys front NoMemory whole stop so_far = tt
 behind_stops_or f xs ys front (Link fault) whole stop so_far =
     ap (because Link) (sym so_far ∙ behind_stops f xs ys front fault (linked_err (behind front (each f xs)) fault stop))
   where
-  linked_err : {X : Type 0} (r : Result X LinkFault) (fault : LinkFault) → ◌≡◌ {A = Result X OrdinaryFault} (because Link r) (Err (Link fault)) → r ≡ Err fault
-  linked_err (Ok x) fault e = absurd cc
-  linked_err (Err k) fault e = let same : k ≡ fault = cc in ap (λ f. Err f) same
+    linked_err : {X : Type 0} (r : Result X LinkFault) (fault : LinkFault) → ◌≡◌ {A = Result X OrdinaryFault} (because Link r) (Err (Link fault)) → r ≡ Err fault
+    linked_err (Ok x) fault e = absurd cc
+    linked_err (Err k) fault e = let same : k ≡ fault = cc in ap (λ f. Err f) same
 
 -- ---- the relocations of a member
 

@@ -1,7 +1,6 @@
 -- What a relocation gives fits its place.
-use Rattle.std.proofs.Common.{◌≡◌, ℕ, ◌+◌, ◌<◌, ◌≤◌, Bool, true, false, cond, List, [], ◌∷◌, length, Option, Some, None, Result, Ok, Err, refl, sym, ap, subst, ◌∙◌, arith, inl, inr}
-use Rattle.std.specs.Prelude.{◌==◌, ◌||◌, ◌&&◌, not, min, slice_get, if◌then◌else◌}
-use Rattle.std.specs.List.{list_any}
+use Rattle.std.proofs.Common.{◌≡◌, ℕ, ◌≤◌, Bool, true, false, cond, List, [], ◌∷◌, Option, Some, None, Result, Ok, Err, refl, sym, ap, subst, ◌∙◌, arith, inl, inr}
+use Rattle.std.specs.Prelude.{◌==◌, ◌||◌, not, min, slice_get}
 use Rattle.std.proofs.lemmas.Bool.{cases_Bool, false≢true, or_parts}
 use Rattle.std.proofs.lemmas.Bool.Decides.{nat_tests}
 use Rattle.pl_base.specs.Answers.{◌>>=◌, unless, refuse}
@@ -11,7 +10,7 @@ use Rattle.pl_tls.specs.declared.module.Module.{Module}
 use Rattle.pl_object.specs.Accepted.{is_program}
 use Rattle.pl_object.specs.PlaceClauses.{is_bad, is_known, is_misplaced_copy}
 use Rattle.pl_object.specs.Relocations.{width, size_of}
-use Rattle.pl_object.specs.declared.constants.TheConstants.{RELOC_KINDS, WORD_SIZE, R_X86_64_NONE, R_X86_64_64, R_X86_64_COPY, R_X86_64_GLOB_DAT, R_X86_64_JUMP_SLOT, R_X86_64_RELATIVE, R_X86_64_DTPMOD64, R_X86_64_DTPOFF64, R_X86_64_TPOFF64}
+use Rattle.pl_object.specs.declared.constants.TheConstants.{R_X86_64_NONE, R_X86_64_64, R_X86_64_COPY, R_X86_64_GLOB_DAT, R_X86_64_JUMP_SLOT, R_X86_64_RELATIVE, R_X86_64_DTPMOD64, R_X86_64_DTPOFF64, R_X86_64_TPOFF64}
 use Rattle.pl_object.specs.declared.object.Object.{Object}
 use Rattle.pl_object.specs.declared.reloc.Reloc.{Reloc}
 use Rattle.pl_scope.specs.declared.reference.Reference.{Reference}
@@ -20,8 +19,8 @@ use Rattle.pl_value.specs.Targets.{added, base_of, address, target}
 use Rattle.pl_value.specs.Copies as copies
 use Rattle.pl_value.specs.Tls as tls
 use Rattle.pl_value.specs.Values.{reference, value}
-use Rattle.pl_value.specs.Meanings.{Row, rows, meanings}
-use Rattle.pl_value.specs.Laws.{Fits, is_library, is_library_at, AllFit, AreRead, WordsFit}
+use Rattle.pl_value.specs.Meanings.{Row, rows}
+use Rattle.pl_value.specs.Laws.{Fits, is_library_at, WordsFit}
 use Rattle.pl_value.specs.declared.fault.LinkFault.{LinkFault}
 use Rattle.pl_value.specs.declared.fault.LinkFault.TheVariants.{Undefined, TlsMismatch, CopyOutside}
 use Rattle.pl_value.specs.declared.meaning.Meaning.{Meaning}
@@ -147,11 +146,11 @@ value_fits objects places modules member r o library at wide known copy =
     (λ is. put_fits library r.width (tls.variable objects (reference member r)) (tls.word modules r) (wide ∙ tls_width o.symbols r.kind r.symbol is))
     (λ not_thread. word_fits library r.width Nothing (λ _. wide ∙ ap (λ (kind : ℕ). width o.symbols kind r.symbol) (only_none r.kind known not_relative not_plain not_slot not_copy not_thread) ∙ none_width o.symbols r.symbol))))))
   where
-  program_copy_fits : (objects : List Object) (places : List ℕ) (member : ℕ) (r : Reloc) (o : Object) (library : Bool) → slice_get objects member ≡ Some o → HasWidth o.symbols r → (r.kind == R_X86_64_COPY) ≡ true → library ≡ false → FitsIfOk library r.width (copies.copy objects places (reference member r))
-  program_copy_fits objects places member r o library at wide is program =
-      let own : copies.size_in (slice_get objects member) r.symbol ≡ size_of (slice_get o.symbols r.symbol) = rw at refl in
-      let wide_as : r.width ≡ size_of (slice_get o.symbols r.symbol) = wide ∙ copy_width o.symbols r.kind r.symbol is in
-      rw program (copy_fits r.width objects places (reference member r) (omega arith))
+    program_copy_fits : (objects : List Object) (places : List ℕ) (member : ℕ) (r : Reloc) (o : Object) (library : Bool) → slice_get objects member ≡ Some o → HasWidth o.symbols r → (r.kind == R_X86_64_COPY) ≡ true → library ≡ false → FitsIfOk library r.width (copies.copy objects places (reference member r))
+    program_copy_fits objects places member r o library at wide is program =
+        let own : copies.size_in (slice_get objects member) r.symbol ≡ size_of (slice_get o.symbols r.symbol) = rw at refl in
+        let wide_as : r.width ≡ size_of (slice_get o.symbols r.symbol) = wide ∙ copy_width o.symbols r.kind r.symbol is in
+        rw program (copy_fits r.width objects places (reference member r) (omega arith))
 
 -- ---- all rows
 

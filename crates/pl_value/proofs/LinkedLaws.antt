@@ -75,6 +75,6 @@ unfolding ordinary
 refused_ordinary objects parts places modules NoMemory stop = tt
 refused_ordinary objects parts places modules (Link fault) stop = rw (linked_err (meanings objects places modules) fault stop) refl
   where
-  linked_err : (r : Result (List Meaning) LinkFault) (fault : LinkFault) → ◌≡◌ {A = Result (List Meaning) OrdinaryFault} (because Link r) (Err (Link fault)) → r ≡ Err fault
-  linked_err (Ok x) fault e = absurd cc
-  linked_err (Err k) fault e = let same : k ≡ fault = cc in ap (λ f. Err f) same
+    linked_err : (r : Result (List Meaning) LinkFault) (fault : LinkFault) → ◌≡◌ {A = Result (List Meaning) OrdinaryFault} (because Link r) (Err (Link fault)) → r ≡ Err fault
+    linked_err (Ok x) fault e = absurd cc
+    linked_err (Err k) fault e = let same : k ≡ fault = cc in ap (λ f. Err f) same

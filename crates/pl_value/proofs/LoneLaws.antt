@@ -1,5 +1,5 @@
 -- Rows of which at most one is over an address, from the first row on.
-use Rattle.std.proofs.Common.{◌≡◌, ℕ, zero, suc, ◌+◌, ◌<◌, Bool, true, false, List, [], ◌∷◌, ◌++◌, length, get_or, refl, sym, ap, ◌∙◌, arith, inl, inr}
+use Rattle.std.proofs.Common.{◌≡◌, ℕ, zero, suc, ◌<◌, Bool, true, false, List, [], ◌∷◌, ◌++◌, length, get_or, refl, sym, ◌∙◌, arith, inl, inr}
 use Rattle.std.specs.Prelude.{◌||◌}
 use Rattle.std.specs.List.{list_any, AllZip}
 use Rattle.std.proofs.lemmas.Bool.{cases_Bool, false≢true, or_parts}
@@ -35,7 +35,7 @@ pub most_lone : {X : Type 0} (test : ℕ → X → Bool) (xs : List X) → AtMos
 most_lone test [] most = tt
 most_lone test (x ∷ xs) most = (
   λ a hit. any_none (test a) xs (λ k d lt. most zero (suc k) a d (omega arith) (omega (arith, lt)) hit),
-  most_lone test xs (λ i j a d lt within hit. most (suc i) (suc j) a d (omega (arith, lt)) (omega (arith, within)) hit)
+  most_lone test xs (λ i j a d lt within hit. most (suc i) (suc j) a d (omega (arith, lt)) (omega (arith, within)) hit),
 )
 
 -- ---- one list behind another
@@ -72,12 +72,12 @@ pub lone_join : {X : Type 0} (test : ℕ → X → Bool) (xs ys : List X) → Lo
 lone_join test [] ys front back cross = back
 lone_join test (x ∷ xs) ys front back cross = (
   λ a hit. any_join (test a) xs ys (front.0 a hit) (cross a (rw hit refl)),
-  lone_join test xs ys front.1 back (λ a some. cross a (some_more (test a x) (list_any (test a) xs) some))
+  lone_join test xs ys front.1 back (λ a some. cross a (some_more (test a x) (list_any (test a) xs) some)),
 )
   where
-  some_more : (b c : Bool) → c ≡ true → (b || c) ≡ true
-  some_more true c some = refl
-  some_more false c some = some
+    some_more : (b c : Bool) → c ≡ true → (b || c) ≡ true
+    some_more true c some = refl
+    some_more false c some = some
 
 -- ---- rows made of others
 
@@ -88,11 +88,11 @@ lone_zip test over [] (y ∷ ys) same lone = absurd same
 lone_zip test over (x ∷ xs) [] same lone = absurd same
 lone_zip {X = X} {Y = Y} test over (x ∷ xs) (y ∷ ys) same lone = (
   λ a hit. any_zip a xs ys same.1 ∙ lone.0 a (sym (same.0 a) ∙ hit),
-  lone_zip test over xs ys same.1 lone.1
+  lone_zip test over xs ys same.1 lone.1,
 )
   where
-  any_zip : (a : ℕ) (xs : List X) (ys : List Y) → AllZip (λ x y. (a : ℕ) → over a y ≡ test a x) xs ys → list_any (over a) ys ≡ list_any (test a) xs
-  any_zip a [] [] same = refl
-  any_zip a [] (y ∷ ys) same = absurd same
-  any_zip a (x ∷ xs) [] same = absurd same
-  any_zip a (x ∷ xs) (y ∷ ys) same = rw (same.0 a, any_zip a xs ys same.1) refl
+    any_zip : (a : ℕ) (xs : List X) (ys : List Y) → AllZip (λ x y. (a : ℕ) → over a y ≡ test a x) xs ys → list_any (over a) ys ≡ list_any (test a) xs
+    any_zip a [] [] same = refl
+    any_zip a [] (y ∷ ys) same = absurd same
+    any_zip a (x ∷ xs) [] same = absurd same
+    any_zip a (x ∷ xs) (y ∷ ys) same = rw (same.0 a, any_zip a xs ys same.1) refl

@@ -1,20 +1,20 @@
 -- Where the places of relocations lie in memory.
-use Rattle.std.proofs.Common.{◌≡◌, ℕ, zero, suc, ◌+◌, ◌-◌, ◌*◌, ◌^◌, ◌%◌, ◌<◌, ◌≤◌, Bool, true, false, cond, List, [], ◌∷◌, ◌++◌, length, map, get_or, Option, Some, None, Ok, refl, sym, ap, subst, ◌∙◌, arith, inl, inr}
-use Rattle.std.specs.Prelude.{◌⊎◌, ◌&&◌, ◌||◌, ◌==◌, not, min, nat_le, nat_lt, filter, find, fold, slice_get, slice_index, if◌then◌else◌}
-use Rattle.std.specs.List.{All, AllZip, Any, list_any, flat_map}
+use Rattle.std.proofs.Common.{◌≡◌, ℕ, ◌+◌, ◌-◌, ◌^◌, ◌<◌, ◌≤◌, Bool, true, false, List, [], ◌∷◌, get_or, Option, Some, None, Ok, refl, sym, ap, subst, ◌∙◌, arith, inl, inr}
+use Rattle.std.specs.Prelude.{◌⊎◌, ◌&&◌, ◌||◌, ◌==◌, not, min, nat_le, nat_lt, find, fold, if◌then◌else◌}
+use Rattle.std.specs.List.{All, Any, list_any}
 use Rattle.std.proofs.lemmas.Bool.{cases_Bool, false≢true, or_parts, and_parts, ltb-true, ltb-false, leb-true}
 use Rattle.std.proofs.lemmas.Bool.Decides.{nat_tests}
 use Rattle.std.proofs.lemmas.List.Folds.{list_any_at, Any-from_list_any}
 use Rattle.std.proofs.lemmas.List.{get_or-map, length-map}
-use Rattle.pl_base.specs.Memory.{AtMostOne, Piece, lies, is_within}
+use Rattle.pl_base.specs.Memory.{Piece, lies, is_within}
 use Rattle.pl_base.specs.Sums.{plus}
-use Rattle.pl_base.specs.Windows.{Window, end_of, share, any_share}
+use Rattle.pl_base.specs.Windows.{Window, any_share}
 use Rattle.pl_base.proofs.MemoryLaws.{within_true, within_is}
 use Rattle.pl_elf.specs.Clauses.{AreLoads, bad_load, bad_align, not_congruent}
 use Rattle.pl_elf.specs.Headers.{is_load, loads}
 use Rattle.pl_elf.specs.declared.constants.TheConstants.{ADDRESS_LIMIT, MAX_LOAD_ALIGN}
 use Rattle.pl_elf.specs.declared.segment.Segment.{Segment}
-use Rattle.pl_object.specs.Accepted.{Accepted, is_program}
+use Rattle.pl_object.specs.Accepted.{is_program}
 use Rattle.pl_object.specs.FilePart.{file_window, in_file_part, loaded_by, loader, loads_byte}
 use Rattle.pl_object.specs.PlaceClauses.{last_load, is_in_memory, is_held, reloc_outside, reloc_overlap}
 use Rattle.pl_object.specs.Reads.{reads}
@@ -24,7 +24,7 @@ use Rattle.pl_object.specs.declared.reloc.Reloc.{Reloc}
 use Rattle.pl_object.proofs.AcceptedLaws.{accepted}
 use Rattle.pl_object.proofs.FilePartLaws.{find_passes}
 use Rattle.pl_image.specs.Loads.{loaded_piece, pieces_at, IsPlaced}
-use Rattle.pl_value.proofs.LoneLaws.{none_at, any_none}
+use Rattle.pl_value.proofs.LoneLaws.{none_at}
 
 -- ---- segments that a test finds
 
@@ -41,9 +41,9 @@ any_later q s ss some = elim (cases_Bool (is_load s)) [
   | inr miss ↦ rw miss some
 ]
   where
-  later : (b c : Bool) → c ≡ true → (b || c) ≡ true
-  later true c some = refl
-  later false c some = some
+    later : (b c : Bool) → c ≡ true → (b || c) ≡ true
+    later true c some = refl
+    later false c some = some
 
 any_first : (q : Segment → Bool) (s : Segment) (ss : List Segment) → is_load s ≡ true → q s ≡ true → list_any q (loads (s ∷ ss)) ≡ true
 any_first q s ss load hit = rw load (rw hit refl)
@@ -127,24 +127,24 @@ file_inside : (ss : List Segment) (w : Window) → AreLoads (loads ss) → in_fi
 unfolding in_file_part file_window
 file_inside ss w are file some = by_loader (loader ss w.at) refl file
   where
-  by_loader : (o : Option Segment) → loader ss w.at ≡ o → ((loaded_by w o).size == w.size) ≡ true → list_any (is_inside w.at w.size) (loads ss) ≡ true
-  by_loader None e size = absurd (nothing_here w.size size some)
-  by_loader (Some s) e size =
-      let among : (q : Segment → Bool) → q s ≡ true → list_any q (loads ss) ≡ true = found_load (loads_byte w.at) ss s (λ t h. (byte_of_load w.at t h).0) e in
-      let byte = byte_of_load w.at s (find_passes (loads_byte w.at) ss s e) in
-      let long = loads_fit s (not_bad ss s are among) in
-      let rest = fits_part w.size (s.vaddr + s.filesz - w.at) size in
-      let from : s.vaddr ≤ w.at = byte.1 in
-      let to : w.at < s.vaddr + s.filesz = byte.2 in
-      among (is_inside w.at w.size) (inside_is w.at w.size s from (omega arith))
+    by_loader : (o : Option Segment) → loader ss w.at ≡ o → ((loaded_by w o).size == w.size) ≡ true → list_any (is_inside w.at w.size) (loads ss) ≡ true
+    by_loader None e size = absurd (nothing_here w.size size some)
+    by_loader (Some s) e size =
+        let among : (q : Segment → Bool) → q s ≡ true → list_any q (loads ss) ≡ true = found_load (loads_byte w.at) ss s (λ t h. (byte_of_load w.at t h).0) e in
+        let byte = byte_of_load w.at s (find_passes (loads_byte w.at) ss s e) in
+        let long = loads_fit s (not_bad ss s are among) in
+        let rest = fits_part w.size (s.vaddr + s.filesz - w.at) size in
+        let from : s.vaddr ≤ w.at = byte.1 in
+        let to : w.at < s.vaddr + s.filesz = byte.2 in
+        among (is_inside w.at w.size) (inside_is w.at w.size s from (omega arith))
 
 -- in the memory of the last PT_LOAD
 memory_inside : (ss : List Segment) (w : Window) → is_in_memory w (last_load ss) ≡ true → list_any (is_inside w.at w.size) (loads ss) ≡ true
 memory_inside ss w held = by_last (last_load ss) refl held
   where
-  by_last : (o : Option Segment) → last_load ss ≡ o → is_in_memory w o ≡ true → list_any (is_inside w.at w.size) (loads ss) ≡ true
-  by_last None e held = absurd (false≢true held)
-  by_last (Some s) e held = last_is_load ss s e (is_inside w.at w.size) held
+    by_last : (o : Option Segment) → last_load ss ≡ o → is_in_memory w o ≡ true → list_any (is_inside w.at w.size) (loads ss) ≡ true
+    by_last None e held = absurd (false≢true held)
+    by_last (Some s) e held = last_is_load ss s e (is_inside w.at w.size) held
 
 -- a place that is held, and is not empty
 held_inside : (program : Bool) (ss : List Segment) (w : Window) → AreLoads (loads ss) → is_held program ss w ≡ true → 0 < w.size → list_any (is_inside w.at w.size) (loads ss) ≡ true
@@ -177,35 +177,35 @@ place_held base bytes o r placed held = record {
   start = λ a over. no_wrap_at (some_load a over);
 }
   where
-  some_load : (a : ℕ) → reloc_over base a r ≡ true → Any (λ s. is_inside r.address r.width s ≡ true) (loads o.segments)
-  some_load a over =
-      let t = within_true (plus base r.address) r.width a over in
-      let from : plus base r.address ≤ a = t.0 in
-      let to : a < plus base r.address + r.width = t.1 in
-      Any-from_list_any (is_inside r.address r.width) (loads o.segments) (held_inside (is_program o) o.segments (place r) placed.accepted held (omega arith))
+    some_load : (a : ℕ) → reloc_over base a r ≡ true → Any (λ s. is_inside r.address r.width s ≡ true) (loads o.segments)
+    some_load a over =
+        let t = within_true (plus base r.address) r.width a over in
+        let from : plus base r.address ≤ a = t.0 in
+        let to : a < plus base r.address + r.width = t.1 in
+        Any-from_list_any (is_inside r.address r.width) (loads o.segments) (held_inside (is_program o) o.segments (place r) placed.accepted held (omega arith))
 
-  no_wrap_at : Any (λ s. is_inside r.address r.width s ≡ true) (loads o.segments) → plus base r.address ≡ base + r.address
-  no_wrap_at found =
-      let s = found.1 in
-      let inside = inside_parts r.address r.width s found.4 in
-      let to : r.address + r.width ≤ s.vaddr + s.memsz = inside.1 in
-      let end : base + (s.vaddr + s.memsz) ≤ ADDRESS_LIMIT = subst (λ (t : Segment). base + (t.vaddr + t.memsz) ≤ ADDRESS_LIMIT) found.3 (placed.ends found.0 s found.2) in
-      no_wrap base r.address (below (base + r.address) (omega arith))
+    no_wrap_at : Any (λ s. is_inside r.address r.width s ≡ true) (loads o.segments) → plus base r.address ≡ base + r.address
+    no_wrap_at found =
+        let s = found.1 in
+        let inside = inside_parts r.address r.width s found.4 in
+        let to : r.address + r.width ≤ s.vaddr + s.memsz = inside.1 in
+        let end : base + (s.vaddr + s.memsz) ≤ ADDRESS_LIMIT = subst (λ (t : Segment). base + (t.vaddr + t.memsz) ≤ ADDRESS_LIMIT) found.3 (placed.ends found.0 s found.2) in
+        no_wrap base r.address (below (base + r.address) (omega arith))
 
-  at_piece : (a : ℕ) → reloc_over base a r ≡ true → Any (λ s. is_inside r.address r.width s ≡ true) (loads o.segments) → list_any (lies a) (pieces_at base bytes o) ≡ true
-  at_piece a over found =
-      let s = found.1 in
-      let t = within_true (plus base r.address) r.width a over in
-      let inside = inside_parts r.address r.width s found.4 in
-      let straight = no_wrap_at found in
-      let from : plus base r.address ≤ a = t.0 in
-      let to : a < plus base r.address + r.width = t.1 in
-      let lower : s.vaddr ≤ r.address = inside.0 in
-      let upper : r.address + r.width ≤ s.vaddr + s.memsz = inside.1 in
-      let hit : is_within (base + s.vaddr) s.memsz a ≡ true = within_is (base + s.vaddr) s.memsz a (omega arith) (omega arith) in
-      let d = loaded_piece base bytes s in
-      let same : get_or (pieces_at base bytes o) found.0 d ≡ d = get_or-map (loaded_piece base bytes) (loads o.segments) found.0 s d found.2 ∙ ap (loaded_piece base bytes) found.3 in
-      list_any_at (lies a) (pieces_at base bytes o) found.0 d (omega (arith, found.2, length-map (loads o.segments) (loaded_piece base bytes))) (subst (λ (p : Piece). lies a p ≡ true) (sym same) hit)
+    at_piece : (a : ℕ) → reloc_over base a r ≡ true → Any (λ s. is_inside r.address r.width s ≡ true) (loads o.segments) → list_any (lies a) (pieces_at base bytes o) ≡ true
+    at_piece a over found =
+        let s = found.1 in
+        let t = within_true (plus base r.address) r.width a over in
+        let inside = inside_parts r.address r.width s found.4 in
+        let straight = no_wrap_at found in
+        let from : plus base r.address ≤ a = t.0 in
+        let to : a < plus base r.address + r.width = t.1 in
+        let lower : s.vaddr ≤ r.address = inside.0 in
+        let upper : r.address + r.width ≤ s.vaddr + s.memsz = inside.1 in
+        let hit : is_within (base + s.vaddr) s.memsz a ≡ true = within_is (base + s.vaddr) s.memsz a (omega arith) (omega arith) in
+        let d = loaded_piece base bytes s in
+        let same : get_or (pieces_at base bytes o) found.0 d ≡ d = get_or-map (loaded_piece base bytes) (loads o.segments) found.0 s d found.2 ∙ ap (loaded_piece base bytes) found.3 in
+        list_any_at (lies a) (pieces_at base bytes o) found.0 d (omega (arith, found.2, length-map (loads o.segments) (loaded_piece base bytes))) (subst (λ (p : Piece). lies a p ≡ true) (sym same) hit)
 
 -- the places of an accepted object
 pub relocs_held : (base : ℕ) (bytes file : List ℕ) (o : Object) → IsPlaced base o → reads file ≡ Ok o → All (IsHeld base (pieces_at base bytes o)) o.relocations
@@ -217,9 +217,9 @@ relocs_held base bytes file o placed read = λ k d lt.
     none_at (λ memory. not (is_held (is_program o) o.segments memory)) (places o.relocations) k (place d) (omega (arith, lt, length-map o.relocations place)) facts.held in
     place_held base bytes o r placed (is_true (is_held (is_program o) o.segments (place r)) (rw (get_or-map place o.relocations k d (place d) lt) at outside))
   where
-  is_true : (b : Bool) → not b ≡ false → b ≡ true
-  is_true true h = refl
-  is_true false h = sym h
+    is_true : (b : Bool) → not b ≡ false → b ≡ true
+    is_true true h = refl
+    is_true false h = sym h
 
 pub relocs_apart : (file : List ℕ) (o : Object) → reads file ≡ Ok o → any_share (places o.relocations) ≡ false
 unfolding reloc_overlap

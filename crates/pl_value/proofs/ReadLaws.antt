@@ -1,14 +1,13 @@
 -- Bytes that are read of a memory, with other bytes written over them.
-use Rattle.std.proofs.Common.{◌≡◌, ℕ, zero, suc, ◌+◌, ◌-◌, ◌<◌, ◌≤◌, Bool, true, false, List, [], ◌∷◌, ◌++◌, length, take, set, get_or, Option, Some, None, refl, sym, ap, subst, ◌∙◌, arith, inl, inr}
+use Rattle.std.proofs.Common.{◌≡◌, ℕ, ◌+◌, ◌-◌, ◌<◌, ◌≤◌, true, false, List, [], ◌∷◌, length, take, set, get_or, Some, refl, sym, ap, subst, ◌∙◌, arith, inl, inr}
 use Rattle.std.specs.Prelude.{◌⊎◌, if◌then◌else◌}
-use Rattle.std.specs.List.{range_with_len}
 use Rattle.std.specs.Option.{unwrap_or}
 use Rattle.std.proofs.lemmas.Bool.{cases_eq, cases_lt}
 use Rattle.std.proofs.lemmas.List.{get_or-set_same, get_or-set_other, length-set, take_more}
 use Rattle.std.proofs.lemmas.Bool.Decides.{nat_tests}
 use Rattle.std.proofs.lemmas.List.FromFn.{fill_by_all}
 use Rattle.pl_base.specs.Memory.{Memory, is_within, over, read, Fill, filled}
-use Rattle.pl_base.proofs.MemoryLaws.{within_not, within_false, within_true, within_is, read_length, read_byte, filled-append}
+use Rattle.pl_base.proofs.MemoryLaws.{within_not, within_is, read_length, read_byte, filled-append}
 
 -- bytes that are those of a memory, one by one
 pub reads : (bytes : List ℕ) (m : Memory) (from size : ℕ) → length bytes ≡ size → ((k : ℕ) → k < size → get_or bytes k 0 ≡ unwrap_or (m (from + k)) 0) → bytes ≡ read m from size
@@ -23,8 +22,8 @@ read_same m n from size same = reads (read m from size) n from size (read_length
 pub read_far : (m : Memory) (start : ℕ) (bytes : List ℕ) (from size : ℕ) → (from + size ≤ start) ⊎ (start + length bytes ≤ from) → read (over start bytes m) from size ≡ read m from size
 read_far m start bytes from size far = read_same (over start bytes m) m from size (λ k lt. rw (outside k lt) refl)
   where
-  outside : (k : ℕ) → k < size → is_within start (length bytes) (from + k) ≡ false
-  outside k lt = within_not start (length bytes) (from + k) (elim far [ inl before ↦ inl (omega arith) | inr after ↦ inr (omega arith) ])
+    outside : (k : ℕ) → k < size → is_within start (length bytes) (from + k) ≡ false
+    outside k lt = within_not start (length bytes) (from + k) (elim far [ inl before ↦ inl (omega arith) | inr after ↦ inr (omega arith) ])
 
 -- ---- one byte after the other
 
@@ -62,6 +61,7 @@ laid_here now from start bytes before i at b long place lt byte are m is k withi
       let less : is_within start (i + 1) (from + k) ≡ is_within start i (from + k) = within_grows start i (from + k) (λ e. other (omega arith)) in
       rw less (old ∙ are m is k within)
 ]
+
 -- and one that does not
 pub laid_there : (now : List ℕ) (from start : ℕ) (bytes before : List ℕ) (i : ℕ) → (start + i < from) ⊎ (from + length before ≤ start + i)
     → IsLaid now from start bytes i before → IsLaid now from start bytes (i + 1) before
@@ -84,11 +84,11 @@ laid_more now new from start address bytes before i b long place byte here there
       rw is (long, laid_there now from start bytes before i (rw (place, long) at without) are)
 ]
   where
-  order : (from a n : ℕ) → ((from ≤ a) × (a < from + n)) ⊎ ((a < from) ⊎ (from + n ≤ a))
-  order from a n = elim (cases_lt a from) [
-    | inl before ↦ inr (inl before)
-    | inr after ↦ elim (cases_lt a (from + n)) [ inl within ↦ inl (after, within) | inr behind ↦ inr (inr behind) ]
-  ]
+    order : (from a n : ℕ) → ((from ≤ a) × (a < from + n)) ⊎ ((a < from) ⊎ (from + n ≤ a))
+    order from a n = elim (cases_lt a from) [
+      | inl before ↦ inr (inl before)
+      | inr after ↦ elim (cases_lt a (from + n)) [ inl within ↦ inl (after, within) | inr behind ↦ inr (inr behind) ]
+    ]
 
 -- ---- patches
 

@@ -1,15 +1,14 @@
 -- What acceptance tells of the rows of a scope.
-use Rattle.std.proofs.Common.{◌≡◌, ℕ, zero, suc, ◌+◌, ◌<◌, Bool, false, true, List, [], ◌∷◌, ◌++◌, length, map, get_or, Option, Some, None, Result, Ok, Err, refl, sym, ap, subst, ◌∙◌, arith, inl, inr}
+use Rattle.std.proofs.Common.{◌≡◌, ℕ, suc, ◌+◌, false, List, [], ◌∷◌, length, map, get_or, Some, Result, Ok, Err, refl, ap, subst, ◌∙◌, arith, inl, inr}
 use Rattle.std.specs.Prelude.{slice_get, ◌/◌, ◌*◌}
-use Rattle.std.specs.List.{All, AllZip, list_any, range_with_len}
+use Rattle.std.specs.List.{All, range_with_len}
 use Rattle.std.proofs.lemmas.List.Elements.{All-nil, All-append, All-map}
 use Rattle.std.proofs.lemmas.Bool.{cases_Bool}
 use Rattle.pl_elf.specs.Clauses as elf
-use Rattle.pl_elf.specs.declared.header.Header.{Header}
 use Rattle.pl_dyn.specs.declared.dynamic.Dynamic.{Dynamic}
 use Rattle.pl_sym.specs.declared.symbol.Symbol.{Symbol}
 use Rattle.pl_base.specs.Answers.{because}
-use Rattle.pl_object.specs.Accepted.{Accepted, is_program}
+use Rattle.pl_object.specs.Accepted.{is_program}
 use Rattle.pl_object.specs.FilePart.{loaded}
 use Rattle.pl_object.specs.PlaceClauses.{is_bad, is_misplaced_copy, misplaced_copy}
 use Rattle.pl_object.specs.Reads.{reads, headers, parts, static_program, static_object, dynamic, linked, linking, layout, check, checked, object, relocations, too_large}
@@ -23,7 +22,7 @@ use Rattle.pl_object.specs.declared.object.Object.{Object}
 use Rattle.pl_object.specs.declared.refusal.Refusal.{Refusal}
 use Rattle.pl_object.specs.declared.refusal.Refusal.TheVariants.{Clause}
 use Rattle.pl_object.specs.declared.reloc.Reloc.{Reloc}
-use Rattle.pl_object.proofs.AcceptedLaws.{accepted, bind_ok, because_ok}
+use Rattle.pl_object.proofs.AcceptedLaws.{accepted, bind_ok}
 use Rattle.pl_value.specs.Laws.{AreRead}
 use Rattle.pl_value.specs.Meanings.{Row, row, rows, rows_from}
 use Rattle.pl_value.proofs.LoneLaws.{none_at}
@@ -68,8 +67,8 @@ static_widths bytes f o e = elim (cases_Bool (too_large bytes)) [
   | inr miss ↦ subst HasWidths (ok_is (static_object f) o (rw miss at e)) (All-nil (HasWidth []))
 ]
   where
-  refused : ◌≡◌ {A = Result Object Refusal} (Err (Clause 30 0)) (Ok o) → ⊥
-  refused h = cc
+    refused : ◌≡◌ {A = Result Object Refusal} (Err (Clause 30 0)) (Ok o) → ⊥
+    refused h = cc
 
 pub widths : (bytes : List ℕ) (o : Object) → reads bytes ≡ Ok o → HasWidths o
 unfolding reads parts

@@ -19,7 +19,7 @@ use Rattle.pl_value.specs.declared.word.Word.TheVariants.{Copy, Nothing}
 unfoldable pub is_in_load : ℕ → ℕ → Segment → Bool
 is_in_load from size s = is_load s && nat_le s.vaddr from && nat_le (from + size) (s.vaddr + s.memsz)
 
--- bytes that do not lie in the memory of one PT_LOAD; no bytes are outside nowhere
+-- bytes that do not all lie in the memory of one PT_LOAD; of no bytes none is outside
 unfoldable pub is_outside : List Segment → ℕ → ℕ → Bool
 is_outside ss from size = not (size == 0) && not (list_any (is_in_load from size) ss)
 

@@ -1,5 +1,5 @@
 -- What holds of the meanings of an accepted scope at disjoint places.
-use Rattle.std.specs.Prelude.{◌≡◌, ◌≤◌, ℕ, Bool, true, false, not, List, length, Option, Some, None, Ok, slice_get}
+use Rattle.std.specs.Prelude.{◌≡◌, ◌≤◌, ℕ, Bool, true, false, not, List, Option, Some, None, Ok, slice_get}
 use Rattle.std.specs.List.{All, AllZip}
 use Rattle.pl_base.specs.Memory.{AtMostOne}
 use Rattle.pl_tls.specs.declared.module.Module.{Module}

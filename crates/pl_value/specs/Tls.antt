@@ -1,5 +1,5 @@
 -- Words of thread-local storage, variant II (Drepper, "ELF Handling for Thread-Local Storage", sections 3.4.6 and 4.4; x86-64 psABI, "Thread-Local Storage").
-use Rattle.std.specs.Prelude.{ℕ, ℤ, Bool, not, ◌&&◌, ◌||◌, ◌==◌, false, List, Option, Some, None, Result, Ok, Err, is_some, find, slice_get, if◌then◌else◌}
+use Rattle.std.specs.Prelude.{ℕ, Bool, not, ◌&&◌, ◌||◌, ◌==◌, false, List, Option, Some, None, Result, Ok, Err, is_some, find, slice_get, if◌then◌else◌}
 use Rattle.pl_base.specs.Answers.{unless}
 use Rattle.pl_base.specs.Sums.{minus}
 use Rattle.pl_sym.specs.Symbol.{is_tls}

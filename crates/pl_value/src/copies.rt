@@ -30,7 +30,7 @@ fn is_in_one(segments: &[Segment], from: u64, size: u64) -> bool
         .any(|segment| is_in_load(from, size, segment))
 }
 
-/// Whether bytes do not lie in the memory of one PT_LOAD. No bytes are outside nowhere.
+/// Whether bytes do not all lie in the memory of one PT_LOAD. Of no bytes none is outside.
 #[tactic(auto, unfolding(crate::specs::Copies::is_outside))]
 fn is_outside(segments: &[Segment], from: u64, size: u64) -> bool
     ensures { result ≡ spec.is_outside segments.now from size }

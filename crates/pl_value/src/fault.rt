@@ -1,7 +1,6 @@
 ghost use Rattle.std.specs.Prelude.{◌≡◌};
 ghost use Rattle.pl_value.specs.declared.fault.LinkFault.TheVariants as faults;
 
-use pl_io::NoMemory;
 use pl_scope::Reference;
 use std::alloc::{AllocError, AllocFailed};
 use thiserror::Error;
@@ -79,16 +78,6 @@ impl From<LinkFault> for OrdinaryFault {
 
     fn from(fault: LinkFault) -> OrdinaryFault {
         OrdinaryFault::Link(fault)
-    }
-}
-
-impl From<NoMemory> for OrdinaryFault {
-    ghost use Rattle.pl_value.specs.declared.fault.OrdinaryFault.TheVariants as whole;
-
-    ghost from_gives = { λ _ fault. fault ≡ whole.NoMemory };
-
-    fn from(_: NoMemory) -> OrdinaryFault {
-        OrdinaryFault::NoMemory
     }
 }
 

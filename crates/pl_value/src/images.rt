@@ -108,7 +108,7 @@ fn copies(
 
 /// The image from which a program starts: its objects at their places, then each relocation's word, then each copy from the bytes as they stand after all words; a byte of a link table is shown as 0 (System V gABI chapter 5, "Program Loading"; x86-64 psABI, "Relocation"). `parts` are the files of the members. Else the first link refusal in scope order, in an object those of DT_RELA before those of DT_JMPREL, or NoMemory.
 ///
-/// The conditions are those of `value` for every relocation, one part a member, and that the PT_LOADs have no address in common at the places and end there within the limit of addresses. For each copy all words are gone through once.
+/// The conditions are those of `value` for every relocation, one part a member, and that the PT_LOADs have no address in common at the places and end there within the limit of addresses. The time grows as the number of words for each copy.
 pub fn ordinary<'a>(
     alloc: Global,
     scope: &Scope<'a>,

@@ -5,5 +5,4 @@ ghost use Rattle.pl_value.specs.Laws.{WordsFit, PlacesAreApart};
 pub fn meanings_fit()
     ensures fit { WordsFit }
     ensures apart { PlacesAreApart }
-{
-}
+{}

@@ -1,54 +1,13 @@
 // Bytes of a memory in which words stand.
-ghost use Rattle.std.specs.Prelude.{◌≡◌, ◌≤◌, ◌<◌, ◌⊎◌, ◌+◌, ◌-◌, length, slice_set, IfOk, if◌then◌else◌, Some, None};
+ghost use Rattle.std.specs.Prelude.{◌≡◌, ◌≤◌, ◌<◌, ◌⊎◌, ◌+◌, ◌-◌, length, slice_set, IfOk};
 ghost use Rattle.std.specs.Bool.{OnFalse};
 ghost use Rattle.std.specs.Option.{unwrap_or};
 ghost use Rattle.pl_base.specs.Memory as spec;
 ghost use Rattle.pl_image.specs.Image.{all_pieces, AreLoaded};
 
 use pl_base::end;
-use pl_image::{Loaded, Patch, Piece};
+use pl_image::{Loaded, Patch, loaded_byte};
 use std::alloc::{AllocError, Global};
-
-/// The byte of a piece at an address, where the piece has it.
-fn piece_byte(piece: &Piece<'_>, address: u64) -> Option<u8>
-    ensures { result ≡ (if spec.lies address piece.now then Some (spec.byte_at address piece.now) else None) }
-{
-    if address < piece.start || address - piece.start >= piece.size {
-        return None;
-    }
-    let index = (address - piece.start) as usize;
-    if index < piece.bytes.len() {
-        Some(piece.bytes[index])
-    } else {
-        Some(0)
-    }
-}
-
-/// The byte that pieces load at an address. Of several over it the first counts.
-fn byte_of(pieces: &[Piece<'_>], address: u64) -> Option<u8>
-    ensures { result ≡ spec.layered pieces.now address }
-{
-    for piece in pieces {
-        let byte = piece_byte(piece, address);
-        if byte.is_some() {
-            return byte;
-        }
-    }
-    None
-}
-
-/// The byte that objects load at an address. Of several over it the first counts.
-fn loaded_byte(loaded: &[Loaded<'_>], address: u64) -> Option<u8>
-    ensures { result ≡ spec.layered (all_pieces loaded.now) address }
-{
-    for object in loaded {
-        let byte = byte_of(object.pieces.as_slice(), address);
-        if byte.is_some() {
-            return byte;
-        }
-    }
-    None
-}
 
 /// The byte that objects load at so many addresses after one, 0 where there is none.
 #[tactic(auto, using(crate::proofs::LoadedLaws::none_above))]

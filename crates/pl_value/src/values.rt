@@ -61,7 +61,7 @@ pub fn value_of(
 /// - `Undefined`: a symbol that is not weak has no definer, for the kinds 64, COPY, GLOB_DAT and JUMP_SLOT.
 /// - `UndefinedTls`: a symbol has no definer, for the kinds of thread-local storage, weak or not.
 /// - `TlsMismatch`: a kind of thread-local storage finds a symbol that is not of type TLS, or an object without PT_TLS; or another kind finds a symbol of type TLS.
-/// - `CopyOutside`: the definer of a COPY is absolute, or the bytes to be copied, from the definer's value on, are not in the memory of one PT_LOAD of its object as linked. No bytes are nowhere outside.
+/// - `CopyOutside`: the definer of a COPY is absolute, or the bytes to be copied, from the definer's value on, are not all in the memory of one PT_LOAD of its object as linked. Of no bytes none is outside.
 #[tactic(auto, unfolding(crate::specs::Values::value_at))]
 pub fn value(
     scope: &Scope<'_>,

@@ -1,12 +1,11 @@
-use Rattle.std.proofs.Common.{◌≡◌, ◌+◌, ◌<◌, ◌≤◌, true, Some, None, Ok, List, ℕ, sym, ap, subst, ◌∙◌, rules, arith}
+use Rattle.std.proofs.Common.{◌≡◌, true, Some, sym, ap, subst, ◌∙◌, rules, arith}
 use Rattle.pl_base.specs.Counts.{Rose}
 use Rattle.pl_base.specs.Files.{Files}
 use Rattle.pl_base.specs.Names.{is_valid_name}
 use Rattle.pl_folder.proofs.ReplaceLemmas.{IfErr-at}
 use Rattle.pl_scope.specs.Walking.{wants}
-use Rattle.pl_scope.specs.declared.constants.TheConstants.{MAX_MEMBERS}
 use Rattle.pl_loader.specs.Loading.{Loading}
-use Rattle.pl_loader.specs.Walk.{IsUnderWay, give}
+use Rattle.pl_loader.specs.Walk.{IsUnderWay}
 use Rattle.pl_loader.proofs.LoadLaws.{load_begins, load_goes_on, give_more, wanted_below}
 use Rattle.pl_cli.specs.Load.{cause_of, file_in, loaded}
 use Rattle.pl_cli.specs.Outcome.{Stops, of_load_fault}
@@ -51,7 +50,7 @@ loop-wanted-preserved g c =
     let inv = c.loop-wanted.invariant in
     record {
       under_way = λ told. load_goes_on cause_of (file_in files) c.args.name.now c.in-Some.wanted.now (Some c.in_ok-bytes.bytes.items) c.loop-wanted.loader c.give.new.self (sym c.in-Some.ensures.name)
-      (ap (λ (fs : Files). file_in fs c.in-Some.wanted.now) (sym (inv.same told)) ∙ c.in_ok-bytes.ensures.ok (inv.tells ∙ told)) c.in_ok-give.ensures.ok (inv.under_way told);
+          (ap (λ (fs : Files). file_in fs c.in-Some.wanted.now) (sym (inv.same told)) ∙ c.in_ok-bytes.ensures.ok (inv.tells ∙ told)) c.in_ok-give.ensures.ok (inv.under_way told);
       tells = c.in_ok-bytes.ensures.tells ∙ inv.tells;
       same = λ told. c.in_ok-bytes.ensures.same (inv.tells ∙ told) ∙ inv.same told;
       counts = let before = inv.counts in let here = c.in_ok-bytes.ensures.counts in omega arith;

@@ -1,8 +1,8 @@
-use Rattle.std.proofs.Common.{◌≡◌, List, ap, ◌∙◌, subst}
+use Rattle.std.proofs.Common.{◌≡◌, ap, ◌∙◌, subst}
 use Rattle.pl_base.specs.Streams.{got_after, GotPrefix}
 use Rattle.pl_base.proofs.ResultLaws.{OnErr-from}
 use Rattle.pl_image.specs.Image.{text_of}
-use Rattle.pl_cli.specs.LoadText.{head_text, end_text, load_text, start_of}
+use Rattle.pl_cli.specs.LoadText.{head_text, end_text, load_text}
 use Rattle.pl_cli.proofs.PartLemmas.{stopped_in_first, stopped_in_second, stopped_in_third, got_three}
 use Rattle.pl_cli.proofs.write.write_start.Goals as goal
 

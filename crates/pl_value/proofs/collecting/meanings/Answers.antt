@@ -1,11 +1,9 @@
-use Rattle.std.proofs.Common.{◌≡◌, ◌<◌, length, List, arith, sym, ap, subst, map, Ok, Result, ◌∙◌}
-use Rattle.std.specs.Prelude.{MatchBool, ⊤}
+use Rattle.std.proofs.Common.{◌<◌, length, arith, ap}
 use Rattle.std.proofs.lemmas.Result.{err_from_is_err_and}
 use Rattle.pl_base.specs.Answers.{because}
 use Rattle.pl_base.specs.Each.{each}
-use Rattle.pl_object.specs.declared.reloc.Reloc.{Reloc}
 use Rattle.pl_scope.specs.Scope.{objects}
-use Rattle.pl_value.specs.Meanings.{meaning, meanings, row, rows, behind}
+use Rattle.pl_value.specs.Meanings.{meaning, meanings, rows}
 use Rattle.pl_value.specs.declared.fault.OrdinaryFault.TheVariants.{Link}
 use Rattle.pl_value.proofs.CollectingLaws.{behind_nothing, member_more, member_stops, members_done}
 use Rattle.pl_value.proofs.collecting.meanings.Goals as goal

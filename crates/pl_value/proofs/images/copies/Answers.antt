@@ -1,4 +1,4 @@
-use Rattle.std.proofs.Common.{◌≡◌, ◌<◌, ◌++◌, length, ap, sym, ◌∙◌, Vec, Global}
+use Rattle.std.proofs.Common.{ap, sym, ◌∙◌, Vec, Global}
 use Rattle.std.proofs.lemmas.List.{append-nil}
 use Rattle.pl_base.specs.Memory.{Fill}
 use Rattle.pl_base.specs.Memory.{layered, filled}

@@ -1,14 +1,13 @@
-use Rattle.std.proofs.Common.{◌≡◌, ◌+◌, ◌<◌, ◌≤◌, true, length, map, get_or, [], List, ℕ, Bor, refl, sym, ap, ◌∙◌, arith, subst}
+use Rattle.std.proofs.Common.{◌≡◌, ◌+◌, ◌<◌, ◌≤◌, true, length, map, get_or, [], List, ℕ, Bor, sym, ap, ◌∙◌, arith, subst}
 use Rattle.std.specs.List.{All}
 use Rattle.std.proofs.lemmas.List.{get_or-map, length-map}
-use Rattle.std.proofs.lemmas.List.Elements.{All-nil, All-push, All-same}
+use Rattle.std.proofs.lemmas.List.Elements.{All-push, All-same}
 use Rattle.pl_base.specs.Memory.{AtMostOne, lies}
 use Rattle.pl_elf.specs.declared.constants.TheConstants.{ADDRESS_LIMIT}
 use Rattle.pl_image.specs.Image.{all_pieces, ascends}
 use Rattle.pl_image.specs.Loads.{loaded_at}
 use Rattle.pl_image.specs.declared.loaded.Loaded.{Loaded}
 use Rattle.pl_object.specs.declared.object.Object.{Object}
-use Rattle.pl_scope.specs.Scope.{objects}
 use Rattle.pl_value.specs.Ordinary.{part_of}
 use Rattle.pl_value.proofs.OrdinaryLaws.{placed_at, loaded_step, loaded_whole}
 use Rattle.pl_value.proofs.images.load.Goals as goal

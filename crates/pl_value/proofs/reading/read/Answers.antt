@@ -1,4 +1,4 @@
-use Rattle.std.proofs.Common.{◌≡◌, Vec, Global, ℕ, ap, ◌∙◌, arith}
+use Rattle.std.proofs.Common.{Vec, Global, ℕ, ap, ◌∙◌, arith}
 use Rattle.std.proofs.lemmas.List.{with_items_is}
 use Rattle.pl_base.specs.Memory.{filled, layered}
 use Rattle.pl_image.specs.Image.{all_pieces}
