@@ -10,6 +10,8 @@ mod matching;
 mod member;
 mod order;
 mod reference;
+#[cfg(test)]
+mod samples;
 mod scope;
 #[cfg(test)]
 mod tests;
