@@ -1,9 +1,10 @@
-"""Compares the text of `--load` in the file `image` with the memory of the program under this machine's own loader. gdb runs this in
-the folder of the program and its libraries, with the program as its file.
+"""Compares the text of `--load` in the file `image` with the memory of the program under this machine's own loader. gdb runs this
+in the folder of the program and its libraries, with the program as its file.
 
 Both place the libraries at addresses of their own. So a word is the same where it has the same value, or where the one value is an
 address of an object as prelink placed it, and the other is the address of the same byte of that object as the loader placed it.
-Bytes of link tables count as 0, as prelink prints them.
+Bytes of link tables count as 0, as prelink prints them. LD_BIND_NOW has the loader bind each jump slot before the entry, as prelink
+does; else it would leave them for later, with two words of its own in each global offset table.
 """
 
 import os
