@@ -372,7 +372,7 @@ fn walks(rt: HostRuntime) -> Result<(), Fail> {
             ("libx", Kind::Library, ""),
             ("liby", Kind::Library, ""),
             ("libz", Kind::Library, "liby libx"),
-            ("c", Kind::Program, "libm"),
+            ("c", Kind::Program, "libm c"),
             ("libm", Kind::Library, "libn libm"),
             ("libn", Kind::Library, "libm libn"),
             ("st", Kind::Static, ""),
