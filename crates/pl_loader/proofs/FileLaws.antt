@@ -1,5 +1,5 @@
 -- What is known of the files that were given to a load.
-use Rattle.std.proofs.Common.{◌≡◌, ℕ, ◌+◌, ◌<◌, ◌≤◌, ◌^◌, ◌-◌, Bool, true, false, not, ◌||◌, List, [], ◌∷◌, length, map, take, drop, Ok, refl, sym, ap, ◌∙◌, subst, arith, get_or}
+use Rattle.std.proofs.Common.{◌≡◌, ℕ, ◌+◌, ◌<◌, ◌≤◌, ◌-◌, false, not, ◌||◌, List, [], ◌∷◌, length, map, take, drop, refl, sym, ap, ◌∙◌, subst, arith, get_or}
 use Rattle.std.specs.Prelude.{nat_le}
 use Rattle.std.specs.List.{All, AllZip, list_any}
 use Rattle.std.proofs.lemmas.Bool.{or_parts, leb-false}
@@ -7,22 +7,20 @@ use Rattle.std.proofs.lemmas.List.{length-map, take_all}
 use Rattle.std.proofs.lemmas.List.Elements.{All-nil, All-cons, All-head, All-tail, All-map, All-weaker}
 use Rattle.pl_elf.specs.Headers.{loads}
 use Rattle.pl_elf.specs.declared.constants.TheConstants.{ADDRESS_LIMIT}
-use Rattle.pl_object.specs.Reads.{reads}
 use Rattle.pl_object.specs.PlaceClauses.{is_bad, is_known}
 use Rattle.pl_object.specs.declared.object.Object.{Object}
 use Rattle.pl_object.specs.declared.reloc.Reloc.{Reloc}
 use Rattle.pl_object.proofs.AcceptedLaws.{accepted}
 use Rattle.pl_place.specs.Placing.{IsWish}
-use Rattle.pl_scope.specs.Kinds.{is_library}
-use Rattle.pl_scope.specs.Scope.{objects, HasFewSymbols, IsScope}
+use Rattle.pl_scope.specs.Scope.{objects, HasFewSymbols}
 use Rattle.pl_scope.specs.declared.constants.TheConstants.{MAX_MEMBERS}
 use Rattle.pl_scope.specs.declared.member.Member.{Member}
 use Rattle.pl_value.specs.Linkable.{RefersToSymbols, IsLinkable}
 use Rattle.pl_value.specs.Ordinary.{ArePlaced}
-use Rattle.pl_loader.specs.Loading.{objects_of, parts_of, IsRead, IsLibrary, AreFiles}
+use Rattle.pl_loader.specs.Loading.{objects_of, parts_of, IsRead, AreFiles}
 use Rattle.pl_loader.specs.Places.{region, taken, wish_of, IsAt, IsFree}
 use Rattle.pl_loader.specs.declared.object_file.ObjectFile.{ObjectFile}
-use Rattle.pl_loader.proofs.SpanLaws.{Ends, IsSpanned, spanned}
+use Rattle.pl_loader.proofs.SpanLaws.{spanned}
 use Rattle.pl_loader.proofs.ApartLaws.{IsSpannedFile, HasSpan, all_at, are_placed}
 
 -- ---- the addresses that they take

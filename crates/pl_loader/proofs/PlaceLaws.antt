@@ -1,17 +1,16 @@
 -- The places of libraries are those that pl_place gives: each is the lowest of all aligned addresses that fit.
-use Rattle.std.proofs.Common.{◌≡◌, ℕ, ◌+◌, ◌<◌, ◌≤◌, Bool, true, false, List, [], ◌∷◌, Option, Some, None, Result, Ok, Err, refl, sym, ap, ◌∙◌, subst, arith, length, inl, inr}
-use Rattle.std.specs.Prelude.{fold, nat_lt, IfSome, IfNone, IfOk, IfErr, MatchBool, ⊤, ◌⊎◌}
+use Rattle.std.proofs.Common.{◌≡◌, ℕ, ◌<◌, List, [], ◌∷◌, Option, Some, None, Ok, Err, refl, ap, subst, arith, length, inl, inr}
+use Rattle.std.specs.Prelude.{fold, nat_lt, IfSome, IfNone}
 use Rattle.std.specs.List.{All}
 use Rattle.std.proofs.lemmas.Bool.{cases_Bool, ltb-true}
 use Rattle.std.proofs.lemmas.List.Elements.{All-head, All-tail}
-use Rattle.pl_base.specs.Answers.{◌>>=◌, Answers}
+use Rattle.pl_base.specs.Answers.{Answers}
 use Rattle.pl_elf.specs.declared.range.Range.{Range}
 use Rattle.pl_slots.specs.Holes.{region_holes, without, lowest, AreHoles, IsPlace, IsLowest}
 use Rattle.pl_slots.proofs.HoleLaws.{region_are_holes, without_are_holes}
 use Rattle.pl_slots.proofs.LowestLaws.{lowest_is, lowest_none}
 use Rattle.pl_place.specs.Left.{beside, left}
-use Rattle.pl_place.specs.Policy.{IsAsked}
-use Rattle.pl_place.specs.Placing.{Chose, range_of, InTurn, ArePlaced, StopsAt, Because, IsFault, IsWish, Lowest}
+use Rattle.pl_place.specs.Placing.{Chose, range_of, InTurn, ArePlaced, StopsAt, IsFault, IsWish, Lowest}
 use Rattle.pl_place.specs.declared.wish.Wish.{Wish}
 use Rattle.pl_place.specs.declared.fault.PlaceFault.{PlaceFault}
 use Rattle.pl_place.specs.declared.fault.PlaceFault.TheVariants as place
@@ -19,7 +18,6 @@ use Rattle.pl_place.proofs.PolicyLaws.{align_some}
 use Rattle.pl_place.proofs.PlacedLaws.{all_fit, fit_free, all_apart}
 use Rattle.pl_loader.specs.Faults.{is_memory, of_place}
 use Rattle.pl_loader.specs.Places.{region, lowest_places, IsFree}
-use Rattle.pl_loader.specs.declared.fault.LoadFault.{LoadFault}
 use Rattle.pl_loader.specs.declared.fault.LoadFault.TheVariants.{NoPlace}
 
 -- ---- holes

@@ -1,11 +1,11 @@
 -- What acceptance says of the addresses that an object takes.
-use Rattle.std.proofs.Common.{◌≡◌, ℕ, ◌+◌, ◌-◌, ◌<◌, ◌≤◌, Bool, true, false, not, ◌||◌, ◌&&◌, List, [], ◌∷◌, Option, Some, None, Result, Ok, Err, refl, sym, ap, ◌∙◌, subst, arith, cond, inl, inr, lit<}
+use Rattle.std.proofs.Common.{◌≡◌, ℕ, ◌+◌, ◌<◌, ◌≤◌, Bool, true, false, not, ◌||◌, List, [], ◌∷◌, Option, Some, None, Ok, Err, refl, sym, subst, arith, inl, inr, lit<}
 use Rattle.std.specs.Prelude.{fold, max, find, nat_lt, ◌==◌, ◌⊎◌, if◌then◌else◌}
 use Rattle.std.specs.List.{All, list_any}
 use Rattle.std.specs.Int.{is_power_of_two}
 use Rattle.std.proofs.lemmas.Bool.{cases_Bool, cases_lt, or_parts, and_parts, ltb-false, leb-true, eqb-true, false≢true}
 use Rattle.std.proofs.lemmas.List.Elements.{All-nil, All-cons, All-head, All-tail, All-weaker}
-use Rattle.pl_base.specs.Answers.{◌>>=◌, because, unless, refuse}
+use Rattle.pl_base.specs.Answers.{because}
 use Rattle.pl_base.specs.Sums.{round_up}
 use Rattle.pl_base.specs.Windows.{Window}
 use Rattle.pl_base.proofs.SumLaws.{round_up-at_least}
@@ -13,14 +13,12 @@ use Rattle.pl_elf.specs.Headers.{is_load, loads}
 use Rattle.pl_elf.specs.Clauses.{AreLoads, ascend_from, bad_load, bad_align, not_congruent}
 use Rattle.pl_elf.specs.Clauses as elf
 use Rattle.pl_elf.specs.declared.constants.TheConstants.{ADDRESS_LIMIT, MAX_LOAD_ALIGN}
-use Rattle.pl_elf.specs.declared.header.Header.{Header}
 use Rattle.pl_elf.specs.declared.segment.Segment.{Segment}
 use Rattle.pl_dyn.specs.Entries.{entries, null_count, is_ended}
 use Rattle.pl_dyn.specs.Read as dyn
 use Rattle.pl_dyn.specs.declared.dynamic.Dynamic.{Dynamic}
-use Rattle.pl_dyn.specs.declared.fault.DynFault.{DynFault}
 use Rattle.pl_dyn.specs.declared.fault.DynFault.TheVariants as dyn_fault
-use Rattle.pl_object.specs.FilePart.{loads_byte, loader, loaded_by, file_window, in_file_part, loaded}
+use Rattle.pl_object.specs.FilePart.{loads_byte, loader, file_window, in_file_part, loaded}
 use Rattle.pl_object.specs.PlaceClauses.{last_load}
 use Rattle.pl_object.specs.TableClauses.{check_tables}
 use Rattle.pl_object.specs.Tables.{dynamic_range}
@@ -29,7 +27,6 @@ use Rattle.pl_object.specs.Refusals.{of_header, of_dynamic}
 use Rattle.pl_object.specs.declared.constants.TheConstants.{PAGE}
 use Rattle.pl_object.specs.declared.headers.Headers.{Headers}
 use Rattle.pl_object.specs.declared.object.Object.{Object}
-use Rattle.pl_object.specs.declared.refusal.Refusal.{Refusal}
 use Rattle.pl_object.specs.declared.refusal.Refusal.TheVariants.{Clause}
 use Rattle.pl_object.proofs.AcceptedLaws.{bind_ok, because_ok, accepted}
 use Rattle.pl_object.proofs.FilePartLaws.{loads_parts, find_passes}

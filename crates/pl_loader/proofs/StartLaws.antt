@@ -1,5 +1,5 @@
 -- The image and the start that the definitions mean.
-use Rattle.std.proofs.Common.{◌≡◌, ℕ, List, [], length, map, Option, Result, Ok, Err, refl, ap}
+use Rattle.std.proofs.Common.{◌≡◌, ℕ, List, map, Result, Ok, Err, refl, ap}
 use Rattle.pl_base.specs.Answers.{because}
 use Rattle.pl_base.specs.Memory.{Memory}
 use Rattle.pl_tls.specs.Layout.{offsets}
@@ -10,7 +10,7 @@ use Rattle.pl_value.specs.declared.fault.LinkFault.{LinkFault}
 use Rattle.pl_loader.specs.Faults.{of_tls}
 use Rattle.pl_loader.specs.Loading.{objects_of, parts_of}
 use Rattle.pl_loader.specs.Places.{places}
-use Rattle.pl_loader.specs.Started.{all_placed, blocks, tls_module, entry_of, of_link, linked, IsImage, IsLinked, start, started, Starts}
+use Rattle.pl_loader.specs.Started.{all_placed, blocks, tls_module, entry_of, of_link, linked, IsLinked, start, started, Starts}
 use Rattle.pl_loader.specs.declared.object_file.ObjectFile.{ObjectFile}
 use Rattle.pl_loader.specs.declared.started.Started as code
 

@@ -1,7 +1,7 @@
 -- A whole load, as whoever takes the files from a folder follows it: after each file the load is under way, and its end or its first fault is what the definition means.
-use Rattle.std.proofs.Common.{◌≡◌, ℕ, Bool, true, false, List, Option, Some, None, Result, Ok, Err, refl, sym, ap, ◌∙◌}
+use Rattle.std.proofs.Common.{◌≡◌, ℕ, true, false, List, Option, Some, None, Result, Ok, Err, refl, ap, ◌∙◌}
 use Rattle.std.specs.Prelude.{MatchBool, ⊤}
-use Rattle.pl_base.specs.Answers.{◌>>=◌, because, Answers}
+use Rattle.pl_base.specs.Answers.{because}
 use Rattle.pl_scope.specs.Walking.{wants}
 use Rattle.pl_loader.specs.Faults.{is_memory}
 use Rattle.pl_loader.specs.Loading.{Loading}

@@ -1,6 +1,5 @@
 -- What a load starts from: the objects at their addresses, the modules of thread-local storage, the entry and the memory (System V gABI, chapter 5; Drepper, "ELF Handling for Thread-Local Storage").
-use Rattle.std.specs.Prelude.{◌≡◌, ℕ, ◌+◌, List, [], ◌∷◌, map, fold, min, max, Option, Some, None, Result, Ok, Err, slice_get, ◌==◌, if◌then◌else◌}
-use Rattle.std.specs.Option.{option_map, option_map_or}
+use Rattle.std.specs.Prelude.{◌≡◌, ℕ, ◌+◌, List, [], ◌∷◌, map, fold, min, max, Option, Some, None, Result, Ok, slice_get, ◌==◌, if◌then◌else◌}
 use Rattle.std.specs.List.{zip}
 use Rattle.pl_base.specs.Answers.{◌>>=◌, because}
 use Rattle.pl_base.specs.Memory.{Memory}

@@ -1,4 +1,4 @@
-use Rattle.std.proofs.Common.{◌≡◌, ◌+◌, length, arith, rules, refl}
+use Rattle.std.proofs.Common.{length, rules, refl}
 use Rattle.std.proofs.lemmas.List.{length_push}
 use Rattle.std.proofs.lemmas.Slice.Zip.{zip_turn, zip_end}
 use Rattle.pl_loader.proofs.BoundsLaws.{at_turn, placed_more, placed_done}

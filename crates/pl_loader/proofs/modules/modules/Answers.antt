@@ -1,4 +1,4 @@
-use Rattle.std.proofs.Common.{◌≡◌, length, arith}
+use Rattle.std.proofs.Common.{arith}
 use Rattle.std.proofs.lemmas.List.{length-map}
 use Rattle.pl_loader.specs.Started.{block_of}
 use Rattle.pl_loader.proofs.modules.modules.Goals as goal

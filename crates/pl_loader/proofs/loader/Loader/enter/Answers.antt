@@ -1,6 +1,5 @@
-use Rattle.std.proofs.Common.{◌≡◌, List, [], ◌∷◌, ◌++◌, Some, Ok, refl, ap, ◌∙◌}
+use Rattle.std.proofs.Common.{◌≡◌, [], ◌∷◌, ◌++◌, Some, refl, ap, ◌∙◌}
 use Rattle.pl_scope.specs.Walking.{wants}
-use Rattle.pl_scope.specs.Walk as walk
 use Rattle.pl_scope.proofs.WalkLaws.{give_given}
 use Rattle.pl_loader.specs.Loading.{Loading}
 use Rattle.pl_loader.proofs.StepLaws.{loading_more}

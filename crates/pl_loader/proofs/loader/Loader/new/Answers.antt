@@ -1,4 +1,4 @@
-use Rattle.std.proofs.Common.{◌≡◌, ℕ, List, sym, subst, refl}
+use Rattle.std.proofs.Common.{◌≡◌, sym, subst, refl}
 use Rattle.pl_loader.specs.Loading.{Loading}
 use Rattle.pl_loader.specs.Walk.{begun, itself, IsUnderWay}
 use Rattle.pl_loader.proofs.LoadLaws.{load_begins}
