@@ -6,6 +6,8 @@ mod dynamic_file;
 #[cfg(test)]
 mod generated;
 #[cfg(test)]
+mod linking;
+#[cfg(test)]
 mod loading;
 #[cfg(test)]
 mod making;
