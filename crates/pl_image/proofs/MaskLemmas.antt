@@ -1,11 +1,13 @@
 -- The addresses at which file bytes of tables are loaded.
-use Rattle.std.proofs.Common.{◌≡◌, ℕ, ◌+◌, ◌-◌, ◌<◌, ◌≤◌, min, Bool, true, false, List, [], ◌∷◌, ◌++◌, refl, sym, ap, ◌∙◌, arith}
+use Rattle.std.proofs.Common.{◌≡◌, ℕ, ◌+◌, ◌-◌, ◌<◌, ◌≤◌, min, Bool, true, false, List, [], ◌∷◌, ◌++◌, refl, sym, ap, ◌∙◌, arith, inl, inr}
 use Rattle.std.specs.Prelude.{◌&&◌, ◌||◌, nat_le, nat_lt, map}
 use Rattle.std.specs.List.{list_any}
+use Rattle.std.proofs.lemmas.Bool.{cases_Bool}
 use Rattle.std.proofs.lemmas.Bool.Decides.{nat_tests}
 use Rattle.std.proofs.lemmas.List.Folds.{list_any-append}
 use Rattle.pl_base.specs.Memory.{is_within}
 use Rattle.pl_base.specs.Windows.{holds}
+use Rattle.pl_base.proofs.MemoryLaws.{within_true}
 use Rattle.pl_elf.specs.declared.range.Range.{Range}
 use Rattle.pl_object.specs.Accepted.{window_of}
 use Rattle.pl_image.specs.declared.mask.Load.{Load}
@@ -65,6 +67,20 @@ tables_of a load [] = and_none (is_within load.start load.size a)
 tables_of a load (r ∷ rs) =
     ap (λ (b : Bool). loads_table a load r || b) (tables_of a load rs)
     ∙ and_or (is_within load.start load.size a) (has (load.offset + (a - load.start)) r) (list_any (has (load.offset + (a - load.start))) rs)
+
+near_by : (start offset size a : ℕ) → is_within start size a ≡ true → offset + (a - start) < offset + size
+near_by start offset size a hit = let within = within_true start size a hit in omega (arith, within.0, within.1)
+
+-- the tables near a part of a file
+pub near_tables : (a : ℕ) (load : Load) (near tables : List Range) → ((k : ℕ) → load.offset ≤ k → k < load.offset + load.size → list_any (has k) near ≡ list_any (has k) tables)
+    → list_any (loads_table a load) near ≡ list_any (loads_table a load) tables
+near_tables a load near tables same =
+    tables_of a load near
+    ∙ elim (cases_Bool (is_within load.start load.size a)) [
+      | inr out ↦ rw out refl
+      | inl hit ↦ rw hit (same (load.offset + (a - load.start)) (omega arith) (near_by load.start load.offset load.size a hit))
+    ]
+    ∙ sym (tables_of a load tables)
 
 -- other tables with the same bytes
 pub same_tables : (a : ℕ) (load : Load) (tables kept : List Range) → ((k : ℕ) → list_any (has k) kept ≡ list_any (has k) tables)

@@ -1,11 +1,13 @@
 -- Ranges that rise, and ranges that are made so.
-use Rattle.std.proofs.Common.{◌≡◌, ℕ, zero, suc, ◌-◌, ◌<◌, ◌≤◌, max, Bool, true, false, List, [], ◌∷◌, length, get_or, refl, sym, ap, ◌∙◌, arith, inl, inr}
+use Rattle.std.proofs.Common.{◌≡◌, ℕ, zero, suc, ◌+◌, ◌-◌, ◌<◌, ◌≤◌, max, Bool, true, false, List, [], ◌∷◌, length, get_or, take, drop, refl, sym, ap, ◌∙◌, arith, inl, inr}
 use Rattle.std.specs.Prelude.{◌&&◌, ◌||◌, nat_le, nat_lt}
 use Rattle.std.specs.List.{list_any}
 use Rattle.std.specs.List.Sorted.{IsNonDecreasingBy, IsPartitionedBy, IsPartitionPoint, IsPermutation}
 use Rattle.std.proofs.lemmas.Bool.{and_parts, cases_Bool, cases_order, false≢true}
 use Rattle.std.proofs.lemmas.Bool.Decides.{nat_tests}
-use Rattle.std.proofs.lemmas.List.Sorted.{list_any-IsPermutation}
+use Rattle.std.proofs.lemmas.List.{length-take, length-drop, get_or-take, get_or-drop, take-append-drop}
+use Rattle.std.proofs.lemmas.List.Folds.{list_any-append}
+use Rattle.std.proofs.lemmas.List.Sorted.{list_any-IsPermutation, IsPartitionedBy-leb, IsPartitionedBy-ltb, IsNonDecreasingBy-drop}
 use Rattle.pl_elf.specs.declared.range.Range.{Range}
 use Rattle.pl_image.specs.Lines.{has}
 use Rattle.pl_image.specs.Index.{rises, merged}
@@ -45,6 +47,11 @@ ends_before from (r ∷ rs) zero (suc j) d h lt within =
     (omega arith, next)
 ends_before from (r ∷ rs) (suc i) (suc j) d h lt within = ends_before r.end rs i j d (rises_parts from r rs h).rest (omega arith) (omega arith)
 
+whole_range : (from : ℕ) (rs : List Range) (i : ℕ) (d : Range) → rises from rs ≡ true → i < length rs → (get_or rs i d).start ≤ (get_or rs i d).end
+whole_range from [] i d h lt = absurd (omega arith)
+whole_range from (r ∷ rs) zero d h lt = (rises_parts from r rs h).whole
+whole_range from (r ∷ rs) (suc i) d h lt = whole_range r.end rs i d (rises_parts from r rs h).rest (omega arith)
+
 -- the ranges that begin at or before an address are the first ones
 pub begun_first : (rs : List Range) (a : ℕ) → rises 0 rs ≡ true → IsPartitionedBy (λ r. nat_le r.start a) rs
 begun_first rs a h = λ i j d le within hit. elim (cases_order i j) [
@@ -72,6 +79,60 @@ module _ (rs : List Range) (a i : ℕ) (h : rises 0 rs ≡ true) (point : IsPart
       grind (arith, nat_tests))
       (λ k d more within. later_miss k d (omega arith) within)
       ∙ rw begun refl
+
+-- ---- ranges near addresses
+
+starts_rise : (rs : List Range) → rises 0 rs ≡ true → IsNonDecreasingBy (λ r. r.start) rs
+starts_rise rs h = λ i j d le within. elim (cases_order i j) [
+  | inl same ↦ rw same (omega arith)
+  | inr other ↦ elim other [
+    | inl less ↦ let before = (ends_before 0 rs i j d h less within).0 in omega arith
+    | inr more ↦ absurd (omega arith)
+  ]
+]
+
+ends_rise : (rs : List Range) → rises 0 rs ≡ true → IsNonDecreasingBy (λ r. r.end) rs
+ends_rise rs h = λ i j d le within. elim (cases_order i j) [
+  | inl same ↦ rw same (omega arith)
+  | inr other ↦ elim other [
+    | inl less ↦
+        let before = (ends_before 0 rs i j d h less within).1 in
+        let whole = whole_range 0 rs j d h within in
+        omega arith
+    | inr more ↦ absurd (omega arith)
+  ]
+]
+
+-- the ranges that end at or before an address are the first ones
+pub ended_first : (rs : List Range) (from : ℕ) → rises 0 rs ≡ true → IsPartitionedBy (λ r. nat_le r.end from) rs
+ended_first rs from h = IsPartitionedBy-leb (λ r. r.end) rs from (ends_rise rs h)
+
+-- of the others those that start before an address are the first ones
+pub started_first : (rs : List Range) (i limit : ℕ) → rises 0 rs ≡ true → IsPartitionedBy (λ r. nat_lt r.start limit) (drop i rs)
+started_first rs i limit h = IsPartitionedBy-ltb (λ r. r.start) (drop i rs) limit (IsNonDecreasingBy-drop (λ r. r.start) i rs (starts_rise rs h))
+
+pub near_has : (rs rest near : List Range) (from size i j a : ℕ) → rest ≡ drop i rs → near ≡ take j rest → from ≤ a → a < from + size
+    → IsPartitionPoint (λ r. nat_le r.end from ≡ true) (λ r. nat_le r.end from ≡ false) rs i
+    → IsPartitionPoint (λ r. nat_lt r.start (from + size) ≡ true) (λ r. nat_lt r.start (from + size) ≡ false) rest j
+    → list_any (has a) near ≡ list_any (has a) rs
+near_has rs rest near from size i j a rest_is near_is low high first last =
+    let front : list_any (has a) (take i rs) ≡ false = any_none (has a) (take i rs) (λ k d lt.
+    let less : k < i = omega (arith, lt, length-take i rs) in
+    let ended = first.0 k d (omega arith) less in
+    rw (get_or-take i rs k d less) (let out : has a (get_or rs k d) ≡ false = grind (arith, nat_tests) in out)) in
+    let back : list_any (has a) (drop j rest) ≡ false = any_none (has a) (drop j rest) (λ k d lt.
+    let within : j + k < length rest = omega (arith, lt, length-drop j rest) in
+    let late = last.1 (j + k) d (omega arith) within in
+    rw (get_or-drop j rest k d) (let out : has a (get_or rest (j + k) d) ≡ false = grind (arith, nat_tests) in out)) in
+    let rest_has : list_any (has a) rest ≡ list_any (has a) near =
+    ap (list_any (has a)) (sym (take-append-drop j rest)) ∙ list_any-append (has a) (take j rest) (drop j rest) ∙ rw back (or_none (list_any (has a) (take j rest))) ∙ ap (list_any (has a)) (sym near_is) in
+    let all_has : list_any (has a) rs ≡ list_any (has a) rest =
+    ap (list_any (has a)) (sym (take-append-drop i rs)) ∙ list_any-append (has a) (take i rs) (drop i rs) ∙ rw front (ap (list_any (has a)) (sym rest_is)) in
+    sym (all_has ∙ rest_has)
+  where
+    or_none : (b : Bool) → (b || false) ≡ b
+    or_none true = refl
+    or_none false = refl
 
 -- ---- ranges that are made to rise
 

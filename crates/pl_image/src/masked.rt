@@ -8,7 +8,7 @@ ghost use Rattle.pl_image.specs.Loads.{is_masked};
 ghost use Rattle.pl_image.specs.Masked as spec;
 ghost use Rattle.pl_image.specs.Lines.{has};
 
-use crate::ranges::apart;
+use crate::ranges::{apart, near};
 use crate::{Load, Loaded, Mask};
 use pl_elf::Range;
 use std::alloc::{AllocError, Global};
@@ -31,10 +31,12 @@ fn add_table(ranges: &mut Vec<Range>, load: &Load, table: &Range) -> Result<(), 
 
 /// Adds the addresses at which bytes of tables are loaded.
 fn add_load(ranges: &mut Vec<Range>, load: &Load, tables: &[Range]) -> Result<(), AllocError>
-    requires { load.now.start + load.now.size ≤ ADDRESS_LIMIT }
+    requires fits { load.now.start + load.now.size ≤ ADDRESS_LIMIT }
+    requires rising { rises 0 tables.now ≡ true }
     ensures { OnOk result ((a : ℕ) → list_any (has a) ranges.new.items ≡ (list_any (has a) ranges.old.items || list_any (spec.loads_table a load.now) tables.now)) }
 {
-    for table in tables {
+    let near = near(tables, load.offset, load.size);
+    for table in near {
         add_table(ranges, load, table)?;
     }
     Ok(())
@@ -42,7 +44,8 @@ fn add_load(ranges: &mut Vec<Range>, load: &Load, tables: &[Range]) -> Result<()
 
 /// Adds the addresses at which bytes of tables are loaded, of all parts of a file.
 fn add_loads(ranges: &mut Vec<Range>, loads: &[Load], tables: &[Range]) -> Result<(), AllocError>
-    requires { All (λ l. l.start + l.size ≤ ADDRESS_LIMIT) loads.now }
+    requires fit { All (λ l. l.start + l.size ≤ ADDRESS_LIMIT) loads.now }
+    requires rising { rises 0 tables.now ≡ true }
     ensures { OnOk result ((a : ℕ) → list_any (has a) ranges.new.items ≡ (list_any (has a) ranges.old.items || list_any (λ l. list_any (spec.loads_table a l) tables.now) loads.now)) }
 {
     for load in loads {

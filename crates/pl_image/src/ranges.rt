@@ -1,10 +1,11 @@
 // Ranges of addresses.
-ghost use Rattle.std.specs.Prelude.{◌≡◌, ℕ, true, IfOk};
+ghost use Rattle.std.specs.Prelude.{◌≡◌, ℕ, ◌+◌, ◌≤◌, ◌<◌, nat_lt, true, IfOk};
 ghost use Rattle.std.specs.List.{list_any};
 ghost use Rattle.std.specs.List.Sorted.{IsNonDecreasingBy, IsPermutation};
 ghost use Rattle.pl_image.specs.Index as spec;
 ghost use Rattle.pl_image.specs.Lines.{has};
 
+use pl_base::end;
 use pl_elf::Range;
 use std::alloc::{AllocError, Global};
 
@@ -43,6 +44,24 @@ fn merged(alloc: Global, ranges: &[Range]) -> Result<Vec<Range>, AllocError>
         }
     }
     Ok(kept)
+}
+
+/// Whether a range starts before the end of so many addresses.
+fn starts_before(range: &Range, from: u64, size: u64) -> bool
+    ensures { result ≡ nat_lt range.now.start (from + size) }
+{
+    u128::from(range.start) < end(from, size)
+}
+
+/// The ranges, of some that rise, that may have one of so many addresses.
+pub fn near(ranges: &[Range], from: u64, size: u64) -> &[Range]
+    requires { spec.rises 0 ranges.now ≡ true }
+    ensures { (a : ℕ) → from ≤ a → a < from + size → list_any (has a) result.now ≡ list_any (has a) ranges.now }
+{
+    let first = ranges.partition_point(|range| range.end <= from);
+    let rest = &ranges[first..];
+    let count = rest.partition_point(|range| starts_before(range, from, size));
+    &rest[..count]
 }
 
 /// Whether one of the ranges, which rise, has an address.

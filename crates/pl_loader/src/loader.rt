@@ -110,17 +110,13 @@ impl Loader {
         Ok(())
     }
 
-    /// Gives the wanted name its file, fewer than 2^32 bytes, or tells that there is none. The names that its object needs are wanted in their order, each once.
-    ///
-    /// The first cause counts, in this order: `NotThere` where there is no file; `Refused` where an acceptance clause refuses it; `NotProgram` where it is the first file, and a library; `NeededIsProgram` where it is a later file, and no library, or needs the first, which is a program; `TooMany` where a name would be wanted after `MAX_MEMBERS` names. After a fault the loader is unchanged.
-    pub fn give(&mut self, alloc: Global, file: Option<Vec<u8>>) -> Result<(), LoadFault>
+    /// Gives the wanted name its file, or tells that there is none.
+    fn take(&mut self, alloc: Global, file: Option<Vec<u8>>) -> Result<(), LoadFault>
         requires wanted { IsSome (wants self.old.order) }
         requires size { ForSome file (λ bytes. length bytes.items < 2 ^ 32) }
         ensures ok { OnOk result (spec.give self.old (option_map (λ bytes. bytes.items) file) ≡ Ok self.new) }
         ensures err { IfErr result (λ fault. Answers is_memory (Err fault) (spec.give self.old (option_map (λ bytes. bytes.items) file))) }
         ensures unchanged { OnErr result (self.new ≡ self.old) }
-        // where the file is the one that the name has, the load goes on with one file more
-        ensures goes_on { OnOk result ((files : List ℕ → Result (List ℕ) faults.LoadFault) (name wanted : List ℕ) → wants self.old.order ≡ Some wanted → spec.IsFile spec.itself files wanted (option_map (λ bytes. bytes.items) file) → spec.IsUnderWay spec.itself files name self.old → spec.IsUnderWay spec.itself files name self.new) }
     {
         let Some(wanted) = self.wants() else {
             return Ok(());
@@ -138,6 +134,23 @@ impl Loader {
                 object,
             },
         )
+    }
+
+    /// Gives the wanted name its file, fewer than 2^32 bytes, or tells that there is none. The names that its object needs are wanted in their order, each once.
+    ///
+    /// The first cause counts, in this order: `NotThere` where there is no file; `Refused` where an acceptance clause refuses it; `NotProgram` where it is the first file, and a library; `NeededIsProgram` where it is a later file, and no library, or needs the first, which is a program; `TooMany` where a name would be wanted after `MAX_MEMBERS` names. After a fault the loader is unchanged.
+    pub fn give(&mut self, alloc: Global, file: Option<Vec<u8>>) -> Result<(), LoadFault>
+        requires wanted { IsSome (wants self.old.order) }
+        requires size { ForSome file (λ bytes. length bytes.items < 2 ^ 32) }
+        ensures ok { OnOk result (spec.give self.old (option_map (λ bytes. bytes.items) file) ≡ Ok self.new) }
+        ensures err { IfErr result (λ fault. Answers is_memory (Err fault) (spec.give self.old (option_map (λ bytes. bytes.items) file))) }
+        ensures unchanged { OnErr result (self.new ≡ self.old) }
+        // where the file is the one that the name has, the load goes on with one file more,
+        ensures goes_on { OnOk result ((files : List ℕ → Result (List ℕ) faults.LoadFault) (name wanted : List ℕ) → wants self.old.order ≡ Some wanted → spec.IsFile spec.itself files wanted (option_map (λ bytes. bytes.items) file) → spec.IsUnderWay spec.itself files name self.old → spec.IsUnderWay spec.itself files name self.new) }
+        // or the fault is what the whole load means
+        ensures stops { IfErr result (λ fault. (files : List ℕ → Result (List ℕ) faults.LoadFault) (name wanted : List ℕ) → wants self.old.order ≡ Some wanted → spec.IsFile spec.itself files wanted (option_map (λ bytes. bytes.items) file) → spec.IsUnderWay spec.itself files name self.old → Answers is_memory (Err fault) (start.load spec.itself files name)) }
+    {
+        self.take(alloc, file)
     }
 
     /// What the program starts from, where no name is wanted any more.

@@ -1,6 +1,6 @@
 // The address that a symbol stands for.
 ghost use Rattle.std.specs.Prelude.{◌≡◌, ◌<◌, length};
-ghost use Rattle.pl_scope.specs.Scope.{objects, IsScope, IsSymbol};
+ghost use Rattle.pl_scope.specs.Scope.{objects, IsSymbol};
 ghost use Rattle.pl_value.specs.Definers.{seen};
 ghost use Rattle.pl_value.specs.Linkable.{IsLinkable};
 ghost use Rattle.pl_value.specs.Targets as spec;

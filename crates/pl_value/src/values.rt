@@ -1,5 +1,5 @@
 // What a relocation gives.
-ghost use Rattle.std.specs.Prelude.{◌≡◌, ◌<◌, length};
+ghost use Rattle.std.specs.Prelude.{◌≡◌, ◌<◌};
 ghost use Rattle.pl_scope.specs.Scope.{objects, IsSymbol};
 ghost use Rattle.pl_value.specs.Linkable.{IsLinkable, IsReloc};
 ghost use Rattle.pl_value.specs.Values as spec;

@@ -6,4 +6,4 @@ use Rattle.pl_image.specs.Masked.{loads_table}
 use Rattle.pl_image.proofs.masked.add_load.Given as goal
 
 abbrev pub invariant-loop-table : goal.invariant-loop-table
-invariant-loop-table l = (a : ℕ) → list_any (has a) l.ranges.items ≡ (list_any (has a) l.fn.ranges.items || list_any (loads_table a l.load) (take l.table-index l.tables))
+invariant-loop-table l = (a : ℕ) → list_any (has a) l.ranges.items ≡ (list_any (has a) l.fn.ranges.items || list_any (loads_table a l.load) (take l.table-index l.near))
