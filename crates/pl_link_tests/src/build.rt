@@ -1,6 +1,7 @@
-use crate::recipes::{EXAMPLES, Example};
-use crate::{RecipeFault, build};
+// Files of recipes, and faults of recipes.
 use pl_base::{Rows, hex_digit};
+use pl_build::recipes::{EXAMPLES, Example};
+use pl_build::{RecipeFault, build};
 use sha2::{Digest, Sha256};
 use std::alloc::{AllocError, Global};
 use std::test::Fail;
