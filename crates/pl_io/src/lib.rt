@@ -1,10 +1,9 @@
-//! Sources and sinks of bytes, in memory and over std's readers and writers, and names of files.
+//! Sources and sinks of bytes, in memory and over std's readers and writers.
 #![tactic(auto)]
 
 mod failed;
 mod memory_sink;
 mod memory_source;
-mod names;
 mod no_memory;
 mod read_fault;
 mod script;
@@ -18,7 +17,6 @@ mod tests;
 pub use failed::Failed;
 pub use memory_sink::MemorySink;
 pub use memory_source::MemorySource;
-pub use names::{own_name, valid_name};
 pub use no_memory::NoMemory;
 pub use read_fault::ReadFault;
 pub use script::Script;
