@@ -3,7 +3,7 @@ use Rattle.std.specs.Prelude.{ℕ, Bool, ◌==◌, List, [], ◌∷◌, map, fil
 use Rattle.std.specs.List.{flat_map}
 use Rattle.std.specs.Str.{bytes_eq}
 use Rattle.pl_base.specs.Sums.{plus, minus}
-use Rattle.pl_build.specs.declared.constants.TheConstants.{R_X86_64_RELATIVE}
+use Rattle.pl_elf.specs.declared.constants.TheConstants.{R_X86_64_RELATIVE}
 use Rattle.pl_build.specs.declared.fields.Field.TheVariants.{Word, Long}
 use Rattle.pl_build.specs.declared.line.Relocation.{Relocation}
 use Rattle.pl_build.specs.declared.line.Symbol.{Symbol}

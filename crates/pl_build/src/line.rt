@@ -71,7 +71,7 @@ pub struct Symbol {
 #[derive(Drop)]
 pub struct Relocation {
     /// One of the `R_X86_64_` numbers.
-    pub kind: u64,
+    pub kind: u32,
 
     /// The data offset of the word.
     pub offset: u64,

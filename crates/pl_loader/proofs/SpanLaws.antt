@@ -12,7 +12,7 @@ use Rattle.pl_base.proofs.SumLaws.{round_up-at_least}
 use Rattle.pl_elf.specs.Headers.{is_load, loads}
 use Rattle.pl_elf.specs.Clauses.{AreLoads, ascend_from, bad_load, bad_align, not_congruent}
 use Rattle.pl_elf.specs.Clauses as elf
-use Rattle.pl_elf.specs.declared.constants.TheConstants.{ADDRESS_LIMIT, MAX_LOAD_ALIGN}
+use Rattle.pl_elf.specs.declared.constants.TheConstants.{ADDRESS_LIMIT, MAX_LOAD_ALIGN, PAGE}
 use Rattle.pl_elf.specs.declared.segment.Segment.{Segment}
 use Rattle.pl_dyn.specs.Entries.{entries, null_count, is_ended}
 use Rattle.pl_dyn.specs.Read as dyn
@@ -21,10 +21,9 @@ use Rattle.pl_dyn.specs.declared.fault.DynFault.TheVariants as dyn_fault
 use Rattle.pl_object.specs.FilePart.{loads_byte, loader, file_window, in_file_part, loaded}
 use Rattle.pl_object.specs.PlaceClauses.{last_load}
 use Rattle.pl_object.specs.TableClauses.{check_tables}
-use Rattle.pl_object.specs.Tables.{dynamic_range}
+use Rattle.pl_object.specs.Tables.{dynamic_memory}
 use Rattle.pl_object.specs.Reads.{reads, headers, parts, static_program, static_object, linked, linking, layout, check, checked, too_large, object, dynamic, span, align, end_in_memory}
 use Rattle.pl_object.specs.Refusals.{of_header, of_dynamic}
-use Rattle.pl_object.specs.declared.constants.TheConstants.{PAGE}
 use Rattle.pl_object.specs.declared.headers.Headers.{Headers}
 use Rattle.pl_object.specs.declared.object.Object.{Object}
 use Rattle.pl_object.specs.declared.refusal.Refusal.TheVariants.{Clause}
@@ -37,7 +36,7 @@ use Rattle.pl_loader.proofs.StepLaws.{ok_is, unless_ok}
 
 -- a dynamic table that is read is loaded from a PT_LOAD
 abbrev HasDynamic : List Segment → Type 0
-HasDynamic ss = (s : Segment) × (loader ss (dynamic_range ss).at ≡ Some s)
+HasDynamic ss = (s : Segment) × (loader ss (dynamic_memory ss).at ≡ Some s)
 
 record IsShaped (o : Object) : Type 0 where
   pub span : o.span ≡ span o.segments
@@ -64,8 +63,8 @@ loads_dynamic bytes ss memory d None is read = absurd (never_ended (read_ended [
 dynamic_loaded : (bytes : List ℕ) (ss : List Segment) (d : Dynamic) → dynamic bytes ss ≡ Ok d → HasDynamic ss
 unfolding dynamic
 dynamic_loaded bytes ss d is =
-    elim (cases_Bool (in_file_part ss (dynamic_range ss))) [
-      | inl hit ↦ loads_dynamic bytes ss (dynamic_range ss) d (loader ss (dynamic_range ss).at) refl (rw hit at is)
+    elim (cases_Bool (in_file_part ss (dynamic_memory ss))) [
+      | inl hit ↦ loads_dynamic bytes ss (dynamic_memory ss) d (loader ss (dynamic_memory ss).at) refl (rw hit at is)
       | inr miss ↦ absurd (no (rw miss at is))
     ]
   where
@@ -231,7 +230,7 @@ power_of o shape are = rw shape.align (power_from PAGE (loads o.segments) page_p
 some_span : (o : Object) → IsShaped o → AreLoads (loads o.segments) → All (Ends o.span) (loads o.segments) → is_library o.kind ≡ true → 0 < o.span
 some_span o shape are ends library =
     let found = shape.dynamic library in
-    let at : ℕ = (dynamic_range o.segments).at in
+    let at : ℕ = (dynamic_memory o.segments).at in
     let byte = loads_parts at found.0 (find_passes (loads_byte at) o.segments found.0 found.1) in
     let fits = load_fits found.0 (found_holds IsFit (loads_byte at) o.segments found.0 (fit_all (loads o.segments) are.fit) (λ x hit. (loads_parts at x hit).0) found.1) in
     let end = found_holds (Ends o.span) (loads_byte at) o.segments found.0 ends (λ x hit. (loads_parts at x hit).0) found.1 in

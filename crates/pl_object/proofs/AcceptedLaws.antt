@@ -21,7 +21,7 @@ use Rattle.pl_dyn.specs.declared.tags.Tag.{Tag}
 use Rattle.pl_dyn.specs.declared.dynamic.Dynamic.{Dynamic}
 use Rattle.pl_sym.specs.declared.symbol.Symbol.{Symbol}
 use Rattle.pl_object.specs.FilePart.{file_window, loaded}
-use Rattle.pl_object.specs.Tables.{symbols_range, sections_window, range_of, static_windows}
+use Rattle.pl_object.specs.Tables.{symbols_memory, sections_window, range_of, static_windows}
 use Rattle.pl_object.specs.Names.{strings, needed, symbols, versions, versioned}
 use Rattle.pl_object.specs.SymbolClauses.{has_ifunc, check_symbols}
 use Rattle.pl_object.specs.TableClauses.{check_tables}
@@ -126,8 +126,8 @@ few_symbols bytes f tags l e =
     let known = bind_ok (versions bytes f.segments f.sections tags bare.0) _ l bare.2 in
     let is = ok_same _ l _ refl known.2 in
     let same : versioned bare.0 known.0 ≡ l.symbols = ap (λ (x : Linking). x.symbols) is in
-    let window = file_window f.segments (symbols_range tags f.sections) in
-    let fit = symbols_fit (loaded bytes f.segments (symbols_range tags f.sections)) (strings bytes f.segments tags) bare.0 (because_ok of_symbols _ bare.0 bare.1) in
+    let window = file_window f.segments (symbols_memory tags f.sections) in
+    let fit = symbols_fit (loaded bytes f.segments (symbols_memory tags f.sections)) (strings bytes f.segments tags) bare.0 (because_ok of_symbols _ bare.0 bare.1) in
     omega (arith, ap length same, length-versioned bare.0 known.0, fit, part_fits window.size window.at bytes)
 
 -- ---- the whole

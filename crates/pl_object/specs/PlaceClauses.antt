@@ -8,7 +8,8 @@ use Rattle.pl_elf.specs.Headers.{is_load}
 use Rattle.pl_elf.specs.declared.segment.Segment.{Segment}
 use Rattle.pl_object.specs.FilePart.{file_window, in_file_part}
 use Rattle.pl_object.specs.Relocations.{places}
-use Rattle.pl_object.specs.declared.constants.TheConstants.{RELOC_KINDS, R_X86_64_COPY, R_X86_64_GLOB_DAT, R_X86_64_JUMP_SLOT}
+use Rattle.pl_elf.specs.declared.constants.TheConstants.{R_X86_64_COPY, R_X86_64_GLOB_DAT, R_X86_64_JUMP_SLOT}
+use Rattle.pl_object.specs.declared.constants.TheConstants.{RELOC_KINDS}
 use Rattle.pl_object.specs.declared.reloc.Reloc.{Reloc}
 use Rattle.pl_object.specs.declared.refusal.Refusal.{Refusal}
 use Rattle.pl_object.specs.declared.refusal.Refusal.TheVariants.{Clause}

@@ -6,7 +6,8 @@ use Rattle.std.specs.Int.{w64, cast_signed}
 use Rattle.pl_base.specs.Bytes.{word32, word64}
 use Rattle.pl_base.specs.Windows.{Window}
 use Rattle.pl_sym.specs.declared.symbol.Symbol.{Symbol}
-use Rattle.pl_object.specs.declared.constants.TheConstants.{RELA_SIZE, WORD_SIZE, R_X86_64_NONE, R_X86_64_COPY}
+use Rattle.pl_elf.specs.declared.constants.TheConstants.{RELA_SIZE, R_X86_64_NONE, R_X86_64_COPY}
+use Rattle.pl_object.specs.declared.constants.TheConstants.{WORD_SIZE}
 use Rattle.pl_object.specs.declared.reloc.Reloc.{Reloc}
 
 abbrev pub size_of : Option Symbol → ℕ

@@ -37,4 +37,5 @@ pub use place_clauses::last_load;
 pub use refusal::Refusal;
 pub use reloc::Reloc;
 pub use relocations::{place, places};
+pub use twins::version_name;
 pub use window::Window;

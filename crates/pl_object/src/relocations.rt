@@ -2,9 +2,10 @@
 ghost use Rattle.std.specs.Prelude.{◌≡◌, ◌+◌, ◌≤◌, length, slice_get, IfOk};
 ghost use Rattle.pl_object.specs.Relocations as spec;
 
-use crate::constants::{R_X86_64_COPY, R_X86_64_NONE, RELA_SIZE, WORD_SIZE};
+use crate::constants::WORD_SIZE;
 use crate::{Reloc, Window};
 use pl_base::{word32, word64};
+use pl_elf::constants::{R_X86_64_COPY, R_X86_64_NONE, RELA_SIZE};
 use pl_sym::Symbol;
 use std::alloc::{AllocError, Global};
 
