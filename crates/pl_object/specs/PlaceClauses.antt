@@ -33,9 +33,12 @@ unfoldable pub last_load : List Segment → Option Segment
 last_load ss = fold (λ found s. if is_load s then Some s else found) None ss
 
 -- a window lies in the memory of a segment
+abbrev pub is_in_segment : Window → Segment → Bool
+is_in_segment memory s = nat_le s.vaddr memory.at && nat_le (end_of memory) (s.vaddr + s.memsz)
+
 abbrev pub is_in_memory : Window → Option Segment → Bool
 is_in_memory memory None = false
-is_in_memory memory (Some s) = nat_le s.vaddr memory.at && nat_le (end_of memory) (s.vaddr + s.memsz)
+is_in_memory memory (Some s) = is_in_segment memory s
 
 -- where a relocation may change memory: in the file part and, in a program, in the memory of the last PT_LOAD
 unfoldable pub is_held : Bool → List Segment → Window → Bool

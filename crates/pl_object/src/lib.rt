@@ -33,7 +33,7 @@ pub use file_part::{file_window, in_file_part, loaded};
 pub use kind::Kind;
 pub use names::read_needed;
 pub use object::Object;
-pub use place_clauses::last_load;
+pub use place_clauses::{is_in_segment, last_load};
 pub use refusal::Refusal;
 pub use reloc::Reloc;
 pub use relocations::{place, places};

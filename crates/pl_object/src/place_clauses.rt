@@ -63,12 +63,13 @@ fn is_in_memory(memory: Window, segment: Option<Segment>) -> bool
 {
     match segment {
         None => false,
-        Some(segment) => lies_in(memory, &segment),
+        Some(segment) => is_in_segment(memory, &segment),
     }
 }
 
-fn lies_in(memory: Window, segment: &Segment) -> bool
-    ensures { result ≡ spec.is_in_memory memory (Some segment.now) }
+/// Whether a window of memory lies in the memory of a segment.
+pub fn is_in_segment(memory: Window, segment: &Segment) -> bool
+    ensures { result ≡ spec.is_in_segment memory segment.now }
 {
     u128::from(segment.vaddr) <= memory.at()
         && memory.at() <= end(segment.vaddr, segment.memsz)

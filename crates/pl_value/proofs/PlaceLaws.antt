@@ -16,7 +16,7 @@ use Rattle.pl_elf.specs.declared.constants.TheConstants.{ADDRESS_LIMIT, MAX_LOAD
 use Rattle.pl_elf.specs.declared.segment.Segment.{Segment}
 use Rattle.pl_object.specs.Accepted.{is_program}
 use Rattle.pl_object.specs.FilePart.{file_window, in_file_part, loaded_by, loader, loads_byte}
-use Rattle.pl_object.specs.PlaceClauses.{last_load, is_in_memory, is_held, reloc_outside, reloc_overlap}
+use Rattle.pl_object.specs.PlaceClauses.{last_load, is_in_memory, is_in_segment, is_held, reloc_outside, reloc_overlap}
 use Rattle.pl_object.specs.Reads.{reads}
 use Rattle.pl_object.specs.Relocations.{place, places}
 use Rattle.pl_object.specs.declared.object.Object.{Object}
@@ -83,7 +83,7 @@ last_is_load ss s e q hit = elim (last_from None ss s e q hit) [
 
 -- bytes lie in the memory of a segment
 abbrev pub is_inside : ℕ → ℕ → Segment → Bool
-is_inside at size s = nat_le s.vaddr at && nat_le (at + size) (s.vaddr + s.memsz)
+is_inside at size s = is_in_segment (record { at = at; size = size }) s
 
 -- a PT_LOAD has no more bytes in the file than in memory
 loads_fit : (s : Segment) → bad_load s ≡ false → s.filesz ≤ s.memsz
