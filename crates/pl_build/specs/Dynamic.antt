@@ -5,7 +5,7 @@ use Rattle.pl_dyn.specs.declared.constants.TheConstants.{DT_NULL, DT_NEEDED, DT_
 use Rattle.pl_dyn.specs.declared.tags.Tag.{Tag}
 use Rattle.pl_sym.specs.declared.constants.TheConstants.{SYMBOL_SIZE}
 use Rattle.pl_elf.specs.declared.constants.TheConstants.{RELA_SIZE}
-use Rattle.pl_build.specs.declared.fields.Field.TheVariants.{Long}
+use Rattle.pl_build.specs.declared.fields.Field.TheVariants.{Xword}
 use Rattle.pl_build.specs.declared.roles.Role.TheVariants.{Null}
 use Rattle.pl_build.specs.declared.roles.Place.{Place}
 use Rattle.pl_build.specs.declared.plan.Plan.{Plan}
@@ -16,7 +16,7 @@ use Rattle.pl_build.specs.Roles.{has_name}
 use Rattle.pl_build.specs.Strings.{text_at}
 
 unfoldable pub tag_bytes : Tag → List ℕ
-tag_bytes tag = fields (Long tag.number ∷ Long tag.value ∷ [])
+tag_bytes tag = fields (Xword tag.number ∷ Xword tag.value ∷ [])
 
 abbrev pub tag : ℕ → ℕ → Tag
 tag number value = record { number = number; value = value }

@@ -7,7 +7,7 @@ use Rattle.pl_elf.specs.declared.constants.TheConstants.{HEADER_SIZE, SEGMENT_SI
 use Rattle.pl_build.specs.declared.constants.TheConstants.{INTERP_OFFSET, TABLES_OFFSET, TABLE_ALIGN, MAX_FILE}
 use Rattle.pl_build.specs.declared.checks.Fault.{Fault}
 use Rattle.pl_build.specs.declared.fields.Field.{Field}
-use Rattle.pl_build.specs.declared.fields.Field.TheVariants.{Byte, Half, Word, Long}
+use Rattle.pl_build.specs.declared.fields.Field.TheVariants.{Byte, Half, Word, Xword}
 use Rattle.pl_build.specs.declared.layout.Tables.{Tables}
 use Rattle.pl_build.specs.declared.plan.Plan.{Plan}
 use Rattle.pl_build.specs.declared.recipe.Settings.{Settings}
@@ -31,14 +31,14 @@ entry_or_base s None = base_of s
 
 -- magic bytes, class, byte order and version, then zeros
 abbrev pub ident : List Field
-ident = Byte ELFMAG0 ∷ Byte ELFMAG1 ∷ Byte ELFMAG2 ∷ Byte ELFMAG3 ∷ Byte ELFCLASS64 ∷ Byte ELFDATA2LSB ∷ Byte EV_CURRENT ∷ Byte 0 ∷ Long 0 ∷ []
+ident = Byte ELFMAG0 ∷ Byte ELFMAG1 ∷ Byte ELFMAG2 ∷ Byte ELFMAG3 ∷ Byte ELFCLASS64 ∷ Byte ELFDATA2LSB ∷ Byte EV_CURRENT ∷ Byte 0 ∷ Xword 0 ∷ []
 
 unfoldable pub type_of : Settings → ℕ
 type_of s = if is_library s.kind then ET_DYN else ET_EXEC
 
 abbrev pub first_fields : Settings → ℕ → List Field
 first_fields s shoff =
-    Half (type_of s) ∷ Half EM_X86_64 ∷ Word EV_CURRENT ∷ Long (entry_or_base s s.entry) ∷ Long HEADER_SIZE ∷ Long shoff ∷ []
+    Half (type_of s) ∷ Half EM_X86_64 ∷ Word EV_CURRENT ∷ Xword (entry_or_base s s.entry) ∷ Xword HEADER_SIZE ∷ Xword shoff ∷ []
 
 abbrev pub last_fields : ℕ → ℕ → ℕ → List Field
 last_fields phnum shnum shstrndx =

@@ -5,7 +5,7 @@ use Rattle.pl_base.specs.Sums.{plus, round_up}
 use Rattle.pl_elf.specs.declared.constants.TheConstants.{HEADER_SIZE, SEGMENT_SIZE, PT_LOAD, PT_DYNAMIC, PT_INTERP, PT_PHDR, PT_TLS, PT_GNU_STACK, PAGE, PF_R, PF_W}
 use Rattle.pl_elf.specs.declared.segment.Segment.{Segment}
 use Rattle.pl_build.specs.declared.constants.TheConstants.{INTERP_OFFSET, TABLE_ALIGN, STACK_ALIGN}
-use Rattle.pl_build.specs.declared.fields.Field.TheVariants.{Word, Long}
+use Rattle.pl_build.specs.declared.fields.Field.TheVariants.{Word, Xword}
 use Rattle.pl_build.specs.declared.line.TlsBlock.{TlsBlock}
 use Rattle.pl_build.specs.declared.recipe.Settings.{Settings}
 use Rattle.pl_build.specs.declared.roles.Place.{Place}
@@ -20,7 +20,7 @@ interp_bytes = codes "/lib64/ld-linux-x86-64.so.2" ++ 0 ∷ []
 
 unfoldable pub segment_bytes : Segment → List ℕ
 segment_bytes s = fields (
-    Word s.kind ∷ Word s.flags ∷ Long s.offset ∷ Long s.vaddr ∷ Long s.paddr ∷ Long s.filesz ∷ Long s.memsz ∷ Long s.align ∷ [])
+    Word s.kind ∷ Word s.flags ∷ Xword s.offset ∷ Xword s.vaddr ∷ Xword s.paddr ∷ Xword s.filesz ∷ Xword s.memsz ∷ Xword s.align ∷ [])
 
 -- bytes that stand in the file as in memory
 unfoldable pub readable : ℕ → ℕ → ℕ → ℕ → ℕ → Segment

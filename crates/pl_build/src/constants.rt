@@ -50,6 +50,3 @@ pub const BLOOM_COUNT: u64 = 1;
 
 /// How many bits a hash is shifted for its second bit in a Bloom word.
 pub const BLOOM_SHIFT_BITS: u64 = 6;
-
-/// Bytes of a data word.
-pub const WORD_SIZE: u64 = 8;

@@ -25,7 +25,7 @@ impl Row for Tag {
 
     #[tactic(auto, unfolding(crate::specs::Dynamic::tag_bytes))]
     fn push_to(&self, out: &mut Vec<u8>) -> Result<(), AllocError> {
-        push_fields(out, &[Field::Long(self.number), Field::Long(self.value)])
+        push_fields(out, &[Field::Xword(self.number), Field::Xword(self.value)])
     }
 }
 

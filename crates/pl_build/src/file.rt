@@ -44,7 +44,7 @@ fn ident() -> [Field; 9]
         Field::Byte(u64::from(ELFDATA2LSB)),
         Field::Byte(u64::from(EV_CURRENT)),
         Field::Byte(0),
-        Field::Long(0),
+        Field::Xword(0),
     ]
 }
 
@@ -67,9 +67,9 @@ fn first_fields(settings: &Settings, shoff: u64) -> [Field; 6]
         Field::Half(u64::from(type_of(settings))),
         Field::Half(u64::from(EM_X86_64)),
         Field::Word(u64::from(EV_CURRENT)),
-        Field::Long(entry_or_base(settings)),
-        Field::Long(HEADER_SIZE as u64),
-        Field::Long(shoff),
+        Field::Xword(entry_or_base(settings)),
+        Field::Xword(HEADER_SIZE as u64),
+        Field::Xword(shoff),
     ]
 }
 

@@ -34,10 +34,10 @@ impl Row for Rela {
         push_fields(
             out,
             &[
-                Field::Long(self.offset),
+                Field::Xword(self.offset),
                 Field::Word(u64::from(self.kind)),
                 Field::Word(self.symbol),
-                Field::Long(self.addend),
+                Field::Xword(self.addend),
             ],
         )
     }

@@ -28,12 +28,12 @@ impl Row for Segment {
             &[
                 Field::Word(u64::from(self.kind)),
                 Field::Word(u64::from(self.flags)),
-                Field::Long(self.offset),
-                Field::Long(self.vaddr),
-                Field::Long(self.paddr),
-                Field::Long(self.filesz),
-                Field::Long(self.memsz),
-                Field::Long(self.align),
+                Field::Xword(self.offset),
+                Field::Xword(self.vaddr),
+                Field::Xword(self.paddr),
+                Field::Xword(self.filesz),
+                Field::Xword(self.memsz),
+                Field::Xword(self.align),
             ],
         )
     }

@@ -150,6 +150,9 @@ pub const SHF_ALLOC: u64 = 0x2;
 /// Section flag: thread-local storage.
 pub const SHF_TLS: u64 = 0x400;
 
+/// Bytes of a 64-bit word, which most relocations change (x86-64 psABI, "Relocation Types", word64).
+pub const WORD64_SIZE: u64 = 8;
+
 /// Bytes of a relocation with addend (gABI chapter 4, "Relocation").
 pub const RELA_SIZE: usize = 24;
 

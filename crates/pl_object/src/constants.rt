@@ -8,9 +8,6 @@ use pl_elf::constants::{
 /// The greatest size in bytes of a file that is accepted.
 pub const ORIGINAL: usize = 16_777_216;
 
-/// Bytes of a word, the place of most relocations.
-pub const WORD_SIZE: u64 = 8;
-
 /// The kinds of relocations that an accepted object may have.
 pub const RELOC_KINDS: [u32; 9] = [
     R_X86_64_NONE,

@@ -14,7 +14,7 @@ use pl_ver::constants::VERSYM_HIDDEN;
 use pl_ver::{Versions, version_of};
 use std::alloc::{AllocError, Global};
 
-/// A symbol's place under its name's hash.
+/// The index of a symbol with the hash of its name.
 #[derive(Clone, Copy, Debug)]
 pub struct Entry {
     pub hash: u32,

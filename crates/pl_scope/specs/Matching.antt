@@ -20,7 +20,7 @@ defines o name class s = is_definer s class (is_program o.kind) && bytes_eq s.na
 unfoldable pub has_version : Object → List ℕ → Symbol → Bool
 has_version o version s = is_same_name (Some version) (version_name o.versions s.version)
 
--- the place of the only symbol that passes
+-- the index of the only symbol that passes
 abbrev pub only : (Symbol → Bool) → List Symbol → Option ℕ
 only p symbols = if count_by p symbols == 1 then position p symbols else None
 

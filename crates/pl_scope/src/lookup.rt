@@ -56,9 +56,9 @@ fn in_member(
     let object = scope.members[member as usize].object;
     match matching(object, name, class, version) {
         None => None,
-        Some(place) => Some(Found {
+        Some(index) => Some(Found {
             member,
-            symbol: place as u32,
+            symbol: index as u32,
         }),
     }
 }

@@ -103,7 +103,7 @@ fn first_definer(object: &Object, name: &[u8], class: Class, hidden: bool) -> Op
         .position(|symbol| counts(object, name, class, hidden, symbol))
 }
 
-/// The place of the only definer, of all or of those that are not hidden.
+/// The index of the only definer, of all or of those that are not hidden.
 fn only_definer(object: &Object, name: &[u8], class: Class, hidden: bool) -> Option<usize>
     ensures value { result ≡ spec.only (spec.counts object.now name.now class hidden) object.now.symbols }
     ensures within { IfSome result (λ i. i < length object.now.symbols) }
@@ -120,11 +120,11 @@ fn versioned(object: &Object, name: &[u8], class: Class, version: &[u8]) -> Opti
     ensures value { result ≡ spec.versioned object.now name.now class version.now }
     ensures within { IfSome result (λ i. i < length object.now.symbols) }
 {
-    if let Some(place) = of_version(object, name, class, version) {
-        return Some(place);
+    if let Some(index) = of_version(object, name, class, version) {
+        return Some(index);
     }
-    if let Some(place) = of_no_version(object, name, class) {
-        return Some(place);
+    if let Some(index) = of_no_version(object, name, class) {
+        return Some(index);
     }
     if object.versions.is_some() {
         None
@@ -155,14 +155,14 @@ fn unversioned(object: &Object, name: &[u8], class: Class) -> Option<usize>
     ensures value { result ≡ spec.unversioned object.now name.now class }
     ensures within { IfSome result (λ i. i < length object.now.symbols) }
 {
-    if let Some(place) = at_index(object, name, class, VER_NDX_LOCAL) {
-        return Some(place);
+    if let Some(index) = at_index(object, name, class, VER_NDX_LOCAL) {
+        return Some(index);
     }
-    if let Some(place) = at_index(object, name, class, VER_NDX_GLOBAL) {
-        return Some(place);
+    if let Some(index) = at_index(object, name, class, VER_NDX_GLOBAL) {
+        return Some(index);
     }
-    if let Some(place) = at_index(object, name, class, FIRST_VERSION) {
-        return Some(place);
+    if let Some(index) = at_index(object, name, class, FIRST_VERSION) {
+        return Some(index);
     }
     only_definer(object, name, class, false)
 }
