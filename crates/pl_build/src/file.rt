@@ -1,7 +1,6 @@
 // The file.
 ghost use Rattle.std.specs.Prelude.{◌≡◌, ◌++◌, ◌+◌, ◌*◌, ◌≤◌, ◌<◌, ◌^◌, IfOk, OnOk, length};
-ghost use Rattle.pl_base.specs.Answers.{Answers};
-ghost use Rattle.pl_build.specs.Build.{is_memory};
+ghost use Rattle.pl_build.specs.Build.{Builds};
 ghost use Rattle.pl_build.specs.File as spec;
 ghost use Rattle.pl_build.specs.Layout as layout;
 
@@ -45,7 +44,7 @@ fn ident() -> [Field; 9]
         Field::Byte(u64::from(ELFDATA2LSB)),
         Field::Byte(u64::from(EV_CURRENT)),
         Field::Byte(0),
-        Field::Long(0),
+        Field::Xword(0),
     ]
 }
 
@@ -68,9 +67,9 @@ fn first_fields(settings: &Settings, shoff: u64) -> [Field; 6]
         Field::Half(u64::from(type_of(settings))),
         Field::Half(u64::from(EM_X86_64)),
         Field::Word(u64::from(EV_CURRENT)),
-        Field::Long(entry_or_base(settings)),
-        Field::Long(HEADER_SIZE as u64),
-        Field::Long(shoff),
+        Field::Xword(entry_or_base(settings)),
+        Field::Xword(HEADER_SIZE as u64),
+        Field::Xword(shoff),
     ]
 }
 
@@ -240,7 +239,7 @@ fn limited(
     tables: &Tables,
 ) -> Result<Rows<u8>, RecipeFault>
     requires { layout.end_of tables.now ≤ MAX_TABLES }
-    ensures { Answers is_memory result (spec.limited plan.now names.now tables.now) }
+    ensures { Builds result (spec.limited plan.now names.now tables.now) }
 {
     let tables_end = end_of(tables);
     if file_end(plan, tables_end, names) > u128::from(MAX_FILE) {
@@ -254,7 +253,7 @@ fn limited(
 /// The file of a plan. Fault 5 where its tables or the file would be too large.
 #[tactic(auto, unfolding(crate::specs::File::made))]
 pub fn made(alloc: Global, plan: &Plan) -> Result<Rows<u8>, RecipeFault>
-    ensures { Answers is_memory result (spec.made plan.now) }
+    ensures { Builds result (spec.made plan.now) }
 {
     let tables = lay_out(alloc, plan)?;
     let names = section_names(alloc, plan.roles.as_slice())?;

@@ -9,10 +9,11 @@ ghost use Rattle.pl_loader.specs.Started.{started};
 ghost use Rattle.pl_cli.specs.Answer.{answer, command_answer, is_answer, load_answer, make_answer};
 ghost use Rattle.pl_cli.specs.Load.{cause_of, loaded};
 ghost use Rattle.pl_cli.specs.Make.{made};
-ghost use Rattle.pl_cli.specs.Outcome.{Ends, IsOutcome, IsUsage, LeavesFiles};
+ghost use Rattle.pl_cli.specs.Outcome.{Ends, IsOutcome, IsRefusal, IsUsage, LeavesFiles};
 ghost use Rattle.pl_cli.specs.Words as spec;
 
 use crate::Status;
+use crate::cause::Cause;
 use crate::load::{load, start};
 use crate::make::make;
 use crate::mode::Mode;
@@ -38,6 +39,17 @@ fn finish<K: Sink>(output: &mut K, text: &[u8], status: Status) -> Status
     }
 }
 
+/// Writes the line of a refusal for a cause, unless there is no memory for it.
+fn refuse<K: Sink>(alloc: Global, cause: Cause, output: &mut K) -> Status
+    ensures ends { IsRefusal cause (Rose (K.faults output.old) (K.faults output.new)) (K.written output.old) (K.written output.new) result }
+    ensures counts { K.faults output.old ≤ K.faults output.new }
+{
+    match refusal(alloc, cause) {
+        Ok(line) => finish(output, &line, Status::Refused),
+        Err(_) => Status::NoMemory,
+    }
+}
+
 /// Writes what a program starts from whose files were all given, or the line of the first cause why it does not.
 fn start_and_write<K: Sink>(alloc: Global, loader: &Loader, output: &mut K) -> Status
     requires { wants loader.now.order ≡ None }
@@ -53,10 +65,7 @@ fn start_and_write<K: Sink>(alloc: Global, loader: &Loader, output: &mut K) -> S
             Err(WriteStop::Failed) => Status::WriteFault,
             Err(WriteStop::NoMemory) => Status::NoMemory,
         },
-        Err(Stop::Cause(cause)) => match refusal(alloc, cause) {
-            Ok(line) => finish(output, &line, Status::Refused),
-            Err(_) => Status::NoMemory,
-        },
+        Err(Stop::Cause(cause)) => refuse(alloc, cause, output),
         Err(_) => Status::NoMemory,
     }
 }
@@ -83,10 +92,7 @@ fn load_and_write<D: Folder, K: Sink>(
         Err(Stop::Failed) => Status::DiskFault,
         Err(Stop::InputFailed) => Status::ReadFault,
         Err(Stop::NoMemory) => Status::NoMemory,
-        Err(Stop::Cause(cause)) => match refusal(alloc, cause) {
-            Ok(line) => finish(output, &line, Status::Refused),
-            Err(_) => Status::NoMemory,
-        },
+        Err(Stop::Cause(cause)) => refuse(alloc, cause, output),
     }
 }
 
@@ -116,10 +122,7 @@ fn make_and_write<D: Folder, S: Source, K: Sink>(
         Err(Stop::Failed) => Status::DiskFault,
         Err(Stop::InputFailed) => Status::ReadFault,
         Err(Stop::NoMemory) => Status::NoMemory,
-        Err(Stop::Cause(cause)) => match refusal(alloc, cause) {
-            Ok(line) => finish(output, &line, Status::Refused),
-            Err(_) => Status::NoMemory,
-        },
+        Err(Stop::Cause(cause)) => refuse(alloc, cause, output),
     }
 }
 

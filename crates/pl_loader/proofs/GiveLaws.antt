@@ -4,7 +4,7 @@ use Rattle.std.specs.Prelude.{MatchBool, ⊤}
 use Rattle.pl_base.specs.Answers.{◌>>=◌, because}
 use Rattle.pl_object.specs.Reads.{reads}
 use Rattle.pl_object.specs.declared.object.Object.{Object}
-use Rattle.pl_object.proofs.AcceptedLaws.{bind_ok, because_ok}
+use Rattle.pl_object.proofs.AcceptedLaws.{bind_ok, because_ok, ok_is}
 use Rattle.pl_scope.specs.Kinds.{is_library}
 use Rattle.pl_scope.specs.Walking.{wants}
 use Rattle.std.specs.Prelude.{◌&&◌}
@@ -14,7 +14,7 @@ use Rattle.pl_loader.specs.Loading.{Loading}
 use Rattle.pl_loader.specs.Walk.{loadable, object_in, entered, taken, of_wanted, give}
 use Rattle.pl_loader.specs.declared.fault.LoadFault.{LoadFault}
 use Rattle.pl_loader.specs.declared.fault.LoadFault.TheVariants.{NotThere, NotProgram}
-use Rattle.pl_loader.proofs.StepLaws.{ok_is, unless_ok}
+use Rattle.pl_loader.proofs.StepLaws.{unless_ok}
 
 -- there is no file
 pub give_lacks : (l : Loading) (n m : List ℕ) (file : Option (List ℕ)) → Some n ≡ wants l.order → file ≡ None → m ≡ n → give l file ≡ Err (NotThere m)

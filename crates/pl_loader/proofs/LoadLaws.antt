@@ -6,7 +6,7 @@ use Rattle.std.proofs.lemmas.Option.{slice_get_within}
 use Rattle.pl_base.specs.Answers.{◌>>=◌, because}
 use Rattle.pl_base.specs.Each.{each}
 use Rattle.pl_object.specs.declared.object.Object.{Object}
-use Rattle.pl_object.proofs.AcceptedLaws.{bind_ok, because_ok}
+use Rattle.pl_object.proofs.AcceptedLaws.{bind_ok, because_ok, ok_is}
 use Rattle.pl_scope.specs.Walking.{Walking, IsWalking, wants}
 use Rattle.pl_scope.specs.Walk.{Walked}
 use Rattle.pl_scope.specs.Walk as walk
@@ -19,7 +19,7 @@ use Rattle.pl_loader.specs.Walk.{object_in, entered, taken, of_wanted, give, wit
 use Rattle.pl_loader.specs.declared.object_file.ObjectFile.{ObjectFile}
 use Rattle.pl_loader.specs.declared.fault.LoadFault.{LoadFault}
 use Rattle.pl_loader.specs.declared.fault.LoadFault.TheVariants.{NotThere}
-use Rattle.pl_loader.proofs.StepLaws.{ok_is, bind_err, because_err, give_walking}
+use Rattle.pl_loader.proofs.StepLaws.{bind_err, because_err, give_walking}
 
 -- ---- one more result
 

@@ -10,7 +10,7 @@ use Rattle.std.proofs.lemmas.Option.{slice_get_within}
 use Rattle.pl_base.specs.Answers.{◌>>=◌, because, unless, unless_found}
 use Rattle.pl_base.specs.Each.{run}
 use Rattle.pl_object.specs.declared.object.Object.{Object}
-use Rattle.pl_object.proofs.AcceptedLaws.{bind_ok}
+use Rattle.pl_object.proofs.AcceptedLaws.{bind_ok, ok_is}
 use Rattle.pl_scope.specs.Kinds.{is_library}
 use Rattle.pl_scope.specs.Walking.{Walking, IsWalking, wants}
 use Rattle.pl_scope.specs.Walk.{added, checked, needed_program, program_name, entered, next, of_wanted}
@@ -22,9 +22,6 @@ use Rattle.pl_loader.specs.Walk.{with_file}
 use Rattle.pl_loader.specs.declared.object_file.ObjectFile.{ObjectFile}
 
 -- ---- results
-
-pub ok_is : {X E : Type 0} (x y : X) (r : Result X E) → r ≡ Ok x → r ≡ Ok y → x ≡ y
-ok_is x y r e f = cc
 
 pub unless_ok : {X E : Type 0} (test : Bool) (fault : E) (next : Result X E) (x : X) → unless test fault next ≡ Ok x → (test ≡ false) × (next ≡ Ok x)
 unless_ok true fault next x e = absurd cc

@@ -5,7 +5,7 @@ use crate::samples::{Row, Sample, defined, needing, objects, plain, undefined};
 use crate::*;
 use indexmap::IndexMap;
 use pl_base::Text;
-use pl_object::constants::{R_X86_64_COPY, R_X86_64_GLOB_DAT, R_X86_64_JUMP_SLOT};
+use pl_elf::constants::{R_X86_64_COPY, R_X86_64_GLOB_DAT, R_X86_64_JUMP_SLOT};
 use pl_object::{Kind, Object};
 use pl_sym::constants::{STB_LOCAL, STB_WEAK, STV_HIDDEN, STV_PROTECTED};
 use std::alloc::{AllocError, Global};

@@ -15,8 +15,8 @@ use Rattle.pl_object.specs.Reads.{reads, headers, parts, static_program, static_
 use Rattle.pl_object.specs.Refusals.{of_header, of_dynamic}
 use Rattle.pl_object.specs.Relocations.{width, reloc_at, reloc, relocs}
 use Rattle.pl_object.specs.TableClauses.{check_tables}
-use Rattle.pl_object.specs.Tables.{rela_range, jmprel_range}
-use Rattle.pl_object.specs.declared.constants.TheConstants.{RELA_SIZE}
+use Rattle.pl_object.specs.Tables.{rela_memory, jmprel_memory}
+use Rattle.pl_elf.specs.declared.constants.TheConstants.{RELA_SIZE}
 use Rattle.pl_object.specs.declared.headers.Headers.{Headers}
 use Rattle.pl_object.specs.declared.object.Object.{Object}
 use Rattle.pl_object.specs.declared.refusal.Refusal.{Refusal}
@@ -56,8 +56,8 @@ linked_widths bytes f d o e =
     let places = layout bytes f d.tags l.0 in
     let c = bind_ok (check bytes f d.tags l.0 places) _ o l.2 in
     let whole : HasWidths (object f d l.0 places) =
-    All-append (HasWidth l.0.symbols) (relocs l.0.symbols (loaded bytes f.segments (rela_range d.tags))) (relocs l.0.symbols (loaded bytes f.segments (jmprel_range d.tags)))
-    (relocs_widths l.0.symbols (loaded bytes f.segments (rela_range d.tags))) (relocs_widths l.0.symbols (loaded bytes f.segments (jmprel_range d.tags))) in
+    All-append (HasWidth l.0.symbols) (relocs l.0.symbols (loaded bytes f.segments (rela_memory d.tags))) (relocs l.0.symbols (loaded bytes f.segments (jmprel_memory d.tags)))
+    (relocs_widths l.0.symbols (loaded bytes f.segments (rela_memory d.tags))) (relocs_widths l.0.symbols (loaded bytes f.segments (jmprel_memory d.tags))) in
     subst HasWidths (ok_is (object f d l.0 places) o c.2) whole
 
 static_widths : (bytes : List ℕ) (f : Headers) (o : Object) → static_program bytes f ≡ Ok o → HasWidths o
