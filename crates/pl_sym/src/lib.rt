@@ -8,8 +8,6 @@ mod fault;
 mod strings;
 mod symbol;
 mod table;
-#[cfg(test)]
-mod tests;
 
 pub use class::Class;
 pub use definers::is_definer;

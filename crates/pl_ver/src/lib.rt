@@ -13,8 +13,6 @@ mod read;
 mod record;
 mod records;
 mod strings;
-#[cfg(test)]
-mod tests;
 mod versions;
 
 pub use fault::VerFault;

@@ -1,4 +1,4 @@
-use crate::{
+use pl_io::{
     Failed, MemorySink, MemorySource, ReadFault, Sink, Source, StdSink, StdSource, own_name,
     read_all, valid_name, write_all,
 };
