@@ -7,7 +7,6 @@ mod constants;
 mod fault;
 mod list_row;
 mod read;
-mod words;
 mod write;
 
 pub use conflict_row::ConflictRow;

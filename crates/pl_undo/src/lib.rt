@@ -5,7 +5,6 @@ mod constants;
 mod fault;
 mod read;
 mod undo;
-mod words;
 mod write;
 
 pub use constants::{HEADERS_AT, UNDO_MAGIC};
