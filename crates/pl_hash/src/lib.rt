@@ -6,8 +6,6 @@ mod hash;
 mod lookup;
 mod marks;
 mod table;
-#[cfg(test)]
-mod tests;
 mod whole;
 
 pub use hash::{GNU_START, SYSV_TOP, gnu_hash, sysv_hash};

@@ -7,8 +7,6 @@ mod holes;
 mod planned;
 mod planning;
 mod slot;
-#[cfg(test)]
-mod tests;
 
 pub use apart::are_apart;
 pub use fault::PlanFault;

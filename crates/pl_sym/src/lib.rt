@@ -7,8 +7,6 @@ mod definers;
 mod fault;
 mod symbol;
 mod table;
-#[cfg(test)]
-mod tests;
 
 pub use class::Class;
 pub use definers::is_definer;

@@ -4,8 +4,6 @@
 mod constants;
 mod fault;
 mod read;
-#[cfg(test)]
-mod tests;
 mod undo;
 mod write;
 

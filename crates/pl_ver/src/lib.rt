@@ -12,8 +12,6 @@ mod look_up;
 mod read;
 mod record;
 mod records;
-#[cfg(test)]
-mod tests;
 mod versions;
 
 pub use fault::VerFault;

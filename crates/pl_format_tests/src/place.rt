@@ -1,8 +1,8 @@
 ghost use Rattle.std.specs.Prelude.{IfOk};
 ghost use Rattle.pl_place.specs.Placing.{IsWish};
 
-use crate::holes::left;
-use crate::{Holes, PlaceFault, Placer, Wish, highest, lowest, place_all, place_lowest, seeded};
+use pl_place::holes::left;
+use pl_place::{Holes, PlaceFault, Placer, Wish, highest, lowest, place_all, place_lowest, seeded};
 use pl_base::Text;
 use pl_elf::Range;
 use std::alloc::Global;

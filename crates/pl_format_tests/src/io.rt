@@ -1,4 +1,4 @@
-use crate::{
+use pl_io::{
     Failed, MemorySink, MemorySource, ReadFault, Sink, Source, StdSink, StdSource, read_all,
     write_all,
 };

@@ -1,4 +1,4 @@
-use crate::{Undo, UndoFault, read_undo, write_undo};
+use pl_undo::{Undo, UndoFault, read_undo, write_undo};
 use pl_base::Rows;
 use pl_elf::constants::{ET_DYN, ET_EXEC};
 use std::alloc::{AllocError, Global};

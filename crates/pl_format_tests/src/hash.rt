@@ -1,4 +1,4 @@
-use super::*;
+use pl_hash::*;
 use pl_base::Rows;
 use std::alloc::{AllocError, Global};
 use std::process::Abort;

@@ -1,9 +1,9 @@
-use crate::constants::{
+use pl_sym::constants::{
     SHN_ABS, SHN_HIRESERVE, SHN_LORESERVE, SHN_UNDEF, STB_GLOBAL, STB_GNU_UNIQUE, STB_LOCAL,
     STB_WEAK, STT_COMMON, STT_FILE, STT_FUNC, STT_GNU_IFUNC, STT_NOTYPE, STT_OBJECT, STT_SECTION,
     STT_TLS, STV_DEFAULT, STV_HIDDEN, STV_INTERNAL, STV_PROTECTED,
 };
-use crate::{Class, SymFault, Symbol, is_definer, read_symbols};
+use pl_sym::{Class, SymFault, Symbol, is_definer, read_symbols};
 use pl_base::{Rows, string_at};
 use pl_ver::constants::VER_NDX_GLOBAL;
 use std::alloc::Global;

@@ -1,7 +1,7 @@
 ghost use Rattle.std.specs.Prelude.{◌≡◌, ◌≤◌, length};
 ghost use Rattle.pl_base.specs.Names.{IsNameLength};
 
-use crate::{Folder, FolderFault, MemoryFolder, are_files, replace};
+use pl_folder::{Folder, FolderFault, MemoryFolder, are_files, replace};
 use pl_io::Failed;
 use std::alloc::{AllocError, Global};
 use std::test::Fail;
@@ -40,7 +40,7 @@ fn takes_files_by_its_script(rt: HostRuntime) -> Result<(), Fail> {
 }
 
 #[test]
-#[tactic(auto, using(crate::proofs::FolderLaws::there))]
+#[tactic(auto, using(pl_folder::proofs::FolderLaws::there))]
 fn changes_files(rt: HostRuntime) -> Result<(), Fail> {
     let alloc = rt.alloc();
     let files = [file(alloc, "q", b"bytes of q")?, file(alloc, "b", b"1")?];

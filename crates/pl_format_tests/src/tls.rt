@@ -1,4 +1,4 @@
-use crate::{Block, Module, TlsFault, offsets};
+use pl_tls::{Block, Module, TlsFault, offsets};
 use std::test::Fail;
 
 fn block(size: u64, align: u64) -> Option<Block> {

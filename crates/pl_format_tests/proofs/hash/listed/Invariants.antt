@@ -1,7 +1,7 @@
 use Rattle.std.proofs.Common.{length}
 use Rattle.std.specs.Prelude.{IsTrue, IfSome}
 use Rattle.pl_hash.specs.Candidates.{candidates, is_candidate, rest_from}
-use Rattle.pl_hash.proofs.tests.listed.Given as goal
+use Rattle.pl_format_tests.proofs.hash.listed.Given as goal
 
 abbrev pub invariant-loop-at : goal.invariant-loop-at
 invariant-loop-at l = IfSome l.at (λ index. IsTrue (is_candidate l.table l.hash index))

@@ -1,6 +1,6 @@
 ghost use Rattle.std.specs.Prelude.{◌≡◌, IfOk};
 
-use crate::{
+use pl_slots::{
     PlanFault, Slot, Want, are_apart, greatest, lowest_place, plan, region_holes, without,
 };
 use pl_base::{Rows, Text};

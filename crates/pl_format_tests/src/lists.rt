@@ -1,6 +1,6 @@
 ghost use Rattle.std.specs.Prelude.{◌≡◌, IfOk};
 
-use crate::{
+use pl_lists::{
     ConflictRow, ListFault, ListRow, read_conflicts, read_list, write_conflicts, write_list,
 };
 use pl_base::Text;
@@ -29,7 +29,7 @@ const TABLE: [u8; 40] = [
 ];
 
 #[test]
-#[tactic(auto, unfolding(crate::specs::Lists::list_strings))]
+#[tactic(auto, unfolding(pl_lists::specs::Lists::list_strings))]
 fn list_both_ways(rt: HostRuntime) -> Result<(), Fail> {
     let alloc = rt.alloc();
     let rows = read_list(alloc, &TABLE, STRINGS)?;

@@ -1,7 +1,7 @@
-use crate::constants::{
+use pl_elf::constants::{
     ET_EXEC, HEADER_SIZE, PT_DYNAMIC, PT_LOAD, SECTION_SIZE, SEGMENT_SIZE, SHT_STRTAB,
 };
-use crate::*;
+use pl_elf::*;
 use pl_base::{part, put16, put32, put64};
 use std::alloc::{AllocError, Global};
 use std::process::Abort;

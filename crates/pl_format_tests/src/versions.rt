@@ -1,4 +1,4 @@
-use super::*;
+use pl_ver::*;
 use std::alloc::{AllocError, Global};
 use std::test::Fail;
 

@@ -1,7 +1,7 @@
 use Rattle.std.proofs.Common.{◌≡◌, ◌<◌, ℕ, [], ◌∷◌, arith}
 use Rattle.std.proofs.lemmas.List.Elements.{All-cons, All-nil}
 use Rattle.pl_slots.specs.declared.slot.Want.{Want}
-use Rattle.pl_slots.proofs.tests.two_libraries.Goals as goal
+use Rattle.pl_format_tests.proofs.slots.two_libraries.Goals as goal
 
 some : (align : ℕ) → align ≡ 0x1000 → 0 < align
 some align is = omega (arith, is)

@@ -1,9 +1,9 @@
-use crate::constants::{
+use pl_dyn::constants::{
     DT_GNU_HASH, DT_HASH, DT_INIT_ARRAY, DT_INIT_ARRAYSZ, DT_JMPREL, DT_NEEDED, DT_PLTGOT,
     DT_PLTREL, DT_PLTRELSZ, DT_RELA, DT_RELACOUNT, DT_RELAENT, DT_RELASZ, DT_SONAME, DT_STRSZ,
     DT_STRTAB, DT_SYMENT, DT_SYMTAB, DT_VERDEF, DT_VERDEFNUM, DT_VERSYM,
 };
-use crate::{
+use pl_dyn::{
     DynFault, entry, is_address_tag, is_ended, is_listed, is_packed_tag, is_prelink_tag,
     is_value_tag, read_dynamic, tag,
 };

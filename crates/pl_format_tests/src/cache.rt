@@ -1,4 +1,4 @@
-use crate::{Cache, CacheFault, is_cache, read_cache, write_cache};
+use pl_cache::{Cache, CacheFault, is_cache, read_cache, write_cache};
 use pl_base::Rows;
 use std::test::Fail;
 
