@@ -68,6 +68,12 @@ pub fn valid_text(name: &[u8]) -> Option<&str>
 {
     match str::from_utf8(name) {
         Err(_) => None,
-        Ok(text) => { if is_valid_name(name) { Some(text) } else { None } }
+        Ok(text) => {
+            if is_valid_name(name) {
+                Some(text)
+            } else {
+                None
+            }
+        }
     }
 }

@@ -45,7 +45,7 @@ pub fn other_class(bytes: &[u8]) -> bool
 }
 
 fn segment_offset(header: &Header, index: u16) -> u128
-    ensures place { result ≡ segment_offset header.now index }
+    ensures offset { result ≡ segment_offset header.now index }
     ensures small { result < 2 ^ 66 }
 {
     u128::from(header.phoff) + u128::from(SEGMENT_SIZE as u64 * u64::from(index))

@@ -398,11 +398,7 @@ fn reads_a_library(rt: HostRuntime) -> Result<(), Fail> {
 
         let found = listed(rt.alloc(), &gnu, name_hash(&gnu, name))?;
         assert_eq!(rt; found.len(), usize::from(index > 2), "{index}");
-        assert_eq!(rt;
-            found.as_slice().contains(&index),
-            index > 2,
-            "{index}"
-        );
+        assert_eq!(rt; found.as_slice().contains(&index), index > 2, "{index}");
     }
     Ok(())
 }

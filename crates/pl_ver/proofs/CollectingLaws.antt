@@ -38,7 +38,7 @@ add_all-append s [] rest = rw (add_all-none s) refl
 add_all-append s (r ∷ front) rest =
     rw (add_all-cons s r (front ++ rest), add_all-cons s r front) (append_by (add s r) front rest (λ t. add_all-append t front rest))
 
--- ---- a loop along a chain, with a record for each place
+-- ---- a loop along a chain, with a record for each offset
 
 pub each_step : (f : ℕ → Record) (size : ℕ) (section : List ℕ) (count at : ℕ) (s : List Record) → 0 < count
     → add_all s (map f (chain size section count at)) ≡ (add s (f at) >>= λ t. add_all t (map f (chain size section (count - 1) (at + next size section at))))
@@ -63,7 +63,7 @@ pub each_done : (f : ℕ → Record) (size : ℕ) (section : List ℕ) (count at
     → add_all s (map f (chain size section count at)) ≡ whole → whole ≡ Ok s
 each_done f size section count at s whole none so_far = sym so_far ∙ rw (chain_none size section count at none) (add_all-none s)
 
--- ---- a loop along a chain, with a list of records for each place
+-- ---- a loop along a chain, with a list of records for each offset
 
 pub lists_step : (g : ℕ → List Record) (size : ℕ) (section : List ℕ) (count at : ℕ) (s : List Record) → 0 < count
     → add_all s (flat_map g (chain size section count at)) ≡ (add_all s (g at) >>= λ t. add_all t (flat_map g (chain size section (count - 1) (at + next size section at))))
