@@ -3,9 +3,8 @@ ghost use Rattle.std.specs.Prelude.{◌≡◌, ◌<◌, ◌≤◌, ◌+◌, ◌^
 ghost use Rattle.std.specs.List.{list_all};
 ghost use Rattle.pl_build.specs.Words as spec;
 
-use crate::names::is_valid_name;
 use bstr::ByteSlice;
-use pl_base::Rows;
+use pl_base::{Rows, is_valid_name};
 use std::alloc::{AllocError, Global};
 
 /// A copy of some bytes.

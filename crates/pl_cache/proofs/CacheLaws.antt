@@ -16,7 +16,8 @@ use Rattle.pl_base.proofs.WordLaws.{is_bytes_drop}
 use Rattle.pl_slots.specs.declared.slot.Slot.{Slot}
 use Rattle.pl_slots.specs.Apart.{are_apart}
 use Rattle.pl_cache.specs.declared.cache.Cache.{Cache}
-use Rattle.pl_cache.specs.declared.constants.TheConstants.{MAGIC, MAX_ROWS, PAGE, ADDRESS_END}
+use Rattle.pl_cache.specs.declared.constants.TheConstants.{MAGIC, MAX_ROWS}
+use Rattle.pl_elf.specs.declared.constants.TheConstants.{PAGE, ADDRESS_LIMIT}
 use Rattle.pl_cache.specs.declared.fault.CacheFault.{CacheFault}
 use Rattle.pl_cache.specs.declared.fault.CacheFault.TheVariants.{BadCache, NoMemory}
 use Rattle.pl_cache.specs.Spelling.{cache_bytes, row_bytes, is_row, is_cache, ascend, IsCacheOf}
@@ -83,11 +84,11 @@ is_found bytes (Err e) fits given = tt
 row_fits : (slot : Slot) → is_row slot ≡ true → RowFits slot
 unfolding is_row
 row_fits slot good =
-    let p4 = and_parts (is_valid_name slot.name && is_aligned slot.start PAGE && is_aligned slot.span PAGE && nat_lt 0 slot.span) (nat_le (slot.start + slot.span) ADDRESS_END) good in
+    let p4 = and_parts (is_valid_name slot.name && is_aligned slot.start PAGE && is_aligned slot.span PAGE && nat_lt 0 slot.span) (nat_le (slot.start + slot.span) ADDRESS_LIMIT) good in
     let p3 = and_parts (is_valid_name slot.name && is_aligned slot.start PAGE && is_aligned slot.span PAGE) (nat_lt 0 slot.span) p4.0 in
     let p2 = and_parts (is_valid_name slot.name && is_aligned slot.start PAGE) (is_aligned slot.span PAGE) p3.0 in
     let p1 = and_parts (is_valid_name slot.name) (is_aligned slot.start PAGE) p2.0 in
-    let end : slot.start + slot.span ≤ ADDRESS_END = leb-true (slot.start + slot.span) ADDRESS_END p4.1 in
+    let end : slot.start + slot.span ≤ ADDRESS_LIMIT = leb-true (slot.start + slot.span) ADDRESS_LIMIT p4.1 in
     record { valid = p1.0; start = omega (arith, end); span = omega (arith, end) }
 
 rows_fit : (slots : List Slot) → list_all is_row slots ≡ true → all_fit slots

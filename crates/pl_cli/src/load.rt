@@ -9,9 +9,8 @@ ghost use Rattle.pl_cli.specs.Outcome.{Stops, of_take};
 
 use crate::cause::Cause;
 use crate::stop::Stop;
-use pl_base::Text;
+use pl_base::{Text, is_valid_name};
 use pl_folder::{Folder, FolderFault};
-use pl_io::valid_name;
 use pl_loader::{Loader, Started};
 use std::alloc::{AllocError, Global};
 
@@ -37,7 +36,7 @@ fn take<D: Folder>(alloc: Global, folder: &mut D, name: &str) -> Result<Vec<u8>,
     ensures counts { D.faults folder.old ≤ D.faults folder.new }
     ensures place { D.place folder.new ≡ D.place folder.old }
 {
-    if !valid_name(name) {
+    if !is_valid_name(name.as_bytes()) {
         return Err(untaken(alloc, name, FolderFault::NotThere)?);
     }
     match folder.take(alloc, name) {
@@ -56,7 +55,7 @@ pub fn load<D: Folder>(alloc: Global, folder: &mut D, name: &str) -> Result<Load
     ensures counts { D.faults folder.old ≤ D.faults folder.new }
     ensures place { D.place folder.new ≡ D.place folder.old }
 {
-    if !valid_name(name) {
+    if !is_valid_name(name.as_bytes()) {
         return Err(Stop::Cause(Cause::BadName));
     }
     let mut loader = Loader::new(alloc, name)?;

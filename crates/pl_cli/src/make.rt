@@ -13,10 +13,10 @@ use crate::cause::Cause;
 use crate::room::is_full;
 use crate::stop::Stop;
 use crate::text::made_text;
-use pl_base::Rows;
+use pl_base::{Rows, is_valid_name};
 use pl_build::build;
 use pl_folder::{Folder, replace};
-use pl_io::{Source, read_all, valid_name};
+use pl_io::{Source, read_all};
 use std::alloc::Global;
 
 /// The most bytes of a recipe: 1 MiB.
@@ -51,7 +51,7 @@ fn made<D: Folder, S: Source>(
     ensures input_tells { is_some (S.left input.new) ≡ is_some (S.left input.old) }
     ensures input_counts { S.faults input.old ≤ S.faults input.new }
 {
-    if !valid_name(name) {
+    if !is_valid_name(name.as_bytes()) {
         return Err(Stop::Cause(Cause::BadName));
     }
     let bytes = built(alloc, input)?;

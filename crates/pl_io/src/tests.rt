@@ -1,7 +1,8 @@
 use crate::{
-    Failed, MemorySink, MemorySource, ReadFault, Sink, Source, StdSink, StdSource, own_name,
-    read_all, valid_name, write_all,
+    Failed, MemorySink, MemorySource, ReadFault, Sink, Source, StdSink, StdSource, read_all,
+    write_all,
 };
+use pl_base::{is_own_name, is_valid_name};
 use std::test::Fail;
 
 #[test]
@@ -97,12 +98,12 @@ fn knows_valid_names(rt: HostRuntime) -> Result<(), Fail> {
         (".prelink.cache", false),
     ];
     for (name, is_valid) in names {
-        assert_eq!(rt; valid_name(name), is_valid, "{name}");
-        assert_eq!(rt; own_name(name), name.starts_with(".prelink."), "{name}");
+        assert_eq!(rt; is_valid_name(name.as_bytes()), is_valid, "{name}");
+        assert_eq!(rt; is_own_name(name.as_bytes()), name.starts_with(".prelink."), "{name}");
     }
     for (len, is_valid) in [(255, true), (256, false)] {
         let name = "n".repeat(alloc, len)?;
-        assert_eq!(rt; valid_name(&name), is_valid, "{len} bytes");
+        assert_eq!(rt; is_valid_name(name.as_bytes()), is_valid, "{len} bytes");
     }
     Ok(())
 }

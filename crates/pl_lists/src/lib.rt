@@ -9,7 +9,6 @@ mod list_row;
 mod read;
 #[cfg(test)]
 mod tests;
-mod words;
 mod write;
 
 pub use conflict_row::ConflictRow;

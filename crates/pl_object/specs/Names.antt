@@ -8,7 +8,7 @@ use Rattle.pl_elf.specs.declared.section.Section.{Section}
 use Rattle.pl_dyn.specs.Read.{has_number}
 use Rattle.pl_dyn.specs.declared.constants.TheConstants.{DT_NEEDED, DT_VERSYM, DT_VERDEF, DT_VERDEFNUM, DT_VERNEED, DT_VERNEEDNUM}
 use Rattle.pl_dyn.specs.declared.tags.Tag.{Tag}
-use Rattle.pl_sym.specs.Strings.{string_at}
+use Rattle.pl_base.specs.Strings.{string_at}
 use Rattle.pl_sym.specs.Table as table
 use Rattle.pl_sym.specs.declared.symbol.Symbol.{Symbol}
 use Rattle.pl_ver.specs.Versions as ver

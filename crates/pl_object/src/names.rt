@@ -3,7 +3,6 @@ ghost use Rattle.std.specs.Prelude.{◌≡◌, ◌<◌, ◌≤◌, ◌^◌, leng
 ghost use Rattle.std.specs.Option.{option_map};
 ghost use Rattle.pl_base.specs.Answers.{Answers};
 ghost use Rattle.pl_base.specs.Each.{each};
-ghost use Rattle.pl_base.specs.Names.{is_valid_name};
 ghost use Rattle.pl_dyn.specs.Read.{has_number};
 ghost use Rattle.pl_object.specs.Refusals.{is_memory};
 ghost use Rattle.pl_object.specs.Names as spec;
@@ -11,25 +10,14 @@ ghost use Rattle.pl_object.specs.Names as spec;
 use crate::Refusal;
 use crate::file_part::loaded;
 use crate::tags::{has_tag, section_memory, strings_memory, symbols_memory, value};
-use pl_base::{Rows, Text};
+use pl_base::{Rows, Text, string_at, valid_text};
 use pl_dyn::constants::{DT_NEEDED, DT_VERDEF, DT_VERDEFNUM, DT_VERNEED, DT_VERNEEDNUM, DT_VERSYM};
 use pl_dyn::{Dynamic, Tag};
 use pl_elf::{Section, Segment};
-use pl_io::valid_name;
-use pl_sym::{Symbol, read_symbols, string_at};
+use pl_sym::{Symbol, read_symbols};
 use pl_ver::constants::VERSYM_SIZE;
 use pl_ver::{Versions, read_versions};
 use std::alloc::{AllocError, Global};
-
-/// A name's bytes as text, where it is valid.
-fn checked_name(name: &[u8]) -> Option<&str>
-    ensures { option_map (λ x. x.now) result ≡ (if is_valid_name name.now then Some name.now else None) }
-{
-    match str::from_utf8(name) {
-        Err(_) => None,
-        Ok(text) => { if valid_name(text) { Some(text) } else { None } }
-    }
-}
 
 #[tactic(auto, unfolding(crate::specs::Names::needed_name))]
 fn needed_name(alloc: Global, strings: &[u8], tag: &Tag) -> Result<Text, Refusal>
@@ -38,7 +26,7 @@ fn needed_name(alloc: Global, strings: &[u8], tag: &Tag) -> Result<Text, Refusal
     let Some(bytes) = string_at(strings, tag.value) else {
         return Err(Refusal::clause(15));
     };
-    match checked_name(bytes) {
+    match valid_text(bytes) {
         None => Err(Refusal::clause(15)),
         Some(name) => Ok(Text::copy_of(alloc, name)?),
     }

@@ -8,9 +8,8 @@ ghost use Rattle.pl_object.specs.Runs as runs;
 ghost use Rattle.pl_object.specs.Twins as spec;
 
 use pl_hash::gnu_hash;
-use pl_sym::constants::VER_NDX_GLOBAL;
 use pl_sym::{Class, Symbol, is_definer};
-use pl_ver::constants::VERSYM_HIDDEN;
+use pl_ver::constants::{VER_NDX_GLOBAL, VERSYM_HIDDEN};
 use pl_ver::{Versions, version_of};
 use std::alloc::{AllocError, Global};
 

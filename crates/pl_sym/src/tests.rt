@@ -1,10 +1,11 @@
 use crate::constants::{
     SHN_ABS, SHN_HIRESERVE, SHN_LORESERVE, SHN_UNDEF, STB_GLOBAL, STB_GNU_UNIQUE, STB_LOCAL,
     STB_WEAK, STT_COMMON, STT_FILE, STT_FUNC, STT_GNU_IFUNC, STT_NOTYPE, STT_OBJECT, STT_SECTION,
-    STT_TLS, STV_DEFAULT, STV_HIDDEN, STV_INTERNAL, STV_PROTECTED, VER_NDX_GLOBAL,
+    STT_TLS, STV_DEFAULT, STV_HIDDEN, STV_INTERNAL, STV_PROTECTED,
 };
-use crate::{Class, SymFault, Symbol, is_definer, read_symbols, string_at};
-use pl_base::Rows;
+use crate::{Class, SymFault, Symbol, is_definer, read_symbols};
+use pl_base::{Rows, string_at};
+use pl_ver::constants::VER_NDX_GLOBAL;
 use std::alloc::Global;
 use std::process::Abort;
 use std::test::Fail;

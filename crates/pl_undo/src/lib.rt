@@ -7,7 +7,6 @@ mod read;
 #[cfg(test)]
 mod tests;
 mod undo;
-mod words;
 mod write;
 
 pub use constants::{HEADERS_AT, UNDO_MAGIC};

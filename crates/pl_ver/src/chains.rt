@@ -8,8 +8,7 @@ use crate::constants::{
 };
 use crate::fields::{following, next, verdef_count, verdef_names, verneed_count, verneed_versions};
 use crate::lengths::{has_length, lengths};
-use crate::strings::Strings;
-use pl_base::{end, word32};
+use pl_base::{Strings, end, word32};
 use std::alloc::{AllocError, Global};
 
 /// Whether a record lies in its section, and its `next` is 0 exactly where no more records follow.

@@ -6,8 +6,7 @@ ghost use Rattle.pl_ver.specs.Lengths as spec;
 use crate::chains::is_named;
 use crate::constants::NEXT_SIZE;
 use crate::fields::next;
-use crate::strings::Strings;
-use pl_base::end;
+use pl_base::{Strings, end};
 use std::alloc::{AllocError, Global};
 
 /// The length at an offset, 0 past the end.

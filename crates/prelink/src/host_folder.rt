@@ -5,9 +5,9 @@ ghost use Rattle.pl_base.specs.Names.{IsNameLength};
 ghost use Rattle.pl_folder.specs.Calls.{Stops};
 ghost use Rattle.pl_folder.specs.declared.TheConstants.{STORED};
 
-use pl_base::MAX_NAME;
+use pl_base::{MAX_NAME, is_own_name, is_valid_name};
 use pl_folder::{Folder, FolderFault, STORED};
-use pl_io::{Failed, own_name, valid_name};
+use pl_io::Failed;
 use std::alloc::{AllocError, Global};
 use std::fs::{self, Files, OpenFile};
 use std::io::{self, Read, Write};
@@ -63,7 +63,7 @@ fn fault_of(error: io::Error) -> FolderFault {
 fn is_listed(name: &str) -> bool
     ensures { result ≡ true → IsNameLength name.now }
 {
-    !name.is_empty() && name.len() <= MAX_NAME && (valid_name(name) || own_name(name))
+    !name.is_empty() && name.len() <= MAX_NAME && (is_valid_name(name.as_bytes()) || is_own_name(name.as_bytes()))
 }
 
 // Adds the name of a file, where the folder lists it.

@@ -1,7 +1,7 @@
 use Rattle.std.proofs.Common.{◌≡◌, ℕ, List, true, subst}
 use Rattle.std.specs.Prelude.{Ok, Err, is_some}
 use Rattle.pl_base.specs.Counts.{Rose}
-use Rattle.pl_folder.proofs.ReplaceLemmas.{IfErr-at}
+use Rattle.pl_base.proofs.ResultLaws.{IfErr-at}
 use Rattle.pl_build.specs.Build.{build, Builds}
 use Rattle.pl_cli.specs.Make as spec
 use Rattle.pl_cli.specs.Outcome.{Stops, of_read_fault, of_recipe_fault}

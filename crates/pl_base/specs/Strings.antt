@@ -1,9 +1,14 @@
--- Strings of a string table (gABI chapter 4, "String Table").
+-- Strings of a string table (gABI chapter 4, "String Table"): each goes up to a 0 byte, which ends it.
 use Rattle.std.specs.Prelude.{ℕ, Bool, ◌==◌, List, take, drop, position, Option}
+use Rattle.std.specs.List.{list_any}
 use Rattle.std.specs.Option.{option_map}
 
 abbrev pub is_zero : ℕ → Bool
 is_zero byte = byte == 0
+
+-- a string that begins at an offset has an end: a 0 byte follows
+unfoldable pub has_end : ℕ → List ℕ → Bool
+has_end at strings = list_any is_zero (drop at strings)
 
 -- the bytes up to the first 0, without it, where there is one
 unfoldable pub ended : List ℕ → Option (List ℕ)
