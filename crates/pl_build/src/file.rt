@@ -228,7 +228,7 @@ fn file_end(plan: &Plan, tables_end: u64, names: &Strings) -> u128
     requires { tables_end < 2 ^ 32 }
     ensures { result ≡ spec.file_end plan.now tables_end names.now }
 {
-    sections_offset(plan, tables_end, names) + 64 * plan.roles.len() as u128
+    sections_offset(plan, tables_end, names) + SECTION_SIZE as u128 * plan.roles.len() as u128
 }
 
 #[tactic(auto, unfolding(crate::specs::File::limited))]

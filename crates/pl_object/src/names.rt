@@ -1,6 +1,5 @@
 // Acceptance clauses 15 to 18: the names of needed libraries, of symbols and of versions.
-ghost use Rattle.std.specs.Prelude.{◌≡◌, ◌<◌, ◌≤◌, ◌^◌, length, filter, if◌then◌else◌, Some, None, IfOk};
-ghost use Rattle.std.specs.Option.{option_map};
+ghost use Rattle.std.specs.Prelude.{◌≡◌, ◌<◌, ◌≤◌, ◌^◌, length, filter, IfOk};
 ghost use Rattle.pl_base.specs.Answers.{Answers};
 ghost use Rattle.pl_base.specs.Each.{each};
 ghost use Rattle.pl_dyn.specs.Read.{has_number};

@@ -6,14 +6,17 @@ use pl_elf::HeaderFault;
 use pl_sym::SymFault;
 use pl_ver::VerFault;
 use std::alloc::{AllocError, AllocFailed};
+use thiserror::Error;
 
 /// Why a file is no object.
-#[derive(Clone, Copy, Debug, PartialEq, Eq)]
+#[derive(Clone, Copy, Debug, PartialEq, Eq, Error)]
 pub enum Refusal {
     /// The first acceptance clause that refuses it, and what of it does: a tag's number for clauses 10 and 11, a relocation's kind for clause 23, else 0.
+    #[error("acceptance clause {number} refuses the file")]
     Clause { number: u32, argument: u64 },
 
     /// There was no memory for the answer.
+    #[error("out of memory")]
     NoMemory,
 }
 
