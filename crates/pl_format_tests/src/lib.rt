@@ -1,6 +1,8 @@
-//! Tests of the crates that read and write the parts of a file, of a folder and of the cache, and that plan addresses.
+//! Tests of the crates below pl_object, one module for each crate.
 #![tactic(auto)]
 
+#[cfg(test)]
+mod base;
 #[cfg(test)]
 mod cache;
 #[cfg(test)]

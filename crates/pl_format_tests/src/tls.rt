@@ -1,53 +1,64 @@
+// Tests of pl_tls.
 use pl_tls::{Block, Module, TlsFault, offsets};
-use std::test::Fail;
 
-fn block(size: u64, align: u64) -> Option<Block> {
-    Some(Block { size, align })
-}
+const BLOCKS: [Option<Block>; 4] = [
+    Some(Block { size: 8, align: 8 }),
+    None,
+    Some(Block {
+        size: 8,
+        align: 0x40,
+    }),
+    Some(Block { size: 5, align: 1 }),
+];
+
+const MODULES: [Module; 3] = [
+    Module {
+        member: 0,
+        number: 1,
+        offset: 8,
+    },
+    Module {
+        member: 2,
+        number: 2,
+        offset: 0x40,
+    },
+    Module {
+        member: 3,
+        number: 3,
+        offset: 0x45,
+    },
+];
 
 #[test]
-fn numbers_and_offsets(rt: HostRuntime) -> Result<(), Fail> {
-    let alloc = rt.alloc();
-    let blocks = [block(8, 8), None, block(8, 0x40), block(5, 1)];
-    let modules = offsets(alloc, &blocks)?;
-    let expected = [(0, 1, 0x8), (2, 2, 0x40), (3, 3, 0x45)];
-    assert_eq!(rt; modules.len(), expected.len());
-    for (module, (member, number, offset)) in modules.as_slice().iter().zip(expected) {
-        assert_eq!(rt;
-            *module,
-            Module {
-                member,
-                number,
-                offset
-            }
-        );
-    }
+fn gives_numbers_and_offsets(rt: HostRuntime) -> Result<(), TlsFault> {
+    let modules = offsets(rt.alloc(), &BLOCKS)?;
+    assert!(rt; modules.as_slice() == MODULES.as_slice());
     Ok(())
 }
 
+/// The size and the alignment of a block alone, and whether its offset is at most 2^30.
+const LARGE: [(u64, u64, bool); 6] = [
+    (0x4000_0000, 1, true),
+    (0x4000_0001, 1, false),
+    (1, 0x4000_0000, true),
+    (0x3fff_ffff, 0, true),
+    (1, 0x4000_0001, false),
+    (u64::MAX, u64::MAX, false),
+];
+
 #[test]
-fn greatest_offset(rt: HostRuntime) -> Result<(), Fail> {
-    let alloc = rt.alloc();
-    let cases = [
-        (block(0x4000_0000, 1), true),
-        (block(0x4000_0001, 1), false),
-        (block(1, 0x4000_0000), true),
-        (block(0x3fff_ffff, 0), true),
-        (block(1, 0x4000_0001), false),
-        (block(u64::MAX, u64::MAX), false),
-    ];
-    for (last, fits) in cases {
-        let blocks = [block(0, 1), last];
-        match offsets(alloc, &blocks) {
-            Ok(modules) => {
-                assert!(rt; fits);
-                assert_eq!(rt; modules.len(), 2);
-            }
-            Err(fault) => {
-                assert!(rt; !fits);
-                assert_eq!(rt; fault, TlsFault::TooLarge);
-            }
-        }
+fn knows_the_greatest_offset(rt: HostRuntime) {
+    for (size, align, fits) in &LARGE {
+        let block = Block {
+            size: *size,
+            align: *align,
+        };
+        let fault = offsets(rt.alloc(), &[Some(block)]).err();
+        let wanted = if *fits {
+            None
+        } else {
+            Some(TlsFault::TooLarge)
+        };
+        assert!(rt; fault == wanted, "{size} {align}");
     }
-    Ok(())
 }

@@ -1,36 +1,28 @@
-use pl_ver::*;
-use std::alloc::{AllocError, Global};
-use std::test::Fail;
+// Tests of pl_ver.
+use pl_ver::{VerFault, Versions, read_versions, version_of};
+use std::alloc::Global;
 
-/// The sections from which versions are read.
-#[derive(Drop)]
-struct Sections {
-    versym: Vec<u8>,
-    verdef: Vec<u8>,
+/// The sections from which versions are read, and how many Verdef and Verneed records there are.
+#[derive(Clone, Copy)]
+struct Sections<'a> {
+    versym: &'a [u8],
+    verdef: &'a [u8],
     defs: u64,
-    verneed: Vec<u8>,
+    verneed: &'a [u8],
     needs: u64,
-    strings: Vec<u8>,
+    strings: &'a [u8],
 }
 
-#[derive(Clone, Copy, Debug)]
-enum Edit {
-    Nothing,
-
-    /// A byte of a section put at an offset.
-    Versym(usize, u8),
-    Verdef(usize, u8),
-    Verneed(usize, u8),
-
-    /// A section cut to so many bytes.
-    CutVersym(usize),
-    CutVerdef(usize),
-    CutVerneed(usize),
-    CutStrings(usize),
-
-    /// A count.
-    Defs(u64),
-    Needs(u64),
+fn read(alloc: Global, sections: &Sections<'_>) -> Result<Versions, VerFault> {
+    read_versions(
+        alloc,
+        sections.versym,
+        sections.verdef,
+        sections.defs,
+        sections.verneed,
+        sections.needs,
+        sections.strings,
+    )
 }
 
 const STRINGS: &[u8] = b"\0base\0V1\0V2\0libb\0B1\0B2\0";
@@ -71,182 +63,228 @@ const LINKED_VERNEED: [u8; 48] = [
     0, 0, 82, 4, 0, 0, 0, 0, 4, 0, 45, 0, 0, 0, 0, 0, 0, 0,
 ];
 
-fn made(alloc: Global) -> Result<Sections, AllocError> {
-    Ok(Sections {
-        versym: Vec::from_slice(alloc, &VERSYM)?,
-        verdef: Vec::from_slice(alloc, &VERDEF)?,
-        defs: 3,
-        verneed: Vec::from_slice(alloc, &VERNEED)?,
-        needs: 1,
-        strings: Vec::from_slice(alloc, STRINGS)?,
-    })
-}
+const MADE: Sections<'static> = Sections {
+    versym: &VERSYM,
+    verdef: &VERDEF,
+    defs: 3,
+    verneed: &VERNEED,
+    needs: 1,
+    strings: STRINGS,
+};
 
-fn linked(alloc: Global) -> Result<Sections, AllocError> {
-    Ok(Sections {
-        versym: Vec::from_slice(alloc, &LINKED_VERSYM)?,
-        verdef: Vec::from_slice(alloc, &LINKED_VERDEF)?,
-        defs: 3,
-        verneed: Vec::from_slice(alloc, &LINKED_VERNEED)?,
-        needs: 1,
-        strings: Vec::from_slice(alloc, LINKED_STRINGS)?,
-    })
-}
+const LINKED: Sections<'static> = Sections {
+    versym: &LINKED_VERSYM,
+    verdef: &LINKED_VERDEF,
+    defs: 3,
+    verneed: &LINKED_VERNEED,
+    needs: 1,
+    strings: LINKED_STRINGS,
+};
 
-fn put(section: &mut Vec<u8>, at: usize, byte: u8) {
-    if let Some(place) = section.get_mut(at) {
-        *place = byte;
+/// Index, name, and whether the version is defined.
+const LINKED_NAMES: [(u16, &[u8], bool); 5] = [
+    (1, b"liba.so", true),
+    (2, b"V1", true),
+    (3, b"V2", true),
+    (5, b"B1", false),
+    (4, b"B2", false),
+];
+
+#[test]
+fn reads_what_a_linker_wrote(rt: HostRuntime) -> Result<(), VerFault> {
+    let linked = read(rt.alloc(), &LINKED)?;
+    let index = [0, 4, 5, 0x8002, 3, 3, 2, 2, 3];
+    assert!(rt; linked.index.as_slice() == index.as_slice());
+    assert!(rt; linked.names.len() == LINKED_NAMES.len());
+    for (row, (index, name, defined)) in linked.names.as_slice().iter().zip(&LINKED_NAMES) {
+        assert!(rt; row.index == *index && row.defined == *defined, "{index}");
+        assert!(rt; row.name.as_slice() == *name, "{index}");
     }
+    Ok(())
 }
 
-fn edited(mut sections: Sections, edit: Edit) -> Sections {
-    match edit {
-        Edit::Nothing => {}
-        Edit::Versym(at, byte) => put(&mut sections.versym, at, byte),
-        Edit::Verdef(at, byte) => put(&mut sections.verdef, at, byte),
-        Edit::Verneed(at, byte) => put(&mut sections.verneed, at, byte),
-        Edit::CutVersym(size) => sections.versym.truncate(size),
-        Edit::CutVerdef(size) => sections.verdef.truncate(size),
-        Edit::CutVerneed(size) => sections.verneed.truncate(size),
-        Edit::CutStrings(size) => sections.strings.truncate(size),
-        Edit::Defs(count) => sections.defs = count,
-        Edit::Needs(count) => sections.needs = count,
+/// Words of symbols, and the names of their versions in the sections that are made and in those of the linker.
+const ASKED: [(u16, Option<&[u8]>, Option<&[u8]>); 8] = [
+    (0, None, None),
+    (1, Some(b"base"), Some(b"liba.so")),
+    (2, Some(b"V1"), Some(b"V1")),
+    (0x8002, Some(b"V1"), Some(b"V1")),
+    (4, Some(b"B1"), Some(b"B2")),
+    (0x8005, Some(b"B2"), Some(b"B1")),
+    (6, None, None),
+    (0xffff, None, None),
+];
+
+#[test]
+fn finds_versions(rt: HostRuntime) -> Result<(), VerFault> {
+    let alloc = rt.alloc();
+    let made = read(alloc, &MADE)?;
+    let linked = read(alloc, &LINKED)?;
+    for (word, of_made, of_linked) in &ASKED {
+        assert!(rt; version_of(&made, *word) == *of_made, "{word}");
+        assert!(rt; version_of(&linked, *word) == *of_linked, "{word}");
     }
-    sections
-}
-
-fn read(alloc: Global, sections: &Sections) -> Result<Versions, VerFault> {
-    read_versions(
-        alloc,
-        &sections.versym,
-        &sections.verdef,
-        sections.defs,
-        &sections.verneed,
-        sections.needs,
-        &sections.strings,
-    )
-}
-
-fn fault(alloc: Global, sections: &Sections) -> Option<VerFault> {
-    match read(alloc, sections) {
-        Ok(_) => None,
-        Err(fault) => Some(fault),
-    }
+    Ok(())
 }
 
 const BAD_CHAIN: Option<VerFault> = Some(VerFault::BadChain);
 
 const BAD_INDEX: Option<VerFault> = Some(VerFault::BadIndex);
 
-#[test]
-fn refuses_by_the_first_clause(rt: HostRuntime) -> Result<(), Fail> {
-    let alloc = rt.alloc();
-    let cases = [
-        (Edit::Nothing, None),
-        // records that pass their section, and names without end
-        (Edit::CutVerdef(83), BAD_CHAIN),
-        (Edit::CutVerneed(47), BAD_CHAIN),
-        (Edit::Verdef(69, 1), BAD_CHAIN),
-        (Edit::Verneed(9, 1), BAD_CHAIN),
-        (Edit::Verdef(20, 23), BAD_CHAIN),
-        (Edit::Verdef(51, 255), BAD_CHAIN),
-        (Edit::Verneed(4, 23), BAD_CHAIN),
-        (Edit::Verneed(40, 23), BAD_CHAIN),
-        (Edit::Verneed(40, 22), None),
-        (Edit::CutStrings(22), BAD_CHAIN),
-        // chains longer or shorter than their counts
-        (Edit::Defs(2), BAD_CHAIN),
-        (Edit::Defs(4), BAD_CHAIN),
-        (Edit::Defs(u64::MAX), BAD_CHAIN),
-        (Edit::Needs(2), BAD_CHAIN),
-        (Edit::Verdef(16, 0), BAD_CHAIN),
-        (Edit::Verdef(72, 4), BAD_CHAIN),
-        (Edit::Verdef(6, 2), BAD_CHAIN),
-        (Edit::Verdef(24, 8), BAD_CHAIN),
-        (Edit::Verneed(2, 1), BAD_CHAIN),
-        (Edit::Verneed(2, 3), BAD_CHAIN),
-        (Edit::Verneed(12, 16), BAD_CHAIN),
-        (Edit::Verneed(28, 0), BAD_CHAIN),
-        // a Verdef without a name; counts of 0 elsewhere read nothing
-        (Edit::Verdef(6, 0), BAD_CHAIN),
-        (Edit::Defs(0), BAD_INDEX),
-        (Edit::Needs(0), BAD_INDEX),
-        (Edit::Verneed(2, 0), BAD_INDEX),
-        // indices of symbols
-        (Edit::Versym(14, 9), BAD_INDEX),
-        (Edit::Versym(15, 0x80), None),
-        (Edit::Versym(15, 0x40), BAD_INDEX),
-        (Edit::CutVersym(15), None),
-        (Edit::CutVersym(0), None),
-        // indices of records
-        (Edit::Verdef(32, 3), BAD_INDEX),
-        (Edit::Verneed(22, 2), BAD_INDEX),
-        (Edit::Verneed(22, 5), BAD_INDEX),
-        (Edit::Verdef(33, 0x80), BAD_INDEX),
-        (Edit::Verdef(2, 0), BAD_INDEX),
-        (Edit::Verdef(2, 2), BAD_INDEX),
-        (Edit::Verdef(2, 3), None),
-        (Edit::Verdef(4, 0), None),
-        (Edit::Verdef(30, 1), None),
-        (Edit::Verneed(38, 0), BAD_INDEX),
-        // a Verdaux that two Verdefs share
-        (Edit::Verdef(12, 48), None),
-        // versions, hashes, flags of Vernaux records
-        (Edit::Verdef(0, 9), None),
-        (Edit::Verdef(8, 9), None),
-        (Edit::Verneed(0, 9), None),
-        (Edit::Verneed(16, 9), None),
-        (Edit::Verneed(20, 9), None),
-    ];
-    for (edit, want) in cases {
-        let sections = edited(made(alloc)?, edit);
-        assert_eq!(rt; fault(alloc, &sections), want, "{edit:?}");
+/// An offset in a section, the byte that is put there, and the first clause that refuses it then.
+type Edit = (usize, u8, Option<VerFault>);
+
+/// Indices of symbols.
+const VERSYM_EDITS: [Edit; 3] = [(14, 9, BAD_INDEX), (15, 0x80, None), (15, 0x40, BAD_INDEX)];
+
+const VERDEF_EDITS: [Edit; 18] = [
+    // records that pass their section, and names without end
+    (69, 1, BAD_CHAIN),
+    (20, 23, BAD_CHAIN),
+    (51, 255, BAD_CHAIN),
+    // chains longer or shorter than their counts
+    (16, 0, BAD_CHAIN),
+    (72, 4, BAD_CHAIN),
+    (6, 2, BAD_CHAIN),
+    (24, 8, BAD_CHAIN),
+    // a Verdef without a name
+    (6, 0, BAD_CHAIN),
+    // indices of records
+    (32, 3, BAD_INDEX),
+    (33, 0x80, BAD_INDEX),
+    (2, 0, BAD_INDEX),
+    (2, 2, BAD_INDEX),
+    (2, 3, None),
+    (4, 0, None),
+    (30, 1, None),
+    // a Verdaux that two Verdefs share
+    (12, 48, None),
+    // versions and hashes
+    (0, 9, None),
+    (8, 9, None),
+];
+
+const VERNEED_EDITS: [Edit; 15] = [
+    // records that pass their section, and names without end
+    (9, 1, BAD_CHAIN),
+    (4, 23, BAD_CHAIN),
+    (40, 23, BAD_CHAIN),
+    (40, 22, None),
+    // chains longer or shorter than their counts
+    (2, 1, BAD_CHAIN),
+    (2, 3, BAD_CHAIN),
+    (12, 16, BAD_CHAIN),
+    (28, 0, BAD_CHAIN),
+    // a Verneed without a version reads nothing
+    (2, 0, BAD_INDEX),
+    // indices of records
+    (22, 2, BAD_INDEX),
+    (22, 5, BAD_INDEX),
+    (38, 0, BAD_INDEX),
+    // versions, hashes, flags of Vernaux records
+    (0, 9, None),
+    (16, 9, None),
+    (20, 9, None),
+];
+
+fn put(section: &mut [u8], at: usize, byte: u8) {
+    if at < section.len() {
+        section[at] = byte;
     }
-    // the second name of V2
-    let unnamed = edited(linked(alloc)?, Edit::Verdef(84, 255));
-    assert_eq!(rt; fault(alloc, &unnamed), BAD_CHAIN);
-    Ok(())
+}
+
+fn fault(alloc: Global, sections: &Sections<'_>) -> Option<VerFault> {
+    read(alloc, sections).err()
 }
 
 #[test]
-fn reads_what_a_linker_wrote(rt: HostRuntime) -> Result<(), Fail> {
-    let alloc = rt.alloc();
-    let made = read(alloc, &made(alloc)?)?;
-    assert_eq!(rt;
-        made.index.as_slice(),
-        [0, 1, 2, 0x8002, 3, 4, 5, 1].as_slice()
-    );
-    let linked = read(alloc, &linked(alloc)?)?;
-    assert_eq!(rt;
-        linked.index.as_slice(),
-        [0, 4, 5, 0x8002, 3, 3, 2, 2, 3].as_slice()
-    );
-    let names: [(u16, &[u8], bool); 5] = [
-        (1, b"liba.so", true),
-        (2, b"V1", true),
-        (3, b"V2", true),
-        (5, b"B1", false),
-        (4, b"B2", false),
-    ];
-    assert_eq!(rt; linked.names.len(), names.len());
-    for (row, (index, name, defined)) in linked.names.as_slice().iter().zip(names) {
-        assert_eq!(rt; row.index, index);
-        assert_eq!(rt; row.name.as_slice(), name);
-        assert_eq!(rt; row.defined, defined);
+fn refuses_by_the_first_clause(rt: HostRuntime) {
+    for (at, byte, wanted) in &VERSYM_EDITS {
+        let mut versym = VERSYM;
+        put(&mut versym, *at, *byte);
+        let sections = Sections {
+            versym: &versym,
+            ..MADE
+        };
+        assert!(rt; fault(rt.alloc(), &sections) == *wanted, "versym {at}");
     }
-    let asked: [(u16, Option<&[u8]>, Option<&[u8]>); 8] = [
-        (0, None, None),
-        (1, Some(b"base"), Some(b"liba.so")),
-        (2, Some(b"V1"), Some(b"V1")),
-        (0x8002, Some(b"V1"), Some(b"V1")),
-        (4, Some(b"B1"), Some(b"B2")),
-        (0x8005, Some(b"B2"), Some(b"B1")),
-        (6, None, None),
-        (0xffff, None, None),
-    ];
-    for (index, of_made, of_linked) in asked {
-        assert_eq!(rt; version_of(&made, index), of_made, "{index}");
-        assert_eq!(rt; version_of(&linked, index), of_linked, "{index}");
+    for (at, byte, wanted) in &VERDEF_EDITS {
+        let mut verdef = VERDEF;
+        put(&mut verdef, *at, *byte);
+        let sections = Sections {
+            verdef: &verdef,
+            ..MADE
+        };
+        assert!(rt; fault(rt.alloc(), &sections) == *wanted, "verdef {at}");
     }
-    Ok(())
+    for (at, byte, wanted) in &VERNEED_EDITS {
+        let mut verneed = VERNEED;
+        put(&mut verneed, *at, *byte);
+        let sections = Sections {
+            verneed: &verneed,
+            ..MADE
+        };
+        assert!(rt; fault(rt.alloc(), &sections) == *wanted, "verneed {at}");
+    }
+}
+
+/// How many bytes are left of the versym, the verdef, the verneed and the strings, and the first clause that refuses them then.
+const CUTS: [(usize, usize, usize, usize, Option<VerFault>); 5] = [
+    (15, 84, 48, 23, None),
+    (0, 84, 48, 23, None),
+    (16, 83, 48, 23, BAD_CHAIN),
+    (16, 84, 47, 23, BAD_CHAIN),
+    (16, 84, 48, 22, BAD_CHAIN),
+];
+
+fn cut(section: &[u8], size: usize) -> &[u8] {
+    &section[..size.min(section.len())]
+}
+
+#[test]
+fn refuses_sections_that_are_cut(rt: HostRuntime) {
+    for (versym, verdef, verneed, strings, wanted) in &CUTS {
+        let sections = Sections {
+            versym: cut(&VERSYM, *versym),
+            verdef: cut(&VERDEF, *verdef),
+            verneed: cut(&VERNEED, *verneed),
+            strings: cut(STRINGS, *strings),
+            ..MADE
+        };
+        assert!(rt;
+            fault(rt.alloc(), &sections) == *wanted,
+            "{versym} {verdef} {verneed}"
+        );
+    }
+
+    // the second name of V2
+    let mut verdef = LINKED_VERDEF;
+    put(&mut verdef, 84, 255);
+    let sections = Sections {
+        verdef: &verdef,
+        ..LINKED
+    };
+    assert!(rt; fault(rt.alloc(), &sections) == BAD_CHAIN);
+}
+
+/// How many Verdef and Verneed records there are to be, and the first clause that refuses the sections then.
+const COUNTS: [(u64, u64, Option<VerFault>); 6] = [
+    (2, 1, BAD_CHAIN),
+    (4, 1, BAD_CHAIN),
+    (u64::MAX, 1, BAD_CHAIN),
+    (3, 2, BAD_CHAIN),
+    (0, 1, BAD_INDEX),
+    (3, 0, BAD_INDEX),
+];
+
+#[test]
+fn refuses_other_counts(rt: HostRuntime) {
+    for (defs, needs, wanted) in &COUNTS {
+        let sections = Sections {
+            defs: *defs,
+            needs: *needs,
+            ..MADE
+        };
+        assert!(rt; fault(rt.alloc(), &sections) == *wanted, "{defs} {needs}");
+    }
 }
