@@ -28,8 +28,6 @@ mod strings;
 mod symbol_lines;
 mod symbol_table;
 mod symbols;
-#[cfg(test)]
-mod tests;
 mod versions;
 mod words;
 

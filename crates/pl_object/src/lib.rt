@@ -22,8 +22,6 @@ mod symbol_clauses;
 mod table_clauses;
 mod tables;
 mod tags;
-#[cfg(test)]
-mod tests;
 mod twins;
 mod window;
 
