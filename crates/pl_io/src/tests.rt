@@ -99,7 +99,11 @@ fn knows_valid_names(rt: HostRuntime) -> Result<(), Fail> {
     ];
     for (name, is_valid) in names {
         assert_eq!(rt; is_valid_name(name.as_bytes()), is_valid, "{name}");
-        assert_eq!(rt; is_own_name(name.as_bytes()), name.starts_with(".prelink."), "{name}");
+        assert_eq!(rt;
+            is_own_name(name.as_bytes()),
+            name.starts_with(".prelink."),
+            "{name}"
+        );
     }
     for (len, is_valid) in [(255, true), (256, false)] {
         let name = "n".repeat(alloc, len)?;

@@ -5,7 +5,7 @@ ghost use Rattle.pl_base.specs.Names.{IsNameLength};
 ghost use Rattle.pl_folder.specs.Calls.{Stops};
 ghost use Rattle.pl_folder.specs.declared.TheConstants.{STORED};
 
-use pl_base::{MAX_NAME, is_own_name, is_valid_name};
+use pl_base::{has_name_length, is_own_name, is_valid_name};
 use pl_folder::{Folder, FolderFault, STORED};
 use pl_io::Failed;
 use std::alloc::{AllocError, Global};
@@ -63,7 +63,8 @@ fn fault_of(error: io::Error) -> FolderFault {
 fn is_listed(name: &str) -> bool
     ensures { result ≡ true → IsNameLength name.now }
 {
-    !name.is_empty() && name.len() <= MAX_NAME && (is_valid_name(name.as_bytes()) || is_own_name(name.as_bytes()))
+    let name = name.as_bytes();
+    has_name_length(name) && (is_valid_name(name) || is_own_name(name))
 }
 
 // Adds the name of a file, where the folder lists it.
