@@ -4,7 +4,7 @@ ghost use Rattle.pl_build.specs.Build.{Builds};
 ghost use Rattle.pl_build.specs.File as spec;
 ghost use Rattle.pl_build.specs.Layout as layout;
 
-use crate::constants::{INTERP_OFFSET, MAX_FILE, MAX_TABLES, TABLES_OFFSET};
+use crate::constants::{INTERP_OFFSET, MAX_FILE, MAX_TABLES, TABLE_ALIGN, TABLES_OFFSET};
 use crate::data::data_bytes;
 use crate::dynamic::place_of;
 use crate::fault::RecipeFault;
@@ -16,7 +16,7 @@ use crate::roles::{Place, index_of};
 use crate::sections::{first_places, last_places, section_rows};
 use crate::segments::{data_offset, interp_bytes, segments};
 use crate::strings::{Strings, section_names};
-use pl_base::Rows;
+use pl_base::{Rows, round_up_wide};
 use pl_elf::constants::{
     ELFCLASS64, ELFDATA2LSB, ELFMAG0, ELFMAG1, ELFMAG2, ELFMAG3, EM_X86_64, ET_DYN, ET_EXEC,
     EV_CURRENT, HEADER_SIZE, SECTION_SIZE, SEGMENT_SIZE,
@@ -221,7 +221,7 @@ fn sections_offset(plan: &Plan, tables_end: u64, names: &Strings) -> u128
     ensures holds_data { plan.now.settings.data_size ≤ result }
     ensures small { result < 2 ^ 67 }
 {
-    (parts_end(plan, tables_end, names) + 7) / 8 * 8
+    round_up_wide(parts_end(plan, tables_end, names), TABLE_ALIGN)
 }
 
 fn file_end(plan: &Plan, tables_end: u64, names: &Strings) -> u128

@@ -63,14 +63,3 @@ alone o ascend fit = record {
   fit = All-cons (λ (x : Loaded). All (λ (l : Load). l.start + l.size ≤ ADDRESS_LIMIT) x.mask.loads) o [] fit (All-nil (λ (x : Loaded). All (λ (l : Load). l.start + l.size ≤ ADDRESS_LIMIT) x.mask.loads));
   apart = subst (AtMostOne lies) (sym (append-nil o.pieces)) (ascend_apart o.pieces ascend);
 }
-
--- its image
-one_masked : (b : Bool) → (b || false) ≡ b
-one_masked true = refl
-one_masked false = refl
-
-pub image_alone : (place : ℕ) (bytes : List ℕ) (o : Object) (a : ℕ) → byte_of (record { objects = loaded_at place bytes o ∷ []; patches = [] }) a ≡ image_of place bytes o a
-unfolding byte_of image_of filled
-image_alone place bytes o a =
-    ap (λ (ps : List Piece). shown (layered ps) (λ b. is_masked (mask_at place o) b || false) (layered ps) a) (append-nil (pieces_at place bytes o))
-    ∙ ap (λ (masked : ℕ → Bool). shown (layered (pieces_at place bytes o)) masked (layered (pieces_at place bytes o)) a) (λ i b. one_masked (is_masked (mask_at place o) b) i)

@@ -9,6 +9,7 @@ use Rattle.pl_base.specs.Answers.{because}
 use Rattle.pl_base.specs.Sums.{round_up}
 use Rattle.pl_base.specs.Windows.{Window}
 use Rattle.pl_base.proofs.SumLaws.{round_up-at_least}
+use Rattle.pl_base.proofs.AnswerLaws.{bind_ok, ok_same, unless_ok}
 use Rattle.pl_elf.specs.Headers.{is_load, loads}
 use Rattle.pl_elf.specs.Clauses.{AreLoads, ascend_from, bad_load, bad_align}
 use Rattle.pl_elf.specs.Clauses as elf
@@ -28,10 +29,9 @@ use Rattle.pl_object.specs.Refusals.{of_header, of_dynamic}
 use Rattle.pl_object.specs.declared.headers.Headers.{Headers}
 use Rattle.pl_object.specs.declared.object.Object.{Object}
 use Rattle.pl_object.specs.declared.refusal.Refusal.TheVariants.{Clause}
-use Rattle.pl_object.proofs.AcceptedLaws.{bind_ok, because_ok, accepted, ok_is}
+use Rattle.pl_object.proofs.AcceptedLaws.{because_ok, accepted}
 use Rattle.pl_object.proofs.FilePartLaws.{loads_parts, find_passes}
 use Rattle.pl_scope.specs.Kinds.{is_library}
-use Rattle.pl_loader.proofs.StepLaws.{unless_ok}
 
 -- ---- the parts of an object
 
@@ -79,7 +79,7 @@ shaped_linked bytes f d o has e =
     let l = bind_ok (linking bytes f d.tags) _ o t.2 in
     let places = layout bytes f d.tags l.0 in
     let c = bind_ok (check bytes f d.tags l.0 places) _ o l.2 in
-    let is : object f d l.0 places ≡ o = ok_is (object f d l.0 places) o _ refl c.2 in
+    let is : object f d l.0 places ≡ o = ok_same (object f d l.0 places) o c.2 in
     let whole : IsShaped (object f d l.0 places) = record { span = refl; align = refl; dynamic = λ library. has } in
     subst IsShaped is whole
 
@@ -87,7 +87,7 @@ shaped_static : (bytes : List ℕ) (f : Headers) (o : Object) → static_program
 unfolding static_program static_object
 shaped_static bytes f o e =
     let p = unless_ok (too_large bytes) (Clause 30 0) (Ok (static_object f)) o e in
-    let is : static_object f ≡ o = ok_is (static_object f) o _ refl p.1 in
+    let is : static_object f ≡ o = ok_same (static_object f) o p.1 in
     let whole : IsShaped (static_object f) = record { span = refl; align = refl; dynamic = λ library. absurd (false≢true library) } in
     subst IsShaped is whole
 
