@@ -85,7 +85,7 @@ IsUsage (Some asked) same old new result = result ≢ statuses.Usage
 abbrev pub IsOutcome : Bool → Bool → Answer → Type 0 → Type 0 → Option (List ℕ) → Option (List ℕ) → Status → Type 0
 IsOutcome files input answer disk sink old new statuses.WriteFault = sink × IsPart files input answer old new
 IsOutcome files input answer disk sink old new statuses.DiskFault = disk × (new ≡ old)
-IsOutcome files input answer disk sink old new statuses.NoMemory = IsPart files input answer old new
+IsOutcome files input answer disk sink old new statuses.NoMemory = new ≡ old
 IsOutcome files input answer disk sink old new statuses.ReadFault = new ≡ old
 IsOutcome files input answer disk sink old new statuses.Done = IsWhole files input answer old new statuses.Done
 IsOutcome files input answer disk sink old new statuses.Differs = IsWhole files input answer old new statuses.Differs
