@@ -13,3 +13,4 @@ pub mod MemoryLaws
 pub mod HexLaws
 pub mod AnswerLaws
 pub mod NameLaws
+pub mod StringLaws

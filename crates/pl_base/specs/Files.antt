@@ -1,5 +1,5 @@
 -- The files of a folder: a finite map from names to bytes.
-use Rattle.std.specs.Prelude.{ℕ, List, map, String, Vec, string_bytes, AllPairs, ◌≢◌}
+use Rattle.std.specs.Prelude.{ℕ, List, map, String, Vec, string_bytes}
 use Rattle.std.specs.declared.alloc.Global.{Global}
 use Rattle.std.specs.Ordering.{nat_cmp}
 use Rattle.std.specs.Cmp.Lexicographic.{slice_cmp}
@@ -15,7 +15,3 @@ file_entry file = (string_bytes file.0, file.1.items)
 -- names and bytes as files; of several with one name the first counts
 abbrev pub files_of : List (String Global × Vec ℕ Global) → Files
 files_of entries = from_entries (map file_entry entries)
-
--- no two of the files have one name
-abbrev pub AreDistinct : List (String Global × Vec ℕ Global) → Type 0
-AreDistinct files = AllPairs (λ x y. string_bytes x.0 ≢ string_bytes y.0) files

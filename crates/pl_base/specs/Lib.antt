@@ -4,6 +4,7 @@ pub mod Each
 pub mod Below
 pub mod Counts
 pub mod Streams
+pub mod Strings
 pub mod Names
 pub mod Files
 pub mod Digits

@@ -1,8 +1,9 @@
-// Little-endian numbers at an offset.
-ghost use Rattle.std.specs.Prelude.{◌≡◌, ◌+◌, ◌≤◌, length};
+// Little-endian numbers: at an offset in bytes, and at the end of them.
+ghost use Rattle.std.specs.Prelude.{◌≡◌, ◌+◌, ◌++◌, ◌≤◌, length, OnOk, OnErr};
 ghost use Rattle.pl_base.specs.Bytes as spec;
 
 use byteorder::{ByteOrder, LittleEndian};
+use std::alloc::AllocError;
 
 /// The 16-bit number at an offset in bytes.
 #[tactic(auto, using(std::proofs::lemmas::List::take_rest), unfolding(crate::specs::Bytes::word16))]
@@ -56,6 +57,24 @@ pub fn put64(bytes: &mut [u8], at: usize, number: u64)
     ensures { bytes.new ≡ spec.put at (spec.bytes64 number) bytes.old }
 {
     LittleEndian::write_u64(&mut bytes[at..], number);
+}
+
+/// Adds the four bytes of a 32-bit number at the end, the lowest first. It fails only for want of memory, and then the bytes are as before.
+#[tactic(auto, unfolding(crate::specs::Bytes::bytes32))]
+pub fn push32(bytes: &mut Vec<u8>, number: u32) -> Result<(), AllocError>
+    ensures ok { OnOk result (bytes.new.items ≡ bytes.old.items ++ spec.bytes32 number) }
+    ensures err { OnErr result (bytes.new.items ≡ bytes.old.items) }
+{
+    bytes.extend_from_slice(&number.to_le_bytes())
+}
+
+/// Adds the eight bytes of a 64-bit number at the end, the lowest first. It fails only for want of memory, and then the bytes are as before.
+#[tactic(auto, unfolding(crate::specs::Bytes::bytes64))]
+pub fn push64(bytes: &mut Vec<u8>, number: u64) -> Result<(), AllocError>
+    ensures ok { OnOk result (bytes.new.items ≡ bytes.old.items ++ spec.bytes64 number) }
+    ensures err { OnErr result (bytes.new.items ≡ bytes.old.items) }
+{
+    bytes.extend_from_slice(&number.to_le_bytes())
 }
 
 /// The bytes from an offset on, as many as size, as far as there are any.

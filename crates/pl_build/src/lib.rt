@@ -3,6 +3,7 @@
 
 mod builder;
 mod checks;
+mod choices;
 mod constants;
 mod data;
 mod dynamic;

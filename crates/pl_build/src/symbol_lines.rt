@@ -3,11 +3,11 @@ ghost use Rattle.std.specs.Prelude.{◌≡◌, IfOk};
 ghost use Rattle.pl_build.specs.SymbolLines as spec;
 
 use crate::line::{Line, Symbol};
-use crate::names::{is, is_valid_name};
+use crate::names::is;
 use crate::words::{
     copy_of, has_version, is_doubled, is_written, name_of, number, rest, version_of, word,
 };
-use pl_base::Rows;
+use pl_base::{Rows, is_valid_name};
 use pl_sym::constants::{
     STB_GLOBAL, STB_GNU_UNIQUE, STB_WEAK, STT_FUNC, STT_GNU_IFUNC, STT_NOTYPE, STT_OBJECT, STT_TLS,
     STV_DEFAULT, STV_HIDDEN, STV_PROTECTED,
@@ -155,7 +155,7 @@ fn def_named(
         written: copy_of(alloc, text)?,
         name: copy_of(alloc, name_of(text))?,
         version: copy_of(alloc, version_of(text))?,
-        visible: is_doubled(text),
+        default_version: is_doubled(text),
         file: copy_of(alloc, file_of(after_visibility(words)))?,
         bind,
         kind,
@@ -234,7 +234,7 @@ fn ref_named(
         written: copy_of(alloc, text)?,
         name: copy_of(alloc, name_of(text))?,
         version: copy_of(alloc, version_of(text))?,
-        visible: false,
+        default_version: false,
         file: copy_of(alloc, file_of(words))?,
         bind,
         kind,

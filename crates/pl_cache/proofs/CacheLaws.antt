@@ -16,12 +16,14 @@ use Rattle.pl_base.proofs.WordLaws.{is_bytes_drop}
 use Rattle.pl_slots.specs.declared.slot.Slot.{Slot}
 use Rattle.pl_slots.specs.Apart.{are_apart}
 use Rattle.pl_cache.specs.declared.cache.Cache.{Cache}
-use Rattle.pl_cache.specs.declared.constants.TheConstants.{MAGIC, MAX_ROWS, PAGE, ADDRESS_END}
+use Rattle.pl_cache.specs.declared.constants.TheConstants.{MAGIC, MAX_ROWS}
+use Rattle.pl_elf.specs.declared.constants.TheConstants.{PAGE, ADDRESS_LIMIT}
 use Rattle.pl_cache.specs.declared.fault.CacheFault.{CacheFault}
 use Rattle.pl_cache.specs.declared.fault.CacheFault.TheVariants.{BadCache, NoMemory}
 use Rattle.pl_cache.specs.Spelling.{cache_bytes, row_bytes, is_row, is_cache, ascend, IsCacheOf}
 use Rattle.pl_cache.specs.Reading.{number32_at, rows_at, behind_magic, all_rows, fields, checked, read, is_memory, Gives}
-use Rattle.pl_cache.proofs.Fields.{bind_ok, passed, guard_then, ok_is, Takes, Takes-then, number32_takes, number32_again, rows_take, rows_again, RowFits, all_fit}
+use Rattle.pl_base.proofs.AnswerLaws.{bind_ok, ok_same}
+use Rattle.pl_cache.proofs.Fields.{passed, guard_then, Takes, Takes-then, number32_takes, number32_again, rows_take, rows_again, RowFits, all_fit}
 
 -- ---- what is read
 
@@ -58,7 +60,7 @@ fields_take bytes cache fits e =
     let whole : bytes ≡ (MAGIC ++ bytes32 b.0.0 ++ bytes32 (length d.0)) ++ flat_map row_bytes d.0 =
     t02.parts ∙ ap (λ (r : List ℕ). (MAGIC ++ bytes32 b.0.0 ++ bytes32 c.0.0) ++ r) rows.0 ∙ ap (λ (k : ℕ). (MAGIC ++ bytes32 b.0.0 ++ bytes32 k) ++ flat_map row_bytes d.0) (sym rows.1) in
     let made : Cache = record { last = b.0.0; rows = d.0 } in
-    subst (λ (y : Cache). bytes ≡ MAGIC ++ bytes32 y.last ++ bytes32 (length y.rows) ++ flat_map row_bytes y.rows) (ok_is made cache d.2) whole
+    subst (λ (y : Cache). bytes ≡ MAGIC ++ bytes32 y.last ++ bytes32 (length y.rows) ++ flat_map row_bytes y.rows) (ok_same made cache d.2) whole
 
 pub read_takes : (bytes : List ℕ) (cache : Cache) → IsBytes bytes → read bytes ≡ Ok cache → (is_cache cache ≡ true) × (bytes ≡ cache_bytes cache)
 unfolding read
@@ -83,11 +85,11 @@ is_found bytes (Err e) fits given = tt
 row_fits : (slot : Slot) → is_row slot ≡ true → RowFits slot
 unfolding is_row
 row_fits slot good =
-    let p4 = and_parts (is_valid_name slot.name && is_aligned slot.start PAGE && is_aligned slot.span PAGE && nat_lt 0 slot.span) (nat_le (slot.start + slot.span) ADDRESS_END) good in
+    let p4 = and_parts (is_valid_name slot.name && is_aligned slot.start PAGE && is_aligned slot.span PAGE && nat_lt 0 slot.span) (nat_le (slot.start + slot.span) ADDRESS_LIMIT) good in
     let p3 = and_parts (is_valid_name slot.name && is_aligned slot.start PAGE && is_aligned slot.span PAGE) (nat_lt 0 slot.span) p4.0 in
     let p2 = and_parts (is_valid_name slot.name && is_aligned slot.start PAGE) (is_aligned slot.span PAGE) p3.0 in
     let p1 = and_parts (is_valid_name slot.name) (is_aligned slot.start PAGE) p2.0 in
-    let end : slot.start + slot.span ≤ ADDRESS_END = leb-true (slot.start + slot.span) ADDRESS_END p4.1 in
+    let end : slot.start + slot.span ≤ ADDRESS_LIMIT = leb-true (slot.start + slot.span) ADDRESS_LIMIT p4.1 in
     record { valid = p1.0; start = omega (arith, end); span = omega (arith, end) }
 
 rows_fit : (slots : List Slot) → list_all is_row slots ≡ true → all_fit slots
@@ -138,7 +140,7 @@ pub is_read : (bytes : List ℕ) (cache : Cache) → IsCacheOf bytes cache → r
 is_read bytes cache of = ap read of.in_bytes ∙ read_again cache of.is_spelled
 
 pub is_one : (bytes : List ℕ) (cache other : Cache) → IsCacheOf bytes cache → IsCacheOf bytes other → cache ≡ other
-is_one bytes cache other one two = ok_is cache other (sym (is_read bytes cache one) ∙ is_read bytes other two)
+is_one bytes cache other one two = ok_same cache other (sym (is_read bytes cache one) ∙ is_read bytes other two)
 
 -- ---- what a writer needs
 

@@ -1,4 +1,3 @@
-pub mod NameLaws
 pub mod Fields
 pub mod CacheLaws
 pub mod LoopLaws

@@ -9,7 +9,8 @@ use Rattle.pl_base.specs.Sums.{is_aligned}
 use Rattle.pl_slots.specs.declared.slot.Slot.{Slot}
 use Rattle.pl_slots.specs.Apart.{are_apart}
 use Rattle.pl_cache.specs.declared.cache.Cache.{Cache}
-use Rattle.pl_cache.specs.declared.constants.TheConstants.{MAGIC, MAX_ROWS, PAGE, ADDRESS_END}
+use Rattle.pl_cache.specs.declared.constants.TheConstants.{MAGIC, MAX_ROWS}
+use Rattle.pl_elf.specs.declared.constants.TheConstants.{PAGE, ADDRESS_LIMIT}
 
 -- ---- the spelling
 
@@ -30,7 +31,7 @@ cache_bytes cache = MAGIC ++ bytes32 cache.last ++ bytes32 (length cache.rows) +
 -- a row has a valid name; its address and its span are multiples of a page, the span is not 0, and the slot ends at or below the end of addresses
 unfoldable pub is_row : Slot → Bool
 is_row slot =
-    is_valid_name slot.name && is_aligned slot.start PAGE && is_aligned slot.span PAGE && nat_lt 0 slot.span && nat_le (slot.start + slot.span) ADDRESS_END
+    is_valid_name slot.name && is_aligned slot.start PAGE && is_aligned slot.span PAGE && nat_lt 0 slot.span && nat_le (slot.start + slot.span) ADDRESS_LIMIT
 
 -- whether one row's name is before another's, in the order of bytes
 abbrev pub precedes : Slot → Slot → Bool

@@ -6,8 +6,6 @@ pub mod constants;
 mod fault;
 mod reading;
 mod rows;
-#[cfg(test)]
-mod tests;
 mod writing;
 
 pub use cache::Cache;

@@ -1,7 +1,5 @@
-ghost use Rattle.std.specs.Prelude.{◌≡◌, if◌then◌else◌, Some, None, Ok, IfOk};
-ghost use Rattle.std.specs.Option.{option_map};
+ghost use Rattle.std.specs.Prelude.{◌≡◌, Ok, IfOk};
 ghost use Rattle.pl_base.specs.Answers.{Answers};
-ghost use Rattle.pl_base.specs.Names.{is_valid_name};
 ghost use Rattle.pl_cache.specs.declared.cache.Cache as declared;
 ghost use Rattle.pl_cache.specs.Spelling as spelling;
 ghost use Rattle.pl_cache.specs.Reading as spec;
@@ -9,11 +7,9 @@ ghost use Rattle.pl_cache.specs.Reading as spec;
 use crate::constants::{MAGIC, MAX_ROWS};
 use crate::rows::is_cache;
 use crate::{Cache, CacheFault};
-use pl_base::{Rows, Text, word32, word64};
-use pl_io::valid_name;
+use pl_base::{Rows, Text, valid_text, word32, word64};
 use pl_slots::Slot;
 use std::alloc::Global;
-use std::str;
 
 /// A number of 32 bits, and the bytes after it.
 #[tactic(auto, unfolding(crate::specs::Reading::number32_at))]
@@ -39,17 +35,6 @@ fn take_64(bytes: &[u8]) -> Result<(u64, &[u8]), CacheFault>
     Ok((word64(bytes, 0), rest))
 }
 
-/// The text of bytes that are a valid name.
-#[tactic(auto, using(crate::proofs::NameLaws::not_text))]
-fn name_text(bytes: &[u8]) -> Option<&str>
-    ensures { option_map (λ name. name.now) result ≡ (if is_valid_name bytes.now then Some bytes.now else None) }
-{
-    match str::from_utf8(bytes) {
-        Err(_) => None,
-        Ok(name) => { if valid_name(name) { Some(name) } else { None } }
-    }
-}
-
 /// A name of so many bytes.
 #[tactic(auto, unfolding(crate::specs::Reading::name_of_size))]
 fn take_text(alloc: Global, size: usize, bytes: &[u8]) -> Result<(Text, &[u8]), CacheFault>
@@ -59,7 +44,7 @@ fn take_text(alloc: Global, size: usize, bytes: &[u8]) -> Result<(Text, &[u8]), 
         return Err(CacheFault::BadCache);
     }
     let (name, rest) = bytes.split_at(size);
-    match name_text(name) {
+    match valid_text(name) {
         None => Err(CacheFault::BadCache),
         Some(name) => Ok((Text::copy_of(alloc, name)?, rest)),
     }

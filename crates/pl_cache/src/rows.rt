@@ -4,20 +4,20 @@ ghost use Rattle.std.specs.List.{list_all};
 ghost use Rattle.pl_cache.specs.Spelling as spec;
 
 use crate::Cache;
-use crate::constants::{ADDRESS_END, MAX_ROWS, PAGE};
-use pl_base::{end, is_aligned};
-use pl_io::valid_name;
+use crate::constants::MAX_ROWS;
+use pl_base::{end, is_aligned, is_valid_name};
+use pl_elf::constants::{ADDRESS_LIMIT, PAGE};
 use pl_slots::{Slot, are_apart};
 
 #[tactic(auto, unfolding(crate::specs::Spelling::is_row))]
 fn is_row(slot: &Slot) -> bool
     ensures { result ≡ spec.is_row slot.now }
 {
-    valid_name(slot.name.as_str())
+    is_valid_name(slot.name.as_str().as_bytes())
         && is_aligned(slot.start, PAGE)
         && is_aligned(slot.span, PAGE)
         && slot.span > 0
-        && end(slot.start, slot.span) <= u128::from(ADDRESS_END)
+        && end(slot.start, slot.span) <= u128::from(ADDRESS_LIMIT)
 }
 
 fn are_rows(rows: &[Slot]) -> bool

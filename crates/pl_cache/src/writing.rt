@@ -1,27 +1,13 @@
 ghost use Rattle.std.specs.Prelude.{◌≡◌, ◌<◌, ◌≤◌, ◌^◌, ◌++◌, true, length, All, OnOk, IfOk};
 ghost use Rattle.std.specs.List.{flat_map};
-ghost use Rattle.pl_base.specs.Bytes.{bytes32, bytes64};
 ghost use Rattle.pl_cache.specs.Spelling as spec;
 
 use crate::Cache;
 use crate::constants::{MAGIC, MAX_ROWS};
+use pl_base::{push32, push64};
 use pl_io::NoMemory;
 use pl_slots::Slot;
 use std::alloc::{AllocError, Global};
-
-#[tactic(auto, using(pl_base::proofs::WordLaws::bytes32_std))]
-fn push32(out: &mut Vec<u8>, number: u32) -> Result<(), AllocError>
-    ensures { OnOk result (out.new.items ≡ out.old.items ++ bytes32 number) }
-{
-    out.extend_from_slice(&number.to_le_bytes())
-}
-
-#[tactic(auto, using(pl_base::proofs::WordLaws::bytes64_std))]
-fn push64(out: &mut Vec<u8>, number: u64) -> Result<(), AllocError>
-    ensures { OnOk result (out.new.items ≡ out.old.items ++ bytes64 number) }
-{
-    out.extend_from_slice(&number.to_le_bytes())
-}
 
 fn push_row(out: &mut Vec<u8>, slot: &Slot) -> Result<(), AllocError>
     requires { length slot.now.name < 2 ^ 8 }

@@ -5,7 +5,7 @@ ghost use Rattle.std.specs.Str.{bytes_eq};
 ghost use Rattle.pl_base.specs.Names.{is_valid_name};
 ghost use Rattle.pl_cli.specs.ValidFiles as spec;
 
-use pl_io::valid_name;
+use pl_base::is_valid_name;
 
 /// How many files with valid names a folder has at most.
 pub const FILES: usize = 1024;
@@ -22,7 +22,7 @@ fn count_valid(names: &[String]) -> usize
 {
     names
         .iter()
-        .filter(|name| valid_name(name.as_str()))
+        .filter(|name| is_valid_name(name.as_str().as_bytes()))
         .count()
 }
 

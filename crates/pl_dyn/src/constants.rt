@@ -159,6 +159,12 @@ pub const DT_VERNEEDNUM: u64 = 0x6fff_ffff;
 /// Flag of DT_FLAGS: the library's own symbols are found first.
 pub const DF_SYMBOLIC: u64 = 0x2;
 
+/// Flag of DT_FLAGS: all relocations are made before the start.
+pub const DF_BIND_NOW: u64 = 0x8;
+
+/// Flag of DT_FLAGS_1: all relocations are made before the start.
+pub const DF_1_NOW: u64 = 0x1;
+
 /// Flag of DT_FLAGS_1: a position-independent program.
 pub const DF_1_PIE: u64 = 0x800_0000;
 

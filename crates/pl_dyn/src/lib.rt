@@ -17,6 +17,3 @@ pub use kinds::{is_address_tag, is_listed, is_packed_tag, is_prelink_tag, is_val
 pub use lookup::tag;
 pub use read::read_dynamic;
 pub use tags::Tag;
-
-#[cfg(test)]
-mod tests;

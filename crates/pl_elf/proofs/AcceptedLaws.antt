@@ -1,16 +1,17 @@
 -- What is known of a file that no clause from 1 to 8 refuses.
-use Rattle.std.proofs.Common.{◌≡◌, ℕ, inl, inr, Bool, true, false, List, [], ◌∷◌, Result, Ok, Err, refl, sym, ap, subst, ◌∙◌}
-use Rattle.std.specs.Prelude.{◌||◌, ◌&&◌, ◌==◌, not, filter}
+use Rattle.std.proofs.Common.{◌≡◌, ℕ, ◌+◌, ◌≤◌, inl, inr, Bool, true, false, List, [], ◌∷◌, Result, Ok, Err, refl, sym, ap, subst, ◌∙◌}
+use Rattle.std.specs.Prelude.{◌||◌, ◌&&◌, ◌==◌, not, nat_lt, filter, All}
 use Rattle.std.specs.List.{list_any}
 use Rattle.std.specs.Result.{is_ok}
-use Rattle.std.proofs.lemmas.Bool.{cases_Bool, or_parts}
+use Rattle.std.proofs.lemmas.Bool.{cases_Bool, or_parts, ltb-false}
+use Rattle.std.proofs.lemmas.List.Elements.{All-nil, All-cons}
 use Rattle.pl_base.specs.Answers.{refuse}
 use Rattle.pl_base.proofs.AnswerLaws.{refuse_none}
-use Rattle.pl_elf.specs.declared.constants.TheConstants.{SEGMENT_SIZE}
+use Rattle.pl_elf.specs.declared.constants.TheConstants.{SEGMENT_SIZE, MAX_LOAD_ALIGN, ADDRESS_LIMIT}
 use Rattle.pl_elf.specs.declared.header.Header.{Header}
 use Rattle.pl_elf.specs.declared.segment.Segment.{Segment}
 use Rattle.pl_elf.specs.Headers.{header, segments, sections, is_load, loads}
-use Rattle.pl_elf.specs.Clauses.{read, not_elf, other_class, other_machine, other_kind, truncated, bad_segment, bad_section, no_sections, has_second_of_a_kind, bad_load, bad_tls, ascend_from, overlap_in_file, AreLoads}
+use Rattle.pl_elf.specs.Clauses.{read, not_elf, other_class, other_machine, other_kind, truncated, bad_segment, bad_section, no_sections, has_second_of_a_kind, bad_load, bad_align, not_congruent, bad_tls, ascend_from, overlap_in_file, AreLoads}
 use Rattle.pl_elf.specs.declared.fault.HeaderFault.TheVariants.{NotElf, Class, Machine, Kind, Truncated, BadSegment, BadSection, NoSections}
 
 -- none of the eight tests holds
@@ -77,3 +78,27 @@ loads_accepted bytes ok =
     let ascend : not (ascend_from 0 (loads ss)) ≡ false =
     fifth_fails (not (h.phentsize == SEGMENT_SIZE)) (not (list_any is_load ss)) (has_second_of_a_kind ss) (list_any (λ s. is_load s && bad_load s) ss) (not (ascend_from 0 (loads ss))) (overlap_in_file ss) (list_any bad_tls ss) all in
     record { ascend = holds (ascend_from 0 (loads ss)) ascend; fit = any_filtered is_load bad_load ss fit }
+
+-- ---- one PT_LOAD
+
+-- what is known of a PT_LOAD that is not refused by itself: no more bytes in the file than in memory, an alignment, and no address above the limit
+pub record LoadFits (s : Segment) : Type 0 where
+  pub bytes : s.filesz ≤ s.memsz
+  pub align : bad_align s.align ≡ false
+  pub ends : s.vaddr + s.memsz ≤ ADDRESS_LIMIT
+
+pub load_fits : (s : Segment) → bad_load s ≡ false → LoadFits s
+unfolding bad_load
+load_fits s h =
+    let a = or_parts (nat_lt s.memsz s.filesz || bad_align s.align || nat_lt MAX_LOAD_ALIGN s.align || not_congruent s) (nat_lt ADDRESS_LIMIT (s.vaddr + s.memsz)) h in
+    let b = or_parts (nat_lt s.memsz s.filesz || bad_align s.align || nat_lt MAX_LOAD_ALIGN s.align) (not_congruent s) a.0 in
+    let c = or_parts (nat_lt s.memsz s.filesz || bad_align s.align) (nat_lt MAX_LOAD_ALIGN s.align) b.0 in
+    let d = or_parts (nat_lt s.memsz s.filesz) (bad_align s.align) c.0 in
+    record { bytes = ltb-false s.memsz s.filesz d.0; align = d.1; ends = ltb-false ADDRESS_LIMIT (s.vaddr + s.memsz) a.1 }
+
+-- all of several
+pub loads_fit : (ss : List Segment) → list_any bad_load ss ≡ false → All LoadFits ss
+loads_fit [] none = All-nil LoadFits
+loads_fit (s ∷ ss) none =
+    let parts = or_parts (bad_load s) (list_any bad_load ss) none in
+    All-cons LoadFits s ss (load_fits s parts.0) (loads_fit ss parts.1)

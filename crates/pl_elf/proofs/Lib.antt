@@ -1,4 +1,3 @@
 pub mod TableLaws
-pub mod NameLaws
 pub mod WrittenLaws
 pub mod AcceptedLaws

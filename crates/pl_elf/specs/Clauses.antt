@@ -1,11 +1,12 @@
 -- What acceptance clauses 1 to 8 refuse, each a test of the whole file. The first that refuses is the file's fault. At the head of each stands where its rules come from: System V gABI, chapters 4 and 5, or this project's profile, which takes fewer files.
-use Rattle.std.specs.Prelude.{◌≡◌, ℕ, ◌+◌, ◌*◌, ◌%◌, Bool, true, false, not, ◌&&◌, ◌||◌, ◌==◌, nat_lt, nat_le, List, [], ◌∷◌, length, drop, map, Result, Ok, Err, if◌then◌else◌}
+use Rattle.std.specs.Prelude.{◌≡◌, ℕ, ◌+◌, ◌*◌, ◌%◌, Bool, true, false, not, ◌&&◌, ◌||◌, ◌==◌, nat_lt, nat_le, List, [], ◌∷◌, length, map, Result, Ok, Err, if◌then◌else◌}
 use Rattle.std.specs.List.{range_with_len, list_any}
 use Rattle.std.specs.Int.{is_power_of_two}
 use Rattle.pl_base.specs.Bytes.{byte, part}
 use Rattle.pl_base.specs.Answers.{refuse}
+use Rattle.pl_base.specs.Strings.{has_end}
 use Rattle.pl_base.specs.Windows.{Window, any_share}
-use Rattle.pl_elf.specs.Headers.{header, segment, segment_place, segments, section, sections, is_of_kind, is_load, is_dynamic, loads, count_of_kind}
+use Rattle.pl_elf.specs.Headers.{header, segment, segment_offset, segments, section, sections, is_of_kind, is_load, is_dynamic, loads, count_of_kind}
 use Rattle.pl_elf.specs.declared.constants.TheConstants.{HEADER_SIZE, SEGMENT_SIZE, SECTION_SIZE, EI_MAG0, EI_MAG1, EI_MAG2, EI_MAG3, ELFMAG0, ELFMAG1, ELFMAG2, ELFMAG3, EI_CLASS, EI_DATA, EI_VERSION, ELFCLASS64, ELFDATA2LSB, EV_CURRENT, ET_EXEC, ET_DYN, EM_X86_64, PT_DYNAMIC, PT_INTERP, PT_TLS, SHT_NOBITS, MAX_LOAD_ALIGN, ADDRESS_LIMIT, MAX_SECTIONS}
 use Rattle.pl_elf.specs.declared.header.Header.{Header}
 use Rattle.pl_elf.specs.declared.segment.Segment.{Segment}
@@ -42,7 +43,7 @@ other_machine h = not (h.machine == EM_X86_64)
 
 -- a program header that lies in the file and is PT_DYNAMIC
 unfoldable pub is_seen_dynamic : List ℕ → Header → ℕ → Bool
-is_seen_dynamic bytes h index = not (passes bytes (segment_place h index) SEGMENT_SIZE) && is_dynamic (segment bytes h index)
+is_seen_dynamic bytes h index = not (passes bytes (segment_offset h index) SEGMENT_SIZE) && is_dynamic (segment bytes h index)
 
 unfoldable pub has_dynamic : List ℕ → Header → Bool
 has_dynamic bytes h = list_any (is_seen_dynamic bytes h) (range_with_len 0 h.phnum)
@@ -133,13 +134,6 @@ pub record AreLoads (ss : List Segment) : Type 0 where
 unfoldable pub section_bytes : List ℕ → Section → List ℕ
 section_bytes bytes s = if s.kind == SHT_NOBITS then [] else part s.offset s.size bytes
 
-abbrev pub is_zero : ℕ → Bool
-is_zero b = b == 0
-
--- a string that begins at an offset has no 0 byte that ends it
-unfoldable pub no_end : List ℕ → ℕ → Bool
-no_end strings at = not (list_any is_zero (drop at strings))
-
 -- the section of section names
 abbrev pub names : List ℕ → Header → List ℕ
 names bytes h = section_bytes bytes (section bytes h h.shstrndx)
@@ -148,7 +142,7 @@ unfoldable pub bad_section : List ℕ → Header → List Section → Bool
 bad_section bytes h ss =
     not (h.shnum == 0)
     && (not (h.shentsize == SECTION_SIZE) || nat_lt MAX_SECTIONS h.shnum || nat_le h.shnum h.shstrndx
-    || list_any (λ s. no_end (names bytes h) s.name) ss)
+    || list_any (λ s. not (has_end s.name (names bytes h))) ss)
 
 -- ---- 8. NoSections
 -- this project's profile

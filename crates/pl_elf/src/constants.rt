@@ -1,4 +1,4 @@
-//! The numbers of ELF under the standard's names (System V gABI, chapters 4 and 5; GNU extensions), and the limits of the acceptance clauses.
+//! The numbers of ELF under the standard's names (System V gABI, chapters 4 and 5; x86-64 psABI; GNU extensions), and the limits of the acceptance clauses.
 
 /// Bytes of the ELF header.
 pub const HEADER_SIZE: usize = 64;
@@ -135,6 +135,12 @@ pub const SHT_GNU_VERNEED: u32 = 0x6fff_fffe;
 /// Section kind: the version index of each symbol.
 pub const SHT_GNU_VERSYM: u32 = 0x6fff_ffff;
 
+/// Segment flag: writable.
+pub const PF_W: u32 = 0x2;
+
+/// Segment flag: readable.
+pub const PF_R: u32 = 0x4;
+
 /// Section flag: writable in memory.
 pub const SHF_WRITE: u64 = 0x1;
 
@@ -143,6 +149,48 @@ pub const SHF_ALLOC: u64 = 0x2;
 
 /// Section flag: thread-local storage.
 pub const SHF_TLS: u64 = 0x400;
+
+/// Bytes of a 64-bit word, which most relocations change (x86-64 psABI, "Relocation Types", word64).
+pub const WORD64_SIZE: u64 = 8;
+
+/// Bytes of a relocation with addend (gABI chapter 4, "Relocation").
+pub const RELA_SIZE: usize = 24;
+
+/// Relocation type (x86-64 psABI, "Relocation Types"): nothing is done.
+pub const R_X86_64_NONE: u32 = 0;
+
+/// Relocation type: the symbol's address and the addend.
+pub const R_X86_64_64: u32 = 1;
+
+/// Relocation type: the symbol's bytes are copied.
+pub const R_X86_64_COPY: u32 = 5;
+
+/// Relocation type: the symbol's address, in the global offset table.
+pub const R_X86_64_GLOB_DAT: u32 = 6;
+
+/// Relocation type: the symbol's address, for a jump slot.
+pub const R_X86_64_JUMP_SLOT: u32 = 7;
+
+/// Relocation type: the load address and the addend.
+pub const R_X86_64_RELATIVE: u32 = 8;
+
+/// Relocation type: the number of the symbol's module of thread-local storage.
+pub const R_X86_64_DTPMOD64: u32 = 16;
+
+/// Relocation type: the symbol's offset in its module's block.
+pub const R_X86_64_DTPOFF64: u32 = 17;
+
+/// Relocation type: the symbol's offset from the thread pointer.
+pub const R_X86_64_TPOFF64: u32 = 18;
+
+/// Relocation type: a descriptor of a thread-local symbol.
+pub const R_X86_64_TLSDESC: u32 = 36;
+
+/// Relocation type: the address that a function answers when it is called at the start.
+pub const R_X86_64_IRELATIVE: u32 = 37;
+
+/// Bytes of a page of memory (x86-64 psABI, "Program Loading").
+pub const PAGE: u64 = 0x1000;
 
 /// The greatest alignment of a PT_LOAD in bytes, 2 MiB.
 pub const MAX_LOAD_ALIGN: u64 = 0x20_0000;

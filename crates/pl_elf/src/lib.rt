@@ -13,8 +13,6 @@ mod section;
 mod section_table;
 mod segment;
 mod segments;
-#[cfg(test)]
-mod tests;
 mod write;
 
 pub use clauses::{has_dynamic, is_static};

@@ -1,37 +1,21 @@
 -- A file that is written whole under a name of the program's own and then gets its name: the files on the way.
-use Rattle.std.proofs.Common.{◌≡◌, ℕ, List, [], ◌++◌, Option, Some, Bool, true, false, cond, refl, sym, ap, subst, ◌∙◌, inl, inr}
-use Rattle.std.specs.Prelude.{unwrap_or, Result, Ok, Err, IfErr, IsErrAnd}
-use Rattle.std.specs.Ordering.{nat_cmp, eq_by_cmp}
-use Rattle.std.specs.Cmp.Lexicographic.{slice_cmp, texts_ties, nat_list_cmp_total, bytes_decides}
-use Rattle.std.specs.FinMap.{get, insert, remove, get-insert, same_map, slice_cmp-IsAntisymmetric, nat_cmp-IsAntisymmetric}
+use Rattle.std.proofs.Common.{◌≡◌, ℕ, List, [], ◌++◌, Option, ap, ◌∙◌, inl, inr}
+use Rattle.std.specs.Prelude.{unwrap_or}
+use Rattle.std.specs.FinMap.{insert, remove}
 use Rattle.pl_base.specs.Files.{Files}
+use Rattle.pl_base.proofs.FilesLaws.{get-inserted, insert-inserted, remove-inserted}
 use Rattle.pl_folder.specs.declared.writing.TheConstants.{NEW_FILE}
 use Rattle.pl_folder.specs.declared.fault.FolderFault.{FolderFault}
 use Rattle.pl_folder.specs.declared.fault.FolderFault.TheVariants.{Failed, NotThere, TooLarge, NoMemory}
 use Rattle.pl_folder.specs.Calls.{created, appended, renamed, Leaves, LeavesPrefix}
 use Rattle.pl_folder.specs.Replaced.{replaced, SameElsewhere, LeavesOldOrNew}
-use Rattle.pl_folder.proofs.FolderLaws.{remove-insert}
 
 abbrev pub new_name : List ℕ
 new_name = NEW_FILE.now
 
-get_put : (files : Files) (name bytes : List ℕ) → get (insert files name bytes) name ≡ Some bytes
-get_put files name bytes = get-insert nat_list_cmp_total files name bytes name ∙ ap (λ b. cond b (Some bytes) (get files name)) (sym (texts_ties name name) ∙ (bytes_decides name name).1 refl)
-
-put_twice : (files : Files) (name first second : List ℕ) → insert (insert files name first) name second ≡ insert files name second
-put_twice files name first second = same_map nat_list_cmp_total (slice_cmp-IsAntisymmetric nat_cmp-IsAntisymmetric) _ _ (λ q.
-    get-insert nat_list_cmp_total (insert files name first) name second q
-    ∙ ap (λ (o : Option (List ℕ)). cond (eq_by_cmp (slice_cmp nat_cmp) q name) (Some second) o) (get-insert nat_list_cmp_total files name first q)
-    ∙ twice (eq_by_cmp (slice_cmp nat_cmp) q name) (get files q)
-    ∙ sym (get-insert nat_list_cmp_total files name second q))
-  where
-    twice : (b : Bool) (o : Option (List ℕ)) → cond b (Some second) (cond b (Some first) o) ≡ cond b (Some second) o
-    twice true o = refl
-    twice false o = refl
-
 -- the new file alone was touched
 pub elsewhere : (old new : Files) (bytes : List ℕ) → new ≡ insert old new_name bytes → SameElsewhere old new
-elsewhere old new bytes is = ap (λ (fs : Files). remove fs new_name) is ∙ remove-insert old new_name bytes
+elsewhere old new bytes is = ap (λ (fs : Files). remove fs new_name) is ∙ remove-inserted old new_name bytes
 
 unchanged : (old new : Files) → new ≡ old → SameElsewhere old new
 unchanged old new same = ap (λ (fs : Files). remove fs new_name) same
@@ -46,7 +30,7 @@ begun NoMemory old new same = unchanged old new same
 
 -- after `append` stopped
 pub going : (fault : FolderFault) (old one new : Files) (bytes : List ℕ) → one ≡ created old new_name → LeavesPrefix one new_name bytes new fault → SameElsewhere old new
-going Failed old one new bytes made some = ap (λ (fs : Files). remove fs new_name) some.2 ∙ remove-insert one new_name _ ∙ elsewhere old one [] made
+going Failed old one new bytes made some = ap (λ (fs : Files). remove fs new_name) some.2 ∙ remove-inserted one new_name _ ∙ elsewhere old one [] made
 going NotThere old one new bytes made same = unchanged one new same ∙ elsewhere old one [] made
 going TooLarge old one new bytes made same = unchanged one new same ∙ elsewhere old one [] made
 going NoMemory old one new bytes made same = unchanged one new same ∙ elsewhere old one [] made
@@ -56,16 +40,16 @@ pub written : (old one two : Files) (bytes : List ℕ) → one ≡ created old n
 written old one two bytes made grown =
     grown
     ∙ ap (λ (fs : Files). appended fs new_name bytes) made
-    ∙ ap (λ (o : Option (List ℕ)). insert (insert old new_name []) new_name (unwrap_or o [] ++ bytes)) (get_put old new_name [])
-    ∙ put_twice old new_name [] bytes
+    ∙ ap (λ (o : Option (List ℕ)). insert (insert old new_name []) new_name (unwrap_or o [] ++ bytes)) (get-inserted old new_name [])
+    ∙ insert-inserted old new_name [] bytes
 
 -- and has its name
 pub named : (old three four : Files) (name bytes : List ℕ) → three ≡ insert old new_name bytes → four ≡ renamed three new_name name → four ≡ replaced old name bytes
 named old three four name bytes is moved =
     moved
     ∙ ap (λ (fs : Files). renamed fs new_name name) is
-    ∙ ap (λ (o : Option (List ℕ)). insert (remove (insert old new_name bytes) new_name) name (unwrap_or o [])) (get_put old new_name bytes)
-    ∙ ap (λ (fs : Files). insert fs name bytes) (remove-insert old new_name bytes)
+    ∙ ap (λ (o : Option (List ℕ)). insert (remove (insert old new_name bytes) new_name) name (unwrap_or o [])) (get-inserted old new_name bytes)
+    ∙ ap (λ (fs : Files). insert fs name bytes) (remove-inserted old new_name bytes)
 
 -- any fault may leave this
 pub any_fault : (old new : Files) (name bytes : List ℕ) → SameElsewhere old new → (fault : FolderFault) → LeavesOldOrNew old name bytes new fault
@@ -73,8 +57,3 @@ any_fault old new name bytes same Failed = inl same
 any_fault old new name bytes same NotThere = same
 any_fault old new name bytes same TooLarge = same
 any_fault old new name bytes same NoMemory = same
-
--- what holds of one error, of a result that is that error
-pub IfErr-at : {T E : Type 0} (r : Result T E) (P : E → Type 0) (e : E) → IsErrAnd r (λ f. f ≡ e) → P e → IfErr r P
-IfErr-at (Ok x) P e is p = tt
-IfErr-at (Err f) P e is p = subst P (sym is) p

@@ -1,12 +1,12 @@
 -- The files of a folder in memory: what a look-up finds, and what a file that is put in or taken out makes.
 use Rattle.std.proofs.Common.{◌≡◌, ℕ, zero, suc, ◌+◌, ◌<◌, List, [], ◌∷◌, ◌++◌, map, length, take, drop, get_or, cond, Bool, true, false, not, Option, Some, None, refl, sym, ap, subst, ◌∙◌, arith, inl, inr}
-use Rattle.std.specs.Prelude.{is_some, is_ok, unwrap_or, position, Result, Ok, Err, IfErr, OnOk, OnErr, if◌then◌else◌}
+use Rattle.std.specs.Prelude.{is_some, is_ok, unwrap_or, position, Result, Ok, Err, OnOk, OnErr, if◌then◌else◌}
 use Rattle.std.specs.List.{remove, position_from}
 use Rattle.std.specs.Str.{bytes_eq}
 use Rattle.std.specs.Ordering.{nat_cmp, eq_by_cmp}
 use Rattle.std.specs.Cmp.{eq_by_cmp_equiv}
 use Rattle.std.specs.Cmp.Lexicographic.{slice_cmp, texts_ties, nat_list_cmp_total, bytes_decides}
-use Rattle.std.specs.FinMap.{get, insert, from_entries, get-insert, get-remove, get-from_entries, same_map, from_entries_push, slice_cmp-IsAntisymmetric, nat_cmp-IsAntisymmetric}
+use Rattle.std.specs.FinMap.{get, insert, from_entries, get-remove, get-from_entries, from_entries_push, slice_cmp-IsAntisymmetric, nat_cmp-IsAntisymmetric}
 use Rattle.std.specs.FinMap as finite
 use Rattle.std.specs.FinMap.Entries.{find, find-append}
 use Rattle.std.proofs.lemmas.Bool.{and_parts, cases_Bool, false≢true}
@@ -14,6 +14,7 @@ use Rattle.std.proofs.lemmas.List.{append-nil, map-append, take-map, drop-map, g
 use Rattle.std.proofs.lemmas.List.Quantifiers.{position-Some}
 use Rattle.std.proofs.lemmas.Iterator.Adapters.{position_from-zero}
 use Rattle.pl_base.specs.Files.{Files}
+use Rattle.pl_base.proofs.FilesLaws.{same, same_name, equal_files, insert-removed, insert_same}
 use Rattle.pl_folder.specs.declared.file.File.{File}
 use Rattle.pl_folder.specs.Entries.{name_bytes, entry_of, entries_of, are_distinct}
 use Rattle.pl_folder.specs.Calls.{LeavesPrefix, appended, renamed}
@@ -23,18 +24,8 @@ use Rattle.pl_folder.specs.declared.fault.FolderFault.TheVariants.{Failed, NotTh
 abbrev pub Entry : Type 0
 Entry = List ℕ × List ℕ
 
-abbrev pub same : List ℕ → List ℕ → Bool
-same q k = eq_by_cmp (slice_cmp nat_cmp) q k
-
 abbrev pub at : List ℕ → List Entry → Option (List ℕ)
 at q es = find (slice_cmp nat_cmp) q es
-
--- names that tie are one
-pub same_name : (q k : List ℕ) → same q k ≡ true → q ≡ k
-same_name q k e = (bytes_decides q k).0 (texts_ties q k ∙ e)
-
-pub same_refl : (q : List ℕ) → same q q ≡ true
-same_refl q = sym (texts_ties q q) ∙ (bytes_decides q q).1 refl
 
 same_sym : (q k : List ℕ) → same q k ≡ same k q
 same_sym q k = (eq_by_cmp_equiv nat_list_cmp_total).symm q k
@@ -153,9 +144,6 @@ files_in files = from_entries (entries_of files)
 pub get-files_in : (files : List File) (name : List ℕ) → get (files_in files) name ≡ at name (entries_of files)
 get-files_in files name = get-from_entries nat_list_cmp_total (entries_of files) name
 
-equal_files : (a b : Files) → ((q : List ℕ) → get a q ≡ get b q) → a ≡ b
-equal_files a b is = same_map nat_list_cmp_total (slice_cmp-IsAntisymmetric nat_cmp-IsAntisymmetric) a b is
-
 length-entries : (files : List File) → length (entries_of files) ≡ length files
 length-entries [] = refl
 length-entries (file ∷ files) = ap suc (length-entries files)
@@ -177,16 +165,6 @@ taken_out files name i d distinct found = equal_files _ _ (λ q.
     ∙ ap (λ o. cond (same q name) None o) (sym (get-files_in files q))
     ∙ sym (get-remove nat_list_cmp_total (files_in files) name q))
 
--- a name that is not there, taken out
-pub none_out : (files : Files) (name : List ℕ) → get files name ≡ None → finite.remove files name ≡ files
-none_out files name none = equal_files _ _ (λ q. get-remove nat_list_cmp_total files name q ∙ stays q)
-  where
-    stays : (q : List ℕ) → cond (same q name) None (get files q) ≡ get files q
-    stays q = elim (cases_Bool (same q name)) [
-      | inl hit ↦ ap (λ b. cond b None (get files q)) hit ∙ sym (ap (λ n. get files n) (same_name q name hit) ∙ none)
-      | inr miss ↦ ap (λ b. cond b None (get files q)) miss
-    ]
-
 -- a file that is put in
 pub put_in : (files : List File) (file : File) → get (files_in files) (name_bytes file.name) ≡ None → files_in (files ++ file ∷ []) ≡ insert (files_in files) (name_bytes file.name) file.bytes.items
 put_in files file new =
@@ -200,42 +178,16 @@ distinct_files_push files file distinct new =
 
 -- ---- the calls
 
--- what was taken out is not there
-pub get_taken : (files : Files) (name : List ℕ) → get (finite.remove files name) name ≡ None
-get_taken files name = get-remove nat_list_cmp_total files name name ∙ ap (λ b. cond b None (get files name)) (same_refl name)
-
--- a file that is taken out, and one of its name put in
-pub put_again : (files : Files) (name bytes : List ℕ) → insert (finite.remove files name) name bytes ≡ insert files name bytes
-put_again files name bytes = equal_files _ _ (λ q.
-    get-insert nat_list_cmp_total (finite.remove files name) name bytes q
-    ∙ ap (λ o. cond (same q name) (Some bytes) o) (get-remove nat_list_cmp_total files name q)
-    ∙ twice (same q name) (get files q)
-    ∙ sym (get-insert nat_list_cmp_total files name bytes q))
-  where
-    twice : (b : Bool) (o : Option (List ℕ)) → cond b (Some bytes) (cond b None o) ≡ cond b (Some bytes) o
-    twice true o = refl
-    twice false o = refl
-
--- the bytes that a name has, put in again
-pub put_same : (files : Files) (name bytes : List ℕ) → get files name ≡ Some bytes → insert files name bytes ≡ files
-put_same files name bytes is = equal_files _ _ (λ q. get-insert nat_list_cmp_total files name bytes q ∙ stays q)
-  where
-    stays : (q : List ℕ) → cond (same q name) (Some bytes) (get files q) ≡ get files q
-    stays q = elim (cases_Bool (same q name)) [
-      | inl hit ↦ ap (λ b. cond b (Some bytes) (get files q)) hit ∙ sym (ap (λ n. get files n) (same_name q name hit) ∙ is)
-      | inr miss ↦ ap (λ b. cond b (Some bytes) (get files q)) miss
-    ]
-
 -- a file of a name moved to another, in place of the one that had it
 pub moved : (files : Files) (from to bytes : List ℕ) → get files from ≡ Some bytes → insert (finite.remove (finite.remove files from) to) to bytes ≡ renamed files from to
 moved files from to bytes is =
-    put_again (finite.remove files from) to bytes
+    insert-removed (finite.remove files from) to bytes
     ∙ ap (λ (o : Option (List ℕ)). insert (finite.remove files from) to (unwrap_or o [])) (sym is)
 
 -- bytes more at the end of a file
 pub grown : (files : Files) (name bytes more : List ℕ) → get files name ≡ Some bytes → insert (finite.remove files name) name (bytes ++ more) ≡ appended files name more
 grown files name bytes more is =
-    put_again files name (bytes ++ more)
+    insert-removed files name (bytes ++ more)
     ∙ ap (λ (o : Option (List ℕ)). insert files name (unwrap_or o [] ++ more)) (sym is)
 
 -- no bytes more
@@ -247,7 +199,7 @@ none_more files name bytes there = by_case (get files name) refl there
     by_case (Some old) is there =
         ap (λ (o : Option (List ℕ)). insert files name (unwrap_or o [] ++ [])) is
         ∙ ap (λ (xs : List ℕ). insert files name xs) (append-nil old)
-        ∙ put_same files name old is
+        ∙ insert_same files name old is
 
 -- a vector that was to grow, and did or did not
 pub extended : {T E : Type 0} (r : Result T E) (old more new : List ℕ) → new ≡ (if is_ok r then old ++ more else old) → OnOk r (new ≡ old ++ more) × OnErr r (new ≡ old)
@@ -260,8 +212,3 @@ prefix_none old new name bytes there same Failed = (0, omega arith, same ∙ sym
 prefix_none old new name bytes there same NotThere = same
 prefix_none old new name bytes there same TooLarge = same
 prefix_none old new name bytes there same NoMemory = same
-
--- what holds of every error holds of a result's
-pub IfErr-from : {T E : Type 0} (r : Result T E) (P : E → Type 0) → ((e : E) → P e) → IfErr r P
-IfErr-from (Ok x) P h = tt
-IfErr-from (Err e) P h = h e

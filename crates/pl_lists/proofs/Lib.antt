@@ -1,4 +1,3 @@
-pub mod NameLaws
 pub mod DistinctLaws
 pub mod StepLaws
 pub mod FieldLaws

@@ -5,9 +5,8 @@ ghost use Rattle.pl_lists.specs.Reading as spec;
 ghost use Rattle.pl_lists.specs.declared.conflict_row.ConflictRow.{ConflictRow};
 
 use crate::constants::{CONFLICT_INFO, CONFLICT_SIZE};
-use crate::words::push64;
 use crate::{ConflictRow, ListFault};
-use pl_base::{Rows, word64};
+use pl_base::{Rows, push64, word64};
 use pl_io::NoMemory;
 use std::alloc::{AllocError, Global};
 

@@ -7,9 +7,6 @@ mod constants;
 mod fault;
 mod list_row;
 mod read;
-#[cfg(test)]
-mod tests;
-mod words;
 mod write;
 
 pub use conflict_row::ConflictRow;

@@ -8,22 +8,18 @@ ghost use Rattle.pl_lists.specs.declared.list_row.ListRow.{ListRow};
 
 use crate::constants::LIST_ROW_SIZE;
 use crate::{ListFault, ListRow};
-use pl_base::{Rows, Text, word32};
-use pl_io::valid_name;
+use pl_base::{Rows, Text, valid_text, word32};
 use std::alloc::Global;
 use std::collections::BTreeSet;
 
-#[tactic(auto, using(crate::proofs::NameLaws::not_valid), unfolding(crate::specs::Reading::checked_name))]
+#[tactic(auto, unfolding(crate::specs::Reading::checked_name))]
 fn checked_name(alloc: Global, bytes: &[u8]) -> Result<Text, ListFault>
     ensures { Answers spec.is_memory result (spec.checked_name bytes.now) }
 {
-    let Ok(name) = str::from_utf8(bytes) else {
-        return Err(ListFault::BadList);
-    };
-    if !valid_name(name) {
-        return Err(ListFault::BadList);
+    match valid_text(bytes) {
+        None => Err(ListFault::BadList),
+        Some(name) => Ok(Text::copy_of(alloc, name)?),
     }
-    Ok(Text::copy_of(alloc, name)?)
 }
 
 #[tactic(auto, unfolding(crate::specs::Reading::start_at))]

@@ -2,7 +2,7 @@ ghost use Rattle.std.specs.Prelude.{◌≡◌, ◌∷◌, ◌++◌, [], ◌+◌,
 ghost use Rattle.pl_lists.specs.Lists as lists;
 
 use crate::ListRow;
-use crate::words::push32;
+use pl_base::push32;
 use pl_io::NoMemory;
 use std::alloc::{AllocError, Global};
 

@@ -1,16 +1,9 @@
--- Names that are text, lists that are as long as what they are read from, and symbols with version words.
-use Rattle.std.proofs.Common.{◌≡◌, ℕ, zero, suc, ◌+◌, ◌/◌, ◌<◌, ◌≤◌, true, false, not, ◌&&◌, List, [], ◌∷◌, length, take, get_or, set, Option, Some, None, Result, Ok, Err, refl, sym, ap, ◌∙◌, inl, inr, arith, add-one}
-use Rattle.std.specs.Prelude.{◌⊎◌, nat_le, ◌==◌}
-use Rattle.std.specs.List.{list_all}
-use Rattle.std.specs.Str.{IsUtf8}
-use Rattle.std.proofs.lemmas.Bool.{cases_Bool, and_parts, leb-true}
+-- Lists that are as long as what they are read from, and symbols with version words.
+use Rattle.std.proofs.Common.{◌≡◌, ℕ, zero, suc, ◌+◌, ◌/◌, ◌<◌, ◌≤◌, List, [], ◌∷◌, length, take, get_or, set, Option, Some, None, Result, Ok, Err, refl, sym, ap, ◌∙◌, inl, inr, arith, add-one}
+use Rattle.std.specs.Prelude.{◌⊎◌}
 use Rattle.std.proofs.lemmas.List.{take_all}
-use Rattle.std.proofs.lemmas.List.Sums.{AllPass-from_list_all}
 use Rattle.std.proofs.lemmas.List.FromFn.{length-range_with_len}
-use Rattle.std.proofs.lemmas.Str.{IsUtf8-from_ascii}
-use Rattle.std.proofs.lemmas.Str.Ascii.{IsAscii-from_all}
 use Rattle.std.specs.List.{range_with_len}
-use Rattle.pl_base.specs.Names.{is_name_byte, is_own_name, is_dots, is_valid_name}
 use Rattle.pl_base.specs.Answers.{◌>>=◌}
 use Rattle.pl_base.specs.Each.{each}
 use Rattle.pl_sym.specs.Table.{symbol, symbols}
@@ -18,34 +11,6 @@ use Rattle.pl_sym.specs.declared.constants.TheConstants.{SYMBOL_SIZE}
 use Rattle.pl_sym.specs.declared.symbol.Symbol.{Symbol}
 use Rattle.pl_ver.specs.declared.versions.Versions.{Versions}
 use Rattle.pl_object.specs.Names.{with_version, with_versions, versioned}
-
--- ---- names
-
-name_byte_below : (b : ℕ) → is_name_byte b ≡ true → b < 128
-unfolding is_name_byte
-name_byte_below b h =
-    let p = and_parts (nat_le 0x21 b && nat_le b 0x7e) (not (b == 0x2f)) h in
-    let q = and_parts (nat_le 0x21 b) (nat_le b 0x7e) p.0 in
-    omega (arith, leb-true b 0x7e q.1)
-
-valid_bytes : (name : List ℕ) → is_valid_name name ≡ true → list_all is_name_byte name ≡ true
-unfolding is_valid_name
-valid_bytes name h =
-    let p = and_parts (nat_le 1 (length name) && nat_le (length name) 255 && list_all is_name_byte name && not (is_own_name name)) (not (is_dots name)) h in
-    let q = and_parts (nat_le 1 (length name) && nat_le (length name) 255 && list_all is_name_byte name) (not (is_own_name name)) p.0 in
-    (and_parts (nat_le 1 (length name) && nat_le (length name) 255) (list_all is_name_byte name) q.0).1
-
-valid_is_text : (name : List ℕ) → is_valid_name name ≡ true → IsUtf8 name
-valid_is_text name h =
-    let all = AllPass-from_list_all is_name_byte name (valid_bytes name h) in
-    IsUtf8-from_ascii name (IsAscii-from_all name (λ i d lt. name_byte_below (get_or name i d) (all i d lt)))
-
--- what is no text is no valid name
-pub not_text : (name : List ℕ) → (IsUtf8 name → ⊥) → is_valid_name name ≡ false
-not_text name other = elim (cases_Bool (is_valid_name name)) [
-  | inl valid ↦ absurd (other (valid_is_text name valid))
-  | inr not_valid ↦ not_valid
-]
 
 -- ---- as many results as rows
 

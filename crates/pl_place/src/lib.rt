@@ -7,8 +7,6 @@ mod numbering;
 mod placer;
 mod placing;
 mod policies;
-#[cfg(test)]
-mod tests;
 mod wish;
 
 pub use fault::PlaceFault;

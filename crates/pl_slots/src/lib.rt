@@ -7,11 +7,9 @@ mod holes;
 mod planned;
 mod planning;
 mod slot;
-#[cfg(test)]
-mod tests;
 
 pub use apart::are_apart;
 pub use fault::PlanFault;
-pub use holes::{greatest, lowest_place, region_holes, without};
+pub use holes::{first_address, greatest, lowest_place, region_holes, without};
 pub use planning::plan;
 pub use slot::{Slot, Want};

@@ -1,4 +1,3 @@
-pub mod Strings
 pub mod Symbol
 pub mod Table
 pub mod Definers

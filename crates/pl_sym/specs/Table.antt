@@ -3,8 +3,9 @@ use Rattle.std.specs.Prelude.{ℕ, ◌+◌, ◌*◌, ◌/◌, ◌%◌, Bool, tru
 use Rattle.std.specs.List.{range_with_len}
 use Rattle.pl_base.specs.Bytes.{byte, word16, word32, word64}
 use Rattle.pl_base.specs.Each.{each}
-use Rattle.pl_sym.specs.Strings.{string_at}
-use Rattle.pl_sym.specs.declared.constants.TheConstants.{SYMBOL_SIZE, VER_NDX_GLOBAL}
+use Rattle.pl_base.specs.Strings.{string_at}
+use Rattle.pl_sym.specs.declared.constants.TheConstants.{SYMBOL_SIZE}
+use Rattle.pl_ver.specs.declared.constants.TheConstants.{VER_NDX_GLOBAL}
 use Rattle.pl_sym.specs.declared.symbol.Symbol.{Symbol}
 use Rattle.pl_sym.specs.declared.fault.SymFault.{SymFault}
 use Rattle.pl_sym.specs.declared.fault.SymFault.TheVariants.{BadSymbol, NoMemory}

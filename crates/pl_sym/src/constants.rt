@@ -62,6 +62,3 @@ pub const STV_HIDDEN: u8 = 2;
 
 /// Visibility: other objects see the symbol, and references of its own object bind to it.
 pub const STV_PROTECTED: u8 = 3;
-
-/// Version index: a global symbol without a version (GNU symbol versioning).
-pub const VER_NDX_GLOBAL: u16 = 1;

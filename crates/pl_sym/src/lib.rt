@@ -1,19 +1,15 @@
-//! The symbol table of an ELF-64 file and its string table (System V gABI, chapter 4, "Symbol Table" and "String Table"), and which symbols define a name for others.
+//! The symbol table of an ELF-64 file (System V gABI, chapter 4, "Symbol Table"), and which symbols define a name for others.
 #![tactic(auto)]
 
 mod class;
 pub mod constants;
 mod definers;
 mod fault;
-mod strings;
 mod symbol;
 mod table;
-#[cfg(test)]
-mod tests;
 
 pub use class::Class;
 pub use definers::is_definer;
 pub use fault::SymFault;
-pub use strings::string_at;
 pub use symbol::Symbol;
 pub use table::read_symbols;

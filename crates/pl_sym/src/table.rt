@@ -2,9 +2,10 @@ ghost use Rattle.std.specs.Prelude.{◌≡◌, ◌+◌, ◌*◌, ◌/◌, ◌≤
 ghost use Rattle.pl_base.specs.Answers.{Answers};
 ghost use Rattle.pl_sym.specs.Table as spec;
 
-use crate::constants::{SYMBOL_SIZE, VER_NDX_GLOBAL};
-use crate::{SymFault, Symbol, string_at};
-use pl_base::{Rows, word16, word32, word64};
+use crate::constants::SYMBOL_SIZE;
+use crate::{SymFault, Symbol};
+use pl_base::{Rows, string_at, word16, word32, word64};
+use pl_ver::constants::VER_NDX_GLOBAL;
 use std::alloc::Global;
 
 #[tactic(auto, unfolding(crate::specs::Table::symbol_at))]

@@ -5,8 +5,6 @@ mod block;
 mod fault;
 mod layout;
 mod module;
-#[cfg(test)]
-mod tests;
 
 pub use block::Block;
 pub use fault::TlsFault;

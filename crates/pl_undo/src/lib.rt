@@ -4,10 +4,7 @@
 mod constants;
 mod fault;
 mod read;
-#[cfg(test)]
-mod tests;
 mod undo;
-mod words;
 mod write;
 
 pub use constants::{HEADERS_AT, UNDO_MAGIC};

@@ -3,7 +3,7 @@ ghost use Rattle.pl_undo.specs.Section as section;
 
 use crate::Undo;
 use crate::constants::UNDO_MAGIC;
-use crate::words::push64;
+use pl_base::push64;
 use pl_io::NoMemory;
 use std::alloc::Global;
 

@@ -1,4 +1,3 @@
-pub mod StringLaws
 pub mod ChainLaws
 pub mod LengthLaws
 pub mod TakenLaws

@@ -1,7 +1,7 @@
 -- Chains of version records (GNU symbol versioning records): one record after the other, each by the `next` of the one before. And what acceptance clause 17 refuses, which is this project's profile: the records' format asks for none of it.
-use Rattle.std.specs.Prelude.{ℕ, zero, suc, ◌+◌, Bool, true, not, ◌&&◌, ◌==◌, nat_le, List, [], ◌∷◌, map, flat_map, length, drop, if◌then◌else◌}
-use Rattle.std.specs.List.{list_any}
+use Rattle.std.specs.Prelude.{ℕ, zero, suc, ◌+◌, Bool, true, not, ◌&&◌, ◌==◌, nat_le, List, [], ◌∷◌, map, flat_map, length, if◌then◌else◌}
 use Rattle.pl_base.specs.Bytes.{word32}
+use Rattle.pl_base.specs.Strings.{has_end}
 use Rattle.pl_ver.specs.declared.constants.TheConstants.{VERDEF_SIZE, VERDAUX_SIZE, VERNEED_SIZE, VERNAUX_SIZE, VDA_NAME, VN_FILE, VNA_NAME}
 use Rattle.pl_ver.specs.declared.record.Record.{Record}
 use Rattle.pl_ver.specs.Fields.{next, verdef_count, verdef_names, verdef_at, verneed_count, verneed_versions, vernaux_at}
@@ -24,16 +24,9 @@ is_chain passes size section (suc more) at =
 
 -- ---- clause 17
 
-abbrev pub is_zero : ℕ → Bool
-is_zero byte = byte == 0
-
--- a string that begins at an offset has an end: a 0 byte follows
-unfoldable pub has_end : List ℕ → ℕ → Bool
-has_end strings at = list_any is_zero (drop at strings)
-
--- the string whose place stands in a record, so many bytes behind the record's begin, has an end
+-- the string whose offset stands in a record, so many bytes behind the record's begin, has an end
 unfoldable pub is_named : List ℕ → List ℕ → ℕ → ℕ → Bool
-is_named strings section field at = has_end strings (word32 (at + field) section)
+is_named strings section field at = has_end (word32 (at + field) section) strings
 
 -- a Verdef has a name, and each of its names an end
 unfoldable pub is_verdef : List ℕ → List ℕ → ℕ → Bool

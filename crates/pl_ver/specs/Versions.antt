@@ -1,7 +1,8 @@
 -- The versions of an object's symbols (GNU symbol versioning records), and the first of acceptance clauses 17 and 18 that refuses them. Both clauses are this project's profile.
-use Rattle.std.specs.Prelude.{ℕ, Bool, true, false, not, ◌&&◌, ◌||◌, ◌==◌, nat_le, nat_lt, List, [], ◌∷◌, ◌++◌, map, drop, Option, Result, Ok, find, option_map}
-use Rattle.std.specs.List.{list_any, before_first}
+use Rattle.std.specs.Prelude.{ℕ, Bool, true, false, not, ◌&&◌, ◌||◌, ◌==◌, nat_le, nat_lt, List, [], ◌∷◌, ◌++◌, map, Option, Result, Ok, find, option_map, unwrap_or}
+use Rattle.std.specs.List.{list_any}
 use Rattle.pl_base.specs.Answers.{refuse}
+use Rattle.pl_base.specs.Strings.{string_at}
 use Rattle.pl_ver.specs.declared.constants.TheConstants.{VER_NDX_GLOBAL}
 use Rattle.pl_ver.specs.declared.fault.VerFault.{VerFault}
 use Rattle.pl_ver.specs.declared.fault.VerFault.TheVariants.{BadChain, BadIndex, NoMemory}
@@ -9,7 +10,7 @@ use Rattle.pl_ver.specs.declared.record.Record.{Record}
 use Rattle.pl_ver.specs.declared.versions.VersionName.{VersionName}
 use Rattle.pl_ver.specs.declared.versions.Versions.{Versions}
 use Rattle.pl_ver.specs.Fields.{words, index_of}
-use Rattle.pl_ver.specs.Chains.{is_zero, are_verdefs, are_verneeds, defined, needed}
+use Rattle.pl_ver.specs.Chains.{are_verdefs, are_verneeds, defined, needed}
 
 abbrev pub is_memory : VerFault → Bool
 is_memory NoMemory = true
@@ -42,12 +43,12 @@ bad_index records versym = any_share records || list_any is_misplaced records ||
 
 -- ---- the versions
 
--- the string that begins at an offset, without the 0 that ends it
-unfoldable pub string : List ℕ → ℕ → List ℕ
-string strings at = before_first is_zero (drop at strings)
+-- the string that begins at an offset, empty where it has no end
+unfoldable pub name_at : List ℕ → ℕ → List ℕ
+name_at strings at = unwrap_or (string_at at strings) []
 
 unfoldable pub named : List ℕ → Record → VersionName
-named strings r = record { index = r.index; name = string strings r.name; defined = r.defined }
+named strings r = record { index = r.index; name = name_at strings r.name; defined = r.defined }
 
 -- the version words of a section, and the records with their names
 unfoldable pub checked : List ℕ → List Record → List ℕ → Result Versions VerFault

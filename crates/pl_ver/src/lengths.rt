@@ -6,8 +6,7 @@ ghost use Rattle.pl_ver.specs.Lengths as spec;
 use crate::chains::is_named;
 use crate::constants::NEXT_SIZE;
 use crate::fields::next;
-use crate::strings::Strings;
-use pl_base::end;
+use pl_base::{Strings, end};
 use std::alloc::{AllocError, Global};
 
 /// The length at an offset, 0 past the end.
@@ -46,7 +45,7 @@ fn length_at(
     if rest == 0 { 0 } else { rest.wrapping_add(1) }
 }
 
-/// The lengths of the chains from all offsets on, of records of a size in which the place of a name stands at a field's offset. Chains that share records are walked once.
+/// The lengths of the chains from all offsets on, of records of a size in which the offset of a name stands in a field so many bytes behind the record's begin. Chains that share records are walked once.
 pub fn lengths(
     alloc: Global,
     strings: &Strings<'_>,

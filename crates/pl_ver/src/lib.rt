@@ -12,9 +12,6 @@ mod look_up;
 mod read;
 mod record;
 mod records;
-mod strings;
-#[cfg(test)]
-mod tests;
 mod versions;
 
 pub use fault::VerFault;

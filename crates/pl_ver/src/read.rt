@@ -9,10 +9,20 @@ use crate::fault::VerFault;
 use crate::fields::words;
 use crate::indices::{any_misplaced, any_unknown};
 use crate::record::Record;
-use crate::strings::Strings;
 use crate::versions::{VersionName, Versions};
-use pl_base::Rows;
+use pl_base::{Rows, Strings};
 use std::alloc::{AllocError, Global};
+
+/// The string that begins at an offset, empty where it has no end.
+#[tactic(auto, unfolding(crate::specs::Versions::name_at))]
+fn name_at<'a>(strings: &Strings<'a>, at: u32) -> &'a [u8]
+    ensures { result.now ≡ spec.name_at strings.now at }
+{
+    match strings.string_at(at) {
+        None => &[],
+        Some(name) => name,
+    }
+}
 
 #[tactic(auto, unfolding(crate::specs::Versions::named))]
 fn named(alloc: Global, strings: &Strings<'_>, row: &Record) -> Result<VersionName, AllocError>
@@ -20,7 +30,7 @@ fn named(alloc: Global, strings: &Strings<'_>, row: &Record) -> Result<VersionNa
 {
     Ok(VersionName {
         index: row.index,
-        name: Rows::from_vec(Vec::from_slice(alloc, strings.string(row.name))?),
+        name: Rows::from_vec(Vec::from_slice(alloc, name_at(strings, row.name))?),
         defined: row.defined,
     })
 }

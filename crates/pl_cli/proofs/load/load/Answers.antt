@@ -2,7 +2,7 @@ use Rattle.std.proofs.Common.{◌≡◌, true, Some, sym, ap, subst, ◌∙◌, 
 use Rattle.pl_base.specs.Counts.{Rose}
 use Rattle.pl_base.specs.Files.{Files}
 use Rattle.pl_base.specs.Names.{is_valid_name}
-use Rattle.pl_folder.proofs.ReplaceLemmas.{IfErr-at}
+use Rattle.pl_base.proofs.ResultLaws.{IfErr-at}
 use Rattle.pl_scope.specs.Walking.{wants}
 use Rattle.pl_loader.specs.Loading.{Loading}
 use Rattle.pl_loader.specs.Walk.{IsUnderWay}

@@ -2,7 +2,7 @@ use Rattle.std.proofs.Common.{◌≡◌, true, sym, map, rules, ◌∙◌, ap}
 use Rattle.std.specs.Prelude.{is_some, string_bytes}
 use Rattle.pl_base.specs.Counts.{Rose}
 use Rattle.pl_base.specs.Names.{is_valid_name}
-use Rattle.pl_folder.proofs.ReplaceLemmas.{IfErr-at}
+use Rattle.pl_base.proofs.ResultLaws.{IfErr-at}
 use Rattle.pl_cli.specs.Make as spec
 use Rattle.pl_cli.specs.Outcome.{Stops, of_fault}
 use Rattle.pl_cli.specs.Words.{bytes_of}

@@ -3,7 +3,7 @@ use Rattle.std.specs.Prelude.{is_some, string_bytes}
 use Rattle.pl_base.specs.Counts.{Rose}
 use Rattle.pl_base.proofs.NameLaws.{valid_length}
 use Rattle.pl_folder.specs.Replaced.{replaced, LeavesOldOrNew}
-use Rattle.pl_folder.proofs.ReplaceLemmas.{IfErr-at}
+use Rattle.pl_base.proofs.ResultLaws.{IfErr-at}
 use Rattle.pl_cli.specs.declared.stop.Stop.{Stop}
 use Rattle.pl_cli.specs.declared.stop.Stop.TheVariants as stops
 use Rattle.pl_cli.specs.Answer.{make_answer}

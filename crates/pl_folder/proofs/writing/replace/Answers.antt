@@ -2,12 +2,12 @@ use Rattle.std.proofs.Common.{◌≡◌, [], sym, ap, ◌∙◌, true, inl, inr}
 use Rattle.std.specs.Prelude.{is_some}
 use Rattle.std.specs.FinMap.{get, insert}
 use Rattle.pl_base.specs.Files.{Files}
+use Rattle.pl_base.proofs.ResultLaws.{IfErr-from, IfErr-at}
 use Rattle.pl_folder.specs.declared.fault.FolderFault.{FolderFault}
 use Rattle.pl_folder.specs.declared.fault.FolderFault.TheVariants.{Failed}
 use Rattle.pl_folder.specs.Replaced.{LeavesOldOrNew}
 use Rattle.pl_folder.proofs.FolderLaws.{there}
-use Rattle.pl_folder.proofs.TableLemmas.{IfErr-from}
-use Rattle.pl_folder.proofs.ReplaceLemmas.{new_name, begun, going, written, named, elsewhere, any_fault, IfErr-at}
+use Rattle.pl_folder.proofs.ReplaceLemmas.{new_name, begun, going, written, named, elsewhere, any_fault}
 use Rattle.pl_folder.proofs.writing.replace.Goals as goal
 
 pub returns-in_err-create-clause-err : goal.returns-in_err-create-clause-err

@@ -1,7 +1,8 @@
 use Rattle.std.proofs.Common.{ap}
 use Rattle.pl_folder.specs.Calls.{LeavesPrefix}
 use Rattle.pl_folder.specs.InMemory.{folder_files, table_files}
-use Rattle.pl_folder.proofs.TableLemmas.{IfErr-from, prefix_none}
+use Rattle.pl_base.proofs.ResultLaws.{IfErr-from}
+use Rattle.pl_folder.proofs.TableLemmas.{prefix_none}
 use Rattle.pl_folder.proofs.memory_folder.MemoryFolderFolder.append.Goals as goal
 
 pub returns-in_err-call-clause-err : goal.returns-in_err-call-clause-err

@@ -1,0 +1,54 @@
+// Tests of pl_cache.
+use pl_base::Rows;
+use pl_cache::{Cache, CacheFault, is_cache, read_cache, write_cache};
+
+/// The last stamp 1000, and a row: `liba` from 0x3000000000 on, 0x101000 bytes.
+const ONE_ROW: [u8; 37] = [
+    0x50, 0x4c, 0x43, 0x41, 0x43, 0x48, 0x45, 0x31, 0xe8, 3, 0, 0, 1, 0, 0, 0, 4, 0x6c, 0x69, 0x62,
+    0x61, 0, 0, 0, 0, 0x30, 0, 0, 0, 0, 0x10, 0x10, 0, 0, 0, 0, 0,
+];
+
+#[test]
+fn both_ways(rt: HostRuntime) -> Result<(), CacheFault> {
+    let alloc = rt.alloc();
+    let cache = read_cache(alloc, &ONE_ROW)?;
+    assert!(rt; cache.last == 1000);
+    assert!(rt; cache.rows.len() == 1);
+    for row in cache.rows.as_slice() {
+        assert!(rt; row.name.as_str() == "liba");
+        assert!(rt; row.start == 0x30_0000_0000 && row.span == 0x10_1000);
+    }
+    assert!(rt; is_cache(&cache));
+    assert!(rt; write_cache(alloc, &cache).as_deref() == Ok(ONE_ROW.as_slice()));
+    Ok(())
+}
+
+#[test]
+fn writes_no_rows(rt: HostRuntime) {
+    let cache = Cache {
+        last: 900,
+        rows: Rows::new(rt.alloc()),
+    };
+    assert!(rt; is_cache(&cache));
+    let bytes = b"PLCACHE1\x84\x03\0\0\0\0\0\0".as_slice();
+    assert!(rt; write_cache(rt.alloc(), &cache).as_deref() == Ok(bytes));
+}
+
+const BAD: [&[u8]; 4] = [
+    b"",
+    b"abc",
+    b"PLCACHE2\x84\x03\0\0\0\0\0\0",
+    b"PLCACHE1\x84\x03\0\0\0\0\0\0\0",
+];
+
+#[test]
+fn refuses_what_is_no_cache(rt: HostRuntime) {
+    let alloc = rt.alloc();
+    for bytes in &BAD {
+        assert!(rt;
+            matches!(read_cache(alloc, bytes), Err(CacheFault::BadCache)),
+            "{bytes:?}"
+        );
+    }
+    assert!(rt; matches!(read_cache(alloc, &ONE_ROW[..36]), Err(CacheFault::BadCache)));
+}

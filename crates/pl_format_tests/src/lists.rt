@@ -1,0 +1,141 @@
+// Tests of pl_lists.
+ghost use Rattle.std.specs.Prelude.{◌≡◌, IfOk};
+
+use pl_base::Text;
+use pl_io::NoMemory;
+use pl_lists::{
+    ConflictRow, ListFault, ListRow, read_conflicts, read_list, write_conflicts, write_list,
+};
+use std::alloc::{AllocError, Global};
+
+const STRINGS: &[u8] = b"\0libm.so.6\0liba\0libb\0";
+
+/// Where `liba` begins in the strings.
+const LIBA: u8 = 11;
+
+/// The rows of `liba` and `libb`, whose names end the strings.
+const LIST: [u8; 40] = [
+    LIBA, 0, 0, 0, 1, 2, 0, 0, 0xba, 0x78, 0x16, 0xbf, 0, 0, 0, 0, 0, 0, 0, 0, //
+    16, 0, 0, 0, 0xff, 0xff, 0xff, 0xff, 0, 0, 0, 0, 0, 0, 0, 0, 0, 0, 0, 0,
+];
+
+/// Their names, stamps and checksums.
+const ROWS: [(&str, u32, u32); 2] = [("liba", 0x201, 0xbf16_78ba), ("libb", u32::MAX, 0)];
+
+#[test]
+fn reads_lists(rt: HostRuntime) -> Result<(), ListFault> {
+    let rows = read_list(rt.alloc(), &LIST, STRINGS)?;
+    assert!(rt; rows.len() == 2);
+    for (row, (name, stamp, checksum)) in rows.as_slice().iter().zip(&ROWS) {
+        assert!(rt; row.name.as_str() == *name);
+        assert!(rt; row.stamp == *stamp && row.checksum == *checksum, "{name}");
+    }
+    Ok(())
+}
+
+fn row(alloc: Global, name: &str, stamp: u32, checksum: u32) -> Result<ListRow, AllocError>
+    ensures { IfOk result (λ row. row.name ≡ name.now) }
+{
+    Ok(ListRow {
+        name: Text::copy_of(alloc, name)?,
+        stamp,
+        checksum,
+    })
+}
+
+#[test]
+#[tactic(auto, unfolding(pl_lists::specs::Lists::list_strings))]
+fn writes_lists(rt: HostRuntime) -> Result<(), NoMemory> {
+    let alloc = rt.alloc();
+    let rows = [
+        row(alloc, "liba", 0x201, 0xbf16_78ba)?,
+        row(alloc, "libb", u32::MAX, 0)?,
+    ];
+    let mut strings = b"\0libm.so.6\0".to_vec(alloc)?;
+    let table = write_list(alloc, &rows, &mut strings)?;
+    assert!(rt; table.as_slice() == LIST.as_slice());
+    assert!(rt; strings.as_slice() == STRINGS);
+    Ok(())
+}
+
+/// The rows with another byte at an offset.
+fn changed(at: usize, byte: u8) -> [u8; 40] {
+    let mut table = LIST;
+    if at < table.len() {
+        table[at] = byte;
+    }
+    table
+}
+
+/// An offset in the rows and the byte there, and strings that are not theirs then.
+const BAD_LISTS: [(usize, u8, &[u8]); 8] = [
+    (0, LIBA, b"\0libm.so.6\0liba\0liba\0"),
+    (0, LIBA, b"\0libm.so.6\0liba\0libb\0libc\0"),
+    (0, LIBA, b"\0libm.so.6\0liba\0libb"),
+    (0, LIBA, b"\0libm.so.6\0li/a\0libb\0"),
+    (0, LIBA, b"\0libm.so.6\0lib\xe1\0libb\0"),
+    (0, LIBA - 1, STRINGS),
+    (12, 1, STRINGS),
+    (20, LIBA + 4, STRINGS),
+];
+
+fn list_fault(alloc: Global, table: &[u8], strings: &[u8]) -> Option<ListFault> {
+    read_list(alloc, table, strings).err()
+}
+
+#[test]
+fn refuses_lists(rt: HostRuntime) {
+    let alloc = rt.alloc();
+    let bad = Some(ListFault::BadList);
+    for (at, byte, strings) in &BAD_LISTS {
+        let fault = list_fault(alloc, &changed(*at, *byte), strings);
+        assert!(rt; fault == bad, "{at} {byte}");
+    }
+    assert!(rt; list_fault(alloc, &LIST[..39], STRINGS) == bad);
+    assert!(rt; list_fault(alloc, &[], b"libc\0").is_none());
+}
+
+/// Two rows: 0x0000003000302000 is to hold 0x0000003000100000, and the word after it 5.
+const CONFLICTS: [u8; 48] = [
+    0x00, 0x20, 0x30, 0x00, 0x30, 0, 0, 0, 1, 0, 0, 0, 0, 0, 0, 0, 0x00, 0x00, 0x10, 0x00, 0x30, 0,
+    0, 0, //
+    0x08, 0x20, 0x30, 0x00, 0x30, 0, 0, 0, 1, 0, 0, 0, 0, 0, 0, 0, 5, 0, 0, 0, 0, 0, 0, 0,
+];
+
+const CONFLICT_ROWS: [ConflictRow; 2] = [
+    ConflictRow {
+        address: 0x30_0030_2000,
+        word: 0x30_0010_0000,
+    },
+    ConflictRow {
+        address: 0x30_0030_2008,
+        word: 5,
+    },
+];
+
+#[test]
+fn conflicts_both_ways(rt: HostRuntime) -> Result<(), ListFault> {
+    let alloc = rt.alloc();
+    let rows = read_conflicts(alloc, &CONFLICTS)?;
+    assert!(rt; rows.as_slice() == CONFLICT_ROWS.as_slice());
+    let table = write_conflicts(alloc, &CONFLICT_ROWS);
+    assert!(rt; table.as_deref() == Ok(CONFLICTS.as_slice()));
+    Ok(())
+}
+
+/// An offset in the two rows, and a byte there with which they are none: another kind, the same address twice.
+const BAD_CONFLICTS: [(usize, u8); 2] = [(8, 2), (24, 0)];
+
+#[test]
+fn refuses_conflicts(rt: HostRuntime) {
+    let alloc = rt.alloc();
+    let bad = Some(ListFault::BadList);
+    for (at, byte) in &BAD_CONFLICTS {
+        let mut table = CONFLICTS;
+        if *at < table.len() {
+            table[*at] = *byte;
+        }
+        assert!(rt; read_conflicts(alloc, &table).err() == bad, "{at}");
+    }
+    assert!(rt; read_conflicts(alloc, &CONFLICTS[..47]).err() == bad);
+}

@@ -1,0 +1,261 @@
+// Tests of pl_sym.
+use pl_base::Rows;
+use pl_sym::constants::{
+    SHN_ABS, SHN_HIRESERVE, SHN_LORESERVE, SHN_UNDEF, STB_GLOBAL, STB_GNU_UNIQUE, STB_LOCAL,
+    STB_WEAK, STT_COMMON, STT_FILE, STT_FUNC, STT_GNU_IFUNC, STT_NOTYPE, STT_OBJECT, STT_SECTION,
+    STT_TLS, STV_DEFAULT, STV_HIDDEN, STV_INTERNAL, STV_PROTECTED,
+};
+use pl_sym::{Class, SymFault, Symbol, is_definer, read_symbols};
+use pl_ver::constants::VER_NDX_GLOBAL;
+use std::alloc::Global;
+use std::process::Abort;
+
+/// Value, binding, type, visibility and section.
+type Fields = (u64, u8, u8, u8, u16);
+
+fn fields(symbol: &Symbol) -> Fields {
+    (
+        symbol.value,
+        symbol.bind,
+        symbol.kind,
+        symbol.visibility,
+        symbol.section,
+    )
+}
+
+/// Name, size and the other fields.
+type Row = (&'static [u8], u64, Fields);
+
+fn expect_rows(rt: &impl Abort, symbols: &[Symbol], rows: &[Row]) {
+    assert!(rt; symbols.len() == rows.len());
+    for (symbol, (name, size, wanted)) in symbols.iter().zip(rows) {
+        assert!(rt; symbol.name.as_slice() == *name, "{name:?}");
+        assert!(rt;
+            symbol.size == *size && symbol.version == VER_NDX_GLOBAL,
+            "{name:?}"
+        );
+        assert!(rt; fields(symbol) == *wanted, "{name:?}");
+    }
+}
+
+/// The `.dynsym` of a library that gcc and GNU ld 2.40 made (`gcc -shared -nostdlib -Wl,--hash-style=both`, with a version script and a library that it needs).
+const LIBRARY_SYMBOLS: [u8; 288] = [
+    0, 0, 0, 0, 0, 0, 0, 0, 0, 0, 0, 0, 0, 0, 0, 0, 0, 0, 0, 0, 0, 0, 0, 0, 6, 0, 0, 0, 18, 0, 0,
+    0, 0, 0, 0, 0, 0, 0, 0, 0, 0, 0, 0, 0, 0, 0, 0, 0, 47, 0, 0, 0, 16, 0, 0, 0, 0, 0, 0, 0, 0, 0,
+    0, 0, 0, 0, 0, 0, 0, 0, 0, 0, 68, 0, 0, 0, 18, 0, 11, 0, 106, 16, 0, 0, 0, 0, 0, 0, 6, 0, 0, 0,
+    0, 0, 0, 0, 23, 0, 0, 0, 18, 0, 11, 0, 75, 16, 0, 0, 0, 0, 0, 0, 25, 0, 0, 0, 0, 0, 0, 0, 86,
+    0, 0, 0, 17, 0, 241, 255, 0, 0, 0, 0, 0, 0, 0, 0, 0, 0, 0, 0, 0, 0, 0, 0, 62, 0, 0, 0, 17, 0,
+    20, 0, 32, 64, 0, 0, 0, 0, 0, 0, 24, 0, 0, 0, 0, 0, 0, 0, 35, 0, 0, 0, 22, 0, 14, 0, 0, 0, 0,
+    0, 0, 0, 0, 0, 4, 0, 0, 0, 0, 0, 0, 0, 41, 0, 0, 0, 17, 0, 19, 0, 16, 64, 0, 0, 0, 0, 0, 0, 4,
+    0, 0, 0, 0, 0, 0, 0, 1, 0, 0, 0, 18, 0, 11, 0, 48, 16, 0, 0, 0, 0, 0, 0, 21, 0, 0, 0, 0, 0, 0,
+    0, 14, 0, 0, 0, 34, 0, 11, 0, 69, 16, 0, 0, 0, 0, 0, 0, 6, 0, 0, 0, 0, 0, 0, 0, 89, 0, 0, 0,
+    17, 0, 241, 255, 0, 0, 0, 0, 0, 0, 0, 0, 0, 0, 0, 0, 0, 0, 0, 0,
+];
+
+/// Its `.dynstr`.
+const LIBRARY_STRINGS: &[u8] =
+    b"\0call\0outside\0weak_one\0local_place\0local_count\0__tls_get_addr\0table\0f\0libb.so\0liba.so\0V1\0V2\0";
+
+/// Its symbols as `readelf --dyn-syms` tells them.
+const LIBRARY: [Row; 12] = [
+    (b"", 0, (0, STB_LOCAL, STT_NOTYPE, STV_DEFAULT, SHN_UNDEF)),
+    (
+        b"outside",
+        0,
+        (0, STB_GLOBAL, STT_FUNC, STV_DEFAULT, SHN_UNDEF),
+    ),
+    (
+        b"__tls_get_addr",
+        0,
+        (0, STB_GLOBAL, STT_NOTYPE, STV_DEFAULT, SHN_UNDEF),
+    ),
+    (b"f", 6, (0x106a, STB_GLOBAL, STT_FUNC, STV_DEFAULT, 11)),
+    (
+        b"local_place",
+        25,
+        (0x104b, STB_GLOBAL, STT_FUNC, STV_DEFAULT, 11),
+    ),
+    (b"V1", 0, (0, STB_GLOBAL, STT_OBJECT, STV_DEFAULT, SHN_ABS)),
+    (
+        b"table",
+        24,
+        (0x4020, STB_GLOBAL, STT_OBJECT, STV_DEFAULT, 20),
+    ),
+    (b"local_count", 4, (0, STB_GLOBAL, STT_TLS, STV_DEFAULT, 14)),
+    (
+        b"count",
+        4,
+        (0x4010, STB_GLOBAL, STT_OBJECT, STV_DEFAULT, 19),
+    ),
+    (b"call", 21, (0x1030, STB_GLOBAL, STT_FUNC, STV_DEFAULT, 11)),
+    (
+        b"weak_one",
+        6,
+        (0x1045, STB_WEAK, STT_FUNC, STV_DEFAULT, 11),
+    ),
+    (b"V2", 0, (0, STB_GLOBAL, STT_OBJECT, STV_DEFAULT, SHN_ABS)),
+];
+
+const STRINGS: &[u8] = b"\0main\0x\0end";
+
+/// A protected global function in section 7, with other bits in the field `other`, an absolute unique symbol without type, and part of a row.
+const SYMBOLS: &[u8] = b"\x01\0\0\0\x12\xfb\x07\0\x10\x20\x40\0\0\0\0\x80\x2a\0\0\0\0\0\0\x01\
+    \x06\0\0\0\xa0\0\xf1\xff\x05\0\0\0\0\0\0\0\0\0\0\0\0\0\0\0\
+    \x01\0\0\0\x12\xfb\x07\0\x10\x20\x40\0\0\0\0\x80\x2a\0\0\0\0\0\0";
+
+const ROWS: [Row; 2] = [
+    (
+        b"main",
+        0x0100_0000_0000_002a,
+        (
+            0x8000_0000_0040_2010,
+            STB_GLOBAL,
+            STT_FUNC,
+            STV_PROTECTED,
+            7,
+        ),
+    ),
+    (
+        b"x",
+        0,
+        (5, STB_GNU_UNIQUE, STT_NOTYPE, STV_DEFAULT, SHN_ABS),
+    ),
+];
+
+#[test]
+fn reads_symbols(rt: HostRuntime) -> Result<(), SymFault> {
+    let alloc = rt.alloc();
+    let symbols = read_symbols(alloc, SYMBOLS, STRINGS)?;
+    expect_rows(&rt, symbols.as_slice(), &ROWS);
+    let symbols = read_symbols(alloc, &LIBRARY_SYMBOLS, LIBRARY_STRINGS)?;
+    expect_rows(&rt, symbols.as_slice(), &LIBRARY);
+    Ok(())
+}
+
+/// Where the name of a symbol begins in the strings, and whether it has an end.
+const NAMES: [(u8, bool); 6] = [
+    (7, true),
+    (8, false),
+    (10, false),
+    (11, false),
+    (12, false),
+    (0xff, false),
+];
+
+#[test]
+fn refuses_names_without_end(rt: HostRuntime) {
+    for (at, has_end) in &NAMES {
+        let mut row = [0u8; 24];
+        row[0] = *at;
+        let fault = read_symbols(rt.alloc(), &row, STRINGS).err();
+        let wanted = if *has_end {
+            None
+        } else {
+            Some(SymFault::BadSymbol)
+        };
+        assert!(rt; fault == wanted, "{at}");
+    }
+}
+
+fn symbol(alloc: Global, fields: Fields) -> Symbol {
+    let (value, bind, kind, visibility, section) = fields;
+    Symbol {
+        name: Rows::new(alloc),
+        value,
+        size: 8,
+        bind,
+        kind,
+        visibility,
+        section,
+        version: VER_NDX_GLOBAL,
+    }
+}
+
+/// Whether it is a definer for jump slots and for other references, in a library, then in a program.
+fn answers(symbol: &Symbol) -> [bool; 4] {
+    [
+        is_definer(symbol, Class::Jump, false),
+        is_definer(symbol, Class::Other, false),
+        is_definer(symbol, Class::Jump, true),
+        is_definer(symbol, Class::Other, true),
+    ]
+}
+
+fn expect_answers(rt: &impl Abort, alloc: Global, symbols: &[Fields], wanted: [bool; 4]) {
+    for fields in symbols {
+        let symbol = symbol(alloc, *fields);
+        assert!(rt; answers(&symbol) == wanted, "{fields:?}");
+    }
+}
+
+/// Definers for each reference.
+const ALWAYS: [Fields; 13] = [
+    (0x4000, STB_GLOBAL, STT_FUNC, STV_DEFAULT, 7),
+    (0x4000, STB_WEAK, STT_FUNC, STV_DEFAULT, 7),
+    (0x4000, STB_GNU_UNIQUE, STT_FUNC, STV_DEFAULT, 7),
+    (0x4000, STB_GLOBAL, STT_NOTYPE, STV_DEFAULT, 7),
+    (0x4000, STB_GLOBAL, STT_OBJECT, STV_DEFAULT, 7),
+    (0x4000, STB_GLOBAL, STT_COMMON, STV_DEFAULT, 7),
+    (0x4000, STB_GLOBAL, STT_TLS, STV_DEFAULT, 7),
+    (0x4000, STB_GLOBAL, STT_FUNC, STV_PROTECTED, 7),
+    (0x4000, STB_GLOBAL, STT_FUNC, STV_DEFAULT, 1),
+    (0x4000, STB_GLOBAL, STT_FUNC, STV_DEFAULT, 0xfeff),
+    (0x4000, STB_GLOBAL, STT_FUNC, STV_DEFAULT, SHN_ABS),
+    (0, STB_GLOBAL, STT_NOTYPE, STV_DEFAULT, SHN_ABS),
+    (0, STB_GLOBAL, STT_TLS, STV_DEFAULT, 7),
+];
+
+/// Definers for none.
+const NEVER: [Fields; 13] = [
+    (0x4000, STB_LOCAL, STT_FUNC, STV_DEFAULT, 7),
+    (0x4000, 3, STT_FUNC, STV_DEFAULT, 7),
+    (0x4000, STB_GLOBAL, STT_SECTION, STV_DEFAULT, 7),
+    (0x4000, STB_GLOBAL, STT_FILE, STV_DEFAULT, 7),
+    (0x4000, STB_GLOBAL, STT_GNU_IFUNC, STV_DEFAULT, 7),
+    (0x4000, STB_GLOBAL, STT_FUNC, STV_HIDDEN, 7),
+    (0x4000, STB_GLOBAL, STT_FUNC, STV_INTERNAL, 7),
+    (0x4000, STB_GLOBAL, STT_FUNC, STV_DEFAULT, SHN_LORESERVE),
+    (0x4000, STB_GLOBAL, STT_FUNC, STV_DEFAULT, SHN_HIRESERVE),
+    (0, STB_GLOBAL, STT_FUNC, STV_DEFAULT, 7),
+    (0x4000, STB_LOCAL, STT_FUNC, STV_DEFAULT, SHN_UNDEF),
+    (0, STB_GLOBAL, STT_FUNC, STV_DEFAULT, SHN_UNDEF),
+    (0, STB_GLOBAL, STT_TLS, STV_DEFAULT, SHN_UNDEF),
+];
+
+/// Canonical addresses of functions: definers for other references than jump slots, in a program.
+const CANONICAL: [Fields; 3] = [
+    (0x40_1000, STB_GLOBAL, STT_FUNC, STV_DEFAULT, SHN_UNDEF),
+    (0x40_1000, STB_WEAK, STT_NOTYPE, STV_DEFAULT, SHN_UNDEF),
+    (0x40_1000, 3, STT_GNU_IFUNC, STV_HIDDEN, SHN_UNDEF),
+];
+
+#[test]
+fn knows_definers(rt: HostRuntime) {
+    expect_answers(&rt, rt.alloc(), &ALWAYS, [true; 4]);
+    expect_answers(&rt, rt.alloc(), &NEVER, [false; 4]);
+    expect_answers(&rt, rt.alloc(), &CANONICAL, [false, false, false, true]);
+}
+
+/// Sections; whether a symbol there is undefined, absolute, in a section.
+const SECTIONS: [(u16, [bool; 3]); 6] = [
+    (SHN_UNDEF, [true, false, false]),
+    (1, [false, false, true]),
+    (0xfeff, [false, false, true]),
+    (SHN_LORESERVE, [false, false, false]),
+    (SHN_ABS, [false, true, false]),
+    (SHN_HIRESERVE, [false, false, false]),
+];
+
+#[test]
+fn knows_sections(rt: HostRuntime) {
+    for (section, wanted) in &SECTIONS {
+        let symbol = symbol(rt.alloc(), (0, STB_LOCAL, STT_TLS, STV_DEFAULT, *section));
+        let found = [
+            symbol.is_undefined(),
+            symbol.is_absolute(),
+            symbol.is_in_section(),
+        ];
+        assert!(rt; found == *wanted, "{section}");
+        assert!(rt; symbol.is_local() && symbol.is_tls());
+    }
+}

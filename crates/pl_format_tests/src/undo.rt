@@ -1,0 +1,121 @@
+// Tests of pl_undo.
+use pl_base::Rows;
+use pl_elf::constants::{ET_DYN, ET_EXEC};
+use pl_io::NoMemory;
+use pl_undo::{Undo, UndoFault, read_undo, write_undo};
+use std::alloc::{AllocError, Global};
+
+/// The first bytes, and a library's numbers: slot 0x3000101000, cut and length 0x1234, shift 0, and 5 bytes kept.
+const FRONT: [u8; 48] = [
+    0x50, 0x4c, 0x55, 0x4e, 0x44, 0x4f, 0x30, 0x31, //
+    0x00, 0x10, 0x10, 0x00, 0x30, 0, 0, 0, //
+    0x34, 0x12, 0, 0, 0, 0, 0, 0, //
+    0, 0, 0, 0, 0, 0, 0, 0, //
+    0x34, 0x12, 0, 0, 0, 0, 0, 0, //
+    5, 0, 0, 0, 0, 0, 0, 0,
+];
+
+/// A header of a type, with one program header and two section headers behind it.
+fn headers(kind: u16) -> [u8; 248] {
+    let mut bytes = [0u8; 248];
+    bytes[16..18].copy_from_slice(&kind.to_le_bytes());
+    bytes[56] = 1;
+    bytes[60] = 2;
+    bytes
+}
+
+/// The section of a file of a type, with another byte at an offset.
+fn section(alloc: Global, kind: u16, at: usize, byte: u8) -> Result<Vec<u8>, AllocError> {
+    let mut bytes = FRONT.to_vec(alloc)?;
+    bytes.extend_from_slice(&headers(kind))?;
+    bytes.extend_from_slice(b"kept!")?;
+    if let Some(place) = bytes.get_mut(at) {
+        *place = byte;
+    }
+    Ok(bytes)
+}
+
+#[test]
+fn both_ways(rt: HostRuntime) -> Result<(), UndoFault> {
+    let alloc = rt.alloc();
+    let bytes = section(alloc, ET_DYN, 0, b'P')?;
+    let undo = read_undo(alloc, &bytes)?;
+    let numbers = [undo.slot, undo.cut, undo.shift, undo.length];
+    assert!(rt; numbers == [0x30_0010_1000, 0x1234, 0, 0x1234]);
+    assert!(rt; undo.headers.as_slice() == headers(ET_DYN).as_slice());
+    assert!(rt; undo.kept.as_slice() == b"kept!".as_slice());
+    assert!(rt; write_undo(alloc, &undo).as_deref() == Ok(bytes.as_slice()));
+    Ok(())
+}
+
+#[test]
+fn writes_for_a_program(rt: HostRuntime) -> Result<(), NoMemory> {
+    let alloc = rt.alloc();
+    let undo = Undo {
+        slot: 0,
+        cut: 0x200,
+        shift: 0x1000,
+        length: 0x300,
+        headers: Rows::from_vec(headers(ET_EXEC).to_vec(alloc)?),
+        kept: Rows::new(alloc),
+    };
+    let bytes = write_undo(alloc, &undo)?;
+    assert!(rt; read_undo(alloc, &bytes).is_ok());
+    Ok(())
+}
+
+/// A type, an offset in the section and a byte there, and whether it is one then.
+const CHANGED: [(u16, usize, u8, bool); 13] = [
+    // the numbers, which have to fit the type
+    (ET_DYN, 8, 1, true),
+    (ET_DYN, 16, 1, false),
+    (ET_DYN, 24, 1, false),
+    (ET_DYN, 32, 1, false),
+    (ET_EXEC, 8, 0, false),
+    (4, 24, 1, true),
+    // the first bytes, the kept length, the sizes of the tables
+    (ET_DYN, 0, b'p', false),
+    (ET_DYN, 7, b'2', false),
+    (ET_DYN, 40, 4, false),
+    (ET_DYN, 40, 6, false),
+    (ET_DYN, 47, 1, false),
+    (ET_DYN, 48 + 56, 2, false),
+    (ET_DYN, 48 + 60, 1, false),
+];
+
+/// Why bytes are no section.
+fn fault(alloc: Global, bytes: &[u8]) -> Option<UndoFault> {
+    read_undo(alloc, bytes).err()
+}
+
+#[test]
+fn refuses_what_is_no_section(rt: HostRuntime) -> Result<(), AllocError> {
+    let alloc = rt.alloc();
+    for (kind, at, byte, fits) in &CHANGED {
+        let bytes = section(alloc, *kind, *at, *byte)?;
+        let wanted = if *fits {
+            None
+        } else {
+            Some(UndoFault::BadUndo)
+        };
+        assert!(rt; fault(alloc, &bytes) == wanted, "{kind} {at}");
+    }
+    Ok(())
+}
+
+/// Sizes to which the section of 301 bytes is cut.
+const SIZES: [usize; 6] = [0, 47, 48, 111, 112, 300];
+
+#[test]
+fn refuses_other_sizes(rt: HostRuntime) -> Result<(), AllocError> {
+    let alloc = rt.alloc();
+    let bad = Some(UndoFault::BadUndo);
+    let mut bytes = section(alloc, ET_DYN, 0, b'P')?;
+    bytes.push(0)?;
+    assert!(rt; fault(alloc, &bytes) == bad);
+    for size in SIZES.iter().rev() {
+        bytes.truncate(*size);
+        assert!(rt; fault(alloc, &bytes) == bad, "{size}");
+    }
+    Ok(())
+}
