@@ -1,14 +1,12 @@
 -- What is known of a file that no clause from 1 to 8 refuses.
-use Rattle.std.proofs.Common.{◌≡◌, ℕ, ◌+◌, ◌≤◌, inl, inr, Bool, true, false, List, [], ◌∷◌, Result, Ok, Err, refl, sym, ap, subst, ◌∙◌}
+use Rattle.std.proofs.Common.{◌≡◌, ℕ, ◌+◌, ◌≤◌, inl, inr, Bool, true, false, List, [], ◌∷◌, Ok, refl, sym}
 use Rattle.std.specs.Prelude.{◌||◌, ◌&&◌, ◌==◌, not, nat_lt, filter, All}
 use Rattle.std.specs.List.{list_any}
 use Rattle.std.specs.Result.{is_ok}
 use Rattle.std.proofs.lemmas.Bool.{cases_Bool, or_parts, ltb-false}
 use Rattle.std.proofs.lemmas.List.Elements.{All-nil, All-cons}
-use Rattle.pl_base.specs.Answers.{refuse}
 use Rattle.pl_base.proofs.AnswerLaws.{refuse_none}
 use Rattle.pl_elf.specs.declared.constants.TheConstants.{SEGMENT_SIZE, MAX_LOAD_ALIGN, ADDRESS_LIMIT}
-use Rattle.pl_elf.specs.declared.header.Header.{Header}
 use Rattle.pl_elf.specs.declared.segment.Segment.{Segment}
 use Rattle.pl_elf.specs.Headers.{header, segments, sections, is_load, loads}
 use Rattle.pl_elf.specs.Clauses.{read, not_elf, other_class, other_machine, other_kind, truncated, bad_segment, bad_section, no_sections, has_second_of_a_kind, bad_load, bad_align, not_congruent, bad_tls, ascend_from, overlap_in_file, AreLoads}

@@ -1,5 +1,5 @@
 -- What acceptance clauses 1 to 8 refuse, each a test of the whole file. The first that refuses is the file's fault. At the head of each stands where its rules come from: System V gABI, chapters 4 and 5, or this project's profile, which takes fewer files.
-use Rattle.std.specs.Prelude.{◌≡◌, ℕ, ◌+◌, ◌*◌, ◌%◌, Bool, true, false, not, ◌&&◌, ◌||◌, ◌==◌, nat_lt, nat_le, List, [], ◌∷◌, length, map, Result, Ok, Err, if◌then◌else◌}
+use Rattle.std.specs.Prelude.{◌≡◌, ℕ, ◌+◌, ◌*◌, ◌%◌, Bool, true, false, not, ◌&&◌, ◌||◌, ◌==◌, nat_lt, nat_le, List, [], ◌∷◌, length, map, Result, Ok, if◌then◌else◌}
 use Rattle.std.specs.List.{range_with_len, list_any}
 use Rattle.std.specs.Int.{is_power_of_two}
 use Rattle.pl_base.specs.Bytes.{byte, part}

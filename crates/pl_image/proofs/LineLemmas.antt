@@ -4,8 +4,7 @@ use Rattle.std.specs.Prelude.{slice_index, drop}
 use Rattle.std.proofs.lemmas.List.{append-nil}
 use Rattle.pl_base.specs.Bytes.{word64}
 use Rattle.pl_base.specs.Memory.{Memory, read}
-use Rattle.pl_elf.specs.declared.range.Range.{Range}
-use Rattle.pl_image.specs.Lines.{byte_in, word_in, word_line, lines_from, IsClear, text}
+use Rattle.pl_image.specs.Lines.{byte_in, word_in, word_line, lines_from, IsClear}
 
 -- ---- a word
 

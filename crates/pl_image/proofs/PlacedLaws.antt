@@ -1,12 +1,12 @@
 -- Objects that are placed load what an image can be made of.
-use Rattle.std.proofs.Common.{◌≡◌, ℕ, ◌+◌, ◌≤◌, Bool, true, false, List, [], ◌∷◌, refl, sym, ap, subst, ◌∙◌, arith}
-use Rattle.std.specs.Prelude.{◌||◌, nat_le, map}
+use Rattle.std.proofs.Common.{◌≡◌, ℕ, ◌+◌, ◌≤◌, true, false, List, [], ◌∷◌, refl, sym, subst, arith}
+use Rattle.std.specs.Prelude.{nat_le, map}
 use Rattle.std.specs.List.{list_any, All}
 use Rattle.std.proofs.lemmas.Bool.{or_parts, and_parts}
 use Rattle.std.proofs.lemmas.Bool.Decides.{nat_tests}
 use Rattle.std.proofs.lemmas.List.{append-nil}
 use Rattle.std.proofs.lemmas.List.Elements.{All-head, All-tail, All-nil, All-cons, All-weaker}
-use Rattle.pl_base.specs.Memory.{Piece, AtMostOne, lies, layered, filled, shown}
+use Rattle.pl_base.specs.Memory.{AtMostOne, lies}
 use Rattle.pl_elf.specs.declared.constants.TheConstants.{ADDRESS_LIMIT}
 use Rattle.pl_elf.specs.declared.segment.Segment.{Segment}
 use Rattle.pl_elf.specs.Clauses.{bad_load, ascend_from, AreLoads}
@@ -15,8 +15,8 @@ use Rattle.pl_elf.specs.Headers.{loads}
 use Rattle.pl_object.specs.declared.object.Object.{Object}
 use Rattle.pl_image.specs.declared.mask.Load.{Load}
 use Rattle.pl_image.specs.declared.loaded.Loaded.{Loaded}
-use Rattle.pl_image.specs.Loads.{loaded_pieces, pieces_at, load_at, mask_at, is_masked, loaded_at, image_of, IsPlaced}
-use Rattle.pl_image.specs.Image.{ascends, AreLoaded, byte_of}
+use Rattle.pl_image.specs.Loads.{loaded_pieces, pieces_at, load_at, mask_at, IsPlaced}
+use Rattle.pl_image.specs.Image.{ascends, AreLoaded}
 use Rattle.pl_image.proofs.PieceLemmas.{ascend_apart}
 
 -- ---- one object

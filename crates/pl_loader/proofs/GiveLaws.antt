@@ -1,5 +1,5 @@
 -- The wanted name and its file, as far as the code has read it.
-use Rattle.std.proofs.Common.{◌≡◌, ℕ, true, false, List, Option, Some, None, Result, Ok, Err, refl, sym, ap, ◌∙◌}
+use Rattle.std.proofs.Common.{◌≡◌, ℕ, true, false, List, Option, Some, None, Result, Ok, Err, sym, ap, ◌∙◌}
 use Rattle.std.specs.Prelude.{MatchBool, ⊤}
 use Rattle.pl_base.specs.Answers.{◌>>=◌, because}
 use Rattle.pl_base.proofs.AnswerLaws.{bind_ok, ok_same, unless_ok}

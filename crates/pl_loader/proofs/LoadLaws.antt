@@ -1,6 +1,6 @@
 -- A load that goes from file to file: the files that were given, and those still to come, are the files of the walk of a name. Whoever takes the files from a folder goes by these laws.
-use Rattle.std.proofs.Common.{◌≡◌, ℕ, ◌+◌, ◌<◌, true, false, List, [], ◌∷◌, ◌++◌, Option, Some, None, Result, Ok, Err, refl, sym, ap, ◌∙◌, subst, arith, map, inl, inr}
-use Rattle.std.specs.Prelude.{MatchBool, ⊤, ◌⊎◌}
+use Rattle.std.proofs.Common.{◌≡◌, ℕ, ◌+◌, ◌<◌, List, [], ◌∷◌, ◌++◌, Option, Some, None, Result, Ok, Err, refl, sym, ap, ◌∙◌, subst, arith, map, inl, inr}
+use Rattle.std.specs.Prelude.{◌⊎◌}
 use Rattle.std.proofs.lemmas.List.{map_push}
 use Rattle.std.proofs.lemmas.Option.{slice_get_within}
 use Rattle.pl_base.specs.Answers.{◌>>=◌, because}
@@ -14,7 +14,7 @@ use Rattle.pl_scope.specs.Walk as walk
 use Rattle.pl_scope.specs.declared.constants.TheConstants.{MAX_MEMBERS}
 use Rattle.pl_scope.specs.declared.fault.WalkFault.{WalkFault}
 use Rattle.pl_scope.proofs.WalkLaws.{walk_begins, walk_goes_on, walk_lacks, walk_stops, walk_ends, give_given}
-use Rattle.pl_loader.specs.Faults.{is_memory, of_walk}
+use Rattle.pl_loader.specs.Faults.{of_walk}
 use Rattle.pl_loader.specs.Loading.{Loading}
 use Rattle.pl_loader.specs.Walk.{object_in, entered, taken, of_wanted, give, with_file, begun, walk_fault, object_of, walked, with_bytes, files, member, IsUnderWay, IsFile}
 use Rattle.pl_loader.specs.declared.object_file.ObjectFile.{ObjectFile}

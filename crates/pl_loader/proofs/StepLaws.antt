@@ -1,5 +1,5 @@
 -- One object more of a walk, and one file more of a load.
-use Rattle.std.proofs.Common.{◌≡◌, ℕ, ◌+◌, ◌<◌, ◌≤◌, Bool, true, false, not, ◌&&◌, List, [], ◌∷◌, ◌++◌, Some, Result, Ok, Err, refl, sym, ap, ◌∙◌, arith, length, drop, inl, inr}
+use Rattle.std.proofs.Common.{◌≡◌, ℕ, ◌+◌, ◌<◌, ◌≤◌, true, false, not, ◌&&◌, List, [], ◌∷◌, ◌++◌, Some, Result, Ok, Err, refl, sym, ap, ◌∙◌, arith, length, drop, inl, inr}
 use Rattle.std.specs.Prelude.{nat_lt, nat_le, ◌⊎◌}
 use Rattle.std.specs.List.{All, list_any}
 use Rattle.std.specs.Str.{bytes_eq}
@@ -7,7 +7,7 @@ use Rattle.std.proofs.lemmas.Bool.{cases_Bool, leb-false, lt-ltb, and_from, fals
 use Rattle.std.proofs.lemmas.List.{length_push}
 use Rattle.std.proofs.lemmas.List.Elements.{All-nil, All-push}
 use Rattle.std.proofs.lemmas.Option.{slice_get_within}
-use Rattle.pl_base.specs.Answers.{◌>>=◌, because, unless, unless_found}
+use Rattle.pl_base.specs.Answers.{◌>>=◌, because, unless_found}
 use Rattle.pl_base.specs.Each.{run}
 use Rattle.pl_base.proofs.AnswerLaws.{bind_ok, ok_same, unless_ok}
 use Rattle.pl_object.specs.declared.object.Object.{Object}

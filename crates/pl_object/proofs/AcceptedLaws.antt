@@ -5,7 +5,7 @@ use Rattle.std.specs.List.{list_any, list_all}
 use Rattle.std.specs.Result.{is_ok}
 use Rattle.std.proofs.lemmas.Bool.{cases_Bool, or_parts, and_parts, leb-true}
 use Rattle.std.proofs.lemmas.List.{length-take}
-use Rattle.pl_base.specs.Answers.{Answers, ◌>>=◌, unless_found, because}
+use Rattle.pl_base.specs.Answers.{Answers, unless_found, because}
 use Rattle.pl_base.proofs.AnswerLaws.{refuse_none, refuse_next, bind_ok, ok_same}
 use Rattle.pl_base.specs.Windows.{Window, end_of}
 use Rattle.pl_elf.specs.Headers.{segments, loads}

@@ -19,7 +19,6 @@ use Rattle.pl_sym.specs.declared.symbol.Symbol.{Symbol}
 use Rattle.pl_sym.specs.declared.fault.SymFault.{SymFault}
 use Rattle.pl_sym.specs.declared.fault.SymFault.TheVariants as sym_fault
 use Rattle.pl_ver.specs.Versions as ver
-use Rattle.pl_ver.specs.declared.versions.Versions.{Versions}
 use Rattle.pl_ver.specs.declared.fault.VerFault.{VerFault}
 use Rattle.pl_ver.specs.declared.fault.VerFault.TheVariants as ver_fault
 use Rattle.pl_object.specs.Refusals.{is_memory, of_header, of_dynamic, of_symbols, of_versions}
@@ -31,7 +30,6 @@ use Rattle.pl_object.specs.Reads.{dynamic, check_rest, linking, check, checked, 
 use Rattle.pl_object.specs.declared.headers.Headers.{Headers}
 use Rattle.pl_object.specs.declared.linking.Linking.{Linking}
 use Rattle.pl_object.specs.declared.layout.Layout.{Layout}
-use Rattle.pl_object.specs.declared.refusal.Refusal.{Refusal}
 use Rattle.pl_object.specs.declared.refusal.Refusal.TheVariants.{NoMemory}
 
 -- a value, or a fault that is no want of memory

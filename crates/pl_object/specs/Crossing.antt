@@ -1,5 +1,5 @@
 -- Whether a table and a spot share a byte, by one walk over both in the order of where they begin.
-use Rattle.std.specs.Prelude.{Bool, true, false, ◌&&◌, ◌||◌, nat_lt, List, [], ◌∷◌, if◌then◌else◌}
+use Rattle.std.specs.Prelude.{Bool, false, ◌&&◌, ◌||◌, nat_lt, List, [], ◌∷◌, if◌then◌else◌}
 use Rattle.pl_base.specs.Windows.{Window, end_of}
 use Rattle.pl_object.specs.declared.crossing.Mark.{Mark}
 
