@@ -87,7 +87,8 @@ fn push_conflict(table: &mut Vec<u8>, row: &ConflictRow) -> Result<(), AllocErro
 
 /// The table of conflict rows. Where the addresses ascend strictly, it is their one spelling, which `read_conflicts` reads.
 pub fn write_conflicts(alloc: Global, rows: &[ConflictRow]) -> Result<Vec<u8>, NoMemory>
-    ensures { IfOk result (λ table. table.items ≡ conflicts.conflicts_bytes rows.now) }
+    ensures table { IfOk result (λ table. table.items ≡ conflicts.conflicts_bytes rows.now) }
+    ensures spelled { IfOk result (λ table. conflicts.are_conflicts rows.now ≡ true → conflicts.AreConflictsOf table.items rows.now) }
 {
     let mut table = Vec::new(alloc);
     for row in rows {
