@@ -1,6 +1,8 @@
 // Tests of pl_cache.
 use pl_base::Rows;
 use pl_cache::{Cache, CacheFault, is_cache, read_cache, write_cache};
+use std::alloc::{AllocError, Global};
+use std::test::Fail;
 
 /// The last stamp 1000, and a row: `liba` from 0x3000000000 on, 0x101000 bytes.
 const ONE_ROW: [u8; 37] = [
@@ -51,4 +53,27 @@ fn refuses_what_is_no_cache(rt: HostRuntime) {
         );
     }
     assert!(rt; matches!(read_cache(alloc, &ONE_ROW[..36]), Err(CacheFault::BadCache)));
+}
+
+/// A cache of so many slots, a page each, one behind the other.
+fn cache_of(alloc: Global, count: u16) -> Result<Vec<u8>, AllocError> {
+    let mut bytes = b"PLCACHE1\0\0\0\0".to_vec(alloc)?;
+    bytes.extend_from_slice(&u32::from(count).to_le_bytes())?;
+    for row in 0..count {
+        let name = [2, b'A' + (row / 32 % 64) as u8, b'A' + (row % 32) as u8];
+        bytes.extend_from_slice(&name)?;
+        bytes.extend_from_slice(&(4096 * u64::from(row)).to_le_bytes())?;
+        bytes.extend_from_slice(&4096u64.to_le_bytes())?;
+    }
+    Ok(bytes)
+}
+
+#[test]
+fn reads_the_most_rows(rt: HostRuntime) -> Result<(), Fail> {
+    let alloc = rt.alloc();
+    let bytes = cache_of(alloc, 1024)?;
+    assert!(rt; read_cache(alloc, &bytes).is_ok());
+    let bytes = cache_of(alloc, 1025)?;
+    assert!(rt; matches!(read_cache(alloc, &bytes), Err(CacheFault::BadCache)));
+    Ok(())
 }

@@ -1,7 +1,7 @@
 // Tests of pl_elf.
 use pl_base::part;
 use pl_elf::constants::{
-    ET_EXEC, HEADER_SIZE, PT_DYNAMIC, PT_LOAD, SECTION_SIZE, SEGMENT_SIZE, SHT_STRTAB,
+    ET_EXEC, HEADER_SIZE, MAX_SECTIONS, PT_DYNAMIC, PT_LOAD, SECTION_SIZE, SEGMENT_SIZE, SHT_STRTAB,
 };
 use pl_elf::{
     Header, HeaderFault, Section, Segment, count_of_kind, is_static, loads, read_header,
@@ -239,4 +239,10 @@ fn refuses_by_the_first_clause(rt: HostRuntime) -> Result<(), AllocError> {
         assert!(rt; clause(part(&file, 0, size)) == wanted, "{size} bytes");
     }
     Ok(())
+}
+
+// The clauses name the limit, so its number stands here once more.
+#[test]
+fn knows_the_most_sections(rt: HostRuntime) {
+    assert!(rt; MAX_SECTIONS == 65000);
 }

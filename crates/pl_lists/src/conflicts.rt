@@ -1,4 +1,4 @@
-ghost use Rattle.std.specs.Prelude.{◌≡◌, ◌++◌, ◌+◌, ◌*◌, ◌/◌, ◌≤◌, length, IfOk, OnOk, List, Ok};
+ghost use Rattle.std.specs.Prelude.{◌≡◌, ◌++◌, ◌+◌, ◌*◌, ◌/◌, ◌≤◌, length, true, IfOk, OnOk, List, Ok};
 ghost use Rattle.pl_base.specs.Answers.{Answers};
 ghost use Rattle.pl_lists.specs.Conflicts as conflicts;
 ghost use Rattle.pl_lists.specs.Reading as spec;

@@ -18,7 +18,7 @@ returns-then-not-is_valid_name-clause-stop g c =
     let told = g.D.Folder.tells_files c.args.folder.now in
     let files = g.D.Folder.files c.args.folder.now in
     subst (λ (stop : Stop). Stops told true (file_in files c.args.name.now) (Rose (g.D.Folder.faults c.args.folder.now) (g.D.Folder.faults c.args.folder.now)) ⊥ stop) (sym c.in_ok-untaken.ensures)
-    (λ tells _. invalid_file files c.args.name.now (sym c.valid_name.ensures ∙ c.if-not-is_valid_name.true))
+    (λ tells _. invalid_file files c.args.name.now (sym c.is_valid_name.ensures ∙ c.if-not-is_valid_name.true))
 
 pub returns-in-Ok-clause-ok : goal.returns-in-Ok-clause-ok
 returns-in-Ok-clause-ok g c = λ tells.

@@ -11,7 +11,7 @@ use Rattle.pl_cli.proofs.make.made.Goals as goal
 
 pub returns-then-not-is_valid_name-clause-stop : goal.returns-then-not-is_valid_name-clause-stop
 returns-then-not-is_valid_name-clause-stop g c = λ tells told.
-    bad_name (g.D.Folder.files c.args.folder.now) c.args.name.now (bytes_of (g.S.Source.left c.args.input.now)) (sym c.valid_name.ensures ∙ c.if-not-is_valid_name.true)
+    bad_name (g.D.Folder.files c.args.folder.now) c.args.name.now (bytes_of (g.S.Source.left c.args.input.now)) (sym c.is_valid_name.ensures ∙ c.if-not-is_valid_name.true)
 
 pub returns-in_err-bytes-clause-stop : goal.returns-in_err-bytes-clause-stop
 returns-in_err-bytes-clause-stop g c =
