@@ -1,4 +1,4 @@
-use Rattle.std.proofs.Common.{◌≡◌, true, Some, sym, ap, subst, ◌∙◌, rules, arith}
+use Rattle.std.proofs.Common.{◌≡◌, true, false, Some, sym, ap, subst, ◌∙◌, rules, arith}
 use Rattle.pl_base.specs.Counts.{Rose}
 use Rattle.pl_base.specs.Files.{Files}
 use Rattle.pl_base.specs.Names.{is_valid_name}
@@ -13,7 +13,9 @@ use Rattle.pl_cli.proofs.LoadLemmas.{bad_name, stopped_in_folder, stopped_at_fil
 use Rattle.pl_cli.proofs.load.load.Goals as goal
 
 pub returns-then-not-is_valid_name-clause-stop : goal.returns-then-not-is_valid_name-clause-stop
-returns-then-not-is_valid_name-clause-stop g c = λ tells _. bad_name (g.D.Folder.files c.args.folder.now) c.args.name.now (sym c.is_valid_name.ensures ∙ c.if-not-is_valid_name.true)
+returns-then-not-is_valid_name-clause-stop g c = λ tells _.
+    let invalid : is_valid_name c.args.name.now ≡ false = search rules in
+    bad_name (g.D.Folder.files c.args.folder.now) c.args.name.now invalid
 
 pub loop-wanted-init : goal.loop-wanted-init
 loop-wanted-init g c =

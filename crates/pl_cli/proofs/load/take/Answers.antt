@@ -1,4 +1,4 @@
-use Rattle.std.proofs.Common.{◌≡◌, rules, true, sym, subst, ◌∙◌}
+use Rattle.std.proofs.Common.{◌≡◌, rules, true, false, sym, subst}
 use Rattle.pl_base.specs.Counts.{Rose}
 use Rattle.pl_base.specs.Names.{is_valid_name}
 use Rattle.pl_base.proofs.NameLaws.{valid_length}
@@ -17,8 +17,9 @@ pub returns-then-not-is_valid_name-clause-stop : goal.returns-then-not-is_valid_
 returns-then-not-is_valid_name-clause-stop g c =
     let told = g.D.Folder.tells_files c.args.folder.now in
     let files = g.D.Folder.files c.args.folder.now in
+    let invalid : is_valid_name c.args.name.now ≡ false = search rules in
     subst (λ (stop : Stop). Stops told true (file_in files c.args.name.now) (Rose (g.D.Folder.faults c.args.folder.now) (g.D.Folder.faults c.args.folder.now)) ⊥ stop) (sym c.in_ok-untaken.ensures)
-    (λ tells _. invalid_file files c.args.name.now (sym c.is_valid_name.ensures ∙ c.if-not-is_valid_name.true))
+    (λ tells _. invalid_file files c.args.name.now invalid)
 
 pub returns-in-Ok-clause-ok : goal.returns-in-Ok-clause-ok
 returns-in-Ok-clause-ok g c = λ tells.

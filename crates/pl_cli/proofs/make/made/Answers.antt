@@ -1,4 +1,4 @@
-use Rattle.std.proofs.Common.{◌≡◌, true, sym, map, rules, ◌∙◌, ap}
+use Rattle.std.proofs.Common.{◌≡◌, true, false, map, rules, ◌∙◌, ap}
 use Rattle.std.specs.Prelude.{is_some, string_bytes}
 use Rattle.pl_base.specs.Counts.{Rose}
 use Rattle.pl_base.specs.Names.{is_valid_name}
@@ -11,7 +11,8 @@ use Rattle.pl_cli.proofs.make.made.Goals as goal
 
 pub returns-then-not-is_valid_name-clause-stop : goal.returns-then-not-is_valid_name-clause-stop
 returns-then-not-is_valid_name-clause-stop g c = λ tells told.
-    bad_name (g.D.Folder.files c.args.folder.now) c.args.name.now (bytes_of (g.S.Source.left c.args.input.now)) (sym c.is_valid_name.ensures ∙ c.if-not-is_valid_name.true)
+    let invalid : is_valid_name c.args.name.now ≡ false = search rules in
+    bad_name (g.D.Folder.files c.args.folder.now) c.args.name.now (bytes_of (g.S.Source.left c.args.input.now)) invalid
 
 pub returns-in_err-bytes-clause-stop : goal.returns-in_err-bytes-clause-stop
 returns-in_err-bytes-clause-stop g c =
