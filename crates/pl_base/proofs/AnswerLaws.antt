@@ -1,10 +1,10 @@
--- What a table of refusals says where nothing is refused.
-use Rattle.std.proofs.Common.{◌≡◌, inl, inr, Bool, true, false, List, [], ◌∷◌, Result, refl, sym, ap, ◌∙◌}
+-- What a table of refusals says where nothing is refused, and what led to an answer.
+use Rattle.std.proofs.Common.{◌≡◌, inl, inr, Bool, true, false, List, [], ◌∷◌, Result, Ok, Err, not, refl, sym, ap, ◌∙◌}
 use Rattle.std.specs.Prelude.{◌||◌}
 use Rattle.std.specs.List.{list_any}
 use Rattle.std.specs.Result.{is_ok}
 use Rattle.std.proofs.lemmas.Bool.{cases_Bool, false≢true}
-use Rattle.pl_base.specs.Answers.{refuse, unless}
+use Rattle.pl_base.specs.Answers.{◌>>=◌, refuse, unless}
 
 -- no test of the table holds
 pub refuse_none : {X E : Type 0} (rows : List (Bool × E)) (next : Result X E) → is_ok (refuse rows next) ≡ true → list_any (λ row. row.0) rows ≡ false
@@ -23,3 +23,24 @@ refuse_next {X} {E} (row ∷ rows) next none =
       | inl hit ↦ absurd (false≢true (sym none ∙ ap (λ (b : Bool). b || list_any (λ (r : Bool × E). r.0) rows) hit))
       | inr miss ↦ ap (λ (b : Bool). unless b row.1 (refuse rows next)) miss ∙ refuse_next rows next (ap (λ (b : Bool). b || list_any (λ (r : Bool × E). r.0) rows) (sym miss) ∙ none)
     ]
+
+-- ---- what led to an answer
+
+-- a step that gave a value, and the one after it
+pub bind_ok : {A B E : Type 0} (r : Result A E) (f : A → Result B E) (y : B) → (r >>= f) ≡ Ok y → (x : A) × (r ≡ Ok x) × (f x ≡ Ok y)
+bind_ok (Ok x) f y e = (x, refl, e)
+bind_ok (Err fault) f y e = absurd cc
+
+-- a test that did not refuse
+pub unless_ok : {X E : Type 0} (test : Bool) (fault : E) (next : Result X E) (x : X) → unless test fault next ≡ Ok x → (test ≡ false) × (next ≡ Ok x)
+unless_ok true fault next x e = absurd cc
+unless_ok false fault next x e = (refl, e)
+
+-- and one of what has to hold
+pub refuse_ok : {X E : Type 0} (holds : Bool) (fault : E) (next : Result X E) (x : X) → unless (not holds) fault next ≡ Ok x → (holds ≡ true) × (next ≡ Ok x)
+refuse_ok true fault next x e = (refl, e)
+refuse_ok false fault next x e = absurd cc
+
+-- one value alone
+pub ok_same : {X E : Type 0} (x y : X) → ◌≡◌ {A = Result X E} (Ok x) (Ok y) → x ≡ y
+ok_same x y e = cc

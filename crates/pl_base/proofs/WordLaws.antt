@@ -2,8 +2,9 @@
 use Rattle.std.proofs.Common.{◌≡◌, ℕ, zero, suc, ◌+◌, ◌-◌, ◌/◌, ◌^◌, ◌<◌, ◌≤◌, List, [], ◌++◌, length, take, drop, replicate, refl, sym, ap, ◌∙◌, arith, inl, inr, rules}
 use Rattle.std.specs.Prelude.{◌⊎◌}
 use Rattle.std.specs.Int.{w16, w32, w64, to_le_bytes, from_le_bytes, byte_at, bytes_low_first}
+use Rattle.std.proofs.Math.Seq.{drop-append_seam}
 use Rattle.std.proofs.lemmas.Bool.{cases_lt}
-use Rattle.std.proofs.lemmas.List.{places, append-nil, get_or-drop, get_or_append_left, get_or-append_right}
+use Rattle.std.proofs.lemmas.List.{places, append-nil, drop-drop, take-append-drop, get_or-drop, get_or_append_left, get_or-append_right}
 use Rattle.std.proofs.lemmas.Nat.{le_bytes_2, le_bytes_4, le_bytes_8, mod_below}
 use Rattle.byteorder.specs.Endian.{little_from, little_number, little_bytes}
 use Rattle.byteorder.specs.Numbers.{little_from-take, little_from-lt, little_number-reads_back, length-bytes_low_first}
@@ -87,6 +88,10 @@ bytes_are_bytes j zero number i = omega arith
 bytes_are_bytes j (suc k) number zero = one_byte j number
 bytes_are_bytes j (suc k) number (suc i) = bytes_are_bytes (suc j) k number i
 
+-- what stands behind a front
+behind : (front rest : List ℕ) (at : ℕ) → drop (length front + at) (front ++ rest) ≡ drop at rest
+behind front rest at = sym (drop-drop at (length front) (front ++ rest)) ∙ ap (drop at) (drop-append_seam front rest)
+
 -- ---- 16 bits
 
 -- a word in std's words
@@ -135,6 +140,16 @@ word16_part at size i xs le = number_part 2 at size i xs le
 pub word16_front : (at : ℕ) (xs ys : List ℕ) → at + 2 ≤ length xs → word16 at (xs ++ ys) ≡ word16 at xs
 unfolding word16
 word16_front at xs ys le = number_front 2 at xs ys le
+
+-- behind a front it stands where it stands in the rest
+pub word16_behind : (front rest : List ℕ) (at : ℕ) → word16 (length front + at) (front ++ rest) ≡ word16 at rest
+unfolding word16
+word16_behind front rest at = ap (little_number 2) (behind front rest at)
+
+-- a number in front of other bytes is read as it was written
+pub word16_back : (number : ℕ) (rest : List ℕ) → number < 2 ^ 16 → word16 0 (bytes16 number ++ rest) ≡ number
+unfolding word16 bytes16
+word16_back number rest small = little_number-reads_back 2 number rest small
 
 -- what was written is read
 pub word16_put : (at number : ℕ) (xs : List ℕ) → at + 2 ≤ length xs → number < 2 ^ 16 → word16 at (put at (bytes16 number) xs) ≡ number
@@ -205,6 +220,16 @@ pub word32_front : (at : ℕ) (xs ys : List ℕ) → at + 4 ≤ length xs → wo
 unfolding word32
 word32_front at xs ys le = number_front 4 at xs ys le
 
+-- behind a front it stands where it stands in the rest
+pub word32_behind : (front rest : List ℕ) (at : ℕ) → word32 (length front + at) (front ++ rest) ≡ word32 at rest
+unfolding word32
+word32_behind front rest at = ap (little_number 4) (behind front rest at)
+
+-- a number in front of other bytes is read as it was written
+pub word32_back : (number : ℕ) (rest : List ℕ) → number < 2 ^ 32 → word32 0 (bytes32 number ++ rest) ≡ number
+unfolding word32 bytes32
+word32_back number rest small = little_number-reads_back 4 number rest small
+
 -- what was written is read
 pub word32_put : (at number : ℕ) (xs : List ℕ) → at + 4 ≤ length xs → number < 2 ^ 32 → word32 at (put at (bytes32 number) xs) ≡ number
 unfolding word32 bytes32
@@ -220,6 +245,11 @@ pub bytes32_word : (at : ℕ) (xs : List ℕ) → at + 4 ≤ length xs → IsByt
 bytes32_word at xs fits h =
     bytes32_std (word32 at xs)
     ∙ le_bytes_4 (part at 4 xs) (word32 at xs) (length-part at 4 xs fits) (is_bytes_part at 4 xs h) (word32_within at xs ∙ word32_std 0 (part at 4 xs))
+
+-- bytes from an offset on are the word there, and what follows
+pub split32 : (at next : ℕ) (xs : List ℕ) → IsBytes xs → at + 4 ≡ next → next ≤ length xs → drop at xs ≡ bytes32 (word32 at xs) ++ drop next xs
+split32 at next xs bytes is within =
+    rw (bytes32_word at xs (omega arith) bytes, ← is, ← drop-drop 4 at xs) (sym (take-append-drop 4 (drop at xs)))
 
 -- a word written over itself changes nothing
 pub put_word32 : (at : ℕ) (xs : List ℕ) → at + 4 ≤ length xs → IsBytes xs → put at (bytes32 (word32 at xs)) xs ≡ xs
@@ -274,6 +304,16 @@ pub word64_front : (at : ℕ) (xs ys : List ℕ) → at + 8 ≤ length xs → wo
 unfolding word64
 word64_front at xs ys le = number_front 8 at xs ys le
 
+-- behind a front it stands where it stands in the rest
+pub word64_behind : (front rest : List ℕ) (at : ℕ) → word64 (length front + at) (front ++ rest) ≡ word64 at rest
+unfolding word64
+word64_behind front rest at = ap (little_number 8) (behind front rest at)
+
+-- a number in front of other bytes is read as it was written
+pub word64_back : (number : ℕ) (rest : List ℕ) → number < 2 ^ 64 → word64 0 (bytes64 number ++ rest) ≡ number
+unfolding word64 bytes64
+word64_back number rest small = little_number-reads_back 8 number rest small
+
 -- what was written is read
 pub word64_put : (at number : ℕ) (xs : List ℕ) → at + 8 ≤ length xs → number < 2 ^ 64 → word64 at (put at (bytes64 number) xs) ≡ number
 unfolding word64 bytes64
@@ -289,6 +329,11 @@ pub bytes64_word : (at : ℕ) (xs : List ℕ) → at + 8 ≤ length xs → IsByt
 bytes64_word at xs fits h =
     bytes64_std (word64 at xs)
     ∙ le_bytes_8 (part at 8 xs) (word64 at xs) (length-part at 8 xs fits) (is_bytes_part at 8 xs h) (word64_within at xs ∙ word64_std 0 (part at 8 xs))
+
+-- bytes from an offset on are the word there, and what follows
+pub split64 : (at next : ℕ) (xs : List ℕ) → IsBytes xs → at + 8 ≡ next → next ≤ length xs → drop at xs ≡ bytes64 (word64 at xs) ++ drop next xs
+split64 at next xs bytes is within =
+    rw (bytes64_word at xs (omega arith) bytes, ← is, ← drop-drop 8 at xs) (sym (take-append-drop 8 (drop at xs)))
 
 -- a word written over itself changes nothing
 pub put_word64 : (at : ℕ) (xs : List ℕ) → at + 8 ≤ length xs → IsBytes xs → put at (bytes64 (word64 at xs)) xs ≡ xs

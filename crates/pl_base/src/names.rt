@@ -46,16 +46,19 @@ fn is_dots(name: &[u8]) -> bool
     name == b".".as_slice() || name == b"..".as_slice()
 }
 
+/// Whether a name has 1 to 255 bytes, as the name of each file has.
+pub fn has_name_length(name: &[u8]) -> bool
+    ensures { result ≡ spec.has_name_length name.now }
+{
+    !name.is_empty() && name.len() <= MAX_NAME
+}
+
 /// Whether a name is valid: 1 to 255 bytes, each from 0x21 to 0x7e and no `/`, that do not begin with `.prelink.` and are neither `.` nor `..`.
 #[tactic(auto, unfolding(crate::specs::Names::is_valid_name))]
 pub fn is_valid_name(name: &[u8]) -> bool
     ensures { result ≡ spec.is_valid_name name.now }
 {
-    !name.is_empty()
-        && name.len() <= MAX_NAME
-        && has_name_bytes(name)
-        && !is_own_name(name)
-        && !is_dots(name)
+    has_name_length(name) && has_name_bytes(name) && !is_own_name(name) && !is_dots(name)
 }
 
 /// The bytes of a valid name as text. None where they are no valid name.
@@ -65,6 +68,12 @@ pub fn valid_text(name: &[u8]) -> Option<&str>
 {
     match str::from_utf8(name) {
         Err(_) => None,
-        Ok(text) => { if is_valid_name(name) { Some(text) } else { None } }
+        Ok(text) => {
+            if is_valid_name(name) {
+                Some(text)
+            } else {
+                None
+            }
+        }
     }
 }

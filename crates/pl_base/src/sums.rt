@@ -30,6 +30,18 @@ pub fn round_up(number: u64, multiple: u64) -> u64
     (number + (multiple - 1)) / multiple * multiple
 }
 
+/// The least multiple that is at least a number of more than 64 bits, such as the end of a range.
+#[tactic(auto, unfolding(crate::specs::Sums::round_up))]
+pub fn round_up_wide(number: u128, multiple: u64) -> u128
+    requires some { 0 < multiple }
+    requires room { number + multiple ≤ 2 ^ 128 }
+    ensures value { result ≡ spec.round_up number multiple }
+    ensures near { result < number + multiple }
+{
+    let step = u128::from(multiple);
+    (number + (step - 1)) / step * step
+}
+
 /// Whether the number is a multiple of the alignment.
 pub fn is_aligned(number: u64, align: u64) -> bool
     requires { 0 < align }

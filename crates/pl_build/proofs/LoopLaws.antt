@@ -1,9 +1,11 @@
 -- Loops over rows. x is the row at i, as a loop reads it; what is done and what the rest gives is the whole.
 use Rattle.std.proofs.Common.{◌≡◌, ℕ, ◌+◌, ◌≤◌, ◌<◌, List, [], ◌∷◌, ◌++◌, refl, sym, ap, ◌∙◌, append_assoc, arith, length, drop, get_or, Bool, true, false, inl, inr}
 use Rattle.std.proofs.lemmas.Bool.{cases_Bool}
+use Rattle.pl_base.specs.Each.{run}
+use Rattle.pl_base.proofs.RunLaws.{run_fails}
 use Rattle.pl_build.specs.declared.line.Symbol.{Symbol}
 use Rattle.pl_build.specs.Symbols.{kept}
-use Rattle.std.specs.Prelude.{cond}
+use Rattle.std.specs.Prelude.{cond, IfSome, Option, Some, None, Result, Err}
 use Rattle.std.specs.List.{fold, filter, flat_map, range_with_len}
 use Rattle.std.proofs.lemmas.List.{append-nil, at_drop_more, at_drop_all}
 use Rattle.std.proofs.lemmas.List.FromFn.{length-range_with_len, get_or-range_with_len}
@@ -22,6 +24,15 @@ fold_more {S = S} f s t xs i x whole lt is step so_far =
 
 pub fold_done : {S A : Type 0} (f : S → A → S) (s : S) (xs : List A) (i : ℕ) (whole : S) → length xs ≤ i → fold f s (drop i xs) ≡ whole → s ≡ whole
 fold_done f s xs i whole le so_far = sym (at_drop_all (fold f s) xs i le) ∙ so_far
+
+-- a step that tells a fault, or a want of memory, ends the loop
+pub run_tells : {S A E F : Type 0} (told : E → Option F) (f : S → A → Result S F) (s : S) (xs : List A) (i : ℕ) (x : A) (e : E) (whole : Result S F) → i < length xs → x ≡ get_or xs i x → IfSome (told e) (λ fault. f s x ≡ Err fault)
+    → run f s (drop i xs) ≡ whole → IfSome (told e) (λ fault. whole ≡ Err fault)
+run_tells {F = F} told f s xs i x e whole lt is h so_far =
+    elim (told e) as (λ t. IfSome t (λ (fault : F). f s x ≡ Err fault) → IfSome t (λ (fault : F). whole ≡ Err fault)) [
+      | None ↦ λ _. tt
+      | Some fault ↦ λ stop. run_fails (λ _. false) f s xs i x fault whole lt is stop so_far
+    ] h
 
 -- ---- a list to which each row adds some
 

@@ -1,5 +1,5 @@
 -- The file of a recipe, or the recipe's first fault.
-use Rattle.std.specs.Prelude.{ℕ, Bool, true, false, List, map, Result}
+use Rattle.std.specs.Prelude.{◌≡◌, ℕ, List, map, Option, Some, None, IfSome, Result, Ok, Err}
 use Rattle.pl_base.specs.Answers.{unless_found}
 use Rattle.pl_build.specs.declared.checks.Fault.{Fault}
 use Rattle.pl_build.specs.declared.fault.RecipeFault.{RecipeFault}
@@ -12,18 +12,21 @@ use Rattle.pl_build.specs.Recipe.{gathered}
 use Rattle.pl_build.specs.Plan.{plan_of}
 use Rattle.pl_build.specs.File.{made}
 
-abbrev pub is_memory : RecipeFault → Bool
-is_memory NoMemory = true
-is_memory (Bad line kind) = false
+-- the fault of a recipe that an answer tells; a want of memory tells none
+abbrev pub told : RecipeFault → Option Fault
+told (Bad line kind) = Some (record { line = line; kind = kind })
+told NoMemory = None
+
+-- the answer is what the definition means, or it is a want of memory
+abbrev pub Builds : {X : Type 0} → Result X RecipeFault → Result X Fault → Type 0
+Builds (Ok x) meant = meant ≡ Ok x
+Builds (Err answer) meant = IfSome (told answer) (λ fault. meant ≡ Err fault)
 
 unfoldable pub lines : List ℕ → List Line
 lines recipe = map line (lines_of recipe)
 
-abbrev pub bad : Fault → RecipeFault
-bad fault = Bad fault.line fault.kind
+unfoldable pub made_of : List Line → Result (List ℕ) Fault
+made_of all = unless_found (first_fault all) (λ fault. fault) (made (plan_of (gathered all)))
 
-unfoldable pub made_of : List Line → Result (List ℕ) RecipeFault
-made_of all = unless_found (first_fault all) bad (made (plan_of (gathered all)))
-
-unfoldable pub build : List ℕ → Result (List ℕ) RecipeFault
+unfoldable pub build : List ℕ → Result (List ℕ) Fault
 build recipe = made_of (lines recipe)

@@ -2,7 +2,8 @@
 use Rattle.std.specs.Prelude.{ℕ, ◌+◌, Bool, true, false, not, ◌&&◌, ◌||◌, ◌==◌, nat_lt, List, [], length, take, map, find, Option, Some, None, slice_get, codes, if◌then◌else◌}
 use Rattle.std.specs.List.{list_any, range_with_len}
 use Rattle.std.specs.Str.{bytes_eq}
-use Rattle.pl_build.specs.declared.constants.TheConstants.{MAX_BUCKETS, MAX_SPARE, MAX_DATA, MAX_BSS, MAX_ADDEND, WORD_SIZE}
+use Rattle.pl_elf.specs.declared.constants.TheConstants.{WORD64_SIZE}
+use Rattle.pl_build.specs.declared.constants.TheConstants.{MAX_BUCKETS, MAX_SPARE, MAX_DATA, MAX_BSS, MAX_ADDEND}
 use Rattle.pl_build.specs.declared.checks.Fault.{Fault}
 use Rattle.pl_build.specs.declared.line.Kind.TheVariants.{Static}
 use Rattle.pl_build.specs.declared.line.Line.{Line}
@@ -48,7 +49,7 @@ is_over size (Buckets n) = n == 0 || nat_lt MAX_BUCKETS n
 is_over size (Spare n) = nat_lt MAX_SPARE n
 is_over size (Data n) = nat_lt MAX_DATA n
 is_over size (Bss n) = nat_lt MAX_BSS n
-is_over size (Put w) = nat_lt size (w.offset + WORD_SIZE)
+is_over size (Put w) = nat_lt size (w.offset + WORD64_SIZE)
 is_over size (Relocates r) = is_over_addend r
 is_over size _ = false
 

@@ -1,28 +1,25 @@
 -- The dynamic table (System V gABI chapter 5, "Dynamic Section").
-use Rattle.std.specs.Prelude.{ℕ, ◌+◌, Bool, true, not, ◌&&◌, ◌==◌, List, [], ◌∷◌, ◌++◌, length, map, filter, find, Option, Some, None, codes}
+use Rattle.std.specs.Prelude.{ℕ, ◌+◌, Bool, true, not, ◌&&◌, ◌==◌, List, [], ◌∷◌, ◌++◌, length, map, find, Option, Some, None, codes}
 use Rattle.std.specs.List.{flat_map, range_with_len}
-use Rattle.pl_dyn.specs.declared.constants.TheConstants.{DT_NULL, DT_NEEDED, DT_PLTRELSZ, DT_HASH, DT_STRTAB, DT_SYMTAB, DT_RELA, DT_RELASZ, DT_RELAENT, DT_STRSZ, DT_SYMENT, DT_SYMBOLIC, DT_PLTREL, DT_DEBUG, DT_JMPREL, DT_BIND_NOW, DT_FLAGS, DT_GNU_HASH, DT_VERSYM, DT_FLAGS_1, DT_VERDEF, DT_VERDEFNUM, DT_VERNEED, DT_VERNEEDNUM}
+use Rattle.pl_dyn.specs.declared.constants.TheConstants.{DT_NULL, DT_NEEDED, DT_PLTRELSZ, DT_HASH, DT_STRTAB, DT_SYMTAB, DT_RELA, DT_RELASZ, DT_RELAENT, DT_STRSZ, DT_SYMENT, DT_SYMBOLIC, DT_PLTREL, DT_DEBUG, DT_JMPREL, DT_BIND_NOW, DT_FLAGS, DT_GNU_HASH, DT_VERSYM, DT_FLAGS_1, DT_VERDEF, DT_VERDEFNUM, DT_VERNEED, DT_VERNEEDNUM, DF_BIND_NOW, DF_1_NOW}
 use Rattle.pl_dyn.specs.declared.tags.Tag.{Tag}
 use Rattle.pl_sym.specs.declared.constants.TheConstants.{SYMBOL_SIZE}
-use Rattle.pl_build.specs.declared.constants.TheConstants.{RELA_SIZE, DF_BIND_NOW, DF_1_NOW}
-use Rattle.pl_build.specs.declared.fields.Field.TheVariants.{Long}
+use Rattle.pl_elf.specs.declared.constants.TheConstants.{RELA_SIZE}
+use Rattle.pl_build.specs.declared.fields.Field.TheVariants.{Xword}
 use Rattle.pl_build.specs.declared.roles.Role.TheVariants.{Null}
 use Rattle.pl_build.specs.declared.roles.Place.{Place}
 use Rattle.pl_build.specs.declared.plan.Plan.{Plan}
+use Rattle.pl_build.specs.Choices.{chosen}
 use Rattle.pl_build.specs.Fields.{fields}
 use Rattle.pl_build.specs.Plan.{is_program}
 use Rattle.pl_build.specs.Roles.{has_name}
 use Rattle.pl_build.specs.Strings.{text_at}
 
 unfoldable pub tag_bytes : Tag → List ℕ
-tag_bytes tag = fields (Long tag.number ∷ Long tag.value ∷ [])
+tag_bytes tag = fields (Xword tag.number ∷ Xword tag.value ∷ [])
 
 abbrev pub tag : ℕ → ℕ → Tag
 tag number value = record { number = number; value = value }
-
--- a tag that may be there
-unfoldable pub chosen : List (Bool × Tag) → List Tag
-chosen choices = map (λ choice. choice.1) (filter (λ choice. choice.0) choices)
 
 -- ---- where a section stands
 

@@ -5,9 +5,9 @@ use Rattle.pl_base.specs.Answers.{◌>>=◌}
 use Rattle.pl_base.specs.Sums.{plus, round_up}
 use Rattle.pl_elf.specs.declared.constants.TheConstants.{HEADER_SIZE, SEGMENT_SIZE, SECTION_SIZE, ELFMAG0, ELFMAG1, ELFMAG2, ELFMAG3, ELFCLASS64, ELFDATA2LSB, EV_CURRENT, EM_X86_64, ET_EXEC, ET_DYN}
 use Rattle.pl_build.specs.declared.constants.TheConstants.{INTERP_OFFSET, TABLES_OFFSET, TABLE_ALIGN, MAX_FILE}
-use Rattle.pl_build.specs.declared.fault.RecipeFault.{RecipeFault}
+use Rattle.pl_build.specs.declared.checks.Fault.{Fault}
 use Rattle.pl_build.specs.declared.fields.Field.{Field}
-use Rattle.pl_build.specs.declared.fields.Field.TheVariants.{Byte, Half, Word, Long}
+use Rattle.pl_build.specs.declared.fields.Field.TheVariants.{Byte, Half, Word, Xword}
 use Rattle.pl_build.specs.declared.layout.Tables.{Tables}
 use Rattle.pl_build.specs.declared.plan.Plan.{Plan}
 use Rattle.pl_build.specs.declared.recipe.Settings.{Settings}
@@ -31,14 +31,14 @@ entry_or_base s None = base_of s
 
 -- magic bytes, class, byte order and version, then zeros
 abbrev pub ident : List Field
-ident = Byte ELFMAG0 ∷ Byte ELFMAG1 ∷ Byte ELFMAG2 ∷ Byte ELFMAG3 ∷ Byte ELFCLASS64 ∷ Byte ELFDATA2LSB ∷ Byte EV_CURRENT ∷ Byte 0 ∷ Long 0 ∷ []
+ident = Byte ELFMAG0 ∷ Byte ELFMAG1 ∷ Byte ELFMAG2 ∷ Byte ELFMAG3 ∷ Byte ELFCLASS64 ∷ Byte ELFDATA2LSB ∷ Byte EV_CURRENT ∷ Byte 0 ∷ Xword 0 ∷ []
 
 unfoldable pub type_of : Settings → ℕ
 type_of s = if is_library s.kind then ET_DYN else ET_EXEC
 
 abbrev pub first_fields : Settings → ℕ → List Field
 first_fields s shoff =
-    Half (type_of s) ∷ Half EM_X86_64 ∷ Word EV_CURRENT ∷ Long (entry_or_base s s.entry) ∷ Long HEADER_SIZE ∷ Long shoff ∷ []
+    Half (type_of s) ∷ Half EM_X86_64 ∷ Word EV_CURRENT ∷ Xword (entry_or_base s s.entry) ∷ Xword HEADER_SIZE ∷ Xword shoff ∷ []
 
 abbrev pub last_fields : ℕ → ℕ → ℕ → List Field
 last_fields phnum shnum shstrndx =
@@ -91,10 +91,10 @@ sections_offset p tables_end names = round_up (parts_end p tables_end names) TAB
 abbrev pub file_end : Plan → ℕ → Strings → ℕ
 file_end p tables_end names = sections_offset p tables_end names + SECTION_SIZE * length p.roles
 
-unfoldable pub limited : Plan → Strings → Tables → Result (List ℕ) RecipeFault
+unfoldable pub limited : Plan → Strings → Tables → Result (List ℕ) Fault
 limited p names t =
     if nat_lt MAX_FILE (file_end p (end_of t) names) then Err too_large
     else Ok (file_of p t (end_of t) names (sections_offset p (end_of t) names))
 
-unfoldable pub made : Plan → Result (List ℕ) RecipeFault
+unfoldable pub made : Plan → Result (List ℕ) Fault
 made p = tables p >>= limited p (section_names p.roles)

@@ -5,7 +5,7 @@ use Rattle.pl_base.specs.Sums.{plus}
 use Rattle.pl_hash.specs.Hash.{sysv, gnu}
 use Rattle.pl_hash.specs.declared.table.TheConstants.{BLOOM_WORD_BITS}
 use Rattle.pl_build.specs.declared.constants.TheConstants.{BLOOM_COUNT, BLOOM_SHIFT_BITS}
-use Rattle.pl_build.specs.declared.fields.Field.TheVariants.{Word, Long}
+use Rattle.pl_build.specs.declared.fields.Field.TheVariants.{Word, Xword}
 use Rattle.pl_build.specs.declared.line.Symbol.{Symbol}
 use Rattle.pl_build.specs.declared.plan.Plan.{Plan}
 use Rattle.pl_build.specs.Fields.{fields}
@@ -87,7 +87,7 @@ gnu_chain hashes buckets index = slice_index hashes index / 2 * 2 + (if goes_on 
 
 unfoldable pub gnu_words : ℕ → ℕ → List ℕ → List ℕ → List ℕ
 gnu_words count first hashes buckets =
-    fields (Word count ∷ Word first ∷ Word BLOOM_COUNT ∷ Word BLOOM_SHIFT_BITS ∷ Long (bloom hashes) ∷ [])
+    fields (Word count ∷ Word first ∷ Word BLOOM_COUNT ∷ Word BLOOM_SHIFT_BITS ∷ Xword (bloom hashes) ∷ [])
     ++ fields (map (λ b. Word (gnu_first first buckets b)) (range_with_len 0 count))
     ++ fields (map (λ k. Word (gnu_chain hashes buckets k)) (range_with_len 0 (length hashes)))
 

@@ -4,8 +4,7 @@ use Rattle.pl_base.specs.Each.{run}
 use Rattle.pl_base.specs.Sums.{plus}
 use Rattle.pl_base.specs.Windows.{gap}
 use Rattle.pl_build.specs.declared.constants.TheConstants.{TABLES_OFFSET, MAX_TABLES}
-use Rattle.pl_build.specs.declared.fault.RecipeFault.{RecipeFault}
-use Rattle.pl_build.specs.declared.fault.RecipeFault.TheVariants.{Bad}
+use Rattle.pl_build.specs.declared.checks.Fault.{Fault}
 use Rattle.pl_build.specs.declared.roles.Role.{Role}
 use Rattle.pl_build.specs.declared.roles.Role.TheVariants.{Hash, GnuHash, Dynsym, Dynstr, Versym, Verdef, Verneed, RelaDyn, RelaPlt, Dynamic}
 use Rattle.pl_build.specs.declared.roles.Place.{Place}
@@ -19,8 +18,8 @@ use Rattle.pl_build.specs.Relocations.{jump_slots, others}
 use Rattle.pl_build.specs.Dynamic.{dynamic_table}
 
 -- the file or its tables would be too large
-abbrev pub too_large : RecipeFault
-too_large = Bad 0 5
+abbrev pub too_large : Fault
+too_large = record { line = 0; kind = 5 }
 
 -- a table's bytes. The dynamic table is the last, and names the places of those before it
 unfoldable pub contents : Plan → List Place → Role → List ℕ
@@ -57,14 +56,14 @@ table_added p t role content = record {
 abbrev pub end_of : Tables → ℕ
 end_of t = TABLES_OFFSET + length t.bytes
 
-abbrev pub in_limit : Tables → Result Tables RecipeFault
+abbrev pub in_limit : Tables → Result Tables Fault
 in_limit t = if nat_lt MAX_TABLES (end_of t) then Err too_large else Ok t
 
 -- a section of no contents is no table
-unfoldable pub role_added : Plan → Tables → Role → Result Tables RecipeFault
+unfoldable pub role_added : Plan → Tables → Role → Result Tables Fault
 role_added p t role =
     let content = contents p t.places role in
     if length content == 0 then Ok t else in_limit (table_added p t role content)
 
-unfoldable pub tables : Plan → Result Tables RecipeFault
+unfoldable pub tables : Plan → Result Tables Fault
 tables p = run (role_added p) start p.roles

@@ -1,4 +1,5 @@
 pub mod Options
+pub mod Choices
 pub mod Words
 pub mod SymbolLines
 pub mod RelocationLines

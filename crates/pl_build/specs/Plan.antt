@@ -1,7 +1,8 @@
 -- What follows from a recipe before anything is laid out.
 use Rattle.std.specs.Prelude.{ℕ, ◌+◌, Bool, true, false, not, ◌&&◌, ◌||◌, ◌==◌, List, [], ◌∷◌, ◌++◌, length, if◌then◌else◌}
 use Rattle.std.specs.List.{list_any}
-use Rattle.pl_build.specs.declared.constants.TheConstants.{BASE, DATA_DISTANCE, R_X86_64_JUMP_SLOT}
+use Rattle.pl_elf.specs.declared.constants.TheConstants.{R_X86_64_JUMP_SLOT}
+use Rattle.pl_build.specs.declared.constants.TheConstants.{BASE, DATA_DISTANCE}
 use Rattle.pl_build.specs.declared.line.Kind.{Kind}
 use Rattle.pl_build.specs.declared.line.Kind.TheVariants.{Program, Library, Static}
 use Rattle.pl_build.specs.declared.line.Relocation.{Relocation}
@@ -13,7 +14,7 @@ use Rattle.pl_build.specs.declared.roles.Role.{Role}
 use Rattle.pl_build.specs.declared.roles.Role.TheVariants.{Null, Interp, Hash, GnuHash, Dynsym, Dynstr, Versym, Verdef, Verneed, RelaDyn, RelaPlt, Dynamic, Data, Bss, Shstrtab}
 use Rattle.pl_build.specs.declared.strings.Strings.{Strings}
 use Rattle.pl_build.specs.declared.plan.Plan.{Plan}
-use Rattle.pl_build.specs.Roles.{present}
+use Rattle.pl_build.specs.Choices.{chosen}
 use Rattle.pl_build.specs.Symbols.{ordered}
 use Rattle.pl_build.specs.Needed.{needs_of, files_of}
 use Rattle.pl_build.specs.Strings as strings
@@ -61,17 +62,17 @@ has_versions r = not (length r.versions == 0) || list_any is_versioned r.symbols
 unfoldable pub first_roles : Settings → List Role
 first_roles s =
     let linked = not (is_static s.kind) in
-    present (
+    chosen (
     (true, Null) ∷ (has_interp s, Interp) ∷ (linked && s.hashes.sysv, Hash) ∷ (linked && s.hashes.gnu, GnuHash)
     ∷ (linked, Dynsym) ∷ (linked, Dynstr) ∷ [])
 
 unfoldable pub next_roles : Recipe → List Need → List Role
-next_roles r needs = present (
+next_roles r needs = chosen (
     (has_versions r, Versym) ∷ (not (length r.versions == 0), Verdef) ∷ (not (length needs == 0), Verneed)
     ∷ (list_any is_other r.relocations, RelaDyn) ∷ (list_any is_jump_slot r.relocations, RelaPlt) ∷ [])
 
 unfoldable pub last_roles : Settings → List Role
-last_roles s = present ((not (is_static s.kind), Dynamic) ∷ (true, Data) ∷ (true, Bss) ∷ (true, Shstrtab) ∷ [])
+last_roles s = chosen ((not (is_static s.kind), Dynamic) ∷ (true, Data) ∷ (true, Bss) ∷ (true, Shstrtab) ∷ [])
 
 unfoldable pub roles_of : Recipe → List Need → List Role
 roles_of r needs = first_roles r.settings ++ next_roles r needs ++ last_roles r.settings

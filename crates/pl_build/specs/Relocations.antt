@@ -3,8 +3,8 @@ use Rattle.std.specs.Prelude.{ℕ, Bool, ◌==◌, List, [], ◌∷◌, map, fil
 use Rattle.std.specs.List.{flat_map}
 use Rattle.std.specs.Str.{bytes_eq}
 use Rattle.pl_base.specs.Sums.{plus, minus}
-use Rattle.pl_build.specs.declared.constants.TheConstants.{R_X86_64_RELATIVE}
-use Rattle.pl_build.specs.declared.fields.Field.TheVariants.{Word, Long}
+use Rattle.pl_elf.specs.declared.constants.TheConstants.{R_X86_64_RELATIVE}
+use Rattle.pl_build.specs.declared.fields.Field.TheVariants.{Word, Xword}
 use Rattle.pl_build.specs.declared.line.Relocation.{Relocation}
 use Rattle.pl_build.specs.declared.line.Symbol.{Symbol}
 use Rattle.pl_build.specs.declared.plan.Plan.{Plan}
@@ -15,7 +15,7 @@ use Rattle.pl_build.specs.RelocationLines.{is_no_symbol}
 
 -- offset, info (the type in its low 32 bits, the symbol in the high ones), addend
 unfoldable pub rela_bytes : Rela → List ℕ
-rela_bytes r = fields (Long r.offset ∷ Word r.kind ∷ Word r.symbol ∷ Long r.addend ∷ [])
+rela_bytes r = fields (Xword r.offset ∷ Word r.kind ∷ Word r.symbol ∷ Xword r.addend ∷ [])
 
 abbrev pub is_written_as : List ℕ → Symbol → Bool
 is_written_as name s = bytes_eq s.written name

@@ -1,12 +1,12 @@
 -- The sections of a file by what they hold: their names and fields (System V gABI chapter 4, "Sections"; GNU symbol versioning; GNU hash table).
-use Rattle.std.specs.Prelude.{ℕ, ◌+◌, Bool, List, [], map, filter, position, unwrap_or, codes}
+use Rattle.std.specs.Prelude.{ℕ, ◌+◌, Bool, List, [], position, unwrap_or, codes}
 use Rattle.std.specs.Str.{bytes_eq}
-use Rattle.pl_elf.specs.declared.constants.TheConstants.{SHT_NULL, SHT_PROGBITS, SHT_STRTAB, SHT_RELA, SHT_HASH, SHT_DYNAMIC, SHT_NOBITS, SHT_DYNSYM, SHT_GNU_HASH, SHT_GNU_VERDEF, SHT_GNU_VERNEED, SHT_GNU_VERSYM, SHF_WRITE, SHF_ALLOC}
+use Rattle.pl_elf.specs.declared.constants.TheConstants.{SHT_NULL, SHT_PROGBITS, SHT_STRTAB, SHT_RELA, SHT_HASH, SHT_DYNAMIC, SHT_NOBITS, SHT_DYNSYM, SHT_GNU_HASH, SHT_GNU_VERDEF, SHT_GNU_VERNEED, SHT_GNU_VERSYM, SHF_WRITE, SHF_ALLOC, RELA_SIZE}
 use Rattle.pl_dyn.specs.declared.constants.TheConstants.{ENTRY_SIZE}
 use Rattle.pl_sym.specs.declared.constants.TheConstants.{SYMBOL_SIZE}
 use Rattle.pl_ver.specs.declared.constants.TheConstants.{VERSYM_SIZE}
 use Rattle.pl_hash.specs.declared.table.TheConstants.{WORD_SIZE}
-use Rattle.pl_build.specs.declared.constants.TheConstants.{RELA_SIZE, TABLE_ALIGN}
+use Rattle.pl_build.specs.declared.constants.TheConstants.{TABLE_ALIGN}
 use Rattle.pl_build.specs.declared.roles.Role.{Role}
 use Rattle.pl_build.specs.declared.roles.Role.TheVariants.{Null, Interp, Hash, GnuHash, Dynsym, Dynstr, Versym, Verdef, Verneed, RelaDyn, RelaPlt, Dynamic, Data, Bss, Shstrtab}
 
@@ -88,10 +88,3 @@ has_name name role = bytes_eq (name_of role) name
 -- the index of the section of a name, 0 where there is none
 unfoldable pub index_of : List Role → List ℕ → ℕ
 index_of roles name = unwrap_or (position (has_name name) roles) 0
-
--- a section that may be there
-abbrev pub is_present : Bool × Role → Bool
-is_present choice = choice.0
-
-unfoldable pub present : List (Bool × Role) → List Role
-present choices = map (λ choice. choice.1) (filter is_present choices)

@@ -3,7 +3,7 @@ use Rattle.std.specs.Prelude.{ℕ, ◌+◌, List, [], ◌∷◌, ◌++◌, lengt
 use Rattle.pl_base.specs.Sums.{plus}
 use Rattle.pl_build.specs.declared.constants.TheConstants.{INTERP_OFFSET}
 use Rattle.pl_build.specs.declared.fields.Field.{Field}
-use Rattle.pl_build.specs.declared.fields.Field.TheVariants.{Word, Long}
+use Rattle.pl_build.specs.declared.fields.Field.TheVariants.{Word, Xword}
 use Rattle.pl_build.specs.declared.roles.Role.{Role}
 use Rattle.pl_build.specs.declared.roles.Role.TheVariants.{Null, Interp, Dynsym, Verdef, Verneed, Data, Bss, Shstrtab}
 use Rattle.pl_build.specs.declared.roles.Place.{Place}
@@ -18,10 +18,10 @@ use Rattle.pl_build.specs.Segments.{interp_bytes}
 use Rattle.pl_build.specs.Strings.{text_at}
 
 abbrev pub first_fields : SectionRow → List Field
-first_fields s = Word s.name ∷ Word s.kind ∷ Long s.flags ∷ Long s.addr ∷ Long s.offset ∷ Long s.size ∷ []
+first_fields s = Word s.name ∷ Word s.kind ∷ Xword s.flags ∷ Xword s.addr ∷ Xword s.offset ∷ Xword s.size ∷ []
 
 abbrev pub last_fields : SectionRow → List Field
-last_fields s = Word s.link ∷ Word s.info ∷ Long s.addralign ∷ Long s.entsize ∷ []
+last_fields s = Word s.link ∷ Word s.info ∷ Xword s.addralign ∷ Xword s.entsize ∷ []
 
 unfoldable pub section_bytes : SectionRow → List ℕ
 section_bytes s = fields (first_fields s) ++ fields (last_fields s)

@@ -1,14 +1,15 @@
 -- The program header table (System V gABI chapter 5, "Program Header").
-use Rattle.std.specs.Prelude.{ℕ, ◌+◌, ◌*◌, Bool, true, false, ◌||◌, nat_lt, List, [], ◌∷◌, ◌++◌, length, map, filter, Option, Some, None, codes}
+use Rattle.std.specs.Prelude.{ℕ, ◌+◌, ◌*◌, Bool, true, false, ◌||◌, nat_lt, List, [], ◌∷◌, ◌++◌, length, Option, Some, None, codes}
 use Rattle.std.specs.Option.{is_some}
 use Rattle.pl_base.specs.Sums.{plus, round_up}
-use Rattle.pl_elf.specs.declared.constants.TheConstants.{HEADER_SIZE, SEGMENT_SIZE, PT_LOAD, PT_DYNAMIC, PT_INTERP, PT_PHDR, PT_TLS, PT_GNU_STACK}
+use Rattle.pl_elf.specs.declared.constants.TheConstants.{HEADER_SIZE, SEGMENT_SIZE, PT_LOAD, PT_DYNAMIC, PT_INTERP, PT_PHDR, PT_TLS, PT_GNU_STACK, PAGE, PF_R, PF_W}
 use Rattle.pl_elf.specs.declared.segment.Segment.{Segment}
-use Rattle.pl_build.specs.declared.constants.TheConstants.{INTERP_OFFSET, PAGE, TABLE_ALIGN, STACK_ALIGN, PF_R, PF_RW}
-use Rattle.pl_build.specs.declared.fields.Field.TheVariants.{Word, Long}
+use Rattle.pl_build.specs.declared.constants.TheConstants.{INTERP_OFFSET, TABLE_ALIGN, STACK_ALIGN}
+use Rattle.pl_build.specs.declared.fields.Field.TheVariants.{Word, Xword}
 use Rattle.pl_build.specs.declared.line.TlsBlock.{TlsBlock}
 use Rattle.pl_build.specs.declared.recipe.Settings.{Settings}
 use Rattle.pl_build.specs.declared.roles.Place.{Place}
+use Rattle.pl_build.specs.Choices.{chosen}
 use Rattle.pl_build.specs.Dynamic.{is_there}
 use Rattle.pl_build.specs.Fields.{fields}
 use Rattle.pl_build.specs.Plan.{base_of, data_address, has_interp}
@@ -19,7 +20,7 @@ interp_bytes = codes "/lib64/ld-linux-x86-64.so.2" ++ 0 ∷ []
 
 unfoldable pub segment_bytes : Segment → List ℕ
 segment_bytes s = fields (
-    Word s.kind ∷ Word s.flags ∷ Long s.offset ∷ Long s.vaddr ∷ Long s.paddr ∷ Long s.filesz ∷ Long s.memsz ∷ Long s.align ∷ [])
+    Word s.kind ∷ Word s.flags ∷ Xword s.offset ∷ Xword s.vaddr ∷ Xword s.paddr ∷ Xword s.filesz ∷ Xword s.memsz ∷ Xword s.align ∷ [])
 
 -- bytes that stand in the file as in memory
 unfoldable pub readable : ℕ → ℕ → ℕ → ℕ → ℕ → Segment
@@ -45,7 +46,7 @@ first_load s tables_end = readable PT_LOAD 0 (base_of s) tables_end PAGE
 unfoldable pub second_load : Settings → ℕ → Segment
 second_load s tables_end = record {
   kind = PT_LOAD;
-  flags = PF_RW;
+  flags = PF_R + PF_W;
   offset = data_offset tables_end;
   vaddr = data_address s;
   paddr = data_address s;
@@ -76,7 +77,7 @@ tls_segment s tables_end =
 abbrev pub stack_segment : Segment
 stack_segment = record {
   kind = PT_GNU_STACK;
-  flags = PF_RW;
+  flags = PF_R + PF_W;
   offset = 0;
   vaddr = 0;
   paddr = 0;
@@ -99,9 +100,6 @@ dynamic_segment place = readable PT_DYNAMIC place.offset place.addr place.size T
 
 unfoldable pub has_data : Settings → Bool
 has_data s = nat_lt 0 s.data_size || nat_lt 0 s.bss
-
-unfoldable pub chosen : List (Bool × Segment) → List Segment
-chosen choices = map (λ choice. choice.1) (filter (λ choice. choice.0) choices)
 
 -- where the table itself says how many segments there are
 unfoldable pub with_count : Settings → ℕ → Place → ℕ → List Segment

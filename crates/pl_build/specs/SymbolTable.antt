@@ -3,7 +3,7 @@ use Rattle.std.specs.Prelude.{ℕ, ◌+◌, ◌*◌, Bool, not, ◌&&◌, ◌||�
 use Rattle.std.specs.List.{flat_map}
 use Rattle.pl_base.specs.Sums.{plus}
 use Rattle.pl_sym.specs.declared.constants.TheConstants.{SHN_UNDEF, SHN_ABS, STT_NOTYPE, STT_TLS}
-use Rattle.pl_build.specs.declared.fields.Field.TheVariants.{Byte, Half, Word, Long}
+use Rattle.pl_build.specs.declared.fields.Field.TheVariants.{Byte, Half, Word, Xword}
 use Rattle.pl_build.specs.declared.line.Symbol.{Symbol}
 use Rattle.pl_build.specs.declared.plan.Plan.{Plan}
 use Rattle.pl_build.specs.declared.symbol_table.SymbolEntry.{SymbolEntry}
@@ -14,7 +14,7 @@ use Rattle.pl_build.specs.Strings.{text_at}
 
 -- name, info (the binding in its high four bits), other, section, value, size
 unfoldable pub entry_bytes : SymbolEntry → List ℕ
-entry_bytes e = fields (Word e.name ∷ Byte (e.bind * 16 + e.kind) ∷ Byte e.visibility ∷ Half e.section ∷ Long e.value ∷ Long e.size ∷ [])
+entry_bytes e = fields (Word e.name ∷ Byte (e.bind * 16 + e.kind) ∷ Byte e.visibility ∷ Half e.section ∷ Xword e.value ∷ Xword e.size ∷ [])
 
 -- a value that is no address
 abbrev pub is_number : Symbol → Bool

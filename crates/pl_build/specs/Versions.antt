@@ -33,7 +33,7 @@ unfoldable pub version_word : Plan → Symbol → ℕ
 version_word p s =
     if length s.version == 0 then VER_NDX_GLOBAL
     else if not (length s.file == 0) then needed_index p s
-    else if s.visible then defined_index p s
+    else if s.default_version then defined_index p s
     else plus VERSYM_HIDDEN (defined_index p s)
 
 unfoldable pub version_words : Plan → List ℕ

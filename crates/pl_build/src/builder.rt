@@ -1,6 +1,5 @@
 // A recipe's file.
 ghost use Rattle.std.specs.Prelude.{◌≡◌, ◌<◌, ◌≤◌, ◌+◌, ◌-◌, ◌^◌, IfOk, length};
-ghost use Rattle.pl_base.specs.Answers.{Answers};
 ghost use Rattle.pl_build.specs.Build as spec;
 
 use crate::checks::first_fault;
@@ -29,7 +28,7 @@ fn lines(alloc: Global, recipe: &[u8]) -> Result<Vec<Line>, AllocError>
 #[tactic(auto, unfolding(crate::specs::Build::made_of))]
 fn made_of(alloc: Global, lines: Vec<Line>) -> Result<Rows<u8>, RecipeFault>
     requires { length lines.items < 2 ^ 32 - 1 }
-    ensures { Answers spec.is_memory result (spec.made_of lines.items) }
+    ensures { spec.Builds result (spec.made_of lines.items) }
 {
     if let Some(fault) = first_fault(lines.as_slice()) {
         return Err(RecipeFault::Bad {
@@ -49,7 +48,7 @@ fn made_of(alloc: Global, lines: Vec<Line>) -> Result<Rows<u8>, RecipeFault>
 #[tactic(auto, unfolding(crate::specs::Build::build))]
 pub fn build(alloc: Global, recipe: &[u8]) -> Result<Rows<u8>, RecipeFault>
     requires { length recipe.now < 2 ^ 31 }
-    ensures { Answers spec.is_memory result (spec.build recipe.now) }
+    ensures { spec.Builds result (spec.build recipe.now) }
 {
     let lines = lines(alloc, recipe)?;
     made_of(alloc, lines)

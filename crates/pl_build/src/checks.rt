@@ -5,17 +5,20 @@ ghost use Rattle.std.specs.Option.{option_copied};
 ghost use Rattle.std.specs.Str.{bytes_eq};
 ghost use Rattle.pl_build.specs.Checks as spec;
 
-use crate::constants::{MAX_ADDEND, MAX_BSS, MAX_BUCKETS, MAX_DATA, MAX_SPARE, WORD_SIZE};
+use crate::constants::{MAX_ADDEND, MAX_BSS, MAX_BUCKETS, MAX_DATA, MAX_SPARE};
 use crate::line::{Kind, Line, Relocation, Symbol};
 use crate::names::is;
 use crate::relocation_lines::is_no_symbol;
 use pl_base::end;
+use pl_elf::constants::WORD64_SIZE;
 
-/// The lowest kind of a line's faults, 0 for none.
+/// A fault of a recipe.
 #[derive(Clone, Copy)]
 pub struct Fault {
-    /// The number of the line, from 1 on.
+    /// The number of the line, from 1 on; 0 where the tables or the file would be too large.
     pub line: u32,
+
+    /// The lowest kind of the line's faults, 0 for none; 5 where the line is 0.
     pub kind: u8,
 }
 
@@ -78,7 +81,7 @@ fn is_over(size: u64, line: &Line) -> bool
         Line::Spare(n) => *n > MAX_SPARE,
         Line::Data(n) => *n > MAX_DATA,
         Line::Bss(n) => *n > MAX_BSS,
-        Line::Put(word) => end(word.offset, WORD_SIZE) > u128::from(size),
+        Line::Put(word) => end(word.offset, WORD64_SIZE) > u128::from(size),
         Line::Relocates(relocation) => is_over_addend(relocation),
         _ => false,
     }

@@ -2,16 +2,16 @@
 ghost use Rattle.std.specs.Prelude.{◌≡◌, IfOk, fold};
 ghost use Rattle.pl_build.specs.Data as spec;
 
-use crate::constants::WORD_SIZE;
 use crate::line::DataWord;
 use pl_base::{end, put64};
+use pl_elf::constants::WORD64_SIZE;
 use std::alloc::{AllocError, Global};
 
 #[tactic(auto, unfolding(crate::specs::Data::word_put))]
 fn put_word(bytes: &mut [u8], word: DataWord)
     ensures { bytes.new ≡ spec.word_put bytes.old word }
 {
-    if end(word.offset, WORD_SIZE) <= bytes.len() as u128 {
+    if end(word.offset, WORD64_SIZE) <= bytes.len() as u128 {
         put64(bytes, word.offset as usize, word.value);
     }
 }

@@ -3,7 +3,7 @@ ghost use Rattle.std.specs.Prelude.{◌≡◌, ◌++◌, ◌+◌, IfOk, OnOk, ma
 ghost use Rattle.std.specs.List.{flat_map, range_with_len};
 ghost use Rattle.pl_build.specs.Dynamic as spec;
 
-use crate::constants::{DF_1_NOW, DF_BIND_NOW, RELA_SIZE};
+use crate::choices::chosen;
 use crate::fields::{Field, Row, push_fields, push_rows};
 use crate::names::is;
 use crate::plan::{Plan, is_program};
@@ -11,11 +11,12 @@ use crate::roles::{Place, Role, name_of};
 use crate::strings::text_at;
 use pl_dyn::Tag;
 use pl_dyn::constants::{
-    DT_BIND_NOW, DT_DEBUG, DT_FLAGS, DT_FLAGS_1, DT_GNU_HASH, DT_HASH, DT_JMPREL, DT_NEEDED,
-    DT_NULL, DT_PLTREL, DT_PLTRELSZ, DT_RELA, DT_RELAENT, DT_RELASZ, DT_STRSZ, DT_STRTAB,
-    DT_SYMBOLIC, DT_SYMENT, DT_SYMTAB, DT_VERDEF, DT_VERDEFNUM, DT_VERNEED, DT_VERNEEDNUM,
-    DT_VERSYM,
+    DF_1_NOW, DF_BIND_NOW, DT_BIND_NOW, DT_DEBUG, DT_FLAGS, DT_FLAGS_1, DT_GNU_HASH, DT_HASH,
+    DT_JMPREL, DT_NEEDED, DT_NULL, DT_PLTREL, DT_PLTRELSZ, DT_RELA, DT_RELAENT, DT_RELASZ,
+    DT_STRSZ, DT_STRTAB, DT_SYMBOLIC, DT_SYMENT, DT_SYMTAB, DT_VERDEF, DT_VERDEFNUM, DT_VERNEED,
+    DT_VERNEEDNUM, DT_VERSYM,
 };
+use pl_elf::constants::RELA_SIZE;
 use pl_sym::constants::SYMBOL_SIZE;
 use std::alloc::{AllocError, Global};
 
@@ -24,7 +25,7 @@ impl Row for Tag {
 
     #[tactic(auto, unfolding(crate::specs::Dynamic::tag_bytes))]
     fn push_to(&self, out: &mut Vec<u8>) -> Result<(), AllocError> {
-        push_fields(out, &[Field::Long(self.number), Field::Long(self.value)])
+        push_fields(out, &[Field::Xword(self.number), Field::Xword(self.value)])
     }
 }
 
@@ -32,17 +33,6 @@ fn tag(number: u64, value: u64) -> Tag
     ensures { result ≡ spec.tag number value }
 {
     Tag { number, value }
-}
-
-#[tactic(auto, unfolding(crate::specs::Dynamic::chosen))]
-fn chosen(alloc: Global, choices: &[(bool, Tag)]) -> Result<Vec<Tag>, AllocError>
-    ensures { IfOk result (λ v. v.items ≡ spec.chosen choices.now) }
-{
-    choices
-        .iter()
-        .filter(|choice| choice.0)
-        .map(|choice| choice.1)
-        .collect(alloc)
 }
 
 fn is_at(name: &[u8], place: Place) -> bool
@@ -127,7 +117,7 @@ fn relocation_tags(alloc: Global, places: &[Place]) -> Result<Vec<Tag>, AllocErr
             (is_there(&slots), tag(DT_JMPREL, slots.addr)),
             (is_there(&others), tag(DT_RELA, others.addr)),
             (is_there(&others), tag(DT_RELASZ, others.size)),
-            (is_there(&others), tag(DT_RELAENT, RELA_SIZE)),
+            (is_there(&others), tag(DT_RELAENT, RELA_SIZE as u64)),
         ],
     )
 }

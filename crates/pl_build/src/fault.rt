@@ -1,3 +1,6 @@
+ghost use Rattle.std.specs.Prelude.{◌≡◌};
+ghost use Rattle.pl_build.specs.declared.fault.RecipeFault.TheVariants.{NoMemory};
+
 use std::alloc::{AllocError, AllocFailed};
 use thiserror::Error;
 
@@ -16,9 +19,6 @@ pub enum RecipeFault {
 }
 
 impl From<AllocError> for RecipeFault {
-    ghost use Rattle.std.specs.Prelude.{◌≡◌};
-    ghost use Rattle.pl_build.specs.declared.fault.RecipeFault.TheVariants.{NoMemory};
-
     ghost from_gives = { λ _ e. e ≡ NoMemory };
 
     fn from(_e: AllocError) -> RecipeFault {
@@ -27,9 +27,6 @@ impl From<AllocError> for RecipeFault {
 }
 
 impl<T: Drop> From<AllocFailed<T>> for RecipeFault {
-    ghost use Rattle.std.specs.Prelude.{◌≡◌};
-    ghost use Rattle.pl_build.specs.declared.fault.RecipeFault.TheVariants.{NoMemory};
-
     ghost from_gives = { λ _ e. e ≡ NoMemory };
 
     fn from(_e: AllocFailed<T>) -> RecipeFault {

@@ -5,13 +5,13 @@ ghost use Rattle.pl_build.specs.Fields as spec;
 
 use std::alloc::AllocError;
 
-/// A number of 1, 2, 4 or 8 bytes: the lowest of its bytes are written.
+/// A number of 1, 2, 4 or 8 bytes (gABI chapter 4, "Data Representation"): the lowest of its bytes are written.
 #[derive(Clone, Copy)]
 pub enum Field {
     Byte(u64),
     Half(u64),
     Word(u64),
-    Long(u64),
+    Xword(u64),
 }
 
 /// A row of a table.
@@ -42,7 +42,7 @@ impl Row for Field {
             Field::Byte(number) => out.extend_from_slice(&number.to_le_bytes()[..1]),
             Field::Half(number) => out.extend_from_slice(&number.to_le_bytes()[..2]),
             Field::Word(number) => out.extend_from_slice(&number.to_le_bytes()[..4]),
-            Field::Long(number) => out.extend_from_slice(&number.to_le_bytes()),
+            Field::Xword(number) => out.extend_from_slice(&number.to_le_bytes()),
         }
     }
 }

@@ -1,11 +1,10 @@
 // The file.
 ghost use Rattle.std.specs.Prelude.{◌≡◌, ◌++◌, ◌+◌, ◌*◌, ◌≤◌, ◌<◌, ◌^◌, IfOk, OnOk, length};
-ghost use Rattle.pl_base.specs.Answers.{Answers};
-ghost use Rattle.pl_build.specs.Build.{is_memory};
+ghost use Rattle.pl_build.specs.Build.{Builds};
 ghost use Rattle.pl_build.specs.File as spec;
 ghost use Rattle.pl_build.specs.Layout as layout;
 
-use crate::constants::{INTERP_OFFSET, MAX_FILE, MAX_TABLES, TABLES_OFFSET};
+use crate::constants::{INTERP_OFFSET, MAX_FILE, MAX_TABLES, TABLE_ALIGN, TABLES_OFFSET};
 use crate::data::data_bytes;
 use crate::dynamic::place_of;
 use crate::fault::RecipeFault;
@@ -17,7 +16,7 @@ use crate::roles::{Place, index_of};
 use crate::sections::{first_places, last_places, section_rows};
 use crate::segments::{data_offset, interp_bytes, segments};
 use crate::strings::{Strings, section_names};
-use pl_base::Rows;
+use pl_base::{Rows, round_up_wide};
 use pl_elf::constants::{
     ELFCLASS64, ELFDATA2LSB, ELFMAG0, ELFMAG1, ELFMAG2, ELFMAG3, EM_X86_64, ET_DYN, ET_EXEC,
     EV_CURRENT, HEADER_SIZE, SECTION_SIZE, SEGMENT_SIZE,
@@ -45,7 +44,7 @@ fn ident() -> [Field; 9]
         Field::Byte(u64::from(ELFDATA2LSB)),
         Field::Byte(u64::from(EV_CURRENT)),
         Field::Byte(0),
-        Field::Long(0),
+        Field::Xword(0),
     ]
 }
 
@@ -68,9 +67,9 @@ fn first_fields(settings: &Settings, shoff: u64) -> [Field; 6]
         Field::Half(u64::from(type_of(settings))),
         Field::Half(u64::from(EM_X86_64)),
         Field::Word(u64::from(EV_CURRENT)),
-        Field::Long(entry_or_base(settings)),
-        Field::Long(HEADER_SIZE as u64),
-        Field::Long(shoff),
+        Field::Xword(entry_or_base(settings)),
+        Field::Xword(HEADER_SIZE as u64),
+        Field::Xword(shoff),
     ]
 }
 
@@ -222,14 +221,14 @@ fn sections_offset(plan: &Plan, tables_end: u64, names: &Strings) -> u128
     ensures holds_data { plan.now.settings.data_size ≤ result }
     ensures small { result < 2 ^ 67 }
 {
-    (parts_end(plan, tables_end, names) + 7) / 8 * 8
+    round_up_wide(parts_end(plan, tables_end, names), TABLE_ALIGN)
 }
 
 fn file_end(plan: &Plan, tables_end: u64, names: &Strings) -> u128
     requires { tables_end < 2 ^ 32 }
     ensures { result ≡ spec.file_end plan.now tables_end names.now }
 {
-    sections_offset(plan, tables_end, names) + 64 * plan.roles.len() as u128
+    sections_offset(plan, tables_end, names) + SECTION_SIZE as u128 * plan.roles.len() as u128
 }
 
 #[tactic(auto, unfolding(crate::specs::File::limited))]
@@ -240,7 +239,7 @@ fn limited(
     tables: &Tables,
 ) -> Result<Rows<u8>, RecipeFault>
     requires { layout.end_of tables.now ≤ MAX_TABLES }
-    ensures { Answers is_memory result (spec.limited plan.now names.now tables.now) }
+    ensures { Builds result (spec.limited plan.now names.now tables.now) }
 {
     let tables_end = end_of(tables);
     if file_end(plan, tables_end, names) > u128::from(MAX_FILE) {
@@ -254,7 +253,7 @@ fn limited(
 /// The file of a plan. Fault 5 where its tables or the file would be too large.
 #[tactic(auto, unfolding(crate::specs::File::made))]
 pub fn made(alloc: Global, plan: &Plan) -> Result<Rows<u8>, RecipeFault>
-    ensures { Answers is_memory result (spec.made plan.now) }
+    ensures { Builds result (spec.made plan.now) }
 {
     let tables = lay_out(alloc, plan)?;
     let names = section_names(alloc, plan.roles.as_slice())?;

@@ -239,7 +239,7 @@ fn gnu_words(
             Field::Word(first as u64),
             Field::Word(BLOOM_COUNT),
             Field::Word(BLOOM_SHIFT_BITS),
-            Field::Long(bloom(hashes)),
+            Field::Xword(bloom(hashes)),
         ],
     )?;
     push_fields(

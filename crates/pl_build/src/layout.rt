@@ -1,8 +1,7 @@
 // The tables, one after the other.
 ghost use Rattle.std.specs.Prelude.{◌≡◌, ◌++◌, ◌∷◌, ◌+◌, ◌<◌, ◌≤◌, ◌^◌, [], IfOk, OnOk, length};
-ghost use Rattle.pl_base.specs.Answers.{Answers};
 ghost use Rattle.pl_base.specs.Each.{run};
-ghost use Rattle.pl_build.specs.Build.{is_memory};
+ghost use Rattle.pl_build.specs.Build.{Builds};
 ghost use Rattle.pl_build.specs.Layout as spec;
 
 use crate::constants::{MAX_TABLES, TABLES_OFFSET};
@@ -102,7 +101,7 @@ pub fn end_of(tables: &Tables) -> u64
 }
 
 fn in_limit(tables: Tables) -> Result<Tables, RecipeFault>
-    ensures exact { result ≡ spec.in_limit tables }
+    ensures exact { Builds result (spec.in_limit tables) }
     ensures small { IfOk result (λ t. spec.end_of t ≤ MAX_TABLES) }
 {
     if end(TABLES_OFFSET, tables.bytes.len() as u64) > u128::from(MAX_TABLES) {
@@ -114,7 +113,7 @@ fn in_limit(tables: Tables) -> Result<Tables, RecipeFault>
 #[tactic(auto, unfolding(crate::specs::Layout::role_added))]
 fn add_role(alloc: Global, plan: &Plan, tables: Tables, role: Role) -> Result<Tables, RecipeFault>
     requires { spec.end_of tables ≤ MAX_TABLES }
-    ensures answer { Answers is_memory result (spec.role_added plan.now tables role) }
+    ensures answer { Builds result (spec.role_added plan.now tables role) }
     ensures small { IfOk result (λ t. spec.end_of t ≤ MAX_TABLES) }
 {
     let content = contents(alloc, plan, tables.places.as_slice(), role)?;
@@ -126,7 +125,7 @@ fn add_role(alloc: Global, plan: &Plan, tables: Tables, role: Role) -> Result<Ta
 }
 
 fn add_roles(alloc: Global, plan: &Plan, roles: &[Role]) -> Result<Tables, RecipeFault>
-    ensures answer { Answers is_memory result (run (spec.role_added plan.now) spec.start roles.now) }
+    ensures answer { Builds result (run (spec.role_added plan.now) spec.start roles.now) }
     ensures small { IfOk result (λ t. spec.end_of t ≤ MAX_TABLES) }
 {
     let mut tables = start(alloc);
@@ -139,7 +138,7 @@ fn add_roles(alloc: Global, plan: &Plan, roles: &[Role]) -> Result<Tables, Recip
 /// All tables. Fault 5 where they would end past their limit.
 #[tactic(auto, unfolding(crate::specs::Layout::tables))]
 pub fn lay_out(alloc: Global, plan: &Plan) -> Result<Tables, RecipeFault>
-    ensures answer { Answers is_memory result (spec.tables plan.now) }
+    ensures answer { Builds result (spec.tables plan.now) }
     ensures small { IfOk result (λ t. spec.end_of t ≤ MAX_TABLES) }
 {
     add_roles(alloc, plan, plan.roles.as_slice())

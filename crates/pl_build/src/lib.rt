@@ -3,6 +3,7 @@
 
 mod builder;
 mod checks;
+mod choices;
 mod constants;
 mod data;
 mod dynamic;
@@ -27,8 +28,6 @@ mod strings;
 mod symbol_lines;
 mod symbol_table;
 mod symbols;
-#[cfg(test)]
-mod tests;
 mod versions;
 mod words;
 

@@ -46,8 +46,8 @@ pub struct Symbol {
     /// The version, empty for none.
     pub version: Rows<u8>,
 
-    /// Whether the version stands behind two signs `@`: references without a version see the symbol.
-    pub visible: bool,
+    /// Whether the version stands behind two signs `@`: it is the default version of the name, which references without a version find.
+    pub default_version: bool,
 
     /// The file that the version is needed of, empty for none.
     pub file: Rows<u8>,
@@ -71,7 +71,7 @@ pub struct Symbol {
 #[derive(Drop)]
 pub struct Relocation {
     /// One of the `R_X86_64_` numbers.
-    pub kind: u64,
+    pub kind: u32,
 
     /// The data offset of the word.
     pub offset: u64,

@@ -3,14 +3,16 @@ ghost use Rattle.std.specs.Prelude.{◌≡◌, ◌<◌, ◌^◌, IfOk};
 ghost use Rattle.std.specs.List.{list_any};
 ghost use Rattle.pl_build.specs.Plan as spec;
 
-use crate::constants::{BASE, DATA_DISTANCE, R_X86_64_JUMP_SLOT};
+use crate::choices::chosen;
+use crate::constants::{BASE, DATA_DISTANCE};
 use crate::line::{DataWord, Kind, Relocation, Symbol};
 use crate::needed::{Need, files_of, needs_of};
 use crate::recipe::{Recipe, Settings};
-use crate::roles::{Role, present};
+use crate::roles::Role;
 use crate::strings::{Strings, add_files, add_symbols, add_texts, add_versions, start};
 use crate::symbols::ordered;
 use pl_base::Rows;
+use pl_elf::constants::R_X86_64_JUMP_SLOT;
 use std::alloc::{AllocError, Global};
 
 /// What is to be laid out.
@@ -38,18 +40,21 @@ pub struct Plan {
     pub roles: Rows<Role>,
 }
 
+/// Whether a recipe makes a program that needs libraries.
 pub fn is_program(kind: Kind) -> bool
     ensures { result ≡ spec.is_program kind }
 {
     matches!(kind, Kind::Program)
 }
 
+/// Whether a recipe makes a library.
 pub fn is_library(kind: Kind) -> bool
     ensures { result ≡ spec.is_library kind }
 {
     matches!(kind, Kind::Library)
 }
 
+/// Whether a recipe makes a static program.
 pub fn is_static(kind: Kind) -> bool
     ensures { result ≡ spec.is_static kind }
 {
@@ -118,7 +123,7 @@ fn first_roles(alloc: Global, settings: &Settings) -> Result<Vec<Role>, AllocErr
     ensures { IfOk result (λ v. v.items ≡ spec.first_roles settings.now) }
 {
     let linked = !is_static(settings.kind);
-    present(
+    chosen(
         alloc,
         &[
             (true, Role::Null),
@@ -136,7 +141,7 @@ fn next_roles(alloc: Global, recipe: &Recipe, needs: &[Need]) -> Result<Vec<Role
     ensures { IfOk result (λ v. v.items ≡ spec.next_roles recipe.now needs.now) }
 {
     let relocations = recipe.relocations.as_slice();
-    present(
+    chosen(
         alloc,
         &[
             (has_versions(recipe), Role::Versym),
@@ -152,7 +157,7 @@ fn next_roles(alloc: Global, recipe: &Recipe, needs: &[Need]) -> Result<Vec<Role
 fn last_roles(alloc: Global, settings: &Settings) -> Result<Vec<Role>, AllocError>
     ensures { IfOk result (λ v. v.items ≡ spec.last_roles settings.now) }
 {
-    present(
+    chosen(
         alloc,
         &[
             (!is_static(settings.kind), Role::Dynamic),

@@ -2,19 +2,19 @@
 ghost use Rattle.std.specs.Prelude.{◌≡◌, IfOk};
 ghost use Rattle.pl_build.specs.RelocationLines as spec;
 
-use crate::constants::{
-    R_X86_64_64, R_X86_64_COPY, R_X86_64_DTPMOD64, R_X86_64_DTPOFF64, R_X86_64_GLOB_DAT,
-    R_X86_64_IRELATIVE, R_X86_64_JUMP_SLOT, R_X86_64_NONE, R_X86_64_RELATIVE, R_X86_64_TLSDESC,
-    R_X86_64_TPOFF64,
-};
 use crate::line::{Line, Relocation};
 use crate::names::is;
 use crate::words::{copy_of, is_negative, is_written, magnitude, number, word};
 use pl_base::Rows;
+use pl_elf::constants::{
+    R_X86_64_64, R_X86_64_COPY, R_X86_64_DTPMOD64, R_X86_64_DTPOFF64, R_X86_64_GLOB_DAT,
+    R_X86_64_IRELATIVE, R_X86_64_JUMP_SLOT, R_X86_64_NONE, R_X86_64_RELATIVE, R_X86_64_TLSDESC,
+    R_X86_64_TPOFF64,
+};
 use std::alloc::{AllocError, Global};
 
 #[tactic(auto, unfolding(crate::specs::RelocationLines::symbol_kind))]
-fn symbol_kind(text: &[u8]) -> Option<u64>
+fn symbol_kind(text: &[u8]) -> Option<u32>
     ensures { result ≡ spec.symbol_kind text.now }
 {
     if is(text, b"abs64") {
@@ -35,7 +35,7 @@ fn symbol_kind(text: &[u8]) -> Option<u64>
 }
 
 #[tactic(auto, unfolding(crate::specs::RelocationLines::other_kind))]
-fn other_kind(text: &[u8]) -> Option<u64>
+fn other_kind(text: &[u8]) -> Option<u32>
     ensures { result ≡ spec.other_kind text.now }
 {
     if is(text, b"dtpmod") {
@@ -54,7 +54,7 @@ fn other_kind(text: &[u8]) -> Option<u64>
 }
 
 #[tactic(auto, unfolding(crate::specs::RelocationLines::kind_of))]
-fn kind_of(text: &[u8]) -> Option<u64>
+fn kind_of(text: &[u8]) -> Option<u32>
     ensures { result ≡ spec.kind_of text.now }
 {
     symbol_kind(text).or(other_kind(text))
@@ -69,7 +69,7 @@ pub fn is_no_symbol(text: &[u8]) -> bool
 }
 
 #[tactic(auto, unfolding(crate::specs::RelocationLines::fits))]
-fn fits(kind: u64, text: &[u8]) -> bool
+fn fits(kind: u32, text: &[u8]) -> bool
     ensures { result ≡ spec.fits kind text.now }
 {
     is_written(text) && (is_no_symbol(text) || kind != R_X86_64_RELATIVE)

@@ -4,12 +4,12 @@ ghost use Rattle.std.specs.List.{flat_map};
 ghost use Rattle.pl_build.specs.Plan.{is_jump_slot, is_other};
 ghost use Rattle.pl_build.specs.Relocations as spec;
 
-use crate::constants::R_X86_64_RELATIVE;
 use crate::fields::{Field, Row, push_fields, push_rows};
 use crate::line::{Relocation, Symbol};
 use crate::names::is;
 use crate::plan::{Plan, data_address, is_jump_slot};
 use crate::relocation_lines::is_no_symbol;
+use pl_elf::constants::R_X86_64_RELATIVE;
 use std::alloc::{AllocError, Global};
 
 /// A row of a table of relocations (System V gABI chapter 4, "Relocation").
@@ -19,7 +19,7 @@ pub struct Rela {
     pub offset: u64,
 
     /// One of the `R_X86_64_` numbers.
-    pub kind: u64,
+    pub kind: u32,
 
     /// The symbol's number, 0 for none.
     pub symbol: u64,
@@ -34,10 +34,10 @@ impl Row for Rela {
         push_fields(
             out,
             &[
-                Field::Long(self.offset),
-                Field::Word(self.kind),
+                Field::Xword(self.offset),
+                Field::Word(u64::from(self.kind)),
                 Field::Word(self.symbol),
-                Field::Long(self.addend),
+                Field::Xword(self.addend),
             ],
         )
     }

@@ -1,18 +1,18 @@
 // The sections of a file by what they hold.
-ghost use Rattle.std.specs.Prelude.{◌≡◌, IfOk, map, position};
+ghost use Rattle.std.specs.Prelude.{◌≡◌, position};
 ghost use Rattle.pl_build.specs.Roles as spec;
 
-use crate::constants::{RELA_SIZE, TABLE_ALIGN};
+use crate::constants::TABLE_ALIGN;
 use crate::names::is;
 use pl_dyn::constants::ENTRY_SIZE;
 use pl_elf::constants::{
-    SHF_ALLOC, SHF_WRITE, SHT_DYNAMIC, SHT_DYNSYM, SHT_GNU_HASH, SHT_GNU_VERDEF, SHT_GNU_VERNEED,
-    SHT_GNU_VERSYM, SHT_HASH, SHT_NOBITS, SHT_NULL, SHT_PROGBITS, SHT_RELA, SHT_STRTAB,
+    RELA_SIZE, SHF_ALLOC, SHF_WRITE, SHT_DYNAMIC, SHT_DYNSYM, SHT_GNU_HASH, SHT_GNU_VERDEF,
+    SHT_GNU_VERNEED, SHT_GNU_VERSYM, SHT_HASH, SHT_NOBITS, SHT_NULL, SHT_PROGBITS, SHT_RELA,
+    SHT_STRTAB,
 };
 use pl_hash::WORD_SIZE;
 use pl_sym::constants::SYMBOL_SIZE;
 use pl_ver::constants::VERSYM_SIZE;
-use std::alloc::{AllocError, Global};
 
 /// What a section holds, in the order of the section header table.
 #[derive(Clone, Copy)]
@@ -112,6 +112,7 @@ pub fn flags_of(role: Role) -> u64
     }
 }
 
+/// What the section is aligned to, in bytes; 0 for the null section.
 #[tactic(auto, unfolding(crate::specs::Roles::align_of))]
 pub fn align_of(role: Role) -> u64
     ensures { result ≡ spec.align_of role }
@@ -132,7 +133,7 @@ pub fn entsize_of(role: Role) -> u64
         Role::Hash => WORD_SIZE as u64,
         Role::Dynsym => SYMBOL_SIZE as u64,
         Role::Versym => VERSYM_SIZE as u64,
-        Role::RelaDyn | Role::RelaPlt => RELA_SIZE,
+        Role::RelaDyn | Role::RelaPlt => RELA_SIZE as u64,
         Role::Dynamic => ENTRY_SIZE as u64,
         _ => 0,
     }
@@ -156,16 +157,4 @@ pub fn index_of(roles: &[Role], name: &[u8]) -> usize
     ensures { result ≡ spec.index_of roles.now name.now }
 {
     position_of(roles, name).unwrap_or(0)
-}
-
-/// The sections of a list that are there.
-#[tactic(auto, unfolding(crate::specs::Roles::present))]
-pub fn present(alloc: Global, choices: &[(bool, Role)]) -> Result<Vec<Role>, AllocError>
-    ensures { IfOk result (λ v. v.items ≡ spec.present choices.now) }
-{
-    choices
-        .iter()
-        .filter(|choice| choice.0)
-        .map(|choice| choice.1)
-        .collect(alloc)
 }

@@ -38,10 +38,10 @@ fn first_fields(row: &SectionRow) -> [Field; 6]
     [
         Field::Word(row.name),
         Field::Word(u64::from(row.kind)),
-        Field::Long(row.flags),
-        Field::Long(row.addr),
-        Field::Long(row.offset),
-        Field::Long(row.size),
+        Field::Xword(row.flags),
+        Field::Xword(row.addr),
+        Field::Xword(row.offset),
+        Field::Xword(row.size),
     ]
 }
 
@@ -51,8 +51,8 @@ fn last_fields(row: &SectionRow) -> [Field; 4]
     [
         Field::Word(row.link),
         Field::Word(row.info),
-        Field::Long(row.addralign),
-        Field::Long(row.entsize),
+        Field::Xword(row.addralign),
+        Field::Xword(row.entsize),
     ]
 }
 

@@ -2,7 +2,8 @@
 ghost use Rattle.std.specs.Prelude.{◌≡◌, ◌++◌, ◌<◌, ◌≤◌, ◌+◌, ◌^◌, IfOk, OnOk, length};
 ghost use Rattle.pl_build.specs.Segments as spec;
 
-use crate::constants::{INTERP_OFFSET, PAGE, PF_R, PF_RW, STACK_ALIGN, TABLE_ALIGN};
+use crate::choices::chosen;
+use crate::constants::{INTERP_OFFSET, STACK_ALIGN, TABLE_ALIGN};
 use crate::dynamic::is_there;
 use crate::fields::{Field, Row, push_fields};
 use crate::line::TlsBlock;
@@ -12,7 +13,8 @@ use crate::roles::Place;
 use pl_base::round_up;
 use pl_elf::Segment;
 use pl_elf::constants::{
-    HEADER_SIZE, PT_DYNAMIC, PT_GNU_STACK, PT_INTERP, PT_LOAD, PT_PHDR, PT_TLS, SEGMENT_SIZE,
+    HEADER_SIZE, PAGE, PF_R, PF_W, PT_DYNAMIC, PT_GNU_STACK, PT_INTERP, PT_LOAD, PT_PHDR, PT_TLS,
+    SEGMENT_SIZE,
 };
 use std::alloc::{AllocError, Global};
 
@@ -26,12 +28,12 @@ impl Row for Segment {
             &[
                 Field::Word(u64::from(self.kind)),
                 Field::Word(u64::from(self.flags)),
-                Field::Long(self.offset),
-                Field::Long(self.vaddr),
-                Field::Long(self.paddr),
-                Field::Long(self.filesz),
-                Field::Long(self.memsz),
-                Field::Long(self.align),
+                Field::Xword(self.offset),
+                Field::Xword(self.vaddr),
+                Field::Xword(self.paddr),
+                Field::Xword(self.filesz),
+                Field::Xword(self.memsz),
+                Field::Xword(self.align),
             ],
         )
     }
@@ -85,7 +87,7 @@ fn second_load(settings: &Settings, tables_end: u64) -> Segment
     let address = data_address(settings);
     Segment {
         kind: PT_LOAD,
-        flags: PF_RW,
+        flags: PF_R + PF_W,
         offset: data_offset(tables_end),
         vaddr: address,
         paddr: address,
@@ -133,7 +135,7 @@ fn stack_segment() -> Segment
 {
     Segment {
         kind: PT_GNU_STACK,
-        flags: PF_RW,
+        flags: PF_R + PF_W,
         offset: 0,
         vaddr: 0,
         paddr: 0,
@@ -186,17 +188,6 @@ fn has_data(settings: &Settings) -> bool
     ensures { result ≡ spec.has_data settings.now }
 {
     settings.data_size > 0 || settings.bss > 0
-}
-
-#[tactic(auto, unfolding(crate::specs::Segments::chosen))]
-fn chosen(alloc: Global, choices: &[(bool, Segment)]) -> Result<Vec<Segment>, AllocError>
-    ensures { IfOk result (λ v. v.items ≡ spec.chosen choices.now) }
-{
-    choices
-        .iter()
-        .filter(|choice| choice.0)
-        .map(|choice| choice.1)
-        .collect(alloc)
 }
 
 #[tactic(auto, unfolding(crate::specs::Segments::with_count))]

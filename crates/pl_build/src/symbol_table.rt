@@ -36,8 +36,8 @@ impl Row for SymbolEntry {
                 Field::Byte(u64::from(self.bind) * 16 + u64::from(self.kind)),
                 Field::Byte(u64::from(self.visibility)),
                 Field::Half(self.section),
-                Field::Long(self.value),
-                Field::Long(self.size),
+                Field::Xword(self.value),
+                Field::Xword(self.size),
             ],
         )
     }

@@ -48,7 +48,7 @@ pub fn copy_symbol(alloc: Global, symbol: &Symbol) -> Result<Symbol, AllocError>
         written: copy_of(alloc, symbol.written.as_slice())?,
         name: copy_of(alloc, symbol.name.as_slice())?,
         version: copy_of(alloc, symbol.version.as_slice())?,
-        visible: symbol.visible,
+        default_version: symbol.default_version,
         file: copy_of(alloc, symbol.file.as_slice())?,
         bind: symbol.bind,
         kind: symbol.kind,

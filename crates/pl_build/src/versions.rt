@@ -65,7 +65,7 @@ fn version_word(plan: &Plan, symbol: &Symbol) -> u64
         u64::from(VER_NDX_GLOBAL)
     } else if symbol.file.len() != 0 {
         needed_index(plan, symbol) as u64
-    } else if symbol.visible {
+    } else if symbol.default_version {
         defined_index(plan, symbol) as u64
     } else {
         u64::from(VERSYM_HIDDEN).wrapping_add(defined_index(plan, symbol) as u64)

@@ -37,24 +37,13 @@ pub fn word(words: &[Rows<u8>], index: usize) -> &[u8]
     }
 }
 
-/// The words from an index on.
+/// The items from an index on; past the last one none.
 #[tactic(auto, using(std::proofs::lemmas::List::drop_all))]
-pub fn rest(words: &[Rows<u8>], index: usize) -> &[Rows<u8>]
-    ensures { result.now ≡ drop index words.now }
+pub fn rest<T>(items: &[T], index: usize) -> &[T]
+    ensures { result.now ≡ drop index items.now }
 {
-    if index < words.len() {
-        &words[index..]
-    } else {
-        &[]
-    }
-}
-
-#[tactic(auto, using(std::proofs::lemmas::List::drop_all))]
-fn bytes_from(bytes: &[u8], index: usize) -> &[u8]
-    ensures { result.now ≡ drop index bytes.now }
-{
-    if index < bytes.len() {
-        &bytes[index..]
+    if index < items.len() {
+        &items[index..]
     } else {
         &[]
     }
@@ -75,7 +64,7 @@ fn bytes_before(bytes: &[u8], index: usize) -> &[u8]
 fn is_digit(digit: u8) -> bool
     ensures { result ≡ spec.is_digit digit }
 {
-    (48..=57).contains(&digit) || (97..=102).contains(&digit)
+    (b'0'..=b'9').contains(&digit) || (b'a'..=b'f').contains(&digit)
 }
 
 fn has_digits(text: &[u8]) -> bool
@@ -95,10 +84,10 @@ fn is_number(text: &[u8]) -> bool
 fn digit(digit: u8) -> u8
     ensures { result ≡ spec.digit digit }
 {
-    if digit >= 97 {
-        digit - 87
+    if digit >= b'a' {
+        digit - b'a' + 10
     } else {
-        digit.saturating_sub(48)
+        digit.saturating_sub(b'0')
     }
 }
 
@@ -143,7 +132,7 @@ pub fn magnitude(text: &[u8]) -> Option<u64>
     ensures { result ≡ spec.magnitude text.now }
 {
     if is_negative(text) {
-        number(bytes_from(text, 1))
+        number(rest(text, 1))
     } else {
         number(text)
     }
@@ -179,7 +168,7 @@ fn after_cut(text: &[u8]) -> &[u8]
     ensures { result.now ≡ spec.after_cut text.now (spec.cut text.now) }
 {
     match cut(text) {
-        Some(at) => bytes_from(bytes_from(text, at), 1),
+        Some(at) => rest(rest(text, at), 1),
         None => &[],
     }
 }
@@ -198,7 +187,7 @@ pub fn version_of(text: &[u8]) -> &[u8]
     ensures { result.now ≡ spec.version_of text.now }
 {
     if is_doubled(text) {
-        bytes_from(after_cut(text), 1)
+        rest(after_cut(text), 1)
     } else {
         after_cut(text)
     }

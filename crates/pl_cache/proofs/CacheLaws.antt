@@ -22,7 +22,8 @@ use Rattle.pl_cache.specs.declared.fault.CacheFault.{CacheFault}
 use Rattle.pl_cache.specs.declared.fault.CacheFault.TheVariants.{BadCache, NoMemory}
 use Rattle.pl_cache.specs.Spelling.{cache_bytes, row_bytes, is_row, is_cache, ascend, IsCacheOf}
 use Rattle.pl_cache.specs.Reading.{number32_at, rows_at, behind_magic, all_rows, fields, checked, read, is_memory, Gives}
-use Rattle.pl_cache.proofs.Fields.{bind_ok, passed, guard_then, ok_is, Takes, Takes-then, number32_takes, number32_again, rows_take, rows_again, RowFits, all_fit}
+use Rattle.pl_base.proofs.AnswerLaws.{bind_ok, ok_same}
+use Rattle.pl_cache.proofs.Fields.{passed, guard_then, Takes, Takes-then, number32_takes, number32_again, rows_take, rows_again, RowFits, all_fit}
 
 -- ---- what is read
 
@@ -59,7 +60,7 @@ fields_take bytes cache fits e =
     let whole : bytes ≡ (MAGIC ++ bytes32 b.0.0 ++ bytes32 (length d.0)) ++ flat_map row_bytes d.0 =
     t02.parts ∙ ap (λ (r : List ℕ). (MAGIC ++ bytes32 b.0.0 ++ bytes32 c.0.0) ++ r) rows.0 ∙ ap (λ (k : ℕ). (MAGIC ++ bytes32 b.0.0 ++ bytes32 k) ++ flat_map row_bytes d.0) (sym rows.1) in
     let made : Cache = record { last = b.0.0; rows = d.0 } in
-    subst (λ (y : Cache). bytes ≡ MAGIC ++ bytes32 y.last ++ bytes32 (length y.rows) ++ flat_map row_bytes y.rows) (ok_is made cache d.2) whole
+    subst (λ (y : Cache). bytes ≡ MAGIC ++ bytes32 y.last ++ bytes32 (length y.rows) ++ flat_map row_bytes y.rows) (ok_same made cache d.2) whole
 
 pub read_takes : (bytes : List ℕ) (cache : Cache) → IsBytes bytes → read bytes ≡ Ok cache → (is_cache cache ≡ true) × (bytes ≡ cache_bytes cache)
 unfolding read
@@ -139,7 +140,7 @@ pub is_read : (bytes : List ℕ) (cache : Cache) → IsCacheOf bytes cache → r
 is_read bytes cache of = ap read of.in_bytes ∙ read_again cache of.is_spelled
 
 pub is_one : (bytes : List ℕ) (cache other : Cache) → IsCacheOf bytes cache → IsCacheOf bytes other → cache ≡ other
-is_one bytes cache other one two = ok_is cache other (sym (is_read bytes cache one) ∙ is_read bytes other two)
+is_one bytes cache other one two = ok_same cache other (sym (is_read bytes cache one) ∙ is_read bytes other two)
 
 -- ---- what a writer needs
 

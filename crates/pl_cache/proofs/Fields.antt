@@ -1,24 +1,20 @@
 -- A field that is read is the field that was written, and what was written is read again.
-use Rattle.std.proofs.Common.{◌≡◌, ℕ, zero, suc, ◌^◌, ◌<◌, ◌≤◌, Bool, true, false, cond, ltb, List, [], ◌∷◌, ◌++◌, length, take, drop, Result, Ok, Err, refl, sym, ap, subst, ◌∙◌, append_assoc, arith, zero-add}
+use Rattle.std.proofs.Common.{◌≡◌, ℕ, zero, suc, ◌^◌, ◌<◌, ◌≤◌, Bool, true, false, cond, ltb, List, [], ◌∷◌, ◌++◌, length, take, drop, Result, Ok, Err, refl, sym, ap, subst, ◌∙◌, append_assoc, arith}
 use Rattle.std.specs.Prelude.{if◌then◌else◌}
 use Rattle.std.proofs.lemmas.Bool.{ltb-false, le-ltb}
 use Rattle.std.proofs.lemmas.List.{take_at, drop_at, take-append-drop, length-append, length-take}
 use Rattle.std.specs.List.{flat_map}
 use Rattle.std.proofs.lemmas.List.Concat.{flat_map-cons}
 use Rattle.pl_base.specs.Answers.{◌>>=◌}
-use Rattle.pl_base.specs.Bytes.{IsBytes, word32, word64, bytes32, bytes64, put}
+use Rattle.pl_base.specs.Bytes.{IsBytes, word32, word64, bytes32, bytes64}
 use Rattle.pl_base.specs.Names.{is_valid_name}
-use Rattle.pl_base.proofs.WordLaws.{is_bytes_drop, bytes32_word, bytes64_word, length_bytes32, length_bytes64, word32_put, word64_put}
+use Rattle.pl_base.proofs.AnswerLaws.{bind_ok, ok_same}
+use Rattle.pl_base.proofs.WordLaws.{is_bytes_drop, bytes32_word, bytes64_word, length_bytes32, length_bytes64, word32_back, word64_back}
 use Rattle.pl_slots.specs.declared.slot.Slot.{Slot}
 use Rattle.pl_cache.specs.declared.fault.CacheFault.{CacheFault}
 use Rattle.pl_cache.specs.declared.fault.CacheFault.TheVariants.{BadCache}
 use Rattle.pl_cache.specs.Spelling.{name_bytes, row_bytes}
 use Rattle.pl_cache.specs.Reading.{number32_at, number64_at, name_of_size, name_at, row_at, rows_at}
-
--- the value of a step that did not fail
-pub bind_ok : {A B : Type 0} (r : Result A CacheFault) (f : A → Result B CacheFault) (y : B) → (r >>= f) ≡ Ok y → (x : A) × (r ≡ Ok x) × (f x ≡ Ok y)
-bind_ok (Ok x) f y e = (x, refl, e)
-bind_ok (Err d) f y e = absurd cc
 
 -- a test that did not fail
 pub guard_ok : {A : Type 0} (b : Bool) (d : CacheFault) (x y : A) → cond b (Err d) (Ok x) ≡ Ok y → (b ≡ false) × (x ≡ y)
@@ -34,12 +30,6 @@ passed false d x y e = absurd cc
 pub guard_then : {A : Type 0} (b : Bool) (d : CacheFault) (r : Result A CacheFault) (y : A) → cond b (Err d) r ≡ Ok y → (b ≡ false) × (r ≡ Ok y)
 guard_then true d r y e = absurd cc
 guard_then false d r y e = (refl, e)
-
-abbrev done : {A : Type 0} → A → Result A CacheFault
-done x = Ok x
-
-pub ok_is : {A : Type 0} (x y : A) → done x ≡ done y → x ≡ y
-ok_is x y e = cc
 
 -- what a reader took from the front
 pub record Takes (bytes text rest : List ℕ) : Type 0 where
@@ -59,19 +49,11 @@ number32_takes bytes x fits e =
     let front : bytes32 (word32 0 bytes) ≡ take 4 bytes = bytes32_word 0 bytes (omega (arith, long)) fits in
     subst (λ (y : ℕ × List ℕ). Takes bytes (bytes32 y.0) y.1) g.1 (record { parts = rw front (sym (take-append-drop 4 bytes)); rest_fits = is_bytes_drop 4 bytes fits })
 
-put_front : (new rest : List ℕ) → put 0 new (new ++ rest) ≡ new ++ rest
-unfolding put
-put_front new rest = rw (zero-add, drop_at new rest (length new) refl) refl
-
-word32_again : (n : ℕ) (rest : List ℕ) → n < 2 ^ 32 → word32 0 (bytes32 n ++ rest) ≡ n
-word32_again n rest lt =
-    sym (ap (word32 0) (put_front (bytes32 n) rest)) ∙ word32_put 0 n (bytes32 n ++ rest) (omega (arith, length-append (bytes32 n) rest, length_bytes32 n)) lt
-
 pub number32_again : (n : ℕ) (rest : List ℕ) → n < 2 ^ 32 → number32_at (bytes32 n ++ rest) ≡ Ok (n, rest)
 unfolding number32_at
 number32_again n rest lt =
     let long : ltb (length (bytes32 n ++ rest)) 4 ≡ false = le-ltb _ _ (omega (arith, length-append (bytes32 n) rest, length_bytes32 n)) in
-    rw (long, word32_again n rest lt, drop_at (bytes32 n) rest 4 (length_bytes32 n)) refl
+    rw (long, word32_back n rest lt, drop_at (bytes32 n) rest 4 (length_bytes32 n)) refl
 
 pub number64_takes : (bytes : List ℕ) (x : ℕ × List ℕ) → IsBytes bytes → number64_at bytes ≡ Ok x → Takes bytes (bytes64 x.0) x.1
 unfolding number64_at
@@ -81,15 +63,11 @@ number64_takes bytes x fits e =
     let front : bytes64 (word64 0 bytes) ≡ take 8 bytes = bytes64_word 0 bytes (omega (arith, long)) fits in
     subst (λ (y : ℕ × List ℕ). Takes bytes (bytes64 y.0) y.1) g.1 (record { parts = rw front (sym (take-append-drop 8 bytes)); rest_fits = is_bytes_drop 8 bytes fits })
 
-word64_again : (n : ℕ) (rest : List ℕ) → n < 2 ^ 64 → word64 0 (bytes64 n ++ rest) ≡ n
-word64_again n rest lt =
-    sym (ap (word64 0) (put_front (bytes64 n) rest)) ∙ word64_put 0 n (bytes64 n ++ rest) (omega (arith, length-append (bytes64 n) rest, length_bytes64 n)) lt
-
 pub number64_again : (n : ℕ) (rest : List ℕ) → n < 2 ^ 64 → number64_at (bytes64 n ++ rest) ≡ Ok (n, rest)
 unfolding number64_at
 number64_again n rest lt =
     let long : ltb (length (bytes64 n ++ rest)) 8 ≡ false = le-ltb _ _ (omega (arith, length-append (bytes64 n) rest, length_bytes64 n)) in
-    rw (long, word64_again n rest lt, drop_at (bytes64 n) rest 8 (length_bytes64 n)) refl
+    rw (long, word64_back n rest lt, drop_at (bytes64 n) rest 8 (length_bytes64 n)) refl
 
 -- ---- names
 
@@ -127,7 +105,7 @@ row_takes bytes x fits e =
     let t01 = Takes-then bytes (name_bytes a.0.0) a.0.1 (bytes64 b.0.0) b.0.1 t0 t1 in
     let t02 = Takes-then bytes (name_bytes a.0.0 ++ bytes64 b.0.0) b.0.1 (bytes64 c.0.0) c.0.1 t01 t2 in
     let made : Slot × List ℕ = (record { name = a.0.0; start = b.0.0; span = c.0.0 }, c.0.1) in
-    subst (λ (y : Slot × List ℕ). Takes bytes (row_bytes y.0) y.1) (ok_is made x c.2) t02
+    subst (λ (y : Slot × List ℕ). Takes bytes (row_bytes y.0) y.1) (ok_same made x c.2) t02
 
 -- what a row's test says of its numbers
 pub record RowFits (slot : Slot) : Type 0 where
@@ -145,7 +123,7 @@ row_again slot rest fits =
 pub rows_take : (n : ℕ) (bytes : List ℕ) (x : List Slot × List ℕ) → IsBytes bytes → rows_at n bytes ≡ Ok x → Takes bytes (flat_map row_bytes x.0) x.1 × (length x.0 ≡ n)
 unfolding rows_at
 rows_take zero bytes x fits e =
-    subst (λ (y : List Slot × List ℕ). Takes bytes (flat_map row_bytes y.0) y.1 × (length y.0 ≡ 0)) (ok_is ([], bytes) x e) (record { parts = refl; rest_fits = fits }, refl)
+    subst (λ (y : List Slot × List ℕ). Takes bytes (flat_map row_bytes y.0) y.1 × (length y.0 ≡ 0)) (ok_same ([], bytes) x e) (record { parts = refl; rest_fits = fits }, refl)
 rows_take (suc n) bytes x fits e =
     let a = bind_ok (row_at bytes) (λ first. rows_at n first.1 >>= λ others. Ok (first.0 ∷ others.0, others.1)) x e in
     let b = bind_ok (rows_at n a.0.1) (λ others. Ok (a.0.0 ∷ others.0, others.1)) x a.2 in
@@ -153,7 +131,7 @@ rows_take (suc n) bytes x fits e =
     let second = rows_take n a.0.1 b.0 first.rest_fits b.1 in
     let both = Takes-then bytes (row_bytes a.0.0) a.0.1 (flat_map row_bytes b.0.0) b.0.1 first second.0 in
     let made : List Slot × List ℕ = (a.0.0 ∷ b.0.0, b.0.1) in
-    subst (λ (y : List Slot × List ℕ). Takes bytes (flat_map row_bytes y.0) y.1 × (length y.0 ≡ suc n)) (ok_is made x b.2) (rw flat_map-cons both, ap suc second.1)
+    subst (λ (y : List Slot × List ℕ). Takes bytes (flat_map row_bytes y.0) y.1 × (length y.0 ≡ suc n)) (ok_same made x b.2) (rw flat_map-cons both, ap suc second.1)
 
 abbrev pub all_fit : List Slot → Type 0
 all_fit [] = Unit {0}

@@ -95,17 +95,6 @@ stopped_by told meant disk fault h =
       | false ↦ λ means. λ tells _. means tells
     ] h
 
--- files that were all given do not start
-pub fails_by : (fs : List ObjectFile) (fault : LoadFault) → Answers is_memory (Err fault) (start.started fs) → Stops true true (because cause_of (start.started fs)) ⊥ ⊥ (of_load_fault fault)
-fails_by fs fault h = stopped_by true (because cause_of (start.started fs)) ⊥ fault (λ _. means)
-  where
-    means : MatchBool (is_memory fault) ⊤ (because cause_of (start.started fs) ≡ Err (cause_of fault))
-    means =
-        elim (is_memory fault) as (λ b. MatchBool b ⊤ (start.started fs ≡ Err fault) → MatchBool b ⊤ (because cause_of (start.started fs) ≡ Err (cause_of fault))) [
-          | true ↦ λ _. tt
-          | false ↦ λ is. ap (because cause_of) is
-        ] h
-
 -- ---- the whole load
 
 pub bad_name : (files : Files) (name : List ℕ) → is_valid_name name ≡ false → loaded files name ≡ Err BadName

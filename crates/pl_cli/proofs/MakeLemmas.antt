@@ -3,7 +3,7 @@ use Rattle.std.proofs.Common.{◌≡◌, ◌≤◌, ◌<◌, ℕ, List, length, 
 use Rattle.std.specs.Prelude.{Result, Ok, Err, is_some, not, nat_lt}
 use Rattle.std.specs.FinMap.{insert, keys}
 use Rattle.std.proofs.lemmas.Bool.Decides.{nat_tests}
-use Rattle.pl_base.specs.Answers.{unless, because, Answers, ◌>>=◌}
+use Rattle.pl_base.specs.Answers.{unless, because, ◌>>=◌}
 use Rattle.pl_base.specs.Counts.{Rose}
 use Rattle.pl_base.specs.Files.{Files}
 use Rattle.pl_base.specs.Names.{is_valid_name}
@@ -14,7 +14,7 @@ use Rattle.pl_folder.specs.declared.fault.FolderFault.{FolderFault}
 use Rattle.pl_folder.specs.declared.fault.FolderFault.TheVariants as folder_faults
 use Rattle.pl_folder.specs.Calls as calls
 use Rattle.pl_folder.specs.Replaced.{replaced, LeavesOldOrNew}
-use Rattle.pl_build.specs.Build.{build, is_memory}
+use Rattle.pl_build.specs.Build.{build, Builds}
 use Rattle.pl_build.specs.declared.fault.RecipeFault.{RecipeFault}
 use Rattle.pl_build.specs.declared.fault.RecipeFault.TheVariants as recipe_faults
 use Rattle.pl_cli.specs.declared.cause.Cause.{Cause}
@@ -62,7 +62,7 @@ told_bytes left recipe is told = ap bytes_of (is told)
 
 -- what was read has a fault
 pub unbuilt : (left : Option (List ℕ)) (recipe : List ℕ) (source : Type 0) (fault : RecipeFault) → (is_some left ≡ true → left ≡ Some recipe) → length recipe ≤ RECIPE
-    → Answers is_memory (Err fault) (build recipe) → Stops true (is_some left) (built (bytes_of left)) ⊥ source (of_recipe_fault fault)
+    → Builds (Err fault) (build recipe) → Stops true (is_some left) (built (bytes_of left)) ⊥ source (of_recipe_fault fault)
 unbuilt left recipe source (recipe_faults.Bad number kind) is few bad = λ _ told. ap built (told_bytes left recipe is told) ∙ input_is_read recipe few ∙ ap (because recipe_cause) bad
 unbuilt left recipe source recipe_faults.NoMemory is few bad = tt
 

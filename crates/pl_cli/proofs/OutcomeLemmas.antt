@@ -36,7 +36,7 @@ module _ (files input : Bool) (a : Answer) (disk sink : Type 0) (old new : Optio
   outcome_is_part statuses.ReadFault h f i = subst (λ (n : Option (List ℕ)). GotPrefix old n a.text) (sym h) (GotPrefix-none old a.text)
   outcome_is_part statuses.WriteFault h f i = h.1 f i
   outcome_is_part statuses.DiskFault h f i = subst (λ (n : Option (List ℕ)). GotPrefix old n a.text) (sym h.1) (GotPrefix-none old a.text)
-  outcome_is_part statuses.NoMemory h f i = h f i
+  outcome_is_part statuses.NoMemory h f i = subst (λ (n : Option (List ℕ)). GotPrefix old n a.text) (sym h) (GotPrefix-none old a.text)
 
 -- no file changed, and by the answer none was to
 module _ (input : Bool) (before next after : Files) (none : next ≡ before) (same : after ≡ before) where
@@ -79,4 +79,4 @@ module _ (told : Bool) (a b : Answer) (disk sink : Type 0) (old new : Option (Li
   outcome_told statuses.ReadFault h = h
   outcome_told statuses.WriteFault h = (h.0, part_told (h.1 refl refl))
   outcome_told statuses.DiskFault h = absurd h.0
-  outcome_told statuses.NoMemory h = part_told (h refl refl)
+  outcome_told statuses.NoMemory h = h

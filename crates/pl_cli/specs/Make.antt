@@ -5,17 +5,15 @@ use Rattle.pl_base.specs.Answers.{◌>>=◌, unless, because}
 use Rattle.pl_base.specs.Files.{Files}
 use Rattle.pl_base.specs.Names.{is_valid_name}
 use Rattle.pl_build.specs.Build.{build}
-use Rattle.pl_build.specs.declared.fault.RecipeFault.{RecipeFault}
-use Rattle.pl_build.specs.declared.fault.RecipeFault.TheVariants.{Bad, NoMemory}
+use Rattle.pl_build.specs.declared.checks.Fault.{Fault}
 use Rattle.pl_cli.specs.declared.cause.Cause.{Cause}
 use Rattle.pl_cli.specs.declared.cause.Cause.TheVariants.{BadName, InputTooLarge, Recipe, TooManyFiles}
 use Rattle.pl_cli.specs.declared.make.TheConstants.{RECIPE}
 use Rattle.pl_cli.specs.ValidFiles.{is_full}
 
--- a fault of a recipe as a cause. No recipe means a want of memory, so what stands for it never comes.
-abbrev pub recipe_cause : RecipeFault → Cause
-recipe_cause (Bad number kind) = Recipe number kind
-recipe_cause NoMemory = BadName
+-- a fault of a recipe as a cause
+abbrev pub recipe_cause : Fault → Cause
+recipe_cause fault = Recipe fault.line fault.kind
 
 -- the file of the recipe in an input, or why there is none
 unfoldable pub built : List ℕ → Result (List ℕ) Cause

@@ -19,6 +19,7 @@ use Rattle.pl_cli.specs.declared.stop.Stop.TheVariants as stops
 use Rattle.pl_cli.specs.ValidFiles.{SameFiles}
 use Rattle.pl_cli.specs.Load.{cause_of}
 use Rattle.pl_cli.specs.Answer.{Answer, usage}
+use Rattle.pl_cli.specs.Refusals.{refusal}
 use Rattle.pl_cli.specs.Words.{Command}
 
 -- Why a command stopped: at a fault of the folder its count rose, and so of the input; a want of memory may come at any time; a cause is the one that the files and the input mean, where the folder and the input tell them.
@@ -71,6 +72,10 @@ IsPart files input answer old new = files ≡ true → input ≡ true → GotPre
 abbrev pub Ends : Status → List ℕ → Type 0 → Option (List ℕ) → Option (List ℕ) → Status → Type 0
 Ends status text sink old new result = ((result ≡ status) × (new ≡ got_after old text)) ⊎ ((result ≡ statuses.WriteFault) × sink × GotPrefix old new text)
 
+-- the line of a refusal was written whole or the output failed in it, or there was no memory for it
+abbrev pub IsRefusal : Cause → Type 0 → Option (List ℕ) → Option (List ℕ) → Status → Type 0
+IsRefusal cause sink old new result = ((result ≡ statuses.NoMemory) × (new ≡ old)) ⊎ Ends statuses.Refused (refusal cause) sink old new result
+
 -- Words that are no command: the usage line was written whole or the output failed in it, and folder and input are as they were. Other words never end with the usage line.
 abbrev pub IsUsage : Option Command → Type 0 → Option (List ℕ) → Option (List ℕ) → Status → Type 0
 IsUsage None same old new result = same × (((result ≡ statuses.Usage) × (new ≡ got_after old usage)) ⊎ ((result ≡ statuses.WriteFault) × GotPrefix old new usage))
@@ -80,7 +85,7 @@ IsUsage (Some asked) same old new result = result ≢ statuses.Usage
 abbrev pub IsOutcome : Bool → Bool → Answer → Type 0 → Type 0 → Option (List ℕ) → Option (List ℕ) → Status → Type 0
 IsOutcome files input answer disk sink old new statuses.WriteFault = sink × IsPart files input answer old new
 IsOutcome files input answer disk sink old new statuses.DiskFault = disk × (new ≡ old)
-IsOutcome files input answer disk sink old new statuses.NoMemory = IsPart files input answer old new
+IsOutcome files input answer disk sink old new statuses.NoMemory = new ≡ old
 IsOutcome files input answer disk sink old new statuses.ReadFault = new ≡ old
 IsOutcome files input answer disk sink old new statuses.Done = IsWhole files input answer old new statuses.Done
 IsOutcome files input answer disk sink old new statuses.Differs = IsWhole files input answer old new statuses.Differs

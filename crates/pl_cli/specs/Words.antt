@@ -2,6 +2,7 @@
 use Rattle.std.specs.Prelude.{ℕ, Bool, true, false, ◌||◌, not, List, [], ◌∷◌, codes, Option, Some, None, is_some, nat_eq, if◌then◌else◌, unwrap_or}
 use Rattle.std.specs.List.{starts_with}
 use Rattle.std.specs.Str.{bytes_eq}
+use Rattle.pl_base.specs.Names.{is_valid_name}
 use Rattle.pl_cli.specs.declared.mode.Mode.{Mode}
 use Rattle.pl_cli.specs.declared.mode.Mode.TheVariants.{Load, Make}
 
@@ -32,6 +33,11 @@ makes Make = true
 abbrev pub is_make : Option Command → Bool
 is_make (Some asked) = makes asked.0
 is_make None = false
+
+-- whether the name is not valid: the command is then refused, and asks neither folder nor input
+abbrev pub has_bad_name : Option Command → Bool
+has_bad_name (Some asked) = not (is_valid_name asked.1)
+has_bad_name None = false
 
 -- whether the input tells what the command reads of it
 abbrev pub is_told : Option Command → Option (List ℕ) → Bool

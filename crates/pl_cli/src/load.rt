@@ -1,7 +1,8 @@
 // The load of a folder's program by its name.
-ghost use Rattle.std.specs.Prelude.{◌≡◌, ◌≤◌, ◌<◌, ◌^◌, Ok, None, IfErr, IfOk, true, vec_len};
+ghost use Rattle.std.specs.Prelude.{◌≡◌, ◌≤◌, ◌<◌, ◌^◌, Ok, None, IfErr, IfOk, false, true, vec_len};
 ghost use Rattle.pl_base.specs.Answers.{because};
 ghost use Rattle.pl_base.specs.Counts.{Rose};
+ghost use Rattle.pl_base.specs.Names.{is_valid_name};
 ghost use Rattle.pl_scope.specs.Walking.{wants};
 ghost use Rattle.pl_loader.specs.Started as meant;
 ghost use Rattle.pl_cli.specs.Load as spec;
@@ -45,7 +46,7 @@ fn take<D: Folder>(alloc: Global, folder: &mut D, name: &str) -> Result<Vec<u8>,
     }
 }
 
-/// The load of a name that was given the files of its whole walk, one after the other as it wanted them; or the first cause that came before.
+/// The load of a name that was given the files of its whole walk, one after the other as it wanted them; or the first cause that came before. For a name that is not valid the folder is not asked.
 pub fn load<D: Folder>(alloc: Global, folder: &mut D, name: &str) -> Result<Loader, Stop>
     ensures all { IfOk result (λ loader. wants loader.order ≡ None) }
     ensures ok { IfOk result (λ loader. D.tells_files folder.old ≡ true → spec.loaded (D.files folder.old) name.now ≡ because spec.cause_of (meant.started loader.files)) }
@@ -54,6 +55,7 @@ pub fn load<D: Folder>(alloc: Global, folder: &mut D, name: &str) -> Result<Load
     ensures same { D.tells_files folder.old ≡ true → D.files folder.new ≡ D.files folder.old }
     ensures counts { D.faults folder.old ≤ D.faults folder.new }
     ensures place { D.place folder.new ≡ D.place folder.old }
+    ensures unasked { is_valid_name name.now ≡ false → folder.new ≡ folder.old }
 {
     if !is_valid_name(name.as_bytes()) {
         return Err(Stop::Cause(Cause::BadName));

@@ -1,5 +1,5 @@
 // A file that is made of the recipe in an input.
-ghost use Rattle.std.specs.Prelude.{◌≡◌, ◌≤◌, Ok, IfErr, IfOk, OnOk, is_some, string_bytes, true};
+ghost use Rattle.std.specs.Prelude.{◌≡◌, ◌≤◌, Ok, IfErr, IfOk, OnOk, false, is_some, string_bytes, true};
 ghost use Rattle.pl_base.specs.Counts.{Rose};
 ghost use Rattle.pl_base.specs.Names.{is_valid_name};
 ghost use Rattle.pl_cli.specs.Answer.{make_answer};
@@ -33,7 +33,7 @@ fn built<S: Source>(alloc: Global, input: &mut S) -> Result<Rows<u8>, Stop>
     Ok(build(alloc, &recipe)?)
 }
 
-/// The file that is to be stored under the name, or the first cause why there is none. The folder stays as it is.
+/// The file that is to be stored under the name, or the first cause why there is none. The folder stays as it is. For a name that is not valid neither folder nor input is asked.
 fn made<D: Folder, S: Source>(
     alloc: Global,
     name: &str,
@@ -50,6 +50,7 @@ fn made<D: Folder, S: Source>(
     ensures folder_counts { D.faults folder.old ≤ D.faults folder.new }
     ensures input_tells { is_some (S.left input.new) ≡ is_some (S.left input.old) }
     ensures input_counts { S.faults input.old ≤ S.faults input.new }
+    ensures unasked { is_valid_name name.now ≡ false → (folder.new ≡ folder.old) × (input.new ≡ input.old) }
 {
     if !is_valid_name(name.as_bytes()) {
         return Err(Stop::Cause(Cause::BadName));
@@ -85,6 +86,7 @@ pub fn make<D: Folder, S: Source>(
     ensures folder_counts { D.faults folder.old ≤ D.faults folder.new }
     ensures input_tells { is_some (S.left input.new) ≡ is_some (S.left input.old) }
     ensures input_counts { S.faults input.old ≤ S.faults input.new }
+    ensures unasked { is_valid_name name.now ≡ false → (folder.new ≡ folder.old) × (input.new ≡ input.old) }
 {
     let bytes = made(alloc, name, folder, input)?;
     let line = made_text(alloc, name)?;

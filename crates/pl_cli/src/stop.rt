@@ -1,4 +1,5 @@
 ghost use Rattle.std.specs.Prelude.{◌≡◌};
+ghost use Rattle.pl_cli.specs.declared.stop.Stop.TheVariants as stops;
 
 use crate::cause::Cause;
 use pl_build::RecipeFault;
@@ -21,8 +22,6 @@ pub enum Stop {
 }
 
 impl From<AllocError> for Stop {
-    ghost use Rattle.pl_cli.specs.declared.stop.Stop.TheVariants as stops;
-
     ghost from_gives = { λ _ stop. stop ≡ stops.NoMemory };
 
     fn from(_: AllocError) -> Stop {
@@ -31,8 +30,6 @@ impl From<AllocError> for Stop {
 }
 
 impl From<NoMemory> for Stop {
-    ghost use Rattle.pl_cli.specs.declared.stop.Stop.TheVariants as stops;
-
     ghost from_gives = { λ _ stop. stop ≡ stops.NoMemory };
 
     fn from(_: NoMemory) -> Stop {

@@ -3,16 +3,18 @@ ghost use Rattle.std.specs.Prelude.{◌≡◌, ◌≢◌, ◌≤◌, None, Some,
 ghost use Rattle.pl_base.specs.Answers.{because};
 ghost use Rattle.pl_base.specs.Counts.{Rose};
 ghost use Rattle.pl_base.specs.Files.{Files};
+ghost use Rattle.pl_base.specs.Names.{is_valid_name};
 ghost use Rattle.pl_base.specs.Streams.{GotPrefix, got_after};
 ghost use Rattle.pl_scope.specs.Walking.{wants};
 ghost use Rattle.pl_loader.specs.Started.{started};
 ghost use Rattle.pl_cli.specs.Answer.{answer, command_answer, is_answer, load_answer, make_answer};
 ghost use Rattle.pl_cli.specs.Load.{cause_of, loaded};
 ghost use Rattle.pl_cli.specs.Make.{made};
-ghost use Rattle.pl_cli.specs.Outcome.{Ends, IsOutcome, IsUsage, LeavesFiles};
+ghost use Rattle.pl_cli.specs.Outcome.{Ends, IsOutcome, IsRefusal, IsUsage, LeavesFiles};
 ghost use Rattle.pl_cli.specs.Words as spec;
 
 use crate::Status;
+use crate::cause::Cause;
 use crate::load::{load, start};
 use crate::make::make;
 use crate::mode::Mode;
@@ -38,6 +40,17 @@ fn finish<K: Sink>(output: &mut K, text: &[u8], status: Status) -> Status
     }
 }
 
+/// Writes the line of a refusal for a cause, unless there is no memory for it.
+fn refuse<K: Sink>(alloc: Global, cause: Cause, output: &mut K) -> Status
+    ensures ends { IsRefusal cause (Rose (K.faults output.old) (K.faults output.new)) (K.written output.old) (K.written output.new) result }
+    ensures counts { K.faults output.old ≤ K.faults output.new }
+{
+    match refusal(alloc, cause) {
+        Ok(line) => finish(output, &line, Status::Refused),
+        Err(_) => Status::NoMemory,
+    }
+}
+
 /// Writes what a program starts from whose files were all given, or the line of the first cause why it does not.
 fn start_and_write<K: Sink>(alloc: Global, loader: &Loader, output: &mut K) -> Status
     requires { wants loader.now.order ≡ None }
@@ -53,10 +66,7 @@ fn start_and_write<K: Sink>(alloc: Global, loader: &Loader, output: &mut K) -> S
             Err(WriteStop::Failed) => Status::WriteFault,
             Err(WriteStop::NoMemory) => Status::NoMemory,
         },
-        Err(Stop::Cause(cause)) => match refusal(alloc, cause) {
-            Ok(line) => finish(output, &line, Status::Refused),
-            Err(_) => Status::NoMemory,
-        },
+        Err(Stop::Cause(cause)) => refuse(alloc, cause, output),
         Err(_) => Status::NoMemory,
     }
 }
@@ -75,6 +85,7 @@ fn load_and_write<D: Folder, K: Sink>(
     ensures place { D.place folder.new ≡ D.place folder.old }
     ensures folder_counts { D.faults folder.old ≤ D.faults folder.new }
     ensures output_counts { K.faults output.old ≤ K.faults output.new }
+    ensures unasked { is_valid_name name.now ≡ false → folder.new ≡ folder.old }
     ensures usage { result ≢ Status.Usage }
     ensures read_fault { result ≢ Status.ReadFault }
 {
@@ -83,10 +94,7 @@ fn load_and_write<D: Folder, K: Sink>(
         Err(Stop::Failed) => Status::DiskFault,
         Err(Stop::InputFailed) => Status::ReadFault,
         Err(Stop::NoMemory) => Status::NoMemory,
-        Err(Stop::Cause(cause)) => match refusal(alloc, cause) {
-            Ok(line) => finish(output, &line, Status::Refused),
-            Err(_) => Status::NoMemory,
-        },
+        Err(Stop::Cause(cause)) => refuse(alloc, cause, output),
     }
 }
 
@@ -109,6 +117,7 @@ fn make_and_write<D: Folder, S: Source, K: Sink>(
     ensures folder_counts { D.faults folder.old ≤ D.faults folder.new }
     ensures input_counts { S.faults input.old ≤ S.faults input.new }
     ensures output_counts { K.faults output.old ≤ K.faults output.new }
+    ensures unasked { is_valid_name name.now ≡ false → (folder.new ≡ folder.old) × (input.new ≡ input.old) }
     ensures usage { result ≢ Status.Usage }
 {
     match make(alloc, name, folder, input) {
@@ -116,10 +125,7 @@ fn make_and_write<D: Folder, S: Source, K: Sink>(
         Err(Stop::Failed) => Status::DiskFault,
         Err(Stop::InputFailed) => Status::ReadFault,
         Err(Stop::NoMemory) => Status::NoMemory,
-        Err(Stop::Cause(cause)) => match refusal(alloc, cause) {
-            Ok(line) => finish(output, &line, Status::Refused),
-            Err(_) => Status::NoMemory,
-        },
+        Err(Stop::Cause(cause)) => refuse(alloc, cause, output),
     }
 }
 
@@ -145,6 +151,7 @@ fn run_command<D: Folder, S: Source, K: Sink>(
     ensures folder_counts { D.faults folder.old ≤ D.faults folder.new }
     ensures input_counts { S.faults input.old ≤ S.faults input.new }
     ensures output_counts { K.faults output.old ≤ K.faults output.new }
+    ensures unasked { is_valid_name name.now ≡ false → (folder.new ≡ folder.old) × (input.new ≡ input.old) }
     ensures usage { result ≢ Status.Usage }
 {
     match mode {
@@ -175,6 +182,7 @@ fn run_words<D: Folder, S: Source, K: Sink>(
     ensures folder_counts { D.faults folder.old ≤ D.faults folder.new }
     ensures input_counts { S.faults input.old ≤ S.faults input.new }
     ensures output_counts { K.faults output.old ≤ K.faults output.new }
+    ensures unasked { spec.has_bad_name (spec.command (map string_bytes words.now)) ≡ true → (folder.new ≡ folder.old) × (input.new ≡ input.old) }
     ensures usage { IsUsage (spec.command (map string_bytes words.now)) ((folder.new ≡ folder.old) × (input.new ≡ input.old)) (K.written output.old) (K.written output.new) result }
 {
     match command(words) {
@@ -185,7 +193,7 @@ fn run_words<D: Folder, S: Source, K: Sink>(
 
 /// Does what the words after the program's name ask for.
 ///
-/// The answer is a definition over the words, the folder's files and the bytes of the input: a status, a text for the output, and the next files under valid names. `Done`, `Differs`, `Usage` and `Refused` come only with the whole of it. A fault comes only where the count of its object rose: `ReadFault` and `DiskFault` before anything was written, `WriteFault` after some first bytes of the text. `NoMemory` may come at any time, after some first bytes. Files under valid names are those of the answer, or after `ReadFault` and `NoMemory` those before, or after `DiskFault` all of the one or all of the other. Only `--make` reads the input and writes to the folder.
+/// The answer is a definition over the words, the folder's files and the bytes of the input: a status, a text for the output, and the next files under valid names. `Done`, `Differs`, `Usage` and `Refused` come only with the whole of it. A fault comes only where the count of its object rose: `ReadFault` and `DiskFault` before anything was written, `WriteFault` after some first bytes of the text. `NoMemory` may come at any time before anything was written. Files under valid names are those of the answer, or after `ReadFault` and `NoMemory` those before, or after `DiskFault` all of the one or all of the other. Only `--make` reads the input and writes to the folder.
 #[tactic(auto, using(crate::proofs::OutcomeLemmas::outcome_is_whole, crate::proofs::OutcomeLemmas::outcome_is_part))]
 pub fn run<D: Folder, S: Source, K: Sink>(
     alloc: Global,
@@ -214,9 +222,13 @@ pub fn run<D: Folder, S: Source, K: Sink>(
     ensures write_fault { result ≡ Status.WriteFault → Rose (K.faults output.old) (K.faults output.new) }
     ensures disk_fault { result ≡ Status.DiskFault → Rose (D.faults folder.old) (D.faults folder.new) }
     ensures disk_fault_early { result ≡ Status.DiskFault → K.written output.new ≡ K.written output.old }
+    ensures no_memory_early { result ≡ Status.NoMemory → K.written output.new ≡ K.written output.old }
 
     // Words that are no command are answered by the usage line, over every folder and input, and no call of either is made.
     ensures usage { IsUsage (spec.command (map string_bytes words.now)) ((folder.new ≡ folder.old) × (input.new ≡ input.old)) (K.written output.old) (K.written output.new) result }
+
+    // Neither is one made for a name that is not valid.
+    ensures unasked { spec.has_bad_name (spec.command (map string_bytes words.now)) ≡ true → (folder.new ≡ folder.old) × (input.new ≡ input.old) }
 
     // Only `--make` writes to the folder and reads the input.
     ensures folder { spec.is_make (spec.command (map string_bytes words.now)) ≡ false → D.tells_files folder.old ≡ true → D.files folder.new ≡ D.files folder.old }

@@ -19,6 +19,7 @@ pub fn write_start<K: Sink>(
     ensures ok { OnOk result (K.written output.new ≡ got_after (K.written output.old) (load_text (start_of started.now))) }
     ensures err { OnErr result (GotPrefix (K.written output.old) (K.written output.new) (load_text (start_of started.now))) }
     ensures failed { IsErrOf result WriteStop.Failed → Rose (K.faults output.old) (K.faults output.new) }
+    ensures early { IsErrOf result WriteStop.NoMemory → K.written output.new ≡ K.written output.old }
     ensures counts { K.faults output.old ≤ K.faults output.new }
 {
     let head = head_text(alloc, started)?;

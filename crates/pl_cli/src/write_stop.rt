@@ -1,4 +1,5 @@
 ghost use Rattle.std.specs.Prelude.{◌≡◌};
+ghost use Rattle.pl_cli.specs.declared.write_stop.WriteStop.TheVariants as stops;
 
 use pl_io::Failed;
 use std::alloc::AllocError;
@@ -13,8 +14,6 @@ pub enum WriteStop {
 }
 
 impl From<Failed> for WriteStop {
-    ghost use Rattle.pl_cli.specs.declared.write_stop.WriteStop.TheVariants as stops;
-
     ghost from_gives = { λ _ stop. stop ≡ stops.Failed };
 
     fn from(_: Failed) -> WriteStop {
@@ -23,8 +22,6 @@ impl From<Failed> for WriteStop {
 }
 
 impl From<AllocError> for WriteStop {
-    ghost use Rattle.pl_cli.specs.declared.write_stop.WriteStop.TheVariants as stops;
-
     ghost from_gives = { λ _ stop. stop ≡ stops.NoMemory };
 
     fn from(_: AllocError) -> WriteStop {

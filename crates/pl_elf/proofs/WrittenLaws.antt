@@ -1,10 +1,10 @@
 -- Fields written one after the other, and read back.
-use Rattle.std.proofs.Common.{◌≡◌, ◌≤◌, ◌<◌, ℕ, ◌+◌, ◌-◌, ◌^◌, List, [], ◌∷◌, ◌++◌, length, take, drop, refl, sym, ap, ◌∙◌, append_assoc, length-append, length-drop, arith}
+use Rattle.std.proofs.Common.{◌≡◌, ◌<◌, ℕ, ◌+◌, ◌-◌, ◌^◌, List, [], ◌∷◌, ◌++◌, length, take, drop, refl, sym, ap, ◌∙◌, append_assoc, length-append, length-drop, arith}
 use Rattle.std.proofs.Math.Seq.{take-append_seam, drop-append_seam}
 use Rattle.std.proofs.lemmas.List.{drop-drop, drop_all, append-nil}
-use Rattle.byteorder.specs.Endian.{little_number}
 use Rattle.byteorder.specs.Numbers.{little_number-reads_back}
-use Rattle.pl_base.specs.Bytes.{bytes16, bytes32, bytes64, word16, word32, word64, put, part}
+use Rattle.pl_base.specs.Bytes.{bytes16, bytes32, bytes64, word16, word32, word64, put}
+use Rattle.pl_base.proofs.WordLaws.{word16_back, word32_back, word64_back, word16_behind, word32_behind, word64_behind}
 use Rattle.pl_elf.specs.declared.header.Header.{Header}
 use Rattle.pl_elf.specs.declared.segment.Segment.{Segment}
 use Rattle.pl_elf.specs.declared.section.Section.{Section}
@@ -100,34 +100,6 @@ section_read s name kind flags addr offset size link info addralign entsize =
       little_number-reads_back 8 s.entsize (joined ([])) entsize,
     )
     refl
-
-word16_back : (n : ℕ) (rest : List ℕ) → n < 2 ^ 16 → word16 0 (bytes16 n ++ rest) ≡ n
-unfolding word16 bytes16
-word16_back n rest small = little_number-reads_back 2 n rest small
-
-word32_back : (n : ℕ) (rest : List ℕ) → n < 2 ^ 32 → word32 0 (bytes32 n ++ rest) ≡ n
-unfolding word32 bytes32
-word32_back n rest small = little_number-reads_back 4 n rest small
-
-word64_back : (n : ℕ) (rest : List ℕ) → n < 2 ^ 64 → word64 0 (bytes64 n ++ rest) ≡ n
-unfolding word64 bytes64
-word64_back n rest small = little_number-reads_back 8 n rest small
-
-behind : (front rest : List ℕ) (at : ℕ) → drop (length front + at) (front ++ rest) ≡ drop at rest
-behind front rest at = sym (drop-drop at (length front) (front ++ rest)) ∙ ap (drop at) (drop-append_seam front rest)
-
--- behind a front the numbers stand where they stand in the rest
-word16_behind : (front rest : List ℕ) (at : ℕ) → word16 (length front + at) (front ++ rest) ≡ word16 at rest
-unfolding word16
-word16_behind front rest at = ap (little_number 2) (behind front rest at)
-
-word32_behind : (front rest : List ℕ) (at : ℕ) → word32 (length front + at) (front ++ rest) ≡ word32 at rest
-unfolding word32
-word32_behind front rest at = ap (little_number 4) (behind front rest at)
-
-word64_behind : (front rest : List ℕ) (at : ℕ) → word64 (length front + at) (front ++ rest) ≡ word64 at rest
-unfolding word64
-word64_behind front rest at = ap (little_number 8) (behind front rest at)
 
 pub header_read : (h : Header) → length h.ident ≡ 16 → h.kind < 2 ^ 16 → h.machine < 2 ^ 16 → h.version < 2 ^ 32 → h.entry < 2 ^ 64 → h.phoff < 2 ^ 64 → h.shoff < 2 ^ 64 → h.flags < 2 ^ 32 → h.ehsize < 2 ^ 16 → h.phentsize < 2 ^ 16 → h.phnum < 2 ^ 16 → h.shentsize < 2 ^ 16 → h.shnum < 2 ^ 16 → h.shstrndx < 2 ^ 16
     → header (header_bytes h) ≡ h

@@ -6,7 +6,7 @@ use Rattle.pl_base.specs.Bytes.{byte, part}
 use Rattle.pl_base.specs.Answers.{refuse}
 use Rattle.pl_base.specs.Strings.{has_end}
 use Rattle.pl_base.specs.Windows.{Window, any_share}
-use Rattle.pl_elf.specs.Headers.{header, segment, segment_place, segments, section, sections, is_of_kind, is_load, is_dynamic, loads, count_of_kind}
+use Rattle.pl_elf.specs.Headers.{header, segment, segment_offset, segments, section, sections, is_of_kind, is_load, is_dynamic, loads, count_of_kind}
 use Rattle.pl_elf.specs.declared.constants.TheConstants.{HEADER_SIZE, SEGMENT_SIZE, SECTION_SIZE, EI_MAG0, EI_MAG1, EI_MAG2, EI_MAG3, ELFMAG0, ELFMAG1, ELFMAG2, ELFMAG3, EI_CLASS, EI_DATA, EI_VERSION, ELFCLASS64, ELFDATA2LSB, EV_CURRENT, ET_EXEC, ET_DYN, EM_X86_64, PT_DYNAMIC, PT_INTERP, PT_TLS, SHT_NOBITS, MAX_LOAD_ALIGN, ADDRESS_LIMIT, MAX_SECTIONS}
 use Rattle.pl_elf.specs.declared.header.Header.{Header}
 use Rattle.pl_elf.specs.declared.segment.Segment.{Segment}
@@ -43,7 +43,7 @@ other_machine h = not (h.machine == EM_X86_64)
 
 -- a program header that lies in the file and is PT_DYNAMIC
 unfoldable pub is_seen_dynamic : List ℕ → Header → ℕ → Bool
-is_seen_dynamic bytes h index = not (passes bytes (segment_place h index) SEGMENT_SIZE) && is_dynamic (segment bytes h index)
+is_seen_dynamic bytes h index = not (passes bytes (segment_offset h index) SEGMENT_SIZE) && is_dynamic (segment bytes h index)
 
 unfoldable pub has_dynamic : List ℕ → Header → Bool
 has_dynamic bytes h = list_any (is_seen_dynamic bytes h) (range_with_len 0 h.phnum)

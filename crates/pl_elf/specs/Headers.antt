@@ -54,17 +54,17 @@ section_at bytes at = record {
 }
 
 -- where the program header and the section header of an index begin
-abbrev pub segment_place : Header → ℕ → ℕ
-segment_place h index = h.phoff + SEGMENT_SIZE * index
+abbrev pub segment_offset : Header → ℕ → ℕ
+segment_offset h index = h.phoff + SEGMENT_SIZE * index
 
-abbrev pub section_place : Header → ℕ → ℕ
-section_place h index = h.shoff + SECTION_SIZE * index
+abbrev pub section_offset : Header → ℕ → ℕ
+section_offset h index = h.shoff + SECTION_SIZE * index
 
 abbrev pub segment : List ℕ → Header → ℕ → Segment
-segment bytes h index = segment_at bytes (segment_place h index)
+segment bytes h index = segment_at bytes (segment_offset h index)
 
 abbrev pub section : List ℕ → Header → ℕ → Section
-section bytes h index = section_at bytes (section_place h index)
+section bytes h index = section_at bytes (section_offset h index)
 
 -- all of them, in the order of the tables
 unfoldable pub segments : List ℕ → Header → List Segment

@@ -2,7 +2,7 @@
 ghost use Rattle.std.specs.Prelude.{◌≡◌, ◌+◌, ◌<◌, ◌≤◌, ◌^◌, length};
 ghost use Rattle.std.specs.Bool.{OnFalse};
 ghost use Rattle.std.specs.List.{list_any};
-ghost use Rattle.pl_elf.specs.Headers.{HasSections, HasSegments, sections, segment_place, segments};
+ghost use Rattle.pl_elf.specs.Headers.{HasSections, HasSegments, sections, segment_offset, segments};
 ghost use Rattle.pl_elf.specs.Clauses as spec;
 
 use crate::constants::{
@@ -44,8 +44,8 @@ pub fn other_class(bytes: &[u8]) -> bool
         && bytes[EI_VERSION] == EV_CURRENT)
 }
 
-fn place_of_segment(header: &Header, index: u16) -> u128
-    ensures place { result ≡ segment_place header.now index }
+fn segment_offset(header: &Header, index: u16) -> u128
+    ensures offset { result ≡ segment_offset header.now index }
     ensures small { result < 2 ^ 66 }
 {
     u128::from(header.phoff) + u128::from(SEGMENT_SIZE as u64 * u64::from(index))
@@ -55,7 +55,7 @@ fn place_of_segment(header: &Header, index: u16) -> u128
 fn is_seen_dynamic(bytes: &[u8], header: &Header, index: u16) -> bool
     ensures { result ≡ spec.is_seen_dynamic bytes.now header.now index }
 {
-    !passes(bytes, place_of_segment(header, index), SEGMENT_SIZE as u64)
+    !passes(bytes, segment_offset(header, index), SEGMENT_SIZE as u64)
         && read_segment(bytes, header, index).is_dynamic()
 }
 

@@ -61,7 +61,7 @@ fn section_at(bytes: &[u8], at: usize) -> Section
 
 /// The section at an index of the section header table (gABI chapter 4, "Sections"). Its section header, 64 bytes, has to lie in the file.
 pub fn read_section(bytes: &[u8], header: &Header, index: u16) -> Section
-    requires { spec.section_place header.now index + SECTION_SIZE ≤ length bytes.now }
+    requires { spec.section_offset header.now index + SECTION_SIZE ≤ length bytes.now }
     ensures { result ≡ spec.section bytes.now header.now index }
 {
     section_at(

@@ -69,7 +69,7 @@ fn segment_at(bytes: &[u8], at: usize) -> Segment
 
 /// The segment at an index of the program header table (gABI chapter 5, "Program Header"). Its program header, 56 bytes, has to lie in the file.
 pub fn read_segment(bytes: &[u8], header: &Header, index: u16) -> Segment
-    requires { spec.segment_place header.now index + SEGMENT_SIZE ≤ length bytes.now }
+    requires { spec.segment_offset header.now index + SEGMENT_SIZE ≤ length bytes.now }
     ensures { result ≡ spec.segment bytes.now header.now index }
 {
     segment_at(

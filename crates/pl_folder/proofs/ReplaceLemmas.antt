@@ -1,7 +1,7 @@
 -- A file that is written whole under a name of the program's own and then gets its name: the files on the way.
 use Rattle.std.proofs.Common.{◌≡◌, ℕ, List, [], ◌++◌, Option, ap, ◌∙◌, inl, inr}
 use Rattle.std.specs.Prelude.{unwrap_or}
-use Rattle.std.specs.FinMap.{get, insert, remove}
+use Rattle.std.specs.FinMap.{insert, remove}
 use Rattle.pl_base.specs.Files.{Files}
 use Rattle.pl_base.proofs.FilesLaws.{get-inserted, insert-inserted, remove-inserted}
 use Rattle.pl_folder.specs.declared.writing.TheConstants.{NEW_FILE}

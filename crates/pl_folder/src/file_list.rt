@@ -1,14 +1,7 @@
 ghost use Rattle.std.specs.Prelude.{◌≡◌};
-ghost use Rattle.pl_base.specs.Names as names;
 ghost use Rattle.pl_folder.specs.FileLists as spec;
 
-use pl_base::MAX_NAME;
-
-fn has_name_length(name: &str) -> bool
-    ensures { result ≡ names.has_name_length name.now }
-{
-    !name.is_empty() && name.len() <= MAX_NAME
-}
+use pl_base::has_name_length;
 
 fn has_name(name: &str, files: &[(String, Vec<u8>)]) -> bool
     ensures { result ≡ spec.has_name name.now files.now }
@@ -22,7 +15,7 @@ pub fn are_files(files: &[(String, Vec<u8>)]) -> bool
 {
     for (i, file) in files.iter().enumerate() {
         let name = file.0.as_str();
-        if !has_name_length(name) || has_name(name, &files[i + 1..]) {
+        if !has_name_length(name.as_bytes()) || has_name(name, &files[i + 1..]) {
             return false;
         }
     }

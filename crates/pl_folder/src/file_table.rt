@@ -22,7 +22,7 @@ pub(crate) struct FileTable {
 impl FileTable {
     ghost use Rattle.pl_folder.specs.InMemory.{HasRoom, table_files};
 
-    /// Copies of these files.
+    /// A table of copies of these files. It fails only for want of memory.
     pub(crate) fn copies_of(
         alloc: Global,
         files: &[(String, Vec<u8>)],
@@ -46,7 +46,7 @@ impl FileTable {
             .position(|file| name == file.name.as_str())
     }
 
-    /// The bytes of a name.
+    /// The bytes of the file of a name, where it is there.
     pub(crate) fn look_up(&self, name: &str) -> Option<&[u8]>
         ensures { option_copied result ≡ get (table_files self.now) name.now }
     {

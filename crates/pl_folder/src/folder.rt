@@ -20,7 +20,7 @@ pub trait Folder {
     /// The files by their names, where the folder tells them.
     ghost files: { Self → Files };
 
-    /// How many calls have failed. The count never falls, and stands still at 2^64 - 1.
+    /// How many calls have failed. The count never falls, stays as it is where a call answers Ok, and stands still at 2^64 - 1.
     ghost faults: { Self → ℕ };
 
     /// Where a reference points. No call changes it.
@@ -33,6 +33,7 @@ pub trait Folder {
         ensures fault { IfErr result (Stops (Rose (faults self.old) (faults self.new))) }
         ensures tells { tells_files self.new ≡ tells_files self.old }
         ensures same { tells_files self.old ≡ true → files self.new ≡ files self.old }
+        ensures quiet { OnOk result (faults self.new ≡ faults self.old) }
         ensures counts { faults self.old ≤ faults self.new }
         ensures place { place self.new ≡ place self.old };
 
@@ -46,6 +47,7 @@ pub trait Folder {
         ensures fault { IfErr result (Explains (tells_files self.old) (taken (files self.old) name.now) (Rose (faults self.old) (faults self.new))) }
         ensures tells { tells_files self.new ≡ tells_files self.old }
         ensures same { tells_files self.old ≡ true → files self.new ≡ files self.old }
+        ensures quiet { OnOk result (faults self.new ≡ faults self.old) }
         ensures counts { faults self.old ≤ faults self.new }
         ensures place { place self.new ≡ place self.old };
 
@@ -56,6 +58,7 @@ pub trait Folder {
         ensures err { IfErr result (λ fault. tells_files self.old ≡ true → Leaves (files self.old) (created (files self.old) name.now) (files self.new) fault) }
         ensures fault { IfErr result (Stops (Rose (faults self.old) (faults self.new))) }
         ensures tells { tells_files self.new ≡ tells_files self.old }
+        ensures quiet { OnOk result (faults self.new ≡ faults self.old) }
         ensures counts { faults self.old ≤ faults self.new }
         ensures place { place self.new ≡ place self.old };
 
@@ -67,6 +70,7 @@ pub trait Folder {
         ensures err { IfErr result (λ fault. tells_files self.old ≡ true → LeavesPrefix (files self.old) name.now bytes.now (files self.new) fault) }
         ensures fault { IfErr result (Stops (Rose (faults self.old) (faults self.new))) }
         ensures tells { tells_files self.new ≡ tells_files self.old }
+        ensures quiet { OnOk result (faults self.new ≡ faults self.old) }
         ensures counts { faults self.old ≤ faults self.new }
         ensures place { place self.new ≡ place self.old };
 
@@ -77,6 +81,7 @@ pub trait Folder {
         ensures failed { OnErr result (Rose (faults self.old) (faults self.new)) }
         ensures tells { tells_files self.new ≡ tells_files self.old }
         ensures same { tells_files self.old ≡ true → files self.new ≡ files self.old }
+        ensures quiet { OnOk result (faults self.new ≡ faults self.old) }
         ensures counts { faults self.old ≤ faults self.new }
         ensures place { place self.new ≡ place self.old };
 
@@ -89,6 +94,7 @@ pub trait Folder {
         ensures err { OnErr result (tells_files self.old ≡ true → (files self.new ≡ files self.old) ⊎ (files self.new ≡ renamed (files self.old) from.now to.now)) }
         ensures failed { OnErr result (Rose (faults self.old) (faults self.new)) }
         ensures tells { tells_files self.new ≡ tells_files self.old }
+        ensures quiet { OnOk result (faults self.new ≡ faults self.old) }
         ensures counts { faults self.old ≤ faults self.new }
         ensures place { place self.new ≡ place self.old };
 
@@ -99,6 +105,7 @@ pub trait Folder {
         ensures err { OnErr result (tells_files self.old ≡ true → (files self.new ≡ files self.old) ⊎ (files self.new ≡ remove (files self.old) name.now)) }
         ensures failed { OnErr result (Rose (faults self.old) (faults self.new)) }
         ensures tells { tells_files self.new ≡ tells_files self.old }
+        ensures quiet { OnOk result (faults self.new ≡ faults self.old) }
         ensures counts { faults self.old ≤ faults self.new }
         ensures place { place self.new ≡ place self.old };
 
@@ -107,6 +114,7 @@ pub trait Folder {
         ensures failed { OnErr result (Rose (faults self.old) (faults self.new)) }
         ensures tells { tells_files self.new ≡ tells_files self.old }
         ensures same { tells_files self.old ≡ true → files self.new ≡ files self.old }
+        ensures quiet { OnOk result (faults self.new ≡ faults self.old) }
         ensures counts { faults self.old ≤ faults self.new }
         ensures place { place self.new ≡ place self.old };
 }

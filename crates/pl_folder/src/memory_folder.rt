@@ -51,6 +51,7 @@ impl MemoryFolder {
         ensures fails { is_ok result ≡ not (call_fails self.old) }
         ensures call { IsCounted self.old self.new }
         ensures failed { OnErr result (Rose (folder_script self.old).faults (folder_script self.new).faults) }
+        ensures quiet { OnOk result ((folder_script self.new).faults ≡ (folder_script self.old).faults) }
         ensures counts { (folder_script self.old).faults ≤ (folder_script self.new).faults }
         ensures files { self.new.files ≡ self.old.files }
     {
@@ -76,6 +77,7 @@ impl Folder for MemoryFolder {
         ensures lengths { IfOk result (λ names. All (λ name. IsNameLength (string_bytes name)) names.items) }
         ensures fault { IfErr result (Stops (Rose (folder_script self.old).faults (folder_script self.new).faults)) }
         ensures same { folder_files self.new ≡ folder_files self.old }
+        ensures quiet { OnOk result ((folder_script self.new).faults ≡ (folder_script self.old).faults) }
         ensures counts { (folder_script self.old).faults ≤ (folder_script self.new).faults }
         ensures scripted_ok { OnOk result (call_fails self.old ≡ false) }
         ensures scripted { IfErr result (Stops (call_fails self.old ≡ true)) }
@@ -90,6 +92,7 @@ impl Folder for MemoryFolder {
         ensures stored { IfOk result (λ bytes. length bytes.items ≤ STORED) }
         ensures fault { IfErr result (Explains true (taken (folder_files self.old) name.now) (Rose (folder_script self.old).faults (folder_script self.new).faults)) }
         ensures same { folder_files self.new ≡ folder_files self.old }
+        ensures quiet { OnOk result ((folder_script self.new).faults ≡ (folder_script self.old).faults) }
         ensures counts { (folder_script self.old).faults ≤ (folder_script self.new).faults }
         ensures scripted_ok { IfOk result (λ bytes. taken_next self.old name.now ≡ Ok bytes.items) }
         ensures scripted { IfErr result (Explains true (taken_next self.old name.now) (call_fails self.old ≡ true)) }
@@ -110,6 +113,7 @@ impl Folder for MemoryFolder {
         ensures ok { OnOk result (folder_files self.new ≡ created (folder_files self.old) name.now) }
         ensures same { OnErr result (folder_files self.new ≡ folder_files self.old) }
         ensures fault { IfErr result (Stops (Rose (folder_script self.old).faults (folder_script self.new).faults)) }
+        ensures quiet { OnOk result ((folder_script self.new).faults ≡ (folder_script self.old).faults) }
         ensures counts { (folder_script self.old).faults ≤ (folder_script self.new).faults }
         ensures scripted_ok { OnOk result (call_fails self.old ≡ false) }
         ensures scripted { IfErr result (Stops (call_fails self.old ≡ true)) }
@@ -125,6 +129,7 @@ impl Folder for MemoryFolder {
         ensures err { IfErr result (LeavesPrefix (folder_files self.old) name.now bytes.now (folder_files self.new)) }
         ensures same { OnErr result (folder_files self.new ≡ folder_files self.old) }
         ensures fault { IfErr result (Stops (Rose (folder_script self.old).faults (folder_script self.new).faults)) }
+        ensures quiet { OnOk result ((folder_script self.new).faults ≡ (folder_script self.old).faults) }
         ensures counts { (folder_script self.old).faults ≤ (folder_script self.new).faults }
         ensures scripted_ok { OnOk result (call_fails self.old ≡ false) }
         ensures scripted { IfErr result (Stops (call_fails self.old ≡ true)) }
@@ -137,6 +142,7 @@ impl Folder for MemoryFolder {
     fn firm(&mut self, _name: &str) -> Result<(), Failed>
         ensures failed { OnErr result (Rose (folder_script self.old).faults (folder_script self.new).faults) }
         ensures same { folder_files self.new ≡ folder_files self.old }
+        ensures quiet { OnOk result ((folder_script self.new).faults ≡ (folder_script self.old).faults) }
         ensures counts { (folder_script self.old).faults ≤ (folder_script self.new).faults }
         ensures scripted { is_ok result ≡ not (call_fails self.old) }
         ensures call { IsCounted self.old self.new }
@@ -150,6 +156,7 @@ impl Folder for MemoryFolder {
         ensures ok { OnOk result (folder_files self.new ≡ renamed (folder_files self.old) from.now to.now) }
         ensures same { OnErr result (folder_files self.new ≡ folder_files self.old) }
         ensures failed { OnErr result (Rose (folder_script self.old).faults (folder_script self.new).faults) }
+        ensures quiet { OnOk result ((folder_script self.new).faults ≡ (folder_script self.old).faults) }
         ensures counts { (folder_script self.old).faults ≤ (folder_script self.new).faults }
         ensures scripted { is_ok result ≡ not (call_fails self.old) }
         ensures call { IsCounted self.old self.new }
@@ -163,6 +170,7 @@ impl Folder for MemoryFolder {
         ensures ok { OnOk result (folder_files self.new ≡ remove (folder_files self.old) name.now) }
         ensures same { OnErr result (folder_files self.new ≡ folder_files self.old) }
         ensures failed { OnErr result (Rose (folder_script self.old).faults (folder_script self.new).faults) }
+        ensures quiet { OnOk result ((folder_script self.new).faults ≡ (folder_script self.old).faults) }
         ensures counts { (folder_script self.old).faults ≤ (folder_script self.new).faults }
         ensures scripted { is_ok result ≡ not (call_fails self.old) }
         ensures call { IsCounted self.old self.new }
@@ -175,6 +183,7 @@ impl Folder for MemoryFolder {
     fn settle(&mut self) -> Result<(), Failed>
         ensures failed { OnErr result (Rose (folder_script self.old).faults (folder_script self.new).faults) }
         ensures same { folder_files self.new ≡ folder_files self.old }
+        ensures quiet { OnOk result ((folder_script self.new).faults ≡ (folder_script self.old).faults) }
         ensures counts { (folder_script self.old).faults ≤ (folder_script self.new).faults }
         ensures scripted { is_ok result ≡ not (call_fails self.old) }
         ensures call { IsCounted self.old self.new }

@@ -24,6 +24,7 @@ pub fn replace<D: Folder>(
     ensures ok { OnOk result (D.tells_files folder.old ≡ true → D.files folder.new ≡ replaced (D.files folder.old) name.now bytes.now) }
     ensures err { IfErr result (λ fault. D.tells_files folder.old ≡ true → LeavesOldOrNew (D.files folder.old) name.now bytes.now (D.files folder.new) fault) }
     ensures fault { IfErr result (Stops (Rose (D.faults folder.old) (D.faults folder.new))) }
+    ensures quiet { OnOk result (D.faults folder.new ≡ D.faults folder.old) }
     ensures tells { D.tells_files folder.new ≡ D.tells_files folder.old }
     ensures counts { D.faults folder.old ≤ D.faults folder.new }
     ensures place { D.place folder.new ≡ D.place folder.old }

@@ -1,6 +1,6 @@
 -- The parts of a hash table of symbols.
---   System V (gABI chapter 5, "Hash Table"), in words of 32 bits: nbucket, nchain, the buckets, and for each symbol a chain word.
---   GNU: nbuckets, symoffset, bloom size and bloom shift in words of 32 bits, bloom words of 64 bits, the buckets, and for each symbol from symoffset on a chain word.
+--   System V (gABI chapter 5, "Hash Table"), in words of 32 bits: nbucket, nchain, the buckets, and for each symbol its link, which is its entry of the standard's chain table.
+--   GNU: nbuckets, symoffset, bloom size and bloom shift in words of 32 bits, bloom words of 64 bits, the buckets, and for each symbol from symoffset on its link, a hash but for the lowest bit.
 use Rattle.std.specs.Prelude.{◌≤◌, IsTrue, ℕ, ◌+◌, ◌-◌, ◌*◌, ◌/◌, ◌%◌, ◌^◌, Bool, not, ◌&&◌, ◌||◌, ◌==◌, nat_le, length, if◌then◌else◌}
 use Rattle.pl_base.specs.Bytes.{word32, word64}
 use Rattle.pl_hash.specs.declared.table.Table.{Table}
@@ -22,11 +22,11 @@ pub record HasHeader (table : Table) : Type 0 where
 abbrev pub bucket_count : Table → ℕ
 bucket_count table = word32 NBUCKET table.words
 
--- of a System V table: its count of chain words
+-- of a System V table: its count of links
 abbrev pub chain_count : Table → ℕ
 chain_count table = word32 NCHAIN table.words
 
--- of a GNU table: the first symbol with a chain word, the count of bloom words, and how far a hash is shifted for its second bit
+-- of a GNU table: the first symbol with a link, the count of bloom words, and how far a hash is shifted for its second bit
 abbrev pub symoffset : Table → ℕ
 symoffset table = word32 SYMOFFSET table.words
 
@@ -44,11 +44,11 @@ buckets_at table = if table.gnu then GNU_HEADER_SIZE + BLOOM_WORD_SIZE * bloom_s
 unfoldable pub chains_at : Table → ℕ
 chains_at table = buckets_at table + WORD_SIZE * bucket_count table
 
--- the first symbol with a chain word
+-- the first symbol with a link
 unfoldable pub first_linked : Table → ℕ
 first_linked table = if table.gnu then symoffset table else 0
 
--- the place of a symbol's chain word
+-- the offset of a symbol's link
 unfoldable pub link_at : Table → ℕ → ℕ
 link_at table index = chains_at table + WORD_SIZE * (index - first_linked table)
 
@@ -57,7 +57,7 @@ link_at table index = chains_at table + WORD_SIZE * (index - first_linked table)
 unfoldable pub bucket : Table → ℕ → ℕ
 bucket table k = word32 (buckets_at table + WORD_SIZE * k) table.words
 
--- a symbol's chain word
+-- a symbol's link
 unfoldable pub link : Table → ℕ → ℕ
 link table index = word32 (link_at table index) table.words
 
@@ -82,6 +82,6 @@ admits table hash =
     || has_bit (bloom_word table hash) (first_bit hash)
     && has_bit (bloom_word table hash) (second_bit hash (bloom_shift table))
 
--- whether a symbol may have a hash: in a GNU table the upper 31 bits of its chain word are those of its hash
+-- whether a symbol may have a hash: in a GNU table the upper 31 bits of its link are those of its hash
 unfoldable pub matches : Table → ℕ → ℕ → Bool
 matches table hash index = not table.gnu || link table index / 2 == hash / 2

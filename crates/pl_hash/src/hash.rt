@@ -5,7 +5,7 @@ ghost use Rattle.pl_hash.specs.Hash as spec;
 /// The four highest bits of a System V hash, which each step folds down.
 pub const SYSV_TOP: u32 = 0xf0000000;
 
-/// Where a GNU hash starts.
+/// The GNU hash of a name without bytes, from which each byte goes on.
 pub const GNU_START: u32 = 5381;
 
 /// One byte more in a System V hash.

@@ -9,7 +9,7 @@ mod table;
 mod whole;
 
 pub use hash::{GNU_START, SYSV_TOP, gnu_hash, sysv_hash};
-pub use lookup::{first, is_candidate, name_hash, next};
+pub use lookup::{first, name_hash, next};
 pub use marks::found;
 pub use table::{
     BLOOM_SHIFT, BLOOM_SIZE, BLOOM_WORD_BITS, BLOOM_WORD_SIZE, GNU_HEADER_SIZE, NBUCKET, NCHAIN,

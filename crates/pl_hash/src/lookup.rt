@@ -67,7 +67,7 @@ fn first_matching(table: &Table, hash: u32, start: Option<u32>) -> Option<u32>
     None
 }
 
-/// The first symbol that a hash leads to: the first of the table's candidates of that hash (System V gABI chapter 5, "Hash Table"; GNU hash table). `None` exactly where there is none: the bloom word refuses the hash, its bucket is empty or, in a GNU table, no chain word has the upper 31 bits of the hash.
+/// The first symbol that a hash leads to: the first of the table's candidates of that hash (System V gABI chapter 5, "Hash Table"; GNU hash table). `None` exactly where there is none: the bloom word refuses the hash, its bucket is empty or, in a GNU table, no link has the upper 31 bits of the hash.
 ///
 /// The candidates are distinct and below the count of symbols. No memory is taken, and no more steps than the chain has symbols.
 #[tactic(auto, unfolding(crate::specs::Candidates::candidates))]
@@ -109,19 +109,4 @@ pub fn name_hash(table: &Table, name: &[u8]) -> u32
     } else {
         sysv_hash(name)
     }
-}
-
-/// Whether a symbol is one of a table's candidates of a hash, that is, whether `first`, or a `next` after it, gives it for that hash (System V gABI chapter 5, "Hash Table"; GNU hash table). No memory is taken, and no more steps than the chain has symbols.
-pub fn is_candidate(table: &Table, hash: u32, index: u32) -> bool
-    requires { IsWellFormed table.now }
-    ensures { result ≡ spec.is_candidate table.now hash index }
-{
-    let mut at = first(table, hash);
-    while let Some(candidate) = at {
-        if candidate == index {
-            return true;
-        }
-        at = next(table, hash, candidate);
-    }
-    false
 }

@@ -66,7 +66,7 @@ fn mark_all(table: &Table, hashes: &[u32], found: &mut [bool])
     }
 }
 
-/// For each of so many symbols, by their hashes, whether it is one of a table's candidates of its own hash, as `is_candidate` says (System V gABI chapter 5, "Hash Table"; GNU hash table). Each chain is walked once: the time grows as the lengths of all chains and the count of buckets, where a call of `is_candidate` for each symbol walks its chain anew.
+/// For each of so many symbols, by their hashes, whether it is one of a table's candidates of its own hash, that is, whether `first`, or a `next` after it, gives it for that hash (System V gABI chapter 5, "Hash Table"; GNU hash table). Each chain is walked once: the time grows as the lengths of all chains and the count of buckets. It fails only for want of memory.
 pub fn found(alloc: Global, table: &Table, hashes: &[u32]) -> Result<Vec<bool>, AllocError>
     requires { IsWellFormed table.now }
     ensures len { IfOk result (λ v. length v.items ≡ length hashes.now) }

@@ -8,10 +8,10 @@ use pl_base::{Rows, word32, word64};
 /// Where a word of the header stands, in bytes: in both kinds of table, the count of buckets.
 pub const NBUCKET: usize = 0;
 
-/// In a System V table, the count of chain words.
+/// In a System V table, the count of links.
 pub const NCHAIN: usize = 4;
 
-/// In a GNU table, the first symbol with a chain word.
+/// In a GNU table, the first symbol with a link.
 pub const SYMOFFSET: usize = 4;
 
 /// In a GNU table, the count of bloom words.
@@ -26,7 +26,7 @@ pub const SYSV_HEADER_SIZE: usize = 8;
 /// The size of a GNU table's header, in bytes.
 pub const GNU_HEADER_SIZE: usize = 16;
 
-/// The size of a bucket and of a chain word, in bytes.
+/// The size of a bucket and of a link, in bytes.
 pub const WORD_SIZE: usize = 4;
 
 /// The size of a bloom word, in bytes.
@@ -70,7 +70,7 @@ pub fn bucket_count(table: &Table) -> u32
     word32(table.words.as_slice(), NBUCKET)
 }
 
-/// The count of chain words in a System V table.
+/// The count of links in a System V table.
 pub fn chain_count(table: &Table) -> u32
     requires { spec.HasHeader table.now }
     ensures { result ≡ spec.chain_count table.now }
@@ -78,7 +78,7 @@ pub fn chain_count(table: &Table) -> u32
     word32(table.words.as_slice(), NCHAIN)
 }
 
-/// The first symbol with a chain word in a GNU table.
+/// The first symbol with a link in a GNU table.
 pub fn symoffset(table: &Table) -> u32
     requires header { spec.HasHeader table.now }
     requires gnu { IsTrue table.now.gnu }
@@ -105,7 +105,7 @@ pub fn bloom_shift(table: &Table) -> u32
     word32(table.words.as_slice(), BLOOM_SHIFT)
 }
 
-/// Where the buckets begin.
+/// Where the buckets begin, in bytes.
 #[tactic(auto, unfolding(crate::specs::Table::buckets_at))]
 pub fn buckets_at(table: &Table) -> usize
     requires { spec.HasHeader table.now }
@@ -119,7 +119,7 @@ pub fn buckets_at(table: &Table) -> usize
     }
 }
 
-/// Where the chain words begin.
+/// Where the links begin, in bytes.
 #[tactic(auto, unfolding(crate::specs::Table::chains_at))]
 pub fn chains_at(table: &Table) -> usize
     requires { spec.HasHeader table.now }
@@ -129,7 +129,7 @@ pub fn chains_at(table: &Table) -> usize
     buckets_at(table) + WORD_SIZE * bucket_count(table) as usize
 }
 
-/// The first symbol with a chain word.
+/// The first symbol with a link.
 #[tactic(auto, unfolding(crate::specs::Table::first_linked))]
 pub fn first_linked(table: &Table) -> u32
     requires { spec.HasHeader table.now }
@@ -138,7 +138,7 @@ pub fn first_linked(table: &Table) -> u32
     if table.gnu { symoffset(table) } else { 0 }
 }
 
-/// Where a symbol's chain word begins.
+/// Where a symbol's link begins, in bytes.
 #[tactic(auto, unfolding(crate::specs::Table::link_at))]
 pub fn link_at(table: &Table, index: u32) -> usize
     requires { spec.HasHeader table.now }
@@ -148,7 +148,7 @@ pub fn link_at(table: &Table, index: u32) -> usize
     chains_at(table) + WORD_SIZE * index.saturating_sub(first_linked(table)) as usize
 }
 
-/// A bucket.
+/// The bucket of a number, from 0.
 #[tactic(auto, unfolding(crate::specs::Table::bucket, crate::specs::Table::chains_at))]
 pub fn bucket(table: &Table, k: u32) -> u32
     requires header { spec.HasHeader table.now }
@@ -162,7 +162,7 @@ pub fn bucket(table: &Table, k: u32) -> u32
     )
 }
 
-/// A symbol's chain word.
+/// A symbol's link.
 #[tactic(auto, unfolding(crate::specs::Table::link))]
 pub fn link(table: &Table, index: u32) -> u32
     requires header { spec.HasHeader table.now }

@@ -4,14 +4,14 @@ use Rattle.std.specs.Prelude.{◌||◌, ◌==◌, fold, find, map}
 use Rattle.std.specs.List.{list_any}
 use Rattle.std.proofs.lemmas.Bool.{cases_Bool, false≢true}
 use Rattle.std.proofs.lemmas.List.{get_or_append_left, get_or-append-add, length-append, get_or_default, drop_more, drop_all}
-use Rattle.std.proofs.lemmas.List.Folds.{Any-from_list_any}
+use Rattle.std.proofs.lemmas.List.Folds.{Any-from_list_any, list_any_none}
 use Rattle.pl_base.specs.Memory.{Memory, Piece, Fill, AtMostOne, lies, byte_at, covers, over, layered, filled}
 use Rattle.pl_image.specs.declared.loaded.Loaded.{Loaded}
 use Rattle.pl_image.specs.declared.touched.Touch.{Touch}
 use Rattle.pl_image.specs.Lines.{byte_in, has, only, IsClear}
 use Rattle.pl_image.specs.Image.{Image, all_pieces, any_masked, byte_of, extent_of, AreLoaded, AreOwn, own_memory, stores}
 use Rattle.pl_image.specs.Index.{laid, IsIndex}
-use Rattle.pl_image.proofs.FindLemmas.{any_none, any_in_flat}
+use Rattle.pl_image.proofs.FindLemmas.{any_in_flat}
 use Rattle.pl_image.proofs.PieceLemmas.{unstored}
 use Rattle.pl_image.proofs.TouchLemmas.{untouched}
 
@@ -108,7 +108,7 @@ lone_rest xs ys lone = λ i j a d less within hit.
 lone_front : (xs ys : List Piece) (a : ℕ) → AtMostOne lies (xs ++ ys) → list_any (lies a) xs ≡ true → list_any (lies a) ys ≡ false
 lone_front xs ys a lone some =
     let one = Any-from_list_any (lies a) xs some in
-    any_none (lies a) ys (λ k d within.
+    list_any_none (lies a) ys (λ k d within.
     let there : length xs + k < length (xs ++ ys) = omega (arith, within, length-append xs ys) in
     let before = get_or_append_left xs ys d one.0 one.2 in
     let first = get_or_default xs one.0 d one.1 one.2 in

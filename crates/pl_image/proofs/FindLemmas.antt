@@ -2,7 +2,7 @@
 use Rattle.std.proofs.Common.{◌≡◌, ℕ, zero, suc, ◌<◌, Bool, true, false, cond, List, [], ◌∷◌, length, get_or, Some, None, refl, ap, ◌∙◌, arith}
 use Rattle.std.specs.Prelude.{◌||◌, find}
 use Rattle.std.specs.List.{list_any, flat_map}
-use Rattle.std.proofs.lemmas.List.Folds.{list_any-append, list_any_at}
+use Rattle.std.proofs.lemmas.List.Folds.{list_any-append, list_any_at, list_any_none}
 
 -- ---- none
 
@@ -11,12 +11,6 @@ find_none p [] misses = refl
 find_none p (x ∷ xs) misses =
     let miss : p x ≡ false = misses 0 x (omega arith) in
     rw miss (find_none p xs (λ k d lt. misses (suc k) d (omega arith)))
-
-pub any_none : {X : Type 0} (p : X → Bool) (xs : List X) → ((k : ℕ) (d : X) → k < length xs → p (get_or xs k d) ≡ false) → list_any p xs ≡ false
-any_none p [] misses = refl
-any_none p (x ∷ xs) misses =
-    let miss : p x ≡ false = misses 0 x (omega arith) in
-    rw miss (any_none p xs (λ k d lt. misses (suc k) d (omega arith)))
 
 -- ---- one alone
 
@@ -40,7 +34,7 @@ pub any_lone : {X : Type 0} (p : X → Bool) (xs : List X) (i : ℕ) (e : X) →
     → list_any p xs ≡ p (get_or xs i e)
 any_lone p [] i e lt before after = absurd (omega arith)
 any_lone p (x ∷ xs) zero e lt before after =
-    let none = any_none p xs (λ k d within. after (suc k) d (omega arith) (omega arith)) in
+    let none = list_any_none p xs (λ k d within. after (suc k) d (omega arith) (omega arith)) in
     rw none (or_none (p x))
 any_lone p (x ∷ xs) (suc i) e lt before after =
     let miss : p x ≡ false = before 0 x (omega arith) in

@@ -72,9 +72,3 @@ pub lines_next : (m : Memory) (n : ℕ) → lines_from m 0 (n + 1) ≡ lines_fro
 lines_next m n =
     let there : 0 + n ≡ n = omega arith in
     lines_more m 0 n ∙ ap (λ (k : ℕ). lines_from m 0 n ++ word_line m k) there
-
--- ---- text
-
--- memories with the same byte at every address have the same text
-pub text_same : (m n : Memory) (objects : List (List Range)) → ((address : ℕ) → m address ≡ n address) → text m objects ≡ text n objects
-text_same m n objects same = let all : m ≡ n = λ i address. same address i in ap (λ (memory : Memory). text memory objects) all

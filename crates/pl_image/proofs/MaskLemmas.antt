@@ -16,18 +16,6 @@ use Rattle.pl_image.specs.Lines.{has}
 use Rattle.pl_image.specs.Loads.{loads_from, is_masked}
 use Rattle.pl_image.specs.Masked.{loads_table}
 
-or_none : (b : Bool) → (b || false) ≡ b
-or_none true = refl
-or_none false = refl
-
-pub or_assoc : (a b c : Bool) → ((a || b) || c) ≡ (a || (b || c))
-or_assoc true b c = refl
-or_assoc false b c = refl
-
--- one range more
-pub any_push : (a : ℕ) (rs : List Range) (r : Range) → list_any (has a) (rs ++ r ∷ []) ≡ (list_any (has a) rs || has a r)
-any_push a rs r = list_any-append (has a) rs (r ∷ []) ∙ ap (λ (b : Bool). list_any (has a) rs || b) (or_none (has a r))
-
 -- ---- a part of a file and a table
 
 -- the first and the last offset in the part that are the table's

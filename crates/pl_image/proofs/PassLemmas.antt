@@ -30,8 +30,3 @@ pub stopped_behind : (old mid new : Option (List ℕ)) (before between xs ys : L
 stopped_behind old mid new before between xs ys p q =
     let there : p.0 ++ (between ++ ys) ≡ before ++ (xs ++ ys) = sym (append_assoc p.0 between ys) ∙ ap (λ (zs : List ℕ). zs ++ ys) p.2 ∙ append_assoc before xs ys in
     subst (GotPrefix old new) there (GotPrefix-behind old mid new p.0 (between ++ ys) p.1 q)
-
--- all bytes are in the sink once the buffer is emptied
-pub got_all : (old mid new : Option (List ℕ)) (buffer xs : List ℕ) → Passes old mid [] buffer xs → new ≡ got_after mid buffer → new ≡ got_after old xs
-got_all old mid new buffer xs p got =
-    got ∙ ap (λ (m : Option (List ℕ)). got_after m buffer) p.1 ∙ got_after-got_after old p.0 buffer ∙ ap (got_after old) p.2

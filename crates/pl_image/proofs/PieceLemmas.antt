@@ -6,10 +6,11 @@ use Rattle.std.specs.List.Sorted.{IsNonDecreasingBy, IsPartitionedBy, IsPartitio
 use Rattle.std.proofs.lemmas.Bool.{and_parts, or_parts, cases_Bool, cases_order}
 use Rattle.std.proofs.lemmas.Bool.Decides.{nat_tests}
 use Rattle.std.proofs.lemmas.List.{get_or_past, get_or_default}
+use Rattle.std.proofs.lemmas.List.Folds.{list_any_none}
 use Rattle.pl_base.specs.Memory.{Piece, lies, byte_at, AtMostOne}
 use Rattle.pl_elf.specs.declared.constants.TheConstants.{ADDRESS_LIMIT}
 use Rattle.pl_image.specs.Image.{ascends, stores}
-use Rattle.pl_image.proofs.FindLemmas.{find_none, any_none, find_lone}
+use Rattle.pl_image.proofs.FindLemmas.{find_none, find_lone}
 
 record Ascends (from : ℕ) (p : Piece) (ps : List Piece) : Type 0 where
   later : from ≤ p.start
@@ -116,11 +117,11 @@ module _ (ps : List Piece) (a i : ℕ) (h : ascends 0 ps ≡ true) (point : IsPa
 
   -- from the address on none has a byte of a file,
   pub none_stored : (b : ℕ) → length ps ≤ i → a ≤ b → list_any (stores b) ps ≡ false
-  none_stored b all le = any_none (stores b) ps (λ k d within. past_stored b k d le (omega arith))
+  none_stored b all le = list_any_none (stores b) ps (λ k d within. past_stored b k d le (omega arith))
 
   -- or none up to the start of the first one that does not end by it
   pub none_stored_before : (b : ℕ) (e : Piece) → i < length ps → a ≤ b → b < (get_or ps i e).start → list_any (stores b) ps ≡ false
-  none_stored_before b e lt le below = any_none (stores b) ps (λ k d within. elim (cases_order k i) [
+  none_stored_before b e lt le below = list_any_none (stores b) ps (λ k d within. elim (cases_order k i) [
     | inl same ↦ next k same d within
     | inr other ↦ elim other [
       | inl less ↦ past_stored b k d le less
@@ -153,7 +154,7 @@ unstored (x ∷ xs) a p none found =
 -- ---- the end of the last
 
 pub past_last : (ps : List Piece) (e : Piece) (end a : ℕ) → ascends 0 ps ≡ true → 0 < length ps → (get_or ps (length ps - 1) e).start + (get_or ps (length ps - 1) e).size ≤ 8 * end → 8 * end ≤ a → list_any (lies a) ps ≡ false
-past_last ps e end a h some last past = any_none (lies a) ps (λ k d within.
+past_last ps e end a h some last past = list_any_none (lies a) ps (λ k d within.
     let there = get_or_default ps k d e within in
     rw there (elim (cases_order k (length ps - 1)) [
       | inl same ↦ rw same (let out : lies a (get_or ps (length ps - 1) e) ≡ false = grind (arith, nat_tests) in out)

@@ -1,15 +1,16 @@
 -- Objects that are placed load what an image can be made of.
 use Rattle.std.proofs.Common.{◌≡◌, ℕ, ◌+◌, ◌≤◌, Bool, true, false, List, [], ◌∷◌, refl, sym, ap, subst, ◌∙◌, arith}
-use Rattle.std.specs.Prelude.{◌||◌, nat_le, nat_lt, map}
+use Rattle.std.specs.Prelude.{◌||◌, nat_le, map}
 use Rattle.std.specs.List.{list_any, All}
 use Rattle.std.proofs.lemmas.Bool.{or_parts, and_parts}
 use Rattle.std.proofs.lemmas.Bool.Decides.{nat_tests}
 use Rattle.std.proofs.lemmas.List.{append-nil}
-use Rattle.std.proofs.lemmas.List.Elements.{All-head, All-tail, All-nil, All-cons}
+use Rattle.std.proofs.lemmas.List.Elements.{All-head, All-tail, All-nil, All-cons, All-weaker}
 use Rattle.pl_base.specs.Memory.{Piece, AtMostOne, lies, layered, filled, shown}
-use Rattle.pl_elf.specs.declared.constants.TheConstants.{MAX_LOAD_ALIGN, ADDRESS_LIMIT}
+use Rattle.pl_elf.specs.declared.constants.TheConstants.{ADDRESS_LIMIT}
 use Rattle.pl_elf.specs.declared.segment.Segment.{Segment}
-use Rattle.pl_elf.specs.Clauses.{bad_load, bad_align, not_congruent, ascend_from, AreLoads}
+use Rattle.pl_elf.specs.Clauses.{bad_load, ascend_from, AreLoads}
+use Rattle.pl_elf.proofs.AcceptedLaws.{LoadFits, load_fits, loads_fit}
 use Rattle.pl_elf.specs.Headers.{loads}
 use Rattle.pl_object.specs.declared.object.Object.{Object}
 use Rattle.pl_image.specs.declared.mask.Load.{Load}
@@ -20,22 +21,8 @@ use Rattle.pl_image.proofs.PieceLemmas.{ascend_apart}
 
 -- ---- one object
 
--- a load that is not refused has room for its bytes, and ends within the limit
-load_fits : (s : Segment) → bad_load s ≡ false → (s.filesz ≤ s.memsz) × (s.vaddr + s.memsz ≤ ADDRESS_LIMIT)
-unfolding bad_load
-load_fits s h =
-    let p1 = or_parts (((nat_lt s.memsz s.filesz || bad_align s.align) || nat_lt MAX_LOAD_ALIGN s.align) || not_congruent s) (nat_lt ADDRESS_LIMIT (s.vaddr + s.memsz)) h in
-    let p2 = or_parts ((nat_lt s.memsz s.filesz || bad_align s.align) || nat_lt MAX_LOAD_ALIGN s.align) (not_congruent s) p1.0 in
-    let p3 = or_parts (nat_lt s.memsz s.filesz || bad_align s.align) (nat_lt MAX_LOAD_ALIGN s.align) p2.0 in
-    let p4 = or_parts (nat_lt s.memsz s.filesz) (bad_align s.align) p3.0 in
-    (grind (arith, nat_tests, p4.0), grind (arith, nat_tests, p1.1))
-
 ends_at_0 : (ss : List Segment) → list_any bad_load ss ≡ false → All (λ s. 0 + (s.vaddr + s.memsz) ≤ ADDRESS_LIMIT) ss
-ends_at_0 [] fit = All-nil (λ (s : Segment). 0 + (s.vaddr + s.memsz) ≤ ADDRESS_LIMIT)
-ends_at_0 (s ∷ ss) fit =
-    let f = or_parts (bad_load s) (list_any bad_load ss) fit in
-    let end = (load_fits s f.0).1 in
-    All-cons (λ (x : Segment). 0 + (x.vaddr + x.memsz) ≤ ADDRESS_LIMIT) s ss (omega arith) (ends_at_0 ss f.1)
+ends_at_0 ss fit = All-weaker LoadFits (λ (s : Segment). 0 + (s.vaddr + s.memsz) ≤ ADDRESS_LIMIT) (λ s fits. omega (arith, fits.ends)) ss (loads_fit ss fit)
 
 -- an object with accepted PT_LOADs can be placed at 0
 pub placed_at_0 : (o : Object) → AreLoads (loads o.segments) → IsPlaced 0 o
@@ -61,7 +48,7 @@ fits_from place [] fit ends = All-nil (λ (l : Load). l.start + l.size ≤ ADDRE
 fits_from place (s ∷ ss) fit ends =
     let f = or_parts (bad_load s) (list_any bad_load ss) fit in
     let end : place + (s.vaddr + s.memsz) ≤ ADDRESS_LIMIT = All-head (λ (x : Segment). place + (x.vaddr + x.memsz) ≤ ADDRESS_LIMIT) s ss ends in
-    let room = (load_fits s f.0).0 in
+    let room = (load_fits s f.0).bytes in
     All-cons (λ (l : Load). l.start + l.size ≤ ADDRESS_LIMIT) (load_at place s) (map (load_at place) ss) (omega arith)
     (fits_from place ss f.1 (All-tail (λ (x : Segment). place + (x.vaddr + x.memsz) ≤ ADDRESS_LIMIT) s ss ends))
 
@@ -76,14 +63,3 @@ alone o ascend fit = record {
   fit = All-cons (λ (x : Loaded). All (λ (l : Load). l.start + l.size ≤ ADDRESS_LIMIT) x.mask.loads) o [] fit (All-nil (λ (x : Loaded). All (λ (l : Load). l.start + l.size ≤ ADDRESS_LIMIT) x.mask.loads));
   apart = subst (AtMostOne lies) (sym (append-nil o.pieces)) (ascend_apart o.pieces ascend);
 }
-
--- its image
-one_masked : (b : Bool) → (b || false) ≡ b
-one_masked true = refl
-one_masked false = refl
-
-pub image_alone : (place : ℕ) (bytes : List ℕ) (o : Object) (a : ℕ) → byte_of (record { objects = loaded_at place bytes o ∷ []; patches = [] }) a ≡ image_of place bytes o a
-unfolding byte_of image_of filled
-image_alone place bytes o a =
-    ap (λ (ps : List Piece). shown (layered ps) (λ b. is_masked (mask_at place o) b || false) (layered ps) a) (append-nil (pieces_at place bytes o))
-    ∙ ap (λ (masked : ℕ → Bool). shown (layered (pieces_at place bytes o)) masked (layered (pieces_at place bytes o)) a) (λ i b. one_masked (is_masked (mask_at place o) b) i)

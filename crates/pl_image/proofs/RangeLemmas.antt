@@ -6,12 +6,12 @@ use Rattle.std.specs.List.Sorted.{IsNonDecreasingBy, IsPartitionedBy, IsPartitio
 use Rattle.std.proofs.lemmas.Bool.{and_parts, cases_Bool, cases_order, false≢true}
 use Rattle.std.proofs.lemmas.Bool.Decides.{nat_tests}
 use Rattle.std.proofs.lemmas.List.{length-take, length-drop, get_or-take, get_or-drop, take-append-drop}
-use Rattle.std.proofs.lemmas.List.Folds.{list_any-append}
+use Rattle.std.proofs.lemmas.List.Folds.{list_any-append, list_any_none}
 use Rattle.std.proofs.lemmas.List.Sorted.{list_any-IsPermutation, IsPartitionedBy-leb, IsPartitionedBy-ltb, IsNonDecreasingBy-drop}
 use Rattle.pl_elf.specs.declared.range.Range.{Range}
 use Rattle.pl_image.specs.Lines.{has}
 use Rattle.pl_image.specs.Index.{rises, merged}
-use Rattle.pl_image.proofs.FindLemmas.{any_none, any_lone}
+use Rattle.pl_image.proofs.FindLemmas.{any_lone}
 
 -- ---- ranges that rise
 
@@ -67,7 +67,7 @@ module _ (rs : List Range) (a i : ℕ) (h : rises 0 rs ≡ true) (point : IsPart
   later_miss k d le within = let after = point.1 k d le within in grind (arith, nat_tests)
 
   pub none_has : i ≡ 0 → list_any (has a) rs ≡ false
-  none_has is = any_none (has a) rs (λ k d within. later_miss k d (omega arith) within)
+  none_has is = list_any_none (has a) rs (λ k d within. later_miss k d (omega arith) within)
 
   pub last_has : (e : Range) → 0 < i → i ≤ length rs → list_any (has a) rs ≡ nat_lt a (get_or rs (i - 1) e).end
   last_has e some le =
@@ -116,11 +116,11 @@ pub near_has : (rs rest near : List Range) (from size i j a : ℕ) → rest ≡ 
     → IsPartitionPoint (λ r. nat_lt r.start (from + size) ≡ true) (λ r. nat_lt r.start (from + size) ≡ false) rest j
     → list_any (has a) near ≡ list_any (has a) rs
 near_has rs rest near from size i j a rest_is near_is low high first last =
-    let front : list_any (has a) (take i rs) ≡ false = any_none (has a) (take i rs) (λ k d lt.
+    let front : list_any (has a) (take i rs) ≡ false = list_any_none (has a) (take i rs) (λ k d lt.
     let less : k < i = omega (arith, lt, length-take i rs) in
     let ended = first.0 k d (omega arith) less in
     rw (get_or-take i rs k d less) (let out : has a (get_or rs k d) ≡ false = grind (arith, nat_tests) in out)) in
-    let back : list_any (has a) (drop j rest) ≡ false = any_none (has a) (drop j rest) (λ k d lt.
+    let back : list_any (has a) (drop j rest) ≡ false = list_any_none (has a) (drop j rest) (λ k d lt.
     let within : j + k < length rest = omega (arith, lt, length-drop j rest) in
     let late = last.1 (j + k) d (omega arith) within in
     rw (get_or-drop j rest k d) (let out : has a (get_or rest (j + k) d) ≡ false = grind (arith, nat_tests) in out)) in
@@ -163,7 +163,7 @@ skipped_has s e end a true skipped = grind (arith, nat_tests)
 skipped_has s e end a false skipped = grind (arith, nat_tests)
 
 none_before : (r : Range) (rs : List Range) (a : ℕ) → IsNonDecreasingBy (λ x. x.start) (r ∷ rs) → a < r.start → list_any (has a) rs ≡ false
-none_before r rs a sorted lt = any_none (has a) rs (λ k d within.
+none_before r rs a sorted lt = list_any_none (has a) rs (λ k d within.
     let le : r.start ≤ (get_or rs k d).start = sorted 0 (suc k) d (omega arith) (omega arith) in
     grind (arith, nat_tests))
 

@@ -10,10 +10,10 @@ use Rattle.std.proofs.lemmas.List.Elements.{All-nil, All-push, All-take, All-dro
 use Rattle.std.proofs.lemmas.List.Sums.{fold_push, fold-append, fold_more}
 use Rattle.std.proofs.lemmas.List.Sorted.{All-permutation}
 use Rattle.std.proofs.lemmas.List.{take_all, take-append-drop, drop-drop, length-take, length-drop, get_or-take, get_or-drop, get_or_default}
+use Rattle.std.proofs.lemmas.List.Folds.{list_any_none}
 use Rattle.pl_base.specs.Memory.{Fill, covers}
 use Rattle.pl_image.specs.declared.touched.Touch.{Touch}
 use Rattle.pl_image.specs.Index.{laid, laid_by, laid_up_to, patch_of, words_end, IsIndex, IsIndexOf, IsIndexTo, AreTouching}
-use Rattle.pl_image.proofs.FindLemmas.{any_none}
 
 -- ---- an index that is made
 
@@ -171,7 +171,7 @@ module _ (patches : List Fill) (ts : List Touch) (n i j : ℕ) (h : IsIndex patc
 
 pub none_touched : (ts : List Touch) (from to i n : ℕ) (e : Touch) → IsNonDecreasingBy (λ t. t.number) ts → IsPartitionPoint (λ t. nat_lt t.number from ≡ true) (λ t. nat_lt t.number from ≡ false) ts i
     → (i < length ts → to ≤ (get_or ts i e).number) → from ≤ n → n < to → list_any (λ t. t.number == n) ts ≡ false
-none_touched ts from to i n e rising point next low high = any_none (λ t. t.number == n) ts (λ k d within. elim (cases_lt k i) [
+none_touched ts from to i n e rising point next low high = list_any_none (λ t. t.number == n) ts (λ k d within. elim (cases_lt k i) [
   | inl less ↦ let below = point.0 k d (omega arith) less in grind (arith, nat_tests)
   | inr le ↦
       let up = rising i k e le within in

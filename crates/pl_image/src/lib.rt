@@ -12,8 +12,6 @@ mod parts;
 mod patch;
 mod piece;
 mod ranges;
-#[cfg(test)]
-mod tests;
 mod touched;
 
 pub use image::{Image, loaded_byte};

@@ -1,8 +1,8 @@
 -- Reading a source piece by piece: the bytes that it had are those that were read and those that are left.
-use Rattle.std.proofs.Common.{◌≡◌, ℕ, ◌+◌, ◌-◌, ◌<◌, ◌≤◌, List, [], ◌++◌, length, length-append, length-drop, take, drop, Option, Some, None, refl, sym, ap, ◌∙◌, append_assoc, arith, true}
+use Rattle.std.proofs.Common.{◌≡◌, ℕ, ◌+◌, ◌-◌, ◌≤◌, List, ◌++◌, length, length-append, length-drop, take, drop, Option, Some, None, refl, sym, ap, ◌∙◌, append_assoc, arith}
 use Rattle.std.specs.Prelude.{is_some}
 use Rattle.std.proofs.lemmas.Bool.{false≢true}
-use Rattle.std.proofs.lemmas.List.{take-append-drop, append-nil}
+use Rattle.std.proofs.lemmas.List.{take-append-drop}
 use Rattle.std.proofs.Math.Seq.{take-append_seam, drop-append_seam}
 use Rattle.pl_io.specs.Reads.{TookKnown, HasMore}
 
@@ -10,11 +10,6 @@ use Rattle.pl_io.specs.Reads.{TookKnown, HasMore}
 abbrev pub before : List ℕ → Option (List ℕ) → Option (List ℕ)
 before got None = None
 before got (Some rest) = Some (got ++ rest)
-
--- nothing was read yet
-pub none_yet : (left : Option (List ℕ)) → left ≡ before [] left
-none_yet None = refl
-none_yet (Some rest) = refl
 
 -- what a call took, from the front of its buffer
 pub took : (left after : Option (List ℕ)) (n : ℕ) (old new : List ℕ) → n ≤ length old → length new ≡ length old → TookKnown left after n old new → left ≡ before (take n new) after
@@ -32,13 +27,6 @@ joined first left after got piece so_far more = so_far ∙ ap (before got) more 
     twice : (after : Option (List ℕ)) → before got (before piece after) ≡ before (got ++ piece) after
     twice None = refl
     twice (Some rest) = ap Some (simp append_assoc)
-
--- a call that takes nothing is at the end
-pub at_end : (first left after : Option (List ℕ)) (got old new : List ℕ) → first ≡ before got left → 0 < length old → TookKnown left after 0 old new → is_some first ≡ true → (first ≡ Some got) × (after ≡ Some [])
-at_end first None after got old new so_far room h told = absurd (false≢true (ap (λ (o : Option (List ℕ)). is_some o) (sym so_far) ∙ told))
-at_end first (Some left) after got old new so_far room h told =
-    let none : left ≡ [] = h.end refl room in
-    (so_far ∙ ap (λ (rest : List ℕ). Some (got ++ rest)) none ∙ ap Some (append-nil got), h.rest ∙ ap Some none)
 
 -- more was read than the source may have
 pub too_many : (first after : Option (List ℕ)) (got : List ℕ) (most : ℕ) → first ≡ before got after → length got ≡ most + 1 → HasMore first after most

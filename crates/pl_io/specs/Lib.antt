@@ -1,3 +1,4 @@
 pub mod Reads
 pub mod Scripts
 pub mod InMemory
+pub mod Outside

@@ -9,7 +9,7 @@ pub trait Sink {
     /// The bytes that the sink has got, where it tells them.
     ghost written: { Self → Option (List ℕ) };
 
-    /// How many calls have failed. The count never falls, and stands still at 2^64 - 1.
+    /// How many calls have failed. The count never falls, stays as it is where a call answers Ok, and stands still at 2^64 - 1.
     ghost faults: { Self → ℕ };
 
     /// Takes some first bytes, at least one of a piece that is not empty, and answers how many. After a fault it has got some first bytes, perhaps none or all, and nothing else.
@@ -20,6 +20,7 @@ pub trait Sink {
         ensures bytes_err { OnErr result (GotPrefix (written self.old) (written self.new) from.now) }
         ensures tells { is_some (written self.new) ≡ is_some (written self.old) }
         ensures failed { OnErr result (Rose (faults self.old) (faults self.new)) }
+        ensures quiet { OnOk result (faults self.new ≡ faults self.old) }
         ensures counts { faults self.old ≤ faults self.new };
 }
 
@@ -29,6 +30,7 @@ pub fn write_all<K: Sink>(sink: &mut K, bytes: &[u8]) -> Result<(), Failed>
     ensures err { OnErr result (GotPrefix (K.written sink.old) (K.written sink.new) bytes.now) }
     ensures tells { is_some (K.written sink.new) ≡ is_some (K.written sink.old) }
     ensures failed { OnErr result (Rose (K.faults sink.old) (K.faults sink.new)) }
+    ensures quiet { OnOk result (K.faults sink.new ≡ K.faults sink.old) }
     ensures counts { K.faults sink.old ≤ K.faults sink.new }
 {
     let mut done = 0;

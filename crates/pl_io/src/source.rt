@@ -10,7 +10,7 @@ pub trait Source {
     /// The bytes left, where the source tells them.
     ghost left: { Self → Option (List ℕ) };
 
-    /// How many calls have failed. The count never falls, and stands still at 2^64 - 1.
+    /// How many calls have failed. The count never falls, stays as it is where a call answers Ok, and stands still at 2^64 - 1.
     ghost faults: { Self → ℕ };
 
     /// Reads the next bytes into the front of the buffer, and answers how many. 0, for a buffer with room, is the end of input. After a fault nothing is promised of the buffer and of the bytes left.
@@ -19,6 +19,7 @@ pub trait Source {
         ensures bytes { IfOk result (λ n. TookKnown (left self.old) (left self.new) n into.old into.new) }
         ensures tells { is_some (left self.new) ≡ is_some (left self.old) }
         ensures failed { OnErr result (Rose (faults self.old) (faults self.new)) }
+        ensures quiet { OnOk result (faults self.new ≡ faults self.old) }
         ensures counts { faults self.old ≤ faults self.new };
 }
 
@@ -33,6 +34,7 @@ pub fn read_all<S: Source>(alloc: Global, source: &mut S, most: usize) -> Result
     ensures end { OnOk result (is_some (S.left source.old) ≡ true → S.left source.new ≡ Some []) }
     ensures most { IfOk result (λ bytes. length bytes.items ≤ most) }
     ensures fault { IfErr result (StopsReading (S.left source.old) (S.left source.new) most (Rose (S.faults source.old) (S.faults source.new))) }
+    ensures quiet { OnOk result (S.faults source.new ≡ S.faults source.old) }
     ensures tells { is_some (S.left source.new) ≡ is_some (S.left source.old) }
     ensures counts { S.faults source.old ≤ S.faults source.new }
 {

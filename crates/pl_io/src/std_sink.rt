@@ -1,4 +1,8 @@
-ghost use Rattle.std.specs.Prelude.{◌≡◌, None};
+ghost use Rattle.std.specs.Prelude.{◌≡◌, ◌<◌, ◌≤◌, None, length, IfOk, OnOk, OnErr};
+ghost use Rattle.std.specs.Io.KnownBytes.{WriteAppends};
+ghost use Rattle.pl_base.specs.Counts.{Rose};
+ghost use Rattle.pl_base.specs.Streams.{GotPrefix};
+ghost use Rattle.pl_io.specs.Outside.{sink_faults, sink_writer};
 
 use crate::{Failed, Sink};
 use std::io::Write;
@@ -25,7 +29,16 @@ impl<W: Write> Sink for StdSink<W> {
     ghost faults = { λ s. s.faults };
 
     /// Each error of the writer is a fault, and so is a write that takes nothing of a piece that is not empty.
-    fn write(&mut self, from: &[u8]) -> Result<usize, Failed> {
+    fn write(&mut self, from: &[u8]) -> Result<usize, Failed>
+        ensures bound { IfOk result (λ n. n ≤ length from.now) }
+        ensures some { IfOk result (λ n. 0 < length from.now → 0 < n) }
+        ensures bytes_err { OnErr result (GotPrefix None None from.now) }
+        ensures failed { OnErr result (Rose (sink_faults self.old) (sink_faults self.new)) }
+        ensures quiet { OnOk result (sink_faults self.new ≡ sink_faults self.old) }
+        ensures counts { sink_faults self.old ≤ sink_faults self.new }
+        // Where the writer tells its bytes, it has got as many as are answered, and none after an error.
+        ensures through { WriteAppends (W.contents (sink_writer self.old)) (W.contents (sink_writer self.new)) result from.now }
+    {
         match self.writer.write(from) {
             Ok(n) if n > 0 || from.is_empty() => Ok(n),
             _ => {

@@ -1,4 +1,7 @@
-ghost use Rattle.std.specs.Prelude.{◌≡◌, None};
+ghost use Rattle.std.specs.Prelude.{◌≡◌, ◌≤◌, None, length, IfOk, OnOk, OnErr};
+ghost use Rattle.std.specs.Io.KnownBytes.{ReadConsumes};
+ghost use Rattle.pl_base.specs.Counts.{Rose};
+ghost use Rattle.pl_io.specs.Outside.{source_faults, source_reader};
 
 use crate::{Failed, Source};
 use std::io::Read;
@@ -25,7 +28,14 @@ impl<R: Read> Source for StdSource<R> {
     ghost faults = { λ s. s.faults };
 
     /// Each error of the reader is a fault.
-    fn read(&mut self, into: &mut [u8]) -> Result<usize, Failed> {
+    fn read(&mut self, into: &mut [u8]) -> Result<usize, Failed>
+        ensures bound { IfOk result (λ n. n ≤ length into.old) }
+        ensures failed { OnErr result (Rose (source_faults self.old) (source_faults self.new)) }
+        ensures quiet { OnOk result (source_faults self.new ≡ source_faults self.old) }
+        ensures counts { source_faults self.old ≤ source_faults self.new }
+        // Where the reader tells its bytes, those that are answered are taken from it, none only at its end, and none after an error.
+        ensures through { ReadConsumes (R.remaining (source_reader self.old)) (R.remaining (source_reader self.new)) result into.new }
+    {
         match self.reader.read(into) {
             Ok(n) => Ok(n),
             Err(_) => {

@@ -1,7 +1,7 @@
 -- A list that is read is spelled so, and a list that is spelled so is read.
 use Rattle.std.proofs.Common.{◌≡◌, ℕ, zero, suc, ◌+◌, ◌-◌, ◌*◌, ◌/◌, ◌%◌, ◌^◌, ◌<◌, ◌≤◌, true, ◌==◌, nat_lt, nat_le, List, [], ◌∷◌, ◌++◌, length, take, drop, Result, Ok, Err, refl, sym, ap, subst, ◌∙◌, append_assoc, arith, take-append-drop, drop-cons, length-append, length-drop, length-take}
 use Rattle.std.specs.List.{list_all, range_with_len}
-use Rattle.std.proofs.lemmas.Bool.{lt-ltb, le-ltb, le-leb, ltb-true, leb-true, eqb-true}
+use Rattle.std.proofs.lemmas.Bool.{and_parts, lt-ltb, le-ltb, le-leb, ltb-true, leb-true, eqb-true}
 use Rattle.std.proofs.lemmas.List.{drop-drop, drop_at, take_at, drop_all, get_or-drop}
 use Rattle.std.proofs.Math.Seq.{get_or-append_seam, drop-append-add}
 use Rattle.std.specs.Prelude.{IfOk}
@@ -9,13 +9,15 @@ use Rattle.pl_base.specs.Answers.{◌>>=◌, Answers}
 use Rattle.pl_base.specs.Bytes.{IsBytes, byte, word32, bytes32, part}
 use Rattle.pl_base.specs.Each.{each}
 use Rattle.pl_base.specs.Names.{is_valid_name}
-use Rattle.pl_base.proofs.WordLaws.{word32_below, length_bytes32}
+use Rattle.pl_base.proofs.AnswerLaws.{bind_ok, refuse_ok, ok_same}
+use Rattle.pl_base.proofs.WordLaws.{word32_below, word32_back, split32, length_bytes32}
 use Rattle.pl_lists.specs.declared.list_row.ListRow.{ListRow}
 use Rattle.pl_lists.specs.declared.fault.ListFault.{ListFault}
+use Rattle.pl_lists.specs.declared.fault.ListFault.TheVariants.{BadList}
 use Rattle.pl_lists.specs.Lists.{list_strings, after, row_bytes, list_bytes, is_row, are_distinct, are_placed, IsListOf}
 use Rattle.pl_lists.specs.Reading.{is_memory, start_at, is_ended, has_zeros, checked_name, named, row_between, row_at, rows_of, with_distinct, list_of}
-use Rattle.pl_lists.proofs.StepLaws.{bind_ok, refuse_ok, refuse_two, both, all_three, same_value}
-use Rattle.pl_lists.proofs.FieldLaws.{word32_drop, split32, front32, behind32}
+use Rattle.pl_lists.proofs.StepLaws.{refuse_two, all_three}
+use Rattle.pl_lists.proofs.FieldLaws.{word32_drop, behind32}
 
 -- ---- where rows begin
 
@@ -49,14 +51,14 @@ ended start end strings e =
 zeros : (at : ℕ) (table : List ℕ) → has_zeros at table ≡ true → (word32 (at + 12) table ≡ 0) × (word32 (at + 16) table ≡ 0)
 unfolding has_zeros
 zeros at table e =
-    let t = both (word32 (at + 12) table == 0) (word32 (at + 16) table == 0) e in
+    let t = and_parts (word32 (at + 12) table == 0) (word32 (at + 16) table == 0) e in
     (eqb-true _ _ t.0, eqb-true _ _ t.1)
 
 checked : (bytes name : List ℕ) → checked_name bytes ≡ Ok name → (is_valid_name bytes ≡ true) × (bytes ≡ name)
 unfolding checked_name
 checked bytes name e =
-    let t = refuse_ok (is_valid_name bytes) (Ok bytes) name e in
-    (t.0, same_value bytes name t.1)
+    let t = refuse_ok (is_valid_name bytes) BadList (Ok bytes) name e in
+    (t.0, ok_same bytes name t.1)
 
 -- strings from an offset on, cut behind a 0
 cut : (strings : List ℕ) (start size end : ℕ) → end ≡ start + (size + 1) → end ≤ length strings → byte (end - 1) strings ≡ 0 → drop start strings ≡ part start size strings ++ 0 ∷ drop end strings
@@ -87,7 +89,7 @@ row_read table strings at start end row e =
       zero_16 = ends.1;
       valid = name.0;
     } in
-    subst (λ (r : ListRow). IsRow table strings at start end r) (rw name.1 (same_value _ row b.2)) whole
+    subst (λ (r : ListRow). IsRow table strings at start end r) (rw name.1 (ok_same _ row b.2)) whole
 
 -- ---- rows as bytes
 
@@ -154,16 +156,16 @@ all_found (suc count) index table strings rows bytes size e =
     let one = bind_ok (row_at table strings index) (λ row. each (row_at table strings) (range_with_len (index + 1) count) >>= λ later. Ok (row ∷ later)) rows e in
     let more = bind_ok (each (row_at table strings) (range_with_len (index + 1) count)) (λ later. Ok (one.0 ∷ later)) rows one.2 in
     let later = all_found count (index + 1) table strings more.0 bytes (omega (arith, size)) more.1 in
-    subst (λ (rs : List ListRow). AreRows table strings index rs) (same_value (one.0 ∷ more.0) rows more.2)
+    subst (λ (rs : List ListRow). AreRows table strings index rs) (ok_same (one.0 ∷ more.0) rows more.2)
     (one_found table strings index one.0 more.0 bytes (omega (arith, size)) one.1 later)
 
 pub is_found : (table strings : List ℕ) (rows : List ListRow) → IsBytes table → list_of table strings ≡ Ok rows → IsListOf table strings rows
 unfolding list_of
 is_found table strings rows bytes e =
-    let whole = refuse_ok (length table % 20 == 0) (rows_of table strings >>= with_distinct) rows e in
+    let whole = refuse_ok (length table % 20 == 0) BadList (rows_of table strings >>= with_distinct) rows e in
     let size : length table % 20 ≡ 0 = eqb-true _ _ whole.0 in
     let b = bind_ok (rows_of table strings) with_distinct rows whole.1 in
-    let d = refuse_ok (are_distinct b.0) (Ok b.0) rows b.2 in
+    let d = refuse_ok (are_distinct b.0) BadList (Ok b.0) rows b.2 in
     let found = all_found (length table / 20) 0 table strings b.0 bytes (omega (arith, size)) b.1 in
     let start = start_at table strings 0 in
     let at : length (take start strings) ≡ start = omega (arith, found.within, length-take start strings) in
@@ -174,7 +176,7 @@ is_found table strings rows bytes e =
       placed = rw at found.placed;
       is_spelled = rw (found.are_rows, d.0) refl;
     } in
-    subst (λ (rs : List ListRow). IsListOf table strings rs) (same_value b.0 rows d.1) list
+    subst (λ (rs : List ListRow). IsListOf table strings rs) (ok_same b.0 rows d.1) list
 
 pub answer_found : (table strings : List ℕ) (answer : Result (List ListRow) ListFault) → IsBytes table → Answers is_memory answer (list_of table strings) → IfOk answer (IsListOf table strings)
 answer_found table strings (Ok rows) bytes meant = is_found table strings rows bytes meant
@@ -203,11 +205,11 @@ row_words table at start row rest there small stamp checksum =
     let r4 = bytes32 row.stamp ++ r8 in
     let word : (k : ℕ) → word32 (at + k) table ≡ word32 k (bytes32 start ++ r4) = λ k. word32_drop at k table ∙ ap (word32 k) (there ∙ flat_row start row rest) in
     record {
-      start_there = ap (λ (n : ℕ). word32 n table) (sym (omega arith)) ∙ word 0 ∙ front32 start r4 small;
-      stamp = word 4 ∙ behind32 0 start r4 ∙ front32 row.stamp r8 stamp;
-      checksum = word 8 ∙ behind32 4 start r4 ∙ behind32 0 row.stamp r8 ∙ front32 row.checksum r12 checksum;
-      zero_12 = word 12 ∙ behind32 8 start r4 ∙ behind32 4 row.stamp r8 ∙ behind32 0 row.checksum r12 ∙ front32 0 r16 (omega arith);
-      zero_16 = word 16 ∙ behind32 12 start r4 ∙ behind32 8 row.stamp r8 ∙ behind32 4 row.checksum r12 ∙ behind32 0 0 r16 ∙ front32 0 rest (omega arith);
+      start_there = ap (λ (n : ℕ). word32 n table) (sym (omega arith)) ∙ word 0 ∙ word32_back start r4 small;
+      stamp = word 4 ∙ behind32 0 start r4 ∙ word32_back row.stamp r8 stamp;
+      checksum = word 8 ∙ behind32 4 start r4 ∙ behind32 0 row.stamp r8 ∙ word32_back row.checksum r12 checksum;
+      zero_12 = word 12 ∙ behind32 8 start r4 ∙ behind32 4 row.stamp r8 ∙ behind32 0 row.checksum r12 ∙ word32_back 0 r16 (omega arith);
+      zero_16 = word 16 ∙ behind32 12 start r4 ∙ behind32 8 row.stamp r8 ∙ behind32 4 row.checksum r12 ∙ behind32 0 0 r16 ∙ word32_back 0 rest (omega arith);
     }
 
 -- these rows are what is left of a table and of strings
@@ -227,8 +229,8 @@ row_parts row e =
 words_left : (table strings : List ℕ) (index at : ℕ) (row : ListRow) (rows : List ListRow) → AreLeft table strings index at (row ∷ rows) → AreWords table (20 * index) at row
 unfolding are_placed list_bytes
 words_left table strings index at row rows left =
-    let small = both (nat_lt at (2 ^ 32)) (are_placed (after at row) rows) left.placed in
-    let parts = row_parts row (both (is_row row) (list_all is_row rows) left.are_rows).0 in
+    let small = and_parts (nat_lt at (2 ^ 32)) (are_placed (after at row) rows) left.placed in
+    let parts = row_parts row (and_parts (is_row row) (list_all is_row rows) left.are_rows).0 in
     row_words table (20 * index) at row (list_bytes (after at row) rows) left.in_table (ltb-true _ _ small.0) parts.1 parts.2
 
 begins : (table strings : List ℕ) (index at : ℕ) (rows : List ListRow) → AreLeft table strings index at rows → start_at table strings index ≡ at
@@ -261,8 +263,8 @@ next_left table strings index at row rows left =
       in_table = ap (λ (n : ℕ). drop n table) (sym next) ∙ sym (drop-drop 20 (20 * index) table) ∙ ap (drop 20) left.in_table ∙ drop_at (row_bytes at row) (list_bytes (after at row) rows) 20 (length_row_bytes at row);
       in_strings = sym (drop-drop (length row.name + 1) at strings) ∙ ap (drop (length row.name + 1)) left.in_strings ∙ drop-append-add row.name (0 ∷ list_strings rows) 1;
       within = after_within table strings index at row rows left;
-      placed = (both (nat_lt at (2 ^ 32)) (are_placed (after at row) rows) left.placed).1;
-      are_rows = (both (is_row row) (list_all is_row rows) left.are_rows).1;
+      placed = (and_parts (nat_lt at (2 ^ 32)) (are_placed (after at row) rows) left.placed).1;
+      are_rows = (and_parts (is_row row) (list_all is_row rows) left.are_rows).1;
     }
 
 one_again : (table strings : List ℕ) (index at : ℕ) (row : ListRow) (rows : List ListRow) → AreLeft table strings index at (row ∷ rows) → row_at table strings index ≡ Ok row
@@ -270,7 +272,7 @@ unfolding row_at row_between is_ended has_zeros checked_name list_strings
 one_again table strings index at row rows left =
     let words = words_left table strings index at row rows left in
     let within = after_within table strings index at row rows left in
-    let parts = row_parts row (both (is_row row) (list_all is_row rows) left.are_rows).0 in
+    let parts = row_parts row (and_parts (is_row row) (list_all is_row rows) left.are_rows).0 in
     let some : at < after at row = omega arith in
     let last : after at row - 1 ≡ at + length row.name = omega arith in
     let size : after at row - 1 - at ≡ length row.name = omega arith in
@@ -311,7 +313,7 @@ is_read table strings rows list =
     let size : length table ≡ 20 * length rows = ap length list.in_table ∙ length_list_bytes at rows in
     let whole : length table % 20 ≡ 0 = omega (arith, size) in
     let count : length table / 20 ≡ length rows = omega (arith, size) in
-    let spelled = both (list_all is_row rows) (are_distinct rows) list.is_spelled in
+    let spelled = and_parts (list_all is_row rows) (are_distinct rows) list.is_spelled in
     let left : AreLeft table strings 0 at rows = record {
       in_table = list.in_table;
       in_strings = ap (drop at) list.in_strings ∙ drop_at list.before (list_strings rows) at refl;
@@ -322,4 +324,4 @@ is_read table strings rows list =
     rw (whole, count, all_again rows 0 at table strings left, spelled.1) refl
 
 pub is_one : (table strings : List ℕ) (rows others : List ListRow) → IsListOf table strings rows → IsListOf table strings others → rows ≡ others
-is_one table strings rows others list other = same_value rows others (sym (is_read table strings rows list) ∙ is_read table strings others other)
+is_one table strings rows others list other = ok_same rows others (sym (is_read table strings rows list) ∙ is_read table strings others other)

@@ -7,6 +7,7 @@ use Rattle.std.proofs.lemmas.List.Elements.{All-head, All-tail, All-cons, All-we
 use Rattle.std.proofs.lemmas.List.Folds.{list_any-append}
 use Rattle.pl_base.specs.Memory.{Piece, AtMostOne, lies}
 use Rattle.pl_base.proofs.MemoryLaws.{within_true}
+use Rattle.pl_base.proofs.WindowLaws.{or_false}
 use Rattle.pl_elf.specs.Headers.{loads}
 use Rattle.pl_elf.specs.Clauses.{ascend_from}
 use Rattle.pl_elf.specs.declared.constants.TheConstants.{ADDRESS_LIMIT}
@@ -42,11 +43,8 @@ alone_one (p ∷ ps) alone i zero a d lt within hit = absurd (omega (arith, lt))
 alone_one (p ∷ ps) alone zero (suc j) a d lt within hit = none_at a ps j d (omega (arith, within)) (alone.0 a hit)
 alone_one (p ∷ ps) alone (suc i) (suc j) a d lt within hit = alone_one ps alone.1 i j a d (omega (arith, lt)) (omega (arith, within)) hit
 
-either_false : (b c : Bool) → b ≡ false → c ≡ false → (b || c) ≡ false
-either_false b c p q = rw (p, q) refl
-
 none_of_both : (a : ℕ) (ps qs : List Piece) → list_any (lies a) ps ≡ false → list_any (lies a) qs ≡ false → list_any (lies a) (ps ++ qs) ≡ false
-none_of_both a ps qs left right = list_any-append (lies a) ps qs ∙ either_false (list_any (lies a) ps) (list_any (lies a) qs) left right
+none_of_both a ps qs left right = list_any-append (lies a) ps qs ∙ or_false (list_any (lies a) ps) (list_any (lies a) qs) left right
 
 alone_append : (ps qs : List Piece) → Alone ps → Alone qs → ((a : ℕ) → list_any (lies a) ps ≡ true → list_any (lies a) qs ≡ false) → Alone (ps ++ qs)
 alone_append [] qs front back cross = back

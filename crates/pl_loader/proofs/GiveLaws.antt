@@ -2,9 +2,10 @@
 use Rattle.std.proofs.Common.{◌≡◌, ℕ, true, false, List, Option, Some, None, Result, Ok, Err, refl, sym, ap, ◌∙◌}
 use Rattle.std.specs.Prelude.{MatchBool, ⊤}
 use Rattle.pl_base.specs.Answers.{◌>>=◌, because}
+use Rattle.pl_base.proofs.AnswerLaws.{bind_ok, ok_same, unless_ok}
 use Rattle.pl_object.specs.Reads.{reads}
 use Rattle.pl_object.specs.declared.object.Object.{Object}
-use Rattle.pl_object.proofs.AcceptedLaws.{bind_ok, because_ok}
+use Rattle.pl_object.proofs.AcceptedLaws.{because_ok}
 use Rattle.pl_scope.specs.Kinds.{is_library}
 use Rattle.pl_scope.specs.Walking.{wants}
 use Rattle.std.specs.Prelude.{◌&&◌}
@@ -14,7 +15,6 @@ use Rattle.pl_loader.specs.Loading.{Loading}
 use Rattle.pl_loader.specs.Walk.{loadable, object_in, entered, taken, of_wanted, give}
 use Rattle.pl_loader.specs.declared.fault.LoadFault.{LoadFault}
 use Rattle.pl_loader.specs.declared.fault.LoadFault.TheVariants.{NotThere, NotProgram}
-use Rattle.pl_loader.proofs.StepLaws.{ok_is, unless_ok}
 
 -- there is no file
 pub give_lacks : (l : Loading) (n m : List ℕ) (file : Option (List ℕ)) → Some n ≡ wants l.order → file ≡ None → m ≡ n → give l file ≡ Err (NotThere m)
@@ -53,4 +53,4 @@ unfolding object_in loadable
 object_read name n bytes o is =
     let p = bind_ok (because (of_refusal n) (reads bytes)) (loadable name n) o is in
     let q = unless_ok (bytes_eq n name && is_library p.0.kind) (NotProgram n) (Ok p.0) o p.2 in
-    because_ok (of_refusal n) (reads bytes) p.0 p.1 ∙ ap (λ (x : Object). Ok x) (ok_is p.0 o (Ok p.0) refl q.1)
+    because_ok (of_refusal n) (reads bytes) p.0 p.1 ∙ ap (λ (x : Object). Ok x) (ok_same p.0 o q.1)

@@ -5,8 +5,9 @@ use Rattle.std.proofs.lemmas.List.{map_push}
 use Rattle.std.proofs.lemmas.Option.{slice_get_within}
 use Rattle.pl_base.specs.Answers.{◌>>=◌, because}
 use Rattle.pl_base.specs.Each.{each}
+use Rattle.pl_base.proofs.AnswerLaws.{bind_ok, ok_same}
 use Rattle.pl_object.specs.declared.object.Object.{Object}
-use Rattle.pl_object.proofs.AcceptedLaws.{bind_ok, because_ok}
+use Rattle.pl_object.proofs.AcceptedLaws.{because_ok}
 use Rattle.pl_scope.specs.Walking.{Walking, IsWalking, wants}
 use Rattle.pl_scope.specs.Walk.{Walked}
 use Rattle.pl_scope.specs.Walk as walk
@@ -19,7 +20,7 @@ use Rattle.pl_loader.specs.Walk.{object_in, entered, taken, of_wanted, give, wit
 use Rattle.pl_loader.specs.declared.object_file.ObjectFile.{ObjectFile}
 use Rattle.pl_loader.specs.declared.fault.LoadFault.{LoadFault}
 use Rattle.pl_loader.specs.declared.fault.LoadFault.TheVariants.{NotThere}
-use Rattle.pl_loader.proofs.StepLaws.{ok_is, bind_err, because_err, give_walking}
+use Rattle.pl_loader.proofs.StepLaws.{bind_err, because_err, give_walking}
 
 -- ---- one more result
 
@@ -29,11 +30,11 @@ push_step {B = B} f xs ys bs x z y b first rest is = rw (first, rest) (ap (λ (z
 
 each_push : {A B E : Type 0} (f : A → Result B E) (xs : List A) (ys : List B) (x : A) (y : B) → each f xs ≡ Ok ys → f x ≡ Ok y → each f (xs ++ x ∷ []) ≡ Ok (ys ++ y ∷ [])
 unfolding each
-each_push {B = B} f [] ys x y front last = rw last (ap (λ (zs : List B). Ok (zs ++ y ∷ [])) (ok_is [] ys _ refl front))
+each_push {B = B} f [] ys x y front last = rw last (ap (λ (zs : List B). Ok (zs ++ y ∷ [])) (ok_same [] ys front))
 each_push f (z ∷ xs) ys x y front last =
     let p = bind_ok (f z) (λ b. each f xs >>= λ bs. Ok (b ∷ bs)) ys front in
     let q = bind_ok (each f xs) (λ bs. Ok (p.0 ∷ bs)) ys p.2 in
-    push_step f xs ys q.0 x z y p.0 p.1 (each_push f xs q.0 x y q.1 last) (ok_is (p.0 ∷ q.0) ys _ refl q.2)
+    push_step f xs ys q.0 x z y p.0 p.1 (each_push f xs q.0 x y q.1 last) (ok_same (p.0 ∷ q.0) ys q.2)
 
 -- ---- one file more
 
@@ -56,7 +57,7 @@ entry_is l m n bytes is given =
       order = q.0;
       read = p.1;
       given = because_ok of_walk (walk.give l.order p.0) q.0 q.1;
-      is = sym (ok_is (with_file l q.0 (record { name = n; bytes = bytes; object = p.0 })) m (Ok (with_file l q.0 (record { name = n; bytes = bytes; object = p.0 }))) refl q.2);
+      is = sym (ok_same (with_file l q.0 (record { name = n; bytes = bytes; object = p.0 })) m q.2);
     }
 
 -- one more file was given
@@ -173,15 +174,6 @@ load_stops {E} fault file name n (Some bytes) l f is there stops way =
           walk_stops (walk_fault fault) (object_of fault file name) name (map member l.files) l.order n later.0 later.2.0 lt is (object_is fault file name n bytes (Ok later.0) there (as_named (Ok later.0) later.1)) later.2.1 way.walk
           ∙ ap (λ (g : LoadFault). Err (fault g)) later.2.2
     ])
-
--- the same, or a want of memory
-pub load_stops_or : {E : Type 0} (fault : LoadFault → E) (file : List ℕ → Result (List ℕ) E) (name n : List ℕ) (given : Option (List ℕ)) (l : Loading) (f : LoadFault) → wants l.order ≡ Some n → IsFile fault file n given
-    → MatchBool (is_memory f) ⊤ (give l given ≡ Err f) → IsUnderWay fault file name l → MatchBool (is_memory f) ⊤ (files fault file name ≡ Err (fault f))
-load_stops_or fault file name n given l f is there stops way =
-    elim (is_memory f) as (λ b. MatchBool b ⊤ (give l given ≡ Err f) → MatchBool b ⊤ (files fault file name ≡ Err (fault f))) [
-      | true ↦ λ _. tt
-      | false ↦ λ stop. load_stops fault file name n given l f is there stop way
-    ] stops
 
 -- no name is wanted: the files that were given are all
 pub load_ends : {E : Type 0} (fault : LoadFault → E) (file : List ℕ → Result (List ℕ) E) (name : List ℕ) (l : Loading) → wants l.order ≡ None → IsUnderWay fault file name l → files fault file name ≡ Ok l.files

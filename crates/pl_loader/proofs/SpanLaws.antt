@@ -1,19 +1,21 @@
 -- What acceptance says of the addresses that an object takes.
 use Rattle.std.proofs.Common.{◌≡◌, ℕ, ◌+◌, ◌<◌, ◌≤◌, Bool, true, false, not, ◌||◌, List, [], ◌∷◌, Option, Some, None, Ok, Err, refl, sym, subst, arith, inl, inr, lit<}
-use Rattle.std.specs.Prelude.{fold, max, find, nat_lt, ◌==◌, ◌⊎◌, if◌then◌else◌}
+use Rattle.std.specs.Prelude.{fold, max, find, ◌==◌, ◌⊎◌, if◌then◌else◌}
 use Rattle.std.specs.List.{All, list_any}
 use Rattle.std.specs.Int.{is_power_of_two}
-use Rattle.std.proofs.lemmas.Bool.{cases_Bool, cases_lt, or_parts, and_parts, ltb-false, leb-true, eqb-true, false≢true}
+use Rattle.std.proofs.lemmas.Bool.{cases_Bool, cases_lt, or_parts, and_parts, leb-true, eqb-true, false≢true}
 use Rattle.std.proofs.lemmas.List.Elements.{All-nil, All-cons, All-head, All-tail, All-weaker}
 use Rattle.pl_base.specs.Answers.{because}
 use Rattle.pl_base.specs.Sums.{round_up}
 use Rattle.pl_base.specs.Windows.{Window}
 use Rattle.pl_base.proofs.SumLaws.{round_up-at_least}
+use Rattle.pl_base.proofs.AnswerLaws.{bind_ok, ok_same, unless_ok}
 use Rattle.pl_elf.specs.Headers.{is_load, loads}
-use Rattle.pl_elf.specs.Clauses.{AreLoads, ascend_from, bad_load, bad_align, not_congruent}
+use Rattle.pl_elf.specs.Clauses.{AreLoads, ascend_from, bad_load, bad_align}
 use Rattle.pl_elf.specs.Clauses as elf
-use Rattle.pl_elf.specs.declared.constants.TheConstants.{ADDRESS_LIMIT, MAX_LOAD_ALIGN}
+use Rattle.pl_elf.specs.declared.constants.TheConstants.{ADDRESS_LIMIT, PAGE}
 use Rattle.pl_elf.specs.declared.segment.Segment.{Segment}
+use Rattle.pl_elf.proofs.AcceptedLaws.{LoadFits, load_fits, loads_fit}
 use Rattle.pl_dyn.specs.Entries.{entries, null_count, is_ended}
 use Rattle.pl_dyn.specs.Read as dyn
 use Rattle.pl_dyn.specs.declared.dynamic.Dynamic.{Dynamic}
@@ -21,23 +23,21 @@ use Rattle.pl_dyn.specs.declared.fault.DynFault.TheVariants as dyn_fault
 use Rattle.pl_object.specs.FilePart.{loads_byte, loader, file_window, in_file_part, loaded}
 use Rattle.pl_object.specs.PlaceClauses.{last_load}
 use Rattle.pl_object.specs.TableClauses.{check_tables}
-use Rattle.pl_object.specs.Tables.{dynamic_range}
+use Rattle.pl_object.specs.Tables.{dynamic_memory}
 use Rattle.pl_object.specs.Reads.{reads, headers, parts, static_program, static_object, linked, linking, layout, check, checked, too_large, object, dynamic, span, align, end_in_memory}
 use Rattle.pl_object.specs.Refusals.{of_header, of_dynamic}
-use Rattle.pl_object.specs.declared.constants.TheConstants.{PAGE}
 use Rattle.pl_object.specs.declared.headers.Headers.{Headers}
 use Rattle.pl_object.specs.declared.object.Object.{Object}
 use Rattle.pl_object.specs.declared.refusal.Refusal.TheVariants.{Clause}
-use Rattle.pl_object.proofs.AcceptedLaws.{bind_ok, because_ok, accepted}
+use Rattle.pl_object.proofs.AcceptedLaws.{because_ok, accepted}
 use Rattle.pl_object.proofs.FilePartLaws.{loads_parts, find_passes}
 use Rattle.pl_scope.specs.Kinds.{is_library}
-use Rattle.pl_loader.proofs.StepLaws.{ok_is, unless_ok}
 
 -- ---- the parts of an object
 
 -- a dynamic table that is read is loaded from a PT_LOAD
 abbrev HasDynamic : List Segment → Type 0
-HasDynamic ss = (s : Segment) × (loader ss (dynamic_range ss).at ≡ Some s)
+HasDynamic ss = (s : Segment) × (loader ss (dynamic_memory ss).at ≡ Some s)
 
 record IsShaped (o : Object) : Type 0 where
   pub span : o.span ≡ span o.segments
@@ -64,8 +64,8 @@ loads_dynamic bytes ss memory d None is read = absurd (never_ended (read_ended [
 dynamic_loaded : (bytes : List ℕ) (ss : List Segment) (d : Dynamic) → dynamic bytes ss ≡ Ok d → HasDynamic ss
 unfolding dynamic
 dynamic_loaded bytes ss d is =
-    elim (cases_Bool (in_file_part ss (dynamic_range ss))) [
-      | inl hit ↦ loads_dynamic bytes ss (dynamic_range ss) d (loader ss (dynamic_range ss).at) refl (rw hit at is)
+    elim (cases_Bool (in_file_part ss (dynamic_memory ss))) [
+      | inl hit ↦ loads_dynamic bytes ss (dynamic_memory ss) d (loader ss (dynamic_memory ss).at) refl (rw hit at is)
       | inr miss ↦ absurd (no (rw miss at is))
     ]
   where
@@ -79,7 +79,7 @@ shaped_linked bytes f d o has e =
     let l = bind_ok (linking bytes f d.tags) _ o t.2 in
     let places = layout bytes f d.tags l.0 in
     let c = bind_ok (check bytes f d.tags l.0 places) _ o l.2 in
-    let is : object f d l.0 places ≡ o = ok_is (object f d l.0 places) o _ refl c.2 in
+    let is : object f d l.0 places ≡ o = ok_same (object f d l.0 places) o c.2 in
     let whole : IsShaped (object f d l.0 places) = record { span = refl; align = refl; dynamic = λ library. has } in
     subst IsShaped is whole
 
@@ -87,7 +87,7 @@ shaped_static : (bytes : List ℕ) (f : Headers) (o : Object) → static_program
 unfolding static_program static_object
 shaped_static bytes f o e =
     let p = unless_ok (too_large bytes) (Clause 30 0) (Ok (static_object f)) o e in
-    let is : static_object f ≡ o = ok_is (static_object f) o _ refl p.1 in
+    let is : static_object f ≡ o = ok_same (static_object f) o p.1 in
     let whole : IsShaped (static_object f) = record { span = refl; align = refl; dynamic = λ library. absurd (false≢true library) } in
     subst IsShaped is whole
 
@@ -161,28 +161,6 @@ found_holds P p (x ∷ ss) s all passes found =
     some_is : Some x ≡ Some s → x ≡ s
     some_is e = cc
 
--- no PT_LOAD is refused by itself
-abbrev IsFit : Segment → Type 0
-IsFit s = bad_load s ≡ false
-
-fit_all : (ss : List Segment) → list_any bad_load ss ≡ false → All IsFit ss
-fit_all [] none = All-nil IsFit
-fit_all (s ∷ ss) none = let p = or_parts (bad_load s) (list_any bad_load ss) none in All-cons IsFit s ss p.0 (fit_all ss p.1)
-
-record LoadFits (s : Segment) : Type 0 where
-  pub bytes : s.filesz ≤ s.memsz
-  pub align : bad_align s.align ≡ false
-  pub ends : s.vaddr + s.memsz ≤ ADDRESS_LIMIT
-
-load_fits : (s : Segment) → bad_load s ≡ false → LoadFits s
-unfolding bad_load
-load_fits s h =
-    let a = or_parts (nat_lt s.memsz s.filesz || bad_align s.align || nat_lt MAX_LOAD_ALIGN s.align || not_congruent s) (nat_lt ADDRESS_LIMIT (s.vaddr + s.memsz)) h in
-    let b = or_parts (nat_lt s.memsz s.filesz || bad_align s.align || nat_lt MAX_LOAD_ALIGN s.align) (not_congruent s) a.0 in
-    let c = or_parts (nat_lt s.memsz s.filesz || bad_align s.align) (nat_lt MAX_LOAD_ALIGN s.align) b.0 in
-    let d = or_parts (nat_lt s.memsz s.filesz) (bad_align s.align) c.0 in
-    record { bytes = ltb-false s.memsz s.filesz d.0; align = d.1; ends = ltb-false ADDRESS_LIMIT (s.vaddr + s.memsz) a.1 }
-
 -- ---- the alignment
 
 bad_align_is : (n : ℕ) → bad_align n ≡ false → (n ≡ 0) ⊎ (is_power_of_two n ≡ true)
@@ -231,9 +209,9 @@ power_of o shape are = rw shape.align (power_from PAGE (loads o.segments) page_p
 some_span : (o : Object) → IsShaped o → AreLoads (loads o.segments) → All (Ends o.span) (loads o.segments) → is_library o.kind ≡ true → 0 < o.span
 some_span o shape are ends library =
     let found = shape.dynamic library in
-    let at : ℕ = (dynamic_range o.segments).at in
+    let at : ℕ = (dynamic_memory o.segments).at in
     let byte = loads_parts at found.0 (find_passes (loads_byte at) o.segments found.0 found.1) in
-    let fits = load_fits found.0 (found_holds IsFit (loads_byte at) o.segments found.0 (fit_all (loads o.segments) are.fit) (λ x hit. (loads_parts at x hit).0) found.1) in
+    let fits = found_holds LoadFits (loads_byte at) o.segments found.0 (loads_fit (loads o.segments) are.fit) (λ x hit. (loads_parts at x hit).0) found.1 in
     let end = found_holds (Ends o.span) (loads_byte at) o.segments found.0 ends (λ x hit. (loads_parts at x hit).0) found.1 in
     omega (arith, byte.1, byte.2, fits.bytes, end)
 
@@ -244,7 +222,7 @@ spanned bytes o e =
     let ends : All (Ends o.span) (loads o.segments) = rw shape.span (span_ends o.segments are) in
     record {
       are = are;
-      below = All-weaker IsFit (Ends ADDRESS_LIMIT) (λ s fit. (load_fits s fit).ends) (loads o.segments) (fit_all (loads o.segments) are.fit);
+      below = All-weaker LoadFits (Ends ADDRESS_LIMIT) (λ s fits. fits.ends) (loads o.segments) (loads_fit (loads o.segments) are.fit);
       span = ends;
       power = power_of o shape are;
       some = some_span o shape are ends;

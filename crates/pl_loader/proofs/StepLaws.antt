@@ -9,8 +9,8 @@ use Rattle.std.proofs.lemmas.List.Elements.{All-nil, All-push}
 use Rattle.std.proofs.lemmas.Option.{slice_get_within}
 use Rattle.pl_base.specs.Answers.{◌>>=◌, because, unless, unless_found}
 use Rattle.pl_base.specs.Each.{run}
+use Rattle.pl_base.proofs.AnswerLaws.{bind_ok, ok_same, unless_ok}
 use Rattle.pl_object.specs.declared.object.Object.{Object}
-use Rattle.pl_object.proofs.AcceptedLaws.{bind_ok}
 use Rattle.pl_scope.specs.Kinds.{is_library}
 use Rattle.pl_scope.specs.Walking.{Walking, IsWalking, wants}
 use Rattle.pl_scope.specs.Walk.{added, checked, needed_program, program_name, entered, next, of_wanted}
@@ -22,13 +22,6 @@ use Rattle.pl_loader.specs.Walk.{with_file}
 use Rattle.pl_loader.specs.declared.object_file.ObjectFile.{ObjectFile}
 
 -- ---- results
-
-pub ok_is : {X E : Type 0} (x y : X) (r : Result X E) → r ≡ Ok x → r ≡ Ok y → x ≡ y
-ok_is x y r e f = cc
-
-pub unless_ok : {X E : Type 0} (test : Bool) (fault : E) (next : Result X E) (x : X) → unless test fault next ≡ Ok x → (test ≡ false) × (next ≡ Ok x)
-unless_ok true fault next x e = absurd cc
-unless_ok false fault next x e = (refl, e)
 
 -- a step whose end is a refusal: its own, or that of what goes on with its value
 pub bind_err : {A B E : Type 0} (r : Result A E) (f : A → Result B E) (e : E) → (r >>= f) ≡ Err e → (r ≡ Err e) ⊎ ((x : A) × (r ≡ Ok x) × (f x ≡ Err e))
@@ -46,11 +39,11 @@ unfolding added
 added_few names new n le is =
     elim (cases_Bool (list_any (λ m. bytes_eq m n) names)) [
       | inl hit ↦
-          let same : names ≡ new = ok_is names new _ refl (rw hit at is) in
+          let same : names ≡ new = ok_same names new (rw hit at is) in
           rw (← same) (omega arith, le)
       | inr miss ↦
           let p = unless_ok (nat_le MAX_MEMBERS (length names)) (TooMany n) (Ok (names ++ n ∷ [])) new (rw miss at is) in
-          let same : names ++ n ∷ [] ≡ new = ok_is (names ++ n ∷ []) new _ refl p.1 in
+          let same : names ++ n ∷ [] ≡ new = ok_same (names ++ n ∷ []) new p.1 in
           let room = leb-false MAX_MEMBERS (length names) p.0 in
           let size = length_push names n in
           rw (← same) (omega arith, omega arith)
@@ -58,7 +51,7 @@ added_few names new n le is =
 
 run_few : (names new needed : List (List ℕ)) → length names ≤ MAX_MEMBERS → run added names needed ≡ Ok new → (length names ≤ length new) × (length new ≤ MAX_MEMBERS)
 unfolding run
-run_few names new [] le is = let same : names ≡ new = ok_is names new _ refl is in rw (← same) (omega arith, le)
+run_few names new [] le is = let same : names ≡ new = ok_same names new is in rw (← same) (omega arith, le)
 run_few names new (n ∷ ns) le is =
     let p = bind_ok (added names n) (λ t. run added t ns) new is in
     let one = added_few names p.0 n le p.1 in
@@ -81,7 +74,7 @@ give_is w v n o is given =
     let entry : entered w n o ≡ Ok v = sym (ap (of_wanted w o) is) ∙ given in
     let p = bind_ok (checked w n o) (λ _. run added w.names o.needed >>= λ all. Ok (next w o all)) v entry in
     let q = bind_ok (run added w.names o.needed) (λ all. Ok (next w o all)) v p.2 in
-    record { names = q.0; unit = p.0; checks = p.1; adds = q.1; is = sym (ok_is (next w o q.0) v _ refl q.2) }
+    record { names = q.0; unit = p.0; checks = p.1; adds = q.1; is = sym (ok_same (next w o q.0) v q.2) }
 
 pub give_walking : (w v : Walking) (n : List ℕ) (o : Object) → IsWalking w → wants w ≡ Some n → walk.give w o ≡ Ok v → IsWalking v
 give_walking w v n o walking is given =

@@ -5,14 +5,13 @@ use Rattle.pl_base.specs.Answers.{◌>>=◌, because}
 use Rattle.pl_base.specs.Memory.{Memory}
 use Rattle.pl_base.specs.Sums.{round_up, round_down}
 use Rattle.pl_elf.specs.Headers.{loads}
-use Rattle.pl_elf.specs.declared.constants.TheConstants.{ADDRESS_LIMIT}
+use Rattle.pl_elf.specs.declared.constants.TheConstants.{ADDRESS_LIMIT, PAGE}
 use Rattle.pl_elf.specs.declared.range.Range.{Range}
 use Rattle.pl_elf.specs.declared.segment.Segment.{Segment}
 use Rattle.pl_sym.specs.declared.symbol.Symbol.{Symbol}
 use Rattle.pl_tls.specs.Layout.{offsets}
 use Rattle.pl_tls.specs.declared.block.Block.{Block}
 use Rattle.pl_tls.specs.declared.module.Module.{Module}
-use Rattle.pl_object.specs.declared.constants.TheConstants.{PAGE}
 use Rattle.pl_image.specs.Image.{Image, byte_of, extents_of}
 use Rattle.pl_value.specs.Ordinary.{loaded, ordinary}
 use Rattle.pl_value.specs.declared.fault.LinkFault.{LinkFault}

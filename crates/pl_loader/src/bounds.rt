@@ -7,9 +7,8 @@ ghost use Rattle.pl_loader.specs.Started as spec;
 
 use crate::{ObjectFile, Placed};
 use pl_base::{Rows, Text, round_down, round_up};
-use pl_elf::constants::ADDRESS_LIMIT as LIMIT;
+use pl_elf::constants::{ADDRESS_LIMIT as LIMIT, PAGE};
 use pl_elf::{Segment, loads};
-use pl_object::constants::PAGE;
 use std::alloc::{AllocError, Global};
 
 /// The lowest address of PT_LOADs, as linked.

@@ -1,3 +1,6 @@
+ghost use Rattle.std.specs.Prelude.{◌≡◌};
+ghost use Rattle.pl_loader.specs.declared.fault.LoadFault.TheVariants as faults;
+
 use pl_base::{Rows, Text};
 use pl_io::NoMemory;
 use pl_place::PlaceFault;
@@ -114,9 +117,6 @@ impl fmt::Debug for LoadFault {
 }
 
 impl From<NoMemory> for LoadFault {
-    ghost use Rattle.std.specs.Prelude.{◌≡◌};
-    ghost use Rattle.pl_loader.specs.declared.fault.LoadFault.TheVariants as faults;
-
     ghost from_gives = { λ _ fault. fault ≡ faults.NoMemory };
 
     fn from(_: NoMemory) -> LoadFault {
@@ -125,9 +125,6 @@ impl From<NoMemory> for LoadFault {
 }
 
 impl From<AllocError> for LoadFault {
-    ghost use Rattle.std.specs.Prelude.{◌≡◌};
-    ghost use Rattle.pl_loader.specs.declared.fault.LoadFault.TheVariants as faults;
-
     ghost from_gives = { λ _ fault. fault ≡ faults.NoMemory };
 
     fn from(_: AllocError) -> LoadFault {
@@ -136,9 +133,6 @@ impl From<AllocError> for LoadFault {
 }
 
 impl<T: Drop> From<AllocFailed<T>> for LoadFault {
-    ghost use Rattle.std.specs.Prelude.{◌≡◌};
-    ghost use Rattle.pl_loader.specs.declared.fault.LoadFault.TheVariants as faults;
-
     ghost from_gives = { λ _ fault. fault ≡ faults.NoMemory };
 
     fn from(_: AllocFailed<T>) -> LoadFault {
@@ -147,7 +141,6 @@ impl<T: Drop> From<AllocFailed<T>> for LoadFault {
 }
 
 impl From<WalkFault> for LoadFault {
-    ghost use Rattle.std.specs.Prelude.{◌≡◌};
     ghost use Rattle.pl_loader.specs.Faults.{of_walk};
 
     ghost from_gives = { λ fault load. load ≡ of_walk fault };
@@ -163,7 +156,6 @@ impl From<WalkFault> for LoadFault {
 }
 
 impl From<TlsFault> for LoadFault {
-    ghost use Rattle.std.specs.Prelude.{◌≡◌};
     ghost use Rattle.pl_loader.specs.Faults.{of_tls};
 
     ghost from_gives = { λ fault load. load ≡ of_tls fault };
@@ -177,7 +169,6 @@ impl From<TlsFault> for LoadFault {
 }
 
 impl From<PlaceFault> for LoadFault {
-    ghost use Rattle.std.specs.Prelude.{◌≡◌};
     ghost use Rattle.pl_loader.specs.Faults.{of_place};
 
     ghost from_gives = { λ fault load. load ≡ of_place fault };

@@ -12,8 +12,6 @@ mod placed;
 mod placing;
 mod started;
 mod starting;
-#[cfg(test)]
-mod tests;
 mod tls_module;
 
 pub use constants::{REGION_END, REGION_START};

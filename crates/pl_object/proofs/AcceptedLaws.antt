@@ -6,7 +6,7 @@ use Rattle.std.specs.Result.{is_ok}
 use Rattle.std.proofs.lemmas.Bool.{cases_Bool, or_parts, and_parts, leb-true}
 use Rattle.std.proofs.lemmas.List.{length-take}
 use Rattle.pl_base.specs.Answers.{Answers, ◌>>=◌, unless_found, because}
-use Rattle.pl_base.proofs.AnswerLaws.{refuse_none, refuse_next}
+use Rattle.pl_base.proofs.AnswerLaws.{refuse_none, refuse_next, bind_ok, ok_same}
 use Rattle.pl_base.specs.Windows.{Window, end_of}
 use Rattle.pl_elf.specs.Headers.{segments, loads}
 use Rattle.pl_elf.specs.Clauses as elf
@@ -21,7 +21,7 @@ use Rattle.pl_dyn.specs.declared.tags.Tag.{Tag}
 use Rattle.pl_dyn.specs.declared.dynamic.Dynamic.{Dynamic}
 use Rattle.pl_sym.specs.declared.symbol.Symbol.{Symbol}
 use Rattle.pl_object.specs.FilePart.{file_window, loaded}
-use Rattle.pl_object.specs.Tables.{symbols_range, sections_window, range_of, static_windows}
+use Rattle.pl_object.specs.Tables.{symbols_memory, sections_window, range_of, static_windows}
 use Rattle.pl_object.specs.Names.{strings, needed, symbols, versions, versioned}
 use Rattle.pl_object.specs.SymbolClauses.{has_ifunc, check_symbols}
 use Rattle.pl_object.specs.TableClauses.{check_tables}
@@ -39,11 +39,6 @@ use Rattle.pl_object.proofs.ExtentLaws.{is_in, header_read, link_windows_in, sta
 use Rattle.pl_object.proofs.NameLaws.{symbols_fit, length-versioned}
 
 -- ---- results that are not refused
-
--- a step whose end is no refusal: the value that it goes on with
-pub bind_ok : {A B E : Type 0} (r : Result A E) (f : A → Result B E) (y : B) → (r >>= f) ≡ Ok y → (x : A) × (r ≡ Ok x) × (f x ≡ Ok y)
-bind_ok (Ok x) f y e = (x, refl, e)
-bind_ok (Err e) f y h = absurd cc
 
 pub because_ok : {X E F : Type 0} (fault : E → F) (r : Result X E) (x : X) → because fault r ≡ Ok x → r ≡ Ok x
 because_ok {X} {E} fault (Ok y) x e = let same : y ≡ x = cc in ap (λ (z : X). Ok z) same
@@ -112,9 +107,6 @@ ranges_in size (w ∷ ws) all (suc i) d lt = ranges_in size ws (and_parts (is_in
 
 -- ---- symbols
 
-ok_same : {X E : Type 0} (x y : X) (r : Result X E) → r ≡ Ok x → r ≡ Ok y → x ≡ y
-ok_same x y r e f = cc
-
 part_fits : (n k : ℕ) (xs : List ℕ) → length (take n (drop k xs)) ≤ length xs
 part_fits n k xs = omega (arith, length-take n (drop k xs), length-drop k xs)
 
@@ -124,10 +116,10 @@ few_symbols bytes f tags l e =
     let names = bind_ok (needed tags (strings bytes f.segments tags)) _ l e in
     let bare = bind_ok (symbols bytes f.segments f.sections tags) _ l names.2 in
     let known = bind_ok (versions bytes f.segments f.sections tags bare.0) _ l bare.2 in
-    let is = ok_same _ l _ refl known.2 in
+    let is = ok_same _ l known.2 in
     let same : versioned bare.0 known.0 ≡ l.symbols = ap (λ (x : Linking). x.symbols) is in
-    let window = file_window f.segments (symbols_range tags f.sections) in
-    let fit = symbols_fit (loaded bytes f.segments (symbols_range tags f.sections)) (strings bytes f.segments tags) bare.0 (because_ok of_symbols _ bare.0 bare.1) in
+    let window = file_window f.segments (symbols_memory tags f.sections) in
+    let fit = symbols_fit (loaded bytes f.segments (symbols_memory tags f.sections)) (strings bytes f.segments tags) bare.0 (because_ok of_symbols _ bare.0 bare.1) in
     omega (arith, ap length same, length-versioned bare.0 known.0, fit, part_fits window.size window.at bytes)
 
 -- ---- the whole
@@ -155,14 +147,14 @@ accepted_linked bytes h d o read dynamic loads e =
       plain = pass.plain;
       copies = rest_passes bytes h f.segments d.tags l.0.symbols places.relocations c.0 r.2;
     } in
-    rw (ok_same _ o _ refl c.2) at whole
+    rw (ok_same _ o c.2) at whole
 
 accepted_static : (bytes : List ℕ) (h : Header) (o : Object) → elf.read bytes ≡ Ok h → AreLoads (loads (segments bytes h)) → static_program bytes (headers bytes h) ≡ Ok o → Accepted bytes o
 unfolding headers static_program static_object reloc_outside reloc_overlap reloc_in_tables spots odd_addend misplaced_copy
 accepted_static bytes h o read loads e =
     let f = headers bytes h in
     let none = refuse_none ((too_large bytes, Clause 30 0) ∷ []) (Ok (static_object f)) (ap (λ (r : Result Object Refusal). is_ok r) e) in
-    let is = ok_same (static_object f) o (Ok (static_object f)) refl (sym (refuse_next ((too_large bytes, Clause 30 0) ∷ []) (Ok (static_object f)) none) ∙ e) in
+    let is = ok_same (static_object f) o (sym (refuse_next ((too_large bytes, Clause 30 0) ∷ []) (Ok (static_object f)) none) ∙ e) in
     let whole : Accepted bytes (static_object f) = record {
       loads = loads;
       tables = ranges_in (length bytes) (static_windows h f.sections) (static_windows_in bytes h read);

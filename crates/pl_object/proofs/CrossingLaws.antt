@@ -9,7 +9,7 @@ use Rattle.std.proofs.lemmas.Bool.Decides.{nat_tests}
 use Rattle.pl_base.specs.Windows.{Window, end_of, share}
 use Rattle.pl_object.specs.PlaceClauses.{meets}
 use Rattle.pl_object.specs.declared.crossing.Mark.{Mark}
-use Rattle.pl_object.specs.Crossing.{table_mark, spot_mark, further, is_met, other, table_after, spot_after, cross}
+use Rattle.pl_object.specs.Crossing.{mark, further, is_met, other, table_after, spot_after, cross}
 use Rattle.pl_object.proofs.PairLaws.{any_pair, any_pair_permuted}
 
 -- a table and a spot that share a byte
@@ -46,14 +46,14 @@ or_false : (b : Bool) → b ≡ (b || false)
 or_false true = refl
 or_false false = refl
 
-table_adds : (table spot w : Window) (n : Mark) → w.at ≤ n.window.at → meets_mark (further table w) spot n ≡ (meets_mark table spot n || crosses (table_mark w) n)
+table_adds : (table spot w : Window) (n : Mark) → w.at ≤ n.window.at → meets_mark (further table w) spot n ≡ (meets_mark table spot n || crosses (mark true w) n)
 table_adds table spot w n le = by n.is_table
   where
     by : (b : Bool) → is_met (cond b spot (further table w)) n.window ≡ (is_met (cond b spot table) n.window || cond b false (share w n.window))
     by true = or_false (is_met spot n.window)
     by false = met_more table w n.window le
 
-spot_adds : (table spot w : Window) (n : Mark) → w.at ≤ n.window.at → meets_mark table (further spot w) n ≡ (meets_mark table spot n || crosses (spot_mark w) n)
+spot_adds : (table spot w : Window) (n : Mark) → w.at ≤ n.window.at → meets_mark table (further spot w) n ≡ (meets_mark table spot n || crosses (mark false w) n)
 spot_adds table spot w n le = by n.is_table
   where
     by : (b : Bool) → is_met (cond b (further spot w) table) n.window ≡ (is_met (cond b spot table) n.window || cond b (share w n.window) false)
@@ -86,15 +86,15 @@ cross_is_by : (table spot w : Window) (ms : List Mark) (b : Bool) → Above w.at
 cross_is_by table spot w ms true above more =
     rw (
       more (further table w) spot,
-      any_above (meets_mark (further table w) spot) (meets_mark table spot) (crosses (table_mark w)) w.at ms above (λ n le. table_adds table spot w n le),
+      any_above (meets_mark (further table w) spot) (meets_mark table spot) (crosses (mark true w)) w.at ms above (λ n le. table_adds table spot w n le),
     )
-    (or_moves (is_met spot w) (list_any (meets_mark table spot) ms) (list_any (crosses (table_mark w)) ms) (any_pair crosses ms))
+    (or_moves (is_met spot w) (list_any (meets_mark table spot) ms) (list_any (crosses (mark true w)) ms) (any_pair crosses ms))
 cross_is_by table spot w ms false above more =
     rw (
       more table (further spot w),
-      any_above (meets_mark table (further spot w)) (meets_mark table spot) (crosses (spot_mark w)) w.at ms above (λ n le. spot_adds table spot w n le),
+      any_above (meets_mark table (further spot w)) (meets_mark table spot) (crosses (mark false w)) w.at ms above (λ n le. spot_adds table spot w n le),
     )
-    (or_moves (is_met table w) (list_any (meets_mark table spot) ms) (list_any (crosses (spot_mark w)) ms) (any_pair crosses ms))
+    (or_moves (is_met table w) (list_any (meets_mark table spot) ms) (list_any (crosses (mark false w)) ms) (any_pair crosses ms))
 
 pub cross_is : (table spot : Window) (ms : List Mark) → Rising ms → cross table spot ms ≡ (list_any (meets_mark table spot) ms || any_pair crosses ms)
 unfolding cross
@@ -151,19 +151,19 @@ crosses_flip m n = by m.is_table n.is_table
 
 -- ---- tables and spots side by side
 
-no_table : (w : Window) (ts : List Window) → list_any (crosses (table_mark w)) (map table_mark ts) ≡ false
+no_table : (w : Window) (ts : List Window) → list_any (crosses (mark true w)) (map (mark true) ts) ≡ false
 no_table w [] = refl
 no_table w (t ∷ ts) = no_table w ts
 
-no_spot : (w : Window) (ws : List Window) → list_any (crosses (spot_mark w)) (map spot_mark ws) ≡ false
+no_spot : (w : Window) (ws : List Window) → list_any (crosses (mark false w)) (map (mark false) ws) ≡ false
 no_spot w [] = refl
 no_spot w (v ∷ ws) = no_spot w ws
 
-no_spots : (ws : List Window) → any_pair crosses (map spot_mark ws) ≡ false
+no_spots : (ws : List Window) → any_pair crosses (map (mark false) ws) ≡ false
 no_spots [] = refl
 no_spots (w ∷ ws) = rw (no_spot w ws) (no_spots ws)
 
-met_by : (t : Window) (ws : List Window) → list_any (crosses (table_mark t)) (map spot_mark ws) ≡ list_any (λ w. share w t) ws
+met_by : (t : Window) (ws : List Window) → list_any (crosses (mark true t)) (map (mark false) ws) ≡ list_any (λ w. share w t) ws
 met_by t [] = refl
 met_by t (w ∷ ws) = rw (share_flips t w, met_by t ws) refl
 
@@ -171,11 +171,11 @@ none_meet : (ws : List Window) → list_any (meets []) ws ≡ false
 none_meet [] = refl
 none_meet (w ∷ ws) = none_meet ws
 
-pairs_are : (ts ws : List Window) → any_pair crosses (map table_mark ts ++ map spot_mark ws) ≡ list_any (meets ts) ws
+pairs_are : (ts ws : List Window) → any_pair crosses (map (mark true) ts ++ map (mark false) ws) ≡ list_any (meets ts) ws
 pairs_are [] ws = no_spots ws ∙ sym (none_meet ws)
 pairs_are (t ∷ ts) ws =
-    let first : list_any (crosses (table_mark t)) (map table_mark ts ++ map spot_mark ws) ≡ list_any (λ w. share w t) ws =
-    list_any-append (crosses (table_mark t)) (map table_mark ts) (map spot_mark ws) ∙ rw (no_table t ts) (met_by t ws) in
+    let first : list_any (crosses (mark true t)) (map (mark true) ts ++ map (mark false) ws) ≡ list_any (λ w. share w t) ws =
+    list_any-append (crosses (mark true t)) (map (mark true) ts) (map (mark false) ws) ∙ rw (no_table t ts) (met_by t ws) in
     rw (first, pairs_are ts ws) (sym (any_of_two (meets (t ∷ ts)) (λ w. share w t) (meets ts) ws (λ w. refl)))
 
 never_met : (w : Window) → is_met (record { at = 0; size = 0 }) w ≡ false
@@ -191,11 +191,11 @@ none_reach (m ∷ ms) = rw (none m.is_table m.window) (none_reach ms)
     none false w = never_met w
 
 -- the walk over tables and spots in order
-pub crossed : (ts ws : List Window) (sorted : List Mark) → IsPermutation (map table_mark ts ++ map spot_mark ws) sorted → IsNonDecreasingBy (λ m. m.window.at) sorted
+pub crossed : (ts ws : List Window) (sorted : List Mark) → IsPermutation (map (mark true) ts ++ map (mark false) ws) sorted → IsNonDecreasingBy (λ m. m.window.at) sorted
     → cross (record { at = 0; size = 0 }) (record { at = 0; size = 0 }) sorted ≡ list_any (meets ts) ws
 crossed ts ws sorted same up =
     let nothing : Window = record { at = 0; size = 0 } in
     cross_is nothing nothing sorted (rising_by sorted up)
     ∙ ap (λ (b : Bool). b || any_pair crosses sorted) (none_reach sorted)
-    ∙ sym (any_pair_permuted crosses crosses_flip (map table_mark ts ++ map spot_mark ws) sorted same)
+    ∙ sym (any_pair_permuted crosses crosses_flip (map (mark true) ts ++ map (mark false) ws) sorted same)
     ∙ pairs_are ts ws

@@ -18,7 +18,7 @@ use Rattle.pl_elf.specs.Headers.{header, segments, sections}
 use Rattle.pl_elf.specs.Clauses.{read, passes, not_elf, other_class, other_machine, other_kind, is_static, truncated, segment_passes, section_passes, bad_segment, bad_section, no_sections}
 use Rattle.pl_dyn.specs.declared.tags.Tag.{Tag}
 use Rattle.pl_object.specs.FilePart.{loads_byte, loader, loaded_by, file_window}
-use Rattle.pl_object.specs.Tables.{has_kind, header_window, segments_window, section_window, symtab_windows, dynamic_range, tag_ranges, link_windows, static_windows}
+use Rattle.pl_object.specs.Tables.{has_kind, header_window, segments_window, section_window, symtab_windows, dynamic_memory, tables_memory, link_windows, static_windows}
 use Rattle.pl_object.proofs.FilePartLaws.{find_passes, loads_parts}
 
 -- ---- what clauses 1 and 5 say
@@ -147,8 +147,8 @@ link_windows_in bytes h tags e dynamic =
     let loaded = rw dynamic at are.segments in
     let ss = segments bytes h in
     let secs = sections bytes h in
-    both_in (length bytes) (header_window ∷ segments_window h ∷ map (file_window ss) (dynamic_range ss ∷ tag_ranges tags secs)) (map section_window (filter (has_kind SHT_SYMTAB) secs))
-    (head_in bytes h (map (file_window ss) (dynamic_range ss ∷ tag_ranges tags secs)) are (file_windows_in bytes ss (dynamic_range ss ∷ tag_ranges tags secs) loaded))
+    both_in (length bytes) (header_window ∷ segments_window h ∷ map (file_window ss) (dynamic_memory ss ∷ tables_memory tags secs)) (map section_window (filter (has_kind SHT_SYMTAB) secs))
+    (head_in bytes h (map (file_window ss) (dynamic_memory ss ∷ tables_memory tags secs)) are (file_windows_in bytes ss (dynamic_memory ss ∷ tables_memory tags secs) loaded))
     (symtabs_in bytes secs are.sections)
 
 pub static_windows_in : (bytes : List ℕ) (h : Header) → read bytes ≡ Ok h → list_all (is_in (length bytes)) (static_windows h (sections bytes h)) ≡ true

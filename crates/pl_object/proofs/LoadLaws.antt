@@ -1,19 +1,14 @@
 -- What is known of the last PT_LOAD.
-use Rattle.std.proofs.Common.{◌≡◌, ◌+◌, ◌≤◌, false, ◌||◌, List, [], ◌∷◌, Option, Some, None, inl, inr}
-use Rattle.std.specs.Prelude.{IfSome, fold, if◌then◌else◌, nat_lt}
+use Rattle.std.proofs.Common.{◌≡◌, ◌+◌, ◌≤◌, false, List, [], ◌∷◌, Option, Some, None, inl, inr}
+use Rattle.std.specs.Prelude.{IfSome, fold, if◌then◌else◌}
 use Rattle.std.specs.List.{list_any}
-use Rattle.std.proofs.lemmas.Bool.{cases_Bool, or_parts, ltb-false}
-use Rattle.pl_elf.specs.declared.constants.TheConstants.{ADDRESS_LIMIT, MAX_LOAD_ALIGN}
+use Rattle.std.proofs.lemmas.Bool.{cases_Bool, or_parts}
+use Rattle.pl_elf.specs.declared.constants.TheConstants.{ADDRESS_LIMIT}
 use Rattle.pl_elf.specs.declared.segment.Segment.{Segment}
 use Rattle.pl_elf.specs.Headers.{is_load, loads}
-use Rattle.pl_elf.specs.Clauses.{AreLoads, bad_load, bad_align, not_congruent}
+use Rattle.pl_elf.specs.Clauses.{AreLoads, bad_load}
+use Rattle.pl_elf.proofs.AcceptedLaws.{load_fits}
 use Rattle.pl_object.specs.PlaceClauses.{last_load}
-
--- a load that is not refused by itself ends below the limit
-load_fits : (s : Segment) → bad_load s ≡ false → s.vaddr + s.memsz ≤ ADDRESS_LIMIT
-unfolding bad_load
-load_fits s h = ltb-false ADDRESS_LIMIT (s.vaddr + s.memsz)
-    (or_parts (nat_lt s.memsz s.filesz || bad_align s.align || nat_lt MAX_LOAD_ALIGN s.align || not_congruent s) (nat_lt ADDRESS_LIMIT (s.vaddr + s.memsz)) h).1
 
 abbrev Fits : Segment → Type 0
 Fits s = s.vaddr + s.memsz ≤ ADDRESS_LIMIT
@@ -25,7 +20,7 @@ fits_from found (s ∷ ss) before none =
     elim (cases_Bool (is_load s)) [
       | inl hit ↦
           let parts = or_parts (bad_load s) (list_any bad_load (loads ss)) (rw hit at none) in
-          rw hit (fits_from (Some s) ss (load_fits s parts.0) parts.1)
+          rw hit (fits_from (Some s) ss (load_fits s parts.0).ends parts.1)
       | inr miss ↦ rw miss (fits_from found ss before (rw miss at none))
     ]
 

@@ -78,19 +78,3 @@ later_places {X} x xs from (suc n) =
 pub at_places : {X : Type 0} (xs : List X) → map (slice_get xs) (range_with_len 0 (length xs)) ≡ map (λ x. Some x) xs
 at_places [] = refl
 at_places {X} (x ∷ xs) = ap (λ (os : List (Option X)). Some x ∷ os) (later_places x xs 0 (length xs) ∙ at_places xs)
-
--- ---- as far as a loop has come
-
-pub meets_more : {X : Type 0} (p : X → X → Bool) (key : X → ℕ) (x : X) (ys : List X) (i : ℕ) (d : X) → i < length ys
-    → meets_run p key x (drop i ys) ≡ cond (key (get_or ys i d) == key x) (p x (get_or ys i d) || meets_run p key x (drop (i + 1) ys)) false
-meets_more p key x ys i d lt = ap (meets_run p key x) (drop_more ys i d lt)
-
-pub meets_done : {X : Type 0} (p : X → X → Bool) (key : X → ℕ) (x : X) (ys : List X) (i : ℕ) → length ys ≤ i → meets_run p key x (drop i ys) ≡ false
-meets_done p key x ys i le = ap (meets_run p key x) (drop_all i ys le)
-
-pub runs_more : {X : Type 0} (p : X → X → Bool) (key : X → ℕ) (xs : List X) (i : ℕ) (d : X) → i < length xs
-    → any_run p key (drop i xs) ≡ (meets_run p key (get_or xs i d) (drop (i + 1) xs) || any_run p key (drop (i + 1) xs))
-runs_more p key xs i d lt = ap (any_run p key) (drop_more xs i d lt)
-
-pub runs_done : {X : Type 0} (p : X → X → Bool) (key : X → ℕ) (xs : List X) (i : ℕ) → length xs ≤ i → any_run p key (drop i xs) ≡ false
-runs_done p key xs i le = ap (any_run p key) (drop_all i xs le)

@@ -3,11 +3,8 @@ use Rattle.std.specs.Prelude.{Bool, true, false, ◌&&◌, ◌||◌, nat_lt, Lis
 use Rattle.pl_base.specs.Windows.{Window, end_of}
 use Rattle.pl_object.specs.declared.crossing.Mark.{Mark}
 
-abbrev pub table_mark : Window → Mark
-table_mark w = record { window = w; is_table = true }
-
-abbrev pub spot_mark : Window → Mark
-spot_mark w = record { window = w; is_table = false }
+abbrev pub mark : Bool → Window → Mark
+mark is_table w = record { window = w; is_table = is_table }
 
 -- of two windows the one whose bytes end later
 unfoldable pub further : Window → Window → Window

@@ -15,7 +15,7 @@ use Rattle.pl_ver.specs.Versions as ver
 use Rattle.pl_ver.specs.declared.constants.TheConstants.{VERSYM_SIZE}
 use Rattle.pl_ver.specs.declared.versions.Versions.{Versions}
 use Rattle.pl_object.specs.FilePart.{loaded}
-use Rattle.pl_object.specs.Tables.{has_tag, value, strings_range, symbols_range, section_range}
+use Rattle.pl_object.specs.Tables.{has_tag, value, strings_memory, symbols_memory, section_memory}
 use Rattle.pl_object.specs.Refusals.{of_symbols, of_versions}
 use Rattle.pl_object.specs.declared.refusal.Refusal.{Refusal}
 use Rattle.pl_object.specs.declared.refusal.Refusal.TheVariants.{Clause}
@@ -37,11 +37,11 @@ needed tags strings = each (needed_name strings) (filter (has_number DT_NEEDED) 
 -- ---- 16. BadSymbol
 
 unfoldable pub strings : List ℕ → List Segment → List Tag → List ℕ
-strings bytes ss tags = loaded bytes ss (strings_range tags)
+strings bytes ss tags = loaded bytes ss (strings_memory tags)
 
 -- the symbols, not yet with their versions
 unfoldable pub symbols : List ℕ → List Segment → List Section → List Tag → Result (List Symbol) Refusal
-symbols bytes ss secs tags = because of_symbols (table.symbols (loaded bytes ss (symbols_range tags secs)) (strings bytes ss tags))
+symbols bytes ss secs tags = because of_symbols (table.symbols (loaded bytes ss (symbols_memory tags secs)) (strings bytes ss tags))
 
 -- ---- 17. BadChain
 
@@ -64,9 +64,9 @@ miscounted versym symbols = not (length versym == VERSYM_SIZE * length symbols)
 -- the versions of the tables that a DT_VERSYM comes with
 unfoldable pub table_versions : List ℕ → List Segment → List Section → List Tag → Result Versions Refusal
 table_versions bytes ss secs tags = because of_versions (
-    ver.versions (loaded bytes ss (section_range DT_VERSYM tags secs))
-    (loaded bytes ss (section_range DT_VERDEF tags secs)) (record_count DT_VERDEF DT_VERDEFNUM tags)
-    (loaded bytes ss (section_range DT_VERNEED tags secs)) (record_count DT_VERNEED DT_VERNEEDNUM tags)
+    ver.versions (loaded bytes ss (section_memory DT_VERSYM tags secs))
+    (loaded bytes ss (section_memory DT_VERDEF tags secs)) (record_count DT_VERDEF DT_VERDEFNUM tags)
+    (loaded bytes ss (section_memory DT_VERNEED tags secs)) (record_count DT_VERNEED DT_VERNEEDNUM tags)
     (strings bytes ss tags))
 
 unfoldable pub counted : List ℕ → List Symbol → Versions → Result (Option Versions) Refusal
@@ -75,7 +75,7 @@ counted versym symbols versions = refuse ((miscounted versym symbols, Clause 18 
 unfoldable pub known_versions : List ℕ → List Segment → List Section → List Tag → List Symbol → Result (Option Versions) Refusal
 known_versions bytes ss secs tags symbols =
     if has_tag DT_VERSYM tags
-    then (table_versions bytes ss secs tags >>= counted (loaded bytes ss (section_range DT_VERSYM tags secs)) symbols)
+    then (table_versions bytes ss secs tags >>= counted (loaded bytes ss (section_memory DT_VERSYM tags secs)) symbols)
     else Ok None
 
 -- the versions, where there is a table of version words

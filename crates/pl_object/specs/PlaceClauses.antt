@@ -8,7 +8,8 @@ use Rattle.pl_elf.specs.Headers.{is_load}
 use Rattle.pl_elf.specs.declared.segment.Segment.{Segment}
 use Rattle.pl_object.specs.FilePart.{file_window, in_file_part}
 use Rattle.pl_object.specs.Relocations.{places}
-use Rattle.pl_object.specs.declared.constants.TheConstants.{RELOC_KINDS, R_X86_64_COPY, R_X86_64_GLOB_DAT, R_X86_64_JUMP_SLOT}
+use Rattle.pl_elf.specs.declared.constants.TheConstants.{R_X86_64_COPY, R_X86_64_GLOB_DAT, R_X86_64_JUMP_SLOT}
+use Rattle.pl_object.specs.declared.constants.TheConstants.{RELOC_KINDS}
 use Rattle.pl_object.specs.declared.reloc.Reloc.{Reloc}
 use Rattle.pl_object.specs.declared.refusal.Refusal.{Refusal}
 use Rattle.pl_object.specs.declared.refusal.Refusal.TheVariants.{Clause}
@@ -32,9 +33,12 @@ unfoldable pub last_load : List Segment → Option Segment
 last_load ss = fold (λ found s. if is_load s then Some s else found) None ss
 
 -- a window lies in the memory of a segment
+abbrev pub is_in_segment : Window → Segment → Bool
+is_in_segment memory s = nat_le s.vaddr memory.at && nat_le (end_of memory) (s.vaddr + s.memsz)
+
 abbrev pub is_in_memory : Window → Option Segment → Bool
 is_in_memory memory None = false
-is_in_memory memory (Some s) = nat_le s.vaddr memory.at && nat_le (end_of memory) (s.vaddr + s.memsz)
+is_in_memory memory (Some s) = is_in_segment memory s
 
 -- where a relocation may change memory: in the file part and, in a program, in the memory of the last PT_LOAD
 unfoldable pub is_held : Bool → List Segment → Window → Bool

@@ -5,7 +5,7 @@ use Rattle.pl_base.specs.Answers.{◌>>=◌, refuse, because}
 use Rattle.pl_base.specs.Sums.{round_up}
 use Rattle.pl_elf.specs.Headers.{segments, sections, loads, segment_of_kind}
 use Rattle.pl_elf.specs.Clauses as elf
-use Rattle.pl_elf.specs.declared.constants.TheConstants.{ET_EXEC, ET_DYN, PT_TLS, PT_INTERP}
+use Rattle.pl_elf.specs.declared.constants.TheConstants.{ET_EXEC, ET_DYN, PT_TLS, PT_INTERP, PAGE}
 use Rattle.pl_elf.specs.declared.header.Header.{Header}
 use Rattle.pl_elf.specs.declared.segment.Segment.{Segment}
 use Rattle.pl_dyn.specs.Read as dyn
@@ -17,14 +17,14 @@ use Rattle.pl_dyn.specs.declared.fault.DynFault.TheVariants as dyn_fault
 use Rattle.pl_sym.specs.declared.symbol.Symbol.{Symbol}
 use Rattle.pl_tls.specs.declared.block.Block.{Block}
 use Rattle.pl_object.specs.FilePart.{loaded, in_file_part}
-use Rattle.pl_object.specs.Tables.{has_tag, value, dynamic_range, rela_range, jmprel_range, sections_window, link_windows, static_windows, range_of}
+use Rattle.pl_object.specs.Tables.{has_tag, value, dynamic_memory, rela_memory, jmprel_memory, sections_window, link_windows, static_windows, range_of}
 use Rattle.pl_object.specs.TableClauses.{check_tables}
 use Rattle.pl_object.specs.Names.{strings, needed, symbols, versions, versioned}
 use Rattle.pl_object.specs.SymbolClauses.{hash_tables, check_symbols, has_ifunc}
 use Rattle.pl_object.specs.Relocations.{relocs}
 use Rattle.pl_object.specs.PlaceClauses.{last_load, check_relocs, misplaced_copy}
 use Rattle.pl_object.specs.Refusals.{of_header, of_dynamic}
-use Rattle.pl_object.specs.declared.constants.TheConstants.{ORIGINAL, PAGE}
+use Rattle.pl_object.specs.declared.constants.TheConstants.{ORIGINAL}
 use Rattle.pl_object.specs.declared.headers.Headers.{Headers}
 use Rattle.pl_object.specs.declared.layout.Layout.{Layout}
 use Rattle.pl_object.specs.declared.linking.Linking.{Linking}
@@ -39,7 +39,7 @@ use Rattle.pl_object.specs.declared.refusal.Refusal.TheVariants.{Clause}
 
 -- the dynamic table, where it is in the file part
 unfoldable pub dynamic : List ℕ → List Segment → Result Dynamic DynFault
-dynamic bytes ss = if in_file_part ss (dynamic_range ss) then dyn.read (loaded bytes ss (dynamic_range ss)) else Err dyn_fault.NoEnd
+dynamic bytes ss = if in_file_part ss (dynamic_memory ss) then dyn.read (loaded bytes ss (dynamic_memory ss)) else Err dyn_fault.NoEnd
 
 -- ---- 30. TooLarge
 
@@ -96,7 +96,7 @@ kind_of h = if h.kind == ET_EXEC then Program else Library
 -- the relocations of both tables
 unfoldable pub relocations : List ℕ → List Segment → List Tag → List Symbol → List Reloc
 relocations bytes ss tags symbols =
-    relocs symbols (loaded bytes ss (rela_range tags)) ++ relocs symbols (loaded bytes ss (jmprel_range tags))
+    relocs symbols (loaded bytes ss (rela_memory tags)) ++ relocs symbols (loaded bytes ss (jmprel_memory tags))
 
 -- the hash tables, the relocations of both tables, and the link tables
 unfoldable pub layout : List ℕ → Headers → List Tag → Linking → Layout

@@ -6,7 +6,7 @@ use Rattle.std.specs.Int.{w64, cast_signed}
 use Rattle.pl_base.specs.Bytes.{word32, word64}
 use Rattle.pl_base.specs.Windows.{Window}
 use Rattle.pl_sym.specs.declared.symbol.Symbol.{Symbol}
-use Rattle.pl_object.specs.declared.constants.TheConstants.{RELA_SIZE, WORD_SIZE, R_X86_64_NONE, R_X86_64_COPY}
+use Rattle.pl_elf.specs.declared.constants.TheConstants.{RELA_SIZE, WORD64_SIZE, R_X86_64_NONE, R_X86_64_COPY}
 use Rattle.pl_object.specs.declared.reloc.Reloc.{Reloc}
 
 abbrev pub size_of : Option Symbol → ℕ
@@ -16,7 +16,7 @@ size_of (Some s) = s.size
 -- how many bytes a relocation changes
 unfoldable pub width : List Symbol → ℕ → ℕ → ℕ
 width symbols kind symbol =
-    if kind == R_X86_64_NONE then 0 else (if kind == R_X86_64_COPY then size_of (slice_get symbols symbol) else WORD_SIZE)
+    if kind == R_X86_64_NONE then 0 else (if kind == R_X86_64_COPY then size_of (slice_get symbols symbol) else WORD64_SIZE)
 
 -- the relocation whose row begins at an offset
 unfoldable pub reloc_at : List Symbol → List ℕ → ℕ → Reloc

@@ -4,7 +4,7 @@ use Rattle.std.specs.List.{range_with_len, list_any}
 use Rattle.std.specs.Str.{bytes_eq}
 use Rattle.pl_base.specs.Answers.{refuse}
 use Rattle.pl_elf.specs.Headers.{segment_of_kind}
-use Rattle.pl_elf.specs.declared.constants.TheConstants.{PT_LOAD}
+use Rattle.pl_elf.specs.declared.constants.TheConstants.{PT_LOAD, PAGE}
 use Rattle.pl_elf.specs.declared.segment.Segment.{Segment}
 use Rattle.pl_elf.specs.declared.section.Section.{Section}
 use Rattle.pl_dyn.specs.declared.constants.TheConstants.{DT_HASH, DT_GNU_HASH}
@@ -22,8 +22,7 @@ use Rattle.pl_ver.specs.Versions.{version_of}
 use Rattle.pl_ver.specs.declared.constants.TheConstants.{VER_NDX_GLOBAL}
 use Rattle.pl_ver.specs.declared.versions.Versions.{Versions}
 use Rattle.pl_object.specs.FilePart.{loaded}
-use Rattle.pl_object.specs.Tables.{has_tag, section_range}
-use Rattle.pl_object.specs.declared.constants.TheConstants.{PAGE}
+use Rattle.pl_object.specs.Tables.{has_tag, section_memory}
 use Rattle.pl_object.specs.declared.refusal.Refusal.{Refusal}
 use Rattle.pl_object.specs.declared.refusal.Refusal.TheVariants.{Clause}
 
@@ -42,7 +41,7 @@ base_not_zero program ss = not program && is_above (segment_of_kind PT_LOAD ss)
 -- the hash table of a tag, where the tag is there
 unfoldable pub hash_table : List ℕ → List Segment → List Section → List Tag → ℕ → Bool → ℕ → List Table
 hash_table bytes ss secs tags count gnu number =
-    if has_tag number tags then record { words = loaded bytes ss (section_range number tags secs); gnu = gnu; symbols = count } ∷ [] else []
+    if has_tag number tags then record { words = loaded bytes ss (section_memory number tags secs); gnu = gnu; symbols = count } ∷ [] else []
 
 unfoldable pub hash_tables : List ℕ → List Segment → List Section → List Tag → ℕ → List Table
 hash_tables bytes ss secs tags count =

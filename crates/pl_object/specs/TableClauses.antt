@@ -3,7 +3,7 @@ use Rattle.std.specs.Prelude.{ℕ, ◌%◌, Bool, not, ◌&&◌, ◌||◌, ◌==
 use Rattle.std.specs.List.{list_any}
 use Rattle.pl_base.specs.Answers.{refuse}
 use Rattle.pl_base.specs.Windows.{any_share}
-use Rattle.pl_elf.specs.declared.constants.TheConstants.{SHT_DYNSYM}
+use Rattle.pl_elf.specs.declared.constants.TheConstants.{SHT_DYNSYM, RELA_SIZE}
 use Rattle.pl_elf.specs.declared.header.Header.{Header}
 use Rattle.pl_elf.specs.declared.segment.Segment.{Segment}
 use Rattle.pl_elf.specs.declared.section.Section.{Section}
@@ -12,8 +12,7 @@ use Rattle.pl_dyn.specs.declared.constants.TheConstants.{DT_PLTRELSZ, DT_HASH, D
 use Rattle.pl_dyn.specs.declared.tags.Tag.{Tag}
 use Rattle.pl_sym.specs.declared.constants.TheConstants.{SYMBOL_SIZE}
 use Rattle.pl_object.specs.FilePart.{in_file_part}
-use Rattle.pl_object.specs.Tables.{has_tag, value, has_kind, is_lost, tag_ranges, main_windows}
-use Rattle.pl_object.specs.declared.constants.TheConstants.{RELA_SIZE}
+use Rattle.pl_object.specs.Tables.{has_tag, value, has_kind, is_lost, tables_memory, main_windows}
 use Rattle.pl_object.specs.declared.refusal.Refusal.{Refusal}
 use Rattle.pl_object.specs.declared.refusal.Refusal.TheVariants.{Clause}
 
@@ -41,7 +40,7 @@ any_lost tags secs =
 
 -- a table that a tag names is not in the file part
 unfoldable pub any_outside : List Segment → List Section → List Tag → Bool
-any_outside ss secs tags = any_lost tags secs || list_any (λ w. not (in_file_part ss w)) (tag_ranges tags secs)
+any_outside ss secs tags = any_lost tags secs || list_any (λ w. not (in_file_part ss w)) (tables_memory tags secs)
 
 -- two tables overlap in the file
 unfoldable pub tables_overlap : Header → List Segment → List Section → List Tag → Bool

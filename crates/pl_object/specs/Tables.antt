@@ -29,22 +29,22 @@ memory_of None = nothing
 memory_of (Some s) = record { at = s.vaddr; size = s.filesz }
 
 -- the bytes in the file of PT_DYNAMIC
-unfoldable pub dynamic_range : List Segment → Window
-dynamic_range ss = memory_of (segment_of_kind PT_DYNAMIC ss)
+unfoldable pub dynamic_memory : List Segment → Window
+dynamic_memory ss = memory_of (segment_of_kind PT_DYNAMIC ss)
 
 -- as many bytes as one tag says at the address of another; none where one of the two is absent
-unfoldable pub tag_range : ℕ → ℕ → List Tag → Window
-tag_range address size tags =
+unfoldable pub tag_memory : ℕ → ℕ → List Tag → Window
+tag_memory address size tags =
     if has_tag address tags && has_tag size tags then record { at = value address tags; size = value size tags } else nothing
 
-abbrev pub strings_range : List Tag → Window
-strings_range tags = tag_range DT_STRTAB DT_STRSZ tags
+abbrev pub strings_memory : List Tag → Window
+strings_memory tags = tag_memory DT_STRTAB DT_STRSZ tags
 
-abbrev pub rela_range : List Tag → Window
-rela_range tags = tag_range DT_RELA DT_RELASZ tags
+abbrev pub rela_memory : List Tag → Window
+rela_memory tags = tag_memory DT_RELA DT_RELASZ tags
 
-abbrev pub jmprel_range : List Tag → Window
-jmprel_range tags = tag_range DT_JMPREL DT_PLTRELSZ tags
+abbrev pub jmprel_memory : List Tag → Window
+jmprel_memory tags = tag_memory DT_JMPREL DT_PLTRELSZ tags
 
 abbrev pub has_kind : ℕ → Section → Bool
 has_kind kind s = s.kind == kind
@@ -54,8 +54,8 @@ size_of None = 0
 size_of (Some s) = s.size
 
 -- as many bytes as the DYNSYM section has
-unfoldable pub symbols_range : List Tag → List Section → Window
-symbols_range tags secs = record { at = value DT_SYMTAB tags; size = size_of (find (has_kind SHT_DYNSYM) secs) }
+unfoldable pub symbols_memory : List Tag → List Section → Window
+symbols_memory tags secs = record { at = value DT_SYMTAB tags; size = size_of (find (has_kind SHT_DYNSYM) secs) }
 
 abbrev pub is_allocated : Section → Bool
 is_allocated s = not (bit_and s.flags SHF_ALLOC == 0)
@@ -65,8 +65,8 @@ unfoldable pub begins_at : ℕ → Section → Bool
 begins_at address s = is_allocated s && not (s.kind == SHT_NOBITS) && nat_lt 0 s.size && s.addr == address
 
 -- as many bytes as the first section has that begins where a tag says; none where the tag or such a section is absent
-unfoldable pub section_range : ℕ → List Tag → List Section → Window
-section_range number tags secs =
+unfoldable pub section_memory : ℕ → List Tag → List Section → Window
+section_memory number tags secs =
     if has_tag number tags then record { at = value number tags; size = size_of (find (begins_at (value number tags)) secs) } else nothing
 
 -- a tag is there, and no section begins where it says
@@ -74,11 +74,11 @@ unfoldable pub is_lost : ℕ → List Tag → List Section → Bool
 is_lost number tags secs = has_tag number tags && not (list_any (begins_at (value number tags)) secs)
 
 -- the tables that a tag names
-unfoldable pub tag_ranges : List Tag → List Section → List Window
-tag_ranges tags secs =
-    symbols_range tags secs ∷ strings_range tags ∷ rela_range tags ∷ jmprel_range tags
-    ∷ section_range DT_HASH tags secs ∷ section_range DT_GNU_HASH tags secs
-    ∷ section_range DT_VERSYM tags secs ∷ section_range DT_VERDEF tags secs ∷ section_range DT_VERNEED tags secs ∷ []
+unfoldable pub tables_memory : List Tag → List Section → List Window
+tables_memory tags secs =
+    symbols_memory tags secs ∷ strings_memory tags ∷ rela_memory tags ∷ jmprel_memory tags
+    ∷ section_memory DT_HASH tags secs ∷ section_memory DT_GNU_HASH tags secs
+    ∷ section_memory DT_VERSYM tags secs ∷ section_memory DT_VERDEF tags secs ∷ section_memory DT_VERNEED tags secs ∷ []
 
 -- ---- windows of the file
 
@@ -102,14 +102,14 @@ symtab_windows secs = map section_window (filter (has_kind SHT_SYMTAB) secs)
 unfoldable pub main_windows : Header → List Segment → List Section → List Tag → List Window
 main_windows h ss secs tags =
     (header_window ∷ segments_window h ∷ sections_window h
-    ∷ file_window ss (dynamic_range ss) ∷ file_window ss (symbols_range tags secs)
-    ∷ file_window ss (rela_range tags) ∷ file_window ss (jmprel_range tags) ∷ [])
+    ∷ file_window ss (dynamic_memory ss) ∷ file_window ss (symbols_memory tags secs)
+    ∷ file_window ss (rela_memory tags) ∷ file_window ss (jmprel_memory tags) ∷ [])
     ++ symtab_windows secs
 
 -- the link tables: a byte of memory that is loaded from one of their bytes belongs to the link alone
 unfoldable pub link_windows : Header → List Segment → List Section → List Tag → List Window
 link_windows h ss secs tags =
-    (header_window ∷ segments_window h ∷ map (file_window ss) (dynamic_range ss ∷ tag_ranges tags secs)) ++ symtab_windows secs
+    (header_window ∷ segments_window h ∷ map (file_window ss) (dynamic_memory ss ∷ tables_memory tags secs)) ++ symtab_windows secs
 
 -- those of a static program
 unfoldable pub static_windows : Header → List Section → List Window

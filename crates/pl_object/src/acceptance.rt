@@ -23,7 +23,7 @@ use crate::relocations::relocs;
 use crate::symbol_clauses::{check_symbols, hash_tables};
 use crate::table_clauses::check_tables;
 use crate::tables::{link_windows, sections_window, static_windows};
-use crate::tags::{dynamic_range, jmprel_range, rela_range};
+use crate::tags::{dynamic_memory, jmprel_memory, rela_memory};
 use crate::{Kind, Object, Refusal, Reloc, Window};
 use pl_base::Rows;
 use pl_dyn::{DynFault, Dynamic, read_dynamic};
@@ -39,7 +39,7 @@ fn dynamic(alloc: Global, bytes: &[u8], segments: &[Segment]) -> Result<Dynamic,
     requires { length bytes.now < 2 ^ 32 }
     ensures { Answers dyn.is_memory result (spec.dynamic bytes.now segments.now) }
 {
-    let memory = dynamic_range(segments);
+    let memory = dynamic_memory(segments);
     if !in_file_part(segments, memory) {
         return Err(DynFault::NoEnd);
     }
@@ -81,11 +81,15 @@ fn relocations(
 ) -> Result<Vec<Reloc>, AllocError>
     ensures { IfOk result (λ v. v.items ≡ spec.relocations bytes.now segments.now dynamic.now.tags symbols.now) }
 {
-    let mut all = relocs(alloc, symbols, loaded(bytes, segments, rela_range(dynamic)))?;
+    let mut all = relocs(
+        alloc,
+        symbols,
+        loaded(bytes, segments, rela_memory(dynamic)),
+    )?;
     let slots = relocs(
         alloc,
         symbols,
-        loaded(bytes, segments, jmprel_range(dynamic)),
+        loaded(bytes, segments, jmprel_memory(dynamic)),
     )?;
     all.extend_from_slice(&slots)?;
     Ok(all)
@@ -306,10 +310,7 @@ fn static_program(alloc: Global, bytes: &[u8], headers: Headers) -> Result<Objec
     ensures { Answers is_memory result (spec.static_program bytes.now headers) }
 {
     if too_large(bytes) {
-        return Err(Refusal::Clause {
-            number: 30,
-            argument: 0,
-        });
+        return Err(Refusal::clause(30));
     }
     Ok(static_object(alloc, headers)?)
 }

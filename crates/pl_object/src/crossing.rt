@@ -1,5 +1,5 @@
 // Tables and spots that share a byte.
-ghost use Rattle.std.specs.Prelude.{◌≡◌, ◌++◌, length, map, nat_lt, IfOk};
+ghost use Rattle.std.specs.Prelude.{◌≡◌, ◌++◌, false, length, map, nat_lt, true, IfOk};
 ghost use Rattle.std.specs.List.{list_any};
 ghost use Rattle.std.specs.List.Sorted.{IsNonDecreasingBy, IsPermutation};
 ghost use Rattle.pl_base.specs.Windows.{end_of};
@@ -17,35 +17,23 @@ pub struct Mark {
     pub is_table: bool,
 }
 
-fn table_marks(alloc: Global, windows: &[Window]) -> Result<Vec<Mark>, AllocError>
-    ensures { IfOk result (λ v. v.items ≡ map spec.table_mark windows.now) }
+fn marks_of(alloc: Global, windows: &[Window], is_table: bool) -> Result<Vec<Mark>, AllocError>
+    ensures { IfOk result (λ v. v.items ≡ map (spec.mark is_table) windows.now) }
 {
     windows
         .iter()
         .map(|window| Mark {
             window: *window,
-            is_table: true,
-        })
-        .collect(alloc)
-}
-
-fn spot_marks(alloc: Global, windows: &[Window]) -> Result<Vec<Mark>, AllocError>
-    ensures { IfOk result (λ v. v.items ≡ map spec.spot_mark windows.now) }
-{
-    windows
-        .iter()
-        .map(|window| Mark {
-            window: *window,
-            is_table: false,
+            is_table,
         })
         .collect(alloc)
 }
 
 fn marks(alloc: Global, tables: &[Window], spots: &[Window]) -> Result<Vec<Mark>, AllocError>
-    ensures { IfOk result (λ v. v.items ≡ map spec.table_mark tables.now ++ map spec.spot_mark spots.now) }
+    ensures { IfOk result (λ v. v.items ≡ map (spec.mark true) tables.now ++ map (spec.mark false) spots.now) }
 {
-    let mut marks = table_marks(alloc, tables)?;
-    let more = spot_marks(alloc, spots)?;
+    let mut marks = marks_of(alloc, tables, true)?;
+    let more = marks_of(alloc, spots, false)?;
     marks.extend_from_slice(&more)?;
     Ok(marks)
 }

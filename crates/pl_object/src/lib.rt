@@ -22,8 +22,6 @@ mod symbol_clauses;
 mod table_clauses;
 mod tables;
 mod tags;
-#[cfg(test)]
-mod tests;
 mod twins;
 mod window;
 
@@ -33,8 +31,9 @@ pub use file_part::{file_window, in_file_part, loaded};
 pub use kind::Kind;
 pub use names::read_needed;
 pub use object::Object;
-pub use place_clauses::last_load;
+pub use place_clauses::{is_in_segment, last_load};
 pub use refusal::Refusal;
 pub use reloc::Reloc;
 pub use relocations::{place, places};
+pub use twins::version_name;
 pub use window::Window;

@@ -1,6 +1,5 @@
 // Acceptance clauses 15 to 18: the names of needed libraries, of symbols and of versions.
-ghost use Rattle.std.specs.Prelude.{◌≡◌, ◌<◌, ◌≤◌, ◌^◌, length, filter, if◌then◌else◌, Some, None, IfOk};
-ghost use Rattle.std.specs.Option.{option_map};
+ghost use Rattle.std.specs.Prelude.{◌≡◌, ◌<◌, ◌≤◌, ◌^◌, length, filter, IfOk};
 ghost use Rattle.pl_base.specs.Answers.{Answers};
 ghost use Rattle.pl_base.specs.Each.{each};
 ghost use Rattle.pl_dyn.specs.Read.{has_number};
@@ -9,7 +8,7 @@ ghost use Rattle.pl_object.specs.Names as spec;
 
 use crate::Refusal;
 use crate::file_part::loaded;
-use crate::tags::{has_tag, section_range, strings_range, symbols_range, value};
+use crate::tags::{has_tag, section_memory, strings_memory, symbols_memory, value};
 use pl_base::{Rows, Text, string_at, valid_text};
 use pl_dyn::constants::{DT_NEEDED, DT_VERDEF, DT_VERDEFNUM, DT_VERNEED, DT_VERNEEDNUM, DT_VERSYM};
 use pl_dyn::{Dynamic, Tag};
@@ -24,16 +23,10 @@ fn needed_name(alloc: Global, strings: &[u8], tag: &Tag) -> Result<Text, Refusal
     ensures { Answers is_memory result (spec.needed_name strings.now tag.now) }
 {
     let Some(bytes) = string_at(strings, tag.value) else {
-        return Err(Refusal::Clause {
-            number: 15,
-            argument: 0,
-        });
+        return Err(Refusal::clause(15));
     };
     match valid_text(bytes) {
-        None => Err(Refusal::Clause {
-            number: 15,
-            argument: 0,
-        }),
+        None => Err(Refusal::clause(15)),
         Some(name) => Ok(Text::copy_of(alloc, name)?),
     }
 }
@@ -71,7 +64,7 @@ pub fn read_needed(alloc: Global, dynamic: &Dynamic, strings: &[u8]) -> Result<R
 pub fn strings<'a>(bytes: &'a [u8], segments: &[Segment], dynamic: &Dynamic) -> &'a [u8]
     ensures { result.now ≡ spec.strings bytes.now segments.now dynamic.now.tags }
 {
-    loaded(bytes, segments, strings_range(dynamic))
+    loaded(bytes, segments, strings_memory(dynamic))
 }
 
 /// The symbols, not yet with their versions: clause 16.
@@ -86,7 +79,7 @@ pub fn symbols(
     ensures exact { Answers is_memory result (spec.symbols bytes.now segments.now sections.now dynamic.now.tags) }
     ensures few { IfOk result (λ symbols. length symbols ≤ length bytes.now) }
 {
-    let table = loaded(bytes, segments, symbols_range(dynamic, sections));
+    let table = loaded(bytes, segments, symbols_memory(dynamic, sections));
     let symbols = read_symbols(alloc, table, strings(bytes, segments, dynamic))?;
     Ok(symbols)
 }
@@ -130,13 +123,21 @@ fn table_versions(
 {
     let versions = read_versions(
         alloc,
-        loaded(bytes, segments, section_range(dynamic, sections, DT_VERSYM)),
-        loaded(bytes, segments, section_range(dynamic, sections, DT_VERDEF)),
+        loaded(
+            bytes,
+            segments,
+            section_memory(dynamic, sections, DT_VERSYM),
+        ),
+        loaded(
+            bytes,
+            segments,
+            section_memory(dynamic, sections, DT_VERDEF),
+        ),
         record_count(dynamic, DT_VERDEF, DT_VERDEFNUM),
         loaded(
             bytes,
             segments,
-            section_range(dynamic, sections, DT_VERNEED),
+            section_memory(dynamic, sections, DT_VERNEED),
         ),
         record_count(dynamic, DT_VERNEED, DT_VERNEEDNUM),
         strings(bytes, segments, dynamic),
@@ -154,10 +155,7 @@ fn counted(
     ensures { result ≡ spec.counted versym.now symbols.now versions }
 {
     if miscounted(versym, symbols) {
-        return Err(Refusal::Clause {
-            number: 18,
-            argument: 0,
-        });
+        return Err(Refusal::clause(18));
     }
     Ok(Some(versions))
 }
@@ -179,7 +177,11 @@ fn known_versions(
     }
     let versions = table_versions(alloc, bytes, segments, sections, dynamic)?;
     counted(
-        loaded(bytes, segments, section_range(dynamic, sections, DT_VERSYM)),
+        loaded(
+            bytes,
+            segments,
+            section_memory(dynamic, sections, DT_VERSYM),
+        ),
         symbols,
         versions,
     )
@@ -199,10 +201,7 @@ pub fn versions(
     ensures { Answers is_memory result (spec.versions bytes.now segments.now sections.now dynamic.now.tags symbols.now) }
 {
     if bad_version_tags(dynamic) {
-        return Err(Refusal::Clause {
-            number: 17,
-            argument: 0,
-        });
+        return Err(Refusal::clause(17));
     }
     known_versions(alloc, bytes, segments, sections, dynamic, symbols)
 }

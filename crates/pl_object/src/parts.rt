@@ -4,7 +4,7 @@ ghost use Rattle.pl_elf.specs.Headers.{loads};
 ghost use Rattle.pl_elf.specs.Clauses.{AreLoads};
 ghost use Rattle.pl_object.specs.Reads as spec;
 
-use crate::constants::{ORIGINAL, PAGE};
+use crate::constants::ORIGINAL;
 use crate::place_clauses::{last_load, misplaced_copy};
 use crate::symbol_clauses::has_ifunc;
 use crate::tags::{has_tag, value};
@@ -12,7 +12,7 @@ use crate::{Kind, Refusal, Reloc};
 use pl_base::round_up;
 use pl_dyn::Dynamic;
 use pl_dyn::constants::{DF_1_PIE, DF_SYMBOLIC, DT_FLAGS, DT_FLAGS_1, DT_SONAME, DT_SYMBOLIC};
-use pl_elf::constants::{ADDRESS_LIMIT, ET_DYN, ET_EXEC, PT_INTERP, PT_TLS};
+use pl_elf::constants::{ADDRESS_LIMIT, ET_DYN, ET_EXEC, PAGE, PT_INTERP, PT_TLS};
 use pl_elf::{Header, Segment, segment_of_kind};
 use pl_sym::Symbol;
 use pl_tls::Block;
@@ -118,28 +118,16 @@ pub fn check_rest(
     ensures { result ≡ spec.check_rest bytes.now header.now segments.now dynamic.now.tags symbols.now relocs.now }
 {
     if has_ifunc(symbols) {
-        return Err(Refusal::Clause {
-            number: 28,
-            argument: 0,
-        });
+        return Err(Refusal::clause(28));
     }
     if misplaced_copy(header.kind == ET_EXEC, relocs) {
-        return Err(Refusal::Clause {
-            number: 29,
-            argument: 0,
-        });
+        return Err(Refusal::clause(29));
     }
     if too_large(bytes) {
-        return Err(Refusal::Clause {
-            number: 30,
-            argument: 0,
-        });
+        return Err(Refusal::clause(30));
     }
     if is_pie(header, segments, dynamic) {
-        return Err(Refusal::Clause {
-            number: 31,
-            argument: 0,
-        });
+        return Err(Refusal::clause(31));
     }
     Ok(())
 }

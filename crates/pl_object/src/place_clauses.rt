@@ -5,7 +5,7 @@ ghost use Rattle.pl_base.specs.Answers.{Answers};
 ghost use Rattle.pl_object.specs.Refusals.{is_memory};
 ghost use Rattle.pl_object.specs.PlaceClauses as spec;
 
-use crate::constants::{R_X86_64_COPY, R_X86_64_GLOB_DAT, R_X86_64_JUMP_SLOT, RELOC_KINDS};
+use crate::constants::RELOC_KINDS;
 use crate::crossing::any_meets;
 use crate::file_part::{file_window, in_file_part};
 use crate::overlaps::any_share;
@@ -13,6 +13,7 @@ use crate::relocations::{place, places};
 use crate::{Refusal, Reloc, Window};
 use pl_base::end;
 use pl_elf::Segment;
+use pl_elf::constants::{R_X86_64_COPY, R_X86_64_GLOB_DAT, R_X86_64_JUMP_SLOT};
 use std::alloc::{AllocError, Global};
 
 #[tactic(auto, unfolding(crate::specs::PlaceClauses::is_known))]
@@ -62,12 +63,13 @@ fn is_in_memory(memory: Window, segment: Option<Segment>) -> bool
 {
     match segment {
         None => false,
-        Some(segment) => lies_in(memory, &segment),
+        Some(segment) => is_in_segment(memory, &segment),
     }
 }
 
-fn lies_in(memory: Window, segment: &Segment) -> bool
-    ensures { result ≡ spec.is_in_memory memory (Some segment.now) }
+/// Whether a window of memory lies in the memory of a segment.
+pub fn is_in_segment(memory: Window, segment: &Segment) -> bool
+    ensures { result ≡ spec.is_in_segment memory segment.now }
 {
     u128::from(segment.vaddr) <= memory.at()
         && memory.at() <= end(segment.vaddr, segment.memsz)
@@ -174,28 +176,16 @@ fn check_places(
     ensures { Answers is_memory result (spec.check_places program segments.now tables.now relocs.now) }
 {
     if reloc_outside(program, segments, relocs) {
-        return Err(Refusal::Clause {
-            number: 24,
-            argument: 0,
-        });
+        return Err(Refusal::clause(24));
     }
     if reloc_overlap(alloc, relocs)? {
-        return Err(Refusal::Clause {
-            number: 25,
-            argument: 0,
-        });
+        return Err(Refusal::clause(25));
     }
     if reloc_in_tables(alloc, tables, segments, relocs)? {
-        return Err(Refusal::Clause {
-            number: 26,
-            argument: 0,
-        });
+        return Err(Refusal::clause(26));
     }
     if odd_addend(relocs) {
-        return Err(Refusal::Clause {
-            number: 27,
-            argument: 0,
-        });
+        return Err(Refusal::clause(27));
     }
     Ok(())
 }

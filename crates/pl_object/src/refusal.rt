@@ -1,23 +1,38 @@
+ghost use Rattle.std.specs.Prelude.{◌≡◌};
+ghost use Rattle.pl_object.specs.declared.refusal.Refusal.TheVariants.{Clause, NoMemory};
+
 use pl_dyn::DynFault;
 use pl_elf::HeaderFault;
 use pl_sym::SymFault;
 use pl_ver::VerFault;
 use std::alloc::{AllocError, AllocFailed};
+use thiserror::Error;
 
 /// Why a file is no object.
-#[derive(Clone, Copy, Debug, PartialEq, Eq)]
+#[derive(Clone, Copy, Debug, PartialEq, Eq, Error)]
 pub enum Refusal {
     /// The first acceptance clause that refuses it, and what of it does: a tag's number for clauses 10 and 11, a relocation's kind for clause 23, else 0.
+    #[error("acceptance clause {number} refuses the file")]
     Clause { number: u32, argument: u64 },
 
     /// There was no memory for the answer.
+    #[error("out of memory")]
     NoMemory,
 }
 
-impl From<AllocError> for Refusal {
-    ghost use Rattle.std.specs.Prelude.{◌≡◌};
-    ghost use Rattle.pl_object.specs.declared.refusal.Refusal.TheVariants.{NoMemory};
+impl Refusal {
+    /// The refusal by a clause that tells nothing more.
+    pub fn clause(number: u32) -> Refusal
+        ensures { result ≡ Clause number 0 }
+    {
+        Refusal::Clause {
+            number,
+            argument: 0,
+        }
+    }
+}
 
+impl From<AllocError> for Refusal {
     ghost from_gives = { λ _ refusal. refusal ≡ NoMemory };
 
     fn from(_: AllocError) -> Refusal {
@@ -26,9 +41,6 @@ impl From<AllocError> for Refusal {
 }
 
 impl<T: Drop> From<AllocFailed<T>> for Refusal {
-    ghost use Rattle.std.specs.Prelude.{◌≡◌};
-    ghost use Rattle.pl_object.specs.declared.refusal.Refusal.TheVariants.{NoMemory};
-
     ghost from_gives = { λ _ refusal. refusal ≡ NoMemory };
 
     fn from(_: AllocFailed<T>) -> Refusal {
@@ -37,7 +49,6 @@ impl<T: Drop> From<AllocFailed<T>> for Refusal {
 }
 
 impl From<HeaderFault> for Refusal {
-    ghost use Rattle.std.specs.Prelude.{◌≡◌};
     ghost use Rattle.pl_object.specs.Refusals.{of_header};
 
     ghost from_gives = { λ fault refusal. refusal ≡ of_header fault };
@@ -53,25 +64,18 @@ impl From<HeaderFault> for Refusal {
             HeaderFault::BadSection => 7,
             HeaderFault::NoSections => 8,
         };
-        Refusal::Clause {
-            number,
-            argument: 0,
-        }
+        Refusal::clause(number)
     }
 }
 
 impl From<DynFault> for Refusal {
-    ghost use Rattle.std.specs.Prelude.{◌≡◌};
     ghost use Rattle.pl_object.specs.Refusals.{of_dynamic};
 
     ghost from_gives = { λ fault refusal. refusal ≡ of_dynamic fault };
 
     fn from(fault: DynFault) -> Refusal {
         match fault {
-            DynFault::NoEnd => Refusal::Clause {
-                number: 9,
-                argument: 0,
-            },
+            DynFault::NoEnd => Refusal::clause(9),
             DynFault::UnknownTag(argument) => Refusal::Clause {
                 number: 10,
                 argument,
@@ -86,38 +90,27 @@ impl From<DynFault> for Refusal {
 }
 
 impl From<SymFault> for Refusal {
-    ghost use Rattle.std.specs.Prelude.{◌≡◌};
     ghost use Rattle.pl_object.specs.Refusals.{of_symbols};
 
     ghost from_gives = { λ fault refusal. refusal ≡ of_symbols fault };
 
     fn from(fault: SymFault) -> Refusal {
         match fault {
-            SymFault::BadSymbol => Refusal::Clause {
-                number: 16,
-                argument: 0,
-            },
+            SymFault::BadSymbol => Refusal::clause(16),
             SymFault::NoMemory => Refusal::NoMemory,
         }
     }
 }
 
 impl From<VerFault> for Refusal {
-    ghost use Rattle.std.specs.Prelude.{◌≡◌};
     ghost use Rattle.pl_object.specs.Refusals.{of_versions};
 
     ghost from_gives = { λ fault refusal. refusal ≡ of_versions fault };
 
     fn from(fault: VerFault) -> Refusal {
         match fault {
-            VerFault::BadChain => Refusal::Clause {
-                number: 17,
-                argument: 0,
-            },
-            VerFault::BadIndex => Refusal::Clause {
-                number: 18,
-                argument: 0,
-            },
+            VerFault::BadChain => Refusal::clause(17),
+            VerFault::BadIndex => Refusal::clause(18),
             VerFault::NoMemory => Refusal::NoMemory,
         }
     }

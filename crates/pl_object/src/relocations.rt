@@ -2,9 +2,9 @@
 ghost use Rattle.std.specs.Prelude.{◌≡◌, ◌+◌, ◌≤◌, length, slice_get, IfOk};
 ghost use Rattle.pl_object.specs.Relocations as spec;
 
-use crate::constants::{R_X86_64_COPY, R_X86_64_NONE, RELA_SIZE, WORD_SIZE};
 use crate::{Reloc, Window};
 use pl_base::{word32, word64};
+use pl_elf::constants::{R_X86_64_COPY, R_X86_64_NONE, RELA_SIZE, WORD64_SIZE};
 use pl_sym::Symbol;
 use std::alloc::{AllocError, Global};
 
@@ -27,7 +27,7 @@ fn width(symbols: &[Symbol], kind: u32, symbol: u32) -> u64
     if kind == R_X86_64_COPY {
         return size_of(symbols, symbol);
     }
-    WORD_SIZE
+    WORD64_SIZE
 }
 
 #[tactic(auto, unfolding(crate::specs::Relocations::reloc_at))]

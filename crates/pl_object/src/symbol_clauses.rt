@@ -9,14 +9,13 @@ ghost use Rattle.pl_object.specs.Refusals.{is_memory};
 ghost use Rattle.pl_object.specs.SymbolClauses as spec;
 
 use crate::Refusal;
-use crate::constants::PAGE;
 use crate::file_part::loaded;
-use crate::tags::{has_tag, section_range};
+use crate::tags::{has_tag, section_memory};
 use crate::twins::duplicate_definer;
 use pl_base::Rows;
 use pl_dyn::Dynamic;
 use pl_dyn::constants::{DT_GNU_HASH, DT_HASH};
-use pl_elf::constants::PT_LOAD;
+use pl_elf::constants::{PAGE, PT_LOAD};
 use pl_elf::{Section, Segment, segment_of_kind};
 use pl_hash::{Table, found, name_hash, well_formed};
 use pl_sym::constants::STT_GNU_IFUNC;
@@ -68,7 +67,7 @@ fn add_hash_table(
     ensures { OnOk result (tables.new ≡ tables.old ++ spec.hash_table bytes.now segments.now sections.now dynamic.now.tags count gnu number) }
 {
     if has_tag(dynamic, number) {
-        let memory = section_range(dynamic, sections, number);
+        let memory = section_memory(dynamic, sections, number);
         tables.push(table_of(alloc, loaded(bytes, segments, memory), gnu, count)?)?;
     }
     Ok(())
@@ -222,22 +221,13 @@ pub fn check_symbols(
     ensures { Answers is_memory result (spec.check_symbols program segments.now tables.now versions.now symbols.now) }
 {
     if base_not_zero(program, segments) {
-        return Err(Refusal::Clause {
-            number: 20,
-            argument: 0,
-        });
+        return Err(Refusal::clause(20));
     }
     if hash_incomplete(alloc, tables, symbols)? {
-        return Err(Refusal::Clause {
-            number: 21,
-            argument: 0,
-        });
+        return Err(Refusal::clause(21));
     }
     if duplicate_definer(alloc, versions, program, symbols)? {
-        return Err(Refusal::Clause {
-            number: 22,
-            argument: 0,
-        });
+        return Err(Refusal::clause(22));
     }
     Ok(())
 }

@@ -7,18 +7,17 @@ ghost use Rattle.pl_object.specs.Tables as tables;
 ghost use Rattle.pl_object.specs.Refusals.{is_memory};
 ghost use Rattle.pl_object.specs.TableClauses as spec;
 
-use crate::constants::RELA_SIZE;
 use crate::file_part::in_file_part;
 use crate::overlaps::any_share;
 use crate::tables::main_windows;
-use crate::tags::{has_tag, is_lost, tag_ranges, value};
+use crate::tags::{has_tag, is_lost, tables_memory, value};
 use crate::{Refusal, Window};
 use pl_dyn::constants::{
     DT_GNU_HASH, DT_HASH, DT_JMPREL, DT_PLTREL, DT_PLTRELSZ, DT_RELA, DT_RELAENT, DT_RELASZ,
     DT_STRSZ, DT_STRTAB, DT_SYMENT, DT_SYMTAB, DT_VERDEF, DT_VERNEED, DT_VERSYM,
 };
 use pl_dyn::{Dynamic, Tag, is_packed_tag};
-use pl_elf::constants::SHT_DYNSYM;
+use pl_elf::constants::{RELA_SIZE, SHT_DYNSYM};
 use pl_elf::{Header, Section, Segment};
 use pl_sym::constants::SYMBOL_SIZE;
 use std::alloc::{AllocError, Global};
@@ -87,7 +86,7 @@ fn any_not_in_file(segments: &[Segment], ranges: &[Window]) -> bool
 fn any_outside(segments: &[Segment], sections: &[Section], dynamic: &Dynamic) -> bool
     ensures { result ≡ spec.any_outside segments.now sections.now dynamic.now.tags }
 {
-    any_lost(dynamic, sections) || any_not_in_file(segments, &tag_ranges(dynamic, sections))
+    any_lost(dynamic, sections) || any_not_in_file(segments, &tables_memory(dynamic, sections))
 }
 
 #[tactic(auto, unfolding(crate::specs::TableClauses::tables_overlap))]
@@ -194,22 +193,13 @@ pub fn check_tables(
     ensures { Answers is_memory result (spec.check_tables header.now segments.now sections.now dynamic.now.tags) }
 {
     if bad_tables(alloc, header, segments, sections, dynamic)? {
-        return Err(Refusal::Clause {
-            number: 12,
-            argument: 0,
-        });
+        return Err(Refusal::clause(12));
     }
     if bad_relocation_tables(dynamic) {
-        return Err(Refusal::Clause {
-            number: 13,
-            argument: 0,
-        });
+        return Err(Refusal::clause(13));
     }
     if has_packed(dynamic.tags.as_slice()) {
-        return Err(Refusal::Clause {
-            number: 14,
-            argument: 0,
-        });
+        return Err(Refusal::clause(14));
     }
     Ok(())
 }

@@ -5,7 +5,7 @@ ghost use Rattle.pl_object.specs.Tables as spec;
 
 use crate::Window;
 use crate::file_part::file_window;
-use crate::tags::{dynamic_range, jmprel_range, rela_range, symbols_range, tag_ranges};
+use crate::tags::{dynamic_memory, jmprel_memory, rela_memory, symbols_memory, tables_memory};
 use pl_dyn::Dynamic;
 use pl_elf::constants::{HEADER_SIZE, SECTION_SIZE, SEGMENT_SIZE, SHT_SYMTAB};
 use pl_elf::{Header, Section, Segment};
@@ -68,10 +68,10 @@ pub fn main_windows(
         header_window(),
         segments_window(header),
         sections_window(header),
-        file_window(segments, dynamic_range(segments)),
-        file_window(segments, symbols_range(dynamic, sections)),
-        file_window(segments, rela_range(dynamic)),
-        file_window(segments, jmprel_range(dynamic)),
+        file_window(segments, dynamic_memory(segments)),
+        file_window(segments, symbols_memory(dynamic, sections)),
+        file_window(segments, rela_memory(dynamic)),
+        file_window(segments, jmprel_memory(dynamic)),
     ];
     with_symtabs(alloc, &main, sections)
 }
@@ -113,13 +113,13 @@ pub fn link_windows(
 ) -> Result<Vec<Window>, AllocError>
     ensures { IfOk result (λ v. v.items ≡ spec.link_windows header.now segments.now sections.now dynamic.now.tags) }
 {
-    let named = file_windows(alloc, segments, &tag_ranges(dynamic, sections))?;
+    let named = file_windows(alloc, segments, &tables_memory(dynamic, sections))?;
     let mut windows = Vec::from_array(
         alloc,
         [
             header_window(),
             segments_window(header),
-            file_window(segments, dynamic_range(segments)),
+            file_window(segments, dynamic_memory(segments)),
         ],
     )?;
     windows.extend_from_slice(&named)?;

@@ -28,9 +28,9 @@ pub fn value(dynamic: &Dynamic, number: u64) -> u64
 }
 
 /// The bytes in the file of PT_DYNAMIC, as a window of memory.
-#[tactic(auto, unfolding(crate::specs::Tables::dynamic_range))]
-pub fn dynamic_range(segments: &[Segment]) -> Window
-    ensures { result ≡ spec.dynamic_range segments.now }
+#[tactic(auto, unfolding(crate::specs::Tables::dynamic_memory))]
+pub fn dynamic_memory(segments: &[Segment]) -> Window
+    ensures { result ≡ spec.dynamic_memory segments.now }
 {
     match segment_of_kind(segments, PT_DYNAMIC) {
         None => Window::new(0, 0),
@@ -38,9 +38,9 @@ pub fn dynamic_range(segments: &[Segment]) -> Window
     }
 }
 
-#[tactic(auto, unfolding(crate::specs::Tables::tag_range))]
-fn tag_range(dynamic: &Dynamic, address: u64, size: u64) -> Window
-    ensures { result ≡ spec.tag_range address size dynamic.now.tags }
+#[tactic(auto, unfolding(crate::specs::Tables::tag_memory))]
+fn tag_memory(dynamic: &Dynamic, address: u64, size: u64) -> Window
+    ensures { result ≡ spec.tag_memory address size dynamic.now.tags }
 {
     if has_tag(dynamic, address) && has_tag(dynamic, size) {
         Window::new(u128::from(value(dynamic, address)), value(dynamic, size))
@@ -50,24 +50,24 @@ fn tag_range(dynamic: &Dynamic, address: u64, size: u64) -> Window
 }
 
 /// The strings in memory.
-pub fn strings_range(dynamic: &Dynamic) -> Window
-    ensures { result ≡ spec.strings_range dynamic.now.tags }
+pub fn strings_memory(dynamic: &Dynamic) -> Window
+    ensures { result ≡ spec.strings_memory dynamic.now.tags }
 {
-    tag_range(dynamic, DT_STRTAB, DT_STRSZ)
+    tag_memory(dynamic, DT_STRTAB, DT_STRSZ)
 }
 
 /// The relocations of DT_RELA in memory.
-pub fn rela_range(dynamic: &Dynamic) -> Window
-    ensures { result ≡ spec.rela_range dynamic.now.tags }
+pub fn rela_memory(dynamic: &Dynamic) -> Window
+    ensures { result ≡ spec.rela_memory dynamic.now.tags }
 {
-    tag_range(dynamic, DT_RELA, DT_RELASZ)
+    tag_memory(dynamic, DT_RELA, DT_RELASZ)
 }
 
 /// The relocations of DT_JMPREL in memory.
-pub fn jmprel_range(dynamic: &Dynamic) -> Window
-    ensures { result ≡ spec.jmprel_range dynamic.now.tags }
+pub fn jmprel_memory(dynamic: &Dynamic) -> Window
+    ensures { result ≡ spec.jmprel_memory dynamic.now.tags }
 {
-    tag_range(dynamic, DT_JMPREL, DT_PLTRELSZ)
+    tag_memory(dynamic, DT_JMPREL, DT_PLTRELSZ)
 }
 
 fn first_dynsym(sections: &[Section]) -> Option<Section>
@@ -89,9 +89,9 @@ fn size_of(section: Option<Section>) -> u64
 }
 
 /// The symbols in memory: as many bytes as the DYNSYM section has.
-#[tactic(auto, unfolding(crate::specs::Tables::symbols_range))]
-pub fn symbols_range(dynamic: &Dynamic, sections: &[Section]) -> Window
-    ensures { result ≡ spec.symbols_range dynamic.now.tags sections.now }
+#[tactic(auto, unfolding(crate::specs::Tables::symbols_memory))]
+pub fn symbols_memory(dynamic: &Dynamic, sections: &[Section]) -> Window
+    ensures { result ≡ spec.symbols_memory dynamic.now.tags sections.now }
 {
     let size = size_of(first_dynsym(sections));
     Window::new(u128::from(value(dynamic, DT_SYMTAB)), size)
@@ -123,9 +123,9 @@ fn any_at(sections: &[Section], address: u64) -> bool
 }
 
 /// The table of a tag in memory: as many bytes as the first section has that begins there.
-#[tactic(auto, unfolding(crate::specs::Tables::section_range))]
-pub fn section_range(dynamic: &Dynamic, sections: &[Section], number: u64) -> Window
-    ensures { result ≡ spec.section_range number dynamic.now.tags sections.now }
+#[tactic(auto, unfolding(crate::specs::Tables::section_memory))]
+pub fn section_memory(dynamic: &Dynamic, sections: &[Section], number: u64) -> Window
+    ensures { result ≡ spec.section_memory number dynamic.now.tags sections.now }
 {
     if !has_tag(dynamic, number) {
         return Window::new(0, 0);
@@ -143,19 +143,19 @@ pub fn is_lost(dynamic: &Dynamic, sections: &[Section], number: u64) -> bool
 }
 
 /// The tables that a tag names, in memory.
-#[tactic(auto, unfolding(crate::specs::Tables::tag_ranges))]
-pub fn tag_ranges(dynamic: &Dynamic, sections: &[Section]) -> [Window; 9]
-    ensures { result ≡ spec.tag_ranges dynamic.now.tags sections.now }
+#[tactic(auto, unfolding(crate::specs::Tables::tables_memory))]
+pub fn tables_memory(dynamic: &Dynamic, sections: &[Section]) -> [Window; 9]
+    ensures { result ≡ spec.tables_memory dynamic.now.tags sections.now }
 {
     [
-        symbols_range(dynamic, sections),
-        strings_range(dynamic),
-        rela_range(dynamic),
-        jmprel_range(dynamic),
-        section_range(dynamic, sections, DT_HASH),
-        section_range(dynamic, sections, DT_GNU_HASH),
-        section_range(dynamic, sections, DT_VERSYM),
-        section_range(dynamic, sections, DT_VERDEF),
-        section_range(dynamic, sections, DT_VERNEED),
+        symbols_memory(dynamic, sections),
+        strings_memory(dynamic),
+        rela_memory(dynamic),
+        jmprel_memory(dynamic),
+        section_memory(dynamic, sections, DT_HASH),
+        section_memory(dynamic, sections, DT_GNU_HASH),
+        section_memory(dynamic, sections, DT_VERSYM),
+        section_memory(dynamic, sections, DT_VERDEF),
+        section_memory(dynamic, sections, DT_VERNEED),
     ]
 }

@@ -13,7 +13,7 @@ use pl_ver::constants::{VER_NDX_GLOBAL, VERSYM_HIDDEN};
 use pl_ver::{Versions, version_of};
 use std::alloc::{AllocError, Global};
 
-/// A symbol's place under its name's hash.
+/// The index of a symbol with the hash of its name.
 #[derive(Clone, Copy, Debug)]
 pub struct Entry {
     pub hash: u32,
@@ -74,7 +74,8 @@ fn is_plain(symbol: &Symbol) -> bool
     symbol.version % VERSYM_HIDDEN <= VER_NDX_GLOBAL
 }
 
-fn version_name(versions: &Option<Versions>, word: u16) -> Option<&[u8]>
+/// The name of the version that a version word of an object stands for. None where the object has no version words, or none of that index.
+pub fn version_name(versions: &Option<Versions>, word: u16) -> Option<&[u8]>
     ensures { option_map (λ x. x.now) result ≡ clauses.version_name versions.now word }
 {
     match versions {

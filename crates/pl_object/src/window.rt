@@ -28,12 +28,14 @@ impl Window {
         Window { at, size }
     }
 
+    /// The offset or address of the first byte.
     pub fn at(&self) -> u128
         ensures { result ≡ self.now.at }
     {
         self.at
     }
 
+    /// How many bytes.
     pub fn size(&self) -> u64
         ensures { result ≡ self.now.size }
     {

@@ -152,11 +152,6 @@ count_most : (span align : ℕ) (hole : Range) (n : ℕ) → 0 < span → 0 < al
 count_most span align hole n some p =
     omega (arith, count_grows (here hole span align) n (n + hole.end) (omega arith), count_whole span align hole (n + hole.end) some p (omega arith))
 
--- and none is below its start
-count_none : (span align : ℕ) (hole : Range) (n : ℕ) → n ≤ hole.start → count_below (here hole span align) n ≡ 0
-count_none span align hole n le =
-    count_until (here hole span align) 0 n (omega arith) (λ k low high. not_here hole span align k (λ aligned above fits. omega (arith, high, above, le)))
-
 -- ---- all holes
 
 spread : (a b c : Bool) → (a && (b || c)) ≡ ((a && b) || (a && c))

@@ -23,9 +23,6 @@ pub record IsSoFar (post : Answering) (free : List Range) (wishes : List Wish) (
   pub places : (more : List ℕ) → InTurn post holes rest more → InTurn post free wishes (starts ++ more)
   pub stops : (name : List ℕ) → StopsAt post holes rest name → StopsAt post free wishes name
 
-pub so_far_begins : (post : Answering) (free : List Range) (wishes : List Wish) → IsSoFar post free wishes free wishes []
-so_far_begins post free wishes = record { places = λ more p. p; stops = λ name p. p }
-
 -- the wish at i, as a loop reads it
 at_wish : (wishes : List Wish) (i : ℕ) (wish : Wish) → i < length wishes → wish ≡ get_or wishes i wish → drop i wishes ≡ wish ∷ drop (i + 1) wishes
 at_wish wishes i wish lt is = at_drop_more (λ (xs : List Wish). xs) wishes i wish lt ∙ rw (← is) refl

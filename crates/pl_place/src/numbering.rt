@@ -4,17 +4,7 @@ ghost use Rattle.pl_base.specs.Sums.{round_up};
 ghost use Rattle.pl_place.specs.Numbering as spec;
 
 use pl_elf::Range;
-
-/// The least multiple of the alignment that is not below a hole's start.
-#[tactic(auto, unfolding(pl_base::specs::Sums::round_up))]
-fn first_address(hole: Range, align: u64) -> u128
-    requires { 0 < align }
-    ensures value { result ≡ round_up hole.start align }
-    ensures small { result < 2 ^ 65 }
-{
-    let multiple = u128::from(align);
-    (u128::from(hole.start) + (multiple - 1)) / multiple * multiple
-}
+use pl_slots::first_address;
 
 /// How many places there are in a hole.
 #[tactic(auto, unfolding(crate::specs::Numbering::room, pl_slots::specs::Holes::holds))]

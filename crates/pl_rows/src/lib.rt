@@ -2,18 +2,10 @@
 #![tactic(auto)]
 
 #[cfg(test)]
-mod dynamic_file;
-#[cfg(test)]
-mod generated;
-#[cfg(test)]
-mod linking;
+mod changed;
 #[cfg(test)]
 mod loading;
 #[cfg(test)]
 mod making;
 #[cfg(test)]
 mod running;
-#[cfg(test)]
-mod static_file;
-#[cfg(test)]
-mod tests;

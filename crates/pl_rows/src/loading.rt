@@ -1,46 +1,12 @@
 // Runs of `--load` over files of recipes.
-use crate::running::{Ran, run_words};
-use crate::static_file::put;
-use pl_build::build;
+use crate::running::{Faults, Ran, change, check, files_of, run_words};
+use pl_base::part;
 use pl_build::recipes::EXAMPLES;
 use pl_cli::Status;
-use std::alloc::Global;
-use std::process::Abort;
 use std::test::Fail;
 
-/// The files of recipes, under their names.
-fn files_of(
-    rt: &(impl Abort + AllocGlobal),
-    recipes: &[(&str, &str)],
-) -> Result<Vec<(String, Vec<u8>)>, Fail> {
-    let alloc: Global = rt.alloc();
-    let mut files = Vec::new(alloc);
-    for (name, recipe) in recipes {
-        let recipe = recipe.as_bytes();
-        assert!(rt; recipe.len() < 0x1_0000);
-        let file = build(alloc, recipe)?;
-        files.push((String::from_str(alloc, name)?, file.into_vec()))?;
-    }
-    Ok(files)
-}
-
-/// Loads each name over the files, and compares what is written.
-fn check(
-    rt: &(impl Abort + AllocGlobal),
-    files: &[(String, Vec<u8>)],
-    rows: &[(&str, &str)],
-    want: Status,
-) -> Result<(), Fail> {
-    for (name, text) in rows {
-        let ran = run_words(rt, &["--load", name], files, &[], &[], 4096)?;
-        assert_eq!(rt; ran.text.as_slice(), text.as_bytes(), "at {name}");
-        assert_eq!(rt; ran.status, want, "at {name}");
-    }
-    Ok(())
-}
-
-// Programs of the examples, which need one another, with what they start from: a relocation that is the load address alone; a library; a copy, whose source is a word that is relocated; a weak reference without definer; a cycle; versions; thread-local storage; a canonical address; a symbolic library.
-const STARTS: [(&str, &str); 9] = [
+// Programs of the examples, which need one another, with what they start from: a relocation that is the load address alone; a library; a copy, whose source is a word that is relocated; a weak reference without definer; a cycle; versions; thread-local storage; a canonical address; a symbolic library; a usual program, which has its path of an interpreter loaded.
+const STARTS: [(&str, &str); 10] = [
     (
         "one",
         "slow
@@ -154,9 +120,31 @@ word 0000003000100008 0000003000100000
 end
 ",
     ),
+    (
+        "tool",
+        "slow
+object 0000000000400000 0000000000501000 tool
+object 0000003000000000 0000003000101000 libtext.so.2
+object 0000003000101000 0000003000202000 libsys.so.1
+tls 1 0000000000000008 libsys.so.1
+entry 0000000000500000
+word 0000000000400200 6c2f343662696c2f
+word 0000000000400208 2d78756e696c2d64
+word 0000000000400210 732e34362d363878
+word 0000000000400218 0000000000322e6f
+word 0000000000500000 0000003000100010
+word 0000000000500008 0000003000201010
+word 0000000000500010 000000000000002a
+word 0000003000100000 0000003000201010
+word 0000003000100008 0000003000100010
+word 0000003000201008 fffffffffffffff8
+word 0000003000201018 000000000000002a
+end
+",
+    ),
 ];
 
-const EXAMPLES_REFUSED: [(&str, &str); 7] = [
+const EXAMPLES_REFUSED: [(&str, &str); 10] = [
     ("a", "refused NotThere a\n"),
     ("b1", "refused Refused b1 24\n"),
     ("b2", "refused Refused b2 25\n"),
@@ -164,6 +152,9 @@ const EXAMPLES_REFUSED: [(&str, &str); 7] = [
     ("liba", "refused NotProgram liba\n"),
     ("big", "refused TlsTooLarge\n"),
     ("s", "refused Undefined s g\n"),
+    ("a/b", "refused BadName\n"),
+    ("a b", "refused BadName\n"),
+    (".prelink.cache", "refused BadName\n"),
 ];
 
 #[test]
@@ -173,8 +164,8 @@ fn loads_the_examples(rt: HostRuntime) -> Result<(), Fail> {
     check(&rt, &files, &EXAMPLES_REFUSED, Status::Refused)
 }
 
-// Recipes of programs that do not start, and of what they need. The library `huge` is made larger than the region of libraries.
-const RECIPES: [(&str, &str); 22] = [
+// Recipes of programs, and of what they need. The library `huge` is made larger than the region of libraries.
+const RECIPES: [(&str, &str); 31] = [
     (
         "lacks",
         "program\nneeds none\ndata 8\nref g global object\nrel abs64 0 g 0\n",
@@ -224,10 +215,40 @@ const RECIPES: [(&str, &str); 22] = [
         "first",
         "program\nneeds libabs\ndata 10\ndef a global object 0 8\nrel copy 0 a 0\nref g global object\nrel globdat 8 g 0\n",
     ),
+    (
+        "libtls",
+        "library\ndata 8\ntls 0 0 8 8\ndef a global tls 0 8\n",
+    ),
+    (
+        "variable",
+        "program\nneeds libtls\ndata 8\nref a global object\nrel abs64 0 a 0\n",
+    ),
+    (
+        "object",
+        "program\ndata 8\ndef a global object 0 8\nrel dtpoff 0 a 0\n",
+    ),
+    ("libshort", "library\ndata 8\ndef o global object 0 10\n"),
+    (
+        "outside",
+        "program\nneeds libshort\nbss 10\ndef o global object 0 10\nrel copy 0 o 0\n",
+    ),
+    (
+        "libe",
+        "library\ndata 10\nword 0 33\nword 8 44\ndef x global object 0 8\n",
+    ),
+    (
+        "short",
+        "program\nneeds libe\nbss 10\ndef x global object 0 10\nrel copy 0 x 0\n",
+    ),
+    ("libnumber", "library\ndata 8\ndef o global abs 10 0\n"),
+    (
+        "words",
+        "program\nneeds libnumber\ndata 20\nref o global object\nref g weak object\nrel abs64 0 o -1\nrel dtpoff 8 - 4\nrel globdat 10 g 0\nrel none 18 - 0\ntls 0 0 8 8\n",
+    ),
 ];
 
 // The first cause of each of these programs. `later` is refused for a relocation of its library, `tables` for one of the table without jump slots, and `first` for its first one.
-const REFUSED: [(&str, &str); 14] = [
+const REFUSED: [(&str, &str); 17] = [
     ("lacks", "refused NotThere none\n"),
     ("bad", "refused Refused libbad 23 36\n"),
     ("needed", "refused NeededIsProgram needed\n"),
@@ -242,30 +263,70 @@ const REFUSED: [(&str, &str); 14] = [
     ("own", "refused TlsMismatch own -\n"),
     ("copy", "refused CopyOutside copy a\n"),
     ("first", "refused CopyOutside first a\n"),
+    ("variable", "refused TlsMismatch variable a\n"),
+    ("object", "refused TlsMismatch object a\n"),
+    ("outside", "refused CopyOutside outside o\n"),
 ];
 
-/// File offset of the size in memory of the second program header.
+// A copy of the lesser size of two symbols; sums, an offset in the program's own block, and a weak reference.
+const STARTED: [(&str, &str); 2] = [
+    (
+        "short",
+        "slow
+object 0000000000400000 0000000000501000 short
+object 0000003000000000 0000003000101000 libe
+entry 0000000000400000
+word 0000000000500000 0000000000000033
+word 0000003000100000 0000000000000033
+word 0000003000100008 0000000000000044
+end
+",
+    ),
+    (
+        "words",
+        "slow
+object 0000000000400000 0000000000501000 words
+object 0000003000000000 0000003000101000 libnumber
+tls 1 0000000000000008 words
+entry 0000000000400000
+word 0000000000500000 000000000000000f
+word 0000000000500008 0000000000000004
+end
+",
+    ),
+];
+
+// File offset of the size in memory of the second program header.
 const SECOND_SIZE: usize = 0xa0;
 
 #[test]
-fn refuses_by_the_first_cause_of_a_walk(rt: HostRuntime) -> Result<(), Fail> {
+fn loads_by_the_first_cause_of_a_walk(rt: HostRuntime) -> Result<(), Fail> {
     let mut files = files_of(&rt, &RECIPES)?;
     for file in &mut files {
         if file.0.as_str() == "huge" {
-            put(&mut file.1, SECOND_SIZE, &0x10_0000_0000u64.to_le_bytes());
+            change(&mut file.1, &[(SECOND_SIZE, 0x10_0000_0000)]);
         }
     }
+    check(&rt, &files, &STARTED, Status::Done)?;
     check(&rt, &files, &REFUSED, Status::Refused)
 }
 
-/// A program that needs 256 others.
+/// Programs that need 255 and 256 others.
 #[test]
 fn refuses_one_name_too_many(rt: HostRuntime) -> Result<(), Fail> {
     let alloc = rt.alloc();
     let mut recipe = String::from_str(alloc, "program\n")?;
-    for number in 0..256u32 {
+    for number in 0..255u32 {
         recipe.push_str(format!(in alloc; "needs l{number}\n")?.as_str())?;
     }
+    let files = files_of(&rt, &[("many", recipe.as_str())])?;
+    check(
+        &rt,
+        &files,
+        &[("many", "refused NotThere l0\n")],
+        Status::Refused,
+    )?;
+    recipe.push_str("needs l255\n")?;
     let files = files_of(&rt, &[("many", recipe.as_str())])?;
     check(
         &rt,
@@ -286,41 +347,39 @@ const PAIR: [(&str, &str); 2] = [
     ),
 ];
 
-// What the sink gets in each call.
-const PARTS: [&str; 3] = [
-    "slow
+const PAIR_TEXT: &str = "slow
 object 0000000000400000 0000000000501000 p
 object 0000003000000000 0000003000101000 liba
 entry 0000000000400000
-",
-    "word 0000000000500000 0000003000100000
+word 0000000000500000 0000003000100000
 word 0000003000100000 0000000000001111
-",
-    "end
-",
+end
+";
+
+// Calls of the folder and of the sink that fail, how many bytes the sink takes in a call, how the run ends, and how many bytes of the text it wrote: each call in turn, then none of them, then a call in mid-stream.
+const FAULTS: [(&[u64], &[u64], usize, Status, u64); 7] = [
+    (&[0], &[], 4096, Status::DiskFault, 0),
+    (&[1], &[], 4096, Status::DiskFault, 0),
+    (&[], &[0], 4096, Status::WriteFault, 0),
+    (&[], &[1], 4096, Status::WriteFault, 117),
+    (&[], &[2], 4096, Status::WriteFault, 195),
+    (&[2], &[3], 4096, Status::Done, 199),
+    (&[], &[1], 10, Status::WriteFault, 10),
 ];
 
-/// Each call of the folder in turn, and then each of the sink.
 #[test]
 fn answers_a_fault_of_each_call(rt: HostRuntime) -> Result<(), Fail> {
-    let alloc = rt.alloc();
     let files = files_of(&rt, &PAIR)?;
-    for call in 0..2u64 {
-        let Ran { status, text } = run_words(&rt, &["--load", "p"], &files, &[call], &[], 4096)?;
-        assert_eq!(rt; text.as_slice(), b"".as_slice());
-        assert_eq!(rt; status, Status::DiskFault);
+    for (folder, output, most, want, written) in FAULTS {
+        let faults = Faults {
+            folder,
+            input: &[],
+            output,
+            most,
+        };
+        let Ran { status, text } = run_words(&rt, &["--load", "p"], &files, faults)?;
+        assert_eq!(rt; text.as_slice(), part(PAIR_TEXT.as_bytes(), 0, written));
+        assert_eq!(rt; status, want);
     }
-    let mut before = String::new(alloc);
-    let mut call = 0u64;
-    for part in PARTS {
-        let Ran { status, text } = run_words(&rt, &["--load", "p"], &files, &[], &[call], 4096)?;
-        assert_eq!(rt; text.as_slice(), before.as_bytes());
-        assert_eq!(rt; status, Status::WriteFault);
-        before.push_str(part)?;
-        call = call.saturating_add(1);
-    }
-    let Ran { status, text } = run_words(&rt, &["--load", "p"], &files, &[2], &[call], 4096)?;
-    assert_eq!(rt; text.as_slice(), before.as_bytes());
-    assert_eq!(rt; status, Status::Done);
     Ok(())
 }

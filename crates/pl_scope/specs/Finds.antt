@@ -10,7 +10,7 @@ use Rattle.pl_sym.specs.declared.class.Class.TheVariants.{Jump, Other}
 use Rattle.pl_ver.specs.Fields.{index_of}
 use Rattle.pl_ver.specs.declared.constants.TheConstants.{VER_NDX_GLOBAL}
 use Rattle.pl_object.specs.SymbolClauses.{version_name}
-use Rattle.pl_object.specs.declared.constants.TheConstants.{R_X86_64_COPY, R_X86_64_JUMP_SLOT}
+use Rattle.pl_elf.specs.declared.constants.TheConstants.{R_X86_64_COPY, R_X86_64_JUMP_SLOT}
 use Rattle.pl_object.specs.declared.object.Object.{Object}
 use Rattle.pl_scope.specs.Matching.{matching}
 use Rattle.pl_scope.specs.declared.reference.Reference.{Reference}

@@ -1,5 +1,5 @@
 -- Which symbol of one object answers to a name. What defines a name: gABI chapter 4, "Symbol Table". Version words and the names of versions: GNU symbol versioning. Which of several definers of a name is taken: this project's profile.
-use Rattle.std.specs.Prelude.{ℕ, Bool, ◌&&◌, ◌==◌, nat_lt, List, Option, Some, None, is_some, position, count_by, if◌then◌else◌}
+use Rattle.std.specs.Prelude.{ℕ, Bool, true, false, ◌&&◌, ◌||◌, ◌==◌, nat_lt, List, Option, Some, None, is_some, position, count_by, if◌then◌else◌}
 use Rattle.std.specs.Option.{option_or}
 use Rattle.std.specs.Str.{bytes_eq}
 use Rattle.pl_sym.specs.Definers.{is_definer}
@@ -20,31 +20,31 @@ defines o name class s = is_definer s class (is_program o.kind) && bytes_eq s.na
 unfoldable pub has_version : Object → List ℕ → Symbol → Bool
 has_version o version s = is_same_name (Some version) (version_name o.versions s.version)
 
--- the place of the only symbol that passes
+-- the index of the only symbol that passes
 abbrev pub only : (Symbol → Bool) → List Symbol → Option ℕ
 only p symbols = if count_by p symbols == 1 then position p symbols else None
+
+-- a definer that counts: any where hidden ones do too, else one that is not hidden, bit 15 of whose version word is clear
+unfoldable pub counts : Object → List ℕ → Class → Bool → Symbol → Bool
+counts o name class hidden s = defines o name class s && (hidden || nat_lt s.version VERSYM_HIDDEN)
 
 -- for a reference with a version: the definer of that version, else the one whose version word is exactly that of no version, else, in an object without version words, the only definer
 unfoldable pub versioned : Object → List ℕ → Class → List ℕ → Option ℕ
 versioned o name class version =
     option_or (position (λ s. defines o name class s && has_version o version s) o.symbols)
     (option_or (position (λ s. defines o name class s && s.version == VER_NDX_GLOBAL) o.symbols)
-    (if is_some o.versions then None else only (defines o name class) o.symbols))
+    (if is_some o.versions then None else only (counts o name class true) o.symbols))
 
 -- the definer with a version index
 abbrev pub at_index : Object → List ℕ → Class → ℕ → Option ℕ
 at_index o name class index = position (λ s. defines o name class s && index_of s.version == index) o.symbols
-
--- a definer that is not hidden: bit 15 of its version word is clear
-abbrev pub is_shown : Object → List ℕ → Class → Symbol → Bool
-is_shown o name class s = defines o name class s && nat_lt s.version VERSYM_HIDDEN
 
 -- for a reference without one: the definer of the lowest index up to the first version's, else the only one that is not hidden
 unfoldable pub unversioned : Object → List ℕ → Class → Option ℕ
 unversioned o name class =
     option_or (at_index o name class VER_NDX_LOCAL)
     (option_or (at_index o name class VER_NDX_GLOBAL)
-    (option_or (at_index o name class FIRST_VERSION) (only (is_shown o name class) o.symbols)))
+    (option_or (at_index o name class FIRST_VERSION) (only (counts o name class false) o.symbols)))
 
 -- the index of the symbol that matches
 abbrev pub matching : Object → List ℕ → Class → Option (List ℕ) → Option ℕ

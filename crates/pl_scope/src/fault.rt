@@ -1,3 +1,6 @@
+ghost use Rattle.std.specs.Prelude.{◌≡◌};
+ghost use Rattle.pl_scope.specs.declared.fault.WalkFault.TheVariants as faults;
+
 use pl_base::Text;
 use pl_io::NoMemory;
 use std::alloc::{AllocError, AllocFailed};
@@ -36,9 +39,6 @@ impl fmt::Debug for WalkFault {
 }
 
 impl From<NoMemory> for WalkFault {
-    ghost use Rattle.std.specs.Prelude.{◌≡◌};
-    ghost use Rattle.pl_scope.specs.declared.fault.WalkFault.TheVariants as faults;
-
     ghost from_gives = { λ _ fault. fault ≡ faults.NoMemory };
 
     fn from(_: NoMemory) -> WalkFault {
@@ -47,9 +47,6 @@ impl From<NoMemory> for WalkFault {
 }
 
 impl From<AllocError> for WalkFault {
-    ghost use Rattle.std.specs.Prelude.{◌≡◌};
-    ghost use Rattle.pl_scope.specs.declared.fault.WalkFault.TheVariants as faults;
-
     ghost from_gives = { λ _ fault. fault ≡ faults.NoMemory };
 
     fn from(_: AllocError) -> WalkFault {
@@ -58,9 +55,6 @@ impl From<AllocError> for WalkFault {
 }
 
 impl<T: Drop> From<AllocFailed<T>> for WalkFault {
-    ghost use Rattle.std.specs.Prelude.{◌≡◌};
-    ghost use Rattle.pl_scope.specs.declared.fault.WalkFault.TheVariants as faults;
-
     ghost from_gives = { λ _ fault. fault ≡ faults.NoMemory };
 
     fn from(_: AllocFailed<T>) -> WalkFault {

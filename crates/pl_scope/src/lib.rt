@@ -10,11 +10,7 @@ mod matching;
 mod member;
 mod order;
 mod reference;
-#[cfg(test)]
-mod samples;
 mod scope;
-#[cfg(test)]
-mod tests;
 mod walks;
 
 pub use constants::MAX_MEMBERS;

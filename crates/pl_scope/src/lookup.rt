@@ -3,10 +3,10 @@ ghost use Rattle.std.specs.Option.{option_map};
 ghost use Rattle.pl_scope.specs.Scope.{objects, IsScope, IsSymbol};
 ghost use Rattle.pl_scope.specs.Finds as spec;
 
-use crate::matching::{matching, version_name};
+use crate::matching::matching;
 use crate::{Found, Reference, Scope};
-use pl_object::Object;
-use pl_object::constants::{R_X86_64_COPY, R_X86_64_JUMP_SLOT};
+use pl_elf::constants::{R_X86_64_COPY, R_X86_64_JUMP_SLOT};
+use pl_object::{Object, version_name};
 use pl_sym::constants::STV_DEFAULT;
 use pl_sym::{Class, Symbol};
 use pl_ver::constants::{VER_NDX_GLOBAL, VERSYM_HIDDEN};
@@ -34,7 +34,7 @@ fn version_wanted<'a>(object: &'a Object, symbol: &Symbol) -> Option<&'a [u8]>
     ensures { option_map (λ name. name.now) result ≡ spec.version_wanted object.now symbol.now }
 {
     if symbol.version % VERSYM_HIDDEN > VER_NDX_GLOBAL {
-        version_name(object, symbol.version)
+        version_name(&object.versions, symbol.version)
     } else {
         None
     }
@@ -56,9 +56,9 @@ fn in_member(
     let object = scope.members[member as usize].object;
     match matching(object, name, class, version) {
         None => None,
-        Some(place) => Some(Found {
+        Some(index) => Some(Found {
             member,
-            symbol: place as u32,
+            symbol: index as u32,
         }),
     }
 }

@@ -5,6 +5,7 @@ use Rattle.std.specs.List.{find, list_all, AllByRecursion}
 use Rattle.std.proofs.lemmas.Bool.{cases_Bool, and_parts, and_from, or_left, or_right, le-leb, lt-ltb, leb-false}
 use Rattle.std.proofs.lemmas.List.{append-nil}
 use Rattle.pl_base.specs.Each.{run}
+use Rattle.pl_base.proofs.AnswerLaws.{bind_ok, ok_same}
 use Rattle.pl_elf.specs.declared.range.Range.{Range}
 use Rattle.pl_slots.specs.declared.slot.Want.{Want}
 use Rattle.pl_slots.specs.declared.slot.Slot.{Slot}
@@ -13,7 +14,7 @@ use Rattle.pl_slots.specs.Apart.{is_beside, are_apart}
 use Rattle.pl_slots.specs.Holes.{without, lowest, is_in, is_free, fits_at}
 use Rattle.pl_slots.specs.Plan.{next, placed, slot_at, at_place, with_row, kept_or_placed, kept_row, keeps, range_of, beside}
 use Rattle.pl_slots.proofs.HoleLaws.{free_without}
-use Rattle.pl_slots.proofs.ServeLaws.{AreSome, is_kept, lowest_fits, fits_free, still_free, free_before, bound, ok_is}
+use Rattle.pl_slots.proofs.ServeLaws.{AreSome, is_kept, lowest_fits, fits_free, still_free, free_before}
 
 -- ---- pairs of slots
 
@@ -226,7 +227,7 @@ placed_well kept region before after want wants (Some start) none aligns some is
     let outside : Outside before.holes (before.rows ++ later) = subst (λ (found : Option Slot). Outside before.holes (before.rows ++ with_kept found later)) (sym none) well.outside in
     let same : before.rows ++ slot ∷ later ≡ (before.rows ++ slot ∷ []) ++ later = sym (append_assoc before.rows (slot ∷ []) later) in
     let fewer : Outside (without taken before.holes) (before.rows ++ later) = outside_fewer before.holes (without taken before.holes) (before.rows ++ later) (still_free taken before.holes) outside in
-    let whole : record { rows = before.rows ++ slot ∷ []; holes = without taken before.holes } ≡ after = ok_is _ after ok in
+    let whole : record { rows = before.rows ++ slot ∷ []; holes = without taken before.holes } ≡ after = ok_same _ after ok in
     subst (λ (planned : Planned). AreWell kept region planned wants) whole
     (record {
       apart = subst (λ (rows : List Slot). are_apart rows ≡ true) same (apart_with before.rows later slot apart (all_beside before.holes slot (before.rows ++ later) some place.1 outside));
@@ -237,7 +238,7 @@ step_well_by : (kept : List Slot) (region : Range) (before after : Planned) (wan
     → kept_or_placed before want row ≡ Ok after → AreWell kept region before (want ∷ wants) → AreWell kept region after wants
 unfolding placed
 step_well_by kept region before after want wants (Some row) is aligns some ok well =
-    subst (λ (planned : Planned). AreWell kept region planned wants) (ok_is (with_row before row) after ok) (kept_well kept region before want wants row is well)
+    subst (λ (planned : Planned). AreWell kept region planned wants) (ok_same (with_row before row) after ok) (kept_well kept region before want wants row is well)
 step_well_by kept region before after want wants None is aligns some ok well = placed_well kept region before after want wants (lowest want.span want.align before.holes) is aligns some refl ok well
 
 step_well : (kept : List Slot) (region : Range) (before after : Planned) (want : Want) (wants : List Want) → 0 < want.align → 0 < want.span → next kept region before want ≡ Ok after
@@ -248,7 +249,7 @@ step_well kept region before after want wants aligns some ok well = step_well_by
 pub all_apart : (kept : List Slot) (region : Range) (wants : List Want) (before after : Planned) → AreSome wants → run (next kept region) before wants ≡ Ok after → AreWell kept region before wants → are_apart after.rows ≡ true
 unfolding run
 all_apart kept region [] before after some ok well =
-    subst (λ (rows : List Slot). are_apart rows ≡ true) (append-nil before.rows ∙ ap (λ (p : Planned). p.rows) (ok_is before after ok)) well.apart
+    subst (λ (rows : List Slot). are_apart rows ≡ true) (append-nil before.rows ∙ ap (λ (p : Planned). p.rows) (ok_same before after ok)) well.apart
 all_apart kept region (want ∷ wants) before after some ok well =
-    let split = bound (next kept region before want) (λ t. run (next kept region) t wants) after ok in
+    let split = bind_ok (next kept region before want) (λ t. run (next kept region) t wants) after ok in
     all_apart kept region wants split.0 after some.2 split.2 (step_well kept region before split.0 want wants some.0 some.1 split.1 well)

@@ -1,19 +1,18 @@
 -- Each row of a plan serves its want.
-use Rattle.std.proofs.Common.{◌≡◌, ℕ, ◌+◌, ◌-◌, ◌≤◌, ◌<◌, true, ◌&&◌, suc, List, [], ◌∷◌, ◌++◌, Option, Some, None, Result, Ok, Err, refl, sym, ap, ◌∙◌, subst, inl, inr, arith, append_assoc}
+use Rattle.std.proofs.Common.{◌≡◌, ℕ, ◌+◌, ◌-◌, ◌≤◌, ◌<◌, true, ◌&&◌, suc, List, [], ◌∷◌, ◌++◌, Option, Some, None, Ok, refl, sym, ap, ◌∙◌, subst, inl, inr, arith, append_assoc}
 use Rattle.std.specs.Prelude.{nat_le, nat_lt, fold, All}
 use Rattle.std.specs.Cmp.Lexicographic.{same_text}
 use Rattle.std.specs.Str.{bytes_eq}
 use Rattle.std.proofs.lemmas.Bool.{cases_Bool, and_parts, and_from, or_cases, or_left, or_right, leb-true, ltb-true, le-leb, lt-ltb, false≢true}
 use Rattle.std.proofs.lemmas.List.{append-nil}
-use Rattle.pl_base.specs.Answers.{◌>>=◌}
 use Rattle.pl_base.specs.Each.{run}
+use Rattle.pl_base.proofs.AnswerLaws.{bind_ok, ok_same}
 use Rattle.pl_base.specs.Sums.{round_up, is_aligned}
 use Rattle.pl_base.proofs.SumLaws.{round_up-at_least, round_up-aligned}
 use Rattle.pl_elf.specs.declared.range.Range.{Range}
 use Rattle.pl_slots.specs.declared.slot.Want.{Want}
 use Rattle.pl_slots.specs.declared.slot.Slot.{Slot}
 use Rattle.pl_slots.specs.declared.planned.Planned.{Planned}
-use Rattle.pl_slots.specs.declared.fault.PlanFault.{PlanFault}
 use Rattle.pl_slots.specs.Holes.{region_holes, without, lowest, holds, is_in, is_free, fits_at, IsPlace}
 use Rattle.pl_slots.specs.Plan.{next, placed, slot_at, at_place, with_row, kept_or_placed, kept_row, kept_holes, keeps, lies_in, range_of, beside, Gets, Serves, AllServe}
 use Rattle.pl_slots.proofs.HoleLaws.{find_passes, free_without, free_in_region}
@@ -130,16 +129,10 @@ place_serves kept region before want start none aligns some inside is =
     let place = lowest_fits want.span want.align start before.holes aligns is in
     record { gets = subst (λ (o : Option Slot). Gets o want (slot_at want start)) none refl; name = refl; large = omega arith; aligned = place.0; within = lies_where_free region before.holes (slot_at want start) inside some place.1 }
 
-abbrev pub done : {A : Type 0} → A → Result A PlanFault
-done x = Ok x
-
-pub ok_is : {A : Type 0} (x y : A) → done x ≡ done y → x ≡ y
-ok_is x y e = cc
-
 placed_is_step : (kept : List Slot) (region : Range) (before after : Planned) (want : Want) (found : Option ℕ) → None ≡ kept_row kept region want → 0 < want.align → 0 < want.span → InRegion region before.holes
     → found ≡ lowest want.span want.align before.holes → at_place before want found ≡ Ok after → IsStep kept region before want after
 placed_is_step kept region before after want (Some start) none aligns some inside is ok =
-    let whole : record { rows = before.rows ++ slot_at want start ∷ []; holes = without (range_of (slot_at want start)) before.holes } ≡ after = ok_is _ after ok in
+    let whole : record { rows = before.rows ++ slot_at want start ∷ []; holes = without (range_of (slot_at want start)) before.holes } ≡ after = ok_same _ after ok in
     subst (IsStep kept region before want) whole
     (record { slot = slot_at want start; rows = refl; serves = place_serves kept region before want start none aligns some inside is; fewer = still_free (range_of (slot_at want start)) before.holes })
 placed_is_step kept region before after want None none aligns some inside is ok = absurd cc
@@ -148,7 +141,7 @@ is_step_by : (kept : List Slot) (region : Range) (before after : Planned) (want 
     → kept_or_placed before want row ≡ Ok after → IsStep kept region before want after
 unfolding placed
 is_step_by kept region before after want (Some row) is aligns some inside ok =
-    subst (IsStep kept region before want) (ok_is (with_row before row) after ok) (record { slot = row; rows = refl; serves = kept_serves kept region want row is; fewer = λ address free. free })
+    subst (IsStep kept region before want) (ok_same (with_row before row) after ok) (record { slot = row; rows = refl; serves = kept_serves kept region want row is; fewer = λ address free. free })
 is_step_by kept region before after want None is aligns some inside ok = placed_is_step kept region before after want (lowest want.span want.align before.holes) is aligns some inside refl ok
 
 is_step : (kept : List Slot) (region : Range) (before after : Planned) (want : Want) → 0 < want.align → 0 < want.span → InRegion region before.holes → next kept region before want ≡ Ok after → IsStep kept region before want after
@@ -156,11 +149,6 @@ unfolding next
 is_step kept region before after want aligns some inside ok = is_step_by kept region before after want (kept_row kept region want) refl aligns some inside ok
 
 -- ---- all steps
-
--- what was made of a step, and of the ones behind it
-pub bound : {A B E : Type 0} (r : Result A E) (f : A → Result B E) (y : B) → (r >>= f) ≡ Ok y → (x : A) × (r ≡ Ok x) × (f x ≡ Ok y)
-bound (Ok x) f y ok = (x, refl, ok)
-bound (Err e) f y ok = absurd cc
 
 pub record AllServed (kept : List Slot) (region : Range) (before : Planned) (wants : List Want) (after : Planned) : Type 0 where
   pub rows : List Slot
@@ -171,9 +159,9 @@ pub all_serve : (kept : List Slot) (region : Range) (wants : List Want) (before 
     → run (next kept region) before wants ≡ Ok after → AllServed kept region before wants after
 unfolding run
 all_serve kept region [] before after some inside ok =
-    record { rows = []; all = sym (append-nil after.rows) ∙ ap (λ (p : Planned). p.rows ++ []) (sym (ok_is before after ok)); serve = tt }
+    record { rows = []; all = sym (append-nil after.rows) ∙ ap (λ (p : Planned). p.rows ++ []) (sym (ok_same before after ok)); serve = tt }
 all_serve kept region (want ∷ wants) before after some inside ok =
-    let split = bound (next kept region before want) (λ t. run (next kept region) t wants) after ok in
+    let split = bind_ok (next kept region before want) (λ t. run (next kept region) t wants) after ok in
     let step = is_step kept region before split.0 want some.0 some.1 inside split.1 in
     let rest = all_serve kept region wants split.0 after some.2 (λ address free. inside address (step.fewer address free)) split.2 in
     record { rows = step.slot ∷ rest.rows; all = rest.all ∙ ap (λ (rows : List Slot). rows ++ rest.rows) step.rows ∙ append_assoc before.rows (step.slot ∷ []) rest.rows; serve = (step.serves, rest.serve) }

@@ -4,6 +4,7 @@ ghost use Rattle.std.specs.List.{find};
 ghost use Rattle.pl_base.specs.Sums.{round_up};
 ghost use Rattle.pl_slots.specs.Holes as spec;
 
+use pl_base::round_up_wide;
 use pl_elf::Range;
 use std::alloc::{AllocError, Global};
 
@@ -65,15 +66,13 @@ pub fn without(alloc: Global, holes: &[Range], taken: Range) -> Result<Vec<Range
     cut_each(alloc, holes, taken)
 }
 
-/// The least aligned address that is not below a hole's start.
-#[tactic(auto, unfolding(pl_base::specs::Sums::round_up))]
-fn first_address(hole: Range, align: u64) -> u128
+/// The least aligned address that is not below a hole's start. It has 65 bits at most.
+pub fn first_address(hole: Range, align: u64) -> u128
     requires { 0 < align }
     ensures value { result ≡ round_up hole.start align }
     ensures small { result < 2 ^ 65 }
 {
-    let multiple = u128::from(align);
-    (u128::from(hole.start) + (multiple - 1)) / multiple * multiple
+    round_up_wide(u128::from(hole.start), align)
 }
 
 /// Whether a span fits in a hole at its least aligned address.

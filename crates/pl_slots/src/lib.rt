@@ -10,6 +10,6 @@ mod slot;
 
 pub use apart::are_apart;
 pub use fault::PlanFault;
-pub use holes::{greatest, lowest_place, region_holes, without};
+pub use holes::{first_address, greatest, lowest_place, region_holes, without};
 pub use planning::plan;
 pub use slot::{Slot, Want};

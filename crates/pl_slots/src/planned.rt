@@ -2,12 +2,12 @@ use crate::Slot;
 use pl_base::Rows;
 use pl_elf::Range;
 
-/// A plan in the making.
+/// How far a plan has come: the slots of the wants so far, and what is left of the region for the others.
 #[derive(Drop)]
 pub struct Planned {
-    /// The slots so far.
+    /// The slots of the wants so far, in their order.
     pub rows: Rows<Slot>,
 
-    /// The holes that are left of the region, ascending.
+    /// What is left of the region beside these slots and the rows that other wants keep: holes in ascending order.
     pub holes: Rows<Range>,
 }

@@ -13,7 +13,7 @@ pub struct Symbol {
     /// An address, or a number if the symbol is absolute, or an offset in the TLS block.
     pub value: u64,
 
-    /// Bytes that it names.
+    /// How many bytes it names, 0 where that is not known.
     pub size: u64,
 
     /// One of the `STB_` numbers: the high four bits of the field `info`.

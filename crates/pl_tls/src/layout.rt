@@ -3,16 +3,15 @@ ghost use Rattle.pl_base.specs.Answers.{Answers};
 ghost use Rattle.pl_tls.specs.Layout as spec;
 
 use crate::{Block, Module, OFFSET_LIMIT, TlsFault};
-use pl_base::{Rows, end};
+use pl_base::{Rows, end, round_up_wide};
 use std::alloc::Global;
 
-/// The offset of the next block, which is 65 bits long at most: rounding goes by sums that do not wrap.
-#[tactic(auto, unfolding(crate::specs::Layout::offset_after, pl_base::specs::Sums::round_up))]
+/// The offset of the next block. It may be greater than 64 bits hold.
+#[tactic(auto, unfolding(crate::specs::Layout::offset_after))]
 fn offset_after(reached: u64, block: &Block) -> u128
     ensures { result ≡ spec.offset_after reached block.now }
 {
-    let align = u128::from(block.align.max(1));
-    (end(reached, block.size) + (align - 1)) / align * align
+    round_up_wide(end(reached, block.size), block.align.max(1))
 }
 
 /// The modules of objects in scope order: those with a block are numbered from 1, and each offset is the least one that is aligned and leaves the block its room. An alignment may be any number.

@@ -1,14 +1,15 @@
 -- An undo section that is read is spelled so, and one that is spelled so is read.
-use Rattle.std.proofs.Common.{◌≡◌, ℕ, ◌+◌, ◌-◌, ◌^◌, ◌<◌, ◌≤◌, Bool, true, false, ◌&&◌, ◌==◌, not, nat_eq, nat_lt, List, [], ◌∷◌, ◌++◌, length, take, drop, Result, Ok, Err, refl, sym, ap, subst, ◌∙◌, append_assoc, arith, eq-eqb, take-append-drop, length-append, length-drop, length-take}
+use Rattle.std.proofs.Common.{◌≡◌, ℕ, ◌+◌, ◌-◌, ◌^◌, ◌<◌, ◌≤◌, Bool, true, false, ◌&&◌, ◌==◌, not, nat_eq, nat_lt, List, ◌++◌, length, take, drop, Result, Ok, Err, refl, sym, ap, subst, ◌∙◌, append_assoc, arith, eq-eqb, take-append-drop, length-append, length-drop, length-take}
 use Rattle.std.specs.List.{starts_with}
 use Rattle.std.specs.Prelude.{IfOk}
-use Rattle.std.proofs.lemmas.Bool.{lt-ltb, le-ltb, ltb-true, ltb-false, eqb-true}
+use Rattle.std.proofs.lemmas.Bool.{and_parts, lt-ltb, le-ltb, ltb-true, ltb-false, eqb-true}
 use Rattle.std.proofs.lemmas.Bool.Decides.{Decides-eqb}
 use Rattle.std.proofs.lemmas.List.{drop-drop, drop_at, take_at}
 use Rattle.std.proofs.lemmas.Slice.Eq.{starts_is}
-use Rattle.pl_base.specs.Answers.{Answers, refuse}
-use Rattle.pl_base.specs.Bytes.{IsBytes, word64, bytes64, part, put}
-use Rattle.pl_base.proofs.WordLaws.{bytes64_word, length_bytes64, word16_front, word64_below, word64_put}
+use Rattle.pl_base.specs.Answers.{Answers}
+use Rattle.pl_base.specs.Bytes.{IsBytes, word64, bytes64, part}
+use Rattle.pl_base.proofs.AnswerLaws.{refuse_ok, ok_same}
+use Rattle.pl_base.proofs.WordLaws.{length_bytes64, word16_front, word64_below, word64_back, split64}
 use Rattle.pl_elf.specs.Headers.{header}
 use Rattle.pl_elf.specs.declared.header.Header.{Header}
 use Rattle.pl_undo.specs.declared.constants.TheConstants.{UNDO_MAGIC}
@@ -20,41 +21,17 @@ use Rattle.pl_undo.specs.Reading.{is_memory, has_front, stored, ends_at, fitting
 
 -- ---- steps and tests that led to an answer
 
-refuse_ok : {A : Type 0} (b : Bool) (next : Result A UndoFault) (y : A) → refuse ((not b, BadUndo) ∷ []) next ≡ Ok y → (b ≡ true) × (next ≡ Ok y)
-refuse_ok true next y e = (refl, e)
-refuse_ok false next y e = absurd cc
-
-abbrev done : Undo → Result Undo UndoFault
-done u = Ok u
-
-same_value : (u v : Undo) → done u ≡ done v → u ≡ v
-same_value u v e = cc
-
-both : (b c : Bool) → (b && c) ≡ true → (b ≡ true) × (c ≡ true)
-both true c e = (refl, e)
-both false c e = absurd cc
-
 is_not : (b : Bool) → not b ≡ true → b ≡ false
 is_not true e = absurd cc
 is_not false e = refl
 
 -- ---- words one after the other
 
--- bytes from an offset on are the word there, and what follows
-split64 : (at next : ℕ) (xs : List ℕ) → IsBytes xs → at + 8 ≡ next → next ≤ length xs → drop at xs ≡ bytes64 (word64 at xs) ++ drop next xs
-split64 at next xs bytes is within =
-    rw (bytes64_word at xs (omega arith) bytes, ← is, ← drop-drop 8 at xs) (sym (take-append-drop 8 (drop at xs)))
-
-put_front : (number : ℕ) (rest : List ℕ) → put 0 (bytes64 number) (bytes64 number ++ rest) ≡ bytes64 number ++ rest
-unfolding put
-put_front number rest = ap (λ (xs : List ℕ). bytes64 number ++ xs) (drop_at (bytes64 number) rest (0 + length (bytes64 number)) (omega arith))
-
 -- a word that stands at an offset is read as it was written
 here64 : (at number : ℕ) (rest xs : List ℕ) → drop at xs ≡ bytes64 number ++ rest → number < 2 ^ 64 → word64 at xs ≡ number
 unfolding word64
 here64 at number rest xs there small =
-    let front : word64 0 (bytes64 number ++ rest) ≡ number =
-    sym (ap (word64 0) (put_front number rest)) ∙ word64_put 0 number (bytes64 number ++ rest) (omega (arith, length-append (bytes64 number) rest, length_bytes64 number)) small in
+    let front : word64 0 (bytes64 number ++ rest) ≡ number = word64_back number rest small in
     rw there front
 
 -- and behind it the rest stands
@@ -67,7 +44,7 @@ next64 at next number rest xs is there =
 front_found : (bytes : List ℕ) → has_front bytes ≡ true → (bytes ≡ UNDO_MAGIC ++ drop 8 bytes) × (112 ≤ length bytes)
 unfolding has_front
 front_found bytes e =
-    let t = both (starts_with nat_eq bytes UNDO_MAGIC) (not (nat_lt (length bytes) 112)) e in
+    let t = and_parts (starts_with nat_eq bytes UNDO_MAGIC) (not (nat_lt (length bytes) 112)) e in
     ((starts_is Decides-eqb bytes UNDO_MAGIC (starts_with nat_eq bytes UNDO_MAGIC) refl).0 t.0, ltb-false _ _ (is_not _ t.1))
 
 front_again : (bytes rest : List ℕ) → bytes ≡ UNDO_MAGIC ++ rest → 112 ≤ length bytes → has_front bytes ≡ true
@@ -164,14 +141,14 @@ unfolding undo_of behind_front ends_at
 is_found bytes u are_bytes e =
     let h = header (drop 48 bytes) in
     let size = headers_size h in
-    let t = refuse_ok (has_front bytes) (behind_front bytes h) u e in
-    let s = refuse_ok (length bytes == 48 + size + word64 40 bytes) (fitting h.kind (stored bytes (48 + size))) u t.1 in
-    let f = refuse_ok (fits_kind h.kind (stored bytes (48 + size))) (Ok (stored bytes (48 + size))) u s.1 in
+    let t = refuse_ok (has_front bytes) BadUndo (behind_front bytes h) u e in
+    let s = refuse_ok (length bytes == 48 + size + word64 40 bytes) BadUndo (fitting h.kind (stored bytes (48 + size))) u t.1 in
+    let f = refuse_ok (fits_kind h.kind (stored bytes (48 + size))) BadUndo (Ok (stored bytes (48 + size))) u s.1 in
     let front = front_found bytes t.0 in
     let whole : IsWhole bytes size = record { are_bytes = are_bytes; front = front.0; enough = size_least h; end = eqb-true _ _ s.0 } in
     let fits : fits_kind h.kind (value bytes size) ≡ true = ap (fits_kind h.kind) (sym (stored_is bytes size)) ∙ f.0 in
     let has_headers_found : has_headers (stored bytes (48 + size)) ≡ true = ap has_headers (stored_is bytes size) ∙ headers_found bytes size whole refl fits in
-    subst (λ (v : Undo). IsUndoOf bytes v) (same_value (stored bytes (48 + size)) u f.1) (record {
+    subst (λ (v : Undo). IsUndoOf bytes v) (ok_same (stored bytes (48 + size)) u f.1) (record {
       in_bytes = spelled_so bytes size whole;
       is_spelled = rw (words_found bytes size whole, has_headers_found) refl;
     })
@@ -202,10 +179,10 @@ record HasWords (u : Undo) : Type 0 where
 words_are : (u : Undo) → are_words u ≡ true → HasWords u
 unfolding are_words
 words_are u e =
-    let t4 = both (nat_lt u.slot (2 ^ 64) && nat_lt u.cut (2 ^ 64) && nat_lt u.shift (2 ^ 64) && nat_lt u.length (2 ^ 64)) (nat_lt (length u.kept) (2 ^ 64)) e in
-    let t3 = both (nat_lt u.slot (2 ^ 64) && nat_lt u.cut (2 ^ 64) && nat_lt u.shift (2 ^ 64)) (nat_lt u.length (2 ^ 64)) t4.0 in
-    let t2 = both (nat_lt u.slot (2 ^ 64) && nat_lt u.cut (2 ^ 64)) (nat_lt u.shift (2 ^ 64)) t3.0 in
-    let t1 = both (nat_lt u.slot (2 ^ 64)) (nat_lt u.cut (2 ^ 64)) t2.0 in
+    let t4 = and_parts (nat_lt u.slot (2 ^ 64) && nat_lt u.cut (2 ^ 64) && nat_lt u.shift (2 ^ 64) && nat_lt u.length (2 ^ 64)) (nat_lt (length u.kept) (2 ^ 64)) e in
+    let t3 = and_parts (nat_lt u.slot (2 ^ 64) && nat_lt u.cut (2 ^ 64) && nat_lt u.shift (2 ^ 64)) (nat_lt u.length (2 ^ 64)) t4.0 in
+    let t2 = and_parts (nat_lt u.slot (2 ^ 64) && nat_lt u.cut (2 ^ 64)) (nat_lt u.shift (2 ^ 64)) t3.0 in
+    let t1 = and_parts (nat_lt u.slot (2 ^ 64)) (nat_lt u.cut (2 ^ 64)) t2.0 in
     record { slot = ltb-true _ _ t1.0; cut = ltb-true _ _ t1.1; shift = ltb-true _ _ t2.1; size = ltb-true _ _ t3.1; count = ltb-true _ _ t4.1 }
 
 laid : (bytes : List ℕ) (u : Undo) → bytes ≡ undo_bytes u → HasWords u → IsLaid bytes u
@@ -241,8 +218,8 @@ stored_again bytes u there =
 pub is_read : (bytes : List ℕ) (u : Undo) → IsUndoOf bytes u → undo_of bytes ≡ Ok u
 unfolding undo_of behind_front ends_at has_headers
 is_read bytes u of =
-    let t = both (are_words u) (has_headers u) of.is_spelled in
-    let s = both (length u.headers == headers_size (header u.headers)) (fits_kind (header u.headers).kind u) t.1 in
+    let t = and_parts (are_words u) (has_headers u) of.is_spelled in
+    let s = and_parts (length u.headers == headers_size (header u.headers)) (fits_kind (header u.headers).kind u) t.1 in
     let told : length u.headers ≡ headers_size (header u.headers) = eqb-true _ _ s.0 in
     let enough : 64 ≤ length u.headers = omega (arith, told, size_least (header u.headers)) in
     let there = laid bytes u of.in_bytes (words_are u t.0) in
@@ -253,4 +230,4 @@ is_read bytes u of =
     rw (front, same.size, same.kind, ← told, eq-eqb _ _ end, stored_again bytes u there, s.1) refl
 
 pub is_one : (bytes : List ℕ) (u v : Undo) → IsUndoOf bytes u → IsUndoOf bytes v → u ≡ v
-is_one bytes u v of other = same_value u v (sym (is_read bytes u of) ∙ is_read bytes v other)
+is_one bytes u v of other = ok_same u v (sym (is_read bytes u of) ∙ is_read bytes v other)

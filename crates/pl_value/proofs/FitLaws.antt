@@ -10,7 +10,7 @@ use Rattle.pl_tls.specs.declared.module.Module.{Module}
 use Rattle.pl_object.specs.Accepted.{is_program}
 use Rattle.pl_object.specs.PlaceClauses.{is_bad, is_known, is_misplaced_copy}
 use Rattle.pl_object.specs.Relocations.{width, size_of}
-use Rattle.pl_object.specs.declared.constants.TheConstants.{R_X86_64_NONE, R_X86_64_64, R_X86_64_COPY, R_X86_64_GLOB_DAT, R_X86_64_JUMP_SLOT, R_X86_64_RELATIVE, R_X86_64_DTPMOD64, R_X86_64_DTPOFF64, R_X86_64_TPOFF64}
+use Rattle.pl_elf.specs.declared.constants.TheConstants.{R_X86_64_NONE, R_X86_64_64, R_X86_64_COPY, R_X86_64_GLOB_DAT, R_X86_64_JUMP_SLOT, R_X86_64_RELATIVE, R_X86_64_DTPMOD64, R_X86_64_DTPOFF64, R_X86_64_TPOFF64}
 use Rattle.pl_object.specs.declared.object.Object.{Object}
 use Rattle.pl_object.specs.declared.reloc.Reloc.{Reloc}
 use Rattle.pl_scope.specs.declared.reference.Reference.{Reference}

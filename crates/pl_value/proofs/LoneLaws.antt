@@ -3,20 +3,13 @@ use Rattle.std.proofs.Common.{◌≡◌, ℕ, zero, suc, ◌<◌, Bool, true, fa
 use Rattle.std.specs.Prelude.{◌||◌}
 use Rattle.std.specs.List.{list_any, AllZip}
 use Rattle.std.proofs.lemmas.Bool.{cases_Bool, false≢true, or_parts}
-use Rattle.std.proofs.lemmas.List.Folds.{list_any_at}
+use Rattle.std.proofs.lemmas.List.Folds.{list_any_at, list_any_none}
 use Rattle.pl_base.specs.Memory.{AtMostOne}
 
 -- each row's addresses are those of no later row
 abbrev pub Lone : {X : Type 0} → (ℕ → X → Bool) → List X → Type 0
 Lone test [] = Unit {0}
 Lone test (x ∷ xs) = ((a : ℕ) → test a x ≡ true → list_any (test a) xs ≡ false) × Lone test xs
-
--- no row passes where none does at an index
-pub any_none : {X : Type 0} (p : X → Bool) (xs : List X) → ((k : ℕ) (d : X) → k < length xs → p (get_or xs k d) ≡ false) → list_any p xs ≡ false
-any_none p [] none = refl
-any_none p (x ∷ xs) none =
-    let first : p x ≡ false = none zero x (omega arith) in
-    rw first (any_none p xs (λ k d lt. none (suc k) d (omega (arith, lt))))
 
 -- a row at an index does not pass where none does
 pub none_at : {X : Type 0} (p : X → Bool) (xs : List X) (k : ℕ) (d : X) → k < length xs → list_any p xs ≡ false → p (get_or xs k d) ≡ false
@@ -34,7 +27,7 @@ lone_most test (x ∷ xs) lone (suc i) (suc j) a d lt within hit = lone_most tes
 pub most_lone : {X : Type 0} (test : ℕ → X → Bool) (xs : List X) → AtMostOne test xs → Lone test xs
 most_lone test [] most = tt
 most_lone test (x ∷ xs) most = (
-  λ a hit. any_none (test a) xs (λ k d lt. most zero (suc k) a d (omega arith) (omega (arith, lt)) hit),
+  λ a hit. list_any_none (test a) xs (λ k d lt. most zero (suc k) a d (omega arith) (omega (arith, lt)) hit),
   most_lone test xs (λ i j a d lt within hit. most (suc i) (suc j) a d (omega (arith, lt)) (omega (arith, within)) hit),
 )
 

@@ -3,9 +3,9 @@ use Rattle.std.proofs.Common.{◌≡◌, ℕ, List, [], ◌∷◌, Result, Ok, s
 use Rattle.std.specs.List.{All, AllZip}
 use Rattle.std.proofs.lemmas.List.Elements.{All-nil, All-cons, All-head, All-tail}
 use Rattle.pl_base.specs.Each.{each}
+use Rattle.pl_base.proofs.AnswerLaws.{bind_ok}
 use Rattle.pl_tls.specs.declared.module.Module.{Module}
 use Rattle.pl_object.specs.declared.object.Object.{Object}
-use Rattle.pl_object.proofs.AcceptedLaws.{bind_ok}
 use Rattle.pl_value.specs.Values.{value}
 use Rattle.pl_value.specs.Meanings.{Row, rows, given, meaning, meanings}
 use Rattle.pl_value.specs.declared.meaning.Meaning.{Meaning}

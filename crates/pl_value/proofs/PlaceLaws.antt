@@ -2,7 +2,7 @@
 use Rattle.std.proofs.Common.{◌≡◌, ℕ, ◌+◌, ◌-◌, ◌^◌, ◌<◌, ◌≤◌, Bool, true, false, List, [], ◌∷◌, get_or, Option, Some, None, Ok, refl, sym, ap, subst, ◌∙◌, arith, inl, inr}
 use Rattle.std.specs.Prelude.{◌⊎◌, ◌&&◌, ◌||◌, ◌==◌, not, min, nat_le, nat_lt, find, fold, if◌then◌else◌}
 use Rattle.std.specs.List.{All, Any, list_any}
-use Rattle.std.proofs.lemmas.Bool.{cases_Bool, false≢true, or_parts, and_parts, ltb-true, ltb-false, leb-true}
+use Rattle.std.proofs.lemmas.Bool.{cases_Bool, false≢true, and_parts, ltb-true, leb-true}
 use Rattle.std.proofs.lemmas.Bool.Decides.{nat_tests}
 use Rattle.std.proofs.lemmas.List.Folds.{list_any_at, Any-from_list_any}
 use Rattle.std.proofs.lemmas.List.{get_or-map, length-map}
@@ -10,19 +10,20 @@ use Rattle.pl_base.specs.Memory.{Piece, lies, is_within}
 use Rattle.pl_base.specs.Sums.{plus}
 use Rattle.pl_base.specs.Windows.{Window, any_share}
 use Rattle.pl_base.proofs.MemoryLaws.{within_true, within_is}
-use Rattle.pl_elf.specs.Clauses.{AreLoads, bad_load, bad_align, not_congruent}
+use Rattle.pl_elf.specs.Clauses.{AreLoads, bad_load}
+use Rattle.pl_elf.proofs.AcceptedLaws.{load_fits}
 use Rattle.pl_elf.specs.Headers.{is_load, loads}
-use Rattle.pl_elf.specs.declared.constants.TheConstants.{ADDRESS_LIMIT, MAX_LOAD_ALIGN}
+use Rattle.pl_elf.specs.declared.constants.TheConstants.{ADDRESS_LIMIT}
 use Rattle.pl_elf.specs.declared.segment.Segment.{Segment}
 use Rattle.pl_object.specs.Accepted.{is_program}
 use Rattle.pl_object.specs.FilePart.{file_window, in_file_part, loaded_by, loader, loads_byte}
-use Rattle.pl_object.specs.PlaceClauses.{last_load, is_in_memory, is_held, reloc_outside, reloc_overlap}
+use Rattle.pl_object.specs.PlaceClauses.{last_load, is_in_memory, is_in_segment, is_held, reloc_outside, reloc_overlap}
 use Rattle.pl_object.specs.Reads.{reads}
 use Rattle.pl_object.specs.Relocations.{place, places}
 use Rattle.pl_object.specs.declared.object.Object.{Object}
 use Rattle.pl_object.specs.declared.reloc.Reloc.{Reloc}
 use Rattle.pl_object.proofs.AcceptedLaws.{accepted}
-use Rattle.pl_object.proofs.FilePartLaws.{find_passes}
+use Rattle.pl_object.proofs.FilePartLaws.{find_passes, loads_parts}
 use Rattle.pl_image.specs.Loads.{loaded_piece, pieces_at, IsPlaced}
 use Rattle.pl_value.proofs.LoneLaws.{none_at}
 
@@ -83,16 +84,7 @@ last_is_load ss s e q hit = elim (last_from None ss s e q hit) [
 
 -- bytes lie in the memory of a segment
 abbrev pub is_inside : ℕ → ℕ → Segment → Bool
-is_inside at size s = nat_le s.vaddr at && nat_le (at + size) (s.vaddr + s.memsz)
-
--- a PT_LOAD has no more bytes in the file than in memory
-loads_fit : (s : Segment) → bad_load s ≡ false → s.filesz ≤ s.memsz
-unfolding bad_load
-loads_fit s h =
-    let a = or_parts (nat_lt s.memsz s.filesz || bad_align s.align || nat_lt MAX_LOAD_ALIGN s.align || not_congruent s) (nat_lt ADDRESS_LIMIT (s.vaddr + s.memsz)) h in
-    let b = or_parts (nat_lt s.memsz s.filesz || bad_align s.align || nat_lt MAX_LOAD_ALIGN s.align) (not_congruent s) a.0 in
-    let c = or_parts (nat_lt s.memsz s.filesz || bad_align s.align) (nat_lt MAX_LOAD_ALIGN s.align) b.0 in
-    ltb-false s.memsz s.filesz (or_parts (nat_lt s.memsz s.filesz) (bad_align s.align) c.0).0
+is_inside at size s = is_in_segment (record { at = at; size = size }) s
 
 -- a PT_LOAD that is one of the loads is not refused by itself
 not_bad : (ss : List Segment) (s : Segment) → AreLoads (loads ss) → ((q : Segment → Bool) → q s ≡ true → list_any q (loads ss) ≡ true) → bad_load s ≡ false
@@ -100,13 +92,6 @@ not_bad ss s are among = elim (cases_Bool (bad_load s)) [
   | inl bad ↦ absurd (false≢true (sym are.fit ∙ among bad_load bad))
   | inr good ↦ good
 ]
-
-byte_of_load : (at : ℕ) (s : Segment) → loads_byte at s ≡ true → (is_load s ≡ true) × (s.vaddr ≤ at) × (at < s.vaddr + s.filesz)
-unfolding loads_byte
-byte_of_load at s h =
-    let a = and_parts (is_load s && nat_le s.vaddr at) (nat_lt at (s.vaddr + s.filesz)) h in
-    let b = and_parts (is_load s) (nat_le s.vaddr at) a.0 in
-    (b.0, leb-true s.vaddr at b.1, ltb-true at (s.vaddr + s.filesz) a.1)
 
 inside_is : (at size : ℕ) (s : Segment) → s.vaddr ≤ at → at + size ≤ s.vaddr + s.memsz → is_inside at size s ≡ true
 inside_is at size s from to = grind (arith, nat_tests)
@@ -130,9 +115,9 @@ file_inside ss w are file some = by_loader (loader ss w.at) refl file
     by_loader : (o : Option Segment) → loader ss w.at ≡ o → ((loaded_by w o).size == w.size) ≡ true → list_any (is_inside w.at w.size) (loads ss) ≡ true
     by_loader None e size = absurd (nothing_here w.size size some)
     by_loader (Some s) e size =
-        let among : (q : Segment → Bool) → q s ≡ true → list_any q (loads ss) ≡ true = found_load (loads_byte w.at) ss s (λ t h. (byte_of_load w.at t h).0) e in
-        let byte = byte_of_load w.at s (find_passes (loads_byte w.at) ss s e) in
-        let long = loads_fit s (not_bad ss s are among) in
+        let among : (q : Segment → Bool) → q s ≡ true → list_any q (loads ss) ≡ true = found_load (loads_byte w.at) ss s (λ t h. (loads_parts w.at t h).0) e in
+        let byte = loads_parts w.at s (find_passes (loads_byte w.at) ss s e) in
+        let long = (load_fits s (not_bad ss s are among)).bytes in
         let rest = fits_part w.size (s.vaddr + s.filesz - w.at) size in
         let from : s.vaddr ≤ w.at = byte.1 in
         let to : w.at < s.vaddr + s.filesz = byte.2 in

@@ -8,6 +8,7 @@ use Rattle.pl_elf.specs.Clauses as elf
 use Rattle.pl_dyn.specs.declared.dynamic.Dynamic.{Dynamic}
 use Rattle.pl_sym.specs.declared.symbol.Symbol.{Symbol}
 use Rattle.pl_base.specs.Answers.{because}
+use Rattle.pl_base.proofs.AnswerLaws.{bind_ok, ok_same}
 use Rattle.pl_object.specs.Accepted.{is_program}
 use Rattle.pl_object.specs.FilePart.{loaded}
 use Rattle.pl_object.specs.PlaceClauses.{is_bad, is_misplaced_copy, misplaced_copy}
@@ -15,14 +16,14 @@ use Rattle.pl_object.specs.Reads.{reads, headers, parts, static_program, static_
 use Rattle.pl_object.specs.Refusals.{of_header, of_dynamic}
 use Rattle.pl_object.specs.Relocations.{width, reloc_at, reloc, relocs}
 use Rattle.pl_object.specs.TableClauses.{check_tables}
-use Rattle.pl_object.specs.Tables.{rela_range, jmprel_range}
-use Rattle.pl_object.specs.declared.constants.TheConstants.{RELA_SIZE}
+use Rattle.pl_object.specs.Tables.{rela_memory, jmprel_memory}
+use Rattle.pl_elf.specs.declared.constants.TheConstants.{RELA_SIZE}
 use Rattle.pl_object.specs.declared.headers.Headers.{Headers}
 use Rattle.pl_object.specs.declared.object.Object.{Object}
 use Rattle.pl_object.specs.declared.refusal.Refusal.{Refusal}
 use Rattle.pl_object.specs.declared.refusal.Refusal.TheVariants.{Clause}
 use Rattle.pl_object.specs.declared.reloc.Reloc.{Reloc}
-use Rattle.pl_object.proofs.AcceptedLaws.{accepted, bind_ok}
+use Rattle.pl_object.proofs.AcceptedLaws.{accepted}
 use Rattle.pl_value.specs.Laws.{AreRead}
 use Rattle.pl_value.specs.Meanings.{Row, row, rows, rows_from}
 use Rattle.pl_value.proofs.LoneLaws.{none_at}
@@ -45,9 +46,6 @@ unfolding relocs
 relocs_widths symbols table =
     All-map (HasWidth symbols) (reloc symbols table) (range_with_len 0 (length table / RELA_SIZE)) (λ k d lt. reloc_width symbols table (RELA_SIZE * get_or (range_with_len 0 (length table / RELA_SIZE)) k d))
 
-ok_is : (x y : Object) → ◌≡◌ {A = Result Object Refusal} (Ok x) (Ok y) → x ≡ y
-ok_is x y e = cc
-
 linked_widths : (bytes : List ℕ) (f : Headers) (d : Dynamic) (o : Object) → linked bytes f d ≡ Ok o → HasWidths o
 unfolding linked checked layout object relocations
 linked_widths bytes f d o e =
@@ -56,15 +54,15 @@ linked_widths bytes f d o e =
     let places = layout bytes f d.tags l.0 in
     let c = bind_ok (check bytes f d.tags l.0 places) _ o l.2 in
     let whole : HasWidths (object f d l.0 places) =
-    All-append (HasWidth l.0.symbols) (relocs l.0.symbols (loaded bytes f.segments (rela_range d.tags))) (relocs l.0.symbols (loaded bytes f.segments (jmprel_range d.tags)))
-    (relocs_widths l.0.symbols (loaded bytes f.segments (rela_range d.tags))) (relocs_widths l.0.symbols (loaded bytes f.segments (jmprel_range d.tags))) in
-    subst HasWidths (ok_is (object f d l.0 places) o c.2) whole
+    All-append (HasWidth l.0.symbols) (relocs l.0.symbols (loaded bytes f.segments (rela_memory d.tags))) (relocs l.0.symbols (loaded bytes f.segments (jmprel_memory d.tags)))
+    (relocs_widths l.0.symbols (loaded bytes f.segments (rela_memory d.tags))) (relocs_widths l.0.symbols (loaded bytes f.segments (jmprel_memory d.tags))) in
+    subst HasWidths (ok_same (object f d l.0 places) o c.2) whole
 
 static_widths : (bytes : List ℕ) (f : Headers) (o : Object) → static_program bytes f ≡ Ok o → HasWidths o
 unfolding static_program static_object
 static_widths bytes f o e = elim (cases_Bool (too_large bytes)) [
   | inl hit ↦ absurd (refused (rw hit at e))
-  | inr miss ↦ subst HasWidths (ok_is (static_object f) o (rw miss at e)) (All-nil (HasWidth []))
+  | inr miss ↦ subst HasWidths (ok_same (static_object f) o (rw miss at e)) (All-nil (HasWidth []))
 ]
   where
     refused : ◌≡◌ {A = Result Object Refusal} (Err (Clause 30 0)) (Ok o) → ⊥

@@ -1,10 +1,11 @@
 -- What a COPY gives (x86-64 psABI, "Relocation Types").
-use Rattle.std.specs.Prelude.{ℕ, ◌+◌, Bool, not, ◌&&◌, ◌||◌, ◌==◌, nat_le, min, List, [], ◌∷◌, Option, Some, None, Result, Ok, slice_get, if◌then◌else◌}
+use Rattle.std.specs.Prelude.{ℕ, Bool, not, ◌&&◌, ◌||◌, ◌==◌, min, List, [], ◌∷◌, Option, Some, None, Result, Ok, slice_get, if◌then◌else◌}
 use Rattle.std.specs.List.{list_any}
 use Rattle.pl_base.specs.Answers.{refuse, unless}
 use Rattle.pl_elf.specs.Headers.{is_load}
 use Rattle.pl_elf.specs.declared.segment.Segment.{Segment}
 use Rattle.pl_sym.specs.Symbol.{is_absolute, is_tls}
+use Rattle.pl_object.specs.PlaceClauses.{is_in_segment}
 use Rattle.pl_object.specs.Relocations.{size_of}
 use Rattle.pl_object.specs.declared.object.Object.{Object}
 use Rattle.pl_scope.specs.declared.reference.Reference.{Reference}
@@ -17,7 +18,7 @@ use Rattle.pl_value.specs.declared.word.Word.TheVariants.{Copy, Nothing}
 
 -- bytes lie in the memory of a PT_LOAD, as linked
 unfoldable pub is_in_load : ℕ → ℕ → Segment → Bool
-is_in_load from size s = is_load s && nat_le s.vaddr from && nat_le (from + size) (s.vaddr + s.memsz)
+is_in_load from size s = is_load s && is_in_segment (record { at = from; size = size }) s
 
 -- bytes that do not all lie in the memory of one PT_LOAD; of no bytes none is outside
 unfoldable pub is_outside : List Segment → ℕ → ℕ → Bool

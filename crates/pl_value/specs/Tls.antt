@@ -4,7 +4,7 @@ use Rattle.pl_base.specs.Answers.{unless}
 use Rattle.pl_base.specs.Sums.{minus}
 use Rattle.pl_sym.specs.Symbol.{is_tls}
 use Rattle.pl_tls.specs.declared.module.Module.{Module}
-use Rattle.pl_object.specs.declared.constants.TheConstants.{R_X86_64_DTPMOD64, R_X86_64_DTPOFF64, R_X86_64_TPOFF64}
+use Rattle.pl_elf.specs.declared.constants.TheConstants.{R_X86_64_DTPMOD64, R_X86_64_DTPOFF64, R_X86_64_TPOFF64}
 use Rattle.pl_object.specs.declared.object.Object.{Object}
 use Rattle.pl_object.specs.declared.reloc.Reloc.{Reloc}
 use Rattle.pl_scope.specs.declared.reference.Reference.{Reference}

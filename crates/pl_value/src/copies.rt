@@ -9,17 +9,15 @@ ghost use Rattle.pl_value.specs.Copies as spec;
 use crate::definer::{Definer, find_definer, is_weak};
 use crate::targets::address;
 use crate::{LinkFault, Places, Word};
-use pl_base::end;
 use pl_elf::Segment;
+use pl_object::{Window, is_in_segment};
 use pl_scope::{Reference, Scope};
 
 #[tactic(auto, unfolding(crate::specs::Copies::is_in_load))]
 fn is_in_load(from: u64, size: u64, segment: &Segment) -> bool
     ensures { result ≡ spec.is_in_load from size segment.now }
 {
-    segment.is_load()
-        && segment.vaddr <= from
-        && end(from, size) <= end(segment.vaddr, segment.memsz)
+    segment.is_load() && is_in_segment(Window::new(u128::from(from), size), segment)
 }
 
 fn is_in_one(segments: &[Segment], from: u64, size: u64) -> bool

@@ -23,6 +23,7 @@ pub enum LinkFault {
 }
 
 impl LinkFault {
+    /// The symbol of a reference has no definer.
     pub fn undefined(reference: Reference) -> LinkFault
         ensures { result ≡ faults.Undefined reference.member reference.symbol }
     {
@@ -32,6 +33,7 @@ impl LinkFault {
         }
     }
 
+    /// The thread-local symbol of a reference has no definer.
     pub fn undefined_tls(reference: Reference) -> LinkFault
         ensures { result ≡ faults.UndefinedTls reference.member reference.symbol }
     {
@@ -41,6 +43,7 @@ impl LinkFault {
         }
     }
 
+    /// The symbol of a reference is not of the kind that its relocation needs.
     pub fn tls_mismatch(reference: Reference) -> LinkFault
         ensures { result ≡ faults.TlsMismatch reference.member reference.symbol }
     {
@@ -50,6 +53,7 @@ impl LinkFault {
         }
     }
 
+    /// The bytes that the COPY of a reference asks for are not in the memory of one PT_LOAD.
     pub fn copy_outside(reference: Reference) -> LinkFault
         ensures { result ≡ faults.CopyOutside reference.member reference.symbol }
     {

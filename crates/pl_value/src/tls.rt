@@ -7,8 +7,8 @@ use crate::LinkFault;
 use crate::definer::find_definer;
 use crate::targets::added;
 use crate::tls_index::TlsIndex;
+use pl_elf::constants::{R_X86_64_DTPMOD64, R_X86_64_DTPOFF64, R_X86_64_TPOFF64};
 use pl_object::Reloc;
-use pl_object::constants::{R_X86_64_DTPMOD64, R_X86_64_DTPOFF64, R_X86_64_TPOFF64};
 use pl_scope::{Reference, Scope};
 use pl_tls::Module;
 

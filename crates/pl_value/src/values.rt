@@ -8,10 +8,10 @@ use crate::copies::copy;
 use crate::targets::{added, base_of, target};
 use crate::tls::{is_tls_kind, variable, word};
 use crate::{LinkFault, Places, Word};
-use pl_object::Reloc;
-use pl_object::constants::{
+use pl_elf::constants::{
     R_X86_64_64, R_X86_64_COPY, R_X86_64_GLOB_DAT, R_X86_64_JUMP_SLOT, R_X86_64_RELATIVE,
 };
+use pl_object::Reloc;
 use pl_scope::{Reference, Scope};
 use pl_tls::Module;
 

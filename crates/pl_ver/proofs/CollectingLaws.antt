@@ -5,6 +5,7 @@ use Rattle.std.specs.List.{list_any, flat_map}
 use Rattle.std.proofs.lemmas.List.{append-nil}
 use Rattle.std.proofs.lemmas.List.Concat.{flat_map-cons}
 use Rattle.std.proofs.lemmas.List.Folds.{list_any-append}
+use Rattle.std.proofs.Math.Bool.{or_assoc}
 use Rattle.pl_base.specs.Answers.{◌>>=◌, unless}
 use Rattle.pl_base.specs.Each.{run}
 use Rattle.pl_ver.specs.declared.fault.VerFault.{VerFault}
@@ -37,7 +38,7 @@ add_all-append s [] rest = rw (add_all-none s) refl
 add_all-append s (r ∷ front) rest =
     rw (add_all-cons s r (front ++ rest), add_all-cons s r front) (append_by (add s r) front rest (λ t. add_all-append t front rest))
 
--- ---- a loop along a chain, with a record for each place
+-- ---- a loop along a chain, with a record for each offset
 
 pub each_step : (f : ℕ → Record) (size : ℕ) (section : List ℕ) (count at : ℕ) (s : List Record) → 0 < count
     → add_all s (map f (chain size section count at)) ≡ (add s (f at) >>= λ t. add_all t (map f (chain size section (count - 1) (at + next size section at))))
@@ -62,7 +63,7 @@ pub each_done : (f : ℕ → Record) (size : ℕ) (section : List ℕ) (count at
     → add_all s (map f (chain size section count at)) ≡ whole → whole ≡ Ok s
 each_done f size section count at s whole none so_far = sym so_far ∙ rw (chain_none size section count at none) (add_all-none s)
 
--- ---- a loop along a chain, with a list of records for each place
+-- ---- a loop along a chain, with a list of records for each offset
 
 pub lists_step : (g : ℕ → List Record) (size : ℕ) (section : List ℕ) (count at : ℕ) (s : List Record) → 0 < count
     → add_all s (flat_map g (chain size section count at)) ≡ (add_all s (g at) >>= λ t. add_all t (flat_map g (chain size section (count - 1) (at + next size section at))))
@@ -110,17 +111,13 @@ taken_more before r (q ∷ rs) =
     rw (list_any-append (λ k. eqb k.index q.index) before (r ∷ []), taken_more before r rs, eqb-sym r.index q.index)
     (mixed (any_has q.index before) (eqb q.index r.index) (any_taken before rs) (any_has r.index rs))
 
-regroup : (a b c : Bool) → ((a || b) || c) ≡ (a || (b || c))
-regroup true b c = refl
-regroup false b c = refl
-
 collected_by : (before : List Record) (r : Record) (rs : List Record) (b : Bool) → add_all (before ++ r ∷ []) rs ≡ unless (any_taken (before ++ r ∷ []) rs || any_share rs) BadIndex (Ok ((before ++ r ∷ []) ++ rs))
     → (unless b BadIndex (Ok (before ++ r ∷ [])) >>= λ t. add_all t rs) ≡ unless ((b || any_taken before rs) || (any_has r.index rs || any_share rs)) BadIndex (Ok (before ++ r ∷ rs))
 collected_by before r rs true more = refl
 collected_by before r rs false more =
     more
     ∙ rw (taken_more before r rs, append_assoc before (r ∷ []) rs)
-    (ap (λ (b : Bool). unless b BadIndex (Ok (before ++ r ∷ rs))) (regroup (any_taken before rs) (any_has r.index rs) (any_share rs)))
+    (ap (λ (b : Bool). unless b BadIndex (Ok (before ++ r ∷ rs))) (or_assoc (any_taken before rs) (any_has r.index rs) (any_share rs)))
 
 collected : (before rs : List Record) → add_all before rs ≡ unless (any_taken before rs || any_share rs) BadIndex (Ok (before ++ rs))
 collected before [] = add_all-none before ∙ ap (λ (xs : List Record). Ok xs) (sym (append-nil before))

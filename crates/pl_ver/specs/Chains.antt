@@ -24,7 +24,7 @@ is_chain passes size section (suc more) at =
 
 -- ---- clause 17
 
--- the string whose place stands in a record, so many bytes behind the record's begin, has an end
+-- the string whose offset stands in a record, so many bytes behind the record's begin, has an end
 unfoldable pub is_named : List ℕ → List ℕ → ℕ → ℕ → Bool
 is_named strings section field at = has_end (word32 (at + field) section) strings
 

@@ -25,7 +25,7 @@ fn is_linked(section: &[u8], size: usize, more: u64, at: usize) -> bool
     if more == 0 { next == 0 } else { next != 0 }
 }
 
-/// Whether the string whose place stands in a record, so many bytes behind the record's begin, has an end.
+/// Whether the string whose offset stands in a record, so many bytes behind the record's begin, has an end.
 #[tactic(auto, unfolding(crate::specs::Chains::is_named))]
 pub fn is_named(strings: &Strings<'_>, section: &[u8], field: usize, at: usize) -> bool
     requires { at + field + 4 ≤ length section.now }

@@ -20,7 +20,7 @@ pub fn next(section: &[u8], size: usize, at: usize) -> u32
     word32(section, at + (size - NEXT_SIZE))
 }
 
-/// Where the record after one of a size begins; the same place where there is none.
+/// The offset of the record after one of a size; the same offset where there is none.
 pub fn following(section: &[u8], size: usize, at: usize) -> usize
     requires field { NEXT_SIZE ≤ size }
     requires within { at + size ≤ length section.now }
@@ -98,7 +98,7 @@ pub fn vernaux_at(verneed: &[u8], at: usize) -> Record
     }
 }
 
-/// The whole words of a section.
+/// The version words of a section, as many as are whole. It fails only for want of memory.
 #[tactic(auto, unfolding(crate::specs::Fields::words))]
 pub fn words(alloc: Global, versym: &[u8]) -> Result<Vec<u16>, AllocError>
     ensures { IfOk result (λ v. v.items ≡ spec.words versym.now) }

@@ -45,7 +45,7 @@ fn length_at(
     if rest == 0 { 0 } else { rest.wrapping_add(1) }
 }
 
-/// The lengths of the chains from all offsets on, of records of a size in which the place of a name stands at a field's offset. Chains that share records are walked once.
+/// The lengths of the chains from all offsets on, of records of a size in which the offset of a name stands in a field so many bytes behind the record's begin. Chains that share records are walked once.
 pub fn lengths(
     alloc: Global,
     strings: &Strings<'_>,

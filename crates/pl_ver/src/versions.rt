@@ -10,7 +10,7 @@ pub struct Versions {
     pub names: Rows<VersionName>,
 }
 
-/// The name of a version.
+/// A version that the object defines or needs: its index and its name.
 #[derive(Drop)]
 pub struct VersionName {
     /// The record's index, all 16 bits of it. No symbol has an index of 0x8000 or more.

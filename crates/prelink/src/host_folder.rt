@@ -1,11 +1,11 @@
-ghost use Rattle.std.specs.Prelude.{◌≡◌, ◌≤◌, length, [], true, false, string_bytes, All, IfOk};
+ghost use Rattle.std.specs.Prelude.{◌≡◌, ◌≤◌, ◌&&◌, ◌||◌, length, [], true, false, string_bytes, All, IfOk};
 ghost use Rattle.pl_base.specs.Counts.{Rose};
 ghost use Rattle.pl_base.specs.Files.{files_of};
-ghost use Rattle.pl_base.specs.Names.{IsNameLength};
+ghost use Rattle.pl_base.specs.Names.{IsNameLength, has_name_length, is_own_name, is_valid_name};
 ghost use Rattle.pl_folder.specs.Calls.{Stops};
 ghost use Rattle.pl_folder.specs.declared.TheConstants.{STORED};
 
-use pl_base::{MAX_NAME, is_own_name, is_valid_name};
+use pl_base::{has_name_length, is_own_name, is_valid_name};
 use pl_folder::{Folder, FolderFault, STORED};
 use pl_io::Failed;
 use std::alloc::{AllocError, Global};
@@ -61,9 +61,11 @@ fn fault_of(error: io::Error) -> FolderFault {
 
 // Whether the folder lists a file of this name.
 fn is_listed(name: &str) -> bool
-    ensures { result ≡ true → IsNameLength name.now }
+    ensures value { result ≡ (has_name_length name.now && (is_valid_name name.now || is_own_name name.now)) }
+    ensures length { result ≡ true → IsNameLength name.now }
 {
-    !name.is_empty() && name.len() <= MAX_NAME && (is_valid_name(name.as_bytes()) || is_own_name(name.as_bytes()))
+    let name = name.as_bytes();
+    has_name_length(name) && (is_valid_name(name) || is_own_name(name))
 }
 
 // Adds the name of a file, where the folder lists it.

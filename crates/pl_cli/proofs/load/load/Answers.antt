@@ -12,8 +12,8 @@ use Rattle.pl_cli.specs.Outcome.{Stops, of_load_fault}
 use Rattle.pl_cli.proofs.LoadLemmas.{bad_name, stopped_in_folder, stopped_at_file, loaded_ends}
 use Rattle.pl_cli.proofs.load.load.Goals as goal
 
-pub returns-then-not-valid_name-clause-stop : goal.returns-then-not-valid_name-clause-stop
-returns-then-not-valid_name-clause-stop g c = λ tells _. bad_name (g.D.Folder.files c.args.folder.now) c.args.name.now (sym c.valid_name.ensures ∙ c.if-not-valid_name.true)
+pub returns-then-not-is_valid_name-clause-stop : goal.returns-then-not-is_valid_name-clause-stop
+returns-then-not-is_valid_name-clause-stop g c = λ tells _. bad_name (g.D.Folder.files c.args.folder.now) c.args.name.now (sym c.valid_name.ensures ∙ c.if-not-is_valid_name.true)
 
 pub loop-wanted-init : goal.loop-wanted-init
 loop-wanted-init g c =

@@ -13,12 +13,12 @@ take-requires g c =
     let valid : is_valid_name c.args.name.now ≡ true = search rules in
     valid_length c.args.name.now valid
 
-pub returns-then-not-valid_name-clause-stop : goal.returns-then-not-valid_name-clause-stop
-returns-then-not-valid_name-clause-stop g c =
+pub returns-then-not-is_valid_name-clause-stop : goal.returns-then-not-is_valid_name-clause-stop
+returns-then-not-is_valid_name-clause-stop g c =
     let told = g.D.Folder.tells_files c.args.folder.now in
     let files = g.D.Folder.files c.args.folder.now in
     subst (λ (stop : Stop). Stops told true (file_in files c.args.name.now) (Rose (g.D.Folder.faults c.args.folder.now) (g.D.Folder.faults c.args.folder.now)) ⊥ stop) (sym c.in_ok-untaken.ensures)
-    (λ tells _. invalid_file files c.args.name.now (sym c.valid_name.ensures ∙ c.if-not-valid_name.true))
+    (λ tells _. invalid_file files c.args.name.now (sym c.valid_name.ensures ∙ c.if-not-is_valid_name.true))
 
 pub returns-in-Ok-clause-ok : goal.returns-in-Ok-clause-ok
 returns-in-Ok-clause-ok g c = λ tells.

@@ -1,9 +1,8 @@
 use Rattle.std.proofs.Common.{◌≡◌, ℕ, List, true, subst}
 use Rattle.std.specs.Prelude.{Ok, Err, is_some}
-use Rattle.pl_base.specs.Answers.{Answers}
 use Rattle.pl_base.specs.Counts.{Rose}
 use Rattle.pl_base.proofs.ResultLaws.{IfErr-at}
-use Rattle.pl_build.specs.Build.{build, is_memory}
+use Rattle.pl_build.specs.Build.{build, Builds}
 use Rattle.pl_cli.specs.Make as spec
 use Rattle.pl_cli.specs.Outcome.{Stops, of_read_fault, of_recipe_fault}
 use Rattle.pl_cli.specs.Words.{bytes_of}
@@ -21,7 +20,7 @@ pub returns-in_err-build-clause-stop : goal.returns-in_err-build-clause-stop
 returns-in_err-build-clause-stop g c =
     let left = g.S.Source.left c.args.input.now in
     let source = Rose (g.S.Source.faults c.args.input.now) (g.S.Source.faults c.read_all.new.source) in
-    let bad = subst (λ (recipe : List ℕ). Answers is_memory (Err c.in_err-build.field-0.0) (build recipe)) c.deref.ensures.value c.in_err-build.ensures in
+    let bad = subst (λ (recipe : List ℕ). Builds (Err c.in_err-build.field-0.0) (build recipe)) c.deref.ensures.value c.in_err-build.ensures in
     IfErr-at c.from_residual-in_err-build.result (Stops true (is_some left) (spec.built (bytes_of left)) ⊥ source) (of_recipe_fault c.in_err-build.field-0.0) c.from_residual-in_err-build.ensures.1
     (unbuilt left c.in_ok-recipe.recipe.items source c.in_err-build.field-0.0 c.in_ok-recipe.ensures.bytes c.in_ok-recipe.ensures.most bad)
 

@@ -9,9 +9,9 @@ use Rattle.pl_cli.specs.Words.{bytes_of}
 use Rattle.pl_cli.proofs.MakeLemmas.{bad_name, full, fits, stopped_in_recipe, stopped_in_folder}
 use Rattle.pl_cli.proofs.make.made.Goals as goal
 
-pub returns-then-not-valid_name-clause-stop : goal.returns-then-not-valid_name-clause-stop
-returns-then-not-valid_name-clause-stop g c = λ tells told.
-    bad_name (g.D.Folder.files c.args.folder.now) c.args.name.now (bytes_of (g.S.Source.left c.args.input.now)) (sym c.valid_name.ensures ∙ c.if-not-valid_name.true)
+pub returns-then-not-is_valid_name-clause-stop : goal.returns-then-not-is_valid_name-clause-stop
+returns-then-not-is_valid_name-clause-stop g c = λ tells told.
+    bad_name (g.D.Folder.files c.args.folder.now) c.args.name.now (bytes_of (g.S.Source.left c.args.input.now)) (sym c.valid_name.ensures ∙ c.if-not-is_valid_name.true)
 
 pub returns-in_err-bytes-clause-stop : goal.returns-in_err-bytes-clause-stop
 returns-in_err-bytes-clause-stop g c =

@@ -23,6 +23,6 @@ loop-done-preserved g c =
     let more : written c.write.new.self ≡ got_after (written c.loop-done.sink) (take n (drop i bytes)) = rw (take_rest bytes i) at c.in_ok-done.ensures.bytes in (
       omega (arith, bound, length-drop i bytes),
       more ∙ ap (λ m. got_after m (take n (drop i bytes))) c.loop-done.invariant.1 ∙ got_after-take (written c.args.sink.now) i n bytes,
-      omega (arith, c.in_ok-done.ensures.counts, c.loop-done.invariant.2),
+      c.in_ok-done.ensures.quiet ∙ c.loop-done.invariant.2,
       c.in_ok-done.ensures.tells ∙ c.loop-done.invariant.3,
     )

@@ -1,0 +1,15 @@
+//! Tests of recipes, acceptance, look-up, values and images by the public calls of their crates.
+#![tactic(auto)]
+
+#[cfg(test)]
+mod build;
+#[cfg(test)]
+mod image;
+#[cfg(test)]
+mod object;
+#[cfg(test)]
+mod samples;
+#[cfg(test)]
+mod scope;
+#[cfg(test)]
+mod value;

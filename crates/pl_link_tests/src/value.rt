@@ -1,0 +1,131 @@
+// What relocations of recipes give. The first object is a program, and the second is placed at 0x30_0000_0000.
+ghost use Rattle.std.specs.Prelude.{◌<◌};
+ghost use Rattle.std.specs.Bool.{OnTrue};
+ghost use Rattle.std.specs.List.{All};
+ghost use Rattle.pl_value.specs.Linkable.{IsLinkable, RefersToSymbols};
+
+use crate::samples::object_of;
+use crate::scope::{is_fit, scope_of};
+use pl_base::Rows;
+use pl_object::Reloc;
+use pl_scope::Scope;
+use pl_value::{Meaning, Places, Word, meanings, value};
+use std::alloc::Global;
+use std::test::Fail;
+
+const WORDS: &str =
+    "program\nneeds lib\ndata 20\nref o global object\nref g weak object\nrel abs64 0 o -1\nrel dtpoff 8 - 4\nrel globdat 10 g 0\nrel none 18 - 0\ntls 0 0 8 8\n";
+
+const NUMBER: &str = "library\ndata 8\ndef o global abs 10 0\n";
+
+const COPY: &str = "program\nneeds libe\nbss 10\ndef x global object 0 10\nrel copy 0 x 0\n";
+
+const SHORT: &str = "library\ndata 10\nword 0 33\nword 8 44\ndef x global object 0 8\n";
+
+fn are_below(relocs: &[Reloc], count: usize) -> bool
+    ensures { OnTrue result (All (λ r. r.symbol < count) relocs.now) }
+{
+    for reloc in relocs {
+        if reloc.symbol as usize >= count {
+            return false;
+        }
+    }
+    true
+}
+
+// Whether each relocation's symbol is one of its object's.
+fn refer_to_symbols(scope: &Scope<'_>) -> bool
+    ensures { OnTrue result (All (λ m. RefersToSymbols m.object.now) scope.now.members.items) }
+{
+    for member in &scope.members {
+        let object = member.object;
+        if !are_below(object.relocations.as_slice(), object.symbols.len()) {
+            return false;
+        }
+    }
+    true
+}
+
+fn is_linkable(scope: &Scope<'_>, places: &Places) -> bool
+    ensures { OnTrue result (IsLinkable scope.now.members.items places.now.rows) }
+{
+    is_fit(scope) && refer_to_symbols(scope) && places.rows.len() == scope.members.len()
+}
+
+// What a relocation gives, None where there is no such relocation.
+fn word_of(
+    scope: &Scope<'_>,
+    places: &Places,
+    member: u32,
+    reloc: u32,
+) -> Result<Option<Word>, Fail>
+    requires { IsLinkable scope.now.members.items places.now.rows }
+{
+    if member as usize >= scope.members.len() {
+        return Ok(None);
+    }
+    if reloc as usize >= scope.members[member as usize].object.relocations.len() {
+        return Ok(None);
+    }
+    Ok(Some(value(scope, places, &[], member, reloc)?))
+}
+
+// What all relocations of two objects give, and what one of the first object gives.
+fn meanings_and_word(
+    alloc: Global,
+    first: &str,
+    second: &str,
+    reloc: u32,
+) -> Result<(Rows<Meaning>, Option<Word>), Fail> {
+    let objects = vec![in alloc;
+        object_of(alloc, first, &[])?,
+        object_of(alloc, second, &[])?,
+    ]?;
+    let scope = scope_of(alloc, &objects)?;
+    let rows = vec![in alloc; 0, 0x30_0000_0000]?;
+    let places = Places {
+        rows: Rows::from_vec(rows),
+    };
+    if !is_linkable(&scope, &places) {
+        return Err("a scope that can be linked".into());
+    }
+    let meanings = meanings(alloc, &scope, &places, &[])?;
+    Ok((meanings, word_of(&scope, &places, 0, reloc)?))
+}
+
+const MEANINGS: [(u64, u64, Word); 4] = [
+    (0x50_0000, 8, Word::Put(0xf)),
+    (0x50_0008, 8, Word::Put(4)),
+    (0x50_0010, 8, Word::Put(0)),
+    (0x50_0018, 0, Word::Nothing),
+];
+
+#[test]
+fn gives_words(rt: HostRuntime) -> Result<(), Fail> {
+    let (meanings, last) = meanings_and_word(rt.alloc(), WORDS, NUMBER, 3)?;
+    assert_eq!(rt; meanings.len(), MEANINGS.len());
+    for (meaning, (start, size, word)) in meanings.as_slice().iter().zip(MEANINGS) {
+        let wanted = Meaning {
+            member: 0,
+            start,
+            size,
+            word,
+        };
+        assert_eq!(rt; *meaning, wanted);
+    }
+    assert_eq!(rt; last, Some(Word::Nothing));
+    Ok(())
+}
+
+// A copy is as long as the shorter of the two symbols.
+#[test]
+fn gives_a_copy(rt: HostRuntime) -> Result<(), Fail> {
+    let copy = Word::Copy {
+        member: 1,
+        from: 0x30_0010_0000,
+        bytes: 8,
+    };
+    let (_, word) = meanings_and_word(rt.alloc(), COPY, SHORT, 0)?;
+    assert_eq!(rt; word, Some(copy));
+    Ok(())
+}
