@@ -129,17 +129,24 @@ fn placed_high(alloc: Global, end: u64) -> Result<Vec<u64>, PlaceFault> {
     place_all(alloc, &high, &wishes, &[to(0x30_0000_1000)], to(end))
 }
 
+/// Whether the fault says that a library has no place.
+fn has_no_place(fault: &PlaceFault, library: &str) -> bool {
+    match fault {
+        PlaceFault::NoPlace { name } => name.as_str() == library,
+        PlaceFault::NoMemory => false,
+    }
+}
+
 #[test]
 fn places_in_turn(rt: HostRuntime) -> Result<(), PlaceFault> {
     let alloc = rt.alloc();
     let starts = placed_high(alloc, 0x40_0000_0000)?;
     assert!(rt; starts.as_slice() == [0x3f_ffef_f000, 0x3f_ffef_e000].as_slice());
     for (end, first) in [(0x30_0010_1000, "liba"), (0x30_0010_2000, "libb")] {
-        let is_named = match placed_high(alloc, end) {
-            Err(PlaceFault::NoPlace { name }) => name.as_str() == first,
-            _ => false,
-        };
-        assert!(rt; is_named, "{first}");
+        match placed_high(alloc, end) {
+            Ok(_starts) => panic!(rt; "{first} has a place"),
+            Err(fault) => assert!(rt; has_no_place(&fault, first), "{first}"),
+        }
     }
     Ok(())
 }

@@ -62,13 +62,14 @@ fn plans_around_a_kept_row(rt: HostRuntime) -> Result<(), PlanFault> {
 
 #[test]
 fn says_what_has_no_slot(rt: HostRuntime) {
-    let is_named = match two_libraries(rt.alloc(), 0x30_0030_3000) {
+    match two_libraries(rt.alloc(), 0x30_0030_3000) {
         Err(PlanFault::NoSlot { name, span, hole }) => {
-            name.as_str() == "liba" && span == 0x20_2000 && hole == 0x10_1000
+            assert!(rt; name.as_str() == "liba");
+            assert!(rt; span == 0x20_2000 && hole == 0x10_1000);
         }
-        _ => false,
-    };
-    assert!(rt; is_named);
+        Err(PlanFault::NoMemory) => panic!(rt; "no memory"),
+        Ok(_rows) => panic!(rt; "both have a slot"),
+    }
 }
 
 /// What is left of a region beside a range.
