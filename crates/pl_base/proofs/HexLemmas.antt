@@ -10,8 +10,3 @@ hex_step (suc k) n xs h =
     let e : suc k - 1 ≡ k = omega arith in
     rw e (simp append_assoc)
 
--- how many digits there are
-pub length-hex_digits : (k n : ℕ) → length (hex_digits k n) ≡ k
-unfolding hex_digits
-length-hex_digits zero n = refl
-length-hex_digits (suc k) n = ap suc (length-hex_digits k n)

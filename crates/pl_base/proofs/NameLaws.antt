@@ -3,10 +3,11 @@ use Rattle.std.proofs.Common.{◌≡◌, ℕ, zero, suc, true, false, List, [], 
 use Rattle.std.specs.Prelude.{◌&&◌, not, nat_le, ◌==◌}
 use Rattle.std.specs.List.{list_all}
 use Rattle.std.specs.Str.{IsUtf8, IsAscii}
+use Rattle.std.specs.Char.{is_ascii_graphic}
 use Rattle.std.proofs.lemmas.Bool.{and_parts, leb-true, false_from_ne_true}
 use Rattle.std.proofs.lemmas.Bool.Decides.{nat_tests}
 use Rattle.std.proofs.lemmas.Str.{IsUtf8-from_ascii}
-use Rattle.pl_base.specs.declared.names.TheConstants.{MAX_NAME, FIRST_NAME_BYTE, LAST_NAME_BYTE, SEPARATOR}
+use Rattle.pl_base.specs.declared.names.TheConstants.{MAX_NAME, SEPARATOR}
 use Rattle.pl_base.specs.Names.{is_valid_name, is_name_byte, is_own_name, is_dots, has_name_length, IsNameLength}
 
 -- the test of a name's length
@@ -37,8 +38,8 @@ unfolding is_name_byte
 name_bytes_ascii [] all i = omega arith
 name_bytes_ascii (b ∷ name) all zero =
     let parts = and_parts (is_name_byte b) (list_all is_name_byte name) all in
-    let front = and_parts (nat_le FIRST_NAME_BYTE b && nat_le b LAST_NAME_BYTE) (not (b == SEPARATOR)) parts.0 in
-    omega (arith, leb-true b LAST_NAME_BYTE (and_parts (nat_le FIRST_NAME_BYTE b) (nat_le b LAST_NAME_BYTE) front.0).1)
+    let front = and_parts (is_ascii_graphic b) (not (b == SEPARATOR)) parts.0 in
+    omega (arith, leb-true b 126 (and_parts (nat_le 33 b) (nat_le b 126) front.0).1)
 name_bytes_ascii (b ∷ name) all (suc i) = name_bytes_ascii name (and_parts (is_name_byte b) (list_all is_name_byte name) all).1 i
 
 -- what is no UTF-8 text is no valid name

@@ -2,7 +2,8 @@
 use Rattle.std.specs.Prelude.{ℕ, ◌≤◌, Bool, ◌&&◌, ◌||◌, not, List, length, codes, ◌==◌, nat_le, nat_eq}
 use Rattle.std.specs.List.{list_all, starts_with}
 use Rattle.std.specs.Str.{bytes_eq}
-use Rattle.pl_base.specs.declared.names.TheConstants.{MAX_NAME, FIRST_NAME_BYTE, LAST_NAME_BYTE, SEPARATOR}
+use Rattle.std.specs.Char.{is_ascii_graphic}
+use Rattle.pl_base.specs.declared.names.TheConstants.{MAX_NAME, SEPARATOR}
 
 -- a name that a call of a folder may be given: 1 to 255 bytes
 abbrev pub IsNameLength : List ℕ → Type 0
@@ -14,7 +15,7 @@ has_name_length name = nat_le 1 (length name) && nat_le (length name) MAX_NAME
 
 -- a byte from 0x21 to 0x7e that is no `/`
 unfoldable pub is_name_byte : ℕ → Bool
-is_name_byte byte = nat_le FIRST_NAME_BYTE byte && nat_le byte LAST_NAME_BYTE && not (byte == SEPARATOR)
+is_name_byte byte = is_ascii_graphic byte && not (byte == SEPARATOR)
 
 -- the program's own names begin so
 unfoldable pub is_own_name : List ℕ → Bool

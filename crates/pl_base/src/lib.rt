@@ -9,12 +9,9 @@ mod strings;
 mod sums;
 mod text;
 
-pub use digits::{hex_digit, push_decimal, push_hex};
+pub use digits::hex_digit;
 pub use list::Rows;
-pub use names::{
-    FIRST_NAME_BYTE, LAST_NAME_BYTE, MAX_NAME, SEPARATOR, has_name_length, is_own_name,
-    is_valid_name, valid_text,
-};
+pub use names::{MAX_NAME, SEPARATOR, has_name_length, is_own_name, is_valid_name, valid_text};
 pub use numbers::{part, push32, push64, put16, put32, put64, word16, word32, word64};
 pub use strings::{Strings, string_at};
 pub use sums::{end, is_aligned, round_down, round_up, round_up_wide};

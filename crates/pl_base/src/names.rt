@@ -9,12 +9,6 @@ use std::str;
 /// The most bytes of a name of a file.
 pub const MAX_NAME: usize = 255;
 
-/// The least byte that may stand in a valid name, `!`.
-pub const FIRST_NAME_BYTE: u8 = 0x21;
-
-/// The greatest byte that may stand in a valid name, `~`.
-pub const LAST_NAME_BYTE: u8 = 0x7e;
-
 /// What parts the names of a path. It stands in no valid name.
 pub const SEPARATOR: u8 = b'/';
 
@@ -22,7 +16,7 @@ pub const SEPARATOR: u8 = b'/';
 fn is_name_byte(byte: u8) -> bool
     ensures { result ≡ spec.is_name_byte byte }
 {
-    (FIRST_NAME_BYTE..=LAST_NAME_BYTE).contains(&byte) && byte != SEPARATOR
+    byte.is_ascii_graphic() && byte != SEPARATOR
 }
 
 fn has_name_bytes(name: &[u8]) -> bool

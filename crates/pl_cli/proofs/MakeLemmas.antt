@@ -55,7 +55,7 @@ has_more None after more told = cc
 pub unread : (left after : Option (List ℕ)) (source : Type 0) (fault : ReadFault) → StopsReading left after RECIPE source fault → Stops true (is_some left) (built (bytes_of left)) ⊥ source (of_read_fault fault)
 unread left after source read_faults.Failed why = why
 unread left after source read_faults.TooLarge why = λ _ told. has_more left after why told
-unread left after source read_faults.NoMemory why = why
+unread left after source read_faults.NoMemory why = tt
 
 told_bytes : (left : Option (List ℕ)) (recipe : List ℕ) → (is_some left ≡ true → left ≡ Some recipe) → is_some left ≡ true → bytes_of left ≡ recipe
 told_bytes left recipe is told = ap bytes_of (is told)

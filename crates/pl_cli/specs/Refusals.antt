@@ -1,17 +1,18 @@
 -- The line of a refusal.
 use Rattle.std.specs.Prelude.{ℕ, ◌/◌, ◌%◌, Bool, ◌&&◌, ◌||◌, not, ◌==◌, nat_le, List, [], ◌∷◌, codes, Option, Some, None, if◌then◌else◌}
 use Rattle.std.specs.Fmt.{decimal}
+use Rattle.std.specs.Char.{is_ascii_graphic}
 use Rattle.std.specs.List.{flat_map}
 use Rattle.pl_base.specs.Digits.{hex_digit, line}
 use Rattle.pl_cli.specs.declared.cause.Cause.{Cause}
 use Rattle.pl_cli.specs.declared.cause.Cause.TheVariants.{BadName, NotThere, FileTooLarge, Refused, NotProgram, NeededIsProgram, TooMany, TlsTooLarge, NoPlace, Undefined, UndefinedTls, TlsMismatch, CopyOutside, InputTooLarge, Recipe, TooManyFiles}
-use Rattle.pl_cli.specs.declared.symbol_text.TheConstants.{FIRST_PLAIN, LAST_PLAIN, BACKSLASH}
+use Rattle.pl_cli.specs.declared.symbol_text.TheConstants.{BACKSLASH}
 
 -- ---- a symbol's name. It may have any bytes but 0
 
 -- a byte that stands for itself
 unfoldable pub is_plain : ℕ → Bool
-is_plain byte = nat_le FIRST_PLAIN byte && nat_le byte LAST_PLAIN && not (byte == BACKSLASH)
+is_plain byte = is_ascii_graphic byte && not (byte == BACKSLASH)
 
 -- any other byte is a backslash, an x and two hexadecimal digits
 unfoldable pub escaped : ℕ → List ℕ
@@ -31,8 +32,8 @@ unfoldable pub named : List ℕ → List ℕ → List ℕ
 named cause name = line (codes "refused " ∷ cause ∷ codes " " ∷ name ∷ [])
 
 -- the object whose relocation is refused, and its symbol
-unfoldable pub linked : List ℕ → List ℕ → Option (List ℕ) → List ℕ
-linked cause object symbol = line (codes "refused " ∷ cause ∷ codes " " ∷ object ∷ codes " " ∷ symbol_text symbol ∷ [])
+unfoldable pub link_line : List ℕ → List ℕ → Option (List ℕ) → List ℕ
+link_line cause object symbol = line (codes "refused " ∷ cause ∷ codes " " ∷ object ∷ codes " " ∷ symbol_text symbol ∷ [])
 
 -- a refusal by one of these clauses tells a tag's number or a relocation's kind
 abbrev pub has_argument : ℕ → Bool
@@ -59,10 +60,10 @@ refusal (NeededIsProgram name) = named (codes "NeededIsProgram") name
 refusal (TooMany name) = named (codes "TooMany") name
 refusal TlsTooLarge = bare (codes "TlsTooLarge")
 refusal (NoPlace name) = named (codes "NoPlace") name
-refusal (Undefined object symbol) = linked (codes "Undefined") object symbol
-refusal (UndefinedTls object symbol) = linked (codes "UndefinedTls") object symbol
-refusal (TlsMismatch object symbol) = linked (codes "TlsMismatch") object symbol
-refusal (CopyOutside object symbol) = linked (codes "CopyOutside") object symbol
+refusal (Undefined object symbol) = link_line (codes "Undefined") object symbol
+refusal (UndefinedTls object symbol) = link_line (codes "UndefinedTls") object symbol
+refusal (TlsMismatch object symbol) = link_line (codes "TlsMismatch") object symbol
+refusal (CopyOutside object symbol) = link_line (codes "CopyOutside") object symbol
 refusal InputTooLarge = bare (codes "InputTooLarge")
 refusal (Recipe number kind) = refused_recipe number kind
 refusal TooManyFiles = bare (codes "TooManyFiles")

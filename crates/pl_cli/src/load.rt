@@ -1,5 +1,5 @@
 // The load of a folder's program by its name.
-ghost use Rattle.std.specs.Prelude.{◌≡◌, ◌≤◌, ◌<◌, ◌^◌, Ok, None, IfErr, IfOk, false, true, vec_len};
+ghost use Rattle.std.specs.Prelude.{◌≡◌, ◌≤◌, ◌<◌, ◌^◌, Ok, None, IfErr, IfOk, OnOk, false, true, vec_len};
 ghost use Rattle.pl_base.specs.Answers.{because};
 ghost use Rattle.pl_base.specs.Counts.{Rose};
 ghost use Rattle.pl_base.specs.Names.{is_valid_name};
@@ -34,6 +34,7 @@ fn take<D: Folder>(alloc: Global, folder: &mut D, name: &str) -> Result<Vec<u8>,
     ensures stop { IfErr result (Stops (D.tells_files folder.old) true (spec.file_in (D.files folder.old) name.now) (Rose (D.faults folder.old) (D.faults folder.new)) ⊥) }
     ensures tells { D.tells_files folder.new ≡ D.tells_files folder.old }
     ensures same { D.tells_files folder.old ≡ true → D.files folder.new ≡ D.files folder.old }
+    ensures quiet { OnOk result (D.faults folder.new ≡ D.faults folder.old) }
     ensures counts { D.faults folder.old ≤ D.faults folder.new }
     ensures place { D.place folder.new ≡ D.place folder.old }
 {
@@ -53,6 +54,7 @@ pub fn load<D: Folder>(alloc: Global, folder: &mut D, name: &str) -> Result<Load
     ensures stop { IfErr result (Stops (D.tells_files folder.old) true (spec.loaded (D.files folder.old) name.now) (Rose (D.faults folder.old) (D.faults folder.new)) ⊥) }
     ensures tells { D.tells_files folder.new ≡ D.tells_files folder.old }
     ensures same { D.tells_files folder.old ≡ true → D.files folder.new ≡ D.files folder.old }
+    ensures quiet { OnOk result (D.faults folder.new ≡ D.faults folder.old) }
     ensures counts { D.faults folder.old ≤ D.faults folder.new }
     ensures place { D.place folder.new ≡ D.place folder.old }
     ensures unasked { is_valid_name name.now ≡ false → folder.new ≡ folder.old }

@@ -27,6 +27,7 @@ fn built<S: Source>(alloc: Global, input: &mut S) -> Result<Rows<u8>, Stop>
     ensures ok { IfOk result (λ bytes. is_some (S.left input.old) ≡ true → spec.built (bytes_of (S.left input.old)) ≡ Ok bytes) }
     ensures stop { IfErr result (Stops true (is_some (S.left input.old)) (spec.built (bytes_of (S.left input.old))) ⊥ (Rose (S.faults input.old) (S.faults input.new))) }
     ensures tells { is_some (S.left input.new) ≡ is_some (S.left input.old) }
+    ensures quiet { OnOk result (S.faults input.new ≡ S.faults input.old) }
     ensures counts { S.faults input.old ≤ S.faults input.new }
 {
     let recipe = read_all(alloc, input, RECIPE)?;
@@ -47,6 +48,8 @@ fn made<D: Folder, S: Source>(
     ensures tells { D.tells_files folder.new ≡ D.tells_files folder.old }
     ensures same { D.tells_files folder.old ≡ true → D.files folder.new ≡ D.files folder.old }
     ensures place { D.place folder.new ≡ D.place folder.old }
+    ensures folder_quiet { OnOk result (D.faults folder.new ≡ D.faults folder.old) }
+    ensures input_quiet { OnOk result (S.faults input.new ≡ S.faults input.old) }
     ensures folder_counts { D.faults folder.old ≤ D.faults folder.new }
     ensures input_tells { is_some (S.left input.new) ≡ is_some (S.left input.old) }
     ensures input_counts { S.faults input.old ≤ S.faults input.new }
@@ -83,6 +86,8 @@ pub fn make<D: Folder, S: Source>(
         (make_answer name.now (D.files folder.old) (spec.made (D.files folder.old) name.now (bytes_of (S.left input.old)))).next (D.files folder.new) stop) }
     ensures tells { D.tells_files folder.new ≡ D.tells_files folder.old }
     ensures place { D.place folder.new ≡ D.place folder.old }
+    ensures folder_quiet { OnOk result (D.faults folder.new ≡ D.faults folder.old) }
+    ensures input_quiet { OnOk result (S.faults input.new ≡ S.faults input.old) }
     ensures folder_counts { D.faults folder.old ≤ D.faults folder.new }
     ensures input_tells { is_some (S.left input.new) ≡ is_some (S.left input.old) }
     ensures input_counts { S.faults input.old ≤ S.faults input.new }

@@ -25,14 +25,14 @@ fn named(alloc: Global, cause: &str, name: Text) -> Result<Vec<u8>, AllocError>
 }
 
 /// The line of a link refusal, which tells an object's name and a symbol's.
-#[tactic(auto, unfolding(crate::specs::Refusals::linked))]
-fn linked(
+#[tactic(auto, unfolding(crate::specs::Refusals::link_line))]
+fn link_line(
     alloc: Global,
     cause: &str,
     object: Text,
     symbol: Option<Rows<u8>>,
 ) -> Result<Vec<u8>, AllocError>
-    ensures { IfOk result (λ line. line.items ≡ spec.linked cause.now object symbol) }
+    ensures { IfOk result (λ line. line.items ≡ spec.link_line cause.now object symbol) }
 {
     let object = object.as_str();
     let mut line = format!(in alloc; "refused {cause} {object} ")?.into_bytes();
@@ -88,10 +88,10 @@ pub fn refusal(alloc: Global, cause: Cause) -> Result<Vec<u8>, AllocError>
         Cause::TooMany(name) => named(alloc, "TooMany", name),
         Cause::TlsTooLarge => bare(alloc, "TlsTooLarge"),
         Cause::NoPlace(name) => named(alloc, "NoPlace", name),
-        Cause::Undefined { object, symbol } => linked(alloc, "Undefined", object, symbol),
-        Cause::UndefinedTls { object, symbol } => linked(alloc, "UndefinedTls", object, symbol),
-        Cause::TlsMismatch { object, symbol } => linked(alloc, "TlsMismatch", object, symbol),
-        Cause::CopyOutside { object, symbol } => linked(alloc, "CopyOutside", object, symbol),
+        Cause::Undefined { object, symbol } => link_line(alloc, "Undefined", object, symbol),
+        Cause::UndefinedTls { object, symbol } => link_line(alloc, "UndefinedTls", object, symbol),
+        Cause::TlsMismatch { object, symbol } => link_line(alloc, "TlsMismatch", object, symbol),
+        Cause::CopyOutside { object, symbol } => link_line(alloc, "CopyOutside", object, symbol),
         Cause::InputTooLarge => bare(alloc, "InputTooLarge"),
         Cause::Recipe { number, kind } => refused_recipe(alloc, number, kind),
         Cause::TooManyFiles => bare(alloc, "TooManyFiles"),

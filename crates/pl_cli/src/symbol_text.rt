@@ -6,13 +6,7 @@ ghost use Rattle.pl_cli.specs.Refusals as spec;
 use pl_base::{Rows, hex_digit};
 use std::alloc::AllocError;
 
-/// The least byte that stands for itself in a symbol's name, `!`.
-pub const FIRST_PLAIN: u8 = 0x21;
-
-/// The greatest byte that stands for itself in a symbol's name, `~`.
-pub const LAST_PLAIN: u8 = 0x7e;
-
-/// What begins the text of any other byte. It does not stand for itself.
+/// What begins the text of a byte that does not stand for itself.
 pub const BACKSLASH: u8 = 0x5c;
 
 /// Whether a byte stands for itself.
@@ -20,7 +14,7 @@ pub const BACKSLASH: u8 = 0x5c;
 fn is_plain(byte: u8) -> bool
     ensures { result ≡ spec.is_plain byte }
 {
-    FIRST_PLAIN <= byte && byte <= LAST_PLAIN && byte != BACKSLASH
+    byte.is_ascii_graphic() && byte != BACKSLASH
 }
 
 /// Adds the text of a byte: the byte, or a backslash, an `x` and two lower-case hexadecimal digits.

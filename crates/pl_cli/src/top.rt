@@ -32,6 +32,7 @@ use std::alloc::Global;
 /// Writes a whole text and ends so, or with a fault of the output.
 fn finish<K: Sink>(output: &mut K, text: &[u8], status: Status) -> Status
     ensures ends { Ends status text.now (Rose (K.faults output.old) (K.faults output.new)) (K.written output.old) (K.written output.new) result }
+    ensures quiet { result ≡ Status.Done → K.faults output.new ≡ K.faults output.old }
     ensures counts { K.faults output.old ≤ K.faults output.new }
 {
     match write_all(output, text) {
@@ -43,6 +44,7 @@ fn finish<K: Sink>(output: &mut K, text: &[u8], status: Status) -> Status
 /// Writes the line of a refusal for a cause, unless there is no memory for it.
 fn refuse<K: Sink>(alloc: Global, cause: Cause, output: &mut K) -> Status
     ensures ends { IsRefusal cause (Rose (K.faults output.old) (K.faults output.new)) (K.written output.old) (K.written output.new) result }
+    ensures quiet { result ≡ Status.Done → K.faults output.new ≡ K.faults output.old }
     ensures counts { K.faults output.old ≤ K.faults output.new }
 {
     match refusal(alloc, cause) {
@@ -56,6 +58,7 @@ fn start_and_write<K: Sink>(alloc: Global, loader: &Loader, output: &mut K) -> S
     requires { wants loader.now.order ≡ None }
     ensures outcome { (files : Files) → IsOutcome true true (load_answer files (because cause_of (started loader.now.files)))
         ⊥ (Rose (K.faults output.old) (K.faults output.new)) (K.written output.old) (K.written output.new) result }
+    ensures quiet { result ≡ Status.Done → K.faults output.new ≡ K.faults output.old }
     ensures counts { K.faults output.old ≤ K.faults output.new }
     ensures usage { result ≢ Status.Usage }
     ensures read_fault { result ≢ Status.ReadFault }
@@ -83,6 +86,8 @@ fn load_and_write<D: Folder, K: Sink>(
     ensures tells { D.tells_files folder.new ≡ D.tells_files folder.old }
     ensures folder { D.tells_files folder.old ≡ true → D.files folder.new ≡ D.files folder.old }
     ensures place { D.place folder.new ≡ D.place folder.old }
+    ensures folder_quiet { result ≡ Status.Done → D.faults folder.new ≡ D.faults folder.old }
+    ensures output_quiet { result ≡ Status.Done → K.faults output.new ≡ K.faults output.old }
     ensures folder_counts { D.faults folder.old ≤ D.faults folder.new }
     ensures output_counts { K.faults output.old ≤ K.faults output.new }
     ensures unasked { is_valid_name name.now ≡ false → folder.new ≡ folder.old }
@@ -114,6 +119,9 @@ fn make_and_write<D: Folder, S: Source, K: Sink>(
     ensures tells { D.tells_files folder.new ≡ D.tells_files folder.old }
     ensures place { D.place folder.new ≡ D.place folder.old }
     ensures input_tells { is_some (S.left input.new) ≡ is_some (S.left input.old) }
+    ensures folder_quiet { result ≡ Status.Done → D.faults folder.new ≡ D.faults folder.old }
+    ensures input_quiet { result ≡ Status.Done → S.faults input.new ≡ S.faults input.old }
+    ensures output_quiet { result ≡ Status.Done → K.faults output.new ≡ K.faults output.old }
     ensures folder_counts { D.faults folder.old ≤ D.faults folder.new }
     ensures input_counts { S.faults input.old ≤ S.faults input.new }
     ensures output_counts { K.faults output.old ≤ K.faults output.new }
@@ -148,6 +156,9 @@ fn run_command<D: Folder, S: Source, K: Sink>(
     ensures tells { D.tells_files folder.new ≡ D.tells_files folder.old }
     ensures place { D.place folder.new ≡ D.place folder.old }
     ensures input_tells { is_some (S.left input.new) ≡ is_some (S.left input.old) }
+    ensures folder_quiet { result ≡ Status.Done → D.faults folder.new ≡ D.faults folder.old }
+    ensures input_quiet { result ≡ Status.Done → S.faults input.new ≡ S.faults input.old }
+    ensures output_quiet { result ≡ Status.Done → K.faults output.new ≡ K.faults output.old }
     ensures folder_counts { D.faults folder.old ≤ D.faults folder.new }
     ensures input_counts { S.faults input.old ≤ S.faults input.new }
     ensures output_counts { K.faults output.old ≤ K.faults output.new }
@@ -179,6 +190,9 @@ fn run_words<D: Folder, S: Source, K: Sink>(
     ensures tells { D.tells_files folder.new ≡ D.tells_files folder.old }
     ensures place { D.place folder.new ≡ D.place folder.old }
     ensures input_tells { is_some (S.left input.new) ≡ is_some (S.left input.old) }
+    ensures folder_quiet { result ≡ Status.Done → D.faults folder.new ≡ D.faults folder.old }
+    ensures input_quiet { result ≡ Status.Done → S.faults input.new ≡ S.faults input.old }
+    ensures output_quiet { result ≡ Status.Done → K.faults output.new ≡ K.faults output.old }
     ensures folder_counts { D.faults folder.old ≤ D.faults folder.new }
     ensures input_counts { S.faults input.old ≤ S.faults input.new }
     ensures output_counts { K.faults output.old ≤ K.faults output.new }
@@ -236,6 +250,11 @@ pub fn run<D: Folder, S: Source, K: Sink>(
     ensures tells { D.tells_files folder.new ≡ D.tells_files folder.old }
     ensures place { D.place folder.new ≡ D.place folder.old }
     ensures input_tells { is_some (S.left input.new) ≡ is_some (S.left input.old) }
+
+    // Where all was done no call failed.
+    ensures folder_quiet { result ≡ Status.Done → D.faults folder.new ≡ D.faults folder.old }
+    ensures input_quiet { result ≡ Status.Done → S.faults input.new ≡ S.faults input.old }
+    ensures output_quiet { result ≡ Status.Done → K.faults output.new ≡ K.faults output.old }
 
     // The counts never fall.
     ensures folder_counts { D.faults folder.old ≤ D.faults folder.new }

@@ -1,11 +1,11 @@
 // Tests of pl_place.
 ghost use Rattle.std.specs.Prelude.{IfOk};
-ghost use Rattle.pl_place.specs.Placing.{IsWish};
+ghost use Rattle.pl_place.specs.Placing.{IsWant};
 
 use pl_base::Text;
 use pl_elf::Range;
-use pl_place::{Holes, PlaceFault, Placer, Wish, highest, lowest, place_all, place_lowest, seeded};
-use pl_slots::region_holes;
+use pl_place::{Holes, PlaceFault, Placer, highest, lowest, place_all, place_lowest, seeded};
+use pl_slots::{Want, region_holes};
 use std::alloc::{AllocError, Global};
 use std::process::Abort;
 
@@ -92,14 +92,14 @@ fn chooses_the_only_place(rt: HostRuntime) -> Result<(), AllocError> {
     Ok(())
 }
 
-fn wish(alloc: Global, name: &str, span: u64) -> Result<Wish, PlaceFault>
-    ensures { IfOk result IsWish }
+fn want(alloc: Global, name: &str, span: u64) -> Result<Want, PlaceFault>
+    ensures { IfOk result IsWant }
 {
     let align: u64 = 0x1000;
     if span == 0 || !align.is_power_of_two() {
         return Err(PlaceFault::NoMemory);
     }
-    Ok(Wish {
+    Ok(Want {
         name: Text::copy_of(alloc, name)?,
         span,
         align,
@@ -109,24 +109,24 @@ fn wish(alloc: Global, name: &str, span: u64) -> Result<Wish, PlaceFault>
 #[test]
 fn places_at_the_lowest(rt: HostRuntime) -> Result<(), PlaceFault> {
     let alloc = rt.alloc();
-    let wishes = [
-        wish(alloc, "liba", 0x10_1000)?,
-        wish(alloc, "libb", 0x1000)?,
+    let wants = [
+        want(alloc, "liba", 0x10_1000)?,
+        want(alloc, "libb", 0x1000)?,
     ];
     let busy = [to(0x30_0000_1000), to(START)];
-    let starts = place_lowest(alloc, &wishes, &busy, to(0x40_0000_0000))?;
+    let starts = place_lowest(alloc, &wants, &busy, to(0x40_0000_0000))?;
     assert!(rt; starts.as_slice() == [0x30_0000_1000, 0x30_0010_2000].as_slice());
     Ok(())
 }
 
 /// The highest places of `liba` and `libb` in a region up to an end, whose first 0x1000 bytes are busy.
 fn placed_high(alloc: Global, end: u64) -> Result<Vec<u64>, PlaceFault> {
-    let wishes = [
-        wish(alloc, "liba", 0x10_1000)?,
-        wish(alloc, "libb", 0x1000)?,
+    let wants = [
+        want(alloc, "liba", 0x10_1000)?,
+        want(alloc, "libb", 0x1000)?,
     ];
     let high = Placer::new(|holes: &Holes, span: u64, align: u64| highest(holes, span, align));
-    place_all(alloc, &high, &wishes, &[to(0x30_0000_1000)], to(end))
+    place_all(alloc, &high, &wants, &[to(0x30_0000_1000)], to(end))
 }
 
 /// Whether the fault says that a library has no place.

@@ -141,6 +141,7 @@ impl<'a> Image<'a> {
         ensures ok { OnOk result (Passes (K.written sink.old) (K.written sink.new) lines.old.items lines.new.items (word_lines (spec.own_memory self.now pieces.now))) }
         ensures err { OnErr result (GotPrefix (K.written sink.old) (K.written sink.new) (lines.old.items ++ word_lines (spec.own_memory self.now pieces.now))) }
         ensures failed { OnErr result (Rose (K.faults sink.old) (K.faults sink.new)) }
+        ensures quiet { OnOk result (K.faults sink.new ≡ K.faults sink.old) }
         ensures counts { K.faults sink.old ≤ K.faults sink.new }
     {
         let end = words_end(pieces);
@@ -157,6 +158,7 @@ impl<'a> Image<'a> {
         ensures ok { OnOk result (Passes (K.written sink.old) (K.written sink.new) lines.old.items lines.new.items (spec.text_of self.now)) }
         ensures err { OnErr result (GotPrefix (K.written sink.old) (K.written sink.new) (lines.old.items ++ spec.text_of self.now)) }
         ensures failed { OnErr result (Rose (K.faults sink.old) (K.faults sink.new)) }
+        ensures quiet { OnOk result (K.faults sink.new ≡ K.faults sink.old) }
         ensures counts { K.faults sink.old ≤ K.faults sink.new }
     {
         for object in &self.objects {
@@ -170,6 +172,7 @@ impl<'a> Image<'a> {
         ensures ok { OnOk result (K.written sink.new ≡ got_after (K.written sink.old) (spec.text_of self.now)) }
         ensures err { OnErr result (GotPrefix (K.written sink.old) (K.written sink.new) (spec.text_of self.now)) }
         ensures failed { OnErr result (Rose (K.faults sink.old) (K.faults sink.new)) }
+        ensures quiet { OnOk result (K.faults sink.new ≡ K.faults sink.old) }
         ensures counts { K.faults sink.old ≤ K.faults sink.new }
     {
         let mut lines = Lines::new();

@@ -13,6 +13,7 @@ pub fn flush<K: Sink>(lines: &mut Lines, sink: &mut K) -> Result<(), Failed>
     ensures empty { OnOk result (lines.new.items ≡ []) }
     ensures err { OnErr result (GotPrefix (K.written sink.old) (K.written sink.new) lines.old.items) }
     ensures failed { OnErr result (Rose (K.faults sink.old) (K.faults sink.new)) }
+    ensures quiet { OnOk result (K.faults sink.new ≡ K.faults sink.old) }
     ensures counts { K.faults sink.old ≤ K.faults sink.new }
 {
     write_all(sink, lines.as_slice())?;
@@ -31,6 +32,7 @@ pub fn add_word<K: Sink>(
     ensures ok { OnOk result (spec.Passes (K.written sink.old) (K.written sink.new) lines.old.items lines.new.items (spec.unless_zero address word)) }
     ensures err { OnErr result (GotPrefix (K.written sink.old) (K.written sink.new) lines.old.items) }
     ensures failed { OnErr result (Rose (K.faults sink.old) (K.faults sink.new)) }
+    ensures quiet { OnOk result (K.faults sink.new ≡ K.faults sink.old) }
     ensures counts { K.faults sink.old ≤ K.faults sink.new }
 {
     if word == 0 {

@@ -4,7 +4,7 @@ use Rattle.std.specs.Prelude.{is_some}
 use Rattle.std.proofs.lemmas.Bool.{false≢true}
 use Rattle.std.proofs.lemmas.List.{take-append-drop}
 use Rattle.std.proofs.Math.Seq.{take-append_seam, drop-append_seam}
-use Rattle.pl_io.specs.Reads.{TookKnown, HasMore}
+use Rattle.pl_io.specs.Reads.{TookKnown, HasMore, TookAtMost}
 
 -- these bytes, and then those that a source has left
 abbrev pub before : List ℕ → Option (List ℕ) → Option (List ℕ)
@@ -38,3 +38,11 @@ too_many (Some left) (Some rest) got most is size =
       omega (arith, sizes, size),
       ap Some (sym (ap (drop (most + 1)) same ∙ ap (λ m. drop m (got ++ rest)) (sym size) ∙ drop-append_seam got rest)),
     )
+
+-- no more was read than the source may have
+pub took_at_most : (first after : Option (List ℕ)) (got : List ℕ) (most : ℕ) → first ≡ before got after → length got ≤ most → TookAtMost first after most
+took_at_most None after got most is size = tt
+took_at_most (Some left) None got most is size = absurd (false≢true (ap (λ (o : Option (List ℕ)). is_some o) (sym is)))
+took_at_most (Some left) (Some rest) got most is size =
+    let same : left ≡ got ++ rest = cc in
+    (length got, size, ap Some (sym (ap (drop (length got)) same ∙ drop-append_seam got rest)))

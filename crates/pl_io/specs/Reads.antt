@@ -1,5 +1,5 @@
 -- What a read takes from the bytes that a source has left, where it tells them.
-use Rattle.std.specs.Prelude.{◌≡◌, ℕ, ◌+◌, ◌<◌, List, [], ◌++◌, take, drop, length, Option, Some, None, ⊤}
+use Rattle.std.specs.Prelude.{◌≡◌, ℕ, ◌+◌, ◌≤◌, ◌<◌, List, [], ◌++◌, take, drop, length, Option, Some, None, ⊤}
 use Rattle.pl_io.specs.declared.read_fault.ReadFault.{ReadFault}
 use Rattle.pl_io.specs.declared.read_fault.ReadFault.TheVariants.{Failed, TooLarge, NoMemory}
 
@@ -18,8 +18,13 @@ abbrev pub HasMore : Option (List ℕ) → Option (List ℕ) → ℕ → Type 0
 HasMore None after most = ⊤
 HasMore (Some left) after most = (most < length left) × (after ≡ Some (drop (most + 1) left))
 
--- why a source was not read to its end: it failed, for the reason that is given, such as that its count rose; it has more bytes than it may have; a want of memory may come at any time
+-- at most so many bytes were taken from a source that tells its bytes
+abbrev pub TookAtMost : Option (List ℕ) → Option (List ℕ) → ℕ → Type 0
+TookAtMost None after most = ⊤
+TookAtMost (Some left) after most = (n : ℕ) × (n ≤ most) × (after ≡ Some (drop n left))
+
+-- why a source was not read to its end: it failed, for the reason that is given, such as that its count rose; it has more bytes than it may have; a want of memory may come at any time, and then no more was taken than it may have
 abbrev pub StopsReading : Option (List ℕ) → Option (List ℕ) → ℕ → Type 0 → ReadFault → Type 0
 StopsReading left after most why Failed = why
 StopsReading left after most why TooLarge = HasMore left after most
-StopsReading left after most why NoMemory = ⊤
+StopsReading left after most why NoMemory = TookAtMost left after most

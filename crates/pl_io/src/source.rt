@@ -26,7 +26,7 @@ pub trait Source {
 // The most bytes that are read in one call.
 const PIECE: usize = 4096;
 
-/// Reads all bytes of a source to its end, where they are at most `most`. It takes at most `most + 1` bytes.
+/// Reads all bytes of a source to its end, where they are at most `most`. It takes at most `most + 1` bytes, before a want of memory at most `most`.
 ///
 /// `TooLarge` comes where the source has more than `most` bytes left, and `Failed` only where its count of faults rose.
 pub fn read_all<S: Source>(alloc: Global, source: &mut S, most: usize) -> Result<Vec<u8>, ReadFault>

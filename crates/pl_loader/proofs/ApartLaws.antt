@@ -22,7 +22,7 @@ use Rattle.pl_image.specs.declared.loaded.Loaded.{Loaded}
 use Rattle.pl_value.specs.Targets.{base_of}
 use Rattle.pl_value.specs.Ordinary.{part_of, loaded_from, loaded, ArePlaced}
 use Rattle.pl_loader.specs.Loading.{objects_of, parts_of}
-use Rattle.pl_loader.specs.Places.{load_range, taken, wish_of, IsAt}
+use Rattle.pl_loader.specs.Places.{load_range, taken, want_of, IsAt}
 use Rattle.pl_loader.specs.declared.object_file.ObjectFile.{ObjectFile}
 use Rattle.pl_loader.proofs.SpanLaws.{Ends, IsSpanned}
 
@@ -103,20 +103,20 @@ abbrev pub IsSpannedFile : ObjectFile → Type 0
 IsSpannedFile f = IsSpanned f.object
 
 -- a library's pieces lie in the addresses that it wants
-in_wish : (f : ObjectFile) (place a : ℕ) → IsSpannedFile f → list_any (lies a) (pieces_at place f.bytes f.object) ≡ true → is_in a (range_of (wish_of f) place) ≡ true
-in_wish f place a spanned any =
+in_want : (f : ObjectFile) (place a : ℕ) → IsSpannedFile f → list_any (lies a) (pieces_at place f.bytes f.object) ≡ true → is_in a (range_of (want_of f) place) ≡ true
+in_want f place a spanned any =
     let from : place + 0 ≤ a = lies_from place 0 a f.bytes (loads f.object.segments) spanned.are.ascend any in
     let below = lies_below place f.object.span a f.bytes (loads f.object.segments) spanned.span any in
     and_from (nat_le place a) (nat_lt a (place + f.object.span)) (le-leb place a (omega arith)) (lt-ltb a (place + f.object.span) below)
 
--- libraries miss a range that their wishes miss
-pieces_miss : (range : Range) (fs : List ObjectFile) (places : List ℕ) (a : ℕ) → All IsSpannedFile fs → MissesAll range (map wish_of fs) places → is_in a range ≡ true → list_any (lies a) (pieces_of fs places) ≡ false
+-- libraries miss a range that their wants miss
+pieces_miss : (range : Range) (fs : List ObjectFile) (places : List ℕ) (a : ℕ) → All IsSpannedFile fs → MissesAll range (map want_of fs) places → is_in a range ≡ true → list_any (lies a) (pieces_of fs places) ≡ false
 pieces_miss range [] places a all misses within = refl
 pieces_miss range (f ∷ fs) [] a all misses within = refl
 pieces_miss range (f ∷ fs) (place ∷ places) a all misses within =
     none_of_both a (pieces_at place f.bytes f.object) (pieces_of fs places)
     (false_from_ne_true (list_any (lies a) (pieces_at place f.bytes f.object)) (λ any.
-    false≢true (sym (misses.0 a within) ∙ in_wish f place a (All-head IsSpannedFile f fs all) any)))
+    false≢true (sym (misses.0 a within) ∙ in_want f place a (All-head IsSpannedFile f fs all) any)))
     (pieces_miss range fs places a (All-tail IsSpannedFile f fs all) misses.1 within)
 
 -- and busy ranges beside which they are placed
@@ -125,16 +125,16 @@ no_both true true is hit = false≢true is
 no_both true false is hit = false≢true hit
 no_both false b is hit = false≢true is
 
-pieces_free : (region : Range) (busy : List Range) (fs : List ObjectFile) (places : List ℕ) (a : ℕ) → All IsSpannedFile fs → AllFree region busy (map wish_of fs) places → is_free a busy ≡ true → list_any (lies a) (pieces_of fs places) ≡ false
+pieces_free : (region : Range) (busy : List Range) (fs : List ObjectFile) (places : List ℕ) (a : ℕ) → All IsSpannedFile fs → AllFree region busy (map want_of fs) places → is_free a busy ≡ true → list_any (lies a) (pieces_of fs places) ≡ false
 pieces_free region busy [] places a all free hit = refl
 pieces_free region busy (f ∷ fs) [] a all free hit = refl
 pieces_free region busy (f ∷ fs) (place ∷ places) a all free hit =
     none_of_both a (pieces_at place f.bytes f.object) (pieces_of fs places)
     (false_from_ne_true (list_any (lies a) (pieces_at place f.bytes f.object)) (λ any.
-    no_both (is_in a region) (is_free a busy) (free.0 a (in_wish f place a (All-head IsSpannedFile f fs all) any)) hit))
+    no_both (is_in a region) (is_free a busy) (free.0 a (in_want f place a (All-head IsSpannedFile f fs all) any)) hit))
     (pieces_free region busy fs places a (All-tail IsSpannedFile f fs all) free.1 hit)
 
-alone_libraries : (fs : List ObjectFile) (places : List ℕ) → All IsSpannedFile fs → AreApart (map wish_of fs) places → Alone (pieces_of fs places)
+alone_libraries : (fs : List ObjectFile) (places : List ℕ) → All IsSpannedFile fs → AreApart (map want_of fs) places → Alone (pieces_of fs places)
 alone_libraries [] places all apart = tt
 alone_libraries (f ∷ fs) [] all apart = tt
 alone_libraries (f ∷ fs) (place ∷ places) all apart =
@@ -143,7 +143,7 @@ alone_libraries (f ∷ fs) (place ∷ places) all apart =
     alone_append (pieces_at place f.bytes f.object) (pieces_of fs places)
     (alone_own place 0 f.bytes (loads f.object.segments) spanned.are.ascend)
     (alone_libraries fs places rest apart.1)
-    (λ a any. pieces_miss (range_of (wish_of f) place) fs places a rest apart.0 (in_wish f place a spanned any))
+    (λ a any. pieces_miss (range_of (want_of f) place) fs places a rest apart.0 (in_want f place a spanned any))
 
 -- the program's pieces are at the addresses that it takes
 taken_is : (a : ℕ) (bytes : List ℕ) (ss : List Segment) → is_free a (map load_range ss) ≡ list_any (lies a) (loaded_pieces 0 bytes ss)
@@ -152,7 +152,7 @@ taken_is a bytes (s ∷ ss) =
     let zero : 0 + s.vaddr ≡ s.vaddr = zero-add s.vaddr in
     rw (zero, taken_is a bytes ss) refl
 
-pub alone_all : (region : Range) (program : ObjectFile) (fs : List ObjectFile) (places : List ℕ) → IsSpannedFile program → All IsSpannedFile fs → AllFree region (taken program.object) (map wish_of fs) places → AreApart (map wish_of fs) places
+pub alone_all : (region : Range) (program : ObjectFile) (fs : List ObjectFile) (places : List ℕ) → IsSpannedFile program → All IsSpannedFile fs → AllFree region (taken program.object) (map want_of fs) places → AreApart (map want_of fs) places
     → Alone (pieces_of (program ∷ fs) (0 ∷ places))
 unfolding taken
 alone_all region program fs places spanned all free apart =
@@ -169,7 +169,7 @@ program_at f spanned = record {
   ends = All-weaker (Ends ADDRESS_LIMIT) (λ s. 0 + (s.vaddr + s.memsz) ≤ ADDRESS_LIMIT) (λ s le. omega (arith, le)) (loads f.object.segments) spanned.below;
 }
 
--- the last address of a wish is in the region
+-- the last address of a want is in the region
 ends_in : (region : Range) (busy : List Range) (start span : ℕ) → 0 < span
     → ((address : ℕ) → is_in address (record { start = start; end = start + span }) ≡ true → (is_in address region && not (is_free address busy)) ≡ true) → start + span ≤ region.end
 ends_in region busy start span some free =
@@ -182,7 +182,7 @@ ends_in region busy start span some free =
 abbrev pub HasSpan : ObjectFile → Type 0
 HasSpan f = 0 < f.object.span
 
-pub libraries_at : (region : Range) (busy : List Range) (fs : List ObjectFile) (places : List ℕ) → region.end ≤ ADDRESS_LIMIT → length fs ≡ length places → All IsSpannedFile fs → All HasSpan fs → AllFree region busy (map wish_of fs) places → AllZip IsAt fs places
+pub libraries_at : (region : Range) (busy : List Range) (fs : List ObjectFile) (places : List ℕ) → region.end ≤ ADDRESS_LIMIT → length fs ≡ length places → All IsSpannedFile fs → All HasSpan fs → AllFree region busy (map want_of fs) places → AllZip IsAt fs places
 libraries_at region busy [] [] limit size all some free = tt
 libraries_at region busy [] (place ∷ places) limit size all some free = absurd (omega (arith, size))
 libraries_at region busy (f ∷ fs) [] limit size all some free = absurd (omega (arith, size))
@@ -196,7 +196,7 @@ libraries_at region busy (f ∷ fs) (place ∷ places) limit size all some free 
     (here, libraries_at region busy fs places limit (omega (arith, size)) (All-tail IsSpannedFile f fs all) (All-tail HasSpan f fs some) free.1)
 
 pub all_at : (region : Range) (busy : List Range) (program : ObjectFile) (fs : List ObjectFile) (places : List ℕ) → region.end ≤ ADDRESS_LIMIT → length fs ≡ length places → IsSpannedFile program → All IsSpannedFile fs → All HasSpan fs
-    → AllFree region busy (map wish_of fs) places → AllZip IsAt (program ∷ fs) (0 ∷ places)
+    → AllFree region busy (map want_of fs) places → AllZip IsAt (program ∷ fs) (0 ∷ places)
 all_at region busy program fs places limit size spanned all some free = (program_at program spanned, libraries_at region busy fs places limit size all some free)
 
 -- ---- as linking asks it
@@ -237,7 +237,7 @@ placed_by (f ∷ fs) (place ∷ places) at all zero d lt = record { accepted = (
 placed_by (f ∷ fs) (place ∷ places) at all (suc member) d lt = placed_by fs places at.1 (All-tail IsSpannedFile f fs all) member d (omega (arith, lt))
 
 pub are_placed : (region : Range) (program : ObjectFile) (fs : List ObjectFile) (places : List ℕ) → length fs ≡ length places → AllZip IsAt (program ∷ fs) (0 ∷ places) → IsSpannedFile program → All IsSpannedFile fs
-    → AllFree region (taken program.object) (map wish_of fs) places → AreApart (map wish_of fs) places → ArePlaced (0 ∷ places) (parts_of (program ∷ fs)) (objects_of (program ∷ fs))
+    → AllFree region (taken program.object) (map want_of fs) places → AreApart (map want_of fs) places → ArePlaced (0 ∷ places) (parts_of (program ∷ fs)) (objects_of (program ∷ fs))
 are_placed region program fs places size at spanned all free apart =
     let same : loaded (0 ∷ places) (parts_of (program ∷ fs)) (objects_of (program ∷ fs)) ≡ loaded_each (program ∷ fs) (0 ∷ places) = loaded_all (program ∷ fs) (0 ∷ places) (omega (arith, size)) in
     record {

@@ -11,14 +11,14 @@ use Rattle.pl_object.specs.PlaceClauses.{is_bad, is_known}
 use Rattle.pl_object.specs.declared.object.Object.{Object}
 use Rattle.pl_object.specs.declared.reloc.Reloc.{Reloc}
 use Rattle.pl_object.proofs.AcceptedLaws.{accepted}
-use Rattle.pl_place.specs.Placing.{IsWish}
+use Rattle.pl_place.specs.Placing.{IsWant}
 use Rattle.pl_scope.specs.Scope.{objects, HasFewSymbols}
 use Rattle.pl_scope.specs.declared.constants.TheConstants.{MAX_MEMBERS}
 use Rattle.pl_scope.specs.declared.member.Member.{Member}
 use Rattle.pl_value.specs.Linkable.{RefersToSymbols, IsLinkable}
 use Rattle.pl_value.specs.Ordinary.{ArePlaced}
 use Rattle.pl_loader.specs.Loading.{objects_of, parts_of, IsRead, AreFiles}
-use Rattle.pl_loader.specs.Places.{region, taken, wish_of, IsAt, IsFree}
+use Rattle.pl_loader.specs.Places.{region, taken, want_of, IsAt, IsFree}
 use Rattle.pl_loader.specs.declared.object_file.ObjectFile.{ObjectFile}
 use Rattle.pl_loader.proofs.SpanLaws.{spanned}
 use Rattle.pl_loader.proofs.ApartLaws.{IsSpannedFile, HasSpan, all_at, are_placed}
@@ -40,9 +40,9 @@ libraries_spanned program fs are = All-weaker IsRead IsSpannedFile spanned_file 
 pub libraries_have_spans : (program : ObjectFile) (fs : List ObjectFile) → AreFiles (program ∷ fs) → All HasSpan fs
 libraries_have_spans program fs are = λ i d lt. (libraries_spanned program fs are i d lt).some (are.libraries i d lt)
 
-pub wishes_asked : (program : ObjectFile) (fs : List ObjectFile) → AreFiles (program ∷ fs) → All IsWish (map wish_of fs)
-wishes_asked program fs are =
-    All-map IsWish wish_of fs (λ i d lt. record { some = libraries_have_spans program fs are i d lt; power = (libraries_spanned program fs are i d lt).power })
+pub wants_asked : (program : ObjectFile) (fs : List ObjectFile) → AreFiles (program ∷ fs) → All IsWant (map want_of fs)
+wants_asked program fs are =
+    All-map IsWant want_of fs (λ i d lt. record { some = libraries_have_spans program fs are i d lt; power = (libraries_spanned program fs are i d lt).power })
 
 -- ---- their symbols
 
@@ -95,17 +95,17 @@ files_are (f ∷ fs) program le is =
 region_low : region.end ≤ ADDRESS_LIMIT
 region_low = omega arith
 
-in_places : (program : ObjectFile) (fs : List ObjectFile) (starts : List ℕ) → AreFiles (program ∷ fs) → IsFree (taken program.object) (map wish_of fs) starts
+in_places : (program : ObjectFile) (fs : List ObjectFile) (starts : List ℕ) → AreFiles (program ∷ fs) → IsFree (taken program.object) (map want_of fs) starts
     → AllZip IsAt (program ∷ fs) (0 ∷ starts) × ArePlaced (0 ∷ starts) (parts_of (program ∷ fs)) (objects_of (program ∷ fs))
 in_places program fs starts are is =
-    let size : length fs ≡ length starts = omega (arith, length-map fs wish_of, is.one_each) in
+    let size : length fs ≡ length starts = omega (arith, length-map fs want_of, is.one_each) in
     let first = program_spanned program fs are in
     let rest = libraries_spanned program fs are in
     let at = all_at region (taken program.object) program fs starts region_low size first rest (libraries_have_spans program fs are) is.free in
     (at, are_placed region program fs starts size at first rest is.free is.apart)
 
 -- the first at 0 and the others at these places
-pub files_placed : (files : List ObjectFile) (places : List ℕ) (program : ObjectFile) (fs : List ObjectFile) (starts : List ℕ) → files ≡ program ∷ fs → places ≡ 0 ∷ starts → AreFiles files → IsFree (taken program.object) (map wish_of fs) starts
+pub files_placed : (files : List ObjectFile) (places : List ℕ) (program : ObjectFile) (fs : List ObjectFile) (starts : List ℕ) → files ≡ program ∷ fs → places ≡ 0 ∷ starts → AreFiles files → IsFree (taken program.object) (map want_of fs) starts
     → AllZip IsAt files places × ArePlaced places (parts_of files) (objects_of files)
 files_placed files places program fs starts files_is places_is are is =
     rw (files_is, places_is) (in_places program fs starts (subst AreFiles files_is are) is)

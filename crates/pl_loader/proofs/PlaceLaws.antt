@@ -10,8 +10,8 @@ use Rattle.pl_slots.specs.Holes.{region_holes, without, lowest, AreHoles, IsPlac
 use Rattle.pl_slots.proofs.HoleLaws.{region_are_holes, without_are_holes}
 use Rattle.pl_slots.proofs.LowestLaws.{lowest_is, lowest_none}
 use Rattle.pl_place.specs.Left.{beside, left}
-use Rattle.pl_place.specs.Placing.{Chose, range_of, InTurn, ArePlaced, StopsAt, IsFault, IsWish, Lowest}
-use Rattle.pl_place.specs.declared.wish.Wish.{Wish}
+use Rattle.pl_place.specs.Placing.{Chose, range_of, InTurn, ArePlaced, StopsAt, IsFault, IsWant, Lowest}
+use Rattle.pl_slots.specs.declared.slot.Want.{Want}
 use Rattle.pl_place.specs.declared.fault.PlaceFault.{PlaceFault}
 use Rattle.pl_place.specs.declared.fault.PlaceFault.TheVariants as place
 use Rattle.pl_place.proofs.PolicyLaws.{align_some}
@@ -37,7 +37,7 @@ pub left_are_holes : (region : Range) (busy : List Range) → AreHoles (left reg
 unfolding left
 left_are_holes region busy = all_are_holes (region_holes region) busy (region_are_holes region)
 
--- ---- one wish
+-- ---- one want
 
 one_lowest : (span align start : ℕ) (holes : List Range) (answer : Option ℕ) → IfSome answer (IsLowest holes span align) → IfNone answer ((at : ℕ) → IsPlace holes span align at → ⊥) → IsLowest holes span align start → answer ≡ Some start
 one_lowest span align start holes (Some at) low none is =
@@ -57,62 +57,62 @@ lowest_absent : (span align : ℕ) (holes : List Range) → 0 < align → AreHol
 lowest_absent span align holes p are none =
     no_lowest span align holes (lowest span align holes) (lowest_is span align holes (lowest span align holes) p refl are) none
 
--- ---- all wishes
+-- ---- all wants
 
-rest_are_holes : (wish : Wish) (start : ℕ) (holes : List Range) → IsWish wish → AreHoles holes → AreHoles (without (range_of wish start) holes)
-rest_are_holes wish start holes is are = without_are_holes (range_of wish start) holes (omega (arith, is.some)) are
+rest_are_holes : (want : Want) (start : ℕ) (holes : List Range) → IsWant want → AreHoles holes → AreHoles (without (range_of want start) holes)
+rest_are_holes want start holes is are = without_are_holes (range_of want start) holes (omega (arith, is.some)) are
 
-starts_are : (wish : Wish) (start : ℕ) (holes : List Range) → IsWish wish → AreHoles holes → Chose Lowest holes wish (Some start) → lowest wish.span wish.align holes ≡ Some start
-starts_are wish start holes is are chose =
+starts_are : (want : Want) (start : ℕ) (holes : List Range) → IsWant want → AreHoles holes → Chose Lowest holes want (Some start) → lowest want.span want.align holes ≡ Some start
+starts_are want start holes is are chose =
     let call = chose.0 in
-    lowest_some wish.span wish.align start holes (align_some wish.span wish.align is) are (subst (λ (hs : List Range). IsLowest hs wish.span wish.align start) call.1 call.2)
+    lowest_some want.span want.align start holes (align_some want.span want.align is) are (subst (λ (hs : List Range). IsLowest hs want.span want.align start) call.1 call.2)
 
-in_turn : (holes : List Range) (wishes : List Wish) (starts : List ℕ) → AreHoles holes → All IsWish wishes → InTurn Lowest holes wishes starts → lowest_places holes wishes ≡ Ok starts
+in_turn : (holes : List Range) (wants : List Want) (starts : List ℕ) → AreHoles holes → All IsWant wants → InTurn Lowest holes wants starts → lowest_places holes wants ≡ Ok starts
 unfolding lowest_places
 in_turn holes [] [] are all placed = refl
 in_turn holes [] (start ∷ starts) are all placed = absurd placed
-in_turn holes (wish ∷ wishes) [] are all placed = absurd placed
-in_turn holes (wish ∷ wishes) (start ∷ starts) are all placed =
-    let is : IsWish wish = All-head IsWish wish wishes all in
-    let here = starts_are wish start holes is are placed.0 in
-    let rest = in_turn (without (range_of wish start) holes) wishes starts (rest_are_holes wish start holes is are) (All-tail IsWish wish wishes all) placed.1 in
+in_turn holes (want ∷ wants) [] are all placed = absurd placed
+in_turn holes (want ∷ wants) (start ∷ starts) are all placed =
+    let is : IsWant want = All-head IsWant want wants all in
+    let here = starts_are want start holes is are placed.0 in
+    let rest = in_turn (without (range_of want start) holes) wants starts (rest_are_holes want start holes is are) (All-tail IsWant want wants all) placed.1 in
     rw (here, rest) refl
 
-stops_at : (holes : List Range) (wishes : List Wish) (name : List ℕ) → AreHoles holes → All IsWish wishes → StopsAt Lowest holes wishes name → lowest_places holes wishes ≡ Err (NoPlace name)
+stops_at : (holes : List Range) (wants : List Want) (name : List ℕ) → AreHoles holes → All IsWant wants → StopsAt Lowest holes wants name → lowest_places holes wants ≡ Err (NoPlace name)
 unfolding lowest_places
 stops_at holes [] name are all stops = absurd stops
-stops_at holes (wish ∷ wishes) name are all (inl here) =
-    let is : IsWish wish = All-head IsWish wish wishes all in
-    let none = lowest_absent wish.span wish.align holes (align_some wish.span wish.align is) are here.1.1 in
+stops_at holes (want ∷ wants) name are all (inl here) =
+    let is : IsWant want = All-head IsWant want wants all in
+    let none = lowest_absent want.span want.align holes (align_some want.span want.align is) are here.1.1 in
     rw (none, here.0) refl
-stops_at holes (wish ∷ wishes) name are all (inr later) =
-    let is : IsWish wish = All-head IsWish wish wishes all in
-    let here = starts_are wish later.0 holes is are later.1 in
-    let rest = stops_at (without (range_of wish later.0) holes) wishes name (rest_are_holes wish later.0 holes is are) (All-tail IsWish wish wishes all) later.2 in
+stops_at holes (want ∷ wants) name are all (inr later) =
+    let is : IsWant want = All-head IsWant want wants all in
+    let here = starts_are want later.0 holes is are later.1 in
+    let rest = stops_at (without (range_of want later.0) holes) wants name (rest_are_holes want later.0 holes is are) (All-tail IsWant want wants all) later.2 in
     rw (here, rest) refl
 
-pub places_are : (region : Range) (busy : List Range) (wishes : List Wish) (starts : List ℕ) → All IsWish wishes → ArePlaced Lowest (left region busy) wishes starts → lowest_places (left region busy) wishes ≡ Ok starts
-places_are region busy wishes starts all placed = in_turn (left region busy) wishes starts (left_are_holes region busy) all placed.in_turn
+pub places_are : (region : Range) (busy : List Range) (wants : List Want) (starts : List ℕ) → All IsWant wants → ArePlaced Lowest (left region busy) wants starts → lowest_places (left region busy) wants ≡ Ok starts
+places_are region busy wants starts all placed = in_turn (left region busy) wants starts (left_are_holes region busy) all placed.in_turn
 
-pub place_stops : (region : Range) (busy : List Range) (wishes : List Wish) (name : List ℕ) → All IsWish wishes → IsFault Lowest (left region busy) wishes (place.NoPlace name) → lowest_places (left region busy) wishes ≡ Err (NoPlace name)
-place_stops region busy wishes name all fault = stops_at (left region busy) wishes name (left_are_holes region busy) all fault.because
+pub place_stops : (region : Range) (busy : List Range) (wants : List Want) (name : List ℕ) → All IsWant wants → IsFault Lowest (left region busy) wants (place.NoPlace name) → lowest_places (left region busy) wants ≡ Err (NoPlace name)
+place_stops region busy wants name all fault = stops_at (left region busy) wants name (left_are_holes region busy) all fault.because
 
 -- ---- what places are
 
-one_each : (holes : List Range) (wishes : List Wish) (starts : List ℕ) → InTurn Lowest holes wishes starts → length starts ≡ length wishes
+one_each : (holes : List Range) (wants : List Want) (starts : List ℕ) → InTurn Lowest holes wants starts → length starts ≡ length wants
 one_each holes [] [] placed = refl
 one_each holes [] (start ∷ starts) placed = absurd placed
-one_each holes (wish ∷ wishes) [] placed = absurd placed
-one_each holes (wish ∷ wishes) (start ∷ starts) placed = let rest = one_each (without (range_of wish start) holes) wishes starts placed.1 in omega (arith, rest)
+one_each holes (want ∷ wants) [] placed = absurd placed
+one_each holes (want ∷ wants) (start ∷ starts) placed = let rest = one_each (without (range_of want start) holes) wants starts placed.1 in omega (arith, rest)
 
-pub places_free : (busy : List Range) (wishes : List Wish) (starts : List ℕ) → ArePlaced Lowest (left region busy) wishes starts → IsFree busy wishes starts
-places_free busy wishes starts placed = record {
-  one_each = one_each (left region busy) wishes starts placed.in_turn;
-  free = fit_free region busy wishes starts (all_fit Lowest (left region busy) wishes starts placed);
-  apart = all_apart Lowest (left region busy) wishes starts placed;
+pub places_free : (busy : List Range) (wants : List Want) (starts : List ℕ) → ArePlaced Lowest (left region busy) wants starts → IsFree busy wants starts
+places_free busy wants starts placed = record {
+  one_each = one_each (left region busy) wants starts placed.in_turn;
+  free = fit_free region busy wants starts (all_fit Lowest (left region busy) wants starts placed);
+  apart = all_apart Lowest (left region busy) wants starts placed;
 }
 
 -- why there are none, as the load's fault
-pub fault_is : (busy : List Range) (wishes : List Wish) (fault : PlaceFault) → All IsWish wishes → IsFault Lowest (left region busy) wishes fault → Answers is_memory (Err (of_place fault)) (lowest_places (left region busy) wishes)
-fault_is busy wishes (place.NoPlace name) all is = place_stops region busy wishes name all is
-fault_is busy wishes place.NoMemory all is = tt
+pub fault_is : (busy : List Range) (wants : List Want) (fault : PlaceFault) → All IsWant wants → IsFault Lowest (left region busy) wants fault → Answers is_memory (Err (of_place fault)) (lowest_places (left region busy) wants)
+fault_is busy wants (place.NoPlace name) all is = place_stops region busy wants name all is
+fault_is busy wants place.NoMemory all is = tt

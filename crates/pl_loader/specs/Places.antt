@@ -11,7 +11,7 @@ use Rattle.pl_object.specs.declared.object.Object.{Object}
 use Rattle.pl_slots.specs.Holes.{without, lowest}
 use Rattle.pl_place.specs.Left.{left}
 use Rattle.pl_place.specs.Placing.{range_of, AllFree, AreApart}
-use Rattle.pl_place.specs.declared.wish.Wish.{Wish}
+use Rattle.pl_slots.specs.declared.slot.Want.{Want}
 use Rattle.pl_loader.specs.declared.constants.TheConstants.{REGION_START, REGION_END}
 use Rattle.pl_loader.specs.declared.object_file.ObjectFile.{ObjectFile}
 use Rattle.pl_loader.specs.declared.fault.LoadFault.{LoadFault}
@@ -30,21 +30,21 @@ unfoldable pub taken : Object → List Range
 taken program = map load_range (loads program.segments)
 
 -- the addresses that a library wants
-abbrev pub wish_of : ObjectFile → Wish
-wish_of f = record { name = f.name; span = f.object.span; align = f.object.align }
+abbrev pub want_of : ObjectFile → Want
+want_of f = record { name = f.name; span = f.object.span; align = f.object.align }
 
--- each wish in turn at the lowest aligned address of the first hole that holds it, beside those before it
-unfoldable pub lowest_places : List Range → List Wish → Result (List ℕ) LoadFault
+-- each want in turn at the lowest aligned address of the first hole that holds it, beside those before it
+unfoldable pub lowest_places : List Range → List Want → Result (List ℕ) LoadFault
 lowest_places holes [] = Ok []
-lowest_places holes (wish ∷ wishes) =
-    ok_or (lowest wish.span wish.align holes) (NoPlace wish.name)
-    >>= λ start. lowest_places (without (range_of wish start) holes) wishes >>= λ starts. Ok (start ∷ starts)
+lowest_places holes (want ∷ wants) =
+    ok_or (lowest want.span want.align holes) (NoPlace want.name)
+    >>= λ start. lowest_places (without (range_of want start) holes) wants >>= λ starts. Ok (start ∷ starts)
 
 -- the load address of each object: a program's is 0, which stands first, and libraries are placed beside it
 unfoldable pub places : List ObjectFile → Result (List ℕ) LoadFault
 places [] = Ok []
 places (program ∷ libraries) =
-    lowest_places (left region (taken program.object)) (map wish_of libraries) >>= λ starts. Ok (0 ∷ starts)
+    lowest_places (left region (taken program.object)) (map want_of libraries) >>= λ starts. Ok (0 ∷ starts)
 
 -- ---- what places are
 
@@ -53,8 +53,8 @@ pub record IsAt (f : ObjectFile) (place : ℕ) : Type 0 where
   pub low : place ≤ ADDRESS_LIMIT
   pub ends : All (λ s. place + (s.vaddr + s.memsz) ≤ ADDRESS_LIMIT) (loads f.object.segments)
 
--- wishes have one place each, in the region and in no busy range, and no address in common
-pub record IsFree (busy : List Range) (wishes : List Wish) (starts : List ℕ) : Type 0 where
-  pub one_each : length starts ≡ length wishes
-  pub free : AllFree region busy wishes starts
-  pub apart : AreApart wishes starts
+-- wants have one place each, in the region and in no busy range, and no address in common
+pub record IsFree (busy : List Range) (wants : List Want) (starts : List ℕ) : Type 0 where
+  pub one_each : length starts ≡ length wants
+  pub free : AllFree region busy wants starts
+  pub apart : AreApart wants starts

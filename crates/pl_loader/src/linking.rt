@@ -1,5 +1,5 @@
 // The memory of the objects, and why there is none.
-ghost use Rattle.std.specs.Prelude.{◌≡◌, ◌≤◌, length, slice_get, Ok, Err, IfOk, IfErr};
+ghost use Rattle.std.specs.Prelude.{◌≡◌, ◌≤◌, length, map, slice_get, Ok, Err, IfOk, IfErr};
 ghost use Rattle.pl_base.specs.Answers.{Answers};
 ghost use Rattle.pl_scope.specs.declared.constants.TheConstants.{MAX_MEMBERS};
 ghost use Rattle.pl_scope.specs.Scope.{objects};
@@ -19,9 +19,10 @@ use pl_tls::Module;
 use pl_value::{LinkFault, OrdinaryFault, Places, ordinary};
 use std::alloc::{AllocError, Global};
 
-/// The scope of the files' objects.
+/// The scope of the files' objects, each by the name of its file.
 fn scope<'a>(alloc: Global, files: &'a [ObjectFile]) -> Result<Scope<'a>, AllocError>
-    ensures { IfOk result (λ scope. objects scope.members.items ≡ objects_of files.now) }
+    ensures objects { IfOk result (λ scope. objects scope.members.items ≡ objects_of files.now) }
+    ensures names { IfOk result (λ scope. map (λ member. member.name) scope.members.items ≡ map (λ file. file.name) files.now) }
 {
     let mut members = Vec::new(alloc);
     for file in files {

@@ -5,7 +5,7 @@ ghost use Rattle.pl_base.specs.Answers.{Answers};
 ghost use Rattle.pl_elf.specs.Headers.{loads};
 ghost use Rattle.pl_elf.specs.declared.constants.TheConstants.{ADDRESS_LIMIT};
 ghost use Rattle.pl_place.specs.Left.{left};
-ghost use Rattle.pl_place.specs.Placing.{IsWish};
+ghost use Rattle.pl_place.specs.Placing.{IsWant};
 ghost use Rattle.pl_value.specs.Ordinary.{ArePlaced};
 ghost use Rattle.pl_loader.specs.Faults.{is_memory};
 ghost use Rattle.pl_loader.specs.Loading.{AreFiles, objects_of, parts_of};
@@ -15,7 +15,8 @@ use crate::{LoadFault, ObjectFile, REGION_END, REGION_START};
 use pl_base::{Rows, Text};
 use pl_elf::{Range, Segment, loads};
 use pl_object::Object;
-use pl_place::{Wish, place_lowest};
+use pl_place::place_lowest;
+use pl_slots::Want;
 use std::alloc::{AllocError, Global};
 
 /// The region in which libraries are placed.
@@ -53,34 +54,34 @@ fn taken(alloc: Global, program: &Object) -> Result<Vec<Range>, AllocError>
 }
 
 /// The addresses that a library wants.
-fn wish_of(alloc: Global, file: &ObjectFile) -> Result<Wish, AllocError>
-    ensures { IfOk result (λ wish. wish ≡ spec.wish_of file.now) }
+fn want_of(alloc: Global, file: &ObjectFile) -> Result<Want, AllocError>
+    ensures { IfOk result (λ want. want ≡ spec.want_of file.now) }
 {
-    Ok(Wish {
+    Ok(Want {
         name: Text::copy_of(alloc, file.name.as_str())?,
         span: file.object.span,
         align: file.object.align,
     })
 }
 
-fn wishes_of(alloc: Global, libraries: &[ObjectFile]) -> Result<Vec<Wish>, AllocError>
-    ensures { IfOk result (λ wishes. wishes.items ≡ map spec.wish_of libraries.now) }
+fn wants_of(alloc: Global, libraries: &[ObjectFile]) -> Result<Vec<Want>, AllocError>
+    ensures { IfOk result (λ wants. wants.items ≡ map spec.want_of libraries.now) }
 {
-    let mut wishes = Vec::new(alloc);
+    let mut wants = Vec::new(alloc);
     for library in libraries {
-        wishes.push(wish_of(alloc, library)?)?;
+        wants.push(want_of(alloc, library)?)?;
     }
-    Ok(wishes)
+    Ok(wants)
 }
 
-/// The lowest places of wishes in the region beside busy ranges.
-fn lowest_places(alloc: Global, wishes: &[Wish], busy: &[Range]) -> Result<Vec<u64>, LoadFault>
-    requires { All IsWish wishes.now }
-    ensures ok { IfOk result (λ starts. spec.lowest_places (left spec.region busy.now) wishes.now ≡ Ok starts.items) }
-    ensures err { IfErr result (λ fault. Answers is_memory (Err fault) (spec.lowest_places (left spec.region busy.now) wishes.now)) }
-    ensures free { IfOk result (λ starts. spec.IsFree busy.now wishes.now starts.items) }
+/// The lowest places of wants in the region beside busy ranges.
+fn lowest_places(alloc: Global, wants: &[Want], busy: &[Range]) -> Result<Vec<u64>, LoadFault>
+    requires { All IsWant wants.now }
+    ensures ok { IfOk result (λ starts. spec.lowest_places (left spec.region busy.now) wants.now ≡ Ok starts.items) }
+    ensures err { IfErr result (λ fault. Answers is_memory (Err fault) (spec.lowest_places (left spec.region busy.now) wants.now)) }
+    ensures free { IfOk result (λ starts. spec.IsFree busy.now wants.now starts.items) }
 {
-    Ok(place_lowest(alloc, wishes, busy, region())?)
+    Ok(place_lowest(alloc, wants, busy, region())?)
 }
 
 /// The places of libraries beside a program.
@@ -90,14 +91,14 @@ fn library_places(
     libraries: &[ObjectFile],
 ) -> Result<Vec<u64>, LoadFault>
     requires fits { All (λ s. s.vaddr + s.memsz ≤ ADDRESS_LIMIT) (loads program.now.segments) }
-    requires wishes { All IsWish (map spec.wish_of libraries.now) }
-    ensures ok { IfOk result (λ starts. spec.lowest_places (left spec.region (spec.taken program.now)) (map spec.wish_of libraries.now) ≡ Ok starts.items) }
-    ensures err { IfErr result (λ fault. Answers is_memory (Err fault) (spec.lowest_places (left spec.region (spec.taken program.now)) (map spec.wish_of libraries.now))) }
-    ensures free { IfOk result (λ starts. spec.IsFree (spec.taken program.now) (map spec.wish_of libraries.now) starts.items) }
+    requires wants { All IsWant (map spec.want_of libraries.now) }
+    ensures ok { IfOk result (λ starts. spec.lowest_places (left spec.region (spec.taken program.now)) (map spec.want_of libraries.now) ≡ Ok starts.items) }
+    ensures err { IfErr result (λ fault. Answers is_memory (Err fault) (spec.lowest_places (left spec.region (spec.taken program.now)) (map spec.want_of libraries.now))) }
+    ensures free { IfOk result (λ starts. spec.IsFree (spec.taken program.now) (map spec.want_of libraries.now) starts.items) }
 {
     let taken = taken(alloc, program)?;
-    let wishes = wishes_of(alloc, libraries)?;
-    lowest_places(alloc, &wishes, &taken)
+    let wants = wants_of(alloc, libraries)?;
+    lowest_places(alloc, &wants, &taken)
 }
 
 /// The place of each object: 0 for the first, which is the program, and the lowest aligned addresses of the region beside it for libraries.

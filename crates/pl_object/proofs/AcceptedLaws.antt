@@ -26,7 +26,7 @@ use Rattle.pl_object.specs.Names.{strings, needed, symbols, versions, versioned}
 use Rattle.pl_object.specs.SymbolClauses.{has_ifunc, check_symbols}
 use Rattle.pl_object.specs.TableClauses.{check_tables}
 use Rattle.pl_object.specs.PlaceClauses.{is_bad, first_bad, reloc_outside, reloc_overlap, reloc_in_tables, spots, odd_addend, misplaced_copy, check_places, check_relocs}
-use Rattle.pl_object.specs.Reads.{reads, headers, parts, static_program, static_object, dynamic as table, linked, linking, layout, check, checked, check_rest, too_large, is_pie, object}
+use Rattle.pl_object.specs.Reads.{reads, headers, parts, static_program, static_object, dynamic as table, dynamic_object, linking, layout, check, checked, check_rest, too_large, is_pie, object}
 use Rattle.pl_object.specs.Accepted.{Accepted, window_of}
 use Rattle.pl_object.specs.Refusals.{is_memory, of_header, of_dynamic, of_symbols}
 use Rattle.pl_object.specs.declared.headers.Headers.{Headers}
@@ -124,9 +124,9 @@ few_symbols bytes f tags l e =
 
 -- ---- the whole
 
-accepted_linked : (bytes : List ℕ) (h : Header) (d : Dynamic) (o : Object) → elf.read bytes ≡ Ok h → elf.is_static bytes h ≡ false → AreLoads (loads (segments bytes h)) → linked bytes (headers bytes h) d ≡ Ok o → Accepted bytes o
-unfolding headers linked checked check layout object
-accepted_linked bytes h d o read dynamic loads e =
+accepted_dynamic_object : (bytes : List ℕ) (h : Header) (d : Dynamic) (o : Object) → elf.read bytes ≡ Ok h → elf.is_static bytes h ≡ false → AreLoads (loads (segments bytes h)) → dynamic_object bytes (headers bytes h) d ≡ Ok o → Accepted bytes o
+unfolding headers dynamic_object checked check layout object
+accepted_dynamic_object bytes h d o read dynamic loads e =
     let f = headers bytes h in
     let t = bind_ok (check_tables h f.segments f.sections d.tags) _ o e in
     let l = bind_ok (linking bytes f d.tags) _ o t.2 in
@@ -174,8 +174,8 @@ accepted_parts bytes h o read loads e =
     elim (cases_Bool (elf.is_static bytes h)) [
       | inl static ↦ accepted_static bytes h o read loads (rw static at e)
       | inr dynamic ↦
-          let d = bind_ok (because of_dynamic (table bytes (segments bytes h))) (linked bytes (headers bytes h)) o (rw dynamic at e) in
-          accepted_linked bytes h d.0 o read dynamic loads d.2
+          let d = bind_ok (because of_dynamic (table bytes (segments bytes h))) (dynamic_object bytes (headers bytes h)) o (rw dynamic at e) in
+          accepted_dynamic_object bytes h d.0 o read dynamic loads d.2
     ]
 
 pub accepted : (bytes : List ℕ) (o : Object) → reads bytes ≡ Ok o → Accepted bytes o

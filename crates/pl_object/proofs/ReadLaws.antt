@@ -8,7 +8,7 @@ use Rattle.pl_dyn.specs.declared.tags.Tag.{Tag}
 use Rattle.pl_dyn.specs.declared.dynamic.Dynamic.{Dynamic}
 use Rattle.pl_object.specs.Tables.{link_windows, static_windows}
 use Rattle.pl_object.specs.TableClauses.{check_tables}
-use Rattle.pl_object.specs.Reads.{IsRead, headers, layout, linking, checked, linked}
+use Rattle.pl_object.specs.Reads.{IsRead, headers, layout, linking, checked, dynamic_object}
 use Rattle.pl_object.specs.declared.headers.Headers.{Headers}
 use Rattle.pl_object.specs.declared.layout.Layout.{Layout}
 use Rattle.pl_object.specs.declared.linking.Linking.{Linking}
@@ -30,7 +30,7 @@ static_fits bytes f few read =
     rw same_sections (windows_fit (length bytes) _ few (static_windows_in bytes f.header read.accepted))
 
 -- the clauses from 12 on, as far as they have come
-pub linked_is : (bytes : List ℕ) (f : Headers) (d : Dynamic) (u : Unit {0}) (l : Linking) (places : Layout) → check_tables f.header f.segments f.sections d.tags ≡ Ok u → linking bytes f d.tags ≡ Ok l → places ≡ layout bytes f d.tags l
-    → linked bytes f d ≡ checked bytes f d l places
-unfolding linked
-linked_is bytes f d u l places tables names is = rw (tables, names, is) refl
+pub dynamic_object_is : (bytes : List ℕ) (f : Headers) (d : Dynamic) (u : Unit {0}) (l : Linking) (places : Layout) → check_tables f.header f.segments f.sections d.tags ≡ Ok u → linking bytes f d.tags ≡ Ok l → places ≡ layout bytes f d.tags l
+    → dynamic_object bytes f d ≡ checked bytes f d l places
+unfolding dynamic_object
+dynamic_object_is bytes f d u l places tables names is = rw (tables, names, is) refl

@@ -26,7 +26,7 @@ use Rattle.pl_object.specs.TableClauses.{check_tables}
 use Rattle.pl_object.specs.Names as names
 use Rattle.pl_object.specs.SymbolClauses.{check_symbols}
 use Rattle.pl_object.specs.PlaceClauses.{check_places, check_relocs}
-use Rattle.pl_object.specs.Reads.{dynamic, check_rest, linking, check, checked, linked, static_program, parts, headers, layout, reads}
+use Rattle.pl_object.specs.Reads.{dynamic, check_rest, linking, check, checked, dynamic_object, static_program, parts, headers, layout, reads}
 use Rattle.pl_object.specs.declared.headers.Headers.{Headers}
 use Rattle.pl_object.specs.declared.linking.Linking.{Linking}
 use Rattle.pl_object.specs.declared.layout.Layout.{Layout}
@@ -159,16 +159,16 @@ check_tells : (bytes : List ℕ) (f : Headers) (tags : List Tag) (l : Linking) (
 unfolding check check_symbols check_relocs check_places check_rest
 check_tells bytes f tags l places = search (rules, unless_tells, found_tells, either_tells, ok_tells, err_tells, then_tells)
 
-linked_tells : (bytes : List ℕ) (f : Headers) (d : Dynamic) → Tells is_memory (linked bytes f d)
-unfolding linked checked
-linked_tells bytes f d =
+dynamic_object_tells : (bytes : List ℕ) (f : Headers) (d : Dynamic) → Tells is_memory (dynamic_object bytes f d)
+unfolding dynamic_object checked
+dynamic_object_tells bytes f d =
     then_tells is_memory _ _ (tables_tell f d.tags) (λ u. then_tells is_memory _ _ (linking_tells bytes f d.tags)
     (λ l. then_tells is_memory _ _ (check_tells bytes f d.tags l (layout bytes f d.tags l)) (λ v. ok_tells is_memory _)))
 
 parts_tell : (bytes : List ℕ) (f : Headers) → Tells is_memory (parts bytes f)
 unfolding parts static_program
 parts_tell bytes f = either_tells is_memory (elf.is_static bytes f.header) _ _ (unless_tells is_memory _ _ _ refl (ok_tells is_memory _))
-    (then_tells is_memory _ _ (because_tells dyn.is_memory is_memory of_dynamic _ of_dynamic_tells (dynamic_tells bytes f.segments)) (λ d. linked_tells bytes f d))
+    (then_tells is_memory _ _ (because_tells dyn.is_memory is_memory of_dynamic _ of_dynamic_tells (dynamic_tells bytes f.segments)) (λ d. dynamic_object_tells bytes f d))
 
 pub reads_tells : (bytes : List ℕ) → Tells is_memory (reads bytes)
 unfolding reads

@@ -167,8 +167,8 @@ unfoldable pub checked : List ℕ → Headers → Dynamic → Linking → Layout
 checked bytes f d l places = check bytes f d.tags l places >>= λ _. Ok (object f d l places)
 
 -- 12 to 31: a program or library by its dynamic table
-unfoldable pub linked : List ℕ → Headers → Dynamic → Result Object Refusal
-linked bytes f d = do
+unfoldable pub dynamic_object : List ℕ → Headers → Dynamic → Result Object Refusal
+dynamic_object bytes f d = do
   _ ← check_tables f.header f.segments f.sections d.tags
   l ← linking bytes f d.tags
   checked bytes f d l (layout bytes f d.tags l)
@@ -179,7 +179,7 @@ static_program bytes f = refuse ((too_large bytes, Clause 30 0) ∷ []) (Ok (sta
 
 -- 9 to 31
 unfoldable pub parts : List ℕ → Headers → Result Object Refusal
-parts bytes f = if elf.is_static bytes f.header then static_program bytes f else (because of_dynamic (dynamic bytes f.segments) >>= linked bytes f)
+parts bytes f = if elf.is_static bytes f.header then static_program bytes f else (because of_dynamic (dynamic bytes f.segments) >>= dynamic_object bytes f)
 
 unfoldable pub headers : List ℕ → Header → Headers
 headers bytes h = record { header = h; segments = segments bytes h; sections = sections bytes h }

@@ -278,8 +278,8 @@ fn checked(
 }
 
 /// A program or library by its dynamic table: clauses 12 to 31.
-#[tactic(auto, using(crate::proofs::ReadLaws::layout_fits), unfolding(crate::specs::Reads::linked))]
-fn linked(
+#[tactic(auto, using(crate::proofs::ReadLaws::layout_fits), unfolding(crate::specs::Reads::dynamic_object))]
+fn dynamic_object(
     alloc: Global,
     bytes: &[u8],
     headers: Headers,
@@ -288,7 +288,7 @@ fn linked(
     requires few { length bytes.now < 2 ^ 32 }
     requires read { spec.IsRead bytes.now headers }
     requires dynamic { elf.is_static bytes.now headers.header ≡ false }
-    ensures { Answers is_memory result (spec.linked bytes.now headers dynamic.now) }
+    ensures { Answers is_memory result (spec.dynamic_object bytes.now headers dynamic.now) }
 {
     check_tables(
         alloc,
@@ -326,7 +326,7 @@ fn parts(alloc: Global, bytes: &[u8], headers: Headers) -> Result<Object, Refusa
         return static_program(alloc, bytes, headers);
     }
     let dynamic = dynamic(alloc, bytes, headers.segments.as_slice())?;
-    linked(alloc, bytes, headers, &dynamic)
+    dynamic_object(alloc, bytes, headers, &dynamic)
 }
 
 #[tactic(auto, unfolding(crate::specs::Reads::headers))]

@@ -9,8 +9,8 @@ ghost use Rattle.pl_object.specs.Twins as spec;
 
 use pl_hash::gnu_hash;
 use pl_sym::{Class, Symbol, is_definer};
-use pl_ver::constants::{VER_NDX_GLOBAL, VERSYM_HIDDEN};
-use pl_ver::{Versions, version_of};
+use pl_ver::constants::VER_NDX_GLOBAL;
+use pl_ver::{Versions, index_of, version_of};
 use std::alloc::{AllocError, Global};
 
 /// The index of a symbol with the hash of its name.
@@ -71,7 +71,7 @@ fn sort_entries(entries: &mut [Entry])
 fn is_plain(symbol: &Symbol) -> bool
     ensures { result ≡ clauses.is_plain symbol.now }
 {
-    symbol.version % VERSYM_HIDDEN <= VER_NDX_GLOBAL
+    index_of(symbol.version) <= VER_NDX_GLOBAL
 }
 
 /// The name of the version that a version word of an object stands for. None where the object has no version words, or none of that index.

@@ -1,4 +1,4 @@
--- Places in turn: one wish more, and what all places are.
+-- Places in turn: one want more, and what all places are.
 use Rattle.std.proofs.Common.{◌≡◌, ℕ, ◌+◌, ◌≤◌, ◌<◌, Bool, true, false, ◌&&◌, not, List, [], ◌∷◌, ◌++◌, Option, Some, None, refl, sym, ◌∙◌, ap, subst, arith, length, drop, get_or, cond, append_assoc, append-nil, inl, inr}
 use Rattle.std.specs.Prelude.{nat_le, nat_lt, min, max, Result, Ok, Err, IfErr, IfSome}
 use Rattle.std.proofs.lemmas.Bool.{cases_Bool, leb-true, le-leb, lt-ltb, ltb-true, and_parts, and_from, or_cases, or_left, or_right, false_from_ne_true, false≢true}
@@ -8,7 +8,7 @@ use Rattle.std.specs.Borrow.{Bor}
 use Rattle.pl_elf.specs.declared.range.Range.{Range}
 use Rattle.pl_slots.specs.Holes.{hole, cut, without, is_in, is_free, fits_at, IsLowest}
 use Rattle.pl_slots.proofs.HoleLaws.{free_without}
-use Rattle.pl_place.specs.declared.wish.Wish.{Wish}
+use Rattle.pl_slots.specs.declared.slot.Want.{Want}
 use Rattle.pl_place.specs.declared.fault.PlaceFault.{PlaceFault}
 use Rattle.pl_place.specs.declared.fault.PlaceFault.TheVariants.{NoPlace, NoMemory}
 use Rattle.pl_place.specs.Policy.{Answering}
@@ -16,38 +16,38 @@ use Rattle.pl_place.specs.Left.{beside, left}
 use Rattle.pl_place.specs.Placing.{Chose, range_of, InTurn, ArePlaced, StopsAt, AllFit, AllFree, MissesAll, AreApart, Because, IsFault, Lowest}
 use Rattle.pl_place.proofs.LeftLaws.{beside_some, free_left}
 
--- ---- one wish more
+-- ---- one want more
 
--- some first wishes have their places: what comes of the others, comes of all
-pub record IsSoFar (post : Answering) (free : List Range) (wishes : List Wish) (holes : List Range) (rest : List Wish) (starts : List ℕ) : Type 0 where
-  pub places : (more : List ℕ) → InTurn post holes rest more → InTurn post free wishes (starts ++ more)
-  pub stops : (name : List ℕ) → StopsAt post holes rest name → StopsAt post free wishes name
+-- some first wants have their places: what comes of the others, comes of all
+pub record IsSoFar (post : Answering) (free : List Range) (wants : List Want) (holes : List Range) (rest : List Want) (starts : List ℕ) : Type 0 where
+  pub places : (more : List ℕ) → InTurn post holes rest more → InTurn post free wants (starts ++ more)
+  pub stops : (name : List ℕ) → StopsAt post holes rest name → StopsAt post free wants name
 
--- the wish at i, as a loop reads it
-at_wish : (wishes : List Wish) (i : ℕ) (wish : Wish) → i < length wishes → wish ≡ get_or wishes i wish → drop i wishes ≡ wish ∷ drop (i + 1) wishes
-at_wish wishes i wish lt is = at_drop_more (λ (xs : List Wish). xs) wishes i wish lt ∙ rw (← is) refl
+-- the want at i, as a loop reads it
+at_want : (wants : List Want) (i : ℕ) (want : Want) → i < length wants → want ≡ get_or wants i want → drop i wants ≡ want ∷ drop (i + 1) wants
+at_want wants i want lt is = at_drop_more (λ (xs : List Want). xs) wants i want lt ∙ rw (← is) refl
 
-pub so_far_more : (post : Answering) (free : List Range) (wishes : List Wish) (holes : List Range) (i : ℕ) (wish : Wish) (range : Range) (starts : List ℕ)
-    → i < length wishes → wish ≡ get_or wishes i wish → range ≡ range_of wish range.start → range.start < range.end → Chose post holes wish (Some range.start)
-    → IsSoFar post free wishes holes (drop i wishes) starts → IsSoFar post free wishes (beside holes range) (drop (i + 1) wishes) (starts ++ range.start ∷ [])
-so_far_more post free wishes holes i wish range starts lt is at some chose so_far =
-    let here : IsSoFar post free wishes holes (wish ∷ drop (i + 1) wishes) starts = subst (λ rest. IsSoFar post free wishes holes rest starts) (at_wish wishes i wish lt is) so_far in
-    let left : beside holes range ≡ without (range_of wish range.start) holes = beside_some holes range some ∙ ap (λ r. without r holes) at in
-    subst (λ holes. IsSoFar post free wishes holes (drop (i + 1) wishes) (starts ++ range.start ∷ [])) (sym left) (record {
+pub so_far_more : (post : Answering) (free : List Range) (wants : List Want) (holes : List Range) (i : ℕ) (want : Want) (range : Range) (starts : List ℕ)
+    → i < length wants → want ≡ get_or wants i want → range ≡ range_of want range.start → range.start < range.end → Chose post holes want (Some range.start)
+    → IsSoFar post free wants holes (drop i wants) starts → IsSoFar post free wants (beside holes range) (drop (i + 1) wants) (starts ++ range.start ∷ [])
+so_far_more post free wants holes i want range starts lt is at some chose so_far =
+    let here : IsSoFar post free wants holes (want ∷ drop (i + 1) wants) starts = subst (λ rest. IsSoFar post free wants holes rest starts) (at_want wants i want lt is) so_far in
+    let left : beside holes range ≡ without (range_of want range.start) holes = beside_some holes range some ∙ ap (λ r. without r holes) at in
+    subst (λ holes. IsSoFar post free wants holes (drop (i + 1) wants) (starts ++ range.start ∷ [])) (sym left) (record {
       places = λ more p. rw append_assoc (here.places (range.start ∷ more) (chose, p));
       stops = λ name p. here.stops name (inr (range.start, chose, p));
     })
 
-pub so_far_stops : (post : Answering) (free : List Range) (wishes : List Wish) (holes : List Range) (i : ℕ) (wish : Wish) (starts : List ℕ)
-    → i < length wishes → wish ≡ get_or wishes i wish → Chose post holes wish None → IsSoFar post free wishes holes (drop i wishes) starts → StopsAt post free wishes wish.name
-so_far_stops post free wishes holes i wish starts lt is chose so_far =
-    let here : IsSoFar post free wishes holes (wish ∷ drop (i + 1) wishes) starts = subst (λ rest. IsSoFar post free wishes holes rest starts) (at_wish wishes i wish lt is) so_far in
-    here.stops wish.name (inl (refl, chose))
+pub so_far_stops : (post : Answering) (free : List Range) (wants : List Want) (holes : List Range) (i : ℕ) (want : Want) (starts : List ℕ)
+    → i < length wants → want ≡ get_or wants i want → Chose post holes want None → IsSoFar post free wants holes (drop i wants) starts → StopsAt post free wants want.name
+so_far_stops post free wants holes i want starts lt is chose so_far =
+    let here : IsSoFar post free wants holes (want ∷ drop (i + 1) wants) starts = subst (λ rest. IsSoFar post free wants holes rest starts) (at_want wants i want lt is) so_far in
+    here.stops want.name (inl (refl, chose))
 
-pub so_far_ends : (post : Answering) (free : List Range) (wishes : List Wish) (holes : List Range) (i : ℕ) (starts : List ℕ) → length wishes ≤ i → IsSoFar post free wishes holes (drop i wishes) starts → ArePlaced post free wishes starts
-so_far_ends post free wishes holes i starts le so_far =
-    let here : IsSoFar post free wishes holes [] starts = subst (λ rest. IsSoFar post free wishes holes rest starts) (at_drop_all (λ (xs : List Wish). xs) wishes i le) so_far in
-    record { in_turn = subst (InTurn post free wishes) (append-nil starts) (here.places [] tt) }
+pub so_far_ends : (post : Answering) (free : List Range) (wants : List Want) (holes : List Range) (i : ℕ) (starts : List ℕ) → length wants ≤ i → IsSoFar post free wants holes (drop i wants) starts → ArePlaced post free wants starts
+so_far_ends post free wants holes i starts le so_far =
+    let here : IsSoFar post free wants holes [] starts = subst (λ rest. IsSoFar post free wants holes rest starts) (at_drop_all (λ (xs : List Want). xs) wants i le) so_far in
+    record { in_turn = subst (InTurn post free wants) (append-nil starts) (here.places [] tt) }
 
 -- ---- what fits beside a range that is taken
 
@@ -88,22 +88,22 @@ fits_wider span start taken (free ∷ holes) fits =
       | inr later ↦ or_right (nat_le free.start start && nat_le (start + span) free.end) (fits_at holes span start) (fits_wider span start taken holes later)
     ]
 
-all_wider : (taken : Range) (holes : List Range) (wishes : List Wish) (starts : List ℕ) → AllFit (without taken holes) wishes starts → AllFit holes wishes starts
+all_wider : (taken : Range) (holes : List Range) (wants : List Want) (starts : List ℕ) → AllFit (without taken holes) wants starts → AllFit holes wants starts
 all_wider taken holes [] [] all = tt
-all_wider taken holes (wish ∷ wishes) (start ∷ starts) all = ((all.0.0, fits_wider wish.span start taken holes all.0.1), all_wider taken holes wishes starts all.1)
+all_wider taken holes (want ∷ wants) (start ∷ starts) all = ((all.0.0, fits_wider want.span start taken holes all.0.1), all_wider taken holes wants starts all.1)
 all_wider taken holes [] (start ∷ starts) all = all
-all_wider taken holes (wish ∷ wishes) [] all = all
+all_wider taken holes (want ∷ wants) [] all = all
 
 -- each place fits
-placed_fit : (post : Answering) (holes : List Range) (wishes : List Wish) (starts : List ℕ) → InTurn post holes wishes starts → AllFit holes wishes starts
+placed_fit : (post : Answering) (holes : List Range) (wants : List Want) (starts : List ℕ) → InTurn post holes wants starts → AllFit holes wants starts
 placed_fit post holes [] [] placed = tt
-placed_fit post holes (wish ∷ wishes) (start ∷ starts) placed =
-    (placed.0.1, all_wider (range_of wish start) holes wishes starts (placed_fit post (without (range_of wish start) holes) wishes starts placed.1))
+placed_fit post holes (want ∷ wants) (start ∷ starts) placed =
+    (placed.0.1, all_wider (range_of want start) holes wants starts (placed_fit post (without (range_of want start) holes) wants starts placed.1))
 placed_fit post holes [] (start ∷ starts) placed = placed
-placed_fit post holes (wish ∷ wishes) [] placed = placed
+placed_fit post holes (want ∷ wants) [] placed = placed
 
-pub all_fit : (post : Answering) (holes : List Range) (wishes : List Wish) (starts : List ℕ) → ArePlaced post holes wishes starts → AllFit holes wishes starts
-all_fit post holes wishes starts placed = placed_fit post holes wishes starts placed.in_turn
+pub all_fit : (post : Answering) (holes : List Range) (wants : List Want) (starts : List ℕ) → ArePlaced post holes wants starts → AllFit holes wants starts
+all_fit post holes wants starts placed = placed_fit post holes wants starts placed.in_turn
 
 -- the addresses of what fits are free
 fits_free : (address span start : ℕ) (holes : List Range) → fits_at holes span start ≡ true → is_in address (record { start = start; end = start + span }) ≡ true → is_free address holes ≡ true
@@ -124,69 +124,69 @@ no_both true true is hit = false≢true is
 no_both true false is hit = false≢true hit
 no_both false t is hit = false≢true is
 
-misses : (taken : Range) (holes : List Range) (wishes : List Wish) (starts : List ℕ) → AllFit (without taken holes) wishes starts → MissesAll taken wishes starts
+misses : (taken : Range) (holes : List Range) (wants : List Want) (starts : List ℕ) → AllFit (without taken holes) wants starts → MissesAll taken wants starts
 misses taken holes [] starts all = tt
-misses taken holes (wish ∷ wishes) [] all = tt
-misses taken holes (wish ∷ wishes) (start ∷ starts) all = (
-  λ address hit. false_from_ne_true (is_in address (range_of wish start)) (λ there.
-      no_both (is_free address holes) (is_in address taken) (sym (free_without address taken holes) ∙ fits_free address wish.span start (without taken holes) all.0.1 there) hit),
-  misses taken holes wishes starts all.1,
+misses taken holes (want ∷ wants) [] all = tt
+misses taken holes (want ∷ wants) (start ∷ starts) all = (
+  λ address hit. false_from_ne_true (is_in address (range_of want start)) (λ there.
+      no_both (is_free address holes) (is_in address taken) (sym (free_without address taken holes) ∙ fits_free address want.span start (without taken holes) all.0.1 there) hit),
+  misses taken holes wants starts all.1,
 )
 
 -- what fits beside busy ranges is in the region and in none of them
-pub fit_free : (region : Range) (busy : List Range) (wishes : List Wish) (starts : List ℕ) → AllFit (left region busy) wishes starts → AllFree region busy wishes starts
+pub fit_free : (region : Range) (busy : List Range) (wants : List Want) (starts : List ℕ) → AllFit (left region busy) wants starts → AllFree region busy wants starts
 fit_free region busy [] starts all = tt
-fit_free region busy (wish ∷ wishes) [] all = tt
-fit_free region busy (wish ∷ wishes) (start ∷ starts) all = (
-  λ address within. sym (free_left address region busy) ∙ fits_free address wish.span start (left region busy) all.0.1 within,
-  fit_free region busy wishes starts all.1,
+fit_free region busy (want ∷ wants) [] all = tt
+fit_free region busy (want ∷ wants) (start ∷ starts) all = (
+  λ address within. sym (free_left address region busy) ∙ fits_free address want.span start (left region busy) all.0.1 within,
+  fit_free region busy wants starts all.1,
 )
 
 -- no two places share an address
-placed_apart : (post : Answering) (holes : List Range) (wishes : List Wish) (starts : List ℕ) → InTurn post holes wishes starts → AreApart wishes starts
+placed_apart : (post : Answering) (holes : List Range) (wants : List Want) (starts : List ℕ) → InTurn post holes wants starts → AreApart wants starts
 placed_apart post holes [] starts placed = tt
-placed_apart post holes (wish ∷ wishes) [] placed = tt
-placed_apart post holes (wish ∷ wishes) (start ∷ starts) placed = (
-  misses (range_of wish start) holes wishes starts (placed_fit post (without (range_of wish start) holes) wishes starts placed.1),
-  placed_apart post (without (range_of wish start) holes) wishes starts placed.1,
+placed_apart post holes (want ∷ wants) [] placed = tt
+placed_apart post holes (want ∷ wants) (start ∷ starts) placed = (
+  misses (range_of want start) holes wants starts (placed_fit post (without (range_of want start) holes) wants starts placed.1),
+  placed_apart post (without (range_of want start) holes) wants starts placed.1,
 )
 
-pub all_apart : (post : Answering) (holes : List Range) (wishes : List Wish) (starts : List ℕ) → ArePlaced post holes wishes starts → AreApart wishes starts
-all_apart post holes wishes starts placed = placed_apart post holes wishes starts placed.in_turn
+pub all_apart : (post : Answering) (holes : List Range) (wants : List Want) (starts : List ℕ) → ArePlaced post holes wants starts → AreApart wants starts
+all_apart post holes wants starts placed = placed_apart post holes wants starts placed.in_turn
 
 -- ---- what a policy answers, another may answer that answers as it does
 
 abbrev AnswersAs : Answering → Answering → Type 0
 AnswersAs post other = (at : Bor (List Range)) (span align : ℕ) (answer : Option ℕ) → post at span align answer → other at span align answer
 
-placed_as : (post other : Answering) → AnswersAs post other → (holes : List Range) (wishes : List Wish) (starts : List ℕ) → InTurn post holes wishes starts → InTurn other holes wishes starts
+placed_as : (post other : Answering) → AnswersAs post other → (holes : List Range) (wants : List Want) (starts : List ℕ) → InTurn post holes wants starts → InTurn other holes wants starts
 placed_as post other same holes [] [] placed = tt
 placed_as post other same holes [] (start ∷ starts) placed = placed
-placed_as post other same holes (wish ∷ wishes) [] placed = placed
-placed_as post other same holes (wish ∷ wishes) (start ∷ starts) placed =
+placed_as post other same holes (want ∷ wants) [] placed = placed
+placed_as post other same holes (want ∷ wants) (start ∷ starts) placed =
     let call = placed.0.0 in (
-      ((call.0, call.1, same call.0 wish.span wish.align (Some start) call.2), placed.0.1),
-      placed_as post other same (without (range_of wish start) holes) wishes starts placed.1,
+      ((call.0, call.1, same call.0 want.span want.align (Some start) call.2), placed.0.1),
+      placed_as post other same (without (range_of want start) holes) wants starts placed.1,
     )
 
-stops_as : (post other : Answering) → AnswersAs post other → (holes : List Range) (wishes : List Wish) (name : List ℕ) → StopsAt post holes wishes name → StopsAt other holes wishes name
+stops_as : (post other : Answering) → AnswersAs post other → (holes : List Range) (wants : List Want) (name : List ℕ) → StopsAt post holes wants name → StopsAt other holes wants name
 stops_as post other same holes [] name stops = stops
-stops_as post other same holes (wish ∷ wishes) name (inl here) =
+stops_as post other same holes (want ∷ wants) name (inl here) =
     let call = here.1.0 in
-    inl (here.0, ((call.0, call.1, same call.0 wish.span wish.align None call.2), here.1.1))
-stops_as post other same holes (wish ∷ wishes) name (inr later) =
+    inl (here.0, ((call.0, call.1, same call.0 want.span want.align None call.2), here.1.1))
+stops_as post other same holes (want ∷ wants) name (inr later) =
     let call = later.1.0 in
-    inr (later.0, ((call.0, call.1, same call.0 wish.span wish.align (Some later.0) call.2), later.1.1), stops_as post other same (without (range_of wish later.0) holes) wishes name later.2)
+    inr (later.0, ((call.0, call.1, same call.0 want.span want.align (Some later.0) call.2), later.1.1), stops_as post other same (without (range_of want later.0) holes) wants name later.2)
 
-pub all_as : (post other : Answering) (holes : List Range) (wishes : List Wish) (starts : List ℕ) → ArePlaced post holes wishes starts → AnswersAs post other → ArePlaced other holes wishes starts
-all_as post other holes wishes starts placed same = record { in_turn = placed_as post other same holes wishes starts placed.in_turn }
+pub all_as : (post other : Answering) (holes : List Range) (wants : List Want) (starts : List ℕ) → ArePlaced post holes wants starts → AnswersAs post other → ArePlaced other holes wants starts
+all_as post other holes wants starts placed same = record { in_turn = placed_as post other same holes wants starts placed.in_turn }
 
-because_as : (post other : Answering) → AnswersAs post other → (holes : List Range) (wishes : List Wish) (fault : PlaceFault) → Because post holes wishes fault → Because other holes wishes fault
-because_as post other same holes wishes (NoPlace name) is = stops_as post other same holes wishes name is
-because_as post other same holes wishes NoMemory is = tt
+because_as : (post other : Answering) → AnswersAs post other → (holes : List Range) (wants : List Want) (fault : PlaceFault) → Because post holes wants fault → Because other holes wants fault
+because_as post other same holes wants (NoPlace name) is = stops_as post other same holes wants name is
+because_as post other same holes wants NoMemory is = tt
 
-pub fault_as : (post other : Answering) (holes : List Range) (wishes : List Wish) (fault : PlaceFault) → IsFault post holes wishes fault → AnswersAs post other → IsFault other holes wishes fault
-fault_as post other holes wishes fault is same = record { because = because_as post other same holes wishes fault is.because }
+pub fault_as : (post other : Answering) (holes : List Range) (wants : List Want) (fault : PlaceFault) → IsFault post holes wants fault → AnswersAs post other → IsFault other holes wants fault
+fault_as post other holes wants fault is same = record { because = because_as post other same holes wants fault is.because }
 
 -- an answer of the lowest policy
 pub as_lowest : (at : Bor (List Range)) (span align : ℕ) (answer : Option ℕ) → IfSome answer (IsLowest at.now span align) → Lowest at span align answer

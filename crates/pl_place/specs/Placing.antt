@@ -1,78 +1,78 @@
--- The places of wishes in turn.
+-- The places of wants in turn.
 use Rattle.std.specs.Prelude.{◌≡◌, ℕ, ◌+◌, ◌⊎◌, true, false, not, ◌&&◌, List, [], ◌∷◌, Option, Some, None}
 use Rattle.pl_elf.specs.declared.range.Range.{Range}
 use Rattle.pl_slots.specs.Holes.{without, is_in, is_free, IsPlace, IsLowest}
-use Rattle.pl_place.specs.declared.wish.Wish.{Wish}
+use Rattle.pl_slots.specs.declared.slot.Want.{Want}
 use Rattle.pl_place.specs.declared.fault.PlaceFault.{PlaceFault}
 use Rattle.pl_place.specs.declared.fault.PlaceFault.TheVariants.{NoPlace, NoMemory}
 use Rattle.pl_place.specs.Policy.{Answering, Answered, MayAnswer, IsAsked}
 
--- the policy answered so for a wish in these holes, as it may
-abbrev pub Chose : Answering → List Range → Wish → Option ℕ → Type 0
-Chose post holes wish answer = Answered post holes wish.span wish.align answer × MayAnswer holes wish.span wish.align answer
+-- the policy answered so for a want in these holes, as it may
+abbrev pub Chose : Answering → List Range → Want → Option ℕ → Type 0
+Chose post holes want answer = Answered post holes want.span want.align answer × MayAnswer holes want.span want.align answer
 
--- the addresses of a wish
-abbrev pub range_of : Wish → ℕ → Range
-range_of wish start = record { start = start; end = start + wish.span }
+-- the addresses of a want
+abbrev pub range_of : Want → ℕ → Range
+range_of want start = record { start = start; end = start + want.span }
 
--- each wish in turn is where the policy says in the holes that are left beside those before it
-abbrev pub InTurn : Answering → List Range → List Wish → List ℕ → Type 0
+-- each want in turn is where the policy says in the holes that are left beside those before it
+abbrev pub InTurn : Answering → List Range → List Want → List ℕ → Type 0
 InTurn post holes [] [] = Unit {0}
 InTurn post holes [] (start ∷ starts) = ⊥
-InTurn post holes (wish ∷ wishes) [] = ⊥
-InTurn post holes (wish ∷ wishes) (start ∷ starts) =
-    Chose post holes wish (Some start) × InTurn post (without (range_of wish start) holes) wishes starts
+InTurn post holes (want ∷ wants) [] = ⊥
+InTurn post holes (want ∷ wants) (start ∷ starts) =
+    Chose post holes want (Some start) × InTurn post (without (range_of want start) holes) wants starts
 
-pub record ArePlaced (post : Answering) (holes : List Range) (wishes : List Wish) (starts : List ℕ) : Type 0 where
-  pub in_turn : InTurn post holes wishes starts
+pub record ArePlaced (post : Answering) (holes : List Range) (wants : List Want) (starts : List ℕ) : Type 0 where
+  pub in_turn : InTurn post holes wants starts
 
--- so it was for some first wishes, and for the next one, of this name, nothing fits
-abbrev pub StopsAt : Answering → List Range → List Wish → List ℕ → Type 0
+-- so it was for some first wants, and for the next one, of this name, nothing fits
+abbrev pub StopsAt : Answering → List Range → List Want → List ℕ → Type 0
 StopsAt post holes [] name = ⊥
-StopsAt post holes (wish ∷ wishes) name =
-    ((wish.name ≡ name) × Chose post holes wish None)
-    ⊎ ((start : ℕ) × Chose post holes wish (Some start) × StopsAt post (without (range_of wish start) holes) wishes name)
+StopsAt post holes (want ∷ wants) name =
+    ((want.name ≡ name) × Chose post holes want None)
+    ⊎ ((start : ℕ) × Chose post holes want (Some start) × StopsAt post (without (range_of want start) holes) wants name)
 
--- why wishes have no places
-abbrev pub Because : Answering → List Range → List Wish → PlaceFault → Type 0
-Because post holes wishes (NoPlace name) = StopsAt post holes wishes name
-Because post holes wishes NoMemory = Unit {0}
+-- why wants have no places
+abbrev pub Because : Answering → List Range → List Want → PlaceFault → Type 0
+Because post holes wants (NoPlace name) = StopsAt post holes wants name
+Because post holes wants NoMemory = Unit {0}
 
-pub record IsFault (post : Answering) (holes : List Range) (wishes : List Wish) (fault : PlaceFault) : Type 0 where
-  pub because : Because post holes wishes fault
+pub record IsFault (post : Answering) (holes : List Range) (wants : List Want) (fault : PlaceFault) : Type 0 where
+  pub because : Because post holes wants fault
 
 -- ---- what places are, whatever the policy
 
 -- each place is aligned and lies whole in one of the holes
-abbrev pub AllFit : List Range → List Wish → List ℕ → Type 0
+abbrev pub AllFit : List Range → List Want → List ℕ → Type 0
 AllFit holes [] [] = Unit {0}
 AllFit holes [] (start ∷ starts) = ⊥
-AllFit holes (wish ∷ wishes) [] = ⊥
-AllFit holes (wish ∷ wishes) (start ∷ starts) = IsPlace holes wish.span wish.align start × AllFit holes wishes starts
+AllFit holes (want ∷ wants) [] = ⊥
+AllFit holes (want ∷ wants) (start ∷ starts) = IsPlace holes want.span want.align start × AllFit holes wants starts
 
--- each address of a wish is in the region and in no busy range
-abbrev pub AllFree : Range → List Range → List Wish → List ℕ → Type 0
+-- each address of a want is in the region and in no busy range
+abbrev pub AllFree : Range → List Range → List Want → List ℕ → Type 0
 AllFree region busy [] starts = Unit {0}
-AllFree region busy (wish ∷ wishes) [] = Unit {0}
-AllFree region busy (wish ∷ wishes) (start ∷ starts) =
-    ((address : ℕ) → is_in address (range_of wish start) ≡ true → (is_in address region && not (is_free address busy)) ≡ true)
-    × AllFree region busy wishes starts
+AllFree region busy (want ∷ wants) [] = Unit {0}
+AllFree region busy (want ∷ wants) (start ∷ starts) =
+    ((address : ℕ) → is_in address (range_of want start) ≡ true → (is_in address region && not (is_free address busy)) ≡ true)
+    × AllFree region busy wants starts
 
--- no address of a range is an address of a wish
-abbrev pub MissesAll : Range → List Wish → List ℕ → Type 0
+-- no address of a range is an address of a want
+abbrev pub MissesAll : Range → List Want → List ℕ → Type 0
 MissesAll range [] starts = Unit {0}
-MissesAll range (wish ∷ wishes) [] = Unit {0}
-MissesAll range (wish ∷ wishes) (start ∷ starts) =
-    ((address : ℕ) → is_in address range ≡ true → is_in address (range_of wish start) ≡ false) × MissesAll range wishes starts
+MissesAll range (want ∷ wants) [] = Unit {0}
+MissesAll range (want ∷ wants) (start ∷ starts) =
+    ((address : ℕ) → is_in address range ≡ true → is_in address (range_of want start) ≡ false) × MissesAll range wants starts
 
--- no address is an address of two wishes
-abbrev pub AreApart : List Wish → List ℕ → Type 0
+-- no address is an address of two wants
+abbrev pub AreApart : List Want → List ℕ → Type 0
 AreApart [] starts = Unit {0}
-AreApart (wish ∷ wishes) [] = Unit {0}
-AreApart (wish ∷ wishes) (start ∷ starts) = MissesAll (range_of wish start) wishes starts × AreApart wishes starts
+AreApart (want ∷ wants) [] = Unit {0}
+AreApart (want ∷ wants) (start ∷ starts) = MissesAll (range_of want start) wants starts × AreApart wants starts
 
-abbrev pub IsWish : Wish → Type 0
-IsWish wish = IsAsked wish.span wish.align
+abbrev pub IsWant : Want → Type 0
+IsWant want = IsAsked want.span want.align
 
 -- ---- the policy of the lowest address
 abbrev pub Lowest : Answering

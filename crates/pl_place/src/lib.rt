@@ -7,11 +7,9 @@ mod numbering;
 mod placer;
 mod placing;
 mod policies;
-mod wish;
 
 pub use fault::PlaceFault;
 pub use holes::Holes;
 pub use placer::Placer;
 pub use placing::{place_all, place_lowest};
 pub use policies::{highest, lowest, seeded};
-pub use wish::Wish;

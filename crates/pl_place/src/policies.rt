@@ -1,4 +1,4 @@
-// The policies of the command line.
+// The policies that choose a place.
 ghost use Rattle.std.specs.Prelude.{◌≡◌, IfSome};
 ghost use Rattle.pl_slots.specs.Holes.{IsLowest};
 ghost use Rattle.pl_place.specs.Policy as policy;

@@ -9,7 +9,8 @@ use pl_elf::constants::{R_X86_64_COPY, R_X86_64_JUMP_SLOT};
 use pl_object::{Object, version_name};
 use pl_sym::constants::STV_DEFAULT;
 use pl_sym::{Class, Symbol};
-use pl_ver::constants::{VER_NDX_GLOBAL, VERSYM_HIDDEN};
+use pl_ver::constants::VER_NDX_GLOBAL;
+use pl_ver::index_of;
 
 #[tactic(auto, unfolding(crate::specs::Finds::binds_itself))]
 fn binds_itself(symbol: &Symbol) -> bool
@@ -33,7 +34,7 @@ fn class_of(kind: u32) -> Class
 fn version_wanted<'a>(object: &'a Object, symbol: &Symbol) -> Option<&'a [u8]>
     ensures { option_map (λ name. name.now) result ≡ spec.version_wanted object.now symbol.now }
 {
-    if symbol.version % VERSYM_HIDDEN > VER_NDX_GLOBAL {
+    if index_of(symbol.version) > VER_NDX_GLOBAL {
         version_name(&object.versions, symbol.version)
     } else {
         None

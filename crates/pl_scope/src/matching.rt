@@ -11,6 +11,7 @@ use crate::kinds::is_program;
 use pl_object::{Object, version_name};
 use pl_sym::{Class, Symbol, is_definer};
 use pl_ver::constants::{VER_NDX_GLOBAL, VER_NDX_LOCAL, VERSYM_HIDDEN};
+use pl_ver::index_of;
 
 fn is_same(name: &[u8], other: &[u8]) -> bool
     ensures { result ≡ bytes_eq name.now other.now }
@@ -136,7 +137,7 @@ fn versioned(object: &Object, name: &[u8], class: Class, version: &[u8]) -> Opti
 fn is_at_index(object: &Object, name: &[u8], class: Class, index: u16, symbol: &Symbol) -> bool
     ensures { result ≡ (spec.defines object.now name.now class symbol.now && index_of symbol.now.version == index) }
 {
-    defines(object, name, class, symbol) && symbol.version % VERSYM_HIDDEN == index
+    defines(object, name, class, symbol) && index_of(symbol.version) == index
 }
 
 fn at_index(object: &Object, name: &[u8], class: Class, index: u16) -> Option<usize>

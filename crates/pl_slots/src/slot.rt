@@ -5,7 +5,7 @@ use pl_base::Text;
 use pl_elf::Range;
 use std::alloc::{AllocError, Global};
 
-/// A library that wants a slot.
+/// What a library wants: addresses for a slot, or for a place without one.
 #[derive(Drop)]
 pub struct Want {
     /// The name of its file.

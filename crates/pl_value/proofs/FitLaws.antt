@@ -18,7 +18,7 @@ use Rattle.pl_value.specs.Definers.{Definer, definer, is_weak}
 use Rattle.pl_value.specs.Targets.{added, base_of, address, target}
 use Rattle.pl_value.specs.Copies as copies
 use Rattle.pl_value.specs.Tls as tls
-use Rattle.pl_value.specs.Values.{reference, value}
+use Rattle.pl_value.specs.Values.{reference, value_of}
 use Rattle.pl_value.specs.Meanings.{Row, rows}
 use Rattle.pl_value.specs.Laws.{Fits, is_library_at, WordsFit}
 use Rattle.pl_value.specs.declared.fault.LinkFault.{LinkFault}
@@ -128,8 +128,8 @@ unfolding is_misplaced_copy
 copy_in_program program r is h = (or_parts (not program) (r.symbol == 0) (rw is at h)).0
 
 value_fits : (objects : List Object) (places : List ℕ) (modules : List Module) (member : ℕ) (r : Reloc) (o : Object) (library : Bool) → slice_get objects member ≡ Some o → HasWidth o.symbols r → is_known r.kind ≡ true
-    → ((r.kind == R_X86_64_COPY) ≡ true → library ≡ false) → FitsIfOk library r.width (value objects places modules member r)
-unfolding value
+    → ((r.kind == R_X86_64_COPY) ≡ true → library ≡ false) → FitsIfOk library r.width (value_of objects places modules member r)
+unfolding value_of
 value_fits objects places modules member r o library at wide known copy =
     let eight : (k : ℕ) → (r.kind == k) ≡ true → (k == R_X86_64_NONE) ≡ false → (k == R_X86_64_COPY) ≡ false → r.width ≡ 8 =
     λ k is not_none not_copy. wide ∙ word_width o.symbols r.kind r.symbol k is not_none not_copy in

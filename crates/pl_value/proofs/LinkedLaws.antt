@@ -10,7 +10,7 @@ use Rattle.pl_base.specs.Memory.{Memory, Fill, filled, layered, shown}
 use Rattle.pl_base.proofs.MemoryLaws.{filled-append}
 use Rattle.pl_image.specs.Image.{Image, all_pieces, any_masked, byte_of}
 use Rattle.pl_image.specs.declared.loaded.Loaded.{Loaded}
-use Rattle.pl_value.specs.Linked.{put_of, copy_of, words, copies, worded, linked}
+use Rattle.pl_value.specs.Linked.{put_of, copy_of, words, copies, worded, relocated}
 use Rattle.pl_tls.specs.declared.module.Module.{Module}
 use Rattle.pl_object.specs.declared.object.Object.{Object}
 use Rattle.pl_object.proofs.AcceptedLaws.{because_ok}
@@ -45,7 +45,7 @@ copies_more memory gs i d front new o lt made more so_far = made_more (λ (h : M
 
 -- words and then copies as patches over what is loaded
 pub image_linked : (i : Image) (gs : List Meaning) (a : ℕ) → i.patches ≡ words gs ++ copies (worded (layered (all_pieces i.objects)) gs) gs → byte_of i a ≡ shown_linked i.objects gs a
-unfolding byte_of linked
+unfolding byte_of relocated
 image_linked i gs a is =
     let base : Memory = layered (all_pieces i.objects) in
     let same : filled base i.patches ≡ filled (worded base gs) (copies (worded base gs) gs) = ap (filled base) is ∙ filled-append base (words gs) (copies (worded base gs) gs) in

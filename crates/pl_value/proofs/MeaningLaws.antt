@@ -6,7 +6,7 @@ use Rattle.pl_base.specs.Each.{each}
 use Rattle.pl_base.proofs.AnswerLaws.{bind_ok}
 use Rattle.pl_tls.specs.declared.module.Module.{Module}
 use Rattle.pl_object.specs.declared.object.Object.{Object}
-use Rattle.pl_value.specs.Values.{value}
+use Rattle.pl_value.specs.Values.{value_of}
 use Rattle.pl_value.specs.Meanings.{Row, rows, given, meaning, meanings}
 use Rattle.pl_value.specs.declared.meaning.Meaning.{Meaning}
 use Rattle.pl_value.specs.declared.word.Word.{Word}
@@ -42,13 +42,13 @@ zip_weaker R S (x ∷ xs) (y ∷ ys) step zip = (step x y zip.0, zip_weaker R S 
 
 -- a meaning is that of a row, whose relocation has a value
 pub record IsGiven (objects : List Object) (places : List ℕ) (modules : List Module) (x : Row) (g : Meaning) : Type 0 where
-  pub word : value objects places modules x.member x.reloc ≡ Ok g.word
+  pub word : value_of objects places modules x.member x.reloc ≡ Ok g.word
   pub is : given places x g.word ≡ g
 
 pub meaning_given : (objects : List Object) (places : List ℕ) (modules : List Module) (x : Row) (g : Meaning) → meaning objects places modules x ≡ Ok g → IsGiven objects places modules x g
 unfolding meaning
 meaning_given objects places modules x g e =
-    let p = bind_ok (value objects places modules x.member x.reloc) _ g e in
+    let p = bind_ok (value_of objects places modules x.member x.reloc) _ g e in
     let is : given places x p.0 ≡ g = cc in
     let word : p.0 ≡ g.word = ap (λ (h : Meaning). h.word) is in
     record { word = p.1 ∙ ap (λ (w : Word). Ok w) word; is = ap (given places x) (sym word) ∙ is }

@@ -12,7 +12,7 @@ use Rattle.pl_base.proofs.AnswerLaws.{bind_ok, ok_same}
 use Rattle.pl_object.specs.Accepted.{is_program}
 use Rattle.pl_object.specs.FilePart.{loaded}
 use Rattle.pl_object.specs.PlaceClauses.{is_bad, is_misplaced_copy, misplaced_copy}
-use Rattle.pl_object.specs.Reads.{reads, headers, parts, static_program, static_object, dynamic, linked, linking, layout, check, checked, object, relocations, too_large}
+use Rattle.pl_object.specs.Reads.{reads, headers, parts, static_program, static_object, dynamic, dynamic_object, linking, layout, check, checked, object, relocations, too_large}
 use Rattle.pl_object.specs.Refusals.{of_header, of_dynamic}
 use Rattle.pl_object.specs.Relocations.{width, reloc_at, reloc, relocs}
 use Rattle.pl_object.specs.TableClauses.{check_tables}
@@ -46,9 +46,9 @@ unfolding relocs
 relocs_widths symbols table =
     All-map (HasWidth symbols) (reloc symbols table) (range_with_len 0 (length table / RELA_SIZE)) (λ k d lt. reloc_width symbols table (RELA_SIZE * get_or (range_with_len 0 (length table / RELA_SIZE)) k d))
 
-linked_widths : (bytes : List ℕ) (f : Headers) (d : Dynamic) (o : Object) → linked bytes f d ≡ Ok o → HasWidths o
-unfolding linked checked layout object relocations
-linked_widths bytes f d o e =
+dynamic_object_widths : (bytes : List ℕ) (f : Headers) (d : Dynamic) (o : Object) → dynamic_object bytes f d ≡ Ok o → HasWidths o
+unfolding dynamic_object checked layout object relocations
+dynamic_object_widths bytes f d o e =
     let t = bind_ok (check_tables f.header f.segments f.sections d.tags) _ o e in
     let l = bind_ok (linking bytes f d.tags) _ o t.2 in
     let places = layout bytes f d.tags l.0 in
@@ -75,8 +75,8 @@ widths bytes o e =
     elim (cases_Bool (elf.is_static bytes (headers bytes p.0).header)) [
       | inl static ↦ static_widths bytes (headers bytes p.0) o (rw static at p.2)
       | inr not_static ↦
-          let d = bind_ok (because of_dynamic (dynamic bytes (headers bytes p.0).segments)) (linked bytes (headers bytes p.0)) o (rw not_static at p.2) in
-          linked_widths bytes (headers bytes p.0) d.0 o d.2
+          let d = bind_ok (because of_dynamic (dynamic bytes (headers bytes p.0).segments)) (dynamic_object bytes (headers bytes p.0)) o (rw not_static at p.2) in
+          dynamic_object_widths bytes (headers bytes p.0) d.0 o d.2
     ]
 
 -- ---- rows

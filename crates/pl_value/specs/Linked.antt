@@ -34,5 +34,5 @@ abbrev pub worded : Memory → List Meaning → Memory
 worded memory gs = filled memory (words gs)
 
 -- with the words, and with the copies of bytes as they stand after the words
-unfoldable pub linked : Memory → List Meaning → Memory
-linked memory gs = filled (worded memory gs) (copies (worded memory gs) gs)
+unfoldable pub relocated : Memory → List Meaning → Memory
+relocated memory gs = filled (worded memory gs) (copies (worded memory gs) gs)

@@ -7,7 +7,7 @@ use Rattle.pl_tls.specs.declared.module.Module.{Module}
 use Rattle.pl_object.specs.declared.object.Object.{Object}
 use Rattle.pl_object.specs.declared.reloc.Reloc.{Reloc}
 use Rattle.pl_value.specs.Targets.{base_of}
-use Rattle.pl_value.specs.Values.{value}
+use Rattle.pl_value.specs.Values.{value_of}
 use Rattle.pl_value.specs.declared.fault.LinkFault.{LinkFault}
 use Rattle.pl_value.specs.declared.fault.OrdinaryFault.{OrdinaryFault}
 use Rattle.pl_value.specs.declared.fault.OrdinaryFault.TheVariants.{Link, NoMemory}
@@ -44,7 +44,7 @@ abbrev pub given : List ℕ → Row → Word → Meaning
 given places row word = record { member = row.member; start = plus (base_of places row.member) row.reloc.address; size = row.reloc.width; word = word }
 
 unfoldable pub meaning : List Object → List ℕ → List Module → Row → Result Meaning LinkFault
-meaning objects places modules row = value objects places modules row.member row.reloc >>= λ word. Ok (given places row word)
+meaning objects places modules row = value_of objects places modules row.member row.reloc >>= λ word. Ok (given places row word)
 
 -- what each relocation gives, or the first that has no value
 unfoldable pub meanings : List Object → List ℕ → List Module → Result (List Meaning) LinkFault

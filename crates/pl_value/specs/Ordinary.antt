@@ -9,7 +9,7 @@ use Rattle.pl_image.specs.Loads.{loaded_at, IsPlaced}
 use Rattle.pl_image.specs.declared.loaded.Loaded.{Loaded}
 use Rattle.pl_value.specs.Targets.{base_of}
 use Rattle.pl_value.specs.Meanings.{meanings}
-use Rattle.pl_value.specs.Linked.{linked}
+use Rattle.pl_value.specs.Linked.{relocated}
 use Rattle.pl_value.specs.declared.fault.LinkFault.{LinkFault}
 use Rattle.pl_value.specs.declared.fault.OrdinaryFault.{OrdinaryFault}
 use Rattle.pl_value.specs.declared.fault.OrdinaryFault.TheVariants.{Link, NoMemory}
@@ -38,7 +38,7 @@ pub record ArePlaced (places : List ℕ) (parts : List (List ℕ)) (objects : Li
 
 -- what is shown of objects that are loaded and linked
 abbrev pub shown_linked : List Loaded → List Meaning → Memory
-shown_linked objects gs = shown (layered (all_pieces objects)) (any_masked objects) (linked (layered (all_pieces objects)) gs)
+shown_linked objects gs = shown (layered (all_pieces objects)) (any_masked objects) (relocated (layered (all_pieces objects)) gs)
 
 -- the ordinary image as a map from addresses to bytes, or the first link refusal
 unfoldable pub ordinary : List Object → List (List ℕ) → List ℕ → List Module → Result Memory LinkFault

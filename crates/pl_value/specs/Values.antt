@@ -18,8 +18,8 @@ abbrev pub reference : ℕ → Reloc → Reference
 reference member r = record { member = member; symbol = r.symbol; kind = r.kind }
 
 -- what a relocation of a member gives, or why it has no value. NONE gives nothing
-unfoldable pub value : List Object → List ℕ → List Module → ℕ → Reloc → Result Word LinkFault
-value objects places modules member r =
+unfoldable pub value_of : List Object → List ℕ → List Module → ℕ → Reloc → Result Word LinkFault
+value_of objects places modules member r =
     if r.kind == R_X86_64_RELATIVE then Ok (Put (added (base_of places member) r.addend))
     else (if r.kind == R_X86_64_64 then (target objects places (reference member r) >>= λ s. Ok (Put (added s r.addend)))
     else (if r.kind == R_X86_64_GLOB_DAT || r.kind == R_X86_64_JUMP_SLOT then (target objects places (reference member r) >>= λ s. Ok (Put s))
@@ -35,8 +35,8 @@ relocations_in (Some o) = o.relocations
 
 abbrev pub of_reloc : List Object → List ℕ → List Module → ℕ → Option Reloc → Result Word LinkFault
 of_reloc objects places modules member None = Ok Nothing
-of_reloc objects places modules member (Some r) = value objects places modules member r
+of_reloc objects places modules member (Some r) = value_of objects places modules member r
 
-unfoldable pub value_at : List Object → List ℕ → List Module → ℕ → ℕ → Result Word LinkFault
-value_at objects places modules member index =
+unfoldable pub value : List Object → List ℕ → List Module → ℕ → ℕ → Result Word LinkFault
+value objects places modules member index =
     of_reloc objects places modules member (slice_get (relocations_in (slice_get objects member)) index)

@@ -16,7 +16,7 @@ use pl_scope::{Reference, Scope};
 use pl_tls::Module;
 
 /// What a relocation of a member gives.
-#[tactic(auto, unfolding(crate::specs::Values::value))]
+#[tactic(auto, unfolding(crate::specs::Values::value_of))]
 pub fn value_of(
     scope: &Scope<'_>,
     places: &Places,
@@ -26,7 +26,7 @@ pub fn value_of(
 ) -> Result<Word, LinkFault>
     requires linkable { IsLinkable scope.now.members.items places.now.rows }
     requires reference { IsSymbol scope.now.members.items member reloc.now.symbol }
-    ensures { result ≡ spec.value (objects scope.now.members.items) places.now.rows tls.now member reloc.now }
+    ensures { result ≡ spec.value_of (objects scope.now.members.items) places.now.rows tls.now member reloc.now }
 {
     let kind = reloc.kind;
     let reference = Reference {
@@ -62,7 +62,7 @@ pub fn value_of(
 /// - `UndefinedTls`: a symbol has no definer, for the kinds of thread-local storage, weak or not.
 /// - `TlsMismatch`: a kind of thread-local storage finds a symbol that is not of type TLS, or an object without PT_TLS; or another kind finds a symbol of type TLS.
 /// - `CopyOutside`: the definer of a COPY is absolute, or the bytes to be copied, from the definer's value on, are not all in the memory of one PT_LOAD of its object as linked. Of no bytes none is outside.
-#[tactic(auto, unfolding(crate::specs::Values::value_at))]
+#[tactic(auto, unfolding(crate::specs::Values::value))]
 pub fn value(
     scope: &Scope<'_>,
     places: &Places,
@@ -72,7 +72,7 @@ pub fn value(
 ) -> Result<Word, LinkFault>
     requires linkable { IsLinkable scope.now.members.items places.now.rows }
     requires reloc { IsReloc scope.now.members.items member reloc }
-    ensures { result ≡ spec.value_at (objects scope.now.members.items) places.now.rows tls.now member reloc }
+    ensures { result ≡ spec.value (objects scope.now.members.items) places.now.rows tls.now member reloc }
 {
     let object = scope.members[member as usize].object;
     let reloc = &object.relocations.as_slice()[reloc as usize];

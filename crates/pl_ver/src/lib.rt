@@ -15,6 +15,7 @@ mod records;
 mod versions;
 
 pub use fault::VerFault;
+pub use fields::index_of;
 pub use look_up::version_of;
 pub use read::read_versions;
 pub use versions::{VersionName, Versions};

@@ -1,4 +1,5 @@
-ghost use Rattle.std.specs.Prelude.{◌≡◌, ◌≤◌, ◌&&◌, ◌||◌, length, [], true, false, string_bytes, All, IfOk};
+ghost use Rattle.std.specs.Prelude.{◌≡◌, ◌≤◌, ◌&&◌, ◌||◌, length, [], true, false, string_bytes, All, IfOk, IsSorted};
+ghost use Rattle.std.specs.String.{string_cmp};
 ghost use Rattle.pl_base.specs.Counts.{Rose};
 ghost use Rattle.pl_base.specs.Files.{files_of};
 ghost use Rattle.pl_base.specs.Names.{IsNameLength, has_name_length, is_own_name, is_valid_name};
@@ -82,7 +83,8 @@ fn push_listed(names: &mut Vec<String>, name: String) -> Result<(), AllocError>
 
 // The names of the regular files that the folder lists, ascending.
 fn list_names<R: Files + AllocGlobal + Clone + Drop>(rt: &R) -> io::Result<Vec<String>>
-    ensures { IfOk result (λ names. All (λ name. IsNameLength (string_bytes name)) names.items) }
+    ensures lengths { IfOk result (λ names. All (λ name. IsNameLength (string_bytes name)) names.items) }
+    ensures ascend { IfOk result (λ names. IsSorted string_cmp names.items) }
 {
     let mut names = Vec::new(rt.alloc());
     for entry in fs::read_dir(rt, ".")? {

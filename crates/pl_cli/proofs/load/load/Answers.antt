@@ -24,6 +24,7 @@ loop-wanted-init g c =
       under_way = λ told. subst (λ (l : Loading). IsUnderWay cause_of (file_in files) c.args.name.now l) (sym c.in_ok-loader.ensures.begun) (load_begins cause_of (file_in files) c.args.name.now);
       tells = search rules;
       same = search rules;
+      quiet = search rules;
       counts = search rules;
       place = search rules;
     }
@@ -55,6 +56,7 @@ loop-wanted-preserved g c =
           (ap (λ (fs : Files). file_in fs c.in-Some.wanted.now) (sym (inv.same told)) ∙ c.in_ok-bytes.ensures.ok (inv.tells ∙ told)) c.in_ok-give.ensures.ok (inv.under_way told);
       tells = c.in_ok-bytes.ensures.tells ∙ inv.tells;
       same = λ told. c.in_ok-bytes.ensures.same (inv.tells ∙ told) ∙ inv.same told;
+      quiet = c.in_ok-bytes.ensures.quiet ∙ inv.quiet;
       counts = let before = inv.counts in let here = c.in_ok-bytes.ensures.counts in omega arith;
       place = c.in_ok-bytes.ensures.place ∙ inv.place;
     }

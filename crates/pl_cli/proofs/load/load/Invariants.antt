@@ -9,6 +9,7 @@ invariant-loop-wanted g l = record {
   under_way : g.D.Folder.tells_files l.fn.folder ≡ true → IsUnderWay cause_of (file_in (g.D.Folder.files l.fn.folder)) l.name l.loader;
   tells : g.D.Folder.tells_files l.folder ≡ g.D.Folder.tells_files l.fn.folder;
   same : g.D.Folder.tells_files l.fn.folder ≡ true → g.D.Folder.files l.folder ≡ g.D.Folder.files l.fn.folder;
+  quiet : g.D.Folder.faults l.folder ≡ g.D.Folder.faults l.fn.folder;
   counts : g.D.Folder.faults l.fn.folder ≤ g.D.Folder.faults l.folder;
   place : g.D.Folder.place l.folder ≡ g.D.Folder.place l.fn.folder;
 }

@@ -9,4 +9,4 @@ ordinary-requires-clause-linkable c =
 pub returns-in-Ok-clause-ok : goal.returns-in-Ok-clause-ok
 returns-in-Ok-clause-ok c =
     linked_is c.args.files.now c.args.places.now.rows c.args.modules.now c.in-Ok.image
-    (rw (c.in_ok-scope.ensures, c.in_ok-parts.ensures) at c.in-Ok.ensures.exact) (rw (c.in_ok-scope.ensures, c.in_ok-parts.ensures) at c.in-Ok.ensures.objects)
+    (rw (c.in_ok-scope.ensures.objects, c.in_ok-parts.ensures) at c.in-Ok.ensures.exact) (rw (c.in_ok-scope.ensures.objects, c.in_ok-parts.ensures) at c.in-Ok.ensures.objects)

@@ -2,7 +2,7 @@ use Rattle.std.proofs.Common.{◌≡◌, ◌-◌, List, ◌∷◌, length, take,
 use Rattle.pl_loader.specs.Loading.{AreFiles}
 use Rattle.pl_loader.specs.declared.object_file.ObjectFile.{ObjectFile}
 use Rattle.pl_loader.proofs.ApartLaws.{nothing_placed}
-use Rattle.pl_loader.proofs.FileLaws.{files_are, files_placed, program_fits, wishes_asked}
+use Rattle.pl_loader.proofs.FileLaws.{files_are, files_placed, program_fits, wants_asked}
 use Rattle.pl_loader.proofs.placing.places.Goals as goal
 
 pub returns-in_default-clause-apart : goal.returns-in_default-clause-apart
@@ -13,10 +13,10 @@ library_places-requires-clause-fits c =
     let rest : List ObjectFile = take (length c.args.files.now - 1) (drop 1 c.args.files.now) in
     program_fits c.program-item.result rest (subst AreFiles (files_are c.args.files.now c.program-item.result c.in-len1-up.len_at_least c.program-item.is) c.requires)
 
-pub library_places-requires-clause-wishes : goal.library_places-requires-clause-wishes
-library_places-requires-clause-wishes c =
+pub library_places-requires-clause-wants : goal.library_places-requires-clause-wants
+library_places-requires-clause-wants c =
     let rest : List ObjectFile = take (length c.args.files.now - 1) (drop 1 c.args.files.now) in
-    wishes_asked c.program-item.result rest (subst AreFiles (files_are c.args.files.now c.program-item.result c.in-len1-up.len_at_least c.program-item.is) c.requires)
+    wants_asked c.program-item.result rest (subst AreFiles (files_are c.args.files.now c.program-item.result c.in-len1-up.len_at_least c.program-item.is) c.requires)
 
 pub returns-clause-within : goal.returns-clause-within
 returns-clause-within c =

@@ -25,7 +25,7 @@ loop-number-preserved g c =
       words_more (own_memory c.args.self.now c.args.pieces.now) (written c.args.sink.now) (written c.loop-number.sink) (written c.add_word.new.sink) c.args.lines.now.items c.loop-number.lines.items c.add_word.new.lines.items
           c.loop-number.number c.next_word-number-in-loop-number.result c.word.result c.word.ensures c.next_word-number-in-loop-number.ensures.within.0 c.next_word-number-in-loop-number.ensures.clear
           c.loop-number.invariant.1 c.in_ok-add_word.ensures.ok,
-      omega (arith, c.loop-number.invariant.2, c.in_ok-add_word.ensures.counts),
+      omega (arith, c.loop-number.invariant.2, c.in_ok-add_word.ensures.quiet),
     )
 
 pub returns-clause-ok : goal.returns-clause-ok

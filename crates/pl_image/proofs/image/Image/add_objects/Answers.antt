@@ -29,7 +29,7 @@ loop-object-preserved g c =
           c.object-item.result c.as_slice.result.now (subst (λ (os : List Loaded). c.loop-object.object-index < length os) same c.loop-object-test.true)
           (item_pieces c.args.self.now c.deref-object-items.result.now c.loop-object.object-index c.object-item.result c.as_slice.result.now same c.object-item.is c.as_slice.ensures)
           c.loop-object.invariant.0 c.in_ok-add_object.ensures.ok,
-      omega (arith, c.loop-object.invariant.1, c.in_ok-add_object.ensures.counts),
+      omega (arith, c.loop-object.invariant.1, c.in_ok-add_object.ensures.quiet),
     )
 
 pub returns-clause-ok : goal.returns-clause-ok
