@@ -9,4 +9,3 @@ hex_step zero n xs h = absurd (omega arith)
 hex_step (suc k) n xs h =
     let e : suc k - 1 ≡ k = omega arith in
     rw e (simp append_assoc)
-
