@@ -24,7 +24,7 @@ use Rattle.pl_object.specs.FilePart.{loads_byte, loader, file_window, in_file_pa
 use Rattle.pl_object.specs.PlaceClauses.{last_load}
 use Rattle.pl_object.specs.TableClauses.{check_tables}
 use Rattle.pl_object.specs.Tables.{dynamic_memory}
-use Rattle.pl_object.specs.Reads.{reads, headers, parts, static_program, static_object, linked, linking, layout, check, checked, too_large, object, dynamic, span, align, end_in_memory}
+use Rattle.pl_object.specs.Reads.{reads, headers, parts, static_program, static_object, dynamic_object, linking, layout, check, checked, too_large, object, dynamic, span, align, end_in_memory}
 use Rattle.pl_object.specs.Refusals.{of_header, of_dynamic}
 use Rattle.pl_object.specs.declared.headers.Headers.{Headers}
 use Rattle.pl_object.specs.declared.object.Object.{Object}
@@ -72,9 +72,9 @@ dynamic_loaded bytes ss d is =
     no : Err dyn_fault.NoEnd ≡ Ok d → ⊥
     no e = cc
 
-shaped_linked : (bytes : List ℕ) (f : Headers) (d : Dynamic) (o : Object) → HasDynamic f.segments → linked bytes f d ≡ Ok o → IsShaped o
-unfolding linked checked object
-shaped_linked bytes f d o has e =
+shaped_dynamic_object : (bytes : List ℕ) (f : Headers) (d : Dynamic) (o : Object) → HasDynamic f.segments → dynamic_object bytes f d ≡ Ok o → IsShaped o
+unfolding dynamic_object checked object
+shaped_dynamic_object bytes f d o has e =
     let t = bind_ok (check_tables f.header f.segments f.sections d.tags) _ o e in
     let l = bind_ok (linking bytes f d.tags) _ o t.2 in
     let places = layout bytes f d.tags l.0 in
@@ -97,8 +97,8 @@ shaped_parts bytes f o e =
     elim (cases_Bool (elf.is_static bytes f.header)) [
       | inl static ↦ shaped_static bytes f o (rw static at e)
       | inr other ↦
-          let d = bind_ok (because of_dynamic (dynamic bytes f.segments)) (linked bytes f) o (rw other at e) in
-          shaped_linked bytes f d.0 o (dynamic_loaded bytes f.segments d.0 (because_ok of_dynamic (dynamic bytes f.segments) d.0 d.1)) d.2
+          let d = bind_ok (because of_dynamic (dynamic bytes f.segments)) (dynamic_object bytes f) o (rw other at e) in
+          shaped_dynamic_object bytes f d.0 o (dynamic_loaded bytes f.segments d.0 (because_ok of_dynamic (dynamic bytes f.segments) d.0 d.1)) d.2
     ]
 
 shaped : (bytes : List ℕ) (o : Object) → reads bytes ≡ Ok o → IsShaped o
