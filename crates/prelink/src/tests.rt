@@ -36,7 +36,7 @@ fn changes_files(rt: HostRuntime) -> Result<(), Fail> {
 
     folder.create(alloc, ".prelink.new.0")?;
     folder.append(alloc, ".prelink.new.0", b"new ")?;
-    folder.append(alloc, ".prelink.new.0", b"bytes")?;
+    folder.append(alloc, ".prelink.new.0", &[b'b'; 10_000])?;
     folder.firm(".prelink.new.0")?;
     let names = folder.names(alloc)?;
     folder.rename(".prelink.new.0", "old")?;
@@ -54,7 +54,8 @@ fn changes_files(rt: HostRuntime) -> Result<(), Fail> {
     assert!(rt; names.iter().any(|name| name.as_str() == ".prelink.new.0"));
     assert!(rt; names.iter().any(|name| name.as_str() == "old"));
     assert!(rt; !names.iter().any(|name| name.as_str() == "link" || name.as_str() == "folder"));
-    assert_eq!(rt; bytes.as_slice(), b"new bytes".as_slice());
+    assert_eq!(rt; bytes.len(), 10_004);
+    assert!(rt; bytes.starts_with(b"new bb"));
     assert_eq!(rt; mode & 0o777, 0o700);
     assert_eq!(rt; through_link, Err(FolderFault::Failed));
     assert!(rt; absent.is_err());
