@@ -1,4 +1,4 @@
-ghost use Rattle.std.specs.Prelude.{◌≡◌, ◌≤◌, ◌&&◌, ◌||◌, length, [], true, false, string_bytes, All, IfOk, IsSorted};
+ghost use Rattle.std.specs.Prelude.{◌≡◌, ◌≤◌, ◌&&◌, ◌||◌, ◌++◌, length, [], ◌∷◌, true, false, if◌then◌else◌, string_bytes, All, IfOk, OnOk, IsSorted};
 ghost use Rattle.std.specs.String.{string_cmp};
 ghost use Rattle.pl_base.specs.Counts.{Rose};
 ghost use Rattle.pl_base.specs.Files.{files_of};
@@ -72,7 +72,8 @@ fn is_listed(name: &str) -> bool
 // Adds the name of a file, where the folder lists it.
 fn push_listed(names: &mut Vec<String>, name: String) -> Result<(), AllocError>
     requires { All (λ name. IsNameLength (string_bytes name)) names.old.items }
-    ensures { All (λ name. IsNameLength (string_bytes name)) names.new.items }
+    ensures lengths { All (λ name. IsNameLength (string_bytes name)) names.new.items }
+    ensures added { OnOk result (names.new.items ≡ names.old.items ++ (if has_name_length (string_bytes name) && (is_valid_name (string_bytes name) || is_own_name (string_bytes name)) then name ∷ [] else [])) }
 {
     if !is_listed(name.as_str()) {
         return Ok(());
