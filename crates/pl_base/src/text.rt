@@ -16,13 +16,6 @@ impl Model for Text {
 }
 
 impl Text {
-    /// The text of a string, which it takes over. It takes no memory.
-    pub fn from_string(text: String) -> Text
-        ensures { result ≡ string_bytes text }
-    {
-        Text { text }
-    }
-
     /// A copy of a text. It fails only for want of memory.
     pub fn copy_of(alloc: Global, text: &str) -> Result<Text, AllocError>
         ensures { IfOk result (λ t. t ≡ text.now) }
@@ -36,13 +29,5 @@ impl Text {
         ensures { result.now ≡ self.now }
     {
         self.text.as_str()
-    }
-
-    /// The text as a string. It takes no memory.
-    pub fn into_string(self) -> String
-        ensures { string_bytes result ≡ self }
-    {
-        let Text { text } = self;
-        text
     }
 }

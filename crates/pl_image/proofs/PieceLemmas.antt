@@ -1,15 +1,17 @@
 -- Pieces that ascend.
-use Rattle.std.proofs.Common.{◌≡◌, ℕ, zero, suc, ◌+◌, ◌-◌, ◌*◌, ◌<◌, ◌≤◌, ◌^◌, min, true, false, cond, List, [], ◌∷◌, length, get_or, Some, None, refl, sym, subst, ◌∙◌, arith, inl, inr}
-use Rattle.std.specs.Prelude.{◌&&◌, nat_le, find}
+use Rattle.std.proofs.Common.{◌≡◌, ℕ, zero, suc, ◌+◌, ◌-◌, ◌*◌, ◌<◌, ◌≤◌, ◌^◌, ◌/◌, min, max, Bool, true, false, cond, List, [], ◌∷◌, length, get_or, take, drop, Some, None, refl, sym, ap, subst, ◌∙◌, arith, inl, inr}
+use Rattle.std.specs.Prelude.{◌&&◌, ◌||◌, nat_le, nat_lt, find}
 use Rattle.std.specs.List.{list_any}
 use Rattle.std.specs.List.Sorted.{IsNonDecreasingBy, IsPartitionedBy, IsPartitionPoint}
-use Rattle.std.proofs.lemmas.Bool.{and_parts, or_parts, cases_Bool, cases_order}
+use Rattle.std.proofs.lemmas.Bool.{and_parts, or_parts, cases_Bool, cases_order, ltb-false, true≢false}
 use Rattle.std.proofs.lemmas.Bool.Decides.{nat_tests}
-use Rattle.std.proofs.lemmas.List.{get_or_past, get_or_default}
-use Rattle.std.proofs.lemmas.List.Folds.{list_any_none}
+use Rattle.std.proofs.lemmas.List.{get_or_past, get_or_default, length-take, length-drop, get_or-take, get_or-drop, take-append-drop}
+use Rattle.std.proofs.lemmas.List.Folds.{list_any-append, list_any_none}
 use Rattle.pl_base.specs.Memory.{Piece, lies, byte_at, AtMostOne}
 use Rattle.pl_elf.specs.declared.constants.TheConstants.{ADDRESS_LIMIT}
-use Rattle.pl_image.specs.Image.{ascends, stores}
+use Rattle.pl_image.specs.Image.{ascends, stored, stores, stores_in}
+use Rattle.pl_object.proofs.ExtentLaws.{find_fails}
+use Rattle.pl_object.proofs.FilePartLaws.{find_passes}
 use Rattle.pl_image.proofs.FindLemmas.{find_none, find_lone}
 
 record Ascends (from : ℕ) (p : Piece) (ps : List Piece) : Type 0 where
@@ -97,8 +99,12 @@ module _ (ps : List Piece) (a i : ℕ) (h : ascends 0 ps ≡ true) (point : IsPa
 
 -- ---- bytes of files
 
+or_true : (b : Bool) → (b || true) ≡ true
+or_true true = refl
+or_true false = refl
+
 -- the pieces whose bytes of a file end by an address are the first ones
-pub ended_first : (ps : List Piece) (a : ℕ) → ascends 0 ps ≡ true → IsPartitionedBy (λ p. nat_le (p.start + min (length p.bytes) p.size) a) ps
+pub ended_first : (ps : List Piece) (a : ℕ) → ascends 0 ps ≡ true → IsPartitionedBy (λ p. nat_le (p.start + stored p) a) ps
 ended_first ps a h = λ i j d le within hit. elim (cases_order i j) [
   | inl same ↦ rw same hit
   | inr other ↦ elim other [
@@ -111,31 +117,89 @@ ended_first ps a h = λ i j d le within hit. elim (cases_order i j) [
   ]
 ]
 
-module _ (ps : List Piece) (a i : ℕ) (h : ascends 0 ps ≡ true) (point : IsPartitionPoint (λ p. nat_le (p.start + min (length p.bytes) p.size) a ≡ true) (λ p. nat_le (p.start + min (length p.bytes) p.size) a ≡ false) ps i) where
+module _ (ps : List Piece) (a i : ℕ) (h : ascends 0 ps ≡ true) (point : IsPartitionPoint (λ p. nat_le (p.start + stored p) a ≡ true) (λ p. nat_le (p.start + stored p) a ≡ false) ps i) where
   past_stored : (b k : ℕ) (d : Piece) → a ≤ b → k < i → stores b (get_or ps k d) ≡ false
   past_stored b k d le less = let by = point.0 k d (omega arith) less in grind (arith, nat_tests)
 
-  -- from the address on none has a byte of a file,
-  pub none_stored : (b : ℕ) → length ps ≤ i → a ≤ b → list_any (stores b) ps ≡ false
-  none_stored b all le = list_any_none (stores b) ps (λ k d within. past_stored b k d le (omega arith))
+  -- from the address on the others alone can have a byte of a file
+  pub others_store : (b : ℕ) → a ≤ b → list_any (stores b) (drop i ps) ≡ false → list_any (stores b) ps ≡ false
+  others_store b le none =
+      let front : list_any (stores b) (take i ps) ≡ false = list_any_none (stores b) (take i ps) (λ k d lt.
+      let less : k < i = omega (arith, lt, length-take i ps) in
+      rw (get_or-take i ps k d less) (past_stored b k d le less)) in
+      ap (list_any (stores b)) (sym (take-append-drop i ps)) ∙ list_any-append (stores b) (take i ps) (drop i ps) ∙ rw (front, none) refl
 
-  -- or none up to the start of the first one that does not end by it
-  pub none_stored_before : (b : ℕ) (e : Piece) → i < length ps → a ≤ b → b < (get_or ps i e).start → list_any (stores b) ps ≡ false
-  none_stored_before b e lt le below = list_any_none (stores b) ps (λ k d within. elim (cases_order k i) [
-    | inl same ↦ next k same d within
-    | inr other ↦ elim other [
-      | inl less ↦ past_stored b k d le less
-      | inr more ↦
-          let before = ends_before 0 ps i k e h more within in
-          let there = get_or_default ps k e d within in
-          rw there at (let out : stores b (get_or ps k e) ≡ false = grind (arith, nat_tests) in out)
-    ]
-  ])
-    where
-      next : (k : ℕ) → k ≡ i → (d : Piece) → k < length ps → stores b (get_or ps k d) ≡ false
-      next k same d within =
-          let there = get_or_default ps k d e within in
-          rw (there, same) (let out : stores b (get_or ps i e) ≡ false = grind (arith, nat_tests) in out)
+  -- and these do not end by it
+  others_last : list_any (λ p. nat_le (p.start + stored p) a) (drop i ps) ≡ false
+  others_last = list_any_none (λ p. nat_le (p.start + stored p) a) (drop i ps) (λ k d lt.
+      rw (get_or-drop i ps k d) (point.1 (i + k) d (omega arith) (omega (arith, lt, length-drop i ps))))
+
+  pub found_stores : (p : Piece) (n : ℕ) → find (λ q. nat_lt 0 (stored q)) (drop i ps) ≡ Some p → 8 * n ≤ a → a ≤ 8 * n → list_any (stores_in (max n (p.start / 8))) ps ≡ true
+  found_stores p n found low high =
+      let some : nat_lt 0 (stored p) ≡ true = find_passes (λ q. nat_lt 0 (stored q)) (drop i ps) p found in
+      let last : nat_le (p.start + stored p) a ≡ false = find_fails (λ q. nat_lt 0 (stored q)) (λ q. nat_le (q.start + stored q) a) (drop i ps) p found others_last in
+      let here : stores_in (max n (p.start / 8)) p ≡ true = grind (arith, nat_tests) in
+      elim (cases_Bool (list_any (stores_in (max n (p.start / 8))) (drop i ps))) [
+        | inr none ↦ absurd (true≢false (sym here ∙ find_fails (λ q. nat_lt 0 (stored q)) (stores_in (max n (p.start / 8))) (drop i ps) p found none))
+        | inl any ↦
+            ap (list_any (stores_in (max n (p.start / 8)))) (sym (take-append-drop i ps))
+            ∙ list_any-append (stores_in (max n (p.start / 8))) (take i ps) (drop i ps)
+            ∙ rw any (or_true (list_any (stores_in (max n (p.start / 8))) (take i ps)))
+      ]
+
+-- ---- the first piece that has a byte of a file
+
+unstored_by : (p : Piece) (b : ℕ) → nat_lt 0 (stored p) ≡ false → stores b p ≡ false
+unstored_by p b empty = grind (arith, nat_tests)
+
+-- where there is none, no byte of a file stands anywhere
+pub none_stored : (ps : List Piece) (b : ℕ) → find (λ q. nat_lt 0 (stored q)) ps ≡ None → list_any (stores b) ps ≡ false
+none_stored [] b none = refl
+none_stored (p ∷ ps) b none = elim (cases_Bool (nat_lt 0 (stored p))) [
+  | inl some ↦ absurd (let is : Some p ≡ None = rw some at none in cc)
+  | inr empty ↦
+      let rest : find (λ q. nat_lt 0 (stored q)) ps ≡ None = rw empty at none in
+      rw (unstored_by p b empty) (none_stored ps b rest)
+]
+
+begun_later : (from : ℕ) (ps : List Piece) (b : ℕ) → ascends from ps ≡ true → b < from → list_any (stores b) ps ≡ false
+begun_later from ps b h lt = list_any_none (stores b) ps (λ k d within.
+    let later = start_later from ps k d h within in
+    grind (arith, nat_tests))
+
+-- before it there is none
+pub none_stored_before : (from : ℕ) (ps : List Piece) (p : Piece) (b : ℕ) → ascends from ps ≡ true → find (λ q. nat_lt 0 (stored q)) ps ≡ Some p → b < p.start → list_any (stores b) ps ≡ false
+none_stored_before from [] p b h found lt = refl
+none_stored_before from (x ∷ xs) p b h found lt = elim (cases_Bool (nat_lt 0 (stored x))) [
+  | inl some ↦
+      let is : Some x ≡ Some p = rw some at found in
+      let same : x ≡ p = cc in
+      let below : b < x.start = rw same lt in
+      let out : stores b x ≡ false = grind (arith, nat_tests) in
+      rw out (begun_later (x.start + x.size) xs b (ascends_parts from x xs h).rest (omega arith))
+  | inr empty ↦
+      let rest : find (λ q. nat_lt 0 (stored q)) xs ≡ Some p = rw empty at found in
+      rw (unstored_by x b empty) (none_stored_before (x.start + x.size) xs p b (ascends_parts from x xs h).rest rest lt)
+]
+
+pub found_limit : (from : ℕ) (ps : List Piece) (p : Piece) → ascends from ps ≡ true → find (λ q. nat_lt 0 (stored q)) ps ≡ Some p → p.start ≤ 2 ^ 47
+found_limit from ps p h found =
+    let none : list_any (λ q. nat_lt (2 ^ 47) q.start) ps ≡ false = list_any_none (λ q. nat_lt (2 ^ 47) q.start) ps (λ k d within.
+    let limit = end_limit from ps k d h within in
+    grind (arith, nat_tests)) in
+    ltb-false _ _ (find_fails (λ q. nat_lt 0 (stored q)) (λ q. nat_lt (2 ^ 47) q.start) ps p found none)
+
+pub ascends_drop : (from : ℕ) (ps : List Piece) (i : ℕ) → ascends from ps ≡ true → ascends 0 (drop i ps) ≡ true
+unfolding ascends
+ascends_drop from [] zero h = refl
+ascends_drop from [] (suc i) h = refl
+ascends_drop from (p ∷ ps) zero h =
+    let f = ascends_parts from p ps h in
+    let low : nat_le 0 p.start ≡ true = grind (arith, nat_tests) in
+    let limit = f.limit in
+    let high : nat_le (p.start + p.size) ADDRESS_LIMIT ≡ true = grind (arith, nat_tests) in
+    rw (low, high, f.rest) refl
+ascends_drop from (p ∷ ps) (suc i) h = ascends_drop (p.start + p.size) ps i (ascends_parts from p ps h).rest
 
 -- an address of a piece at which no byte of a file stands has a 0
 pub unstored : (ps : List Piece) (a : ℕ) (p : Piece) → list_any (stores a) ps ≡ false → find (lies a) ps ≡ Some p → byte_at a p ≡ 0

@@ -1,7 +1,7 @@
 -- Ranges that rise, and ranges that are made so.
 use Rattle.std.proofs.Common.{◌≡◌, ℕ, zero, suc, ◌+◌, ◌-◌, ◌<◌, ◌≤◌, max, Bool, true, false, List, [], ◌∷◌, length, get_or, take, drop, refl, sym, ap, ◌∙◌, arith, inl, inr}
 use Rattle.std.specs.Prelude.{◌&&◌, ◌||◌, nat_le, nat_lt}
-use Rattle.std.specs.List.{list_any}
+use Rattle.std.specs.List.{All, list_any}
 use Rattle.std.specs.List.Sorted.{IsNonDecreasingBy, IsPartitionedBy, IsPartitionPoint, IsPermutation}
 use Rattle.std.proofs.lemmas.Bool.{and_parts, cases_Bool, cases_order, false≢true}
 use Rattle.std.proofs.lemmas.Bool.Decides.{nat_tests}
@@ -133,6 +133,21 @@ near_has rs rest near from size i j a rest_is near_is low high first last =
     or_none : (b : Bool) → (b || false) ≡ b
     or_none true = refl
     or_none false = refl
+
+pub near_only : (rs rest : List Range) (from limit i j : ℕ) → rest ≡ drop i rs
+    → IsPartitionPoint (λ r. nat_le r.end from ≡ true) (λ r. nat_le r.end from ≡ false) rs i
+    → IsPartitionPoint (λ r. nat_lt r.start limit ≡ true) (λ r. nat_lt r.start limit ≡ false) rest j
+    → All (λ r. (from < r.end) × (r.start < limit)) (take j rest)
+near_only rs rest from limit i j rest_is first last = λ k d lt.
+    let less : k < j = omega (arith, lt, length-take j rest) in
+    let within : k < length rest = omega (arith, lt, length-take j rest) in
+    let there : i + k < length rs = let same : length rest ≡ length (drop i rs) = ap length rest_is in omega (arith, within, same, length-drop i rs) in
+    let early = last.0 k d (omega arith) less in
+    let late = first.1 (i + k) d (omega arith) there in
+    let is : get_or rest k d ≡ get_or rs (i + k) d = ap (λ (xs : List Range). get_or xs k d) rest_is ∙ get_or-drop i rs k d in
+    let end : from < (get_or rs (i + k) d).end = grind (arith, nat_tests, late) in
+    let start : (get_or rest k d).start < limit = grind (arith, nat_tests, early) in
+    rw (get_or-take j rest k d less) (rw is end, start)
 
 -- ---- ranges that are made to rise
 

@@ -1,7 +1,7 @@
 -- Patches by the words that they touch.
 use Rattle.std.proofs.Common.{◌≡◌, ℕ, suc, ◌+◌, ◌-◌, ◌/◌, ◌<◌, ◌≤◌, Bool, true, false, cond, not, List, [], ◌∷◌, ◌++◌, length, get_or, take, drop, refl, sym, ap, ◌∙◌, arith, inl, inr}
 use Rattle.std.specs.Prelude.{◌&&◌, ◌==◌, nat_le, nat_lt, fold, filter}
-use Rattle.std.specs.List.{list_any}
+use Rattle.std.specs.List.{All, list_any}
 use Rattle.std.specs.List.Sorted.{IsNonDecreasingBy, IsPartitionPoint, IsPermutation, IsStableByKey, ties}
 use Rattle.std.specs.Ordering.{nat_cmp, is_lt}
 use Rattle.std.proofs.lemmas.Bool.{cases_Bool, cases_lt, or_parts}
@@ -166,6 +166,17 @@ module _ (patches : List Fill) (ts : List Touch) (n i j : ℕ) (h : IsIndex patc
         ∙ ap (fold f found) (sym split)
         ∙ h.whole a found;
   }
+
+pub only_touching : (ts : List Touch) (n i j : ℕ) → IsPartitionPoint (λ t. nat_lt t.number n ≡ true) (λ t. nat_lt t.number n ≡ false) ts i
+    → IsPartitionPoint (λ t. nat_lt t.number (n + 1) ≡ true) (λ t. nat_lt t.number (n + 1) ≡ false) ts j
+    → All (λ t. t.number ≡ n) (take (j - i) (drop i ts))
+only_touching ts n i j first last = λ k d lt.
+    let less : k < j - i = omega (arith, lt, length-take (j - i) (drop i ts)) in
+    let within : i + k < length ts = omega (arith, lt, length-take (j - i) (drop i ts), length-drop i ts) in
+    let low = first.1 (i + k) d (omega arith) within in
+    let high = last.0 (i + k) d (omega arith) (omega (arith, less)) in
+    let is : get_or (take (j - i) (drop i ts)) k d ≡ get_or ts (i + k) d = get_or-take (j - i) (drop i ts) k d less ∙ get_or-drop i ts k d in
+    rw is (let out : (get_or ts (i + k) d).number ≡ n = grind (arith, nat_tests, low, high) in out)
 
 -- ---- words that no patch touches
 

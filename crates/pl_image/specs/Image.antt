@@ -1,5 +1,5 @@
 -- An image: what objects load in scope order, patches over it, and 0 at the bytes of link tables.
-use Rattle.std.specs.Prelude.{◌≡◌, ℕ, ◌+◌, ◌≤◌, min, Bool, true, ◌&&◌, nat_le, List, [], ◌∷◌, length, map}
+use Rattle.std.specs.Prelude.{◌≡◌, ℕ, ◌+◌, ◌*◌, ◌/◌, ◌≤◌, min, Bool, true, ◌&&◌, nat_le, nat_lt, List, [], ◌∷◌, length, map}
 use Rattle.std.specs.List.{list_any, flat_map, All}
 use Rattle.pl_base.specs.Memory.{Memory, Piece, Fill, AtMostOne, is_within, lies, layered, filled, shown}
 use Rattle.pl_elf.specs.declared.constants.TheConstants.{ADDRESS_LIMIT}
@@ -65,6 +65,14 @@ pub record AreOwn (i : Image) (pieces : List Piece) : Type 0 where
 abbrev pub own_memory : Image → List Piece → Memory
 own_memory i pieces = only (map extent_of pieces) (byte_of i)
 
+-- how many bytes of a file are loaded
+abbrev pub stored : Piece → ℕ
+stored piece = min (length piece.bytes) piece.size
+
 -- a byte of a file stands at the address
 abbrev pub stores : ℕ → Piece → Bool
-stores address piece = is_within piece.start (min (length piece.bytes) piece.size) address
+stores address piece = is_within piece.start (stored piece) address
+
+-- a byte of a file stands in the word of a number
+abbrev pub stores_in : ℕ → Piece → Bool
+stores_in number piece = nat_lt 0 (stored piece) && nat_le (piece.start / 8) number && nat_lt (8 * number) (piece.start + stored piece)

@@ -1,9 +1,10 @@
-ghost use Rattle.std.specs.Prelude.{◌≡◌, ℕ, ◌+◌, ◌*◌, ◌/◌, ◌≤◌, ◌<◌, true, false, length, min, nat_le};
+ghost use Rattle.std.specs.Prelude.{◌≡◌, ℕ, ◌+◌, ◌*◌, ◌/◌, ◌≤◌, ◌<◌, true, false, nat_le, nat_lt};
 ghost use Rattle.std.specs.List.{find, list_any};
 ghost use Rattle.std.specs.Option.{option_copied};
 ghost use Rattle.pl_base.specs.Memory as memory;
 ghost use Rattle.pl_elf.specs.declared.constants.TheConstants.{ADDRESS_LIMIT};
-ghost use Rattle.pl_image.specs.Image.{ascends, stores};
+ghost use Rattle.pl_image.specs.Image.{ascends};
+ghost use Rattle.pl_image.specs.Image as spec;
 
 use crate::lines::WORDS;
 use std::marker::Model;
@@ -63,12 +64,25 @@ pub fn piece_at<'p, 'a>(pieces: &'p [Piece<'a>], address: u64) -> Option<&'p Pie
     }
 }
 
+/// How many bytes of a piece's file are loaded.
+fn stored(piece: &Piece<'_>) -> u64
+    ensures { result ≡ spec.stored piece.now }
+{
+    piece.size.min(piece.bytes.len() as u64)
+}
+
 /// Whether the bytes of a piece's file end at or before an address.
 fn ends_by(piece: &Piece<'_>, address: u64) -> bool
-    ensures { result ≡ nat_le (piece.now.start + min (length piece.now.bytes) piece.now.size) address }
+    ensures { result ≡ nat_le (piece.now.start + spec.stored piece.now) address }
 {
-    let stored = piece.size.min(piece.bytes.len() as u64);
-    piece.start <= address && stored <= address - piece.start
+    piece.start <= address && stored(piece) <= address - piece.start
+}
+
+/// The first piece that has a byte of a file.
+fn first_stored<'p, 'a>(pieces: &'p [Piece<'a>]) -> Option<&'p Piece<'a>>
+    ensures { option_copied result ≡ find (λ p. nat_lt 0 (spec.stored p)) pieces.now }
+{
+    pieces.iter().find(|piece| stored(piece) != 0)
 }
 
 /// The number of the word in which a piece begins.
@@ -83,14 +97,15 @@ pub fn next_stored(pieces: &[Piece<'_>], from: u64) -> u64
     requires ascending { ascends 0 pieces.now ≡ true }
     requires limit { from ≤ WORDS }
     ensures within { (from ≤ result) × (result ≤ WORDS) }
-    ensures none { (address : ℕ) → 8 * from ≤ address → address < 8 * result → list_any (stores address) pieces.now ≡ false }
+    ensures none { (address : ℕ) → 8 * from ≤ address → address < 8 * result → list_any (spec.stores address) pieces.now ≡ false }
+    ensures found { result < WORDS → list_any (spec.stores_in result) pieces.now ≡ true }
 {
     let address = 8 * from;
     let index = pieces.partition_point(|piece| ends_by(piece, address));
-    if index == pieces.len() {
-        return WORDS;
+    match first_stored(&pieces[index..]) {
+        Some(piece) => from.max(first_word(piece)),
+        None => WORDS,
     }
-    from.max(first_word(&pieces[index]))
 }
 
 /// Where a piece ends.

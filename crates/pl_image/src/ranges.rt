@@ -1,6 +1,6 @@
 // Ranges of addresses.
 ghost use Rattle.std.specs.Prelude.{◌≡◌, ℕ, ◌+◌, ◌≤◌, ◌<◌, nat_lt, true, IfOk};
-ghost use Rattle.std.specs.List.{list_any};
+ghost use Rattle.std.specs.List.{All, list_any};
 ghost use Rattle.std.specs.List.Sorted.{IsNonDecreasingBy, IsPermutation};
 ghost use Rattle.pl_image.specs.Index as spec;
 ghost use Rattle.pl_image.specs.Lines.{has};
@@ -53,10 +53,11 @@ fn starts_before(range: &Range, from: u64, size: u64) -> bool
     u128::from(range.start) < end(from, size)
 }
 
-/// The ranges, of some that rise, that may have one of so many addresses.
+/// The ranges, of some that rise, that begin before the end of so many addresses and end after their begin.
 pub fn near(ranges: &[Range], from: u64, size: u64) -> &[Range]
     requires { spec.rises 0 ranges.now ≡ true }
-    ensures { (a : ℕ) → from ≤ a → a < from + size → list_any (has a) result.now ≡ list_any (has a) ranges.now }
+    ensures same { (a : ℕ) → from ≤ a → a < from + size → list_any (has a) result.now ≡ list_any (has a) ranges.now }
+    ensures only { All (λ range. (from < range.end) × (range.start < from + size)) result.now }
 {
     let first = ranges.partition_point(|range| range.end <= from);
     let rest = &ranges[first..];

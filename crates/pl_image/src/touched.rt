@@ -76,7 +76,8 @@ fn before(touched: &[Touch], number: u64) -> usize
 pub fn touching<'t>(patches: &[Patch], touched: &'t [Touch], number: u64) -> &'t [Touch]
     requires index { spec.IsIndex patches.now touched.now }
     requires limit { number < 2 ^ 61 }
-    ensures { spec.AreTouching patches.now result.now number }
+    ensures touching { spec.AreTouching patches.now result.now number }
+    ensures only { All (λ touch. touch.number ≡ number) result.now }
 {
     let first = before(touched, number);
     let end = before(touched, number + 1);
@@ -103,6 +104,7 @@ pub fn next_touched(touched: &[Touch], from: u64) -> u64
     requires limit { from ≤ WORDS }
     ensures within { (from ≤ result) × (result ≤ WORDS) }
     ensures none { (n : ℕ) → from ≤ n → n < result → list_any (λ t. t.number == n) touched.now ≡ false }
+    ensures found { result < WORDS → list_any (λ t. t.number == result) touched.now ≡ true }
 {
     let index = before(touched, from);
     if index < touched.len() {

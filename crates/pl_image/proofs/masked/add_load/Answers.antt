@@ -12,4 +12,4 @@ pub returns : goal.returns
 returns c = λ a.
     c.loop-table.invariant a
     ∙ ap (λ (ts : List Range). list_any (has a) c.args.ranges.now.items || list_any (loads_table a c.args.load.now) ts) (take_all c.loop-table.table-index c.near-near.result.now c.loop-table-test.false)
-    ∙ ap (λ (b : Bool). list_any (has a) c.args.ranges.now.items || b) (near_tables a c.args.load.now c.near-near.result.now c.args.tables.now c.near-near.ensures)
+    ∙ ap (λ (b : Bool). list_any (has a) c.args.ranges.now.items || b) (near_tables a c.args.load.now c.near-near.result.now c.args.tables.now c.near-near.ensures.same)

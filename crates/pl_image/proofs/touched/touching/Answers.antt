@@ -1,4 +1,4 @@
-use Rattle.pl_image.proofs.TouchLemmas.{in_order, are_touching}
+use Rattle.pl_image.proofs.TouchLemmas.{in_order, are_touching, only_touching}
 use Rattle.pl_image.proofs.touched.touching.Goals as goal
 
 pub slice_bounds-result-count : goal.slice_bounds-result-count
@@ -7,5 +7,8 @@ slice_bounds-result-count c = in_order c.args.patches.now c.args.touched.now c.a
 pub slice_bounds-result-start : goal.slice_bounds-result-start
 slice_bounds-result-start c = in_order c.args.patches.now c.args.touched.now c.args.number c.before-first.result c.before-end.result c.requires.index c.before-first.ensures.point c.before-end.ensures.point c.before-first.ensures.bound c.before-end.ensures.bound
 
-pub returns : goal.returns
-returns c = are_touching c.args.patches.now c.args.touched.now c.args.number c.before-first.result c.before-end.result c.requires.index c.before-first.ensures.point c.before-end.ensures.point c.before-first.ensures.bound c.before-end.ensures.bound
+pub returns-clause-touching : goal.returns-clause-touching
+returns-clause-touching c = are_touching c.args.patches.now c.args.touched.now c.args.number c.before-first.result c.before-end.result c.requires.index c.before-first.ensures.point c.before-end.ensures.point c.before-first.ensures.bound c.before-end.ensures.bound
+
+pub returns-clause-only : goal.returns-clause-only
+returns-clause-only c = only_touching c.args.touched.now c.args.number c.before-first.result c.before-end.result c.before-first.ensures.point c.before-end.ensures.point
