@@ -14,3 +14,4 @@ pub mod HexLaws
 pub mod AnswerLaws
 pub mod NameLaws
 pub mod StringLaws
+pub mod FindLaws

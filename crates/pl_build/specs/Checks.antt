@@ -5,7 +5,7 @@ use Rattle.std.specs.Str.{bytes_eq}
 use Rattle.pl_elf.specs.declared.constants.TheConstants.{WORD64_SIZE}
 use Rattle.pl_build.specs.declared.constants.TheConstants.{MAX_BUCKETS, MAX_SPARE, MAX_DATA, MAX_BSS, MAX_ADDEND}
 use Rattle.pl_build.specs.declared.checks.Fault.{Fault}
-use Rattle.pl_build.specs.declared.line.Kind.TheVariants.{Static}
+use Rattle.pl_elf.specs.declared.kind.Kind.TheVariants.{Static}
 use Rattle.pl_build.specs.declared.line.Line.{Line}
 use Rattle.pl_build.specs.declared.line.Line.TheVariants.{Wrong, Empty, First, Usual, Hash, Buckets, Spare, Symbolic, Entry, Data, Bss, Put, Tls, Version, Names, Relocates}
 use Rattle.pl_build.specs.declared.line.Relocation.{Relocation}

@@ -11,7 +11,7 @@ use Rattle.pl_build.specs.declared.roles.Place.{Place}
 use Rattle.pl_build.specs.declared.plan.Plan.{Plan}
 use Rattle.pl_build.specs.Choices.{chosen}
 use Rattle.pl_build.specs.Fields.{fields}
-use Rattle.pl_build.specs.Plan.{is_program}
+use Rattle.pl_elf.specs.Kinds.{is_program}
 use Rattle.pl_build.specs.Roles.{has_name}
 use Rattle.pl_build.specs.Strings.{text_at}
 

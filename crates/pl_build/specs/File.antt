@@ -17,10 +17,12 @@ use Rattle.pl_build.specs.Data.{data_bytes}
 use Rattle.pl_build.specs.Dynamic.{place_of}
 use Rattle.pl_build.specs.Fields.{fields}
 use Rattle.pl_build.specs.Layout.{too_large, tables, end_of}
-use Rattle.pl_build.specs.Plan.{is_library, base_of, data_address, has_interp}
+use Rattle.pl_elf.specs.Kinds.{is_library}
+use Rattle.pl_elf.specs.Written.{segment_bytes}
+use Rattle.pl_build.specs.Plan.{base_of, data_address, has_interp}
 use Rattle.pl_build.specs.Roles.{index_of}
 use Rattle.pl_build.specs.Sections.{first_places, last_places, section_bytes, section_rows}
-use Rattle.pl_build.specs.Segments.{interp_bytes, segment_bytes, segments, data_offset}
+use Rattle.pl_build.specs.Segments.{interp_bytes, segments, data_offset}
 use Rattle.pl_build.specs.Strings.{section_names}
 
 -- ---- the header (System V gABI chapter 4, "ELF Header")

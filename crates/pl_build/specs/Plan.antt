@@ -1,10 +1,9 @@
 -- What follows from a recipe before anything is laid out.
-use Rattle.std.specs.Prelude.{ℕ, ◌+◌, Bool, true, false, not, ◌&&◌, ◌||◌, ◌==◌, List, [], ◌∷◌, ◌++◌, length, if◌then◌else◌}
+use Rattle.std.specs.Prelude.{ℕ, ◌+◌, Bool, true, not, ◌&&◌, ◌||◌, ◌==◌, List, [], ◌∷◌, ◌++◌, length, if◌then◌else◌}
 use Rattle.std.specs.List.{list_any}
 use Rattle.pl_elf.specs.declared.constants.TheConstants.{R_X86_64_JUMP_SLOT}
 use Rattle.pl_build.specs.declared.constants.TheConstants.{BASE, DATA_DISTANCE}
-use Rattle.pl_build.specs.declared.line.Kind.{Kind}
-use Rattle.pl_build.specs.declared.line.Kind.TheVariants.{Program, Library, Static}
+use Rattle.pl_elf.specs.Kinds.{is_program, is_library, is_static}
 use Rattle.pl_build.specs.declared.line.Relocation.{Relocation}
 use Rattle.pl_build.specs.declared.line.Symbol.{Symbol}
 use Rattle.pl_build.specs.declared.recipe.Recipe.{Recipe}
@@ -19,19 +18,7 @@ use Rattle.pl_build.specs.Symbols.{ordered}
 use Rattle.pl_build.specs.Needed.{needs_of, files_of}
 use Rattle.pl_build.specs.Strings as strings
 
--- ---- the kind of file
-
-abbrev pub is_program : Kind → Bool
-is_program Program = true
-is_program _ = false
-
-abbrev pub is_library : Kind → Bool
-is_library Library = true
-is_library _ = false
-
-abbrev pub is_static : Kind → Bool
-is_static Static = true
-is_static _ = false
+-- ---- where the file lies
 
 -- the address of the first byte, and that of the data
 unfoldable pub base_of : Settings → ℕ

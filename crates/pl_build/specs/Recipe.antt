@@ -1,7 +1,7 @@
 -- What all lines of a recipe say together.
 use Rattle.std.specs.Prelude.{true, false, List, [], ◌∷◌, ◌++◌, Some, None, fold}
 use Rattle.pl_build.specs.declared.constants.TheConstants.{BUCKETS, SPARE}
-use Rattle.pl_build.specs.declared.line.Kind.TheVariants.{Program}
+use Rattle.pl_elf.specs.declared.kind.Kind.TheVariants.{Program}
 use Rattle.pl_build.specs.declared.line.Line.{Line}
 use Rattle.pl_build.specs.declared.line.Line.TheVariants.{First, Usual, Hash, Buckets, Spare, Needs, Symbolic, Entry, Data, Bss, Put, Tls, Version, Names, Relocates}
 use Rattle.pl_build.specs.declared.recipe.Settings.{Settings}

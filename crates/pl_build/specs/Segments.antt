@@ -5,22 +5,16 @@ use Rattle.pl_base.specs.Sums.{plus, round_up}
 use Rattle.pl_elf.specs.declared.constants.TheConstants.{HEADER_SIZE, SEGMENT_SIZE, PT_LOAD, PT_DYNAMIC, PT_INTERP, PT_PHDR, PT_TLS, PT_GNU_STACK, PAGE, PF_R, PF_W}
 use Rattle.pl_elf.specs.declared.segment.Segment.{Segment}
 use Rattle.pl_build.specs.declared.constants.TheConstants.{INTERP_OFFSET, TABLE_ALIGN, STACK_ALIGN}
-use Rattle.pl_build.specs.declared.fields.Field.TheVariants.{Word, Xword}
 use Rattle.pl_build.specs.declared.line.TlsBlock.{TlsBlock}
 use Rattle.pl_build.specs.declared.recipe.Settings.{Settings}
 use Rattle.pl_build.specs.declared.roles.Place.{Place}
 use Rattle.pl_build.specs.Choices.{chosen}
 use Rattle.pl_build.specs.Dynamic.{is_there}
-use Rattle.pl_build.specs.Fields.{fields}
 use Rattle.pl_build.specs.Plan.{base_of, data_address, has_interp}
 
 -- the path of the interpreter of x86-64 programs, ended by a 0 byte
 abbrev pub interp_bytes : List ℕ
 interp_bytes = codes "/lib64/ld-linux-x86-64.so.2" ++ 0 ∷ []
-
-unfoldable pub segment_bytes : Segment → List ℕ
-segment_bytes s = fields (
-    Word s.kind ∷ Word s.flags ∷ Xword s.offset ∷ Xword s.vaddr ∷ Xword s.paddr ∷ Xword s.filesz ∷ Xword s.memsz ∷ Xword s.align ∷ [])
 
 -- bytes that stand in the file as in memory
 unfoldable pub readable : ℕ → ℕ → ℕ → ℕ → ℕ → Segment

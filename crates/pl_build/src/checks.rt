@@ -6,10 +6,11 @@ ghost use Rattle.std.specs.Str.{bytes_eq};
 ghost use Rattle.pl_build.specs.Checks as spec;
 
 use crate::constants::{MAX_ADDEND, MAX_BSS, MAX_BUCKETS, MAX_DATA, MAX_SPARE};
-use crate::line::{Kind, Line, Relocation, Symbol};
+use crate::line::{Line, Relocation, Symbol};
 use crate::names::is;
 use crate::relocation_lines::is_no_symbol;
 use pl_base::end;
+use pl_elf::Kind;
 use pl_elf::constants::WORD64_SIZE;
 
 /// A fault of a recipe.

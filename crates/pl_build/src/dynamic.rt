@@ -6,7 +6,7 @@ ghost use Rattle.pl_build.specs.Dynamic as spec;
 use crate::choices::chosen;
 use crate::fields::{Field, Row, push_fields, push_rows};
 use crate::names::is;
-use crate::plan::{Plan, is_program};
+use crate::plan::Plan;
 use crate::roles::{Place, Role, name_of};
 use crate::strings::text_at;
 use pl_dyn::Tag;
@@ -151,7 +151,7 @@ fn usual_tags(alloc: Global, plan: &Plan) -> Result<Vec<Tag>, AllocError>
     chosen(
         alloc,
         &[
-            (usual && is_program(plan.settings.kind), tag(DT_DEBUG, 0)),
+            (usual && plan.settings.kind.is_program(), tag(DT_DEBUG, 0)),
             (usual, tag(DT_BIND_NOW, 0)),
             (usual, tag(DT_FLAGS, DF_BIND_NOW)),
             (usual, tag(DT_FLAGS_1, DF_1_NOW)),

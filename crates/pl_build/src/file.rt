@@ -10,7 +10,7 @@ use crate::dynamic::place_of;
 use crate::fault::RecipeFault;
 use crate::fields::{Field, push_fields, push_rows};
 use crate::layout::{Tables, end_of, lay_out};
-use crate::plan::{Plan, base_of, data_address, has_interp, is_library};
+use crate::plan::{Plan, base_of, data_address, has_interp};
 use crate::recipe::Settings;
 use crate::roles::{Place, index_of};
 use crate::sections::{first_places, last_places, section_rows};
@@ -52,7 +52,7 @@ fn ident() -> [Field; 9]
 fn type_of(settings: &Settings) -> u16
     ensures { result ≡ spec.type_of settings.now }
 {
-    if is_library(settings.kind) {
+    if settings.kind.is_library() {
         ET_DYN
     } else {
         ET_EXEC

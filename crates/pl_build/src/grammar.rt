@@ -2,12 +2,13 @@
 ghost use Rattle.std.specs.Prelude.{◌≡◌, IfOk, map};
 ghost use Rattle.pl_build.specs.Grammar as spec;
 
-use crate::line::{DataWord, Hashes, Kind, Line, TlsBlock};
+use crate::line::{DataWord, Hashes, Line, TlsBlock};
 use crate::names::is;
 use crate::relocation_lines::rel_line;
 use crate::symbol_lines::{def_line, ref_line};
 use crate::words::{copy_of, number, pieces, word};
 use pl_base::{Rows, is_valid_name};
+use pl_elf::Kind;
 use std::alloc::{AllocError, Global};
 
 #[tactic(auto, unfolding(crate::specs::Grammar::bare))]

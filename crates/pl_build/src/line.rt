@@ -1,12 +1,5 @@
 use pl_base::Rows;
-
-/// What a recipe's first line says that the file is.
-#[derive(Clone, Copy)]
-pub enum Kind {
-    Program,
-    Library,
-    Static,
-}
+use pl_elf::Kind;
 
 /// Which hash tables a file has.
 #[derive(Clone, Copy)]

@@ -5,7 +5,7 @@ ghost use Rattle.pl_build.specs.Plan as spec;
 
 use crate::choices::chosen;
 use crate::constants::{BASE, DATA_DISTANCE};
-use crate::line::{DataWord, Kind, Relocation, Symbol};
+use crate::line::{DataWord, Relocation, Symbol};
 use crate::needed::{Need, files_of, needs_of};
 use crate::recipe::{Recipe, Settings};
 use crate::roles::Role;
@@ -40,34 +40,13 @@ pub struct Plan {
     pub roles: Rows<Role>,
 }
 
-/// Whether a recipe makes a program that needs libraries.
-pub fn is_program(kind: Kind) -> bool
-    ensures { result ≡ spec.is_program kind }
-{
-    matches!(kind, Kind::Program)
-}
-
-/// Whether a recipe makes a library.
-pub fn is_library(kind: Kind) -> bool
-    ensures { result ≡ spec.is_library kind }
-{
-    matches!(kind, Kind::Library)
-}
-
-/// Whether a recipe makes a static program.
-pub fn is_static(kind: Kind) -> bool
-    ensures { result ≡ spec.is_static kind }
-{
-    matches!(kind, Kind::Static)
-}
-
 /// The address of the file's first byte.
 #[tactic(auto, unfolding(crate::specs::Plan::base_of))]
 pub fn base_of(settings: &Settings) -> u64
     ensures value { result ≡ spec.base_of settings.now }
     ensures small { result < 2 ^ 32 }
 {
-    if is_library(settings.kind) { 0 } else { BASE }
+    if settings.kind.is_library() { 0 } else { BASE }
 }
 
 /// The address of the data.
@@ -83,7 +62,7 @@ pub fn data_address(settings: &Settings) -> u64
 pub fn has_interp(settings: &Settings) -> bool
     ensures { result ≡ spec.has_interp settings.now }
 {
-    settings.usual && is_program(settings.kind)
+    settings.usual && settings.kind.is_program()
 }
 
 /// Whether a relocation is that of a jump slot.
@@ -122,7 +101,7 @@ fn has_versions(recipe: &Recipe) -> bool
 fn first_roles(alloc: Global, settings: &Settings) -> Result<Vec<Role>, AllocError>
     ensures { IfOk result (λ v. v.items ≡ spec.first_roles settings.now) }
 {
-    let linked = !is_static(settings.kind);
+    let linked = !settings.kind.is_static();
     chosen(
         alloc,
         &[
@@ -160,7 +139,7 @@ fn last_roles(alloc: Global, settings: &Settings) -> Result<Vec<Role>, AllocErro
     chosen(
         alloc,
         &[
-            (!is_static(settings.kind), Role::Dynamic),
+            (!settings.kind.is_static(), Role::Dynamic),
             (true, Role::Data),
             (true, Role::Bss),
             (true, Role::Shstrtab),

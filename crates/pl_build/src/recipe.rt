@@ -2,10 +2,11 @@ ghost use Rattle.std.specs.Prelude.{◌≡◌, IfOk, fold};
 ghost use Rattle.pl_build.specs.Recipe as spec;
 
 use crate::constants::{BUCKETS, SPARE};
-use crate::line::{DataWord, Hashes, Kind, Line, Relocation, Symbol, TlsBlock};
+use crate::line::{DataWord, Hashes, Line, Relocation, Symbol, TlsBlock};
 use crate::symbols::copy_symbol;
 use crate::words::copy_of;
 use pl_base::Rows;
+use pl_elf::Kind;
 use std::alloc::{AllocError, Global};
 
 /// The lines of a recipe that stand once.

@@ -1,5 +1,6 @@
 // The program header table.
 ghost use Rattle.std.specs.Prelude.{◌≡◌, ◌++◌, ◌<◌, ◌≤◌, ◌+◌, ◌^◌, IfOk, OnOk, length};
+ghost use Rattle.pl_elf.specs.Written.{segment_bytes};
 ghost use Rattle.pl_build.specs.Segments as spec;
 
 use crate::choices::chosen;
@@ -19,9 +20,9 @@ use pl_elf::constants::{
 use std::alloc::{AllocError, Global};
 
 impl Row for Segment {
-    ghost bytes = { spec.segment_bytes };
+    ghost bytes = { segment_bytes };
 
-    #[tactic(auto, unfolding(crate::specs::Segments::segment_bytes))]
+    #[tactic(auto, unfolding(pl_elf::specs::Written::segment_bytes, pl_base::specs::Bytes::bytes32, pl_base::specs::Bytes::bytes64, crate::specs::Fields::fields))]
     fn push_to(&self, out: &mut Vec<u8>) -> Result<(), AllocError> {
         push_fields(
             out,

@@ -8,7 +8,7 @@ use Rattle.pl_base.specs.Windows.{Window, share, any_share}
 use Rattle.pl_elf.specs.declared.header.Header.{Header}
 use Rattle.pl_elf.specs.declared.segment.Segment.{Segment}
 use Rattle.pl_elf.specs.Headers.{segment, segments, is_load, loads}
-use Rattle.pl_elf.specs.Clauses.{ascend_from, file_window, file_windows}
+use Rattle.pl_elf.specs.Clauses.{ascend_from, load_window, load_windows}
 
 pub segments_more : (bytes : List ℕ) (h : Header) (i : ℕ) → i < h.phnum → drop i (segments bytes h) ≡ segment bytes h i ∷ drop (i + 1) (segments bytes h)
 unfolding segments
@@ -25,12 +25,12 @@ segments_done bytes h i le = drop_all i (segments bytes h) (omega (arith, length
 -- ---- one segment more of a list, a PT_LOAD or another
 
 any_one : (p : Window → Bool) (b : Bool) (s : Segment) (ss : List Segment) → is_load s ≡ b
-    → list_any p (file_windows (loads (s ∷ ss))) ≡ ((b && p (file_window s)) || list_any p (file_windows (loads ss)))
+    → list_any p (load_windows (loads (s ∷ ss))) ≡ ((b && p (load_window s)) || list_any p (load_windows (loads ss)))
 any_one p true s ss e = rw e refl
 any_one p false s ss e = rw e refl
 
 pair_one : (b : Bool) (s : Segment) (ss : List Segment) → is_load s ≡ b
-    → any_share (file_windows (loads (s ∷ ss))) ≡ ((b && list_any (share (file_window s)) (file_windows (loads ss))) || any_share (file_windows (loads ss)))
+    → any_share (load_windows (loads (s ∷ ss))) ≡ ((b && list_any (share (load_window s)) (load_windows (loads ss))) || any_share (load_windows (loads ss)))
 pair_one true s ss e = rw e refl
 pair_one false s ss e = rw e refl
 
@@ -42,20 +42,20 @@ ascend_one address false s ss e = rw e refl
 -- ---- as far as a loop has come
 
 pub any_more : (p : Window → Bool) (bytes : List ℕ) (h : Header) (i : ℕ) → i < h.phnum
-    → list_any p (file_windows (loads (drop i (segments bytes h)))) ≡ ((is_load (segment bytes h i) && p (file_window (segment bytes h i))) || list_any p (file_windows (loads (drop (i + 1) (segments bytes h)))))
+    → list_any p (load_windows (loads (drop i (segments bytes h)))) ≡ ((is_load (segment bytes h i) && p (load_window (segment bytes h i))) || list_any p (load_windows (loads (drop (i + 1) (segments bytes h)))))
 any_more p bytes h i lt =
-    ap (λ ss. list_any p (file_windows (loads ss))) (segments_more bytes h i lt) ∙ any_one p _ (segment bytes h i) (drop (i + 1) (segments bytes h)) refl
+    ap (λ ss. list_any p (load_windows (loads ss))) (segments_more bytes h i lt) ∙ any_one p _ (segment bytes h i) (drop (i + 1) (segments bytes h)) refl
 
-pub any_done : (p : Window → Bool) (bytes : List ℕ) (h : Header) (i : ℕ) → h.phnum ≤ i → list_any p (file_windows (loads (drop i (segments bytes h)))) ≡ false
-any_done p bytes h i le = ap (λ ss. list_any p (file_windows (loads ss))) (segments_done bytes h i le)
+pub any_done : (p : Window → Bool) (bytes : List ℕ) (h : Header) (i : ℕ) → h.phnum ≤ i → list_any p (load_windows (loads (drop i (segments bytes h)))) ≡ false
+any_done p bytes h i le = ap (λ ss. list_any p (load_windows (loads ss))) (segments_done bytes h i le)
 
 pub pair_more : (bytes : List ℕ) (h : Header) (i : ℕ) → i < h.phnum
-    → any_share (file_windows (loads (drop i (segments bytes h)))) ≡ ((is_load (segment bytes h i) && list_any (share (file_window (segment bytes h i))) (file_windows (loads (drop (i + 1) (segments bytes h))))) || any_share (file_windows (loads (drop (i + 1) (segments bytes h)))))
+    → any_share (load_windows (loads (drop i (segments bytes h)))) ≡ ((is_load (segment bytes h i) && list_any (share (load_window (segment bytes h i))) (load_windows (loads (drop (i + 1) (segments bytes h))))) || any_share (load_windows (loads (drop (i + 1) (segments bytes h)))))
 pair_more bytes h i lt =
-    ap (λ ss. any_share (file_windows (loads ss))) (segments_more bytes h i lt) ∙ pair_one _ (segment bytes h i) (drop (i + 1) (segments bytes h)) refl
+    ap (λ ss. any_share (load_windows (loads ss))) (segments_more bytes h i lt) ∙ pair_one _ (segment bytes h i) (drop (i + 1) (segments bytes h)) refl
 
-pub pair_done : (bytes : List ℕ) (h : Header) (i : ℕ) → h.phnum ≤ i → any_share (file_windows (loads (drop i (segments bytes h)))) ≡ false
-pair_done bytes h i le = ap (λ ss. any_share (file_windows (loads ss))) (segments_done bytes h i le)
+pub pair_done : (bytes : List ℕ) (h : Header) (i : ℕ) → h.phnum ≤ i → any_share (load_windows (loads (drop i (segments bytes h)))) ≡ false
+pair_done bytes h i le = ap (λ ss. any_share (load_windows (loads ss))) (segments_done bytes h i le)
 
 pub ascend_more : (address : ℕ) (bytes : List ℕ) (h : Header) (i : ℕ) → i < h.phnum
     → ascend_from address (loads (drop i (segments bytes h))) ≡ (if is_load (segment bytes h i) then (nat_le address (segment bytes h i).vaddr && ascend_from ((segment bytes h i).vaddr + (segment bytes h i).memsz) (loads (drop (i + 1) (segments bytes h)))) else ascend_from address (loads (drop (i + 1) (segments bytes h))))

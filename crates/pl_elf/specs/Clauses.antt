@@ -97,15 +97,15 @@ ascend_from address [] = true
 ascend_from address (s ∷ ss) = nat_le address s.vaddr && ascend_from (s.vaddr + s.memsz) ss
 
 -- the bytes of a segment in the file
-abbrev pub file_window : Segment → Window
-file_window s = record { at = s.offset; size = s.filesz }
+abbrev pub load_window : Segment → Window
+load_window s = record { at = s.offset; size = s.filesz }
 
-abbrev pub file_windows : List Segment → List Window
-file_windows ss = map file_window ss
+abbrev pub load_windows : List Segment → List Window
+load_windows ss = map load_window ss
 
 -- two PT_LOADs have a byte of the file in common
 unfoldable pub overlap_in_file : List Segment → Bool
-overlap_in_file ss = any_share (file_windows (loads ss))
+overlap_in_file ss = any_share (load_windows (loads ss))
 
 -- a PT_TLS that is refused by itself
 abbrev pub bad_tls : Segment → Bool
@@ -131,12 +131,12 @@ pub record AreLoads (ss : List Segment) : Type 0 where
 -- this project's profile: the size of a section header, and the most sections
 
 -- the bytes of a section in the file
-unfoldable pub section_bytes : List ℕ → Section → List ℕ
-section_bytes bytes s = if s.kind == SHT_NOBITS then [] else part s.offset s.size bytes
+unfoldable pub section_data : List ℕ → Section → List ℕ
+section_data bytes s = if s.kind == SHT_NOBITS then [] else part s.offset s.size bytes
 
 -- the section of section names
 abbrev pub names : List ℕ → Header → List ℕ
-names bytes h = section_bytes bytes (section bytes h h.shstrndx)
+names bytes h = section_data bytes (section bytes h h.shstrndx)
 
 unfoldable pub bad_section : List ℕ → Header → List Section → Bool
 bad_section bytes h ss =

@@ -1,3 +1,5 @@
+pub mod Kinds
+pub mod Ranges
 pub mod Headers
 pub mod Clauses
 pub mod Written

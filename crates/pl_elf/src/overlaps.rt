@@ -10,7 +10,7 @@ use crate::{Header, Segment, read_segment};
 use pl_base::{word32, word64};
 
 fn share(a: &Segment, offset: u64, filesz: u64) -> bool
-    ensures { result ≡ windows.share (spec.file_window a.now) (record { at = offset; size = filesz }) }
+    ensures { result ≡ windows.share (spec.load_window a.now) (record { at = offset; size = filesz }) }
 {
     if a.offset <= offset {
         offset - a.offset < a.filesz && filesz > 0
@@ -23,7 +23,7 @@ fn share(a: &Segment, offset: u64, filesz: u64) -> bool
 #[tactic(auto, unfolding(crate::specs::Headers::segment_at))]
 fn load_shares(bytes: &[u8], at: usize, first: &Segment) -> bool
     requires { at + SEGMENT_SIZE ≤ length bytes.now }
-    ensures { let other = segment_at bytes.now at in result ≡ (is_load other && windows.share (spec.file_window first.now) (spec.file_window other)) }
+    ensures { let other = segment_at bytes.now at in result ≡ (is_load other && windows.share (spec.load_window first.now) (spec.load_window other)) }
 {
     word32(bytes, at) == PT_LOAD && share(first, word64(bytes, at + 8), word64(bytes, at + 32))
 }
@@ -33,7 +33,7 @@ fn load_shares(bytes: &[u8], at: usize, first: &Segment) -> bool
 fn shares_later(bytes: &[u8], header: &Header, first: &Segment, index: u16) -> bool
     requires table { HasSegments bytes.now header.now }
     requires within { index < header.now.phnum }
-    ensures { result ≡ list_any (windows.share (spec.file_window first.now)) (spec.file_windows (loads (drop (index + 1) (segments bytes.now header.now)))) }
+    ensures { result ≡ list_any (windows.share (spec.load_window first.now)) (spec.load_windows (loads (drop (index + 1) (segments bytes.now header.now)))) }
 {
     let table = header.phoff as usize;
     let count = header.phnum;

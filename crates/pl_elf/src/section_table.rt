@@ -10,9 +10,9 @@ use crate::{Header, Section, read_section};
 use pl_base::{Strings, part};
 
 /// The bytes of a section in the file, as far as the file goes (gABI chapter 4, "Sections"). A NOBITS section has none.
-#[tactic(auto, unfolding(crate::specs::Clauses::section_bytes))]
-pub fn section_bytes<'a>(bytes: &'a [u8], section: &Section) -> &'a [u8]
-    ensures bytes { result.now ≡ spec.section_bytes bytes.now section.now }
+#[tactic(auto, unfolding(crate::specs::Clauses::section_data))]
+pub fn section_data<'a>(bytes: &'a [u8], section: &Section) -> &'a [u8]
+    ensures bytes { result.now ≡ spec.section_data bytes.now section.now }
     ensures within { length result.now ≤ length bytes.now }
 {
     if section.kind == SHT_NOBITS {
@@ -47,5 +47,5 @@ pub fn bad_section(bytes: &[u8], header: &Header) -> bool
         return true;
     }
     let names = read_section(bytes, header, header.shstrndx);
-    any_without_end(bytes, header, &Strings::new(section_bytes(bytes, &names)))
+    any_without_end(bytes, header, &Strings::new(section_data(bytes, &names)))
 }

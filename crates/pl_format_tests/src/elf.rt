@@ -5,7 +5,7 @@ use pl_elf::constants::{
 };
 use pl_elf::{
     Header, HeaderFault, Section, Segment, count_of_kind, is_static, loads, read_header,
-    read_sections, read_segments, section_bytes, segment_of_kind, write_header, write_section,
+    read_sections, read_segments, section_data, segment_of_kind, write_header, write_section,
     write_segment,
 };
 use std::alloc::{AllocError, Global};
@@ -126,7 +126,7 @@ fn reads_headers(rt: HostRuntime) -> Result<(), AllocError> {
         assert!(rt; read_segments(alloc, bytes, &header)?.get(1) == Some(&DATA));
         assert!(rt; read_sections(alloc, bytes, &header)?.get(1) == Some(&NAMES));
     }
-    assert!(rt; section_bytes(bytes, &NAMES) == b"\0.shstrtab\0".as_slice());
+    assert!(rt; section_data(bytes, &NAMES) == b"\0.shstrtab\0".as_slice());
     Ok(())
 }
 

@@ -8,7 +8,8 @@ use Rattle.std.proofs.lemmas.List.Folds.{Any-from_list_any, list_any_none}
 use Rattle.pl_base.specs.Memory.{Memory, Piece, Fill, AtMostOne, lies, byte_at, covers, over, layered, filled}
 use Rattle.pl_image.specs.declared.loaded.Loaded.{Loaded}
 use Rattle.pl_image.specs.declared.touched.Touch.{Touch}
-use Rattle.pl_image.specs.Lines.{byte_in, has, only, IsClear}
+use Rattle.pl_image.specs.Lines.{byte_in, only, IsClear}
+use Rattle.pl_elf.specs.Ranges.{has}
 use Rattle.pl_image.specs.Image.{Image, all_pieces, any_masked, byte_of, extent_of, AreLoaded, AreOwn, own_memory, stores}
 use Rattle.pl_image.specs.Index.{laid, IsIndex}
 use Rattle.pl_image.proofs.FindLemmas.{any_in_flat}

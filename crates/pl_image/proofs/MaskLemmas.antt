@@ -11,7 +11,7 @@ use Rattle.pl_elf.specs.declared.range.Range.{Range}
 use Rattle.pl_object.specs.Accepted.{window_of}
 use Rattle.pl_image.specs.declared.mask.Load.{Load}
 use Rattle.pl_image.specs.declared.mask.Mask.{Mask}
-use Rattle.pl_image.specs.Lines.{has}
+use Rattle.pl_elf.specs.Ranges.{has}
 use Rattle.pl_image.specs.Loads.{loads_from, is_masked}
 use Rattle.pl_image.specs.Masked.{loads_table}
 

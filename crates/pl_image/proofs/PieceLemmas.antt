@@ -10,8 +10,7 @@ use Rattle.std.proofs.lemmas.List.Folds.{list_any-append, list_any_none}
 use Rattle.pl_base.specs.Memory.{Piece, lies, byte_at, AtMostOne}
 use Rattle.pl_elf.specs.declared.constants.TheConstants.{ADDRESS_LIMIT}
 use Rattle.pl_image.specs.Image.{ascends, stored, stores, stores_in}
-use Rattle.pl_object.proofs.ExtentLaws.{find_fails}
-use Rattle.pl_object.proofs.FilePartLaws.{find_passes}
+use Rattle.pl_base.proofs.FindLaws.{find_passes, find_fails}
 use Rattle.pl_image.proofs.FindLemmas.{find_none, find_lone}
 
 record Ascends (from : ℕ) (p : Piece) (ps : List Piece) : Type 0 where

@@ -9,7 +9,7 @@ use Rattle.std.proofs.lemmas.List.{length-take, length-drop, get_or-take, get_or
 use Rattle.std.proofs.lemmas.List.Folds.{list_any-append, list_any_none}
 use Rattle.std.proofs.lemmas.List.Sorted.{list_any-IsPermutation, IsPartitionedBy-leb, IsPartitionedBy-ltb, IsNonDecreasingBy-drop}
 use Rattle.pl_elf.specs.declared.range.Range.{Range}
-use Rattle.pl_image.specs.Lines.{has}
+use Rattle.pl_elf.specs.Ranges.{has}
 use Rattle.pl_image.specs.Index.{rises, merged}
 use Rattle.pl_image.proofs.FindLemmas.{any_lone}
 

@@ -7,7 +7,7 @@ use Rattle.pl_elf.specs.declared.range.Range.{Range}
 use Rattle.pl_image.specs.declared.loaded.Loaded.{Loaded}
 use Rattle.pl_image.specs.declared.touched.Touch.{Touch}
 use Rattle.pl_image.specs.Image.{any_masked, AreLoaded}
-use Rattle.pl_image.specs.Lines.{has}
+use Rattle.pl_elf.specs.Ranges.{has}
 
 -- ---- patches by the words that they touch
 

@@ -1,5 +1,5 @@
 -- The lines of the words of a memory, and how they pass through a buffer.
-use Rattle.std.specs.Prelude.{◌≡◌, ◌≤◌, ◌<◌, ℕ, zero, suc, ◌+◌, ◌*◌, ◌^◌, Bool, ◌&&◌, nat_le, nat_lt, List, [], ◌∷◌, ◌++◌, codes, ◌==◌, if◌then◌else◌, Option, None}
+use Rattle.std.specs.Prelude.{◌≡◌, ◌≤◌, ◌<◌, ℕ, zero, suc, ◌+◌, ◌*◌, ◌^◌, List, [], ◌∷◌, ◌++◌, codes, ◌==◌, if◌then◌else◌, Option, None}
 use Rattle.std.specs.List.{list_any, flat_map}
 use Rattle.std.specs.Option.{unwrap_or}
 use Rattle.pl_base.specs.Bytes.{word64}
@@ -7,6 +7,7 @@ use Rattle.pl_base.specs.Digits.{hex16, line}
 use Rattle.pl_base.specs.Memory.{Memory, read}
 use Rattle.pl_base.specs.Streams.{got_after}
 use Rattle.pl_elf.specs.declared.range.Range.{Range}
+use Rattle.pl_elf.specs.Ranges.{has}
 
 -- ---- one word
 
@@ -44,10 +45,6 @@ abbrev pub IsClear : Memory → ℕ → ℕ → Type 0
 IsClear memory from to = (address : ℕ) → from ≤ address → address < to → byte_in memory address ≡ 0
 
 -- ---- objects
-
--- whether a range has the address
-abbrev pub has : ℕ → Range → Bool
-has address range = nat_le range.start address && nat_lt address range.end
 
 -- a memory at the addresses of some ranges alone
 unfoldable pub only : List Range → Memory → Memory

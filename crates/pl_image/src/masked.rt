@@ -6,7 +6,7 @@ ghost use Rattle.pl_image.specs.Image.{any_masked};
 ghost use Rattle.pl_image.specs.Index.{rises};
 ghost use Rattle.pl_image.specs.Loads.{is_masked};
 ghost use Rattle.pl_image.specs.Masked as spec;
-ghost use Rattle.pl_image.specs.Lines.{has};
+ghost use Rattle.pl_elf.specs.Ranges.{has};
 
 use crate::ranges::{apart, near};
 use crate::{Load, Loaded, Mask};

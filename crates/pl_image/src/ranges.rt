@@ -3,7 +3,7 @@ ghost use Rattle.std.specs.Prelude.{◌≡◌, ℕ, ◌+◌, ◌≤◌, ◌<◌,
 ghost use Rattle.std.specs.List.{All, list_any};
 ghost use Rattle.std.specs.List.Sorted.{IsNonDecreasingBy, IsPermutation};
 ghost use Rattle.pl_image.specs.Index as spec;
-ghost use Rattle.pl_image.specs.Lines.{has};
+ghost use Rattle.pl_elf.specs.Ranges.{has};
 
 use pl_base::end;
 use pl_elf::Range;

@@ -14,7 +14,8 @@ use Rattle.pl_elf.specs.declared.constants.TheConstants.{ADDRESS_LIMIT}
 use Rattle.pl_elf.specs.declared.range.Range.{Range}
 use Rattle.pl_elf.specs.declared.segment.Segment.{Segment}
 use Rattle.pl_object.specs.declared.object.Object.{Object}
-use Rattle.pl_slots.specs.Holes.{is_in, is_free}
+use Rattle.pl_slots.specs.Holes.{is_free}
+use Rattle.pl_elf.specs.Ranges.{has}
 use Rattle.pl_place.specs.Placing.{range_of, MissesAll, AllFree, AreApart}
 use Rattle.pl_image.specs.Image.{all_pieces}
 use Rattle.pl_image.specs.Loads.{loaded_piece, loaded_pieces, pieces_at, loaded_at, IsPlaced}
@@ -103,14 +104,14 @@ abbrev pub IsSpannedFile : ObjectFile → Type 0
 IsSpannedFile f = IsSpanned f.object
 
 -- a library's pieces lie in the addresses that it wants
-in_want : (f : ObjectFile) (place a : ℕ) → IsSpannedFile f → list_any (lies a) (pieces_at place f.bytes f.object) ≡ true → is_in a (range_of (want_of f) place) ≡ true
+in_want : (f : ObjectFile) (place a : ℕ) → IsSpannedFile f → list_any (lies a) (pieces_at place f.bytes f.object) ≡ true → has a (range_of (want_of f) place) ≡ true
 in_want f place a spanned any =
     let from : place + 0 ≤ a = lies_from place 0 a f.bytes (loads f.object.segments) spanned.are.ascend any in
     let below = lies_below place f.object.span a f.bytes (loads f.object.segments) spanned.span any in
     and_from (nat_le place a) (nat_lt a (place + f.object.span)) (le-leb place a (omega arith)) (lt-ltb a (place + f.object.span) below)
 
 -- libraries miss a range that their wants miss
-pieces_miss : (range : Range) (fs : List ObjectFile) (places : List ℕ) (a : ℕ) → All IsSpannedFile fs → MissesAll range (map want_of fs) places → is_in a range ≡ true → list_any (lies a) (pieces_of fs places) ≡ false
+pieces_miss : (range : Range) (fs : List ObjectFile) (places : List ℕ) (a : ℕ) → All IsSpannedFile fs → MissesAll range (map want_of fs) places → has a range ≡ true → list_any (lies a) (pieces_of fs places) ≡ false
 pieces_miss range [] places a all misses within = refl
 pieces_miss range (f ∷ fs) [] a all misses within = refl
 pieces_miss range (f ∷ fs) (place ∷ places) a all misses within =
@@ -131,7 +132,7 @@ pieces_free region busy (f ∷ fs) [] a all free hit = refl
 pieces_free region busy (f ∷ fs) (place ∷ places) a all free hit =
     none_of_both a (pieces_at place f.bytes f.object) (pieces_of fs places)
     (false_from_ne_true (list_any (lies a) (pieces_at place f.bytes f.object)) (λ any.
-    no_both (is_in a region) (is_free a busy) (free.0 a (in_want f place a (All-head IsSpannedFile f fs all) any)) hit))
+    no_both (has a region) (is_free a busy) (free.0 a (in_want f place a (All-head IsSpannedFile f fs all) any)) hit))
     (pieces_free region busy fs places a (All-tail IsSpannedFile f fs all) free.1 hit)
 
 alone_libraries : (fs : List ObjectFile) (places : List ℕ) → All IsSpannedFile fs → AreApart (map want_of fs) places → Alone (pieces_of fs places)
@@ -171,11 +172,11 @@ program_at f spanned = record {
 
 -- the last address of a want is in the region
 ends_in : (region : Range) (busy : List Range) (start span : ℕ) → 0 < span
-    → ((address : ℕ) → is_in address (record { start = start; end = start + span }) ≡ true → (is_in address region && not (is_free address busy)) ≡ true) → start + span ≤ region.end
+    → ((address : ℕ) → has address (record { start = start; end = start + span }) ≡ true → (has address region && not (is_free address busy)) ≡ true) → start + span ≤ region.end
 ends_in region busy start span some free =
     let last : ℕ = start + span - 1 in
-    let within : is_in last (record { start = start; end = start + span }) ≡ true = and_from (nat_le start last) (nat_lt last (start + span)) (le-leb start last (omega arith)) (lt-ltb last (start + span) (omega arith)) in
-    let parts = and_parts (is_in last region) (not (is_free last busy)) (free last within) in
+    let within : has last (record { start = start; end = start + span }) ≡ true = and_from (nat_le start last) (nat_lt last (start + span)) (le-leb start last (omega arith)) (lt-ltb last (start + span) (omega arith)) in
+    let parts = and_parts (has last region) (not (is_free last busy)) (free last within) in
     let below = ltb-true last region.end (and_parts (nat_le region.start last) (nat_lt last region.end) parts.0).1 in
     omega (arith, below, some)
 

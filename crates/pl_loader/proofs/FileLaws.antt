@@ -1,21 +1,18 @@
 -- What is known of the files that were given to a load.
-use Rattle.std.proofs.Common.{◌≡◌, ℕ, ◌+◌, ◌<◌, ◌≤◌, ◌-◌, false, not, ◌||◌, List, [], ◌∷◌, length, map, take, drop, refl, sym, ap, ◌∙◌, subst, arith, get_or}
-use Rattle.std.specs.Prelude.{nat_le}
-use Rattle.std.specs.List.{All, AllZip, list_any}
-use Rattle.std.proofs.lemmas.Bool.{or_parts, leb-false}
+use Rattle.std.proofs.Common.{◌≡◌, ℕ, ◌+◌, ◌≤◌, ◌-◌, List, [], ◌∷◌, length, map, take, drop, refl, sym, ap, ◌∙◌, subst, arith, get_or}
+use Rattle.std.specs.List.{All, AllZip}
 use Rattle.std.proofs.lemmas.List.{length-map, take_all}
 use Rattle.std.proofs.lemmas.List.Elements.{All-nil, All-cons, All-head, All-tail, All-map, All-weaker}
 use Rattle.pl_elf.specs.Headers.{loads}
 use Rattle.pl_elf.specs.declared.constants.TheConstants.{ADDRESS_LIMIT}
-use Rattle.pl_object.specs.PlaceClauses.{is_bad, is_known}
 use Rattle.pl_object.specs.declared.object.Object.{Object}
-use Rattle.pl_object.specs.declared.reloc.Reloc.{Reloc}
 use Rattle.pl_object.proofs.AcceptedLaws.{accepted}
 use Rattle.pl_place.specs.Placing.{IsWant}
 use Rattle.pl_scope.specs.Scope.{objects, HasFewSymbols}
 use Rattle.pl_scope.specs.declared.constants.TheConstants.{MAX_MEMBERS}
 use Rattle.pl_scope.specs.declared.member.Member.{Member}
 use Rattle.pl_value.specs.Linkable.{RefersToSymbols, IsLinkable}
+use Rattle.pl_value.proofs.LinkableLaws.{refers_to_symbols}
 use Rattle.pl_value.specs.Ordinary.{ArePlaced}
 use Rattle.pl_loader.specs.Loading.{objects_of, parts_of, IsRead, AreFiles}
 use Rattle.pl_loader.specs.Places.{region, taken, want_of, IsAt, IsFree}
@@ -49,16 +46,8 @@ wants_asked program fs are =
 few_symbols : (f : ObjectFile) → IsRead f → HasFewSymbols f.object
 few_symbols f is = omega (arith, (accepted f.bytes f.object is.object).few, is.size)
 
-symbols_below : (count : ℕ) (rs : List Reloc) → list_any (is_bad count) rs ≡ false → All (λ r. r.symbol < count) rs
-unfolding is_bad
-symbols_below count [] none = All-nil (λ (r : Reloc). r.symbol < count)
-symbols_below count (r ∷ rs) none =
-    let parts = or_parts (not (is_known r.kind) || nat_le count r.symbol) (list_any (is_bad count) rs) none in
-    let here = or_parts (not (is_known r.kind)) (nat_le count r.symbol) parts.0 in
-    All-cons (λ (s : Reloc). s.symbol < count) r rs (leb-false count r.symbol here.1) (symbols_below count rs parts.1)
-
 refers : (f : ObjectFile) → IsRead f → RefersToSymbols f.object
-refers f is = symbols_below (length f.object.symbols) f.object.relocations (accepted f.bytes f.object is.object).relocs
+refers f is = refers_to_symbols f.object (accepted f.bytes f.object is.object).relocs
 
 -- ---- the scope of their objects
 

@@ -6,7 +6,7 @@ use Rattle.pl_base.proofs.AnswerLaws.{bind_ok, ok_same, unless_ok}
 use Rattle.pl_object.specs.Reads.{reads}
 use Rattle.pl_object.specs.declared.object.Object.{Object}
 use Rattle.pl_object.proofs.AcceptedLaws.{because_ok}
-use Rattle.pl_scope.specs.Kinds.{is_library}
+use Rattle.pl_elf.specs.Kinds.{is_library}
 use Rattle.pl_scope.specs.Walking.{wants}
 use Rattle.std.specs.Prelude.{◌&&◌}
 use Rattle.std.specs.Str.{bytes_eq}

@@ -30,8 +30,9 @@ use Rattle.pl_object.specs.declared.headers.Headers.{Headers}
 use Rattle.pl_object.specs.declared.object.Object.{Object}
 use Rattle.pl_object.specs.declared.refusal.Refusal.TheVariants.{Clause}
 use Rattle.pl_object.proofs.AcceptedLaws.{because_ok, accepted}
-use Rattle.pl_object.proofs.FilePartLaws.{loads_parts, find_passes}
-use Rattle.pl_scope.specs.Kinds.{is_library}
+use Rattle.pl_base.proofs.FindLaws.{find_passes}
+use Rattle.pl_object.proofs.FilePartLaws.{loads_parts}
+use Rattle.pl_elf.specs.Kinds.{is_library}
 
 -- ---- the parts of an object
 

@@ -11,7 +11,7 @@ use Rattle.pl_base.specs.Answers.{◌>>=◌, because, unless_found}
 use Rattle.pl_base.specs.Each.{run}
 use Rattle.pl_base.proofs.AnswerLaws.{bind_ok, ok_same, unless_ok}
 use Rattle.pl_object.specs.declared.object.Object.{Object}
-use Rattle.pl_scope.specs.Kinds.{is_library}
+use Rattle.pl_elf.specs.Kinds.{is_library}
 use Rattle.pl_scope.specs.Walking.{Walking, IsWalking, wants}
 use Rattle.pl_scope.specs.Walk.{added, checked, needed_program, program_name, entered, next, of_wanted}
 use Rattle.pl_scope.specs.Walk as walk

@@ -3,7 +3,7 @@ use Rattle.std.specs.Prelude.{◌≡◌, ◌<◌, ◌^◌, ℕ, true, List, Ok, 
 use Rattle.std.specs.List.{All}
 use Rattle.pl_object.specs.Reads.{reads}
 use Rattle.pl_object.specs.declared.object.Object.{Object}
-use Rattle.pl_scope.specs.Kinds.{is_library}
+use Rattle.pl_elf.specs.Kinds.{is_library}
 use Rattle.pl_scope.specs.Walking.{Walking, IsWalking}
 use Rattle.pl_loader.specs.declared.object_file.ObjectFile.{ObjectFile}
 

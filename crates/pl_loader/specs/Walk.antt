@@ -5,7 +5,7 @@ use Rattle.pl_base.specs.Answers.{◌>>=◌, because, unless}
 use Rattle.pl_base.specs.Each.{each}
 use Rattle.pl_object.specs.Reads.{reads}
 use Rattle.pl_object.specs.declared.object.Object.{Object}
-use Rattle.pl_scope.specs.Kinds.{is_library}
+use Rattle.pl_elf.specs.Kinds.{is_library}
 use Rattle.pl_scope.specs.Walking.{Walking, IsWalking, wants}
 use Rattle.pl_scope.specs.Walk.{Walked}
 use Rattle.pl_scope.specs.Walk as walk

@@ -13,7 +13,7 @@ use crate::starting::started;
 use crate::{LoadFault, ObjectFile, Started};
 use pl_base::{Rows, Text};
 use pl_io::NoMemory;
-use pl_object::{Kind, Object, Refusal, accept};
+use pl_object::{Object, Refusal, accept};
 use pl_scope::Order;
 use std::alloc::Global;
 use std::marker::Model;
@@ -57,7 +57,7 @@ fn read_object(alloc: Global, name: &str, bytes: &[u8]) -> Result<Object, LoadFa
 fn loadable(alloc: Global, loaded: &str, name: &str, object: Object) -> Result<Object, LoadFault>
     ensures { Answers is_memory result (spec.loadable loaded.now name.now object) }
 {
-    if name == loaded && matches!(object.kind, Kind::Library) {
+    if name == loaded && object.kind.is_library() {
         return Err(LoadFault::NotProgram(Text::copy_of(alloc, name)?));
     }
     Ok(object)

@@ -1,12 +1,13 @@
 -- The link tables of an accepted file lie in it.
-use Rattle.std.proofs.Common.{◌≡◌, ℕ, ◌+◌, ◌-◌, ◌*◌, ◌<◌, ◌≤◌, ◌^◌, Bool, true, false, ◌||◌, ◌++◌, cond, List, [], ◌∷◌, length, map, get_or, Option, Some, None, Result, Ok, refl, sym, ap, ◌∙◌, arith, inl, inr}
-use Rattle.std.specs.Prelude.{find, filter, nat_lt, nat_le, min}
+use Rattle.std.proofs.Common.{◌≡◌, ℕ, ◌+◌, ◌-◌, ◌*◌, ◌<◌, ◌≤◌, ◌^◌, Bool, true, false, ◌||◌, ◌++◌, List, [], ◌∷◌, length, map, get_or, Option, Some, None, Result, Ok, refl, sym, ap, ◌∙◌, arith, inl, inr}
+use Rattle.std.specs.Prelude.{filter, nat_lt, nat_le, min}
 use Rattle.std.specs.List.{list_any, list_all, All}
 use Rattle.std.specs.Result.{is_ok}
 use Rattle.std.proofs.lemmas.Bool.{cases_Bool, or_parts, ltb-false, le-leb, leb-true, true≢false}
 use Rattle.std.proofs.lemmas.List.Folds.{list_all-append}
 use Rattle.std.proofs.lemmas.List.Sums.{AllPass-from_list_all}
 use Rattle.pl_base.proofs.AnswerLaws.{refuse_none, refuse_next}
+use Rattle.pl_base.proofs.FindLaws.{find_passes, find_fails}
 use Rattle.pl_base.specs.Windows.{Window, end_of}
 use Rattle.pl_elf.specs.declared.constants.TheConstants.{HEADER_SIZE, SEGMENT_SIZE, SECTION_SIZE, SHT_SYMTAB}
 use Rattle.pl_elf.specs.declared.header.Header.{Header}
@@ -19,7 +20,7 @@ use Rattle.pl_elf.specs.Clauses.{read, passes, not_elf, other_class, other_machi
 use Rattle.pl_dyn.specs.declared.tags.Tag.{Tag}
 use Rattle.pl_object.specs.FilePart.{loads_byte, loader, loaded_by, file_window}
 use Rattle.pl_object.specs.Tables.{has_kind, header_window, segments_window, section_window, symtab_windows, dynamic_memory, tables_memory, link_windows, static_windows}
-use Rattle.pl_object.proofs.FilePartLaws.{find_passes, loads_parts}
+use Rattle.pl_object.proofs.FilePartLaws.{loads_parts}
 
 -- ---- what clauses 1 and 5 say
 
@@ -80,17 +81,6 @@ are_in_file bytes h e =
 
 abbrev pub is_in : ℕ → Window → Bool
 is_in size w = nat_le (end_of w) size
-
--- what was found fails a test that no row passes
-find_fails_by : {A : Type 0} (q : A → Bool) (y x : A) (rest : Option A) (b : Bool) → cond b (Some y) rest ≡ Some x → q y ≡ false → (rest ≡ Some x → q x ≡ false) → q x ≡ false
-find_fails_by q y x rest true e here more = let same : y ≡ x = cc in rw same at here
-find_fails_by q y x rest false e here more = more e
-
-pub find_fails : {A : Type 0} (p q : A → Bool) (xs : List A) (x : A) → find p xs ≡ Some x → list_any q xs ≡ false → q x ≡ false
-find_fails p q [] x e none = absurd cc
-find_fails p q (y ∷ ys) x e none =
-    let parts = or_parts (q y) (list_any q ys) none in
-    find_fails_by q y x (find p ys) (p y) e parts.0 (λ more. find_fails p q ys x more parts.1)
 
 segment_in : (bytes : List ℕ) (s : Segment) → segment_passes bytes false s ≡ false → s.offset + s.filesz ≤ length bytes
 unfolding passes

@@ -1,19 +1,11 @@
 -- What is known of the PT_LOAD that loads a byte.
-use Rattle.std.proofs.Common.{◌≡◌, ℕ, ◌+◌, ◌<◌, ◌≤◌, Bool, true, false, cond, ◌&&◌, List, [], ◌∷◌, Option, Some, refl}
-use Rattle.std.specs.Prelude.{find, nat_le, nat_lt}
+use Rattle.std.proofs.Common.{◌≡◌, ℕ, ◌+◌, ◌<◌, ◌≤◌, true, ◌&&◌, List, Some}
+use Rattle.std.specs.Prelude.{nat_le, nat_lt}
 use Rattle.std.proofs.lemmas.Bool.{and_parts, leb-true, ltb-true}
 use Rattle.pl_elf.specs.declared.segment.Segment.{Segment}
 use Rattle.pl_elf.specs.Headers.{is_load}
+use Rattle.pl_base.proofs.FindLaws.{find_passes}
 use Rattle.pl_object.specs.FilePart.{loads_byte, loader}
-
-passes_by : {A : Type 0} (p : A → Bool) (y x : A) (rest : Option A) (b : Bool) → p y ≡ b → cond b (Some y) rest ≡ Some x → (rest ≡ Some x → p x ≡ true) → p x ≡ true
-passes_by p y x rest true is e more = let same : y ≡ x = cc in rw same at is
-passes_by p y x rest false is e more = more e
-
--- what was found passes its test
-pub find_passes : {A : Type 0} (p : A → Bool) (xs : List A) (x : A) → find p xs ≡ Some x → p x ≡ true
-find_passes p [] x e = absurd cc
-find_passes p (y ∷ ys) x e = passes_by p y x (find p ys) (p y) refl e (λ more. find_passes p ys x more)
 
 pub loads_parts : (address : ℕ) (s : Segment) → loads_byte address s ≡ true → (is_load s ≡ true) × (s.vaddr ≤ address) × (address < s.vaddr + s.filesz)
 unfolding loads_byte

@@ -10,9 +10,9 @@ use Rattle.pl_object.specs.Tables.{sections_window}
 use Rattle.pl_object.specs.PlaceClauses.{is_bad, reloc_outside, reloc_overlap, reloc_in_tables, odd_addend, misplaced_copy}
 use Rattle.pl_object.specs.declared.object.Object.{Object}
 
--- whether it is a program, of the two kinds with relocations
-abbrev pub is_program : Object → Bool
-is_program o = o.header.kind == ET_EXEC
+-- whether it is a program, with relocations or without
+abbrev pub is_exec : Object → Bool
+is_exec o = o.header.kind == ET_EXEC
 
 -- a link table as a window of the file
 abbrev pub window_of : Range → Window
@@ -32,7 +32,7 @@ pub record Accepted (bytes : List ℕ) (o : Object) : Type 0 where
   -- each relocation is of a known kind, and its symbol is below the count of symbols
   pub relocs : list_any (is_bad (length o.symbols)) o.relocations ≡ false
   -- each place is in the file part or, in a program, in the memory of the last PT_LOAD
-  pub held : reloc_outside (is_program o) o.segments o.relocations ≡ false
+  pub held : reloc_outside (is_exec o) o.segments o.relocations ≡ false
   -- no two places share a byte
   pub apart : reloc_overlap o.relocations ≡ false
   -- no place shares a byte with a table
@@ -40,4 +40,4 @@ pub record Accepted (bytes : List ℕ) (o : Object) : Type 0 where
   -- no addend where a symbol's address or bytes alone count
   pub plain : odd_addend o.relocations ≡ false
   -- a COPY stands in a program alone, and has a symbol
-  pub copies : misplaced_copy (is_program o) o.relocations ≡ false
+  pub copies : misplaced_copy (is_exec o) o.relocations ≡ false

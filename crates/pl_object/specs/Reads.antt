@@ -28,8 +28,8 @@ use Rattle.pl_object.specs.declared.constants.TheConstants.{ORIGINAL}
 use Rattle.pl_object.specs.declared.headers.Headers.{Headers}
 use Rattle.pl_object.specs.declared.layout.Layout.{Layout}
 use Rattle.pl_object.specs.declared.linking.Linking.{Linking}
-use Rattle.pl_object.specs.declared.kind.Kind.{Kind}
-use Rattle.pl_object.specs.declared.kind.Kind.TheVariants.{Program, Library, Static}
+use Rattle.pl_elf.specs.declared.kind.Kind.{Kind}
+use Rattle.pl_elf.specs.declared.kind.Kind.TheVariants.{Program, Library, Static}
 use Rattle.pl_object.specs.declared.object.Object.{Object}
 use Rattle.pl_object.specs.declared.reloc.Reloc.{Reloc}
 use Rattle.pl_object.specs.declared.refusal.Refusal.{Refusal}

@@ -1,6 +1,6 @@
-use crate::{Kind, Reloc};
+use crate::Reloc;
 use pl_base::{Rows, Text};
-use pl_elf::{Header, Range, Section, Segment};
+use pl_elf::{Header, Kind, Range, Section, Segment};
 use pl_hash::Table;
 use pl_sym::Symbol;
 use pl_tls::Block;

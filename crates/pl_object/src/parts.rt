@@ -8,12 +8,12 @@ use crate::constants::ORIGINAL;
 use crate::place_clauses::{last_load, misplaced_copy};
 use crate::symbol_clauses::has_ifunc;
 use crate::tags::{has_tag, value};
-use crate::{Kind, Refusal, Reloc};
+use crate::{Refusal, Reloc};
 use pl_base::round_up;
 use pl_dyn::Dynamic;
 use pl_dyn::constants::{DF_1_PIE, DF_SYMBOLIC, DT_FLAGS, DT_FLAGS_1, DT_SONAME, DT_SYMBOLIC};
 use pl_elf::constants::{ADDRESS_LIMIT, ET_DYN, ET_EXEC, PAGE, PT_INTERP, PT_TLS};
-use pl_elf::{Header, Segment, segment_of_kind};
+use pl_elf::{Header, Kind, Segment, segment_of_kind};
 use pl_sym::Symbol;
 use pl_tls::Block;
 

@@ -4,7 +4,8 @@ use Rattle.std.specs.Prelude.{nat_le, nat_lt, fold, max}
 use Rattle.std.proofs.lemmas.Bool.{cases_Bool, leb-true, lt-ltb, and_parts, or_cases, false≢true}
 use Rattle.std.proofs.lemmas.Bool.Decides.{nat_tests}
 use Rattle.pl_elf.specs.declared.range.Range.{Range}
-use Rattle.pl_slots.specs.Holes.{region_holes, without, is_in, is_free, fits_at}
+use Rattle.pl_slots.specs.Holes.{region_holes, without, is_free, fits_at}
+use Rattle.pl_elf.specs.Ranges.{has}
 use Rattle.pl_slots.proofs.HoleLaws.{free_without, free_in_region}
 use Rattle.pl_place.specs.Left.{beside, left, greatest_end}
 
@@ -13,14 +14,14 @@ pub beside_some : (holes : List Range) (taken : Range) → taken.start < taken.e
 beside_some holes taken lt = rw (lt-ltb taken.start taken.end lt) refl
 
 -- a range without addresses has none of them
-none_in : (address : ℕ) (taken : Range) → nat_lt taken.start taken.end ≡ false → is_in address taken ≡ false
+none_in : (address : ℕ) (taken : Range) → nat_lt taken.start taken.end ≡ false → has address taken ≡ false
 none_in address taken empty = grind (arith, nat_tests, empty)
 
 kept : (b : Bool) → b ≡ (b && not false)
 kept true = refl
 kept false = refl
 
-free_beside : (address : ℕ) (holes : List Range) (taken : Range) → is_free address (beside holes taken) ≡ (is_free address holes && not (is_in address taken))
+free_beside : (address : ℕ) (holes : List Range) (taken : Range) → is_free address (beside holes taken) ≡ (is_free address holes && not (has address taken))
 free_beside address holes taken = elim (cases_Bool (nat_lt taken.start taken.end)) [
   | inl some ↦ rw some (free_without address taken holes)
   | inr none ↦ rw (none, none_in address taken none) (kept (is_free address holes))
@@ -36,10 +37,10 @@ free_after address holes [] = kept (is_free address holes)
 free_after address holes (taken ∷ busy) =
     free_after address (beside holes taken) busy
     ∙ ap (λ b. b && not (is_free address busy)) (free_beside address holes taken)
-    ∙ both (is_free address holes) (is_in address taken) (is_free address busy)
+    ∙ both (is_free address holes) (has address taken) (is_free address busy)
 
 -- the addresses of the region that no busy range has
-pub free_left : (address : ℕ) (region : Range) (busy : List Range) → is_free address (left region busy) ≡ (is_in address region && not (is_free address busy))
+pub free_left : (address : ℕ) (region : Range) (busy : List Range) → is_free address (left region busy) ≡ (has address region && not (is_free address busy))
 unfolding left
 free_left address region busy = free_after address (region_holes region) busy ∙ ap (λ b. b && not (is_free address busy)) (free_in_region address region)
 

@@ -1,7 +1,7 @@
 -- The places of a span in holes are numbered upwards, hole by hole.
 use Rattle.std.proofs.Common.{◌≡◌, ℕ, zero, suc, ◌+◌, ◌-◌, ◌*◌, ◌/◌, ◌%◌, ◌≤◌, ◌<◌, Bool, true, false, ◌&&◌, ◌||◌, List, [], ◌∷◌, Some, None, refl, sym, ◌∙◌, arith, inl, inr, add-one}
 use Rattle.std.specs.Prelude.{nat_le, nat_lt, max}
-use Rattle.std.proofs.lemmas.Bool.{cases_Bool, cases_lt, leb-true, leb-false, le-leb, ltb-true, ltb-false, eqb-true, and_parts, and_from, and_right, or_cases, or_left, or_right, false_from_ne_true, false≢true}
+use Rattle.std.proofs.lemmas.Bool.{cases_Bool, cases_lt, leb-true, leb-false, le-leb, ltb-true, ltb-false, eqb-true, and_parts, and_from, and_right, or_left, or_right, false_from_ne_true}
 use Rattle.std.proofs.lemmas.Nat.{div-add-mod', mod_below}
 use Rattle.std.proofs.Math.Nat.{div-mul-le_self, mul-le-mul_right, add-mul, mul_comm, mul-mod_left}
 use Rattle.pl_base.specs.Below.{count_below}
@@ -9,7 +9,7 @@ use Rattle.pl_base.specs.Sums.{round_up, is_aligned}
 use Rattle.pl_base.proofs.SumLaws.{round_up-at_least}
 use Rattle.pl_elf.specs.declared.range.Range.{Range}
 use Rattle.pl_slots.specs.Holes.{holds, AreHolesFrom, fits_at}
-use Rattle.pl_slots.proofs.LowestLaws.{round_up-least}
+use Rattle.pl_slots.proofs.LowestLaws.{round_up-least, fits_from}
 use Rattle.pl_place.specs.Left.{greatest_end}
 use Rattle.pl_place.specs.Numbering.{is_place, places_below, room, all_room, place_in, numbered}
 use Rattle.pl_place.proofs.CountLaws.{count_until, count_next, count_grows, count_split}
@@ -161,16 +161,8 @@ spread false b c = refl
 place_split : (span align : ℕ) (hole : Range) (holes : List Range) (start : ℕ) → is_place (hole ∷ holes) span align start ≡ (here hole span align start || is_place holes span align start)
 place_split span align hole holes start = spread (is_aligned start align) (nat_le hole.start start && nat_le (start + span) hole.end) (fits_at holes span start)
 
--- what fits in holes is not below the first
-fits_low : (low span : ℕ) (holes : List Range) (start : ℕ) → AreHolesFrom low holes → fits_at holes span start ≡ true → low ≤ start
-fits_low low span [] start are fits = absurd (false≢true fits)
-fits_low low span (h ∷ holes) start are fits = elim (or_cases (nat_le h.start start && nat_le (start + span) h.end) (fits_at holes span start) fits) [
-  | inl first ↦ omega (arith, are.0, leb-true h.start start (and_parts (nat_le h.start start) (nat_le (start + span) h.end) first).0)
-  | inr later ↦ omega (arith, are.0, are.1, fits_low (h.end + 1) span holes start are.2 later)
-]
-
 place_low : (low span align : ℕ) (holes : List Range) (start : ℕ) → AreHolesFrom low holes → is_place holes span align start ≡ true → low ≤ start
-place_low low span align holes start are hit = fits_low low span holes start are (and_parts (is_aligned start align) (fits_at holes span start) hit).1
+place_low low span align holes start are hit = fits_from low holes span start are (and_parts (is_aligned start align) (fits_at holes span start) hit).1
 
 place_apart : (span align : ℕ) (hole : Range) (holes : List Range) (start : ℕ) → AreHolesFrom (hole.end + 1) holes → (here hole span align start && is_place holes span align start) ≡ false
 place_apart span align hole holes start are = false_from_ne_true _ (λ both.

@@ -6,7 +6,8 @@ use Rattle.std.proofs.lemmas.List.{at_drop_more, at_drop_all}
 use Rattle.std.proofs.lemmas.List.Folds.{list_any-append}
 use Rattle.std.specs.Borrow.{Bor}
 use Rattle.pl_elf.specs.declared.range.Range.{Range}
-use Rattle.pl_slots.specs.Holes.{hole, cut, without, is_in, is_free, fits_at, IsLowest}
+use Rattle.pl_slots.specs.Holes.{hole, cut, without, is_free, fits_at, IsLowest}
+use Rattle.pl_elf.specs.Ranges.{has}
 use Rattle.pl_slots.proofs.HoleLaws.{free_without}
 use Rattle.pl_slots.specs.declared.slot.Want.{Want}
 use Rattle.pl_place.specs.declared.fault.PlaceFault.{PlaceFault}
@@ -106,17 +107,17 @@ pub all_fit : (post : Answering) (holes : List Range) (wants : List Want) (start
 all_fit post holes wants starts placed = placed_fit post holes wants starts placed.in_turn
 
 -- the addresses of what fits are free
-fits_free : (address span start : ℕ) (holes : List Range) → fits_at holes span start ≡ true → is_in address (record { start = start; end = start + span }) ≡ true → is_free address holes ≡ true
+fits_free : (address span start : ℕ) (holes : List Range) → fits_at holes span start ≡ true → has address (record { start = start; end = start + span }) ≡ true → is_free address holes ≡ true
 fits_free address span start [] fits within = absurd (false≢true fits)
 fits_free address span start (h ∷ holes) fits within =
     let parts = and_parts (nat_le start address) (nat_lt address (start + span)) within in
     elim (or_cases (nat_le h.start start && nat_le (start + span) h.end) (fits_at holes span start) fits) [
       | inl first ↦
           let ends = and_parts (nat_le h.start start) (nat_le (start + span) h.end) first in
-          or_left (is_in address h) (is_free address holes) (and_from _ _
+          or_left (has address h) (is_free address holes) (and_from _ _
           (le-leb h.start address (omega (arith, leb-true h.start start ends.0, leb-true start address parts.0)))
           (lt-ltb address h.end (omega (arith, leb-true (start + span) h.end ends.1, ltb-true address (start + span) parts.1))))
-      | inr later ↦ or_right (is_in address h) (is_free address holes) (fits_free address span start holes later within)
+      | inr later ↦ or_right (has address h) (is_free address holes) (fits_free address span start holes later within)
     ]
 
 no_both : (f t : Bool) → (f && not t) ≡ true → t ≡ true → ⊥
@@ -128,8 +129,8 @@ misses : (taken : Range) (holes : List Range) (wants : List Want) (starts : List
 misses taken holes [] starts all = tt
 misses taken holes (want ∷ wants) [] all = tt
 misses taken holes (want ∷ wants) (start ∷ starts) all = (
-  λ address hit. false_from_ne_true (is_in address (range_of want start)) (λ there.
-      no_both (is_free address holes) (is_in address taken) (sym (free_without address taken holes) ∙ fits_free address want.span start (without taken holes) all.0.1 there) hit),
+  λ address hit. false_from_ne_true (has address (range_of want start)) (λ there.
+      no_both (is_free address holes) (has address taken) (sym (free_without address taken holes) ∙ fits_free address want.span start (without taken holes) all.0.1 there) hit),
   misses taken holes wants starts all.1,
 )
 

@@ -1,7 +1,8 @@
 -- The places of wants in turn.
 use Rattle.std.specs.Prelude.{◌≡◌, ℕ, ◌+◌, ◌⊎◌, true, false, not, ◌&&◌, List, [], ◌∷◌, Option, Some, None}
 use Rattle.pl_elf.specs.declared.range.Range.{Range}
-use Rattle.pl_slots.specs.Holes.{without, is_in, is_free, IsPlace, IsLowest}
+use Rattle.pl_slots.specs.Holes.{without, is_free, IsPlace, IsLowest}
+use Rattle.pl_elf.specs.Ranges.{has}
 use Rattle.pl_slots.specs.declared.slot.Want.{Want}
 use Rattle.pl_place.specs.declared.fault.PlaceFault.{PlaceFault}
 use Rattle.pl_place.specs.declared.fault.PlaceFault.TheVariants.{NoPlace, NoMemory}
@@ -55,7 +56,7 @@ abbrev pub AllFree : Range → List Range → List Want → List ℕ → Type 0
 AllFree region busy [] starts = Unit {0}
 AllFree region busy (want ∷ wants) [] = Unit {0}
 AllFree region busy (want ∷ wants) (start ∷ starts) =
-    ((address : ℕ) → is_in address (range_of want start) ≡ true → (is_in address region && not (is_free address busy)) ≡ true)
+    ((address : ℕ) → has address (range_of want start) ≡ true → (has address region && not (is_free address busy)) ≡ true)
     × AllFree region busy wants starts
 
 -- no address of a range is an address of a want
@@ -63,7 +64,7 @@ abbrev pub MissesAll : Range → List Want → List ℕ → Type 0
 MissesAll range [] starts = Unit {0}
 MissesAll range (want ∷ wants) [] = Unit {0}
 MissesAll range (want ∷ wants) (start ∷ starts) =
-    ((address : ℕ) → is_in address range ≡ true → is_in address (range_of want start) ≡ false) × MissesAll range wants starts
+    ((address : ℕ) → has address range ≡ true → has address (range_of want start) ≡ false) × MissesAll range wants starts
 
 -- no address is an address of two wants
 abbrev pub AreApart : List Want → List ℕ → Type 0

@@ -1,5 +1,6 @@
 ghost use Rattle.std.specs.Prelude.{◌≡◌, ◌+◌, ◌≤◌, ◌&&◌, not, true, ℕ, IfOk};
-ghost use Rattle.pl_slots.specs.Holes.{AreHoles, fits_at, is_free, is_in};
+ghost use Rattle.pl_slots.specs.Holes.{AreHoles, fits_at, is_free};
+ghost use Rattle.pl_elf.specs.Ranges.{has};
 ghost use Rattle.pl_place.specs.Left as spec;
 
 use pl_elf::Range;
@@ -84,7 +85,7 @@ fn holes_left(alloc: Global, region: Range, busy: &[Range]) -> Result<Holes, All
 /// The holes of a region beside ranges that are busy. The ranges may overlap, and lie outside of the region.
 pub fn left(alloc: Global, region: Range, busy: &[Range]) -> Result<Holes, AllocError>
     ensures value { IfOk result (λ holes. holes ≡ spec.left region busy.now) }
-    ensures free { IfOk result (λ holes. (address : ℕ) → is_free address holes ≡ (is_in address region && not (is_free address busy.now))) }
+    ensures free { IfOk result (λ holes. (address : ℕ) → is_free address holes ≡ (has address region && not (is_free address busy.now))) }
 {
     holes_left(alloc, region, busy)
 }

@@ -1,4 +1,3 @@
-pub mod Kinds
 pub mod Walking
 pub mod Walk
 pub mod Matching

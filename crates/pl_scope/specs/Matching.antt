@@ -9,7 +9,7 @@ use Rattle.pl_ver.specs.Fields.{index_of}
 use Rattle.pl_ver.specs.declared.constants.TheConstants.{VER_NDX_LOCAL, VER_NDX_GLOBAL, VERSYM_HIDDEN}
 use Rattle.pl_object.specs.SymbolClauses.{version_name, is_same_name}
 use Rattle.pl_object.specs.declared.object.Object.{Object}
-use Rattle.pl_scope.specs.Kinds.{is_program}
+use Rattle.pl_elf.specs.Kinds.{is_program}
 use Rattle.pl_scope.specs.declared.constants.TheConstants.{FIRST_VERSION}
 
 -- a definer of the name for references of a class

@@ -5,7 +5,7 @@ use Rattle.std.specs.Str.{bytes_eq}
 use Rattle.pl_base.specs.Answers.{◌>>=◌, because, unless, unless_found}
 use Rattle.pl_base.specs.Each.{run}
 use Rattle.pl_object.specs.declared.object.Object.{Object}
-use Rattle.pl_scope.specs.Kinds.{is_program, is_library}
+use Rattle.pl_elf.specs.Kinds.{is_program, is_library}
 use Rattle.pl_scope.specs.Walking.{Walking, wants}
 use Rattle.pl_scope.specs.declared.constants.TheConstants.{MAX_MEMBERS}
 use Rattle.pl_scope.specs.declared.fault.WalkFault.{WalkFault}

@@ -4,7 +4,6 @@
 pub mod constants;
 mod fault;
 mod found;
-mod kinds;
 mod lookup;
 mod matching;
 mod member;

@@ -7,7 +7,6 @@ ghost use Rattle.pl_ver.specs.declared.constants.TheConstants.{VER_NDX_GLOBAL};
 ghost use Rattle.pl_scope.specs.Matching as spec;
 
 use crate::constants::FIRST_VERSION;
-use crate::kinds::is_program;
 use pl_object::{Object, version_name};
 use pl_sym::{Class, Symbol, is_definer};
 use pl_ver::constants::{VER_NDX_GLOBAL, VER_NDX_LOCAL, VERSYM_HIDDEN};
@@ -23,7 +22,7 @@ fn is_same(name: &[u8], other: &[u8]) -> bool
 fn defines(object: &Object, name: &[u8], class: Class, symbol: &Symbol) -> bool
     ensures { result ≡ spec.defines object.now name.now class symbol.now }
 {
-    is_definer(symbol, class, is_program(object)) && is_same(symbol.name.as_slice(), name)
+    is_definer(symbol, class, object.kind.is_program()) && is_same(symbol.name.as_slice(), name)
 }
 
 #[tactic(auto, unfolding(crate::specs::Matching::has_version))]

@@ -10,7 +10,6 @@ ghost use Rattle.pl_scope.specs.declared.fault.WalkFault as fault;
 ghost use Rattle.pl_scope.specs.Walking.{wants, IsWalking};
 ghost use Rattle.pl_scope.specs.Walk as spec;
 
-use crate::kinds::{is_library, is_program};
 use crate::{MAX_MEMBERS, WalkFault};
 use pl_base::Text;
 use pl_io::NoMemory;
@@ -167,7 +166,7 @@ impl Order {
     fn check(&self, alloc: Global, name: &str, object: &Object) -> Result<(), WalkFault>
         ensures { Answers spec.is_memory result (spec.checked self.now name.now object.now) }
     {
-        if self.given > 0 && !is_library(object) {
+        if self.given > 0 && !object.kind.is_library() {
             return Err(WalkFault::NeededIsProgram(Text::copy_of(alloc, name)?));
         }
         match needed_program(self.program_name(), object.needed.as_slice()) {
@@ -194,7 +193,7 @@ impl Order {
         self.check(alloc, name, object)?;
         append(alloc, &mut self.names, object.needed.as_slice())?;
         self.given += 1;
-        self.program = self.program || is_program(object);
+        self.program = self.program || object.kind.is_program();
         Ok(())
     }
 

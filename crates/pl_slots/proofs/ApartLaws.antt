@@ -11,7 +11,8 @@ use Rattle.pl_slots.specs.declared.slot.Want.{Want}
 use Rattle.pl_slots.specs.declared.slot.Slot.{Slot}
 use Rattle.pl_slots.specs.declared.planned.Planned.{Planned}
 use Rattle.pl_slots.specs.Apart.{is_beside, are_apart}
-use Rattle.pl_slots.specs.Holes.{without, lowest, is_in, is_free, fits_at}
+use Rattle.pl_slots.specs.Holes.{without, lowest, is_free, fits_at}
+use Rattle.pl_elf.specs.Ranges.{has}
 use Rattle.pl_slots.specs.Plan.{next, placed, slot_at, at_place, with_row, kept_or_placed, kept_row, keeps, range_of, beside}
 use Rattle.pl_slots.proofs.HoleLaws.{free_without}
 use Rattle.pl_slots.proofs.ServeLaws.{AreSome, is_kept, lowest_fits, fits_free, still_free, free_before}
@@ -43,7 +44,7 @@ apart_with (x ∷ xs) ys slot apart besides =
 -- each slot has some addresses, and none of them is free
 abbrev pub Outside : List Range → List Slot → Type 0
 Outside holes [] = Unit {0}
-Outside holes (slot ∷ slots) = (0 < slot.span) × ((address : ℕ) → is_in address (range_of slot) ≡ true → is_free address holes ≡ false) × Outside holes slots
+Outside holes (slot ∷ slots) = (0 < slot.span) × ((address : ℕ) → has address (range_of slot) ≡ true → is_free address holes ≡ false) × Outside holes slots
 
 not_free : (address : ℕ) (more fewer : List Range) → (is_free address fewer ≡ true → is_free address more ≡ true) → is_free address more ≡ false → is_free address fewer ≡ false
 not_free address more fewer was taken = elim (cases_Bool (is_free address fewer)) [
@@ -59,12 +60,12 @@ outside_fewer more fewer [] was out = tt
 outside_fewer more fewer (slot ∷ slots) was out =
     (out.0, λ address within. not_free address more fewer (was address) (out.1 address within), outside_fewer more fewer slots was out.2)
 
-outside_with : (holes : List Range) (xs ys : List Slot) (slot : Slot) → Outside holes (xs ++ ys) → 0 < slot.span → ((address : ℕ) → is_in address (range_of slot) ≡ true → is_free address holes ≡ false) → Outside holes (xs ++ slot ∷ ys)
+outside_with : (holes : List Range) (xs ys : List Slot) (slot : Slot) → Outside holes (xs ++ ys) → 0 < slot.span → ((address : ℕ) → has address (range_of slot) ≡ true → is_free address holes ≡ false) → Outside holes (xs ++ slot ∷ ys)
 outside_with holes [] ys slot out some taken = (some, taken, out)
 outside_with holes (x ∷ xs) ys slot out some taken = (out.0, out.1, outside_with holes xs ys slot out.2 some taken)
 
 -- a range that was taken is not free
-taken_not_free : (taken : Range) (holes : List Range) (address : ℕ) → is_in address taken ≡ true → is_free address (without taken holes) ≡ false
+taken_not_free : (taken : Range) (holes : List Range) (address : ℕ) → has address taken ≡ true → is_free address (without taken holes) ≡ false
 taken_not_free taken holes address within = free_without address taken holes ∙ (rw within (none (is_free address holes)))
   where
     none : (b : Bool) → (b && false) ≡ false
@@ -73,14 +74,14 @@ taken_not_free taken holes address within = free_without address taken holes ∙
 
 -- a slot that fits in holes is beside each slot outside of them
 fits_beside : (holes : List Range) (slot other : Slot) → 0 < slot.span → fits_at holes slot.span slot.start ≡ true → 0 < other.span
-    → ((address : ℕ) → is_in address (range_of other) ≡ true → is_free address holes ≡ false) → is_beside slot other ≡ true
+    → ((address : ℕ) → has address (range_of other) ≡ true → is_free address holes ≡ false) → is_beside slot other ≡ true
 fits_beside holes slot other some fits more taken = elim (cases_Bool (is_beside slot other)) [
   | inl besides ↦ besides
   | inr none ↦
       let first : ℕ = max slot.start other.start in
       let low : other.start < slot.start + slot.span = leb-false (slot.start + slot.span) other.start (no_left (nat_le (slot.start + slot.span) other.start) (nat_le (other.start + other.span) slot.start) none) in
       let high : slot.start < other.start + other.span = leb-false (other.start + other.span) slot.start (no_right (nat_le (slot.start + slot.span) other.start) (nat_le (other.start + other.span) slot.start) none) in
-      let within : is_in first (range_of other) ≡ true = and_from _ _ (le-leb other.start first (omega arith)) (lt-ltb first (other.start + other.span) (omega (arith, high, more))) in
+      let within : has first (range_of other) ≡ true = and_from _ _ (le-leb other.start first (omega arith)) (lt-ltb first (other.start + other.span) (omega (arith, high, more))) in
       absurd (differ (sym (fits_free holes slot.span slot.start first fits (omega arith) (omega (arith, low, some))) ∙ taken first within))
 ]
   where

@@ -1,29 +1,20 @@
 -- What holes are known to meet.
-use Rattle.std.proofs.Common.{◌≡◌, ℕ, ◌+◌, ◌≤◌, ◌<◌, Bool, true, ◌&&◌, not, List, [], ◌∷◌, ◌++◌, Some, refl, ◌∙◌, ap, inl, inr, arith, append_assoc}
+use Rattle.std.proofs.Common.{◌≡◌, ℕ, ◌+◌, ◌≤◌, ◌<◌, ◌&&◌, not, List, [], ◌∷◌, ◌++◌, Some, refl, sym, ◌∙◌, inl, inr, arith, append_assoc}
 use Rattle.std.specs.Prelude.{nat_le, nat_lt, min, max, Result, Ok, Err, IfOk}
-use Rattle.std.proofs.lemmas.Bool.{cases_Bool, leb-true, lt-ltb, le-ltb, cases_lt}
+use Rattle.std.proofs.lemmas.Bool.{leb-true, lt-ltb, le-ltb, cases_lt}
 use Rattle.std.proofs.lemmas.Bool.Decides.{nat_tests}
 use Rattle.std.proofs.lemmas.List.Folds.{list_any-append}
 use Rattle.std.specs.List.{find, flat_map}
 use Rattle.pl_base.specs.Sums.{round_up}
+use Rattle.pl_base.proofs.FindLaws.{find_passes}
 use Rattle.pl_elf.specs.declared.range.Range.{Range}
-use Rattle.pl_slots.specs.Holes.{hole, region_holes, cut, without, holds, AreHoles, AreHolesFrom, is_in, is_free}
-
-some_is : {X : Type 0} (x y : X) → Some x ≡ Some y → x ≡ y
-some_is x y e = cc
-
--- what is found passes
-pub find_passes : {X : Type 0} (p : X → Bool) (xs : List X) (y : X) → Some y ≡ find p xs → p y ≡ true
-find_passes p [] y is = absurd cc
-find_passes p (x ∷ xs) y is = elim (cases_Bool (p x)) [
-  | inl hit ↦ ap p (some_is y x (is ∙ (rw hit refl))) ∙ hit
-  | inr miss ↦ find_passes p xs y (is ∙ (rw miss refl))
-]
+use Rattle.pl_slots.specs.Holes.{hole, region_holes, cut, without, holds, AreHoles, AreHolesFrom, is_free}
+use Rattle.pl_elf.specs.Ranges.{has}
 
 -- a hole that is found holds the span
 pub found_holds : (span align : ℕ) (holes : List Range) (hole : Range) → Some hole ≡ find (holds span align) holes → round_up hole.start align + span ≤ hole.end
 unfolding holds
-found_holds span align holes hole is = leb-true (round_up hole.start align + span) hole.end (find_passes (holds span align) holes hole is)
+found_holds span align holes hole is = leb-true (round_up hole.start align + span) hole.end (find_passes (holds span align) holes hole (sym is))
 
 -- ---- holes stay holes
 
@@ -72,22 +63,22 @@ free_in_hole : (address start end : ℕ) → is_free address (hole start end) �
 unfolding hole
 free_in_hole address start end = grind (arith, nat_tests)
 
-free_in_cut : (address : ℕ) (taken free : Range) → is_free address (cut taken free) ≡ (is_in address free && not (is_in address taken))
+free_in_cut : (address : ℕ) (taken free : Range) → is_free address (cut taken free) ≡ (has address free && not (has address taken))
 unfolding cut
 free_in_cut address taken free =
-    list_any-append (is_in address) (hole free.start (min free.end taken.start)) (hole (max free.start taken.end) free.end)
+    list_any-append (has address) (hole free.start (min free.end taken.start)) (hole (max free.start taken.end) free.end)
     ∙ (rw (free_in_hole address free.start (min free.end taken.start), free_in_hole address (max free.start taken.end) free.end) (grind (arith, nat_tests)))
 
 -- the addresses that were free and are not in the range
-pub free_without : (address : ℕ) (taken : Range) (holes : List Range) → is_free address (without taken holes) ≡ (is_free address holes && not (is_in address taken))
+pub free_without : (address : ℕ) (taken : Range) (holes : List Range) → is_free address (without taken holes) ≡ (is_free address holes && not (has address taken))
 unfolding without
 free_without address taken [] = refl
 free_without address taken (free ∷ holes) =
-    list_any-append (is_in address) (cut taken free) (flat_map (cut taken) holes)
+    list_any-append (has address) (cut taken free) (flat_map (cut taken) holes)
     ∙ (rw (free_in_cut address taken free, free_without address taken holes) (grind (arith, nat_tests)))
 
 -- those of a region
-pub free_in_region : (address : ℕ) (region : Range) → is_free address (region_holes region) ≡ is_in address region
+pub free_in_region : (address : ℕ) (region : Range) → is_free address (region_holes region) ≡ has address region
 unfolding region_holes
 free_in_region address region = free_in_hole address region.start region.end
 

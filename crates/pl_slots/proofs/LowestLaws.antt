@@ -37,7 +37,7 @@ first_fits hole span start fits =
     (leb-true hole.start start parts.0, leb-true (start + span) hole.end parts.1)
 
 -- what fits in holes is not below the first
-fits_from : (low : ℕ) (holes : List Range) (span start : ℕ) → AreHolesFrom low holes → fits_at holes span start ≡ true → low ≤ start
+pub fits_from : (low : ℕ) (holes : List Range) (span start : ℕ) → AreHolesFrom low holes → fits_at holes span start ≡ true → low ≤ start
 fits_from low [] span start are fits = absurd (false≢true fits)
 fits_from low (h ∷ holes) span start are fits = elim (or_cases (fits_first h span start) (fits_at holes span start) fits) [
   | inl here ↦ omega (arith, are.0, (first_fits h span start here).0)

@@ -1,5 +1,5 @@
 -- What a kept row is known to meet.
-use Rattle.std.proofs.Common.{◌≡◌, ◌+◌, ◌≤◌, Bool, true, false, ◌&&◌, List, Option, Some, None, Result, Err, ap}
+use Rattle.std.proofs.Common.{◌≡◌, ◌+◌, ◌≤◌, Bool, true, false, ◌&&◌, List, Option, Some, None, Result, Err, sym, ap}
 use Rattle.std.specs.Prelude.{nat_le, IfSome, MatchBool, ⊤}
 use Rattle.std.specs.Borrow.{Bor}
 use Rattle.std.specs.Option.{option_map}
@@ -7,16 +7,16 @@ use Rattle.pl_base.specs.Answers.{◌>>=◌}
 use Rattle.std.specs.Str.{bytes_eq}
 use Rattle.std.proofs.lemmas.Bool.{and_parts, leb-true}
 use Rattle.pl_base.specs.Sums.{is_aligned}
+use Rattle.pl_base.proofs.FindLaws.{find_passes}
 use Rattle.pl_elf.specs.declared.range.Range.{Range}
 use Rattle.pl_slots.specs.declared.slot.Want.{Want}
 use Rattle.pl_slots.specs.declared.slot.Slot.{Slot}
 use Rattle.pl_slots.specs.Plan.{kept_row, keeps, lies_in}
-use Rattle.pl_slots.proofs.HoleLaws.{find_passes}
 
 lies : (kept : List Slot) (region : Range) (want : Want) (row : Slot) → Some row ≡ kept_row kept region want → row.start + row.span ≤ region.end
 unfolding kept_row keeps lies_in
 lies kept region want row is =
-    let all = find_passes (keeps region want) kept row is in
+    let all = find_passes (keeps region want) kept row (sym is) in
     let last = and_parts (bytes_eq row.name want.name && nat_le want.span row.span && is_aligned row.start want.align) _ all in
     leb-true (row.start + row.span) region.end (and_parts (nat_le region.start row.start) _ last.1).1
 

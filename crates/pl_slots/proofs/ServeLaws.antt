@@ -9,13 +9,15 @@ use Rattle.pl_base.specs.Each.{run}
 use Rattle.pl_base.proofs.AnswerLaws.{bind_ok, ok_same}
 use Rattle.pl_base.specs.Sums.{round_up, is_aligned}
 use Rattle.pl_base.proofs.SumLaws.{round_up-at_least, round_up-aligned}
+use Rattle.pl_base.proofs.FindLaws.{find_passes}
 use Rattle.pl_elf.specs.declared.range.Range.{Range}
 use Rattle.pl_slots.specs.declared.slot.Want.{Want}
 use Rattle.pl_slots.specs.declared.slot.Slot.{Slot}
 use Rattle.pl_slots.specs.declared.planned.Planned.{Planned}
-use Rattle.pl_slots.specs.Holes.{region_holes, without, lowest, holds, is_in, is_free, fits_at, IsPlace}
+use Rattle.pl_slots.specs.Holes.{region_holes, without, lowest, holds, is_free, fits_at, IsPlace}
+use Rattle.pl_elf.specs.Ranges.{has}
 use Rattle.pl_slots.specs.Plan.{next, placed, slot_at, at_place, with_row, kept_or_placed, kept_row, kept_holes, keeps, lies_in, range_of, beside, Gets, Serves, AllServe}
-use Rattle.pl_slots.proofs.HoleLaws.{find_passes, free_without, free_in_region}
+use Rattle.pl_slots.proofs.HoleLaws.{free_without, free_in_region}
 
 -- ---- wants that can be planned
 
@@ -40,7 +42,7 @@ pub record IsKept (region : Range) (want : Want) (row : Slot) : Type 0 where
 pub is_kept : (kept : List Slot) (region : Range) (want : Want) (row : Slot) → Some row ≡ kept_row kept region want → IsKept region want row
 unfolding kept_row keeps
 is_kept kept region want row is =
-    let all = find_passes (keeps region want) kept row is in
+    let all = find_passes (keeps region want) kept row (sym is) in
     let p1 = and_parts (bytes_eq row.name want.name && nat_le want.span row.span && is_aligned row.start want.align) (lies_in region row) all in
     let p2 = and_parts (bytes_eq row.name want.name && nat_le want.span row.span) (is_aligned row.start want.align) p1.0 in
     let p3 = and_parts (bytes_eq row.name want.name) (nat_le want.span row.span) p2.0 in
@@ -74,14 +76,14 @@ fits_free (h ∷ holes) span start address fits le lt = elim (or_cases (nat_le h
       let parts = and_parts (nat_le h.start start) (nat_le (start + span) h.end) here in
       let low : h.start ≤ start = leb-true h.start start parts.0 in
       let high : start + span ≤ h.end = leb-true (start + span) h.end parts.1 in
-      or_left (is_in address h) (is_free address holes) (and_from _ _ (le-leb h.start address (omega (arith, low, le))) (lt-ltb address h.end (omega (arith, high, lt))))
-  | inr later ↦ or_right (is_in address h) (is_free address holes) (fits_free holes span start address later le lt)
+      or_left (has address h) (is_free address holes) (and_from _ _ (le-leb h.start address (omega (arith, low, le))) (lt-ltb address h.end (omega (arith, high, lt))))
+  | inr later ↦ or_right (has address h) (is_free address holes) (fits_free holes span start address later le lt)
 ]
 
 -- ---- holes of a region
 
 abbrev pub InRegion : Range → List Range → Type 0
-InRegion region holes = (address : ℕ) → is_free address holes ≡ true → is_in address region ≡ true
+InRegion region holes = (address : ℕ) → is_free address holes ≡ true → has address region ≡ true
 
 pub still_free : (taken : Range) (holes : List Range) (address : ℕ) → is_free address (without taken holes) ≡ true → is_free address holes ≡ true
 still_free taken holes address free = (and_parts (is_free address holes) _ (sym (free_without address taken holes) ∙ free)).0

@@ -4,6 +4,7 @@ use Rattle.std.specs.List.{flat_map, find, list_any}
 use Rattle.std.specs.Option.{option_map}
 use Rattle.pl_base.specs.Sums.{round_up, is_aligned}
 use Rattle.pl_elf.specs.declared.range.Range.{Range}
+use Rattle.pl_elf.specs.Ranges.{has}
 
 -- the range from start up to end, unless it is empty
 unfoldable pub hole : ℕ → ℕ → List Range
@@ -43,12 +44,9 @@ AreHolesFrom low (hole ∷ holes) = (low ≤ hole.start) × (hole.start < hole.e
 abbrev pub AreHoles : List Range → Type 0
 AreHoles holes = AreHolesFrom 0 holes
 
--- whether an address is in a range, and in one of the holes
-abbrev pub is_in : ℕ → Range → Bool
-is_in address range = nat_le range.start address && nat_lt address range.end
-
+-- whether an address is in one of the holes
 abbrev pub is_free : ℕ → List Range → Bool
-is_free address holes = list_any (is_in address) holes
+is_free address holes = list_any (has address) holes
 
 -- whether a span at an address lies whole in one of the holes
 abbrev pub fits_at : List Range → ℕ → ℕ → Bool

@@ -2,6 +2,7 @@
 ghost use Rattle.std.specs.Prelude.{◌≡◌, ◌+◌, ◌++◌, ◌<◌, ◌≤◌, ◌^◌, ◌&&◌, not, ℕ, Option, IfOk, IfSome, IfNone, OnOk};
 ghost use Rattle.std.specs.List.{find};
 ghost use Rattle.pl_base.specs.Sums.{round_up};
+ghost use Rattle.pl_elf.specs.Ranges.{has};
 ghost use Rattle.pl_slots.specs.Holes as spec;
 
 use pl_base::round_up_wide;
@@ -41,7 +42,7 @@ fn whole_region(alloc: Global, region: Range) -> Result<Vec<Range>, AllocError>
 pub fn region_holes(alloc: Global, region: Range) -> Result<Vec<Range>, AllocError>
     ensures value { IfOk result (λ holes. holes.items ≡ spec.region_holes region) }
     ensures holes { IfOk result (λ holes. spec.AreHoles holes.items) }
-    ensures free { IfOk result (λ holes. (address : ℕ) → spec.is_free address holes.items ≡ spec.is_in address region) }
+    ensures free { IfOk result (λ holes. (address : ℕ) → spec.is_free address holes.items ≡ has address region) }
 {
     whole_region(alloc, region)
 }
@@ -61,7 +62,7 @@ fn cut_each(alloc: Global, holes: &[Range], taken: Range) -> Result<Vec<Range>, 
 pub fn without(alloc: Global, holes: &[Range], taken: Range) -> Result<Vec<Range>, AllocError>
     ensures value { IfOk result (λ left. left.items ≡ spec.without taken holes.now) }
     ensures holes { IfOk result (λ left. taken.start < taken.end → spec.AreHoles holes.now → spec.AreHoles left.items) }
-    ensures free { IfOk result (λ left. (address : ℕ) → spec.is_free address left.items ≡ (spec.is_free address holes.now && not (spec.is_in address taken))) }
+    ensures free { IfOk result (λ left. (address : ℕ) → spec.is_free address left.items ≡ (spec.is_free address holes.now && not (has address taken))) }
 {
     cut_each(alloc, holes, taken)
 }

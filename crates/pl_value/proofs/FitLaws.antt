@@ -7,7 +7,7 @@ use Rattle.pl_base.specs.Answers.{◌>>=◌, unless, refuse}
 use Rattle.pl_sym.specs.Symbol.{is_absolute, is_tls}
 use Rattle.pl_sym.specs.declared.symbol.Symbol.{Symbol}
 use Rattle.pl_tls.specs.declared.module.Module.{Module}
-use Rattle.pl_object.specs.Accepted.{is_program}
+use Rattle.pl_object.specs.Accepted.{is_exec}
 use Rattle.pl_object.specs.PlaceClauses.{is_bad, is_known, is_misplaced_copy}
 use Rattle.pl_object.specs.Relocations.{width, size_of}
 use Rattle.pl_elf.specs.declared.constants.TheConstants.{R_X86_64_NONE, R_X86_64_64, R_X86_64_COPY, R_X86_64_GLOB_DAT, R_X86_64_JUMP_SLOT, R_X86_64_RELATIVE, R_X86_64_DTPMOD64, R_X86_64_DTPOFF64, R_X86_64_TPOFF64}
@@ -20,7 +20,7 @@ use Rattle.pl_value.specs.Copies as copies
 use Rattle.pl_value.specs.Tls as tls
 use Rattle.pl_value.specs.Values.{reference, value_of}
 use Rattle.pl_value.specs.Meanings.{Row, rows}
-use Rattle.pl_value.specs.Laws.{Fits, is_library_at, WordsFit}
+use Rattle.pl_value.specs.Laws.{Fits, is_shared_at, WordsFit}
 use Rattle.pl_value.specs.declared.fault.LinkFault.{LinkFault}
 use Rattle.pl_value.specs.declared.fault.LinkFault.TheVariants.{Undefined, TlsMismatch, CopyOutside}
 use Rattle.pl_value.specs.declared.meaning.Meaning.{Meaning}
@@ -154,17 +154,17 @@ value_fits objects places modules member r o library at wide known copy =
 
 -- ---- all rows
 
-row_fits : (objects : List Object) (places : List ℕ) (modules : List Module) (x : Row) (g : Meaning) → IsGiven objects places modules x g → IsKnown objects x → Fits (is_library_at objects g.member) g.size g.word
+row_fits : (objects : List Object) (places : List ℕ) (modules : List Module) (x : Row) (g : Meaning) → IsGiven objects places modules x g → IsKnown objects x → Fits (is_shared_at objects g.member) g.size g.word
 unfolding is_bad
 row_fits objects places modules x g given known =
     let o = known.object in
     let is_one : is_known x.reloc.kind ≡ true = is_true (is_known x.reloc.kind) (or_parts (not (is_known x.reloc.kind)) _ known.known).0 in
-    let library : is_library_at objects x.member ≡ not (is_program o) = rw known.at refl in
-    let fits = value_fits objects places modules x.member x.reloc o (is_library_at objects x.member) known.at known.width is_one (λ is. library ∙ copy_in_program (is_program o) x.reloc is known.copy) in
-    subst (λ (h : Meaning). Fits (is_library_at objects h.member) h.size h.word) given.is (fits.fits g.word given.word)
+    let library : is_shared_at objects x.member ≡ not (is_exec o) = rw known.at refl in
+    let fits = value_fits objects places modules x.member x.reloc o (is_shared_at objects x.member) known.at known.width is_one (λ is. library ∙ copy_in_program (is_exec o) x.reloc is known.copy) in
+    subst (λ (h : Meaning). Fits (is_shared_at objects h.member) h.size h.word) given.is (fits.fits g.word given.word)
 
 -- every word fits its place
 pub words_fit : WordsFit
 words_fit parts objects places modules gs read is =
-    zip_all (IsGiven objects places modules) (IsKnown objects) (λ g. Fits (is_library_at objects g.member) g.size g.word) (rows objects) gs
+    zip_all (IsGiven objects places modules) (IsKnown objects) (λ g. Fits (is_shared_at objects g.member) g.size g.word) (rows objects) gs
     (λ x g given known. row_fits objects places modules x g given known) (meanings_given objects places modules gs is) (rows_known parts objects read)

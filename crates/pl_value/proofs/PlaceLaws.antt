@@ -6,6 +6,7 @@ use Rattle.std.proofs.lemmas.Bool.{cases_Bool, false≢true, and_parts, leb-true
 use Rattle.std.proofs.lemmas.Bool.Decides.{nat_tests}
 use Rattle.std.proofs.lemmas.List.Folds.{list_any_at, Any-from_list_any}
 use Rattle.std.proofs.lemmas.List.{get_or-map, length-map}
+use Rattle.pl_base.proofs.SumLaws.{plus_small}
 use Rattle.pl_base.specs.Memory.{Piece, lies, is_within}
 use Rattle.pl_base.specs.Sums.{plus}
 use Rattle.pl_base.specs.Windows.{Window, any_share}
@@ -15,7 +16,7 @@ use Rattle.pl_elf.proofs.AcceptedLaws.{load_fits}
 use Rattle.pl_elf.specs.Headers.{is_load, loads}
 use Rattle.pl_elf.specs.declared.constants.TheConstants.{ADDRESS_LIMIT}
 use Rattle.pl_elf.specs.declared.segment.Segment.{Segment}
-use Rattle.pl_object.specs.Accepted.{is_program}
+use Rattle.pl_object.specs.Accepted.{is_exec}
 use Rattle.pl_object.specs.FilePart.{file_window, in_file_part, loaded_by, loader, loads_byte}
 use Rattle.pl_object.specs.PlaceClauses.{last_load, is_in_memory, is_in_segment, is_held, reloc_outside, reloc_overlap}
 use Rattle.pl_object.specs.Reads.{reads}
@@ -23,7 +24,8 @@ use Rattle.pl_object.specs.Relocations.{place, places}
 use Rattle.pl_object.specs.declared.object.Object.{Object}
 use Rattle.pl_object.specs.declared.reloc.Reloc.{Reloc}
 use Rattle.pl_object.proofs.AcceptedLaws.{accepted}
-use Rattle.pl_object.proofs.FilePartLaws.{find_passes, loads_parts}
+use Rattle.pl_base.proofs.FindLaws.{find_passes}
+use Rattle.pl_object.proofs.FilePartLaws.{loads_parts}
 use Rattle.pl_image.specs.Loads.{loaded_piece, pieces_at, IsPlaced}
 use Rattle.pl_value.proofs.LoneLaws.{none_at}
 
@@ -150,13 +152,10 @@ pub record IsHeld (base : ℕ) (pieces : List Piece) (r : Reloc) : Type 0 where
   pub piece : (a : ℕ) → reloc_over base a r ≡ true → list_any (lies a) pieces ≡ true
   pub start : (a : ℕ) → reloc_over base a r ≡ true → plus base r.address ≡ base + r.address
 
-no_wrap : (base at : ℕ) → base + at < 2 ^ 64 → plus base at ≡ base + at
-no_wrap base at lt = omega arith
-
 below : (n : ℕ) → n ≤ ADDRESS_LIMIT → n < 2 ^ 64
 below n le = omega arith
 
-place_held : (base : ℕ) (bytes : List ℕ) (o : Object) (r : Reloc) → IsPlaced base o → is_held (is_program o) o.segments (place r) ≡ true → IsHeld base (pieces_at base bytes o) r
+place_held : (base : ℕ) (bytes : List ℕ) (o : Object) (r : Reloc) → IsPlaced base o → is_held (is_exec o) o.segments (place r) ≡ true → IsHeld base (pieces_at base bytes o) r
 place_held base bytes o r placed held = record {
   piece = λ a over. at_piece a over (some_load a over);
   start = λ a over. no_wrap_at (some_load a over);
@@ -167,7 +166,7 @@ place_held base bytes o r placed held = record {
         let t = within_true (plus base r.address) r.width a over in
         let from : plus base r.address ≤ a = t.0 in
         let to : a < plus base r.address + r.width = t.1 in
-        Any-from_list_any (is_inside r.address r.width) (loads o.segments) (held_inside (is_program o) o.segments (place r) placed.accepted held (omega arith))
+        Any-from_list_any (is_inside r.address r.width) (loads o.segments) (held_inside (is_exec o) o.segments (place r) placed.accepted held (omega arith))
 
     no_wrap_at : Any (λ s. is_inside r.address r.width s ≡ true) (loads o.segments) → plus base r.address ≡ base + r.address
     no_wrap_at found =
@@ -175,7 +174,7 @@ place_held base bytes o r placed held = record {
         let inside = inside_parts r.address r.width s found.4 in
         let to : r.address + r.width ≤ s.vaddr + s.memsz = inside.1 in
         let end : base + (s.vaddr + s.memsz) ≤ ADDRESS_LIMIT = subst (λ (t : Segment). base + (t.vaddr + t.memsz) ≤ ADDRESS_LIMIT) found.3 (placed.ends found.0 s found.2) in
-        no_wrap base r.address (below (base + r.address) (omega arith))
+        plus_small base r.address (below (base + r.address) (omega arith))
 
     at_piece : (a : ℕ) → reloc_over base a r ≡ true → Any (λ s. is_inside r.address r.width s ≡ true) (loads o.segments) → list_any (lies a) (pieces_at base bytes o) ≡ true
     at_piece a over found =
@@ -198,9 +197,9 @@ unfolding reloc_outside
 relocs_held base bytes file o placed read = λ k d lt.
     let facts = accepted file o read in
     let r = get_or o.relocations k d in
-    let outside : not (is_held (is_program o) o.segments (get_or (places o.relocations) k (place d))) ≡ false =
-    none_at (λ memory. not (is_held (is_program o) o.segments memory)) (places o.relocations) k (place d) (omega (arith, lt, length-map o.relocations place)) facts.held in
-    place_held base bytes o r placed (is_true (is_held (is_program o) o.segments (place r)) (rw (get_or-map place o.relocations k d (place d) lt) at outside))
+    let outside : not (is_held (is_exec o) o.segments (get_or (places o.relocations) k (place d))) ≡ false =
+    none_at (λ memory. not (is_held (is_exec o) o.segments memory)) (places o.relocations) k (place d) (omega (arith, lt, length-map o.relocations place)) facts.held in
+    place_held base bytes o r placed (is_true (is_held (is_exec o) o.segments (place r)) (rw (get_or-map place o.relocations k d (place d) lt) at outside))
   where
     is_true : (b : Bool) → not b ≡ false → b ≡ true
     is_true true h = refl

@@ -9,7 +9,7 @@ use Rattle.pl_dyn.specs.declared.dynamic.Dynamic.{Dynamic}
 use Rattle.pl_sym.specs.declared.symbol.Symbol.{Symbol}
 use Rattle.pl_base.specs.Answers.{because}
 use Rattle.pl_base.proofs.AnswerLaws.{bind_ok, ok_same}
-use Rattle.pl_object.specs.Accepted.{is_program}
+use Rattle.pl_object.specs.Accepted.{is_exec}
 use Rattle.pl_object.specs.FilePart.{loaded}
 use Rattle.pl_object.specs.PlaceClauses.{is_bad, is_misplaced_copy, misplaced_copy}
 use Rattle.pl_object.specs.Reads.{reads, headers, parts, static_program, static_object, dynamic, dynamic_object, linking, layout, check, checked, object, relocations, too_large}
@@ -87,7 +87,7 @@ pub record IsKnown (objects : List Object) (x : Row) : Type 0 where
   pub at : slice_get objects x.member ≡ Some object
   pub width : HasWidth object.symbols x.reloc
   pub known : is_bad (length object.symbols) x.reloc ≡ false
-  pub copy : is_misplaced_copy (is_program object) x.reloc ≡ false
+  pub copy : is_misplaced_copy (is_exec object) x.reloc ≡ false
 
 object_known : (objects : List Object) (member : ℕ) (bytes : List ℕ) (o : Object) → slice_get objects member ≡ Some o → reads bytes ≡ Ok o → All (λ r. IsKnown objects (row member r)) o.relocations
 unfolding misplaced_copy
@@ -98,7 +98,7 @@ object_known objects member bytes o at read = λ k d lt.
       at = at;
       width = widths bytes o read k d lt;
       known = none_at (is_bad (length o.symbols)) o.relocations k d lt facts.relocs;
-      copy = none_at (is_misplaced_copy (is_program o)) o.relocations k d lt facts.copies;
+      copy = none_at (is_misplaced_copy (is_exec o)) o.relocations k d lt facts.copies;
     }
 
 rows_known_from : (objects : List Object) (member : ℕ) (parts : List (List ℕ)) (os : List Object) → ((k : ℕ) → slice_get objects (member + k) ≡ slice_get os k) → AreRead parts os → All (IsKnown objects) (rows_from member os)

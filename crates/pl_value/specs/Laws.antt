@@ -3,7 +3,7 @@ use Rattle.std.specs.Prelude.{◌≡◌, ◌≤◌, ℕ, Bool, true, false, not,
 use Rattle.std.specs.List.{All, AllZip}
 use Rattle.pl_base.specs.Memory.{AtMostOne}
 use Rattle.pl_tls.specs.declared.module.Module.{Module}
-use Rattle.pl_object.specs.Accepted.{is_program}
+use Rattle.pl_object.specs.Accepted.{is_exec}
 use Rattle.pl_object.specs.Reads.{reads}
 use Rattle.pl_object.specs.declared.object.Object.{Object}
 use Rattle.pl_value.specs.Meanings.{meanings}
@@ -27,12 +27,12 @@ Fits library size (Put word) = size ≡ 8
 Fits library size (Copy member from bytes) = (library ≡ false) × (bytes ≤ size)
 Fits library size Nothing = library ≡ true → size ≡ 0
 
-abbrev pub is_library : Option Object → Bool
-is_library None = false
-is_library (Some o) = not (is_program o)
+abbrev pub is_shared : Option Object → Bool
+is_shared None = false
+is_shared (Some o) = not (is_exec o)
 
-abbrev pub is_library_at : List Object → ℕ → Bool
-is_library_at objects member = is_library (slice_get objects member)
+abbrev pub is_shared_at : List Object → ℕ → Bool
+is_shared_at objects member = is_shared (slice_get objects member)
 
 -- every meaning fits, where these members are libraries
 abbrev pub AllFit : (ℕ → Bool) → List Meaning → Type 0
@@ -42,7 +42,7 @@ AllFit library gs = All (λ g. Fits (library g.member) g.size g.word) gs
 
 abbrev pub WordsFit : Type 0
 WordsFit = (parts : List (List ℕ)) (objects : List Object) (places : List ℕ) (modules : List Module) (gs : List Meaning)
-    → AreRead parts objects → meanings objects places modules ≡ Ok gs → AllFit (is_library_at objects) gs
+    → AreRead parts objects → meanings objects places modules ≡ Ok gs → AllFit (is_shared_at objects) gs
 
 -- at most one place is over an address
 abbrev pub PlacesAreApart : Type 0

@@ -1,8 +1,8 @@
 use Rattle.std.proofs.Common.{◌≡◌, drop}
 use Rattle.pl_base.specs.Windows.{any_share}
 use Rattle.pl_elf.specs.Headers.{loads, segments}
-use Rattle.pl_elf.specs.Clauses.{file_windows}
+use Rattle.pl_elf.specs.Clauses.{load_windows}
 use Rattle.pl_elf.proofs.overlaps.overlap_in_file.Given as goal
 
 abbrev pub invariant-loop-index : goal.invariant-loop-index
-invariant-loop-index l = any_share (file_windows (loads (drop l.index (segments l.bytes l.header)))) ≡ any_share (file_windows (loads (segments l.bytes l.header)))
+invariant-loop-index l = any_share (load_windows (loads (drop l.index (segments l.bytes l.header)))) ≡ any_share (load_windows (loads (segments l.bytes l.header)))

@@ -1,6 +1,6 @@
 use Rattle.std.proofs.Common.{◌≡◌, ℕ, take}
 use Rattle.std.specs.List.{list_any}
-use Rattle.pl_image.specs.Lines.{has}
+use Rattle.pl_elf.specs.Ranges.{has}
 use Rattle.pl_image.specs.Image.{any_masked}
 use Rattle.pl_image.proofs.masked.all_masked.Given as goal
 

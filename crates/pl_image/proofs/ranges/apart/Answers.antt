@@ -1,7 +1,7 @@
 use Rattle.std.proofs.Common.{◌∙◌, ap, List}
 use Rattle.std.specs.List.{list_any}
 use Rattle.pl_elf.specs.declared.range.Range.{Range}
-use Rattle.pl_image.specs.Lines.{has}
+use Rattle.pl_elf.specs.Ranges.{has}
 use Rattle.pl_image.specs.Index.{rises, merged}
 use Rattle.pl_image.proofs.RangeLemmas.{merged_rises, apart_has}
 use Rattle.pl_image.proofs.ranges.apart.Goals as goal
