@@ -5,15 +5,27 @@ use Rattle.std.proofs.lemmas.List.FromFn.{length-range_with_len, get_or-range_wi
 use Rattle.std.specs.List.{range_with_len}
 use Rattle.std.specs.Prelude.{MatchBool, ⊤}
 use Rattle.pl_base.specs.Answers.{◌>>=◌}
-use Rattle.pl_base.specs.Each.{each}
+use Rattle.pl_base.specs.Each.{each, with_front}
 
--- the results so far, and what the rest gives
-abbrev pub with_front : {B E : Type 0} → List B → Result (List B) E → Result (List B) E
-with_front front rest = rest >>= λ ys. Ok (front ++ ys)
+-- ---- results in front
 
-regroup : {B E : Type 0} (front : List B) (y : B) (rest : Result (List B) E) → with_front front (rest >>= λ ys. Ok (y ∷ ys)) ≡ with_front (front ++ y ∷ []) rest
+-- none in front
+pub front_nothing : {B E : Type 0} (rest : Result (List B) E) → with_front [] rest ≡ rest
+front_nothing (Ok ys) = refl
+front_nothing (Err e) = refl
+
+-- the first of the rest comes to stand in front
+pub regroup : {B E : Type 0} (front : List B) (y : B) (rest : Result (List B) E) → with_front front (rest >>= λ ys. Ok (y ∷ ys)) ≡ with_front (front ++ y ∷ []) rest
 regroup {B = B} front y (Ok ys) = ap (λ (zs : List B). Ok zs) (sym (append_assoc front (y ∷ []) ys))
 regroup front y (Err e) = refl
+
+-- results that have others in front themselves
+front_two : {B E : Type 0} (front : List B) (r s : Result (List B) E) → with_front front (r >>= λ xs. with_front xs s) ≡ (with_front front r >>= λ xs. with_front xs s)
+front_two {B = B} front (Ok xs) (Ok ys) = ap (λ (zs : List B). Ok zs) (sym (append_assoc front xs ys))
+front_two front (Ok xs) (Err e) = refl
+front_two front (Err e) s = refl
+
+-- ---- row by row
 
 -- a step that gives a result: one more in front
 pub each_more : {A B E : Type 0} (f : A → Result B E) (xs : List A) (i : ℕ) (d : A) (front : List B) (y : B) (whole : Result (List B) E) → i < length xs → f (get_or xs i d) ≡ Ok y
@@ -47,6 +59,28 @@ each_fails m f xs i d front e whole lt h so_far =
       | false ↦ λ stop. each_stops f xs i d front e whole lt stop so_far
     ] h
 
+-- ---- one list after another
+
+each_append : {A B E : Type 0} (f : A → Result B E) (xs ys : List A) → each f (xs ++ ys) ≡ (each f xs >>= λ front. with_front front (each f ys))
+unfolding each
+each_append f [] ys = sym (front_nothing (each f ys))
+each_append {B = B} {E = E} f (x ∷ xs) ys =
+    ap (λ (r : Result (List B) E). f x >>= λ z. r >>= λ zs. Ok (z ∷ zs)) (each_append f xs ys) ∙ shift (f x) (each f xs) (each f ys)
+  where
+    shift : (a : Result B E) (r s : Result (List B) E) → (a >>= λ z. (r >>= λ front. with_front front s) >>= λ zs. Ok (z ∷ zs)) ≡ ((a >>= λ z. r >>= λ zs. Ok (z ∷ zs)) >>= λ front. with_front front s)
+    shift (Ok z) (Ok zs) (Ok bs) = refl
+    shift (Ok z) (Ok zs) (Err e) = refl
+    shift (Ok z) (Err e) s = refl
+    shift (Err e) r s = refl
+
+-- the first list's results come to stand in front
+pub front_more : {A B E : Type 0} (f : A → Result B E) (xs ys : List A) (front new : List B) → with_front front (each f xs) ≡ Ok new → with_front front (each f (xs ++ ys)) ≡ with_front new (each f ys)
+front_more f xs ys front new e = ap (with_front front) (each_append f xs ys) ∙ front_two front (each f xs) (each f ys) ∙ rw e refl
+
+-- or the first list is refused
+pub front_stops : {A B E : Type 0} (f : A → Result B E) (xs ys : List A) (front : List B) (fault : E) → with_front front (each f xs) ≡ Err fault → with_front front (each f (xs ++ ys)) ≡ Err fault
+front_stops f xs ys front fault e = ap (with_front front) (each_append f xs ys) ∙ front_two front (each f xs) (each f ys) ∙ rw e refl
+
 -- ---- the same over the numbers below n
 
 -- the results of the rows below i in front, and what the rows from i on give, are the whole
@@ -58,9 +92,7 @@ at_row f n i lt = ap f (get_or-range_with_len 0 n i 0 lt ∙ omega arith)
 
 -- before the first row
 pub rows_begin : {B E : Type 0} (f : ℕ → Result B E) (n : ℕ) → SoFar f n 0 [] (each f (range_with_len 0 n))
-rows_begin {B = B} {E = E} f n =
-    let keeps : (r : Result (List B) E) → with_front [] r ≡ r = λ r. elim r as (λ r. with_front [] r ≡ r) [ Ok ys ↦ refl | Err e ↦ refl ] in
-    keeps (each f (range_with_len 0 n))
+rows_begin f n = front_nothing (each f (range_with_len 0 n))
 
 -- a row that gives a result
 pub rows_more : {B E : Type 0} (f : ℕ → Result B E) (n i : ℕ) (front : List B) (y : B) (whole : Result (List B) E) → i < n → f i ≡ Ok y → SoFar f n i front whole → SoFar f n (i + 1) (front ++ y ∷ []) whole

@@ -1,9 +1,10 @@
 -- A walk that goes from name to name: what was walked so far, and what is still to come, are the whole. A loader that asks for one file after the other goes by these laws.
-use Rattle.std.proofs.Common.{◌≡◌, ℕ, zero, suc, ◌+◌, ◌-◌, ◌<◌, ◌≤◌, Bool, true, false, List, [], ◌∷◌, ◌++◌, Some, None, Result, Ok, Err, refl, sym, ap, ◌∙◌, append_assoc, arith}
+use Rattle.std.proofs.Common.{◌≡◌, ℕ, zero, suc, ◌+◌, ◌-◌, ◌<◌, ◌≤◌, Bool, true, false, List, [], ◌∷◌, ◌++◌, Some, None, Result, Ok, Err, refl, sym, ap, ◌∙◌, arith}
 use Rattle.std.proofs.lemmas.List.{append-nil}
 use Rattle.std.specs.Prelude.{MatchBool, ⊤}
 use Rattle.pl_base.specs.Answers.{◌>>=◌, because}
-use Rattle.pl_base.proofs.EachLaws.{with_front}
+use Rattle.pl_base.specs.Each.{with_front}
+use Rattle.pl_base.proofs.EachLaws.{front_nothing, regroup}
 use Rattle.pl_object.specs.declared.object.Object.{Object}
 use Rattle.pl_scope.specs.Walking.{Walking, wants}
 use Rattle.pl_scope.specs.Walk.{Walked, is_memory, entered, next, give, of_wanted, at_most, remaining, walk, begun, IsUnderWay}
@@ -33,14 +34,6 @@ give_given w v n o is given = entered_given w v n o (sym (give_is w n o is) ∙ 
 
 -- ---- what is still to come
 
-regroup : {E : Type 0} (front : Walked) (m : List ℕ × Object) (rest : Result Walked E) → with_front front (rest >>= λ ms. Ok (m ∷ ms)) ≡ with_front (front ++ m ∷ []) rest
-regroup front m (Ok ms) = ap (λ (all : Walked). Ok all) (sym (append_assoc front (m ∷ []) ms))
-regroup front m (Err e) = refl
-
-keeps : {E : Type 0} (rest : Result Walked E) → with_front [] rest ≡ rest
-keeps (Ok ms) = refl
-keeps (Err e) = refl
-
 step : {E : Type 0} (fault : WalkFault → E) (files : List ℕ → Result Object E) (w : Walking) (n : List ℕ) → w.given < MAX_MEMBERS → wants w ≡ Some n
     → remaining fault files w ≡ (files n >>= λ o. because fault (entered w n o) >>= λ v. at_most fault files (MAX_MEMBERS - (w.given + 1)) v >>= λ rest. Ok ((n, o) ∷ rest))
 unfolding remaining at_most
@@ -54,7 +47,7 @@ done fault files w (suc most) is = rw is refl
 -- nothing was walked yet
 pub walk_begins : {E : Type 0} (fault : WalkFault → E) (files : List ℕ → Result Object E) (name : List ℕ) → IsUnderWay fault files name [] (begun name)
 unfolding walk
-walk_begins fault files name = keeps (remaining fault files (begun name))
+walk_begins fault files name = front_nothing (remaining fault files (begun name))
 
 -- the wanted name is given its object
 pub walk_goes_on : {E : Type 0} (fault : WalkFault → E) (files : List ℕ → Result Object E) (name : List ℕ) (front : Walked) (w v : Walking) (n : List ℕ) (o : Object) → w.given < MAX_MEMBERS → wants w ≡ Some n

@@ -3,7 +3,7 @@ use Rattle.std.specs.Prelude.{◌≡◌, ℕ, zero, suc, ◌+◌, ◌-◌, Bool,
 use Rattle.std.specs.List.{list_any}
 use Rattle.std.specs.Str.{bytes_eq}
 use Rattle.pl_base.specs.Answers.{◌>>=◌, because, unless, unless_found}
-use Rattle.pl_base.specs.Each.{run}
+use Rattle.pl_base.specs.Each.{run, with_front}
 use Rattle.pl_object.specs.declared.object.Object.{Object}
 use Rattle.pl_elf.specs.Kinds.{is_program, is_library}
 use Rattle.pl_scope.specs.Walking.{Walking, wants}
@@ -85,7 +85,7 @@ walk fault files name = remaining fault files (begun name)
 
 -- what was walked so far, and what is still to come, are the walk of a name
 abbrev pub IsUnderWay : {E : Type 0} → (WalkFault → E) → (List ℕ → Result Object E) → List ℕ → Walked → Walking → Type 0
-IsUnderWay fault files name walked w = (remaining fault files w >>= λ rest. Ok (walked ++ rest)) ≡ walk fault files name
+IsUnderWay fault files name walked w = with_front walked (remaining fault files w) ≡ walk fault files name
 
 -- ---- over objects by name
 

@@ -1,58 +1,26 @@
 -- A loop over the rows of a scope, object by object.
-use Rattle.std.proofs.Common.{◌≡◌, ℕ, ◌+◌, ◌<◌, ◌≤◌, List, [], ◌∷◌, ◌++◌, length, map, drop, get_or, Result, Ok, Err, refl, sym, ap, ◌∙◌, append_assoc, arith}
+use Rattle.std.proofs.Common.{◌≡◌, ℕ, ◌+◌, ◌<◌, ◌≤◌, List, [], ◌∷◌, ◌++◌, length, map, drop, get_or, Result, Ok, Err, sym, ap, ◌∙◌, arith}
 use Rattle.std.proofs.lemmas.List.{append-nil, at_drop_more, at_drop_all, get_or-map, length-map}
 use Rattle.std.specs.Prelude.{MatchBool, ⊤}
-use Rattle.pl_base.specs.Answers.{◌>>=◌, because}
-use Rattle.pl_base.specs.Each.{each}
-use Rattle.pl_base.proofs.EachLaws.{each_more, each_stops, each_done}
+use Rattle.pl_base.specs.Answers.{because}
+use Rattle.pl_base.specs.Each.{each, with_front}
+use Rattle.pl_base.proofs.EachLaws.{each_more, each_stops, each_done, front_more, front_stops}
 use Rattle.pl_object.specs.declared.object.Object.{Object}
 use Rattle.pl_object.specs.declared.reloc.Reloc.{Reloc}
 use Rattle.pl_scope.specs.Scope.{objects}
 use Rattle.pl_scope.specs.declared.member.Member.{Member}
-use Rattle.pl_value.specs.Meanings.{Row, row, rows_from, behind, is_memory}
+use Rattle.pl_value.specs.Meanings.{Row, row, rows_from, is_memory}
 use Rattle.pl_value.specs.declared.fault.LinkFault.{LinkFault}
 use Rattle.pl_value.specs.declared.fault.OrdinaryFault.{OrdinaryFault}
 use Rattle.pl_value.specs.declared.fault.OrdinaryFault.TheVariants.{Link, NoMemory}
 use Rattle.pl_value.specs.declared.meaning.Meaning.{Meaning}
 
--- ---- a step over two lists
-
--- in front of the results nothing stands
-pub behind_nothing : {X E : Type 0} (r : Result (List X) E) → behind [] r ≡ r
-behind_nothing (Ok xs) = refl
-behind_nothing (Err e) = refl
-
-each_append : {A B E : Type 0} (f : A → Result B E) (xs ys : List A) → each f (xs ++ ys) ≡ (each f xs >>= λ front. behind front (each f ys))
-unfolding each
-each_append f [] ys = sym (behind_nothing (each f ys))
-each_append {B = B} {E = E} f (x ∷ xs) ys =
-    ap (λ (r : Result (List B) E). f x >>= λ z. r >>= λ zs. Ok (z ∷ zs)) (each_append f xs ys) ∙ shift (f x) (each f xs) (each f ys)
-  where
-    shift : (a : Result B E) (r s : Result (List B) E) → (a >>= λ z. (r >>= λ front. behind front s) >>= λ zs. Ok (z ∷ zs)) ≡ ((a >>= λ z. r >>= λ zs. Ok (z ∷ zs)) >>= λ front. behind front s)
-    shift (Ok z) (Ok zs) (Ok bs) = refl
-    shift (Ok z) (Ok zs) (Err e) = refl
-    shift (Ok z) (Err e) s = refl
-    shift (Err e) r s = refl
-
-behind_two : {X E : Type 0} (front : List X) (r s : Result (List X) E) → behind front (r >>= λ xs. behind xs s) ≡ (behind front r >>= λ xs. behind xs s)
-behind_two front (Ok xs) (Ok ys) = ap (λ zs. Ok zs) (sym (append_assoc front xs ys))
-behind_two front (Ok xs) (Err e) = refl
-behind_two front (Err e) s = refl
-
--- the first list's results come to stand in front
-pub behind_more : {A B E : Type 0} (f : A → Result B E) (xs ys : List A) (front new : List B) → behind front (each f xs) ≡ Ok new → behind front (each f (xs ++ ys)) ≡ behind new (each f ys)
-behind_more f xs ys front new e = ap (behind front) (each_append f xs ys) ∙ behind_two front (each f xs) (each f ys) ∙ rw e refl
-
--- or the first list is refused
-pub behind_stops : {A B E : Type 0} (f : A → Result B E) (xs ys : List A) (front : List B) (fault : E) → behind front (each f xs) ≡ Err fault → behind front (each f (xs ++ ys)) ≡ Err fault
-behind_stops f xs ys front fault e = ap (behind front) (each_append f xs ys) ∙ behind_two front (each f xs) (each f ys) ∙ rw e refl
-
--- or it is refused, or there was no memory for it
-pub behind_stops_or : {A B : Type 0} (f : A → Result B LinkFault) (xs ys : List A) (front : List B) (e : OrdinaryFault) (whole : Result (List B) LinkFault) → MatchBool (is_memory e) ⊤ (because Link (behind front (each f xs)) ≡ Err e)
-    → behind front (each f (xs ++ ys)) ≡ whole → MatchBool (is_memory e) ⊤ (because Link whole ≡ Err e)
-behind_stops_or f xs ys front NoMemory whole stop so_far = tt
-behind_stops_or f xs ys front (Link fault) whole stop so_far =
-    ap (because Link) (sym so_far ∙ behind_stops f xs ys front fault (linked_err (behind front (each f xs)) fault stop))
+-- the first of two lists is refused, or there was no memory for it
+front_stops_or : {A B : Type 0} (f : A → Result B LinkFault) (xs ys : List A) (front : List B) (e : OrdinaryFault) (whole : Result (List B) LinkFault) → MatchBool (is_memory e) ⊤ (because Link (with_front front (each f xs)) ≡ Err e)
+    → with_front front (each f (xs ++ ys)) ≡ whole → MatchBool (is_memory e) ⊤ (because Link whole ≡ Err e)
+front_stops_or f xs ys front NoMemory whole stop so_far = tt
+front_stops_or f xs ys front (Link fault) whole stop so_far =
+    ap (because Link) (sym so_far ∙ front_stops f xs ys front fault (linked_err (with_front front (each f xs)) fault stop))
   where
     linked_err : {X : Type 0} (r : Result X LinkFault) (fault : LinkFault) → ◌≡◌ {A = Result X OrdinaryFault} (because Link r) (Err (Link fault)) → r ≡ Err fault
     linked_err (Ok x) fault e = absurd cc
@@ -62,18 +30,18 @@ behind_stops_or f xs ys front (Link fault) whole stop so_far =
 
 -- one more
 pub reloc_more : (f : Row → Result Meaning LinkFault) (member : ℕ) (rs : List Reloc) (i : ℕ) (d : Reloc) (front new : List Meaning) (y : Meaning) (whole : Result (List Meaning) LinkFault) → i < length rs → Ok y ≡ f (row member (get_or rs i d)) → new ≡ front ++ y ∷ []
-    → behind front (each f (drop i (map (row member) rs))) ≡ whole → behind new (each f (drop (i + 1) (map (row member) rs))) ≡ whole
+    → with_front front (each f (drop i (map (row member) rs))) ≡ whole → with_front new (each f (drop (i + 1) (map (row member) rs))) ≡ whole
 reloc_more f member rs i d front new y whole lt h is so_far =
     rw is (each_more f (map (row member) rs) i (row member d) front y whole (omega (arith, lt, length-map rs (row member))) (ap f (get_or-map (row member) rs i d (row member d) lt) ∙ sym h) so_far)
 
 -- one that has no value
 pub reloc_stops : (f : Row → Result Meaning LinkFault) (member : ℕ) (rs : List Reloc) (i : ℕ) (d : Reloc) (front : List Meaning) (e : LinkFault) (whole : Result (List Meaning) LinkFault) → i < length rs → Err e ≡ f (row member (get_or rs i d))
-    → behind front (each f (drop i (map (row member) rs))) ≡ whole → whole ≡ Err e
+    → with_front front (each f (drop i (map (row member) rs))) ≡ whole → whole ≡ Err e
 reloc_stops f member rs i d front e whole lt h so_far =
     each_stops f (map (row member) rs) i (row member d) front e whole (omega (arith, lt, length-map rs (row member))) (ap f (get_or-map (row member) rs i d (row member d) lt) ∙ sym h) so_far
 
 -- none is left
-pub relocs_done : (f : Row → Result Meaning LinkFault) (member : ℕ) (rs : List Reloc) (i : ℕ) (front : List Meaning) (whole : Result (List Meaning) LinkFault) → length rs ≤ i → behind front (each f (drop i (map (row member) rs))) ≡ whole → whole ≡ Ok front
+pub relocs_done : (f : Row → Result Meaning LinkFault) (member : ℕ) (rs : List Reloc) (i : ℕ) (front : List Meaning) (whole : Result (List Meaning) LinkFault) → length rs ≤ i → with_front front (each f (drop i (map (row member) rs))) ≡ whole → whole ≡ Ok front
 relocs_done f member rs i front whole le so_far = each_done f (map (row member) rs) i front whole (omega (arith, le, length-map rs (row member))) so_far
 
 -- ---- the rows from a member on
@@ -91,17 +59,17 @@ rows_done members i le = at_drop_all (rows_from i) (objects members) i (omega (a
 
 -- one member more
 pub member_more : (f : Row → Result Meaning LinkFault) (members : List Member) (i : ℕ) (m : Member) (front new : List Meaning) (whole : Result (List Meaning) LinkFault) → i < length members → m ≡ get_or members i m
-    → behind front (each f (map (row i) m.object.now.relocations)) ≡ Ok new → behind front (each f (rows_from i (drop i (objects members)))) ≡ whole → behind new (each f (rows_from (i + 1) (drop (i + 1) (objects members)))) ≡ whole
+    → with_front front (each f (map (row i) m.object.now.relocations)) ≡ Ok new → with_front front (each f (rows_from i (drop i (objects members)))) ≡ whole → with_front new (each f (rows_from (i + 1) (drop (i + 1) (objects members)))) ≡ whole
 member_more f members i m front new whole lt is ok so_far =
-    sym (behind_more f (map (row i) m.object.now.relocations) (rows_from (i + 1) (drop (i + 1) (objects members))) front new ok) ∙ (rw (rows_more members i m lt is) at so_far)
+    sym (front_more f (map (row i) m.object.now.relocations) (rows_from (i + 1) (drop (i + 1) (objects members))) front new ok) ∙ (rw (rows_more members i m lt is) at so_far)
 
 -- one that is refused, or a want of memory
 pub member_stops : (f : Row → Result Meaning LinkFault) (members : List Member) (i : ℕ) (m : Member) (front : List Meaning) (e : OrdinaryFault) (whole : Result (List Meaning) LinkFault) → i < length members → m ≡ get_or members i m
-    → MatchBool (is_memory e) ⊤ (because Link (behind front (each f (map (row i) m.object.now.relocations))) ≡ Err e) → behind front (each f (rows_from i (drop i (objects members)))) ≡ whole → MatchBool (is_memory e) ⊤ (because Link whole ≡ Err e)
+    → MatchBool (is_memory e) ⊤ (because Link (with_front front (each f (map (row i) m.object.now.relocations))) ≡ Err e) → with_front front (each f (rows_from i (drop i (objects members)))) ≡ whole → MatchBool (is_memory e) ⊤ (because Link whole ≡ Err e)
 member_stops f members i m front e whole lt is stop so_far =
-    behind_stops_or f (map (row i) m.object.now.relocations) (rows_from (i + 1) (drop (i + 1) (objects members))) front e whole stop (rw (rows_more members i m lt is) at so_far)
+    front_stops_or f (map (row i) m.object.now.relocations) (rows_from (i + 1) (drop (i + 1) (objects members))) front e whole stop (rw (rows_more members i m lt is) at so_far)
 
 -- none is left
-pub members_done : (f : Row → Result Meaning LinkFault) (members : List Member) (i : ℕ) (front : List Meaning) (whole : Result (List Meaning) LinkFault) → length members ≤ i → behind front (each f (rows_from i (drop i (objects members)))) ≡ whole → whole ≡ Ok front
+pub members_done : (f : Row → Result Meaning LinkFault) (members : List Member) (i : ℕ) (front : List Meaning) (whole : Result (List Meaning) LinkFault) → length members ≤ i → with_front front (each f (rows_from i (drop i (objects members)))) ≡ whole → whole ≡ Ok front
 unfolding each
 members_done f members i front whole le so_far = sym (rw (rows_done members i le) at so_far) ∙ ap (λ (gs : List Meaning). Ok gs) (append-nil front)

@@ -49,7 +49,3 @@ meaning objects places modules row = value_of objects places modules row.member 
 -- what each relocation gives, or the first that has no value
 unfoldable pub meanings : List Object → List ℕ → List Module → Result (List Meaning) LinkFault
 meanings objects places modules = each (meaning objects places modules) (rows objects)
-
--- the same behind others
-abbrev pub behind : {X E : Type 0} → List X → Result (List X) E → Result (List X) E
-behind front rest = rest >>= λ xs. Ok (front ++ xs)

@@ -2,7 +2,7 @@
 ghost use Rattle.std.specs.Prelude.{◌≡◌, map, Ok, Err, OnOk, IfErr};
 ghost use Rattle.std.specs.List.{All};
 ghost use Rattle.pl_base.specs.Answers.{Answers, because};
-ghost use Rattle.pl_base.specs.Each.{each};
+ghost use Rattle.pl_base.specs.Each.{each, with_front};
 ghost use Rattle.pl_scope.specs.Scope.{objects, IsSymbol};
 ghost use Rattle.pl_value.specs.Linkable.{IsLinkable};
 ghost use Rattle.pl_value.specs.Meanings as spec;
@@ -50,8 +50,8 @@ fn add_each(
 ) -> Result<(), OrdinaryFault>
     requires linkable { IsLinkable scope.now.members.items places.now.rows }
     requires references { All (λ r. IsSymbol scope.now.members.items member r.symbol) relocs.now }
-    ensures ok { OnOk result (spec.behind meanings.old (each (spec.meaning (objects scope.now.members.items) places.now.rows tls.now) (map (spec.row member) relocs.now)) ≡ Ok meanings.new) }
-    ensures err { IfErr result (λ fault. Answers spec.is_memory (Err fault) (because Link (spec.behind meanings.old (each (spec.meaning (objects scope.now.members.items) places.now.rows tls.now) (map (spec.row member) relocs.now))))) }
+    ensures ok { OnOk result (with_front meanings.old (each (spec.meaning (objects scope.now.members.items) places.now.rows tls.now) (map (spec.row member) relocs.now)) ≡ Ok meanings.new) }
+    ensures err { IfErr result (λ fault. Answers spec.is_memory (Err fault) (because Link (with_front meanings.old (each (spec.meaning (objects scope.now.members.items) places.now.rows tls.now) (map (spec.row member) relocs.now))))) }
 {
     for reloc in relocs {
         let meaning = meaning(scope, places, tls, member, reloc)?;

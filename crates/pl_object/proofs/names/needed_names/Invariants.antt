@@ -1,6 +1,5 @@
 use Rattle.std.proofs.Common.{◌≡◌, drop}
-use Rattle.pl_base.specs.Each.{each}
-use Rattle.pl_base.proofs.EachLaws.{with_front}
+use Rattle.pl_base.specs.Each.{each, with_front}
 use Rattle.pl_object.specs.Names.{needed_name}
 use Rattle.pl_object.proofs.names.needed_names.Given as goal
 

@@ -2,15 +2,16 @@ use Rattle.std.proofs.Common.{◌<◌, length, arith, ap}
 use Rattle.std.proofs.lemmas.Result.{err_from_is_err_and}
 use Rattle.pl_base.specs.Answers.{because}
 use Rattle.pl_base.specs.Each.{each}
+use Rattle.pl_base.proofs.EachLaws.{front_nothing}
 use Rattle.pl_scope.specs.Scope.{objects}
 use Rattle.pl_value.specs.Meanings.{meaning, meanings, rows}
 use Rattle.pl_value.specs.declared.fault.OrdinaryFault.TheVariants.{Link}
-use Rattle.pl_value.proofs.CollectingLaws.{behind_nothing, member_more, member_stops, members_done}
+use Rattle.pl_value.proofs.CollectingLaws.{member_more, member_stops, members_done}
 use Rattle.pl_value.proofs.collecting.meanings.Goals as goal
 
 pub loop-member-init : goal.loop-member-init
 loop-member-init c =
-    rw c.new-meanings.ensures (behind_nothing (each (meaning (objects c.args.scope.now.members.items) c.args.places.now.rows c.args.tls.now) (rows (objects c.args.scope.now.members.items))))
+    rw c.new-meanings.ensures (front_nothing (each (meaning (objects c.args.scope.now.members.items) c.args.places.now.rows c.args.tls.now) (rows (objects c.args.scope.now.members.items))))
 
 pub loop-member-preserved : goal.loop-member-preserved
 loop-member-preserved c =
