@@ -12,6 +12,11 @@ abbrev pub Answers : {X E : Type 0} → (E → Bool) → Result X E → Result X
 Answers is_memory (Ok x) meant = meant ≡ Ok x
 Answers is_memory (Err e) meant = MatchBool (is_memory e) ⊤ (meant ≡ Err e)
 
+-- the same, of an answer whose value is seen by a view
+abbrev pub AnswersAs : {X Y E : Type 0} → (X → Y) → (E → Bool) → Result X E → Result Y E → Type 0
+AnswersAs view is_memory (Ok x) meant = meant ≡ Ok (view x)
+AnswersAs view is_memory (Err e) meant = MatchBool (is_memory e) ⊤ (meant ≡ Err e)
+
 -- the next step, unless the test holds
 abbrev pub unless : {X E : Type 0} → Bool → E → Result X E → Result X E
 unless true fault next = Err fault

@@ -19,9 +19,9 @@ use Rattle.pl_cache.specs.declared.cache.Cache.{Cache}
 use Rattle.pl_cache.specs.declared.constants.TheConstants.{MAGIC, MAX_ROWS}
 use Rattle.pl_elf.specs.declared.constants.TheConstants.{PAGE, ADDRESS_LIMIT}
 use Rattle.pl_cache.specs.declared.fault.CacheFault.{CacheFault}
-use Rattle.pl_cache.specs.declared.fault.CacheFault.TheVariants.{BadCache, NoMemory}
+use Rattle.pl_cache.specs.declared.fault.CacheFault.TheVariants.{BadCache}
 use Rattle.pl_cache.specs.Spelling.{cache_bytes, row_bytes, is_row, is_cache, ascend, IsCacheOf}
-use Rattle.pl_cache.specs.Reading.{number32_at, rows_at, behind_magic, all_rows, fields, checked, read, is_memory, Gives}
+use Rattle.pl_cache.specs.Reading.{number32_at, rows_at, behind_magic, all_rows, fields, checked, read, is_memory}
 use Rattle.pl_base.proofs.AnswerLaws.{bind_ok, ok_same}
 use Rattle.pl_cache.proofs.Fields.{passed, guard_then, Takes, Takes-then, number32_takes, number32_again, rows_take, rows_again, RowFits, all_fit}
 
@@ -69,12 +69,7 @@ read_takes bytes cache fits e =
     let p = passed (is_cache a.0) BadCache a.0 cache a.2 in
     subst (λ (y : Cache). (is_cache y ≡ true) × (bytes ≡ cache_bytes y)) p.1 (p.0, fields_take bytes a.0 fits a.1)
 
-pub answers : (r meant : Result Cache CacheFault) → Gives (λ x. x) r meant → Answers is_memory r meant
-answers (Ok cache) meant given = given
-answers (Err NoMemory) meant given = tt
-answers (Err BadCache) meant given = given
-
-pub is_found : (bytes : List ℕ) (r : Result Cache CacheFault) → IsBytes bytes → Gives (λ x. x) r (read bytes) → IfOk r (IsCacheOf bytes)
+pub is_found : (bytes : List ℕ) (r : Result Cache CacheFault) → IsBytes bytes → Answers is_memory r (read bytes) → IfOk r (IsCacheOf bytes)
 is_found bytes (Ok cache) fits given =
     let taken = read_takes bytes cache fits given in
     record { in_bytes = taken.1; is_spelled = taken.0 }

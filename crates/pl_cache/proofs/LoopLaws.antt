@@ -1,44 +1,45 @@
 -- Reading rows one after the other, as a loop does.
 use Rattle.std.proofs.Common.{◌≡◌, ℕ, suc, ◌-◌, ◌+◌, ◌≤◌, ◌<◌, List, [], ◌∷◌, ◌++◌, Result, Ok, Err, refl, sym, ap, ◌∙◌, append_assoc, arith}
 use Rattle.std.proofs.lemmas.List.{append-nil}
+use Rattle.std.specs.Prelude.{MatchBool, ⊤}
 use Rattle.pl_base.specs.Answers.{◌>>=◌}
 use Rattle.pl_slots.specs.declared.slot.Slot.{Slot}
 use Rattle.pl_cache.specs.declared.fault.CacheFault.{CacheFault}
 use Rattle.pl_cache.specs.declared.fault.CacheFault.TheVariants.{BadCache, NoMemory}
-use Rattle.pl_cache.specs.Reading.{row_at, rows_at, Fails}
+use Rattle.pl_cache.specs.Reading.{row_at, rows_at, is_memory}
 
 -- what was read before, and what is still read
-abbrev pub with_front : List Slot → Result (List Slot × List ℕ) CacheFault → Result (List Slot × List ℕ) CacheFault
-with_front front read = read >>= λ x. Ok (front ++ x.0, x.1)
+abbrev pub with_rows : List Slot → Result (List Slot × List ℕ) CacheFault → Result (List Slot × List ℕ) CacheFault
+with_rows front read = read >>= λ x. Ok (front ++ x.0, x.1)
 
-regroup : (front : List Slot) (row : Slot) (read : Result (List Slot × List ℕ) CacheFault) → with_front front (read >>= λ x. Ok (row ∷ x.0, x.1)) ≡ with_front (front ++ row ∷ []) read
+regroup : (front : List Slot) (row : Slot) (read : Result (List Slot × List ℕ) CacheFault) → with_rows front (read >>= λ x. Ok (row ∷ x.0, x.1)) ≡ with_rows (front ++ row ∷ []) read
 regroup front row (Ok x) = ap (λ (rows : List Slot). Ok (rows, x.1)) (simp append_assoc)
 regroup front row (Err f) = refl
 
 pub goes_on : (front : List Slot) (count i : ℕ) (bytes : List ℕ) (row : Slot) (after : List ℕ) (total : Result (List Slot × List ℕ) CacheFault) → i < count → row_at bytes ≡ Ok (row, after)
-    → with_front front (rows_at (count - i) bytes) ≡ total → with_front (front ++ row ∷ []) (rows_at (count - (i + 1)) after) ≡ total
+    → with_rows front (rows_at (count - i) bytes) ≡ total → with_rows (front ++ row ∷ []) (rows_at (count - (i + 1)) after) ≡ total
 unfolding rows_at
 goes_on front count i bytes row after total lt h so_far =
     let k : count - i ≡ suc (count - (i + 1)) = omega arith in
-    let one : with_front front (rows_at (count - i) bytes) ≡ with_front (front ++ row ∷ []) (rows_at (count - (i + 1)) after) = rw (k, h) (regroup front row (rows_at (count - (i + 1)) after)) in
+    let one : with_rows front (rows_at (count - i) bytes) ≡ with_rows (front ++ row ∷ []) (rows_at (count - (i + 1)) after) = rw (k, h) (regroup front row (rows_at (count - (i + 1)) after)) in
     sym one ∙ so_far
 
 stops : (e : CacheFault) (front : List Slot) (count i : ℕ) (bytes : List ℕ) (total : Result (List Slot × List ℕ) CacheFault) → i < count → row_at bytes ≡ Err e
-    → with_front front (rows_at (count - i) bytes) ≡ total → total ≡ Err e
+    → with_rows front (rows_at (count - i) bytes) ≡ total → total ≡ Err e
 unfolding rows_at
 stops e front count i bytes total lt h so_far =
     let k : count - i ≡ suc (count - (i + 1)) = omega arith in
-    let one : with_front front (rows_at (count - i) bytes) ≡ Err e = rw (k, h) refl in
+    let one : with_rows front (rows_at (count - i) bytes) ≡ Err e = rw (k, h) refl in
     sym so_far ∙ one
 
-pub ends : (e : CacheFault) (front : List Slot) (count i : ℕ) (bytes : List ℕ) (total : Result (List Slot × List ℕ) CacheFault) → i < count → Fails e (row_at bytes)
-    → with_front front (rows_at (count - i) bytes) ≡ total → Fails e total
+pub ends : (e : CacheFault) (front : List Slot) (count i : ℕ) (bytes : List ℕ) (total : Result (List Slot × List ℕ) CacheFault) → i < count → MatchBool (is_memory e) ⊤ (row_at bytes ≡ Err e)
+    → with_rows front (rows_at (count - i) bytes) ≡ total → MatchBool (is_memory e) ⊤ (total ≡ Err e)
 ends NoMemory front count i bytes total lt h so_far = tt
 ends BadCache front count i bytes total lt h so_far = stops BadCache front count i bytes total lt h so_far
 
-pub is_done : (front : List Slot) (count i : ℕ) (bytes : List ℕ) (total : Result (List Slot × List ℕ) CacheFault) → count ≤ i → with_front front (rows_at (count - i) bytes) ≡ total → total ≡ Ok (front, bytes)
+pub is_done : (front : List Slot) (count i : ℕ) (bytes : List ℕ) (total : Result (List Slot × List ℕ) CacheFault) → count ≤ i → with_rows front (rows_at (count - i) bytes) ≡ total → total ≡ Ok (front, bytes)
 unfolding rows_at
 is_done front count i bytes total le so_far =
     let k : count - i ≡ 0 = omega arith in
-    let one : with_front front (rows_at (count - i) bytes) ≡ Ok (front, bytes) = rw k (ap (λ (rows : List Slot). Ok (rows, bytes)) (append-nil front)) in
+    let one : with_rows front (rows_at (count - i) bytes) ≡ Ok (front, bytes) = rw k (ap (λ (rows : List Slot). Ok (rows, bytes)) (append-nil front)) in
     sym so_far ∙ one

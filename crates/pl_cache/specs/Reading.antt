@@ -1,5 +1,5 @@
 -- Reading a cache from left to right.
-use Rattle.std.specs.Prelude.{◌≡◌, ℕ, zero, suc, Bool, true, false, nat_lt, ◌==◌, List, [], ◌∷◌, length, take, drop, Result, Ok, Err, if◌then◌else◌}
+use Rattle.std.specs.Prelude.{ℕ, zero, suc, Bool, true, false, nat_lt, ◌==◌, List, [], ◌∷◌, length, take, drop, Result, Ok, Err, if◌then◌else◌}
 use Rattle.std.specs.Str.{bytes_eq}
 use Rattle.pl_base.specs.Answers.{◌>>=◌}
 use Rattle.pl_base.specs.Bytes.{word32, word64}
@@ -14,15 +14,6 @@ use Rattle.pl_cache.specs.Spelling.{is_cache}
 abbrev pub is_memory : CacheFault → Bool
 is_memory NoMemory = true
 is_memory BadCache = false
-
--- what a function returned, seen by view, is what reading gives, unless memory ran out
-abbrev pub Fails : {Y : Type 0} → CacheFault → Result Y CacheFault → Type 0
-Fails NoMemory read = Unit {0}
-Fails BadCache read = read ≡ Err BadCache
-
-abbrev pub Gives : {X Y : Type 0} → (X → Y) → Result X CacheFault → Result Y CacheFault → Type 0
-Gives view (Ok x) read = read ≡ Ok (view x)
-Gives view (Err e) read = Fails e read
 
 -- each reading of a field gives a value and the bytes after it
 unfoldable pub number32_at : List ℕ → Result (ℕ × List ℕ) CacheFault

@@ -1,5 +1,5 @@
 ghost use Rattle.std.specs.Prelude.{◌≡◌, Ok, IfOk};
-ghost use Rattle.pl_base.specs.Answers.{Answers};
+ghost use Rattle.pl_base.specs.Answers.{Answers, AnswersAs};
 ghost use Rattle.pl_cache.specs.declared.cache.Cache as declared;
 ghost use Rattle.pl_cache.specs.Spelling as spelling;
 ghost use Rattle.pl_cache.specs.Reading as spec;
@@ -14,7 +14,7 @@ use std::alloc::Global;
 /// A number of 32 bits, and the bytes after it.
 #[tactic(auto, unfolding(crate::specs::Reading::number32_at))]
 fn take_32(bytes: &[u8]) -> Result<(u32, &[u8]), CacheFault>
-    ensures { spec.Gives (λ x. (x.0, x.1.now)) result (spec.number32_at bytes.now) }
+    ensures { AnswersAs (λ x. (x.0, x.1.now)) spec.is_memory result (spec.number32_at bytes.now) }
 {
     if bytes.len() < 4 {
         return Err(CacheFault::BadCache);
@@ -26,7 +26,7 @@ fn take_32(bytes: &[u8]) -> Result<(u32, &[u8]), CacheFault>
 /// A number of 64 bits, and the bytes after it.
 #[tactic(auto, unfolding(crate::specs::Reading::number64_at))]
 fn take_64(bytes: &[u8]) -> Result<(u64, &[u8]), CacheFault>
-    ensures { spec.Gives (λ x. (x.0, x.1.now)) result (spec.number64_at bytes.now) }
+    ensures { AnswersAs (λ x. (x.0, x.1.now)) spec.is_memory result (spec.number64_at bytes.now) }
 {
     if bytes.len() < 8 {
         return Err(CacheFault::BadCache);
@@ -38,7 +38,7 @@ fn take_64(bytes: &[u8]) -> Result<(u64, &[u8]), CacheFault>
 /// A name of so many bytes.
 #[tactic(auto, unfolding(crate::specs::Reading::name_of_size))]
 fn take_text(alloc: Global, size: usize, bytes: &[u8]) -> Result<(Text, &[u8]), CacheFault>
-    ensures { spec.Gives (λ x. (x.0, x.1.now)) result (spec.name_of_size size bytes.now) }
+    ensures { AnswersAs (λ x. (x.0, x.1.now)) spec.is_memory result (spec.name_of_size size bytes.now) }
 {
     if bytes.len() < size {
         return Err(CacheFault::BadCache);
@@ -52,7 +52,7 @@ fn take_text(alloc: Global, size: usize, bytes: &[u8]) -> Result<(Text, &[u8]), 
 
 #[tactic(auto, unfolding(crate::specs::Reading::name_at))]
 fn take_name(alloc: Global, bytes: &[u8]) -> Result<(Text, &[u8]), CacheFault>
-    ensures { spec.Gives (λ x. (x.0, x.1.now)) result (spec.name_at bytes.now) }
+    ensures { AnswersAs (λ x. (x.0, x.1.now)) spec.is_memory result (spec.name_at bytes.now) }
 {
     match bytes {
         [] => Err(CacheFault::BadCache),
@@ -62,7 +62,7 @@ fn take_name(alloc: Global, bytes: &[u8]) -> Result<(Text, &[u8]), CacheFault>
 
 #[tactic(auto, unfolding(crate::specs::Reading::row_at))]
 fn take_row(alloc: Global, bytes: &[u8]) -> Result<(Slot, &[u8]), CacheFault>
-    ensures { spec.Gives (λ x. (x.0, x.1.now)) result (spec.row_at bytes.now) }
+    ensures { AnswersAs (λ x. (x.0, x.1.now)) spec.is_memory result (spec.row_at bytes.now) }
 {
     let (name, rest) = take_name(alloc, bytes)?;
     let (start, rest) = take_64(rest)?;
@@ -71,7 +71,7 @@ fn take_row(alloc: Global, bytes: &[u8]) -> Result<(Slot, &[u8]), CacheFault>
 }
 
 fn take_rows(alloc: Global, count: u32, bytes: &[u8]) -> Result<(Rows<Slot>, &[u8]), CacheFault>
-    ensures { spec.Gives (λ x. (x.0, x.1.now)) result (spec.rows_at count bytes.now) }
+    ensures { AnswersAs (λ x. (x.0, x.1.now)) spec.is_memory result (spec.rows_at count bytes.now) }
 {
     let mut rows = Rows::new(alloc);
     let mut rest = bytes;
@@ -85,7 +85,7 @@ fn take_rows(alloc: Global, count: u32, bytes: &[u8]) -> Result<(Rows<Slot>, &[u
 
 #[tactic(auto, unfolding(crate::specs::Reading::behind_magic))]
 fn take_magic(bytes: &[u8]) -> Result<&[u8], CacheFault>
-    ensures { spec.Gives (λ rest. rest.now) result (spec.behind_magic bytes.now) }
+    ensures { AnswersAs (λ rest. rest.now) spec.is_memory result (spec.behind_magic bytes.now) }
 {
     match bytes.strip_prefix(MAGIC.as_slice()) {
         None => Err(CacheFault::BadCache),
@@ -95,7 +95,7 @@ fn take_magic(bytes: &[u8]) -> Result<&[u8], CacheFault>
 
 #[tactic(auto, unfolding(crate::specs::Reading::all_rows))]
 fn take_all_rows(alloc: Global, count: u32, bytes: &[u8]) -> Result<Rows<Slot>, CacheFault>
-    ensures { spec.Gives (λ x. x) result (spec.all_rows count bytes.now) }
+    ensures { Answers spec.is_memory result (spec.all_rows count bytes.now) }
 {
     if count > MAX_ROWS {
         return Err(CacheFault::BadCache);
@@ -109,7 +109,7 @@ fn take_all_rows(alloc: Global, count: u32, bytes: &[u8]) -> Result<Rows<Slot>, 
 
 #[tactic(auto, unfolding(crate::specs::Reading::fields))]
 fn take_fields(alloc: Global, bytes: &[u8]) -> Result<Cache, CacheFault>
-    ensures { spec.Gives (λ x. x) result (spec.fields bytes.now) }
+    ensures { Answers spec.is_memory result (spec.fields bytes.now) }
 {
     let rest = take_magic(bytes)?;
     let (last, rest) = take_32(rest)?;
@@ -120,7 +120,7 @@ fn take_fields(alloc: Global, bytes: &[u8]) -> Result<Cache, CacheFault>
 
 #[tactic(auto, unfolding(crate::specs::Reading::read))]
 fn read(alloc: Global, bytes: &[u8]) -> Result<Cache, CacheFault>
-    ensures { spec.Gives (λ x. x) result (spec.read bytes.now) }
+    ensures { Answers spec.is_memory result (spec.read bytes.now) }
 {
     let cache = take_fields(alloc, bytes)?;
     if is_cache(&cache) {

@@ -1,7 +1,7 @@
 use Rattle.std.proofs.Common.{◌≡◌, ◌-◌}
 use Rattle.pl_cache.specs.Reading.{rows_at}
-use Rattle.pl_cache.proofs.LoopLaws.{with_front}
+use Rattle.pl_cache.proofs.LoopLaws.{with_rows}
 use Rattle.pl_cache.proofs.reading.take_rows.Given as goal
 
 abbrev pub invariant-loop : goal.invariant-loop
-invariant-loop l = with_front l.rows (rows_at (l.count - l.counter) l.rest) ≡ rows_at l.count l.bytes
+invariant-loop l = with_rows l.rows (rows_at (l.count - l.counter) l.rest) ≡ rows_at l.count l.bytes
