@@ -1,3 +1,6 @@
+ghost use Rattle.std.specs.Prelude.{◌≡◌, ◌+◌, ◌<◌, ◌^◌};
+ghost use Rattle.pl_elf.specs.Ranges.{range_from};
+
 /// Addresses or file offsets from `start` up to, but not including, `end`.
 #[derive(Clone, Copy, Debug, PartialEq, Eq)]
 pub struct Range {
@@ -6,4 +9,17 @@ pub struct Range {
 
     /// The first one that is past the range.
     pub end: u64,
+}
+
+impl Range {
+    /// The range of so many addresses or bytes from a first one on.
+    pub fn from_size(start: u64, size: u64) -> Range
+        requires { start + size < 2 ^ 64 }
+        ensures { result ≡ range_from start size }
+    {
+        Range {
+            start,
+            end: start + size,
+        }
+    }
 }

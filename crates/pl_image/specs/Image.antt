@@ -3,6 +3,7 @@ use Rattle.std.specs.Prelude.{◌≡◌, ℕ, ◌+◌, ◌*◌, ◌/◌, ◌≤�
 use Rattle.std.specs.List.{list_any, flat_map, All}
 use Rattle.pl_base.specs.Memory.{Memory, Piece, Fill, AtMostOne, is_within, lies, layered, filled, shown}
 use Rattle.pl_elf.specs.declared.constants.TheConstants.{ADDRESS_LIMIT}
+use Rattle.pl_elf.specs.Ranges.{range_from}
 use Rattle.pl_elf.specs.declared.range.Range.{Range}
 use Rattle.pl_image.specs.declared.loaded.Loaded.{Loaded}
 use Rattle.pl_image.specs.Loads.{is_masked}
@@ -29,7 +30,7 @@ byte_of i = let memory = layered (all_pieces i.objects) in shown memory (any_mas
 -- ---- text
 
 abbrev pub extent_of : Piece → Range
-extent_of piece = record { start = piece.start; end = piece.start + piece.size }
+extent_of piece = range_from piece.start piece.size
 
 -- the addresses that each object loads
 abbrev pub extents_of : List Loaded → List (List Range)

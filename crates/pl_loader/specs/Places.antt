@@ -5,6 +5,7 @@ use Rattle.std.specs.Option.{ok_or}
 use Rattle.pl_base.specs.Answers.{◌>>=◌}
 use Rattle.pl_elf.specs.Headers.{loads}
 use Rattle.pl_elf.specs.declared.constants.TheConstants.{ADDRESS_LIMIT}
+use Rattle.pl_elf.specs.Ranges.{range_from}
 use Rattle.pl_elf.specs.declared.range.Range.{Range}
 use Rattle.pl_elf.specs.declared.segment.Segment.{Segment}
 use Rattle.pl_object.specs.declared.object.Object.{Object}
@@ -23,7 +24,7 @@ region = record { start = REGION_START; end = REGION_END }
 
 -- the addresses of a PT_LOAD, as linked
 abbrev pub load_range : Segment → Range
-load_range s = record { start = s.vaddr; end = s.vaddr + s.memsz }
+load_range s = range_from s.vaddr s.memsz
 
 -- the addresses that a program takes
 unfoldable pub taken : Object → List Range

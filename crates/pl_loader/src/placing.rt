@@ -34,10 +34,7 @@ fn load_range(segment: &Segment) -> Range
     requires { segment.now.vaddr + segment.now.memsz ≤ ADDRESS_LIMIT }
     ensures { result ≡ spec.load_range segment.now }
 {
-    Range {
-        start: segment.vaddr,
-        end: segment.vaddr + segment.memsz,
-    }
+    Range::from_size(segment.vaddr, segment.memsz)
 }
 
 /// The addresses that a program takes.

@@ -1,5 +1,5 @@
 -- Where the tables of an object stand: each extent once, as a window of memory or of the file (System V gABI chapter 5, "Dynamic Section"; GNU hash table; GNU symbol versioning).
-use Rattle.std.specs.Prelude.{ℕ, ◌+◌, ◌*◌, Bool, not, ◌&&◌, ◌==◌, nat_lt, List, [], ◌∷◌, ◌++◌, map, filter, find, bit_and, Option, Some, None, is_some, unwrap_or, if◌then◌else◌}
+use Rattle.std.specs.Prelude.{ℕ, ◌*◌, Bool, not, ◌&&◌, ◌==◌, nat_lt, List, [], ◌∷◌, ◌++◌, map, filter, find, bit_and, Option, Some, None, is_some, unwrap_or, if◌then◌else◌}
 use Rattle.std.specs.List.{list_any}
 use Rattle.pl_base.specs.Windows.{Window}
 use Rattle.pl_elf.specs.Headers.{segment_of_kind}
@@ -7,6 +7,7 @@ use Rattle.pl_elf.specs.declared.constants.TheConstants.{HEADER_SIZE, SEGMENT_SI
 use Rattle.pl_elf.specs.declared.header.Header.{Header}
 use Rattle.pl_elf.specs.declared.segment.Segment.{Segment}
 use Rattle.pl_elf.specs.declared.section.Section.{Section}
+use Rattle.pl_elf.specs.Ranges.{range_from}
 use Rattle.pl_elf.specs.declared.range.Range.{Range}
 use Rattle.pl_dyn.specs.Read.{value_of}
 use Rattle.pl_dyn.specs.declared.constants.TheConstants.{DT_HASH, DT_STRTAB, DT_SYMTAB, DT_RELA, DT_RELASZ, DT_STRSZ, DT_JMPREL, DT_PLTRELSZ, DT_GNU_HASH, DT_VERSYM, DT_VERDEF, DT_VERNEED}
@@ -116,4 +117,4 @@ unfoldable pub static_windows : Header → List Section → List Window
 static_windows h secs = (header_window ∷ segments_window h ∷ []) ++ symtab_windows secs
 
 abbrev pub range_of : Window → Range
-range_of w = record { start = w.at; end = w.at + w.size }
+range_of w = range_from w.at w.size

@@ -1,4 +1,4 @@
-ghost use Rattle.std.specs.Prelude.{◌≡◌, ◌+◌, ◌<◌, ◌^◌, map, IfOk};
+ghost use Rattle.std.specs.Prelude.{◌≡◌, ◌<◌, ◌^◌, map, IfOk};
 ghost use Rattle.std.specs.List.{All};
 ghost use Rattle.pl_base.specs.Windows.{end_of};
 ghost use Rattle.pl_object.specs.Tables as spec;
@@ -12,10 +12,7 @@ fn range_of(window: &Window) -> Range
     requires { end_of window.now < 2 ^ 64 }
     ensures { result ≡ spec.range_of window.now }
 {
-    Range {
-        start: window.at() as u64,
-        end: (window.at() + u128::from(window.size())) as u64,
-    }
+    Range::from_size(window.at() as u64, window.size())
 }
 
 /// Windows as ranges.

@@ -1,8 +1,8 @@
 -- The places of wants in turn.
-use Rattle.std.specs.Prelude.{◌≡◌, ℕ, ◌+◌, ◌⊎◌, true, false, not, ◌&&◌, List, [], ◌∷◌, Option, Some, None}
+use Rattle.std.specs.Prelude.{◌≡◌, ℕ, ◌⊎◌, true, false, not, ◌&&◌, List, [], ◌∷◌, Option, Some, None}
 use Rattle.pl_elf.specs.declared.range.Range.{Range}
 use Rattle.pl_slots.specs.Holes.{without, is_free, IsPlace, IsLowest}
-use Rattle.pl_elf.specs.Ranges.{has}
+use Rattle.pl_elf.specs.Ranges.{has, range_from}
 use Rattle.pl_slots.specs.declared.slot.Want.{Want}
 use Rattle.pl_place.specs.declared.fault.PlaceFault.{PlaceFault}
 use Rattle.pl_place.specs.declared.fault.PlaceFault.TheVariants.{NoPlace, NoMemory}
@@ -14,7 +14,7 @@ Chose post holes want answer = Answered post holes want.span want.align answer �
 
 -- the addresses of a want
 abbrev pub range_of : Want → ℕ → Range
-range_of want start = record { start = start; end = start + want.span }
+range_of want start = range_from start want.span
 
 -- each want in turn is where the policy says in the holes that are left beside those before it
 abbrev pub InTurn : Answering → List Range → List Want → List ℕ → Type 0

@@ -26,10 +26,7 @@ fn place_one<F: Fn(&Holes, u64, u64) -> Option<u64>>(
     let start = placer.place(holes, want.span, want.align)?;
     // What fits ends there at most, so the sum does not wrap.
     let _end = holes.end();
-    Some(Range {
-        start,
-        end: start + want.span,
-    })
+    Some(Range::from_size(start, want.span))
 }
 
 fn placed<F: Fn(&Holes, u64, u64) -> Option<u64>>(

@@ -5,6 +5,7 @@ use Rattle.std.specs.Str.{bytes_eq}
 use Rattle.pl_base.specs.Answers.{◌>>=◌}
 use Rattle.pl_base.specs.Each.{run}
 use Rattle.pl_base.specs.Sums.{is_aligned}
+use Rattle.pl_elf.specs.Ranges.{range_from}
 use Rattle.pl_elf.specs.declared.range.Range.{Range}
 use Rattle.pl_slots.specs.declared.slot.Want.{Want}
 use Rattle.pl_slots.specs.declared.slot.Slot.{Slot}
@@ -19,7 +20,7 @@ is_memory (NoSlot _ _ _) = false
 
 -- the addresses of a slot
 abbrev pub range_of : Slot → Range
-range_of slot = record { start = slot.start; end = slot.start + slot.span }
+range_of slot = range_from slot.start slot.span
 
 -- whether a slot lies in a region
 unfoldable pub lies_in : Range → Slot → Bool

@@ -1,4 +1,4 @@
-ghost use Rattle.std.specs.Prelude.{◌≡◌, ◌≢◌, ◌+◌, ◌<◌, ◌≤◌, ◌^◌, true, Option, IfOk, IfSome, All, AllPairs};
+ghost use Rattle.std.specs.Prelude.{◌≡◌, ◌≢◌, ◌+◌, ◌<◌, ◌≤◌, true, Option, IfOk, IfSome, All, AllPairs};
 ghost use Rattle.std.specs.Option.{option_map};
 ghost use Rattle.pl_base.specs.Answers.{Answers};
 ghost use Rattle.pl_slots.specs.Apart.{are_apart};
@@ -81,10 +81,7 @@ fn placed(alloc: Global, planned: Planned, want: &Want) -> Result<Planned, PlanF
             hole: greatest(holes.as_slice()),
         }),
         Some(start) => {
-            let taken = Range {
-                start,
-                end: start + want.span,
-            };
+            let taken = Range::from_size(start, want.span);
             let left = without(alloc, holes.as_slice(), taken)?;
             rows.push(Slot {
                 name,

@@ -49,9 +49,6 @@ impl Slot {
         requires { self.now.start + self.now.span < 2 ^ 64 }
         ensures { result ≡ spec.range_of self.now }
     {
-        Range {
-            start: self.start,
-            end: self.start + self.span,
-        }
+        Range::from_size(self.start, self.span)
     }
 }
