@@ -15,3 +15,4 @@ pub mod AnswerLaws
 pub mod NameLaws
 pub mod StringLaws
 pub mod FindLaws
+pub mod TestLaws

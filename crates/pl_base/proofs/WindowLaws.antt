@@ -1,8 +1,8 @@
 -- What is written into windows, and what stays.
-use Rattle.std.proofs.Common.{◌≡◌, ℕ, zero, suc, ◌+◌, ◌-◌, ◌*◌, ◌/◌, ◌%◌, ◌<◌, ◌≤◌, Bool, true, false, List, [], ◌∷◌, ◌++◌, length, get_or, take, drop, replicate, refl, sym, ap, subst, ◌∙◌, append_assoc, arith, inl, inr, rules}
-use Rattle.std.specs.Prelude.{◌⊎◌, ◌||◌, nat_le, min, AllPairs}
+use Rattle.std.proofs.Common.{◌≡◌, ℕ, zero, suc, ◌+◌, ◌-◌, ◌*◌, ◌/◌, ◌%◌, ◌<◌, ◌≤◌, true, false, List, [], ◌∷◌, ◌++◌, length, get_or, take, drop, replicate, refl, sym, ap, subst, ◌∙◌, append_assoc, arith, inl, inr, rules}
+use Rattle.std.specs.Prelude.{◌⊎◌, nat_le, min, AllPairs}
 use Rattle.std.specs.List.{list_any}
-use Rattle.std.proofs.lemmas.Bool.{cases_Bool, cases_lt, or_parts, and_parts}
+use Rattle.std.proofs.lemmas.Bool.{cases_Bool, cases_lt, or_parts, or_from, and_parts}
 use Rattle.std.proofs.lemmas.Bool.Decides.{nat_tests}
 use Rattle.std.proofs.Math.Nat.{min-le_left}
 use Rattle.std.proofs.lemmas.List.{places, ext_get_or, length-append, length-take, length-drop, length-take-le, length-replicate, get_or-take, get_or-drop, drop-drop, drop-take, take-take, take_all, take-append-drop, take-append-le, drop-append-le, append-nil, take_at, drop_at}
@@ -136,16 +136,12 @@ within_put at new xs fits =
 pub agree_wider : (vs ws : List Window) (xs ys : List ℕ) → ((k : ℕ) → list_any (holds k) ws ≡ false → list_any (holds k) vs ≡ false) → Agree vs xs ys → Agree ws xs ys
 agree_wider vs ws xs ys wider h = record { size = h.size; bytes = λ k out. h.bytes k (wider k out) }
 
--- neither of two tests
-pub or_false : (a b : Bool) → a ≡ false → b ≡ false → (a || b) ≡ false
-or_false a b h k = rw (h, k) refl
-
 -- a window carried behind others
 carried : (v : Window) (vs ws : List Window) (k : ℕ) → list_any (holds k) (v ∷ (vs ++ ws)) ≡ false → list_any (holds k) (vs ++ (v ∷ ws)) ≡ false
 carried v vs ws k h =
     let p = or_parts (holds k v) (list_any (holds k) (vs ++ ws)) h in
     let q = or_parts (list_any (holds k) vs) (list_any (holds k) ws) (sym (list_any-append (holds k) vs ws) ∙ p.1) in
-    list_any-append (holds k) vs (v ∷ ws) ∙ or_false (list_any (holds k) vs) (list_any (holds k) (v ∷ ws)) q.0 (or_false (holds k v) (list_any (holds k) ws) p.0 q.1)
+    list_any-append (holds k) vs (v ∷ ws) ∙ or_from (list_any (holds k) vs) (list_any (holds k) (v ∷ ws)) q.0 (or_from (holds k v) (list_any (holds k) ws) p.0 q.1)
 
 -- many puts: so many windows more
 pub agree_edits : (ps : List Put) (ws : List Window) (xs ys : List ℕ) → Agree ws xs ys → AllIn (length xs) (windows ps) → Agree (windows ps ++ ws) (put_all ps xs) ys

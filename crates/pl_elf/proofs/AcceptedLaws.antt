@@ -1,9 +1,9 @@
 -- What is known of a file that no clause from 1 to 8 refuses.
-use Rattle.std.proofs.Common.{◌≡◌, ℕ, ◌+◌, ◌≤◌, inl, inr, Bool, true, false, List, [], ◌∷◌, Ok, refl, sym}
+use Rattle.std.proofs.Common.{◌≡◌, ℕ, ◌+◌, ◌≤◌, inl, inr, Bool, true, false, List, [], ◌∷◌, Ok, refl}
 use Rattle.std.specs.Prelude.{◌||◌, ◌&&◌, ◌==◌, not, nat_lt, filter, All}
 use Rattle.std.specs.List.{list_any}
 use Rattle.std.specs.Result.{is_ok}
-use Rattle.std.proofs.lemmas.Bool.{cases_Bool, or_parts, ltb-false}
+use Rattle.std.proofs.lemmas.Bool.{cases_Bool, not-false, or_parts, ltb-false}
 use Rattle.std.proofs.lemmas.List.Elements.{All-nil, All-cons}
 use Rattle.pl_base.proofs.AnswerLaws.{refuse_none}
 use Rattle.pl_elf.specs.declared.constants.TheConstants.{SEGMENT_SIZE, MAX_LOAD_ALIGN, ADDRESS_LIMIT}
@@ -61,10 +61,6 @@ fifth_fails a b c d e f g h =
     let p2 = or_parts ((((a || b) || c) || d) || e) f p1.0 in
     (or_parts (((a || b) || c) || d) e p2.0).1
 
-holds : (b : Bool) → not b ≡ false → b ≡ true
-holds true h = refl
-holds false h = sym h
-
 pub loads_accepted : (bytes : List ℕ) → is_ok (read bytes) ≡ true → AreLoads (loads (segments bytes (header bytes)))
 unfolding bad_segment
 loads_accepted bytes ok =
@@ -75,7 +71,7 @@ loads_accepted bytes ok =
     fourth_fails (not (h.phentsize == SEGMENT_SIZE)) (not (list_any is_load ss)) (has_second_of_a_kind ss) (list_any (λ s. is_load s && bad_load s) ss) (not (ascend_from 0 (loads ss))) (overlap_in_file ss) (list_any bad_tls ss) all in
     let ascend : not (ascend_from 0 (loads ss)) ≡ false =
     fifth_fails (not (h.phentsize == SEGMENT_SIZE)) (not (list_any is_load ss)) (has_second_of_a_kind ss) (list_any (λ s. is_load s && bad_load s) ss) (not (ascend_from 0 (loads ss))) (overlap_in_file ss) (list_any bad_tls ss) all in
-    record { ascend = holds (ascend_from 0 (loads ss)) ascend; fit = any_filtered is_load bad_load ss fit }
+    record { ascend = not-false (ascend_from 0 (loads ss)) ascend; fit = any_filtered is_load bad_load ss fit }
 
 -- ---- one PT_LOAD
 

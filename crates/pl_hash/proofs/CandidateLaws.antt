@@ -6,12 +6,13 @@ use Rattle.std.specs.List.{list_any, AllByRecursion, IsDistinct}
 use Rattle.std.proofs.lemmas.Bool.{false≢true, false_from_ne_true, eqb-true, eqb-false, eq-eqb, ne_eqb, or_parts, or_cases, or_left, or_right, and_parts, leb-true, ltb-true}
 use Rattle.std.proofs.lemmas.Map.Keys.{IsDistinct-cons, IsDistinct-head, IsDistinct-tail}
 use Rattle.std.proofs.lemmas.Nat.{mod_below}
+use Rattle.std.proofs.lemmas.Option.{same_Some}
 use Rattle.pl_hash.specs.declared.table.Table.{Table}
 use Rattle.pl_hash.specs.declared.table.TheConstants.{WORD_SIZE}
 use Rattle.pl_hash.specs.Table.{bucket_count, admits, matches, link_at}
 use Rattle.pl_hash.specs.Chain.{chain_from, chain, following, head, is_linked, IsLinked, IsWellFormed}
 use Rattle.pl_hash.specs.Candidates.{matching, candidates, is_candidate, first_of, rest_after, rest_from}
-use Rattle.pl_hash.proofs.ChainLaws.{some_is, opened, chain_from-none, chain_from-zero, more_steps, same_chain}
+use Rattle.pl_hash.proofs.ChainLaws.{opened, chain_from-none, chain_from-zero, more_steps, same_chain}
 
 pub IsLinked-from : (t : Table) (index : ℕ) → is_linked t index ≡ true → IsLinked t index
 unfolding is_linked
@@ -117,7 +118,7 @@ follows_by t n first index rest false is_same le linked e more h = more h
 pub follows : (t : Table) (n : ℕ) (start : Option ℕ) (xs : List ℕ) (index : ℕ) → n ≤ t.symbols → chain_from t n start ≡ Some xs → has index xs ≡ true → Follows t index xs
 unfolding chain_from
 follows t n None xs index le e h =
-    let none : xs ≡ [] = some_is xs [] (sym e ∙ chain_from-none t n) in
+    let none : xs ≡ [] = same_Some xs [] (sym e ∙ chain_from-none t n) in
     absurd (false≢true (rw none at h))
 follows t zero (Some first) xs index le e h = absurd cc
 follows t (suc n) (Some first) xs index le e h =
@@ -162,7 +163,7 @@ reaches_by t n first index rest false is_same whole more h = let m = more h in (
 reaches : (t : Table) (n : ℕ) (start : Option ℕ) (xs : List ℕ) (index : ℕ) → chain_from t n start ≡ Some xs → has index xs ≡ true
     → (m : ℕ) × (ys : List ℕ) × (chain_from t m (Some index) ≡ Some (index ∷ ys)) × (length ys < length xs)
 reaches t n None xs index e h =
-    let none : xs ≡ [] = some_is xs [] (sym e ∙ chain_from-none t n) in
+    let none : xs ≡ [] = same_Some xs [] (sym e ∙ chain_from-none t n) in
     absurd (false≢true (rw none at h))
 reaches t zero (Some first) xs index e h = let none = chain_from-zero t first in absurd (cc)
 reaches t (suc n) (Some first) xs index e h =
@@ -184,7 +185,7 @@ apart_from x (y ∷ ys) h =
 
 chain-distinct : (t : Table) (n : ℕ) (start : Option ℕ) (xs : List ℕ) → chain_from t n start ≡ Some xs → IsDistinct nat_eq xs
 unfolding IsDistinct
-chain-distinct t n None xs e = let none : [] ≡ xs = some_is [] xs (sym (chain_from-none t n) ∙ e) in subst (IsDistinct nat_eq) none tt
+chain-distinct t n None xs e = let none : [] ≡ xs = same_Some [] xs (sym (chain_from-none t n) ∙ e) in subst (IsDistinct nat_eq) none tt
 chain-distinct t zero (Some first) xs e = let none = chain_from-zero t first in absurd (cc)
 chain-distinct t (suc n) (Some first) xs e =
     let o = opened t n first xs e in

@@ -1,11 +1,9 @@
 -- What a chain is, one symbol at a time.
 use Rattle.std.proofs.Common.{◌≡◌, ℕ, zero, suc, ◌+◌, ◌<◌, ◌≤◌, ◌-◌, Bool, true, false, cond, List, [], ◌∷◌, Option, Some, None, refl, sym, ap, ◌∙◌, arith}
 use Rattle.std.specs.Prelude.{is_some, is_none, not}
+use Rattle.std.proofs.lemmas.Option.{same_Some}
 use Rattle.pl_hash.specs.declared.table.Table.{Table}
 use Rattle.pl_hash.specs.Chain.{chain_from, following, is_linked, with_first}
-
-pub some_is : (x y : List ℕ) → Some x ≡ Some y → x ≡ y
-some_is x y e = cc
 
 -- a chain from a symbol on is the symbol and the chain from the following one
 abbrev pub Opened : Table → ℕ → ℕ → List ℕ → Type 0
@@ -15,7 +13,7 @@ opened_by : (t : Table) (steps index : ℕ) (xs : List ℕ) (b : Bool) (rest : O
     → cond b (with_first index rest) None ≡ Some xs → Opened t steps index xs
 opened_by t steps index xs false rest linked is_rest e = absurd cc
 opened_by t steps index xs true None linked is_rest e = absurd cc
-opened_by t steps index xs true (Some rest) linked is_rest e = (rest, linked, is_rest, sym (some_is (index ∷ rest) xs e))
+opened_by t steps index xs true (Some rest) linked is_rest e = (rest, linked, is_rest, sym (same_Some (index ∷ rest) xs e))
 
 pub opened : (t : Table) (steps index : ℕ) (xs : List ℕ) → chain_from t (suc steps) (Some index) ≡ Some xs → Opened t steps index xs
 unfolding chain_from
@@ -47,7 +45,7 @@ more_steps t (suc n) (suc m) (Some index) xs le e =
 
 pub same_chain : (t : Table) (n m : ℕ) (start : Option ℕ) (xs ys : List ℕ) → chain_from t n start ≡ Some xs → chain_from t m start ≡ Some ys → xs ≡ ys
 same_chain t n m start xs ys x y =
-    some_is xs ys (sym (more_steps t n (n + m) start xs (omega arith) x) ∙ more_steps t m (n + m) start ys (omega arith) y)
+    same_Some xs ys (sym (more_steps t n (n + m) start xs (omega arith) x) ∙ more_steps t m (n + m) start ys (omega arith) y)
 
 -- ---- a walk of so many steps, at step i
 

@@ -6,6 +6,7 @@ use Rattle.std.proofs.lemmas.Bool.{eqb-true, lt-ltb}
 use Rattle.std.proofs.lemmas.Bool.Decides.{nat_tests, eqb_tells}
 use Rattle.std.proofs.lemmas.List.{get_or-set_same, get_or-set_other, length-set, get_or-replicate, length-replicate}
 use Rattle.std.proofs.lemmas.Nat.{mod_below}
+use Rattle.std.proofs.Math.Bool.{and-false, or-false}
 use Rattle.pl_hash.specs.declared.table.Table.{Table}
 use Rattle.pl_hash.specs.Table.{bucket_count, admits, matches}
 use Rattle.pl_hash.specs.Chain.{chain, following, head, IsWellFormed}
@@ -31,10 +32,6 @@ or_true : (b : Bool) → true ≡ (b || true)
 or_true true = refl
 or_true false = refl
 
-or_false : (b : Bool) → b ≡ (b || false)
-or_false true = refl
-or_false false = refl
-
 mark_at : (x i : ℕ) (own : Bool) (found : List Bool) → i < length found → get_or (mark x own found) i false ≡ (get_or found i false || (eqb x i && own))
 mark_at x i own found lt =
     elim (eqb_tells x i) [
@@ -44,12 +41,12 @@ mark_at x i own found lt =
   where
     same : (own : Bool) → get_or (cond (own && nat_lt i (length found)) (set found i true) found) i false ≡ (get_or found i false || own)
     same true = rw (lt-ltb i (length found) lt) (get_or-set_same found i true false lt ∙ or_true (get_or found i false))
-    same false = or_false (get_or found i false)
+    same false = sym (or-false (get_or found i false))
 
     apart : (own b : Bool) → (x ≡ i → ⊥) → get_or (cond (own && b) (set found x true) found) i false ≡ (get_or found i false || false)
-    apart true true ne = get_or-set_other found x i true false (λ e. ne (sym e)) ∙ or_false (get_or found i false)
-    apart true false ne = or_false (get_or found i false)
-    apart false b ne = or_false (get_or found i false)
+    apart true true ne = get_or-set_other found x i true false (λ e. ne (sym e)) ∙ sym (or-false (get_or found i false))
+    apart true false ne = sym (or-false (get_or found i false))
+    apart false b ne = sym (or-false (get_or found i false))
 
 -- ---- the marks of a chain
 
@@ -70,7 +67,7 @@ either false own_x false true false is = rw (is refl) refl
 pub marked_at : (t : Table) (hashes : List ℕ) (k : ℕ) (xs : List ℕ) (found : List Bool) (i : ℕ) → i < length found
     → get_or (marked t hashes k xs found) i false ≡ (get_or found i false || (has i xs && is_own t k (slice_index hashes i) i))
 unfolding marked
-marked_at t hashes k [] found i lt = or_false (get_or found i false)
+marked_at t hashes k [] found i lt = sym (or-false (get_or found i false))
 marked_at t hashes k (x ∷ xs) found i lt =
     let own = λ (j : ℕ). is_own t k (slice_index hashes j) j in
     marked_at t hashes k xs (mark x (own x) found) i (rw (mark_length x (own x) found) lt)
@@ -89,10 +86,6 @@ marked_none t hashes k found = rw (chain_from-none t t.symbols) refl
 
 -- ---- the marks of all chains
 
-and_false : (a : Bool) → false ≡ (a && false)
-and_false true = refl
-and_false false = refl
-
 has_passing_by : (p : ℕ → Bool) (i x : ℕ) (xs : List ℕ) (b : Bool) → p x ≡ b → has i (filter p xs) ≡ (has i xs && p i)
     → has i (cond b (x ∷ filter p xs) (filter p xs)) ≡ ((eqb x i || has i xs) && p i)
 has_passing_by p i x xs true e more =
@@ -104,7 +97,7 @@ has_passing_by p i x xs false e more =
     elim (eqb_tells x i) [
       | inl same ↦
           let fails : p i ≡ false = ap p (sym same.1) ∙ e in
-          rw same.0 (more ∙ ap (λ (c : Bool). has i xs && c) fails ∙ sym (and_false (has i xs)) ∙ sym fails)
+          rw same.0 (more ∙ ap (λ (c : Bool). has i xs && c) fails ∙ and-false (has i xs) ∙ sym fails)
       | inr differ ↦ rw differ.0 more
     ]
 

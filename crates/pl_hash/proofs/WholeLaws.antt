@@ -1,12 +1,12 @@
 -- What a well formed table gives to a look-up.
-use Rattle.std.proofs.Common.{◌≡◌, ℕ, zero, suc, ◌<◌, ◌≤◌, Bool, true, false, cond, length, slice_index_or, arith, zero-add}
+use Rattle.std.proofs.Common.{◌≡◌, ℕ, ◌<◌, ◌≤◌, Bool, true, false, cond, length, slice_index_or, arith, zero-add}
 use Rattle.std.specs.Prelude.{IsTrue, IsSome, is_some}
 use Rattle.std.specs.List.{range_with_len}
 use Rattle.std.specs.Int.{is_power_of_two}
-use Rattle.std.proofs.lemmas.Bool.{eqb-true, leb-true, ltb-true, and_parts, false≢true}
-use Rattle.std.proofs.lemmas.Nat.{ones_le_self}
+use Rattle.std.proofs.lemmas.Bool.{leb-true, ltb-true, and_parts, false≢true}
 use Rattle.std.proofs.lemmas.List.Sums.{AllPass-from_list_all}
 use Rattle.std.proofs.lemmas.List.FromFn.{length-range_with_len, get_or-range_with_len}
+use Rattle.pl_base.proofs.TestLaws.{power_some}
 use Rattle.pl_hash.specs.declared.table.Table.{Table}
 use Rattle.pl_hash.specs.declared.table.TheConstants.{SYSV_HEADER_SIZE, GNU_HEADER_SIZE}
 use Rattle.pl_hash.specs.Table.{has_header, HasHeader, header_size, bucket_count, bloom_size, chains_at}
@@ -25,10 +25,6 @@ unfolding has_buckets
 HasBuckets-from t header h =
     let p = and_parts _ _ h in
     record { header = header; some = ltb-true 0 (bucket_count t) p.0; within = leb-true (chains_at t) (length t.words) p.1 }
-
-power_some : (n : ℕ) → is_power_of_two n ≡ true → 0 < n
-power_some zero h = let one = eqb-true _ 1 h in absurd (omega (arith, ones_le_self 0, one))
-power_some (suc n) h = omega arith
 
 bloom_some : (gnu : Bool) (n : ℕ) (b : Bool) → cond gnu (is_power_of_two n) b ≡ true → IsTrue gnu → 0 < n
 bloom_some true n b h is_gnu = power_some n h

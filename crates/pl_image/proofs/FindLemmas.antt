@@ -3,6 +3,7 @@ use Rattle.std.proofs.Common.{◌≡◌, ℕ, zero, suc, ◌<◌, Bool, true, fa
 use Rattle.std.specs.Prelude.{◌||◌, find}
 use Rattle.std.specs.List.{list_any, flat_map}
 use Rattle.std.proofs.lemmas.List.Folds.{list_any-append, list_any_at, list_any_none}
+use Rattle.std.proofs.Math.Bool.{or-false}
 
 -- ---- none
 
@@ -25,17 +26,13 @@ find_lone p (x ∷ xs) (suc i) e lt before after =
     let miss : p x ≡ false = before 0 x (omega arith) in
     rw miss (find_lone p xs i e (omega arith) (λ k d less. before (suc k) d (omega arith)) (λ k d more within. after (suc k) d (omega arith) (omega arith)))
 
-or_none : (b : Bool) → (b || false) ≡ b
-or_none true = refl
-or_none false = refl
-
 pub any_lone : {X : Type 0} (p : X → Bool) (xs : List X) (i : ℕ) (e : X) → i < length xs
     → ((k : ℕ) (d : X) → k < i → p (get_or xs k d) ≡ false) → ((k : ℕ) (d : X) → i < k → k < length xs → p (get_or xs k d) ≡ false)
     → list_any p xs ≡ p (get_or xs i e)
 any_lone p [] i e lt before after = absurd (omega arith)
 any_lone p (x ∷ xs) zero e lt before after =
     let none = list_any_none p xs (λ k d within. after (suc k) d (omega arith) (omega arith)) in
-    rw none (or_none (p x))
+    rw none (or-false (p x))
 any_lone p (x ∷ xs) (suc i) e lt before after =
     let miss : p x ≡ false = before 0 x (omega arith) in
     rw miss (any_lone p xs i e (omega arith) (λ k d less. before (suc k) d (omega arith)) (λ k d more within. after (suc k) d (omega arith) (omega arith)))

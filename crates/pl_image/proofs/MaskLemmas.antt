@@ -4,6 +4,7 @@ use Rattle.std.specs.Prelude.{◌&&◌, ◌||◌, nat_le, nat_lt, map}
 use Rattle.std.specs.List.{list_any}
 use Rattle.std.proofs.lemmas.Bool.{cases_Bool}
 use Rattle.std.proofs.lemmas.Bool.Decides.{nat_tests}
+use Rattle.std.proofs.Math.Bool.{and-false}
 use Rattle.pl_base.specs.Memory.{is_within}
 use Rattle.pl_base.specs.Windows.{holds}
 use Rattle.pl_base.proofs.MemoryLaws.{within_true}
@@ -45,12 +46,8 @@ and_or : (w x y : Bool) → ((w && x) || (w && y)) ≡ (w && (x || y))
 and_or true x y = refl
 and_or false x y = refl
 
-and_none : (w : Bool) → false ≡ (w && false)
-and_none true = refl
-and_none false = refl
-
 tables_of : (a : ℕ) (load : Load) (rs : List Range) → list_any (loads_table a load) rs ≡ (is_within load.start load.size a && list_any (has (load.offset + (a - load.start))) rs)
-tables_of a load [] = and_none (is_within load.start load.size a)
+tables_of a load [] = sym (and-false (is_within load.start load.size a))
 tables_of a load (r ∷ rs) =
     ap (λ (b : Bool). loads_table a load r || b) (tables_of a load rs)
     ∙ and_or (is_within load.start load.size a) (has (load.offset + (a - load.start)) r) (list_any (has (load.offset + (a - load.start))) rs)

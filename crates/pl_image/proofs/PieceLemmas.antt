@@ -1,10 +1,11 @@
 -- Pieces that ascend.
-use Rattle.std.proofs.Common.{◌≡◌, ℕ, zero, suc, ◌+◌, ◌-◌, ◌*◌, ◌<◌, ◌≤◌, ◌^◌, ◌/◌, min, max, Bool, true, false, cond, List, [], ◌∷◌, length, get_or, take, drop, Some, None, refl, sym, ap, subst, ◌∙◌, arith, inl, inr}
-use Rattle.std.specs.Prelude.{◌&&◌, ◌||◌, nat_le, nat_lt, find}
+use Rattle.std.proofs.Common.{◌≡◌, ℕ, zero, suc, ◌+◌, ◌-◌, ◌*◌, ◌<◌, ◌≤◌, ◌^◌, ◌/◌, min, max, true, false, cond, List, [], ◌∷◌, length, get_or, take, drop, Some, None, refl, sym, ap, subst, ◌∙◌, arith, inl, inr}
+use Rattle.std.specs.Prelude.{◌&&◌, nat_le, nat_lt, find}
 use Rattle.std.specs.List.{list_any}
 use Rattle.std.specs.List.Sorted.{IsNonDecreasingBy, IsPartitionedBy, IsPartitionPoint}
 use Rattle.std.proofs.lemmas.Bool.{and_parts, or_parts, cases_Bool, cases_order, ltb-false, true≢false}
 use Rattle.std.proofs.lemmas.Bool.Decides.{nat_tests}
+use Rattle.std.proofs.Math.Bool.{or-true}
 use Rattle.std.proofs.lemmas.List.{get_or_past, get_or_default, length-take, length-drop, get_or-take, get_or-drop, take-append-drop}
 use Rattle.std.proofs.lemmas.List.Folds.{list_any-append, list_any_none}
 use Rattle.pl_base.specs.Memory.{Piece, lies, byte_at, AtMostOne}
@@ -41,9 +42,6 @@ end_limit from (p ∷ ps) (suc i) d h lt = end_limit (p.start + p.size) ps i d (
 
 pub piece_limit : (ps : List Piece) (i : ℕ) (p : Piece) → ascends 0 ps ≡ true → i < length ps → p ≡ get_or ps i p → p.start + p.size ≤ 2 ^ 47
 piece_limit ps i p h lt is = subst (λ (q : Piece). q.start + q.size ≤ 2 ^ 47) (sym is) (end_limit 0 ps i p h lt)
-
-pub start_limit : (ps : List Piece) (i : ℕ) (p : Piece) → ascends 0 ps ≡ true → i < length ps → p ≡ get_or ps i p → p.start ≤ 2 ^ 47
-start_limit ps i p h lt is = let limit = piece_limit ps i p h lt is in omega arith
 
 -- each begins at or after the end of every one before
 ends_before : (from : ℕ) (ps : List Piece) (i j : ℕ) (d : Piece) → ascends from ps ≡ true → i < j → j < length ps → (get_or ps i d).start + (get_or ps i d).size ≤ (get_or ps j d).start
@@ -98,10 +96,6 @@ module _ (ps : List Piece) (a i : ℕ) (h : ascends 0 ps ≡ true) (point : IsPa
 
 -- ---- bytes of files
 
-or_true : (b : Bool) → (b || true) ≡ true
-or_true true = refl
-or_true false = refl
-
 -- the pieces whose bytes of a file end by an address are the first ones
 pub ended_first : (ps : List Piece) (a : ℕ) → ascends 0 ps ≡ true → IsPartitionedBy (λ p. nat_le (p.start + stored p) a) ps
 ended_first ps a h = λ i j d le within hit. elim (cases_order i j) [
@@ -143,7 +137,7 @@ module _ (ps : List Piece) (a i : ℕ) (h : ascends 0 ps ≡ true) (point : IsPa
         | inl any ↦
             ap (list_any (stores_in (max n (p.start / 8)))) (sym (take-append-drop i ps))
             ∙ list_any-append (stores_in (max n (p.start / 8))) (take i ps) (drop i ps)
-            ∙ rw any (or_true (list_any (stores_in (max n (p.start / 8))) (take i ps)))
+            ∙ rw any (or-true (list_any (stores_in (max n (p.start / 8))) (take i ps)))
       ]
 
 -- ---- the first piece that has a byte of a file

@@ -5,6 +5,7 @@ use Rattle.std.specs.List.{All, list_any}
 use Rattle.std.specs.List.Sorted.{IsNonDecreasingBy, IsPartitionedBy, IsPartitionPoint, IsPermutation}
 use Rattle.std.proofs.lemmas.Bool.{and_parts, cases_Bool, cases_order, false≢true}
 use Rattle.std.proofs.lemmas.Bool.Decides.{nat_tests}
+use Rattle.std.proofs.Math.Bool.{and-false, or-false}
 use Rattle.std.proofs.lemmas.List.{length-take, length-drop, get_or-take, get_or-drop, take-append-drop}
 use Rattle.std.proofs.lemmas.List.Folds.{list_any-append, list_any_none}
 use Rattle.std.proofs.lemmas.List.Sorted.{list_any-IsPermutation, IsPartitionedBy-leb, IsPartitionedBy-ltb, IsNonDecreasingBy-drop}
@@ -125,14 +126,10 @@ near_has rs rest near from size i j a rest_is near_is low high first last =
     let late = last.1 (j + k) d (omega arith) within in
     rw (get_or-drop j rest k d) (let out : has a (get_or rest (j + k) d) ≡ false = grind (arith, nat_tests) in out)) in
     let rest_has : list_any (has a) rest ≡ list_any (has a) near =
-    ap (list_any (has a)) (sym (take-append-drop j rest)) ∙ list_any-append (has a) (take j rest) (drop j rest) ∙ rw back (or_none (list_any (has a) (take j rest))) ∙ ap (list_any (has a)) (sym near_is) in
+    ap (list_any (has a)) (sym (take-append-drop j rest)) ∙ list_any-append (has a) (take j rest) (drop j rest) ∙ rw back (or-false (list_any (has a) (take j rest))) ∙ ap (list_any (has a)) (sym near_is) in
     let all_has : list_any (has a) rs ≡ list_any (has a) rest =
     ap (list_any (has a)) (sym (take-append-drop i rs)) ∙ list_any-append (has a) (take i rs) (drop i rs) ∙ rw front (ap (list_any (has a)) (sym rest_is)) in
     sym (all_has ∙ rest_has)
-  where
-    or_none : (b : Bool) → (b || false) ≡ b
-    or_none true = refl
-    or_none false = refl
 
 pub near_only : (rs rest : List Range) (from limit i j : ℕ) → rest ≡ drop i rs
     → IsPartitionPoint (λ r. nat_le r.end from ≡ true) (λ r. nat_le r.end from ≡ false) rs i
@@ -182,14 +179,10 @@ none_before r rs a sorted lt = list_any_none (has a) rs (λ k d within.
     let le : r.start ≤ (get_or rs k d).start = sorted 0 (suc k) d (omega arith) (omega arith) in
     grind (arith, nat_tests))
 
-and_none : (b : Bool) → false ≡ (b && false)
-and_none true = refl
-and_none false = refl
-
 -- they have the addresses from the end on
 pub merged_has : (end : ℕ) (rs : List Range) (a : ℕ) → IsNonDecreasingBy (λ x. x.start) rs → list_any (has a) (merged end rs) ≡ (nat_le end a && list_any (has a) rs)
 unfolding merged
-merged_has end [] a sorted = and_none (nat_le end a)
+merged_has end [] a sorted = sym (and-false (nat_le end a))
 merged_has end (r ∷ rs) a sorted =
     let left : IsNonDecreasingBy (λ x. x.start) rs = λ i j d le within. sorted (suc i) (suc j) d (omega arith) (omega arith) in
     elim (cases_Bool (nat_lt r.start r.end && nat_lt end r.end)) [

@@ -1,9 +1,10 @@
 -- The lines of an image's objects on their way through a buffer.
-use Rattle.std.proofs.Common.{◌≡◌, ℕ, ◌+◌, ◌-◌, ◌*◌, ◌<◌, ◌≤◌, ◌^◌, List, [], ◌∷◌, ◌++◌, length, get_or, take, drop, Option, refl, sym, ap, subst, ◌∙◌, append_assoc, arith}
+use Rattle.std.proofs.Common.{◌≡◌, ℕ, ◌+◌, ◌-◌, ◌*◌, ◌<◌, ◌≤◌, ◌^◌, List, [], ◌∷◌, ◌++◌, length, get_or, take, drop, Option, sym, ap, subst, ◌∙◌, append_assoc, arith}
 use Rattle.std.specs.Prelude.{map}
 use Rattle.std.specs.List.{flat_map}
 use Rattle.std.proofs.lemmas.List.{append-nil, take_more, take_all, drop_more, take-append-drop}
 use Rattle.std.proofs.lemmas.List.Folds.{flat_map-map}
+use Rattle.std.proofs.lemmas.Grind.{flat_map-append}
 use Rattle.pl_base.specs.Memory.{Memory, Piece}
 use Rattle.pl_base.specs.Streams.{GotPrefix}
 use Rattle.pl_base.proofs.StreamLaws.{GotPrefix-more}
@@ -54,18 +55,14 @@ pub text_is : (i : Image) → text_of i ≡ flat_map (object_lines i) i.objects
 unfolding text_of text
 text_is i = flat_map-map (λ extents. word_lines (only extents (byte_of i))) (λ (o : Loaded). map extent_of o.pieces) i.objects
 
-flat_append : (f : Loaded → List ℕ) (xs ys : List Loaded) → flat_map f (xs ++ ys) ≡ flat_map f xs ++ flat_map f ys
-flat_append f [] ys = refl
-flat_append f (x ∷ xs) ys = ap (λ (zs : List ℕ). f x ++ zs) (flat_append f xs ys) ∙ sym (append_assoc (f x) (flat_map f xs) (flat_map f ys))
-
 -- one object more
 flat_more : (f : Loaded → List ℕ) (xs : List Loaded) (k : ℕ) (d : Loaded) → k < length xs → flat_map f (take (k + 1) xs) ≡ flat_map f (take k xs) ++ f (get_or xs k d)
-flat_more f xs k d lt = ap (flat_map f) (take_more xs k d lt) ∙ flat_append f (take k xs) (get_or xs k d ∷ []) ∙ ap (λ (zs : List ℕ). flat_map f (take k xs) ++ zs) (append-nil (f (get_or xs k d)))
+flat_more f xs k d lt = ap (flat_map f) (take_more xs k d lt) ∙ flat_map-append f (take k xs) (get_or xs k d ∷ []) ∙ ap (λ (zs : List ℕ). flat_map f (take k xs) ++ zs) (append-nil (f (get_or xs k d)))
 
 -- and those after it
 flat_rest : (f : Loaded → List ℕ) (xs : List Loaded) (k : ℕ) (d : Loaded) → k < length xs → flat_map f xs ≡ flat_map f (take k xs) ++ (f (get_or xs k d) ++ flat_map f (drop (k + 1) xs))
 flat_rest f xs k d lt =
-    ap (flat_map f) (sym (take-append-drop k xs)) ∙ flat_append f (take k xs) (drop k xs) ∙ ap (λ (ys : List Loaded). flat_map f (take k xs) ++ flat_map f ys) (drop_more xs k d lt)
+    ap (flat_map f) (sym (take-append-drop k xs)) ∙ flat_map-append f (take k xs) (drop k xs) ∙ ap (λ (ys : List Loaded). flat_map f (take k xs) ++ flat_map f ys) (drop_more xs k d lt)
 
 module _ (i : Image) (old mid new : Option (List ℕ)) (before between after : List ℕ) (k : ℕ) where
   pub objects_begin : Passes old old before before (flat_map (object_lines i) (take 0 i.objects))

@@ -7,8 +7,9 @@ use Rattle.std.specs.Cmp.Lexicographic.{slice_cmp}
 use Rattle.std.specs.BTreeSet.{BTreeSet, contains}
 use Rattle.std.specs.BTreeMap.{is_at}
 use Rattle.std.proofs.lemmas.List.{drop_all}
+use Rattle.std.proofs.lemmas.Bool.{and_right}
 use Rattle.std.proofs.lemmas.Map.Text.{is_eq-slice_cmp}
-use Rattle.std.proofs.lemmas.Cmp.{eq_by_cmp_equiv, nat_list_cmp_total}
+use Rattle.pl_base.proofs.TestLaws.{bytes_flip}
 use denote.Ref.{Bor}
 use Rattle.pl_lists.specs.declared.list_row.ListRow.{ListRow}
 use Rattle.pl_lists.specs.Lists.{are_distinct}
@@ -28,16 +29,9 @@ pub none_later : (names : BTreeSet (Bor (List ℕ))) (rows : List ListRow) → n
 unfolding are_distinct
 none_later names rows none = rw (drop_all (length rows) rows (omega arith)) (record { found = λ name. rw none refl; distinct = refl })
 
-same_either_way : (xs ys : List ℕ) → bytes_eq xs ys ≡ bytes_eq ys xs
-same_either_way xs ys = sym (is_eq-slice_cmp xs ys) ∙ (eq_by_cmp_equiv nat_list_cmp_total).symm xs ys ∙ is_eq-slice_cmp ys xs
-
 either : (b c : Bool) → cond b true c ≡ (b || c)
 either true c = refl
 either false c = refl
-
-not_both : (b c : Bool) → c ≡ false → (b && c) ≡ false
-not_both true c e = e
-not_both false c e = refl
 
 -- the row before those from an index on
 row_before : (rows : List ListRow) (index : ℕ) (row : ListRow) → 0 < index → index ≤ length rows → drop (index - 1) rows ≡ get_or rows (index - 1) row ∷ drop index rows
@@ -51,7 +45,7 @@ pub one_later : (old new : BTreeSet (Bor (List ℕ))) (rows : List ListRow) (ind
 unfolding are_distinct
 one_later old new rows index row key some within key_is updates is_new later =
     rw (row_before rows index row some within) (record {
-      found = λ name. updates name ∙ rw (later.found name, is_eq-slice_cmp key.now name.now, same_either_way key.now name.now, key_is) (either (bytes_eq name.now (get_or rows (index - 1) row).name) (has_name name.now (drop index rows)));
+      found = λ name. updates name ∙ rw (later.found name, is_eq-slice_cmp key.now name.now, bytes_flip key.now name.now, key_is) (either (bytes_eq name.now (get_or rows (index - 1) row).name) (has_name name.now (drop index rows)));
       distinct = rw (← key_is, ← later.found key, ← is_new, later.distinct) refl;
     })
 
@@ -60,7 +54,7 @@ not_all : (rows : List ListRow) (index : ℕ) → are_distinct (drop index rows)
 unfolding are_distinct
 not_all rows zero twice = twice
 not_all [] (suc index) twice = twice
-not_all (row ∷ rows) (suc index) twice = not_both _ _ (not_all rows index twice)
+not_all (row ∷ rows) (suc index) twice = and_right _ _ (not_all rows index twice)
 
 pub is_twice : (names : BTreeSet (Bor (List ℕ))) (rows : List ListRow) (index : ℕ) (row : ListRow) (key : Bor (List ℕ)) → 0 < index → index ≤ length rows → key.now ≡ (get_or rows (index - 1) row).name
     → false ≡ not (contains by_bytes names key) → AreLater names (drop index rows) → false ≡ are_distinct rows

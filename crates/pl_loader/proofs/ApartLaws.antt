@@ -1,13 +1,13 @@
 -- The objects of a load share no address, and end below the limit of addresses.
-use Rattle.std.proofs.Common.{◌≡◌, ℕ, zero, suc, ◌+◌, ◌-◌, ◌<◌, ◌≤◌, Bool, true, false, not, ◌||◌, ◌&&◌, List, [], ◌∷◌, ◌++◌, length, map, get_or, refl, sym, ap, ◌∙◌, subst, arith, zero-add, inl, inr}
+use Rattle.std.proofs.Common.{◌≡◌, ℕ, zero, suc, ◌+◌, ◌-◌, ◌<◌, ◌≤◌, true, false, not, ◌&&◌, List, [], ◌∷◌, ◌++◌, length, map, get_or, refl, sym, ap, ◌∙◌, subst, arith, zero-add, inl, inr}
 use Rattle.std.specs.Prelude.{nat_le, nat_lt}
 use Rattle.std.specs.List.{All, AllZip, list_any}
-use Rattle.std.proofs.lemmas.Bool.{and_parts, and_from, or_parts, or_left, le-leb, lt-ltb, leb-true, ltb-true, or_cases, false_from_ne_true, false≢true}
+use Rattle.std.proofs.lemmas.Bool.{and_parts, and_from, or_parts, or_from, or_left, or_right, le-leb, lt-ltb, leb-true, ltb-true, or_cases, false_from_ne_true, false≢true}
 use Rattle.std.proofs.lemmas.List.Elements.{All-head, All-tail, All-cons, All-weaker}
 use Rattle.std.proofs.lemmas.List.Folds.{list_any-append}
 use Rattle.pl_base.specs.Memory.{Piece, AtMostOne, lies}
 use Rattle.pl_base.proofs.MemoryLaws.{within_true}
-use Rattle.pl_base.proofs.WindowLaws.{or_false}
+use Rattle.pl_base.proofs.TestLaws.{no_both}
 use Rattle.pl_elf.specs.Headers.{loads}
 use Rattle.pl_elf.specs.Clauses.{ascend_from}
 use Rattle.pl_elf.specs.declared.constants.TheConstants.{ADDRESS_LIMIT}
@@ -45,18 +45,14 @@ alone_one (p ∷ ps) alone zero (suc j) a d lt within hit = none_at a ps j d (om
 alone_one (p ∷ ps) alone (suc i) (suc j) a d lt within hit = alone_one ps alone.1 i j a d (omega (arith, lt)) (omega (arith, within)) hit
 
 none_of_both : (a : ℕ) (ps qs : List Piece) → list_any (lies a) ps ≡ false → list_any (lies a) qs ≡ false → list_any (lies a) (ps ++ qs) ≡ false
-none_of_both a ps qs left right = list_any-append (lies a) ps qs ∙ or_false (list_any (lies a) ps) (list_any (lies a) qs) left right
+none_of_both a ps qs left right = list_any-append (lies a) ps qs ∙ or_from (list_any (lies a) ps) (list_any (lies a) qs) left right
 
 alone_append : (ps qs : List Piece) → Alone ps → Alone qs → ((a : ℕ) → list_any (lies a) ps ≡ true → list_any (lies a) qs ≡ false) → Alone (ps ++ qs)
 alone_append [] qs front back cross = back
 alone_append (p ∷ ps) qs front back cross = (
   λ a hit. none_of_both a ps qs (front.0 a hit) (cross a (or_left (lies a p) (list_any (lies a) ps) hit)),
-  alone_append ps qs front.1 back (λ a any. cross a (or_right_of (lies a p) (list_any (lies a) ps) any)),
+  alone_append ps qs front.1 back (λ a any. cross a (or_right (lies a p) (list_any (lies a) ps) any)),
 )
-  where
-    or_right_of : (b c : Bool) → c ≡ true → (b || c) ≡ true
-    or_right_of true c is = refl
-    or_right_of false c is = is
 
 -- ---- the pieces of one object
 
@@ -121,11 +117,6 @@ pieces_miss range (f ∷ fs) (place ∷ places) a all misses within =
     (pieces_miss range fs places a (All-tail IsSpannedFile f fs all) misses.1 within)
 
 -- and busy ranges beside which they are placed
-no_both : (r b : Bool) → (r && not b) ≡ true → b ≡ true → ⊥
-no_both true true is hit = false≢true is
-no_both true false is hit = false≢true hit
-no_both false b is hit = false≢true is
-
 pieces_free : (region : Range) (busy : List Range) (fs : List ObjectFile) (places : List ℕ) (a : ℕ) → All IsSpannedFile fs → AllFree region busy (map want_of fs) places → is_free a busy ≡ true → list_any (lies a) (pieces_of fs places) ≡ false
 pieces_free region busy [] places a all free hit = refl
 pieces_free region busy (f ∷ fs) [] a all free hit = refl

@@ -3,7 +3,8 @@ use Rattle.std.proofs.Common.{◌≡◌, ℕ, ◌+◌, ◌<◌, ◌≤◌, Bool,
 use Rattle.std.specs.Prelude.{fold, max, find, ◌==◌, ◌⊎◌, if◌then◌else◌}
 use Rattle.std.specs.List.{All, list_any}
 use Rattle.std.specs.Int.{is_power_of_two}
-use Rattle.std.proofs.lemmas.Bool.{cases_Bool, cases_lt, or_parts, and_parts, leb-true, eqb-true, false≢true}
+use Rattle.std.proofs.lemmas.Bool.{cases_Bool, cases_lt, not-false, or_parts, and_parts, leb-true, eqb-true, false≢true}
+use Rattle.std.proofs.lemmas.Option.{same_Some}
 use Rattle.std.proofs.lemmas.List.Elements.{All-nil, All-cons, All-head, All-tail, All-weaker}
 use Rattle.pl_base.specs.Answers.{because}
 use Rattle.pl_base.specs.Sums.{round_up}
@@ -49,13 +50,9 @@ never_ended : is_ended [] ≡ true → ⊥
 unfolding is_ended null_count entries
 never_ended ended = false≢true ended
 
-not_false : (b : Bool) → not b ≡ false → b ≡ true
-not_false true is = refl
-not_false false is = absurd (false≢true (sym is))
-
 read_ended : (table : List ℕ) (d : Dynamic) → dyn.read table ≡ Ok d → is_ended table ≡ true
 unfolding dyn.read
-read_ended table d is = not_false (is_ended table) (unless_ok (not (is_ended table)) dyn_fault.NoEnd _ d is).0
+read_ended table d is = not-false (is_ended table) (unless_ok (not (is_ended table)) dyn_fault.NoEnd _ d is).0
 
 loads_dynamic : (bytes : List ℕ) (ss : List Segment) (memory : Window) (d : Dynamic) (found : Option Segment) → loader ss memory.at ≡ found → dyn.read (loaded bytes ss memory) ≡ Ok d → (s : Segment) × (loader ss memory.at ≡ Some s)
 unfolding loaded file_window
@@ -150,7 +147,7 @@ found_holds P p [] s all passes found = absurd cc
 found_holds P p (x ∷ ss) s all passes found =
     elim (cases_Bool (p x)) [
       | inl hit ↦
-          let same : x ≡ s = some_is (rw hit at found) in
+          let same : x ≡ s = same_Some x s (rw hit at found) in
           subst P same (All-head P x (loads ss) (rw (passes x hit) at all))
       | inr miss ↦
           found_holds P p ss s (elim (cases_Bool (is_load x)) [
@@ -158,9 +155,6 @@ found_holds P p (x ∷ ss) s all passes found =
             | inr other ↦ rw other at all
           ]) passes (rw miss at found)
     ]
-  where
-    some_is : Some x ≡ Some s → x ≡ s
-    some_is e = cc
 
 -- ---- the alignment
 

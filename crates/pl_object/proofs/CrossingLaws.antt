@@ -6,11 +6,13 @@ use Rattle.std.specs.List.Sorted.{IsPermutation, IsNonDecreasingBy}
 use Rattle.std.proofs.lemmas.List.{drop_more, drop_all}
 use Rattle.std.proofs.lemmas.List.Folds.{list_any-append}
 use Rattle.std.proofs.lemmas.Bool.Decides.{nat_tests}
+use Rattle.std.proofs.Math.Bool.{or-false}
 use Rattle.pl_base.specs.Windows.{Window, end_of, share}
 use Rattle.pl_object.specs.PlaceClauses.{meets}
 use Rattle.pl_object.specs.declared.crossing.Mark.{Mark}
 use Rattle.pl_object.specs.Crossing.{mark, further, is_met, other, table_after, spot_after, cross}
 use Rattle.pl_object.proofs.PairLaws.{any_pair, any_pair_permuted}
+use Rattle.pl_object.proofs.SweepLaws.{share_flips}
 
 -- a table and a spot that share a byte
 abbrev pub crosses : Mark → Mark → Bool
@@ -42,15 +44,11 @@ met_more : (last w n : Window) → w.at ≤ n.at → is_met (further last w) n �
 unfolding is_met further
 met_more last w n le = further_by last w n (nat_lt (end_of last) (end_of w)) (nat_lt 0 w.size) refl refl le
 
-or_false : (b : Bool) → b ≡ (b || false)
-or_false true = refl
-or_false false = refl
-
 table_adds : (table spot w : Window) (n : Mark) → w.at ≤ n.window.at → meets_mark (further table w) spot n ≡ (meets_mark table spot n || crosses (mark true w) n)
 table_adds table spot w n le = by n.is_table
   where
     by : (b : Bool) → is_met (cond b spot (further table w)) n.window ≡ (is_met (cond b spot table) n.window || cond b false (share w n.window))
-    by true = or_false (is_met spot n.window)
+    by true = sym (or-false (is_met spot n.window))
     by false = met_more table w n.window le
 
 spot_adds : (table spot w : Window) (n : Mark) → w.at ≤ n.window.at → meets_mark table (further spot w) n ≡ (meets_mark table spot n || crosses (mark false w) n)
@@ -58,7 +56,7 @@ spot_adds table spot w n le = by n.is_table
   where
     by : (b : Bool) → is_met (cond b (further spot w) table) n.window ≡ (is_met (cond b spot table) n.window || cond b (share w n.window) false)
     by true = met_more spot w n.window le
-    by false = or_false (is_met table n.window)
+    by false = sym (or-false (is_met table n.window))
 
 or_mixes : (a b c d : Bool) → ((a || b) || (c || d)) ≡ ((a || c) || (b || d))
 or_mixes true b c d = refl
@@ -136,9 +134,6 @@ above_by (m ∷ ms) at h = (h 0 m (omega arith), above_by ms at (λ k d lt. h (s
 rising_by : (ms : List Mark) → IsNonDecreasingBy (λ m. m.window.at) ms → Rising ms
 rising_by [] up = tt
 rising_by (m ∷ ms) up = (above_by ms m.window.at (λ k d lt. up 0 (suc k) d (omega arith) (omega (arith, lt))), rising_by ms (λ i j d le lt. up (suc i) (suc j) d (omega (arith, le)) (omega (arith, lt))))
-
-share_flips : (v w : Window) → share v w ≡ share w v
-share_flips v w = grind (arith, nat_tests)
 
 crosses_flip : (m n : Mark) → crosses m n ≡ crosses n m
 crosses_flip m n = by m.is_table n.is_table

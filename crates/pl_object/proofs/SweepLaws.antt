@@ -106,7 +106,7 @@ shares_pair : (ws : List Window) → any_share ws ≡ any_pair share ws
 shares_pair [] = refl
 shares_pair (w ∷ ws) = ap (λ (b : Bool). list_any (share w) ws || b) (shares_pair ws)
 
-share_flips : (v w : Window) → share v w ≡ share w v
+pub share_flips : (v w : Window) → share v w ≡ share w v
 share_flips v w = grind (arith, nat_tests)
 
 -- the walk over the windows in order

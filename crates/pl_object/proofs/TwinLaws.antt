@@ -1,12 +1,13 @@
 -- Runs of one hash tell whether two symbols are definers of one name and version.
-use Rattle.std.proofs.Common.{◌≡◌, ℕ, Bool, true, false, ◌&&◌, ◌||◌, List, [], ◌∷◌, length, map, Option, Some, None, refl, sym, ap, ◌∙◌, inl, inr, eqb, eq-eqb}
+use Rattle.std.proofs.Common.{◌≡◌, ℕ, Bool, true, false, ◌&&◌, ◌||◌, List, [], ◌∷◌, length, map, Option, Some, None, refl, sym, ap, ◌∙◌, eqb, eq-eqb}
 use Rattle.std.specs.Prelude.{slice_get, filter}
 use Rattle.std.specs.List.{list_any, range_with_len}
 use Rattle.std.specs.List.Sorted.{IsPermutation, IsNonDecreasingBy}
 use Rattle.std.specs.Str.{bytes_eq}
-use Rattle.std.specs.Cmp.{eq_by_cmp_equiv}
-use Rattle.std.specs.Cmp.Lexicographic.{texts_ties, nat_list_cmp_total, bytes_decides}
-use Rattle.std.proofs.lemmas.Bool.{cases_Bool, and_parts, eqb-true}
+use Rattle.std.specs.Cmp.Lexicographic.{bytes_decides}
+use Rattle.std.proofs.lemmas.Bool.{and_parts, eqb-true}
+use Rattle.std.proofs.Math.Bool.{and-false, and_comm}
+use Rattle.pl_base.proofs.TestLaws.{number_flips, bytes_flip}
 use Rattle.pl_sym.specs.declared.symbol.Symbol.{Symbol}
 use Rattle.pl_sym.specs.declared.class.Class.TheVariants.{Other}
 use Rattle.pl_sym.specs.Definers.{is_definer}
@@ -21,24 +22,6 @@ use Rattle.pl_object.proofs.RunLaws.{runs_tell, any_pair_map, at_places}
 
 -- ---- either way round
 
-and_flips : (a b : Bool) → (a && b) ≡ (b && a)
-and_flips true true = refl
-and_flips true false = refl
-and_flips false true = refl
-and_flips false false = refl
-
-bytes_flip : (xs ys : List ℕ) → bytes_eq xs ys ≡ bytes_eq ys xs
-bytes_flip xs ys = texts_ties xs ys ∙ (eq_by_cmp_equiv nat_list_cmp_total).symm xs ys ∙ sym (texts_ties ys xs)
-
-number_flips : (x y : ℕ) → eqb x y ≡ eqb y x
-number_flips x y = elim (cases_Bool (eqb x y)) [
-  | inl e ↦ e ∙ sym (eq-eqb y x (sym (eqb-true x y e)))
-  | inr e ↦ elim (cases_Bool (eqb y x)) [
-    | inl f ↦ eq-eqb x y (sym (eqb-true y x f)) ∙ sym f
-    | inr f ↦ e ∙ sym f
-  ]
-]
-
 names_flip : (x y : Option (List ℕ)) → is_same_name x y ≡ is_same_name y x
 names_flip None None = refl
 names_flip None (Some y) = refl
@@ -47,12 +30,12 @@ names_flip (Some x) (Some y) = bytes_flip x y
 
 versions_flip : (versions : Option Versions) (s t : Symbol) → is_same_version versions s t ≡ is_same_version versions t s
 unfolding is_same_version
-versions_flip versions s t = rw (and_flips (is_plain s) (is_plain t), names_flip (version_name versions s.version) (version_name versions t.version)) refl
+versions_flip versions s t = rw (and_comm (is_plain s) (is_plain t), names_flip (version_name versions s.version) (version_name versions t.version)) refl
 
 twin_flips : (versions : Option Versions) (program : Bool) (s t : Symbol) → is_twin versions program s t ≡ is_twin versions program t s
 unfolding is_twin
 twin_flips versions program s t =
-    rw (and_flips (is_definer s Other program) (is_definer t Other program), bytes_flip s.name t.name, versions_flip versions s t) refl
+    rw (and_comm (is_definer s Other program) (is_definer t Other program), bytes_flip s.name t.name, versions_flip versions s t) refl
 
 both_flip : (p : Symbol → Symbol → Bool) → ((s t : Symbol) → p s t ≡ p t s) → (x y : Option Symbol) → twins_by p x y ≡ twins_by p y x
 both_flip p flips None None = refl
@@ -108,10 +91,6 @@ duplicate_pair versions program (s ∷ symbols) = ap (λ (b : Bool). list_any (i
 
 -- ---- definers alone
 
-and_none : (b : Bool) → (b && false) ≡ false
-and_none true = refl
-and_none false = refl
-
 defines_none : (versions : Option Versions) (program : Bool) (x y : Option Symbol) → defines_by program x ≡ false → twins_by (is_twin versions program) x y ≡ false
 unfolding is_twin
 defines_none versions program None y e = refl
@@ -120,7 +99,7 @@ defines_none versions program (Some s) (Some t) e = rw e refl
 
 no_twin : (versions : Option Versions) (program : Bool) (symbols : List Symbol) (a b : Entry) → defines program symbols a ≡ false → are_twins versions program symbols a b ≡ false
 no_twin versions program symbols a b e =
-    ap (λ (c : Bool). eqb a.hash b.hash && c) (defines_none versions program (slice_get symbols a.index) (slice_get symbols b.index) e) ∙ and_none (eqb a.hash b.hash)
+    ap (λ (c : Bool). eqb a.hash b.hash && c) (defines_none versions program (slice_get symbols a.index) (slice_get symbols b.index) e) ∙ and-false (eqb a.hash b.hash)
 
 -- entries of definers in the order of their hashes tell whether a name is defined twice
 pub twins_tell : (versions : Option Versions) (program : Bool) (symbols : List Symbol) (sorted : List Entry)

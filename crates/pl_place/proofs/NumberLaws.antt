@@ -2,6 +2,7 @@
 use Rattle.std.proofs.Common.{◌≡◌, ℕ, zero, suc, ◌+◌, ◌-◌, ◌*◌, ◌/◌, ◌%◌, ◌≤◌, ◌<◌, Bool, true, false, ◌&&◌, ◌||◌, List, [], ◌∷◌, Some, None, refl, sym, ◌∙◌, arith, inl, inr, add-one}
 use Rattle.std.specs.Prelude.{nat_le, nat_lt, max}
 use Rattle.std.proofs.lemmas.Bool.{cases_Bool, cases_lt, leb-true, leb-false, le-leb, ltb-true, ltb-false, eqb-true, and_parts, and_from, and_right, or_left, or_right, false_from_ne_true}
+use Rattle.std.proofs.lemmas.Option.{same_Some, none-some}
 use Rattle.std.proofs.lemmas.Nat.{div-add-mod', mod_below}
 use Rattle.std.proofs.Math.Nat.{div-mul-le_self, mul-le-mul_right, add-mul, mul_comm, mul-mod_left}
 use Rattle.pl_base.specs.Below.{count_below}
@@ -204,9 +205,6 @@ most_counted low span align (h ∷ holes) n some p are =
 
 -- ---- the place of a number
 
-some_is : (x y : ℕ) → Some x ≡ Some y → x ≡ y
-some_is x y e = cc
-
 pub numbered_is : (low span align : ℕ) (holes : List Range) (number start : ℕ) → 0 < span → 0 < align → AreHolesFrom low holes → Some start ≡ numbered span align holes number
     → (is_place holes span align start ≡ true) × ((places_below holes span align start ≡ number) × (low ≤ start))
 unfolding numbered
@@ -214,7 +212,7 @@ numbered_is low span align [] number start some p are is = absurd cc
 numbered_is low span align (h ∷ holes) number start some p are is = elim (cases_Bool (nat_lt number (room span align h))) [
   | inl first ↦
       let lt : number < room span align h = ltb-true number (room span align h) first in
-      let at : start ≡ place_in align h number = some_is start (place_in align h number) (is ∙ (rw first refl)) in
+      let at : start ≡ place_in align h number = same_Some start (place_in align h number) (is ∙ (rw first refl)) in
       let hit : here h span align start ≡ true = rw at (place_here span align h number p lt) in
       let counted : count_below (here h span align) start ≡ number = rw at (count_place span align h number p (omega (arith, lt))) in
       let parts = here_parts h span align start hit in (
@@ -239,9 +237,6 @@ pub numbered_none : (span align : ℕ) (holes : List Range) (number : ℕ) → N
 unfolding numbered all_room
 numbered_none span align [] number is = omega arith
 numbered_none span align (h ∷ holes) number is = elim (cases_Bool (nat_lt number (room span align h))) [
-  | inl first ↦ absurd (differ (place_in align h number) (is ∙ (rw first refl)))
+  | inl first ↦ absurd (none-some (place_in align h number) (is ∙ (rw first refl)))
   | inr later ↦ omega (arith, ltb-false number (room span align h) later, numbered_none span align holes (number - room span align h) (is ∙ (rw later refl)))
 ]
-  where
-    differ : (x : ℕ) → None ≡ Some x → ⊥
-    differ x e = cc

@@ -1,10 +1,11 @@
 -- Places in turn: one want more, and what all places are.
-use Rattle.std.proofs.Common.{◌≡◌, ℕ, ◌+◌, ◌≤◌, ◌<◌, Bool, true, false, ◌&&◌, not, List, [], ◌∷◌, ◌++◌, Option, Some, None, refl, sym, ◌∙◌, ap, subst, arith, length, drop, get_or, cond, append_assoc, append-nil, inl, inr}
+use Rattle.std.proofs.Common.{◌≡◌, ℕ, ◌+◌, ◌≤◌, ◌<◌, true, false, ◌&&◌, List, [], ◌∷◌, ◌++◌, Option, Some, None, refl, sym, ◌∙◌, ap, subst, arith, length, drop, get_or, cond, append_assoc, append-nil, inl, inr}
 use Rattle.std.specs.Prelude.{nat_le, nat_lt, min, max, Result, Ok, Err, IfErr, IfSome}
 use Rattle.std.proofs.lemmas.Bool.{cases_Bool, leb-true, le-leb, lt-ltb, ltb-true, and_parts, and_from, or_cases, or_left, or_right, false_from_ne_true, false≢true}
 use Rattle.std.proofs.lemmas.List.{at_drop_more, at_drop_all}
 use Rattle.std.proofs.lemmas.List.Folds.{list_any-append}
 use Rattle.std.specs.Borrow.{Bor}
+use Rattle.pl_base.proofs.TestLaws.{no_both}
 use Rattle.pl_elf.specs.declared.range.Range.{Range}
 use Rattle.pl_slots.specs.Holes.{hole, cut, without, is_free, fits_at, IsLowest}
 use Rattle.pl_elf.specs.Ranges.{has}
@@ -119,11 +120,6 @@ fits_free address span start (h ∷ holes) fits within =
           (lt-ltb address h.end (omega (arith, leb-true (start + span) h.end ends.1, ltb-true address (start + span) parts.1))))
       | inr later ↦ or_right (has address h) (is_free address holes) (fits_free address span start holes later within)
     ]
-
-no_both : (f t : Bool) → (f && not t) ≡ true → t ≡ true → ⊥
-no_both true true is hit = false≢true is
-no_both true false is hit = false≢true hit
-no_both false t is hit = false≢true is
 
 misses : (taken : Range) (holes : List Range) (wants : List Want) (starts : List ℕ) → AllFit (without taken holes) wants starts → MissesAll taken wants starts
 misses taken holes [] starts all = tt

@@ -1,10 +1,10 @@
 -- What the places of numbers are to a policy.
-use Rattle.std.proofs.Common.{◌≡◌, ℕ, zero, suc, ◌+◌, ◌-◌, ◌%◌, ◌≤◌, ◌<◌, true, List, Option, Some, None, sym, ◌∙◌, ap, arith, inl, inr}
+use Rattle.std.proofs.Common.{◌≡◌, ℕ, ◌+◌, ◌-◌, ◌%◌, ◌≤◌, ◌<◌, true, List, Option, Some, None, sym, ◌∙◌, ap, arith, inl, inr}
 use Rattle.std.specs.Prelude.{IfSome}
-use Rattle.std.specs.Int.{is_power_of_two}
-use Rattle.std.proofs.lemmas.Bool.{and_parts, and_from, cases_lt, false≢true}
+use Rattle.std.proofs.lemmas.Bool.{and_parts, and_from, cases_lt}
 use Rattle.std.proofs.lemmas.Nat.{mod_below}
 use Rattle.pl_base.specs.Sums.{is_aligned, plus}
+use Rattle.pl_base.proofs.TestLaws.{power_some}
 use Rattle.pl_elf.specs.declared.range.Range.{Range}
 use Rattle.pl_slots.specs.Holes.{AreHoles, fits_at, IsPlace}
 use Rattle.pl_place.specs.Numbering.{is_place, all_room, numbered, first_word, IsSeeded}
@@ -12,14 +12,8 @@ use Rattle.pl_place.specs.Policy.{MayAnswer, IsHighest, IsAsked}
 use Rattle.pl_place.proofs.CountLaws.{count_next, count_grows}
 use Rattle.pl_place.proofs.NumberLaws.{all_counted, most_counted, numbered_is, numbered_none}
 
--- a power of two is not 0
-positive : (n : ℕ) → is_power_of_two n ≡ true → 0 < n
-unfolding lib.Count.ones
-positive zero is = absurd (false≢true is)
-positive (suc n) is = omega arith
-
 pub align_some : (span align : ℕ) → IsAsked span align → 0 < align
-align_some span align asked = positive align asked.power
+align_some span align asked = power_some align asked.power
 
 place_from : (holes : List Range) (span align start : ℕ) → is_place holes span align start ≡ true → IsPlace holes span align start
 place_from holes span align start hit = and_parts (is_aligned start align) (fits_at holes span start) hit

@@ -1,8 +1,10 @@
 -- The rows of a plan share no address.
-use Rattle.std.proofs.Common.{◌≡◌, ◌≢◌, ℕ, suc, ◌+◌, ◌<◌, Bool, true, false, ◌&&◌, ◌||◌, List, [], ◌∷◌, ◌++◌, Option, Some, None, Ok, refl, sym, ap, ◌∙◌, subst, inl, inr, arith, append_assoc}
+use Rattle.std.proofs.Common.{◌≡◌, ◌≢◌, ℕ, suc, ◌+◌, ◌<◌, Bool, true, false, List, [], ◌∷◌, ◌++◌, Option, Some, None, Ok, refl, sym, ap, ◌∙◌, subst, inl, inr, arith, append_assoc}
 use Rattle.std.specs.Prelude.{nat_le, fold, max, All, AllPairs}
 use Rattle.std.specs.List.{find, list_all, AllByRecursion}
-use Rattle.std.proofs.lemmas.Bool.{cases_Bool, and_parts, and_from, or_left, or_right, le-leb, lt-ltb, leb-false}
+use Rattle.std.proofs.lemmas.Bool.{cases_Bool, true≢false, and_parts, and_from, or_parts, or_left, or_right, le-leb, lt-ltb, leb-false}
+use Rattle.std.proofs.Math.Bool.{and-false}
+use Rattle.std.proofs.lemmas.Option.{same_Some}
 use Rattle.std.proofs.lemmas.List.{append-nil}
 use Rattle.pl_base.specs.Each.{run}
 use Rattle.pl_base.proofs.AnswerLaws.{bind_ok, ok_same}
@@ -48,12 +50,9 @@ Outside holes (slot ∷ slots) = (0 < slot.span) × ((address : ℕ) → has add
 
 not_free : (address : ℕ) (more fewer : List Range) → (is_free address fewer ≡ true → is_free address more ≡ true) → is_free address more ≡ false → is_free address fewer ≡ false
 not_free address more fewer was taken = elim (cases_Bool (is_free address fewer)) [
-  | inl free ↦ absurd (differ (sym (was free) ∙ taken))
+  | inl free ↦ absurd (true≢false (sym (was free) ∙ taken))
   | inr none ↦ none
 ]
-  where
-    differ : true ≡ false → ⊥
-    differ e = cc
 
 outside_fewer : (more fewer : List Range) (slots : List Slot) → ((address : ℕ) → is_free address fewer ≡ true → is_free address more ≡ true) → Outside more slots → Outside fewer slots
 outside_fewer more fewer [] was out = tt
@@ -66,11 +65,7 @@ outside_with holes (x ∷ xs) ys slot out some taken = (out.0, out.1, outside_wi
 
 -- a range that was taken is not free
 taken_not_free : (taken : Range) (holes : List Range) (address : ℕ) → has address taken ≡ true → is_free address (without taken holes) ≡ false
-taken_not_free taken holes address within = free_without address taken holes ∙ (rw within (none (is_free address holes)))
-  where
-    none : (b : Bool) → (b && false) ≡ false
-    none true = refl
-    none false = refl
+taken_not_free taken holes address within = free_without address taken holes ∙ (rw within (and-false (is_free address holes)))
 
 -- a slot that fits in holes is beside each slot outside of them
 fits_beside : (holes : List Range) (slot other : Slot) → 0 < slot.span → fits_at holes slot.span slot.start ≡ true → 0 < other.span
@@ -79,22 +74,12 @@ fits_beside holes slot other some fits more taken = elim (cases_Bool (is_beside 
   | inl besides ↦ besides
   | inr none ↦
       let first : ℕ = max slot.start other.start in
-      let low : other.start < slot.start + slot.span = leb-false (slot.start + slot.span) other.start (no_left (nat_le (slot.start + slot.span) other.start) (nat_le (other.start + other.span) slot.start) none) in
-      let high : slot.start < other.start + other.span = leb-false (other.start + other.span) slot.start (no_right (nat_le (slot.start + slot.span) other.start) (nat_le (other.start + other.span) slot.start) none) in
+      let outside = or_parts (nat_le (slot.start + slot.span) other.start) (nat_le (other.start + other.span) slot.start) none in
+      let low : other.start < slot.start + slot.span = leb-false (slot.start + slot.span) other.start outside.0 in
+      let high : slot.start < other.start + other.span = leb-false (other.start + other.span) slot.start outside.1 in
       let within : has first (range_of other) ≡ true = and_from _ _ (le-leb other.start first (omega arith)) (lt-ltb first (other.start + other.span) (omega (arith, high, more))) in
-      absurd (differ (sym (fits_free holes slot.span slot.start first fits (omega arith) (omega (arith, low, some))) ∙ taken first within))
+      absurd (true≢false (sym (fits_free holes slot.span slot.start first fits (omega arith) (omega (arith, low, some))) ∙ taken first within))
 ]
-  where
-    differ : true ≡ false → ⊥
-    differ e = cc
-
-    no_left : (a b : Bool) → (a || b) ≡ false → a ≡ false
-    no_left true b e = absurd (differ e)
-    no_left false b e = refl
-
-    no_right : (a b : Bool) → (a || b) ≡ false → b ≡ false
-    no_right true b e = absurd (differ e)
-    no_right false b e = e
 
 all_beside : (holes : List Range) (slot : Slot) (slots : List Slot) → 0 < slot.span → fits_at holes slot.span slot.start ≡ true → Outside holes slots → list_all (is_beside slot) slots ≡ true
 all_beside holes slot [] some fits out = refl
@@ -125,16 +110,13 @@ differ [] pairs = tt
 differ (want ∷ wants) pairs =
     (differ_first want wants (λ k d lt. pairs 0 (suc k) d (omega arith) (omega arith)), differ wants (λ i j d lt last. pairs (suc i) (suc j) d (omega arith) (omega arith)))
 
-some_slot : (x y : Slot) → Some x ≡ Some y → x ≡ y
-some_slot x y e = cc
-
 -- what is found among slots that all pass another test passes it
 found_passes : (p q : Slot → Bool) (rows : List Slot) (row : Slot) → list_all p rows ≡ true → Some row ≡ find q rows → p row ≡ true
 found_passes p q [] row all is = absurd cc
 found_passes p q (r ∷ rows) row all is =
     let parts = and_parts (p r) (list_all p rows) all in
     elim (cases_Bool (q r)) [
-      | inl hit ↦ ap p (some_slot row r (is ∙ (rw hit refl))) ∙ parts.0
+      | inl hit ↦ ap p (same_Some row r (is ∙ (rw hit refl))) ∙ parts.0
       | inr miss ↦ found_passes p q rows row parts.1 (is ∙ (rw miss refl))
     ]
 
@@ -145,14 +127,14 @@ two_beside p q (r ∷ rows) a b apart other first second =
     let parts = and_parts (list_all (is_beside r) rows) (are_apart rows) apart in
     elim (cases_Bool (p r)) [
       | inl hit ↦
-          let a_is : a ≡ r = some_slot a r (first ∙ (rw hit refl)) in
+          let a_is : a ≡ r = same_Some a r (first ∙ (rw hit refl)) in
           elim (cases_Bool (q r)) [
-            | inl both ↦ absurd (other (ap (λ (s : Slot). s.name) (a_is ∙ sym (some_slot b r (second ∙ (rw both refl))))))
+            | inl both ↦ absurd (other (ap (λ (s : Slot). s.name) (a_is ∙ sym (same_Some b r (second ∙ (rw both refl))))))
             | inr miss ↦ subst (λ (s : Slot). is_beside s b ≡ true) (sym a_is) (found_passes (is_beside r) q rows b parts.0 (second ∙ (rw miss refl)))
           ]
       | inr none ↦ elim (cases_Bool (q r)) [
         | inl hit ↦
-            let b_is : b ≡ r = some_slot b r (second ∙ (rw hit refl)) in
+            let b_is : b ≡ r = same_Some b r (second ∙ (rw hit refl)) in
             beside_back b a (subst (λ (s : Slot). is_beside s a ≡ true) (sym b_is) (found_passes (is_beside r) p rows a parts.0 (first ∙ (rw none refl))))
         | inr miss ↦ two_beside p q rows a b parts.1 other (first ∙ (rw none refl)) (second ∙ (rw miss refl))
       ]

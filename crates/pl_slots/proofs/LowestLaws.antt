@@ -2,6 +2,7 @@
 use Rattle.std.proofs.Common.{◌≡◌, ℕ, ◌+◌, ◌-◌, ◌≤◌, ◌<◌, ◌%◌, ◌*◌, ◌/◌, Bool, true, List, [], ◌∷◌, Option, Some, None, refl, sym, ◌∙◌, subst, inl, inr, arith, ◌&&◌}
 use Rattle.std.specs.Prelude.{nat_le, IfSome, IfNone}
 use Rattle.std.proofs.lemmas.Bool.{cases_Bool, leb-true, leb-false, le-leb, eqb-true, and_parts, and_from, or_cases, or_left, or_right, false≢true, cases_lt}
+use Rattle.std.proofs.lemmas.Option.{same_Some, none-some}
 use Rattle.std.proofs.lemmas.Nat.{div-add-mod'}
 use Rattle.std.proofs.Math.Nat.{div-mul-le_self, mul-le-mul_right, add-mul}
 use Rattle.pl_base.specs.Sums.{round_up, is_aligned}
@@ -44,15 +45,12 @@ fits_from low (h ∷ holes) span start are fits = elim (or_cases (fits_first h s
   | inr later ↦ omega (arith, are.0, are.1, fits_from (h.end + 1) holes span start are.2 later)
 ]
 
-some_is : (x y : ℕ) → Some x ≡ Some y → x ≡ y
-some_is x y e = cc
-
 pub is_lowest : (low span align start : ℕ) (holes : List Range) → 0 < align → AreHolesFrom low holes → Some start ≡ lowest span align holes → IsLowest holes span align start
 unfolding lowest holds
 is_lowest low span align start [] p are is = absurd cc
 is_lowest low span align start (h ∷ holes) p are is = elim (cases_Bool (nat_le (round_up h.start align + span) h.end)) [
   | inl hit ↦
-      let here : start ≡ round_up h.start align = some_is start (round_up h.start align) (is ∙ (rw hit refl)) in
+      let here : start ≡ round_up h.start align = same_Some start (round_up h.start align) (is ∙ (rw hit refl)) in
       let in_hole : round_up h.start align + span ≤ h.end = leb-true (round_up h.start align + span) h.end hit in
       let above : h.start ≤ round_up h.start align = round_up-at_least h.start align p in
       let first : fits_first h span (round_up h.start align) ≡ true = and_from _ _ (le-leb h.start (round_up h.start align) above) hit in
@@ -78,16 +76,13 @@ pub is_none : (span align start : ℕ) (holes : List Range) → 0 < align → No
 unfolding lowest holds
 is_none span align start [] p is place = false≢true place.1
 is_none span align start (h ∷ holes) p is place = elim (cases_Bool (nat_le (round_up h.start align + span) h.end)) [
-  | inl hit ↦ absurd (differ (round_up h.start align) (is ∙ (rw hit refl)))
+  | inl hit ↦ absurd (none-some (round_up h.start align) (is ∙ (rw hit refl)))
   | inr miss ↦
       elim (or_cases (fits_first h span start) (fits_at holes span start) place.1) [
         | inl front ↦ omega (arith, leb-false (round_up h.start align + span) h.end miss, (first_fits h span start front).1, round_up-least h.start align start p place.0 (first_fits h span start front).0)
         | inr later ↦ is_none span align start holes p (is ∙ (rw miss refl)) (place.0, later)
       ]
 ]
-  where
-    differ : (x : ℕ) → None ≡ Some x → ⊥
-    differ x e = cc
 
 -- as the clauses say it
 pub lowest_is : (span align : ℕ) (holes : List Range) (answer : Option ℕ) → 0 < align → answer ≡ lowest span align holes → AreHoles holes → IfSome answer (IsLowest holes span align)

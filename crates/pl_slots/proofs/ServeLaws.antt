@@ -4,6 +4,7 @@ use Rattle.std.specs.Prelude.{nat_le, nat_lt, fold, All}
 use Rattle.std.specs.Cmp.Lexicographic.{same_text}
 use Rattle.std.specs.Str.{bytes_eq}
 use Rattle.std.proofs.lemmas.Bool.{cases_Bool, and_parts, and_from, or_cases, or_left, or_right, leb-true, ltb-true, le-leb, lt-ltb, false≢true}
+use Rattle.std.proofs.lemmas.Option.{same_Some}
 use Rattle.std.proofs.lemmas.List.{append-nil}
 use Rattle.pl_base.specs.Each.{run}
 use Rattle.pl_base.proofs.AnswerLaws.{bind_ok, ok_same}
@@ -50,16 +51,13 @@ is_kept kept region want row is =
 
 -- ---- a place in holes
 
-some_is : (x y : ℕ) → Some x ≡ Some y → x ≡ y
-some_is x y e = cc
-
 -- what is lowest is a place
 pub lowest_fits : (span align start : ℕ) (holes : List Range) → 0 < align → Some start ≡ lowest span align holes → IsPlace holes span align start
 unfolding lowest holds
 lowest_fits span align start [] p is = absurd cc
 lowest_fits span align start (h ∷ holes) p is = elim (cases_Bool (nat_le (round_up h.start align + span) h.end)) [
   | inl hit ↦
-      let here : start ≡ round_up h.start align = some_is start (round_up h.start align) (is ∙ (rw hit refl)) in
+      let here : start ≡ round_up h.start align = same_Some start (round_up h.start align) (is ∙ (rw hit refl)) in
       let above : h.start ≤ round_up h.start align = round_up-at_least h.start align p in
       subst (IsPlace (h ∷ holes) span align) (sym here)
       (round_up-aligned h.start align, or_left (nat_le h.start (round_up h.start align) && nat_le (round_up h.start align + span) h.end) (fits_at holes span (round_up h.start align)) (and_from _ _ (le-leb h.start (round_up h.start align) above) hit))

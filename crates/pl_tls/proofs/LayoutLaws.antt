@@ -2,7 +2,7 @@
 use Rattle.std.proofs.Common.{◌≡◌, ℕ, ◌+◌, ◌<◌, ◌≤◌, true, false, List, [], ◌∷◌, ◌++◌, length, get_or, drop, Option, Some, None, Ok, Err, refl, sym, ap, ◌∙◌, append_assoc, add-one, arith, drop-cons}
 use Rattle.std.specs.List.{list_any}
 use Rattle.std.proofs.Math.Seq.{drop-length}
-use Rattle.std.proofs.lemmas.List.{append-nil}
+use Rattle.std.proofs.lemmas.List.{append-nil, drop_more}
 use Rattle.std.proofs.lemmas.List.Folds.{list_any-append}
 use Rattle.std.proofs.lemmas.Bool.{lt-ltb, le-ltb}
 use Rattle.pl_tls.specs.declared.TheConstants.{OFFSET_LIMIT}
@@ -18,14 +18,11 @@ pub record AreSoFar (blocks : List (Option Block)) (index number reached : ℕ) 
   pub count : number ≤ index + 1
 
 -- what is left from an index on begins with the element there
-drop_here : {X : Type 0} (xs : List X) (index : ℕ) (d : X) → index < length xs → drop index xs ≡ get_or xs index d ∷ drop (index + 1) xs
-drop_here xs index d lt = rw add-one (drop-cons xs index d lt)
-
 -- an object without a block
 without : (blocks : List (Option Block)) (index number reached : ℕ) → index < length blocks → get_or blocks index None ≡ None
     → modules_from index number reached (drop index blocks) ≡ modules_from (index + 1) number reached (drop (index + 1) blocks)
 unfolding modules_from
-without blocks index number reached lt e = rw (drop_here blocks index None lt, e) refl
+without blocks index number reached lt e = rw (drop_more blocks index None lt, e) refl
 
 -- an object with a block
 abbrev module_at : ℕ → ℕ → ℕ → Module
@@ -35,7 +32,7 @@ with : (blocks : List (Option Block)) (index number reached : ℕ) (block : Bloc
     → modules_from index number reached (drop index blocks)
     ≡ module_at index number (offset_after reached block) ∷ modules_from (index + 1) (number + 1) (offset_after reached block) (drop (index + 1) blocks)
 unfolding modules_from
-with blocks index number reached block lt e = rw (drop_here blocks index None lt, e) refl
+with blocks index number reached block lt e = rw (drop_more blocks index None lt, e) refl
 
 pub none_more : (blocks : List (Option Block)) (index number reached : ℕ) (modules : List Module) → index < length blocks → get_or blocks index None ≡ None
     → AreSoFar blocks index number reached modules → AreSoFar blocks (index + 1) number reached modules

@@ -1,8 +1,8 @@
 -- An undo section that is read is spelled so, and one that is spelled so is read.
-use Rattle.std.proofs.Common.{◌≡◌, ℕ, ◌+◌, ◌-◌, ◌^◌, ◌<◌, ◌≤◌, Bool, true, false, ◌&&◌, ◌==◌, not, nat_eq, nat_lt, List, ◌++◌, length, take, drop, Result, Ok, Err, refl, sym, ap, subst, ◌∙◌, append_assoc, arith, eq-eqb, take-append-drop, length-append, length-drop, length-take}
+use Rattle.std.proofs.Common.{◌≡◌, ℕ, ◌+◌, ◌-◌, ◌^◌, ◌<◌, ◌≤◌, true, ◌&&◌, ◌==◌, not, nat_eq, nat_lt, List, ◌++◌, length, take, drop, Result, Ok, Err, refl, sym, ap, subst, ◌∙◌, append_assoc, arith, eq-eqb, take-append-drop, length-append, length-drop, length-take}
 use Rattle.std.specs.List.{starts_with}
 use Rattle.std.specs.Prelude.{IfOk}
-use Rattle.std.proofs.lemmas.Bool.{and_parts, lt-ltb, le-ltb, ltb-true, ltb-false, eqb-true}
+use Rattle.std.proofs.lemmas.Bool.{and_parts, and_from, not-true, lt-ltb, le-ltb, ltb-true, ltb-false, eqb-true}
 use Rattle.std.proofs.lemmas.Bool.Decides.{Decides-eqb}
 use Rattle.std.proofs.lemmas.List.{drop-drop, drop_at, take_at}
 use Rattle.std.proofs.lemmas.Slice.Eq.{starts_is}
@@ -20,10 +20,6 @@ use Rattle.pl_undo.specs.Section.{undo_bytes, headers_size, fits_kind, are_words
 use Rattle.pl_undo.specs.Reading.{is_memory, has_front, stored, ends_at, fitting, behind_front, undo_of}
 
 -- ---- steps and tests that led to an answer
-
-is_not : (b : Bool) → not b ≡ true → b ≡ false
-is_not true e = absurd cc
-is_not false e = refl
 
 -- ---- words one after the other
 
@@ -45,7 +41,7 @@ front_found : (bytes : List ℕ) → has_front bytes ≡ true → (bytes ≡ UND
 unfolding has_front
 front_found bytes e =
     let t = and_parts (starts_with nat_eq bytes UNDO_MAGIC) (not (nat_lt (length bytes) 112)) e in
-    ((starts_is Decides-eqb bytes UNDO_MAGIC (starts_with nat_eq bytes UNDO_MAGIC) refl).0 t.0, ltb-false _ _ (is_not _ t.1))
+    ((starts_is Decides-eqb bytes UNDO_MAGIC (starts_with nat_eq bytes UNDO_MAGIC) refl).0 t.0, ltb-false _ _ (not-true _ t.1))
 
 front_again : (bytes rest : List ℕ) → bytes ≡ UNDO_MAGIC ++ rest → 112 ≤ length bytes → has_front bytes ≡ true
 unfolding has_front
@@ -123,9 +119,6 @@ words_found bytes size whole =
     let small : (at : ℕ) → word64 at bytes < 2 ^ 64 = λ at. word64_below at bytes whole.are_bytes in
     rw (stored_is bytes size, kept_size bytes size whole, lt-ltb _ _ (small 8), lt-ltb _ _ (small 16), lt-ltb _ _ (small 24), lt-ltb _ _ (small 32), lt-ltb _ _ (small 40)) refl
 
-and_true : (b c : Bool) → b ≡ true → c ≡ true → (b && c) ≡ true
-and_true b c first second = rw (first, second) refl
-
 headers_found : (bytes : List ℕ) (size : ℕ) → IsWhole bytes size → size ≡ headers_size (header (drop 48 bytes)) → fits_kind (header (drop 48 bytes)).kind (value bytes size) ≡ true
     → has_headers (value bytes size) ≡ true
 unfolding has_headers
@@ -134,7 +127,7 @@ headers_found bytes size whole size_is fits =
     let same : TellSame (header (drop 48 bytes)) (header headers) =
     subst (λ (xs : List ℕ). TellSame (header xs) (header headers)) (sym (headers_there bytes size)) (header_front headers (drop (48 + size) bytes) (omega (arith, length_headers bytes size whole, whole.enough))) in
     let told : length headers ≡ headers_size (header headers) = length_headers bytes size whole ∙ size_is ∙ same.size in
-    and_true _ _ (eq-eqb _ _ told) (ap (λ (kind : ℕ). fits_kind kind (value bytes size)) (sym same.kind) ∙ fits)
+    and_from _ _ (eq-eqb _ _ told) (ap (λ (kind : ℕ). fits_kind kind (value bytes size)) (sym same.kind) ∙ fits)
 
 pub is_found : (bytes : List ℕ) (u : Undo) → IsBytes bytes → undo_of bytes ≡ Ok u → IsUndoOf bytes u
 unfolding undo_of behind_front ends_at

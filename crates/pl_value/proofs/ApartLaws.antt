@@ -4,6 +4,7 @@ use Rattle.std.specs.Prelude.{◌||◌}
 use Rattle.std.specs.List.{All, AllZip, list_any}
 use Rattle.std.proofs.lemmas.Bool.{cases_Bool, false≢true, or_parts}
 use Rattle.std.proofs.lemmas.Bool.Decides.{nat_tests}
+use Rattle.std.proofs.lemmas.List.Folds.{list_any-append}
 use Rattle.std.proofs.lemmas.List.Elements.{All-head, All-tail}
 use Rattle.pl_base.specs.Memory.{Piece, lies}
 use Rattle.pl_base.specs.Sums.{plus}
@@ -89,17 +90,10 @@ record IsApart (places : List ℕ) (xs : List Row) (pieces : List Piece) : Type 
   lone : Lone (row_over places) xs
   held : (a : ℕ) → list_any (row_over places a) xs ≡ true → list_any (lies a) pieces ≡ true
 
-some_of : {X : Type 0} (p : X → Bool) (xs ys : List X) → list_any p (xs ++ ys) ≡ (list_any p xs || list_any p ys)
-some_of p [] ys = refl
-some_of p (x ∷ xs) ys = elim (cases_Bool (p x)) [
-  | inl hit ↦ rw hit refl
-  | inr miss ↦ rw miss (some_of p xs ys)
-]
-
 joined : (places : List ℕ) (xs ys : List Row) (ps qs : List Piece) → Lone lies (ps ++ qs) → IsApart places xs ps → IsApart places ys qs → IsApart places (xs ++ ys) (ps ++ qs)
 joined places xs ys ps qs pieces first rest = record {
   lone = lone_join (row_over places) xs ys first.lone rest.lone (λ a some. cross a (lone_cross lies ps qs pieces a (first.held a some)));
-  held = λ a some. some_of (lies a) ps qs ∙ either a (sym (some_of (row_over places a) xs ys) ∙ some);
+  held = λ a some. list_any-append (lies a) ps qs ∙ either a (sym (list_any-append (row_over places a) xs ys) ∙ some);
 }
   where
     cross : (a : ℕ) → list_any (lies a) qs ≡ false → list_any (row_over places a) ys ≡ false

@@ -1,7 +1,7 @@
 -- What a relocation gives fits its place.
-use Rattle.std.proofs.Common.{◌≡◌, ℕ, ◌≤◌, Bool, true, false, cond, List, [], ◌∷◌, Option, Some, None, Result, Ok, Err, refl, sym, ap, subst, ◌∙◌, arith, inl, inr}
+use Rattle.std.proofs.Common.{◌≡◌, ℕ, ◌≤◌, Bool, true, false, cond, List, [], ◌∷◌, Option, Some, None, Result, Ok, Err, refl, ap, subst, ◌∙◌, arith, inl, inr}
 use Rattle.std.specs.Prelude.{◌==◌, ◌||◌, not, min, slice_get}
-use Rattle.std.proofs.lemmas.Bool.{cases_Bool, false≢true, or_parts}
+use Rattle.std.proofs.lemmas.Bool.{cases_Bool, not-false, false≢true, or_parts}
 use Rattle.std.proofs.lemmas.Bool.Decides.{nat_tests}
 use Rattle.pl_base.specs.Answers.{◌>>=◌, unless, refuse}
 use Rattle.pl_sym.specs.Symbol.{is_absolute, is_tls}
@@ -83,10 +83,6 @@ slot_width symbols kind symbol is = elim (cases_Bool (kind == R_X86_64_GLOB_DAT)
   | inr not_first ↦ word_width symbols kind symbol R_X86_64_JUMP_SLOT (rw not_first at is) refl refl
 ]
 
-is_true : (b : Bool) → not b ≡ false → b ≡ true
-is_true true h = refl
-is_true false h = sym h
-
 -- ---- words
 
 put_fits : {X : Type 0} (library : Bool) (size : ℕ) (r : Result X LinkFault) (f : X → ℕ) → size ≡ 8 → FitsIfOk library size (r >>= λ x. Ok (Put (f x)))
@@ -158,7 +154,7 @@ row_fits : (objects : List Object) (places : List ℕ) (modules : List Module) (
 unfolding is_bad
 row_fits objects places modules x g given known =
     let o = known.object in
-    let is_one : is_known x.reloc.kind ≡ true = is_true (is_known x.reloc.kind) (or_parts (not (is_known x.reloc.kind)) _ known.known).0 in
+    let is_one : is_known x.reloc.kind ≡ true = not-false (is_known x.reloc.kind) (or_parts (not (is_known x.reloc.kind)) _ known.known).0 in
     let library : is_shared_at objects x.member ≡ not (is_exec o) = rw known.at refl in
     let fits = value_fits objects places modules x.member x.reloc o (is_shared_at objects x.member) known.at known.width is_one (λ is. library ∙ copy_in_program (is_exec o) x.reloc is known.copy) in
     subst (λ (h : Meaning). Fits (is_shared_at objects h.member) h.size h.word) given.is (fits.fits g.word given.word)

@@ -1,8 +1,7 @@
 -- Rows of which at most one is over an address, from the first row on.
 use Rattle.std.proofs.Common.{◌≡◌, ℕ, zero, suc, ◌<◌, Bool, true, false, List, [], ◌∷◌, ◌++◌, length, get_or, refl, sym, ◌∙◌, arith, inl, inr}
-use Rattle.std.specs.Prelude.{◌||◌}
 use Rattle.std.specs.List.{list_any, AllZip}
-use Rattle.std.proofs.lemmas.Bool.{cases_Bool, false≢true, or_parts}
+use Rattle.std.proofs.lemmas.Bool.{cases_Bool, false≢true, or_parts, or_right}
 use Rattle.std.proofs.lemmas.List.Folds.{list_any_at, list_any_none}
 use Rattle.pl_base.specs.Memory.{AtMostOne}
 
@@ -65,12 +64,8 @@ pub lone_join : {X : Type 0} (test : ℕ → X → Bool) (xs ys : List X) → Lo
 lone_join test [] ys front back cross = back
 lone_join test (x ∷ xs) ys front back cross = (
   λ a hit. any_join (test a) xs ys (front.0 a hit) (cross a (rw hit refl)),
-  lone_join test xs ys front.1 back (λ a some. cross a (some_more (test a x) (list_any (test a) xs) some)),
+  lone_join test xs ys front.1 back (λ a some. cross a (or_right (test a x) (list_any (test a) xs) some)),
 )
-  where
-    some_more : (b c : Bool) → c ≡ true → (b || c) ≡ true
-    some_more true c some = refl
-    some_more false c some = some
 
 -- ---- rows made of others
 

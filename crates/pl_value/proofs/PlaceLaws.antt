@@ -1,9 +1,10 @@
 -- Where the places of relocations lie in memory.
 use Rattle.std.proofs.Common.{◌≡◌, ℕ, ◌+◌, ◌-◌, ◌^◌, ◌<◌, ◌≤◌, Bool, true, false, List, [], ◌∷◌, get_or, Option, Some, None, Ok, refl, sym, ap, subst, ◌∙◌, arith, inl, inr}
-use Rattle.std.specs.Prelude.{◌⊎◌, ◌||◌, ◌==◌, not, min, nat_le, find, fold, if◌then◌else◌}
+use Rattle.std.specs.Prelude.{◌⊎◌, ◌==◌, not, min, nat_le, find, fold, if◌then◌else◌}
 use Rattle.std.specs.List.{All, Any, list_any}
-use Rattle.std.proofs.lemmas.Bool.{cases_Bool, false≢true, and_parts, leb-true}
+use Rattle.std.proofs.lemmas.Bool.{cases_Bool, not-false, false≢true, or_right, and_parts, leb-true}
 use Rattle.std.proofs.lemmas.Bool.Decides.{nat_tests}
+use Rattle.std.proofs.lemmas.Option.{same_Some, none-some}
 use Rattle.std.proofs.lemmas.List.Folds.{list_any_at, Any-from_list_any}
 use Rattle.std.proofs.lemmas.List.{get_or-map, length-map}
 use Rattle.pl_base.proofs.SumLaws.{plus_small}
@@ -31,22 +32,12 @@ use Rattle.pl_value.proofs.LoneLaws.{none_at}
 
 -- ---- segments that a test finds
 
-same_some : (t s : Segment) → ◌≡◌ {A = Option Segment} (Some t) (Some s) → t ≡ s
-same_some t s e = cc
-
-none_some : (s : Segment) → ◌≡◌ {A = Option Segment} None (Some s) → ⊥
-none_some s e = cc
-
 -- what is true of one of the loads
 any_later : (q : Segment → Bool) (s : Segment) (ss : List Segment) → list_any q (loads ss) ≡ true → list_any q (loads (s ∷ ss)) ≡ true
 any_later q s ss some = elim (cases_Bool (is_load s)) [
-  | inl hit ↦ rw hit (later (q s) (list_any q (loads ss)) some)
+  | inl hit ↦ rw hit (or_right (q s) (list_any q (loads ss)) some)
   | inr miss ↦ rw miss some
 ]
-  where
-    later : (b c : Bool) → c ≡ true → (b || c) ≡ true
-    later true c some = refl
-    later false c some = some
 
 any_first : (q : Segment → Bool) (s : Segment) (ss : List Segment) → is_load s ≡ true → q s ≡ true → list_any q (loads (s ∷ ss)) ≡ true
 any_first q s ss load hit = rw load (rw hit refl)
@@ -56,7 +47,7 @@ found_load : (p : Segment → Bool) (ss : List Segment) (s : Segment) → ((t : 
 found_load p [] s are e q hit = absurd cc
 found_load p (t ∷ ts) s are e q hit = elim (cases_Bool (p t)) [
   | inl here ↦
-      let is : t ≡ s = same_some t s (rw here at e) in
+      let is : t ≡ s = same_Some t s (rw here at e) in
       any_first q t ts (are t here) (ap q is ∙ hit)
   | inr not_here ↦ any_later q t ts (found_load p ts s are (rw not_here at e) q hit)
 ]
@@ -67,7 +58,7 @@ last_from found [] s e q hit = inr e
 last_from found (t ∷ ts) s e q hit = elim (cases_Bool (is_load t)) [
   | inl load ↦ elim (last_from (Some t) ts s (rw load at e) q hit) [
     | inl some ↦ inl (any_later q t ts some)
-    | inr is ↦ inl (any_first q t ts load (ap q (same_some t s is) ∙ hit))
+    | inr is ↦ inl (any_first q t ts load (ap q (same_Some t s is) ∙ hit))
   ]
   | inr other ↦ elim (last_from found ts s (rw other at e) q hit) [
     | inl some ↦ inl (any_later q t ts some)
@@ -79,7 +70,7 @@ last_is_load : (ss : List Segment) (s : Segment) → last_load ss ≡ Some s →
 unfolding last_load
 last_is_load ss s e q hit = elim (last_from None ss s e q hit) [
   | inl some ↦ some
-  | inr none ↦ absurd (none_some s none)
+  | inr none ↦ absurd (none-some s none)
 ]
 
 -- ---- places in the memory of PT_LOADs
@@ -199,11 +190,7 @@ relocs_held base bytes file o placed read = λ k d lt.
     let r = get_or o.relocations k d in
     let outside : not (is_held (is_exec o) o.segments (get_or (places o.relocations) k (place d))) ≡ false =
     none_at (λ memory. not (is_held (is_exec o) o.segments memory)) (places o.relocations) k (place d) (omega (arith, lt, length-map o.relocations place)) facts.held in
-    place_held base bytes o r placed (is_true (is_held (is_exec o) o.segments (place r)) (rw (get_or-map place o.relocations k d (place d) lt) at outside))
-  where
-    is_true : (b : Bool) → not b ≡ false → b ≡ true
-    is_true true h = refl
-    is_true false h = sym h
+    place_held base bytes o r placed (not-false (is_held (is_exec o) o.segments (place r)) (rw (get_or-map place o.relocations k d (place d) lt) at outside))
 
 pub relocs_apart : (file : List ℕ) (o : Object) → reads file ≡ Ok o → any_share (places o.relocations) ≡ false
 unfolding reloc_overlap

@@ -1,5 +1,5 @@
 -- Records collected along a chain.
-use Rattle.std.proofs.Common.{◌≡◌, ℕ, ◌+◌, ◌-◌, ◌<◌, ◌≤◌, Bool, true, false, ◌||◌, eqb, List, [], ◌∷◌, ◌++◌, map, Result, Ok, Err, refl, sym, ap, ◌∙◌, arith, append_assoc}
+use Rattle.std.proofs.Common.{◌≡◌, ℕ, ◌+◌, ◌-◌, ◌<◌, ◌≤◌, Bool, true, false, ◌||◌, eqb, List, [], ◌∷◌, ◌++◌, map, Result, Ok, Err, refl, sym, ap, ◌∙◌, append_assoc}
 use Rattle.std.specs.Prelude.{MatchBool, ⊤}
 use Rattle.std.specs.List.{list_any, flat_map}
 use Rattle.std.proofs.lemmas.List.{append-nil}
@@ -8,6 +8,7 @@ use Rattle.std.proofs.lemmas.List.Folds.{list_any-append}
 use Rattle.std.proofs.Math.Bool.{or_assoc}
 use Rattle.pl_base.specs.Answers.{◌>>=◌, unless}
 use Rattle.pl_base.specs.Each.{run}
+use Rattle.pl_base.proofs.TestLaws.{number_flips}
 use Rattle.pl_ver.specs.declared.fault.VerFault.{VerFault}
 use Rattle.pl_ver.specs.declared.fault.VerFault.TheVariants.{BadIndex}
 use Rattle.pl_ver.specs.declared.record.Record.{Record}
@@ -95,9 +96,6 @@ lists_done g size section count at s whole none so_far = sym so_far ∙ rw (chai
 abbrev any_taken : List Record → List Record → Bool
 any_taken before rs = list_any (λ r. any_has r.index before) rs
 
-eqb-sym : (x y : ℕ) → eqb x y ≡ eqb y x
-eqb-sym x y = grind arith
-
 mixed : (a b c d : Bool) → ((a || (b || false)) || (c || d)) ≡ ((a || c) || (b || d))
 mixed true b c d = refl
 mixed false true true d = refl
@@ -108,7 +106,7 @@ mixed false false false d = refl
 taken_more : (before : List Record) (r : Record) (rs : List Record) → any_taken (before ++ r ∷ []) rs ≡ (any_taken before rs || any_has r.index rs)
 taken_more before r [] = refl
 taken_more before r (q ∷ rs) =
-    rw (list_any-append (λ k. eqb k.index q.index) before (r ∷ []), taken_more before r rs, eqb-sym r.index q.index)
+    rw (list_any-append (λ k. eqb k.index q.index) before (r ∷ []), taken_more before r rs, number_flips r.index q.index)
     (mixed (any_has q.index before) (eqb q.index r.index) (any_taken before rs) (any_has r.index rs))
 
 collected_by : (before : List Record) (r : Record) (rs : List Record) (b : Bool) → add_all (before ++ r ∷ []) rs ≡ unless (any_taken (before ++ r ∷ []) rs || any_share rs) BadIndex (Ok ((before ++ r ∷ []) ++ rs))

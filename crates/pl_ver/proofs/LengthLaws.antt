@@ -3,6 +3,7 @@ use Rattle.std.proofs.Common.{◌≡◌, ◌≢◌, ℕ, ◌+◌, ◌-◌, ◌%�
 use Rattle.std.specs.Prelude.{slice_index}
 use Rattle.std.proofs.lemmas.Bool.{lt-leb, le-leb, ne_eqb}
 use Rattle.std.proofs.lemmas.Bool.Decides.{eqb_tells}
+use Rattle.std.proofs.Math.Bool.{and-false, not-and_self}
 use Rattle.std.proofs.lemmas.List.{length-replicate, get_or_past}
 use Rattle.pl_ver.specs.declared.constants.TheConstants.{NEXT_SIZE}
 use Rattle.pl_ver.specs.Fields.{next}
@@ -42,14 +43,6 @@ no_and : (a b : Bool) → ((a && false) && b) ≡ false
 no_and true b = refl
 no_and false b = refl
 
-and_no : (a : Bool) → (a && false) ≡ false
-and_no true = refl
-and_no false = refl
-
-not_and : (a : Bool) → (not a && a) ≡ false
-not_and true = refl
-not_and false = refl
-
 -- the record has no name
 pub unnamed : (passes : ℕ → Bool) (size : ℕ) (section : List ℕ) (at : ℕ) → passes at ≡ false → IsLength passes size section at 0
 unnamed passes size section at fails = λ count some few.
@@ -81,7 +74,7 @@ behind passes size section at rest within named more known count some few =
 pub cut_off : (passes : ℕ → Bool) (size : ℕ) (section : List ℕ) (at rest : ℕ) → at + size ≤ length section → passes at ≡ true → next size section at ≢ 0
     → IsLength passes size section (at + next size section at) rest → rest ≡ 0 → IsLength passes size section at 0
 cut_off passes size section at rest within named more known none = λ count some few.
-    behind passes size section at rest within named more known count some few ∙ rw none (not_and (eqb (count - 1) 0)) ∙ sym (not_zero count some)
+    behind passes size section at rest within named more known count some few ∙ rw none (not-and_self (eqb (count - 1) 0)) ∙ sym (not_zero count some)
 
 pub linked : (passes : ℕ → Bool) (size : ℕ) (section : List ℕ) (at rest : ℕ) → at + size ≤ length section → passes at ≡ true → next size section at ≢ 0
     → IsLength passes size section (at + next size section at) rest → rest ≢ 0 → rest < 0x10000 → IsLength passes size section at ((rest + 1) % 0x10000)
@@ -91,7 +84,7 @@ linked passes size section at rest within named more known some_rest small = λ 
       | inl e ↦
           let other : eqb (count - 1) 0 ≡ false = ne_eqb (count - 1) 0 (λ zero. some_rest (sym e.1 ∙ zero)) in
           rw (other, e.0) (sym (eq-eqb count ((rest + 1) % 0x10000) (omega (arith, e.1, some, few))))
-      | inr e ↦ rw e.0 (and_no (not (eqb (count - 1) 0)) ∙ sym (ne_eqb count ((rest + 1) % 0x10000) (λ same. e.1 (omega (arith, same, some, few, small)))))
+      | inr e ↦ rw e.0 (and-false (not (eqb (count - 1) 0)) ∙ sym (ne_eqb count ((rest + 1) % 0x10000) (λ same. e.1 (omega (arith, same, some, few, small)))))
     ]
 
 -- ---- the lengths from an offset on
