@@ -1,6 +1,5 @@
 // The dynamic table.
-ghost use Rattle.std.specs.Prelude.{◌≡◌, ◌++◌, ◌+◌, IfOk, OnOk, map, find};
-ghost use Rattle.std.specs.List.{flat_map, range_with_len};
+ghost use Rattle.std.specs.Prelude.{◌≡◌, ◌+◌, IfOk, map, find};
 ghost use Rattle.pl_build.specs.Dynamic as spec;
 
 use crate::choices::chosen;

@@ -1,5 +1,5 @@
 // The file.
-ghost use Rattle.std.specs.Prelude.{◌≡◌, ◌++◌, ◌+◌, ◌*◌, ◌≤◌, ◌<◌, ◌^◌, IfOk, OnOk, length};
+ghost use Rattle.std.specs.Prelude.{◌≡◌, ◌++◌, ◌+◌, ◌*◌, ◌≤◌, ◌<◌, ◌^◌, IfOk, OnOk};
 ghost use Rattle.pl_build.specs.Build.{Builds};
 ghost use Rattle.pl_build.specs.File as spec;
 ghost use Rattle.pl_build.specs.Layout as layout;

@@ -1,5 +1,5 @@
 // A line by its words.
-ghost use Rattle.std.specs.Prelude.{◌≡◌, IfOk, map};
+ghost use Rattle.std.specs.Prelude.{◌≡◌, IfOk};
 ghost use Rattle.pl_build.specs.Grammar as spec;
 
 use crate::line::{DataWord, Hashes, Line, TlsBlock};

@@ -1,6 +1,5 @@
 // The tables of relocations.
-ghost use Rattle.std.specs.Prelude.{◌≡◌, ◌++◌, IfOk, OnOk, map, filter, position};
-ghost use Rattle.std.specs.List.{flat_map};
+ghost use Rattle.std.specs.Prelude.{◌≡◌, IfOk, map, filter, position};
 ghost use Rattle.pl_build.specs.Plan.{is_jump_slot, is_other};
 ghost use Rattle.pl_build.specs.Relocations as spec;
 

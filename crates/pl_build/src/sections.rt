@@ -1,6 +1,5 @@
 // The section header table.
-ghost use Rattle.std.specs.Prelude.{◌≡◌, ◌++◌, ◌+◌, ◌<◌, ◌^◌, IfOk, OnOk, map};
-ghost use Rattle.std.specs.List.{flat_map};
+ghost use Rattle.std.specs.Prelude.{◌≡◌, ◌+◌, ◌<◌, ◌^◌, IfOk, map};
 ghost use Rattle.pl_build.specs.Sections as spec;
 
 use crate::constants::INTERP_OFFSET;

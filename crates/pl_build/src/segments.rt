@@ -1,5 +1,5 @@
 // The program header table.
-ghost use Rattle.std.specs.Prelude.{◌≡◌, ◌++◌, ◌<◌, ◌≤◌, ◌+◌, ◌^◌, IfOk, OnOk, length};
+ghost use Rattle.std.specs.Prelude.{◌≡◌, ◌<◌, ◌≤◌, ◌+◌, ◌^◌, IfOk};
 ghost use Rattle.pl_elf.specs.Written.{segment_bytes};
 ghost use Rattle.pl_build.specs.Segments as spec;
 

@@ -1,5 +1,5 @@
 // A table of strings.
-ghost use Rattle.std.specs.Prelude.{◌≡◌, IfOk, fold, find, length};
+ghost use Rattle.std.specs.Prelude.{◌≡◌, IfOk, find};
 ghost use Rattle.std.specs.List.{list_any};
 ghost use Rattle.std.specs.Option.{option_copied};
 ghost use Rattle.pl_build.specs.Strings as spec;

@@ -1,6 +1,5 @@
 // The symbol table.
-ghost use Rattle.std.specs.Prelude.{◌≡◌, ◌++◌, IfOk, OnOk, map};
-ghost use Rattle.std.specs.List.{flat_map};
+ghost use Rattle.std.specs.Prelude.{◌≡◌, IfOk, map};
 ghost use Rattle.pl_build.specs.SymbolTable as spec;
 
 use crate::fields::{Field, Row, push_fields, push_rows};

@@ -1,5 +1,5 @@
 // The words of a line, and the numbers and written names among them.
-ghost use Rattle.std.specs.Prelude.{◌≡◌, ◌<◌, ◌≤◌, ◌+◌, ◌^◌, IfOk, drop, length, take};
+ghost use Rattle.std.specs.Prelude.{◌≡◌, ◌<◌, ◌+◌, IfOk, drop, take};
 ghost use Rattle.std.specs.List.{list_all};
 ghost use Rattle.pl_build.specs.Words as spec;
 

@@ -1,5 +1,5 @@
 // What rows of a cache are to be.
-ghost use Rattle.std.specs.Prelude.{◌≡◌, length};
+ghost use Rattle.std.specs.Prelude.{◌≡◌};
 ghost use Rattle.std.specs.List.{list_all};
 ghost use Rattle.pl_cache.specs.Spelling as spec;
 

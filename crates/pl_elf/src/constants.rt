@@ -72,26 +72,14 @@ pub const PT_DYNAMIC: u32 = 2;
 /// Segment kind: the path of the program's interpreter.
 pub const PT_INTERP: u32 = 3;
 
-/// Segment kind: notes.
-pub const PT_NOTE: u32 = 4;
-
 /// Segment kind: the program header table itself.
 pub const PT_PHDR: u32 = 6;
 
 /// Segment kind: the initial image of thread-local storage.
 pub const PT_TLS: u32 = 7;
 
-/// Segment kind: exception tables.
-pub const PT_GNU_EH_FRAME: u32 = 0x6474_e550;
-
 /// Segment kind: permissions of the stack. It has no addresses.
 pub const PT_GNU_STACK: u32 = 0x6474_e551;
-
-/// Segment kind: memory that is read-only after relocation.
-pub const PT_GNU_RELRO: u32 = 0x6474_e552;
-
-/// Segment kind: properties of the program.
-pub const PT_GNU_PROPERTY: u32 = 0x6474_e553;
 
 /// Section kind: no section.
 pub const SHT_NULL: u32 = 0;
@@ -123,9 +111,6 @@ pub const SHT_DYNSYM: u32 = 11;
 /// Section kind: a GNU hash table.
 pub const SHT_GNU_HASH: u32 = 0x6fff_fff6;
 
-/// Section kind: the library list of a prelinked file.
-pub const SHT_GNU_LIBLIST: u32 = 0x6fff_fff7;
-
 /// Section kind: versions that are defined.
 pub const SHT_GNU_VERDEF: u32 = 0x6fff_fffd;
 
@@ -146,9 +131,6 @@ pub const SHF_WRITE: u64 = 0x1;
 
 /// Section flag: has addresses in memory.
 pub const SHF_ALLOC: u64 = 0x2;
-
-/// Section flag: thread-local storage.
-pub const SHF_TLS: u64 = 0x400;
 
 /// Bytes of a 64-bit word, which most relocations change (x86-64 psABI, "Relocation Types", word64).
 pub const WORD64_SIZE: u64 = 8;

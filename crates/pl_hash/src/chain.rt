@@ -1,5 +1,5 @@
 // One chain of a table.
-ghost use Rattle.std.specs.Prelude.{◌≡◌, ◌+◌, ◌<◌, ◌≤◌, length, is_some};
+ghost use Rattle.std.specs.Prelude.{◌≡◌, ◌+◌, ◌<◌, is_some};
 ghost use Rattle.std.specs.Bool.{OnTrue};
 ghost use Rattle.pl_hash.specs.Table.{HasHeader, bucket_count};
 ghost use Rattle.pl_hash.specs.Chain as spec;

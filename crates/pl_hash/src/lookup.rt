@@ -2,7 +2,7 @@
 ghost use Rattle.std.specs.Prelude.{◌≡◌, ℕ, ◌<◌, nat_eq, IsTrue, IsSome, IfSome};
 ghost use Rattle.std.specs.List.{IsDistinct};
 ghost use Rattle.pl_hash.specs.Table as part;
-ghost use Rattle.pl_hash.specs.Chain.{HasBuckets, IsLinked, IsWellFormed, chain};
+ghost use Rattle.pl_hash.specs.Chain.{IsLinked, IsWellFormed, chain};
 ghost use Rattle.pl_hash.specs.Candidates as spec;
 
 use crate::chain::{following, head};

@@ -1,5 +1,5 @@
 // The whole of a table.
-ghost use Rattle.std.specs.Prelude.{◌≡◌, length};
+ghost use Rattle.std.specs.Prelude.{◌≡◌};
 ghost use Rattle.std.specs.Bool.{OnTrue};
 ghost use Rattle.pl_hash.specs.Table.{HasHeader};
 ghost use Rattle.pl_hash.specs.Chain as spec;

@@ -2,7 +2,7 @@
 use Rattle.std.specs.Prelude.{ℕ, ◌+◌, ◌-◌, ◌≤◌, Bool, ◌&&◌, List, map}
 use Rattle.std.specs.List.{list_any, All}
 use Rattle.pl_base.specs.Bytes.{part}
-use Rattle.pl_base.specs.Memory.{Memory, Piece, is_within, layered, shown}
+use Rattle.pl_base.specs.Memory.{Piece, is_within}
 use Rattle.pl_base.specs.Windows.{Window, holds}
 use Rattle.pl_elf.specs.declared.constants.TheConstants.{ADDRESS_LIMIT}
 use Rattle.pl_elf.specs.declared.segment.Segment.{Segment}
@@ -48,10 +48,6 @@ is_masked mask address = list_any (loads_from (map window_of mask.tables) addres
 
 abbrev pub loaded_at : ℕ → List ℕ → Object → Loaded
 loaded_at place bytes o = record { pieces = pieces_at place bytes o; mask = mask_at place o }
-
--- the memory of an object in which nothing is relocated, with 0 at each masked byte: at 0 the image of a static program
-unfoldable pub image_of : ℕ → List ℕ → Object → Memory
-image_of place bytes o = let memory = layered (pieces_at place bytes o) in shown memory (is_masked (mask_at place o)) memory
 
 -- the PT_LOADs are accepted ones, and each ends at the place at or below the limit of addresses
 pub record IsPlaced (place : ℕ) (o : Object) : Type 0 where

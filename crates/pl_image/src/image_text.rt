@@ -1,5 +1,5 @@
 // Lines of words on their way through a buffer to a sink.
-ghost use Rattle.std.specs.Prelude.{◌≡◌, ◌≤◌, ◌++◌, [], OnErr, OnOk};
+ghost use Rattle.std.specs.Prelude.{◌≡◌, ◌≤◌, [], OnErr, OnOk};
 ghost use Rattle.pl_base.specs.Counts.{Rose};
 ghost use Rattle.pl_base.specs.Streams.{GotPrefix, got_after};
 ghost use Rattle.pl_image.specs.Lines as spec;

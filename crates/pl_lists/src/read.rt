@@ -1,6 +1,5 @@
 ghost use Rattle.std.specs.Prelude.{◌≡◌, ◌+◌, ◌*◌, ◌/◌, ◌<◌, ◌≤◌, ◌-◌, ◌%◌, length, IfErr, IfOk, IsTrue, List, Ok};
 ghost use Rattle.pl_base.specs.Answers.{Answers};
-ghost use Rattle.pl_base.specs.Bytes.{part};
 ghost use Rattle.pl_lists.specs.Lists as lists;
 ghost use Rattle.pl_lists.specs.Reading as spec;
 ghost use Rattle.pl_lists.specs.declared.fault.ListFault.TheVariants as faults;

@@ -29,7 +29,6 @@ use pl_base::Rows;
 use pl_dyn::{DynFault, Dynamic, read_dynamic};
 use pl_elf::constants::ET_EXEC;
 use pl_elf::{Header, Kind, Segment, is_static, read_header, read_sections, read_segments};
-use pl_hash::Table;
 use pl_sym::Symbol;
 use std::alloc::{AllocError, Global};
 

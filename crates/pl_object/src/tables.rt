@@ -1,5 +1,5 @@
 // Where the tables of an object stand in the file.
-ghost use Rattle.std.specs.Prelude.{◌≡◌, ◌++◌, ◌∷◌, map, IfOk};
+ghost use Rattle.std.specs.Prelude.{◌≡◌, ◌++◌, map, IfOk};
 ghost use Rattle.pl_object.specs.FilePart as part;
 ghost use Rattle.pl_object.specs.Tables as spec;
 

@@ -1,6 +1,5 @@
 // The places of a span in holes, numbered upwards.
 ghost use Rattle.std.specs.Prelude.{◌≡◌, ◌<◌, ◌≤◌, ◌^◌};
-ghost use Rattle.pl_base.specs.Sums.{round_up};
 ghost use Rattle.pl_place.specs.Numbering as spec;
 
 use pl_elf::Range;

@@ -1,4 +1,4 @@
-ghost use Rattle.std.specs.Prelude.{◌≡◌, length, IfOk, IfErr, Ok, Err};
+ghost use Rattle.std.specs.Prelude.{◌≡◌, IfOk, IfErr, Ok, Err};
 ghost use Rattle.std.specs.List.{All, IsAmong};
 ghost use Rattle.indexmap.specs.IndexMap.{get_by_text, values};
 ghost use Rattle.pl_base.specs.Answers.{Answers};

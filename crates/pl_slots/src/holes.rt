@@ -1,5 +1,5 @@
 // Holes: what is left of a region beside the ranges that are taken.
-ghost use Rattle.std.specs.Prelude.{◌≡◌, ◌+◌, ◌++◌, ◌<◌, ◌≤◌, ◌^◌, ◌&&◌, not, ℕ, Option, IfOk, IfSome, IfNone, OnOk};
+ghost use Rattle.std.specs.Prelude.{◌≡◌, ◌+◌, ◌++◌, ◌<◌, ◌^◌, ◌&&◌, not, ℕ, Option, IfOk, IfSome, IfNone, OnOk};
 ghost use Rattle.std.specs.List.{find};
 ghost use Rattle.pl_base.specs.Sums.{round_up};
 ghost use Rattle.pl_elf.specs.Ranges.{has};

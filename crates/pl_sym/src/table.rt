@@ -1,4 +1,4 @@
-ghost use Rattle.std.specs.Prelude.{◌≡◌, ◌+◌, ◌*◌, ◌/◌, ◌≤◌, length};
+ghost use Rattle.std.specs.Prelude.{◌+◌, ◌*◌, ◌/◌, ◌≤◌, length};
 ghost use Rattle.pl_base.specs.Answers.{Answers};
 ghost use Rattle.pl_sym.specs.Table as spec;
 

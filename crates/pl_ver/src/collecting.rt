@@ -1,5 +1,5 @@
 // Collects the records of the versions that an object defines and needs.
-ghost use Rattle.std.specs.Prelude.{◌≡◌, ◌+◌, ◌++◌, ◌≤◌, [], length};
+ghost use Rattle.std.specs.Prelude.{◌+◌, ◌++◌, ◌≤◌, length};
 ghost use Rattle.pl_base.specs.Answers.{Answers};
 ghost use Rattle.pl_ver.specs.Chains.{defined, needed, needed_at};
 ghost use Rattle.pl_ver.specs.Versions as spec;

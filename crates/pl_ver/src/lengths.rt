@@ -1,5 +1,5 @@
 // The lengths of all chains of records with a name.
-ghost use Rattle.std.specs.Prelude.{◌≡◌, ℕ, ◌+◌, ◌<◌, ◌≤◌, Bool, List, length, slice_index, IfOk};
+ghost use Rattle.std.specs.Prelude.{◌≡◌, ℕ, ◌+◌, ◌<◌, ◌≤◌, Bool, List, slice_index, IfOk};
 ghost use Rattle.pl_ver.specs.Chains.{is_chain, is_named};
 ghost use Rattle.pl_ver.specs.Lengths as spec;
 

@@ -1,6 +1,5 @@
 ghost use Rattle.std.specs.Prelude.{◌≡◌, ◌==◌, Option, find};
 ghost use Rattle.std.specs.Option.{option_map};
-ghost use Rattle.pl_ver.specs.Fields as fields;
 ghost use Rattle.pl_ver.specs.Versions as spec;
 
 use crate::fields::index_of;

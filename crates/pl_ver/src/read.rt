@@ -1,6 +1,6 @@
-ghost use Rattle.std.specs.Prelude.{◌≡◌, ◌++◌, map, IfOk};
+ghost use Rattle.std.specs.Prelude.{◌≡◌, map, IfOk};
 ghost use Rattle.pl_base.specs.Answers.{Answers};
-ghost use Rattle.pl_ver.specs.Chains.{defined, needed};
+ghost use Rattle.pl_ver.specs.Chains.{defined};
 ghost use Rattle.pl_ver.specs.Versions as spec;
 
 use crate::chains::{are_verdefs, are_verneeds};
