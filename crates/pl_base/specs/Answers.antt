@@ -31,3 +31,8 @@ refuse (row ∷ rows) next = unless row.0 row.1 (refuse rows next)
 abbrev pub because : {X E F : Type 0} → (E → F) → Result X E → Result X F
 because fault (Ok x) = Ok x
 because fault (Err e) = Err (fault e)
+
+-- a value, or a fault that is no want of memory
+unfoldable pub Tells : {X E : Type 0} → (E → Bool) → Result X E → Type 0
+Tells is_memory (Ok x) = ⊤
+Tells is_memory (Err e) = is_memory e ≡ false
