@@ -70,7 +70,7 @@ symbols_tells table strings = each_tells sym.is_memory _ _ (λ index. named_tell
 
 versions_tells : (versym verdef verneed strings : List ℕ) (defs needs : ℕ) → Tells ver.is_memory (ver.versions versym verdef defs verneed needs strings)
 unfolding ver.versions ver.checked
-versions_tells versym verdef verneed strings defs needs = search (rules, unless_tells, found_tells, either_tells, ok_tells, err_tells)
+versions_tells versym verdef verneed strings defs needs = search (rules, unless_tells, ok_tells)
 
 -- ---- the names of an object
 
@@ -102,7 +102,7 @@ linking_tells bytes f tags =
 
 tables_tell : (f : Headers) (tags : List Tag) → Tells is_memory (check_tables f.header f.segments f.sections tags)
 unfolding check_tables
-tables_tell f tags = search (rules, unless_tells, found_tells, either_tells, ok_tells, err_tells)
+tables_tell f tags = search (rules, unless_tells, ok_tells)
 
 check_tells : (bytes : List ℕ) (f : Headers) (tags : List Tag) (l : Linking) (places : Layout) → Tells is_memory (check bytes f tags l places)
 unfolding check check_symbols check_relocs check_places check_rest
