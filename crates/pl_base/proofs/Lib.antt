@@ -12,6 +12,7 @@ pub mod WordLaws
 pub mod MemoryLaws
 pub mod HexLaws
 pub mod AnswerLaws
+pub mod TellsLaws
 pub mod NameLaws
 pub mod StringLaws
 pub mod FindLaws

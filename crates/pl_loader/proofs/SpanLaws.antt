@@ -6,14 +6,12 @@ use Rattle.std.specs.Int.{is_power_of_two}
 use Rattle.std.proofs.lemmas.Bool.{cases_Bool, cases_lt, not-false, or_parts, and_parts, leb-true, eqb-true, false≢true}
 use Rattle.std.proofs.lemmas.Option.{same_Some}
 use Rattle.std.proofs.lemmas.List.Elements.{All-nil, All-cons, All-head, All-tail, All-weaker}
-use Rattle.pl_base.specs.Answers.{because}
 use Rattle.pl_base.specs.Sums.{round_up}
 use Rattle.pl_base.specs.Windows.{Window}
 use Rattle.pl_base.proofs.SumLaws.{round_up-at_least}
-use Rattle.pl_base.proofs.AnswerLaws.{bind_ok, ok_same, unless_ok}
+use Rattle.pl_base.proofs.AnswerLaws.{unless_ok}
 use Rattle.pl_elf.specs.Headers.{is_load, loads}
 use Rattle.pl_elf.specs.Clauses.{AreLoads, ascend_from, bad_load, bad_align}
-use Rattle.pl_elf.specs.Clauses as elf
 use Rattle.pl_elf.specs.declared.constants.TheConstants.{ADDRESS_LIMIT, PAGE}
 use Rattle.pl_elf.specs.declared.segment.Segment.{Segment}
 use Rattle.pl_elf.proofs.AcceptedLaws.{LoadFits, load_fits, loads_fit}
@@ -23,14 +21,10 @@ use Rattle.pl_dyn.specs.declared.dynamic.Dynamic.{Dynamic}
 use Rattle.pl_dyn.specs.declared.fault.DynFault.TheVariants as dyn_fault
 use Rattle.pl_object.specs.FilePart.{loads_byte, loader, file_window, in_file_part, loaded}
 use Rattle.pl_object.specs.PlaceClauses.{last_load}
-use Rattle.pl_object.specs.TableClauses.{check_tables}
 use Rattle.pl_object.specs.Tables.{dynamic_memory}
-use Rattle.pl_object.specs.Reads.{reads, headers, parts, static_program, static_object, dynamic_object, linking, layout, check, checked, too_large, object, dynamic, span, align, end_in_memory}
-use Rattle.pl_object.specs.Refusals.{of_header, of_dynamic}
-use Rattle.pl_object.specs.declared.headers.Headers.{Headers}
+use Rattle.pl_object.specs.Reads.{reads, headers, static_object, object, dynamic, span, align, end_in_memory}
 use Rattle.pl_object.specs.declared.object.Object.{Object}
-use Rattle.pl_object.specs.declared.refusal.Refusal.TheVariants.{Clause}
-use Rattle.pl_object.proofs.AcceptedLaws.{because_ok, accepted}
+use Rattle.pl_object.proofs.AcceptedLaws.{read_holds, accepted}
 use Rattle.pl_base.proofs.FindLaws.{find_passes}
 use Rattle.pl_object.proofs.FilePartLaws.{loads_parts}
 use Rattle.pl_elf.specs.Kinds.{is_library}
@@ -70,40 +64,11 @@ dynamic_loaded bytes ss d is =
     no : Err dyn_fault.NoEnd ≡ Ok d → ⊥
     no e = cc
 
-shaped_dynamic_object : (bytes : List ℕ) (f : Headers) (d : Dynamic) (o : Object) → HasDynamic f.segments → dynamic_object bytes f d ≡ Ok o → IsShaped o
-unfolding dynamic_object checked object
-shaped_dynamic_object bytes f d o has e =
-    let t = bind_ok (check_tables f.header f.segments f.sections d.tags) _ o e in
-    let l = bind_ok (linking bytes f d.tags) _ o t.2 in
-    let places = layout bytes f d.tags l.0 in
-    let c = bind_ok (check bytes f d.tags l.0 places) _ o l.2 in
-    let is : object f d l.0 places ≡ o = ok_same (object f d l.0 places) o c.2 in
-    let whole : IsShaped (object f d l.0 places) = record { span = refl; align = refl; dynamic = λ library. has } in
-    subst IsShaped is whole
-
-shaped_static : (bytes : List ℕ) (f : Headers) (o : Object) → static_program bytes f ≡ Ok o → IsShaped o
-unfolding static_program static_object
-shaped_static bytes f o e =
-    let p = unless_ok (too_large bytes) (Clause 30 0) (Ok (static_object f)) o e in
-    let is : static_object f ≡ o = ok_same (static_object f) o p.1 in
-    let whole : IsShaped (static_object f) = record { span = refl; align = refl; dynamic = λ library. absurd (false≢true library) } in
-    subst IsShaped is whole
-
-shaped_parts : (bytes : List ℕ) (f : Headers) (o : Object) → parts bytes f ≡ Ok o → IsShaped o
-unfolding parts
-shaped_parts bytes f o e =
-    elim (cases_Bool (elf.is_static bytes f.header)) [
-      | inl static ↦ shaped_static bytes f o (rw static at e)
-      | inr other ↦
-          let d = bind_ok (because of_dynamic (dynamic bytes f.segments)) (dynamic_object bytes f) o (rw other at e) in
-          shaped_dynamic_object bytes f d.0 o (dynamic_loaded bytes f.segments d.0 (because_ok of_dynamic (dynamic bytes f.segments) d.0 d.1)) d.2
-    ]
-
 shaped : (bytes : List ℕ) (o : Object) → reads bytes ≡ Ok o → IsShaped o
-unfolding reads
+unfolding static_object object headers
 shaped bytes o e =
-    let p = bind_ok (because of_header (elf.read bytes)) (λ h. parts bytes (headers bytes h)) o e in
-    shaped_parts bytes (headers bytes p.0) o p.2
+    read_holds IsShaped bytes (λ h is. record { span = refl; align = refl; dynamic = λ library. absurd (false≢true library) })
+    (λ h d l is. record { span = refl; align = refl; dynamic = λ library. dynamic_loaded bytes (headers bytes h).segments d is.table }) o e
 
 -- ---- the span
 

@@ -1,6 +1,6 @@
 ghost use Rattle.std.specs.Prelude.{◌≡◌, ◌<◌, ◌^◌, ℕ, List, length, Some, None, Result, Ok, Err, IsSome, IfOk, IfErr, OnOk, OnErr};
 ghost use Rattle.std.specs.Option.{option_map, ForSome};
-ghost use Rattle.pl_base.specs.Answers.{Answers, because};
+ghost use Rattle.pl_base.specs.Answers.{Answers, Tells, because};
 ghost use Rattle.pl_object.specs.Reads.{reads};
 ghost use Rattle.pl_scope.specs.Walking.{wants};
 ghost use Rattle.pl_loader.specs.declared.fault.LoadFault as faults;
@@ -79,6 +79,8 @@ impl Loader {
         ensures begun { IfOk result (λ loader. loader ≡ spec.begun name.now) }
         // all files of the walk of the name are still to come
         ensures begins { IfOk result (λ loader. (file : List ℕ → Result (List ℕ) faults.LoadFault) → spec.IsUnderWay spec.itself file name.now loader) }
+        // and the whole load means no want of memory, where none of the files does
+        ensures never_memory { (file : List ℕ → Result (List ℕ) faults.LoadFault) → ((n : List ℕ) → Tells is_memory (file n)) → Tells is_memory (start.load spec.itself file name.now) }
     {
         Ok(Loader {
             name: Text::copy_of(alloc, name)?,

@@ -1,14 +1,14 @@
 -- An object that is read from a file meets what is known of accepted objects.
-use Rattle.std.proofs.Common.{◌≡◌, ℕ, zero, suc, ◌+◌, ◌-◌, ◌<◌, ◌≤◌, Bool, true, false, ◌||◌, ◌∷◌, cond, List, [], length, map, take, drop, length-drop, get_or, Option, Some, None, Result, Ok, Err, refl, sym, ap, ◌∙◌, arith, inl, inr}
+use Rattle.std.proofs.Common.{◌≡◌, ℕ, zero, suc, ◌+◌, ◌-◌, ◌<◌, ◌≤◌, Bool, true, false, ◌||◌, ◌∷◌, cond, List, [], length, map, take, drop, length-drop, get_or, Option, Some, None, Result, Ok, Err, refl, ap, ◌∙◌, subst, arith, inl, inr}
 use Rattle.std.specs.Prelude.{◌==◌, find, IfOk}
 use Rattle.std.specs.List.{list_any, list_all}
 use Rattle.std.specs.Result.{is_ok}
 use Rattle.std.proofs.lemmas.Bool.{cases_Bool, or_parts, and_parts, leb-true}
 use Rattle.std.proofs.lemmas.List.{length-take}
-use Rattle.pl_base.specs.Answers.{Answers, unless_found, because}
-use Rattle.pl_base.proofs.AnswerLaws.{refuse_none, refuse_next, bind_ok, ok_same}
+use Rattle.pl_base.specs.Answers.{◌>>=◌, Answers, unless_found, because}
+use Rattle.pl_base.proofs.AnswerLaws.{refuse_none, bind_ok, ok_same, unless_ok}
 use Rattle.pl_base.specs.Windows.{Window, end_of}
-use Rattle.pl_elf.specs.Headers.{segments, loads}
+use Rattle.pl_elf.specs.Headers.{segments, sections, loads}
 use Rattle.pl_elf.specs.Clauses as elf
 use Rattle.pl_elf.specs.Clauses.{AreLoads}
 use Rattle.pl_elf.specs.declared.fault.HeaderFault.{HeaderFault}
@@ -122,69 +122,88 @@ few_symbols bytes f tags l e =
     let fit = symbols_fit (loaded bytes f.segments (symbols_memory tags f.sections)) (strings bytes f.segments tags) bare.0 (because_ok of_symbols _ bare.0 bare.1) in
     omega (arith, ap length same, length-versioned bare.0 known.0, fit, part_fits window.size window.at bytes)
 
+-- ---- what led to an object
+
+-- what the clauses read of a static program, and that they passed
+pub record IsStatic (bytes : List ℕ) (h : Header) : Type 0 where
+  pub read : elf.read bytes ≡ Ok h
+  pub alone : elf.is_static bytes h ≡ true
+  pub small : too_large bytes ≡ false
+
+-- the same of a file with a dynamic table
+pub record IsDynamic (bytes : List ℕ) (h : Header) (d : Dynamic) (l : Linking) : Type 0 where
+  pub read : elf.read bytes ≡ Ok h
+  pub other : elf.is_static bytes h ≡ false
+  pub table : table bytes (segments bytes h) ≡ Ok d
+  pub tables : check_tables h (segments bytes h) (sections bytes h) d.tags ≡ Ok tt
+  pub names : linking bytes (headers bytes h) d.tags ≡ Ok l
+  pub checks : check bytes (headers bytes h) d.tags l (layout bytes (headers bytes h) d.tags l) ≡ Ok tt
+
+-- what holds of a static program and of an object with a dynamic table holds of each object that is read
+pub read_holds : (P : Object → Type 0) (bytes : List ℕ) → ((h : Header) → IsStatic bytes h → P (static_object (headers bytes h)))
+    → ((h : Header) (d : Dynamic) (l : Linking) → IsDynamic bytes h d l → P (object (headers bytes h) d l (layout bytes (headers bytes h) d.tags l))) → (o : Object) → reads bytes ≡ Ok o → P o
+unfolding reads parts static_program dynamic_object checked headers
+read_holds P bytes static dynamic o e =
+    let p = bind_ok (because of_header (elf.read bytes)) (λ h. parts bytes (headers bytes h)) o e in
+    let h = p.0 in
+    let f = headers bytes h in
+    let read = because_ok of_header (elf.read bytes) h p.1 in
+    elim (cases_Bool (elf.is_static bytes h)) [
+      | inl alone ↦
+          let s = unless_ok (too_large bytes) (Clause 30 0) (Ok (static_object f)) o (rw alone at p.2) in
+          subst P (ok_same (static_object f) o s.1) (static h (record { read = read; alone = alone; small = s.0 }))
+      | inr other ↦
+          let d = bind_ok (because of_dynamic (table bytes f.segments)) (dynamic_object bytes f) o (rw other at p.2) in
+          let t = bind_ok (check_tables h f.segments f.sections d.0.tags) (λ _. linking bytes f d.0.tags >>= λ l. checked bytes f d.0 l (layout bytes f d.0.tags l)) o d.2 in
+          let l = bind_ok (linking bytes f d.0.tags) (λ l. checked bytes f d.0 l (layout bytes f d.0.tags l)) o t.2 in
+          let places = layout bytes f d.0.tags l.0 in
+          let c = bind_ok (check bytes f d.0.tags l.0 places) (λ _. Ok (object f d.0 l.0 places)) o l.2 in
+          let is : IsDynamic bytes h d.0 l.0 = record { read = read; other = other; table = because_ok of_dynamic (table bytes f.segments) d.0 d.1; tables = t.1; names = l.1; checks = c.1 } in
+          subst P {x = object f d.0 l.0 places} (ok_same (object f d.0 l.0 places) o c.2) (dynamic h d.0 l.0 is)
+    ]
+
 -- ---- the whole
 
-accepted_dynamic_object : (bytes : List ℕ) (h : Header) (d : Dynamic) (o : Object) → elf.read bytes ≡ Ok h → elf.is_static bytes h ≡ false → AreLoads (loads (segments bytes h)) → dynamic_object bytes (headers bytes h) d ≡ Ok o → Accepted bytes o
-unfolding headers dynamic_object checked check layout object
-accepted_dynamic_object bytes h d o read dynamic loads e =
+loads_read : (bytes : List ℕ) (h : Header) → elf.read bytes ≡ Ok h → AreLoads (loads (segments bytes h))
+loads_read bytes h read = rw (header_read bytes h read) at (loads_accepted bytes (ap (λ (r : Result Header HeaderFault). is_ok r) read))
+
+accepted_static : (bytes : List ℕ) (h : Header) → IsStatic bytes h → Accepted bytes (static_object (headers bytes h))
+unfolding headers static_object reloc_outside reloc_overlap reloc_in_tables spots odd_addend misplaced_copy
+accepted_static bytes h is = record {
+  loads = loads_read bytes h is.read;
+  tables = ranges_in (length bytes) (static_windows h (sections bytes h)) (static_windows_in bytes h is.read);
+  few = omega arith;
+  relocs = refl;
+  held = refl;
+  apart = refl;
+  clear = refl;
+  plain = refl;
+  copies = refl;
+}
+
+accepted_dynamic : (bytes : List ℕ) (h : Header) (d : Dynamic) (l : Linking) → IsDynamic bytes h d l → Accepted bytes (object (headers bytes h) d l (layout bytes (headers bytes h) d.tags l))
+unfolding headers check layout object
+accepted_dynamic bytes h d l is =
     let f = headers bytes h in
-    let t = bind_ok (check_tables h f.segments f.sections d.tags) _ o e in
-    let l = bind_ok (linking bytes f d.tags) _ o t.2 in
-    let places = layout bytes f d.tags l.0 in
-    let c = bind_ok (check bytes f d.tags l.0 places) _ o l.2 in
-    let s = bind_ok (check_symbols (h.kind == ET_EXEC) f.segments places.hashes l.0.versions l.0.symbols) _ c.0 c.1 in
-    let r = bind_ok (check_relocs (h.kind == ET_EXEC) f.segments (sections_window h ∷ places.windows) (length l.0.symbols) places.relocations) _ c.0 s.2 in
-    let pass = relocs_pass (h.kind == ET_EXEC) f.segments (sections_window h ∷ places.windows) (length l.0.symbols) places.relocations r.0 r.1 in
+    let places = layout bytes f d.tags l in
+    let s = bind_ok (check_symbols (h.kind == ET_EXEC) f.segments places.hashes l.versions l.symbols) _ tt is.checks in
+    let r = bind_ok (check_relocs (h.kind == ET_EXEC) f.segments (sections_window h ∷ places.windows) (length l.symbols) places.relocations) _ tt s.2 in
+    let pass = relocs_pass (h.kind == ET_EXEC) f.segments (sections_window h ∷ places.windows) (length l.symbols) places.relocations r.0 r.1 in
     let windows = windows_back places.windows in
-    let whole : Accepted bytes (object f d l.0 places) = record {
-      loads = loads;
-      tables = ranges_in (length bytes) places.windows (link_windows_in bytes h d.tags read dynamic);
-      few = few_symbols bytes f d.tags l.0 l.1;
+    record {
+      loads = loads_read bytes h is.read;
+      tables = ranges_in (length bytes) places.windows (link_windows_in bytes h d.tags is.read is.other);
+      few = few_symbols bytes f d.tags l is.names;
       relocs = pass.relocs;
       held = pass.held;
       apart = pass.apart;
       clear = rw windows pass.clear;
       plain = pass.plain;
-      copies = rest_passes bytes h f.segments d.tags l.0.symbols places.relocations c.0 r.2;
-    } in
-    rw (ok_same _ o c.2) at whole
-
-accepted_static : (bytes : List ℕ) (h : Header) (o : Object) → elf.read bytes ≡ Ok h → AreLoads (loads (segments bytes h)) → static_program bytes (headers bytes h) ≡ Ok o → Accepted bytes o
-unfolding headers static_program static_object reloc_outside reloc_overlap reloc_in_tables spots odd_addend misplaced_copy
-accepted_static bytes h o read loads e =
-    let f = headers bytes h in
-    let none = refuse_none ((too_large bytes, Clause 30 0) ∷ []) (Ok (static_object f)) (ap (λ (r : Result Object Refusal). is_ok r) e) in
-    let is = ok_same (static_object f) o (sym (refuse_next ((too_large bytes, Clause 30 0) ∷ []) (Ok (static_object f)) none) ∙ e) in
-    let whole : Accepted bytes (static_object f) = record {
-      loads = loads;
-      tables = ranges_in (length bytes) (static_windows h f.sections) (static_windows_in bytes h read);
-      few = omega arith;
-      relocs = refl;
-      held = refl;
-      apart = refl;
-      clear = refl;
-      plain = refl;
-      copies = refl;
-    } in
-    rw is at whole
-
-accepted_parts : (bytes : List ℕ) (h : Header) (o : Object) → elf.read bytes ≡ Ok h → AreLoads (loads (segments bytes h)) → parts bytes (headers bytes h) ≡ Ok o → Accepted bytes o
-unfolding parts headers
-accepted_parts bytes h o read loads e =
-    elim (cases_Bool (elf.is_static bytes h)) [
-      | inl static ↦ accepted_static bytes h o read loads (rw static at e)
-      | inr dynamic ↦
-          let d = bind_ok (because of_dynamic (table bytes (segments bytes h))) (dynamic_object bytes (headers bytes h)) o (rw dynamic at e) in
-          accepted_dynamic_object bytes h d.0 o read dynamic loads d.2
-    ]
+      copies = rest_passes bytes h f.segments d.tags l.symbols places.relocations tt r.2;
+    }
 
 pub accepted : (bytes : List ℕ) (o : Object) → reads bytes ≡ Ok o → Accepted bytes o
-unfolding reads
-accepted bytes o e =
-    let p = bind_ok (because of_header (elf.read bytes)) (λ h. parts bytes (headers bytes h)) o e in
-    let read = because_ok of_header (elf.read bytes) p.0 p.1 in
-    let loads = loads_accepted bytes (ap (λ (r : Result Header HeaderFault). is_ok r) read) in
-    accepted_parts bytes p.0 o read (rw (header_read bytes p.0 read) at loads) p.2
+accepted bytes o e = read_holds (Accepted bytes) bytes (accepted_static bytes) (accepted_dynamic bytes) o e
 
 -- an answer that is the definition's
 pub accepted_answer : (bytes : List ℕ) (r : Result Object Refusal) → Answers is_memory r (reads bytes) → IfOk r (λ o. Accepted bytes o)

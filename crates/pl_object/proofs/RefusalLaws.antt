@@ -1,10 +1,8 @@
 -- What refuses a file is always an acceptance clause: the definition of an object means a want of memory of no file.
-use Rattle.std.proofs.Common.{◌≡◌, refl, subst, rules, ℕ, Bool, true, false, List, [], ◌∷◌, Option, Some, None, Result, Ok, Err}
-use Rattle.std.specs.Prelude.{if◌then◌else◌}
-use Rattle.pl_base.specs.Answers.{◌>>=◌, unless, unless_found, because}
-use Rattle.pl_base.specs.Each.{each}
+use Rattle.std.proofs.Common.{◌≡◌, refl, rules, ℕ, false, List, Option, Some, None}
+use Rattle.pl_base.specs.Answers.{Tells}
+use Rattle.pl_base.proofs.TellsLaws.{ok_tells, err_tells, unless_tells, found_tells, either_tells, then_tells, because_tells, cause_tells, each_tells}
 use Rattle.pl_elf.specs.Clauses as elf
-use Rattle.pl_elf.specs.declared.header.Header.{Header}
 use Rattle.pl_elf.specs.declared.segment.Segment.{Segment}
 use Rattle.pl_elf.specs.declared.section.Section.{Section}
 use Rattle.pl_elf.specs.declared.fault.HeaderFault.{HeaderFault}
@@ -30,51 +28,6 @@ use Rattle.pl_object.specs.Reads.{dynamic, check_rest, linking, check, checked, 
 use Rattle.pl_object.specs.declared.headers.Headers.{Headers}
 use Rattle.pl_object.specs.declared.linking.Linking.{Linking}
 use Rattle.pl_object.specs.declared.layout.Layout.{Layout}
-use Rattle.pl_object.specs.declared.refusal.Refusal.TheVariants.{NoMemory}
-
--- a value, or a fault that is no want of memory
-unfoldable pub Tells : {X E : Type 0} → (E → Bool) → Result X E → Type 0
-Tells is_memory (Ok x) = Unit {0}
-Tells is_memory (Err e) = is_memory e ≡ false
-
-ok_tells : {X E : Type 0} (m : E → Bool) (x : X) → Tells m (Ok x)
-unfolding Tells
-ok_tells m x = tt
-
-err_tells : (X : Type 0) {E : Type 0} (m : E → Bool) (e : E) → m e ≡ false → Tells {X = X} m (Err e)
-unfolding Tells
-err_tells X m e h = h
-
--- ---- steps
-
-unless_tells : {X E : Type 0} (m : E → Bool) (test : Bool) (fault : E) (next : Result X E) → m fault ≡ false → Tells m next → Tells m (unless test fault next)
-unfolding Tells
-unless_tells m true fault next f t = f
-unless_tells m false fault next f t = t
-
-found_tells : {A X E : Type 0} (m : E → Bool) (found : Option A) (fault : A → E) (next : Result X E) → ((x : A) → m (fault x) ≡ false) → Tells m next → Tells m (unless_found found fault next)
-unfolding Tells
-found_tells m (Some x) fault next f t = f x
-found_tells m None fault next f t = t
-
-then_tells : {A B E : Type 0} (m : E → Bool) (r : Result A E) (f : A → Result B E) → Tells m r → ((x : A) → Tells m (f x)) → Tells m (r >>= f)
-unfolding Tells
-then_tells m (Ok x) f t ts = ts x
-then_tells m (Err e) f t ts = t
-
-because_tells : {A E F : Type 0} (m : E → Bool) (n : F → Bool) (fault : E → F) (r : Result A E) → ((e : E) → m e ≡ false → n (fault e) ≡ false) → Tells m r → Tells n (because fault r)
-unfolding Tells
-because_tells m n fault (Ok x) f t = tt
-because_tells m n fault (Err e) f t = f e t
-
-each_tells : {A B E : Type 0} (m : E → Bool) (f : A → Result B E) (xs : List A) → ((x : A) → Tells m (f x)) → Tells m (each f xs)
-unfolding each
-each_tells m f [] ts = ok_tells m []
-each_tells m f (x ∷ xs) ts = then_tells m (f x) _ (ts x) (λ y. then_tells m (each f xs) _ (each_tells m f xs ts) (λ ys. ok_tells m _))
-
-either_tells : {X E : Type 0} (m : E → Bool) (test : Bool) (r s : Result X E) → Tells m r → Tells m s → Tells m (if test then r else s)
-either_tells m true r s t u = t
-either_tells m false r s t u = u
 
 -- ---- the parts' faults
 
@@ -103,10 +56,6 @@ of_versions_tells ver_fault.BadChain t = refl
 of_versions_tells ver_fault.BadIndex t = refl
 of_versions_tells ver_fault.NoMemory t = t
 
-header_tells : (r : Result Header HeaderFault) → Tells is_memory (because of_header r)
-header_tells (Ok h) = ok_tells is_memory h
-header_tells (Err e) = err_tells _ is_memory _ (of_header_tells e)
-
 dynamic_tells : (bytes : List ℕ) (ss : List Segment) → Tells dyn.is_memory (dynamic bytes ss)
 unfolding dynamic dyn.read
 dynamic_tells bytes ss = search (rules, unless_tells, found_tells, either_tells, ok_tells, err_tells)
@@ -121,7 +70,7 @@ symbols_tells table strings = each_tells sym.is_memory _ _ (λ index. named_tell
 
 versions_tells : (versym verdef verneed strings : List ℕ) (defs needs : ℕ) → Tells ver.is_memory (ver.versions versym verdef defs verneed needs strings)
 unfolding ver.versions ver.checked
-versions_tells versym verdef verneed strings defs needs = search (rules, unless_tells, found_tells, either_tells, ok_tells, err_tells)
+versions_tells versym verdef verneed strings defs needs = search (rules, unless_tells, ok_tells)
 
 -- ---- the names of an object
 
@@ -153,7 +102,7 @@ linking_tells bytes f tags =
 
 tables_tell : (f : Headers) (tags : List Tag) → Tells is_memory (check_tables f.header f.segments f.sections tags)
 unfolding check_tables
-tables_tell f tags = search (rules, unless_tells, found_tells, either_tells, ok_tells, err_tells)
+tables_tell f tags = search (rules, unless_tells, ok_tells)
 
 check_tells : (bytes : List ℕ) (f : Headers) (tags : List Tag) (l : Linking) (places : Layout) → Tells is_memory (check bytes f tags l places)
 unfolding check check_symbols check_relocs check_places check_rest
@@ -172,11 +121,4 @@ parts_tell bytes f = either_tells is_memory (elf.is_static bytes f.header) _ _ (
 
 pub reads_tells : (bytes : List ℕ) → Tells is_memory (reads bytes)
 unfolding reads
-reads_tells bytes = then_tells is_memory _ _ (header_tells (elf.read bytes)) (λ h. parts_tell bytes (headers bytes h))
-
-pub never_memory : (bytes : List ℕ) → reads bytes ≡ Err NoMemory → ⊥
-unfolding Tells
-never_memory bytes is = no (subst (Tells is_memory) is (reads_tells bytes))
-  where
-    no : true ≡ false → ⊥
-    no h = cc
+reads_tells bytes = then_tells is_memory _ _ (cause_tells is_memory of_header (elf.read bytes) of_header_tells) (λ h. parts_tell bytes (headers bytes h))

@@ -1,3 +1,4 @@
 pub mod WalkLaws
+pub mod MemoryLaws
 pub mod MemberLaws
 pub mod SearchLaws

@@ -5,11 +5,13 @@ use Rattle.std.proofs.Math.Seq.{drop-length}
 use Rattle.std.proofs.lemmas.List.{append-nil, drop_more}
 use Rattle.std.proofs.lemmas.List.Folds.{list_any-append}
 use Rattle.std.proofs.lemmas.Bool.{lt-ltb, le-ltb}
+use Rattle.pl_base.specs.Answers.{Tells}
+use Rattle.pl_base.proofs.TellsLaws.{ok_tells, unless_tells}
 use Rattle.pl_tls.specs.declared.TheConstants.{OFFSET_LIMIT}
 use Rattle.pl_tls.specs.declared.block.Block.{Block}
 use Rattle.pl_tls.specs.declared.module.Module.{Module}
 use Rattle.pl_tls.specs.declared.fault.TlsFault.TheVariants.{TooLarge}
-use Rattle.pl_tls.specs.Layout.{is_too_far, modules_from, offset_after, offsets}
+use Rattle.pl_tls.specs.Layout.{is_memory, is_too_far, modules_from, offset_after, offsets}
 
 -- the modules of the blocks before an index, none of them too far, with those of the blocks from there on are all modules
 pub record AreSoFar (blocks : List (Option Block)) (index number reached : ℕ) (modules : List Module) : Type 0 where
@@ -65,3 +67,8 @@ unfolding offsets modules_from
 are_all blocks index number reached modules e so_far =
     let all : modules_from 0 1 0 blocks ≡ modules = sym so_far.all ∙ rw (e, drop-length blocks) (append-nil modules) in
     rw (all, so_far.near) refl
+
+-- a want of memory is meant of no blocks
+pub offsets_tell : (blocks : List (Option Block)) → Tells is_memory (offsets blocks)
+unfolding offsets
+offsets_tell blocks = unless_tells is_memory _ _ _ refl (ok_tells is_memory _)

@@ -1,29 +1,19 @@
 -- What acceptance tells of the rows of a scope.
-use Rattle.std.proofs.Common.{◌≡◌, ℕ, suc, ◌+◌, false, List, [], ◌∷◌, length, map, get_or, Some, Result, Ok, Err, refl, ap, subst, ◌∙◌, arith, inl, inr}
+use Rattle.std.proofs.Common.{◌≡◌, ℕ, suc, ◌+◌, false, List, [], ◌∷◌, length, map, get_or, Some, Ok, refl, ap, ◌∙◌, arith}
 use Rattle.std.specs.Prelude.{slice_get, ◌/◌, ◌*◌}
 use Rattle.std.specs.List.{All, range_with_len}
 use Rattle.std.proofs.lemmas.List.Elements.{All-nil, All-append, All-map}
-use Rattle.std.proofs.lemmas.Bool.{cases_Bool}
-use Rattle.pl_elf.specs.Clauses as elf
-use Rattle.pl_dyn.specs.declared.dynamic.Dynamic.{Dynamic}
 use Rattle.pl_sym.specs.declared.symbol.Symbol.{Symbol}
-use Rattle.pl_base.specs.Answers.{because}
-use Rattle.pl_base.proofs.AnswerLaws.{bind_ok, ok_same}
 use Rattle.pl_object.specs.Accepted.{is_exec}
 use Rattle.pl_object.specs.FilePart.{loaded}
 use Rattle.pl_object.specs.PlaceClauses.{is_bad, is_misplaced_copy, misplaced_copy}
-use Rattle.pl_object.specs.Reads.{reads, headers, parts, static_program, static_object, dynamic, dynamic_object, linking, layout, check, checked, object, relocations, too_large}
-use Rattle.pl_object.specs.Refusals.{of_header, of_dynamic}
+use Rattle.pl_object.specs.Reads.{reads, headers, static_object, layout, object, relocations}
 use Rattle.pl_object.specs.Relocations.{width, reloc_at, reloc, relocs}
-use Rattle.pl_object.specs.TableClauses.{check_tables}
 use Rattle.pl_object.specs.Tables.{rela_memory, jmprel_memory}
 use Rattle.pl_elf.specs.declared.constants.TheConstants.{RELA_SIZE}
-use Rattle.pl_object.specs.declared.headers.Headers.{Headers}
 use Rattle.pl_object.specs.declared.object.Object.{Object}
-use Rattle.pl_object.specs.declared.refusal.Refusal.{Refusal}
-use Rattle.pl_object.specs.declared.refusal.Refusal.TheVariants.{Clause}
 use Rattle.pl_object.specs.declared.reloc.Reloc.{Reloc}
-use Rattle.pl_object.proofs.AcceptedLaws.{accepted}
+use Rattle.pl_object.proofs.AcceptedLaws.{accepted, read_holds}
 use Rattle.pl_value.specs.Laws.{AreRead}
 use Rattle.pl_value.specs.Meanings.{Row, row, rows, rows_from}
 use Rattle.pl_value.proofs.LoneLaws.{none_at}
@@ -46,38 +36,15 @@ unfolding relocs
 relocs_widths symbols table =
     All-map (HasWidth symbols) (reloc symbols table) (range_with_len 0 (length table / RELA_SIZE)) (λ k d lt. reloc_width symbols table (RELA_SIZE * get_or (range_with_len 0 (length table / RELA_SIZE)) k d))
 
-dynamic_object_widths : (bytes : List ℕ) (f : Headers) (d : Dynamic) (o : Object) → dynamic_object bytes f d ≡ Ok o → HasWidths o
-unfolding dynamic_object checked layout object relocations
-dynamic_object_widths bytes f d o e =
-    let t = bind_ok (check_tables f.header f.segments f.sections d.tags) _ o e in
-    let l = bind_ok (linking bytes f d.tags) _ o t.2 in
-    let places = layout bytes f d.tags l.0 in
-    let c = bind_ok (check bytes f d.tags l.0 places) _ o l.2 in
-    let whole : HasWidths (object f d l.0 places) =
-    All-append (HasWidth l.0.symbols) (relocs l.0.symbols (loaded bytes f.segments (rela_memory d.tags))) (relocs l.0.symbols (loaded bytes f.segments (jmprel_memory d.tags)))
-    (relocs_widths l.0.symbols (loaded bytes f.segments (rela_memory d.tags))) (relocs_widths l.0.symbols (loaded bytes f.segments (jmprel_memory d.tags))) in
-    subst HasWidths (ok_same (object f d l.0 places) o c.2) whole
-
-static_widths : (bytes : List ℕ) (f : Headers) (o : Object) → static_program bytes f ≡ Ok o → HasWidths o
-unfolding static_program static_object
-static_widths bytes f o e = elim (cases_Bool (too_large bytes)) [
-  | inl hit ↦ absurd (refused (rw hit at e))
-  | inr miss ↦ subst HasWidths (ok_same (static_object f) o (rw miss at e)) (All-nil (HasWidth []))
-]
-  where
-    refused : ◌≡◌ {A = Result Object Refusal} (Err (Clause 30 0)) (Ok o) → ⊥
-    refused h = cc
-
 pub widths : (bytes : List ℕ) (o : Object) → reads bytes ≡ Ok o → HasWidths o
-unfolding reads parts
+unfolding static_object object layout relocations
 widths bytes o e =
-    let p = bind_ok (because of_header (elf.read bytes)) (λ h. parts bytes (headers bytes h)) o e in
-    elim (cases_Bool (elf.is_static bytes (headers bytes p.0).header)) [
-      | inl static ↦ static_widths bytes (headers bytes p.0) o (rw static at p.2)
-      | inr not_static ↦
-          let d = bind_ok (because of_dynamic (dynamic bytes (headers bytes p.0).segments)) (dynamic_object bytes (headers bytes p.0)) o (rw not_static at p.2) in
-          dynamic_object_widths bytes (headers bytes p.0) d.0 o d.2
-    ]
+    read_holds HasWidths bytes (λ h is. All-nil (HasWidth []))
+    (λ h d l is.
+    let rela = loaded bytes (headers bytes h).segments (rela_memory d.tags) in
+    let jmprel = loaded bytes (headers bytes h).segments (jmprel_memory d.tags) in
+    All-append (HasWidth l.symbols) (relocs l.symbols rela) (relocs l.symbols jmprel) (relocs_widths l.symbols rela) (relocs_widths l.symbols jmprel))
+    o e
 
 -- ---- rows
 
