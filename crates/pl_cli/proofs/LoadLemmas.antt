@@ -18,14 +18,15 @@ use Rattle.pl_loader.specs.Loading.{Loading}
 use Rattle.pl_loader.specs.Started as start
 use Rattle.pl_loader.specs.Walk.{IsUnderWay, give}
 use Rattle.pl_loader.specs.declared.fault.LoadFault.{LoadFault}
+use Rattle.pl_loader.specs.declared.fault.LoadFault.TheVariants.{NotThere}
 use Rattle.pl_loader.specs.declared.object_file.ObjectFile.{ObjectFile}
 use Rattle.pl_loader.proofs.LoadLaws.{load_ends}
 use Rattle.pl_loader.proofs.WholeLaws.{whole_lacks, whole_stops}
 use Rattle.pl_cli.specs.declared.cause.Cause.{Cause}
-use Rattle.pl_cli.specs.declared.cause.Cause.TheVariants.{BadName, NotThere, FileTooLarge}
+use Rattle.pl_cli.specs.declared.cause.Cause.TheVariants as causes
 use Rattle.pl_cli.specs.declared.stop.Stop.{Stop}
 use Rattle.pl_cli.specs.declared.stop.Stop.TheVariants as stops
-use Rattle.pl_cli.specs.Load.{cause_of, of_file, file_in, loaded}
+use Rattle.pl_cli.specs.Load.{of_file, file_in, loaded}
 use Rattle.pl_cli.specs.Outcome.{Stops, of_take, of_load_fault}
 use Rattle.pl_cli.proofs.MakeLemmas.{since}
 
@@ -39,20 +40,20 @@ of_valid files name valid = ap (λ (b : Bool). of_file name (if b then get files
 fits_file : (name found : List ℕ) → nat_le (length found) STORED ≡ true → of_file name (Some found) ≡ Ok found
 fits_file name found fits =
     let test : nat_lt STORED (length found) ≡ false = grind (arith, nat_tests) in
-    ap (λ (b : Bool). unless b (FileTooLarge name) (Ok found)) test
+    ap (λ (b : Bool). unless b (causes.FileTooLarge name) (Ok found)) test
 
-longer_file : (name found : List ℕ) → nat_le (length found) STORED ≡ false → of_file name (Some found) ≡ Err (FileTooLarge name)
+longer_file : (name found : List ℕ) → nat_le (length found) STORED ≡ false → of_file name (Some found) ≡ Err (causes.FileTooLarge name)
 longer_file name found longer =
     let test : nat_lt STORED (length found) ≡ true = grind (arith, nat_tests) in
-    ap (λ (b : Bool). unless b (FileTooLarge name) (Ok found)) test
+    ap (λ (b : Bool). unless b (causes.FileTooLarge name) (Ok found)) test
 
 -- what a folder gives of a file that was looked up
 of_stored : List ℕ → Result (List ℕ) FolderFault → Result (List ℕ) Cause
 of_stored name (Ok bytes) = Ok bytes
-of_stored name (Err folder_faults.NotThere) = Err (NotThere name)
-of_stored name (Err folder_faults.TooLarge) = Err (FileTooLarge name)
-of_stored name (Err folder_faults.Failed) = Err BadName
-of_stored name (Err folder_faults.NoMemory) = Err BadName
+of_stored name (Err folder_faults.NotThere) = Err (causes.Load (NotThere name))
+of_stored name (Err folder_faults.TooLarge) = Err (causes.FileTooLarge name)
+of_stored name (Err folder_faults.Failed) = Err causes.BadName
+of_stored name (Err folder_faults.NoMemory) = Err causes.BadName
 
 stored_file : (name : List ℕ) (file : Option (List ℕ)) → of_file name file ≡ of_stored name (stored file)
 unfolding of_stored
@@ -80,52 +81,52 @@ untaken_file told files name disk folder_faults.TooLarge valid why = λ tells _.
 untaken_file told files name disk folder_faults.NoMemory valid why = tt
 
 -- no other name has one
-pub invalid_file : (files : Files) (name : List ℕ) → is_valid_name name ≡ false → file_in files name ≡ Err (NotThere name)
+pub invalid_file : (files : Files) (name : List ℕ) → is_valid_name name ≡ false → file_in files name ≡ Err (causes.Load (NotThere name))
 unfolding file_in
 invalid_file files name invalid = ap (λ (b : Bool). of_file name (if b then get files name else None)) invalid
 
 -- ---- faults of the load
 
 -- a fault that the load means, or a want of memory
-pub stopped_by : (told : Bool) (meant : Result start.Start Cause) (disk : Type 0) (fault : LoadFault) → (told ≡ true → MatchBool (is_memory fault) ⊤ (meant ≡ Err (cause_of fault)))
+pub stopped_by : (told : Bool) (meant : Result start.Start Cause) (disk : Type 0) (fault : LoadFault) → (told ≡ true → MatchBool (is_memory fault) ⊤ (meant ≡ Err (causes.Load fault)))
     → Stops told true meant disk ⊥ (of_load_fault fault)
 stopped_by told meant disk fault h =
-    elim (is_memory fault) as (λ b. (told ≡ true → MatchBool b ⊤ (meant ≡ Err (cause_of fault))) → Stops told true meant disk ⊥ (if b then stops.NoMemory else stops.Cause (cause_of fault))) [
+    elim (is_memory fault) as (λ b. (told ≡ true → MatchBool b ⊤ (meant ≡ Err (causes.Load fault))) → Stops told true meant disk ⊥ (if b then stops.NoMemory else stops.Cause (causes.Load fault))) [
       | true ↦ λ _. tt
       | false ↦ λ means. λ tells _. means tells
     ] h
 
 -- ---- the whole load
 
-pub bad_name : (files : Files) (name : List ℕ) → is_valid_name name ≡ false → loaded files name ≡ Err BadName
+pub bad_name : (files : Files) (name : List ℕ) → is_valid_name name ≡ false → loaded files name ≡ Err causes.BadName
 unfolding loaded
-bad_name files name invalid = ap (λ (b : Bool). unless (not b) BadName (start.load cause_of (file_in files) name)) invalid
+bad_name files name invalid = ap (λ (b : Bool). unless (not b) causes.BadName (start.load causes.Load (file_in files) name)) invalid
 
 -- ---- of a valid name
 
 module _ (told : Bool) (files : Files) (name : List ℕ) (valid : is_valid_name name ≡ true) where
-  valid_loaded : loaded files name ≡ start.load cause_of (file_in files) name
+  valid_loaded : loaded files name ≡ start.load causes.Load (file_in files) name
   unfolding loaded
-  valid_loaded = ap (λ (b : Bool). unless (not b) BadName (start.load cause_of (file_in files) name)) valid
+  valid_loaded = ap (λ (b : Bool). unless (not b) causes.BadName (start.load causes.Load (file_in files) name)) valid
 
   -- the wanted file was not taken
   pub stopped_in_folder : (now_told : Bool) (now : Files) (first mid last : ℕ) (n : List ℕ) (l : Loading) (stop : Stop) → now_told ≡ told → (told ≡ true → now ≡ files) → first ≤ mid → wants l.order ≡ Some n
-      → (told ≡ true → IsUnderWay cause_of (file_in files) name l) → Stops now_told true (file_in now n) (Rose mid last) ⊥ stop → Stops told true (loaded files name) (Rose first last) ⊥ stop
+      → (told ≡ true → IsUnderWay causes.Load (file_in files) name l) → Stops now_told true (file_in now n) (Rose mid last) ⊥ stop → Stops told true (loaded files name) (Rose first last) ⊥ stop
   stopped_in_folder now_told now first mid last n l (stops.Cause cause) tells same le is way h = λ told_is _.
       let lacks : file_in files n ≡ Err cause = ap (λ (fs : Files). file_in fs n) (sym (same told_is)) ∙ h (tells ∙ told_is) refl in
-      valid_loaded ∙ whole_lacks cause_of (file_in files) name n l cause is lacks (way told_is)
+      valid_loaded ∙ whole_lacks causes.Load (file_in files) name n l cause is lacks (way told_is)
   stopped_in_folder now_told now first mid last n l stops.Failed tells same le is way h = since first mid last le h
   stopped_in_folder now_told now first mid last n l stops.InputFailed tells same le is way h = absurd h
   stopped_in_folder now_told now first mid last n l stops.NoMemory tells same le is way h = tt
 
   -- the wanted file is refused
-  pub stopped_at_file : (disk : Type 0) (n bytes : List ℕ) (l : Loading) (fault : LoadFault) → wants l.order ≡ Some n → (told ≡ true → file_in files n ≡ Ok bytes) → (told ≡ true → IsUnderWay cause_of (file_in files) name l)
+  pub stopped_at_file : (disk : Type 0) (n bytes : List ℕ) (l : Loading) (fault : LoadFault) → wants l.order ≡ Some n → (told ≡ true → file_in files n ≡ Ok bytes) → (told ≡ true → IsUnderWay causes.Load (file_in files) name l)
       → Answers is_memory (Err fault) (give l (Some bytes)) → Stops told true (loaded files name) disk ⊥ (of_load_fault fault)
   stopped_at_file disk n bytes l fault is file way h = stopped_by told (loaded files name) disk fault (λ told_is.
-      let means = whole_stops cause_of (file_in files) name n (Some bytes) l fault is (file told_is) h (way told_is) in
-      subst (λ (r : Result start.Start Cause). MatchBool (is_memory fault) ⊤ (r ≡ Err (cause_of fault))) (sym valid_loaded) means)
+      let means = whole_stops causes.Load (file_in files) name n (Some bytes) l fault is (file told_is) h (way told_is) in
+      subst (λ (r : Result start.Start Cause). MatchBool (is_memory fault) ⊤ (r ≡ Err (causes.Load fault))) (sym valid_loaded) means)
 
   -- all files were given
-  pub loaded_ends : (l : Loading) → wants l.order ≡ None → IsUnderWay cause_of (file_in files) name l → loaded files name ≡ because cause_of (start.started l.files)
+  pub loaded_ends : (l : Loading) → wants l.order ≡ None → IsUnderWay causes.Load (file_in files) name l → loaded files name ≡ because causes.Load (start.started l.files)
   unfolding start.load
-  loaded_ends l is way = valid_loaded ∙ ap (λ (r : Result (List ObjectFile) Cause). r >>= λ fs. because cause_of (start.started fs)) (load_ends cause_of (file_in files) name l is way)
+  loaded_ends l is way = valid_loaded ∙ ap (λ (r : Result (List ObjectFile) Cause). r >>= λ fs. because causes.Load (start.started fs)) (load_ends causes.Load (file_in files) name l is way)

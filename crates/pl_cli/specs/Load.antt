@@ -6,10 +6,9 @@ use Rattle.pl_base.specs.Files.{Files}
 use Rattle.pl_base.specs.Names.{is_valid_name}
 use Rattle.pl_folder.specs.declared.TheConstants.{STORED}
 use Rattle.pl_loader.specs.Started.{Start, load}
-use Rattle.pl_loader.specs.declared.fault.LoadFault.{LoadFault}
-use Rattle.pl_loader.specs.declared.fault.LoadFault.TheVariants as faults
+use Rattle.pl_loader.specs.declared.fault.LoadFault.TheVariants.{NotThere}
 use Rattle.pl_cli.specs.declared.cause.Cause.{Cause}
-use Rattle.pl_cli.specs.declared.cause.Cause.TheVariants.{BadName, NotThere, FileTooLarge, Refused, NotProgram, NeededIsProgram, TooMany, TlsTooLarge, NoPlace, Undefined, UndefinedTls, TlsMismatch, CopyOutside}
+use Rattle.pl_cli.specs.declared.cause.Cause.TheVariants as causes
 
 -- ---- files
 
@@ -19,28 +18,13 @@ valid_file files name = if is_valid_name name then get files name else None
 
 -- a file that was looked up: it is to be there, and no longer than a folder gives
 abbrev pub of_file : List ℕ → Option (List ℕ) → Result (List ℕ) Cause
-of_file name None = Err (NotThere name)
-of_file name (Some bytes) = unless (nat_lt STORED (length bytes)) (FileTooLarge name) (Ok bytes)
+of_file name None = Err (causes.Load (NotThere name))
+of_file name (Some bytes) = unless (nat_lt STORED (length bytes)) (causes.FileTooLarge name) (Ok bytes)
 
 unfoldable pub file_in : Files → List ℕ → Result (List ℕ) Cause
 file_in files name = of_file name (valid_file files name)
 
 -- ---- the load
 
--- a fault of the load as a cause. No load means a want of memory, so what stands for it never comes.
-abbrev pub cause_of : LoadFault → Cause
-cause_of (faults.NotThere name) = NotThere name
-cause_of (faults.Refused name number argument) = Refused name number argument
-cause_of (faults.NotProgram name) = NotProgram name
-cause_of (faults.NeededIsProgram name) = NeededIsProgram name
-cause_of (faults.TooMany name) = TooMany name
-cause_of faults.TlsTooLarge = TlsTooLarge
-cause_of (faults.NoPlace name) = NoPlace name
-cause_of (faults.Undefined object symbol) = Undefined object symbol
-cause_of (faults.UndefinedTls object symbol) = UndefinedTls object symbol
-cause_of (faults.TlsMismatch object symbol) = TlsMismatch object symbol
-cause_of (faults.CopyOutside object symbol) = CopyOutside object symbol
-cause_of faults.NoMemory = BadName
-
 unfoldable pub loaded : Files → List ℕ → Result Start Cause
-loaded files name = unless (not (is_valid_name name)) BadName (load cause_of (file_in files) name)
+loaded files name = unless (not (is_valid_name name)) causes.BadName (load causes.Load (file_in files) name)

@@ -8,16 +8,16 @@ use Rattle.pl_folder.specs.declared.fault.FolderFault.{FolderFault}
 use Rattle.pl_folder.specs.declared.fault.FolderFault.TheVariants as folder_faults
 use Rattle.pl_loader.specs.Faults.{is_memory}
 use Rattle.pl_loader.specs.declared.fault.LoadFault.{LoadFault}
+use Rattle.pl_loader.specs.declared.fault.LoadFault.TheVariants.{NotThere}
 use Rattle.pl_build.specs.declared.fault.RecipeFault.{RecipeFault}
 use Rattle.pl_build.specs.declared.fault.RecipeFault.TheVariants as recipe_faults
 use Rattle.pl_cli.specs.declared.status.Status.{Status}
 use Rattle.pl_cli.specs.declared.status.Status.TheVariants as statuses
 use Rattle.pl_cli.specs.declared.cause.Cause.{Cause}
-use Rattle.pl_cli.specs.declared.cause.Cause.TheVariants.{NotThere, FileTooLarge, InputTooLarge, Recipe}
+use Rattle.pl_cli.specs.declared.cause.Cause.TheVariants as causes
 use Rattle.pl_cli.specs.declared.stop.Stop.{Stop}
 use Rattle.pl_cli.specs.declared.stop.Stop.TheVariants as stops
 use Rattle.pl_cli.specs.ValidFiles.{SameFiles}
-use Rattle.pl_cli.specs.Load.{cause_of}
 use Rattle.pl_cli.specs.Answer.{Answer, usage}
 use Rattle.pl_cli.specs.Refusals.{refusal}
 use Rattle.pl_cli.specs.Words.{Command}
@@ -39,23 +39,23 @@ of_fault folder_faults.NoMemory = stops.NoMemory
 -- the same where a file of a name was to be taken
 abbrev pub of_take : List ℕ → FolderFault → Stop
 of_take name folder_faults.Failed = stops.Failed
-of_take name folder_faults.NotThere = stops.Cause (NotThere name)
-of_take name folder_faults.TooLarge = stops.Cause (FileTooLarge name)
+of_take name folder_faults.NotThere = stops.Cause (causes.Load (NotThere name))
+of_take name folder_faults.TooLarge = stops.Cause (causes.FileTooLarge name)
 of_take name folder_faults.NoMemory = stops.NoMemory
 
 -- what a fault of a load stops
 abbrev pub of_load_fault : LoadFault → Stop
-of_load_fault fault = if is_memory fault then stops.NoMemory else stops.Cause (cause_of fault)
+of_load_fault fault = if is_memory fault then stops.NoMemory else stops.Cause (causes.Load fault)
 
 -- what a fault of the input stops
 abbrev pub of_read_fault : ReadFault → Stop
 of_read_fault read_faults.Failed = stops.InputFailed
-of_read_fault read_faults.TooLarge = stops.Cause InputTooLarge
+of_read_fault read_faults.TooLarge = stops.Cause causes.InputTooLarge
 of_read_fault read_faults.NoMemory = stops.NoMemory
 
 -- what a fault of the recipe stops
 abbrev pub of_recipe_fault : RecipeFault → Stop
-of_recipe_fault (recipe_faults.Bad number kind) = stops.Cause (Recipe number kind)
+of_recipe_fault (recipe_faults.Bad number kind) = stops.Cause (causes.Recipe number kind)
 of_recipe_fault recipe_faults.NoMemory = stops.NoMemory
 
 -- ---- what was written. files and input say whether the folder tells its files and the input what is read of it.

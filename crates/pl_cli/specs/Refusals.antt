@@ -4,8 +4,10 @@ use Rattle.std.specs.Fmt.{decimal}
 use Rattle.std.specs.Char.{is_ascii_graphic}
 use Rattle.std.specs.List.{flat_map}
 use Rattle.pl_base.specs.Digits.{hex_digit, line}
+use Rattle.pl_loader.specs.declared.fault.LoadFault.{LoadFault}
+use Rattle.pl_loader.specs.declared.fault.LoadFault.TheVariants.{NotThere, Refused, NotProgram, NeededIsProgram, TooMany, TlsTooLarge, NoPlace, Undefined, UndefinedTls, TlsMismatch, CopyOutside, NoMemory}
 use Rattle.pl_cli.specs.declared.cause.Cause.{Cause}
-use Rattle.pl_cli.specs.declared.cause.Cause.TheVariants.{BadName, NotThere, FileTooLarge, Refused, NotProgram, NeededIsProgram, TooMany, TlsTooLarge, NoPlace, Undefined, UndefinedTls, TlsMismatch, CopyOutside, InputTooLarge, Recipe, TooManyFiles}
+use Rattle.pl_cli.specs.declared.cause.Cause.TheVariants.{BadName, FileTooLarge, Load, InputTooLarge, Recipe, TooManyFiles}
 use Rattle.pl_cli.specs.declared.symbol_text.TheConstants.{BACKSLASH}
 
 -- ---- a symbol's name. It may have any bytes but 0
@@ -50,20 +52,25 @@ refused name clause argument =
 unfoldable pub refused_recipe : ℕ → ℕ → List ℕ
 refused_recipe number kind = line (codes "refused Recipe " ∷ decimal number ∷ codes " " ∷ decimal kind ∷ [])
 
+-- No load means a want of memory, so that line is never printed.
+unfoldable pub load_refusal : LoadFault → List ℕ
+load_refusal (NotThere name) = named (codes "NotThere") name
+load_refusal (Refused name number argument) = refused name number argument
+load_refusal (NotProgram name) = named (codes "NotProgram") name
+load_refusal (NeededIsProgram name) = named (codes "NeededIsProgram") name
+load_refusal (TooMany name) = named (codes "TooMany") name
+load_refusal TlsTooLarge = bare (codes "TlsTooLarge")
+load_refusal (NoPlace name) = named (codes "NoPlace") name
+load_refusal (Undefined object symbol) = link_line (codes "Undefined") object symbol
+load_refusal (UndefinedTls object symbol) = link_line (codes "UndefinedTls") object symbol
+load_refusal (TlsMismatch object symbol) = link_line (codes "TlsMismatch") object symbol
+load_refusal (CopyOutside object symbol) = link_line (codes "CopyOutside") object symbol
+load_refusal NoMemory = bare (codes "NoMemory")
+
 unfoldable pub refusal : Cause → List ℕ
 refusal BadName = bare (codes "BadName")
-refusal (NotThere name) = named (codes "NotThere") name
 refusal (FileTooLarge name) = named (codes "FileTooLarge") name
-refusal (Refused name number argument) = refused name number argument
-refusal (NotProgram name) = named (codes "NotProgram") name
-refusal (NeededIsProgram name) = named (codes "NeededIsProgram") name
-refusal (TooMany name) = named (codes "TooMany") name
-refusal TlsTooLarge = bare (codes "TlsTooLarge")
-refusal (NoPlace name) = named (codes "NoPlace") name
-refusal (Undefined object symbol) = link_line (codes "Undefined") object symbol
-refusal (UndefinedTls object symbol) = link_line (codes "UndefinedTls") object symbol
-refusal (TlsMismatch object symbol) = link_line (codes "TlsMismatch") object symbol
-refusal (CopyOutside object symbol) = link_line (codes "CopyOutside") object symbol
+refusal (Load fault) = load_refusal fault
 refusal InputTooLarge = bare (codes "InputTooLarge")
 refusal (Recipe number kind) = refused_recipe number kind
 refusal TooManyFiles = bare (codes "TooManyFiles")

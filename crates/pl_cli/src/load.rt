@@ -5,6 +5,7 @@ ghost use Rattle.pl_base.specs.Counts.{Rose};
 ghost use Rattle.pl_base.specs.Names.{is_valid_name};
 ghost use Rattle.pl_scope.specs.Walking.{wants};
 ghost use Rattle.pl_loader.specs.Started as meant;
+ghost use Rattle.pl_cli.specs.declared.cause.Cause.TheVariants as causes;
 ghost use Rattle.pl_cli.specs.Load as spec;
 ghost use Rattle.pl_cli.specs.Outcome.{Stops, of_take};
 
@@ -12,7 +13,7 @@ use crate::cause::Cause;
 use crate::stop::Stop;
 use pl_base::{Text, is_valid_name};
 use pl_folder::{Folder, FolderFault};
-use pl_loader::{Loader, Started};
+use pl_loader::{LoadFault, Loader, Started};
 use std::alloc::{AllocError, Global};
 
 /// Why the file of a name was not taken.
@@ -21,7 +22,7 @@ fn untaken(alloc: Global, name: &str, fault: FolderFault) -> Result<Stop, AllocE
 {
     Ok(match fault {
         FolderFault::Failed => Stop::Failed,
-        FolderFault::NotThere => Stop::Cause(Cause::NotThere(Text::copy_of(alloc, name)?)),
+        FolderFault::NotThere => Stop::from(LoadFault::NotThere(Text::copy_of(alloc, name)?)),
         FolderFault::TooLarge => Stop::Cause(Cause::FileTooLarge(Text::copy_of(alloc, name)?)),
         FolderFault::NoMemory => Stop::NoMemory,
     })
@@ -50,7 +51,7 @@ fn take<D: Folder>(alloc: Global, folder: &mut D, name: &str) -> Result<Vec<u8>,
 /// The load of a name that was given the files of its whole walk, one after the other as it wanted them; or the first cause that came before. For a name that is not valid the folder is not asked.
 pub fn load<D: Folder>(alloc: Global, folder: &mut D, name: &str) -> Result<Loader, Stop>
     ensures all { IfOk result (λ loader. wants loader.order ≡ None) }
-    ensures ok { IfOk result (λ loader. D.tells_files folder.old ≡ true → spec.loaded (D.files folder.old) name.now ≡ because spec.cause_of (meant.started loader.files)) }
+    ensures ok { IfOk result (λ loader. D.tells_files folder.old ≡ true → spec.loaded (D.files folder.old) name.now ≡ because causes.Load (meant.started loader.files)) }
     ensures stop { IfErr result (Stops (D.tells_files folder.old) true (spec.loaded (D.files folder.old) name.now) (Rose (D.faults folder.old) (D.faults folder.new)) ⊥) }
     ensures tells { D.tells_files folder.new ≡ D.tells_files folder.old }
     ensures same { D.tells_files folder.old ≡ true → D.files folder.new ≡ D.files folder.old }
@@ -74,7 +75,7 @@ pub fn load<D: Folder>(alloc: Global, folder: &mut D, name: &str) -> Result<Load
 pub fn start(alloc: Global, loader: &Loader) -> Result<Started<'_>, Stop>
     requires { wants loader.now.order ≡ None }
     ensures ok { IfOk result (λ s. meant.Starts s (meant.started loader.now.files)) }
-    ensures stop { IfErr result (Stops true true (because spec.cause_of (meant.started loader.now.files)) ⊥ ⊥) }
+    ensures stop { IfErr result (Stops true true (because causes.Load (meant.started loader.now.files)) ⊥ ⊥) }
 {
     Ok(loader.start(alloc)?)
 }

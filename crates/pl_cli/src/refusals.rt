@@ -5,6 +5,7 @@ ghost use Rattle.pl_cli.specs.Refusals as spec;
 use crate::cause::Cause;
 use crate::symbol_text::push_symbol;
 use pl_base::{Rows, Text};
+use pl_loader::LoadFault;
 use std::alloc::{AllocError, Global};
 
 /// The line of a cause that tells nothing more.
@@ -69,6 +70,37 @@ fn refused_recipe(alloc: Global, number: u32, kind: u8) -> Result<Vec<u8>, Alloc
     Ok(format!(in alloc; "refused Recipe {number} {kind}\n")?.into_bytes())
 }
 
+/// The line of a load's refusal. A want of memory is no cause, and its line is never printed.
+#[tactic(auto, unfolding(crate::specs::Refusals::load_refusal))]
+fn load_refusal(alloc: Global, fault: LoadFault) -> Result<Vec<u8>, AllocError>
+    ensures { IfOk result (λ line. line.items ≡ spec.load_refusal fault) }
+{
+    match fault {
+        LoadFault::NotThere(name) => named(alloc, "NotThere", name),
+        LoadFault::Refused {
+            name,
+            number,
+            argument,
+        } => refused(alloc, name, number, argument),
+        LoadFault::NotProgram(name) => named(alloc, "NotProgram", name),
+        LoadFault::NeededIsProgram(name) => named(alloc, "NeededIsProgram", name),
+        LoadFault::TooMany(name) => named(alloc, "TooMany", name),
+        LoadFault::TlsTooLarge => bare(alloc, "TlsTooLarge"),
+        LoadFault::NoPlace(name) => named(alloc, "NoPlace", name),
+        LoadFault::Undefined { object, symbol } => link_line(alloc, "Undefined", object, symbol),
+        LoadFault::UndefinedTls { object, symbol } => {
+            link_line(alloc, "UndefinedTls", object, symbol)
+        }
+        LoadFault::TlsMismatch { object, symbol } => {
+            link_line(alloc, "TlsMismatch", object, symbol)
+        }
+        LoadFault::CopyOutside { object, symbol } => {
+            link_line(alloc, "CopyOutside", object, symbol)
+        }
+        LoadFault::NoMemory => bare(alloc, "NoMemory"),
+    }
+}
+
 /// The line of a refusal.
 #[tactic(auto, unfolding(crate::specs::Refusals::refusal))]
 pub fn refusal(alloc: Global, cause: Cause) -> Result<Vec<u8>, AllocError>
@@ -76,22 +108,8 @@ pub fn refusal(alloc: Global, cause: Cause) -> Result<Vec<u8>, AllocError>
 {
     match cause {
         Cause::BadName => bare(alloc, "BadName"),
-        Cause::NotThere(name) => named(alloc, "NotThere", name),
         Cause::FileTooLarge(name) => named(alloc, "FileTooLarge", name),
-        Cause::Refused {
-            name,
-            number,
-            argument,
-        } => refused(alloc, name, number, argument),
-        Cause::NotProgram(name) => named(alloc, "NotProgram", name),
-        Cause::NeededIsProgram(name) => named(alloc, "NeededIsProgram", name),
-        Cause::TooMany(name) => named(alloc, "TooMany", name),
-        Cause::TlsTooLarge => bare(alloc, "TlsTooLarge"),
-        Cause::NoPlace(name) => named(alloc, "NoPlace", name),
-        Cause::Undefined { object, symbol } => link_line(alloc, "Undefined", object, symbol),
-        Cause::UndefinedTls { object, symbol } => link_line(alloc, "UndefinedTls", object, symbol),
-        Cause::TlsMismatch { object, symbol } => link_line(alloc, "TlsMismatch", object, symbol),
-        Cause::CopyOutside { object, symbol } => link_line(alloc, "CopyOutside", object, symbol),
+        Cause::Load(fault) => load_refusal(alloc, fault),
         Cause::InputTooLarge => bare(alloc, "InputTooLarge"),
         Cause::Recipe { number, kind } => refused_recipe(alloc, number, kind),
         Cause::TooManyFiles => bare(alloc, "TooManyFiles"),

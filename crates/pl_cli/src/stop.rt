@@ -57,28 +57,10 @@ impl From<LoadFault> for Stop {
     ghost from_gives = { λ fault stop. stop ≡ of_load_fault fault };
 
     fn from(fault: LoadFault) -> Stop {
-        Stop::Cause(match fault {
-            LoadFault::NotThere(name) => Cause::NotThere(name),
-            LoadFault::Refused {
-                name,
-                number,
-                argument,
-            } => Cause::Refused {
-                name,
-                number,
-                argument,
-            },
-            LoadFault::NotProgram(name) => Cause::NotProgram(name),
-            LoadFault::NeededIsProgram(name) => Cause::NeededIsProgram(name),
-            LoadFault::TooMany(name) => Cause::TooMany(name),
-            LoadFault::TlsTooLarge => Cause::TlsTooLarge,
-            LoadFault::NoPlace(name) => Cause::NoPlace(name),
-            LoadFault::Undefined { object, symbol } => Cause::Undefined { object, symbol },
-            LoadFault::UndefinedTls { object, symbol } => Cause::UndefinedTls { object, symbol },
-            LoadFault::TlsMismatch { object, symbol } => Cause::TlsMismatch { object, symbol },
-            LoadFault::CopyOutside { object, symbol } => Cause::CopyOutside { object, symbol },
-            LoadFault::NoMemory => return Stop::NoMemory,
-        })
+        match fault {
+            LoadFault::NoMemory => Stop::NoMemory,
+            fault => Stop::Cause(Cause::Load(fault)),
+        }
     }
 }
 

@@ -8,7 +8,8 @@ ghost use Rattle.pl_base.specs.Streams.{GotPrefix, got_after};
 ghost use Rattle.pl_scope.specs.Walking.{wants};
 ghost use Rattle.pl_loader.specs.Started.{started};
 ghost use Rattle.pl_cli.specs.Answer.{answer, command_answer, is_answer, load_answer, make_answer};
-ghost use Rattle.pl_cli.specs.Load.{cause_of, loaded};
+ghost use Rattle.pl_cli.specs.declared.cause.Cause.TheVariants as causes;
+ghost use Rattle.pl_cli.specs.Load.{loaded};
 ghost use Rattle.pl_cli.specs.Make.{made};
 ghost use Rattle.pl_cli.specs.Outcome.{Ends, IsOutcome, IsRefusal, IsUsage, LeavesFiles};
 ghost use Rattle.pl_cli.specs.Words as spec;
@@ -56,7 +57,7 @@ fn refuse<K: Sink>(alloc: Global, cause: Cause, output: &mut K) -> Status
 /// Writes what a program starts from whose files were all given, or the line of the first cause why it does not.
 fn start_and_write<K: Sink>(alloc: Global, loader: &Loader, output: &mut K) -> Status
     requires { wants loader.now.order ≡ None }
-    ensures outcome { (files : Files) → IsOutcome true true (load_answer files (because cause_of (started loader.now.files)))
+    ensures outcome { (files : Files) → IsOutcome true true (load_answer files (because causes.Load (started loader.now.files)))
         ⊥ (Rose (K.faults output.old) (K.faults output.new)) (K.written output.old) (K.written output.new) result }
     ensures quiet { result ≡ Status.Done → K.faults output.new ≡ K.faults output.old }
     ensures counts { K.faults output.old ≤ K.faults output.new }

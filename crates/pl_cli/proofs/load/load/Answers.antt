@@ -7,7 +7,8 @@ use Rattle.pl_scope.specs.Walking.{wants}
 use Rattle.pl_loader.specs.Loading.{Loading}
 use Rattle.pl_loader.specs.Walk.{IsUnderWay}
 use Rattle.pl_loader.proofs.LoadLaws.{load_begins, load_goes_on, give_more, wanted_below}
-use Rattle.pl_cli.specs.Load.{cause_of, file_in, loaded}
+use Rattle.pl_cli.specs.declared.cause.Cause.TheVariants as causes
+use Rattle.pl_cli.specs.Load.{file_in, loaded}
 use Rattle.pl_cli.specs.Outcome.{Stops, of_load_fault}
 use Rattle.pl_cli.proofs.LoadLemmas.{bad_name, stopped_in_folder, stopped_at_file, loaded_ends}
 use Rattle.pl_cli.proofs.load.load.Goals as goal
@@ -21,7 +22,7 @@ pub loop-wanted-init : goal.loop-wanted-init
 loop-wanted-init g c =
     let files = g.D.Folder.files c.args.folder.now in
     record {
-      under_way = λ told. subst (λ (l : Loading). IsUnderWay cause_of (file_in files) c.args.name.now l) (sym c.in_ok-loader.ensures.begun) (load_begins cause_of (file_in files) c.args.name.now);
+      under_way = λ told. subst (λ (l : Loading). IsUnderWay causes.Load (file_in files) c.args.name.now l) (sym c.in_ok-loader.ensures.begun) (load_begins causes.Load (file_in files) c.args.name.now);
       tells = search rules;
       same = search rules;
       quiet = search rules;
@@ -52,7 +53,7 @@ loop-wanted-preserved g c =
     let files = g.D.Folder.files c.args.folder.now in
     let inv = c.loop-wanted.invariant in
     record {
-      under_way = λ told. load_goes_on cause_of (file_in files) c.args.name.now c.in-Some.wanted.now (Some c.in_ok-bytes.bytes.items) c.loop-wanted.loader c.give.new.self (sym c.in-Some.ensures.name)
+      under_way = λ told. load_goes_on causes.Load (file_in files) c.args.name.now c.in-Some.wanted.now (Some c.in_ok-bytes.bytes.items) c.loop-wanted.loader c.give.new.self (sym c.in-Some.ensures.name)
           (ap (λ (fs : Files). file_in fs c.in-Some.wanted.now) (sym (inv.same told)) ∙ c.in_ok-bytes.ensures.ok (inv.tells ∙ told)) c.in_ok-give.ensures.ok (inv.under_way told);
       tells = c.in_ok-bytes.ensures.tells ∙ inv.tells;
       same = λ told. c.in_ok-bytes.ensures.same (inv.tells ∙ told) ∙ inv.same told;
