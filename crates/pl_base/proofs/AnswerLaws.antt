@@ -4,7 +4,7 @@ use Rattle.std.specs.Prelude.{◌||◌}
 use Rattle.std.specs.List.{list_any}
 use Rattle.std.specs.Result.{is_ok}
 use Rattle.std.proofs.lemmas.Bool.{cases_Bool, false≢true}
-use Rattle.pl_base.specs.Answers.{◌>>=◌, refuse, unless}
+use Rattle.pl_base.specs.Answers.{◌>>=◌, refuse, unless, because}
 
 -- no test of the table holds
 pub refuse_none : {X E : Type 0} (rows : List (Bool × E)) (next : Result X E) → is_ok (refuse rows next) ≡ true → list_any (λ row. row.0) rows ≡ false
@@ -44,3 +44,8 @@ refuse_ok false fault next x e = absurd cc
 -- one value alone
 pub ok_same : {X E : Type 0} (x y : X) → ◌≡◌ {A = Result X E} (Ok x) (Ok y) → x ≡ y
 ok_same x y e = cc
+
+-- a part that gave a value
+pub because_ok : {X E F : Type 0} (fault : E → F) (r : Result X E) (x : X) → because fault r ≡ Ok x → r ≡ Ok x
+because_ok {X} {E} fault (Ok y) x e = let same : y ≡ x = cc in ap (λ (z : X). Ok z) same
+because_ok fault (Err f) x e = absurd cc

@@ -43,13 +43,17 @@ then_tells m (Err e) f t ts = t
 
 -- ---- faults of a part as faults of the whole
 
+-- a fault that is no want of memory stays none
+abbrev pub Keeps : {E F : Type 0} → (E → Bool) → (F → Bool) → (E → F) → Type 0
+Keeps {E = E} m n fault = (e : E) → m e ≡ false → n (fault e) ≡ false
+
 -- the part means no want of memory
-pub because_tells : {A E F : Type 0} (m : E → Bool) (n : F → Bool) (fault : E → F) (r : Result A E) → ((e : E) → m e ≡ false → n (fault e) ≡ false) → Tells m r → Tells n (because fault r)
+pub because_tells : {A E F : Type 0} (m : E → Bool) (n : F → Bool) (fault : E → F) (r : Result A E) → Keeps m n fault → Tells m r → Tells n (because fault r)
 unfolding Tells
 because_tells m n fault (Ok x) f t = tt
 because_tells m n fault (Err e) f t = f e t
 
--- the part has no fault that is one
+-- or no fault of the part becomes one
 pub cause_tells : {A E F : Type 0} (n : F → Bool) (fault : E → F) (r : Result A E) → ((e : E) → n (fault e) ≡ false) → Tells n (because fault r)
 unfolding Tells
 cause_tells n fault (Ok x) f = tt

@@ -15,7 +15,7 @@ number_flips x y = grind arith
 pub bytes_flip : (xs ys : List ℕ) → bytes_eq xs ys ≡ bytes_eq ys xs
 bytes_flip xs ys = texts_ties xs ys ∙ (eq_by_cmp_equiv nat_list_cmp_total).symm xs ys ∙ sym (texts_ties ys xs)
 
--- a test that holds where another fails never holds beside it
+-- the first of two tests without the second, and the second, never hold together
 pub no_both : (b c : Bool) → (b && not c) ≡ true → c ≡ true → ⊥
 no_both true true is hit = false≢true is
 no_both true false is hit = false≢true hit

@@ -2,7 +2,7 @@
 use Rattle.std.proofs.Common.{◌≡◌, ℕ, zero, suc, ◌+◌, ◌-◌, ◌/◌, ◌^◌, ◌<◌, ◌≤◌, List, [], ◌++◌, length, take, drop, replicate, refl, sym, ap, ◌∙◌, arith, inl, inr, rules}
 use Rattle.std.specs.Prelude.{◌⊎◌}
 use Rattle.std.specs.Int.{w16, w32, w64, to_le_bytes, from_le_bytes, byte_at, bytes_low_first}
-use Rattle.std.proofs.Math.Seq.{drop-append_seam}
+use Rattle.std.proofs.Math.Seq.{drop-append-add}
 use Rattle.std.proofs.lemmas.Bool.{cases_lt}
 use Rattle.std.proofs.lemmas.List.{places, append-nil, drop-drop, take-append-drop, get_or-drop, get_or_append_left, get_or-append_right}
 use Rattle.std.proofs.lemmas.Nat.{le_bytes_2, le_bytes_4, le_bytes_8, mod_below}
@@ -88,10 +88,6 @@ bytes_are_bytes j zero number i = omega arith
 bytes_are_bytes j (suc k) number zero = one_byte j number
 bytes_are_bytes j (suc k) number (suc i) = bytes_are_bytes (suc j) k number i
 
--- what stands behind a front
-behind : (front rest : List ℕ) (at : ℕ) → drop (length front + at) (front ++ rest) ≡ drop at rest
-behind front rest at = sym (drop-drop at (length front) (front ++ rest)) ∙ ap (drop at) (drop-append_seam front rest)
-
 -- ---- 16 bits
 
 -- a word in std's words
@@ -144,7 +140,7 @@ word16_front at xs ys le = number_front 2 at xs ys le
 -- behind a front it stands where it stands in the rest
 pub word16_behind : (front rest : List ℕ) (at : ℕ) → word16 (length front + at) (front ++ rest) ≡ word16 at rest
 unfolding word16
-word16_behind front rest at = ap (little_number 2) (behind front rest at)
+word16_behind front rest at = ap (little_number 2) (drop-append-add front rest at)
 
 -- a number in front of other bytes is read as it was written
 pub word16_back : (number : ℕ) (rest : List ℕ) → number < 2 ^ 16 → word16 0 (bytes16 number ++ rest) ≡ number
@@ -223,7 +219,7 @@ word32_front at xs ys le = number_front 4 at xs ys le
 -- behind a front it stands where it stands in the rest
 pub word32_behind : (front rest : List ℕ) (at : ℕ) → word32 (length front + at) (front ++ rest) ≡ word32 at rest
 unfolding word32
-word32_behind front rest at = ap (little_number 4) (behind front rest at)
+word32_behind front rest at = ap (little_number 4) (drop-append-add front rest at)
 
 -- a number in front of other bytes is read as it was written
 pub word32_back : (number : ℕ) (rest : List ℕ) → number < 2 ^ 32 → word32 0 (bytes32 number ++ rest) ≡ number
@@ -307,7 +303,7 @@ word64_front at xs ys le = number_front 8 at xs ys le
 -- behind a front it stands where it stands in the rest
 pub word64_behind : (front rest : List ℕ) (at : ℕ) → word64 (length front + at) (front ++ rest) ≡ word64 at rest
 unfolding word64
-word64_behind front rest at = ap (little_number 8) (behind front rest at)
+word64_behind front rest at = ap (little_number 8) (drop-append-add front rest at)
 
 -- a number in front of other bytes is read as it was written
 pub word64_back : (number : ℕ) (rest : List ℕ) → number < 2 ^ 64 → word64 0 (bytes64 number ++ rest) ≡ number

@@ -4,3 +4,4 @@ pub mod FilesLemmas
 pub mod OutcomeLemmas
 pub mod MakeLemmas
 pub mod LoadLemmas
+pub mod TellsLemmas

@@ -1,10 +1,11 @@
 -- What a program of a folder's files starts from, or the first cause why it does not.
-use Rattle.std.specs.Prelude.{ℕ, not, List, length, nat_lt, Option, Some, None, Result, Ok, Err, if◌then◌else◌}
+use Rattle.std.specs.Prelude.{ℕ, Bool, false, not, List, length, nat_lt, Option, Some, None, Result, Ok, Err, if◌then◌else◌}
 use Rattle.std.specs.FinMap.{get}
 use Rattle.pl_base.specs.Answers.{unless}
 use Rattle.pl_base.specs.Files.{Files}
 use Rattle.pl_base.specs.Names.{is_valid_name}
 use Rattle.pl_folder.specs.declared.TheConstants.{STORED}
+use Rattle.pl_loader.specs.Faults as faults
 use Rattle.pl_loader.specs.Started.{Start, load}
 use Rattle.pl_loader.specs.declared.fault.LoadFault.TheVariants.{NotThere}
 use Rattle.pl_cli.specs.declared.cause.Cause.{Cause}
@@ -28,3 +29,12 @@ file_in files name = of_file name (valid_file files name)
 
 unfoldable pub loaded : Files → List ℕ → Result Start Cause
 loaded files name = unless (not (is_valid_name name)) causes.BadName (load causes.Load (file_in files) name)
+
+-- whether a cause is a want of memory. No load and no recipe means one
+abbrev pub is_memory : Cause → Bool
+is_memory (causes.Load fault) = faults.is_memory fault
+is_memory causes.BadName = false
+is_memory (causes.FileTooLarge name) = false
+is_memory causes.InputTooLarge = false
+is_memory (causes.Recipe number kind) = false
+is_memory causes.TooManyFiles = false

@@ -52,7 +52,7 @@ refused name clause argument =
 unfoldable pub refused_recipe : ℕ → ℕ → List ℕ
 refused_recipe number kind = line (codes "refused Recipe " ∷ decimal number ∷ codes " " ∷ decimal kind ∷ [])
 
--- No load means a want of memory, so that line is never printed.
+-- a fault of a load. No load means a want of memory, so the line of NoMemory is never printed
 unfoldable pub load_refusal : LoadFault → List ℕ
 load_refusal (NotThere name) = named (codes "NotThere") name
 load_refusal (Refused name number argument) = refused name number argument

@@ -10,7 +10,7 @@ pub enum Cause {
     /// The file of this name is longer than a folder gives.
     FileTooLarge(Text),
 
-    /// What a load is refused for.
+    /// The loader's fault, or a file that is not there; never `NoMemory`.
     Load(LoadFault),
 
     /// The input is longer than a recipe may be.

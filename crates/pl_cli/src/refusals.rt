@@ -70,7 +70,7 @@ fn refused_recipe(alloc: Global, number: u32, kind: u8) -> Result<Vec<u8>, Alloc
     Ok(format!(in alloc; "refused Recipe {number} {kind}\n")?.into_bytes())
 }
 
-/// The line of a load's refusal. A want of memory is no cause, and its line is never printed.
+/// The line of a fault of a load. No load means a want of memory, so the line of `NoMemory` is never printed.
 #[tactic(auto, unfolding(crate::specs::Refusals::load_refusal))]
 fn load_refusal(alloc: Global, fault: LoadFault) -> Result<Vec<u8>, AllocError>
     ensures { IfOk result (λ line. line.items ≡ spec.load_refusal fault) }

@@ -1,6 +1,6 @@
 // The top call and how its parts end.
-ghost use Rattle.std.specs.Prelude.{◌≡◌, ◌≢◌, ◌≤◌, None, Some, false, is_some, map, string_bytes, true};
-ghost use Rattle.pl_base.specs.Answers.{because};
+ghost use Rattle.std.specs.Prelude.{◌≡◌, ◌≢◌, ◌≤◌, ℕ, List, None, Some, false, is_some, map, string_bytes, true};
+ghost use Rattle.pl_base.specs.Answers.{Tells, because};
 ghost use Rattle.pl_base.specs.Counts.{Rose};
 ghost use Rattle.pl_base.specs.Files.{Files};
 ghost use Rattle.pl_base.specs.Names.{is_valid_name};
@@ -9,7 +9,7 @@ ghost use Rattle.pl_scope.specs.Walking.{wants};
 ghost use Rattle.pl_loader.specs.Started.{started};
 ghost use Rattle.pl_cli.specs.Answer.{answer, command_answer, is_answer, load_answer, make_answer};
 ghost use Rattle.pl_cli.specs.declared.cause.Cause.TheVariants as causes;
-ghost use Rattle.pl_cli.specs.Load.{loaded};
+ghost use Rattle.pl_cli.specs.Load.{is_memory, loaded};
 ghost use Rattle.pl_cli.specs.Make.{made};
 ghost use Rattle.pl_cli.specs.Outcome.{Ends, IsOutcome, IsRefusal, IsUsage, LeavesFiles};
 ghost use Rattle.pl_cli.specs.Words as spec;
@@ -209,7 +209,7 @@ fn run_words<D: Folder, S: Source, K: Sink>(
 /// Does what the words after the program's name ask for.
 ///
 /// The answer is a definition over the words, the folder's files and the bytes of the input: a status, a text for the output, and the next files under valid names. `Done`, `Differs`, `Usage` and `Refused` come only with the whole of it. A fault comes only where the count of its object rose: `ReadFault` and `DiskFault` before anything was written, `WriteFault` after some first bytes of the text. `NoMemory` may come at any time before anything was written. Files under valid names are those of the answer, or after `ReadFault` and `NoMemory` those before, or after `DiskFault` all of the one or all of the other. Only `--make` reads the input and writes to the folder.
-#[tactic(auto, using(crate::proofs::OutcomeLemmas::outcome_is_whole, crate::proofs::OutcomeLemmas::outcome_is_part))]
+#[tactic(auto, using(crate::proofs::OutcomeLemmas::outcome_is_whole, crate::proofs::OutcomeLemmas::outcome_is_part, crate::proofs::TellsLemmas::loaded_tells, crate::proofs::TellsLemmas::made_tells))]
 pub fn run<D: Folder, S: Source, K: Sink>(
     alloc: Global,
     words: &[String],
@@ -238,6 +238,10 @@ pub fn run<D: Folder, S: Source, K: Sink>(
     ensures disk_fault { result ≡ Status.DiskFault → Rose (D.faults folder.old) (D.faults folder.new) }
     ensures disk_fault_early { result ≡ Status.DiskFault → K.written output.new ≡ K.written output.old }
     ensures no_memory_early { result ≡ Status.NoMemory → K.written output.new ≡ K.written output.old }
+
+    // Laws over definitions: no load and no recipe means a want of memory, so no answer has the line of one.
+    ensures load_never_memory { (files : Files) (name : List ℕ) → Tells is_memory (loaded files name) }
+    ensures make_never_memory { (files : Files) (name input : List ℕ) → Tells is_memory (made files name input) }
 
     // Words that are no command are answered by the usage line, over every folder and input, and no call of either is made.
     ensures usage { IsUsage (spec.command (map string_bytes words.now)) ((folder.new ≡ folder.old) × (input.new ≡ input.old)) (K.written output.old) (K.written output.new) result }

@@ -6,6 +6,6 @@ use Rattle.pl_elf.specs.declared.range.Range.{Range}
 abbrev pub has : ℕ → Range → Bool
 has address range = nat_le range.start address && nat_lt address range.end
 
--- the addresses from a first one on, as many as size
+-- the addresses, or file offsets, from a first one on, as many as size
 abbrev pub range_from : ℕ → ℕ → Range
 range_from start size = record { start = start; end = start + size }

@@ -12,7 +12,7 @@ pub struct Range {
 }
 
 impl Range {
-    /// The range of so many addresses or bytes from a first one on.
+    /// The addresses, or file offsets, from `start` on, `size` of them. The end is below 2^64.
     pub fn from_size(start: u64, size: u64) -> Range
         requires { start + size < 2 ^ 64 }
         ensures { result ≡ range_from start size }

@@ -5,7 +5,7 @@ ghost use Rattle.pl_hash.specs.Table.{HasHeader, bucket_count};
 ghost use Rattle.pl_hash.specs.Chain as spec;
 
 use crate::table::{
-    Table, WORD_SIZE, bucket, bucket_count, chains_at, first_linked, has_header, link, link_at,
+    Table, WORD_SIZE, bucket, bucket_count, chains_at, first_linked, link, link_at,
 };
 
 /// Whether there is a bucket and the buckets lie in the table.

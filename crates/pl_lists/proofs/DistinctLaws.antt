@@ -1,5 +1,5 @@
 -- Names from the last row to the first.
-use Rattle.std.proofs.Common.{Ordering, ◌≡◌, ℕ, ◌-◌, ◌<◌, ◌≤◌, Bool, true, false, cond, ◌&&◌, ◌||◌, not, List, [], ◌∷◌, length, get_or, drop, refl, sym, ◌∙◌, arith, drop-cons, zero, suc}
+use Rattle.std.proofs.Common.{Ordering, ◌≡◌, ℕ, ◌-◌, ◌<◌, ◌≤◌, Bool, true, false, cond, ◌||◌, not, List, [], ◌∷◌, length, get_or, drop, refl, sym, ◌∙◌, arith, drop-cons, zero, suc}
 use Rattle.std.specs.List.{list_any}
 use Rattle.std.specs.Str.{bytes_eq}
 use Rattle.std.specs.Ordering.{nat_cmp}

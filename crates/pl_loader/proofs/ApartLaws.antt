@@ -15,7 +15,7 @@ use Rattle.pl_elf.specs.declared.range.Range.{Range}
 use Rattle.pl_elf.specs.declared.segment.Segment.{Segment}
 use Rattle.pl_object.specs.declared.object.Object.{Object}
 use Rattle.pl_slots.specs.Holes.{is_free}
-use Rattle.pl_elf.specs.Ranges.{has}
+use Rattle.pl_elf.specs.Ranges.{has, range_from}
 use Rattle.pl_place.specs.Placing.{range_of, MissesAll, AllFree, AreApart}
 use Rattle.pl_image.specs.Image.{all_pieces}
 use Rattle.pl_image.specs.Loads.{loaded_piece, loaded_pieces, pieces_at, loaded_at, IsPlaced}
@@ -163,10 +163,10 @@ program_at f spanned = record {
 
 -- the last address of a want is in the region
 ends_in : (region : Range) (busy : List Range) (start span : ℕ) → 0 < span
-    → ((address : ℕ) → has address (record { start = start; end = start + span }) ≡ true → (has address region && not (is_free address busy)) ≡ true) → start + span ≤ region.end
+    → ((address : ℕ) → has address (range_from start span) ≡ true → (has address region && not (is_free address busy)) ≡ true) → start + span ≤ region.end
 ends_in region busy start span some free =
     let last : ℕ = start + span - 1 in
-    let within : has last (record { start = start; end = start + span }) ≡ true = and_from (nat_le start last) (nat_lt last (start + span)) (le-leb start last (omega arith)) (lt-ltb last (start + span) (omega arith)) in
+    let within : has last (range_from start span) ≡ true = and_from (nat_le start last) (nat_lt last (start + span)) (le-leb start last (omega arith)) (lt-ltb last (start + span) (omega arith)) in
     let parts = and_parts (has last region) (not (is_free last busy)) (free last within) in
     let below = ltb-true last region.end (and_parts (nat_le region.start last) (nat_lt last region.end) parts.0).1 in
     omega (arith, below, some)

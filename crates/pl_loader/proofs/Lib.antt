@@ -8,4 +8,4 @@ pub mod FileLaws
 pub mod BoundsLaws
 pub mod StartLaws
 pub mod WholeLaws
-pub mod MemoryLaws
+pub mod TellsLaws

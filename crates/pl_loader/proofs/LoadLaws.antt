@@ -5,9 +5,8 @@ use Rattle.std.proofs.lemmas.List.{map_push}
 use Rattle.std.proofs.lemmas.Option.{slice_get_within}
 use Rattle.pl_base.specs.Answers.{◌>>=◌, because}
 use Rattle.pl_base.specs.Each.{each}
-use Rattle.pl_base.proofs.AnswerLaws.{bind_ok, ok_same}
+use Rattle.pl_base.proofs.AnswerLaws.{because_ok, bind_ok, ok_same}
 use Rattle.pl_object.specs.declared.object.Object.{Object}
-use Rattle.pl_object.proofs.AcceptedLaws.{because_ok}
 use Rattle.pl_scope.specs.Walking.{Walking, IsWalking, wants}
 use Rattle.pl_scope.specs.Walk.{Walked}
 use Rattle.pl_scope.specs.Walk as walk
@@ -60,13 +59,13 @@ entry_is l m n bytes is given =
       is = sym (ok_same (with_file l q.0 (record { name = n; bytes = bytes; object = p.0 })) m q.2);
     }
 
+not_given : (n : List ℕ) (m : Loading) → Err (NotThere n) ≡ Ok m → ⊥
+not_given n m e = cc
+
 -- one more file was given
 pub give_more : (l m : Loading) (n : List ℕ) (file : Option (List ℕ)) → wants l.order ≡ Some n → give l file ≡ Ok m → m.order.given ≡ l.order.given + 1
 unfolding taken
-give_more l m n None is given = absurd (no m (sym (ap (of_wanted l None) is) ∙ given))
-  where
-    no : (m : Loading) → Err (NotThere n) ≡ Ok m → ⊥
-    no m e = cc
+give_more l m n None is given = absurd (not_given n m (sym (ap (of_wanted l None) is) ∙ given))
 give_more l m n (Some bytes) is given =
     let e = entry_is l m n bytes is given in
     ap (λ (k : Loading). k.order.given) e.is ∙ give_given l.order e.order n e.object is e.given
@@ -104,10 +103,7 @@ load_begins fault file name = record {
 pub load_goes_on : {E : Type 0} (fault : LoadFault → E) (file : List ℕ → Result (List ℕ) E) (name n : List ℕ) (given : Option (List ℕ)) (l m : Loading) → wants l.order ≡ Some n → IsFile fault file n given → give l given ≡ Ok m
     → IsUnderWay fault file name l → IsUnderWay fault file name m
 unfolding taken
-load_goes_on fault file name n None l m is there went way = absurd (no m (sym (ap (of_wanted l None) is) ∙ went))
-  where
-    no : (m : Loading) → Err (NotThere n) ≡ Ok m → ⊥
-    no m e = cc
+load_goes_on fault file name n None l m is there went way = absurd (not_given n m (sym (ap (of_wanted l None) is) ∙ went))
 load_goes_on {E} fault file name n (Some bytes) l m is there went way =
     let e = entry_is l m n bytes is went in
     let f : ObjectFile = record { name = n; bytes = bytes; object = e.object } in

@@ -68,7 +68,7 @@ shaped : (bytes : List ℕ) (o : Object) → reads bytes ≡ Ok o → IsShaped o
 unfolding static_object object headers
 shaped bytes o e =
     read_holds IsShaped bytes (λ h is. record { span = refl; align = refl; dynamic = λ library. absurd (false≢true library) })
-    (λ h d l is. record { span = refl; align = refl; dynamic = λ library. dynamic_loaded bytes (headers bytes h).segments d is.table }) o e
+    (λ h d l is. record { span = refl; align = refl; dynamic = λ library. dynamic_loaded bytes (headers bytes h).segments d is.entries }) o e
 
 -- ---- the span
 

@@ -79,7 +79,7 @@ impl Loader {
         ensures begun { IfOk result (λ loader. loader ≡ spec.begun name.now) }
         // all files of the walk of the name are still to come
         ensures begins { IfOk result (λ loader. (file : List ℕ → Result (List ℕ) faults.LoadFault) → spec.IsUnderWay spec.itself file name.now loader) }
-        // and the whole load means no want of memory, where none of the files does
+        // a law over definitions: the whole load means no want of memory where what is told of its files does not
         ensures never_memory { (file : List ℕ → Result (List ℕ) faults.LoadFault) → ((n : List ℕ) → Tells is_memory (file n)) → Tells is_memory (start.load spec.itself file name.now) }
     {
         Ok(Loader {

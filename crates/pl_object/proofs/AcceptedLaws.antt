@@ -6,7 +6,7 @@ use Rattle.std.specs.Result.{is_ok}
 use Rattle.std.proofs.lemmas.Bool.{cases_Bool, or_parts, and_parts, leb-true}
 use Rattle.std.proofs.lemmas.List.{length-take}
 use Rattle.pl_base.specs.Answers.{◌>>=◌, Answers, unless_found, because}
-use Rattle.pl_base.proofs.AnswerLaws.{refuse_none, bind_ok, ok_same, unless_ok}
+use Rattle.pl_base.proofs.AnswerLaws.{refuse_none, because_ok, bind_ok, ok_same, unless_ok}
 use Rattle.pl_base.specs.Windows.{Window, end_of}
 use Rattle.pl_elf.specs.Headers.{segments, sections, loads}
 use Rattle.pl_elf.specs.Clauses as elf
@@ -39,10 +39,6 @@ use Rattle.pl_object.proofs.ExtentLaws.{is_in, header_read, link_windows_in, sta
 use Rattle.pl_object.proofs.NameLaws.{symbols_fit, length-versioned}
 
 -- ---- results that are not refused
-
-pub because_ok : {X E F : Type 0} (fault : E → F) (r : Result X E) (x : X) → because fault r ≡ Ok x → r ≡ Ok x
-because_ok {X} {E} fault (Ok y) x e = let same : y ≡ x = cc in ap (λ (z : X). Ok z) same
-because_ok fault (Err f) x e = absurd cc
 
 unfound : {A X E : Type 0} (found : Option A) (fault : A → E) (next : Result X E) (x : X) → unless_found found fault next ≡ Ok x → (found ≡ None) × (next ≡ Ok x)
 unfound (Some a) fault next x e = absurd cc
@@ -134,12 +130,12 @@ pub record IsStatic (bytes : List ℕ) (h : Header) : Type 0 where
 pub record IsDynamic (bytes : List ℕ) (h : Header) (d : Dynamic) (l : Linking) : Type 0 where
   pub read : elf.read bytes ≡ Ok h
   pub other : elf.is_static bytes h ≡ false
-  pub table : table bytes (segments bytes h) ≡ Ok d
+  pub entries : table bytes (segments bytes h) ≡ Ok d
   pub tables : check_tables h (segments bytes h) (sections bytes h) d.tags ≡ Ok tt
   pub names : linking bytes (headers bytes h) d.tags ≡ Ok l
   pub checks : check bytes (headers bytes h) d.tags l (layout bytes (headers bytes h) d.tags l) ≡ Ok tt
 
--- what holds of a static program and of an object with a dynamic table holds of each object that is read
+-- a property of the object of every static program and of every file with a dynamic table holds of each object that is read
 pub read_holds : (P : Object → Type 0) (bytes : List ℕ) → ((h : Header) → IsStatic bytes h → P (static_object (headers bytes h)))
     → ((h : Header) (d : Dynamic) (l : Linking) → IsDynamic bytes h d l → P (object (headers bytes h) d l (layout bytes (headers bytes h) d.tags l))) → (o : Object) → reads bytes ≡ Ok o → P o
 unfolding reads parts static_program dynamic_object checked headers
@@ -158,7 +154,7 @@ read_holds P bytes static dynamic o e =
           let l = bind_ok (linking bytes f d.0.tags) (λ l. checked bytes f d.0 l (layout bytes f d.0.tags l)) o t.2 in
           let places = layout bytes f d.0.tags l.0 in
           let c = bind_ok (check bytes f d.0.tags l.0 places) (λ _. Ok (object f d.0 l.0 places)) o l.2 in
-          let is : IsDynamic bytes h d.0 l.0 = record { read = read; other = other; table = because_ok of_dynamic (table bytes f.segments) d.0 d.1; tables = t.1; names = l.1; checks = c.1 } in
+          let is : IsDynamic bytes h d.0 l.0 = record { read = read; other = other; entries = because_ok of_dynamic (table bytes f.segments) d.0 d.1; tables = t.1; names = l.1; checks = c.1 } in
           subst P {x = object f d.0 l.0 places} (ok_same (object f d.0 l.0 places) o c.2) (dynamic h d.0 l.0 is)
     ]
 

@@ -39,6 +39,9 @@ none_empty : (v : Window) (ws : List Window) → v.size ≡ 0 → list_any (shar
 none_empty v [] e = refl
 none_empty v (w ∷ ws) e = rw (empty_shares v w e) (none_empty v ws e)
 
+sized : (n : ℕ) → (n ≡ 0 → ⊥) → 0 < n
+sized n other = grind arith
+
 -- those after the next share none with the last, where the next does not
 none_later : (last w : Window) (ws : List Window) → last.at ≤ w.at → 0 < w.size → Above w.at ws → share last w ≡ false → list_any (share last) ws ≡ false
 none_later last w ws le some above apart =
@@ -46,9 +49,6 @@ none_later last w ws le some above apart =
       | inl e ↦ none_empty last ws e.1
       | inr e ↦ none_behind last ws w.at (ends_before last w le some (sized last.size e.1) apart) above
     ]
-  where
-    sized : (n : ℕ) → (n ≡ 0 → ⊥) → 0 < n
-    sized n other = grind arith
 
 sweep_sized : (b : Bool) (last w : Window) (ws : List Window) → share last w ≡ b → (b ≡ false → list_any (share last) ws ≡ false) → sweep w ws ≡ (list_any (share w) ws || any_share ws)
     → (share last w || sweep w ws) ≡ (list_any (share last) (w ∷ ws) || any_share (w ∷ ws))
@@ -63,9 +63,6 @@ sweep_is last (w ∷ ws) rising above =
       | inl e ↦ rw (e.0, share_empty last w e.1, none_empty w ws e.1) (sweep_is last ws rising.1 above.1)
       | inr e ↦ rw e.0 (sweep_sized (share last w) last w ws refl (λ apart. none_later last w ws above.0 (sized w.size e.1) rising.0 apart) (sweep_is w ws rising.1 rising.0))
     ]
-  where
-    sized : (n : ℕ) → (n ≡ 0 → ⊥) → 0 < n
-    sized n other = grind arith
 
 -- ---- as far as a loop has come
 

@@ -358,7 +358,7 @@ pub fn accept(alloc: Global, bytes: &[u8]) -> Result<Object, Refusal>
     requires { length bytes.now < 2 ^ 32 }
     ensures exact { Answers is_memory result (spec.reads bytes.now) }
     ensures facts { IfOk result (λ o. Accepted bytes.now o) }
-    // and a want of memory is what no file means
+    // a law over definitions: no file means a want of memory
     ensures never_memory { Tells is_memory (spec.reads bytes.now) }
 {
     read_object(alloc, bytes)

@@ -1,15 +1,16 @@
 -- Places in turn: one want more, and what all places are.
 use Rattle.std.proofs.Common.{◌≡◌, ℕ, ◌+◌, ◌≤◌, ◌<◌, true, false, ◌&&◌, List, [], ◌∷◌, ◌++◌, Option, Some, None, refl, sym, ◌∙◌, ap, subst, arith, length, drop, get_or, cond, append_assoc, append-nil, inl, inr}
 use Rattle.std.specs.Prelude.{nat_le, nat_lt, min, max, Result, Ok, Err, IfErr, IfSome}
-use Rattle.std.proofs.lemmas.Bool.{cases_Bool, leb-true, le-leb, lt-ltb, ltb-true, and_parts, and_from, or_cases, or_left, or_right, false_from_ne_true, false≢true}
+use Rattle.std.proofs.lemmas.Bool.{cases_Bool, leb-true, le-leb, ltb-true, and_parts, and_from, or_cases, or_left, or_right, false_from_ne_true, false≢true}
 use Rattle.std.proofs.lemmas.List.{at_drop_more, at_drop_all}
 use Rattle.std.proofs.lemmas.List.Folds.{list_any-append}
 use Rattle.std.specs.Borrow.{Bor}
 use Rattle.pl_base.proofs.TestLaws.{no_both}
 use Rattle.pl_elf.specs.declared.range.Range.{Range}
 use Rattle.pl_slots.specs.Holes.{hole, cut, without, is_free, fits_at, IsLowest}
-use Rattle.pl_elf.specs.Ranges.{has}
+use Rattle.pl_elf.specs.Ranges.{has, range_from}
 use Rattle.pl_slots.proofs.HoleLaws.{free_without}
+use Rattle.pl_slots.proofs.ServeLaws.{fits_free}
 use Rattle.pl_slots.specs.declared.slot.Want.{Want}
 use Rattle.pl_place.specs.declared.fault.PlaceFault.{PlaceFault}
 use Rattle.pl_place.specs.declared.fault.PlaceFault.TheVariants.{NoPlace, NoMemory}
@@ -108,25 +109,17 @@ pub all_fit : (post : Answering) (holes : List Range) (wants : List Want) (start
 all_fit post holes wants starts placed = placed_fit post holes wants starts placed.in_turn
 
 -- the addresses of what fits are free
-fits_free : (address span start : ℕ) (holes : List Range) → fits_at holes span start ≡ true → has address (record { start = start; end = start + span }) ≡ true → is_free address holes ≡ true
-fits_free address span start [] fits within = absurd (false≢true fits)
-fits_free address span start (h ∷ holes) fits within =
+fit_is_free : (address span start : ℕ) (holes : List Range) → fits_at holes span start ≡ true → has address (range_from start span) ≡ true → is_free address holes ≡ true
+fit_is_free address span start holes fits within =
     let parts = and_parts (nat_le start address) (nat_lt address (start + span)) within in
-    elim (or_cases (nat_le h.start start && nat_le (start + span) h.end) (fits_at holes span start) fits) [
-      | inl first ↦
-          let ends = and_parts (nat_le h.start start) (nat_le (start + span) h.end) first in
-          or_left (has address h) (is_free address holes) (and_from _ _
-          (le-leb h.start address (omega (arith, leb-true h.start start ends.0, leb-true start address parts.0)))
-          (lt-ltb address h.end (omega (arith, leb-true (start + span) h.end ends.1, ltb-true address (start + span) parts.1))))
-      | inr later ↦ or_right (has address h) (is_free address holes) (fits_free address span start holes later within)
-    ]
+    fits_free holes span start address fits (leb-true start address parts.0) (ltb-true address (start + span) parts.1)
 
 misses : (taken : Range) (holes : List Range) (wants : List Want) (starts : List ℕ) → AllFit (without taken holes) wants starts → MissesAll taken wants starts
 misses taken holes [] starts all = tt
 misses taken holes (want ∷ wants) [] all = tt
 misses taken holes (want ∷ wants) (start ∷ starts) all = (
   λ address hit. false_from_ne_true (has address (range_of want start)) (λ there.
-      no_both (is_free address holes) (has address taken) (sym (free_without address taken holes) ∙ fits_free address want.span start (without taken holes) all.0.1 there) hit),
+      no_both (is_free address holes) (has address taken) (sym (free_without address taken holes) ∙ fit_is_free address want.span start (without taken holes) all.0.1 there) hit),
   misses taken holes wants starts all.1,
 )
 
@@ -135,7 +128,7 @@ pub fit_free : (region : Range) (busy : List Range) (wants : List Want) (starts 
 fit_free region busy [] starts all = tt
 fit_free region busy (want ∷ wants) [] all = tt
 fit_free region busy (want ∷ wants) (start ∷ starts) all = (
-  λ address within. sym (free_left address region busy) ∙ fits_free address want.span start (left region busy) all.0.1 within,
+  λ address within. sym (free_left address region busy) ∙ fit_is_free address want.span start (left region busy) all.0.1 within,
   fit_free region busy wants starts all.1,
 )
 

@@ -1,4 +1,4 @@
 pub mod WalkLaws
-pub mod MemoryLaws
+pub mod TellsLaws
 pub mod MemberLaws
 pub mod SearchLaws

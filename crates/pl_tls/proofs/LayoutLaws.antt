@@ -1,5 +1,5 @@
 -- The modules of blocks, block by block.
-use Rattle.std.proofs.Common.{◌≡◌, ℕ, ◌+◌, ◌<◌, ◌≤◌, true, false, List, [], ◌∷◌, ◌++◌, length, get_or, drop, Option, Some, None, Ok, Err, refl, sym, ap, ◌∙◌, append_assoc, add-one, arith, drop-cons}
+use Rattle.std.proofs.Common.{◌≡◌, ℕ, ◌+◌, ◌<◌, ◌≤◌, true, false, List, [], ◌∷◌, ◌++◌, length, get_or, drop, Option, Some, None, Ok, Err, refl, sym, ap, ◌∙◌, append_assoc, arith}
 use Rattle.std.specs.List.{list_any}
 use Rattle.std.proofs.Math.Seq.{drop-length}
 use Rattle.std.proofs.lemmas.List.{append-nil, drop_more}
@@ -68,7 +68,7 @@ are_all blocks index number reached modules e so_far =
     let all : modules_from 0 1 0 blocks ≡ modules = sym so_far.all ∙ rw (e, drop-length blocks) (append-nil modules) in
     rw (all, so_far.near) refl
 
--- a want of memory is meant of no blocks
+-- the offsets of any blocks: a value, or a fault that is no want of memory
 pub offsets_tell : (blocks : List (Option Block)) → Tells is_memory (offsets blocks)
 unfolding offsets
 offsets_tell blocks = unless_tells is_memory _ _ _ refl (ok_tells is_memory _)

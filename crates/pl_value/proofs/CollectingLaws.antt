@@ -15,16 +15,17 @@ use Rattle.pl_value.specs.declared.fault.OrdinaryFault.{OrdinaryFault}
 use Rattle.pl_value.specs.declared.fault.OrdinaryFault.TheVariants.{Link, NoMemory}
 use Rattle.pl_value.specs.declared.meaning.Meaning.{Meaning}
 
+-- a link refusal of an image is that of its meanings
+pub linked_err : {X : Type 0} (r : Result X LinkFault) (fault : LinkFault) → ◌≡◌ {A = Result X OrdinaryFault} (because Link r) (Err (Link fault)) → r ≡ Err fault
+linked_err (Ok x) fault e = absurd cc
+linked_err (Err k) fault e = let same : k ≡ fault = cc in ap (λ f. Err f) same
+
 -- the first of two lists is refused, or there was no memory for it
 front_stops_or : {A B : Type 0} (f : A → Result B LinkFault) (xs ys : List A) (front : List B) (e : OrdinaryFault) (whole : Result (List B) LinkFault) → MatchBool (is_memory e) ⊤ (because Link (with_front front (each f xs)) ≡ Err e)
     → with_front front (each f (xs ++ ys)) ≡ whole → MatchBool (is_memory e) ⊤ (because Link whole ≡ Err e)
 front_stops_or f xs ys front NoMemory whole stop so_far = tt
 front_stops_or f xs ys front (Link fault) whole stop so_far =
     ap (because Link) (sym so_far ∙ front_stops f xs ys front fault (linked_err (with_front front (each f xs)) fault stop))
-  where
-    linked_err : {X : Type 0} (r : Result X LinkFault) (fault : LinkFault) → ◌≡◌ {A = Result X OrdinaryFault} (because Link r) (Err (Link fault)) → r ≡ Err fault
-    linked_err (Ok x) fault e = absurd cc
-    linked_err (Err k) fault e = let same : k ≡ fault = cc in ap (λ f. Err f) same
 
 -- ---- the relocations of a member
 

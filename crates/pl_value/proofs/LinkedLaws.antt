@@ -6,6 +6,7 @@ use Rattle.std.specs.Option.{option_to_list}
 use Rattle.std.proofs.lemmas.List.{take_more}
 use Rattle.std.proofs.lemmas.List.Elements.{filter_map-append}
 use Rattle.pl_base.specs.Answers.{because}
+use Rattle.pl_base.proofs.AnswerLaws.{because_ok}
 use Rattle.pl_base.specs.Memory.{Memory, Fill, filled, layered, shown}
 use Rattle.pl_base.proofs.MemoryLaws.{filled-append}
 use Rattle.pl_image.specs.Image.{Image, all_pieces, any_masked, byte_of}
@@ -13,13 +14,13 @@ use Rattle.pl_image.specs.declared.loaded.Loaded.{Loaded}
 use Rattle.pl_value.specs.Linked.{put_of, copy_of, words, copies, worded, relocated}
 use Rattle.pl_tls.specs.declared.module.Module.{Module}
 use Rattle.pl_object.specs.declared.object.Object.{Object}
-use Rattle.pl_object.proofs.AcceptedLaws.{because_ok}
 use Rattle.pl_value.specs.Meanings.{meanings, is_memory}
 use Rattle.pl_value.specs.Ordinary.{loaded, shown_linked, ordinary, IsOrdinary}
 use Rattle.pl_value.specs.declared.fault.LinkFault.{LinkFault}
 use Rattle.pl_value.specs.declared.fault.OrdinaryFault.{OrdinaryFault}
 use Rattle.pl_value.specs.declared.fault.OrdinaryFault.TheVariants.{Link, NoMemory}
 use Rattle.pl_value.specs.declared.meaning.Meaning.{Meaning}
+use Rattle.pl_value.proofs.CollectingLaws.{linked_err}
 
 single : {X Y : Type 0} (h : X → Option Y) (x : X) (o : Option Y) → h x ≡ o → filter_map h (x ∷ []) ≡ option_to_list o
 single h x None is = rw is refl
@@ -74,7 +75,3 @@ pub refused_ordinary : (objects : List Object) (parts : List (List ℕ)) (places
 unfolding ordinary
 refused_ordinary objects parts places modules NoMemory stop = tt
 refused_ordinary objects parts places modules (Link fault) stop = rw (linked_err (meanings objects places modules) fault stop) refl
-  where
-    linked_err : (r : Result (List Meaning) LinkFault) (fault : LinkFault) → ◌≡◌ {A = Result (List Meaning) OrdinaryFault} (because Link r) (Err (Link fault)) → r ≡ Err fault
-    linked_err (Ok x) fault e = absurd cc
-    linked_err (Err k) fault e = let same : k ≡ fault = cc in ap (λ f. Err f) same

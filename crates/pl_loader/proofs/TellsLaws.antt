@@ -1,7 +1,7 @@
--- A load means no want of memory where no file that it is told of does.
+-- A load means no want of memory where nothing that it is told of files does.
 use Rattle.std.proofs.Common.{◌≡◌, refl, ℕ, Bool, false, List, [], ◌∷◌, Result}
 use Rattle.pl_base.specs.Answers.{Tells}
-use Rattle.pl_base.proofs.TellsLaws.{ok_tells, unless_tells, or_tells, then_tells, because_tells, cause_tells, each_tells}
+use Rattle.pl_base.proofs.TellsLaws.{Keeps, ok_tells, unless_tells, or_tells, then_tells, because_tells, cause_tells, each_tells}
 use Rattle.pl_elf.specs.declared.range.Range.{Range}
 use Rattle.pl_tls.specs.Layout as tls
 use Rattle.pl_tls.specs.declared.module.Module.{Module}
@@ -15,7 +15,7 @@ use Rattle.pl_object.proofs.RefusalLaws.{reads_tells}
 use Rattle.pl_scope.specs.Walk as walk
 use Rattle.pl_scope.specs.declared.fault.WalkFault.{WalkFault}
 use Rattle.pl_scope.specs.declared.fault.WalkFault.TheVariants as walk_variant
-use Rattle.pl_scope.proofs.MemoryLaws.{walk_tells}
+use Rattle.pl_scope.proofs.TellsLaws.{walk_tells}
 use Rattle.pl_slots.specs.declared.slot.Want.{Want}
 use Rattle.pl_value.specs.declared.fault.LinkFault.{LinkFault}
 use Rattle.pl_value.specs.declared.fault.LinkFault.TheVariants as link
@@ -54,11 +54,7 @@ object_tells : (name n bytes : List ℕ) → Tells is_memory (object_in name n b
 unfolding object_in loadable
 object_tells name n bytes = then_tells is_memory _ _ (because_tells object.is_memory is_memory (of_refusal n) _ (of_refusal_tells n) (reads_tells bytes)) (λ o. unless_tells is_memory _ _ _ refl (ok_tells is_memory o))
 
--- a fault of the load, as the caller tells it, is a want of memory only where it is one
-abbrev Keeps : {E : Type 0} → (LoadFault → E) → (E → Bool) → Type 0
-Keeps fault m = (f : LoadFault) → is_memory f ≡ false → m (fault f) ≡ false
-
-files_tell : {E : Type 0} (fault : LoadFault → E) (m : E → Bool) (file : List ℕ → Result (List ℕ) E) (name : List ℕ) → Keeps fault m → ((n : List ℕ) → Tells m (file n)) → Tells m (files fault file name)
+files_tell : {E : Type 0} (fault : LoadFault → E) (m : E → Bool) (file : List ℕ → Result (List ℕ) E) (name : List ℕ) → Keeps is_memory m fault → ((n : List ℕ) → Tells m (file n)) → Tells m (files fault file name)
 unfolding files walked object_of
 files_tell fault m file name keeps tells =
     then_tells m _ _
@@ -89,7 +85,7 @@ started_tells fs =
 
 -- ---- the whole
 
-pub load_tells : {E : Type 0} (fault : LoadFault → E) (m : E → Bool) (file : List ℕ → Result (List ℕ) E) (name : List ℕ) → ((f : LoadFault) → is_memory f ≡ false → m (fault f) ≡ false) → ((n : List ℕ) → Tells m (file n)) → Tells m (load fault file name)
+pub load_tells : {E : Type 0} (fault : LoadFault → E) (m : E → Bool) (file : List ℕ → Result (List ℕ) E) (name : List ℕ) → Keeps is_memory m fault → ((n : List ℕ) → Tells m (file n)) → Tells m (load fault file name)
 unfolding load
 load_tells fault m file name keeps tells = then_tells m _ _ (files_tell fault m file name keeps tells) (λ all. because_tells is_memory m fault _ keeps (started_tells all))
 

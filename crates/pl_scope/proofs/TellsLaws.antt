@@ -1,7 +1,7 @@
 -- The walk means no want of memory where nothing that it is told of objects does.
 use Rattle.std.proofs.Common.{◌≡◌, refl, ℕ, zero, suc, Bool, false, List, Option, Some, None, Result}
 use Rattle.pl_base.specs.Answers.{Tells}
-use Rattle.pl_base.proofs.TellsLaws.{ok_tells, unless_tells, found_tells, either_tells, then_tells, because_tells, run_tells}
+use Rattle.pl_base.proofs.TellsLaws.{Keeps, ok_tells, unless_tells, found_tells, either_tells, then_tells, because_tells, run_tells}
 use Rattle.pl_object.specs.declared.object.Object.{Object}
 use Rattle.pl_scope.specs.Walking.{Walking, wants}
 use Rattle.pl_scope.specs.Walk.{Walked, is_memory, added, checked, entered, at_wanted, at_most, remaining, begun, walk}
@@ -24,7 +24,7 @@ wanted_tells : {E : Type 0} (m : E → Bool) (wanted : Option (List ℕ)) (step 
 wanted_tells m None step ts = ok_tells m _
 wanted_tells m (Some n) step ts = ts n
 
-most_tells : {E : Type 0} (fault : WalkFault → E) (m : E → Bool) (files : List ℕ → Result Object E) → ((f : WalkFault) → is_memory f ≡ false → m (fault f) ≡ false) → ((n : List ℕ) → Tells m (files n))
+most_tells : {E : Type 0} (fault : WalkFault → E) (m : E → Bool) (files : List ℕ → Result Object E) → Keeps is_memory m fault → ((n : List ℕ) → Tells m (files n))
     → (most : ℕ) (w : Walking) → Tells m (at_most fault files most w)
 unfolding at_most
 most_tells fault m files keeps tells zero w = ok_tells m _
@@ -32,7 +32,7 @@ most_tells fault m files keeps tells (suc most) w =
     wanted_tells m (wants w) _ (λ n. then_tells m _ _ (tells n) (λ o. then_tells m _ _ (because_tells is_memory m fault _ keeps (entered_tells w n o))
     (λ v. then_tells m _ _ (most_tells fault m files keeps tells most v) (λ rest. ok_tells m _))))
 
-pub walk_tells : {E : Type 0} (fault : WalkFault → E) (m : E → Bool) (files : List ℕ → Result Object E) (name : List ℕ) → ((f : WalkFault) → is_memory f ≡ false → m (fault f) ≡ false) → ((n : List ℕ) → Tells m (files n))
+pub walk_tells : {E : Type 0} (fault : WalkFault → E) (m : E → Bool) (files : List ℕ → Result Object E) (name : List ℕ) → Keeps is_memory m fault → ((n : List ℕ) → Tells m (files n))
     → Tells m (walk fault files name)
 unfolding walk remaining
 walk_tells fault m files name keeps tells = most_tells fault m files keeps tells MAX_MEMBERS (begun name)
