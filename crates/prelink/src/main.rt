@@ -1,12 +1,8 @@
 //! The program `prelink`: the top call over the folder that it runs in, its standard input and output, and the clock.
 #![tactic(auto)]
 
-mod host_folder;
-#[cfg(test)]
-mod tests;
-
-use host_folder::HostFolder;
 use pl_cli::{Status, run};
+use pl_hostdir::HostFolder;
 use pl_io::{StdSink, StdSource};
 use std::alloc::AllocError;
 use std::process::ExitCode;

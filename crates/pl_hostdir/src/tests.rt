@@ -1,4 +1,4 @@
-use crate::host_folder::HostFolder;
+use crate::HostFolder;
 use pl_folder::{Folder, FolderFault};
 use std::fs::Files;
 use std::os::unix::fs::PermissionsExt;
