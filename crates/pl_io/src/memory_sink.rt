@@ -1,7 +1,7 @@
 ghost use Rattle.std.specs.Prelude.{◌≡◌, ◌+◌, ◌&&◌, ◌||◌, ◌<◌, ◌≤◌, Some, [], take, length, min, not, is_ok, nat_lt, nat_le, vec_capacity, vec_len, IfOk, OnOk, OnErr};
 ghost use Rattle.pl_base.specs.Counts.{Rose};
 ghost use Rattle.pl_base.specs.Streams.{GotPrefix, got_after};
-ghost use Rattle.pl_io.specs.Scripts.{IsAfterCall, fails_next};
+ghost use Rattle.pl_io.specs.Scripts.{IsAfterCall, fails_next, one_more};
 
 use crate::{Failed, NoMemory, Script, Sink};
 use std::alloc::Global;
@@ -66,6 +66,7 @@ impl Sink for MemorySink {
         ensures bytes { IfOk result (λ n. Some (bytes_got self.new) ≡ got_after (Some (bytes_got self.old)) (take n from.now)) }
         ensures bytes_err { OnErr result (GotPrefix (Some (bytes_got self.old)) (Some (bytes_got self.new)) from.now) }
         ensures failed { OnErr result (Rose (sink_script self.old).faults (sink_script self.new).faults) }
+        ensures counted { OnErr result ((sink_script self.new).faults ≡ one_more (sink_script self.old).faults) }
         ensures quiet { OnOk result ((sink_script self.new).faults ≡ (sink_script self.old).faults) }
         ensures counts { (sink_script self.old).faults ≤ (sink_script self.new).faults }
         ensures scripted { is_ok result ≡ not (fails_next (sink_script self.old) || (nat_lt 0 (length from.now) && nat_le (room_left self.old) 0)) }

@@ -1,7 +1,7 @@
 ghost use Rattle.std.specs.Prelude.{◌≡◌, ◌≤◌, Some, length, min, not, is_ok, vec_len, IfOk, OnOk, OnErr};
 ghost use Rattle.pl_base.specs.Counts.{Rose};
 ghost use Rattle.pl_io.specs.Reads.{TookKnown};
-ghost use Rattle.pl_io.specs.Scripts.{IsAfterCall, fails_next};
+ghost use Rattle.pl_io.specs.Scripts.{IsAfterCall, fails_next, one_more};
 
 use crate::{Failed, Script, Source};
 
@@ -44,6 +44,7 @@ impl Source for MemorySource {
         ensures bound { IfOk result (λ n. n ≤ length into.old) }
         ensures bytes { IfOk result (λ n. TookKnown (Some (bytes_left self.old)) (Some (bytes_left self.new)) n into.old into.new) }
         ensures failed { OnErr result (Rose (source_script self.old).faults (source_script self.new).faults) }
+        ensures counted { OnErr result ((source_script self.new).faults ≡ one_more (source_script self.old).faults) }
         ensures quiet { OnOk result ((source_script self.new).faults ≡ (source_script self.old).faults) }
         ensures counts { (source_script self.old).faults ≤ (source_script self.new).faults }
         ensures scripted { is_ok result ≡ not (fails_next (source_script self.old)) }

@@ -1,6 +1,6 @@
 ghost use Rattle.std.specs.Prelude.{◌≡◌, ℕ, ◌≤◌, List, [], length, Option, Some, is_some, true, IfOk, IfErr, OnOk, OnErr};
 ghost use Rattle.pl_base.specs.Counts.{Rose};
-ghost use Rattle.pl_io.specs.Reads.{StopsReading, TookKnown};
+ghost use Rattle.pl_io.specs.Reads.{CountsFailed, StopsReading, TookKnown};
 
 use crate::{Failed, ReadFault};
 use std::alloc::Global;
@@ -28,13 +28,14 @@ const PIECE: usize = 4096;
 
 /// Reads all bytes of a source to its end, where they are at most `most`. It takes at most `most + 1` bytes, before a want of memory at most `most`.
 ///
-/// `TooLarge` comes where the source has more than `most` bytes left, and `Failed` only where its count of faults rose.
+/// `TooLarge` comes where the source has more than `most` bytes left, and `Failed` only where its count of faults rose, which it did for nothing else.
 pub fn read_all<S: Source>(alloc: Global, source: &mut S, most: usize) -> Result<Vec<u8>, ReadFault>
     ensures bytes { IfOk result (λ bytes. is_some (S.left source.old) ≡ true → S.left source.old ≡ Some bytes.items) }
     ensures end { OnOk result (is_some (S.left source.old) ≡ true → S.left source.new ≡ Some []) }
     ensures most { IfOk result (λ bytes. length bytes.items ≤ most) }
     ensures fault { IfErr result (StopsReading (S.left source.old) (S.left source.new) most (Rose (S.faults source.old) (S.faults source.new))) }
     ensures quiet { OnOk result (S.faults source.new ≡ S.faults source.old) }
+    ensures quiet_fault { IfErr result (CountsFailed (S.faults source.new ≡ S.faults source.old)) }
     ensures tells { is_some (S.left source.new) ≡ is_some (S.left source.old) }
     ensures counts { S.faults source.old ≤ S.faults source.new }
 {

@@ -3,6 +3,7 @@ ghost use Rattle.std.specs.Io.KnownBytes.{WriteAppends};
 ghost use Rattle.pl_base.specs.Counts.{Rose};
 ghost use Rattle.pl_base.specs.Streams.{GotPrefix};
 ghost use Rattle.pl_io.specs.Outside.{sink_faults, sink_writer};
+ghost use Rattle.pl_io.specs.Scripts.{one_more};
 
 use crate::{Failed, Sink};
 use std::io::Write;
@@ -17,7 +18,8 @@ pub struct StdSink<W: Write> {
 impl<W: Write> StdSink<W> {
     /// A sink over a writer.
     pub fn new(writer: W) -> StdSink<W>
-        ensures { ⟦<StdSink<W> as Sink>⟧.faults result ≡ 0 }
+        ensures faults { ⟦<StdSink<W> as Sink>⟧.faults result ≡ 0 }
+        ensures writer { sink_writer result ≡ writer }
     {
         StdSink { writer, faults: 0 }
     }
@@ -34,6 +36,7 @@ impl<W: Write> Sink for StdSink<W> {
         ensures some { IfOk result (λ n. 0 < length from.now → 0 < n) }
         ensures bytes_err { OnErr result (GotPrefix None None from.now) }
         ensures failed { OnErr result (Rose (sink_faults self.old) (sink_faults self.new)) }
+        ensures counted { OnErr result (sink_faults self.new ≡ one_more (sink_faults self.old)) }
         ensures quiet { OnOk result (sink_faults self.new ≡ sink_faults self.old) }
         ensures counts { sink_faults self.old ≤ sink_faults self.new }
         // Where the writer tells its bytes, it has got as many as are answered, and none after an error.

@@ -2,6 +2,7 @@ ghost use Rattle.std.specs.Prelude.{◌≡◌, ◌≤◌, None, length, IfOk, On
 ghost use Rattle.std.specs.Io.KnownBytes.{ReadConsumes};
 ghost use Rattle.pl_base.specs.Counts.{Rose};
 ghost use Rattle.pl_io.specs.Outside.{source_faults, source_reader};
+ghost use Rattle.pl_io.specs.Scripts.{one_more};
 
 use crate::{Failed, Source};
 use std::io::Read;
@@ -16,7 +17,8 @@ pub struct StdSource<R: Read> {
 impl<R: Read> StdSource<R> {
     /// A source over a reader.
     pub fn new(reader: R) -> StdSource<R>
-        ensures { ⟦<StdSource<R> as Source>⟧.faults result ≡ 0 }
+        ensures faults { ⟦<StdSource<R> as Source>⟧.faults result ≡ 0 }
+        ensures reader { source_reader result ≡ reader }
     {
         StdSource { reader, faults: 0 }
     }
@@ -31,6 +33,7 @@ impl<R: Read> Source for StdSource<R> {
     fn read(&mut self, into: &mut [u8]) -> Result<usize, Failed>
         ensures bound { IfOk result (λ n. n ≤ length into.old) }
         ensures failed { OnErr result (Rose (source_faults self.old) (source_faults self.new)) }
+        ensures counted { OnErr result (source_faults self.new ≡ one_more (source_faults self.old)) }
         ensures quiet { OnOk result (source_faults self.new ≡ source_faults self.old) }
         ensures counts { source_faults self.old ≤ source_faults self.new }
         // Where the reader tells its bytes, those that are answered are taken from it, none only at its end, and none after an error.
