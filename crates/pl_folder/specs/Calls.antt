@@ -28,6 +28,13 @@ Stops why NotThere = ⊥
 Stops why TooLarge = ⊥
 Stops why NoMemory = ⊤
 
+-- the count of faults stays the same, but for a fault of the folder
+abbrev pub OnlyFailedCounts : Type 0 → FolderFault → Type 0
+OnlyFailedCounts same Failed = ⊤
+OnlyFailedCounts same NotThere = same
+OnlyFailedCounts same TooLarge = same
+OnlyFailedCounts same NoMemory = same
+
 -- the files after a fault: where the folder failed the call may be done, else the files are as before
 abbrev pub Leaves : Files → Files → Files → FolderFault → Type 0
 Leaves old done new Failed = (new ≡ old) ⊎ (new ≡ done)

@@ -3,7 +3,7 @@ ghost use Rattle.std.specs.FinMap.{contains_key, keys, remove};
 ghost use Rattle.pl_base.specs.Counts.{Rose};
 ghost use Rattle.pl_base.specs.Files.{Files};
 ghost use Rattle.pl_base.specs.Names.{IsNameLength};
-ghost use Rattle.pl_folder.specs.Calls.{Leaves, LeavesPrefix, Stops, appended, created, renamed};
+ghost use Rattle.pl_folder.specs.Calls.{Leaves, LeavesPrefix, OnlyFailedCounts, Stops, appended, created, renamed};
 ghost use Rattle.pl_folder.specs.Taken.{Explains, taken};
 
 use crate::{FolderFault, STORED};
@@ -12,7 +12,7 @@ use std::alloc::Global;
 
 /// A flat folder of files. Whether it tells its files is the same before and after each call.
 ///
-/// Each name that a call is given has 1 to 255 bytes. `Failed` comes only where the count of faults rose, and want of memory leaves the files as they were.
+/// Each name that a call is given has 1 to 255 bytes. `Failed` comes only where the count of faults rose, and at every other answer the count stays as it is. Want of memory leaves the files as they were.
 pub trait Folder {
     /// Whether the folder tells its files.
     ghost tells_files: { Self → Bool };
@@ -20,7 +20,7 @@ pub trait Folder {
     /// The files by their names, where the folder tells them.
     ghost files: { Self → Files };
 
-    /// How many calls have failed. The count never falls, stays as it is where a call answers Ok, and stands still at 2^64 - 1.
+    /// How many calls have failed. The count never falls, rises only where a call answers `Failed`, and stands still at 2^64 - 1.
     ghost faults: { Self → ℕ };
 
     /// Where a reference points. No call changes it.
@@ -34,6 +34,7 @@ pub trait Folder {
         ensures tells { tells_files self.new ≡ tells_files self.old }
         ensures same { tells_files self.old ≡ true → files self.new ≡ files self.old }
         ensures quiet { OnOk result (faults self.new ≡ faults self.old) }
+        ensures quiet_fault { IfErr result (OnlyFailedCounts (faults self.new ≡ faults self.old)) }
         ensures counts { faults self.old ≤ faults self.new }
         ensures place { place self.new ≡ place self.old };
 
@@ -48,6 +49,7 @@ pub trait Folder {
         ensures tells { tells_files self.new ≡ tells_files self.old }
         ensures same { tells_files self.old ≡ true → files self.new ≡ files self.old }
         ensures quiet { OnOk result (faults self.new ≡ faults self.old) }
+        ensures quiet_fault { IfErr result (OnlyFailedCounts (faults self.new ≡ faults self.old)) }
         ensures counts { faults self.old ≤ faults self.new }
         ensures place { place self.new ≡ place self.old };
 
@@ -59,6 +61,7 @@ pub trait Folder {
         ensures fault { IfErr result (Stops (Rose (faults self.old) (faults self.new))) }
         ensures tells { tells_files self.new ≡ tells_files self.old }
         ensures quiet { OnOk result (faults self.new ≡ faults self.old) }
+        ensures quiet_fault { IfErr result (OnlyFailedCounts (faults self.new ≡ faults self.old)) }
         ensures counts { faults self.old ≤ faults self.new }
         ensures place { place self.new ≡ place self.old };
 
@@ -71,6 +74,7 @@ pub trait Folder {
         ensures fault { IfErr result (Stops (Rose (faults self.old) (faults self.new))) }
         ensures tells { tells_files self.new ≡ tells_files self.old }
         ensures quiet { OnOk result (faults self.new ≡ faults self.old) }
+        ensures quiet_fault { IfErr result (OnlyFailedCounts (faults self.new ≡ faults self.old)) }
         ensures counts { faults self.old ≤ faults self.new }
         ensures place { place self.new ≡ place self.old };
 

@@ -30,7 +30,7 @@ StopsReading left after most why TooLarge = HasMore left after most
 StopsReading left after most why NoMemory = TookAtMost left after most
 
 -- the count of faults stays the same but for a fault of the source
-abbrev pub CountsFailed : Type 0 → ReadFault → Type 0
-CountsFailed same Failed = ⊤
-CountsFailed same TooLarge = same
-CountsFailed same NoMemory = same
+abbrev pub OnlyFailedCounts : Type 0 → ReadFault → Type 0
+OnlyFailedCounts same Failed = ⊤
+OnlyFailedCounts same TooLarge = same
+OnlyFailedCounts same NoMemory = same

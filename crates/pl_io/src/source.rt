@@ -1,6 +1,6 @@
 ghost use Rattle.std.specs.Prelude.{◌≡◌, ℕ, ◌≤◌, List, [], length, Option, Some, is_some, true, IfOk, IfErr, OnOk, OnErr};
 ghost use Rattle.pl_base.specs.Counts.{Rose};
-ghost use Rattle.pl_io.specs.Reads.{CountsFailed, StopsReading, TookKnown};
+ghost use Rattle.pl_io.specs.Reads.{OnlyFailedCounts, StopsReading, TookKnown};
 
 use crate::{Failed, ReadFault};
 use std::alloc::Global;
@@ -35,7 +35,7 @@ pub fn read_all<S: Source>(alloc: Global, source: &mut S, most: usize) -> Result
     ensures most { IfOk result (λ bytes. length bytes.items ≤ most) }
     ensures fault { IfErr result (StopsReading (S.left source.old) (S.left source.new) most (Rose (S.faults source.old) (S.faults source.new))) }
     ensures quiet { OnOk result (S.faults source.new ≡ S.faults source.old) }
-    ensures quiet_fault { IfErr result (CountsFailed (S.faults source.new ≡ S.faults source.old)) }
+    ensures quiet_fault { IfErr result (OnlyFailedCounts (S.faults source.new ≡ S.faults source.old)) }
     ensures tells { is_some (S.left source.new) ≡ is_some (S.left source.old) }
     ensures counts { S.faults source.old ≤ S.faults source.new }
 {
