@@ -28,12 +28,12 @@ Stops why NotThere = ⊥
 Stops why TooLarge = ⊥
 Stops why NoMemory = ⊤
 
--- the count of faults stays the same, but for a fault of the folder
-abbrev pub OnlyFailedCounts : Type 0 → FolderFault → Type 0
-OnlyFailedCounts same Failed = ⊤
-OnlyFailedCounts same NotThere = same
-OnlyFailedCounts same TooLarge = same
-OnlyFailedCounts same NoMemory = same
+-- P, unless the folder failed
+abbrev pub UnlessFailed : Type 0 → FolderFault → Type 0
+UnlessFailed P Failed = ⊤
+UnlessFailed P NotThere = P
+UnlessFailed P TooLarge = P
+UnlessFailed P NoMemory = P
 
 -- the files after a fault: where the folder failed the call may be done, else the files are as before
 abbrev pub Leaves : Files → Files → Files → FolderFault → Type 0

@@ -3,7 +3,7 @@ ghost use Rattle.std.specs.FinMap.{contains_key, keys, remove};
 ghost use Rattle.pl_base.specs.Counts.{Rose};
 ghost use Rattle.pl_base.specs.Files.{Files};
 ghost use Rattle.pl_base.specs.Names.{IsNameLength};
-ghost use Rattle.pl_folder.specs.Calls.{Leaves, LeavesPrefix, OnlyFailedCounts, Stops, appended, created, renamed};
+ghost use Rattle.pl_folder.specs.Calls.{Leaves, LeavesPrefix, UnlessFailed, Stops, appended, created, renamed};
 ghost use Rattle.pl_folder.specs.Taken.{Explains, taken};
 
 use crate::{FolderFault, STORED};
@@ -34,7 +34,7 @@ pub trait Folder {
         ensures tells { tells_files self.new ≡ tells_files self.old }
         ensures same { tells_files self.old ≡ true → files self.new ≡ files self.old }
         ensures quiet { OnOk result (faults self.new ≡ faults self.old) }
-        ensures quiet_fault { IfErr result (OnlyFailedCounts (faults self.new ≡ faults self.old)) }
+        ensures quiet_fault { IfErr result (UnlessFailed (faults self.new ≡ faults self.old)) }
         ensures counts { faults self.old ≤ faults self.new }
         ensures place { place self.new ≡ place self.old };
 
@@ -49,7 +49,7 @@ pub trait Folder {
         ensures tells { tells_files self.new ≡ tells_files self.old }
         ensures same { tells_files self.old ≡ true → files self.new ≡ files self.old }
         ensures quiet { OnOk result (faults self.new ≡ faults self.old) }
-        ensures quiet_fault { IfErr result (OnlyFailedCounts (faults self.new ≡ faults self.old)) }
+        ensures quiet_fault { IfErr result (UnlessFailed (faults self.new ≡ faults self.old)) }
         ensures counts { faults self.old ≤ faults self.new }
         ensures place { place self.new ≡ place self.old };
 
@@ -61,7 +61,7 @@ pub trait Folder {
         ensures fault { IfErr result (Stops (Rose (faults self.old) (faults self.new))) }
         ensures tells { tells_files self.new ≡ tells_files self.old }
         ensures quiet { OnOk result (faults self.new ≡ faults self.old) }
-        ensures quiet_fault { IfErr result (OnlyFailedCounts (faults self.new ≡ faults self.old)) }
+        ensures quiet_fault { IfErr result (UnlessFailed (faults self.new ≡ faults self.old)) }
         ensures counts { faults self.old ≤ faults self.new }
         ensures place { place self.new ≡ place self.old };
 
@@ -74,7 +74,7 @@ pub trait Folder {
         ensures fault { IfErr result (Stops (Rose (faults self.old) (faults self.new))) }
         ensures tells { tells_files self.new ≡ tells_files self.old }
         ensures quiet { OnOk result (faults self.new ≡ faults self.old) }
-        ensures quiet_fault { IfErr result (OnlyFailedCounts (faults self.new ≡ faults self.old)) }
+        ensures quiet_fault { IfErr result (UnlessFailed (faults self.new ≡ faults self.old)) }
         ensures counts { faults self.old ≤ faults self.new }
         ensures place { place self.new ≡ place self.old };
 

@@ -3,7 +3,7 @@ ghost use Rattle.std.specs.FinMap.{contains_key, keys, remove};
 ghost use Rattle.pl_base.specs.Counts.{Rose};
 ghost use Rattle.pl_base.specs.Files.{files_of};
 ghost use Rattle.pl_base.specs.Names.{IsNameLength};
-ghost use Rattle.pl_folder.specs.Calls.{LeavesPrefix, OnlyFailedCounts, Stops, appended, created, renamed};
+ghost use Rattle.pl_folder.specs.Calls.{LeavesPrefix, UnlessFailed, Stops, appended, created, renamed};
 ghost use Rattle.pl_folder.specs.FileLists.{are_files};
 ghost use Rattle.pl_folder.specs.InMemory.{IsCounted, call_fails, folder_files, folder_script, most_calls, taken_next};
 ghost use Rattle.pl_folder.specs.Taken.{Explains, taken};
@@ -78,7 +78,7 @@ impl Folder for MemoryFolder {
         ensures fault { IfErr result (Stops (Rose (folder_script self.old).faults (folder_script self.new).faults)) }
         ensures same { folder_files self.new ≡ folder_files self.old }
         ensures quiet { OnOk result ((folder_script self.new).faults ≡ (folder_script self.old).faults) }
-        ensures quiet_fault { IfErr result (OnlyFailedCounts ((folder_script self.new).faults ≡ (folder_script self.old).faults)) }
+        ensures quiet_fault { IfErr result (UnlessFailed ((folder_script self.new).faults ≡ (folder_script self.old).faults)) }
         ensures counts { (folder_script self.old).faults ≤ (folder_script self.new).faults }
         ensures scripted_ok { OnOk result (call_fails self.old ≡ false) }
         ensures scripted { IfErr result (Stops (call_fails self.old ≡ true)) }
@@ -94,7 +94,7 @@ impl Folder for MemoryFolder {
         ensures fault { IfErr result (Explains true (taken (folder_files self.old) name.now) (Rose (folder_script self.old).faults (folder_script self.new).faults)) }
         ensures same { folder_files self.new ≡ folder_files self.old }
         ensures quiet { OnOk result ((folder_script self.new).faults ≡ (folder_script self.old).faults) }
-        ensures quiet_fault { IfErr result (OnlyFailedCounts ((folder_script self.new).faults ≡ (folder_script self.old).faults)) }
+        ensures quiet_fault { IfErr result (UnlessFailed ((folder_script self.new).faults ≡ (folder_script self.old).faults)) }
         ensures counts { (folder_script self.old).faults ≤ (folder_script self.new).faults }
         ensures scripted_ok { IfOk result (λ bytes. taken_next self.old name.now ≡ Ok bytes.items) }
         ensures scripted { IfErr result (Explains true (taken_next self.old name.now) (call_fails self.old ≡ true)) }
@@ -116,7 +116,7 @@ impl Folder for MemoryFolder {
         ensures same { OnErr result (folder_files self.new ≡ folder_files self.old) }
         ensures fault { IfErr result (Stops (Rose (folder_script self.old).faults (folder_script self.new).faults)) }
         ensures quiet { OnOk result ((folder_script self.new).faults ≡ (folder_script self.old).faults) }
-        ensures quiet_fault { IfErr result (OnlyFailedCounts ((folder_script self.new).faults ≡ (folder_script self.old).faults)) }
+        ensures quiet_fault { IfErr result (UnlessFailed ((folder_script self.new).faults ≡ (folder_script self.old).faults)) }
         ensures counts { (folder_script self.old).faults ≤ (folder_script self.new).faults }
         ensures scripted_ok { OnOk result (call_fails self.old ≡ false) }
         ensures scripted { IfErr result (Stops (call_fails self.old ≡ true)) }
@@ -133,7 +133,7 @@ impl Folder for MemoryFolder {
         ensures same { OnErr result (folder_files self.new ≡ folder_files self.old) }
         ensures fault { IfErr result (Stops (Rose (folder_script self.old).faults (folder_script self.new).faults)) }
         ensures quiet { OnOk result ((folder_script self.new).faults ≡ (folder_script self.old).faults) }
-        ensures quiet_fault { IfErr result (OnlyFailedCounts ((folder_script self.new).faults ≡ (folder_script self.old).faults)) }
+        ensures quiet_fault { IfErr result (UnlessFailed ((folder_script self.new).faults ≡ (folder_script self.old).faults)) }
         ensures counts { (folder_script self.old).faults ≤ (folder_script self.new).faults }
         ensures scripted_ok { OnOk result (call_fails self.old ≡ false) }
         ensures scripted { IfErr result (Stops (call_fails self.old ≡ true)) }

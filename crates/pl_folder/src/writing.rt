@@ -2,7 +2,7 @@
 ghost use Rattle.std.specs.Prelude.{◌≡◌, ◌≤◌, true, IfErr, OnOk};
 ghost use Rattle.pl_base.specs.Counts.{Rose};
 ghost use Rattle.pl_base.specs.Names.{IsNameLength};
-ghost use Rattle.pl_folder.specs.Calls.{OnlyFailedCounts, Stops};
+ghost use Rattle.pl_folder.specs.Calls.{UnlessFailed, Stops};
 ghost use Rattle.pl_folder.specs.Replaced.{LeavesOldOrNew, replaced};
 
 use crate::{Folder, FolderFault};
@@ -25,7 +25,7 @@ pub fn replace<D: Folder>(
     ensures err { IfErr result (λ fault. D.tells_files folder.old ≡ true → LeavesOldOrNew (D.files folder.old) name.now bytes.now (D.files folder.new) fault) }
     ensures fault { IfErr result (Stops (Rose (D.faults folder.old) (D.faults folder.new))) }
     ensures quiet { OnOk result (D.faults folder.new ≡ D.faults folder.old) }
-    ensures quiet_fault { IfErr result (OnlyFailedCounts (D.faults folder.new ≡ D.faults folder.old)) }
+    ensures quiet_fault { IfErr result (UnlessFailed (D.faults folder.new ≡ D.faults folder.old)) }
     ensures tells { D.tells_files folder.new ≡ D.tells_files folder.old }
     ensures counts { D.faults folder.old ≤ D.faults folder.new }
     ensures place { D.place folder.new ≡ D.place folder.old }

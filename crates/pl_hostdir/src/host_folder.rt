@@ -2,7 +2,7 @@ ghost use Rattle.std.specs.Prelude.{◌≡◌, ◌≤◌, [], false};
 ghost use Rattle.std.specs.IoError.{error_kind};
 ghost use Rattle.pl_base.specs.Counts.{Rose};
 ghost use Rattle.pl_base.specs.Files.{files_of};
-ghost use Rattle.pl_folder.specs.Calls.{OnlyFailedCounts, Stops};
+ghost use Rattle.pl_folder.specs.Calls.{UnlessFailed, Stops};
 ghost use Rattle.pl_hostdir.specs.Errors.{calling_fault};
 
 use crate::files::{
@@ -45,7 +45,7 @@ impl<'a, R: Files + AllocGlobal + Clone + Drop> HostFolder<'a, R> {
     fn stop(&mut self, error: io::Error) -> FolderFault
         ensures kind { result ≡ calling_fault (error_kind error) }
         ensures fault { Stops (Rose self.old.faults self.new.faults) result }
-        ensures quiet { OnlyFailedCounts (self.new.faults ≡ self.old.faults) result }
+        ensures quiet { UnlessFailed (self.new.faults ≡ self.old.faults) result }
         ensures counts { self.old.faults ≤ self.new.faults }
     {
         if error.kind() == io::ErrorKind::OutOfMemory {

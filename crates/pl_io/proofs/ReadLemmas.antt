@@ -1,10 +1,12 @@
 -- Reading a source piece by piece: the bytes that it had are those that were read and those that are left.
 use Rattle.std.proofs.Common.{◌≡◌, ℕ, ◌+◌, ◌-◌, ◌≤◌, List, ◌++◌, length, length-append, length-drop, take, drop, Option, Some, None, refl, sym, ap, ◌∙◌, append_assoc, arith}
-use Rattle.std.specs.Prelude.{is_some}
+use Rattle.std.specs.Prelude.{is_some, IfErr, Result, Ok, Err}
 use Rattle.std.proofs.lemmas.Bool.{false≢true}
 use Rattle.std.proofs.lemmas.List.{take-append-drop}
 use Rattle.std.proofs.Math.Seq.{take-append_seam, drop-append_seam}
-use Rattle.pl_io.specs.Reads.{TookKnown, HasMore, TookAtMost}
+use Rattle.pl_io.specs.Reads.{TookKnown, HasMore, TookAtMost, StopsReading, UnlessFailed}
+use Rattle.pl_io.specs.declared.read_fault.ReadFault.{ReadFault}
+use Rattle.pl_io.specs.declared.read_fault.ReadFault.TheVariants.{Failed, TooLarge, NoMemory}
 
 -- these bytes, and then those that a source has left
 abbrev pub before : List ℕ → Option (List ℕ) → Option (List ℕ)
@@ -46,3 +48,18 @@ took_at_most (Some left) None got most is size = absurd (false≢true (ap (λ (o
 took_at_most (Some left) (Some rest) got most is size =
     let same : left ≡ got ++ rest = cc in
     (length got, size, ap Some (sym (ap (drop (length got)) same ∙ drop-append_seam got rest)))
+
+-- where the source did not fail, at most one byte more than it may have was taken
+pub one_more_at_most : (left after : Option (List ℕ)) (most : ℕ) → HasMore left after most → TookAtMost left after (most + 1)
+one_more_at_most None after most h = tt
+one_more_at_most (Some left) after most h = (most + 1, omega arith, h.1)
+
+at_most_more : (left after : Option (List ℕ)) (most : ℕ) → TookAtMost left after most → TookAtMost left after (most + 1)
+at_most_more None after most h = tt
+at_most_more (Some left) after most h = let short = h.1 in (h.0, omega (arith, short), h.2)
+
+pub stopped_took : {X : Type 0} (left after : Option (List ℕ)) (most : ℕ) (why : Type 0) (r : Result X ReadFault) → IfErr r (StopsReading left after most why) → IfErr r (UnlessFailed (TookAtMost left after (most + 1)))
+stopped_took left after most why (Ok x) h = tt
+stopped_took left after most why (Err Failed) h = tt
+stopped_took left after most why (Err TooLarge) h = one_more_at_most left after most h
+stopped_took left after most why (Err NoMemory) h = at_most_more left after most h

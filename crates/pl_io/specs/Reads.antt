@@ -29,8 +29,8 @@ StopsReading left after most why Failed = why
 StopsReading left after most why TooLarge = HasMore left after most
 StopsReading left after most why NoMemory = TookAtMost left after most
 
--- the count of faults stays the same but for a fault of the source
-abbrev pub OnlyFailedCounts : Type 0 → ReadFault → Type 0
-OnlyFailedCounts same Failed = ⊤
-OnlyFailedCounts same TooLarge = same
-OnlyFailedCounts same NoMemory = same
+-- P, unless the source failed
+abbrev pub UnlessFailed : Type 0 → ReadFault → Type 0
+UnlessFailed P Failed = ⊤
+UnlessFailed P TooLarge = P
+UnlessFailed P NoMemory = P

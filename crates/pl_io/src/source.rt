@@ -1,6 +1,6 @@
-ghost use Rattle.std.specs.Prelude.{◌≡◌, ℕ, ◌≤◌, List, [], length, Option, Some, is_some, true, IfOk, IfErr, OnOk, OnErr};
+ghost use Rattle.std.specs.Prelude.{◌≡◌, ℕ, ◌+◌, ◌≤◌, List, [], length, Option, Some, is_some, true, IfOk, IfErr, OnOk, OnErr};
 ghost use Rattle.pl_base.specs.Counts.{Rose};
-ghost use Rattle.pl_io.specs.Reads.{OnlyFailedCounts, StopsReading, TookKnown};
+ghost use Rattle.pl_io.specs.Reads.{StopsReading, TookAtMost, TookKnown, UnlessFailed};
 
 use crate::{Failed, ReadFault};
 use std::alloc::Global;
@@ -34,8 +34,10 @@ pub fn read_all<S: Source>(alloc: Global, source: &mut S, most: usize) -> Result
     ensures end { OnOk result (is_some (S.left source.old) ≡ true → S.left source.new ≡ Some []) }
     ensures most { IfOk result (λ bytes. length bytes.items ≤ most) }
     ensures fault { IfErr result (StopsReading (S.left source.old) (S.left source.new) most (Rose (S.faults source.old) (S.faults source.new))) }
+    ensures took { OnOk result (TookAtMost (S.left source.old) (S.left source.new) (most + 1)) }
+    ensures took_fault { IfErr result (UnlessFailed (TookAtMost (S.left source.old) (S.left source.new) (most + 1))) }
     ensures quiet { OnOk result (S.faults source.new ≡ S.faults source.old) }
-    ensures quiet_fault { IfErr result (OnlyFailedCounts (S.faults source.new ≡ S.faults source.old)) }
+    ensures quiet_fault { IfErr result (UnlessFailed (S.faults source.new ≡ S.faults source.old)) }
     ensures tells { is_some (S.left source.new) ≡ is_some (S.left source.old) }
     ensures counts { S.faults source.old ≤ S.faults source.new }
 {

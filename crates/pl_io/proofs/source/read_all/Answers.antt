@@ -4,7 +4,7 @@ use Rattle.pl_base.specs.Counts.{Rose}
 use Rattle.pl_base.proofs.ResultLaws.{IfErr-at}
 use Rattle.pl_io.specs.Reads.{StopsReading}
 use Rattle.pl_io.specs.declared.read_fault.ReadFault.TheVariants.{NoMemory}
-use Rattle.pl_io.proofs.ReadLemmas.{before, took, joined, too_many, took_at_most}
+use Rattle.pl_io.proofs.ReadLemmas.{before, took, joined, one_more_at_most, stopped_took, too_many, took_at_most}
 use Rattle.pl_io.proofs.source.read_all.Goals as goal
 
 pub returns-then-n-room-clause-fault : goal.returns-then-n-room-clause-fault
@@ -44,3 +44,11 @@ returns-in_err-extend_from_slice-clause-fault g c =
     (took_at_most (left c.args.source.now) (left c.read.new.self) (got ++ take n piece) c.args.most
     (joined (left c.args.source.now) (left c.loop-bytes.source) (left c.read.new.self) got (take n piece) c.loop-bytes.invariant.1 more)
     most)
+
+pub returns-then-n-room-clause-took_fault : goal.returns-then-n-room-clause-took_fault
+returns-then-n-room-clause-took_fault g c = one_more_at_most (g.S.Source.left c.args.source.now) (g.S.Source.left c.read.new.self) c.args.most (returns-then-n-room-clause-fault g c)
+
+pub returns-in_err-extend_from_slice-clause-took_fault : goal.returns-in_err-extend_from_slice-clause-took_fault
+returns-in_err-extend_from_slice-clause-took_fault g c =
+    stopped_took (g.S.Source.left c.args.source.now) (g.S.Source.left c.read.new.self) c.args.most (Rose (g.S.Source.faults c.args.source.now) (g.S.Source.faults c.read.new.self))
+    c.from_residual-in_err-extend_from_slice.result (returns-in_err-extend_from_slice-clause-fault g c)
