@@ -1,4 +1,4 @@
--- Valid names have the same files where only the name of a new file differs.
+-- All names but that of a new file have the same files where only that one differs.
 use Rattle.std.proofs.Common.{◌≡◌, ℕ, List, cond, Bool, true, false, Option, Some, None, refl, sym, ap, ◌∙◌, inl, inr}
 use Rattle.std.specs.Prelude.{◌&&◌, not}
 use Rattle.std.specs.List.{list_all}
@@ -12,39 +12,22 @@ use Rattle.pl_folder.specs.declared.writing.TheConstants.{NEW_FILE}
 use Rattle.pl_folder.specs.Replaced.{replaced, SameElsewhere}
 use Rattle.pl_cli.specs.ValidFiles.{SameFiles}
 
--- a valid name is none of the program's own
-not_own : (name : List ℕ) → is_valid_name name ≡ true → not (is_own_name name) ≡ true
-unfolding is_valid_name
-not_own name valid =
-    let p1 = and_parts (has_name_length name && list_all is_name_byte name && not (is_own_name name)) (not (is_dots name)) valid in
-    (and_parts (has_name_length name && list_all is_name_byte name) (not (is_own_name name)) p1.0).1
+-- what a map by its order and by equal bytes calls another name
+other_than_new : (name : List ℕ) → bytes_eq name NEW_FILE.now ≡ false → eq_by_cmp (slice_cmp nat_cmp) name NEW_FILE.now ≡ false
+other_than_new name other = sym (texts_ties name NEW_FILE.now) ∙ other
 
-new_is_own : is_own_name NEW_FILE.now ≡ true
-unfolding is_own_name
-new_is_own = refl
-
--- so it is not that of a new file
-other_than_new : (name : List ℕ) → is_valid_name name ≡ true → eq_by_cmp (slice_cmp nat_cmp) name NEW_FILE.now ≡ false
-other_than_new name valid = elim (cases_Bool (eq_by_cmp (slice_cmp nat_cmp) name NEW_FILE.now)) [
-  | inl hit ↦
-      let same : name ≡ NEW_FILE.now = (bytes_decides name NEW_FILE.now).0 (texts_ties name NEW_FILE.now ∙ hit) in
-      let own : is_own_name name ≡ true = ap is_own_name same ∙ new_is_own in
-      absurd (false≢true (ap not (sym own) ∙ not_own name valid))
-  | inr miss ↦ miss
-]
-
--- without the name of a new file each valid name has the file that it had
-kept : (files : Files) (name : List ℕ) → is_valid_name name ≡ true → get (remove files NEW_FILE.now) name ≡ get files name
-kept files name valid = get-remove nat_list_cmp_total files NEW_FILE.now name ∙ ap (λ (b : Bool). cond b None (get files name)) (other_than_new name valid)
+-- without the name of a new file each other name has the file that it had
+kept : (files : Files) (name : List ℕ) → bytes_eq name NEW_FILE.now ≡ false → get (remove files NEW_FILE.now) name ≡ get files name
+kept files name other = get-remove nat_list_cmp_total files NEW_FILE.now name ∙ ap (λ (b : Bool). cond b None (get files name)) (other_than_new name other)
 
 pub same_files : (old new : Files) → new ≡ old → SameFiles old new
-same_files old new same name valid = ap (λ (files : Files). get files name) (sym same)
+same_files old new same name other = ap (λ (files : Files). get files name) (sym same)
 
 pub same_elsewhere : (old new : Files) → SameElsewhere old new → SameFiles old new
-same_elsewhere old new same name valid = sym (kept old name valid) ∙ ap (λ (files : Files). get files name) (sym same) ∙ kept new name valid
+same_elsewhere old new same name other = sym (kept old name other) ∙ ap (λ (files : Files). get files name) (sym same) ∙ kept new name other
 
 pub same_replaced : (old : Files) (name bytes : List ℕ) → SameFiles (insert old name bytes) (replaced old name bytes)
-same_replaced old name bytes other valid =
+same_replaced old name bytes other not_new =
     get-insert nat_list_cmp_total old name bytes other
-    ∙ ap (λ (o : Option (List ℕ)). cond (eq_by_cmp (slice_cmp nat_cmp) other name) (Some bytes) o) (sym (kept old other valid))
+    ∙ ap (λ (o : Option (List ℕ)). cond (eq_by_cmp (slice_cmp nat_cmp) other name) (Some bytes) o) (sym (kept old other not_new))
     ∙ sym (get-insert nat_list_cmp_total (remove old NEW_FILE.now) name bytes other)

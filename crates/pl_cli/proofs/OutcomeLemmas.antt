@@ -50,8 +50,8 @@ module _ (input : Bool) (before next after : Files) (none : next ≡ before) (sa
   unchanged statuses.WriteFault = λ _. as_next
   unchanged statuses.Done = λ _. as_next
   unchanged statuses.Differs = λ _. as_next
-  unchanged statuses.Usage = λ _. as_next
-  unchanged statuses.Refused = λ _. as_next
+  unchanged statuses.Usage = same_files before after same
+  unchanged statuses.Refused = same_files before after same
 
 load_next : (files : Files) (r : Result Start Cause) → (load_answer files r).next ≡ files
 load_next files (Ok start) = refl

@@ -29,6 +29,20 @@ Stops files input meant disk source stops.Failed = disk
 Stops files input meant disk source stops.InputFailed = source
 Stops files input meant disk source stops.NoMemory = ⊤
 
+-- P, unless the folder failed
+abbrev pub UnlessFailed : Type 0 → Stop → Type 0
+UnlessFailed P (stops.Cause cause) = P
+UnlessFailed P stops.Failed = ⊤
+UnlessFailed P stops.InputFailed = P
+UnlessFailed P stops.NoMemory = P
+
+-- P, unless the input failed
+abbrev pub UnlessInputFailed : Type 0 → Stop → Type 0
+UnlessInputFailed P (stops.Cause cause) = P
+UnlessInputFailed P stops.Failed = P
+UnlessInputFailed P stops.InputFailed = ⊤
+UnlessInputFailed P stops.NoMemory = P
+
 -- what a fault of the folder stops in a call that is given no file to take: it fails, or lacks memory
 abbrev pub of_fault : FolderFault → Stop
 of_fault folder_faults.Failed = stops.Failed
@@ -110,8 +124,8 @@ LeavesFiles input before next after statuses.ReadFault = SameFiles before after
 LeavesFiles input before next after statuses.WriteFault = LeavesNext input next after
 LeavesFiles input before next after statuses.Done = LeavesNext input next after
 LeavesFiles input before next after statuses.Differs = LeavesNext input next after
-LeavesFiles input before next after statuses.Usage = LeavesNext input next after
-LeavesFiles input before next after statuses.Refused = LeavesNext input next after
+LeavesFiles input before next after statuses.Usage = SameFiles before after
+LeavesFiles input before next after statuses.Refused = SameFiles before after
 
 -- by why a command stopped
 abbrev pub LeavesAt : Bool → Files → Files → Files → Stop → Type 0

@@ -1,15 +1,16 @@
--- The files under valid names. Those under the program's own names are no part of what a command answers.
-use Rattle.std.specs.Prelude.{◌≡◌, ℕ, Bool, true, ◌&&◌, not, List, nat_le, count_by}
+-- The files of a folder before and after a command, and whether there is room for one more. The name of a new file, which may be left after a fault, is no part of what a command answers.
+use Rattle.std.specs.Prelude.{◌≡◌, ℕ, Bool, false, ◌&&◌, not, List, nat_le, count_by}
 use Rattle.std.specs.List.{list_any}
 use Rattle.std.specs.Str.{bytes_eq}
 use Rattle.std.specs.FinMap.{get}
 use Rattle.pl_base.specs.Files.{Files}
 use Rattle.pl_base.specs.Names.{is_valid_name}
+use Rattle.pl_folder.specs.declared.writing.TheConstants.{NEW_FILE}
 use Rattle.pl_cli.specs.declared.room.TheConstants.{FILES}
 
--- each valid name has the same file, or none in both
+-- each name but that of a new file has the same file, or none in both
 abbrev pub SameFiles : Files → Files → Type 0
-SameFiles old new = (name : List ℕ) → is_valid_name name ≡ true → get old name ≡ get new name
+SameFiles old new = (name : List ℕ) → bytes_eq name NEW_FILE.now ≡ false → get old name ≡ get new name
 
 abbrev pub has_name : List ℕ → List (List ℕ) → Bool
 has_name name names = list_any (λ other. bytes_eq name other) names

@@ -7,7 +7,7 @@ ghost use Rattle.pl_scope.specs.Walking.{wants};
 ghost use Rattle.pl_loader.specs.Started as meant;
 ghost use Rattle.pl_cli.specs.declared.cause.Cause.TheVariants as causes;
 ghost use Rattle.pl_cli.specs.Load as spec;
-ghost use Rattle.pl_cli.specs.Outcome.{Stops, of_take};
+ghost use Rattle.pl_cli.specs.Outcome.{Stops, UnlessFailed, of_take};
 
 use crate::cause::Cause;
 use crate::stop::Stop;
@@ -36,6 +36,7 @@ fn take<D: Folder>(alloc: Global, folder: &mut D, name: &str) -> Result<Vec<u8>,
     ensures tells { D.tells_files folder.new ≡ D.tells_files folder.old }
     ensures same { D.tells_files folder.old ≡ true → D.files folder.new ≡ D.files folder.old }
     ensures quiet { OnOk result (D.faults folder.new ≡ D.faults folder.old) }
+    ensures quiet_stop { IfErr result (UnlessFailed (D.faults folder.new ≡ D.faults folder.old)) }
     ensures counts { D.faults folder.old ≤ D.faults folder.new }
     ensures place { D.place folder.new ≡ D.place folder.old }
 {
@@ -56,6 +57,7 @@ pub fn load<D: Folder>(alloc: Global, folder: &mut D, name: &str) -> Result<Load
     ensures tells { D.tells_files folder.new ≡ D.tells_files folder.old }
     ensures same { D.tells_files folder.old ≡ true → D.files folder.new ≡ D.files folder.old }
     ensures quiet { OnOk result (D.faults folder.new ≡ D.faults folder.old) }
+    ensures quiet_stop { IfErr result (UnlessFailed (D.faults folder.new ≡ D.faults folder.old)) }
     ensures counts { D.faults folder.old ≤ D.faults folder.new }
     ensures place { D.place folder.new ≡ D.place folder.old }
     ensures unasked { is_valid_name name.now ≡ false → folder.new ≡ folder.old }

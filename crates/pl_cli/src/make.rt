@@ -1,11 +1,15 @@
 // A file that is made of the recipe in an input.
-ghost use Rattle.std.specs.Prelude.{◌≡◌, ◌≤◌, Ok, IfErr, IfOk, OnOk, false, is_some, string_bytes, true};
+ghost use Rattle.std.specs.FinMap.{get};
+ghost use Rattle.std.specs.Prelude.{◌≡◌, ◌+◌, ◌≤◌, None, Ok, IfErr, IfOk, OnOk, false, is_some, string_bytes, true};
 ghost use Rattle.pl_base.specs.Counts.{Rose};
 ghost use Rattle.pl_base.specs.Names.{is_valid_name};
+ghost use Rattle.pl_folder.specs.declared.writing.TheConstants.{NEW_FILE};
+ghost use Rattle.pl_io.specs.Reads.{TookAtMost};
 ghost use Rattle.pl_cli.specs.Answer.{make_answer};
 ghost use Rattle.pl_cli.specs.declared.status.Status.TheVariants as statuses;
 ghost use Rattle.pl_cli.specs.Make as spec;
-ghost use Rattle.pl_cli.specs.Outcome.{LeavesAt, Stops};
+ghost use Rattle.pl_cli.specs.declared.make.TheConstants.{RECIPE};
+ghost use Rattle.pl_cli.specs.Outcome.{LeavesAt, Stops, UnlessFailed, UnlessInputFailed};
 ghost use Rattle.pl_cli.specs.ValidFiles.{SameFiles};
 ghost use Rattle.pl_cli.specs.Words.{bytes_of};
 
@@ -28,6 +32,9 @@ fn built<S: Source>(alloc: Global, input: &mut S) -> Result<Rows<u8>, Stop>
     ensures stop { IfErr result (Stops true (is_some (S.left input.old)) (spec.built (bytes_of (S.left input.old))) ⊥ (Rose (S.faults input.old) (S.faults input.new))) }
     ensures tells { is_some (S.left input.new) ≡ is_some (S.left input.old) }
     ensures quiet { OnOk result (S.faults input.new ≡ S.faults input.old) }
+    ensures quiet_stop { IfErr result (UnlessInputFailed (S.faults input.new ≡ S.faults input.old)) }
+    ensures took { OnOk result (TookAtMost (S.left input.old) (S.left input.new) (RECIPE + 1)) }
+    ensures took_stop { IfErr result (UnlessInputFailed (TookAtMost (S.left input.old) (S.left input.new) (RECIPE + 1))) }
     ensures counts { S.faults input.old ≤ S.faults input.new }
 {
     let recipe = read_all(alloc, input, RECIPE)?;
@@ -50,6 +57,10 @@ fn made<D: Folder, S: Source>(
     ensures place { D.place folder.new ≡ D.place folder.old }
     ensures folder_quiet { OnOk result (D.faults folder.new ≡ D.faults folder.old) }
     ensures input_quiet { OnOk result (S.faults input.new ≡ S.faults input.old) }
+    ensures folder_quiet_stop { IfErr result (UnlessFailed (D.faults folder.new ≡ D.faults folder.old)) }
+    ensures input_quiet_stop { IfErr result (UnlessInputFailed (S.faults input.new ≡ S.faults input.old)) }
+    ensures took { OnOk result (TookAtMost (S.left input.old) (S.left input.new) (RECIPE + 1)) }
+    ensures took_stop { IfErr result (UnlessInputFailed (TookAtMost (S.left input.old) (S.left input.new) (RECIPE + 1))) }
     ensures folder_counts { D.faults folder.old ≤ D.faults folder.new }
     ensures input_tells { is_some (S.left input.new) ≡ is_some (S.left input.old) }
     ensures input_counts { S.faults input.old ≤ S.faults input.new }
@@ -80,6 +91,7 @@ pub fn make<D: Folder, S: Source>(
         (a.status ≡ statuses.Done) × (a.text ≡ string_bytes line)) }
     ensures next { OnOk result (D.tells_files folder.old ≡ true → is_some (S.left input.old) ≡ true →
         SameFiles (make_answer name.now (D.files folder.old) (spec.made (D.files folder.old) name.now (bytes_of (S.left input.old)))).next (D.files folder.new)) }
+    ensures no_leftover { OnOk result (D.tells_files folder.old ≡ true → get (D.files folder.new) NEW_FILE.now ≡ None) }
     ensures stop { IfErr result (Stops (D.tells_files folder.old) (is_some (S.left input.old)) (spec.made (D.files folder.old) name.now (bytes_of (S.left input.old)))
         (Rose (D.faults folder.old) (D.faults folder.new)) (Rose (S.faults input.old) (S.faults input.new))) }
     ensures left { IfErr result (λ stop. D.tells_files folder.old ≡ true → LeavesAt (is_some (S.left input.old)) (D.files folder.old)
@@ -88,6 +100,10 @@ pub fn make<D: Folder, S: Source>(
     ensures place { D.place folder.new ≡ D.place folder.old }
     ensures folder_quiet { OnOk result (D.faults folder.new ≡ D.faults folder.old) }
     ensures input_quiet { OnOk result (S.faults input.new ≡ S.faults input.old) }
+    ensures folder_quiet_stop { IfErr result (UnlessFailed (D.faults folder.new ≡ D.faults folder.old)) }
+    ensures input_quiet_stop { IfErr result (UnlessInputFailed (S.faults input.new ≡ S.faults input.old)) }
+    ensures took { OnOk result (TookAtMost (S.left input.old) (S.left input.new) (RECIPE + 1)) }
+    ensures took_stop { IfErr result (UnlessInputFailed (TookAtMost (S.left input.old) (S.left input.new) (RECIPE + 1))) }
     ensures folder_counts { D.faults folder.old ≤ D.faults folder.new }
     ensures input_tells { is_some (S.left input.new) ≡ is_some (S.left input.old) }
     ensures input_counts { S.faults input.old ≤ S.faults input.new }

@@ -1,10 +1,13 @@
 // The top call and how its parts end.
-ghost use Rattle.std.specs.Prelude.{◌≡◌, ◌≢◌, ◌≤◌, ℕ, List, None, Some, false, is_some, map, string_bytes, true};
+ghost use Rattle.std.specs.FinMap.{get};
+ghost use Rattle.std.specs.Prelude.{◌≡◌, ◌≢◌, ◌+◌, ◌≤◌, ℕ, List, None, Some, false, is_some, map, string_bytes, true};
 ghost use Rattle.pl_base.specs.Answers.{Tells, because};
 ghost use Rattle.pl_base.specs.Counts.{Rose};
 ghost use Rattle.pl_base.specs.Files.{Files};
 ghost use Rattle.pl_base.specs.Names.{is_valid_name};
 ghost use Rattle.pl_base.specs.Streams.{GotPrefix, got_after};
+ghost use Rattle.pl_folder.specs.declared.writing.TheConstants.{NEW_FILE};
+ghost use Rattle.pl_io.specs.Reads.{TookAtMost};
 ghost use Rattle.pl_scope.specs.Walking.{wants};
 ghost use Rattle.pl_loader.specs.Started.{started};
 ghost use Rattle.pl_cli.specs.Answer.{answer, command_answer, is_answer, load_answer, make_answer};
@@ -13,6 +16,7 @@ ghost use Rattle.pl_cli.specs.Load.{is_memory, loaded};
 ghost use Rattle.pl_cli.specs.Make.{made};
 ghost use Rattle.pl_cli.specs.Outcome.{Ends, IsOutcome, IsRefusal, IsUsage, LeavesFiles};
 ghost use Rattle.pl_cli.specs.Words as spec;
+ghost use Rattle.pl_cli.specs.declared.make.TheConstants.{RECIPE};
 
 use crate::Status;
 use crate::cause::Cause;
@@ -33,7 +37,7 @@ use std::alloc::Global;
 /// Writes a whole text and ends so, or with a fault of the output.
 fn finish<K: Sink>(output: &mut K, text: &[u8], status: Status) -> Status
     ensures ends { Ends status text.now (Rose (K.faults output.old) (K.faults output.new)) (K.written output.old) (K.written output.new) result }
-    ensures quiet { result ≡ Status.Done → K.faults output.new ≡ K.faults output.old }
+    ensures quiet { result ≢ Status.WriteFault → K.faults output.new ≡ K.faults output.old }
     ensures counts { K.faults output.old ≤ K.faults output.new }
 {
     match write_all(output, text) {
@@ -45,7 +49,7 @@ fn finish<K: Sink>(output: &mut K, text: &[u8], status: Status) -> Status
 /// Writes the line of a refusal for a cause, unless there is no memory for it.
 fn refuse<K: Sink>(alloc: Global, cause: Cause, output: &mut K) -> Status
     ensures ends { IsRefusal cause (Rose (K.faults output.old) (K.faults output.new)) (K.written output.old) (K.written output.new) result }
-    ensures quiet { result ≡ Status.Done → K.faults output.new ≡ K.faults output.old }
+    ensures quiet { result ≢ Status.WriteFault → K.faults output.new ≡ K.faults output.old }
     ensures counts { K.faults output.old ≤ K.faults output.new }
 {
     match refusal(alloc, cause) {
@@ -59,7 +63,7 @@ fn start_and_write<K: Sink>(alloc: Global, loader: &Loader, output: &mut K) -> S
     requires { wants loader.now.order ≡ None }
     ensures outcome { (files : Files) → IsOutcome true true (load_answer files (because causes.Load (started loader.now.files)))
         ⊥ (Rose (K.faults output.old) (K.faults output.new)) (K.written output.old) (K.written output.new) result }
-    ensures quiet { result ≡ Status.Done → K.faults output.new ≡ K.faults output.old }
+    ensures quiet { result ≢ Status.WriteFault → K.faults output.new ≡ K.faults output.old }
     ensures counts { K.faults output.old ≤ K.faults output.new }
     ensures usage { result ≢ Status.Usage }
     ensures read_fault { result ≢ Status.ReadFault }
@@ -87,8 +91,8 @@ fn load_and_write<D: Folder, K: Sink>(
     ensures tells { D.tells_files folder.new ≡ D.tells_files folder.old }
     ensures folder { D.tells_files folder.old ≡ true → D.files folder.new ≡ D.files folder.old }
     ensures place { D.place folder.new ≡ D.place folder.old }
-    ensures folder_quiet { result ≡ Status.Done → D.faults folder.new ≡ D.faults folder.old }
-    ensures output_quiet { result ≡ Status.Done → K.faults output.new ≡ K.faults output.old }
+    ensures folder_quiet { result ≢ Status.DiskFault → D.faults folder.new ≡ D.faults folder.old }
+    ensures output_quiet { result ≢ Status.WriteFault → K.faults output.new ≡ K.faults output.old }
     ensures folder_counts { D.faults folder.old ≤ D.faults folder.new }
     ensures output_counts { K.faults output.old ≤ K.faults output.new }
     ensures unasked { is_valid_name name.now ≡ false → folder.new ≡ folder.old }
@@ -120,9 +124,11 @@ fn make_and_write<D: Folder, S: Source, K: Sink>(
     ensures tells { D.tells_files folder.new ≡ D.tells_files folder.old }
     ensures place { D.place folder.new ≡ D.place folder.old }
     ensures input_tells { is_some (S.left input.new) ≡ is_some (S.left input.old) }
-    ensures folder_quiet { result ≡ Status.Done → D.faults folder.new ≡ D.faults folder.old }
-    ensures input_quiet { result ≡ Status.Done → S.faults input.new ≡ S.faults input.old }
-    ensures output_quiet { result ≡ Status.Done → K.faults output.new ≡ K.faults output.old }
+    ensures took { result ≢ Status.ReadFault → TookAtMost (S.left input.old) (S.left input.new) (RECIPE + 1) }
+    ensures no_leftover { result ≡ Status.Done → D.tells_files folder.old ≡ true → get (D.files folder.new) NEW_FILE.now ≡ None }
+    ensures folder_quiet { result ≢ Status.DiskFault → D.faults folder.new ≡ D.faults folder.old }
+    ensures input_quiet { result ≢ Status.ReadFault → S.faults input.new ≡ S.faults input.old }
+    ensures output_quiet { result ≢ Status.WriteFault → K.faults output.new ≡ K.faults output.old }
     ensures folder_counts { D.faults folder.old ≤ D.faults folder.new }
     ensures input_counts { S.faults input.old ≤ S.faults input.new }
     ensures output_counts { K.faults output.old ≤ K.faults output.new }
@@ -157,9 +163,11 @@ fn run_command<D: Folder, S: Source, K: Sink>(
     ensures tells { D.tells_files folder.new ≡ D.tells_files folder.old }
     ensures place { D.place folder.new ≡ D.place folder.old }
     ensures input_tells { is_some (S.left input.new) ≡ is_some (S.left input.old) }
-    ensures folder_quiet { result ≡ Status.Done → D.faults folder.new ≡ D.faults folder.old }
-    ensures input_quiet { result ≡ Status.Done → S.faults input.new ≡ S.faults input.old }
-    ensures output_quiet { result ≡ Status.Done → K.faults output.new ≡ K.faults output.old }
+    ensures took { spec.is_make (Some (mode, name.now)) ≡ true → result ≢ Status.ReadFault → TookAtMost (S.left input.old) (S.left input.new) (RECIPE + 1) }
+    ensures no_leftover { spec.is_make (Some (mode, name.now)) ≡ true → result ≡ Status.Done → D.tells_files folder.old ≡ true → get (D.files folder.new) NEW_FILE.now ≡ None }
+    ensures folder_quiet { result ≢ Status.DiskFault → D.faults folder.new ≡ D.faults folder.old }
+    ensures input_quiet { result ≢ Status.ReadFault → S.faults input.new ≡ S.faults input.old }
+    ensures output_quiet { result ≢ Status.WriteFault → K.faults output.new ≡ K.faults output.old }
     ensures folder_counts { D.faults folder.old ≤ D.faults folder.new }
     ensures input_counts { S.faults input.old ≤ S.faults input.new }
     ensures output_counts { K.faults output.old ≤ K.faults output.new }
@@ -191,9 +199,11 @@ fn run_words<D: Folder, S: Source, K: Sink>(
     ensures tells { D.tells_files folder.new ≡ D.tells_files folder.old }
     ensures place { D.place folder.new ≡ D.place folder.old }
     ensures input_tells { is_some (S.left input.new) ≡ is_some (S.left input.old) }
-    ensures folder_quiet { result ≡ Status.Done → D.faults folder.new ≡ D.faults folder.old }
-    ensures input_quiet { result ≡ Status.Done → S.faults input.new ≡ S.faults input.old }
-    ensures output_quiet { result ≡ Status.Done → K.faults output.new ≡ K.faults output.old }
+    ensures took { spec.is_make (spec.command (map string_bytes words.now)) ≡ true → result ≢ Status.ReadFault → TookAtMost (S.left input.old) (S.left input.new) (RECIPE + 1) }
+    ensures no_leftover { spec.is_make (spec.command (map string_bytes words.now)) ≡ true → result ≡ Status.Done → D.tells_files folder.old ≡ true → get (D.files folder.new) NEW_FILE.now ≡ None }
+    ensures folder_quiet { result ≢ Status.DiskFault → D.faults folder.new ≡ D.faults folder.old }
+    ensures input_quiet { result ≢ Status.ReadFault → S.faults input.new ≡ S.faults input.old }
+    ensures output_quiet { result ≢ Status.WriteFault → K.faults output.new ≡ K.faults output.old }
     ensures folder_counts { D.faults folder.old ≤ D.faults folder.new }
     ensures input_counts { S.faults input.old ≤ S.faults input.new }
     ensures output_counts { K.faults output.old ≤ K.faults output.new }
@@ -208,7 +218,7 @@ fn run_words<D: Folder, S: Source, K: Sink>(
 
 /// Does what the words after the program's name ask for.
 ///
-/// The answer is a definition over the words, the folder's files and the bytes of the input: a status, a text for the output, and the next files under valid names. `Done`, `Differs`, `Usage` and `Refused` come only with the whole of it. A fault comes only where the count of its object rose: `ReadFault` and `DiskFault` before anything was written, `WriteFault` after some first bytes of the text. `NoMemory` may come at any time before anything was written. Files under valid names are those of the answer, or after `ReadFault` and `NoMemory` those before, or after `DiskFault` all of the one or all of the other. Only `--make` reads the input and writes to the folder.
+/// The answer is a definition over the words, the folder's files and the bytes of the input: a status, a text for the output, and the next files under valid names. `Done`, `Differs`, `Usage` and `Refused` come only with the whole of it. A fault comes only where the count of its object rose: `ReadFault` and `DiskFault` before anything was written, `WriteFault` after some first bytes of the text. `NoMemory` may come at any time before anything was written. Files under all names but that of a new file are those of the answer, or after `ReadFault` and `NoMemory` those before, or after `DiskFault` all of the one or all of the other. A count of faults rises only where the status is the fault of its object. Only `--make` reads the input and writes to the folder.
 #[tactic(auto, using(crate::proofs::OutcomeLemmas::outcome_is_whole, crate::proofs::OutcomeLemmas::outcome_is_part, crate::proofs::TellsLemmas::loaded_tells, crate::proofs::TellsLemmas::made_tells))]
 pub fn run<D: Folder, S: Source, K: Sink>(
     alloc: Global,
@@ -227,7 +237,7 @@ pub fn run<D: Folder, S: Source, K: Sink>(
     ensures prefix { D.tells_files folder.old ≡ true → spec.is_told (spec.command (map string_bytes words.now)) (S.left input.old) ≡ true →
         GotPrefix (K.written output.old) (K.written output.new) (answer (map string_bytes words.now) (D.files folder.old) (spec.bytes_of (S.left input.old))).text }
 
-    // What is left of the files under valid names: those of the answer, or after a fault perhaps those before.
+    // What is left of the files under all names but that of a new file: those of the answer, or after a fault perhaps those before.
     ensures files { D.tells_files folder.old ≡ true → LeavesFiles (spec.is_told (spec.command (map string_bytes words.now)) (S.left input.old)) (D.files folder.old)
         (answer (map string_bytes words.now) (D.files folder.old) (spec.bytes_of (S.left input.old))).next (D.files folder.new) result }
 
@@ -256,10 +266,16 @@ pub fn run<D: Folder, S: Source, K: Sink>(
     ensures place { D.place folder.new ≡ D.place folder.old }
     ensures input_tells { is_some (S.left input.new) ≡ is_some (S.left input.old) }
 
-    // Where all was done no call failed.
-    ensures folder_quiet { result ≡ Status.Done → D.faults folder.new ≡ D.faults folder.old }
-    ensures input_quiet { result ≡ Status.Done → S.faults input.new ≡ S.faults input.old }
-    ensures output_quiet { result ≡ Status.Done → K.faults output.new ≡ K.faults output.old }
+    // Of the input it takes at most one byte more than a recipe may have, unless the input fails.
+    ensures took { spec.is_make (spec.command (map string_bytes words.now)) ≡ true → result ≢ Status.ReadFault → TookAtMost (S.left input.old) (S.left input.new) (RECIPE + 1) }
+
+    // Where it is done, no new file is left.
+    ensures no_leftover { spec.is_make (spec.command (map string_bytes words.now)) ≡ true → result ≡ Status.Done → D.tells_files folder.old ≡ true → get (D.files folder.new) NEW_FILE.now ≡ None }
+
+    // A count rises only where the status is the fault of its object.
+    ensures folder_quiet { result ≢ Status.DiskFault → D.faults folder.new ≡ D.faults folder.old }
+    ensures input_quiet { result ≢ Status.ReadFault → S.faults input.new ≡ S.faults input.old }
+    ensures output_quiet { result ≢ Status.WriteFault → K.faults output.new ≡ K.faults output.old }
 
     // The counts never fall.
     ensures folder_counts { D.faults folder.old ≤ D.faults folder.new }

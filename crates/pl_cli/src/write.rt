@@ -21,6 +21,7 @@ pub fn write_start<K: Sink>(
     ensures failed { IsErrOf result WriteStop.Failed → Rose (K.faults output.old) (K.faults output.new) }
     ensures early { IsErrOf result WriteStop.NoMemory → K.written output.new ≡ K.written output.old }
     ensures quiet { OnOk result (K.faults output.new ≡ K.faults output.old) }
+    ensures quiet_early { IsErrOf result WriteStop.NoMemory → K.faults output.new ≡ K.faults output.old }
     ensures counts { K.faults output.old ≤ K.faults output.new }
 {
     let head = head_text(alloc, started)?;
