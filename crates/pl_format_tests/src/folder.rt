@@ -1,5 +1,5 @@
 // Tests of pl_folder.
-use pl_folder::{Folder, FolderFault, MemoryFolder, NEW_FILE, are_files, replace};
+use pl_folder::{Folder, FolderFault, MemoryFolder, NEW_FILE, STORED, are_files, replace};
 use std::alloc::{AllocError, Global};
 
 /// Files of these names, each with 3 bytes.
@@ -29,6 +29,8 @@ fn knows_files(rt: HostRuntime) -> Result<(), AllocError> {
         let name = "n".repeat(alloc, len)?;
         assert!(rt; are_files(&files(alloc, &[&name])?) == fine, "{len}");
     }
+    // The clauses name the limit, so its number stands here once more.
+    assert!(rt; STORED == 67_108_864);
     Ok(())
 }
 

@@ -2,8 +2,8 @@
 use pl_base::Rows;
 use pl_sym::constants::{
     SHN_ABS, SHN_HIRESERVE, SHN_LORESERVE, SHN_UNDEF, STB_GLOBAL, STB_GNU_UNIQUE, STB_LOCAL,
-    STB_WEAK, STT_COMMON, STT_FILE, STT_FUNC, STT_GNU_IFUNC, STT_NOTYPE, STT_OBJECT, STT_SECTION,
-    STT_TLS, STV_DEFAULT, STV_HIDDEN, STV_INTERNAL, STV_PROTECTED,
+    STB_WEAK, STT_FILE, STT_FUNC, STT_GNU_IFUNC, STT_NOTYPE, STT_OBJECT, STT_SECTION, STT_TLS,
+    STV_DEFAULT, STV_HIDDEN, STV_INTERNAL, STV_PROTECTED,
 };
 use pl_sym::{Class, SymFault, Symbol, is_definer, read_symbols};
 use pl_ver::constants::VER_NDX_GLOBAL;
@@ -188,14 +188,14 @@ fn expect_answers(rt: &impl Abort, alloc: Global, symbols: &[Fields], wanted: [b
     }
 }
 
-/// Definers for each reference.
+/// Definers for each reference. Type 5 is a common block.
 const ALWAYS: [Fields; 13] = [
     (0x4000, STB_GLOBAL, STT_FUNC, STV_DEFAULT, 7),
     (0x4000, STB_WEAK, STT_FUNC, STV_DEFAULT, 7),
     (0x4000, STB_GNU_UNIQUE, STT_FUNC, STV_DEFAULT, 7),
     (0x4000, STB_GLOBAL, STT_NOTYPE, STV_DEFAULT, 7),
     (0x4000, STB_GLOBAL, STT_OBJECT, STV_DEFAULT, 7),
-    (0x4000, STB_GLOBAL, STT_COMMON, STV_DEFAULT, 7),
+    (0x4000, STB_GLOBAL, 5, STV_DEFAULT, 7),
     (0x4000, STB_GLOBAL, STT_TLS, STV_DEFAULT, 7),
     (0x4000, STB_GLOBAL, STT_FUNC, STV_PROTECTED, 7),
     (0x4000, STB_GLOBAL, STT_FUNC, STV_DEFAULT, 1),
@@ -238,12 +238,12 @@ fn knows_definers(rt: HostRuntime) {
 
 /// Sections; whether a symbol there is undefined, absolute, in a section.
 const SECTIONS: [(u16, [bool; 3]); 6] = [
-    (SHN_UNDEF, [true, false, false]),
+    (0, [true, false, false]),
     (1, [false, false, true]),
     (0xfeff, [false, false, true]),
-    (SHN_LORESERVE, [false, false, false]),
-    (SHN_ABS, [false, true, false]),
-    (SHN_HIRESERVE, [false, false, false]),
+    (0xff00, [false, false, false]),
+    (0xfff1, [false, true, false]),
+    (0xffff, [false, false, false]),
 ];
 
 #[test]
