@@ -107,8 +107,8 @@ unfoldable pub data_size : List Line → ℕ
 data_size lines = data_in (find is_data lines)
 
 -- the lowest kind of a line's faults, 0 for none
-unfoldable pub kind_of : List Line → ℕ → ℕ → Line → ℕ
-kind_of lines size index line =
+unfoldable pub lowest_kind : List Line → ℕ → ℕ → Line → ℕ
+lowest_kind lines size index line =
     if is_wrong lines index line then 1
     else if is_over size line then 2
     else if is_unknown lines line then 3
@@ -116,7 +116,7 @@ kind_of lines size index line =
     else 0
 
 abbrev pub kind_at : List Line → ℕ → ℕ → Option Line → ℕ
-kind_at lines size index (Some line) = kind_of lines size index line
+kind_at lines size index (Some line) = lowest_kind lines size index line
 kind_at lines size index None = 0
 
 -- lines count from 1

@@ -1,6 +1,7 @@
 -- The dynamic table (System V gABI chapter 5, "Dynamic Section").
-use Rattle.std.specs.Prelude.{ℕ, ◌+◌, Bool, true, not, ◌&&◌, ◌==◌, List, [], ◌∷◌, ◌++◌, length, map, find, Option, Some, None, codes}
+use Rattle.std.specs.Prelude.{ℕ, ◌+◌, Bool, true, not, ◌&&◌, ◌==◌, List, [], ◌∷◌, ◌++◌, length, map, find, codes}
 use Rattle.std.specs.List.{flat_map, range_with_len}
+use Rattle.std.specs.Option.{unwrap_or}
 use Rattle.pl_dyn.specs.declared.constants.TheConstants.{DT_NULL, DT_NEEDED, DT_PLTRELSZ, DT_HASH, DT_STRTAB, DT_SYMTAB, DT_RELA, DT_RELASZ, DT_RELAENT, DT_STRSZ, DT_SYMENT, DT_SYMBOLIC, DT_PLTREL, DT_DEBUG, DT_JMPREL, DT_BIND_NOW, DT_FLAGS, DT_GNU_HASH, DT_VERSYM, DT_FLAGS_1, DT_VERDEF, DT_VERDEFNUM, DT_VERNEED, DT_VERNEEDNUM, DF_BIND_NOW, DF_1_NOW}
 use Rattle.pl_dyn.specs.declared.tags.Tag.{Tag}
 use Rattle.pl_sym.specs.declared.constants.TheConstants.{SYMBOL_SIZE}
@@ -26,13 +27,13 @@ tag number value = record { number = number; value = value }
 abbrev pub is_at : List ℕ → Place → Bool
 is_at name place = has_name name place.role
 
-abbrev pub or_nowhere : Option Place → Place
-or_nowhere (Some place) = place
-or_nowhere None = record { role = Null; addr = 0; offset = 0; size = 0 }
+-- the null section's place, of no bytes
+abbrev pub null_place : Place
+null_place = record { role = Null; addr = 0; offset = 0; size = 0 }
 
 -- a section of no bytes is not there
 unfoldable pub place_of : List Place → List ℕ → Place
-place_of places name = or_nowhere (find (is_at name) places)
+place_of places name = unwrap_or (find (is_at name) places) null_place
 
 abbrev pub is_there : Place → Bool
 is_there place = not (place.size == 0)

@@ -1,5 +1,5 @@
 -- The file: the header, the program header table, the path of the interpreter, the tables, the data, the names of the sections and the section header table.
-use Rattle.std.specs.Prelude.{ℕ, ◌+◌, ◌-◌, ◌*◌, List, [], ◌∷◌, ◌++◌, length, replicate, nat_lt, Option, Some, None, Result, Ok, Err, codes, if◌then◌else◌}
+use Rattle.std.specs.Prelude.{ℕ, ◌+◌, ◌*◌, List, [], ◌∷◌, ◌++◌, length, nat_lt, Option, Some, None, Result, Ok, Err, codes, if◌then◌else◌}
 use Rattle.std.specs.List.{flat_map}
 use Rattle.pl_base.specs.Answers.{◌>>=◌}
 use Rattle.pl_base.specs.Sums.{plus, round_up}
@@ -16,7 +16,7 @@ use Rattle.pl_build.specs.declared.strings.Strings.{Strings}
 use Rattle.pl_build.specs.Data.{data_bytes}
 use Rattle.pl_build.specs.Dynamic.{place_of}
 use Rattle.pl_build.specs.Fields.{fields}
-use Rattle.pl_build.specs.Layout.{too_large, tables, end_of}
+use Rattle.pl_build.specs.Layout.{too_large, filled_to, tables, end_of}
 use Rattle.pl_elf.specs.Kinds.{is_library}
 use Rattle.pl_elf.specs.Written.{segment_bytes}
 use Rattle.pl_build.specs.Plan.{base_of, data_address, has_interp}
@@ -38,26 +38,22 @@ ident = Byte ELFMAG0 ∷ Byte ELFMAG1 ∷ Byte ELFMAG2 ∷ Byte ELFMAG3 ∷ Byte
 unfoldable pub type_of : Settings → ℕ
 type_of s = if is_library s.kind then ET_DYN else ET_EXEC
 
-abbrev pub first_fields : Settings → ℕ → List Field
-first_fields s shoff =
+abbrev pub first_header_fields : Settings → ℕ → List Field
+first_header_fields s shoff =
     Half (type_of s) ∷ Half EM_X86_64 ∷ Word EV_CURRENT ∷ Xword (entry_or_base s s.entry) ∷ Xword HEADER_SIZE ∷ Xword shoff ∷ []
 
-abbrev pub last_fields : ℕ → ℕ → ℕ → List Field
-last_fields phnum shnum shstrndx =
+abbrev pub last_header_fields : ℕ → ℕ → ℕ → List Field
+last_header_fields phnum shnum shstrndx =
     Word 0 ∷ Half HEADER_SIZE ∷ Half SEGMENT_SIZE ∷ Half phnum ∷ Half SECTION_SIZE ∷ Half shnum ∷ Half shstrndx ∷ []
 
 -- for so many segments, and a section header table at an offset
 unfoldable pub header_bytes : Plan → ℕ → ℕ → List ℕ
 header_bytes p phnum shoff =
     fields ident
-    ++ fields (first_fields p.settings shoff)
-    ++ fields (last_fields phnum (length p.roles) (index_of p.roles (codes ".shstrtab")))
+    ++ fields (first_header_fields p.settings shoff)
+    ++ fields (last_header_fields phnum (length p.roles) (index_of p.roles (codes ".shstrtab")))
 
 -- ---- the parts
-
--- zeros up to an offset
-unfoldable pub filled_to : ℕ → List ℕ → List ℕ
-filled_to offset bytes = bytes ++ replicate (offset - length bytes) 0
 
 unfoldable pub interp_of : Settings → List ℕ
 interp_of s = if has_interp s then interp_bytes else []

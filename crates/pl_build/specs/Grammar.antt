@@ -23,8 +23,8 @@ bare text =
     else Wrong
 
 -- a keyword and a number
-unfoldable pub numbered : List ℕ → ℕ → Line
-numbered keyword n =
+unfoldable pub number_line : List ℕ → ℕ → Line
+number_line keyword n =
     if bytes_eq keyword (codes "buckets") then Buckets n
     else if bytes_eq keyword (codes "spare") then Spare n
     else if bytes_eq keyword (codes "entry") then Entry n
@@ -39,8 +39,8 @@ hash_line text =
     else if bytes_eq text (codes "both") then Hash (record { sysv = true; gnu = true })
     else Wrong
 
-unfoldable pub numbered_by : List ℕ → List ℕ → Line
-numbered_by keyword text = or_wrong (number text) (numbered keyword)
+unfoldable pub number_line_by : List ℕ → List ℕ → Line
+number_line_by keyword text = or_wrong (number text) (number_line keyword)
 
 unfoldable pub needs_line : List ℕ → Line
 needs_line text = if is_valid_name text then Needs text else Wrong
@@ -54,7 +54,7 @@ pair keyword text =
     if bytes_eq keyword (codes "needs") then needs_line text
     else if bytes_eq keyword (codes "version") then version_line text
     else if bytes_eq keyword (codes "hash") then hash_line text
-    else numbered_by keyword text
+    else number_line_by keyword text
 
 unfoldable pub word_line : List (List ℕ) → Line
 word_line words =

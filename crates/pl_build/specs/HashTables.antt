@@ -3,7 +3,7 @@ use Rattle.std.specs.Prelude.{ℕ, ◌+◌, ◌*◌, ◌/◌, ◌%◌, ◌^◌, 
 use Rattle.std.specs.List.{list_any, range_with_len}
 use Rattle.pl_base.specs.Sums.{plus}
 use Rattle.pl_hash.specs.Hash.{sysv, gnu}
-use Rattle.pl_hash.specs.declared.table.TheConstants.{BLOOM_WORD_BITS}
+use Rattle.pl_hash.specs.Table.{first_bit, second_bit}
 use Rattle.pl_build.specs.declared.constants.TheConstants.{BLOOM_COUNT, BLOOM_SHIFT_BITS}
 use Rattle.pl_build.specs.declared.fields.Field.TheVariants.{Word, Xword}
 use Rattle.pl_build.specs.declared.line.Symbol.{Symbol}
@@ -23,13 +23,13 @@ found buckets from b = position_of (drop from buckets) b
 unfoldable pub sysv_buckets : Plan → List ℕ
 sysv_buckets p = map (λ s. bucket_of p.settings.buckets (sysv s.name)) p.symbols
 
-abbrev pub numbered : ℕ → Option ℕ → ℕ
-numbered from None = 0
-numbered from (Some k) = from + k + 1
+abbrev pub number_or_none : ℕ → Option ℕ → ℕ
+number_or_none from None = 0
+number_or_none from (Some k) = from + k + 1
 
 -- the number of the first symbol of a bucket, from an index on; 0 where there is none
 unfoldable pub first_from : List ℕ → ℕ → ℕ → ℕ
-first_from buckets from b = numbered from (found buckets from b)
+first_from buckets from b = number_or_none from (found buckets from b)
 
 -- the next symbol of the same bucket
 unfoldable pub next_after : List ℕ → ℕ → ℕ
@@ -65,7 +65,7 @@ symoffset p = count_by is_undefined p.symbols + 1
 
 -- the two bits of a hash in the one bloom word
 unfoldable pub bloom_more : ℕ → ℕ → ℕ
-bloom_more word hash = bit_or (bit_or word (2 ^ (hash % BLOOM_WORD_BITS))) (2 ^ (hash / 2 ^ BLOOM_SHIFT_BITS % BLOOM_WORD_BITS))
+bloom_more word hash = bit_or (bit_or word (2 ^ first_bit hash)) (2 ^ second_bit hash BLOOM_SHIFT_BITS)
 
 unfoldable pub bloom : List ℕ → ℕ
 bloom hashes = fold bloom_more 0 hashes

@@ -1,9 +1,8 @@
--- The tables, one after the other from their offset on, each at a multiple of 8.
-use Rattle.std.specs.Prelude.{ℕ, ◌+◌, ◌==◌, List, [], ◌∷◌, ◌++◌, length, replicate, nat_lt, Result, Ok, Err, if◌then◌else◌}
+-- The tables, one after the other from their offset on, each at a multiple of their alignment.
+use Rattle.std.specs.Prelude.{ℕ, ◌+◌, ◌-◌, ◌==◌, List, [], ◌∷◌, ◌++◌, length, replicate, nat_lt, Result, Ok, Err, if◌then◌else◌}
 use Rattle.pl_base.specs.Each.{run}
-use Rattle.pl_base.specs.Sums.{plus}
-use Rattle.pl_base.specs.Windows.{gap}
-use Rattle.pl_build.specs.declared.constants.TheConstants.{TABLES_OFFSET, MAX_TABLES}
+use Rattle.pl_base.specs.Sums.{plus, round_up}
+use Rattle.pl_build.specs.declared.constants.TheConstants.{TABLES_OFFSET, TABLE_ALIGN, MAX_TABLES}
 use Rattle.pl_build.specs.declared.checks.Fault.{Fault}
 use Rattle.pl_build.specs.declared.roles.Role.{Role}
 use Rattle.pl_build.specs.declared.roles.Role.TheVariants.{Hash, GnuHash, Dynsym, Dynstr, Versym, Verdef, Verneed, RelaDyn, RelaPlt, Dynamic}
@@ -35,12 +34,16 @@ contents p places RelaPlt = jump_slots p
 contents p places Dynamic = dynamic_table p places
 contents p places _ = []
 
-abbrev pub start : Tables
-start = record { bytes = []; places = [] }
+abbrev pub no_tables : Tables
+no_tables = record { bytes = []; places = [] }
 
--- zeros up to the next multiple of 8
+-- zeros up to an offset
+unfoldable pub filled_to : ℕ → List ℕ → List ℕ
+filled_to offset bytes = bytes ++ replicate (offset - length bytes) 0
+
+-- zeros up to the next multiple of the tables' alignment
 unfoldable pub aligned : List ℕ → List ℕ
-aligned bytes = bytes ++ replicate (gap (length bytes)) 0
+aligned bytes = filled_to (round_up (length bytes) TABLE_ALIGN) bytes
 
 unfoldable pub place_at : Plan → Role → ℕ → ℕ → Place
 place_at p role offset size = record { role = role; addr = plus (base_of p.settings) offset; offset = offset; size = size }
@@ -66,4 +69,4 @@ role_added p t role =
     if length content == 0 then Ok t else in_limit (table_added p t role content)
 
 unfoldable pub tables : Plan → Result Tables Fault
-tables p = run (role_added p) start p.roles
+tables p = run (role_added p) no_tables p.roles

@@ -18,8 +18,8 @@ other_kind text = look_up text (
     (codes "dtpmod", R_X86_64_DTPMOD64) ∷ (codes "dtpoff", R_X86_64_DTPOFF64) ∷ (codes "tpoff", R_X86_64_TPOFF64)
     ∷ (codes "irelative", R_X86_64_IRELATIVE) ∷ (codes "tlsdesc", R_X86_64_TLSDESC) ∷ [])
 
-unfoldable pub kind_of : List ℕ → Option ℕ
-kind_of text = option_or (symbol_kind text) (other_kind text)
+unfoldable pub relocation_kind : List ℕ → Option ℕ
+relocation_kind text = option_or (symbol_kind text) (other_kind text)
 
 -- the name that stands for no symbol
 unfoldable pub is_no_symbol : List ℕ → Bool
@@ -31,7 +31,7 @@ fits kind text = is_written text && (is_no_symbol text || not (kind == R_X86_64_
 
 unfoldable pub rel_line : List (List ℕ) → Line
 rel_line words =
-    or_wrong (kind_of (word 1 words)) (λ kind.
+    or_wrong (relocation_kind (word 1 words)) (λ kind.
     or_wrong (number (word 2 words)) (λ offset.
     or_wrong (magnitude (word 4 words)) (λ m.
     if fits kind (word 3 words) then Relocates (record {

@@ -10,22 +10,22 @@ use Rattle.pl_build.specs.declared.constants.TheConstants.{TABLE_ALIGN}
 use Rattle.pl_build.specs.declared.roles.Role.{Role}
 use Rattle.pl_build.specs.declared.roles.Role.TheVariants.{Null, Interp, Hash, GnuHash, Dynsym, Dynstr, Versym, Verdef, Verneed, RelaDyn, RelaPlt, Dynamic, Data, Bss, Shstrtab}
 
-unfoldable pub name_of : Role → List ℕ
-name_of Null = []
-name_of Interp = codes ".interp"
-name_of Hash = codes ".hash"
-name_of GnuHash = codes ".gnu.hash"
-name_of Dynsym = codes ".dynsym"
-name_of Dynstr = codes ".dynstr"
-name_of Versym = codes ".gnu.version"
-name_of Verdef = codes ".gnu.version_d"
-name_of Verneed = codes ".gnu.version_r"
-name_of RelaDyn = codes ".rela.dyn"
-name_of RelaPlt = codes ".rela.plt"
-name_of Dynamic = codes ".dynamic"
-name_of Data = codes ".data"
-name_of Bss = codes ".bss"
-name_of Shstrtab = codes ".shstrtab"
+unfoldable pub section_name : Role → List ℕ
+section_name Null = []
+section_name Interp = codes ".interp"
+section_name Hash = codes ".hash"
+section_name GnuHash = codes ".gnu.hash"
+section_name Dynsym = codes ".dynsym"
+section_name Dynstr = codes ".dynstr"
+section_name Versym = codes ".gnu.version"
+section_name Verdef = codes ".gnu.version_d"
+section_name Verneed = codes ".gnu.version_r"
+section_name RelaDyn = codes ".rela.dyn"
+section_name RelaPlt = codes ".rela.plt"
+section_name Dynamic = codes ".dynamic"
+section_name Data = codes ".data"
+section_name Bss = codes ".bss"
+section_name Shstrtab = codes ".shstrtab"
 
 unfoldable pub kind_of : Role → ℕ
 kind_of Null = SHT_NULL
@@ -83,7 +83,7 @@ entsize_of _ = 0
 -- ---- in a list of sections
 
 abbrev pub has_name : List ℕ → Role → Bool
-has_name name role = bytes_eq (name_of role) name
+has_name name role = bytes_eq (section_name role) name
 
 -- the index of the section of a name, 0 where there is none
 unfoldable pub index_of : List Role → List ℕ → ℕ

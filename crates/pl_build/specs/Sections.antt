@@ -5,15 +5,16 @@ use Rattle.pl_build.specs.declared.constants.TheConstants.{INTERP_OFFSET}
 use Rattle.pl_build.specs.declared.fields.Field.{Field}
 use Rattle.pl_build.specs.declared.fields.Field.TheVariants.{Word, Xword}
 use Rattle.pl_build.specs.declared.roles.Role.{Role}
-use Rattle.pl_build.specs.declared.roles.Role.TheVariants.{Null, Interp, Dynsym, Verdef, Verneed, Data, Bss, Shstrtab}
+use Rattle.pl_build.specs.declared.roles.Role.TheVariants.{Interp, Dynsym, Verdef, Verneed, Data, Bss, Shstrtab}
 use Rattle.pl_build.specs.declared.roles.Place.{Place}
 use Rattle.pl_build.specs.declared.plan.Plan.{Plan}
 use Rattle.pl_build.specs.declared.sections.SectionRow.{SectionRow}
 use Rattle.pl_build.specs.declared.strings.Strings.{Strings}
+use Rattle.pl_build.specs.Dynamic.{null_place}
 use Rattle.pl_build.specs.Fields.{fields}
 use Rattle.pl_build.specs.Layout.{place_at}
 use Rattle.pl_build.specs.Plan.{data_address, has_interp}
-use Rattle.pl_build.specs.Roles.{name_of, kind_of, flags_of, align_of, entsize_of, link_of, index_of}
+use Rattle.pl_build.specs.Roles.{section_name, kind_of, flags_of, align_of, entsize_of, link_of, index_of}
 use Rattle.pl_build.specs.Segments.{interp_bytes}
 use Rattle.pl_build.specs.Strings.{text_at}
 
@@ -35,7 +36,7 @@ info_of p _ = 0
 
 unfoldable pub row_of : Plan → Strings → Place → SectionRow
 row_of p names place = record {
-  name = text_at names (name_of place.role);
+  name = text_at names (section_name place.role);
   kind = kind_of place.role;
   flags = flags_of place.role;
   addr = place.addr;
@@ -48,9 +49,6 @@ row_of p names place = record {
 }
 
 -- ---- where the sections stand
-
-abbrev pub null_place : Place
-null_place = record { role = Null; addr = 0; offset = 0; size = 0 }
 
 unfoldable pub first_places : Plan → List Place
 first_places p = if has_interp p.settings then null_place ∷ place_at p Interp INTERP_OFFSET (length interp_bytes) ∷ [] else null_place ∷ []

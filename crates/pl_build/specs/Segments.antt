@@ -1,6 +1,6 @@
 -- The program header table (System V gABI chapter 5, "Program Header").
-use Rattle.std.specs.Prelude.{ℕ, ◌+◌, ◌*◌, Bool, true, false, ◌||◌, nat_lt, List, [], ◌∷◌, ◌++◌, length, Option, Some, None, codes}
-use Rattle.std.specs.Option.{is_some}
+use Rattle.std.specs.Prelude.{ℕ, ◌+◌, ◌*◌, Bool, true, ◌||◌, nat_lt, List, [], ◌∷◌, ◌++◌, length, codes}
+use Rattle.std.specs.Option.{is_some, unwrap_or}
 use Rattle.pl_base.specs.Sums.{plus, round_up}
 use Rattle.pl_elf.specs.declared.constants.TheConstants.{HEADER_SIZE, SEGMENT_SIZE, PT_LOAD, PT_DYNAMIC, PT_INTERP, PT_PHDR, PT_TLS, PT_GNU_STACK, PAGE, PF_R, PF_W}
 use Rattle.pl_elf.specs.declared.segment.Segment.{Segment}
@@ -49,13 +49,12 @@ second_load s tables_end = record {
   align = PAGE;
 }
 
-abbrev pub tls_or_none : Option TlsBlock → TlsBlock
-tls_or_none (Some tls) = tls
-tls_or_none None = record { offset = 0; filesz = 0; memsz = 0; align = 0 }
+abbrev pub no_tls : TlsBlock
+no_tls = record { offset = 0; filesz = 0; memsz = 0; align = 0 }
 
 unfoldable pub tls_segment : Settings → ℕ → Segment
 tls_segment s tables_end =
-    let tls = tls_or_none s.tls in
+    let tls = unwrap_or s.tls no_tls in
     let address = plus (data_address s) tls.offset in
     record {
       kind = PT_TLS;
@@ -102,12 +101,5 @@ with_count s tables_end dynamic count = chosen (
     ∷ (has_data s, second_load s tables_end) ∷ (is_there dynamic, dynamic_segment dynamic)
     ∷ (is_some s.tls, tls_segment s tables_end) ∷ (s.usual, stack_segment) ∷ [])
 
-abbrev pub one : Bool → ℕ
-one true = 1
-one false = 0
-
-unfoldable pub count_of : Settings → Place → ℕ
-count_of s dynamic = one (has_interp s) + one (has_interp s) + 1 + one (has_data s) + one (is_there dynamic) + one (is_some s.tls) + one s.usual
-
 unfoldable pub segments : Settings → ℕ → Place → List Segment
-segments s tables_end dynamic = with_count s tables_end dynamic (count_of s dynamic)
+segments s tables_end dynamic = with_count s tables_end dynamic (length (with_count s tables_end dynamic 0))

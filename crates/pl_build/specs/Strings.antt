@@ -8,7 +8,7 @@ use Rattle.pl_build.specs.declared.roles.Role.{Role}
 use Rattle.pl_build.specs.declared.strings.Entry.{Entry}
 use Rattle.pl_build.specs.declared.strings.Strings.{Strings}
 use Rattle.pl_build.specs.Needed.{is_of}
-use Rattle.pl_build.specs.Roles.{name_of}
+use Rattle.pl_build.specs.Roles.{section_name}
 
 abbrev pub start : Strings
 start = record { bytes = 0 ∷ []; entries = [] }
@@ -59,7 +59,7 @@ files_added needs s files = fold (file_added needs) s files
 
 -- the names of sections
 abbrev pub role_added : Strings → Role → Strings
-role_added s role = text_added s (name_of role)
+role_added s role = text_added s (section_name role)
 
 unfoldable pub section_names : List Role → Strings
 section_names roles = fold role_added start roles

@@ -38,8 +38,8 @@ after_file rest = if has_file rest then drop 2 rest else rest
 unfoldable pub has_place : List (List ℕ) → Bool
 has_place rest = bytes_eq (word 0 rest) (codes "at")
 
-unfoldable pub place_of : List (List ℕ) → Option ℕ
-place_of rest = if has_place rest then number (word 1 rest) else Some 0
+unfoldable pub place_offset : List (List ℕ) → Option ℕ
+place_offset rest = if has_place rest then number (word 1 rest) else Some 0
 
 unfoldable pub after_place : List (List ℕ) → List (List ℕ)
 after_place rest = if has_place rest then drop 2 rest else rest
@@ -111,5 +111,5 @@ unfoldable pub ref_line : List (List ℕ) → Line
 ref_line words =
     or_wrong (bind_of (word 2 words)) (λ bind.
     or_wrong (type_of (word 3 words)) (λ kind.
-    or_wrong (place_of (after_file (drop 4 words))) (λ offset.
+    or_wrong (place_offset (after_file (drop 4 words))) (λ offset.
     ref_named (word 1 words) bind kind offset (drop 4 words))))

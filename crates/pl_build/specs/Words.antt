@@ -1,7 +1,7 @@
 -- The lines of a recipe, the words of a line, and the numbers and names among them.
 use Rattle.std.specs.Prelude.{ℕ, ◌+◌, ◌-◌, ◌*◌, ◌%◌, ◌^◌, Bool, not, ◌&&◌, ◌||◌, nat_le, nat_eq, List, [], ◌∷◌, length, take, drop, fold, position, Option, Some, None, codes, slice_get, if◌then◌else◌}
 use Rattle.std.specs.List.{list_all, starts_with}
-use Rattle.std.specs.Option.{is_some}
+use Rattle.std.specs.Option.{is_some, unwrap_or}
 use Rattle.bstr.specs.Find.{matches}
 use Rattle.bstr.specs.Text.{split_at}
 use Rattle.pl_base.specs.Names.{is_valid_name}
@@ -17,13 +17,9 @@ lines_of recipe = pieces (10 ∷ []) recipe
 abbrev pub words_of : List ℕ → List (List ℕ)
 words_of line = pieces (32 ∷ []) line
 
-abbrev pub or_empty : Option (List ℕ) → List ℕ
-or_empty (Some text) = text
-or_empty None = []
-
 -- the word at an index; past the last word an empty one
 abbrev pub word : ℕ → List (List ℕ) → List ℕ
-word index words = or_empty (slice_get words index)
+word index words = unwrap_or (slice_get words index) []
 
 -- ---- numbers: 1 to 16 lower-case hexadecimal digits
 

@@ -197,10 +197,10 @@ fn data_size(lines: &[Line]) -> u64
     }
 }
 
-#[tactic(auto, unfolding(crate::specs::Checks::kind_of))]
-fn kind_of(lines: &[Line], size: u64, index: usize, line: &Line) -> u8
+#[tactic(auto, unfolding(crate::specs::Checks::lowest_kind))]
+fn lowest_kind(lines: &[Line], size: u64, index: usize, line: &Line) -> u8
     requires { index < length lines.now }
-    ensures { result ≡ spec.kind_of lines.now size index line.now }
+    ensures { result ≡ spec.lowest_kind lines.now size index line.now }
 {
     if is_wrong(lines, index, line) {
         1
@@ -221,7 +221,7 @@ fn fault_at(lines: &[Line], size: u64, index: usize) -> Fault
     ensures { result ≡ spec.fault_at lines.now size index }
 {
     let kind = match lines.get(index) {
-        Some(line) => kind_of(lines, size, index, line),
+        Some(line) => lowest_kind(lines, size, index, line),
         None => 0,
     };
     Fault {

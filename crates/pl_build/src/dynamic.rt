@@ -6,7 +6,7 @@ use crate::choices::chosen;
 use crate::fields::{Field, Row, push_fields, push_rows};
 use crate::names::is;
 use crate::plan::Plan;
-use crate::roles::{Place, Role, name_of};
+use crate::roles::{Place, Role, section_name};
 use crate::strings::text_at;
 use pl_dyn::Tag;
 use pl_dyn::constants::{
@@ -37,7 +37,7 @@ fn tag(number: u64, value: u64) -> Tag
 fn is_at(name: &[u8], place: Place) -> bool
     ensures { result ≡ spec.is_at name.now place }
 {
-    is(name_of(place.role), name)
+    is(section_name(place.role), name)
 }
 
 fn find_place(places: &[Place], name: &[u8]) -> Option<Place>
@@ -46,20 +46,24 @@ fn find_place(places: &[Place], name: &[u8]) -> Option<Place>
     places.iter().copied().find(|place| is_at(name, *place))
 }
 
+/// The place of the null section.
+pub fn null_place() -> Place
+    ensures { result ≡ spec.null_place }
+{
+    Place {
+        role: Role::Null,
+        addr: 0,
+        offset: 0,
+        size: 0,
+    }
+}
+
 /// Where the section of a name stands. One that is not there has no bytes.
 #[tactic(auto, unfolding(crate::specs::Dynamic::place_of))]
 pub fn place_of(places: &[Place], name: &[u8]) -> Place
     ensures { result ≡ spec.place_of places.now name.now }
 {
-    match find_place(places, name) {
-        Some(place) => place,
-        None => Place {
-            role: Role::Null,
-            addr: 0,
-            offset: 0,
-            size: 0,
-        },
-    }
+    find_place(places, name).unwrap_or(null_place())
 }
 
 /// Whether a section is there.

@@ -9,7 +9,7 @@ use crate::data::data_bytes;
 use crate::dynamic::place_of;
 use crate::fault::RecipeFault;
 use crate::fields::{Field, push_fields, push_rows};
-use crate::layout::{Tables, end_of, lay_out};
+use crate::layout::{Tables, end_of, fill_to, lay_out};
 use crate::plan::{Plan, base_of, data_address, has_interp};
 use crate::recipe::Settings;
 use crate::roles::{Place, index_of};
@@ -59,9 +59,9 @@ fn type_of(settings: &Settings) -> u16
     }
 }
 
-#[tactic(auto, unfolding(crate::specs::File::first_fields))]
-fn first_fields(settings: &Settings, shoff: u64) -> [Field; 6]
-    ensures { result ≡ spec.first_fields settings.now shoff }
+#[tactic(auto, unfolding(crate::specs::File::first_header_fields))]
+fn first_header_fields(settings: &Settings, shoff: u64) -> [Field; 6]
+    ensures { result ≡ spec.first_header_fields settings.now shoff }
 {
     [
         Field::Half(u64::from(type_of(settings))),
@@ -73,8 +73,8 @@ fn first_fields(settings: &Settings, shoff: u64) -> [Field; 6]
     ]
 }
 
-fn last_fields(phnum: usize, shnum: usize, shstrndx: usize) -> [Field; 7]
-    ensures { result ≡ spec.last_fields phnum shnum shstrndx }
+fn last_header_fields(phnum: usize, shnum: usize, shstrndx: usize) -> [Field; 7]
+    ensures { result ≡ spec.last_header_fields phnum shnum shstrndx }
 {
     [
         Field::Word(0),
@@ -94,19 +94,8 @@ fn push_header(out: &mut Vec<u8>, plan: &Plan, phnum: usize, shoff: u64) -> Resu
     let roles = plan.roles.as_slice();
     let shstrndx = index_of(roles, b".shstrtab");
     push_fields(out, &ident())?;
-    push_fields(out, &first_fields(&plan.settings, shoff))?;
-    push_fields(out, &last_fields(phnum, roles.len(), shstrndx))
-}
-
-#[tactic(auto, unfolding(crate::specs::File::filled_to))]
-fn fill_to(out: &mut Vec<u8>, offset: u64) -> Result<(), AllocError>
-    ensures { OnOk result (out.new.items ≡ spec.filled_to offset out.old.items) }
-{
-    let offset = offset as usize;
-    if offset > out.len() {
-        out.resize(offset, 0)?;
-    }
-    Ok(())
+    push_fields(out, &first_header_fields(&plan.settings, shoff))?;
+    push_fields(out, &last_header_fields(phnum, roles.len(), shstrndx))
 }
 
 #[tactic(auto, unfolding(crate::specs::File::interp_of))]

@@ -32,9 +32,9 @@ fn bare(text: &[u8]) -> Line
     }
 }
 
-#[tactic(auto, unfolding(crate::specs::Grammar::numbered))]
-fn numbered(keyword: &[u8], number: u64) -> Line
-    ensures { result ≡ spec.numbered keyword.now number }
+#[tactic(auto, unfolding(crate::specs::Grammar::number_line))]
+fn number_line(keyword: &[u8], number: u64) -> Line
+    ensures { result ≡ spec.number_line keyword.now number }
 {
     if is(keyword, b"buckets") {
         Line::Buckets(number)
@@ -75,12 +75,12 @@ fn hash_line(text: &[u8]) -> Line
     }
 }
 
-#[tactic(auto, unfolding(crate::specs::Grammar::numbered_by))]
-fn numbered_by(keyword: &[u8], text: &[u8]) -> Line
-    ensures { result ≡ spec.numbered_by keyword.now text.now }
+#[tactic(auto, unfolding(crate::specs::Grammar::number_line_by))]
+fn number_line_by(keyword: &[u8], text: &[u8]) -> Line
+    ensures { result ≡ spec.number_line_by keyword.now text.now }
 {
     match number(text) {
-        Some(n) => numbered(keyword, n),
+        Some(n) => number_line(keyword, n),
         None => Line::Wrong,
     }
 }
@@ -118,7 +118,7 @@ fn pair(alloc: Global, keyword: &[u8], text: &[u8]) -> Result<Line, AllocError>
     if is(keyword, b"hash") {
         return Ok(hash_line(text));
     }
-    Ok(numbered_by(keyword, text))
+    Ok(number_line_by(keyword, text))
 }
 
 #[tactic(auto, unfolding(crate::specs::Grammar::word_line))]

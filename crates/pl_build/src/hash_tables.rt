@@ -170,18 +170,12 @@ fn gnu_first(first: usize, buckets: &[u64], bucket: u64) -> u64
     }
 }
 
-fn has_bucket(buckets: &[u64], bucket: u64) -> bool
-    ensures { result ≡ list_any (λ b. b == bucket) buckets.now }
-{
-    buckets.iter().any(|b| *b == bucket)
-}
-
 #[tactic(auto, unfolding(crate::specs::HashTables::goes_on))]
 fn goes_on(buckets: &[u64], index: usize) -> bool
     requires { index < length buckets.now }
     ensures { result ≡ spec.goes_on buckets.now index }
 {
-    has_bucket(&buckets[index + 1..], buckets[index])
+    buckets[index + 1..].contains(&buckets[index])
 }
 
 #[tactic(auto, unfolding(crate::specs::HashTables::gnu_chain))]

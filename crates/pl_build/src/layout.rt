@@ -4,7 +4,7 @@ ghost use Rattle.pl_base.specs.Each.{run};
 ghost use Rattle.pl_build.specs.Build.{Builds};
 ghost use Rattle.pl_build.specs.Layout as spec;
 
-use crate::constants::{MAX_TABLES, TABLES_OFFSET};
+use crate::constants::{MAX_TABLES, TABLE_ALIGN, TABLES_OFFSET};
 use crate::dynamic::dynamic_table;
 use crate::fault::RecipeFault;
 use crate::hash_tables::{gnu_table, sysv_table};
@@ -13,7 +13,7 @@ use crate::relocations::{jump_slots, others};
 use crate::roles::{Place, Role};
 use crate::symbol_table::symbol_table;
 use crate::versions::{verdefs, verneeds, version_words};
-use pl_base::{Rows, end};
+use pl_base::{Rows, end, round_up};
 use std::alloc::{AllocError, Global};
 
 /// The tables: their bytes from the offset of the first one on, and where each stands.
@@ -23,8 +23,8 @@ pub struct Tables {
     pub places: Rows<Place>,
 }
 
-fn start(alloc: Global) -> Tables
-    ensures { result ≡ spec.start }
+fn no_tables(alloc: Global) -> Tables
+    ensures { result ≡ spec.no_tables }
 {
     Tables {
         bytes: Rows::new(alloc),
@@ -65,13 +65,24 @@ pub fn place_at(plan: &Plan, role: Role, offset: u64, size: u64) -> Place
     }
 }
 
+/// Zeros up to an offset.
+#[tactic(auto, unfolding(crate::specs::Layout::filled_to))]
+pub fn fill_to(out: &mut Vec<u8>, offset: u64) -> Result<(), AllocError>
+    ensures { OnOk result (out.new.items ≡ spec.filled_to offset out.old.items) }
+{
+    let offset = offset as usize;
+    if offset > out.len() {
+        out.resize(offset, 0)?;
+    }
+    Ok(())
+}
+
 #[tactic(auto, unfolding(crate::specs::Layout::aligned))]
 fn align(bytes: &mut Vec<u8>) -> Result<(), AllocError>
     ensures { OnOk result (bytes.new.items ≡ spec.aligned bytes.old.items) }
 {
-    let aligned = (bytes.len() + 7) / 8 * 8;
-    bytes.resize(aligned, 0)?;
-    Ok(())
+    let end = round_up(bytes.len() as u64, TABLE_ALIGN);
+    fill_to(bytes, end)
 }
 
 #[tactic(auto, unfolding(crate::specs::Layout::table_added))]
@@ -125,10 +136,10 @@ fn add_role(alloc: Global, plan: &Plan, tables: Tables, role: Role) -> Result<Ta
 }
 
 fn add_roles(alloc: Global, plan: &Plan, roles: &[Role]) -> Result<Tables, RecipeFault>
-    ensures answer { Builds result (run (spec.role_added plan.now) spec.start roles.now) }
+    ensures answer { Builds result (run (spec.role_added plan.now) spec.no_tables roles.now) }
     ensures small { IfOk result (λ t. spec.end_of t ≤ MAX_TABLES) }
 {
-    let mut tables = start(alloc);
+    let mut tables = no_tables(alloc);
     for role in roles {
         tables = add_role(alloc, plan, tables, *role)?;
     }

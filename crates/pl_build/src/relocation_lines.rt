@@ -53,9 +53,9 @@ fn other_kind(text: &[u8]) -> Option<u32>
     }
 }
 
-#[tactic(auto, unfolding(crate::specs::RelocationLines::kind_of))]
-fn kind_of(text: &[u8]) -> Option<u32>
-    ensures { result ≡ spec.kind_of text.now }
+#[tactic(auto, unfolding(crate::specs::RelocationLines::relocation_kind))]
+fn relocation_kind(text: &[u8]) -> Option<u32>
+    ensures { result ≡ spec.relocation_kind text.now }
 {
     symbol_kind(text).or(other_kind(text))
 }
@@ -80,7 +80,7 @@ fn fits(kind: u32, text: &[u8]) -> bool
 pub fn rel_line(alloc: Global, words: &[Rows<u8>]) -> Result<Line, AllocError>
     ensures { IfOk result (λ line. line ≡ spec.rel_line words.now) }
 {
-    let Some(kind) = kind_of(word(words, 1)) else {
+    let Some(kind) = relocation_kind(word(words, 1)) else {
         return Ok(Line::Wrong);
     };
     let Some(offset) = number(word(words, 2)) else {

@@ -44,9 +44,9 @@ pub struct Place {
 }
 
 /// The name of a section.
-#[tactic(auto, unfolding(crate::specs::Roles::name_of))]
-pub fn name_of(role: Role) -> &'static [u8]
-    ensures { result.now ≡ spec.name_of role }
+#[tactic(auto, unfolding(crate::specs::Roles::section_name))]
+pub fn section_name(role: Role) -> &'static [u8]
+    ensures { result.now ≡ spec.section_name role }
 {
     match role {
         Role::Null => b"",
@@ -142,7 +142,7 @@ pub fn entsize_of(role: Role) -> u64
 fn has_name(name: &[u8], role: Role) -> bool
     ensures { result ≡ spec.has_name name.now role }
 {
-    is(name_of(role), name)
+    is(section_name(role), name)
 }
 
 fn position_of(roles: &[Role], name: &[u8]) -> Option<usize>

@@ -3,11 +3,12 @@ ghost use Rattle.std.specs.Prelude.{◌≡◌, ◌+◌, ◌<◌, ◌^◌, IfOk, 
 ghost use Rattle.pl_build.specs.Sections as spec;
 
 use crate::constants::INTERP_OFFSET;
+use crate::dynamic::null_place;
 use crate::fields::{Field, Row, push_fields};
 use crate::layout::place_at;
 use crate::plan::{Plan, data_address, has_interp};
 use crate::roles::{
-    Place, Role, align_of, entsize_of, flags_of, index_of, kind_of, link_of, name_of,
+    Place, Role, align_of, entsize_of, flags_of, index_of, kind_of, link_of, section_name,
 };
 use crate::segments::interp_bytes;
 use crate::strings::{Strings, text_at};
@@ -83,7 +84,7 @@ fn row_of(plan: &Plan, names: &Strings, place: &Place) -> SectionRow
 {
     let role = place.role;
     SectionRow {
-        name: text_at(names, name_of(role)),
+        name: text_at(names, section_name(role)),
         kind: kind_of(role),
         flags: flags_of(role),
         addr: place.addr,
@@ -101,12 +102,7 @@ fn row_of(plan: &Plan, names: &Strings, place: &Place) -> SectionRow
 pub fn first_places(alloc: Global, plan: &Plan) -> Result<Vec<Place>, AllocError>
     ensures { IfOk result (λ v. v.items ≡ spec.first_places plan.now) }
 {
-    let null = Place {
-        role: Role::Null,
-        addr: 0,
-        offset: 0,
-        size: 0,
-    };
+    let null = null_place();
     if !has_interp(&plan.settings) {
         return Ok(vec![in alloc; null]?);
     }

@@ -1,5 +1,5 @@
 // The program header table.
-ghost use Rattle.std.specs.Prelude.{◌≡◌, ◌<◌, ◌≤◌, ◌+◌, ◌^◌, IfOk};
+ghost use Rattle.std.specs.Prelude.{◌≡◌, ◌<◌, ◌+◌, ◌^◌, IfOk};
 ghost use Rattle.pl_elf.specs.Written.{segment_bytes};
 ghost use Rattle.pl_build.specs.Segments as spec;
 
@@ -98,17 +98,14 @@ fn second_load(settings: &Settings, tables_end: u64) -> Segment
     }
 }
 
-fn tls_or_none(tls: Option<TlsBlock>) -> TlsBlock
-    ensures { result ≡ spec.tls_or_none tls }
+fn no_tls() -> TlsBlock
+    ensures { result ≡ spec.no_tls }
 {
-    match tls {
-        Some(tls) => tls,
-        None => TlsBlock {
-            offset: 0,
-            filesz: 0,
-            memsz: 0,
-            align: 0,
-        },
+    TlsBlock {
+        offset: 0,
+        filesz: 0,
+        memsz: 0,
+        align: 0,
     }
 }
 
@@ -117,7 +114,7 @@ fn tls_segment(settings: &Settings, tables_end: u64) -> Segment
     requires { tables_end < 2 ^ 32 }
     ensures { result ≡ spec.tls_segment settings.now tables_end }
 {
-    let tls = tls_or_none(settings.tls);
+    let tls = settings.tls.unwrap_or(no_tls());
     let address = data_address(settings).wrapping_add(tls.offset);
     Segment {
         kind: PT_TLS,
@@ -217,22 +214,8 @@ fn with_count(
     )
 }
 
-#[tactic(auto, unfolding(crate::specs::Segments::count_of))]
-fn count_of(settings: &Settings, dynamic: &Place) -> u64
-    ensures value { result ≡ spec.count_of settings.now dynamic.now }
-    ensures small { result ≤ 7 }
-{
-    u64::from(has_interp(settings))
-        + u64::from(has_interp(settings))
-        + 1
-        + u64::from(has_data(settings))
-        + u64::from(is_there(dynamic))
-        + u64::from(settings.tls.is_some())
-        + u64::from(settings.usual)
-}
-
 /// The segments, where the tables end at an offset of the file.
-#[tactic(auto, unfolding(crate::specs::Segments::segments))]
+#[tactic(auto, using(crate::proofs::SegmentLaws::few_segments), unfolding(crate::specs::Segments::segments))]
 pub fn segments(
     alloc: Global,
     settings: &Settings,
@@ -242,11 +225,6 @@ pub fn segments(
     requires { tables_end < 2 ^ 32 }
     ensures { IfOk result (λ v. v.items ≡ spec.segments settings.now tables_end dynamic.now) }
 {
-    with_count(
-        alloc,
-        settings,
-        tables_end,
-        dynamic,
-        count_of(settings, dynamic),
-    )
+    let counted = with_count(alloc, settings, tables_end, dynamic, 0)?;
+    with_count(alloc, settings, tables_end, dynamic, counted.len() as u64)
 }

@@ -7,7 +7,7 @@ ghost use Rattle.pl_build.specs.Strings as spec;
 use crate::line::Symbol;
 use crate::names::is;
 use crate::needed::{Need, is_of};
-use crate::roles::{Role, name_of};
+use crate::roles::{Role, section_name};
 use crate::words::copy_of;
 use pl_base::Rows;
 use std::alloc::{AllocError, Global};
@@ -193,7 +193,7 @@ pub fn section_names(alloc: Global, roles: &[Role]) -> Result<Strings, AllocErro
 {
     let mut strings = start(alloc)?;
     for role in roles {
-        strings = add_text(alloc, strings, name_of(*role))?;
+        strings = add_text(alloc, strings, section_name(*role))?;
     }
     Ok(strings)
 }

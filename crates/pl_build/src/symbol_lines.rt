@@ -104,9 +104,9 @@ fn has_place(words: &[Rows<u8>]) -> bool
     is(word(words, 0), b"at")
 }
 
-#[tactic(auto, unfolding(crate::specs::SymbolLines::place_of))]
-fn place_of(words: &[Rows<u8>]) -> Option<u64>
-    ensures { result ≡ spec.place_of words.now }
+#[tactic(auto, unfolding(crate::specs::SymbolLines::place_offset))]
+fn place_offset(words: &[Rows<u8>]) -> Option<u64>
+    ensures { result ≡ spec.place_offset words.now }
 {
     if has_place(words) {
         number(word(words, 1))
@@ -256,7 +256,7 @@ pub fn ref_line(alloc: Global, words: &[Rows<u8>]) -> Result<Line, AllocError>
     let Some(kind) = type_of(word(words, 3)) else {
         return Ok(Line::Wrong);
     };
-    let Some(offset) = place_of(after_file(rest(words, 4))) else {
+    let Some(offset) = place_offset(after_file(rest(words, 4))) else {
         return Ok(Line::Wrong);
     };
     ref_named(alloc, word(words, 1), bind, kind, offset, rest(words, 4))

@@ -13,7 +13,7 @@ use std::alloc::Global;
 
 /// A number of 32 bits, and the bytes after it.
 #[tactic(auto, unfolding(crate::specs::Reading::number32_at))]
-fn take_32(bytes: &[u8]) -> Result<(u32, &[u8]), CacheFault>
+fn take_number32(bytes: &[u8]) -> Result<(u32, &[u8]), CacheFault>
     ensures { AnswersAs (λ x. (x.0, x.1.now)) spec.is_memory result (spec.number32_at bytes.now) }
 {
     if bytes.len() < 4 {
@@ -25,7 +25,7 @@ fn take_32(bytes: &[u8]) -> Result<(u32, &[u8]), CacheFault>
 
 /// A number of 64 bits, and the bytes after it.
 #[tactic(auto, unfolding(crate::specs::Reading::number64_at))]
-fn take_64(bytes: &[u8]) -> Result<(u64, &[u8]), CacheFault>
+fn take_number64(bytes: &[u8]) -> Result<(u64, &[u8]), CacheFault>
     ensures { AnswersAs (λ x. (x.0, x.1.now)) spec.is_memory result (spec.number64_at bytes.now) }
 {
     if bytes.len() < 8 {
@@ -65,8 +65,8 @@ fn take_row(alloc: Global, bytes: &[u8]) -> Result<(Slot, &[u8]), CacheFault>
     ensures { AnswersAs (λ x. (x.0, x.1.now)) spec.is_memory result (spec.row_at bytes.now) }
 {
     let (name, rest) = take_name(alloc, bytes)?;
-    let (start, rest) = take_64(rest)?;
-    let (span, rest) = take_64(rest)?;
+    let (start, rest) = take_number64(rest)?;
+    let (span, rest) = take_number64(rest)?;
     Ok((Slot { name, start, span }, rest))
 }
 
@@ -112,8 +112,8 @@ fn take_fields(alloc: Global, bytes: &[u8]) -> Result<Cache, CacheFault>
     ensures { Answers spec.is_memory result (spec.fields bytes.now) }
 {
     let rest = take_magic(bytes)?;
-    let (last, rest) = take_32(rest)?;
-    let (count, rest) = take_32(rest)?;
+    let (last, rest) = take_number32(rest)?;
+    let (count, rest) = take_number32(rest)?;
     let rows = take_all_rows(alloc, count, rest)?;
     Ok(Cache { last, rows })
 }

@@ -28,23 +28,21 @@ Stops why NotThere = ⊥
 Stops why TooLarge = ⊥
 Stops why NoMemory = ⊤
 
+-- one fact where the folder failed, and another after any other fault
+abbrev pub IfFailed : Type 0 → Type 0 → FolderFault → Type 0
+IfFailed failed other Failed = failed
+IfFailed failed other NotThere = other
+IfFailed failed other TooLarge = other
+IfFailed failed other NoMemory = other
+
 -- P, unless the folder failed
 abbrev pub UnlessFailed : Type 0 → FolderFault → Type 0
-UnlessFailed P Failed = ⊤
-UnlessFailed P NotThere = P
-UnlessFailed P TooLarge = P
-UnlessFailed P NoMemory = P
+UnlessFailed P = IfFailed ⊤ P
 
 -- the files after a fault: where the folder failed the call may be done, else the files are as before
 abbrev pub Leaves : Files → Files → Files → FolderFault → Type 0
-Leaves old done new Failed = (new ≡ old) ⊎ (new ≡ done)
-Leaves old done new NotThere = new ≡ old
-Leaves old done new TooLarge = new ≡ old
-Leaves old done new NoMemory = new ≡ old
+Leaves old done new = IfFailed ((new ≡ old) ⊎ (new ≡ done)) (new ≡ old)
 
 -- the files after an append: where the folder failed some first bytes are added, perhaps none or all, else the files are as before
 abbrev pub LeavesPrefix : Files → List ℕ → List ℕ → Files → FolderFault → Type 0
-LeavesPrefix old name bytes new Failed = (n : ℕ) × (n ≤ length bytes) × (new ≡ appended old name (take n bytes))
-LeavesPrefix old name bytes new NotThere = new ≡ old
-LeavesPrefix old name bytes new TooLarge = new ≡ old
-LeavesPrefix old name bytes new NoMemory = new ≡ old
+LeavesPrefix old name bytes new = IfFailed ((n : ℕ) × (n ≤ length bytes) × (new ≡ appended old name (take n bytes))) (new ≡ old)

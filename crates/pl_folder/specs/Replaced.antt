@@ -4,7 +4,7 @@ use Rattle.std.specs.FinMap.{insert, remove}
 use Rattle.pl_base.specs.Files.{Files}
 use Rattle.pl_folder.specs.declared.writing.TheConstants.{NEW_FILE}
 use Rattle.pl_folder.specs.declared.fault.FolderFault.{FolderFault}
-use Rattle.pl_folder.specs.declared.fault.FolderFault.TheVariants.{Failed, NotThere, TooLarge, NoMemory}
+use Rattle.pl_folder.specs.Calls.{IfFailed}
 
 -- the files with these bytes under the name, and nothing under the name of a new file
 abbrev pub replaced : Files → List ℕ → List ℕ → Files
@@ -16,7 +16,4 @@ SameElsewhere old new = remove new NEW_FILE.now ≡ remove old NEW_FILE.now
 
 -- the files after a fault: as before, but for the new file, or where the folder failed perhaps replaced
 abbrev pub LeavesOldOrNew : Files → List ℕ → List ℕ → Files → FolderFault → Type 0
-LeavesOldOrNew old name bytes new Failed = SameElsewhere old new ⊎ (new ≡ replaced old name bytes)
-LeavesOldOrNew old name bytes new NotThere = SameElsewhere old new
-LeavesOldOrNew old name bytes new TooLarge = SameElsewhere old new
-LeavesOldOrNew old name bytes new NoMemory = SameElsewhere old new
+LeavesOldOrNew old name bytes new = IfFailed (SameElsewhere old new ⊎ (new ≡ replaced old name bytes)) (SameElsewhere old new)

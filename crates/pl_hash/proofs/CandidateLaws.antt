@@ -1,6 +1,6 @@
 -- What the candidates of a hash are, one symbol at a time.
 use Rattle.std.proofs.Common.{◌≡◌, ℕ, zero, suc, ◌+◌, ◌<◌, ◌≤◌, Bool, true, false, cond, eqb, ◌||◌, List, [], ◌∷◌, Option, Some, None, refl, sym, ap, subst, ◌∙◌, arith, inl, inr, length}
-use Rattle.std.specs.Prelude.{IsTrue, IsSome, IfSome, nat_eq, filter, ◌==◌, ◌%◌}
+use Rattle.std.specs.Prelude.{IsTrue, IsSome, IfSome, nat_eq, slice_get, filter, ◌==◌, ◌%◌}
 use Rattle.std.specs.Option.{unwrap_or}
 use Rattle.std.specs.List.{list_any, AllByRecursion, IsDistinct}
 use Rattle.std.proofs.lemmas.Bool.{false≢true, false_from_ne_true, eqb-true, eqb-false, eq-eqb, ne_eqb, or_parts, or_cases, or_left, or_right, and_parts, leb-true, ltb-true}
@@ -11,7 +11,7 @@ use Rattle.pl_hash.specs.declared.table.Table.{Table}
 use Rattle.pl_hash.specs.declared.table.TheConstants.{WORD_SIZE}
 use Rattle.pl_hash.specs.Table.{bucket_count, admits, matches, link_at}
 use Rattle.pl_hash.specs.Chain.{chain_from, chain, following, head, is_linked, IsLinked, IsWellFormed}
-use Rattle.pl_hash.specs.Candidates.{matching, candidates, is_candidate, first_of, rest_after, rest_from}
+use Rattle.pl_hash.specs.Candidates.{matching, candidates, is_candidate, rest_after, rest_from}
 use Rattle.pl_hash.proofs.ChainLaws.{opened, chain_from-none, chain_from-zero, more_steps, same_chain}
 
 pub IsLinked-from : (t : Table) (index : ℕ) → is_linked t index ≡ true → IsLinked t index
@@ -53,11 +53,11 @@ opens t index h =
 abbrev pub left : Table → Option ℕ → ℕ
 left t at = length (unwrap_or (chain t at) [])
 
-pub none_left : (t : Table) (hash : ℕ) → first_of (matching t hash None) ≡ None
+pub none_left : (t : Table) (hash : ℕ) → slice_get (matching t hash None) 0 ≡ None
 unfolding matching chain
 none_left t hash = rw (chain_from-none t t.symbols) refl
 
-pub hit : (t : Table) (hash index : ℕ) → IsSome (chain t (Some index)) → matches t hash index ≡ true → first_of (matching t hash (Some index)) ≡ Some index
+pub hit : (t : Table) (hash index : ℕ) → IsSome (chain t (Some index)) → matches t hash index ≡ true → slice_get (matching t hash (Some index)) 0 ≡ Some index
 unfolding matching
 hit t hash index h match = let o = opens t index h in rw (o.whole, match) refl
 
@@ -242,12 +242,20 @@ has-rest_after index i (x ∷ xs) h = has-rest_after_by x index i xs (eqb x inde
 has-first : (i : ℕ) (ys : List ℕ) → has i (i ∷ ys) ≡ true
 has-first i ys = or_left (eqb i i) (has i ys) (eq-eqb i i refl)
 
-given_by : (xs ys : List ℕ) → ((i : ℕ) → has i ys ≡ true → has i xs ≡ true) → IfSome (first_of ys) (λ i. IsTrue (has i xs))
+given_by : (xs ys : List ℕ) → ((i : ℕ) → has i ys ≡ true → has i xs ≡ true) → IfSome (slice_get ys 0) (λ i. IsTrue (has i xs))
 given_by xs [] within = tt
 given_by xs (y ∷ ys) within = within y (has-first y ys)
 
+-- the first of a list is one of it, and is what the list begins with
+pub given_first : (xs : List ℕ) → IfSome (slice_get xs 0) (λ i. IsTrue (has i xs))
+given_first xs = given_by xs xs (λ i h. h)
+
+pub rest_from-first : (xs : List ℕ) → rest_from (slice_get xs 0) xs ≡ xs
+rest_from-first [] = refl
+rest_from-first (x ∷ xs) = rw (eq-eqb x x refl) refl
+
 -- the symbol after one of a list is one of it
-pub given_after : (index : ℕ) (xs : List ℕ) → IfSome (first_of (rest_after index xs)) (λ i. IsTrue (has i xs))
+pub given_after : (index : ℕ) (xs : List ℕ) → IfSome (slice_get (rest_after index xs) 0) (λ i. IsTrue (has i xs))
 given_after index xs = given_by xs (rest_after index xs) (λ i h. has-rest_after index i xs h)
 
 apart_at : (x y : ℕ) (ys : List ℕ) → AllByRecursion (λ z. nat_eq x z ≡ false) ys → has y ys ≡ true → eqb x y ≡ false
@@ -275,14 +283,14 @@ after_next index y [] ys distinct e = absurd cc
 after_next index y (x ∷ xs) ys distinct e =
     after_next_by x index y xs ys (eqb x index) (IsDistinct-head nat_eq x xs distinct) e (after_next index y xs ys (IsDistinct-tail nat_eq x xs distinct))
 
-rest_from_by : (xs ys : List ℕ) → ((y : ℕ) (zs : List ℕ) → ys ≡ y ∷ zs → rest_after y xs ≡ zs) → rest_from (first_of ys) xs ≡ ys
+rest_from_by : (xs ys : List ℕ) → ((y : ℕ) (zs : List ℕ) → ys ≡ y ∷ zs → rest_after y xs ≡ zs) → rest_from (slice_get ys 0) xs ≡ ys
 rest_from_by xs [] goes = refl
 rest_from_by xs (y ∷ zs) goes = ap (λ rest. y ∷ rest) (goes y zs refl)
 
 -- what is left from the symbol after one on is what comes after that one
-pub rest_from-next : (index : ℕ) (xs : List ℕ) → IsDistinct nat_eq xs → rest_from (first_of (rest_after index xs)) xs ≡ rest_after index xs
+pub rest_from-next : (index : ℕ) (xs : List ℕ) → IsDistinct nat_eq xs → rest_from (slice_get (rest_after index xs) 0) xs ≡ rest_after index xs
 rest_from-next index xs distinct = rest_from_by xs (rest_after index xs) (λ y zs e. after_next index y xs zs distinct e)
 
 -- the first from the following one on is the one after it
-pub next_is : (t : Table) (hash index : ℕ) → IsWellFormed t → IsTrue (is_candidate t hash index) → first_of (matching t hash (following t index)) ≡ first_of (rest_after index (candidates t hash))
-next_is t hash index formed given = ap first_of (sym (goes_on t hash index formed given).rest)
+pub next_is : (t : Table) (hash index : ℕ) → IsWellFormed t → IsTrue (is_candidate t hash index) → slice_get (matching t hash (following t index)) 0 ≡ slice_get (rest_after index (candidates t hash)) 0
+next_is t hash index formed given = ap (λ (xs : List ℕ). slice_get xs 0) (sym (goes_on t hash index formed given).rest)

@@ -25,11 +25,6 @@ is_candidate table hash index = list_any (λ k. k == index) (candidates table ha
 
 -- ---- one after the other
 
--- the first, where there is one
-abbrev pub first_of : List ℕ → Option ℕ
-first_of [] = None
-first_of (x ∷ xs) = Some x
-
 -- the ones after this one
 abbrev pub rest_after : ℕ → List ℕ → List ℕ
 rest_after index [] = []

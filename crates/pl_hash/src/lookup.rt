@@ -1,5 +1,5 @@
 // The symbols that a hash leads to.
-ghost use Rattle.std.specs.Prelude.{◌≡◌, ℕ, ◌<◌, nat_eq, IsTrue, IsSome, IfSome};
+ghost use Rattle.std.specs.Prelude.{◌≡◌, ℕ, ◌<◌, nat_eq, slice_get, IsTrue, IsSome, IfSome};
 ghost use Rattle.std.specs.List.{IsDistinct};
 ghost use Rattle.pl_hash.specs.Table as part;
 ghost use Rattle.pl_hash.specs.Chain.{IsLinked, IsWellFormed, chain};
@@ -55,7 +55,7 @@ pub fn matches(table: &Table, hash: u32, index: u32) -> bool
 fn first_matching(table: &Table, hash: u32, start: Option<u32>) -> Option<u32>
     requires header { part.HasHeader table.now }
     requires ends { IsSome (chain table.now start) }
-    ensures { result ≡ spec.first_of (spec.matching table.now hash start) }
+    ensures { result ≡ slice_get (spec.matching table.now hash start) 0 }
 {
     let mut at = start;
     while let Some(index) = at {
@@ -73,7 +73,7 @@ fn first_matching(table: &Table, hash: u32, start: Option<u32>) -> Option<u32>
 #[tactic(auto, unfolding(crate::specs::Candidates::candidates))]
 pub fn first(table: &Table, hash: u32) -> Option<u32>
     requires { IsWellFormed table.now }
-    ensures value { result ≡ spec.first_of (spec.candidates table.now hash) }
+    ensures value { result ≡ slice_get (spec.candidates table.now hash) 0 }
     ensures rest { spec.rest_from result (spec.candidates table.now hash) ≡ spec.candidates table.now hash }
     ensures given { IfSome result (λ index. IsTrue (spec.is_candidate table.now hash index)) }
 
@@ -93,7 +93,7 @@ pub fn first(table: &Table, hash: u32) -> Option<u32>
 pub fn next(table: &Table, hash: u32, index: u32) -> Option<u32>
     requires formed { IsWellFormed table.now }
     requires given { IsTrue (spec.is_candidate table.now hash index) }
-    ensures value { result ≡ spec.first_of (spec.rest_after index (spec.candidates table.now hash)) }
+    ensures value { result ≡ slice_get (spec.rest_after index (spec.candidates table.now hash)) 0 }
     ensures rest { spec.rest_from result (spec.candidates table.now hash) ≡ spec.rest_after index (spec.candidates table.now hash) }
     ensures given { IfSome result (λ index. IsTrue (spec.is_candidate table.now hash index)) }
 {

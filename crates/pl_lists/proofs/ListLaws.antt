@@ -17,6 +17,7 @@ use Rattle.pl_lists.specs.declared.fault.ListFault.TheVariants.{BadList}
 use Rattle.pl_lists.specs.Lists.{list_strings, after, row_bytes, list_bytes, is_row, are_distinct, are_placed, IsListOf}
 use Rattle.pl_lists.specs.Reading.{is_memory, start_at, is_ended, has_zeros, checked_name, named, row_between, row_at, rows_of, with_distinct, list_of}
 use Rattle.pl_lists.proofs.StepLaws.{refuse_two, all_three}
+use Rattle.pl_lists.proofs.WriteLaws.{strings_step}
 use Rattle.pl_lists.proofs.FieldLaws.{word32_drop, behind32}
 
 -- ---- where rows begin
@@ -120,7 +121,7 @@ record AreRows (table strings : List ℕ) (index : ℕ) (rows : List ListRow) : 
 
 one_found : (table strings : List ℕ) (index : ℕ) (row : ListRow) (rows : List ListRow) → IsBytes table → 20 * (index + 1) ≤ length table → row_at table strings index ≡ Ok row
     → AreRows table strings (index + 1) rows → AreRows table strings index (row ∷ rows)
-unfolding row_at list_bytes list_strings are_placed is_row
+unfolding row_at list_bytes are_placed is_row
 one_found table strings index row rows bytes within e later =
     let start = start_at table strings index in
     let r = row_read table strings (20 * index) start (start_at table strings (index + 1)) row e in
@@ -134,7 +135,7 @@ one_found table strings index row rows bytes within e later =
     let checksum : row.checksum < 2 ^ 32 = rw (← r.checksum) (word32_below (20 * index + 8) table bytes) in
     record {
       in_table = split ∙ ap (λ (xs : List ℕ). row_bytes start row ++ xs) (later.in_table ∙ ap (λ (n : ℕ). list_bytes n rows) r.size);
-      in_strings = r.text ∙ ap (λ (xs : List ℕ). row.name ++ 0 ∷ xs) later.in_strings;
+      in_strings = r.text ∙ ap (λ (xs : List ℕ). row.name ++ 0 ∷ xs) later.in_strings ∙ sym (strings_step row rows);
       within = omega (arith, r.size, r.within);
       placed = rw (lt-ltb _ _ small, ← r.size) later.placed;
       are_rows = rw (r.valid, lt-ltb _ _ stamp, lt-ltb _ _ checksum) later.are_rows;
@@ -247,8 +248,7 @@ begins table strings index at (row ∷ rows) left =
     start_here table strings index lt ∙ (words_left table strings index at row rows left).start_there
 
 length_strings : (row : ListRow) (rows : List ListRow) → length (list_strings (row ∷ rows)) ≡ length row.name + 1 + length (list_strings rows)
-unfolding list_strings
-length_strings row rows = length-append row.name (0 ∷ list_strings rows) ∙ omega arith
+length_strings row rows = ap length (strings_step row rows) ∙ length-append row.name (0 ∷ list_strings rows) ∙ omega arith
 
 after_within : (table strings : List ℕ) (index at : ℕ) (row : ListRow) (rows : List ListRow) → AreLeft table strings index at (row ∷ rows) → after at row ≤ length strings
 after_within table strings index at row rows left =
@@ -256,19 +256,19 @@ after_within table strings index at row rows left =
     omega (arith, size, left.within)
 
 next_left : (table strings : List ℕ) (index at : ℕ) (row : ListRow) (rows : List ListRow) → AreLeft table strings index at (row ∷ rows) → AreLeft table strings (index + 1) (after at row) rows
-unfolding list_bytes list_strings are_placed
+unfolding list_bytes are_placed
 next_left table strings index at row rows left =
     let next : 20 * index + 20 ≡ 20 * (index + 1) = omega arith in
     record {
       in_table = ap (λ (n : ℕ). drop n table) (sym next) ∙ sym (drop-drop 20 (20 * index) table) ∙ ap (drop 20) left.in_table ∙ drop_at (row_bytes at row) (list_bytes (after at row) rows) 20 (length_row_bytes at row);
-      in_strings = sym (drop-drop (length row.name + 1) at strings) ∙ ap (drop (length row.name + 1)) left.in_strings ∙ drop-append-add row.name (0 ∷ list_strings rows) 1;
+      in_strings = sym (drop-drop (length row.name + 1) at strings) ∙ ap (drop (length row.name + 1)) (left.in_strings ∙ strings_step row rows) ∙ drop-append-add row.name (0 ∷ list_strings rows) 1;
       within = after_within table strings index at row rows left;
       placed = (and_parts (nat_lt at (2 ^ 32)) (are_placed (after at row) rows) left.placed).1;
       are_rows = (and_parts (is_row row) (list_all is_row rows) left.are_rows).1;
     }
 
 one_again : (table strings : List ℕ) (index at : ℕ) (row : ListRow) (rows : List ListRow) → AreLeft table strings index at (row ∷ rows) → row_at table strings index ≡ Ok row
-unfolding row_at row_between is_ended has_zeros checked_name list_strings
+unfolding row_at row_between is_ended has_zeros checked_name
 one_again table strings index at row rows left =
     let words = words_left table strings index at row rows left in
     let within = after_within table strings index at row rows left in
@@ -276,10 +276,11 @@ one_again table strings index at row rows left =
     let some : at < after at row = omega arith in
     let last : after at row - 1 ≡ at + length row.name = omega arith in
     let size : after at row - 1 - at ≡ length row.name = omega arith in
+    let text : drop at strings ≡ row.name ++ 0 ∷ list_strings rows = left.in_strings ∙ strings_step row rows in
     let zero_there : byte (after at row - 1) strings ≡ 0 =
-    rw (last, ← get_or-drop at strings (length row.name) 0, left.in_strings) (get_or-append_seam row.name 0 (list_strings rows) 0) in
+    rw (last, ← get_or-drop at strings (length row.name) 0, text) (get_or-append_seam row.name 0 (list_strings rows) 0) in
     let name : part at (after at row - 1 - at) strings ≡ row.name =
-    rw (size, left.in_strings) (take_at row.name (0 ∷ list_strings rows) (length row.name) refl) in
+    rw (size, text) (take_at row.name (0 ∷ list_strings rows) (length row.name) refl) in
     rw (
       begins table strings index at (row ∷ rows) left,
       begins table strings (index + 1) (after at row) rows (next_left table strings index at row rows left),

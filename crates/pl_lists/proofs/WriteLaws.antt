@@ -4,7 +4,7 @@ use Rattle.std.proofs.lemmas.Bool.{lt-ltb}
 use Rattle.std.proofs.lemmas.List.{append-nil, at_drop_more, at_drop_all}
 use Rattle.pl_lists.specs.declared.list_row.ListRow.{ListRow}
 use Rattle.pl_lists.specs.declared.conflict_row.ConflictRow.{ConflictRow}
-use Rattle.pl_lists.specs.Lists.{list_strings, after, row_bytes, list_bytes, is_list, are_placed, IsListOf}
+use Rattle.pl_lists.specs.Lists.{ended_name, list_strings, after, row_bytes, list_bytes, is_list, are_placed, IsListOf}
 use Rattle.pl_lists.specs.Conflicts.{conflict_bytes, conflicts_bytes}
 
 -- the rows from an index on, as one row and the rows behind it
@@ -24,22 +24,26 @@ pub table_done : (rows : List ListRow) (index at start : ℕ) (table : List ℕ)
 unfolding list_bytes
 table_done rows index at start table le so_far = sym (append-nil table) ∙ ap (λ (xs : List ℕ). table ++ xs) (sym (at_drop_all (list_bytes at) rows index le)) ∙ so_far
 
+-- the strings of a row and of those behind it
+pub strings_step : (row : ListRow) (rows : List ListRow) → list_strings (row ∷ rows) ≡ row.name ++ 0 ∷ list_strings rows
+unfolding list_strings
+strings_step row rows = append_assoc row.name (0 ∷ []) (list_strings rows)
+
 -- the strings that follow a row's name are so much shorter
 pub room_more : (rows : List ListRow) (index at size whole : ℕ) (row : ListRow) → index < length rows → row ≡ get_or rows index row → size ≡ length row.name
     → at + length (list_strings (drop index rows)) ≡ whole → at + (size + 1) + length (list_strings (drop (index + 1) rows)) ≡ whole
-unfolding list_strings
 room_more rows index at size whole row lt is size_is so_far =
-    let one : length (list_strings (drop index rows)) ≡ length (row.name ++ 0 ∷ list_strings (drop (index + 1) rows)) = from_here (λ rs. length (list_strings rs)) rows index row lt is in
+    let one : length (list_strings (drop index rows)) ≡ length (row.name ++ 0 ∷ list_strings (drop (index + 1) rows)) = from_here (λ rs. length (list_strings rs)) rows index row lt is ∙ ap length (strings_step row (drop (index + 1) rows)) in
     omega (arith, one, length-append row.name (0 ∷ list_strings (drop (index + 1) rows)), size_is, so_far)
 
 -- ---- the strings
 
-pub names_more : (rows : List ListRow) (index : ℕ) (row : ListRow) (old new : List ℕ) → index < length rows → row ≡ get_or rows index row → new ≡ old ++ (row.name ++ 0 ∷ [])
+pub names_more : (rows : List ListRow) (index : ℕ) (row : ListRow) (old new : List ℕ) → index < length rows → row ≡ get_or rows index row → new ≡ old ++ ended_name row
     → old ++ list_strings (drop index rows) ≡ list_strings rows → new ++ list_strings (drop (index + 1) rows) ≡ list_strings rows
 unfolding list_strings
 names_more rows index row old new lt is new_is so_far =
     let later = list_strings (drop (index + 1) rows) in
-    rw new_is (append_assoc old (row.name ++ 0 ∷ []) later ∙ ap (λ (xs : List ℕ). old ++ xs) (append_assoc row.name (0 ∷ []) later))
+    rw new_is (append_assoc old (ended_name row) later)
     ∙ ap (λ (xs : List ℕ). old ++ xs) (sym (from_here list_strings rows index row lt is)) ∙ so_far
 
 pub names_done : (rows : List ListRow) (index : ℕ) (names : List ℕ) → length rows ≤ index → names ++ list_strings (drop index rows) ≡ list_strings rows → names ≡ list_strings rows
@@ -49,10 +53,10 @@ names_done rows index names le so_far = sym (append-nil names) ∙ ap (λ (xs : 
 -- ---- both are the grammar's
 
 names_placed : (at : ℕ) (rows : List ListRow) → at + length (list_strings rows) < 2 ^ 32 → are_placed at rows ≡ true
-unfolding are_placed list_strings
+unfolding are_placed
 names_placed at [] small = refl
 names_placed at (row ∷ rows) small =
-    let size = length-append row.name (0 ∷ list_strings rows) in
+    let size = ap length (strings_step row rows) ∙ length-append row.name (0 ∷ list_strings rows) in
     rw (lt-ltb at (2 ^ 32) (omega (arith, size, small)), names_placed (after at row) rows (omega (arith, size, small))) refl
 
 pub is_list_of : (before table strings : List ℕ) (rows : List ListRow) → length before + length (list_strings rows) < 2 ^ 32 → table ≡ list_bytes (length before) rows → strings ≡ before ++ list_strings rows

@@ -1,6 +1,6 @@
 -- The grammar of conflict rows: relocations with addend, at ascending addresses.
 use Rattle.std.specs.Prelude.{◌≡◌, ℕ, ◌^◌, Bool, true, ◌&&◌, nat_lt, List, [], ◌∷◌, ◌++◌}
-use Rattle.std.specs.List.{list_all}
+use Rattle.std.specs.List.{flat_map, list_all}
 use Rattle.pl_base.specs.Bytes.{bytes64}
 use Rattle.pl_lists.specs.declared.constants.TheConstants.{CONFLICT_INFO}
 use Rattle.pl_lists.specs.declared.conflict_row.ConflictRow.{ConflictRow}
@@ -10,8 +10,7 @@ unfoldable pub conflict_bytes : ConflictRow → List ℕ
 conflict_bytes row = bytes64 row.address ++ bytes64 CONFLICT_INFO ++ bytes64 row.word
 
 unfoldable pub conflicts_bytes : List ConflictRow → List ℕ
-conflicts_bytes [] = []
-conflicts_bytes (row ∷ rows) = conflict_bytes row ++ conflicts_bytes rows
+conflicts_bytes rows = flat_map conflict_bytes rows
 
 -- numbers of 64 bits
 unfoldable pub is_conflict : ConflictRow → Bool

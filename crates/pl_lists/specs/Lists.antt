@@ -1,6 +1,6 @@
 -- The grammar of a library list: a table of rows, and the strings where the rows' names stand.
 use Rattle.std.specs.Prelude.{◌≡◌, ℕ, ◌+◌, ◌^◌, Bool, true, ◌&&◌, not, nat_lt, List, [], ◌∷◌, ◌++◌, length}
-use Rattle.std.specs.List.{list_all, list_any}
+use Rattle.std.specs.List.{flat_map, list_all, list_any}
 use Rattle.std.specs.Str.{bytes_eq}
 use Rattle.pl_base.specs.Bytes.{bytes32}
 use Rattle.pl_base.specs.Names.{is_valid_name}
@@ -8,10 +8,13 @@ use Rattle.pl_lists.specs.declared.list_row.ListRow.{ListRow}
 
 -- ---- the spelling
 
+-- a row's name, ended by a 0
+abbrev pub ended_name : ListRow → List ℕ
+ended_name row = row.name ++ 0 ∷ []
+
 -- the strings of a list: each name, ended by a 0
 unfoldable pub list_strings : List ListRow → List ℕ
-list_strings [] = []
-list_strings (row ∷ rows) = row.name ++ 0 ∷ list_strings rows
+list_strings rows = flat_map ended_name rows
 
 -- where the next name begins, after a row's name that begins at an offset
 abbrev pub after : ℕ → ListRow → ℕ

@@ -1,7 +1,7 @@
 -- What bytes spell: the rows that stand there, or the refusal of bytes that are in no grammar.
 use Rattle.std.specs.Prelude.{ℕ, ◌+◌, ◌*◌, ◌-◌, ◌/◌, ◌%◌, Bool, true, false, not, ◌&&◌, ◌==◌, nat_lt, nat_le, if◌then◌else◌, List, [], ◌∷◌, length, Result, Ok}
 use Rattle.std.specs.List.{range_with_len}
-use Rattle.pl_base.specs.Answers.{◌>>=◌, refuse}
+use Rattle.pl_base.specs.Answers.{◌>>=◌, refuse, unless}
 use Rattle.pl_base.specs.Bytes.{byte, word32, word64, part}
 use Rattle.pl_base.specs.Each.{each}
 use Rattle.pl_base.specs.Names.{is_valid_name}
@@ -32,7 +32,7 @@ unfoldable pub has_zeros : ℕ → List ℕ → Bool
 has_zeros at table = word32 (at + 12) table == 0 && word32 (at + 16) table == 0
 
 unfoldable pub checked_name : List ℕ → Result (List ℕ) ListFault
-checked_name name = refuse ((not (is_valid_name name), BadList) ∷ []) (Ok name)
+checked_name name = unless (not (is_valid_name name)) BadList (Ok name)
 
 abbrev pub named : ℕ → List ℕ → List ℕ → Result ListRow ListFault
 named at table name = Ok (record { name = name; stamp = word32 (at + 4) table; checksum = word32 (at + 8) table })
@@ -51,27 +51,27 @@ abbrev pub rows_of : List ℕ → List ℕ → Result (List ListRow) ListFault
 rows_of table strings = each (row_at table strings) (range_with_len 0 (length table / LIST_ROW_SIZE))
 
 abbrev pub with_distinct : List ListRow → Result (List ListRow) ListFault
-with_distinct rows = refuse ((not (are_distinct rows), BadList) ∷ []) (Ok rows)
+with_distinct rows = unless (not (are_distinct rows)) BadList (Ok rows)
 
 unfoldable pub list_of : List ℕ → List ℕ → Result (List ListRow) ListFault
 list_of table strings =
-    refuse ((not (length table % LIST_ROW_SIZE == 0), BadList) ∷ [])
+    unless (not (length table % LIST_ROW_SIZE == 0)) BadList
     (rows_of table strings >>= with_distinct)
 
 -- ---- conflict rows
 
 unfoldable pub conflict_at : List ℕ → ℕ → Result ConflictRow ListFault
 conflict_at table index =
-    refuse ((not (word64 (CONFLICT_SIZE * index + 8) table == CONFLICT_INFO), BadList) ∷ [])
+    unless (not (word64 (CONFLICT_SIZE * index + 8) table == CONFLICT_INFO)) BadList
     (Ok (record { address = word64 (CONFLICT_SIZE * index) table; word = word64 (CONFLICT_SIZE * index + 16) table }))
 
 abbrev pub conflict_rows_of : List ℕ → Result (List ConflictRow) ListFault
 conflict_rows_of table = each (conflict_at table) (range_with_len 0 (length table / CONFLICT_SIZE))
 
 abbrev pub ascending : List ConflictRow → Result (List ConflictRow) ListFault
-ascending rows = refuse ((not (ascend rows), BadList) ∷ []) (Ok rows)
+ascending rows = unless (not (ascend rows)) BadList (Ok rows)
 
 unfoldable pub conflicts_of : List ℕ → Result (List ConflictRow) ListFault
 conflicts_of table =
-    refuse ((not (length table % CONFLICT_SIZE == 0), BadList) ∷ [])
+    unless (not (length table % CONFLICT_SIZE == 0)) BadList
     (conflict_rows_of table >>= ascending)

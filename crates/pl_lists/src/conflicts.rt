@@ -47,7 +47,7 @@ fn read_rows(alloc: Global, table: &[u8]) -> Result<Rows<ConflictRow>, ListFault
 }
 
 #[tactic(auto, unfolding(crate::specs::Reading::conflicts_of))]
-fn conflicts_spelled(alloc: Global, table: &[u8]) -> Result<Rows<ConflictRow>, ListFault>
+fn conflicts_of(alloc: Global, table: &[u8]) -> Result<Rows<ConflictRow>, ListFault>
     ensures { Answers spec.is_memory result (spec.conflicts_of table.now) }
 {
     if table.len() % CONFLICT_SIZE != 0 {
@@ -72,7 +72,7 @@ pub fn read_conflicts(alloc: Global, table: &[u8]) -> Result<Rows<ConflictRow>, 
     ensures unique { (rows others : List ConflictRow) → conflicts.AreConflictsOf table.now rows → conflicts.AreConflictsOf table.now others → rows ≡ others }
     ensures exact { Answers spec.is_memory result (spec.conflicts_of table.now) }
 {
-    conflicts_spelled(alloc, table)
+    conflicts_of(alloc, table)
 }
 
 #[tactic(auto, unfolding(crate::specs::Conflicts::conflict_bytes))]

@@ -116,7 +116,7 @@ fn read_rows(alloc: Global, table: &[u8], strings: &[u8]) -> Result<Rows<ListRow
 }
 
 #[tactic(auto, unfolding(crate::specs::Reading::list_of))]
-fn rows_spelled(alloc: Global, table: &[u8], strings: &[u8]) -> Result<Rows<ListRow>, ListFault>
+fn list_of(alloc: Global, table: &[u8], strings: &[u8]) -> Result<Rows<ListRow>, ListFault>
     ensures { Answers spec.is_memory result (spec.list_of table.now strings.now) }
 {
     if table.len() % LIST_ROW_SIZE != 0 {
@@ -141,5 +141,5 @@ pub fn read_list(alloc: Global, table: &[u8], strings: &[u8]) -> Result<Rows<Lis
     ensures unique { (rows others : List ListRow) → lists.IsListOf table.now strings.now rows → lists.IsListOf table.now strings.now others → rows ≡ others }
     ensures exact { Answers spec.is_memory result (spec.list_of table.now strings.now) }
 {
-    rows_spelled(alloc, table, strings)
+    list_of(alloc, table, strings)
 }

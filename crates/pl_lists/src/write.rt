@@ -1,4 +1,4 @@
-ghost use Rattle.std.specs.Prelude.{◌≡◌, ◌∷◌, ◌++◌, [], ◌+◌, ◌<◌, ◌^◌, true, length, IfOk, OnErr, OnOk};
+ghost use Rattle.std.specs.Prelude.{◌≡◌, ◌++◌, ◌+◌, ◌<◌, ◌^◌, true, length, IfOk, OnErr, OnOk};
 ghost use Rattle.pl_lists.specs.Lists as lists;
 
 use crate::ListRow;
@@ -19,7 +19,7 @@ fn push_row(table: &mut Vec<u8>, start: u32, row: &ListRow) -> Result<(), AllocE
 }
 
 /// The table of rows whose names begin at an offset of the strings.
-fn table_of(alloc: Global, start: usize, rows: &[ListRow]) -> Result<Vec<u8>, AllocError>
+fn list_bytes(alloc: Global, start: usize, rows: &[ListRow]) -> Result<Vec<u8>, AllocError>
     requires { start + length (lists.list_strings rows.now) < 2 ^ 32 }
     ensures { IfOk result (λ table. table.items ≡ lists.list_bytes start rows.now) }
 {
@@ -33,14 +33,14 @@ fn table_of(alloc: Global, start: usize, rows: &[ListRow]) -> Result<Vec<u8>, Al
 }
 
 fn push_name(names: &mut Vec<u8>, row: &ListRow) -> Result<(), AllocError>
-    ensures { OnOk result (names.new.items ≡ names.old.items ++ (row.now.name ++ 0 ∷ [])) }
+    ensures { OnOk result (names.new.items ≡ names.old.items ++ lists.ended_name row.now) }
 {
     names.extend_from_slice(row.name.as_str().as_bytes())?;
     names.push(0)?;
     Ok(())
 }
 
-fn names_of(alloc: Global, rows: &[ListRow]) -> Result<Vec<u8>, AllocError>
+fn list_strings(alloc: Global, rows: &[ListRow]) -> Result<Vec<u8>, AllocError>
     ensures { IfOk result (λ names. names.items ≡ lists.list_strings rows.now) }
 {
     let mut names = Vec::new(alloc);
@@ -64,8 +64,8 @@ pub fn write_list(
     ensures same { OnErr result (strings.new.items ≡ strings.old.items) }
     ensures spelled { IfOk result (λ table. lists.is_list rows.now ≡ true → lists.IsListOf table.items strings.new.items rows.now) }
 {
-    let table = table_of(alloc, strings.len(), rows)?;
-    let names = names_of(alloc, rows)?;
+    let table = list_bytes(alloc, strings.len(), rows)?;
+    let names = list_strings(alloc, rows)?;
     strings.extend_from_slice(&names)?;
     Ok(table)
 }

@@ -4,7 +4,7 @@ use Rattle.std.specs.Prelude.{nat_le, nat_lt, fold, max}
 use Rattle.std.proofs.lemmas.Bool.{cases_Bool, leb-true, lt-ltb, and_parts, or_cases, false≢true}
 use Rattle.std.proofs.lemmas.Bool.Decides.{nat_tests}
 use Rattle.pl_elf.specs.declared.range.Range.{Range}
-use Rattle.pl_slots.specs.Holes.{region_holes, without, is_free, fits_at}
+use Rattle.pl_slots.specs.Holes.{region_holes, without, is_free, spans_in, fits_at}
 use Rattle.pl_elf.specs.Ranges.{has}
 use Rattle.pl_slots.proofs.HoleLaws.{free_without, free_in_region}
 use Rattle.pl_place.specs.Left.{beside, left, greatest_end}
@@ -56,7 +56,7 @@ most_grows most (h ∷ holes) = omega (arith, most_grows (max most h.end) holes)
 
 fits_most : (most span start : ℕ) (holes : List Range) → fits_at holes span start ≡ true → start + span ≤ most_of most holes
 fits_most most span start [] fits = absurd (false≢true fits)
-fits_most most span start (h ∷ holes) fits = elim (or_cases (nat_le h.start start && nat_le (start + span) h.end) (fits_at holes span start) fits) [
+fits_most most span start (h ∷ holes) fits = elim (or_cases (spans_in start span h) (fits_at holes span start) fits) [
   | inl first ↦ omega (arith, leb-true (start + span) h.end (and_parts (nat_le h.start start) (nat_le (start + span) h.end) first).1, most_grows (max most h.end) holes)
   | inr later ↦ fits_most (max most h.end) span start holes later
 ]

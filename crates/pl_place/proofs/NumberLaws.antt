@@ -2,6 +2,7 @@
 use Rattle.std.proofs.Common.{◌≡◌, ℕ, zero, suc, ◌+◌, ◌-◌, ◌*◌, ◌/◌, ◌%◌, ◌≤◌, ◌<◌, Bool, true, false, ◌&&◌, ◌||◌, List, [], ◌∷◌, Some, None, refl, sym, ◌∙◌, arith, inl, inr, add-one}
 use Rattle.std.specs.Prelude.{nat_le, nat_lt, max}
 use Rattle.std.proofs.lemmas.Bool.{cases_Bool, cases_lt, leb-true, leb-false, le-leb, ltb-true, ltb-false, eqb-true, and_parts, and_from, and_right, or_left, or_right, false_from_ne_true}
+use Rattle.std.proofs.lemmas.List.Sums.{sum_by-cons}
 use Rattle.std.proofs.lemmas.Option.{same_Some, none-some}
 use Rattle.std.proofs.lemmas.Nat.{div-add-mod', mod_below}
 use Rattle.std.proofs.Math.Nat.{div-mul-le_self, mul-le-mul_right, add-mul, mul_comm, mul-mod_left}
@@ -9,7 +10,7 @@ use Rattle.pl_base.specs.Below.{count_below}
 use Rattle.pl_base.specs.Sums.{round_up, is_aligned}
 use Rattle.pl_base.proofs.SumLaws.{round_up-at_least}
 use Rattle.pl_elf.specs.declared.range.Range.{Range}
-use Rattle.pl_slots.specs.Holes.{holds, AreHolesFrom, fits_at}
+use Rattle.pl_slots.specs.Holes.{holds, AreHolesFrom, spans_in, fits_at}
 use Rattle.pl_slots.proofs.LowestLaws.{round_up-least, fits_from}
 use Rattle.pl_place.specs.Left.{greatest_end}
 use Rattle.pl_place.specs.Numbering.{is_place, places_below, room, all_room, place_in, numbered}
@@ -20,11 +21,11 @@ use Rattle.pl_place.proofs.LeftLaws.{most_of, most_grows}
 
 -- whether a span fits in one hole at an aligned address
 abbrev here : Range → ℕ → ℕ → ℕ → Bool
-here hole span align start = is_aligned start align && (nat_le hole.start start && nat_le (start + span) hole.end)
+here hole span align start = is_aligned start align && spans_in start span hole
 
 here_parts : (hole : Range) (span align start : ℕ) → here hole span align start ≡ true → (is_aligned start align ≡ true) × ((hole.start ≤ start) × (start + span ≤ hole.end))
 here_parts hole span align start hit =
-    let a = and_parts (is_aligned start align) (nat_le hole.start start && nat_le (start + span) hole.end) hit in
+    let a = and_parts (is_aligned start align) (spans_in start span hole) hit in
     let b = and_parts (nat_le hole.start start) (nat_le (start + span) hole.end) a.1 in
     (a.0, (leb-true hole.start start b.0, leb-true (start + span) hole.end b.1))
 
@@ -160,7 +161,7 @@ spread true b c = refl
 spread false b c = refl
 
 place_split : (span align : ℕ) (hole : Range) (holes : List Range) (start : ℕ) → is_place (hole ∷ holes) span align start ≡ (here hole span align start || is_place holes span align start)
-place_split span align hole holes start = spread (is_aligned start align) (nat_le hole.start start && nat_le (start + span) hole.end) (fits_at holes span start)
+place_split span align hole holes start = spread (is_aligned start align) (spans_in start span hole) (fits_at holes span start)
 
 place_low : (low span align : ℕ) (holes : List Range) (start : ℕ) → AreHolesFrom low holes → is_place holes span align start ≡ true → low ≤ start
 place_low low span align holes start are hit = fits_from low holes span start are (and_parts (is_aligned start align) (fits_at holes span start) hit).1
@@ -191,6 +192,7 @@ count_ends low span align most end (h ∷ holes) some p are ends =
       count_first span align h holes end are.2,
       count_whole span align h end some p (omega (arith, ends, most_grows (max most h.end) holes)),
       count_ends (h.end + 1) span align (max most h.end) end holes some p are.2 ends,
+      sum_by-cons (room span align) h holes,
     )
 
 pub all_counted : (low span align : ℕ) (holes : List Range) → 0 < span → 0 < align → AreHolesFrom low holes → places_below holes span align (greatest_end holes) ≡ all_room span align holes
@@ -201,7 +203,7 @@ pub most_counted : (low span align : ℕ) (holes : List Range) (n : ℕ) → 0 <
 unfolding all_room
 most_counted low span align [] n some p are = omega (arith, none_in span align n)
 most_counted low span align (h ∷ holes) n some p are =
-    omega (arith, count_first span align h holes n are.2, count_most span align h n some p, most_counted (h.end + 1) span align holes n some p are.2)
+    omega (arith, count_first span align h holes n are.2, count_most span align h n some p, most_counted (h.end + 1) span align holes n some p are.2, sum_by-cons (room span align) h holes)
 
 -- ---- the place of a number
 
@@ -238,5 +240,5 @@ unfolding numbered all_room
 numbered_none span align [] number is = omega arith
 numbered_none span align (h ∷ holes) number is = elim (cases_Bool (nat_lt number (room span align h))) [
   | inl first ↦ absurd (none-some (place_in align h number) (is ∙ (rw first refl)))
-  | inr later ↦ omega (arith, ltb-false number (room span align h) later, numbered_none span align holes (number - room span align h) (is ∙ (rw later refl)))
+  | inr later ↦ omega (arith, ltb-false number (room span align h) later, numbered_none span align holes (number - room span align h) (is ∙ (rw later refl)), sum_by-cons (room span align) h holes)
 ]

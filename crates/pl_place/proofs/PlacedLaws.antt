@@ -1,13 +1,13 @@
 -- Places in turn: one want more, and what all places are.
 use Rattle.std.proofs.Common.{◌≡◌, ℕ, ◌+◌, ◌≤◌, ◌<◌, true, false, ◌&&◌, List, [], ◌∷◌, ◌++◌, Option, Some, None, refl, sym, ◌∙◌, ap, subst, arith, length, drop, get_or, cond, append_assoc, append-nil, inl, inr}
-use Rattle.std.specs.Prelude.{nat_le, nat_lt, min, max, Result, Ok, Err, IfErr, IfSome}
+use Rattle.std.specs.Prelude.{nat_le, nat_lt, min, max, IfSome}
 use Rattle.std.proofs.lemmas.Bool.{cases_Bool, leb-true, le-leb, ltb-true, and_parts, and_from, or_cases, or_left, or_right, false_from_ne_true, false≢true}
 use Rattle.std.proofs.lemmas.List.{at_drop_more, at_drop_all}
 use Rattle.std.proofs.lemmas.List.Folds.{list_any-append}
 use Rattle.std.specs.Borrow.{Bor}
 use Rattle.pl_base.proofs.TestLaws.{no_both}
 use Rattle.pl_elf.specs.declared.range.Range.{Range}
-use Rattle.pl_slots.specs.Holes.{hole, cut, without, is_free, fits_at, IsLowest}
+use Rattle.pl_slots.specs.Holes.{hole, cut, without, is_free, spans_in, fits_at, IsLowest}
 use Rattle.pl_elf.specs.Ranges.{has, range_from}
 use Rattle.pl_slots.proofs.HoleLaws.{free_without}
 use Rattle.pl_slots.proofs.ServeLaws.{fits_free}
@@ -68,12 +68,12 @@ fits_hole span start a b fits = elim (cases_Bool (nat_lt a b)) [
   | inr none ↦ absurd (false≢true (subst (λ t. fits_at (cond t (record { start = a; end = b } ∷ []) []) span start ≡ true) none fits))
 ]
 
-fits_cut : (span start : ℕ) (taken free : Range) → fits_at (cut taken free) span start ≡ true → (nat_le free.start start && nat_le (start + span) free.end) ≡ true
+fits_cut : (span start : ℕ) (taken free : Range) → fits_at (cut taken free) span start ≡ true → spans_in start span free ≡ true
 unfolding cut
 fits_cut span start taken free fits =
     let low : List Range = hole free.start (min free.end taken.start) in
     let high : List Range = hole (max free.start taken.end) free.end in
-    elim (or_cases (fits_at low span start) (fits_at high span start) (sym (list_any-append (λ h. nat_le h.start start && nat_le (start + span) h.end) low high) ∙ fits)) [
+    elim (or_cases (fits_at low span start) (fits_at high span start) (sym (list_any-append (spans_in start span) low high) ∙ fits)) [
       | inl below ↦
           let parts = fits_hole span start free.start (min free.end taken.start) below in
           and_from _ _ (le-leb free.start start parts.0) (le-leb (start + span) free.end (omega (arith, parts.1)))
@@ -86,9 +86,9 @@ fits_wider : (span start : ℕ) (taken : Range) (holes : List Range) → fits_at
 unfolding without
 fits_wider span start taken [] fits = absurd (false≢true fits)
 fits_wider span start taken (free ∷ holes) fits =
-    elim (or_cases (fits_at (cut taken free) span start) (fits_at (without taken holes) span start) (sym (list_any-append (λ h. nat_le h.start start && nat_le (start + span) h.end) (cut taken free) (without taken holes)) ∙ fits)) [
-      | inl first ↦ or_left (nat_le free.start start && nat_le (start + span) free.end) (fits_at holes span start) (fits_cut span start taken free first)
-      | inr later ↦ or_right (nat_le free.start start && nat_le (start + span) free.end) (fits_at holes span start) (fits_wider span start taken holes later)
+    elim (or_cases (fits_at (cut taken free) span start) (fits_at (without taken holes) span start) (sym (list_any-append (spans_in start span) (cut taken free) (without taken holes)) ∙ fits)) [
+      | inl first ↦ or_left (spans_in start span free) (fits_at holes span start) (fits_cut span start taken free first)
+      | inr later ↦ or_right (spans_in start span free) (fits_at holes span start) (fits_wider span start taken holes later)
     ]
 
 all_wider : (taken : Range) (holes : List Range) (wants : List Want) (starts : List ℕ) → AllFit (without taken holes) wants starts → AllFit holes wants starts
@@ -182,8 +182,3 @@ fault_as post other holes wants fault is same = record { because = because_as po
 pub as_lowest : (at : Bor (List Range)) (span align : ℕ) (answer : Option ℕ) → IfSome answer (IsLowest at.now span align) → Lowest at span align answer
 as_lowest at span align (Some start) is = is
 as_lowest at span align None is = tt
-
--- from one fact of a fault to another
-pub IfErr-map : {T E : Type 0} (r : Result T E) (P Q : E → Type 0) → ((e : E) → P e → Q e) → IfErr r P → IfErr r Q
-IfErr-map (Ok x) P Q f p = tt
-IfErr-map (Err e) P Q f p = f e p

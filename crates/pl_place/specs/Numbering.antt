@@ -1,5 +1,5 @@
 -- The places of a span in holes, numbered upwards.
-use Rattle.std.specs.Prelude.{◌≡◌, ℕ, ◌+◌, ◌-◌, ◌*◌, ◌/◌, ◌%◌, Bool, ◌&&◌, nat_lt, if◌then◌else◌, List, [], ◌∷◌, Option, Some, None}
+use Rattle.std.specs.Prelude.{◌≡◌, ℕ, ◌+◌, ◌-◌, ◌*◌, ◌/◌, ◌%◌, Bool, ◌&&◌, nat_lt, sum_by, if◌then◌else◌, List, [], ◌∷◌, Option, Some, None}
 use Rattle.pl_base.specs.Below.{count_below}
 use Rattle.pl_base.specs.Sums.{plus, round_up, is_aligned}
 use Rattle.pl_elf.specs.declared.range.Range.{Range}
@@ -34,8 +34,7 @@ room span align hole =
 
 -- and in all
 unfoldable pub all_room : ℕ → ℕ → List Range → ℕ
-all_room span align [] = 0
-all_room span align (hole ∷ holes) = room span align hole + all_room span align holes
+all_room span align holes = sum_by (room span align) holes
 
 -- the place of a number in one hole
 unfoldable pub place_in : ℕ → Range → ℕ → ℕ

@@ -23,7 +23,7 @@ fn room(hole: Range, span: u64, align: u64) -> u128
 }
 
 /// How many places there are in all holes.
-#[tactic(auto, unfolding(crate::specs::Numbering::all_room))]
+#[tactic(auto, using(std::proofs::lemmas::List::Sums::sum_by_more), unfolding(crate::specs::Numbering::all_room))]
 pub fn all_room(holes: &[Range], span: u64, align: u64) -> u128
     requires { 0 < align }
     ensures { result ≡ spec.all_room span align holes.now }

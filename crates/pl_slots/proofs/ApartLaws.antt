@@ -15,7 +15,7 @@ use Rattle.pl_slots.specs.declared.planned.Planned.{Planned}
 use Rattle.pl_slots.specs.Apart.{is_beside, are_apart}
 use Rattle.pl_slots.specs.Holes.{without, lowest, is_free, fits_at}
 use Rattle.pl_elf.specs.Ranges.{has}
-use Rattle.pl_slots.specs.Plan.{next, placed, slot_at, at_place, with_row, kept_or_placed, kept_row, keeps, range_of, beside}
+use Rattle.pl_slots.specs.Plan.{next, placed, slot_at, at_place, with_row, kept_or_placed, kept_row, keeps, range_of, without_kept}
 use Rattle.pl_slots.proofs.HoleLaws.{free_without}
 use Rattle.pl_slots.proofs.ServeLaws.{AreSome, is_kept, lowest_fits, fits_free, still_free, free_before}
 
@@ -166,10 +166,10 @@ kept_apart kept region (want ∷ wants) apart names = apart_with_kept kept regio
 
 -- what is left of holes beside the rows that wants keep
 abbrev left_of : List Slot → Range → List Want → List Range → List Range
-left_of kept region wants holes = fold (λ holes want. beside (kept_row kept region want) holes) holes wants
+left_of kept region wants holes = fold (λ holes want. without_kept (kept_row kept region want) holes) holes wants
 
 outside_with_kept : (kept : List Slot) (region : Range) (want : Want) (wants : List Want) (holes : List Range) (found : Option Slot) → found ≡ kept_row kept region want → 0 < want.span
-    → ((holes : List Range) → Outside (left_of kept region wants holes) (kept_rows kept region wants)) → Outside (left_of kept region wants (beside found holes)) (with_kept found (kept_rows kept region wants))
+    → ((holes : List Range) → Outside (left_of kept region wants holes) (kept_rows kept region wants)) → Outside (left_of kept region wants (without_kept found holes)) (with_kept found (kept_rows kept region wants))
 outside_with_kept kept region want wants holes None none some rest = rest holes
 outside_with_kept kept region want wants holes (Some row) is some rest =
     let less : List Range = without (range_of row) holes in (

@@ -1,6 +1,6 @@
 -- What holes are known to meet.
 use Rattle.std.proofs.Common.{◌≡◌, ℕ, ◌+◌, ◌≤◌, ◌<◌, ◌&&◌, not, List, [], ◌∷◌, ◌++◌, Some, refl, sym, ◌∙◌, inl, inr, arith, append_assoc}
-use Rattle.std.specs.Prelude.{nat_le, nat_lt, min, max, Result, Ok, Err, IfOk}
+use Rattle.std.specs.Prelude.{nat_le, nat_lt, min, max}
 use Rattle.std.proofs.lemmas.Bool.{leb-true, lt-ltb, le-ltb, cases_lt}
 use Rattle.std.proofs.lemmas.Bool.Decides.{nat_tests}
 use Rattle.std.proofs.lemmas.List.Folds.{list_any-append}
@@ -81,8 +81,3 @@ free_without address taken (free ∷ holes) =
 pub free_in_region : (address : ℕ) (region : Range) → is_free address (region_holes region) ≡ has address region
 unfolding region_holes
 free_in_region address region = free_in_hole address region.start region.end
-
--- ---- from one fact of an answer to another
-pub IfOk-map : {T E : Type 0} (r : Result T E) (P Q : T → Type 0) → ((x : T) → P x → Q x) → IfOk r P → IfOk r Q
-IfOk-map (Ok x) P Q f p = f x p
-IfOk-map (Err e) P Q f p = tt

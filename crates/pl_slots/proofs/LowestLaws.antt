@@ -1,5 +1,5 @@
 -- The lowest place in holes is the least aligned address at which a span fits.
-use Rattle.std.proofs.Common.{◌≡◌, ℕ, ◌+◌, ◌-◌, ◌≤◌, ◌<◌, ◌%◌, ◌*◌, ◌/◌, Bool, true, List, [], ◌∷◌, Option, Some, None, refl, sym, ◌∙◌, subst, inl, inr, arith, ◌&&◌}
+use Rattle.std.proofs.Common.{◌≡◌, ℕ, ◌+◌, ◌-◌, ◌≤◌, ◌<◌, ◌%◌, ◌*◌, ◌/◌, true, List, [], ◌∷◌, Option, Some, None, refl, sym, ◌∙◌, subst, inl, inr, arith}
 use Rattle.std.specs.Prelude.{nat_le, IfSome, IfNone}
 use Rattle.std.proofs.lemmas.Bool.{cases_Bool, leb-true, leb-false, le-leb, eqb-true, and_parts, and_from, or_cases, or_left, or_right, false≢true, cases_lt}
 use Rattle.std.proofs.lemmas.Option.{same_Some, none-some}
@@ -8,7 +8,7 @@ use Rattle.std.proofs.Math.Nat.{div-mul-le_self, mul-le-mul_right, add-mul}
 use Rattle.pl_base.specs.Sums.{round_up, is_aligned}
 use Rattle.pl_base.proofs.SumLaws.{round_up-at_least, round_up-aligned}
 use Rattle.pl_elf.specs.declared.range.Range.{Range}
-use Rattle.pl_slots.specs.Holes.{holds, lowest, AreHoles, AreHolesFrom, fits_at, IsPlace, IsLowest}
+use Rattle.pl_slots.specs.Holes.{holds, lowest, AreHoles, AreHolesFrom, spans_in, fits_at, IsPlace, IsLowest}
 
 -- a multiple that is not below a number is not below the number rounded up
 pub round_up-least : (x a y : ℕ) → 0 < a → is_aligned y a ≡ true → x ≤ y → round_up x a ≤ y
@@ -29,10 +29,7 @@ round_up-least x a y p aligned le =
     ]
 
 -- a span that fits in the first hole, or in one of the others
-abbrev fits_first : Range → ℕ → ℕ → Bool
-fits_first hole span start = nat_le hole.start start && nat_le (start + span) hole.end
-
-first_fits : (hole : Range) (span start : ℕ) → fits_first hole span start ≡ true → (hole.start ≤ start) × (start + span ≤ hole.end)
+first_fits : (hole : Range) (span start : ℕ) → spans_in start span hole ≡ true → (hole.start ≤ start) × (start + span ≤ hole.end)
 first_fits hole span start fits =
     let parts = and_parts (nat_le hole.start start) (nat_le (start + span) hole.end) fits in
     (leb-true hole.start start parts.0, leb-true (start + span) hole.end parts.1)
@@ -40,7 +37,7 @@ first_fits hole span start fits =
 -- what fits in holes is not below the first
 pub fits_from : (low : ℕ) (holes : List Range) (span start : ℕ) → AreHolesFrom low holes → fits_at holes span start ≡ true → low ≤ start
 fits_from low [] span start are fits = absurd (false≢true fits)
-fits_from low (h ∷ holes) span start are fits = elim (or_cases (fits_first h span start) (fits_at holes span start) fits) [
+fits_from low (h ∷ holes) span start are fits = elim (or_cases (spans_in start span h) (fits_at holes span start) fits) [
   | inl here ↦ omega (arith, are.0, (first_fits h span start here).0)
   | inr later ↦ omega (arith, are.0, are.1, fits_from (h.end + 1) holes span start are.2 later)
 ]
@@ -53,19 +50,19 @@ is_lowest low span align start (h ∷ holes) p are is = elim (cases_Bool (nat_le
       let here : start ≡ round_up h.start align = same_Some start (round_up h.start align) (is ∙ (rw hit refl)) in
       let in_hole : round_up h.start align + span ≤ h.end = leb-true (round_up h.start align + span) h.end hit in
       let above : h.start ≤ round_up h.start align = round_up-at_least h.start align p in
-      let first : fits_first h span (round_up h.start align) ≡ true = and_from _ _ (le-leb h.start (round_up h.start align) above) hit in
-      let place : IsPlace (h ∷ holes) span align (round_up h.start align) = (round_up-aligned h.start align, or_left (fits_first h span (round_up h.start align)) (fits_at holes span (round_up h.start align)) first) in
+      let first : spans_in (round_up h.start align) span h ≡ true = and_from _ _ (le-leb h.start (round_up h.start align) above) hit in
+      let place : IsPlace (h ∷ holes) span align (round_up h.start align) = (round_up-aligned h.start align, or_left (spans_in (round_up h.start align) span h) (fits_at holes span (round_up h.start align)) first) in
       let least : (other : ℕ) → IsPlace (h ∷ holes) span align other → round_up h.start align ≤ other = λ other is_place.
-      elim (or_cases (fits_first h span other) (fits_at holes span other) is_place.1) [
+      elim (or_cases (spans_in other span h) (fits_at holes span other) is_place.1) [
         | inl front ↦ round_up-least h.start align other p is_place.0 (first_fits h span other front).0
         | inr later ↦ omega (arith, in_hole, fits_from (h.end + 1) holes span other are.2 later)
       ] in
       subst (IsLowest (h ∷ holes) span align) (sym here) (place, least)
   | inr miss ↦
       let rest = is_lowest (h.end + 1) span align start holes p are.2 (is ∙ (rw miss refl)) in
-      let place : IsPlace (h ∷ holes) span align start = (rest.0.0, or_right (fits_first h span start) (fits_at holes span start) rest.0.1) in
+      let place : IsPlace (h ∷ holes) span align start = (rest.0.0, or_right (spans_in start span h) (fits_at holes span start) rest.0.1) in
       let least : (other : ℕ) → IsPlace (h ∷ holes) span align other → start ≤ other = λ other is_place.
-      elim (or_cases (fits_first h span other) (fits_at holes span other) is_place.1) [
+      elim (or_cases (spans_in other span h) (fits_at holes span other) is_place.1) [
         | inl front ↦ absurd (omega (arith, leb-false (round_up h.start align + span) h.end miss, (first_fits h span other front).1, round_up-least h.start align other p is_place.0 (first_fits h span other front).0))
         | inr later ↦ rest.1 other (is_place.0, later)
       ] in
@@ -78,7 +75,7 @@ is_none span align start [] p is place = false≢true place.1
 is_none span align start (h ∷ holes) p is place = elim (cases_Bool (nat_le (round_up h.start align + span) h.end)) [
   | inl hit ↦ absurd (none-some (round_up h.start align) (is ∙ (rw hit refl)))
   | inr miss ↦
-      elim (or_cases (fits_first h span start) (fits_at holes span start) place.1) [
+      elim (or_cases (spans_in start span h) (fits_at holes span start) place.1) [
         | inl front ↦ omega (arith, leb-false (round_up h.start align + span) h.end miss, (first_fits h span start front).1, round_up-least h.start align start p place.0 (first_fits h span start front).0)
         | inr later ↦ is_none span align start holes p (is ∙ (rw miss refl)) (place.0, later)
       ]

@@ -15,9 +15,9 @@ use Rattle.pl_elf.specs.declared.range.Range.{Range}
 use Rattle.pl_slots.specs.declared.slot.Want.{Want}
 use Rattle.pl_slots.specs.declared.slot.Slot.{Slot}
 use Rattle.pl_slots.specs.declared.planned.Planned.{Planned}
-use Rattle.pl_slots.specs.Holes.{region_holes, without, lowest, holds, is_free, fits_at, IsPlace}
+use Rattle.pl_slots.specs.Holes.{region_holes, without, lowest, holds, is_free, spans_in, fits_at, IsPlace}
 use Rattle.pl_elf.specs.Ranges.{has}
-use Rattle.pl_slots.specs.Plan.{next, placed, slot_at, at_place, with_row, kept_or_placed, kept_row, kept_holes, keeps, lies_in, range_of, beside, Gets, Serves, AllServe}
+use Rattle.pl_slots.specs.Plan.{next, placed, slot_at, at_place, with_row, kept_or_placed, kept_row, kept_holes, keeps, lies_in, range_of, without_kept, Gets, Serves, AllServe}
 use Rattle.pl_slots.proofs.HoleLaws.{free_without, free_in_region}
 
 -- ---- wants that can be planned
@@ -60,16 +60,16 @@ lowest_fits span align start (h ∷ holes) p is = elim (cases_Bool (nat_le (roun
       let here : start ≡ round_up h.start align = same_Some start (round_up h.start align) (is ∙ (rw hit refl)) in
       let above : h.start ≤ round_up h.start align = round_up-at_least h.start align p in
       subst (IsPlace (h ∷ holes) span align) (sym here)
-      (round_up-aligned h.start align, or_left (nat_le h.start (round_up h.start align) && nat_le (round_up h.start align + span) h.end) (fits_at holes span (round_up h.start align)) (and_from _ _ (le-leb h.start (round_up h.start align) above) hit))
+      (round_up-aligned h.start align, or_left (spans_in (round_up h.start align) span h) (fits_at holes span (round_up h.start align)) (and_from _ _ (le-leb h.start (round_up h.start align) above) hit))
   | inr miss ↦
       let rest = lowest_fits span align start holes p (is ∙ (rw miss refl)) in
-      (rest.0, or_right (nat_le h.start start && nat_le (start + span) h.end) (fits_at holes span start) rest.1)
+      (rest.0, or_right (spans_in start span h) (fits_at holes span start) rest.1)
 ]
 
 -- each address of a span that fits is free
 pub fits_free : (holes : List Range) (span start address : ℕ) → fits_at holes span start ≡ true → start ≤ address → address < start + span → is_free address holes ≡ true
 fits_free [] span start address fits le lt = absurd (false≢true fits)
-fits_free (h ∷ holes) span start address fits le lt = elim (or_cases (nat_le h.start start && nat_le (start + span) h.end) (fits_at holes span start) fits) [
+fits_free (h ∷ holes) span start address fits le lt = elim (or_cases (spans_in start span h) (fits_at holes span start) fits) [
   | inl here ↦
       let parts = and_parts (nat_le h.start start) (nat_le (start + span) h.end) here in
       let low : h.start ≤ start = leb-true h.start start parts.0 in
@@ -86,16 +86,16 @@ InRegion region holes = (address : ℕ) → is_free address holes ≡ true → h
 pub still_free : (taken : Range) (holes : List Range) (address : ℕ) → is_free address (without taken holes) ≡ true → is_free address holes ≡ true
 still_free taken holes address free = (and_parts (is_free address holes) _ (sym (free_without address taken holes) ∙ free)).0
 
-beside_free : (row : Option Slot) (holes : List Range) (address : ℕ) → is_free address (beside row holes) ≡ true → is_free address holes ≡ true
-beside_free (Some row) holes address free = still_free (range_of row) holes address free
-beside_free None holes address free = free
+without_kept_free : (row : Option Slot) (holes : List Range) (address : ℕ) → is_free address (without_kept row holes) ≡ true → is_free address holes ≡ true
+without_kept_free (Some row) holes address free = still_free (range_of row) holes address free
+without_kept_free None holes address free = free
 
 -- what is free beside the kept rows was free
 pub free_before : (kept : List Slot) (region : Range) (wants : List Want) (holes : List Range) (address : ℕ)
-    → is_free address (fold (λ holes want. beside (kept_row kept region want) holes) holes wants) ≡ true → is_free address holes ≡ true
+    → is_free address (fold (λ holes want. without_kept (kept_row kept region want) holes) holes wants) ≡ true → is_free address holes ≡ true
 free_before kept region [] holes address free = free
 free_before kept region (want ∷ wants) holes address free =
-    beside_free (kept_row kept region want) holes address (free_before kept region wants (beside (kept_row kept region want) holes) address free)
+    without_kept_free (kept_row kept region want) holes address (free_before kept region wants (without_kept (kept_row kept region want) holes) address free)
 
 pub holes_in_region : (kept : List Slot) (region : Range) (wants : List Want) → InRegion region (kept_holes kept region wants)
 unfolding kept_holes

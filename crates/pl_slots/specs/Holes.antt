@@ -48,9 +48,13 @@ AreHoles holes = AreHolesFrom 0 holes
 abbrev pub is_free : ℕ → List Range → Bool
 is_free address holes = list_any (has address) holes
 
--- whether a span at an address lies whole in one of the holes
+-- whether a span at an address lies whole in a range
+abbrev pub spans_in : ℕ → ℕ → Range → Bool
+spans_in start span range = nat_le range.start start && nat_le (start + span) range.end
+
+-- whether it lies whole in one of the holes
 abbrev pub fits_at : List Range → ℕ → ℕ → Bool
-fits_at holes span start = list_any (λ hole. nat_le hole.start start && nat_le (start + span) hole.end) holes
+fits_at holes span start = list_any (spans_in start span) holes
 
 -- an aligned address at which a span fits
 abbrev pub IsPlace : List Range → ℕ → ℕ → ℕ → Type 0

@@ -12,7 +12,7 @@ use Rattle.pl_slots.specs.declared.slot.Slot.{Slot}
 use Rattle.pl_slots.specs.declared.planned.Planned.{Planned}
 use Rattle.pl_slots.specs.declared.fault.PlanFault.{PlanFault}
 use Rattle.pl_slots.specs.declared.fault.PlanFault.TheVariants.{NoSlot, NoMemory}
-use Rattle.pl_slots.specs.Holes.{region_holes, without, lowest, greatest}
+use Rattle.pl_slots.specs.Holes.{region_holes, without, spans_in, lowest, greatest}
 
 abbrev pub is_memory : PlanFault → Bool
 is_memory NoMemory = true
@@ -24,7 +24,7 @@ range_of slot = range_from slot.start slot.span
 
 -- whether a slot lies in a region
 unfoldable pub lies_in : Range → Slot → Bool
-lies_in region slot = nat_le region.start slot.start && nat_le (slot.start + slot.span) region.end
+lies_in region slot = spans_in slot.start slot.span region
 
 -- whether a want keeps a row: it has the want's name, is no smaller than the want, aligned as it wants, and in the region
 unfoldable pub keeps : Range → Want → Slot → Bool
@@ -34,13 +34,14 @@ keeps region want slot = bytes_eq slot.name want.name && nat_le want.span slot.s
 unfoldable pub kept_row : List Slot → Range → Want → Option Slot
 kept_row kept region want = find (keeps region want) kept
 
-abbrev pub beside : Option Slot → List Range → List Range
-beside (Some slot) holes = without (range_of slot) holes
-beside None holes = holes
+-- what is left of holes beside a kept row, if there is one
+abbrev pub without_kept : Option Slot → List Range → List Range
+without_kept (Some slot) holes = without (range_of slot) holes
+without_kept None holes = holes
 
 -- the holes that the kept rows of all wants leave in a region
 unfoldable pub kept_holes : List Slot → Range → List Want → List Range
-kept_holes kept region wants = fold (λ holes want. beside (kept_row kept region want) holes) (region_holes region) wants
+kept_holes kept region wants = fold (λ holes want. without_kept (kept_row kept region want) holes) (region_holes region) wants
 
 -- the slot of a want at an address
 abbrev pub slot_at : Want → ℕ → Slot

@@ -1,7 +1,7 @@
 -- Variant II of thread-local storage: each block ends where the one before begins, or below it, and begins at an aligned offset below the thread pointer.
 use Rattle.std.specs.Prelude.{ℕ, ◌+◌, Bool, true, false, List, [], ◌∷◌, Option, Some, None, Result, Ok, nat_lt, max}
 use Rattle.std.specs.List.{list_any}
-use Rattle.pl_base.specs.Answers.{refuse}
+use Rattle.pl_base.specs.Answers.{unless}
 use Rattle.pl_base.specs.Sums.{round_up}
 use Rattle.pl_tls.specs.declared.TheConstants.{OFFSET_LIMIT}
 use Rattle.pl_tls.specs.declared.block.Block.{Block}
@@ -32,4 +32,4 @@ is_too_far m = nat_lt OFFSET_LIMIT m.offset
 unfoldable pub offsets : List (Option Block) → Result (List Module) TlsFault
 offsets blocks =
     let modules = modules_from 0 1 0 blocks in
-    refuse ((list_any is_too_far modules, TooLarge) ∷ []) (Ok modules)
+    unless (list_any is_too_far modules) TooLarge (Ok modules)

@@ -1,7 +1,7 @@
 -- What the bytes of an undo section spell, or the refusal of bytes that are none.
-use Rattle.std.specs.Prelude.{ℕ, ◌+◌, ◌-◌, Bool, true, false, not, ◌&&◌, ◌==◌, nat_eq, nat_lt, List, [], ◌∷◌, length, drop, Result, Ok}
+use Rattle.std.specs.Prelude.{ℕ, ◌+◌, ◌-◌, Bool, true, false, not, ◌&&◌, ◌==◌, nat_eq, nat_lt, List, length, drop, Result, Ok}
 use Rattle.std.specs.List.{starts_with}
-use Rattle.pl_base.specs.Answers.{refuse}
+use Rattle.pl_base.specs.Answers.{unless}
 use Rattle.pl_base.specs.Bytes.{word64, part}
 use Rattle.pl_elf.specs.Headers.{header}
 use Rattle.pl_elf.specs.declared.constants.TheConstants.{HEADER_SIZE}
@@ -36,13 +36,13 @@ unfoldable pub ends_at : List ℕ → ℕ → Bool
 ends_at bytes headers_end = length bytes == headers_end + word64 40 bytes
 
 abbrev pub fitting : ℕ → Undo → Result Undo UndoFault
-fitting kind u = refuse ((not (fits_kind kind u), BadUndo) ∷ []) (Ok u)
+fitting kind u = unless (not (fits_kind kind u)) BadUndo (Ok u)
 
 -- the value, by the header that stands in the section
 unfoldable pub behind_front : List ℕ → Header → Result Undo UndoFault
 behind_front bytes h =
     let headers_end = HEADERS_AT + headers_size h in
-    refuse ((not (ends_at bytes headers_end), BadUndo) ∷ []) (fitting h.kind (stored bytes headers_end))
+    unless (not (ends_at bytes headers_end)) BadUndo (fitting h.kind (stored bytes headers_end))
 
 unfoldable pub undo_of : List ℕ → Result Undo UndoFault
-undo_of bytes = refuse ((not (has_front bytes), BadUndo) ∷ []) (behind_front bytes (header (drop HEADERS_AT bytes)))
+undo_of bytes = unless (not (has_front bytes)) BadUndo (behind_front bytes (header (drop HEADERS_AT bytes)))

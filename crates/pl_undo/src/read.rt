@@ -94,7 +94,7 @@ fn stored_header(bytes: &[u8]) -> Header
 }
 
 #[tactic(auto, unfolding(crate::specs::Reading::undo_of))]
-fn undo_spelled(alloc: Global, bytes: &[u8]) -> Result<Undo, UndoFault>
+fn undo_of(alloc: Global, bytes: &[u8]) -> Result<Undo, UndoFault>
     ensures { Answers spec.is_memory result (spec.undo_of bytes.now) }
 {
     if !has_front(bytes) {
@@ -115,5 +115,5 @@ pub fn read_undo(alloc: Global, bytes: &[u8]) -> Result<Undo, UndoFault>
     ensures unique { (undo other : Undo) → section.IsUndoOf bytes.now undo → section.IsUndoOf bytes.now other → undo ≡ other }
     ensures exact { Answers spec.is_memory result (spec.undo_of bytes.now) }
 {
-    undo_spelled(alloc, bytes)
+    undo_of(alloc, bytes)
 }

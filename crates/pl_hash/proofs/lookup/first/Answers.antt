@@ -1,4 +1,6 @@
-use Rattle.pl_hash.proofs.CandidateLaws.{candidates-distinct, candidate_below}
+use Rattle.std.proofs.Common.{◌≡◌, rules, slice_get}
+use Rattle.pl_hash.specs.Candidates.{candidates}
+use Rattle.pl_hash.proofs.CandidateLaws.{candidates-distinct, candidate_below, given_first, rest_from-first}
 use Rattle.pl_hash.proofs.lookup.first.Goals as goal
 
 pub returns-then-not-admits-clause-once : goal.returns-then-not-admits-clause-once
@@ -9,3 +11,17 @@ returns-clause-within c = λ index given. candidate_below c.args.table.now c.arg
 
 pub returns-clause-once : goal.returns-clause-once
 returns-clause-once c = candidates-distinct c.args.table.now c.args.hash c.requires
+
+pub returns-clause-rest : goal.returns-clause-rest
+unfolding candidates
+returns-clause-rest c =
+    let xs = candidates c.args.table.now c.args.hash in
+    let value : c.first_matching.result ≡ slice_get xs 0 = search rules in
+    rw value (rest_from-first xs)
+
+pub returns-clause-given : goal.returns-clause-given
+unfolding candidates
+returns-clause-given c =
+    let xs = candidates c.args.table.now c.args.hash in
+    let value : c.first_matching.result ≡ slice_get xs 0 = search rules in
+    rw value (given_first xs)

@@ -1,7 +1,6 @@
-use Rattle.std.proofs.Common.{sym, ◌∙◌, ap, Some}
+use Rattle.std.proofs.Common.{ℕ, List, sym, ◌∙◌, ap, Some, slice_get}
 use Rattle.std.specs.Prelude.{IsSome}
 use Rattle.pl_hash.specs.Chain.{chain}
-use Rattle.pl_hash.specs.Candidates.{first_of}
 use Rattle.pl_hash.proofs.CandidateLaws.{IsLinked-from, opens, none_left, hit, miss, still_ends, fewer_left}
 use Rattle.pl_hash.proofs.lookup.first_matching.Goals as goal
 
@@ -35,7 +34,7 @@ loop-at-preserved c =
     let ends : IsSome (chain t (Some c.in-Some.index)) = rw c.in-Some.is at c.loop-at.invariant.0 in
     rw c.following-at.ensures (
       still_ends t c.in-Some.index ends,
-      sym (ap first_of (miss t c.args.hash c.in-Some.index ends (sym c.if-matches.ensures))) ∙ rw c.in-Some.is at c.loop-at.invariant.1,
+      sym (ap (λ (xs : List ℕ). slice_get xs 0) (miss t c.args.hash c.in-Some.index ends (sym c.if-matches.ensures))) ∙ rw c.in-Some.is at c.loop-at.invariant.1,
     )
 
 pub returns : goal.returns

@@ -7,10 +7,10 @@ use Rattle.pl_lists.proofs.ListLaws.{answer_found, is_read, is_one}
 use Rattle.pl_lists.proofs.read.read_list.Goals as goal
 
 pub returns-clause-found : goal.returns-clause-found
-returns-clause-found c = answer_found c.args.table.now c.args.strings.now c.rows_spelled.result (λ i. omega (arith, c.type_inv.table i)) c.rows_spelled.ensures
+returns-clause-found c = answer_found c.args.table.now c.args.strings.now c.list_of.result (λ i. omega (arith, c.type_inv.table i)) c.list_of.ensures
 
 pub returns-clause-only : goal.returns-clause-only
-returns-clause-only c = λ rows list. subst (λ (meant : Result (List ListRow) ListFault). Answers spec.is_memory c.rows_spelled.result meant) (is_read c.args.table.now c.args.strings.now rows list) c.rows_spelled.ensures
+returns-clause-only c = λ rows list. subst (λ (meant : Result (List ListRow) ListFault). Answers spec.is_memory c.list_of.result meant) (is_read c.args.table.now c.args.strings.now rows list) c.list_of.ensures
 
 pub returns-clause-unique : goal.returns-clause-unique
 returns-clause-unique c = is_one c.args.table.now c.args.strings.now

@@ -1,15 +1,15 @@
 use Rattle.std.proofs.Common.{subst}
-use Rattle.pl_slots.proofs.HoleLaws.{IfOk-map}
+use Rattle.std.proofs.lemmas.Result.{IfOk-weaker}
 use Rattle.pl_place.specs.Placing.{AllFit}
 use Rattle.pl_place.proofs.PlacedLaws.{all_fit, all_apart, fit_free}
 use Rattle.pl_place.proofs.placing.place_all.Goals as goal
 
 pub returns-clause-fit : goal.returns-clause-fit
 returns-clause-fit g c =
-    IfOk-map c.placed.result _ _ (λ starts placed. subst (λ holes. AllFit holes c.args.wants.now starts.items) c.in_ok-left.ensures.value (all_fit _ c.in_ok-left.field-0 c.args.wants.now starts.items placed)) c.placed.ensures.places
+    IfOk-weaker c.placed.result _ _ (λ starts placed. subst (λ holes. AllFit holes c.args.wants.now starts.items) c.in_ok-left.ensures.value (all_fit _ c.in_ok-left.field-0 c.args.wants.now starts.items placed)) c.placed.ensures.places
 
 pub returns-clause-free : goal.returns-clause-free
-returns-clause-free g c = IfOk-map c.placed.result _ _ (λ starts fit. fit_free c.args.region c.args.busy.now c.args.wants.now starts.items fit) (returns-clause-fit g c)
+returns-clause-free g c = IfOk-weaker c.placed.result _ _ (λ starts fit. fit_free c.args.region c.args.busy.now c.args.wants.now starts.items fit) (returns-clause-fit g c)
 
 pub returns-clause-apart : goal.returns-clause-apart
-returns-clause-apart g c = IfOk-map c.placed.result _ _ (λ starts placed. all_apart _ c.in_ok-left.field-0 c.args.wants.now starts.items placed) c.placed.ensures.places
+returns-clause-apart g c = IfOk-weaker c.placed.result _ _ (λ starts placed. all_apart _ c.in_ok-left.field-0 c.args.wants.now starts.items placed) c.placed.ensures.places

@@ -1,6 +1,6 @@
 use Rattle.std.proofs.Common.{ap, length, List, ℕ}
 use Rattle.pl_lists.proofs.WriteLaws.{table_more, table_done, room_more}
-use Rattle.pl_lists.proofs.write.table_of.Goals as goal
+use Rattle.pl_lists.proofs.write.list_bytes.Goals as goal
 
 pub loop-row-preserved : goal.loop-row-preserved
 loop-row-preserved c =

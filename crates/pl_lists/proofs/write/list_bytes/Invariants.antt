@@ -1,6 +1,6 @@
 use Rattle.std.proofs.Common.{◌≡◌, ◌++◌, ◌+◌, drop, length}
 use Rattle.pl_lists.specs.Lists as lists
-use Rattle.pl_lists.proofs.write.table_of.Given as goal
+use Rattle.pl_lists.proofs.write.list_bytes.Given as goal
 
 abbrev pub invariant-loop-row : goal.invariant-loop-row
 invariant-loop-row l = record {
