@@ -72,7 +72,7 @@ impl<R: Files + AllocGlobal + Clone + Drop> Folder for HostFolder<'_, R> {
     fn take(&mut self, alloc: Global, name: &str) -> Result<Vec<u8>, FolderFault> {
         let taken = take_file(self.rt, alloc, name);
         if matches!(taken, Err(FolderFault::Failed)) {
-            self.faults = self.faults.saturating_add(1);
+            return Err(FolderFault::from(self.fail()));
         }
         taken
     }

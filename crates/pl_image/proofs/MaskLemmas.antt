@@ -1,20 +1,17 @@
 -- The addresses at which file bytes of tables are loaded.
 use Rattle.std.proofs.Common.{◌≡◌, ℕ, ◌+◌, ◌-◌, ◌<◌, ◌≤◌, min, Bool, true, false, List, [], ◌∷◌, refl, sym, ap, ◌∙◌, arith, inl, inr}
-use Rattle.std.specs.Prelude.{◌&&◌, ◌||◌, nat_le, nat_lt, map}
+use Rattle.std.specs.Prelude.{◌&&◌, ◌||◌, nat_le, nat_lt}
 use Rattle.std.specs.List.{list_any}
 use Rattle.std.proofs.lemmas.Bool.{cases_Bool}
 use Rattle.std.proofs.lemmas.Bool.Decides.{nat_tests}
 use Rattle.std.proofs.Math.Bool.{and-false}
 use Rattle.pl_base.specs.Memory.{is_within}
-use Rattle.pl_base.specs.Windows.{holds}
 use Rattle.pl_base.proofs.MemoryLaws.{within_true}
 use Rattle.pl_elf.specs.declared.range.Range.{Range}
-use Rattle.pl_object.specs.Accepted.{window_of}
 use Rattle.pl_image.specs.declared.mask.Load.{Load}
 use Rattle.pl_image.specs.declared.mask.Mask.{Mask}
 use Rattle.pl_elf.specs.Ranges.{has}
-use Rattle.pl_image.specs.Loads.{loads_from, is_masked}
-use Rattle.pl_image.specs.Masked.{loads_table}
+use Rattle.pl_image.specs.Loads.{loads_table, is_masked}
 
 -- ---- a part of a file and a table
 
@@ -33,14 +30,6 @@ module _ (start offset size from to a : ℕ) where
   not_crossed none = grind (arith, nat_tests)
 
 -- ---- tables
-
--- a table as a range and as a window
-table_holds : (k : ℕ) (r : Range) → holds k (window_of r) ≡ has k r
-table_holds k r = grind (arith, nat_tests)
-
-any_holds : (k : ℕ) (rs : List Range) → list_any (holds k) (map window_of rs) ≡ list_any (has k) rs
-any_holds k [] = refl
-any_holds k (r ∷ rs) = ap (λ (b : Bool). b || list_any (holds k) (map window_of rs)) (table_holds k r) ∙ ap (λ (b : Bool). has k r || b) (any_holds k rs)
 
 and_or : (w x y : Bool) → ((w && x) || (w && y)) ≡ (w && (x || y))
 and_or true x y = refl
@@ -67,18 +56,12 @@ near_tables a load near tables same =
     ∙ sym (tables_of a load tables)
 
 -- other tables with the same bytes
-pub same_tables : (a : ℕ) (load : Load) (tables kept : List Range) → ((k : ℕ) → list_any (has k) kept ≡ list_any (has k) tables)
-    → list_any (loads_table a load) kept ≡ loads_from (map window_of tables) a load
-same_tables a load tables kept same =
-    let k = load.offset + (a - load.start) in
-    tables_of a load kept ∙ ap (λ (b : Bool). is_within load.start load.size a && b) (same k ∙ sym (any_holds k tables))
-
 masked_by : (a : ℕ) (loads : List Load) (tables kept : List Range) → ((k : ℕ) → list_any (has k) kept ≡ list_any (has k) tables)
-    → list_any (λ l. list_any (loads_table a l) kept) loads ≡ list_any (loads_from (map window_of tables) a) loads
+    → list_any (λ l. list_any (loads_table a l) kept) loads ≡ list_any (λ l. list_any (loads_table a l) tables) loads
 masked_by a [] tables kept same = refl
 masked_by a (l ∷ ls) tables kept same =
-    ap (λ (b : Bool). b || list_any (λ l. list_any (loads_table a l) kept) ls) (same_tables a l tables kept same)
-    ∙ ap (λ (b : Bool). loads_from (map window_of tables) a l || b) (masked_by a ls tables kept same)
+    ap (λ (b : Bool). b || list_any (λ l. list_any (loads_table a l) kept) ls) (near_tables a l kept tables (λ k _ _. same k))
+    ∙ ap (λ (b : Bool). list_any (loads_table a l) tables || b) (masked_by a ls tables kept same)
 
 pub masked_is : (a : ℕ) (mask : Mask) (kept : List Range) → ((k : ℕ) → list_any (has k) kept ≡ list_any (has k) mask.tables)
     → list_any (λ l. list_any (loads_table a l) kept) mask.loads ≡ is_masked mask a

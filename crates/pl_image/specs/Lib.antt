@@ -1,5 +1,4 @@
 pub mod Lines
 pub mod Loads
 pub mod Image
-pub mod Masked
 pub mod Index

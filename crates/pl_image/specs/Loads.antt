@@ -3,12 +3,12 @@ use Rattle.std.specs.Prelude.{ℕ, ◌+◌, ◌-◌, ◌≤◌, Bool, ◌&&◌, 
 use Rattle.std.specs.List.{list_any, All}
 use Rattle.pl_base.specs.Bytes.{part}
 use Rattle.pl_base.specs.Memory.{Piece, is_within}
-use Rattle.pl_base.specs.Windows.{Window, holds}
 use Rattle.pl_elf.specs.declared.constants.TheConstants.{ADDRESS_LIMIT}
 use Rattle.pl_elf.specs.declared.segment.Segment.{Segment}
 use Rattle.pl_elf.specs.Headers.{loads}
 use Rattle.pl_elf.specs.Clauses.{AreLoads}
-use Rattle.pl_object.specs.Accepted.{window_of}
+use Rattle.pl_elf.specs.Ranges.{has}
+use Rattle.pl_elf.specs.declared.range.Range.{Range}
 use Rattle.pl_object.specs.declared.object.Object.{Object}
 use Rattle.pl_image.specs.declared.mask.Load.{Load}
 use Rattle.pl_image.specs.declared.mask.Mask.{Mask}
@@ -35,14 +35,13 @@ load_at place s = record { start = place + s.vaddr; offset = s.offset; size = s.
 abbrev pub mask_at : ℕ → Object → Mask
 mask_at place o = record { loads = map (load_at place) (loads o.segments); tables = o.tables }
 
--- whether a file byte of one of the windows is loaded at an address
-abbrev pub loads_from : List Window → ℕ → Load → Bool
-loads_from windows address load =
-    is_within load.start load.size address && list_any (holds (load.offset + (address - load.start))) windows
+-- whether a file byte of a table is loaded at an address
+abbrev pub loads_table : ℕ → Load → Range → Bool
+loads_table address load table = is_within load.start load.size address && has (load.offset + (address - load.start)) table
 
 -- an address is masked where a file byte of a link table is loaded
 unfoldable pub is_masked : Mask → ℕ → Bool
-is_masked mask address = list_any (loads_from (map window_of mask.tables) address) mask.loads
+is_masked mask address = list_any (λ load. list_any (loads_table address load) mask.tables) mask.loads
 
 -- ---- the whole
 

@@ -9,7 +9,7 @@ ghost use Rattle.pl_image.specs.Lines.{IsClear, Passes, byte_in, word_in, word_l
 use crate::image_text::{add_word, flush};
 use crate::lines::{Lines, WORDS};
 use crate::masked::masked_ranges;
-use crate::piece::{byte_at, next_stored, piece_at, words_end};
+use crate::piece::{byte_at, next_stored, piece_at, pieces_end};
 use crate::ranges::any_has;
 use crate::touched::{Touch, index_patches, next_touched, patched, touching};
 use crate::{Loaded, Patch, Piece};
@@ -144,7 +144,7 @@ impl<'a> Image<'a> {
         ensures quiet { OnOk result (K.faults sink.new ≡ K.faults sink.old) }
         ensures counts { K.faults sink.old ≤ K.faults sink.new }
     {
-        let end = words_end(pieces);
+        let end = pieces_end(pieces);
         let mut number = self.next_word(pieces, 0);
         while number < end {
             add_word(lines, sink, 8 * number, self.word(pieces, number))?;

@@ -2,11 +2,10 @@
 ghost use Rattle.std.specs.Prelude.{◌≡◌, ◌+◌, ◌≤◌, ◌||◌, ℕ, true, IfOk, OnOk};
 ghost use Rattle.std.specs.List.{list_any, All};
 ghost use Rattle.pl_elf.specs.declared.constants.TheConstants.{ADDRESS_LIMIT};
+ghost use Rattle.pl_elf.specs.Ranges.{has};
 ghost use Rattle.pl_image.specs.Image.{any_masked};
 ghost use Rattle.pl_image.specs.Index.{rises};
-ghost use Rattle.pl_image.specs.Loads.{is_masked};
-ghost use Rattle.pl_image.specs.Masked as spec;
-ghost use Rattle.pl_elf.specs.Ranges.{has};
+ghost use Rattle.pl_image.specs.Loads as spec;
 
 use crate::ranges::{apart, near};
 use crate::{Load, Loaded, Mask};
@@ -57,7 +56,7 @@ fn add_loads(ranges: &mut Vec<Range>, loads: &[Load], tables: &[Range]) -> Resul
 /// Adds the masked addresses of an object.
 fn add_mask(alloc: Global, ranges: &mut Vec<Range>, mask: &Mask) -> Result<(), AllocError>
     requires { All (λ l. l.start + l.size ≤ ADDRESS_LIMIT) mask.now.loads }
-    ensures { OnOk result ((a : ℕ) → list_any (has a) ranges.new.items ≡ (list_any (has a) ranges.old.items || is_masked mask.now a)) }
+    ensures { OnOk result ((a : ℕ) → list_any (has a) ranges.new.items ≡ (list_any (has a) ranges.old.items || spec.is_masked mask.now a)) }
 {
     let tables = Vec::from_slice(alloc, mask.tables.as_slice())?;
     let tables = apart(alloc, tables)?;

@@ -118,7 +118,7 @@ fn end(piece: &Piece<'_>) -> u64
 }
 
 /// The number of the first word past pieces that ascend.
-pub fn words_end(pieces: &[Piece<'_>]) -> u64
+pub fn pieces_end(pieces: &[Piece<'_>]) -> u64
     requires { ascends 0 pieces.now ≡ true }
     ensures limit { result ≤ WORDS }
     ensures past { (address : ℕ) → 8 * result ≤ address → list_any (memory.lies address) pieces.now ≡ false }

@@ -1,11 +1,10 @@
 -- What acceptance says of the addresses that an object takes.
-use Rattle.std.proofs.Common.{◌≡◌, ℕ, ◌+◌, ◌<◌, ◌≤◌, Bool, true, false, not, List, [], ◌∷◌, Option, Some, None, Ok, Err, refl, sym, subst, arith, inl, inr, lit<}
-use Rattle.std.specs.Prelude.{fold, max, find, ◌==◌, ◌⊎◌, if◌then◌else◌}
+use Rattle.std.proofs.Common.{◌≡◌, ℕ, ◌+◌, ◌<◌, ◌≤◌, true, false, not, List, [], ◌∷◌, Option, Some, None, Ok, Err, refl, sym, arith, inl, inr, lit<}
+use Rattle.std.specs.Prelude.{fold, max, ◌==◌, ◌⊎◌, if◌then◌else◌}
 use Rattle.std.specs.List.{All, list_any}
 use Rattle.std.specs.Int.{is_power_of_two}
 use Rattle.std.proofs.lemmas.Bool.{cases_Bool, cases_lt, not-false, or_parts, and_parts, leb-true, eqb-true, false≢true}
-use Rattle.std.proofs.lemmas.Option.{same_Some}
-use Rattle.std.proofs.lemmas.List.Elements.{All-nil, All-cons, All-head, All-tail, All-weaker}
+use Rattle.std.proofs.lemmas.List.Elements.{All-nil, All-cons, All-weaker}
 use Rattle.pl_base.specs.Sums.{round_up}
 use Rattle.pl_base.specs.Windows.{Window}
 use Rattle.pl_base.proofs.SumLaws.{round_up-at_least}
@@ -28,6 +27,7 @@ use Rattle.pl_object.proofs.AcceptedLaws.{read_holds, accepted}
 use Rattle.pl_base.proofs.FindLaws.{find_passes}
 use Rattle.pl_object.proofs.FilePartLaws.{loads_parts}
 use Rattle.pl_elf.specs.Kinds.{is_library}
+use Rattle.pl_value.proofs.PlaceLaws.{found_holds}
 
 -- ---- the parts of an object
 
@@ -105,21 +105,6 @@ span_ends ss are =
     let last = last_ends None 0 ss (omega arith) are.ascend in
     let most : ℕ = end_in_memory (last_from None ss) in
     All-weaker (Ends most) (Ends (round_up most PAGE)) (λ s le. omega (arith, le, round_up-at_least most PAGE (lit< tt))) (loads ss) last.1
-
--- what holds of all PT_LOADs holds of one that is found
-found_holds : (P : Segment → Type 0) (p : Segment → Bool) (ss : List Segment) (s : Segment) → All P (loads ss) → ((x : Segment) → p x ≡ true → is_load x ≡ true) → find p ss ≡ Some s → P s
-found_holds P p [] s all passes found = absurd cc
-found_holds P p (x ∷ ss) s all passes found =
-    elim (cases_Bool (p x)) [
-      | inl hit ↦
-          let same : x ≡ s = same_Some x s (rw hit at found) in
-          subst P same (All-head P x (loads ss) (rw (passes x hit) at all))
-      | inr miss ↦
-          found_holds P p ss s (elim (cases_Bool (is_load x)) [
-            | inl load ↦ All-tail P x (loads ss) (rw load at all)
-            | inr other ↦ rw other at all
-          ]) passes (rw miss at found)
-    ]
 
 -- ---- the alignment
 

@@ -12,6 +12,7 @@ use Rattle.pl_object.specs.Refusals as object
 use Rattle.pl_object.specs.declared.refusal.Refusal.{Refusal}
 use Rattle.pl_object.specs.declared.refusal.Refusal.TheVariants as refusal
 use Rattle.pl_object.proofs.RefusalLaws.{reads_tells}
+use Rattle.pl_scope.specs.Walk.{itself}
 use Rattle.pl_scope.specs.Walk as walk
 use Rattle.pl_scope.specs.declared.fault.WalkFault.{WalkFault}
 use Rattle.pl_scope.specs.declared.fault.WalkFault.TheVariants as walk_variant
@@ -22,7 +23,7 @@ use Rattle.pl_value.specs.declared.fault.LinkFault.TheVariants as link
 use Rattle.pl_loader.specs.Faults.{is_memory, of_refusal, of_walk, of_tls}
 use Rattle.pl_loader.specs.Places.{lowest_places, places}
 use Rattle.pl_loader.specs.Started.{blocks, of_link, linked, started, load}
-use Rattle.pl_loader.specs.Walk.{loadable, object_in, walk_fault, object_of, walked, with_bytes, files, itself}
+use Rattle.pl_loader.specs.Walk.{loadable, object_in, walk_fault, object_of, walked, with_bytes, files}
 use Rattle.pl_loader.specs.declared.object_file.ObjectFile.{ObjectFile}
 use Rattle.pl_loader.specs.declared.fault.LoadFault.{LoadFault}
 

@@ -1,5 +1,6 @@
 -- The walk of a program's name over files (gABI chapter 5, "Shared Object Dependencies"), and one file of it.
 use Rattle.std.specs.Prelude.{◌≡◌, ℕ, ◌&&◌, List, [], ◌∷◌, ◌++◌, map, Option, Some, None, Result, Ok, Err}
+use Rattle.std.specs.Option.{ok_or}
 use Rattle.std.specs.Str.{bytes_eq}
 use Rattle.pl_base.specs.Answers.{◌>>=◌, because, unless}
 use Rattle.pl_base.specs.Each.{each}
@@ -26,10 +27,6 @@ loadable name n o = unless (bytes_eq n name && is_library o.kind) (NotProgram n)
 unfoldable pub object_in : List ℕ → List ℕ → List ℕ → Result Object LoadFault
 object_in name n bytes = because (of_refusal n) (reads bytes) >>= loadable name n
 
-abbrev pub there : List ℕ → Option (List ℕ) → Result (List ℕ) LoadFault
-there n None = Err (NotThere n)
-there n (Some bytes) = Ok bytes
-
 -- one file more of a walk
 abbrev pub with_file : Loading → Walking → ObjectFile → Loading
 with_file l order f = record { name = l.name; order = order; files = l.files ++ f ∷ [] }
@@ -40,7 +37,7 @@ entered l n bytes o = because of_walk (walk.give l.order o) >>= λ order. Ok (wi
 
 -- the wanted name, n, is given its file, if there is one
 unfoldable pub taken : Loading → List ℕ → Option (List ℕ) → Result Loading LoadFault
-taken l n file = there n file >>= λ bytes. object_in l.name n bytes >>= entered l n bytes
+taken l n file = ok_or file (NotThere n) >>= λ bytes. object_in l.name n bytes >>= entered l n bytes
 
 abbrev pub of_wanted : Loading → Option (List ℕ) → Option (List ℕ) → Result Loading LoadFault
 of_wanted l file None = Ok l
@@ -93,7 +90,3 @@ pub record IsUnderWay {E : Type 0} (fault : LoadFault → E) (file : List ℕ �
 abbrev pub IsFile : {E : Type 0} → (LoadFault → E) → (List ℕ → Result (List ℕ) E) → List ℕ → Option (List ℕ) → Type 0
 IsFile fault file n (Some bytes) = file n ≡ Ok bytes
 IsFile fault file n None = file n ≡ Err (fault (NotThere n))
-
--- a fault stands for itself
-abbrev pub itself : LoadFault → LoadFault
-itself fault = fault

@@ -78,7 +78,7 @@ fn symbol_name(
 }
 
 /// A link refusal with names in place of indexes.
-fn link_fault(
+fn of_link(
     alloc: Global,
     files: &[ObjectFile],
     fault: LinkFault,
@@ -124,7 +124,7 @@ pub fn linked<'a>(
     let parts = parts(alloc, files)?;
     match ordinary(alloc, &scope, &parts, places, modules) {
         Ok(image) => Ok(image),
-        Err(OrdinaryFault::Link(fault)) => Err(link_fault(alloc, files, fault)?),
+        Err(OrdinaryFault::Link(fault)) => Err(of_link(alloc, files, fault)?),
         Err(OrdinaryFault::NoMemory) => Err(LoadFault::NoMemory),
     }
 }

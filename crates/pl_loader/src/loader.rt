@@ -2,6 +2,7 @@ ghost use Rattle.std.specs.Prelude.{◌≡◌, ◌<◌, ◌^◌, ℕ, List, leng
 ghost use Rattle.std.specs.Option.{option_map, ForSome};
 ghost use Rattle.pl_base.specs.Answers.{Answers, Tells, because};
 ghost use Rattle.pl_object.specs.Reads.{reads};
+ghost use Rattle.pl_scope.specs.Walk.{itself};
 ghost use Rattle.pl_scope.specs.Walking.{wants};
 ghost use Rattle.pl_loader.specs.declared.fault.LoadFault as faults;
 ghost use Rattle.pl_loader.specs.Faults.{is_memory, of_refusal};
@@ -78,9 +79,9 @@ impl Loader {
     pub fn new(alloc: Global, name: &str) -> Result<Loader, NoMemory>
         ensures begun { IfOk result (λ loader. loader ≡ spec.begun name.now) }
         // all files of the walk of the name are still to come
-        ensures begins { IfOk result (λ loader. (file : List ℕ → Result (List ℕ) faults.LoadFault) → spec.IsUnderWay spec.itself file name.now loader) }
+        ensures begins { IfOk result (λ loader. (file : List ℕ → Result (List ℕ) faults.LoadFault) → spec.IsUnderWay itself file name.now loader) }
         // a law over definitions: the whole load means no want of memory where what is told of its files does not
-        ensures never_memory { (file : List ℕ → Result (List ℕ) faults.LoadFault) → ((n : List ℕ) → Tells is_memory (file n)) → Tells is_memory (start.load spec.itself file name.now) }
+        ensures never_memory { (file : List ℕ → Result (List ℕ) faults.LoadFault) → ((n : List ℕ) → Tells is_memory (file n)) → Tells is_memory (start.load itself file name.now) }
     {
         Ok(Loader {
             name: Text::copy_of(alloc, name)?,
@@ -148,9 +149,9 @@ impl Loader {
         ensures err { IfErr result (λ fault. Answers is_memory (Err fault) (spec.give self.old (option_map (λ bytes. bytes.items) file))) }
         ensures unchanged { OnErr result (self.new ≡ self.old) }
         // where the file is the one that the name has, the load goes on with one file more,
-        ensures goes_on { OnOk result ((files : List ℕ → Result (List ℕ) faults.LoadFault) (name wanted : List ℕ) → wants self.old.order ≡ Some wanted → spec.IsFile spec.itself files wanted (option_map (λ bytes. bytes.items) file) → spec.IsUnderWay spec.itself files name self.old → spec.IsUnderWay spec.itself files name self.new) }
+        ensures goes_on { OnOk result ((files : List ℕ → Result (List ℕ) faults.LoadFault) (name wanted : List ℕ) → wants self.old.order ≡ Some wanted → spec.IsFile itself files wanted (option_map (λ bytes. bytes.items) file) → spec.IsUnderWay itself files name self.old → spec.IsUnderWay itself files name self.new) }
         // or the fault is what the whole load means
-        ensures stops { IfErr result (λ fault. (files : List ℕ → Result (List ℕ) faults.LoadFault) (name wanted : List ℕ) → wants self.old.order ≡ Some wanted → spec.IsFile spec.itself files wanted (option_map (λ bytes. bytes.items) file) → spec.IsUnderWay spec.itself files name self.old → Answers is_memory (Err fault) (start.load spec.itself files name)) }
+        ensures stops { IfErr result (λ fault. (files : List ℕ → Result (List ℕ) faults.LoadFault) (name wanted : List ℕ) → wants self.old.order ≡ Some wanted → spec.IsFile itself files wanted (option_map (λ bytes. bytes.items) file) → spec.IsUnderWay itself files name self.old → Answers is_memory (Err fault) (start.load itself files name)) }
     {
         self.take(alloc, file)
     }
@@ -163,8 +164,8 @@ impl Loader {
         ensures ok { IfOk result (λ s. start.Starts s (start.started self.now.files)) }
         ensures err { IfErr result (λ fault. Answers is_memory (Err fault) (start.started self.now.files)) }
         // where all files are those that the names have, this is what the name starts from
-        ensures whole { IfOk result (λ s. (files : List ℕ → Result (List ℕ) faults.LoadFault) (name : List ℕ) → spec.IsUnderWay spec.itself files name self.now → start.Starts s (start.load spec.itself files name)) }
-        ensures fails { IfErr result (λ fault. (files : List ℕ → Result (List ℕ) faults.LoadFault) (name : List ℕ) → spec.IsUnderWay spec.itself files name self.now → Answers is_memory (Err fault) (start.load spec.itself files name)) }
+        ensures whole { IfOk result (λ s. (files : List ℕ → Result (List ℕ) faults.LoadFault) (name : List ℕ) → spec.IsUnderWay itself files name self.now → start.Starts s (start.load itself files name)) }
+        ensures fails { IfErr result (λ fault. (files : List ℕ → Result (List ℕ) faults.LoadFault) (name : List ℕ) → spec.IsUnderWay itself files name self.now → Answers is_memory (Err fault) (start.load itself files name)) }
     {
         started(alloc, self.files.as_slice())
     }

@@ -1,6 +1,6 @@
 -- Which symbol a reference finds in a scope (gABI chapter 5, "Shared Object Dependencies" and DT_SYMBOLIC; chapter 4, "Symbol Table"; x86-64 psABI, "Relocation" on R_X86_64_COPY).
 use Rattle.std.specs.Prelude.{ℕ, ◌-◌, Bool, not, ◌&&◌, ◌||◌, ◌==◌, nat_lt, List, [], ◌∷◌, length, Option, Some, None, slice_get, if◌then◌else◌}
-use Rattle.std.specs.Option.{option_or}
+use Rattle.std.specs.Option.{option_or, option_and_then}
 use Rattle.std.specs.List.{range_with_len}
 use Rattle.pl_sym.specs.Symbol.{is_undefined, is_local}
 use Rattle.pl_sym.specs.declared.constants.TheConstants.{STV_DEFAULT}
@@ -37,6 +37,10 @@ first_in objects name class version (member ∷ members) =
     option_or (in_member objects name class version member) (first_in objects name class version members)
 
 -- ---- what a reference asks for
+
+-- the reference's own symbol
+abbrev pub own_symbol : List Object → Reference → Option Symbol
+own_symbol objects r = option_and_then (λ o. slice_get o.symbols r.symbol) (slice_get objects r.member)
 
 -- a local symbol, or a defined one that is not visible in the default way
 unfoldable pub binds_itself : Symbol → Bool

@@ -1,6 +1,7 @@
 -- The walk of a name: a list that begins with it, to which each object in turn appends the names that it needs, each name once (gABI chapter 5, "Shared Object Dependencies"). That nothing needs a program, and the limit, are this project's profile.
 use Rattle.std.specs.Prelude.{◌≡◌, ℕ, zero, suc, ◌+◌, ◌-◌, Bool, true, false, not, ◌&&◌, ◌||◌, nat_lt, nat_le, List, [], ◌∷◌, ◌++◌, length, find, Option, Some, None, Result, Ok, Err, slice_get, if◌then◌else◌}
 use Rattle.std.specs.List.{list_any}
+use Rattle.std.specs.Option.{ok_or}
 use Rattle.std.specs.Str.{bytes_eq}
 use Rattle.pl_base.specs.Answers.{◌>>=◌, because, unless, unless_found}
 use Rattle.pl_base.specs.Each.{run, with_front}
@@ -89,16 +90,13 @@ IsUnderWay fault files name walked w = with_front walked (remaining fault files 
 
 -- ---- over objects by name
 
-abbrev pub there : List ℕ → Option Object → Result Object WalkFault
-there n None = Err (NotThere n)
-there n (Some o) = Ok o
-
--- a fault of the walk stands for itself
-abbrev pub itself : WalkFault → WalkFault
+-- a fault stands for itself
+abbrev pub itself : {E : Type 0} → E → E
 itself fault = fault
 
+-- the object of a name, or that there is none
 abbrev pub object_of : (List ℕ → Option Object) → List ℕ → Result Object WalkFault
-object_of objects n = there n (objects n)
+object_of objects n = ok_or (objects n) (NotThere n)
 
 -- the walk of a name over the objects that have names
 abbrev pub walk_over : (List ℕ → Option Object) → List ℕ → Result Walked WalkFault

@@ -15,7 +15,7 @@ mod walks;
 pub use constants::MAX_MEMBERS;
 pub use fault::WalkFault;
 pub use found::Found;
-pub use lookup::find;
+pub use lookup::{find, own_symbol};
 pub use member::Member;
 pub use order::Order;
 pub use reference::Reference;

@@ -1,4 +1,4 @@
-ghost use Rattle.std.specs.Prelude.{◌≡◌, ◌<◌, length, IfSome};
+ghost use Rattle.std.specs.Prelude.{◌≡◌, ◌<◌, length, IfSome, Some};
 ghost use Rattle.std.specs.Option.{option_map};
 ghost use Rattle.pl_scope.specs.Scope.{objects, IsScope, IsSymbol};
 ghost use Rattle.pl_scope.specs.Finds as spec;
@@ -112,6 +112,15 @@ fn found_for(
         }
     }
     first_from(scope, name, class, version, 0)
+}
+
+/// A reference's own symbol.
+pub fn own_symbol<'a>(scope: &Scope<'a>, reference: Reference) -> &'a Symbol
+    requires { IsSymbol scope.now.members.items reference.member reference.symbol }
+    ensures { spec.own_symbol (objects scope.now.members.items) reference ≡ Some result.now }
+{
+    let object = scope.members[reference.member as usize].object;
+    &object.symbols.as_slice()[reference.symbol as usize]
 }
 
 /// The symbol that a reference finds in a scope.

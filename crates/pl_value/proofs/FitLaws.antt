@@ -1,7 +1,7 @@
 -- What a relocation gives fits its place.
 use Rattle.std.proofs.Common.{◌≡◌, ℕ, ◌≤◌, Bool, true, false, cond, List, [], ◌∷◌, Option, Some, None, Result, Ok, Err, refl, ap, subst, ◌∙◌, arith, inl, inr}
 use Rattle.std.specs.Prelude.{◌==◌, ◌||◌, not, min, slice_get}
-use Rattle.std.proofs.lemmas.Bool.{cases_Bool, not-false, false≢true, or_parts}
+use Rattle.std.proofs.lemmas.Bool.{cases_Bool, eqb-true, not-false, false≢true, or_parts}
 use Rattle.std.proofs.lemmas.Bool.Decides.{nat_tests}
 use Rattle.pl_base.specs.Answers.{◌>>=◌, unless, refuse}
 use Rattle.pl_sym.specs.Symbol.{is_absolute, is_tls}
@@ -13,6 +13,7 @@ use Rattle.pl_object.specs.Relocations.{width, size_of}
 use Rattle.pl_elf.specs.declared.constants.TheConstants.{R_X86_64_NONE, R_X86_64_64, R_X86_64_COPY, R_X86_64_GLOB_DAT, R_X86_64_JUMP_SLOT, R_X86_64_RELATIVE, R_X86_64_DTPMOD64, R_X86_64_DTPOFF64, R_X86_64_TPOFF64}
 use Rattle.pl_object.specs.declared.object.Object.{Object}
 use Rattle.pl_object.specs.declared.reloc.Reloc.{Reloc}
+use Rattle.pl_scope.specs.Finds.{own_symbol}
 use Rattle.pl_scope.specs.declared.reference.Reference.{Reference}
 use Rattle.pl_value.specs.Definers.{Definer, definer, is_weak}
 use Rattle.pl_value.specs.Targets.{added, base_of, address, target}
@@ -46,17 +47,14 @@ choice_fits library size false x y one other = other refl
 
 -- ---- kinds
 
-equal : (m n : ℕ) → (m == n) ≡ true → m ≡ n
-equal m n h = grind (arith, nat_tests)
-
 -- a kind that is neither NONE nor COPY has a word
 word_width : (symbols : List Symbol) (kind symbol k : ℕ) → (kind == k) ≡ true → (k == R_X86_64_NONE) ≡ false → (k == R_X86_64_COPY) ≡ false → width symbols kind symbol ≡ 8
 unfolding width
-word_width symbols kind symbol k is not_none not_copy = rw (equal kind k is, not_none, not_copy) refl
+word_width symbols kind symbol k is not_none not_copy = rw (eqb-true kind k is, not_none, not_copy) refl
 
 copy_width : (symbols : List Symbol) (kind symbol : ℕ) → (kind == R_X86_64_COPY) ≡ true → width symbols kind symbol ≡ size_of (slice_get symbols symbol)
 unfolding width
-copy_width symbols kind symbol is = rw (equal kind R_X86_64_COPY is) refl
+copy_width symbols kind symbol is = rw (eqb-true kind R_X86_64_COPY is) refl
 
 none_width : (symbols : List Symbol) (symbol : ℕ) → width symbols R_X86_64_NONE symbol ≡ 0
 unfolding width
@@ -104,17 +102,17 @@ copied_fits : (size n : ℕ) (places : List ℕ) (r : Reference) (d : Definer) �
 unfolding copies.copied
 copied_fits size n places r d le = refuse_fits false size ((is_tls d.symbol, TlsMismatch r.member r.symbol) ∷ (is_absolute d.symbol || copies.is_outside d.object.segments d.symbol.value n, CopyOutside r.member r.symbol) ∷ []) (Ok (Copy d.member (address places d) n)) (word_fits false size (Copy d.member (address places d) n) (refl, le))
 
-copy_of_definer : (size : ℕ) (places : List ℕ) (r : Reference) (weak : Bool) (own : ℕ) (found : Option Definer) → own ≤ size → FitsIfOk false size (copies.of_definer places r weak own found)
-copy_of_definer size places r true own None le = nothing_fits size
-copy_of_definer size places r false own None le = fault_fits false size (Undefined r.member r.symbol)
-copy_of_definer size places r weak own (Some d) le = copied_fits size (min own d.symbol.size) places r d (omega arith)
+copy_from_fits : (size : ℕ) (places : List ℕ) (r : Reference) (weak : Bool) (own : ℕ) (found : Option Definer) → own ≤ size → FitsIfOk false size (copies.copy_from places r weak own found)
+copy_from_fits size places r true own None le = nothing_fits size
+copy_from_fits size places r false own None le = fault_fits false size (Undefined r.member r.symbol)
+copy_from_fits size places r weak own (Some d) le = copied_fits size (min own d.symbol.size) places r d (omega arith)
 
-copy_fits : (size : ℕ) (objects : List Object) (places : List ℕ) (r : Reference) → copies.size_in (slice_get objects r.member) r.symbol ≤ size → FitsIfOk false size (copies.copy objects places r)
+copy_fits : (size : ℕ) (objects : List Object) (places : List ℕ) (r : Reference) → size_of (own_symbol objects r) ≤ size → FitsIfOk false size (copies.copy objects places r)
 unfolding copies.copy
 copy_fits size objects places r le =
-    choice_fits false size (r.symbol == 0) (Ok Nothing) (copies.of_definer places r (is_weak objects r) (copies.size_in (slice_get objects r.member) r.symbol) (definer objects r))
+    choice_fits false size (r.symbol == 0) (Ok Nothing) (copies.copy_from places r (is_weak objects r) (size_of (own_symbol objects r)) (definer objects r))
     (λ _. nothing_fits size)
-    (λ _. copy_of_definer size places r (is_weak objects r) (copies.size_in (slice_get objects r.member) r.symbol) (definer objects r) le)
+    (λ _. copy_from_fits size places r (is_weak objects r) (size_of (own_symbol objects r)) (definer objects r) le)
 
 -- ---- a row
 
@@ -144,7 +142,7 @@ value_fits objects places modules member r o library at wide known copy =
   where
     program_copy_fits : (objects : List Object) (places : List ℕ) (member : ℕ) (r : Reloc) (o : Object) (library : Bool) → slice_get objects member ≡ Some o → HasWidth o.symbols r → (r.kind == R_X86_64_COPY) ≡ true → library ≡ false → FitsIfOk library r.width (copies.copy objects places (reference member r))
     program_copy_fits objects places member r o library at wide is program =
-        let own : copies.size_in (slice_get objects member) r.symbol ≡ size_of (slice_get o.symbols r.symbol) = rw at refl in
+        let own : size_of (own_symbol objects (reference member r)) ≡ size_of (slice_get o.symbols r.symbol) = rw at refl in
         let wide_as : r.width ≡ size_of (slice_get o.symbols r.symbol) = wide ∙ copy_width o.symbols r.kind r.symbol is in
         rw program (copy_fits r.width objects places (reference member r) (omega arith))
 

@@ -1,8 +1,8 @@
 -- Rows of which at most one is over an address, from the first row on.
 use Rattle.std.proofs.Common.{◌≡◌, ℕ, zero, suc, ◌<◌, Bool, true, false, List, [], ◌∷◌, ◌++◌, length, get_or, refl, sym, ◌∙◌, arith, inl, inr}
 use Rattle.std.specs.List.{list_any, AllZip}
-use Rattle.std.proofs.lemmas.Bool.{cases_Bool, false≢true, or_parts, or_right}
-use Rattle.std.proofs.lemmas.List.Folds.{list_any_at, list_any_none}
+use Rattle.std.proofs.lemmas.Bool.{cases_Bool, false≢true, or_from, or_parts, or_right}
+use Rattle.std.proofs.lemmas.List.Folds.{list_any-append, list_any_at, list_any_none}
 use Rattle.pl_base.specs.Memory.{AtMostOne}
 
 -- each row's addresses are those of no later row
@@ -32,19 +32,6 @@ most_lone test (x ∷ xs) most = (
 
 -- ---- one list behind another
 
-pub any_parts : {X : Type 0} (p : X → Bool) (xs ys : List X) → list_any p (xs ++ ys) ≡ false → (list_any p xs ≡ false) × (list_any p ys ≡ false)
-any_parts p [] ys none = (refl, none)
-any_parts p (x ∷ xs) ys none =
-    let first = or_parts (p x) (list_any p (xs ++ ys)) none in
-    let rest = any_parts p xs ys first.1 in
-    (rw first.0 rest.0, rest.1)
-
-pub any_join : {X : Type 0} (p : X → Bool) (xs ys : List X) → list_any p xs ≡ false → list_any p ys ≡ false → list_any p (xs ++ ys) ≡ false
-any_join p [] ys front back = back
-any_join p (x ∷ xs) ys front back =
-    let first = or_parts (p x) (list_any p xs) front in
-    rw first.0 (any_join p xs ys first.1 back)
-
 -- the addresses of the first list are those of no row of the second
 abbrev pub Cross : {X : Type 0} → (ℕ → X → Bool) → List X → List X → Type 0
 Cross test xs ys = (a : ℕ) → list_any (test a) xs ≡ true → list_any (test a) ys ≡ false
@@ -56,14 +43,14 @@ lone_rest test (x ∷ xs) ys lone = lone_rest test xs ys lone.1
 pub lone_cross : {X : Type 0} (test : ℕ → X → Bool) (xs ys : List X) → Lone test (xs ++ ys) → Cross test xs ys
 lone_cross test [] ys lone = λ a hit. absurd (false≢true hit)
 lone_cross test (x ∷ xs) ys lone = λ a some. elim (cases_Bool (test a x)) [
-  | inl hit ↦ (any_parts (test a) xs ys (lone.0 a hit)).1
+  | inl hit ↦ (or_parts (list_any (test a) xs) (list_any (test a) ys) (sym (list_any-append (test a) xs ys) ∙ lone.0 a hit)).1
   | inr miss ↦ lone_cross test xs ys lone.1 a (rw miss at some)
 ]
 
 pub lone_join : {X : Type 0} (test : ℕ → X → Bool) (xs ys : List X) → Lone test xs → Lone test ys → Cross test xs ys → Lone test (xs ++ ys)
 lone_join test [] ys front back cross = back
 lone_join test (x ∷ xs) ys front back cross = (
-  λ a hit. any_join (test a) xs ys (front.0 a hit) (cross a (rw hit refl)),
+  λ a hit. list_any-append (test a) xs ys ∙ or_from (list_any (test a) xs) (list_any (test a) ys) (front.0 a hit) (cross a (rw hit refl)),
   lone_join test xs ys front.1 back (λ a some. cross a (or_right (test a x) (list_any (test a) xs) some)),
 )
 

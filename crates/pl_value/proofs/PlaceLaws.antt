@@ -5,6 +5,7 @@ use Rattle.std.specs.List.{All, Any, list_any}
 use Rattle.std.proofs.lemmas.Bool.{cases_Bool, not-false, false≢true, or_right, and_parts, leb-true}
 use Rattle.std.proofs.lemmas.Bool.Decides.{nat_tests}
 use Rattle.std.proofs.lemmas.Option.{same_Some, none-some}
+use Rattle.std.proofs.lemmas.List.Elements.{All-head, All-tail}
 use Rattle.std.proofs.lemmas.List.Folds.{list_any_at, Any-from_list_any}
 use Rattle.std.proofs.lemmas.List.{get_or-map, length-map}
 use Rattle.pl_base.proofs.SumLaws.{plus_small}
@@ -42,15 +43,24 @@ any_later q s ss some = elim (cases_Bool (is_load s)) [
 any_first : (q : Segment → Bool) (s : Segment) (ss : List Segment) → is_load s ≡ true → q s ≡ true → list_any q (loads (s ∷ ss)) ≡ true
 any_first q s ss load hit = rw load (rw hit refl)
 
+-- what holds of all PT_LOADs holds of one that is found
+pub found_holds : (P : Segment → Type 0) (p : Segment → Bool) (ss : List Segment) (s : Segment) → All P (loads ss) → ((x : Segment) → p x ≡ true → is_load x ≡ true) → find p ss ≡ Some s → P s
+found_holds P p [] s all passes found = absurd cc
+found_holds P p (x ∷ ss) s all passes found =
+    elim (cases_Bool (p x)) [
+      | inl hit ↦
+          let same : x ≡ s = same_Some x s (rw hit at found) in
+          subst P same (All-head P x (loads ss) (rw (passes x hit) at all))
+      | inr miss ↦
+          found_holds P p ss s (elim (cases_Bool (is_load x)) [
+            | inl load ↦ All-tail P x (loads ss) (rw load at all)
+            | inr other ↦ rw other at all
+          ]) passes (rw miss at found)
+    ]
+
 -- the first PT_LOAD that a test finds is one of the loads
 found_load : (p : Segment → Bool) (ss : List Segment) (s : Segment) → ((t : Segment) → p t ≡ true → is_load t ≡ true) → find p ss ≡ Some s → (q : Segment → Bool) → q s ≡ true → list_any q (loads ss) ≡ true
-found_load p [] s are e q hit = absurd cc
-found_load p (t ∷ ts) s are e q hit = elim (cases_Bool (p t)) [
-  | inl here ↦
-      let is : t ≡ s = same_Some t s (rw here at e) in
-      any_first q t ts (are t here) (ap q is ∙ hit)
-  | inr not_here ↦ any_later q t ts (found_load p ts s are (rw not_here at e) q hit)
-]
+found_load p ss s are e = found_holds (λ t. (q : Segment → Bool) → q t ≡ true → list_any q (loads ss) ≡ true) p ss s (λ k d lt q hit. list_any_at q (loads ss) k d lt hit) are e
 
 -- the last PT_LOAD is one of the loads, or it is the one that was found before
 last_from : (found : Option Segment) (ss : List Segment) (s : Segment) → fold (λ f t. if is_load t then Some t else f) found ss ≡ Some s → (q : Segment → Bool) → q s ≡ true → (list_any q (loads ss) ≡ true) ⊎ (found ≡ Some s)

@@ -1,5 +1,5 @@
 -- What a COPY gives (x86-64 psABI, "Relocation Types").
-use Rattle.std.specs.Prelude.{ℕ, Bool, not, ◌&&◌, ◌||◌, ◌==◌, min, List, [], ◌∷◌, Option, Some, None, Result, Ok, slice_get, if◌then◌else◌}
+use Rattle.std.specs.Prelude.{ℕ, Bool, not, ◌&&◌, ◌||◌, ◌==◌, min, List, [], ◌∷◌, Option, Some, None, Result, Ok, if◌then◌else◌}
 use Rattle.std.specs.List.{list_any}
 use Rattle.pl_base.specs.Answers.{refuse, unless}
 use Rattle.pl_elf.specs.Headers.{is_load}
@@ -8,6 +8,7 @@ use Rattle.pl_sym.specs.Symbol.{is_absolute, is_tls}
 use Rattle.pl_object.specs.PlaceClauses.{is_in_segment}
 use Rattle.pl_object.specs.Relocations.{size_of}
 use Rattle.pl_object.specs.declared.object.Object.{Object}
+use Rattle.pl_scope.specs.Finds.{own_symbol}
 use Rattle.pl_scope.specs.declared.reference.Reference.{Reference}
 use Rattle.pl_value.specs.Definers.{Definer, definer, is_weak}
 use Rattle.pl_value.specs.Targets.{address}
@@ -33,17 +34,12 @@ copied places r size d =
     (Ok (Copy d.member (address places d) size))
 
 -- the lesser of the two symbols' sizes
-abbrev pub of_definer : List ℕ → Reference → Bool → ℕ → Option Definer → Result Word LinkFault
-of_definer places r weak size None = unless (not weak) (Undefined r.member r.symbol) (Ok Nothing)
-of_definer places r weak size (Some d) = copied places r (min size d.symbol.size) d
-
--- the size of a reference's own symbol
-abbrev pub size_in : Option Object → ℕ → ℕ
-size_in None symbol = 0
-size_in (Some o) symbol = size_of (slice_get o.symbols symbol)
+abbrev pub copy_from : List ℕ → Reference → Bool → ℕ → Option Definer → Result Word LinkFault
+copy_from places r weak size None = unless (not weak) (Undefined r.member r.symbol) (Ok Nothing)
+copy_from places r weak size (Some d) = copied places r (min size d.symbol.size) d
 
 -- what a COPY gives: nothing for symbol 0, and for a weak symbol without definer
 unfoldable pub copy : List Object → List ℕ → Reference → Result Word LinkFault
 copy objects places r =
     if r.symbol == 0 then Ok Nothing
-    else of_definer places r (is_weak objects r) (size_in (slice_get objects r.member) r.symbol) (definer objects r)
+    else copy_from places r (is_weak objects r) (size_of (own_symbol objects r)) (definer objects r)

@@ -3,7 +3,7 @@ use Rattle.std.specs.Prelude.{ℕ, Bool, false, ◌==◌, List, Option, Some, No
 use Rattle.pl_sym.specs.declared.constants.TheConstants.{STB_WEAK}
 use Rattle.pl_sym.specs.declared.symbol.Symbol.{Symbol}
 use Rattle.pl_object.specs.declared.object.Object.{Object}
-use Rattle.pl_scope.specs.Finds.{finds}
+use Rattle.pl_scope.specs.Finds.{finds, own_symbol}
 use Rattle.pl_scope.specs.declared.found.Found.{Found}
 use Rattle.pl_scope.specs.declared.reference.Reference.{Reference}
 use Rattle.pl_value.specs.declared.definer.Definer as code
@@ -17,17 +17,17 @@ pub record Definer : Type 0 where
 abbrev pub seen : code.Definer → Definer
 seen d = record { member = d.member; object = d.object.now; symbol = d.symbol.now }
 
-abbrev pub of_symbol : ℕ → Object → Option Symbol → Option Definer
-of_symbol member o None = None
-of_symbol member o (Some s) = Some (record { member = member; object = o; symbol = s })
+abbrev pub with_symbol : ℕ → Object → Option Symbol → Option Definer
+with_symbol member o None = None
+with_symbol member o (Some s) = Some (record { member = member; object = o; symbol = s })
 
-abbrev pub of_object : Found → Option Object → Option Definer
-of_object found None = None
-of_object found (Some o) = of_symbol found.member o (slice_get o.symbols found.symbol)
+abbrev pub in_object : Found → Option Object → Option Definer
+in_object found None = None
+in_object found (Some o) = with_symbol found.member o (slice_get o.symbols found.symbol)
 
 abbrev pub of_found : List Object → Option Found → Option Definer
 of_found objects None = None
-of_found objects (Some found) = of_object found (slice_get objects found.member)
+of_found objects (Some found) = in_object found (slice_get objects found.member)
 
 -- the definer that a reference finds
 unfoldable pub definer : List Object → Reference → Option Definer
@@ -39,10 +39,6 @@ abbrev pub is_weak_symbol : Option Symbol → Bool
 is_weak_symbol None = false
 is_weak_symbol (Some s) = s.bind == STB_WEAK
 
-abbrev pub is_weak_in : Option Object → ℕ → Bool
-is_weak_in None symbol = false
-is_weak_in (Some o) symbol = is_weak_symbol (slice_get o.symbols symbol)
-
 -- the reference's own symbol is weak
 unfoldable pub is_weak : List Object → Reference → Bool
-is_weak objects r = is_weak_in (slice_get objects r.member) r.symbol
+is_weak objects r = is_weak_symbol (own_symbol objects r)

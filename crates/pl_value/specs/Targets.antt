@@ -22,10 +22,10 @@ base_of places member = slice_index places member
 unfoldable pub address : List ℕ → Definer → ℕ
 address places d = if is_absolute d.symbol then d.symbol.value else plus (base_of places d.member) d.symbol.value
 
-abbrev pub of_definer : List ℕ → Reference → Bool → Option Definer → Result ℕ LinkFault
-of_definer places r weak None = unless (not weak) (Undefined r.member r.symbol) (Ok 0)
-of_definer places r weak (Some d) = unless (is_tls d.symbol) (TlsMismatch r.member r.symbol) (Ok (address places d))
+abbrev pub target_from : List ℕ → Reference → Bool → Option Definer → Result ℕ LinkFault
+target_from places r weak None = unless (not weak) (Undefined r.member r.symbol) (Ok 0)
+target_from places r weak (Some d) = unless (is_tls d.symbol) (TlsMismatch r.member r.symbol) (Ok (address places d))
 
 -- the address that a reference stands for: 0 for symbol 0, and for a weak symbol without definer
 unfoldable pub target : List Object → List ℕ → Reference → Result ℕ LinkFault
-target objects places r = if r.symbol == 0 then Ok 0 else of_definer places r (is_weak objects r) (definer objects r)
+target objects places r = if r.symbol == 0 then Ok 0 else target_from places r (is_weak objects r) (definer objects r)

@@ -25,14 +25,14 @@ abbrev pub own : Reference → Bool → Result TlsIndex LinkFault
 own r block = unless (not block) (TlsMismatch r.member r.symbol) (Ok (record { member = r.member; offset = 0 }))
 
 -- a variable in the block of the object that defines it
-abbrev pub of_definer : Reference → Option Definer → Result TlsIndex LinkFault
-of_definer r None = Err (UndefinedTls r.member r.symbol)
-of_definer r (Some d) =
+abbrev pub variable_from : Reference → Option Definer → Result TlsIndex LinkFault
+variable_from r None = Err (UndefinedTls r.member r.symbol)
+variable_from r (Some d) =
     unless (not (is_tls d.symbol && is_some d.object.tls)) (TlsMismatch r.member r.symbol) (Ok (record { member = d.member; offset = d.symbol.value }))
 
 -- the variable that a reference stands for; symbol 0 stands for the begin of its object's own block
 unfoldable pub variable : List Object → Reference → Result TlsIndex LinkFault
-variable objects r = if r.symbol == 0 then own r (has_block (slice_get objects r.member)) else of_definer r (definer objects r)
+variable objects r = if r.symbol == 0 then own r (has_block (slice_get objects r.member)) else variable_from r (definer objects r)
 
 -- ---- modules
 

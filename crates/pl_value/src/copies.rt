@@ -1,5 +1,5 @@
 // What a COPY gives.
-ghost use Rattle.std.specs.Prelude.{◌≡◌, ◌<◌, length, slice_get};
+ghost use Rattle.std.specs.Prelude.{◌≡◌, ◌<◌, length};
 ghost use Rattle.std.specs.List.{list_any};
 ghost use Rattle.pl_scope.specs.Scope.{objects, IsSymbol};
 ghost use Rattle.pl_value.specs.Definers.{seen};
@@ -11,7 +11,7 @@ use crate::targets::address;
 use crate::{LinkFault, Places, Word};
 use pl_elf::Segment;
 use pl_object::{Window, is_in_segment};
-use pl_scope::{Reference, Scope};
+use pl_scope::{Reference, Scope, own_symbol};
 
 #[tactic(auto, unfolding(crate::specs::Copies::is_in_load))]
 fn is_in_load(from: u64, size: u64, segment: &Segment) -> bool
@@ -62,15 +62,6 @@ fn copied(
     })
 }
 
-/// The size of a reference's own symbol.
-fn size_of(scope: &Scope<'_>, reference: Reference) -> u64
-    requires { IsSymbol scope.now.members.items reference.member reference.symbol }
-    ensures { result ≡ spec.size_in (slice_get (objects scope.now.members.items) reference.member) reference.symbol }
-{
-    let object = scope.members[reference.member as usize].object;
-    object.symbols.as_slice()[reference.symbol as usize].size
-}
-
 /// What a COPY gives: the lesser of the two symbols' sizes is copied. Nothing for symbol 0, and for a weak symbol without definer.
 #[tactic(auto, unfolding(crate::specs::Copies::copy))]
 pub fn copy(scope: &Scope<'_>, places: &Places, reference: Reference) -> Result<Word, LinkFault>
@@ -87,6 +78,6 @@ pub fn copy(scope: &Scope<'_>, places: &Places, reference: Reference) -> Result<
         }
         return Ok(Word::Nothing);
     };
-    let size = size_of(scope, reference).min(definer.symbol.size);
+    let size = own_symbol(scope, reference).size.min(definer.symbol.size);
     copied(places, reference, size, &definer)
 }

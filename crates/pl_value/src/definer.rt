@@ -5,7 +5,7 @@ ghost use Rattle.pl_scope.specs.Scope.{objects, IsScope, IsSymbol};
 ghost use Rattle.pl_value.specs.Definers as spec;
 
 use pl_object::Object;
-use pl_scope::{Reference, Scope, find};
+use pl_scope::{Reference, Scope, find, own_symbol};
 use pl_sym::Symbol;
 use pl_sym::constants::STB_WEAK;
 
@@ -44,6 +44,5 @@ pub fn is_weak(scope: &Scope<'_>, reference: Reference) -> bool
     requires { IsSymbol scope.now.members.items reference.member reference.symbol }
     ensures { result ≡ spec.is_weak (objects scope.now.members.items) reference }
 {
-    let object = scope.members[reference.member as usize].object;
-    object.symbols.as_slice()[reference.symbol as usize].bind == STB_WEAK
+    own_symbol(scope, reference).bind == STB_WEAK
 }

@@ -4,7 +4,7 @@ use Rattle.std.specs.List.{list_any}
 use Rattle.std.proofs.lemmas.List.{take_all}
 use Rattle.pl_elf.specs.declared.range.Range.{Range}
 use Rattle.pl_elf.specs.Ranges.{has}
-use Rattle.pl_image.specs.Masked.{loads_table}
+use Rattle.pl_image.specs.Loads.{loads_table}
 use Rattle.pl_image.proofs.MaskLemmas.{near_tables}
 use Rattle.pl_image.proofs.masked.add_load.Goals as goal
 

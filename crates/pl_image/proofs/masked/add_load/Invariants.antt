@@ -2,7 +2,7 @@ use Rattle.std.proofs.Common.{◌≡◌, ℕ, take}
 use Rattle.std.specs.Prelude.{◌||◌}
 use Rattle.std.specs.List.{list_any}
 use Rattle.pl_elf.specs.Ranges.{has}
-use Rattle.pl_image.specs.Masked.{loads_table}
+use Rattle.pl_image.specs.Loads.{loads_table}
 use Rattle.pl_image.proofs.masked.add_load.Given as goal
 
 abbrev pub invariant-loop-table : goal.invariant-loop-table

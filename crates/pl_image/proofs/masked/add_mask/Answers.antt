@@ -3,7 +3,7 @@ use Rattle.std.specs.Prelude.{◌||◌}
 use Rattle.std.specs.List.{list_any}
 use Rattle.pl_image.specs.declared.mask.Load.{Load}
 use Rattle.pl_elf.specs.Ranges.{has}
-use Rattle.pl_image.specs.Masked.{loads_table}
+use Rattle.pl_image.specs.Loads.{loads_table}
 use Rattle.pl_image.proofs.MaskLemmas.{masked_is}
 use Rattle.pl_image.proofs.masked.add_mask.Goals as goal
 

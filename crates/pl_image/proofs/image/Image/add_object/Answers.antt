@@ -32,4 +32,4 @@ pub returns-clause-ok : goal.returns-clause-ok
 returns-clause-ok g c =
     let written = g.K.Sink.written in
     words_done (own_memory c.args.self.now c.args.pieces.now) (written c.args.sink.now) (written c.loop-number.sink) c.args.lines.now.items c.loop-number.lines.items c.loop-number.number c.loop-number.invariant.0
-    (λ a low high. own_none c.args.self.now c.args.pieces.now c.requires a (c.words_end-end.ensures.past a (omega (arith, low, c.loop-number-test.false)))) c.loop-number.invariant.1
+    (λ a low high. own_none c.args.self.now c.args.pieces.now c.requires a (c.pieces_end-end.ensures.past a (omega (arith, low, c.loop-number-test.false)))) c.loop-number.invariant.1

@@ -1,5 +1,5 @@
 use Rattle.std.proofs.lemmas.Result.{on_ok_weaker, IfErr-weaker}
-use Rattle.pl_loader.specs.Walk.{itself}
+use Rattle.pl_scope.specs.Walk.{itself}
 use Rattle.pl_loader.proofs.LoadLaws.{load_goes_on}
 use Rattle.pl_loader.proofs.WholeLaws.{whole_stops}
 use Rattle.pl_loader.proofs.loader.Loader.give.Goals as goal

@@ -1,6 +1,7 @@
 use Rattle.std.proofs.Common.{◌≡◌, sym, subst, refl}
+use Rattle.pl_scope.specs.Walk.{itself}
 use Rattle.pl_loader.specs.Loading.{Loading}
-use Rattle.pl_loader.specs.Walk.{begun, itself, IsUnderWay}
+use Rattle.pl_loader.specs.Walk.{begun, IsUnderWay}
 use Rattle.pl_loader.proofs.LoadLaws.{load_begins}
 use Rattle.pl_loader.proofs.TellsLaws.{load_itself_tells}
 use Rattle.pl_loader.proofs.loader.Loader.new.Goals as goal

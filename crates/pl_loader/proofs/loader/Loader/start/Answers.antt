@@ -1,7 +1,7 @@
 use Rattle.std.proofs.Common.{◌≡◌, ap, ◌∙◌}
 use Rattle.std.proofs.lemmas.Result.{IfOk-weaker, IfErr-weaker}
+use Rattle.pl_scope.specs.Walk.{itself}
 use Rattle.pl_loader.specs.Loading.{Loading}
-use Rattle.pl_loader.specs.Walk.{itself}
 use Rattle.pl_loader.proofs.WholeLaws.{whole_starts, whole_fails}
 use Rattle.pl_loader.proofs.loader.Loader.start.Goals as goal
 

@@ -2,7 +2,7 @@ use Rattle.std.proofs.Common.{◌∙◌, sym, ◌+◌, ◌-◌, ◌*◌, ◌/◌
 use Rattle.std.proofs.lemmas.Bool.{eqb-false}
 use Rattle.pl_base.specs.Memory.{Piece}
 use Rattle.pl_image.proofs.PieceLemmas.{piece_limit, past_last}
-use Rattle.pl_image.proofs.piece.words_end.Goals as goal
+use Rattle.pl_image.proofs.piece.pieces_end.Goals as goal
 
 pub end-requires : goal.end-requires
 end-requires c =
