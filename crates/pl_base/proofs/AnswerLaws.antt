@@ -1,6 +1,6 @@
 -- What a table of refusals says where nothing is refused, and what led to an answer.
 use Rattle.std.proofs.Common.{◌≡◌, inl, inr, Bool, true, false, List, [], ◌∷◌, Result, Ok, Err, not, refl, sym, ap, ◌∙◌}
-use Rattle.std.specs.Prelude.{◌||◌}
+use Rattle.std.specs.Prelude.{◌||◌, ◌⊎◌}
 use Rattle.std.specs.List.{list_any}
 use Rattle.std.specs.Result.{is_ok}
 use Rattle.std.proofs.lemmas.Bool.{cases_Bool, false≢true}
@@ -31,6 +31,11 @@ pub bind_ok : {A B E : Type 0} (r : Result A E) (f : A → Result B E) (y : B) �
 bind_ok (Ok x) f y e = (x, refl, e)
 bind_ok (Err fault) f y e = absurd cc
 
+-- a step whose end is a refusal: its own, or that of what goes on with its value
+pub bind_err : {A B E : Type 0} (r : Result A E) (f : A → Result B E) (e : E) → (r >>= f) ≡ Err e → (r ≡ Err e) ⊎ ((x : A) × (r ≡ Ok x) × (f x ≡ Err e))
+bind_err (Ok x) f e h = inr (x, refl, h)
+bind_err (Err d) f e h = inl (let same : d ≡ e = cc in rw same refl)
+
 -- a test that did not refuse
 pub unless_ok : {X E : Type 0} (test : Bool) (fault : E) (next : Result X E) (x : X) → unless test fault next ≡ Ok x → (test ≡ false) × (next ≡ Ok x)
 unless_ok true fault next x e = absurd cc
@@ -49,3 +54,8 @@ ok_same x y e = cc
 pub because_ok : {X E F : Type 0} (fault : E → F) (r : Result X E) (x : X) → because fault r ≡ Ok x → r ≡ Ok x
 because_ok {X} {E} fault (Ok y) x e = let same : y ≡ x = cc in ap (λ (z : X). Ok z) same
 because_ok fault (Err f) x e = absurd cc
+
+-- or a fault
+pub because_err : {X E F : Type 0} (fault : E → F) (r : Result X E) (f : F) → because fault r ≡ Err f → (e : E) × (r ≡ Err e) × (fault e ≡ f)
+because_err fault (Ok x) f h = absurd cc
+because_err fault (Err e) f h = (e, refl, cc)

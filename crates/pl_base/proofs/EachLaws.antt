@@ -1,5 +1,5 @@
 -- A loop over rows, with the results so far in front.
-use Rattle.std.proofs.Common.{◌≡◌, ℕ, ◌+◌, ◌≤◌, ◌<◌, List, [], ◌∷◌, ◌++◌, Result, Ok, Err, refl, sym, ap, ◌∙◌, append_assoc, arith, length, drop, get_or, Bool, true, false}
+use Rattle.std.proofs.Common.{◌≡◌, ℕ, suc, ◌+◌, ◌≤◌, ◌<◌, List, [], ◌∷◌, ◌++◌, Result, Ok, Err, refl, sym, ap, ◌∙◌, append_assoc, arith, length, drop, get_or, Bool, true, false}
 use Rattle.std.proofs.lemmas.List.{append-nil, at_drop_more, at_drop_all}
 use Rattle.std.proofs.lemmas.List.FromFn.{length-range_with_len, get_or-range_with_len}
 use Rattle.std.specs.List.{range_with_len}
@@ -58,6 +58,19 @@ each_fails m f xs i d front e whole lt h so_far =
       | true ↦ λ _. tt
       | false ↦ λ stop. each_stops f xs i d front e whole lt stop so_far
     ] h
+
+-- ---- as many results as rows
+
+each_one : {A B E : Type 0} (f : A → Result B E) (xs : List A) (first : Result B E) (rest : Result (List B) E) (ys : List B)
+    → (first >>= λ y. rest >>= λ zs. Ok (y ∷ zs)) ≡ Ok ys → ((zs : List B) → rest ≡ Ok zs → length zs ≡ length xs) → length ys ≡ suc (length xs)
+each_one f xs (Err e) rest ys h more = absurd cc
+each_one f xs (Ok y) (Err e) ys h more = absurd cc
+each_one {B = B} f xs (Ok y) (Ok zs) ys h more = let same : (y ∷ zs) ≡ ys = cc in ap length (sym same) ∙ ap suc (more zs refl)
+
+pub length-each : {A B E : Type 0} (f : A → Result B E) (xs : List A) (ys : List B) → each f xs ≡ Ok ys → length ys ≡ length xs
+unfolding each
+length-each f [] ys h = let same : [] ≡ ys = cc in ap length (sym same)
+length-each f (x ∷ xs) ys h = each_one f xs (f x) (each f xs) ys h (λ zs e. length-each f xs zs e)
 
 -- ---- one list after another
 

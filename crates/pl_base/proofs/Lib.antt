@@ -16,4 +16,5 @@ pub mod TellsLaws
 pub mod NameLaws
 pub mod StringLaws
 pub mod FindLaws
+pub mod PairLaws
 pub mod TestLaws

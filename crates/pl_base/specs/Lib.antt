@@ -10,4 +10,5 @@ pub mod Files
 pub mod Digits
 pub mod Sums
 pub mod Memory
+pub mod Pairs
 pub mod Windows

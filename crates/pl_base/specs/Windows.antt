@@ -1,7 +1,8 @@
 -- Runs of bytes in a file, what is written into them, and files that differ in them alone.
-use Rattle.std.specs.Prelude.{◌≡◌, ◌≤◌, ◌⊎◌, ℕ, ◌+◌, ◌-◌, ◌*◌, ◌/◌, Bool, true, false, ◌&&◌, ◌||◌, nat_le, nat_lt, List, [], ◌∷◌, ◌++◌, length, replicate, slice_index}
+use Rattle.std.specs.Prelude.{◌≡◌, ◌≤◌, ◌⊎◌, ℕ, ◌+◌, ◌-◌, ◌*◌, ◌/◌, Bool, true, false, ◌&&◌, nat_le, nat_lt, List, [], ◌∷◌, ◌++◌, length, replicate, slice_index}
 use Rattle.std.specs.List.{list_any}
 use Rattle.pl_base.specs.Bytes.{part, put}
+use Rattle.pl_base.specs.Pairs.{any_pair}
 
 -- size bytes from an offset on
 pub record Window : Type 0 where
@@ -54,8 +55,7 @@ share v w = nat_lt v.at (end_of w) && nat_lt w.at (end_of v) && nat_lt 0 v.size 
 
 -- whether two of the windows share a byte
 abbrev pub any_share : List Window → Bool
-any_share [] = false
-any_share (w ∷ ws) = list_any (share w) ws || any_share ws
+any_share ws = any_pair share ws
 
 -- whether windows lie in so many bytes
 abbrev pub are_in : ℕ → List Window → Bool

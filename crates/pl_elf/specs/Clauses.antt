@@ -57,8 +57,8 @@ other_kind bytes h = not (h.kind == ET_EXEC) && not (h.kind == ET_DYN && has_dyn
 -- which of them are looked at, and when: this project's profile
 
 -- a program without a dynamic table
-unfoldable pub is_static : List ℕ → Header → Bool
-is_static bytes h = h.kind == ET_EXEC && not (has_dynamic bytes h)
+unfoldable pub is_static_file : List ℕ → Header → Bool
+is_static_file bytes h = h.kind == ET_EXEC && not (has_dynamic bytes h)
 
 -- a segment without file bytes in a static program is not looked at
 abbrev pub segment_passes : List ℕ → Bool → Segment → Bool
@@ -70,7 +70,7 @@ section_passes bytes s = not (s.kind == SHT_NOBITS) && passes bytes s.offset s.s
 unfoldable pub truncated : List ℕ → Header → Bool
 truncated bytes h =
     passes bytes h.phoff (SEGMENT_SIZE * h.phnum) || passes bytes h.shoff (SECTION_SIZE * h.shnum)
-    || list_any (segment_passes bytes (is_static bytes h)) (segments bytes h)
+    || list_any (segment_passes bytes (is_static_file bytes h)) (segments bytes h)
     || list_any (section_passes bytes) (sections bytes h)
 
 -- ---- 6. BadSegment

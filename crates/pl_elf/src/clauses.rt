@@ -76,9 +76,9 @@ pub fn other_kind(bytes: &[u8], header: &Header) -> bool
 }
 
 /// Whether the header is a static program's: ET_EXEC, and no program header that lies in the file is PT_DYNAMIC.
-#[tactic(auto, unfolding(crate::specs::Clauses::is_static))]
-pub fn is_static(bytes: &[u8], header: &Header) -> bool
-    ensures { result ≡ spec.is_static bytes.now header.now }
+#[tactic(auto, unfolding(crate::specs::Clauses::is_static_file))]
+pub fn is_static_file(bytes: &[u8], header: &Header) -> bool
+    ensures { result ≡ spec.is_static_file bytes.now header.now }
 {
     header.kind == ET_EXEC && !has_dynamic(bytes, header)
 }
@@ -130,6 +130,6 @@ pub fn truncated(bytes: &[u8], header: &Header) -> bool
         bytes,
         u128::from(header.shoff),
         SECTION_SIZE as u64 * u64::from(header.shnum),
-    ) || any_segment_passes(bytes, header, is_static(bytes, header))
+    ) || any_segment_passes(bytes, header, is_static_file(bytes, header))
         || any_section_passes(bytes, header)
 }

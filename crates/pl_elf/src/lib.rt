@@ -16,7 +16,7 @@ mod segment;
 mod segments;
 mod write;
 
-pub use clauses::{has_dynamic, is_static};
+pub use clauses::{has_dynamic, is_static_file};
 pub use fault::HeaderFault;
 pub use header::{Header, header_fields};
 pub use kind::Kind;

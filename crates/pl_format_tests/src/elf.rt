@@ -4,7 +4,7 @@ use pl_elf::constants::{
     ET_EXEC, HEADER_SIZE, MAX_SECTIONS, PT_DYNAMIC, PT_LOAD, SECTION_SIZE, SEGMENT_SIZE, SHT_STRTAB,
 };
 use pl_elf::{
-    Header, HeaderFault, Section, Segment, count_of_kind, is_static, loads, read_header,
+    Header, HeaderFault, Section, Segment, count_of_kind, is_static_file, loads, read_header,
     read_sections, read_segments, section_data, segment_of_kind, write_header, write_section,
     write_segment,
 };
@@ -122,7 +122,7 @@ fn reads_headers(rt: HostRuntime) -> Result<(), AllocError> {
     let answer = read_header(bytes);
     assert!(rt; answer == Ok(HEADER));
     if let Ok(header) = answer {
-        assert!(rt; is_static(bytes, &header));
+        assert!(rt; is_static_file(bytes, &header));
         assert!(rt; read_segments(alloc, bytes, &header)?.get(1) == Some(&DATA));
         assert!(rt; read_sections(alloc, bytes, &header)?.get(1) == Some(&NAMES));
     }

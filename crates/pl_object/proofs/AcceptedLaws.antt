@@ -1,5 +1,5 @@
 -- An object that is read from a file meets what is known of accepted objects.
-use Rattle.std.proofs.Common.{◌≡◌, ℕ, zero, suc, ◌+◌, ◌-◌, ◌<◌, ◌≤◌, Bool, true, false, ◌||◌, ◌∷◌, cond, List, [], length, map, take, drop, length-drop, get_or, Option, Some, None, Result, Ok, Err, refl, ap, ◌∙◌, subst, arith, inl, inr}
+use Rattle.std.proofs.Common.{◌≡◌, ℕ, zero, suc, ◌+◌, ◌-◌, ◌<◌, ◌≤◌, Bool, true, false, ◌||◌, ◌∷◌, List, [], length, map, take, drop, length-drop, get_or, Option, Some, None, Result, Ok, Err, refl, ap, ◌∙◌, subst, arith, inl, inr}
 use Rattle.std.specs.Prelude.{◌==◌, find, IfOk}
 use Rattle.std.specs.List.{list_any, list_all}
 use Rattle.std.specs.Result.{is_ok}
@@ -7,6 +7,7 @@ use Rattle.std.proofs.lemmas.Bool.{cases_Bool, or_parts, and_parts, leb-true}
 use Rattle.std.proofs.lemmas.List.{length-take}
 use Rattle.pl_base.specs.Answers.{◌>>=◌, Answers, unless_found, because}
 use Rattle.pl_base.proofs.AnswerLaws.{refuse_none, because_ok, bind_ok, ok_same, unless_ok}
+use Rattle.pl_base.proofs.FindLaws.{any_missed}
 use Rattle.pl_base.specs.Windows.{Window, end_of}
 use Rattle.pl_elf.specs.Headers.{segments, sections, loads}
 use Rattle.pl_elf.specs.Clauses as elf
@@ -44,16 +45,6 @@ unfound : {A X E : Type 0} (found : Option A) (fault : A → E) (next : Result X
 unfound (Some a) fault next x e = absurd cc
 unfound None fault next x e = (refl, e)
 
-none_found_by : {A : Type 0} (p : A → Bool) (y : A) (rest : Option A) (b : Bool) → p y ≡ b → cond b (Some y) rest ≡ None → (p y ≡ false) × (rest ≡ None)
-none_found_by p y rest true is e = absurd cc
-none_found_by p y rest false is e = (is, e)
-
-none_found : {A : Type 0} (p : A → Bool) (xs : List A) → find p xs ≡ None → list_any p xs ≡ false
-none_found p [] e = refl
-none_found p (x ∷ xs) e =
-    let one = none_found_by p x (find p xs) (p x) refl e in
-    rw one.0 (none_found p xs one.1)
-
 -- ---- relocations
 
 places_pass : (program : Bool) (ss : List Segment) (ws : List Window) (rs : List Reloc) (u : Unit {0}) → check_places program ss ws rs ≡ Ok u
@@ -78,7 +69,7 @@ relocs_pass program ss ws count rs u e =
     let b = or_parts (reloc_overlap rs) (reloc_in_tables ws ss rs || (odd_addend rs || false)) a.1 in
     let c = or_parts (reloc_in_tables ws ss rs) (odd_addend rs || false) b.1 in
     let d = or_parts (odd_addend rs) false c.1 in
-    record { relocs = none_found (is_bad count) rs p.0; held = a.0; apart = b.0; clear = c.0; plain = d.0 }
+    record { relocs = any_missed (is_bad count) rs p.0; held = a.0; apart = b.0; clear = c.0; plain = d.0 }
 
 rest_passes : (bytes : List ℕ) (h : Header) (ss : List Segment) (tags : List Tag) (symbols : List Symbol) (rs : List Reloc) (u : Unit {0}) → check_rest bytes h ss tags symbols rs ≡ Ok u → misplaced_copy (h.kind == ET_EXEC) rs ≡ false
 unfolding check_rest
@@ -123,13 +114,13 @@ few_symbols bytes f tags l e =
 -- what the clauses read of a static program, and that they passed
 pub record IsStatic (bytes : List ℕ) (h : Header) : Type 0 where
   pub read : elf.read bytes ≡ Ok h
-  pub alone : elf.is_static bytes h ≡ true
+  pub alone : elf.is_static_file bytes h ≡ true
   pub small : too_large bytes ≡ false
 
 -- the same of a file with a dynamic table
 pub record IsDynamic (bytes : List ℕ) (h : Header) (d : Dynamic) (l : Linking) : Type 0 where
   pub read : elf.read bytes ≡ Ok h
-  pub other : elf.is_static bytes h ≡ false
+  pub other : elf.is_static_file bytes h ≡ false
   pub entries : table bytes (segments bytes h) ≡ Ok d
   pub tables : check_tables h (segments bytes h) (sections bytes h) d.tags ≡ Ok tt
   pub names : linking bytes (headers bytes h) d.tags ≡ Ok l
@@ -144,7 +135,7 @@ read_holds P bytes static dynamic o e =
     let h = p.0 in
     let f = headers bytes h in
     let read = because_ok of_header (elf.read bytes) h p.1 in
-    elim (cases_Bool (elf.is_static bytes h)) [
+    elim (cases_Bool (elf.is_static_file bytes h)) [
       | inl alone ↦
           let s = unless_ok (too_large bytes) (Clause 30 0) (Ok (static_object f)) o (rw alone at p.2) in
           subst P (ok_same (static_object f) o s.1) (static h (record { read = read; alone = alone; small = s.0 }))

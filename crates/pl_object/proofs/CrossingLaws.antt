@@ -8,10 +8,11 @@ use Rattle.std.proofs.lemmas.List.Folds.{list_any-append}
 use Rattle.std.proofs.lemmas.Bool.Decides.{nat_tests}
 use Rattle.std.proofs.Math.Bool.{or-false}
 use Rattle.pl_base.specs.Windows.{Window, end_of, share}
+use Rattle.pl_base.specs.Pairs.{any_pair}
+use Rattle.pl_base.proofs.PairLaws.{any_pair_permuted}
 use Rattle.pl_object.specs.PlaceClauses.{meets}
 use Rattle.pl_object.specs.declared.crossing.Mark.{Mark}
 use Rattle.pl_object.specs.Crossing.{mark, further, is_met, other, table_after, spot_after, cross}
-use Rattle.pl_object.proofs.PairLaws.{any_pair, any_pair_permuted}
 use Rattle.pl_object.proofs.SweepLaws.{share_flips}
 
 -- a table and a spot that share a byte

@@ -16,7 +16,7 @@ use Rattle.pl_elf.specs.declared.section.Section.{Section}
 use Rattle.pl_elf.specs.declared.fault.HeaderFault.{HeaderFault}
 use Rattle.pl_elf.specs.declared.fault.HeaderFault.TheVariants as fault
 use Rattle.pl_elf.specs.Headers.{header, segments, sections}
-use Rattle.pl_elf.specs.Clauses.{read, passes, not_elf, other_class, other_machine, other_kind, is_static, truncated, segment_passes, section_passes, bad_segment, bad_section, no_sections}
+use Rattle.pl_elf.specs.Clauses.{read, passes, not_elf, other_class, other_machine, other_kind, is_static_file, truncated, segment_passes, section_passes, bad_segment, bad_section, no_sections}
 use Rattle.pl_dyn.specs.declared.tags.Tag.{Tag}
 use Rattle.pl_object.specs.FilePart.{loads_byte, loader, loaded_by, file_window}
 use Rattle.pl_object.specs.Tables.{has_kind, header_window, segments_window, section_window, symtab_windows, dynamic_memory, tables_memory, link_windows, static_windows}
@@ -55,7 +55,7 @@ fifth_fails a b c d e rest h =
 pub record AreInFile (bytes : List ℕ) (h : Header) : Type 0 where
   pub header : HEADER_SIZE ≤ length bytes
   pub table : h.phoff + SEGMENT_SIZE * h.phnum ≤ length bytes
-  pub segments : list_any (segment_passes bytes (is_static bytes h)) (segments bytes h) ≡ false
+  pub segments : list_any (segment_passes bytes (is_static_file bytes h)) (segments bytes h) ≡ false
   pub sections : list_any (section_passes bytes) (sections bytes h) ≡ false
 
 long_enough : (bytes : List ℕ) → not_elf bytes ≡ false → HEADER_SIZE ≤ length bytes
@@ -65,8 +65,8 @@ long_enough bytes h = ltb-false (length bytes) HEADER_SIZE (or_parts (nat_lt (le
 not_truncated : (bytes : List ℕ) (h : Header) → HEADER_SIZE ≤ length bytes → truncated bytes h ≡ false → AreInFile bytes h
 unfolding truncated passes
 not_truncated bytes h long e =
-    let p = or_parts (passes bytes h.phoff (SEGMENT_SIZE * h.phnum) || passes bytes h.shoff (SECTION_SIZE * h.shnum) || list_any (segment_passes bytes (is_static bytes h)) (segments bytes h)) (list_any (section_passes bytes) (sections bytes h)) e in
-    let q = or_parts (passes bytes h.phoff (SEGMENT_SIZE * h.phnum) || passes bytes h.shoff (SECTION_SIZE * h.shnum)) (list_any (segment_passes bytes (is_static bytes h)) (segments bytes h)) p.0 in
+    let p = or_parts (passes bytes h.phoff (SEGMENT_SIZE * h.phnum) || passes bytes h.shoff (SECTION_SIZE * h.shnum) || list_any (segment_passes bytes (is_static_file bytes h)) (segments bytes h)) (list_any (section_passes bytes) (sections bytes h)) e in
+    let q = or_parts (passes bytes h.phoff (SEGMENT_SIZE * h.phnum) || passes bytes h.shoff (SECTION_SIZE * h.shnum)) (list_any (segment_passes bytes (is_static_file bytes h)) (segments bytes h)) p.0 in
     let r = or_parts (passes bytes h.phoff (SEGMENT_SIZE * h.phnum)) (passes bytes h.shoff (SECTION_SIZE * h.shnum)) q.0 in
     record { header = long; table = ltb-false (length bytes) (h.phoff + SEGMENT_SIZE * h.phnum) r.0; segments = q.1; sections = p.1 }
 
@@ -129,7 +129,7 @@ head_in bytes h ws are all =
 both_in : (n : ℕ) (vs ws : List Window) → list_all (is_in n) vs ≡ true → list_all (is_in n) ws ≡ true → list_all (is_in n) (vs ++ ws) ≡ true
 both_in n vs ws v w = list_all-append (is_in n) vs ws ∙ rw (v, w) refl
 
-pub link_windows_in : (bytes : List ℕ) (h : Header) (tags : List Tag) → read bytes ≡ Ok h → is_static bytes h ≡ false
+pub link_windows_in : (bytes : List ℕ) (h : Header) (tags : List Tag) → read bytes ≡ Ok h → is_static_file bytes h ≡ false
     → list_all (is_in (length bytes)) (link_windows h (segments bytes h) (sections bytes h) tags) ≡ true
 unfolding link_windows symtab_windows
 link_windows_in bytes h tags e dynamic =

@@ -4,7 +4,6 @@ pub mod LoadLaws
 pub mod ExtentLaws
 pub mod ReadLaws
 pub mod AcceptedLaws
-pub mod PairLaws
 pub mod FindingLaws
 pub mod SweepLaws
 pub mod CrossingLaws

@@ -1,29 +1,15 @@
 -- Lists that are as long as what they are read from, and symbols with version words.
-use Rattle.std.proofs.Common.{◌≡◌, ℕ, zero, suc, ◌+◌, ◌/◌, ◌<◌, ◌≤◌, List, [], ◌∷◌, length, take, get_or, set, Option, Some, None, Result, Ok, Err, refl, sym, ap, ◌∙◌, inl, inr, arith, add-one}
+use Rattle.std.proofs.Common.{◌≡◌, ℕ, zero, suc, ◌+◌, ◌/◌, ◌<◌, ◌≤◌, List, [], ◌∷◌, length, take, get_or, set, Option, Some, None, Ok, refl, ap, ◌∙◌, inl, inr, arith, add-one}
 use Rattle.std.specs.Prelude.{◌⊎◌}
 use Rattle.std.proofs.lemmas.List.{take_all}
 use Rattle.std.proofs.lemmas.List.FromFn.{length-range_with_len}
 use Rattle.std.specs.List.{range_with_len}
-use Rattle.pl_base.specs.Answers.{◌>>=◌}
-use Rattle.pl_base.specs.Each.{each}
+use Rattle.pl_base.proofs.EachLaws.{length-each}
 use Rattle.pl_sym.specs.Table.{symbol, symbols}
 use Rattle.pl_sym.specs.declared.constants.TheConstants.{SYMBOL_SIZE}
 use Rattle.pl_sym.specs.declared.symbol.Symbol.{Symbol}
 use Rattle.pl_ver.specs.declared.versions.Versions.{Versions}
 use Rattle.pl_object.specs.Names.{with_version, with_versions, versioned}
-
--- ---- as many results as rows
-
-each_one : {A B E : Type 0} (f : A → Result B E) (xs : List A) (first : Result B E) (rest : Result (List B) E) (ys : List B)
-    → (first >>= λ y. rest >>= λ zs. Ok (y ∷ zs)) ≡ Ok ys → ((zs : List B) → rest ≡ Ok zs → length zs ≡ length xs) → length ys ≡ suc (length xs)
-each_one f xs (Err e) rest ys h more = absurd cc
-each_one f xs (Ok y) (Err e) ys h more = absurd cc
-each_one {B = B} f xs (Ok y) (Ok zs) ys h more = let same : (y ∷ zs) ≡ ys = cc in ap length (sym same) ∙ ap suc (more zs refl)
-
-pub length-each : {A B E : Type 0} (f : A → Result B E) (xs : List A) (ys : List B) → each f xs ≡ Ok ys → length ys ≡ length xs
-unfolding each
-length-each f [] ys h = let same : [] ≡ ys = cc in ap length (sym same)
-length-each f (x ∷ xs) ys h = each_one f xs (f x) (each f xs) ys h (λ zs e. length-each f xs zs e)
 
 -- a symbol table has no more symbols than bytes
 pub symbols_fit : (table strings : List ℕ) (ss : List Symbol) → symbols table strings ≡ Ok ss → length ss ≤ length table

@@ -3,7 +3,7 @@ use Rattle.std.proofs.Common.{◌≡◌, ◌<◌, ◌^◌, ℕ, false, List, len
 use Rattle.std.specs.List.{All}
 use Rattle.pl_base.specs.Windows.{end_of}
 use Rattle.pl_elf.specs.Headers.{segments, sections}
-use Rattle.pl_elf.specs.Clauses.{is_static}
+use Rattle.pl_elf.specs.Clauses.{is_static_file}
 use Rattle.pl_dyn.specs.declared.tags.Tag.{Tag}
 use Rattle.pl_dyn.specs.declared.dynamic.Dynamic.{Dynamic}
 use Rattle.pl_object.specs.Tables.{link_windows, static_windows}
@@ -14,7 +14,7 @@ use Rattle.pl_object.specs.declared.layout.Layout.{Layout}
 use Rattle.pl_object.specs.declared.linking.Linking.{Linking}
 use Rattle.pl_object.proofs.ExtentLaws.{link_windows_in, static_windows_in, windows_fit}
 
-pub layout_fits : (bytes : List ℕ) (f : Headers) (tags : List Tag) (l : Linking) (places : Layout) → places ≡ layout bytes f tags l → length bytes < 2 ^ 32 → IsRead bytes f → is_static bytes f.header ≡ false
+pub layout_fits : (bytes : List ℕ) (f : Headers) (tags : List Tag) (l : Linking) (places : Layout) → places ≡ layout bytes f tags l → length bytes < 2 ^ 32 → IsRead bytes f → is_static_file bytes f.header ≡ false
     → All (λ w. end_of w < 2 ^ 64) places.windows
 unfolding layout headers
 layout_fits bytes f tags l places is few read dynamic =

@@ -82,13 +82,13 @@ needed_tells : (tags : List Tag) (strings : List ℕ) → Tells is_memory (names
 unfolding names.needed names.needed_name
 needed_tells tags strings = each_tells is_memory _ _ (λ tag. checked_name_tells _)
 
-bare_tells : (bytes : List ℕ) (ss : List Segment) (secs : List Section) (tags : List Tag) → Tells is_memory (names.symbols bytes ss secs tags)
+bare_tells : (bytes : List ℕ) (ss : List Segment) (sections : List Section) (tags : List Tag) → Tells is_memory (names.symbols bytes ss sections tags)
 unfolding names.symbols
-bare_tells bytes ss secs tags = because_tells sym.is_memory is_memory of_symbols _ of_symbols_tells (symbols_tells _ _)
+bare_tells bytes ss sections tags = because_tells sym.is_memory is_memory of_symbols _ of_symbols_tells (symbols_tells _ _)
 
-known_tells : (bytes : List ℕ) (ss : List Segment) (secs : List Section) (tags : List Tag) (symbols : List Symbol) → Tells is_memory (names.versions bytes ss secs tags symbols)
+known_tells : (bytes : List ℕ) (ss : List Segment) (sections : List Section) (tags : List Tag) (symbols : List Symbol) → Tells is_memory (names.versions bytes ss sections tags symbols)
 unfolding names.versions names.known_versions names.table_versions names.counted
-known_tells bytes ss secs tags symbols = unless_tells is_memory _ _ _ refl (either_tells is_memory _ _ _
+known_tells bytes ss sections tags symbols = unless_tells is_memory _ _ _ refl (either_tells is_memory _ _ _
     (then_tells is_memory _ _ (because_tells ver.is_memory is_memory of_versions _ of_versions_tells (versions_tells _ _ _ _ _ _)) (λ known. unless_tells is_memory _ _ _ refl (ok_tells is_memory _)))
     (ok_tells is_memory _))
 
@@ -116,7 +116,7 @@ dynamic_object_tells bytes f d =
 
 parts_tell : (bytes : List ℕ) (f : Headers) → Tells is_memory (parts bytes f)
 unfolding parts static_program
-parts_tell bytes f = either_tells is_memory (elf.is_static bytes f.header) _ _ (unless_tells is_memory _ _ _ refl (ok_tells is_memory _))
+parts_tell bytes f = either_tells is_memory (elf.is_static_file bytes f.header) _ _ (unless_tells is_memory _ _ _ refl (ok_tells is_memory _))
     (then_tells is_memory _ _ (because_tells dyn.is_memory is_memory of_dynamic _ of_dynamic_tells (dynamic_tells bytes f.segments)) (λ d. dynamic_object_tells bytes f d))
 
 pub reads_tells : (bytes : List ℕ) → Tells is_memory (reads bytes)

@@ -5,8 +5,9 @@ use Rattle.std.specs.List.{list_any, range_with_len}
 use Rattle.std.specs.List.Sorted.{IsPermutation, IsNonDecreasingBy}
 use Rattle.std.proofs.lemmas.Bool.{cases_Bool}
 use Rattle.std.proofs.lemmas.Bool.Decides.{eqb_tells}
+use Rattle.pl_base.specs.Pairs.{any_pair}
+use Rattle.pl_base.proofs.PairLaws.{any_pair_permuted}
 use Rattle.pl_object.specs.Runs.{meets_run, any_run}
-use Rattle.pl_object.proofs.PairLaws.{any_pair, any_pair_permuted}
 
 module _ {X : Type 0} (p : X → X → Bool) (key : X → ℕ) where
   abbrev Above : ℕ → List X → Type 0
@@ -58,14 +59,6 @@ pub runs_tell : {X : Type 0} (p : X → X → Bool) (key : X → ℕ) → ((x y 
 runs_tell p key same flips xs sorted moved up = runs_are p key same sorted (rising_by p key sorted up) ∙ sym (any_pair_permuted p flips xs sorted moved)
 
 -- ---- rows by their places
-
-any_map : {X Y : Type 0} (p : Y → Bool) (f : X → Y) (xs : List X) → list_any p (map f xs) ≡ list_any (λ x. p (f x)) xs
-any_map p f [] = refl
-any_map p f (x ∷ xs) = ap (λ (b : Bool). p (f x) || b) (any_map p f xs)
-
-pub any_pair_map : {X Y : Type 0} (p : Y → Y → Bool) (f : X → Y) (xs : List X) → any_pair p (map f xs) ≡ any_pair (λ x y. p (f x) (f y)) xs
-any_pair_map p f [] = refl
-any_pair_map p f (x ∷ xs) = rw (any_map (p (f x)) f xs, any_pair_map p f xs) refl
 
 later_places : {X : Type 0} (x : X) (xs : List X) (from n : ℕ) → map (slice_get (x ∷ xs)) (range_with_len (suc from) n) ≡ map (slice_get xs) (range_with_len from n)
 later_places x xs from zero = refl

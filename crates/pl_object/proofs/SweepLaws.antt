@@ -5,8 +5,8 @@ use Rattle.std.specs.List.Sorted.{IsPermutation, IsNonDecreasingBy}
 use Rattle.std.proofs.lemmas.List.{drop_more, drop_all}
 use Rattle.std.proofs.lemmas.Bool.Decides.{nat_tests, eqb_tells}
 use Rattle.pl_base.specs.Windows.{Window, share, any_share}
+use Rattle.pl_base.proofs.PairLaws.{any_pair_permuted}
 use Rattle.pl_object.specs.Sweep.{later, sweep}
-use Rattle.pl_object.proofs.PairLaws.{any_pair, any_pair_permuted}
 
 -- no window begins below an address
 abbrev pub Above : ℕ → List Window → Type 0
@@ -99,10 +99,6 @@ lowest : (ws : List Window) → Above 0 ws
 lowest [] = tt
 lowest (w ∷ ws) = (omega arith, lowest ws)
 
-shares_pair : (ws : List Window) → any_share ws ≡ any_pair share ws
-shares_pair [] = refl
-shares_pair (w ∷ ws) = ap (λ (b : Bool). list_any (share w) ws || b) (shares_pair ws)
-
 pub share_flips : (v w : Window) → share v w ≡ share w v
 share_flips v w = grind (arith, nat_tests)
 
@@ -112,4 +108,4 @@ swept ws sorted same up =
     let nothing : Window = record { at = 0; size = 0 } in
     let walk = sweep_is nothing sorted (rising_by sorted up) (lowest sorted) in
     walk ∙ ap (λ (b : Bool). b || any_share sorted) (none_empty nothing sorted refl)
-    ∙ shares_pair sorted ∙ sym (any_pair_permuted share share_flips ws sorted same) ∙ sym (shares_pair ws)
+    ∙ sym (any_pair_permuted share share_flips ws sorted same)

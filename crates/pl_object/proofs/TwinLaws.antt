@@ -1,12 +1,14 @@
 -- Runs of one hash tell whether two symbols are definers of one name and version.
-use Rattle.std.proofs.Common.{◌≡◌, ℕ, Bool, true, false, ◌&&◌, ◌||◌, List, [], ◌∷◌, length, map, Option, Some, None, refl, sym, ap, ◌∙◌, eqb, eq-eqb}
+use Rattle.std.proofs.Common.{◌≡◌, ℕ, Bool, true, false, ◌&&◌, List, length, map, Option, Some, None, refl, sym, ap, ◌∙◌, eqb, eq-eqb}
 use Rattle.std.specs.Prelude.{slice_get, filter}
-use Rattle.std.specs.List.{list_any, range_with_len}
+use Rattle.std.specs.List.{range_with_len}
 use Rattle.std.specs.List.Sorted.{IsPermutation, IsNonDecreasingBy}
 use Rattle.std.specs.Str.{bytes_eq}
 use Rattle.std.specs.Cmp.Lexicographic.{bytes_decides}
 use Rattle.std.proofs.lemmas.Bool.{and_parts, eqb-true}
 use Rattle.std.proofs.Math.Bool.{and-false, and_comm}
+use Rattle.pl_base.specs.Pairs.{any_pair}
+use Rattle.pl_base.proofs.PairLaws.{any_pair_left, any_pair_map, any_pair_same}
 use Rattle.pl_base.proofs.TestLaws.{number_flips, bytes_flip}
 use Rattle.pl_sym.specs.declared.symbol.Symbol.{Symbol}
 use Rattle.pl_sym.specs.declared.class.Class.TheVariants.{Other}
@@ -16,9 +18,8 @@ use Rattle.pl_ver.specs.declared.versions.Versions.{Versions}
 use Rattle.pl_object.specs.SymbolClauses.{is_plain, version_name, is_same_name, is_same_version, is_twin, duplicate_definer}
 use Rattle.pl_object.specs.declared.twins.Entry.{Entry}
 use Rattle.pl_object.specs.Runs.{any_run}
-use Rattle.pl_object.specs.Twins.{hash_of, entry_of, defines_by, defines, twins_by, are_twins, key}
-use Rattle.pl_object.proofs.PairLaws.{any_pair, any_pair_left}
-use Rattle.pl_object.proofs.RunLaws.{runs_tell, any_pair_map, at_places}
+use Rattle.pl_object.specs.Twins.{hash_of, entry_of, defines_by, is_definer_entry, twins_by, are_twins, key}
+use Rattle.pl_object.proofs.RunLaws.{runs_tell, at_places}
 
 -- ---- either way round
 
@@ -76,19 +77,6 @@ hash_adds versions program symbols i j =
     and_of (eqb (hash_of (slice_get symbols i)) (hash_of (slice_get symbols j))) (twins_by (is_twin versions program) (slice_get symbols i) (slice_get symbols j))
     (λ h. eq-eqb (hash_of (slice_get symbols i)) (hash_of (slice_get symbols j)) (one_hash versions program (slice_get symbols i) (slice_get symbols j) h))
 
-any_same : {X : Type 0} (p q : X → Bool) (xs : List X) → ((x : X) → p x ≡ q x) → list_any p xs ≡ list_any q xs
-any_same p q [] same = refl
-any_same p q (x ∷ xs) same = rw (same x, any_same p q xs same) refl
-
-pairs_same : {X : Type 0} (p q : X → X → Bool) (xs : List X) → ((x y : X) → p x y ≡ q x y) → any_pair p xs ≡ any_pair q xs
-pairs_same p q [] same = refl
-pairs_same p q (x ∷ xs) same = rw (any_same (p x) (q x) xs (same x), pairs_same p q xs same) refl
-
-duplicate_pair : (versions : Option Versions) (program : Bool) (symbols : List Symbol) → duplicate_definer versions program symbols ≡ any_pair (is_twin versions program) symbols
-unfolding duplicate_definer
-duplicate_pair versions program [] = refl
-duplicate_pair versions program (s ∷ symbols) = ap (λ (b : Bool). list_any (is_twin versions program s) symbols || b) (duplicate_pair versions program symbols)
-
 -- ---- definers alone
 
 defines_none : (versions : Option Versions) (program : Bool) (x y : Option Symbol) → defines_by program x ≡ false → twins_by (is_twin versions program) x y ≡ false
@@ -97,23 +85,23 @@ defines_none versions program None y e = refl
 defines_none versions program (Some s) None e = refl
 defines_none versions program (Some s) (Some t) e = rw e refl
 
-no_twin : (versions : Option Versions) (program : Bool) (symbols : List Symbol) (a b : Entry) → defines program symbols a ≡ false → are_twins versions program symbols a b ≡ false
+no_twin : (versions : Option Versions) (program : Bool) (symbols : List Symbol) (a b : Entry) → is_definer_entry program symbols a ≡ false → are_twins versions program symbols a b ≡ false
 no_twin versions program symbols a b e =
     ap (λ (c : Bool). eqb a.hash b.hash && c) (defines_none versions program (slice_get symbols a.index) (slice_get symbols b.index) e) ∙ and-false (eqb a.hash b.hash)
 
 -- entries of definers in the order of their hashes tell whether a name is defined twice
 pub twins_tell : (versions : Option Versions) (program : Bool) (symbols : List Symbol) (sorted : List Entry)
-    → IsPermutation (filter (defines program symbols) (map (entry_of symbols) (range_with_len 0 (length symbols)))) sorted → IsNonDecreasingBy key sorted
+    → IsPermutation (filter (is_definer_entry program symbols) (map (entry_of symbols) (range_with_len 0 (length symbols)))) sorted → IsNonDecreasingBy key sorted
     → any_run (are_twins versions program symbols) key sorted ≡ duplicate_definer versions program symbols
+unfolding duplicate_definer
 twins_tell versions program symbols sorted same up =
     let p = is_twin versions program in
     let places = range_with_len 0 (length symbols) in
     let q = are_twins versions program symbols in
-    runs_tell q key (same_key versions program symbols) (entries_flip versions program symbols) (filter (defines program symbols) (map (entry_of symbols) places)) sorted same up
-    ∙ any_pair_left q (defines program symbols) (entries_flip versions program symbols) (no_twin versions program symbols) (map (entry_of symbols) places)
+    runs_tell q key (same_key versions program symbols) (entries_flip versions program symbols) (filter (is_definer_entry program symbols) (map (entry_of symbols) places)) sorted same up
+    ∙ any_pair_left q (is_definer_entry program symbols) (entries_flip versions program symbols) (no_twin versions program symbols) (map (entry_of symbols) places)
     ∙ any_pair_map (are_twins versions program symbols) (entry_of symbols) places
-    ∙ pairs_same (λ (i : ℕ) (j : ℕ). are_twins versions program symbols (entry_of symbols i) (entry_of symbols j)) (λ (i : ℕ) (j : ℕ). twins_by p (slice_get symbols i) (slice_get symbols j)) places (hash_adds versions program symbols)
+    ∙ any_pair_same (λ (i : ℕ) (j : ℕ). are_twins versions program symbols (entry_of symbols i) (entry_of symbols j)) (λ (i : ℕ) (j : ℕ). twins_by p (slice_get symbols i) (slice_get symbols j)) places (hash_adds versions program symbols)
     ∙ sym (any_pair_map (twins_by p) (slice_get symbols) places)
     ∙ ap (any_pair (twins_by p)) (at_places symbols)
     ∙ any_pair_map (twins_by p) (λ (s : Symbol). Some s) symbols
-    ∙ sym (duplicate_pair versions program symbols)

@@ -1,6 +1,6 @@
 -- The names of an object: its needed libraries, its symbols and their versions (System V gABI chapter 5, "Dynamic Section"; GNU symbol versioning). Clauses 15 to 18.
 use Rattle.std.specs.Prelude.{ℕ, ◌*◌, Bool, not, ◌&&◌, ◌||◌, ◌==◌, List, [], ◌∷◌, filter, length, Option, Some, None, Result, Ok, Err, if◌then◌else◌}
-use Rattle.pl_base.specs.Answers.{◌>>=◌, refuse, because}
+use Rattle.pl_base.specs.Answers.{◌>>=◌, unless, because}
 use Rattle.pl_base.specs.Each.{each}
 use Rattle.pl_base.specs.Names.{is_valid_name}
 use Rattle.pl_elf.specs.declared.segment.Segment.{Segment}
@@ -41,7 +41,7 @@ strings bytes ss tags = loaded bytes ss (strings_memory tags)
 
 -- the symbols, not yet with their versions
 unfoldable pub symbols : List ℕ → List Segment → List Section → List Tag → Result (List Symbol) Refusal
-symbols bytes ss secs tags = because of_symbols (table.symbols (loaded bytes ss (symbols_memory tags secs)) (strings bytes ss tags))
+symbols bytes ss sections tags = because of_symbols (table.symbols (loaded bytes ss (symbols_memory tags sections)) (strings bytes ss tags))
 
 -- ---- 17. BadChain
 
@@ -63,24 +63,24 @@ miscounted versym symbols = not (length versym == VERSYM_SIZE * length symbols)
 
 -- the versions of the tables that a DT_VERSYM comes with
 unfoldable pub table_versions : List ℕ → List Segment → List Section → List Tag → Result Versions Refusal
-table_versions bytes ss secs tags = because of_versions (
-    ver.versions (loaded bytes ss (section_memory DT_VERSYM tags secs))
-    (loaded bytes ss (section_memory DT_VERDEF tags secs)) (record_count DT_VERDEF DT_VERDEFNUM tags)
-    (loaded bytes ss (section_memory DT_VERNEED tags secs)) (record_count DT_VERNEED DT_VERNEEDNUM tags)
+table_versions bytes ss sections tags = because of_versions (
+    ver.versions (loaded bytes ss (section_memory DT_VERSYM tags sections))
+    (loaded bytes ss (section_memory DT_VERDEF tags sections)) (record_count DT_VERDEF DT_VERDEFNUM tags)
+    (loaded bytes ss (section_memory DT_VERNEED tags sections)) (record_count DT_VERNEED DT_VERNEEDNUM tags)
     (strings bytes ss tags))
 
 unfoldable pub counted : List ℕ → List Symbol → Versions → Result (Option Versions) Refusal
-counted versym symbols versions = refuse ((miscounted versym symbols, Clause 18 0) ∷ []) (Ok (Some versions))
+counted versym symbols versions = unless (miscounted versym symbols) (Clause 18 0) (Ok (Some versions))
 
 unfoldable pub known_versions : List ℕ → List Segment → List Section → List Tag → List Symbol → Result (Option Versions) Refusal
-known_versions bytes ss secs tags symbols =
+known_versions bytes ss sections tags symbols =
     if has_tag DT_VERSYM tags
-    then (table_versions bytes ss secs tags >>= counted (loaded bytes ss (section_memory DT_VERSYM tags secs)) symbols)
+    then (table_versions bytes ss sections tags >>= counted (loaded bytes ss (section_memory DT_VERSYM tags sections)) symbols)
     else Ok None
 
 -- the versions, where there is a table of version words
 unfoldable pub versions : List ℕ → List Segment → List Section → List Tag → List Symbol → Result (Option Versions) Refusal
-versions bytes ss secs tags symbols = refuse ((bad_version_tags tags, Clause 17 0) ∷ []) (known_versions bytes ss secs tags symbols)
+versions bytes ss sections tags symbols = unless (bad_version_tags tags) (Clause 17 0) (known_versions bytes ss sections tags symbols)
 
 -- ---- symbols with their versions
 

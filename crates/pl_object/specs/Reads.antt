@@ -1,7 +1,7 @@
 -- One object, or the first acceptance clause that refuses the file.
 use Rattle.std.specs.Prelude.{◌≡◌, ℕ, ◌+◌, Bool, false, not, ◌&&◌, ◌||◌, ◌==◌, nat_lt, max, List, [], ◌∷◌, ◌++◌, map, fold, length, bit_and, Option, Some, None, Result, Ok, Err, if◌then◌else◌, is_some}
 use Rattle.std.specs.Option.{option_map}
-use Rattle.pl_base.specs.Answers.{◌>>=◌, refuse, because}
+use Rattle.pl_base.specs.Answers.{◌>>=◌, refuse, unless, because}
 use Rattle.pl_base.specs.Sums.{round_up}
 use Rattle.pl_elf.specs.Headers.{segments, sections, loads, segment_of_kind}
 use Rattle.pl_elf.specs.Clauses as elf
@@ -175,11 +175,11 @@ dynamic_object bytes f d = do
 
 -- a static program has no dynamic table: of what follows clause 8 its size alone counts
 unfoldable pub static_program : List ℕ → Headers → Result Object Refusal
-static_program bytes f = refuse ((too_large bytes, Clause 30 0) ∷ []) (Ok (static_object f))
+static_program bytes f = unless (too_large bytes) (Clause 30 0) (Ok (static_object f))
 
 -- 9 to 31
 unfoldable pub parts : List ℕ → Headers → Result Object Refusal
-parts bytes f = if elf.is_static bytes f.header then static_program bytes f else (because of_dynamic (dynamic bytes f.segments) >>= dynamic_object bytes f)
+parts bytes f = if elf.is_static_file bytes f.header then static_program bytes f else (because of_dynamic (dynamic bytes f.segments) >>= dynamic_object bytes f)
 
 unfoldable pub headers : List ℕ → Header → Headers
 headers bytes h = record { header = h; segments = segments bytes h; sections = sections bytes h }

@@ -3,6 +3,7 @@ use Rattle.std.specs.Prelude.{ℕ, ◌/◌, Bool, true, false, not, ◌&&◌, �
 use Rattle.std.specs.List.{range_with_len, list_any}
 use Rattle.std.specs.Str.{bytes_eq}
 use Rattle.pl_base.specs.Answers.{refuse}
+use Rattle.pl_base.specs.Pairs.{any_pair}
 use Rattle.pl_elf.specs.Headers.{segment_of_kind}
 use Rattle.pl_elf.specs.declared.constants.TheConstants.{PT_LOAD, PAGE}
 use Rattle.pl_elf.specs.declared.segment.Segment.{Segment}
@@ -40,12 +41,12 @@ base_not_zero program ss = not program && is_above (segment_of_kind PT_LOAD ss)
 
 -- the hash table of a tag, where the tag is there
 unfoldable pub hash_table : List ℕ → List Segment → List Section → List Tag → ℕ → Bool → ℕ → List Table
-hash_table bytes ss secs tags count gnu number =
-    if has_tag number tags then record { words = loaded bytes ss (section_memory number tags secs); gnu = gnu; symbols = count } ∷ [] else []
+hash_table bytes ss sections tags count gnu number =
+    if has_tag number tags then record { words = loaded bytes ss (section_memory number tags sections); gnu = gnu; symbols = count } ∷ [] else []
 
 unfoldable pub hash_tables : List ℕ → List Segment → List Section → List Tag → ℕ → List Table
-hash_tables bytes ss secs tags count =
-    hash_table bytes ss secs tags count false DT_HASH ++ hash_table bytes ss secs tags count true DT_GNU_HASH
+hash_tables bytes ss sections tags count =
+    hash_table bytes ss sections tags count false DT_HASH ++ hash_table bytes ss sections tags count true DT_GNU_HASH
 
 -- a definer for every reference, jump slots too
 abbrev pub defines : Symbol → Bool
@@ -92,9 +93,7 @@ is_twin versions program s t =
     is_definer s Other program && is_definer t Other program && bytes_eq s.name t.name && is_same_version versions s t
 
 unfoldable pub duplicate_definer : Option Versions → Bool → List Symbol → Bool
-duplicate_definer versions program [] = false
-duplicate_definer versions program (s ∷ symbols) =
-    list_any (is_twin versions program s) symbols || duplicate_definer versions program symbols
+duplicate_definer versions program symbols = any_pair (is_twin versions program) symbols
 
 -- ---- 28. Ifunc
 

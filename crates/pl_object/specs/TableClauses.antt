@@ -30,25 +30,25 @@ is_misplaced address s = has_kind SHT_DYNSYM s && (not (s.addr == address) || no
 
 -- not exactly one DYNSYM section, or a misplaced one
 unfoldable pub other_dynsym : List Tag → List Section → Bool
-other_dynsym tags secs = not (count_by (has_kind SHT_DYNSYM) secs == 1) || list_any (is_misplaced (value DT_SYMTAB tags)) secs
+other_dynsym tags sections = not (count_by (has_kind SHT_DYNSYM) sections == 1) || list_any (is_misplaced (value DT_SYMTAB tags)) sections
 
 -- a tag names a table that no section tells the size of
 unfoldable pub any_lost : List Tag → List Section → Bool
-any_lost tags secs =
-    is_lost DT_HASH tags secs || is_lost DT_GNU_HASH tags secs || is_lost DT_VERSYM tags secs
-    || is_lost DT_VERDEF tags secs || is_lost DT_VERNEED tags secs
+any_lost tags sections =
+    is_lost DT_HASH tags sections || is_lost DT_GNU_HASH tags sections || is_lost DT_VERSYM tags sections
+    || is_lost DT_VERDEF tags sections || is_lost DT_VERNEED tags sections
 
 -- a table that a tag names is not in the file part
 unfoldable pub any_outside : List Segment → List Section → List Tag → Bool
-any_outside ss secs tags = any_lost tags secs || list_any (λ w. not (in_file_part ss w)) (tables_memory tags secs)
+any_outside ss sections tags = any_lost tags sections || list_any (λ w. not (in_file_part ss w)) (tables_memory tags sections)
 
 -- two tables overlap in the file
 unfoldable pub tables_overlap : Header → List Segment → List Section → List Tag → Bool
-tables_overlap h ss secs tags = any_share (main_windows h ss secs tags)
+tables_overlap h ss sections tags = any_share (main_windows h ss sections tags)
 
 unfoldable pub bad_tables : Header → List Segment → List Section → List Tag → Bool
-bad_tables h ss secs tags =
-    lacks_tags tags || other_dynsym tags secs || any_outside ss secs tags || tables_overlap h ss secs tags
+bad_tables h ss sections tags =
+    lacks_tags tags || other_dynsym tags sections || any_outside ss sections tags || tables_overlap h ss sections tags
 
 -- ---- 13. RelTable
 
@@ -83,7 +83,7 @@ has_packed tags = list_any (λ tag. is_packed_tag tag.number) tags
 -- ---- the three in order
 
 unfoldable pub check_tables : Header → List Segment → List Section → List Tag → Result (Unit {0}) Refusal
-check_tables h ss secs tags =
+check_tables h ss sections tags =
     refuse (
-    (bad_tables h ss secs tags, Clause 12 0) ∷ (bad_relocation_tables tags, Clause 13 0) ∷ (has_packed tags, Clause 14 0) ∷ [])
+    (bad_tables h ss sections tags, Clause 12 0) ∷ (bad_relocation_tables tags, Clause 13 0) ∷ (has_packed tags, Clause 14 0) ∷ [])
     (Ok tt)

@@ -50,13 +50,13 @@ jmprel_memory tags = tag_memory DT_JMPREL DT_PLTRELSZ tags
 abbrev pub has_kind : ℕ → Section → Bool
 has_kind kind s = s.kind == kind
 
-abbrev pub size_of : Option Section → ℕ
-size_of None = 0
-size_of (Some s) = s.size
+abbrev pub section_size : Option Section → ℕ
+section_size None = 0
+section_size (Some s) = s.size
 
 -- as many bytes as the DYNSYM section has
 unfoldable pub symbols_memory : List Tag → List Section → Window
-symbols_memory tags secs = record { at = value DT_SYMTAB tags; size = size_of (find (has_kind SHT_DYNSYM) secs) }
+symbols_memory tags sections = record { at = value DT_SYMTAB tags; size = section_size (find (has_kind SHT_DYNSYM) sections) }
 
 abbrev pub is_allocated : Section → Bool
 is_allocated s = not (bit_and s.flags SHF_ALLOC == 0)
@@ -67,19 +67,19 @@ begins_at address s = is_allocated s && not (s.kind == SHT_NOBITS) && nat_lt 0 s
 
 -- as many bytes as the first section has that begins where a tag says; none where the tag or such a section is absent
 unfoldable pub section_memory : ℕ → List Tag → List Section → Window
-section_memory number tags secs =
-    if has_tag number tags then record { at = value number tags; size = size_of (find (begins_at (value number tags)) secs) } else nothing
+section_memory number tags sections =
+    if has_tag number tags then record { at = value number tags; size = section_size (find (begins_at (value number tags)) sections) } else nothing
 
 -- a tag is there, and no section begins where it says
 unfoldable pub is_lost : ℕ → List Tag → List Section → Bool
-is_lost number tags secs = has_tag number tags && not (list_any (begins_at (value number tags)) secs)
+is_lost number tags sections = has_tag number tags && not (list_any (begins_at (value number tags)) sections)
 
 -- the tables that a tag names
 unfoldable pub tables_memory : List Tag → List Section → List Window
-tables_memory tags secs =
-    symbols_memory tags secs ∷ strings_memory tags ∷ rela_memory tags ∷ jmprel_memory tags
-    ∷ section_memory DT_HASH tags secs ∷ section_memory DT_GNU_HASH tags secs
-    ∷ section_memory DT_VERSYM tags secs ∷ section_memory DT_VERDEF tags secs ∷ section_memory DT_VERNEED tags secs ∷ []
+tables_memory tags sections =
+    symbols_memory tags sections ∷ strings_memory tags ∷ rela_memory tags ∷ jmprel_memory tags
+    ∷ section_memory DT_HASH tags sections ∷ section_memory DT_GNU_HASH tags sections
+    ∷ section_memory DT_VERSYM tags sections ∷ section_memory DT_VERDEF tags sections ∷ section_memory DT_VERNEED tags sections ∷ []
 
 -- ---- windows of the file
 
@@ -97,24 +97,24 @@ section_window s = record { at = s.offset; size = s.size }
 
 -- the symbol tables that are not for linking at the start
 unfoldable pub symtab_windows : List Section → List Window
-symtab_windows secs = map section_window (filter (has_kind SHT_SYMTAB) secs)
+symtab_windows sections = map section_window (filter (has_kind SHT_SYMTAB) sections)
 
 -- no two of these may overlap: the headers, and the tables that are changed when an object is moved
 unfoldable pub main_windows : Header → List Segment → List Section → List Tag → List Window
-main_windows h ss secs tags =
+main_windows h ss sections tags =
     (header_window ∷ segments_window h ∷ sections_window h
-    ∷ file_window ss (dynamic_memory ss) ∷ file_window ss (symbols_memory tags secs)
+    ∷ file_window ss (dynamic_memory ss) ∷ file_window ss (symbols_memory tags sections)
     ∷ file_window ss (rela_memory tags) ∷ file_window ss (jmprel_memory tags) ∷ [])
-    ++ symtab_windows secs
+    ++ symtab_windows sections
 
 -- the link tables: a byte of memory that is loaded from one of their bytes belongs to the link alone
 unfoldable pub link_windows : Header → List Segment → List Section → List Tag → List Window
-link_windows h ss secs tags =
-    (header_window ∷ segments_window h ∷ map (file_window ss) (dynamic_memory ss ∷ tables_memory tags secs)) ++ symtab_windows secs
+link_windows h ss sections tags =
+    (header_window ∷ segments_window h ∷ map (file_window ss) (dynamic_memory ss ∷ tables_memory tags sections)) ++ symtab_windows sections
 
 -- those of a static program
 unfoldable pub static_windows : Header → List Section → List Window
-static_windows h secs = (header_window ∷ segments_window h ∷ []) ++ symtab_windows secs
+static_windows h sections = (header_window ∷ segments_window h ∷ []) ++ symtab_windows sections
 
 abbrev pub range_of : Window → Range
 range_of w = range_from w.at w.size

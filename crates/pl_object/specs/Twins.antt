@@ -21,8 +21,8 @@ defines_by program None = false
 defines_by program (Some s) = is_definer s Other program
 
 -- an entry of a definer
-abbrev pub defines : Bool → List Symbol → Entry → Bool
-defines program symbols e = defines_by program (slice_get symbols e.index)
+abbrev pub is_definer_entry : Bool → List Symbol → Entry → Bool
+is_definer_entry program symbols e = defines_by program (slice_get symbols e.index)
 
 abbrev pub twins_by : (Symbol → Symbol → Bool) → Option Symbol → Option Symbol → Bool
 twins_by p None other = false

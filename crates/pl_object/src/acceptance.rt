@@ -28,7 +28,7 @@ use crate::{Object, Refusal, Reloc, Window};
 use pl_base::Rows;
 use pl_dyn::{DynFault, Dynamic, read_dynamic};
 use pl_elf::constants::ET_EXEC;
-use pl_elf::{Header, Kind, Segment, is_static, read_header, read_sections, read_segments};
+use pl_elf::{Header, Kind, Segment, is_static_file, read_header, read_sections, read_segments};
 use pl_sym::Symbol;
 use std::alloc::{AllocError, Global};
 
@@ -95,7 +95,11 @@ fn relocations(
 }
 
 /// The tables that no place may share a byte with.
-fn kept_windows(alloc: Global, header: &Header, link: &[Window]) -> Result<Vec<Window>, AllocError>
+fn with_section_table(
+    alloc: Global,
+    header: &Header,
+    link: &[Window],
+) -> Result<Vec<Window>, AllocError>
     ensures { IfOk result (λ v. v.items ≡ tables.sections_window header.now ∷ link.now) }
 {
     let mut windows = Vec::from_array(alloc, [sections_window(header)])?;
@@ -159,7 +163,7 @@ fn check(
         &linking.versions,
         symbols,
     )?;
-    let kept = kept_windows(alloc, &headers.header, layout.windows.as_slice())?;
+    let kept = with_section_table(alloc, &headers.header, layout.windows.as_slice())?;
     check_relocs(
         alloc,
         program,
@@ -286,7 +290,7 @@ fn dynamic_object(
 ) -> Result<Object, Refusal>
     requires few { length bytes.now < 2 ^ 32 }
     requires read { spec.IsRead bytes.now headers }
-    requires dynamic { elf.is_static bytes.now headers.header ≡ false }
+    requires dynamic { elf.is_static_file bytes.now headers.header ≡ false }
     ensures { Answers is_memory result (spec.dynamic_object bytes.now headers dynamic.now) }
 {
     check_tables(
@@ -321,7 +325,7 @@ fn parts(alloc: Global, bytes: &[u8], headers: Headers) -> Result<Object, Refusa
     requires read { spec.IsRead bytes.now headers }
     ensures { Answers is_memory result (spec.parts bytes.now headers) }
 {
-    if is_static(bytes, &headers.header) {
+    if is_static_file(bytes, &headers.header) {
         return static_program(alloc, bytes, headers);
     }
     let dynamic = dynamic(alloc, bytes, headers.segments.as_slice())?;

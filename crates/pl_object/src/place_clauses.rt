@@ -20,7 +20,7 @@ use std::alloc::{AllocError, Global};
 fn is_known(kind: u32) -> bool
     ensures { result ≡ spec.is_known kind }
 {
-    RELOC_KINDS.iter().any(|known| *known == kind)
+    RELOC_KINDS.contains(&kind)
 }
 
 #[tactic(auto, unfolding(crate::specs::PlaceClauses::is_bad))]

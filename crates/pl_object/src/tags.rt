@@ -79,8 +79,8 @@ fn first_dynsym(sections: &[Section]) -> Option<Section>
         .find(|section| section.kind == SHT_DYNSYM)
 }
 
-fn size_of(section: Option<Section>) -> u64
-    ensures { result ≡ spec.size_of section }
+fn section_size(section: Option<Section>) -> u64
+    ensures { result ≡ spec.section_size section }
 {
     match section {
         None => 0,
@@ -93,7 +93,7 @@ fn size_of(section: Option<Section>) -> u64
 pub fn symbols_memory(dynamic: &Dynamic, sections: &[Section]) -> Window
     ensures { result ≡ spec.symbols_memory dynamic.now.tags sections.now }
 {
-    let size = size_of(first_dynsym(sections));
+    let size = section_size(first_dynsym(sections));
     Window::new(u128::from(value(dynamic, DT_SYMTAB)), size)
 }
 
@@ -131,7 +131,10 @@ pub fn section_memory(dynamic: &Dynamic, sections: &[Section], number: u64) -> W
         return Window::new(0, 0);
     }
     let address = value(dynamic, number);
-    Window::new(u128::from(address), size_of(first_at(sections, address)))
+    Window::new(
+        u128::from(address),
+        section_size(first_at(sections, address)),
+    )
 }
 
 /// Whether a tag is there and no section begins where it says.

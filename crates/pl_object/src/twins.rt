@@ -39,8 +39,8 @@ fn entry_of(symbols: &[Symbol], index: usize) -> Entry
     }
 }
 
-fn defines(program: bool, symbols: &[Symbol], entry: &Entry) -> bool
-    ensures { result ≡ spec.defines program symbols.now entry.now }
+fn is_definer_entry(program: bool, symbols: &[Symbol], entry: &Entry) -> bool
+    ensures { result ≡ spec.is_definer_entry program symbols.now entry.now }
 {
     match symbols.get(entry.index as usize) {
         None => false,
@@ -51,11 +51,11 @@ fn defines(program: bool, symbols: &[Symbol], entry: &Entry) -> bool
 /// The definers.
 fn entries(alloc: Global, program: bool, symbols: &[Symbol]) -> Result<Vec<Entry>, AllocError>
     requires { length symbols.now < 2 ^ 32 }
-    ensures { IfOk result (λ v. v.items ≡ filter (spec.defines program symbols.now) (map (spec.entry_of symbols.now) (range_with_len 0 (length symbols.now)))) }
+    ensures { IfOk result (λ v. v.items ≡ filter (spec.is_definer_entry program symbols.now) (map (spec.entry_of symbols.now) (range_with_len 0 (length symbols.now)))) }
 {
     (0..symbols.len())
         .map(|index| entry_of(symbols, index))
-        .filter(|entry| defines(program, symbols, entry))
+        .filter(|entry| is_definer_entry(program, symbols, entry))
         .collect(alloc)
 }
 

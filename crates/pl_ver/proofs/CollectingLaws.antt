@@ -14,7 +14,7 @@ use Rattle.pl_ver.specs.declared.fault.VerFault.TheVariants.{BadIndex}
 use Rattle.pl_ver.specs.declared.record.Record.{Record}
 use Rattle.pl_ver.specs.Fields.{next}
 use Rattle.pl_ver.specs.Chains.{chain}
-use Rattle.pl_ver.specs.Versions.{is_memory, any_has, any_share}
+use Rattle.pl_ver.specs.Versions.{is_memory, any_has, any_index_twice}
 use Rattle.pl_ver.specs.Collecting.{add, add_all, distinct}
 use Rattle.pl_ver.proofs.ChainLaws.{chain_step, chain_none}
 
@@ -109,15 +109,15 @@ taken_more before r (q ∷ rs) =
     rw (list_any-append (λ k. eqb k.index q.index) before (r ∷ []), taken_more before r rs, number_flips r.index q.index)
     (mixed (any_has q.index before) (eqb q.index r.index) (any_taken before rs) (any_has r.index rs))
 
-collected_by : (before : List Record) (r : Record) (rs : List Record) (b : Bool) → add_all (before ++ r ∷ []) rs ≡ unless (any_taken (before ++ r ∷ []) rs || any_share rs) BadIndex (Ok ((before ++ r ∷ []) ++ rs))
-    → (unless b BadIndex (Ok (before ++ r ∷ [])) >>= λ t. add_all t rs) ≡ unless ((b || any_taken before rs) || (any_has r.index rs || any_share rs)) BadIndex (Ok (before ++ r ∷ rs))
+collected_by : (before : List Record) (r : Record) (rs : List Record) (b : Bool) → add_all (before ++ r ∷ []) rs ≡ unless (any_taken (before ++ r ∷ []) rs || any_index_twice rs) BadIndex (Ok ((before ++ r ∷ []) ++ rs))
+    → (unless b BadIndex (Ok (before ++ r ∷ [])) >>= λ t. add_all t rs) ≡ unless ((b || any_taken before rs) || (any_has r.index rs || any_index_twice rs)) BadIndex (Ok (before ++ r ∷ rs))
 collected_by before r rs true more = refl
 collected_by before r rs false more =
     more
     ∙ rw (taken_more before r rs, append_assoc before (r ∷ []) rs)
-    (ap (λ (b : Bool). unless b BadIndex (Ok (before ++ r ∷ rs))) (or_assoc (any_taken before rs) (any_has r.index rs) (any_share rs)))
+    (ap (λ (b : Bool). unless b BadIndex (Ok (before ++ r ∷ rs))) (or_assoc (any_taken before rs) (any_has r.index rs) (any_index_twice rs)))
 
-collected : (before rs : List Record) → add_all before rs ≡ unless (any_taken before rs || any_share rs) BadIndex (Ok (before ++ rs))
+collected : (before rs : List Record) → add_all before rs ≡ unless (any_taken before rs || any_index_twice rs) BadIndex (Ok (before ++ rs))
 collected before [] = add_all-none before ∙ ap (λ (xs : List Record). Ok xs) (sym (append-nil before))
 collected before (r ∷ rs) = add_all-cons before r rs ∙ collected_by before r rs (any_has r.index before) (collected (before ++ r ∷ []) rs)
 

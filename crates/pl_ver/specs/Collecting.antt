@@ -6,7 +6,7 @@ use Rattle.pl_ver.specs.declared.fault.VerFault.{VerFault}
 use Rattle.pl_ver.specs.declared.fault.VerFault.TheVariants.{BadIndex}
 use Rattle.pl_ver.specs.declared.record.Record.{Record}
 use Rattle.pl_ver.specs.Chains.{are_verdefs, is_verneed, are_verneeds}
-use Rattle.pl_ver.specs.Versions.{any_has, any_share}
+use Rattle.pl_ver.specs.Versions.{any_has, any_index_twice}
 
 -- one record more
 abbrev pub add : List Record → Record → Result (List Record) VerFault
@@ -18,7 +18,7 @@ add_all before records = run add before records
 
 -- records, unless two of them have the same index
 unfoldable pub distinct : List Record → Result (List Record) VerFault
-distinct records = unless (any_share records) BadIndex (Ok records)
+distinct records = unless (any_index_twice records) BadIndex (Ok records)
 
 -- a section, and a Verneed, that clause 17 does not refuse with some strings
 abbrev pub AreVerdefs : List ℕ → ℕ → Type 0

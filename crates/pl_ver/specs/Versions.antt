@@ -1,7 +1,8 @@
 -- The versions of an object's symbols (GNU symbol versioning records), and the first of acceptance clauses 17 and 18 that refuses them. Both clauses are this project's profile.
-use Rattle.std.specs.Prelude.{ℕ, Bool, true, false, not, ◌&&◌, ◌||◌, ◌==◌, nat_le, nat_lt, List, [], ◌∷◌, ◌++◌, map, Option, Result, Ok, find, option_map, unwrap_or}
+use Rattle.std.specs.Prelude.{ℕ, Bool, true, false, not, ◌&&◌, ◌||◌, ◌==◌, nat_le, nat_lt, List, [], ◌++◌, map, Option, Result, Ok, find, option_map, unwrap_or}
 use Rattle.std.specs.List.{list_any}
-use Rattle.pl_base.specs.Answers.{refuse}
+use Rattle.pl_base.specs.Answers.{unless}
+use Rattle.pl_base.specs.Pairs.{any_pair}
 use Rattle.pl_base.specs.Strings.{string_at}
 use Rattle.pl_ver.specs.declared.constants.TheConstants.{VER_NDX_GLOBAL}
 use Rattle.pl_ver.specs.declared.fault.VerFault.{VerFault}
@@ -26,9 +27,8 @@ abbrev pub any_has : ℕ → List Record → Bool
 any_has index records = list_any (has_index index) records
 
 -- two records have the same index
-abbrev pub any_share : List Record → Bool
-any_share [] = false
-any_share (r ∷ records) = any_has r.index records || any_share records
+abbrev pub any_index_twice : List Record → Bool
+any_index_twice records = any_pair (λ r. has_index r.index) records
 
 -- a record with the index of symbols without a version, or of local ones, that is not the base version's
 unfoldable pub is_misplaced : Record → Bool
@@ -39,7 +39,7 @@ unfoldable pub is_unknown : List Record → ℕ → Bool
 is_unknown records word = nat_lt VER_NDX_GLOBAL (index_of word) && not (any_has (index_of word) records)
 
 unfoldable pub bad_index : List Record → List ℕ → Bool
-bad_index records versym = any_share records || list_any is_misplaced records || list_any (is_unknown records) versym
+bad_index records versym = any_index_twice records || list_any is_misplaced records || list_any (is_unknown records) versym
 
 -- ---- the versions
 
@@ -53,12 +53,12 @@ named strings r = record { index = r.index; name = name_at strings r.name; defin
 -- the version words of a section, and the records with their names
 unfoldable pub checked : List ℕ → List Record → List ℕ → Result Versions VerFault
 checked versym records strings =
-    refuse ((bad_index records (words versym), BadIndex) ∷ [])
+    unless (bad_index records (words versym)) BadIndex
     (Ok (record { index = words versym; names = map (named strings) records }))
 
 unfoldable pub versions : List ℕ → List ℕ → ℕ → List ℕ → ℕ → List ℕ → Result Versions VerFault
 versions versym verdef defs verneed needs strings =
-    refuse ((not (are_verdefs strings verdef defs && are_verneeds strings verneed needs), BadChain) ∷ [])
+    unless (not (are_verdefs strings verdef defs && are_verneeds strings verneed needs)) BadChain
     (checked versym (defined verdef defs ++ needed verneed needs) strings)
 
 -- ---- look-up

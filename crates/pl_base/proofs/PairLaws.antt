@@ -1,15 +1,12 @@
 -- Two rows of a list that meet a test, in whatever order the rows are.
-use Rattle.std.proofs.Common.{◌≡◌, Bool, true, false, ◌||◌, cond, filter, List, [], ◌∷◌, refl, sym, ap, ◌∙◌, inl, inr}
+use Rattle.std.proofs.Common.{◌≡◌, Bool, true, false, ◌||◌, cond, filter, map, List, [], ◌∷◌, refl, sym, ap, ◌∙◌, inl, inr}
 use Rattle.std.specs.List.{list_any, IsDistinct, AllByRecursion}
 use Rattle.std.specs.List.Sorted.{IsPermutation}
 use Rattle.std.proofs.lemmas.Bool.{cases_Bool, or_parts, true≢false}
 use Rattle.std.proofs.lemmas.List.Sorted.{IsPermutation-sym}
 use Rattle.std.proofs.lemmas.Map.Keys.{IsDistinct-IsPermutation}
-
--- two rows, one after the other, meet a test
-abbrev pub any_pair : {X : Type 0} → (X → X → Bool) → List X → Bool
-any_pair p [] = false
-any_pair p (x ∷ xs) = list_any (p x) xs || any_pair p xs
+use Rattle.pl_base.specs.Pairs.{any_pair}
+use Rattle.pl_base.proofs.FindLaws.{any_map, any_same}
 
 none_of : {X : Type 0} (p : X → Bool) (xs : List X) → list_any p xs ≡ false → AllByRecursion (λ y. p y ≡ false) xs
 none_of p [] e = tt
@@ -64,3 +61,15 @@ pub any_pair_left : {X : Type 0} (p : X → X → Bool) (d : X → Bool) → ((x
 any_pair_left p d flips without [] = refl
 any_pair_left p d flips without (x ∷ xs) =
     pairs_left_by p d x xs (d x) refl without (none_left (p x) d (λ y e. flips x y ∙ without y x e) xs) (any_pair_left p d flips without xs)
+
+-- ---- other rows, and another test
+
+-- the rows of a list that another is made into
+pub any_pair_map : {X Y : Type 0} (p : Y → Y → Bool) (f : X → Y) (xs : List X) → any_pair p (map f xs) ≡ any_pair (λ x y. p (f x) (f y)) xs
+any_pair_map p f [] = refl
+any_pair_map p f (x ∷ xs) = rw (any_map (p (f x)) f xs, any_pair_map p f xs) refl
+
+-- a test that says the same
+pub any_pair_same : {X : Type 0} (p q : X → X → Bool) (xs : List X) → ((x y : X) → p x y ≡ q x y) → any_pair p xs ≡ any_pair q xs
+any_pair_same p q [] same = refl
+any_pair_same p q (x ∷ xs) same = rw (any_same (p x) (q x) xs (same x), any_pair_same p q xs same) refl
