@@ -91,9 +91,9 @@ abbrev pub IsRefusal : Cause → Type 0 → Option (List ℕ) → Option (List �
 IsRefusal cause sink old new result = ((result ≡ statuses.NoMemory) × (new ≡ old)) ⊎ Ends statuses.Refused (refusal cause) sink old new result
 
 -- Words that are no command: the usage line was written whole or the output failed in it, and folder and input are as they were. Other words never end with the usage line.
-abbrev pub IsUsage : Option Command → Type 0 → Option (List ℕ) → Option (List ℕ) → Status → Type 0
-IsUsage None same old new result = same × (((result ≡ statuses.Usage) × (new ≡ got_after old usage)) ⊎ ((result ≡ statuses.WriteFault) × GotPrefix old new usage))
-IsUsage (Some asked) same old new result = result ≢ statuses.Usage
+abbrev pub IsUsage : Option Command → Type 0 → Type 0 → Option (List ℕ) → Option (List ℕ) → Status → Type 0
+IsUsage None same sink old new result = same × Ends statuses.Usage usage sink old new result
+IsUsage (Some asked) same sink old new result = result ≢ statuses.Usage
 
 -- What a run wrote, by its status. disk and sink say that the count of the folder and of the sink rose.
 abbrev pub IsOutcome : Bool → Bool → Answer → Type 0 → Type 0 → Option (List ℕ) → Option (List ℕ) → Status → Type 0

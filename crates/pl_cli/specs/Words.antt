@@ -16,13 +16,13 @@ mode_of word = if bytes_eq word (codes "--load") then Some Load else if bytes_eq
 abbrev pub begins_with_dash : List ℕ → Bool
 begins_with_dash name = starts_with nat_eq name (codes "-")
 
-abbrev pub named : List ℕ → Option Mode → Option Command
-named name (Some mode) = Some (mode, name)
-named name None = None
+abbrev pub with_name : List ℕ → Option Mode → Option Command
+with_name name (Some mode) = Some (mode, name)
+with_name name None = None
 
 -- exactly two words, a mode and a name; a name does not begin with `-`
 unfoldable pub command : List (List ℕ) → Option Command
-command (word ∷ name ∷ []) = if not (begins_with_dash name) then named name (mode_of word) else None
+command (word ∷ name ∷ []) = if not (begins_with_dash name) then with_name name (mode_of word) else None
 command words = None
 
 -- whether it is `--make`: the one command that reads the input and writes to the folder

@@ -208,7 +208,7 @@ fn run_words<D: Folder, S: Source, K: Sink>(
     ensures input_counts { S.faults input.old ≤ S.faults input.new }
     ensures output_counts { K.faults output.old ≤ K.faults output.new }
     ensures unasked { spec.has_bad_name (spec.command (map string_bytes words.now)) ≡ true → (folder.new ≡ folder.old) × (input.new ≡ input.old) }
-    ensures usage { IsUsage (spec.command (map string_bytes words.now)) ((folder.new ≡ folder.old) × (input.new ≡ input.old)) (K.written output.old) (K.written output.new) result }
+    ensures usage { IsUsage (spec.command (map string_bytes words.now)) ((folder.new ≡ folder.old) × (input.new ≡ input.old)) (Rose (K.faults output.old) (K.faults output.new)) (K.written output.old) (K.written output.new) result }
 {
     match command(words) {
         Some((mode, name)) => run_command(alloc, mode, name, folder, input, output),
@@ -254,7 +254,7 @@ pub fn run<D: Folder, S: Source, K: Sink>(
     ensures make_never_memory { (files : Files) (name input : List ℕ) → Tells is_memory (made files name input) }
 
     // Words that are no command are answered by the usage line, over every folder and input, and no call of either is made.
-    ensures usage { IsUsage (spec.command (map string_bytes words.now)) ((folder.new ≡ folder.old) × (input.new ≡ input.old)) (K.written output.old) (K.written output.new) result }
+    ensures usage { IsUsage (spec.command (map string_bytes words.now)) ((folder.new ≡ folder.old) × (input.new ≡ input.old)) (Rose (K.faults output.old) (K.faults output.new)) (K.written output.old) (K.written output.new) result }
 
     // Neither is one made for a name that is not valid.
     ensures unasked { spec.has_bad_name (spec.command (map string_bytes words.now)) ≡ true → (folder.new ≡ folder.old) × (input.new ≡ input.old) }

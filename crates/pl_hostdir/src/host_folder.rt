@@ -1,9 +1,13 @@
-ghost use Rattle.std.specs.Prelude.{◌≡◌, ◌≤◌, [], false};
+ghost use Rattle.std.specs.Prelude.{◌≡◌, ◌≤◌, [], false, true, map, string_bytes, All, IfOk, IfErr, OnOk, IsSorted};
+ghost use Rattle.std.specs.FinMap.{keys};
 ghost use Rattle.std.specs.IoError.{error_kind};
+ghost use Rattle.std.specs.String.{string_cmp};
 ghost use Rattle.pl_base.specs.Counts.{Rose};
 ghost use Rattle.pl_base.specs.Files.{files_of};
-ghost use Rattle.pl_folder.specs.Calls.{UnlessFailed, Stops};
+ghost use Rattle.pl_base.specs.Names.{IsNameLength};
+ghost use Rattle.pl_folder.specs.Calls.{Stops, UnlessFailed};
 ghost use Rattle.pl_hostdir.specs.Errors.{calling_fault};
+ghost use Rattle.pl_hostdir.specs.Listing.{is_listed};
 
 use crate::files::{
     create_file, open_to_append, remove_file, rename_file, sync, sync_file, take_file,
@@ -62,7 +66,17 @@ impl<R: Files + AllocGlobal + Clone + Drop> Folder for HostFolder<'_, R> {
 
     ghost faults = { λ folder. folder.faults };
 
-    fn names(&mut self, _alloc: Global) -> Result<Vec<String>, FolderFault> {
+    fn names(&mut self, _alloc: Global) -> Result<Vec<String>, FolderFault>
+        ensures names { IfOk result (λ names. false ≡ true → map string_bytes names.items ≡ keys (files_of [])) }
+        ensures lengths { IfOk result (λ names. All (λ name. IsNameLength (string_bytes name)) names.items) }
+        ensures fault { IfErr result (Stops (Rose self.old.faults self.new.faults)) }
+        ensures quiet { OnOk result (self.new.faults ≡ self.old.faults) }
+        ensures quiet_fault { IfErr result (UnlessFailed (self.new.faults ≡ self.old.faults)) }
+        ensures counts { self.old.faults ≤ self.new.faults }
+        // It lists no other names, ascending.
+        ensures listed { IfOk result (λ names. All (λ name. is_listed (string_bytes name) ≡ true) names.items) }
+        ensures ascend { IfOk result (λ names. IsSorted string_cmp names.items) }
+    {
         match list_names(self.rt) {
             Ok(names) => Ok(names),
             Err(error) => Err(self.stop(error)),

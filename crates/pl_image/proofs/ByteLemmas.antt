@@ -1,10 +1,11 @@
 -- Bytes of an image.
-use Rattle.std.proofs.Common.{◌≡◌, ℕ, zero, suc, ◌+◌, ◌*◌, ◌/◌, ◌<◌, ◌≤◌, Bool, true, false, cond, List, [], ◌∷◌, ◌++◌, length, get_or, drop, Option, Some, None, refl, sym, ap, subst, ◌∙◌, arith, inl, inr}
-use Rattle.std.specs.Prelude.{◌||◌, ◌==◌, fold, find, map}
+use Rattle.std.proofs.Common.{◌≡◌, ℕ, zero, suc, ◌+◌, ◌*◌, ◌/◌, ◌<◌, ◌≤◌, true, false, cond, List, [], ◌∷◌, ◌++◌, length, get_or, drop, Option, Some, None, refl, sym, ap, subst, ◌∙◌, arith, inl, inr}
+use Rattle.std.specs.Prelude.{◌==◌, fold, find, map}
 use Rattle.std.specs.List.{list_any}
 use Rattle.std.proofs.lemmas.Bool.{cases_Bool, false≢true}
 use Rattle.std.proofs.lemmas.List.{get_or_append_left, get_or-append-add, length-append, get_or_default, drop_more, drop_all}
 use Rattle.std.proofs.lemmas.List.Folds.{Any-from_list_any, list_any_none}
+use Rattle.pl_base.proofs.FindLaws.{any_found, any_missed, any_map}
 use Rattle.pl_base.specs.Memory.{Memory, Piece, Fill, AtMostOne, lies, byte_at, covers, over, layered, filled}
 use Rattle.pl_image.specs.declared.loaded.Loaded.{Loaded}
 use Rattle.pl_image.specs.declared.touched.Touch.{Touch}
@@ -39,20 +40,6 @@ layered_append (p ∷ ps) qs a = elim (cases_Bool (lies a p)) [
   | inr miss ↦ rw miss (layered_append ps qs a)
 ]
 
-any_found : (ps : List Piece) (a : ℕ) (p : Piece) → find (lies a) ps ≡ Some p → list_any (lies a) ps ≡ true
-any_found [] a p found = absurd cc
-any_found (x ∷ xs) a p found = elim (cases_Bool (lies a x)) [
-  | inl hit ↦ rw hit refl
-  | inr miss ↦ rw miss (any_found xs a p (rw miss at found))
-]
-
-any_missed : (ps : List Piece) (a : ℕ) → find (lies a) ps ≡ None → list_any (lies a) ps ≡ false
-any_missed [] a missed = refl
-any_missed (x ∷ xs) a missed = elim (cases_Bool (lies a x)) [
-  | inl hit ↦ absurd (let none : Some x ≡ None = rw hit at missed in cc)
-  | inr miss ↦ rw miss (any_missed xs a (rw miss at missed))
-]
-
 -- ---- objects one after the other
 
 module _ (objects : List Loaded) (k : ℕ) (item : Loaded) (ps : List Piece) (a : ℕ) (lt : k < length objects) (is : item ≡ get_or objects k item) (pieces : ps ≡ item.pieces) where
@@ -64,10 +51,10 @@ module _ (objects : List Loaded) (k : ℕ) (item : Loaded) (ps : List Piece) (a 
       ∙ layered_append ps (all_pieces (drop (k + 1) objects)) a
 
   pub object_hit : (p : Piece) → find (lies a) ps ≡ Some p → layered (all_pieces (drop k objects)) a ≡ Some (byte_at a p)
-  object_hit p found = object_step ∙ rw (any_found ps a p found) (layered_found ps a ∙ ap (found_byte a) found)
+  object_hit p found = object_step ∙ rw (any_found (lies a) ps p found) (layered_found ps a ∙ ap (found_byte a) found)
 
   pub object_miss : find (lies a) ps ≡ None → layered (all_pieces (drop k objects)) a ≡ layered (all_pieces (drop (k + 1) objects)) a
-  object_miss missed = object_step ∙ rw (any_missed ps a missed) refl
+  object_miss missed = object_step ∙ rw (any_missed (lies a) ps missed) refl
 
 pub objects_past : (objects : List Loaded) (k a : ℕ) → length objects ≤ k → layered (all_pieces (drop k objects)) a ≡ None
 unfolding layered
@@ -141,8 +128,7 @@ item_own i objects k item ps are lt same is pieces =
     subst (AreOwn i) (sym (item_pieces i objects k item ps same is pieces)) (own_pieces i k item are within)
 
 extents_have : (ps : List Piece) (a : ℕ) → list_any (has a) (map extent_of ps) ≡ list_any (lies a) ps
-extents_have [] a = refl
-extents_have (p ∷ ps) a = ap (λ (b : Bool). lies a p || b) (extents_have ps a)
+extents_have ps a = any_map (has a) extent_of ps
 
 module _ (i : Image) (ps : List Piece) (own : AreOwn i ps) (a : ℕ) where
   pub own_none : list_any (lies a) ps ≡ false → byte_in (own_memory i ps) a ≡ 0
@@ -150,12 +136,12 @@ module _ (i : Image) (ps : List Piece) (own : AreOwn i ps) (a : ℕ) where
   own_none missed = rw (extents_have ps a, missed) refl
 
   pub own_missed : find (lies a) ps ≡ None → byte_in (own_memory i ps) a ≡ 0
-  own_missed missed = own_none (any_missed ps a missed)
+  own_missed missed = own_none (any_missed (lies a) ps missed)
 
   pub own_found : (p : Piece) → find (lies a) ps ≡ Some p → byte_in (own_memory i ps) a ≡ cond (any_masked i.objects a) 0 (fold (laid a) (byte_at a p) i.patches)
   unfolding only
   own_found p found =
-      let some = any_found ps a p found in
+      let some = any_found (lies a) ps p found in
       let is : layered (all_pieces i.objects) a ≡ Some (byte_at a p) = own.same a some ∙ layered_found ps a ∙ ap (found_byte a) found in
       rw (extents_have ps a, some, image_byte i a (byte_at a p) is) refl
 

@@ -5,7 +5,7 @@ use Rattle.std.proofs.lemmas.List.{map_push}
 use Rattle.std.proofs.lemmas.Option.{slice_get_within}
 use Rattle.pl_base.specs.Answers.{◌>>=◌, because}
 use Rattle.pl_base.specs.Each.{each}
-use Rattle.pl_base.proofs.AnswerLaws.{because_ok, bind_ok, ok_same}
+use Rattle.pl_base.proofs.AnswerLaws.{because_err, because_ok, bind_err, bind_ok, ok_same}
 use Rattle.pl_object.specs.declared.object.Object.{Object}
 use Rattle.pl_scope.specs.Walking.{Walking, IsWalking, wants}
 use Rattle.pl_scope.specs.Walk.{Walked}
@@ -19,7 +19,7 @@ use Rattle.pl_loader.specs.Walk.{object_in, entered, taken, of_wanted, give, wit
 use Rattle.pl_loader.specs.declared.object_file.ObjectFile.{ObjectFile}
 use Rattle.pl_loader.specs.declared.fault.LoadFault.{LoadFault}
 use Rattle.pl_loader.specs.declared.fault.LoadFault.TheVariants.{NotThere}
-use Rattle.pl_loader.proofs.StepLaws.{bind_err, because_err, give_walking}
+use Rattle.pl_loader.proofs.StepLaws.{give_walking}
 
 -- ---- one more result
 

@@ -1,13 +1,13 @@
 -- One object more of a walk, and one file more of a load.
-use Rattle.std.proofs.Common.{◌≡◌, ℕ, ◌+◌, ◌<◌, ◌≤◌, true, not, ◌&&◌, List, [], ◌∷◌, ◌++◌, Some, Result, Ok, Err, refl, sym, ap, ◌∙◌, arith, length, drop, inl, inr}
-use Rattle.std.specs.Prelude.{nat_lt, nat_le, ◌⊎◌}
+use Rattle.std.proofs.Common.{◌≡◌, ℕ, ◌+◌, ◌<◌, ◌≤◌, true, not, ◌&&◌, List, [], ◌∷◌, ◌++◌, Some, Ok, sym, ap, ◌∙◌, arith, length, drop, inl, inr}
+use Rattle.std.specs.Prelude.{nat_lt, nat_le}
 use Rattle.std.specs.List.{All, list_any}
 use Rattle.std.specs.Str.{bytes_eq}
 use Rattle.std.proofs.lemmas.Bool.{cases_Bool, leb-false, lt-ltb, and_from, false≢true}
 use Rattle.std.proofs.lemmas.List.{length_push}
 use Rattle.std.proofs.lemmas.List.Elements.{All-nil, All-push}
 use Rattle.std.proofs.lemmas.Option.{slice_get_within}
-use Rattle.pl_base.specs.Answers.{◌>>=◌, because, unless_found}
+use Rattle.pl_base.specs.Answers.{◌>>=◌, unless_found}
 use Rattle.pl_base.specs.Each.{run}
 use Rattle.pl_base.proofs.AnswerLaws.{bind_ok, ok_same, unless_ok}
 use Rattle.pl_object.specs.declared.object.Object.{Object}
@@ -20,17 +20,6 @@ use Rattle.pl_scope.specs.declared.fault.WalkFault.TheVariants.{TooMany, NeededI
 use Rattle.pl_loader.specs.Loading.{Loading, IsRead, IsLibrary, AreFiles, IsLoading}
 use Rattle.pl_loader.specs.Walk.{with_file}
 use Rattle.pl_loader.specs.declared.object_file.ObjectFile.{ObjectFile}
-
--- ---- results
-
--- a step whose end is a refusal: its own, or that of what goes on with its value
-pub bind_err : {A B E : Type 0} (r : Result A E) (f : A → Result B E) (e : E) → (r >>= f) ≡ Err e → (r ≡ Err e) ⊎ ((x : A) × (r ≡ Ok x) × (f x ≡ Err e))
-bind_err (Ok x) f e h = inr (x, refl, h)
-bind_err (Err d) f e h = inl (let same : d ≡ e = cc in rw same refl)
-
-pub because_err : {X E F : Type 0} (fault : E → F) (r : Result X E) (f : F) → because fault r ≡ Err f → (e : E) × (r ≡ Err e) × (fault e ≡ f)
-because_err fault (Ok x) f h = absurd cc
-because_err fault (Err e) f h = (e, refl, cc)
 
 -- ---- names of the walk
 

@@ -78,11 +78,7 @@ fn symbol_name(
 }
 
 /// A link refusal with names in place of indexes.
-fn of_link(
-    alloc: Global,
-    files: &[ObjectFile],
-    fault: LinkFault,
-) -> Result<LoadFault, AllocError>
+fn of_link(alloc: Global, files: &[ObjectFile], fault: LinkFault) -> Result<LoadFault, AllocError>
     ensures { IfOk result (λ load. load ≡ spec.of_link files.now fault) }
 {
     Ok(match fault {

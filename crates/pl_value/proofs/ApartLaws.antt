@@ -6,6 +6,7 @@ use Rattle.std.proofs.lemmas.Bool.{cases_Bool, false≢true, or_parts}
 use Rattle.std.proofs.lemmas.Bool.Decides.{nat_tests}
 use Rattle.std.proofs.lemmas.List.Folds.{list_any-append}
 use Rattle.std.proofs.lemmas.List.Elements.{All-head, All-tail}
+use Rattle.pl_base.proofs.FindLaws.{any_map}
 use Rattle.pl_base.specs.Memory.{Piece, lies}
 use Rattle.pl_base.specs.Sums.{plus}
 use Rattle.pl_base.specs.Windows.{share, any_share}
@@ -75,13 +76,9 @@ any_gives {X = X} p (x ∷ xs) c each some =
 abbrev row_over : List ℕ → ℕ → Row → Bool
 row_over places a x = reloc_over (base_of places x.member) a x.reloc
 
-any_row : (places : List ℕ) (member a : ℕ) (rs : List Reloc) → list_any (row_over places a) (map (row member) rs) ≡ list_any (reloc_over (base_of places member) a) rs
-any_row places member a [] = refl
-any_row places member a (r ∷ rs) = ap (λ (b : Bool). reloc_over (base_of places member) a r || b) (any_row places member a rs)
-
 rows_lone : (places : List ℕ) (member : ℕ) (rs : List Reloc) → Lone (reloc_over (base_of places member)) rs → Lone (row_over places) (map (row member) rs)
 rows_lone places member [] lone = tt
-rows_lone places member (r ∷ rs) lone = (λ a over. any_row places member a rs ∙ lone.0 a over, rows_lone places member rs lone.1)
+rows_lone places member (r ∷ rs) lone = (λ a over. any_map (row_over places a) (row member) rs ∙ lone.0 a over, rows_lone places member rs lone.1)
 
 -- ---- the rows of a scope
 
@@ -118,7 +115,7 @@ object_apart places member bytes file o placed read =
     let held : All (IsHeld base pieces) o.relocations = relocs_held base bytes file o placed read in
     record {
       lone = rows_lone places member o.relocations (relocs_lone base pieces o.relocations held (relocs_apart file o read));
-      held = λ a some. any_gives (reloc_over base a) o.relocations (list_any (lies a) pieces) (λ k d lt over. (held k d lt).piece a over) (sym (any_row places member a o.relocations) ∙ some);
+      held = λ a some. any_gives (reloc_over base a) o.relocations (list_any (lies a) pieces) (λ k d lt over. (held k d lt).piece a over) (sym (any_map (row_over places a) (row member) o.relocations) ∙ some);
     }
 
 -- objects at places
