@@ -1,5 +1,5 @@
 -- How many segments there are at most.
-use Rattle.std.proofs.Common.{ℕ, ◌≤◌, ◌∙◌, Bool, List, length, arith}
+use Rattle.std.proofs.Common.{ℕ, ◌≤◌, Bool, List, length, arith}
 use Rattle.std.specs.Prelude.{filter}
 use Rattle.std.proofs.lemmas.List.{length-map}
 use Rattle.std.proofs.lemmas.List.Sums.{length-filter, count_by-le-length}

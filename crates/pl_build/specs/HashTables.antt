@@ -1,5 +1,5 @@
 -- The hash tables of symbols: System V (gABI chapter 5, "Hash Table") and GNU.
-use Rattle.std.specs.Prelude.{ℕ, ◌+◌, ◌*◌, ◌/◌, ◌%◌, ◌^◌, Bool, ◌==◌, List, [], ◌∷◌, ◌++◌, length, map, filter, drop, fold, count_by, position, Option, Some, None, bit_or, slice_index, if◌then◌else◌}
+use Rattle.std.specs.Prelude.{ℕ, ◌+◌, ◌*◌, ◌/◌, ◌^◌, Bool, ◌==◌, List, [], ◌∷◌, ◌++◌, length, map, filter, drop, fold, count_by, position, Option, Some, None, bit_or, slice_index, if◌then◌else◌}
 use Rattle.std.specs.List.{list_any, range_with_len}
 use Rattle.pl_base.specs.Sums.{plus}
 use Rattle.pl_hash.specs.Hash.{sysv, gnu}

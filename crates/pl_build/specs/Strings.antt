@@ -47,19 +47,19 @@ symbols_added s symbols = fold symbol_added s symbols
 unfoldable pub versions_added : Strings → List (List ℕ) → Strings
 versions_added s versions = if length versions == 0 then s else texts_added (text_added s (codes "base")) versions
 
-abbrev pub need_added : List ℕ → Strings → Need → Strings
-need_added file s need = if is_of file need then text_added s need.version else s
+abbrev pub need_text_added : List ℕ → Strings → Need → Strings
+need_text_added file s need = if is_of file need then text_added s need.version else s
 
 -- a file's name and the versions that are needed of it
-unfoldable pub file_added : List Need → Strings → List ℕ → Strings
-file_added needs s file = fold (need_added file) (text_added s file) needs
+unfoldable pub file_texts_added : List Need → Strings → List ℕ → Strings
+file_texts_added needs s file = fold (need_text_added file) (text_added s file) needs
 
 unfoldable pub files_added : List Need → Strings → List (List ℕ) → Strings
-files_added needs s files = fold (file_added needs) s files
+files_added needs s files = fold (file_texts_added needs) s files
 
 -- the names of sections
-abbrev pub role_added : Strings → Role → Strings
-role_added s role = text_added s (section_name role)
+abbrev pub role_text_added : Strings → Role → Strings
+role_text_added s role = text_added s (section_name role)
 
 unfoldable pub section_names : List Role → Strings
-section_names roles = fold role_added start roles
+section_names roles = fold role_text_added start roles

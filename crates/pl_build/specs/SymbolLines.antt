@@ -11,8 +11,8 @@ use Rattle.pl_build.specs.Options.{or_wrong, look_up}
 unfoldable pub bind_of : List ℕ → Option ℕ
 bind_of text = look_up text ((codes "global", STB_GLOBAL) ∷ (codes "weak", STB_WEAK) ∷ (codes "unique", STB_GNU_UNIQUE) ∷ [])
 
-unfoldable pub type_of : List ℕ → Option ℕ
-type_of text = look_up text (
+unfoldable pub symbol_type : List ℕ → Option ℕ
+symbol_type text = look_up text (
     (codes "object", STT_OBJECT) ∷ (codes "func", STT_FUNC) ∷ (codes "tls", STT_TLS) ∷ (codes "abs", STT_NOTYPE) ∷ (codes "ifunc", STT_GNU_IFUNC) ∷ [])
 
 -- ---- what may stand at the end: of a `def` a visibility, then `from LIB`; of a `ref` `from LIB`, then `at OFF`
@@ -29,8 +29,8 @@ after_visibility rest = if visibility_of rest == STV_DEFAULT then rest else drop
 unfoldable pub has_file : List (List ℕ) → Bool
 has_file rest = bytes_eq (word 0 rest) (codes "from")
 
-unfoldable pub file_of : List (List ℕ) → List ℕ
-file_of rest = if has_file rest then word 1 rest else []
+unfoldable pub named_file : List (List ℕ) → List ℕ
+named_file rest = if has_file rest then word 1 rest else []
 
 unfoldable pub after_file : List (List ℕ) → List (List ℕ)
 after_file rest = if has_file rest then drop 2 rest else rest
@@ -50,7 +50,7 @@ after_place rest = if has_place rest then drop 2 rest else rest
 unfoldable pub is_def : List ℕ → List (List ℕ) → Bool
 is_def text rest =
     is_written text
-    && (not (has_file rest) || has_version text && is_valid_name (file_of rest))
+    && (not (has_file rest) || has_version text && is_valid_name (named_file rest))
     && length (after_file rest) == 0
 
 unfoldable pub def_named : List ℕ → ℕ → ℕ → ℕ → ℕ → List (List ℕ) → Line
@@ -61,7 +61,7 @@ def_named text bind kind offset size rest =
       name = name_of text;
       version = version_of text;
       default_version = is_doubled text;
-      file = file_of (after_visibility rest);
+      file = named_file (after_visibility rest);
       bind = bind;
       kind = kind;
       visibility = visibility_of rest;
@@ -73,14 +73,14 @@ def_named text bind kind offset size rest =
 unfoldable pub def_line : List (List ℕ) → Line
 def_line words =
     or_wrong (bind_of (word 2 words)) (λ bind.
-    or_wrong (type_of (word 3 words)) (λ kind.
+    or_wrong (symbol_type (word 3 words)) (λ kind.
     or_wrong (number (word 4 words)) (λ offset.
     or_wrong (number (word 5 words)) (λ size.
     def_named (word 1 words) bind kind offset size (drop 6 words)))))
 
 -- a file stands exactly with a version
 unfoldable pub has_fitting_version : List ℕ → List (List ℕ) → Bool
-has_fitting_version text rest = if has_file rest then has_version text && is_valid_name (file_of rest) else not (has_version text)
+has_fitting_version text rest = if has_file rest then has_version text && is_valid_name (named_file rest) else not (has_version text)
 
 -- `ref NAME BIND TYPE`, with one sign `@` at most
 unfoldable pub is_ref : List ℕ → List (List ℕ) → Bool
@@ -98,7 +98,7 @@ ref_named text bind kind offset rest =
       name = name_of text;
       version = version_of text;
       default_version = false;
-      file = file_of rest;
+      file = named_file rest;
       bind = bind;
       kind = kind;
       visibility = STV_DEFAULT;
@@ -110,6 +110,6 @@ ref_named text bind kind offset rest =
 unfoldable pub ref_line : List (List ℕ) → Line
 ref_line words =
     or_wrong (bind_of (word 2 words)) (λ bind.
-    or_wrong (type_of (word 3 words)) (λ kind.
+    or_wrong (symbol_type (word 3 words)) (λ kind.
     or_wrong (place_offset (after_file (drop 4 words))) (λ offset.
     ref_named (word 1 words) bind kind offset (drop 4 words))))

@@ -17,8 +17,8 @@ unfoldable pub entry_bytes : SymbolEntry → List ℕ
 entry_bytes e = fields (Word e.name ∷ Byte (e.bind * 16 + e.kind) ∷ Byte e.visibility ∷ Half e.section ∷ Xword e.value ∷ Xword e.size ∷ [])
 
 -- a value that is no address
-abbrev pub is_number : Symbol → Bool
-is_number s = s.defined && (s.kind == STT_NOTYPE || s.kind == STT_TLS)
+abbrev pub has_no_address : Symbol → Bool
+has_no_address s = s.defined && (s.kind == STT_NOTYPE || s.kind == STT_TLS)
 
 unfoldable pub section_of : Plan → Symbol → ℕ
 section_of p s =
@@ -30,7 +30,7 @@ section_of p s =
 unfoldable pub value_of : Plan → Symbol → ℕ
 value_of p s =
     if not s.placed then 0
-    else if is_number s then s.offset
+    else if has_no_address s then s.offset
     else plus (data_address p.settings) s.offset
 
 unfoldable pub entry_of : Plan → Symbol → SymbolEntry

@@ -1,6 +1,6 @@
 // The hash tables of symbols.
-ghost use Rattle.std.specs.Prelude.{◌≡◌, ◌==◌, ◌+◌, ◌<◌, ◌≤◌, IfOk, map, filter, count_by, length};
-ghost use Rattle.std.specs.List.{list_any, range_with_len};
+ghost use Rattle.std.specs.Prelude.{◌≡◌, ◌+◌, ◌<◌, ◌≤◌, IfOk, map, filter, count_by, length};
+ghost use Rattle.std.specs.List.{range_with_len};
 ghost use Rattle.pl_build.specs.Symbols.{is_undefined};
 ghost use Rattle.pl_build.specs.HashTables as spec;
 

@@ -144,7 +144,7 @@ fn add_need(
     file: &[u8],
     need: &Need,
 ) -> Result<Strings, AllocError>
-    ensures { IfOk result (λ s. s ≡ spec.need_added file.now strings need.now) }
+    ensures { IfOk result (λ s. s ≡ spec.need_text_added file.now strings need.now) }
 {
     if is_of(file, need) {
         add_text(alloc, strings, need.version.as_slice())
@@ -153,14 +153,14 @@ fn add_need(
     }
 }
 
-#[tactic(auto, unfolding(crate::specs::Strings::file_added))]
+#[tactic(auto, unfolding(crate::specs::Strings::file_texts_added))]
 fn add_file(
     alloc: Global,
     strings: Strings,
     needs: &[Need],
     file: &[u8],
 ) -> Result<Strings, AllocError>
-    ensures { IfOk result (λ s. s ≡ spec.file_added needs.now strings file.now) }
+    ensures { IfOk result (λ s. s ≡ spec.file_texts_added needs.now strings file.now) }
 {
     let mut strings = add_text(alloc, strings, file)?;
     for need in needs {

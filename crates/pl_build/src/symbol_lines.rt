@@ -29,9 +29,9 @@ fn bind_of(text: &[u8]) -> Option<u8>
     }
 }
 
-#[tactic(auto, unfolding(crate::specs::SymbolLines::type_of))]
-fn type_of(text: &[u8]) -> Option<u8>
-    ensures { result ≡ spec.type_of text.now }
+#[tactic(auto, unfolding(crate::specs::SymbolLines::symbol_type))]
+fn symbol_type(text: &[u8]) -> Option<u8>
+    ensures { result ≡ spec.symbol_type text.now }
 {
     if is(text, b"object") {
         Some(STT_OBJECT)
@@ -79,9 +79,9 @@ fn has_file(words: &[Rows<u8>]) -> bool
     is(word(words, 0), b"from")
 }
 
-#[tactic(auto, unfolding(crate::specs::SymbolLines::file_of))]
-fn file_of(words: &[Rows<u8>]) -> &[u8]
-    ensures { result.now ≡ spec.file_of words.now }
+#[tactic(auto, unfolding(crate::specs::SymbolLines::named_file))]
+fn named_file(words: &[Rows<u8>]) -> &[u8]
+    ensures { result.now ≡ spec.named_file words.now }
 {
     if has_file(words) { word(words, 1) } else { &[] }
 }
@@ -131,7 +131,7 @@ fn is_def(text: &[u8], words: &[Rows<u8>]) -> bool
     ensures { result ≡ spec.is_def text.now words.now }
 {
     is_written(text)
-        && (!has_file(words) || has_version(text) && is_valid_name(file_of(words)))
+        && (!has_file(words) || has_version(text) && is_valid_name(named_file(words)))
         && after_file(words).is_empty()
 }
 
@@ -156,7 +156,7 @@ fn def_named(
         name: copy_of(alloc, name_of(text))?,
         version: copy_of(alloc, version_of(text))?,
         default_version: is_doubled(text),
-        file: copy_of(alloc, file_of(after_visibility(words)))?,
+        file: copy_of(alloc, named_file(after_visibility(words)))?,
         bind,
         kind,
         visibility: visibility_of(words),
@@ -174,7 +174,7 @@ pub fn def_line(alloc: Global, words: &[Rows<u8>]) -> Result<Line, AllocError>
     let Some(bind) = bind_of(word(words, 2)) else {
         return Ok(Line::Wrong);
     };
-    let Some(kind) = type_of(word(words, 3)) else {
+    let Some(kind) = symbol_type(word(words, 3)) else {
         return Ok(Line::Wrong);
     };
     let Some(offset) = number(word(words, 4)) else {
@@ -199,7 +199,7 @@ fn has_fitting_version(text: &[u8], words: &[Rows<u8>]) -> bool
     ensures { result ≡ spec.has_fitting_version text.now words.now }
 {
     if has_file(words) {
-        has_version(text) && is_valid_name(file_of(words))
+        has_version(text) && is_valid_name(named_file(words))
     } else {
         !has_version(text)
     }
@@ -235,7 +235,7 @@ fn ref_named(
         name: copy_of(alloc, name_of(text))?,
         version: copy_of(alloc, version_of(text))?,
         default_version: false,
-        file: copy_of(alloc, file_of(words))?,
+        file: copy_of(alloc, named_file(words))?,
         bind,
         kind,
         visibility: STV_DEFAULT,
@@ -253,7 +253,7 @@ pub fn ref_line(alloc: Global, words: &[Rows<u8>]) -> Result<Line, AllocError>
     let Some(bind) = bind_of(word(words, 2)) else {
         return Ok(Line::Wrong);
     };
-    let Some(kind) = type_of(word(words, 3)) else {
+    let Some(kind) = symbol_type(word(words, 3)) else {
         return Ok(Line::Wrong);
     };
     let Some(offset) = place_offset(after_file(rest(words, 4))) else {

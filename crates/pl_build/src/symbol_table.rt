@@ -52,8 +52,8 @@ const NULL_ENTRY: SymbolEntry = SymbolEntry {
     size: 0,
 };
 
-fn is_number(symbol: &Symbol) -> bool
-    ensures { result ≡ spec.is_number symbol.now }
+fn has_no_address(symbol: &Symbol) -> bool
+    ensures { result ≡ spec.has_no_address symbol.now }
 {
     symbol.defined && (symbol.kind == STT_NOTYPE || symbol.kind == STT_TLS)
 }
@@ -79,7 +79,7 @@ fn value_of(plan: &Plan, symbol: &Symbol) -> u64
 {
     if !symbol.placed {
         0
-    } else if is_number(symbol) {
+    } else if has_no_address(symbol) {
         symbol.offset
     } else {
         data_address(&plan.settings).wrapping_add(symbol.offset)
