@@ -1,5 +1,5 @@
 -- All names but that of a new file have the same files where only that one differs.
-use Rattle.std.proofs.Common.{◌≡◌, ℕ, List, cond, Bool, true, false, Option, Some, None, refl, sym, ap, ◌∙◌, inl, inr}
+use Rattle.std.proofs.Common.{◌≡◌, ℕ, List, bytes_eq, cond, Bool, true, false, Option, Some, None, refl, sym, ap, ◌∙◌, inl, inr}
 use Rattle.std.specs.Prelude.{◌&&◌, not}
 use Rattle.std.specs.List.{list_all}
 use Rattle.std.specs.Ordering.{nat_cmp, eq_by_cmp}
@@ -31,3 +31,38 @@ same_replaced old name bytes other not_new =
     get-insert nat_list_cmp_total old name bytes other
     ∙ ap (λ (o : Option (List ℕ)). cond (eq_by_cmp (slice_cmp nat_cmp) other name) (Some bytes) o) (sym (kept old other not_new))
     ∙ sym (get-insert nat_list_cmp_total (remove old NEW_FILE.now) name bytes other)
+
+-- ---- after a file is stored
+
+-- a valid name is none of the program's own
+not_own : (name : List ℕ) → is_valid_name name ≡ true → not (is_own_name name) ≡ true
+unfolding is_valid_name
+not_own name valid =
+    let p1 = and_parts (has_name_length name && list_all is_name_byte name && not (is_own_name name)) (not (is_dots name)) valid in
+    (and_parts (has_name_length name && list_all is_name_byte name) (not (is_own_name name)) p1.0).1
+
+new_is_own : is_own_name NEW_FILE.now ≡ true
+unfolding is_own_name
+new_is_own = refl
+
+-- so it is not that of a new file
+new_is_other : (name : List ℕ) → is_valid_name name ≡ true → eq_by_cmp (slice_cmp nat_cmp) NEW_FILE.now name ≡ false
+new_is_other name valid = elim (cases_Bool (eq_by_cmp (slice_cmp nat_cmp) NEW_FILE.now name)) [
+  | inl hit ↦
+      let same : NEW_FILE.now ≡ name = (bytes_decides NEW_FILE.now name).0 (texts_ties NEW_FILE.now name ∙ hit) in
+      let own : is_own_name name ≡ true = ap is_own_name (sym same) ∙ new_is_own in
+      absurd (false≢true (ap not (sym own) ∙ not_own name valid))
+  | inr miss ↦ miss
+]
+
+new_is_new : eq_by_cmp (slice_cmp nat_cmp) NEW_FILE.now NEW_FILE.now ≡ true
+new_is_new = sym (texts_ties NEW_FILE.now NEW_FILE.now) ∙ (bytes_decides NEW_FILE.now NEW_FILE.now).1 refl
+
+-- no new file is left
+pub no_new_file : (mid after : Files) (name bytes : List ℕ) → is_valid_name name ≡ true → after ≡ replaced mid name bytes → get after NEW_FILE.now ≡ None
+no_new_file mid after name bytes valid is =
+    ap (λ (files : Files). get files NEW_FILE.now) is
+    ∙ get-insert nat_list_cmp_total (remove mid NEW_FILE.now) name bytes NEW_FILE.now
+    ∙ ap (λ (b : Bool). cond b (Some bytes) (get (remove mid NEW_FILE.now) NEW_FILE.now)) (new_is_other name valid)
+    ∙ get-remove nat_list_cmp_total mid NEW_FILE.now NEW_FILE.now
+    ∙ ap (λ (b : Bool). cond b None (get mid NEW_FILE.now)) new_is_new

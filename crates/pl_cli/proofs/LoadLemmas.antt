@@ -1,5 +1,5 @@
 -- What `--load` finds, file by file.
-use Rattle.std.proofs.Common.{◌≡◌, ◌≤◌, ℕ, List, length, Bool, true, false, Option, Some, None, refl, sym, ap, subst, ◌∙◌, inl, inr, arith}
+use Rattle.std.proofs.Common.{◌≡◌, ◌≢◌, ◌≤◌, ℕ, List, length, Bool, true, false, Option, Some, None, refl, sym, ap, subst, ◌∙◌, inl, inr, arith}
 use Rattle.std.specs.Prelude.{Result, Ok, Err, MatchBool, ⊤, not, nat_lt, nat_le, if◌then◌else◌}
 use Rattle.std.specs.FinMap.{get}
 use Rattle.std.proofs.lemmas.Bool.{cases_Bool}
@@ -8,6 +8,7 @@ use Rattle.pl_base.specs.Answers.{unless, because, ◌>>=◌, Answers}
 use Rattle.pl_base.specs.Counts.{Rose}
 use Rattle.pl_base.specs.Files.{Files}
 use Rattle.pl_base.specs.Names.{is_valid_name}
+use Rattle.pl_folder.specs.Calls as calls
 use Rattle.pl_folder.specs.Taken.{taken, stored, Explains}
 use Rattle.pl_folder.specs.declared.TheConstants.{STORED}
 use Rattle.pl_folder.specs.declared.fault.FolderFault.{FolderFault}
@@ -29,6 +30,13 @@ use Rattle.pl_cli.specs.declared.stop.Stop.TheVariants as stops
 use Rattle.pl_cli.specs.Load.{of_file, file_in, loaded}
 use Rattle.pl_cli.specs.Outcome.{Stops, of_take, of_load_fault}
 use Rattle.pl_cli.proofs.MakeLemmas.{since}
+
+-- what holds unless the folder failed, where it did not
+pub unless_failed : (P : Type 0) (fault : FolderFault) → fault ≢ folder_faults.Failed → calls.UnlessFailed P fault → P
+unless_failed P folder_faults.Failed other h = absurd (other refl)
+unless_failed P folder_faults.NotThere other h = h
+unless_failed P folder_faults.TooLarge other h = h
+unless_failed P folder_faults.NoMemory other h = h
 
 -- ---- one file
 

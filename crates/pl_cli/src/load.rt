@@ -1,5 +1,5 @@
 // The load of a folder's program by its name.
-ghost use Rattle.std.specs.Prelude.{◌≡◌, ◌≤◌, ◌<◌, ◌^◌, Ok, None, IfErr, IfOk, OnOk, false, true, vec_len};
+ghost use Rattle.std.specs.Prelude.{◌≡◌, ◌≢◌, ◌≤◌, ◌<◌, ◌^◌, Ok, None, IfErr, IfOk, OnErr, OnOk, false, true, vec_len};
 ghost use Rattle.pl_base.specs.Answers.{because};
 ghost use Rattle.pl_base.specs.Counts.{Rose};
 ghost use Rattle.pl_base.specs.Names.{is_valid_name};
@@ -16,9 +16,10 @@ use pl_folder::{Folder, FolderFault};
 use pl_loader::{LoadFault, Loader, Started};
 use std::alloc::{AllocError, Global};
 
-/// Why the file of a name was not taken.
+/// Why the file of a name was not taken. A fault of the folder takes no memory.
 fn untaken(alloc: Global, name: &str, fault: FolderFault) -> Result<Stop, AllocError>
-    ensures { IfOk result (λ stop. stop ≡ of_take name.now fault) }
+    ensures stop { IfOk result (λ stop. stop ≡ of_take name.now fault) }
+    ensures lacks { OnErr result (fault ≢ FolderFault.Failed) }
 {
     Ok(match fault {
         FolderFault::Failed => Stop::Failed,

@@ -2,7 +2,7 @@
 ghost use Rattle.std.specs.Prelude.{◌≡◌, ◌≤◌, true, IfErr, OnOk};
 ghost use Rattle.pl_base.specs.Counts.{Rose};
 ghost use Rattle.pl_base.specs.Names.{IsNameLength};
-ghost use Rattle.pl_folder.specs.Calls.{UnlessFailed, Stops};
+ghost use Rattle.pl_folder.specs.Calls.{Stops, UnlessFailed};
 ghost use Rattle.pl_folder.specs.Replaced.{LeavesOldOrNew, replaced};
 
 use crate::{Folder, FolderFault};

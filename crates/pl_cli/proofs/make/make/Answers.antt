@@ -10,7 +10,7 @@ use Rattle.pl_cli.specs.Answer.{make_answer}
 use Rattle.pl_cli.specs.Make as spec
 use Rattle.pl_cli.specs.Outcome.{Stops, LeavesAt, of_fault}
 use Rattle.pl_cli.specs.Words.{bytes_of}
-use Rattle.pl_cli.proofs.FilesLemmas.{same_files}
+use Rattle.pl_cli.proofs.FilesLemmas.{no_new_file, same_files}
 use Rattle.pl_cli.proofs.MakeLemmas.{done, done_files, left_before, left_in_store, stopped_later}
 use Rattle.pl_cli.proofs.make.make.Goals as goal
 
@@ -77,3 +77,8 @@ returns-clause-next g c = λ tells told.
     let meant = spec.made (files c.args.folder.now) c.args.name.now (bytes_of left) in
     done_files c.args.name.now (files c.args.folder.now) (files c.made.new.folder) (files c.replace.new.folder) meant c.in_ok-bytes.bytes (c.in_ok-bytes.ensures.ok tells told) (c.in_ok-bytes.ensures.same tells)
     (c.in_ok-replace.ensures.ok (c.in_ok-bytes.ensures.tells ∙ tells) ∙ ap (λ (bs : List ℕ). replaced (files c.made.new.folder) c.args.name.now bs) c.as_slice.ensures)
+
+pub returns-clause-no_leftover : goal.returns-clause-no_leftover
+returns-clause-no_leftover g c = λ tells.
+    let files = g.D.Folder.files in
+    no_new_file (files c.made.new.folder) (files c.replace.new.folder) c.args.name.now c.as_slice.result.now c.in_ok-bytes.ensures.valid (c.in_ok-replace.ensures.ok (c.in_ok-bytes.ensures.tells ∙ tells))
