@@ -1,5 +1,5 @@
 -- The walk means no want of memory where nothing that it is told of objects does.
-use Rattle.std.proofs.Common.{◌≡◌, refl, ℕ, zero, suc, Bool, false, List, Option, Some, None, Result}
+use Rattle.std.proofs.Common.{refl, ℕ, zero, suc, Bool, List, Option, Some, None, Result}
 use Rattle.pl_base.specs.Answers.{Tells}
 use Rattle.pl_base.proofs.TellsLaws.{Keeps, ok_tells, unless_tells, found_tells, either_tells, then_tells, because_tells, run_tells}
 use Rattle.pl_object.specs.declared.object.Object.{Object}

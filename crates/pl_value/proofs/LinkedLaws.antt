@@ -1,5 +1,5 @@
 -- Fills that are made of meanings one after the other, and laid over a memory.
-use Rattle.std.proofs.Common.{◌≡◌, ℕ, ◌+◌, ◌<◌, List, [], ◌∷◌, ◌++◌, length, take, get_or, Option, Some, None, Result, Ok, Err, refl, sym, ap, ◌∙◌}
+use Rattle.std.proofs.Common.{◌≡◌, ℕ, ◌+◌, ◌<◌, List, [], ◌∷◌, ◌++◌, length, take, get_or, Option, Some, None, Ok, Err, refl, sym, ap, ◌∙◌}
 use Rattle.std.specs.Prelude.{MatchBool, ⊤}
 use Rattle.std.specs.List.{filter_map}
 use Rattle.std.specs.Option.{option_to_list}
@@ -16,7 +16,6 @@ use Rattle.pl_tls.specs.declared.module.Module.{Module}
 use Rattle.pl_object.specs.declared.object.Object.{Object}
 use Rattle.pl_value.specs.Meanings.{meanings, is_memory}
 use Rattle.pl_value.specs.Ordinary.{loaded, shown_linked, ordinary, IsOrdinary}
-use Rattle.pl_value.specs.declared.fault.LinkFault.{LinkFault}
 use Rattle.pl_value.specs.declared.fault.OrdinaryFault.{OrdinaryFault}
 use Rattle.pl_value.specs.declared.fault.OrdinaryFault.TheVariants.{Link, NoMemory}
 use Rattle.pl_value.specs.declared.meaning.Meaning.{Meaning}
