@@ -1,5 +1,5 @@
 -- All names but that of a new file have the same files where only that one differs.
-use Rattle.std.proofs.Common.{◌≡◌, ℕ, List, bytes_eq, cond, Bool, true, false, Option, Some, None, refl, sym, ap, ◌∙◌, inl, inr}
+use Rattle.std.proofs.Common.{◌≡◌, ℕ, List, bytes_eq, cond, Bool, true, false, Option, Some, None, refl, sym, ap, subst, ◌∙◌, inl, inr}
 use Rattle.std.specs.Prelude.{◌&&◌, not}
 use Rattle.std.specs.List.{list_all}
 use Rattle.std.specs.Ordering.{nat_cmp, eq_by_cmp}
@@ -9,8 +9,10 @@ use Rattle.std.proofs.lemmas.Bool.{and_parts, cases_Bool, false≢true}
 use Rattle.pl_base.specs.Files.{Files}
 use Rattle.pl_base.specs.Names.{is_valid_name, is_own_name, is_name_byte, is_dots, has_name_length}
 use Rattle.pl_folder.specs.declared.writing.TheConstants.{NEW_FILE}
-use Rattle.pl_folder.specs.Replaced.{replaced, SameElsewhere}
-use Rattle.pl_cli.specs.ValidFiles.{SameFiles}
+use Rattle.pl_folder.specs.declared.fault.FolderFault.{FolderFault}
+use Rattle.pl_folder.specs.declared.fault.FolderFault.TheVariants as folder_faults
+use Rattle.pl_folder.specs.Replaced.{replaced, LeavesOldOrNew, SameElsewhere}
+use Rattle.pl_cli.specs.ValidFiles.{SameBut, SameFiles}
 
 -- what a map by its order and by equal bytes calls another name
 other_than_new : (name : List ℕ) → bytes_eq name NEW_FILE.now ≡ false → eq_by_cmp (slice_cmp nat_cmp) name NEW_FILE.now ≡ false
@@ -31,6 +33,29 @@ same_replaced old name bytes other not_new =
     get-insert nat_list_cmp_total old name bytes other
     ∙ ap (λ (o : Option (List ℕ)). cond (eq_by_cmp (slice_cmp nat_cmp) other name) (Some bytes) o) (sym (kept old other not_new))
     ∙ sym (get-insert nat_list_cmp_total (remove old NEW_FILE.now) name bytes other)
+
+-- ---- all names but one and that of a new file
+
+pub same_but : (name : List ℕ) (old new : Files) → SameFiles old new → SameBut name old new
+same_but name old new same other not_name not_new = same other not_new
+
+pub same_but_replaced : (old mid new : Files) (name bytes : List ℕ) → mid ≡ old → new ≡ replaced mid name bytes → SameBut name old new
+same_but_replaced old mid new name bytes same is other not_name not_new =
+    sym (ap (λ (b : Bool). cond b (Some bytes) (get old other)) (sym (texts_ties other name) ∙ not_name))
+    ∙ sym (get-insert nat_list_cmp_total old name bytes other)
+    ∙ same_replaced old name bytes other not_new
+    ∙ ap (λ (files : Files). get (replaced files name bytes) other) (sym same)
+    ∙ ap (λ (files : Files). get files other) (sym is)
+
+-- whether storing the file was done or stopped at a fault
+pub same_but_left : (old mid new : Files) (name bytes : List ℕ) (fault : FolderFault) → mid ≡ old → LeavesOldOrNew mid name bytes new fault → SameBut name old new
+same_but_left old mid new name bytes folder_faults.Failed same left = elim left [
+  | inl kept ↦ same_but name old new (subst (λ (files : Files). SameFiles files new) same (same_elsewhere mid new kept))
+  | inr done ↦ same_but_replaced old mid new name bytes same done
+]
+same_but_left old mid new name bytes folder_faults.NotThere same left = same_but name old new (subst (λ (files : Files). SameFiles files new) same (same_elsewhere mid new left))
+same_but_left old mid new name bytes folder_faults.TooLarge same left = same_but name old new (subst (λ (files : Files). SameFiles files new) same (same_elsewhere mid new left))
+same_but_left old mid new name bytes folder_faults.NoMemory same left = same_but name old new (subst (λ (files : Files). SameFiles files new) same (same_elsewhere mid new left))
 
 -- ---- after a file is stored
 

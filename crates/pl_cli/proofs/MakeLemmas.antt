@@ -25,7 +25,7 @@ use Rattle.pl_cli.specs.declared.stop.Stop.{Stop}
 use Rattle.pl_cli.specs.declared.stop.Stop.TheVariants as stops
 use Rattle.pl_cli.specs.Answer.{make_answer, made_text}
 use Rattle.pl_cli.specs.Make.{built, made, with_room, recipe_cause}
-use Rattle.pl_cli.specs.Outcome.{Stops, LeavesAt, of_fault, of_read_fault, of_recipe_fault}
+use Rattle.pl_cli.specs.Outcome.{Stops, LeavesAt, WhereFailed, of_fault, of_read_fault, of_recipe_fault}
 use Rattle.pl_cli.specs.ValidFiles.{SameFiles, is_full}
 use Rattle.pl_cli.specs.Words.{bytes_of}
 use Rattle.pl_cli.proofs.FilesLemmas.{same_files, same_elsewhere, same_replaced}
@@ -110,6 +110,19 @@ stopped_in_folder files_told input_told meant disk source folder_faults.Failed h
 stopped_in_folder files_told input_told meant disk source folder_faults.NotThere h = absurd h
 stopped_in_folder files_told input_told meant disk source folder_faults.TooLarge h = absurd h
 stopped_in_folder files_told input_told meant disk source folder_faults.NoMemory h = tt
+
+-- before the folder is asked nothing is its fault
+pub not_failed : {X : Type 0} (input_told : Bool) (meant : Result X Cause) (source P : Type 0) (stop : Stop) → Stops true input_told meant ⊥ source stop → WhereFailed P stop
+not_failed input_told meant source P (stops.Cause cause) h = tt
+not_failed input_told meant source P stops.Failed h = absurd h
+not_failed input_told meant source P stops.InputFailed h = tt
+not_failed input_told meant source P stops.NoMemory h = tt
+
+pub where_failed : (P : Type 0) (stop : Stop) → P → WhereFailed P stop
+where_failed P (stops.Cause cause) h = tt
+where_failed P stops.Failed h = h
+where_failed P stops.InputFailed h = tt
+where_failed P stops.NoMemory h = tt
 
 -- a count that rose after an earlier moment rose since that
 pub since : (first mid last : ℕ) → first ≤ mid → Rose mid last → Rose first last

@@ -17,7 +17,7 @@ use Rattle.pl_cli.specs.declared.cause.Cause.{Cause}
 use Rattle.pl_cli.specs.declared.cause.Cause.TheVariants as causes
 use Rattle.pl_cli.specs.declared.stop.Stop.{Stop}
 use Rattle.pl_cli.specs.declared.stop.Stop.TheVariants as stops
-use Rattle.pl_cli.specs.ValidFiles.{SameFiles}
+use Rattle.pl_cli.specs.ValidFiles.{SameBut, SameFiles}
 use Rattle.pl_cli.specs.Answer.{Answer, usage}
 use Rattle.pl_cli.specs.Refusals.{refusal}
 use Rattle.pl_cli.specs.Words.{Command}
@@ -28,6 +28,13 @@ Stops files input meant disk source (stops.Cause cause) = files ≡ true → inp
 Stops files input meant disk source stops.Failed = disk
 Stops files input meant disk source stops.InputFailed = source
 Stops files input meant disk source stops.NoMemory = ⊤
+
+-- P, where the folder failed
+abbrev pub WhereFailed : Type 0 → Stop → Type 0
+WhereFailed P (stops.Cause cause) = ⊤
+WhereFailed P stops.Failed = P
+WhereFailed P stops.InputFailed = ⊤
+WhereFailed P stops.NoMemory = ⊤
 
 -- P, unless the folder failed
 abbrev pub UnlessFailed : Type 0 → Stop → Type 0
@@ -133,3 +140,8 @@ LeavesAt input before next after stops.Failed = LeavesEither input before next a
 LeavesAt input before next after stops.InputFailed = SameFiles before after
 LeavesAt input before next after stops.NoMemory = SameFiles before after
 LeavesAt input before next after (stops.Cause cause) = SameFiles before after × LeavesNext input next after
+
+-- Whatever came and whatever the input tells: each file stays but that of a new file and, where there is a command, that of its name.
+abbrev pub LeavesOthers : Option Command → Files → Files → Type 0
+LeavesOthers (Some asked) before after = SameBut asked.1 before after
+LeavesOthers None before after = SameFiles before after

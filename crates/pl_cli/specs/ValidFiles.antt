@@ -12,6 +12,10 @@ use Rattle.pl_cli.specs.declared.room.TheConstants.{FILES}
 abbrev pub SameFiles : Files → Files → Type 0
 SameFiles old new = (name : List ℕ) → bytes_eq name NEW_FILE.now ≡ false → get old name ≡ get new name
 
+-- each name but this one and that of a new file has the same file, or none in both
+abbrev pub SameBut : List ℕ → Files → Files → Type 0
+SameBut name old new = (other : List ℕ) → bytes_eq other name ≡ false → bytes_eq other NEW_FILE.now ≡ false → get old other ≡ get new other
+
 abbrev pub has_name : List ℕ → List (List ℕ) → Bool
 has_name name names = list_any (λ other. bytes_eq name other) names
 

@@ -9,8 +9,8 @@ ghost use Rattle.pl_cli.specs.Answer.{make_answer};
 ghost use Rattle.pl_cli.specs.declared.status.Status.TheVariants as statuses;
 ghost use Rattle.pl_cli.specs.Make as spec;
 ghost use Rattle.pl_cli.specs.declared.make.TheConstants.{RECIPE};
-ghost use Rattle.pl_cli.specs.Outcome.{LeavesAt, Stops, UnlessFailed, UnlessInputFailed};
-ghost use Rattle.pl_cli.specs.ValidFiles.{SameFiles};
+ghost use Rattle.pl_cli.specs.Outcome.{LeavesAt, Stops, UnlessFailed, UnlessInputFailed, WhereFailed};
+ghost use Rattle.pl_cli.specs.ValidFiles.{SameBut, SameFiles};
 ghost use Rattle.pl_cli.specs.Words.{bytes_of};
 
 use crate::cause::Cause;
@@ -61,6 +61,8 @@ fn made<D: Folder, S: Source>(
     ensures input_quiet_stop { IfErr result (UnlessInputFailed (S.faults input.new ≡ S.faults input.old)) }
     ensures took { OnOk result (TookAtMost (S.left input.old) (S.left input.new) (RECIPE + 1)) }
     ensures took_stop { IfErr result (UnlessInputFailed (TookAtMost (S.left input.old) (S.left input.new) (RECIPE + 1))) }
+    ensures recipe { OnOk result (spec.HasRecipe (S.left input.old)) }
+    ensures recipe_first { IfErr result (WhereFailed (spec.HasRecipe (S.left input.old))) }
     ensures folder_counts { D.faults folder.old ≤ D.faults folder.new }
     ensures input_tells { is_some (S.left input.new) ≡ is_some (S.left input.old) }
     ensures input_counts { S.faults input.old ≤ S.faults input.new }
@@ -92,6 +94,7 @@ pub fn make<D: Folder, S: Source>(
     ensures next { OnOk result (D.tells_files folder.old ≡ true → is_some (S.left input.old) ≡ true →
         SameFiles (make_answer name.now (D.files folder.old) (spec.made (D.files folder.old) name.now (bytes_of (S.left input.old)))).next (D.files folder.new)) }
     ensures no_leftover { OnOk result (D.tells_files folder.old ≡ true → get (D.files folder.new) NEW_FILE.now ≡ None) }
+    ensures others { D.tells_files folder.old ≡ true → SameBut name.now (D.files folder.old) (D.files folder.new) }
     ensures stop { IfErr result (Stops (D.tells_files folder.old) (is_some (S.left input.old)) (spec.made (D.files folder.old) name.now (bytes_of (S.left input.old)))
         (Rose (D.faults folder.old) (D.faults folder.new)) (Rose (S.faults input.old) (S.faults input.new))) }
     ensures left { IfErr result (λ stop. D.tells_files folder.old ≡ true → LeavesAt (is_some (S.left input.old)) (D.files folder.old)
@@ -104,6 +107,7 @@ pub fn make<D: Folder, S: Source>(
     ensures input_quiet_stop { IfErr result (UnlessInputFailed (S.faults input.new ≡ S.faults input.old)) }
     ensures took { OnOk result (TookAtMost (S.left input.old) (S.left input.new) (RECIPE + 1)) }
     ensures took_stop { IfErr result (UnlessInputFailed (TookAtMost (S.left input.old) (S.left input.new) (RECIPE + 1))) }
+    ensures recipe_first { IfErr result (WhereFailed (spec.HasRecipe (S.left input.old))) }
     ensures folder_counts { D.faults folder.old ≤ D.faults folder.new }
     ensures input_tells { is_some (S.left input.new) ≡ is_some (S.left input.old) }
     ensures input_counts { S.faults input.old ≤ S.faults input.new }

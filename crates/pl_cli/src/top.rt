@@ -13,8 +13,9 @@ ghost use Rattle.pl_loader.specs.Started.{started};
 ghost use Rattle.pl_cli.specs.Answer.{answer, command_answer, is_answer, load_answer, make_answer};
 ghost use Rattle.pl_cli.specs.declared.cause.Cause.TheVariants as causes;
 ghost use Rattle.pl_cli.specs.Load.{is_memory, loaded};
-ghost use Rattle.pl_cli.specs.Make.{made};
-ghost use Rattle.pl_cli.specs.Outcome.{Ends, IsOutcome, IsRefusal, IsUsage, LeavesFiles};
+ghost use Rattle.pl_cli.specs.Make.{HasRecipe, made};
+ghost use Rattle.pl_cli.specs.Outcome.{Ends, IsOutcome, IsRefusal, IsUsage, LeavesFiles, LeavesOthers};
+ghost use Rattle.pl_cli.specs.ValidFiles.{SameBut};
 ghost use Rattle.pl_cli.specs.Words as spec;
 ghost use Rattle.pl_cli.specs.declared.make.TheConstants.{RECIPE};
 
@@ -126,6 +127,8 @@ fn make_and_write<D: Folder, S: Source, K: Sink>(
     ensures input_tells { is_some (S.left input.new) ≡ is_some (S.left input.old) }
     ensures took { result ≢ Status.ReadFault → TookAtMost (S.left input.old) (S.left input.new) (RECIPE + 1) }
     ensures no_leftover { result ≡ Status.Done → D.tells_files folder.old ≡ true → get (D.files folder.new) NEW_FILE.now ≡ None }
+    ensures others { D.tells_files folder.old ≡ true → SameBut name.now (D.files folder.old) (D.files folder.new) }
+    ensures recipe_first { result ≡ Status.DiskFault → HasRecipe (S.left input.old) }
     ensures folder_quiet { result ≢ Status.DiskFault → D.faults folder.new ≡ D.faults folder.old }
     ensures input_quiet { result ≢ Status.ReadFault → S.faults input.new ≡ S.faults input.old }
     ensures output_quiet { result ≢ Status.WriteFault → K.faults output.new ≡ K.faults output.old }
@@ -165,6 +168,8 @@ fn run_command<D: Folder, S: Source, K: Sink>(
     ensures input_tells { is_some (S.left input.new) ≡ is_some (S.left input.old) }
     ensures took { spec.is_make (Some (mode, name.now)) ≡ true → result ≢ Status.ReadFault → TookAtMost (S.left input.old) (S.left input.new) (RECIPE + 1) }
     ensures no_leftover { spec.is_make (Some (mode, name.now)) ≡ true → result ≡ Status.Done → D.tells_files folder.old ≡ true → get (D.files folder.new) NEW_FILE.now ≡ None }
+    ensures others { D.tells_files folder.old ≡ true → SameBut name.now (D.files folder.old) (D.files folder.new) }
+    ensures recipe_first { spec.is_make (Some (mode, name.now)) ≡ true → result ≡ Status.DiskFault → HasRecipe (S.left input.old) }
     ensures folder_quiet { result ≢ Status.DiskFault → D.faults folder.new ≡ D.faults folder.old }
     ensures input_quiet { result ≢ Status.ReadFault → S.faults input.new ≡ S.faults input.old }
     ensures output_quiet { result ≢ Status.WriteFault → K.faults output.new ≡ K.faults output.old }
@@ -201,6 +206,8 @@ fn run_words<D: Folder, S: Source, K: Sink>(
     ensures input_tells { is_some (S.left input.new) ≡ is_some (S.left input.old) }
     ensures took { spec.is_make (spec.command (map string_bytes words.now)) ≡ true → result ≢ Status.ReadFault → TookAtMost (S.left input.old) (S.left input.new) (RECIPE + 1) }
     ensures no_leftover { spec.is_make (spec.command (map string_bytes words.now)) ≡ true → result ≡ Status.Done → D.tells_files folder.old ≡ true → get (D.files folder.new) NEW_FILE.now ≡ None }
+    ensures others { D.tells_files folder.old ≡ true → LeavesOthers (spec.command (map string_bytes words.now)) (D.files folder.old) (D.files folder.new) }
+    ensures recipe_first { spec.is_make (spec.command (map string_bytes words.now)) ≡ true → result ≡ Status.DiskFault → HasRecipe (S.left input.old) }
     ensures folder_quiet { result ≢ Status.DiskFault → D.faults folder.new ≡ D.faults folder.old }
     ensures input_quiet { result ≢ Status.ReadFault → S.faults input.new ≡ S.faults input.old }
     ensures output_quiet { result ≢ Status.WriteFault → K.faults output.new ≡ K.faults output.old }
@@ -218,7 +225,7 @@ fn run_words<D: Folder, S: Source, K: Sink>(
 
 /// Does what the words after the program's name ask for.
 ///
-/// The answer is a definition over the words, the folder's files and the bytes of the input: a status, a text for the output, and the next files under valid names. `Done`, `Differs`, `Usage` and `Refused` come only with the whole of it. A fault comes only where the count of its object rose: `ReadFault` and `DiskFault` before anything was written, `WriteFault` after some first bytes of the text. `NoMemory` may come at any time before anything was written. Files under all names but that of a new file are those of the answer, or after `ReadFault` and `NoMemory` those before, or after `DiskFault` all of the one or all of the other. A count of faults rises only where the status is the fault of its object. Only `--make` reads the input and writes to the folder.
+/// The answer is a definition over the words, the folder's files and the bytes of the input: a status, a text for the output, and the next files. `Done`, `Differs`, `Usage` and `Refused` come only with the whole of it. A fault comes only where the count of its object rose: `ReadFault` and `DiskFault` before anything was written, `WriteFault` after some first bytes of the text. `NoMemory` may come at any time before anything was written. Files under all names but that of a new file are those of the answer, or after `ReadFault` and `NoMemory` those before, or after `DiskFault` all of the one or all of the other; other files than the command's stay whatever comes. A count of faults rises only where the status is the fault of its object. Only `--make` reads the input and writes to the folder.
 #[tactic(auto, using(crate::proofs::OutcomeLemmas::outcome_is_whole, crate::proofs::OutcomeLemmas::outcome_is_part, crate::proofs::TellsLemmas::loaded_tells, crate::proofs::TellsLemmas::made_tells))]
 pub fn run<D: Folder, S: Source, K: Sink>(
     alloc: Global,
@@ -271,6 +278,12 @@ pub fn run<D: Folder, S: Source, K: Sink>(
 
     // Where it is done, no new file is left.
     ensures no_leftover { spec.is_make (spec.command (map string_bytes words.now)) ≡ true → result ≡ Status.Done → D.tells_files folder.old ≡ true → get (D.files folder.new) NEW_FILE.now ≡ None }
+
+    // Files under other names than the command's stay, but for that of a new file, whatever comes and whatever the input tells.
+    ensures others { D.tells_files folder.old ≡ true → LeavesOthers (spec.command (map string_bytes words.now)) (D.files folder.old) (D.files folder.new) }
+
+    // The folder fails a `--make` only after a recipe without a fault.
+    ensures recipe_first { spec.is_make (spec.command (map string_bytes words.now)) ≡ true → result ≡ Status.DiskFault → HasRecipe (S.left input.old) }
 
     // A count rises only where the status is the fault of its object.
     ensures folder_quiet { result ≢ Status.DiskFault → D.faults folder.new ≡ D.faults folder.old }

@@ -5,7 +5,8 @@ ghost use Rattle.std.specs.String.{string_cmp};
 ghost use Rattle.pl_base.specs.Counts.{Rose};
 ghost use Rattle.pl_base.specs.Files.{files_of};
 ghost use Rattle.pl_base.specs.Names.{IsNameLength};
-ghost use Rattle.pl_folder.specs.Calls.{Stops, UnlessFailed};
+ghost use Rattle.pl_folder.specs.Calls.{IfFailed, Stops, UnlessFailed};
+ghost use Rattle.pl_io.specs.Scripts.{one_more};
 ghost use Rattle.pl_hostdir.specs.Errors.{calling_fault};
 ghost use Rattle.pl_hostdir.specs.Listing.{is_listed};
 
@@ -38,6 +39,7 @@ impl<'a, R: Files + AllocGlobal + Clone + Drop> HostFolder<'a, R> {
 
     // Counts a fault.
     fn fail(&mut self) -> Failed
+        ensures counted { self.new.faults ≡ one_more self.old.faults }
         ensures rose { Rose self.old.faults self.new.faults }
         ensures counts { self.old.faults ≤ self.new.faults }
     {
@@ -50,6 +52,7 @@ impl<'a, R: Files + AllocGlobal + Clone + Drop> HostFolder<'a, R> {
         ensures kind { result ≡ calling_fault (error_kind error) }
         ensures fault { Stops (Rose self.old.faults self.new.faults) result }
         ensures quiet { UnlessFailed (self.new.faults ≡ self.old.faults) result }
+        ensures counted { IfFailed (self.new.faults ≡ one_more self.old.faults) (self.new.faults ≡ self.old.faults) result }
         ensures counts { self.old.faults ≤ self.new.faults }
     {
         if error.kind() == io::ErrorKind::OutOfMemory {

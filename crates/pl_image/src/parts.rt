@@ -1,4 +1,4 @@
-ghost use Rattle.std.specs.Prelude.{◌≡◌, ◌∷◌, ◌++◌, [], map, OnOk, OnErr, IfOk};
+ghost use Rattle.std.specs.Prelude.{◌≡◌, ◌∷◌, ◌++◌, [], map, OnOk, OnErr};
 
 use pl_io::NoMemory;
 use std::alloc::Global;
@@ -20,12 +20,12 @@ impl<'a> Model for Parts<'a> {
 
 impl<'a> Parts<'a> {
     /// No parts.
-    pub fn new(alloc: Global) -> Result<Parts<'a>, NoMemory>
-        ensures { IfOk result (λ parts. parts ≡ []) }
+    pub fn new(alloc: Global) -> Parts<'a>
+        ensures { result ≡ [] }
     {
-        Ok(Parts {
+        Parts {
             rows: Vec::new(alloc),
-        })
+        }
     }
 
     /// Adds one at the end. After a want of memory the parts are as before.

@@ -38,7 +38,7 @@ fn scope<'a>(alloc: Global, files: &'a [ObjectFile]) -> Result<Scope<'a>, AllocE
 fn parts<'a>(alloc: Global, files: &'a [ObjectFile]) -> Result<Parts<'a>, NoMemory>
     ensures { IfOk result (λ parts. parts ≡ parts_of files.now) }
 {
-    let mut parts = Parts::new(alloc)?;
+    let mut parts = Parts::new(alloc);
     for file in files {
         parts.add(file.bytes.as_slice())?;
     }

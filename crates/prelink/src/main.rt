@@ -1,21 +1,40 @@
 //! The program `prelink`: the top call over the folder that it runs in, its standard input and output, and the clock.
 #![tactic(auto)]
 
+ghost use Rattle.std.specs.Prelude.{◌≡◌, ◌≢◌, drop, is_ok, true, IfErr, IfOk};
+ghost use Rattle.std.specs.IoError.{error_kind};
+ghost use Rattle.std.specs.Process.{exit_status};
+ghost use Rattle.std.specs.Vec.Iter.{into_iter_items};
+ghost use Rattle.std.specs.declared.io.ErrorKind.TheVariants.{OutOfMemory};
+ghost use Rattle.pl_cli.specs.Statuses.{code_of};
+ghost use Rattle.prelink.specs.Words.{after_first};
+
 use pl_cli::{Status, run};
 use pl_hostdir::HostFolder;
 use pl_io::{StdSink, StdSource};
-use std::alloc::AllocError;
+use std::alloc::{AllocError, Global};
+use std::env::{self, Args};
+use std::io;
 use std::process::ExitCode;
-use std::rt::{Clock, Env};
+use std::rt::Clock;
 use std::time::{SystemTime, UNIX_EPOCH};
-use std::{env, io};
 
-/// The words after the program's name. Words that are not text are no command: the call is then made with no words, which prints the usage line.
-fn words(rt: &(impl Env + AllocGlobal)) -> Result<Vec<String>, AllocError> {
-    match env::args(rt) {
-        Ok(words) => words.skip(1).collect(rt.alloc()),
+/// The words after the program's name, which is the first.
+fn after_name(alloc: Global, words: Args) -> Result<Vec<String>, AllocError>
+    ensures { IfOk result (λ after. after.items ≡ drop 1 (into_iter_items words)) }
+{
+    words.skip(1).collect(alloc)
+}
+
+/// The words after the program's name, by the system's answer. Words that are not text are no command: the call is then made with no words, which prints the usage line.
+fn words_of(alloc: Global, answer: io::Result<Args>) -> Result<Vec<String>, AllocError>
+    ensures words { IfOk result (λ words. words.items ≡ after_first answer) }
+    ensures no_text { IfErr answer (λ error. error_kind error ≢ OutOfMemory → is_ok result ≡ true) }
+{
+    match answer {
+        Ok(words) => after_name(alloc, words),
         Err(error) if error.kind() == io::ErrorKind::OutOfMemory => Err(AllocError),
-        Err(_) => Ok(Vec::new(rt.alloc())),
+        Err(_) => Ok(Vec::new(alloc)),
     }
 }
 
@@ -30,9 +49,16 @@ fn seconds(clock: &impl Clock) -> u32 {
     }
 }
 
+/// What the program ends with: the exit code of how the run ended.
+fn exit_code(status: Status) -> ExitCode
+    ensures { exit_status result ≡ code_of status }
+{
+    ExitCode::from(status.code())
+}
+
 fn main(rt: HostRuntime) -> ExitCode {
-    let Ok(words) = words(&rt) else {
-        return ExitCode::from(Status::NoMemory.code());
+    let Ok(words) = words_of(rt.alloc(), env::args(&rt)) else {
+        return exit_code(Status::NoMemory);
     };
     let mut folder = HostFolder::new(&rt);
     let mut input = StdSource::new(rt.reader());
@@ -46,5 +72,5 @@ fn main(rt: HostRuntime) -> ExitCode {
         &mut output,
         now,
     );
-    ExitCode::from(status.code())
+    exit_code(status)
 }

@@ -1,12 +1,12 @@
 use Rattle.std.proofs.Common.{◌≡◌, true, false, map, rules, ◌∙◌, ap}
-use Rattle.std.specs.Prelude.{is_some, string_bytes}
+use Rattle.std.specs.Prelude.{is_some, is_ok, string_bytes}
 use Rattle.pl_base.specs.Counts.{Rose}
 use Rattle.pl_base.specs.Names.{is_valid_name}
 use Rattle.pl_base.proofs.ResultLaws.{IfErr-at}
 use Rattle.pl_cli.specs.Make as spec
-use Rattle.pl_cli.specs.Outcome.{Stops, of_fault}
+use Rattle.pl_cli.specs.Outcome.{Stops, WhereFailed, of_fault}
 use Rattle.pl_cli.specs.Words.{bytes_of}
-use Rattle.pl_cli.proofs.MakeLemmas.{bad_name, full, fits, stopped_in_recipe, stopped_in_folder}
+use Rattle.pl_cli.proofs.MakeLemmas.{bad_name, full, fits, not_failed, where_failed, stopped_in_recipe, stopped_in_folder}
 use Rattle.pl_cli.proofs.make.made.Goals as goal
 
 pub returns-then-not-is_valid_name-clause-stop : goal.returns-then-not-is_valid_name-clause-stop
@@ -45,3 +45,18 @@ returns-clause-ok g c = λ tells told.
     let valid : is_valid_name c.args.name.now ≡ true = search rules in
     fits (g.D.Folder.files c.args.folder.now) c.args.name.now (bytes_of (g.S.Source.left c.args.input.now)) c.in_ok-bytes.bytes (map string_bytes c.deref.result.now) valid (c.in_ok-bytes.ensures.ok told)
     (ap (map string_bytes) c.deref.ensures.value ∙ c.in_ok-names.ensures.names tells) (search rules)
+
+pub returns-in_err-bytes-clause-recipe_first : goal.returns-in_err-bytes-clause-recipe_first
+returns-in_err-bytes-clause-recipe_first g c =
+    let left = g.S.Source.left c.args.input.now in
+    IfErr-at c.from_residual.result (WhereFailed (spec.HasRecipe left)) c.in_err-bytes.field-0.0 c.from_residual.ensures.1
+    (not_failed (is_some left) (spec.built (bytes_of left)) _ (spec.HasRecipe left) c.in_err-bytes.field-0.0 c.in_err-bytes.ensures.stop)
+
+pub returns-in_err-names-clause-recipe_first : goal.returns-in_err-names-clause-recipe_first
+returns-in_err-names-clause-recipe_first g c =
+    let left = g.S.Source.left c.args.input.now in
+    IfErr-at c.from_residual-in_err-names.result (WhereFailed (spec.HasRecipe left)) (of_fault c.in_err-names.field-0.0) c.from_residual-in_err-names.ensures.1
+    (where_failed (spec.HasRecipe left) (of_fault c.in_err-names.field-0.0) (λ told. ap is_ok (c.in_ok-bytes.ensures.ok told)))
+
+pub returns-clause-recipe : goal.returns-clause-recipe
+returns-clause-recipe g c = λ told. ap is_ok (c.in_ok-bytes.ensures.ok told)

@@ -8,10 +8,10 @@ use Rattle.pl_cli.specs.declared.stop.Stop.{Stop}
 use Rattle.pl_cli.specs.declared.stop.Stop.TheVariants as stops
 use Rattle.pl_cli.specs.Answer.{make_answer}
 use Rattle.pl_cli.specs.Make as spec
-use Rattle.pl_cli.specs.Outcome.{Stops, LeavesAt, of_fault}
+use Rattle.pl_cli.specs.Outcome.{Stops, LeavesAt, WhereFailed, of_fault}
 use Rattle.pl_cli.specs.Words.{bytes_of}
-use Rattle.pl_cli.proofs.FilesLemmas.{no_new_file, same_files}
-use Rattle.pl_cli.proofs.MakeLemmas.{done, done_files, left_before, left_in_store, stopped_later}
+use Rattle.pl_cli.proofs.FilesLemmas.{no_new_file, same_but, same_but_left, same_but_replaced, same_files}
+use Rattle.pl_cli.proofs.MakeLemmas.{done, done_files, left_before, left_in_store, stopped_later, where_failed}
 use Rattle.pl_cli.proofs.make.make.Goals as goal
 
 pub returns-in_err-bytes-clause-left : goal.returns-in_err-bytes-clause-left
@@ -82,3 +82,31 @@ pub returns-clause-no_leftover : goal.returns-clause-no_leftover
 returns-clause-no_leftover g c = λ tells.
     let files = g.D.Folder.files in
     no_new_file (files c.made.new.folder) (files c.replace.new.folder) c.args.name.now c.as_slice.result.now c.in_ok-bytes.ensures.valid (c.in_ok-replace.ensures.ok (c.in_ok-bytes.ensures.tells ∙ tells))
+
+pub returns-in_err-bytes-clause-others : goal.returns-in_err-bytes-clause-others
+returns-in_err-bytes-clause-others g c = λ tells.
+    let files = g.D.Folder.files in
+    same_but c.args.name.now (files c.args.folder.now) (files c.made.new.folder) (same_files (files c.args.folder.now) (files c.made.new.folder) (c.in_err-bytes.ensures.same tells))
+
+pub returns-in_err-line-clause-others : goal.returns-in_err-line-clause-others
+returns-in_err-line-clause-others g c = λ tells.
+    let files = g.D.Folder.files in
+    same_but c.args.name.now (files c.args.folder.now) (files c.made.new.folder) (same_files (files c.args.folder.now) (files c.made.new.folder) (c.in_ok-bytes.ensures.same tells))
+
+pub returns-in_err-replace-clause-others : goal.returns-in_err-replace-clause-others
+returns-in_err-replace-clause-others g c = λ tells.
+    let files = g.D.Folder.files in
+    same_but_left (files c.args.folder.now) (files c.made.new.folder) (files c.replace.new.folder) c.args.name.now _ c.in_err-replace.field-0.0
+    (c.in_ok-bytes.ensures.same tells) (c.in_err-replace.ensures.err (c.in_ok-bytes.ensures.tells ∙ tells))
+
+pub returns-clause-others : goal.returns-clause-others
+returns-clause-others g c = λ tells.
+    let files = g.D.Folder.files in
+    same_but_replaced (files c.args.folder.now) (files c.made.new.folder) (files c.replace.new.folder) c.args.name.now _
+    (c.in_ok-bytes.ensures.same tells) (c.in_ok-replace.ensures.ok (c.in_ok-bytes.ensures.tells ∙ tells))
+
+pub returns-in_err-replace-clause-recipe_first : goal.returns-in_err-replace-clause-recipe_first
+returns-in_err-replace-clause-recipe_first g c =
+    let left = g.S.Source.left c.args.input.now in
+    IfErr-at c.from_residual-in_err-replace.result (WhereFailed (spec.HasRecipe left)) (of_fault c.in_err-replace.field-0.0) c.from_residual-in_err-replace.ensures.1
+    (where_failed (spec.HasRecipe left) (of_fault c.in_err-replace.field-0.0) c.in_ok-bytes.ensures.recipe)
