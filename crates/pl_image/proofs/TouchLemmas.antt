@@ -1,6 +1,6 @@
 -- Patches by the words that they touch.
-use Rattle.std.proofs.Common.{◌≡◌, ℕ, suc, ◌+◌, ◌-◌, ◌/◌, ◌<◌, ◌≤◌, Bool, true, false, cond, not, List, [], ◌∷◌, ◌++◌, length, get_or, take, drop, refl, sym, ap, ◌∙◌, arith, inl, inr}
-use Rattle.std.specs.Prelude.{◌&&◌, ◌==◌, nat_le, nat_lt, fold, filter}
+use Rattle.std.proofs.Common.{◌≡◌, ℕ, suc, ◌+◌, ◌-◌, ◌/◌, ◌<◌, ◌≤◌, Bool, true, false, cond, not, List, [], ◌∷◌, ◌++◌, length, get_or, take, drop, refl, sym, ap, subst, ◌∙◌, ◌⊎◌, arith, inl, inr}
+use Rattle.std.specs.Prelude.{◌&&◌, ◌||◌, ◌==◌, nat_le, nat_lt, fold, filter}
 use Rattle.std.specs.List.{All, list_any}
 use Rattle.std.specs.List.Sorted.{IsNonDecreasingBy, IsPartitionPoint, IsPermutation, IsStableByKey, ties}
 use Rattle.std.specs.Ordering.{nat_cmp, is_lt}
@@ -10,10 +10,11 @@ use Rattle.std.proofs.lemmas.List.Elements.{All-nil, All-push, All-take, All-dro
 use Rattle.std.proofs.lemmas.List.Sums.{fold_push, fold-append, fold_more}
 use Rattle.std.proofs.lemmas.List.Sorted.{All-permutation}
 use Rattle.std.proofs.lemmas.List.{take_all, take-append-drop, drop-drop, length-take, length-drop, get_or-take, get_or-drop, get_or_default}
-use Rattle.std.proofs.lemmas.List.Folds.{list_any_none}
+use Rattle.std.proofs.Math.Bool.{or-true}
+use Rattle.std.proofs.lemmas.List.Folds.{list_any_at, list_any_none, Any-from_list_any}
 use Rattle.pl_base.specs.Memory.{Fill, covers}
 use Rattle.pl_image.specs.declared.touched.Touch.{Touch}
-use Rattle.pl_image.specs.Index.{laid, laid_by, laid_up_to, patch_of, words_end, IsIndex, IsIndexOf, IsIndexTo, AreTouching}
+use Rattle.pl_image.specs.Index.{laid, laid_by, laid_up_to, patch_of, is_of_patch, is_touched, words_end, IsIndex, IsIndexOf, IsIndexTo, AreTouching}
 
 -- ---- an index that is made
 
@@ -43,20 +44,24 @@ laid_next f number a found le = elim (cases_Bool (number == a / 8)) [
 
 module _ (patches : List Fill) where
   pub index_begins : IsIndexOf patches [] 0
-  index_begins = record { inside = All-nil (λ (t : Touch). t.patch < 0); whole = λ a found. refl }
+  index_begins = record { inside = All-nil (λ (t : Touch). t.patch < 0); only = All-nil (λ (t : Touch). is_of_patch patches t ≡ true); whole = λ a found. refl }
 
   pub words_begin : (touched : List Touch) (index number : ℕ) → number ≡ (patch_of patches index).start / 8 → IsIndexOf patches touched index → IsIndexTo patches touched index number
   words_begin touched index number first i = record {
     inside = λ k d lt. let less = i.inside k d lt in omega arith;
+    only = i.only;
     whole = λ a found.
         let none : (nat_le ((patch_of patches index).start / 8) (a / 8) && nat_lt (a / 8) number) ≡ false = grind (arith, nat_tests) in
         rw none (i.whole a found);
   }
 
-  pub words_more : (touched : List Touch) (index number : ℕ) → (patch_of patches index).start / 8 ≤ number → IsIndexTo patches touched index number
+  pub words_more : (touched : List Touch) (index number : ℕ) → (patch_of patches index).start / 8 ≤ number → number < words_end (patch_of patches index) → IsIndexTo patches touched index number
       → IsIndexTo patches (touched ++ record { number = number; patch = index } ∷ []) index (number + 1)
-  words_more touched index number le i = record {
+  words_more touched index number le lt i = record {
     inside = All-push (λ (t : Touch). t.patch < index + 1) touched (record { number = number; patch = index }) i.inside (omega arith);
+    only =
+        let of_patch : is_of_patch patches (record { number = number; patch = index }) ≡ true = grind (arith, nat_tests) in
+        All-push (λ (t : Touch). is_of_patch patches t ≡ true) touched (record { number = number; patch = index }) i.only of_patch;
     whole = λ a found.
         fold_push (laid_by patches a) found touched (record { number = number; patch = index })
         ∙ ap (λ (x : ℕ). laid_by patches a x (record { number = number; patch = index })) (i.whole a found)
@@ -66,6 +71,7 @@ module _ (patches : List Fill) where
   pub words_done : (touched : List Touch) (index number : ℕ) → index < length patches → number ≡ words_end (patch_of patches index) → IsIndexTo patches touched index number → IsIndexOf patches touched (index + 1)
   words_done touched index number lt last i = record {
     inside = i.inside;
+    only = i.only;
     whole = λ a found.
         i.whole a found
         ∙ ap (λ (n : ℕ). laid_up_to (patch_of patches index) n a (fold (laid a) found (take index patches))) last
@@ -105,6 +111,7 @@ pub index_sorted : (patches : List Fill) (touched sorted : List Touch) → IsInd
 index_sorted patches touched sorted i permutation rising stable = record {
   rising = rising;
   inside = All-permutation (λ (t : Touch). t.patch < length patches) touched sorted permutation i.inside;
+  only = All-permutation (λ (t : Touch). is_of_patch patches t ≡ true) touched sorted permutation i.only;
   whole = λ a found.
       let x : Touch = record { number = a / 8; patch = 0 } in
       let tie : Touch → Bool = ties (λ y z. is_lt (nat_cmp y.number z.number)) x in
@@ -177,6 +184,28 @@ only_touching ts n i j first last = λ k d lt.
     let high = last.0 (i + k) d (omega arith) (omega (arith, less)) in
     let is : get_or (take (j - i) (drop i ts)) k d ≡ get_or ts (i + k) d = get_or-take (j - i) (drop i ts) k d less ∙ get_or-drop i ts k d in
     rw is (let out : (get_or ts (i + k) d).number ≡ n = grind (arith, nat_tests, low, high) in out)
+
+-- ---- words that a patch touches
+
+pub touched_word : (patches : List Fill) (touched : List Touch) (n : ℕ) → IsIndex patches touched → list_any (λ t. t.number == n) touched ≡ true → is_touched patches n ≡ true
+touched_word patches touched n i hit =
+    let at = Any-from_list_any (λ (t : Touch). t.number == n) touched hit in
+    let t = at.1 in
+    let inside : t.patch < length patches = subst (λ (u : Touch). u.patch < length patches) at.3 (i.inside at.0 t at.2) in
+    let only : is_of_patch patches t ≡ true = subst (λ (u : Touch). is_of_patch patches u ≡ true) at.3 (i.only at.0 t at.2) in
+    let here : (nat_le ((patch_of patches t.patch).start / 8) n && nat_lt n (words_end (patch_of patches t.patch))) ≡ true = grind (arith, nat_tests, only, at.4) in
+    list_any_at (λ (f : Fill). nat_le (f.start / 8) n && nat_lt n (words_end f)) patches t.patch (record { start = 0; bytes = [] }) inside here
+
+pub word_found : (patches : List Fill) (touched : List Touch) (stores : ℕ → Bool) (stored next result limit : ℕ) → IsIndex patches touched → (result ≡ stored) ⊎ (result ≡ next)
+    → (stored < limit → stores stored ≡ true) → (next < limit → list_any (λ t. t.number == next) touched ≡ true) → result < limit → (stores result || is_touched patches result) ≡ true
+word_found patches touched stores stored next result limit i is bytes touch lt = elim is [
+  | inl first ↦
+      let hit : stores result ≡ true = rw first (bytes (omega arith)) in
+      rw hit refl
+  | inr second ↦
+      let hit : is_touched patches result ≡ true = rw second (touched_word patches touched next i (touch (omega arith))) in
+      ap (λ (b : Bool). stores result || b) hit ∙ or-true (stores result)
+]
 
 -- ---- words that no patch touches
 

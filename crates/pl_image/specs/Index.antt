@@ -32,20 +32,31 @@ words_end fill = (fill.start + length fill.bytes + 7) / 8
 abbrev pub laid_up_to : Fill → ℕ → ℕ → ℕ → ℕ
 laid_up_to fill number address found = if nat_le (fill.start / 8) (address / 8) && nat_lt (address / 8) number then laid address found fill else found
 
--- the words that patches touch, in ascending order, those of one word in the order of the patches
+-- the word is one from the patch's first one up to the one past its end
+abbrev pub is_of_patch : List Fill → Touch → Bool
+is_of_patch patches touch = nat_le ((patch_of patches touch.patch).start / 8) touch.number && nat_lt touch.number (words_end (patch_of patches touch.patch))
+
+-- the word is one of a patch
+abbrev pub is_touched : List Fill → ℕ → Bool
+is_touched patches number = list_any (λ fill. nat_le (fill.start / 8) number && nat_lt number (words_end fill)) patches
+
+-- the words that patches touch, and no others, in ascending order, those of one word in the order of the patches
 pub record IsIndex (patches : List Fill) (touched : List Touch) : Type 0 where
   pub rising : IsNonDecreasingBy (λ t. t.number) touched
   pub inside : All (λ t. t.patch < length patches) touched
+  pub only : All (λ t. is_of_patch patches t ≡ true) touched
   pub whole : (address found : ℕ) → fold (laid_by patches address) found touched ≡ fold (laid address) found patches
 
 -- the first patches alone, for an index that is being made
 pub record IsIndexOf (patches : List Fill) (touched : List Touch) (count : ℕ) : Type 0 where
   pub inside : All (λ t. t.patch < count) touched
+  pub only : All (λ t. is_of_patch patches t ≡ true) touched
   pub whole : (address found : ℕ) → fold (laid_by patches address) found touched ≡ fold (laid address) found (take count patches)
 
 -- the words of a patch from its first one up to a number, after those of the patches before it
 pub record IsIndexTo (patches : List Fill) (touched : List Touch) (index number : ℕ) : Type 0 where
   pub inside : All (λ t. t.patch < index + 1) touched
+  pub only : All (λ t. is_of_patch patches t ≡ true) touched
   pub whole : (address found : ℕ) → fold (laid_by patches address) found touched
       ≡ laid_up_to (patch_of patches index) number address (fold (laid address) found (take index patches))
 

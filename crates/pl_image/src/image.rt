@@ -1,9 +1,10 @@
-ghost use Rattle.std.specs.Prelude.{◌≡◌, ◌*◌, ◌/◌, ◌≤◌, ◌<◌, ◌++◌, fold, OnErr, OnOk, IfOk, if◌then◌else◌};
+ghost use Rattle.std.specs.Prelude.{◌≡◌, ◌*◌, ◌/◌, ◌≤◌, ◌<◌, ◌++◌, ◌||◌, fold, true, OnErr, OnOk, IfOk, if◌then◌else◌};
+ghost use Rattle.std.specs.List.{list_any};
 ghost use Rattle.pl_base.specs.Counts.{Rose};
 ghost use Rattle.pl_base.specs.Memory.{layered};
 ghost use Rattle.pl_base.specs.Streams.{GotPrefix, got_after};
 ghost use Rattle.pl_image.specs.Image as spec;
-ghost use Rattle.pl_image.specs.Index.{AreTouching, laid};
+ghost use Rattle.pl_image.specs.Index.{AreTouching, is_touched, laid};
 ghost use Rattle.pl_image.specs.Lines.{IsClear, Passes, byte_in, word_in, word_lines};
 
 use crate::image_text::{add_word, flush};
@@ -126,6 +127,7 @@ impl<'a> Image<'a> {
         requires limit { from ≤ WORDS }
         ensures within { (from ≤ result) × (result ≤ WORDS) }
         ensures clear { IsClear (spec.own_memory self.now pieces.now) (8 * from) (8 * result) }
+        ensures found { result < WORDS → (list_any (spec.stores_in result) pieces.now || is_touched self.now.patches result) ≡ true }
     {
         next_stored(pieces, from).min(next_touched(&self.touched, from))
     }
