@@ -18,3 +18,4 @@ pub mod StringLaws
 pub mod FindLaws
 pub mod PairLaws
 pub mod TestLaws
+pub mod CountLaws
