@@ -17,9 +17,7 @@ use Rattle.pl_base.specs.Files.{Files}
 use Rattle.pl_base.proofs.FilesLaws.{same, same_name, equal_files, insert-removed, insert_same}
 use Rattle.pl_folder.specs.declared.file.File.{File}
 use Rattle.pl_folder.specs.Entries.{name_bytes, entry_of, entries_of, are_distinct}
-use Rattle.pl_folder.specs.Calls.{LeavesPrefix, appended, renamed}
-use Rattle.pl_folder.specs.declared.fault.FolderFault.{FolderFault}
-use Rattle.pl_folder.specs.declared.fault.FolderFault.TheVariants.{Failed, NotThere, TooLarge, NoMemory}
+use Rattle.pl_folder.specs.Effects.{appended, renamed}
 
 abbrev pub Entry : Type 0
 Entry = List ℕ × List ℕ
@@ -205,10 +203,3 @@ none_more files name bytes there = by_case (get files name) refl there
 pub extended : {T E : Type 0} (r : Result T E) (old more new : List ℕ) → new ≡ (if is_ok r then old ++ more else old) → OnOk r (new ≡ old ++ more) × OnErr r (new ≡ old)
 extended (Ok x) old more new is = (is, tt)
 extended (Err e) old more new is = (tt, is)
-
--- where nothing changed, no bytes were added
-pub prefix_none : (old new : Files) (name bytes : List ℕ) → is_some (get old name) ≡ true → new ≡ old → (fault : FolderFault) → LeavesPrefix old name bytes new fault
-prefix_none old new name bytes there same Failed = (0, omega arith, same ∙ sym (none_more old name bytes there))
-prefix_none old new name bytes there same NotThere = same
-prefix_none old new name bytes there same TooLarge = same
-prefix_none old new name bytes there same NoMemory = same
