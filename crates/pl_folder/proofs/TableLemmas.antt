@@ -10,7 +10,7 @@ use Rattle.std.specs.FinMap.{get, insert, from_entries, get-remove, get-from_ent
 use Rattle.std.specs.FinMap as finite
 use Rattle.std.specs.FinMap.Entries.{find, find-append}
 use Rattle.std.proofs.lemmas.Bool.{and_parts, cases_Bool, false≢true}
-use Rattle.std.proofs.lemmas.List.{append-nil, map-append, take-map, drop-map, get_or-map}
+use Rattle.std.proofs.lemmas.List.{take_more, append-nil, map-append, take-map, drop-map, get_or-map}
 use Rattle.std.proofs.lemmas.List.Quantifiers.{position-Some}
 use Rattle.std.proofs.lemmas.Iterator.Adapters.{position_from-zero}
 use Rattle.pl_base.specs.Files.{Files}
@@ -203,3 +203,13 @@ none_more files name bytes there = by_case (get files name) refl there
 pub extended : {T E : Type 0} (r : Result T E) (old more new : List ℕ) → new ≡ (if is_ok r then old ++ more else old) → OnOk r (new ≡ old ++ more) × OnErr r (new ≡ old)
 extended (Ok x) old more new is = (is, tt)
 extended (Err e) old more new is = (tt, is)
+
+-- a copy more of the files of a table
+pub file_more : (files : List File) (i : ℕ) (d : File) (copies : List File) (copy : File) → i < length files → name_bytes copy.name ≡ name_bytes (get_or files i d).name → copy.bytes.items ≡ (get_or files i d).bytes.items
+    → entries_of copies ≡ entries_of (take i files) → entries_of (copies ++ copy ∷ []) ≡ entries_of (take (i + 1) files)
+file_more files i d copies copy within name_is bytes_are so_far =
+    map-append entry_of copies (copy ∷ [])
+    ∙ ap (λ (es : List Entry). es ++ entry_of copy ∷ []) so_far
+    ∙ ap (λ (name : List ℕ). entries_of (take i files) ++ (name, copy.bytes.items) ∷ []) name_is
+    ∙ ap (λ (bytes : List ℕ). entries_of (take i files) ++ (name_bytes (get_or files i d).name, bytes) ∷ []) bytes_are
+    ∙ sym (ap entries_of (take_more files i d within) ∙ map-append entry_of (take i files) (get_or files i d ∷ []))

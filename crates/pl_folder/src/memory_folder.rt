@@ -1,4 +1,4 @@
-ghost use Rattle.std.specs.Prelude.{◌≡◌, ◌<◌, ◌≤◌, map, not, is_ok, true, false, Ok, IfOk, IfErr, OnOk, OnErr, vec_capacity, vec_len};
+ghost use Rattle.std.specs.Prelude.{◌≡◌, ◌+◌, ◌++◌, ◌∷◌, ◌<◌, ◌≤◌, [], map, not, is_ok, true, false, Ok, IfOk, IfErr, OnOk, OnErr, vec_capacity, vec_len};
 ghost use Rattle.std.specs.FinMap.{contains_key};
 ghost use Rattle.std.specs.Result.{is_err};
 ghost use Rattle.pl_base.specs.Counts.{Counted};
@@ -104,8 +104,18 @@ impl MemoryFolder {
         ensures disk { folder_disk self.new ≡ after (folder_disk self.old).now (folder_disk self.old) }
         ensures rest { (self.new.files ≡ self.old.files) × (self.new.first ≡ self.old.first) × (self.new.script ≡ self.old.script) × (self.new.calls ≡ self.old.calls) }
     {
-        self.past.push(Call::Nothing).unwrap();
+        record(&mut self.past, Call::Nothing);
     }
+}
+
+// Adds a call to those that a folder has had, for which there is room.
+fn record(past: &mut Vec<Call>, call: Call)
+    requires { vec_len past.old < vec_capacity past.old }
+    ensures items { past.new.items ≡ past.old.items ++ call ∷ [] }
+    ensures len { vec_len past.new ≡ vec_len past.old + 1 }
+    ensures capacity { vec_capacity past.old ≤ vec_capacity past.new }
+{
+    past.push(call).unwrap();
 }
 
 /// Each call fails exactly where the script says so, or there were as many calls as the folder answers, and then changes nothing. At every other answer the count of faults stands still.
@@ -155,7 +165,7 @@ impl Folder for MemoryFolder {
         self.call()?;
         self.files.create(alloc, name)?;
         let name = Name::new(name);
-        self.past.push(Call::Create { name }).unwrap();
+        record(&mut self.past, Call::Create { name });
         Ok(())
     }
 
@@ -173,7 +183,7 @@ impl Folder for MemoryFolder {
         let more = Vec::from_slice(alloc, bytes)?;
         self.files.append(name, bytes)?;
         let name = Name::new(name);
-        self.past.push(Call::Append { name, bytes: more }).unwrap();
+        record(&mut self.past, Call::Append { name, bytes: more });
         Ok(())
     }
 
@@ -185,7 +195,7 @@ impl Folder for MemoryFolder {
     {
         self.call()?;
         let name = Name::new(name);
-        self.past.push(Call::Firm { name }).unwrap();
+        record(&mut self.past, Call::Firm { name });
         Ok(())
     }
 
@@ -202,7 +212,7 @@ impl Folder for MemoryFolder {
         self.files.rename(from, to);
         let from = Name::new(from);
         let to = Name::new(to);
-        self.past.push(Call::Rename { from, to }).unwrap();
+        record(&mut self.past, Call::Rename { from, to });
         Ok(())
     }
 
@@ -216,7 +226,7 @@ impl Folder for MemoryFolder {
         self.call()?;
         self.files.remove(name);
         let name = Name::new(name);
-        self.past.push(Call::Remove { name }).unwrap();
+        record(&mut self.past, Call::Remove { name });
         Ok(())
     }
 
@@ -226,7 +236,7 @@ impl Folder for MemoryFolder {
         ensures call { IsCounted self.old self.new }
     {
         self.call()?;
-        self.past.push(Call::Settle).unwrap();
+        record(&mut self.past, Call::Settle);
         Ok(())
     }
 }
