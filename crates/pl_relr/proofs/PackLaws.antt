@@ -1,17 +1,17 @@
 -- A packed table names the places that it was made of.
-use Rattle.std.proofs.Common.{add-one, add-zero, nat_le, nat_lt, ◌&&◌, ◌≡◌, ℕ, zero, suc, ◌+◌, ◌-◌, ◌*◌, ◌/◌, ◌%◌, ◌^◌, ◌<◌, ◌≤◌, List, [], ◌∷◌, ◌++◌, length, take, drop, map, get_or, refl, sym, ap, subst, ◌∙◌, append_assoc, arith, length-drop, true, false, eqb, inl, inr, Ok}
+use Rattle.std.proofs.Common.{Bool, add-one, add-zero, nat_le, nat_lt, ◌&&◌, ◌≡◌, ℕ, zero, suc, ◌+◌, ◌-◌, ◌*◌, ◌/◌, ◌%◌, ◌^◌, ◌<◌, ◌≤◌, List, [], ◌∷◌, ◌++◌, length, take, drop, map, get_or, refl, sym, ap, subst, ◌∙◌, append_assoc, arith, length-drop, true, false, eqb, inl, inr, Ok}
 use Rattle.std.proofs.lemmas.Bool.{cond-true, cond-false, cases_Bool, cases_lt, eqb-true, eq-eqb, and_parts, ltb-true, leb-true}
-use Rattle.std.proofs.lemmas.List.{append-nil, take-append-drop, drop-drop, drop_all, take_all, at_drop_more, get_or-drop}
+use Rattle.std.proofs.lemmas.List.{append-nil, take-append-drop, drop-drop, drop_all, take_all, at_drop_more, at_drop_all, get_or-drop}
 use Rattle.std.proofs.lemmas.List.Sums.{sum_by-cons, take_while-cons}
 use Rattle.std.proofs.lemmas.Nat.{shr_high, pow-add}
 use Rattle.std.proofs.Math.Nat.{pow-succ'}
 use Rattle.std.specs.List.{filter, range_with_len, sum_by, take_while}
 use Rattle.pl_base.specs.Bytes.{bytes64}
 use Rattle.pl_base.specs.Sums.{plus, is_aligned}
-use Rattle.pl_relr.specs.declared.entries.TheConstants.{ENTRY_SIZE, PLACE_SIZE, SPAN, BITS}
+use Rattle.pl_relr.specs.declared.entries.TheConstants.{ENTRY_SIZE, PLACE_SIZE, PLACES_END, SPAN, BITS}
 use Rattle.pl_relr.specs.Entries.{entries, table_of, is_even}
 use Rattle.pl_relr.specs.Places.{place_bits, odd_places, place_of_bit, has_bit, entry_places, following, places_from, places, begins_odd, unpacked}
-use Rattle.pl_relr.specs.Pack.{ArePackable, can_name, bit_of, odd_entry, named_count, packed_from, packed_entries, packed}
+use Rattle.pl_relr.specs.Pack.{follows, is_packable_from, is_packable, ArePackable, can_name, bit_of, odd_entry, named_count, packed_from, packed_entries, packed}
 use Rattle.pl_relr.proofs.EntryLaws.{AreWords, entries-table_of, length-table_of}
 use Rattle.pl_relr.proofs.PlaceLaws.{all_good}
 
@@ -389,3 +389,69 @@ pub none_packed : (table xs : List ℕ) → length xs ≡ 0 → table ≡ [] →
 unfolding packed packed_entries table_of
 none_packed table [] none is = is
 none_packed table (x ∷ xs) none is = absurd (omega arith)
+
+-- ---- the test
+
+follows_from : (next x : ℕ) → follows next x ≡ true → (next ≤ x) × (x < 2 ^ 47) × (x % 2 ≡ 0)
+follows_from next x h =
+    let parts = and_parts (nat_le next x && nat_lt x PLACES_END) (eqb (x % 2) 0) h in
+    let order = and_parts (nat_le next x) (nat_lt x PLACES_END) parts.0 in
+    (leb-true next x order.0, ltb-true x PLACES_END order.1, eqb-true (x % 2) 0 parts.1)
+
+from_test : (next : ℕ) (xs : List ℕ) → is_packable_from next xs ≡ true → AreFrom next xs
+unfolding is_packable_from
+from_test next [] h = tt
+from_test next (x ∷ xs) h =
+    let parts = and_parts (follows next x) (is_packable_from (x + PLACE_SIZE) xs) h in
+    let first = follows_from next x parts.0 in
+    (first.0, first.1, first.2, from_test (x + PLACE_SIZE) xs parts.1)
+
+one_more : (next x : ℕ) (xs : List ℕ) → AreFrom next (x ∷ xs) → ArePackable xs → ArePackable (x ∷ xs)
+one_more next x xs h rest = record {
+  even = evens x xs h rest;
+  low = lows x xs h rest;
+  apart = aparts x xs h rest;
+}
+  where
+    evens : (x : ℕ) (xs : List ℕ) → AreFrom next (x ∷ xs) → ArePackable xs → (i : ℕ) → i < length (x ∷ xs) → get_or (x ∷ xs) i 0 % 2 ≡ 0
+    evens x xs h rest zero lt = h.2
+    evens x xs h rest (suc i) lt = rest.even i (omega arith)
+
+    lows : (x : ℕ) (xs : List ℕ) → AreFrom next (x ∷ xs) → ArePackable xs → (i : ℕ) → i < length (x ∷ xs) → get_or (x ∷ xs) i 0 < PLACES_END
+    lows x xs h rest zero lt = h.1
+    lows x xs h rest (suc i) lt = rest.low i (omega arith)
+
+    aparts : (x : ℕ) (xs : List ℕ) → AreFrom next (x ∷ xs) → ArePackable xs → (i : ℕ) → i + 1 < length (x ∷ xs) → get_or (x ∷ xs) i 0 + PLACE_SIZE ≤ get_or (x ∷ xs) (i + 1) 0
+    aparts x [] h rest i lt = absurd (omega arith)
+    aparts x (y ∷ ys) h rest zero lt = h.3.0
+    aparts x (y ∷ ys) h rest (suc i) lt = let next : suc i + 1 ≡ suc (i + 1) = omega arith in rw next (rest.apart i (omega arith))
+
+packable_from : (next : ℕ) (xs : List ℕ) → AreFrom next xs → ArePackable xs
+packable_from next [] h = record { even = λ i lt. absurd (omega arith); low = λ i lt. absurd (omega arith); apart = λ i lt. absurd (omega arith) }
+packable_from next (x ∷ xs) h = one_more next x xs h (packable_from (x + PLACE_SIZE) xs h.3)
+
+-- places that pass can be packed
+pub are_packable : (xs : List ℕ) → is_packable xs ≡ true → ArePackable xs
+unfolding is_packable
+are_packable xs h = packable_from 0 xs (from_test 0 xs h)
+
+-- the loop of the test
+pub tested_more : (next i x : ℕ) (xs : List ℕ) (whole : Bool) → i < length xs → x ≡ get_or xs i x → follows next x ≡ true → is_packable_from next (drop i xs) ≡ whole → is_packable_from (x + PLACE_SIZE) (drop (i + 1) xs) ≡ whole
+unfolding is_packable_from
+tested_more next i x xs whole lt is passes so_far =
+    let rest = drop (i + 1) xs in
+    let one : is_packable_from next (drop i xs) ≡ is_packable_from (x + PLACE_SIZE) rest =
+    at_drop_more (is_packable_from next) xs i x lt ∙ ap (λ (y : ℕ). follows next y && is_packable_from (y + PLACE_SIZE) rest) (sym is) ∙ rw passes refl in
+    sym one ∙ so_far
+
+pub tested_stops : (next i x : ℕ) (xs : List ℕ) (whole : Bool) → i < length xs → x ≡ get_or xs i x → follows next x ≡ false → is_packable_from next (drop i xs) ≡ whole → false ≡ whole
+unfolding is_packable_from
+tested_stops next i x xs whole lt is fails so_far =
+    let rest = drop (i + 1) xs in
+    let one : is_packable_from next (drop i xs) ≡ false =
+    at_drop_more (is_packable_from next) xs i x lt ∙ ap (λ (y : ℕ). follows next y && is_packable_from (y + PLACE_SIZE) rest) (sym is) ∙ rw fails refl in
+    sym one ∙ so_far
+
+pub tested_all : (next i : ℕ) (xs : List ℕ) (whole : Bool) → length xs ≤ i → is_packable_from next (drop i xs) ≡ whole → true ≡ whole
+unfolding is_packable_from
+tested_all next i xs whole le so_far = sym (at_drop_all (is_packable_from next) xs i le) ∙ so_far

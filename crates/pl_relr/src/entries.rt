@@ -11,6 +11,9 @@ pub const ENTRY_SIZE: usize = 8;
 /// The size of a place, in bytes.
 pub const PLACE_SIZE: u64 = 8;
 
+/// The address that ends the places of user space, 2^47: each place that can be packed lies below it.
+pub const PLACES_END: u64 = 0x8000_0000_0000;
+
 /// How many places an odd entry has bits for.
 pub const BITS: u64 = 63;
 

@@ -7,8 +7,8 @@ mod moving;
 mod packing;
 mod unpacking;
 
-pub use entries::{BITS, ENTRY_SIZE, PLACE_SIZE, SPAN};
+pub use entries::{BITS, ENTRY_SIZE, PLACE_SIZE, PLACES_END, SPAN};
 pub use fault::RelrFault;
 pub use moving::move_table;
-pub use packing::pack;
+pub use packing::{is_packable, pack};
 pub use unpacking::unpack;

@@ -1,12 +1,36 @@
 // The table of places.
 ghost use Rattle.std.specs.Prelude.{◌≡◌, ◌+◌, ◌++◌, ◌<◌, ◌≤◌, ◌^◌, ℕ, true, Ok, length, All, OnOk, IfOk};
+ghost use Rattle.std.specs.Bool.{OnTrue};
 ghost use Rattle.pl_relr.specs.Entries.{table_of};
 ghost use Rattle.pl_relr.specs.Places.{unpacked};
 ghost use Rattle.pl_relr.specs.Pack as spec;
 
-use crate::entries::{PLACE_SIZE, SPAN};
+use crate::entries::{PLACE_SIZE, PLACES_END, SPAN};
 use pl_base::{Rows, push64};
 use std::alloc::{AllocError, Global};
+
+/// Whether a place can follow, where the next one is not to be before an address.
+fn follows(next: u64, place: u64) -> bool
+    ensures { result ≡ spec.follows next place }
+{
+    next <= place && place < PLACES_END && place % 2 == 0
+}
+
+/// Whether `pack` takes places: they are even, ascend, are at least 8 apart, and lie below 2^47. The time grows as their count.
+#[tactic(auto, using(crate::proofs::PackLaws::are_packable), unfolding(crate::specs::Pack::is_packable))]
+pub fn is_packable(places: &[u64]) -> bool
+    ensures value { result ≡ spec.is_packable places.now }
+    ensures facts { OnTrue result (spec.ArePackable places.now) }
+{
+    let mut next = 0;
+    for place in places {
+        if !follows(next, *place) {
+            return false;
+        }
+        next = *place + PLACE_SIZE;
+    }
+    true
+}
 
 /// Whether an odd entry can name a place.
 fn can_name(next: u64, place: u64) -> bool
