@@ -93,13 +93,13 @@ pub const DT_PREINIT_ARRAY: u64 = 32;
 /// Value tag: bytes of DT_PREINIT_ARRAY.
 pub const DT_PREINIT_ARRAYSZ: u64 = 33;
 
-/// Packed tag: bytes of the packed relative relocations.
+/// Value tag: bytes of the packed relative relocations.
 pub const DT_RELRSZ: u64 = 35;
 
-/// Packed tag: the packed relative relocations.
+/// Address tag: the packed relative relocations.
 pub const DT_RELR: u64 = 36;
 
-/// Packed tag: bytes of one word of the packed relative relocations.
+/// Value tag: bytes of one entry of the packed relative relocations.
 pub const DT_RELRENT: u64 = 37;
 
 /// The first of the tags that GNU leaves to values.
@@ -169,7 +169,7 @@ pub const DF_1_NOW: u64 = 0x1;
 pub const DF_1_PIE: u64 = 0x800_0000;
 
 /// The tags whose values are addresses.
-pub const ADDRESS_TAGS: [u64; 15] = [
+pub const ADDRESS_TAGS: [u64; 16] = [
     DT_PLTGOT,
     DT_HASH,
     DT_STRTAB,
@@ -181,6 +181,7 @@ pub const ADDRESS_TAGS: [u64; 15] = [
     DT_INIT_ARRAY,
     DT_FINI_ARRAY,
     DT_PREINIT_ARRAY,
+    DT_RELR,
     DT_GNU_HASH,
     DT_VERSYM,
     DT_VERDEF,
@@ -188,7 +189,7 @@ pub const ADDRESS_TAGS: [u64; 15] = [
 ];
 
 /// The tags whose values are no addresses, beside those from DT_VALRNGLO to DT_VALRNGHI.
-pub const VALUE_TAGS: [u64; 22] = [
+pub const VALUE_TAGS: [u64; 24] = [
     DT_NEEDED,
     DT_PLTRELSZ,
     DT_RELASZ,
@@ -207,6 +208,8 @@ pub const VALUE_TAGS: [u64; 22] = [
     DT_RUNPATH,
     DT_FLAGS,
     DT_PREINIT_ARRAYSZ,
+    DT_RELRSZ,
+    DT_RELRENT,
     DT_RELACOUNT,
     DT_FLAGS_1,
     DT_VERDEFNUM,
@@ -222,6 +225,3 @@ pub const PRELINK_TAGS: [u64; 6] = [
     DT_GNU_CONFLICT,
     DT_GNU_LIBLIST,
 ];
-
-/// The tags of packed relative relocations.
-pub const PACKED_TAGS: [u64; 3] = [DT_RELRSZ, DT_RELR, DT_RELRENT];

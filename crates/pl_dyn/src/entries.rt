@@ -38,9 +38,9 @@ pub fn null_count(table: &[u8]) -> u32
         .count() as u32
 }
 
-/// The entries before the first of tag DT_NULL.
+/// The entries of a dynamic table before the first of tag DT_NULL, in its order (System V gABI chapter 5, "Dynamic Section"); all whole entries where there is none of that tag. Nothing is refused. It fails only for want of memory.
 #[tactic(auto, unfolding(crate::specs::Entries::entries, crate::specs::Entries::tags))]
-pub fn tags(alloc: Global, table: &[u8]) -> Result<Vec<Tag>, AllocError>
+pub fn read_tags(alloc: Global, table: &[u8]) -> Result<Vec<Tag>, AllocError>
     requires { length table.now < 2 ^ 32 }
     ensures { IfOk result (λ v. v.items ≡ spec.tags table.now) }
 {

@@ -3,8 +3,7 @@ ghost use Rattle.std.specs.Prelude.{◌≡◌};
 ghost use Rattle.pl_dyn.specs.Kinds as spec;
 
 use crate::constants::{
-    ADDRESS_TAGS, DT_ADDRRNGHI, DT_ADDRRNGLO, DT_VALRNGHI, DT_VALRNGLO, PACKED_TAGS, PRELINK_TAGS,
-    VALUE_TAGS,
+    ADDRESS_TAGS, DT_ADDRRNGHI, DT_ADDRRNGLO, DT_VALRNGHI, DT_VALRNGLO, PRELINK_TAGS, VALUE_TAGS,
 };
 
 /// Whether a tag is a listed one whose value is an address, which moves with the file. The prelink tags are none of them.
@@ -31,23 +30,12 @@ pub fn is_prelink_tag(number: u64) -> bool
     PRELINK_TAGS.contains(&number)
 }
 
-/// Whether a tag is one of the three of packed relative relocations.
-#[tactic(auto, unfolding(crate::specs::Kinds::is_packed_tag))]
-pub fn is_packed_tag(number: u64) -> bool
-    ensures { result ≡ spec.is_packed_tag number }
-{
-    PACKED_TAGS.contains(&number)
-}
-
-/// Whether a tag is one of the four kinds. DT_NULL is none of them.
+/// Whether a tag is one of the three kinds. DT_NULL is none of them.
 #[tactic(auto, unfolding(crate::specs::Kinds::is_listed))]
 pub fn is_listed(number: u64) -> bool
     ensures { result ≡ spec.is_listed number }
 {
-    is_address_tag(number)
-        || is_value_tag(number)
-        || is_prelink_tag(number)
-        || is_packed_tag(number)
+    is_address_tag(number) || is_value_tag(number) || is_prelink_tag(number)
 }
 
 /// Whether acceptance clause 10 refuses a tag: it is of no kind, or a prelink tag that GNU counts among the addresses.

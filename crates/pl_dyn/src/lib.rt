@@ -11,9 +11,9 @@ mod read;
 mod tags;
 
 pub use dynamic::Dynamic;
-pub use entries::{entry, is_ended};
+pub use entries::{entry, is_ended, read_tags};
 pub use fault::DynFault;
-pub use kinds::{is_address_tag, is_listed, is_packed_tag, is_prelink_tag, is_value_tag};
-pub use lookup::tag;
+pub use kinds::{is_address_tag, is_listed, is_prelink_tag, is_value_tag};
+pub use lookup::{tag, value_of};
 pub use read::read_dynamic;
 pub use tags::Tag;

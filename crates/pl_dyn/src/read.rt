@@ -4,7 +4,7 @@ ghost use Rattle.pl_dyn.specs.Entries.{AreEntries};
 ghost use Rattle.pl_dyn.specs.Read as spec;
 
 use crate::constants::{DT_NEEDED, ENTRY_SIZE};
-use crate::entries::{is_ended, null_count, tags};
+use crate::entries::{is_ended, null_count, read_tags};
 use crate::kinds::is_unknown;
 use crate::{DynFault, Dynamic, Tag};
 use pl_base::Rows;
@@ -43,7 +43,7 @@ pub fn read_dynamic(alloc: Global, table: &[u8]) -> Result<Dynamic, DynFault>
     if !is_ended(table) {
         return Err(DynFault::NoEnd);
     }
-    let tags = tags(alloc, table)?;
+    let tags = read_tags(alloc, table)?;
     if let Some(tag) = first_unknown(&tags) {
         return Err(DynFault::UnknownTag(tag.number));
     }

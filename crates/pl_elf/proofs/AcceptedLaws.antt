@@ -73,6 +73,20 @@ loads_accepted bytes ok =
     fifth_fails (not (h.phentsize == SEGMENT_SIZE)) (not (list_any is_load ss)) (has_second_of_a_kind ss) (list_any (λ s. is_load s && bad_load s) ss) (not (ascend_from 0 (loads ss))) (overlap_in_file ss) (list_any bad_tls ss) all in
     record { ascend = not-false (ascend_from 0 (loads ss)) ascend; fit = any_filtered is_load bad_load ss fit }
 
+-- of seven tests the sixth
+last_but_one_fails : (a b c d e f g : Bool) → (((((a || b) || c) || d) || e) || f || g) ≡ false → f ≡ false
+last_but_one_fails a b c d e f g h =
+    let p1 = or_parts ((((((a || b) || c) || d) || e) || f)) g h in
+    (or_parts (((((a || b) || c) || d) || e)) f p1.0).1
+
+-- no two PT_LOADs share a byte of the file
+pub files_apart : (bytes : List ℕ) → is_ok (read bytes) ≡ true → overlap_in_file (segments bytes (header bytes)) ≡ false
+unfolding bad_segment
+files_apart bytes ok =
+    let h = header bytes in
+    let ss = segments bytes h in
+    last_but_one_fails (not (h.phentsize == SEGMENT_SIZE)) (not (list_any is_load ss)) (has_second_of_a_kind ss) (list_any (λ s. is_load s && bad_load s) ss) (not (ascend_from 0 (loads ss))) (overlap_in_file ss) (list_any bad_tls ss) (segments_pass bytes ok)
+
 -- ---- one PT_LOAD
 
 -- what is known of a PT_LOAD that is not refused by itself: no more bytes in the file than in memory, an alignment, and no address above the limit

@@ -1,8 +1,8 @@
 -- The header, the segments and the sections of a file, as they stand in its bytes (System V gABI, chapters 4 and 5, ELF-64, little-endian).
 use Rattle.std.specs.Prelude.{ℕ, ◌+◌, ◌*◌, ◌≤◌, Bool, ◌==◌, List, length, map, count_by, Option}
-use Rattle.std.specs.List.{range_with_len, filter, find}
+use Rattle.std.specs.List.{range_with_len, filter, find, list_any}
 use Rattle.pl_base.specs.Bytes.{part, word16, word32, word64}
-use Rattle.pl_elf.specs.declared.constants.TheConstants.{EI_NIDENT, SEGMENT_SIZE, SECTION_SIZE, PT_LOAD, PT_DYNAMIC}
+use Rattle.pl_elf.specs.declared.constants.TheConstants.{EI_NIDENT, SEGMENT_SIZE, SECTION_SIZE, PT_LOAD, PT_DYNAMIC, MOVED_SEGMENTS}
 use Rattle.pl_elf.specs.declared.header.Header.{Header}
 use Rattle.pl_elf.specs.declared.segment.Segment.{Segment}
 use Rattle.pl_elf.specs.declared.section.Section.{Section}
@@ -90,6 +90,10 @@ is_load s = is_of_kind PT_LOAD s
 
 abbrev pub is_dynamic : Segment → Bool
 is_dynamic s = is_of_kind PT_DYNAMIC s
+
+-- a kind of segments whose addresses move with the file
+unfoldable pub is_moved_kind : ℕ → Bool
+is_moved_kind kind = list_any (λ k. k == kind) MOVED_SEGMENTS
 
 -- the PT_LOADs, in the order of the table
 abbrev pub loads : List Segment → List Segment

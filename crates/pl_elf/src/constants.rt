@@ -72,14 +72,39 @@ pub const PT_DYNAMIC: u32 = 2;
 /// Segment kind: the path of the program's interpreter.
 pub const PT_INTERP: u32 = 3;
 
+/// Segment kind: notes.
+pub const PT_NOTE: u32 = 4;
+
 /// Segment kind: the program header table itself.
 pub const PT_PHDR: u32 = 6;
 
 /// Segment kind: the initial image of thread-local storage.
 pub const PT_TLS: u32 = 7;
 
+/// Segment kind: the frames of exception handling.
+pub const PT_GNU_EH_FRAME: u32 = 0x6474_e550;
+
 /// Segment kind: permissions of the stack. It has no addresses.
 pub const PT_GNU_STACK: u32 = 0x6474_e551;
+
+/// Segment kind: what is read-only after relocation.
+pub const PT_GNU_RELRO: u32 = 0x6474_e552;
+
+/// Segment kind: properties of the program.
+pub const PT_GNU_PROPERTY: u32 = 0x6474_e553;
+
+/// The kinds of segments whose addresses move with the file.
+pub const MOVED_SEGMENTS: [u32; 9] = [
+    PT_LOAD,
+    PT_DYNAMIC,
+    PT_INTERP,
+    PT_NOTE,
+    PT_PHDR,
+    PT_TLS,
+    PT_GNU_EH_FRAME,
+    PT_GNU_RELRO,
+    PT_GNU_PROPERTY,
+];
 
 /// Section kind: no section.
 pub const SHT_NULL: u32 = 0;
@@ -108,8 +133,14 @@ pub const SHT_NOBITS: u32 = 8;
 /// Section kind: the symbols of the dynamic linker.
 pub const SHT_DYNSYM: u32 = 11;
 
+/// Section kind: packed relative relocations.
+pub const SHT_RELR: u32 = 19;
+
 /// Section kind: a GNU hash table.
 pub const SHT_GNU_HASH: u32 = 0x6fff_fff6;
+
+/// Section kind: the libraries by which a file was prelinked.
+pub const SHT_GNU_LIBLIST: u32 = 0x6fff_fff7;
 
 /// Section kind: versions that are defined.
 pub const SHT_GNU_VERDEF: u32 = 0x6fff_fffd;
@@ -132,11 +163,17 @@ pub const SHF_WRITE: u64 = 0x1;
 /// Section flag: has addresses in memory.
 pub const SHF_ALLOC: u64 = 0x2;
 
+/// Section flag: the initial image of thread-local storage.
+pub const SHF_TLS: u64 = 0x400;
+
 /// Bytes of a 64-bit word, which most relocations change (x86-64 psABI, "Relocation Types", word64).
 pub const WORD64_SIZE: u64 = 8;
 
 /// Bytes of a relocation with addend (gABI chapter 4, "Relocation").
 pub const RELA_SIZE: usize = 24;
+
+/// Bytes of an entry of packed relative relocations (gABI chapter 4, "Relative Relocation Table").
+pub const RELR_SIZE: usize = 8;
 
 /// Relocation type (x86-64 psABI, "Relocation Types"): nothing is done.
 pub const R_X86_64_NONE: u32 = 0;

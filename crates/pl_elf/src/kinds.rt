@@ -3,7 +3,16 @@ ghost use Rattle.std.specs.Prelude.{◌≡◌, IfOk};
 ghost use Rattle.pl_elf.specs.Headers as spec;
 
 use crate::Segment;
+use crate::constants::MOVED_SEGMENTS;
 use std::alloc::{AllocError, Global};
+
+/// Whether the addresses of a segment of a kind move with the file. Those of PT_GNU_STACK and of kinds that System V and GNU do not list stay.
+#[tactic(auto, unfolding(crate::specs::Headers::is_moved_kind))]
+pub fn is_moved_kind(kind: u32) -> bool
+    ensures { result ≡ spec.is_moved_kind kind }
+{
+    MOVED_SEGMENTS.contains(&kind)
+}
 
 /// The PT_LOADs, in the order of the table.
 pub fn loads(alloc: Global, segments: &[Segment]) -> Result<Vec<Segment>, AllocError>

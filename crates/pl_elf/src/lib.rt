@@ -20,7 +20,7 @@ pub use clauses::{has_dynamic, is_static_file};
 pub use fault::HeaderFault;
 pub use header::{Header, header_fields};
 pub use kind::Kind;
-pub use kinds::{count_of_kind, loads, segment_of_kind};
+pub use kinds::{count_of_kind, is_moved_kind, loads, segment_of_kind};
 pub use range::Range;
 pub use read::read_header;
 pub use section::{Section, read_section, read_sections};

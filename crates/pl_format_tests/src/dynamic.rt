@@ -5,7 +5,7 @@ use pl_dyn::constants::{
     DT_STRTAB, DT_SYMENT, DT_SYMTAB, DT_VERDEF, DT_VERDEFNUM, DT_VERNEED, DT_VERSYM,
 };
 use pl_dyn::{
-    DynFault, entry, is_address_tag, is_ended, is_listed, is_packed_tag, is_prelink_tag,
+    DynFault, entry, is_address_tag, is_ended, is_listed, is_prelink_tag,
     is_value_tag, read_dynamic, tag,
 };
 use std::alloc::{AllocError, Global};
@@ -142,7 +142,7 @@ fn refuses_by_the_first_clause(rt: HostRuntime) {
     }
 }
 
-const ADDRESSES: [u64; 15] = [
+const ADDRESSES: [u64; 16] = [
     3,
     4,
     5,
@@ -154,13 +154,14 @@ const ADDRESSES: [u64; 15] = [
     25,
     26,
     32,
+    36,
     0x6fff_fef5,
     0x6fff_fff0,
     0x6fff_fffc,
     0x6fff_fffe,
 ];
 
-const VALUES: [u64; 22] = [
+const VALUES: [u64; 24] = [
     1,
     2,
     8,
@@ -179,6 +180,8 @@ const VALUES: [u64; 22] = [
     29,
     30,
     33,
+    35,
+    37,
     0x6fff_fff9,
     0x6fff_fffb,
     0x6fff_fffd,
@@ -194,14 +197,11 @@ const PRELINK: [u64; 6] = [
     0x6fff_fef9,
 ];
 
-const PACKED: [u64; 3] = [35, 36, 37];
-
-fn kinds(number: u64) -> [bool; 4] {
+fn kinds(number: u64) -> [bool; 3] {
     [
         is_address_tag(number),
         is_value_tag(number),
         is_prelink_tag(number),
-        is_packed_tag(number),
     ]
 }
 
@@ -211,10 +211,9 @@ fn expect_kinds(rt: &impl Abort, first: u64, last: u64) {
             ADDRESSES.contains(&number),
             VALUES.contains(&number) || (0x6fff_fd00..=0x6fff_fdff).contains(&number),
             PRELINK.contains(&number),
-            PACKED.contains(&number),
         ];
         assert!(rt; kinds(number) == wanted, "{number}");
-        assert!(rt; is_listed(number) == (wanted != [false; 4]), "{number}");
+        assert!(rt; is_listed(number) == (wanted != [false; 3]), "{number}");
     }
 }
 

@@ -10,7 +10,7 @@ use Rattle.std.proofs.Math.Bool.{or-false}
 use Rattle.pl_base.specs.Windows.{Window, end_of, share}
 use Rattle.pl_base.specs.Pairs.{any_pair}
 use Rattle.pl_base.proofs.PairLaws.{any_pair_permuted}
-use Rattle.pl_object.specs.PlaceClauses.{meets}
+use Rattle.pl_object.specs.TableClauses.{meets}
 use Rattle.pl_object.specs.declared.crossing.Mark.{Mark}
 use Rattle.pl_object.specs.Crossing.{mark, further, is_met, other, table_after, spot_after, cross}
 use Rattle.pl_object.proofs.SweepLaws.{share_flips}

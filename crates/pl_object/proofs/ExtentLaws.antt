@@ -19,7 +19,7 @@ use Rattle.pl_elf.specs.Headers.{header, segments, sections}
 use Rattle.pl_elf.specs.Clauses.{read, passes, not_elf, other_class, other_machine, other_kind, is_static_file, truncated, segment_passes, section_passes, bad_segment, bad_section, no_sections}
 use Rattle.pl_dyn.specs.declared.tags.Tag.{Tag}
 use Rattle.pl_object.specs.FilePart.{loads_byte, loader, loaded_by, file_window}
-use Rattle.pl_object.specs.Tables.{has_kind, header_window, segments_window, section_window, symtab_windows, dynamic_memory, tables_memory, link_windows, static_windows}
+use Rattle.pl_object.specs.Tables.{has_kind, header_window, segments_window, section_window, symtab_windows, dynamic_memory, tables_memory, relr_memory, link_windows, static_windows}
 use Rattle.pl_object.proofs.FilePartLaws.{loads_parts}
 
 -- ---- what clauses 1 and 5 say
@@ -55,6 +55,7 @@ fifth_fails a b c d e rest h =
 pub record AreInFile (bytes : List ℕ) (h : Header) : Type 0 where
   pub header : HEADER_SIZE ≤ length bytes
   pub table : h.phoff + SEGMENT_SIZE * h.phnum ≤ length bytes
+  pub rows : h.shoff + SECTION_SIZE * h.shnum ≤ length bytes
   pub segments : list_any (segment_passes bytes (is_static_file bytes h)) (segments bytes h) ≡ false
   pub sections : list_any (section_passes bytes) (sections bytes h) ≡ false
 
@@ -68,7 +69,7 @@ not_truncated bytes h long e =
     let p = or_parts (passes bytes h.phoff (SEGMENT_SIZE * h.phnum) || passes bytes h.shoff (SECTION_SIZE * h.shnum) || list_any (segment_passes bytes (is_static_file bytes h)) (segments bytes h)) (list_any (section_passes bytes) (sections bytes h)) e in
     let q = or_parts (passes bytes h.phoff (SEGMENT_SIZE * h.phnum) || passes bytes h.shoff (SECTION_SIZE * h.shnum)) (list_any (segment_passes bytes (is_static_file bytes h)) (segments bytes h)) p.0 in
     let r = or_parts (passes bytes h.phoff (SEGMENT_SIZE * h.phnum)) (passes bytes h.shoff (SECTION_SIZE * h.shnum)) q.0 in
-    record { header = long; table = ltb-false (length bytes) (h.phoff + SEGMENT_SIZE * h.phnum) r.0; segments = q.1; sections = p.1 }
+    record { header = long; table = ltb-false (length bytes) (h.phoff + SEGMENT_SIZE * h.phnum) r.0; rows = ltb-false (length bytes) (h.shoff + SECTION_SIZE * h.shnum) r.1; segments = q.1; sections = p.1 }
 
 pub are_in_file : (bytes : List ℕ) (h : Header) → read bytes ≡ Ok h → AreInFile bytes h
 are_in_file bytes h e =
@@ -137,9 +138,9 @@ link_windows_in bytes h tags e dynamic =
     let loaded = rw dynamic at are.segments in
     let ss = segments bytes h in
     let secs = sections bytes h in
-    both_in (length bytes) (header_window ∷ segments_window h ∷ map (file_window ss) (dynamic_memory ss ∷ tables_memory tags secs)) (map section_window (filter (has_kind SHT_SYMTAB) secs))
+    both_in (length bytes) (header_window ∷ segments_window h ∷ map (file_window ss) (dynamic_memory ss ∷ tables_memory tags secs)) (file_window ss (relr_memory tags) ∷ map section_window (filter (has_kind SHT_SYMTAB) secs))
     (head_in bytes h (map (file_window ss) (dynamic_memory ss ∷ tables_memory tags secs)) are (file_windows_in bytes ss (dynamic_memory ss ∷ tables_memory tags secs) loaded))
-    (symtabs_in bytes secs are.sections)
+    (rw (file_window_in bytes ss (relr_memory tags) loaded) (symtabs_in bytes secs are.sections))
 
 pub static_windows_in : (bytes : List ℕ) (h : Header) → read bytes ≡ Ok h → list_all (is_in (length bytes)) (static_windows h (sections bytes h)) ≡ true
 unfolding static_windows symtab_windows

@@ -3,6 +3,9 @@ pub mod NameLaws
 pub mod LoadLaws
 pub mod ExtentLaws
 pub mod ReadLaws
+pub mod SpanLaws
+pub mod WidthLaws
+pub mod TabledLaws
 pub mod AcceptedLaws
 pub mod FindingLaws
 pub mod SweepLaws

@@ -30,7 +30,7 @@ static_fits bytes f few read =
     rw same_sections (windows_fit (length bytes) _ few (static_windows_in bytes f.header read.accepted))
 
 -- the clauses from 12 on, as far as they have come
-pub dynamic_object_is : (bytes : List ℕ) (f : Headers) (d : Dynamic) (u : Unit {0}) (l : Linking) (places : Layout) → check_tables f.header f.segments f.sections d.tags ≡ Ok u → linking bytes f d.tags ≡ Ok l → places ≡ layout bytes f d.tags l
+pub dynamic_object_is : (bytes : List ℕ) (f : Headers) (d : Dynamic) (u : Unit {0}) (l : Linking) (places : Layout) → check_tables bytes f.header f.segments f.sections d.tags ≡ Ok u → linking bytes f d.tags ≡ Ok l → places ≡ layout bytes f d.tags l
     → dynamic_object bytes f d ≡ checked bytes f d l places
 unfolding dynamic_object
 dynamic_object_is bytes f d u l places tables names is = rw (tables, names, is) refl

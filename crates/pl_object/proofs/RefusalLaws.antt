@@ -100,9 +100,9 @@ linking_tells bytes f tags =
 
 -- ---- the clauses from 9 on
 
-tables_tell : (f : Headers) (tags : List Tag) → Tells is_memory (check_tables f.header f.segments f.sections tags)
+tables_tell : (bytes : List ℕ) (f : Headers) (tags : List Tag) → Tells is_memory (check_tables bytes f.header f.segments f.sections tags)
 unfolding check_tables
-tables_tell f tags = search (rules, unless_tells, ok_tells)
+tables_tell bytes f tags = search (rules, unless_tells, ok_tells)
 
 check_tells : (bytes : List ℕ) (f : Headers) (tags : List Tag) (l : Linking) (places : Layout) → Tells is_memory (check bytes f tags l places)
 unfolding check check_symbols check_relocs check_places check_rest
@@ -111,7 +111,7 @@ check_tells bytes f tags l places = search (rules, unless_tells, found_tells, ei
 dynamic_object_tells : (bytes : List ℕ) (f : Headers) (d : Dynamic) → Tells is_memory (dynamic_object bytes f d)
 unfolding dynamic_object checked
 dynamic_object_tells bytes f d =
-    then_tells is_memory _ _ (tables_tell f d.tags) (λ u. then_tells is_memory _ _ (linking_tells bytes f d.tags)
+    then_tells is_memory _ _ (tables_tell bytes f d.tags) (λ u. then_tells is_memory _ _ (linking_tells bytes f d.tags)
     (λ l. then_tells is_memory _ _ (check_tells bytes f d.tags l (layout bytes f d.tags l)) (λ v. ok_tells is_memory _)))
 
 parts_tell : (bytes : List ℕ) (f : Headers) → Tells is_memory (parts bytes f)

@@ -7,6 +7,7 @@ pub mod Relocations
 pub mod SymbolClauses
 pub mod PlaceClauses
 pub mod Reads
+pub mod Named
 pub mod Accepted
 pub mod Finding
 pub mod Sweep

@@ -1,12 +1,13 @@
 -- What acceptance clauses 23 to 27 and 29 refuse: relocations, and the places that they change.
-use Rattle.std.specs.Prelude.{ℕ, ◌+◌, Bool, false, not, ◌&&◌, ◌||◌, ◌==◌, nat_le, List, [], ◌∷◌, map, fold, find, Option, Some, None, Result, Ok, if◌then◌else◌, pos}
+use Rattle.std.specs.Prelude.{ℕ, ◌+◌, ◌-◌, Bool, false, not, ◌&&◌, ◌||◌, ◌==◌, nat_le, List, [], ◌∷◌, map, fold, find, length, take, drop, Option, Some, None, Result, Ok, if◌then◌else◌, pos}
 use Rattle.std.specs.List.{list_any}
 use Rattle.std.specs.Ordering.{int_eq}
 use Rattle.pl_base.specs.Answers.{refuse, unless_found}
-use Rattle.pl_base.specs.Windows.{Window, end_of, share, any_share}
+use Rattle.pl_base.specs.Windows.{Window, end_of, any_share}
 use Rattle.pl_elf.specs.Headers.{is_load}
 use Rattle.pl_elf.specs.declared.segment.Segment.{Segment}
 use Rattle.pl_object.specs.FilePart.{file_window, in_file_part}
+use Rattle.pl_object.specs.TableClauses.{meets}
 use Rattle.pl_object.specs.Relocations.{places}
 use Rattle.pl_elf.specs.declared.constants.TheConstants.{R_X86_64_COPY, R_X86_64_GLOB_DAT, R_X86_64_JUMP_SLOT}
 use Rattle.pl_object.specs.declared.constants.TheConstants.{RELOC_KINDS}
@@ -47,6 +48,17 @@ is_held program ss memory = in_file_part ss memory || program && is_in_memory me
 unfoldable pub reloc_outside : Bool → List Segment → List Reloc → Bool
 reloc_outside program ss rs = list_any (λ memory. not (is_held program ss memory)) (places rs)
 
+-- so many packed relocations stand last, behind those of the tables of rows
+abbrev pub rows_of : ℕ → List Reloc → List Reloc
+rows_of packed rs = take (length rs - packed) rs
+
+abbrev pub packed_of : ℕ → List Reloc → List Reloc
+packed_of packed rs = drop (length rs - packed) rs
+
+-- a place of a row, or a packed one, which has to be in the file part in a program too
+unfoldable pub any_outside : Bool → List Segment → ℕ → List Reloc → Bool
+any_outside program ss packed rs = reloc_outside program ss (rows_of packed rs) || reloc_outside false ss (packed_of packed rs)
+
 -- ---- 25. RelocOverlap
 
 unfoldable pub reloc_overlap : List Reloc → Bool
@@ -57,10 +69,6 @@ reloc_overlap rs = any_share (places rs)
 -- the file bytes of the places
 unfoldable pub spots : List Segment → List Reloc → List Window
 spots ss rs = map (file_window ss) (places rs)
-
--- a window shares a byte with one of the others
-abbrev pub meets : List Window → Window → Bool
-meets tables w = list_any (share w) tables
 
 -- the file bytes of a place share a byte with a table
 unfoldable pub reloc_in_tables : List Window → List Segment → List Reloc → Bool
@@ -85,13 +93,13 @@ misplaced_copy program rs = list_any (is_misplaced_copy program) rs
 
 -- ---- 23 to 27 in order
 
-unfoldable pub check_places : Bool → List Segment → List Window → List Reloc → Result (Unit {0}) Refusal
-check_places program ss tables rs =
+unfoldable pub check_places : Bool → List Segment → List Window → ℕ → List Reloc → Result (Unit {0}) Refusal
+check_places program ss tables packed rs =
     refuse (
-    (reloc_outside program ss rs, Clause 24 0) ∷ (reloc_overlap rs, Clause 25 0)
+    (any_outside program ss packed rs, Clause 24 0) ∷ (reloc_overlap rs, Clause 25 0)
     ∷ (reloc_in_tables tables ss rs, Clause 26 0) ∷ (odd_addend rs, Clause 27 0) ∷ [])
     (Ok tt)
 
-unfoldable pub check_relocs : Bool → List Segment → List Window → ℕ → List Reloc → Result (Unit {0}) Refusal
-check_relocs program ss tables count rs =
-    unless_found (first_bad count rs) (λ r. Clause 23 r.kind) (check_places program ss tables rs)
+unfoldable pub check_relocs : Bool → List Segment → List Window → ℕ → ℕ → List Reloc → Result (Unit {0}) Refusal
+check_relocs program ss tables count packed rs =
+    unless_found (first_bad count rs) (λ r. Clause 23 r.kind) (check_places program ss tables packed rs)

@@ -1,11 +1,11 @@
 -- One object, or the first acceptance clause that refuses the file.
-use Rattle.std.specs.Prelude.{◌≡◌, ℕ, ◌+◌, Bool, false, not, ◌&&◌, ◌||◌, ◌==◌, nat_lt, max, List, [], ◌∷◌, ◌++◌, map, fold, length, bit_and, Option, Some, None, Result, Ok, Err, if◌then◌else◌, is_some}
+use Rattle.std.specs.Prelude.{◌≡◌, ℕ, ◌+◌, ◌/◌, Bool, false, not, ◌&&◌, ◌||◌, ◌==◌, nat_lt, max, List, [], ◌∷◌, ◌++◌, map, fold, length, bit_and, Option, Some, None, Result, Ok, Err, if◌then◌else◌, is_some}
 use Rattle.std.specs.Option.{option_map}
 use Rattle.pl_base.specs.Answers.{◌>>=◌, refuse, unless, because}
 use Rattle.pl_base.specs.Sums.{round_up}
 use Rattle.pl_elf.specs.Headers.{segments, sections, loads, segment_of_kind}
 use Rattle.pl_elf.specs.Clauses as elf
-use Rattle.pl_elf.specs.declared.constants.TheConstants.{ET_EXEC, ET_DYN, PT_TLS, PT_INTERP, PAGE}
+use Rattle.pl_elf.specs.declared.constants.TheConstants.{ET_EXEC, ET_DYN, PT_TLS, PT_INTERP, PAGE, RELR_SIZE}
 use Rattle.pl_elf.specs.declared.header.Header.{Header}
 use Rattle.pl_elf.specs.declared.segment.Segment.{Segment}
 use Rattle.pl_dyn.specs.Read as dyn
@@ -16,12 +16,14 @@ use Rattle.pl_dyn.specs.declared.fault.DynFault.{DynFault}
 use Rattle.pl_dyn.specs.declared.fault.DynFault.TheVariants as dyn_fault
 use Rattle.pl_sym.specs.declared.symbol.Symbol.{Symbol}
 use Rattle.pl_tls.specs.declared.block.Block.{Block}
+use Rattle.pl_relr.specs.Places.{unpacked}
+use Rattle.pl_relr.specs.declared.fault.RelrFault.{RelrFault}
 use Rattle.pl_object.specs.FilePart.{loaded, in_file_part}
 use Rattle.pl_object.specs.Tables.{has_tag, value, dynamic_memory, rela_memory, jmprel_memory, sections_window, link_windows, static_windows, range_of}
-use Rattle.pl_object.specs.TableClauses.{check_tables}
+use Rattle.pl_object.specs.TableClauses.{check_tables, relr_table}
 use Rattle.pl_object.specs.Names.{strings, needed, symbols, versions, versioned}
 use Rattle.pl_object.specs.SymbolClauses.{hash_tables, check_symbols, has_ifunc}
-use Rattle.pl_object.specs.Relocations.{relocs}
+use Rattle.pl_object.specs.Relocations.{relocs, packed_relocs}
 use Rattle.pl_object.specs.PlaceClauses.{last_load, check_relocs, misplaced_copy}
 use Rattle.pl_object.specs.Refusals.{of_header, of_dynamic}
 use Rattle.pl_object.specs.declared.constants.TheConstants.{ORIGINAL}
@@ -93,16 +95,26 @@ is_symbolic tags = has_tag DT_SYMBOLIC tags || has_flag DT_FLAGS DF_SYMBOLIC tag
 abbrev pub kind_of : Header → Kind
 kind_of h = if h.kind == ET_EXEC then Program else Library
 
--- the relocations of both tables
+-- the addresses that the packed table names, none where clause 14 refuses it
+abbrev pub named_places : Result (List ℕ) RelrFault → List ℕ
+named_places (Ok places) = places
+named_places (Err fault) = []
+
+unfoldable pub packed_places : List ℕ → List Segment → List Tag → List ℕ
+packed_places bytes ss tags = named_places (unpacked (relr_table bytes ss tags) (length bytes / RELR_SIZE))
+
+-- the relocations of both tables of rows, then the packed ones
 unfoldable pub relocations : List ℕ → List Segment → List Tag → List Symbol → List Reloc
 relocations bytes ss tags symbols =
     relocs symbols (loaded bytes ss (rela_memory tags)) ++ relocs symbols (loaded bytes ss (jmprel_memory tags))
+    ++ packed_relocs bytes ss (packed_places bytes ss tags)
 
--- the hash tables, the relocations of both tables, and the link tables
+-- the hash tables, the relocations, and the link tables
 unfoldable pub layout : List ℕ → Headers → List Tag → Linking → Layout
 layout bytes f tags l = record {
   hashes = hash_tables bytes f.segments f.sections tags (length l.symbols);
   relocations = relocations bytes f.segments tags l.symbols;
+  packed = length (packed_places bytes f.segments tags);
   windows = link_windows f.header f.segments f.sections tags;
 }
 
@@ -118,6 +130,7 @@ object f d l places = record {
   versions = l.versions;
   hashes = places.hashes;
   relocations = places.relocations;
+  packed = places.packed;
   tables = map range_of places.windows;
   tls = tls f.segments;
   symbolic = is_symbolic d.tags;
@@ -138,6 +151,7 @@ static_object f = record {
   versions = None;
   hashes = [];
   relocations = [];
+  packed = 0;
   tables = map range_of (static_windows f.header f.sections);
   tls = tls f.segments;
   symbolic = false;
@@ -160,7 +174,7 @@ linking bytes f tags = do
 unfoldable pub check : List ℕ → Headers → List Tag → Linking → Layout → Result (Unit {0}) Refusal
 check bytes f tags l places = do
   _ ← check_symbols (f.header.kind == ET_EXEC) f.segments places.hashes l.versions l.symbols
-  _ ← check_relocs (f.header.kind == ET_EXEC) f.segments (sections_window f.header ∷ places.windows) (length l.symbols) places.relocations
+  _ ← check_relocs (f.header.kind == ET_EXEC) f.segments (sections_window f.header ∷ places.windows) (length l.symbols) places.packed places.relocations
   check_rest bytes f.header f.segments tags l.symbols places.relocations
 
 unfoldable pub checked : List ℕ → Headers → Dynamic → Linking → Layout → Result Object Refusal
@@ -169,7 +183,7 @@ checked bytes f d l places = check bytes f d.tags l places >>= λ _. Ok (object 
 -- 12 to 31: a program or library by its dynamic table
 unfoldable pub dynamic_object : List ℕ → Headers → Dynamic → Result Object Refusal
 dynamic_object bytes f d = do
-  _ ← check_tables f.header f.segments f.sections d.tags
+  _ ← check_tables bytes f.header f.segments f.sections d.tags
   l ← linking bytes f d.tags
   checked bytes f d l (layout bytes f d.tags l)
 

@@ -1,18 +1,18 @@
 -- What acceptance clauses 12 to 14 refuse: tables that do not fit together. The first of them that refuses is the file's fault.
-use Rattle.std.specs.Prelude.{ℕ, ◌%◌, Bool, not, ◌&&◌, ◌||◌, ◌==◌, List, [], ◌∷◌, count_by, Result, Ok, if◌then◌else◌}
+use Rattle.std.specs.Prelude.{ℕ, ◌/◌, ◌%◌, Bool, not, ◌&&◌, ◌||◌, ◌==◌, List, [], ◌∷◌, length, count_by, Result, Ok, is_ok, if◌then◌else◌}
 use Rattle.std.specs.List.{list_any}
 use Rattle.pl_base.specs.Answers.{refuse}
-use Rattle.pl_base.specs.Windows.{any_share}
-use Rattle.pl_elf.specs.declared.constants.TheConstants.{SHT_DYNSYM, RELA_SIZE}
+use Rattle.pl_base.specs.Windows.{Window, share, any_share}
+use Rattle.pl_elf.specs.declared.constants.TheConstants.{SHT_DYNSYM, RELA_SIZE, RELR_SIZE}
 use Rattle.pl_elf.specs.declared.header.Header.{Header}
 use Rattle.pl_elf.specs.declared.segment.Segment.{Segment}
 use Rattle.pl_elf.specs.declared.section.Section.{Section}
-use Rattle.pl_dyn.specs.Kinds.{is_packed_tag}
-use Rattle.pl_dyn.specs.declared.constants.TheConstants.{DT_PLTRELSZ, DT_HASH, DT_STRTAB, DT_SYMTAB, DT_RELA, DT_RELASZ, DT_RELAENT, DT_STRSZ, DT_SYMENT, DT_PLTREL, DT_JMPREL, DT_GNU_HASH, DT_VERSYM, DT_VERDEF, DT_VERNEED}
+use Rattle.pl_dyn.specs.declared.constants.TheConstants.{DT_PLTRELSZ, DT_HASH, DT_STRTAB, DT_SYMTAB, DT_RELA, DT_RELASZ, DT_RELAENT, DT_STRSZ, DT_SYMENT, DT_PLTREL, DT_JMPREL, DT_RELR, DT_RELRSZ, DT_RELRENT, DT_GNU_HASH, DT_VERSYM, DT_VERDEF, DT_VERNEED}
 use Rattle.pl_dyn.specs.declared.tags.Tag.{Tag}
 use Rattle.pl_sym.specs.declared.constants.TheConstants.{SYMBOL_SIZE}
-use Rattle.pl_object.specs.FilePart.{in_file_part}
-use Rattle.pl_object.specs.Tables.{has_tag, value, has_kind, is_lost, tables_memory, main_windows}
+use Rattle.pl_relr.specs.Places.{unpacked}
+use Rattle.pl_object.specs.FilePart.{file_window, in_file_part, loaded}
+use Rattle.pl_object.specs.Tables.{has_tag, value, has_kind, is_lost, tables_memory, relr_memory, main_windows}
 use Rattle.pl_object.specs.declared.refusal.Refusal.{Refusal}
 use Rattle.pl_object.specs.declared.refusal.Refusal.TheVariants.{Clause}
 
@@ -77,13 +77,34 @@ bad_relocation_tables tags = bad_rela tags || bad_jmprel tags
 
 -- ---- 14. Packed
 
-unfoldable pub has_packed : List Tag → Bool
-has_packed tags = list_any (λ tag. is_packed_tag tag.number) tags
+-- the three tags do not stand together, or the size of an entry is another
+unfoldable pub bad_relr_tags : List Tag → Bool
+bad_relr_tags tags = parted DT_RELR DT_RELRSZ tags || parted DT_RELR DT_RELRENT tags || is_other DT_RELRENT RELR_SIZE tags
+
+-- a window shares a byte with one of the others
+abbrev pub meets : List Window → Window → Bool
+meets tables w = list_any (share w) tables
+
+-- the packed table is not in the file part, or overlaps a table of clause 12
+unfoldable pub misplaced_relr : Header → List Segment → List Section → List Tag → Bool
+misplaced_relr h ss sections tags =
+    not (in_file_part ss (relr_memory tags)) || meets (main_windows h ss sections tags) (file_window ss (relr_memory tags))
+
+-- the bytes of the packed table
+abbrev pub relr_table : List ℕ → List Segment → List Tag → List ℕ
+relr_table bytes ss tags = loaded bytes ss (relr_memory tags)
+
+-- the packed table names no places, or more than an eighth of the file's length
+unfoldable pub bad_relr_table : List ℕ → List Segment → List Tag → Bool
+bad_relr_table bytes ss tags = not (is_ok (unpacked (relr_table bytes ss tags) (length bytes / RELR_SIZE)))
+
+unfoldable pub bad_packed : List ℕ → Header → List Segment → List Section → List Tag → Bool
+bad_packed bytes h ss sections tags = bad_relr_tags tags || misplaced_relr h ss sections tags || bad_relr_table bytes ss tags
 
 -- ---- the three in order
 
-unfoldable pub check_tables : Header → List Segment → List Section → List Tag → Result (Unit {0}) Refusal
-check_tables h ss sections tags =
+unfoldable pub check_tables : List ℕ → Header → List Segment → List Section → List Tag → Result (Unit {0}) Refusal
+check_tables bytes h ss sections tags =
     refuse (
-    (bad_tables h ss sections tags, Clause 12 0) ∷ (bad_relocation_tables tags, Clause 13 0) ∷ (has_packed tags, Clause 14 0) ∷ [])
+    (bad_tables h ss sections tags, Clause 12 0) ∷ (bad_relocation_tables tags, Clause 13 0) ∷ (bad_packed bytes h ss sections tags, Clause 14 0) ∷ [])
     (Ok tt)

@@ -10,7 +10,7 @@ use Rattle.pl_elf.specs.declared.section.Section.{Section}
 use Rattle.pl_elf.specs.Ranges.{range_from}
 use Rattle.pl_elf.specs.declared.range.Range.{Range}
 use Rattle.pl_dyn.specs.Read.{value_of}
-use Rattle.pl_dyn.specs.declared.constants.TheConstants.{DT_HASH, DT_STRTAB, DT_SYMTAB, DT_RELA, DT_RELASZ, DT_STRSZ, DT_JMPREL, DT_PLTRELSZ, DT_GNU_HASH, DT_VERSYM, DT_VERDEF, DT_VERNEED}
+use Rattle.pl_dyn.specs.declared.constants.TheConstants.{DT_HASH, DT_STRTAB, DT_SYMTAB, DT_RELA, DT_RELASZ, DT_STRSZ, DT_JMPREL, DT_PLTRELSZ, DT_RELR, DT_RELRSZ, DT_GNU_HASH, DT_VERSYM, DT_VERDEF, DT_VERNEED}
 use Rattle.pl_dyn.specs.declared.tags.Tag.{Tag}
 use Rattle.pl_object.specs.FilePart.{nothing, file_window}
 
@@ -46,6 +46,10 @@ rela_memory tags = tag_memory DT_RELA DT_RELASZ tags
 
 abbrev pub jmprel_memory : List Tag → Window
 jmprel_memory tags = tag_memory DT_JMPREL DT_PLTRELSZ tags
+
+-- the packed relocations, which are no table of `tables_memory`
+abbrev pub relr_memory : List Tag → Window
+relr_memory tags = tag_memory DT_RELR DT_RELRSZ tags
 
 abbrev pub has_kind : ℕ → Section → Bool
 has_kind kind s = s.kind == kind
@@ -110,7 +114,8 @@ main_windows h ss sections tags =
 -- the link tables: a byte of memory that is loaded from one of their bytes belongs to the link alone
 unfoldable pub link_windows : Header → List Segment → List Section → List Tag → List Window
 link_windows h ss sections tags =
-    (header_window ∷ segments_window h ∷ map (file_window ss) (dynamic_memory ss ∷ tables_memory tags sections)) ++ symtab_windows sections
+    (header_window ∷ segments_window h ∷ map (file_window ss) (dynamic_memory ss ∷ tables_memory tags sections))
+    ++ file_window ss (relr_memory tags) ∷ symtab_windows sections
 
 -- those of a static program
 unfoldable pub static_windows : Header → List Section → List Window

@@ -19,16 +19,17 @@ use crate::names::{read_needed, strings, symbols, versioned, versions};
 use crate::parts::{align, check_rest, is_symbolic, kind_of, span, tls, too_large};
 use crate::place_clauses::check_relocs;
 use crate::ranges::ranges_of;
-use crate::relocations::relocs;
+use crate::relocations::{packed_relocs, relocs};
 use crate::symbol_clauses::{check_symbols, hash_tables};
-use crate::table_clauses::check_tables;
+use crate::table_clauses::{check_tables, relr_table};
 use crate::tables::{link_windows, sections_window, static_windows};
 use crate::tags::{dynamic_memory, jmprel_memory, rela_memory};
 use crate::{Object, Refusal, Reloc, Window};
 use pl_base::Rows;
-use pl_dyn::{DynFault, Dynamic, read_dynamic};
-use pl_elf::constants::ET_EXEC;
+use pl_dyn::{DynFault, Dynamic, Tag, read_dynamic};
+use pl_elf::constants::{ET_EXEC, RELR_SIZE};
 use pl_elf::{Header, Kind, Segment, is_static_file, read_header, read_sections, read_segments};
+use pl_relr::{RelrFault, unpack};
 use pl_sym::Symbol;
 use std::alloc::{AllocError, Global};
 
@@ -59,9 +60,10 @@ fn linking(
 {
     let segments = headers.segments.as_slice();
     let sections = headers.sections.as_slice();
-    let needed = read_needed(alloc, dynamic, strings(bytes, segments, dynamic))?;
-    let bare = symbols(alloc, bytes, segments, sections, dynamic)?;
-    let versions = versions(alloc, bytes, segments, sections, dynamic, bare.as_slice())?;
+    let tags = dynamic.tags.as_slice();
+    let needed = read_needed(alloc, dynamic, strings(bytes, segments, tags))?;
+    let bare = symbols(alloc, bytes, segments, sections, tags)?;
+    let versions = versions(alloc, bytes, segments, sections, tags, bare.as_slice())?;
     Ok(Linking {
         needed,
         symbols: versioned(bare, &versions),
@@ -69,28 +71,43 @@ fn linking(
     })
 }
 
-/// The relocations of both tables.
+/// The addresses that the packed table names; none where clause 14 refuses it.
+#[tactic(auto, unfolding(crate::specs::Reads::packed_places))]
+fn packed_places(
+    alloc: Global,
+    bytes: &[u8],
+    segments: &[Segment],
+    tags: &[Tag],
+) -> Result<Rows<u64>, AllocError>
+    requires { length bytes.now < 2 ^ 32 }
+    ensures exact { IfOk result (λ v. v ≡ spec.packed_places bytes.now segments.now tags.now) }
+    ensures few { IfOk result (λ v. length v < 2 ^ 32) }
+{
+    let table = relr_table(bytes, segments, tags);
+    match unpack(alloc, table, (bytes.len() / RELR_SIZE) as u64) {
+        Ok(places) => Ok(places),
+        Err(RelrFault::Packed) => Ok(Rows::new(alloc)),
+        Err(RelrFault::NoMemory) => Err(AllocError),
+    }
+}
+
+/// The relocations of both tables of rows, then those of the packed places.
 #[tactic(auto, unfolding(crate::specs::Reads::relocations))]
 fn relocations(
     alloc: Global,
     bytes: &[u8],
     segments: &[Segment],
-    dynamic: &Dynamic,
+    tags: &[Tag],
     symbols: &[Symbol],
+    packed: &[u64],
 ) -> Result<Vec<Reloc>, AllocError>
-    ensures { IfOk result (λ v. v.items ≡ spec.relocations bytes.now segments.now dynamic.now.tags symbols.now) }
+    requires { packed.now ≡ spec.packed_places bytes.now segments.now tags.now }
+    ensures { IfOk result (λ v. v.items ≡ spec.relocations bytes.now segments.now tags.now symbols.now) }
 {
-    let mut all = relocs(
-        alloc,
-        symbols,
-        loaded(bytes, segments, rela_memory(dynamic)),
-    )?;
-    let slots = relocs(
-        alloc,
-        symbols,
-        loaded(bytes, segments, jmprel_memory(dynamic)),
-    )?;
+    let mut all = relocs(alloc, symbols, loaded(bytes, segments, rela_memory(tags)))?;
+    let slots = relocs(alloc, symbols, loaded(bytes, segments, jmprel_memory(tags)))?;
     all.extend_from_slice(&slots)?;
+    all.extend_from_slice(&packed_relocs(alloc, bytes, segments, packed)?)?;
     Ok(all)
 }
 
@@ -112,28 +129,24 @@ fn layout(
     alloc: Global,
     bytes: &[u8],
     headers: &Headers,
-    dynamic: &Dynamic,
+    tags: &[Tag],
     linking: &Linking,
 ) -> Result<Layout, AllocError>
-    requires { length linking.now.symbols < 2 ^ 32 }
-    ensures { IfOk result (λ layout. layout ≡ spec.layout bytes.now headers.now dynamic.now.tags linking.now) }
+    requires few { length bytes.now < 2 ^ 32 }
+    requires symbols { length linking.now.symbols < 2 ^ 32 }
+    ensures { IfOk result (λ layout. layout ≡ spec.layout bytes.now headers.now tags.now linking.now) }
 {
     let segments = headers.segments.as_slice();
     let sections = headers.sections.as_slice();
     let symbols = linking.symbols.as_slice();
-    let hashes = hash_tables(
-        alloc,
-        bytes,
-        segments,
-        sections,
-        dynamic,
-        symbols.len() as u32,
-    )?;
-    let relocations = relocations(alloc, bytes, segments, dynamic, symbols)?;
-    let windows = link_windows(alloc, &headers.header, segments, sections, dynamic)?;
+    let hashes = hash_tables(alloc, bytes, segments, sections, tags, symbols.len() as u32)?;
+    let packed = packed_places(alloc, bytes, segments, tags)?;
+    let relocations = relocations(alloc, bytes, segments, tags, symbols, packed.as_slice())?;
+    let windows = link_windows(alloc, &headers.header, segments, sections, tags)?;
     Ok(Layout {
         hashes,
         relocations: Rows::from_vec(relocations),
+        packed: packed.len() as u32,
         windows: Rows::from_vec(windows),
     })
 }
@@ -170,9 +183,17 @@ fn check(
         segments,
         &kept,
         symbols.len() as u32,
+        layout.packed,
         relocs,
     )?;
-    check_rest(bytes, &headers.header, segments, dynamic, symbols, relocs)
+    check_rest(
+        bytes,
+        &headers.header,
+        segments,
+        dynamic.tags.as_slice(),
+        symbols,
+        relocs,
+    )
 }
 
 #[tactic(auto, unfolding(crate::specs::Reads::object))]
@@ -200,6 +221,7 @@ fn object(
     let Layout {
         hashes,
         relocations,
+        packed,
         windows,
     } = layout;
     let tables = ranges_of(alloc, windows.as_slice())?;
@@ -217,9 +239,10 @@ fn object(
         versions,
         hashes,
         relocations,
+        packed,
         tables,
         tls,
-        symbolic: is_symbolic(dynamic),
+        symbolic: is_symbolic(dynamic.tags.as_slice()),
         spare: dynamic.spare,
         span,
         align,
@@ -253,6 +276,7 @@ fn static_object(alloc: Global, headers: Headers) -> Result<Object, AllocError>
         versions: None,
         hashes: Rows::new(alloc),
         relocations: Rows::new(alloc),
+        packed: 0,
         tables,
         tls,
         symbolic: false,
@@ -295,13 +319,14 @@ fn dynamic_object(
 {
     check_tables(
         alloc,
+        bytes,
         &headers.header,
         headers.segments.as_slice(),
         headers.sections.as_slice(),
-        dynamic,
+        dynamic.tags.as_slice(),
     )?;
     let linking = linking(alloc, bytes, &headers, dynamic)?;
-    let layout = layout(alloc, bytes, &headers, dynamic, &linking)?;
+    let layout = layout(alloc, bytes, &headers, dynamic.tags.as_slice(), &linking)?;
     checked(alloc, bytes, headers, dynamic, linking, layout)
 }
 

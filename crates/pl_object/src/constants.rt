@@ -6,7 +6,28 @@ use pl_elf::constants::{
 };
 
 /// The greatest size in bytes of a file that is accepted.
-pub const ORIGINAL: usize = 16_777_216;
+pub const ORIGINAL: usize = 67_108_864;
+
+/// The index of the dynamic table among the link tables of an object that has one.
+pub const DYNAMIC_TABLE: usize = 2;
+
+/// The index of the dynamic symbol table among them.
+pub const SYMBOLS_TABLE: usize = 3;
+
+/// The index of the strings among them.
+pub const STRINGS_TABLE: usize = 4;
+
+/// The index of the relocations of DT_RELA among them.
+pub const RELA_TABLE: usize = 5;
+
+/// The index of the relocations of DT_JMPREL among them.
+pub const JMPREL_TABLE: usize = 6;
+
+/// The index of the packed relocations among them.
+pub const PACKED_TABLE: usize = 12;
+
+/// The index of the first SYMTAB section among them.
+pub const FIRST_SYMTAB: usize = 13;
 
 /// The kinds of relocations that an accepted object may have.
 pub const RELOC_KINDS: [u32; 9] = [

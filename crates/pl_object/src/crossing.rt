@@ -4,7 +4,7 @@ ghost use Rattle.std.specs.List.{list_any};
 ghost use Rattle.std.specs.List.Sorted.{IsNonDecreasingBy, IsPermutation};
 ghost use Rattle.pl_base.specs.Windows.{end_of};
 ghost use Rattle.pl_object.specs.FilePart.{nothing};
-ghost use Rattle.pl_object.specs.PlaceClauses.{meets};
+ghost use Rattle.pl_object.specs.TableClauses.{meets};
 ghost use Rattle.pl_object.specs.Crossing as spec;
 
 use crate::Window;

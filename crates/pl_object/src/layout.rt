@@ -7,5 +7,6 @@ use pl_hash::Table;
 pub struct Layout {
     pub hashes: Rows<Table>,
     pub relocations: Rows<Reloc>,
+    pub packed: u32,
     pub windows: Rows<Window>,
 }

@@ -8,6 +8,7 @@ mod file_part;
 mod headers;
 mod layout;
 mod linking;
+mod named;
 mod names;
 mod object;
 mod overlaps;
@@ -19,19 +20,22 @@ mod reloc;
 mod relocations;
 mod symbol_clauses;
 mod table_clauses;
-mod tables;
-mod tags;
+pub mod tables;
+pub mod tags;
 mod twins;
 mod window;
 
 pub use acceptance::accept;
 pub use constants::ORIGINAL;
 pub use file_part::{file_window, in_file_part, loaded};
+pub use named::{
+    dynamic_of, jmprel_of, packed_of, rela_of, strings_of, symbols_of, symtabs_of, window_of,
+};
 pub use names::read_needed;
 pub use object::Object;
 pub use place_clauses::{is_in_segment, last_load};
 pub use refusal::Refusal;
 pub use reloc::Reloc;
-pub use relocations::{place, places};
+pub use relocations::{place, places, raw_width, relocs};
 pub use twins::version_name;
 pub use window::Window;

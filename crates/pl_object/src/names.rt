@@ -61,10 +61,10 @@ pub fn read_needed(alloc: Global, dynamic: &Dynamic, strings: &[u8]) -> Result<R
 
 /// The strings that symbols, needed libraries and versions are named by.
 #[tactic(auto, unfolding(crate::specs::Names::strings))]
-pub fn strings<'a>(bytes: &'a [u8], segments: &[Segment], dynamic: &Dynamic) -> &'a [u8]
-    ensures { result.now ≡ spec.strings bytes.now segments.now dynamic.now.tags }
+pub fn strings<'a>(bytes: &'a [u8], segments: &[Segment], tags: &[Tag]) -> &'a [u8]
+    ensures { result.now ≡ spec.strings bytes.now segments.now tags.now }
 {
-    loaded(bytes, segments, strings_memory(dynamic))
+    loaded(bytes, segments, strings_memory(tags))
 }
 
 /// The symbols, not yet with their versions: clause 16.
@@ -74,30 +74,29 @@ pub fn symbols(
     bytes: &[u8],
     segments: &[Segment],
     sections: &[Section],
-    dynamic: &Dynamic,
+    tags: &[Tag],
 ) -> Result<Rows<Symbol>, Refusal>
-    ensures exact { Answers is_memory result (spec.symbols bytes.now segments.now sections.now dynamic.now.tags) }
+    ensures exact { Answers is_memory result (spec.symbols bytes.now segments.now sections.now tags.now) }
     ensures few { IfOk result (λ symbols. length symbols ≤ length bytes.now) }
 {
-    let table = loaded(bytes, segments, symbols_memory(dynamic, sections));
-    let symbols = read_symbols(alloc, table, strings(bytes, segments, dynamic))?;
+    let table = loaded(bytes, segments, symbols_memory(tags, sections));
+    let symbols = read_symbols(alloc, table, strings(bytes, segments, tags))?;
     Ok(symbols)
 }
 
 #[tactic(auto, unfolding(crate::specs::Names::bad_version_tags))]
-fn bad_version_tags(dynamic: &Dynamic) -> bool
-    ensures { result ≡ spec.bad_version_tags dynamic.now.tags }
+fn bad_version_tags(tags: &[Tag]) -> bool
+    ensures { result ≡ spec.bad_version_tags tags.now }
 {
-    has_tag(dynamic, DT_VERDEF) && !(has_tag(dynamic, DT_VERDEFNUM) && has_tag(dynamic, DT_VERSYM))
-        || has_tag(dynamic, DT_VERNEED)
-            && !(has_tag(dynamic, DT_VERNEEDNUM) && has_tag(dynamic, DT_VERSYM))
+    has_tag(tags, DT_VERDEF) && !(has_tag(tags, DT_VERDEFNUM) && has_tag(tags, DT_VERSYM))
+        || has_tag(tags, DT_VERNEED) && !(has_tag(tags, DT_VERNEEDNUM) && has_tag(tags, DT_VERSYM))
 }
 
-fn record_count(dynamic: &Dynamic, address: u64, count: u64) -> u64
-    ensures { result ≡ spec.record_count address count dynamic.now.tags }
+fn record_count(tags: &[Tag], address: u64, count: u64) -> u64
+    ensures { result ≡ spec.record_count address count tags.now }
 {
-    if has_tag(dynamic, address) {
-        value(dynamic, count)
+    if has_tag(tags, address) {
+        value(tags, count)
     } else {
         0
     }
@@ -117,30 +116,18 @@ fn table_versions(
     bytes: &[u8],
     segments: &[Segment],
     sections: &[Section],
-    dynamic: &Dynamic,
+    tags: &[Tag],
 ) -> Result<Versions, Refusal>
-    ensures { Answers is_memory result (spec.table_versions bytes.now segments.now sections.now dynamic.now.tags) }
+    ensures { Answers is_memory result (spec.table_versions bytes.now segments.now sections.now tags.now) }
 {
     let versions = read_versions(
         alloc,
-        loaded(
-            bytes,
-            segments,
-            section_memory(dynamic, sections, DT_VERSYM),
-        ),
-        loaded(
-            bytes,
-            segments,
-            section_memory(dynamic, sections, DT_VERDEF),
-        ),
-        record_count(dynamic, DT_VERDEF, DT_VERDEFNUM),
-        loaded(
-            bytes,
-            segments,
-            section_memory(dynamic, sections, DT_VERNEED),
-        ),
-        record_count(dynamic, DT_VERNEED, DT_VERNEEDNUM),
-        strings(bytes, segments, dynamic),
+        loaded(bytes, segments, section_memory(tags, sections, DT_VERSYM)),
+        loaded(bytes, segments, section_memory(tags, sections, DT_VERDEF)),
+        record_count(tags, DT_VERDEF, DT_VERDEFNUM),
+        loaded(bytes, segments, section_memory(tags, sections, DT_VERNEED)),
+        record_count(tags, DT_VERNEED, DT_VERNEEDNUM),
+        strings(bytes, segments, tags),
     )?;
     Ok(versions)
 }
@@ -166,22 +153,18 @@ fn known_versions(
     bytes: &[u8],
     segments: &[Segment],
     sections: &[Section],
-    dynamic: &Dynamic,
+    tags: &[Tag],
     symbols: &[Symbol],
 ) -> Result<Option<Versions>, Refusal>
     requires { length symbols.now < 2 ^ 32 }
-    ensures { Answers is_memory result (spec.known_versions bytes.now segments.now sections.now dynamic.now.tags symbols.now) }
+    ensures { Answers is_memory result (spec.known_versions bytes.now segments.now sections.now tags.now symbols.now) }
 {
-    if !has_tag(dynamic, DT_VERSYM) {
+    if !has_tag(tags, DT_VERSYM) {
         return Ok(None);
     }
-    let versions = table_versions(alloc, bytes, segments, sections, dynamic)?;
+    let versions = table_versions(alloc, bytes, segments, sections, tags)?;
     counted(
-        loaded(
-            bytes,
-            segments,
-            section_memory(dynamic, sections, DT_VERSYM),
-        ),
+        loaded(bytes, segments, section_memory(tags, sections, DT_VERSYM)),
         symbols,
         versions,
     )
@@ -194,16 +177,16 @@ pub fn versions(
     bytes: &[u8],
     segments: &[Segment],
     sections: &[Section],
-    dynamic: &Dynamic,
+    tags: &[Tag],
     symbols: &[Symbol],
 ) -> Result<Option<Versions>, Refusal>
     requires { length symbols.now < 2 ^ 32 }
-    ensures { Answers is_memory result (spec.versions bytes.now segments.now sections.now dynamic.now.tags symbols.now) }
+    ensures { Answers is_memory result (spec.versions bytes.now segments.now sections.now tags.now symbols.now) }
 {
-    if bad_version_tags(dynamic) {
+    if bad_version_tags(tags) {
         return Err(Refusal::clause(17));
     }
-    known_versions(alloc, bytes, segments, sections, dynamic, symbols)
+    known_versions(alloc, bytes, segments, sections, tags, symbols)
 }
 
 /// Gives each symbol its version word.

@@ -33,10 +33,13 @@ pub struct Object {
     /// The System V table, then the GNU table, as far as they are there.
     pub hashes: Rows<Table>,
 
-    /// The relocations of DT_RELA, then those of DT_JMPREL.
+    /// The relocations of DT_RELA, then those of DT_JMPREL, then one of kind RELATIVE and symbol 0 for each place that DT_RELR names, with the word at the place as addend.
     pub relocations: Rows<Reloc>,
 
-    /// Where the link tables stand in the file: the header, the program headers, the dynamic table, the symbols, the strings, the relocations of DT_RELA and of DT_JMPREL, the tables of DT_HASH, DT_GNU_HASH, DT_VERSYM, DT_VERDEF and DT_VERNEED, then each SYMTAB section. A table that is absent has no bytes. A static program has the header, the program headers and the SYMTAB sections alone.
+    /// How many of the relocations are packed ones of DT_RELR. They stand last.
+    pub packed: u32,
+
+    /// Where the link tables stand in the file: the header, the program headers, the dynamic table, the symbols, the strings, the relocations of DT_RELA and of DT_JMPREL, the tables of DT_HASH, DT_GNU_HASH, DT_VERSYM, DT_VERDEF and DT_VERNEED, the packed relocations of DT_RELR, then each SYMTAB section. A table that is absent has no bytes. A static program has the header, the program headers and the SYMTAB sections alone.
     pub tables: Rows<Range>,
 
     /// Bytes in memory and alignment of the PT_TLS.

@@ -10,7 +10,7 @@ use crate::symbol_clauses::has_ifunc;
 use crate::tags::{has_tag, value};
 use crate::{Refusal, Reloc};
 use pl_base::round_up;
-use pl_dyn::Dynamic;
+use pl_dyn::Tag;
 use pl_dyn::constants::{DF_1_PIE, DF_SYMBOLIC, DT_FLAGS, DT_FLAGS_1, DT_SONAME, DT_SYMBOLIC};
 use pl_elf::constants::{ADDRESS_LIMIT, ET_DYN, ET_EXEC, PAGE, PT_INTERP, PT_TLS};
 use pl_elf::{Header, Kind, Segment, segment_of_kind};
@@ -62,18 +62,18 @@ pub fn tls(segments: &[Segment]) -> Option<Block>
     }
 }
 
-fn has_flag(dynamic: &Dynamic, number: u64, flag: u64) -> bool
-    ensures { result ≡ spec.has_flag number flag dynamic.now.tags }
+fn has_flag(tags: &[Tag], number: u64, flag: u64) -> bool
+    ensures { result ≡ spec.has_flag number flag tags.now }
 {
-    value(dynamic, number) & flag != 0
+    value(tags, number) & flag != 0
 }
 
 /// Whether an object's own references search it first.
 #[tactic(auto, unfolding(crate::specs::Reads::is_symbolic))]
-pub fn is_symbolic(dynamic: &Dynamic) -> bool
-    ensures { result ≡ spec.is_symbolic dynamic.now.tags }
+pub fn is_symbolic(tags: &[Tag]) -> bool
+    ensures { result ≡ spec.is_symbolic tags.now }
 {
-    has_tag(dynamic, DT_SYMBOLIC) || has_flag(dynamic, DT_FLAGS, DF_SYMBOLIC)
+    has_tag(tags, DT_SYMBOLIC) || has_flag(tags, DT_FLAGS, DF_SYMBOLIC)
 }
 
 /// What an object with a PT_DYNAMIC is.
@@ -97,12 +97,12 @@ pub fn too_large(bytes: &[u8]) -> bool
 
 /// Clause 31.
 #[tactic(auto, unfolding(crate::specs::Reads::is_pie))]
-fn is_pie(header: &Header, segments: &[Segment], dynamic: &Dynamic) -> bool
-    ensures { result ≡ spec.is_pie header.now segments.now dynamic.now.tags }
+fn is_pie(header: &Header, segments: &[Segment], tags: &[Tag]) -> bool
+    ensures { result ≡ spec.is_pie header.now segments.now tags.now }
 {
     header.kind == ET_DYN
-        && (has_flag(dynamic, DT_FLAGS_1, DF_1_PIE)
-            || segment_of_kind(segments, PT_INTERP).is_some() && !has_tag(dynamic, DT_SONAME))
+        && (has_flag(tags, DT_FLAGS_1, DF_1_PIE)
+            || segment_of_kind(segments, PT_INTERP).is_some() && !has_tag(tags, DT_SONAME))
 }
 
 /// The first of clauses 28 to 31 that refuses the file.
@@ -111,11 +111,11 @@ pub fn check_rest(
     bytes: &[u8],
     header: &Header,
     segments: &[Segment],
-    dynamic: &Dynamic,
+    tags: &[Tag],
     symbols: &[Symbol],
     relocs: &[Reloc],
 ) -> Result<(), Refusal>
-    ensures { result ≡ spec.check_rest bytes.now header.now segments.now dynamic.now.tags symbols.now relocs.now }
+    ensures { result ≡ spec.check_rest bytes.now header.now segments.now tags.now symbols.now relocs.now }
 {
     if has_ifunc(symbols) {
         return Err(Refusal::clause(28));
@@ -126,7 +126,7 @@ pub fn check_rest(
     if too_large(bytes) {
         return Err(Refusal::clause(30));
     }
-    if is_pie(header, segments, dynamic) {
+    if is_pie(header, segments, tags) {
         return Err(Refusal::clause(31));
     }
     Ok(())

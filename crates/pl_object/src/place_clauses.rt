@@ -84,7 +84,7 @@ fn is_held(program: bool, segments: &[Segment], last: Option<Segment>, memory: W
     in_file_part(segments, memory) || program && is_in_memory(memory, last)
 }
 
-/// Clause 24.
+/// Whether a place is not where it may be.
 #[tactic(auto, unfolding(crate::specs::PlaceClauses::reloc_outside))]
 fn reloc_outside(program: bool, segments: &[Segment], relocs: &[Reloc]) -> bool
     ensures { result ≡ spec.reloc_outside program segments.now relocs.now }
@@ -94,6 +94,15 @@ fn reloc_outside(program: bool, segments: &[Segment], relocs: &[Reloc]) -> bool
         .iter()
         .map(|reloc| place(reloc))
         .any(|memory| !is_held(program, segments, last, memory))
+}
+
+/// Clause 24, where so many packed relocations stand last.
+#[tactic(auto, unfolding(crate::specs::PlaceClauses::any_outside))]
+fn any_outside(program: bool, segments: &[Segment], packed: u32, relocs: &[Reloc]) -> bool
+    ensures { result ≡ spec.any_outside program segments.now packed relocs.now }
+{
+    let (rows, packed) = relocs.split_at(relocs.len().saturating_sub(packed as usize));
+    reloc_outside(program, segments, rows) || reloc_outside(false, segments, packed)
 }
 
 /// Clause 25.
@@ -171,11 +180,12 @@ fn check_places(
     program: bool,
     segments: &[Segment],
     tables: &[Window],
+    packed: u32,
     relocs: &[Reloc],
 ) -> Result<(), Refusal>
-    ensures { Answers is_memory result (spec.check_places program segments.now tables.now relocs.now) }
+    ensures { Answers is_memory result (spec.check_places program segments.now tables.now packed relocs.now) }
 {
-    if reloc_outside(program, segments, relocs) {
+    if any_outside(program, segments, packed, relocs) {
         return Err(Refusal::clause(24));
     }
     if reloc_overlap(alloc, relocs)? {
@@ -198,9 +208,10 @@ pub fn check_relocs(
     segments: &[Segment],
     tables: &[Window],
     count: u32,
+    packed: u32,
     relocs: &[Reloc],
 ) -> Result<(), Refusal>
-    ensures { Answers is_memory result (spec.check_relocs program segments.now tables.now count relocs.now) }
+    ensures { Answers is_memory result (spec.check_relocs program segments.now tables.now count packed relocs.now) }
 {
     if let Some(reloc) = first_bad(count, relocs) {
         return Err(Refusal::Clause {
@@ -208,5 +219,5 @@ pub fn check_relocs(
             argument: u64::from(reloc.kind),
         });
     }
-    check_places(alloc, program, segments, tables, relocs)
+    check_places(alloc, program, segments, tables, packed, relocs)
 }

@@ -1,11 +1,14 @@
 // The relocations of a table.
-ghost use Rattle.std.specs.Prelude.{◌≡◌, ◌+◌, ◌≤◌, length, slice_get, IfOk};
+ghost use Rattle.std.specs.Prelude.{◌≡◌, ◌+◌, ◌*◌, ◌≤◌, length, slice_get, IfOk};
 ghost use Rattle.pl_object.specs.Relocations as spec;
 
+use crate::file_part::loaded;
 use crate::{Reloc, Window};
 use pl_base::{word32, word64};
-use pl_elf::constants::{R_X86_64_COPY, R_X86_64_NONE, RELA_SIZE, WORD64_SIZE};
+use pl_elf::Segment;
+use pl_elf::constants::{R_X86_64_COPY, R_X86_64_NONE, R_X86_64_RELATIVE, RELA_SIZE, WORD64_SIZE};
 use pl_sym::Symbol;
+use pl_sym::constants::SYMBOL_SIZE;
 use std::alloc::{AllocError, Global};
 
 fn size_of(symbols: &[Symbol], index: u32) -> u64
@@ -26,6 +29,21 @@ fn width(symbols: &[Symbol], kind: u32, symbol: u32) -> u64
     }
     if kind == R_X86_64_COPY {
         return size_of(symbols, symbol);
+    }
+    WORD64_SIZE
+}
+
+/// How many bytes a relocation changes, by the bytes of the symbol table (gABI chapter 4, "Symbol Table"; x86-64 psABI, "Relocation"): none for NONE, for COPY the size of its symbol, whose 24 bytes lie in the table, else a word's 8.
+#[tactic(auto, unfolding(crate::specs::Relocations::raw_width))]
+pub fn raw_width(table: &[u8], kind: u32, symbol: u32) -> u64
+    requires { SYMBOL_SIZE * symbol + SYMBOL_SIZE ≤ length table.now }
+    ensures { result ≡ spec.raw_width table.now kind symbol }
+{
+    if kind == R_X86_64_NONE {
+        return 0;
+    }
+    if kind == R_X86_64_COPY {
+        return word64(table, SYMBOL_SIZE * symbol as usize + 16);
     }
     WORD64_SIZE
 }
@@ -53,6 +71,53 @@ pub fn relocs(alloc: Global, symbols: &[Symbol], table: &[u8]) -> Result<Vec<Rel
 {
     (0..table.len() / RELA_SIZE)
         .map(|index| reloc_at(symbols, table, RELA_SIZE * index))
+        .collect(alloc)
+}
+
+fn word_of(bytes: &[u8]) -> u64
+    ensures { result ≡ spec.word_of bytes.now }
+{
+    if bytes.len() as u64 == WORD64_SIZE {
+        word64(bytes, 0)
+    } else {
+        0
+    }
+}
+
+/// The word of 64 bits that stands in the file at an address of memory; 0 where its 8 bytes are not all in the file part.
+#[tactic(auto, unfolding(crate::specs::Relocations::file_word))]
+fn file_word(bytes: &[u8], segments: &[Segment], address: u64) -> u64
+    ensures { result ≡ spec.file_word bytes.now segments.now address }
+{
+    let place = Window::new(u128::from(address), WORD64_SIZE);
+    word_of(loaded(bytes, segments, place))
+}
+
+fn packed_reloc(bytes: &[u8], segments: &[Segment], address: u64) -> Reloc
+    ensures { result ≡ spec.packed_reloc bytes.now segments.now address }
+{
+    Reloc {
+        address,
+        kind: R_X86_64_RELATIVE,
+        symbol: 0,
+        addend: file_word(bytes, segments, address).cast_signed(),
+        width: WORD64_SIZE,
+    }
+}
+
+/// The relocations of packed places, in their order.
+#[tactic(auto, unfolding(crate::specs::Relocations::packed_relocs))]
+pub fn packed_relocs(
+    alloc: Global,
+    bytes: &[u8],
+    segments: &[Segment],
+    addresses: &[u64],
+) -> Result<Vec<Reloc>, AllocError>
+    ensures { IfOk result (λ v. v.items ≡ spec.packed_relocs bytes.now segments.now addresses.now) }
+{
+    addresses
+        .iter()
+        .map(|address| packed_reloc(bytes, segments, *address))
         .collect(alloc)
 }
 

@@ -13,7 +13,7 @@ use crate::file_part::loaded;
 use crate::tags::{has_tag, section_memory};
 use crate::twins::duplicate_definer;
 use pl_base::Rows;
-use pl_dyn::Dynamic;
+use pl_dyn::Tag;
 use pl_dyn::constants::{DT_GNU_HASH, DT_HASH};
 use pl_elf::constants::{PAGE, PT_LOAD};
 use pl_elf::{Section, Segment, segment_of_kind};
@@ -59,15 +59,15 @@ fn add_hash_table(
     bytes: &[u8],
     segments: &[Segment],
     sections: &[Section],
-    dynamic: &Dynamic,
+    tags: &[Tag],
     count: u32,
     gnu: bool,
     number: u64,
 ) -> Result<(), AllocError>
-    ensures { OnOk result (tables.new ≡ tables.old ++ spec.hash_table bytes.now segments.now sections.now dynamic.now.tags count gnu number) }
+    ensures { OnOk result (tables.new ≡ tables.old ++ spec.hash_table bytes.now segments.now sections.now tags.now count gnu number) }
 {
-    if has_tag(dynamic, number) {
-        let memory = section_memory(dynamic, sections, number);
+    if has_tag(tags, number) {
+        let memory = section_memory(tags, sections, number);
         tables.push(table_of(alloc, loaded(bytes, segments, memory), gnu, count)?)?;
     }
     Ok(())
@@ -80,10 +80,10 @@ pub fn hash_tables(
     bytes: &[u8],
     segments: &[Segment],
     sections: &[Section],
-    dynamic: &Dynamic,
+    tags: &[Tag],
     count: u32,
 ) -> Result<Rows<Table>, AllocError>
-    ensures { IfOk result (λ tables. tables ≡ spec.hash_tables bytes.now segments.now sections.now dynamic.now.tags count) }
+    ensures { IfOk result (λ tables. tables ≡ spec.hash_tables bytes.now segments.now sections.now tags.now count) }
 {
     let mut tables = Rows::new(alloc);
     add_hash_table(
@@ -92,7 +92,7 @@ pub fn hash_tables(
         bytes,
         segments,
         sections,
-        dynamic,
+        tags,
         count,
         false,
         DT_HASH,
@@ -103,7 +103,7 @@ pub fn hash_tables(
         bytes,
         segments,
         sections,
-        dynamic,
+        tags,
         count,
         true,
         DT_GNU_HASH,

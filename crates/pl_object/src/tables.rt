@@ -1,23 +1,27 @@
-// Where the tables of an object stand in the file.
+//! Where the tables of an object stand in the file, as windows of it.
 ghost use Rattle.std.specs.Prelude.{◌≡◌, ◌++◌, map, IfOk};
 ghost use Rattle.pl_object.specs.FilePart as part;
 ghost use Rattle.pl_object.specs.Tables as spec;
 
 use crate::Window;
 use crate::file_part::file_window;
-use crate::tags::{dynamic_memory, jmprel_memory, rela_memory, symbols_memory, tables_memory};
-use pl_dyn::Dynamic;
+use crate::tags::{
+    dynamic_memory, jmprel_memory, rela_memory, relr_memory, symbols_memory, tables_memory,
+};
+use pl_dyn::Tag;
 use pl_elf::constants::{HEADER_SIZE, SECTION_SIZE, SEGMENT_SIZE, SHT_SYMTAB};
 use pl_elf::{Header, Section, Segment};
 use std::alloc::{AllocError, Global};
 
-fn header_window() -> Window
+/// The ELF header.
+pub fn header_window() -> Window
     ensures { result ≡ spec.header_window }
 {
     Window::new(0, HEADER_SIZE as u64)
 }
 
-fn segments_window(header: &Header) -> Window
+/// The program header table.
+pub fn segments_window(header: &Header) -> Window
     ensures { result ≡ spec.segments_window header.now }
 {
     Window::new(
@@ -42,8 +46,9 @@ fn section_window(section: &Section) -> Window
     Window::new(u128::from(section.offset), section.size)
 }
 
+/// Each section of kind SHT_SYMTAB, in the order of the section header table. It fails only for want of memory.
 #[tactic(auto, unfolding(crate::specs::Tables::symtab_windows))]
-fn symtab_windows(alloc: Global, sections: &[Section]) -> Result<Vec<Window>, AllocError>
+pub fn symtab_windows(alloc: Global, sections: &[Section]) -> Result<Vec<Window>, AllocError>
     ensures { IfOk result (λ v. v.items ≡ spec.symtab_windows sections.now) }
 {
     sections
@@ -53,25 +58,25 @@ fn symtab_windows(alloc: Global, sections: &[Section]) -> Result<Vec<Window>, Al
         .collect(alloc)
 }
 
-/// The tables of which no two may overlap in the file.
+/// The tables of which no two may overlap in the file: the ELF header, the program and the section header table, the dynamic table, the symbols, the relocations of DT_RELA and of DT_JMPREL, and each SYMTAB section. It fails only for want of memory.
 #[tactic(auto, unfolding(crate::specs::Tables::main_windows))]
 pub fn main_windows(
     alloc: Global,
     header: &Header,
     segments: &[Segment],
     sections: &[Section],
-    dynamic: &Dynamic,
+    tags: &[Tag],
 ) -> Result<Vec<Window>, AllocError>
-    ensures { IfOk result (λ v. v.items ≡ spec.main_windows header.now segments.now sections.now dynamic.now.tags) }
+    ensures { IfOk result (λ v. v.items ≡ spec.main_windows header.now segments.now sections.now tags.now) }
 {
     let main = [
         header_window(),
         segments_window(header),
         sections_window(header),
         file_window(segments, dynamic_memory(segments)),
-        file_window(segments, symbols_memory(dynamic, sections)),
-        file_window(segments, rela_memory(dynamic)),
-        file_window(segments, jmprel_memory(dynamic)),
+        file_window(segments, symbols_memory(tags, sections)),
+        file_window(segments, rela_memory(tags)),
+        file_window(segments, jmprel_memory(tags)),
     ];
     with_symtabs(alloc, &main, sections)
 }
@@ -102,18 +107,18 @@ fn file_windows(
         .collect(alloc)
 }
 
-/// The link tables of an object with a PT_DYNAMIC in the file.
+/// The link tables of an object with a PT_DYNAMIC in the file, in the order of `Object::tables`. It fails only for want of memory.
 #[tactic(auto, unfolding(crate::specs::Tables::link_windows))]
 pub fn link_windows(
     alloc: Global,
     header: &Header,
     segments: &[Segment],
     sections: &[Section],
-    dynamic: &Dynamic,
+    tags: &[Tag],
 ) -> Result<Vec<Window>, AllocError>
-    ensures { IfOk result (λ v. v.items ≡ spec.link_windows header.now segments.now sections.now dynamic.now.tags) }
+    ensures { IfOk result (λ v. v.items ≡ spec.link_windows header.now segments.now sections.now tags.now) }
 {
-    let named = file_windows(alloc, segments, &tables_memory(dynamic, sections))?;
+    let named = file_windows(alloc, segments, &tables_memory(tags, sections))?;
     let mut windows = Vec::from_array(
         alloc,
         [
@@ -123,10 +128,11 @@ pub fn link_windows(
         ],
     )?;
     windows.extend_from_slice(&named)?;
+    windows.push(file_window(segments, relr_memory(tags)))?;
     with_symtabs(alloc, &windows, sections)
 }
 
-/// The link tables of a static program in the file.
+/// The link tables of a static program in the file. It fails only for want of memory.
 #[tactic(auto, unfolding(crate::specs::Tables::static_windows))]
 pub fn static_windows(
     alloc: Global,

@@ -1,4 +1,4 @@
-// The values of tags, and the windows of memory that they name.
+//! The values of tags of a dynamic table, and the windows of memory that they name (System V gABI chapter 5, "Dynamic Section"). No memory is taken, and nothing is refused.
 ghost use Rattle.std.specs.Prelude.{◌≡◌, find, is_some};
 ghost use Rattle.std.specs.List.{list_any};
 ghost use Rattle.pl_elf.specs.Headers.{segment_of_kind};
@@ -6,28 +6,28 @@ ghost use Rattle.pl_object.specs.Tables as spec;
 
 use crate::Window;
 use pl_dyn::constants::{
-    DT_GNU_HASH, DT_HASH, DT_JMPREL, DT_PLTRELSZ, DT_RELA, DT_RELASZ, DT_STRSZ, DT_STRTAB,
-    DT_SYMTAB, DT_VERDEF, DT_VERNEED, DT_VERSYM,
+    DT_GNU_HASH, DT_HASH, DT_JMPREL, DT_PLTRELSZ, DT_RELA, DT_RELASZ, DT_RELR, DT_RELRSZ, DT_STRSZ,
+    DT_STRTAB, DT_SYMTAB, DT_VERDEF, DT_VERNEED, DT_VERSYM,
 };
-use pl_dyn::{Dynamic, tag};
+use pl_dyn::{Tag, value_of};
 use pl_elf::constants::{PT_DYNAMIC, SHF_ALLOC, SHT_DYNSYM, SHT_NOBITS};
 use pl_elf::{Section, Segment, segment_of_kind};
 
 /// Whether a tag is there.
-pub fn has_tag(dynamic: &Dynamic, number: u64) -> bool
-    ensures { result ≡ spec.has_tag number dynamic.now.tags }
+pub fn has_tag(tags: &[Tag], number: u64) -> bool
+    ensures { result ≡ spec.has_tag number tags.now }
 {
-    tag(dynamic, number).is_some()
+    value_of(tags, number).is_some()
 }
 
 /// A tag's value, 0 where the tag is absent.
-pub fn value(dynamic: &Dynamic, number: u64) -> u64
-    ensures { result ≡ spec.value number dynamic.now.tags }
+pub fn value(tags: &[Tag], number: u64) -> u64
+    ensures { result ≡ spec.value number tags.now }
 {
-    tag(dynamic, number).unwrap_or(0)
+    value_of(tags, number).unwrap_or(0)
 }
 
-/// The bytes in the file of PT_DYNAMIC, as a window of memory.
+/// The bytes in the file of PT_DYNAMIC, as a window of memory; no bytes at 0 where there is none.
 #[tactic(auto, unfolding(crate::specs::Tables::dynamic_memory))]
 pub fn dynamic_memory(segments: &[Segment]) -> Window
     ensures { result ≡ spec.dynamic_memory segments.now }
@@ -39,35 +39,42 @@ pub fn dynamic_memory(segments: &[Segment]) -> Window
 }
 
 #[tactic(auto, unfolding(crate::specs::Tables::tag_memory))]
-fn tag_memory(dynamic: &Dynamic, address: u64, size: u64) -> Window
-    ensures { result ≡ spec.tag_memory address size dynamic.now.tags }
+fn tag_memory(tags: &[Tag], address: u64, size: u64) -> Window
+    ensures { result ≡ spec.tag_memory address size tags.now }
 {
-    if has_tag(dynamic, address) && has_tag(dynamic, size) {
-        Window::new(u128::from(value(dynamic, address)), value(dynamic, size))
+    if has_tag(tags, address) && has_tag(tags, size) {
+        Window::new(u128::from(value(tags, address)), value(tags, size))
     } else {
         Window::new(0, 0)
     }
 }
 
-/// The strings in memory.
-pub fn strings_memory(dynamic: &Dynamic) -> Window
-    ensures { result ≡ spec.strings_memory dynamic.now.tags }
+/// The strings in memory: DT_STRSZ bytes at DT_STRTAB; no bytes at 0 where one of the two is absent.
+pub fn strings_memory(tags: &[Tag]) -> Window
+    ensures { result ≡ spec.strings_memory tags.now }
 {
-    tag_memory(dynamic, DT_STRTAB, DT_STRSZ)
+    tag_memory(tags, DT_STRTAB, DT_STRSZ)
 }
 
-/// The relocations of DT_RELA in memory.
-pub fn rela_memory(dynamic: &Dynamic) -> Window
-    ensures { result ≡ spec.rela_memory dynamic.now.tags }
+/// The relocations of DT_RELA in memory: DT_RELASZ bytes; no bytes at 0 where one of the two is absent.
+pub fn rela_memory(tags: &[Tag]) -> Window
+    ensures { result ≡ spec.rela_memory tags.now }
 {
-    tag_memory(dynamic, DT_RELA, DT_RELASZ)
+    tag_memory(tags, DT_RELA, DT_RELASZ)
 }
 
-/// The relocations of DT_JMPREL in memory.
-pub fn jmprel_memory(dynamic: &Dynamic) -> Window
-    ensures { result ≡ spec.jmprel_memory dynamic.now.tags }
+/// The relocations of DT_JMPREL in memory: DT_PLTRELSZ bytes; no bytes at 0 where one of the two is absent.
+pub fn jmprel_memory(tags: &[Tag]) -> Window
+    ensures { result ≡ spec.jmprel_memory tags.now }
 {
-    tag_memory(dynamic, DT_JMPREL, DT_PLTRELSZ)
+    tag_memory(tags, DT_JMPREL, DT_PLTRELSZ)
+}
+
+/// The packed relocations in memory: DT_RELRSZ bytes at DT_RELR; no bytes at 0 where one of the two is absent.
+pub fn relr_memory(tags: &[Tag]) -> Window
+    ensures { result ≡ spec.relr_memory tags.now }
+{
+    tag_memory(tags, DT_RELR, DT_RELRSZ)
 }
 
 fn first_dynsym(sections: &[Section]) -> Option<Section>
@@ -88,13 +95,13 @@ fn section_size(section: Option<Section>) -> u64
     }
 }
 
-/// The symbols in memory: as many bytes as the DYNSYM section has.
+/// The symbols in memory: as many bytes at DT_SYMTAB as the first DYNSYM section has, none where there is no such section.
 #[tactic(auto, unfolding(crate::specs::Tables::symbols_memory))]
-pub fn symbols_memory(dynamic: &Dynamic, sections: &[Section]) -> Window
-    ensures { result ≡ spec.symbols_memory dynamic.now.tags sections.now }
+pub fn symbols_memory(tags: &[Tag], sections: &[Section]) -> Window
+    ensures { result ≡ spec.symbols_memory tags.now sections.now }
 {
     let size = section_size(first_dynsym(sections));
-    Window::new(u128::from(value(dynamic, DT_SYMTAB)), size)
+    Window::new(u128::from(value(tags, DT_SYMTAB)), size)
 }
 
 #[tactic(auto, unfolding(crate::specs::Tables::begins_at))]
@@ -122,15 +129,15 @@ fn any_at(sections: &[Section], address: u64) -> bool
     sections.iter().any(|section| begins_at(address, section))
 }
 
-/// The table of a tag in memory: as many bytes as the first section has that begins there.
+/// The table of a tag in memory: as many bytes as the first section has that begins there, is loaded, is not SHT_NOBITS and is not empty; no bytes where the tag or such a section is absent.
 #[tactic(auto, unfolding(crate::specs::Tables::section_memory))]
-pub fn section_memory(dynamic: &Dynamic, sections: &[Section], number: u64) -> Window
-    ensures { result ≡ spec.section_memory number dynamic.now.tags sections.now }
+pub fn section_memory(tags: &[Tag], sections: &[Section], number: u64) -> Window
+    ensures { result ≡ spec.section_memory number tags.now sections.now }
 {
-    if !has_tag(dynamic, number) {
+    if !has_tag(tags, number) {
         return Window::new(0, 0);
     }
-    let address = value(dynamic, number);
+    let address = value(tags, number);
     Window::new(
         u128::from(address),
         section_size(first_at(sections, address)),
@@ -139,26 +146,26 @@ pub fn section_memory(dynamic: &Dynamic, sections: &[Section], number: u64) -> W
 
 /// Whether a tag is there and no section begins where it says.
 #[tactic(auto, unfolding(crate::specs::Tables::is_lost))]
-pub fn is_lost(dynamic: &Dynamic, sections: &[Section], number: u64) -> bool
-    ensures { result ≡ spec.is_lost number dynamic.now.tags sections.now }
+pub fn is_lost(tags: &[Tag], sections: &[Section], number: u64) -> bool
+    ensures { result ≡ spec.is_lost number tags.now sections.now }
 {
-    has_tag(dynamic, number) && !any_at(sections, value(dynamic, number))
+    has_tag(tags, number) && !any_at(sections, value(tags, number))
 }
 
-/// The tables that a tag names, in memory.
+/// The tables that a tag names, in memory: the symbols, the strings, the relocations of DT_RELA and of DT_JMPREL, and the tables of DT_HASH, DT_GNU_HASH, DT_VERSYM, DT_VERDEF and DT_VERNEED.
 #[tactic(auto, unfolding(crate::specs::Tables::tables_memory))]
-pub fn tables_memory(dynamic: &Dynamic, sections: &[Section]) -> [Window; 9]
-    ensures { result ≡ spec.tables_memory dynamic.now.tags sections.now }
+pub fn tables_memory(tags: &[Tag], sections: &[Section]) -> [Window; 9]
+    ensures { result ≡ spec.tables_memory tags.now sections.now }
 {
     [
-        symbols_memory(dynamic, sections),
-        strings_memory(dynamic),
-        rela_memory(dynamic),
-        jmprel_memory(dynamic),
-        section_memory(dynamic, sections, DT_HASH),
-        section_memory(dynamic, sections, DT_GNU_HASH),
-        section_memory(dynamic, sections, DT_VERSYM),
-        section_memory(dynamic, sections, DT_VERDEF),
-        section_memory(dynamic, sections, DT_VERNEED),
+        symbols_memory(tags, sections),
+        strings_memory(tags),
+        rela_memory(tags),
+        jmprel_memory(tags),
+        section_memory(tags, sections, DT_HASH),
+        section_memory(tags, sections, DT_GNU_HASH),
+        section_memory(tags, sections, DT_VERSYM),
+        section_memory(tags, sections, DT_VERDEF),
+        section_memory(tags, sections, DT_VERNEED),
     ]
 }

@@ -1,4 +1,4 @@
-//! The section `.gnu.prelink_undo` of a prelinked file, version 1: what brings the original file back.
+//! The section `.gnu.prelink_undo` of a prelinked file, in both versions: what brings the original file back.
 #![tactic(auto)]
 
 mod constants;
@@ -7,7 +7,7 @@ mod read;
 mod undo;
 mod write;
 
-pub use constants::{HEADERS_AT, UNDO_MAGIC};
+pub use constants::{DIGEST_AT, DIGEST_SIZE, HEADERS_AT, UNDO_MAGIC, UNDO_MAGIC_2};
 pub use fault::UndoFault;
 pub use read::read_undo;
 pub use undo::Undo;

@@ -1,3 +1,7 @@
+ghost use Rattle.std.specs.Prelude.{◌≡◌};
+ghost use Rattle.pl_undo.specs.Section as section;
+
+use crate::constants::{DIGEST_AT, DIGEST_SIZE, HEADERS_AT};
 use pl_base::Rows;
 
 /// What a prelinked file keeps of its original.
@@ -20,4 +24,17 @@ pub struct Undo {
 
     /// The original's bytes at the places that were changed.
     pub kept: Rows<u8>,
+
+    /// The original's SHA-256 in version 2 of the section; None in version 1.
+    pub digest: Option<[u8; DIGEST_SIZE]>,
+}
+
+/// Where the headers begin in a section, in bytes.
+pub fn headers_at(digest: &Option<[u8; DIGEST_SIZE]>) -> usize
+    ensures { result ≡ section.headers_at digest.now }
+{
+    match digest {
+        None => DIGEST_AT,
+        Some(_) => HEADERS_AT,
+    }
 }

@@ -3,5 +3,6 @@ use Rattle.pl_object.proofs.acceptance.dynamic_object.Goals as goal
 
 pub returns : goal.returns
 returns c =
-    let tables = rw (c.as_slice.ensures, c.as_slice-2.ensures) at c.in_ok-check_tables.ensures in
-    rw (dynamic_object_is c.args.bytes.now c.args.headers c.args.dynamic.now c.in_ok-check_tables.field-0 c.in_ok-linking.linking c.in_ok-layout.layout tables c.in_ok-linking.ensures.exact c.in_ok-layout.ensures) c.checked.ensures
+    let tables = rw (c.as_slice.ensures, c.as_slice-2.ensures, c.as_slice-3.ensures) at c.in_ok-check_tables.ensures in
+    let layout = rw c.as_slice-4.ensures at c.in_ok-layout.ensures in
+    rw (dynamic_object_is c.args.bytes.now c.args.headers c.args.dynamic.now c.in_ok-check_tables.field-0 c.in_ok-linking.linking c.in_ok-layout.layout tables c.in_ok-linking.ensures.exact layout) c.checked.ensures

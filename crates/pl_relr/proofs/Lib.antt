@@ -1,0 +1,4 @@
+pub mod EntryLaws
+pub mod PlaceLaws
+pub mod PackLaws
+pub mod MoveLaws
