@@ -29,3 +29,5 @@ mod tls;
 mod undo;
 #[cfg(test)]
 mod versions;
+#[cfg(test)]
+mod words;

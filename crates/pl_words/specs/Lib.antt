@@ -1,0 +1,5 @@
+pub mod Line
+pub mod Found
+pub mod Numbers
+pub mod Values
+pub mod Table
