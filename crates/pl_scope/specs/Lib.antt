@@ -1,5 +1,6 @@
 pub mod Walking
 pub mod Walk
+pub mod Members
 pub mod Matching
 pub mod Scope
 pub mod Finds

@@ -4,6 +4,7 @@
 pub mod constants;
 mod fault;
 mod found;
+mod laws;
 mod lookup;
 mod matching;
 mod member;
@@ -15,6 +16,7 @@ mod walks;
 pub use constants::MAX_MEMBERS;
 pub use fault::WalkFault;
 pub use found::Found;
+pub use laws::{members_tell_walks, members_walk_within, walks_are_closed, walks_are_walks};
 pub use lookup::{find, own_symbol};
 pub use member::Member;
 pub use order::Order;
