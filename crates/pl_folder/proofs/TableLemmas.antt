@@ -10,16 +10,14 @@ use Rattle.std.specs.FinMap.{get, insert, from_entries, get-remove, get-from_ent
 use Rattle.std.specs.FinMap as finite
 use Rattle.std.specs.FinMap.Entries.{find, find-append}
 use Rattle.std.proofs.lemmas.Bool.{and_parts, cases_Bool, false≢true}
-use Rattle.std.proofs.lemmas.List.{append-nil, map-append, take-map, drop-map, get_or-map}
+use Rattle.std.proofs.lemmas.List.{take_more, append-nil, map-append, take-map, drop-map, get_or-map}
 use Rattle.std.proofs.lemmas.List.Quantifiers.{position-Some}
 use Rattle.std.proofs.lemmas.Iterator.Adapters.{position_from-zero}
 use Rattle.pl_base.specs.Files.{Files}
 use Rattle.pl_base.proofs.FilesLaws.{same, same_name, equal_files, insert-removed, insert_same}
 use Rattle.pl_folder.specs.declared.file.File.{File}
 use Rattle.pl_folder.specs.Entries.{name_bytes, entry_of, entries_of, are_distinct}
-use Rattle.pl_folder.specs.Calls.{LeavesPrefix, appended, renamed}
-use Rattle.pl_folder.specs.declared.fault.FolderFault.{FolderFault}
-use Rattle.pl_folder.specs.declared.fault.FolderFault.TheVariants.{Failed, NotThere, TooLarge, NoMemory}
+use Rattle.pl_folder.specs.Effects.{appended, renamed}
 
 abbrev pub Entry : Type 0
 Entry = List ℕ × List ℕ
@@ -206,9 +204,12 @@ pub extended : {T E : Type 0} (r : Result T E) (old more new : List ℕ) → new
 extended (Ok x) old more new is = (is, tt)
 extended (Err e) old more new is = (tt, is)
 
--- where nothing changed, no bytes were added
-pub prefix_none : (old new : Files) (name bytes : List ℕ) → is_some (get old name) ≡ true → new ≡ old → (fault : FolderFault) → LeavesPrefix old name bytes new fault
-prefix_none old new name bytes there same Failed = (0, omega arith, same ∙ sym (none_more old name bytes there))
-prefix_none old new name bytes there same NotThere = same
-prefix_none old new name bytes there same TooLarge = same
-prefix_none old new name bytes there same NoMemory = same
+-- a copy more of the files of a table
+pub file_more : (files : List File) (i : ℕ) (d : File) (copies : List File) (copy : File) → i < length files → name_bytes copy.name ≡ name_bytes (get_or files i d).name → copy.bytes.items ≡ (get_or files i d).bytes.items
+    → entries_of copies ≡ entries_of (take i files) → entries_of (copies ++ copy ∷ []) ≡ entries_of (take (i + 1) files)
+file_more files i d copies copy within name_is bytes_are so_far =
+    map-append entry_of copies (copy ∷ [])
+    ∙ ap (λ (es : List Entry). es ++ entry_of copy ∷ []) so_far
+    ∙ ap (λ (name : List ℕ). entries_of (take i files) ++ (name, copy.bytes.items) ∷ []) name_is
+    ∙ ap (λ (bytes : List ℕ). entries_of (take i files) ++ (name_bytes (get_or files i d).name, bytes) ∷ []) bytes_are
+    ∙ sym (ap entries_of (take_more files i d within) ∙ map-append entry_of (take i files) (get_or files i d ∷ []))

@@ -1,48 +1,42 @@
--- What the calls of a folder make of its files, and what a call leaves that did not answer.
-use Rattle.std.specs.Prelude.{◌≡◌, ◌⊎◌, ℕ, ◌≤◌, List, [], ◌++◌, length, take, unwrap_or, ⊤}
-use Rattle.std.specs.FinMap.{get, insert, remove}
-use Rattle.pl_base.specs.Files.{Files}
+-- The calls of a folder, each as one relation between what is seen of it before and after.
+use Rattle.std.specs.Prelude.{◌≡◌, ℕ, ◌≤◌, List, length, map, ⊤, true, All, IfOk, IfErr, Ok, Result, String, Vec, string_bytes}
+use Rattle.std.specs.declared.alloc.Global.{Global}
+use Rattle.std.specs.FinMap.{keys}
+use Rattle.pl_base.specs.Counts.{Counted}
+use Rattle.pl_base.specs.Names.{IsNameLength}
+use Rattle.pl_folder.specs.Effects.{Effect, Idles}
+use Rattle.pl_folder.specs.Seen.{Seen, Ending, ending, is_broken}
+use Rattle.pl_folder.specs.Taken.{Explains, taken}
+use Rattle.pl_folder.specs.declared.TheConstants.{STORED}
 use Rattle.pl_folder.specs.declared.fault.FolderFault.{FolderFault}
 use Rattle.pl_folder.specs.declared.fault.FolderFault.TheVariants.{Failed, NotThere, TooLarge, NoMemory}
 
--- the bytes of a name, none where it is not there
-abbrev pub bytes_at : Files → List ℕ → List ℕ
-bytes_at files name = unwrap_or (get files name) []
+-- A call: it counts a fault exactly where the folder failed, and has this effect on the files and on the disk, where the folder tells them.
+pub record Calls (ending : Ending) (effect : Effect) (old new : Seen) : Type 0 where
+  pub tells : new.tells ≡ old.tells
+  pub records : new.records ≡ old.records
+  pub place : new.place ≡ old.place
+  pub files : old.tells ≡ true → effect.files ending old.files new.files
+  pub disk : old.records ≡ true → effect.disk ending old.disk new.disk
+  pub count : Counted (is_broken ending) old.faults new.faults
 
--- `create`: the name has an empty file
-abbrev pub created : Files → List ℕ → Files
-created files name = insert files name []
+-- the fault of a call that only fails or lacks memory
+abbrev pub IsPlain : FolderFault → Type 0
+IsPlain Failed = ⊤
+IsPlain NotThere = ⊥
+IsPlain TooLarge = ⊥
+IsPlain NoMemory = ⊤
 
--- `append`: the file has these bytes more at its end
-abbrev pub appended : Files → List ℕ → List ℕ → Files
-appended files name bytes = insert files name (bytes_at files name ++ bytes)
+-- `names`: all names, ascending
+pub record GivesNames (result : Result (Vec (String Global) Global) FolderFault) (old new : Seen) : Type 0 where
+  pub names : IfOk result (λ names. old.tells ≡ true → map string_bytes names.items ≡ keys old.files)
+  pub lengths : IfOk result (λ names. All (λ name. IsNameLength (string_bytes name)) names.items)
+  pub plain : IfErr result IsPlain
+  pub calls : Calls (ending result) Idles old new
 
--- `rename`: one name is gone, and the other has its file
-abbrev pub renamed : Files → List ℕ → List ℕ → Files
-renamed files from to = insert (remove files from) to (bytes_at files from)
-
--- why a call gave no answer that only fails or lacks memory: a fault has the reason that is given, such as that the count of faults rose
-abbrev pub Stops : Type 0 → FolderFault → Type 0
-Stops why Failed = why
-Stops why NotThere = ⊥
-Stops why TooLarge = ⊥
-Stops why NoMemory = ⊤
-
--- one fact where the folder failed, and another after any other fault
-abbrev pub IfFailed : Type 0 → Type 0 → FolderFault → Type 0
-IfFailed failed other Failed = failed
-IfFailed failed other NotThere = other
-IfFailed failed other TooLarge = other
-IfFailed failed other NoMemory = other
-
--- P, unless the folder failed
-abbrev pub UnlessFailed : Type 0 → FolderFault → Type 0
-UnlessFailed P = IfFailed ⊤ P
-
--- the files after a fault: where the folder failed the call may be done, else the files are as before
-abbrev pub Leaves : Files → Files → Files → FolderFault → Type 0
-Leaves old done new = IfFailed ((new ≡ old) ⊎ (new ≡ done)) (new ≡ old)
-
--- the files after an append: where the folder failed some first bytes are added, perhaps none or all, else the files are as before
-abbrev pub LeavesPrefix : Files → List ℕ → List ℕ → Files → FolderFault → Type 0
-LeavesPrefix old name bytes new = IfFailed ((n : ℕ) × (n ≤ length bytes) × (new ≡ appended old name (take n bytes))) (new ≡ old)
+-- `take`: the whole file of a name, or why there is none
+pub record Takes (name : List ℕ) (result : Result (Vec ℕ Global) FolderFault) (old new : Seen) : Type 0 where
+  pub bytes : IfOk result (λ bytes. old.tells ≡ true → taken old.files name ≡ Ok bytes.items)
+  pub stored : IfOk result (λ bytes. length bytes.items ≤ STORED)
+  pub explained : IfErr result (Explains old.tells (taken old.files name))
+  pub calls : Calls (ending result) Idles old new

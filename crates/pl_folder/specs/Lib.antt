@@ -1,6 +1,15 @@
 pub mod Calls
+pub mod Chosen
+pub mod Disk
+pub mod Effects
 pub mod Entries
 pub mod FileLists
 pub mod InMemory
+pub mod Kept
 pub mod Replaced
+pub mod Replay
+pub mod Seen
+pub mod Since
+pub mod States
+pub mod Tables
 pub mod Taken

@@ -1,0 +1,26 @@
+use Rattle.std.proofs.Common.{rules, refl, ap, ◌∙◌}
+use Rattle.pl_folder.specs.declared.call.Call.TheVariants.{Settle}
+use Rattle.pl_folder.specs.Disk.{after}
+use Rattle.pl_folder.specs.InMemory.{folder_disk, folder_files}
+use Rattle.pl_folder.specs.States as state
+use Rattle.pl_folder.specs.Tables.{table_files}
+use Rattle.pl_folder.proofs.RecordLemmas.{disk_after, kept_after, settle_kept}
+use Rattle.pl_folder.proofs.memory_folder.MemoryFolderFolder.settle.Goals as goal
+
+pub invariant_of-self : goal.invariant_of-self
+invariant_of-self c = record {
+  room = search rules;
+  made = search rules;
+  kept = kept_after c.call.new.self (Settle) c.record.new.past.items (table_files c.call.new.self.files) c.record.ensures.items (settle_kept c.call.new.self);
+}
+
+pub returns-clause-calls : goal.returns-clause-calls
+returns-clause-calls c = record {
+  tells = refl;
+  records = refl;
+  place = refl;
+  files = λ told. ap table_files c.in_ok-call.ensures.same.0;
+  disk = λ told.
+      disk_after c.args.self.now c.call.new.self (Settle) c.record.new.past.items c.record.ensures.items c.in_ok-call.ensures.open.0 c.in_ok-call.ensures.same.1;
+  count = c.in_ok-call.ensures.count;
+}
