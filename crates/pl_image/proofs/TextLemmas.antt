@@ -6,8 +6,8 @@ use Rattle.std.proofs.lemmas.List.{append-nil, take_more, take_all, drop_more, t
 use Rattle.std.proofs.lemmas.List.Folds.{flat_map-map}
 use Rattle.std.proofs.lemmas.Grind.{flat_map-append}
 use Rattle.pl_base.specs.Memory.{Memory, Piece}
-use Rattle.pl_base.specs.Streams.{GotPrefix}
-use Rattle.pl_base.proofs.StreamLaws.{GotPrefix-more}
+use Rattle.pl_base.specs.Streams.{got_after, GotPrefix}
+use Rattle.pl_base.proofs.StreamLaws.{GotPrefix-more, got_after-got_after}
 use Rattle.pl_image.specs.declared.loaded.Loaded.{Loaded}
 use Rattle.pl_image.specs.Lines.{word_in, unless_zero, word_line, lines_from, word_lines, only, text, IsClear, Passes}
 use Rattle.pl_image.specs.Image.{Image, extent_of, own_memory, byte_of, text_of}
@@ -96,3 +96,11 @@ text_stopped old mid new before between xs empty p q =
     let more : GotPrefix mid new (between ++ []) = GotPrefix-more mid new between [] q in
     let all : before ++ (xs ++ []) ≡ xs = ap (λ (ys : List ℕ). ys ++ (xs ++ [])) empty ∙ append-nil xs in
     subst (GotPrefix old new) all (stopped_behind old mid new before between xs [] p more)
+
+-- it is emptied
+pub text_done : (old mid new : Option (List ℕ)) (before between xs : List ℕ) → before ≡ [] → Passes old mid before between xs → new ≡ got_after mid between → new ≡ got_after old xs
+text_done old mid new before between xs empty p q =
+    q
+    ∙ ap (λ (m : Option (List ℕ)). got_after m between) p.1
+    ∙ got_after-got_after old p.0 between
+    ∙ ap (got_after old) (p.2 ∙ ap (λ (ys : List ℕ). ys ++ xs) empty)

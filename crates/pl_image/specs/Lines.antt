@@ -1,11 +1,15 @@
 -- The lines of the words of a memory, and how they pass through a buffer.
-use Rattle.std.specs.Prelude.{◌≡◌, ◌≤◌, ◌<◌, ℕ, zero, suc, ◌+◌, ◌*◌, ◌^◌, List, [], ◌∷◌, ◌++◌, codes, ◌==◌, if◌then◌else◌, Option, None}
+use Rattle.std.specs.Prelude.{◌≡◌, ◌≤◌, ◌<◌, ℕ, zero, suc, ◌+◌, ◌*◌, ◌^◌, List, [], ◌∷◌, ◌++◌, codes, ◌==◌, if◌then◌else◌, Option, None, is_some, Result, OnOk, OnErr}
 use Rattle.std.specs.List.{list_any, flat_map}
 use Rattle.std.specs.Option.{unwrap_or}
+use Rattle.std.specs.Result.{is_err}
 use Rattle.pl_base.specs.Bytes.{word64}
+use Rattle.pl_base.specs.Counts.{Counted}
 use Rattle.pl_base.specs.Digits.{hex16, line}
 use Rattle.pl_base.specs.Memory.{Memory, read}
-use Rattle.pl_base.specs.Streams.{got_after}
+use Rattle.pl_base.specs.Streams.{got_after, GotPrefix}
+use Rattle.pl_io.specs.Seen.{Output}
+use Rattle.pl_io.specs.declared.failed.Failed.{Failed}
 use Rattle.pl_elf.specs.declared.range.Range.{Range}
 use Rattle.pl_elf.specs.Ranges.{has}
 
@@ -59,3 +63,10 @@ text memory objects = flat_map (λ extents. word_lines (only extents memory)) ob
 -- bytes went through a buffer: of what it held before and these, the first ones are in the sink and the others in the buffer
 abbrev pub Passes : Option (List ℕ) → Option (List ℕ) → List ℕ → List ℕ → List ℕ → Type 0
 Passes old new before after bytes = (flushed : List ℕ) × (new ≡ got_after old flushed) × (flushed ++ after ≡ before ++ bytes)
+
+-- bytes were to go through a buffer; after a fault the sink has got some first bytes of a text
+pub record HasPassed (result : Result (Unit {0}) Failed) (bytes text before after : List ℕ) (old new : Output) : Type 0 where
+  pub passes : OnOk result (Passes old.got new.got before after bytes)
+  pub prefix : OnErr result (GotPrefix old.got new.got text)
+  pub tells : is_some new.got ≡ is_some old.got
+  pub count : Counted (is_err result) old.faults new.faults

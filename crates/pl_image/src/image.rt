@@ -1,11 +1,10 @@
-ghost use Rattle.std.specs.Prelude.{◌≡◌, ◌*◌, ◌/◌, ◌≤◌, ◌<◌, ◌++◌, ◌||◌, fold, true, OnErr, OnOk, IfOk, if◌then◌else◌};
+ghost use Rattle.std.specs.Prelude.{◌≡◌, ◌*◌, ◌/◌, ◌≤◌, ◌<◌, ◌++◌, ◌||◌, fold, true, IfOk, if◌then◌else◌};
 ghost use Rattle.std.specs.List.{list_any};
-ghost use Rattle.pl_base.specs.Counts.{Rose};
 ghost use Rattle.pl_base.specs.Memory.{layered};
-ghost use Rattle.pl_base.specs.Streams.{GotPrefix, got_after};
 ghost use Rattle.pl_image.specs.Image as spec;
 ghost use Rattle.pl_image.specs.Index.{AreTouching, is_touched, laid};
-ghost use Rattle.pl_image.specs.Lines.{IsClear, Passes, byte_in, word_in, word_lines};
+ghost use Rattle.pl_image.specs.Lines.{HasPassed, IsClear, byte_in, word_in, word_lines};
+ghost use Rattle.pl_io.specs.Seen.{HasWrittenAll};
 
 use crate::image_text::{add_word, flush};
 use crate::lines::{Lines, WORDS};
@@ -140,11 +139,9 @@ impl<'a> Image<'a> {
         sink: &mut K,
     ) -> Result<(), Failed>
         requires { spec.AreOwn self.now pieces.now }
-        ensures ok { OnOk result (Passes (K.written sink.old) (K.written sink.new) lines.old.items lines.new.items (word_lines (spec.own_memory self.now pieces.now))) }
-        ensures err { OnErr result (GotPrefix (K.written sink.old) (K.written sink.new) (lines.old.items ++ word_lines (spec.own_memory self.now pieces.now))) }
-        ensures failed { OnErr result (Rose (K.faults sink.old) (K.faults sink.new)) }
-        ensures quiet { OnOk result (K.faults sink.new ≡ K.faults sink.old) }
-        ensures counts { K.faults sink.old ≤ K.faults sink.new }
+        ensures { let text = word_lines (spec.own_memory self.now pieces.now) in
+            HasPassed result text (lines.old.items ++ text)
+            lines.old.items lines.new.items (K.seen sink.old) (K.seen sink.new) }
     {
         let end = pieces_end(pieces);
         let mut number = self.next_word(pieces, 0);
@@ -157,11 +154,8 @@ impl<'a> Image<'a> {
 
     /// Adds the lines of all objects.
     fn add_objects<K: Sink>(&self, lines: &mut Lines, sink: &mut K) -> Result<(), Failed>
-        ensures ok { OnOk result (Passes (K.written sink.old) (K.written sink.new) lines.old.items lines.new.items (spec.text_of self.now)) }
-        ensures err { OnErr result (GotPrefix (K.written sink.old) (K.written sink.new) (lines.old.items ++ spec.text_of self.now)) }
-        ensures failed { OnErr result (Rose (K.faults sink.old) (K.faults sink.new)) }
-        ensures quiet { OnOk result (K.faults sink.new ≡ K.faults sink.old) }
-        ensures counts { K.faults sink.old ≤ K.faults sink.new }
+        ensures { HasPassed result (spec.text_of self.now) (lines.old.items ++ spec.text_of self.now)
+            lines.old.items lines.new.items (K.seen sink.old) (K.seen sink.new) }
     {
         for object in &self.objects {
             self.add_object(object.pieces.as_slice(), lines, sink)?;
@@ -171,11 +165,7 @@ impl<'a> Image<'a> {
 
     /// Writes the lines of the image's words, many at a time: object by object in scope order, and of each, in ascending order, the words at whose addresses it loads a byte that is shown as other than 0. It takes no memory. After a fault some first bytes were written.
     pub fn write_text<K: Sink>(&self, sink: &mut K) -> Result<(), Failed>
-        ensures ok { OnOk result (K.written sink.new ≡ got_after (K.written sink.old) (spec.text_of self.now)) }
-        ensures err { OnErr result (GotPrefix (K.written sink.old) (K.written sink.new) (spec.text_of self.now)) }
-        ensures failed { OnErr result (Rose (K.faults sink.old) (K.faults sink.new)) }
-        ensures quiet { OnOk result (K.faults sink.new ≡ K.faults sink.old) }
-        ensures counts { K.faults sink.old ≤ K.faults sink.new }
+        ensures { HasWrittenAll result (spec.text_of self.now) (K.seen sink.old) (K.seen sink.new) }
     {
         let mut lines = Lines::new();
         self.add_objects(&mut lines, sink)?;

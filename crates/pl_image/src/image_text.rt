@@ -1,20 +1,15 @@
 // Lines of words on their way through a buffer to a sink.
-ghost use Rattle.std.specs.Prelude.{◌≡◌, ◌≤◌, [], OnErr, OnOk};
-ghost use Rattle.pl_base.specs.Counts.{Rose};
-ghost use Rattle.pl_base.specs.Streams.{GotPrefix, got_after};
-ghost use Rattle.pl_image.specs.Lines as spec;
+ghost use Rattle.std.specs.Prelude.{◌≡◌, [], OnOk};
+ghost use Rattle.pl_image.specs.Lines.{HasPassed, unless_zero};
+ghost use Rattle.pl_io.specs.Seen.{HasWrittenAll};
 
 use crate::lines::{LINE, Lines, push_word};
 use pl_io::{Failed, Sink, write_all};
 
 /// Hands the lines to the sink.
 pub fn flush<K: Sink>(lines: &mut Lines, sink: &mut K) -> Result<(), Failed>
-    ensures ok { OnOk result (K.written sink.new ≡ got_after (K.written sink.old) lines.old.items) }
+    ensures wrote { HasWrittenAll result lines.old.items (K.seen sink.old) (K.seen sink.new) }
     ensures empty { OnOk result (lines.new.items ≡ []) }
-    ensures err { OnErr result (GotPrefix (K.written sink.old) (K.written sink.new) lines.old.items) }
-    ensures failed { OnErr result (Rose (K.faults sink.old) (K.faults sink.new)) }
-    ensures quiet { OnOk result (K.faults sink.new ≡ K.faults sink.old) }
-    ensures counts { K.faults sink.old ≤ K.faults sink.new }
 {
     write_all(sink, lines.as_slice())?;
     lines.clear();
@@ -29,11 +24,8 @@ pub fn add_word<K: Sink>(
     address: u64,
     word: u64,
 ) -> Result<(), Failed>
-    ensures ok { OnOk result (spec.Passes (K.written sink.old) (K.written sink.new) lines.old.items lines.new.items (spec.unless_zero address word)) }
-    ensures err { OnErr result (GotPrefix (K.written sink.old) (K.written sink.new) lines.old.items) }
-    ensures failed { OnErr result (Rose (K.faults sink.old) (K.faults sink.new)) }
-    ensures quiet { OnOk result (K.faults sink.new ≡ K.faults sink.old) }
-    ensures counts { K.faults sink.old ≤ K.faults sink.new }
+    ensures { HasPassed result (unless_zero address word) lines.old.items
+        lines.old.items lines.new.items (K.seen sink.old) (K.seen sink.new) }
 {
     if word == 0 {
         return Ok(());

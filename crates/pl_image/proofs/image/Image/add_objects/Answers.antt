@@ -1,4 +1,4 @@
-use Rattle.std.proofs.Common.{◌≡◌, ◌∙◌, ap, subst, List, length, ◌<◌, ◌≤◌, arith}
+use Rattle.std.proofs.Common.{◌≡◌, ◌∙◌, ap, subst, List, length, ◌<◌, ◌≤◌, rules}
 use Rattle.pl_base.proofs.ResultLaws.{OnErr-from}
 use Rattle.pl_image.specs.declared.loaded.Loaded.{Loaded}
 use Rattle.pl_image.specs.Image.{Image, AreLoaded}
@@ -12,29 +12,38 @@ add_object-requires g c =
     let same : c.deref-object-items.result.now ≡ c.args.self.now.objects = c.deref-object-items.ensures.value ∙ ap (λ (i : Image). i.objects) c.self.view_is in
     item_own c.args.self.now c.deref-object-items.result.now c.loop-object.object-index c.object-item.result c.as_slice.result.now are c.loop-object-test.true same c.object-item.is c.as_slice.ensures
 
-pub returns-in_err-add_object-clause-err : goal.returns-in_err-add_object-clause-err
-returns-in_err-add_object-clause-err g c =
-    let written = g.K.Sink.written in
-    let same : c.deref-object-items.result.now ≡ c.args.self.now.objects = c.deref-object-items.ensures.value ∙ ap (λ (i : Image). i.objects) c.self.view_is in
-    OnErr-from _ _ (objects_stopped c.args.self.now (written c.args.sink.now) (written c.loop-object.sink) (written c.add_object.new.sink) c.args.lines.now.items c.loop-object.lines.items c.loop-object.lines.items c.loop-object.object-index
-    c.object-item.result c.as_slice.result.now (subst (λ (os : List Loaded). c.loop-object.object-index < length os) same c.loop-object-test.true)
-    (item_pieces c.args.self.now c.deref-object-items.result.now c.loop-object.object-index c.object-item.result c.as_slice.result.now same c.object-item.is c.as_slice.ensures)
-    c.loop-object.invariant.0 c.in_err-add_object.ensures.err)
+pub returns-in_err-add_object : goal.returns-in_err-add_object
+returns-in_err-add_object g c =
+    let seen = g.K.Sink.seen in
+    let same : c.deref-object-items.result.now ≡ c.args.self.now.objects = c.deref-object-items.ensures.value ∙ ap (λ (i : Image). i.objects) c.self.view_is in record {
+      passes = search rules;
+      prefix = OnErr-from _ _ (objects_stopped c.args.self.now (seen c.args.sink.now).got (seen c.loop-object.sink).got (seen c.add_object.new.sink).got c.args.lines.now.items c.loop-object.lines.items c.loop-object.lines.items c.loop-object.object-index
+          c.object-item.result c.as_slice.result.now (subst (λ (os : List Loaded). c.loop-object.object-index < length os) same c.loop-object-test.true)
+          (item_pieces c.args.self.now c.deref-object-items.result.now c.loop-object.object-index c.object-item.result c.as_slice.result.now same c.object-item.is c.as_slice.ensures)
+          c.loop-object.invariant.passes c.in_err-add_object.ensures.prefix);
+      tells = search rules;
+      count = search rules;
+    }
 
 pub loop-object-preserved : goal.loop-object-preserved
 loop-object-preserved g c =
-    let written = g.K.Sink.written in
-    let same : c.deref-object-items.result.now ≡ c.args.self.now.objects = c.deref-object-items.ensures.value ∙ ap (λ (i : Image). i.objects) c.self.view_is in (
-      objects_more c.args.self.now (written c.args.sink.now) (written c.loop-object.sink) (written c.add_object.new.sink) c.args.lines.now.items c.loop-object.lines.items c.add_object.new.lines.items c.loop-object.object-index
+    let seen = g.K.Sink.seen in
+    let same : c.deref-object-items.result.now ≡ c.args.self.now.objects = c.deref-object-items.ensures.value ∙ ap (λ (i : Image). i.objects) c.self.view_is in record {
+      passes = objects_more c.args.self.now (seen c.args.sink.now).got (seen c.loop-object.sink).got (seen c.add_object.new.sink).got c.args.lines.now.items c.loop-object.lines.items c.add_object.new.lines.items c.loop-object.object-index
           c.object-item.result c.as_slice.result.now (subst (λ (os : List Loaded). c.loop-object.object-index < length os) same c.loop-object-test.true)
           (item_pieces c.args.self.now c.deref-object-items.result.now c.loop-object.object-index c.object-item.result c.as_slice.result.now same c.object-item.is c.as_slice.ensures)
-          c.loop-object.invariant.0 c.in_ok-add_object.ensures.ok,
-      omega (arith, c.loop-object.invariant.1, c.in_ok-add_object.ensures.quiet),
-    )
+          c.loop-object.invariant.passes c.in_ok-add_object.ensures.passes;
+      tells = search rules;
+      quiet = search rules;
+    }
 
-pub returns-clause-ok : goal.returns-clause-ok
-returns-clause-ok g c =
-    let written = g.K.Sink.written in
-    let same : c.deref-object-items.result.now ≡ c.args.self.now.objects = c.deref-object-items.ensures.value ∙ ap (λ (i : Image). i.objects) c.self.view_is in
-    objects_done c.args.self.now (written c.args.sink.now) (written c.args.sink.now) (written c.loop-object.sink) c.args.lines.now.items c.args.lines.now.items c.loop-object.lines.items c.loop-object.object-index
-    (subst (λ (os : List Loaded). length os ≤ c.loop-object.object-index) same c.loop-object-test.false) c.loop-object.invariant.0
+pub returns : goal.returns
+returns g c =
+    let seen = g.K.Sink.seen in
+    let same : c.deref-object-items.result.now ≡ c.args.self.now.objects = c.deref-object-items.ensures.value ∙ ap (λ (i : Image). i.objects) c.self.view_is in record {
+      passes = objects_done c.args.self.now (seen c.args.sink.now).got (seen c.args.sink.now).got (seen c.loop-object.sink).got c.args.lines.now.items c.args.lines.now.items c.loop-object.lines.items c.loop-object.object-index
+          (subst (λ (os : List Loaded). length os ≤ c.loop-object.object-index) same c.loop-object-test.false) c.loop-object.invariant.passes;
+      prefix = search rules;
+      tells = search rules;
+      count = search rules;
+    }
