@@ -1,4 +1,11 @@
 pub mod WalkLaws
 pub mod TellsLaws
+pub mod AcceptedLaws
 pub mod MemberLaws
+pub mod PlaceLaws
+pub mod TableLaws
+pub mod MatchingLaws
+pub mod LeastLaws
 pub mod SearchLaws
+pub mod FoundLaws
+pub mod KeptLaws

@@ -1,5 +1,7 @@
 pub mod Walking
 pub mod Walk
-pub mod Matching
 pub mod Scope
+pub mod Matching
+pub mod Probing
 pub mod Finds
+pub mod Kept
