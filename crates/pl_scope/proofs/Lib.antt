@@ -1,8 +1,15 @@
 pub mod WalkLaws
 pub mod TellsLaws
+pub mod AcceptedLaws
 pub mod MemberLaws
+pub mod PlaceLaws
+pub mod TableLaws
+pub mod MatchingLaws
+pub mod LeastLaws
 pub mod SearchLaws
 pub mod NameLaws
 pub mod StepLaws
 pub mod ClosureLaws
 pub mod WalkedLaws
+pub mod FoundLaws
+pub mod KeptLaws

@@ -1,6 +1,8 @@
 pub mod Walking
 pub mod Walk
 pub mod Members
-pub mod Matching
 pub mod Scope
+pub mod Matching
+pub mod Probing
 pub mod Finds
+pub mod Kept

@@ -1,28 +1,48 @@
--- A scope as a list, and what a search asks of it.
-use Rattle.std.specs.Prelude.{ℕ, ◌<◌, ◌≤◌, ◌^◌, List, map, length, slice_index_or}
-use Rattle.std.specs.List.{All}
+-- A scope as a list, and what is known of its objects.
+use Rattle.std.specs.Prelude.{◌≡◌, ◌<◌, ◌≤◌, ◌^◌, ℕ, false, List, Some, Ok, map, length, slice_get}
+use Rattle.std.specs.List.{All, list_any}
+use Rattle.pl_object.specs.PlaceClauses.{is_bad}
+use Rattle.pl_object.specs.Reads.{reads}
+use Rattle.pl_object.specs.SymbolClauses.{hash_incomplete}
 use Rattle.pl_object.specs.declared.object.Object.{Object}
 use Rattle.pl_scope.specs.Walk.{Walked}
 use Rattle.pl_scope.specs.declared.constants.TheConstants.{MAX_MEMBERS}
 use Rattle.pl_scope.specs.declared.member.Member.{Member}
 
--- the members' objects, in order
-abbrev pub objects : List Member → List Object
-objects members = map (λ m. m.object.now) members
-
--- the members' names with their objects
+-- the members' names with their objects, in order
 abbrev pub walked : List Member → Walked
 walked members = map (λ m. (m.name, m.object.now)) members
 
--- the count of symbols has 32 bits, as in each accepted object
-abbrev pub HasFewSymbols : Object → Type 0
-HasFewSymbols o = length o.symbols < 2 ^ 32
+-- the objects of names with their objects
+abbrev pub objects : Walked → List Object
+objects members = map (λ m. m.1) members
 
-pub record IsScope (members : List Member) : Type 0 where
-  pub few : length members ≤ MAX_MEMBERS
-  pub symbols : All (λ m. HasFewSymbols m.object.now) members
+-- ---- accepted objects
+
+-- acceptance reads the object in some file
+pub record IsAccepted (o : Object) : Type 0 where
+  pub bytes : List ℕ
+  pub size : length bytes < 2 ^ 32
+  pub read : reads bytes ≡ Ok o
+
+-- what a search rests on, as each accepted object has it
+pub record IsFit (o : Object) : Type 0 where
+  -- an index of a symbol has 32 bits
+  pub few : length o.symbols < 2 ^ 32
+  -- the hash tables are of all symbols,
+  pub tables : All (λ t. t.symbols ≡ length o.symbols) o.hashes
+  -- are well formed, and lead to each symbol that defines its name for every reference
+  pub hashed : hash_incomplete o.hashes o.symbols ≡ false
+  -- each relocation's symbol is one of the object's
+  pub relocs : list_any (is_bad (length o.symbols)) o.relocations ≡ false
+
+-- ---- scopes
+
+pub record IsScope (objects : List Object) : Type 0 where
+  pub few : length objects ≤ MAX_MEMBERS
+  pub fit : All IsFit objects
 
 -- the index of a member, and that of one of its symbols
-pub record IsSymbol (members : List Member) (m s : ℕ) : Type 0 where
-  pub member : m < length members
-  pub symbol : (d : Member) → s < length (slice_index_or members m d).object.now.symbols
+pub record IsSymbol (objects : List Object) (m s : ℕ) : Type 0 where
+  pub member : m < length objects
+  pub symbol : (o : Object) → slice_get objects m ≡ Some o → s < length o.symbols

@@ -1,23 +1,28 @@
 //! Scopes: the walk over needed libraries, and the look-up of symbols (System V gABI, chapter 5, "Shared Object Dependencies"; GNU symbol versioning).
 #![tactic(auto)]
 
+mod answers;
 pub mod constants;
 mod fault;
 mod found;
+mod kept;
 mod laws;
 mod lookup;
 mod matching;
 mod member;
 mod order;
+mod probe;
 mod reference;
 mod scope;
 mod walks;
+mod wanted;
 
 pub use constants::MAX_MEMBERS;
 pub use fault::WalkFault;
 pub use found::Found;
+pub use kept::Kept;
 pub use laws::{members_tell_walks, members_walk_within, walks_are_closed, walks_are_walks};
-pub use lookup::{find, own_symbol};
+pub use lookup::{find, find_in_lists, own_symbol};
 pub use member::Member;
 pub use order::Order;
 pub use reference::Reference;

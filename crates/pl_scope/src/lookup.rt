@@ -1,16 +1,20 @@
+// The definer that a reference finds.
 ghost use Rattle.std.specs.Prelude.{◌≡◌, ◌<◌, length, IfSome, Some};
+ghost use Rattle.std.specs.List.{list_any};
 ghost use Rattle.std.specs.Option.{option_map};
-ghost use Rattle.pl_scope.specs.Scope.{objects, IsScope, IsSymbol};
+ghost use Rattle.pl_scope.specs.Scope.{objects, IsFit, IsSymbol};
+ghost use Rattle.pl_scope.specs.Matching.{matching};
+ghost use Rattle.pl_scope.specs.Probing as probing;
 ghost use Rattle.pl_scope.specs.Finds as spec;
 
-use crate::matching::matching;
+use crate::matching::{defines, matching};
+use crate::probe::matching_by_table;
+use crate::wanted::{Wanted, Way, wanted_by};
 use crate::{Found, Reference, Scope};
-use pl_elf::constants::{R_X86_64_COPY, R_X86_64_JUMP_SLOT};
-use pl_object::{Object, version_name};
+use pl_elf::constants::R_X86_64_COPY;
+use pl_object::Object;
 use pl_sym::constants::STV_DEFAULT;
 use pl_sym::{Class, Symbol};
-use pl_ver::constants::VER_NDX_GLOBAL;
-use pl_ver::index_of;
 
 #[tactic(auto, unfolding(crate::specs::Finds::binds_itself))]
 fn binds_itself(symbol: &Symbol) -> bool
@@ -19,67 +23,88 @@ fn binds_itself(symbol: &Symbol) -> bool
     symbol.is_local() || (symbol.visibility != STV_DEFAULT && !symbol.is_undefined())
 }
 
-#[tactic(auto, unfolding(crate::specs::Finds::class_of))]
-fn class_of(kind: u32) -> Class
-    ensures { result ≡ spec.class_of kind }
+fn is_canonical_of(object: &Object, name: &[u8], symbol: &Symbol) -> bool
+    ensures { result ≡ probing.is_canonical_of object.now name.now symbol.now }
 {
-    if kind == R_X86_64_JUMP_SLOT {
-        Class::Jump
-    } else {
-        Class::Other
+    defines(object, name, Class::Other, symbol) && !defines(object, name, Class::Jump, symbol)
+}
+
+fn any_canonical(object: &Object, name: &[u8]) -> bool
+    ensures { result ≡ list_any (probing.is_canonical_of object.now name.now) object.now.symbols }
+{
+    object
+        .symbols
+        .as_slice()
+        .iter()
+        .any(|symbol| is_canonical_of(object, name, symbol))
+}
+
+fn is_other(class: Class) -> bool
+    ensures { result ≡ probing.is_other class }
+{
+    match class {
+        Class::Jump => false,
+        Class::Other => true,
     }
 }
 
-#[tactic(auto, unfolding(crate::specs::Finds::version_wanted))]
-fn version_wanted<'a>(object: &'a Object, symbol: &Symbol) -> Option<&'a [u8]>
-    ensures { option_map (λ name. name.now) result ≡ spec.version_wanted object.now symbol.now }
+/// Whether a program has a canonical address of the name, for references of a class. No table need lead to it.
+#[tactic(auto, unfolding(crate::specs::Probing::has_canonical))]
+fn has_canonical(object: &Object, name: &[u8], class: Class) -> bool
+    ensures { result ≡ probing.has_canonical object.now name.now class }
 {
-    if index_of(symbol.version) > VER_NDX_GLOBAL {
-        version_name(&object.versions, symbol.version)
-    } else {
-        None
+    is_other(class) && object.kind.is_program() && any_canonical(object, name)
+}
+
+/// The index of an object's symbol that matches, by a search through all its symbols.
+fn matching_by_list(object: &Object, wanted: &Wanted<'_>) -> Option<u32>
+    requires { IsFit object.now }
+    ensures { result ≡ matching object.now wanted.now.name.now wanted.now.class (option_map (λ x. x.now) wanted.now.version) }
+{
+    match matching(object, wanted.name, wanted.class, wanted.version) {
+        None => None,
+        Some(index) => Some(index as u32),
+    }
+}
+
+/// The index of an object's symbol that matches. A table of the object is asked, but for a canonical address.
+fn matching_in(object: &Object, wanted: &Wanted<'_>) -> Option<u32>
+    requires fit { IsFit object.now }
+    requires wanted { probing.IsWanted wanted.now }
+    ensures { result ≡ matching object.now wanted.now.name.now wanted.now.class (option_map (λ x. x.now) wanted.now.version) }
+{
+    match wanted.way {
+        Way::List => matching_by_list(object, wanted),
+        Way::Table => {
+            if has_canonical(object, wanted.name, wanted.class) {
+                return matching_by_list(object, wanted);
+            }
+            matching_by_table(object, wanted)
+        }
     }
 }
 
 #[tactic(auto, unfolding(crate::specs::Finds::in_member))]
-fn in_member(
-    scope: &Scope<'_>,
-    name: &[u8],
-    class: Class,
-    version: Option<&[u8]>,
-    member: u32,
-) -> Option<Found>
-    requires scope { IsScope scope.now.members.items }
-    requires within { member < length scope.now.members.items }
-    ensures value { result ≡ spec.in_member (objects scope.now.members.items) name.now class (option_map (λ x. x.now) version.entry) member }
-    ensures within { IfSome result (λ found. IsSymbol scope.now.members.items found.member found.symbol) }
+fn in_member(scope: &Scope<'_>, wanted: &Wanted<'_>, member: u32) -> Option<Found>
+    requires within { member < length scope.now }
+    requires wanted { probing.IsWanted wanted.now }
+    ensures { result ≡ spec.in_member (objects scope.now) wanted.now.name.now wanted.now.class (option_map (λ x. x.now) wanted.now.version) member }
 {
-    let object = scope.members[member as usize].object;
-    match matching(object, name, class, version) {
+    match matching_in(scope.object(member), wanted) {
         None => None,
-        Some(index) => Some(Found {
-            member,
-            symbol: index as u32,
-        }),
+        Some(symbol) => Some(Found { member, symbol }),
     }
 }
 
 /// The matching definer of the first member from one on that has one.
 #[tactic(auto, using(crate::proofs::SearchLaws::first_more, crate::proofs::SearchLaws::first_done))]
-fn first_from(
-    scope: &Scope<'_>,
-    name: &[u8],
-    class: Class,
-    version: Option<&[u8]>,
-    start: u32,
-) -> Option<Found>
-    requires scope { IsScope scope.now.members.items }
-    ensures value { result ≡ spec.first_in (objects scope.now.members.items) name.now class (option_map (λ x. x.now) version.entry) (spec.from_member start (length scope.now.members.items)) }
-    ensures within { IfSome result (λ found. IsSymbol scope.now.members.items found.member found.symbol) }
+fn first_from(scope: &Scope<'_>, wanted: &Wanted<'_>, start: u32) -> Option<Found>
+    requires { probing.IsWanted wanted.now }
+    ensures { result ≡ spec.first_in (objects scope.now) wanted.now.name.now wanted.now.class (option_map (λ x. x.now) wanted.now.version) (spec.from_member start (length scope.now)) }
 {
-    let count = scope.members.len() as u32;
+    let count = scope.count();
     for member in start..count {
-        let found = in_member(scope, name, class, version, member);
+        let found = in_member(scope, wanted, member);
         if found.is_some() {
             return found;
         }
@@ -87,55 +112,60 @@ fn first_from(
     None
 }
 
-#[tactic(auto, unfolding(crate::specs::Finds::found_for, crate::specs::Finds::first_in))]
+/// The matching definer in the order of the search.
+#[tactic(auto, unfolding(crate::specs::Finds::first_in))]
+fn in_order(
+    scope: &Scope<'_>,
+    reference: Reference,
+    object: &Object,
+    wanted: &Wanted<'_>,
+) -> Option<Found>
+    requires within { reference.member < length scope.now }
+    requires wanted { probing.IsWanted wanted.now }
+    ensures { result ≡ spec.first_in (objects scope.now) wanted.now.name.now wanted.now.class (option_map (λ x. x.now) wanted.now.version) (spec.searched object.now reference (length scope.now)) }
+{
+    if reference.kind == R_X86_64_COPY {
+        return first_from(scope, wanted, 1);
+    }
+    if object.symbolic {
+        let found = in_member(scope, wanted, reference.member);
+        if found.is_some() {
+            return found;
+        }
+    }
+    first_from(scope, wanted, 0)
+}
+
+#[tactic(auto, unfolding(crate::specs::Finds::found_for))]
 fn found_for(
     scope: &Scope<'_>,
     reference: Reference,
     object: &Object,
     symbol: &Symbol,
+    way: Way,
 ) -> Option<Found>
-    requires scope { IsScope scope.now.members.items }
-    requires within { reference.member < length scope.now.members.items }
-    ensures value { result ≡ spec.found_for (objects scope.now.members.items) reference object.now symbol.now }
-    ensures within { IfSome result (λ found. IsSymbol scope.now.members.items found.member found.symbol) }
+    requires { reference.member < length scope.now }
+    ensures { result ≡ spec.found_for (objects scope.now) reference object.now symbol.now }
 {
-    let name = symbol.name.as_slice();
-    let class = class_of(reference.kind);
-    let version = version_wanted(object, symbol);
-    if reference.kind == R_X86_64_COPY {
-        return first_from(scope, name, class, version, 1);
-    }
-    if object.symbolic {
-        let found = in_member(scope, name, class, version, reference.member);
-        if found.is_some() {
-            return found;
-        }
-    }
-    first_from(scope, name, class, version, 0)
+    let wanted = wanted_by(object, symbol, reference.kind, way);
+    in_order(scope, reference, object, &wanted)
 }
 
 /// A reference's own symbol.
 pub fn own_symbol<'a>(scope: &Scope<'a>, reference: Reference) -> &'a Symbol
-    requires { IsSymbol scope.now.members.items reference.member reference.symbol }
-    ensures { spec.own_symbol (objects scope.now.members.items) reference ≡ Some result.now }
+    requires { IsSymbol (objects scope.now) reference.member reference.symbol }
+    ensures { spec.own_symbol (objects scope.now) reference ≡ Some result.now }
 {
-    let object = scope.members[reference.member as usize].object;
+    let object = scope.object(reference.member);
     &object.symbols.as_slice()[reference.symbol as usize]
 }
 
-/// The symbol that a reference finds in a scope.
-///
-/// A local symbol, and a defined one whose visibility is not the default, is found as it stands. Every other is looked up by its name: the objects are searched in scope order, and the first that has a matching definer wins, whether it is global, weak or unique (gABI chapter 5, "Shared Object Dependencies"). A symbolic object's own references search that object first (DT_SYMBOLIC, DF_SYMBOLIC). A copy searches all objects but the program, which is the first.
-///
-/// In an object, a reference with a version finds the definer of that version, else the one whose version word is exactly 1, else, in an object without version words, the only definer of the name. A reference without a version finds the definer of version index 0, else 1, else 2, bit 15 aside, else the only definer whose bit 15 is clear. None exactly where no searched object has a matching definer.
 #[tactic(auto, unfolding(crate::specs::Finds::finds))]
-pub fn find(scope: &Scope<'_>, reference: Reference) -> Option<Found>
-    requires scope { IsScope scope.now.members.items }
-    requires reference { IsSymbol scope.now.members.items reference.member reference.symbol }
-    ensures exact { result ≡ spec.finds (objects scope.now.members.items) reference }
-    ensures within { IfSome result (λ found. IsSymbol scope.now.members.items found.member found.symbol) }
+fn find_by(scope: &Scope<'_>, reference: Reference, way: Way) -> Option<Found>
+    requires { IsSymbol (objects scope.now) reference.member reference.symbol }
+    ensures { result ≡ spec.finds (objects scope.now) reference }
 {
-    let object = scope.members[reference.member as usize].object;
+    let object = scope.object(reference.member);
     let symbol = &object.symbols.as_slice()[reference.symbol as usize];
     if binds_itself(symbol) {
         return Some(Found {
@@ -143,5 +173,28 @@ pub fn find(scope: &Scope<'_>, reference: Reference) -> Option<Found>
             symbol: reference.symbol,
         });
     }
-    found_for(scope, reference, object, symbol)
+    found_for(scope, reference, object, symbol, way)
+}
+
+/// The symbol that a reference finds in a scope.
+///
+/// A local symbol, and a defined one whose visibility is not the default, is found as it stands. Every other is looked up by its name: the objects are searched in scope order, and the first that has a matching definer wins, whether it is global, weak or unique (gABI chapter 5, "Shared Object Dependencies"). A symbolic object's own references search that object first (DT_SYMBOLIC, DF_SYMBOLIC). A copy searches all objects but the program, which is the first.
+///
+/// In an object, a reference with a version finds the definer of that version, else the one whose version word is exactly 1, else, in an object without version words, the only definer of the name. A reference without a version finds the definer of version index 0, else 1, else 2, bit 15 aside, else the only definer whose bit 15 is clear. None exactly where no searched object has a matching definer.
+///
+/// Each object is asked by the hash of the name in one of its tables, the GNU table where it has one; for other references than jump slots, a program's symbols besides, one by one, since no table need lead to a canonical address. No memory is taken.
+pub fn find(scope: &Scope<'_>, reference: Reference) -> Option<Found>
+    requires { IsSymbol (objects scope.now) reference.member reference.symbol }
+    ensures exact { result ≡ spec.finds (objects scope.now) reference }
+    ensures within { IfSome result (λ found. IsSymbol (objects scope.now) found.member found.symbol) }
+{
+    find_by(scope, reference, Way::Table)
+}
+
+/// The symbol that a reference finds in a scope, as `find` gives it, by a search through all symbols of each object. For tests: it takes as many steps as the objects have symbols.
+pub fn find_in_lists(scope: &Scope<'_>, reference: Reference) -> Option<Found>
+    requires { IsSymbol (objects scope.now) reference.member reference.symbol }
+    ensures { result ≡ spec.finds (objects scope.now) reference }
+{
+    find_by(scope, reference, Way::List)
 }

@@ -19,7 +19,7 @@ fn is_same(name: &[u8], other: &[u8]) -> bool
 }
 
 #[tactic(auto, unfolding(crate::specs::Matching::defines))]
-fn defines(object: &Object, name: &[u8], class: Class, symbol: &Symbol) -> bool
+pub fn defines(object: &Object, name: &[u8], class: Class, symbol: &Symbol) -> bool
     ensures { result ≡ spec.defines object.now name.now class symbol.now }
 {
     is_definer(symbol, class, object.kind.is_program()) && is_same(symbol.name.as_slice(), name)
@@ -35,7 +35,7 @@ fn has_version(object: &Object, version: &[u8], symbol: &Symbol) -> bool
     }
 }
 
-fn is_of_version(
+pub fn is_of_version(
     object: &Object,
     name: &[u8],
     class: Class,
@@ -56,7 +56,7 @@ fn of_version(object: &Object, name: &[u8], class: Class, version: &[u8]) -> Opt
     ))
 }
 
-fn is_of_no_version(object: &Object, name: &[u8], class: Class, symbol: &Symbol) -> bool
+pub fn is_of_no_version(object: &Object, name: &[u8], class: Class, symbol: &Symbol) -> bool
     ensures { result ≡ (spec.defines object.now name.now class symbol.now && symbol.now.version == VER_NDX_GLOBAL) }
 {
     defines(object, name, class, symbol) && symbol.version == VER_NDX_GLOBAL
@@ -75,7 +75,7 @@ fn of_no_version(object: &Object, name: &[u8], class: Class) -> Option<usize>
 
 /// Whether a symbol defines the name and, unless hidden ones count too, is not hidden.
 #[tactic(auto, unfolding(crate::specs::Matching::counts))]
-fn counts(object: &Object, name: &[u8], class: Class, hidden: bool, symbol: &Symbol) -> bool
+pub fn counts(object: &Object, name: &[u8], class: Class, hidden: bool, symbol: &Symbol) -> bool
     ensures { result ≡ spec.counts object.now name.now class hidden symbol.now }
 {
     defines(object, name, class, symbol) && (hidden || symbol.version < VERSYM_HIDDEN)
@@ -133,7 +133,7 @@ fn versioned(object: &Object, name: &[u8], class: Class, version: &[u8]) -> Opti
     }
 }
 
-fn is_at_index(object: &Object, name: &[u8], class: Class, index: u16, symbol: &Symbol) -> bool
+pub fn is_at_index(object: &Object, name: &[u8], class: Class, index: u16, symbol: &Symbol) -> bool
     ensures { result ≡ (spec.defines object.now name.now class symbol.now && index_of symbol.now.version == index) }
 {
     defines(object, name, class, symbol) && index_of(symbol.version) == index

@@ -6,5 +6,5 @@ use Rattle.pl_scope.proofs.lookup.first_from.Given as goal
 
 abbrev pub invariant-loop-member : goal.invariant-loop-member
 invariant-loop-member l =
-    spec.first_in (objects l.scope.members.items) l.name l.class (option_map (λ x. x.now) l.version) (spec.from_member l.member (length l.scope.members.items))
-    ≡ spec.first_in (objects l.scope.members.items) l.name l.class (option_map (λ x. x.now) l.version) (spec.from_member l.start (length l.scope.members.items))
+    spec.first_in (objects l.scope) l.wanted.name.now l.wanted.class (option_map (λ x. x.now) l.wanted.version) (spec.from_member l.member (length l.scope))
+    ≡ spec.first_in (objects l.scope) l.wanted.name.now l.wanted.class (option_map (λ x. x.now) l.wanted.version) (spec.from_member l.start (length l.scope))

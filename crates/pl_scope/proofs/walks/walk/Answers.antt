@@ -3,19 +3,16 @@ use Rattle.std.proofs.lemmas.List.{length_push}
 use Rattle.std.proofs.lemmas.List.Elements.{All-nil}
 use Rattle.std.proofs.lemmas.Result.{err_from_is_err_and}
 use Rattle.indexmap.specs.IndexMap.{get_by_text, values}
-use Rattle.pl_scope.specs.Scope.{walked, HasFewSymbols}
+use Rattle.pl_scope.specs.Scope.{walked, IsAccepted}
 use Rattle.pl_scope.specs.Walk.{Walked, IsUnderWay, itself, is_memory, object_of}
 use Rattle.pl_scope.specs.declared.constants.TheConstants.{MAX_MEMBERS}
 use Rattle.pl_scope.proofs.WalkLaws.{give_given, walk_lacks_or, walk_stops_or, walk_ends, walk_is_full}
-use Rattle.pl_scope.proofs.MemberLaws.{walked_push, few_push}
+use Rattle.pl_scope.proofs.MemberLaws.{walked_push, accepted_push}
 use Rattle.pl_scope.proofs.walks.walk.Goals as goal
 
 pub returns-in_default-clause-ok : goal.returns-in_default-clause-ok
-returns-in_default-clause-ok c =
-    walk_ends itself (object_of (get_by_text c.args.objects.now)) c.args.name.now (walked c.loop-count.members.items) c.loop-count.order (sym (rw c.in_default.is at c.wants.ensures.name)) c.loop-count.invariant.under_way
-
-pub returns-in_default-clause-scope : goal.returns-in_default-clause-scope
-returns-in_default-clause-scope c = λ all. record { few = omega arith; symbols = c.loop-count.invariant.few all }
+returns-in_default-clause-ok c = rw c.new-in_default.ensures (
+    walk_ends itself (object_of (get_by_text c.args.objects.now)) c.args.name.now (walked c.loop-count.members.items) c.loop-count.order (sym (rw c.in_default.is at c.wants.ensures.name)) c.loop-count.invariant.under_way)
 
 pub returns-in_err-member-clause-err : goal.returns-in_err-member-clause-err
 returns-in_err-member-clause-err c =
@@ -34,7 +31,7 @@ loop-count-init c = record {
   under_way = rw c.new-members.ensures.items (c.in_ok-order.ensures.begins (object_of (get_by_text c.args.objects.now)));
   given = rw c.in_ok-order.ensures.begun refl;
   count = rw c.new-members.ensures.items refl;
-  few = λ _. rw c.new-members.ensures.items (All-nil (λ m. HasFewSymbols m.object.now));
+  accepted = rw c.new-members.ensures.items (All-nil (λ m. IsAccepted m.object.now));
 }
 
 pub loop-count-preserved : goal.loop-count-preserved
@@ -46,13 +43,10 @@ loop-count-preserved c =
       under_way = subst (λ (all : Walked). IsUnderWay itself (object_of (get_by_text c.args.objects.now)) c.args.name.now all c.give.new.self) (sym more) (c.in_ok-give.ensures.goes_on (object_of (get_by_text c.args.objects.now)) c.args.name.now (walked c.loop-count.members.items) _ (sym c.in-Some.ensures.name) c.in_ok-member.ensures.ok c.loop-count.invariant.under_way);
       given = omega arith;
       count = rw c.in_ok-push.ensures.items (omega arith);
-      few = few_push (values c.args.objects.now) c.loop-count.members.items c.push.new.self.items c.in_ok-member.member c.in_ok-push.ensures.items c.in_ok-member.ensures.among c.loop-count.invariant.few;
+      accepted = accepted_push (values c.args.objects.now) c.loop-count.members.items c.push.new.self.items c.in_ok-member.member c.in_ok-push.ensures.items c.in_ok-member.ensures.among c.requires c.loop-count.invariant.accepted;
     }
 
 pub returns-clause-ok : goal.returns-clause-ok
 returns-clause-ok c =
     let le : MAX_MEMBERS ≤ c.loop-count.order.given = omega arith in
-    walk_is_full itself (object_of (get_by_text c.args.objects.now)) c.args.name.now (walked c.loop-count.members.items) c.loop-count.order le c.loop-count.invariant.under_way
-
-pub returns-clause-scope : goal.returns-clause-scope
-returns-clause-scope c = λ all. record { few = omega arith; symbols = c.loop-count.invariant.few all }
+    rw c.new-2.ensures (walk_is_full itself (object_of (get_by_text c.args.objects.now)) c.args.name.now (walked c.loop-count.members.items) c.loop-count.order le c.loop-count.invariant.under_way)

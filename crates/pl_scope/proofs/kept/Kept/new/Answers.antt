@@ -1,0 +1,6 @@
+use Rattle.pl_scope.specs.Scope.{objects}
+use Rattle.pl_scope.proofs.KeptLaws.{unasked_kept}
+use Rattle.pl_scope.proofs.kept.Kept.new.Goals as goal
+
+pub invariant_of-result : goal.invariant_of-result
+invariant_of-result c = unasked_kept (objects c.args.scope.now) _ c.in_ok-rows.ensures

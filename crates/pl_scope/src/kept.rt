@@ -1,0 +1,93 @@
+// Look-ups whose answers are kept.
+ghost use Rattle.std.specs.Prelude.{◌≡◌, map, IfOk, IfSome};
+ghost use Rattle.pl_scope.specs.Scope.{objects, IsSymbol};
+ghost use Rattle.pl_scope.specs.Finds.{finds};
+ghost use Rattle.pl_scope.specs.Kept as spec;
+
+use crate::answers::Answers;
+use crate::{Found, Reference, Scope, find};
+use pl_io::NoMemory;
+use pl_object::Object;
+use std::alloc::{AllocError, Global};
+use std::marker::Model;
+
+/// The look-ups of a scope whose answers are kept: one place for each member, symbol and class of relocations (JUMP_SLOT, COPY, every other). Contracts see it as the scope.
+#[derive(Drop)]
+pub struct Kept<'s, 'a> {
+    scope: &'s Scope<'a>,
+    rows: Vec<Vec<Answers>>,
+}
+
+impl<'s, 'a> Model for Kept<'s, 'a> {
+    ghost use Rattle.std.specs.Prelude.{map};
+    ghost use Rattle.pl_scope.specs.Walk.{Walked};
+    ghost use Rattle.pl_scope.specs.Scope.{objects};
+    ghost use Rattle.pl_scope.specs.Kept.{IsKept};
+
+    ghost Value = { Walked };
+
+    ghost view = { λ k. k.scope.now };
+
+    ghost invariant = { λ k. IsKept (objects k.scope.now) (map (λ row. row.items) k.rows.items) };
+}
+
+fn unasked_row(alloc: Global, object: &Object) -> Result<Vec<Answers>, AllocError>
+    ensures { IfOk result (λ row. row.items ≡ spec.unasked_row object.now) }
+{
+    Vec::from_elem(alloc, Answers::unasked(), object.symbols.len())
+}
+
+/// A place for each symbol of each member.
+fn unasked_rows(alloc: Global, scope: &Scope<'_>) -> Result<Vec<Vec<Answers>>, AllocError>
+    ensures { IfOk result (λ rows. map (λ row. row.items) rows.items ≡ map spec.unasked_row (objects scope.now)) }
+{
+    let mut rows = Vec::new(alloc);
+    for member in 0..scope.count() {
+        rows.push(unasked_row(alloc, scope.object(member))?)?;
+    }
+    Ok(rows)
+}
+
+/// Keeps what a reference finds.
+fn keep(scope: &Scope<'_>, rows: &mut [Vec<Answers>], reference: Reference, found: Option<Found>)
+    requires kept { spec.IsKept (objects scope.now) (map (λ row. row.items) rows.old) }
+    requires reference { IsSymbol (objects scope.now) reference.member reference.symbol }
+    requires found { found ≡ finds (objects scope.now) reference }
+    ensures { spec.IsKept (objects scope.now) (map (λ row. row.items) rows.new) }
+{
+    let row = &mut rows[reference.member as usize];
+    row[reference.symbol as usize].keep(reference.kind, found);
+}
+
+impl<'s, 'a> Kept<'s, 'a> {
+    /// The look-ups of a scope, of which none was asked yet. It fails only for want of memory.
+    pub fn new(alloc: Global, scope: &'s Scope<'a>) -> Result<Kept<'s, 'a>, NoMemory>
+        ensures { IfOk result (λ kept. kept ≡ scope.now) }
+    {
+        let rows = unasked_rows(alloc, scope)?;
+        Ok(Kept { scope, rows })
+    }
+
+    /// The scope.
+    pub fn scope(&self) -> &'s Scope<'a>
+        ensures { result.now ≡ self.now }
+    {
+        self.scope
+    }
+
+    /// The symbol that a reference finds in the scope, as `find` gives it: the answer that is kept for its symbol and class, else that of a look-up, which is kept. None exactly where there is no definer. No memory is taken.
+    pub fn find(&mut self, reference: Reference) -> Option<Found>
+        requires { IsSymbol (objects self.old) reference.member reference.symbol }
+        ensures exact { result ≡ finds (objects self.old) reference }
+        ensures within { IfSome result (λ found. IsSymbol (objects self.old) found.member found.symbol) }
+        ensures same { self.new ≡ self.old }
+    {
+        let answers = self.rows[reference.member as usize][reference.symbol as usize];
+        if let Some(found) = answers.of(reference.kind) {
+            return found;
+        }
+        let found = find(self.scope, reference);
+        keep(self.scope, &mut self.rows, reference, found);
+        found
+    }
+}

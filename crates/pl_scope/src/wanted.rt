@@ -1,0 +1,89 @@
+// What a reference asks of each object.
+ghost use Rattle.std.specs.Prelude.{◌≡◌};
+ghost use Rattle.std.specs.Option.{option_map};
+ghost use Rattle.pl_hash.specs.Candidates.{name_hash};
+ghost use Rattle.pl_scope.specs.Finds as finds;
+ghost use Rattle.pl_scope.specs.Probing as spec;
+
+use pl_elf::constants::R_X86_64_JUMP_SLOT;
+use pl_hash::{Table, gnu_hash, sysv_hash};
+use pl_object::{Object, version_name};
+use pl_sym::{Class, Symbol};
+use pl_ver::constants::VER_NDX_GLOBAL;
+use pl_ver::index_of;
+
+/// A way to search an object.
+#[derive(Clone, Copy)]
+pub enum Way {
+    /// By the hash of the name in one of its tables.
+    Table,
+
+    /// Through all its symbols.
+    List,
+}
+
+/// What a reference asks of each object: a definer of a name, for a class of relocations and with or without a version. The name's hashes are made once.
+#[derive(Drop)]
+pub struct Wanted<'a> {
+    pub name: &'a [u8],
+
+    pub class: Class,
+
+    pub version: Option<&'a [u8]>,
+
+    /// The name's hash in a GNU table.
+    pub gnu: u32,
+
+    /// The name's hash in a System V table.
+    pub sysv: u32,
+
+    pub way: Way,
+}
+
+#[tactic(auto, unfolding(crate::specs::Finds::class_of))]
+fn class_of(kind: u32) -> Class
+    ensures { result ≡ finds.class_of kind }
+{
+    if kind == R_X86_64_JUMP_SLOT {
+        Class::Jump
+    } else {
+        Class::Other
+    }
+}
+
+#[tactic(auto, unfolding(crate::specs::Finds::version_wanted))]
+fn version_wanted<'a>(object: &'a Object, symbol: &Symbol) -> Option<&'a [u8]>
+    ensures { option_map (λ name. name.now) result ≡ finds.version_wanted object.now symbol.now }
+{
+    if index_of(symbol.version) > VER_NDX_GLOBAL {
+        version_name(&object.versions, symbol.version)
+    } else {
+        None
+    }
+}
+
+/// What a symbol of an object asks for a kind of relocation.
+pub fn wanted_by<'a>(object: &'a Object, symbol: &'a Symbol, kind: u32, way: Way) -> Wanted<'a>
+    ensures name { result.name.now ≡ symbol.now.name }
+    ensures class { result.class ≡ finds.class_of kind }
+    ensures version { option_map (λ name. name.now) result.version ≡ finds.version_wanted object.now symbol.now }
+    ensures hashes { spec.IsWanted result }
+{
+    let name = symbol.name.as_slice();
+    Wanted {
+        name,
+        class: class_of(kind),
+        version: version_wanted(object, symbol),
+        gnu: gnu_hash(name),
+        sysv: sysv_hash(name),
+        way,
+    }
+}
+
+/// The name's hash by which a table goes.
+pub fn hash_in(wanted: &Wanted<'_>, table: &Table) -> u32
+    requires { spec.IsWanted wanted.now }
+    ensures { result ≡ name_hash table.now wanted.now.name.now }
+{
+    if table.gnu { wanted.gnu } else { wanted.sysv }
+}
