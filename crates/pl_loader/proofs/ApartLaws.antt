@@ -25,7 +25,8 @@ use Rattle.pl_value.specs.Ordinary.{part_of, loaded_from, loaded, ArePlaced}
 use Rattle.pl_loader.specs.Loading.{objects_of, parts_of}
 use Rattle.pl_loader.specs.Places.{load_range, taken, want_of, IsAt}
 use Rattle.pl_loader.specs.declared.object_file.ObjectFile.{ObjectFile}
-use Rattle.pl_loader.proofs.SpanLaws.{Ends, IsSpanned}
+use Rattle.pl_object.proofs.SpanLaws.{Ends}
+use Rattle.pl_loader.proofs.SpanLaws.{IsSpanned}
 
 -- ---- pieces of which no two have an address in common
 

@@ -1,19 +1,16 @@
 -- What acceptance tells of the rows of a scope.
-use Rattle.std.proofs.Common.{◌≡◌, ℕ, suc, ◌+◌, false, List, [], ◌∷◌, length, map, get_or, Some, Ok, refl, ap, ◌∙◌, arith}
-use Rattle.std.specs.Prelude.{slice_get, ◌/◌, ◌*◌}
-use Rattle.std.specs.List.{All, range_with_len}
+use Rattle.std.proofs.Common.{◌≡◌, ℕ, suc, ◌+◌, false, List, [], ◌∷◌, length, map, Some, Ok, ap, ◌∙◌, arith}
+use Rattle.std.specs.Prelude.{slice_get}
+use Rattle.std.specs.List.{All}
 use Rattle.std.proofs.lemmas.List.Elements.{All-nil, All-append, All-map}
 use Rattle.pl_sym.specs.declared.symbol.Symbol.{Symbol}
 use Rattle.pl_object.specs.Accepted.{is_exec}
-use Rattle.pl_object.specs.FilePart.{loaded}
 use Rattle.pl_object.specs.PlaceClauses.{is_bad, is_misplaced_copy, misplaced_copy}
-use Rattle.pl_object.specs.Reads.{reads, headers, static_object, layout, object, relocations}
-use Rattle.pl_object.specs.Relocations.{width, reloc_at, reloc, relocs}
-use Rattle.pl_object.specs.Tables.{rela_memory, jmprel_memory}
-use Rattle.pl_elf.specs.declared.constants.TheConstants.{RELA_SIZE}
+use Rattle.pl_object.specs.Reads.{reads}
+use Rattle.pl_object.specs.Relocations.{width}
 use Rattle.pl_object.specs.declared.object.Object.{Object}
 use Rattle.pl_object.specs.declared.reloc.Reloc.{Reloc}
-use Rattle.pl_object.proofs.AcceptedLaws.{accepted, read_holds}
+use Rattle.pl_object.proofs.AcceptedLaws.{accepted}
 use Rattle.pl_value.specs.Laws.{AreRead}
 use Rattle.pl_value.specs.Meanings.{Row, row, rows, rows_from}
 use Rattle.pl_value.proofs.LoneLaws.{none_at}
@@ -23,28 +20,6 @@ use Rattle.pl_value.proofs.LoneLaws.{none_at}
 -- a relocation is as wide as its kind and symbol say
 abbrev pub HasWidth : List Symbol → Reloc → Type 0
 HasWidth symbols r = r.width ≡ width symbols r.kind r.symbol
-
-abbrev pub HasWidths : Object → Type 0
-HasWidths o = All (HasWidth o.symbols) o.relocations
-
-reloc_width : (symbols : List Symbol) (table : List ℕ) (at : ℕ) → HasWidth symbols (reloc_at symbols table at)
-unfolding reloc_at
-reloc_width symbols table at = refl
-
-relocs_widths : (symbols : List Symbol) (table : List ℕ) → All (HasWidth symbols) (relocs symbols table)
-unfolding relocs
-relocs_widths symbols table =
-    All-map (HasWidth symbols) (reloc symbols table) (range_with_len 0 (length table / RELA_SIZE)) (λ k d lt. reloc_width symbols table (RELA_SIZE * get_or (range_with_len 0 (length table / RELA_SIZE)) k d))
-
-pub widths : (bytes : List ℕ) (o : Object) → reads bytes ≡ Ok o → HasWidths o
-unfolding static_object object layout relocations
-widths bytes o e =
-    read_holds HasWidths bytes (λ h is. All-nil (HasWidth []))
-    (λ h d l is.
-    let rela = loaded bytes (headers bytes h).segments (rela_memory d.tags) in
-    let jmprel = loaded bytes (headers bytes h).segments (jmprel_memory d.tags) in
-    All-append (HasWidth l.symbols) (relocs l.symbols rela) (relocs l.symbols jmprel) (relocs_widths l.symbols rela) (relocs_widths l.symbols jmprel))
-    o e
 
 -- ---- rows
 
@@ -63,7 +38,7 @@ object_known objects member bytes o at read = λ k d lt.
     record {
       object = o;
       at = at;
-      width = widths bytes o read k d lt;
+      width = facts.widths k d lt;
       known = none_at (is_bad (length o.symbols)) o.relocations k d lt facts.relocs;
       copy = none_at (is_misplaced_copy (is_exec o)) o.relocations k d lt facts.copies;
     }
