@@ -1,2 +1,4 @@
 pub mod LoopLaws
 pub mod SegmentLaws
+pub mod PackedLaws
+pub mod LineLaws

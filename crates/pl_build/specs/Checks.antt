@@ -1,14 +1,15 @@
 -- The faults of a recipe's lines.
-use Rattle.std.specs.Prelude.{ℕ, ◌+◌, Bool, true, false, not, ◌&&◌, ◌||◌, ◌==◌, nat_lt, List, [], length, take, map, find, Option, Some, None, slice_get, codes, if◌then◌else◌}
+use Rattle.std.specs.Prelude.{ℕ, ◌+◌, ◌%◌, Bool, true, false, not, ◌&&◌, ◌||◌, ◌==◌, nat_lt, List, [], length, take, map, find, Option, Some, None, slice_get, codes, if◌then◌else◌}
 use Rattle.std.specs.List.{list_any, range_with_len}
 use Rattle.std.specs.Str.{bytes_eq}
 use Rattle.pl_elf.specs.declared.constants.TheConstants.{WORD64_SIZE}
 use Rattle.pl_build.specs.declared.constants.TheConstants.{MAX_BUCKETS, MAX_SPARE, MAX_DATA, MAX_BSS, MAX_ADDEND}
 use Rattle.pl_build.specs.declared.checks.Fault.{Fault}
-use Rattle.pl_elf.specs.declared.kind.Kind.TheVariants.{Static}
+use Rattle.pl_build.specs.declared.kind.FileKind.TheVariants.{Static}
 use Rattle.pl_build.specs.declared.line.Line.{Line}
-use Rattle.pl_build.specs.declared.line.Line.TheVariants.{Wrong, Empty, First, Usual, Hash, Buckets, Spare, Symbolic, Entry, Data, Bss, Put, Tls, Version, Names, Relocates}
-use Rattle.pl_build.specs.declared.line.Relocation.{Relocation}
+use Rattle.pl_build.specs.declared.line.Line.TheVariants.{Wrong, Empty, First, Usual, Hash, Buckets, Spare, Symbolic, Entry, Data, Bss, Put, Tls, Version, Names, Relocates, Packs}
+use Rattle.pl_build.specs.declared.line.Addend.{Addend}
+use Rattle.pl_build.specs.declared.line.PackedWord.{PackedWord}
 use Rattle.pl_build.specs.declared.line.Symbol.{Symbol}
 use Rattle.pl_build.specs.RelocationLines.{is_no_symbol}
 
@@ -40,18 +41,29 @@ is_wrong lines index line = if index == 0 then not (is_first line) else is_mispl
 
 -- ---- kind 2
 
-unfoldable pub is_over_addend : Relocation → Bool
-is_over_addend r = nat_lt (if r.negative then MAX_ADDEND + 1 else MAX_ADDEND) r.magnitude
+unfoldable pub is_over_addend : Addend → Bool
+is_over_addend a = nat_lt (if a.negative then MAX_ADDEND + 1 else MAX_ADDEND) a.magnitude
 
--- a number over its limit, or a word that passes so many bytes of data
-unfoldable pub is_over : ℕ → Line → Bool
-is_over size (Buckets n) = n == 0 || nat_lt MAX_BUCKETS n
-is_over size (Spare n) = nat_lt MAX_SPARE n
-is_over size (Data n) = nat_lt MAX_DATA n
-is_over size (Bss n) = nat_lt MAX_BSS n
-is_over size (Put w) = nat_lt size (w.offset + WORD64_SIZE)
-is_over size (Relocates r) = is_over_addend r
-is_over size _ = false
+-- a word at an offset shares a byte with that of a packed line
+abbrev pub shares : ℕ → Line → Bool
+shares offset (Packs w) = nat_lt offset (w.offset + WORD64_SIZE) && nat_lt w.offset (offset + WORD64_SIZE)
+shares offset _ = false
+
+-- a packed word at an odd offset, one that passes so many bytes of data or shares a byte with that of an earlier line, or one with an addend over its limit
+unfoldable pub is_over_packed : List Line → ℕ → PackedWord → Bool
+is_over_packed before size w =
+    w.offset % 2 == 1 || nat_lt size (w.offset + WORD64_SIZE) || list_any (shares w.offset) before || is_over_addend w.addend
+
+-- a number over its limit, or a word that passes so many bytes of data; for a packed word the lines before it count
+unfoldable pub is_over : List Line → ℕ → Line → Bool
+is_over before size (Buckets n) = n == 0 || nat_lt MAX_BUCKETS n
+is_over before size (Spare n) = nat_lt MAX_SPARE n
+is_over before size (Data n) = nat_lt MAX_DATA n
+is_over before size (Bss n) = nat_lt MAX_BSS n
+is_over before size (Put w) = nat_lt size (w.offset + WORD64_SIZE)
+is_over before size (Relocates r) = is_over_addend r.addend
+is_over before size (Packs w) = is_over_packed before size w
+is_over before size _ = false
 
 -- ---- kind 3
 
@@ -110,7 +122,7 @@ data_size lines = data_in (find is_data lines)
 unfoldable pub lowest_kind : List Line → ℕ → ℕ → Line → ℕ
 lowest_kind lines size index line =
     if is_wrong lines index line then 1
-    else if is_over size line then 2
+    else if is_over (take index lines) size line then 2
     else if is_unknown lines line then 3
     else if is_repeated (take index lines) line then 4
     else 0

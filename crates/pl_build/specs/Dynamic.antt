@@ -1,18 +1,20 @@
 -- The dynamic table (System V gABI chapter 5, "Dynamic Section").
-use Rattle.std.specs.Prelude.{ℕ, ◌+◌, Bool, true, not, ◌&&◌, ◌==◌, List, [], ◌∷◌, ◌++◌, length, map, find, codes}
+use Rattle.std.specs.Prelude.{ℕ, ◌+◌, Bool, true, not, ◌&&◌, ◌==◌, List, [], ◌∷◌, ◌++◌, length, map, find, codes, if◌then◌else◌}
 use Rattle.std.specs.List.{flat_map, range_with_len}
 use Rattle.std.specs.Option.{unwrap_or}
-use Rattle.pl_dyn.specs.declared.constants.TheConstants.{DT_NULL, DT_NEEDED, DT_PLTRELSZ, DT_HASH, DT_STRTAB, DT_SYMTAB, DT_RELA, DT_RELASZ, DT_RELAENT, DT_STRSZ, DT_SYMENT, DT_SYMBOLIC, DT_PLTREL, DT_DEBUG, DT_JMPREL, DT_BIND_NOW, DT_FLAGS, DT_GNU_HASH, DT_VERSYM, DT_FLAGS_1, DT_VERDEF, DT_VERDEFNUM, DT_VERNEED, DT_VERNEEDNUM, DF_BIND_NOW, DF_1_NOW}
+use Rattle.pl_dyn.specs.declared.constants.TheConstants.{DT_NULL, DT_NEEDED, DT_PLTRELSZ, DT_HASH, DT_STRTAB, DT_SYMTAB, DT_RELA, DT_RELASZ, DT_RELAENT, DT_STRSZ, DT_SYMENT, DT_SYMBOLIC, DT_PLTREL, DT_DEBUG, DT_JMPREL, DT_BIND_NOW, DT_FLAGS, DT_GNU_HASH, DT_VERSYM, DT_FLAGS_1, DT_VERDEF, DT_VERDEFNUM, DT_VERNEED, DT_VERNEEDNUM, DT_RELRSZ, DT_RELR, DT_RELRENT, DF_BIND_NOW, DF_1_NOW, DF_1_PIE}
 use Rattle.pl_dyn.specs.declared.tags.Tag.{Tag}
 use Rattle.pl_sym.specs.declared.constants.TheConstants.{SYMBOL_SIZE}
 use Rattle.pl_elf.specs.declared.constants.TheConstants.{RELA_SIZE}
+use Rattle.pl_relr.specs.declared.entries.TheConstants.{ENTRY_SIZE as RELR_SIZE}
 use Rattle.pl_build.specs.declared.fields.Field.TheVariants.{Xword}
 use Rattle.pl_build.specs.declared.roles.Role.TheVariants.{Null}
 use Rattle.pl_build.specs.declared.roles.Place.{Place}
 use Rattle.pl_build.specs.declared.plan.Plan.{Plan}
+use Rattle.pl_build.specs.declared.recipe.Settings.{Settings}
 use Rattle.pl_build.specs.Choices.{chosen}
 use Rattle.pl_build.specs.Fields.{fields}
-use Rattle.pl_elf.specs.Kinds.{is_program}
+use Rattle.pl_build.specs.FileKinds.{is_program, is_pie}
 use Rattle.pl_build.specs.Roles.{has_name}
 use Rattle.pl_build.specs.Strings.{text_at}
 
@@ -62,6 +64,12 @@ relocation_tags places =
     (is_there slots, tag DT_PLTRELSZ slots.size) ∷ (is_there slots, tag DT_PLTREL DT_RELA) ∷ (is_there slots, tag DT_JMPREL slots.addr)
     ∷ (is_there others, tag DT_RELA others.addr) ∷ (is_there others, tag DT_RELASZ others.size) ∷ (is_there others, tag DT_RELAENT RELA_SIZE) ∷ [])
 
+unfoldable pub packed_tags : List Place → List Tag
+packed_tags places =
+    let packed = place_of places (codes ".relr.dyn") in
+    chosen (
+    (is_there packed, tag DT_RELR packed.addr) ∷ (is_there packed, tag DT_RELRSZ packed.size) ∷ (is_there packed, tag DT_RELRENT RELR_SIZE) ∷ [])
+
 -- the base counts among the versions that are defined
 unfoldable pub version_tags : Plan → List Place → List Tag
 version_tags p places =
@@ -73,12 +81,16 @@ version_tags p places =
     ∷ (is_there defined, tag DT_VERDEF defined.addr) ∷ (is_there defined, tag DT_VERDEFNUM (length p.versions + 1))
     ∷ (is_there needed, tag DT_VERNEED needed.addr) ∷ (is_there needed, tag DT_VERNEEDNUM (length p.files)) ∷ [])
 
+-- a position-independent program says that it is one
+unfoldable pub flags_1 : Settings → ℕ
+flags_1 s = (if s.usual then DF_1_NOW else 0) + (if is_pie s.kind then DF_1_PIE else 0)
+
 unfoldable pub usual_tags : Plan → List Tag
 usual_tags p =
     let usual = p.settings.usual in
     chosen (
     (usual && is_program p.settings.kind, tag DT_DEBUG 0) ∷ (usual, tag DT_BIND_NOW 0)
-    ∷ (usual, tag DT_FLAGS DF_BIND_NOW) ∷ (usual, tag DT_FLAGS_1 DF_1_NOW) ∷ [])
+    ∷ (usual, tag DT_FLAGS DF_BIND_NOW) ∷ (not (flags_1 p.settings == 0), tag DT_FLAGS_1 (flags_1 p.settings)) ∷ [])
 
 -- the entry that ends the table, and the spare ones behind it
 abbrev pub end_tag : Tag
@@ -92,6 +104,7 @@ dynamic_table p places =
     flat_map tag_bytes (needed_tags p)
     ++ flat_map tag_bytes (table_tags p places)
     ++ flat_map tag_bytes (relocation_tags places)
+    ++ flat_map tag_bytes (packed_tags places)
     ++ flat_map tag_bytes (version_tags p places)
     ++ flat_map tag_bytes (usual_tags p)
     ++ flat_map tag_bytes (end_tag ∷ [])

@@ -17,7 +17,7 @@ use Rattle.pl_build.specs.Data.{data_bytes}
 use Rattle.pl_build.specs.Dynamic.{place_of}
 use Rattle.pl_build.specs.Fields.{fields}
 use Rattle.pl_build.specs.Layout.{too_large, filled_to, tables, end_of}
-use Rattle.pl_elf.specs.Kinds.{is_library}
+use Rattle.pl_build.specs.FileKinds.{is_position_independent}
 use Rattle.pl_elf.specs.Written.{segment_bytes}
 use Rattle.pl_build.specs.Plan.{base_of, data_address, has_interp}
 use Rattle.pl_build.specs.Roles.{index_of}
@@ -36,7 +36,7 @@ abbrev pub ident : List Field
 ident = Byte ELFMAG0 ∷ Byte ELFMAG1 ∷ Byte ELFMAG2 ∷ Byte ELFMAG3 ∷ Byte ELFCLASS64 ∷ Byte ELFDATA2LSB ∷ Byte EV_CURRENT ∷ Byte 0 ∷ Xword 0 ∷ []
 
 unfoldable pub type_of : Settings → ℕ
-type_of s = if is_library s.kind then ET_DYN else ET_EXEC
+type_of s = if is_position_independent s.kind then ET_DYN else ET_EXEC
 
 abbrev pub first_header_fields : Settings → ℕ → List Field
 first_header_fields s shoff =

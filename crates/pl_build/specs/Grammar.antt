@@ -2,7 +2,7 @@
 use Rattle.std.specs.Prelude.{ℕ, true, false, ◌&&◌, ◌==◌, List, [], length, codes, if◌then◌else◌}
 use Rattle.std.specs.Str.{bytes_eq}
 use Rattle.pl_base.specs.Names.{is_valid_name}
-use Rattle.pl_elf.specs.declared.kind.Kind.TheVariants.{Program, Library, Static}
+use Rattle.pl_build.specs.declared.kind.FileKind.TheVariants.{Program, Pie, Library, Static}
 use Rattle.pl_build.specs.declared.line.Line.{Line}
 use Rattle.pl_build.specs.declared.line.Line.TheVariants.{Wrong, Empty, First, Usual, Hash, Buckets, Spare, Needs, Symbolic, Entry, Data, Bss, Put, Tls, Version}
 use Rattle.pl_build.specs.Words.{word, number}
@@ -16,6 +16,7 @@ unfoldable pub bare : List ℕ → Line
 bare text =
     if bytes_eq text [] then Empty
     else if bytes_eq text (codes "program") then First Program
+    else if bytes_eq text (codes "pie") then First Pie
     else if bytes_eq text (codes "library") then First Library
     else if bytes_eq text (codes "static") then First Static
     else if bytes_eq text (codes "usual") then Usual

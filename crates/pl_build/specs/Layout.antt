@@ -5,7 +5,7 @@ use Rattle.pl_base.specs.Sums.{plus, round_up}
 use Rattle.pl_build.specs.declared.constants.TheConstants.{TABLES_OFFSET, TABLE_ALIGN, MAX_TABLES}
 use Rattle.pl_build.specs.declared.checks.Fault.{Fault}
 use Rattle.pl_build.specs.declared.roles.Role.{Role}
-use Rattle.pl_build.specs.declared.roles.Role.TheVariants.{Hash, GnuHash, Dynsym, Dynstr, Versym, Verdef, Verneed, RelaDyn, RelaPlt, Dynamic}
+use Rattle.pl_build.specs.declared.roles.Role.TheVariants.{Hash, GnuHash, Dynsym, Dynstr, Versym, Verdef, Verneed, RelaDyn, RelaPlt, RelrDyn, Dynamic}
 use Rattle.pl_build.specs.declared.roles.Place.{Place}
 use Rattle.pl_build.specs.declared.plan.Plan.{Plan}
 use Rattle.pl_build.specs.declared.layout.Tables.{Tables}
@@ -14,6 +14,7 @@ use Rattle.pl_build.specs.SymbolTable.{symbol_table}
 use Rattle.pl_build.specs.Versions.{version_words, verdefs, verneeds}
 use Rattle.pl_build.specs.HashTables.{sysv_table, gnu_table}
 use Rattle.pl_build.specs.Relocations.{jump_slots, others}
+use Rattle.pl_build.specs.Packed.{packed_table}
 use Rattle.pl_build.specs.Dynamic.{dynamic_table}
 
 -- the file or its tables would be too large
@@ -31,6 +32,7 @@ contents p places Verdef = verdefs p
 contents p places Verneed = verneeds p
 contents p places RelaDyn = others p
 contents p places RelaPlt = jump_slots p
+contents p places RelrDyn = packed_table p
 contents p places Dynamic = dynamic_table p places
 contents p places _ = []
 

@@ -6,6 +6,7 @@ pub mod RelocationLines
 pub mod Grammar
 pub mod Checks
 pub mod Recipe
+pub mod FileKinds
 pub mod Fields
 pub mod Roles
 pub mod Symbols
@@ -16,6 +17,7 @@ pub mod SymbolTable
 pub mod Versions
 pub mod HashTables
 pub mod Relocations
+pub mod Packed
 pub mod Dynamic
 pub mod Layout
 pub mod Data

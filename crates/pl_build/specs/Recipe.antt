@@ -1,9 +1,10 @@
 -- What all lines of a recipe say together.
-use Rattle.std.specs.Prelude.{true, false, List, [], ◌∷◌, ◌++◌, Some, None, fold}
+use Rattle.std.specs.Prelude.{Bool, true, false, nat_le, if◌then◌else◌, List, [], ◌∷◌, ◌++◌, Some, None, fold}
 use Rattle.pl_build.specs.declared.constants.TheConstants.{BUCKETS, SPARE}
-use Rattle.pl_elf.specs.declared.kind.Kind.TheVariants.{Program}
+use Rattle.pl_build.specs.declared.kind.FileKind.TheVariants.{Program}
 use Rattle.pl_build.specs.declared.line.Line.{Line}
-use Rattle.pl_build.specs.declared.line.Line.TheVariants.{First, Usual, Hash, Buckets, Spare, Needs, Symbolic, Entry, Data, Bss, Put, Tls, Version, Names, Relocates}
+use Rattle.pl_build.specs.declared.line.Line.TheVariants.{First, Usual, Hash, Buckets, Spare, Needs, Symbolic, Entry, Data, Bss, Put, Tls, Version, Names, Relocates, Packs}
+use Rattle.pl_build.specs.declared.line.PackedWord.{PackedWord}
 use Rattle.pl_build.specs.declared.recipe.Settings.{Settings}
 use Rattle.pl_build.specs.declared.recipe.Recipe.{Recipe}
 
@@ -22,7 +23,7 @@ defaults = record {
 }
 
 abbrev pub empty : Recipe
-empty = record { settings = defaults; needs = []; words = []; versions = []; symbols = []; relocations = [] }
+empty = record { settings = defaults; needs = []; words = []; versions = []; symbols = []; relocations = []; packed = [] }
 
 -- a line that stands once
 abbrev pub set : Settings → Line → Settings
@@ -38,6 +39,17 @@ set s (Bss n) = record s { bss = n }
 set s (Tls tls) = record s { tls = Some tls }
 set s _ = s
 
+-- a packed word behind those whose offsets are no greater
+abbrev pub is_up_to : PackedWord → PackedWord → Bool
+is_up_to w v = nat_le v.offset w.offset
+
+abbrev pub inserted : PackedWord → List PackedWord → List PackedWord
+inserted w [] = w ∷ []
+inserted w (v ∷ vs) = if is_up_to w v then v ∷ inserted w vs else w ∷ v ∷ vs
+
+abbrev pub with_packed : Recipe → PackedWord → Recipe
+with_packed r w = record r { packed = inserted w r.packed }
+
 -- one line more
 abbrev pub added : Recipe → Line → Recipe
 added r (Needs name) = record r { needs = r.needs ++ name ∷ [] }
@@ -45,6 +57,7 @@ added r (Put w) = record r { words = r.words ++ w ∷ [] }
 added r (Version name) = record r { versions = r.versions ++ name ∷ [] }
 added r (Names s) = record r { symbols = r.symbols ++ s ∷ [] }
 added r (Relocates x) = record r { relocations = r.relocations ++ x ∷ [] }
+added r (Packs w) = with_packed r w
 added r line = record r { settings = set r.settings line }
 
 unfoldable pub gathered : List Line → Recipe

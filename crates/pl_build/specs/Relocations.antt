@@ -2,7 +2,7 @@
 use Rattle.std.specs.Prelude.{ℕ, Bool, ◌==◌, List, [], ◌∷◌, map, filter, position, Option, Some, None, if◌then◌else◌}
 use Rattle.std.specs.List.{flat_map}
 use Rattle.std.specs.Str.{bytes_eq}
-use Rattle.pl_base.specs.Sums.{plus, minus}
+use Rattle.pl_base.specs.Sums.{plus}
 use Rattle.pl_elf.specs.declared.constants.TheConstants.{R_X86_64_RELATIVE}
 use Rattle.pl_build.specs.declared.fields.Field.TheVariants.{Word, Xword}
 use Rattle.pl_build.specs.declared.line.Relocation.{Relocation}
@@ -10,7 +10,7 @@ use Rattle.pl_build.specs.declared.line.Symbol.{Symbol}
 use Rattle.pl_build.specs.declared.plan.Plan.{Plan}
 use Rattle.pl_build.specs.declared.relocations.Rela.{Rela}
 use Rattle.pl_build.specs.Fields.{fields}
-use Rattle.pl_build.specs.Plan.{data_address, is_jump_slot, is_other}
+use Rattle.pl_build.specs.Plan.{addend_of, data_address, is_jump_slot, is_other}
 use Rattle.pl_build.specs.RelocationLines.{is_no_symbol}
 
 -- offset, info (the type in its low 32 bits, the symbol in the high ones), addend
@@ -28,12 +28,8 @@ number_at (Some index) = plus index 1
 unfoldable pub symbol_number : Plan → List ℕ → ℕ
 symbol_number p name = if is_no_symbol name then 0 else number_at (position (is_written_as name) p.symbols)
 
--- modulo 2^64
-unfoldable pub addend_of : Relocation → ℕ
-addend_of r = if r.negative then minus 0 r.magnitude else r.magnitude
-
 unfoldable pub moved_addend : Plan → Relocation → ℕ
-moved_addend p r = if r.kind == R_X86_64_RELATIVE then plus (data_address p.settings) (addend_of r) else addend_of r
+moved_addend p r = if r.kind == R_X86_64_RELATIVE then plus (data_address p.settings) (addend_of r.addend) else addend_of r.addend
 
 unfoldable pub rela_of : Plan → Relocation → Rela
 rela_of p r = record {

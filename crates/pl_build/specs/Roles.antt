@@ -6,9 +6,10 @@ use Rattle.pl_dyn.specs.declared.constants.TheConstants.{ENTRY_SIZE}
 use Rattle.pl_sym.specs.declared.constants.TheConstants.{SYMBOL_SIZE}
 use Rattle.pl_ver.specs.declared.constants.TheConstants.{VERSYM_SIZE}
 use Rattle.pl_hash.specs.declared.table.TheConstants.{WORD_SIZE}
-use Rattle.pl_build.specs.declared.constants.TheConstants.{TABLE_ALIGN}
+use Rattle.pl_relr.specs.declared.entries.TheConstants.{ENTRY_SIZE as RELR_SIZE}
+use Rattle.pl_build.specs.declared.constants.TheConstants.{SHT_RELR, TABLE_ALIGN}
 use Rattle.pl_build.specs.declared.roles.Role.{Role}
-use Rattle.pl_build.specs.declared.roles.Role.TheVariants.{Null, Interp, Hash, GnuHash, Dynsym, Dynstr, Versym, Verdef, Verneed, RelaDyn, RelaPlt, Dynamic, Data, Bss, Shstrtab}
+use Rattle.pl_build.specs.declared.roles.Role.TheVariants.{Null, Interp, Hash, GnuHash, Dynsym, Dynstr, Versym, Verdef, Verneed, RelaDyn, RelaPlt, RelrDyn, Dynamic, Data, Bss, Shstrtab}
 
 unfoldable pub section_name : Role → List ℕ
 section_name Null = []
@@ -22,6 +23,7 @@ section_name Verdef = codes ".gnu.version_d"
 section_name Verneed = codes ".gnu.version_r"
 section_name RelaDyn = codes ".rela.dyn"
 section_name RelaPlt = codes ".rela.plt"
+section_name RelrDyn = codes ".relr.dyn"
 section_name Dynamic = codes ".dynamic"
 section_name Data = codes ".data"
 section_name Bss = codes ".bss"
@@ -39,6 +41,7 @@ kind_of Verdef = SHT_GNU_VERDEF
 kind_of Verneed = SHT_GNU_VERNEED
 kind_of RelaDyn = SHT_RELA
 kind_of RelaPlt = SHT_RELA
+kind_of RelrDyn = SHT_RELR
 kind_of Dynamic = SHT_DYNAMIC
 kind_of Data = SHT_PROGBITS
 kind_of Bss = SHT_NOBITS
@@ -77,6 +80,7 @@ entsize_of Dynsym = SYMBOL_SIZE
 entsize_of Versym = VERSYM_SIZE
 entsize_of RelaDyn = RELA_SIZE
 entsize_of RelaPlt = RELA_SIZE
+entsize_of RelrDyn = RELR_SIZE
 entsize_of Dynamic = ENTRY_SIZE
 entsize_of _ = 0
 

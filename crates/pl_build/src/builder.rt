@@ -1,5 +1,6 @@
 // A recipe's file.
-ghost use Rattle.std.specs.Prelude.{◌≡◌, ◌<◌, ◌≤◌, ◌+◌, ◌-◌, ◌^◌, IfOk, length};
+ghost use Rattle.std.specs.Prelude.{◌≡◌, ◌<◌, ◌^◌, IfOk, IfSome, length};
+ghost use Rattle.pl_build.specs.Checks.{first_fault};
 ghost use Rattle.pl_build.specs.Build as spec;
 
 use crate::checks::first_fault;
@@ -15,8 +16,7 @@ use std::alloc::{AllocError, Global};
 
 #[tactic(auto, unfolding(crate::specs::Build::lines, crate::specs::Words::pieces))]
 fn lines(alloc: Global, recipe: &[u8]) -> Result<Vec<Line>, AllocError>
-    ensures value { IfOk result (λ v. v.items ≡ spec.lines recipe.now) }
-    ensures count { IfOk result (λ v. length v.items ≤ length recipe.now + 2) }
+    ensures { IfOk result (λ v. v.items ≡ spec.lines recipe.now) }
 {
     let mut lines = Vec::new(alloc);
     for text in recipe.split_str(b"\n") {
@@ -27,12 +27,12 @@ fn lines(alloc: Global, recipe: &[u8]) -> Result<Vec<Line>, AllocError>
 
 #[tactic(auto, unfolding(crate::specs::Build::made_of))]
 fn made_of(alloc: Global, lines: Vec<Line>) -> Result<Rows<u8>, RecipeFault>
-    requires { length lines.items < 2 ^ 32 - 1 }
+    requires { IfSome (first_fault lines.items) (λ fault. fault.line < 2 ^ 32) }
     ensures { spec.Builds result (spec.made_of lines.items) }
 {
     if let Some(fault) = first_fault(lines.as_slice()) {
         return Err(RecipeFault::Bad {
-            line: fault.line,
+            line: fault.line as u32,
             kind: fault.kind,
         });
     }
@@ -44,10 +44,11 @@ fn made_of(alloc: Global, lines: Vec<Line>) -> Result<Rows<u8>, RecipeFault>
 /// The file that a recipe describes.
 ///
 /// A recipe is lines of text, with words parted by one space; an empty line says nothing. `Bad` names the first line with a
-/// fault and the lowest kind of its faults, or line 0 where the tables or the file would be too large.
-#[tactic(auto, unfolding(crate::specs::Build::build))]
+/// fault and the lowest kind of its faults, or line 0 where the tables or the file would be too large. A recipe has fewer
+/// than 2^32 bytes, so that the number of that line has 32 bits.
+#[tactic(auto, using(crate::proofs::LineLaws::fault_numbered), unfolding(crate::specs::Build::build))]
 pub fn build(alloc: Global, recipe: &[u8]) -> Result<Rows<u8>, RecipeFault>
-    requires { length recipe.now < 2 ^ 31 }
+    requires { length recipe.now < 2 ^ 32 }
     ensures { spec.Builds result (spec.build recipe.now) }
 {
     let lines = lines(alloc, recipe)?;

@@ -6,18 +6,18 @@ ghost use Rattle.std.specs.Str.{bytes_eq};
 ghost use Rattle.pl_build.specs.Checks as spec;
 
 use crate::constants::{MAX_ADDEND, MAX_BSS, MAX_BUCKETS, MAX_DATA, MAX_SPARE};
-use crate::line::{Line, Relocation, Symbol};
+use crate::kind::FileKind;
+use crate::line::{Addend, Line, PackedWord, Symbol};
 use crate::names::is;
 use crate::relocation_lines::is_no_symbol;
 use pl_base::end;
-use pl_elf::Kind;
 use pl_elf::constants::WORD64_SIZE;
 
 /// A fault of a recipe.
 #[derive(Clone, Copy)]
 pub struct Fault {
     /// The number of the line, from 1 on; 0 where the tables or the file would be too large.
-    pub line: u32,
+    pub line: u64,
 
     /// The lowest kind of the line's faults, 0 for none; 5 where the line is 0.
     pub kind: u8,
@@ -34,7 +34,7 @@ fn is_static(lines: &[Line]) -> bool
     ensures { result ≡ spec.is_static lines.now }
 {
     match lines.get(0) {
-        Some(Line::First(Kind::Static)) => true,
+        Some(Line::First(FileKind::Static)) => true,
         _ => false,
     }
 }
@@ -62,20 +62,48 @@ fn is_wrong(lines: &[Line], index: usize, line: &Line) -> bool
 }
 
 #[tactic(auto, unfolding(crate::specs::Checks::is_over_addend))]
-fn is_over_addend(relocation: &Relocation) -> bool
-    ensures { result ≡ spec.is_over_addend relocation.now }
+fn is_over_addend(addend: Addend) -> bool
+    ensures { result ≡ spec.is_over_addend addend }
 {
-    let most = if relocation.negative {
+    let most = if addend.negative {
         MAX_ADDEND + 1
     } else {
         MAX_ADDEND
     };
-    relocation.magnitude > most
+    addend.magnitude > most
+}
+
+fn shares(offset: u64, line: &Line) -> bool
+    ensures { result ≡ spec.shares offset line.now }
+{
+    match line {
+        Line::Packs(word) => {
+            u128::from(offset) < end(word.offset, WORD64_SIZE)
+                && u128::from(word.offset) < end(offset, WORD64_SIZE)
+        }
+        _ => false,
+    }
+}
+
+fn shares_any(offset: u64, before: &[Line]) -> bool
+    ensures { result ≡ list_any (spec.shares offset) before.now }
+{
+    before.iter().any(|line| shares(offset, line))
+}
+
+#[tactic(auto, unfolding(crate::specs::Checks::is_over_packed))]
+fn is_over_packed(before: &[Line], size: u64, word: PackedWord) -> bool
+    ensures { result ≡ spec.is_over_packed before.now size word }
+{
+    word.offset % 2 == 1
+        || end(word.offset, WORD64_SIZE) > u128::from(size)
+        || shares_any(word.offset, before)
+        || is_over_addend(word.addend)
 }
 
 #[tactic(auto, unfolding(crate::specs::Checks::is_over))]
-fn is_over(size: u64, line: &Line) -> bool
-    ensures { result ≡ spec.is_over size line.now }
+fn is_over(before: &[Line], size: u64, line: &Line) -> bool
+    ensures { result ≡ spec.is_over before.now size line.now }
 {
     match line {
         Line::Buckets(n) => *n == 0 || *n > MAX_BUCKETS,
@@ -83,7 +111,8 @@ fn is_over(size: u64, line: &Line) -> bool
         Line::Data(n) => *n > MAX_DATA,
         Line::Bss(n) => *n > MAX_BSS,
         Line::Put(word) => end(word.offset, WORD64_SIZE) > u128::from(size),
-        Line::Relocates(relocation) => is_over_addend(relocation),
+        Line::Relocates(relocation) => is_over_addend(relocation.addend),
+        Line::Packs(word) => is_over_packed(before, size, *word),
         _ => false,
     }
 }
@@ -204,7 +233,7 @@ fn lowest_kind(lines: &[Line], size: u64, index: usize, line: &Line) -> u8
 {
     if is_wrong(lines, index, line) {
         1
-    } else if is_over(size, line) {
+    } else if is_over(&lines[..index], size, line) {
         2
     } else if is_unknown(lines, line) {
         3
@@ -217,7 +246,7 @@ fn lowest_kind(lines: &[Line], size: u64, index: usize, line: &Line) -> u8
 
 #[tactic(auto, unfolding(crate::specs::Checks::fault_at))]
 fn fault_at(lines: &[Line], size: u64, index: usize) -> Fault
-    requires { index < 2 ^ 32 - 1 }
+    requires { index < length lines.now }
     ensures { result ≡ spec.fault_at lines.now size index }
 {
     let kind = match lines.get(index) {
@@ -225,7 +254,7 @@ fn fault_at(lines: &[Line], size: u64, index: usize) -> Fault
         None => 0,
     };
     Fault {
-        line: index as u32 + 1,
+        line: index as u64 + 1,
         kind,
     }
 }
@@ -233,7 +262,6 @@ fn fault_at(lines: &[Line], size: u64, index: usize) -> Fault
 /// The first line with a fault, and the lowest kind of its faults.
 #[tactic(auto, unfolding(crate::specs::Checks::first_fault, crate::specs::Checks::faults))]
 pub fn first_fault(lines: &[Line]) -> Option<Fault>
-    requires { length lines.now < 2 ^ 32 - 1 }
     ensures { result ≡ spec.first_fault lines.now }
 {
     let size = data_size(lines);

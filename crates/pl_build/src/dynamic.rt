@@ -6,16 +6,18 @@ use crate::choices::chosen;
 use crate::fields::{Field, Row, push_fields, push_rows};
 use crate::names::is;
 use crate::plan::Plan;
+use crate::recipe::Settings;
 use crate::roles::{Place, Role, section_name};
 use crate::strings::text_at;
 use pl_dyn::Tag;
 use pl_dyn::constants::{
-    DF_1_NOW, DF_BIND_NOW, DT_BIND_NOW, DT_DEBUG, DT_FLAGS, DT_FLAGS_1, DT_GNU_HASH, DT_HASH,
-    DT_JMPREL, DT_NEEDED, DT_NULL, DT_PLTREL, DT_PLTRELSZ, DT_RELA, DT_RELAENT, DT_RELASZ,
-    DT_STRSZ, DT_STRTAB, DT_SYMBOLIC, DT_SYMENT, DT_SYMTAB, DT_VERDEF, DT_VERDEFNUM, DT_VERNEED,
-    DT_VERNEEDNUM, DT_VERSYM,
+    DF_1_NOW, DF_1_PIE, DF_BIND_NOW, DT_BIND_NOW, DT_DEBUG, DT_FLAGS, DT_FLAGS_1, DT_GNU_HASH,
+    DT_HASH, DT_JMPREL, DT_NEEDED, DT_NULL, DT_PLTREL, DT_PLTRELSZ, DT_RELA, DT_RELAENT, DT_RELASZ,
+    DT_RELR, DT_RELRENT, DT_RELRSZ, DT_STRSZ, DT_STRTAB, DT_SYMBOLIC, DT_SYMENT, DT_SYMTAB,
+    DT_VERDEF, DT_VERDEFNUM, DT_VERNEED, DT_VERNEEDNUM, DT_VERSYM,
 };
 use pl_elf::constants::RELA_SIZE;
+use pl_relr::ENTRY_SIZE as RELR_SIZE;
 use pl_sym::constants::SYMBOL_SIZE;
 use std::alloc::{AllocError, Global};
 
@@ -125,6 +127,21 @@ fn relocation_tags(alloc: Global, places: &[Place]) -> Result<Vec<Tag>, AllocErr
     )
 }
 
+#[tactic(auto, unfolding(crate::specs::Dynamic::packed_tags))]
+fn packed_tags(alloc: Global, places: &[Place]) -> Result<Vec<Tag>, AllocError>
+    ensures { IfOk result (λ v. v.items ≡ spec.packed_tags places.now) }
+{
+    let packed = place_of(places, b".relr.dyn");
+    chosen(
+        alloc,
+        &[
+            (is_there(&packed), tag(DT_RELR, packed.addr)),
+            (is_there(&packed), tag(DT_RELRSZ, packed.size)),
+            (is_there(&packed), tag(DT_RELRENT, RELR_SIZE as u64)),
+        ],
+    )
+}
+
 #[tactic(auto, unfolding(crate::specs::Dynamic::version_tags))]
 fn version_tags(alloc: Global, plan: &Plan, places: &[Place]) -> Result<Vec<Tag>, AllocError>
     ensures { IfOk result (λ v. v.items ≡ spec.version_tags plan.now places.now) }
@@ -146,18 +163,28 @@ fn version_tags(alloc: Global, plan: &Plan, places: &[Place]) -> Result<Vec<Tag>
     )
 }
 
+#[tactic(auto, unfolding(crate::specs::Dynamic::flags_1))]
+fn flags_1(settings: &Settings) -> u64
+    ensures { result ≡ spec.flags_1 settings.now }
+{
+    let now = if settings.usual { DF_1_NOW } else { 0 };
+    let pie = if settings.kind.is_pie() { DF_1_PIE } else { 0 };
+    now + pie
+}
+
 #[tactic(auto, unfolding(crate::specs::Dynamic::usual_tags))]
 fn usual_tags(alloc: Global, plan: &Plan) -> Result<Vec<Tag>, AllocError>
     ensures { IfOk result (λ v. v.items ≡ spec.usual_tags plan.now) }
 {
     let usual = plan.settings.usual;
+    let flags_1 = flags_1(&plan.settings);
     chosen(
         alloc,
         &[
             (usual && plan.settings.kind.is_program(), tag(DT_DEBUG, 0)),
             (usual, tag(DT_BIND_NOW, 0)),
             (usual, tag(DT_FLAGS, DF_BIND_NOW)),
-            (usual, tag(DT_FLAGS_1, DF_1_NOW)),
+            (flags_1 != 0, tag(DT_FLAGS_1, flags_1)),
         ],
     )
 }
@@ -180,6 +207,7 @@ pub fn dynamic_table(alloc: Global, plan: &Plan, places: &[Place]) -> Result<Vec
     push_rows(&mut out, needed_tags(alloc, plan)?.as_slice())?;
     push_rows(&mut out, table_tags(alloc, plan, places)?.as_slice())?;
     push_rows(&mut out, relocation_tags(alloc, places)?.as_slice())?;
+    push_rows(&mut out, packed_tags(alloc, places)?.as_slice())?;
     push_rows(&mut out, version_tags(alloc, plan, places)?.as_slice())?;
     push_rows(&mut out, usual_tags(alloc, plan)?.as_slice())?;
     push_rows(&mut out, &[tag(DT_NULL, 0)])?;

@@ -52,7 +52,7 @@ fn ident() -> [Field; 9]
 fn type_of(settings: &Settings) -> u16
     ensures { result ≡ spec.type_of settings.now }
 {
-    if settings.kind.is_library() {
+    if settings.kind.is_position_independent() {
         ET_DYN
     } else {
         ET_EXEC

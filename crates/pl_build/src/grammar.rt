@@ -2,13 +2,13 @@
 ghost use Rattle.std.specs.Prelude.{◌≡◌, IfOk};
 ghost use Rattle.pl_build.specs.Grammar as spec;
 
+use crate::kind::FileKind;
 use crate::line::{DataWord, Hashes, Line, TlsBlock};
 use crate::names::is;
 use crate::relocation_lines::rel_line;
 use crate::symbol_lines::{def_line, ref_line};
 use crate::words::{copy_of, number, pieces, word};
 use pl_base::{Rows, is_valid_name};
-use pl_elf::Kind;
 use std::alloc::{AllocError, Global};
 
 #[tactic(auto, unfolding(crate::specs::Grammar::bare))]
@@ -18,11 +18,13 @@ fn bare(text: &[u8]) -> Line
     if is(text, b"") {
         Line::Empty
     } else if is(text, b"program") {
-        Line::First(Kind::Program)
+        Line::First(FileKind::Program)
+    } else if is(text, b"pie") {
+        Line::First(FileKind::Pie)
     } else if is(text, b"library") {
-        Line::First(Kind::Library)
+        Line::First(FileKind::Library)
     } else if is(text, b"static") {
-        Line::First(Kind::Static)
+        Line::First(FileKind::Static)
     } else if is(text, b"usual") {
         Line::Usual
     } else if is(text, b"symbolic") {

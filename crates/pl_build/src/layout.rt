@@ -8,6 +8,7 @@ use crate::constants::{MAX_TABLES, TABLE_ALIGN, TABLES_OFFSET};
 use crate::dynamic::dynamic_table;
 use crate::fault::RecipeFault;
 use crate::hash_tables::{gnu_table, sysv_table};
+use crate::packed::packed_table;
 use crate::plan::{Plan, base_of};
 use crate::relocations::{jump_slots, others};
 use crate::roles::{Place, Role};
@@ -47,6 +48,7 @@ fn contents(alloc: Global, plan: &Plan, places: &[Place], role: Role) -> Result<
         Role::Verneed => verneeds(alloc, plan),
         Role::RelaDyn => others(alloc, plan),
         Role::RelaPlt => jump_slots(alloc, plan),
+        Role::RelrDyn => packed_table(alloc, plan),
         Role::Dynamic => dynamic_table(alloc, plan, places),
         _ => Ok(Vec::new(alloc)),
     }

@@ -1,5 +1,5 @@
+use crate::kind::FileKind;
 use pl_base::Rows;
-use pl_elf::Kind;
 
 /// Which hash tables a file has.
 #[derive(Clone, Copy)]
@@ -60,7 +60,24 @@ pub struct Symbol {
     pub size: u64,
 }
 
-/// A line `rel`.
+/// An addend as a line writes it.
+#[derive(Clone, Copy)]
+pub struct Addend {
+    /// Whether a sign stands before the number.
+    pub negative: bool,
+    pub magnitude: u64,
+}
+
+/// A line `rel` of kind `packed`: a word of the data that holds an address, and that the packed table relocates.
+#[derive(Clone, Copy)]
+pub struct PackedWord {
+    pub offset: u64,
+
+    /// How far the address lies behind that of the data.
+    pub addend: Addend,
+}
+
+/// A line `rel` of another kind.
 #[derive(Drop)]
 pub struct Relocation {
     /// One of the `R_X86_64_` numbers.
@@ -71,10 +88,7 @@ pub struct Relocation {
 
     /// A symbol's name as its line writes it, or `-`.
     pub name: Rows<u8>,
-
-    /// The addend's sign, and the number behind it.
-    pub negative: bool,
-    pub magnitude: u64,
+    pub addend: Addend,
 }
 
 /// A line of a recipe.
@@ -83,7 +97,7 @@ pub enum Line {
     /// Not in the grammar.
     Wrong,
     Empty,
-    First(Kind),
+    First(FileKind),
     Usual,
     Hash(Hashes),
     Buckets(u64),
@@ -98,4 +112,5 @@ pub enum Line {
     Version(Rows<u8>),
     Names(Symbol),
     Relocates(Relocation),
+    Packs(PackedWord),
 }

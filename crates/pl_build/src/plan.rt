@@ -5,8 +5,9 @@ ghost use Rattle.pl_build.specs.Plan as spec;
 
 use crate::choices::chosen;
 use crate::constants::{BASE, DATA_DISTANCE};
-use crate::line::{DataWord, Relocation, Symbol};
+use crate::line::{DataWord, PackedWord, Relocation, Symbol};
 use crate::needed::{Need, files_of, needs_of};
+use crate::packed::data_words;
 use crate::recipe::{Recipe, Settings};
 use crate::roles::Role;
 use crate::strings::{Strings, add_files, add_symbols, add_texts, add_versions, start};
@@ -31,6 +32,9 @@ pub struct Plan {
     pub symbols: Rows<Symbol>,
     pub relocations: Rows<Relocation>,
 
+    /// In the order of their offsets.
+    pub packed: Rows<PackedWord>,
+
     /// The versions that are needed, and the files that they are needed of.
     pub needs: Rows<Need>,
     pub files: Rows<Rows<u8>>,
@@ -46,7 +50,11 @@ pub fn base_of(settings: &Settings) -> u64
     ensures value { result ≡ spec.base_of settings.now }
     ensures small { result < 2 ^ 32 }
 {
-    if settings.kind.is_library() { 0 } else { BASE }
+    if settings.kind.is_position_independent() {
+        0
+    } else {
+        BASE
+    }
 }
 
 /// The address of the data.
@@ -128,6 +136,7 @@ fn next_roles(alloc: Global, recipe: &Recipe, needs: &[Need]) -> Result<Vec<Role
             (needs.len() != 0, Role::Verneed),
             (has_others(relocations), Role::RelaDyn),
             (has_jump_slots(relocations), Role::RelaPlt),
+            (recipe.packed.len() != 0, Role::RelrDyn),
         ],
     )
 }
@@ -189,13 +198,15 @@ pub fn plan_of(alloc: Global, recipe: Recipe) -> Result<Plan, AllocError>
         files.as_slice(),
     )?;
     let roles = roles_of(alloc, &recipe, needs.as_slice())?;
+    let words = data_words(alloc, &recipe)?;
     let Recipe {
         settings,
         needs: needed,
-        words,
+        words: _,
         versions,
         symbols: _,
         relocations,
+        packed,
     } = recipe;
     Ok(Plan {
         settings,
@@ -204,6 +215,7 @@ pub fn plan_of(alloc: Global, recipe: Recipe) -> Result<Plan, AllocError>
         versions,
         symbols,
         relocations,
+        packed,
         needs,
         files,
         strings,

@@ -2,17 +2,18 @@ ghost use Rattle.std.specs.Prelude.{◌≡◌, IfOk};
 ghost use Rattle.pl_build.specs.Recipe as spec;
 
 use crate::constants::{BUCKETS, SPARE};
-use crate::line::{DataWord, Hashes, Line, Relocation, Symbol, TlsBlock};
+use crate::kind::FileKind;
+use crate::line::{DataWord, Hashes, Line, PackedWord, Relocation, Symbol, TlsBlock};
+use crate::packed::insert;
 use crate::symbols::copy_symbol;
 use crate::words::copy_of;
 use pl_base::Rows;
-use pl_elf::Kind;
 use std::alloc::{AllocError, Global};
 
 /// The lines of a recipe that stand once.
 #[derive(Clone, Copy)]
 pub struct Settings {
-    pub kind: Kind,
+    pub kind: FileKind,
     pub usual: bool,
     pub hashes: Hashes,
     pub buckets: u64,
@@ -24,7 +25,7 @@ pub struct Settings {
     pub tls: Option<TlsBlock>,
 }
 
-/// What all lines of a recipe say, each list in their order.
+/// What all lines of a recipe say, each list but the last in their order.
 #[derive(Drop)]
 pub struct Recipe {
     pub settings: Settings,
@@ -33,13 +34,16 @@ pub struct Recipe {
     pub versions: Rows<Rows<u8>>,
     pub symbols: Rows<Symbol>,
     pub relocations: Rows<Relocation>,
+
+    /// In the order of their offsets.
+    pub packed: Rows<PackedWord>,
 }
 
 fn defaults() -> Settings
     ensures { result ≡ spec.defaults }
 {
     Settings {
-        kind: Kind::Program,
+        kind: FileKind::Program,
         usual: false,
         hashes: Hashes {
             sysv: true,
@@ -65,6 +69,7 @@ fn empty(alloc: Global) -> Recipe
         versions: Rows::new(alloc),
         symbols: Rows::new(alloc),
         relocations: Rows::new(alloc),
+        packed: Rows::new(alloc),
     }
 }
 
@@ -123,8 +128,30 @@ fn copy_relocation(alloc: Global, relocation: &Relocation) -> Result<Relocation,
         kind: relocation.kind,
         offset: relocation.offset,
         name: copy_of(alloc, relocation.name.as_slice())?,
-        negative: relocation.negative,
-        magnitude: relocation.magnitude,
+        addend: relocation.addend,
+    })
+}
+
+fn with_packed(recipe: Recipe, word: PackedWord) -> Result<Recipe, AllocError>
+    ensures { IfOk result (λ r. r ≡ spec.with_packed recipe word) }
+{
+    let Recipe {
+        settings,
+        needs,
+        words,
+        versions,
+        symbols,
+        relocations,
+        packed,
+    } = recipe;
+    Ok(Recipe {
+        settings,
+        needs,
+        words,
+        versions,
+        symbols,
+        relocations,
+        packed: insert(packed, word)?,
     })
 }
 
@@ -155,6 +182,7 @@ fn add(alloc: Global, recipe: Recipe, line: &Line) -> Result<Recipe, AllocError>
                 .push(copy_relocation(alloc, relocation)?)?;
             Ok(recipe)
         }
+        Line::Packs(word) => with_packed(recipe, *word),
         _ => {
             recipe.settings = set(recipe.settings, line);
             Ok(recipe)

@@ -2,7 +2,7 @@
 ghost use Rattle.std.specs.Prelude.{◌≡◌, IfOk};
 ghost use Rattle.pl_build.specs.RelocationLines as spec;
 
-use crate::line::{Line, Relocation};
+use crate::line::{Addend, Line, PackedWord, Relocation};
 use crate::names::is;
 use crate::words::{copy_of, is_negative, is_written, magnitude, number, word};
 use pl_base::Rows;
@@ -75,10 +75,36 @@ fn fits(kind: u32, text: &[u8]) -> bool
     is_written(text) && (is_no_symbol(text) || kind != R_X86_64_RELATIVE)
 }
 
-/// The line of five words that begin with `rel`.
-#[tactic(auto, unfolding(crate::specs::RelocationLines::rel_line))]
-pub fn rel_line(alloc: Global, words: &[Rows<u8>]) -> Result<Line, AllocError>
-    ensures { IfOk result (λ line. line ≡ spec.rel_line words.now) }
+#[tactic(auto, unfolding(crate::specs::RelocationLines::addend))]
+fn addend(text: &[u8]) -> Option<Addend>
+    ensures { result ≡ spec.addend text.now }
+{
+    let magnitude = magnitude(text)?;
+    Some(Addend {
+        negative: is_negative(text),
+        magnitude,
+    })
+}
+
+#[tactic(auto, unfolding(crate::specs::RelocationLines::packed_line))]
+fn packed_line(words: &[Rows<u8>]) -> Line
+    ensures { result ≡ spec.packed_line words.now }
+{
+    let Some(offset) = number(word(words, 2)) else {
+        return Line::Wrong;
+    };
+    let Some(addend) = addend(word(words, 4)) else {
+        return Line::Wrong;
+    };
+    if !is_no_symbol(word(words, 3)) {
+        return Line::Wrong;
+    }
+    Line::Packs(PackedWord { offset, addend })
+}
+
+#[tactic(auto, unfolding(crate::specs::RelocationLines::relocation_line))]
+fn relocation_line(alloc: Global, words: &[Rows<u8>]) -> Result<Line, AllocError>
+    ensures { IfOk result (λ line. line ≡ spec.relocation_line words.now) }
 {
     let Some(kind) = relocation_kind(word(words, 1)) else {
         return Ok(Line::Wrong);
@@ -86,7 +112,7 @@ pub fn rel_line(alloc: Global, words: &[Rows<u8>]) -> Result<Line, AllocError>
     let Some(offset) = number(word(words, 2)) else {
         return Ok(Line::Wrong);
     };
-    let Some(magnitude) = magnitude(word(words, 4)) else {
+    let Some(addend) = addend(word(words, 4)) else {
         return Ok(Line::Wrong);
     };
     if !fits(kind, word(words, 3)) {
@@ -96,7 +122,17 @@ pub fn rel_line(alloc: Global, words: &[Rows<u8>]) -> Result<Line, AllocError>
         kind,
         offset,
         name: copy_of(alloc, word(words, 3))?,
-        negative: is_negative(word(words, 4)),
-        magnitude,
+        addend,
     }))
+}
+
+/// The line of five words that begin with `rel`.
+#[tactic(auto, unfolding(crate::specs::RelocationLines::rel_line))]
+pub fn rel_line(alloc: Global, words: &[Rows<u8>]) -> Result<Line, AllocError>
+    ensures { IfOk result (λ line. line ≡ spec.rel_line words.now) }
+{
+    if is(word(words, 1), b"packed") {
+        return Ok(packed_line(words));
+    }
+    relocation_line(alloc, words)
 }

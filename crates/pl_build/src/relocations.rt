@@ -6,6 +6,7 @@ ghost use Rattle.pl_build.specs.Relocations as spec;
 use crate::fields::{Field, Row, push_fields, push_rows};
 use crate::line::{Relocation, Symbol};
 use crate::names::is;
+use crate::packed::addend_of;
 use crate::plan::{Plan, data_address, is_jump_slot};
 use crate::relocation_lines::is_no_symbol;
 use pl_elf::constants::R_X86_64_RELATIVE;
@@ -63,25 +64,14 @@ fn symbol_number(plan: &Plan, name: &[u8]) -> u64
     }
 }
 
-#[tactic(auto, unfolding(crate::specs::Relocations::addend_of))]
-fn addend_of(relocation: &Relocation) -> u64
-    ensures { result ≡ spec.addend_of relocation.now }
-{
-    if relocation.negative {
-        0u64.wrapping_sub(relocation.magnitude)
-    } else {
-        relocation.magnitude
-    }
-}
-
 #[tactic(auto, unfolding(crate::specs::Relocations::moved_addend))]
 fn moved_addend(plan: &Plan, relocation: &Relocation) -> u64
     ensures { result ≡ spec.moved_addend plan.now relocation.now }
 {
     if relocation.kind == R_X86_64_RELATIVE {
-        data_address(&plan.settings).wrapping_add(addend_of(relocation))
+        data_address(&plan.settings).wrapping_add(addend_of(relocation.addend))
     } else {
-        addend_of(relocation)
+        addend_of(relocation.addend)
     }
 }
 

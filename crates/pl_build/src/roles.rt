@@ -2,7 +2,7 @@
 ghost use Rattle.std.specs.Prelude.{◌≡◌, position};
 ghost use Rattle.pl_build.specs.Roles as spec;
 
-use crate::constants::TABLE_ALIGN;
+use crate::constants::{SHT_RELR, TABLE_ALIGN};
 use crate::names::is;
 use pl_dyn::constants::ENTRY_SIZE;
 use pl_elf::constants::{
@@ -11,6 +11,7 @@ use pl_elf::constants::{
     SHT_STRTAB,
 };
 use pl_hash::WORD_SIZE;
+use pl_relr::ENTRY_SIZE as RELR_SIZE;
 use pl_sym::constants::SYMBOL_SIZE;
 use pl_ver::constants::VERSYM_SIZE;
 
@@ -28,6 +29,7 @@ pub enum Role {
     Verneed,
     RelaDyn,
     RelaPlt,
+    RelrDyn,
     Dynamic,
     Data,
     Bss,
@@ -60,6 +62,7 @@ pub fn section_name(role: Role) -> &'static [u8]
         Role::Verneed => b".gnu.version_r",
         Role::RelaDyn => b".rela.dyn",
         Role::RelaPlt => b".rela.plt",
+        Role::RelrDyn => b".relr.dyn",
         Role::Dynamic => b".dynamic",
         Role::Data => b".data",
         Role::Bss => b".bss",
@@ -83,6 +86,7 @@ pub fn kind_of(role: Role) -> u32
         Role::Verdef => SHT_GNU_VERDEF,
         Role::Verneed => SHT_GNU_VERNEED,
         Role::RelaDyn | Role::RelaPlt => SHT_RELA,
+        Role::RelrDyn => SHT_RELR,
         Role::Dynamic => SHT_DYNAMIC,
         Role::Bss => SHT_NOBITS,
     }
@@ -134,6 +138,7 @@ pub fn entsize_of(role: Role) -> u64
         Role::Dynsym => SYMBOL_SIZE as u64,
         Role::Versym => VERSYM_SIZE as u64,
         Role::RelaDyn | Role::RelaPlt => RELA_SIZE as u64,
+        Role::RelrDyn => RELR_SIZE as u64,
         Role::Dynamic => ENTRY_SIZE as u64,
         _ => 0,
     }

@@ -1,0 +1,101 @@
+// Words that the packed table relocates.
+ghost use Rattle.std.specs.Prelude.{◌≡◌, ◌≤◌, IfOk, length, map};
+ghost use Rattle.pl_build.specs.Packed as spec;
+ghost use Rattle.pl_build.specs.Plan as plan;
+ghost use Rattle.std.specs.List.{prefix_len};
+ghost use Rattle.pl_build.specs.Recipe.{inserted, is_up_to};
+
+use crate::line::{Addend, DataWord, PackedWord};
+use crate::plan::{Plan, data_address};
+use crate::recipe::{Recipe, Settings};
+use pl_base::Rows;
+use pl_relr::{is_packable, pack};
+use std::alloc::{AllocError, Global};
+
+/// An addend as a number of 64 bits.
+#[tactic(auto, unfolding(crate::specs::Plan::addend_of))]
+pub fn addend_of(addend: Addend) -> u64
+    ensures { result ≡ plan.addend_of addend }
+{
+    if addend.negative {
+        0u64.wrapping_sub(addend.magnitude)
+    } else {
+        addend.magnitude
+    }
+}
+
+/// How many of the first words stand up to the offset of another.
+fn count_up_to(words: &[PackedWord], word: PackedWord) -> usize
+    ensures value { result ≡ prefix_len (is_up_to word) words.now }
+    ensures within { result ≤ length words.now }
+{
+    words
+        .iter()
+        .take_while(|other| other.offset <= word.offset)
+        .count()
+}
+
+/// One word more among those in the order of their offsets.
+#[tactic(auto, using(crate::proofs::PackedLaws::insert_behind))]
+pub fn insert(words: Rows<PackedWord>, word: PackedWord) -> Result<Rows<PackedWord>, AllocError>
+    ensures { IfOk result (λ rows. rows ≡ inserted word words) }
+{
+    let at = count_up_to(words.as_slice(), word);
+    let mut words = words.into_vec();
+    words.insert(at, word)?;
+    Ok(Rows::from_vec(words))
+}
+
+/// What the data holds at a packed word: an address.
+#[tactic(auto, unfolding(crate::specs::Plan::data_word))]
+fn data_word(settings: &Settings, word: PackedWord) -> DataWord
+    ensures { result ≡ plan.data_word settings.now word }
+{
+    DataWord {
+        offset: word.offset,
+        value: data_address(settings).wrapping_add(addend_of(word.addend)),
+    }
+}
+
+fn packed_words(alloc: Global, recipe: &Recipe) -> Result<Vec<DataWord>, AllocError>
+    ensures { IfOk result (λ v. v.items ≡ map (plan.data_word recipe.now.settings) recipe.now.packed) }
+{
+    let packed = recipe.packed.as_slice();
+    packed
+        .iter()
+        .map(|word| data_word(&recipe.settings, *word))
+        .collect(alloc)
+}
+
+/// All words of the data: those of the lines `word`, then the packed ones.
+#[tactic(auto, unfolding(crate::specs::Plan::data_words))]
+pub fn data_words(alloc: Global, recipe: &Recipe) -> Result<Rows<DataWord>, AllocError>
+    ensures { IfOk result (λ words. words ≡ plan.data_words recipe.now) }
+{
+    let mut words = Vec::from_slice(alloc, recipe.words.as_slice())?;
+    words.extend_from_slice(packed_words(alloc, recipe)?.as_slice())?;
+    Ok(Rows::from_vec(words))
+}
+
+fn packed_places(alloc: Global, plan: &Plan) -> Result<Vec<u64>, AllocError>
+    ensures { IfOk result (λ v. v.items ≡ map (spec.place_of plan.now.settings) plan.now.packed) }
+{
+    let packed = plan.packed.as_slice();
+    packed
+        .iter()
+        .map(|word| data_address(&plan.settings).wrapping_add(word.offset))
+        .collect(alloc)
+}
+
+/// The bytes of `.relr.dyn`: the table of the packed places.
+#[tactic(auto, unfolding(crate::specs::Packed::packed_table))]
+pub fn packed_table(alloc: Global, plan: &Plan) -> Result<Vec<u8>, AllocError>
+    ensures { IfOk result (λ v. v.items ≡ spec.packed_table plan.now) }
+{
+    let places = packed_places(alloc, plan)?;
+    if !is_packable(places.as_slice()) {
+        return Ok(Vec::new(alloc));
+    }
+    let table = pack(alloc, places.as_slice())?;
+    Ok(table.into_vec())
+}
