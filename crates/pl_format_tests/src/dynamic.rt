@@ -5,8 +5,8 @@ use pl_dyn::constants::{
     DT_STRTAB, DT_SYMENT, DT_SYMTAB, DT_VERDEF, DT_VERDEFNUM, DT_VERNEED, DT_VERSYM,
 };
 use pl_dyn::{
-    DynFault, entry, is_address_tag, is_ended, is_listed, is_prelink_tag,
-    is_value_tag, read_dynamic, tag,
+    DynFault, entry, is_address_tag, is_ended, is_listed, is_prelink_tag, is_value_tag,
+    read_dynamic, tag,
 };
 use std::alloc::{AllocError, Global};
 use std::process::Abort;

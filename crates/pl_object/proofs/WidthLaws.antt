@@ -119,7 +119,7 @@ unfolding width raw_width
 width_is t strings bare versions kind symbol e lt =
     ap (λ (n : ℕ). if kind == R_X86_64_NONE then 0 else (if kind == R_X86_64_COPY then n else WORD64_SIZE))
     (size_of_at (versioned bare versions) symbol (word64 (SYMBOL_SIZE * symbol + 16) t) lt
-      (λ d. size_versioned bare versions symbol d ∙ size_at t strings bare symbol d e (omega (arith, lt, length-versioned bare versions))))
+    (λ d. size_versioned bare versions symbol d ∙ size_at t strings bare symbol d e (omega (arith, lt, length-versioned bare versions))))
 
 -- a relocation that is not bad has a symbol that is there
 symbol_there : (count : ℕ) (r : Reloc) → is_bad count r ≡ false → r.symbol < count

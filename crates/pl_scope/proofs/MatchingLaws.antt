@@ -61,8 +61,10 @@ no_unversioned : (o : Object) (name : List ℕ) → NoneDefines o name → unver
 unfolding unversioned counts
 no_unversioned o name none =
     rw (
-      no_first o name (λ s. index_of s.version == VER_NDX_LOCAL) none, no_first o name (λ s. index_of s.version == VER_NDX_GLOBAL) none,
-      no_first o name (λ s. index_of s.version == FIRST_VERSION) none, no_only o name (λ s. false || nat_lt s.version VERSYM_HIDDEN) none,
+      no_first o name (λ s. index_of s.version == VER_NDX_LOCAL) none,
+      no_first o name (λ s. index_of s.version == VER_NDX_GLOBAL) none,
+      no_first o name (λ s. index_of s.version == FIRST_VERSION) none,
+      no_only o name (λ s. false || nat_lt s.version VERSYM_HIDDEN) none,
     ) refl
 
 no_match : (o : Object) (name : List ℕ) (version : Option (List ℕ)) → NoneDefines o name → matching o name Jump version ≡ None
@@ -85,9 +87,9 @@ unfolding defines
 missed o t name version is none =
     no_match o name version (λ i s e. not_both (is_definer s Jump (is_program o.kind)) (bytes_eq s.name name)
     (λ holds named.
-        let same : s.name ≡ name = (bytes_eq-Decides s.name name).0 named in
-        let there : is_candidate t (name_hash t name) i ≡ true = subst (λ (n : List ℕ). is_candidate t (name_hash t n) i ≡ true) same (is.complete i s e holds) in
-        false≢true (ap (λ (xs : List ℕ). list_any (λ k. k == i) xs) none ∙ there)))
+    let same : s.name ≡ name = (bytes_eq-Decides s.name name).0 named in
+    let there : is_candidate t (name_hash t name) i ≡ true = subst (λ (n : List ℕ). is_candidate t (name_hash t n) i ≡ true) same (is.complete i s e holds) in
+    false≢true (ap (λ (xs : List ℕ). list_any (λ k. k == i) xs) none ∙ there)))
 
 -- ---- classes
 
@@ -109,12 +111,15 @@ same_match : (o : Object) (name : List ℕ) (class : Class) (version : Option (L
 unfolding versioned unversioned counts
 same_match o name class None same =
     rw (
-      same_first o name class (λ s. index_of s.version == VER_NDX_LOCAL) same, same_first o name class (λ s. index_of s.version == VER_NDX_GLOBAL) same,
-      same_first o name class (λ s. index_of s.version == FIRST_VERSION) same, same_only o name class (λ s. false || nat_lt s.version VERSYM_HIDDEN) same,
+      same_first o name class (λ s. index_of s.version == VER_NDX_LOCAL) same,
+      same_first o name class (λ s. index_of s.version == VER_NDX_GLOBAL) same,
+      same_first o name class (λ s. index_of s.version == FIRST_VERSION) same,
+      same_only o name class (λ s. false || nat_lt s.version VERSYM_HIDDEN) same,
     ) refl
 same_match o name class (Some version) same =
     rw (
-      same_first o name class (has_version o version) same, same_first o name class (λ s. s.version == VER_NDX_GLOBAL) same,
+      same_first o name class (has_version o version) same,
+      same_first o name class (λ s. s.version == VER_NDX_GLOBAL) same,
       same_only o name class (λ s. true || nat_lt s.version VERSYM_HIDDEN) same,
     ) refl
 

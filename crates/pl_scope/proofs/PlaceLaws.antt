@@ -67,15 +67,18 @@ nowhere_at p xs le i =
 pub located : (p : Symbol → Bool) (xs : List Symbol) → IsNowhere p xs ⊎ ((i : ℕ) × IsAt p xs i)
 located p xs =
     elim (cases_Bool (nat_lt (first_place p xs) (length xs))) [
-      | inl lt ↦ inr (first_place p xs, record {
+      | inl lt ↦ inr (
+        first_place p xs,
+        record {
           found = position_is p xs ∙ rw lt refl;
           passes = there p xs (ltb-true (first_place p xs) (length xs) lt);
           before = before p xs;
-        })
+        },
+      )
       | inr ge ↦ inl (record {
-          none = position_is p xs ∙ rw ge refl;
-          all = nowhere_at p xs (ltb-false (first_place p xs) (length xs) ge);
-        })
+        none = position_is p xs ∙ rw ge refl;
+        all = nowhere_at p xs (ltb-false (first_place p xs) (length xs) ge);
+      })
     ]
 
 pub at_found : (p : Symbol → Bool) (xs : List Symbol) (i : ℕ) → position p xs ≡ Some i → IsAt p xs i

@@ -138,7 +138,7 @@ headers_found bytes d size whole size_is fits =
     let headers = part (headers_at d) size bytes in
     let same : TellSame (header (drop (headers_at d) bytes)) (header headers) =
     subst (λ (xs : List ℕ). TellSame (header xs) (header headers)) (sym (headers_there bytes (headers_at d) size))
-      (header_front headers (drop (headers_at d + size) bytes) (omega (arith, length_headers bytes d size whole, whole.enough))) in
+    (header_front headers (drop (headers_at d + size) bytes) (omega (arith, length_headers bytes d size whole, whole.enough))) in
     let told : length headers ≡ headers_size (header headers) = length_headers bytes d size whole ∙ size_is ∙ same.size in
     and_from _ _ (eq-eqb _ _ told) (ap (λ (kind : ℕ). fits_kind kind (value bytes d size)) (sym same.kind) ∙ fits)
 
@@ -169,14 +169,14 @@ length_digest bytes long = omega (arith, length-take 32 (drop 48 bytes), length-
 pub is_found : (bytes : List ℕ) (u : Undo) → IsBytes bytes → undo_of bytes ≡ Ok u → IsUndoOf bytes u
 unfolding undo_of
 is_found bytes u are_bytes e = elim (cases_Bool (has_front UNDO_MAGIC 48 bytes)) [
-    | inl one ↦
-        let front = front_found None bytes one in
-        version_found bytes None u are_bytes front.0 refl (omega arith) refl (rw one at e)
-    | inr other ↦
-        let t = refuse_ok (has_front UNDO_MAGIC_2 80 bytes) BadUndo (in_version bytes (Some (part 48 32 bytes))) u (rw other at e) in
-        let front = front_found (Some (part 48 32 bytes)) bytes t.0 in
-        version_found bytes (Some (part 48 32 bytes)) u are_bytes front.0 (digest_there bytes) (omega arith) (eq-eqb _ _ (length_digest bytes front.1)) t.1
-  ]
+  | inl one ↦
+      let front = front_found None bytes one in
+      version_found bytes None u are_bytes front.0 refl (omega arith) refl (rw one at e)
+  | inr other ↦
+      let t = refuse_ok (has_front UNDO_MAGIC_2 80 bytes) BadUndo (in_version bytes (Some (part 48 32 bytes))) u (rw other at e) in
+      let front = front_found (Some (part 48 32 bytes)) bytes t.0 in
+      version_found bytes (Some (part 48 32 bytes)) u are_bytes front.0 (digest_there bytes) (omega arith) (eq-eqb _ _ (length_digest bytes front.1)) t.1
+]
 
 pub answer_found : (bytes : List ℕ) (answer : Result Undo UndoFault) → IsBytes bytes → Answers is_memory answer (undo_of bytes) → IfOk answer (IsUndoOf bytes)
 answer_found bytes (Ok u) are_bytes meant = is_found bytes u are_bytes meant

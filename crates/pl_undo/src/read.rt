@@ -128,7 +128,12 @@ fn undo_of(alloc: Global, bytes: &[u8]) -> Result<Undo, UndoFault>
         return Err(UndoFault::BadUndo);
     }
     let digest = digest_in(bytes);
-    behind_front(alloc, bytes, Some(digest), &stored_header(bytes, HEADERS_AT))
+    behind_front(
+        alloc,
+        bytes,
+        Some(digest),
+        &stored_header(bytes, HEADERS_AT),
+    )
 }
 
 /// The value of an undo section.

@@ -16,10 +16,7 @@ fn magic(digest: &Option<[u8; DIGEST_SIZE]>) -> [u8; 8]
     }
 }
 
-fn push_digest(
-    bytes: &mut Vec<u8>,
-    digest: &Option<[u8; DIGEST_SIZE]>,
-) -> Result<(), AllocError>
+fn push_digest(bytes: &mut Vec<u8>, digest: &Option<[u8; DIGEST_SIZE]>) -> Result<(), AllocError>
     ensures { OnOk result (bytes.new.items ≡ bytes.old.items ++ section.digest_bytes digest.now) }
 {
     if let Some(digest) = digest {
