@@ -30,7 +30,7 @@ opened_within t (suc n) index xs e =
     let o = opened t n index xs e in
     (o.0, o.1, more_steps t n (suc n) (following t index) o.0 (omega arith) o.2, o.3)
 
-chain_value : (o : Option (List ℕ)) → IsSome o → (xs : List ℕ) × (o ≡ Some xs)
+pub chain_value : (o : Option (List ℕ)) → IsSome o → (xs : List ℕ) × (o ≡ Some xs)
 chain_value (Some xs) h = (xs, refl)
 chain_value None h = absurd (false≢true h)
 

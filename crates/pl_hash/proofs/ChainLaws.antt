@@ -52,7 +52,7 @@ same_chain t n m start xs ys x y =
 abbrev pub ends_within : Table → ℕ → Option ℕ → Bool
 ends_within t steps at = is_some (chain_from t steps at)
 
-is_some-with_first : (index : ℕ) (rest : Option (List ℕ)) → is_some (with_first index rest) ≡ is_some rest
+pub is_some-with_first : (index : ℕ) (rest : Option (List ℕ)) → is_some (with_first index rest) ≡ is_some rest
 is_some-with_first index None = refl
 is_some-with_first index (Some rest) = refl
 

@@ -1,4 +1,5 @@
 pub mod ChainLaws
 pub mod WholeLaws
 pub mod CandidateLaws
-pub mod MarkLaws
+pub mod LengthLaws
+pub mod JumpLaws

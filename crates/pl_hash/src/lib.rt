@@ -3,16 +3,17 @@
 
 mod chain;
 mod hash;
+mod jumps;
+mod lengths;
 mod lookup;
-mod marks;
 mod table;
 mod whole;
 
 pub use hash::{GNU_START, SYSV_TOP, gnu_hash, sysv_hash};
+pub use jumps::found;
 pub use lookup::{first, name_hash, next};
-pub use marks::found;
 pub use table::{
     BLOOM_SHIFT, BLOOM_SIZE, BLOOM_WORD_BITS, BLOOM_WORD_SIZE, GNU_HEADER_SIZE, NBUCKET, NCHAIN,
     SYMOFFSET, SYSV_HEADER_SIZE, Table, WORD_SIZE,
 };
-pub use whole::well_formed;
+pub use whole::{is_whole, well_formed};
