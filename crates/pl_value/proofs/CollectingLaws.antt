@@ -1,14 +1,13 @@
 -- A loop over the rows of a scope, object by object.
-use Rattle.std.proofs.Common.{◌≡◌, ℕ, ◌+◌, ◌<◌, ◌≤◌, List, [], ◌∷◌, ◌++◌, length, map, drop, get_or, Result, Ok, Err, sym, ap, ◌∙◌, arith}
+use Rattle.std.proofs.Common.{◌≡◌, ℕ, ◌+◌, ◌<◌, ◌≤◌, List, [], ◌∷◌, ◌++◌, length, map, drop, get_or, Some, Result, Ok, Err, sym, ap, ◌∙◌, arith}
 use Rattle.std.proofs.lemmas.List.{append-nil, at_drop_more, at_drop_all, get_or-map, length-map}
-use Rattle.std.specs.Prelude.{MatchBool, ⊤}
+use Rattle.std.specs.Prelude.{MatchBool, ⊤, slice_get}
+use Rattle.std.proofs.lemmas.Option.{slice_get_within, get_or_from_slice_get}
 use Rattle.pl_base.specs.Answers.{because}
 use Rattle.pl_base.specs.Each.{each, with_front}
 use Rattle.pl_base.proofs.EachLaws.{each_more, each_stops, each_done, front_more, front_stops}
 use Rattle.pl_object.specs.declared.object.Object.{Object}
 use Rattle.pl_object.specs.declared.reloc.Reloc.{Reloc}
-use Rattle.pl_scope.specs.Scope.{objects}
-use Rattle.pl_scope.specs.declared.member.Member.{Member}
 use Rattle.pl_value.specs.Meanings.{Row, row, rows_from, is_memory}
 use Rattle.pl_value.specs.declared.fault.LinkFault.{LinkFault}
 use Rattle.pl_value.specs.declared.fault.OrdinaryFault.{OrdinaryFault}
@@ -47,30 +46,29 @@ relocs_done f member rs i front whole le so_far = each_done f (map (row member) 
 
 -- ---- the rows from a member on
 
-pub rows_more : (members : List Member) (i : ℕ) (m : Member) → i < length members → m ≡ get_or members i m → rows_from i (drop i (objects members)) ≡ map (row i) m.object.now.relocations ++ rows_from (i + 1) (drop (i + 1) (objects members))
+pub rows_more : (os : List Object) (i : ℕ) (o : Object) → slice_get os i ≡ Some o → rows_from i (drop i os) ≡ map (row i) o.relocations ++ rows_from (i + 1) (drop (i + 1) os)
 unfolding rows_from
-rows_more members i m lt is =
-    let at : get_or (objects members) i m.object.now ≡ m.object.now = get_or-map (λ (k : Member). k.object.now) members i m m.object.now lt ∙ ap (λ (k : Member). k.object.now) (sym is) in
-    at_drop_more (rows_from i) (objects members) i m.object.now (omega (arith, length-map members (λ (k : Member). k.object.now)))
-    ∙ ap (λ (o : Object). map (row i) o.relocations ++ rows_from (i + 1) (drop (i + 1) (objects members))) at
+rows_more os i o e =
+    at_drop_more (rows_from i) os i o (slice_get_within os i o e)
+    ∙ ap (λ (p : Object). map (row i) p.relocations ++ rows_from (i + 1) (drop (i + 1) os)) (get_or_from_slice_get os i o o e)
 
-pub rows_done : (members : List Member) (i : ℕ) → length members ≤ i → rows_from i (drop i (objects members)) ≡ []
+pub rows_done : (os : List Object) (i : ℕ) → length os ≤ i → rows_from i (drop i os) ≡ []
 unfolding rows_from
-rows_done members i le = at_drop_all (rows_from i) (objects members) i (omega (arith, length-map members (λ (k : Member). k.object.now)))
+rows_done os i le = at_drop_all (rows_from i) os i le
 
 -- one member more
-pub member_more : (f : Row → Result Meaning LinkFault) (members : List Member) (i : ℕ) (m : Member) (front new : List Meaning) (whole : Result (List Meaning) LinkFault) → i < length members → m ≡ get_or members i m
-    → with_front front (each f (map (row i) m.object.now.relocations)) ≡ Ok new → with_front front (each f (rows_from i (drop i (objects members)))) ≡ whole → with_front new (each f (rows_from (i + 1) (drop (i + 1) (objects members)))) ≡ whole
-member_more f members i m front new whole lt is ok so_far =
-    sym (front_more f (map (row i) m.object.now.relocations) (rows_from (i + 1) (drop (i + 1) (objects members))) front new ok) ∙ (rw (rows_more members i m lt is) at so_far)
+pub member_more : (f : Row → Result Meaning LinkFault) (os : List Object) (i : ℕ) (o : Object) (front new : List Meaning) (whole : Result (List Meaning) LinkFault) → slice_get os i ≡ Some o
+    → with_front front (each f (map (row i) o.relocations)) ≡ Ok new → with_front front (each f (rows_from i (drop i os))) ≡ whole → with_front new (each f (rows_from (i + 1) (drop (i + 1) os))) ≡ whole
+member_more f os i o front new whole e ok so_far =
+    sym (front_more f (map (row i) o.relocations) (rows_from (i + 1) (drop (i + 1) os)) front new ok) ∙ (rw (rows_more os i o e) at so_far)
 
 -- one that is refused, or a want of memory
-pub member_stops : (f : Row → Result Meaning LinkFault) (members : List Member) (i : ℕ) (m : Member) (front : List Meaning) (e : OrdinaryFault) (whole : Result (List Meaning) LinkFault) → i < length members → m ≡ get_or members i m
-    → MatchBool (is_memory e) ⊤ (because Link (with_front front (each f (map (row i) m.object.now.relocations))) ≡ Err e) → with_front front (each f (rows_from i (drop i (objects members)))) ≡ whole → MatchBool (is_memory e) ⊤ (because Link whole ≡ Err e)
-member_stops f members i m front e whole lt is stop so_far =
-    front_stops_or f (map (row i) m.object.now.relocations) (rows_from (i + 1) (drop (i + 1) (objects members))) front e whole stop (rw (rows_more members i m lt is) at so_far)
+pub member_stops : (f : Row → Result Meaning LinkFault) (os : List Object) (i : ℕ) (o : Object) (front : List Meaning) (e : OrdinaryFault) (whole : Result (List Meaning) LinkFault) → slice_get os i ≡ Some o
+    → MatchBool (is_memory e) ⊤ (because Link (with_front front (each f (map (row i) o.relocations))) ≡ Err e) → with_front front (each f (rows_from i (drop i os))) ≡ whole → MatchBool (is_memory e) ⊤ (because Link whole ≡ Err e)
+member_stops f os i o front e whole at stop so_far =
+    front_stops_or f (map (row i) o.relocations) (rows_from (i + 1) (drop (i + 1) os)) front e whole stop (rw (rows_more os i o at) at so_far)
 
 -- none is left
-pub members_done : (f : Row → Result Meaning LinkFault) (members : List Member) (i : ℕ) (front : List Meaning) (whole : Result (List Meaning) LinkFault) → length members ≤ i → with_front front (each f (rows_from i (drop i (objects members)))) ≡ whole → whole ≡ Ok front
+pub members_done : (f : Row → Result Meaning LinkFault) (os : List Object) (i : ℕ) (front : List Meaning) (whole : Result (List Meaning) LinkFault) → length os ≤ i → with_front front (each f (rows_from i (drop i os))) ≡ whole → whole ≡ Ok front
 unfolding each
-members_done f members i front whole le so_far = sym (rw (rows_done members i le) at so_far) ∙ ap (λ (gs : List Meaning). Ok gs) (append-nil front)
+members_done f os i front whole le so_far = sym (rw (rows_done os i le) at so_far) ∙ ap (λ (gs : List Meaning). Ok gs) (append-nil front)

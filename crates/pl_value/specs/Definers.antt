@@ -1,5 +1,5 @@
 -- The symbol that a reference finds, with its object.
-use Rattle.std.specs.Prelude.{ℕ, Bool, false, ◌==◌, List, Option, Some, None, slice_get}
+use Rattle.std.specs.Prelude.{◌≡◌, ℕ, Bool, false, ◌==◌, List, Option, Some, None, slice_get}
 use Rattle.pl_sym.specs.declared.constants.TheConstants.{STB_WEAK}
 use Rattle.pl_sym.specs.declared.symbol.Symbol.{Symbol}
 use Rattle.pl_object.specs.declared.object.Object.{Object}
@@ -32,6 +32,10 @@ of_found objects (Some found) = in_object found (slice_get objects found.member)
 -- the definer that a reference finds
 unfoldable pub definer : List Object → Reference → Option Definer
 definer objects r = of_found objects (finds objects r)
+
+-- it is known what the symbol of a reference finds; symbol 0 is no reference
+abbrev pub IsSought : List Object → Reference → Option Found → Type 0
+IsSought objects r found = (r.symbol == 0) ≡ false → found ≡ finds objects r
 
 -- ---- references that may stay without one
 

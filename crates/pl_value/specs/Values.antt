@@ -37,6 +37,10 @@ abbrev pub of_reloc : List Object → List ℕ → List Module → ℕ → Optio
 of_reloc objects places modules member None = Ok Nothing
 of_reloc objects places modules member (Some r) = value_of objects places modules member r
 
+-- a relocation of a member
+abbrev pub reloc_at : List Object → ℕ → ℕ → Option Reloc
+reloc_at objects member index = slice_get (relocations_in (slice_get objects member)) index
+
 unfoldable pub value : List Object → List ℕ → List Module → ℕ → ℕ → Result Word LinkFault
 value objects places modules member index =
     of_reloc objects places modules member (slice_get (relocations_in (slice_get objects member)) index)

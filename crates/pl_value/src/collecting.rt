@@ -1,36 +1,50 @@
 // What all relocations of a scope give.
-ghost use Rattle.std.specs.Prelude.{◌≡◌, map, Ok, Err, OnOk, IfErr};
+ghost use Rattle.std.specs.Prelude.{◌≡◌, length, map, Ok, Err, OnOk, IfErr};
 ghost use Rattle.std.specs.List.{All};
 ghost use Rattle.pl_base.specs.Answers.{Answers, because};
 ghost use Rattle.pl_base.specs.Each.{each, with_front};
 ghost use Rattle.pl_scope.specs.Scope.{objects, IsSymbol};
-ghost use Rattle.pl_value.specs.Linkable.{IsLinkable};
+ghost use Rattle.pl_value.specs.Definers.{IsSought};
 ghost use Rattle.pl_value.specs.Meanings as spec;
 ghost use Rattle.pl_value.specs.declared.fault.OrdinaryFault.TheVariants.{Link};
 
 use crate::targets::base_of;
-use crate::values::value_of;
+use crate::values::{reference_of, word_of};
 use crate::{LinkFault, Meaning, OrdinaryFault, Places};
 use pl_base::Rows;
 use pl_object::Reloc;
-use pl_scope::Scope;
+use pl_scope::{Found, Kept, Reference, Scope};
 use pl_tls::Module;
 use std::alloc::Global;
+
+/// What the symbol of a reference finds, by the answers that are kept. Symbol 0 is no reference.
+fn sought(kept: &mut Kept<'_, '_>, reference: Reference) -> Option<Found>
+    requires { IsSymbol (objects kept.old) reference.member reference.symbol }
+    ensures exact { IsSought (objects kept.old) reference result }
+    ensures same { kept.new ≡ kept.old }
+{
+    if reference.symbol == 0 {
+        return None;
+    }
+    kept.find(reference)
+}
 
 /// The place of a relocation of a member as loaded, and what it gives.
 #[tactic(auto, unfolding(crate::specs::Meanings::meaning))]
 fn meaning(
-    scope: &Scope<'_>,
+    kept: &mut Kept<'_, '_>,
     places: &Places,
     tls: &[Module],
     member: u32,
     reloc: &Reloc,
 ) -> Result<Meaning, LinkFault>
-    requires linkable { IsLinkable scope.now.members.items places.now.rows }
-    requires reference { IsSymbol scope.now.members.items member reloc.now.symbol }
-    ensures { result ≡ spec.meaning (objects scope.now.members.items) places.now.rows tls.now (spec.row member reloc.now) }
+    requires one_each { length places.now ≡ length kept.old }
+    requires reference { IsSymbol (objects kept.old) member reloc.now.symbol }
+    ensures exact { result ≡ spec.meaning (objects kept.old) places.now tls.now (spec.row member reloc.now) }
+    ensures same { kept.new ≡ kept.old }
 {
-    let word = value_of(scope, places, tls, member, reloc)?;
+    let found = sought(kept, reference_of(member, reloc));
+    let word = word_of(kept.scope(), places, tls, member, reloc, found)?;
     Ok(Meaning {
         member,
         start: base_of(places, member).wrapping_add(reloc.address),
@@ -41,20 +55,21 @@ fn meaning(
 
 /// Adds what relocations of a member give, in their order.
 fn add_each(
-    scope: &Scope<'_>,
+    kept: &mut Kept<'_, '_>,
     places: &Places,
     tls: &[Module],
     member: u32,
     relocs: &[Reloc],
     meanings: &mut Rows<Meaning>,
 ) -> Result<(), OrdinaryFault>
-    requires linkable { IsLinkable scope.now.members.items places.now.rows }
-    requires references { All (λ r. IsSymbol scope.now.members.items member r.symbol) relocs.now }
-    ensures ok { OnOk result (with_front meanings.old (each (spec.meaning (objects scope.now.members.items) places.now.rows tls.now) (map (spec.row member) relocs.now)) ≡ Ok meanings.new) }
-    ensures err { IfErr result (λ fault. Answers spec.is_memory (Err fault) (because Link (with_front meanings.old (each (spec.meaning (objects scope.now.members.items) places.now.rows tls.now) (map (spec.row member) relocs.now))))) }
+    requires one_each { length places.now ≡ length kept.old }
+    requires references { All (λ r. IsSymbol (objects kept.old) member r.symbol) relocs.now }
+    ensures ok { OnOk result (with_front meanings.old (each (spec.meaning (objects kept.old) places.now tls.now) (map (spec.row member) relocs.now)) ≡ Ok meanings.new) }
+    ensures err { IfErr result (λ fault. Answers spec.is_memory (Err fault) (because Link (with_front meanings.old (each (spec.meaning (objects kept.old) places.now tls.now) (map (spec.row member) relocs.now))))) }
+    ensures same { kept.new ≡ kept.old }
 {
     for reloc in relocs {
-        let meaning = meaning(scope, places, tls, member, reloc)?;
+        let meaning = meaning(kept, places, tls, member, reloc)?;
         meanings.push(meaning)?;
     }
     Ok(())
@@ -67,14 +82,15 @@ pub fn meanings(
     places: &Places,
     tls: &[Module],
 ) -> Result<Rows<Meaning>, OrdinaryFault>
-    requires { IsLinkable scope.now.members.items places.now.rows }
-    ensures { Answers spec.is_memory result (because Link (spec.meanings (objects scope.now.members.items) places.now.rows tls.now)) }
+    requires { length places.now ≡ length scope.now }
+    ensures { Answers spec.is_memory result (because Link (spec.meanings (objects scope.now) places.now tls.now)) }
 {
+    let mut kept = Kept::new(alloc, scope)?;
     let mut meanings = Rows::new(alloc);
-    for member in 0..scope.members.len() as u32 {
-        let object = scope.members[member as usize].object;
+    for member in 0..scope.count() {
+        let object = scope.object(member);
         let relocs = object.relocations.as_slice();
-        add_each(scope, places, tls, member, relocs, &mut meanings)?;
+        add_each(&mut kept, places, tls, member, relocs, &mut meanings)?;
     }
     Ok(meanings)
 }

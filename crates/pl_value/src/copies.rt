@@ -2,16 +2,15 @@
 ghost use Rattle.std.specs.Prelude.{◌≡◌, ◌<◌, length};
 ghost use Rattle.std.specs.List.{list_any};
 ghost use Rattle.pl_scope.specs.Scope.{objects, IsSymbol};
-ghost use Rattle.pl_value.specs.Definers.{seen};
-ghost use Rattle.pl_value.specs.Linkable.{IsLinkable};
+ghost use Rattle.pl_value.specs.Definers.{seen, IsSought};
 ghost use Rattle.pl_value.specs.Copies as spec;
 
-use crate::definer::{Definer, find_definer, is_weak};
+use crate::definer::{Definer, definer_of, is_weak};
 use crate::targets::address;
 use crate::{LinkFault, Places, Word};
 use pl_elf::Segment;
 use pl_object::{Window, is_in_segment};
-use pl_scope::{Reference, Scope, own_symbol};
+use pl_scope::{Found, Reference, Scope, own_symbol};
 
 #[tactic(auto, unfolding(crate::specs::Copies::is_in_load))]
 fn is_in_load(from: u64, size: u64, segment: &Segment) -> bool
@@ -44,8 +43,8 @@ fn copied(
     size: u64,
     definer: &Definer<'_>,
 ) -> Result<Word, LinkFault>
-    requires { definer.now.member < length places.now.rows }
-    ensures { result ≡ spec.copied places.now.rows reference size (seen definer.now) }
+    requires { definer.now.member < length places.now }
+    ensures { result ≡ spec.copied places.now reference size (seen definer.now) }
 {
     let symbol = definer.symbol;
     if symbol.is_tls() {
@@ -64,15 +63,21 @@ fn copied(
 
 /// What a COPY gives: the lesser of the two symbols' sizes is copied. Nothing for symbol 0, and for a weak symbol without definer.
 #[tactic(auto, unfolding(crate::specs::Copies::copy))]
-pub fn copy(scope: &Scope<'_>, places: &Places, reference: Reference) -> Result<Word, LinkFault>
-    requires linkable { IsLinkable scope.now.members.items places.now.rows }
-    requires reference { IsSymbol scope.now.members.items reference.member reference.symbol }
-    ensures { result ≡ spec.copy (objects scope.now.members.items) places.now.rows reference }
+pub fn copy(
+    scope: &Scope<'_>,
+    places: &Places,
+    reference: Reference,
+    found: Option<Found>,
+) -> Result<Word, LinkFault>
+    requires one_each { length places.now ≡ length scope.now }
+    requires reference { IsSymbol (objects scope.now) reference.member reference.symbol }
+    requires found { IsSought (objects scope.now) reference found }
+    ensures { result ≡ spec.copy (objects scope.now) places.now reference }
 {
     if reference.symbol == 0 {
         return Ok(Word::Nothing);
     }
-    let Some(definer) = find_definer(scope, reference) else {
+    let Some(definer) = definer_of(scope, reference, found) else {
         if !is_weak(scope, reference) {
             return Err(LinkFault::undefined(reference));
         }

@@ -1,11 +1,12 @@
 // The symbol that a reference finds, with its object.
 ghost use Rattle.std.specs.Prelude.{◌≡◌, ◌<◌, length, IfSome};
 ghost use Rattle.std.specs.Option.{option_map};
-ghost use Rattle.pl_scope.specs.Scope.{objects, IsScope, IsSymbol};
+ghost use Rattle.pl_scope.specs.Scope.{objects, IsSymbol};
+ghost use Rattle.pl_scope.specs.Finds.{finds};
 ghost use Rattle.pl_value.specs.Definers as spec;
 
 use pl_object::Object;
-use pl_scope::{Reference, Scope, find, own_symbol};
+use pl_scope::{Found, Reference, Scope, own_symbol};
 use pl_sym::Symbol;
 use pl_sym::constants::STB_WEAK;
 
@@ -18,18 +19,21 @@ pub struct Definer<'a> {
     pub symbol: &'a Symbol,
 }
 
-/// The definer that a reference finds. None exactly where there is none.
+/// The definer that a reference finds, by what was found. None exactly where there is none.
 #[tactic(auto, unfolding(crate::specs::Definers::definer))]
-pub fn find_definer<'a>(scope: &Scope<'a>, reference: Reference) -> Option<Definer<'a>>
-    requires scope { IsScope scope.now.members.items }
-    requires reference { IsSymbol scope.now.members.items reference.member reference.symbol }
-    ensures exact { option_map spec.seen result ≡ spec.definer (objects scope.now.members.items) reference }
-    ensures within { IfSome result (λ d. d.member < length scope.now.members.items) }
+pub fn definer_of<'a>(
+    scope: &Scope<'a>,
+    reference: Reference,
+    found: Option<Found>,
+) -> Option<Definer<'a>>
+    requires { found ≡ finds (objects scope.now) reference }
+    ensures exact { option_map spec.seen result ≡ spec.definer (objects scope.now) reference }
+    ensures within { IfSome result (λ d. d.member < length scope.now) }
 {
-    let Some(found) = find(scope, reference) else {
+    let Some(found) = found else {
         return None;
     };
-    let object = scope.members[found.member as usize].object;
+    let object = scope.object(found.member);
     let symbol = &object.symbols.as_slice()[found.symbol as usize];
     Some(Definer {
         member: found.member,
@@ -41,8 +45,8 @@ pub fn find_definer<'a>(scope: &Scope<'a>, reference: Reference) -> Option<Defin
 /// Whether a reference's own symbol is weak, so that it may stay without a definer.
 #[tactic(auto, unfolding(crate::specs::Definers::is_weak))]
 pub fn is_weak(scope: &Scope<'_>, reference: Reference) -> bool
-    requires { IsSymbol scope.now.members.items reference.member reference.symbol }
-    ensures { result ≡ spec.is_weak (objects scope.now.members.items) reference }
+    requires { IsSymbol (objects scope.now) reference.member reference.symbol }
+    ensures { result ≡ spec.is_weak (objects scope.now) reference }
 {
     own_symbol(scope, reference).bind == STB_WEAK
 }

@@ -1,6 +1,7 @@
 ghost use Rattle.std.specs.Prelude.{◌≡◌};
 ghost use Rattle.pl_value.specs.declared.fault.LinkFault.TheVariants as faults;
 
+use pl_io::NoMemory;
 use pl_scope::Reference;
 use std::alloc::{AllocError, AllocFailed};
 use thiserror::Error;
@@ -91,6 +92,16 @@ impl From<AllocError> for OrdinaryFault {
     ghost from_gives = { λ _ fault. fault ≡ whole.NoMemory };
 
     fn from(_: AllocError) -> OrdinaryFault {
+        OrdinaryFault::NoMemory
+    }
+}
+
+impl From<NoMemory> for OrdinaryFault {
+    ghost use Rattle.pl_value.specs.declared.fault.OrdinaryFault.TheVariants as whole;
+
+    ghost from_gives = { λ _ fault. fault ≡ whole.NoMemory };
+
+    fn from(_: NoMemory) -> OrdinaryFault {
         OrdinaryFault::NoMemory
     }
 }

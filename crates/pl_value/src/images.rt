@@ -3,7 +3,6 @@ ghost use Rattle.std.specs.Prelude.{◌≡◌, ◌<◌, length, IfOk};
 ghost use Rattle.pl_base.specs.Memory.{layered, filled};
 ghost use Rattle.pl_image.specs.Image.{all_pieces, AreLoaded};
 ghost use Rattle.pl_scope.specs.Scope.{objects};
-ghost use Rattle.pl_value.specs.Linkable.{IsLinkable};
 ghost use Rattle.pl_value.specs.Linked as linked;
 ghost use Rattle.pl_value.specs.Ordinary as spec;
 
@@ -23,16 +22,16 @@ fn load<'a>(
     parts: &Parts<'a>,
     places: &Places,
 ) -> Result<Vec<Loaded<'a>>, AllocError>
-    requires linkable { IsLinkable scope.now.members.items places.now.rows }
-    requires parts { length parts.now ≡ length scope.now.members.items }
-    requires placed { spec.ArePlaced places.now.rows parts.now (objects scope.now.members.items) }
-    ensures value { IfOk result (λ v. v.items ≡ spec.loaded places.now.rows parts.now (objects scope.now.members.items)) }
+    requires one_each { length places.now ≡ length scope.now }
+    requires parts { length parts.now ≡ length scope.now }
+    requires placed { spec.ArePlaced places.now parts.now (objects scope.now) }
+    ensures value { IfOk result (λ v. v.items ≡ spec.loaded places.now parts.now (objects scope.now)) }
     ensures loaded { IfOk result (λ v. AreLoaded v.items) }
 {
     let files = parts.as_slice();
     let mut loaded = Vec::new(alloc);
-    for member in 0..scope.members.len() as u32 {
-        let object = scope.members[member as usize].object;
+    for member in 0..scope.count() {
+        let object = scope.object(member);
         let place = base_of(places, member);
         loaded.push(load_object(alloc, object, files[member as usize], place)?)?;
     }
@@ -116,11 +115,11 @@ pub fn ordinary<'a>(
     places: &Places,
     tls: &[Module],
 ) -> Result<Image<'a>, OrdinaryFault>
-    requires linkable { IsLinkable scope.now.members.items places.now.rows }
-    requires parts { length parts.now ≡ length scope.now.members.items }
-    requires placed { spec.ArePlaced places.now.rows parts.now (objects scope.now.members.items) }
-    ensures exact { spec.IsOrdinary result (spec.ordinary (objects scope.now.members.items) parts.now places.now.rows tls.now) }
-    ensures objects { IfOk result (λ image. image.objects ≡ spec.loaded places.now.rows parts.now (objects scope.now.members.items)) }
+    requires one_each { length places.now ≡ length scope.now }
+    requires parts { length parts.now ≡ length scope.now }
+    requires placed { spec.ArePlaced places.now parts.now (objects scope.now) }
+    ensures exact { spec.IsOrdinary result (spec.ordinary (objects scope.now) parts.now places.now tls.now) }
+    ensures objects { IfOk result (λ image. image.objects ≡ spec.loaded places.now parts.now (objects scope.now)) }
 {
     let meanings = meanings(alloc, scope, places, tls)?;
     let loaded = load(alloc, scope, parts, places)?;

@@ -22,5 +22,5 @@ pub use images::ordinary;
 pub use law::meanings_fit;
 pub use meaning::Meaning;
 pub use places::Places;
-pub use values::value;
+pub use values::{value, value_of};
 pub use word::Word;

@@ -1,23 +1,24 @@
 // Words of thread-local storage.
 ghost use Rattle.std.specs.Prelude.{◌≡◌, slice_get};
-ghost use Rattle.pl_scope.specs.Scope.{objects, IsScope, IsSymbol};
+ghost use Rattle.pl_scope.specs.Scope.{objects, IsSymbol};
+ghost use Rattle.pl_value.specs.Definers.{IsSought};
 ghost use Rattle.pl_value.specs.Tls as spec;
 
 use crate::LinkFault;
-use crate::definer::find_definer;
+use crate::definer::definer_of;
 use crate::targets::added;
 use crate::tls_index::TlsIndex;
 use pl_elf::constants::{R_X86_64_DTPMOD64, R_X86_64_DTPOFF64, R_X86_64_TPOFF64};
 use pl_object::Reloc;
-use pl_scope::{Reference, Scope};
+use pl_scope::{Found, Reference, Scope};
 use pl_tls::Module;
 
 /// The begin of the object's own block.
 fn own(scope: &Scope<'_>, reference: Reference) -> Result<TlsIndex, LinkFault>
-    requires { IsSymbol scope.now.members.items reference.member reference.symbol }
-    ensures { result ≡ spec.own reference (spec.has_block (slice_get (objects scope.now.members.items) reference.member)) }
+    requires { IsSymbol (objects scope.now) reference.member reference.symbol }
+    ensures { result ≡ spec.own reference (spec.has_block (slice_get (objects scope.now) reference.member)) }
 {
-    let object = scope.members[reference.member as usize].object;
+    let object = scope.object(reference.member);
     if object.tls.is_none() {
         return Err(LinkFault::tls_mismatch(reference));
     }
@@ -29,15 +30,19 @@ fn own(scope: &Scope<'_>, reference: Reference) -> Result<TlsIndex, LinkFault>
 
 /// The variable that a reference stands for. Symbol 0 stands for the begin of its object's own block.
 #[tactic(auto, unfolding(crate::specs::Tls::variable))]
-pub fn variable(scope: &Scope<'_>, reference: Reference) -> Result<TlsIndex, LinkFault>
-    requires scope { IsScope scope.now.members.items }
-    requires reference { IsSymbol scope.now.members.items reference.member reference.symbol }
-    ensures { result ≡ spec.variable (objects scope.now.members.items) reference }
+pub fn variable(
+    scope: &Scope<'_>,
+    reference: Reference,
+    found: Option<Found>,
+) -> Result<TlsIndex, LinkFault>
+    requires reference { IsSymbol (objects scope.now) reference.member reference.symbol }
+    requires found { IsSought (objects scope.now) reference found }
+    ensures { result ≡ spec.variable (objects scope.now) reference }
 {
     if reference.symbol == 0 {
         return own(scope, reference);
     }
-    let Some(definer) = find_definer(scope, reference) else {
+    let Some(definer) = definer_of(scope, reference, found) else {
         return Err(LinkFault::undefined_tls(reference));
     };
     if !(definer.symbol.is_tls() && definer.object.tls.is_some()) {

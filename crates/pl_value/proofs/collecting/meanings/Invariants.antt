@@ -6,5 +6,9 @@ use Rattle.pl_value.proofs.collecting.meanings.Given as goal
 
 abbrev pub invariant-loop-member : goal.invariant-loop-member
 invariant-loop-member l =
-    with_front l.meanings (each (spec.meaning (objects l.scope.members.items) l.places.rows l.tls) (spec.rows_from l.member (drop l.member (objects l.scope.members.items))))
-    ≡ each (spec.meaning (objects l.scope.members.items) l.places.rows l.tls) (spec.rows (objects l.scope.members.items))
+    record {
+      so_far :
+          with_front l.meanings (each (spec.meaning (objects l.scope) l.places l.tls) (spec.rows_from l.member (drop l.member (objects l.scope))))
+          ≡ each (spec.meaning (objects l.scope) l.places l.tls) (spec.rows (objects l.scope));
+      same : l.kept ≡ l.scope;
+    }

@@ -8,6 +8,8 @@ use Rattle.pl_image.specs.Image.{all_pieces, ascends}
 use Rattle.pl_image.specs.Loads.{loaded_at}
 use Rattle.pl_image.specs.declared.loaded.Loaded.{Loaded}
 use Rattle.pl_object.specs.declared.object.Object.{Object}
+use Rattle.pl_scope.specs.Scope.{objects}
+use Rattle.pl_scope.proofs.MemberLaws.{length_objects}
 use Rattle.pl_value.specs.Ordinary.{part_of}
 use Rattle.pl_value.proofs.OrdinaryLaws.{placed_at, loaded_step, loaded_whole}
 use Rattle.pl_value.proofs.images.load.Goals as goal
@@ -28,25 +30,24 @@ loads_is parts files i d place base o x lt same at is =
 
 pub load_object-requires : goal.load_object-requires
 load_object-requires c =
-    let lt : c.loop-member.member < length c.args.scope.now.members.items = omega arith in
-    rw c.base_of-place.ensures (placed_at c.args.scope.now.members.items c.args.places.now.rows c.args.parts.now c.loop-member.member c.index.result.now c.requires.placed lt c.index.ensures)
+    rw c.base_of-place.ensures (placed_at (objects c.args.scope.now) c.args.places.now c.args.parts.now c.loop-member.member _ c.requires.placed c.object-object.ensures.object)
 
 pub loop-member-preserved : goal.loop-member-preserved
 loop-member-preserved c =
-    let lt : c.loop-member.member < length c.args.scope.now.members.items = omega arith in
-    let loads = loads_is c.args.parts.now c.as_slice-files.result.now c.loop-member.member _ c.base_of-place.result _ c.index.result.now.object.now c.in_ok-load_object.field-0 (omega (arith, lt)) c.as_slice-files.ensures c.base_of-place.ensures c.in_ok-load_object.ensures.value in
+    let lt : c.loop-member.member < length c.args.scope.now = omega arith in
+    let loads = loads_is c.args.parts.now c.as_slice-files.result.now c.loop-member.member _ c.base_of-place.result _ c.object-object.result.now c.in_ok-load_object.field-0 (omega (arith, lt)) c.as_slice-files.ensures c.base_of-place.ensures c.in_ok-load_object.ensures.value in
     record {
-      so_far = loaded_step c.args.scope.now.members.items c.args.places.now.rows c.args.parts.now c.loop-member.member c.index.result.now c.loop-member.loaded.items c.push.new.self.items _ c.in_ok-load_object.field-0 lt c.index.ensures loads c.in_ok-push.ensures.items c.loop-member.invariant.so_far;
+      so_far = loaded_step (objects c.args.scope.now) c.args.places.now c.args.parts.now c.loop-member.member _ c.loop-member.loaded.items c.push.new.self.items _ c.in_ok-load_object.field-0 c.object-object.ensures.object loads c.in_ok-push.ensures.items c.loop-member.invariant.so_far;
       ascend = All-same Ascends _ _ c.in_ok-push.ensures.items (All-push Ascends c.loop-member.loaded.items c.in_ok-load_object.field-0 c.loop-member.invariant.ascend c.in_ok-load_object.ensures.ascends);
       fit = All-same Fits _ _ c.in_ok-push.ensures.items (All-push Fits c.loop-member.loaded.items c.in_ok-load_object.field-0 c.loop-member.invariant.fit c.in_ok-load_object.ensures.fits);
     }
 
 pub returns-clause-value : goal.returns-clause-value
-returns-clause-value c = loaded_whole c.args.scope.now.members.items c.args.places.now.rows c.args.parts.now c.loop-member.member c.loop-member.loaded.items _ (omega arith) c.loop-member.invariant.so_far
+returns-clause-value c = loaded_whole (objects c.args.scope.now) c.args.places.now c.args.parts.now c.loop-member.member c.loop-member.loaded.items _ (omega (arith, length_objects c.args.scope.now)) c.loop-member.invariant.so_far
 
 pub returns-clause-loaded : goal.returns-clause-loaded
 returns-clause-loaded c =
-    let whole = loaded_whole c.args.scope.now.members.items c.args.places.now.rows c.args.parts.now c.loop-member.member c.loop-member.loaded.items _ (omega arith) c.loop-member.invariant.so_far in
+    let whole = loaded_whole (objects c.args.scope.now) c.args.places.now c.args.parts.now c.loop-member.member c.loop-member.loaded.items _ (omega (arith, length_objects c.args.scope.now)) c.loop-member.invariant.so_far in
     record {
       ascend = c.loop-member.invariant.ascend;
       fit = c.loop-member.invariant.fit;
