@@ -76,6 +76,13 @@ impl MemoryFolder {
         MemoryFolder::started(alloc, replay.table(alloc)?, Vec::new(alloc), self.calls)
     }
 
+    /// How many calls the folder has recorded.
+    pub fn moments(&self) -> u64
+        ensures { result ≡ clock (⟦<MemoryFolder as Folder>⟧.seen self.now).disk }
+    {
+        self.past.len() as u64
+    }
+
     // A settled folder of the files of a table.
     fn started(
         alloc: Global,
