@@ -44,7 +44,7 @@ past_first : (i : ℕ) (e : Entry) (es : List Entry) (file : Option ℕ) → AtL
 past_first i e es None is = refl
 past_first i e es (Some file) is = ap (λ (x : Content). Some x.bytes) (cond-false (file == i) _ _ (ne_eqb file i (λ same. omega (arith, is, same))))
 
-found : (i : ℕ) (es : List Entry) (n : Name) → find (slice_cmp nat_cmp) n es ≡ bytes_of (contents_from i es) (names_from i es n)
+pub found : (i : ℕ) (es : List Entry) (n : Name) → find (slice_cmp nat_cmp) n es ≡ bytes_of (contents_from i es) (names_from i es n)
 found i [] n = refl
 found i (e ∷ es) n = ⊎_elim
     (λ hit.

@@ -8,6 +8,7 @@ pub mod InMemory
 pub mod Kept
 pub mod Replaced
 pub mod Replay
+pub mod Replaying
 pub mod Seen
 pub mod Since
 pub mod States

@@ -1,10 +1,11 @@
-ghost use Rattle.std.specs.Prelude.{◌≡◌, ◌+◌, ◌++◌, ◌∷◌, ◌<◌, ◌≤◌, [], map, not, is_ok, true, false, Ok, IfOk, IfErr, OnOk, OnErr, vec_capacity, vec_len};
-ghost use Rattle.std.specs.FinMap.{contains_key};
+ghost use Rattle.std.specs.Prelude.{◌≡◌, ℕ, List, ◌+◌, ◌++◌, ◌∷◌, ◌<◌, ◌≤◌, [], map, not, is_ok, true, false, Ok, IfOk, IfErr, OnOk, OnErr, vec_capacity, vec_len};
+ghost use Rattle.std.specs.FinMap.{contains_key, get};
 ghost use Rattle.std.specs.Result.{is_err};
 ghost use Rattle.pl_base.specs.Counts.{Counted};
 ghost use Rattle.pl_base.specs.Files.{file_entry, files_of};
 ghost use Rattle.pl_base.specs.Names.{IsNameLength};
-ghost use Rattle.pl_folder.specs.Disk.{after};
+ghost use Rattle.pl_folder.specs.Chosen.{IsStart, image_of};
+ghost use Rattle.pl_folder.specs.Disk.{after, clock, read, state_at};
 ghost use Rattle.pl_folder.specs.Calls.{Calls, GivesNames, IsPlain, Takes};
 ghost use Rattle.pl_folder.specs.Effects.{Appends, Does, DoesOrNot, Waited, creates, firms, removes, renames, settles};
 ghost use Rattle.pl_folder.specs.FileLists.{are_files};
@@ -15,8 +16,10 @@ ghost use Rattle.pl_folder.specs.Tables.{started_with, table_files};
 ghost use Rattle.pl_folder.specs.Taken.{Explains};
 
 use crate::call::Call;
+use crate::choice::Choice;
 use crate::file_table::FileTable;
 use crate::name::Name;
+use crate::replay::Replay;
 use crate::{Folder, FolderFault};
 use pl_io::{Failed, NoMemory, Script};
 use std::alloc::Global;
@@ -36,7 +39,7 @@ pub struct MemoryFolder {
 }
 
 impl MemoryFolder {
-    ghost use Rattle.pl_folder.specs.InMemory.{IsCounted, call_fails, folder_disk, folder_script, folder_seen, most_calls};
+    ghost use Rattle.pl_folder.specs.InMemory.{IsCounted, IsFresh, call_fails, folder_disk, folder_script, folder_seen, most_calls};
 
     /// A folder of these files, settled. Its calls of the listed numbers, counted from 0, fail and change nothing, and so does each call after the first `calls` ones.
     ///
@@ -54,6 +57,30 @@ impl MemoryFolder {
         ensures calls { IfOk result (λ folder. most_calls folder ≡ calls) }
     {
         MemoryFolder::started(alloc, FileTable::copies_of(alloc, files)?, fail_at, calls)
+    }
+
+    /// What a crash after `moment` calls may leave, as a settled folder that answers as many calls, none of which fails or was made yet.
+    ///
+    /// Bit `i` modulo 64 of `choice` says whether the `i`-th change of names since the last settle outlasts the crash, and whether the `i`-th file that is not firm is whole or empty. `moment` is at most the number of calls that the folder has recorded.
+    pub fn image(&self, alloc: Global, moment: u64, choice: u64) -> Result<MemoryFolder, NoMemory>
+        requires { moment ≤ clock (⟦<MemoryFolder as Folder>⟧.seen self.now).disk }
+        ensures reads { IfOk result (λ image. (n : List ℕ) → get (⟦<MemoryFolder as Folder>⟧.seen image).files n ≡ read (image_of choice (state_at (⟦<MemoryFolder as Folder>⟧.seen self.now).disk moment)) n) }
+        ensures starts { IfOk result (λ image. IsStart (⟦<MemoryFolder as Folder>⟧.seen image).disk) }
+        ensures fresh { IfOk result (λ image. IsFresh self.now image) }
+    {
+        let mut replay = Replay::new(alloc, &self.first)?;
+        for call in &self.past[..moment as usize] {
+            replay.step(alloc, call)?;
+        }
+        replay.settle(alloc, Choice::Bits(choice))?;
+        MemoryFolder::started(alloc, replay.table(alloc)?, Vec::new(alloc), self.calls)
+    }
+
+    /// How many calls the folder has recorded.
+    pub fn moments(&self) -> u64
+        ensures { result ≡ clock (⟦<MemoryFolder as Folder>⟧.seen self.now).disk }
+    {
+        self.past.len() as u64
     }
 
     // A settled folder of the files of a table.

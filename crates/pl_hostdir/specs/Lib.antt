@@ -1,2 +1,4 @@
 pub mod Errors
 pub mod Listing
+pub mod Paths
+pub mod Unseen

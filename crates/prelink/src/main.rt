@@ -60,7 +60,9 @@ fn main(rt: HostRuntime) -> ExitCode {
     let Ok(words) = words_of(rt.alloc(), env::args(&rt)) else {
         return exit_code(Status::NoMemory);
     };
-    let mut folder = HostFolder::new(&rt);
+    let Ok(mut folder) = HostFolder::new(&rt, rt.alloc(), ".") else {
+        return exit_code(Status::NoMemory);
+    };
     let mut input = StdSource::new(rt.reader());
     let mut output = StdSink::new(io::writer(&rt));
     let now = seconds(&rt);
