@@ -1,7 +1,8 @@
+pub mod StopLemmas
 pub mod PartLemmas
 pub mod RoomLemmas
-pub mod FilesLemmas
-pub mod OutcomeLemmas
-pub mod MakeLemmas
+pub mod LookLemmas
 pub mod LoadLemmas
+pub mod MakeLemmas
+pub mod RunLemmas
 pub mod TellsLemmas

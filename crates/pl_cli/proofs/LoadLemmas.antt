@@ -1,19 +1,23 @@
 -- What `--load` finds, file by file.
-use Rattle.std.proofs.Common.{◌≡◌, ◌≢◌, ◌≤◌, ℕ, List, length, Bool, true, false, Option, Some, None, refl, sym, ap, subst, ◌∙◌, inl, inr, arith}
-use Rattle.std.specs.Prelude.{Result, Ok, Err, MatchBool, ⊤, not, nat_lt, nat_le, if◌then◌else◌}
+use Rattle.std.proofs.Common.{◌≡◌, ◌≢◌, ◌≤◌, ◌<◌, ℕ, ◌+◌, List, length, Bool, true, false, Option, Some, None, refl, sym, ap, subst, ◌∙◌, inl, inr, arith}
+use Rattle.std.specs.Prelude.{Result, Ok, Err, MatchBool, ⊤, IsErrAnd, Vec, not, nat_lt, nat_le, if◌then◌else◌}
+use Rattle.std.specs.declared.alloc.Global.{Global}
 use Rattle.std.specs.FinMap.{get}
-use Rattle.std.proofs.lemmas.Bool.{cases_Bool}
+use Rattle.std.proofs.lemmas.Bool.{cases_Bool, true≢false}
 use Rattle.std.proofs.lemmas.Bool.Decides.{nat_tests}
 use Rattle.pl_base.specs.Answers.{unless, because, ◌>>=◌, Answers}
-use Rattle.pl_base.specs.Counts.{Rose}
 use Rattle.pl_base.specs.Files.{Files}
 use Rattle.pl_base.specs.Names.{is_valid_name}
-use Rattle.pl_folder.specs.Calls as calls
+use Rattle.pl_folder.specs.Calls.{Calls, Takes}
+use Rattle.pl_folder.specs.Disk.{waited}
+use Rattle.pl_folder.specs.Effects.{Asks, Idles}
+use Rattle.pl_folder.specs.Seen.{Seen, IsFolder, Done, Broken, Undone}
 use Rattle.pl_folder.specs.Taken.{taken, stored, Explains}
 use Rattle.pl_folder.specs.declared.TheConstants.{STORED}
 use Rattle.pl_folder.specs.declared.fault.FolderFault.{FolderFault}
 use Rattle.pl_folder.specs.declared.fault.FolderFault.TheVariants as folder_faults
 use Rattle.pl_scope.specs.Walking.{wants}
+use Rattle.pl_scope.specs.declared.constants.TheConstants.{MAX_MEMBERS}
 use Rattle.pl_loader.specs.Faults.{is_memory}
 use Rattle.pl_loader.specs.Loading.{Loading}
 use Rattle.pl_loader.specs.Started as start
@@ -27,16 +31,11 @@ use Rattle.pl_cli.specs.declared.cause.Cause.{Cause}
 use Rattle.pl_cli.specs.declared.cause.Cause.TheVariants as causes
 use Rattle.pl_cli.specs.declared.stop.Stop.{Stop}
 use Rattle.pl_cli.specs.declared.stop.Stop.TheVariants as stops
-use Rattle.pl_cli.specs.Load.{of_file, file_in, loaded}
-use Rattle.pl_cli.specs.Outcome.{Stops, of_take, of_load_fault}
-use Rattle.pl_cli.proofs.MakeLemmas.{since}
-
--- what holds unless the folder failed, where it did not
-pub unless_failed : (P : Type 0) (fault : FolderFault) → fault ≢ folder_faults.Failed → calls.UnlessFailed P fault → P
-unless_failed P folder_faults.Failed other h = absurd (other refl)
-unless_failed P folder_faults.NotThere other h = h
-unless_failed P folder_faults.TooLarge other h = h
-unless_failed P folder_faults.NoMemory other h = h
+use Rattle.pl_cli.specs.Came.{HasLoaded, HasTaken}
+use Rattle.pl_cli.specs.Load.{of_file, file_in, loaded, takes}
+use Rattle.pl_cli.specs.Outside.{ending_of}
+use Rattle.pl_cli.specs.Stops.{of_load_fault, of_take, status_of}
+use Rattle.pl_cli.proofs.LookLemmas.{AllBut, and_more, left_more, step_goes_on, takes_none, and_broken, and_lacking, and_last, and_undone, lacks_early, left_from, left_last, left_some, no_call, one_if_not, one_if_so, one_if_valid, step_lacks, step_stops}
 
 -- ---- one file
 
@@ -79,62 +78,158 @@ pub taken_file : (files : Files) (name bytes : List ℕ) → is_valid_name name 
 unfolding of_stored
 taken_file files name bytes valid is = valid_stored files name valid ∙ ap (of_stored name) is
 
--- it gave none
-pub untaken_file : (told : Bool) (files : Files) (name : List ℕ) (disk : Type 0) (fault : FolderFault) → is_valid_name name ≡ true → Explains told (taken files name) disk fault
-    → Stops told true (file_in files name) disk ⊥ (of_take name fault)
-unfolding of_stored
-untaken_file told files name disk folder_faults.Failed valid why = why
-untaken_file told files name disk folder_faults.NotThere valid why = λ tells _. valid_stored files name valid ∙ ap (of_stored name) (why tells)
-untaken_file told files name disk folder_faults.TooLarge valid why = λ tells _. valid_stored files name valid ∙ ap (of_stored name) (why tells)
-untaken_file told files name disk folder_faults.NoMemory valid why = tt
-
 -- no other name has one
-pub invalid_file : (files : Files) (name : List ℕ) → is_valid_name name ≡ false → file_in files name ≡ Err (causes.Load (NotThere name))
+invalid_file : (files : Files) (name : List ℕ) → is_valid_name name ≡ false → file_in files name ≡ Err (causes.Load (NotThere name))
 unfolding file_in
 invalid_file files name invalid = ap (λ (b : Bool). of_file name (if b then get files name else None)) invalid
 
--- ---- faults of the load
+-- ---- one call
 
--- a fault that the load means, or a want of memory
-pub stopped_by : (told : Bool) (meant : Result start.Start Cause) (disk : Type 0) (fault : LoadFault) → (told ≡ true → MatchBool (is_memory fault) ⊤ (meant ≡ Err (causes.Load fault)))
-    → Stops told true meant disk ⊥ (of_load_fault fault)
-stopped_by told meant disk fault h =
-    elim (is_memory fault) as (λ b. (told ≡ true → MatchBool b ⊤ (meant ≡ Err (causes.Load fault))) → Stops told true meant disk ⊥ (if b then stops.NoMemory else stops.Cause (causes.Load fault))) [
-      | true ↦ λ _. tt
-      | false ↦ λ means. λ tells _. means tells
-    ] h
+module _ (a b : Seen) where
+  once : (n : ℕ) → n ≡ 1 → Calls Done Idles a b → Calls Done (Asks n) a b
+  once n one call = record {
+    tells = call.tells;
+    records = call.records;
+    place = call.place;
+    files = call.files;
+    disk = λ told. call.disk told ∙ ap (λ (k : ℕ). waited k a.disk) (sym one);
+    count = call.count;
+  }
+
+  -- the folder failed: the call was made or not
+  failed_once : (n : ℕ) → n ≡ 1 → Calls Broken Idles a b → Calls Broken (Asks n) a b
+  failed_once n one call = record {
+    tells = call.tells;
+    records = call.records;
+    place = call.place;
+    files = call.files;
+    disk = λ told. elim (call.disk told) [ inl none ↦ (0, omega (arith, one), none) | inr made ↦ (1, omega (arith, one), made) ];
+    count = call.count;
+  }
+
+  -- memory lacked, in the call or after it
+  lacked_once : (n : ℕ) → n ≡ 1 → Calls Done Idles a b → Calls Undone (Asks n) a b
+  lacked_once n one call = record {
+    tells = call.tells;
+    records = call.records;
+    place = call.place;
+    files = call.files;
+    disk = λ told. (1, omega (arith, one), call.disk told);
+    count = call.count;
+  }
+
+  lacked : (n : ℕ) → Calls Undone Idles a b → Calls Undone (Asks n) a b
+  lacked n call = record {
+    tells = call.tells;
+    records = call.records;
+    place = call.place;
+    files = call.files;
+    disk = λ told. (0, omega arith, call.disk told);
+    count = call.count;
+  }
+
+module _ (name : List ℕ) where
+  -- the folder gave the file
+  pub taken_once : {a b : Seen} (bytes : Vec ℕ Global) → is_valid_name name ≡ true → Takes name (Ok bytes) a b → HasTaken name (Ok bytes) a b
+  taken_once {a = a} {b = b} bytes valid took = record {
+    means = λ told. taken_file a.files name bytes.items valid (took.bytes told);
+    reads = refl;
+    calls = once a b (one_if_valid name) (one_if_so name valid) took.calls;
+  }
+
+  -- it gave none
+  pub untaken : {a b : Seen} (fault : FolderFault) → is_valid_name name ≡ true → Takes name (Err fault) a b → HasTaken name (Err (of_take name fault)) a b
+  unfolding of_stored
+  untaken {a = a} {b = b} folder_faults.Failed valid took = record { means = tt; reads = refl; calls = failed_once a b (one_if_valid name) (one_if_so name valid) took.calls }
+  untaken {a = a} {b = b} folder_faults.NotThere valid took = record {
+    means = λ told. valid_stored a.files name valid ∙ ap (of_stored name) (took.explained told);
+    reads = refl;
+    calls = once a b (one_if_valid name) (one_if_so name valid) took.calls;
+  }
+  untaken {a = a} {b = b} folder_faults.TooLarge valid took = record {
+    means = λ told. valid_stored a.files name valid ∙ ap (of_stored name) (took.explained told);
+    reads = refl;
+    calls = once a b (one_if_valid name) (one_if_so name valid) took.calls;
+  }
+  untaken {a = a} {b = b} folder_faults.NoMemory valid took = record { means = tt; reads = refl; calls = lacked a b (one_if_valid name) took.calls }
+
+  -- and there was no memory to tell that
+  pub untold : {a b : Seen} (fault : FolderFault) → fault ≢ folder_faults.Failed → is_valid_name name ≡ true → Takes name (Err fault) a b → HasTaken name (Err stops.NoMemory) a b
+  untold folder_faults.Failed other valid took = absurd (other refl)
+  untold {a = a} {b = b} folder_faults.NotThere other valid took = record { means = tt; reads = refl; calls = lacked_once a b (one_if_valid name) (one_if_so name valid) took.calls }
+  untold {a = a} {b = b} folder_faults.TooLarge other valid took = record { means = tt; reads = refl; calls = lacked_once a b (one_if_valid name) (one_if_so name valid) took.calls }
+  untold {a = a} {b = b} folder_faults.NoMemory other valid took = record { means = tt; reads = refl; calls = lacked a b (one_if_valid name) took.calls }
+
+  -- no other name has a file, and the folder is not asked for it
+  pub unasked : (a : Seen) → is_valid_name name ≡ false → HasTaken name (Err (of_take name folder_faults.NotThere)) a a
+  unasked a invalid = record { means = λ _. invalid_file a.files name invalid; reads = refl; calls = no_call a (one_if_valid name) (one_if_not name invalid) }
+
+  pub unasked_untold : (a : Seen) → HasTaken name (Err stops.NoMemory) a a
+  unasked_untold a = record { means = tt; reads = refl; calls = lacks_early a (one_if_valid name) }
 
 -- ---- the whole load
 
-pub bad_name : (files : Files) (name : List ℕ) → is_valid_name name ≡ false → loaded files name ≡ Err causes.BadName
+bad_name : (files : Files) (name : List ℕ) → is_valid_name name ≡ false → loaded files name ≡ Err causes.BadName
 unfolding loaded
 bad_name files name invalid = ap (λ (b : Bool). unless (not b) causes.BadName (start.load causes.Load (file_in files) name)) invalid
 
--- ---- of a valid name
+-- of a name that is not valid
+pub refused_name : (a : Seen) (name : List ℕ) → is_valid_name name ≡ false → HasLoaded name (Err (stops.Cause causes.BadName)) a a
+refused_name a name invalid = record { loads = λ _. bad_name a.files name invalid; ends = refl; calls = no_call a (takes a.files name) (takes_none a.files name invalid) }
 
-module _ (told : Bool) (files : Files) (name : List ℕ) (valid : is_valid_name name ≡ true) where
-  valid_loaded : loaded files name ≡ start.load causes.Load (file_in files) name
+pub not_begun : (a : Seen) (name : List ℕ) → HasLoaded name (Err stops.NoMemory) a a
+not_begun a name = record { loads = tt; ends = refl; calls = lacks_early a (takes a.files name) }
+
+-- ---- of a valid name, as it goes on: a is the folder before, and b where the walk wants n
+
+module _ (a : Seen) (name : List ℕ) (valid : is_valid_name name ≡ true) where
+  valid_loaded : loaded a.files name ≡ start.load causes.Load (file_in a.files) name
   unfolding loaded
-  valid_loaded = ap (λ (b : Bool). unless (not b) causes.BadName (start.load causes.Load (file_in files) name)) valid
-
-  -- the wanted file was not taken
-  pub stopped_in_folder : (now_told : Bool) (now : Files) (first mid last : ℕ) (n : List ℕ) (l : Loading) (stop : Stop) → now_told ≡ told → (told ≡ true → now ≡ files) → first ≤ mid → wants l.order ≡ Some n
-      → (told ≡ true → IsUnderWay causes.Load (file_in files) name l) → Stops now_told true (file_in now n) (Rose mid last) ⊥ stop → Stops told true (loaded files name) (Rose first last) ⊥ stop
-  stopped_in_folder now_told now first mid last n l (stops.Cause cause) tells same le is way h = λ told_is _.
-      let lacks : file_in files n ≡ Err cause = ap (λ (fs : Files). file_in fs n) (sym (same told_is)) ∙ h (tells ∙ told_is) refl in
-      valid_loaded ∙ whole_lacks causes.Load (file_in files) name n l cause is lacks (way told_is)
-  stopped_in_folder now_told now first mid last n l stops.Failed tells same le is way h = since first mid last le h
-  stopped_in_folder now_told now first mid last n l stops.InputFailed tells same le is way h = absurd h
-  stopped_in_folder now_told now first mid last n l stops.NoMemory tells same le is way h = tt
-
-  -- the wanted file is refused
-  pub stopped_at_file : (disk : Type 0) (n bytes : List ℕ) (l : Loading) (fault : LoadFault) → wants l.order ≡ Some n → (told ≡ true → file_in files n ≡ Ok bytes) → (told ≡ true → IsUnderWay causes.Load (file_in files) name l)
-      → Answers is_memory (Err fault) (give l (Some bytes)) → Stops told true (loaded files name) disk ⊥ (of_load_fault fault)
-  stopped_at_file disk n bytes l fault is file way h = stopped_by told (loaded files name) disk fault (λ told_is.
-      let means = whole_stops causes.Load (file_in files) name n (Some bytes) l fault is (file told_is) h (way told_is) in
-      subst (λ (r : Result start.Start Cause). MatchBool (is_memory fault) ⊤ (r ≡ Err (causes.Load fault))) (sym valid_loaded) means)
+  valid_loaded = ap (λ (b : Bool). unless (not b) causes.BadName (start.load causes.Load (file_in a.files) name)) valid
 
   -- all files were given
-  pub loaded_ends : (l : Loading) → wants l.order ≡ None → IsUnderWay causes.Load (file_in files) name l → loaded files name ≡ because causes.Load (start.started l.files)
+  pub loaded_ends : (l : Loading) → wants l.order ≡ None → IsUnderWay causes.Load (file_in a.files) name l → loaded a.files name ≡ because causes.Load (start.started l.files)
   unfolding start.load
-  loaded_ends l is way = valid_loaded ∙ ap (λ (r : Result (List ObjectFile) Cause). r >>= λ fs. because causes.Load (start.started fs)) (load_ends causes.Load (file_in files) name l is way)
+  loaded_ends l is way = valid_loaded ∙ ap (λ (r : Result (List ObjectFile) Cause). r >>= λ fs. because causes.Load (start.started fs)) (load_ends causes.Load (file_in a.files) name l is way)
+
+  module _ (folder : IsFolder a) (l : Loading) (n : List ℕ) (is : wants l.order ≡ Some n) (below : l.order.given < MAX_MEMBERS) (way : a.tells ≡ true → IsUnderWay causes.Load (file_in a.files) name l) (b c : Seen)
+      (so_far : Calls Done (AllBut (left_from a.files name l.order) (takes a.files name)) a b) where
+    one_or_more : one_if_valid n ≤ left_from a.files name l.order
+    one_or_more = left_some a.files name l.order n below is
+
+    here : (r : Result (List ℕ) Cause) → (b.tells ≡ true → file_in b.files n ≡ r) → a.tells ≡ true → file_in a.files n ≡ r
+    here r means told = ap (λ (fs : Files). file_in fs n) (sym (so_far.files told)) ∙ means (so_far.tells ∙ told)
+
+    -- the wanted file was not taken
+    pub stopped_in_folder : (stop : Stop) → HasTaken n (Err stop) b c → HasLoaded name (Err stop) a c
+    stopped_in_folder (stops.Cause cause) took = record {
+      loads = λ told. let tells = told valid in valid_loaded ∙ whole_lacks causes.Load (file_in a.files) name n l cause is (here (Err cause) took.means tells) (way tells);
+      ends = refl;
+      calls = and_last (one_if_valid n) so_far (λ records. left_last a.files name l.order n below is cause (step_lacks a.files name l.order n cause (here (Err cause) took.means (folder.tells records)))) took.calls;
+    }
+    stopped_in_folder stops.Failed took = record { loads = tt; ends = valid; calls = and_broken (one_if_valid n) so_far (λ _. one_or_more) took.calls }
+    stopped_in_folder stops.InputFailed took = absurd (true≢false took.reads)
+    stopped_in_folder stops.NoMemory took = record { loads = tt; ends = refl; calls = and_undone (one_if_valid n) so_far (λ _. one_or_more) took.calls }
+
+    module _ (bytes : Vec ℕ Global) (took : HasTaken n (Ok bytes) b c) where
+      file_is : a.tells ≡ true → file_in a.files n ≡ Ok bytes.items
+      file_is = here (Ok bytes.items) took.means
+
+      -- it was given to the load
+      pub goes_on : (m : Loading) → m.order.given ≡ l.order.given + 1 → give l (Some bytes.items) ≡ Ok m → Calls Done (AllBut (left_from a.files name m.order) (takes a.files name)) a c
+      goes_on m more went = and_more (one_if_valid n) so_far (left_from a.files name m.order)
+          (λ records. let told = folder.tells records in left_more a.files name l.order n below is m.order more (step_goes_on l n bytes.items a.files name m is (way told).named (file_is told) went)) took.calls
+
+      -- it is refused, or memory lacked
+      pub stopped_at_file : (fault : LoadFault) → Answers is_memory (Err fault) (give l (Some bytes.items)) → HasLoaded name (Err (of_load_fault fault)) a c
+      stopped_at_file fault stop =
+          elim (is_memory fault) as (λ m. MatchBool m ⊤ (give l (Some bytes.items) ≡ Err fault) → (a.tells ≡ true → MatchBool m ⊤ (start.load causes.Load (file_in a.files) name ≡ Err (causes.Load fault)))
+          → HasLoaded name (Err (if m then stops.NoMemory else stops.Cause (causes.Load fault))) a c) [
+            | true ↦ λ _ _. record { loads = tt; ends = refl; calls = and_lacking (one_if_valid n) so_far (λ _. one_or_more) took.calls }
+            | false ↦ λ stopped means. record {
+              loads = λ told. valid_loaded ∙ means (told valid);
+              ends = refl;
+              calls = and_last (one_if_valid n) so_far
+                  (λ records. let told = folder.tells records in left_last a.files name l.order n below is (causes.Load fault) (step_stops l n bytes.items a.files name fault is (way told).named (file_is told) stopped)) took.calls;
+            }
+          ] stop (λ told. whole_stops causes.Load (file_in a.files) name n (Some bytes.items) l fault is (file_is told) stop (way told))

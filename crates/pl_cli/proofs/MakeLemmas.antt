@@ -1,34 +1,43 @@
--- What `--make` finds, step by step, and what it leaves where it stops.
-use Rattle.std.proofs.Common.{◌≡◌, ◌≤◌, ◌<◌, ℕ, List, length, Bool, true, false, Option, Some, None, refl, sym, ap, subst, ◌∙◌, inl, inr, arith}
-use Rattle.std.specs.Prelude.{Result, Ok, Err, is_some, not, nat_lt}
-use Rattle.std.specs.FinMap.{insert, keys}
+-- What `--make` finds, step by step, and what it makes of the folder.
+use Rattle.std.proofs.Common.{◌≡◌, ◌≤◌, ◌<◌, ℕ, zero, suc, List, length, Bool, true, false, Option, Some, None, refl, sym, ap, subst, ◌∙◌, inl, inr, arith}
+use Rattle.std.specs.Prelude.{Result, Ok, Err, Vec, is_some, is_ok, not, nat_lt, IsErrAnd}
+use Rattle.std.specs.declared.alloc.Global.{Global}
+use Rattle.std.specs.FinMap.{keys, remove}
+use Rattle.std.proofs.lemmas.Bool.{true≢false}
 use Rattle.std.proofs.lemmas.Bool.Decides.{nat_tests}
 use Rattle.pl_base.specs.Answers.{unless, because, ◌>>=◌}
-use Rattle.pl_base.specs.Counts.{Rose}
+use Rattle.pl_base.specs.Counts.{Counted}
 use Rattle.pl_base.specs.Files.{Files}
 use Rattle.pl_base.specs.Names.{is_valid_name}
+use Rattle.pl_base.proofs.CountLaws.{counted_then}
+use Rattle.pl_io.specs.Reads.{HasMore, StopsReading, TookAtMost, UnlessFailed}
+use Rattle.pl_io.specs.Seen.{HasReadAll, Input}
 use Rattle.pl_io.specs.declared.read_fault.ReadFault.{ReadFault}
 use Rattle.pl_io.specs.declared.read_fault.ReadFault.TheVariants as read_faults
-use Rattle.pl_io.specs.Reads.{StopsReading, HasMore}
+use Rattle.pl_folder.specs.Calls.{Calls, IsPlain}
+use Rattle.pl_folder.specs.Disk.{Disk, clock, waited}
+use Rattle.pl_folder.specs.Effects.{Idles, WaitsFor}
+use Rattle.pl_folder.specs.Replaced.{Replaces, replaced, SameElsewhere}
+use Rattle.pl_folder.specs.Seen.{Seen, Done, Broken, Undone, fault_ending}
 use Rattle.pl_folder.specs.declared.fault.FolderFault.{FolderFault}
 use Rattle.pl_folder.specs.declared.fault.FolderFault.TheVariants as folder_faults
-use Rattle.pl_folder.specs.Calls as calls
-use Rattle.pl_folder.specs.Replaced.{replaced, LeavesOldOrNew}
+use Rattle.pl_folder.specs.declared.writing.TheConstants.{NEW_FILE}
 use Rattle.pl_build.specs.Build.{build, Builds}
 use Rattle.pl_build.specs.declared.fault.RecipeFault.{RecipeFault}
 use Rattle.pl_build.specs.declared.fault.RecipeFault.TheVariants as recipe_faults
 use Rattle.pl_cli.specs.declared.cause.Cause.{Cause}
 use Rattle.pl_cli.specs.declared.cause.Cause.TheVariants.{BadName, InputTooLarge, TooManyFiles}
+use Rattle.pl_cli.specs.declared.command.Command.TheVariants as commands
 use Rattle.pl_cli.specs.declared.make.TheConstants.{RECIPE}
-use Rattle.pl_cli.specs.declared.status.Status.TheVariants as statuses
 use Rattle.pl_cli.specs.declared.stop.Stop.{Stop}
 use Rattle.pl_cli.specs.declared.stop.Stop.TheVariants as stops
-use Rattle.pl_cli.specs.Answer.{make_answer, made_text}
-use Rattle.pl_cli.specs.Make.{built, made, with_room, recipe_cause}
-use Rattle.pl_cli.specs.Outcome.{Stops, LeavesAt, WhereFailed, of_fault, of_read_fault, of_recipe_fault}
-use Rattle.pl_cli.specs.ValidFiles.{SameFiles, is_full}
+use Rattle.pl_cli.specs.Answer.{done, make_answer, made_text}
+use Rattle.pl_cli.specs.Came.{AsksOnce, Came, HasBuilt, HasFile, HasMade, HasNone}
+use Rattle.pl_cli.specs.Make.{HasRecipe, built, made, with_room, recipe_cause}
+use Rattle.pl_cli.specs.Outside.{Consumes, ending_of, is_read_fault}
+use Rattle.pl_cli.specs.Stops.{of_fault, of_read_fault, of_recipe_fault, status_of}
+use Rattle.pl_cli.specs.Room.{is_full}
 use Rattle.pl_cli.specs.Words.{bytes_of}
-use Rattle.pl_cli.proofs.FilesLemmas.{same_files, same_elsewhere, same_replaced}
 
 -- ---- the recipe's file
 
@@ -46,30 +55,39 @@ input_is_read input few =
     let test : nat_lt RECIPE (length input) ≡ false = grind (arith, nat_tests) in
     ap (λ (b : Bool). unless b InputTooLarge (because recipe_cause (build input))) test
 
--- an input that tells its bytes has more of them
 has_more : (left after : Option (List ℕ)) → HasMore left after RECIPE → is_some left ≡ true → built (bytes_of left) ≡ Err InputTooLarge
 has_more (Some left) after more told = input_too_large left more.0
 has_more None after more told = cc
 
 -- reading stopped
-pub unread : (left after : Option (List ℕ)) (source : Type 0) (fault : ReadFault) → StopsReading left after RECIPE source fault → Stops true (is_some left) (built (bytes_of left)) ⊥ source (of_read_fault fault)
-unread left after source read_faults.Failed why = why
-unread left after source read_faults.TooLarge why = λ _ told. has_more left after why told
-unread left after source read_faults.NoMemory why = tt
+pub unread : {left rest : Input} (fault : ReadFault) → HasReadAll RECIPE (Err fault) left rest → HasBuilt (Err (of_read_fault fault)) left rest
+unread read_faults.Failed read = record { means = tt; folder = refl; input = record { untouched = λ e. cc; tells = read.tells; most = λ _ e. cc; count = read.count } }
+unread {left = left} {rest = rest} read_faults.TooLarge read = record {
+  means = λ told. has_more left.left rest.left read.stops told;
+  folder = refl;
+  input = record { untouched = λ e. cc; tells = read.tells; most = λ _ _. read.took_fault; count = read.count };
+}
+unread read_faults.NoMemory read = record { means = tt; folder = refl; input = record { untouched = λ e. cc; tells = read.tells; most = λ _ _. read.took_fault; count = read.count } }
 
 told_bytes : (left : Option (List ℕ)) (recipe : List ℕ) → (is_some left ≡ true → left ≡ Some recipe) → is_some left ≡ true → bytes_of left ≡ recipe
 told_bytes left recipe is told = ap bytes_of (is told)
 
 -- what was read has a fault
-pub unbuilt : (left : Option (List ℕ)) (recipe : List ℕ) (source : Type 0) (fault : RecipeFault) → (is_some left ≡ true → left ≡ Some recipe) → length recipe ≤ RECIPE
-    → Builds (Err fault) (build recipe) → Stops true (is_some left) (built (bytes_of left)) ⊥ source (of_recipe_fault fault)
-unbuilt left recipe source (recipe_faults.Bad number kind) is few bad = λ _ told. ap built (told_bytes left recipe is told) ∙ input_is_read recipe few ∙ ap (because recipe_cause) bad
-unbuilt left recipe source recipe_faults.NoMemory is few bad = tt
+pub unbuilt : {left rest : Input} (recipe : Vec ℕ Global) (fault : RecipeFault) → HasReadAll RECIPE (Ok recipe) left rest → Builds (Err fault) (build recipe.items) → HasBuilt (Err (of_recipe_fault fault)) left rest
+unbuilt {left = left} recipe (recipe_faults.Bad number kind) read bad = record {
+  means = λ told. ap built (told_bytes left.left recipe.items read.bytes told) ∙ input_is_read recipe.items read.bound ∙ ap (because recipe_cause) bad;
+  folder = refl;
+  input = record { untouched = λ e. cc; tells = read.tells; most = λ _ _. read.took; count = read.count };
+}
+unbuilt recipe recipe_faults.NoMemory read bad = record { means = tt; folder = refl; input = record { untouched = λ e. cc; tells = read.tells; most = λ _ _. read.took; count = read.count } }
 
 -- what was read is built
-pub is_built : (left : Option (List ℕ)) (recipe bytes : List ℕ) → (is_some left ≡ true → left ≡ Some recipe) → length recipe ≤ RECIPE → build recipe ≡ Ok bytes
-    → is_some left ≡ true → built (bytes_of left) ≡ Ok bytes
-is_built left recipe bytes is few good told = ap built (told_bytes left recipe is told) ∙ input_is_read recipe few ∙ ap (because recipe_cause) good
+pub is_built : {left rest : Input} (recipe : Vec ℕ Global) (bytes : List ℕ) → HasReadAll RECIPE (Ok recipe) left rest → build recipe.items ≡ Ok bytes → HasBuilt (Ok bytes) left rest
+is_built {left = left} recipe bytes read good = record {
+  means = λ told. ap built (told_bytes left.left recipe.items read.bytes told) ∙ input_is_read recipe.items read.bound ∙ ap (because recipe_cause) good;
+  folder = refl;
+  input = record { untouched = λ e. cc; tells = read.tells; most = λ _ _. read.took; count = read.count };
+}
 
 -- ---- the whole
 
@@ -96,78 +114,280 @@ fits files name input bytes names valid file are room =
     ∙ ap (λ (ns : List (List ℕ)). with_room ns name bytes) (sym are)
     ∙ ap (λ (b : Bool). unless b TooManyFiles (Ok bytes)) room
 
--- the recipe gave no file
-pub stopped_in_recipe : (files_told input_told : Bool) (files : Files) (name input : List ℕ) (disk source : Type 0) (stop : Stop) → is_valid_name name ≡ true
-    → Stops true input_told (built input) ⊥ source stop → Stops files_told input_told (made files name input) disk source stop
-stopped_in_recipe files_told input_told files name input disk source (stops.Cause cause) valid h = λ _ told. valid_made files name input valid ∙ ap (λ (r : Result (List ℕ) Cause). r >>= with_room (keys files) name) (h refl told)
-stopped_in_recipe files_told input_told files name input disk source stops.Failed valid h = absurd h
-stopped_in_recipe files_told input_told files name input disk source stops.InputFailed valid h = h
-stopped_in_recipe files_told input_told files name input disk source stops.NoMemory valid h = tt
+-- ---- at most one call, in which nothing changes
 
--- the folder failed, or there was no memory for it
-pub stopped_in_folder : (files_told input_told : Bool) (meant : Result (List ℕ) Cause) (disk source : Type 0) (fault : FolderFault) → calls.Stops disk fault → Stops files_told input_told meant disk source (of_fault fault)
-stopped_in_folder files_told input_told meant disk source folder_faults.Failed h = h
-stopped_in_folder files_told input_told meant disk source folder_faults.NotThere h = absurd h
-stopped_in_folder files_told input_told meant disk source folder_faults.TooLarge h = absurd h
-stopped_in_folder files_told input_told meant disk source folder_faults.NoMemory h = tt
+module _ (a : Seen) where
+  none_asked : Calls Done AsksOnce a a
+  none_asked = record {
+    tells = refl;
+    records = refl;
+    place = refl;
+    files = λ _. refl;
+    disk = λ _. (0, omega arith, refl);
+    count = record { later = omega arith; rose = λ e. cc; quiet = λ _. refl };
+  }
 
--- before the folder is asked nothing is its fault
-pub not_failed : {X : Type 0} (input_told : Bool) (meant : Result X Cause) (source P : Type 0) (stop : Stop) → Stops true input_told meant ⊥ source stop → WhereFailed P stop
-not_failed input_told meant source P (stops.Cause cause) h = tt
-not_failed input_told meant source P stops.Failed h = absurd h
-not_failed input_told meant source P stops.InputFailed h = tt
-not_failed input_told meant source P stops.NoMemory h = tt
+  none_asked_lacking : Calls Undone AsksOnce a a
+  none_asked_lacking = record {
+    tells = refl;
+    records = refl;
+    place = refl;
+    files = λ _. refl;
+    disk = λ _. (0, omega arith, refl);
+    count = record { later = omega arith; rose = λ e. cc; quiet = λ _. refl };
+  }
 
-pub where_failed : (P : Type 0) (stop : Stop) → P → WhereFailed P stop
-where_failed P (stops.Cause cause) h = tt
-where_failed P stops.Failed h = h
-where_failed P stops.InputFailed h = tt
-where_failed P stops.NoMemory h = tt
+asked_once : {a b : Seen} → Calls Done Idles a b → Calls Done AsksOnce a b
+asked_once call = record {
+  tells = call.tells;
+  records = call.records;
+  place = call.place;
+  files = call.files;
+  disk = λ told. (1, omega arith, call.disk told);
+  count = call.count;
+}
 
--- a count that rose after an earlier moment rose since that
-pub since : (first mid last : ℕ) → first ≤ mid → Rose mid last → Rose first last
-since first mid last le rose = grind arith
+failed_once : {a b : Seen} → Calls Broken Idles a b → Calls Broken AsksOnce a b
+failed_once call = record {
+  tells = call.tells;
+  records = call.records;
+  place = call.place;
+  files = call.files;
+  disk = λ told. elim (call.disk told) [ inl none ↦ (0, omega arith, none) | inr made ↦ (1, omega arith, made) ];
+  count = call.count;
+}
 
--- the folder failed after other calls
-pub stopped_later : (files_told input_told : Bool) (meant : Result (List ℕ) Cause) (first mid last : ℕ) (source : Type 0) (fault : FolderFault) → first ≤ mid → calls.Stops (Rose mid last) fault
-    → Stops files_told input_told meant (Rose first last) source (of_fault fault)
-stopped_later files_told input_told meant first mid last source folder_faults.Failed le h = since first mid last le h
-stopped_later files_told input_told meant first mid last source folder_faults.NotThere le h = absurd h
-stopped_later files_told input_told meant first mid last source folder_faults.TooLarge le h = absurd h
-stopped_later files_told input_told meant first mid last source folder_faults.NoMemory le h = tt
+lacked_once : {a b : Seen} → Calls Undone Idles a b → Calls Undone AsksOnce a b
+lacked_once call = record {
+  tells = call.tells;
+  records = call.records;
+  place = call.place;
+  files = call.files;
+  disk = λ told. (0, omega arith, call.disk told);
+  count = call.count;
+}
 
--- ---- the answer and the files
+-- ---- the file that is to be stored
 
-pub done : (name line : List ℕ) (files : Files) (meant : Result (List ℕ) Cause) (bytes : List ℕ) → meant ≡ Ok bytes → line ≡ made_text name
-    → ((make_answer name files meant).status ≡ statuses.Done) × ((make_answer name files meant).text ≡ line)
-done name line files meant bytes ok is = (ap (λ (m : Result (List ℕ) Cause). (make_answer name files m).status) ok, ap (λ (m : Result (List ℕ) Cause). (make_answer name files m).text) ok ∙ sym is)
+module _ (name : List ℕ) (valid : is_valid_name name ≡ true) (a : Seen) {left rest : Input} where
+  -- the recipe gave no file
+  pub stopped_in_recipe : (stop : Stop) → HasBuilt (Err stop) left rest → HasMade name (Err stop) a a left rest
+  stopped_in_recipe (stops.Cause cause) found = record {
+    means = λ told. valid_made a.files name (bytes_of left.left) valid ∙ ap (λ (r : Result (List ℕ) Cause). r >>= with_room (keys a.files) name) (found.means told.1);
+    recipe = tt;
+    needs = λ e. cc;
+    calls = none_asked a;
+    input = found.input;
+  }
+  stopped_in_recipe stops.Failed found = absurd (true≢false found.folder)
+  stopped_in_recipe stops.InputFailed found = record { means = tt; recipe = tt; needs = λ e. cc; calls = none_asked a; input = found.input }
+  stopped_in_recipe stops.NoMemory found = record { means = tt; recipe = tt; needs = λ e. cc; calls = none_asked_lacking a; input = found.input }
 
-same_as : (one two three : Files) → one ≡ two → SameFiles two three → SameFiles one three
-same_as one two three e same = subst (λ (files : Files). SameFiles files three) (sym e) same
+  module _ (bytes : List ℕ) (found : HasBuilt (Ok bytes) left rest) (b : Seen) where
+    has_recipe : HasRecipe left.left
+    has_recipe told = ap is_ok (found.means told)
 
-pub done_files : (name : List ℕ) (before mid after : Files) (meant : Result (List ℕ) Cause) (bytes : List ℕ) → meant ≡ Ok bytes → mid ≡ before → after ≡ replaced mid name bytes → SameFiles (make_answer name before meant).next after
-done_files name before mid after meant bytes ok same is =
-    same_as (make_answer name before meant).next (insert before name bytes) after (ap (λ (m : Result (List ℕ) Cause). (make_answer name before m).next) ok)
-    (subst (λ (files : Files). SameFiles (insert before name bytes) files) (sym (is ∙ ap (λ (files : Files). replaced files name bytes) same)) (same_replaced before name bytes))
+    -- the folder gave no names
+    pub unlisted : (fault : FolderFault) → IsPlain fault → Calls (fault_ending fault) Idles a b → HasMade name (Err (of_fault fault)) a b left rest
+    unlisted folder_faults.Failed plain call = record { means = tt; recipe = tt; needs = λ _. has_recipe; calls = failed_once call; input = found.input }
+    unlisted folder_faults.NotThere plain call = absurd plain
+    unlisted folder_faults.TooLarge plain call = absurd plain
+    unlisted folder_faults.NoMemory plain call = record { means = tt; recipe = tt; needs = λ e. cc; calls = lacked_once call; input = found.input }
 
--- it stopped before the folder changed
-pub left_before : (files_told input_told : Bool) (name : List ℕ) (before after : Files) (meant : Result (List ℕ) Cause) (disk source : Type 0) (stop : Stop) → files_told ≡ true → after ≡ before
-    → Stops files_told input_told meant disk source stop → LeavesAt input_told before (make_answer name before meant).next after stop
-left_before files_told input_told name before after meant disk source (stops.Cause cause) tells same h = (
-  same_files before after same,
-  λ told. same_as (make_answer name before meant).next before after (ap (λ (m : Result (List ℕ) Cause). (make_answer name before m).next) (h tells told)) (same_files before after same),
-)
-left_before files_told input_told name before after meant disk source stops.Failed tells same h = λ _. inl (same_files before after same)
-left_before files_told input_told name before after meant disk source stops.InputFailed tells same h = same_files before after same
-left_before files_told input_told name before after meant disk source stops.NoMemory tells same h = same_files before after same
+    module _ (names : List (List ℕ)) (listed : a.tells ≡ true → names ≡ keys a.files) (call : Calls Done Idles a b) where
+      pub no_room : is_full names name ≡ true → HasMade name (Err (stops.Cause TooManyFiles)) a b left rest
+      no_room is = record {
+        means = λ told. full a.files name (bytes_of left.left) bytes names valid (found.means told.1) (listed told.0) is;
+        recipe = tt;
+        needs = λ e. cc;
+        calls = asked_once call;
+        input = found.input;
+      }
 
--- it stopped while the file was stored
-pub left_in_store : (input_told : Bool) (name : List ℕ) (before mid after : Files) (meant : Result (List ℕ) Cause) (bytes : List ℕ) (disk : Type 0) (fault : FolderFault) → (input_told ≡ true → meant ≡ Ok bytes) → mid ≡ before
-    → calls.Stops disk fault → LeavesOldOrNew mid name bytes after fault → LeavesAt input_told before (make_answer name before meant).next after (of_fault fault)
-left_in_store input_told name before mid after meant bytes disk folder_faults.Failed ok same h left = λ told. elim left [
-  | inl old ↦ inl (subst (λ (files : Files). SameFiles files after) same (same_elsewhere mid after old))
-  | inr new ↦ inr (done_files name before mid after meant bytes (ok told) same new)
-]
-left_in_store input_told name before mid after meant bytes disk folder_faults.NotThere ok same h left = absurd h
-left_in_store input_told name before mid after meant bytes disk folder_faults.TooLarge ok same h left = absurd h
-left_in_store input_told name before mid after meant bytes disk folder_faults.NoMemory ok same h left = subst (λ (files : Files). SameFiles files after) same (same_elsewhere mid after left)
+      pub has_room : is_full names name ≡ false → HasMade name (Ok bytes) a b left rest
+      has_room is = record {
+        means = λ told. fits a.files name (bytes_of left.left) bytes names valid (found.means told.1) (listed told.0) is;
+        recipe = has_recipe;
+        needs = λ e. cc;
+        calls = asked_once call;
+        input = found.input;
+      }
+
+-- ---- the command
+
+clock_waited : (k : ℕ) (d : Disk) → clock d ≤ clock (waited k d)
+clock_waited zero d = omega arith
+clock_waited (suc k) d = let before = clock_waited k d in omega (arith, before)
+
+pub waits_on : (x y : Disk) → WaitsFor 1 Undone x y → clock x ≤ clock y
+waits_on x y p = subst (λ (d : Disk). clock x ≤ clock d) (sym p.2) (clock_waited p.0 x)
+
+pub unchanged : (old new : Files) → new ≡ old → SameElsewhere old new
+unchanged old new same = ap (λ (fs : Files). remove fs NEW_FILE.now) same
+
+-- of a name that is not valid
+pub refused_name : (name : List ℕ) (a : Seen) (left : Input) → is_valid_name name ≡ false → Came (Some (commands.Make name)) (Err (stops.Cause BadName)) a a left left
+refused_name name a left invalid =
+    let none = bad_name a.files name (bytes_of left.left) invalid in record {
+      gives = λ _. ap (make_answer name) none;
+      ends = refl;
+      calls = record {
+        tells = refl;
+        records = refl;
+        place = refl;
+        files = λ _. record { refused = λ _. ap is_ok none; all = refl };
+        disk = λ _. (0, omega arith, refl);
+        count = record { later = omega arith; rose = λ e. cc; quiet = λ _. refl };
+      };
+      needs = λ e. cc;
+      input = record { untouched = λ _. refl; tells = refl; most = λ reads _. absurd (true≢false (sym reads ∙ invalid)); count = record { later = omega arith; rose = λ e. cc; quiet = λ _. refl } };
+    }
+
+module _ (name : List ℕ) (valid : is_valid_name name ≡ true) {left rest : Input} where
+  read_so : (failed : Bool) → Consumes true failed left rest → Consumes (is_valid_name name) failed left rest
+  read_so failed read = subst (λ (reads : Bool). Consumes reads failed left rest) (sym valid) read
+
+module _ (name : List ℕ) (valid : is_valid_name name ≡ true) {a b : Seen} {left rest : Input} where
+  -- memory lacked before the file was stored
+  lacking : Calls Undone AsksOnce a b → Consumes true false left rest → Came (Some (commands.Make name)) (Err stops.NoMemory) a b left rest
+  lacking call read = record {
+    gives = tt;
+    ends = refl;
+    calls = record {
+      tells = call.tells;
+      records = call.records;
+      place = call.place;
+      files = λ told. unchanged a.files b.files (call.files told);
+      disk = λ told. waits_on a.disk b.disk (call.disk told);
+      count = call.count;
+    };
+    needs = λ e. cc;
+    input = read_so name valid false read;
+  }
+
+  -- there is no file to store
+  pub stopped_before : (stop : Stop) → HasMade name (Err stop) a b left rest → Came (Some (commands.Make name)) (Err stop) a b left rest
+  stopped_before (stops.Cause cause) found = record {
+    gives = λ told. ap (make_answer name) (found.means (told.files valid, told.input valid));
+    ends = refl;
+    calls = record {
+      tells = found.calls.tells;
+      records = found.calls.records;
+      place = found.calls.place;
+      files = λ tells. record { refused = λ told. ap is_ok (found.means (tells, told)); all = found.calls.files tells };
+      disk = found.calls.disk;
+      count = found.calls.count;
+    };
+    needs = λ e. cc;
+    input = read_so name valid false found.input;
+  }
+  stopped_before stops.Failed found = record {
+    gives = tt;
+    ends = valid;
+    calls = record {
+      tells = found.calls.tells;
+      records = found.calls.records;
+      place = found.calls.place;
+      files = λ told. inl (unchanged a.files b.files (found.calls.files told));
+      disk = λ told. waits_on a.disk b.disk (found.calls.disk told);
+      count = found.calls.count;
+    };
+    needs = found.needs;
+    input = read_so name valid false found.input;
+  }
+  stopped_before stops.InputFailed found = record {
+    gives = tt;
+    ends = valid;
+    calls = record {
+      tells = found.calls.tells;
+      records = found.calls.records;
+      place = found.calls.place;
+      files = found.calls.files;
+      disk = found.calls.disk;
+      count = found.calls.count;
+    };
+    needs = λ e. cc;
+    input = read_so name valid true found.input;
+  }
+  stopped_before stops.NoMemory found = lacking found.calls found.input
+
+  module _ (bytes : List ℕ) (found : HasMade name (Ok bytes) a b left rest) where
+    -- there was no memory for the line
+    pub unsaid : Came (Some (commands.Make name)) (Err stops.NoMemory) a b left rest
+    unsaid = lacking
+        (record {
+          tells = found.calls.tells;
+          records = found.calls.records;
+          place = found.calls.place;
+          files = found.calls.files;
+          disk = found.calls.disk;
+          count = found.calls.count;
+        }) found.input
+
+    module _ (c : Seen) where
+      later : (failed : Bool) → Counted failed b.faults c.faults → Counted failed a.faults c.faults
+      later failed more = counted_then failed a.faults b.faults c.faults found.calls.count more
+
+      clock_on : a.records ≡ true → clock b.disk ≤ clock c.disk → clock a.disk ≤ clock c.disk
+      clock_on told more = let first = waits_on a.disk b.disk (found.calls.disk told) in omega (arith, first, more)
+
+      kept : a.tells ≡ true → SameElsewhere b.files c.files → SameElsewhere a.files c.files
+      kept told same = same ∙ unchanged a.files b.files (found.calls.files told)
+
+      has_file : a.tells ≡ true → c.files ≡ replaced b.files name bytes → HasFile name left.left a.files c.files
+      has_file tells stored = record {
+        bytes = bytes;
+        valid = valid;
+        meant = λ told. found.means (tells, told);
+        all = stored ∙ ap (λ (fs : Files). replaced fs name bytes) (found.calls.files tells);
+      }
+
+      -- it was not stored, or the folder failed after that
+      pub unstored : (fault : FolderFault) → IsPlain fault → Calls (fault_ending fault) (Replaces name bytes) b c → Came (Some (commands.Make name)) (Err (of_fault fault)) a c left rest
+      unstored folder_faults.Failed plain call = record {
+        gives = tt;
+        ends = valid;
+        calls = record {
+          tells = call.tells ∙ found.calls.tells;
+          records = call.records ∙ found.calls.records;
+          place = call.place ∙ found.calls.place;
+          files = λ told. elim (call.files (found.calls.tells ∙ told)) [ inl same ↦ inl (kept told same) | inr stored ↦ inr (has_file told stored) ];
+          disk = λ told. clock_on told (call.disk (found.calls.records ∙ told));
+          count = later true call.count;
+        };
+        needs = λ _. found.recipe;
+        input = read_so name valid false found.input;
+      }
+      unstored folder_faults.NotThere plain call = absurd plain
+      unstored folder_faults.TooLarge plain call = absurd plain
+      unstored folder_faults.NoMemory plain call = record {
+        gives = tt;
+        ends = refl;
+        calls = record {
+          tells = call.tells ∙ found.calls.tells;
+          records = call.records ∙ found.calls.records;
+          place = call.place ∙ found.calls.place;
+          files = λ told. kept told (call.files (found.calls.tells ∙ told));
+          disk = λ told. clock_on told (call.disk (found.calls.records ∙ told));
+          count = later false call.count;
+        };
+        needs = λ e. cc;
+        input = read_so name valid false found.input;
+      }
+
+      -- it was stored
+      pub was_stored : (text : Vec ℕ Global) → text.items ≡ made_text name → Calls Done (Replaces name bytes) b c → Came (Some (commands.Make name)) (Ok text) a c left rest
+      was_stored text is call = record {
+        gives = λ told. ap (make_answer name) (found.means (told.files valid, told.input valid)) ∙ ap done (sym is);
+        ends = refl;
+        calls = record {
+          tells = call.tells ∙ found.calls.tells;
+          records = call.records ∙ found.calls.records;
+          place = call.place ∙ found.calls.place;
+          files = λ told. has_file told (call.files (found.calls.tells ∙ told));
+          disk = λ told. clock_on told (call.disk (found.calls.records ∙ told));
+          count = later false call.count;
+        };
+        needs = λ e. cc;
+        input = read_so name valid false found.input;
+      }

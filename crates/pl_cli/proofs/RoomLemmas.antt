@@ -6,7 +6,7 @@ use Rattle.std.specs.declared.alloc.Global.{Global}
 use Rattle.std.specs.List.{list_any}
 use Rattle.std.specs.Str.{bytes_eq}
 use Rattle.pl_base.specs.Names.{is_valid_name}
-use Rattle.pl_cli.specs.ValidFiles.{has_name}
+use Rattle.pl_cli.specs.Room.{has_name}
 
 pub has_name_map : (name : List ℕ) (names : List (String Global)) → list_any (λ other. bytes_eq name (string_bytes other)) names ≡ has_name name (map string_bytes names)
 has_name_map name [] = refl

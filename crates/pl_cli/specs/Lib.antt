@@ -1,9 +1,13 @@
 pub mod Statuses
 pub mod Words
-pub mod ValidFiles
+pub mod Room
 pub mod Load
 pub mod LoadText
 pub mod Make
 pub mod Refusals
 pub mod Answer
-pub mod Outcome
+pub mod Stops
+pub mod Outside
+pub mod Came
+pub mod Ran
+pub mod Written

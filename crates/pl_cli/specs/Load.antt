@@ -1,12 +1,16 @@
 -- What a program of a folder's files starts from, or the first cause why it does not.
-use Rattle.std.specs.Prelude.{ℕ, Bool, false, not, List, length, nat_lt, Option, Some, None, Result, Ok, Err, if◌then◌else◌}
+use Rattle.std.specs.Prelude.{ℕ, zero, suc, Bool, false, not, List, [], ◌∷◌, length, count_by, nat_lt, Option, Some, None, Result, Ok, Err, if◌then◌else◌}
 use Rattle.std.specs.FinMap.{get}
-use Rattle.pl_base.specs.Answers.{unless}
+use Rattle.pl_base.specs.Answers.{◌>>=◌, because, unless}
 use Rattle.pl_base.specs.Files.{Files}
 use Rattle.pl_base.specs.Names.{is_valid_name}
 use Rattle.pl_folder.specs.declared.TheConstants.{STORED}
+use Rattle.pl_scope.specs.Walk as walk
+use Rattle.pl_scope.specs.Walking.{Walking, wants}
+use Rattle.pl_scope.specs.declared.constants.TheConstants.{MAX_MEMBERS}
 use Rattle.pl_loader.specs.Faults as faults
 use Rattle.pl_loader.specs.Started.{Start, load}
+use Rattle.pl_loader.specs.Walk.{object_of, walk_fault}
 use Rattle.pl_loader.specs.declared.fault.LoadFault.TheVariants.{NotThere}
 use Rattle.pl_cli.specs.declared.cause.Cause.{Cause}
 use Rattle.pl_cli.specs.declared.cause.Cause.TheVariants as causes
@@ -29,6 +33,35 @@ file_in files name = of_file name (valid_file files name)
 
 unfoldable pub loaded : Files → List ℕ → Result Start Cause
 loaded files name = unless (not (is_valid_name name)) causes.BadName (load causes.Load (file_in files) name)
+
+-- ---- the files that the walk looks at
+
+-- the walk after the wanted name, n, was given its object, or the cause why it was not
+abbrev pub stepped : Files → List ℕ → Walking → List ℕ → Result Walking Cause
+stepped files name w n = object_of causes.Load (file_in files) name n >>= λ o. because (walk_fault causes.Load) (walk.entered w n o)
+
+abbrev pub names_from : Option (List ℕ) → (List ℕ → List (List ℕ)) → List (List ℕ)
+names_from None rest = []
+names_from (Some n) rest = n ∷ rest n
+
+abbrev pub unless_refused : Result Walking Cause → (Walking → List (List ℕ)) → List (List ℕ)
+unless_refused (Ok w) rest = rest w
+unless_refused (Err cause) rest = []
+
+-- the wanted name and those that follow it, up to the first whose file is not there or refused. `most` bounds their number; a walk has no more
+unfoldable pub looks_from : Files → List ℕ → ℕ → Walking → List (List ℕ)
+looks_from files name zero w = []
+looks_from files name (suc most) w = names_from (wants w) (λ n. unless_refused (stepped files name w n) (looks_from files name most))
+
+-- all names whose files the walk of a name looks at
+unfoldable pub looks : Files → List ℕ → List (List ℕ)
+looks files name = looks_from files name MAX_MEMBERS (walk.begun name)
+
+-- how many files are taken: no other name than a valid one has a file
+abbrev pub takes : Files → List ℕ → ℕ
+takes files name = count_by is_valid_name (looks files name)
+
+-- ---- causes
 
 -- whether a cause is a want of memory. No load and no recipe means one
 abbrev pub is_memory : Cause → Bool

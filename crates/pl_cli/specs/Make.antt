@@ -9,7 +9,7 @@ use Rattle.pl_build.specs.declared.checks.Fault.{Fault}
 use Rattle.pl_cli.specs.declared.cause.Cause.{Cause}
 use Rattle.pl_cli.specs.declared.cause.Cause.TheVariants.{BadName, InputTooLarge, Recipe, TooManyFiles}
 use Rattle.pl_cli.specs.declared.make.TheConstants.{RECIPE}
-use Rattle.pl_cli.specs.ValidFiles.{is_full}
+use Rattle.pl_cli.specs.Room.{is_full}
 use Rattle.pl_cli.specs.Words.{bytes_of}
 
 -- a fault of a recipe as a cause

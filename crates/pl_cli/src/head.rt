@@ -54,7 +54,8 @@ fn push_modules(alloc: Global, out: &mut Vec<u8>, modules: &[TlsModule]) -> Resu
 /// The lines before those of the words: the path, the objects and the modules in scope order, and the entry.
 #[tactic(auto, unfolding(crate::specs::LoadText::head_text))]
 pub fn head_text(alloc: Global, started: &Started<'_>) -> Result<Vec<u8>, AllocError>
-    ensures { IfOk result (λ text. text.items ≡ spec.head_text started.now.objects started.now.modules started.now.entry) }
+    ensures { IfOk result (λ text.
+        text.items ≡ spec.head_text started.now.objects started.now.modules started.now.entry) }
 {
     let mut head = Vec::new(alloc);
     head.extend_from_slice(b"slow\n")?;

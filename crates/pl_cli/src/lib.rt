@@ -2,10 +2,11 @@
 #![tactic(auto)]
 
 mod cause;
+mod command;
 mod head;
+mod laws;
 mod load;
 mod make;
-mod mode;
 mod refusals;
 mod room;
 mod status;
@@ -14,8 +15,10 @@ mod symbol_text;
 mod text;
 mod top;
 mod words;
+mod words_fault;
 mod write;
 mod write_stop;
 
+pub use laws::causes_tell;
 pub use status::Status;
 pub use top::run;

@@ -1,13 +1,12 @@
 // The load of a folder's program by its name.
-ghost use Rattle.std.specs.Prelude.{◌≡◌, ◌≢◌, ◌≤◌, ◌<◌, ◌^◌, Ok, None, IfErr, IfOk, OnErr, OnOk, false, true, vec_len};
+ghost use Rattle.std.specs.Prelude.{◌≡◌, ◌≢◌, ◌<◌, ◌^◌, None, IfErr, IfOk, OnErr, false, vec_len};
 ghost use Rattle.pl_base.specs.Answers.{because};
-ghost use Rattle.pl_base.specs.Counts.{Rose};
 ghost use Rattle.pl_base.specs.Names.{is_valid_name};
 ghost use Rattle.pl_scope.specs.Walking.{wants};
 ghost use Rattle.pl_loader.specs.Started as meant;
+ghost use Rattle.pl_cli.specs.Came.{HasLoaded, HasTaken};
 ghost use Rattle.pl_cli.specs.declared.cause.Cause.TheVariants as causes;
-ghost use Rattle.pl_cli.specs.Load as spec;
-ghost use Rattle.pl_cli.specs.Outcome.{Stops, UnlessFailed, of_take};
+ghost use Rattle.pl_cli.specs.Stops.{StopsAlone, of_take};
 
 use crate::cause::Cause;
 use crate::stop::Stop;
@@ -31,15 +30,8 @@ fn untaken(alloc: Global, name: &str, fault: FolderFault) -> Result<Stop, AllocE
 
 /// The file of a name that a walk wants. A name that is no valid name has none, and the folder is not asked for it.
 fn take<D: Folder>(alloc: Global, folder: &mut D, name: &str) -> Result<Vec<u8>, Stop>
-    ensures ok { IfOk result (λ bytes. D.tells_files folder.old ≡ true → spec.file_in (D.files folder.old) name.now ≡ Ok bytes.items) }
+    ensures taken { HasTaken name.now result (D.seen folder.old) (D.seen folder.new) }
     ensures size { IfOk result (λ bytes. vec_len bytes < 2 ^ 32) }
-    ensures stop { IfErr result (Stops (D.tells_files folder.old) true (spec.file_in (D.files folder.old) name.now) (Rose (D.faults folder.old) (D.faults folder.new)) ⊥) }
-    ensures tells { D.tells_files folder.new ≡ D.tells_files folder.old }
-    ensures same { D.tells_files folder.old ≡ true → D.files folder.new ≡ D.files folder.old }
-    ensures quiet { OnOk result (D.faults folder.new ≡ D.faults folder.old) }
-    ensures quiet_stop { IfErr result (UnlessFailed (D.faults folder.new ≡ D.faults folder.old)) }
-    ensures counts { D.faults folder.old ≤ D.faults folder.new }
-    ensures place { D.place folder.new ≡ D.place folder.old }
 {
     if !is_valid_name(name.as_bytes()) {
         return Err(untaken(alloc, name, FolderFault::NotThere)?);
@@ -52,15 +44,8 @@ fn take<D: Folder>(alloc: Global, folder: &mut D, name: &str) -> Result<Vec<u8>,
 
 /// The load of a name that was given the files of its whole walk, one after the other as it wanted them; or the first cause that came before. For a name that is not valid the folder is not asked.
 pub fn load<D: Folder>(alloc: Global, folder: &mut D, name: &str) -> Result<Loader, Stop>
+    ensures loaded { HasLoaded name.now result (D.seen folder.old) (D.seen folder.new) }
     ensures all { IfOk result (λ loader. wants loader.order ≡ None) }
-    ensures ok { IfOk result (λ loader. D.tells_files folder.old ≡ true → spec.loaded (D.files folder.old) name.now ≡ because causes.Load (meant.started loader.files)) }
-    ensures stop { IfErr result (Stops (D.tells_files folder.old) true (spec.loaded (D.files folder.old) name.now) (Rose (D.faults folder.old) (D.faults folder.new)) ⊥) }
-    ensures tells { D.tells_files folder.new ≡ D.tells_files folder.old }
-    ensures same { D.tells_files folder.old ≡ true → D.files folder.new ≡ D.files folder.old }
-    ensures quiet { OnOk result (D.faults folder.new ≡ D.faults folder.old) }
-    ensures quiet_stop { IfErr result (UnlessFailed (D.faults folder.new ≡ D.faults folder.old)) }
-    ensures counts { D.faults folder.old ≤ D.faults folder.new }
-    ensures place { D.place folder.new ≡ D.place folder.old }
     ensures unasked { is_valid_name name.now ≡ false → folder.new ≡ folder.old }
 {
     if !is_valid_name(name.as_bytes()) {
@@ -78,7 +63,8 @@ pub fn load<D: Folder>(alloc: Global, folder: &mut D, name: &str) -> Result<Load
 pub fn start(alloc: Global, loader: &Loader) -> Result<Started<'_>, Stop>
     requires { wants loader.now.order ≡ None }
     ensures ok { IfOk result (λ s. meant.Starts s (meant.started loader.now.files)) }
-    ensures stop { IfErr result (Stops true true (because causes.Load (meant.started loader.now.files)) ⊥ ⊥) }
+    ensures stop { IfErr result
+        (StopsAlone (because causes.Load (meant.started loader.now.files))) }
 {
     Ok(loader.start(alloc)?)
 }

@@ -3,7 +3,7 @@ ghost use Rattle.std.specs.Prelude.{◌≡◌, count_by, map, string_bytes};
 ghost use Rattle.std.specs.List.{list_any};
 ghost use Rattle.std.specs.Str.{bytes_eq};
 ghost use Rattle.pl_base.specs.Names.{is_valid_name};
-ghost use Rattle.pl_cli.specs.ValidFiles as spec;
+ghost use Rattle.pl_cli.specs.Room as spec;
 
 use pl_base::is_valid_name;
 
@@ -27,7 +27,7 @@ fn count_valid(names: &[String]) -> usize
 }
 
 /// Whether a folder with files of these names has no room for one of that name.
-#[tactic(auto, using(crate::proofs::RoomLemmas::has_name_map), unfolding(crate::specs::ValidFiles::is_full))]
+#[tactic(auto, using(crate::proofs::RoomLemmas::has_name_map), unfolding(crate::specs::Room::is_full))]
 pub fn is_full(names: &[String], name: &str) -> bool
     ensures { result ≡ spec.is_full (map string_bytes names.now) name.now }
 {

@@ -39,7 +39,7 @@ impl From<NoMemory> for Stop {
 
 /// A fault of a call that is given no file to take: it fails, or lacks memory.
 impl From<FolderFault> for Stop {
-    ghost use Rattle.pl_cli.specs.Outcome.{of_fault};
+    ghost use Rattle.pl_cli.specs.Stops.{of_fault};
 
     ghost from_gives = { λ fault stop. stop ≡ of_fault fault };
 
@@ -52,7 +52,7 @@ impl From<FolderFault> for Stop {
 }
 
 impl From<LoadFault> for Stop {
-    ghost use Rattle.pl_cli.specs.Outcome.{of_load_fault};
+    ghost use Rattle.pl_cli.specs.Stops.{of_load_fault};
 
     ghost from_gives = { λ fault stop. stop ≡ of_load_fault fault };
 
@@ -65,7 +65,7 @@ impl From<LoadFault> for Stop {
 }
 
 impl From<ReadFault> for Stop {
-    ghost use Rattle.pl_cli.specs.Outcome.{of_read_fault};
+    ghost use Rattle.pl_cli.specs.Stops.{of_read_fault};
 
     ghost from_gives = { λ fault stop. stop ≡ of_read_fault fault };
 
@@ -79,7 +79,7 @@ impl From<ReadFault> for Stop {
 }
 
 impl From<RecipeFault> for Stop {
-    ghost use Rattle.pl_cli.specs.Outcome.{of_recipe_fault};
+    ghost use Rattle.pl_cli.specs.Stops.{of_recipe_fault};
 
     ghost from_gives = { λ fault stop. stop ≡ of_recipe_fault fault };
 

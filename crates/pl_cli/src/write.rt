@@ -1,8 +1,6 @@
 // The text of a start, written piece by piece.
-ghost use Rattle.std.specs.Prelude.{◌≡◌, ◌≤◌, OnErr, OnOk, IsErrOf};
-ghost use Rattle.pl_base.specs.Counts.{Rose};
-ghost use Rattle.pl_base.specs.Streams.{GotPrefix, got_after};
 ghost use Rattle.pl_cli.specs.LoadText.{load_text, start_of};
+ghost use Rattle.pl_cli.specs.Written.{HasWrittenStart};
 
 use crate::head::head_text;
 use crate::write_stop::WriteStop;
@@ -16,13 +14,8 @@ pub fn write_start<K: Sink>(
     started: &Started<'_>,
     output: &mut K,
 ) -> Result<(), WriteStop>
-    ensures ok { OnOk result (K.written output.new ≡ got_after (K.written output.old) (load_text (start_of started.now))) }
-    ensures err { OnErr result (GotPrefix (K.written output.old) (K.written output.new) (load_text (start_of started.now))) }
-    ensures failed { IsErrOf result WriteStop.Failed → Rose (K.faults output.old) (K.faults output.new) }
-    ensures early { IsErrOf result WriteStop.NoMemory → K.written output.new ≡ K.written output.old }
-    ensures quiet { OnOk result (K.faults output.new ≡ K.faults output.old) }
-    ensures quiet_early { IsErrOf result WriteStop.NoMemory → K.faults output.new ≡ K.faults output.old }
-    ensures counts { K.faults output.old ≤ K.faults output.new }
+    ensures { HasWrittenStart (load_text (start_of started.now)) result
+        (K.seen output.old) (K.seen output.new) }
 {
     let head = head_text(alloc, started)?;
     write_all(output, &head)?;

@@ -1,45 +1,50 @@
-use Rattle.std.proofs.Common.{◌≡◌, true, false, Some, sym, ap, subst, ◌∙◌, rules, arith}
-use Rattle.pl_base.specs.Counts.{Rose}
+use Rattle.std.proofs.Common.{◌≡◌, true, false, Some, None, sym, ap, subst, ◌∙◌, rules, arith}
+use Rattle.std.specs.Prelude.{Err}
 use Rattle.pl_base.specs.Files.{Files}
 use Rattle.pl_base.specs.Names.{is_valid_name}
-use Rattle.pl_base.proofs.ResultLaws.{IfErr-at}
 use Rattle.pl_scope.specs.Walking.{wants}
 use Rattle.pl_loader.specs.Loading.{Loading}
 use Rattle.pl_loader.specs.Walk.{IsUnderWay}
 use Rattle.pl_loader.proofs.LoadLaws.{load_begins, load_goes_on, give_more, wanted_below}
+use Rattle.pl_cli.specs.Came.{HasLoaded}
 use Rattle.pl_cli.specs.declared.cause.Cause.TheVariants as causes
-use Rattle.pl_cli.specs.Load.{file_in, loaded}
-use Rattle.pl_cli.specs.Outcome.{Stops, of_load_fault}
-use Rattle.pl_cli.proofs.LoadLemmas.{bad_name, stopped_in_folder, stopped_at_file, loaded_ends}
+use Rattle.pl_cli.specs.declared.stop.Stop.TheVariants as stops
+use Rattle.pl_cli.specs.Load.{file_in, takes}
+use Rattle.pl_cli.specs.Stops.{of_load_fault}
+use Rattle.pl_cli.proofs.LoadLemmas.{goes_on, loaded_ends, not_begun, refused_name, stopped_at_file, stopped_in_folder}
+use Rattle.pl_cli.proofs.LookLemmas.{all_taken, left_all, left_from, left_none, none_yet}
+use Rattle.pl_cli.proofs.StopLemmas.{at_err}
 use Rattle.pl_cli.proofs.load.load.Goals as goal
 
-pub returns-then-not-is_valid_name-clause-stop : goal.returns-then-not-is_valid_name-clause-stop
-returns-then-not-is_valid_name-clause-stop g c = λ tells _.
+pub returns-then-not-is_valid_name-clause-loaded : goal.returns-then-not-is_valid_name-clause-loaded
+returns-then-not-is_valid_name-clause-loaded g c =
     let invalid : is_valid_name c.args.name.now ≡ false = search rules in
-    bad_name (g.D.Folder.files c.args.folder.now) c.args.name.now invalid
+    refused_name (g.D.Folder.seen c.args.folder.now) c.args.name.now invalid
+
+pub returns-in_err-loader-clause-loaded : goal.returns-in_err-loader-clause-loaded
+returns-in_err-loader-clause-loaded g c =
+    let a = g.D.Folder.seen c.args.folder.now in
+    at_err (λ r. HasLoaded c.args.name.now r a a) c.from_residual.result stops.NoMemory c.from_residual.ensures.1 (not_begun a c.args.name.now)
 
 pub loop-wanted-init : goal.loop-wanted-init
 loop-wanted-init g c =
-    let files = g.D.Folder.files c.args.folder.now in
+    let a = g.D.Folder.seen c.args.folder.now in
+    let begun = c.in_ok-loader.ensures.begun in
     record {
-      under_way = λ told. subst (λ (l : Loading). IsUnderWay causes.Load (file_in files) c.args.name.now l) (sym c.in_ok-loader.ensures.begun) (load_begins causes.Load (file_in files) c.args.name.now);
-      tells = search rules;
-      same = search rules;
-      quiet = search rules;
-      counts = search rules;
-      place = search rules;
+      under_way = λ told. subst (λ (l : Loading). IsUnderWay causes.Load (file_in a.files) c.args.name.now l) (sym begun) (load_begins causes.Load (file_in a.files) c.args.name.now);
+      calls = none_yet a (left_from a.files c.args.name.now c.in_ok-loader.loader.order) (takes a.files c.args.name.now) (ap (λ (l : Loading). left_from a.files c.args.name.now l.order) begun ∙ left_all a.files c.args.name.now);
     }
 
-pub returns-in_err-bytes-clause-stop : goal.returns-in_err-bytes-clause-stop
-returns-in_err-bytes-clause-stop g c =
-    let told = g.D.Folder.tells_files c.args.folder.now in
-    let files = g.D.Folder.files c.args.folder.now in
-    let faults = g.D.Folder.faults in
-    let inv = c.loop-wanted.invariant in
+pub returns-in_err-bytes-clause-loaded : goal.returns-in_err-bytes-clause-loaded
+returns-in_err-bytes-clause-loaded g c =
+    let seen = g.D.Folder.seen in
+    let a = seen c.args.folder.now in
+    let at = c.loop-wanted.invariant in
     let valid : is_valid_name c.args.name.now ≡ true = search rules in
-    IfErr-at c.from_residual-in_err-bytes.result (Stops told true (loaded files c.args.name.now) (Rose (faults c.args.folder.now) (faults c.take.new.folder)) ⊥) c.in_err-bytes.field-0.0 c.from_residual-in_err-bytes.ensures.1
-    (stopped_in_folder told files c.args.name.now valid (g.D.Folder.tells_files c.loop-wanted.folder) (g.D.Folder.files c.loop-wanted.folder) (faults c.args.folder.now) (faults c.loop-wanted.folder) (faults c.take.new.folder) c.in-Some.wanted.now c.loop-wanted.loader c.in_err-bytes.field-0.0
-    inv.tells inv.same inv.counts (sym c.in-Some.ensures.name) inv.under_way c.in_err-bytes.ensures.stop)
+    let is : wants c.loop-wanted.loader.order ≡ Some c.in-Some.wanted.now = sym c.in-Some.ensures.name in
+    let below = wanted_below c.loop-wanted.loader.order c.in-Some.wanted.now c.in-Some.ensures.loading.walking is in
+    at_err (λ r. HasLoaded c.args.name.now r a (seen c.take.new.folder)) c.from_residual-in_err-bytes.result c.in_err-bytes.field-0.0 c.from_residual-in_err-bytes.ensures.1
+    (stopped_in_folder a c.args.name.now valid (g.met.D.Folder.is_folder c.args.folder.now) c.loop-wanted.loader c.in-Some.wanted.now is below at.under_way (seen c.loop-wanted.folder) (seen c.take.new.folder) at.calls c.in_err-bytes.field-0.0 c.in_err-bytes.ensures.taken)
 
 pub loop-wanted-smaller : goal.loop-wanted-smaller
 loop-wanted-smaller g c =
@@ -50,31 +55,40 @@ loop-wanted-smaller g c =
 
 pub loop-wanted-preserved : goal.loop-wanted-preserved
 loop-wanted-preserved g c =
-    let files = g.D.Folder.files c.args.folder.now in
-    let inv = c.loop-wanted.invariant in
+    let seen = g.D.Folder.seen in
+    let a = seen c.args.folder.now in
+    let at = c.loop-wanted.invariant in
+    let valid : is_valid_name c.args.name.now ≡ true = search rules in
+    let is : wants c.loop-wanted.loader.order ≡ Some c.in-Some.wanted.now = sym c.in-Some.ensures.name in
+    let below = wanted_below c.loop-wanted.loader.order c.in-Some.wanted.now c.in-Some.ensures.loading.walking is in
+    let more = give_more c.loop-wanted.loader c.give.new.self c.in-Some.wanted.now (Some c.in_ok-bytes.bytes.items) is c.in_ok-give.ensures.ok in
     record {
-      under_way = λ told. load_goes_on causes.Load (file_in files) c.args.name.now c.in-Some.wanted.now (Some c.in_ok-bytes.bytes.items) c.loop-wanted.loader c.give.new.self (sym c.in-Some.ensures.name)
-          (ap (λ (fs : Files). file_in fs c.in-Some.wanted.now) (sym (inv.same told)) ∙ c.in_ok-bytes.ensures.ok (inv.tells ∙ told)) c.in_ok-give.ensures.ok (inv.under_way told);
-      tells = c.in_ok-bytes.ensures.tells ∙ inv.tells;
-      same = λ told. c.in_ok-bytes.ensures.same (inv.tells ∙ told) ∙ inv.same told;
-      quiet = c.in_ok-bytes.ensures.quiet ∙ inv.quiet;
-      counts = let before = inv.counts in let here = c.in_ok-bytes.ensures.counts in omega arith;
-      place = c.in_ok-bytes.ensures.place ∙ inv.place;
+      under_way = λ told. load_goes_on causes.Load (file_in a.files) c.args.name.now c.in-Some.wanted.now (Some c.in_ok-bytes.bytes.items) c.loop-wanted.loader c.give.new.self is
+          (ap (λ (fs : Files). file_in fs c.in-Some.wanted.now) (sym (at.calls.files told)) ∙ c.in_ok-bytes.ensures.taken.means (at.calls.tells ∙ told)) c.in_ok-give.ensures.ok (at.under_way told);
+      calls = goes_on a c.args.name.now valid (g.met.D.Folder.is_folder c.args.folder.now) c.loop-wanted.loader c.in-Some.wanted.now is below at.under_way (seen c.loop-wanted.folder) (seen c.take.new.folder) at.calls
+          c.in_ok-bytes.bytes c.in_ok-bytes.ensures.taken c.give.new.self more c.in_ok-give.ensures.ok;
     }
 
-pub returns-in_err-give-clause-stop : goal.returns-in_err-give-clause-stop
-returns-in_err-give-clause-stop g c =
-    let told = g.D.Folder.tells_files c.args.folder.now in
-    let files = g.D.Folder.files c.args.folder.now in
-    let faults = g.D.Folder.faults in
-    let inv = c.loop-wanted.invariant in
+pub returns-in_err-give-clause-loaded : goal.returns-in_err-give-clause-loaded
+returns-in_err-give-clause-loaded g c =
+    let seen = g.D.Folder.seen in
+    let a = seen c.args.folder.now in
+    let at = c.loop-wanted.invariant in
     let valid : is_valid_name c.args.name.now ≡ true = search rules in
-    let disk = Rose (faults c.args.folder.now) (faults c.take.new.folder) in
-    IfErr-at c.from_residual-in_err-give.result (Stops told true (loaded files c.args.name.now) disk ⊥) (of_load_fault c.in_err-give.field-0.0) c.from_residual-in_err-give.ensures.1
-    (stopped_at_file told files c.args.name.now valid disk c.in-Some.wanted.now c.in_ok-bytes.bytes.items c.loop-wanted.loader c.in_err-give.field-0.0 (sym c.in-Some.ensures.name)
-    (λ tells. ap (λ (fs : Files). file_in fs c.in-Some.wanted.now) (sym (inv.same tells)) ∙ c.in_ok-bytes.ensures.ok (inv.tells ∙ tells)) inv.under_way c.in_err-give.ensures.err)
+    let is : wants c.loop-wanted.loader.order ≡ Some c.in-Some.wanted.now = sym c.in-Some.ensures.name in
+    let below = wanted_below c.loop-wanted.loader.order c.in-Some.wanted.now c.in-Some.ensures.loading.walking is in
+    at_err (λ r. HasLoaded c.args.name.now r a (seen c.take.new.folder)) c.from_residual-in_err-give.result (of_load_fault c.in_err-give.field-0.0) c.from_residual-in_err-give.ensures.1
+    (stopped_at_file a c.args.name.now valid (g.met.D.Folder.is_folder c.args.folder.now) c.loop-wanted.loader c.in-Some.wanted.now is below at.under_way (seen c.loop-wanted.folder) (seen c.take.new.folder) at.calls
+    c.in_ok-bytes.bytes c.in_ok-bytes.ensures.taken c.in_err-give.field-0.0 c.in_err-give.ensures.err)
 
-pub returns-clause-ok : goal.returns-clause-ok
-returns-clause-ok g c = λ told.
+pub returns-clause-loaded : goal.returns-clause-loaded
+returns-clause-loaded g c =
+    let a = g.D.Folder.seen c.args.folder.now in
+    let at = c.loop-wanted.invariant in
     let valid : is_valid_name c.args.name.now ≡ true = search rules in
-    loaded_ends (g.D.Folder.tells_files c.args.folder.now) (g.D.Folder.files c.args.folder.now) c.args.name.now valid c.loop-wanted.loader (sym (rw c.in_default.is at c.wants.ensures.name)) (c.loop-wanted.invariant.under_way told)
+    let none : wants c.loop-wanted.loader.order ≡ None = sym (rw c.in_default.is at c.wants.ensures.name) in
+    record {
+      loads = λ told. loaded_ends a c.args.name.now valid c.loop-wanted.loader none (at.under_way (told valid));
+      ends = search rules;
+      calls = all_taken (left_from a.files c.args.name.now c.loop-wanted.loader.order) (takes a.files c.args.name.now) (left_none a.files c.args.name.now c.loop-wanted.loader.order none) at.calls;
+    }

@@ -1,13 +1,12 @@
 use Rattle.std.proofs.Common.{◌≡◌, rules, true, false, sym, subst}
-use Rattle.pl_base.specs.Counts.{Rose}
+use Rattle.std.specs.Prelude.{Err}
 use Rattle.pl_base.specs.Names.{is_valid_name}
 use Rattle.pl_base.proofs.NameLaws.{valid_length}
-use Rattle.pl_cli.specs.Load.{file_in}
-use Rattle.pl_cli.specs.Outcome.{Stops, UnlessFailed}
-use Rattle.pl_base.proofs.ResultLaws.{IfErr-at}
+use Rattle.pl_cli.specs.Came.{HasTaken}
 use Rattle.pl_cli.specs.declared.stop.Stop.{Stop}
 use Rattle.pl_cli.specs.declared.stop.Stop.TheVariants as stops
-use Rattle.pl_cli.proofs.LoadLemmas.{taken_file, untaken_file, invalid_file, unless_failed}
+use Rattle.pl_cli.proofs.LoadLemmas.{taken_once, unasked, unasked_untold, untaken, untold}
+use Rattle.pl_cli.proofs.StopLemmas.{at_err}
 use Rattle.pl_cli.proofs.load.take.Goals as goal
 
 pub take-requires : goal.take-requires
@@ -15,29 +14,31 @@ take-requires g c =
     let valid : is_valid_name c.args.name.now ≡ true = search rules in
     valid_length c.args.name.now valid
 
-pub returns-then-not-is_valid_name-clause-stop : goal.returns-then-not-is_valid_name-clause-stop
-returns-then-not-is_valid_name-clause-stop g c =
-    let told = g.D.Folder.tells_files c.args.folder.now in
-    let files = g.D.Folder.files c.args.folder.now in
+pub returns-then-not-is_valid_name-clause-taken : goal.returns-then-not-is_valid_name-clause-taken
+returns-then-not-is_valid_name-clause-taken g c =
+    let a = g.D.Folder.seen c.args.folder.now in
     let invalid : is_valid_name c.args.name.now ≡ false = search rules in
-    subst (λ (stop : Stop). Stops told true (file_in files c.args.name.now) (Rose (g.D.Folder.faults c.args.folder.now) (g.D.Folder.faults c.args.folder.now)) ⊥ stop) (sym c.in_ok-untaken.ensures.stop)
-    (λ tells _. invalid_file files c.args.name.now invalid)
+    subst (λ (stop : Stop). HasTaken c.args.name.now (Err stop) a a) (sym c.in_ok-untaken.ensures.stop) (unasked c.args.name.now a invalid)
 
-pub returns-in-Ok-clause-ok : goal.returns-in-Ok-clause-ok
-returns-in-Ok-clause-ok g c = λ tells.
+pub returns-in_err-untaken-clause-taken : goal.returns-in_err-untaken-clause-taken
+returns-in_err-untaken-clause-taken g c =
+    let a = g.D.Folder.seen c.args.folder.now in
+    at_err (λ r. HasTaken c.args.name.now r a a) c.from_residual.result stops.NoMemory c.from_residual.ensures.1 (unasked_untold c.args.name.now a)
+
+pub returns-in-Ok-clause-taken : goal.returns-in-Ok-clause-taken
+returns-in-Ok-clause-taken g c =
     let valid : is_valid_name c.args.name.now ≡ true = search rules in
-    taken_file (g.D.Folder.files c.args.folder.now) c.args.name.now c.in-Ok.bytes.items valid (c.in-Ok.ensures.bytes tells)
+    taken_once c.args.name.now c.in-Ok.bytes valid c.in-Ok.ensures
 
-pub returns-in_ok-untaken-in-Err-clause-stop : goal.returns-in_ok-untaken-in-Err-clause-stop
-returns-in_ok-untaken-in-Err-clause-stop g c =
+pub returns-in_ok-untaken-in-Err-clause-taken : goal.returns-in_ok-untaken-in-Err-clause-taken
+returns-in_ok-untaken-in-Err-clause-taken g c =
+    let seen = g.D.Folder.seen in
     let valid : is_valid_name c.args.name.now ≡ true = search rules in
-    let told = g.D.Folder.tells_files c.args.folder.now in
-    let files = g.D.Folder.files c.args.folder.now in
-    let disk = Rose (g.D.Folder.faults c.args.folder.now) (g.D.Folder.faults c.take.new.self) in
-    subst (λ (stop : Stop). Stops told true (file_in files c.args.name.now) disk ⊥ stop) (sym c.in_ok-untaken-in-Err.ensures.stop) (untaken_file told files c.args.name.now disk c.in-Err.fault valid c.in-Err.ensures.fault)
+    subst (λ (stop : Stop). HasTaken c.args.name.now (Err stop) (seen c.args.folder.now) (seen c.take.new.self)) (sym c.in_ok-untaken-in-Err.ensures.stop) (untaken c.args.name.now c.in-Err.fault valid c.in-Err.ensures)
 
-pub returns-in_err-untaken-in-Err-clause-quiet_stop : goal.returns-in_err-untaken-in-Err-clause-quiet_stop
-returns-in_err-untaken-in-Err-clause-quiet_stop g c =
-    let same = g.D.Folder.faults c.take.new.self ≡ g.D.Folder.faults c.args.folder.now in
-    IfErr-at c.from_residual-in_err-untaken-in-Err.result (UnlessFailed same) stops.NoMemory c.from_residual-in_err-untaken-in-Err.ensures.1
-    (unless_failed same c.in-Err.fault c.in_err-untaken-in-Err.ensures.lacks c.in-Err.ensures.quiet_fault)
+pub returns-in_err-untaken-in-Err-clause-taken : goal.returns-in_err-untaken-in-Err-clause-taken
+returns-in_err-untaken-in-Err-clause-taken g c =
+    let seen = g.D.Folder.seen in
+    let valid : is_valid_name c.args.name.now ≡ true = search rules in
+    at_err (λ r. HasTaken c.args.name.now r (seen c.args.folder.now) (seen c.take.new.self)) c.from_residual-in_err-untaken-in-Err.result stops.NoMemory c.from_residual-in_err-untaken-in-Err.ensures.1
+    (untold c.args.name.now c.in-Err.fault c.in_err-untaken-in-Err.ensures.lacks valid c.in-Err.ensures)

@@ -1,7 +1,7 @@
 use Rattle.std.proofs.Common.{◌≡◌, true, false, refl, sym, ◌∙◌, ap, map}
 use Rattle.std.specs.Prelude.{string_bytes, count_by, not, ◌&&◌, nat_le, Bool}
 use Rattle.pl_base.specs.Names.{is_valid_name}
-use Rattle.pl_cli.specs.ValidFiles.{is_full, has_name}
+use Rattle.pl_cli.specs.Room.{is_full, has_name}
 use Rattle.pl_cli.specs.declared.room.TheConstants.{FILES}
 use Rattle.pl_cli.proofs.RoomLemmas.{has_name_map}
 use Rattle.pl_cli.proofs.room.is_full.Goals as goal

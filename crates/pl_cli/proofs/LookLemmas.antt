@@ -1,0 +1,289 @@
+-- The names whose files a walk looks at, name by name, and the calls that this takes.
+use Rattle.std.proofs.Common.{◌≡◌, ◌≤◌, ◌<◌, ℕ, zero, suc, ◌+◌, ◌-◌, List, [], ◌∷◌, Bool, true, false, cond, Option, Some, None, Result, Ok, Err, refl, sym, ap, ◌∙◌, arith, add-zero}
+use Rattle.std.specs.Prelude.{count_by, if◌then◌else◌}
+use Rattle.std.specs.FinMap.{get}
+use Rattle.std.proofs.lemmas.List.Sums.{sum_by-cons}
+use Rattle.pl_base.specs.Answers.{◌>>=◌, because}
+use Rattle.pl_base.specs.Files.{Files}
+use Rattle.pl_base.specs.Names.{is_valid_name}
+use Rattle.pl_base.proofs.CountLaws.{counted_then}
+use Rattle.pl_folder.specs.Calls.{Calls}
+use Rattle.pl_folder.specs.Disk.{Disk, State, after, waited}
+use Rattle.pl_folder.specs.Effects.{Asks, Effect, SameFiles}
+use Rattle.pl_folder.specs.Seen.{Seen, Done, Broken, Undone}
+use Rattle.pl_scope.specs.Walk as walk
+use Rattle.pl_scope.specs.Walking.{Walking, wants}
+use Rattle.pl_scope.specs.declared.constants.TheConstants.{MAX_MEMBERS}
+use Rattle.pl_scope.specs.declared.fault.WalkFault.{WalkFault}
+use Rattle.pl_loader.specs.Faults.{of_walk}
+use Rattle.pl_loader.specs.Loading.{Loading}
+use Rattle.pl_loader.specs.Walk.{entered, give, object_in, object_of, of_wanted, taken, walk_fault, with_file}
+use Rattle.pl_loader.specs.declared.object_file.ObjectFile.{ObjectFile}
+use Rattle.pl_loader.specs.declared.fault.LoadFault.{LoadFault}
+use Rattle.pl_loader.specs.declared.fault.LoadFault.TheVariants.{NotThere}
+use Rattle.pl_cli.specs.declared.cause.Cause.{Cause}
+use Rattle.pl_cli.specs.declared.cause.Cause.TheVariants as causes
+use Rattle.pl_cli.specs.Load.{file_in, of_file, looks, looks_from, names_from, stepped, takes, unless_refused}
+
+-- how many files are still to be taken
+abbrev pub left_from : Files → List ℕ → Walking → ℕ
+left_from files name w = count_by is_valid_name (looks_from files name (MAX_MEMBERS - w.given) w)
+
+-- one call, or none
+abbrev pub one_if_valid : List ℕ → ℕ
+one_if_valid n = count_by is_valid_name (n ∷ [])
+
+-- ---- the next name
+
+unless_err : (r : Result Walking Cause) (cause : Cause) (rest : Walking → List (List ℕ)) → r ≡ Err cause → unless_refused r rest ≡ []
+unless_err r cause rest is = ap (λ (s : Result Walking Cause). unless_refused s rest) is
+
+unless_ok : (r : Result Walking Cause) (v : Walking) (rest : Walking → List (List ℕ)) → r ≡ Ok v → unless_refused r rest ≡ rest v
+unless_ok r v rest is = ap (λ (s : Result Walking Cause). unless_refused s rest) is
+
+pub one_is : (n : List ℕ) → one_if_valid n ≡ cond (is_valid_name n) 1 0
+one_is n = sum_by-cons (λ m. cond (is_valid_name m) 1 0) n [] ∙ add-zero (cond (is_valid_name n) 1 0)
+
+count_first : (n : List ℕ) (ns : List (List ℕ)) → count_by is_valid_name (n ∷ ns) ≡ one_if_valid n + count_by is_valid_name ns
+count_first n ns = sum_by-cons (λ m. cond (is_valid_name m) 1 0) n ns ∙ ap (λ (k : ℕ). k + count_by is_valid_name ns) (sym (one_is n))
+
+module _ (files : Files) (name : List ℕ) (w : Walking) (n : List ℕ) (below : w.given < MAX_MEMBERS) (is : wants w ≡ Some n) where
+  next_name : looks_from files name (MAX_MEMBERS - w.given) w ≡ n ∷ unless_refused (stepped files name w n) (looks_from files name (MAX_MEMBERS - (w.given + 1)))
+  unfolding looks_from
+  next_name =
+      let size : MAX_MEMBERS - w.given ≡ suc (MAX_MEMBERS - (w.given + 1)) = omega arith in
+      ap (λ (most : ℕ). looks_from files name most w) size
+      ∙ ap (λ (o : Option (List ℕ)). names_from o (λ m. unless_refused (stepped files name w m) (looks_from files name (MAX_MEMBERS - (w.given + 1))))) is
+
+  -- its file is given to the walk
+  pub left_more : (v : Walking) → v.given ≡ w.given + 1 → stepped files name w n ≡ Ok v → left_from files name w ≡ one_if_valid n + left_from files name v
+  left_more v more step =
+      ap (count_by is_valid_name) next_name
+      ∙ count_first n (unless_refused (stepped files name w n) (looks_from files name (MAX_MEMBERS - (w.given + 1))))
+      ∙ ap (λ (ns : List (List ℕ)). one_if_valid n + count_by is_valid_name ns) (unless_ok (stepped files name w n) v (looks_from files name (MAX_MEMBERS - (w.given + 1))) step)
+      ∙ ap (λ (k : ℕ). one_if_valid n + count_by is_valid_name (looks_from files name (MAX_MEMBERS - k) v)) (sym more)
+
+  -- it is not there or refused
+  pub left_last : (cause : Cause) → stepped files name w n ≡ Err cause → left_from files name w ≡ one_if_valid n
+  left_last cause step =
+      ap (count_by is_valid_name) next_name
+      ∙ ap (λ (ns : List (List ℕ)). count_by is_valid_name (n ∷ ns)) (unless_err (stepped files name w n) cause (looks_from files name (MAX_MEMBERS - (w.given + 1))) step)
+
+  pub left_some : one_if_valid n ≤ left_from files name w
+  left_some =
+      let all = ap (count_by is_valid_name) next_name ∙ count_first n (unless_refused (stepped files name w n) (looks_from files name (MAX_MEMBERS - (w.given + 1)))) in
+      omega (arith, all)
+
+-- no name is wanted
+no_names : (files : Files) (name : List ℕ) (most : ℕ) (w : Walking) → wants w ≡ None → looks_from files name most w ≡ []
+unfolding looks_from
+no_names files name zero w is = refl
+no_names files name (suc most) w is = ap (λ (o : Option (List ℕ)). names_from o (λ m. unless_refused (stepped files name w m) (looks_from files name most))) is
+
+pub left_none : (files : Files) (name : List ℕ) (w : Walking) → wants w ≡ None → left_from files name w ≡ 0
+left_none files name w is = ap (count_by is_valid_name) (no_names files name (MAX_MEMBERS - w.given) w is)
+
+-- all are still to be looked at
+pub left_all : (files : Files) (name : List ℕ) → left_from files name (walk.begun name) ≡ takes files name
+unfolding looks
+left_all files name = refl
+
+-- ---- the step of the walk, as the load makes it
+
+of_walked : (make : Walking → Loading) → ((w : Walking) → (make w).order ≡ w) → (r : Result Walking WalkFault)
+    → because (walk_fault causes.Load) r ≡ because causes.Load ((because of_walk r >>= λ order. Ok (make order)) >>= λ m. Ok m.order)
+of_walked make same (Ok w) = ap Ok (sym (same w))
+of_walked make same (Err e) = refl
+
+of_objects : {O : Type 0} (r : Result O LoadFault) (step : O → Result Walking WalkFault) (make : O → Walking → Loading) → ((o : O) (w : Walking) → (make o w).order ≡ w)
+    → (because causes.Load r >>= λ o. because (walk_fault causes.Load) (step o)) ≡ because causes.Load ((r >>= λ o. because of_walk (step o) >>= λ order. Ok (make o order)) >>= λ m. Ok m.order)
+of_objects (Ok o) step make same = of_walked (make o) (same o) (step o)
+of_objects (Err e) step make same = refl
+
+module _ (l : Loading) (n bytes : List ℕ) where
+  step_is : (files : Files) (name : List ℕ) → wants l.order ≡ Some n → l.name ≡ name → file_in files n ≡ Ok bytes → stepped files name l.order n ≡ because causes.Load (give l (Some bytes) >>= λ m. Ok m.order)
+  unfolding taken entered object_of
+  step_is files name is named there =
+      let looked : stepped files name l.order n ≡ (because causes.Load (object_in name n bytes) >>= λ o. because (walk_fault causes.Load) (walk.entered l.order n o)) =
+      ap (λ (r : Result (List ℕ) Cause). (r >>= λ b. because causes.Load (object_in name n b)) >>= λ o. because (walk_fault causes.Load) (walk.entered l.order n o)) there in
+      let same : (object_in name n bytes >>= λ o. because of_walk (walk.entered l.order n o) >>= λ order. Ok (with_file l order (record { name = n; bytes = bytes; object = o }))) ≡ give l (Some bytes) =
+      ap (λ (m : List ℕ). object_in m n bytes >>= λ o. because of_walk (walk.entered l.order n o) >>= λ order. Ok (with_file l order (record { name = n; bytes = bytes; object = o }))) (sym named)
+      ∙ ap (λ (wanted : Option (List ℕ)). object_in l.name n bytes >>= λ o. because of_walk (walk.of_wanted l.order o wanted) >>= λ order. Ok (with_file l order (record { name = n; bytes = bytes; object = o }))) (sym is)
+      ∙ ap (λ (wanted : Option (List ℕ)). of_wanted l (Some bytes) wanted) (sym is) in
+      looked
+      ∙ of_objects (object_in name n bytes) (walk.entered l.order n) (λ o order. with_file l order (record { name = n; bytes = bytes; object = o })) (λ o order. refl)
+      ∙ ap (λ (r : Result Loading LoadFault). because causes.Load (r >>= λ m. Ok m.order)) same
+
+  pub step_goes_on : (files : Files) (name : List ℕ) (m : Loading) → wants l.order ≡ Some n → l.name ≡ name → file_in files n ≡ Ok bytes → give l (Some bytes) ≡ Ok m → stepped files name l.order n ≡ Ok m.order
+  step_goes_on files name m is named there went =
+      step_is files name is named there ∙ ap (λ (r : Result Loading LoadFault). because causes.Load (r >>= λ k. Ok k.order)) went
+
+  pub step_stops : (files : Files) (name : List ℕ) (f : LoadFault) → wants l.order ≡ Some n → l.name ≡ name → file_in files n ≡ Ok bytes → give l (Some bytes) ≡ Err f → stepped files name l.order n ≡ Err (causes.Load f)
+  step_stops files name f is named there stopped =
+      step_is files name is named there ∙ ap (λ (r : Result Loading LoadFault). because causes.Load (r >>= λ k. Ok k.order)) stopped
+
+-- a file that is not there
+pub step_lacks : (files : Files) (name : List ℕ) (w : Walking) (n : List ℕ) (cause : Cause) → file_in files n ≡ Err cause → stepped files name w n ≡ Err cause
+unfolding object_of
+step_lacks files name w n cause lacks =
+    ap (λ (r : Result (List ℕ) Cause). (r >>= λ b. because causes.Load (object_in name n b)) >>= λ o. because (walk_fault causes.Load) (walk.entered w n o)) lacks
+
+-- ---- calls in which nothing changes
+
+waited_now : (k : ℕ) (d : Disk) → (waited k d).now ≡ d.now
+waited_now zero d = refl
+waited_now (suc k) d = refl
+
+waited_more : (j k : ℕ) (d : Disk) → waited j (waited k d) ≡ waited (j + k) d
+waited_more zero k d = let e : 0 + k ≡ k = omega arith in rw e refl
+waited_more (suc j) k d =
+    let e : suc j + k ≡ suc (j + k) = omega arith in
+    rw e (ap (λ (s : State). after s (waited j (waited k d))) (waited_now k d) ∙ ap (after d.now) (waited_more j k d))
+
+-- all of these calls but so many were made
+abbrev pub AllBut : ℕ → ℕ → Effect
+AllBut left total = record { files = SameFiles; disk = λ ending old new. (k : ℕ) × (k + left ≡ total) × (new ≡ waited k old) }
+
+abbrev pub WaitsIn : ℕ → Disk → Disk → Type 0
+WaitsIn most old new = (k : ℕ) × (k ≤ most) × (new ≡ waited k old)
+
+more_waited : (j k : ℕ) (a b c : Disk) → b ≡ waited k a → c ≡ waited j b → c ≡ waited (j + k) a
+more_waited j k a b c first second = second ∙ ap (waited j) first ∙ waited_more j k a
+
+-- all but so many, and then some of these
+some_waited : (left total j : ℕ) (a b c : Disk) → (k : ℕ) × (k + left ≡ total) × (b ≡ waited k a) → j ≤ left → WaitsIn j b c → WaitsIn total a c
+some_waited left total j a b c p size q =
+    let sum = p.1 in
+    let most = q.1 in
+    (q.0 + p.0, omega (arith, size, sum, most), more_waited q.0 p.0 a b c p.2 q.2)
+
+module _ {a b c : Seen} {left total : ℕ} (j : ℕ) (so_far : Calls Done (AllBut left total) a b) where
+  -- one name more
+  pub and_more : (rest : ℕ) → (a.records ≡ true → left ≡ j + rest) → Calls Done (Asks j) b c → Calls Done (AllBut rest total) a c
+  and_more rest split call = record {
+    tells = call.tells ∙ so_far.tells;
+    records = call.records ∙ so_far.records;
+    place = call.place ∙ so_far.place;
+    files = λ told. call.files (so_far.tells ∙ told) ∙ so_far.files told;
+    disk = λ told.
+        let p = so_far.disk told in
+        let sizes = split told in
+        let sum = p.1 in
+        (j + p.0, omega (arith, sizes, sum), more_waited j p.0 a.disk b.disk c.disk p.2 (call.disk (so_far.records ∙ told)));
+    count = counted_then false a.faults b.faults c.faults so_far.count call.count;
+  }
+
+  -- the last name
+  pub and_last : (a.records ≡ true → left ≡ j) → Calls Done (Asks j) b c → Calls Done (Asks total) a c
+  and_last all call = record {
+    tells = call.tells ∙ so_far.tells;
+    records = call.records ∙ so_far.records;
+    place = call.place ∙ so_far.place;
+    files = λ told. call.files (so_far.tells ∙ told) ∙ so_far.files told;
+    disk = λ told.
+        let p = so_far.disk told in
+        let size = all told in
+        let sum = p.1 in
+        let whole : j + p.0 ≡ total = omega (arith, size, sum) in
+        more_waited j p.0 a.disk b.disk c.disk p.2 (call.disk (so_far.records ∙ told)) ∙ ap (λ (k : ℕ). waited k a.disk) whole;
+    count = counted_then false a.faults b.faults c.faults so_far.count call.count;
+  }
+
+  -- a name, after which memory lacked
+  pub and_lacking : (a.records ≡ true → j ≤ left) → Calls Done (Asks j) b c → Calls Undone (Asks total) a c
+  and_lacking within call = record {
+    tells = call.tells ∙ so_far.tells;
+    records = call.records ∙ so_far.records;
+    place = call.place ∙ so_far.place;
+    files = λ told. call.files (so_far.tells ∙ told) ∙ so_far.files told;
+    disk = λ told.
+        let p = so_far.disk told in
+        let size = within told in
+        let sum = p.1 in
+        (j + p.0, omega (arith, size, sum), more_waited j p.0 a.disk b.disk c.disk p.2 (call.disk (so_far.records ∙ told)));
+    count = counted_then false a.faults b.faults c.faults so_far.count call.count;
+  }
+
+  -- a name at which the folder failed or memory lacked
+  pub and_broken : (a.records ≡ true → j ≤ left) → Calls Broken (Asks j) b c → Calls Broken (Asks total) a c
+  and_broken within call = record {
+    tells = call.tells ∙ so_far.tells;
+    records = call.records ∙ so_far.records;
+    place = call.place ∙ so_far.place;
+    files = λ told. call.files (so_far.tells ∙ told) ∙ so_far.files told;
+    disk = λ told. some_waited left total j a.disk b.disk c.disk (so_far.disk told) (within told) (call.disk (so_far.records ∙ told));
+    count = counted_then true a.faults b.faults c.faults so_far.count call.count;
+  }
+
+  pub and_undone : (a.records ≡ true → j ≤ left) → Calls Undone (Asks j) b c → Calls Undone (Asks total) a c
+  and_undone within call = record {
+    tells = call.tells ∙ so_far.tells;
+    records = call.records ∙ so_far.records;
+    place = call.place ∙ so_far.place;
+    files = λ told. call.files (so_far.tells ∙ told) ∙ so_far.files told;
+    disk = λ told. some_waited left total j a.disk b.disk c.disk (so_far.disk told) (within told) (call.disk (so_far.records ∙ told));
+    count = counted_then false a.faults b.faults c.faults so_far.count call.count;
+  }
+
+-- ---- a load begins, and ends
+
+module _ (a : Seen) where
+  -- no call
+  pub no_call : (n : ℕ) → n ≡ 0 → Calls Done (Asks n) a a
+  no_call n none = record {
+    tells = refl;
+    records = refl;
+    place = refl;
+    files = λ _. refl;
+    disk = λ _. ap (λ (k : ℕ). waited k a.disk) (sym none);
+    count = record { later = omega arith; rose = λ e. cc; quiet = λ _. refl };
+  }
+
+  pub lacks_early : (n : ℕ) → Calls Undone (Asks n) a a
+  lacks_early n = record {
+    tells = refl;
+    records = refl;
+    place = refl;
+    files = λ _. refl;
+    disk = λ _. (0, omega arith, refl);
+    count = record { later = omega arith; rose = λ e. cc; quiet = λ _. refl };
+  }
+
+  pub none_yet : (left total : ℕ) → left ≡ total → Calls Done (AllBut left total) a a
+  none_yet left total all = record {
+    tells = refl;
+    records = refl;
+    place = refl;
+    files = λ _. refl;
+    disk = λ _. (0, omega (arith, all), refl);
+    count = record { later = omega arith; rose = λ e. cc; quiet = λ _. refl };
+  }
+
+pub all_taken : {a b : Seen} (left total : ℕ) → left ≡ 0 → Calls Done (AllBut left total) a b → Calls Done (Asks total) a b
+all_taken {a = a} {b = b} left total none so_far = record {
+  tells = so_far.tells;
+  records = so_far.records;
+  place = so_far.place;
+  files = so_far.files;
+  disk = λ told.
+      let p = so_far.disk told in
+      let sum = p.1 in
+      let whole : p.0 ≡ total = omega (arith, none, sum) in
+      p.2 ∙ ap (λ (k : ℕ). waited k a.disk) whole;
+  count = so_far.count;
+}
+
+-- a name that is not valid is not taken, and one that is is taken once
+pub one_if_not : (n : List ℕ) → is_valid_name n ≡ false → one_if_valid n ≡ 0
+one_if_not n invalid = one_is n ∙ ap (λ (b : Bool). cond b 1 0) invalid
+
+pub one_if_so : (n : List ℕ) → is_valid_name n ≡ true → one_if_valid n ≡ 1
+one_if_so n valid = one_is n ∙ ap (λ (b : Bool). cond b 1 0) valid
+
+-- nor is a file for it looked for
+pub takes_none : (files : Files) (name : List ℕ) → is_valid_name name ≡ false → takes files name ≡ 0
+unfolding file_in
+takes_none files name invalid =
+    sym (left_all files name)
+    ∙ left_last files name (walk.begun name) name (omega arith) refl (causes.Load (NotThere name)) (step_lacks files name (walk.begun name) name (causes.Load (NotThere name)) (ap (λ (b : Bool). of_file name (if b then get files name else None)) invalid))
+    ∙ one_if_not name invalid

@@ -1,0 +1,72 @@
+-- The outside of a run, and what each part of it shows of how a run ended.
+use Rattle.std.specs.Prelude.{◌≡◌, ℕ, ◌+◌, Bool, true, false, not, Option, Some, None, is_some}
+use Rattle.pl_base.specs.Counts.{Counted}
+use Rattle.pl_io.specs.Reads.{TookAtMost}
+use Rattle.pl_io.specs.Seen.{Input, Output}
+use Rattle.pl_folder.specs.Seen.{Seen, Ending, Done, Broken, Undone}
+use Rattle.pl_cli.specs.declared.command.Command.{Command}
+use Rattle.pl_cli.specs.declared.make.TheConstants.{RECIPE}
+use Rattle.pl_cli.specs.declared.status.Status.{Status}
+use Rattle.pl_cli.specs.declared.status.Status.TheVariants as statuses
+use Rattle.pl_cli.specs.Words.{asks_folder, reads_input}
+
+pub record Outside : Type 0 where
+  pub folder : Seen
+  pub input : Input
+  pub output : Output
+
+abbrev pub outside : Seen → Input → Output → Outside
+outside folder input output = record { folder = folder; input = input; output = output }
+
+-- ---- statuses
+
+abbrev pub is_read_fault : Status → Bool
+is_read_fault statuses.Done = false
+is_read_fault statuses.Differs = false
+is_read_fault statuses.Usage = false
+is_read_fault statuses.Refused = false
+is_read_fault statuses.ReadFault = true
+is_read_fault statuses.WriteFault = false
+is_read_fault statuses.DiskFault = false
+is_read_fault statuses.NoMemory = false
+
+abbrev pub is_write_fault : Status → Bool
+is_write_fault statuses.Done = false
+is_write_fault statuses.Differs = false
+is_write_fault statuses.Usage = false
+is_write_fault statuses.Refused = false
+is_write_fault statuses.ReadFault = false
+is_write_fault statuses.WriteFault = true
+is_write_fault statuses.DiskFault = false
+is_write_fault statuses.NoMemory = false
+
+-- Whether a run may end so: Usage comes for words that are no command alone, Differs never, and a fault only where its object is asked.
+abbrev pub may_end : Option Command → Status → Bool
+may_end asked statuses.Done = is_some asked
+may_end asked statuses.Differs = false
+may_end asked statuses.Usage = not (is_some asked)
+may_end asked statuses.Refused = is_some asked
+may_end asked statuses.ReadFault = reads_input asked
+may_end asked statuses.WriteFault = true
+may_end asked statuses.DiskFault = asks_folder asked
+may_end asked statuses.NoMemory = is_some asked
+
+-- how a run ended for the folder: it failed, or memory lacked, or neither
+abbrev pub ending_of : Status → Ending
+ending_of statuses.Done = Done
+ending_of statuses.Differs = Done
+ending_of statuses.Usage = Done
+ending_of statuses.Refused = Done
+ending_of statuses.ReadFault = Done
+ending_of statuses.WriteFault = Done
+ending_of statuses.DiskFault = Broken
+ending_of statuses.NoMemory = Undone
+
+-- ---- the input
+
+-- An input counts a fault exactly where it failed. Nothing is read of one that is not to be read, and else no more than one byte more than a recipe may have.
+pub record Consumes (reads failed : Bool) (old new : Input) : Type 0 where
+  pub untouched : reads ≡ false → new ≡ old
+  pub tells : is_some new.left ≡ is_some old.left
+  pub most : reads ≡ true → failed ≡ false → TookAtMost old.left new.left (RECIPE + 1)
+  pub count : Counted failed old.faults new.faults

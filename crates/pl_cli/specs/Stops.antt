@@ -1,0 +1,77 @@
+-- Why a command stopped.
+use Rattle.std.specs.Prelude.{◌≡◌, ℕ, List, Result, Ok, Err, ⊤, if◌then◌else◌}
+use Rattle.pl_io.specs.declared.read_fault.ReadFault.{ReadFault}
+use Rattle.pl_io.specs.declared.read_fault.ReadFault.TheVariants as read_faults
+use Rattle.pl_folder.specs.declared.fault.FolderFault.{FolderFault}
+use Rattle.pl_folder.specs.declared.fault.FolderFault.TheVariants as folder_faults
+use Rattle.pl_loader.specs.Faults.{is_memory}
+use Rattle.pl_loader.specs.declared.fault.LoadFault.{LoadFault}
+use Rattle.pl_loader.specs.declared.fault.LoadFault.TheVariants.{NotThere}
+use Rattle.pl_build.specs.declared.fault.RecipeFault.{RecipeFault}
+use Rattle.pl_build.specs.declared.fault.RecipeFault.TheVariants as recipe_faults
+use Rattle.pl_cli.specs.declared.cause.Cause.{Cause}
+use Rattle.pl_cli.specs.declared.cause.Cause.TheVariants as causes
+use Rattle.pl_cli.specs.declared.status.Status.{Status}
+use Rattle.pl_cli.specs.declared.status.Status.TheVariants as statuses
+use Rattle.pl_cli.specs.declared.stop.Stop.{Stop}
+use Rattle.pl_cli.specs.declared.stop.Stop.TheVariants as stops
+
+-- ---- what a fault of a part stops
+
+-- a fault of the folder in a call that is given no file to take: it fails, or lacks memory
+abbrev pub of_fault : FolderFault → Stop
+of_fault folder_faults.Failed = stops.Failed
+of_fault folder_faults.NotThere = stops.Failed
+of_fault folder_faults.TooLarge = stops.Failed
+of_fault folder_faults.NoMemory = stops.NoMemory
+
+-- the same where a file of a name was to be taken
+abbrev pub of_take : List ℕ → FolderFault → Stop
+of_take name folder_faults.Failed = stops.Failed
+of_take name folder_faults.NotThere = stops.Cause (causes.Load (NotThere name))
+of_take name folder_faults.TooLarge = stops.Cause (causes.FileTooLarge name)
+of_take name folder_faults.NoMemory = stops.NoMemory
+
+abbrev pub of_load_fault : LoadFault → Stop
+of_load_fault fault = if is_memory fault then stops.NoMemory else stops.Cause (causes.Load fault)
+
+abbrev pub of_read_fault : ReadFault → Stop
+of_read_fault read_faults.Failed = stops.InputFailed
+of_read_fault read_faults.TooLarge = stops.Cause causes.InputTooLarge
+of_read_fault read_faults.NoMemory = stops.NoMemory
+
+abbrev pub of_recipe_fault : RecipeFault → Stop
+of_recipe_fault (recipe_faults.Bad number kind) = stops.Cause (causes.Recipe number kind)
+of_recipe_fault recipe_faults.NoMemory = stops.NoMemory
+
+-- ---- what a stop means
+
+-- the status that a run ends with
+abbrev pub stop_status : Stop → Status
+stop_status (stops.Cause cause) = statuses.Refused
+stop_status stops.Failed = statuses.DiskFault
+stop_status stops.InputFailed = statuses.ReadFault
+stop_status stops.NoMemory = statuses.NoMemory
+
+abbrev pub status_of : {X : Type 0} → Result X Stop → Status
+status_of (Ok x) = statuses.Done
+status_of (Err stop) = stop_status stop
+
+-- a cause is the one that is meant, where all that it rests on is told; a fault and a want of memory mean nothing
+abbrev pub Stops : {X : Type 0} → Type 0 → Result X Cause → Stop → Type 0
+Stops told meant (stops.Cause cause) = told → meant ≡ Err cause
+Stops told meant stops.Failed = ⊤
+Stops told meant stops.InputFailed = ⊤
+Stops told meant stops.NoMemory = ⊤
+
+-- a value, seen by a view, and a cause are the ones that are meant
+abbrev pub Means : {X Y : Type 0} → Type 0 → Result X Cause → (Y → X) → Result Y Stop → Type 0
+Means told meant view (Ok y) = told → meant ≡ Ok (view y)
+Means told meant view (Err stop) = Stops told meant stop
+
+-- why a call stopped that asks nothing of the outside: for the cause that is meant, or a want of memory
+abbrev pub StopsAlone : {X : Type 0} → Result X Cause → Stop → Type 0
+StopsAlone meant (stops.Cause cause) = meant ≡ Err cause
+StopsAlone meant stops.Failed = ⊥
+StopsAlone meant stops.InputFailed = ⊥
+StopsAlone meant stops.NoMemory = ⊤
