@@ -75,6 +75,11 @@ distinct_most fault files (suc most) w ws front todo h is given few sum d =
     regroup : (front : List (List ℕ)) (n : List ℕ) (rest more : List (List ℕ)) → (front ++ n ∷ rest) ++ more ≡ (front ++ n ∷ []) ++ (rest ++ more)
     regroup front n rest more = simp append_assoc
 
+-- the limit's number, for the crates above
+pub limit_is : MAX_MEMBERS ≡ 256
+unfolding MAX_MEMBERS
+limit_is = refl
+
 some_members : 1 ≤ MAX_MEMBERS
 unfolding MAX_MEMBERS
 some_members = omega arith

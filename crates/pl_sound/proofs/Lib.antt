@@ -1,0 +1,9 @@
+pub mod Matching
+pub mod RuleLaws
+pub mod Books
+pub mod BookLaws
+pub mod PlanLaws
+pub mod RunLaws
+pub mod Theorems
+pub mod SmallWalks
+pub mod Toy

@@ -1,0 +1,4 @@
+pub mod Rule
+pub mod Plan
+pub mod History
+pub mod Laws
