@@ -1,5 +1,4 @@
 pub mod Left
 pub mod Policy
 pub mod Numbering
-pub mod Policies
 pub mod Placing
