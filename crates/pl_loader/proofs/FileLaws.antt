@@ -6,15 +6,14 @@ use Rattle.std.proofs.lemmas.List.Elements.{All-nil, All-cons, All-head, All-tai
 use Rattle.pl_elf.specs.Headers.{loads}
 use Rattle.pl_elf.specs.declared.constants.TheConstants.{ADDRESS_LIMIT}
 use Rattle.pl_object.specs.declared.object.Object.{Object}
-use Rattle.pl_object.proofs.AcceptedLaws.{accepted}
 use Rattle.pl_place.specs.Placing.{IsWant}
-use Rattle.pl_scope.specs.Scope.{objects, HasFewSymbols}
+use Rattle.pl_scope.specs.Scope.{walked, objects, IsAccepted}
 use Rattle.pl_scope.specs.declared.constants.TheConstants.{MAX_MEMBERS}
 use Rattle.pl_scope.specs.declared.member.Member.{Member}
-use Rattle.pl_value.specs.Linkable.{RefersToSymbols, IsLinkable}
-use Rattle.pl_value.proofs.LinkableLaws.{refers_to_symbols}
+use Rattle.pl_scope.proofs.MemberLaws.{length_walked}
 use Rattle.pl_value.specs.Ordinary.{ArePlaced}
 use Rattle.pl_loader.specs.Loading.{objects_of, parts_of, IsRead, AreFiles}
+use Rattle.pl_loader.specs.Walk.{member}
 use Rattle.pl_loader.specs.Places.{region, taken, want_of, IsAt, IsFree}
 use Rattle.pl_loader.specs.declared.object_file.ObjectFile.{ObjectFile}
 use Rattle.pl_loader.proofs.SpanLaws.{spanned}
@@ -41,36 +40,29 @@ pub wants_asked : (program : ObjectFile) (fs : List ObjectFile) → AreFiles (pr
 wants_asked program fs are =
     All-map IsWant want_of fs (λ i d lt. record { some = libraries_have_spans program fs are i d lt; power = (libraries_spanned program fs are i d lt).power })
 
--- ---- their symbols
-
-few_symbols : (f : ObjectFile) → IsRead f → HasFewSymbols f.object
-few_symbols f is = omega (arith, (accepted f.bytes f.object is.object).few, is.size)
-
-refers : (f : ObjectFile) → IsRead f → RefersToSymbols f.object
-refers f is = refers_to_symbols f.object (accepted f.bytes f.object is.object).relocs
-
 -- ---- the scope of their objects
 
-of_map : (P : Object → Type 0) (ms : List Member) → All P (objects ms) → All (λ m. P m.object.now) ms
-of_map P [] all = All-nil (λ (m : Member). P m.object.now)
-of_map P (m ∷ ms) all = All-cons (λ (n : Member). P n.object.now) m ms (All-head P m.object.now (objects ms) all) (of_map P ms (All-tail P m.object.now (objects ms) all))
+accepted : (f : ObjectFile) → IsRead f → IsAccepted f.object
+accepted f is = record { bytes = f.bytes; size = is.size; read = is.object }
 
-all_members : (P : Object → Type 0) (fs : List ObjectFile) (ms : List Member) → objects ms ≡ objects_of fs → All (λ f. P f.object) fs → All (λ m. P m.object.now) ms
-all_members P fs ms same all = of_map P ms (subst (λ (os : List Object). All P os) (sym same) (All-map P (λ (f : ObjectFile). f.object) fs all))
+-- the objects of the files' names and objects are the files' objects
+pub objects_are : (fs : List ObjectFile) → objects (map member fs) ≡ objects_of fs
+objects_are [] = refl
+objects_are (f ∷ fs) = ap (λ (os : List Object). f.object ∷ os) (objects_are fs)
 
-pub linkable : (fs : List ObjectFile) (ms : List Member) (places : List ℕ) → AreFiles fs → length fs ≤ MAX_MEMBERS → length places ≡ length fs → objects ms ≡ objects_of fs → IsLinkable ms places
-linkable fs ms places are few size same =
-    let members : length (objects ms) ≡ length ms = length-map ms (λ (m : Member). m.object.now) in
-    let files : length (objects_of fs) ≡ length fs = length-map fs (λ (f : ObjectFile). f.object) in
-    let count : length ms ≡ length fs = sym members ∙ ap length same ∙ files in
-    record {
-      scope = record {
-        few = omega (arith, count, few);
-        symbols = all_members HasFewSymbols fs ms same (All-weaker IsRead (λ (f : ObjectFile). HasFewSymbols f.object) few_symbols fs are.read);
-      };
-      symbols = all_members RefersToSymbols fs ms same (All-weaker IsRead (λ (f : ObjectFile). RefersToSymbols f.object) refers fs are.read);
-      placed = size ∙ sym count;
-    }
+of_walked : (P : Object → Type 0) (ms : List Member) → All P (objects (walked ms)) → All (λ m. P m.object.now) ms
+of_walked P [] all = All-nil (λ (m : Member). P m.object.now)
+of_walked P (m ∷ ms) all =
+    All-cons (λ (n : Member). P n.object.now) m ms (All-head P m.object.now (objects (walked ms)) all) (of_walked P ms (All-tail P m.object.now (objects (walked ms)) all))
+
+-- members that are the files' names and objects
+pub accepted_members : (fs : List ObjectFile) (ms : List Member) → AreFiles fs → walked ms ≡ map member fs → All (λ m. IsAccepted m.object.now) ms
+accepted_members fs ms are same =
+    let all : All IsAccepted (objects_of fs) = All-map IsAccepted (λ (f : ObjectFile). f.object) fs (All-weaker IsRead (λ (f : ObjectFile). IsAccepted f.object) accepted fs are.read) in
+    of_walked IsAccepted ms (subst (λ (os : List Object). All IsAccepted os) (sym (ap objects same ∙ objects_are fs)) all)
+
+pub few_members : (fs : List ObjectFile) (ms : List Member) → length fs ≤ MAX_MEMBERS → walked ms ≡ map member fs → length ms ≤ MAX_MEMBERS
+few_members fs ms few same = omega (arith, few, length_walked ms, ap length same, length-map fs member)
 
 -- ---- their places
 

@@ -1,12 +1,13 @@
 // The memory of the objects, and why there is none.
 ghost use Rattle.std.specs.Prelude.{◌≡◌, ◌≤◌, length, map, slice_get, Ok, Err, IfOk, IfErr};
 ghost use Rattle.pl_base.specs.Answers.{Answers};
-ghost use Rattle.pl_scope.specs.declared.constants.TheConstants.{MAX_MEMBERS};
 ghost use Rattle.pl_scope.specs.Scope.{objects};
+ghost use Rattle.pl_scope.specs.declared.constants.TheConstants.{MAX_MEMBERS};
 ghost use Rattle.pl_value.specs.Ordinary.{ArePlaced};
 ghost use Rattle.pl_loader.specs.Faults.{is_memory};
 ghost use Rattle.pl_loader.specs.Loading.{AreFiles, objects_of, parts_of};
 ghost use Rattle.pl_loader.specs.Started as spec;
+ghost use Rattle.pl_loader.specs.Walk.{member};
 
 use crate::modules::name_of;
 use crate::{LoadFault, ObjectFile};
@@ -21,8 +22,11 @@ use std::alloc::{AllocError, Global};
 
 /// The scope of the files' objects, each by the name of its file.
 fn scope<'a>(alloc: Global, files: &'a [ObjectFile]) -> Result<Scope<'a>, AllocError>
-    ensures objects { IfOk result (λ scope. objects scope.members.items ≡ objects_of files.now) }
-    ensures names { IfOk result (λ scope. map (λ member. member.name) scope.members.items ≡ map (λ file. file.name) files.now) }
+    requires files { AreFiles files.now }
+    requires few { length files.now ≤ MAX_MEMBERS }
+    ensures members { IfOk result (λ scope. scope ≡ map member files.now) }
+    ensures objects { IfOk result (λ scope. objects scope ≡ objects_of files.now) }
+    ensures count { IfOk result (λ scope. length scope ≡ length files.now) }
 {
     let mut members = Vec::new(alloc);
     for file in files {
@@ -31,7 +35,7 @@ fn scope<'a>(alloc: Global, files: &'a [ObjectFile]) -> Result<Scope<'a>, AllocE
             object: &file.object,
         })?;
     }
-    Ok(Scope { members })
+    Ok(Scope::new(members))
 }
 
 /// The files' bytes, lent.
@@ -111,10 +115,10 @@ pub fn linked<'a>(
 ) -> Result<Image<'a>, LoadFault>
     requires files { AreFiles files.now }
     requires few { length files.now ≤ MAX_MEMBERS }
-    requires one_each { length places.now.rows ≡ length files.now }
-    requires placed { ArePlaced places.now.rows (parts_of files.now) (objects_of files.now) }
-    ensures ok { IfOk result (λ image. spec.IsLinked image files.now places.now.rows (spec.linked files.now places.now.rows modules.now)) }
-    ensures err { IfErr result (λ fault. Answers is_memory (Err fault) (spec.linked files.now places.now.rows modules.now)) }
+    requires one_each { length places.now ≡ length files.now }
+    requires placed { ArePlaced places.now (parts_of files.now) (objects_of files.now) }
+    ensures ok { IfOk result (λ image. spec.IsLinked image files.now places.now (spec.linked files.now places.now modules.now)) }
+    ensures err { IfErr result (λ fault. Answers is_memory (Err fault) (spec.linked files.now places.now modules.now)) }
 {
     let scope = scope(alloc, files)?;
     let parts = parts(alloc, files)?;

@@ -34,10 +34,10 @@ pub fn started(alloc: Global, files: &[ObjectFile]) -> Result<Started<'_>, LoadF
 {
     let modules = modules(alloc, files)?;
     let rows = places(alloc, files)?;
-    let places = Places { rows };
+    let places = Places::new(rows);
     let image = linked(alloc, files, &places, modules.as_slice())?;
     Ok(Started {
-        objects: all_placed(alloc, files, places.rows.as_slice())?,
+        objects: all_placed(alloc, files, places.as_slice())?,
         modules: tls_modules(alloc, files, modules.as_slice())?,
         entry: entry_of(files),
         image,
