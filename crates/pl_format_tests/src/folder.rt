@@ -146,7 +146,11 @@ const READS: [Listed; 8] = [
 const IMAGES: [(u64, u64, Listed); 19] = [
     (0, 0, &[(NEW_FILE, b"old"), ("q", b"old")]),
     (1, 0, &[(NEW_FILE, b"old"), ("q", b"old")]),
-    (1, u64::MAX, &[(NEW_FILE, b"old"), ("a", b""), ("q", b"old")]),
+    (
+        1,
+        u64::MAX,
+        &[(NEW_FILE, b"old"), ("a", b""), ("q", b"old")],
+    ),
     (2, 1, &[(NEW_FILE, b"old"), ("a", b"ab"), ("q", b"old")]),
     (2, 2, &[(NEW_FILE, b"old"), ("q", b"old")]),
     (3, 1, &[(NEW_FILE, b"old"), ("a", b"ab"), ("q", b"old")]),
@@ -160,8 +164,16 @@ const IMAGES: [(u64, u64, Listed); 19] = [
     (5, 2, &[(NEW_FILE, b"old"), ("q", b"")]),
     (5, u64::MAX, &[(NEW_FILE, b"old"), ("q", b"abc")]),
     (6, 4, &[("q", b"old")]),
-    (6, 6_148_914_691_236_517_205, &[("a", b"abc"), ("q", b"old")]),
-    (6, 12_297_829_382_473_034_410, &[(NEW_FILE, b"old"), ("q", b"")]),
+    (
+        6,
+        6_148_914_691_236_517_205,
+        &[("a", b"abc"), ("q", b"old")],
+    ),
+    (
+        6,
+        12_297_829_382_473_034_410,
+        &[(NEW_FILE, b"old"), ("q", b"")],
+    ),
     (7, 0, &[("q", b"abc")]),
 ];
 
@@ -203,10 +215,16 @@ fn leaves_what_is_chosen(rt: HostRuntime) -> Result<(), FolderFault> {
     change(alloc, &mut folder)?;
     assert!(rt; folder.moments() == 7);
     for (moment, choice, files) in &IMAGES {
-        assert!(rt; leaves(alloc, &folder, *moment, *choice, files)?, "{moment} {choice}");
+        assert!(rt;
+            leaves(alloc, &folder, *moment, *choice, files)?,
+            "{moment} {choice}"
+        );
     }
     for (moment, files) in READS.iter().enumerate() {
-        assert!(rt; leaves(alloc, &folder, moment as u64, u64::MAX, files)?, "{moment}");
+        assert!(rt;
+            leaves(alloc, &folder, moment as u64, u64::MAX, files)?,
+            "{moment}"
+        );
     }
     Ok(())
 }
@@ -216,7 +234,10 @@ fn fails_at_each_call(rt: HostRuntime) -> Result<(), FolderFault> {
     let alloc = rt.alloc();
     for (fails, files) in READS.iter().enumerate().take(7) {
         let mut folder = folder(alloc, fails as u64, 100)?;
-        assert!(rt; change(alloc, &mut folder) == Err(FolderFault::Failed), "{fails}");
+        assert!(rt;
+            change(alloc, &mut folder) == Err(FolderFault::Failed),
+            "{fails}"
+        );
         assert!(rt; folder.moments() == fails as u64 + 1, "{fails}");
         assert!(rt; has(alloc, &mut folder, files)?, "{fails}");
     }
