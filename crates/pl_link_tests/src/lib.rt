@@ -13,3 +13,5 @@ mod samples;
 mod scope;
 #[cfg(test)]
 mod value;
+#[cfg(test)]
+mod wide;

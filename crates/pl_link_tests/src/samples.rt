@@ -1,4 +1,7 @@
 // Files and objects of recipes, with changed bytes.
+ghost use Rattle.std.specs.Prelude.{IfOk};
+ghost use Rattle.pl_scope.specs.Scope.{IsAccepted};
+
 use pl_base::{put16, put32, put64};
 use pl_build::build;
 use pl_object::{ORIGINAL, Object, accept};
@@ -32,11 +35,20 @@ pub fn file_of(alloc: Global, recipe: &str, changes: &[Change]) -> Result<Vec<u8
     Ok(file)
 }
 
-/// The object of a recipe's file after changes.
-pub fn object_of(alloc: Global, recipe: &str, changes: &[Change]) -> Result<Object, Fail> {
-    let file = file_of(alloc, recipe, changes)?;
+/// The object of a file.
+pub fn accepted(alloc: Global, file: &[u8]) -> Result<Object, Fail>
+    ensures { IfOk result (λ object. IsAccepted object) }
+{
     if file.len() > ORIGINAL {
         return Err("a short file".into());
     }
-    Ok(accept(alloc, &file)?)
+    Ok(accept(alloc, file)?)
+}
+
+/// The object of a recipe's file after changes.
+pub fn object_of(alloc: Global, recipe: &str, changes: &[Change]) -> Result<Object, Fail>
+    ensures { IfOk result (λ object. IsAccepted object) }
+{
+    let file = file_of(alloc, recipe, changes)?;
+    accepted(alloc, &file)
 }

@@ -1,13 +1,16 @@
 // The walk over needed names, and the definers that references find. The objects are those of recipes.
+ghost use Rattle.std.specs.Prelude.{IfOk};
 ghost use Rattle.std.specs.Bool.{OnTrue};
-ghost use Rattle.pl_scope.specs.Scope.{IsScope};
+ghost use Rattle.std.specs.List.{All};
+ghost use Rattle.indexmap.specs.IndexMap.{values};
+ghost use Rattle.pl_scope.specs.Scope.{objects, IsAccepted, IsSymbol};
 
 use crate::samples::{Change, object_of};
 use indexmap::IndexMap;
 use pl_base::Text;
 use pl_elf::constants::{R_X86_64_COPY, R_X86_64_GLOB_DAT, R_X86_64_JUMP_SLOT};
 use pl_object::Object;
-use pl_scope::{MAX_MEMBERS, Member, Reference, Scope, find, walk};
+use pl_scope::{Found, Kept, MAX_MEMBERS, Member, Reference, Scope, find, find_in_lists, walk};
 use std::alloc::{AllocError, Global};
 use std::process::Abort;
 use std::test::Fail;
@@ -130,33 +133,25 @@ const VERSIONS: [(&str, u64, Option<Place>); 14] = [
     (WITHOUT, 0x8005_8004_8003_0001, None),
 ];
 
-/// Whether a scope meets what a search asks of it.
-pub fn is_fit(scope: &Scope<'_>) -> bool
-    ensures { OnTrue result (IsScope scope.now.members.items) }
-{
-    if scope.members.len() > MAX_MEMBERS {
-        return false;
-    }
-    for member in &scope.members {
-        if member.object.symbols.len() > 0xffff_ffff {
-            return false;
-        }
-    }
-    true
-}
-
 /// The scope of these objects.
-pub fn scope_of<'a>(alloc: Global, objects: &'a [Object]) -> Result<Scope<'a>, AllocError> {
+pub fn scope_of<'a>(alloc: Global, objects: &'a [Object]) -> Result<Scope<'a>, Fail>
+    requires { All IsAccepted objects.now }
+{
+    if objects.len() > MAX_MEMBERS {
+        return Err("few objects".into());
+    }
     let mut members = Vec::new(alloc);
     for object in objects {
         let name = Text::copy_of(alloc, "name")?;
         members.push(Member { name, object })?;
     }
-    Ok(Scope { members })
+    Ok(Scope::new(members))
 }
 
 // The objects of recipes with changes.
-fn objects_of(alloc: Global, samples: &[Sample<'_>]) -> Result<Vec<Object>, Fail> {
+fn objects_of(alloc: Global, samples: &[Sample<'_>]) -> Result<Vec<Object>, Fail>
+    ensures { IfOk result (λ objects. All IsAccepted objects.items) }
+{
     let mut objects = Vec::new(alloc);
     for (recipe, changes) in samples {
         objects.push(object_of(alloc, recipe, changes)?)?;
@@ -164,21 +159,31 @@ fn objects_of(alloc: Global, samples: &[Sample<'_>]) -> Result<Vec<Object>, Fail
     Ok(objects)
 }
 
-// What a reference finds, (99, 99) where there is no such reference.
-fn search(scope: &Scope<'_>, (member, symbol): Place, kind: u32) -> Option<Place> {
-    if !is_fit(scope) || member as usize >= scope.members.len() {
-        return Some((99, 99));
+/// Whether a reference's symbol is one of a member's.
+pub fn is_symbol(scope: &Scope<'_>, reference: Reference) -> bool
+    ensures { OnTrue result (IsSymbol (objects scope.now) reference.member reference.symbol) }
+{
+    if reference.member >= scope.count() {
+        return false;
     }
-    if symbol as usize >= scope.members[member as usize].object.symbols.len() {
-        return Some((99, 99));
+    (reference.symbol as usize) < scope.object(reference.member).symbols.len()
+}
+
+// What a reference finds, None where there is no such reference. A search through lists and kept answers, the first and the second time, find the same.
+fn search(
+    rt: &(impl Abort + AllocGlobal),
+    scope: &Scope<'_>,
+    reference: Reference,
+) -> Result<Option<Found>, Fail> {
+    if !is_symbol(scope, reference) {
+        return Err("no such symbol".into());
     }
-    let reference = Reference {
-        member,
-        symbol,
-        kind,
-    };
-    let found = find(scope, reference)?;
-    Some((found.member, found.symbol))
+    let found = find(scope, reference);
+    let mut kept = Kept::new(rt.alloc(), scope)?;
+    assert_eq!(rt; find_in_lists(scope, reference), found);
+    assert_eq!(rt; kept.find(reference), found);
+    assert_eq!(rt; kept.find(reference), found);
+    Ok(found)
 }
 
 fn expect(
@@ -191,7 +196,13 @@ fn expect(
     let alloc: Global = rt.alloc();
     let objects = objects_of(alloc, samples)?;
     let scope = scope_of(alloc, &objects)?;
-    assert_eq!(rt; search(&scope, place, kind), wanted, "{place:?} {kind}");
+    let reference = Reference {
+        member: place.0,
+        symbol: place.1,
+        kind,
+    };
+    let wanted = wanted.map(|(member, symbol)| Found { member, symbol });
+    assert_eq!(rt; search(rt, &scope, reference)?, wanted, "{place:?} {kind}");
     Ok(())
 }
 
@@ -243,7 +254,9 @@ const WALKS: [(&str, &str); 10] = [
     ("gone", "NotThere gone"),
 ];
 
-fn by_name(alloc: Global) -> Result<IndexMap<String, Object>, Fail> {
+fn by_name(alloc: Global) -> Result<IndexMap<String, Object>, Fail>
+    ensures { IfOk result (λ map. All IsAccepted (values map)) }
+{
     let mut map = IndexMap::new(alloc);
     for (name, recipe) in OBJECTS {
         map.insert(
@@ -257,7 +270,7 @@ fn by_name(alloc: Global) -> Result<IndexMap<String, Object>, Fail> {
 // The names of a scope, each with a blank behind it.
 fn names_of(alloc: Global, scope: &Scope<'_>) -> Result<String, AllocError> {
     let mut text = String::new(alloc);
-    for member in &scope.members {
+    for member in scope.members() {
         text.push_str(member.name.as_str())?;
         text.push_str(" ")?;
     }
@@ -269,7 +282,9 @@ fn text_of_walk(
     alloc: Global,
     name: &str,
     objects: &IndexMap<String, Object>,
-) -> Result<String, AllocError> {
+) -> Result<String, AllocError>
+    requires { All IsAccepted (values objects.now) }
+{
     match walk(alloc, name, objects) {
         Ok(scope) => names_of(alloc, &scope),
         Err(fault) => format!(in alloc; "{fault:?}"),

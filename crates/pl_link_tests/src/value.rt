@@ -1,13 +1,9 @@
 // What relocations of recipes give. The first object is a program, and the second is placed at 0x30_0000_0000.
-ghost use Rattle.std.specs.Prelude.{◌<◌};
-ghost use Rattle.std.specs.Bool.{OnTrue};
-ghost use Rattle.std.specs.List.{All};
-ghost use Rattle.pl_value.specs.Linkable.{IsLinkable, RefersToSymbols};
+ghost use Rattle.std.specs.Prelude.{◌≡◌, length};
 
 use crate::samples::object_of;
-use crate::scope::{is_fit, scope_of};
+use crate::scope::scope_of;
 use pl_base::Rows;
-use pl_object::Reloc;
 use pl_scope::Scope;
 use pl_value::{Meaning, Places, Word, meanings, value};
 use std::alloc::Global;
@@ -22,36 +18,6 @@ const COPY: &str = "program\nneeds libe\nbss 10\ndef x global object 0 10\nrel c
 
 const SHORT: &str = "library\ndata 10\nword 0 33\nword 8 44\ndef x global object 0 8\n";
 
-fn are_below(relocs: &[Reloc], count: usize) -> bool
-    ensures { OnTrue result (All (λ r. r.symbol < count) relocs.now) }
-{
-    for reloc in relocs {
-        if reloc.symbol as usize >= count {
-            return false;
-        }
-    }
-    true
-}
-
-// Whether each relocation's symbol is one of its object's.
-fn refer_to_symbols(scope: &Scope<'_>) -> bool
-    ensures { OnTrue result (All (λ m. RefersToSymbols m.object.now) scope.now.members.items) }
-{
-    for member in &scope.members {
-        let object = member.object;
-        if !are_below(object.relocations.as_slice(), object.symbols.len()) {
-            return false;
-        }
-    }
-    true
-}
-
-fn is_linkable(scope: &Scope<'_>, places: &Places) -> bool
-    ensures { OnTrue result (IsLinkable scope.now.members.items places.now.rows) }
-{
-    is_fit(scope) && refer_to_symbols(scope) && places.rows.len() == scope.members.len()
-}
-
 // What a relocation gives, None where there is no such relocation.
 fn word_of(
     scope: &Scope<'_>,
@@ -59,12 +25,12 @@ fn word_of(
     member: u32,
     reloc: u32,
 ) -> Result<Option<Word>, Fail>
-    requires { IsLinkable scope.now.members.items places.now.rows }
+    requires { length places.now ≡ length scope.now }
 {
-    if member as usize >= scope.members.len() {
+    if member >= scope.count() {
         return Ok(None);
     }
-    if reloc as usize >= scope.members[member as usize].object.relocations.len() {
+    if reloc as usize >= scope.object(member).relocations.len() {
         return Ok(None);
     }
     Ok(Some(value(scope, places, &[], member, reloc)?))
@@ -83,11 +49,9 @@ fn meanings_and_word(
     ]?;
     let scope = scope_of(alloc, &objects)?;
     let rows = vec![in alloc; 0, 0x30_0000_0000]?;
-    let places = Places {
-        rows: Rows::from_vec(rows),
-    };
-    if !is_linkable(&scope, &places) {
-        return Err("a scope that can be linked".into());
+    let places = Places::new(Rows::from_vec(rows));
+    if scope.count() != 2 {
+        return Err("two members".into());
     }
     let meanings = meanings(alloc, &scope, &places, &[])?;
     Ok((meanings, word_of(&scope, &places, 0, reloc)?))

@@ -1,0 +1,6 @@
+use Rattle.std.specs.List.{All}
+use Rattle.pl_scope.specs.Scope.{IsAccepted}
+use Rattle.pl_link_tests.proofs.scope.objects_of.Given as goal
+
+abbrev pub invariant-loop-recipe : goal.invariant-loop-recipe
+invariant-loop-recipe l = All IsAccepted l.objects.items

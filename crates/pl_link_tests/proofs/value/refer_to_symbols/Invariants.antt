@@ -1,8 +1,0 @@
-use Rattle.std.proofs.Common.{ℕ, ◌<◌}
-use Rattle.std.specs.Prelude.{slice_index_or}
-use Rattle.pl_scope.specs.declared.member.Member.{Member}
-use Rattle.pl_value.specs.Linkable.{RefersToSymbols}
-use Rattle.pl_link_tests.proofs.value.refer_to_symbols.Given as goal
-
-abbrev pub invariant-loop-member : goal.invariant-loop-member
-invariant-loop-member l = (k : ℕ) (d : Member) → k < l.member-index → RefersToSymbols (slice_index_or l.scope.members.items k d).object.now
