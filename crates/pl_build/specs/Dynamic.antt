@@ -5,8 +5,7 @@ use Rattle.std.specs.Option.{unwrap_or}
 use Rattle.pl_dyn.specs.declared.constants.TheConstants.{DT_NULL, DT_NEEDED, DT_PLTRELSZ, DT_HASH, DT_STRTAB, DT_SYMTAB, DT_RELA, DT_RELASZ, DT_RELAENT, DT_STRSZ, DT_SYMENT, DT_SYMBOLIC, DT_PLTREL, DT_DEBUG, DT_JMPREL, DT_BIND_NOW, DT_FLAGS, DT_GNU_HASH, DT_VERSYM, DT_FLAGS_1, DT_VERDEF, DT_VERDEFNUM, DT_VERNEED, DT_VERNEEDNUM, DT_RELRSZ, DT_RELR, DT_RELRENT, DF_BIND_NOW, DF_1_NOW, DF_1_PIE}
 use Rattle.pl_dyn.specs.declared.tags.Tag.{Tag}
 use Rattle.pl_sym.specs.declared.constants.TheConstants.{SYMBOL_SIZE}
-use Rattle.pl_elf.specs.declared.constants.TheConstants.{RELA_SIZE}
-use Rattle.pl_relr.specs.declared.entries.TheConstants.{ENTRY_SIZE as RELR_SIZE}
+use Rattle.pl_elf.specs.declared.constants.TheConstants.{RELA_SIZE, RELR_SIZE}
 use Rattle.pl_build.specs.declared.fields.Field.TheVariants.{Xword}
 use Rattle.pl_build.specs.declared.roles.Role.TheVariants.{Null}
 use Rattle.pl_build.specs.declared.roles.Place.{Place}

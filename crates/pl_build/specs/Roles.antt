@@ -1,13 +1,12 @@
 -- The sections of a file by what they hold: their names and fields (System V gABI chapter 4, "Sections"; GNU symbol versioning; GNU hash table).
 use Rattle.std.specs.Prelude.{ℕ, ◌+◌, Bool, List, [], position, unwrap_or, codes}
 use Rattle.std.specs.Str.{bytes_eq}
-use Rattle.pl_elf.specs.declared.constants.TheConstants.{SHT_NULL, SHT_PROGBITS, SHT_STRTAB, SHT_RELA, SHT_HASH, SHT_DYNAMIC, SHT_NOBITS, SHT_DYNSYM, SHT_GNU_HASH, SHT_GNU_VERDEF, SHT_GNU_VERNEED, SHT_GNU_VERSYM, SHF_WRITE, SHF_ALLOC, RELA_SIZE}
+use Rattle.pl_elf.specs.declared.constants.TheConstants.{SHT_NULL, SHT_PROGBITS, SHT_STRTAB, SHT_RELA, SHT_HASH, SHT_DYNAMIC, SHT_NOBITS, SHT_DYNSYM, SHT_GNU_HASH, SHT_GNU_VERDEF, SHT_GNU_VERNEED, SHT_GNU_VERSYM, SHF_WRITE, SHF_ALLOC, SHT_RELR, RELA_SIZE, RELR_SIZE}
 use Rattle.pl_dyn.specs.declared.constants.TheConstants.{ENTRY_SIZE}
 use Rattle.pl_sym.specs.declared.constants.TheConstants.{SYMBOL_SIZE}
 use Rattle.pl_ver.specs.declared.constants.TheConstants.{VERSYM_SIZE}
 use Rattle.pl_hash.specs.declared.table.TheConstants.{WORD_SIZE}
-use Rattle.pl_relr.specs.declared.entries.TheConstants.{ENTRY_SIZE as RELR_SIZE}
-use Rattle.pl_build.specs.declared.constants.TheConstants.{SHT_RELR, TABLE_ALIGN}
+use Rattle.pl_build.specs.declared.constants.TheConstants.{TABLE_ALIGN}
 use Rattle.pl_build.specs.declared.roles.Role.{Role}
 use Rattle.pl_build.specs.declared.roles.Role.TheVariants.{Null, Interp, Hash, GnuHash, Dynsym, Dynstr, Versym, Verdef, Verneed, RelaDyn, RelaPlt, RelrDyn, Dynamic, Data, Bss, Shstrtab}
 

@@ -50,6 +50,3 @@ pub const BLOOM_COUNT: u64 = 1;
 
 /// How many bits a hash is shifted for its second bit in a Bloom word.
 pub const BLOOM_SHIFT_BITS: u64 = 6;
-
-/// The kind of a section of packed relative relocations (gABI, "Relative Relocation Table").
-pub const SHT_RELR: u32 = 19;

@@ -16,8 +16,7 @@ use pl_dyn::constants::{
     DT_RELR, DT_RELRENT, DT_RELRSZ, DT_STRSZ, DT_STRTAB, DT_SYMBOLIC, DT_SYMENT, DT_SYMTAB,
     DT_VERDEF, DT_VERDEFNUM, DT_VERNEED, DT_VERNEEDNUM, DT_VERSYM,
 };
-use pl_elf::constants::RELA_SIZE;
-use pl_relr::ENTRY_SIZE as RELR_SIZE;
+use pl_elf::constants::{RELA_SIZE, RELR_SIZE};
 use pl_sym::constants::SYMBOL_SIZE;
 use std::alloc::{AllocError, Global};
 

@@ -3,8 +3,8 @@
 /// A file's name and its recipe.
 pub type Example = (&'static str, &'static str);
 
-/// Programs and libraries that need one another: plain ones, copies, cycles, versions, thread-local storage, and some whose relocations no accepted file has.
-pub const EXAMPLES: [Example; 34] = [
+/// Programs and libraries that need one another: plain ones, copies, cycles, versions, thread-local storage, packed relocations, position-independent programs, and some whose relocations no accepted file has.
+pub const EXAMPLES: [Example; 39] = [
     ("one", "program\ndata 10\nword 8 7\nrel relative 0 - 8\n"),
     (
         "liba",
@@ -117,4 +117,15 @@ pub const EXAMPLES: [Example; 34] = [
         "tool",
         "program\nusual\nhash gnu\nneeds libtext.so.2\nneeds libsys.so.1\nentry 0\ndata 10\nbss 8\ndef environ@SYS_1 weak object 10 8 from libsys.so.1\nref show global func\nref puts@SYS_1 global func from libsys.so.1\nrel jumpslot 0 show 0\nrel jumpslot 8 puts@SYS_1 0\nrel copy 10 environ@SYS_1 0\n",
     ),
+    ("onep", "program\ndata 10\nword 8 7\nrel packed 0 - 8\n"),
+    (
+        "libpk",
+        "library\ndata 210\nrel packed 0 - 10\nrel packed 8 - 18\nrel packed 200 - 0\n",
+    ),
+    ("pk", "program\nneeds libpk\ndata 8\n"),
+    (
+        "pi",
+        "pie\nneeds liba\nentry 0\ndata 10\nref f global func\nrel globdat 0 f 0\nrel relative 8 - 0\n",
+    ),
+    ("pr", "pie\ndata 10\nrel packed 0 - 8\n"),
 ];

@@ -2,16 +2,15 @@
 ghost use Rattle.std.specs.Prelude.{◌≡◌, position};
 ghost use Rattle.pl_build.specs.Roles as spec;
 
-use crate::constants::{SHT_RELR, TABLE_ALIGN};
+use crate::constants::TABLE_ALIGN;
 use crate::names::is;
 use pl_dyn::constants::ENTRY_SIZE;
 use pl_elf::constants::{
-    RELA_SIZE, SHF_ALLOC, SHF_WRITE, SHT_DYNAMIC, SHT_DYNSYM, SHT_GNU_HASH, SHT_GNU_VERDEF,
-    SHT_GNU_VERNEED, SHT_GNU_VERSYM, SHT_HASH, SHT_NOBITS, SHT_NULL, SHT_PROGBITS, SHT_RELA,
-    SHT_STRTAB,
+    RELA_SIZE, RELR_SIZE, SHF_ALLOC, SHF_WRITE, SHT_DYNAMIC, SHT_DYNSYM, SHT_GNU_HASH,
+    SHT_GNU_VERDEF, SHT_GNU_VERNEED, SHT_GNU_VERSYM, SHT_HASH, SHT_NOBITS, SHT_NULL, SHT_PROGBITS,
+    SHT_RELA, SHT_RELR, SHT_STRTAB,
 };
 use pl_hash::WORD_SIZE;
-use pl_relr::ENTRY_SIZE as RELR_SIZE;
 use pl_sym::constants::SYMBOL_SIZE;
 use pl_ver::constants::VERSYM_SIZE;
 

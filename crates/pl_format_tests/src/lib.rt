@@ -20,6 +20,8 @@ mod lists;
 #[cfg(test)]
 mod place;
 #[cfg(test)]
+mod relr;
+#[cfg(test)]
 mod slots;
 #[cfg(test)]
 mod symbols;

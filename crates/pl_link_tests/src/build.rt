@@ -7,16 +7,13 @@ use std::alloc::{AllocError, Global};
 use std::test::Fail;
 
 // Recipes beside the examples.
-const MORE: [Example; 2] = [
-    ("pk", "program\nneeds libpk\ndata 8\n"),
-    (
-        "p2",
-        "program\nneeds libx\ndata 8\nref f global func\nrel globdat 0 f 0\n",
-    ),
-];
+const MORE: [Example; 1] = [(
+    "p2",
+    "program\nneeds libx\ndata 8\nref f global func\nrel globdat 0 f 0\n",
+)];
 
 // The SHA-256 of the file of each recipe, from another builder.
-const DIGESTS: [(&str, &str); 36] = [
+const DIGESTS: [(&str, &str); 40] = [
     (
         "one",
         "30c4cc65ccae12b146219a5b5503acc76a5a6a06a8b48056ae580f895061ec11",
@@ -154,6 +151,22 @@ const DIGESTS: [(&str, &str); 36] = [
         "8865b1e7b52e5f4d81568f0a0566fa14643d5f9b58e5021590bfd07e143bac21",
     ),
     (
+        "onep",
+        "47741924882060eda5df43a0dbde804830f7a25215b8a2cd4e9a667f92252044",
+    ),
+    (
+        "libpk",
+        "9c0d6f4d23a6e7b8d3b22a8ec1cf0ca98c0eaf40258dd21c30f34baf50f97a58",
+    ),
+    (
+        "pi",
+        "325b5302caaa5e9e9ce2bd97bfe90d164596c703ddf66b2e81bca6a76c05c238",
+    ),
+    (
+        "pr",
+        "05be371059870abc010afd34911d623efdf0d22b5882f98888ee5cacb1c811d6",
+    ),
+    (
         "pk",
         "a82290a7ff391b93093d9c687d4abef856c03047e743fa976bb2fa73466a2818",
     ),
@@ -164,7 +177,7 @@ const DIGESTS: [(&str, &str); 36] = [
 ];
 
 // Recipes with a fault: the line and the kind.
-const FAULTS: [(&str, u32, u8); 38] = [
+const FAULTS: [(&str, u32, u8); 48] = [
     ("", 1, 1),
     ("\nprogram\n", 1, 1),
     ("usual\n", 1, 1),
@@ -211,10 +224,32 @@ const FAULTS: [(&str, u32, u8); 38] = [
     ("static\nneeds a\n", 2, 1),
     ("static\ndata 8\nusual\n", 3, 1),
     ("program\n\n\npie\n", 4, 1),
+    ("pie\nprogram\n", 2, 1),
+    ("library\ndata 10\nrel packed 1 - 0\n", 3, 2),
+    ("library\ndata 10\nrel packed a - 0\n", 3, 2),
+    (
+        "library\ndata 10\nrel packed 8 - 0\nrel packed 2 - 0\n",
+        4,
+        2,
+    ),
+    (
+        "library\ndata 10\nrel packed 0 - 0\nrel packed 6 - 0\n",
+        4,
+        2,
+    ),
+    (
+        "library\ndata 8\nrel packed 0 - 8000000000000000\n",
+        3,
+        2,
+    ),
+    ("library\ndata 8\ndef f global func 0 8\nrel packed 0 f 0\n", 4, 1),
+    ("library\ndata 8\nrel packed 0 - \n", 3, 1),
+    ("library\ndata 8\nrel packed 0 -\n", 3, 1),
+    ("static\ndata 8\nrel packed 0 - 0\n", 3, 1),
 ];
 
 // Recipes without a fault.
-const FINE: [&str; 8] = [
+const FINE: [&str; 10] = [
     "program\nword 0 1\ndata 8\n",
     "program\ndata 8\nrel abs64 0 f 0\nref f weak func\n",
     "library\ndata 8\ndef f@V1 global func 0 8\nversion V1\n",
@@ -223,6 +258,8 @@ const FINE: [&str; 8] = [
     "program\ndata 8\nrel abs64 0 - 7fffffffffffffff\nrel abs64 0 - -8000000000000000\n",
     "library\nhash gnu\ndef f unique ifunc 0 8 hidden\ndef g weak abs 0 8 protected\n",
     "program\nref f@V global tls from lib at 8\nref f global tls at 8\n",
+    "pie\nusual\nhash gnu\ndata 20\nrel packed 18 - -8\nrel packed 0 - 7fffffffffffffff\nrel packed 8 - 0\nrel packed 10 - 8\n",
+    "library\nrel packed 0 - -8000000000000000\nword 0 1\ndata 8\n",
 ];
 
 fn find(examples: &[Example], name: &str) -> Option<&'static str> {

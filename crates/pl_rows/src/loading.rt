@@ -5,8 +5,8 @@ use pl_build::recipes::EXAMPLES;
 use pl_cli::Status;
 use std::test::Fail;
 
-// Programs of the examples, which need one another, with what they start from: a relocation that is the load address alone; a library; a copy, whose source is a word that is relocated; a weak reference without definer; a cycle; versions; thread-local storage; a canonical address; a symbolic library; a usual program, which has its path of an interpreter loaded.
-const STARTS: [(&str, &str); 10] = [
+// Programs of the examples, which need one another, with what they start from: a relocation that is the load address alone, and the same packed; a library; a library with packed relocations; a copy, whose source is a word that is relocated; a weak reference without definer; a cycle; versions; thread-local storage; a canonical address; a symbolic library; a usual program, which has its path of an interpreter loaded.
+const STARTS: [(&str, &str); 12] = [
     (
         "one",
         "slow
@@ -14,6 +14,28 @@ object 0000000000400000 0000000000501000 one
 entry 0000000000400000
 word 0000000000500000 0000000000500008
 word 0000000000500008 0000000000000007
+end
+",
+    ),
+    (
+        "onep",
+        "slow
+object 0000000000400000 0000000000501000 onep
+entry 0000000000400000
+word 0000000000500000 0000000000500008
+word 0000000000500008 0000000000000007
+end
+",
+    ),
+    (
+        "pk",
+        "slow
+object 0000000000400000 0000000000501000 pk
+object 0000003000000000 0000003000101000 libpk
+entry 0000000000400000
+word 0000003000100000 0000003000100010
+word 0000003000100008 0000003000100018
+word 0000003000100200 0000003000100000
 end
 ",
     ),

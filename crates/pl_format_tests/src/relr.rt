@@ -1,0 +1,79 @@
+// Tests of pl_relr.
+use pl_base::put64;
+use pl_relr::{RelrFault, is_packable, move_table, pack, unpack};
+use std::test::Fail;
+
+// A table of the gABI's form: an even entry names its place; the next 63 places have the bits from 1 on of an odd entry, and those after them the ones of the next.
+const ENTRIES: [u64; 3] = [0x10_0000, 3, 3];
+
+const PLACES: [u64; 3] = [0x10_0000, 0x10_0008, 0x10_0200];
+
+const SLOT: u64 = 0x30_0000_0000;
+
+// Each table of one entry, how many places are allowed, and how many it names.
+const ONES: [(u64, u64, Result<usize, RelrFault>); 5] = [
+    (8, 1, Ok(1)),
+    (8, 0, Err(RelrFault::Packed)),
+    (1, 64, Err(RelrFault::Packed)),
+    (u64::MAX - 1, 1, Ok(1)),
+    (u64::MAX, 64, Err(RelrFault::Packed)),
+];
+
+fn table(entries: &[u64; 3]) -> [u8; 24] {
+    let mut table = [0; 24];
+    put64(&mut table, 0, entries[0]);
+    put64(&mut table, 8, entries[1]);
+    put64(&mut table, 16, entries[2]);
+    table
+}
+
+fn table_of_one(entry: u64) -> [u8; 8] {
+    let mut table = [0; 8];
+    put64(&mut table, 0, entry);
+    table
+}
+
+#[test]
+fn a_table_names_its_places(rt: HostRuntime) -> Result<(), Fail> {
+    let table = table(&ENTRIES);
+    assert_eq!(rt;
+        unpack(rt.alloc(), &table, 3)?.as_slice(),
+        PLACES.as_slice()
+    );
+    assert!(rt; unpack(rt.alloc(), &table, 2).err() == Some(RelrFault::Packed));
+    assert!(rt; unpack(rt.alloc(), &table[..20], 3).err() == Some(RelrFault::Packed));
+    assert_eq!(rt; unpack(rt.alloc(), &[], 0)?.len(), 0);
+    for (entry, most, count) in &ONES {
+        let places = unpack(rt.alloc(), &table_of_one(*entry), *most);
+        assert!(rt; places.map(|places| places.len()) == *count);
+    }
+    Ok(())
+}
+
+#[test]
+fn places_have_a_table(rt: HostRuntime) -> Result<(), Fail> {
+    assert!(rt; is_packable(&PLACES));
+    assert_eq!(rt;
+        pack(rt.alloc(), &PLACES)?.as_slice(),
+        table(&ENTRIES).as_slice()
+    );
+    assert!(rt; is_packable(&[]));
+    assert_eq!(rt; pack(rt.alloc(), &[])?.len(), 0);
+    assert!(rt; !is_packable(&[9]));
+    assert!(rt; !is_packable(&[8, 14]));
+    assert!(rt; !is_packable(&[0x8000_0000_0000]));
+    Ok(())
+}
+
+#[test]
+fn a_table_moves(rt: HostRuntime) -> Result<(), Fail> {
+    let mut moved = table(&ENTRIES);
+    move_table(&mut moved, SLOT);
+    assert_eq!(rt;
+        moved.as_slice(),
+        table(&[SLOT + 0x10_0000, 3, 3]).as_slice()
+    );
+    move_table(&mut moved, 0u64.wrapping_sub(SLOT));
+    assert_eq!(rt; moved.as_slice(), table(&ENTRIES).as_slice());
+    Ok(())
+}
