@@ -4,7 +4,9 @@
 mod held;
 mod named;
 mod states;
+mod writing;
 
 pub use held::Held;
 pub use named::Named;
-pub use states::{Firm, Fresh, firm_there, fresh};
+pub use states::{Firm, Fresh};
+pub use writing::{firm_there, fresh};
