@@ -1,7 +1,7 @@
 -- The calls of a folder, each as one relation between what is seen of it before and after.
 use Rattle.std.specs.Prelude.{◌≡◌, ℕ, ◌≤◌, List, length, map, ⊤, true, All, IfOk, IfErr, Ok, Result, String, Vec, string_bytes}
 use Rattle.std.specs.declared.alloc.Global.{Global}
-use Rattle.std.specs.FinMap.{keys}
+use Rattle.std.specs.FinMap.{contains_key, keys}
 use Rattle.pl_base.specs.Counts.{Counted}
 use Rattle.pl_base.specs.Names.{IsNameLength}
 use Rattle.pl_folder.specs.Effects.{Effect, Idles}
@@ -19,6 +19,10 @@ pub record Calls (ending : Ending) (effect : Effect) (old new : Seen) : Type 0 w
   pub files : old.tells ≡ true → effect.files ending old.files new.files
   pub disk : old.records ≡ true → effect.disk ending old.disk new.disk
   pub count : Counted (is_broken ending) old.faults new.faults
+
+-- the name is there, where the folder tells its files
+abbrev pub IsThere : Seen → List ℕ → Type 0
+IsThere seen name = seen.tells ≡ true → contains_key seen.files name ≡ true
 
 -- the fault of a call that only fails or lacks memory
 abbrev pub IsPlain : FolderFault → Type 0

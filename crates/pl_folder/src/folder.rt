@@ -1,7 +1,6 @@
-ghost use Rattle.std.specs.Prelude.{◌≡◌, true, IfErr};
-ghost use Rattle.std.specs.FinMap.{contains_key};
+ghost use Rattle.std.specs.Prelude.{IfErr};
 ghost use Rattle.pl_base.specs.Names.{IsNameLength};
-ghost use Rattle.pl_folder.specs.Calls.{Calls, GivesNames, IsPlain, Takes};
+ghost use Rattle.pl_folder.specs.Calls.{Calls, GivesNames, IsPlain, IsThere, Takes};
 ghost use Rattle.pl_folder.specs.Effects.{Appends, Does, DoesOrNot, creates, firms, removes, renames, settles};
 ghost use Rattle.pl_folder.specs.Seen.{IsFolder, Seen, ending, ends};
 
@@ -36,21 +35,21 @@ pub trait Folder {
     /// Adds bytes at the end of a file that is there. After `Failed` it has some first bytes of them, perhaps none or all.
     fn append(&mut self, alloc: Global, name: &str, bytes: &[u8]) -> Result<(), FolderFault>
         requires length { IsNameLength name.now }
-        requires there { (seen self.old).tells ≡ true → contains_key (seen self.old).files name.now ≡ true }
+        requires there { IsThere (seen self.old) name.now }
         ensures calls { Calls (ending result) (Appends name.now bytes.now) (seen self.old) (seen self.new) }
         ensures plain { IfErr result IsPlain };
 
     /// Makes the bytes of a file that is there firm: they outlast a crash, until more are added. The files stay as they are.
     fn firm(&mut self, name: &str) -> Result<(), Failed>
         requires length { IsNameLength name.now }
-        requires there { (seen self.old).tells ≡ true → contains_key (seen self.old).files name.now ≡ true }
+        requires there { IsThere (seen self.old) name.now }
         ensures { Calls (ends result) (DoesOrNot (firms name.now)) (seen self.old) (seen self.new) };
 
     /// Gives the file of one name, which is there, another name, in place of a file that has it. After a fault the files are as before or as changed.
     fn rename(&mut self, from: &str, to: &str) -> Result<(), Failed>
         requires length { IsNameLength from.now }
         requires to_length { IsNameLength to.now }
-        requires there { (seen self.old).tells ≡ true → contains_key (seen self.old).files from.now ≡ true }
+        requires there { IsThere (seen self.old) from.now }
         ensures { Calls (ends result) (Does (renames from.now to.now)) (seen self.old) (seen self.new) };
 
     /// Removes the file of a name, where it is there. After a fault the files are as before or as changed.
