@@ -58,9 +58,26 @@ fn writes_for_a_program(rt: HostRuntime) -> Result<(), NoMemory> {
         length: 0x300,
         headers: Rows::from_vec(headers(ET_EXEC).to_vec(alloc)?),
         kept: Rows::new(alloc),
+        digest: None,
     };
     let bytes = write_undo(alloc, &undo)?;
     assert!(rt; read_undo(alloc, &bytes).is_ok());
+    Ok(())
+}
+
+/// A section of version 2 has the digest behind the first bytes and the numbers, and the header behind it.
+#[test]
+fn writes_the_digest(rt: HostRuntime) -> Result<(), UndoFault> {
+    let alloc = rt.alloc();
+    let mut undo = read_undo(alloc, &section(alloc, ET_DYN, 0, b'P')?)?;
+    undo.digest = Some([7; 32]);
+    let Ok(bytes) = write_undo(alloc, &undo) else {
+        return Err(UndoFault::NoMemory);
+    };
+    assert!(rt; bytes.starts_with(b"PLUNDO02"));
+    assert!(rt; bytes.get(48..80) == Some([7u8; 32].as_slice()));
+    assert!(rt; bytes.get(80..328) == Some(headers(ET_DYN).as_slice()));
+    assert!(rt; read_undo(alloc, &bytes)?.digest == Some([7; 32]));
     Ok(())
 }
 
