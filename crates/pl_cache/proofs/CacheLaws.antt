@@ -1,6 +1,6 @@
 -- The two laws: what is read is spelled so, and what is spelled so is read.
-use Rattle.std.proofs.Common.{◌≡◌, ℕ, ◌+◌, ◌^◌, ◌<◌, ◌≤◌, true, false, cond, ltb, eqb, List, [], ◌∷◌, ◌++◌, length, take, drop, Result, Ok, Err, refl, sym, ap, subst, ◌∙◌, append_assoc, arith}
-use Rattle.std.specs.Prelude.{◌&&◌, nat_lt, nat_le, IfOk, All}
+use Rattle.std.proofs.Common.{◌≡◌, ℕ, suc, ◌+◌, ◌^◌, ◌<◌, ◌≤◌, Bool, true, false, cond, ltb, eqb, List, [], ◌∷◌, ◌++◌, length, take, drop, Result, Ok, Err, refl, sym, ap, subst, ◌∙◌, append_assoc, arith}
+use Rattle.std.specs.Prelude.{if◌then◌else◌, ◌&&◌, nat_lt, nat_le, IfOk, All}
 use Rattle.std.specs.Str.{bytes_eq}
 use Rattle.std.specs.List.{flat_map, list_all, AllByRecursion}
 use Rattle.std.specs.Cmp.Lexicographic.{bytes_decides}
@@ -16,23 +16,22 @@ use Rattle.pl_base.proofs.WordLaws.{is_bytes_drop}
 use Rattle.pl_slots.specs.declared.slot.Slot.{Slot}
 use Rattle.pl_slots.specs.Apart.{are_apart}
 use Rattle.pl_cache.specs.declared.cache.Cache.{Cache}
-use Rattle.pl_cache.specs.declared.constants.TheConstants.{MAGIC, MAX_ROWS}
+use Rattle.pl_cache.specs.declared.constants.TheConstants.{MAGIC, SHARED_MAGIC, MAX_ROWS}
 use Rattle.pl_elf.specs.declared.constants.TheConstants.{PAGE, ADDRESS_LIMIT}
 use Rattle.pl_cache.specs.declared.fault.CacheFault.{CacheFault}
 use Rattle.pl_cache.specs.declared.fault.CacheFault.TheVariants.{BadCache}
-use Rattle.pl_cache.specs.Spelling.{cache_bytes, row_bytes, is_row, is_cache, ascend, IsCacheOf}
-use Rattle.pl_cache.specs.Reading.{number32_at, rows_at, behind_magic, all_rows, fields, checked, read, is_memory}
+use Rattle.pl_cache.specs.Spelling.{cache_bytes, row_bytes, is_row, is_cache, ascend, magic_of, IsCacheOf}
+use Rattle.pl_cache.specs.Reading.{number32_at, rows_at, behind_magic, all_rows, fields, has_magic, checked, read, is_memory}
 use Rattle.pl_base.proofs.AnswerLaws.{bind_ok, ok_same}
-use Rattle.pl_cache.proofs.Fields.{passed, guard_then, Takes, Takes-then, number32_takes, number32_again, rows_take, rows_again, RowFits, all_fit}
+use Rattle.pl_cache.proofs.Fields.{passed, guard_ok, guard_then, Takes, Takes-then, number32_takes, number32_again, rows_take, rows_again, RowFits, all_fit}
 
 -- ---- what is read
 
-magic_takes : (bytes rest : List ℕ) → IsBytes bytes → behind_magic bytes ≡ Ok rest → Takes bytes MAGIC rest
+magic_takes : (bytes rest : List ℕ) → IsBytes bytes → behind_magic bytes ≡ Ok rest → Takes bytes (take 8 bytes) rest
 unfolding behind_magic
 magic_takes bytes rest fits e =
-    let p = passed (bytes_eq (take 8 bytes) MAGIC) BadCache (drop 8 bytes) rest e in
-    let front : take 8 bytes ≡ MAGIC = (bytes_decides (take 8 bytes) MAGIC).0 p.0 in
-    subst (Takes bytes MAGIC) p.1 (record { parts = sym (take-append-drop 8 bytes) ∙ ap (λ (xs : List ℕ). xs ++ drop 8 bytes) front; rest_fits = is_bytes_drop 8 bytes fits })
+    let g = guard_ok (ltb (length bytes) 8) BadCache (drop 8 bytes) rest e in
+    subst (Takes bytes (take 8 bytes)) g.1 (record { parts = sym (take-append-drop 8 bytes); rest_fits = is_bytes_drop 8 bytes fits })
 
 all_rows_take : (count : ℕ) (bytes : List ℕ) (rows : List Slot) → IsBytes bytes → all_rows count bytes ≡ Ok rows → (bytes ≡ flat_map row_bytes rows) × (length rows ≡ count)
 unfolding all_rows
@@ -44,8 +43,12 @@ all_rows_take count bytes rows fits e =
     let nothing : b.0.1 ≡ [] = nil_from_length b.0.1 (eqb-true _ _ p.0) in
     subst (λ (xs : List Slot). (bytes ≡ flat_map row_bytes xs) × (length xs ≡ count)) p.1 (t.0.parts ∙ ap (λ (r : List ℕ). flat_map row_bytes b.0.0 ++ r) nothing ∙ append-nil (flat_map row_bytes b.0.0), t.1)
 
-fields_take : (bytes : List ℕ) (cache : Cache) → IsBytes bytes → fields bytes ≡ Ok cache → bytes ≡ cache_bytes cache
-unfolding fields cache_bytes
+-- the fields behind a magic
+abbrev behind : List ℕ → Cache → List ℕ
+behind magic cache = magic ++ bytes32 cache.last ++ bytes32 (length cache.rows) ++ flat_map row_bytes cache.rows
+
+fields_take : (bytes : List ℕ) (cache : Cache) → IsBytes bytes → fields bytes ≡ Ok cache → bytes ≡ behind (take 8 bytes) cache
+unfolding fields
 fields_take bytes cache fits e =
     let a = bind_ok (behind_magic bytes) (λ stamp. number32_at stamp >>= λ last. number32_at last.1 >>= λ count. all_rows count.0 count.1 >>= λ rows. Ok (record { last = last.0; rows = rows })) cache e in
     let b = bind_ok (number32_at a.0) (λ last. number32_at last.1 >>= λ count. all_rows count.0 count.1 >>= λ rows. Ok (record { last = last.0; rows = rows })) cache a.2 in
@@ -55,19 +58,22 @@ fields_take bytes cache fits e =
     let t1 = number32_takes a.0 b.0 t0.rest_fits b.1 in
     let t2 = number32_takes b.0.1 c.0 t1.rest_fits c.1 in
     let rows = all_rows_take c.0.0 c.0.1 d.0 t2.rest_fits d.1 in
-    let t01 = Takes-then bytes MAGIC a.0 (bytes32 b.0.0) b.0.1 t0 t1 in
-    let t02 = Takes-then bytes (MAGIC ++ bytes32 b.0.0) b.0.1 (bytes32 c.0.0) c.0.1 t01 t2 in
-    let whole : bytes ≡ (MAGIC ++ bytes32 b.0.0 ++ bytes32 (length d.0)) ++ flat_map row_bytes d.0 =
-    t02.parts ∙ ap (λ (r : List ℕ). (MAGIC ++ bytes32 b.0.0 ++ bytes32 c.0.0) ++ r) rows.0 ∙ ap (λ (k : ℕ). (MAGIC ++ bytes32 b.0.0 ++ bytes32 k) ++ flat_map row_bytes d.0) (sym rows.1) in
+    let t01 = Takes-then bytes (take 8 bytes) a.0 (bytes32 b.0.0) b.0.1 t0 t1 in
+    let t02 = Takes-then bytes (take 8 bytes ++ bytes32 b.0.0) b.0.1 (bytes32 c.0.0) c.0.1 t01 t2 in
+    let whole : bytes ≡ (take 8 bytes ++ bytes32 b.0.0 ++ bytes32 (length d.0)) ++ flat_map row_bytes d.0 =
+    t02.parts ∙ ap (λ (r : List ℕ). (take 8 bytes ++ bytes32 b.0.0 ++ bytes32 c.0.0) ++ r) rows.0 ∙ ap (λ (k : ℕ). (take 8 bytes ++ bytes32 b.0.0 ++ bytes32 k) ++ flat_map row_bytes d.0) (sym rows.1) in
     let made : Cache = record { last = b.0.0; rows = d.0 } in
-    subst (λ (y : Cache). bytes ≡ MAGIC ++ bytes32 y.last ++ bytes32 (length y.rows) ++ flat_map row_bytes y.rows) (ok_same made cache d.2) whole
+    subst (λ (y : Cache). bytes ≡ take 8 bytes ++ bytes32 y.last ++ bytes32 (length y.rows) ++ flat_map row_bytes y.rows) (ok_same made cache d.2) whole
 
 pub read_takes : (bytes : List ℕ) (cache : Cache) → IsBytes bytes → read bytes ≡ Ok cache → (is_cache cache ≡ true) × (bytes ≡ cache_bytes cache)
-unfolding read
+unfolding read cache_bytes has_magic
 read_takes bytes cache fits e =
-    let a = bind_ok (fields bytes) checked cache e in
-    let p = passed (is_cache a.0) BadCache a.0 cache a.2 in
-    subst (λ (y : Cache). (is_cache y ≡ true) × (bytes ≡ cache_bytes y)) p.1 (p.0, fields_take bytes a.0 fits a.1)
+    let a = bind_ok (fields bytes) (checked bytes) cache e in
+    let p = passed (is_cache a.0 && has_magic bytes a.0) BadCache a.0 cache a.2 in
+    let parts = and_parts (is_cache a.0) (has_magic bytes a.0) p.0 in
+    let front : take 8 bytes ≡ magic_of a.0.rows = (bytes_decides (take 8 bytes) (magic_of a.0.rows)).0 parts.1 in
+    let whole : bytes ≡ behind (magic_of a.0.rows) a.0 = fields_take bytes a.0 fits a.1 ∙ ap (λ (magic : List ℕ). behind magic a.0) front in
+    subst (λ (y : Cache). (is_cache y ≡ true) × (bytes ≡ behind (magic_of y.rows) y)) p.1 (parts.0, whole)
 
 pub is_found : (bytes : List ℕ) (r : Result Cache CacheFault) → IsBytes bytes → Answers is_memory r (read bytes) → IfOk r (IsCacheOf bytes)
 is_found bytes (Ok cache) fits given =
@@ -101,15 +107,30 @@ pub record CacheFits (cache : Cache) : Type 0 where
 pub cache_fits : (cache : Cache) → is_cache cache ≡ true → CacheFits cache
 unfolding is_cache
 cache_fits cache good =
-    let p3 = and_parts (nat_lt cache.last (2 ^ 32) && nat_le (length cache.rows) MAX_ROWS && list_all is_row cache.rows && ascend cache.rows) (are_apart cache.rows) good in
-    let p2 = and_parts (nat_lt cache.last (2 ^ 32) && nat_le (length cache.rows) MAX_ROWS && list_all is_row cache.rows) (ascend cache.rows) p3.0 in
+    let p2 = and_parts (nat_lt cache.last (2 ^ 32) && nat_le (length cache.rows) MAX_ROWS && list_all is_row cache.rows) (ascend cache.rows) good in
     let p1 = and_parts (nat_lt cache.last (2 ^ 32) && nat_le (length cache.rows) MAX_ROWS) (list_all is_row cache.rows) p2.0 in
     let p0 = and_parts (nat_lt cache.last (2 ^ 32)) (nat_le (length cache.rows) MAX_ROWS) p1.0 in
     record { last = ltb-true cache.last (2 ^ 32) p0.0; few = leb-true (length cache.rows) MAX_ROWS p0.1; rows = rows_fit cache.rows p1.1 }
 
-magic_again : (rest : List ℕ) → behind_magic (MAGIC ++ rest) ≡ Ok rest
+-- both kinds of magic have eight bytes
+magic_front : (b : Bool) (rest : List ℕ) → (take 8 ((if b then MAGIC else SHARED_MAGIC) ++ rest) ≡ (if b then MAGIC else SHARED_MAGIC)) × (behind_magic ((if b then MAGIC else SHARED_MAGIC) ++ rest) ≡ Ok rest)
 unfolding behind_magic
-magic_again rest = refl
+magic_front true rest = (refl, rw (long (length rest)) refl)
+  where
+    long : (n : ℕ) → ltb (suc (suc (suc (suc (suc (suc (suc (suc n)))))))) 8 ≡ false
+    long n = le-ltb _ _ (omega arith)
+magic_front false rest = (refl, rw (long (length rest)) refl)
+  where
+    long : (n : ℕ) → ltb (suc (suc (suc (suc (suc (suc (suc (suc n)))))))) 8 ≡ false
+    long n = le-ltb _ _ (omega arith)
+
+magic_taken : (rows : List Slot) (rest : List ℕ) → take 8 (magic_of rows ++ rest) ≡ magic_of rows
+unfolding magic_of
+magic_taken rows rest = (magic_front (are_apart rows) rest).0
+
+magic_again : (rows : List Slot) (rest : List ℕ) → behind_magic (magic_of rows ++ rest) ≡ Ok rest
+unfolding magic_of
+magic_again rows rest = (magic_front (are_apart rows) rest).1
 
 all_rows_again : (rows : List Slot) → length rows ≤ MAX_ROWS → all_fit rows → all_rows (length rows) (flat_map row_bytes rows) ≡ Ok rows
 unfolding all_rows
@@ -118,18 +139,26 @@ all_rows_again rows few fits =
     let read_again : rows_at (length rows) (flat_map row_bytes rows) ≡ Ok (rows, []) = ap (rows_at (length rows)) (sym (append-nil (flat_map row_bytes rows))) ∙ rows_again rows [] fits in
     rw (long, read_again) refl
 
+regrouped : (cache : Cache) → cache_bytes cache ≡ magic_of cache.rows ++ (bytes32 cache.last ++ (bytes32 (length cache.rows) ++ flat_map row_bytes cache.rows))
+unfolding cache_bytes
+regrouped cache =
+    append_assoc (magic_of cache.rows ++ bytes32 cache.last) (bytes32 (length cache.rows)) (flat_map row_bytes cache.rows) ∙ append_assoc (magic_of cache.rows) (bytes32 cache.last) (bytes32 (length cache.rows) ++ flat_map row_bytes cache.rows)
+
+-- the first eight bytes are the magic
+magic_there : (cache : Cache) → has_magic (cache_bytes cache) cache ≡ true
+unfolding has_magic
+magic_there cache = (bytes_decides (take 8 (cache_bytes cache)) (magic_of cache.rows)).1 (ap (take 8) (regrouped cache) ∙ magic_taken cache.rows (bytes32 cache.last ++ (bytes32 (length cache.rows) ++ flat_map row_bytes cache.rows)))
+
 fields_again : (cache : Cache) → CacheFits cache → fields (cache_bytes cache) ≡ Ok cache
-unfolding fields cache_bytes
+unfolding fields
 fields_again cache fits =
     let rows = flat_map row_bytes cache.rows in
     let count = bytes32 (length cache.rows) in
-    let regrouped : MAGIC ++ bytes32 cache.last ++ count ++ rows ≡ MAGIC ++ (bytes32 cache.last ++ (count ++ rows)) =
-    append_assoc (MAGIC ++ bytes32 cache.last) count rows ∙ append_assoc MAGIC (bytes32 cache.last) (count ++ rows) in
-    ap fields regrouped ∙ rw (magic_again (bytes32 cache.last ++ (count ++ rows)), number32_again cache.last (count ++ rows) fits.last, number32_again (length cache.rows) rows (omega (arith, fits.few)), all_rows_again cache.rows fits.few fits.rows) refl
+    ap fields (regrouped cache) ∙ rw (magic_again cache.rows (bytes32 cache.last ++ (count ++ rows)), number32_again cache.last (count ++ rows) fits.last, number32_again (length cache.rows) rows (omega (arith, fits.few)), all_rows_again cache.rows fits.few fits.rows) refl
 
 pub read_again : (cache : Cache) → is_cache cache ≡ true → read (cache_bytes cache) ≡ Ok cache
 unfolding read
-read_again cache good = rw (fields_again cache (cache_fits cache good), good) refl
+read_again cache good = rw (fields_again cache (cache_fits cache good), good, magic_there cache) refl
 
 pub is_read : (bytes : List ℕ) (cache : Cache) → IsCacheOf bytes cache → read bytes ≡ Ok cache
 is_read bytes cache of = ap read of.in_bytes ∙ read_again cache of.is_spelled

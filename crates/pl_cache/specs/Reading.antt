@@ -1,15 +1,15 @@
 -- Reading a cache from left to right.
-use Rattle.std.specs.Prelude.{ℕ, zero, suc, Bool, true, false, nat_lt, ◌==◌, List, [], ◌∷◌, length, take, drop, Result, Ok, Err, if◌then◌else◌}
+use Rattle.std.specs.Prelude.{ℕ, zero, suc, Bool, true, false, ◌&&◌, nat_lt, ◌==◌, List, [], ◌∷◌, length, take, drop, Result, Ok, Err, if◌then◌else◌}
 use Rattle.std.specs.Str.{bytes_eq}
 use Rattle.pl_base.specs.Answers.{◌>>=◌}
 use Rattle.pl_base.specs.Bytes.{word32, word64}
 use Rattle.pl_base.specs.Names.{is_valid_name}
 use Rattle.pl_slots.specs.declared.slot.Slot.{Slot}
 use Rattle.pl_cache.specs.declared.cache.Cache.{Cache}
-use Rattle.pl_cache.specs.declared.constants.TheConstants.{MAGIC, MAX_ROWS}
+use Rattle.pl_cache.specs.declared.constants.TheConstants.{MAX_ROWS}
 use Rattle.pl_cache.specs.declared.fault.CacheFault.{CacheFault}
 use Rattle.pl_cache.specs.declared.fault.CacheFault.TheVariants.{BadCache, NoMemory}
-use Rattle.pl_cache.specs.Spelling.{is_cache}
+use Rattle.pl_cache.specs.Spelling.{is_cache, magic_of}
 
 abbrev pub is_memory : CacheFault → Bool
 is_memory NoMemory = true
@@ -44,9 +44,9 @@ rows_at (suc n) bytes = do
   others ← rows_at n first.1
   Ok (first.0 ∷ others.0, others.1)
 
--- the bytes behind the magic
+-- the bytes behind the eight of the magic
 unfoldable pub behind_magic : List ℕ → Result (List ℕ) CacheFault
-behind_magic bytes = if bytes_eq (take 8 bytes) MAGIC then Ok (drop 8 bytes) else Err BadCache
+behind_magic bytes = if nat_lt (length bytes) 8 then Err BadCache else Ok (drop 8 bytes)
 
 -- so many rows, and nothing behind them
 unfoldable pub all_rows : ℕ → List ℕ → Result (List Slot) CacheFault
@@ -62,9 +62,13 @@ fields bytes = do
   rows ← all_rows count.0 count.1
   Ok (record { last = last.0; rows = rows })
 
-abbrev pub checked : Cache → Result Cache CacheFault
-checked cache = if is_cache cache then Ok cache else Err BadCache
+-- the first eight bytes are the magic of the rows
+unfoldable pub has_magic : List ℕ → Cache → Bool
+has_magic bytes cache = bytes_eq (take 8 bytes) (magic_of cache.rows)
+
+abbrev pub checked : List ℕ → Cache → Result Cache CacheFault
+checked bytes cache = if is_cache cache && has_magic bytes cache then Ok cache else Err BadCache
 
 -- what bytes say as a cache
 unfoldable pub read : List ℕ → Result Cache CacheFault
-read bytes = fields bytes >>= checked
+read bytes = fields bytes >>= checked bytes

@@ -1,5 +1,5 @@
 -- What a cache is, and the one spelling of each.
-use Rattle.std.specs.Prelude.{◌≡◌, ℕ, ◌+◌, ◌^◌, Bool, true, ◌&&◌, nat_le, nat_lt, List, [], ◌∷◌, ◌++◌, length}
+use Rattle.std.specs.Prelude.{◌≡◌, ℕ, ◌+◌, ◌^◌, Bool, true, ◌&&◌, nat_le, nat_lt, List, [], ◌∷◌, ◌++◌, length, if◌then◌else◌}
 use Rattle.std.specs.List.{flat_map, list_all}
 use Rattle.std.specs.Ordering.{nat_cmp, is_lt}
 use Rattle.std.specs.Cmp.Lexicographic.{slice_cmp}
@@ -9,7 +9,7 @@ use Rattle.pl_base.specs.Sums.{is_aligned}
 use Rattle.pl_slots.specs.declared.slot.Slot.{Slot}
 use Rattle.pl_slots.specs.Apart.{are_apart}
 use Rattle.pl_cache.specs.declared.cache.Cache.{Cache}
-use Rattle.pl_cache.specs.declared.constants.TheConstants.{MAGIC, MAX_ROWS}
+use Rattle.pl_cache.specs.declared.constants.TheConstants.{MAGIC, SHARED_MAGIC, MAX_ROWS}
 use Rattle.pl_elf.specs.declared.constants.TheConstants.{PAGE, ADDRESS_LIMIT}
 
 -- ---- the spelling
@@ -22,9 +22,13 @@ name_bytes name = length name ∷ name
 abbrev pub row_bytes : Slot → List ℕ
 row_bytes slot = name_bytes slot.name ++ bytes64 slot.start ++ bytes64 slot.span
 
+-- the magic of rows: whether no two of them share an address
+unfoldable pub magic_of : List Slot → List ℕ
+magic_of rows = if are_apart rows then MAGIC else SHARED_MAGIC
+
 -- the magic, the last stamp in 32 bits, the number of rows in 32 bits, and the rows
 unfoldable pub cache_bytes : Cache → List ℕ
-cache_bytes cache = MAGIC ++ bytes32 cache.last ++ bytes32 (length cache.rows) ++ flat_map row_bytes cache.rows
+cache_bytes cache = magic_of cache.rows ++ bytes32 cache.last ++ bytes32 (length cache.rows) ++ flat_map row_bytes cache.rows
 
 -- ---- what has a spelling
 
@@ -46,10 +50,10 @@ abbrev pub ascend : List Slot → Bool
 ascend [] = true
 ascend (slot ∷ slots) = is_followed slot slots && ascend slots
 
--- a cache has few rows, each as it should be, that ascend by name and share no address
+-- a cache has few rows, each as it should be, that ascend by name
 unfoldable pub is_cache : Cache → Bool
 is_cache cache =
-    nat_lt cache.last (2 ^ 32) && nat_le (length cache.rows) MAX_ROWS && list_all is_row cache.rows && ascend cache.rows && are_apart cache.rows
+    nat_lt cache.last (2 ^ 32) && nat_le (length cache.rows) MAX_ROWS && list_all is_row cache.rows && ascend cache.rows
 
 -- ---- the grammar
 

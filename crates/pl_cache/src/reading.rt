@@ -1,11 +1,12 @@
-ghost use Rattle.std.specs.Prelude.{◌≡◌, Ok, IfOk};
+ghost use Rattle.std.specs.Prelude.{◌≡◌, Ok, take, IfOk};
+ghost use Rattle.std.specs.Str.{bytes_eq};
 ghost use Rattle.pl_base.specs.Answers.{Answers, AnswersAs};
 ghost use Rattle.pl_cache.specs.declared.cache.Cache as declared;
 ghost use Rattle.pl_cache.specs.Spelling as spelling;
 ghost use Rattle.pl_cache.specs.Reading as spec;
 
-use crate::constants::{MAGIC, MAX_ROWS};
-use crate::rows::is_cache;
+use crate::constants::MAX_ROWS;
+use crate::rows::{is_cache, magic_of};
 use crate::{Cache, CacheFault};
 use pl_base::{Rows, Text, valid_text, word32, word64};
 use pl_slots::Slot;
@@ -83,14 +84,29 @@ fn take_rows(alloc: Global, count: u32, bytes: &[u8]) -> Result<(Rows<Slot>, &[u
     Ok((rows, rest))
 }
 
+/// The bytes behind the magic.
 #[tactic(auto, unfolding(crate::specs::Reading::behind_magic))]
 fn take_magic(bytes: &[u8]) -> Result<&[u8], CacheFault>
     ensures { AnswersAs (λ rest. rest.now) spec.is_memory result (spec.behind_magic bytes.now) }
 {
-    match bytes.strip_prefix(MAGIC.as_slice()) {
-        None => Err(CacheFault::BadCache),
-        Some(rest) => Ok(rest),
+    if bytes.len() < 8 {
+        return Err(CacheFault::BadCache);
     }
+    let (_, rest) = bytes.split_at(8);
+    Ok(rest)
+}
+
+fn begins_with(bytes: &[u8], magic: [u8; 8]) -> bool
+    ensures { result ≡ bytes_eq (take 8 bytes.now) magic }
+{
+    bytes.strip_prefix(magic.as_slice()).is_some()
+}
+
+#[tactic(auto, unfolding(crate::specs::Reading::has_magic))]
+fn has_magic(bytes: &[u8], cache: &Cache) -> bool
+    ensures { result ≡ spec.has_magic bytes.now cache.now }
+{
+    begins_with(bytes, magic_of(cache.rows.as_slice()))
 }
 
 #[tactic(auto, unfolding(crate::specs::Reading::all_rows))]
@@ -123,7 +139,7 @@ fn read(alloc: Global, bytes: &[u8]) -> Result<Cache, CacheFault>
     ensures { Answers spec.is_memory result (spec.read bytes.now) }
 {
     let cache = take_fields(alloc, bytes)?;
-    if is_cache(&cache) {
+    if is_cache(&cache) && has_magic(bytes, &cache) {
         Ok(cache)
     } else {
         Err(CacheFault::BadCache)
@@ -132,7 +148,7 @@ fn read(alloc: Global, bytes: &[u8]) -> Result<Cache, CacheFault>
 
 /// The cache that bytes spell.
 ///
-/// BadCache comes exactly where they spell none: the magic `PLCACHE1`, the last stamp and the number of rows in 32 bits each, at most 1024 rows, and nothing behind them; a row is one byte of length, the name, the slot's first address and its span in 64 bits each, and the rows are such that `is_cache` holds. All numbers are little-endian.
+/// BadCache comes exactly where they spell none: the magic, the last stamp and the number of rows in 32 bits each, at most 1024 rows, and nothing behind them; a row is one byte of length, the name, the slot's first address and its span in 64 bits each, and the rows are such that `is_cache` holds. The magic is `PLCACHE1` where no two slots share an address, and `PLCACHE2` where two do. All numbers are little-endian.
 pub fn read_cache(alloc: Global, bytes: &[u8]) -> Result<Cache, CacheFault>
     // What is read is spelled so.
     ensures found { IfOk result (spelling.IsCacheOf bytes.now) }

@@ -4,7 +4,7 @@ ghost use Rattle.std.specs.List.{list_all};
 ghost use Rattle.pl_cache.specs.Spelling as spec;
 
 use crate::Cache;
-use crate::constants::MAX_ROWS;
+use crate::constants::{MAGIC, MAX_ROWS, SHARED_MAGIC};
 use pl_base::{end, is_aligned, is_valid_name};
 use pl_elf::constants::{ADDRESS_LIMIT, PAGE};
 use pl_slots::{Slot, are_apart};
@@ -54,12 +54,20 @@ fn ascend(rows: &[Slot]) -> bool
     true
 }
 
-/// Whether a cache has a spelling: its names are valid and ascend strictly, its slots and spans are multiples of 4096 and no span is 0, its slots end at or below 2^47 and share no address, and there are at most 1024.
+/// The first bytes of a cache with these rows.
+#[tactic(auto, unfolding(crate::specs::Spelling::magic_of))]
+pub fn magic_of(rows: &[Slot]) -> [u8; 8]
+    ensures { result ≡ spec.magic_of rows.now }
+{
+    if are_apart(rows) { MAGIC } else { SHARED_MAGIC }
+}
+
+/// Whether a cache has a spelling: its names are valid and ascend strictly, its slots and spans are multiples of 4096 and no span is 0, its slots end at or below 2^47, and there are at most 1024.
 #[tactic(auto, unfolding(crate::specs::Spelling::is_cache))]
 pub fn is_cache(cache: &Cache) -> bool
     ensures { result ≡ spec.is_cache cache.now }
 {
     let _last = cache.last;
     let rows = cache.rows.as_slice();
-    rows.len() <= MAX_ROWS as usize && are_rows(rows) && ascend(rows) && are_apart(rows)
+    rows.len() <= MAX_ROWS as usize && are_rows(rows) && ascend(rows)
 }

@@ -3,7 +3,8 @@ ghost use Rattle.std.specs.List.{flat_map};
 ghost use Rattle.pl_cache.specs.Spelling as spec;
 
 use crate::Cache;
-use crate::constants::{MAGIC, MAX_ROWS};
+use crate::constants::MAX_ROWS;
+use crate::rows::magic_of;
 use pl_base::{push32, push64};
 use pl_io::NoMemory;
 use pl_slots::Slot;
@@ -44,7 +45,7 @@ pub fn write_cache(alloc: Global, cache: &Cache) -> Result<Vec<u8>, NoMemory>
     ensures { IfOk result (λ bytes. bytes.items ≡ spec.cache_bytes cache.now) }
 {
     let mut out = Vec::new(alloc);
-    out.extend_from_slice(&MAGIC)?;
+    out.extend_from_slice(&magic_of(cache.rows.as_slice()))?;
     push32(&mut out, cache.last)?;
     push32(&mut out, row_count(cache))?;
     push_rows(&mut out, cache.rows.as_slice())?;

@@ -1,8 +1,10 @@
 pub mod StopLemmas
 pub mod PartLemmas
 pub mod RoomLemmas
+pub mod CallLemmas
 pub mod LookLemmas
 pub mod LoadLemmas
 pub mod MakeLemmas
+pub mod PrintLemmas
 pub mod RunLemmas
 pub mod TellsLemmas

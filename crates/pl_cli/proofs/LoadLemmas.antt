@@ -1,5 +1,5 @@
 -- What `--load` finds, file by file.
-use Rattle.std.proofs.Common.{◌≡◌, ◌≢◌, ◌≤◌, ◌<◌, ℕ, ◌+◌, List, length, Bool, true, false, Option, Some, None, refl, sym, ap, subst, ◌∙◌, inl, inr, arith}
+use Rattle.std.proofs.Common.{◌≡◌, ◌≢◌, ◌≤◌, ◌<◌, ℕ, ◌+◌, List, length, Bool, true, false, Option, Some, None, refl, sym, ap, subst, ◌∙◌, ⊎_elim, inl, inr, arith}
 use Rattle.std.specs.Prelude.{Result, Ok, Err, MatchBool, ⊤, IsErrAnd, Vec, not, nat_lt, nat_le, if◌then◌else◌}
 use Rattle.std.specs.declared.alloc.Global.{Global}
 use Rattle.std.specs.FinMap.{get}
@@ -32,9 +32,12 @@ use Rattle.pl_cli.specs.declared.cause.Cause.TheVariants as causes
 use Rattle.pl_cli.specs.declared.stop.Stop.{Stop}
 use Rattle.pl_cli.specs.declared.stop.Stop.TheVariants as stops
 use Rattle.pl_cli.specs.Came.{HasLoaded, HasTaken}
-use Rattle.pl_cli.specs.Load.{of_file, file_in, loaded, takes}
+use Rattle.pl_elf.specs.declared.range.Range.{Range}
+use Rattle.pl_words.specs.declared.command.Policy.{Policy}
+use Rattle.pl_cli.specs.Load.{choice, of_file, file_in, loaded, takes}
 use Rattle.pl_cli.specs.Outside.{ending_of}
 use Rattle.pl_cli.specs.Stops.{of_load_fault, of_take, status_of}
+use Rattle.pl_cli.proofs.CallLemmas.{as_calls}
 use Rattle.pl_cli.proofs.LookLemmas.{AllBut, and_more, left_more, step_goes_on, takes_none, and_broken, and_lacking, and_last, and_undone, lacks_early, left_from, left_last, left_some, no_call, one_if_not, one_if_so, one_if_valid, step_lacks, step_stops}
 
 -- ---- one file
@@ -85,48 +88,21 @@ invalid_file files name invalid = ap (λ (b : Bool). of_file name (if b then get
 
 -- ---- one call
 
-module _ (a b : Seen) where
-  once : (n : ℕ) → n ≡ 1 → Calls Done Idles a b → Calls Done (Asks n) a b
-  once n one call = record {
-    tells = call.tells;
-    records = call.records;
-    place = call.place;
-    files = call.files;
-    disk = λ told. call.disk told ∙ ap (λ (k : ℕ). waited k a.disk) (sym one);
-    count = call.count;
-  }
+module _ {a b : Seen} (n : ℕ) (one : n ≡ 1) where
+  pub once : Calls Done Idles a b → Calls Done (Asks n) a b
+  once call = as_calls Done Done refl call (λ told same. same) (λ told made. made ∙ ap (λ (k : ℕ). waited k a.disk) (sym one))
 
   -- the folder failed: the call was made or not
-  failed_once : (n : ℕ) → n ≡ 1 → Calls Broken Idles a b → Calls Broken (Asks n) a b
-  failed_once n one call = record {
-    tells = call.tells;
-    records = call.records;
-    place = call.place;
-    files = call.files;
-    disk = λ told. elim (call.disk told) [ inl none ↦ (0, omega (arith, one), none) | inr made ↦ (1, omega (arith, one), made) ];
-    count = call.count;
-  }
+  pub failed_once : Calls Broken Idles a b → Calls Broken (Asks n) a b
+  failed_once call = as_calls Broken Broken refl call (λ told same. same) (λ told. ⊎_elim (λ none. (0, omega (arith, one), none)) (λ made. (1, omega (arith, one), made)))
 
-  -- memory lacked, in the call or after it
-  lacked_once : (n : ℕ) → n ≡ 1 → Calls Done Idles a b → Calls Undone (Asks n) a b
-  lacked_once n one call = record {
-    tells = call.tells;
-    records = call.records;
-    place = call.place;
-    files = call.files;
-    disk = λ told. (1, omega (arith, one), call.disk told);
-    count = call.count;
-  }
+  -- memory lacked after the call
+  pub lacked_once : Calls Done Idles a b → Calls Undone (Asks n) a b
+  lacked_once call = as_calls Done Undone refl call (λ told same. same) (λ told made. (1, omega (arith, one), made))
 
-  lacked : (n : ℕ) → Calls Undone Idles a b → Calls Undone (Asks n) a b
-  lacked n call = record {
-    tells = call.tells;
-    records = call.records;
-    place = call.place;
-    files = call.files;
-    disk = λ told. (0, omega arith, call.disk told);
-    count = call.count;
-  }
+-- or in it
+pub lacked : {a b : Seen} (n : ℕ) → Calls Undone Idles a b → Calls Undone (Asks n) a b
+lacked n call = as_calls Undone Undone refl call (λ told same. same) (λ told none. (0, omega arith, none))
 
 module _ (name : List ℕ) where
   -- the folder gave the file
@@ -134,31 +110,31 @@ module _ (name : List ℕ) where
   taken_once {a = a} {b = b} bytes valid took = record {
     means = λ told. taken_file a.files name bytes.items valid (took.bytes told);
     reads = refl;
-    calls = once a b (one_if_valid name) (one_if_so name valid) took.calls;
+    calls = once (one_if_valid name) (one_if_so name valid) took.calls;
   }
 
   -- it gave none
   pub untaken : {a b : Seen} (fault : FolderFault) → is_valid_name name ≡ true → Takes name (Err fault) a b → HasTaken name (Err (of_take name fault)) a b
   unfolding of_stored
-  untaken {a = a} {b = b} folder_faults.Failed valid took = record { means = tt; reads = refl; calls = failed_once a b (one_if_valid name) (one_if_so name valid) took.calls }
+  untaken {a = a} {b = b} folder_faults.Failed valid took = record { means = tt; reads = refl; calls = failed_once (one_if_valid name) (one_if_so name valid) took.calls }
   untaken {a = a} {b = b} folder_faults.NotThere valid took = record {
     means = λ told. valid_stored a.files name valid ∙ ap (of_stored name) (took.explained told);
     reads = refl;
-    calls = once a b (one_if_valid name) (one_if_so name valid) took.calls;
+    calls = once (one_if_valid name) (one_if_so name valid) took.calls;
   }
   untaken {a = a} {b = b} folder_faults.TooLarge valid took = record {
     means = λ told. valid_stored a.files name valid ∙ ap (of_stored name) (took.explained told);
     reads = refl;
-    calls = once a b (one_if_valid name) (one_if_so name valid) took.calls;
+    calls = once (one_if_valid name) (one_if_so name valid) took.calls;
   }
-  untaken {a = a} {b = b} folder_faults.NoMemory valid took = record { means = tt; reads = refl; calls = lacked a b (one_if_valid name) took.calls }
+  untaken {a = a} {b = b} folder_faults.NoMemory valid took = record { means = tt; reads = refl; calls = lacked (one_if_valid name) took.calls }
 
   -- and there was no memory to tell that
   pub untold : {a b : Seen} (fault : FolderFault) → fault ≢ folder_faults.Failed → is_valid_name name ≡ true → Takes name (Err fault) a b → HasTaken name (Err stops.NoMemory) a b
   untold folder_faults.Failed other valid took = absurd (other refl)
-  untold {a = a} {b = b} folder_faults.NotThere other valid took = record { means = tt; reads = refl; calls = lacked_once a b (one_if_valid name) (one_if_so name valid) took.calls }
-  untold {a = a} {b = b} folder_faults.TooLarge other valid took = record { means = tt; reads = refl; calls = lacked_once a b (one_if_valid name) (one_if_so name valid) took.calls }
-  untold {a = a} {b = b} folder_faults.NoMemory other valid took = record { means = tt; reads = refl; calls = lacked a b (one_if_valid name) took.calls }
+  untold {a = a} {b = b} folder_faults.NotThere other valid took = record { means = tt; reads = refl; calls = lacked_once (one_if_valid name) (one_if_so name valid) took.calls }
+  untold {a = a} {b = b} folder_faults.TooLarge other valid took = record { means = tt; reads = refl; calls = lacked_once (one_if_valid name) (one_if_so name valid) took.calls }
+  untold {a = a} {b = b} folder_faults.NoMemory other valid took = record { means = tt; reads = refl; calls = lacked (one_if_valid name) took.calls }
 
   -- no other name has a file, and the folder is not asked for it
   pub unasked : (a : Seen) → is_valid_name name ≡ false → HasTaken name (Err (of_take name folder_faults.NotThere)) a a
@@ -169,28 +145,29 @@ module _ (name : List ℕ) where
 
 -- ---- the whole load
 
-bad_name : (files : Files) (name : List ℕ) → is_valid_name name ≡ false → loaded files name ≡ Err causes.BadName
-unfolding loaded
-bad_name files name invalid = ap (λ (b : Bool). unless (not b) causes.BadName (start.load causes.Load (file_in files) name)) invalid
+module _ (policy : Policy) (busy : Option Range) where
+  bad_name : (files : Files) (name : List ℕ) → is_valid_name name ≡ false → loaded policy busy files name ≡ Err causes.BadName
+  unfolding loaded
+  bad_name files name invalid = ap (λ (b : Bool). unless (not b) causes.BadName (start.load (choice policy) busy causes.Load (file_in files) name)) invalid
 
--- of a name that is not valid
-pub refused_name : (a : Seen) (name : List ℕ) → is_valid_name name ≡ false → HasLoaded name (Err (stops.Cause causes.BadName)) a a
-refused_name a name invalid = record { loads = λ _. bad_name a.files name invalid; ends = refl; calls = no_call a (takes a.files name) (takes_none a.files name invalid) }
+  -- of a name that is not valid
+  pub refused_name : {F : Type 0} (a : Seen) (name : List ℕ) → is_valid_name name ≡ false → HasLoaded {F = F} name busy policy (Err (stops.Cause causes.BadName)) a a
+  refused_name a name invalid = record { loads = λ _. bad_name a.files name invalid; ends = refl; calls = no_call a (takes a.files name) (takes_none a.files name invalid) }
 
-pub not_begun : (a : Seen) (name : List ℕ) → HasLoaded name (Err stops.NoMemory) a a
-not_begun a name = record { loads = tt; ends = refl; calls = lacks_early a (takes a.files name) }
+  pub not_begun : {F : Type 0} (a : Seen) (name : List ℕ) → HasLoaded {F = F} name busy policy (Err stops.NoMemory) a a
+  not_begun a name = record { loads = tt; ends = refl; calls = lacks_early a (takes a.files name) }
 
 -- ---- of a valid name, as it goes on: a is the folder before, and b where the walk wants n
 
-module _ (a : Seen) (name : List ℕ) (valid : is_valid_name name ≡ true) where
-  valid_loaded : loaded a.files name ≡ start.load causes.Load (file_in a.files) name
+module _ (policy : Policy) (busy : Option Range) (a : Seen) (name : List ℕ) (valid : is_valid_name name ≡ true) where
+  valid_loaded : loaded policy busy a.files name ≡ start.load (choice policy) busy causes.Load (file_in a.files) name
   unfolding loaded
-  valid_loaded = ap (λ (b : Bool). unless (not b) causes.BadName (start.load causes.Load (file_in a.files) name)) valid
+  valid_loaded = ap (λ (b : Bool). unless (not b) causes.BadName (start.load (choice policy) busy causes.Load (file_in a.files) name)) valid
 
   -- all files were given
-  pub loaded_ends : (l : Loading) → wants l.order ≡ None → IsUnderWay causes.Load (file_in a.files) name l → loaded a.files name ≡ because causes.Load (start.started l.files)
+  pub loaded_ends : (l : Loading) → wants l.order ≡ None → IsUnderWay causes.Load (file_in a.files) name l → loaded policy busy a.files name ≡ because causes.Load (start.started (choice policy) busy l.files)
   unfolding start.load
-  loaded_ends l is way = valid_loaded ∙ ap (λ (r : Result (List ObjectFile) Cause). r >>= λ fs. because causes.Load (start.started fs)) (load_ends causes.Load (file_in a.files) name l is way)
+  loaded_ends l is way = valid_loaded ∙ ap (λ (r : Result (List ObjectFile) Cause). r >>= λ fs. because causes.Load (start.started (choice policy) busy fs)) (load_ends causes.Load (file_in a.files) name l is way)
 
   module _ (folder : IsFolder a) (l : Loading) (n : List ℕ) (is : wants l.order ≡ Some n) (below : l.order.given < MAX_MEMBERS) (way : a.tells ≡ true → IsUnderWay causes.Load (file_in a.files) name l) (b c : Seen)
       (so_far : Calls Done (AllBut (left_from a.files name l.order) (takes a.files name)) a b) where
@@ -201,9 +178,9 @@ module _ (a : Seen) (name : List ℕ) (valid : is_valid_name name ≡ true) wher
     here r means told = ap (λ (fs : Files). file_in fs n) (sym (so_far.files told)) ∙ means (so_far.tells ∙ told)
 
     -- the wanted file was not taken
-    pub stopped_in_folder : (stop : Stop) → HasTaken n (Err stop) b c → HasLoaded name (Err stop) a c
+    pub stopped_in_folder : {F : Type 0} (stop : Stop) → HasTaken n (Err stop) b c → HasLoaded {F = F} name busy policy (Err stop) a c
     stopped_in_folder (stops.Cause cause) took = record {
-      loads = λ told. let tells = told valid in valid_loaded ∙ whole_lacks causes.Load (file_in a.files) name n l cause is (here (Err cause) took.means tells) (way tells);
+      loads = λ told. let tells = told valid in valid_loaded ∙ whole_lacks (choice policy) busy causes.Load (file_in a.files) name n l cause is (here (Err cause) took.means tells) (way tells);
       ends = refl;
       calls = and_last (one_if_valid n) so_far (λ records. left_last a.files name l.order n below is cause (step_lacks a.files name l.order n cause (here (Err cause) took.means (folder.tells records)))) took.calls;
     }
@@ -221,10 +198,10 @@ module _ (a : Seen) (name : List ℕ) (valid : is_valid_name name ≡ true) wher
           (λ records. let told = folder.tells records in left_more a.files name l.order n below is m.order more (step_goes_on l n bytes.items a.files name m is (way told).named (file_is told) went)) took.calls
 
       -- it is refused, or memory lacked
-      pub stopped_at_file : (fault : LoadFault) → Answers is_memory (Err fault) (give l (Some bytes.items)) → HasLoaded name (Err (of_load_fault fault)) a c
-      stopped_at_file fault stop =
-          elim (is_memory fault) as (λ m. MatchBool m ⊤ (give l (Some bytes.items) ≡ Err fault) → (a.tells ≡ true → MatchBool m ⊤ (start.load causes.Load (file_in a.files) name ≡ Err (causes.Load fault)))
-          → HasLoaded name (Err (if m then stops.NoMemory else stops.Cause (causes.Load fault))) a c) [
+      pub stopped_at_file : {F : Type 0} (fault : LoadFault) → Answers is_memory (Err fault) (give l (Some bytes.items)) → HasLoaded {F = F} name busy policy (Err (of_load_fault fault)) a c
+      stopped_at_file {F = F} fault stop =
+          elim (is_memory fault) as (λ m. MatchBool m ⊤ (give l (Some bytes.items) ≡ Err fault) → (a.tells ≡ true → MatchBool m ⊤ (start.load (choice policy) busy causes.Load (file_in a.files) name ≡ Err (causes.Load fault)))
+          → HasLoaded {F = F} name busy policy (Err (if m then stops.NoMemory else stops.Cause (causes.Load fault))) a c) [
             | true ↦ λ _ _. record { loads = tt; ends = refl; calls = and_lacking (one_if_valid n) so_far (λ _. one_or_more) took.calls }
             | false ↦ λ stopped means. record {
               loads = λ told. valid_loaded ∙ means (told valid);
@@ -232,4 +209,4 @@ module _ (a : Seen) (name : List ℕ) (valid : is_valid_name name ≡ true) wher
               calls = and_last (one_if_valid n) so_far
                   (λ records. let told = folder.tells records in left_last a.files name l.order n below is (causes.Load fault) (step_stops l n bytes.items a.files name fault is (way told).named (file_is told) stopped)) took.calls;
             }
-          ] stop (λ told. whole_stops causes.Load (file_in a.files) name n (Some bytes.items) l fault is (file_is told) stop (way told))
+          ] stop (λ told. whole_stops (choice policy) busy causes.Load (file_in a.files) name n (Some bytes.items) l fault is (file_is told) stop (way told))

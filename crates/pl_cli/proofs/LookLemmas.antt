@@ -6,7 +6,6 @@ use Rattle.std.proofs.lemmas.List.Sums.{sum_by-cons}
 use Rattle.pl_base.specs.Answers.{◌>>=◌, because}
 use Rattle.pl_base.specs.Files.{Files}
 use Rattle.pl_base.specs.Names.{is_valid_name}
-use Rattle.pl_base.proofs.CountLaws.{counted_then}
 use Rattle.pl_folder.specs.Calls.{Calls}
 use Rattle.pl_folder.specs.Disk.{Disk, State, after, waited}
 use Rattle.pl_folder.specs.Effects.{Asks, Effect, SameFiles}
@@ -24,6 +23,7 @@ use Rattle.pl_loader.specs.declared.fault.LoadFault.TheVariants.{NotThere}
 use Rattle.pl_cli.specs.declared.cause.Cause.{Cause}
 use Rattle.pl_cli.specs.declared.cause.Cause.TheVariants as causes
 use Rattle.pl_cli.specs.Load.{file_in, of_file, looks, looks_from, names_from, stepped, takes, unless_refused}
+use Rattle.pl_cli.proofs.CallLemmas.{as_calls, no_calls, then_calls}
 
 -- how many files are still to be taken
 abbrev pub left_from : Files → List ℕ → Walking → ℕ
@@ -157,121 +157,55 @@ some_waited left total j a b c p size q =
     let most = q.1 in
     (q.0 + p.0, omega (arith, size, sum, most), more_waited q.0 p.0 a b c p.2 q.2)
 
+-- all but so many, and then so many more
+all_waited : (left total rest j : ℕ) (a b c : Disk) → (k : ℕ) × (k + left ≡ total) × (b ≡ waited k a) → left ≡ j + rest → c ≡ waited j b → (k : ℕ) × (k + rest ≡ total) × (c ≡ waited k a)
+all_waited left total rest j a b c p split q =
+    let sum = p.1 in
+    (j + p.0, omega (arith, split, sum), more_waited j p.0 a b c p.2 q)
+
+-- none is left
+whole_waited : (left total : ℕ) (a b : Disk) → (k : ℕ) × (k + left ≡ total) × (b ≡ waited k a) → left ≡ 0 → b ≡ waited total a
+whole_waited left total a b p none =
+    let sum = p.1 in
+    let whole : p.0 ≡ total = omega (arith, none, sum) in
+    p.2 ∙ ap (λ (k : ℕ). waited k a) whole
+
 module _ {a b c : Seen} {left total : ℕ} (j : ℕ) (so_far : Calls Done (AllBut left total) a b) where
   -- one name more
   pub and_more : (rest : ℕ) → (a.records ≡ true → left ≡ j + rest) → Calls Done (Asks j) b c → Calls Done (AllBut rest total) a c
-  and_more rest split call = record {
-    tells = call.tells ∙ so_far.tells;
-    records = call.records ∙ so_far.records;
-    place = call.place ∙ so_far.place;
-    files = λ told. call.files (so_far.tells ∙ told) ∙ so_far.files told;
-    disk = λ told.
-        let p = so_far.disk told in
-        let sizes = split told in
-        let sum = p.1 in
-        (j + p.0, omega (arith, sizes, sum), more_waited j p.0 a.disk b.disk c.disk p.2 (call.disk (so_far.records ∙ told)));
-    count = counted_then false a.faults b.faults c.faults so_far.count call.count;
-  }
+  and_more rest split call = then_calls Done Done refl so_far call (λ told same more. more ∙ same) (λ told p q. all_waited left total rest j a.disk b.disk c.disk p (split told) q)
 
   -- the last name
   pub and_last : (a.records ≡ true → left ≡ j) → Calls Done (Asks j) b c → Calls Done (Asks total) a c
-  and_last all call = record {
-    tells = call.tells ∙ so_far.tells;
-    records = call.records ∙ so_far.records;
-    place = call.place ∙ so_far.place;
-    files = λ told. call.files (so_far.tells ∙ told) ∙ so_far.files told;
-    disk = λ told.
-        let p = so_far.disk told in
-        let size = all told in
-        let sum = p.1 in
-        let whole : j + p.0 ≡ total = omega (arith, size, sum) in
-        more_waited j p.0 a.disk b.disk c.disk p.2 (call.disk (so_far.records ∙ told)) ∙ ap (λ (k : ℕ). waited k a.disk) whole;
-    count = counted_then false a.faults b.faults c.faults so_far.count call.count;
-  }
+  and_last all call = then_calls Done Done refl so_far call (λ told same more. more ∙ same)
+      (λ told p q. let size = all told in whole_waited 0 total a.disk c.disk (all_waited left total 0 j a.disk b.disk c.disk p (omega (arith, size)) q) refl)
 
   -- a name, after which memory lacked
   pub and_lacking : (a.records ≡ true → j ≤ left) → Calls Done (Asks j) b c → Calls Undone (Asks total) a c
-  and_lacking within call = record {
-    tells = call.tells ∙ so_far.tells;
-    records = call.records ∙ so_far.records;
-    place = call.place ∙ so_far.place;
-    files = λ told. call.files (so_far.tells ∙ told) ∙ so_far.files told;
-    disk = λ told.
-        let p = so_far.disk told in
-        let size = within told in
-        let sum = p.1 in
-        (j + p.0, omega (arith, size, sum), more_waited j p.0 a.disk b.disk c.disk p.2 (call.disk (so_far.records ∙ told)));
-    count = counted_then false a.faults b.faults c.faults so_far.count call.count;
-  }
+  and_lacking within call = then_calls Done Undone refl so_far call (λ told same more. more ∙ same)
+      (λ told p q. some_waited left total j a.disk b.disk c.disk p (within told) (j, omega arith, q))
 
   -- a name at which the folder failed or memory lacked
   pub and_broken : (a.records ≡ true → j ≤ left) → Calls Broken (Asks j) b c → Calls Broken (Asks total) a c
-  and_broken within call = record {
-    tells = call.tells ∙ so_far.tells;
-    records = call.records ∙ so_far.records;
-    place = call.place ∙ so_far.place;
-    files = λ told. call.files (so_far.tells ∙ told) ∙ so_far.files told;
-    disk = λ told. some_waited left total j a.disk b.disk c.disk (so_far.disk told) (within told) (call.disk (so_far.records ∙ told));
-    count = counted_then true a.faults b.faults c.faults so_far.count call.count;
-  }
+  and_broken within call = then_calls Broken Broken refl so_far call (λ told same more. more ∙ same) (λ told p q. some_waited left total j a.disk b.disk c.disk p (within told) q)
 
   pub and_undone : (a.records ≡ true → j ≤ left) → Calls Undone (Asks j) b c → Calls Undone (Asks total) a c
-  and_undone within call = record {
-    tells = call.tells ∙ so_far.tells;
-    records = call.records ∙ so_far.records;
-    place = call.place ∙ so_far.place;
-    files = λ told. call.files (so_far.tells ∙ told) ∙ so_far.files told;
-    disk = λ told. some_waited left total j a.disk b.disk c.disk (so_far.disk told) (within told) (call.disk (so_far.records ∙ told));
-    count = counted_then false a.faults b.faults c.faults so_far.count call.count;
-  }
+  and_undone within call = then_calls Undone Undone refl so_far call (λ told same more. more ∙ same) (λ told p q. some_waited left total j a.disk b.disk c.disk p (within told) q)
 
 -- ---- a load begins, and ends
 
 module _ (a : Seen) where
-  -- no call
   pub no_call : (n : ℕ) → n ≡ 0 → Calls Done (Asks n) a a
-  no_call n none = record {
-    tells = refl;
-    records = refl;
-    place = refl;
-    files = λ _. refl;
-    disk = λ _. ap (λ (k : ℕ). waited k a.disk) (sym none);
-    count = record { later = omega arith; rose = λ e. cc; quiet = λ _. refl };
-  }
+  no_call n none = no_calls Done a refl refl (ap (λ (k : ℕ). waited k a.disk) (sym none))
 
   pub lacks_early : (n : ℕ) → Calls Undone (Asks n) a a
-  lacks_early n = record {
-    tells = refl;
-    records = refl;
-    place = refl;
-    files = λ _. refl;
-    disk = λ _. (0, omega arith, refl);
-    count = record { later = omega arith; rose = λ e. cc; quiet = λ _. refl };
-  }
+  lacks_early n = no_calls Undone a refl refl (0, omega arith, refl)
 
   pub none_yet : (left total : ℕ) → left ≡ total → Calls Done (AllBut left total) a a
-  none_yet left total all = record {
-    tells = refl;
-    records = refl;
-    place = refl;
-    files = λ _. refl;
-    disk = λ _. (0, omega (arith, all), refl);
-    count = record { later = omega arith; rose = λ e. cc; quiet = λ _. refl };
-  }
+  none_yet left total all = no_calls Done a refl refl (0, omega (arith, all), refl)
 
 pub all_taken : {a b : Seen} (left total : ℕ) → left ≡ 0 → Calls Done (AllBut left total) a b → Calls Done (Asks total) a b
-all_taken {a = a} {b = b} left total none so_far = record {
-  tells = so_far.tells;
-  records = so_far.records;
-  place = so_far.place;
-  files = so_far.files;
-  disk = λ told.
-      let p = so_far.disk told in
-      let sum = p.1 in
-      let whole : p.0 ≡ total = omega (arith, none, sum) in
-      p.2 ∙ ap (λ (k : ℕ). waited k a.disk) whole;
-  count = so_far.count;
-}
+all_taken {a = a} {b = b} left total none so_far = as_calls Done Done refl so_far (λ told same. same) (λ told p. whole_waited left total a.disk b.disk p none)
 
 -- a name that is not valid is not taken, and one that is is taken once
 pub one_if_not : (n : List ℕ) → is_valid_name n ≡ false → one_if_valid n ≡ 0

@@ -1,5 +1,5 @@
 -- What `--make` finds, step by step, and what it makes of the folder.
-use Rattle.std.proofs.Common.{◌≡◌, ◌≤◌, ◌<◌, ℕ, zero, suc, List, length, Bool, true, false, Option, Some, None, refl, sym, ap, subst, ◌∙◌, inl, inr, arith}
+use Rattle.std.proofs.Common.{◌≡◌, ◌≤◌, ◌<◌, ℕ, zero, suc, List, length, Bool, true, false, Option, Some, None, refl, sym, ap, subst, ◌∙◌, ⊎_elim, inl, inr, arith}
 use Rattle.std.specs.Prelude.{Result, Ok, Err, Vec, is_some, is_ok, not, nat_lt, IsErrAnd}
 use Rattle.std.specs.declared.alloc.Global.{Global}
 use Rattle.std.specs.FinMap.{keys, remove}
@@ -9,7 +9,6 @@ use Rattle.pl_base.specs.Answers.{unless, because, ◌>>=◌}
 use Rattle.pl_base.specs.Counts.{Counted}
 use Rattle.pl_base.specs.Files.{Files}
 use Rattle.pl_base.specs.Names.{is_valid_name}
-use Rattle.pl_base.proofs.CountLaws.{counted_then}
 use Rattle.pl_io.specs.Reads.{HasMore, StopsReading, TookAtMost, UnlessFailed}
 use Rattle.pl_io.specs.Seen.{HasReadAll, Input}
 use Rattle.pl_io.specs.declared.read_fault.ReadFault.{ReadFault}
@@ -18,7 +17,7 @@ use Rattle.pl_folder.specs.Calls.{Calls, IsPlain}
 use Rattle.pl_folder.specs.Disk.{Disk, clock, waited}
 use Rattle.pl_folder.specs.Effects.{Idles, WaitsFor}
 use Rattle.pl_folder.specs.Replaced.{Replaces, replaced, SameElsewhere}
-use Rattle.pl_folder.specs.Seen.{Seen, Done, Broken, Undone, fault_ending}
+use Rattle.pl_folder.specs.Seen.{Seen, Ending, Done, Broken, Undone, fault_ending, is_broken}
 use Rattle.pl_folder.specs.declared.fault.FolderFault.{FolderFault}
 use Rattle.pl_folder.specs.declared.fault.FolderFault.TheVariants as folder_faults
 use Rattle.pl_folder.specs.declared.writing.TheConstants.{NEW_FILE}
@@ -38,6 +37,7 @@ use Rattle.pl_cli.specs.Outside.{Consumes, ending_of, is_read_fault}
 use Rattle.pl_cli.specs.Stops.{of_fault, of_read_fault, of_recipe_fault, status_of}
 use Rattle.pl_cli.specs.Room.{is_full}
 use Rattle.pl_cli.specs.Words.{bytes_of}
+use Rattle.pl_cli.proofs.CallLemmas.{as_calls, no_calls, then_calls}
 
 -- ---- the recipe's file
 
@@ -116,56 +116,11 @@ fits files name input bytes names valid file are room =
 
 -- ---- at most one call, in which nothing changes
 
-module _ (a : Seen) where
-  none_asked : Calls Done AsksOnce a a
-  none_asked = record {
-    tells = refl;
-    records = refl;
-    place = refl;
-    files = λ _. refl;
-    disk = λ _. (0, omega arith, refl);
-    count = record { later = omega arith; rose = λ e. cc; quiet = λ _. refl };
-  }
-
-  none_asked_lacking : Calls Undone AsksOnce a a
-  none_asked_lacking = record {
-    tells = refl;
-    records = refl;
-    place = refl;
-    files = λ _. refl;
-    disk = λ _. (0, omega arith, refl);
-    count = record { later = omega arith; rose = λ e. cc; quiet = λ _. refl };
-  }
+none_asked : (e : Ending) (a : Seen) → is_broken e ≡ false → Calls e AsksOnce a a
+none_asked e a unbroken = no_calls e a unbroken refl (0, omega arith, refl)
 
 asked_once : {a b : Seen} → Calls Done Idles a b → Calls Done AsksOnce a b
-asked_once call = record {
-  tells = call.tells;
-  records = call.records;
-  place = call.place;
-  files = call.files;
-  disk = λ told. (1, omega arith, call.disk told);
-  count = call.count;
-}
-
-failed_once : {a b : Seen} → Calls Broken Idles a b → Calls Broken AsksOnce a b
-failed_once call = record {
-  tells = call.tells;
-  records = call.records;
-  place = call.place;
-  files = call.files;
-  disk = λ told. elim (call.disk told) [ inl none ↦ (0, omega arith, none) | inr made ↦ (1, omega arith, made) ];
-  count = call.count;
-}
-
-lacked_once : {a b : Seen} → Calls Undone Idles a b → Calls Undone AsksOnce a b
-lacked_once call = record {
-  tells = call.tells;
-  records = call.records;
-  place = call.place;
-  files = call.files;
-  disk = λ told. (0, omega arith, call.disk told);
-  count = call.count;
-}
+asked_once call = as_calls Done Done refl call (λ told same. same) (λ told made. (1, omega arith, made))
 
 -- ---- the file that is to be stored
 
@@ -176,12 +131,12 @@ module _ (name : List ℕ) (valid : is_valid_name name ≡ true) (a : Seen) {lef
     means = λ told. valid_made a.files name (bytes_of left.left) valid ∙ ap (λ (r : Result (List ℕ) Cause). r >>= with_room (keys a.files) name) (found.means told.1);
     recipe = tt;
     needs = λ e. cc;
-    calls = none_asked a;
+    calls = none_asked Done a refl;
     input = found.input;
   }
   stopped_in_recipe stops.Failed found = absurd (true≢false found.folder)
-  stopped_in_recipe stops.InputFailed found = record { means = tt; recipe = tt; needs = λ e. cc; calls = none_asked a; input = found.input }
-  stopped_in_recipe stops.NoMemory found = record { means = tt; recipe = tt; needs = λ e. cc; calls = none_asked_lacking a; input = found.input }
+  stopped_in_recipe stops.InputFailed found = record { means = tt; recipe = tt; needs = λ e. cc; calls = none_asked Done a refl; input = found.input }
+  stopped_in_recipe stops.NoMemory found = record { means = tt; recipe = tt; needs = λ e. cc; calls = none_asked Undone a refl; input = found.input }
 
   module _ (bytes : List ℕ) (found : HasBuilt (Ok bytes) left rest) (b : Seen) where
     has_recipe : HasRecipe left.left
@@ -189,10 +144,10 @@ module _ (name : List ℕ) (valid : is_valid_name name ≡ true) (a : Seen) {lef
 
     -- the folder gave no names
     pub unlisted : (fault : FolderFault) → IsPlain fault → Calls (fault_ending fault) Idles a b → HasMade name (Err (of_fault fault)) a b left rest
-    unlisted folder_faults.Failed plain call = record { means = tt; recipe = tt; needs = λ _. has_recipe; calls = failed_once call; input = found.input }
+    unlisted folder_faults.Failed plain call = record { means = tt; recipe = tt; needs = λ _. has_recipe; calls = as_calls Broken Broken refl call (λ told same. same) (λ told. ⊎_elim (λ none. (0, omega arith, none)) (λ made. (1, omega arith, made))); input = found.input }
     unlisted folder_faults.NotThere plain call = absurd plain
     unlisted folder_faults.TooLarge plain call = absurd plain
-    unlisted folder_faults.NoMemory plain call = record { means = tt; recipe = tt; needs = λ e. cc; calls = lacked_once call; input = found.input }
+    unlisted folder_faults.NoMemory plain call = record { means = tt; recipe = tt; needs = λ e. cc; calls = as_calls Undone Undone refl call (λ told same. same) (λ told none. (0, omega arith, none)); input = found.input }
 
     module _ (names : List (List ℕ)) (listed : a.tells ≡ true → names ≡ keys a.files) (call : Calls Done Idles a b) where
       pub no_room : is_full names name ≡ true → HasMade name (Err (stops.Cause TooManyFiles)) a b left rest
@@ -231,14 +186,7 @@ refused_name name a left invalid =
     let none = bad_name a.files name (bytes_of left.left) invalid in record {
       gives = λ _. ap (make_answer name) none;
       ends = refl;
-      calls = record {
-        tells = refl;
-        records = refl;
-        place = refl;
-        files = λ _. record { refused = λ _. ap is_ok none; all = refl };
-        disk = λ _. (0, omega arith, refl);
-        count = record { later = omega arith; rose = λ e. cc; quiet = λ _. refl };
-      };
+      calls = no_calls Done a refl (record { refused = λ _. ap is_ok none; all = refl }) (0, omega arith, refl);
       needs = λ e. cc;
       input = record { untouched = λ _. refl; tells = refl; most = λ reads _. absurd (true≢false (sym reads ∙ invalid)); count = record { later = omega arith; rose = λ e. cc; quiet = λ _. refl } };
     }
@@ -253,14 +201,7 @@ module _ (name : List ℕ) (valid : is_valid_name name ≡ true) {a b : Seen} {l
   lacking call read = record {
     gives = tt;
     ends = refl;
-    calls = record {
-      tells = call.tells;
-      records = call.records;
-      place = call.place;
-      files = λ told. unchanged a.files b.files (call.files told);
-      disk = λ told. waits_on a.disk b.disk (call.disk told);
-      count = call.count;
-    };
+    calls = as_calls Undone Undone refl call (λ told. unchanged a.files b.files) (λ told. waits_on a.disk b.disk);
     needs = λ e. cc;
     input = read_so name valid false read;
   }
@@ -270,42 +211,21 @@ module _ (name : List ℕ) (valid : is_valid_name name ≡ true) {a b : Seen} {l
   stopped_before (stops.Cause cause) found = record {
     gives = λ told. ap (make_answer name) (found.means (told.files valid, told.input valid));
     ends = refl;
-    calls = record {
-      tells = found.calls.tells;
-      records = found.calls.records;
-      place = found.calls.place;
-      files = λ tells. record { refused = λ told. ap is_ok (found.means (tells, told)); all = found.calls.files tells };
-      disk = found.calls.disk;
-      count = found.calls.count;
-    };
+    calls = as_calls Done Done refl found.calls (λ tells same. record { refused = λ told. ap is_ok (found.means (tells, told)); all = same }) (λ told some. some);
     needs = λ e. cc;
     input = read_so name valid false found.input;
   }
   stopped_before stops.Failed found = record {
     gives = tt;
     ends = valid;
-    calls = record {
-      tells = found.calls.tells;
-      records = found.calls.records;
-      place = found.calls.place;
-      files = λ told. inl (unchanged a.files b.files (found.calls.files told));
-      disk = λ told. waits_on a.disk b.disk (found.calls.disk told);
-      count = found.calls.count;
-    };
+    calls = as_calls Broken Broken refl found.calls (λ told same. inl (unchanged a.files b.files same)) (λ told. waits_on a.disk b.disk);
     needs = found.needs;
     input = read_so name valid false found.input;
   }
   stopped_before stops.InputFailed found = record {
     gives = tt;
     ends = valid;
-    calls = record {
-      tells = found.calls.tells;
-      records = found.calls.records;
-      place = found.calls.place;
-      files = found.calls.files;
-      disk = found.calls.disk;
-      count = found.calls.count;
-    };
+    calls = as_calls Done Done refl found.calls (λ told same. same) (λ told some. some);
     needs = λ e. cc;
     input = read_so name valid true found.input;
   }
@@ -314,25 +234,11 @@ module _ (name : List ℕ) (valid : is_valid_name name ≡ true) {a b : Seen} {l
   module _ (bytes : List ℕ) (found : HasMade name (Ok bytes) a b left rest) where
     -- there was no memory for the line
     pub unsaid : Came (Some (commands.Make name)) (Err stops.NoMemory) a b left rest
-    unsaid = lacking
-        (record {
-          tells = found.calls.tells;
-          records = found.calls.records;
-          place = found.calls.place;
-          files = found.calls.files;
-          disk = found.calls.disk;
-          count = found.calls.count;
-        }) found.input
+    unsaid = lacking (as_calls Done Undone refl found.calls (λ told same. same) (λ told some. some)) found.input
 
     module _ (c : Seen) where
-      later : (failed : Bool) → Counted failed b.faults c.faults → Counted failed a.faults c.faults
-      later failed more = counted_then failed a.faults b.faults c.faults found.calls.count more
-
-      clock_on : a.records ≡ true → clock b.disk ≤ clock c.disk → clock a.disk ≤ clock c.disk
-      clock_on told more = let first = waits_on a.disk b.disk (found.calls.disk told) in omega (arith, first, more)
-
-      kept : a.tells ≡ true → SameElsewhere b.files c.files → SameElsewhere a.files c.files
-      kept told same = same ∙ unchanged a.files b.files (found.calls.files told)
+      on : WaitsFor 1 Undone a.disk b.disk → clock b.disk ≤ clock c.disk → clock a.disk ≤ clock c.disk
+      on some more = let first = waits_on a.disk b.disk some in omega (arith, first, more)
 
       has_file : a.tells ≡ true → c.files ≡ replaced b.files name bytes → HasFile name left.left a.files c.files
       has_file tells stored = record {
@@ -347,14 +253,8 @@ module _ (name : List ℕ) (valid : is_valid_name name ≡ true) {a b : Seen} {l
       unstored folder_faults.Failed plain call = record {
         gives = tt;
         ends = valid;
-        calls = record {
-          tells = call.tells ∙ found.calls.tells;
-          records = call.records ∙ found.calls.records;
-          place = call.place ∙ found.calls.place;
-          files = λ told. elim (call.files (found.calls.tells ∙ told)) [ inl same ↦ inl (kept told same) | inr stored ↦ inr (has_file told stored) ];
-          disk = λ told. clock_on told (call.disk (found.calls.records ∙ told));
-          count = later true call.count;
-        };
+        calls = then_calls Broken Broken refl found.calls call
+            (λ told same. ⊎_elim (λ left_out. inl (left_out ∙ unchanged a.files b.files same)) (λ stored. inr (has_file told stored))) (λ told. on);
         needs = λ _. found.recipe;
         input = read_so name valid false found.input;
       }
@@ -363,14 +263,7 @@ module _ (name : List ℕ) (valid : is_valid_name name ≡ true) {a b : Seen} {l
       unstored folder_faults.NoMemory plain call = record {
         gives = tt;
         ends = refl;
-        calls = record {
-          tells = call.tells ∙ found.calls.tells;
-          records = call.records ∙ found.calls.records;
-          place = call.place ∙ found.calls.place;
-          files = λ told. kept told (call.files (found.calls.tells ∙ told));
-          disk = λ told. clock_on told (call.disk (found.calls.records ∙ told));
-          count = later false call.count;
-        };
+        calls = then_calls Undone Undone refl found.calls call (λ told same left_out. left_out ∙ unchanged a.files b.files same) (λ told. on);
         needs = λ e. cc;
         input = read_so name valid false found.input;
       }
@@ -380,14 +273,7 @@ module _ (name : List ℕ) (valid : is_valid_name name ≡ true) {a b : Seen} {l
       was_stored text is call = record {
         gives = λ told. ap (make_answer name) (found.means (told.files valid, told.input valid)) ∙ ap done (sym is);
         ends = refl;
-        calls = record {
-          tells = call.tells ∙ found.calls.tells;
-          records = call.records ∙ found.calls.records;
-          place = call.place ∙ found.calls.place;
-          files = λ told. has_file told (call.files (found.calls.tells ∙ told));
-          disk = λ told. clock_on told (call.disk (found.calls.records ∙ told));
-          count = later false call.count;
-        };
+        calls = then_calls Done Done refl found.calls call (λ told same stored. has_file told stored) (λ told. on);
         needs = λ e. cc;
         input = read_so name valid false found.input;
       }

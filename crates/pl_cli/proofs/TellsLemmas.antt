@@ -6,7 +6,16 @@ use Rattle.pl_base.proofs.TellsLaws.{ok_tells, err_tells, unless_tells, then_tel
 use Rattle.pl_build.specs.Build.{build}
 use Rattle.pl_loader.proofs.TellsLaws.{load_tells}
 use Rattle.pl_cli.specs.declared.cause.Cause.TheVariants as causes
-use Rattle.pl_cli.specs.Load.{is_memory, valid_file, of_file, file_in, loaded}
+use Rattle.std.specs.Prelude.{Result, Ok, Err}
+use Rattle.pl_folder.specs.Taken.{taken}
+use Rattle.pl_folder.specs.declared.fault.FolderFault.{FolderFault}
+use Rattle.pl_folder.specs.declared.fault.FolderFault.TheVariants as folder_faults
+use Rattle.pl_cache.specs.Reading.{read}
+use Rattle.pl_elf.specs.declared.range.Range.{Range}
+use Rattle.pl_words.specs.declared.command.Policy.{Policy}
+use Rattle.pl_cli.specs.declared.print.TheConstants.{CACHE}
+use Rattle.pl_cli.specs.Print.{bad_cache, cache_in, cache_of, no_cache, print_text, printed}
+use Rattle.pl_cli.specs.Load.{choice, is_memory, valid_file, of_file, file_in, loaded}
 use Rattle.pl_cli.specs.Make.{recipe_cause, built, made}
 
 -- ---- `--load`
@@ -19,9 +28,22 @@ file_tells : (files : Files) (name : List ℕ) → Tells is_memory (file_in file
 unfolding file_in
 file_tells files name = looked_up_tells name (valid_file files name)
 
-pub loaded_tells : (files : Files) (name : List ℕ) → Tells is_memory (loaded files name)
+pub loaded_tells : (policy : Policy) (busy : Option Range) (files : Files) (name : List ℕ) → Tells is_memory (loaded policy busy files name)
 unfolding loaded
-loaded_tells files name = unless_tells is_memory _ _ _ refl (load_tells causes.Load is_memory (file_in files) name (λ f t. t) (file_tells files))
+loaded_tells policy busy files name = unless_tells is_memory _ _ _ refl (load_tells (choice policy) busy causes.Load is_memory (file_in files) name (λ f t. t) (file_tells files))
+
+-- ---- `-p`
+
+cache_tells : (file : Result (List ℕ) FolderFault) → Tells is_memory (cache_of file)
+cache_tells (Ok bytes) = cause_tells is_memory bad_cache (read bytes) (λ e. refl)
+cache_tells (Err folder_faults.NotThere) = ok_tells is_memory no_cache
+cache_tells (Err folder_faults.TooLarge) = err_tells _ is_memory _ refl
+cache_tells (Err folder_faults.Failed) = err_tells _ is_memory _ refl
+cache_tells (Err folder_faults.NoMemory) = err_tells _ is_memory _ refl
+
+pub printed_tells : (files : Files) → Tells is_memory (printed files)
+unfolding printed cache_in
+printed_tells files = then_tells is_memory (cache_in files) _ (cache_tells (taken files CACHE.now)) (λ cache. ok_tells is_memory (print_text cache))
 
 -- ---- `--make`
 

@@ -10,19 +10,22 @@ use Rattle.pl_folder.specs.Disk.{Disk, clock}
 use Rattle.pl_folder.specs.Effects.{Asks, Effect, SameFiles, WaitsFor}
 use Rattle.pl_folder.specs.Replaced.{replaced, SameElsewhere}
 use Rattle.pl_folder.specs.Seen.{Seen, Undone, is_broken}
-use Rattle.pl_loader.specs.Loading.{Loading}
+use Rattle.pl_elf.specs.declared.range.Range.{Range}
+use Rattle.pl_loader.specs.Loading as loading
+use Rattle.pl_words.specs.declared.command.Policy.{Policy}
 use Rattle.pl_loader.specs.Started.{Start, started}
 use Rattle.pl_cli.specs.declared.cause.Cause.{Cause}
 use Rattle.pl_cli.specs.declared.cause.Cause.TheVariants as causes
 use Rattle.pl_cli.specs.declared.command.Command.{Command}
-use Rattle.pl_cli.specs.declared.command.Command.TheVariants.{Load, Make}
+use Rattle.pl_cli.specs.declared.command.Command.TheVariants.{Load, Make, Print}
 use Rattle.pl_cli.specs.declared.status.Status.{Status}
 use Rattle.pl_cli.specs.declared.status.Status.TheVariants as statuses
 use Rattle.pl_cli.specs.declared.stop.Stop.{Stop}
 use Rattle.pl_cli.specs.declared.stop.Stop.TheVariants as stops
 use Rattle.pl_cli.specs.Answer.{Answer, IsTold, answer, done, refuses}
-use Rattle.pl_cli.specs.Load.{file_in, loaded, takes}
+use Rattle.pl_cli.specs.Load.{choice, file_in, loaded, takes}
 use Rattle.pl_cli.specs.Make.{HasRecipe, built, made}
+use Rattle.pl_cli.specs.Print.{printed}
 use Rattle.pl_cli.specs.Outside.{Consumes, ending_of, is_read_fault, may_end}
 use Rattle.pl_cli.specs.Stops.{Means, Stops, status_of}
 use Rattle.pl_cli.specs.Words.{bytes_of, reads_input}
@@ -67,14 +70,16 @@ MakesMoments statuses.NoMemory old new = clock old ≤ clock new
 
 abbrev pub Makes : Option Command → Files → Option (List ℕ) → Status → Effect
 Makes None files input status = Asks 0
-Makes (Some (Load name)) files input status = Asks (takes files name)
+Makes (Some (Load name busy policy)) files input status = Asks (takes files name)
 Makes (Some (Make name)) files input status = record { files = λ ending. MakesFile name input status; disk = λ ending. MakesMoments status }
+Makes (Some Print) files input status = Asks 1
 
 -- what comes before the folder can fail
 abbrev pub NeedsFirst : Option Command → Option (List ℕ) → Type 0
 NeedsFirst None input = ⊤
-NeedsFirst (Some (Load name)) input = ⊤
+NeedsFirst (Some (Load name busy policy)) input = ⊤
 NeedsFirst (Some (Make name)) input = HasRecipe input
+NeedsFirst (Some Print) input = ⊤
 
 -- ---- `--load`
 
@@ -85,14 +90,22 @@ pub record HasTaken (name : List ℕ) (result : Result (Vec ℕ Global) Stop) (o
   pub calls : Calls (ending_of (status_of result)) (Asks (count_by is_valid_name (name ∷ []))) old new
 
 -- a load that was given its files means what they start, and a cause is the first one
-abbrev pub Loads : Type 0 → Result Start Cause → Result Loading Stop → Type 0
-Loads told meant (Ok l) = told → meant ≡ because causes.Load (started l.files)
-Loads told meant (Err stop) = Stops told meant stop
+abbrev pub Loads : {F : Type 0} → Policy → Option Range → Type 0 → Result Start Cause → Result (loading.Load F) Stop → Type 0
+Loads policy busy told meant (Ok l) = told → meant ≡ because causes.Load (started (choice policy) busy l.walk.files)
+Loads policy busy told meant (Err stop) = Stops told meant stop
 
-pub record HasLoaded (name : List ℕ) (result : Result Loading Stop) (old new : Seen) : Type 0 where
-  pub loads : Loads (is_valid_name name ≡ true → old.tells ≡ true) (loaded old.files name) result
-  pub ends : may_end (Some (Load name)) (status_of result) ≡ true
+pub record HasLoaded {F : Type 0} (name : List ℕ) (busy : Option Range) (policy : Policy) (result : Result (loading.Load F) Stop) (old new : Seen) : Type 0 where
+  pub loads : Loads policy busy (is_valid_name name ≡ true → old.tells ≡ true) (loaded policy busy old.files name) result
+  pub ends : may_end (Some (Load name busy policy)) (status_of result) ≡ true
   pub calls : Calls (ending_of (status_of result)) (Asks (takes old.files name)) old new
+
+-- ---- `-p`
+
+-- the text of the cache, or why there is none
+pub record HasPrinted (result : Result (Vec ℕ Global) Stop) (old new : Seen) : Type 0 where
+  pub means : Means (old.tells ≡ true) (printed old.files) (λ text. text.items) result
+  pub reads : is_read_fault (status_of result) ≡ false
+  pub calls : Calls (ending_of (status_of result)) (Asks 1) old new
 
 -- ---- `--make`
 

@@ -4,6 +4,7 @@ pub mod Room
 pub mod Load
 pub mod LoadText
 pub mod Make
+pub mod Print
 pub mod Refusals
 pub mod Answer
 pub mod Stops

@@ -1,15 +1,21 @@
 -- What a program of a folder's files starts from, or the first cause why it does not.
-use Rattle.std.specs.Prelude.{ℕ, zero, suc, Bool, false, not, List, [], ◌∷◌, length, count_by, nat_lt, Option, Some, None, Result, Ok, Err, if◌then◌else◌}
+use Rattle.std.specs.Prelude.{◌≡◌, ℕ, zero, suc, Bool, false, not, List, [], ◌∷◌, length, count_by, nat_lt, Option, Some, None, Result, Ok, Err, if◌then◌else◌}
 use Rattle.std.specs.FinMap.{get}
 use Rattle.pl_base.specs.Answers.{◌>>=◌, because, unless}
 use Rattle.pl_base.specs.Files.{Files}
 use Rattle.pl_base.specs.Names.{is_valid_name}
+use Rattle.pl_elf.specs.declared.range.Range.{Range}
 use Rattle.pl_folder.specs.declared.TheConstants.{STORED}
+use Rattle.pl_place.specs.Policies.{highest, lowest, seeded}
+use Rattle.pl_place.specs.Policy.{Choice}
+use Rattle.pl_words.specs.declared.command.Policy.{Policy}
+use Rattle.pl_words.specs.declared.command.Policy.TheVariants as policies
 use Rattle.pl_scope.specs.Walk as walk
 use Rattle.pl_scope.specs.Walking.{Walking, wants}
 use Rattle.pl_scope.specs.declared.constants.TheConstants.{MAX_MEMBERS}
 use Rattle.pl_loader.specs.Faults as faults
-use Rattle.pl_loader.specs.Started.{Start, load}
+use Rattle.pl_loader.specs.Loading as loading
+use Rattle.pl_loader.specs.Started.{Start, load, started}
 use Rattle.pl_loader.specs.Walk.{object_of, walk_fault}
 use Rattle.pl_loader.specs.declared.fault.LoadFault.TheVariants.{NotThere}
 use Rattle.pl_cli.specs.declared.cause.Cause.{Cause}
@@ -29,10 +35,24 @@ of_file name (Some bytes) = unless (nat_lt STORED (length bytes)) (causes.FileTo
 unfoldable pub file_in : Files → List ℕ → Result (List ℕ) Cause
 file_in files name = of_file name (valid_file files name)
 
+-- a name that is not valid is asked for nowhere
+abbrev pub Unasked : {F : Type 0} → List ℕ → F → F → Type 0
+Unasked name old new = is_valid_name name ≡ false → new ≡ old
+
 -- ---- the load
 
-unfoldable pub loaded : Files → List ℕ → Result Start Cause
-loaded files name = unless (not (is_valid_name name)) causes.BadName (load causes.Load (file_in files) name)
+-- a policy as a function of holes, a span and an alignment
+abbrev pub choice : Policy → Choice
+choice policies.Lowest = lowest
+choice policies.Highest = highest
+choice (policies.Seeded number) = seeded number
+
+unfoldable pub loaded : Policy → Option Range → Files → List ℕ → Result Start Cause
+loaded policy busy files name = unless (not (is_valid_name name)) causes.BadName (load (choice policy) busy causes.Load (file_in files) name)
+
+-- what the files of a load start from by a choice, or the first cause why they do not
+abbrev pub start_by : {F : Type 0} → Choice → loading.Load F → Result Start Cause
+start_by choose l = because causes.Load (started choose l.busy l.walk.files)
 
 -- ---- the files that the walk looks at
 
@@ -71,3 +91,4 @@ is_memory (causes.FileTooLarge name) = false
 is_memory causes.InputTooLarge = false
 is_memory (causes.Recipe number kind) = false
 is_memory causes.TooManyFiles = false
+is_memory causes.BadCache = false

@@ -49,7 +49,7 @@ may_end asked statuses.Refused = is_some asked
 may_end asked statuses.ReadFault = reads_input asked
 may_end asked statuses.WriteFault = true
 may_end asked statuses.DiskFault = asks_folder asked
-may_end asked statuses.NoMemory = is_some asked
+may_end asked statuses.NoMemory = true
 
 -- how a run ended for the folder: it failed, or memory lacked, or neither
 abbrev pub ending_of : Status → Ending

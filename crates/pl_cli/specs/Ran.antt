@@ -1,18 +1,21 @@
 -- What came of a run.
-use Rattle.std.specs.Prelude.{◌≡◌, ℕ, true, false, List, Option, is_some, ⊤}
+use Rattle.std.specs.Prelude.{◌≡◌, ℕ, true, false, List, Option, Some, is_some, ⊤}
 use Rattle.pl_base.specs.Counts.{Counted}
 use Rattle.pl_base.specs.Streams.{got_after, GotPrefix}
-use Rattle.pl_io.specs.Seen.{Output}
+use Rattle.pl_elf.specs.declared.range.Range.{Range}
+use Rattle.pl_io.specs.Seen.{Input, Output}
 use Rattle.pl_folder.specs.Calls.{Calls}
-use Rattle.pl_folder.specs.Seen.{is_broken}
+use Rattle.pl_folder.specs.Seen.{Seen, is_broken}
+use Rattle.pl_words.specs.declared.command.Policy.{Policy}
 use Rattle.pl_cli.specs.declared.command.Command.{Command}
+use Rattle.pl_cli.specs.declared.command.Command.TheVariants.{Load}
 use Rattle.pl_cli.specs.declared.status.Status.{Status}
 use Rattle.pl_cli.specs.declared.status.Status.TheVariants as statuses
 use Rattle.pl_cli.specs.declared.stop.Stop.{Stop}
 use Rattle.pl_cli.specs.declared.stop.Stop.TheVariants as stops
 use Rattle.pl_cli.specs.Answer.{Answer, IsTold, answer, refuses}
 use Rattle.pl_cli.specs.Came.{Makes, NeedsFirst}
-use Rattle.pl_cli.specs.Outside.{Consumes, Outside, ending_of, is_read_fault, is_write_fault, may_end}
+use Rattle.pl_cli.specs.Outside.{Consumes, Outside, outside, ending_of, is_read_fault, is_write_fault, may_end}
 use Rattle.pl_cli.specs.Words.{bytes_of, reads_input}
 
 -- ---- what is written
@@ -72,3 +75,7 @@ pub record Ran (asked : Option Command) (w v : Outside) (status : Status) : Type
   -- what is read
   pub input : Consumes (reads_input asked) (is_read_fault status) w.input v.input
   pub output : Counted (is_write_fault status) w.output.faults v.output.faults
+
+-- a run of `--load`, over any input
+abbrev pub RanLoad : List ℕ → Option Range → Policy → Seen → Seen → Output → Output → Status → Type 0
+RanLoad name busy policy a b o p status = (input : Input) → Ran (Some (Load name busy policy)) (outside a input o) (outside b input p) status

@@ -7,7 +7,7 @@ use Rattle.pl_base.specs.Digits.{hex_digit, line}
 use Rattle.pl_loader.specs.declared.fault.LoadFault.{LoadFault}
 use Rattle.pl_loader.specs.declared.fault.LoadFault.TheVariants.{NotThere, Refused, NotProgram, NeededIsProgram, TooMany, TlsTooLarge, NoPlace, Undefined, UndefinedTls, TlsMismatch, CopyOutside, NoMemory}
 use Rattle.pl_cli.specs.declared.cause.Cause.{Cause}
-use Rattle.pl_cli.specs.declared.cause.Cause.TheVariants.{BadName, FileTooLarge, Load, InputTooLarge, Recipe, TooManyFiles}
+use Rattle.pl_cli.specs.declared.cause.Cause.TheVariants.{BadName, FileTooLarge, Load, InputTooLarge, Recipe, TooManyFiles, BadCache}
 use Rattle.pl_cli.specs.declared.symbol_text.TheConstants.{BACKSLASH}
 
 -- ---- a symbol's name. It may have any bytes but 0
@@ -74,3 +74,4 @@ refusal (Load fault) = load_refusal fault
 refusal InputTooLarge = bare (codes "InputTooLarge")
 refusal (Recipe number kind) = refused_recipe number kind
 refusal TooManyFiles = bare (codes "TooManyFiles")
+refusal BadCache = bare (codes "BadCache")

@@ -7,6 +7,8 @@ use Rattle.pl_folder.specs.declared.fault.FolderFault.TheVariants as folder_faul
 use Rattle.pl_loader.specs.Faults.{is_memory}
 use Rattle.pl_loader.specs.declared.fault.LoadFault.{LoadFault}
 use Rattle.pl_loader.specs.declared.fault.LoadFault.TheVariants.{NotThere}
+use Rattle.pl_cache.specs.declared.fault.CacheFault.{CacheFault}
+use Rattle.pl_cache.specs.declared.fault.CacheFault.TheVariants as cache_faults
 use Rattle.pl_build.specs.declared.fault.RecipeFault.{RecipeFault}
 use Rattle.pl_build.specs.declared.fault.RecipeFault.TheVariants as recipe_faults
 use Rattle.pl_cli.specs.declared.cause.Cause.{Cause}
@@ -43,6 +45,10 @@ of_read_fault read_faults.NoMemory = stops.NoMemory
 abbrev pub of_recipe_fault : RecipeFault → Stop
 of_recipe_fault (recipe_faults.Bad number kind) = stops.Cause (causes.Recipe number kind)
 of_recipe_fault recipe_faults.NoMemory = stops.NoMemory
+
+abbrev pub of_cache_fault : CacheFault → Stop
+of_cache_fault cache_faults.BadCache = stops.Cause causes.BadCache
+of_cache_fault cache_faults.NoMemory = stops.NoMemory
 
 -- ---- what a stop means
 

@@ -1,44 +1,48 @@
 -- What the words after the program's name ask for, and what that may ask of the outside.
-use Rattle.std.specs.Prelude.{◌≡◌, ℕ, Bool, true, false, not, List, [], ◌∷◌, codes, Option, Some, None, is_some, Result, Ok, Err, nat_eq, if◌then◌else◌, unwrap_or}
-use Rattle.std.specs.List.{starts_with}
-use Rattle.std.specs.Str.{bytes_eq}
+use Rattle.std.specs.Prelude.{◌≡◌, ℕ, Bool, true, false, ⊤, List, [], Option, Some, None, Result, Ok, Err, unwrap_or}
 use Rattle.pl_base.specs.Names.{is_valid_name}
+use Rattle.pl_words.specs.Table.{read}
+use Rattle.pl_words.specs.declared.command.Command as words
+use Rattle.pl_words.specs.declared.command.Command.TheVariants as word
+use Rattle.pl_words.specs.declared.fault.WordsFault.{WordsFault}
+use Rattle.pl_words.specs.declared.fault.WordsFault.TheVariants.{Usage, NoMemory}
 use Rattle.pl_cli.specs.declared.command.Command.{Command}
-use Rattle.pl_cli.specs.declared.command.Command.TheVariants.{Load, Make}
-use Rattle.pl_cli.specs.declared.words_fault.WordsFault.{WordsFault}
-use Rattle.pl_cli.specs.declared.words_fault.WordsFault.TheVariants.{Usage, NoMemory}
+use Rattle.pl_cli.specs.declared.command.Command.TheVariants.{Load, Make, Print}
 
--- a mode and the name that it is given
-unfoldable pub command_of : List ℕ → List ℕ → Option Command
-command_of word name =
-    if bytes_eq word (codes "--load") then Some (Load name)
-    else if bytes_eq word (codes "--make") then Some (Make name) else None
+-- the commands that are there. The words of another ask for nothing
+abbrev pub there : words.Command → Option Command
+there (word.Load name busy policy) = Some (Load name busy policy)
+there (word.Make name) = Some (Make name)
+there word.Print = Some Print
+there _ = None
 
-abbrev pub begins_with_dash : List ℕ → Bool
-begins_with_dash name = starts_with nat_eq name (codes "-")
+abbrev pub if_read : Result words.Command WordsFault → Option Command
+if_read (Ok asked) = there asked
+if_read (Err fault) = None
 
--- exactly two words, a mode and a name; a name does not begin with `-`
+-- what words ask for, by the table of commands
 unfoldable pub command : List (List ℕ) → Option Command
-command (word ∷ name ∷ []) = if not (begins_with_dash name) then command_of word name else None
-command words = None
+command ws = if_read (read ws)
 
--- what was read of words; of those that are no command memory is never wanted
+-- what was read of words, unless there was no memory
 abbrev pub Reads : Option Command → Result Command WordsFault → Type 0
 Reads meant (Ok asked) = meant ≡ Some asked
 Reads meant (Err Usage) = meant ≡ None
-Reads meant (Err NoMemory) = is_some meant ≡ true
+Reads meant (Err NoMemory) = ⊤
 
 -- ---- what a run may ask of the outside. A name that is not valid is refused at once
 
 abbrev pub asks_folder : Option Command → Bool
 asks_folder None = false
-asks_folder (Some (Load name)) = is_valid_name name
+asks_folder (Some (Load name busy policy)) = is_valid_name name
 asks_folder (Some (Make name)) = is_valid_name name
+asks_folder (Some Print) = true
 
 abbrev pub reads_input : Option Command → Bool
 reads_input None = false
-reads_input (Some (Load name)) = false
+reads_input (Some (Load name busy policy)) = false
 reads_input (Some (Make name)) = is_valid_name name
+reads_input (Some Print) = false
 
 -- the bytes of an input, where it tells them
 abbrev pub bytes_of : Option (List ℕ) → List ℕ

@@ -21,4 +21,7 @@ pub enum Cause {
 
     /// The name is new, and the folder has no room for one more.
     TooManyFiles,
+
+    /// The cache's file is none.
+    BadCache,
 }

@@ -32,7 +32,8 @@ fn entry_line(alloc: Global, entry: u64) -> Result<String, AllocError>
 }
 
 fn push_objects(alloc: Global, out: &mut Vec<u8>, objects: &[Placed]) -> Result<(), AllocError>
-    ensures { OnOk result (out.new.items ≡ out.old.items ++ flat_map spec.object_line objects.now) }
+    ensures { OnOk result
+        (out.new.items ≡ out.old.items ++ flat_map spec.object_line objects.now) }
 {
     for object in objects {
         let line = object_line(alloc, object)?;

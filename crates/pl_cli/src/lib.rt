@@ -7,6 +7,7 @@ mod head;
 mod laws;
 mod load;
 mod make;
+mod print;
 mod refusals;
 mod room;
 mod status;
@@ -15,7 +16,6 @@ mod symbol_text;
 mod text;
 mod top;
 mod words;
-mod words_fault;
 mod write;
 mod write_stop;
 

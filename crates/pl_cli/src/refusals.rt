@@ -113,5 +113,6 @@ pub fn refusal(alloc: Global, cause: Cause) -> Result<Vec<u8>, AllocError>
         Cause::InputTooLarge => bare(alloc, "InputTooLarge"),
         Cause::Recipe { number, kind } => refused_recipe(alloc, number, kind),
         Cause::TooManyFiles => bare(alloc, "TooManyFiles"),
+        Cause::BadCache => bare(alloc, "BadCache"),
     }
 }

@@ -3,6 +3,7 @@ ghost use Rattle.pl_cli.specs.declared.stop.Stop.TheVariants as stops;
 
 use crate::cause::Cause;
 use pl_build::RecipeFault;
+use pl_cache::CacheFault;
 use pl_folder::FolderFault;
 use pl_io::{NoMemory, ReadFault};
 use pl_loader::LoadFault;
@@ -74,6 +75,19 @@ impl From<ReadFault> for Stop {
             ReadFault::Failed => Stop::InputFailed,
             ReadFault::TooLarge => Stop::Cause(Cause::InputTooLarge),
             ReadFault::NoMemory => Stop::NoMemory,
+        }
+    }
+}
+
+impl From<CacheFault> for Stop {
+    ghost use Rattle.pl_cli.specs.Stops.{of_cache_fault};
+
+    ghost from_gives = { λ fault stop. stop ≡ of_cache_fault fault };
+
+    fn from(fault: CacheFault) -> Stop {
+        match fault {
+            CacheFault::BadCache => Stop::Cause(Cause::BadCache),
+            CacheFault::NoMemory => Stop::NoMemory,
         }
     }
 }

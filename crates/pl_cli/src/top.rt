@@ -1,28 +1,31 @@
 // The top call and how its parts end.
 ghost use Rattle.std.specs.Prelude.{◌≡◌, None, false, map, string_bytes};
-ghost use Rattle.pl_base.specs.Answers.{because};
+ghost use Rattle.pl_place.specs.Policy as policy;
 ghost use Rattle.pl_scope.specs.Walking.{wants};
-ghost use Rattle.pl_loader.specs.Started as meant;
+ghost use Rattle.pl_words.specs.declared.command.Policy.{Policy};
 ghost use Rattle.pl_cli.specs.Answer.{load_answer};
-ghost use Rattle.pl_cli.specs.declared.cause.Cause.TheVariants as causes;
+ghost use Rattle.pl_cli.specs.Load.{Unasked, choice, start_by};
 ghost use Rattle.pl_cli.specs.Outside.{is_write_fault, outside};
-ghost use Rattle.pl_cli.specs.Ran.{Finishes, Ran, Refuses, Writes};
+ghost use Rattle.pl_cli.specs.Ran.{Finishes, Ran, RanLoad, Refuses, Writes};
 ghost use Rattle.pl_cli.specs.Words.{asks_folder, command, reads_input};
 
 use crate::Status;
 use crate::command::Command;
 use crate::load::{load, start};
 use crate::make::make;
+use crate::print::print;
 use crate::refusals::refusal;
 use crate::stop::Stop;
 use crate::text::USAGE;
 use crate::words::read_words;
-use crate::words_fault::WordsFault;
 use crate::write::write_start;
 use crate::write_stop::WriteStop;
+use pl_elf::Range;
 use pl_folder::Folder;
 use pl_io::{Sink, Source, write_all};
 use pl_loader::Loader;
+use pl_place::{Holes, Placer, highest, lowest, seeded};
+use pl_words::{Policy, WordsFault};
 use std::alloc::Global;
 
 /// Writes a whole text and ends so, or with a fault of the output.
@@ -53,9 +56,16 @@ fn refuse<K: Sink>(alloc: Global, stop: Stop, output: &mut K) -> Status
 }
 
 /// Writes what a program starts from whose files were all given, or the line of the first cause why it does not.
-fn start_and_write<K: Sink>(alloc: Global, loader: &Loader, output: &mut K) -> Status
-    requires { wants loader.now.order ≡ None }
-    ensures { Writes (load_answer (because causes.Load (meant.started loader.now.files))) result
+fn start_and_write<K: Sink, F: Fn(&Holes, u64, u64) -> Option<u64>>(
+    alloc: Global,
+    loader: &Loader<'_, F>,
+    output: &mut K,
+) -> Status
+    requires may { policy.MayChoose (F.pre loader.now.policy) }
+    requires chooses { policy.Chooses (F.post loader.now.policy) }
+    requires given { wants loader.now.walk.order ≡ None }
+    ensures { (choose : policy.Choice) → policy.Follows (F.post loader.now.policy) choose →
+        Writes (load_answer (start_by choose loader.now)) result
         (K.seen output.old) (K.seen output.new) }
 {
     match start(alloc, loader) {
@@ -65,6 +75,63 @@ fn start_and_write<K: Sink>(alloc: Global, loader: &Loader, output: &mut K) -> S
             Err(WriteStop::NoMemory) => Status::NoMemory,
         },
         Err(stop) => refuse(alloc, stop, output),
+    }
+}
+
+/// Loads a program with its libraries where a placer says, and writes what it starts from, or the line of the first cause why it does not.
+fn load_placed<D: Folder, K: Sink, F: Fn(&Holes, u64, u64) -> Option<u64>>(
+    alloc: Global,
+    folder: &mut D,
+    output: &mut K,
+    name: &str,
+    busy: Option<Range>,
+    placer: &Placer<F>,
+) -> Status
+    requires may { policy.MayChoose (F.pre placer.now) }
+    requires chooses { policy.Chooses (F.post placer.now) }
+    ensures ran { (asked : Policy) → policy.Follows (F.post placer.now) (choice asked) →
+        RanLoad name.now busy asked (D.seen folder.old) (D.seen folder.new)
+        (K.seen output.old) (K.seen output.new) result }
+    ensures unasked { Unasked name.now folder.old folder.new }
+{
+    match load(alloc, folder, name, busy, placer) {
+        Ok(loader) => start_and_write(alloc, &loader, output),
+        Err(stop) => refuse(alloc, stop, output),
+    }
+}
+
+/// Loads a program with its libraries where the policy says.
+fn load_and_write<D: Folder, K: Sink>(
+    alloc: Global,
+    folder: &mut D,
+    output: &mut K,
+    name: &str,
+    busy: Option<Range>,
+    policy: Policy,
+) -> Status
+    ensures ran { RanLoad name.now busy policy (D.seen folder.old) (D.seen folder.new)
+        (K.seen output.old) (K.seen output.new) result }
+    ensures unasked { Unasked name.now folder.old folder.new }
+{
+    match policy {
+        Policy::Lowest => {
+            let placer = Placer::new(|holes: &Holes, span: u64, align: u64| lowest(
+                holes, span, align,
+            ));
+            load_placed(alloc, folder, output, name, busy, &placer)
+        }
+        Policy::Highest => {
+            let placer = Placer::new(|holes: &Holes, span: u64, align: u64| highest(
+                holes, span, align,
+            ));
+            load_placed(alloc, folder, output, name, busy, &placer)
+        }
+        Policy::Seeded(number) => {
+            let placer = Placer::new(|holes: &Holes, span: u64, align: u64| seeded(
+                number, holes, span, align,
+            ));
+            load_placed(alloc, folder, output, name, busy, &placer)
+        }
     }
 }
 
@@ -89,11 +156,14 @@ pub fn run<D: Folder, S: Source, K: Sink>(
         input.new ≡ input.old }
 {
     match read_words(alloc, words) {
-        Ok(Command::Load { name }) => match load(alloc, folder, name.as_str()) {
-            Ok(loader) => start_and_write(alloc, &loader, output),
+        Ok(Command::Load { name, busy, policy }) => {
+            load_and_write(alloc, folder, output, name.as_str(), busy, policy)
+        }
+        Ok(Command::Make { name }) => match make(alloc, name.as_str(), folder, input) {
+            Ok(text) => finish(output, &text, Status::Done),
             Err(stop) => refuse(alloc, stop, output),
         },
-        Ok(Command::Make { name }) => match make(alloc, name.as_str(), folder, input) {
+        Ok(Command::Print) => match print(alloc, folder) {
             Ok(text) => finish(output, &text, Status::Done),
             Err(stop) => refuse(alloc, stop, output),
         },

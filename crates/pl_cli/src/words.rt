@@ -2,43 +2,31 @@ ghost use Rattle.std.specs.Prelude.{◌≡◌, map, string_bytes};
 ghost use Rattle.pl_cli.specs.Words as spec;
 
 use crate::command::Command;
-use crate::words_fault::WordsFault;
-use pl_base::Text;
+use pl_words::WordsFault;
 use std::alloc::Global;
 
-fn begins_with_dash(name: &str) -> bool
-    ensures { result ≡ spec.begins_with_dash name.now }
+/// A command that is there.
+fn there(command: pl_words::Command) -> Option<Command>
+    ensures { result ≡ spec.there command }
 {
-    name.as_bytes().starts_with(b"-")
+    match command {
+        pl_words::Command::Load { name, busy, policy } => {
+            Some(Command::Load { name, busy, policy })
+        }
+        pl_words::Command::Make { name } => Some(Command::Make { name }),
+        pl_words::Command::Print => Some(Command::Print),
+        _ => None,
+    }
 }
 
-/// What a word and a name ask for.
-#[tactic(auto, unfolding(crate::specs::Words::command_of))]
-fn command_of(alloc: Global, word: &str, name: &str) -> Result<Command, WordsFault>
-    ensures { spec.Reads (spec.command_of word.now name.now) result }
-{
-    if word == "--load" {
-        return Ok(Command::Load {
-            name: Text::copy_of(alloc, name)?,
-        });
-    }
-    if word == "--make" {
-        return Ok(Command::Make {
-            name: Text::copy_of(alloc, name)?,
-        });
-    }
-    Err(WordsFault::Usage)
-}
-
-/// What the words `MODE NAME` ask for. Other words are no command, for which memory is never wanted.
+/// What the words ask for. The words of a command that is not there ask for nothing.
 #[tactic(auto, unfolding(crate::specs::Words::command))]
 pub fn read_words(alloc: Global, words: &[String]) -> Result<Command, WordsFault>
     ensures { spec.Reads (spec.command (map string_bytes words.now)) result }
 {
-    match words {
-        [word, name] if !begins_with_dash(name.as_str()) => {
-            command_of(alloc, word.as_str(), name.as_str())
-        }
-        _ => Err(WordsFault::Usage),
+    let command = pl_words::read_words(alloc, words)?;
+    match there(command) {
+        Some(command) => Ok(command),
+        None => Err(WordsFault::Usage),
     }
 }

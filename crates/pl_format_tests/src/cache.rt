@@ -77,3 +77,28 @@ fn reads_the_most_rows(rt: HostRuntime) -> Result<(), Fail> {
     assert!(rt; matches!(read_cache(alloc, &bytes), Err(CacheFault::BadCache)));
     Ok(())
 }
+
+/// Two slots of one page, `a` and `b`, with one address and so with the second magic.
+const SHARED: [u8; 52] = [
+    0x50, 0x4c, 0x43, 0x41, 0x43, 0x48, 0x45, 0x32, 0, 0, 0, 0, 2, 0, 0, 0, 1, 0x61, 0, 0, 0, 0,
+    0x30, 0, 0, 0, 0, 0x10, 0, 0, 0, 0, 0, 0, 1, 0x62, 0, 0, 0, 0, 0x30, 0, 0, 0, 0, 0x10, 0, 0, 0,
+    0, 0, 0,
+];
+
+#[test]
+fn tells_shared_addresses_by_the_magic(rt: HostRuntime) -> Result<(), Fail> {
+    let alloc = rt.alloc();
+    let cache = read_cache(alloc, &SHARED)?;
+    assert!(rt; cache.rows.len() == 2);
+    assert!(rt; is_cache(&cache));
+    assert!(rt; write_cache(alloc, &cache).as_deref() == Ok(SHARED.as_slice()));
+    let mut other = SHARED;
+    other[7] = b'1';
+    assert!(rt; matches!(read_cache(alloc, &other), Err(CacheFault::BadCache)));
+    other = SHARED;
+    other[37] = 0x10;
+    assert!(rt; matches!(read_cache(alloc, &other), Err(CacheFault::BadCache)));
+    other[7] = b'1';
+    assert!(rt; read_cache(alloc, &other).is_ok());
+    Ok(())
+}

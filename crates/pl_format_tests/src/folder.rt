@@ -128,7 +128,7 @@ fn change(alloc: Global, folder: &mut MemoryFolder) -> Result<(), FolderFault> {
     Ok(())
 }
 
-type Listed = &'static [(&'static str, &'static [u8])];
+pub(crate) type Listed = &'static [(&'static str, &'static [u8])];
 
 /// What a read gives after so many of the calls.
 const READS: [Listed; 8] = [
@@ -178,7 +178,11 @@ const IMAGES: [(u64, u64, Listed); 19] = [
 ];
 
 /// Whether the folder has exactly these files.
-fn has(alloc: Global, folder: &mut MemoryFolder, files: Listed) -> Result<bool, FolderFault> {
+pub(crate) fn has(
+    alloc: Global,
+    folder: &mut MemoryFolder,
+    files: Listed,
+) -> Result<bool, FolderFault> {
     let names = folder.names(alloc)?;
     if names.len() != files.len() {
         return Ok(false);

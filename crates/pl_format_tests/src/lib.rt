@@ -16,11 +16,15 @@ mod hash;
 #[cfg(test)]
 mod io;
 #[cfg(test)]
+mod journal;
+#[cfg(test)]
 mod lists;
 #[cfg(test)]
 mod place;
 #[cfg(test)]
 mod relr;
+#[cfg(test)]
+mod share;
 #[cfg(test)]
 mod slots;
 #[cfg(test)]

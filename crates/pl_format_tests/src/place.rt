@@ -4,7 +4,7 @@ ghost use Rattle.pl_place.specs.Placing.{IsWant};
 
 use pl_base::Text;
 use pl_elf::Range;
-use pl_place::{Holes, PlaceFault, Placer, highest, lowest, place_all, place_lowest, seeded};
+use pl_place::{Holes, PlaceFault, Placer, highest, lowest, place_all, seeded};
 use pl_slots::{Want, region_holes};
 use std::alloc::{AllocError, Global};
 use std::process::Abort;
@@ -76,17 +76,29 @@ fn chooses_places(rt: HostRuntime) -> Result<(), AllocError> {
     Ok(())
 }
 
-/// The end of a hole, a span and an alignment with at most one place, and that place.
-const ALONE: [(u64, u64, u64, Option<u64>); 3] = [
-    (0x30_0010_1000, 0x10_1000, 0x1000, Some(START)),
-    (0x30_0010_0000, 0x10_1000, 0x1000, None),
-    (0x30_0030_0000, 0x10_1000, 0x20_0000, Some(START)),
+/// No addresses.
+const NOTHING: Range = Range {
+    start: START,
+    end: START,
+};
+
+/// What is between two holes.
+const BETWEEN: Range = Range {
+    start: 0x30_0030_0000,
+    end: 0x30_0040_0000,
+};
+
+/// The end of the last hole, what is taken, a span and an alignment with at most one place, and that place.
+const ALONE: [(u64, Range, u64, u64, Option<u64>); 3] = [
+    (0x30_0010_1000, NOTHING, 0x10_1000, 0x1000, Some(START)),
+    (0x30_0010_0000, NOTHING, 0x10_1000, 0x1000, None),
+    (0x30_0050_0000, BETWEEN, 0x10_1000, 0x20_0000, Some(START)),
 ];
 
 #[test]
 fn chooses_the_only_place(rt: HostRuntime) -> Result<(), AllocError> {
-    for (end, span, align, place) in &ALONE {
-        let holes = left(rt.alloc(), to(*end), to(START))?;
+    for (end, taken, span, align, place) in &ALONE {
+        let holes = left(rt.alloc(), to(*end), *taken)?;
         assert!(rt; answers(&holes, *span, *align, 7) == [*place; 3], "{end}");
     }
     Ok(())
@@ -114,7 +126,8 @@ fn places_at_the_lowest(rt: HostRuntime) -> Result<(), PlaceFault> {
         want(alloc, "libb", 0x1000)?,
     ];
     let busy = [to(0x30_0000_1000), to(START)];
-    let starts = place_lowest(alloc, &wants, &busy, to(0x40_0000_0000))?;
+    let low = Placer::new(|holes: &Holes, span: u64, align: u64| lowest(holes, span, align));
+    let starts = place_all(alloc, &low, &wants, &busy, to(0x40_0000_0000))?;
     assert!(rt; starts.as_slice() == [0x30_0000_1000, 0x30_0010_2000].as_slice());
     Ok(())
 }

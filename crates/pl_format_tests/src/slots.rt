@@ -8,7 +8,8 @@ use pl_slots::{
 };
 use std::alloc::{AllocError, Global};
 
-fn want(alloc: Global, name: &str, span: u64) -> Result<Want, AllocError>
+/// What a library of a span wants.
+pub fn want(alloc: Global, name: &str, span: u64) -> Result<Want, AllocError>
     ensures { IfOk result (λ want. 0 < want.align) }
 {
     Ok(Want {
@@ -18,7 +19,8 @@ fn want(alloc: Global, name: &str, span: u64) -> Result<Want, AllocError>
     })
 }
 
-fn slot(alloc: Global, name: &str, start: u64, span: u64) -> Result<Slot, AllocError> {
+/// A row of a cache.
+pub fn slot(alloc: Global, name: &str, start: u64, span: u64) -> Result<Slot, AllocError> {
     Ok(Slot {
         name: Text::copy_of(alloc, name)?,
         start,
@@ -27,7 +29,7 @@ fn slot(alloc: Global, name: &str, start: u64, span: u64) -> Result<Slot, AllocE
 }
 
 /// The addresses from 0x3000000000 up to one.
-fn region(end: u64) -> Range {
+pub fn region(end: u64) -> Range {
     Range {
         start: 0x30_0000_0000,
         end,

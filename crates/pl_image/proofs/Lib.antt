@@ -7,4 +7,5 @@ pub mod RangeLemmas
 pub mod MaskLemmas
 pub mod TouchLemmas
 pub mod ByteLemmas
+pub mod PlainLemmas
 pub mod TextLemmas

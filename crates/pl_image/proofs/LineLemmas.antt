@@ -9,7 +9,7 @@ use Rattle.pl_image.specs.Lines.{byte_in, word_in, word_line, lines_from, IsClea
 -- ---- a word
 
 -- a word depends on its eight bytes
-word_by : (m : Memory) (a d : ℕ) (xs : List ℕ) → ((i : ℕ) → i < 8 → byte_in m (a + i) ≡ slice_index (drop d xs) i) → word_in m a ≡ word64 d xs
+pub word_by : (m : Memory) (a d : ℕ) (xs : List ℕ) → ((i : ℕ) → i < 8 → byte_in m (a + i) ≡ slice_index (drop d xs) i) → word_in m a ≡ word64 d xs
 unfolding word_in word64 read
 word_by m a d xs h =
     let e0 = h 0 (omega arith) in let e1 = h 1 (omega arith) in let e2 = h 2 (omega arith) in let e3 = h 3 (omega arith) in

@@ -59,6 +59,15 @@ starts_rise ps h = λ i j d le within. elim (cases_order i j) [
   ]
 ]
 
+-- no address before the first is in one of them
+pub before_first : (ps : List Piece) (p : Piece) (a : ℕ) → ascends 0 ps ≡ true → p ≡ get_or ps 0 p → a < p.start → list_any (lies a) ps ≡ false
+before_first [] p a h is less = refl
+before_first (x ∷ xs) p a h is less =
+    let first : a < x.start = subst (λ (q : Piece). a < q.start) is less in
+    list_any_none (lies a) (x ∷ xs) (λ k d within.
+    let rise = starts_rise (x ∷ xs) h 0 k d (omega arith) within in
+    grind (arith, nat_tests))
+
 -- no address is in two of them
 pub ascend_apart : (ps : List Piece) → ascends 0 ps ≡ true → AtMostOne lies ps
 ascend_apart ps h = λ i j a d less within hit.
@@ -93,6 +102,26 @@ module _ (ps : List Piece) (a i : ℕ) (h : ascends 0 ps ≡ true) (point : IsPa
 
   pub piece_out : (p : Piece) → 0 < i → i ≤ length ps → p ≡ get_or ps (i - 1) p → lies a p ≡ false → find (lies a) ps ≡ None
   piece_out p some le is miss = piece_found p some le ∙ subst (λ (q : Piece). cond (lies a q) (Some q) None ≡ None) is (rw miss refl)
+
+-- a piece that has an address is found also by another address that it has
+pub same_piece : (from : ℕ) (ps : List Piece) (p : Piece) (a b : ℕ) → ascends from ps ≡ true → find (lies a) ps ≡ Some p → lies b p ≡ true → find (lies b) ps ≡ Some p
+same_piece from [] p a b h found there = absurd (cc)
+same_piece from (x ∷ xs) p a b h found there = elim (cases_Bool (lies a x)) [
+  | inl hit ↦
+      let is : Some x ≡ Some p = rw hit at found in
+      let same : x ≡ p = cc in
+      let here : lies b x ≡ true = ap (lies b) same ∙ there in
+      rw here is
+  | inr miss ↦
+      let rest : find (lies a) xs ≡ Some p = rw miss at found in
+      let f = ascends_parts from x xs h in
+      let none : list_any (λ q. nat_lt q.start (x.start + x.size)) xs ≡ false = list_any_none (λ q. nat_lt q.start (x.start + x.size)) xs (λ k d within.
+      let later = start_later (x.start + x.size) xs k d f.rest within in
+      grind (arith, nat_tests)) in
+      let past : nat_lt p.start (x.start + x.size) ≡ false = find_fails (lies a) (λ q. nat_lt q.start (x.start + x.size)) xs p rest none in
+      let out : lies b x ≡ false = grind (arith, nat_tests) in
+      rw out (same_piece (x.start + x.size) xs p a b f.rest rest there)
+]
 
 -- ---- bytes of files
 

@@ -7,7 +7,7 @@ use Rattle.std.proofs.lemmas.Bool.{and_parts, cases_Bool, cases_order, false≢t
 use Rattle.std.proofs.lemmas.Bool.Decides.{nat_tests}
 use Rattle.std.proofs.Math.Bool.{and-false, or-false}
 use Rattle.std.proofs.lemmas.List.{length-take, length-drop, get_or-take, get_or-drop, take-append-drop}
-use Rattle.std.proofs.lemmas.List.Folds.{list_any-append, list_any_none}
+use Rattle.std.proofs.lemmas.List.Folds.{list_any-append, list_any_none, list_any_at}
 use Rattle.std.proofs.lemmas.List.Sorted.{list_any-IsPermutation, IsPartitionedBy-leb, IsPartitionedBy-ltb, IsNonDecreasingBy-drop}
 use Rattle.pl_elf.specs.declared.range.Range.{Range}
 use Rattle.pl_elf.specs.Ranges.{has}
@@ -80,6 +80,12 @@ module _ (rs : List Range) (a i : ℕ) (h : rises 0 rs ≡ true) (point : IsPart
       grind (arith, nat_tests))
       (λ k d more within. later_miss k d (omega arith) within)
       ∙ rw begun refl
+
+  pub last_inside : (e : Range) (b : ℕ) → 0 < i → i ≤ length rs → a ≤ b → b < (get_or rs (i - 1) e).end → list_any (has b) rs ≡ true
+  last_inside e b some le low high =
+      let begun : nat_le (get_or rs (i - 1) e).start a ≡ true = point.0 (i - 1) e (omega arith) (omega arith) in
+      let here : has b (get_or rs (i - 1) e) ≡ true = grind (arith, nat_tests) in
+      list_any_at (has b) rs (i - 1) e (omega arith) here
 
 -- ---- ranges near addresses
 

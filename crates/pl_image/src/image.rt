@@ -1,4 +1,4 @@
-ghost use Rattle.std.specs.Prelude.{◌≡◌, ◌*◌, ◌/◌, ◌≤◌, ◌<◌, ◌++◌, ◌||◌, fold, true, IfOk, if◌then◌else◌};
+ghost use Rattle.std.specs.Prelude.{◌≡◌, ℕ, ◌+◌, ◌*◌, ◌/◌, ◌≤◌, ◌<◌, ◌++◌, ◌||◌, fold, true, false, IfOk, IfSome, if◌then◌else◌};
 ghost use Rattle.std.specs.List.{list_any};
 ghost use Rattle.pl_base.specs.Memory.{layered};
 ghost use Rattle.pl_image.specs.Image as spec;
@@ -9,8 +9,8 @@ ghost use Rattle.pl_io.specs.Seen.{HasWrittenAll};
 use crate::image_text::{add_word, flush};
 use crate::lines::{Lines, WORDS};
 use crate::masked::masked_ranges;
-use crate::piece::{byte_at, next_stored, piece_at, pieces_end};
-use crate::ranges::any_has;
+use crate::piece::{byte_at, next_stored, piece_at, pieces_begin, pieces_end, stored_word};
+use crate::ranges::{any_has, end_at, near};
 use crate::touched::{Touch, index_patches, next_touched, patched, touching};
 use crate::{Loaded, Patch, Piece};
 use pl_base::word64;
@@ -98,14 +98,46 @@ impl<'a> Image<'a> {
         }
     }
 
-    /// The word of a number of an object with these pieces.
-    #[tactic(auto, unfolding(crate::specs::Lines::word_in, pl_base::specs::Memory::read))]
-    fn word(&self, pieces: &[Piece<'_>], number: u64) -> u64
+    /// Where the masked addresses end that begin with one, which is the address itself where it is not masked.
+    fn masked_end(&self, address: u64) -> u64
+        ensures after { address ≤ result }
+        ensures masked { (a : ℕ) → address ≤ a → a < result → spec.any_masked self.now.objects a ≡ true }
+    {
+        end_at(&self.masked, address)
+    }
+
+    /// Whether no byte of the word of a number is masked.
+    fn is_shown(&self, number: u64) -> bool
+        requires { number < WORDS }
+        ensures { result ≡ true → (a : ℕ) → 8 * number ≤ a → a < 8 * number + 8 → spec.any_masked self.now.objects a ≡ false }
+    {
+        near(&self.masked, 8 * number, 8).len() == 0
+    }
+
+    /// The word of a number of an object with these pieces, where it is one of a file as it stands: no patch touches it, and none of its bytes is masked.
+    fn plain_word(&self, pieces: &[Piece<'_>], touching: &[Touch], number: u64) -> Option<u64>
         requires own { spec.AreOwn self.now pieces.now }
+        requires touching { AreTouching self.now.patches touching.now number }
+        requires limit { number < WORDS }
+        ensures { IfSome result (λ word. word ≡ word_in (spec.own_memory self.now pieces.now) (8 * number)) }
+    {
+        if touching.len() > 0 || !self.is_shown(number) {
+            return None;
+        }
+        match piece_at(pieces, 8 * number) {
+            None => None,
+            Some(piece) => stored_word(piece, 8 * number),
+        }
+    }
+
+    /// The word of a number of an object with these pieces, byte by byte.
+    #[tactic(auto, unfolding(crate::specs::Lines::word_in, pl_base::specs::Memory::read))]
+    fn mixed_word(&self, pieces: &[Piece<'_>], touching: &[Touch], number: u64) -> u64
+        requires own { spec.AreOwn self.now pieces.now }
+        requires touching { AreTouching self.now.patches touching.now number }
         requires limit { number < WORDS }
         ensures { result ≡ word_in (spec.own_memory self.now pieces.now) (8 * number) }
     {
-        let touching = touching(&self.patches, &self.touched, number);
         let address = 8 * number;
         let bytes = [
             self.own_byte(pieces, touching, address),
@@ -120,8 +152,21 @@ impl<'a> Image<'a> {
         word64(&bytes, 0)
     }
 
-    /// A number from one on, up to which the words of an object with these pieces are 0.
-    fn next_word(&self, pieces: &[Piece<'_>], from: u64) -> u64
+    /// The word of a number of an object with these pieces.
+    fn word(&self, pieces: &[Piece<'_>], number: u64) -> u64
+        requires own { spec.AreOwn self.now pieces.now }
+        requires limit { number < WORDS }
+        ensures { result ≡ word_in (spec.own_memory self.now pieces.now) (8 * number) }
+    {
+        let touching = touching(&self.patches, &self.touched, number);
+        match self.plain_word(pieces, touching, number) {
+            Some(word) => word,
+            None => self.mixed_word(pieces, touching, number),
+        }
+    }
+
+    /// The number of the first word from one on with a byte of a file or of a patch, `WORDS` where there is none.
+    fn next_content(&self, pieces: &[Piece<'_>], from: u64) -> u64
         requires own { spec.AreOwn self.now pieces.now }
         requires limit { from ≤ WORDS }
         ensures within { (from ≤ result) × (result ≤ WORDS) }
@@ -129,6 +174,23 @@ impl<'a> Image<'a> {
         ensures found { result < WORDS → (list_any (spec.stores_in result) pieces.now || is_touched self.now.patches result) ≡ true }
     {
         next_stored(pieces, from).min(next_touched(&self.touched, from))
+    }
+
+    /// A number from one on, up to which the words of an object with these pieces are 0. Words that are masked whole are passed over.
+    fn next_word(&self, pieces: &[Piece<'_>], from: u64) -> u64
+        requires own { spec.AreOwn self.now pieces.now }
+        requires limit { from ≤ WORDS }
+        ensures within { (from ≤ result) × (result ≤ WORDS) }
+        ensures clear { IsClear (spec.own_memory self.now pieces.now) (8 * from) (8 * result) }
+        ensures found { result < WORDS → (list_any (spec.stores_in result) pieces.now || is_touched self.now.patches result) ≡ true }
+    {
+        let number = self.next_content(pieces, from);
+        let shown = (self.masked_end(8 * number) / 8).min(WORDS);
+        if number < shown {
+            self.next_content(pieces, shown)
+        } else {
+            number
+        }
     }
 
     /// Adds the lines of an object with these pieces.
@@ -144,7 +206,7 @@ impl<'a> Image<'a> {
             lines.old.items lines.new.items (K.seen sink.old) (K.seen sink.new) }
     {
         let end = pieces_end(pieces);
-        let mut number = self.next_word(pieces, 0);
+        let mut number = self.next_word(pieces, pieces_begin(pieces));
         while number < end {
             add_word(lines, sink, 8 * number, self.word(pieces, number))?;
             number = self.next_word(pieces, number + 1);

@@ -1,12 +1,14 @@
-ghost use Rattle.std.specs.Prelude.{◌≡◌, ℕ, ◌+◌, ◌*◌, ◌/◌, ◌≤◌, ◌<◌, true, false, nat_le, nat_lt};
+ghost use Rattle.std.specs.Prelude.{◌≡◌, ℕ, ◌+◌, ◌-◌, ◌*◌, ◌/◌, ◌≤◌, ◌<◌, true, false, nat_le, nat_lt, IfSome};
 ghost use Rattle.std.specs.List.{find, list_any};
 ghost use Rattle.std.specs.Option.{option_copied};
+ghost use Rattle.pl_base.specs.Bytes.{word64};
 ghost use Rattle.pl_base.specs.Memory as memory;
 ghost use Rattle.pl_elf.specs.declared.constants.TheConstants.{ADDRESS_LIMIT};
 ghost use Rattle.pl_image.specs.Image.{ascends};
 ghost use Rattle.pl_image.specs.Image as spec;
 
 use crate::lines::WORDS;
+use pl_base::word64;
 use std::marker::Model;
 
 /// Bytes of a file from an address on, then zeros up to the size. Contracts see it as a piece of memory.
@@ -71,6 +73,23 @@ fn stored(piece: &Piece<'_>) -> u64
     piece.size.min(piece.bytes.len() as u64)
 }
 
+/// The word at an address, where the piece's file has all its bytes.
+pub fn stored_word(piece: &Piece<'_>, address: u64) -> Option<u64>
+    ensures whole { IfSome result (λ word. (piece.now.start ≤ address) × (address + 8 ≤ piece.now.start + spec.stored piece.now)) }
+    ensures value { IfSome result (λ word. word ≡ word64 (address - piece.now.start) piece.now.bytes) }
+{
+    if address < piece.start {
+        return None;
+    }
+    let at = address - piece.start;
+    let size = stored(piece);
+    if at < size && 8 <= size - at {
+        Some(word64(piece.bytes, at as usize))
+    } else {
+        None
+    }
+}
+
 /// Whether the bytes of a piece's file end at or before an address.
 fn ends_by(piece: &Piece<'_>, address: u64) -> bool
     ensures { result ≡ nat_le (piece.now.start + spec.stored piece.now) address }
@@ -115,6 +134,18 @@ fn end(piece: &Piece<'_>) -> u64
     ensures limit { result ≤ ADDRESS_LIMIT }
 {
     piece.start + piece.size
+}
+
+/// The number of the word in which the first of some pieces begins that ascend; 0 where there is none.
+pub fn pieces_begin(pieces: &[Piece<'_>]) -> u64
+    requires { ascends 0 pieces.now ≡ true }
+    ensures limit { result ≤ WORDS }
+    ensures before { (address : ℕ) → address < 8 * result → list_any (memory.lies address) pieces.now ≡ false }
+{
+    if pieces.is_empty() {
+        return 0;
+    }
+    first_word(&pieces[0])
 }
 
 /// The number of the first word past pieces that ascend.

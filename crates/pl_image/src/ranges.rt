@@ -76,3 +76,16 @@ pub fn any_has(ranges: &[Range], address: u64) -> bool
     }
     address < ranges[after - 1].end
 }
+
+/// Where the range ends that has an address, of ranges that rise; the address itself where none has it.
+pub fn end_at(ranges: &[Range], address: u64) -> u64
+    requires { spec.rises 0 ranges.now ≡ true }
+    ensures after { address ≤ result }
+    ensures inside { (a : ℕ) → address ≤ a → a < result → list_any (has a) ranges.now ≡ true }
+{
+    let after = ranges.partition_point(|range| range.start <= address);
+    if after == 0 {
+        return address;
+    }
+    ranges[after - 1].end.max(address)
+}

@@ -1,15 +1,17 @@
-// The definers that references find. The objects are those of recipes.
+// The walk over needed names, and the definers that references find. The objects are those of recipes.
 ghost use Rattle.std.specs.Prelude.{IfOk};
 ghost use Rattle.std.specs.Bool.{OnTrue};
 ghost use Rattle.std.specs.List.{All};
+ghost use Rattle.indexmap.specs.IndexMap.{values};
 ghost use Rattle.pl_scope.specs.Scope.{objects, IsAccepted, IsSymbol};
 
 use crate::samples::{Change, object_of};
+use indexmap::IndexMap;
 use pl_base::Text;
 use pl_elf::constants::{R_X86_64_COPY, R_X86_64_GLOB_DAT, R_X86_64_JUMP_SLOT};
 use pl_object::Object;
-use pl_scope::{Found, Kept, MAX_MEMBERS, Member, Reference, Scope, find, find_in_lists};
-use std::alloc::Global;
+use pl_scope::{Found, Kept, MAX_MEMBERS, Member, Reference, Scope, find, find_in_lists, walk};
+use std::alloc::{AllocError, Global};
 use std::process::Abort;
 use std::test::Fail;
 
@@ -218,6 +220,83 @@ fn goes_by_versions(rt: HostRuntime) -> Result<(), Fail> {
         let words = [(VERSION_WORDS, 8, words)];
         let samples = [(reference, [].as_slice()), (LIBRARY, words.as_slice())];
         expect(&rt, &samples, (0, 1), R_X86_64_GLOB_DAT, wanted)?;
+    }
+    Ok(())
+}
+
+// Names and their recipes.
+const OBJECTS: [(&str, &str); 12] = [
+    ("q", "program\nneeds libx\nneeds libz\n"),
+    ("libx", "library\n"),
+    ("liby", "library\n"),
+    ("libz", "library\nneeds liby\nneeds libx\n"),
+    ("c", "program\nneeds libm\nneeds c\n"),
+    ("libm", "library\nneeds libn\nneeds libm\n"),
+    ("libn", "library\nneeds libm\nneeds libn\n"),
+    ("st", "static\n"),
+    ("p", "program\nneeds libx\nneeds libp\n"),
+    ("libp", "library\nneeds p\nneeds gone\n"),
+    ("libs", "library\nneeds st\n"),
+    ("libg", "library\nneeds gone\nneeds libp\n"),
+];
+
+// A name, and the names of its walk, or why there is none.
+const WALKS: [(&str, &str); 10] = [
+    ("q", "q libx libz liby "),
+    ("libz", "libz liby libx "),
+    ("c", "c libm libn "),
+    ("libn", "libn libm "),
+    ("st", "st "),
+    ("p", "NeededIsProgram p"),
+    ("libp", "NeededIsProgram p"),
+    ("libs", "NeededIsProgram st"),
+    ("libg", "NotThere gone"),
+    ("gone", "NotThere gone"),
+];
+
+fn by_name(alloc: Global) -> Result<IndexMap<String, Object>, Fail>
+    ensures { IfOk result (λ map. All IsAccepted (values map)) }
+{
+    let mut map = IndexMap::new(alloc);
+    for (name, recipe) in OBJECTS {
+        map.insert(
+            String::from_str(alloc, name)?,
+            object_of(alloc, recipe, &[])?,
+        )?;
+    }
+    Ok(map)
+}
+
+// The names of a scope, each with a blank behind it.
+fn names_of(alloc: Global, scope: &Scope<'_>) -> Result<String, AllocError> {
+    let mut text = String::new(alloc);
+    for member in scope.members() {
+        text.push_str(member.name.as_str())?;
+        text.push_str(" ")?;
+    }
+    Ok(text)
+}
+
+// The names of a walk, or why there is none.
+fn text_of_walk(
+    alloc: Global,
+    name: &str,
+    objects: &IndexMap<String, Object>,
+) -> Result<String, AllocError>
+    requires { All IsAccepted (values objects.now) }
+{
+    match walk(alloc, name, objects) {
+        Ok(scope) => names_of(alloc, &scope),
+        Err(fault) => format!(in alloc; "{fault:?}"),
+    }
+}
+
+#[test]
+fn walks(rt: HostRuntime) -> Result<(), Fail> {
+    let objects = by_name(rt.alloc())?;
+    for (name, wanted) in WALKS {
+        let text = text_of_walk(rt.alloc(), name, &objects)?;
+        assert_eq!(rt; text.as_str(), wanted, "{name}");
     }
     Ok(())
 }

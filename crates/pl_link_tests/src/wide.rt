@@ -10,6 +10,7 @@ use pl_build::build;
 use pl_elf::constants::R_X86_64_GLOB_DAT;
 use pl_loader::{Loader, Started};
 use pl_object::Object;
+use pl_place::{Holes, Placer, lowest};
 use pl_scope::{Kept, MAX_MEMBERS, Member, Reference, Scope};
 use std::alloc::{AllocError, Global};
 use std::process::Abort;
@@ -57,8 +58,13 @@ fn expect_zeros(rt: &impl Abort, started: &Started<'_>) {
 }
 
 // Gives the name that is wanted its file, the program's where it is the first.
-fn give(alloc: Global, loader: &mut Loader, first: bool, files: &[Vec<u8>; 2]) -> Result<(), Fail>
-    requires { IsSome (wants loader.old.order) }
+fn give<F>(
+    alloc: Global,
+    loader: &mut Loader<'_, F>,
+    first: bool,
+    files: &[Vec<u8>; 2],
+) -> Result<(), Fail>
+    requires { IsSome (wants loader.old.walk.order) }
 {
     let file = if first { &files[0] } else { &files[1] };
     if file.len() > 0x10_0000 {
@@ -74,7 +80,8 @@ fn wide(rt: HostRuntime) -> Result<(), Fail> {
         file(alloc, program(alloc)?.as_str())?,
         file(alloc, library(alloc)?.as_str())?,
     ];
-    let mut loader = Loader::new(alloc, "p")?;
+    let placer = Placer::new(|holes: &Holes, span: u64, align: u64| lowest(holes, span, align));
+    let mut loader = Loader::new(alloc, "p", None, &placer)?;
     for index in 0..MAX_MEMBERS {
         if loader.wants().is_none() {
             return Err("fewer members".into());

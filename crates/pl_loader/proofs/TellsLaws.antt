@@ -1,5 +1,5 @@
 -- A load means no want of memory where nothing that it is told of files does.
-use Rattle.std.proofs.Common.{◌≡◌, refl, ℕ, Bool, false, List, [], ◌∷◌, Result}
+use Rattle.std.proofs.Common.{◌≡◌, refl, ℕ, Bool, false, List, [], ◌∷◌, Option, Result}
 use Rattle.pl_base.specs.Answers.{Tells}
 use Rattle.pl_base.proofs.TellsLaws.{Keeps, ok_tells, unless_tells, or_tells, then_tells, because_tells, cause_tells, each_tells}
 use Rattle.pl_elf.specs.declared.range.Range.{Range}
@@ -17,11 +17,16 @@ use Rattle.pl_scope.specs.Walk as walk
 use Rattle.pl_scope.specs.declared.fault.WalkFault.{WalkFault}
 use Rattle.pl_scope.specs.declared.fault.WalkFault.TheVariants as walk_variant
 use Rattle.pl_scope.proofs.TellsLaws.{walk_tells}
+use Rattle.pl_place.specs.Placing as place
+use Rattle.pl_place.specs.Placing.{chosen}
+use Rattle.pl_place.specs.Policy.{Choice}
+use Rattle.pl_place.specs.declared.fault.PlaceFault.{PlaceFault}
+use Rattle.pl_place.specs.declared.fault.PlaceFault.TheVariants as place_fault
 use Rattle.pl_slots.specs.declared.slot.Want.{Want}
 use Rattle.pl_value.specs.declared.fault.LinkFault.{LinkFault}
 use Rattle.pl_value.specs.declared.fault.LinkFault.TheVariants as link
-use Rattle.pl_loader.specs.Faults.{is_memory, of_refusal, of_walk, of_tls}
-use Rattle.pl_loader.specs.Places.{lowest_places, places}
+use Rattle.pl_loader.specs.Faults.{is_memory, of_place, of_refusal, of_walk, of_tls}
+use Rattle.pl_loader.specs.Places.{holes_beside, places, wants_beside}
 use Rattle.pl_loader.specs.Started.{blocks, of_link, linked, started, load}
 use Rattle.pl_loader.specs.Walk.{loadable, object_in, walk_fault, object_of, walked, with_bytes, files}
 use Rattle.pl_loader.specs.declared.object_file.ObjectFile.{ObjectFile}
@@ -64,32 +69,37 @@ files_tell fault m file name keeps tells =
 
 -- ---- the start
 
-lowest_tell : (wants : List Want) (holes : List Range) → Tells is_memory (lowest_places holes wants)
-unfolding lowest_places
-lowest_tell [] holes = ok_tells is_memory []
-lowest_tell (want ∷ wants) holes = then_tells is_memory _ _ (or_tells is_memory _ _ refl) (λ start. then_tells is_memory _ _ (lowest_tell wants _) (λ starts. ok_tells is_memory _))
+chosen_tell : (choose : Choice) (wants : List Want) (holes : List Range) → Tells place.is_memory (chosen choose holes wants)
+unfolding chosen
+chosen_tell choose [] holes = ok_tells place.is_memory []
+chosen_tell choose (want ∷ wants) holes = then_tells place.is_memory _ _ (or_tells place.is_memory _ _ refl) (λ start. then_tells place.is_memory _ _ (chosen_tell choose wants _) (λ starts. ok_tells place.is_memory _))
 
-places_tell : (fs : List ObjectFile) → Tells is_memory (places fs)
+of_place_tells : (e : PlaceFault) → place.is_memory e ≡ false → is_memory (of_place e) ≡ false
+of_place_tells (place_fault.NoPlace name) t = refl
+of_place_tells place_fault.NoMemory t = t
+
+places_tell : (choose : Choice) (busy : Option Range) (fs : List ObjectFile) → Tells is_memory (places choose busy fs)
 unfolding places
-places_tell [] = ok_tells is_memory []
-places_tell (program ∷ libraries) = then_tells is_memory _ _ (lowest_tell _ _) (λ starts. ok_tells is_memory _)
+places_tell choose busy [] = ok_tells is_memory []
+places_tell choose busy (program ∷ libraries) =
+    then_tells is_memory _ _ (because_tells place.is_memory is_memory of_place _ of_place_tells (chosen_tell choose (wants_beside busy program libraries) (holes_beside busy program libraries))) (λ starts. ok_tells is_memory _)
 
 linked_tells : (fs : List ObjectFile) (at : List ℕ) (modules : List Module) → Tells is_memory (linked fs at modules)
 unfolding linked
 linked_tells fs at modules = cause_tells is_memory (of_link fs) _ (of_link_tells fs)
 
-started_tells : (fs : List ObjectFile) → Tells is_memory (started fs)
+started_tells : (choose : Choice) (busy : Option Range) (fs : List ObjectFile) → Tells is_memory (started choose busy fs)
 unfolding started
-started_tells fs =
-    then_tells is_memory _ _ (because_tells tls.is_memory is_memory of_tls _ of_tls_tells (offsets_tell (blocks fs))) (λ modules. then_tells is_memory _ _ (places_tell fs)
+started_tells choose busy fs =
+    then_tells is_memory _ _ (because_tells tls.is_memory is_memory of_tls _ of_tls_tells (offsets_tell (blocks fs))) (λ modules. then_tells is_memory _ _ (places_tell choose busy fs)
     (λ at. then_tells is_memory _ _ (linked_tells fs at modules) (λ memory. ok_tells is_memory _)))
 
 -- ---- the whole
 
-pub load_tells : {E : Type 0} (fault : LoadFault → E) (m : E → Bool) (file : List ℕ → Result (List ℕ) E) (name : List ℕ) → Keeps is_memory m fault → ((n : List ℕ) → Tells m (file n)) → Tells m (load fault file name)
+pub load_tells : {E : Type 0} (choose : Choice) (busy : Option Range) (fault : LoadFault → E) (m : E → Bool) (file : List ℕ → Result (List ℕ) E) (name : List ℕ) → Keeps is_memory m fault → ((n : List ℕ) → Tells m (file n)) → Tells m (load choose busy fault file name)
 unfolding load
-load_tells fault m file name keeps tells = then_tells m _ _ (files_tell fault m file name keeps tells) (λ all. because_tells is_memory m fault _ keeps (started_tells all))
+load_tells choose busy fault m file name keeps tells = then_tells m _ _ (files_tell fault m file name keeps tells) (λ all. because_tells is_memory m fault _ keeps (started_tells choose busy all))
 
 -- where a fault stands for itself
-pub load_itself_tells : (name : List ℕ) (file : List ℕ → Result (List ℕ) LoadFault) → ((n : List ℕ) → Tells is_memory (file n)) → Tells is_memory (load itself file name)
-load_itself_tells name file tells = load_tells itself is_memory file name (λ f t. t) tells
+pub load_itself_tells : (choose : Choice) (busy : Option Range) (name : List ℕ) (file : List ℕ → Result (List ℕ) LoadFault) → ((n : List ℕ) → Tells is_memory (file n)) → Tells is_memory (load choose busy itself file name)
+load_itself_tells choose busy name file tells = load_tells choose busy itself is_memory file name (λ f t. t) tells

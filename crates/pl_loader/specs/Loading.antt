@@ -1,9 +1,10 @@
 -- How far a load has come that asks for one file after the other.
-use Rattle.std.specs.Prelude.{◌≡◌, ◌<◌, ◌^◌, ℕ, true, List, Ok, drop, length, map}
+use Rattle.std.specs.Prelude.{◌≡◌, ◌<◌, ◌^◌, ℕ, true, List, Option, Ok, drop, length, map}
 use Rattle.std.specs.List.{All}
 use Rattle.pl_object.specs.Reads.{reads}
 use Rattle.pl_object.specs.declared.object.Object.{Object}
 use Rattle.pl_elf.specs.Kinds.{is_library}
+use Rattle.pl_elf.specs.declared.range.Range.{Range}
 use Rattle.pl_scope.specs.Walking.{Walking, IsWalking}
 use Rattle.pl_loader.specs.declared.object_file.ObjectFile.{ObjectFile}
 
@@ -37,3 +38,9 @@ pub record IsLoading (l : Loading) : Type 0 where
   pub walking : IsWalking l.order
   pub given : length l.files ≡ l.order.given
   pub files : AreFiles l.files
+
+-- a load under way: the walk with the files that were given, the addresses that no library may get, and the policy
+pub record Load (F : Type 0) : Type 0 where
+  pub walk : Loading
+  pub busy : Option Range
+  pub policy : F

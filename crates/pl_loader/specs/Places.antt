@@ -1,18 +1,18 @@
 -- Where the objects of a load are placed. Which addresses a loader chooses, the System V gABI leaves open: this project's profile.
-use Rattle.std.specs.Prelude.{◌≡◌, ℕ, ◌+◌, ◌≤◌, List, [], ◌∷◌, map, length, Result, Ok}
-use Rattle.std.specs.List.{All}
-use Rattle.std.specs.Option.{ok_or}
-use Rattle.pl_base.specs.Answers.{◌>>=◌}
+use Rattle.std.specs.Prelude.{◌≡◌, ℕ, ◌+◌, ◌≤◌, ◌⊎◌, Bool, true, ◌||◌, nat_le, if◌then◌else◌, List, [], ◌∷◌, ◌++◌, map, length, Option, Some, None, Result, Ok}
+use Rattle.std.specs.List.{All, list_all}
+use Rattle.pl_base.specs.Answers.{◌>>=◌, because}
 use Rattle.pl_elf.specs.Headers.{loads}
 use Rattle.pl_elf.specs.declared.constants.TheConstants.{ADDRESS_LIMIT}
 use Rattle.pl_elf.specs.Ranges.{range_from}
 use Rattle.pl_elf.specs.declared.range.Range.{Range}
 use Rattle.pl_elf.specs.declared.segment.Segment.{Segment}
 use Rattle.pl_object.specs.declared.object.Object.{Object}
-use Rattle.pl_slots.specs.Holes.{without, lowest}
 use Rattle.pl_place.specs.Left.{left}
-use Rattle.pl_place.specs.Placing.{range_of, AllFree, AreApart}
+use Rattle.pl_place.specs.Placing.{chosen, AllFree, AreApart, ArePlaced, StopsAt}
+use Rattle.pl_place.specs.Policy.{Answering, Choice}
 use Rattle.pl_slots.specs.declared.slot.Want.{Want}
+use Rattle.pl_loader.specs.Faults.{is_memory, of_place}
 use Rattle.pl_loader.specs.declared.constants.TheConstants.{REGION_START, REGION_END}
 use Rattle.pl_loader.specs.declared.object_file.ObjectFile.{ObjectFile}
 use Rattle.pl_loader.specs.declared.fault.LoadFault.{LoadFault}
@@ -34,18 +34,110 @@ taken program = map load_range (loads program.segments)
 abbrev pub want_of : ObjectFile → Want
 want_of f = record { name = f.name; span = f.object.span; align = f.object.align }
 
--- each want in turn at the lowest aligned address of the first hole that holds it, beside those before it
-unfoldable pub lowest_places : List Range → List Want → Result (List ℕ) LoadFault
-lowest_places holes [] = Ok []
-lowest_places holes (want ∷ wants) =
-    ok_or (lowest want.span want.align holes) (NoPlace want.name)
-    >>= λ start. lowest_places (without (range_of want start) holes) wants >>= λ starts. Ok (start ∷ starts)
+-- the addresses that are kept free besides
+abbrev pub kept_free : Option Range → List Range
+kept_free None = []
+kept_free (Some range) = range ∷ []
 
--- the load address of each object: a program's is 0, which stands first, and libraries are placed beside it
-unfoldable pub places : List ObjectFile → Result (List ℕ) LoadFault
-places [] = Ok []
-places (program ∷ libraries) =
-    lowest_places (left region (taken program.object)) (map want_of libraries) >>= λ starts. Ok (0 ∷ starts)
+-- ---- libraries with a slot of their own
+
+-- the slot that a library's file bears, if any. None does yet
+abbrev pub slot_of : ObjectFile → Option ℕ
+slot_of f = None
+
+-- the addresses of a library at a place
+abbrev pub range_at : ObjectFile → ℕ → Range
+range_at f place = range_from place f.object.span
+
+-- whether two ranges have no address in common
+abbrev pub misses : Range → Range → Bool
+misses a b = nat_le a.end b.start || nat_le b.end a.start || nat_le b.end b.start
+
+abbrev pub where_free : List Range → ObjectFile → Option ℕ → Option ℕ
+where_free taken f None = None
+where_free taken f (Some slot) = if list_all (misses (range_at f slot)) taken then Some slot else None
+
+-- the slot of a library, where it is free of what is taken
+abbrev pub own_place : List Range → ObjectFile → Option ℕ
+own_place taken f = where_free taken f (slot_of f)
+
+abbrev pub own_range : ObjectFile → Option ℕ → List Range
+own_range f None = []
+own_range f (Some slot) = range_at f slot ∷ []
+
+-- the own places of libraries, each free of what is taken and of the ones before it
+unfoldable pub own_places : List Range → List ObjectFile → List (Option ℕ)
+own_places taken [] = []
+own_places taken (f ∷ fs) = own_place taken f ∷ own_places (taken ++ own_range f (own_place taken f)) fs
+
+-- what libraries take at their own places
+unfoldable pub own_ranges : List ObjectFile → List (Option ℕ) → List Range
+own_ranges [] owns = []
+own_ranges (f ∷ fs) [] = []
+own_ranges (f ∷ fs) (own ∷ owns) = own_range f own ++ own_ranges fs owns
+
+abbrev pub want_if : ObjectFile → Option ℕ → List Want
+want_if f None = want_of f ∷ []
+want_if f (Some slot) = []
+
+-- what the others want
+unfoldable pub wants_left : List ObjectFile → List (Option ℕ) → List Want
+wants_left [] owns = []
+wants_left (f ∷ fs) [] = []
+wants_left (f ∷ fs) (own ∷ owns) = want_if f own ++ wants_left fs owns
+
+-- the own places, and the others' places where there is none
+unfoldable pub joined : List (Option ℕ) → List ℕ → List ℕ
+joined [] starts = []
+joined (Some slot ∷ owns) starts = slot ∷ joined owns starts
+joined (None ∷ owns) [] = []
+joined (None ∷ owns) (start ∷ starts) = start ∷ joined owns starts
+
+-- ---- all places: the load address of each object. A program's is 0, and it stands first
+
+-- what is taken before any library is placed
+abbrev pub taken_first : Option Range → ObjectFile → List Range
+taken_first busy program = taken program.object ++ kept_free busy
+
+-- the own places of the libraries beside a program
+abbrev pub owns_beside : Option Range → ObjectFile → List ObjectFile → List (Option ℕ)
+owns_beside busy program libraries = own_places (taken_first busy program) libraries
+
+-- the holes in which the others are placed
+abbrev pub holes_beside : Option Range → ObjectFile → List ObjectFile → List Range
+holes_beside busy program libraries = left region (taken_first busy program ++ own_ranges libraries (owns_beside busy program libraries))
+
+-- what the others want
+abbrev pub wants_beside : Option Range → ObjectFile → List ObjectFile → List Want
+wants_beside busy program libraries = wants_left libraries (owns_beside busy program libraries)
+
+abbrev pub all_places : Option Range → ObjectFile → List ObjectFile → List ℕ → List ℕ
+all_places busy program libraries starts = 0 ∷ joined (owns_beside busy program libraries) starts
+
+-- by a policy that is a function: each other library in turn is where it says, or the first for which nothing fits
+unfoldable pub places : Choice → Option Range → List ObjectFile → Result (List ℕ) LoadFault
+places choose busy [] = Ok []
+places choose busy (program ∷ libraries) =
+    because of_place (chosen choose (holes_beside busy program libraries) (wants_beside busy program libraries))
+    >>= λ starts. Ok (all_places busy program libraries starts)
+
+-- by any policy: each other library in turn is where it answered
+abbrev pub IsPlaced : Answering → Option Range → List ObjectFile → List ℕ → Type 0
+IsPlaced post busy [] places = places ≡ []
+IsPlaced post busy (program ∷ libraries) places =
+    (starts : List ℕ) × ArePlaced post (holes_beside busy program libraries) (wants_beside busy program libraries) starts × (places ≡ all_places busy program libraries starts)
+
+-- or it answered that nothing fits for the library of this name, where the ones before it are placed
+abbrev pub IsUnplaced : Answering → Option Range → List ObjectFile → List ℕ → Type 0
+IsUnplaced post busy [] name = ⊥
+IsUnplaced post busy (program ∷ libraries) name = StopsAt post (holes_beside busy program libraries) (wants_beside busy program libraries) name
+
+-- why there are no places, as the load tells it: there was no memory, or nothing fits for a library
+pub record StopsOf (post : Answering) (holes : List Range) (wants : List Want) (fault : LoadFault) : Type 0 where
+  pub because : (is_memory fault ≡ true) ⊎ ((name : List ℕ) × (fault ≡ NoPlace name) × StopsAt post holes wants name)
+
+pub record StopsFiles (post : Answering) (busy : Option Range) (files : List ObjectFile) (fault : LoadFault) : Type 0 where
+  pub because : (is_memory fault ≡ true) ⊎ ((name : List ℕ) × (fault ≡ NoPlace name) × IsUnplaced post busy files name)
 
 -- ---- what places are
 

@@ -1,5 +1,5 @@
 -- What a load starts from: the objects at their addresses, the modules of thread-local storage, the entry and the memory (System V gABI, chapter 5; Drepper, "ELF Handling for Thread-Local Storage").
-use Rattle.std.specs.Prelude.{◌≡◌, ℕ, ◌+◌, List, [], ◌∷◌, map, fold, min, max, Option, Some, None, Result, Ok, slice_get, ◌==◌, if◌then◌else◌}
+use Rattle.std.specs.Prelude.{◌≡◌, ℕ, ◌+◌, List, [], ◌∷◌, map, fold, min, max, Option, Some, None, Result, Ok, Err, ◌⊎◌, true, slice_get, ◌==◌, if◌then◌else◌}
 use Rattle.std.specs.List.{zip}
 use Rattle.pl_base.specs.Answers.{◌>>=◌, because}
 use Rattle.pl_base.specs.Memory.{Memory}
@@ -16,16 +16,17 @@ use Rattle.pl_image.specs.Image.{Image, byte_of, extents_of}
 use Rattle.pl_value.specs.Ordinary.{loaded, ordinary}
 use Rattle.pl_value.specs.declared.fault.LinkFault.{LinkFault}
 use Rattle.pl_value.specs.declared.fault.LinkFault.TheVariants as link
-use Rattle.pl_loader.specs.Faults.{of_tls}
+use Rattle.pl_loader.specs.Faults.{is_memory, of_tls}
 use Rattle.pl_loader.specs.Loading.{objects_of, parts_of}
-use Rattle.pl_loader.specs.Places.{places}
+use Rattle.pl_place.specs.Policy.{Answering, Choice}
+use Rattle.pl_loader.specs.Places.{places, IsPlaced, IsUnplaced}
 use Rattle.pl_loader.specs.Walk.{files}
 use Rattle.pl_loader.specs.declared.object_file.ObjectFile.{ObjectFile}
 use Rattle.pl_loader.specs.declared.placed.Placed.{Placed}
 use Rattle.pl_loader.specs.declared.tls_module.TlsModule.{TlsModule}
 use Rattle.pl_loader.specs.declared.started.Started as code
 use Rattle.pl_loader.specs.declared.fault.LoadFault.{LoadFault}
-use Rattle.pl_loader.specs.declared.fault.LoadFault.TheVariants.{Undefined, UndefinedTls, TlsMismatch, CopyOutside}
+use Rattle.pl_loader.specs.declared.fault.LoadFault.TheVariants.{NoPlace, Undefined, UndefinedTls, TlsMismatch, CopyOutside}
 
 -- ---- the bounds of an object in memory, in whole pages
 
@@ -120,19 +121,25 @@ start files places modules memory = record {
 unfoldable pub linked : List ObjectFile → List ℕ → List Module → Result Memory LoadFault
 linked files places modules = because (of_link files) (ordinary (objects_of files) (parts_of files) places modules)
 
--- what the files of a walk start from, or the first cause why they do not
-unfoldable pub started : List ObjectFile → Result Start LoadFault
-started files = do
-  modules ← because of_tls (offsets (blocks files))
-  at ← places files
-  memory ← linked files at modules
-  Ok (start files at modules memory)
+-- the modules of files, or why there are none
+abbrev pub modules_of : List ObjectFile → Result (List Module) LoadFault
+modules_of files = because of_tls (offsets (blocks files))
+
+abbrev pub start_at : List ObjectFile → List Module → List ℕ → Result Start LoadFault
+start_at files modules at = linked files at modules >>= λ memory. Ok (start files at modules memory)
+
+-- what the files of a walk start from by a policy that is a function, or the first cause why they do not
+unfoldable pub started : Choice → Option Range → List ObjectFile → Result Start LoadFault
+started choose busy files = do
+  modules ← modules_of files
+  at ← places choose busy files
+  start_at files modules at
 
 -- ---- the whole load
 
 -- what a name starts from, or the first cause why it does not
-unfoldable pub load : {E : Type 0} → (LoadFault → E) → (List ℕ → Result (List ℕ) E) → List ℕ → Result Start E
-load fault file name = files fault file name >>= λ all. because fault (started all)
+unfoldable pub load : {E : Type 0} → Choice → Option Range → (LoadFault → E) → (List ℕ → Result (List ℕ) E) → List ℕ → Result Start E
+load choose busy fault file name = files fault file name >>= λ all. because fault (started choose busy all)
 
 -- ---- what code holds
 
@@ -155,3 +162,34 @@ pub record IsStart (s : code.Started) (meant : Start) : Type 0 where
 -- the start that a definition means
 abbrev pub Starts : code.Started → Result Start LoadFault → Type 0
 Starts s meant = (whole : Start) × (meant ≡ Ok whole) × IsStart s whole
+
+-- ---- by any policy
+
+-- a start with the libraries where the policy answered
+pub record StartsBy (post : Answering) (busy : Option Range) (files : List ObjectFile) (s : code.Started) : Type 0 where
+  pub modules : List Module
+  pub numbered : modules_of files ≡ Ok modules
+  pub at : List ℕ
+  pub placed : IsPlaced post busy files at
+  pub starts : Starts s (start_at files modules at)
+
+-- a library for which nothing fits
+pub record IsUnplacedBy (post : Answering) (busy : Option Range) (files : List ObjectFile) (fault : LoadFault) : Type 0 where
+  pub modules : List Module
+  pub numbered : modules_of files ≡ Ok modules
+  pub name : List ℕ
+  pub named : fault ≡ NoPlace name
+  pub unplaced : IsUnplaced post busy files name
+
+-- a link refusal with the libraries where the policy answered
+pub record IsRefusedBy (post : Answering) (busy : Option Range) (files : List ObjectFile) (fault : LoadFault) : Type 0 where
+  pub modules : List Module
+  pub numbered : modules_of files ≡ Ok modules
+  pub at : List ℕ
+  pub placed : IsPlaced post busy files at
+  pub refused : linked files at modules ≡ Err fault
+
+-- why there is no start: there was no memory, or there are no modules, no places or no links, in this order
+abbrev pub FailsBy : Answering → Option Range → List ObjectFile → LoadFault → Type 0
+FailsBy post busy files fault =
+    (is_memory fault ≡ true) ⊎ ((modules_of files ≡ Err fault) ⊎ (IsUnplacedBy post busy files fault ⊎ IsRefusedBy post busy files fault))

@@ -13,6 +13,7 @@ mod placing;
 mod started;
 mod starting;
 mod tls_module;
+mod walk_files;
 
 pub use constants::{REGION_END, REGION_START};
 pub use fault::LoadFault;

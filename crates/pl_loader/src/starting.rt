@@ -1,8 +1,7 @@
 // The start of a load whose files were all given.
-ghost use Rattle.std.specs.Prelude.{◌≡◌, ◌≤◌, length, Err, IfOk, IfErr};
-ghost use Rattle.pl_base.specs.Answers.{Answers};
+ghost use Rattle.std.specs.Prelude.{◌≡◌, ◌≤◌, length, IfOk, IfErr};
+ghost use Rattle.pl_place.specs.Policy as policy;
 ghost use Rattle.pl_scope.specs.declared.constants.TheConstants.{MAX_MEMBERS};
-ghost use Rattle.pl_loader.specs.Faults.{is_memory};
 ghost use Rattle.pl_loader.specs.Loading.{AreFiles};
 ghost use Rattle.pl_loader.specs.Started as spec;
 
@@ -11,6 +10,8 @@ use crate::linking::linked;
 use crate::modules::{modules, tls_modules};
 use crate::placing::places;
 use crate::{LoadFault, ObjectFile, Started};
+use pl_elf::Range;
+use pl_place::{Holes, Placer};
 use pl_value::Places;
 use std::alloc::Global;
 
@@ -25,15 +26,21 @@ fn entry_of(files: &[ObjectFile]) -> u64
 }
 
 /// What files start from, the program first: modules, places and memory, or the first cause why not, in this order.
-#[tactic(auto, unfolding(crate::specs::Started::started, crate::specs::Started::start))]
-pub fn started(alloc: Global, files: &[ObjectFile]) -> Result<Started<'_>, LoadFault>
+pub fn started<'a, F: Fn(&Holes, u64, u64) -> Option<u64>>(
+    alloc: Global,
+    placer: &Placer<F>,
+    busy: Option<Range>,
+    files: &'a [ObjectFile],
+) -> Result<Started<'a>, LoadFault>
+    requires may { policy.MayChoose (F.pre placer.now) }
+    requires chooses { policy.Chooses (F.post placer.now) }
     requires files { AreFiles files.now }
     requires few { length files.now ≤ MAX_MEMBERS }
-    ensures ok { IfOk result (λ s. spec.Starts s (spec.started files.now)) }
-    ensures err { IfErr result (λ fault. Answers is_memory (Err fault) (spec.started files.now)) }
+    ensures ok { IfOk result (spec.StartsBy (F.post placer.now) busy files.now) }
+    ensures err { IfErr result (spec.FailsBy (F.post placer.now) busy files.now) }
 {
     let modules = modules(alloc, files)?;
-    let rows = places(alloc, files)?;
+    let rows = places(alloc, placer, busy, files)?;
     let places = Places::new(rows);
     let image = linked(alloc, files, &places, modules.as_slice())?;
     Ok(Started {

@@ -14,8 +14,11 @@ loads_parts address s h =
     let q = and_parts (is_load s) (nat_le s.vaddr address) p.0 in
     (q.0, leb-true s.vaddr address q.1, ltb-true address (s.vaddr + s.filesz) p.1)
 
-pub loader_below : (address : ℕ) (ss : List Segment) (s : Segment) → loader ss address ≡ Some s → s.vaddr ≤ address
-loader_below address ss s e = (loads_parts address s (find_passes (loads_byte address) ss s e)).1
+pub loader_loads_byte : (address : ℕ) (ss : List Segment) (s : Segment) → loader ss address ≡ Some s → loads_byte address s ≡ true
+loader_loads_byte address ss s e = find_passes (loads_byte address) ss s e
 
-pub loader_above : (address : ℕ) (ss : List Segment) (s : Segment) → loader ss address ≡ Some s → address < s.vaddr + s.filesz
-loader_above address ss s e = (loads_parts address s (find_passes (loads_byte address) ss s e)).2
+pub byte_below : (address : ℕ) (s : Segment) → loads_byte address s ≡ true → s.vaddr ≤ address
+byte_below address s h = (loads_parts address s h).1
+
+pub byte_above : (address : ℕ) (s : Segment) → loads_byte address s ≡ true → address < s.vaddr + s.filesz
+byte_above address s h = (loads_parts address s h).2

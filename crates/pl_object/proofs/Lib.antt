@@ -1,4 +1,5 @@
 pub mod FilePartLaws
+pub mod LoaderLaws
 pub mod NameLaws
 pub mod LoadLaws
 pub mod ExtentLaws
@@ -12,4 +13,6 @@ pub mod SweepLaws
 pub mod CrossingLaws
 pub mod RunLaws
 pub mod TwinLaws
+pub mod KeyLaws
+pub mod PlaceLaws
 pub mod RefusalLaws

@@ -14,3 +14,4 @@ pub mod Sweep
 pub mod Crossing
 pub mod Runs
 pub mod Twins
+pub mod Keys

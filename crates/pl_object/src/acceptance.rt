@@ -15,6 +15,7 @@ use crate::file_part::{in_file_part, loaded};
 use crate::headers::Headers;
 use crate::layout::Layout;
 use crate::linking::Linking;
+use crate::loads::Loads;
 use crate::names::{read_needed, strings, symbols, versioned, versions};
 use crate::parts::{align, check_rest, is_symbolic, kind_of, span, tls, too_large};
 use crate::place_clauses::check_relocs;
@@ -101,13 +102,15 @@ fn relocations(
     symbols: &[Symbol],
     packed: &[u64],
 ) -> Result<Vec<Reloc>, AllocError>
-    requires { packed.now ≡ spec.packed_places bytes.now segments.now tags.now }
+    requires loads { AreLoads (loads segments.now) }
+    requires packed { packed.now ≡ spec.packed_places bytes.now segments.now tags.now }
     ensures { IfOk result (λ v. v.items ≡ spec.relocations bytes.now segments.now tags.now symbols.now) }
 {
     let mut all = relocs(alloc, symbols, loaded(bytes, segments, rela_memory(tags)))?;
     let slots = relocs(alloc, symbols, loaded(bytes, segments, jmprel_memory(tags)))?;
     all.extend_from_slice(&slots)?;
-    all.extend_from_slice(&packed_relocs(alloc, bytes, segments, packed)?)?;
+    let loads = Loads::new(alloc, segments)?;
+    all.extend_from_slice(&packed_relocs(alloc, bytes, &loads, packed)?)?;
     Ok(all)
 }
 
@@ -134,6 +137,7 @@ fn layout(
 ) -> Result<Layout, AllocError>
     requires few { length bytes.now < 2 ^ 32 }
     requires symbols { length linking.now.symbols < 2 ^ 32 }
+    requires loads { AreLoads (loads headers.now.segments) }
     ensures { IfOk result (λ layout. layout ≡ spec.layout bytes.now headers.now tags.now linking.now) }
 {
     let segments = headers.segments.as_slice();
@@ -161,7 +165,8 @@ fn check(
     linking: &Linking,
     layout: &Layout,
 ) -> Result<(), Refusal>
-    requires { length linking.now.symbols < 2 ^ 32 }
+    requires few { length linking.now.symbols < 2 ^ 32 }
+    requires loads { AreLoads (loads headers.now.segments) }
     ensures { Answers is_memory result (spec.check bytes.now headers.now dynamic.now.tags linking.now layout.now) }
 {
     let program = headers.header.kind == ET_EXEC;

@@ -1,5 +1,5 @@
 // Where bytes of memory stand in the file.
-ghost use Rattle.std.specs.Prelude.{◌≡◌, ◌+◌, ◌≤◌, length};
+ghost use Rattle.std.specs.Prelude.{◌≡◌, ◌+◌, ◌≤◌, length, true, Some};
 ghost use Rattle.pl_object.specs.FilePart as spec;
 
 use crate::Window;
@@ -7,7 +7,7 @@ use pl_base::{end, part};
 use pl_elf::Segment;
 
 #[tactic(auto, unfolding(crate::specs::FilePart::loads_byte))]
-fn loads_byte(address: u128, segment: &Segment) -> bool
+pub fn loads_byte(address: u128, segment: &Segment) -> bool
     ensures { result ≡ spec.loads_byte address segment.now }
 {
     segment.is_load()
@@ -24,19 +24,26 @@ fn loader(segments: &[Segment], address: u128) -> Option<Segment>
         .find(|segment| loads_byte(address, segment))
 }
 
+/// The file bytes of a window of memory whose first byte a PT_LOAD loads.
+#[tactic(auto, using(crate::proofs::FilePartLaws::byte_below, crate::proofs::FilePartLaws::byte_above))]
+pub fn loaded_by(memory: Window, segment: &Segment) -> Window
+    requires { spec.loads_byte memory.at segment.now ≡ true }
+    ensures { result ≡ spec.loaded_by memory (Some segment.now) }
+{
+    let rest = end(segment.vaddr, segment.filesz) - memory.at();
+    let size = u128::from(memory.size()).min(rest) as u64;
+    let at = u128::from(segment.offset) + (memory.at() - u128::from(segment.vaddr));
+    Window::new(at, size)
+}
+
 /// The file bytes of a window of memory: those from its first byte on that the first PT_LOAD with that byte among its file bytes loads (gABI chapter 5, "Program Header"). None of its bytes are where no PT_LOAD loads the first from the file.
-#[tactic(auto, using(crate::proofs::FilePartLaws::loader_below, crate::proofs::FilePartLaws::loader_above), unfolding(crate::specs::FilePart::file_window))]
+#[tactic(auto, using(crate::proofs::FilePartLaws::loader_loads_byte), unfolding(crate::specs::FilePart::file_window))]
 pub fn file_window(segments: &[Segment], memory: Window) -> Window
     ensures { result ≡ spec.file_window segments.now memory }
 {
     match loader(segments, memory.at()) {
         None => Window::new(0, 0),
-        Some(segment) => {
-            let rest = end(segment.vaddr, segment.filesz) - memory.at();
-            let size = u128::from(memory.size()).min(rest) as u64;
-            let at = u128::from(segment.offset) + (memory.at() - u128::from(segment.vaddr));
-            Window::new(at, size)
-        }
+        Some(segment) => loaded_by(memory, &segment),
     }
 }
 

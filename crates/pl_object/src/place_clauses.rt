@@ -1,13 +1,14 @@
 // Acceptance clauses 23 to 27 and 29: relocations, and the places that they change. A test is true where the clause refuses the file.
 ghost use Rattle.std.specs.Prelude.{◌≡◌, if◌then◌else◌, Some, IfOk};
-ghost use Rattle.pl_elf.specs.Headers.{is_load};
+ghost use Rattle.pl_elf.specs.Clauses.{AreLoads};
+ghost use Rattle.pl_elf.specs.Headers.{is_load, loads};
 ghost use Rattle.pl_base.specs.Answers.{Answers};
 ghost use Rattle.pl_object.specs.Refusals.{is_memory};
 ghost use Rattle.pl_object.specs.PlaceClauses as spec;
 
 use crate::constants::RELOC_KINDS;
 use crate::crossing::any_meets;
-use crate::file_part::{file_window, in_file_part};
+use crate::loads::Loads;
 use crate::overlaps::any_share;
 use crate::relocations::{place, places};
 use crate::{Refusal, Reloc, Window};
@@ -77,32 +78,32 @@ pub fn is_in_segment(memory: Window, segment: &Segment) -> bool
 }
 
 #[tactic(auto, unfolding(crate::specs::PlaceClauses::is_held))]
-fn is_held(program: bool, segments: &[Segment], last: Option<Segment>, memory: Window) -> bool
-    requires { last ≡ spec.last_load segments.now }
-    ensures { result ≡ spec.is_held program segments.now memory }
+fn is_held(program: bool, loads: &Loads, last: Option<Segment>, memory: Window) -> bool
+    requires { last ≡ spec.last_load loads.now }
+    ensures { result ≡ spec.is_held program loads.now memory }
 {
-    in_file_part(segments, memory) || program && is_in_memory(memory, last)
+    loads.in_file_part(memory) || program && is_in_memory(memory, last)
 }
 
 /// Whether a place is not where it may be.
 #[tactic(auto, unfolding(crate::specs::PlaceClauses::reloc_outside))]
-fn reloc_outside(program: bool, segments: &[Segment], relocs: &[Reloc]) -> bool
-    ensures { result ≡ spec.reloc_outside program segments.now relocs.now }
+fn reloc_outside(program: bool, loads: &Loads, relocs: &[Reloc]) -> bool
+    ensures { result ≡ spec.reloc_outside program loads.now relocs.now }
 {
-    let last = last_load(segments);
+    let last = last_load(loads.segments());
     relocs
         .iter()
         .map(|reloc| place(reloc))
-        .any(|memory| !is_held(program, segments, last, memory))
+        .any(|memory| !is_held(program, loads, last, memory))
 }
 
 /// Clause 24, where so many packed relocations stand last.
 #[tactic(auto, unfolding(crate::specs::PlaceClauses::any_outside))]
-fn any_outside(program: bool, segments: &[Segment], packed: u32, relocs: &[Reloc]) -> bool
-    ensures { result ≡ spec.any_outside program segments.now packed relocs.now }
+fn any_outside(program: bool, loads: &Loads, packed: u32, relocs: &[Reloc]) -> bool
+    ensures { result ≡ spec.any_outside program loads.now packed relocs.now }
 {
     let (rows, packed) = relocs.split_at(relocs.len().saturating_sub(packed as usize));
-    reloc_outside(program, segments, rows) || reloc_outside(false, segments, packed)
+    reloc_outside(program, loads, rows) || reloc_outside(false, loads, packed)
 }
 
 /// Clause 25.
@@ -116,13 +117,13 @@ fn reloc_overlap(alloc: Global, relocs: &[Reloc]) -> Result<bool, AllocError>
 
 /// The file bytes of the places.
 #[tactic(auto, unfolding(crate::specs::PlaceClauses::spots))]
-fn spots(alloc: Global, segments: &[Segment], relocs: &[Reloc]) -> Result<Vec<Window>, AllocError>
-    ensures { IfOk result (λ v. v.items ≡ spec.spots segments.now relocs.now) }
+fn spots(alloc: Global, loads: &Loads, relocs: &[Reloc]) -> Result<Vec<Window>, AllocError>
+    ensures { IfOk result (λ v. v.items ≡ spec.spots loads.now relocs.now) }
 {
     relocs
         .iter()
         .map(|reloc| place(reloc))
-        .map(|memory| file_window(segments, memory))
+        .map(|memory| loads.file_window(memory))
         .collect(alloc)
 }
 
@@ -131,12 +132,12 @@ fn spots(alloc: Global, segments: &[Segment], relocs: &[Reloc]) -> Result<Vec<Wi
 fn reloc_in_tables(
     alloc: Global,
     tables: &[Window],
-    segments: &[Segment],
+    loads: &Loads,
     relocs: &[Reloc],
 ) -> Result<bool, AllocError>
-    ensures { IfOk result (λ b. b ≡ spec.reloc_in_tables tables.now segments.now relocs.now) }
+    ensures { IfOk result (λ b. b ≡ spec.reloc_in_tables tables.now loads.now relocs.now) }
 {
-    let spots = spots(alloc, segments, relocs)?;
+    let spots = spots(alloc, loads, relocs)?;
     any_meets(alloc, tables, &spots)
 }
 
@@ -178,20 +179,20 @@ pub fn misplaced_copy(program: bool, relocs: &[Reloc]) -> bool
 fn check_places(
     alloc: Global,
     program: bool,
-    segments: &[Segment],
+    loads: &Loads,
     tables: &[Window],
     packed: u32,
     relocs: &[Reloc],
 ) -> Result<(), Refusal>
-    ensures { Answers is_memory result (spec.check_places program segments.now tables.now packed relocs.now) }
+    ensures { Answers is_memory result (spec.check_places program loads.now tables.now packed relocs.now) }
 {
-    if any_outside(program, segments, packed, relocs) {
+    if any_outside(program, loads, packed, relocs) {
         return Err(Refusal::clause(24));
     }
     if reloc_overlap(alloc, relocs)? {
         return Err(Refusal::clause(25));
     }
-    if reloc_in_tables(alloc, tables, segments, relocs)? {
+    if reloc_in_tables(alloc, tables, loads, relocs)? {
         return Err(Refusal::clause(26));
     }
     if odd_addend(relocs) {
@@ -211,6 +212,7 @@ pub fn check_relocs(
     packed: u32,
     relocs: &[Reloc],
 ) -> Result<(), Refusal>
+    requires { AreLoads (loads segments.now) }
     ensures { Answers is_memory result (spec.check_relocs program segments.now tables.now count packed relocs.now) }
 {
     if let Some(reloc) = first_bad(count, relocs) {
@@ -219,5 +221,6 @@ pub fn check_relocs(
             argument: u64::from(reloc.kind),
         });
     }
-    check_places(alloc, program, segments, tables, packed, relocs)
+    let loads = Loads::new(alloc, segments)?;
+    check_places(alloc, program, &loads, tables, packed, relocs)
 }

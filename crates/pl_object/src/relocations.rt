@@ -2,10 +2,9 @@
 ghost use Rattle.std.specs.Prelude.{◌≡◌, ◌+◌, ◌*◌, ◌≤◌, length, slice_get, IfOk};
 ghost use Rattle.pl_object.specs.Relocations as spec;
 
-use crate::file_part::loaded;
+use crate::loads::Loads;
 use crate::{Reloc, Window};
 use pl_base::{word32, word64};
-use pl_elf::Segment;
 use pl_elf::constants::{R_X86_64_COPY, R_X86_64_NONE, R_X86_64_RELATIVE, RELA_SIZE, WORD64_SIZE};
 use pl_sym::Symbol;
 use pl_sym::constants::SYMBOL_SIZE;
@@ -86,21 +85,21 @@ fn word_of(bytes: &[u8]) -> u64
 
 /// The word of 64 bits that stands in the file at an address of memory; 0 where its 8 bytes are not all in the file part.
 #[tactic(auto, unfolding(crate::specs::Relocations::file_word))]
-fn file_word(bytes: &[u8], segments: &[Segment], address: u64) -> u64
-    ensures { result ≡ spec.file_word bytes.now segments.now address }
+fn file_word(bytes: &[u8], loads: &Loads, address: u64) -> u64
+    ensures { result ≡ spec.file_word bytes.now loads.now address }
 {
     let place = Window::new(u128::from(address), WORD64_SIZE);
-    word_of(loaded(bytes, segments, place))
+    word_of(loads.loaded(bytes, place))
 }
 
-fn packed_reloc(bytes: &[u8], segments: &[Segment], address: u64) -> Reloc
-    ensures { result ≡ spec.packed_reloc bytes.now segments.now address }
+fn packed_reloc(bytes: &[u8], loads: &Loads, address: u64) -> Reloc
+    ensures { result ≡ spec.packed_reloc bytes.now loads.now address }
 {
     Reloc {
         address,
         kind: R_X86_64_RELATIVE,
         symbol: 0,
-        addend: file_word(bytes, segments, address).cast_signed(),
+        addend: file_word(bytes, loads, address).cast_signed(),
         width: WORD64_SIZE,
     }
 }
@@ -110,14 +109,14 @@ fn packed_reloc(bytes: &[u8], segments: &[Segment], address: u64) -> Reloc
 pub fn packed_relocs(
     alloc: Global,
     bytes: &[u8],
-    segments: &[Segment],
+    loads: &Loads,
     addresses: &[u64],
 ) -> Result<Vec<Reloc>, AllocError>
-    ensures { IfOk result (λ v. v.items ≡ spec.packed_relocs bytes.now segments.now addresses.now) }
+    ensures { IfOk result (λ v. v.items ≡ spec.packed_relocs bytes.now loads.now addresses.now) }
 {
     addresses
         .iter()
-        .map(|address| packed_reloc(bytes, segments, *address))
+        .map(|address| packed_reloc(bytes, loads, *address))
         .collect(alloc)
 }
 

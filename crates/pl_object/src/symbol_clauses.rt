@@ -17,7 +17,7 @@ use pl_dyn::Tag;
 use pl_dyn::constants::{DT_GNU_HASH, DT_HASH};
 use pl_elf::constants::{PAGE, PT_LOAD};
 use pl_elf::{Section, Segment, segment_of_kind};
-use pl_hash::{Table, found, name_hash, well_formed};
+use pl_hash::{Table, found, is_whole, name_hash};
 use pl_sym::constants::STT_GNU_IFUNC;
 use pl_sym::{Class, Symbol, is_definer};
 use pl_ver::Versions;
@@ -158,7 +158,7 @@ fn misses_one(alloc: Global, symbols: &[Symbol], table: &Table) -> Result<bool, 
 fn is_incomplete(alloc: Global, symbols: &[Symbol], table: &Table) -> Result<bool, AllocError>
     ensures { IfOk result (λ b. b ≡ spec.is_incomplete symbols.now table.now) }
 {
-    if !well_formed(table) {
+    if !is_whole(alloc, table)? {
         return Ok(true);
     }
     misses_one(alloc, symbols, table)

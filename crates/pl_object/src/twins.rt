@@ -7,6 +7,7 @@ ghost use Rattle.pl_object.specs.SymbolClauses as clauses;
 ghost use Rattle.pl_object.specs.Runs as runs;
 ghost use Rattle.pl_object.specs.Twins as spec;
 
+use crate::keys::any_twins;
 use pl_hash::gnu_hash;
 use pl_sym::{Class, Symbol, is_definer};
 use pl_ver::constants::VER_NDX_GLOBAL;
@@ -68,7 +69,7 @@ fn sort_entries(entries: &mut [Entry])
     entries.sort_unstable_by_key(|entry| entry.hash);
 }
 
-fn is_plain(symbol: &Symbol) -> bool
+pub fn is_plain(symbol: &Symbol) -> bool
     ensures { result ≡ clauses.is_plain symbol.now }
 {
     index_of(symbol.version) <= VER_NDX_GLOBAL
@@ -178,7 +179,29 @@ fn any_run(
     false
 }
 
-/// Whether two symbols are definers of one name and version. The definers are sorted by the hashes of their names once: the time grows as `n log n`, where few of them have one hash.
+/// The most comparisons of versions for which each two definers of one hash are compared.
+const FEW: usize = 0x40_0000;
+
+/// Whether few enough of the entries have one hash, and there are few enough versions, that each two of one hash may be compared.
+fn are_few(versions: &Option<Versions>, entries: &[Entry]) -> bool {
+    let mut pairs: usize = 0;
+    let mut run: usize = 0;
+    for index in 1..entries.len() {
+        run = if entries[index].hash == entries[index - 1].hash {
+            run.saturating_add(1)
+        } else {
+            0
+        };
+        pairs = pairs.saturating_add(run);
+    }
+    let rows = match versions {
+        None => 0,
+        Some(versions) => versions.names.len(),
+    };
+    pairs.saturating_mul(rows.saturating_add(1)) <= FEW
+}
+
+/// Whether two symbols are definers of one name and version. The definers are sorted by the hashes of their names once, and those of one hash compared, or, where these are many, found by their names in a map: the time grows as `n log n`.
 pub fn duplicate_definer(
     alloc: Global,
     versions: &Option<Versions>,
@@ -190,5 +213,9 @@ pub fn duplicate_definer(
 {
     let mut sorted = entries(alloc, program, symbols)?;
     sort_entries(&mut sorted);
-    Ok(any_run(versions, program, symbols, &sorted))
+    let definers: &[Entry] = &sorted;
+    if are_few(versions, definers) {
+        return Ok(any_run(versions, program, symbols, definers));
+    }
+    any_twins(alloc, versions, program, symbols)
 }

@@ -1,22 +1,22 @@
 -- Places in turn: one want more, and what all places are.
-use Rattle.std.proofs.Common.{◌≡◌, ℕ, ◌+◌, ◌≤◌, ◌<◌, true, false, ◌&&◌, List, [], ◌∷◌, ◌++◌, Option, Some, None, refl, sym, ◌∙◌, ap, subst, arith, length, drop, get_or, cond, append_assoc, append-nil, inl, inr}
-use Rattle.std.specs.Prelude.{nat_le, nat_lt, min, max, IfSome}
+use Rattle.std.proofs.Common.{◌≡◌, ℕ, ◌+◌, ◌≤◌, ◌<◌, true, false, ◌&&◌, List, [], ◌∷◌, ◌++◌, Option, Some, None, Result, Ok, Err, refl, sym, ◌∙◌, ap, subst, arith, length, drop, get_or, cond, append_assoc, append-nil, inl, inr}
+use Rattle.std.specs.Prelude.{nat_le, nat_lt, min, max, IfOk, IfErr}
 use Rattle.std.proofs.lemmas.Bool.{cases_Bool, leb-true, le-leb, ltb-true, and_parts, and_from, or_cases, or_left, or_right, false_from_ne_true, false≢true}
 use Rattle.std.proofs.lemmas.List.{at_drop_more, at_drop_all}
 use Rattle.std.proofs.lemmas.List.Folds.{list_any-append}
-use Rattle.std.specs.Borrow.{Bor}
 use Rattle.pl_base.proofs.TestLaws.{no_both}
 use Rattle.pl_elf.specs.declared.range.Range.{Range}
-use Rattle.pl_slots.specs.Holes.{hole, cut, without, is_free, spans_in, fits_at, IsLowest}
+use Rattle.pl_slots.specs.Holes.{hole, cut, without, is_free, spans_in, fits_at}
 use Rattle.pl_elf.specs.Ranges.{has, range_from}
 use Rattle.pl_slots.proofs.HoleLaws.{free_without}
 use Rattle.pl_slots.proofs.ServeLaws.{fits_free}
 use Rattle.pl_slots.specs.declared.slot.Want.{Want}
 use Rattle.pl_place.specs.declared.fault.PlaceFault.{PlaceFault}
 use Rattle.pl_place.specs.declared.fault.PlaceFault.TheVariants.{NoPlace, NoMemory}
-use Rattle.pl_place.specs.Policy.{Answering}
+use Rattle.pl_base.specs.Answers.{Answers, AnswersAs}
+use Rattle.pl_place.specs.Policy.{Answering, Choice, Follows}
 use Rattle.pl_place.specs.Left.{beside, left}
-use Rattle.pl_place.specs.Placing.{Chose, range_of, InTurn, ArePlaced, StopsAt, AllFit, AllFree, MissesAll, AreApart, Because, IsFault, Lowest}
+use Rattle.pl_place.specs.Placing.{Chose, chosen, is_memory, range_of, InTurn, ArePlaced, StopsAt, AllFit, AllFree, MissesAll, AreApart, Because, IsFault}
 use Rattle.pl_place.proofs.LeftLaws.{beside_some, free_left}
 
 -- ---- one want more
@@ -144,41 +144,43 @@ placed_apart post holes (want ∷ wants) (start ∷ starts) placed = (
 pub all_apart : (post : Answering) (holes : List Range) (wants : List Want) (starts : List ℕ) → ArePlaced post holes wants starts → AreApart wants starts
 all_apart post holes wants starts placed = placed_apart post holes wants starts placed.in_turn
 
--- ---- what a policy answers, another may answer that answers as it does
+-- ---- a policy that follows a function
 
-abbrev AnswersAs : Answering → Answering → Type 0
-AnswersAs post other = (at : Bor (List Range)) (span align : ℕ) (answer : Option ℕ) → post at span align answer → other at span align answer
+told : (post : Answering) (choose : Choice) → Follows post choose → (holes : List Range) (want : Want) (answer : Option ℕ) → Chose post holes want answer → choose holes want.span want.align ≡ answer
+told post choose follows holes want answer chose =
+    let call = chose.0 in
+    sym (follows call.0 want.span want.align answer call.2 ∙ ap (λ hs. choose hs want.span want.align) call.1)
 
-placed_as : (post other : Answering) → AnswersAs post other → (holes : List Range) (wants : List Want) (starts : List ℕ) → InTurn post holes wants starts → InTurn other holes wants starts
-placed_as post other same holes [] [] placed = tt
-placed_as post other same holes [] (start ∷ starts) placed = placed
-placed_as post other same holes (want ∷ wants) [] placed = placed
-placed_as post other same holes (want ∷ wants) (start ∷ starts) placed =
-    let call = placed.0.0 in (
-      ((call.0, call.1, same call.0 want.span want.align (Some start) call.2), placed.0.1),
-      placed_as post other same (without (range_of want start) holes) wants starts placed.1,
-    )
+in_turn_chosen : (post : Answering) (choose : Choice) → Follows post choose → (holes : List Range) (wants : List Want) (starts : List ℕ) → InTurn post holes wants starts → chosen choose holes wants ≡ Ok starts
+unfolding chosen
+in_turn_chosen post choose follows holes [] [] placed = refl
+in_turn_chosen post choose follows holes [] (start ∷ starts) placed = absurd placed
+in_turn_chosen post choose follows holes (want ∷ wants) [] placed = absurd placed
+in_turn_chosen post choose follows holes (want ∷ wants) (start ∷ starts) placed =
+    let here = told post choose follows holes want (Some start) placed.0 in
+    let rest = in_turn_chosen post choose follows (without (range_of want start) holes) wants starts placed.1 in
+    rw (here, rest) refl
 
-stops_as : (post other : Answering) → AnswersAs post other → (holes : List Range) (wants : List Want) (name : List ℕ) → StopsAt post holes wants name → StopsAt other holes wants name
-stops_as post other same holes [] name stops = stops
-stops_as post other same holes (want ∷ wants) name (inl here) =
-    let call = here.1.0 in
-    inl (here.0, ((call.0, call.1, same call.0 want.span want.align None call.2), here.1.1))
-stops_as post other same holes (want ∷ wants) name (inr later) =
-    let call = later.1.0 in
-    inr (later.0, ((call.0, call.1, same call.0 want.span want.align (Some later.0) call.2), later.1.1), stops_as post other same (without (range_of want later.0) holes) wants name later.2)
+pub stops_chosen : (post : Answering) (choose : Choice) → Follows post choose → (holes : List Range) (wants : List Want) (name : List ℕ) → StopsAt post holes wants name → chosen choose holes wants ≡ Err (NoPlace name)
+unfolding chosen
+stops_chosen post choose follows holes [] name stops = absurd stops
+stops_chosen post choose follows holes (want ∷ wants) name (inl here) =
+    let none = told post choose follows holes want None here.1 in
+    rw (none, here.0) refl
+stops_chosen post choose follows holes (want ∷ wants) name (inr later) =
+    let here = told post choose follows holes want (Some later.0) later.1 in
+    let rest = stops_chosen post choose follows (without (range_of want later.0) holes) wants name later.2 in
+    rw (here, rest) refl
 
-pub all_as : (post other : Answering) (holes : List Range) (wants : List Want) (starts : List ℕ) → ArePlaced post holes wants starts → AnswersAs post other → ArePlaced other holes wants starts
-all_as post other holes wants starts placed same = record { in_turn = placed_as post other same holes wants starts placed.in_turn }
+-- the places, and why there are none, are those of the function
+pub all_chosen : (post : Answering) (choose : Choice) (holes : List Range) (wants : List Want) (starts : List ℕ) → Follows post choose → ArePlaced post holes wants starts → chosen choose holes wants ≡ Ok starts
+all_chosen post choose holes wants starts follows placed = in_turn_chosen post choose follows holes wants starts placed.in_turn
 
-because_as : (post other : Answering) → AnswersAs post other → (holes : List Range) (wants : List Want) (fault : PlaceFault) → Because post holes wants fault → Because other holes wants fault
-because_as post other same holes wants (NoPlace name) is = stops_as post other same holes wants name is
-because_as post other same holes wants NoMemory is = tt
+fault_chosen : (post : Answering) (choose : Choice) (holes : List Range) (wants : List Want) (fault : PlaceFault) → Follows post choose → IsFault post holes wants fault → Answers is_memory (Err fault) (chosen choose holes wants)
+fault_chosen post choose holes wants (NoPlace name) follows is = stops_chosen post choose follows holes wants name is.because
+fault_chosen post choose holes wants NoMemory follows is = tt
 
-pub fault_as : (post other : Answering) (holes : List Range) (wants : List Want) (fault : PlaceFault) → IsFault post holes wants fault → AnswersAs post other → IsFault other holes wants fault
-fault_as post other holes wants fault is same = record { because = because_as post other same holes wants fault is.because }
-
--- an answer of the lowest policy
-pub as_lowest : (at : Bor (List Range)) (span align : ℕ) (answer : Option ℕ) → IfSome answer (IsLowest at.now span align) → Lowest at span align answer
-as_lowest at span align (Some start) is = is
-as_lowest at span align None is = tt
+pub answers_chosen : {X : Type 0} (view : X → List ℕ) (post : Answering) (choose : Choice) (holes : List Range) (wants : List Want) (r : Result X PlaceFault) → Follows post choose
+    → IfOk r (λ x. ArePlaced post holes wants (view x)) → IfErr r (IsFault post holes wants) → AnswersAs view is_memory r (chosen choose holes wants)
+answers_chosen view post choose holes wants (Ok x) follows placed fault = all_chosen post choose holes wants (view x) follows placed
+answers_chosen view post choose holes wants (Err e) follows placed fault = fault_chosen post choose holes wants e follows fault

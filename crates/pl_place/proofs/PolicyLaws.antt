@@ -1,13 +1,15 @@
 -- What the places of numbers are to a policy.
-use Rattle.std.proofs.Common.{◌≡◌, ℕ, ◌+◌, ◌-◌, ◌%◌, ◌≤◌, ◌<◌, true, List, Option, Some, None, sym, ◌∙◌, ap, arith, inl, inr}
+use Rattle.std.proofs.Common.{◌≡◌, ℕ, ◌+◌, ◌-◌, ◌%◌, ◌≤◌, ◌<◌, ◌==◌, true, false, refl, List, Option, Some, None, sym, ◌∙◌, ap, arith, inl, inr}
 use Rattle.std.specs.Prelude.{IfSome}
 use Rattle.std.proofs.lemmas.Bool.{and_parts, and_from, cases_lt}
 use Rattle.std.proofs.lemmas.Nat.{mod_below}
+use Rattle.std.proofs.lemmas.Bool.Decides.{nat_tests}
 use Rattle.pl_base.specs.Sums.{is_aligned, plus}
 use Rattle.pl_base.proofs.TestLaws.{power_some}
 use Rattle.pl_elf.specs.declared.range.Range.{Range}
 use Rattle.pl_slots.specs.Holes.{AreHoles, fits_at, IsPlace}
 use Rattle.pl_place.specs.Numbering.{is_place, all_room, numbered, first_word, IsSeeded}
+use Rattle.pl_place.specs.Policies.{highest, seeded}
 use Rattle.pl_place.specs.Policy.{MayAnswer, IsHighest, IsAsked}
 use Rattle.pl_place.proofs.CountLaws.{count_next, count_grows}
 use Rattle.pl_place.proofs.NumberLaws.{all_counted, most_counted, numbered_is, numbered_none}
@@ -58,3 +60,21 @@ seeded_is number span align holes (Some start) asked are some is =
       place_from holes span align start at.0,
       at.1.0 ∙ ap (λ (all : ℕ). first_word (plus number span) % all) (sym (all_counted 0 span align holes asked.some p are)),
     )
+
+-- ---- the policies as functions
+
+pub highest_none : (holes : List Range) (span align : ℕ) → all_room span align holes ≡ 0 → None ≡ highest holes span align
+unfolding highest
+highest_none holes span align none = rw none refl
+
+pub highest_some : (holes : List Range) (span align : ℕ) → 0 < all_room span align holes → numbered span align holes (all_room span align holes - 1) ≡ highest holes span align
+unfolding highest
+highest_some holes span align some = let not_none : (all_room span align holes == 0) ≡ false = grind (arith, nat_tests) in rw not_none refl
+
+pub seeded_none : (number : ℕ) (holes : List Range) (span align : ℕ) → all_room span align holes ≡ 0 → None ≡ seeded number holes span align
+unfolding seeded
+seeded_none number holes span align none = rw none refl
+
+pub seeded_some : (number : ℕ) (holes : List Range) (span align : ℕ) → 0 < all_room span align holes → numbered span align holes (first_word (plus number span) % all_room span align holes) ≡ seeded number holes span align
+unfolding seeded
+seeded_some number holes span align some = let not_none : (all_room span align holes == 0) ≡ false = grind (arith, nat_tests) in rw not_none refl

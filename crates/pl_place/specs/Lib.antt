@@ -1,4 +1,5 @@
 pub mod Left
 pub mod Policy
 pub mod Numbering
+pub mod Policies
 pub mod Placing

@@ -1,12 +1,14 @@
 -- The places of wants in turn.
-use Rattle.std.specs.Prelude.{◌≡◌, ℕ, ◌⊎◌, true, false, not, ◌&&◌, List, [], ◌∷◌, Option, Some, None}
+use Rattle.std.specs.Prelude.{◌≡◌, ℕ, ◌⊎◌, Bool, true, false, not, ◌&&◌, List, [], ◌∷◌, Option, Some, None, Result, Ok}
+use Rattle.std.specs.Option.{ok_or}
+use Rattle.pl_base.specs.Answers.{◌>>=◌}
 use Rattle.pl_elf.specs.declared.range.Range.{Range}
-use Rattle.pl_slots.specs.Holes.{without, is_free, IsPlace, IsLowest}
+use Rattle.pl_slots.specs.Holes.{without, is_free, IsPlace}
 use Rattle.pl_elf.specs.Ranges.{has, range_from}
 use Rattle.pl_slots.specs.declared.slot.Want.{Want}
 use Rattle.pl_place.specs.declared.fault.PlaceFault.{PlaceFault}
 use Rattle.pl_place.specs.declared.fault.PlaceFault.TheVariants.{NoPlace, NoMemory}
-use Rattle.pl_place.specs.Policy.{Answering, Answered, MayAnswer, IsAsked}
+use Rattle.pl_place.specs.Policy.{Answering, Answered, Choice, MayAnswer, IsAsked}
 
 -- the policy answered so for a want in these holes, as it may
 abbrev pub Chose : Answering → List Range → Want → Option ℕ → Type 0
@@ -75,7 +77,16 @@ AreApart (want ∷ wants) (start ∷ starts) = MissesAll (range_of want start) w
 abbrev pub IsWant : Want → Type 0
 IsWant want = IsAsked want.span want.align
 
--- ---- the policy of the lowest address
-abbrev pub Lowest : Answering
-Lowest at span align (Some start) = IsLowest at.now span align start
-Lowest at span align None = Unit {0}
+-- ---- the places that a function chooses
+
+abbrev pub is_memory : PlaceFault → Bool
+is_memory NoMemory = true
+is_memory (NoPlace _) = false
+
+-- each want in turn is where the function says in the holes that are left beside those before it
+unfoldable pub chosen : Choice → List Range → List Want → Result (List ℕ) PlaceFault
+chosen choose holes [] = Ok []
+chosen choose holes (want ∷ wants) = do
+  start ← ok_or (choose holes want.span want.align) (NoPlace want.name)
+  starts ← chosen choose (without (range_of want start) holes) wants
+  Ok (start ∷ starts)

@@ -34,3 +34,11 @@ Answering = Bor (List Range) → ℕ → ℕ → Option ℕ → Type 0
 -- a call for these holes answered so
 abbrev pub Answered : Answering → List Range → ℕ → ℕ → Option ℕ → Type 0
 Answered post holes span align answer = (at : Bor (List Range)) × (at.now ≡ holes) × post at span align answer
+
+-- a policy as a function of holes, a span and an alignment
+abbrev pub Choice : Type 0
+Choice = List Range → ℕ → ℕ → Option ℕ
+
+-- each answer of a policy is the function's
+abbrev pub Follows : Answering → Choice → Type 0
+Follows post choose = (holes : Bor (List Range)) (span align : ℕ) (answer : Option ℕ) → post holes span align answer → answer ≡ choose holes.now span align

@@ -11,5 +11,5 @@ mod policies;
 pub use fault::PlaceFault;
 pub use holes::Holes;
 pub use placer::Placer;
-pub use placing::{place_all, place_lowest};
+pub use placing::place_all;
 pub use policies::{highest, lowest, seeded};

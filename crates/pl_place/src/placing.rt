@@ -1,11 +1,12 @@
 // The places of wants in turn.
 ghost use Rattle.std.specs.Prelude.{◌≡◌, ◌<◌, IfOk, IfErr, IfSome, IfNone, Some, None, All};
+ghost use Rattle.pl_base.specs.Answers.{AnswersAs};
 ghost use Rattle.pl_place.specs.Left.{left};
 ghost use Rattle.pl_place.specs.Policy as policy;
 ghost use Rattle.pl_place.specs.Placing as spec;
 
 use crate::holes::left;
-use crate::{Holes, PlaceFault, Placer, lowest};
+use crate::{Holes, PlaceFault, Placer};
 use pl_base::Text;
 use pl_elf::Range;
 use pl_slots::Want;
@@ -81,21 +82,8 @@ pub fn place_all<F: Fn(&Holes, u64, u64) -> Option<u64>>(
     // No two places share an address.
     ensures apart { IfOk result (λ starts. spec.AreApart wants.now starts.items) }
     ensures fault { IfErr result (spec.IsFault (F.post placer.now) (left region busy.now) wants.now) }
+    // Where the policy follows a function, they are that function's.
+    ensures exact { (choose : policy.Choice) → policy.Follows (F.post placer.now) choose → AnswersAs (λ starts. starts.items) spec.is_memory result (spec.chosen choose (left region busy.now) wants.now) }
 {
     placed(alloc, placer, wants, left(alloc, region, busy)?)
-}
-
-/// Places wants in turn as `place_all` does, each at the lowest address.
-pub fn place_lowest(
-    alloc: Global,
-    wants: &[Want],
-    busy: &[Range],
-    region: Range,
-) -> Result<Vec<u64>, PlaceFault>
-    requires { All spec.IsWant wants.now }
-    ensures places { IfOk result (λ starts. spec.ArePlaced spec.Lowest (left region busy.now) wants.now starts.items) }
-    ensures fault { IfErr result (spec.IsFault spec.Lowest (left region busy.now) wants.now) }
-{
-    let placer = Placer::new(|holes: &Holes, span: u64, align: u64| lowest(holes, span, align));
-    place_all(alloc, &placer, wants, busy, region)
 }

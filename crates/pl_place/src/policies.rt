@@ -1,6 +1,7 @@
 // The policies that choose a place.
 ghost use Rattle.std.specs.Prelude.{◌≡◌, IfSome};
 ghost use Rattle.pl_slots.specs.Holes.{IsLowest};
+ghost use Rattle.pl_place.specs.Policies as policies;
 ghost use Rattle.pl_place.specs.Policy as policy;
 ghost use Rattle.pl_place.specs.Numbering as spec;
 
@@ -12,10 +13,12 @@ use rand_core::utils::NextWord;
 use rand_pcg::Lcg128Xsl64;
 
 /// The least aligned address at which a span fits in one of the holes. None comes exactly where it fits nowhere.
+#[tactic(auto, unfolding(crate::specs::Policies::lowest))]
 pub fn lowest(holes: &Holes, span: u64, align: u64) -> Option<u64>
     requires { policy.IsAsked span align }
     ensures may { policy.MayAnswer holes.now span align result }
     ensures lowest { IfSome result (IsLowest holes.now span align) }
+    ensures exact { result ≡ policies.lowest holes.now span align }
 {
     lowest_place(holes.rows(), span, align)
 }
@@ -25,6 +28,7 @@ pub fn highest(holes: &Holes, span: u64, align: u64) -> Option<u64>
     requires { policy.IsAsked span align }
     ensures may { policy.MayAnswer holes.now span align result }
     ensures highest { IfSome result (policy.IsHighest holes.now span align) }
+    ensures exact { result ≡ policies.highest holes.now span align }
 {
     let all = all_room(holes.rows(), span, align);
     if all == 0 {
@@ -45,6 +49,7 @@ pub fn seeded(number: u64, holes: &Holes, span: u64, align: u64) -> Option<u64>
     requires { policy.IsAsked span align }
     ensures may { policy.MayAnswer holes.now span align result }
     ensures seeded { IfSome result (spec.IsSeeded number holes.now span align) }
+    ensures exact { result ≡ policies.seeded number holes.now span align }
 {
     let all = all_room(holes.rows(), span, align);
     if all == 0 {

@@ -1,7 +1,6 @@
 // Runs of `--load` over one file of a recipe, with changed words or another length.
 use crate::running::{change, check, files_of};
 use pl_cli::Status;
-use pl_folder::STORED;
 use pl_object::ORIGINAL;
 use std::process::Abort;
 use std::test::Fail;
@@ -160,20 +159,4 @@ fn goes_by_the_length(rt: HostRuntime) -> Result<(), Fail> {
         check(&rt, &files, &[("x", text)], want)?;
     }
     Ok(())
-}
-
-#[test]
-fn refuses_what_a_folder_does_not_give(rt: HostRuntime) -> Result<(), Fail> {
-    let alloc = rt.alloc();
-    let file = (
-        String::from_str(alloc, "x")?,
-        vec![in alloc; 0u8; STORED + 1]?,
-    );
-    let files = vec![in alloc; file]?;
-    check(
-        &rt,
-        &files,
-        &[("x", "refused FileTooLarge x\n")],
-        Status::Refused,
-    )
 }

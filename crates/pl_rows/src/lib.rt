@@ -4,6 +4,8 @@
 #[cfg(test)]
 mod changed;
 #[cfg(test)]
+mod commands;
+#[cfg(test)]
 mod loading;
 #[cfg(test)]
 mod making;

@@ -115,18 +115,21 @@ pub fn check(
     Ok(())
 }
 
-// Words that are no command: no call of the folder is made.
-const USAGE: [&[&str]; 10] = [
+// Words that are no command, or none that is there: no call of the folder is made.
+const USAGE: [&[&str]; 13] = [
     &[],
     &["--load"],
     &["--load", "st", "st"],
-    &["--load=st"],
     &["--load", "-st"],
     &["--loads", "st"],
     &["--make"],
     &["--make", "st", "st"],
-    &["--make=st"],
     &["--make", "-st"],
+    &["-a", "--load", "p"],
+    &["-p", "x"],
+    &["--load", "p", "--busy", "0-1"],
+    &["-a"],
+    &["--order", "p", "-v"],
 ];
 
 #[test]

@@ -1,10 +1,13 @@
 -- What a reference finds is a symbol of a member, and only the class of its kind counts.
-use Rattle.std.proofs.Common.{◌≡◌, ℕ, ◌<◌, Bool, true, false, cond, List, [], ◌∷◌, length, Option, Some, None, refl, sym, subst}
+use Rattle.std.proofs.Common.{◌≡◌, ℕ, ◌<◌, Bool, true, false, cond, List, [], ◌∷◌, length, Option, Some, None, refl, sym, ap, subst}
 use Rattle.std.specs.Prelude.{slice_get, ◌==◌, IfSome}
 use Rattle.std.specs.Option.{option_or}
 use Rattle.std.proofs.lemmas.Option.{slice_get_within}
 use Rattle.pl_sym.specs.declared.symbol.Symbol.{Symbol}
 use Rattle.pl_sym.specs.declared.class.Class.{Class}
+use Rattle.pl_sym.specs.declared.class.Class.TheVariants.{Other}
+use Rattle.pl_sym.specs.Definers.{is_definer}
+use Rattle.pl_elf.specs.Kinds.{is_program}
 use Rattle.pl_elf.specs.declared.constants.TheConstants.{R_X86_64_COPY, R_X86_64_JUMP_SLOT}
 use Rattle.pl_object.specs.declared.object.Object.{Object}
 use Rattle.pl_scope.specs.Matching.{matching}
@@ -12,7 +15,7 @@ use Rattle.pl_scope.specs.Finds.{found_in, of_object, in_member, first_in, binds
 use Rattle.pl_scope.specs.Scope.{IsSymbol}
 use Rattle.pl_scope.specs.declared.found.Found.{Found}
 use Rattle.pl_scope.specs.declared.reference.Reference.{Reference}
-use Rattle.pl_scope.proofs.MatchingLaws.{matching_within}
+use Rattle.pl_scope.proofs.MatchingLaws.{matching_within, IsDefined, matched, named_by}
 
 -- ---- a symbol of a member
 
@@ -32,9 +35,47 @@ of_object_is : (os : List Object) (name : List ℕ) (class : Class) (version : O
 of_object_is os name class version m None f at e = absurd (cc)
 of_object_is os name class version m (Some o) f at e = found_is os m o (matching o name class version) f at (matching_within o name class version) e
 
-in_member_is : (os : List Object) (name : List ℕ) (class : Class) (version : Option (List ℕ)) (m : ℕ) (f : Found) → in_member os name class version m ≡ Some f → IsSymbol os f.member f.symbol
+pub in_member_symbol : (os : List Object) (name : List ℕ) (class : Class) (version : Option (List ℕ)) (m : ℕ) (f : Found) → in_member os name class version m ≡ Some f → IsSymbol os f.member f.symbol
 unfolding in_member
-in_member_is os name class version m f e = of_object_is os name class version m (slice_get os m) f refl e
+in_member_symbol os name class version m f e = of_object_is os name class version m (slice_get os m) f refl e
+
+-- a member's definer is the member's
+named_in : (m : ℕ) (matched : Option ℕ) (f : Found) → found_in m matched ≡ Some f → f.member ≡ m
+named_in m None f e = absurd (cc)
+named_in m (Some i) f e = let is : record { member = m; symbol = i } ≡ f = cc in sym (ap (λ (g : Found). g.member) is)
+
+named_by_object : (name : List ℕ) (class : Class) (version : Option (List ℕ)) (m : ℕ) (x : Option Object) (f : Found) → of_object name class version m x ≡ Some f → f.member ≡ m
+named_by_object name class version m None f e = absurd (cc)
+named_by_object name class version m (Some o) f e = named_in m (matching o name class version) f e
+
+pub member_is : (os : List Object) (name : List ℕ) (class : Class) (version : Option (List ℕ)) (m : ℕ) (f : Found) → in_member os name class version m ≡ Some f → f.member ≡ m
+unfolding in_member
+member_is os name class version m f e = named_by_object name class version m (slice_get os m) f e
+
+-- a symbol of a member defines the name
+pub record Defines (os : List Object) (name : List ℕ) (m : ℕ) : Type 0 where
+  pub object : Object
+  pub index : ℕ
+  pub symbol : Symbol
+  pub object_at : slice_get os m ≡ Some object
+  pub symbol_at : slice_get object.symbols index ≡ Some symbol
+  pub defines : is_definer symbol Other (is_program object.kind) ≡ true
+  pub named : symbol.name ≡ name
+
+defined_in : (os : List Object) (name : List ℕ) (class : Class) (m : ℕ) (o : Object) (x : Option ℕ) (f : Found) → slice_get os m ≡ Some o → ((i : ℕ) → x ≡ Some i → IsDefined o name class i) → found_in m x ≡ Some f → Defines os name m
+defined_in os name class m o None f at is e = absurd (cc)
+defined_in os name class m o (Some i) f at is e =
+    let d = is i refl in
+    let n = named_by o name class d.symbol d.defines in
+    record { object = o; index = i; symbol = d.symbol; object_at = at; symbol_at = d.at; defines = n.definer; named = n.named }
+
+defined_by : (os : List Object) (name : List ℕ) (class : Class) (version : Option (List ℕ)) (m : ℕ) (x : Option Object) (f : Found) → slice_get os m ≡ x → of_object name class version m x ≡ Some f → Defines os name m
+defined_by os name class version m None f at e = absurd (cc)
+defined_by os name class version m (Some o) f at e = defined_in os name class m o (matching o name class version) f at (matched o name class version) e
+
+pub member_defines : (os : List Object) (name : List ℕ) (class : Class) (version : Option (List ℕ)) (m : ℕ) (f : Found) → in_member os name class version m ≡ Some f → Defines os name m
+unfolding in_member
+member_defines os name class version m f e = defined_by os name class version m (slice_get os m) f refl e
 
 or_is : (os : List Object) (a b : Option Found) (f : Found) → (a ≡ Some f → IsSymbol os f.member f.symbol) → (b ≡ Some f → IsSymbol os f.member f.symbol) → option_or a b ≡ Some f → IsSymbol os f.member f.symbol
 or_is os None b f g h e = h e
@@ -44,7 +85,7 @@ first_in_is : (os : List Object) (name : List ℕ) (class : Class) (version : Op
 unfolding first_in
 first_in_is os name class version [] f e = absurd (cc)
 first_in_is os name class version (m ∷ ms) f e =
-    or_is os (in_member os name class version m) (first_in os name class version ms) f (in_member_is os name class version m f) (first_in_is os name class version ms f) e
+    or_is os (in_member os name class version m) (first_in os name class version ms) f (in_member_symbol os name class version m f) (first_in_is os name class version ms f) e
 
 either_is : (os : List Object) (r : Reference) (o : Object) (b : Bool) (other : Option Found) (f : Found) → slice_get os r.member ≡ Some o → r.symbol < length o.symbols → (other ≡ Some f → IsSymbol os f.member f.symbol)
     → cond b (Some (record { member = r.member; symbol = r.symbol })) other ≡ Some f → IsSymbol os f.member f.symbol

@@ -12,4 +12,5 @@ pub mod StepLaws
 pub mod ClosureLaws
 pub mod WalkedLaws
 pub mod FoundLaws
+pub mod IndexLaws
 pub mod KeptLaws

@@ -4,7 +4,7 @@ use Rattle.std.specs.Prelude.{slice_get, position, is_some, ◌==◌, nat_lt}
 use Rattle.std.specs.List.{list_any}
 use Rattle.std.specs.Option.{option_or}
 use Rattle.std.specs.Str.{bytes_eq}
-use Rattle.std.proofs.lemmas.Bool.{false≢true}
+use Rattle.std.proofs.lemmas.Bool.{false≢true, and_parts}
 use Rattle.std.proofs.lemmas.Slice.Eq.{bytes_eq-Decides}
 use Rattle.pl_sym.specs.Definers.{is_definer, is_definition, is_canonical}
 use Rattle.pl_sym.specs.declared.symbol.Symbol.{Symbol}
@@ -20,7 +20,7 @@ use Rattle.pl_scope.specs.Matching.{defines, has_version, counts, only, versione
 use Rattle.pl_scope.specs.Probing.{passes, IsTable, is_canonical_of, has_canonical}
 use Rattle.pl_scope.specs.Scope.{IsFit}
 use Rattle.pl_scope.specs.declared.constants.TheConstants.{FIRST_VERSION}
-use Rattle.pl_scope.proofs.PlaceLaws.{position_none, only_none, position_within, only_within, position_same, only_same}
+use Rattle.pl_scope.proofs.PlaceLaws.{at_found, position_none, only_none, only_is_first, position_within, only_within, position_same, only_same}
 use Rattle.pl_scope.proofs.TableLaws.{no_tables, none_at}
 
 -- ---- no symbol
@@ -171,3 +171,60 @@ matching_within o name class (Some version) i e =
     (or_within (length o.symbols) i (position (λ s. defines o name class s && s.version == VER_NDX_GLOBAL) o.symbols) _ (position_within _ o.symbols i)
     (if_within (length o.symbols) i (is_some o.versions) (only (counts o name class true) o.symbols) (only_within (counts o name class true) o.symbols i)))
     e
+
+-- ---- what matches defines the name
+
+-- the symbol of an index defines the name
+pub record IsDefined (o : Object) (name : List ℕ) (class : Class) (i : ℕ) : Type 0 where
+  pub symbol : Symbol
+  pub at : slice_get o.symbols i ≡ Some symbol
+  pub defines : defines o name class symbol ≡ true
+
+passed_at : (o : Object) (name : List ℕ) (class : Class) (r : Symbol → Bool) (i : ℕ) (x : Option Symbol) → slice_get o.symbols i ≡ x → passes (λ s. defines o name class s && r s) x ≡ true → IsDefined o name class i
+passed_at o name class r i None at e = absurd (false≢true e)
+passed_at o name class r i (Some s) at e = record { symbol = s; at = at; defines = (and_parts (defines o name class s) (r s) e).0 }
+
+first_defined : (o : Object) (name : List ℕ) (class : Class) (r : Symbol → Bool) (i : ℕ) → position (λ s. defines o name class s && r s) o.symbols ≡ Some i → IsDefined o name class i
+first_defined o name class r i e =
+    passed_at o name class r i (slice_get o.symbols i) refl (at_found (λ s. defines o name class s && r s) o.symbols i e).passes
+
+only_defined : (o : Object) (name : List ℕ) (class : Class) (r : Symbol → Bool) (i : ℕ) → only (λ s. defines o name class s && r s) o.symbols ≡ Some i → IsDefined o name class i
+only_defined o name class r i e = first_defined o name class r i (only_is_first (λ s. defines o name class s && r s) o.symbols i e)
+
+or_defined : (o : Object) (name : List ℕ) (class : Class) (i : ℕ) (a b : Option ℕ) → (a ≡ Some i → IsDefined o name class i) → (b ≡ Some i → IsDefined o name class i) → option_or a b ≡ Some i → IsDefined o name class i
+or_defined o name class i None b f g e = g e
+or_defined o name class i (Some a) b f g e = f e
+
+if_defined : (o : Object) (name : List ℕ) (class : Class) (i : ℕ) (b : Bool) (x : Option ℕ) → (x ≡ Some i → IsDefined o name class i) → cond b None x ≡ Some i → IsDefined o name class i
+if_defined o name class i true x f e = absurd (cc)
+if_defined o name class i false x f e = f e
+
+pub matched : (o : Object) (name : List ℕ) (class : Class) (version : Option (List ℕ)) (i : ℕ) → matching o name class version ≡ Some i → IsDefined o name class i
+unfolding versioned unversioned counts
+matched o name class None i e =
+    or_defined o name class i (at_index o name class VER_NDX_LOCAL) _ (first_defined o name class (λ s. index_of s.version == VER_NDX_LOCAL) i)
+    (or_defined o name class i (at_index o name class VER_NDX_GLOBAL) _ (first_defined o name class (λ s. index_of s.version == VER_NDX_GLOBAL) i)
+    (or_defined o name class i (at_index o name class FIRST_VERSION) _ (first_defined o name class (λ s. index_of s.version == FIRST_VERSION) i)
+    (only_defined o name class (λ s. false || nat_lt s.version VERSYM_HIDDEN) i)))
+    e
+matched o name class (Some version) i e =
+    or_defined o name class i (position (λ s. defines o name class s && has_version o version s) o.symbols) _ (first_defined o name class (has_version o version) i)
+    (or_defined o name class i (position (λ s. defines o name class s && s.version == VER_NDX_GLOBAL) o.symbols) _ (first_defined o name class (λ s. s.version == VER_NDX_GLOBAL) i)
+    (if_defined o name class i (is_some o.versions) _ (only_defined o name class (λ s. true || nat_lt s.version VERSYM_HIDDEN) i)))
+    e
+
+-- a definer of any class is one for references other than jump slots
+other_by : (s : Symbol) (class : Class) (p : Bool) → is_definer s class p ≡ true → is_definer s Other p ≡ true
+other_by s Jump p e = rw e refl
+other_by s Other p e = e
+
+-- what defines a name is a definer with this name
+pub record IsNamed (o : Object) (name : List ℕ) (s : Symbol) : Type 0 where
+  pub definer : is_definer s Other (is_program o.kind) ≡ true
+  pub named : s.name ≡ name
+
+pub named_by : (o : Object) (name : List ℕ) (class : Class) (s : Symbol) → defines o name class s ≡ true → IsNamed o name s
+unfolding defines
+named_by o name class s e =
+    let parts = and_parts (is_definer s class (is_program o.kind)) (bytes_eq s.name name) e in
+    record { definer = other_by s class (is_program o.kind) parts.0; named = (bytes_eq-Decides s.name name).0 parts.1 }

@@ -170,8 +170,11 @@ only_found : (b : Bool) (o : Option ℕ) (i : ℕ) → cond b o None ≡ Some i 
 only_found true o i e = e
 only_found false o i e = absurd (cc)
 
+pub only_is_first : (p : Symbol → Bool) (xs : List Symbol) (i : ℕ) → only p xs ≡ Some i → position p xs ≡ Some i
+only_is_first p xs i e = only_found (count_by p xs == 1) (position p xs) i e
+
 pub only_within : (p : Symbol → Bool) (xs : List Symbol) (i : ℕ) → only p xs ≡ Some i → i < length xs
-only_within p xs i e = position_within p xs i (only_found (count_by p xs == 1) (position p xs) i e)
+only_within p xs i e = position_within p xs i (only_is_first p xs i e)
 
 -- ---- tests that agree on all symbols
 

@@ -5,4 +5,5 @@ pub mod Scope
 pub mod Matching
 pub mod Probing
 pub mod Finds
+pub mod Index
 pub mod Kept

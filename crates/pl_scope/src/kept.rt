@@ -5,16 +5,22 @@ ghost use Rattle.pl_scope.specs.Finds.{finds};
 ghost use Rattle.pl_scope.specs.Kept as spec;
 
 use crate::answers::Answers;
-use crate::{Found, Reference, Scope, find};
+use crate::index::{Entry, index_of};
+use crate::lookup::{Way, find_by};
+use crate::{Found, Reference, Scope};
 use pl_io::NoMemory;
 use pl_object::Object;
 use std::alloc::{AllocError, Global};
 use std::marker::Model;
 
-/// The look-ups of a scope whose answers are kept: one place for each member, symbol and class of relocations (JUMP_SLOT, COPY, every other). Contracts see it as the scope.
+/// The look-ups of a scope whose answers are kept: one place for each member, symbol and class of relocations (JUMP_SLOT, COPY, every other). An index of the definers of all members, by the hashes of their names, tells a first look-up which members to ask. Contracts see it as the scope.
 #[derive(Drop)]
 pub struct Kept<'s, 'a> {
     scope: &'s Scope<'a>,
+
+    /// The definers of all members, in the order of their names' hashes.
+    index: Vec<Entry>,
+
     rows: Vec<Vec<Answers>>,
 }
 
@@ -22,13 +28,13 @@ impl<'s, 'a> Model for Kept<'s, 'a> {
     ghost use Rattle.std.specs.Prelude.{map};
     ghost use Rattle.pl_scope.specs.Walk.{Walked};
     ghost use Rattle.pl_scope.specs.Scope.{objects};
-    ghost use Rattle.pl_scope.specs.Kept.{IsKept};
+    ghost use Rattle.pl_scope.specs.Kept.{IsKeeping};
 
     ghost Value = { Walked };
 
     ghost view = { λ k. k.scope.now };
 
-    ghost invariant = { λ k. IsKept (objects k.scope.now) (map (λ row. row.items) k.rows.items) };
+    ghost invariant = { λ k. IsKeeping (objects k.scope.now) k.index.items (map (λ row. row.items) k.rows.items) };
 }
 
 fn unasked_row(alloc: Global, object: &Object) -> Result<Vec<Answers>, AllocError>
@@ -60,12 +66,13 @@ fn keep(scope: &Scope<'_>, rows: &mut [Vec<Answers>], reference: Reference, foun
 }
 
 impl<'s, 'a> Kept<'s, 'a> {
-    /// The look-ups of a scope, of which none was asked yet. It fails only for want of memory.
+    /// The look-ups of a scope, of which none was asked yet. The time grows as `n log n` with the members' symbols. It fails only for want of memory.
     pub fn new(alloc: Global, scope: &'s Scope<'a>) -> Result<Kept<'s, 'a>, NoMemory>
         ensures { IfOk result (λ kept. kept ≡ scope.now) }
     {
+        let index = index_of(alloc, scope)?;
         let rows = unasked_rows(alloc, scope)?;
-        Ok(Kept { scope, rows })
+        Ok(Kept { scope, index, rows })
     }
 
     /// The scope.
@@ -86,7 +93,7 @@ impl<'s, 'a> Kept<'s, 'a> {
         if let Some(found) = answers.of(reference.kind) {
             return found;
         }
-        let found = find(self.scope, reference);
+        let found = find_by(self.scope, reference, Way::Indexed(&self.index));
         keep(self.scope, &mut self.rows, reference, found);
         found
     }

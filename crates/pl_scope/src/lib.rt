@@ -5,6 +5,7 @@ mod answers;
 pub mod constants;
 mod fault;
 mod found;
+mod index;
 mod kept;
 mod laws;
 mod lookup;

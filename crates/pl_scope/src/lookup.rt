@@ -5,16 +5,31 @@ ghost use Rattle.std.specs.Option.{option_map};
 ghost use Rattle.pl_scope.specs.Scope.{objects, IsFit, IsSymbol};
 ghost use Rattle.pl_scope.specs.Matching.{matching};
 ghost use Rattle.pl_scope.specs.Probing as probing;
+ghost use Rattle.pl_scope.specs.Index as index;
 ghost use Rattle.pl_scope.specs.Finds as spec;
 
+use crate::index::{Entry, under};
 use crate::matching::{defines, matching};
 use crate::probe::matching_by_table;
-use crate::wanted::{Wanted, Way, wanted_by};
+use crate::wanted::{Wanted, wanted_by};
 use crate::{Found, Reference, Scope};
 use pl_elf::constants::R_X86_64_COPY;
 use pl_object::Object;
 use pl_sym::constants::STV_DEFAULT;
 use pl_sym::{Class, Symbol};
+
+/// A way to search the members.
+#[derive(Clone, Copy)]
+pub enum Way<'i> {
+    /// One after the other, each by a table.
+    InOrder,
+
+    /// Those that have a definer under the name's hash, by an index of the scope, each by a table.
+    Indexed(&'i [Entry]),
+
+    /// One after the other, each through all its symbols.
+    InLists,
+}
 
 #[tactic(auto, unfolding(crate::specs::Finds::binds_itself))]
 fn binds_itself(symbol: &Symbol) -> bool
@@ -68,48 +83,114 @@ fn matching_by_list(object: &Object, wanted: &Wanted<'_>) -> Option<u32>
 }
 
 /// The index of an object's symbol that matches. A table of the object is asked, but for a canonical address.
-fn matching_in(object: &Object, wanted: &Wanted<'_>) -> Option<u32>
+fn matching_by_hash(object: &Object, wanted: &Wanted<'_>) -> Option<u32>
     requires fit { IsFit object.now }
     requires wanted { probing.IsWanted wanted.now }
     ensures { result ≡ matching object.now wanted.now.name.now wanted.now.class (option_map (λ x. x.now) wanted.now.version) }
 {
-    match wanted.way {
-        Way::List => matching_by_list(object, wanted),
-        Way::Table => {
-            if has_canonical(object, wanted.name, wanted.class) {
-                return matching_by_list(object, wanted);
-            }
-            matching_by_table(object, wanted)
-        }
+    if has_canonical(object, wanted.name, wanted.class) {
+        return matching_by_list(object, wanted);
     }
+    matching_by_table(object, wanted)
 }
 
-#[tactic(auto, unfolding(crate::specs::Finds::in_member))]
-fn in_member(scope: &Scope<'_>, wanted: &Wanted<'_>, member: u32) -> Option<Found>
-    requires within { member < length scope.now }
-    requires wanted { probing.IsWanted wanted.now }
-    ensures { result ≡ spec.in_member (objects scope.now) wanted.now.name.now wanted.now.class (option_map (λ x. x.now) wanted.now.version) member }
+fn found_in(member: u32, matched: Option<u32>) -> Option<Found>
+    ensures { result ≡ spec.found_in member matched }
 {
-    match matching_in(scope.object(member), wanted) {
+    match matched {
         None => None,
         Some(symbol) => Some(Found { member, symbol }),
     }
 }
 
+/// The matching definer of a member.
+#[tactic(auto, unfolding(crate::specs::Finds::in_member))]
+fn in_member(scope: &Scope<'_>, wanted: &Wanted<'_>, member: u32, way: Way<'_>) -> Option<Found>
+    requires within { member < length scope.now }
+    requires wanted { probing.IsWanted wanted.now }
+    ensures { result ≡ spec.in_member (objects scope.now) wanted.now.name.now wanted.now.class (option_map (λ x. x.now) wanted.now.version) member }
+{
+    let object = scope.object(member);
+    let matched = match way {
+        Way::InLists => matching_by_list(object, wanted),
+        _ => matching_by_hash(object, wanted),
+    };
+    found_in(member, matched)
+}
+
 /// The matching definer of the first member from one on that has one.
 #[tactic(auto, using(crate::proofs::SearchLaws::first_more, crate::proofs::SearchLaws::first_done))]
-fn first_from(scope: &Scope<'_>, wanted: &Wanted<'_>, start: u32) -> Option<Found>
+fn first_in_order(scope: &Scope<'_>, wanted: &Wanted<'_>, start: u32, way: Way<'_>) -> Option<Found>
     requires { probing.IsWanted wanted.now }
     ensures { result ≡ spec.first_in (objects scope.now) wanted.now.name.now wanted.now.class (option_map (λ x. x.now) wanted.now.version) (spec.from_member start (length scope.now)) }
 {
     let count = scope.count();
     for member in start..count {
-        let found = in_member(scope, wanted, member);
+        let found = in_member(scope, wanted, member, way);
         if found.is_some() {
             return found;
         }
     }
     None
+}
+
+/// Whether a member is to be asked: one from the first on, and before that of what was found.
+fn is_better(start: u32, best: Option<Found>, member: u32) -> bool
+    ensures { result ≡ index.is_better start best member }
+{
+    match best {
+        None => start <= member,
+        Some(found) => start <= member && member < found.member,
+    }
+}
+
+/// The matching definer of a member where it is better than what was found, which else stays.
+fn best_of(
+    scope: &Scope<'_>,
+    wanted: &Wanted<'_>,
+    start: u32,
+    best: Option<Found>,
+    member: u32,
+) -> Option<Found>
+    requires within { member < length scope.now }
+    requires wanted { probing.IsWanted wanted.now }
+    ensures { result ≡ index.best_of (objects scope.now) wanted.now.name.now wanted.now.class (option_map (λ x. x.now) wanted.now.version) start best member }
+{
+    if is_better(start, best, member) {
+        in_member(scope, wanted, member, Way::InOrder).or(best)
+    } else {
+        best
+    }
+}
+
+/// The matching definer of the first member from one on that has one, where only the members under the name's hash are asked.
+fn first_indexed(
+    scope: &Scope<'_>,
+    wanted: &Wanted<'_>,
+    start: u32,
+    entries: &[Entry],
+) -> Option<Found>
+    requires wanted { probing.IsWanted wanted.now }
+    requires index { index.IsIndex (objects scope.now) entries.now }
+    ensures { result ≡ spec.first_in (objects scope.now) wanted.now.name.now wanted.now.class (option_map (λ x. x.now) wanted.now.version) (spec.from_member start (length scope.now)) }
+{
+    let mut best = None;
+    for entry in under(entries, wanted.gnu) {
+        best = best_of(scope, wanted, start, best, entry.member);
+    }
+    best
+}
+
+/// The matching definer of the first member from one on that has one.
+fn first_from(scope: &Scope<'_>, wanted: &Wanted<'_>, start: u32, way: Way<'_>) -> Option<Found>
+    requires wanted { probing.IsWanted wanted.now }
+    requires way { index.IsWay (objects scope.now) way }
+    ensures { result ≡ spec.first_in (objects scope.now) wanted.now.name.now wanted.now.class (option_map (λ x. x.now) wanted.now.version) (spec.from_member start (length scope.now)) }
+{
+    match way {
+        Way::Indexed(entries) => first_indexed(scope, wanted, start, entries),
+        _ => first_in_order(scope, wanted, start, way),
+    }
 }
 
 /// The matching definer in the order of the search.
@@ -119,21 +200,23 @@ fn in_order(
     reference: Reference,
     object: &Object,
     wanted: &Wanted<'_>,
+    way: Way<'_>,
 ) -> Option<Found>
     requires within { reference.member < length scope.now }
     requires wanted { probing.IsWanted wanted.now }
+    requires way { index.IsWay (objects scope.now) way }
     ensures { result ≡ spec.first_in (objects scope.now) wanted.now.name.now wanted.now.class (option_map (λ x. x.now) wanted.now.version) (spec.searched object.now reference (length scope.now)) }
 {
     if reference.kind == R_X86_64_COPY {
-        return first_from(scope, wanted, 1);
+        return first_from(scope, wanted, 1, way);
     }
     if object.symbolic {
-        let found = in_member(scope, wanted, reference.member);
+        let found = in_member(scope, wanted, reference.member, way);
         if found.is_some() {
             return found;
         }
     }
-    first_from(scope, wanted, 0)
+    first_from(scope, wanted, 0, way)
 }
 
 #[tactic(auto, unfolding(crate::specs::Finds::found_for))]
@@ -142,13 +225,14 @@ fn found_for(
     reference: Reference,
     object: &Object,
     symbol: &Symbol,
-    way: Way,
+    way: Way<'_>,
 ) -> Option<Found>
-    requires { reference.member < length scope.now }
+    requires within { reference.member < length scope.now }
+    requires way { index.IsWay (objects scope.now) way }
     ensures { result ≡ spec.found_for (objects scope.now) reference object.now symbol.now }
 {
-    let wanted = wanted_by(object, symbol, reference.kind, way);
-    in_order(scope, reference, object, &wanted)
+    let wanted = wanted_by(object, symbol, reference.kind);
+    in_order(scope, reference, object, &wanted, way)
 }
 
 /// A reference's own symbol.
@@ -160,9 +244,11 @@ pub fn own_symbol<'a>(scope: &Scope<'a>, reference: Reference) -> &'a Symbol
     &object.symbols.as_slice()[reference.symbol as usize]
 }
 
+/// The symbol that a reference finds, by a way to search the members.
 #[tactic(auto, unfolding(crate::specs::Finds::finds))]
-fn find_by(scope: &Scope<'_>, reference: Reference, way: Way) -> Option<Found>
-    requires { IsSymbol (objects scope.now) reference.member reference.symbol }
+pub fn find_by(scope: &Scope<'_>, reference: Reference, way: Way<'_>) -> Option<Found>
+    requires reference { IsSymbol (objects scope.now) reference.member reference.symbol }
+    requires way { index.IsWay (objects scope.now) way }
     ensures { result ≡ spec.finds (objects scope.now) reference }
 {
     let object = scope.object(reference.member);
@@ -188,7 +274,7 @@ pub fn find(scope: &Scope<'_>, reference: Reference) -> Option<Found>
     ensures exact { result ≡ spec.finds (objects scope.now) reference }
     ensures within { IfSome result (λ found. IsSymbol (objects scope.now) found.member found.symbol) }
 {
-    find_by(scope, reference, Way::Table)
+    find_by(scope, reference, Way::InOrder)
 }
 
 /// The symbol that a reference finds in a scope, as `find` gives it, by a search through all symbols of each object. For tests: it takes as many steps as the objects have symbols.
@@ -196,5 +282,5 @@ pub fn find_in_lists(scope: &Scope<'_>, reference: Reference) -> Option<Found>
     requires { IsSymbol (objects scope.now) reference.member reference.symbol }
     ensures { result ≡ spec.finds (objects scope.now) reference }
 {
-    find_by(scope, reference, Way::List)
+    find_by(scope, reference, Way::InLists)
 }

@@ -12,16 +12,6 @@ use pl_sym::{Class, Symbol};
 use pl_ver::constants::VER_NDX_GLOBAL;
 use pl_ver::index_of;
 
-/// A way to search an object.
-#[derive(Clone, Copy)]
-pub enum Way {
-    /// By the hash of the name in one of its tables.
-    Table,
-
-    /// Through all its symbols.
-    List,
-}
-
 /// What a reference asks of each object: a definer of a name, for a class of relocations and with or without a version. The name's hashes are made once.
 #[derive(Drop)]
 pub struct Wanted<'a> {
@@ -36,8 +26,6 @@ pub struct Wanted<'a> {
 
     /// The name's hash in a System V table.
     pub sysv: u32,
-
-    pub way: Way,
 }
 
 #[tactic(auto, unfolding(crate::specs::Finds::class_of))]
@@ -63,7 +51,7 @@ fn version_wanted<'a>(object: &'a Object, symbol: &Symbol) -> Option<&'a [u8]>
 }
 
 /// What a symbol of an object asks for a kind of relocation.
-pub fn wanted_by<'a>(object: &'a Object, symbol: &'a Symbol, kind: u32, way: Way) -> Wanted<'a>
+pub fn wanted_by<'a>(object: &'a Object, symbol: &'a Symbol, kind: u32) -> Wanted<'a>
     ensures name { result.name.now ≡ symbol.now.name }
     ensures class { result.class ≡ finds.class_of kind }
     ensures version { option_map (λ name. name.now) result.version ≡ finds.version_wanted object.now symbol.now }
@@ -76,7 +64,6 @@ pub fn wanted_by<'a>(object: &'a Object, symbol: &'a Symbol, kind: u32, way: Way
         version: version_wanted(object, symbol),
         gnu: gnu_hash(name),
         sysv: sysv_hash(name),
-        way,
     }
 }
 

@@ -21,7 +21,7 @@ use Rattle.pl_slots.proofs.ServeLaws.{AreSome, is_kept, lowest_fits, fits_free, 
 
 -- ---- pairs of slots
 
-beside_back : (a b : Slot) → is_beside a b ≡ true → is_beside b a ≡ true
+pub beside_back : (a b : Slot) → is_beside a b ≡ true → is_beside b a ≡ true
 beside_back a b h = elim (cases_Bool (nat_le (a.start + a.span) b.start)) [
   | inl low ↦ or_right (nat_le (b.start + b.span) a.start) (nat_le (a.start + a.span) b.start) low
   | inr miss ↦ or_left (nat_le (b.start + b.span) a.start) (nat_le (a.start + a.span) b.start) (rw miss at h)
@@ -64,11 +64,11 @@ outside_with holes [] ys slot out some taken = (some, taken, out)
 outside_with holes (x ∷ xs) ys slot out some taken = (out.0, out.1, outside_with holes xs ys slot out.2 some taken)
 
 -- a range that was taken is not free
-taken_not_free : (taken : Range) (holes : List Range) (address : ℕ) → has address taken ≡ true → is_free address (without taken holes) ≡ false
+pub taken_not_free : (taken : Range) (holes : List Range) (address : ℕ) → has address taken ≡ true → is_free address (without taken holes) ≡ false
 taken_not_free taken holes address within = free_without address taken holes ∙ (rw within (and-false (is_free address holes)))
 
 -- a slot that fits in holes is beside each slot outside of them
-fits_beside : (holes : List Range) (slot other : Slot) → 0 < slot.span → fits_at holes slot.span slot.start ≡ true → 0 < other.span
+pub fits_beside : (holes : List Range) (slot other : Slot) → 0 < slot.span → fits_at holes slot.span slot.start ≡ true → 0 < other.span
     → ((address : ℕ) → has address (range_of other) ≡ true → is_free address holes ≡ false) → is_beside slot other ≡ true
 fits_beside holes slot other some fits more taken = elim (cases_Bool (is_beside slot other)) [
   | inl besides ↦ besides

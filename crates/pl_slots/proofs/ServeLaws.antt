@@ -102,7 +102,7 @@ unfolding kept_holes
 holes_in_region kept region wants = λ address free. sym (free_in_region address region) ∙ free_before kept region wants (region_holes region) address free
 
 -- a span that fits in holes of a region lies in the region
-lies_where_free : (region : Range) (holes : List Range) (slot : Slot) → InRegion region holes → 0 < slot.span → fits_at holes slot.span slot.start ≡ true → lies_in region slot ≡ true
+pub lies_where_free : (region : Range) (holes : List Range) (slot : Slot) → InRegion region holes → 0 < slot.span → fits_at holes slot.span slot.start ≡ true → lies_in region slot ≡ true
 unfolding lies_in
 lies_where_free region holes slot inside some fits =
     let first = and_parts (nat_le region.start slot.start) _ (inside slot.start (fits_free holes slot.span slot.start slot.start fits (omega arith) (omega (arith, some)))) in

@@ -6,7 +6,8 @@ ghost use Rattle.pl_slots.specs.Apart as spec;
 use crate::Slot;
 use pl_base::end;
 
-fn is_beside(a: &Slot, b: &Slot) -> bool
+/// Whether two slots share no address: one of them ends at or below the other's start.
+pub fn is_beside(a: &Slot, b: &Slot) -> bool
     ensures { result ≡ spec.is_beside a.now b.now }
 {
     end(a.start, a.span) <= u128::from(b.start) || end(b.start, b.span) <= u128::from(a.start)

@@ -8,8 +8,8 @@ mod planned;
 mod planning;
 mod slot;
 
-pub use apart::are_apart;
+pub use apart::{are_apart, is_beside};
 pub use fault::PlanFault;
 pub use holes::{first_address, greatest, lowest_place, region_holes, without};
-pub use planning::plan;
+pub use planning::{kept_row, plan};
 pub use slot::{Slot, Want};

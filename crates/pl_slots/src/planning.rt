@@ -37,8 +37,8 @@ fn find_row<'a>(kept: &'a [Slot], region: Range, want: &Want) -> Option<&'a Slot
     kept.iter().find(|row| keeps(region, want, row))
 }
 
-/// The row that a want keeps, if there is one.
-fn kept_row<'a>(kept: &'a [Slot], region: Range, want: &Want) -> Option<&'a Slot>
+/// The row that a want keeps, if there is one: the row of its name, where it is large enough, aligned as the library wants, and in the region.
+pub fn kept_row<'a>(kept: &'a [Slot], region: Range, want: &Want) -> Option<&'a Slot>
     requires { 0 < want.now.align }
     ensures row { option_map (λ row. row.now) result ≡ spec.kept_row kept.now region want.now }
     ensures within { IfSome result (λ row. row.now.start + row.now.span ≤ region.end) }

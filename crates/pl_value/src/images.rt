@@ -15,8 +15,8 @@ use pl_scope::Scope;
 use pl_tls::Module;
 use std::alloc::{AllocError, Global};
 
-/// The objects of a scope as loaded at their places.
-fn load<'a>(
+/// The objects of a scope as loaded at their places, in scope order: `parts` are the files of the members. It fails only for want of memory.
+pub fn load<'a>(
     alloc: Global,
     scope: &Scope<'a>,
     parts: &Parts<'a>,

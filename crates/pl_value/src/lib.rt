@@ -18,9 +18,10 @@ mod word;
 
 pub use collecting::meanings;
 pub use fault::{LinkFault, OrdinaryFault};
-pub use images::ordinary;
+pub use images::{load, ordinary};
 pub use law::meanings_fit;
 pub use meaning::Meaning;
 pub use places::Places;
-pub use values::{value, value_of};
+pub use reading::read;
+pub use values::{reference_of, value, value_of, word_of};
 pub use word::Word;

@@ -11,9 +11,11 @@ use Rattle.pl_cli.proofs.load.load.Given as goal
 abbrev pub invariant-loop-wanted : goal.invariant-loop-wanted
 invariant-loop-wanted g l =
     let seen = g.D.Folder.seen in record {
-      under_way : (seen l.fn.folder).tells ≡ true → IsUnderWay causes.Load (file_in (seen l.fn.folder).files) l.name l.loader;
-      calls : Calls Done (AllBut (left_from (seen l.fn.folder).files l.name l.loader.order) (takes (seen l.fn.folder).files l.name)) (seen l.fn.folder) (seen l.folder);
+      under_way : (seen l.fn.folder).tells ≡ true → IsUnderWay causes.Load (file_in (seen l.fn.folder).files) l.name l.loader.walk;
+      busy : l.loader.busy ≡ l.fn.busy;
+      policy : l.loader.policy ≡ l.placer;
+      calls : Calls Done (AllBut (left_from (seen l.fn.folder).files l.name l.loader.walk.order) (takes (seen l.fn.folder).files l.name)) (seen l.fn.folder) (seen l.folder);
     }
 
 abbrev pub decreases-loop-wanted : goal.decreases-loop-wanted
-decreases-loop-wanted g l = MAX_MEMBERS - l.loader.order.given
+decreases-loop-wanted g l = MAX_MEMBERS - l.loader.walk.order.given

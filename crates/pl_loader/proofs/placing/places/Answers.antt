@@ -6,26 +6,35 @@ use Rattle.pl_loader.proofs.FileLaws.{files_are, files_placed, program_fits, wan
 use Rattle.pl_loader.proofs.placing.places.Goals as goal
 
 pub returns-in_default-clause-apart : goal.returns-in_default-clause-apart
-returns-in_default-clause-apart c = nothing_placed c.args.files.now c.new.result c.in_default.len_below c.new.ensures
+returns-in_default-clause-apart g c = nothing_placed c.args.files.now c.new.result c.in_default.len_below c.new.ensures
 
 pub library_places-requires-clause-fits : goal.library_places-requires-clause-fits
-library_places-requires-clause-fits c =
+library_places-requires-clause-fits g c =
     let rest : List ObjectFile = take (length c.args.files.now - 1) (drop 1 c.args.files.now) in
-    program_fits c.program-item.result rest (subst AreFiles (files_are c.args.files.now c.program-item.result c.in-len1-up.len_at_least c.program-item.is) c.requires)
+    program_fits c.program-item.result rest (subst AreFiles (files_are c.args.files.now c.program-item.result c.in-len1-up.len_at_least c.program-item.is) c.requires.files)
 
 pub library_places-requires-clause-wants : goal.library_places-requires-clause-wants
-library_places-requires-clause-wants c =
+library_places-requires-clause-wants g c =
     let rest : List ObjectFile = take (length c.args.files.now - 1) (drop 1 c.args.files.now) in
-    wants_asked c.program-item.result rest (subst AreFiles (files_are c.args.files.now c.program-item.result c.in-len1-up.len_at_least c.program-item.is) c.requires)
+    wants_asked c.program-item.result rest (subst AreFiles (files_are c.args.files.now c.program-item.result c.in-len1-up.len_at_least c.program-item.is) c.requires.files)
 
 pub returns-clause-within : goal.returns-clause-within
-returns-clause-within c =
+returns-clause-within g c =
     let rest : List ObjectFile = take (length c.args.files.now - 1) (drop 1 c.args.files.now) in
     let all : c.from_vec.result ≡ 0 ∷ c.in_ok-starts.starts.items = search rules in
-    (files_placed c.args.files.now c.from_vec.result c.program-item.result rest c.in_ok-starts.starts.items (files_are c.args.files.now c.program-item.result c.in-len1-up.len_at_least c.program-item.is) all c.requires c.in_ok-starts.ensures.free).0
+    (files_placed c.args.busy c.args.files.now c.from_vec.result c.program-item.result rest c.in_ok-starts.starts.items (files_are c.args.files.now c.program-item.result c.in-len1-up.len_at_least c.program-item.is) all c.requires.files c.in_ok-starts.ensures.free).0
 
 pub returns-clause-apart : goal.returns-clause-apart
-returns-clause-apart c =
+returns-clause-apart g c =
     let rest : List ObjectFile = take (length c.args.files.now - 1) (drop 1 c.args.files.now) in
     let all : c.from_vec.result ≡ 0 ∷ c.in_ok-starts.starts.items = search rules in
-    (files_placed c.args.files.now c.from_vec.result c.program-item.result rest c.in_ok-starts.starts.items (files_are c.args.files.now c.program-item.result c.in-len1-up.len_at_least c.program-item.is) all c.requires c.in_ok-starts.ensures.free).1
+    (files_placed c.args.busy c.args.files.now c.from_vec.result c.program-item.result rest c.in_ok-starts.starts.items (files_are c.args.files.now c.program-item.result c.in-len1-up.len_at_least c.program-item.is) all c.requires.files c.in_ok-starts.ensures.free).1
+
+pub returns-clause-placed : goal.returns-clause-placed
+returns-clause-placed g c =
+    let rest : List ObjectFile = take (length c.args.files.now - 1) (drop 1 c.args.files.now) in
+    let all : c.from_vec.result ≡ 0 ∷ c.in_ok-starts.starts.items = search rules in
+    rw (files_are c.args.files.now c.program-item.result c.in-len1-up.len_at_least c.program-item.is, all) c.in_ok-starts.ensures.placed
+
+pub returns-in_err-starts-clause-stops : goal.returns-in_err-starts-clause-stops
+returns-in_err-starts-clause-stops g c = rw (files_are c.args.files.now c.program-item.result c.in-len1-up.len_at_least c.program-item.is) (search rules)

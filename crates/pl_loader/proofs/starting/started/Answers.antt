@@ -5,8 +5,13 @@ use Rattle.pl_loader.proofs.StartLaws.{start_is}
 use Rattle.pl_loader.proofs.starting.started.Goals as goal
 
 pub linked-requires-clause-one_each : goal.linked-requires-clause-one_each
-linked-requires-clause-one_each c = rw c.new-places.ensures (AllZip-long IsAt c.args.files.now c.in_ok-rows.rows c.in_ok-rows.ensures.within)
+linked-requires-clause-one_each g c = rw c.new-places.ensures (AllZip-long IsAt c.args.files.now c.in_ok-rows.rows c.in_ok-rows.ensures.within)
 
 pub returns-clause-ok : goal.returns-clause-ok
-returns-clause-ok c =
-    start_is c.args.files.now c.in_ok-modules.modules c.in_ok-rows.rows _ c.in_ok-modules.ensures c.in_ok-rows.ensures.exact (rw (c.as_slice.ensures, c.new-places.ensures) at c.in_ok-image.ensures.ok) (search rules) (search rules) c.entry_of.ensures
+returns-clause-ok g c = record {
+  modules = c.in_ok-modules.modules;
+  numbered = c.in_ok-modules.ensures;
+  at = c.in_ok-rows.rows;
+  placed = c.in_ok-rows.ensures.placed;
+  starts = start_is c.args.files.now c.in_ok-modules.modules c.in_ok-rows.rows _ (rw (c.as_slice.ensures, c.new-places.ensures) at c.in_ok-image.ensures.ok) (search rules) (search rules) c.entry_of.ensures;
+}

@@ -1,13 +1,18 @@
 use Rattle.std.proofs.Common.{◌≡◌, ◌%◌, ◌<◌, ◌∙◌, ap, sym, arith}
 use Rattle.pl_base.specs.Sums.{plus}
 use Rattle.pl_place.specs.Numbering.{all_room, numbered, first_word}
-use Rattle.pl_place.proofs.PolicyLaws.{no_room, seeded_is}
+use Rattle.pl_place.proofs.PolicyLaws.{no_room, seeded_is, seeded_none, seeded_some}
 use Rattle.pl_place.proofs.policies.seeded.Goals as goal
 
 pub returns-then-all-eq0-clause-may : goal.returns-then-all-eq0-clause-may
 returns-then-all-eq0-clause-may c =
     let all : c.all_room-all.result ≡ all_room c.args.span c.args.align c.args.holes.now = c.all_room-all.ensures ∙ ap (all_room c.args.span c.args.align) c.rows.ensures.rows in
     no_room c.args.span c.args.align c.args.holes.now c.requires c.rows.ensures.holes (sym all ∙ c.if-all-eq0.true)
+
+pub returns-then-all-eq0-clause-exact : goal.returns-then-all-eq0-clause-exact
+returns-then-all-eq0-clause-exact c =
+    let all : c.all_room-all.result ≡ all_room c.args.span c.args.align c.args.holes.now = c.all_room-all.ensures ∙ ap (all_room c.args.span c.args.align) c.rows.ensures.rows in
+    seeded_none c.args.number c.args.holes.now c.args.span c.args.align (sym all ∙ c.if-all-eq0.true)
 
 pub returns : goal.returns
 returns c =
@@ -19,4 +24,4 @@ returns c =
     ∙ ap (λ n. numbered c.args.span c.args.align c.args.holes.now (c.from.result % n)) all
     ∙ ap (λ n. numbered c.args.span c.args.align c.args.holes.now (n % all_room c.args.span c.args.align c.args.holes.now)) word in
     let both = seeded_is c.args.number c.args.span c.args.align c.args.holes.now c.numbered.result c.requires c.rows.ensures.holes some is in
-    record { may = both.0; seeded = both.1 }
+    record { may = both.0; seeded = both.1; exact = is ∙ seeded_some c.args.number c.args.holes.now c.args.span c.args.align some }

@@ -1,4 +1,5 @@
-use Rattle.std.proofs.Common.{arith, rules}
+use Rattle.std.proofs.Common.{◌*◌, arith, rules, inl, inr}
+use Rattle.std.proofs.lemmas.Bool.{cases_order}
 use Rattle.pl_base.proofs.ResultLaws.{OnErr-from}
 use Rattle.pl_image.specs.Image.{own_memory}
 use Rattle.pl_image.proofs.ByteLemmas.{own_none}
@@ -6,12 +7,20 @@ use Rattle.pl_image.proofs.TextLemmas.{words_begin, words_more, words_stopped, w
 use Rattle.pl_image.proofs.image.Image.add_object.Goals as goal
 
 pub loop-number-init : goal.loop-number-init
-loop-number-init g c = record {
-  number = c.next_word-number.ensures.within.1;
-  passes = words_begin (own_memory c.args.self.now c.args.pieces.now) (g.K.Sink.seen c.args.sink.now).got c.args.lines.now.items c.next_word-number.result c.next_word-number.ensures.clear;
-  tells = search rules;
-  quiet = search rules;
-}
+loop-number-init g c =
+    let next = c.next_word-number.ensures in record {
+      number = next.within.1;
+      passes = words_begin (own_memory c.args.self.now c.args.pieces.now) (g.K.Sink.seen c.args.sink.now).got c.args.lines.now.items c.next_word-number.result
+          (λ a low high. elim (cases_order a (8 * c.pieces_begin.result)) [
+            | inl same ↦ next.clear a (omega arith) high
+            | inr other ↦ elim other [
+              | inl less ↦ own_none c.args.self.now c.args.pieces.now c.requires a (c.pieces_begin.ensures.before a less)
+              | inr more ↦ next.clear a (omega arith) high
+            ]
+          ]);
+      tells = search rules;
+      quiet = search rules;
+    }
 
 pub returns-in_err-add_word : goal.returns-in_err-add_word
 returns-in_err-add_word g c =

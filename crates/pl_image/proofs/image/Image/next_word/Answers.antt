@@ -1,21 +1,8 @@
-use Rattle.std.proofs.Common.{◌≡◌, ◌⊎◌, ◌^◌, arith, sym, subst, List}
-use Rattle.std.specs.List.{list_any}
-use Rattle.pl_image.specs.declared.touched.Touch.{Touch}
-use Rattle.pl_image.specs.Image.{Image, stores_in}
-use Rattle.pl_image.specs.Index.{IsIndex}
-use Rattle.pl_image.proofs.ByteLemmas.{own_clear}
-use Rattle.pl_image.proofs.TouchLemmas.{word_found}
+use Rattle.std.proofs.Common.{arith}
+use Rattle.pl_image.proofs.PlainLemmas.{clear_past}
 use Rattle.pl_image.proofs.image.Image.next_word.Goals as goal
 
-pub returns-clause-clear : goal.returns-clause-clear
-returns-clause-clear c =
-    let index = subst (λ (i : Image). IsIndex i.patches c.self.inside.touched.items) c.self.view_is c.self.invariant.index in
-    own_clear c.args.self.now c.args.pieces.now c.deref.result.now c.args.from c.min.result c.requires.own (subst (λ (ts : List Touch). IsIndex c.args.self.now.patches ts) (sym c.deref.ensures.value) index)
-    (λ a low high. c.next_stored.ensures.none a low (omega (arith, high, c.min.ensures))) (λ n low high. c.next_touched.ensures.none n low (omega (arith, high, c.min.ensures)))
-
-pub returns-clause-found : goal.returns-clause-found
-returns-clause-found c = λ lt.
-    let index = subst (λ (i : Image). IsIndex i.patches c.self.inside.touched.items) c.self.view_is c.self.invariant.index in
-    let either : (c.min.result ≡ c.next_stored.result) ⊎ (c.min.result ≡ c.next_touched.result) = grind (arith, c.min.ensures) in
-    word_found c.args.self.now.patches c.deref.result.now (λ n. list_any (stores_in n) c.args.pieces.now) c.next_stored.result c.next_touched.result c.min.result (2 ^ 44)
-    (subst (λ (ts : List Touch). IsIndex c.args.self.now.patches ts) (sym c.deref.ensures.value) index) either c.next_stored.ensures.found c.next_touched.ensures.found lt
+pub returns-then-number-shown-clause-clear : goal.returns-then-number-shown-clause-clear
+returns-then-number-shown-clause-clear c =
+    clear_past c.args.self.now c.args.pieces.now c.args.from c.next_content-number.result c.min-shown.result c.next_content.result c.masked_end.result c.requires.own c.next_content-number.ensures.clear
+    c.masked_end.ensures.masked (omega arith) c.next_content.ensures.clear

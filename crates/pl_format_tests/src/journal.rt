@@ -1,0 +1,355 @@
+// Tests of pl_journal, over a folder in memory.
+use crate::folder::{Listed, has};
+use pl_base::{Rows, Text};
+use pl_folder::{Folder, MemoryFolder, are_files};
+use pl_journal::{
+    Change, JournalFault, Row, are_changes, carry_out, read_journal, recover, recover_lent,
+    write_journal,
+};
+use pl_stage::Held;
+use std::alloc::Global;
+
+/// The files before the run, and those after it.
+const BEFORE: Listed = &[("a", b"old"), ("b", b"gone"), ("c", b"kept")];
+
+const AFTER: Listed = &[("a", b"new"), ("c", b"kept"), ("d", b"added")];
+
+/// The changes of the run: bytes for a name, or none where it is dropped.
+const CHANGES: [(&str, Option<&[u8]>); 3] = [
+    ("a", Some(b"new")),
+    ("b", None),
+    ("d", Some(b"added")),
+];
+
+/// What a crash leaves: each change of names or none, each file whole or none, or every second of them.
+const CHOICES: [u64; 4] = [
+    0,
+    u64::MAX,
+    6_148_914_691_236_517_205,
+    12_297_829_382_473_034_410,
+];
+
+/// A folder of these files, some of whose calls fail.
+fn folder_of(
+    alloc: Global,
+    files: Listed,
+    fail_at: Vec<u64>,
+) -> Result<MemoryFolder, JournalFault> {
+    let mut rows = Vec::new(alloc);
+    for (name, bytes) in files {
+        rows.push((String::from_str(alloc, name)?, bytes.to_vec(alloc)?))?;
+    }
+    if !are_files(&rows) {
+        return Err(JournalFault::BadJournal);
+    }
+    Ok(MemoryFolder::new(alloc, &rows, fail_at, 100)?)
+}
+
+fn changes(alloc: Global) -> Result<Vec<Change>, JournalFault> {
+    let mut changes = Vec::new(alloc);
+    for (name, bytes) in &CHANGES {
+        let name = Text::copy_of(alloc, name)?;
+        changes.push(match bytes {
+            Some(bytes) => Change::Put {
+                name,
+                bytes: Rows::from_vec(bytes.to_vec(alloc)?),
+            },
+            None => Change::Drop { name },
+        })?;
+    }
+    Ok(changes)
+}
+
+/// Recovers a folder and makes the changes.
+fn run(alloc: Global, folder: &mut MemoryFolder) -> Result<(), JournalFault> {
+    let changes = changes(alloc)?;
+    let mut held = Held { folder };
+    recover_lent(&mut held, alloc)?;
+    if !are_changes(&changes) {
+        return Err(JournalFault::BadJournal);
+    }
+    carry_out(&mut held, alloc, &changes)
+}
+
+fn recovered(alloc: Global, folder: &mut MemoryFolder) -> Result<(), JournalFault> {
+    let mut held = Held { folder };
+    recover_lent(&mut held, alloc)
+}
+
+/// What a crash after so many calls leaves.
+fn image(
+    alloc: Global,
+    folder: &MemoryFolder,
+    moment: u64,
+    choice: u64,
+) -> Result<MemoryFolder, JournalFault> {
+    if folder.moments() < moment {
+        return Err(JournalFault::BadJournal);
+    }
+    Ok(folder.image(alloc, moment, choice)?)
+}
+
+/// Whether each image of each moment, recovered, has these files.
+fn each_is(alloc: Global, folder: &MemoryFolder, files: Listed) -> Result<bool, JournalFault> {
+    for moment in 0..=folder.moments() {
+        for choice in &CHOICES {
+            let mut image = image(alloc, folder, moment, *choice)?;
+            recovered(alloc, &mut image)?;
+            if !has(alloc, &mut image, files)? {
+                return Ok(false);
+            }
+        }
+    }
+    Ok(true)
+}
+
+/// The files that a folder is recovered to, where these are those before or those after the run.
+fn stands_for(alloc: Global, folder: &mut MemoryFolder) -> Result<Option<Listed>, JournalFault> {
+    recovered(alloc, folder)?;
+    if has(alloc, folder, BEFORE)? {
+        return Ok(Some(BEFORE));
+    }
+    if has(alloc, folder, AFTER)? {
+        return Ok(Some(AFTER));
+    }
+    Ok(None)
+}
+
+/// Whether each image of each moment, recovered, is before or after the run.
+fn each_is_whole(alloc: Global, folder: &MemoryFolder) -> Result<bool, JournalFault> {
+    for moment in 0..=folder.moments() {
+        for choice in &CHOICES {
+            let mut image = image(alloc, folder, moment, *choice)?;
+            if stands_for(alloc, &mut image)?.is_none() {
+                return Ok(false);
+            }
+        }
+    }
+    Ok(true)
+}
+
+/// Whether each image of the recovery of an image is recovered to the same files.
+fn each_again_is_whole(alloc: Global, folder: &MemoryFolder) -> Result<bool, JournalFault> {
+    for moment in 0..=folder.moments() {
+        for choice in &CHOICES {
+            let mut image = image(alloc, folder, moment, *choice)?;
+            let Some(files) = stands_for(alloc, &mut image)? else {
+                return Ok(false);
+            };
+            if !each_is(alloc, &image, files)? {
+                return Ok(false);
+            }
+        }
+    }
+    Ok(true)
+}
+
+#[test]
+fn leaves_before_or_after(rt: HostRuntime) -> Result<(), JournalFault> {
+    let alloc = rt.alloc();
+    let mut folder = folder_of(alloc, BEFORE, Vec::new(alloc))?;
+    run(alloc, &mut folder)?;
+    assert!(rt; folder.moments() == 23);
+    assert!(rt; each_again_is_whole(alloc, &folder)?);
+    assert!(rt; has(alloc, &mut folder, AFTER)?);
+    Ok(())
+}
+
+#[test]
+fn fails_at_each_call(rt: HostRuntime) -> Result<(), JournalFault> {
+    let alloc = rt.alloc();
+    for fails in 0..23 {
+        let mut folder = folder_of(alloc, BEFORE, vec![in alloc; fails; 1]?)?;
+        assert!(rt;
+            run(alloc, &mut folder) == Err(JournalFault::Failed),
+            "{fails}"
+        );
+        assert!(rt; each_is_whole(alloc, &folder)?, "{fails}");
+        assert!(rt; stands_for(alloc, &mut folder)?.is_some(), "{fails}");
+    }
+    Ok(())
+}
+
+/// Makes the changes state by state. The three rows are left after the commit, and then none.
+fn run_by_states(alloc: Global, folder: &mut MemoryFolder) -> Result<(), JournalFault> {
+    let changes = changes(alloc)?;
+    if !are_changes(&changes) {
+        return Err(JournalFault::BadJournal);
+    }
+    let mut held = Held { folder };
+    let settled = recover(&mut held, alloc)?;
+    let staged = settled.stage(alloc, &changes)?;
+    let mut committed = staged.commit()?;
+    let Ok(true) = committed.rename_next() else {
+        committed.stop().leave();
+        return Err(JournalFault::Failed);
+    };
+    let Ok(true) = committed.rename_next() else {
+        committed.stop().leave();
+        return Err(JournalFault::Failed);
+    };
+    let Ok(true) = committed.rename_next() else {
+        committed.stop().leave();
+        return Err(JournalFault::Failed);
+    };
+    let Ok(false) = committed.rename_next() else {
+        committed.stop().leave();
+        return Err(JournalFault::Failed);
+    };
+    let settled = committed.finish()?;
+    settled.leave();
+    Ok(())
+}
+
+#[test]
+fn goes_from_state_to_state(rt: HostRuntime) -> Result<(), JournalFault> {
+    let alloc = rt.alloc();
+    let mut folder = folder_of(alloc, BEFORE, Vec::new(alloc))?;
+    assert!(rt; run_by_states(alloc, &mut folder) == Ok(()));
+    assert!(rt; folder.moments() == 23);
+    assert!(rt; has(alloc, &mut folder, AFTER)?);
+    assert!(rt; each_is_whole(alloc, &folder)?);
+    Ok(())
+}
+
+/// Folders, and what they are recovered to: rows that are left to be done or not, files of a run that was not committed, and names of the program that are no run's.
+const RECOVERED: [(Listed, Listed); 5] = [
+    (
+        &[
+            (".prelink.journal", b"PLJRNL01\x02\0\0\0\x01\x01a\x02\x01b"),
+            (".prelink.new.0", b"new"),
+            ("a", b"old"),
+            ("b", b"gone"),
+        ],
+        &[("a", b"new")],
+    ),
+    (
+        &[
+            (
+                ".prelink.journal",
+                b"PLJRNL01\x02\0\0\0\x01\x01a\x01\x0e.prelink.cache",
+            ),
+            (".prelink.new.1", b"rows"),
+            ("a", b"new"),
+        ],
+        &[(".prelink.cache", b"rows"), ("a", b"new")],
+    ),
+    (
+        &[
+            (".prelink.journal", b"PLJRNL01\x01\0\0\0\x02\x01a"),
+            (".prelink.new.0", b"stray"),
+            ("a", b"old"),
+        ],
+        &[],
+    ),
+    (
+        &[
+            (".prelink.cache", b"rows"),
+            (".prelink.journal.new", b"PLJRNL01\x01\0\0\0\x02\x01a"),
+            (".prelink.new.0", b"new"),
+            (".prelink.new.x", b""),
+            (".prelink.other", b"other"),
+            ("a", b"old"),
+        ],
+        &[
+            (".prelink.cache", b"rows"),
+            (".prelink.other", b"other"),
+            ("a", b"old"),
+        ],
+    ),
+    (&[("a", b"old")], &[("a", b"old")]),
+];
+
+#[test]
+fn recovers_what_is_left(rt: HostRuntime) -> Result<(), JournalFault> {
+    let alloc = rt.alloc();
+    for (number, (files, expected)) in RECOVERED.iter().enumerate() {
+        let mut folder = folder_of(alloc, files, Vec::new(alloc))?;
+        recovered(alloc, &mut folder)?;
+        assert!(rt; has(alloc, &mut folder, expected)?, "{number}");
+        assert!(rt; each_is(alloc, &folder, expected)?, "{number}");
+    }
+    Ok(())
+}
+
+/// Bytes that are no journal: the magic, the number of rows, what a row does, its name, a name twice, and bytes behind the rows.
+const BAD: [&[u8]; 12] = [
+    b"",
+    b"PLJRNL01\0\0\0",
+    b"PLJRNL02\0\0\0\0",
+    b"PLJRNL01\x01\0\0\0",
+    b"PLJRNL01\x01\0\0\0\x01",
+    b"PLJRNL01\x01\0\0\0\x00\x01a",
+    b"PLJRNL01\x01\0\0\0\x03\x01a",
+    b"PLJRNL01\x01\0\0\0\x01\x00",
+    b"PLJRNL01\x01\0\0\0\x01\x03a/b",
+    b"PLJRNL01\x01\0\0\0\x02\x10.prelink.journal",
+    b"PLJRNL01\x02\0\0\0\x01\x01a\x02\x01a",
+    b"PLJRNL01\x01\0\0\0\x01\x01a\0",
+];
+
+#[test]
+fn refuses_bad_journals(rt: HostRuntime) -> Result<(), JournalFault> {
+    let alloc = rt.alloc();
+    for bytes in &BAD {
+        assert!(rt;
+            matches!(read_journal(alloc, bytes), Err(JournalFault::BadJournal)),
+            "{bytes:?}"
+        );
+        let files = vec![in alloc;
+            (
+                String::from_str(alloc, ".prelink.journal")?,
+                bytes.to_vec(alloc)?
+            ),
+        ]?;
+        if !are_files(&files) {
+            return Err(JournalFault::BadJournal);
+        }
+        let mut folder = MemoryFolder::new(alloc, &files, Vec::new(alloc), 100)?;
+        assert!(rt;
+            recovered(alloc, &mut folder) == Err(JournalFault::BadJournal),
+            "{bytes:?}"
+        );
+        assert!(rt;
+            folder.take(alloc, ".prelink.journal")?.as_slice() == *bytes,
+            "{bytes:?}"
+        );
+    }
+    Ok(())
+}
+
+/// The journal of so many rows that drop names.
+fn long_journal(alloc: Global, rows: u32) -> Result<Vec<u8>, JournalFault> {
+    let mut bytes = b"PLJRNL01".to_vec(alloc)?;
+    bytes.extend_from_slice(&rows.to_le_bytes())?;
+    for number in 0..rows {
+        let name = format!(in alloc; "{number:4}")?.replace(alloc, " ", "n")?;
+        bytes.extend_from_slice(b"\x02\x04")?;
+        bytes.extend_from_slice(name.as_bytes())?;
+    }
+    Ok(bytes)
+}
+
+#[test]
+fn spells_journals(rt: HostRuntime) -> Result<(), JournalFault> {
+    let alloc = rt.alloc();
+    let changes = changes(alloc)?;
+    assert!(rt; are_changes(&changes));
+    let bytes = write_journal(alloc, &changes)?;
+    assert!(rt; bytes.as_slice() == b"PLJRNL01\x03\0\0\0\x01\x01a\x02\x01b\x01\x01d".as_slice());
+    let rows = read_journal(alloc, &bytes)?;
+    assert!(rt;
+        matches!(
+            rows.as_slice(),
+            [Row::Put { .. }, Row::Drop { .. }, Row::Put { .. }]
+        )
+    );
+    assert!(rt; read_journal(alloc, &long_journal(alloc, 1025)?)?.len() == 1025);
+    assert!(rt;
+        matches!(
+            read_journal(alloc, &long_journal(alloc, 1026)?),
+            Err(JournalFault::BadJournal)
+        )
+    );
+    Ok(())
+}

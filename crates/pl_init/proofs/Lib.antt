@@ -1,0 +1,12 @@
+pub mod ListLaws
+pub mod ChainLaws
+pub mod RightLaws
+pub mod FoundLaws
+pub mod LawfulLaws
+pub mod MarkLaws
+pub mod GraphLaws
+pub mod TableLaws
+pub mod RowLaws
+pub mod OrderLaws
+pub mod RelationLaws
+pub mod NameLaws

@@ -1,0 +1,7 @@
+pub mod Graph
+pub mod Leads
+pub mod Found
+pub mod Right
+pub mod Lawful
+pub mod Marks
+pub mod OrderText

@@ -1,0 +1,19 @@
+//! The order in which the objects of a walk are initialised, with a certificate: which member reaches which (System V gABI, chapter 5, "Initialization and Termination Functions").
+#![tactic(auto)]
+
+mod certificate;
+mod graph;
+mod marks;
+mod names;
+mod ordering;
+mod orders;
+mod reaching;
+mod relation;
+mod rightness;
+mod table;
+mod text;
+
+pub use certificate::{reach, right};
+pub use orders::{check, order};
+pub use relation::{Reach, ReachRow};
+pub use text::{full_text, order_text, short_text};

@@ -1,0 +1,12 @@
+use Rattle.std.proofs.Common.{sym, subst}
+use Rattle.pl_folder.specs.Calls.{Calls}
+use Rattle.pl_folder.specs.Seen.{Done}
+use Rattle.pl_journal.specs.Parts.{StepsOn}
+use Rattle.pl_journal.specs.declared.step.Step.{Step}
+use Rattle.pl_journal.proofs.CommitLemmas.{steps_skip}
+use Rattle.pl_journal.proofs.doing.do_step.Goals as goal
+
+pub returns-in-Skip : goal.returns-in-Skip
+returns-in-Skip g c =
+    let a = g.D.Folder.seen c.args.held.now.folder in
+    subst (λ (s : Step). Calls Done (StepsOn s) a a) (sym c.in-Skip.is) (steps_skip a)

@@ -1,0 +1,36 @@
+use Rattle.pl_journal.specs.Lists.{texts}
+use Rattle.pl_journal.specs.Parts.{RecoversSettled}
+use Rattle.pl_journal.specs.declared.fault.JournalFault.TheVariants.{Failed}
+use Rattle.pl_journal.proofs.Endings.{passed_by}
+use Rattle.pl_journal.proofs.RecoverParts.{end_failed, gone_failed, journal_stops, own_gone, recovered_named}
+use Rattle.pl_journal.proofs.recovering.recover_named.Goals as goal
+
+pub returns-in_err-do_journal : goal.returns-in_err-do_journal
+returns-in_err-do_journal g c =
+    let a = g.D.Folder.seen c.args.held.now.folder in
+    let fault = c.in_err-do_journal.field-0.0 in
+    passed_by RecoversSettled c.from_residual.result fault c.from_residual.ensures.1
+    (journal_stops (texts c.args.names.now) a (g.met.D.Folder.is_folder c.args.held.now.folder) c.requires.names fault c.in_err-do_journal.ensures)
+
+pub returns-in_err-remove_own : goal.returns-in_err-remove_own
+returns-in_err-remove_own g c =
+    let a = g.D.Folder.seen c.args.held.now.folder in
+    let names = texts c.args.names.now in
+    let law = g.met.D.Folder.is_folder c.args.held.now.folder in
+    passed_by RecoversSettled c.from_residual-in_err-remove_own.result Failed c.from_residual-in_err-remove_own.ensures.1
+    (gone_failed names a law c.requires.names (own_gone names a law c.requires.names c.in_ok-do_journal.ensures c.in_err-remove_own.ensures))
+
+pub returns-in_err-settle : goal.returns-in_err-settle
+returns-in_err-settle g c =
+    let a = g.D.Folder.seen c.args.held.now.folder in
+    let names = texts c.args.names.now in
+    let law = g.met.D.Folder.is_folder c.args.held.now.folder in
+    passed_by RecoversSettled c.from_residual-in_err-settle.result Failed c.from_residual-in_err-settle.ensures.1
+    (end_failed names a law c.requires.names (own_gone names a law c.requires.names c.in_ok-do_journal.ensures c.in_ok-remove_own.ensures) c.in_err-settle.ensures)
+
+pub returns : goal.returns
+returns g c =
+    let a = g.D.Folder.seen c.args.held.now.folder in
+    let names = texts c.args.names.now in
+    let law = g.met.D.Folder.is_folder c.args.held.now.folder in
+    recovered_named names a law c.requires.names (own_gone names a law c.requires.names c.in_ok-do_journal.ensures c.in_ok-remove_own.ensures) c.in_ok-settle.ensures

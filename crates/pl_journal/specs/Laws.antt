@@ -1,0 +1,37 @@
+-- What a run and a recovery leave, moment by moment.
+use Rattle.std.specs.Prelude.{◌≡◌, ◌⊎◌, ℕ, ◌<◌, true, List, Some, is_some}
+use Rattle.std.specs.FinMap.{get}
+use Rattle.pl_folder.specs.Calls.{Calls}
+use Rattle.pl_folder.specs.Disk.{View, Disk, IsImage, clock}
+use Rattle.pl_folder.specs.Seen.{Seen, Undone}
+use Rattle.pl_folder.specs.Since.{Since, Keeps}
+use Rattle.pl_journal.specs.Meaning.{Edit, HasNoOwn, StandsBetween, StandsFor, rows_for}
+use Rattle.pl_journal.specs.Names.{journal}
+use Rattle.pl_journal.specs.Parts.{Recovers}
+use Rattle.pl_journal.specs.Rows.{rows_in}
+use Rattle.pl_journal.specs.Spelling.{are_rows}
+use Rattle.pl_journal.specs.declared.fault.JournalFault.TheVariants.{BadJournal}
+
+-- each image since the start is one of the start's, or has P
+abbrev pub SinceTheStart : (View → Type 0) → Type 0
+SinceTheStart P = (old new : Disk) → Keeps old new P → (v : View) → Since new (clock old) v → IsImage old.now v ⊎ P v
+
+-- after the first moment it has P
+abbrev pub AfterTheStart : (View → Type 0) → Type 0
+AfterTheStart P = (old new : Disk) → Keeps old new P → (t : ℕ) (v : View) → clock old < t → Since new t v → P v
+
+-- there is no journal, or it is in its grammar
+abbrev pub IsRecoverable : View → Type 0
+IsRecoverable v = is_some (rows_in (v journal)) ≡ true
+
+-- so it is in what a crash of a run leaves
+abbrev pub RunsLeave : Type 0
+RunsLeave = (before : View) (edits : List Edit) → HasNoOwn before → are_rows (rows_for edits) ≡ true → (v : View) → StandsBetween before edits v → IsRecoverable v
+
+-- and in what a crash of a recovery leaves
+abbrev pub RecoveriesLeave : Type 0
+RecoveriesLeave = (before v : View) → IsRecoverable before → StandsFor before v → IsRecoverable v
+
+-- and then no recovery ends by a bad journal
+abbrev pub RecoveriesEnd : Type 0
+RecoveriesEnd = (old new : Seen) → old.tells ≡ true → IsRecoverable (get old.files) → Calls Undone (Recovers (Some BadJournal)) old new → ⊥

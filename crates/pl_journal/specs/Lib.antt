@@ -1,0 +1,12 @@
+pub mod Names
+pub mod FileNames
+pub mod Faults
+pub mod Spelling
+pub mod Reading
+pub mod Rows
+pub mod Lists
+pub mod Meaning
+pub mod Phases
+pub mod Leaves
+pub mod Parts
+pub mod Laws

@@ -1,0 +1,23 @@
+ghost use Rattle.std.specs.Prelude.{List};
+ghost use Rattle.pl_folder.specs.Disk.{View};
+ghost use Rattle.pl_journal.specs.Laws.{AfterTheStart, RecoveriesEnd, RecoveriesLeave, RunsLeave, SinceTheStart};
+ghost use Rattle.pl_journal.specs.Meaning.{Edit, StandsBetween, StandsFor};
+
+/// Each image since the start of a recovery is one of the start's, or stands for the folder; since the start of a run it is one of the start's, or stands for the files before or for those after.
+pub fn since_the_start()
+    ensures recovery { (before : View) → SinceTheStart (StandsFor before) }
+    ensures run { (before : View) (edits : List Edit) → SinceTheStart (StandsBetween before edits) }
+{}
+
+/// After the first moment it stands for the folder; in a run for the files before or for those after.
+pub fn after_the_start()
+    ensures recovery { (before : View) → AfterTheStart (StandsFor before) }
+    ensures run { (before : View) (edits : List Edit) → AfterTheStart (StandsBetween before edits) }
+{}
+
+/// What a crash of a run or of a recovery leaves has no journal, or one in its grammar, and then no recovery ends by `BadJournal`.
+pub fn never_a_bad_journal()
+    ensures run { RunsLeave }
+    ensures recovery { RecoveriesLeave }
+    ensures end { RecoveriesEnd }
+{}

@@ -1,0 +1,7 @@
+pub mod Back
+pub mod Parts
+pub mod Fits
+pub mod Loads
+pub mod Forms
+pub mod Found
+pub mod Law

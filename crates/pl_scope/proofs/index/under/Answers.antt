@@ -1,0 +1,23 @@
+use Rattle.std.proofs.Common.{◌≡◌, ℕ, true, subst, arith}
+use Rattle.std.specs.List.{list_any}
+use Rattle.pl_scope.specs.Index.{is_entry}
+use Rattle.pl_scope.proofs.IndexLaws.{in_order, under_whole, under_among}
+use Rattle.pl_scope.proofs.index.under.Goals as goal
+
+pub slice_bounds-result-end : goal.slice_bounds-result-end
+slice_bounds-result-end c = c.before-end.ensures.bound
+
+pub slice_bounds-result-start : goal.slice_bounds-result-start
+slice_bounds-result-start c = in_order c.args.index.now c.from-hash.result c.before-first.result c.before-end.result c.before-first.ensures.point c.before-end.ensures.point c.before-first.ensures.bound c.before-end.ensures.bound
+
+pub slice_bounds-result-count : goal.slice_bounds-result-count
+slice_bounds-result-count c = in_order c.args.index.now c.from-hash.result c.before-first.result c.before-end.result c.before-first.ensures.point c.before-end.ensures.point c.before-first.ensures.bound c.before-end.ensures.bound
+
+pub returns-clause-whole : goal.returns-clause-whole
+returns-clause-whole c = λ m hit.
+    let same : c.args.hash ≡ c.from-hash.result = omega arith in
+    under_whole c.args.index.now c.from-hash.result c.before-first.result c.before-end.result c.before-first.ensures.point c.before-end.ensures.point c.before-first.ensures.bound c.before-end.ensures.bound m
+    (subst (λ (h : ℕ). list_any (is_entry h m) c.args.index.now ≡ true) same hit)
+
+pub returns-clause-among : goal.returns-clause-among
+returns-clause-among c = under_among c.args.index.now c.from-hash.result c.before-first.result c.before-end.result c.before-first.ensures.point c.before-end.ensures.point c.before-first.ensures.bound c.before-end.ensures.bound

@@ -1,0 +1,4 @@
+pub mod SoundLaws
+pub mod StepLaws
+pub mod DisjointLaws
+pub mod MarkLaws

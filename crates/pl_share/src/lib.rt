@@ -1,0 +1,13 @@
+//! Slots that may overlap: which address range each library gets in a region where two libraries that no walk holds together may share addresses.
+#![tactic(auto)]
+
+mod asked;
+mod given;
+mod keeping;
+mod sharing;
+mod together;
+mod walks;
+
+pub use keeping::disjoint;
+pub use sharing::plan_shared;
+pub use walks::Walks;
