@@ -4,6 +4,7 @@
 mod chains;
 mod collecting;
 pub mod constants;
+mod demand;
 mod fault;
 mod fields;
 mod indices;
@@ -14,6 +15,7 @@ mod record;
 mod records;
 mod versions;
 
+pub use demand::Demand;
 pub use fault::VerFault;
 pub use fields::index_of;
 pub use look_up::version_of;

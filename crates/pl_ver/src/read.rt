@@ -5,6 +5,7 @@ ghost use Rattle.pl_ver.specs.Versions as spec;
 
 use crate::chains::{are_verdefs, are_verneeds};
 use crate::collecting::collect;
+use crate::demand::Demand;
 use crate::fault::VerFault;
 use crate::fields::words;
 use crate::indices::{any_misplaced, any_unknown};
@@ -33,6 +34,15 @@ fn named(alloc: Global, strings: &Strings<'_>, row: &Record) -> Result<VersionNa
         name: Rows::from_vec(Vec::from_slice(alloc, name_at(strings, row.name))?),
         defined: row.defined,
     })
+}
+
+/// Asks for the bytes of all names, before any is copied.
+fn ask_for_names(alloc: Global, strings: &[u8], records: &[Record]) -> Result<(), AllocError> {
+    let mut demand = Demand::new(strings);
+    for row in records {
+        demand.add(alloc, row.name)?;
+    }
+    demand.ask(alloc)
 }
 
 fn names(
@@ -64,9 +74,9 @@ pub fn read_versions(
 ) -> Result<Versions, VerFault>
     ensures { Answers spec.is_memory result (spec.versions versym.now verdef.now defs verneed.now needs strings.now) }
 {
-    let strings = Strings::new(strings);
-    if !(are_verdefs(alloc, &strings, verdef, defs)?
-        && are_verneeds(alloc, &strings, verneed, needs)?)
+    let table = Strings::new(strings);
+    if !(are_verdefs(alloc, &table, verdef, defs)?
+        && are_verneeds(alloc, &table, verneed, needs)?)
     {
         return Err(VerFault::BadChain);
     }
@@ -75,8 +85,9 @@ pub fn read_versions(
     if any_misplaced(records.as_slice()) || any_unknown(&records, &index) {
         return Err(VerFault::BadIndex);
     }
+    ask_for_names(alloc, strings, records.as_slice())?;
     Ok(Versions {
         index: Rows::from_vec(index),
-        names: names(alloc, &strings, records.as_slice())?,
+        names: names(alloc, &table, records.as_slice())?,
     })
 }
