@@ -1,4 +1,4 @@
-ghost use Rattle.std.specs.Prelude.{◌≡◌, [], true, IfErr};
+ghost use Rattle.std.specs.Prelude.{◌≡◌, [], true, IfErr, OnOk};
 ghost use Rattle.pl_folder.specs.Calls.{Calls};
 ghost use Rattle.pl_folder.specs.Seen.{ends};
 ghost use Rattle.pl_journal.specs.Faults.{IsNotBad, part_ending};
@@ -28,7 +28,7 @@ pub(crate) fn put_in_place<D: Folder>(held: &mut Held<D>, steps: &[Step]) -> Res
 
 /// Makes all the changes or, after a crash or a fault and a recovery, all or none. The folder is one that `recover` settled.
 ///
-/// `NoMemory` comes before anything is committed: the recovered folder is the one before. After `Failed` it is the one before or the one after. `BadJournal` does not come. No changes are no call.
+/// Afterwards none of the journal's own names is there. `NoMemory` comes before anything is committed: the recovered folder is the one before. After `Failed` it is the one before or the one after. `BadJournal` does not come. No changes are no call.
 pub fn carry_out<D: Folder>(
     held: &mut Held<D>,
     alloc: Global,
@@ -38,6 +38,7 @@ pub fn carry_out<D: Folder>(
     requires rested { IsRested (D.seen held.old.folder) }
     ensures calls { Calls (part_ending result) (CarriesOut changes.now) (D.seen held.old.folder) (D.seen held.new.folder) }
     ensures plain { IfErr result IsNotBad }
+    ensures ends { OnOk result (IsRested (D.seen held.new.folder)) }
     ensures nothing { changes.now ≡ [] → D.seen held.new.folder ≡ D.seen held.old.folder }
 {
     if changes.is_empty() {

@@ -8,7 +8,7 @@ ghost use Rattle.pl_journal.specs.Faults.{part_ending};
 ghost use Rattle.pl_journal.specs.Leaves.{fault_of};
 ghost use Rattle.pl_journal.specs.Lists.{IsListOf, texts};
 ghost use Rattle.pl_journal.specs.Names.{journal};
-ghost use Rattle.pl_journal.specs.Parts.{AreNames, DoesJournal, DoesJournalOf, IsQuiet, IsRested, Looking, Recovers, RecoversSettled, RemovesIfOwn, RemovesOwn, StepsSpelled};
+ghost use Rattle.pl_journal.specs.Parts.{AreNames, DoesJournal, DoesJournalOf, IsAtRest, IsQuiet, IsRested, Looking, Recovers, RecoversSettled, RemovesIfOwn, RemovesOwn, StepsSpelled};
 ghost use Rattle.pl_journal.specs.Reading.{rows_spelled};
 ghost use Rattle.pl_journal.specs.Rows.{rows_in};
 ghost use Rattle.pl_journal.specs.declared.fault.JournalFault.TheVariants as faults;
@@ -140,7 +140,7 @@ fn recover_settled<D: Folder>(held: &mut Held<D>, alloc: Global) -> Result<(), J
 /// Where none of the journal's own names is there its only calls are a `settle` and a `names`.
 pub fn recover_lent<D: Folder>(held: &mut Held<D>, alloc: Global) -> Result<(), JournalFault>
     ensures calls { Calls (part_ending result) (Recovers (fault_of result)) (D.seen held.old.folder) (D.seen held.new.folder) }
-    ensures rested { OnOk result (IsRested (D.seen held.new.folder)) }
+    ensures rested { OnOk result (IsAtRest (D.seen held.new.folder)) }
     ensures quiet { OnOk result (IsQuiet (D.seen held.old.folder) (D.seen held.new.folder)) }
 {
     held.folder.settle()?;

@@ -7,7 +7,7 @@ ghost use Rattle.pl_stage.specs.contracts.held.Held.{the_row};
 ghost use Rattle.pl_journal.specs.Faults.{IsNotBad, part_ending};
 ghost use Rattle.pl_journal.specs.Leaves.{DoEdits, fault_of};
 ghost use Rattle.pl_journal.specs.Meaning.{rows_for};
-ghost use Rattle.pl_journal.specs.Parts.{CanGoOn, CanPut, Commits, Finishes, IsQuiet, IsRested, Moves, NextOn, Recovers, Stages};
+ghost use Rattle.pl_journal.specs.Parts.{CanGoOn, CanPut, Commits, Finishes, IsAtRest, IsQuiet, IsRested, Moves, NextOn, Recovers, Stages};
 ghost use Rattle.pl_journal.specs.Spelling.{are_rows};
 
 use crate::committing::commit_steps;
@@ -31,7 +31,7 @@ pub fn recover<'a, D: Folder>(
     ensures* rests { sem 𝓛 (RestsIfErr (the_row D.row) held.entry (λ it. it.held.ghost_name) result (λ n. Calls (part_ending result) (Recovers (fault_of result)) (D.seen held.old.folder) (D.seen n.folder))) }
     ensures same_reference { IfOk result (λ it. it.held.ghost_name ≡ held.entry.ghost_name) }
     ensures calls { IfOk result (λ it. Calls Done (Recovers None) (D.seen held.old.folder) (D.seen it.held.now.folder)) }
-    ensures rested { IfOk result (λ it. IsRested (D.seen it.held.now.folder)) }
+    ensures rested { IfOk result (λ it. IsAtRest (D.seen it.held.now.folder)) }
     ensures quiet { IfOk result (λ it. IsQuiet (D.seen held.old.folder) (D.seen it.held.now.folder)) }
 {
     match recover_lent(held, alloc) {
@@ -117,14 +117,14 @@ impl<'a, D: Folder> Committed<'a, D> {
         Ok(more)
     }
 
-    /// Settles the rows, removes the journal, and settles. No row is left. After a fault the loan ends.
+    /// Settles the rows, removes the journal, and settles: then there is nothing to recover. No row is left before. After a fault the loan ends.
     pub fn finish(self) -> Result<Settled<'a, D>, Failed>
         requires none_left { length self.steps ≤ self.done }
         requires can { CanGoOn (D.seen self.held.now.folder) self.steps self.done }
         ensures* rests { sem 𝓛 (RestsIfErr (the_row D.row) self.entry.held (λ it. it.held.ghost_name) result (λ n. Calls (ends result) Finishes (D.seen self.entry.held.now.folder) (D.seen n.folder))) }
         ensures same_reference { IfOk result (λ it. it.held.ghost_name ≡ self.entry.held.ghost_name) }
         ensures calls { IfOk result (λ it. Calls Done Finishes (D.seen self.entry.held.now.folder) (D.seen it.held.now.folder)) }
-        ensures rested { IfOk result (λ it. IsRested (D.seen it.held.now.folder)) }
+        ensures rested { IfOk result (λ it. IsAtRest (D.seen it.held.now.folder)) }
     {
         let Committed { held, steps, done } = self;
         let finished = finish_steps(held, steps.as_slice(), done);
