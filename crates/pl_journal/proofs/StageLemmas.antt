@@ -28,11 +28,11 @@ use Rattle.pl_journal.proofs.Phases.{Putting, at_append, at_create, at_firm, kee
 writes_nothing : (files : Files) → WritesOwn files files
 writes_nothing files = (λ n valid. refl, refl)
 
-writes_is : {x y z : Files} → y ≡ z → WritesOwn x y → WritesOwn x z
-writes_is {x = x} is writes = subst (λ (f : Files). WritesOwn x f) is writes
+writes_is : (x : Files) {y z : Files} → y ≡ z → WritesOwn x y → WritesOwn x z
+writes_is x is writes = subst (λ (f : Files). WritesOwn x f) is writes
 
-writes_then : {x y z : Files} → WritesOwn x y → WritesOwn y z → WritesOwn x z
-writes_then first second = (λ n valid. second.0 n valid ∙ first.0 n valid, second.1 ∙ first.1)
+writes_then : (x y z : Files) → WritesOwn x y → WritesOwn y z → WritesOwn x z
+writes_then x y z first second = (λ n valid. second.0 n valid ∙ first.0 n valid, second.1 ∙ first.1)
 
 -- ---- one file
 
@@ -52,15 +52,15 @@ module _ (name bytes : List ℕ) (own : is_own name ≡ true) (other : same jour
   )
 
   created_writes : (e : Ending) (x y : Files) → StepsFiles (λ files. created files name) e x y → WritesOwn x y
-  created_writes Done x y is = writes_is (sym is) (insert_writes x [])
-  created_writes Broken x y (inl is) = writes_is (sym is) (writes_nothing x)
-  created_writes Broken x y (inr is) = writes_is (sym is) (insert_writes x [])
-  created_writes Undone x y is = writes_is (sym is) (writes_nothing x)
+  created_writes Done x y is = writes_is x (sym is) (insert_writes x [])
+  created_writes Broken x y (inl is) = writes_is x (sym is) (writes_nothing x)
+  created_writes Broken x y (inr is) = writes_is x (sym is) (insert_writes x [])
+  created_writes Undone x y is = writes_is x (sym is) (writes_nothing x)
 
   grown_writes : (e : Ending) (x y : Files) → GrowsFiles name bytes e x y → WritesOwn x y
-  grown_writes Done x y is = writes_is (sym is) (insert_writes x (bytes_at x name ++ bytes))
-  grown_writes Broken x y some = writes_is (sym some.2) (insert_writes x (bytes_at x name ++ take some.0 bytes))
-  grown_writes Undone x y is = writes_is (sym is) (writes_nothing x)
+  grown_writes Done x y is = writes_is x (sym is) (insert_writes x (bytes_at x name ++ bytes))
+  grown_writes Broken x y some = writes_is x (sym some.2) (insert_writes x (bytes_at x name ++ take some.0 bytes))
+  grown_writes Undone x y is = writes_is x (sym is) (writes_nothing x)
 
   pub create_stops : {e : Ending} {a b : Seen} → Stops e → Calls e (Does (creates name)) a b → Calls e (PutsOwn name bytes) a b
   create_stops {e = e} {a = a} {b = b} stops call = makes_told refl call (λ told files. (stopped _ e stops, created_writes e a.files b.files files)) (λ told disk before r staging. (keeps_create before name own other r a.disk staging e b.disk disk, stopped _ e stops))
@@ -71,7 +71,7 @@ module _ (name bytes : List ℕ) (own : is_own name ≡ true) (other : same jour
         when_done e (λ is n.
             let grown : c.files ≡ appended (created a.files name) name bytes = subst (λ f. GrowsFiles name bytes f b.files c.files) is two ∙ ap (λ (f : Files). appended f name bytes) one in
             ap (λ (f : Files). get f n) grown ∙ get_written a.files name bytes n),
-        writes_then (created_writes Done a.files b.files one) (grown_writes e b.files c.files two),
+        writes_then a.files b.files c.files (created_writes Done a.files b.files one) (grown_writes e b.files c.files two),
       ))
       (λ told one two before r staging.
       let here = at_create before name own other r a.disk staging b.disk one in (
@@ -84,7 +84,7 @@ module _ (name bytes : List ℕ) (own : is_own name ≡ true) (other : same jour
 
   pub firmed_on : {e : Ending} {a b c : Seen} → Calls Done Wrote a b → Calls e (DoesOrNot (firms name)) b c → Calls e (PutsOwn name bytes) a c
   firmed_on {e = e} {a = a} {b = b} {c = c} first second = then_told first second
-      (λ told one two. (when_done e (λ is n. ap (λ (f : Files). get f n) two ∙ one.0 n), writes_is (sym two) one.1))
+      (λ told one two. (when_done e (λ is n. ap (λ (f : Files). get f n) two ∙ one.0 n), writes_is a.files (sym two) one.1))
       (λ told one two before r staging.
       let here = one before r staging in (
         joined a.disk b.disk c.disk (Untouched before) here.0 (keeps_firm before name own other r a.disk.now.count bytes b.disk here.1 e c.disk two),
@@ -138,7 +138,7 @@ module _ (edits : List Edit) (fine : are_rows (rows_for edits) ≡ true) where
 
     pub stages_on : {e : Ending} {a b c : Seen} → Calls Done (StagesTo k edits) a b → Calls e (StagesOne k edit) b c → Calls e (StagesTo (k + 1) edits) a c
     stages_on {e = e} {a = a} {b = b} {c = c} first second = then_told first second
-        (λ told one two. (at_done e (λ reads n. more (get b.files) (get c.files) reads n ∙ one.0 n) two.0, writes_then one.1 two.1))
+        (λ told one two. (at_done e (λ reads n. more (get b.files) (get c.files) reads n ∙ one.0 n) two.0, writes_then a.files b.files c.files one.1 two.1))
         (λ told one two before r staging.
         let was = one before r staging in
         let next = two before (read b.disk.now) was.1.0 in (
@@ -170,7 +170,7 @@ pub journal_on : {e : Ending} {a b c : Seen} (edits : List Edit) (bytes : List �
 journal_on {e = e} {a = a} {b = b} {c = c} edits bytes is first second =
     let at : Calls e (PutsOwn journal_new (journal_of edits)) b c = subst (λ bs. Calls e (PutsOwn journal_new bs) b c) is second in
     then_told first at
-    (λ told one two. (at_done e (λ reads n. reads n ∙ ap (λ (v : View). with_bytes journal_new (journal_of edits) v n) (one_view _ _ one.0)) two.0, writes_then one.1 two.1))
+    (λ told one two. (at_done e (λ reads n. reads n ∙ ap (λ (v : View). with_bytes journal_new (journal_of edits) v n) (one_view _ _ one.0)) two.0, writes_then a.files b.files c.files one.1 two.1))
     (λ told one two before settled.
     let was = one before before (settled_staging before a.disk.now settled) in
     let next = two before (staged 0 edits before) was.1 in
