@@ -15,7 +15,7 @@ use std::alloc::Global;
 
 /// Gives the name an empty file, by one `create`. Where that gives no answer the loan ends; the fault is `Failed` or `NoMemory`.
 #[tactic(auto, using(pl_folder::proofs::FolderLaws::there))]
-pub fn fresh<'a, D: Folder, N: Named>(
+pub fn fresh<'a, D: Folder, N: Named + Copy>(
     held: &'a mut Held<D>,
     alloc: Global,
     name: N,
@@ -33,7 +33,7 @@ pub fn fresh<'a, D: Folder, N: Named>(
 
 /// Makes the file of a name that is there firm, by one `firm`. Where that fails the loan ends.
 #[tactic(auto, using(crate::proofs::FirmLaws::firm_done))]
-pub fn firm_there<'a, D: Folder, N: Named>(
+pub fn firm_there<'a, D: Folder, N: Named + Copy>(
     held: &'a mut Held<D>,
     name: N,
 ) -> Result<Firm<'a, D, N>, Failed>
@@ -48,7 +48,7 @@ pub fn firm_there<'a, D: Folder, N: Named>(
     Ok(Firm { held, name })
 }
 
-impl<'a, D: Folder, N: Named> Fresh<'a, D, N> {
+impl<'a, D: Folder, N: Named + Copy> Fresh<'a, D, N> {
     /// Adds bytes at the end of the file, by one `append`. Where that gives no answer the file is spent and the loan ends; the fault is `Failed` or `NoMemory`.
     #[tactic(auto, using(pl_folder::proofs::FolderLaws::there))]
     pub fn write(self, alloc: Global, bytes: &[u8]) -> Result<Fresh<'a, D, N>, FolderFault>
@@ -79,7 +79,7 @@ impl<'a, D: Folder, N: Named> Fresh<'a, D, N> {
     }
 }
 
-impl<'a, D: Folder, N: Named> Firm<'a, D, N> {
+impl<'a, D: Folder, N: Named + Copy> Firm<'a, D, N> {
     /// Gives the file, which is firm, another name, in place of a file that has it, by one `rename`, and ends the loan.
     pub fn name_as(self, to: &str) -> Result<(), Failed>
         requires firm { IsFirmFile (D.seen self.held.now.folder) (N.text self.name) }
