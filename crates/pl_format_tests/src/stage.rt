@@ -1,6 +1,10 @@
 // Tests of pl_stage, over a folder in memory.
+ghost use Rattle.std.specs.Prelude.{OnOk};
+ghost use Rattle.pl_base.specs.Names.{IsNameLength};
+ghost use Rattle.pl_folder.specs.Calls.{IsThere};
+
 use crate::folder::{Listed, folder, has};
-use pl_folder::{FolderFault, MemoryFolder, NEW_FILE};
+use pl_folder::{Folder, FolderFault, MemoryFolder, NEW_FILE};
 use pl_stage::{Held, firm_there, fresh};
 use std::alloc::Global;
 
@@ -61,17 +65,28 @@ fn fails_at_each_call(rt: HostRuntime) -> Result<(), FolderFault> {
     Ok(())
 }
 
-/// Makes a new file firm and leaves it, makes it firm again, and gives it another name.
-fn name_there(alloc: Global, folder: &mut MemoryFolder) -> Result<(), FolderFault> {
-    let mut held = Held { folder };
-    let file = match fresh(&mut held, alloc, "a") {
+/// Makes a new file firm, and leaves it so.
+fn leave_firm<D: Folder>(held: &mut Held<D>, alloc: Global, name: &str) -> Result<(), FolderFault>
+    requires { IsNameLength name.now }
+    ensures { OnOk result (IsThere (D.seen held.new.folder) name.now) }
+{
+    let file = match fresh(held, alloc, name) {
         Ok(file) => file,
         Err(fault) => return Err(fault),
     };
     match file.firm() {
-        Ok(file) => file.leave(),
-        Err(fault) => return Err(FolderFault::from(fault)),
+        Ok(file) => {
+            file.leave();
+            Ok(())
+        }
+        Err(fault) => Err(FolderFault::from(fault)),
     }
+}
+
+/// Makes a new file firm and leaves it, makes it firm again, and gives it another name.
+fn name_there(alloc: Global, folder: &mut MemoryFolder) -> Result<(), FolderFault> {
+    let mut held = Held { folder };
+    leave_firm(&mut held, alloc, "a")?;
     match firm_there(&mut held, "a") {
         Ok(file) => file.name_as("q")?,
         Err(fault) => return Err(FolderFault::from(fault)),
