@@ -19,7 +19,8 @@ use std::alloc::Global;
 /// Commits what is staged, does its rows and ends its journal. It takes no memory.
 pub(crate) fn put_in_place<D: Folder>(held: &mut Held<D>, steps: &[Step]) -> Result<(), Failed>
     requires { CanPut (D.seen held.old.folder) steps.now }
-    ensures { Calls (ends result) (PutsInPlace steps.now) (D.seen held.old.folder) (D.seen held.new.folder) }
+    ensures { Calls (ends result) (PutsInPlace steps.now) (D.seen held.old.folder)
+        (D.seen held.new.folder) }
 {
     commit(held)?;
     do_rows(held, steps)?;
@@ -36,7 +37,8 @@ pub fn carry_out<D: Folder>(
 ) -> Result<(), JournalFault>
     requires fine { are_rows (rows_for changes.now) ≡ true }
     requires rested { IsRested (D.seen held.old.folder) }
-    ensures calls { Calls (part_ending result) (CarriesOut changes.now) (D.seen held.old.folder) (D.seen held.new.folder) }
+    ensures calls { Calls (part_ending result) (CarriesOut changes.now) (D.seen held.old.folder)
+        (D.seen held.new.folder) }
     ensures plain { IfErr result IsNotBad }
     ensures ends { OnOk result (IsRested (D.seen held.new.folder)) }
     ensures nothing { changes.now ≡ [] → D.seen held.new.folder ≡ D.seen held.old.folder }

@@ -1,6 +1,6 @@
 ghost use Rattle.std.specs.Prelude.{List};
 ghost use Rattle.pl_folder.specs.Disk.{View};
-ghost use Rattle.pl_journal.specs.Laws.{AfterTheStart, CommitStands, FinishStands, RecoveriesEnd, RecoveriesLeave, RowsStand, RunsEnd, RunsLeave, SinceTheStart, StagingStands};
+ghost use Rattle.pl_journal.specs.Laws.{AfterTheStart, CommitStands, FinishStands, RecoveriesEnd, RecoveriesLeave, RowsStand, RunsEnd, RunsLeave, SinceTheStart, StagingStands, StepsDoRows};
 ghost use Rattle.pl_journal.specs.Meaning.{Edit, StandsBetween, StandsFor};
 
 /// Each image since the start of a recovery is one of the start's, or stands for the folder; since the start of a run it is one of the start's, or stands for the files before or for those after.
@@ -15,10 +15,11 @@ pub fn after_the_start()
     ensures run { (before : View) (edits : List Edit) → AfterTheStart (StandsBetween before edits) }
 {}
 
-/// What a crash of staging leaves stands for the files before, and what one of the commit, the rows and the end leaves for these or for those after; and with the end the changes are made.
+/// What a crash of staging leaves stands for the files before, and what one of the commit, the rows and the end leaves for these or for those after. Each step does its row, and with the end the changes are made.
 pub fn each_part_stands()
     ensures staging { StagingStands }
     ensures commit { CommitStands }
+    ensures steps { StepsDoRows }
     ensures rows { RowsStand }
     ensures finish { FinishStands }
     ensures end { RunsEnd }

@@ -21,10 +21,14 @@ pub fn fresh<'a, D: Folder, N: Named + Copy>(
     name: N,
 ) -> Result<Fresh<'a, D, N>, FolderFault>
     requires { IsNameLength (N.text name) }
-    ensures* rests { sem 𝓛 (RestsIfErr (the_row D.row) held.entry (λ it. it.held.ghost_name) result (λ n. Calls (ending result) (Does (creates (N.text name))) (D.seen held.old.folder) (D.seen n.folder))) }
+    ensures* rests { sem 𝓛 (RestsIfErr (the_row D.row) held.entry (λ it. it.held.ghost_name) result
+        (λ n. Calls (ending result) (Does (creates (N.text name))) (D.seen held.old.folder)
+        (D.seen n.folder))) }
     ensures same_reference { IfOk result (λ it. it.held.ghost_name ≡ held.entry.ghost_name) }
-    ensures calls { IfOk result (λ it. Calls Done (Does (creates (N.text name))) (D.seen held.old.folder) (D.seen it.held.now.folder)) }
-    ensures file { IfOk result (λ it. Has (D.seen it.held.now.folder) (N.text name) (N.text it.name)) }
+    ensures calls { IfOk result (λ it. Calls Done (Does (creates (N.text name)))
+        (D.seen held.old.folder) (D.seen it.held.now.folder)) }
+    ensures file { IfOk result (λ it. Has (D.seen it.held.now.folder) (N.text name)
+        (N.text it.name)) }
     ensures plain { IfErr result IsPlain }
 {
     held.folder.create(alloc, name.text())?;
@@ -38,10 +42,14 @@ pub fn firm_there<'a, D: Folder, N: Named + Copy>(
     name: N,
 ) -> Result<Firm<'a, D, N>, Failed>
     requires { IsFile (D.seen held.old.folder) (N.text name) }
-    ensures* rests { sem 𝓛 (RestsIfErr (the_row D.row) held.entry (λ it. it.held.ghost_name) result (λ n. Calls (ends result) (DoesOrNot (firms (N.text name))) (D.seen held.old.folder) (D.seen n.folder))) }
+    ensures* rests { sem 𝓛 (RestsIfErr (the_row D.row) held.entry (λ it. it.held.ghost_name) result
+        (λ n. Calls (ends result) (DoesOrNot (firms (N.text name))) (D.seen held.old.folder)
+        (D.seen n.folder))) }
     ensures same_reference { IfOk result (λ it. it.held.ghost_name ≡ held.entry.ghost_name) }
-    ensures calls { IfOk result (λ it. Calls Done (DoesOrNot (firms (N.text name))) (D.seen held.old.folder) (D.seen it.held.now.folder)) }
-    ensures firm { IfOk result (λ it. HasFirm (D.seen it.held.now.folder) (N.text name) (N.text it.name)) }
+    ensures calls { IfOk result (λ it. Calls Done (DoesOrNot (firms (N.text name)))
+        (D.seen held.old.folder) (D.seen it.held.now.folder)) }
+    ensures firm { IfOk result (λ it. HasFirm (D.seen it.held.now.folder) (N.text name)
+        (N.text it.name)) }
 {
     let text = name.text();
     held.folder.firm(text)?;
@@ -53,10 +61,16 @@ impl<'a, D: Folder, N: Named + Copy> Fresh<'a, D, N> {
     #[tactic(auto, using(pl_folder::proofs::FolderLaws::there))]
     pub fn write(self, alloc: Global, bytes: &[u8]) -> Result<Fresh<'a, D, N>, FolderFault>
         requires { IsFile (D.seen self.held.now.folder) (N.text self.name) }
-        ensures* rests { sem 𝓛 (RestsIfErr (the_row D.row) self.entry.held (λ it. it.held.ghost_name) result (λ n. Calls (ending result) (Appends (N.text self.entry.name) bytes.now) (D.seen self.entry.held.now.folder) (D.seen n.folder))) }
-        ensures same_reference { IfOk result (λ it. it.held.ghost_name ≡ self.entry.held.ghost_name) }
-        ensures calls { IfOk result (λ it. Calls Done (Appends (N.text self.entry.name) bytes.now) (D.seen self.entry.held.now.folder) (D.seen it.held.now.folder)) }
-        ensures file { IfOk result (λ it. Has (D.seen it.held.now.folder) (N.text self.entry.name) (N.text it.name)) }
+        ensures* rests { sem 𝓛 (RestsIfErr (the_row D.row) self.entry.held
+            (λ it. it.held.ghost_name) result
+            (λ n. Calls (ending result) (Appends (N.text self.entry.name) bytes.now)
+            (D.seen self.entry.held.now.folder) (D.seen n.folder))) }
+        ensures same_reference { IfOk result
+            (λ it. it.held.ghost_name ≡ self.entry.held.ghost_name) }
+        ensures calls { IfOk result (λ it. Calls Done (Appends (N.text self.entry.name) bytes.now)
+            (D.seen self.entry.held.now.folder) (D.seen it.held.now.folder)) }
+        ensures file { IfOk result (λ it. Has (D.seen it.held.now.folder) (N.text self.entry.name)
+            (N.text it.name)) }
         ensures plain { IfErr result IsPlain }
     {
         let Fresh { held, name } = self;
@@ -68,10 +82,16 @@ impl<'a, D: Folder, N: Named + Copy> Fresh<'a, D, N> {
     #[tactic(auto, using(crate::proofs::FirmLaws::firm_done))]
     pub fn firm(self) -> Result<Firm<'a, D, N>, Failed>
         requires { IsFile (D.seen self.held.now.folder) (N.text self.name) }
-        ensures* rests { sem 𝓛 (RestsIfErr (the_row D.row) self.entry.held (λ it. it.held.ghost_name) result (λ n. Calls (ends result) (DoesOrNot (firms (N.text self.entry.name))) (D.seen self.entry.held.now.folder) (D.seen n.folder))) }
-        ensures same_reference { IfOk result (λ it. it.held.ghost_name ≡ self.entry.held.ghost_name) }
-        ensures calls { IfOk result (λ it. Calls Done (DoesOrNot (firms (N.text self.entry.name))) (D.seen self.entry.held.now.folder) (D.seen it.held.now.folder)) }
-        ensures firm { IfOk result (λ it. HasFirm (D.seen it.held.now.folder) (N.text self.entry.name) (N.text it.name)) }
+        ensures* rests { sem 𝓛 (RestsIfErr (the_row D.row) self.entry.held
+            (λ it. it.held.ghost_name) result
+            (λ n. Calls (ends result) (DoesOrNot (firms (N.text self.entry.name)))
+            (D.seen self.entry.held.now.folder) (D.seen n.folder))) }
+        ensures same_reference { IfOk result
+            (λ it. it.held.ghost_name ≡ self.entry.held.ghost_name) }
+        ensures calls { IfOk result (λ it. Calls Done (DoesOrNot (firms (N.text self.entry.name)))
+            (D.seen self.entry.held.now.folder) (D.seen it.held.now.folder)) }
+        ensures firm { IfOk result (λ it. HasFirm (D.seen it.held.now.folder)
+            (N.text self.entry.name) (N.text it.name)) }
     {
         let Fresh { held, name } = self;
         held.folder.firm(name.text())?;
@@ -84,7 +104,8 @@ impl<'a, D: Folder, N: Named + Copy> Firm<'a, D, N> {
     pub fn name_as(self, to: &str) -> Result<(), Failed>
         requires firm { IsFirmFile (D.seen self.held.now.folder) (N.text self.name) }
         requires length { IsNameLength to.now }
-        ensures { Calls (ends result) (Does (renames (N.text self.entry.name) to.now)) (D.seen self.entry.held.now.folder) (D.seen self.exit.0.now.folder) }
+        ensures { Calls (ends result) (Does (renames (N.text self.entry.name) to.now))
+            (D.seen self.entry.held.now.folder) (D.seen self.exit.0.now.folder) }
     {
         let Firm { held, name } = self;
         held.folder.rename(name.text(), to)
