@@ -2,10 +2,8 @@
 use Rattle.std.proofs.Common.{◌≡◌, ℕ, Bool, true, false, refl, sym, ◌∙◌, subst, arith}
 use Rattle.std.proofs.lemmas.Bool.{false≢true}
 use Rattle.pl_base.specs.Counts.{Counted}
-use Rattle.pl_base.specs.Files.{Files}
 use Rattle.pl_base.proofs.CountLaws.{counted_then}
 use Rattle.pl_folder.specs.Calls.{Calls}
-use Rattle.pl_folder.specs.Disk.{Disk}
 use Rattle.pl_folder.specs.Effects.{Asks, Effect}
 use Rattle.pl_folder.specs.Seen.{Seen, Ending, Done, Undone, is_broken}
 

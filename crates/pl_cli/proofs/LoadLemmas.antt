@@ -18,7 +18,6 @@ use Rattle.pl_loader.specs.Started as start
 use Rattle.pl_loader.specs.Walk.{IsUnderWay, entered, files, give, object_in, object_of, of_wanted, taken, walk_fault, with_file}
 use Rattle.pl_loader.specs.declared.fault.LoadFault.{LoadFault}
 use Rattle.pl_loader.specs.declared.fault.LoadFault.TheVariants.{NotThere}
-use Rattle.pl_loader.specs.declared.object_file.ObjectFile.{ObjectFile}
 use Rattle.pl_loader.proofs.LoadLaws.{load_ends, load_lacks, load_stops}
 use Rattle.pl_words.specs.declared.command.Policy.{Policy}
 use Rattle.pl_cli.specs.declared.cause.Cause.{Cause}

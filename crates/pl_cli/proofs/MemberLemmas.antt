@@ -1,5 +1,5 @@
 -- The members of a walk that a folder's files made, whether the folder tells its files or not.
-use Rattle.std.proofs.Common.{◌≡◌, ◌≤◌, ℕ, ◌+◌, List, [], ◌∷◌, ◌++◌, length, map, Bool, true, false, Some, None, Result, Ok, refl, sym, ap, subst, ◌∙◌, arith, inl, inr, append_assoc}
+use Rattle.std.proofs.Common.{◌≡◌, ◌≤◌, ℕ, List, [], ◌∷◌, ◌++◌, length, false, Some, None, Result, Ok, refl, sym, ap, subst, ◌∙◌, arith, inl, inr, append_assoc}
 use Rattle.std.specs.Prelude.{slice_get}
 use Rattle.std.specs.List.{AllByRecursion, IsDistinct}
 use Rattle.std.specs.Str.{bytes_eq}
@@ -9,7 +9,7 @@ use Rattle.std.proofs.lemmas.Map.Keys.{IsDistinct-head, IsDistinct-push, IsDisti
 use Rattle.pl_base.specs.Each.{run}
 use Rattle.pl_object.specs.declared.object.Object.{Object}
 use Rattle.pl_scope.specs.Members.{IsWalk, has, names, told}
-use Rattle.pl_scope.specs.Walk.{Walked, IsUnderWay, added, begun, give, itself, next, object_of, of_wanted, walk_over}
+use Rattle.pl_scope.specs.Walk.{Walked, IsUnderWay, added, begun, give, itself, object_of, of_wanted}
 use Rattle.pl_scope.specs.Walking.{IsWalking, Walking, wants}
 use Rattle.pl_scope.specs.declared.constants.TheConstants.{MAX_MEMBERS}
 use Rattle.pl_scope.specs.declared.fault.WalkFault.{WalkFault}

@@ -1,11 +1,11 @@
 -- What `--order` finds, object by object.
-use Rattle.std.proofs.Common.{◌≡◌, ◌≤◌, ◌<◌, ℕ, ◌+◌, List, [], ◌∷◌, ◌++◌, length, map, Bool, true, false, Option, Some, None, refl, sym, ap, subst, ◌∙◌, arith}
-use Rattle.std.specs.Prelude.{Result, Ok, Err, MatchBool, ⊤, Vec, not, if◌then◌else◌}
+use Rattle.std.proofs.Common.{◌≡◌, ◌≤◌, ◌<◌, ℕ, List, [], ◌∷◌, ◌++◌, length, map, Bool, true, false, Some, None, refl, sym, ap, subst, ◌∙◌, arith}
+use Rattle.std.specs.Prelude.{Result, Ok, Err, Vec, not}
 use Rattle.std.specs.List.{All}
 use Rattle.std.proofs.lemmas.List.{length-map}
 use Rattle.std.proofs.lemmas.List.Elements.{All-cons, All-head, All-map, All-nil, All-tail}
 use Rattle.std.specs.declared.alloc.Global.{Global}
-use Rattle.std.proofs.lemmas.Bool.{false≢true, true≢false}
+use Rattle.std.proofs.lemmas.Bool.{false≢true}
 use Rattle.pl_base.specs.Answers.{unless, because, ◌>>=◌, Answers}
 use Rattle.pl_base.specs.Files.{Files}
 use Rattle.pl_base.specs.Names.{is_valid_name}
@@ -17,7 +17,7 @@ use Rattle.pl_scope.specs.Members.{names}
 use Rattle.pl_scope.specs.Scope as scope
 use Rattle.pl_scope.specs.Scope.{IsAccepted, objects}
 use Rattle.pl_scope.specs.Walk.{IsUnderWay, Walked, give, is_memory, walk}
-use Rattle.pl_scope.specs.Walking.{IsWalking, Walking, wants}
+use Rattle.pl_scope.specs.Walking.{Walking, wants}
 use Rattle.pl_scope.specs.declared.constants.TheConstants.{MAX_MEMBERS}
 use Rattle.pl_scope.specs.declared.fault.WalkFault.{WalkFault}
 use Rattle.pl_scope.specs.declared.fault.WalkFault.TheVariants as walk_faults
@@ -26,7 +26,7 @@ use Rattle.pl_scope.proofs.MemberLaws.{length_walked}
 use Rattle.pl_scope.proofs.WalkLaws.{give_given, walk_ends, walk_goes_on, walk_lacks, walk_stops}
 use Rattle.pl_loader.specs.Faults.{of_walk}
 use Rattle.pl_loader.specs.Walk.{walk_fault}
-use Rattle.pl_loader.specs.declared.fault.LoadFault.TheVariants.{NeededIsProgram, NotThere, TooMany}
+use Rattle.pl_loader.specs.declared.fault.LoadFault.TheVariants.{NotThere}
 use Rattle.pl_cli.specs.declared.cause.Cause.{Cause}
 use Rattle.pl_cli.specs.declared.cause.Cause.TheVariants as causes
 use Rattle.pl_cli.specs.declared.command.Detail.{Detail}

@@ -19,10 +19,8 @@ use Rattle.pl_folder.specs.Taken.{taken}
 use Rattle.pl_folder.specs.declared.fault.FolderFault.{FolderFault}
 use Rattle.pl_folder.specs.declared.fault.FolderFault.TheVariants as folder_faults
 use Rattle.pl_slots.specs.declared.slot.Slot.{Slot}
-use Rattle.pl_cli.specs.declared.cause.Cause.{Cause}
 use Rattle.pl_cli.specs.declared.cause.Cause.TheVariants as causes
 use Rattle.pl_cli.specs.declared.print.TheConstants.{CACHE}
-use Rattle.pl_cli.specs.declared.stop.Stop.{Stop}
 use Rattle.pl_cli.specs.declared.stop.Stop.TheVariants as stops
 use Rattle.pl_cli.specs.Came.{HasPrinted}
 use Rattle.pl_cli.specs.Print.{bad_cache, cache_in, cache_of, no_cache, print_text, printed}

@@ -1,6 +1,6 @@
 -- A run, from what a command came to and what was written of it.
-use Rattle.std.proofs.Common.{◌≡◌, ℕ, List, [], Bool, true, false, Option, Some, None, refl, sym, ap, subst, ◌∙◌, inl, inr, arith}
-use Rattle.std.specs.Prelude.{Result, Ok, Err, Vec, ⊤, is_some}
+use Rattle.std.proofs.Common.{◌≡◌, ℕ, List, [], false, Option, Some, None, refl, sym, ap, subst, ◌∙◌, inl, inr, arith}
+use Rattle.std.specs.Prelude.{Result, Ok, Err, Vec, is_some}
 use Rattle.std.specs.declared.alloc.Global.{Global}
 use Rattle.std.proofs.lemmas.Bool.{true≢false}
 use Rattle.pl_base.specs.Answers.{◌>>=◌, because}
@@ -8,7 +8,6 @@ use Rattle.pl_base.specs.Counts.{Counted}
 use Rattle.pl_base.specs.Streams.{got_after, GotPrefix}
 use Rattle.pl_io.specs.Seen.{Input, Output}
 use Rattle.pl_folder.specs.Calls.{Calls}
-use Rattle.pl_folder.specs.Effects.{Asks}
 use Rattle.pl_folder.specs.Seen.{Seen, Done, Undone}
 use Rattle.pl_elf.specs.declared.range.Range.{Range}
 use Rattle.pl_loader.specs.Loading as loading

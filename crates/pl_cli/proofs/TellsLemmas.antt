@@ -4,7 +4,6 @@ use Rattle.pl_base.specs.Answers.{Tells}
 use Rattle.pl_base.specs.Files.{Files}
 use Rattle.pl_base.proofs.TellsLaws.{ok_tells, err_tells, unless_tells, then_tells, cause_tells, because_tells}
 use Rattle.pl_build.specs.Build.{build}
-use Rattle.pl_object.specs.Reads.{reads}
 use Rattle.pl_object.specs.Refusals as object
 use Rattle.pl_object.specs.declared.refusal.Refusal.{Refusal}
 use Rattle.pl_object.specs.declared.refusal.Refusal.TheVariants as refusals

@@ -27,7 +27,7 @@ use Rattle.pl_cli.specs.Make.{HasRecipe, built, made}
 use Rattle.pl_cli.specs.Order.{members_of, object_in, ordered, walked}
 use Rattle.pl_cli.specs.Print.{printed}
 use Rattle.pl_cli.specs.Outside.{Consumes, ending_of, is_read_fault, may_end}
-use Rattle.pl_cli.specs.Stops.{Means, Stops, status_of}
+use Rattle.pl_cli.specs.Stops.{Means, status_of}
 use Rattle.pl_cli.specs.Words.{bytes_of, reads_input}
 
 -- ---- what `--make` makes of the folder

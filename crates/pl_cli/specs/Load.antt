@@ -1,5 +1,5 @@
 -- What a program of a folder's files starts from, or the first cause why it does not.
-use Rattle.std.specs.Prelude.{◌≡◌, ℕ, Bool, false, not, List, Option, None, Result, Ok}
+use Rattle.std.specs.Prelude.{◌≡◌, ℕ, Bool, false, not, List, Option, None, Result}
 use Rattle.std.specs.Borrow.{Bor}
 use Rattle.pl_base.specs.Answers.{because, unless}
 use Rattle.pl_base.specs.Files.{Files}

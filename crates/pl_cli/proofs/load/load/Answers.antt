@@ -1,5 +1,4 @@
 use Rattle.std.proofs.Common.{◌≡◌, true, false, Some, None, sym, ap, subst, ◌∙◌, rules, arith}
-use Rattle.std.specs.Prelude.{Err}
 use Rattle.pl_base.specs.Files.{Files}
 use Rattle.pl_base.specs.Names.{is_valid_name}
 use Rattle.pl_scope.specs.Walking.{wants}
