@@ -1,13 +1,11 @@
 -- Calls of a folder in other words, and one after the other. What is told of the folder before them is told of it later.
-use Rattle.std.proofs.Common.{◌≡◌, Bool, true, false, refl, sym, ◌∙◌, subst, arith}
+use Rattle.std.proofs.Common.{◌≡◌, ℕ, Bool, true, false, refl, sym, ◌∙◌, subst, arith}
 use Rattle.std.proofs.lemmas.Bool.{false≢true}
 use Rattle.pl_base.specs.Counts.{Counted}
-use Rattle.pl_base.specs.Files.{Files}
 use Rattle.pl_base.proofs.CountLaws.{counted_then}
 use Rattle.pl_folder.specs.Calls.{Calls}
-use Rattle.pl_folder.specs.Disk.{Disk}
-use Rattle.pl_folder.specs.Effects.{Effect}
-use Rattle.pl_folder.specs.Seen.{Seen, Ending, Done, is_broken}
+use Rattle.pl_folder.specs.Effects.{Asks, Effect}
+use Rattle.pl_folder.specs.Seen.{Seen, Ending, Done, Undone, is_broken}
 
 -- no call
 pub no_calls : {P : Effect} (e : Ending) (a : Seen) → is_broken e ≡ false → P.files e a.files a.files → P.disk e a.disk a.disk → Calls e P a a
@@ -45,3 +43,7 @@ then_calls e f {a = a} {b = b} {c = c} alike first second files disk = record {
   disk = λ told. disk told (first.disk told) (second.disk (first.records ∙ told));
   count = subst (λ (broken : Bool). Counted broken a.faults c.faults) alike (counted_then (is_broken e) a.faults b.faults c.faults first.count second.count);
 }
+
+-- memory lacked after all calls
+pub asked_all : (n : ℕ) {a b : Seen} → Calls Done (Asks n) a b → Calls Undone (Asks n) a b
+asked_all n call = as_calls Done Undone refl call (λ told same. same) (λ told made. (n, omega arith, made))

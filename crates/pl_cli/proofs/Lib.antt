@@ -3,7 +3,11 @@ pub mod PartLemmas
 pub mod RoomLemmas
 pub mod CallLemmas
 pub mod LookLemmas
+pub mod TakeLemmas
+pub mod WalkLemmas
 pub mod LoadLemmas
+pub mod MemberLemmas
+pub mod OrderLemmas
 pub mod MakeLemmas
 pub mod PrintLemmas
 pub mod RunLemmas

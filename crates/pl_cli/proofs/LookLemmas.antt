@@ -1,33 +1,26 @@
 -- The names whose files a walk looks at, name by name, and the calls that this takes.
 use Rattle.std.proofs.Common.{◌≡◌, ◌≤◌, ◌<◌, ℕ, zero, suc, ◌+◌, ◌-◌, List, [], ◌∷◌, Bool, true, false, cond, Option, Some, None, Result, Ok, Err, refl, sym, ap, ◌∙◌, arith, add-zero}
-use Rattle.std.specs.Prelude.{count_by, if◌then◌else◌}
-use Rattle.std.specs.FinMap.{get}
+use Rattle.std.specs.Prelude.{count_by}
 use Rattle.std.proofs.lemmas.List.Sums.{sum_by-cons}
 use Rattle.pl_base.specs.Answers.{◌>>=◌, because}
-use Rattle.pl_base.specs.Files.{Files}
 use Rattle.pl_base.specs.Names.{is_valid_name}
 use Rattle.pl_folder.specs.Calls.{Calls}
 use Rattle.pl_folder.specs.Disk.{Disk, State, after, waited}
 use Rattle.pl_folder.specs.Effects.{Asks, Effect, SameFiles}
 use Rattle.pl_folder.specs.Seen.{Seen, Done, Broken, Undone}
+use Rattle.pl_object.specs.declared.object.Object.{Object}
 use Rattle.pl_scope.specs.Walk as walk
 use Rattle.pl_scope.specs.Walking.{Walking, wants}
 use Rattle.pl_scope.specs.declared.constants.TheConstants.{MAX_MEMBERS}
-use Rattle.pl_scope.specs.declared.fault.WalkFault.{WalkFault}
-use Rattle.pl_loader.specs.Faults.{of_walk}
-use Rattle.pl_loader.specs.Loading.{Loading}
-use Rattle.pl_loader.specs.Walk.{entered, give, object_in, object_of, of_wanted, taken, walk_fault, with_file}
-use Rattle.pl_loader.specs.declared.object_file.ObjectFile.{ObjectFile}
-use Rattle.pl_loader.specs.declared.fault.LoadFault.{LoadFault}
-use Rattle.pl_loader.specs.declared.fault.LoadFault.TheVariants.{NotThere}
+use Rattle.pl_loader.specs.Walk.{walk_fault}
 use Rattle.pl_cli.specs.declared.cause.Cause.{Cause}
 use Rattle.pl_cli.specs.declared.cause.Cause.TheVariants as causes
-use Rattle.pl_cli.specs.Load.{file_in, of_file, looks, looks_from, names_from, stepped, takes, unless_refused}
+use Rattle.pl_cli.specs.Looks.{ObjectOf, looks, looks_from, names_from, stepped, takes, unless_refused}
 use Rattle.pl_cli.proofs.CallLemmas.{as_calls, no_calls, then_calls}
 
 -- how many files are still to be taken
-abbrev pub left_from : Files → List ℕ → Walking → ℕ
-left_from files name w = count_by is_valid_name (looks_from files name (MAX_MEMBERS - w.given) w)
+abbrev pub left_from : ObjectOf → Walking → ℕ
+left_from object w = count_by is_valid_name (looks_from object (MAX_MEMBERS - w.given) w)
 
 -- one call, or none
 abbrev pub one_if_valid : List ℕ → ℕ
@@ -47,86 +40,56 @@ one_is n = sum_by-cons (λ m. cond (is_valid_name m) 1 0) n [] ∙ add-zero (con
 count_first : (n : List ℕ) (ns : List (List ℕ)) → count_by is_valid_name (n ∷ ns) ≡ one_if_valid n + count_by is_valid_name ns
 count_first n ns = sum_by-cons (λ m. cond (is_valid_name m) 1 0) n ns ∙ ap (λ (k : ℕ). k + count_by is_valid_name ns) (sym (one_is n))
 
-module _ (files : Files) (name : List ℕ) (w : Walking) (n : List ℕ) (below : w.given < MAX_MEMBERS) (is : wants w ≡ Some n) where
-  next_name : looks_from files name (MAX_MEMBERS - w.given) w ≡ n ∷ unless_refused (stepped files name w n) (looks_from files name (MAX_MEMBERS - (w.given + 1)))
+module _ (object : ObjectOf) (w : Walking) (n : List ℕ) (below : w.given < MAX_MEMBERS) (is : wants w ≡ Some n) where
+  next_name : looks_from object (MAX_MEMBERS - w.given) w ≡ n ∷ unless_refused (stepped object w n) (looks_from object (MAX_MEMBERS - (w.given + 1)))
   unfolding looks_from
   next_name =
       let size : MAX_MEMBERS - w.given ≡ suc (MAX_MEMBERS - (w.given + 1)) = omega arith in
-      ap (λ (most : ℕ). looks_from files name most w) size
-      ∙ ap (λ (o : Option (List ℕ)). names_from o (λ m. unless_refused (stepped files name w m) (looks_from files name (MAX_MEMBERS - (w.given + 1))))) is
+      ap (λ (most : ℕ). looks_from object most w) size
+      ∙ ap (λ (o : Option (List ℕ)). names_from o (λ m. unless_refused (stepped object w m) (looks_from object (MAX_MEMBERS - (w.given + 1))))) is
 
   -- its file is given to the walk
-  pub left_more : (v : Walking) → v.given ≡ w.given + 1 → stepped files name w n ≡ Ok v → left_from files name w ≡ one_if_valid n + left_from files name v
+  pub left_more : (v : Walking) → v.given ≡ w.given + 1 → stepped object w n ≡ Ok v → left_from object w ≡ one_if_valid n + left_from object v
   left_more v more step =
       ap (count_by is_valid_name) next_name
-      ∙ count_first n (unless_refused (stepped files name w n) (looks_from files name (MAX_MEMBERS - (w.given + 1))))
-      ∙ ap (λ (ns : List (List ℕ)). one_if_valid n + count_by is_valid_name ns) (unless_ok (stepped files name w n) v (looks_from files name (MAX_MEMBERS - (w.given + 1))) step)
-      ∙ ap (λ (k : ℕ). one_if_valid n + count_by is_valid_name (looks_from files name (MAX_MEMBERS - k) v)) (sym more)
+      ∙ count_first n (unless_refused (stepped object w n) (looks_from object (MAX_MEMBERS - (w.given + 1))))
+      ∙ ap (λ (ns : List (List ℕ)). one_if_valid n + count_by is_valid_name ns) (unless_ok (stepped object w n) v (looks_from object (MAX_MEMBERS - (w.given + 1))) step)
+      ∙ ap (λ (k : ℕ). one_if_valid n + count_by is_valid_name (looks_from object (MAX_MEMBERS - k) v)) (sym more)
 
   -- it is not there or refused
-  pub left_last : (cause : Cause) → stepped files name w n ≡ Err cause → left_from files name w ≡ one_if_valid n
+  pub left_last : (cause : Cause) → stepped object w n ≡ Err cause → left_from object w ≡ one_if_valid n
   left_last cause step =
       ap (count_by is_valid_name) next_name
-      ∙ ap (λ (ns : List (List ℕ)). count_by is_valid_name (n ∷ ns)) (unless_err (stepped files name w n) cause (looks_from files name (MAX_MEMBERS - (w.given + 1))) step)
+      ∙ ap (λ (ns : List (List ℕ)). count_by is_valid_name (n ∷ ns)) (unless_err (stepped object w n) cause (looks_from object (MAX_MEMBERS - (w.given + 1))) step)
 
-  pub left_some : one_if_valid n ≤ left_from files name w
+  pub left_some : one_if_valid n ≤ left_from object w
   left_some =
-      let all = ap (count_by is_valid_name) next_name ∙ count_first n (unless_refused (stepped files name w n) (looks_from files name (MAX_MEMBERS - (w.given + 1)))) in
+      let all = ap (count_by is_valid_name) next_name ∙ count_first n (unless_refused (stepped object w n) (looks_from object (MAX_MEMBERS - (w.given + 1)))) in
       omega (arith, all)
 
 -- no name is wanted
-no_names : (files : Files) (name : List ℕ) (most : ℕ) (w : Walking) → wants w ≡ None → looks_from files name most w ≡ []
+no_names : (object : ObjectOf) (most : ℕ) (w : Walking) → wants w ≡ None → looks_from object most w ≡ []
 unfolding looks_from
-no_names files name zero w is = refl
-no_names files name (suc most) w is = ap (λ (o : Option (List ℕ)). names_from o (λ m. unless_refused (stepped files name w m) (looks_from files name most))) is
+no_names object zero w is = refl
+no_names object (suc most) w is = ap (λ (o : Option (List ℕ)). names_from o (λ m. unless_refused (stepped object w m) (looks_from object most))) is
 
-pub left_none : (files : Files) (name : List ℕ) (w : Walking) → wants w ≡ None → left_from files name w ≡ 0
-left_none files name w is = ap (count_by is_valid_name) (no_names files name (MAX_MEMBERS - w.given) w is)
+pub left_none : (object : ObjectOf) (w : Walking) → wants w ≡ None → left_from object w ≡ 0
+left_none object w is = ap (count_by is_valid_name) (no_names object (MAX_MEMBERS - w.given) w is)
 
 -- all are still to be looked at
-pub left_all : (files : Files) (name : List ℕ) → left_from files name (walk.begun name) ≡ takes files name
+pub left_all : (object : ObjectOf) (name : List ℕ) → left_from object (walk.begun name) ≡ takes object name
 unfolding looks
-left_all files name = refl
+left_all object name = refl
 
--- ---- the step of the walk, as the load makes it
+-- ---- the wanted name has no object, or the walk was given it
 
-of_walked : (make : Walking → Loading) → ((w : Walking) → (make w).order ≡ w) → (r : Result Walking WalkFault)
-    → because (walk_fault causes.Load) r ≡ because causes.Load ((because of_walk r >>= λ order. Ok (make order)) >>= λ m. Ok m.order)
-of_walked make same (Ok w) = ap Ok (sym (same w))
-of_walked make same (Err e) = refl
+pub step_lacks : (object : ObjectOf) (w : Walking) (n : List ℕ) (cause : Cause) → object n ≡ Err cause → stepped object w n ≡ Err cause
+step_lacks object w n cause lacks = ap (λ (r : Result Object Cause). r >>= λ o. because (walk_fault causes.Load) (walk.entered w n o)) lacks
 
-of_objects : {O : Type 0} (r : Result O LoadFault) (step : O → Result Walking WalkFault) (make : O → Walking → Loading) → ((o : O) (w : Walking) → (make o w).order ≡ w)
-    → (because causes.Load r >>= λ o. because (walk_fault causes.Load) (step o)) ≡ because causes.Load ((r >>= λ o. because of_walk (step o) >>= λ order. Ok (make o order)) >>= λ m. Ok m.order)
-of_objects (Ok o) step make same = of_walked (make o) (same o) (step o)
-of_objects (Err e) step make same = refl
-
-module _ (l : Loading) (n bytes : List ℕ) where
-  step_is : (files : Files) (name : List ℕ) → wants l.order ≡ Some n → l.name ≡ name → file_in files n ≡ Ok bytes → stepped files name l.order n ≡ because causes.Load (give l (Some bytes) >>= λ m. Ok m.order)
-  unfolding taken entered object_of
-  step_is files name is named there =
-      let looked : stepped files name l.order n ≡ (because causes.Load (object_in name n bytes) >>= λ o. because (walk_fault causes.Load) (walk.entered l.order n o)) =
-      ap (λ (r : Result (List ℕ) Cause). (r >>= λ b. because causes.Load (object_in name n b)) >>= λ o. because (walk_fault causes.Load) (walk.entered l.order n o)) there in
-      let same : (object_in name n bytes >>= λ o. because of_walk (walk.entered l.order n o) >>= λ order. Ok (with_file l order (record { name = n; bytes = bytes; object = o }))) ≡ give l (Some bytes) =
-      ap (λ (m : List ℕ). object_in m n bytes >>= λ o. because of_walk (walk.entered l.order n o) >>= λ order. Ok (with_file l order (record { name = n; bytes = bytes; object = o }))) (sym named)
-      ∙ ap (λ (wanted : Option (List ℕ)). object_in l.name n bytes >>= λ o. because of_walk (walk.of_wanted l.order o wanted) >>= λ order. Ok (with_file l order (record { name = n; bytes = bytes; object = o }))) (sym is)
-      ∙ ap (λ (wanted : Option (List ℕ)). of_wanted l (Some bytes) wanted) (sym is) in
-      looked
-      ∙ of_objects (object_in name n bytes) (walk.entered l.order n) (λ o order. with_file l order (record { name = n; bytes = bytes; object = o })) (λ o order. refl)
-      ∙ ap (λ (r : Result Loading LoadFault). because causes.Load (r >>= λ m. Ok m.order)) same
-
-  pub step_goes_on : (files : Files) (name : List ℕ) (m : Loading) → wants l.order ≡ Some n → l.name ≡ name → file_in files n ≡ Ok bytes → give l (Some bytes) ≡ Ok m → stepped files name l.order n ≡ Ok m.order
-  step_goes_on files name m is named there went =
-      step_is files name is named there ∙ ap (λ (r : Result Loading LoadFault). because causes.Load (r >>= λ k. Ok k.order)) went
-
-  pub step_stops : (files : Files) (name : List ℕ) (f : LoadFault) → wants l.order ≡ Some n → l.name ≡ name → file_in files n ≡ Ok bytes → give l (Some bytes) ≡ Err f → stepped files name l.order n ≡ Err (causes.Load f)
-  step_stops files name f is named there stopped =
-      step_is files name is named there ∙ ap (λ (r : Result Loading LoadFault). because causes.Load (r >>= λ k. Ok k.order)) stopped
-
--- a file that is not there
-pub step_lacks : (files : Files) (name : List ℕ) (w : Walking) (n : List ℕ) (cause : Cause) → file_in files n ≡ Err cause → stepped files name w n ≡ Err cause
-unfolding object_of
-step_lacks files name w n cause lacks =
-    ap (λ (r : Result (List ℕ) Cause). (r >>= λ b. because causes.Load (object_in name n b)) >>= λ o. because (walk_fault causes.Load) (walk.entered w n o)) lacks
+pub step_given : (object : ObjectOf) (w : Walking) (n : List ℕ) (o : Object) → object n ≡ Ok o → wants w ≡ Some n → stepped object w n ≡ because (walk_fault causes.Load) (walk.give w o)
+step_given object w n o there is =
+    ap (λ (r : Result Object Cause). r >>= λ o. because (walk_fault causes.Load) (walk.entered w n o)) there
+    ∙ ap (λ (wanted : Option (List ℕ)). because (walk_fault causes.Load) (walk.of_wanted w o wanted)) (sym is)
 
 -- ---- calls in which nothing changes
 
@@ -192,7 +155,7 @@ module _ {a b c : Seen} {left total : ℕ} (j : ℕ) (so_far : Calls Done (AllBu
   pub and_undone : (a.records ≡ true → j ≤ left) → Calls Undone (Asks j) b c → Calls Undone (Asks total) a c
   and_undone within call = then_calls Undone Undone refl so_far call (λ told same more. more ∙ same) (λ told p q. some_waited left total j a.disk b.disk c.disk p (within told) q)
 
--- ---- a load begins, and ends
+-- ---- a walk begins, and ends
 
 module _ (a : Seen) where
   pub no_call : (n : ℕ) → n ≡ 0 → Calls Done (Asks n) a a
@@ -215,9 +178,8 @@ pub one_if_so : (n : List ℕ) → is_valid_name n ≡ true → one_if_valid n �
 one_if_so n valid = one_is n ∙ ap (λ (b : Bool). cond b 1 0) valid
 
 -- nor is a file for it looked for
-pub takes_none : (files : Files) (name : List ℕ) → is_valid_name name ≡ false → takes files name ≡ 0
-unfolding file_in
-takes_none files name invalid =
-    sym (left_all files name)
-    ∙ left_last files name (walk.begun name) name (omega arith) refl (causes.Load (NotThere name)) (step_lacks files name (walk.begun name) name (causes.Load (NotThere name)) (ap (λ (b : Bool). of_file name (if b then get files name else None)) invalid))
+pub takes_none : (object : ObjectOf) (name : List ℕ) (cause : Cause) → is_valid_name name ≡ false → object name ≡ Err cause → takes object name ≡ 0
+takes_none object name cause invalid lacks =
+    sym (left_all object name)
+    ∙ left_last object (walk.begun name) name (omega arith) refl cause (step_lacks object (walk.begun name) name cause lacks)
     ∙ one_if_not name invalid

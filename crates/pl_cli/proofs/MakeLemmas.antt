@@ -1,15 +1,14 @@
 -- What `--make` finds, step by step, and what it makes of the folder.
 use Rattle.std.proofs.Common.{◌≡◌, ◌≤◌, ◌<◌, ℕ, zero, suc, List, length, Bool, true, false, Option, Some, None, refl, sym, ap, subst, ◌∙◌, ⊎_elim, inl, inr, arith}
-use Rattle.std.specs.Prelude.{Result, Ok, Err, Vec, is_some, is_ok, not, nat_lt, IsErrAnd}
+use Rattle.std.specs.Prelude.{Result, Ok, Err, Vec, is_some, is_ok, not, nat_lt}
 use Rattle.std.specs.declared.alloc.Global.{Global}
 use Rattle.std.specs.FinMap.{keys, remove}
 use Rattle.std.proofs.lemmas.Bool.{true≢false}
 use Rattle.std.proofs.lemmas.Bool.Decides.{nat_tests}
 use Rattle.pl_base.specs.Answers.{unless, because, ◌>>=◌}
-use Rattle.pl_base.specs.Counts.{Counted}
 use Rattle.pl_base.specs.Files.{Files}
 use Rattle.pl_base.specs.Names.{is_valid_name}
-use Rattle.pl_io.specs.Reads.{HasMore, StopsReading, TookAtMost, UnlessFailed}
+use Rattle.pl_io.specs.Reads.{HasMore}
 use Rattle.pl_io.specs.Seen.{HasReadAll, Input}
 use Rattle.pl_io.specs.declared.read_fault.ReadFault.{ReadFault}
 use Rattle.pl_io.specs.declared.read_fault.ReadFault.TheVariants as read_faults
@@ -31,10 +30,10 @@ use Rattle.pl_cli.specs.declared.make.TheConstants.{RECIPE}
 use Rattle.pl_cli.specs.declared.stop.Stop.{Stop}
 use Rattle.pl_cli.specs.declared.stop.Stop.TheVariants as stops
 use Rattle.pl_cli.specs.Answer.{done, make_answer, made_text}
-use Rattle.pl_cli.specs.Came.{AsksOnce, Came, HasBuilt, HasFile, HasMade, HasNone}
+use Rattle.pl_cli.specs.Came.{AsksOnce, Came, HasBuilt, HasFile, HasMade}
 use Rattle.pl_cli.specs.Make.{HasRecipe, built, made, with_room, recipe_cause}
-use Rattle.pl_cli.specs.Outside.{Consumes, ending_of, is_read_fault}
-use Rattle.pl_cli.specs.Stops.{of_fault, of_read_fault, of_recipe_fault, status_of}
+use Rattle.pl_cli.specs.Outside.{Consumes}
+use Rattle.pl_cli.specs.Stops.{of_fault, of_read_fault, of_recipe_fault}
 use Rattle.pl_cli.specs.Room.{is_full}
 use Rattle.pl_cli.specs.Words.{bytes_of}
 use Rattle.pl_cli.proofs.CallLemmas.{as_calls, no_calls, then_calls}

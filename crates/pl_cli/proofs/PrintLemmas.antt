@@ -19,15 +19,13 @@ use Rattle.pl_folder.specs.Taken.{taken}
 use Rattle.pl_folder.specs.declared.fault.FolderFault.{FolderFault}
 use Rattle.pl_folder.specs.declared.fault.FolderFault.TheVariants as folder_faults
 use Rattle.pl_slots.specs.declared.slot.Slot.{Slot}
-use Rattle.pl_cli.specs.declared.cause.Cause.{Cause}
 use Rattle.pl_cli.specs.declared.cause.Cause.TheVariants as causes
 use Rattle.pl_cli.specs.declared.print.TheConstants.{CACHE}
-use Rattle.pl_cli.specs.declared.stop.Stop.{Stop}
 use Rattle.pl_cli.specs.declared.stop.Stop.TheVariants as stops
 use Rattle.pl_cli.specs.Came.{HasPrinted}
 use Rattle.pl_cli.specs.Print.{bad_cache, cache_in, cache_of, no_cache, print_text, printed}
 use Rattle.pl_cli.specs.Stops.{of_cache_fault}
-use Rattle.pl_cli.proofs.LoadLemmas.{failed_once, lacked, lacked_once, once}
+use Rattle.pl_cli.proofs.TakeLemmas.{failed_once, lacked, lacked_once, once}
 
 -- ---- the slots of a cache end where their ends have 64 bits
 
@@ -64,22 +62,24 @@ when_taken files r is = ap (λ (s : Result (List ℕ) FolderFault). cache_of s >
 module _ {a b : Seen} where
   pub text_given : (bytes text : Vec ℕ Global) → Takes CACHE.now (Ok bytes) a b → (read bytes.items >>= λ c. Ok (print_text c)) ≡ Ok text.items → HasPrinted (Ok text) a b
   text_given bytes text took is = record {
-    means = λ told. when_taken a.files (Ok bytes.items) (took.bytes told) ∙ of_text (read bytes.items) text.items is;
+    means = λ told. when_taken a.files (Ok bytes.items) (took.bytes (told refl)) ∙ of_text (read bytes.items) text.items is;
     reads = refl;
+    fails = λ _. refl;
     calls = once 1 refl took.calls;
   }
 
   -- the bytes spell no cache
   pub text_refused : (bytes : Vec ℕ Global) → Takes CACHE.now (Ok bytes) a b → (read bytes.items >>= λ c. Ok (print_text c)) ≡ Err cache_faults.BadCache → HasPrinted (Err (stops.Cause causes.BadCache)) a b
   text_refused bytes took is = record {
-    means = λ told. when_taken a.files (Ok bytes.items) (took.bytes told) ∙ of_fault (read bytes.items) cache_faults.BadCache is;
+    means = λ told. when_taken a.files (Ok bytes.items) (took.bytes (told refl)) ∙ of_fault (read bytes.items) cache_faults.BadCache is;
     reads = refl;
+    fails = λ _. refl;
     calls = once 1 refl took.calls;
   }
 
   -- there was no memory after the file was taken
   pub text_lacked : (bytes : Vec ℕ Global) → Takes CACHE.now (Ok bytes) a b → HasPrinted (Err stops.NoMemory) a b
-  text_lacked bytes took = record { means = tt; reads = refl; calls = lacked_once 1 refl took.calls }
+  text_lacked bytes took = record { means = tt; reads = refl; fails = λ _. refl; calls = lacked_once 1 refl took.calls }
 
   pub text_stopped : (bytes : Vec ℕ Global) (fault : CacheFault) → Takes CACHE.now (Ok bytes) a b → MatchBool (is_memory fault) ⊤ ((read bytes.items >>= λ c. Ok (print_text c)) ≡ Err fault) → HasPrinted (Err (of_cache_fault fault)) a b
   text_stopped bytes cache_faults.BadCache took is = text_refused bytes took is
@@ -87,22 +87,23 @@ module _ {a b : Seen} where
 
   pub absent : (text : Vec ℕ Global) → Takes CACHE.now (Err folder_faults.NotThere) a b → text.items ≡ print_text no_cache → HasPrinted (Ok text) a b
   absent text took is = record {
-    means = λ told. when_taken a.files (Err folder_faults.NotThere) (took.explained told) ∙ ap (λ (t : List ℕ). Ok t) (sym is);
+    means = λ told. when_taken a.files (Err folder_faults.NotThere) (took.explained (told refl)) ∙ ap (λ (t : List ℕ). Ok t) (sym is);
     reads = refl;
+    fails = λ _. refl;
     calls = once 1 refl took.calls;
   }
 
   pub absent_lacked : Takes CACHE.now (Err folder_faults.NotThere) a b → HasPrinted (Err stops.NoMemory) a b
-  absent_lacked took = record { means = tt; reads = refl; calls = lacked_once 1 refl took.calls }
+  absent_lacked took = record { means = tt; reads = refl; fails = λ _. refl; calls = lacked_once 1 refl took.calls }
 
   pub too_large : Takes CACHE.now (Err folder_faults.TooLarge) a b → HasPrinted (Err (stops.Cause causes.BadCache)) a b
-  too_large took = record { means = λ told. when_taken a.files (Err folder_faults.TooLarge) (took.explained told); reads = refl; calls = once 1 refl took.calls }
+  too_large took = record { means = λ told. when_taken a.files (Err folder_faults.TooLarge) (took.explained (told refl)); reads = refl; fails = λ _. refl; calls = once 1 refl took.calls }
 
   pub failed : Takes CACHE.now (Err folder_faults.Failed) a b → HasPrinted (Err stops.Failed) a b
-  failed took = record { means = tt; reads = refl; calls = failed_once 1 refl took.calls }
+  failed took = record { means = tt; reads = refl; fails = λ _. refl; calls = failed_once 1 refl took.calls }
 
   pub lacking : Takes CACHE.now (Err folder_faults.NoMemory) a b → HasPrinted (Err stops.NoMemory) a b
-  lacking took = record { means = tt; reads = refl; calls = lacked 1 took.calls }
+  lacking took = record { means = tt; reads = refl; fails = λ _. refl; calls = lacked 1 took.calls }
 
   -- the same of a fault that is one of these
   pub absent_by : (fault : FolderFault) → fault ≡ folder_faults.NotThere → (text : Vec ℕ Global) → Takes CACHE.now (Err fault) a b → text.items ≡ print_text no_cache → HasPrinted (Ok text) a b

@@ -1,40 +1,38 @@
 -- A run, from what a command came to and what was written of it.
-use Rattle.std.proofs.Common.{◌≡◌, ℕ, List, [], Bool, true, false, Option, Some, None, refl, sym, ap, subst, ◌∙◌, inl, inr, arith}
-use Rattle.std.specs.Prelude.{Result, Ok, Err, Vec, ⊤, is_some}
+use Rattle.std.proofs.Common.{◌≡◌, ℕ, List, [], false, Option, Some, None, refl, sym, ap, subst, ◌∙◌, inl, inr, arith}
+use Rattle.std.specs.Prelude.{Result, Ok, Err, Vec, is_some}
 use Rattle.std.specs.declared.alloc.Global.{Global}
 use Rattle.std.proofs.lemmas.Bool.{true≢false}
-use Rattle.pl_base.specs.Answers.{because}
+use Rattle.pl_base.specs.Answers.{◌>>=◌, because}
 use Rattle.pl_base.specs.Counts.{Counted}
 use Rattle.pl_base.specs.Streams.{got_after, GotPrefix}
 use Rattle.pl_io.specs.Seen.{Input, Output}
 use Rattle.pl_folder.specs.Calls.{Calls}
-use Rattle.pl_folder.specs.Effects.{Asks}
 use Rattle.pl_folder.specs.Seen.{Seen, Done, Undone}
 use Rattle.pl_elf.specs.declared.range.Range.{Range}
 use Rattle.pl_loader.specs.Loading as loading
 use Rattle.pl_words.specs.declared.command.Policy.{Policy}
 use Rattle.pl_loader.specs.Started.{Start, started}
+use Rattle.pl_loader.specs.declared.object_file.ObjectFile.{ObjectFile}
 use Rattle.pl_cli.specs.declared.cause.Cause.{Cause}
 use Rattle.pl_cli.specs.declared.cause.Cause.TheVariants as causes
 use Rattle.pl_cli.specs.declared.command.Command.{Command}
-use Rattle.pl_cli.specs.declared.command.Command.TheVariants.{Load, Make, Print}
+use Rattle.pl_cli.specs.declared.command.Command.TheVariants.{Load, Make, Print, Order}
+use Rattle.pl_cli.specs.declared.command.Detail.{Detail}
 use Rattle.pl_cli.specs.declared.status.Status.{Status}
 use Rattle.pl_cli.specs.declared.status.Status.TheVariants as statuses
 use Rattle.pl_cli.specs.declared.stop.Stop.{Stop}
 use Rattle.pl_cli.specs.declared.stop.Stop.TheVariants as stops
-use Rattle.pl_cli.specs.Answer.{Answer, IsTold, answer, done, load_answer, print_answer, refuses, usage}
-use Rattle.pl_cli.specs.Came.{Came, HasLoaded, HasPrinted, Makes}
-use Rattle.pl_cli.specs.Load.{choice}
+use Rattle.pl_cli.specs.Answer.{Answer, IsTold, answer, done, load_answer, text_answer, refuses, usage}
+use Rattle.pl_cli.specs.Came.{Came, HasLoaded, HasOrdered, HasPrinted, Makes}
+use Rattle.pl_cli.specs.Load.{choice, loaded_files}
 use Rattle.pl_cli.specs.Outside.{Consumes, outside}
 use Rattle.pl_cli.specs.Ran.{Finishes, Ran, Refuses, Writes}
-use Rattle.pl_cli.proofs.CallLemmas.{as_calls, no_calls}
+use Rattle.pl_cli.proofs.CallLemmas.{as_calls, asked_all, no_calls}
+use Rattle.pl_cli.proofs.LoadLemmas.{loaded_is}
 use Rattle.pl_cli.proofs.MakeLemmas.{unchanged, waits_on}
 
 -- ---- the folder, where it ends with another status
-
--- memory lacked after all calls
-asked_all : (n : ℕ) {a b : Seen} → Calls Done (Asks n) a b → Calls Undone (Asks n) a b
-asked_all n call = as_calls Done Undone refl call (λ told same. same) (λ told made. (n, omega arith, made))
 
 module _ (input : Option (List ℕ)) {a b : Seen} where
   -- the output failed in the line of a cause
@@ -42,6 +40,7 @@ module _ (input : Option (List ℕ)) {a b : Seen} where
   line_failed None call = call
   line_failed (Some (Load name busy policy)) call = call
   line_failed (Some Print) call = call
+  line_failed (Some (Order name detail)) call = call
   line_failed (Some (Make name)) call = as_calls Done Done refl call (λ told none. inr none) (λ told. waits_on a.disk b.disk)
 
   -- there was no memory for the line
@@ -49,7 +48,16 @@ module _ (input : Option (List ℕ)) {a b : Seen} where
   line_lacked None call = asked_all 0 call
   line_lacked (Some (Load name busy policy)) call = asked_all _ call
   line_lacked (Some Print) call = asked_all 1 call
+  line_lacked (Some (Order name detail)) call = asked_all _ call
   line_lacked (Some (Make name)) call = as_calls Done Undone refl call (λ told none. unchanged a.files b.files none.all) (λ told. waits_on a.disk b.disk)
+
+  -- the output failed in a text
+  text_failed : (asked : Option Command) → Calls Done (Makes asked a.files input statuses.Done) a b → Calls Done (Makes asked a.files input statuses.WriteFault) a b
+  text_failed None call = call
+  text_failed (Some (Load name busy policy)) call = call
+  text_failed (Some Print) call = call
+  text_failed (Some (Order name detail)) call = call
+  text_failed (Some (Make name)) call = as_calls Done Done refl call (λ told made. inl made) (λ told later. later)
 
 quiet : (o p : Output) → p ≡ o → Counted false o.faults p.faults
 quiet o p same = subst (λ (q : Output). Counted false o.faults q.faults) (sym same) (record { later = omega arith; rose = λ e. cc; quiet = λ _. refl })
@@ -98,16 +106,46 @@ module _ (asked : Option Command) {a b : Seen} {left rest : Input} {o p : Output
   ran_stopped stops.NoMemory status came wrote = subst (Ran asked (outside a left o) (outside b rest p)) (sym wrote.0)
       (record { ends = came.ends; prints = ap (λ (q : Output). q.got) wrote.1; folder = came.calls; needs = λ e. cc; input = came.input; output = quiet o p wrote.1 })
 
+-- ---- a command that came to a text
+
+module _ (asked : Option Command) (text : Vec ℕ Global) {a b : Seen} {left rest : Input} {o p : Output} (came : Came asked (Ok text) a b left rest) where
+  pub ran_done : (status : Status) → Finishes (done text.items) status o p → Ran asked (outside a left o) (outside b rest p) status
+  ran_done statuses.Done fin = record {
+    ends = came.ends;
+    prints = λ told. (ap (λ (m : Answer). m.status) (came.gives told), fin.whole refl ∙ ap (λ (m : Answer). got_after o.got m.text) (sym (came.gives told)));
+    folder = came.calls;
+    needs = λ e. cc;
+    input = came.input;
+    output = fin.count;
+  }
+  ran_done statuses.WriteFault fin = record {
+    ends = refl;
+    prints = λ told. subst (λ (m : Answer). GotPrefix o.got p.got m.text) (sym (came.gives told)) (fin.prefix refl);
+    folder = text_failed left.left asked came.calls;
+    needs = λ e. cc;
+    input = came.input;
+    output = fin.count;
+  }
+  ran_done statuses.Differs fin = let e = fin.ends refl in cc
+  ran_done statuses.Usage fin = let e = fin.ends refl in cc
+  ran_done statuses.Refused fin = let e = fin.ends refl in cc
+  ran_done statuses.ReadFault fin = let e = fin.ends refl in cc
+  ran_done statuses.DiskFault fin = let e = fin.ends refl in cc
+  ran_done statuses.NoMemory fin = let e = fin.ends refl in cc
+
 -- ---- words that are no command
 
 untouched : (i : Input) → Consumes false false i i
 untouched i = record { untouched = λ _. refl; tells = refl; most = λ e _. cc; count = record { later = omega arith; rose = λ e. cc; quiet = λ _. refl } }
 
 -- a load that stopped
-pub unloaded : {F : Type 0} (name : List ℕ) (busy : Option Range) (policy : Policy) {a b : Seen} (i : Input) (stop : Stop) → HasLoaded {F = F} name busy policy (Err stop) a b → Came (Some (Load name busy policy)) (Err stop) a b i i
-unloaded name busy policy i (stops.Cause cause) found = record { gives = λ told. ap load_answer (found.loads told.files); ends = refl; calls = found.calls; needs = λ e. cc; input = untouched i }
-unloaded name busy policy i stops.Failed found = record { gives = tt; ends = found.ends; calls = found.calls; needs = λ _. tt; input = untouched i }
-unloaded name busy policy i stops.InputFailed found = absurd (true≢false (sym found.ends))
+unstarted : (name : List ℕ) (busy : Option Range) (policy : Policy) (a : Seen) (cause : Cause) → loaded_files a.files name ≡ Err cause → answer (Some (Load name busy policy)) a.files [] ≡ refuses cause
+unstarted name busy policy a cause is = ap load_answer (loaded_is policy busy a.files name ∙ ap (λ (r : Result (List ObjectFile) Cause). r >>= λ all. because causes.Load (started (choice policy) busy all)) is)
+
+pub unloaded : {F : Type 0} (name : List ℕ) (busy : Option Range) (policy : Policy) {a b : Seen} (i : Input) (stop : Stop) → HasLoaded {F = F} name (Err stop) a b → Came (Some (Load name busy policy)) (Err stop) a b i i
+unloaded name busy policy {a = a} i (stops.Cause cause) found = record { gives = λ told. unstarted name busy policy a cause (found.means told.files); ends = refl; calls = found.calls; needs = λ e. cc; input = untouched i }
+unloaded name busy policy i stops.Failed found = record { gives = tt; ends = found.fails refl; calls = found.calls; needs = λ _. tt; input = untouched i }
+unloaded name busy policy i stops.InputFailed found = absurd (true≢false found.reads)
 unloaded name busy policy i stops.NoMemory found = record { gives = tt; ends = refl; calls = found.calls; needs = λ e. cc; input = untouched i }
 
 -- no load ends so
@@ -119,9 +157,9 @@ loads_usage : (r : Result Start Cause) → (load_answer r).status ≡ statuses.U
 loads_usage (Ok start) is = cc
 loads_usage (Err cause) is = cc
 
-module _ {F : Type 0} (name : List ℕ) (busy : Option Range) (policy : Policy) {a b : Seen} (i : Input) (l : loading.Load F) (found : HasLoaded name busy policy (Ok l) a b) where
+module _ {F : Type 0} (name : List ℕ) (busy : Option Range) (policy : Policy) {a b : Seen} (i : Input) (l : loading.Load F) (found : HasLoaded name (Ok l) a b) where
   means : IsTold (Some (Load name busy policy)) a.tells (is_some i.left) → answer (Some (Load name busy policy)) a.files [] ≡ load_answer (because causes.Load (started (choice policy) busy l.walk.files))
-  means told = ap load_answer (found.loads told.files)
+  means told = ap load_answer (loaded_is policy busy a.files name ∙ ap (λ (r : Result (List ObjectFile) Cause). r >>= λ all. because causes.Load (started (choice policy) busy all)) (found.means told.files))
 
   whole : (old new : Option (List ℕ)) (status : Status) → IsTold (Some (Load name busy policy)) a.tells (is_some i.left)
       → ((load_answer (because causes.Load (started (choice policy) busy l.walk.files))).status ≡ status) × (new ≡ got_after old (load_answer (because causes.Load (started (choice policy) busy l.walk.files))).text)
@@ -145,11 +183,18 @@ module _ {F : Type 0} (name : List ℕ) (busy : Option Range) (policy : Policy) 
   ran_loaded {o = o} {p = p} statuses.ReadFault wrote = absurd (true≢false wrote.input)
   ran_loaded {o = o} {p = p} statuses.DiskFault wrote = absurd (true≢false wrote.folder)
 
--- ---- `-p`
+-- ---- `--order` and `-p`
+
+pub came_ordered : (name : List ℕ) (detail : Detail) (i : Input) {a b : Seen} (r : Result (Vec ℕ Global) Stop) → HasOrdered name detail r a b → Came (Some (Order name detail)) r a b i i
+came_ordered name detail i (Ok text) found = record { gives = λ told. ap text_answer (found.means told.files); ends = refl; calls = found.calls; needs = λ e. cc; input = untouched i }
+came_ordered name detail i (Err (stops.Cause cause)) found = record { gives = λ told. ap text_answer (found.means told.files); ends = refl; calls = found.calls; needs = λ e. cc; input = untouched i }
+came_ordered name detail i (Err stops.Failed) found = record { gives = tt; ends = found.fails refl; calls = found.calls; needs = λ _. tt; input = untouched i }
+came_ordered name detail i (Err stops.InputFailed) found = absurd (true≢false found.reads)
+came_ordered name detail i (Err stops.NoMemory) found = record { gives = tt; ends = refl; calls = found.calls; needs = λ e. cc; input = untouched i }
 
 pub came_printed : (i : Input) {a b : Seen} (r : Result (Vec ℕ Global) Stop) → HasPrinted r a b → Came (Some Print) r a b i i
-came_printed i (Ok text) found = record { gives = λ told. ap print_answer (found.means (told.files refl)); ends = refl; calls = found.calls; needs = λ e. cc; input = untouched i }
-came_printed i (Err (stops.Cause cause)) found = record { gives = λ told. ap print_answer (found.means (told.files refl)); ends = refl; calls = found.calls; needs = λ e. cc; input = untouched i }
+came_printed i (Ok text) found = record { gives = λ told. ap text_answer (found.means told.files); ends = refl; calls = found.calls; needs = λ e. cc; input = untouched i }
+came_printed i (Err (stops.Cause cause)) found = record { gives = λ told. ap text_answer (found.means told.files); ends = refl; calls = found.calls; needs = λ e. cc; input = untouched i }
 came_printed i (Err stops.Failed) found = record { gives = tt; ends = refl; calls = found.calls; needs = λ _. tt; input = untouched i }
 came_printed i (Err stops.InputFailed) found = absurd (true≢false found.reads)
 came_printed i (Err stops.NoMemory) found = record { gives = tt; ends = refl; calls = found.calls; needs = λ e. cc; input = untouched i }

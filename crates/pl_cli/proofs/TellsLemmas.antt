@@ -1,9 +1,18 @@
 -- No cause of a command is a want of memory.
-use Rattle.std.proofs.Common.{refl, ℕ, List, Option, Some, None}
+use Rattle.std.proofs.Common.{◌≡◌, false, refl, ℕ, List, Option, Some, None}
 use Rattle.pl_base.specs.Answers.{Tells}
 use Rattle.pl_base.specs.Files.{Files}
-use Rattle.pl_base.proofs.TellsLaws.{ok_tells, err_tells, unless_tells, then_tells, cause_tells}
+use Rattle.pl_base.proofs.TellsLaws.{ok_tells, err_tells, unless_tells, then_tells, cause_tells, because_tells}
 use Rattle.pl_build.specs.Build.{build}
+use Rattle.pl_object.specs.Refusals as object
+use Rattle.pl_object.specs.declared.refusal.Refusal.{Refusal}
+use Rattle.pl_object.specs.declared.refusal.Refusal.TheVariants as refusals
+use Rattle.pl_object.proofs.RefusalLaws.{reads_tells}
+use Rattle.pl_scope.specs.Walk as walk
+use Rattle.pl_scope.specs.declared.fault.WalkFault.{WalkFault}
+use Rattle.pl_scope.specs.declared.fault.WalkFault.TheVariants as walk_faults
+use Rattle.pl_scope.proofs.TellsLaws.{walk_tells}
+use Rattle.pl_loader.specs.Walk.{walk_fault}
 use Rattle.pl_loader.proofs.TellsLaws.{load_tells}
 use Rattle.pl_cli.specs.declared.cause.Cause.TheVariants as causes
 use Rattle.std.specs.Prelude.{Result, Ok, Err}
@@ -15,7 +24,10 @@ use Rattle.pl_elf.specs.declared.range.Range.{Range}
 use Rattle.pl_words.specs.declared.command.Policy.{Policy}
 use Rattle.pl_cli.specs.declared.print.TheConstants.{CACHE}
 use Rattle.pl_cli.specs.Print.{bad_cache, cache_in, cache_of, no_cache, print_text, printed}
-use Rattle.pl_cli.specs.Load.{choice, is_memory, valid_file, of_file, file_in, loaded}
+use Rattle.pl_cli.specs.declared.command.Detail.{Detail}
+use Rattle.pl_cli.specs.Files.{valid_file, of_file, file_in}
+use Rattle.pl_cli.specs.Load.{choice, is_memory, loaded}
+use Rattle.pl_cli.specs.Order.{object_in, order_text, ordered, refused, walked}
 use Rattle.pl_cli.specs.Make.{recipe_cause, built, made}
 
 -- ---- `--load`
@@ -31,6 +43,30 @@ file_tells files name = looked_up_tells name (valid_file files name)
 pub loaded_tells : (policy : Policy) (busy : Option Range) (files : Files) (name : List ℕ) → Tells is_memory (loaded policy busy files name)
 unfolding loaded
 loaded_tells policy busy files name = unless_tells is_memory _ _ _ refl (load_tells (choice policy) busy causes.Load is_memory (file_in files) name (λ f t. t) (file_tells files))
+
+-- ---- `--order`
+
+refused_tells : (name : List ℕ) (e : Refusal) → object.is_memory e ≡ false → is_memory (refused name e) ≡ false
+refused_tells name (refusals.Clause number argument) t = refl
+refused_tells name refusals.NoMemory t = t
+
+walk_fault_tells : (e : WalkFault) → walk.is_memory e ≡ false → is_memory (walk_fault causes.Load e) ≡ false
+walk_fault_tells (walk_faults.NeededIsProgram name) t = refl
+walk_fault_tells (walk_faults.TooMany name) t = refl
+walk_fault_tells (walk_faults.NotThere name) t = refl
+walk_fault_tells walk_faults.NoMemory t = t
+
+object_tells : (files : Files) (name : List ℕ) → Tells is_memory (object_in files name)
+unfolding object_in
+object_tells files name = then_tells is_memory _ _ (file_tells files name) (λ bytes. because_tells object.is_memory is_memory (refused name) _ (refused_tells name) (reads_tells bytes))
+
+walked_tells : (files : Files) (name : List ℕ) → Tells is_memory (walked files name)
+unfolding walked
+walked_tells files name = unless_tells is_memory _ _ _ refl (walk_tells (walk_fault causes.Load) is_memory (object_in files) name walk_fault_tells (object_tells files))
+
+pub ordered_tells : (detail : Detail) (files : Files) (name : List ℕ) → Tells is_memory (ordered detail files name)
+unfolding ordered
+ordered_tells detail files name = then_tells is_memory (walked files name) _ (walked_tells files name) (λ members. ok_tells is_memory (order_text detail members))
 
 -- ---- `-p`
 

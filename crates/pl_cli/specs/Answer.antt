@@ -7,10 +7,11 @@ use Rattle.pl_cli.specs.declared.status.Status.{Status}
 use Rattle.pl_cli.specs.declared.status.Status.TheVariants as statuses
 use Rattle.pl_cli.specs.declared.cause.Cause.{Cause}
 use Rattle.pl_cli.specs.declared.command.Command.{Command}
-use Rattle.pl_cli.specs.declared.command.Command.TheVariants.{Load, Make, Print}
+use Rattle.pl_cli.specs.declared.command.Command.TheVariants.{Load, Make, Print, Order}
 use Rattle.pl_cli.specs.Load.{loaded}
 use Rattle.pl_cli.specs.LoadText.{load_text}
 use Rattle.pl_cli.specs.Make.{made}
+use Rattle.pl_cli.specs.Order.{ordered}
 use Rattle.pl_cli.specs.Print.{printed}
 use Rattle.pl_cli.specs.Refusals.{refusal}
 use Rattle.pl_cli.specs.Words.{asks_folder, reads_input}
@@ -44,15 +45,17 @@ abbrev pub make_answer : List ℕ → Result (List ℕ) Cause → Answer
 make_answer name (Ok bytes) = done (made_text name)
 make_answer name (Err cause) = refuses cause
 
-abbrev pub print_answer : Result (List ℕ) Cause → Answer
-print_answer (Ok text) = done text
-print_answer (Err cause) = refuses cause
+-- a text that is printed, or the cause why there is none
+abbrev pub text_answer : Result (List ℕ) Cause → Answer
+text_answer (Ok text) = done text
+text_answer (Err cause) = refuses cause
 
 abbrev pub answer : Option Command → Files → List ℕ → Answer
 answer None files input = record { status = statuses.Usage; text = usage }
 answer (Some (Load name busy policy)) files input = load_answer (loaded policy busy files name)
 answer (Some (Make name)) files input = make_answer name (made files name input)
-answer (Some Print) files input = print_answer (printed files)
+answer (Some Print) files input = text_answer (printed files)
+answer (Some (Order name detail)) files input = text_answer (ordered detail files name)
 
 -- all that an answer rests on is told: the folder's files where it is asked, and what is read of the input
 pub record IsTold (asked : Option Command) (tells told : Bool) : Type 0 where

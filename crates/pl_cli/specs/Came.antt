@@ -1,7 +1,6 @@
 -- What a command came to: what it gives to be written, or why it stopped, and what it makes of the folder and of the input.
-use Rattle.std.specs.Prelude.{◌≡◌, ◌⊎◌, ◌≤◌, ℕ, true, false, List, Option, Some, None, is_some, is_ok, Result, Ok, Err, OnOk, ⊤, Vec, count_by, [], ◌∷◌}
+use Rattle.std.specs.Prelude.{◌≡◌, ◌⊎◌, ◌≤◌, ℕ, Bool, true, false, List, Option, Some, None, is_some, is_ok, Result, Ok, Err, OnOk, ⊤, Vec, count_by, [], ◌∷◌}
 use Rattle.std.specs.declared.alloc.Global.{Global}
-use Rattle.pl_base.specs.Answers.{because}
 use Rattle.pl_base.specs.Files.{Files}
 use Rattle.pl_base.specs.Names.{is_valid_name}
 use Rattle.pl_io.specs.Seen.{Input}
@@ -10,24 +9,25 @@ use Rattle.pl_folder.specs.Disk.{Disk, clock}
 use Rattle.pl_folder.specs.Effects.{Asks, Effect, SameFiles, WaitsFor}
 use Rattle.pl_folder.specs.Replaced.{replaced, SameElsewhere}
 use Rattle.pl_folder.specs.Seen.{Seen, Undone, is_broken}
-use Rattle.pl_elf.specs.declared.range.Range.{Range}
 use Rattle.pl_loader.specs.Loading as loading
-use Rattle.pl_words.specs.declared.command.Policy.{Policy}
-use Rattle.pl_loader.specs.Started.{Start, started}
 use Rattle.pl_cli.specs.declared.cause.Cause.{Cause}
-use Rattle.pl_cli.specs.declared.cause.Cause.TheVariants as causes
 use Rattle.pl_cli.specs.declared.command.Command.{Command}
-use Rattle.pl_cli.specs.declared.command.Command.TheVariants.{Load, Make, Print}
+use Rattle.pl_cli.specs.declared.command.Command.TheVariants.{Load, Make, Print, Order}
+use Rattle.pl_cli.specs.declared.command.Detail.{Detail}
+use Rattle.pl_cli.specs.declared.named_object.NamedObject.{NamedObject}
 use Rattle.pl_cli.specs.declared.status.Status.{Status}
 use Rattle.pl_cli.specs.declared.status.Status.TheVariants as statuses
 use Rattle.pl_cli.specs.declared.stop.Stop.{Stop}
 use Rattle.pl_cli.specs.declared.stop.Stop.TheVariants as stops
 use Rattle.pl_cli.specs.Answer.{Answer, IsTold, answer, done, refuses}
-use Rattle.pl_cli.specs.Load.{choice, file_in, loaded, takes}
+use Rattle.pl_cli.specs.Files.{file_in}
+use Rattle.pl_cli.specs.Looks.{takes}
+use Rattle.pl_cli.specs.Load.{loaded_files, loaded_object}
 use Rattle.pl_cli.specs.Make.{HasRecipe, built, made}
+use Rattle.pl_cli.specs.Order.{members_of, object_in, ordered, walked}
 use Rattle.pl_cli.specs.Print.{printed}
 use Rattle.pl_cli.specs.Outside.{Consumes, ending_of, is_read_fault, may_end}
-use Rattle.pl_cli.specs.Stops.{Means, Stops, status_of}
+use Rattle.pl_cli.specs.Stops.{Means, status_of}
 use Rattle.pl_cli.specs.Words.{bytes_of, reads_input}
 
 -- ---- what `--make` makes of the folder
@@ -70,9 +70,10 @@ MakesMoments statuses.NoMemory old new = clock old ≤ clock new
 
 abbrev pub Makes : Option Command → Files → Option (List ℕ) → Status → Effect
 Makes None files input status = Asks 0
-Makes (Some (Load name busy policy)) files input status = Asks (takes files name)
+Makes (Some (Load name busy policy)) files input status = Asks (takes (loaded_object files name) name)
 Makes (Some (Make name)) files input status = record { files = λ ending. MakesFile name input status; disk = λ ending. MakesMoments status }
 Makes (Some Print) files input status = Asks 1
+Makes (Some (Order name detail)) files input status = Asks (takes (object_in files) name)
 
 -- what comes before the folder can fail
 abbrev pub NeedsFirst : Option Command → Option (List ℕ) → Type 0
@@ -80,32 +81,37 @@ NeedsFirst None input = ⊤
 NeedsFirst (Some (Load name busy policy)) input = ⊤
 NeedsFirst (Some (Make name)) input = HasRecipe input
 NeedsFirst (Some Print) input = ⊤
+NeedsFirst (Some (Order name detail)) input = ⊤
 
--- ---- `--load`
+-- ---- what is found in the folder
 
--- the file of a name of the walk; only a valid name has one
-pub record HasTaken (name : List ℕ) (result : Result (Vec ℕ Global) Stop) (old new : Seen) : Type 0 where
-  pub means : Means (old.tells ≡ true) (file_in old.files name) (λ bytes. bytes.items) result
+-- A value, seen by a view, or a cause is what is meant, where the folder is asked and tells its files; so many calls ask it; and it fails only where it is asked.
+pub record Finds {X Y : Type 0} (asks : Bool) (count : ℕ) (meant : Result X Cause) (view : Y → X) (result : Result Y Stop) (old new : Seen) : Type 0 where
+  pub means : Means (asks ≡ true → old.tells ≡ true) meant view result
   pub reads : is_read_fault (status_of result) ≡ false
-  pub calls : Calls (ending_of (status_of result)) (Asks (count_by is_valid_name (name ∷ []))) old new
+  pub fails : is_broken (ending_of (status_of result)) ≡ true → asks ≡ true
+  pub calls : Calls (ending_of (status_of result)) (Asks count) old new
 
--- a load that was given its files means what they start, and a cause is the first one
-abbrev pub Loads : {F : Type 0} → Policy → Option Range → Type 0 → Result Start Cause → Result (loading.Load F) Stop → Type 0
-Loads policy busy told meant (Ok l) = told → meant ≡ because causes.Load (started (choice policy) busy l.walk.files)
-Loads policy busy told meant (Err stop) = Stops told meant stop
+-- the file of a name, or the object that it is. Only a valid name has one
+abbrev pub HasTaken : List ℕ → Result (Vec ℕ Global) Stop → Seen → Seen → Type 0
+HasTaken name result old new = Finds (is_valid_name name) (count_by is_valid_name (name ∷ [])) (file_in old.files name) (λ bytes. bytes.items) result old new
 
-pub record HasLoaded {F : Type 0} (name : List ℕ) (busy : Option Range) (policy : Policy) (result : Result (loading.Load F) Stop) (old new : Seen) : Type 0 where
-  pub loads : Loads policy busy (is_valid_name name ≡ true → old.tells ≡ true) (loaded policy busy old.files name) result
-  pub ends : may_end (Some (Load name busy policy)) (status_of result) ≡ true
-  pub calls : Calls (ending_of (status_of result)) (Asks (takes old.files name)) old new
+abbrev pub HasObject : List ℕ → Result NamedObject Stop → Seen → Seen → Type 0
+HasObject name result old new = Finds (is_valid_name name) (count_by is_valid_name (name ∷ [])) (object_in old.files name) (λ m. m.object) result old new
 
--- ---- `-p`
+-- the files of a load, or the objects of a walk
+abbrev pub HasLoaded : {F : Type 0} → List ℕ → Result (loading.Load F) Stop → Seen → Seen → Type 0
+HasLoaded name result old new = Finds (is_valid_name name) (takes (loaded_object old.files name) name) (loaded_files old.files name) (λ l. l.walk.files) result old new
 
--- the text of the cache, or why there is none
-pub record HasPrinted (result : Result (Vec ℕ Global) Stop) (old new : Seen) : Type 0 where
-  pub means : Means (old.tells ≡ true) (printed old.files) (λ text. text.items) result
-  pub reads : is_read_fault (status_of result) ≡ false
-  pub calls : Calls (ending_of (status_of result)) (Asks 1) old new
+abbrev pub HasWalked : List ℕ → Result (Vec NamedObject Global) Stop → Seen → Seen → Type 0
+HasWalked name result old new = Finds (is_valid_name name) (takes (object_in old.files) name) (walked old.files name) (λ members. members_of members.items) result old new
+
+-- the text of an order, or of the cache
+abbrev pub HasOrdered : List ℕ → Detail → Result (Vec ℕ Global) Stop → Seen → Seen → Type 0
+HasOrdered name detail result old new = Finds (is_valid_name name) (takes (object_in old.files) name) (ordered detail old.files name) (λ text. text.items) result old new
+
+abbrev pub HasPrinted : Result (Vec ℕ Global) Stop → Seen → Seen → Type 0
+HasPrinted result old new = Finds true 1 (printed old.files) (λ text. text.items) result old new
 
 -- ---- `--make`
 

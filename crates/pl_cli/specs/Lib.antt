@@ -1,10 +1,13 @@
 pub mod Statuses
 pub mod Words
 pub mod Room
+pub mod Files
+pub mod Looks
 pub mod Load
 pub mod LoadText
 pub mod Make
 pub mod Print
+pub mod Order
 pub mod Refusals
 pub mod Answer
 pub mod Stops

@@ -1,5 +1,5 @@
 -- The outside of a run, and what each part of it shows of how a run ended.
-use Rattle.std.specs.Prelude.{◌≡◌, ℕ, ◌+◌, Bool, true, false, not, Option, Some, None, is_some}
+use Rattle.std.specs.Prelude.{◌≡◌, ◌+◌, Bool, true, false, not, Option, is_some}
 use Rattle.pl_base.specs.Counts.{Counted}
 use Rattle.pl_io.specs.Reads.{TookAtMost}
 use Rattle.pl_io.specs.Seen.{Input, Output}

@@ -1,5 +1,5 @@
 -- What the words after the program's name ask for, and what that may ask of the outside.
-use Rattle.std.specs.Prelude.{◌≡◌, ℕ, Bool, true, false, ⊤, List, [], Option, Some, None, Result, Ok, Err, unwrap_or}
+use Rattle.std.specs.Prelude.{◌≡◌, ℕ, Bool, true, false, ⊤, List, [], Option, Some, None, Result, Ok, Err, unwrap_or, if◌then◌else◌}
 use Rattle.pl_base.specs.Names.{is_valid_name}
 use Rattle.pl_words.specs.Table.{read}
 use Rattle.pl_words.specs.declared.command.Command as words
@@ -7,13 +7,15 @@ use Rattle.pl_words.specs.declared.command.Command.TheVariants as word
 use Rattle.pl_words.specs.declared.fault.WordsFault.{WordsFault}
 use Rattle.pl_words.specs.declared.fault.WordsFault.TheVariants.{Usage, NoMemory}
 use Rattle.pl_cli.specs.declared.command.Command.{Command}
-use Rattle.pl_cli.specs.declared.command.Command.TheVariants.{Load, Make, Print}
+use Rattle.pl_cli.specs.declared.command.Command.TheVariants.{Load, Make, Print, Order}
+use Rattle.pl_cli.specs.declared.command.Detail.TheVariants.{Short, Full}
 
 -- the commands that are there. The words of another ask for nothing
 abbrev pub there : words.Command → Option Command
 there (word.Load name busy policy) = Some (Load name busy policy)
 there (word.Make name) = Some (Make name)
 there word.Print = Some Print
+there (word.Order name verbose) = Some (Order name (if verbose then Full else Short))
 there _ = None
 
 abbrev pub if_read : Result words.Command WordsFault → Option Command
@@ -37,12 +39,14 @@ asks_folder None = false
 asks_folder (Some (Load name busy policy)) = is_valid_name name
 asks_folder (Some (Make name)) = is_valid_name name
 asks_folder (Some Print) = true
+asks_folder (Some (Order name detail)) = is_valid_name name
 
 abbrev pub reads_input : Option Command → Bool
 reads_input None = false
 reads_input (Some (Load name busy policy)) = false
 reads_input (Some (Make name)) = is_valid_name name
 reads_input (Some Print) = false
+reads_input (Some (Order name detail)) = false
 
 -- the bytes of an input, where it tells them
 abbrev pub bytes_of : Option (List ℕ) → List ℕ

@@ -2,6 +2,16 @@ use pl_base::Text;
 use pl_elf::Range;
 use pl_words::Policy;
 
+/// How much of an order is printed.
+#[derive(Clone, Copy, Debug, PartialEq, Eq)]
+pub enum Detail {
+    /// The objects in their order.
+    Short,
+
+    /// And which object reaches which.
+    Full,
+}
+
 /// What words ask for, of what is there.
 #[derive(Drop)]
 pub enum Command {
@@ -23,4 +33,10 @@ pub enum Command {
 
     /// To print the cache.
     Print,
+
+    /// To print in which order the objects of the walk of that name are initialised.
+    Order {
+        name: Text,
+        detail: Detail,
+    },
 }

@@ -7,7 +7,8 @@ use pl_cache::CacheFault;
 use pl_folder::FolderFault;
 use pl_io::{NoMemory, ReadFault};
 use pl_loader::LoadFault;
-use std::alloc::AllocError;
+use pl_scope::WalkFault;
+use std::alloc::{AllocError, AllocFailed};
 
 /// Why a command stopped.
 #[derive(Drop)]
@@ -26,6 +27,14 @@ impl From<AllocError> for Stop {
     ghost from_gives = { λ _ stop. stop ≡ stops.NoMemory };
 
     fn from(_: AllocError) -> Stop {
+        Stop::NoMemory
+    }
+}
+
+impl<T: Drop> From<AllocFailed<T>> for Stop {
+    ghost from_gives = { λ _ stop. stop ≡ stops.NoMemory };
+
+    fn from(_: AllocFailed<T>) -> Stop {
         Stop::NoMemory
     }
 }
@@ -62,6 +71,17 @@ impl From<LoadFault> for Stop {
             LoadFault::NoMemory => Stop::NoMemory,
             fault => Stop::Cause(Cause::Load(fault)),
         }
+    }
+}
+
+impl From<WalkFault> for Stop {
+    ghost use Rattle.pl_cli.specs.Stops.{of_load_fault};
+    ghost use Rattle.pl_loader.specs.Faults.{of_walk};
+
+    ghost from_gives = { λ fault stop. stop ≡ of_load_fault (of_walk fault) };
+
+    fn from(fault: WalkFault) -> Stop {
+        Stop::from(LoadFault::from(fault))
     }
 }
 

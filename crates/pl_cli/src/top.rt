@@ -1,10 +1,14 @@
 // The top call and how its parts end.
-ghost use Rattle.std.specs.Prelude.{◌≡◌, None, false, map, string_bytes};
+ghost use Rattle.std.specs.Prelude.{◌≡◌, Option, false, map, string_bytes};
 ghost use Rattle.pl_place.specs.Policy as policy;
-ghost use Rattle.pl_scope.specs.Walking.{wants};
+ghost use Rattle.pl_io.specs.Seen.{Input};
+ghost use Rattle.pl_folder.specs.Seen.{Seen};
 ghost use Rattle.pl_words.specs.declared.command.Policy.{Policy};
+ghost use Rattle.pl_cli.specs.declared.command.Command as commands;
 ghost use Rattle.pl_cli.specs.Answer.{load_answer};
-ghost use Rattle.pl_cli.specs.Load.{Unasked, choice, start_by};
+ghost use Rattle.pl_cli.specs.Came.{Came};
+ghost use Rattle.pl_cli.specs.Files.{Unasked};
+ghost use Rattle.pl_cli.specs.Load.{MayStart, choice, start_by};
 ghost use Rattle.pl_cli.specs.Outside.{is_write_fault, outside};
 ghost use Rattle.pl_cli.specs.Ran.{Finishes, Ran, RanLoad, Refuses, Writes};
 ghost use Rattle.pl_cli.specs.Words.{asks_folder, command, reads_input};
@@ -13,6 +17,7 @@ use crate::Status;
 use crate::command::Command;
 use crate::load::{load, start};
 use crate::make::make;
+use crate::order::order;
 use crate::print::print;
 use crate::refusals::refusal;
 use crate::stop::Stop;
@@ -55,15 +60,25 @@ fn refuse<K: Sink>(alloc: Global, stop: Stop, output: &mut K) -> Status
     }
 }
 
+/// Writes the text that a command came to and ends so, or ends with its stop.
+fn end_with<K: Sink>(alloc: Global, came: Result<Vec<u8>, Stop>, output: &mut K) -> Status
+    ensures { (asked : Option commands.Command) (a b : Seen) (left rest : Input) →
+        Came asked came a b left rest →
+        Ran asked (outside a left (K.seen output.old)) (outside b rest (K.seen output.new)) result }
+{
+    match came {
+        Ok(text) => finish(output, &text, Status::Done),
+        Err(stop) => refuse(alloc, stop, output),
+    }
+}
+
 /// Writes what a program starts from whose files were all given, or the line of the first cause why it does not.
 fn start_and_write<K: Sink, F: Fn(&Holes, u64, u64) -> Option<u64>>(
     alloc: Global,
     loader: &Loader<'_, F>,
     output: &mut K,
 ) -> Status
-    requires may { policy.MayChoose (F.pre loader.now.policy) }
-    requires chooses { policy.Chooses (F.post loader.now.policy) }
-    requires given { wants loader.now.walk.order ≡ None }
+    requires { MayStart F.pre F.post loader.now }
     ensures { (choose : policy.Choice) → policy.Follows (F.post loader.now.policy) choose →
         Writes (load_answer (start_by choose loader.now)) result
         (K.seen output.old) (K.seen output.new) }
@@ -159,14 +174,18 @@ pub fn run<D: Folder, S: Source, K: Sink>(
         Ok(Command::Load { name, busy, policy }) => {
             load_and_write(alloc, folder, output, name.as_str(), busy, policy)
         }
-        Ok(Command::Make { name }) => match make(alloc, name.as_str(), folder, input) {
-            Ok(text) => finish(output, &text, Status::Done),
-            Err(stop) => refuse(alloc, stop, output),
-        },
-        Ok(Command::Print) => match print(alloc, folder) {
-            Ok(text) => finish(output, &text, Status::Done),
-            Err(stop) => refuse(alloc, stop, output),
-        },
+        Ok(Command::Make { name }) => {
+            let made = make(alloc, name.as_str(), folder, input);
+            end_with(alloc, made, output)
+        }
+        Ok(Command::Print) => {
+            let printed = print(alloc, folder);
+            end_with(alloc, printed, output)
+        }
+        Ok(Command::Order { name, detail }) => {
+            let ordered = order(alloc, folder, name.as_str(), detail);
+            end_with(alloc, ordered, output)
+        }
         Err(WordsFault::Usage) => finish(output, USAGE, Status::Usage),
         Err(WordsFault::NoMemory) => Status::NoMemory,
     }

@@ -1,7 +1,7 @@
 ghost use Rattle.std.specs.Prelude.{◌≡◌, map, string_bytes};
 ghost use Rattle.pl_cli.specs.Words as spec;
 
-use crate::command::Command;
+use crate::command::{Command, Detail};
 use pl_words::WordsFault;
 use std::alloc::Global;
 
@@ -15,6 +15,10 @@ fn there(command: pl_words::Command) -> Option<Command>
         }
         pl_words::Command::Make { name } => Some(Command::Make { name }),
         pl_words::Command::Print => Some(Command::Print),
+        pl_words::Command::Order { name, verbose } => {
+            let detail = if verbose { Detail::Full } else { Detail::Short };
+            Some(Command::Order { name, detail })
+        }
         _ => None,
     }
 }

@@ -7,8 +7,8 @@ use Rattle.pl_cli.proofs.top.load_placed.Goals as goal
 pub returns-in-Ok-clause-ran : goal.returns-in-Ok-clause-ran
 returns-in-Ok-clause-ran g c = λ asked follows input.
     let wrote = c.start_and_write.ensures (choice asked) (rw c.in-Ok.ensures.policy follows) in
-    ran_loaded c.args.name.now c.args.busy asked input c.in-Ok.loader (c.in-Ok.ensures.loaded asked) c.start_and_write.result (rw c.in-Ok.ensures.busy at wrote)
+    ran_loaded c.args.name.now c.args.busy asked input c.in-Ok.loader c.in-Ok.ensures.loaded c.start_and_write.result (rw c.in-Ok.ensures.busy at wrote)
 
 pub returns-in-Err-clause-ran : goal.returns-in-Err-clause-ran
 returns-in-Err-clause-ran g c = λ asked follows input.
-    ran_stopped (Some (Load c.args.name.now c.args.busy asked)) c.in-Err.stop c.refuse.result (unloaded c.args.name.now c.args.busy asked input c.in-Err.stop (c.in-Err.ensures.loaded asked)) c.refuse.ensures
+    ran_stopped (Some (Load c.args.name.now c.args.busy asked)) c.in-Err.stop c.refuse.result (unloaded c.args.name.now c.args.busy asked input c.in-Err.stop c.in-Err.ensures.loaded) c.refuse.ensures

@@ -1,4 +1,4 @@
-use Rattle.std.proofs.Common.{◌≡◌, List, ℕ, ap, ◌∙◌, subst, rules}
+use Rattle.std.proofs.Common.{◌≡◌, ap, ◌∙◌, subst, rules}
 use Rattle.pl_base.specs.Streams.{got_after, GotPrefix}
 use Rattle.pl_base.proofs.ResultLaws.{OnErr-from}
 use Rattle.pl_image.specs.Image.{text_of}

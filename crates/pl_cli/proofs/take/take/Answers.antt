@@ -5,9 +5,9 @@ use Rattle.pl_base.proofs.NameLaws.{valid_length}
 use Rattle.pl_cli.specs.Came.{HasTaken}
 use Rattle.pl_cli.specs.declared.stop.Stop.{Stop}
 use Rattle.pl_cli.specs.declared.stop.Stop.TheVariants as stops
-use Rattle.pl_cli.proofs.LoadLemmas.{taken_once, unasked, unasked_untold, untaken, untold}
+use Rattle.pl_cli.proofs.TakeLemmas.{taken_once, unasked, unasked_untold, untaken, untold}
 use Rattle.pl_cli.proofs.StopLemmas.{at_err}
-use Rattle.pl_cli.proofs.load.take.Goals as goal
+use Rattle.pl_cli.proofs.take.take.Goals as goal
 
 pub take-requires : goal.take-requires
 take-requires g c =
