@@ -1,0 +1,44 @@
+//! The form that prelinking gives an accepted library or program, and the file that comes back from it.
+#![tactic(auto)]
+
+mod back;
+mod bytes;
+mod check;
+pub mod constants;
+mod extension;
+mod fault;
+mod file;
+mod form_with;
+mod found;
+mod has_mark;
+mod layout;
+mod library;
+mod library_form;
+mod mark;
+mod places;
+mod program;
+mod program_form;
+mod read;
+mod reading;
+mod undo_part;
+mod undoing;
+mod version;
+mod windows;
+mod write;
+
+pub use check::check_form;
+pub use constants::STORED;
+pub use fault::{FileFault, FormFault};
+pub use file::{Entry, File, Files, Fill, Marked};
+use layout::Layout;
+pub use library_form::form_library;
+use mark::Mark;
+pub use program_form::form_program;
+pub use reading::read_file;
+pub use undoing::undo;
+pub use version::Version;
+
+#[cfg(test)]
+mod read_tests;
+#[cfg(test)]
+mod tests;
