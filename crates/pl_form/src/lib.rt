@@ -37,8 +37,3 @@ pub use program_form::form_program;
 pub use reading::read_file;
 pub use undoing::undo;
 pub use version::Version;
-
-#[cfg(test)]
-mod read_tests;
-#[cfg(test)]
-mod tests;
