@@ -8,8 +8,6 @@ use Rattle.std.proofs.lemmas.List.{length-append, length-take, length-drop}
 use Rattle.std.proofs.lemmas.Slice.Eq.{bytes_eq-Decides}
 use Rattle.pl_elf.specs.Headers.{header, section}
 use Rattle.pl_elf.specs.Kinds.{is_library, is_program, is_static}
-use Rattle.pl_elf.specs.declared.kind.Kind.{Kind}
-use Rattle.pl_elf.specs.declared.kind.Kind.TheVariants.{Program, Library, Static}
 use Rattle.pl_elf.specs.declared.section.Section.{Section}
 use Rattle.pl_elf.specs.declared.segment.Segment.{Segment}
 use Rattle.pl_lists.specs.Lists.{list_strings, list_bytes, is_list}
@@ -35,7 +33,7 @@ use Rattle.pl_undo.specs.declared.undo.Undo.{Undo}
 use Rattle.sha2.proofs.Facts256.{length-sha256}
 use Rattle.pl_form.specs.Faults.{form_fault, no_region, IsFirm}
 use Rattle.pl_form.specs.Library.{library_with}
-use Rattle.pl_form.specs.Marks.{has_mark, form_with, IsFormOf, IsLibraryMark, IsProgramMark}
+use Rattle.pl_form.specs.Marks.{has_mark, form_with, IsFormOf, IsLibraryMark, IsProgramMark, FormsAreUndone, NoFormOfTwo}
 use Rattle.pl_form.specs.Program.{last_index, extended}
 use Rattle.pl_form.specs.Reading.{firm_object, section_bytes, lists_in, candidate, version_in, stamp_in, is_placed, is_form, checked, marked_by, marked_of, places_in}
 use Rattle.pl_form.specs.Words.{listed, strings_of, extension_of, checksum_of, digest_in}
@@ -45,6 +43,7 @@ use Rattle.pl_form.specs.declared.read.Lists.{Lists}
 use Rattle.pl_form.specs.declared.version.Version.{Version}
 use Rattle.pl_form.specs.declared.version.Version.TheVariants.{One, Two}
 use Rattle.pl_form.proofs.AlignLaws.{align_even, slot_even}
+use Rattle.pl_form.proofs.FormWithLaws.{no_library}
 use Rattle.pl_form.proofs.FormOf.{forms_library, forms_program}
 use Rattle.pl_form.proofs.SomeLastLaws.{some_last}
 use Rattle.pl_form.proofs.LibraryReadLaws.{ReadsLibrary, library_read}
@@ -156,14 +155,19 @@ library_forms file m f is =
     (slot_even m.slot m.object.align (align_even m.original m.object f.firm.accepted) is.aligned)
     (library_small (original_of m.original) m.slot m.stamp (checksum_of m.original) (listed m.list) f.flat (digest_in m.version m.original) short)
 
+library_back : (file : List ℕ) (m : Marked) (f : IsFormOf file m) → IsLibraryMark m → back reader file ≡ Some m.original
+library_back file m f is =
+    let o = m.original in
+    ap (back reader) (library_file file m f is)
+    ∙ library_undone o m.slot m.stamp (checksum_of o) (listed m.list) f.flat (digest_in m.version o) (library_conditions o m.object m.slot m.stamp (checksum_of o) (listed m.list) f.flat (digest_in m.version o) (library_forms file m f is))
+
 library_whole : (file : List ℕ) (m : Marked) (f : IsFormOf file m) → IsLibraryMark m → marked_of file ≡ Some m
 library_whole file m f is =
     let same = library_file file m f is in
     let forms = library_forms file m f is in
     let o = m.original in
-    let undone : back reader file ≡ Some o = ap (back reader) same ∙ library_undone o m.slot m.stamp (checksum_of o) (listed m.list) f.flat (digest_in m.version o) (library_conditions o m.object m.slot m.stamp (checksum_of o) (listed m.list) f.flat (digest_in m.version o) forms) in
     let reads = subst (λ (xs : List ℕ). ReadsLibrary xs o m.slot m.stamp (listed m.list) f.flat (digest_in m.version o)) (sym same) (library_read o m.object m.slot m.stamp (checksum_of o) (listed m.list) f.flat (digest_in m.version o) forms is.stamp) in
-    read_whole file m f forms.even undone (library_reads file m f.flat is f.list (omega (arith, f.small)) reads)
+    read_whole file m f forms.even (library_back file m f is) (library_reads file m f.flat is f.list (omega (arith, f.small)) reads)
 
 -- ---- a program
 
@@ -187,11 +191,6 @@ program_reads file m flat is spelled small r =
       places = r.places;
     }
 
-no_library : (kind : Kind) → is_library kind ≡ false → is_static kind ≡ false → is_program kind ≡ true
-no_library Program a b = refl
-no_library Library a b = absurd (true≢false a)
-no_library Static a b = absurd (true≢false b)
-
 program_file : (file : List ℕ) (m : Marked) (f : IsFormOf file m) (last : Segment) → IsProgramMark m → last_load (ss_of m.original) ≡ Some last
     → file ≡ forms.program_form (original_of m.original) (last_index (ss_of m.original)) last (extension_of m.original m.list m.conflicts) f.flat (digest_in m.version m.original)
 unfolding form_with extended
@@ -212,23 +211,47 @@ program_forms file m f last is at =
     forms_program o m.object last e f.flat (digest_in m.version o) f.firm (no_library m.object.kind is.program f.firm.dynamic) at f.filled (digest_size m.version o)
     (program_small (original_of o) (last_index (ss_of o)) last e f.flat (digest_in m.version o) short)
 
+program_back : (file : List ℕ) (m : Marked) (f : IsFormOf file m) (last : Segment) → IsProgramMark m → last_load (ss_of m.original) ≡ Some last → back reader file ≡ Some m.original
+program_back file m f last is at =
+    let o = m.original in
+    let e = extension_of o m.list m.conflicts in
+    let i = last_index (ss_of o) in
+    ap (back reader) (program_file file m f last is at) ∙ program_undone o i last e f.flat (digest_in m.version o) (program_conditions o m.object i last e f.flat (digest_in m.version o) (program_forms file m f last is at))
+
 program_at : (file : List ℕ) (m : Marked) (f : IsFormOf file m) (last : Segment) → IsProgramMark m → last_load (ss_of m.original) ≡ Some last → marked_of file ≡ Some m
 program_at file m f last is at =
     let o = m.original in
     let e = extension_of o m.list m.conflicts in
     let same = program_file file m f last is at in
-    let forms = program_forms file m f last is at in
-    let undone : back reader file ≡ Some o = ap (back reader) same ∙ program_undone o (last_index (ss_of o)) last e f.flat (digest_in m.version o) (program_conditions o m.object (last_index (ss_of o)) last e f.flat (digest_in m.version o) forms) in
-    let reads = subst (λ (xs : List ℕ). ReadsProgram xs o e f.flat (digest_in m.version o)) (sym same) (program_read o m.object (last_index (ss_of o)) last e f.flat (digest_in m.version o) forms) in
-    read_whole file m f (omega (arith, is.slot)) undone (program_reads file m f.flat is f.list (omega (arith, f.small)) reads)
+    let reads = subst (λ (xs : List ℕ). ReadsProgram xs o e f.flat (digest_in m.version o)) (sym same) (program_read o m.object (last_index (ss_of o)) last e f.flat (digest_in m.version o) (program_forms file m f last is at)) in
+    read_whole file m f (omega (arith, is.slot)) (program_back file m f last is at) (program_reads file m f.flat is f.list (omega (arith, f.small)) reads)
 
-program_by : (file : List ℕ) (m : Marked) (f : IsFormOf file m) (found : Option Segment) → last_load (ss_of m.original) ≡ found → is_some found ≡ true → IsProgramMark m → marked_of file ≡ Some m
-program_by file m f None at some is = absurd (true≢false (sym some))
-program_by file m f (Some last) at some is = program_at file m f last is at
+by_last : (found : Option Segment) (P : Type 0) → is_some found ≡ true → ((last : Segment) → found ≡ Some last → P) → P
+by_last None P some next = absurd (true≢false (sym some))
+by_last (Some last) P some next = next last refl
+
+-- an accepted original has a last PT_LOAD
+with_last : (file : List ℕ) (m : Marked) (f : IsFormOf file m) (P : Type 0) → ((last : Segment) → last_load (ss_of m.original) ≡ Some last → P) → P
+with_last file m f P next =
+    let found = last_load (ss_of m.original) in
+    by_last found P (some_last m.original m.object f.firm.accepted) next
 
 -- every form is read whole
 pub complete : (file : List ℕ) (m : Marked) → IsFormOf file m → marked_of file ≡ Some m
 complete file m f = elim f.mark [
   | inl is ↦ library_whole file m f is
-  | inr is ↦ program_by file m f (last_load (ss_of m.original)) refl (some_last m.original m.object f.firm.accepted) is
+  | inr is ↦ with_last file m f (marked_of file ≡ Some m) (λ last at. program_at file m f last is at)
 ]
+
+-- and its original comes back
+pub undone : FormsAreUndone
+undone file m f = elim f.mark [
+  | inl is ↦ library_back file m f is
+  | inr is ↦ with_last file m f (back reader file ≡ Some m.original) (λ last at. program_back file m f last is at)
+]
+
+same_value : (m n : Marked) → ◌≡◌ {A = Option Marked} (Some m) (Some n) → m ≡ n
+same_value m n e = cc
+
+pub no_two : NoFormOfTwo
+no_two file m n f g = same_value m n (sym (complete file m f) ∙ complete file n g)

@@ -1,5 +1,5 @@
 -- What a file is: a form of an original, or by its mark no form, or what acceptance says of it.
-use Rattle.std.specs.Prelude.{◌≡◌, ◌⊎◌, ◌≤◌, ◌<◌, ◌^◌, ℕ, ◌+◌, ◌%◌, Bool, true, false, ◌&&◌, ◌||◌, nat_eq, List, [], length, drop, Result, Ok, Err, if◌then◌else◌}
+use Rattle.std.specs.Prelude.{◌≡◌, ◌⊎◌, ◌≤◌, ◌<◌, ◌^◌, ℕ, ◌+◌, ◌%◌, Bool, true, false, ◌&&◌, ◌||◌, nat_eq, List, [], length, drop, Some, Result, Ok, Err, if◌then◌else◌}
 use Rattle.std.specs.List.{list_any, starts_with}
 use Rattle.std.specs.Result.{is_ok}
 use Rattle.pl_base.specs.Answers.{because}
@@ -19,8 +19,8 @@ use Rattle.pl_object.specs.Tables.{dynamic_memory}
 use Rattle.pl_object.specs.declared.object.Object.{Object}
 use Rattle.pl_object.specs.declared.refusal.Refusal.{Refusal}
 use Rattle.pl_object.specs.declared.refusal.Refusal.TheVariants as refusals
-use Rattle.pl_parts.specs.Back.{wanted}
-use Rattle.pl_parts.specs.Found.{has_dynamic_table, ps_of, secs_of, ss_of}
+use Rattle.pl_parts.specs.Back.{back, wanted}
+use Rattle.pl_parts.specs.Found.{has_dynamic_table, ps_of, reader, secs_of, ss_of}
 use Rattle.pl_parts.specs.declared.constants.TheConstants.{UNDO_NAME}
 use Rattle.pl_form.specs.Faults.{IsFirm}
 use Rattle.pl_form.specs.Library.{library_with}
@@ -99,6 +99,16 @@ pub record IsFormOf (file : List ℕ) (m : Marked) : Type 0 where
   pub filled : length flat ≡ wanted (ps_of m.original)
   pub small : length file ≤ STORED
   pub is : file ≡ form_with m flat
+
+-- ---- one original
+
+-- Back of a form is its original
+abbrev pub FormsAreUndone : Type 0
+FormsAreUndone = (file : List ℕ) (m : Marked) → IsFormOf file m → back reader file ≡ Some m.original
+
+-- so no file is a form of two, nor of one in two ways
+abbrev pub NoFormOfTwo : Type 0
+NoFormOfTwo = (file : List ℕ) (m n : Marked) → IsFormOf file m → IsFormOf file n → m ≡ n
 
 -- ---- what a file is
 

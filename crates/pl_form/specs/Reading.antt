@@ -36,9 +36,13 @@ use Rattle.pl_form.specs.declared.version.Version.TheVariants.{One, Two}
 
 -- ---- the original
 
--- whether an accepted original has no form fault other than InRegion, and no mark
+-- whether an object has no form fault other than InRegion
+abbrev pub has_form : Object → Bool
+has_form x = not (is_static x.kind) && is_ok (form_fault x no_region)
+
+-- and its file no mark
 abbrev pub is_firm : List ℕ → Object → Bool
-is_firm o x = not (is_static x.kind) && is_ok (form_fault x no_region) && not (has_mark o)
+is_firm o x = has_form x && not (has_mark o)
 
 abbrev pub firm_if : List ℕ → Result Object Refusal → Option Object
 firm_if o (Ok x) = when (is_firm o x) (Some x)
@@ -155,9 +159,13 @@ is_placed m =
     if is_library m.object.kind then m.slot % 2 == 0 && m.slot % m.object.align == 0 && nat_le (m.slot + m.object.span) (2 ^ 47)
     else m.slot == 0
 
+-- whether there is a byte for each byte of a place, and the slot is such a one
+abbrev pub fits : Marked → List Spot → ℕ → Bool
+fits m spots size = size == wanted spots && is_placed m
+
 -- whether a file is the form with these bytes at the places
 unfoldable pub is_form : List ℕ → Marked → List ℕ → Bool
-is_form file m flat = length flat == wanted (ps_of m.original) && is_placed m && bytes_eq file (form_with m flat)
+is_form file m flat = fits m (ps_of m.original) (length flat) && bytes_eq file (form_with m flat)
 
 abbrev pub checked : List ℕ → Undo → Marked → Option Marked
 checked file u m = when (is_form file m (places_in m.original (front_of u file) file)) (Some m)

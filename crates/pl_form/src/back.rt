@@ -2,11 +2,11 @@
 ghost use Rattle.std.specs.Prelude.{◌≡◌, ◌+◌, ◌-◌, ◌*◌, ◌^◌, ◌<◌, ◌≤◌, ◌==◌, ◌++◌, ◌∷◌, [], length, nat_le, IfOk, Some};
 ghost use Rattle.pl_base.specs.Windows as windows;
 ghost use Rattle.pl_elf.specs.Headers as headers;
-ghost use Rattle.pl_move.specs.Moves.{table_window, table_windows};
-ghost use Rattle.pl_parts.specs.Back as spec;
+ghost use Rattle.pl_move.specs.Moves.{all_back, table_window, table_windows};
+ghost use Rattle.pl_parts.specs.Back as back;
 ghost use Rattle.pl_parts.specs.Found as found;
 ghost use Rattle.pl_undo.specs.Section.{headers_size};
-ghost use Rattle.pl_form.specs.Stored as part_spec;
+ghost use Rattle.pl_form.specs.Stored as spec;
 ghost use Rattle.pl_form.specs.Stored.{IsWhole, WholeIfAny};
 
 use crate::bytes::put_bytes;
@@ -28,7 +28,7 @@ use std::alloc::{AllocError, Global};
 
 /// Where the section header of a file's undo section is, two before the end of the table.
 fn undo_row(header: &Header) -> Window
-    ensures { result ≡ part_spec.undo_row header.now }
+    ensures { result ≡ spec.undo_row header.now }
 {
     let index = u64::from(header.shnum.saturating_sub(2));
     Window::new(
@@ -39,7 +39,7 @@ fn undo_row(header: &Header) -> Window
 
 /// The section header of a file's undo section, where there is such a row, and it and its bytes lie in the file.
 fn undo_section(file: &[u8]) -> Option<Section>
-    ensures { result ≡ spec.when (spec.has_undo_section file.now) (Some (spec.undo_section file.now)) }
+    ensures { result ≡ back.when (back.has_undo_section file.now) (Some (back.undo_section file.now)) }
 {
     if file.len() < HEADER_SIZE {
         return None;
@@ -59,7 +59,7 @@ fn undo_section(file: &[u8]) -> Option<Section>
 /// What a file's undo section spells; None where there is no such section, or its bytes are in neither version's grammar.
 pub fn find_undo(alloc: Global, file: &[u8]) -> Result<Option<Undo>, AllocError>
     requires { length file.now < 2 ^ 32 }
-    ensures exact { IfOk result (λ u. u ≡ spec.find_undo file.now) }
+    ensures exact { IfOk result (λ u. u ≡ back.find_undo file.now) }
     ensures whole { IfOk result WholeIfAny }
 {
     let Some(section) = undo_section(file) else {
@@ -74,7 +74,7 @@ pub fn find_undo(alloc: Global, file: &[u8]) -> Result<Option<Undo>, AllocError>
 
 /// The bytes that stand where the original's stood: those before cut, and those behind the inserted ones, as far as there are any.
 pub fn front_of(alloc: Global, undo: &Undo, file: &[u8]) -> Result<Vec<u8>, AllocError>
-    ensures { IfOk result (λ v. v.items ≡ spec.front_of undo.now file.now) }
+    ensures { IfOk result (λ v. v.items ≡ back.front_of undo.now file.now) }
 {
     let behind = end(undo.cut, undo.shift);
     let rest = undo.length.saturating_sub(undo.cut);
@@ -95,7 +95,7 @@ struct StoredHeaders {
 #[tactic(auto, unfolding(pl_parts::specs::Found::stored_segments, pl_parts::specs::Found::stored_sections, pl_undo::specs::Section::headers_size))]
 fn stored_headers(alloc: Global, bytes: &[u8]) -> Result<StoredHeaders, AllocError>
     requires { length bytes.now ≡ headers_size (headers.header bytes.now) }
-    ensures { IfOk result (λ s. s ≡ part_spec.stored_headers bytes.now) }
+    ensures { IfOk result (λ s. s ≡ spec.stored_headers bytes.now) }
 {
     let header = header_fields(bytes);
     let phoff = HEADER_SIZE as u64;
@@ -114,8 +114,8 @@ fn stored_headers(alloc: Global, bytes: &[u8]) -> Result<StoredHeaders, AllocErr
 fn put_stored(front: &mut [u8], undo: &Undo, header: &Header, dynamic: &Window)
     requires head { header.now ≡ headers.header undo.now.headers }
     requires whole { IsWhole undo.now }
-    requires room { windows.AllIn (length front.old) (spec.head_windows header.now ++ dynamic.now ∷ []) }
-    ensures { front.new ≡ windows.put_all (spec.stored undo.now dynamic.now) front.old }
+    requires room { windows.AllIn (length front.old) (back.head_windows header.now ++ dynamic.now ∷ []) }
+    ensures { front.new ≡ windows.put_all (back.stored undo.now dynamic.now) front.old }
 {
     let headers = undo.headers.as_slice();
     let segments = SEGMENT_SIZE as u64 * u64::from(header.phnum);
@@ -136,7 +136,7 @@ fn put_stored(front: &mut [u8], undo: &Undo, header: &Header, dynamic: &Window)
 
 /// Whether so many bytes and those at places are as many as given.
 pub fn are_filled(spots: &[Spot], before: u64, size: u128) -> bool
-    ensures { result ≡ (size == before + spec.wanted spots.now) }
+    ensures { result ≡ (size == before + back.wanted spots.now) }
 {
     if size < u128::from(before) {
         return false;
@@ -160,7 +160,7 @@ fn is_spot_in(size: usize, spot: &Spot) -> bool
 }
 
 fn are_spots_in(size: usize, spots: &[Spot]) -> bool
-    ensures { result ≡ windows.are_in size (spec.spot_windows spots.now) }
+    ensures { result ≡ windows.are_in size (back.spot_windows spots.now) }
 {
     for spot in spots {
         if !is_spot_in(size, spot) {
@@ -189,7 +189,28 @@ fn are_tables_in(size: usize, tables: &[Table]) -> bool
     true
 }
 
-/// Restores the places, where all of them and the kept bytes fit.
+/// Whether places lie in so many bytes, and an undo section keeps the bytes of the dynamic table and of all places.
+fn fits_places(size: usize, undo: &Undo, dynamic: u64, spots: &[Spot]) -> bool
+    ensures { result ≡ spec.fits_places size undo.now dynamic spots.now }
+{
+    are_spots_in(size, spots) && are_filled(spots, dynamic, undo.kept.len() as u128)
+}
+
+/// Restores the bytes at places, where all of them and the kept bytes fit.
+#[tactic(auto, unfolding(crate::specs::Stored::kept_back))]
+fn kept_back(undo: &Undo, dynamic: u64, spots: &[Spot], bytes: Vec<u8>) -> Option<Rows<u8>>
+    ensures { result ≡ spec.kept_back undo.now dynamic spots.now bytes.items }
+{
+    if !fits_places(bytes.len(), undo, dynamic, spots) {
+        return None;
+    }
+    let mut original = bytes;
+    let kept = &undo.kept.as_slice()[dynamic as usize..];
+    put_visible(&mut original, spots, kept);
+    Some(Rows::from_vec(original))
+}
+
+/// Restores the places of all relocations, which are found by their rows.
 #[tactic(auto, unfolding(crate::specs::Stored::places_back))]
 fn places_back(
     alloc: Global,
@@ -198,23 +219,40 @@ fn places_back(
     tags: &[Tag],
     bytes: Vec<u8>,
 ) -> Result<Option<Rows<u8>>, AllocError>
-    ensures { IfOk result (λ o. o ≡ part_spec.places_back undo.now stored.now tags.now bytes.items) }
+    ensures { IfOk result (λ o. o ≡ spec.places_back undo.now stored.now tags.now bytes.items) }
 {
     let segments = stored.segments.as_slice();
     let windows = row_windows(segments, stored.sections.as_slice(), tags);
     let rows = all_bytes(alloc, &windows, &bytes)?;
     let spots = find_spots(alloc, segments, tags, &rows)?;
     let dynamic = dynamic_in(segments).size();
-    let kept = undo.kept.as_slice();
-    if !are_spots_in(bytes.len(), spots.as_slice())
-        || !are_filled(spots.as_slice(), dynamic, kept.len() as u128)
-    {
-        return Ok(None);
-    }
-    let mut original = bytes;
-    let kept = &kept[dynamic as usize..];
-    put_visible(&mut original, spots.as_slice(), kept);
-    Ok(Some(Rows::from_vec(original)))
+    Ok(kept_back(undo, dynamic, spots.as_slice(), bytes))
+}
+
+/// Whether the header, the tables and the dynamic table lie in so many bytes, and the rows that move do.
+fn fits_tables(size: usize, header: &Header, dynamic: &Window, tables: &[Table]) -> bool
+    ensures { result ≡ spec.fits_tables size header.now dynamic.now tables.now }
+{
+    let [first, segments, sections] = head_windows(header);
+    are_in(size, &[first, segments, sections, *dynamic]) && are_tables_in(size, tables)
+}
+
+/// Puts the stored headers back, and moves the tables back.
+fn put_back(
+    front: &mut [u8],
+    undo: &Undo,
+    header: &Header,
+    dynamic: &Window,
+    tables: &[Table],
+)
+    requires head { header.now ≡ headers.header undo.now.headers }
+    requires whole { IsWhole undo.now }
+    requires room { windows.AllIn (length front.old) (back.head_windows header.now ++ dynamic.now ∷ []) }
+    requires tables { windows.AllIn (length front.old) (table_windows tables.now) }
+    ensures { front.new ≡ all_back undo.now.slot tables.now (windows.put_all (back.stored undo.now dynamic.now) front.old) }
+{
+    put_stored(front, undo, header, dynamic);
+    move_tables_back(front, tables, undo.slot);
 }
 
 /// Puts the stored headers back and moves the tables back, where all of them fit; then the places.
@@ -228,21 +266,25 @@ fn tables_back(
 ) -> Result<Option<Rows<u8>>, AllocError>
     requires head { stored.now.header ≡ headers.header undo.now.headers }
     requires whole { IsWhole undo.now }
-    ensures { IfOk result (λ o. o ≡ part_spec.tables_back undo.now stored.now tags.now front.items) }
+    ensures { IfOk result (λ o. o ≡ spec.tables_back undo.now stored.now tags.now front.items) }
 {
     let segments = stored.segments.as_slice();
     let dynamic = dynamic_in(segments);
     let tables = moved_tables(alloc, segments, stored.sections.as_slice(), tags)?;
-    let [header, rows, sections] = head_windows(&stored.header);
-    if !are_in(front.len(), &[header, rows, sections, dynamic])
-        || !are_tables_in(front.len(), tables.as_slice())
-    {
+    if !fits_tables(front.len(), &stored.header, &dynamic, tables.as_slice()) {
         return Ok(None);
     }
     let mut moved = front;
-    put_stored(&mut moved, undo, &stored.header, &dynamic);
-    move_tables_back(&mut moved, tables.as_slice(), undo.slot);
+    put_back(&mut moved, undo, &stored.header, &dynamic, tables.as_slice());
     places_back(alloc, undo, stored, tags, moved)
+}
+
+/// Whether there is a dynamic table, and each table whose words move is in the file part.
+fn has_all_tables(stored: &StoredHeaders, tags: &[Tag]) -> bool
+    ensures { result ≡ spec.has_all_tables stored.now tags.now }
+{
+    let segments = stored.segments.as_slice();
+    has_dynamic_table(segments) && has_tables(segments, stored.sections.as_slice(), tags)
 }
 
 /// The original, from the bytes that stand where its bytes stood; None where a segment, a tag or a part that is needed is missing.
@@ -255,23 +297,29 @@ fn original_by(
 ) -> Result<Option<Rows<u8>>, AllocError>
     requires head { stored.now.header ≡ headers.header undo.now.headers }
     requires whole { IsWhole undo.now }
-    ensures { IfOk result (λ o. o ≡ part_spec.original_by undo.now stored.now front.items) }
+    ensures { IfOk result (λ o. o ≡ spec.original_by undo.now stored.now front.items) }
 {
-    let segments = stored.segments.as_slice();
-    let table = part(undo.kept.as_slice(), 0, dynamic_in(segments).size());
-    let tags = read_tags(alloc, table)?;
-    if !has_dynamic_table(segments) || !has_tables(segments, stored.sections.as_slice(), &tags) {
+    let size = dynamic_in(stored.segments.as_slice()).size();
+    let tags = read_tags(alloc, part(undo.kept.as_slice(), 0, size))?;
+    if !has_all_tables(stored, &tags) {
         return Ok(None);
     }
     tables_back(alloc, undo, stored, &tags, front)
 }
 
+/// Whether a file of so many bytes has all those that stood in the original.
+fn fits_file(size: usize, undo: &Undo) -> bool
+    ensures { result ≡ spec.fits_file size undo.now }
+{
+    undo.cut <= undo.length && end(undo.length, undo.shift) <= size as u128
+}
+
 /// The original that an undo section brings back from a file; None where the file has not all that is needed.
 pub fn restored(alloc: Global, undo: &Undo, file: &[u8]) -> Result<Option<Rows<u8>>, AllocError>
     requires { IsWhole undo.now }
-    ensures { IfOk result (λ o. o ≡ spec.restored found.reader undo.now file.now) }
+    ensures { IfOk result (λ o. o ≡ back.restored found.reader undo.now file.now) }
 {
-    if undo.cut > undo.length || end(undo.length, undo.shift) > file.len() as u128 {
+    if !fits_file(file.len(), undo) {
         return Ok(None);
     }
     let front = front_of(alloc, undo, file)?;

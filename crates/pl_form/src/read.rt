@@ -31,13 +31,20 @@ pub struct Lists {
     pub conflicts: Rows<ConflictRow>,
 }
 
-/// Whether an accepted file may be an original: a program or library without form fault other than InRegion, and without a mark.
+/// Whether an object is a program or library without form fault other than InRegion.
+fn has_form(object: &Object) -> bool
+    ensures { result ≡ spec.has_form object.now }
+{
+    let nowhere = Range { start: 0, end: 0 };
+    !object.kind.is_static() && check_form(object, nowhere).is_ok()
+}
+
+/// Whether an accepted file may be an original: it has a form, and no mark.
 fn is_firm(alloc: Global, bytes: &[u8], object: &Object) -> Result<bool, AllocError>
     requires { length bytes.now < 2 ^ 32 }
     ensures { IfOk result (λ b. b ≡ spec.is_firm bytes.now object.now) }
 {
-    let nowhere = Range { start: 0, end: 0 };
-    if object.kind.is_static() || check_form(object, nowhere).is_err() {
+    if !has_form(object) {
         return Ok(false);
     }
     Ok(!has_mark(alloc, bytes)?)
@@ -250,6 +257,14 @@ fn is_placed(marked: &Marked) -> bool
         && end(marked.slot, object.span) <= 1 << 47
 }
 
+/// Whether there is a byte for each byte of a place, and the slot is one that such an object may have.
+fn fits(marked: &Marked, spots: &[Spot], size: usize) -> bool
+    requires { 0 < marked.now.object.align }
+    ensures { result ≡ spec.fits marked.now spots.now size }
+{
+    are_filled(spots, 0, size as u128) && is_placed(marked)
+}
+
 /// Whether a file is the form with these bytes at the places.
 #[tactic(auto, unfolding(crate::specs::Reading::is_form))]
 fn is_form(
@@ -264,7 +279,7 @@ fn is_form(
     requires spots { spots.now ≡ ps_of marked.now.original }
     ensures { IfOk result (λ b. b ≡ spec.is_form file.now marked.now flat.now) }
 {
-    if !are_filled(spots, 0, flat.len() as u128) || !is_placed(marked) {
+    if !fits(marked, spots, flat.len()) {
         return Ok(false);
     }
     match form_with(alloc, marked, flat)? {
