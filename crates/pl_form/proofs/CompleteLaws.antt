@@ -3,7 +3,7 @@ use Rattle.std.proofs.Common.{◌≡◌, ℕ, ◌+◌, ◌-◌, ◌*◌, ◌%◌
 use Rattle.std.specs.Prelude.{◌⊎◌, ◌&&◌, ◌==◌, not, nat_le, is_some, if◌then◌else◌}
 use Rattle.std.specs.Result.{is_ok}
 use Rattle.std.specs.Str.{bytes_eq}
-use Rattle.std.proofs.lemmas.Bool.{le-leb, eq-eqb, true≢false}
+use Rattle.std.proofs.lemmas.Bool.{le-leb, lt-ltb, eq-eqb, true≢false}
 use Rattle.std.proofs.lemmas.List.{length-append, length-take, length-drop}
 use Rattle.std.proofs.lemmas.Slice.Eq.{bytes_eq-Decides}
 use Rattle.pl_elf.specs.Headers.{header, section}
@@ -53,7 +53,7 @@ use Rattle.pl_form.proofs.SmallLaws.{table_below}
 -- an original is found to be one
 firm_found : (o : List ℕ) (x : Object) → IsFirm o x → has_mark o ≡ false → firm_object o ≡ Some x
 unfolding firm_object
-firm_found o x is plain = rw (is.accepted, is.dynamic, is.firm, plain) refl
+firm_found o x is plain = rw (lt-ltb (length o) (2 ^ 32) is.few, is.accepted, is.dynamic, is.firm, plain) refl
 
 placed_library : (m : Marked) → IsLibraryMark m → m.slot % 2 ≡ 0 → is_placed m ≡ true
 unfolding is_placed

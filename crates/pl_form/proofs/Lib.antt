@@ -23,6 +23,7 @@ pub mod FindingLaws
 pub mod ReadFileLaws
 pub mod BackLaws
 pub mod FormWithLaws
+pub mod ReadLaws
 pub mod MarkedLaws
 pub mod ProgramLaws
 pub mod ExtensionLaws

@@ -1,5 +1,5 @@
 -- How what a file is made of is told, step by step.
-use Rattle.std.proofs.Common.{◌≡◌, ℕ, ◌+◌, ◌*◌, ◌<◌, ◌≤◌, Bool, true, false, List, length, Option, Some, None, Result, Ok, refl, sym, ap, subst, ◌∙◌, arith}
+use Rattle.std.proofs.Common.{◌≡◌, ℕ, ◌+◌, ◌*◌, ◌<◌, ◌≤◌, Bool, true, false, List, [], length, Option, Some, None, Result, Ok, refl, sym, ap, subst, ◌∙◌, arith}
 use Rattle.std.specs.Prelude.{◌&&◌, ◌==◌, nat_le, if◌then◌else◌}
 use Rattle.pl_elf.specs.Kinds.{is_library}
 use Rattle.pl_elf.specs.declared.segment.Segment.{Segment}
@@ -16,7 +16,11 @@ use Rattle.pl_parts.specs.declared.parts.Spot.{Spot}
 use Rattle.pl_parts.proofs.AcceptedIs.{segments_are}
 use Rattle.pl_undo.specs.declared.undo.Undo.{Undo}
 use Rattle.pl_form.specs.Originals.{original}
-use Rattle.pl_form.specs.Reading.{firm_object, lists_in, candidate, standing, zeros_behind, places_in, is_form, checked, marked_by, marked_of, IsMade, IsLayoutOf}
+use Rattle.pl_lists.specs.Conflicts.{are_conflicts}
+use Rattle.pl_lists.specs.Lists.{list_strings}
+use Rattle.pl_lists.specs.declared.conflict_row.ConflictRow.{ConflictRow}
+use Rattle.pl_lists.specs.declared.list_row.ListRow.{ListRow}
+use Rattle.pl_form.specs.Reading.{IsOwn, OwnIfAny, IsSpelledList, ListIfAny, AreSpelled, SpelledIfAny, with_conflicts, firm_object, lists_in, candidate, standing, zeros_behind, places_in, is_form, checked, marked_by, marked_of, IsMade, IsLayoutOf}
 use Rattle.pl_form.specs.declared.constants.TheConstants.{STORED}
 use Rattle.pl_form.specs.declared.file.Marked.{Marked}
 use Rattle.pl_form.specs.declared.layout.Layout.{Layout}
@@ -75,3 +79,32 @@ no_object file o u e = rw (sym e) refl
 pub no_lists : (file o : List ℕ) (u : Undo) (x : Object) → Some x ≡ firm_object o → None ≡ lists_in (is_library x.kind) file → None ≡ marked_by file u o
 unfolding marked_by
 no_lists file o u x e f = rw (sym e, sym f) refl
+
+-- ---- what the parts say
+
+pub own_here : (o s : List ℕ) (found : Option Object) (x : Object) → OwnIfAny s found → found ≡ Some x → s ≡ o → IsOwn o x
+own_here o s found x own is same = let here : IsOwn s x = subst (OwnIfAny s) is own in subst (λ (ys : List ℕ). IsOwn ys x) same here
+
+pub head_here : (o : List ℕ) (x : Object) → IsOwn o x → HasHead o x
+head_here o x own = (accepted o x own.firm.accepted).head
+
+pub spelled_here : (library : Bool) (file : List ℕ) (found : Option Lists) (l : Lists) → SpelledIfAny library file found → found ≡ Some l → AreSpelled library file l
+spelled_here library file found l spelled is = subst (SpelledIfAny library file) is spelled
+
+pub candidate_original : (front : List ℕ) (u : Undo) (o : List ℕ) (x : Object) (l : Lists) (m : Marked) → m ≡ candidate front u o x l → m.original ≡ o
+unfolding candidate
+candidate_original front u o x l m is = ap (λ (n : Marked). n.original) is
+
+none_spelled : are_conflicts [] ≡ true
+unfolding are_conflicts
+none_spelled = refl
+
+pub library_spelled : (file : List ℕ) (size : ℕ) (found : Option (List ListRow)) (list : List ListRow) (conflicts : List ConflictRow) → ListIfAny size found → found ≡ Some list → size ≤ length file → conflicts ≡ [] → AreSpelled true file (with_conflicts list conflicts)
+library_spelled file size found list conflicts spelled is within none =
+    let here : IsSpelledList size list = subst (ListIfAny size) is spelled in
+    record {
+      names = omega (arith, here.names, within);
+      list = here.spelled;
+      conflicts = subst (λ (cs : List ConflictRow). are_conflicts cs ≡ true) (sym none) none_spelled;
+      none = λ library. none;
+    }

@@ -1,5 +1,5 @@
 -- What is read of a file that may be a form: all that it would be made of. Whether it is that form is told by building it.
-use Rattle.std.specs.Prelude.{◌≡◌, ◌<◌, ◌≤◌, Vec, ℕ, ◌+◌, ◌-◌, ◌*◌, ◌%◌, ◌^◌, Bool, true, false, not, ◌&&◌, ◌==◌, nat_le, List, [], ◌∷◌, ◌++◌, length, Option, Some, None, Result, Ok, Err, if◌then◌else◌}
+use Rattle.std.specs.Prelude.{◌≡◌, ◌<◌, ◌≤◌, Vec, ℕ, ◌+◌, ◌-◌, ◌*◌, ◌%◌, ◌^◌, Bool, true, false, not, ◌&&◌, ◌==◌, nat_le, nat_lt, List, [], ◌∷◌, ◌++◌, length, Option, Some, None, Result, Ok, Err, if◌then◌else◌}
 use Rattle.std.specs.Result.{is_ok}
 use Rattle.std.specs.declared.alloc.Global.{Global}
 use Rattle.std.specs.Str.{bytes_eq}
@@ -48,8 +48,9 @@ abbrev pub firm_if : List ℕ → Result Object Refusal → Option Object
 firm_if o (Ok x) = when (is_firm o x) (Some x)
 firm_if o (Err refusal) = None
 
+-- an original has fewer than 2^32 bytes
 unfoldable pub firm_object : List ℕ → Option Object
-firm_object o = firm_if o (reads o)
+firm_object o = when (nat_lt (length o) (2 ^ 32)) (firm_if o (reads o))
 
 -- the same as facts
 pub record IsOwn (o : List ℕ) (x : Object) : Type 0 where

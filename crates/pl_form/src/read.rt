@@ -7,6 +7,7 @@ ghost use Rattle.pl_lists.specs.Reading.{list_of, conflicts_of};
 ghost use Rattle.pl_object.specs.PlaceClauses.{last_load};
 ghost use Rattle.pl_parts.specs.Back.{has_undo_section};
 ghost use Rattle.pl_parts.specs.Found.{ps_of};
+ghost use Rattle.pl_form.specs.Marks.{IsFormOf};
 ghost use Rattle.pl_form.specs.Words.{checksum_of};
 ghost use Rattle.pl_form.specs.Reading as spec;
 
@@ -23,6 +24,9 @@ use pl_object::{Object, Refusal, accept, last_load as last_segment};
 use pl_parts::Spot;
 use pl_undo::{DIGEST_SIZE, Undo};
 use std::alloc::{AllocError, Global};
+
+/// An original has fewer bytes.
+const MOST_BYTES: usize = 4_294_967_296;
 
 /// The lists of a form.
 #[derive(Drop)]
@@ -53,10 +57,12 @@ fn is_firm(alloc: Global, bytes: &[u8], object: &Object) -> Result<bool, AllocEr
 /// The object that an original is; None where the bytes are no original of a form.
 #[tactic(auto, unfolding(crate::specs::Reading::firm_object))]
 fn firm_object(alloc: Global, bytes: &[u8]) -> Result<Option<Object>, AllocError>
-    requires { length bytes.now < 2 ^ 32 }
     ensures exact { IfOk result (λ o. o ≡ spec.firm_object bytes.now) }
     ensures own { IfOk result (spec.OwnIfAny bytes.now) }
 {
+    if bytes.len() >= MOST_BYTES {
+        return Ok(None);
+    }
     let object = match accept(alloc, bytes) {
         Ok(object) => object,
         Err(Refusal::NoMemory) => return Err(AllocError),
@@ -288,6 +294,23 @@ fn is_form(
     }
 }
 
+/// The same. Where it is, the file is a form of what is given.
+fn makes_file(
+    alloc: Global,
+    file: &[u8],
+    marked: &Marked,
+    spots: &[Spot],
+    flat: &[u8],
+) -> Result<bool, AllocError>
+    requires file { length file.now ≤ STORED }
+    requires made { spec.IsMade marked.now }
+    requires spots { spots.now ≡ ps_of marked.now.original }
+    ensures exact { IfOk result (λ b. b ≡ spec.is_form file.now marked.now flat.now) }
+    ensures form { IfOk result (λ b. b ≡ true → IsFormOf file.now marked.now) }
+{
+    is_form(alloc, file, marked, spots, flat)
+}
+
 /// What a file is made of, if it is a form of this original.
 #[tactic(auto, unfolding(crate::specs::Reading::marked_by))]
 fn marked_by(
@@ -297,7 +320,6 @@ fn marked_by(
     original: Rows<u8>,
 ) -> Result<Option<Marked>, AllocError>
     requires file { length file.now ≤ STORED }
-    requires few { length original < 2 ^ 32 }
     requires undo { has_undo_section file.now ≡ true }
     ensures exact { IfOk result (λ o. o ≡ spec.marked_by file.now undo.now original) }
     ensures form { IfOk result (spec.FormIfAny file.now) }
@@ -313,7 +335,7 @@ fn marked_by(
     let zeros = zeros_behind(&object, file);
     let flat = standing(alloc, layout.spots.as_slice(), &front, zeros)?;
     let marked = candidate(undo, original, object, &layout, lists, &front);
-    if !is_form(alloc, file, &marked, layout.spots.as_slice(), &flat)? {
+    if !makes_file(alloc, file, &marked, layout.spots.as_slice(), &flat)? {
         return Ok(None);
     }
     Ok(Some(marked))

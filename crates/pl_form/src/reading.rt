@@ -32,5 +32,8 @@ pub fn read_file(alloc: Global, bytes: &[u8]) -> Result<File, FileFault>
     if has_mark(alloc, bytes)? {
         return Err(FileFault::BadMark);
     }
-    Ok(File::Plain(accept(alloc, bytes)?))
+    match accept(alloc, bytes) {
+        Ok(object) => Ok(File::Plain(object)),
+        Err(refusal) => Err(FileFault::Refused(refusal)),
+    }
 }

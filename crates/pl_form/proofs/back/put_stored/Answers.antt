@@ -4,7 +4,7 @@ use Rattle.pl_form.proofs.FindingLaws.{part_short, stored_put}
 use Rattle.pl_form.proofs.back.put_stored.Goals as goal
 
 pub put_bytes-requires : goal.put_bytes-requires
-put_bytes-requires c = omega (arith, ap length c.part-first.ensures.bytes, part_short 0 64 c.args.undo.now.headers, c.requires.room.0)
+put_bytes-requires c = omega (arith, ap length c.part-first.ensures.bytes, part_short 0 64 c.as_slice-headers.result.now, c.requires.room.0)
 
 pub returns : goal.returns
 returns c =
