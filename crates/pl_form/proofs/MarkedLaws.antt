@@ -88,6 +88,9 @@ own_here o s found x own is same = let here : IsOwn s x = subst (OwnIfAny s) is 
 pub head_here : (o : List ℕ) (x : Object) → IsOwn o x → HasHead o x
 head_here o x own = (accepted o x own.firm.accepted).head
 
+pub layout_here : (o s : List ℕ) (l : Layout) → original s l ≡ original_of s → s ≡ o → IsLayoutOf o l
+layout_here o s l e same = subst (λ (ys : List ℕ). IsLayoutOf ys l) same (layout_is s l e)
+
 pub spelled_here : (library : Bool) (file : List ℕ) (found : Option Lists) (l : Lists) → SpelledIfAny library file found → found ≡ Some l → AreSpelled library file l
 spelled_here library file found l spelled is = subst (SpelledIfAny library file) is spelled
 
@@ -96,7 +99,6 @@ unfolding candidate
 candidate_original front u o x l m is = ap (λ (n : Marked). n.original) is
 
 none_spelled : are_conflicts [] ≡ true
-unfolding are_conflicts
 none_spelled = refl
 
 pub library_spelled : (file : List ℕ) (size : ℕ) (found : Option (List ListRow)) (list : List ListRow) (conflicts : List ConflictRow) → ListIfAny size found → found ≡ Some list → size ≤ length file → conflicts ≡ [] → AreSpelled true file (with_conflicts list conflicts)

@@ -3,11 +3,9 @@ use Rattle.pl_elf.specs.Kinds.{is_library}
 use Rattle.pl_object.specs.Accepted.{HasHead}
 use Rattle.pl_object.specs.PlaceClauses.{last_load}
 use Rattle.pl_parts.specs.Back.{front_of}
-use Rattle.pl_parts.specs.Forms.{original_of}
 use Rattle.pl_parts.specs.Found.{ps_of}
-use Rattle.pl_form.specs.Originals.{original}
 use Rattle.pl_form.specs.Reading.{firm_object, lists_in, standing, zeros_behind, is_form, IsMade}
-use Rattle.pl_form.proofs.MarkedLaws.{own_here, head_here, spelled_here, candidate_original, layout_is, flat_is, marked_found, marked_missed}
+use Rattle.pl_form.proofs.MarkedLaws.{own_here, head_here, spelled_here, candidate_original, layout_here, flat_is, marked_found, marked_missed}
 use Rattle.pl_form.proofs.SoundLaws.{made_of}
 use Rattle.pl_form.proofs.read.marked_by.Goals as goal
 
@@ -32,10 +30,11 @@ makes_file-requires-clause-made c =
 pub makes_file-requires-clause-spots : goal.makes_file-requires-clause-spots
 makes_file-requires-clause-spots c =
     let o = c.args.original in
-    let layout : original o c.in_ok-layout.layout ≡ original_of o = search rules in
+    let there : c.as_slice-2.result.now ≡ o = search rules in
+    let layout = layout_here o c.as_slice-2.result.now c.in_ok-layout.layout c.in_ok-layout.ensures there in
     let spots : c.as_slice-4.result.now ≡ c.in_ok-layout.layout.spots = search rules in
     let here = candidate_original c.deref-2.result.now c.args.undo.now o c.in-Some.object c.in-Some-2.lists c.candidate-marked.result c.candidate-marked.ensures in
-    subst (λ (ys : List ℕ). c.as_slice-4.result.now ≡ ps_of ys) (sym here) (spots ∙ (layout_is o c.in_ok-layout.layout layout).spots)
+    subst (λ (ys : List ℕ). c.as_slice-4.result.now ≡ ps_of ys) (sym here) (spots ∙ layout.spots)
 
 pub returns-then-not-branch-clause-exact : goal.returns-then-not-branch-clause-exact
 returns-then-not-branch-clause-exact c =
@@ -52,11 +51,12 @@ returns-then-not-branch-clause-exact c =
     let lists : Some l ≡ lists_in (is_library x.kind) file = search rules in
     let same : c.as_slice.result.now ≡ o = search rules in
     let own = own_here o c.as_slice.result.now c.in_ok-object.field-0 x c.in_ok-object.ensures.own found same in
-    let layout : original o c.in_ok-layout.layout ≡ original_of o = search rules in
+    let there : c.as_slice-2.result.now ≡ o = search rules in
+    let layout = layout_here o c.as_slice-2.result.now c.in_ok-layout.layout c.in_ok-layout.ensures there in
     let spots : c.as_slice-3.result.now ≡ c.in_ok-layout.layout.spots = search rules in
     let front_is : front ≡ front_of u file = search rules in
     let stand : flat ≡ standing c.as_slice-3.result.now front (zeros_behind (last_load x.segments) file) = search rules in
-    let places = flat_is file o u x c.as_slice-3.result.now front flat own.firm.accepted (spots ∙ (layout_is o c.in_ok-layout.layout layout).spots) front_is stand in
+    let places = flat_is file o u x c.as_slice-3.result.now front flat own.firm.accepted (spots ∙ layout.spots) front_is stand in
     let test : false ≡ is_form file m flat = search rules in
     marked_missed file o u x l m front flat firm lists front_is c.candidate-marked.ensures places test
 
@@ -75,10 +75,11 @@ returns-clause-exact c =
     let lists : Some l ≡ lists_in (is_library x.kind) file = search rules in
     let same : c.as_slice.result.now ≡ o = search rules in
     let own = own_here o c.as_slice.result.now c.in_ok-object.field-0 x c.in_ok-object.ensures.own found same in
-    let layout : original o c.in_ok-layout.layout ≡ original_of o = search rules in
+    let there : c.as_slice-2.result.now ≡ o = search rules in
+    let layout = layout_here o c.as_slice-2.result.now c.in_ok-layout.layout c.in_ok-layout.ensures there in
     let spots : c.as_slice-3.result.now ≡ c.in_ok-layout.layout.spots = search rules in
     let front_is : front ≡ front_of u file = search rules in
     let stand : flat ≡ standing c.as_slice-3.result.now front (zeros_behind (last_load x.segments) file) = search rules in
-    let places = flat_is file o u x c.as_slice-3.result.now front flat own.firm.accepted (spots ∙ (layout_is o c.in_ok-layout.layout layout).spots) front_is stand in
+    let places = flat_is file o u x c.as_slice-3.result.now front flat own.firm.accepted (spots ∙ layout.spots) front_is stand in
     let test : true ≡ is_form file m flat = search rules in
     marked_found file o u x l m front flat firm lists front_is c.candidate-marked.ensures places test
