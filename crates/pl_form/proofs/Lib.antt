@@ -28,3 +28,5 @@ pub mod LastLaws
 pub mod NameLaws
 pub mod LengthLaws
 pub mod ProgramLengthLaws
+pub mod PlanLaws
+pub mod ReadyLaws

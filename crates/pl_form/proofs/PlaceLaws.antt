@@ -18,34 +18,24 @@ rest_none xs i le = drop_all i xs le
 -- what a loop that puts bytes at places keeps
 pub record IsPutting (spots : List Spot) (i : ℕ) (rest bytes whole : List ℕ) : Type 0 where
   pub done : put_all (visible (drop i spots) rest) bytes ≡ whole
-  pub left : length rest ≡ wanted (drop i spots)
   pub room : AllIn (length bytes) (spot_windows (drop i spots))
 
--- the place that is read lies in the bytes, and there are bytes for it
-pub record HasSpot (p : Spot) (rest bytes : List ℕ) : Type 0 where
-  pub room : p.at + p.size ≤ length bytes
-  pub enough : p.size + p.hidden ≤ length rest
-
-pub spot_here : (spots : List Spot) (i : ℕ) (d : Spot) (rest bytes whole : List ℕ) → i < length spots → IsPutting spots i rest bytes whole → HasSpot (get_or spots i d) rest bytes
+-- the place that is read lies in the bytes
+pub spot_here : (spots : List Spot) (i : ℕ) (d : Spot) (rest bytes whole : List ℕ) → i < length spots → IsPutting spots i rest bytes whole → (get_or spots i d).at + (get_or spots i d).size ≤ length bytes
 spot_here spots i d rest bytes whole lt is =
-    let e = rest_is spots i d lt in
-    let left : length rest ≡ wanted (get_or spots i d ∷ drop (i + 1) spots) = is.left ∙ ap wanted e in
-    let room : AllIn (length bytes) (spot_windows (get_or spots i d ∷ drop (i + 1) spots)) = rw e at is.room in
-    record { room = room.0; enough = omega (arith, left) }
+    let room : AllIn (length bytes) (spot_windows (get_or spots i d ∷ drop (i + 1) spots)) = rw (rest_is spots i d lt) at is.room in
+    room.0
 
 pub spot_put : (spots : List Spot) (i : ℕ) (d : Spot) (rest bytes whole next new : List ℕ) → i < length spots → IsPutting spots i rest bytes whole
-    → new ≡ put (get_or spots i d).at (take (get_or spots i d).size rest) bytes → next ≡ drop ((get_or spots i d).size + (get_or spots i d).hidden) rest → length new ≡ length bytes → IsPutting spots (i + 1) next new whole
+    → new ≡ put (get_or spots i d).at (take (get_or spots i d).size rest) bytes → next ≡ drop (get_or spots i d).hidden (drop (get_or spots i d).size rest) → length new ≡ length bytes → IsPutting spots (i + 1) next new whole
 unfolding put_all
 spot_put spots i d rest bytes whole next new lt is written moved same =
     let p = get_or spots i d in
     let e = rest_is spots i d lt in
-    let left : length rest ≡ wanted (p ∷ drop (i + 1) spots) = is.left ∙ ap wanted e in
     let room : AllIn (length bytes) (spot_windows (p ∷ drop (i + 1) spots)) = rw e at is.room in
-    let next_is : next ≡ drop p.hidden (drop p.size rest) = moved ∙ sym (drop-drop p.hidden p.size rest) in
     record {
-      done = ap (λ (xs : List ℕ). put_all (visible (drop (i + 1) spots) xs) new) next_is ∙ ap (put_all (visible (drop (i + 1) spots) (drop p.hidden (drop p.size rest)))) written
+      done = ap (λ (xs : List ℕ). put_all (visible (drop (i + 1) spots) xs) new) moved ∙ ap (put_all (visible (drop (i + 1) spots) (drop p.hidden (drop p.size rest)))) written
           ∙ sym (ap (λ (ps : List Spot). put_all (visible ps rest) bytes) e) ∙ is.done;
-      left = ap length moved ∙ length-drop (p.size + p.hidden) rest ∙ omega (arith, left);
       room = rw same room.1;
     }
 

@@ -1,5 +1,5 @@
 // A program's form, by its list, the bytes at its places and its conflicts.
-ghost use Rattle.std.specs.Prelude.{◌≡◌, ◌+◌, ◌≤◌, ◌<◌, ◌^◌, length, nat_lt, true, IfOk};
+ghost use Rattle.std.specs.Prelude.{◌≡◌, ◌+◌, ◌≤◌, ◌<◌, ◌^◌, ◌++◌, length, nat_lt, true, IfOk, OnOk};
 ghost use Rattle.pl_base.specs.Answers.{Answers, AnswersAs};
 ghost use Rattle.pl_lists.specs.Conflicts.{are_conflicts};
 ghost use Rattle.pl_lists.specs.Lists.{is_list, list_strings};
@@ -28,14 +28,13 @@ use std::alloc::{AllocError, Global};
 fn has_long_names(list: &[ListRow]) -> bool
     ensures { result ≡ nat_lt STORED (length (list_strings list.now)) }
 {
-    let mut size = 0usize;
+    let mut room = STORED;
     for row in list {
-        size = size
-            .saturating_add(row.name.as_str().len())
-            .saturating_add(1);
-        if size > STORED {
+        let size = row.name.as_str().len();
+        if size >= room {
             return true;
         }
+        room -= size + 1;
     }
     false
 }
@@ -78,7 +77,9 @@ fn are_too_long(lists: &Extension) -> bool
 fn find_last(segments: &[Segment]) -> Option<Last>
     ensures { result ≡ spec.find_last segments.now }
 {
-    for index in (0..segments.len()).rev() {
+    let mut index = segments.len();
+    while index > 0 {
+        index -= 1;
         let segment = segments[index];
         if segment.is_load() {
             return Some(Last { index, segment });
@@ -141,13 +142,20 @@ pub fn program_with(
     Ok(form)
 }
 
+/// Adds the bytes of a fill.
+fn push_fill(flat: &mut Vec<u8>, fill: &Fill) -> Result<(), AllocError>
+    ensures { OnOk result (flat.new.items ≡ flat.old.items ++ words.bytes_of fill.now) }
+{
+    flat.extend_from_slice(fill.bytes.as_slice())
+}
+
 /// The bytes of the fills, one after the other.
 fn flat_of(alloc: Global, fills: &[Fill]) -> Result<Vec<u8>, AllocError>
     ensures { IfOk result (λ v. v.items ≡ words.flat_of fills.now) }
 {
     let mut flat = Vec::new(alloc);
     for fill in fills {
-        flat.extend_from_slice(fill.bytes.as_slice())?;
+        push_fill(&mut flat, fill)?;
     }
     Ok(flat)
 }
