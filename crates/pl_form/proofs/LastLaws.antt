@@ -52,12 +52,13 @@ pub record IsSeeking (ss : List Segment) (i : ℕ) : Type 0 where
   pub within : i ≤ length ss
   pub none : list_any is_load (drop i ss) ≡ false
 
-pub seek_first : (ss : List Segment) → IsSeeking ss (length ss)
-seek_first ss = record { within = omega arith; none = ap (list_any is_load) (rest_none ss (length ss) (omega arith)) }
+pub seek_first : (ss : List Segment) (i : ℕ) → i ≡ length ss → IsSeeking ss i
+seek_first ss i is = record { within = omega (arith, is); none = ap (list_any is_load) (rest_none ss i (omega (arith, is))) }
 
-pub seek_next : (ss : List Segment) (i j : ℕ) (d : Segment) → IsSeeking ss i → i ≡ j + 1 → is_load (get_or ss j d) ≡ false → IsSeeking ss j
-seek_next ss i j d is same miss =
-    record { within = omega (arith, same, is.within); none = none_more ss j d (omega (arith, same, is.within)) miss (subst (λ (n : ℕ). list_any is_load (drop n ss) ≡ false) same is.none) }
+pub seek_next : (ss : List Segment) (i j k : ℕ) (d : Segment) → IsSeeking ss i → i ≡ j + 1 → j ≡ k → is_load (get_or ss j d) ≡ false → IsSeeking ss k
+seek_next ss i j k d is same to miss =
+    subst (λ (n : ℕ). IsSeeking ss n) to
+    (record { within = omega (arith, same, is.within); none = none_more ss j d (omega (arith, same, is.within)) miss (subst (λ (n : ℕ). list_any is_load (drop n ss) ≡ false) same is.none) })
 
 pub seek_found : (ss : List Segment) (i j : ℕ) (d : Segment) → IsSeeking ss i → i ≡ j + 1 → is_load (get_or ss j d) ≡ true → find_last ss ≡ Some (record { index = j; segment = get_or ss j d })
 seek_found ss i j d is same hit = last_is_here ss j d (omega (arith, same, is.within)) hit (subst (λ (n : ℕ). list_any is_load (drop n ss) ≡ false) same is.none)

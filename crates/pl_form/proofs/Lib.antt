@@ -30,3 +30,6 @@ pub mod LengthLaws
 pub mod ProgramLengthLaws
 pub mod PlanLaws
 pub mod ReadyLaws
+pub mod KeptLaws
+pub mod AlikeLaws
+pub mod FillLaws

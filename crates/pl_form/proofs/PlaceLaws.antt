@@ -1,10 +1,10 @@
 -- Loops over places, and over parts.
 use Rattle.std.proofs.Common.{◌≡◌, ℕ, suc, ◌+◌, ◌-◌, ◌*◌, ◌≤◌, ◌<◌, List, [], ◌∷◌, ◌++◌, length, get_or, drop, take, replicate, refl, sym, ap, ◌∙◌, append_assoc, arith, drop-cons, add-one}
-use Rattle.std.proofs.lemmas.List.{length-drop, drop-drop, drop_all, append-nil}
+use Rattle.std.proofs.lemmas.List.{length-take, drop_all, append-nil}
 use Rattle.pl_base.specs.Bytes.{part, put}
 use Rattle.pl_base.specs.Windows.{IsIn, AllIn, put_all, ◌⊕◌}
 use Rattle.pl_base.proofs.WindowLaws.{length-put}
-use Rattle.pl_parts.specs.Back.{spot_windows, wanted, visible, memory_of}
+use Rattle.pl_parts.specs.Back.{spot_windows, visible, memory_of}
 use Rattle.pl_parts.specs.Parts.{joined}
 use Rattle.pl_parts.specs.declared.parts.Spot.{Spot}
 
@@ -27,12 +27,13 @@ spot_here spots i d rest bytes whole lt is =
     room.0
 
 pub spot_put : (spots : List Spot) (i : ℕ) (d : Spot) (rest bytes whole next new : List ℕ) → i < length spots → IsPutting spots i rest bytes whole
-    → new ≡ put (get_or spots i d).at (take (get_or spots i d).size rest) bytes → next ≡ drop (get_or spots i d).hidden (drop (get_or spots i d).size rest) → length new ≡ length bytes → IsPutting spots (i + 1) next new whole
+    → new ≡ put (get_or spots i d).at (take (get_or spots i d).size rest) bytes → next ≡ drop (get_or spots i d).hidden (drop (get_or spots i d).size rest) → IsPutting spots (i + 1) next new whole
 unfolding put_all
-spot_put spots i d rest bytes whole next new lt is written moved same =
+spot_put spots i d rest bytes whole next new lt is written moved =
     let p = get_or spots i d in
     let e = rest_is spots i d lt in
     let room : AllIn (length bytes) (spot_windows (p ∷ drop (i + 1) spots)) = rw e at is.room in
+    let same : length new ≡ length bytes = ap length written ∙ length-put p.at (take p.size rest) bytes (omega (arith, room.0, length-take p.size rest)) in
     record {
       done = ap (λ (xs : List ℕ). put_all (visible (drop (i + 1) spots) xs) new) moved ∙ ap (put_all (visible (drop (i + 1) spots) (drop p.hidden (drop p.size rest)))) written
           ∙ sym (ap (λ (ps : List Spot). put_all (visible ps rest) bytes) e) ∙ is.done;

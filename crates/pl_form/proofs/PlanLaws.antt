@@ -2,6 +2,7 @@
 use Rattle.std.proofs.Common.{◌≡◌, ℕ, ◌+◌, ◌-◌, ◌*◌, ◌^◌, ◌<◌, ◌≤◌, false, List, [], ◌∷◌, ◌++◌, length, map, refl, sym, ap, ◌∙◌, arith}
 use Rattle.std.specs.List.{list_any}
 use Rattle.std.proofs.lemmas.List.{length-map}
+use Rattle.pl_base.specs.Windows.{within}
 use Rattle.pl_elf.specs.Clauses.{section_passes}
 use Rattle.pl_elf.specs.Headers.{header, sections, segments}
 use Rattle.pl_elf.specs.declared.header.Header.{Header}
@@ -11,12 +12,12 @@ use Rattle.pl_object.specs.Accepted.{HasHead}
 use Rattle.pl_object.specs.declared.object.Object.{Object}
 use Rattle.pl_parts.specs.Back.{wanted}
 use Rattle.pl_parts.specs.Parts as parts
-use Rattle.pl_parts.specs.Parts.{old_names, extension, whole_extension, program_plan, program_sections, program_segments, program_dynamic}
+use Rattle.pl_parts.specs.Parts.{old_names, extension, whole_extension, program_plan, program_sections, program_segments, program_dynamic, with_entries}
 use Rattle.pl_parts.specs.declared.constants.TheConstants.{LIBSTR_NAME, LIBLIST_NAME, CONFLICT_NAME}
 use Rattle.pl_parts.specs.declared.parts.Extension.{Extension}
 use Rattle.pl_parts.specs.declared.parts.Plan.{Plan}
 use Rattle.pl_form.specs.Extending as extending
-use Rattle.pl_form.specs.Extending.{IsShort, AreShort, IsExtended, split_segments, all_sections, new_sections}
+use Rattle.pl_form.specs.Extending.{IsShort, AreShort, IsExtended, split_segments, all_sections, new_sections, program_table}
 use Rattle.pl_form.specs.Faults.{cut_of}
 use Rattle.pl_form.specs.Originals.{original}
 use Rattle.pl_form.specs.declared.layout.Layout.{Layout}
@@ -31,7 +32,7 @@ block_small bytes x l last flat block e is filled short same = omega (arith, ap 
 
 -- the section header table
 sections_whole : (bytes : List ℕ) (x : Object) (l : Layout) (last : Last) (cut size : ℕ) (e : Extension) → HasHead bytes x → list_any (section_passes bytes) x.sections ≡ false → length bytes + size < 2 ^ 64
-    → all_sections bytes x.sections last.segment (record { cut = cut; size = size }) e ≡ program_sections (original bytes l) last.segment cut size e
+    → all_sections (length (old_names bytes)) x.sections last.segment (record { cut = cut; size = size }) e ≡ program_sections (original bytes l) last.segment cut size e
 unfolding program_sections
 sections_whole bytes x l last cut size e head low room =
     let f = map (extending.program_section (record { cut = cut; size = size }) last.segment) in
@@ -51,30 +52,38 @@ segments_whole bytes x l last cut size more head is room =
     ∙ ap (program_segments cut size more last.index) (sym same)
 
 -- what a plan is made of
-abbrev pub planned_of : ℕ → List ℕ → List Segment → List ℕ → List Section → List ℕ → Plan
-planned_of cut more segments dynamic sections names = record { slot = 0; cut = cut; more = more; segments = segments; dynamic = dynamic; parts = []; sections = sections; names = names }
+abbrev pub planned_of : ℕ → List ℕ → List Segment → List ℕ → List (List ℕ) → List Section → List ℕ → Plan
+planned_of cut more segments dynamic parts sections names = record { slot = 0; cut = cut; more = more; segments = segments; dynamic = dynamic; parts = parts; sections = sections; names = names }
 
-same_plan : (cut : ℕ) (m n d e s t : List ℕ) (ss ts : List Segment) (xs ys : List Section) → m ≡ n → ss ≡ ts → d ≡ e → xs ≡ ys → s ≡ t → planned_of cut m ss d xs s ≡ planned_of cut n ts e ys t
-same_plan cut m n d e s t ss ts xs ys a b f g h = rw (a, b, f, g, h) refl
+same_plan : (cut : ℕ) (m n d e s t : List ℕ) (ps : List (List ℕ)) (ss ts : List Segment) (xs ys : List Section) → m ≡ n → ss ≡ ts → d ≡ e → ps ≡ [] → xs ≡ ys → s ≡ t → planned_of cut m ss d ps xs s ≡ planned_of cut n ts e [] ys t
+same_plan cut m n d e s t ps ss ts xs ys a b f k g h = rw (a, b, f, k, g, h) refl
 
-pub plan_is : (bytes : List ℕ) (x : Object) (l : Layout) (last : Last) (flat block more dynamic names : List ℕ) (ss : List Segment) (xs : List Section) (e : Extension) → HasHead bytes x → length bytes + 100 < 2 ^ 32 → IsExtended bytes x l last → length flat ≡ wanted l.spots → AreShort e
-    → block ≡ extension last.segment l.spots flat e → more ≡ whole_extension block
-    → ss ≡ split_segments (record { cut = cut_of last.segment; size = length more }) (length block) last x.segments
-    → xs ≡ all_sections bytes x.sections last.segment (record { cut = cut_of last.segment; size = length more }) e
-    → dynamic ≡ program_dynamic (original bytes l) last.segment e → names ≡ LIBSTR_NAME ++ (LIBLIST_NAME ++ CONFLICT_NAME)
-    → planned_of (cut_of last.segment) more ss dynamic xs names ≡ program_plan (original bytes l) last.index last.segment flat e
+dynamic_is : (bytes : List ℕ) (l : Layout) (last : Last) (e : Extension) (table dynamic : List ℕ) → table ≡ within l.dynamic bytes → dynamic ≡ program_table last.segment e l.tags table → dynamic ≡ program_dynamic (original bytes l) last.segment e
+unfolding program_dynamic with_entries
+dynamic_is bytes l last e table dynamic is made = made ∙ ap (program_table last.segment e l.tags) is
+
+pub plan_is : (bytes : List ℕ) (x : Object) (l : Layout) (last : Last) (flat block more table dynamic names : List ℕ) (ps : List (List ℕ)) (ss : List Segment) (xs : List Section) (e : Extension) (size count told : ℕ) → HasHead bytes x → length bytes + 100 < 2 ^ 32 → IsExtended bytes x l last → length flat ≡ wanted l.spots
+    → AreShort e → block ≡ extension last.segment l.spots flat e → more ≡ whole_extension block → size ≡ length more → count ≡ length block → told ≡ length (old_names bytes)
+    → ss ≡ split_segments (record { cut = cut_of last.segment; size = size }) count last x.segments
+    → xs ≡ all_sections told x.sections last.segment (record { cut = cut_of last.segment; size = size }) e
+    → table ≡ within l.dynamic bytes → dynamic ≡ program_table last.segment e l.tags table → ps ≡ [] → names ≡ LIBSTR_NAME ++ (LIBLIST_NAME ++ CONFLICT_NAME)
+    → planned_of (cut_of last.segment) more ss dynamic ps xs names ≡ program_plan (original bytes l) last.index last.segment flat e
 unfolding program_plan
-plan_is bytes x l last flat block more dynamic names ss xs e head few is filled short b m segs secs dyn told =
+plan_is bytes x l last flat block more table dynamic names ps ss xs e size count told head few is filled short b m sized counted toldness segs secs t dyn none named =
     let cut = cut_of last.segment in
     let small = block_small bytes x l last flat block e is filled short b in
-    let room : length bytes + length more < 2 ^ 64 = omega (arith, few, small, ap length m, whole_short block) in
+    let room : length bytes + size < 2 ^ 64 = omega (arith, few, small, sized, ap length m, whole_short block) in
     let block_is : List ℕ = extension last.segment l.spots flat e in
     let more_is : more ≡ whole_extension block_is = m ∙ ap whole_extension b in
-    same_plan cut more (whole_extension block_is) dynamic (program_dynamic (original bytes l) last.segment e) names _ ss
-        (program_segments cut (length (whole_extension block_is)) (length block_is) last.index (segments bytes (header bytes))) xs (program_sections (original bytes l) last.segment cut (length (whole_extension block_is)) e)
-        more_is
-        (segs ∙ segments_whole bytes x l last cut (length more) (length block) head is room ∙ ap (λ (n : ℕ). program_segments cut n (length block) last.index (segments bytes (header bytes))) (ap length more_is)
-        ∙ ap (λ (n : ℕ). program_segments cut (length (whole_extension block_is)) n last.index (segments bytes (header bytes))) (ap length b))
-        dyn
-        (secs ∙ sections_whole bytes x l last cut (length more) e head is.sections room ∙ ap (λ (n : ℕ). program_sections (original bytes l) last.segment cut n e) (ap length more_is))
-        told
+    let size_is : size ≡ length (whole_extension block_is) = sized ∙ ap length more_is in
+    let count_is : count ≡ length block_is = counted ∙ ap length b in
+    same_plan cut more (whole_extension block_is) dynamic (program_dynamic (original bytes l) last.segment e) names (LIBSTR_NAME ++ (LIBLIST_NAME ++ CONFLICT_NAME)) ps ss
+    (program_segments cut (length (whole_extension block_is)) (length block_is) last.index (segments bytes (header bytes))) xs (program_sections (original bytes l) last.segment cut (length (whole_extension block_is)) e)
+    more_is
+    (segs ∙ segments_whole bytes x l last cut size count head is room ∙ ap (λ (n : ℕ). program_segments cut n count last.index (segments bytes (header bytes))) size_is
+    ∙ ap (λ (n : ℕ). program_segments cut (length (whole_extension block_is)) n last.index (segments bytes (header bytes))) count_is)
+    (dynamic_is bytes l last e table dynamic t dyn)
+    none
+    (secs ∙ ap (λ (n : ℕ). all_sections n x.sections last.segment (record { cut = cut; size = size }) e) toldness
+    ∙ sections_whole bytes x l last cut size e head is.sections room ∙ ap (λ (n : ℕ). program_sections (original bytes l) last.segment cut n e) size_is)
+    named

@@ -3,10 +3,11 @@ use Rattle.std.proofs.Common.{◌≡◌, ℕ, ◌+◌, ◌-◌, ◌*◌, ◌%◌
 use Rattle.std.specs.Prelude.{◌&&◌, ◌||◌, ◌==◌, not, nat_lt, nat_le}
 use Rattle.std.specs.List.{list_any}
 use Rattle.std.specs.Result.{is_ok}
-use Rattle.std.proofs.lemmas.Bool.{or_parts, leb-false, true≢false}
+use Rattle.std.proofs.lemmas.Bool.{or_parts, leb-false, ltb-false, true≢false}
 use Rattle.pl_base.proofs.AnswerLaws.{refuse_none}
 use Rattle.pl_base.proofs.WindowLaws.{all_in}
-use Rattle.pl_base.specs.Windows.{Window, AllIn, IsIn}
+use Rattle.pl_base.specs.Bytes.{word32}
+use Rattle.pl_base.specs.Windows.{Window, AllIn, IsIn, within}
 use Rattle.pl_base.specs.Strings.{has_end}
 use Rattle.pl_elf.specs.Clauses as elf
 use Rattle.pl_elf.specs.Clauses.{AreLoads, bad_load, section_passes, segment_passes}
@@ -18,6 +19,15 @@ use Rattle.pl_elf.specs.declared.header.Header.{Header}
 use Rattle.pl_elf.specs.declared.section.Section.{Section}
 use Rattle.pl_elf.specs.declared.segment.Segment.{Segment}
 use Rattle.pl_elf.proofs.AcceptedLaws.{load_fits}
+use Rattle.pl_dyn.specs.Entries.{tags}
+use Rattle.pl_lists.specs.Conflicts.{conflicts_bytes}
+use Rattle.pl_lists.specs.Lists.{list_strings, list_bytes}
+use Rattle.pl_lists.specs.declared.conflict_row.ConflictRow.{ConflictRow}
+use Rattle.pl_lists.specs.declared.list_row.ListRow.{ListRow}
+use Rattle.sha2.specs.Sha256.{sha256}
+use Rattle.pl_object.specs.FilePart.{file_window, loaded}
+use Rattle.pl_object.specs.Named as named
+use Rattle.pl_object.specs.Tables.{dynamic_memory, strings_memory}
 use Rattle.pl_object.specs.Accepted.{HasHead, Accepted}
 use Rattle.pl_object.specs.PlaceClauses.{last_load}
 use Rattle.pl_object.specs.Reads.{reads}
@@ -25,7 +35,7 @@ use Rattle.pl_object.specs.declared.object.Object.{Object}
 use Rattle.pl_object.proofs.AcceptedLaws.{read_holds, accepted}
 use Rattle.pl_parts.proofs.AcceptedIs.{segments_are}
 use Rattle.pl_parts.proofs.FinalTheorem.{inside, library_conditions, program_conditions}
-use Rattle.pl_parts.proofs.KindLaws.{segment_count, library_fits, program_fits}
+use Rattle.pl_parts.proofs.KindLaws.{segment_count, section_count, library_fits, program_fits}
 use Rattle.pl_parts.proofs.LoadFacts.{last_is}
 use Rattle.pl_parts.proofs.PlaceLaws.{none_of_loads, not_any_at}
 use Rattle.pl_parts.proofs.ReaderLaws.{readable}
@@ -44,10 +54,14 @@ use Rattle.pl_parts.specs.declared.parts.Plan.{Plan}
 use Rattle.pl_parts.specs.declared.parts.Spot.{Spot}
 use Rattle.pl_form.specs.Extending.{IsShort, HasNames, IsExtended}
 use Rattle.pl_form.specs.Faults.{IsFirm}
+use Rattle.pl_form.specs.Library.{IsMovable, library_with}
 use Rattle.pl_form.specs.Originals.{original}
-use Rattle.pl_form.specs.Program.{last_index, with_index, find_last}
+use Rattle.pl_form.specs.Program.{last_index, with_index, find_last, extended, extended_at}
+use Rattle.pl_form.specs.Words.{kept_digest, digest_in, listed, checksum_of, strings_of, extension_of}
 use Rattle.pl_form.specs.declared.layout.Layout.{Layout}
 use Rattle.pl_form.specs.declared.program.Last.{Last}
+use Rattle.pl_form.specs.declared.version.Version.{Version}
+use Rattle.pl_form.specs.declared.version.Version.TheVariants.{One, Two}
 use Rattle.pl_form.proofs.FirmLaws.{library_spare, program_spare, last_found, program_untorn}
 use Rattle.pl_form.proofs.FormOf.{forms_library, forms_program}
 use Rattle.pl_form.proofs.LengthLaws.{accepted_small, original_accepted, library_short}
@@ -62,6 +76,7 @@ tests bytes = (
     ∷ (elf.bad_section bytes (header bytes) (sections bytes (header bytes)), fault.BadSection) ∷ (elf.no_sections (header bytes), fault.NoSections) ∷ [])
 
 record HasRows (bytes : List ℕ) : Type 0 where
+  few : (header bytes).shnum ≤ 65000
   sections : list_any (section_passes bytes) (sections bytes (header bytes)) ≡ false
   names : (header bytes).shstrndx < (header bytes).shnum
 
@@ -69,6 +84,16 @@ index_by : (count index : ℕ) (a b d : Bool) → (not (count == 0) && (a || b |
 index_by count index a b d e some =
     let p = or_parts (a || b || nat_le count index) d (rw some at e) in
     leb-false count index (or_parts (a || b) (nat_le count index) p.0).1
+
+few_by : (count : ℕ) (a c d : Bool) → (not (count == 0) && (a || nat_lt 65000 count || c || d)) ≡ false → (count == 0) ≡ false → count ≤ 65000
+few_by count a c d e some =
+    let p = or_parts (a || nat_lt 65000 count || c) d (rw some at e) in
+    let q = or_parts (a || nat_lt 65000 count) c p.0 in
+    ltb-false 65000 count (or_parts a (nat_lt 65000 count) q.0).1
+
+few_of : (bytes : List ℕ) (h : Header) (ss : List Section) → elf.bad_section bytes h ss ≡ false → (h.shnum == 0) ≡ false → h.shnum ≤ 65000
+unfolding elf.bad_section
+few_of bytes h ss e some = few_by h.shnum (not (h.shentsize == 64)) (nat_le h.shnum h.shstrndx) (list_any (λ s. not (has_end s.name (elf.names bytes h))) ss) e some
 
 index_of : (bytes : List ℕ) (h : Header) (ss : List Section) → elf.bad_section bytes h ss ≡ false → (h.shnum == 0) ≡ false → h.shstrndx < h.shnum
 unfolding elf.bad_section
@@ -91,7 +116,7 @@ rows_read bytes h e =
     let p6 = or_parts (elf.bad_segment (header bytes) (segments bytes (header bytes))) _ p5.1 in
     let p7 = or_parts (elf.bad_section bytes (header bytes) (sections bytes (header bytes))) _ p6.1 in
     let p8 = or_parts (elf.no_sections (header bytes)) _ p7.1 in
-    record { sections = whole_sections bytes (header bytes) p5.0; names = index_of bytes (header bytes) (sections bytes (header bytes)) p7.0 p8.0 }
+    record { few = few_of bytes (header bytes) (sections bytes (header bytes)) p7.0 p8.0; sections = whole_sections bytes (header bytes) p5.0; names = index_of bytes (header bytes) (sections bytes (header bytes)) p7.0 p8.0 }
 
 has_rows : (o : List ℕ) (x : Object) → reads o ≡ Ok x → HasRows o
 has_rows o x e = read_holds (λ (y : Object). HasRows o) o (λ h s. rows_read o h s.read) (λ h d l is. rows_read o h is.read) x e
@@ -106,6 +131,12 @@ sections_pass : (o : List ℕ) (x : Object) → reads o ≡ Ok x → list_any (s
 sections_pass o x e =
     let head = (accepted o x e).head in
     subst (λ (ss : List Section). list_any (section_passes o) ss ≡ false) (ap (sections o) head.header ∙ head.sections) (has_rows o x e).sections
+
+pub rows_ready : (o : List ℕ) (x : Object) → reads o ≡ Ok x → length x.sections < 2 ^ 16
+rows_ready o x e =
+    let head = (accepted o x e).head in
+    let same : sections o (header o) ≡ x.sections = ap (sections o) head.header ∙ head.sections in
+    omega (arith, ap length same, section_count o (header o), (has_rows o x e).few)
 
 -- ---- every original with its layout
 
@@ -135,8 +166,14 @@ spare_by o l more same le =
     let d : l.dynamic.size ≡ (d_of o).size = ap (λ (a : Original). a.dynamic.size) same in
     omega (arith, t, d, le)
 
-pub library_room : (o : List ℕ) (x : Object) (l : Layout) → IsFirm o x → is_library x.kind ≡ true → original o l ≡ original_of o → 16 * l.tags + 32 ≤ l.dynamic.size
-library_room o x l firm library same = spare_by o l 32 same (library_spare o x firm library)
+pub movable_ready : (o : List ℕ) (x : Object) (l : Layout) → IsFirm o x → is_library x.kind ≡ true → original o l ≡ original_of o → IsMovable o x l
+movable_ready o x l firm library same =
+    let r = ready o x l firm same in
+    record { few = r.few; rows = rows_ready o x firm.accepted; names = r.names; dynamic = r.dynamic; spare = spare_by o l 32 same (library_spare o x firm library) }
+
+pub digest_ready : (version : Version) (digest : List ℕ) → length digest ≡ 32 → IsDigest (kept_digest version digest)
+digest_ready One digest n = tt
+digest_ready Two digest n = n
 
 -- ---- a library
 
@@ -221,6 +258,7 @@ extended_ready o x l last firm program same is =
       is = λ d. ap (λ (xs : List Segment). get_or xs last.index d) ss ∙ ap (λ (i : ℕ). get_or (ss_of o) i d) is.index ∙ found.1 d;
       files = (acc.tabled firm.dynamic).files;
       sections = sections_pass o x firm.accepted;
+      rows = rows_ready o x firm.accepted;
       names = r.names;
       dynamic = r.dynamic;
       spare = spare_by o l 64 same (program_spare o x firm program);
@@ -236,7 +274,7 @@ program_fit o x l last e p flat undo digest firm program same at plan written fi
     let q = program_plan a i last.segment flat e in
     let f = forms_program o x last.segment e flat digest firm program at.at filled size (program_short o x last.segment e flat digest firm at.at (short_ready o x last.segment firm program at.at) filled size lists) in
     let is = program_conditions o x i last.segment e flat digest f in
-    let base : Fits q a flat (length (undo_part q a digest)) = program_fits a i last.segment flat e (length (undo_part q a digest)) (taken o is.accepted is.few) is.program is.spare is.flat_size is.small in
+    let base : Fits q a flat (length (undo_part q a digest)) = program_fits a i last.segment e flat (length (undo_part q a digest)) (taken o is.accepted is.few) is.program is.spare is.flat_size is.small in
     let p_is : p ≡ q = plan ∙ ap (λ (b : Original). program_plan b last.index last.segment flat e) same ∙ ap (λ (n : ℕ). program_plan a n last.segment flat e) at.index in
     let u_is : undo ≡ undo_part q a digest = written ∙ ap (λ (r : Plan). undo_part r (original o l) digest) p_is ∙ ap (λ (b : Original). undo_part q b digest) same in
     subst (λ (r : Plan). Fits r (original o l) flat (length undo)) (sym p_is) (subst (λ (b : Original). Fits q b flat (length undo)) (sym same) (subst (λ (u : List ℕ). Fits q a flat (length u)) (sym u_is) base))
@@ -250,3 +288,48 @@ program_whole o l last e p flat undo digest same at plan written =
     ∙ ap (λ (r : Plan). form r (original o l) flat (undo_part r (original o l) digest)) plan
     ∙ ap (λ (b : Original). form (program_plan b last.index last.segment flat e) b flat (undo_part (program_plan b last.index last.segment flat e) b digest)) same
     ∙ ap (λ (n : ℕ). form (program_plan (original_of o) n last.segment flat e) (original_of o) flat (undo_part (program_plan (original_of o) n last.segment flat e) (original_of o) digest)) at.index
+
+-- ---- what the code of a program answers
+
+none_by : (ss : List Segment) (found : Option Segment) → with_index ss found ≡ None → found ≡ None
+none_by ss None e = refl
+none_by ss (Some s) e = absurd cc
+
+pub extended_none : (o : List ℕ) (x : Object) (e : Extension) (flat : List ℕ) (version : Version) → IsFirm o x → find_last x.segments ≡ None → extended o e flat version ≡ []
+unfolding extended
+extended_none o x e flat version firm none =
+    let same = segments_are o x (accepted o x firm.accepted) in
+    let at : last_load (ss_of o) ≡ None = none_by (ss_of o) (last_load (ss_of o)) (subst (λ (ss : List Segment). find_last ss ≡ None) same none) in
+    ap (λ (found : Option Segment). extended_at o found e flat version) at
+
+pub extended_some : (o : List ℕ) (last : Last) (e : Extension) (flat : List ℕ) (version : Version) → IsLastOf o last
+    → forms.program_form (original_of o) (last_index (ss_of o)) last.segment e flat (digest_in version o) ≡ extended o e flat version
+unfolding extended
+extended_some o last e flat version is = sym (ap (λ (found : Option Segment). extended_at o found e flat version) is.at)
+
+-- ---- what the code of a library answers
+
+pub library_with_is : (o : List ℕ) (slot stamp checksum : ℕ) (l : Listed) (list : List ListRow) (flat digest : List ℕ) (version : Version) (kept : Option (List ℕ)) → digest ≡ sha256 o → checksum ≡ word32 0 digest → l ≡ listed list → kept ≡ kept_digest version digest
+    → forms.library_form (original_of o) slot stamp checksum l flat kept ≡ library_with o slot stamp list flat version
+unfolding library_with
+library_with_is o slot stamp checksum l list flat digest version kept a b e k =
+    let sum : checksum ≡ checksum_of o = b ∙ ap (word32 0) a in
+    let rest : kept ≡ digest_in version o = k ∙ ap (kept_digest version) a in
+    ap (λ (n : ℕ). forms.library_form (original_of o) slot stamp n l flat kept) sum
+    ∙ ap (λ (m : Listed). forms.library_form (original_of o) slot stamp (checksum_of o) m flat kept) e
+    ∙ ap (forms.library_form (original_of o) slot stamp (checksum_of o) (listed list) flat) rest
+
+-- ---- the strings of a program
+
+strings_ready : (o : List ℕ) (x : Object) → IsFirm o x → named.strings_of x ≡ file_window (ss_of o) (strings_memory (tags_of o))
+unfolding loaded
+strings_ready o x firm =
+    let acc = accepted o x firm.accepted in
+    (acc.tabled firm.dynamic).named.strings
+    ∙ ap (λ (ss : List Segment). file_window ss (strings_memory (tags (within (file_window ss (dynamic_memory ss)) o)))) (segments_are o x acc)
+
+pub extension_is : (o : List ℕ) (x : Object) (list : List ListRow) (conflicts : List ConflictRow) (w : Window) (before strings rows table : List ℕ) → IsFirm o x → w ≡ named.strings_of x → before ≡ within w o → strings ≡ before ++ list_strings list
+    → rows ≡ list_bytes (length before) list → table ≡ conflicts_bytes conflicts → record { strings = strings; rows = rows; conflicts = table } ≡ extension_of o list conflicts
+extension_is o x list conflicts w before strings rows table firm a b d e f =
+    let old : before ≡ strings_of o = b ∙ ap (λ (v : Window). within v o) (a ∙ strings_ready o x firm) in
+    rw (d, e, f, old) refl

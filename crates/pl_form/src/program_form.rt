@@ -77,9 +77,8 @@ fn are_too_long(lists: &Extension) -> bool
 fn find_last(segments: &[Segment]) -> Option<Last>
     ensures { result ≡ spec.find_last segments.now }
 {
-    let mut index = segments.len();
-    while index > 0 {
-        index -= 1;
+    for past in 0..segments.len() {
+        let index = segments.len() - 1 - past;
         let segment = segments[index];
         if segment.is_load() {
             return Some(Last { index, segment });
@@ -107,9 +106,11 @@ fn extended(
     };
     let layout = layout_of(alloc, original, object)?;
     let plan = program_plan(alloc, original, object, &layout, &last, flat, lists)?;
-    let digest = kept_digest(version, digest_of(original));
-    let undo = undo_part(alloc, original, &layout, &plan, digest)?;
-    Ok(write_form(alloc, original, &layout, &plan, flat, &undo)?)
+    let digest = digest_of(original);
+    let kept = kept_digest(version, digest);
+    let undo = undo_part(alloc, original, &layout, &plan, kept)?;
+    let form = write_form(alloc, original, &layout, &plan, flat, &undo)?;
+    Ok(form)
 }
 
 /// The form of an accepted program with these bytes at its places, one place after the other in the order of the relocations.
@@ -179,5 +180,6 @@ pub fn form_program(
     ensures { AnswersAs (λ v. v.items) fault_spec.is_memory result (spec.stored (spec.program_form original.now list.now fills.now conflicts.now version)) }
 {
     let flat = flat_of(alloc, fills)?;
-    program_with(alloc, original, object, list, &flat, conflicts, version)
+    let form = program_with(alloc, original, object, list, &flat, conflicts, version)?;
+    Ok(form)
 }
