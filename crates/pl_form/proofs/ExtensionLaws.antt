@@ -1,13 +1,16 @@
 -- The extension of a program: the zeros with the bytes of places, and addresses that do not wrap.
-use Rattle.std.proofs.Common.{◌≡◌, ℕ, suc, ◌+◌, ◌-◌, ◌*◌, ◌/◌, ◌≤◌, ◌<◌, List, [], ◌∷◌, ◌++◌, length, get_or, drop, take, refl, sym, ap, ◌∙◌, arith}
-use Rattle.std.proofs.lemmas.List.{length-drop, drop-drop}
+use Rattle.std.proofs.Common.{◌≡◌, ℕ, suc, ◌+◌, ◌-◌, ◌*◌, ◌/◌, ◌^◌, ◌≤◌, ◌<◌, List, [], ◌∷◌, ◌++◌, length, get_or, drop, take, refl, sym, ap, ◌∙◌, arith}
+use Rattle.std.proofs.lemmas.List.{length-take}
 use Rattle.pl_base.specs.Bytes.{put}
 use Rattle.pl_base.specs.Sums.{round_up}
 use Rattle.pl_base.specs.Windows.{AllIn, put_all}
-use Rattle.pl_parts.specs.Back.{wanted}
+use Rattle.pl_base.proofs.WindowLaws.{length-put}
 use Rattle.pl_parts.specs.Loads.{hidden_windows}
-use Rattle.pl_parts.specs.Parts.{hidden, up}
+use Rattle.pl_elf.specs.declared.segment.Segment.{Segment}
+use Rattle.pl_parts.specs.Parts.{hidden, up, extension_at, rows_at, conflicts_at}
+use Rattle.pl_parts.specs.declared.parts.Extension.{Extension}
 use Rattle.pl_parts.specs.declared.parts.Spot.{Spot}
+use Rattle.pl_form.specs.Extending.{IsShort, AreShort}
 use Rattle.pl_form.proofs.PlaceLaws.{rest_is, rest_none}
 
 -- ---- addresses
@@ -19,39 +22,51 @@ round_near n = (omega arith, omega arith)
 pub up_near : (n : ℕ) → (n ≤ up n) × (up n ≤ n + 7)
 up_near n = (omega arith, omega arith)
 
+-- an address behind the beginning of a segment
+pub record IsAbove (last : Segment) (address : ℕ) : Type 0 where
+  pub from : last.vaddr ≤ address
+  pub below : address < 2 ^ 48
+
+pub at_near : (last : Segment) → IsShort last → IsAbove last (extension_at last)
+at_near last short = let n = round_near (last.vaddr + last.memsz) in record { from = omega (arith, n.0); below = omega (arith, n.1, short.memory) }
+
+pub rows_near : (last : Segment) (e : Extension) → IsShort last → AreShort e → IsAbove last (rows_at last e)
+rows_near last e short lists =
+    let n = round_near (last.vaddr + last.memsz) in
+    let m = up_near (length e.strings) in
+    record { from = omega (arith, n.0); below = omega (arith, n.1, m.1, short.memory, lists) }
+
+pub conflicts_near : (last : Segment) (e : Extension) → IsShort last → AreShort e → IsAbove last (conflicts_at last e)
+conflicts_near last e short lists =
+    let n = round_near (last.vaddr + last.memsz) in
+    let m = up_near (length e.strings) in
+    let k = up_near (up (length e.strings) + length e.rows) in
+    record { from = omega (arith, n.0); below = omega (arith, n.1, m.1, k.1, short.memory, lists) }
+
 -- ---- zeros
 
 -- what a loop that puts bytes into the zeros keeps
 pub record IsHiding (spots : List Spot) (i : ℕ) (rest bytes whole : List ℕ) : Type 0 where
   pub done : put_all (hidden (drop i spots) rest) bytes ≡ whole
-  pub left : length rest ≡ wanted (drop i spots)
   pub room : AllIn (length bytes) (hidden_windows (drop i spots))
 
--- the place that is read lies in the zeros, and there are bytes for it
-pub record HasHidden (p : Spot) (rest bytes : List ℕ) : Type 0 where
-  pub room : p.behind + p.hidden ≤ length bytes
-  pub enough : p.size + p.hidden ≤ length rest
-
-pub hidden_here : (spots : List Spot) (i : ℕ) (d : Spot) (rest bytes whole : List ℕ) → i < length spots → IsHiding spots i rest bytes whole → HasHidden (get_or spots i d) rest bytes
+-- the place that is read lies in the zeros
+pub hidden_here : (spots : List Spot) (i : ℕ) (d : Spot) (rest bytes whole : List ℕ) → i < length spots → IsHiding spots i rest bytes whole → (get_or spots i d).behind + (get_or spots i d).hidden ≤ length bytes
 hidden_here spots i d rest bytes whole lt is =
-    let e = rest_is spots i d lt in
-    let left : length rest ≡ wanted (get_or spots i d ∷ drop (i + 1) spots) = is.left ∙ ap wanted e in
-    let room : AllIn (length bytes) (hidden_windows (get_or spots i d ∷ drop (i + 1) spots)) = rw e at is.room in
-    record { room = room.0; enough = omega (arith, left) }
+    let room : AllIn (length bytes) (hidden_windows (get_or spots i d ∷ drop (i + 1) spots)) = rw (rest_is spots i d lt) at is.room in
+    room.0
 
 pub hidden_put : (spots : List Spot) (i : ℕ) (d : Spot) (rest bytes whole next new : List ℕ) → i < length spots → IsHiding spots i rest bytes whole
-    → new ≡ put (get_or spots i d).behind (take (get_or spots i d).hidden (drop (get_or spots i d).size rest)) bytes → next ≡ drop ((get_or spots i d).size + (get_or spots i d).hidden) rest → length new ≡ length bytes → IsHiding spots (i + 1) next new whole
+    → new ≡ put (get_or spots i d).behind (take (get_or spots i d).hidden (drop (get_or spots i d).size rest)) bytes → next ≡ drop (get_or spots i d).hidden (drop (get_or spots i d).size rest) → IsHiding spots (i + 1) next new whole
 unfolding put_all
-hidden_put spots i d rest bytes whole next new lt is written moved same =
+hidden_put spots i d rest bytes whole next new lt is written moved =
     let p = get_or spots i d in
     let e = rest_is spots i d lt in
-    let left : length rest ≡ wanted (p ∷ drop (i + 1) spots) = is.left ∙ ap wanted e in
     let room : AllIn (length bytes) (hidden_windows (p ∷ drop (i + 1) spots)) = rw e at is.room in
-    let next_is : next ≡ drop p.hidden (drop p.size rest) = moved ∙ sym (drop-drop p.hidden p.size rest) in
+    let same : length new ≡ length bytes = ap length written ∙ length-put p.behind (take p.hidden (drop p.size rest)) bytes (omega (arith, room.0, length-take p.hidden (drop p.size rest))) in
     record {
-      done = ap (λ (xs : List ℕ). put_all (hidden (drop (i + 1) spots) xs) new) next_is ∙ ap (put_all (hidden (drop (i + 1) spots) (drop p.hidden (drop p.size rest)))) written
+      done = ap (λ (xs : List ℕ). put_all (hidden (drop (i + 1) spots) xs) new) moved ∙ ap (put_all (hidden (drop (i + 1) spots) (drop p.hidden (drop p.size rest)))) written
           ∙ sym (ap (λ (ps : List Spot). put_all (hidden ps rest) bytes) e) ∙ is.done;
-      left = ap length moved ∙ length-drop (p.size + p.hidden) rest ∙ omega (arith, left);
       room = rw same room.1;
     }
 

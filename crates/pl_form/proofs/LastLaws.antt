@@ -1,5 +1,5 @@
 -- The last PT_LOAD, found from the last segment on.
-use Rattle.std.proofs.Common.{◌≡◌, ℕ, zero, suc, ◌+◌, ◌≤◌, ◌<◌, Bool, true, false, List, [], ◌∷◌, length, get_or, drop, Option, Some, None, refl, sym, ap, ◌∙◌, arith, inl, inr, add-one}
+use Rattle.std.proofs.Common.{◌≡◌, ℕ, zero, suc, ◌+◌, ◌≤◌, ◌<◌, Bool, true, false, List, [], ◌∷◌, length, get_or, drop, Option, Some, None, refl, sym, ap, subst, ◌∙◌, arith, inl, inr, add-one}
 use Rattle.std.specs.Prelude.{◌||◌, fold, if◌then◌else◌}
 use Rattle.std.specs.List.{list_any}
 use Rattle.std.proofs.lemmas.Bool.{cases_Bool, or_parts, or_from, true≢false}
@@ -8,7 +8,7 @@ use Rattle.pl_elf.specs.declared.segment.Segment.{Segment}
 use Rattle.pl_object.specs.PlaceClauses.{last_load}
 use Rattle.pl_form.specs.Program.{last_index, with_index, find_last}
 use Rattle.pl_form.specs.declared.program.Last.{Last}
-use Rattle.pl_form.proofs.PlaceLaws.{rest_is}
+use Rattle.pl_form.proofs.PlaceLaws.{rest_is, rest_none}
 use Rattle.pl_form.proofs.FirmLaws.{latest, fold_found}
 
 -- no PT_LOAD from an index on
@@ -44,3 +44,24 @@ unfolding last_load
 last_is_here ss i d lt hit rest =
     let r = here ss i d lt hit (ap (λ (n : ℕ). list_any is_load (drop n ss)) (sym (add-one i)) ∙ rest) in
     ap (with_index ss) r.1 ∙ ap (λ (n : ℕ). Some (record { index = n; segment = get_or ss i d })) r.0
+
+-- ---- a loop from the last segment on
+
+-- there is none from an index on
+pub record IsSeeking (ss : List Segment) (i : ℕ) : Type 0 where
+  pub within : i ≤ length ss
+  pub none : list_any is_load (drop i ss) ≡ false
+
+pub seek_first : (ss : List Segment) (i : ℕ) → i ≡ length ss → IsSeeking ss i
+seek_first ss i is = record { within = omega (arith, is); none = ap (list_any is_load) (rest_none ss i (omega (arith, is))) }
+
+pub seek_next : (ss : List Segment) (i j k : ℕ) (d : Segment) → IsSeeking ss i → i ≡ j + 1 → j ≡ k → is_load (get_or ss j d) ≡ false → IsSeeking ss k
+seek_next ss i j k d is same to miss =
+    subst (λ (n : ℕ). IsSeeking ss n) to
+    (record { within = omega (arith, same, is.within); none = none_more ss j d (omega (arith, same, is.within)) miss (subst (λ (n : ℕ). list_any is_load (drop n ss) ≡ false) same is.none) })
+
+pub seek_found : (ss : List Segment) (i j : ℕ) (d : Segment) → IsSeeking ss i → i ≡ j + 1 → is_load (get_or ss j d) ≡ true → find_last ss ≡ Some (record { index = j; segment = get_or ss j d })
+seek_found ss i j d is same hit = last_is_here ss j d (omega (arith, same, is.within)) hit (subst (λ (n : ℕ). list_any is_load (drop n ss) ≡ false) same is.none)
+
+pub seek_none : (ss : List Segment) (i : ℕ) → IsSeeking ss i → i ≡ 0 → find_last ss ≡ None
+seek_none ss i is same = none_at_all ss (subst (λ (n : ℕ). list_any is_load (drop n ss) ≡ false) same is.none)

@@ -22,7 +22,7 @@ use Rattle.pl_parts.specs.Forms.{original_of}
 use Rattle.pl_parts.specs.Loads.{spots_of}
 use Rattle.pl_parts.specs.Parts.{Original}
 use Rattle.pl_parts.specs.declared.parts.Spot.{Spot}
-use Rattle.pl_form.specs.Words.{filled, all_filled}
+use Rattle.pl_form.specs.Words.{filled, all_filled, word_at}
 use Rattle.pl_form.specs.Originals.{original}
 use Rattle.pl_form.specs.declared.layout.Layout.{Layout}
 use Rattle.pl_form.proofs.PlaceLaws.{rest_is, rest_none}
@@ -59,8 +59,18 @@ layout_is o x l ts rows head is =
 -- ---- the bytes at places, one place more
 
 -- the word at an index, if there is one
-abbrev pub word_at : List (Option ℕ) → ℕ → Option ℕ
-word_at words i = unwrap_or (slice_get words i) None
+-- the place at an index lies in the file
+pub spot_in : (n : ℕ) (ps : List Spot) (i : ℕ) (d : Spot) → AllIn n (spot_windows ps) → i < length ps → (get_or ps i d).at + (get_or ps i d).size ≤ n
+spot_in n [] i d fits lt = absurd (omega (arith, lt))
+spot_in n (p ∷ ps) zero d fits lt = fits.0
+spot_in n (p ∷ ps) (suc i) d fits lt = spot_in n ps i d fits.1 (omega (arith, lt))
+
+pub filled_is : (o : List ℕ) (p : Spot) (word : ℕ) (out one two three : List ℕ) → one ≡ out ++ take p.size (bytes64 word) → two ≡ one ++ part (p.at + 8) (p.size - 8) o → three ≡ two ++ replicate p.hidden 0 → three ≡ out ++ filled o p (Some word)
+filled_is o p word out one two three a b e =
+    let x : List ℕ = take p.size (bytes64 word) in
+    let y : List ℕ = part (p.at + 8) (p.size - 8) o in
+    let z : List ℕ = replicate p.hidden 0 in
+    e ∙ ap (λ (xs : List ℕ). xs ++ z) (b ∙ ap (λ (xs : List ℕ). xs ++ y) a ∙ append_assoc out x y) ∙ append_assoc out (x ++ y) z
 
 word_next : (o : List ℕ) (p : Spot) (ps : List Spot) (words : List (Option ℕ)) (i : ℕ) → all_filled o (p ∷ ps) (drop i words) ≡ filled o p (word_at words i) ++ all_filled o ps (drop (suc i) words)
 word_next o p ps [] zero = refl

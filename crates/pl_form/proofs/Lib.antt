@@ -31,3 +31,8 @@ pub mod LastLaws
 pub mod NameLaws
 pub mod LengthLaws
 pub mod ProgramLengthLaws
+pub mod PlanLaws
+pub mod ReadyLaws
+pub mod KeptLaws
+pub mod AlikeLaws
+pub mod FillLaws

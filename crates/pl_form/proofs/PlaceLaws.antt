@@ -1,10 +1,10 @@
 -- Loops over places, and over parts.
 use Rattle.std.proofs.Common.{◌≡◌, ℕ, suc, ◌+◌, ◌-◌, ◌*◌, ◌≤◌, ◌<◌, List, [], ◌∷◌, ◌++◌, length, get_or, drop, take, replicate, refl, sym, ap, ◌∙◌, append_assoc, arith, drop-cons, add-one}
-use Rattle.std.proofs.lemmas.List.{length-drop, drop-drop, drop_all, append-nil}
+use Rattle.std.proofs.lemmas.List.{length-take, drop_all, append-nil}
 use Rattle.pl_base.specs.Bytes.{part, put}
 use Rattle.pl_base.specs.Windows.{IsIn, AllIn, put_all, ◌⊕◌}
 use Rattle.pl_base.proofs.WindowLaws.{length-put}
-use Rattle.pl_parts.specs.Back.{spot_windows, wanted, visible, memory_of}
+use Rattle.pl_parts.specs.Back.{spot_windows, visible, memory_of}
 use Rattle.pl_parts.specs.Parts.{joined}
 use Rattle.pl_parts.specs.declared.parts.Spot.{Spot}
 
@@ -18,34 +18,25 @@ rest_none xs i le = drop_all i xs le
 -- what a loop that puts bytes at places keeps
 pub record IsPutting (spots : List Spot) (i : ℕ) (rest bytes whole : List ℕ) : Type 0 where
   pub done : put_all (visible (drop i spots) rest) bytes ≡ whole
-  pub left : length rest ≡ wanted (drop i spots)
   pub room : AllIn (length bytes) (spot_windows (drop i spots))
 
--- the place that is read lies in the bytes, and there are bytes for it
-pub record HasSpot (p : Spot) (rest bytes : List ℕ) : Type 0 where
-  pub room : p.at + p.size ≤ length bytes
-  pub enough : p.size + p.hidden ≤ length rest
-
-pub spot_here : (spots : List Spot) (i : ℕ) (d : Spot) (rest bytes whole : List ℕ) → i < length spots → IsPutting spots i rest bytes whole → HasSpot (get_or spots i d) rest bytes
+-- the place that is read lies in the bytes
+pub spot_here : (spots : List Spot) (i : ℕ) (d : Spot) (rest bytes whole : List ℕ) → i < length spots → IsPutting spots i rest bytes whole → (get_or spots i d).at + (get_or spots i d).size ≤ length bytes
 spot_here spots i d rest bytes whole lt is =
-    let e = rest_is spots i d lt in
-    let left : length rest ≡ wanted (get_or spots i d ∷ drop (i + 1) spots) = is.left ∙ ap wanted e in
-    let room : AllIn (length bytes) (spot_windows (get_or spots i d ∷ drop (i + 1) spots)) = rw e at is.room in
-    record { room = room.0; enough = omega (arith, left) }
+    let room : AllIn (length bytes) (spot_windows (get_or spots i d ∷ drop (i + 1) spots)) = rw (rest_is spots i d lt) at is.room in
+    room.0
 
 pub spot_put : (spots : List Spot) (i : ℕ) (d : Spot) (rest bytes whole next new : List ℕ) → i < length spots → IsPutting spots i rest bytes whole
-    → new ≡ put (get_or spots i d).at (take (get_or spots i d).size rest) bytes → next ≡ drop ((get_or spots i d).size + (get_or spots i d).hidden) rest → length new ≡ length bytes → IsPutting spots (i + 1) next new whole
+    → new ≡ put (get_or spots i d).at (take (get_or spots i d).size rest) bytes → next ≡ drop (get_or spots i d).hidden (drop (get_or spots i d).size rest) → IsPutting spots (i + 1) next new whole
 unfolding put_all
-spot_put spots i d rest bytes whole next new lt is written moved same =
+spot_put spots i d rest bytes whole next new lt is written moved =
     let p = get_or spots i d in
     let e = rest_is spots i d lt in
-    let left : length rest ≡ wanted (p ∷ drop (i + 1) spots) = is.left ∙ ap wanted e in
     let room : AllIn (length bytes) (spot_windows (p ∷ drop (i + 1) spots)) = rw e at is.room in
-    let next_is : next ≡ drop p.hidden (drop p.size rest) = moved ∙ sym (drop-drop p.hidden p.size rest) in
+    let same : length new ≡ length bytes = ap length written ∙ length-put p.at (take p.size rest) bytes (omega (arith, room.0, length-take p.size rest)) in
     record {
-      done = ap (λ (xs : List ℕ). put_all (visible (drop (i + 1) spots) xs) new) next_is ∙ ap (put_all (visible (drop (i + 1) spots) (drop p.hidden (drop p.size rest)))) written
+      done = ap (λ (xs : List ℕ). put_all (visible (drop (i + 1) spots) xs) new) moved ∙ ap (put_all (visible (drop (i + 1) spots) (drop p.hidden (drop p.size rest)))) written
           ∙ sym (ap (λ (ps : List Spot). put_all (visible ps rest) bytes) e) ∙ is.done;
-      left = ap length moved ∙ length-drop (p.size + p.hidden) rest ∙ omega (arith, left);
       room = rw same room.1;
     }
 

@@ -99,9 +99,34 @@ two_parts : (file a b c : List ℕ) → joined file (a ∷ b ∷ []) ⊕ c ≡ j
 unfolding joined
 two_parts file a b c = refl
 
+pub two_joined : (file undo names one two : List ℕ) → one ≡ file ⊕ undo → two ≡ one ⊕ names → two ≡ joined file (undo ∷ names ∷ [])
+unfolding joined
+two_joined file undo names one two a b = b ∙ ap (λ (xs : List ℕ). xs ⊕ names) a
+
 length-two : (file a b : List ℕ) → length (joined file (a ∷ b ∷ [])) ≡ up (up (length file) + length a) + length b
 unfolding joined
 length-two file a b = length-⊕ (file ⊕ a) b ∙ ap (λ (n : ℕ). up n + length b) (length-⊕ file a)
+
+-- it has room for a header
+least : (n : ℕ) (parts : List (List ℕ)) → n ≤ joined_size n parts
+unfolding joined_size
+least n [] = omega arith
+least n (x ∷ xs) = omega (arith, least (up n + length x) xs)
+
+pub long_enough : (p : Plan) (o : Original) (flat undo file names ended table whole : List ℕ) → Fits p o flat (length undo) → file ≡ body p o flat → ended ≡ joined file (undo ∷ names ∷ []) → whole ≡ ended ⊕ table → 64 ≤ length whole
+long_enough p o flat undo file names ended table whole fits is last all =
+    let ins = all_in (length o.bytes) (head_windows (header o.bytes) ++ o.dynamic ∷ []) fits.heads_in in
+    omega (
+      arith,
+      ins.0,
+      least (length o.bytes + length p.more) p.parts,
+      ap length is,
+      length-body p o flat (length undo) fits,
+      ap length last,
+      length-two file undo names,
+      ap length all,
+      length-⊕ ended table,
+    )
 
 new_header_is : (p : Plan) (o : Original) (undo table : ℕ) → table ≡ table_at p o.bytes undo → header_with (header o.bytes) p table ≡ new_header p o.bytes undo
 unfolding new_header

@@ -1,15 +1,17 @@
 -- The parts of a program's form as its code makes them: sums modulo 2^64, which do not wrap, and segments taken apart at the last PT_LOAD.
 use Rattle.std.specs.Prelude.{◌≡◌, ◌≤◌, ◌<◌, ◌+◌, ◌-◌, ◌*◌, ◌^◌, ◌++◌, ◌∷◌, [], ◌&&◌, ◌==◌, not, false, nat_lt, nat_le, ℕ, List, length, map, take, drop, slice_index_or, if◌then◌else◌}
 use Rattle.std.specs.List.{list_any}
+use Rattle.pl_base.specs.Bytes.{put}
 use Rattle.pl_base.specs.Sums.{plus}
 use Rattle.pl_base.specs.Windows.{AllIn, IsIn}
 use Rattle.pl_elf.specs.Clauses.{section_passes, segment_passes}
 use Rattle.pl_elf.specs.Headers.{header, section_offset}
 use Rattle.pl_elf.specs.declared.section.Section.{Section}
 use Rattle.pl_elf.specs.declared.segment.Segment.{Segment}
+use Rattle.pl_move.specs.Moves.{rows}
 use Rattle.pl_object.specs.declared.object.Object.{Object}
 use Rattle.pl_parts.specs.Loads.{hidden_windows}
-use Rattle.pl_parts.specs.Parts.{is_grown, extended_segment, loaded_section, with_rows, with_tag, extension_at, rows_at, conflicts_at, old_names, entry_bytes}
+use Rattle.pl_parts.specs.Parts.{is_grown, extended_segment, loaded_section, with_rows, with_tag, extension_at, rows_at, conflicts_at, entry_bytes}
 use Rattle.pl_parts.specs.declared.parts.Extension.{Extension}
 use Rattle.pl_form.specs.declared.layout.Layout.{Layout}
 use Rattle.pl_form.specs.declared.program.Last.{Last}
@@ -51,9 +53,9 @@ new_sections last e rows names =
     ∷ with_rows rows 20 (loaded_section last (names + 12) 0x6ffffff7 (rows_at last e) (length e.rows))
     ∷ with_rows 0 24 (loaded_section last (names + 25) 4 (conflicts_at last e) (length e.conflicts)) ∷ []
 
-abbrev pub all_sections : List ℕ → List Section → Segment → Shift → Extension → List Section
-all_sections bytes old last shift e =
-    map (program_section shift last) old ++ new_sections last e (length old) (length (old_names bytes))
+-- behind names of so many bytes
+abbrev pub all_sections : ℕ → List Section → Segment → Shift → Extension → List Section
+all_sections names old last shift e = map (program_section shift last) old ++ new_sections last e (length old) names
 
 -- ---- the dynamic table
 
@@ -65,6 +67,10 @@ program_entries last e =
     entry_bytes 0x6ffffef9 (rows_at last e) ++ entry_bytes 0x6ffffdf7 (length e.rows)
     ++ entry_bytes 0x6ffffef8 (conflicts_at last e) ++ entry_bytes 0x6ffffdf6 (length e.conflicts)
 
+abbrev pub program_table : Segment → Extension → ℕ → List ℕ → List ℕ
+program_table last e tags table =
+    put (16 * tags) (program_entries last e) (rows 16 (with_strings (extension_at last) (length e.strings)) tags table)
+
 -- ---- what a plan asks of a program
 
 pub record IsExtended (bytes : List ℕ) (x : Object) (l : Layout) (last : Last) : Type 0 where
@@ -74,6 +80,7 @@ pub record IsExtended (bytes : List ℕ) (x : Object) (l : Layout) (last : Last)
   -- the file bytes of segments and sections lie in the file
   pub files : list_any (segment_passes bytes false) x.segments ≡ false
   pub sections : list_any (section_passes bytes) x.sections ≡ false
+  pub rows : length x.sections < 2 ^ 16
   pub names : HasNames bytes
   pub dynamic : IsIn (length bytes) l.dynamic
   pub spare : 16 * l.tags + 64 ≤ l.dynamic.size

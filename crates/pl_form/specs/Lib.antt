@@ -2,9 +2,10 @@ pub mod Originals
 pub mod Faults
 pub mod Words
 pub mod Ends
+pub mod Extending
 pub mod Library
 pub mod Program
-pub mod Extending
 pub mod Stored
 pub mod Marks
 pub mod Reading
+pub mod Alike

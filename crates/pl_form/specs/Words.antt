@@ -1,5 +1,5 @@
 -- What a form is made of beside its original: the list, the conflicts, and the bytes at the places.
-use Rattle.std.specs.Prelude.{◌≡◌, ℕ, ◌+◌, ◌-◌, ◌==◌, Bool, not, List, [], ◌∷◌, ◌++◌, length, map, filter, take, replicate, Option, Some, None}
+use Rattle.std.specs.Prelude.{◌≡◌, ℕ, ◌+◌, ◌-◌, ◌==◌, Bool, not, List, [], ◌∷◌, ◌++◌, length, map, filter, take, replicate, slice_get, unwrap_or, Option, Some, None}
 use Rattle.std.specs.List.{concat}
 use Rattle.pl_base.specs.Bytes.{part, word32, bytes64}
 use Rattle.pl_base.specs.Windows.{Window, within}
@@ -45,6 +45,10 @@ extension_of o list conflicts = record {
 abbrev pub filled : List ℕ → Spot → Option ℕ → List ℕ
 filled o p None = part p.at p.size o ++ replicate p.hidden 0
 filled o p (Some word) = take p.size (bytes64 word) ++ part (p.at + 8) (p.size - 8) o ++ replicate p.hidden 0
+
+-- the word at an index, none past the end of the words
+abbrev pub word_at : List (Option ℕ) → ℕ → Option ℕ
+word_at words i = unwrap_or (slice_get words i) None
 
 -- those at all places; there is no word past the end of the words
 abbrev pub all_filled : List ℕ → List Spot → List (Option ℕ) → List ℕ

@@ -1,5 +1,5 @@
 // Rows as bytes, and parts of a file.
-ghost use Rattle.std.specs.Prelude.{◌≡◌, ◌+◌, ◌*◌, ◌++◌, ◌<◌, ◌≤◌, ◌^◌, length, map, IfOk, OnOk};
+ghost use Rattle.std.specs.Prelude.{◌≡◌, ◌+◌, ◌*◌, ◌++◌, ◌<◌, ◌≤◌, ◌^◌, drop, length, map, take, IfOk, OnOk};
 ghost use Rattle.std.specs.List.{concat};
 ghost use Rattle.pl_base.specs.Bytes.{put};
 ghost use Rattle.pl_base.specs.Windows.{◌⊕◌};
@@ -65,6 +65,15 @@ pub fn up(size: usize) -> usize
     ensures { result ≡ parts.up size }
 {
     (size + 7) / 8 * 8
+}
+
+/// So many of the first bytes, as far as there are any, and the rest.
+pub fn split(bytes: &[u8], size: u64) -> (&[u8], &[u8])
+    ensures first { result.0.now ≡ take size bytes.now }
+    ensures rest { result.1.now ≡ drop size bytes.now }
+{
+    let at = size.min(bytes.len() as u64) as usize;
+    (&bytes[..at], &bytes[at..])
 }
 
 /// Adds a part at the next multiple of 8, with zeros before it.

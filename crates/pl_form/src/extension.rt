@@ -1,12 +1,12 @@
 // What a program's form has behind the file bytes of its last PT_LOAD.
-ghost use Rattle.std.specs.Prelude.{◌≡◌, ◌+◌, ◌-◌, ◌≤◌, ◌^◌, length, IfOk};
+ghost use Rattle.std.specs.Prelude.{◌≡◌, ◌+◌, ◌-◌, ◌≤◌, ◌^◌, drop, length, take, IfOk};
+ghost use Rattle.pl_base.specs.Bytes.{put};
 ghost use Rattle.pl_base.specs.Windows.{AllIn, put_all};
-ghost use Rattle.pl_parts.specs.Back as back;
 ghost use Rattle.pl_parts.specs.Loads.{hidden_windows};
 ghost use Rattle.pl_parts.specs.Parts as parts;
 ghost use Rattle.pl_form.specs.Extending.{IsShort, AreShort};
 
-use crate::bytes::{push_part, put_bytes, up};
+use crate::bytes::{push_part, put_bytes, split, up};
 use crate::places::push_zeros;
 use pl_base::round_up;
 use pl_elf::Segment;
@@ -16,18 +16,25 @@ use std::alloc::{AllocError, Global};
 /// By how many bytes the extension is aligned.
 const EXTENSION_ALIGN: u64 = 16;
 
+/// Puts those of the first bytes, which are for a place, that lie in the zeros of the last PT_LOAD, and answers those for the places behind it.
+fn put_behind<'a>(zeros: &mut [u8], spot: &Spot, flat: &'a [u8]) -> &'a [u8]
+    requires { spot.now.behind + spot.now.hidden ≤ length zeros.old }
+    ensures zeros { zeros.new ≡ put spot.now.behind (take spot.now.hidden (drop spot.now.size flat.now)) zeros.old }
+    ensures rest { result.now ≡ drop spot.now.hidden (drop spot.now.size flat.now) }
+{
+    let (hidden, rest) = split(split(flat, spot.size).1, spot.hidden);
+    put_bytes(zeros, spot.behind as usize, hidden);
+    rest
+}
+
 /// Puts those of the bytes for all places that lie in the zeros of the last PT_LOAD.
 pub fn put_hidden(zeros: &mut [u8], spots: &[Spot], flat: &[u8])
     requires spots { AllIn (length zeros.old) (hidden_windows spots.now) }
-    requires flat { length flat.now ≡ back.wanted spots.now }
     ensures { zeros.new ≡ put_all (parts.hidden spots.now flat.now) zeros.old }
 {
     let mut rest = flat;
     for spot in spots {
-        let size = spot.size as usize;
-        let end = size + spot.hidden as usize;
-        put_bytes(zeros, spot.behind as usize, &rest[size..end]);
-        rest = &rest[end..];
+        rest = put_behind(zeros, spot, rest);
     }
 }
 
@@ -47,7 +54,6 @@ fn zeros_part(
     flat: &[u8],
 ) -> Result<Vec<u8>, AllocError>
     requires spots { AllIn (last.now.memsz - last.now.filesz) (hidden_windows spots.now) }
-    requires flat { length flat.now ≡ back.wanted spots.now }
     ensures { IfOk result (λ v. v.items ≡ parts.zeros_part last.now spots.now flat.now) }
 {
     let mut zeros = Vec::new(alloc);
@@ -106,7 +112,6 @@ pub fn extension(
 ) -> Result<Vec<u8>, AllocError>
     requires last { IsShort last.now }
     requires spots { AllIn (last.now.memsz - last.now.filesz) (hidden_windows spots.now) }
-    requires flat { length flat.now ≡ back.wanted spots.now }
     ensures { IfOk result (λ v. v.items ≡ parts.extension last.now spots.now flat.now lists.now) }
 {
     let mut block = zeros_part(alloc, last, spots, flat)?;

@@ -7,6 +7,7 @@ ghost use Rattle.pl_object.specs.Tables as tables;
 ghost use Rattle.pl_parts.specs.Found as spec;
 ghost use Rattle.pl_parts.specs.Loads as loads;
 
+use crate::bytes::split;
 use pl_base::{Rows, end, part, word32, word64};
 use pl_dyn::Tag;
 use pl_dyn::constants::DT_SYMTAB;
@@ -235,15 +236,6 @@ fn packed_places(alloc: Global, table: &[u8]) -> Result<Vec<Window>, AllocError>
         Err(RelrFault::Packed) => Ok(Vec::new(alloc)),
         Err(RelrFault::NoMemory) => Err(AllocError),
     }
-}
-
-/// So many of the first bytes, as far as there are any, and the rest.
-fn split(bytes: &[u8], size: u64) -> (&[u8], &[u8])
-    ensures first { result.0.now ≡ take size bytes.now }
-    ensures rest { result.1.now ≡ drop size bytes.now }
-{
-    let at = size.min(bytes.len() as u64) as usize;
-    (&bytes[..at], &bytes[at..])
 }
 
 /// The places of all relocations, by the bytes of the tables one after the other, of these sizes, and the symbols behind them.

@@ -1,6 +1,7 @@
 //! The form that prelinking gives an accepted library or program, and the file that comes back from it.
 #![tactic(auto)]
 
+mod alike;
 mod back;
 mod bytes;
 mod check;
@@ -27,6 +28,7 @@ mod version;
 mod windows;
 mod write;
 
+pub use alike::forms_leave_the_rest;
 pub use check::check_form;
 pub use constants::STORED;
 pub use fault::{FileFault, FormFault};

@@ -1,12 +1,12 @@
 // The plan of a library's form.
 ghost use Rattle.std.specs.Prelude.{◌≡◌, ◌+◌, ◌*◌, ◌<◌, ◌≤◌, ◌^◌, ◌++◌, ◌∷◌, [], length, map, IfOk, OnOk};
 ghost use Rattle.pl_base.specs.Bytes.{put};
-ghost use Rattle.pl_base.specs.Windows.{IsIn};
-ghost use Rattle.pl_elf.specs.Headers as headers;
 ghost use Rattle.pl_move.specs.Moves.{row_moved, rows};
 ghost use Rattle.pl_move.specs.declared.kind.RowKind.TheVariants.{TagValue};
 ghost use Rattle.pl_parts.specs.Parts as parts;
 ghost use Rattle.pl_object.specs.Accepted.{HasHead};
+ghost use Rattle.pl_form.specs.Extending.{HasNames};
+ghost use Rattle.pl_form.specs.Library.{IsMovable};
 ghost use Rattle.pl_form.specs.Originals.{original};
 
 use crate::bytes::{plain, push_entry, put_bytes, up};
@@ -144,8 +144,7 @@ fn library_sections(
     requires few { length bytes.now + 100 < 2 ^ 32 }
     requires strings { length listed.now.strings < 2 ^ 32 }
     requires rows { length object.now.sections < 2 ^ 16 }
-    requires names { headers.section_offset (headers.header bytes.now) (headers.header bytes.now).shstrndx + 64 ≤ length bytes.now }
-    requires long { 64 ≤ length bytes.now }
+    requires names { HasNames bytes.now }
     ensures { IfOk result (λ v. let old = map (parts.moved_section slot) object.now.sections in v.items ≡ old ++ parts.list_sections listed.now (length bytes.now) (length old) (length (parts.old_names bytes.now))) }
 {
     let mut sections = moved_sections(alloc, slot, object.sections.as_slice())?;
@@ -174,11 +173,8 @@ pub fn library_plan(
     listed: Listed,
 ) -> Result<Plan, AllocError>
     requires head { HasHead bytes.now object.now }
-    requires few { length bytes.now + 100 < 2 ^ 32 }
+    requires library { IsMovable bytes.now object.now layout.now }
     requires strings { length listed.strings < 2 ^ 32 }
-    requires dynamic { IsIn (length bytes.now) layout.now.dynamic }
-    requires spare { 16 * layout.now.tags + 32 ≤ layout.now.dynamic.size }
-    requires names { headers.section_offset object.now.header object.now.header.shstrndx + 64 ≤ length bytes.now }
     ensures { IfOk result (λ plan. plan ≡ parts.library_plan (original bytes.now layout.now) mark.now.slot mark.now.stamp mark.now.checksum listed) }
 {
     let table = part(bytes, layout.dynamic.at(), layout.dynamic.size());

@@ -1,5 +1,6 @@
 // A library's form, by its list and the words at its places.
-ghost use Rattle.std.specs.Prelude.{◌≡◌, ◌+◌, ◌*◌, ◌++◌, ◌<◌, ◌≤◌, ◌^◌, ◌%◌, length, false, true, IfOk, OnOk, Ok};
+ghost use Rattle.std.specs.Prelude.{◌≡◌, ◌+◌, ◌*◌, ◌++◌, ◌<◌, ◌≤◌, ◌^◌, ◌%◌, ◌-◌, length, take, false, true, IfOk, OnOk, Ok};
+ghost use Rattle.pl_base.specs.Bytes.{bytes64, part};
 ghost use Rattle.pl_base.specs.Windows.{AllIn, IsIn};
 ghost use Rattle.pl_elf.specs.Headers as headers;
 ghost use Rattle.pl_elf.specs.Kinds.{is_library};
@@ -7,13 +8,16 @@ ghost use Rattle.pl_lists.specs.Lists as lists;
 ghost use Rattle.pl_object.specs.Accepted.{HasHead};
 ghost use Rattle.pl_object.specs.Reads.{reads};
 ghost use Rattle.pl_parts.specs.Back as back;
+ghost use Rattle.pl_parts.specs.Forms as forms;
 ghost use Rattle.pl_parts.specs.Forms.{original_of};
+ghost use Rattle.pl_parts.specs.Law.{IsDigest};
 ghost use Rattle.pl_parts.specs.Found.{ps_of};
 ghost use Rattle.pl_form.specs.Library as spec;
 ghost use Rattle.pl_form.specs.Words as words_spec;
 ghost use Rattle.pl_form.specs.Originals.{original};
 ghost use Rattle.sha2.specs.Sha256.{sha256};
 
+use crate::bytes::split;
 use crate::found::{dynamic_in, find_spots, moved_tables, row_windows};
 use crate::library::library_plan;
 use crate::places::{push_memory, push_zeros};
@@ -62,6 +66,24 @@ fn listed(alloc: Global, list: &[ListRow]) -> Result<Listed, NoMemory>
     })
 }
 
+/// Adds so many of the first bytes of a word.
+#[tactic(auto, unfolding(pl_base::specs::Bytes::bytes64))]
+fn push_word(out: &mut Vec<u8>, size: u64, word: u64) -> Result<(), AllocError>
+    ensures { OnOk result (out.new.items ≡ out.old.items ++ take size (bytes64 word)) }
+{
+    let bytes = word.to_le_bytes();
+    out.extend_from_slice(split(&bytes, size).0)
+}
+
+/// Adds the original's bytes at a place behind a word.
+fn push_behind(out: &mut Vec<u8>, bytes: &[u8], spot: &Spot) -> Result<(), AllocError>
+    requires { spot.now.at + spot.now.size ≤ length bytes.now }
+    ensures { OnOk result (out.new.items ≡ out.old.items ++ part (spot.now.at + 8) (spot.now.size - 8) bytes.now) }
+{
+    let size = spot.size.saturating_sub(8);
+    out.extend_from_slice(part(bytes, spot.at + 8, size))
+}
+
 /// Adds the bytes at a place: the original's, or those of a word.
 fn push_filled(
     out: &mut Vec<u8>,
@@ -75,10 +97,17 @@ fn push_filled(
     let Some(word) = word else {
         return push_memory(out, bytes, spot);
     };
-    let size = spot.size.min(8) as usize;
-    out.extend_from_slice(&word.to_le_bytes()[..size])?;
-    out.extend_from_slice(part(bytes, spot.at + 8, spot.size.saturating_sub(8)))?;
-    push_zeros(out, spot.hidden)
+    push_word(out, spot.size, word)?;
+    push_behind(out, bytes, spot)?;
+    push_zeros(out, spot.hidden)?;
+    Ok(())
+}
+
+/// The word at an index, as far as there are any.
+fn word_at(words: &[Option<u64>], index: usize) -> Option<u64>
+    ensures { result ≡ words_spec.word_at words.now index }
+{
+    words.get(index).copied().flatten()
 }
 
 /// The bytes at all places, by a word for each of the first of them.
@@ -92,9 +121,9 @@ fn all_filled(
     ensures { IfOk result (λ v. v.items ≡ words_spec.all_filled bytes.now spots.now words.now) }
 {
     let mut out = Vec::new(alloc);
-    for (index, spot) in spots.iter().enumerate() {
-        let word = words.get(index).copied().flatten();
-        push_filled(&mut out, bytes, spot, word)?;
+    for index in 0..spots.len() {
+        let word = word_at(words, index);
+        push_filled(&mut out, bytes, &spots[index], word)?;
     }
     Ok(out)
 }
@@ -122,6 +151,43 @@ pub fn kept_digest(version: Version, digest: [u8; 32]) -> Option<[u8; 32]>
 /// How many bytes the list of a library's form may have, 1 GiB.
 const MOST_LIST: usize = 1_073_741_824;
 
+/// NoMemory where the parts of a list have too many bytes.
+fn check_list(listed: &Listed) -> Result<(), NoMemory>
+    ensures { OnOk result (spec.IsShortList listed.now) }
+{
+    if listed.strings.len() > MOST_LIST {
+        return Err(NoMemory);
+    }
+    if listed.rows.len() > MOST_LIST {
+        return Err(NoMemory);
+    }
+    Ok(())
+}
+
+/// The form of an accepted library by what it bears, with these bytes at its places.
+fn moved(
+    alloc: Global,
+    original: &[u8],
+    object: &Object,
+    mark: &Mark,
+    listed: Listed,
+    flat: &[u8],
+    digest: Option<[u8; 32]>,
+) -> Result<Vec<u8>, NoMemory>
+    requires firm { spec.IsFirmLibrary original.now object.now }
+    requires slot { spec.IsEven mark.now.slot }
+    requires list { spec.IsShortList listed }
+    requires flat { length flat.now ≡ back.wanted (ps_of original.now) }
+    requires digest { IsDigest digest }
+    ensures { IfOk result (λ v. v.items ≡ forms.library_form (original_of original.now) mark.now.slot mark.now.stamp mark.now.checksum listed flat.now digest) }
+{
+    let layout = layout_of(alloc, original, object)?;
+    let plan = library_plan(alloc, original, object, &layout, mark, listed)?;
+    let undo = undo_part(alloc, original, &layout, &plan, digest)?;
+    let form = write_form(alloc, original, &layout, &plan, flat, &undo)?;
+    Ok(form)
+}
+
 /// The form of an accepted library with these bytes at its places, one place after the other in the order of the relocations.
 pub fn library_with(
     alloc: Global,
@@ -147,15 +213,11 @@ pub fn library_with(
         stamp,
         checksum,
     };
-    let listed = listed(alloc, list)?;
-    if listed.strings.len() > MOST_LIST || listed.rows.len() > MOST_LIST {
-        return Err(NoMemory);
-    }
-    let layout = layout_of(alloc, original, object)?;
-    let plan = library_plan(alloc, original, object, &layout, &mark, listed)?;
-    let digest = kept_digest(version, digest);
-    let undo = undo_part(alloc, original, &layout, &plan, digest)?;
-    Ok(write_form(alloc, original, &layout, &plan, flat, &undo)?)
+    let lists = listed(alloc, list)?;
+    check_list(&lists)?;
+    let kept = kept_digest(version, digest);
+    let form = moved(alloc, original, object, &mark, lists, flat, kept)?;
+    Ok(form)
 }
 
 /// The form of an accepted library: its bytes moved by a slot, with a word or the original's bytes at each place, its stamp and its checksum in the dynamic table, and behind them the library list, the undo section, the section names and the section headers.
@@ -180,5 +242,6 @@ pub fn form_library(
 {
     let layout = layout_of(alloc, original, object)?;
     let flat = all_filled(alloc, original, layout.spots.as_slice(), words)?;
-    library_with(alloc, original, object, slot, stamp, list, &flat, version)
+    let form = library_with(alloc, original, object, slot, stamp, list, &flat, version)?;
+    Ok(form)
 }

@@ -193,25 +193,23 @@ fn new_sections(last: &Segment, lists: &Extension, rows: usize, names: usize) ->
     ]
 }
 
-/// The new section header table up to the section of the conflicts.
+/// The new section header table up to the section of the conflicts, behind names of so many bytes.
 fn program_sections(
     alloc: Global,
-    bytes: &[u8],
-    object: &Object,
+    old: &[Section],
+    names: usize,
     last: &Segment,
     shift: Shift,
     lists: &Extension,
 ) -> Result<Vec<Section>, AllocError>
-    requires head { HasHead bytes.now object.now }
-    requires few { length bytes.now + 100 < 2 ^ 32 }
+    requires old { length old.now < 2 ^ 16 }
+    requires names { names + 100 < 2 ^ 32 }
     requires last { IsShort last.now }
     requires lists { AreShort lists.now }
-    requires names { HasNames bytes.now }
-    ensures { IfOk result (λ v. v.items ≡ spec.all_sections bytes.now object.now.sections last.now shift lists.now) }
+    ensures { IfOk result (λ v. v.items ≡ spec.all_sections names old.now last.now shift lists.now) }
 {
-    let mut sections = old_sections(alloc, shift, last, object.sections.as_slice())?;
-    let names = old_names(bytes).len();
-    let new = new_sections(last, lists, sections.len(), names);
+    let mut sections = old_sections(alloc, shift, last, old)?;
+    let new = new_sections(last, lists, old.len(), names);
     sections.extend_from_slice(&new)?;
     Ok(sections)
 }
@@ -222,6 +220,7 @@ fn set_value(row: &mut [u8], number: u64, value: u64)
     ensures { row.new ≡ parts.with_tag number value row.old }
 {
     if word64(row, 0) == number {
+        put64(row, 0, number);
         put64(row, 8, value);
     }
 }
@@ -264,24 +263,20 @@ fn program_entries(alloc: Global, last: &Segment, lists: &Extension) -> Result<V
     Ok(entries)
 }
 
-/// The new dynamic table: it names the strings of the form, and the list and the conflicts in place of the first four entries of tag DT_NULL.
-#[tactic(auto, unfolding(pl_parts::specs::Parts::program_dynamic, pl_parts::specs::Parts::with_entries))]
+/// The new dynamic table: so many of the first entries with the strings of the form, and the list and the conflicts in place of the first four entries of tag DT_NULL.
 fn program_table(
     alloc: Global,
-    bytes: &[u8],
-    layout: &Layout,
     last: &Segment,
     lists: &Extension,
+    tags: usize,
+    table: &[u8],
 ) -> Result<Vec<u8>, AllocError>
-    requires dynamic { IsIn (length bytes.now) layout.now.dynamic }
-    requires spare { ENTRY_SIZE * layout.now.tags + 64 ≤ layout.now.dynamic.size }
     requires last { IsShort last.now }
     requires lists { AreShort lists.now }
-    ensures { IfOk result (λ v. v.items ≡ parts.program_dynamic (original bytes.now layout.now) last.now lists.now) }
+    requires spare { ENTRY_SIZE * tags + 64 ≤ length table.now }
+    ensures { IfOk result (λ v. v.items ≡ spec.program_table last.now lists.now tags table.now) }
 {
-    let tags = layout.tags as usize;
-    let old = part(bytes, layout.dynamic.at(), layout.dynamic.size());
-    let mut table = Vec::from_slice(alloc, old)?;
+    let mut table = Vec::from_slice(alloc, table)?;
     let size = lists.strings.len() as u64;
     name_strings(&mut table, tags, extension_at(last), size);
     let entries = program_entries(alloc, last, lists)?;
@@ -331,8 +326,11 @@ pub fn program_plan(
         last,
         object.segments.as_slice(),
     )?;
-    let sections = program_sections(alloc, bytes, object, segment, shift, lists)?;
-    let dynamic = program_table(alloc, bytes, layout, segment, lists)?;
+    let names = old_names(bytes).len();
+    let old = object.sections.as_slice();
+    let sections = program_sections(alloc, old, names, segment, shift, lists)?;
+    let table = part(bytes, layout.dynamic.at(), layout.dynamic.size());
+    let dynamic = program_table(alloc, segment, lists, layout.tags as usize, table)?;
     Ok(Plan {
         slot: 0,
         cut: cut as usize,

@@ -1,5 +1,5 @@
 // A program's form, by its list, the bytes at its places and its conflicts.
-ghost use Rattle.std.specs.Prelude.{◌≡◌, ◌+◌, ◌≤◌, ◌<◌, ◌^◌, length, nat_lt, true, IfOk};
+ghost use Rattle.std.specs.Prelude.{◌≡◌, ◌+◌, ◌≤◌, ◌<◌, ◌^◌, ◌++◌, length, nat_lt, true, IfOk, OnOk};
 ghost use Rattle.pl_base.specs.Answers.{Answers, AnswersAs};
 ghost use Rattle.pl_lists.specs.Conflicts.{are_conflicts};
 ghost use Rattle.pl_lists.specs.Lists.{is_list, list_strings};
@@ -28,14 +28,13 @@ use std::alloc::{AllocError, Global};
 fn has_long_names(list: &[ListRow]) -> bool
     ensures { result ≡ nat_lt STORED (length (list_strings list.now)) }
 {
-    let mut size = 0usize;
+    let mut room = STORED;
     for row in list {
-        size = size
-            .saturating_add(row.name.as_str().len())
-            .saturating_add(1);
-        if size > STORED {
+        let size = row.name.as_str().len();
+        if size >= room {
             return true;
         }
+        room -= size + 1;
     }
     false
 }
@@ -78,7 +77,8 @@ fn are_too_long(lists: &Extension) -> bool
 fn find_last(segments: &[Segment]) -> Option<Last>
     ensures { result ≡ spec.find_last segments.now }
 {
-    for index in (0..segments.len()).rev() {
+    for past in 0..segments.len() {
+        let index = segments.len() - 1 - past;
         let segment = segments[index];
         if segment.is_load() {
             return Some(Last { index, segment });
@@ -106,9 +106,11 @@ fn extended(
     };
     let layout = layout_of(alloc, original, object)?;
     let plan = program_plan(alloc, original, object, &layout, &last, flat, lists)?;
-    let digest = kept_digest(version, digest_of(original));
-    let undo = undo_part(alloc, original, &layout, &plan, digest)?;
-    Ok(write_form(alloc, original, &layout, &plan, flat, &undo)?)
+    let digest = digest_of(original);
+    let kept = kept_digest(version, digest);
+    let undo = undo_part(alloc, original, &layout, &plan, kept)?;
+    let form = write_form(alloc, original, &layout, &plan, flat, &undo)?;
+    Ok(form)
 }
 
 /// The form of an accepted program with these bytes at its places, one place after the other in the order of the relocations.
@@ -141,13 +143,20 @@ pub fn program_with(
     Ok(form)
 }
 
+/// Adds the bytes of a fill.
+fn push_fill(flat: &mut Vec<u8>, fill: &Fill) -> Result<(), AllocError>
+    ensures { OnOk result (flat.new.items ≡ flat.old.items ++ words.bytes_of fill.now) }
+{
+    flat.extend_from_slice(fill.bytes.as_slice())
+}
+
 /// The bytes of the fills, one after the other.
 fn flat_of(alloc: Global, fills: &[Fill]) -> Result<Vec<u8>, AllocError>
     ensures { IfOk result (λ v. v.items ≡ words.flat_of fills.now) }
 {
     let mut flat = Vec::new(alloc);
     for fill in fills {
-        flat.extend_from_slice(fill.bytes.as_slice())?;
+        push_fill(&mut flat, fill)?;
     }
     Ok(flat)
 }
@@ -171,5 +180,6 @@ pub fn form_program(
     ensures { AnswersAs (λ v. v.items) fault_spec.is_memory result (spec.stored (spec.program_form original.now list.now fills.now conflicts.now version)) }
 {
     let flat = flat_of(alloc, fills)?;
-    program_with(alloc, original, object, list, &flat, conflicts, version)
+    let form = program_with(alloc, original, object, list, &flat, conflicts, version)?;
+    Ok(form)
 }

@@ -160,12 +160,13 @@ fn new_header(old: &Header, plan: &Plan, table: usize) -> Header
 }
 
 /// Puts a header at the start of a file.
-#[tactic(auto, unfolding(pl_base::specs::Bytes::put))]
-fn put_header(file: &mut [u8], header: &Header)
-    requires { 64 ≤ length file.old }
-    ensures { file.new ≡ put 0 (header_bytes header.now) file.old }
+fn put_header(file: &mut Vec<u8>, header: &Header)
+    requires { 64 ≤ length file.old.items }
+    ensures { file.new.items ≡ put 0 (header_bytes header.now) file.old.items }
 {
-    write_header(header, &mut file[..HEADER_SIZE]);
+    let mut row = [0; HEADER_SIZE];
+    write_header(header, &mut row);
+    put_bytes(file, 0, &row);
 }
 
 /// The form of an original by a plan, with the bytes for all places and those of the undo section.
@@ -182,9 +183,13 @@ pub fn write_form(
     ensures { IfOk result (λ v. v.items ≡ parts.form plan.now (original bytes.now layout.now) flat.now undo.now) }
 {
     let mut file = body(alloc, bytes, layout, plan, flat)?;
-    let rows = push_ends(alloc, &mut file, old_names(bytes), plan, undo)?;
-    let header = new_header(&header_fields(bytes), plan, up(file.len()));
-    push_part(&mut file, &section_table(alloc, &rows)?)?;
+    let names = old_names(bytes);
+    let rows = push_ends(alloc, &mut file, names, plan, undo)?;
+    let at = up(file.len());
+    let old = header_fields(bytes);
+    let header = new_header(&old, plan, at);
+    let table = section_table(alloc, &rows)?;
+    push_part(&mut file, &table)?;
     put_header(&mut file, &header);
     Ok(file)
 }
