@@ -16,7 +16,7 @@ use Rattle.pl_parts.specs.declared.parts.Spot.{Spot}
 use Rattle.pl_parts.proofs.AcceptedIs.{segments_are}
 use Rattle.pl_undo.specs.declared.undo.Undo.{Undo}
 use Rattle.pl_form.specs.Originals.{original}
-use Rattle.pl_lists.specs.Conflicts.{are_conflicts}
+use Rattle.pl_lists.specs.Conflicts.{ascend, are_conflicts}
 use Rattle.pl_lists.specs.Lists.{list_strings}
 use Rattle.pl_lists.specs.declared.conflict_row.ConflictRow.{ConflictRow}
 use Rattle.pl_lists.specs.declared.list_row.ListRow.{ListRow}
@@ -99,6 +99,7 @@ unfolding candidate
 candidate_original front u o x l m is = ap (λ (n : Marked). n.original) is
 
 none_spelled : are_conflicts [] ≡ true
+unfolding ascend
 none_spelled = refl
 
 pub library_spelled : (file : List ℕ) (size : ℕ) (found : Option (List ListRow)) (list : List ListRow) (conflicts : List ConflictRow) → ListIfAny size found → found ≡ Some list → size ≤ length file → conflicts ≡ [] → AreSpelled true file (with_conflicts list conflicts)
