@@ -1,3 +1,4 @@
 pub mod TableLaws
 pub mod WrittenLaws
 pub mod AcceptedLaws
+pub mod SweepLaws

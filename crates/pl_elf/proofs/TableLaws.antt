@@ -1,8 +1,9 @@
 -- The segments one after the other, as a loop over the program header table takes them.
-use Rattle.std.proofs.Common.{◌≡◌, ℕ, ◌+◌, ◌<◌, ◌≤◌, Bool, true, false, ◌&&◌, ◌||◌, if◌then◌else◌, List, [], ◌∷◌, drop, get_or, refl, ap, ◌∙◌, arith}
+use Rattle.std.proofs.Common.{◌≡◌, ℕ, ◌+◌, ◌<◌, ◌≤◌, Bool, true, false, ◌&&◌, ◌||◌, if◌then◌else◌, List, [], ◌∷◌, drop, take, set, length, ◌++◌, get_or, refl, sym, ap, ◌∙◌, arith}
 use Rattle.std.specs.Prelude.{nat_le}
 use Rattle.std.specs.List.{list_any}
-use Rattle.std.proofs.lemmas.List.{drop_more, drop_all}
+use Rattle.std.proofs.lemmas.List.{drop_more, drop_all, append-nil, append_assoc}
+use Rattle.std.proofs.lemmas.Grind.{take-set_at}
 use Rattle.std.proofs.lemmas.List.FromFn.{length-map-range_with_len, get_or-map-range_with_len}
 use Rattle.pl_base.specs.Windows.{Window, share, any_share}
 use Rattle.pl_elf.specs.declared.header.Header.{Header}
@@ -64,3 +65,34 @@ ascend_more address bytes h i lt =
 
 pub ascend_done : (address : ℕ) (bytes : List ℕ) (h : Header) (i : ℕ) → h.phnum ≤ i → ascend_from address (loads (drop i (segments bytes h))) ≡ true
 ascend_done address bytes h i le = ap (λ ss. ascend_from address (loads ss)) (segments_done bytes h i le)
+
+-- ---- the windows of PT_LOADs that a loop has put at the front of a table
+
+rows_one : (b : Bool) (s : Segment) (ss : List Segment) → is_load s ≡ b → load_windows (loads (s ∷ ss)) ≡ (if b then (load_window s ∷ load_windows (loads ss)) else load_windows (loads ss))
+rows_one true s ss e = rw e refl
+rows_one false s ss e = rw e refl
+
+rows_from : (b : Bool) (bytes : List ℕ) (h : Header) (i : ℕ) → i < h.phnum → is_load (segment bytes h i) ≡ b
+    → load_windows (loads (drop i (segments bytes h))) ≡ (if b then (load_window (segment bytes h i) ∷ load_windows (loads (drop (i + 1) (segments bytes h)))) else load_windows (loads (drop (i + 1) (segments bytes h))))
+rows_from b bytes h i lt e = ap (λ ss. load_windows (loads ss)) (segments_more bytes h i lt) ∙ rows_one b (segment bytes h i) (drop (i + 1) (segments bytes h)) e
+
+-- a PT_LOAD is put there
+pub row_put : (bytes : List ℕ) (h : Header) (i count : ℕ) (table : List Window) (whole : List Window) → i < h.phnum → count < length table → is_load (segment bytes h i) ≡ true
+    → take count table ++ load_windows (loads (drop i (segments bytes h))) ≡ whole
+    → take (count + 1) (set table count (load_window (segment bytes h i))) ++ load_windows (loads (drop (i + 1) (segments bytes h))) ≡ whole
+row_put bytes h i count table whole lt room e so_far =
+    let w = load_window (segment bytes h i) in
+    let rest = load_windows (loads (drop (i + 1) (segments bytes h))) in
+    ap (λ (xs : List Window). xs ++ rest) (take-set_at table count (count + 1) w refl room)
+    ∙ append_assoc (take count table) (w ∷ []) rest
+    ∙ ap (λ (xs : List Window). take count table ++ xs) (sym (rows_from true bytes h i lt e))
+    ∙ so_far
+
+-- another segment is left out
+pub row_left : (bytes : List ℕ) (h : Header) (i : ℕ) (front whole : List Window) → i < h.phnum → is_load (segment bytes h i) ≡ false
+    → front ++ load_windows (loads (drop i (segments bytes h))) ≡ whole → front ++ load_windows (loads (drop (i + 1) (segments bytes h))) ≡ whole
+row_left bytes h i front whole lt e so_far = ap (λ (xs : List Window). front ++ xs) (sym (rows_from false bytes h i lt e)) ∙ so_far
+
+pub rows_done : (bytes : List ℕ) (h : Header) (i : ℕ) (front whole : List Window) → h.phnum ≤ i → front ++ load_windows (loads (drop i (segments bytes h))) ≡ whole → front ≡ whole
+rows_done bytes h i front whole le so_far =
+    sym (append-nil front) ∙ ap (λ (ss : List Segment). front ++ load_windows (loads ss)) (sym (segments_done bytes h i le)) ∙ so_far

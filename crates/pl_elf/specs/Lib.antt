@@ -3,3 +3,4 @@ pub mod Ranges
 pub mod Headers
 pub mod Clauses
 pub mod Written
+pub mod Sweep

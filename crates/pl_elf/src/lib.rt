@@ -3,6 +3,7 @@
 
 mod clauses;
 pub mod constants;
+mod extent;
 mod fault;
 mod header;
 mod kind;

@@ -10,7 +10,7 @@ use crate::{Header, HeaderFault, header_fields};
 
 /// The header of a file that acceptance clauses 1 to 8 accept, or the first of them that refuses it (gABI chapter 4, "ELF Header" and "Sections", and chapter 5, "Program Header"; `HeaderFault` says what each refuses).
 ///
-/// The header and both tables then lie in the file. It takes no memory: each PT_LOAD's bytes in the file are compared with those of each later one, which is less than 2^31 comparisons for the 65535 program headers that a file has at most.
+/// The header and both tables then lie in the file. It takes no memory: where there are more than 256 program headers, the PT_LOADs are sorted in a table of 1 MiB on the stack.
 #[tactic(auto, unfolding(crate::specs::Clauses::read))]
 pub fn read_header(bytes: &[u8]) -> Result<Header, HeaderFault>
     ensures exact { result ≡ spec.read bytes.now }

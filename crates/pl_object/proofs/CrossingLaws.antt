@@ -13,7 +13,7 @@ use Rattle.pl_base.proofs.PairLaws.{any_pair_permuted}
 use Rattle.pl_object.specs.TableClauses.{meets}
 use Rattle.pl_object.specs.declared.crossing.Mark.{Mark}
 use Rattle.pl_object.specs.Crossing.{mark, further, is_met, other, table_after, spot_after, cross}
-use Rattle.pl_object.proofs.SweepLaws.{share_flips}
+use Rattle.pl_elf.proofs.SweepLaws.{share_flips}
 
 -- a table and a spot that share a byte
 abbrev pub crosses : Mark → Mark → Bool

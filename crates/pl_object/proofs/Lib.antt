@@ -9,7 +9,6 @@ pub mod WidthLaws
 pub mod TabledLaws
 pub mod AcceptedLaws
 pub mod FindingLaws
-pub mod SweepLaws
 pub mod CrossingLaws
 pub mod RunLaws
 pub mod TwinLaws

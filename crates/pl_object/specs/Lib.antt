@@ -10,7 +10,6 @@ pub mod Reads
 pub mod Named
 pub mod Accepted
 pub mod Finding
-pub mod Sweep
 pub mod Crossing
 pub mod Runs
 pub mod Twins

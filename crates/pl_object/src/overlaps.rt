@@ -3,7 +3,7 @@ ghost use Rattle.std.specs.Prelude.{◌≡◌, length, IfOk};
 ghost use Rattle.std.specs.List.Sorted.{IsNonDecreasingBy, IsPermutation};
 ghost use Rattle.pl_base.specs.Windows as spec;
 ghost use Rattle.pl_object.specs.FilePart.{nothing};
-ghost use Rattle.pl_object.specs.Sweep as walk;
+ghost use Rattle.pl_elf.specs.Sweep as walk;
 
 use crate::Window;
 use std::alloc::{AllocError, Global};
@@ -15,7 +15,7 @@ fn later(last: Window, window: &Window) -> Window
 }
 
 /// Whether a window shares a byte with the last one before it that has some.
-#[tactic(auto, using(crate::proofs::SweepLaws::sweep_done))]
+#[tactic(auto, using(pl_elf::proofs::SweepLaws::sweep_done))]
 fn sweep(windows: &[Window]) -> bool
     ensures { result ≡ walk.sweep nothing windows.now }
 {

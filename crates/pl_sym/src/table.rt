@@ -6,7 +6,7 @@ use crate::constants::SYMBOL_SIZE;
 use crate::{SymFault, Symbol};
 use pl_base::{Rows, string_at, word16, word32, word64};
 use pl_ver::constants::VER_NDX_GLOBAL;
-use std::alloc::Global;
+use std::alloc::{AllocError, Global};
 
 #[tactic(auto, unfolding(crate::specs::Table::symbol_at))]
 fn symbol_at(alloc: Global, table: &[u8], strings: &[u8], at: usize) -> Result<Symbol, SymFault>
@@ -30,12 +30,43 @@ fn symbol_at(alloc: Global, table: &[u8], strings: &[u8], at: usize) -> Result<S
     }
 }
 
+/// How many bytes names may have before it is asked whether there is memory for them.
+const MANY: usize = 1 << 30;
+
+/// Asks for so many bytes, and gives them back.
+fn ask(alloc: Global, size: usize) -> Result<(), AllocError> {
+    let _bytes: Vec<u8> = Vec::with_capacity(alloc, size)?;
+    Ok(())
+}
+
+/// Asks for as many bytes as the names of all symbols have, before any is copied. Where symbols share the ends of long strings, these are many times the
+/// file's bytes. It asks each time that their number has doubled, so that no more than twice the memory's bytes are looked at.
+fn ask_for_names(alloc: Global, table: &[u8], strings: &[u8]) -> Result<(), AllocError> {
+    let mut size: usize = 0;
+    let mut most = MANY;
+    for index in 0..table.len() / SYMBOL_SIZE {
+        let at = word32(table, SYMBOL_SIZE * index);
+        if let Some(name) = string_at(strings, u64::from(at)) {
+            size = size.saturating_add(name.len());
+        }
+        if size > most {
+            ask(alloc, size)?;
+            most = size.saturating_mul(2);
+        }
+    }
+    if size > MANY {
+        ask(alloc, size)?;
+    }
+    Ok(())
+}
+
 /// The symbols of a table, one for each whole row of 24 bytes in the table's order. A symbol's name is copied from the
 /// strings, from the offset that its row has up to the first 0 byte. No table here holds versions, so each symbol has
 /// the version word 1. BadSymbol exactly where a name has no end inside the strings (gABI chapter 4, "Symbol Table").
 pub fn read_symbols(alloc: Global, table: &[u8], strings: &[u8]) -> Result<Rows<Symbol>, SymFault>
     ensures { Answers spec.is_memory result (spec.symbols table.now strings.now) }
 {
+    ask_for_names(alloc, table, strings)?;
     let mut symbols = Rows::new(alloc);
     for index in 0..table.len() / SYMBOL_SIZE {
         symbols.push(symbol_at(alloc, table, strings, SYMBOL_SIZE * index)?)?;

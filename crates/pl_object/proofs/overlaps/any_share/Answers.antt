@@ -1,8 +1,8 @@
 use Rattle.std.proofs.Common.{◌∙◌, ◌≡◌, length, ap, arith}
 use Rattle.std.proofs.lemmas.List.{take_at}
 use Rattle.pl_object.specs.FilePart.{nothing}
-use Rattle.pl_object.specs.Sweep.{sweep}
-use Rattle.pl_object.proofs.SweepLaws.{swept}
+use Rattle.pl_elf.specs.Sweep.{sweep}
+use Rattle.pl_elf.proofs.SweepLaws.{swept}
 use Rattle.pl_object.proofs.overlaps.any_share.Goals as goal
 
 pub returns : goal.returns

@@ -1,4 +1,4 @@
-use Rattle.pl_object.proofs.SweepLaws.{sweep_stops, sweep_goes}
+use Rattle.pl_elf.proofs.SweepLaws.{sweep_stops, sweep_goes}
 use Rattle.pl_object.proofs.overlaps.sweep.Goals as goal
 
 pub returns-then-shares : goal.returns-then-shares

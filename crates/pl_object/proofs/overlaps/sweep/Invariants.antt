@@ -1,6 +1,6 @@
 use Rattle.std.proofs.Common.{◌≡◌, drop}
 use Rattle.pl_object.specs.FilePart.{nothing}
-use Rattle.pl_object.specs.Sweep.{sweep}
+use Rattle.pl_elf.specs.Sweep.{sweep}
 use Rattle.pl_object.proofs.overlaps.sweep.Given as goal
 
 abbrev pub invariant-loop-window : goal.invariant-loop-window

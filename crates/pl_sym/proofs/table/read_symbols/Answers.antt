@@ -12,7 +12,7 @@ loop-index-init c = rw c.new-symbols.ensures (rows_begin (spec.symbol c.args.tab
 
 pub returns-in_err-symbol_at : goal.returns-in_err-symbol_at
 returns-in_err-symbol_at c =
-    let p = err_from_is_err_and c.from_residual.result c.from_residual.ensures.1 in
+    let p = err_from_is_err_and c.from_residual-in_err-symbol_at.result c.from_residual-in_err-symbol_at.ensures.1 in
     rw (p.1, p.2) (rows_fail spec.is_memory (spec.symbol c.args.table.now c.args.strings.now) _ _ _ _ _ c.loop-index-test.true c.in_err-symbol_at.ensures c.loop-index.invariant)
 
 pub loop-index-preserved : goal.loop-index-preserved

@@ -6,7 +6,7 @@ use Rattle.std.proofs.lemmas.List.{drop_more, drop_all}
 use Rattle.std.proofs.lemmas.Bool.Decides.{nat_tests, eqb_tells}
 use Rattle.pl_base.specs.Windows.{Window, share, any_share}
 use Rattle.pl_base.proofs.PairLaws.{any_pair_permuted}
-use Rattle.pl_object.specs.Sweep.{later, sweep}
+use Rattle.pl_elf.specs.Sweep.{later, sweep}
 
 -- no window begins below an address
 abbrev pub Above : ℕ → List Window → Type 0
