@@ -43,7 +43,8 @@ fn push_fill(alloc: Global, fills: &mut Vec<Fill>, reloc: &Reloc) -> Result<(), 
     fills.push(Fill {
         address: reloc.address,
         bytes: Rows::from_vec(bytes),
-    })
+    })?;
+    Ok(())
 }
 
 fn fills_of(alloc: Global, relocations: &[Reloc]) -> Result<Vec<Fill>, AllocError>
@@ -137,8 +138,8 @@ const BAD: u32 = 1001;
 const PLAIN: u32 = 1002;
 const MEMORY: u32 = 1003;
 
-fn answer(result: &Result<File, FileFault>) -> u32 {
-    match result {
+fn answer(file: &Result<File, FileFault>) -> u32 {
+    match file {
         Ok(File::Marked(_)) => MARKED,
         Ok(File::Plain(_)) => PLAIN,
         Err(FileFault::BadMark) => BAD,
