@@ -8,4 +8,4 @@ pub put_visible-requires : goal.put_visible-requires
 put_visible-requires c =
     let fit = places_fit c.len.result c.args.undo.now c.args.dynamic c.args.spots.now c.if-not-fits_places.ensures in
     let same : c.len.result ≡ length c.deref_mut.result.now = search rules in
-    subst (λ (n : ℕ). AllIn n (spot_windows c.args.spots.now)) same fit.0
+    record { spots = subst (λ (n : ℕ). AllIn n (spot_windows c.args.spots.now)) same fit.0 }
