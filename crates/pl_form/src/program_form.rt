@@ -1,8 +1,7 @@
 // A program's form, by its list, the bytes at its places and its conflicts.
-ghost use Rattle.std.specs.Prelude.{◌≡◌, ◌+◌, ◌≤◌, ◌<◌, ◌^◌, ◌++◌, length, nat_lt, true, IfOk, OnOk};
+ghost use Rattle.std.specs.Prelude.{◌≡◌, ◌+◌, ◌≤◌, ◌<◌, ◌^◌, ◌++◌, length, nat_lt, IfOk, OnOk};
 ghost use Rattle.pl_base.specs.Answers.{Answers, AnswersAs};
-ghost use Rattle.pl_lists.specs.Conflicts.{are_conflicts};
-ghost use Rattle.pl_lists.specs.Lists.{is_list, list_strings};
+ghost use Rattle.pl_lists.specs.Lists.{list_strings};
 ghost use Rattle.pl_parts.specs.Back.{wanted};
 ghost use Rattle.pl_parts.specs.Found.{ps_of};
 ghost use Rattle.pl_form.specs.Faults as fault_spec;
@@ -174,8 +173,6 @@ pub fn form_program(
     version: Version,
 ) -> Result<Vec<u8>, FormFault>
     requires firm { spec.IsFirmProgram original.now object.now }
-    requires list { is_list list.now ≡ true }
-    requires conflicts { are_conflicts conflicts.now ≡ true }
     requires fills { AreFills fills.now object.now.relocations }
     ensures { AnswersAs (λ v. v.items) fault_spec.is_memory result (spec.stored (spec.program_form original.now list.now fills.now conflicts.now version)) }
 {

@@ -1,40 +1,49 @@
 // The forms of recipes, byte for byte against a builder that is not this one, and what is in the way of a form.
 ghost use Rattle.std.specs.Prelude.{◌≡◌, ◌++◌, ◌∷◌, [], map, filter, IfOk, OnOk};
-ghost use Rattle.pl_form.specs.Faults.{IsFirm};
 ghost use Rattle.pl_form.specs.Words as words;
 ghost use Rattle.pl_object.specs.Relocations.{places};
 
+use crate::build::hex;
+use crate::marked::object_of;
 use crate::samples::file_of;
 use pl_base::{Rows, Text, word32};
 use pl_elf::Range;
 use pl_elf::constants::R_X86_64_NONE;
 use pl_form::{Fill, FormFault, Version, check_form, form_library, form_program};
 use pl_lists::{ConflictRow, ListRow};
-use pl_object::{ORIGINAL, Object, Reloc, accept};
+use pl_object::{ORIGINAL, Reloc, accept};
 use sha2::{Digest, Sha256};
 use std::alloc::{AllocError, Global};
 use std::test::Fail;
 
 const LIBA: &str = "library\ndata 8\nword 0 1111\ndef f global func 0 8\n";
+
 const LIBK: &str = "library\ndata 10\nword 0 5\ndef h global func 0 8\nrel globdat 8 h 0\n";
+
 const LIBV: &str =
     "library\nversion V1\nversion V2\ndata 10\nword 0 1\nword 8 2\ndef foo@V1 global func 0 8\ndef foo@@V2 global func 8 8\n";
+
 const LIBSY: &str = "library\nsymbolic\ndata 10\ndef f global func 0 8\nrel globdat 8 f 0\n";
+
 const LIBPK: &str = "library\ndata 210\nrel packed 0 - 10\nrel packed 8 - 18\nrel packed 200 - 0\n";
 
 const P: &str = "program\nneeds liba\ndata 8\nref f global func\nrel globdat 0 f 0\n";
+
 const K: &str =
     "program\nneeds libk\ndata 18\nref h global func at 10\nrel globdat 0 h 0\nrel jumpslot 8 h 0\n";
+
 const V: &str =
     "program\nneeds libv\ndata 18\nref foo@V1 global func from libv\nref foo@V2 global func from libv\nref foo global func\nrel globdat 0 foo@V1 0\nrel globdat 8 foo@V2 0\nrel globdat 10 foo 0\n";
+
 const Y: &str = "program\nneeds libsy\ndata 8\ndef f global func 0 8\n";
+
 const PK: &str = "program\nneeds libpk\ndata 8\n";
 
 const SLOT: u64 = 0x30_0000_0000;
+
 const STAMP: u32 = 1000;
 
-// A region without any address, and that of the slots.
-const NOWHERE: Range = Range { start: 0, end: 0 };
+// The region of the slots.
 const REGION: Range = Range {
     start: 0x30_0000_0000,
     end: 0x3f_0000_0000,
@@ -61,11 +70,7 @@ fn push_fill(
 }
 
 /// A fill for each relocation, by a word for each of the first of them, 0 for the others.
-pub fn fills_of(
-    alloc: Global,
-    relocations: &[Reloc],
-    words: &[u64],
-) -> Result<Vec<Fill>, AllocError>
+fn fills_of(alloc: Global, relocations: &[Reloc], words: &[u64]) -> Result<Vec<Fill>, AllocError>
     ensures { IfOk result (λ fills. words.AreFills fills.items relocations.now) }
 {
     let mut fills = Vec::new(alloc);
@@ -76,49 +81,24 @@ pub fn fills_of(
     Ok(fills)
 }
 
-/// The object of a file that has a form.
-pub fn object_of(alloc: Global, file: &[u8]) -> Result<Object, Fail>
-    ensures { IfOk result (IsFirm file.now) }
-{
-    if file.len() > ORIGINAL {
-        return Err("a short file".into());
-    }
-    let object = accept(alloc, file)?;
-    if object.kind.is_static() {
-        return Err("a dynamic file".into());
-    }
-    check_form(&object, NOWHERE)?;
-    Ok(object)
-}
-
-fn sha(bytes: &[u8]) -> [u8; 32] {
-    let mut hasher = Sha256::new();
-    hasher.update(bytes);
-    hasher.finalize()
-}
-
-fn hex(text: &[u8; 64]) -> [u8; 32] {
-    let mut bytes = [0; 32];
-    for index in 0..32usize {
-        let high = (text[2 * index] as char).to_digit(16).unwrap_or(0);
-        let low = (text[2 * index + 1] as char).to_digit(16).unwrap_or(0);
-        bytes[index] = (high * 16 + low) as u8;
-    }
-    bytes
-}
-
 // The SHA-256 of a form in version 1 and in version 2; the other builder has no form in version 1 of files with packed relocations.
-type Digests = [&'static [u8; 64]; 2];
+type Digests = [&'static str; 2];
 
-const NONE: &[u8; 64] = b"0000000000000000000000000000000000000000000000000000000000000000";
+const NONE: &str = "";
 
 /// Whether a form has the digest of its version, if there is one.
-fn is_wanted(form: &[u8], version: Version, digests: Digests) -> bool {
+fn is_wanted(
+    alloc: Global,
+    form: &[u8],
+    version: Version,
+    digests: Digests,
+) -> Result<bool, AllocError> {
     let wanted = match version {
         Version::One => digests[0],
         Version::Two => digests[1],
     };
-    *wanted == *NONE || sha(form) == hex(wanted)
+    let found = hex(alloc, &Sha256::digest(form))?;
+    Ok(wanted.is_empty() || found.as_slice() == wanted.as_bytes())
 }
 
 // A library without a list, and the words at its places.
@@ -129,32 +109,32 @@ const LIBRARIES: [LibraryRow; 5] = [
         LIBA,
         &[],
         [
-            b"5dc77fdfbacfb38cfc45f8b0cf6cb108140d9ac273511bc7d41a8cec9e64378b",
-            b"1aaa2aaf584bd6f55019ad1afad96a025ca93a3a85c6963d40f8e025ce4b613b",
+            "5dc77fdfbacfb38cfc45f8b0cf6cb108140d9ac273511bc7d41a8cec9e64378b",
+            "1aaa2aaf584bd6f55019ad1afad96a025ca93a3a85c6963d40f8e025ce4b613b",
         ],
     ),
     (
         LIBK,
         &[Some(0x30_0010_0000)],
         [
-            b"06d86565749e102f736aa02e9dcc37393d79ddb9bf09c8040b8045c285c53231",
-            b"77826a06f8fd6cf8debe31b7b9a0c5fc626fb1148e2fcee5069e6099a8566bf4",
+            "06d86565749e102f736aa02e9dcc37393d79ddb9bf09c8040b8045c285c53231",
+            "77826a06f8fd6cf8debe31b7b9a0c5fc626fb1148e2fcee5069e6099a8566bf4",
         ],
     ),
     (
         LIBV,
         &[],
         [
-            b"0cf8ff49919d49f6a1fd51e25d34eadf7c3d1bad9e49ac800e5a43002f46a5c1",
-            b"e5c4617fb8c10723d2e776bb6368e343d055e73dce85b8be57051a66168649bf",
+            "0cf8ff49919d49f6a1fd51e25d34eadf7c3d1bad9e49ac800e5a43002f46a5c1",
+            "e5c4617fb8c10723d2e776bb6368e343d055e73dce85b8be57051a66168649bf",
         ],
     ),
     (
         LIBSY,
         &[Some(0x30_0010_0000)],
         [
-            b"27e7fdb368037627e4467d69618d77188c754a7ab7eb19679e3a2c035a120ce7",
-            b"090b0efd67efe2dc8fe75ce5c6203c1c140ee264ab19264cd4ef30d06e0609ba",
+            "27e7fdb368037627e4467d69618d77188c754a7ab7eb19679e3a2c035a120ce7",
+            "090b0efd67efe2dc8fe75ce5c6203c1c140ee264ab19264cd4ef30d06e0609ba",
         ],
     ),
     (
@@ -166,7 +146,7 @@ const LIBRARIES: [LibraryRow; 5] = [
         ],
         [
             NONE,
-            b"62df760707bec00edb6dfa0d15a16e7dd9346026d0865a89e67ebd6270dff1a5",
+            "62df760707bec00edb6dfa0d15a16e7dd9346026d0865a89e67ebd6270dff1a5",
         ],
     ),
 ];
@@ -183,16 +163,7 @@ fn library_form(
     if !object.kind.is_library() || words.len() != object.relocations.len() {
         return Err("a library with a word for each relocation".into());
     }
-    Ok(form_library(
-        alloc,
-        &file,
-        &object,
-        SLOT,
-        STAMP,
-        &[],
-        words,
-        version,
-    )?)
+    Ok(form_library(alloc, &file, &object, SLOT, STAMP, &[], words, version)?)
 }
 
 #[test]
@@ -200,7 +171,7 @@ fn forms_of_libraries(rt: HostRuntime) -> Result<(), Fail> {
     for (recipe, words, digests) in LIBRARIES {
         for version in [Version::One, Version::Two] {
             let form = library_form(rt.alloc(), recipe, words, version)?;
-            assert!(rt; is_wanted(&form, version, digests), "{recipe}");
+            assert!(rt; is_wanted(rt.alloc(), &form, version, digests)?, "{recipe}");
         }
     }
     Ok(())
@@ -224,8 +195,8 @@ const PROGRAMS: [ProgramRow; 5] = [
         &[0x30_0010_0000],
         &[],
         [
-            b"df1e012c89f6b72e8b9c7f1bbc6d07c60050fa30245a046cfed4b8e3b25adc9b",
-            b"339827d61b7290780d55177f0cba93d41d4c60dddc8cbe3075475805d942599f",
+            "df1e012c89f6b72e8b9c7f1bbc6d07c60050fa30245a046cfed4b8e3b25adc9b",
+            "339827d61b7290780d55177f0cba93d41d4c60dddc8cbe3075475805d942599f",
         ],
     ),
     (
@@ -238,8 +209,8 @@ const PROGRAMS: [ProgramRow; 5] = [
             word: 0x50_0010,
         }],
         [
-            b"7839f1cdfe397e05388ac1a3284bab437a924cbc4403abbaa30d4cb70ac2a8e3",
-            b"5bf23d33f16dc25b43ecfea3a71201af9cd31c592a51288e59c04d0449c679b4",
+            "7839f1cdfe397e05388ac1a3284bab437a924cbc4403abbaa30d4cb70ac2a8e3",
+            "5bf23d33f16dc25b43ecfea3a71201af9cd31c592a51288e59c04d0449c679b4",
         ],
     ),
     (
@@ -249,8 +220,8 @@ const PROGRAMS: [ProgramRow; 5] = [
         &[0x30_0010_0000, 0x30_0010_0008, 0x30_0010_0000],
         &[],
         [
-            b"ade2d58f88a01559ed611d20a98840882834165a69ad96be49819fa338e1e9fc",
-            b"7b6c3f0f1a2ca3e86a73c90a0e8ee48b710090ef8c98540c3c3ba4dd25fa02dd",
+            "ade2d58f88a01559ed611d20a98840882834165a69ad96be49819fa338e1e9fc",
+            "7b6c3f0f1a2ca3e86a73c90a0e8ee48b710090ef8c98540c3c3ba4dd25fa02dd",
         ],
     ),
     (
@@ -260,8 +231,8 @@ const PROGRAMS: [ProgramRow; 5] = [
         &[],
         &[],
         [
-            b"d8a53d2be0af1f6d1b32bbd73ca02877570000788968c26c8f1bcf165123cb2d",
-            b"d1c57313b1d906c4ad5314912789a9bc118f31248fa9e3f71edd469ec0635222",
+            "d8a53d2be0af1f6d1b32bbd73ca02877570000788968c26c8f1bcf165123cb2d",
+            "d1c57313b1d906c4ad5314912789a9bc118f31248fa9e3f71edd469ec0635222",
         ],
     ),
     (
@@ -272,7 +243,7 @@ const PROGRAMS: [ProgramRow; 5] = [
         &[],
         [
             NONE,
-            b"4ef6258462dbfb79e05624006e8d8aaef4e2c0e035040636efcf7377760b8030",
+            "4ef6258462dbfb79e05624006e8d8aaef4e2c0e035040636efcf7377760b8030",
         ],
     ),
 ];
@@ -283,7 +254,7 @@ fn list_of(alloc: Global, name: &str, recipe: &str) -> Result<Vec<ListRow>, Fail
     let row = ListRow {
         name: Text::copy_of(alloc, name)?,
         stamp: STAMP,
-        checksum: word32(&sha(&file), 0),
+        checksum: word32(&Sha256::digest(&file), 0),
     };
     Ok(Vec::from_array(alloc, [row])?)
 }
@@ -303,9 +274,7 @@ fn program_form(
         return Err("a program".into());
     }
     let fills = fills_of(alloc, object.relocations.as_slice(), words)?;
-    Ok(form_program(
-        alloc, &file, &object, list, &fills, conflicts, version,
-    )?)
+    Ok(form_program(alloc, &file, &object, list, &fills, conflicts, version)?)
 }
 
 #[test]
@@ -314,7 +283,7 @@ fn forms_of_programs(rt: HostRuntime) -> Result<(), Fail> {
         let list = list_of(rt.alloc(), name, library)?;
         for version in [Version::One, Version::Two] {
             let form = program_form(rt.alloc(), recipe, words, &list, conflicts, version)?;
-            assert!(rt; is_wanted(&form, version, digests), "{recipe}");
+            assert!(rt; is_wanted(rt.alloc(), &form, version, digests)?, "{recipe}");
         }
     }
     Ok(())
@@ -324,9 +293,17 @@ fn forms_of_programs(rt: HostRuntime) -> Result<(), Fail> {
 type FaultRow = (&'static str, Range, Option<FormFault>);
 
 const FAULTS: [FaultRow; 6] = [
-    ("library\nspare 1\ndata 8\n", REGION, Some(FormFault::NoSpareTags)),
+    (
+        "library\nspare 1\ndata 8\n",
+        REGION,
+        Some(FormFault::NoSpareTags),
+    ),
     ("library\nspare 2\ndata 8\n", REGION, None),
-    ("program\nspare 3\ndata 8\n", REGION, Some(FormFault::NoSpareTags)),
+    (
+        "program\nspare 3\ndata 8\n",
+        REGION,
+        Some(FormFault::NoSpareTags),
+    ),
     ("program\nspare 4\ndata 8\n", REGION, None),
     (
         "program\ndata 8\n",
