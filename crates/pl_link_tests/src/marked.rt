@@ -19,10 +19,13 @@ use std::process::Abort;
 use std::test::Fail;
 
 const ONE: &str = "program\ndata 10\nword 8 7\nrel relative 0 - 8\n";
+
 const LIBA: &str = "library\ndata 8\nword 0 1111\ndef f global func 0 8\n";
+
 const P: &str = "program\nneeds liba\ndata 8\nref f global func\nrel globdat 0 f 0\n";
 
 const SLOT: u64 = 0x30_0000_0000;
+
 const STAMP: u32 = 1001;
 
 // What stands at each byte of a program's places.
@@ -67,16 +70,7 @@ fn library_form(
 {
     let mut words = Vec::new(alloc);
     words.resize(object.relocations.len(), None)?;
-    Ok(form_library(
-        alloc,
-        file,
-        object,
-        SLOT,
-        STAMP,
-        &[],
-        &words,
-        version,
-    )?)
+    Ok(form_library(alloc, file, object, SLOT, STAMP, &[], &words, version)?)
 }
 
 fn program_form(
@@ -88,15 +82,7 @@ fn program_form(
     requires { IsFirmProgram file.now object.now }
 {
     let fills = fills_of(alloc, object.relocations.as_slice())?;
-    Ok(form_program(
-        alloc,
-        file,
-        object,
-        &[],
-        &fills,
-        &[],
-        version,
-    )?)
+    Ok(form_program(alloc, file, object, &[], &fills, &[], version)?)
 }
 
 /// The object of a file that has a form.
@@ -134,8 +120,11 @@ fn read(alloc: Global, file: &[u8]) -> Result<File, FileFault> {
 
 /// What is read of a file, in one number: the clause that refuses it, or one of those below.
 const MARKED: u32 = 1000;
+
 const BAD: u32 = 1001;
+
 const PLAIN: u32 = 1002;
+
 const MEMORY: u32 = 1003;
 
 fn answer(file: &Result<File, FileFault>) -> u32 {
@@ -155,16 +144,26 @@ type Change = (&'static [u8], usize, &'static [u8]);
 type Row = (&'static str, &'static [Change], u32, u32);
 
 const UNDO: &[u8] = b"PLUNDO0";
+
 const UNDO_NAME: &[u8] = b".gnu.prelink_undo";
+
 const PRELINKED: &[u8] = &[0xf5, 0xfd, 0xff, 0x6f, 0, 0, 0, 0];
-const WORD: &[u8] = &[FILLED, FILLED, FILLED, FILLED, FILLED, FILLED, FILLED, FILLED];
+
+const WORD: &[u8] = &[
+    FILLED, FILLED, FILLED, FILLED, FILLED, FILLED, FILLED, FILLED,
+];
 
 const ROWS: [Row; 11] = [
     (ONE, &[], MARKED, 0),
     (LIBA, &[], MARKED, STAMP),
     (P, &[], MARKED, 0),
     // the original's length; the stamp, past 32 bits and within
-    (LIBA, &[(UNDO, 32, b"\xff\xff\xff\xff\xff\xff\xff\xff")], BAD, 0),
+    (
+        LIBA,
+        &[(UNDO, 32, b"\xff\xff\xff\xff\xff\xff\xff\xff")],
+        BAD,
+        0,
+    ),
     (LIBA, &[(PRELINKED, 8, b"\0\0\0\0\x01\0\0\0")], BAD, 0),
     (LIBA, &[(PRELINKED, 8, b"\x4d\0\0\0\0\0\0\0")], MARKED, 77),
     // the word at a program's place; the name of the undo section, where a prelink tag is left
@@ -250,7 +249,9 @@ fn undo_end(form: &[u8]) -> Option<usize> {
         return None;
     }
     let header = if section[7] == b'1' { 48 } else { 80 };
-    let rows = 64 + 56 * usize::from(word16(section, header + 56)) + 64 * usize::from(word16(section, header + 60));
+    let rows = 64
+        + 56 * usize::from(word16(section, header + 56))
+        + 64 * usize::from(word16(section, header + 60));
     let kept = word64(section, 40);
     if kept > section.len() as u64 {
         return None;
@@ -263,7 +264,12 @@ fn differences(file: &[u8], other: &[u8]) -> Option<usize> {
     if file.len() != other.len() {
         return None;
     }
-    Some(file.iter().zip(other).filter(|pair| pair.0 != pair.1).count())
+    Some(
+        file.iter()
+            .zip(other)
+            .filter(|pair| pair.0 != pair.1)
+            .count(),
+    )
 }
 
 #[test]
