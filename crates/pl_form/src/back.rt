@@ -238,13 +238,7 @@ fn fits_tables(size: usize, header: &Header, dynamic: &Window, tables: &[Table])
 }
 
 /// Puts the stored headers back, and moves the tables back.
-fn put_back(
-    front: &mut [u8],
-    undo: &Undo,
-    header: &Header,
-    dynamic: &Window,
-    tables: &[Table],
-)
+fn put_back(front: &mut [u8], undo: &Undo, header: &Header, dynamic: &Window, tables: &[Table])
     requires head { header.now ≡ headers.header undo.now.headers }
     requires whole { IsWhole undo.now }
     requires room { windows.AllIn (length front.old) (back.head_windows header.now ++ dynamic.now ∷ []) }
@@ -275,7 +269,13 @@ fn tables_back(
         return Ok(None);
     }
     let mut moved = front;
-    put_back(&mut moved, undo, &stored.header, &dynamic, tables.as_slice());
+    put_back(
+        &mut moved,
+        undo,
+        &stored.header,
+        &dynamic,
+        tables.as_slice(),
+    );
     places_back(alloc, undo, stored, tags, moved)
 }
 
