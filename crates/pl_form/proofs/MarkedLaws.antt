@@ -1,0 +1,113 @@
+-- How what a file is made of is told, step by step.
+use Rattle.std.proofs.Common.{◌≡◌, ℕ, ◌+◌, ◌*◌, ◌<◌, ◌≤◌, Bool, true, false, List, [], length, Option, Some, None, Result, Ok, refl, sym, ap, subst, ◌∙◌, arith}
+use Rattle.std.specs.Prelude.{◌&&◌, ◌==◌, nat_le, if◌then◌else◌}
+use Rattle.pl_elf.specs.Kinds.{is_library}
+use Rattle.pl_elf.specs.declared.segment.Segment.{Segment}
+use Rattle.pl_object.specs.Accepted.{Accepted, HasHead}
+use Rattle.pl_object.specs.PlaceClauses.{last_load}
+use Rattle.pl_object.specs.Reads.{reads}
+use Rattle.pl_object.specs.declared.object.Object.{Object}
+use Rattle.pl_object.proofs.AcceptedLaws.{accepted}
+use Rattle.pl_parts.specs.Back.{has_undo_section, find_undo, restored, front_of}
+use Rattle.pl_parts.specs.Forms.{original_of}
+use Rattle.pl_parts.specs.Found.{reader, ss_of, ps_of}
+use Rattle.pl_parts.specs.Parts.{Original}
+use Rattle.pl_parts.specs.declared.parts.Spot.{Spot}
+use Rattle.pl_parts.proofs.AcceptedIs.{segments_are}
+use Rattle.pl_undo.specs.declared.undo.Undo.{Undo}
+use Rattle.pl_form.specs.Originals.{original}
+use Rattle.pl_lists.specs.Conflicts.{ascend, are_conflicts}
+use Rattle.pl_lists.specs.Lists.{list_strings}
+use Rattle.pl_lists.specs.declared.conflict_row.ConflictRow.{ConflictRow}
+use Rattle.pl_lists.specs.declared.list_row.ListRow.{ListRow}
+use Rattle.pl_form.specs.Reading.{IsOwn, OwnIfAny, IsSpelledList, ListIfAny, AreSpelled, SpelledIfAny, with_conflicts, firm_object, lists_in, candidate, standing, zeros_behind, places_in, is_form, checked, marked_by, marked_of, IsMade, IsLayoutOf}
+use Rattle.pl_form.specs.declared.constants.TheConstants.{STORED}
+use Rattle.pl_form.specs.declared.file.Marked.{Marked}
+use Rattle.pl_form.specs.declared.layout.Layout.{Layout}
+use Rattle.pl_form.specs.declared.read.Lists.{Lists}
+use Rattle.pl_form.proofs.AlignLaws.{align_some}
+
+pub made_align : (m : Marked) → IsMade m → 0 < m.object.align
+made_align m made = align_some m.original m.object (accepted m.original m.object made.firm.accepted)
+
+pub layout_is : (o : List ℕ) (l : Layout) → original o l ≡ original_of o → IsLayoutOf o l
+layout_is o l e = record { dynamic = ap (λ (a : Original). a.dynamic) e; spots = ap (λ (a : Original). a.spots) e; tags = ap (λ (a : Original). a.tags) e }
+
+pub flat_is : (file o : List ℕ) (u : Undo) (x : Object) (spots : List Spot) (front flat : List ℕ) → reads o ≡ Ok x → spots ≡ ps_of o → front ≡ front_of u file
+    → flat ≡ standing spots front (zeros_behind (last_load x.segments) file) → flat ≡ places_in o (front_of u file) file
+flat_is file o u x spots front flat r s f e =
+    e ∙ ap (λ (ss : List Segment). standing spots front (zeros_behind (last_load ss) file)) (segments_are o x (accepted o x r))
+    ∙ ap (λ (xs : List ℕ). standing spots xs (zeros_behind (last_load (ss_of o)) file)) f
+    ∙ ap (λ (ps : List Spot). standing ps (front_of u file) (zeros_behind (last_load (ss_of o)) file)) s
+
+steps : (file o : List ℕ) (u : Undo) (x : Object) (l : Lists) → Some x ≡ firm_object o → Some l ≡ lists_in (is_library x.kind) file → marked_by file u o ≡ checked file u (candidate (front_of u file) u o x l)
+unfolding marked_by
+steps file o u x l e f = rw (sym e, sym f) refl
+
+made_here : (file o : List ℕ) (u : Undo) (x : Object) (l : Lists) (m : Marked) (front flat : List ℕ) → front ≡ front_of u file → m ≡ candidate front u o x l → flat ≡ places_in o (front_of u file) file
+    → is_form file (candidate (front_of u file) u o x l) (places_in (candidate (front_of u file) u o x l).original (front_of u file) file) ≡ is_form file m flat
+unfolding candidate
+made_here file o u x l m front flat f is places =
+    ap (λ (xs : List ℕ). is_form file (candidate xs u o x l) (places_in o (front_of u file) file)) (sym f)
+    ∙ ap (λ (n : Marked). is_form file n (places_in o (front_of u file) file)) (sym is)
+    ∙ ap (is_form file m) (sym places)
+
+same_made : (file o : List ℕ) (u : Undo) (x : Object) (l : Lists) (m : Marked) (front : List ℕ) → front ≡ front_of u file → m ≡ candidate front u o x l → candidate (front_of u file) u o x l ≡ m
+same_made file o u x l m front f is = ap (λ (xs : List ℕ). candidate xs u o x l) (sym f) ∙ sym is
+
+pub marked_found : (file o : List ℕ) (u : Undo) (x : Object) (l : Lists) (m : Marked) (front flat : List ℕ) → Some x ≡ firm_object o → Some l ≡ lists_in (is_library x.kind) file → front ≡ front_of u file → m ≡ candidate front u o x l
+    → flat ≡ places_in o (front_of u file) file → true ≡ is_form file m flat → Some m ≡ marked_by file u o
+marked_found file o u x l m front flat e g f is places form =
+    let n = candidate (front_of u file) u o x l in
+    let test : is_form file n (places_in n.original (front_of u file) file) ≡ true = made_here file o u x l m front flat f is places ∙ sym form in
+    let found : checked file u n ≡ Some n = rw test refl in
+    sym (steps file o u x l e g ∙ found ∙ ap (λ (y : Marked). Some y) (same_made file o u x l m front f is))
+
+pub marked_missed : (file o : List ℕ) (u : Undo) (x : Object) (l : Lists) (m : Marked) (front flat : List ℕ) → Some x ≡ firm_object o → Some l ≡ lists_in (is_library x.kind) file → front ≡ front_of u file → m ≡ candidate front u o x l
+    → flat ≡ places_in o (front_of u file) file → false ≡ is_form file m flat → None ≡ marked_by file u o
+marked_missed file o u x l m front flat e g f is places form =
+    let n = candidate (front_of u file) u o x l in
+    let test : is_form file n (places_in n.original (front_of u file) file) ≡ false = made_here file o u x l m front flat f is places ∙ sym form in
+    let none : checked file u n ≡ None = rw test refl in
+    sym (steps file o u x l e g ∙ none)
+
+-- an original that is none
+pub no_object : (file o : List ℕ) (u : Undo) → None ≡ firm_object o → None ≡ marked_by file u o
+unfolding marked_by
+no_object file o u e = rw (sym e) refl
+
+pub no_lists : (file o : List ℕ) (u : Undo) (x : Object) → Some x ≡ firm_object o → None ≡ lists_in (is_library x.kind) file → None ≡ marked_by file u o
+unfolding marked_by
+no_lists file o u x e f = rw (sym e, sym f) refl
+
+-- ---- what the parts say
+
+pub own_here : (o s : List ℕ) (found : Option Object) (x : Object) → OwnIfAny s found → found ≡ Some x → s ≡ o → IsOwn o x
+own_here o s found x own is same = let here : IsOwn s x = subst (OwnIfAny s) is own in subst (λ (ys : List ℕ). IsOwn ys x) same here
+
+pub head_here : (o : List ℕ) (x : Object) → IsOwn o x → HasHead o x
+head_here o x own = (accepted o x own.firm.accepted).head
+
+pub layout_here : (o s : List ℕ) (l : Layout) → original s l ≡ original_of s → s ≡ o → IsLayoutOf o l
+layout_here o s l e same = subst (λ (ys : List ℕ). IsLayoutOf ys l) same (layout_is s l e)
+
+pub spelled_here : (library : Bool) (file : List ℕ) (found : Option Lists) (l : Lists) → SpelledIfAny library file found → found ≡ Some l → AreSpelled library file l
+spelled_here library file found l spelled is = subst (SpelledIfAny library file) is spelled
+
+pub candidate_original : (front : List ℕ) (u : Undo) (o : List ℕ) (x : Object) (l : Lists) (m : Marked) → m ≡ candidate front u o x l → m.original ≡ o
+unfolding candidate
+candidate_original front u o x l m is = ap (λ (n : Marked). n.original) is
+
+none_spelled : are_conflicts [] ≡ true
+unfolding ascend
+none_spelled = refl
+
+pub library_spelled : (file : List ℕ) (size : ℕ) (found : Option (List ListRow)) (list : List ListRow) (conflicts : List ConflictRow) → ListIfAny size found → found ≡ Some list → size ≤ length file → conflicts ≡ [] → AreSpelled true file (with_conflicts list conflicts)
+library_spelled file size found list conflicts spelled is within none =
+    let here : IsSpelledList size list = subst (ListIfAny size) is spelled in
+    record {
+      names = omega (arith, here.names, within);
+      list = here.spelled;
+      conflicts = subst (λ (cs : List ConflictRow). are_conflicts cs ≡ true) (sym none) none_spelled;
+      none = λ library. none;
+    }

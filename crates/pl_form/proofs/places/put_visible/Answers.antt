@@ -1,0 +1,12 @@
+use Rattle.std.proofs.Common.{refl, arith, ◌≡◌}
+use Rattle.pl_form.proofs.PlaceLaws.{spot_here, spot_put, spots_done}
+use Rattle.pl_form.proofs.places.put_visible.Goals as goal
+
+pub loop-spot-init : goal.loop-spot-init
+loop-spot-init c = record { done = refl; room = c.requires.spots }
+
+pub loop-spot-preserved : goal.loop-spot-preserved
+loop-spot-preserved c = spot_put c.args.spots.now _ (record { at = 0; size = 0; hidden = 0; behind = 0 }) _ _ _ _ _ c.loop-spot-test.true c.loop-spot.invariant c.put_spot-rest.ensures.bytes c.put_spot-rest.ensures.rest
+
+pub returns : goal.returns
+returns c = spots_done c.args.spots.now _ _ _ _ c.loop-spot-test.false c.loop-spot.invariant

@@ -1,0 +1,11 @@
+pub mod Originals
+pub mod Faults
+pub mod Words
+pub mod Ends
+pub mod Extending
+pub mod Library
+pub mod Program
+pub mod Stored
+pub mod Marks
+pub mod Reading
+pub mod Alike

@@ -1,0 +1,22 @@
+-- An original with its layout.
+use Rattle.std.specs.Prelude.{◌≡◌, ◌≤◌, ℕ, ◌+◌, ◌*◌, List, length}
+use Rattle.pl_base.specs.Windows.{AllIn}
+use Rattle.pl_elf.specs.Headers.{header}
+use Rattle.pl_move.specs.Moves.{table_windows}
+use Rattle.pl_parts.specs.Back.{spot_windows, wanted}
+use Rattle.pl_parts.specs.Parts.{Original}
+use Rattle.pl_parts.specs.declared.parts.Plan.{Plan}
+use Rattle.pl_form.specs.declared.layout.Layout.{Layout}
+
+abbrev pub original : List ℕ → Layout → Original
+original bytes l = record { bytes = bytes; dynamic = l.dynamic; tables = l.tables; spots = l.spots; tags = l.tags }
+
+-- what a plan is written over lies in the original, and there is a byte for each byte of a place
+pub record LiesIn (bytes : List ℕ) (l : Layout) (p : Plan) (flat : List ℕ) : Type 0 where
+  pub long : 64 ≤ length bytes
+  pub tables : AllIn (length bytes) (table_windows l.tables)
+  pub spots : AllIn (length bytes) (spot_windows l.spots)
+  pub filled : length flat ≡ wanted l.spots
+  pub dynamic : l.dynamic.at + length p.dynamic ≤ length bytes
+  pub segments : (header bytes).phoff + 56 * length p.segments ≤ length bytes
+  pub cut : p.cut ≤ length bytes

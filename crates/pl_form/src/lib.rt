@@ -1,0 +1,43 @@
+//! The form that prelinking gives an accepted library or program, and the file that comes back from it.
+#![tactic(auto)]
+
+mod alike;
+mod back;
+mod bytes;
+mod check;
+pub mod constants;
+mod extension;
+mod fault;
+mod file;
+mod form_with;
+mod found;
+mod has_mark;
+mod law;
+mod layout;
+mod library;
+mod library_form;
+mod mark;
+mod places;
+mod program;
+mod program_form;
+mod read;
+mod reading;
+mod undo_part;
+mod undoing;
+mod version;
+mod windows;
+mod write;
+
+pub use alike::forms_leave_the_rest;
+pub use check::check_form;
+pub use constants::STORED;
+pub use fault::{FileFault, FormFault};
+pub use file::{Entry, File, Files, Fill, Marked};
+pub use law::forms_have_one_original;
+use layout::Layout;
+pub use library_form::form_library;
+use mark::Mark;
+pub use program_form::form_program;
+pub use reading::read_file;
+pub use undoing::undo;
+pub use version::Version;

@@ -1,0 +1,360 @@
+// What is read of a file that may be a form.
+ghost use Rattle.std.specs.Prelude.{◌≡◌, ◌+◌, ◌++◌, ◌*◌, ◌%◌, ◌^◌, ◌<◌, ◌≤◌, length, true, false, IfOk, OnOk, if◌then◌else◌};
+ghost use Rattle.pl_base.specs.Bytes.{part, word64};
+ghost use Rattle.pl_base.specs.Windows.{within};
+ghost use Rattle.pl_elf.specs.Kinds.{is_library};
+ghost use Rattle.pl_lists.specs.Reading.{list_of, conflicts_of};
+ghost use Rattle.pl_object.specs.PlaceClauses.{last_load};
+ghost use Rattle.pl_parts.specs.Back.{has_undo_section};
+ghost use Rattle.pl_parts.specs.Found.{ps_of};
+ghost use Rattle.pl_form.specs.Marks.{IsFormOf};
+ghost use Rattle.pl_form.specs.Words.{checksum_of};
+ghost use Rattle.pl_form.specs.Reading as spec;
+
+use crate::back::{are_filled, find_undo, front_of, restored};
+use crate::form_with::form_with;
+use crate::found::word_or_zeros;
+use crate::has_mark::has_mark;
+use crate::library_form::{digest_of, layout_of};
+use crate::{Layout, Marked, STORED, Version, check_form};
+use pl_base::{Rows, end, part, word32};
+use pl_elf::{Range, header_fields, read_section};
+use pl_lists::{ConflictRow, ListFault, ListRow, read_conflicts, read_list};
+use pl_object::{Object, Refusal, accept, last_load as last_segment};
+use pl_parts::Spot;
+use pl_undo::{DIGEST_SIZE, Undo};
+use std::alloc::{AllocError, Global};
+
+/// An original has fewer bytes.
+const MOST_BYTES: usize = 4_294_967_296;
+
+/// The lists of a form.
+#[derive(Drop)]
+pub struct Lists {
+    pub list: Rows<ListRow>,
+    pub conflicts: Rows<ConflictRow>,
+}
+
+/// Whether an object is a program or library without form fault other than InRegion.
+fn has_form(object: &Object) -> bool
+    ensures { result ≡ spec.has_form object.now }
+{
+    let nowhere = Range { start: 0, end: 0 };
+    !object.kind.is_static() && check_form(object, nowhere).is_ok()
+}
+
+/// Whether an accepted file may be an original: it has a form, and no mark.
+fn is_firm(alloc: Global, bytes: &[u8], object: &Object) -> Result<bool, AllocError>
+    requires { length bytes.now < 2 ^ 32 }
+    ensures { IfOk result (λ b. b ≡ spec.is_firm bytes.now object.now) }
+{
+    if !has_form(object) {
+        return Ok(false);
+    }
+    Ok(!has_mark(alloc, bytes)?)
+}
+
+/// The object that an original is; None where the bytes are no original of a form.
+#[tactic(auto, unfolding(crate::specs::Reading::firm_object))]
+fn firm_object(alloc: Global, bytes: &[u8]) -> Result<Option<Object>, AllocError>
+    ensures exact { IfOk result (λ o. o ≡ spec.firm_object bytes.now) }
+    ensures own { IfOk result (spec.OwnIfAny bytes.now) }
+{
+    if bytes.len() >= MOST_BYTES {
+        return Ok(None);
+    }
+    let object = match accept(alloc, bytes) {
+        Ok(object) => object,
+        Err(Refusal::NoMemory) => return Err(AllocError),
+        Err(Refusal::Clause { .. }) => return Ok(None),
+    };
+    if !is_firm(alloc, bytes, &object)? {
+        return Ok(None);
+    }
+    Ok(Some(object))
+}
+
+/// The bytes of the section so many rows before the end of the section header table.
+fn section_bytes(file: &[u8], rows: u16) -> &[u8]
+    requires undo { has_undo_section file.now ≡ true }
+    requires rows { 2 ≤ rows }
+    ensures bytes { result.now ≡ spec.section_bytes rows file.now }
+    ensures within { length result.now ≤ length file.now }
+{
+    let header = header_fields(file);
+    let section = read_section(file, &header, header.shnum.saturating_sub(rows));
+    part(file, u128::from(section.offset), section.size)
+}
+
+fn list_in(alloc: Global, table: &[u8], strings: &[u8]) -> Result<Option<Rows<ListRow>>, AllocError>
+    ensures exact { IfOk result (λ o. o ≡ spec.spelled (list_of table.now strings.now)) }
+    ensures spelled { IfOk result (spec.ListIfAny (length strings.now)) }
+{
+    match read_list(alloc, table, strings) {
+        Ok(list) => Ok(Some(list)),
+        Err(ListFault::BadList) => Ok(None),
+        Err(ListFault::NoMemory) => Err(AllocError),
+    }
+}
+
+fn conflicts_in(alloc: Global, table: &[u8]) -> Result<Option<Rows<ConflictRow>>, AllocError>
+    ensures exact { IfOk result (λ o. o ≡ spec.spelled (conflicts_of table.now)) }
+    ensures spelled { IfOk result spec.ConflictsIfAny }
+{
+    match read_conflicts(alloc, table) {
+        Ok(conflicts) => Ok(Some(conflicts)),
+        Err(ListFault::BadList) => Ok(None),
+        Err(ListFault::NoMemory) => Err(AllocError),
+    }
+}
+
+fn library_lists(alloc: Global, file: &[u8]) -> Result<Option<Lists>, AllocError>
+    requires { has_undo_section file.now ≡ true }
+    ensures exact { IfOk result (λ o. o ≡ spec.library_lists file.now) }
+    ensures spelled { IfOk result (spec.SpelledIfAny true file.now) }
+{
+    let Some(list) = list_in(alloc, section_bytes(file, 3), section_bytes(file, 4))? else {
+        return Ok(None);
+    };
+    Ok(Some(Lists {
+        list,
+        conflicts: Rows::new(alloc),
+    }))
+}
+
+fn program_lists(alloc: Global, file: &[u8]) -> Result<Option<Lists>, AllocError>
+    requires { has_undo_section file.now ≡ true }
+    ensures exact { IfOk result (λ o. o ≡ spec.program_lists file.now) }
+    ensures spelled { IfOk result (spec.SpelledIfAny false file.now) }
+{
+    let Some(list) = list_in(alloc, section_bytes(file, 4), section_bytes(file, 5))? else {
+        return Ok(None);
+    };
+    let Some(conflicts) = conflicts_in(alloc, section_bytes(file, 3))? else {
+        return Ok(None);
+    };
+    Ok(Some(Lists { list, conflicts }))
+}
+
+/// The lists that a library's form or a program's has in its sections; None where their bytes spell none.
+#[tactic(auto, unfolding(crate::specs::Reading::lists_in))]
+fn lists_in(alloc: Global, object: &Object, file: &[u8]) -> Result<Option<Lists>, AllocError>
+    requires { has_undo_section file.now ≡ true }
+    ensures exact { IfOk result (λ o. o ≡ spec.lists_in (is_library object.now.kind) file.now) }
+    ensures spelled { IfOk result (spec.SpelledIfAny (is_library object.now.kind) file.now) }
+{
+    if object.kind.is_library() {
+        library_lists(alloc, file)
+    } else {
+        program_lists(alloc, file)
+    }
+}
+
+/// The zeros of the last PT_LOAD, as they stand in a file.
+fn zeros_behind<'a>(object: &Object, file: &'a [u8]) -> &'a [u8]
+    ensures { result.now ≡ spec.zeros_behind (last_load object.now.segments) file.now }
+{
+    match last_segment(object.segments.as_slice()) {
+        None => &file[file.len()..],
+        Some(last) => {
+            let cut = end(last.offset, last.filesz);
+            part(file, cut, last.memsz.saturating_sub(last.filesz))
+        }
+    }
+}
+
+/// Adds the bytes that stand at a place.
+fn push_standing(
+    flat: &mut Vec<u8>,
+    spot: &Spot,
+    front: &[u8],
+    zeros: &[u8],
+) -> Result<(), AllocError>
+    ensures { OnOk result (flat.new.items ≡ flat.old.items ++ part spot.now.at spot.now.size front.now ++ part spot.now.behind spot.now.hidden zeros.now) }
+{
+    flat.extend_from_slice(part(front, spot.at, spot.size))?;
+    flat.extend_from_slice(part(zeros, spot.behind, spot.hidden))
+}
+
+/// The bytes that stand at all places, in a file's bytes and in the zeros.
+fn standing(
+    alloc: Global,
+    spots: &[Spot],
+    front: &[u8],
+    zeros: &[u8],
+) -> Result<Vec<u8>, AllocError>
+    ensures { IfOk result (λ v. v.items ≡ spec.standing spots.now front.now zeros.now) }
+{
+    let mut flat = Vec::new(alloc);
+    for spot in spots {
+        push_standing(&mut flat, spot, front, zeros)?;
+    }
+    Ok(flat)
+}
+
+fn version_in(digest: &Option<[u8; DIGEST_SIZE]>) -> Version
+    ensures { result ≡ spec.version_in digest.now }
+{
+    match digest {
+        None => Version::One,
+        Some(_) => Version::Two,
+    }
+}
+
+/// The stamp that stands in the first entry behind the tags.
+fn stamp_in(layout: &Layout, front: &[u8]) -> u32
+    ensures { result ≡ word64 (16 * layout.now.tags + 8) (within layout.now.dynamic front.now) % 2 ^ 32 }
+{
+    let table = part(front, layout.dynamic.at(), layout.dynamic.size());
+    (word_or_zeros(table, 16 * u128::from(layout.tags) + 8) % 4_294_967_296) as u32
+}
+
+/// The stamp and the checksum of a library; both are 0 for a program.
+fn numbers_in(object: &Object, original: &[u8], layout: &Layout, front: &[u8]) -> (u32, u32)
+    requires { spec.IsLayoutOf original.now layout.now }
+    ensures stamp { result.0 ≡ (if is_library object.now.kind then spec.stamp_in original.now front.now else 0) }
+    ensures checksum { result.1 ≡ (if is_library object.now.kind then checksum_of original.now else 0) }
+{
+    if !object.kind.is_library() {
+        return (0, 0);
+    }
+    (stamp_in(layout, front), word32(&digest_of(original), 0))
+}
+
+/// All that a file would be made of whose front is this.
+#[tactic(auto, unfolding(crate::specs::Reading::candidate))]
+fn candidate(
+    undo: &Undo,
+    original: Rows<u8>,
+    object: Object,
+    layout: &Layout,
+    lists: Lists,
+    front: &[u8],
+) -> Marked
+    requires { spec.IsLayoutOf original layout.now }
+    ensures { result ≡ spec.candidate front.now undo.now original object lists }
+{
+    let (stamp, checksum) = numbers_in(&object, original.as_slice(), layout, front);
+    let Lists { list, conflicts } = lists;
+    Marked {
+        object,
+        original,
+        slot: undo.slot,
+        stamp,
+        checksum,
+        list,
+        conflicts,
+        version: version_in(&undo.digest),
+    }
+}
+
+/// Whether the slot is one that such an object may have.
+#[tactic(auto, unfolding(crate::specs::Reading::is_placed))]
+fn is_placed(marked: &Marked) -> bool
+    requires { 0 < marked.now.object.align }
+    ensures { result ≡ spec.is_placed marked.now }
+{
+    let object = &marked.object;
+    if !object.kind.is_library() {
+        return marked.slot == 0;
+    }
+    marked.slot % 2 == 0
+        && marked.slot % object.align == 0
+        && end(marked.slot, object.span) <= 1 << 47
+}
+
+/// Whether there is a byte for each byte of a place, and the slot is one that such an object may have.
+fn fits(marked: &Marked, spots: &[Spot], size: usize) -> bool
+    requires { 0 < marked.now.object.align }
+    ensures { result ≡ spec.fits marked.now spots.now size }
+{
+    are_filled(spots, 0, size as u128) && is_placed(marked)
+}
+
+/// Whether a file is the form with these bytes at the places.
+#[tactic(auto, unfolding(crate::specs::Reading::is_form))]
+fn is_form(
+    alloc: Global,
+    file: &[u8],
+    marked: &Marked,
+    spots: &[Spot],
+    flat: &[u8],
+) -> Result<bool, AllocError>
+    requires file { length file.now ≤ STORED }
+    requires made { spec.IsMade marked.now }
+    requires spots { spots.now ≡ ps_of marked.now.original }
+    ensures { IfOk result (λ b. b ≡ spec.is_form file.now marked.now flat.now) }
+{
+    if !fits(marked, spots, flat.len()) {
+        return Ok(false);
+    }
+    match form_with(alloc, marked, flat)? {
+        None => Ok(false),
+        Some(form) => Ok(file == form.as_slice()),
+    }
+}
+
+/// The same. Where it is, the file is a form of what is given.
+fn makes_file(
+    alloc: Global,
+    file: &[u8],
+    marked: &Marked,
+    spots: &[Spot],
+    flat: &[u8],
+) -> Result<bool, AllocError>
+    requires file { length file.now ≤ STORED }
+    requires made { spec.IsMade marked.now }
+    requires spots { spots.now ≡ ps_of marked.now.original }
+    ensures exact { IfOk result (λ b. b ≡ spec.is_form file.now marked.now flat.now) }
+    ensures form { IfOk result (λ b. b ≡ true → IsFormOf file.now marked.now) }
+{
+    is_form(alloc, file, marked, spots, flat)
+}
+
+/// What a file is made of, if it is a form of this original.
+#[tactic(auto, unfolding(crate::specs::Reading::marked_by))]
+fn marked_by(
+    alloc: Global,
+    file: &[u8],
+    undo: &Undo,
+    original: Rows<u8>,
+) -> Result<Option<Marked>, AllocError>
+    requires file { length file.now ≤ STORED }
+    requires undo { has_undo_section file.now ≡ true }
+    ensures exact { IfOk result (λ o. o ≡ spec.marked_by file.now undo.now original) }
+    ensures form { IfOk result (spec.FormIfAny file.now) }
+{
+    let Some(object) = firm_object(alloc, original.as_slice())? else {
+        return Ok(None);
+    };
+    let Some(lists) = lists_in(alloc, &object, file)? else {
+        return Ok(None);
+    };
+    let layout = layout_of(alloc, original.as_slice(), &object)?;
+    let front = front_of(alloc, undo, file)?;
+    let zeros = zeros_behind(&object, file);
+    let flat = standing(alloc, layout.spots.as_slice(), &front, zeros)?;
+    let marked = candidate(undo, original, object, &layout, lists, &front);
+    if !makes_file(alloc, file, &marked, layout.spots.as_slice(), &flat)? {
+        return Ok(None);
+    }
+    Ok(Some(marked))
+}
+
+/// What a file is made of, if it is a form.
+#[tactic(auto, unfolding(crate::specs::Reading::marked_of))]
+pub fn marked_of(alloc: Global, file: &[u8]) -> Result<Option<Marked>, AllocError>
+    ensures exact { IfOk result (λ o. o ≡ spec.marked_of file.now) }
+    ensures form { IfOk result (spec.FormIfAny file.now) }
+{
+    if file.len() > STORED {
+        return Ok(None);
+    }
+    let Some(undo) = find_undo(alloc, file)? else {
+        return Ok(None);
+    };
+    let Some(original) = restored(alloc, &undo, file)? else {
+        return Ok(None);
+    };
+    marked_by(alloc, file, &undo, original)
+}

@@ -1,0 +1,39 @@
+// What a file is.
+ghost use Rattle.std.specs.Prelude.{◌≡◌, ◌<◌, ◌^◌, length, IfErr, IfOk, Ok, Err};
+ghost use Rattle.pl_base.specs.Answers.{Answers};
+ghost use Rattle.pl_object.specs.Reads.{reads};
+ghost use Rattle.pl_form.specs.Marks as spec;
+ghost use Rattle.pl_form.specs.declared.fault.FileFault.TheVariants as faults;
+ghost use Rattle.pl_form.specs.declared.file.File.TheVariants as files;
+ghost use Rattle.pl_form.specs.declared.file.Marked.{Marked};
+
+use crate::has_mark::has_mark;
+use crate::read::marked_of;
+use crate::{File, FileFault};
+use pl_object::accept;
+use std::alloc::Global;
+
+/// What a file of fewer than 2^32 bytes is.
+///
+/// Marked comes exactly where the file is a form, with its one original, slot, stamp, checksum, list, conflicts and version. BadMark comes exactly where it is no form and bears a mark: clauses 1 to 8 of acceptance hold, and there is a section `.gnu.prelink_undo`, or a prelink tag in a dynamic table of which clause 9 holds. Any other file is Plain where it is accepted, else Refused by the first clause that refuses it.
+pub fn read_file(alloc: Global, bytes: &[u8]) -> Result<File, FileFault>
+    requires { length bytes.now < 2 ^ 32 }
+    // What is answered is so.
+    ensures is { IfOk result (λ file. spec.IsFile bytes.now file) }
+    ensures refused { IfErr result (λ fault. spec.IsFault bytes.now fault) }
+    // A form is answered, with all that it is made of, unless there is no memory.
+    ensures marked { (m : Marked) → spec.IsFormOf bytes.now m → Answers spec.is_memory result (Ok (files.Marked m)) }
+    ensures bad { spec.IsBadMark bytes.now → Answers spec.is_memory result (Err faults.BadMark) }
+    ensures plain { spec.IsPlain bytes.now → Answers spec.is_memory result (spec.as_file (reads bytes.now)) }
+{
+    if let Some(marked) = marked_of(alloc, bytes)? {
+        return Ok(File::Marked(marked));
+    }
+    if has_mark(alloc, bytes)? {
+        return Err(FileFault::BadMark);
+    }
+    match accept(alloc, bytes) {
+        Ok(object) => Ok(File::Plain(object)),
+        Err(refusal) => Err(FileFault::Refused(refusal)),
+    }
+}

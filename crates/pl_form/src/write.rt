@@ -1,0 +1,195 @@
+// A form by its plan.
+ghost use Rattle.std.specs.Prelude.{◌≡◌, ◌+◌, ◌++◌, ◌<◌, ◌≤◌, ◌^◌, ◌∷◌, [], length, IfOk, OnOk};
+ghost use Rattle.pl_elf.specs.Headers as headers;
+ghost use Rattle.pl_elf.specs.Clauses.{names};
+ghost use Rattle.pl_parts.specs.Back.{inserted};
+ghost use Rattle.pl_parts.specs.Fits.{Fits};
+ghost use Rattle.pl_parts.specs.Parts as parts;
+ghost use Rattle.pl_form.specs.Ends as ends;
+ghost use Rattle.pl_form.specs.Originals.{LiesIn, original};
+ghost use Rattle.pl_base.specs.Bytes.{put};
+ghost use Rattle.pl_elf.specs.Written.{header_bytes};
+
+use crate::Layout;
+use crate::bytes::{plain, push_part, put_bytes, section_table, segment_table, up};
+use crate::places::put_visible;
+use pl_base::Rows;
+use pl_elf::constants::{HEADER_SIZE, SHT_PROGBITS, SHT_STRTAB};
+use pl_elf::{Header, Section, header_fields, read_section, section_data, write_header};
+use pl_move::move_tables;
+use pl_parts::Plan;
+use pl_parts::constants::{NAMES_NAME, UNDO_NAME};
+use std::alloc::{AllocError, Global};
+
+/// The original's bytes moved, with bytes at the places, and the new dynamic table and program headers.
+#[tactic(auto, unfolding(pl_parts::specs::Parts::moved_part))]
+fn under_header(
+    alloc: Global,
+    bytes: &[u8],
+    layout: &Layout,
+    plan: &Plan,
+    flat: &[u8],
+) -> Result<Vec<u8>, AllocError>
+    requires { LiesIn bytes.now layout.now plan.now flat.now }
+    ensures under { IfOk result (λ v. v.items ≡ parts.under_header plan.now (original bytes.now layout.now) flat.now) }
+    ensures size { IfOk result (λ v. length v.items ≡ length bytes.now) }
+{
+    let phoff = header_fields(bytes).phoff;
+    let segments = segment_table(alloc, plan.segments.as_slice())?;
+    let mut front = Vec::from_slice(alloc, bytes)?;
+    move_tables(&mut front, layout.tables.as_slice(), plan.slot);
+    put_visible(&mut front, layout.spots.as_slice(), flat);
+    put_bytes(
+        &mut front,
+        layout.dynamic.at() as usize,
+        plan.dynamic.as_slice(),
+    );
+    put_bytes(&mut front, phoff as usize, &segments);
+    Ok(front)
+}
+
+/// Bytes with others inserted at an offset.
+fn with_inserted(
+    alloc: Global,
+    cut: usize,
+    more: &[u8],
+    bytes: &[u8],
+) -> Result<Vec<u8>, AllocError>
+    requires { cut ≤ length bytes.now }
+    ensures { IfOk result (λ v. v.items ≡ inserted cut more.now bytes.now) }
+{
+    let mut file = Vec::from_slice(alloc, &bytes[..cut])?;
+    file.extend_from_slice(more)?;
+    file.extend_from_slice(&bytes[cut..])?;
+    Ok(file)
+}
+
+/// Adds each part at the next multiple of 8.
+fn push_parts(file: &mut Vec<u8>, next: &[Rows<u8>]) -> Result<(), AllocError>
+    ensures { OnOk result (file.new.items ≡ parts.joined file.old.items next.now) }
+{
+    for part in next {
+        push_part(file, part.as_slice())?;
+    }
+    Ok(())
+}
+
+/// The bytes of the section of section names.
+pub fn old_names<'a>(bytes: &'a [u8]) -> &'a [u8]
+    requires row { headers.section_offset (headers.header bytes.now) (headers.header bytes.now).shstrndx + 64 ≤ length bytes.now }
+    requires long { 64 ≤ length bytes.now }
+    ensures { result.now ≡ names bytes.now (headers.header bytes.now) }
+{
+    let header = header_fields(bytes);
+    section_data(bytes, &read_section(bytes, &header, header.shstrndx))
+}
+
+/// The names of the sections of a form: the original's, then the new ones.
+fn names_part(alloc: Global, old: &[u8], plan: &Plan) -> Result<Vec<u8>, AllocError>
+    ensures { IfOk result (λ v. v.items ≡ old.now ++ (plan.now.names ++ (UNDO_NAME ++ NAMES_NAME))) }
+{
+    let mut names = Vec::from_slice(alloc, old)?;
+    names.extend_from_slice(plan.names.as_slice())?;
+    names.extend_from_slice(&UNDO_NAME)?;
+    names.extend_from_slice(&NAMES_NAME)?;
+    Ok(names)
+}
+
+/// The original's bytes with all that changes in them but the header, with the inserted bytes, and the parts of a form that stand before its undo section.
+fn body(
+    alloc: Global,
+    bytes: &[u8],
+    layout: &Layout,
+    plan: &Plan,
+    flat: &[u8],
+) -> Result<Vec<u8>, AllocError>
+    requires { LiesIn bytes.now layout.now plan.now flat.now }
+    ensures { IfOk result (λ v. v.items ≡ parts.joined (inserted plan.now.cut plan.now.more (parts.under_header plan.now (original bytes.now layout.now) flat.now)) plan.now.parts) }
+{
+    let front = under_header(alloc, bytes, layout, plan, flat)?;
+    let mut file = with_inserted(alloc, plan.cut, plan.more.as_slice(), &front)?;
+    push_parts(&mut file, plan.parts.as_slice())?;
+    Ok(file)
+}
+
+/// Adds the undo section and the names, and answers the section header table that follows them.
+fn push_ends(
+    alloc: Global,
+    file: &mut Vec<u8>,
+    old: &[u8],
+    plan: &Plan,
+    undo: &[u8],
+) -> Result<Vec<Section>, AllocError>
+    requires { ends.names_end (length file.old.items) old.now plan.now (length undo.now) < 2 ^ 32 }
+    ensures file { OnOk result (file.new.items ≡ parts.joined file.old.items (undo.now ∷ parts.all_names old.now plan.now ∷ [])) }
+    ensures rows { IfOk result (λ v. v.items ≡ ends.ended_rows (length file.old.items) old.now plan.now (length undo.now)) }
+{
+    let name = old.len() + plan.names.len();
+    let names = names_part(alloc, old, plan)?;
+    let mut rows = Vec::from_slice(alloc, plan.sections.as_slice())?;
+    rows.push(plain(name, SHT_PROGBITS, up(file.len()), undo.len()))?;
+    push_part(file, undo)?;
+    rows.push(plain(
+        name + UNDO_NAME.len(),
+        SHT_STRTAB,
+        up(file.len()),
+        names.len(),
+    ))?;
+    push_part(file, &names)?;
+    Ok(rows)
+}
+
+/// The header of a form whose section header table of so many rows stands at an offset.
+fn new_header(old: &Header, plan: &Plan, table: usize) -> Header
+    requires { length plan.now.sections + 2 < 2 ^ 16 }
+    ensures { result ≡ ends.header_with old.now plan.now table }
+{
+    let entry = if old.entry == 0 {
+        0
+    } else {
+        old.entry.wrapping_add(plan.slot)
+    };
+    let rows = plan.sections.len() as u16;
+    Header {
+        entry,
+        shoff: table as u64,
+        shnum: rows + 2,
+        shstrndx: rows + 1,
+        ..*old
+    }
+}
+
+/// Puts a header at the start of a file.
+fn put_header(file: &mut Vec<u8>, header: &Header)
+    requires { 64 ≤ length file.old.items }
+    ensures { file.new.items ≡ put 0 (header_bytes header.now) file.old.items }
+{
+    let mut row = [0; HEADER_SIZE];
+    write_header(header, &mut row);
+    put_bytes(file, 0, &row);
+}
+
+/// The form of an original by a plan, with the bytes for all places and those of the undo section.
+pub fn write_form(
+    alloc: Global,
+    bytes: &[u8],
+    layout: &Layout,
+    plan: &Plan,
+    flat: &[u8],
+    undo: &[u8],
+) -> Result<Vec<u8>, AllocError>
+    requires fits { Fits plan.now (original bytes.now layout.now) flat.now (length undo.now) }
+    requires names { headers.section_offset (headers.header bytes.now) (headers.header bytes.now).shstrndx + 64 ≤ length bytes.now }
+    ensures { IfOk result (λ v. v.items ≡ parts.form plan.now (original bytes.now layout.now) flat.now undo.now) }
+{
+    let mut file = body(alloc, bytes, layout, plan, flat)?;
+    let names = old_names(bytes);
+    let rows = push_ends(alloc, &mut file, names, plan, undo)?;
+    let at = up(file.len());
+    let old = header_fields(bytes);
+    let header = new_header(&old, plan, at);
+    let table = section_table(alloc, &rows)?;
+    push_part(&mut file, &table)?;
+    put_header(&mut file, &header);
+    Ok(file)
+}
