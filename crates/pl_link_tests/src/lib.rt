@@ -6,8 +6,6 @@ mod build;
 #[cfg(test)]
 mod image;
 #[cfg(test)]
-mod init;
-#[cfg(test)]
 mod object;
 #[cfg(test)]
 mod samples;
