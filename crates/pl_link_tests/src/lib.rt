@@ -8,8 +8,6 @@ mod forms;
 #[cfg(test)]
 mod image;
 #[cfg(test)]
-mod init;
-#[cfg(test)]
 mod marked;
 #[cfg(test)]
 mod object;
