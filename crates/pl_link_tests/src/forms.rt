@@ -1,6 +1,6 @@
 // The forms of recipes, byte for byte against a builder that is not this one, and what is in the way of a form.
 ghost use Rattle.std.specs.Prelude.{◌≡◌, ◌++◌, ◌∷◌, [], map, filter, IfOk, OnOk};
-ghost use Rattle.pl_form.specs.Words as words;
+ghost use Rattle.pl_form.specs.Words as spec;
 ghost use Rattle.pl_object.specs.Relocations.{places};
 
 use crate::build::hex;
@@ -56,7 +56,7 @@ fn push_fill(
     reloc: &Reloc,
     word: u64,
 ) -> Result<(), AllocError>
-    ensures { OnOk result (map words.window_of fills.new.items ≡ map words.window_of fills.old.items ++ places (filter words.has_place (reloc.now ∷ []))) }
+    ensures { OnOk result (map spec.window_of fills.new.items ≡ map spec.window_of fills.old.items ++ places (filter spec.has_place (reloc.now ∷ []))) }
 {
     if reloc.kind == R_X86_64_NONE {
         return Ok(());
@@ -66,12 +66,13 @@ fn push_fill(
     fills.push(Fill {
         address: reloc.address,
         bytes: Rows::from_vec(bytes),
-    })
+    })?;
+    Ok(())
 }
 
 /// A fill for each relocation, by a word for each of the first of them, 0 for the others.
 fn fills_of(alloc: Global, relocations: &[Reloc], words: &[u64]) -> Result<Vec<Fill>, AllocError>
-    ensures { IfOk result (λ fills. words.AreFills fills.items relocations.now) }
+    ensures { IfOk result (λ fills. spec.AreFills fills.items relocations.now) }
 {
     let mut fills = Vec::new(alloc);
     for index in 0..relocations.len() {
