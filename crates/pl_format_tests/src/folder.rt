@@ -37,7 +37,7 @@ fn knows_files(rt: HostRuntime) -> Result<(), AllocError> {
 }
 
 /// A folder of two files, which answers so many calls but one that fails.
-fn folder(alloc: Global, fails: u64, calls: u32) -> Result<MemoryFolder, FolderFault> {
+pub(crate) fn folder(alloc: Global, fails: u64, calls: u32) -> Result<MemoryFolder, FolderFault> {
     let files = files(alloc, &["q", NEW_FILE])?;
     if !are_files(&files) {
         return Err(FolderFault::NotThere);

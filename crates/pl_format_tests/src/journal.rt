@@ -1,9 +1,11 @@
 // Tests of pl_journal, over a folder in memory.
+ghost use Rattle.pl_base.specs.Names.{IsNameLength};
+
 use crate::folder::{Listed, has};
 use pl_base::{Rows, Text};
-use pl_folder::{Folder, MemoryFolder, are_files};
+use pl_folder::{Folder, FolderFault, MemoryFolder, are_files};
 use pl_journal::{
-    Change, JournalFault, Row, are_changes, carry_out, read_journal, recover, recover_lent,
+    Change, JournalFault, Row, Takes, are_changes, carry_out, read_journal, recover, recover_lent,
     write_journal,
 };
 use pl_stage::Held;
@@ -209,6 +211,91 @@ fn goes_from_state_to_state(rt: HostRuntime) -> Result<(), JournalFault> {
     assert!(rt; folder.moments() == 23);
     assert!(rt; has(alloc, &mut folder, AFTER)?);
     assert!(rt; each_is_whole(alloc, &folder)?);
+    for fails in 0..23 {
+        let mut folder = folder_of(alloc, BEFORE, vec![in alloc; fails; 1]?)?;
+        assert!(rt;
+            run_by_states(alloc, &mut folder) == Err(JournalFault::Failed),
+            "{fails}"
+        );
+        assert!(rt; stands_for(alloc, &mut folder)?.is_some(), "{fails}");
+    }
+    Ok(())
+}
+
+/// Stops after the staging: nothing is committed.
+fn stop_staged(alloc: Global, folder: &mut MemoryFolder) -> Result<(), JournalFault> {
+    let changes = changes(alloc)?;
+    if !are_changes(&changes) {
+        return Err(JournalFault::BadJournal);
+    }
+    let mut held = Held { folder };
+    let settled = recover(&mut held, alloc)?;
+    let staged = settled.stage(alloc, &changes)?;
+    staged.stop().leave();
+    Ok(())
+}
+
+#[test]
+fn stops_before_the_commit(rt: HostRuntime) -> Result<(), JournalFault> {
+    let alloc = rt.alloc();
+    let mut folder = folder_of(alloc, BEFORE, Vec::new(alloc))?;
+    stop_staged(alloc, &mut folder)?;
+    assert!(rt; stands_for(alloc, &mut folder)? == Some(BEFORE));
+    Ok(())
+}
+
+/// Whether a file reads so, in a state.
+fn reads<T: Takes>(alloc: Global, state: &mut T, name: &str, bytes: &[u8]) -> bool
+    requires { IsNameLength name.now }
+{
+    match state.take_now(alloc, name) {
+        Ok(taken) => taken.as_slice() == bytes,
+        Err(_) => false,
+    }
+}
+
+/// Whether a file is taken as it is when a run has recovered the folder, and nothing is changed.
+fn takes_settled(alloc: Global, folder: &mut MemoryFolder) -> Result<bool, JournalFault> {
+    let mut held = Held { folder };
+    let mut settled = recover(&mut held, alloc)?;
+    let old = reads(alloc, &mut settled, "a", b"old");
+    let none = settled.take_now(alloc, "d") == Err(FolderFault::NotThere);
+    settled.leave();
+    Ok(old && none)
+}
+
+/// Whether a file is taken as it is after the commit, and in the midst of the rows.
+fn takes_committed(alloc: Global, folder: &mut MemoryFolder) -> Result<bool, JournalFault> {
+    let changes = changes(alloc)?;
+    if !are_changes(&changes) {
+        return Err(JournalFault::BadJournal);
+    }
+    let mut held = Held { folder };
+    let settled = recover(&mut held, alloc)?;
+    let staged = settled.stage(alloc, &changes)?;
+    let mut committed = staged.commit()?;
+    let old = committed.take_now(alloc, "a").as_deref() == Ok(b"old".as_slice());
+    let Ok(true) = committed.rename_next() else {
+        committed.stop().leave();
+        return Err(JournalFault::Failed);
+    };
+    let new = reads(alloc, &mut committed, "a", b"new");
+    let left = reads(alloc, &mut committed, "b", b"gone");
+    committed.stop().leave();
+    Ok(old && new && left)
+}
+
+#[test]
+fn takes_files_in_its_states(rt: HostRuntime) -> Result<(), JournalFault> {
+    let alloc = rt.alloc();
+    let mut folder = folder_of(alloc, BEFORE, Vec::new(alloc))?;
+    assert!(rt; takes_settled(alloc, &mut folder)?);
+    assert!(rt; takes_committed(alloc, &mut folder)?);
+    assert!(rt; stands_for(alloc, &mut folder)? == Some(AFTER));
+    // The third call of a run that changes nothing is the first `take`.
+    let mut folder = folder_of(alloc, BEFORE, vec![in alloc; 2; 1]?)?;
+    assert!(rt; !takes_settled(alloc, &mut folder)?);
+    assert!(rt; has(alloc, &mut folder, BEFORE)?);
     Ok(())
 }
 

@@ -28,6 +28,8 @@ mod share;
 #[cfg(test)]
 mod slots;
 #[cfg(test)]
+mod stage;
+#[cfg(test)]
 mod symbols;
 #[cfg(test)]
 mod tls;

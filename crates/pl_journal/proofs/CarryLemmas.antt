@@ -45,6 +45,10 @@ pub too_long : (bytes : List ℕ) → STORED < length bytes → rows_of bytes �
 unfolding rows_of
 too_long bytes long = cond-true (ltb STORED (length bytes)) _ _ (grind (arith, nat_tests, long))
 
+-- a folder that is settled has what a read gives
+pub settled_read : {files : View} (s : State) → IsSettled files s → IsSettled (read s) s
+settled_read s settled = subst (λ v. IsSettled v s) (λ i n. settled.only (read s) (read_image s) n i) settled
+
 -- staging begins
 pub settled_staging : (before : View) (s : State) → IsSettled before s → IsStaging before before s
 settled_staging before s settled = record {

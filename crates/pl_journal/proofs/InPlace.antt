@@ -1,6 +1,7 @@
 -- All changes or none: the parts together.
 use Rattle.std.proofs.Common.{◌≡◌, ⊎_elim, ℕ, true, List, [], length, Some, None, is_some, refl, sym, ◌∙◌, ap, subst}
 use Rattle.std.specs.FinMap.{get}
+use Rattle.pl_base.specs.Files.{Files}
 use Rattle.pl_folder.specs.Calls.{Calls, IsThere}
 use Rattle.pl_folder.specs.Disk.{Name, View, State, Disk, read}
 use Rattle.pl_folder.specs.Effects.{Effect}
@@ -10,7 +11,7 @@ use Rattle.pl_journal.specs.Faults.{journal_ending}
 use Rattle.pl_journal.specs.Leaves.{DoEdits}
 use Rattle.pl_journal.specs.Meaning.{Edit, HasNoOwn, IsSettled, Same, StandsBetween, StandsFor, applied, rows_for}
 use Rattle.pl_journal.specs.Names.{journal, journal_new}
-use Rattle.pl_journal.specs.Parts.{AtDone, CanDo, CanPut, CarriesDisk, CarriesOut, Commits, DoRows, DoesRows, Finishes, IsReady, IsRested, PutsInPlace, Stages, journal_of, without_journal}
+use Rattle.pl_journal.specs.Parts.{AtDone, CanDo, CanPut, CarriesDisk, CarriesFiles, CarriesOut, Commits, DoRows, DoesRows, Finishes, IsReady, IsRested, PutsInPlace, Stages, WritesOwn, journal_of, without_journal}
 use Rattle.pl_journal.specs.Phases.{Committing, Finishing, IsDoing, IsStaging, Midway, Untouched, all_staged, finished, shifted}
 use Rattle.pl_journal.specs.Rows.{done_from, rows_of}
 use Rattle.pl_journal.specs.Spelling.{are_rows}
@@ -23,7 +24,7 @@ use Rattle.pl_journal.proofs.Done.{distinct_test}
 use Rattle.pl_journal.proofs.Endings.{Stops, at_done, makes_told, no_calls, stopped, then_told}
 use Rattle.pl_journal.proofs.FileViews.{one_view}
 use Rattle.pl_journal.proofs.GrammarLaws.{written_rows}
-use Rattle.pl_journal.proofs.Meanings.{before_between, ends_applied, untouched_stands}
+use Rattle.pl_journal.proofs.Meanings.{applied_no_own, before_between, ends_applied, untouched_stands}
 use Rattle.pl_journal.proofs.Moments.{joined, starts, weaker}
 use Rattle.pl_journal.proofs.Phases.{as_many, below_rows}
 
@@ -150,8 +151,17 @@ module _ (edits : List Edit) where
   carried_fault BadJournal before x y no_own keeps = weaker x y (Untouched before) (StandsFor before) (untouched_stands before no_own) keeps
   carried_fault NoMemory before x y no_own keeps = weaker x y (Untouched before) (StandsFor before) (untouched_stands before no_own) keeps
 
+  -- own names alone were written
+  written_for : (x y : Files) → HasNoOwn (get x) → WritesOwn x y → StandsFor (get x) (get y)
+  written_for x y no_own writes = untouched_stands (get x) no_own (get y) (record { agree = writes.0; no_journal = writes.1 ∙ no_own journal refl })
+
+  stopped_files : (fault : JournalFault) (x y : Files) → HasNoOwn (get x) → WritesOwn x y → CarriesFiles (get x) edits (journal_ending fault) (get y)
+  stopped_files Failed x y no_own writes = tt
+  stopped_files BadJournal x y no_own writes = written_for x y no_own writes
+  stopped_files NoMemory x y no_own writes = written_for x y no_own writes
+
   pub carried_stop : (fault : JournalFault) {a b : Seen} → Calls (journal_ending fault) (Stages edits) a b → Calls (journal_ending fault) (CarriesOut edits) a b
-  carried_stop fault {a = a} {b = b} call = makes_told refl call (λ told files no_own. stopped _ (journal_ending fault) (Rattle.pl_journal.proofs.Endings.fault_stops fault)) (λ told disk before settled. carried_fault fault before a.disk b.disk settled.no_own (disk before settled).0)
+  carried_stop fault {a = a} {b = b} call = makes_told refl call (λ told files no_own. stopped_files fault a.files b.files no_own files.1) (λ told disk before settled. carried_fault fault before a.disk b.disk settled.no_own (disk before settled).0)
 
   module _ (steps : List Step) (fine : are_rows (rows_for edits) ≡ true) (does : DoEdits 0 edits steps) where
     ready_of : (before : View) → HasNoOwn before → IsReady before edits steps
@@ -160,7 +170,12 @@ module _ (edits : List Edit) where
     pub staged_can : {a b : Seen} → IsRested a → Calls Done (Stages edits) a b → CanPut b steps
     staged_can {a = a} {b = b} rested call told =
         let before = sym call.tells ∙ told in
-        record { before = get a.files; edits = edits; ready = ready_of (get a.files) (rested before); reads = call.files before }
+        record { before = get a.files; edits = edits; ready = ready_of (get a.files) (rested before); reads = (call.files before).0 }
+
+    pub carried_rests : {a b : Seen} → IsRested a → Calls Done (CarriesOut edits) a b → IsRested b
+    carried_rests {a = a} rested call told n own =
+        let before = sym call.tells ∙ told in
+        call.files before (rested before) n ∙ applied_no_own (get a.files) (rested before) edits (journal_of edits) (written_rows (journal_of edits) (rows_for edits) fine refl) (distinct_test (rows_for edits) fine) n own
 
     untouched_keeps : (before : View) (x y : Disk) → HasNoOwn before → Keeps x y (Untouched before) → Keeps x y (StandsBetween before edits)
     untouched_keeps before x y no_own keeps = weaker x y (Untouched before) (StandsBetween before edits) (λ w u. before_between before no_own edits w (untouched_stands before no_own w u)) keeps
@@ -174,7 +189,7 @@ module _ (edits : List Edit) where
 
     pub carried : {a b c : Seen} → Calls Done (Stages edits) a b → Calls Done (PutsInPlace steps) b c → Calls Done (CarriesOut edits) a c
     carried {a = a} {b = b} {c = c} first second = then_told first second
-        (λ told one two no_own. two (get a.files) edits (ready_of (get a.files) no_own) one)
+        (λ told one two no_own. two (get a.files) edits (ready_of (get a.files) no_own) one.0)
         (λ told one two before settled.
         let was = one before settled in
         let next = two before edits (ready_of before settled.no_own) was.1 in

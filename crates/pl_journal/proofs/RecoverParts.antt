@@ -21,7 +21,7 @@ use Rattle.pl_journal.specs.Leaves.{IsCalm, Looks, OwnAreIn, RecoversDisk, fault
 use Rattle.pl_journal.specs.Lists.{IsListOf, any_own, is_listed, texts}
 use Rattle.pl_journal.specs.Meaning.{Same, StandsFor}
 use Rattle.pl_journal.specs.Names.{is_own, journal}
-use Rattle.pl_journal.specs.Parts.{AreNames, AtDone, DoRows, DoesJournal, DoesJournalOf, DoesRows, CanDo, IsRested, Looking, Recovers, RecoversSettled, RemovesIfOwn, RemovesOwn, RemovesTo, StepsSpelled, without_own, without_owns}
+use Rattle.pl_journal.specs.Parts.{AreNames, AtDone, DoRows, DoesJournal, DoesJournalOf, DoesRows, CanDo, IsAtRest, IsRested, Looking, Recovers, RecoversSettled, RemovesIfOwn, RemovesOwn, RemovesTo, StepsSpelled, without_own, without_owns}
 use Rattle.pl_journal.specs.Phases.{AreSteps, Clearing, IsClearing, IsDoing, Midway}
 use Rattle.pl_journal.specs.Reading.{rows_spelled}
 use Rattle.pl_journal.specs.Rows.{clean, done_from, rows_in, rows_of}
@@ -30,7 +30,7 @@ use Rattle.pl_journal.specs.declared.fault.JournalFault.{JournalFault}
 use Rattle.pl_journal.specs.declared.fault.JournalFault.TheVariants.{Failed, BadJournal, NoMemory}
 use Rattle.pl_journal.specs.declared.row.Row.{Row}
 use Rattle.pl_journal.specs.declared.step.Step.{Step}
-use Rattle.pl_journal.proofs.CarryLemmas.{rows_in_distinct, too_long}
+use Rattle.pl_journal.proofs.CarryLemmas.{rows_in_distinct, settled_read, too_long}
 use Rattle.pl_journal.proofs.Done.{distinct_test, recovered_by}
 use Rattle.pl_journal.proofs.Endings.{Stops, at_done, makes_told, no_calls, stopped, then_told, when_done}
 use Rattle.pl_journal.proofs.FileViews.{get_removed, listed, one_view, read_files}
@@ -138,7 +138,7 @@ module _ (names : List Name) (a : Seen) (law : IsFolder a) (are : AreNames a nam
   steps_stop Failed bad {b = b} call = makes_told refl call (λ told files. tt) (λ told looks v calm all. looks_keep a.disk b.disk (StandsFor v) (calm_self v a.disk.now calm) looks)
   steps_stop BadJournal bad {b = b} call = makes_told refl call (λ told files. (bad refl told, files))
       (λ told looks v calm all. (looks_keep a.disk b.disk (Same v) calm.only looks, ap (λ (w : View). rows_in (w journal)) (sym (seen_so told v calm)) ∙ bad refl (law.tells told)))
-  steps_stop NoMemory bad {b = b} call = makes_told refl call (λ told files. tt) (λ told looks v calm all. looks_keep a.disk b.disk (StandsFor v) (calm_self v a.disk.now calm) looks)
+  steps_stop NoMemory bad {b = b} call = makes_told refl call (λ told files. files) (λ told looks v calm all. looks_keep a.disk b.disk (StandsFor v) (calm_self v a.disk.now calm) looks)
 
   module _ (steps : List Step) (does : a.tells ≡ true → DoesJournalOf steps (get a.files)) where
     pub does_so : a.records ≡ true → (v : View) → IsCalm v a.disk.now → DoesJournalOf steps v
@@ -284,7 +284,7 @@ module _ (names : List Name) (a : Seen) (law : IsFolder a) (are : AreNames a nam
   pub journal_stops : (fault : JournalFault) {b : Seen} → Calls (journal_ending fault) (DoesJournal names (Some fault)) a b → Calls (journal_ending fault) (RecoversSettled (Some fault)) a b
   journal_stops Failed call = makes_told refl call (λ told files. tt) (λ told disk v calm. disk v calm (names_so names a law are told v calm))
   journal_stops BadJournal call = makes_told refl call (λ told files. files) (λ told disk v calm. disk v calm (names_so names a law are told v calm))
-  journal_stops NoMemory call = makes_told refl call (λ told files. tt) (λ told disk v calm. disk v calm (names_so names a law are told v calm))
+  journal_stops NoMemory call = makes_told refl call (λ told files. files) (λ told disk v calm. disk v calm (names_so names a law are told v calm))
 
   -- the rows are done, and own names are gone
   abbrev pub OwnGone : Effect
@@ -349,7 +349,7 @@ pub names_stop : (fault : FolderFault) → IsPlain fault → {a b : Seen} → Ca
 names_stop folder.Failed plain {a = a} {b = b} call = makes_told refl call (λ told files. tt) (λ told waits v calm. looks_keep a.disk b.disk (StandsFor v) (calm_self v a.disk.now calm) (waits_look Broken a.disk b.disk waits))
 names_stop folder.NotThere plain call = absurd plain
 names_stop folder.TooLarge plain call = absurd plain
-names_stop folder.NoMemory plain {a = a} {b = b} call = makes_told refl call (λ told files. tt) (λ told waits v calm. looks_keep a.disk b.disk (StandsFor v) (calm_self v a.disk.now calm) (waits_look Undone a.disk b.disk waits))
+names_stop folder.NoMemory plain {a = a} {b = b} call = makes_told refl call (λ told files. files) (λ told waits v calm. looks_keep a.disk b.disk (StandsFor v) (calm_self v a.disk.now calm) (waits_look Undone a.disk b.disk waits))
 
 -- the names that were asked for
 pub names_after : {a b : Seen} (names slice : List (String Global)) → Calls Done Idles a b → (a.tells ≡ true → map string_bytes names ≡ keys a.files) → slice ≡ names → AreNames b (texts slice)
@@ -392,6 +392,12 @@ settle_then {e = e} fault {a = a} {b = b} {c = c} law first second = then_told f
     (λ told one two. recovers_first a.disk b.disk c.disk one fault
     (two (read a.disk.now) (subst (λ (d : Disk). IsCalm (read a.disk.now) d.now) (sym one) (calm_settled a.disk.now (law.whole told)))))
 
-pub rested : {X : Type 0} (r : Result X JournalFault) {a b : Seen} → Calls (part_ending r) (Recovers (fault_of r)) a b → OnOk r (IsRested b)
-rested (Ok x) {a = a} {b = b} call = λ told n own. let it = call.files (sym call.tells ∙ told) in it.2 n ∙ recovered_no_own (get a.files) it.0 it.1 n own
-rested (Err fault) call = tt
+at_rest : {a b : Seen} → Calls Done (Recovers None) a b → IsAtRest b
+at_rest {a = a} {b = b} call = record {
+  rested = λ told n own. let it = call.files (sym call.tells ∙ told) in it.2 n ∙ recovered_no_own (get a.files) it.0 it.1 n own;
+  settled = λ told. settled_read b.disk.now ((call.disk (sym call.records ∙ told)).1).settled;
+}
+
+pub ok_at_rest : {X : Type 0} (r : Result X JournalFault) {a b : Seen} → Calls (part_ending r) (Recovers (fault_of r)) a b → OnOk r (IsAtRest b)
+ok_at_rest (Ok x) call = at_rest call
+ok_at_rest (Err fault) call = tt

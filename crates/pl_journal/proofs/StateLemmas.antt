@@ -1,13 +1,17 @@
 -- What a state gives the next one.
-use Rattle.std.proofs.Common.{◌≡◌, ℕ, ◌+◌, ◌<◌, ◌≤◌, Result, Ok, Err, OnOk, false, true, ltb, List, length, get_or, refl, sym, ◌∙◌, ap, arith}
+use Rattle.std.proofs.Common.{◌≡◌, ℕ, ◌+◌, ◌<◌, ◌≤◌, Result, Ok, Err, OnOk, false, true, ltb, subst, List, length, get_or, refl, sym, ◌∙◌, ap, arith}
 use Rattle.std.specs.FinMap.{get}
 use Rattle.pl_folder.specs.Calls.{Calls}
-use Rattle.pl_folder.specs.Disk.{View}
-use Rattle.pl_folder.specs.Seen.{Seen, Done, ends}
+use Rattle.pl_folder.specs.Disk.{View, Disk, after, read}
+use Rattle.pl_folder.specs.Effects.{DoesOrNot, settles}
+use Rattle.pl_folder.specs.Seen.{Seen, IsFolder, Done, ends}
+use Rattle.pl_folder.specs.Since.{Within}
+use Rattle.pl_folder.specs.States.{settled}
+use Rattle.pl_folder.proofs.ImageLaws.{settled_reads, settled_within}
 use Rattle.pl_io.specs.declared.failed.Failed.{Failed}
 use Rattle.pl_journal.specs.Meaning.{Same, rows_for}
 use Rattle.pl_journal.specs.Names.{journal, journal_new}
-use Rattle.pl_journal.specs.Parts.{CanGoOn, CanPut, CanStep, Commits, Finishes, IsRested, StepsOn, committed, journal_of}
+use Rattle.pl_journal.specs.Parts.{CanGoOn, CanPut, CanStep, Commits, Finishes, IsAtRest, IsRested, IsStill, StepsOn, committed, journal_of}
 use Rattle.pl_journal.specs.Phases.{shifted}
 use Rattle.pl_journal.specs.Rows.{done_from}
 use Rattle.pl_journal.specs.declared.row.Row.{Row}
@@ -76,6 +80,19 @@ pub ok_commit_can : {X : Type 0} (r : Result X Failed) {a b : Seen} (steps : Lis
 ok_commit_can (Ok x) steps can call = commit_can steps can call
 ok_commit_can (Err f) steps can call = tt
 
-pub ok_end_rested : {X : Type 0} (r : Result X Failed) {a b : Seen} (steps : List Step) (k : ℕ) → length steps ≤ k → CanGoOn a steps k → Calls (ends r) Finishes a b → OnOk r (IsRested b)
-ok_end_rested (Ok x) steps k left can call = end_rested steps k left can call
-ok_end_rested (Err f) steps k left can call = tt
+-- after a settle the only image is what a read gives
+pub ok_still : {X : Type 0} (r : Result X Failed) {a b : Seen} → Calls (ends r) (DoesOrNot settles) a b → OnOk r (IsStill b)
+ok_still (Ok x) {a = a} {b = b} call = λ told.
+    let is : b.disk ≡ after (settled a.disk.now) a.disk = call.disk (sym call.records ∙ told) in
+    subst (λ (d : Disk). Within d.now (Same (read d.now))) (sym is) (settled_within a.disk.now (Same (read (settled a.disk.now))) (settled_reads a.disk.now))
+ok_still (Err f) call = tt
+
+pub rest_of : {a : Seen} → IsFolder a → IsRested a → IsStill a → IsAtRest a
+rest_of {a = a} law rested still = record {
+  rested = rested;
+  settled = λ told. record { whole = law.whole told; only = still told; no_own = λ n own. sym (law.reads told n) ∙ rested (law.tells told) n own };
+}
+
+pub ok_end_rest : {X : Type 0} (r : Result X Failed) {a b : Seen} (steps : List Step) (k : ℕ) → length steps ≤ k → CanGoOn a steps k → IsFolder b → Calls (ends r) Finishes a b → OnOk r (IsStill b) → OnOk r (IsAtRest b)
+ok_end_rest (Ok x) steps k left can law call still = rest_of law (end_rested steps k left can call) still
+ok_end_rest (Err f) steps k left can law call still = tt

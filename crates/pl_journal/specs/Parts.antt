@@ -8,7 +8,7 @@ use Rattle.pl_folder.specs.Effects.{Effect, SameFiles, StepsDisk, StepsDiskOrNot
 use Rattle.pl_folder.specs.Seen.{Ending, Done, Broken, Undone, Seen}
 use Rattle.pl_folder.specs.Since.{Keeps, Within}
 use Rattle.pl_folder.specs.States as state
-use Rattle.pl_journal.specs.Meaning.{Edit, HasNoOwn, IsSettled, Same, StandsBetween, StandsFor, applied, rows_for}
+use Rattle.pl_journal.specs.Meaning.{Agree, Edit, HasNoOwn, IsSettled, Same, StandsBetween, StandsFor, applied, rows_for}
 use Rattle.pl_journal.specs.FileNames.{name_text}
 use Rattle.pl_journal.specs.Names.{beside, is_own, journal, journal_new}
 use Rattle.pl_journal.specs.Phases.{AreSteps, Clearing, Committing, Finishing, IsClearing, IsDoing, IsStaging, IsStep, Midway, RowAt, Untouched, all_staged, finished, shifted, staged, with_bytes}
@@ -55,12 +55,20 @@ NamesFile from to = record { files = NamesFiles from to; disk = NamesDisk from t
 
 -- ---- staging
 
+-- only own names are written, and not the journal's
+abbrev pub WritesOwn : Files → Files → Type 0
+WritesOwn old new = Agree (get new) (get old) × (get new journal ≡ get old journal)
+
+-- where it is done, this is read afterwards; however it ends, only own names are written
+abbrev pub ReadsStaged : (View → View) → Ending → Files → Files → Type 0
+ReadsStaged f e old new = Reads f e old new × WritesOwn old new
+
 abbrev pub PutsOwnDisk : Name → List ℕ → Ending → Disk → Disk → Type 0
 PutsOwnDisk name bytes e old new = (before r : View) → Goes (IsStaging before r) (Untouched before) (IsStaging before (with_bytes name bytes r)) e old new
 
 -- a file under one of the journal's own names
 abbrev pub PutsOwn : Name → List ℕ → Effect
-PutsOwn name bytes = record { files = Reads (with_bytes name bytes); disk = PutsOwnDisk name bytes }
+PutsOwn name bytes = record { files = ReadsStaged (with_bytes name bytes); disk = PutsOwnDisk name bytes }
 
 -- a change's file under the name beside
 abbrev pub put_beside : ℕ → Edit → View → View
@@ -71,11 +79,11 @@ abbrev pub StagesOneDisk : ℕ → Edit → Ending → Disk → Disk → Type 0
 StagesOneDisk i change e old new = (before r : View) → Goes (IsStaging before r) (Untouched before) (IsStaging before (put_beside i change r)) e old new
 
 abbrev pub StagesOne : ℕ → Edit → Effect
-StagesOne i change = record { files = Reads (put_beside i change); disk = StagesOneDisk i change }
+StagesOne i change = record { files = ReadsStaged (put_beside i change); disk = StagesOneDisk i change }
 
 -- the changes from number k on are left to be staged
 abbrev pub StagesToFiles : ℕ → List Edit → Ending → Files → Files → Type 0
-StagesToFiles k edits e old new = AtDone e (Same (staged k (drop k edits) (get new)) (staged 0 edits (get old)))
+StagesToFiles k edits e old new = AtDone e (Same (staged k (drop k edits) (get new)) (staged 0 edits (get old))) × WritesOwn old new
 
 abbrev pub IsStagedTo : View → View → ℕ → List Edit → State → Type 0
 IsStagedTo before r k edits s = IsStaging before (read s) s × Same (staged k (drop k edits) (read s)) (staged 0 edits r)
@@ -90,7 +98,7 @@ abbrev pub StagesFilesDisk : List Edit → Ending → Disk → Disk → Type 0
 StagesFilesDisk edits e old new = (before r : View) → Goes (IsStaging before r) (Untouched before) (IsStaging before (staged 0 edits r)) e old new
 
 abbrev pub StagesFiles : List Edit → Effect
-StagesFiles edits = record { files = Reads (staged 0 edits); disk = StagesFilesDisk edits }
+StagesFiles edits = record { files = ReadsStaged (staged 0 edits); disk = StagesFilesDisk edits }
 
 -- the journal's bytes
 abbrev pub journal_of : List Edit → List ℕ
@@ -101,7 +109,7 @@ StagesDisk edits e old new = (before : View) → Goes (IsSettled before) (Untouc
 
 -- the files of the changes, and the journal
 abbrev pub Stages : List Edit → Effect
-Stages edits = record { files = Reads (all_staged edits (journal_of edits)); disk = StagesDisk edits }
+Stages edits = record { files = ReadsStaged (all_staged edits (journal_of edits)); disk = StagesDisk edits }
 
 -- ---- the commit
 
@@ -207,8 +215,14 @@ CarriesDisk before edits Done old new = Keeps old new (StandsBetween before edit
 CarriesDisk before edits Broken old new = Keeps old new (StandsBetween before edits)
 CarriesDisk before edits Undone old new = Keeps old new (StandsFor before)
 
+-- The same of the files as they read, where the folder tells these alone. Such a folder has no fault.
+abbrev pub CarriesFiles : View → List Edit → Ending → View → Type 0
+CarriesFiles before edits Done v = Same v (applied edits before)
+CarriesFiles before edits Broken v = Unit {0}
+CarriesFiles before edits Undone v = StandsFor before v
+
 abbrev pub CarriesOutFiles : List Edit → Ending → Files → Files → Type 0
-CarriesOutFiles edits e old new = HasNoOwn (get old) → AtDone e (Same (get new) (applied edits (get old)))
+CarriesOutFiles edits e old new = HasNoOwn (get old) → CarriesFiles (get old) edits e (get new)
 
 abbrev pub CarriesOutDisk : List Edit → Ending → Disk → Disk → Type 0
 CarriesOutDisk edits e old new = (before : View) → IsSettled before old.now → CarriesDisk before edits e old new
@@ -221,6 +235,15 @@ CarriesOut edits = record { files = CarriesOutFiles edits; disk = CarriesOutDisk
 -- no own name is there, where the folder tells its files
 abbrev pub IsRested : Seen → Type 0
 IsRested seen = seen.tells ≡ true → HasNoOwn (get seen.files)
+
+-- what a read gives is the only image, where the folder tells its disk
+abbrev pub IsStill : Seen → Type 0
+IsStill seen = seen.records ≡ true → Within seen.disk.now (Same (read seen.disk.now))
+
+-- there is nothing to recover: the folder is settled, and has no own name
+pub record IsAtRest (seen : Seen) : Type 0 where
+  pub rested : IsRested seen
+  pub settled : seen.records ≡ true → IsSettled (read seen.disk.now) seen.disk.now
 
 -- where no own name is there, its only calls are one `settle` and one `names`
 abbrev pub IsQuiet : Seen → Seen → Type 0
@@ -279,7 +302,7 @@ abbrev pub DoesJournalFiles : Option JournalFault → Ending → Files → Files
 DoesJournalFiles None e old new = (rows : List Row) × (rows_in (get old journal) ≡ Some rows) × Same (get new) (done_from 0 rows (λ _. true) (get old))
 DoesJournalFiles (Some Failed) e old new = Unit {0}
 DoesJournalFiles (Some BadJournal) e old new = (rows_in (get old journal) ≡ None) × (new ≡ old)
-DoesJournalFiles (Some NoMemory) e old new = Unit {0}
+DoesJournalFiles (Some NoMemory) e old new = new ≡ old
 
 abbrev pub DoesJournalOn : Option JournalFault → List Name → View → Disk → Disk → Type 0
 DoesJournalOn None names v old new = (rows : List Row) × (rows_in (v journal) ≡ Some rows) × Keeps old new (StandsFor v) × IsClearing v rows new.now × OwnAreIn names new.now
@@ -297,7 +320,7 @@ abbrev pub RecoversFiles : Option JournalFault → Ending → Files → Files �
 RecoversFiles None e old new = (rows : List Row) × (rows_in (get old journal) ≡ Some rows) × Same (get new) (recovered (get old))
 RecoversFiles (Some Failed) e old new = Unit {0}
 RecoversFiles (Some BadJournal) e old new = (rows_in (get old journal) ≡ None) × (new ≡ old)
-RecoversFiles (Some NoMemory) e old new = Unit {0}
+RecoversFiles (Some NoMemory) e old new = new ≡ old
 
 abbrev pub RecoversSettledDisk : Option JournalFault → Ending → Disk → Disk → Type 0
 RecoversSettledDisk fault e old new = (v : View) → IsCalm v old.now → RecoversDisk fault v old new

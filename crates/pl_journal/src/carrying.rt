@@ -1,4 +1,4 @@
-ghost use Rattle.std.specs.Prelude.{◌≡◌, [], true, IfErr};
+ghost use Rattle.std.specs.Prelude.{◌≡◌, [], true, IfErr, OnOk};
 ghost use Rattle.pl_folder.specs.Calls.{Calls};
 ghost use Rattle.pl_folder.specs.Seen.{ends};
 ghost use Rattle.pl_journal.specs.Faults.{IsNotBad, part_ending};
@@ -19,7 +19,8 @@ use std::alloc::Global;
 /// Commits what is staged, does its rows and ends its journal. It takes no memory.
 pub(crate) fn put_in_place<D: Folder>(held: &mut Held<D>, steps: &[Step]) -> Result<(), Failed>
     requires { CanPut (D.seen held.old.folder) steps.now }
-    ensures { Calls (ends result) (PutsInPlace steps.now) (D.seen held.old.folder) (D.seen held.new.folder) }
+    ensures { Calls (ends result) (PutsInPlace steps.now) (D.seen held.old.folder)
+        (D.seen held.new.folder) }
 {
     commit(held)?;
     do_rows(held, steps)?;
@@ -28,7 +29,7 @@ pub(crate) fn put_in_place<D: Folder>(held: &mut Held<D>, steps: &[Step]) -> Res
 
 /// Makes all the changes or, after a crash or a fault and a recovery, all or none. The folder is one that `recover` settled.
 ///
-/// `NoMemory` comes before anything is committed: the recovered folder is the one before. After `Failed` it is the one before or the one after. `BadJournal` does not come. No changes are no call.
+/// Afterwards none of the journal's own names is there. `NoMemory` comes before anything is committed: the recovered folder is the one before. After `Failed` it is the one before or the one after. `BadJournal` does not come. No changes are no call.
 pub fn carry_out<D: Folder>(
     held: &mut Held<D>,
     alloc: Global,
@@ -36,8 +37,10 @@ pub fn carry_out<D: Folder>(
 ) -> Result<(), JournalFault>
     requires fine { are_rows (rows_for changes.now) ≡ true }
     requires rested { IsRested (D.seen held.old.folder) }
-    ensures calls { Calls (part_ending result) (CarriesOut changes.now) (D.seen held.old.folder) (D.seen held.new.folder) }
+    ensures calls { Calls (part_ending result) (CarriesOut changes.now) (D.seen held.old.folder)
+        (D.seen held.new.folder) }
     ensures plain { IfErr result IsNotBad }
+    ensures ends { OnOk result (IsRested (D.seen held.new.folder)) }
     ensures nothing { changes.now ≡ [] → D.seen held.new.folder ≡ D.seen held.old.folder }
 {
     if changes.is_empty() {

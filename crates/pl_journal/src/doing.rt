@@ -14,14 +14,16 @@ use pl_stage::Held;
 /// Does a row that puts.
 fn put_file<D: Folder>(held: &mut Held<D>, from: &FileName, to: &FileName) -> Result<(), Failed>
     requires { IsThere (D.seen held.old.folder) (name_text from.now) }
-    ensures { Calls (ends result) (StepsOn (steps.Put from.now to.now)) (D.seen held.old.folder) (D.seen held.new.folder) }
+    ensures { Calls (ends result) (StepsOn (steps.Put from.now to.now)) (D.seen held.old.folder)
+        (D.seen held.new.folder) }
 {
     name_firm(held, from.as_str(), to.as_str())
 }
 
 /// Does a row that drops.
 fn drop_file<D: Folder>(held: &mut Held<D>, name: &FileName) -> Result<(), Failed>
-    ensures { Calls (ends result) (StepsOn (steps.Drop name.now)) (D.seen held.old.folder) (D.seen held.new.folder) }
+    ensures { Calls (ends result) (StepsOn (steps.Drop name.now)) (D.seen held.old.folder)
+        (D.seen held.new.folder) }
 {
     held.folder.remove(name.as_str())
 }
@@ -29,7 +31,8 @@ fn drop_file<D: Folder>(held: &mut Held<D>, name: &FileName) -> Result<(), Faile
 /// Does one row of a journal. It takes no memory.
 pub(crate) fn do_step<D: Folder>(held: &mut Held<D>, step: &Step) -> Result<(), Failed>
     requires { CanStep (D.seen held.old.folder) step.now }
-    ensures { Calls (ends result) (StepsOn step.now) (D.seen held.old.folder) (D.seen held.new.folder) }
+    ensures { Calls (ends result) (StepsOn step.now) (D.seen held.old.folder)
+        (D.seen held.new.folder) }
 {
     match step {
         Step::Put { from, to } => put_file(held, from, to),
@@ -41,7 +44,8 @@ pub(crate) fn do_step<D: Folder>(held: &mut Held<D>, step: &Step) -> Result<(), 
 /// Does the rows of a journal one after the other. It takes no memory.
 pub(crate) fn do_rows<D: Folder>(held: &mut Held<D>, steps: &[Step]) -> Result<(), Failed>
     requires { CanDo (D.seen held.old.folder) steps.now }
-    ensures { Calls (ends result) (DoesRows steps.now) (D.seen held.old.folder) (D.seen held.new.folder) }
+    ensures { Calls (ends result) (DoesRows steps.now) (D.seen held.old.folder)
+        (D.seen held.new.folder) }
 {
     for step in steps {
         do_step(held, step)?;
@@ -56,9 +60,11 @@ pub(crate) fn do_next<D: Folder>(
     done: usize,
 ) -> Result<bool, Failed>
     requires { CanGoOn (D.seen held.old.folder) steps.now done }
-    ensures calls { NextOn (ends result) steps.now done (D.seen held.old.folder) (D.seen held.new.folder) }
+    ensures calls { NextOn (ends result) steps.now done (D.seen held.old.folder)
+        (D.seen held.new.folder) }
     ensures left { IfOk result (λ more. more ≡ nat_lt done (length steps.now)) }
-    ensures can { IfOk result (λ more. CanGoOn (D.seen held.new.folder) steps.now (if more then done + 1 else done)) }
+    ensures can { IfOk result (λ more. CanGoOn (D.seen held.new.folder) steps.now
+        (if more then done + 1 else done)) }
 {
     if done >= steps.len() {
         return Ok(false);

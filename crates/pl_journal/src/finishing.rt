@@ -1,7 +1,7 @@
 ghost use Rattle.std.specs.Prelude.{◌≤◌, length, OnOk};
 ghost use Rattle.pl_folder.specs.Calls.{Calls};
 ghost use Rattle.pl_folder.specs.Seen.{ends};
-ghost use Rattle.pl_journal.specs.Parts.{CanGoOn, Finishes, IsRested};
+ghost use Rattle.pl_journal.specs.Parts.{CanGoOn, Finishes, IsAtRest, IsStill};
 
 use crate::Step;
 use crate::names::JOURNAL;
@@ -11,7 +11,8 @@ use pl_stage::Held;
 
 /// Settles the rows that are done, removes the journal, and settles. It takes no memory.
 pub(crate) fn finish<D: Folder>(held: &mut Held<D>) -> Result<(), Failed>
-    ensures { Calls (ends result) Finishes (D.seen held.old.folder) (D.seen held.new.folder) }
+    ensures calls { Calls (ends result) Finishes (D.seen held.old.folder) (D.seen held.new.folder) }
+    ensures settled { OnOk result (IsStill (D.seen held.new.folder)) }
 {
     held.folder.settle()?;
     held.folder.remove(JOURNAL)?;
@@ -27,7 +28,7 @@ pub(crate) fn finish_steps<D: Folder>(
     requires none_left { length steps.now ≤ done }
     requires can { CanGoOn (D.seen held.old.folder) steps.now done }
     ensures calls { Calls (ends result) Finishes (D.seen held.old.folder) (D.seen held.new.folder) }
-    ensures rested { OnOk result (IsRested (D.seen held.new.folder)) }
+    ensures rested { OnOk result (IsAtRest (D.seen held.new.folder)) }
 {
     finish(held)
 }

@@ -1,6 +1,6 @@
 ghost use Rattle.std.specs.Prelude.{List};
 ghost use Rattle.pl_folder.specs.Disk.{View};
-ghost use Rattle.pl_journal.specs.Laws.{AfterTheStart, RecoveriesEnd, RecoveriesLeave, RunsLeave, SinceTheStart};
+ghost use Rattle.pl_journal.specs.Laws.{AfterTheStart, CommitStands, FinishStands, RecoveriesEnd, RecoveriesLeave, RowsStand, RunsEnd, RunsLeave, SinceTheStart, StagingStands, StepsDoRows};
 ghost use Rattle.pl_journal.specs.Meaning.{Edit, StandsBetween, StandsFor};
 
 /// Each image since the start of a recovery is one of the start's, or stands for the folder; since the start of a run it is one of the start's, or stands for the files before or for those after.
@@ -13,6 +13,16 @@ pub fn since_the_start()
 pub fn after_the_start()
     ensures recovery { (before : View) → AfterTheStart (StandsFor before) }
     ensures run { (before : View) (edits : List Edit) → AfterTheStart (StandsBetween before edits) }
+{}
+
+/// What a crash of staging leaves stands for the files before, and what one of the commit, the rows and the end leaves for these or for those after. Each step does its row, and with the end the changes are made.
+pub fn each_part_stands()
+    ensures staging { StagingStands }
+    ensures commit { CommitStands }
+    ensures steps { StepsDoRows }
+    ensures rows { RowsStand }
+    ensures finish { FinishStands }
+    ensures end { RunsEnd }
 {}
 
 /// What a crash of a run or of a recovery leaves has no journal, or one in its grammar, and then no recovery ends by `BadJournal`.

@@ -28,7 +28,7 @@ pub use carrying::carry_out;
 pub use change::Change;
 pub use fault::JournalFault;
 pub use file_name::FileName;
-pub use laws::{after_the_start, never_a_bad_journal, since_the_start};
+pub use laws::{after_the_start, each_part_stands, never_a_bad_journal, since_the_start};
 pub use reading::read_journal;
 pub use recovering::recover_lent;
 pub use row::Row;

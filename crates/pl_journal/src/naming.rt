@@ -12,7 +12,8 @@ pub(crate) fn name_firm<D: Folder>(held: &mut Held<D>, from: &str, to: &str) -> 
     requires length { IsNameLength from.now }
     requires to_length { IsNameLength to.now }
     requires there { IsThere (D.seen held.old.folder) from.now }
-    ensures { Calls (ends result) (NamesFile from.now to.now) (D.seen held.old.folder) (D.seen held.new.folder) }
+    ensures { Calls (ends result) (NamesFile from.now to.now) (D.seen held.old.folder)
+        (D.seen held.new.folder) }
 {
     match firm_there(held, from) {
         Ok(file) => file.name_as(to),

@@ -45,7 +45,8 @@ pub(crate) fn has_own(names: &[String]) -> bool
 /// What does a row of a journal, of a folder with these names.
 fn plan_row(alloc: Global, number: usize, row: &Row, names: &[String]) -> Result<Step, NoMemory>
     requires { IsNameLength (name_of row.now) }
-    ensures { IfOk result (λ step. (v : View) → lists.IsListOf (lists.texts names.now) v → IsStep v number row.now step) }
+    ensures { IfOk result (λ step. (v : View) → lists.IsListOf (lists.texts names.now) v → IsStep v
+        number row.now step) }
 {
     match row {
         Row::Drop { name } => Ok(Step::Drop {
@@ -69,7 +70,8 @@ pub(crate) fn plan_rows(
     names: &[String],
 ) -> Result<Rows<Step>, NoMemory>
     requires { are_rows rows.now ≡ true }
-    ensures { IfOk result (λ steps. (v : View) → lists.IsListOf (lists.texts names.now) v → AreSteps v 0 rows.now steps) }
+    ensures { IfOk result (λ steps. (v : View) → lists.IsListOf (lists.texts names.now) v → AreSteps
+        v 0 rows.now steps) }
 {
     let mut steps = Rows::new(alloc);
     for number in 0..rows.len() {

@@ -29,7 +29,8 @@ fn take_number32(bytes: &[u8]) -> Result<(u32, &[u8]), JournalFault>
 /// The bytes of a name that a row may have, as text: a valid name or the cache's. Other bytes give none.
 #[tactic(auto, using(crate::proofs::NameLemmas::cache_text))]
 fn row_text(name: &[u8]) -> Option<&str>
-    ensures { option_map (λ x. x.now) result ≡ (if names.is_row_name name.now then Some name.now else None) }
+    ensures { option_map (λ x. x.now) result ≡
+        (if names.is_row_name name.now then Some name.now else None) }
 {
     if name == CACHE.as_bytes() {
         return Some(CACHE);
@@ -40,7 +41,8 @@ fn row_text(name: &[u8]) -> Option<&str>
 /// A name of so many bytes, and the bytes after it. Fewer bytes, and a name that no row may have, are a `BadJournal`.
 #[tactic(auto, unfolding(crate::specs::Reading::name_of_size))]
 fn take_text(alloc: Global, size: usize, bytes: &[u8]) -> Result<(Text, &[u8]), JournalFault>
-    ensures { AnswersAs (λ x. (x.0, x.1.now)) spec.is_memory result (spec.name_of_size size bytes.now) }
+    ensures { AnswersAs (λ x. (x.0, x.1.now)) spec.is_memory result
+        (spec.name_of_size size bytes.now) }
 {
     if bytes.len() < size {
         return Err(JournalFault::BadJournal);
@@ -161,9 +163,11 @@ pub fn read_journal(alloc: Global, bytes: &[u8]) -> Result<Rows<Row>, JournalFau
     // What is read is spelled so.
     ensures found { IfOk result (spelling.IsJournalOf bytes.now) }
     // What is spelled so is read, unless there is no memory.
-    ensures only { (rows : List declared.Row) → spelling.IsJournalOf bytes.now rows → Answers spec.is_memory result (Ok rows) }
+    ensures only { (rows : List declared.Row) → spelling.IsJournalOf bytes.now rows → Answers
+        spec.is_memory result (Ok rows) }
     // No bytes spell two journals.
-    ensures unique { (rows other : List declared.Row) → spelling.IsJournalOf bytes.now rows → spelling.IsJournalOf bytes.now other → rows ≡ other }
+    ensures unique { (rows other : List declared.Row) → spelling.IsJournalOf bytes.now rows →
+        spelling.IsJournalOf bytes.now other → rows ≡ other }
     ensures exact { Answers spec.is_memory result (spec.read bytes.now) }
     ensures plain { IfErr result (λ fault. fault ≢ faults.Failed) }
 {

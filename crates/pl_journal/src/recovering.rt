@@ -8,7 +8,7 @@ ghost use Rattle.pl_journal.specs.Faults.{part_ending};
 ghost use Rattle.pl_journal.specs.Leaves.{fault_of};
 ghost use Rattle.pl_journal.specs.Lists.{IsListOf, texts};
 ghost use Rattle.pl_journal.specs.Names.{journal};
-ghost use Rattle.pl_journal.specs.Parts.{AreNames, DoesJournal, DoesJournalOf, IsQuiet, IsRested, Looking, Recovers, RecoversSettled, RemovesIfOwn, RemovesOwn, StepsSpelled};
+ghost use Rattle.pl_journal.specs.Parts.{AreNames, DoesJournal, DoesJournalOf, IsAtRest, IsQuiet, IsRested, Looking, Recovers, RecoversSettled, RemovesIfOwn, RemovesOwn, StepsSpelled};
 ghost use Rattle.pl_journal.specs.Reading.{rows_spelled};
 ghost use Rattle.pl_journal.specs.Rows.{rows_in};
 ghost use Rattle.pl_journal.specs.declared.fault.JournalFault.TheVariants as faults;
@@ -26,7 +26,8 @@ use std::alloc::Global;
 /// What does the rows of the journal that these bytes are, of a folder with these names.
 fn steps_of(alloc: Global, bytes: &[u8], names: &[String]) -> Result<Rows<Step>, JournalFault>
     ensures ok { IfOk result (StepsSpelled bytes.now (texts names.now)) }
-    ensures bad { IfErr result (λ fault. fault ≡ faults.BadJournal → rows_spelled bytes.now ≡ None) }
+    ensures bad { IfErr result (λ fault. fault ≡ faults.BadJournal → rows_spelled bytes.now ≡
+        None) }
     ensures plain { IfErr result (λ fault. fault ≢ faults.Failed) }
 {
     let rows = read_journal(alloc, bytes)?;
@@ -40,9 +41,13 @@ fn read_steps<D: Folder>(
     alloc: Global,
     names: &[String],
 ) -> Result<Rows<Step>, JournalFault>
-    ensures calls { Calls (part_ending result) Looking (D.seen held.old.folder) (D.seen held.new.folder) }
-    ensures ok { IfOk result (λ steps. (D.seen held.old.folder).tells ≡ true → IsListOf (texts names.now) (get (D.seen held.old.folder).files) → DoesJournalOf steps (get (D.seen held.old.folder).files)) }
-    ensures bad { IfErr result (λ fault. fault ≡ faults.BadJournal → (D.seen held.old.folder).tells ≡ true → rows_in (get (D.seen held.old.folder).files journal) ≡ None) }
+    ensures calls { Calls (part_ending result) Looking (D.seen held.old.folder)
+        (D.seen held.new.folder) }
+    ensures ok { IfOk result (λ steps. (D.seen held.old.folder).tells ≡ true → IsListOf
+        (texts names.now) (get (D.seen held.old.folder).files) → DoesJournalOf steps
+        (get (D.seen held.old.folder).files)) }
+    ensures bad { IfErr result (λ fault. fault ≡ faults.BadJournal → (D.seen held.old.folder).tells
+        ≡ true → rows_in (get (D.seen held.old.folder).files journal) ≡ None) }
 {
     match held.folder.take(alloc, JOURNAL) {
         Ok(bytes) => steps_of(alloc, bytes.as_slice(), names),
@@ -60,7 +65,8 @@ fn do_journal<D: Folder>(
     names: &[String],
 ) -> Result<(), JournalFault>
     requires { AreNames (D.seen held.old.folder) (texts names.now) }
-    ensures { Calls (part_ending result) (DoesJournal (texts names.now) (fault_of result)) (D.seen held.old.folder) (D.seen held.new.folder) }
+    ensures { Calls (part_ending result) (DoesJournal (texts names.now) (fault_of result))
+        (D.seen held.old.folder) (D.seen held.new.folder) }
 {
     if !is_in(names, JOURNAL) {
         return Ok(());
@@ -74,7 +80,8 @@ fn do_journal<D: Folder>(
 /// Removes the name where it is one of the journal's own.
 fn remove_if_own<D: Folder>(held: &mut Held<D>, name: &str) -> Result<(), Failed>
     requires { IsNameLength name.now }
-    ensures { Calls (ends result) (RemovesIfOwn name.now) (D.seen held.old.folder) (D.seen held.new.folder) }
+    ensures { Calls (ends result) (RemovesIfOwn name.now) (D.seen held.old.folder)
+        (D.seen held.new.folder) }
 {
     if !is_own(name) {
         return Ok(());
@@ -85,7 +92,8 @@ fn remove_if_own<D: Folder>(held: &mut Held<D>, name: &str) -> Result<(), Failed
 /// Removes those of the names that are the journal's own.
 fn remove_own<D: Folder>(held: &mut Held<D>, names: &[String]) -> Result<(), Failed>
     requires { All (λ name. IsNameLength (string_bytes name)) names.now }
-    ensures { Calls (ends result) (RemovesOwn (texts names.now)) (D.seen held.old.folder) (D.seen held.new.folder) }
+    ensures { Calls (ends result) (RemovesOwn (texts names.now)) (D.seen held.old.folder)
+        (D.seen held.new.folder) }
 {
     for name in names {
         remove_if_own(held, name.as_str())?;
@@ -101,7 +109,8 @@ fn recover_named<D: Folder>(
 ) -> Result<(), JournalFault>
     requires names { AreNames (D.seen held.old.folder) (texts names.now) }
     requires lengths { All (λ name. IsNameLength (string_bytes name)) names.now }
-    ensures { Calls (part_ending result) (RecoversSettled (fault_of result)) (D.seen held.old.folder) (D.seen held.new.folder) }
+    ensures { Calls (part_ending result) (RecoversSettled (fault_of result))
+        (D.seen held.old.folder) (D.seen held.new.folder) }
 {
     do_journal(held, alloc, names)?;
     remove_own(held, names)?;
@@ -117,8 +126,10 @@ fn recover_listed<D: Folder>(
 ) -> Result<(), JournalFault>
     requires names { AreNames (D.seen held.old.folder) (texts names.now) }
     requires lengths { All (λ name. IsNameLength (string_bytes name)) names.now }
-    ensures calls { Calls (part_ending result) (RecoversSettled (fault_of result)) (D.seen held.old.folder) (D.seen held.new.folder) }
-    ensures quiet { IsRested (D.seen held.old.folder) → (D.seen held.old.folder).tells ≡ true → D.seen held.new.folder ≡ D.seen held.old.folder }
+    ensures calls { Calls (part_ending result) (RecoversSettled (fault_of result))
+        (D.seen held.old.folder) (D.seen held.new.folder) }
+    ensures quiet { IsRested (D.seen held.old.folder) → (D.seen held.old.folder).tells ≡ true →
+        D.seen held.new.folder ≡ D.seen held.old.folder }
 {
     if !has_own(names) {
         return Ok(());
@@ -128,8 +139,11 @@ fn recover_listed<D: Folder>(
 
 /// Recovers a settled folder. Where none of the journal's own names is there it asks for the names alone.
 fn recover_settled<D: Folder>(held: &mut Held<D>, alloc: Global) -> Result<(), JournalFault>
-    ensures calls { Calls (part_ending result) (RecoversSettled (fault_of result)) (D.seen held.old.folder) (D.seen held.new.folder) }
-    ensures quiet { OnOk result (IsRested (D.seen held.old.folder) → (D.seen held.old.folder).records ≡ true → (D.seen held.new.folder).disk ≡ after (D.seen held.old.folder).disk.now (D.seen held.old.folder).disk) }
+    ensures calls { Calls (part_ending result) (RecoversSettled (fault_of result))
+        (D.seen held.old.folder) (D.seen held.new.folder) }
+    ensures quiet { OnOk result (IsRested (D.seen held.old.folder) →
+        (D.seen held.old.folder).records ≡ true → (D.seen held.new.folder).disk ≡ after
+        (D.seen held.old.folder).disk.now (D.seen held.old.folder).disk) }
 {
     let names = held.folder.names(alloc)?;
     recover_listed(held, alloc, names.as_slice())
@@ -139,8 +153,9 @@ fn recover_settled<D: Folder>(held: &mut Held<D>, alloc: Global) -> Result<(), J
 ///
 /// Where none of the journal's own names is there its only calls are a `settle` and a `names`.
 pub fn recover_lent<D: Folder>(held: &mut Held<D>, alloc: Global) -> Result<(), JournalFault>
-    ensures calls { Calls (part_ending result) (Recovers (fault_of result)) (D.seen held.old.folder) (D.seen held.new.folder) }
-    ensures rested { OnOk result (IsRested (D.seen held.new.folder)) }
+    ensures calls { Calls (part_ending result) (Recovers (fault_of result)) (D.seen held.old.folder)
+        (D.seen held.new.folder) }
+    ensures rested { OnOk result (IsAtRest (D.seen held.new.folder)) }
     ensures quiet { OnOk result (IsQuiet (D.seen held.old.folder) (D.seen held.new.folder)) }
 {
     held.folder.settle()?;

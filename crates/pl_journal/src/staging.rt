@@ -27,7 +27,8 @@ fn put_own<D: Folder>(
     requires length { IsNameLength name.now }
     requires own { names.is_own name.now ≡ true }
     requires other { same names.journal name.now ≡ false }
-    ensures calls { Calls (part_ending result) (PutsOwn name.now bytes.now) (D.seen held.old.folder) (D.seen held.new.folder) }
+    ensures calls { Calls (part_ending result) (PutsOwn name.now bytes.now) (D.seen held.old.folder)
+        (D.seen held.new.folder) }
     ensures plain { IfErr result IsNotBad }
 {
     held.folder.create(alloc, name)?;
@@ -43,7 +44,8 @@ fn put_beside<D: Folder>(
     number: usize,
     bytes: &[u8],
 ) -> Result<(), JournalFault>
-    ensures calls { Calls (part_ending result) (PutsOwn (names.beside number) bytes.now) (D.seen held.old.folder) (D.seen held.new.folder) }
+    ensures calls { Calls (part_ending result) (PutsOwn (names.beside number) bytes.now)
+        (D.seen held.old.folder) (D.seen held.new.folder) }
     ensures plain { IfErr result IsNotBad }
 {
     let name = beside(alloc, number)?;
@@ -57,7 +59,8 @@ fn stage_one<D: Folder>(
     number: usize,
     change: &Change,
 ) -> Result<(), JournalFault>
-    ensures calls { Calls (part_ending result) (StagesOne number change.now) (D.seen held.old.folder) (D.seen held.new.folder) }
+    ensures calls { Calls (part_ending result) (StagesOne number change.now)
+        (D.seen held.old.folder) (D.seen held.new.folder) }
     ensures plain { IfErr result IsNotBad }
 {
     match change {
@@ -73,7 +76,8 @@ fn stage_files<D: Folder>(
     changes: &[Change],
 ) -> Result<(), JournalFault>
     requires { are_rows (rows_for changes.now) ≡ true }
-    ensures calls { Calls (part_ending result) (StagesFiles changes.now) (D.seen held.old.folder) (D.seen held.new.folder) }
+    ensures calls { Calls (part_ending result) (StagesFiles changes.now) (D.seen held.old.folder)
+        (D.seen held.new.folder) }
     ensures plain { IfErr result IsNotBad }
 {
     for number in 0..changes.len() {
@@ -90,7 +94,8 @@ pub(crate) fn stage_changes<D: Folder>(
 ) -> Result<Rows<Step>, JournalFault>
     requires fine { are_rows (rows_for changes.now) ≡ true }
     requires rested { IsRested (D.seen held.old.folder) }
-    ensures calls { Calls (part_ending result) (Stages changes.now) (D.seen held.old.folder) (D.seen held.new.folder) }
+    ensures calls { Calls (part_ending result) (Stages changes.now) (D.seen held.old.folder)
+        (D.seen held.new.folder) }
     ensures plain { IfErr result IsNotBad }
     ensures steps { IfOk result (DoEdits 0 changes.now) }
     ensures can { IfOk result (CanPut (D.seen held.new.folder)) }

@@ -7,7 +7,7 @@ ghost use Rattle.pl_stage.specs.contracts.held.Held.{the_row};
 ghost use Rattle.pl_journal.specs.Faults.{IsNotBad, part_ending};
 ghost use Rattle.pl_journal.specs.Leaves.{DoEdits, fault_of};
 ghost use Rattle.pl_journal.specs.Meaning.{rows_for};
-ghost use Rattle.pl_journal.specs.Parts.{CanGoOn, CanPut, Commits, Finishes, IsQuiet, IsRested, Moves, NextOn, Recovers, Stages};
+ghost use Rattle.pl_journal.specs.Parts.{CanGoOn, CanPut, Commits, Finishes, IsAtRest, IsQuiet, IsRested, Moves, NextOn, Recovers, Stages};
 ghost use Rattle.pl_journal.specs.Spelling.{are_rows};
 
 use crate::committing::commit_steps;
@@ -28,11 +28,15 @@ pub fn recover<'a, D: Folder>(
     held: &'a mut Held<D>,
     alloc: Global,
 ) -> Result<Settled<'a, D>, JournalFault>
-    ensures* rests { sem 𝓛 (RestsIfErr (the_row D.row) held.entry (λ it. it.held.ghost_name) result (λ n. Calls (part_ending result) (Recovers (fault_of result)) (D.seen held.old.folder) (D.seen n.folder))) }
+    ensures* rests { sem 𝓛 (RestsIfErr (the_row D.row) held.entry (λ it. it.held.ghost_name) result
+        (λ n. Calls (part_ending result) (Recovers (fault_of result)) (D.seen held.old.folder)
+        (D.seen n.folder))) }
     ensures same_reference { IfOk result (λ it. it.held.ghost_name ≡ held.entry.ghost_name) }
-    ensures calls { IfOk result (λ it. Calls Done (Recovers None) (D.seen held.old.folder) (D.seen it.held.now.folder)) }
-    ensures rested { IfOk result (λ it. IsRested (D.seen it.held.now.folder)) }
-    ensures quiet { IfOk result (λ it. IsQuiet (D.seen held.old.folder) (D.seen it.held.now.folder)) }
+    ensures calls { IfOk result (λ it. Calls Done (Recovers None) (D.seen held.old.folder)
+        (D.seen it.held.now.folder)) }
+    ensures rested { IfOk result (λ it. IsAtRest (D.seen it.held.now.folder)) }
+    ensures quiet { IfOk result (λ it. IsQuiet (D.seen held.old.folder)
+        (D.seen it.held.now.folder)) }
 {
     match recover_lent(held, alloc) {
         Ok(()) => Ok(Settled { held }),
@@ -52,11 +56,17 @@ impl<'a, D: Folder> Settled<'a, D> {
     pub fn stage(self, alloc: Global, changes: &[Change]) -> Result<Staged<'a, D>, JournalFault>
         requires fine { are_rows (rows_for changes.now) ≡ true }
         requires rested { IsRested (D.seen self.held.now.folder) }
-        ensures* rests { sem 𝓛 (RestsIfErr (the_row D.row) self.entry.held (λ it. it.held.ghost_name) result (λ n. Calls (part_ending result) (Stages changes.now) (D.seen self.entry.held.now.folder) (D.seen n.folder))) }
-        ensures same_reference { IfOk result (λ it. it.held.ghost_name ≡ self.entry.held.ghost_name) }
-        ensures calls { IfOk result (λ it. Calls Done (Stages changes.now) (D.seen self.entry.held.now.folder) (D.seen it.held.now.folder)) }
+        ensures* rests { sem 𝓛 (RestsIfErr (the_row D.row) self.entry.held
+            (λ it. it.held.ghost_name) result
+            (λ n. Calls (part_ending result) (Stages changes.now)
+            (D.seen self.entry.held.now.folder) (D.seen n.folder))) }
+        ensures same_reference { IfOk result
+            (λ it. it.held.ghost_name ≡ self.entry.held.ghost_name) }
+        ensures calls { IfOk result (λ it. Calls Done (Stages changes.now)
+            (D.seen self.entry.held.now.folder) (D.seen it.held.now.folder)) }
         ensures plain { IfErr result IsNotBad }
-        ensures ready { IfOk result (λ it. DoEdits 0 changes.now it.steps × CanPut (D.seen it.held.now.folder) it.steps) }
+        ensures ready { IfOk result (λ it. DoEdits 0 changes.now it.steps × CanPut
+            (D.seen it.held.now.folder) it.steps) }
     {
         let Settled { held } = self;
         let steps = stage_changes(held, alloc, changes)?;
@@ -68,10 +78,16 @@ impl<'a, D: Folder> Staged<'a, D> {
     /// Gives the journal its name: from then on a recovery makes the changes. After a fault the loan ends; the recovered folder is the one before or the one after.
     pub fn commit(self) -> Result<Committed<'a, D>, Failed>
         requires { CanPut (D.seen self.held.now.folder) self.steps }
-        ensures* rests { sem 𝓛 (RestsIfErr (the_row D.row) self.entry.held (λ it. it.held.ghost_name) result (λ n. Calls (ends result) Commits (D.seen self.entry.held.now.folder) (D.seen n.folder))) }
-        ensures same_reference { IfOk result (λ it. it.held.ghost_name ≡ self.entry.held.ghost_name) }
-        ensures calls { IfOk result (λ it. Calls Done Commits (D.seen self.entry.held.now.folder) (D.seen it.held.now.folder)) }
-        ensures begins { IfOk result (λ it. (it.steps ≡ self.entry.steps) × (it.done ≡ 0) × CanGoOn (D.seen it.held.now.folder) it.steps it.done) }
+        ensures* rests { sem 𝓛 (RestsIfErr (the_row D.row) self.entry.held
+            (λ it. it.held.ghost_name) result
+            (λ n. Calls (ends result) Commits (D.seen self.entry.held.now.folder)
+            (D.seen n.folder))) }
+        ensures same_reference { IfOk result
+            (λ it. it.held.ghost_name ≡ self.entry.held.ghost_name) }
+        ensures calls { IfOk result (λ it. Calls Done Commits (D.seen self.entry.held.now.folder)
+            (D.seen it.held.now.folder)) }
+        ensures begins { IfOk result (λ it. (it.steps ≡ self.entry.steps) × (it.done ≡ 0) × CanGoOn
+            (D.seen it.held.now.folder) it.steps it.done) }
     {
         let Staged { held, steps } = self;
         let committed = commit_steps(held, steps.as_slice());
@@ -105,10 +121,13 @@ impl<'a, D: Folder> Committed<'a, D> {
         requires { CanGoOn (D.seen self.old.held.now.folder) self.old.steps self.old.done }
         ensures same_reference { self.new.held.ghost_name ≡ self.old.held.ghost_name }
         ensures steps { self.new.steps ≡ self.old.steps }
-        ensures calls { NextOn (ends result) self.old.steps self.old.done (D.seen self.old.held.now.folder) (D.seen self.new.held.now.folder) }
-        ensures moves { IfOk result (λ more. Moves more (length self.old.steps) self.old.done self.new.done) }
+        ensures calls { NextOn (ends result) self.old.steps self.old.done
+            (D.seen self.old.held.now.folder) (D.seen self.new.held.now.folder) }
+        ensures moves { IfOk result (λ more. Moves more (length self.old.steps) self.old.done
+            self.new.done) }
         ensures still { IfErr result (λ fault. self.new.done ≡ self.old.done) }
-        ensures can { OnOk result (CanGoOn (D.seen self.new.held.now.folder) self.new.steps self.new.done) }
+        ensures can { OnOk result (CanGoOn (D.seen self.new.held.now.folder) self.new.steps
+            self.new.done) }
     {
         let more = do_next(self.held, self.steps.as_slice(), self.done)?;
         if more {
@@ -117,14 +136,19 @@ impl<'a, D: Folder> Committed<'a, D> {
         Ok(more)
     }
 
-    /// Settles the rows, removes the journal, and settles. No row is left. After a fault the loan ends.
+    /// Settles the rows, removes the journal, and settles: then there is nothing to recover. No row is left before. After a fault the loan ends.
     pub fn finish(self) -> Result<Settled<'a, D>, Failed>
         requires none_left { length self.steps ≤ self.done }
         requires can { CanGoOn (D.seen self.held.now.folder) self.steps self.done }
-        ensures* rests { sem 𝓛 (RestsIfErr (the_row D.row) self.entry.held (λ it. it.held.ghost_name) result (λ n. Calls (ends result) Finishes (D.seen self.entry.held.now.folder) (D.seen n.folder))) }
-        ensures same_reference { IfOk result (λ it. it.held.ghost_name ≡ self.entry.held.ghost_name) }
-        ensures calls { IfOk result (λ it. Calls Done Finishes (D.seen self.entry.held.now.folder) (D.seen it.held.now.folder)) }
-        ensures rested { IfOk result (λ it. IsRested (D.seen it.held.now.folder)) }
+        ensures* rests { sem 𝓛 (RestsIfErr (the_row D.row) self.entry.held
+            (λ it. it.held.ghost_name) result
+            (λ n. Calls (ends result) Finishes (D.seen self.entry.held.now.folder)
+            (D.seen n.folder))) }
+        ensures same_reference { IfOk result
+            (λ it. it.held.ghost_name ≡ self.entry.held.ghost_name) }
+        ensures calls { IfOk result (λ it. Calls Done Finishes (D.seen self.entry.held.now.folder)
+            (D.seen it.held.now.folder)) }
+        ensures rested { IfOk result (λ it. IsAtRest (D.seen it.held.now.folder)) }
     {
         let Committed { held, steps, done } = self;
         let finished = finish_steps(held, steps.as_slice(), done);

@@ -34,7 +34,8 @@ fn push_row(out: &mut Vec<u8>, change: &Change) -> Result<(), AllocError>
 /// Adds the rows of the changes, in their order. It fails only for want of memory.
 fn push_rows(out: &mut Vec<u8>, changes: &[Change]) -> Result<(), AllocError>
     requires { All (λ change. length (spec.name_of (row_of change)) < 2 ^ 8) changes.now }
-    ensures { OnOk result (out.new.items ≡ out.old.items ++ flat_map (λ change. spec.row_bytes (row_of change)) changes.now) }
+    ensures { OnOk result (out.new.items ≡ out.old.items ++ flat_map
+        (λ change. spec.row_bytes (row_of change)) changes.now) }
 {
     for change in changes {
         push_row(out, change)?;

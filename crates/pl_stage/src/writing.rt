@@ -1,9 +1,10 @@
 ghost use Rattle.std.specs.Prelude.{◌≡◌, IfErr, IfOk};
 ghost use Rattle.std.specs.Borrow.{sem, RestsIfErr};
 ghost use Rattle.pl_base.specs.Names.{IsNameLength};
-ghost use Rattle.pl_folder.specs.Calls.{Calls, IsPlain, IsThere};
+ghost use Rattle.pl_folder.specs.Calls.{Calls, IsPlain};
 ghost use Rattle.pl_folder.specs.Effects.{Appends, Does, DoesOrNot, creates, firms, renames};
 ghost use Rattle.pl_folder.specs.Seen.{Done, ending, ends};
+ghost use Rattle.pl_stage.specs.Files.{Has, HasFirm, IsFile, IsFirmFile};
 ghost use Rattle.pl_stage.specs.contracts.held.Held.{the_row};
 
 use crate::states::{Firm, Fresh};
@@ -14,17 +15,20 @@ use std::alloc::Global;
 
 /// Gives the name an empty file, by one `create`. Where that gives no answer the loan ends; the fault is `Failed` or `NoMemory`.
 #[tactic(auto, using(pl_folder::proofs::FolderLaws::there))]
-pub fn fresh<'a, D: Folder, N: Named>(
+pub fn fresh<'a, D: Folder, N: Named + Copy>(
     held: &'a mut Held<D>,
     alloc: Global,
     name: N,
 ) -> Result<Fresh<'a, D, N>, FolderFault>
     requires { IsNameLength (N.text name) }
-    ensures* rests { sem 𝓛 (RestsIfErr (the_row D.row) held.entry (λ it. it.held.ghost_name) result (λ n. Calls (ending result) (Does (creates (N.text name))) (D.seen held.old.folder) (D.seen n.folder))) }
+    ensures* rests { sem 𝓛 (RestsIfErr (the_row D.row) held.entry (λ it. it.held.ghost_name) result
+        (λ n. Calls (ending result) (Does (creates (N.text name))) (D.seen held.old.folder)
+        (D.seen n.folder))) }
     ensures same_reference { IfOk result (λ it. it.held.ghost_name ≡ held.entry.ghost_name) }
-    ensures name { IfOk result (λ it. N.text it.name ≡ N.text name) }
-    ensures calls { IfOk result (λ it. Calls Done (Does (creates (N.text name))) (D.seen held.old.folder) (D.seen it.held.now.folder)) }
-    ensures there { IfOk result (λ it. IsThere (D.seen it.held.now.folder) (N.text it.name)) }
+    ensures calls { IfOk result (λ it. Calls Done (Does (creates (N.text name)))
+        (D.seen held.old.folder) (D.seen it.held.now.folder)) }
+    ensures file { IfOk result (λ it. Has (D.seen it.held.now.folder) (N.text name)
+        (N.text it.name)) }
     ensures plain { IfErr result IsPlain }
 {
     held.folder.create(alloc, name.text())?;
@@ -32,34 +36,41 @@ pub fn fresh<'a, D: Folder, N: Named>(
 }
 
 /// Makes the file of a name that is there firm, by one `firm`. Where that fails the loan ends.
-pub fn firm_there<'a, D: Folder, N: Named>(
+#[tactic(auto, using(crate::proofs::FirmLaws::firm_done))]
+pub fn firm_there<'a, D: Folder, N: Named + Copy>(
     held: &'a mut Held<D>,
     name: N,
 ) -> Result<Firm<'a, D, N>, Failed>
-    requires length { IsNameLength (N.text name) }
-    requires there { IsThere (D.seen held.old.folder) (N.text name) }
-    ensures* rests { sem 𝓛 (RestsIfErr (the_row D.row) held.entry (λ it. it.held.ghost_name) result (λ n. Calls (ends result) (DoesOrNot (firms (N.text name))) (D.seen held.old.folder) (D.seen n.folder))) }
+    requires { IsFile (D.seen held.old.folder) (N.text name) }
+    ensures* rests { sem 𝓛 (RestsIfErr (the_row D.row) held.entry (λ it. it.held.ghost_name) result
+        (λ n. Calls (ends result) (DoesOrNot (firms (N.text name))) (D.seen held.old.folder)
+        (D.seen n.folder))) }
     ensures same_reference { IfOk result (λ it. it.held.ghost_name ≡ held.entry.ghost_name) }
-    ensures name { IfOk result (λ it. N.text it.name ≡ N.text name) }
-    ensures calls { IfOk result (λ it. Calls Done (DoesOrNot (firms (N.text name))) (D.seen held.old.folder) (D.seen it.held.now.folder)) }
-    ensures there { IfOk result (λ it. IsThere (D.seen it.held.now.folder) (N.text it.name)) }
+    ensures calls { IfOk result (λ it. Calls Done (DoesOrNot (firms (N.text name)))
+        (D.seen held.old.folder) (D.seen it.held.now.folder)) }
+    ensures firm { IfOk result (λ it. HasFirm (D.seen it.held.now.folder) (N.text name)
+        (N.text it.name)) }
 {
     let text = name.text();
     held.folder.firm(text)?;
     Ok(Firm { held, name })
 }
 
-impl<'a, D: Folder, N: Named> Fresh<'a, D, N> {
+impl<'a, D: Folder, N: Named + Copy> Fresh<'a, D, N> {
     /// Adds bytes at the end of the file, by one `append`. Where that gives no answer the file is spent and the loan ends; the fault is `Failed` or `NoMemory`.
     #[tactic(auto, using(pl_folder::proofs::FolderLaws::there))]
     pub fn write(self, alloc: Global, bytes: &[u8]) -> Result<Fresh<'a, D, N>, FolderFault>
-        requires length { IsNameLength (N.text self.name) }
-        requires there { IsThere (D.seen self.held.now.folder) (N.text self.name) }
-        ensures* rests { sem 𝓛 (RestsIfErr (the_row D.row) self.entry.held (λ it. it.held.ghost_name) result (λ n. Calls (ending result) (Appends (N.text self.entry.name) bytes.now) (D.seen self.entry.held.now.folder) (D.seen n.folder))) }
-        ensures same_reference { IfOk result (λ it. it.held.ghost_name ≡ self.entry.held.ghost_name) }
-        ensures name { IfOk result (λ it. N.text it.name ≡ N.text self.entry.name) }
-        ensures calls { IfOk result (λ it. Calls Done (Appends (N.text self.entry.name) bytes.now) (D.seen self.entry.held.now.folder) (D.seen it.held.now.folder)) }
-        ensures there { IfOk result (λ it. IsThere (D.seen it.held.now.folder) (N.text it.name)) }
+        requires { IsFile (D.seen self.held.now.folder) (N.text self.name) }
+        ensures* rests { sem 𝓛 (RestsIfErr (the_row D.row) self.entry.held
+            (λ it. it.held.ghost_name) result
+            (λ n. Calls (ending result) (Appends (N.text self.entry.name) bytes.now)
+            (D.seen self.entry.held.now.folder) (D.seen n.folder))) }
+        ensures same_reference { IfOk result
+            (λ it. it.held.ghost_name ≡ self.entry.held.ghost_name) }
+        ensures calls { IfOk result (λ it. Calls Done (Appends (N.text self.entry.name) bytes.now)
+            (D.seen self.entry.held.now.folder) (D.seen it.held.now.folder)) }
+        ensures file { IfOk result (λ it. Has (D.seen it.held.now.folder) (N.text self.entry.name)
+            (N.text it.name)) }
         ensures plain { IfErr result IsPlain }
     {
         let Fresh { held, name } = self;
@@ -68,14 +79,19 @@ impl<'a, D: Folder, N: Named> Fresh<'a, D, N> {
     }
 
     /// Makes the file firm, by one `firm`. Where that fails the file is spent and the loan ends.
+    #[tactic(auto, using(crate::proofs::FirmLaws::firm_done))]
     pub fn firm(self) -> Result<Firm<'a, D, N>, Failed>
-        requires length { IsNameLength (N.text self.name) }
-        requires there { IsThere (D.seen self.held.now.folder) (N.text self.name) }
-        ensures* rests { sem 𝓛 (RestsIfErr (the_row D.row) self.entry.held (λ it. it.held.ghost_name) result (λ n. Calls (ends result) (DoesOrNot (firms (N.text self.entry.name))) (D.seen self.entry.held.now.folder) (D.seen n.folder))) }
-        ensures same_reference { IfOk result (λ it. it.held.ghost_name ≡ self.entry.held.ghost_name) }
-        ensures name { IfOk result (λ it. N.text it.name ≡ N.text self.entry.name) }
-        ensures calls { IfOk result (λ it. Calls Done (DoesOrNot (firms (N.text self.entry.name))) (D.seen self.entry.held.now.folder) (D.seen it.held.now.folder)) }
-        ensures there { IfOk result (λ it. IsThere (D.seen it.held.now.folder) (N.text it.name)) }
+        requires { IsFile (D.seen self.held.now.folder) (N.text self.name) }
+        ensures* rests { sem 𝓛 (RestsIfErr (the_row D.row) self.entry.held
+            (λ it. it.held.ghost_name) result
+            (λ n. Calls (ends result) (DoesOrNot (firms (N.text self.entry.name)))
+            (D.seen self.entry.held.now.folder) (D.seen n.folder))) }
+        ensures same_reference { IfOk result
+            (λ it. it.held.ghost_name ≡ self.entry.held.ghost_name) }
+        ensures calls { IfOk result (λ it. Calls Done (DoesOrNot (firms (N.text self.entry.name)))
+            (D.seen self.entry.held.now.folder) (D.seen it.held.now.folder)) }
+        ensures firm { IfOk result (λ it. HasFirm (D.seen it.held.now.folder)
+            (N.text self.entry.name) (N.text it.name)) }
     {
         let Fresh { held, name } = self;
         held.folder.firm(name.text())?;
@@ -83,13 +99,13 @@ impl<'a, D: Folder, N: Named> Fresh<'a, D, N> {
     }
 }
 
-impl<'a, D: Folder, N: Named> Firm<'a, D, N> {
-    /// Gives the file another name, in place of a file that has it, by one `rename`, and ends the loan.
+impl<'a, D: Folder, N: Named + Copy> Firm<'a, D, N> {
+    /// Gives the file, which is firm, another name, in place of a file that has it, by one `rename`, and ends the loan.
     pub fn name_as(self, to: &str) -> Result<(), Failed>
-        requires length { IsNameLength (N.text self.name) }
-        requires to_length { IsNameLength to.now }
-        requires there { IsThere (D.seen self.held.now.folder) (N.text self.name) }
-        ensures { Calls (ends result) (Does (renames (N.text self.entry.name) to.now)) (D.seen self.entry.held.now.folder) (D.seen self.exit.0.now.folder) }
+        requires firm { IsFirmFile (D.seen self.held.now.folder) (N.text self.name) }
+        requires length { IsNameLength to.now }
+        ensures { Calls (ends result) (Does (renames (N.text self.entry.name) to.now))
+            (D.seen self.entry.held.now.folder) (D.seen self.exit.0.now.folder) }
     {
         let Firm { held, name } = self;
         held.folder.rename(name.text(), to)

@@ -7,7 +7,7 @@ use Rattle.pl_journal.specs.Parts.{CanPut, PutsInPlace}
 use Rattle.pl_journal.specs.declared.fault.JournalFault.TheVariants.{Failed}
 use Rattle.pl_journal.specs.declared.step.Step.{Step}
 use Rattle.pl_journal.proofs.Endings.{failed_not_bad, not_bad_with, passed_with}
-use Rattle.pl_journal.proofs.InPlace.{carried, carried_broken, carried_stop, nothing_carried}
+use Rattle.pl_journal.proofs.InPlace.{carried, carried_broken, carried_rests, carried_stop, nothing_carried}
 use Rattle.pl_journal.proofs.carrying.carry_out.Goals as goal
 
 pub returns-then-is_empty-clause-calls : goal.returns-then-is_empty-clause-calls
@@ -33,6 +33,12 @@ pub returns-clause-calls : goal.returns-clause-calls
 returns-clause-calls g c =
     carried c.args.changes.now c.in_ok-steps.steps c.requires.fine c.in_ok-steps.ensures.steps c.in_ok-steps.ensures.calls
     (subst (λ (steps : List Step). Calls Done (PutsInPlace steps) (g.D.Folder.seen c.stage_changes.new.held.folder) (g.D.Folder.seen c.put_in_place.new.held.folder)) c.as_slice.ensures c.in_ok-put_in_place.ensures)
+
+pub returns-clause-ends : goal.returns-clause-ends
+returns-clause-ends g c =
+    let done = carried c.args.changes.now c.in_ok-steps.steps c.requires.fine c.in_ok-steps.ensures.steps c.in_ok-steps.ensures.calls
+    (subst (λ (steps : List Step). Calls Done (PutsInPlace steps) (g.D.Folder.seen c.stage_changes.new.held.folder) (g.D.Folder.seen c.put_in_place.new.held.folder)) c.as_slice.ensures c.in_ok-put_in_place.ensures) in
+    carried_rests c.args.changes.now c.in_ok-steps.steps c.requires.fine c.in_ok-steps.ensures.steps c.requires.rested done
 
 pub returns-in_err-steps-clause-plain : goal.returns-in_err-steps-clause-plain
 returns-in_err-steps-clause-plain g c = not_bad_with c.from_residual.result c.in_err-steps.field-0.0 c.from_residual.ensures.1 c.in_err-steps.ensures.plain

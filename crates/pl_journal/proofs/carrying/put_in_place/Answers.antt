@@ -15,4 +15,4 @@ pub returns-in_err-do_rows : goal.returns-in_err-do_rows
 returns-in_err-do_rows g c = passed_failed _ c.from_residual-in_err-do_rows.result c.from_residual-in_err-do_rows.ensures.1 (puts_rows_stop c.args.steps.now tt (puts_rows c.args.steps.now (puts_commit c.args.steps.now c.in_ok-commit.ensures) c.in_err-do_rows.ensures))
 
 pub returns : goal.returns
-returns g c = puts_end c.args.steps.now (puts_rows c.args.steps.now (puts_commit c.args.steps.now c.in_ok-commit.ensures) c.in_ok-do_rows.ensures) c.finish.ensures
+returns g c = puts_end c.args.steps.now (puts_rows c.args.steps.now (puts_commit c.args.steps.now c.in_ok-commit.ensures) c.in_ok-do_rows.ensures) c.finish.ensures.calls

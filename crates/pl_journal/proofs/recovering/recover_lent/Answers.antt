@@ -1,9 +1,9 @@
 use Rattle.pl_journal.specs.Leaves.{fault_of}
-use Rattle.pl_journal.proofs.RecoverParts.{rested, settle_then}
+use Rattle.pl_journal.proofs.RecoverParts.{ok_at_rest, settle_then}
 use Rattle.pl_journal.proofs.recovering.recover_lent.Goals as goal
 
 pub returns-clause-calls : goal.returns-clause-calls
 returns-clause-calls g c = settle_then (fault_of c.recover_settled.result) (g.met.D.Folder.is_folder c.args.held.now.folder) c.in_ok-settle.ensures c.recover_settled.ensures.calls
 
 pub returns-clause-rested : goal.returns-clause-rested
-returns-clause-rested g c = rested c.recover_settled.result (settle_then (fault_of c.recover_settled.result) (g.met.D.Folder.is_folder c.args.held.now.folder) c.in_ok-settle.ensures c.recover_settled.ensures.calls)
+returns-clause-rested g c = ok_at_rest c.recover_settled.result (settle_then (fault_of c.recover_settled.result) (g.met.D.Folder.is_folder c.args.held.now.folder) c.in_ok-settle.ensures c.recover_settled.ensures.calls)
