@@ -1,22 +1,25 @@
 -- The laws.
-use Rattle.std.proofs.Common.{◌≡◌, ℕ, zero, suc, true, false, List, [], ◌∷◌, Option, Some, None, refl, sym, ap, subst, ◌∙◌, arith, inl, inr}
-use Rattle.std.specs.Prelude.{◌⊎◌, map}
+use Rattle.std.proofs.Common.{◌≡◌, ℕ, zero, suc, true, false, List, [], ◌∷◌, Option, Some, None, Ok, refl, sym, ap, subst, ◌∙◌, arith, inl, inr}
+use Rattle.std.specs.Prelude.{◌⊎◌, Bool, map, if◌then◌else◌}
+use Rattle.std.specs.Option.{option_or, option_map}
 use Rattle.std.specs.List.{All, Contains}
 use Rattle.std.specs.Str.{bytes_eq}
 use Rattle.std.proofs.lemmas.Bool.{cases_Bool, false≢true}
 use Rattle.std.proofs.lemmas.List.Elements.{All-head, All-tail}
+use Rattle.pl_object.specs.declared.object.Object.{Object}
 use Rattle.pl_scope.specs.Members.{names, others, has}
-use Rattle.pl_sound.specs.Rule.{Row, Mark, Format, IsFormat, Files, row_at, objects}
+use Rattle.pl_sound.specs.Rule.{Row, Mark, Format, IsFormat, Files, object_at, original_at, row_at, objects, is_marked, is_same, prelinked_in}
 use Rattle.pl_sound.specs.Plan.{Fit, is_candidate, is_current, plan_of, planned_in, all}
 use Rattle.pl_sound.specs.History.{IsEdit, Happened, Held, Change, done}
-use Rattle.pl_sound.specs.Laws.{CurrentIsFromScratch, RunsAreSound, MixturesAreSound, RowsAreSound, EditsAreSound, OthersAreSound, HistoriesAreSound, StampsNameFiles}
+use Rattle.pl_sound.specs.Laws.{CurrentIsFromScratch, RunsAreSound, RunsKeepOriginals, MixturesAreSound, RowsAreSound, EditsAreSound, OthersAreSound, NoFilesAreSound, VerifiedAreSound, HistoriesAreSound, StampsNameFiles}
 use Rattle.pl_scope.proofs.NameLaws.{has_cons, same_name}
+use Rattle.pl_scope.proofs.StepLaws.{err_ok}
 use Rattle.pl_scope.proofs.ClosureLaws.{WalkTells, walk_is}
-use Rattle.pl_sound.proofs.Matching.{RuleAt, tells_back, members_are, rule_in, rule_out, row_eq_itself}
+use Rattle.pl_sound.proofs.Matching.{RuleAt, and_both, tells_back, members_are, rule_in, rule_out, row_eq_itself}
 use Rattle.pl_sound.proofs.RuleLaws.{is_other, AgreeOn, rule_from}
 use Rattle.pl_sound.proofs.Books.{Book, own, joined, Keeps, IsFrom}
 use Rattle.pl_sound.proofs.BookLaws.{marked_at, rule_from_book}
-use Rattle.pl_sound.proofs.PlanLaws.{IsCurrent, current_is, current_back, current_within, all_planned, all_current, rule_planned}
+use Rattle.pl_sound.proofs.PlanLaws.{Planned, planned_is, IsCurrent, current_is, current_back, current_within, all_planned, all_current, rule_planned}
 use Rattle.pl_sound.proofs.RunLaws.{keeps_start, keeps_edit, keeps_run}
 
 some_same : {X : Type 0} (x y : X) → Some x ≡ Some y → x ≡ y
@@ -34,6 +37,40 @@ from_scratch f laws fit files slots stamp n rule h =
 
 pub runs : {E : Type 0} → RunsAreSound E
 runs f laws fit old slots stamp = rule_in f (all f fit old slots stamp) (rule_planned f laws old (all f fit old slots stamp) (plan_of f fit old slots stamp) (λ m file k there marked. (all_planned f laws fit old slots stamp m file k there marked).1))
+
+-- the old file of a name whose new file has its original
+abbrev pub HasOriginal : {E : Type 0} → Format E → Option (List ℕ) → List ℕ → Type 0
+HasOriginal f old file = (before : List ℕ) × (old ≡ Some before) × (f.original file ≡ f.original before)
+
+of_walked : {E : Type 0} (f : Format E) (n file : List ℕ) (o : Object) (old : Option (List ℕ)) → object_at f n old ≡ Ok o → f.original file ≡ original_at f old → HasOriginal f old file
+of_walked f n file o None there is = absurd (err_ok (f.absent n) o there)
+of_walked f n file o (Some before) there is = (before, refl, is)
+
+of_original : {E : Type 0} (f : Format E) → IsFormat f → ((file : List ℕ) → f.mark file ≡ None → f.original file ≡ file) → (file : List ℕ) (old : Option (List ℕ)) → option_map f.original old ≡ Some file → HasOriginal f old file
+of_original f laws bare file None h = absurd (none_some file h)
+of_original f laws bare file (Some before) h = (before, refl, ap f.original (sym (some_same (f.original before) file h)) ∙ bare (f.original before) (laws.bare before))
+
+pub originals : {E : Type 0} → RunsKeepOriginals E
+originals f laws bare fit old slots stamp n file h = of_parts (is_candidate f fit old n) (planned_in f old (plan_of f fit old slots stamp) n) refl h
+  where
+    of_parts : (b : Bool) (planned : Option (List ℕ)) → planned_in f old (plan_of f fit old slots stamp) n ≡ planned → option_or (if b then planned else None) (option_map f.original (old n)) ≡ Some file → HasOriginal f (old n) file
+    of_parts true (Some p) is h =
+        let made : Planned f old (plan_of f fit old slots stamp) n file = planned_is f laws old (plan_of f fit old slots stamp) n file (is ∙ h) in
+        let i : WalkTells (objects f old) n made.walked = walk_is f.walks (objects f old) n made.walked made.walks in
+        of_walked f n file i.object (old n) i.file made.original
+    of_parts true None is h = of_original f laws bare file (old n) h
+    of_parts false planned is h = of_original f laws bare file (old n) h
+
+pub no_files : {E : Type 0} → NoFilesAreSound E
+no_files f n m h t = absurd (false≢true h)
+
+same_is : (a b : Option (List ℕ)) → is_same a b ≡ true → a ≡ b
+same_is None b h = absurd (false≢true h)
+same_is (Some a) None h = absurd (false≢true h)
+same_is (Some a) (Some b) h = ap (λ (z : List ℕ). Some z) (same_name a b h)
+
+pub verified : {E : Type 0} → VerifiedAreSound E
+verified f files each n m h t = same_is (prelinked_in f files m) (files m) (and_both (is_marked f files m) (is_same (prelinked_in f files m) (files m)) (each n m h t)).1
 
 pub mixtures : {E : Type 0} → MixturesAreSound E
 mixtures f laws fit old mixed slots last stamp rule bounded past each =

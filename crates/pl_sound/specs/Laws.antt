@@ -1,11 +1,11 @@
 -- What is proved.
-use Rattle.std.specs.Prelude.{◌≡◌, ◌⊎◌, ℕ, ◌<◌, ◌≤◌, true, List, Some, Ok}
+use Rattle.std.specs.Prelude.{◌≡◌, ◌⊎◌, ℕ, ◌<◌, ◌≤◌, true, List, Some, None, Ok}
 use Rattle.std.specs.List.{All}
 use Rattle.pl_object.specs.declared.object.Object.{Object}
 use Rattle.pl_elf.specs.declared.kind.Kind.TheVariants.{Library}
 use Rattle.pl_scope.specs.declared.fault.WalkFault.{WalkFault}
 use Rattle.pl_scope.specs.Members.{has}
-use Rattle.pl_sound.specs.Rule.{Mark, Format, IsFormat, Files, members, Rule}
+use Rattle.pl_sound.specs.Rule.{Mark, Format, IsFormat, Files, members, matches, is_verified, Rule}
 use Rattle.pl_sound.specs.Plan.{Fit, is_current, IsBounded, all}
 use Rattle.pl_sound.specs.History.{IsEdit, Happened, Held, Change, done, IsAllowed}
 
@@ -17,6 +17,11 @@ CurrentIsFromScratch E = (f : Format E) → IsFormat f → (fit : Fit) (files : 
 -- what a run leaves meets the rule, from whatever folder
 abbrev pub RunsAreSound : Type 0 → Type 0
 RunsAreSound E = (f : Format E) → IsFormat f → (fit : Fit) (old : Files) (slots : List ℕ → ℕ) (stamp : ℕ) → Rule f (all f fit old slots stamp)
+
+-- and it leaves each name its original, where a file without a mark is its own
+abbrev pub RunsKeepOriginals : Type 0 → Type 0
+RunsKeepOriginals E = (f : Format E) → IsFormat f → ((file : List ℕ) → f.mark file ≡ None → f.original file ≡ file) → (fit : Fit) (old : Files) (slots : List ℕ → ℕ) (stamp : ℕ) (n file : List ℕ)
+    → all f fit old slots stamp n ≡ Some file → (before : List ℕ) × (old n ≡ Some before) × (f.original file ≡ f.original before)
 
 -- every mixture of old and new files meets the rule
 abbrev pub MixturesAreSound : Type 0 → Type 0
@@ -38,6 +43,14 @@ EditsAreSound E = (f : Format E) → IsFormat f → (before after : Files) → R
 -- what others may write keeps the rule
 abbrev pub OthersAreSound : Type 0 → Type 0
 OthersAreSound E = (f : Format E) → IsFormat f → (before after : Files) → Rule f before → IsAllowed f before after → Rule f after
+
+-- a folder without files meets the rule
+abbrev pub NoFilesAreSound : Type 0 → Type 0
+NoFilesAreSound E = (f : Format E) → Rule f (λ n. None)
+
+-- so does one in which each name that matches, and each member of its walk, is verified
+abbrev pub VerifiedAreSound : Type 0 → Type 0
+VerifiedAreSound E = (f : Format E) (files : Files) → ((n m : List ℕ) → matches f files n ≡ true → has (members f files n) m ≡ true → is_verified f files m ≡ true) → Rule f files
 
 -- files each of which was held at some moment meet the rule together; and the last stamp bounds the folder
 abbrev pub HistoriesAreSound : Type 0 → Type 0

@@ -131,6 +131,15 @@ matches f files n = tells_walk f files (mark_at f (files n)) (walk_in f files n)
 abbrev pub Rule : {E : Type 0} → Format E → Files → Type 0
 Rule f files = (n m : List ℕ) → matches f files n ≡ true → has (members f files n) m ≡ true → prelinked_in f files m ≡ files m
 
+abbrev pub is_same : Option (List ℕ) → Option (List ℕ) → Bool
+is_same None b = false
+is_same (Some a) None = false
+is_same (Some a) (Some b) = bytes_eq a b
+
+-- a name's file is marked, and is the one that is meant
+abbrev pub is_verified : {E : Type 0} → Format E → Files → List ℕ → Bool
+is_verified f files n = is_marked f files n && is_same (prelinked_in f files n) (files n)
+
 -- what every format keeps: an original is not marked, a prelinked file tells its original, version, slot, stamp and list, a marked file is no static program, and a marked program has slot and stamp 0
 pub record IsFormat {E : Type 0} (f : Format E) : Type 0 where
   pub bare : (file : List ℕ) → f.mark (f.original file) ≡ None

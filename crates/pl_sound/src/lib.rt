@@ -3,7 +3,7 @@
 //! Nothing here knows of ELF: the laws hold for every `Format` that keeps `IsFormat`, over the walks of pl_scope. Each is a clause of a function that does nothing, with the type of a format's faults as its parameter.
 #![tactic(auto)]
 
-ghost use Rattle.pl_sound.specs.Laws.{CurrentIsFromScratch, RunsAreSound, MixturesAreSound, RowsAreSound, EditsAreSound, OthersAreSound, HistoriesAreSound, StampsNameFiles, MarksDoNotBound};
+ghost use Rattle.pl_sound.specs.Laws.{CurrentIsFromScratch, RunsAreSound, RunsKeepOriginals, MixturesAreSound, RowsAreSound, EditsAreSound, OthersAreSound, NoFilesAreSound, VerifiedAreSound, HistoriesAreSound, StampsNameFiles, MarksDoNotBound};
 
 use pl_object::Object;
 
@@ -15,6 +15,11 @@ pub fn current_is_from_scratch<E>()
 /// What a run leaves keeps the rule, whatever the folder was, sound or not.
 pub fn runs_are_sound<E>()
     ensures { RunsAreSound E }
+{}
+
+/// It leaves each name the original that it had, whatever the folder was.
+pub fn runs_keep_originals<E>()
+    ensures { RunsKeepOriginals E }
 {}
 
 /// Where a folder keeps the rule, and a run's stamp is past all stamps of its marks and of their lists, each name may have its old file or the run's, in any mixture: the rule is kept.
@@ -35,6 +40,16 @@ pub fn edits_are_sound<E>()
 /// So does what others write, where no file that they changed matches, and each name in the list of a file that stayed has its old bytes, is not marked, or differs from its row.
 pub fn others_are_sound<E>()
     ensures { OthersAreSound E }
+{}
+
+/// A folder without files keeps the rule.
+pub fn no_files_are_sound<E>()
+    ensures { NoFilesAreSound E }
+{}
+
+/// So does one, whoever wrote it, in which each name that matches, and each member of its walk, is prelinked and its file is the one that its original, and those of its walk, give at the versions, slots and stamps that the files bear.
+pub fn verified_are_sound<E>()
+    ensures { VerifiedAreSound E }
 {}
 
 /// Over runs and edits, one after the other: the last stamp bounds the folder, and files that are taken at any moments, each at its own, keep the rule together.
