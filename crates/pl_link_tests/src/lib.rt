@@ -6,8 +6,6 @@ mod build;
 #[cfg(test)]
 mod image;
 #[cfg(test)]
-mod marked;
-#[cfg(test)]
 mod object;
 #[cfg(test)]
 mod samples;
