@@ -6,6 +6,8 @@ mod build;
 #[cfg(test)]
 mod image;
 #[cfg(test)]
+mod init;
+#[cfg(test)]
 mod object;
 #[cfg(test)]
 mod samples;

@@ -1,7 +1,10 @@
 // Files and objects of recipes, with changed bytes.
-ghost use Rattle.std.specs.Prelude.{IfOk};
+ghost use Rattle.std.specs.Prelude.{IfOk, OnOk};
+ghost use Rattle.std.specs.List.{All};
+ghost use Rattle.indexmap.specs.IndexMap.{values};
 ghost use Rattle.pl_scope.specs.Scope.{IsAccepted};
 
+use indexmap::IndexMap;
 use pl_base::{put16, put32, put64};
 use pl_build::build;
 use pl_object::{ORIGINAL, Object, accept};
@@ -51,4 +54,30 @@ pub fn object_of(alloc: Global, recipe: &str, changes: &[Change]) -> Result<Obje
 {
     let file = file_of(alloc, recipe, changes)?;
     accepted(alloc, &file)
+}
+
+/// Gives a name the object of a recipe's file.
+pub fn insert(
+    alloc: Global,
+    objects: &mut IndexMap<String, Object>,
+    name: &str,
+    recipe: &str,
+) -> Result<(), Fail>
+    requires { All IsAccepted (values objects.old) }
+    ensures { OnOk result (All IsAccepted (values objects.new)) }
+{
+    let object = object_of(alloc, recipe, &[])?;
+    objects.insert(String::from_str(alloc, name)?, object)?;
+    Ok(())
+}
+
+/// The objects of recipes by their names.
+pub fn by_name(alloc: Global, samples: &[(&str, &str)]) -> Result<IndexMap<String, Object>, Fail>
+    ensures { IfOk result (λ objects. All IsAccepted (values objects)) }
+{
+    let mut objects = IndexMap::new(alloc);
+    for (name, recipe) in samples {
+        insert(alloc, &mut objects, name, recipe)?;
+    }
+    Ok(objects)
 }

@@ -5,7 +5,7 @@ ghost use Rattle.std.specs.List.{All};
 ghost use Rattle.indexmap.specs.IndexMap.{values};
 ghost use Rattle.pl_scope.specs.Scope.{objects, IsAccepted, IsSymbol};
 
-use crate::samples::{Change, object_of};
+use crate::samples::{Change, by_name, object_of};
 use indexmap::IndexMap;
 use pl_base::Text;
 use pl_elf::constants::{R_X86_64_COPY, R_X86_64_GLOB_DAT, R_X86_64_JUMP_SLOT};
@@ -254,19 +254,6 @@ const WALKS: [(&str, &str); 10] = [
     ("gone", "NotThere gone"),
 ];
 
-fn by_name(alloc: Global) -> Result<IndexMap<String, Object>, Fail>
-    ensures { IfOk result (λ map. All IsAccepted (values map)) }
-{
-    let mut map = IndexMap::new(alloc);
-    for (name, recipe) in OBJECTS {
-        map.insert(
-            String::from_str(alloc, name)?,
-            object_of(alloc, recipe, &[])?,
-        )?;
-    }
-    Ok(map)
-}
-
 // The names of a scope, each with a blank behind it.
 fn names_of(alloc: Global, scope: &Scope<'_>) -> Result<String, AllocError> {
     let mut text = String::new(alloc);
@@ -293,7 +280,7 @@ fn text_of_walk(
 
 #[test]
 fn walks(rt: HostRuntime) -> Result<(), Fail> {
-    let objects = by_name(rt.alloc())?;
+    let objects = by_name(rt.alloc(), &OBJECTS)?;
     for (name, wanted) in WALKS {
         let text = text_of_walk(rt.alloc(), name, &objects)?;
         assert_eq!(rt; text.as_str(), wanted, "{name}");

@@ -1,7 +1,7 @@
 use Rattle.std.specs.List.{All}
 use Rattle.indexmap.specs.IndexMap.{values}
 use Rattle.pl_scope.specs.Scope.{IsAccepted}
-use Rattle.pl_link_tests.proofs.scope.by_name.Given as goal
+use Rattle.pl_link_tests.proofs.samples.by_name.Given as goal
 
 abbrev pub invariant-loop-name : goal.invariant-loop-name
-invariant-loop-name l = All IsAccepted (values l.map)
+invariant-loop-name l = All IsAccepted (values l.objects)

@@ -5,7 +5,7 @@ use Rattle.std.proofs.lemmas.List.Elements.{All-cons, All-head, All-nil, All-tai
 use Rattle.std.specs.Map.{values_of}
 use Rattle.indexmap.specs.IndexMap.{insert_entry}
 use Rattle.pl_scope.specs.Scope.{IsAccepted}
-use Rattle.pl_link_tests.proofs.scope.by_name.Goals as goal
+use Rattle.pl_link_tests.proofs.samples.insert.Goals as goal
 
 -- what all values of a map are, they are after one more was inserted that is so
 module _ {K X : Type 0} (eq : K → K → Bool) (P : X → Type 0) (key : K) (value : X) (is : P value) where
@@ -16,5 +16,5 @@ module _ {K X : Type 0} (eq : K → K → Bool) (P : X → Type 0) (key : K) (va
     | inr other ↦ rw other (All-cons P e.1 (values_of (insert_entry eq es key value)) (All-head P e.1 (values_of es) all) (insert_keeps es (All-tail P e.1 (values_of es) all)))
   ]
 
-pub loop-name-preserved : goal.loop-name-preserved
-loop-name-preserved c = subst (λ es. All IsAccepted (values_of es)) (sym c.in_ok-insert.ensures.entries) (insert_keeps _ IsAccepted _ _ c.in_ok-object_of.ensures _ c.loop-name.invariant)
+pub returns : goal.returns
+returns c = subst (λ es. All IsAccepted (values_of es)) (sym c.in_ok-insert.ensures.entries) (insert_keeps _ IsAccepted _ _ c.in_ok-object.ensures _ c.requires)
