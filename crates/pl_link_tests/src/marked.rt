@@ -86,7 +86,7 @@ fn program_form(
 }
 
 /// The object of a file that has a form.
-fn object_of(alloc: Global, file: &[u8]) -> Result<Object, Fail>
+pub fn object_of(alloc: Global, file: &[u8]) -> Result<Object, Fail>
     ensures { IfOk result (IsFirm file.now) }
 {
     if file.len() > ORIGINAL {
