@@ -1,12 +1,16 @@
-//! Tests of recipes, acceptance, look-up, values and images by the public calls of their crates.
+//! Tests of recipes, acceptance, forms, marked files, look-up, values and images by the public calls of their crates.
 #![tactic(auto)]
 
 #[cfg(test)]
 mod build;
 #[cfg(test)]
+mod forms;
+#[cfg(test)]
 mod image;
 #[cfg(test)]
 mod init;
+#[cfg(test)]
+mod marked;
 #[cfg(test)]
 mod object;
 #[cfg(test)]
