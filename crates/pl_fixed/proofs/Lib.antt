@@ -1,0 +1,9 @@
+pub mod LookupLaws
+pub mod FoundLaws
+pub mod ValueLaws
+pub mod MeaningLaws
+pub mod ImageLaws
+pub mod SourceLaws
+pub mod Theorem
+pub mod StayLaws
+pub mod Controls
