@@ -113,7 +113,7 @@ listed_found : (before table strings : List ℕ) (list : List ListRow) → strin
 listed_found before table strings list s t small spelled =
     is_read table strings list (is_list_of before table strings list (omega (arith, small, ap length s, length-append before (list_strings list))) t s spelled)
 
-part_most : (s : Section) (file : List ℕ) → length (section_part s file) ≤ length file
+pub part_most : (s : Section) (file : List ℕ) → length (section_part s file) ≤ length file
 part_most s file = omega (arith, length-take s.size (drop s.offset file), length-drop s.offset file)
 
 -- ---- a library
@@ -138,7 +138,7 @@ library_reads file m flat is spelled small r =
       places = r.places;
     }
 
-library_file : (file : List ℕ) (m : Marked) (f : IsFormOf file m) → IsLibraryMark m → file ≡ forms.library_form (original_of m.original) m.slot m.stamp (checksum_of m.original) (listed m.list) f.flat (digest_in m.version m.original)
+pub library_file : (file : List ℕ) (m : Marked) (f : IsFormOf file m) → IsLibraryMark m → file ≡ forms.library_form (original_of m.original) m.slot m.stamp (checksum_of m.original) (listed m.list) f.flat (digest_in m.version m.original)
 unfolding form_with library_with
 library_file file m f is = rw is.library at f.is
 
@@ -147,7 +147,7 @@ library_small : (o : Original) (slot stamp checksum : ℕ) (l : Listed) (flat : 
 unfolding planned
 library_small o slot stamp checksum l flat digest small = omega (arith, small, table_below (library_plan o slot stamp checksum l) o flat (undo_part (library_plan o slot stamp checksum l) o digest))
 
-library_forms : (file : List ℕ) (m : Marked) (f : IsFormOf file m) → IsLibraryMark m → FormsLibrary m.original m.object m.slot m.stamp (checksum_of m.original) (listed m.list) f.flat (digest_in m.version m.original)
+pub library_forms : (file : List ℕ) (m : Marked) (f : IsFormOf file m) → IsLibraryMark m → FormsLibrary m.original m.object m.slot m.stamp (checksum_of m.original) (listed m.list) f.flat (digest_in m.version m.original)
 library_forms file m f is =
     let same = library_file file m f is in
     let short : length (forms.library_form (original_of m.original) m.slot m.stamp (checksum_of m.original) (listed m.list) f.flat (digest_in m.version m.original)) ≤ STORED = subst (λ (xs : List ℕ). length xs ≤ STORED) same f.small in
@@ -191,7 +191,7 @@ program_reads file m flat is spelled small r =
       places = r.places;
     }
 
-program_file : (file : List ℕ) (m : Marked) (f : IsFormOf file m) (last : Segment) → IsProgramMark m → last_load (ss_of m.original) ≡ Some last
+pub program_file : (file : List ℕ) (m : Marked) (f : IsFormOf file m) (last : Segment) → IsProgramMark m → last_load (ss_of m.original) ≡ Some last
     → file ≡ forms.program_form (original_of m.original) (last_index (ss_of m.original)) last (extension_of m.original m.list m.conflicts) f.flat (digest_in m.version m.original)
 unfolding form_with extended
 program_file file m f last is at = rw (is.program, at) at f.is
@@ -201,7 +201,7 @@ program_small : (o : Original) (index : ℕ) (last : Segment) (e : Extension) (f
 unfolding planned
 program_small o index last e flat digest small = omega (arith, small, table_below (program_plan o index last flat e) o flat (undo_part (program_plan o index last flat e) o digest))
 
-program_forms : (file : List ℕ) (m : Marked) (f : IsFormOf file m) (last : Segment) → IsProgramMark m → last_load (ss_of m.original) ≡ Some last
+pub program_forms : (file : List ℕ) (m : Marked) (f : IsFormOf file m) (last : Segment) → IsProgramMark m → last_load (ss_of m.original) ≡ Some last
     → FormsProgram m.original m.object (last_index (ss_of m.original)) last (extension_of m.original m.list m.conflicts) f.flat (digest_in m.version m.original)
 program_forms file m f last is at =
     let o = m.original in
@@ -231,7 +231,7 @@ by_last None P some next = absurd (true≢false (sym some))
 by_last (Some last) P some next = next last refl
 
 -- an accepted original has a last PT_LOAD
-with_last : (file : List ℕ) (m : Marked) (f : IsFormOf file m) (P : Type 0) → ((last : Segment) → last_load (ss_of m.original) ≡ Some last → P) → P
+pub with_last : (file : List ℕ) (m : Marked) (f : IsFormOf file m) (P : Type 0) → ((last : Segment) → last_load (ss_of m.original) ≡ Some last → P) → P
 with_last file m f P next =
     let found = last_load (ss_of m.original) in
     by_last found P (some_last m.original m.object f.firm.accepted) next

@@ -21,6 +21,8 @@ pub mod SomeLastLaws
 pub mod SoundLaws
 pub mod FindingLaws
 pub mod ReadFileLaws
+pub mod PlannedLaws
+pub mod FilesLaws
 pub mod BackLaws
 pub mod FormWithLaws
 pub mod ReadLaws

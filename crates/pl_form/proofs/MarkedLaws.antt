@@ -98,7 +98,7 @@ pub candidate_original : (front : List ℕ) (u : Undo) (o : List ℕ) (x : Objec
 unfolding candidate
 candidate_original front u o x l m is = ap (λ (n : Marked). n.original) is
 
-none_spelled : are_conflicts [] ≡ true
+pub none_spelled : are_conflicts [] ≡ true
 unfolding ascend
 none_spelled = refl
 

@@ -9,3 +9,4 @@ pub mod Stored
 pub mod Marks
 pub mod Reading
 pub mod Alike
+pub mod Files

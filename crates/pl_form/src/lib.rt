@@ -33,7 +33,7 @@ pub use check::check_form;
 pub use constants::STORED;
 pub use fault::{FileFault, FormFault};
 pub use file::{Entry, File, Files, Fill, Marked};
-pub use law::forms_have_one_original;
+pub use law::{files_are_told, forms_have_one_original};
 use layout::Layout;
 pub use library_form::form_library;
 use mark::Mark;

@@ -1,11 +1,8 @@
 // What a file is.
-ghost use Rattle.std.specs.Prelude.{◌≡◌, ◌<◌, ◌^◌, length, IfErr, IfOk, Ok, Err};
+ghost use Rattle.std.specs.Prelude.{◌<◌, ◌^◌, length, IfErr, IfOk};
 ghost use Rattle.pl_base.specs.Answers.{Answers};
-ghost use Rattle.pl_object.specs.Reads.{reads};
+ghost use Rattle.pl_form.specs.Files as whole;
 ghost use Rattle.pl_form.specs.Marks as spec;
-ghost use Rattle.pl_form.specs.declared.fault.FileFault.TheVariants as faults;
-ghost use Rattle.pl_form.specs.declared.file.File.TheVariants as files;
-ghost use Rattle.pl_form.specs.declared.file.Marked.{Marked};
 
 use crate::has_mark::has_mark;
 use crate::read::marked_of;
@@ -21,10 +18,10 @@ pub fn read_file(alloc: Global, bytes: &[u8]) -> Result<File, FileFault>
     // What is answered is so.
     ensures is { IfOk result (λ file. spec.IsFile bytes.now file) }
     ensures refused { IfErr result (λ fault. spec.IsFault bytes.now fault) }
-    // A form is answered, with all that it is made of, unless there is no memory.
-    ensures marked { (m : Marked) → spec.IsFormOf bytes.now m → Answers spec.is_memory result (Ok (files.Marked m)) }
-    ensures bad { spec.IsBadMark bytes.now → Answers spec.is_memory result (Err faults.BadMark) }
-    ensures plain { spec.IsPlain bytes.now → Answers spec.is_memory result (spec.as_file (reads bytes.now)) }
+    // It is a function of the bytes, unless there is no memory.
+    ensures exact { Answers spec.is_memory result (whole.file_in bytes.now) }
+    // The program headers of a form lie in it, and have the original's segments.
+    ensures segments { IfOk result (λ file. whole.BearsIfMarked bytes.now file) }
 {
     if let Some(marked) = marked_of(alloc, bytes)? {
         return Ok(File::Marked(marked));

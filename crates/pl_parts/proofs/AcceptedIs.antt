@@ -1,22 +1,19 @@
 -- What Back needs of an original's bytes, from its acceptance.
-use Rattle.std.proofs.Common.{◌≡◌, ℕ, zero, suc, ◌+◌, ◌-◌, ◌*◌, ◌/◌, ◌^◌, ◌<◌, ◌≤◌, Bool, true, false, List, [], ◌∷◌, ◌++◌, length, get_or, map, take, drop, Option, Some, None, Result, Ok, Err, refl, sym, ap, subst, ◌∙◌, arith, inl, inr}
-use Rattle.std.specs.Prelude.{◌⊎◌, ◌||◌, ◌&&◌, ◌==◌, not, nat_le, nat_lt, is_some}
+use Rattle.std.proofs.Common.{◌≡◌, ℕ, ◌+◌, ◌-◌, ◌*◌, ◌/◌, ◌^◌, ◌<◌, ◌≤◌, Bool, true, false, List, [], ◌∷◌, ◌++◌, length, get_or, map, take, drop, Ok, refl, sym, ap, subst, ◌∙◌, arith}
+use Rattle.std.specs.Prelude.{◌||◌, not, nat_lt}
 use Rattle.std.specs.List.{list_any, range_with_len, All}
 use Rattle.std.specs.Result.{is_ok}
-use Rattle.std.proofs.lemmas.Bool.{cases_Bool, and_parts, and_from, or_parts, or_from, true≢false, ltb-false, le-ltb}
-use Rattle.std.proofs.lemmas.List.{length-append, length-map, take_at, drop_at, append-nil, map-append, get_or_append_left, get_or-append-add}
+use Rattle.std.proofs.lemmas.Bool.{and_from, or_parts, or_from, true≢false, ltb-false, le-ltb}
+use Rattle.std.proofs.lemmas.List.{length-append, take_at, drop_at, append-nil, map-append, get_or_append_left, get_or-append-add}
 use Rattle.std.proofs.lemmas.Simd.{map-map}
 use Rattle.std.proofs.lemmas.List.FromFn.{length-map-range_with_len, get_or-map-range_with_len}
-use Rattle.pl_base.specs.Bytes.{IsBytes, word32, word64}
-use Rattle.pl_base.specs.Windows.{Window, end_of, within, share, any_share, AllIn}
+use Rattle.pl_base.specs.Bytes.{IsBytes, word64}
+use Rattle.pl_base.specs.Windows.{Window, within, share, AllIn}
 use Rattle.pl_base.proofs.AnswerLaws.{refuse_none}
 use Rattle.pl_base.proofs.WindowLaws.{length-within}
-use Rattle.pl_elf.specs.Headers.{header, segments, sections, segment_of_kind}
-use Rattle.pl_elf.specs.Clauses.{segment_passes}
+use Rattle.pl_elf.specs.Headers.{header, segments, sections}
 use Rattle.pl_elf.specs.Kinds.{is_static}
-use Rattle.pl_elf.specs.declared.constants.TheConstants.{PT_DYNAMIC}
 use Rattle.pl_elf.specs.declared.header.Header.{Header}
-use Rattle.pl_elf.specs.declared.range.Range.{Range}
 use Rattle.pl_elf.specs.declared.segment.Segment.{Segment}
 use Rattle.pl_elf.specs.declared.section.Section.{Section}
 use Rattle.pl_dyn.specs.Entries.{tags}
@@ -27,10 +24,10 @@ use Rattle.pl_relr.specs.Entries.{entries}
 use Rattle.pl_relr.specs.Places as relr
 use Rattle.pl_relr.specs.Places.{begins_odd, unpacked}
 use Rattle.pl_relr.specs.declared.fault.RelrFault.TheVariants.{Packed}
-use Rattle.pl_object.specs.Accepted.{Accepted, HasHead, IsTabled, kept_windows, tags_of as object_tags}
+use Rattle.pl_object.specs.Accepted.{Accepted, IsTabled, kept_windows, tags_of as object_tags}
 use Rattle.pl_object.specs.FilePart.{file_window, in_file_part, loaded}
-use Rattle.pl_object.specs.Named.{window_of, symtabs_of}
-use Rattle.pl_object.specs.Tables.{has_tag, range_of, dynamic_memory, symbols_memory, strings_memory, rela_memory, jmprel_memory, relr_memory, tables_memory, section_memory, symtab_windows, main_windows, link_windows, header_window, segments_window, sections_window}
+use Rattle.pl_object.specs.Named.{window_of}
+use Rattle.pl_object.specs.Tables.{has_tag, range_of, dynamic_memory, symbols_memory, strings_memory, rela_memory, jmprel_memory, relr_memory, tables_memory, section_memory, main_windows, link_windows, header_window, segments_window, sections_window}
 use Rattle.pl_object.specs.TableClauses.{meets, relr_table, bad_relr_tags, misplaced_relr, bad_relr_table, bad_packed}
 use Rattle.pl_object.specs.Reads.{reads, headers, layout, object, static_object}
 use Rattle.pl_object.specs.declared.linking.Linking.{Linking}
@@ -39,12 +36,12 @@ use Rattle.pl_object.proofs.AcceptedLaws.{IsDynamic, read_holds, accepted}
 use Rattle.pl_object.proofs.TabledLaws.{table_is, tables_pass}
 use Rattle.pl_base.specs.Sums.{is_aligned}
 use Rattle.pl_object.specs.PlaceClauses.{spots, reloc_in_tables}
-use Rattle.pl_object.specs.Relocations.{width, raw_width, reloc, reloc_at, relocs, packed_reloc, packed_relocs, place, places}
+use Rattle.pl_object.specs.Relocations.{raw_width, reloc, reloc_at, relocs, packed_reloc, packed_relocs, place, places}
 use Rattle.pl_object.specs.declared.object.Object.{Object}
 use Rattle.pl_object.specs.declared.reloc.Reloc.{Reloc}
 use Rattle.pl_move.proofs.ObjectLaws.{symtabs_in, window_in}
 use Rattle.pl_parts.specs.Back.{all_within}
-use Rattle.pl_parts.specs.Found.{has_dynamic_table, has_tables, rela_in, jmprel_in, packed_in, symbols_in, row_windows, raw_place, raw_places, packed_places, all_places, places_by, word_windows, ss_of, secs_of, d_of, tags_of, places_of}
+use Rattle.pl_parts.specs.Found.{has_tables, rela_in, jmprel_in, packed_in, row_windows, raw_place, raw_places, packed_places, all_places, places_by, word_windows, ss_of, secs_of, tags_of, places_of}
 use Rattle.pl_parts.proofs.ReaderLaws.{IsAcceptedAs, IsAccepted}
 use Rattle.pl_parts.proofs.StoredLaws.{same_rows}
 
@@ -212,10 +209,10 @@ IsNamed o x = AreNamed (relr_table o x.segments (object_tags o x))
 pub segments_are : (o : List ℕ) (x : Object) → Accepted o x → x.segments ≡ ss_of o
 segments_are o x is = sym is.head.segments ∙ ap (segments o) (sym is.head.header)
 
-sections_are : (o : List ℕ) (x : Object) → Accepted o x → x.sections ≡ secs_of o
+pub sections_are : (o : List ℕ) (x : Object) → Accepted o x → x.sections ≡ secs_of o
 sections_are o x is = sym is.head.sections ∙ ap (sections o) (sym is.head.header)
 
-tags_are : (o : List ℕ) (x : Object) → Accepted o x → object_tags o x ≡ tags_of o
+pub tags_are : (o : List ℕ) (x : Object) → Accepted o x → object_tags o x ≡ tags_of o
 unfolding loaded
 tags_are o x is = ap (λ (xs : List Segment). tags (within (file_window xs (dynamic_memory xs)) o)) (segments_are o x is)
 

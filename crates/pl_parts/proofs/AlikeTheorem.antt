@@ -1,31 +1,28 @@
 -- What a form leaves alone, from acceptance.
-use Rattle.std.proofs.Common.{◌≡◌, ℕ, ◌+◌, ◌*◌, ◌<◌, ◌≤◌, Bool, true, false, List, [], ◌∷◌, ◌++◌, length, get_or, map, Option, Some, None, Result, Ok, refl, sym, ap, subst, ◌∙◌, arith}
-use Rattle.std.specs.Prelude.{◌==◌, not}
+use Rattle.std.proofs.Common.{◌≡◌, ℕ, ◌+◌, ◌≤◌, false, List, Option, Some, ap, subst}
+use Rattle.std.specs.Prelude.{not}
 use Rattle.std.specs.List.{list_any, AllByRecursion}
 use Rattle.pl_base.specs.Windows.{Window}
-use Rattle.pl_elf.specs.Headers.{header, segments, is_load, loads}
+use Rattle.pl_elf.specs.Headers.{header, loads}
 use Rattle.pl_elf.specs.Clauses.{AreLoads}
-use Rattle.pl_elf.specs.Kinds.{is_static}
 use Rattle.pl_elf.specs.declared.segment.Segment.{Segment}
-use Rattle.pl_object.specs.Accepted.{Accepted, is_exec}
+use Rattle.pl_object.specs.Accepted.{is_exec}
 use Rattle.pl_object.specs.PlaceClauses.{last_load, is_held, reloc_outside}
 use Rattle.pl_object.specs.Relocations.{places}
 use Rattle.pl_object.specs.Tables.{link_windows}
 use Rattle.pl_object.specs.declared.object.Object.{Object}
 use Rattle.pl_object.proofs.AcceptedLaws.{accepted}
 use Rattle.pl_parts.specs.declared.parts.Extension.{Extension}
-use Rattle.pl_parts.specs.declared.parts.Listed.{Listed}
 use Rattle.pl_parts.specs.Found.{ss_of, secs_of, tags_of, places_of, zeros_from}
 use Rattle.pl_parts.specs.Forms.{original_of}
-use Rattle.pl_parts.specs.Law.{IsOriginal, FormsLibrary, FormsProgram, IsFree, LibrariesLoadAlike, ProgramsLoadAlike}
-use Rattle.pl_parts.proofs.AcceptedIs.{segments_are, places_are, named_of, reads_accepted}
+use Rattle.pl_parts.specs.Law.{IsOriginal, FormsProgram, IsFree, LibrariesLoadAlike, ProgramsLoadAlike}
+use Rattle.pl_parts.proofs.AcceptedIs.{segments_are, places_are, named_of}
 use Rattle.pl_parts.proofs.FinalTheorem.{library_conditions, program_conditions, inside}
 use Rattle.pl_parts.proofs.FormTheorem.{IsLoaded, IsHeldProgram, library_loads, program_loads}
 use Rattle.pl_parts.proofs.LoadFacts.{loads_of, last_is, all_held}
-use Rattle.pl_parts.proofs.LoadTheorem.{Loads}
 use Rattle.pl_parts.proofs.PlaceLaws.{IsHeld}
 use Rattle.pl_parts.proofs.ReaderLaws.{IsAccepted}
-use Rattle.pl_parts.proofs.WholeTheorem.{IsLibrary, IsProgramForm, taken, library_is, program_is}
+use Rattle.pl_parts.proofs.WholeTheorem.{taken, library_is, program_is}
 
 -- a byte that is free, by the original's own tables
 free : (o : List ℕ) (x : Object) (i k : ℕ) (d : Segment) → IsOriginal o x → IsAccepted o → (header o).shnum ≤ 65000 → IsFree o i k d
@@ -47,7 +44,7 @@ libraries_load_alike o x slot stamp checksum l flat digest i k d f is =
     (library_is o slot stamp checksum l flat digest c).fits (free o x i k d f.original c.accepted c.few is)
 
 -- each place of a program lies in the file part or in the memory of the last PT_LOAD
-held_of : (o : List ℕ) (x : Object) (last : Segment) → IsOriginal o x → last_load (ss_of o) ≡ Some last → AllByRecursion (IsHeld (ss_of o) last) (places_of o)
+pub held_of : (o : List ℕ) (x : Object) (last : Segment) → IsOriginal o x → last_load (ss_of o) ≡ Some last → AllByRecursion (IsHeld (ss_of o) last) (places_of o)
 unfolding reloc_outside
 held_of o x last is latest =
     let acc = accepted o x is.accepted in
@@ -55,7 +52,7 @@ held_of o x last is latest =
     let a : list_any (λ memory. not (is_held (is_exec x) (ss_of o) memory)) (places x.relocations) ≡ false = subst (λ (ss : List Segment). list_any (λ memory. not (is_held (is_exec x) ss memory)) (places x.relocations) ≡ false) (segments_are o x acc) acc.held in
     all_held (is_exec x) (ss_of o) last (places_of o) latest (subst (λ (ps : List Window). list_any (λ memory. not (is_held (is_exec x) (ss_of o) memory)) ps ≡ false) here a)
 
-loads_are : (o : List ℕ) (x : Object) → IsOriginal o x → AreLoads (loads (ss_of o))
+pub loads_are : (o : List ℕ) (x : Object) → IsOriginal o x → AreLoads (loads (ss_of o))
 loads_are o x is = let acc = accepted o x is.accepted in subst (λ (ss : List Segment). AreLoads (loads ss)) (segments_are o x acc) acc.loads
 
 pub held_program : (o : List ℕ) (x : Object) (index : ℕ) (last : Segment) (e : Extension) (flat : List ℕ) (digest : Option (List ℕ)) → FormsProgram o x index last e flat digest → IsHeldProgram (original_of o) (places_of o) index last

@@ -1,6 +1,6 @@
 -- A whole file is undone, and is a form of one original only.
-use Rattle.std.proofs.Common.{◌≡◌, ℕ, zero, suc, ◌+◌, ◌-◌, ◌*◌, ◌^◌, ◌<◌, ◌≤◌, Bool, true, false, List, [], ◌∷◌, ◌++◌, length, take, drop, Option, Some, None, refl, sym, ap, ◌∙◌, arith}
-use Rattle.std.specs.Prelude.{◌&&◌, nat_le}
+use Rattle.std.proofs.Common.{◌≡◌, ℕ, ◌+◌, ◌≤◌, true, List, [], ◌∷◌, ◌++◌, length, Option, Some, ap, ◌∙◌, arith}
+use Rattle.std.specs.Prelude.{nat_le}
 use Rattle.std.proofs.lemmas.Bool.Decides.{nat_tests}
 use Rattle.std.proofs.lemmas.List.{length-append}
 use Rattle.pl_base.specs.Windows.{Window, Agree}
@@ -8,7 +8,7 @@ use Rattle.pl_elf.specs.Headers.{header}
 use Rattle.pl_undo.specs.declared.undo.Undo.{Undo}
 use Rattle.pl_move.specs.Moves.{IsSlot, all_moved}
 use Rattle.pl_move.specs.declared.table.Table.{Table}
-use Rattle.pl_parts.specs.Back.{◌>>=◌, when, head_windows, spot_windows, Reader, from_front, front_of, undo_section, has_undo_section, section_part, restored, back, undo_value, undo_of, inserted}
+use Rattle.pl_parts.specs.Back.{head_windows, spot_windows, Reader, from_front, front_of, undo_section, has_undo_section, section_part, restored, back, undo_of, inserted}
 use Rattle.pl_parts.specs.declared.parts.Spot.{Spot}
 use Rattle.pl_parts.proofs.FrontLaws.{IsReadable}
 use Rattle.pl_parts.proofs.FrontTheorem.{front_undone}

@@ -1,19 +1,15 @@
 -- Each place of a form holds the bytes that were given for it.
-use Rattle.std.proofs.Common.{◌≡◌, ℕ, zero, suc, ◌+◌, ◌-◌, ◌*◌, ◌^◌, ◌<◌, ◌≤◌, Bool, true, false, List, [], ◌∷◌, ◌++◌, length, get_or, take, drop, replicate, refl, sym, ap, subst, ◌∙◌, arith, inl, inr}
-use Rattle.std.specs.Prelude.{◌⊎◌, ◌||◌, ◌&&◌, min, map}
-use Rattle.std.specs.List.{list_any, concat}
-use Rattle.std.proofs.lemmas.Bool.{cases_Bool, cases_lt}
-use Rattle.std.proofs.lemmas.List.{length-append, length-take-le, length-drop, length-replicate, take-take, drop-take, get_or-take, get_or-drop, get_or_append_left, get_or-map}
-use Rattle.pl_base.specs.Bytes.{part, put}
-use Rattle.pl_base.specs.Windows.{Window, end_of, within, Put, window_of, windows, put_all, are_in, AllIn, IsApart, Agree}
-use Rattle.pl_base.proofs.WindowLaws.{length-within, part_byte, agree_itself, agree_within, all_in, put_all_at, AreAllApart}
+use Rattle.std.proofs.Common.{◌≡◌, ℕ, zero, suc, ◌+◌, ◌-◌, ◌<◌, ◌≤◌, List, [], ◌∷◌, length, get_or, take, drop, replicate, refl, sym, ap, subst, ◌∙◌, arith}
+use Rattle.std.proofs.lemmas.List.{length-take-le, length-drop, length-replicate, take-take, drop-take, get_or-take, get_or-drop}
+use Rattle.pl_base.specs.Bytes.{part}
+use Rattle.pl_base.specs.Windows.{Window, within, Put, window_of, put_all, AllIn, IsApart}
+use Rattle.pl_base.proofs.WindowLaws.{part_byte, agree_within, all_in, put_all_at, AreAllApart}
 use Rattle.pl_elf.specs.Headers.{header}
-use Rattle.pl_elf.specs.Written.{header_bytes, segment_bytes}
 use Rattle.pl_elf.specs.declared.segment.Segment.{Segment}
 use Rattle.pl_move.specs.Moves.{table_windows, all_moved}
-use Rattle.pl_parts.specs.Back.{header_window, segments_window, head_windows, spot_windows, wanted, visible}
+use Rattle.pl_parts.specs.Back.{header_window, segments_window, spot_windows, wanted, visible}
 use Rattle.pl_parts.specs.declared.parts.Spot.{Spot}
-use Rattle.pl_parts.specs.Parts.{Original, new_header, moved_part, front_part, hidden, zeros_part}
+use Rattle.pl_parts.specs.Parts.{Original, moved_part, front_part, hidden, zeros_part}
 use Rattle.pl_parts.specs.declared.parts.Plan.{Plan}
 use Rattle.pl_parts.specs.Loads.{fills, hidden_windows}
 use Rattle.pl_move.proofs.MoveLaws.{length-all_moved}

@@ -1,5 +1,5 @@
 -- From the acceptance of a file to Back of its form.
-use Rattle.std.proofs.Common.{[], ◌∷◌, ◌≡◌, ℕ, ◌+◌, ◌*◌, ◌<◌, ◌≤◌, Bool, true, false, List, length, Option, Some, None, Result, Ok, refl, sym, subst, ap, ◌∙◌, arith, inl, inr}
+use Rattle.std.proofs.Common.{[], ◌∷◌, ◌≡◌, ℕ, ◌+◌, ◌<◌, ◌≤◌, Bool, true, false, List, length, Option, Result, Ok, sym, subst, ap, ◌∙◌, arith, inl, inr}
 use Rattle.std.specs.Prelude.{◌||◌, ◌&&◌, ◌==◌, not, nat_lt, nat_le}
 use Rattle.std.specs.List.{list_any}
 use Rattle.std.specs.Result.{is_ok}
@@ -92,7 +92,7 @@ segment_in : (o : List ℕ) (s : Segment) → elf.segment_passes o false s ≡ f
 unfolding elf.passes
 segment_in o s e = fits_by (length o) (s.offset + s.filesz) (s.filesz == 0) e
 
-reads_ok : (o : List ℕ) (object : Object) → reads o ≡ Ok object → is_ok (elf.read o) ≡ true
+pub reads_ok : (o : List ℕ) (object : Object) → reads o ≡ Ok object → is_ok (elf.read o) ≡ true
 reads_ok o object e = read_holds (λ (x : Object). is_ok (elf.read o) ≡ true) o (λ h s. ap (λ (r : Result Header HeaderFault). is_ok r) s.read) (λ h d l is. ap (λ (r : Result Header HeaderFault). is_ok r) is.read) object e
 
 right_of : (a b : Bool) → a ≡ true → (a && b) ≡ false → b ≡ false

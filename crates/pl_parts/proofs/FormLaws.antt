@@ -1,34 +1,30 @@
 -- The front part of a form, and how its undo section is found.
-use Rattle.std.proofs.Common.{◌≡◌, ℕ, zero, suc, ◌+◌, ◌-◌, ◌*◌, ◌/◌, ◌%◌, ◌^◌, ◌<◌, ◌≤◌, Bool, true, false, List, [], ◌∷◌, ◌++◌, length, get_or, take, drop, Option, Some, None, refl, sym, ap, subst, ◌∙◌, append_assoc, arith, inl, inr, rules}
-use Rattle.std.specs.Prelude.{◌||◌, ◌&&◌, ◌==◌, nat_le, map, if◌then◌else◌}
+use Rattle.std.proofs.Common.{◌≡◌, ℕ, ◌+◌, ◌-◌, ◌*◌, ◌^◌, ◌<◌, ◌≤◌, Bool, true, false, List, [], ◌∷◌, ◌++◌, length, get_or, take, drop, Option, Some, refl, sym, ap, subst, ◌∙◌, append_assoc, arith, inl, inr}
+use Rattle.std.specs.Prelude.{◌||◌, ◌&&◌, ◌==◌, nat_le, map}
 use Rattle.std.specs.List.{list_any, concat}
-use Rattle.std.proofs.lemmas.Bool.{cases_Bool, or_parts, or_from}
+use Rattle.std.proofs.lemmas.Bool.{cases_Bool, or_parts}
 use Rattle.std.proofs.lemmas.Bool.Decides.{nat_tests}
 use Rattle.std.proofs.lemmas.List.{length-append, length-take-le, length-drop, append-nil, get_or-append-add}
-use Rattle.std.proofs.lemmas.List.Folds.{list_any-append}
-use Rattle.pl_base.specs.Bytes.{IsBytes, part, put, word16, word32, word64}
-use Rattle.pl_base.specs.Sums.{plus}
-use Rattle.pl_base.specs.Windows.{Window, end_of, within, Put, window_of, windows, put_all, holds, are_in, IsIn, AllIn, IsApart, Agree}
+use Rattle.pl_base.specs.Bytes.{part, put, word64}
+use Rattle.pl_base.specs.Windows.{Window, Put, window_of, windows, holds, AllIn, Agree}
 use Rattle.pl_base.proofs.WordLaws.{word16_below, word32_below, word64_below}
-use Rattle.pl_base.proofs.WindowLaws.{length-put, length-put_all, length-part, within_put, agree_itself, agree_edit, agree_edits, agree_wider, all_in, part_part, part_apart}
+use Rattle.pl_base.proofs.WindowLaws.{length-put, length-part, within_put, agree_itself, agree_edit, agree_edits, agree_wider, all_in, part_part, part_apart}
 use Rattle.pl_elf.specs.Headers.{header, section, section_at, section_offset}
 use Rattle.pl_elf.specs.Written.{header_bytes, segment_bytes, section_bytes}
 use Rattle.pl_elf.specs.declared.header.Header.{Header}
 use Rattle.pl_elf.specs.declared.section.Section.{Section}
 use Rattle.pl_elf.proofs.WrittenLaws.{header_read, section_read}
-use Rattle.pl_undo.specs.declared.undo.Undo.{Undo}
 use Rattle.pl_move.specs.Moves.{table_windows, IsSlot, all_moved}
-use Rattle.pl_move.specs.declared.table.Table.{Table}
-use Rattle.pl_parts.specs.Back.{header_window, segments_window, sections_window, head_windows, spot_windows, wanted, visible, Reader, undo_section, has_undo_section, section_part, undo_value, undo_of, inserted}
+use Rattle.pl_parts.specs.Back.{header_window, segments_window, sections_window, head_windows, spot_windows, wanted, visible, Reader, undo_section, has_undo_section, section_part, undo_of, inserted}
 use Rattle.pl_parts.specs.declared.parts.Spot.{Spot}
 use Rattle.pl_parts.specs.Parts.{up, joined, joined_size, Original, plain, old_names, names_part, undo_at, names_at, table_at, undo_row, names_row, table_rows, table_part, moved_entry, new_header, moved_part, under_segments, under_header, front_part, form}
 use Rattle.pl_parts.specs.Fits.{Fits}
 use Rattle.pl_parts.specs.declared.parts.Plan.{Plan}
 use Rattle.pl_move.proofs.MoveLaws.{length-all_moved}
-use Rattle.pl_parts.proofs.HeadLaws.{header_part, header_same, section_part as section_by_part, length-header, length-segment, length-section, length-rows_of, row_of}
+use Rattle.pl_parts.proofs.HeadLaws.{header_part, section_part as section_by_part, length-header, length-segment, length-section, length-rows_of, row_of}
 use Rattle.pl_parts.proofs.FrontLaws.{IsReadable}
-use Rattle.pl_parts.proofs.PartsLaws.{part_joined, length-joined, part_next, tail_of, joined_tail, length-inserted, part_before}
-use Rattle.pl_parts.proofs.FileTheorem.{IsForm, form_undone}
+use Rattle.pl_parts.proofs.PartsLaws.{length-joined, part_next, tail_of, joined_tail, length-inserted, part_before}
+use Rattle.pl_parts.proofs.FileTheorem.{IsForm}
 
 -- ---- the front part
 

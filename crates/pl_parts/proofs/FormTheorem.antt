@@ -1,25 +1,24 @@
 -- Back of a library's form and of a program's form, and what their segments load.
-use Rattle.std.proofs.Common.{◌≡◌, ℕ, zero, suc, ◌+◌, ◌-◌, ◌*◌, ◌/◌, ◌%◌, ◌^◌, ◌<◌, ◌≤◌, Bool, true, false, List, [], ◌∷◌, ◌++◌, length, get_or, take, drop, replicate, Option, Some, None, refl, sym, ap, subst, ◌∙◌, arith, inl, inr}
-use Rattle.std.specs.Prelude.{◌⊎◌, ◌||◌, ◌&&◌, ◌==◌, ◌≢◌, map, nat_le, nat_lt, if◌then◌else◌}
+use Rattle.std.proofs.Common.{◌≡◌, ℕ, ◌+◌, ◌-◌, ◌%◌, ◌^◌, ◌<◌, ◌≤◌, true, false, List, [], ◌∷◌, ◌++◌, length, get_or, replicate, Option, Some, refl, sym, ap, subst, ◌∙◌, arith, inl, inr}
+use Rattle.std.specs.Prelude.{◌⊎◌, ◌&&◌, ◌==◌, ◌≢◌, map, nat_le, nat_lt}
 use Rattle.std.specs.List.{list_any, AllByRecursion}
-use Rattle.std.proofs.lemmas.Bool.{cases_Bool, cases_lt, and_parts, leb-true, false≢true}
+use Rattle.std.proofs.lemmas.Bool.{cases_Bool}
 use Rattle.std.proofs.lemmas.Bool.Decides.{nat_tests}
 use Rattle.std.proofs.lemmas.List.{length-append, length-map, length-replicate, get_or-map, get_or_append_left}
 use Rattle.std.proofs.lemmas.List.FromFn.{get_or-map-range_with_len}
-use Rattle.pl_base.specs.Bytes.{IsBytes, part}
-use Rattle.pl_base.specs.Sums.{plus, round_up}
-use Rattle.pl_base.specs.Memory.{Piece, byte_at}
-use Rattle.pl_base.specs.Windows.{Window, end_of, within, holds, are_in, AllIn}
+use Rattle.pl_base.specs.Bytes.{part}
+use Rattle.pl_base.specs.Sums.{round_up}
+use Rattle.pl_base.specs.Memory.{byte_at}
+use Rattle.pl_base.specs.Windows.{Window, within, holds, AllIn}
 use Rattle.pl_base.proofs.WindowLaws.{all_in, part_byte, AreAllApart}
-use Rattle.pl_elf.specs.Headers.{header, segment, segment_at, segments, is_load, loads}
+use Rattle.pl_elf.specs.Headers.{header, segment, segments, is_load, loads}
 use Rattle.pl_elf.specs.Clauses.{AreLoads}
 use Rattle.pl_elf.specs.declared.header.Header.{Header}
 use Rattle.pl_elf.specs.declared.segment.Segment.{Segment}
-use Rattle.pl_undo.specs.declared.undo.Undo.{Undo}
-use Rattle.pl_parts.specs.Back.{head_windows, spot_windows, memory_of, wanted, Reader, back, undo_in, undo_value, undo_of}
+use Rattle.pl_parts.specs.Back.{head_windows, memory_of, Reader, back, undo_in, undo_of}
 use Rattle.pl_parts.specs.declared.parts.Spot.{Spot}
 use Rattle.pl_elf.specs.Headers.{is_moved_kind}
-use Rattle.pl_parts.specs.Parts.{Original, up, joined_size, table_at, form, moved_segment, shifted_segment, extended_segment, program_segments, library_plan, program_plan, front_part, zeros_part, extension, whole_extension}
+use Rattle.pl_parts.specs.Parts.{Original, up, joined_size, form, moved_segment, shifted_segment, extended_segment, program_segments, library_plan, program_plan, front_part, zeros_part, extension, whole_extension}
 use Rattle.pl_parts.specs.declared.parts.Plan.{Plan}
 use Rattle.pl_parts.specs.declared.parts.Listed.{Listed}
 use Rattle.pl_parts.specs.declared.parts.Extension.{Extension}
@@ -27,14 +26,14 @@ use Rattle.pl_parts.specs.Loads.{stands, spot_of, spots_of, is_under, hidden_win
 use Rattle.pl_parts.specs.Law.{IsDigest}
 use Rattle.pl_parts.specs.Forms.{undo_part, planned, library_form, program_form}
 use Rattle.pl_parts.proofs.FrontLaws.{IsReadable}
-use Rattle.pl_parts.proofs.FormLaws.{plan_undone, front_size}
+use Rattle.pl_parts.proofs.FormLaws.{plan_undone}
 use Rattle.pl_parts.specs.Fits.{Fits}
 use Rattle.pl_parts.proofs.FileTheorem.{form_undone, one_original}
 use Rattle.pl_parts.proofs.UndoLaws.{IsStored, undo_read}
 use Rattle.pl_parts.proofs.LoadLaws.{SegmentFits, segment_fits, segment_there, IsKept, kept_part}
 use Rattle.pl_parts.proofs.LoadTheorem.{Loads, IsPlain, IsGrown, kept_loads, grown_loads, byte_before, byte_inserted, zeros_agree}
-use Rattle.pl_parts.proofs.KindLaws.{IsTaken, IsProgram, library_fits, library_kept, program_fits, program_kept, program_grown, segment_count, other_segment, grown_segment}
-use Rattle.pl_parts.proofs.PlaceLaws.{IsHeld, IsOwn, is_own, hidden_in, away_from_hidden, spot_byte, zero_byte_of}
+use Rattle.pl_parts.proofs.KindLaws.{IsTaken, IsProgram, library_kept, program_kept, program_grown, segment_count, other_segment, grown_segment}
+use Rattle.pl_parts.proofs.PlaceLaws.{IsHeld, is_own, hidden_in, away_from_hidden, spot_byte, zero_byte_of}
 use Rattle.pl_parts.proofs.FillLaws.{Apart, front_fill, zeros_fill}
 
 -- ---- Back
@@ -83,10 +82,10 @@ segment_of : (bytes : List ℕ) (h : Header) (i : ℕ) (d : Segment) → i < h.p
 unfolding segments
 segment_of bytes h i d lt = get_or-map-range_with_len (segment bytes h) 0 h.phnum i i d lt (omega arith)
 
-own_fits : (o : Original) (i : ℕ) (d : Segment) → IsTaken o → i < (header o.bytes).phnum → SegmentFits (get_or (segments o.bytes (header o.bytes)) i d)
+pub own_fits : (o : Original) (i : ℕ) (d : Segment) → IsTaken o → i < (header o.bytes).phnum → SegmentFits (get_or (segments o.bytes (header o.bytes)) i d)
 own_fits o i d taken lt = subst SegmentFits (sym (segment_of o.bytes (header o.bytes) i d lt)) (segment_fits o.bytes _ taken.bytes)
 
-moved_fits : (slot : ℕ) (s : Segment) → SegmentFits s → SegmentFits (moved_segment slot s)
+pub moved_fits : (slot : ℕ) (s : Segment) → SegmentFits s → SegmentFits (moved_segment slot s)
 moved_fits slot s fits = elim (cases_Bool (is_moved_kind s.kind)) [
   | inl hit ↦ rw hit (record { kind = fits.kind; flags = fits.flags; offset = fits.offset; vaddr = omega arith; paddr = omega arith; filesz = fits.filesz; memsz = fits.memsz; align = fits.align })
   | inr miss ↦ rw miss fits
@@ -145,7 +144,7 @@ pub record IsHeldProgram (o : Original) (places : List Window) (index : ℕ) (la
   -- clause 24
   pub held : AllByRecursion (IsHeld (segments o.bytes (header o.bytes)) last) places
 
-program_hidden : (o : Original) (places links : List Window) (index : ℕ) (last : Segment) → IsHeldProgram o places index last → Loads o places links (last.vaddr + last.filesz) → AllIn (last.memsz - last.filesz) (hidden_windows o.spots)
+pub program_hidden : (o : Original) (places links : List Window) (index : ℕ) (last : Segment) → IsHeldProgram o places index last → Loads o places links (last.vaddr + last.filesz) → AllIn (last.memsz - last.filesz) (hidden_windows o.spots)
 program_hidden o places links index last h l =
     let ss = segments o.bytes (header o.bytes) in
     let own = is_own ss index last last h.are (omega (arith, h.program.last_in, segment_count o.bytes (header o.bytes))) h.is_load h.program.size (h.program.is_last last) in
@@ -180,7 +179,7 @@ least n (p ∷ ps) = omega (arith, least (up n + length p) ps)
 pub all_small : (p : Plan) (o : Original) (flat : List ℕ) (undo : ℕ) → Fits p o flat undo → length o.bytes + length p.more < 2 ^ 32
 all_small p o flat undo fits = omega (arith, fits.small, least (length o.bytes + length p.more) p.parts)
 
-program_segment_fits : (o : Original) (index : ℕ) (last : Segment) (e : Extension) (flat : List ℕ) (undo i : ℕ) (d : Segment) → IsTaken o → IsProgram o index last → Fits (program_plan o index last flat e) o flat undo
+pub program_segment_fits : (o : Original) (index : ℕ) (last : Segment) (e : Extension) (flat : List ℕ) (undo i : ℕ) (d : Segment) → IsTaken o → IsProgram o index last → Fits (program_plan o index last flat e) o flat undo
     → i < (header o.bytes).phnum → (get_or (segments o.bytes (header o.bytes)) i d).offset + (get_or (segments o.bytes (header o.bytes)) i d).filesz ≤ length o.bytes → SegmentFits (get_or (program_plan o index last flat e).segments i d)
 unfolding program_plan whole_extension
 program_segment_fits o index last e flat undo i d taken is fits lt inside =

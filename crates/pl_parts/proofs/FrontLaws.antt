@@ -1,9 +1,9 @@
 -- A form is undone: what is stored of the original, and what acceptance gives.
-use Rattle.std.proofs.Common.{◌≡◌, ℕ, zero, suc, ◌+◌, ◌-◌, ◌*◌, ◌^◌, ◌<◌, ◌≤◌, Bool, true, false, List, [], ◌∷◌, ◌++◌, length, get_or, take, drop, Option, Some, None, refl, sym, ap, ◌∙◌, append_assoc, arith, inl, inr, rules}
-use Rattle.std.specs.Prelude.{◌&&◌, ◌==◌, nat_le, replicate}
-use Rattle.std.proofs.lemmas.List.{length-append, length-take-le, length-drop, length-replicate, take_at, drop_at, append-nil}
-use Rattle.pl_base.specs.Bytes.{IsBytes, part}
-use Rattle.pl_base.specs.Windows.{Window, within, Put, windows, put_all, own, are_in, IsIn, AllIn, AreApart, IsApart, Agree}
+use Rattle.std.proofs.Common.{◌≡◌, ℕ, true, List, [], ◌∷◌, ◌++◌, length, drop, Some, refl, ap, ◌∙◌, arith}
+use Rattle.std.specs.Prelude.{replicate}
+use Rattle.std.proofs.lemmas.List.{length-append, length-replicate, take_at, drop_at}
+use Rattle.pl_base.specs.Bytes.{IsBytes}
+use Rattle.pl_base.specs.Windows.{Window, within, Put, own, are_in, AllIn, IsApart, Agree}
 use Rattle.pl_base.proofs.WindowLaws.{length-within, agree_within}
 use Rattle.pl_elf.specs.Headers.{header}
 use Rattle.pl_move.specs.Moves.{table_windows, all_moved}

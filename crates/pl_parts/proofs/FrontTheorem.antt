@@ -1,20 +1,19 @@
 -- The whole of Back over the bytes where the original stood.
-use Rattle.std.proofs.Common.{◌≡◌, ℕ, zero, suc, ◌+◌, ◌-◌, ◌*◌, ◌^◌, ◌<◌, ◌≤◌, Bool, true, false, List, [], ◌∷◌, ◌++◌, length, take, drop, Option, Some, None, refl, sym, ap, ◌∙◌, append_assoc, arith, rules}
-use Rattle.std.specs.Prelude.{◌&&◌, ◌==◌, nat_le, replicate}
+use Rattle.std.proofs.Common.{◌≡◌, ℕ, ◌+◌, true, List, [], ◌∷◌, ◌++◌, length, take, drop, Option, Some, refl, sym, ap, ◌∙◌, arith}
+use Rattle.std.specs.Prelude.{◌==◌}
 use Rattle.std.proofs.lemmas.Bool.Decides.{nat_tests}
 use Rattle.std.proofs.lemmas.List.{length-append, take_at, drop_at, append-nil}
-use Rattle.pl_base.specs.Bytes.{IsBytes, part}
-use Rattle.pl_base.specs.Windows.{Window, within, Put, put_all, own, are_in, IsIn, AllIn, IsApart, Agree}
+use Rattle.pl_base.specs.Windows.{Window, within, Put, put_all, own, are_in, IsIn, AllIn, Agree}
 use Rattle.pl_base.proofs.WindowLaws.{length-within, all_in, agree_nowhere, agree_own}
 use Rattle.pl_elf.specs.Headers.{header}
 use Rattle.pl_elf.specs.declared.header.Header.{Header}
 use Rattle.pl_undo.specs.declared.undo.Undo.{Undo}
 use Rattle.pl_move.specs.Moves.{table_windows, IsSlot, all_moved, all_back}
 use Rattle.pl_move.specs.declared.table.Table.{Table}
-use Rattle.pl_move.proofs.MoveLaws.{length-all_moved, AllApart, agree_all_back}
-use Rattle.pl_parts.specs.Back.{◌>>=◌, when, all_within, header_window, segments_window, sections_window, head_windows, headers_of, cut_at, spot_windows, memory_of, wanted, visible, Reader, stored, with_places, with_tables, from_front, undo_value, undo_of}
+use Rattle.pl_move.proofs.MoveLaws.{length-all_moved, agree_all_back}
+use Rattle.pl_parts.specs.Back.{all_within, segments_window, sections_window, head_windows, headers_of, cut_at, spot_windows, memory_of, wanted, visible, Reader, stored, with_places, with_tables, from_front, undo_of}
 use Rattle.pl_parts.specs.declared.parts.Spot.{Spot}
-use Rattle.pl_parts.proofs.FrontLaws.{AllAway, own_moved, within_same, cut_own, visible_own, length-memory_of, IsReadable}
+use Rattle.pl_parts.proofs.FrontLaws.{own_moved, within_same, cut_own, visible_own, length-memory_of, IsReadable}
 use Rattle.pl_parts.proofs.HeadLaws.{headers_begin}
 
 -- ---- each step where its tests hold

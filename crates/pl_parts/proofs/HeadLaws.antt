@@ -1,12 +1,12 @@
 -- A header, a program header and a section header are told by their own bytes.
-use Rattle.std.proofs.Common.{◌≡◌, ℕ, zero, suc, ◌+◌, ◌*◌, ◌^◌, ◌<◌, ◌≤◌, List, [], ◌∷◌, ◌++◌, length, get_or, take, drop, refl, sym, ap, ◌∙◌, arith}
+use Rattle.std.proofs.Common.{◌≡◌, ℕ, zero, suc, ◌+◌, ◌*◌, ◌<◌, ◌≤◌, List, [], ◌∷◌, ◌++◌, length, get_or, refl, sym, ap, ◌∙◌, arith}
 use Rattle.std.specs.Prelude.{map}
 use Rattle.std.specs.List.{concat}
-use Rattle.std.proofs.lemmas.List.{length-append, take_at, drop_at, append-nil}
-use Rattle.pl_base.specs.Bytes.{part, word16, word32, word64, bytes16, bytes32, bytes64}
+use Rattle.std.proofs.lemmas.List.{length-append, take_at}
+use Rattle.pl_base.specs.Bytes.{part, word32, bytes16, bytes32, bytes64}
 use Rattle.pl_base.specs.Windows.{within}
-use Rattle.pl_base.proofs.WindowLaws.{part_part, part_front, part_behind, length-part}
-use Rattle.pl_base.proofs.WordLaws.{word16_part, word32_part, word64_part, length_bytes16, length_bytes32, length_bytes64}
+use Rattle.pl_base.proofs.WindowLaws.{part_part, part_behind, length-part}
+use Rattle.pl_base.proofs.WordLaws.{word16_part, word32_part, word64_part}
 use Rattle.pl_elf.specs.Headers.{header, segment_at, section_at}
 use Rattle.pl_elf.specs.Written.{header_bytes, segment_bytes, section_bytes}
 use Rattle.pl_elf.specs.declared.header.Header.{Header}

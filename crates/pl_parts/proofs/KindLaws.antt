@@ -1,35 +1,30 @@
 -- The plans of a library and of a program fit their originals.
-use Rattle.std.proofs.Common.{◌≡◌, ℕ, zero, suc, ◌+◌, ◌-◌, ◌*◌, ◌/◌, ◌%◌, ◌^◌, ◌<◌, ◌≤◌, Bool, true, false, List, [], ◌∷◌, ◌++◌, length, get_or, take, drop, replicate, Option, Some, None, refl, sym, ap, subst, ◌∙◌, append_assoc, arith, inl, inr}
-use Rattle.std.specs.Prelude.{◌⊎◌, ◌||◌, ◌&&◌, ◌≢◌, ◌==◌, nat_le, nat_lt, map, if◌then◌else◌}
-use Rattle.std.specs.List.{list_any, range_with_len}
-use Rattle.std.proofs.lemmas.Bool.{cases_Bool, cases_lt, and_parts, leb-true, ltb-true, true≢false}
+use Rattle.std.proofs.Common.{◌≡◌, ℕ, zero, suc, ◌+◌, ◌-◌, ◌*◌, ◌^◌, ◌<◌, ◌≤◌, true, false, List, [], ◌∷◌, ◌++◌, length, get_or, replicate, refl, sym, ap, subst, ◌∙◌, append_assoc, arith, inl, inr}
+use Rattle.std.specs.Prelude.{◌&&◌, ◌≢◌, ◌==◌, nat_le, nat_lt, map}
+use Rattle.std.proofs.lemmas.Bool.{cases_Bool, cases_lt, and_parts, leb-true}
 use Rattle.std.proofs.lemmas.Bool.Decides.{nat_tests}
-use Rattle.std.proofs.lemmas.List.{length-append, length-take-le, length-drop, length-replicate, length-map, get_or-map}
+use Rattle.std.proofs.lemmas.List.{length-append, length-replicate, length-map, get_or-map}
 use Rattle.std.proofs.lemmas.List.FromFn.{length-map-range_with_len}
-use Rattle.pl_base.specs.Bytes.{IsBytes, part, put, word64, bytes64}
-use Rattle.pl_base.specs.Sums.{plus, round_up}
-use Rattle.pl_base.specs.Windows.{Window, within, are_in, AllIn, ◌⊕◌}
+use Rattle.pl_base.specs.Bytes.{IsBytes, word64, bytes64}
+use Rattle.pl_base.specs.Sums.{round_up}
+use Rattle.pl_base.specs.Windows.{within, are_in, AllIn}
 use Rattle.pl_base.proofs.WordLaws.{length_bytes64}
 use Rattle.pl_base.proofs.WindowLaws.{length-put, length-within, all_in}
-use Rattle.pl_elf.specs.Headers.{header, segment, segments, sections, is_load}
+use Rattle.pl_elf.specs.Headers.{header, segment, segments, sections}
 use Rattle.pl_elf.specs.declared.header.Header.{Header}
 use Rattle.pl_elf.specs.declared.segment.Segment.{Segment}
 use Rattle.pl_elf.specs.declared.section.Section.{Section}
 use Rattle.pl_move.specs.Moves.{table_windows, rows, row_moved}
 use Rattle.pl_elf.specs.Headers.{is_moved_kind}
-use Rattle.pl_move.specs.declared.table.Table.{Table}
-use Rattle.pl_move.specs.declared.kind.RowKind.{RowKind}
 use Rattle.pl_move.specs.declared.kind.RowKind.TheVariants.{TagValue}
 use Rattle.pl_parts.specs.Back.{head_windows, spot_windows, wanted}
-use Rattle.pl_parts.specs.declared.parts.Spot.{Spot}
-use Rattle.pl_parts.specs.Parts.{Original, up, joined_size, table_at, entry_bytes, with_entries, tags_moved, moved_segment, moved_section, library_dynamic, library_sections, library_plan, zeros_part, extension_at, lists_part, extension, whole_extension, shifted_segment, extended_segment, program_segments, program_sections, program_section, program_dynamic, program_plan, with_tag, rows_at, conflicts_at}
-use Rattle.pl_parts.specs.declared.parts.Plan.{Plan}
+use Rattle.pl_parts.specs.Parts.{Original, table_at, entry_bytes, with_entries, moved_segment, moved_section, library_dynamic, library_sections, library_plan, zeros_part, extension_at, lists_part, extension, whole_extension, shifted_segment, extended_segment, program_segments, program_sections, program_section, program_dynamic, program_plan, with_tag, rows_at, conflicts_at}
 use Rattle.pl_parts.specs.declared.parts.Listed.{Listed}
 use Rattle.pl_parts.specs.declared.parts.Extension.{Extension}
 use Rattle.pl_move.proofs.MoveLaws.{length-rows, length-row_moved}
 use Rattle.pl_parts.specs.Fits.{Fits}
 use Rattle.pl_parts.specs.Loads.{hidden_windows}
-use Rattle.pl_parts.proofs.LoadLaws.{SegmentFits, IsKept}
+use Rattle.pl_parts.proofs.LoadLaws.{IsKept}
 use Rattle.pl_parts.proofs.LoadTheorem.{IsGrown, zeros_agree}
 
 -- ---- what acceptance gives of an original of either kind

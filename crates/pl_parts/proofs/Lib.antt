@@ -21,3 +21,5 @@ pub mod LoadFacts
 pub mod FinalTheorem
 pub mod OverlapLaws
 pub mod AlikeTheorem
+pub mod TableLaws
+pub mod StandLaws

@@ -1,31 +1,24 @@
 -- What loading needs of an original, from its acceptance.
-use Rattle.std.proofs.Common.{◌≡◌, ℕ, zero, suc, ◌+◌, ◌-◌, ◌*◌, ◌/◌, ◌<◌, ◌≤◌, Bool, true, false, List, [], ◌∷◌, ◌++◌, length, get_or, map, Option, Some, None, Result, Ok, Err, refl, sym, ap, subst, ◌∙◌, arith, inl, inr}
-use Rattle.std.specs.Prelude.{◌⊎◌, ◌||◌, ◌&&◌, ◌==◌, not, nat_le, nat_lt, fold, if◌then◌else◌}
+use Rattle.std.proofs.Common.{◌≡◌, ℕ, zero, suc, ◌+◌, ◌*◌, ◌/◌, ◌<◌, ◌≤◌, Bool, true, false, List, [], ◌∷◌, length, get_or, Option, Some, None, refl, sym, ap, subst, ◌∙◌, arith, inl, inr}
+use Rattle.std.specs.Prelude.{◌⊎◌, ◌&&◌, ◌==◌, not, nat_le, fold, if◌then◌else◌}
 use Rattle.std.specs.List.{list_any, AllByRecursion}
-use Rattle.std.specs.Result.{is_ok}
 use Rattle.std.proofs.lemmas.Bool.{cases_Bool, and_parts, or_parts, or_from, leb-true, eqb-true, true≢false}
-use Rattle.std.proofs.lemmas.List.Folds.{list_any-append}
-use Rattle.pl_base.specs.Windows.{Window, end_of, within, holds, share, any_share, AllIn, IsApart}
-use Rattle.pl_base.proofs.WindowLaws.{holds_false, holds_not, AreAllApart}
-use Rattle.pl_base.proofs.AnswerLaws.{refuse_none}
-use Rattle.pl_elf.specs.Headers.{header, segments, sections, is_load, loads}
+use Rattle.pl_base.specs.Windows.{Window, end_of, holds, any_share, IsApart}
+use Rattle.pl_base.proofs.WindowLaws.{holds_false, holds_not}
+use Rattle.pl_elf.specs.Headers.{header, segments, is_load, loads}
 use Rattle.pl_elf.specs.Clauses as elf
 use Rattle.pl_elf.specs.Clauses.{load_windows}
 use Rattle.pl_elf.specs.declared.header.Header.{Header}
 use Rattle.pl_elf.specs.declared.segment.Segment.{Segment}
 use Rattle.pl_elf.specs.declared.section.Section.{Section}
-use Rattle.pl_elf.specs.declared.fault.HeaderFault.{HeaderFault}
 use Rattle.pl_dyn.specs.declared.tags.Tag.{Tag}
 use Rattle.pl_dyn.specs.declared.constants.TheConstants.{DT_HASH, DT_GNU_HASH, DT_VERSYM, DT_VERDEF, DT_VERNEED}
 use Rattle.pl_object.specs.FilePart.{file_window, in_file_part}
 use Rattle.pl_object.specs.Tables.{dynamic_memory, symbols_memory, strings_memory, rela_memory, jmprel_memory, relr_memory, section_memory, tables_memory, symtab_windows, link_windows, main_windows}
 use Rattle.pl_object.specs.PlaceClauses.{last_load, is_held, is_in_memory, is_in_segment}
 use Rattle.pl_move.specs.Moves.{table_windows}
-use Rattle.pl_move.specs.declared.table.Table.{Table}
 use Rattle.pl_parts.specs.Back.{header_window, segments_window, sections_window, spot_windows}
 use Rattle.pl_parts.specs.declared.parts.Spot.{Spot}
-use Rattle.pl_parts.specs.Parts.{Original}
-use Rattle.pl_parts.specs.Loads.{spot_of, spots_of}
 use Rattle.pl_parts.specs.Found.{symtab_tables, moved_tables, packed_in, zeros_from, ss_of, secs_of, d_of, tags_of, places_of, ps_of}
 use Rattle.pl_parts.specs.Forms.{original_of}
 use Rattle.pl_parts.proofs.FrontLaws.{AllAway}

@@ -1,31 +1,26 @@
 -- What a form leaves alone, byte for byte.
-use Rattle.std.proofs.Common.{◌≡◌, ℕ, zero, suc, ◌+◌, ◌-◌, ◌*◌, ◌/◌, ◌%◌, ◌^◌, ◌<◌, ◌≤◌, Bool, true, false, cond, List, [], ◌∷◌, ◌++◌, length, get_or, take, drop, replicate, Option, Some, None, refl, sym, ap, subst, ◌∙◌, append_assoc, arith, inl, inr, rules}
-use Rattle.std.specs.Prelude.{◌⊎◌, ◌||◌, ◌&&◌, ◌==◌, not, min, nat_le, nat_lt, map, find, if◌then◌else◌}
+use Rattle.std.proofs.Common.{◌≡◌, ℕ, ◌+◌, ◌*◌, ◌^◌, ◌<◌, ◌≤◌, false, List, [], ◌∷◌, ◌++◌, length, get_or, refl, sym, ap, ◌∙◌, arith, inl, inr}
+use Rattle.std.specs.Prelude.{◌⊎◌, map}
 use Rattle.std.specs.List.{list_any, concat}
-use Rattle.std.proofs.lemmas.Bool.{cases_Bool, cases_lt, or_parts, or_from, and_parts, leb-true, ltb-true, le-leb, lt-ltb, true≢false}
-use Rattle.std.proofs.lemmas.Bool.Decides.{nat_tests}
-use Rattle.std.proofs.lemmas.List.{length-append, length-take-le, length-drop, length-replicate, append-nil, get_or_append_left, get_or-append_right, get_or_past}
-use Rattle.pl_base.specs.Bytes.{IsBytes, part, put, word16, word32, word64}
-use Rattle.pl_base.specs.Windows.{Window, end_of, within, Put, window_of, windows, put_all, holds, are_in, IsIn, AllIn, IsApart, Agree}
-use Rattle.pl_base.proofs.FindLaws.{find_passes}
+use Rattle.std.proofs.lemmas.Bool.{cases_lt, or_parts}
+use Rattle.std.proofs.lemmas.List.{get_or_past}
+use Rattle.pl_base.specs.Bytes.{IsBytes, part}
+use Rattle.pl_base.specs.Windows.{holds, AllIn}
 use Rattle.pl_base.proofs.WordLaws.{word32_below, word64_below}
-use Rattle.pl_base.proofs.WindowLaws.{length-part, part_byte, part_part, part_apart, part_front, within_put, length-put, all_in, agree_same, holds_true, holds_not}
-use Rattle.pl_elf.specs.Headers.{header, segment, segments, segment_at, is_load}
-use Rattle.pl_elf.specs.Written.{header_bytes, segment_bytes}
+use Rattle.pl_base.proofs.WindowLaws.{length-part, part_byte, part_part, all_in, agree_same}
+use Rattle.pl_elf.specs.Headers.{header, segment, segment_at}
+use Rattle.pl_elf.specs.Written.{segment_bytes}
 use Rattle.pl_elf.specs.declared.header.Header.{Header}
 use Rattle.pl_elf.specs.declared.segment.Segment.{Segment}
 use Rattle.pl_elf.proofs.WrittenLaws.{segment_read}
 use Rattle.pl_move.specs.Moves.{table_window, table_windows, moved, all_moved}
 use Rattle.pl_move.specs.declared.table.Table.{Table}
-use Rattle.pl_parts.specs.Back.{header_window, segments_window, sections_window, head_windows, spot_windows, wanted, visible, inserted}
-use Rattle.pl_parts.specs.declared.parts.Spot.{Spot}
-use Rattle.pl_parts.specs.Parts.{joined, Original, new_header, moved_part, front_part, form}
+use Rattle.pl_parts.specs.Back.{inserted}
+use Rattle.pl_parts.specs.Parts.{Original, new_header, front_part, form}
 use Rattle.pl_parts.specs.declared.parts.Plan.{Plan}
-use Rattle.pl_object.specs.FilePart.{nothing, loads_byte, loader, loaded_by, file_window}
-use Rattle.pl_parts.specs.Loads.{spot_of, spots_of, is_under}
-use Rattle.pl_move.proofs.MoveLaws.{length-moved, moved_agrees, length-all_moved}
+use Rattle.pl_move.proofs.MoveLaws.{length-moved, moved_agrees}
 use Rattle.pl_parts.proofs.HeadLaws.{segment_part, length-segment, length-rows_of, row_of}
-use Rattle.pl_parts.proofs.PartsLaws.{tail_of, joined_tail, part_before, part_after, part_inserted}
+use Rattle.pl_parts.proofs.PartsLaws.{part_before, part_after}
 use Rattle.pl_parts.proofs.FormLaws.{written, front_agrees, front_size, form_header, segments_first, rest_of, form_split}
 use Rattle.pl_parts.specs.Fits.{Fits}
 

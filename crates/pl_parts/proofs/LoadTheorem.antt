@@ -1,25 +1,23 @@
 -- What the segments of a form load.
-use Rattle.std.proofs.Common.{◌≡◌, ℕ, zero, suc, ◌+◌, ◌-◌, ◌*◌, ◌^◌, ◌<◌, ◌≤◌, Bool, true, false, List, [], ◌∷◌, ◌++◌, length, get_or, take, drop, replicate, Option, Some, None, refl, sym, ap, subst, ◌∙◌, arith, inl, inr}
-use Rattle.std.specs.Prelude.{◌⊎◌, ◌||◌, ◌&&◌, min, nat_le, nat_lt, map}
+use Rattle.std.proofs.Common.{◌≡◌, ℕ, zero, suc, ◌+◌, ◌-◌, ◌<◌, ◌≤◌, true, false, List, [], ◌∷◌, ◌++◌, length, get_or, take, drop, replicate, refl, sym, ap, subst, ◌∙◌, arith, inl, inr}
+use Rattle.std.specs.Prelude.{◌||◌}
 use Rattle.std.specs.List.{list_any}
-use Rattle.std.proofs.lemmas.Bool.{cases_Bool, cases_lt, or_parts, or_from, and_parts, true≢false}
-use Rattle.std.proofs.lemmas.Bool.Decides.{nat_tests}
-use Rattle.std.proofs.lemmas.List.{length-append, length-take-le, length-drop, length-replicate, append-nil, get_or_append_left, get_or-append_right, get_or_past}
-use Rattle.pl_base.specs.Bytes.{IsBytes, part, put}
-use Rattle.pl_base.specs.Windows.{Window, end_of, Put, windows, put_all, holds, any_share, AllIn, IsApart, Agree}
-use Rattle.pl_base.proofs.WindowLaws.{length-part, part_byte, length-put_all, agree_edits, agree_itself}
+use Rattle.std.proofs.lemmas.Bool.{cases_lt, or_parts}
+use Rattle.std.proofs.lemmas.List.{length-take-le, length-drop, length-replicate, append-nil, get_or_append_left, get_or_past}
+use Rattle.pl_base.specs.Bytes.{part}
+use Rattle.pl_base.specs.Windows.{Window, windows, holds, any_share, AllIn, Agree}
+use Rattle.pl_base.proofs.WindowLaws.{length-part, part_byte, agree_edits, agree_itself}
 use Rattle.pl_elf.specs.Headers.{header, segments, is_load, loads}
-use Rattle.pl_elf.specs.Clauses.{load_window, load_windows}
+use Rattle.pl_elf.specs.Clauses.{load_windows}
 use Rattle.pl_elf.specs.declared.segment.Segment.{Segment}
 use Rattle.pl_move.specs.Moves.{table_windows}
-use Rattle.pl_move.specs.declared.table.Table.{Table}
-use Rattle.pl_parts.specs.Back.{header_window, segments_window, spot_windows, wanted, inserted}
+use Rattle.pl_parts.specs.Back.{header_window, segments_window, spot_windows, wanted}
 use Rattle.pl_parts.specs.declared.parts.Spot.{Spot}
 use Rattle.pl_parts.specs.Parts.{Original, front_part, form, hidden, zeros_part}
 use Rattle.pl_parts.specs.declared.parts.Plan.{Plan}
 use Rattle.pl_parts.specs.Loads.{spots_of, is_under, hidden_windows}
 use Rattle.pl_parts.proofs.PartsLaws.{part_before, part_inserted}
-use Rattle.pl_parts.proofs.FormLaws.{written, front_size, rest_of, form_split}
+use Rattle.pl_parts.proofs.FormLaws.{front_size, rest_of, form_split}
 use Rattle.pl_parts.specs.Fits.{Fits}
 use Rattle.pl_parts.proofs.LoadLaws.{front_stays, IsKept, kept_part, part_bytes_same}
 use Rattle.pl_parts.proofs.PlaceLaws.{away_from_spots}

@@ -1,17 +1,16 @@
 -- Places that share no byte of memory share none of the file, and none of the zeros of the last PT_LOAD (clauses 6, 24 and 25).
-use Rattle.std.proofs.Common.{◌≡◌, ℕ, zero, suc, ◌+◌, ◌-◌, ◌<◌, ◌≤◌, Bool, true, false, cond, List, [], ◌∷◌, length, get_or, Option, Some, None, refl, sym, ap, subst, ◌∙◌, arith, inl, inr}
-use Rattle.std.specs.Prelude.{◌⊎◌, ◌||◌, ◌&&◌, min, max, nat_le, nat_lt, map, find}
+use Rattle.std.proofs.Common.{◌≡◌, ℕ, suc, ◌+◌, ◌-◌, ◌<◌, ◌≤◌, Bool, true, false, List, [], ◌∷◌, length, get_or, Option, Some, None, refl, sym, subst, ◌∙◌, arith, inl, inr}
+use Rattle.std.specs.Prelude.{find}
 use Rattle.std.specs.List.{list_any, AllByRecursion}
 use Rattle.std.proofs.lemmas.Bool.{cases_Bool, cases_lt, or_parts, true≢false}
 use Rattle.std.proofs.lemmas.Bool.Decides.{nat_tests}
-use Rattle.pl_base.specs.Windows.{Window, end_of, holds, share, any_share, AreApart, IsApart}
+use Rattle.pl_base.specs.Windows.{Window, holds, share, any_share, AreApart, IsApart}
 use Rattle.pl_base.proofs.FindLaws.{find_passes}
-use Rattle.pl_base.proofs.WindowLaws.{holds_true, holds_false, holds_not, not_share, AreAllApart}
-use Rattle.pl_elf.specs.Headers.{is_load, loads}
+use Rattle.pl_base.proofs.WindowLaws.{holds_true, not_share, AreAllApart}
+use Rattle.pl_elf.specs.Headers.{loads}
 use Rattle.pl_elf.specs.Clauses.{load_window, load_windows}
 use Rattle.pl_elf.specs.declared.segment.Segment.{Segment}
 use Rattle.pl_parts.specs.Back.{spot_windows}
-use Rattle.pl_parts.specs.declared.parts.Spot.{Spot}
 use Rattle.pl_object.specs.FilePart.{nothing, loads_byte, loader, loaded_by, file_window}
 use Rattle.pl_parts.specs.Loads.{spot_of, spots_of, hidden_windows}
 use Rattle.pl_parts.proofs.PlaceLaws.{loads_parts, one_load, spot_by, within_load, IsHeld, IsOwn, hidden_of, hidden_under}

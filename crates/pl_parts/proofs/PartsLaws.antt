@@ -1,6 +1,6 @@
 -- Parts one after the other, and bytes inserted into others.
-use Rattle.std.proofs.Common.{◌≡◌, ℕ, zero, suc, ◌+◌, ◌-◌, ◌*◌, ◌/◌, ◌<◌, ◌≤◌, List, [], ◌∷◌, ◌++◌, length, take, drop, replicate, refl, sym, ap, ◌∙◌, append_assoc, arith}
-use Rattle.std.proofs.lemmas.List.{length-append, length-take-le, length-drop, take_at, drop_at, append-nil, take-append-drop, take-append-le, drop-append-le}
+use Rattle.std.proofs.Common.{◌≡◌, ℕ, ◌+◌, ◌-◌, ◌≤◌, List, [], ◌∷◌, ◌++◌, length, take, drop, replicate, refl, sym, ap, ◌∙◌, append_assoc, arith}
+use Rattle.std.proofs.lemmas.List.{length-append, length-take-le, length-drop, take_at, append-nil, take-append-drop}
 use Rattle.pl_base.specs.Bytes.{part}
 use Rattle.pl_base.specs.Windows.{gap, ◌⊕◌}
 use Rattle.pl_base.proofs.WindowLaws.{length-⊕, part_under, part_added, part_front, part_behind}

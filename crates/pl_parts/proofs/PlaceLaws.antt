@@ -1,6 +1,6 @@
 -- File bytes of places are those bytes of memory.
-use Rattle.std.proofs.Common.{◌≡◌, ℕ, zero, suc, ◌+◌, ◌-◌, ◌<◌, ◌≤◌, Bool, true, false, cond, List, [], ◌∷◌, length, get_or, Option, Some, None, refl, sym, ap, subst, ◌∙◌, arith, inl, inr}
-use Rattle.std.specs.Prelude.{◌⊎◌, ◌||◌, ◌&&◌, ◌==◌, ◌≢◌, if◌then◌else◌, min, nat_le, nat_lt, map, filter, find}
+use Rattle.std.proofs.Common.{◌≡◌, ℕ, zero, suc, ◌+◌, ◌-◌, ◌<◌, ◌≤◌, Bool, true, false, List, [], ◌∷◌, length, get_or, Option, Some, None, refl, sym, ap, subst, ◌∙◌, arith, inl, inr}
+use Rattle.std.specs.Prelude.{◌⊎◌, ◌&&◌, ◌==◌, ◌≢◌, min, nat_le, nat_lt, map, find}
 use Rattle.std.specs.List.{list_any, AllByRecursion}
 use Rattle.std.proofs.lemmas.Bool.{cases_Bool, cases_lt, or_parts, or_from, and_parts, leb-true, ltb-true, true≢false}
 use Rattle.std.proofs.lemmas.Bool.Decides.{nat_tests}
@@ -12,7 +12,6 @@ use Rattle.pl_elf.specs.Clauses.{load_window, load_windows, bad_load, ascend_fro
 use Rattle.pl_elf.proofs.AcceptedLaws.{load_fits}
 use Rattle.pl_elf.specs.declared.segment.Segment.{Segment}
 use Rattle.pl_parts.specs.Back.{spot_windows}
-use Rattle.pl_parts.specs.declared.parts.Spot.{Spot}
 use Rattle.pl_object.specs.FilePart.{nothing, loads_byte, loader, loaded_by, file_window}
 use Rattle.pl_parts.specs.Loads.{spot_of, spots_of, is_under, hidden_windows}
 
@@ -32,7 +31,7 @@ none_of_loads q (s ∷ ss) h = elim (cases_Bool (is_load s)) [
   | inr miss ↦ rw miss (none_of_loads q ss (rw miss at h))
 ]
 
-none_shares : (w : Segment → Window) (x : Segment) (ss : List Segment) → list_any (share (w x)) (map w (loads ss)) ≡ false → list_any (λ s. is_load s && share (w x) (w s)) ss ≡ false
+pub none_shares : (w : Segment → Window) (x : Segment) (ss : List Segment) → list_any (share (w x)) (map w (loads ss)) ≡ false → list_any (λ s. is_load s && share (w x) (w s)) ss ≡ false
 none_shares w x ss h = none_of_loads (λ s. share (w x) (w s)) ss (sym (any_map (share (w x)) w (loads ss)) ∙ h)
 
 pub not_any_at : {X : Type 0} (q : X → Bool) (xs : List X) (i : ℕ) (d : X) → list_any q xs ≡ false → i < length xs → q (get_or xs i d) ≡ false
@@ -43,7 +42,7 @@ not_any_at q (x ∷ xs) (suc i) d h lt = not_any_at q xs i d (or_parts (q x) (li
 both_hold : (v w : Window) (k : ℕ) → holds k v ≡ true → holds k w ≡ true → share v w ≡ true
 both_hold v w k h g = let a = holds_true k v h in let b = holds_true k w g in grind (arith, nat_tests)
 
-not_both : (v w : Window) (k : ℕ) (b : Bool) → b ≡ true → (b && share v w) ≡ false → holds k v ≡ true → holds k w ≡ true → ⊥
+pub not_both : (v w : Window) (k : ℕ) (b : Bool) → b ≡ true → (b && share v w) ≡ false → holds k v ≡ true → holds k w ≡ true → ⊥
 not_both v w k true e none h g = true≢false (sym (both_hold v w k h g) ∙ none)
 not_both v w k false e none h g = true≢false (sym e)
 
@@ -147,7 +146,7 @@ behind_by start memory filesz place f le high most own some = elim (cases_lt pla
   | inr after ↦ record { inside = omega (arith, le, high, after, most); low = omega (arith, after); high = omega (arith, after, most) }
 ]
 
-size_most : (place : Window) (found : Option Segment) → (loaded_by place found).size ≤ place.size
+pub size_most : (place : Window) (found : Option Segment) → (loaded_by place found).size ≤ place.size
 size_most place None = omega arith
 size_most place (Some s) = omega arith
 

@@ -1,17 +1,15 @@
 -- What acceptance says of an original, in pl_object's words, makes it readable for Back.
-use Rattle.std.proofs.Common.{◌≡◌, ℕ, zero, suc, ◌+◌, ◌-◌, ◌*◌, ◌/◌, ◌<◌, ◌≤◌, Bool, true, false, List, [], ◌∷◌, ◌++◌, length, map, take, drop, Option, Some, None, refl, sym, ap, subst, ◌∙◌, arith, inl, inr}
-use Rattle.std.specs.Prelude.{◌⊎◌, ◌||◌, ◌&&◌, nat_le}
-use Rattle.std.specs.List.{list_any, list_all}
-use Rattle.std.proofs.lemmas.Bool.{and_parts, or_parts, leb-true, le-leb}
+use Rattle.std.proofs.Common.{◌≡◌, ℕ, ◌*◌, ◌/◌, ◌≤◌, true, false, List, [], ◌∷◌, ◌++◌, length, map, refl, arith, inl, inr}
+use Rattle.std.specs.List.{list_any}
+use Rattle.std.proofs.lemmas.Bool.{or_parts, leb-true, le-leb}
 use Rattle.pl_base.specs.Bytes.{IsBytes}
-use Rattle.pl_base.specs.Windows.{Window, end_of, within, share, any_share, are_in, IsIn, AllIn, AreApart, IsApart}
-use Rattle.pl_base.proofs.WindowLaws.{none_share, not_share, apart_turned, AreAllApart, all_in}
-use Rattle.pl_elf.specs.Headers.{header, segments, sections}
+use Rattle.pl_base.specs.Windows.{Window, end_of, share, any_share, are_in, IsIn, AllIn, AreApart, IsApart}
+use Rattle.pl_base.proofs.WindowLaws.{none_share, not_share, apart_turned}
+use Rattle.pl_elf.specs.Headers.{header}
 use Rattle.pl_elf.specs.Clauses.{segment_passes}
 use Rattle.pl_elf.specs.declared.header.Header.{Header}
 use Rattle.pl_elf.specs.declared.segment.Segment.{Segment}
 use Rattle.pl_elf.specs.declared.section.Section.{Section}
-use Rattle.pl_dyn.specs.Entries.{tags}
 use Rattle.pl_dyn.specs.declared.tags.Tag.{Tag}
 use Rattle.pl_object.specs.FilePart.{file_window}
 use Rattle.pl_object.specs.Tables.{main_windows, symtab_windows, dynamic_memory, symbols_memory, rela_memory, jmprel_memory, relr_memory}
@@ -19,18 +17,16 @@ use Rattle.pl_object.specs.PlaceClauses.{last_load}
 use Rattle.pl_object.specs.TableClauses.{meets}
 use Rattle.pl_object.proofs.ExtentLaws.{file_window_in}
 use Rattle.std.proofs.Math.Nat.{mul-div-le}
-use Rattle.pl_move.specs.Moves.{table_window, table_windows}
+use Rattle.pl_move.specs.Moves.{table_windows}
 use Rattle.pl_move.specs.Objects.{rows_of}
 use Rattle.pl_move.specs.declared.kind.RowKind.TheVariants.{PackedAddress}
 use Rattle.pl_move.proofs.ObjectLaws.{rows_in}
 use Rattle.pl_move.specs.declared.kind.RowKind.TheVariants.{SymbolValue}
 use Rattle.pl_move.specs.declared.kind.RowKind.TheVariants.{RelocationPlace}
 use Rattle.pl_move.specs.declared.kind.RowKind.TheVariants.{RelativeAddend}
-use Rattle.pl_move.specs.declared.table.Table.{Table}
-use Rattle.pl_parts.specs.Back.{head_windows, header_window, segments_window, sections_window, headers_of, all_within, spot_windows}
-use Rattle.pl_parts.specs.declared.parts.Spot.{Spot}
+use Rattle.pl_parts.specs.Back.{head_windows, header_window, segments_window, sections_window, spot_windows}
 use Rattle.pl_parts.specs.Loads.{spot_of, spots_of}
-use Rattle.pl_parts.specs.Found.{stored_segments, stored_sections, dynamic_in, has_dynamic_table, find_dynamic, symbols_in, rela_in, jmprel_in, packed_in, symtab_tables, moved_tables, has_tables, find_tables, row_windows, find_rows, places_by, zeros_from, find_spots, reader, ss_of, secs_of, d_of, tags_of, rs_of, places_of, ps_of}
+use Rattle.pl_parts.specs.Found.{has_dynamic_table, find_dynamic, symbols_in, rela_in, jmprel_in, packed_in, symtab_tables, moved_tables, has_tables, find_tables, find_rows, zeros_from, find_spots, reader, ss_of, secs_of, d_of, tags_of, rs_of, places_of, ps_of}
 use Rattle.pl_move.proofs.MoveLaws.{AllApart}
 use Rattle.pl_parts.proofs.FrontLaws.{AllAway, IsReadable}
 use Rattle.pl_parts.proofs.StoredLaws.{segments_stored, sections_stored}

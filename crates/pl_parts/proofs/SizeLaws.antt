@@ -1,23 +1,21 @@
 -- Windows that share no byte fit into a file together, so a library's form is hardly three times its original.
-use Rattle.std.proofs.Common.{◌≡◌, ℕ, zero, suc, ◌+◌, ◌-◌, ◌*◌, ◌/◌, ◌^◌, ◌<◌, ◌≤◌, Bool, true, false, List, [], ◌∷◌, ◌++◌, length, get_or, take, drop, replicate, Option, Some, None, refl, sym, ap, subst, ◌∙◌, arith, inl, inr}
-use Rattle.std.specs.Prelude.{◌⊎◌, ◌||◌, ◌&&◌, ◌==◌, nat_le, nat_lt, map, if◌then◌else◌}
+use Rattle.std.proofs.Common.{◌≡◌, ℕ, zero, suc, ◌+◌, ◌*◌, ◌≤◌, Bool, true, false, List, [], ◌∷◌, ◌++◌, length, drop, Option, Some, None, refl, ap, ◌∙◌, arith, inl, inr}
+use Rattle.std.specs.Prelude.{◌||◌, ◌==◌, map, if◌then◌else◌}
 use Rattle.std.specs.List.{list_any, AllByRecursion}
-use Rattle.std.proofs.lemmas.Bool.{cases_Bool, cases_lt, or_parts}
+use Rattle.std.proofs.lemmas.Bool.{cases_Bool, cases_lt}
 use Rattle.std.proofs.lemmas.Bool.Decides.{nat_tests}
-use Rattle.pl_base.specs.Windows.{Window, end_of, within, holds, IsIn, AllIn, AreApart, IsApart}
-use Rattle.pl_base.specs.Bytes.{part, bytes64}
+use Rattle.pl_base.specs.Windows.{Window, end_of, within, holds, AllIn, AreApart, IsApart}
 use Rattle.std.proofs.lemmas.List.{length-append, length-take, length-drop, length-map}
-use Rattle.pl_base.proofs.WindowLaws.{length-within, length-part, holds_true, holds_false, holds_not, AreAllApart, apart_turned}
+use Rattle.pl_base.proofs.WindowLaws.{length-within, holds_true, holds_not, AreAllApart}
 use Rattle.pl_elf.specs.Headers.{header, section, sections}
 use Rattle.pl_elf.specs.declared.section.Section.{Section}
 use Rattle.pl_elf.specs.Clauses.{section_data}
 use Rattle.pl_undo.specs.declared.undo.Undo.{Undo}
 use Rattle.pl_base.proofs.WordLaws.{length_bytes64}
 use Rattle.pl_undo.specs.Section.{magic, digest_bytes, undo_bytes}
-use Rattle.pl_parts.specs.Back.{head_windows, spot_windows, memory_of, wanted, headers_of, undo_value, undo_of}
+use Rattle.pl_parts.specs.Back.{head_windows, spot_windows, memory_of, wanted, headers_of, undo_of}
 use Rattle.pl_parts.specs.declared.parts.Spot.{Spot}
 use Rattle.pl_parts.specs.Parts.{Original, joined_size, old_names, names_part, moved_section, library_sections, library_plan, form}
-use Rattle.pl_parts.specs.declared.parts.Plan.{Plan}
 use Rattle.pl_parts.specs.declared.parts.Listed.{Listed}
 use Rattle.pl_parts.proofs.FrontLaws.{length-memory_of}
 use Rattle.pl_parts.proofs.FormLaws.{form_length}

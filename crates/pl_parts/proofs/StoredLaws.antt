@@ -1,16 +1,13 @@
 -- The stored tables are the original's.
-use Rattle.std.proofs.Common.{◌≡◌, ℕ, zero, suc, ◌+◌, ◌-◌, ◌*◌, ◌<◌, ◌≤◌, List, [], ◌∷◌, ◌++◌, length, get_or, take, drop, refl, sym, ap, ◌∙◌, arith}
+use Rattle.std.proofs.Common.{◌≡◌, ℕ, ◌+◌, ◌*◌, ◌<◌, ◌≤◌, List, [], ◌∷◌, ◌++◌, length, sym, ap, ◌∙◌, arith}
 use Rattle.std.specs.Prelude.{map}
 use Rattle.std.specs.List.{range_with_len}
-use Rattle.std.proofs.lemmas.List.{length-append}
 use Rattle.std.proofs.lemmas.List.FromFn.{length-map-range_with_len, get_or-map-range_with_len, fill_by_all}
 use Rattle.pl_base.specs.Bytes.{part}
-use Rattle.pl_base.specs.Windows.{Window, within, AllIn}
+use Rattle.pl_base.specs.Windows.{within, AllIn}
 use Rattle.pl_base.proofs.WindowLaws.{part_part, part_front, part_behind, length-within}
 use Rattle.pl_elf.specs.Headers.{header, segment_at, section_at, segment, section, segments, sections}
 use Rattle.pl_elf.specs.declared.header.Header.{Header}
-use Rattle.pl_elf.specs.declared.segment.Segment.{Segment}
-use Rattle.pl_elf.specs.declared.section.Section.{Section}
 use Rattle.pl_parts.specs.Back.{header_window, segments_window, sections_window, head_windows, headers_of, all_within}
 use Rattle.pl_parts.specs.Found.{stored_segments, stored_sections}
 use Rattle.pl_parts.proofs.HeadLaws.{headers_begin, segment_part, section_part}

@@ -1,24 +1,18 @@
 -- What is stored of an original is read again, in both versions.
-use Rattle.std.proofs.Common.{◌≡◌, ℕ, zero, suc, ◌+◌, ◌-◌, ◌*◌, ◌^◌, ◌<◌, ◌≤◌, Bool, true, false, List, [], ◌∷◌, ◌++◌, length, take, drop, Option, Some, None, refl, sym, ap, ◌∙◌, append_assoc, arith, inl, inr}
-use Rattle.std.specs.Prelude.{◌⊎◌, ◌&&◌, ◌==◌, not, nat_eq, nat_lt, if◌then◌else◌}
-use Rattle.std.specs.List.{starts_with}
-use Rattle.std.proofs.lemmas.Bool.{and_from, lt-ltb, le-ltb, eq-eqb, cases_Bool}
-use Rattle.std.proofs.lemmas.Bool.Decides.{nat_tests, Decides-eqb}
-use Rattle.std.proofs.lemmas.Slice.Eq.{starts_is}
-use Rattle.std.proofs.lemmas.List.{length-append, length-drop, take_at, drop_at, drop-drop, take-append-drop}
-use Rattle.pl_base.specs.Bytes.{IsBytes, part, bytes64}
-use Rattle.pl_base.specs.Windows.{Window, within, are_in, AllIn}
-use Rattle.pl_base.proofs.WindowLaws.{length-within, length-part, all_in}
+use Rattle.std.proofs.Common.{◌≡◌, ℕ, ◌^◌, ◌<◌, true, List, [], ◌++◌, length, Option, Some, None, refl, sym, ap, ◌∙◌, arith, inl, inr}
+use Rattle.std.specs.Prelude.{◌⊎◌}
+use Rattle.std.proofs.lemmas.Bool.{lt-ltb, eq-eqb}
+use Rattle.std.proofs.lemmas.List.{length-append}
+use Rattle.pl_base.specs.Windows.{Window, within, AllIn}
+use Rattle.pl_base.proofs.WindowLaws.{length-within}
 use Rattle.pl_elf.specs.Headers.{header}
 use Rattle.pl_elf.specs.declared.header.Header.{Header}
 use Rattle.pl_undo.specs.declared.undo.Undo.{Undo}
-use Rattle.pl_undo.specs.declared.constants.TheConstants.{UNDO_MAGIC}
-use Rattle.pl_undo.specs.Section.{undo_bytes, is_digest, headers_size, fits_kind, are_words, has_headers, is_undo, IsUndoOf}
+use Rattle.pl_undo.specs.Section.{undo_bytes, is_digest, headers_size, fits_kind, are_words, has_headers, is_undo}
 use Rattle.pl_undo.proofs.UndoLaws.{is_read}
-use Rattle.pl_parts.specs.Back.{found, undo_in, head_windows, header_window, segments_window, sections_window, headers_of, all_within, spot_windows, memory_of, wanted, undo_value, undo_of}
+use Rattle.pl_parts.specs.Back.{found, undo_in, head_windows, header_window, segments_window, sections_window, headers_of, memory_of, undo_of}
 use Rattle.pl_parts.specs.declared.parts.Spot.{Spot}
 use Rattle.pl_parts.specs.Law.{IsDigest}
-use Rattle.pl_parts.proofs.FrontLaws.{length-memory_of}
 use Rattle.pl_parts.proofs.FrontTheorem.{header_again}
 
 pub length-headers : (o : List ℕ) → AllIn (length o) (head_windows (header o)) → length (headers_of o) ≡ headers_size (header o)

@@ -1,24 +1,22 @@
 -- Back of a form is its original, from what acceptance says of the original's bytes.
-use Rattle.std.proofs.Common.{◌≡◌, ℕ, zero, suc, ◌+◌, ◌-◌, ◌*◌, ◌%◌, ◌^◌, ◌<◌, ◌≤◌, Bool, true, false, List, [], ◌∷◌, ◌++◌, length, get_or, Option, Some, None, refl, sym, ap, subst, ◌∙◌, arith, inl, inr}
-use Rattle.std.specs.Prelude.{◌⊎◌, ◌&&◌, is_some}
+use Rattle.std.proofs.Common.{◌≡◌, ℕ, ◌+◌, ◌*◌, ◌%◌, ◌^◌, ◌<◌, ◌≤◌, true, List, [], ◌∷◌, length, Option, Some, refl, ap, arith, inl, inr}
+use Rattle.std.specs.Prelude.{is_some}
 use Rattle.std.proofs.lemmas.Bool.{and_parts, false≢true}
-use Rattle.std.proofs.lemmas.List.{length-append}
-use Rattle.pl_base.specs.Windows.{Window, within, any_share, AllIn, AreApart}
+use Rattle.pl_base.specs.Windows.{AreApart}
 use Rattle.pl_base.proofs.WindowLaws.{none_share}
-use Rattle.pl_elf.specs.Headers.{header, segments, sections, segment_of_kind}
+use Rattle.pl_elf.specs.Headers.{header, segment_of_kind}
 use Rattle.pl_elf.specs.declared.constants.TheConstants.{PT_DYNAMIC}
 use Rattle.pl_elf.specs.declared.header.Header.{Header}
 use Rattle.pl_elf.specs.declared.segment.Segment.{Segment}
-use Rattle.pl_undo.specs.declared.undo.Undo.{Undo}
 use Rattle.pl_object.specs.FilePart.{in_file_part}
 use Rattle.pl_object.specs.Tables.{main_windows, dynamic_memory}
-use Rattle.pl_parts.specs.Back.{header_window, segments_window, back, memory_of, wanted, undo_value, undo_of}
+use Rattle.pl_parts.specs.Back.{header_window, segments_window, back, wanted, undo_of}
 use Rattle.pl_parts.specs.Parts.{Original, table_at, library_plan, program_plan}
 use Rattle.pl_parts.specs.declared.parts.Plan.{Plan}
 use Rattle.pl_parts.specs.declared.parts.Listed.{Listed}
 use Rattle.pl_parts.specs.declared.parts.Extension.{Extension}
-use Rattle.pl_parts.specs.Found.{has_dynamic_table, reader, ss_of, secs_of, d_of, tags_of, rs_of, ps_of, moved_tables}
-use Rattle.pl_parts.specs.Forms.{undo_part, planned, library_form, program_form, original_of}
+use Rattle.pl_parts.specs.Found.{reader, ss_of, secs_of, d_of, tags_of, rs_of, ps_of}
+use Rattle.pl_parts.specs.Forms.{undo_part, library_form, program_form, original_of}
 use Rattle.pl_parts.specs.Fits.{Fits}
 use Rattle.pl_parts.proofs.KindLaws.{IsTaken, IsProgram, library_fits, program_fits, segment_count}
 use Rattle.pl_parts.proofs.UndoLaws.{IsStored}

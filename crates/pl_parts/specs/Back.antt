@@ -1,7 +1,7 @@
 -- How a form is undone from its own bytes.
-use Rattle.std.specs.Prelude.{◌≡◌, ◌≤◌, ℕ, zero, suc, ◌+◌, ◌-◌, ◌*◌, Bool, true, false, ◌&&◌, ◌==◌, nat_le, List, [], ◌∷◌, ◌++◌, length, take, drop, replicate, Option, Some, None, Result, Ok, Err}
+use Rattle.std.specs.Prelude.{ℕ, ◌+◌, ◌-◌, ◌*◌, Bool, true, false, ◌&&◌, ◌==◌, nat_le, List, [], ◌∷◌, ◌++◌, length, take, drop, replicate, Option, Some, None, Result, Ok, Err}
 use Rattle.pl_base.specs.Bytes.{part}
-use Rattle.pl_base.specs.Windows.{Window, within, Put, put_all, own, are_in}
+use Rattle.pl_base.specs.Windows.{Window, within, Put, put_all, are_in}
 use Rattle.pl_elf.specs.Headers.{header, section, section_offset}
 use Rattle.pl_elf.specs.declared.header.Header.{Header}
 use Rattle.pl_elf.specs.declared.section.Section.{Section}
@@ -9,7 +9,7 @@ use Rattle.pl_undo.specs.declared.undo.Undo.{Undo}
 use Rattle.pl_undo.specs.declared.fault.UndoFault.{UndoFault}
 use Rattle.pl_undo.specs.Reading as reading
 use Rattle.pl_move.specs.declared.table.Table.{Table}
-use Rattle.pl_move.specs.Moves.{table_windows, all_moved, all_back}
+use Rattle.pl_move.specs.Moves.{table_windows, all_back}
 use Rattle.pl_parts.specs.declared.parts.Spot.{Spot}
 
 infixl 10 ◌>>=◌

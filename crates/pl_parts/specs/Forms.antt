@@ -1,9 +1,8 @@
 -- The two forms, with their undo sections: version 2 of the section where there is a digest.
-use Rattle.std.specs.Prelude.{◌≡◌, ℕ, ◌+◌, List, length, Option, Some, None}
-use Rattle.pl_base.specs.Windows.{Window}
+use Rattle.std.specs.Prelude.{ℕ, List, length, Option}
 use Rattle.pl_elf.specs.declared.segment.Segment.{Segment}
 use Rattle.pl_undo.specs.Section.{undo_bytes}
-use Rattle.pl_parts.specs.Back.{undo_value, undo_of}
+use Rattle.pl_parts.specs.Back.{undo_of}
 use Rattle.pl_parts.specs.Parts.{Original, library_plan, program_plan, form}
 use Rattle.pl_parts.specs.declared.parts.Plan.{Plan}
 use Rattle.pl_parts.specs.declared.parts.Listed.{Listed}

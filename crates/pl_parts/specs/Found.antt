@@ -1,5 +1,5 @@
 -- What Back finds by the stored headers, the dynamic table and the rows, in pl_object's words.
-use Rattle.std.specs.Prelude.{ℕ, ◌+◌, ◌*◌, ◌/◌, Bool, ◌&&◌, ◌==◌, List, [], ◌∷◌, ◌++◌, length, map, take, drop, ◌^◌, Option, Some, None, is_some, Result, Ok, Err}
+use Rattle.std.specs.Prelude.{ℕ, ◌+◌, ◌*◌, ◌/◌, Bool, ◌&&◌, List, [], ◌∷◌, ◌++◌, length, map, take, drop, ◌^◌, Option, Some, None, is_some, Result, Ok, Err}
 use Rattle.std.specs.List.{range_with_len}
 use Rattle.pl_base.specs.Bytes.{word32, word64}
 use Rattle.pl_base.specs.Windows.{Window, within}
@@ -18,8 +18,6 @@ use Rattle.pl_relr.specs.declared.fault.RelrFault.{RelrFault}
 use Rattle.pl_move.specs.Objects.{rows_of}
 use Rattle.pl_move.specs.declared.kind.RowKind.TheVariants.{PackedAddress}
 use Rattle.pl_object.specs.PlaceClauses.{last_load}
-use Rattle.pl_move.specs.Moves.{row_size}
-use Rattle.pl_move.specs.declared.kind.RowKind.{RowKind}
 use Rattle.pl_move.specs.declared.kind.RowKind.TheVariants.{SymbolValue}
 use Rattle.pl_move.specs.declared.kind.RowKind.TheVariants.{RelocationPlace}
 use Rattle.pl_move.specs.declared.kind.RowKind.TheVariants.{RelativeAddend}

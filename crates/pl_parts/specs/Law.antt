@@ -1,24 +1,24 @@
 -- Laws of the forms of accepted libraries and programs: they are undone from their own bytes, and what their segments load.
-use Rattle.std.specs.Prelude.{◌≡◌, ◌≤◌, ◌<◌, ◌≢◌, ◌⊎◌, ℕ, ◌+◌, ◌*◌, ◌%◌, ◌^◌, Bool, ◌&&◌, true, false, nat_lt, List, [], length, slice_index_or, slice_index, Option, Some, None, Result, Ok}
-use Rattle.std.specs.List.{list_any}
-use Rattle.pl_base.specs.Bytes.{IsBytes, part}
+use Rattle.std.specs.Prelude.{◌≡◌, ◌≤◌, ◌<◌, ◌⊎◌, ℕ, ◌+◌, ◌*◌, ◌%◌, ◌^◌, Bool, ◌&&◌, true, false, nat_lt, List, [], length, map, slice_index_or, slice_index, Option, Some, None, Ok}
+use Rattle.std.specs.List.{list_any, concat, AllZip}
+use Rattle.pl_base.specs.Bytes.{IsBytes}
 use Rattle.pl_base.specs.Memory.{byte_at}
 use Rattle.pl_base.specs.Windows.{Window, holds}
-use Rattle.pl_elf.specs.Headers.{header, segment, segments, is_load}
+use Rattle.pl_elf.specs.Headers.{HasSegments, header, segment, is_load}
 use Rattle.pl_elf.specs.Kinds.{is_static}
 use Rattle.pl_elf.specs.declared.segment.Segment.{Segment}
 use Rattle.pl_object.specs.PlaceClauses.{last_load}
 use Rattle.pl_object.specs.Reads.{reads}
-use Rattle.pl_object.specs.Tables.{link_windows}
+use Rattle.pl_object.specs.Relocations.{places}
+use Rattle.pl_object.specs.Tables.{link_windows, range_of}
 use Rattle.pl_object.specs.declared.object.Object.{Object}
 use Rattle.pl_parts.specs.declared.parts.Extension.{Extension}
 use Rattle.pl_parts.specs.declared.parts.Listed.{Listed}
-use Rattle.pl_parts.specs.declared.parts.Spot.{Spot}
 use Rattle.pl_parts.specs.Back.{back, wanted}
-use Rattle.pl_parts.specs.Parts.{table_at, library_plan, program_plan}
-use Rattle.pl_parts.specs.Found.{reader, ss_of, secs_of, d_of, tags_of, places_of, ps_of, zeros_from}
+use Rattle.pl_parts.specs.Parts.{table_at, moved_segment, library_plan, program_plan}
+use Rattle.pl_parts.specs.Found.{reader, ss_of, secs_of, d_of, tags_of, places_of, ps_of}
 use Rattle.pl_parts.specs.Forms.{undo_part, library_form, program_form, original_of}
-use Rattle.pl_parts.specs.Loads.{stands, spot_of, is_under, fills}
+use Rattle.pl_parts.specs.Loads.{stands, is_under, fills}
 
 -- a digest has 32 bytes
 abbrev pub IsDigest : Option (List ℕ) → Type 0
@@ -125,3 +125,69 @@ LibrariesLoadAlike = (o : List ℕ) (x : Object) (slot stamp checksum : ℕ) (l 
 abbrev pub ProgramsLoadAlike : Type 0
 ProgramsLoadAlike = (o : List ℕ) (x : Object) (index : ℕ) (last : Segment) (e : Extension) (flat : List ℕ) (digest : Option (List ℕ)) (i k : ℕ) (d : Segment) → FormsProgram o x index last e flat digest → IsFree o i k d
     → stands_at 0 (program_form (original_of o) index last e flat digest) (segment_of o i d) i k ≡ original_at 0 o (segment_of o i d) k
+
+-- ---- the program headers of a form
+
+-- the program header table of a file lies in it, and has these segments
+pub record HasTable (file : List ℕ) (ss : List Segment) : Type 0 where
+  pub inside : HasSegments file (header file)
+  pub are : ss_of file ≡ ss
+
+-- those of a library's form are its original's, moved: each keeps its offset and its size in the file
+abbrev pub LibrariesAreMoved : Type 0
+LibrariesAreMoved = (o : List ℕ) (x : Object) (slot stamp checksum : ℕ) (l : Listed) (flat : List ℕ) (digest : Option (List ℕ)) → FormsLibrary o x slot stamp checksum l flat digest
+    → HasTable (library_form (original_of o) slot stamp checksum l flat digest) (map (moved_segment slot) (ss_of o))
+
+-- those of a program's form are those of its plan: the last PT_LOAD grown, and the others where the inserted bytes leave them
+abbrev pub ProgramsAreExtended : Type 0
+ProgramsAreExtended = (o : List ℕ) (x : Object) (index : ℕ) (last : Segment) (e : Extension) (flat : List ℕ) (digest : Option (List ℕ)) → FormsProgram o x index last e flat digest
+    → HasTable (program_form (original_of o) index last e flat digest) (program_plan (original_of o) index last flat e).segments
+
+-- ---- what stands at a place
+
+-- the parts of an accepted original's object are those that its own bytes show
+pub record IsFoundIn (o : List ℕ) (x : Object) : Type 0 where
+  pub head : x.header ≡ header o
+  pub rows : x.segments ≡ ss_of o
+  pub placed : places x.relocations ≡ places_of o
+  pub linked : x.tables ≡ map range_of (link_windows (header o) (ss_of o) (secs_of o) (tags_of o))
+
+abbrev pub PartsAreFound : Type 0
+PartsAreFound = (o : List ℕ) (x : Object) → IsOriginal o x → IsFoundIn o x
+
+abbrev pub place_of : List ℕ → ℕ → Window → Window
+place_of o a w = slice_index_or (places_of o) a w
+
+-- byte number k of PT_LOAD number i is byte number j of place number a
+pub record IsUnder (o : List ℕ) (i k a j : ℕ) (d : Segment) (w : Window) : Type 0 where
+  pub lt : i < (header o).phnum
+  pub load : is_load (segment_of o i d) ≡ true
+  pub below : k < (segment_of o i d).memsz
+  pub place : a < length (places_of o)
+  pub inside : j < (place_of o a w).size
+  pub at : (segment_of o i d).vaddr + k ≡ (place_of o a w).at + j
+
+-- of the bytes for all places, byte number j of place number a
+abbrev pub fill_at : List ℕ → List ℕ → ℕ → ℕ → ℕ
+fill_at o flat a j = slice_index (slice_index_or (fills (ps_of o) flat) a []) j
+
+-- such a byte of a form is the one that was given for the place
+abbrev pub LibrariesHoldFills : Type 0
+LibrariesHoldFills = (o : List ℕ) (x : Object) (slot stamp checksum : ℕ) (l : Listed) (flat : List ℕ) (digest : Option (List ℕ)) (i k a j : ℕ) (d : Segment) (w : Window) → FormsLibrary o x slot stamp checksum l flat digest → IsUnder o i k a j d w
+    → stands_at slot (library_form (original_of o) slot stamp checksum l flat digest) (segment_of o i d) i k ≡ fill_at o flat a j
+
+abbrev pub ProgramsHoldFills : Type 0
+ProgramsHoldFills = (o : List ℕ) (x : Object) (index : ℕ) (last : Segment) (e : Extension) (flat : List ℕ) (digest : Option (List ℕ)) (i k a j : ℕ) (d : Segment) (w : Window) → FormsProgram o x index last e flat digest → IsUnder o i k a j d w
+    → stands_at 0 (program_form (original_of o) index last e flat digest) (segment_of o i d) i k ≡ fill_at o flat a j
+
+-- there are as many bytes as a place has
+abbrev pub IsAsLong : List ℕ → Window → Type 0
+IsAsLong bytes place = length bytes ≡ place.size
+
+-- bytes for each place, put one after the other, are as many as wanted, and are told apart again
+pub record AreFills (o : List ℕ) (given : List (List ℕ)) : Type 0 where
+  pub size : length (concat given) ≡ wanted (ps_of o)
+  pub same : fills (ps_of o) (concat given) ≡ given
+
+abbrev pub FillsAreTold : Type 0
+FillsAreTold = (o : List ℕ) (given : List (List ℕ)) → AllZip IsAsLong given (places_of o) → AreFills o given

@@ -1,5 +1,5 @@
 -- What the segments of a form load at the addresses of the original's.
-use Rattle.std.specs.Prelude.{◌≡◌, ℕ, ◌+◌, ◌-◌, min, max, Bool, ◌&&◌, nat_le, nat_lt, ◌==◌, if◌then◌else◌, List, [], ◌∷◌, map, take, drop, Option, Some, None, find}
+use Rattle.std.specs.Prelude.{ℕ, ◌+◌, ◌-◌, Bool, ◌==◌, if◌then◌else◌, List, [], ◌∷◌, map, take, drop}
 use Rattle.std.specs.List.{list_any}
 use Rattle.pl_base.specs.Bytes.{part}
 use Rattle.pl_base.specs.Windows.{Window, holds}

@@ -1,7 +1,7 @@
 -- The form of a library and of a program, part by part.
-use Rattle.std.specs.Prelude.{◌≡◌, ◌≤◌, ◌<◌, ℕ, zero, suc, ◌+◌, ◌-◌, ◌*◌, ◌/◌, ◌^◌, Bool, true, false, not, ◌&&◌, ◌||◌, ◌==◌, nat_le, nat_lt, List, [], ◌∷◌, ◌++◌, length, map, take, drop, replicate, bit_and, if◌then◌else◌}
-use Rattle.std.specs.List.{concat, list_any}
-use Rattle.pl_base.specs.Bytes.{part, put, word64, bytes64}
+use Rattle.std.specs.Prelude.{ℕ, zero, suc, ◌+◌, ◌-◌, ◌*◌, ◌/◌, Bool, not, ◌&&◌, ◌==◌, nat_le, nat_lt, List, [], ◌∷◌, ◌++◌, length, map, take, drop, replicate, bit_and, if◌then◌else◌}
+use Rattle.std.specs.List.{concat}
+use Rattle.pl_base.specs.Bytes.{put, word64, bytes64}
 use Rattle.pl_base.specs.Sums.{plus, round_up}
 use Rattle.pl_base.specs.Windows.{Window, within, Put, put_all, ◌⊕◌}
 use Rattle.pl_elf.specs.Headers.{header, segments, sections}

@@ -5,5 +5,5 @@ pub mod constants;
 mod law;
 mod parts;
 
-pub use law::{forms_are_undone, forms_load_alike};
+pub use law::{forms_are_undone, forms_bear_segments, forms_hold_fills, forms_load_alike};
 pub use parts::{Extension, Listed, Plan, Spot};
