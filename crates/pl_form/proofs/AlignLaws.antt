@@ -1,12 +1,12 @@
 -- An alignment of a library is even, and so is a slot that is a multiple of it; an accepted file has a PT_LOAD.
-use Rattle.std.proofs.Common.{◌≡◌, ℕ, ◌+◌, ◌*◌, ◌/◌, ◌%◌, ◌<◌, ◌≤◌, inl, inr, Bool, true, false, List, [], ◌∷◌, Option, Some, None, Result, Ok, refl, sym, ap, subst, ◌∙◌, arith}
-use Rattle.std.specs.Prelude.{◌||◌, ◌&&◌, ◌==◌, not, max, fold, ◌⊎◌}
+use Rattle.std.proofs.Common.{◌≡◌, ℕ, ◌*◌, ◌/◌, ◌%◌, ◌<◌, ◌≤◌, inl, inr, true, false, List, [], ◌∷◌, Ok, ap, ◌∙◌, arith}
+use Rattle.std.specs.Prelude.{◌==◌, max, fold}
 use Rattle.std.specs.Int.{is_power_of_two}
 use Rattle.std.specs.Int.Count.{ones_step}
 use Rattle.std.specs.List.{list_any}
 use Rattle.std.proofs.lemmas.Bool.{cases_Bool, cases_lt, or_parts, eqb-true, true≢false}
 use Rattle.std.proofs.lemmas.Nat.{zero_from_ones, div-add-mod'}
-use Rattle.pl_elf.specs.Clauses.{bad_align, bad_load, AreLoads}
+use Rattle.pl_elf.specs.Clauses.{bad_align, bad_load}
 use Rattle.pl_elf.specs.Headers.{loads}
 use Rattle.pl_elf.specs.declared.segment.Segment.{Segment}
 use Rattle.pl_elf.proofs.AcceptedLaws.{load_fits}

@@ -1,5 +1,5 @@
 -- What a form leaves alone, from the laws of forms.
-use Rattle.std.proofs.Common.{◌≡◌, ℕ, ◌^◌, ◌<◌, ◌≤◌, true, false, List, length, Option, Some, None, refl, sym, subst, arith}
+use Rattle.std.proofs.Common.{◌≡◌, ℕ, ◌^◌, ◌<◌, ◌≤◌, true, List, length, Option, Some, None, refl, sym, subst, arith}
 use Rattle.std.specs.Prelude.{is_some}
 use Rattle.std.proofs.lemmas.Bool.{true≢false}
 use Rattle.pl_elf.specs.declared.segment.Segment.{Segment}
@@ -23,19 +23,18 @@ use Rattle.pl_form.specs.Library.{library_with}
 use Rattle.pl_form.specs.Program.{IsFirmProgram, last_index, program_with}
 use Rattle.pl_form.specs.Words.{listed, extension_of, checksum_of, digest_in}
 use Rattle.pl_form.specs.declared.constants.TheConstants.{STORED}
-use Rattle.pl_form.specs.declared.program.Last.{Last}
 use Rattle.pl_form.specs.declared.version.Version.{Version}
 use Rattle.pl_form.proofs.FormOf.{forms_library, forms_program}
 use Rattle.pl_form.proofs.ReadyLaws.{digest_ready, extended_some}
 use Rattle.pl_form.proofs.SmallLaws.{table_below}
 use Rattle.pl_form.proofs.SomeLastLaws.{some_last}
 
-below_library : (o : Original) (slot stamp checksum : ℕ) (l : Listed) (flat : List ℕ) (digest : Option (List ℕ)) → length (forms.library_form o slot stamp checksum l flat digest) ≤ STORED
+pub below_library : (o : Original) (slot stamp checksum : ℕ) (l : Listed) (flat : List ℕ) (digest : Option (List ℕ)) → length (forms.library_form o slot stamp checksum l flat digest) ≤ STORED
     → table_at (library_plan o slot stamp checksum l) o.bytes (length (undo_part (library_plan o slot stamp checksum l) o digest)) < 2 ^ 32
 unfolding planned
 below_library o slot stamp checksum l flat digest short = omega (arith, short, table_below (library_plan o slot stamp checksum l) o flat (undo_part (library_plan o slot stamp checksum l) o digest))
 
-below_program : (o : Original) (index : ℕ) (last : Segment) (e : Extension) (flat : List ℕ) (digest : Option (List ℕ)) → length (forms.program_form o index last e flat digest) ≤ STORED
+pub below_program : (o : Original) (index : ℕ) (last : Segment) (e : Extension) (flat : List ℕ) (digest : Option (List ℕ)) → length (forms.program_form o index last e flat digest) ≤ STORED
     → table_at (program_plan o index last flat e) o.bytes (length (undo_part (program_plan o index last flat e) o digest)) < 2 ^ 32
 unfolding planned
 below_program o index last e flat digest short = omega (arith, short, table_below (program_plan o index last flat e) o flat (undo_part (program_plan o index last flat e) o digest))

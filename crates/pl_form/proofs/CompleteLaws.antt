@@ -1,13 +1,12 @@
 -- What is read of a form is all that it was made of.
-use Rattle.std.proofs.Common.{◌≡◌, ℕ, ◌+◌, ◌-◌, ◌*◌, ◌%◌, ◌^◌, ◌<◌, ◌≤◌, Bool, true, false, List, [], ◌∷◌, ◌++◌, length, drop, Option, Some, None, Result, Ok, refl, sym, ap, subst, ◌∙◌, arith, inl, inr}
-use Rattle.std.specs.Prelude.{◌⊎◌, ◌&&◌, ◌==◌, not, nat_le, is_some, if◌then◌else◌}
-use Rattle.std.specs.Result.{is_ok}
+use Rattle.std.proofs.Common.{◌≡◌, ℕ, ◌-◌, ◌%◌, ◌^◌, ◌<◌, ◌≤◌, true, false, List, [], ◌∷◌, ◌++◌, length, drop, Option, Some, None, Ok, refl, sym, ap, subst, ◌∙◌, arith, inl, inr}
+use Rattle.std.specs.Prelude.{◌⊎◌, is_some}
 use Rattle.std.specs.Str.{bytes_eq}
 use Rattle.std.proofs.lemmas.Bool.{le-leb, lt-ltb, eq-eqb, true≢false}
 use Rattle.std.proofs.lemmas.List.{length-append, length-take, length-drop}
 use Rattle.std.proofs.lemmas.Slice.Eq.{bytes_eq-Decides}
 use Rattle.pl_elf.specs.Headers.{header, section}
-use Rattle.pl_elf.specs.Kinds.{is_library, is_program, is_static}
+use Rattle.pl_elf.specs.Kinds.{is_library}
 use Rattle.pl_elf.specs.declared.section.Section.{Section}
 use Rattle.pl_elf.specs.declared.segment.Segment.{Segment}
 use Rattle.pl_lists.specs.Lists.{list_strings, list_bytes, is_list}
@@ -17,7 +16,6 @@ use Rattle.pl_lists.proofs.ConflictLaws.{is_read as conflicts_read}
 use Rattle.pl_lists.proofs.ListLaws.{is_read}
 use Rattle.pl_lists.proofs.WriteLaws.{is_list_of}
 use Rattle.pl_object.specs.PlaceClauses.{last_load}
-use Rattle.pl_object.specs.Reads.{reads}
 use Rattle.pl_object.specs.declared.object.Object.{Object}
 use Rattle.pl_parts.specs.Back.{section_part, find_undo, front_of, restored, back}
 use Rattle.pl_parts.specs.Forms as forms
@@ -31,7 +29,7 @@ use Rattle.pl_parts.proofs.FinalTheorem.{library_conditions, program_conditions}
 use Rattle.pl_parts.proofs.WholeTheorem.{library_undone, program_undone}
 use Rattle.pl_undo.specs.declared.undo.Undo.{Undo}
 use Rattle.sha2.proofs.Facts256.{length-sha256}
-use Rattle.pl_form.specs.Faults.{form_fault, no_region, IsFirm}
+use Rattle.pl_form.specs.Faults.{IsFirm}
 use Rattle.pl_form.specs.Library.{library_with}
 use Rattle.pl_form.specs.Marks.{has_mark, form_with, IsFormOf, IsLibraryMark, IsProgramMark, FormsAreUndone, NoFormOfTwo}
 use Rattle.pl_form.specs.Program.{last_index, extended}
@@ -39,7 +37,6 @@ use Rattle.pl_form.specs.Reading.{firm_object, section_bytes, lists_in, candidat
 use Rattle.pl_form.specs.Words.{listed, strings_of, extension_of, checksum_of, digest_in}
 use Rattle.pl_form.specs.declared.constants.TheConstants.{STORED}
 use Rattle.pl_form.specs.declared.file.Marked.{Marked}
-use Rattle.pl_form.specs.declared.read.Lists.{Lists}
 use Rattle.pl_form.specs.declared.version.Version.{Version}
 use Rattle.pl_form.specs.declared.version.Version.TheVariants.{One, Two}
 use Rattle.pl_form.proofs.AlignLaws.{align_even, slot_even}

@@ -1,5 +1,5 @@
 -- What a file is as a function of its bytes, against what it is.
-use Rattle.std.proofs.Common.{◌≡◌, ℕ, zero, suc, ◌+◌, ◌-◌, ◌*◌, ◌^◌, ◌<◌, ◌≤◌, Bool, true, false, List, [], ◌∷◌, ◌++◌, length, take, Option, Some, None, Result, Ok, Err, refl, sym, ap, subst, ◌∙◌, arith}
+use Rattle.std.proofs.Common.{◌≡◌, ℕ, zero, suc, ◌+◌, ◌-◌, ◌^◌, ◌<◌, ◌≤◌, Bool, true, false, List, [], ◌∷◌, ◌++◌, length, take, Option, Some, None, Result, Ok, Err, refl, sym, ap, subst, ◌∙◌, arith}
 use Rattle.std.specs.Prelude.{◌&&◌, nat_le, nat_lt}
 use Rattle.std.specs.List.{list_all}
 use Rattle.std.specs.Result.{is_ok}
@@ -11,9 +11,7 @@ use Rattle.pl_elf.specs.Headers.{header, section}
 use Rattle.pl_elf.specs.Kinds.{is_library}
 use Rattle.pl_elf.specs.declared.segment.Segment.{Segment}
 use Rattle.pl_lists.specs.Reading.{list_of, conflicts_of}
-use Rattle.pl_lists.specs.declared.conflict_row.ConflictRow.{ConflictRow}
 use Rattle.pl_lists.specs.declared.fault.ListFault.{ListFault}
-use Rattle.pl_lists.specs.declared.list_row.ListRow.{ListRow}
 use Rattle.pl_lists.proofs.ConflictLaws.{answer_found}
 use Rattle.pl_lists.proofs.ListLaws.{is_found}
 use Rattle.pl_object.specs.PlaceClauses.{last_load}
@@ -26,13 +24,13 @@ use Rattle.pl_parts.specs.declared.parts.Spot.{Spot}
 use Rattle.pl_parts.proofs.FinalTheorem.{reads_ok}
 use Rattle.pl_undo.specs.declared.undo.Undo.{Undo}
 use Rattle.pl_form.specs.Files.{is_byte, are_bytes, of_bytes, marked_in, original_by, original_in, file_in, FormsAreRead, NothingElseIsRead, OriginalsAreBare, FormsAreTold, BadAreTold, PlainAreTold}
-use Rattle.pl_form.specs.Marks.{has_mark, has_undo_name, IsFormOf, IsNoForm}
+use Rattle.pl_form.specs.Marks.{has_mark, IsFormOf, IsNoForm}
 use Rattle.pl_form.specs.Reading.{marked_of, marked_by, firm_object, firm_if, is_firm, IsOwn, lists_in, section_bytes, spelled, with_conflicts, AreSpelled, checked, candidate, is_form, places_in, standing, zeros_behind}
 use Rattle.pl_form.specs.declared.constants.TheConstants.{STORED}
 use Rattle.pl_form.specs.declared.file.Marked.{Marked}
 use Rattle.pl_form.specs.declared.read.Lists.{Lists}
 use Rattle.pl_form.proofs.CompleteLaws.{complete, part_most}
-use Rattle.pl_form.proofs.MarkedLaws.{none_spelled, library_spelled}
+use Rattle.pl_form.proofs.MarkedLaws.{library_spelled}
 use Rattle.pl_form.proofs.PlannedLaws.{undo_named}
 use Rattle.pl_form.proofs.SoundLaws.{own_of, made_of, sound, list_spelled}
 

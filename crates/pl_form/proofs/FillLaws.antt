@@ -1,21 +1,20 @@
 -- Forms that are too long, and the bytes of fills.
-use Rattle.std.proofs.Common.{◌≡◌, ℕ, ◌+◌, ◌-◌, ◌^◌, ◌<◌, ◌≤◌, Bool, true, false, List, [], ◌∷◌, ◌++◌, length, map, replicate, Option, Some, None, Result, Ok, Err, refl, sym, ap, subst, ◌∙◌, arith, inl, inr}
-use Rattle.std.specs.Prelude.{◌==◌, not, nat_lt, filter, is_some, min}
-use Rattle.std.specs.List.{All, concat}
-use Rattle.std.proofs.lemmas.Bool.{cases_Bool, eqb-true, lt-ltb, true≢false}
+use Rattle.std.proofs.Common.{◌≡◌, ℕ, ◌+◌, ◌-◌, ◌<◌, ◌≤◌, true, false, List, [], ◌∷◌, ◌++◌, length, map, replicate, Option, Some, None, Err, refl, sym, ap, subst, ◌∙◌, arith, inl, inr}
+use Rattle.std.specs.Prelude.{◌==◌, filter, is_some}
+use Rattle.std.specs.List.{All}
+use Rattle.std.proofs.lemmas.Bool.{cases_Bool, lt-ltb, true≢false}
 use Rattle.std.proofs.lemmas.List.{length-append}
 use Rattle.std.proofs.lemmas.List.Elements.{All-head, All-tail}
 use Rattle.pl_base.specs.Sums.{round_up}
 use Rattle.pl_base.specs.Windows.{Window, ◌⊕◌}
 use Rattle.pl_base.proofs.WindowLaws.{length-⊕}
 use Rattle.pl_elf.specs.declared.segment.Segment.{Segment}
-use Rattle.pl_lists.specs.Conflicts.{conflicts_bytes}
 use Rattle.pl_lists.specs.Lists.{list_strings}
 use Rattle.pl_lists.specs.declared.conflict_row.ConflictRow.{ConflictRow}
 use Rattle.pl_lists.specs.declared.list_row.ListRow.{ListRow}
 use Rattle.pl_object.specs.FilePart.{file_window, loaded_by, loader}
 use Rattle.pl_object.specs.PlaceClauses.{last_load}
-use Rattle.pl_object.specs.Relocations.{place, places, width}
+use Rattle.pl_object.specs.Relocations.{places, width}
 use Rattle.pl_object.specs.declared.object.Object.{Object}
 use Rattle.pl_object.specs.declared.reloc.Reloc.{Reloc}
 use Rattle.pl_object.proofs.AcceptedLaws.{accepted}
@@ -26,13 +25,12 @@ use Rattle.pl_parts.specs.Forms as forms
 use Rattle.pl_parts.specs.Forms.{original_of, undo_part, planned}
 use Rattle.pl_parts.specs.Found.{ss_of, ps_of, places_of, zeros_from}
 use Rattle.pl_parts.specs.Loads.{spot_of, spots_of}
-use Rattle.pl_parts.specs.Parts.{Original, up, joined_size, table_at, program_plan, zeros_part, extension_at, lists_part, extension, whole_extension}
+use Rattle.pl_parts.specs.Parts.{Original, joined_size, program_plan, zeros_part, extension_at, lists_part, extension, whole_extension}
 use Rattle.pl_parts.specs.declared.parts.Extension.{Extension}
 use Rattle.pl_form.specs.Faults.{IsFirm}
 use Rattle.pl_form.specs.Program.{extended, last_index, program_with, stored}
-use Rattle.pl_form.specs.Words.{AreFills, bytes_of, flat_of, window_of, has_place, strings_of, extension_of, digest_in}
+use Rattle.pl_form.specs.Words.{AreFills, flat_of, window_of, has_place, strings_of, extension_of, digest_in}
 use Rattle.pl_form.specs.declared.constants.TheConstants.{STORED}
-use Rattle.pl_form.specs.declared.fault.FormFault.{FormFault}
 use Rattle.pl_form.specs.declared.fault.FormFault.TheVariants.{TooLarge}
 use Rattle.pl_form.specs.declared.file.Fill.{Fill}
 use Rattle.pl_form.specs.declared.version.Version.{Version}

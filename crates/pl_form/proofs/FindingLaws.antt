@@ -1,10 +1,10 @@
 -- Loops over windows and sections, words past the end, and what is put back.
-use Rattle.std.proofs.Common.{◌≡◌, ℕ, zero, suc, ◌+◌, ◌-◌, ◌*◌, ◌^◌, ◌<◌, ◌≤◌, Bool, true, false, List, [], ◌∷◌, ◌++◌, length, get_or, take, drop, refl, sym, ap, ◌∙◌, append_assoc, arith, inl, inr}
-use Rattle.std.specs.Prelude.{◌&&◌, ◌==◌, nat_le, map, filter}
+use Rattle.std.proofs.Common.{◌≡◌, ℕ, ◌+◌, ◌*◌, ◌^◌, ◌<◌, ◌≤◌, List, [], ◌∷◌, ◌++◌, length, get_or, take, drop, refl, sym, ap, ◌∙◌, append_assoc, arith, inl, inr}
+use Rattle.std.specs.Prelude.{◌&&◌, ◌==◌}
 use Rattle.std.proofs.lemmas.Bool.{cases_Bool, and_parts, eqb-true}
 use Rattle.std.proofs.lemmas.List.{append-nil, length-take, drop-drop, get_or-drop}
 use Rattle.pl_base.specs.Bytes.{part, put, word32, word64}
-use Rattle.pl_base.specs.Windows.{Window, within, are_in, end_of, put_all}
+use Rattle.pl_base.specs.Windows.{Window, within, put_all}
 use Rattle.pl_elf.specs.Headers.{header}
 use Rattle.pl_elf.specs.declared.constants.TheConstants.{SHT_SYMTAB}
 use Rattle.pl_elf.specs.declared.header.Header.{Header}
@@ -14,7 +14,7 @@ use Rattle.pl_object.specs.Tables.{symtab_windows, has_kind}
 use Rattle.pl_parts.specs.Back.{all_within, stored}
 use Rattle.pl_parts.specs.Found.{symtab_tables}
 use Rattle.pl_parts.proofs.SizeLaws.{kept_length}
-use Rattle.pl_undo.specs.Section.{undo_bytes, headers_size, fits_kind, are_words, is_digest, has_headers, is_undo, IsUndoOf}
+use Rattle.pl_undo.specs.Section.{headers_size, fits_kind, are_words, is_digest, has_headers, IsUndoOf}
 use Rattle.pl_undo.specs.declared.undo.Undo.{Undo}
 use Rattle.pl_form.specs.Stored.{IsWhole}
 use Rattle.pl_form.proofs.PlaceLaws.{rest_is, rest_none}

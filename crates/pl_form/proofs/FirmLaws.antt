@@ -1,12 +1,12 @@
 -- What having a form says of an accepted original: the premises of the laws of forms.
-use Rattle.std.proofs.Common.{[], ◌∷◌, ◌≡◌, ℕ, zero, suc, ◌+◌, ◌-◌, ◌*◌, ◌<◌, ◌≤◌, Bool, true, false, List, length, Option, Some, None, Result, Ok, refl, sym, subst, ap, ◌∙◌, arith, inl, inr, get_or, drop}
-use Rattle.std.specs.Prelude.{◌||◌, ◌&&◌, ◌==◌, not, nat_lt, fold, if◌then◌else◌, ◌⊎◌}
+use Rattle.std.proofs.Common.{[], ◌∷◌, ◌≡◌, ℕ, ◌+◌, ◌-◌, ◌*◌, ◌<◌, ◌≤◌, Bool, true, false, List, length, Option, Some, None, Result, Ok, refl, sym, subst, ap, ◌∙◌, arith, inl, inr, get_or, drop}
+use Rattle.std.specs.Prelude.{◌||◌, ◌&&◌, ◌==◌, not, nat_lt, fold, if◌then◌else◌}
 use Rattle.std.specs.List.{list_any}
 use Rattle.std.specs.Result.{is_ok}
 use Rattle.std.proofs.lemmas.Bool.{cases_Bool, or_parts, ltb-false, eqb-true, true≢false, false≢true}
 use Rattle.std.proofs.lemmas.List.{length-take}
 use Rattle.pl_base.proofs.AnswerLaws.{refuse_none, unless_ok}
-use Rattle.pl_base.specs.Windows.{Window, within}
+use Rattle.pl_base.specs.Windows.{within}
 use Rattle.pl_elf.specs.Headers.{header, segments, sections, is_load}
 use Rattle.pl_elf.specs.Clauses as elf
 use Rattle.pl_elf.specs.Kinds.{is_library, is_program}

@@ -1,6 +1,5 @@
 -- A form by its definition is a form in the sense of the laws of forms.
-use Rattle.std.proofs.Common.{◌≡◌, ℕ, ◌<◌, ◌^◌, ◌%◌, Bool, true, false, List, length, Option, Some, None, refl, arith}
-use Rattle.pl_base.specs.Windows.{Window}
+use Rattle.std.proofs.Common.{◌≡◌, ℕ, ◌<◌, ◌^◌, ◌%◌, true, List, length, Option, Some, arith}
 use Rattle.pl_elf.specs.Headers.{header}
 use Rattle.pl_elf.specs.Kinds.{is_library, is_program}
 use Rattle.pl_elf.specs.declared.segment.Segment.{Segment}

@@ -1,8 +1,7 @@
 -- What is found in a form by its header: the undo section, the front, and any section.
-use Rattle.std.proofs.Common.{◌≡◌, ℕ, ◌+◌, ◌-◌, ◌*◌, ◌^◌, ◌<◌, ◌≤◌, Bool, true, false, List, [], ◌∷◌, ◌++◌, length, get_or, take, drop, Option, Some, None, refl, sym, ap, ◌∙◌, arith}
+use Rattle.std.proofs.Common.{◌≡◌, ℕ, ◌+◌, ◌-◌, ◌*◌, ◌^◌, ◌<◌, true, List, [], ◌∷◌, ◌++◌, length, get_or, Option, Some, refl, sym, ap, ◌∙◌, arith}
 use Rattle.std.proofs.lemmas.List.{length-append, get_or_append_left}
 use Rattle.pl_base.specs.Bytes.{part}
-use Rattle.pl_base.specs.Windows.{Window, AllIn}
 use Rattle.pl_base.proofs.WindowLaws.{all_in}
 use Rattle.pl_elf.specs.Headers.{header, section, section_at}
 use Rattle.pl_elf.specs.Written.{section_bytes}
@@ -10,13 +9,12 @@ use Rattle.pl_elf.specs.declared.header.Header.{Header}
 use Rattle.pl_elf.specs.declared.section.Section.{Section}
 use Rattle.pl_elf.proofs.WrittenLaws.{section_read}
 use Rattle.pl_undo.specs.declared.undo.Undo.{Undo}
-use Rattle.pl_parts.specs.Back.{when, head_windows, has_undo_section, undo_section, section_part, find_undo, undo_in, front_of, undo_of, inserted}
+use Rattle.pl_parts.specs.Back.{head_windows, has_undo_section, undo_section, section_part, find_undo, undo_in, front_of, undo_of}
 use Rattle.pl_parts.specs.Fits.{Fits}
 use Rattle.pl_parts.specs.Forms.{undo_part, planned}
 use Rattle.pl_parts.specs.Found.{reader}
 use Rattle.pl_parts.specs.Parts.{Original, table_at, table_rows, undo_row, names_row, new_header, front_part, form}
 use Rattle.pl_parts.specs.declared.parts.Plan.{Plan}
-use Rattle.pl_parts.proofs.FileTheorem.{IsForm}
 use Rattle.pl_parts.proofs.FormLaws.{form_split, rest_of, form_header, front_size, row_there, undo_section_is, undo_there, plan_undone}
 use Rattle.pl_parts.proofs.FormTheorem.{IsUndoable}
 use Rattle.pl_parts.proofs.HeadLaws.{section_part as section_by_part}

@@ -1,13 +1,13 @@
 -- How long the form of a library is at most.
-use Rattle.std.proofs.Common.{◌≡◌, ℕ, ◌+◌, ◌*◌, ◌^◌, ◌<◌, ◌≤◌, true, List, [], ◌∷◌, ◌++◌, length, Option, Some, None, refl, sym, ap, ◌∙◌, arith, append_assoc}
+use Rattle.std.proofs.Common.{◌≡◌, ℕ, ◌+◌, ◌*◌, ◌≤◌, true, List, [], ◌∷◌, ◌++◌, length, Option, refl, ◌∙◌, arith}
 use Rattle.std.specs.List.{AllByRecursion}
 use Rattle.std.proofs.lemmas.List.{length-append}
-use Rattle.pl_base.specs.Windows.{Window, IsApart, any_share}
+use Rattle.pl_base.specs.Windows.{Window, IsApart}
 use Rattle.pl_base.proofs.WindowLaws.{AreAllApart, all_in, apart_turned, none_share}
 use Rattle.pl_base.proofs.WordLaws.{length_bytes32}
 use Rattle.pl_elf.specs.Headers.{header}
 use Rattle.pl_elf.specs.Kinds.{is_library}
-use Rattle.pl_lists.specs.Lists.{list_strings, list_bytes, row_bytes, after}
+use Rattle.pl_lists.specs.Lists.{list_bytes, row_bytes, after}
 use Rattle.pl_lists.specs.declared.list_row.ListRow.{ListRow}
 use Rattle.pl_object.specs.Tables.{main_windows}
 use Rattle.pl_object.specs.declared.object.Object.{Object}
@@ -17,7 +17,7 @@ use Rattle.pl_parts.proofs.FrontLaws.{AllAway}
 use Rattle.pl_parts.proofs.KindLaws.{library_fits}
 use Rattle.pl_parts.proofs.WholeTheorem.{taken}
 use Rattle.pl_parts.proofs.LoadFacts.{apart_of}
-use Rattle.pl_parts.proofs.ReaderLaws.{IsAccepted, all_clear, readable}
+use Rattle.pl_parts.proofs.ReaderLaws.{all_clear, readable}
 use Rattle.pl_parts.proofs.SizeLaws.{undo_most, library_most}
 use Rattle.pl_parts.specs.Back.{head_windows, spot_windows, undo_of, wanted}
 use Rattle.pl_parts.specs.Fits.{Fits}

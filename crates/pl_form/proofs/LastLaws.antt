@@ -1,13 +1,12 @@
 -- The last PT_LOAD, found from the last segment on.
-use Rattle.std.proofs.Common.{◌≡◌, ℕ, zero, suc, ◌+◌, ◌≤◌, ◌<◌, Bool, true, false, List, [], ◌∷◌, length, get_or, drop, Option, Some, None, refl, sym, ap, subst, ◌∙◌, arith, inl, inr, add-one}
-use Rattle.std.specs.Prelude.{◌||◌, fold, if◌then◌else◌}
+use Rattle.std.proofs.Common.{◌≡◌, ℕ, zero, suc, ◌+◌, ◌≤◌, ◌<◌, true, false, List, [], ◌∷◌, length, get_or, drop, Some, None, refl, sym, ap, subst, ◌∙◌, arith, inl, inr, add-one}
+use Rattle.std.specs.Prelude.{fold, if◌then◌else◌}
 use Rattle.std.specs.List.{list_any}
-use Rattle.std.proofs.lemmas.Bool.{cases_Bool, or_parts, or_from, true≢false}
+use Rattle.std.proofs.lemmas.Bool.{cases_Bool, or_from}
 use Rattle.pl_elf.specs.Headers.{is_load}
 use Rattle.pl_elf.specs.declared.segment.Segment.{Segment}
 use Rattle.pl_object.specs.PlaceClauses.{last_load}
 use Rattle.pl_form.specs.Program.{last_index, with_index, find_last}
-use Rattle.pl_form.specs.declared.program.Last.{Last}
 use Rattle.pl_form.proofs.PlaceLaws.{rest_is, rest_none}
 use Rattle.pl_form.proofs.FirmLaws.{latest, fold_found}
 

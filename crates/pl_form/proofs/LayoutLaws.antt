@@ -1,13 +1,13 @@
 -- The layout of an original, and the bytes at its places.
-use Rattle.std.proofs.Common.{inl, inr, zero, ◌≡◌, ℕ, suc, ◌+◌, ◌-◌, ◌*◌, ◌≤◌, ◌<◌, List, [], ◌∷◌, ◌++◌, length, get_or, take, drop, replicate, Option, Some, None, refl, sym, ap, ◌∙◌, append_assoc, arith, add-one}
-use Rattle.std.specs.Prelude.{unwrap_or, slice_get, min, ◌⊎◌}
+use Rattle.std.proofs.Common.{inl, inr, zero, ◌≡◌, ℕ, suc, ◌+◌, ◌-◌, ◌≤◌, ◌<◌, List, [], ◌∷◌, ◌++◌, length, get_or, take, drop, replicate, Option, Some, None, refl, sym, ap, ◌∙◌, append_assoc, arith, add-one}
+use Rattle.std.specs.Prelude.{min}
 use Rattle.std.proofs.lemmas.Bool.{cases_lt}
 use Rattle.std.proofs.lemmas.List.{append-nil, length-append, length-take, length-replicate}
 use Rattle.pl_base.specs.Bytes.{part, bytes64}
 use Rattle.pl_base.specs.Windows.{Window, within, AllIn}
 use Rattle.pl_base.proofs.WordLaws.{length_bytes64}
 use Rattle.pl_base.proofs.WindowLaws.{length-part}
-use Rattle.pl_elf.specs.Headers.{header, segments, sections}
+use Rattle.pl_elf.specs.Headers.{segments, sections}
 use Rattle.pl_elf.specs.declared.segment.Segment.{Segment}
 use Rattle.pl_elf.specs.declared.section.Section.{Section}
 use Rattle.pl_dyn.specs.Entries.{tags}
@@ -20,7 +20,6 @@ use Rattle.pl_parts.specs.Back.{all_within, spot_windows, wanted}
 use Rattle.pl_parts.specs.Found.{dynamic_in, moved_tables, row_windows, places_by, zeros_from, ss_of, secs_of, d_of, tags_of, rs_of, ps_of}
 use Rattle.pl_parts.specs.Forms.{original_of}
 use Rattle.pl_parts.specs.Loads.{spots_of}
-use Rattle.pl_parts.specs.Parts.{Original}
 use Rattle.pl_parts.specs.declared.parts.Spot.{Spot}
 use Rattle.pl_form.specs.Words.{filled, all_filled, word_at}
 use Rattle.pl_form.specs.Originals.{original}

@@ -1,15 +1,15 @@
 -- How long the undo section and the form of a library are, before there is a form.
-use Rattle.std.proofs.Common.{[], ◌∷◌, ◌++◌, ◌≡◌, ℕ, ◌+◌, ◌-◌, ◌*◌, ◌/◌, ◌^◌, ◌<◌, ◌≤◌, Bool, true, false, List, length, take, drop, map, Option, Some, None, Result, Ok, refl, sym, subst, ap, ◌∙◌, arith, inl, inr}
+use Rattle.std.proofs.Common.{[], ◌∷◌, ◌++◌, ◌≡◌, ℕ, ◌+◌, ◌*◌, ◌^◌, ◌<◌, ◌≤◌, Bool, true, false, List, length, drop, Option, Result, Ok, refl, sym, subst, ap, ◌∙◌, arith, inl, inr}
 use Rattle.std.specs.Prelude.{◌||◌, ◌&&◌, ◌==◌, not}
 use Rattle.std.specs.List.{list_any}
 use Rattle.std.specs.Result.{is_ok}
 use Rattle.std.proofs.lemmas.Bool.{cases_Bool, or_parts, ltb-false, eqb-true, true≢false}
-use Rattle.std.proofs.lemmas.List.{length-append, length-take, length-drop, length-map}
+use Rattle.std.proofs.lemmas.List.{length-append, length-take, length-drop}
 use Rattle.pl_base.proofs.AnswerLaws.{refuse_none, bind_ok}
 use Rattle.pl_base.proofs.WindowLaws.{length-within, all_in}
 use Rattle.pl_base.specs.Windows.{Window, within, any_share, AllIn}
 use Rattle.pl_elf.specs.Clauses.{section_data}
-use Rattle.pl_elf.specs.Headers.{header, section, sections}
+use Rattle.pl_elf.specs.Headers.{header, section}
 use Rattle.pl_elf.specs.Kinds.{is_library}
 use Rattle.pl_elf.specs.declared.constants.TheConstants.{ET_EXEC}
 use Rattle.pl_elf.specs.declared.header.Header.{Header}
@@ -17,11 +17,11 @@ use Rattle.pl_elf.specs.declared.section.Section.{Section}
 use Rattle.pl_elf.specs.declared.segment.Segment.{Segment}
 use Rattle.pl_dyn.specs.declared.tags.Tag.{Tag}
 use Rattle.pl_sym.specs.declared.symbol.Symbol.{Symbol}
-use Rattle.pl_object.specs.Accepted.{Accepted, is_exec}
+use Rattle.pl_object.specs.Accepted.{is_exec}
 use Rattle.pl_object.specs.FilePart.{file_window, in_file_part}
 use Rattle.pl_object.specs.PlaceClauses.{last_load, is_in_memory, is_held, reloc_outside, reloc_overlap, check_relocs, misplaced_copy}
 use Rattle.pl_object.specs.SymbolClauses.{check_symbols, has_ifunc}
-use Rattle.pl_object.specs.Reads.{reads, headers, static_object, object, layout, check, check_rest, too_large, is_pie}
+use Rattle.pl_object.specs.Reads.{reads, headers, layout, check, check_rest, too_large, is_pie}
 use Rattle.pl_object.specs.Relocations.{places}
 use Rattle.pl_object.specs.Tables.{sections_window}
 use Rattle.pl_object.specs.declared.object.Object.{Object}
@@ -36,14 +36,13 @@ use Rattle.pl_parts.proofs.LoadFacts.{apart_of}
 use Rattle.pl_parts.proofs.ReaderLaws.{IsAccepted, readable}
 use Rattle.pl_parts.proofs.SizeLaws.{total, apart_fit, undo_length}
 use Rattle.pl_parts.proofs.UndoLaws.{length-headers}
-use Rattle.pl_parts.specs.Back.{head_windows, spot_windows, memory_of, wanted, headers_of, undo_of}
+use Rattle.pl_parts.specs.Back.{head_windows, spot_windows, memory_of, wanted, undo_of}
 use Rattle.pl_parts.specs.Forms.{original_of, undo_part}
 use Rattle.pl_parts.specs.Found.{ss_of, d_of, ps_of, places_of, zeros_from}
 use Rattle.pl_parts.specs.Law.{IsDigest}
 use Rattle.pl_parts.specs.Loads.{spot_of, spots_of}
-use Rattle.pl_parts.specs.Parts.{up, joined_size, old_names, names_part, table_at, library_plan}
+use Rattle.pl_parts.specs.Parts.{joined_size, old_names, names_part, table_at, library_plan}
 use Rattle.pl_parts.specs.declared.parts.Listed.{Listed}
-use Rattle.pl_parts.specs.declared.parts.Spot.{Spot}
 use Rattle.pl_form.specs.Faults.{IsFirm}
 use Rattle.pl_form.proofs.FirmLaws.{library_three}
 

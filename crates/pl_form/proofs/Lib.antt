@@ -23,6 +23,8 @@ pub mod FindingLaws
 pub mod ReadFileLaws
 pub mod PlannedLaws
 pub mod FilesLaws
+pub mod BytesLaws
+pub mod PieceLaws
 pub mod BackLaws
 pub mod FormWithLaws
 pub mod ReadLaws

@@ -1,22 +1,22 @@
 -- What is read of a library's form: its list and its stamp.
-use Rattle.std.proofs.Common.{◌≡◌, ℕ, ◌+◌, ◌-◌, ◌*◌, ◌/◌, ◌%◌, ◌^◌, ◌<◌, ◌≤◌, Bool, true, false, List, [], ◌∷◌, ◌++◌, length, get_or, take, drop, Option, Some, None, refl, sym, ap, subst, ◌∙◌, arith, inl, inr}
+use Rattle.std.proofs.Common.{◌≡◌, ℕ, ◌+◌, ◌-◌, ◌*◌, ◌^◌, ◌<◌, ◌≤◌, List, [], ◌∷◌, ◌++◌, length, get_or, sym, ap, subst, ◌∙◌, arith, inl, inr}
 use Rattle.std.specs.Prelude.{◌⊎◌, map}
 use Rattle.std.specs.List.{concat}
-use Rattle.std.proofs.lemmas.List.{length-append, length-map, get_or-append-add, append-nil}
+use Rattle.std.proofs.lemmas.List.{length-append, get_or-append-add, append-nil}
 use Rattle.pl_base.specs.Bytes.{part, put, word64, bytes64}
-use Rattle.pl_base.specs.Windows.{Window, within, AllIn, IsApart, AreApart}
+use Rattle.pl_base.specs.Windows.{within}
 use Rattle.pl_base.proofs.WordLaws.{length_bytes64, word64_part, word64_front, word64_behind, word64_back}
-use Rattle.pl_base.proofs.WindowLaws.{length-put, part_apart, within_put, all_in}
+use Rattle.pl_base.proofs.WindowLaws.{part_apart, within_put, all_in}
 use Rattle.pl_elf.specs.Headers.{header, section, sections}
 use Rattle.pl_elf.specs.Written.{header_bytes, segment_bytes}
 use Rattle.pl_elf.specs.declared.section.Section.{Section}
-use Rattle.pl_move.specs.Moves.{rows, row_moved}
+use Rattle.pl_move.specs.Moves.{rows}
 use Rattle.pl_parts.specs.Back.{head_windows, section_part, inserted}
 use Rattle.pl_parts.specs.Fits.{Fits}
-use Rattle.pl_parts.specs.Parts.{Original, up, joined, joined_size, plain, with_rows, old_names, names_part, table_part, table_at, entry_bytes, library_entries, library_dynamic, with_entries, tags_moved, list_sections, moved_section, library_sections, library_plan, new_header, moved_part, under_segments, under_header, front_part, form}
+use Rattle.pl_parts.specs.Parts.{Original, up, joined, joined_size, plain, with_rows, old_names, names_part, table_part, table_at, entry_bytes, library_entries, list_sections, moved_section, library_sections, library_plan, new_header, moved_part, under_segments, under_header, front_part, form}
 use Rattle.pl_parts.specs.declared.parts.Listed.{Listed}
 use Rattle.pl_parts.specs.declared.parts.Plan.{Plan}
-use Rattle.pl_parts.proofs.FormLaws.{new_length, front_size, length-moved_part, length-under_segments, length-under_header, segments_room, segments_length}
+use Rattle.pl_parts.proofs.FormLaws.{new_length, front_size, length-moved_part, length-under_header, segments_room, segments_length}
 use Rattle.pl_parts.proofs.PartsLaws.{part_next, length-inserted}
 use Rattle.pl_form.proofs.FoundLaws.{SectionFits, section_before}
 

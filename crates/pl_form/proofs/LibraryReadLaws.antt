@@ -1,28 +1,24 @@
 -- All that is read of a library's form, by its original, slot, stamp, list and version.
-use Rattle.std.proofs.Common.{◌≡◌, ℕ, ◌+◌, ◌-◌, ◌*◌, ◌/◌, ◌%◌, ◌^◌, ◌<◌, ◌≤◌, Bool, true, false, List, [], ◌∷◌, ◌++◌, length, Option, Some, None, refl, sym, ap, subst, ◌∙◌, arith}
+use Rattle.std.proofs.Common.{◌≡◌, ℕ, ◌+◌, ◌*◌, ◌%◌, ◌^◌, ◌<◌, ◌≤◌, List, [], ◌∷◌, ◌++◌, length, Option, Some, refl, ap, ◌∙◌, arith}
 use Rattle.std.proofs.Math.Nat.{mod-eq_of_lt}
-use Rattle.pl_base.specs.Bytes.{part, put, word64}
-use Rattle.pl_base.specs.Windows.{Window, within, AllIn}
-use Rattle.pl_base.proofs.WordLaws.{word64_part}
+use Rattle.pl_base.specs.Bytes.{put, word64}
+use Rattle.pl_base.specs.Windows.{within}
 use Rattle.pl_base.proofs.WindowLaws.{length-within, all_in}
 use Rattle.pl_elf.specs.Headers.{header}
-use Rattle.pl_move.specs.Moves.{rows, row_moved}
+use Rattle.pl_move.specs.Moves.{row_moved}
 use Rattle.pl_move.specs.declared.kind.RowKind.TheVariants.{TagValue}
 use Rattle.pl_move.proofs.MoveLaws.{length-rows, length-row_moved}
 use Rattle.pl_object.specs.PlaceClauses.{last_load}
 use Rattle.pl_object.specs.declared.object.Object.{Object}
 use Rattle.pl_parts.specs.Back.{head_windows, find_undo, front_of}
-use Rattle.pl_parts.specs.Fits.{Fits}
 use Rattle.pl_parts.specs.Forms.{original_of, undo_part, planned, library_form}
-use Rattle.pl_parts.specs.Found.{reader, ss_of, d_of, tags_of, ps_of}
+use Rattle.pl_parts.specs.Found.{ss_of, d_of, tags_of}
 use Rattle.pl_parts.specs.Law.{FormsLibrary}
-use Rattle.pl_parts.specs.Parts.{Original, library_entries, library_dynamic, library_plan, with_entries, tags_moved, front_part, form}
+use Rattle.pl_parts.specs.Parts.{Original, library_entries, library_dynamic, library_plan, with_entries, tags_moved, front_part}
 use Rattle.pl_parts.specs.declared.parts.Listed.{Listed}
-use Rattle.pl_parts.specs.declared.parts.Plan.{Plan}
 use Rattle.pl_undo.specs.declared.undo.Undo.{Undo}
 use Rattle.pl_parts.proofs.FinalTheorem.{library_conditions}
-use Rattle.pl_parts.proofs.FormTheorem.{IsUndoable}
-use Rattle.pl_parts.proofs.WholeTheorem.{IsLibrary, library_is}
+use Rattle.pl_parts.proofs.WholeTheorem.{library_is}
 use Rattle.pl_form.specs.Reading.{section_bytes, places_in, stamp_in, zeros_behind}
 use Rattle.pl_form.proofs.FoundLaws.{undo_by, undo_found, front_is}
 use Rattle.pl_form.proofs.LibraryLaws.{dynamic_there, stamp_of, strings_there, rows_there}

@@ -1,13 +1,12 @@
 -- What lies in a file that clauses 1 to 8 accept.
-use Rattle.std.proofs.Common.{◌≡◌, ℕ, ◌+◌, ◌*◌, ◌<◌, ◌≤◌, Bool, true, false, List, [], ◌∷◌, length, Result, Ok, ap, arith}
+use Rattle.std.proofs.Common.{◌≡◌, ℕ, ◌+◌, ◌*◌, ◌<◌, ◌≤◌, Bool, true, false, List, [], ◌∷◌, length, Ok, arith}
 use Rattle.std.specs.Prelude.{◌||◌, ◌&&◌, ◌==◌, not, nat_lt, nat_le}
 use Rattle.std.specs.List.{list_any}
 use Rattle.std.specs.Result.{is_ok}
 use Rattle.std.proofs.lemmas.Bool.{or_parts, leb-false, ltb-false}
 use Rattle.pl_base.proofs.AnswerLaws.{refuse_none}
-use Rattle.pl_base.specs.Bytes.{byte}
 use Rattle.pl_base.specs.Strings.{has_end}
-use Rattle.pl_elf.specs.Headers.{header, segments, sections, section_offset, HasSegments, HasSections}
+use Rattle.pl_elf.specs.Headers.{header, segments, sections, HasSegments, HasSections}
 use Rattle.pl_elf.specs.Clauses as elf
 use Rattle.pl_form.specs.Stored.{LieIn}
 use Rattle.pl_elf.specs.declared.header.Header.{Header}

@@ -1,27 +1,24 @@
 -- How what a file is made of is told, step by step.
-use Rattle.std.proofs.Common.{◌≡◌, ℕ, ◌+◌, ◌*◌, ◌<◌, ◌≤◌, Bool, true, false, List, [], length, Option, Some, None, Result, Ok, refl, sym, ap, subst, ◌∙◌, arith}
-use Rattle.std.specs.Prelude.{◌&&◌, ◌==◌, nat_le, if◌then◌else◌}
+use Rattle.std.proofs.Common.{◌≡◌, ℕ, ◌<◌, ◌≤◌, Bool, true, false, List, [], length, Option, Some, None, Ok, refl, sym, ap, subst, ◌∙◌, arith}
 use Rattle.pl_elf.specs.Kinds.{is_library}
 use Rattle.pl_elf.specs.declared.segment.Segment.{Segment}
-use Rattle.pl_object.specs.Accepted.{Accepted, HasHead}
+use Rattle.pl_object.specs.Accepted.{HasHead}
 use Rattle.pl_object.specs.PlaceClauses.{last_load}
 use Rattle.pl_object.specs.Reads.{reads}
 use Rattle.pl_object.specs.declared.object.Object.{Object}
 use Rattle.pl_object.proofs.AcceptedLaws.{accepted}
-use Rattle.pl_parts.specs.Back.{has_undo_section, find_undo, restored, front_of}
+use Rattle.pl_parts.specs.Back.{front_of}
 use Rattle.pl_parts.specs.Forms.{original_of}
-use Rattle.pl_parts.specs.Found.{reader, ss_of, ps_of}
+use Rattle.pl_parts.specs.Found.{ss_of, ps_of}
 use Rattle.pl_parts.specs.Parts.{Original}
 use Rattle.pl_parts.specs.declared.parts.Spot.{Spot}
 use Rattle.pl_parts.proofs.AcceptedIs.{segments_are}
 use Rattle.pl_undo.specs.declared.undo.Undo.{Undo}
 use Rattle.pl_form.specs.Originals.{original}
 use Rattle.pl_lists.specs.Conflicts.{ascend, are_conflicts}
-use Rattle.pl_lists.specs.Lists.{list_strings}
 use Rattle.pl_lists.specs.declared.conflict_row.ConflictRow.{ConflictRow}
 use Rattle.pl_lists.specs.declared.list_row.ListRow.{ListRow}
-use Rattle.pl_form.specs.Reading.{IsOwn, OwnIfAny, IsSpelledList, ListIfAny, AreSpelled, SpelledIfAny, with_conflicts, firm_object, lists_in, candidate, standing, zeros_behind, places_in, is_form, checked, marked_by, marked_of, IsMade, IsLayoutOf}
-use Rattle.pl_form.specs.declared.constants.TheConstants.{STORED}
+use Rattle.pl_form.specs.Reading.{IsOwn, OwnIfAny, IsSpelledList, ListIfAny, AreSpelled, SpelledIfAny, with_conflicts, firm_object, lists_in, candidate, standing, zeros_behind, places_in, is_form, checked, marked_by, IsMade, IsLayoutOf}
 use Rattle.pl_form.specs.declared.file.Marked.{Marked}
 use Rattle.pl_form.specs.declared.layout.Layout.{Layout}
 use Rattle.pl_form.specs.declared.read.Lists.{Lists}

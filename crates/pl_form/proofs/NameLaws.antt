@@ -3,7 +3,7 @@ use Rattle.std.proofs.Common.{◌≡◌, ℕ, ◌+◌, ◌-◌, ◌≤◌, ◌<�
 use Rattle.std.specs.Prelude.{nat_lt}
 use Rattle.std.proofs.lemmas.Bool.{lt-ltb, le-ltb}
 use Rattle.std.proofs.lemmas.List.{length-append}
-use Rattle.pl_lists.specs.Lists.{list_strings, ended_name}
+use Rattle.pl_lists.specs.Lists.{list_strings}
 use Rattle.pl_lists.specs.declared.list_row.ListRow.{ListRow}
 use Rattle.pl_form.specs.declared.constants.TheConstants.{STORED}
 use Rattle.pl_form.proofs.PlaceLaws.{rest_is, rest_none}

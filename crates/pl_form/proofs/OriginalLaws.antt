@@ -1,16 +1,15 @@
 -- What acceptance says of an original's dynamic table and its places.
-use Rattle.std.proofs.Common.{◌≡◌, ℕ, zero, suc, ◌+◌, ◌-◌, ◌*◌, ◌/◌, ◌%◌, ◌^◌, ◌<◌, ◌≤◌, Bool, true, false, List, [], ◌∷◌, ◌++◌, length, Option, Some, None, Result, Ok, refl, sym, ap, subst, ◌∙◌, arith, inl, inr}
-use Rattle.std.specs.Prelude.{◌⊎◌, ◌||◌, ◌&&◌, ◌==◌, not, is_some}
+use Rattle.std.proofs.Common.{◌≡◌, ℕ, ◌+◌, ◌*◌, ◌<◌, ◌≤◌, Bool, true, false, List, [], ◌∷◌, length, sym, ap, subst, ◌∙◌, arith, inl, inr}
+use Rattle.std.specs.Prelude.{◌⊎◌, ◌||◌, ◌==◌, not, is_some}
 use Rattle.std.specs.List.{list_any}
 use Rattle.std.proofs.lemmas.Bool.{cases_Bool, and_parts, or_parts, eqb-true, false≢true, not-false}
 use Rattle.pl_base.specs.Windows.{Window, any_share, AreApart}
 use Rattle.pl_base.proofs.WindowLaws.{none_share}
-use Rattle.pl_elf.specs.Headers.{header, segments, segment_of_kind}
-use Rattle.pl_elf.specs.Kinds.{is_static}
+use Rattle.pl_elf.specs.Headers.{header, segment_of_kind}
 use Rattle.pl_elf.specs.declared.constants.TheConstants.{PT_DYNAMIC}
 use Rattle.pl_elf.specs.declared.header.Header.{Header}
 use Rattle.pl_elf.specs.declared.segment.Segment.{Segment}
-use Rattle.pl_object.specs.Accepted.{Accepted, is_exec}
+use Rattle.pl_object.specs.Accepted.{is_exec}
 use Rattle.pl_object.specs.FilePart.{in_file_part, file_window}
 use Rattle.pl_object.specs.PlaceClauses.{is_held, reloc_outside, reloc_overlap}
 use Rattle.pl_object.specs.Relocations.{places}
@@ -22,7 +21,6 @@ use Rattle.pl_parts.specs.Forms.{original_of}
 use Rattle.pl_parts.specs.Found.{ss_of, secs_of, d_of, tags_of, places_of, ps_of}
 use Rattle.pl_parts.specs.Law.{IsOriginal}
 use Rattle.pl_parts.specs.Loads.{spot_of, spots_of}
-use Rattle.pl_parts.specs.declared.parts.Spot.{Spot}
 use Rattle.pl_parts.proofs.AcceptedIs.{segments_are, places_are, named_of}
 use Rattle.pl_parts.proofs.FillLaws.{Apart}
 use Rattle.pl_parts.proofs.KindLaws.{segment_count}

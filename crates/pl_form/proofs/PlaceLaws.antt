@@ -1,8 +1,8 @@
 -- Loops over places, and over parts.
-use Rattle.std.proofs.Common.{◌≡◌, ℕ, suc, ◌+◌, ◌-◌, ◌*◌, ◌≤◌, ◌<◌, List, [], ◌∷◌, ◌++◌, length, get_or, drop, take, replicate, refl, sym, ap, ◌∙◌, append_assoc, arith, drop-cons, add-one}
+use Rattle.std.proofs.Common.{◌≡◌, ℕ, ◌+◌, ◌≤◌, ◌<◌, List, [], ◌∷◌, ◌++◌, length, get_or, drop, take, replicate, sym, ap, ◌∙◌, append_assoc, arith, drop-cons, add-one}
 use Rattle.std.proofs.lemmas.List.{length-take, drop_all, append-nil}
 use Rattle.pl_base.specs.Bytes.{part, put}
-use Rattle.pl_base.specs.Windows.{IsIn, AllIn, put_all, ◌⊕◌}
+use Rattle.pl_base.specs.Windows.{AllIn, put_all, ◌⊕◌}
 use Rattle.pl_base.proofs.WindowLaws.{length-put}
 use Rattle.pl_parts.specs.Back.{spot_windows, visible, memory_of}
 use Rattle.pl_parts.specs.Parts.{joined}

@@ -1,11 +1,10 @@
 -- The plan of a program's form, from its parts.
-use Rattle.std.proofs.Common.{◌≡◌, ℕ, ◌+◌, ◌-◌, ◌*◌, ◌^◌, ◌<◌, ◌≤◌, false, List, [], ◌∷◌, ◌++◌, length, map, refl, sym, ap, ◌∙◌, arith}
+use Rattle.std.proofs.Common.{◌≡◌, ℕ, ◌+◌, ◌^◌, ◌<◌, false, List, [], ◌++◌, length, map, refl, sym, ap, ◌∙◌, arith}
 use Rattle.std.specs.List.{list_any}
 use Rattle.std.proofs.lemmas.List.{length-map}
 use Rattle.pl_base.specs.Windows.{within}
 use Rattle.pl_elf.specs.Clauses.{section_passes}
 use Rattle.pl_elf.specs.Headers.{header, sections, segments}
-use Rattle.pl_elf.specs.declared.header.Header.{Header}
 use Rattle.pl_elf.specs.declared.section.Section.{Section}
 use Rattle.pl_elf.specs.declared.segment.Segment.{Segment}
 use Rattle.pl_object.specs.Accepted.{HasHead}
@@ -22,7 +21,6 @@ use Rattle.pl_form.specs.Faults.{cut_of}
 use Rattle.pl_form.specs.Originals.{original}
 use Rattle.pl_form.specs.declared.layout.Layout.{Layout}
 use Rattle.pl_form.specs.declared.program.Last.{Last}
-use Rattle.pl_form.specs.declared.program.Shift.{Shift}
 use Rattle.pl_form.proofs.ProgramLaws.{segments_are, sections_are, low_files, low_sections}
 use Rattle.pl_form.proofs.ProgramLengthLaws.{extension_short, whole_short}
 

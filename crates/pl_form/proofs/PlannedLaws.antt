@@ -1,7 +1,7 @@
 -- A form of either kind by its plan: the name of its undo section, and its program headers.
-use Rattle.std.proofs.Common.{◌≡◌, ℕ, zero, suc, ◌+◌, ◌-◌, ◌*◌, ◌/◌, ◌^◌, ◌<◌, ◌≤◌, Bool, true, false, List, [], ◌∷◌, ◌++◌, length, get_or, drop, Option, Some, None, refl, sym, ap, subst, ◌∙◌, append_assoc, arith, inl, inr}
-use Rattle.std.specs.Prelude.{◌⊎◌, ◌&&◌, ◌==◌, map, nat_le, nat_lt, nat_eq}
-use Rattle.std.specs.List.{All, AllZip, list_any, starts_with, concat}
+use Rattle.std.proofs.Common.{◌≡◌, ℕ, zero, suc, ◌+◌, ◌-◌, ◌*◌, ◌^◌, ◌<◌, ◌≤◌, true, List, [], ◌∷◌, ◌++◌, length, get_or, drop, Some, refl, sym, ap, subst, ◌∙◌, append_assoc, arith, inl, inr}
+use Rattle.std.specs.Prelude.{◌&&◌, map, nat_le, nat_lt, nat_eq}
+use Rattle.std.specs.List.{All, AllZip, starts_with}
 use Rattle.std.proofs.lemmas.Bool.{cases_Bool, eqb-true, true≢false}
 use Rattle.std.proofs.lemmas.List.{length-append, drop_at, get_or-append-add}
 use Rattle.std.proofs.lemmas.List.Elements.{All-head, All-tail}
@@ -10,7 +10,6 @@ use Rattle.std.proofs.lemmas.List.FromFn.{get_or-map-range_with_len}
 use Rattle.pl_base.specs.Bytes.{part}
 use Rattle.pl_elf.specs.Clauses.{names, section_data}
 use Rattle.pl_elf.specs.Headers.{header, is_load, is_moved_kind, loads, section, section_at, sections}
-use Rattle.pl_elf.specs.Kinds.{is_library}
 use Rattle.pl_elf.specs.Written.{section_bytes}
 use Rattle.pl_elf.specs.declared.header.Header.{Header}
 use Rattle.pl_elf.specs.declared.section.Section.{Section}
@@ -19,20 +18,18 @@ use Rattle.pl_elf.proofs.AcceptedLaws.{LoadFits, loads_fit}
 use Rattle.pl_elf.proofs.WrittenLaws.{section_read}
 use Rattle.pl_object.specs.PlaceClauses.{last_load}
 use Rattle.pl_object.specs.Reads.{span}
-use Rattle.pl_object.specs.declared.object.Object.{Object}
 use Rattle.pl_object.proofs.AcceptedLaws.{accepted}
 use Rattle.pl_object.proofs.SpanLaws.{Ends, span_ends}
 use Rattle.pl_parts.specs.Back.{undo_section}
 use Rattle.pl_parts.specs.Fits.{Fits}
-use Rattle.pl_parts.specs.Forms as forms
 use Rattle.pl_parts.specs.Forms.{undo_part, planned, original_of}
 use Rattle.pl_parts.specs.Found.{ss_of, secs_of}
 use Rattle.pl_parts.specs.Law.{HasTable}
-use Rattle.pl_parts.specs.Parts.{Original, old_names, names_part, names_at, table_at, table_rows, undo_row, names_row, new_header, form, moved_segment, extended_segment, shifted_segment, program_segments, extension, whole_extension, library_plan, program_plan}
+use Rattle.pl_parts.specs.Parts.{Original, old_names, names_part, table_at, table_rows, undo_row, names_row, new_header, form, moved_segment, extended_segment, shifted_segment, program_segments, extension, library_plan, program_plan}
 use Rattle.pl_parts.specs.declared.constants.TheConstants.{UNDO_NAME, NAMES_NAME}
 use Rattle.pl_parts.specs.declared.parts.Plan.{Plan}
 use Rattle.pl_parts.proofs.AcceptedIs.{segments_are}
-use Rattle.pl_parts.proofs.FinalTheorem.{library_conditions, program_conditions, inside}
+use Rattle.pl_parts.proofs.FinalTheorem.{library_conditions, program_conditions}
 use Rattle.pl_parts.proofs.FormLaws.{form_header, names_there, row_there, undo_section_is}
 use Rattle.pl_parts.proofs.FormTheorem.{all_small}
 use Rattle.pl_parts.proofs.HeadLaws.{section_part as section_by_part}

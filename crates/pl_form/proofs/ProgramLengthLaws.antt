@@ -1,5 +1,5 @@
 -- How long the undo section and the form of a program are, before there is a form.
-use Rattle.std.proofs.Common.{[], ◌∷◌, ◌++◌, ◌≡◌, ℕ, ◌+◌, ◌-◌, ◌*◌, ◌^◌, ◌<◌, ◌≤◌, Bool, true, false, List, length, replicate, Option, Some, None, refl, sym, subst, ap, ◌∙◌, arith}
+use Rattle.std.proofs.Common.{[], ◌∷◌, ◌++◌, ◌≡◌, ℕ, ◌+◌, ◌-◌, ◌^◌, ◌<◌, ◌≤◌, false, List, length, replicate, Option, Some, refl, sym, subst, ap, ◌∙◌, arith}
 use Rattle.std.specs.Prelude.{not}
 use Rattle.std.specs.List.{list_any, AllByRecursion}
 use Rattle.std.proofs.lemmas.List.{length-append, length-replicate}
@@ -7,10 +7,9 @@ use Rattle.pl_base.proofs.WindowLaws.{length-⊕}
 use Rattle.pl_base.specs.Sums.{round_up}
 use Rattle.pl_base.specs.Windows.{Window, AllIn, ◌⊕◌}
 use Rattle.pl_elf.specs.Clauses.{AreLoads}
-use Rattle.pl_elf.specs.Headers.{header, loads, is_load}
-use Rattle.pl_elf.specs.Kinds.{is_program}
+use Rattle.pl_elf.specs.Headers.{loads}
 use Rattle.pl_elf.specs.declared.segment.Segment.{Segment}
-use Rattle.pl_object.specs.Accepted.{Accepted, is_exec}
+use Rattle.pl_object.specs.Accepted.{is_exec}
 use Rattle.pl_object.specs.PlaceClauses.{is_held, last_load, reloc_outside}
 use Rattle.pl_object.specs.Relocations.{places}
 use Rattle.pl_object.specs.declared.object.Object.{Object}

@@ -1,7 +1,7 @@
 -- What is read of a program's form: its lists.
-use Rattle.std.proofs.Common.{◌≡◌, ℕ, ◌+◌, ◌-◌, ◌*◌, ◌/◌, ◌%◌, ◌^◌, ◌<◌, ◌≤◌, Bool, true, false, List, [], ◌∷◌, ◌++◌, length, get_or, take, drop, replicate, refl, sym, ap, subst, ◌∙◌, arith}
+use Rattle.std.proofs.Common.{◌≡◌, ℕ, ◌+◌, ◌-◌, ◌^◌, ◌<◌, ◌≤◌, List, [], ◌∷◌, ◌++◌, length, get_or, replicate, refl, sym, ap, subst, ◌∙◌, arith}
 use Rattle.std.specs.Prelude.{map}
-use Rattle.std.proofs.lemmas.List.{length-append, length-map, length-replicate, get_or-append-add}
+use Rattle.std.proofs.lemmas.List.{length-append, length-replicate, get_or-append-add}
 use Rattle.pl_base.specs.Bytes.{part}
 use Rattle.pl_base.specs.Sums.{round_up}
 use Rattle.pl_base.specs.Windows.{AllIn, ◌⊕◌}
@@ -9,13 +9,12 @@ use Rattle.pl_base.proofs.WindowLaws.{length-⊕, part_front, part_behind, part_
 use Rattle.pl_elf.specs.Headers.{header, section, sections}
 use Rattle.pl_elf.specs.declared.section.Section.{Section}
 use Rattle.pl_elf.specs.declared.segment.Segment.{Segment}
-use Rattle.pl_parts.specs.Back.{section_part, wanted, inserted}
+use Rattle.pl_parts.specs.Back.{section_part, wanted}
 use Rattle.pl_parts.specs.Fits.{Fits}
 use Rattle.pl_parts.specs.Loads.{hidden_windows}
-use Rattle.pl_parts.specs.Parts.{Original, up, plain, with_rows, old_names, names_part, table_at, joined_size, zeros_part, extension_at, lists_part, extension, whole_extension, rows_at, conflicts_at, loaded_section, program_section, program_sections, program_plan, front_part, form}
+use Rattle.pl_parts.specs.Parts.{Original, up, with_rows, old_names, names_part, table_at, joined_size, zeros_part, extension_at, lists_part, extension, whole_extension, rows_at, conflicts_at, loaded_section, program_section, program_sections, program_plan, front_part, form}
 use Rattle.pl_parts.specs.declared.parts.Extension.{Extension}
 use Rattle.pl_parts.specs.declared.parts.Plan.{Plan}
-use Rattle.pl_parts.specs.declared.parts.Spot.{Spot}
 use Rattle.pl_parts.proofs.FormLaws.{form_split, rest_of, front_size}
 use Rattle.pl_parts.proofs.FormTheorem.{all_small}
 use Rattle.pl_parts.proofs.LoadTheorem.{zeros_agree}

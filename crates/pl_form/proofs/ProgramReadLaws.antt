@@ -1,34 +1,30 @@
 -- All that is read of a program's form, by its original, lists and version.
-use Rattle.std.proofs.Common.{◌≡◌, ℕ, ◌+◌, ◌-◌, ◌*◌, ◌/◌, ◌%◌, ◌^◌, ◌<◌, ◌≤◌, Bool, true, false, List, [], ◌∷◌, ◌++◌, length, get_or, Option, Some, None, refl, sym, ap, subst, ◌∙◌, arith}
+use Rattle.std.proofs.Common.{◌≡◌, ℕ, ◌+◌, ◌-◌, ◌^◌, ◌<◌, ◌≤◌, Bool, true, false, List, length, get_or, Option, Some, refl, sym, ap, subst, ◌∙◌, arith}
 use Rattle.std.specs.Prelude.{◌&&◌}
 use Rattle.std.specs.List.{list_any}
 use Rattle.std.proofs.lemmas.Bool.{true≢false}
-use Rattle.pl_base.specs.Bytes.{part}
-use Rattle.pl_base.specs.Windows.{Window, AllIn}
+use Rattle.pl_base.specs.Windows.{AllIn}
 use Rattle.pl_base.proofs.WindowLaws.{AreAllApart}
 use Rattle.pl_elf.specs.Clauses.{bad_load}
-use Rattle.pl_elf.specs.Headers.{header, segments, is_load, loads}
+use Rattle.pl_elf.specs.Headers.{header, is_load, loads}
 use Rattle.pl_elf.specs.declared.segment.Segment.{Segment}
 use Rattle.pl_elf.proofs.AcceptedLaws.{load_fits}
 use Rattle.pl_object.specs.PlaceClauses.{last_load}
 use Rattle.pl_object.specs.declared.object.Object.{Object}
-use Rattle.pl_parts.specs.Back.{find_undo, front_of, wanted}
+use Rattle.pl_parts.specs.Back.{find_undo, front_of}
 use Rattle.pl_parts.specs.Forms.{original_of, undo_part, planned, program_form}
-use Rattle.pl_parts.specs.Found.{reader, zeros_from, ss_of, places_of, ps_of}
+use Rattle.pl_parts.specs.Found.{zeros_from, ss_of, places_of, ps_of}
 use Rattle.pl_parts.specs.Law.{FormsProgram}
 use Rattle.pl_parts.specs.Loads.{spots_of, hidden_windows}
-use Rattle.pl_parts.specs.Parts.{Original, program_plan, zeros_part, front_part, form}
+use Rattle.pl_parts.specs.Parts.{Original, program_plan, zeros_part, front_part}
 use Rattle.pl_parts.specs.declared.parts.Extension.{Extension}
-use Rattle.pl_parts.specs.declared.parts.Plan.{Plan}
-use Rattle.pl_parts.specs.declared.parts.Spot.{Spot}
 use Rattle.pl_undo.specs.declared.undo.Undo.{Undo}
 use Rattle.pl_parts.proofs.AlikeTheorem.{held_program}
 use Rattle.pl_parts.proofs.FinalTheorem.{program_conditions}
-use Rattle.pl_parts.proofs.FormTheorem.{IsHeldProgram}
 use Rattle.pl_parts.proofs.KindLaws.{segment_count}
 use Rattle.pl_parts.proofs.OverlapLaws.{zeros_apart}
-use Rattle.pl_parts.proofs.PlaceLaws.{IsOwn, is_own, hidden_in, none_of_loads, not_any_at}
-use Rattle.pl_parts.proofs.WholeTheorem.{IsProgramForm, program_is}
+use Rattle.pl_parts.proofs.PlaceLaws.{is_own, hidden_in, none_of_loads, not_any_at}
+use Rattle.pl_parts.proofs.WholeTheorem.{program_is}
 use Rattle.pl_form.specs.Reading.{section_bytes, places_in, standing, zeros_behind}
 use Rattle.pl_form.proofs.FoundLaws.{undo_by, undo_found, front_is}
 use Rattle.pl_form.proofs.OriginalLaws.{alone, spots_apart}

@@ -1,5 +1,5 @@
 -- What is answered of a file.
-use Rattle.std.proofs.Common.{◌≡◌, ℕ, true, false, List, Option, Some, None, Ok, Err, refl, sym, ap, ◌∙◌}
+use Rattle.std.proofs.Common.{◌≡◌, ℕ, true, false, List, Option, Some, None, Ok, Err, sym, ap, ◌∙◌}
 use Rattle.pl_base.specs.Answers.{Answers}
 use Rattle.pl_object.specs.Reads.{reads}
 use Rattle.pl_object.specs.Refusals.{is_memory as object_memory}
@@ -7,7 +7,7 @@ use Rattle.pl_object.specs.declared.object.Object.{Object}
 use Rattle.pl_object.specs.declared.refusal.Refusal.{Refusal}
 use Rattle.pl_object.specs.declared.refusal.Refusal.TheVariants as refusals
 use Rattle.pl_form.specs.Files.{file_in}
-use Rattle.pl_form.specs.Marks.{has_mark, IsFormOf, IsNoForm, IsBadMark, IsPlain, IsFault, is_memory, as_file}
+use Rattle.pl_form.specs.Marks.{has_mark, IsNoForm, IsBadMark, IsPlain, IsFault, is_memory, as_file}
 use Rattle.pl_form.specs.Reading.{marked_of}
 use Rattle.pl_form.specs.declared.fault.FileFault.TheVariants.{Refused}
 use Rattle.pl_form.specs.declared.file.File.TheVariants.{Plain}

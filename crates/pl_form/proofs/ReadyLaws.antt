@@ -1,5 +1,5 @@
 -- What an accepted original that has a form, with its layout, gives to the code that writes the form.
-use Rattle.std.proofs.Common.{◌≡◌, ℕ, ◌+◌, ◌-◌, ◌*◌, ◌%◌, ◌^◌, ◌<◌, ◌≤◌, Bool, true, false, List, [], ◌∷◌, ◌++◌, length, get_or, Option, Some, None, Result, Ok, refl, sym, ap, subst, ◌∙◌, arith, inl, inr}
+use Rattle.std.proofs.Common.{◌≡◌, ℕ, ◌+◌, ◌-◌, ◌*◌, ◌%◌, ◌^◌, ◌<◌, ◌≤◌, Bool, true, false, List, [], ◌∷◌, ◌++◌, length, get_or, Option, Some, None, Result, Ok, refl, sym, ap, subst, ◌∙◌, arith}
 use Rattle.std.specs.Prelude.{◌&&◌, ◌||◌, ◌==◌, not, nat_lt, nat_le}
 use Rattle.std.specs.List.{list_any}
 use Rattle.std.specs.Result.{is_ok}
@@ -11,7 +11,7 @@ use Rattle.pl_base.specs.Windows.{Window, AllIn, IsIn, within}
 use Rattle.pl_base.specs.Strings.{has_end}
 use Rattle.pl_elf.specs.Clauses as elf
 use Rattle.pl_elf.specs.Clauses.{AreLoads, bad_load, section_passes, segment_passes}
-use Rattle.pl_elf.specs.Headers.{header, segments, sections, section_offset, HasSections, is_load, loads}
+use Rattle.pl_elf.specs.Headers.{header, segments, sections, HasSections, is_load, loads}
 use Rattle.pl_elf.specs.Kinds.{is_library, is_program}
 use Rattle.pl_elf.specs.declared.fault.HeaderFault.{HeaderFault}
 use Rattle.pl_elf.specs.declared.fault.HeaderFault.TheVariants as fault
@@ -28,7 +28,7 @@ use Rattle.sha2.specs.Sha256.{sha256}
 use Rattle.pl_object.specs.FilePart.{file_window, loaded}
 use Rattle.pl_object.specs.Named as named
 use Rattle.pl_object.specs.Tables.{dynamic_memory, strings_memory}
-use Rattle.pl_object.specs.Accepted.{HasHead, Accepted}
+use Rattle.pl_object.specs.Accepted.{HasHead}
 use Rattle.pl_object.specs.PlaceClauses.{last_load}
 use Rattle.pl_object.specs.Reads.{reads}
 use Rattle.pl_object.specs.declared.object.Object.{Object}
@@ -44,7 +44,7 @@ use Rattle.pl_parts.specs.Back.{head_windows, wanted}
 use Rattle.pl_parts.specs.Fits.{Fits}
 use Rattle.pl_parts.specs.Forms as forms
 use Rattle.pl_parts.specs.Forms.{original_of, undo_part, planned}
-use Rattle.pl_parts.specs.Found.{ss_of, secs_of, d_of, ps_of, tags_of}
+use Rattle.pl_parts.specs.Found.{ss_of, d_of, ps_of, tags_of}
 use Rattle.pl_parts.specs.Law.{IsDigest}
 use Rattle.pl_parts.specs.Loads.{hidden_windows}
 use Rattle.pl_parts.specs.Parts.{Original, form, library_plan, program_plan}

@@ -1,6 +1,6 @@
 -- Where a form's section header table begins is within the form, whatever its plan is.
-use Rattle.std.proofs.Common.{◌≡◌, ℕ, ◌+◌, ◌-◌, ◌*◌, ◌/◌, ◌<◌, ◌≤◌, List, [], ◌∷◌, ◌++◌, length, take, drop, refl, sym, ap, ◌∙◌, arith, inl, inr}
-use Rattle.std.specs.Prelude.{min, map}
+use Rattle.std.proofs.Common.{◌≡◌, ℕ, ◌+◌, ◌/◌, ◌≤◌, List, [], ◌∷◌, ◌++◌, length, take, drop, refl, arith}
+use Rattle.std.specs.Prelude.{map}
 use Rattle.std.specs.List.{concat}
 use Rattle.std.proofs.lemmas.Nat.{le-div}
 use Rattle.std.proofs.Math.Nat.{div-mul-le_self}
@@ -12,7 +12,7 @@ use Rattle.pl_elf.specs.Written.{header_bytes, segment_bytes}
 use Rattle.pl_move.specs.Moves.{table_window, row_size, rows, row_moved, moved, all_moved}
 use Rattle.pl_move.specs.declared.table.Table.{Table}
 use Rattle.pl_parts.specs.Back.{visible, inserted}
-use Rattle.pl_parts.specs.Parts.{Original, up, joined, joined_size, names_part, table_part, table_at, new_header, moved_part, under_header, front_part, form}
+use Rattle.pl_parts.specs.Parts.{Original, up, joined_size, names_part, table_part, table_at, new_header, moved_part, front_part, form}
 use Rattle.pl_parts.specs.declared.parts.Plan.{Plan}
 use Rattle.pl_parts.proofs.PartsLaws.{length-joined}
 

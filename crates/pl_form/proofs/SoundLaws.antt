@@ -1,28 +1,25 @@
 -- What is read of a file is a form where it makes the file again.
-use Rattle.std.proofs.Common.{◌≡◌, ℕ, ◌+◌, ◌*◌, ◌%◌, ◌^◌, ◌<◌, ◌≤◌, Bool, true, false, List, [], ◌∷◌, ◌++◌, length, Option, Some, None, Result, Ok, Err, refl, sym, ap, subst, ◌∙◌, arith, inl, inr}
-use Rattle.std.specs.Prelude.{◌⊎◌, ◌&&◌, ◌==◌, not, nat_le, if◌then◌else◌}
+use Rattle.std.proofs.Common.{◌≡◌, ℕ, ◌+◌, ◌*◌, ◌%◌, ◌^◌, ◌<◌, ◌≤◌, true, List, length, Result, Ok, Err, refl, ap, arith, inl, inr}
+use Rattle.std.specs.Prelude.{◌&&◌, ◌==◌, not, nat_le}
 use Rattle.std.specs.Result.{is_ok}
 use Rattle.std.specs.Str.{bytes_eq}
 use Rattle.std.proofs.Math.Nat.{mod-lt}
-use Rattle.std.proofs.lemmas.Bool.{cases_Bool, and_parts, leb-true, eqb-true, not-true, not-false, false≢true, true≢false}
+use Rattle.std.proofs.lemmas.Bool.{cases_Bool, and_parts, leb-true, eqb-true, not-true, false≢true}
 use Rattle.std.proofs.lemmas.List.{length-append}
 use Rattle.std.proofs.lemmas.Slice.Eq.{bytes_eq-Decides}
 use Rattle.pl_base.specs.Bytes.{IsBytes, word64}
 use Rattle.pl_base.specs.Windows.{within}
 use Rattle.pl_elf.specs.Kinds.{is_library, is_static}
-use Rattle.pl_lists.specs.Conflicts.{are_conflicts}
-use Rattle.pl_lists.specs.Lists.{IsListOf, list_strings, is_list}
-use Rattle.pl_lists.specs.declared.conflict_row.ConflictRow.{ConflictRow}
+use Rattle.pl_lists.specs.Lists.{IsListOf, list_strings}
 use Rattle.pl_lists.specs.declared.list_row.ListRow.{ListRow}
 use Rattle.pl_object.specs.Reads.{reads}
 use Rattle.pl_object.specs.declared.object.Object.{Object}
 use Rattle.pl_parts.specs.Back.{wanted}
 use Rattle.pl_parts.specs.Found.{d_of, tags_of, ps_of}
 use Rattle.pl_undo.specs.declared.undo.Undo.{Undo}
-use Rattle.pl_form.specs.Faults.{form_fault, no_region, IsFirm}
-use Rattle.pl_form.specs.Marks.{has_mark, form_with, IsFormOf, IsMark, IsLibraryMark, IsProgramMark}
-use Rattle.pl_form.specs.Reading.{is_firm, IsOwn, AreSpelled, IsSpelledList, candidate, stamp_in, is_placed, is_form, IsMade}
-use Rattle.pl_form.specs.Words.{checksum_of}
+use Rattle.pl_form.specs.Faults.{form_fault, no_region}
+use Rattle.pl_form.specs.Marks.{has_mark, form_with, IsFormOf, IsMark}
+use Rattle.pl_form.specs.Reading.{is_firm, IsOwn, AreSpelled, IsSpelledList, candidate, is_placed, is_form, IsMade}
 use Rattle.pl_form.specs.declared.constants.TheConstants.{STORED}
 use Rattle.pl_form.specs.declared.fault.FormFault.{FormFault}
 use Rattle.pl_form.specs.declared.file.Marked.{Marked}

@@ -1,9 +1,8 @@
 -- The bytes at the places of a form are those that were given for them.
-use Rattle.std.proofs.Common.{◌≡◌, ℕ, zero, suc, ◌+◌, ◌-◌, ◌*◌, ◌<◌, ◌≤◌, Bool, true, false, List, [], ◌∷◌, ◌++◌, length, get_or, take, drop, replicate, Option, Some, None, refl, sym, ap, subst, ◌∙◌, arith, inl, inr}
-use Rattle.std.specs.Prelude.{map}
-use Rattle.std.proofs.lemmas.List.{length-append, length-take-le, length-drop, length-replicate, take-append-drop}
-use Rattle.pl_base.specs.Bytes.{part, put}
-use Rattle.pl_base.specs.Windows.{Window, within, Put, window_of, windows, put_all, IsIn, AllIn, IsApart}
+use Rattle.std.proofs.Common.{◌≡◌, ℕ, zero, suc, ◌+◌, ◌-◌, ◌<◌, ◌≤◌, List, [], ◌∷◌, ◌++◌, length, get_or, take, drop, replicate, refl, sym, ap, ◌∙◌, arith}
+use Rattle.std.proofs.lemmas.List.{length-take-le, length-drop, length-replicate, take-append-drop}
+use Rattle.pl_base.specs.Bytes.{part}
+use Rattle.pl_base.specs.Windows.{Window, within, Put, window_of, AllIn}
 use Rattle.pl_base.proofs.WindowLaws.{agree_within, all_in, put_all_at, AreAllApart}
 use Rattle.pl_elf.specs.Headers.{header}
 use Rattle.pl_elf.specs.declared.segment.Segment.{Segment}

@@ -1,9 +1,9 @@
 -- A form, written part by part, with the header last.
-use Rattle.std.proofs.Common.{◌≡◌, ℕ, ◌+◌, ◌-◌, ◌*◌, ◌/◌, ◌^◌, ◌<◌, ◌≤◌, true, List, [], ◌∷◌, ◌++◌, length, map, take, drop, replicate, refl, sym, ap, ◌∙◌, append_assoc, arith}
+use Rattle.std.proofs.Common.{◌≡◌, ℕ, ◌+◌, ◌*◌, ◌^◌, ◌<◌, ◌≤◌, List, [], ◌∷◌, ◌++◌, length, map, take, drop, replicate, refl, sym, ap, ◌∙◌, append_assoc, arith}
 use Rattle.std.specs.List.{concat}
 use Rattle.std.proofs.lemmas.List.{length-append, length-take-le, take_at, drop_at, take-append-drop, drop-append-le}
 use Rattle.pl_base.specs.Bytes.{put}
-use Rattle.pl_base.specs.Windows.{gap, ◌⊕◌, IsIn, AllIn}
+use Rattle.pl_base.specs.Windows.{gap, ◌⊕◌}
 use Rattle.pl_base.proofs.WindowLaws.{length-put, length-⊕, all_in}
 use Rattle.pl_elf.specs.Headers.{header}
 use Rattle.pl_elf.specs.Written.{header_bytes, section_bytes, segment_bytes}
@@ -13,7 +13,7 @@ use Rattle.pl_elf.specs.declared.segment.Segment.{Segment}
 use Rattle.pl_move.specs.Moves.{table_windows}
 use Rattle.pl_parts.specs.Back.{head_windows, spot_windows, inserted}
 use Rattle.pl_parts.specs.Fits.{Fits}
-use Rattle.pl_parts.specs.Parts.{Original, up, joined, joined_size, old_names, all_names, names_part, undo_at, names_at, table_at, table_rows, table_part, new_header, under_header, front_part, form}
+use Rattle.pl_parts.specs.Parts.{Original, up, joined, joined_size, old_names, all_names, names_part, names_at, table_at, table_rows, table_part, new_header, under_header, front_part, form}
 use Rattle.pl_parts.specs.declared.parts.Plan.{Plan}
 use Rattle.pl_parts.proofs.FormLaws.{new_length, length-under_header}
 use Rattle.pl_parts.proofs.HeadLaws.{length-segment, length-rows_of}

@@ -63,6 +63,10 @@ NothingElseIsRead = (file : List ℕ) (m : Marked) → marked_in file ≡ Some m
 abbrev pub OriginalsAreBare : Type 0
 OriginalsAreBare = (file : List ℕ) → marked_in (original_in file) ≡ None
 
+-- a form is bytes
+abbrev pub FormsAreBytes : Type 0
+FormsAreBytes = (file : List ℕ) (m : Marked) → IsFormOf file m → IsBytes file
+
 -- what a file is by its mark is what the function tells of it
 abbrev pub FormsAreTold : Type 0
 FormsAreTold = (file : List ℕ) (m : Marked) → IsBytes file → IsFormOf file m → file_in file ≡ Ok (files.Marked m)

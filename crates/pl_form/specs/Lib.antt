@@ -10,3 +10,4 @@ pub mod Marks
 pub mod Reading
 pub mod Alike
 pub mod Files
+pub mod Pieces

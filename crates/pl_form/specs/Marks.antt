@@ -2,14 +2,13 @@
 use Rattle.std.specs.Prelude.{◌≡◌, ◌⊎◌, ◌≤◌, ◌<◌, ◌^◌, ℕ, ◌+◌, ◌%◌, Bool, true, false, ◌&&◌, ◌||◌, nat_eq, List, [], length, drop, Some, Result, Ok, Err, if◌then◌else◌}
 use Rattle.std.specs.List.{list_any, starts_with}
 use Rattle.std.specs.Result.{is_ok}
-use Rattle.pl_base.specs.Answers.{because}
 use Rattle.pl_base.specs.Bytes.{IsBytes}
 use Rattle.pl_dyn.specs.Entries.{tags, is_ended}
 use Rattle.pl_dyn.specs.Kinds.{is_prelink_tag}
 use Rattle.pl_dyn.specs.declared.tags.Tag.{Tag}
 use Rattle.pl_elf.specs.Clauses.{names, read}
 use Rattle.pl_elf.specs.Headers.{header}
-use Rattle.pl_elf.specs.Kinds.{is_library, is_static}
+use Rattle.pl_elf.specs.Kinds.{is_library}
 use Rattle.pl_elf.specs.declared.section.Section.{Section}
 use Rattle.pl_lists.specs.Conflicts.{are_conflicts}
 use Rattle.pl_lists.specs.Lists.{is_list}

@@ -1,5 +1,5 @@
 -- The form of a program.
-use Rattle.std.specs.Prelude.{◌≡◌, true, ℕ, zero, suc, List, [], ◌∷◌, length, Option, Some, None, nat_lt, Result, Ok, if◌then◌else◌}
+use Rattle.std.specs.Prelude.{◌≡◌, true, ℕ, suc, List, [], ◌∷◌, length, Option, Some, None, nat_lt, Result, Ok, if◌then◌else◌}
 use Rattle.std.specs.List.{list_any}
 use Rattle.pl_base.specs.Answers.{unless}
 use Rattle.pl_elf.specs.Headers.{is_load}

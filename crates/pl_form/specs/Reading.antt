@@ -7,8 +7,6 @@ use Rattle.pl_base.specs.Bytes.{part, word64}
 use Rattle.pl_base.specs.Windows.{within}
 use Rattle.pl_elf.specs.Headers.{header, section}
 use Rattle.pl_elf.specs.Kinds.{is_library, is_static}
-use Rattle.pl_elf.specs.declared.header.Header.{Header}
-use Rattle.pl_elf.specs.declared.section.Section.{Section}
 use Rattle.pl_elf.specs.declared.segment.Segment.{Segment}
 use Rattle.pl_lists.specs.Conflicts.{are_conflicts}
 use Rattle.pl_lists.specs.Lists.{is_list, list_strings}

@@ -1,5 +1,5 @@
 -- What an undo section's headers are.
-use Rattle.std.specs.Prelude.{◌≡◌, ◌<◌, ◌≤◌, ◌^◌, ℕ, ◌+◌, ◌*◌, ◌-◌, Bool, ◌&&◌, ◌==◌, nat_le, List, ◌∷◌, [], ◌++◌, length, take, drop, Option, Some, None}
+use Rattle.std.specs.Prelude.{◌≡◌, ◌<◌, ◌≤◌, ◌^◌, ℕ, ◌+◌, ◌-◌, Bool, ◌&&◌, ◌==◌, nat_le, List, ◌∷◌, [], ◌++◌, length, take, drop, Option, Some, None}
 use Rattle.pl_base.specs.Windows.{Window, are_in, put_all}
 use Rattle.pl_dyn.specs.Entries.{tags}
 use Rattle.pl_dyn.specs.declared.tags.Tag.{Tag}

@@ -28,7 +28,7 @@ mod version;
 mod windows;
 mod write;
 
-pub use alike::forms_leave_the_rest;
+pub use alike::{forms_leave_the_rest, forms_stand_for_originals};
 pub use check::check_form;
 pub use constants::STORED;
 pub use fault::{FileFault, FormFault};

@@ -1,5 +1,4 @@
-use Rattle.std.proofs.Common.{◌≡◌, ap, sym, ◌∙◌, length, arith, rules}
-use Rattle.pl_base.specs.Bytes.{put}
+use Rattle.std.proofs.Common.{ap, length, arith, rules}
 use Rattle.pl_form.proofs.FindingLaws.{part_short, stored_put}
 use Rattle.pl_form.proofs.back.put_stored.Goals as goal
 

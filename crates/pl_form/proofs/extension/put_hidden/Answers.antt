@@ -1,5 +1,5 @@
-use Rattle.std.proofs.Common.{refl, arith, ◌≡◌}
-use Rattle.pl_form.proofs.ExtensionLaws.{hidden_here, hidden_put, hidden_done}
+use Rattle.std.proofs.Common.{refl}
+use Rattle.pl_form.proofs.ExtensionLaws.{hidden_put, hidden_done}
 use Rattle.pl_form.proofs.extension.put_hidden.Goals as goal
 
 pub loop-spot-init : goal.loop-spot-init

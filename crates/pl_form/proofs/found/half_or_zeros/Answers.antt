@@ -1,4 +1,3 @@
-use Rattle.std.proofs.Common.{arith}
 use Rattle.pl_form.proofs.FindingLaws.{four_bytes}
 use Rattle.pl_form.proofs.found.half_or_zeros.Goals as goal
 

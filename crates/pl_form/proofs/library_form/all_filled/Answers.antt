@@ -1,4 +1,4 @@
-use Rattle.std.proofs.Common.{◌≡◌, ◌++◌, Option, ℕ, ap, ◌∙◌, length, get_or}
+use Rattle.std.proofs.Common.{◌++◌, Option, ℕ, ap, ◌∙◌, length, get_or}
 use Rattle.pl_form.specs.Words.{filled}
 use Rattle.pl_form.proofs.LayoutLaws.{filled_more, filled_done, spot_in}
 use Rattle.pl_form.proofs.library_form.all_filled.Goals as goal

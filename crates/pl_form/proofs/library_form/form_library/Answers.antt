@@ -1,4 +1,4 @@
-use Rattle.std.proofs.Common.{◌≡◌, ◌≤◌, ◌<◌, ◌+◌, ℕ, List, length, subst, sym, ap, ◌∙◌, arith}
+use Rattle.std.proofs.Common.{◌≡◌, ℕ, List, length, subst, sym, ap, ◌∙◌}
 use Rattle.pl_base.specs.Windows.{AllIn}
 use Rattle.pl_object.proofs.AcceptedLaws.{accepted}
 use Rattle.pl_parts.specs.Back.{spot_windows}

@@ -1,8 +1,8 @@
-use Rattle.std.proofs.Common.{◌≡◌, ◌≤◌, ◌<◌, ◌+◌, ℕ, List, length, subst, sym, ap, ◌∙◌, arith}
+use Rattle.std.proofs.Common.{◌≤◌, ℕ, List, length, subst, sym, ◌∙◌, arith}
 use Rattle.pl_parts.specs.declared.parts.Listed.{Listed}
 use Rattle.pl_form.specs.Library.{most_bytes, IsShortList}
 use Rattle.pl_form.proofs.KeptLaws.{library_most_with}
-use Rattle.pl_form.proofs.ReadyLaws.{digest_ready, library_with_is}
+use Rattle.pl_form.proofs.ReadyLaws.{library_with_is}
 use Rattle.pl_form.proofs.library_form.library_with.Goals as goal
 
 pub moved-requires-clause-slot : goal.moved-requires-clause-slot

@@ -1,7 +1,4 @@
-use Rattle.std.proofs.Common.{◌≡◌, ◌≤◌, ℕ, List, length, subst, sym, ap, ◌∙◌, arith}
-use Rattle.pl_parts.specs.Fits.{Fits}
-use Rattle.pl_parts.specs.Parts.{form}
-use Rattle.pl_form.specs.Originals.{original}
+use Rattle.std.proofs.Common.{◌∙◌, arith}
 use Rattle.pl_form.proofs.ReadyLaws.{names_ready, movable_ready, library_fit, library_whole}
 use Rattle.pl_object.proofs.AcceptedLaws.{accepted}
 use Rattle.pl_form.proofs.library_form.moved.Goals as goal

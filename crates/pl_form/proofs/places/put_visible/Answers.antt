@@ -1,5 +1,5 @@
-use Rattle.std.proofs.Common.{refl, arith, ◌≡◌}
-use Rattle.pl_form.proofs.PlaceLaws.{spot_here, spot_put, spots_done}
+use Rattle.std.proofs.Common.{refl}
+use Rattle.pl_form.proofs.PlaceLaws.{spot_put, spots_done}
 use Rattle.pl_form.proofs.places.put_visible.Goals as goal
 
 pub loop-spot-init : goal.loop-spot-init

@@ -1,4 +1,4 @@
-use Rattle.std.proofs.Common.{◌≡◌, sym, ap, ◌∙◌}
+use Rattle.std.proofs.Common.{sym, ap, ◌∙◌}
 use Rattle.pl_base.specs.Bytes.{put, bytes64}
 use Rattle.pl_form.proofs.EntryLaws.{tag_put}
 use Rattle.pl_form.proofs.program.set_value.Goals as goal

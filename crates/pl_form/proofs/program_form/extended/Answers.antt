@@ -1,15 +1,11 @@
-use Rattle.std.proofs.Common.{◌≡◌, ◌≤◌, ◌<◌, ◌+◌, ℕ, List, length, subst, sym, ap, ◌∙◌, arith}
-use Rattle.std.proofs.Common.{None}
-use Rattle.pl_base.specs.Windows.{AllIn}
+use Rattle.std.proofs.Common.{subst, sym, ap, ◌∙◌, arith}
 use Rattle.pl_object.proofs.AcceptedLaws.{accepted}
-use Rattle.pl_parts.specs.Back.{wanted}
 use Rattle.pl_parts.specs.Forms.{program_form, original_of}
 use Rattle.pl_parts.specs.Found.{ss_of}
 use Rattle.pl_parts.specs.Law.{IsDigest}
-use Rattle.pl_form.specs.Originals.{original}
 use Rattle.pl_form.specs.Program.{find_last, last_index}
 use Rattle.pl_form.specs.Words.{kept_digest}
-use Rattle.pl_form.proofs.ReadyLaws.{names_ready, ready, last_ready, extended_ready, program_fit, program_whole, extended_none, extended_some, digest_ready, IsLastOf}
+use Rattle.pl_form.proofs.ReadyLaws.{names_ready, ready, last_ready, extended_ready, program_fit, program_whole, extended_none, extended_some, digest_ready}
 use Rattle.pl_form.proofs.program_form.extended.Goals as goal
 
 pub returns-in_default : goal.returns-in_default

@@ -1,4 +1,4 @@
-use Rattle.std.proofs.Common.{◌≡◌, ◌≤◌, ◌<◌, ◌+◌, ℕ, List, length, subst, sym, ap, ◌∙◌, arith}
+use Rattle.std.proofs.Common.{ℕ, List, length, ap, ◌∙◌, arith}
 use Rattle.pl_form.proofs.LengthLaws.{accepted_small}
 use Rattle.pl_base.specs.Bytes.{part}
 use Rattle.pl_lists.specs.Lists.{list_bytes, list_strings}

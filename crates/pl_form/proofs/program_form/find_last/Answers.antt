@@ -1,4 +1,4 @@
-use Rattle.std.proofs.Common.{◌≡◌, ◌-◌, length, sym, ap, ◌∙◌, arith}
+use Rattle.std.proofs.Common.{◌-◌, length, sym, ◌∙◌, arith}
 use Rattle.pl_form.proofs.LastLaws.{seek_first, seek_next, seek_found, seek_none}
 use Rattle.pl_form.proofs.program_form.find_last.Goals as goal
 

@@ -1,4 +1,4 @@
-use Rattle.std.proofs.Common.{◌≡◌, List, ℕ, ap, ◌∙◌, length}
+use Rattle.std.proofs.Common.{ap, ◌∙◌, length}
 use Rattle.pl_form.proofs.FillLaws.{fills_wanted}
 use Rattle.pl_form.proofs.program_form.form_program.Goals as goal
 

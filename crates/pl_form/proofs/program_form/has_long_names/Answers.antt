@@ -1,4 +1,4 @@
-use Rattle.std.proofs.Common.{◌≡◌, length, sym, ap, ◌∙◌}
+use Rattle.std.proofs.Common.{length, sym, ap, ◌∙◌}
 use Rattle.pl_lists.specs.declared.list_row.ListRow.{ListRow}
 use Rattle.pl_form.proofs.NameLaws.{count_first, count_next, count_done, count_long}
 use Rattle.pl_form.proofs.program_form.has_long_names.Goals as goal

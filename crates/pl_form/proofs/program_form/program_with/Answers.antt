@@ -1,4 +1,4 @@
-use Rattle.std.proofs.Common.{◌≡◌, sym, ◌∙◌, length}
+use Rattle.std.proofs.Common.{sym, ◌∙◌}
 use Rattle.std.proofs.lemmas.Bool.{ltb-true}
 use Rattle.pl_form.proofs.FillLaws.{names_too_long, lists_too_long}
 use Rattle.pl_form.proofs.program_form.program_with.Goals as goal

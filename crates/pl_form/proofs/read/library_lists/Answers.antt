@@ -1,4 +1,4 @@
-use Rattle.std.proofs.Common.{◌≡◌, [], length, Some, rules}
+use Rattle.std.proofs.Common.{◌≡◌, length, Some, rules}
 use Rattle.pl_form.proofs.MarkedLaws.{library_spelled}
 use Rattle.pl_form.proofs.read.library_lists.Goals as goal
 

@@ -1,6 +1,5 @@
 use Rattle.std.proofs.Common.{◌≡◌, ℕ, List, Some, true, false, sym, subst, ◌∙◌, rules}
 use Rattle.pl_elf.specs.Kinds.{is_library}
-use Rattle.pl_object.specs.Accepted.{HasHead}
 use Rattle.pl_object.specs.PlaceClauses.{last_load}
 use Rattle.pl_parts.specs.Back.{front_of}
 use Rattle.pl_parts.specs.Found.{ps_of}
