@@ -1,0 +1,5 @@
+pub mod SkipLaws
+pub mod KnownLaws
+pub mod MemberLaws
+pub mod LoopLaws
+pub mod ListLaws

@@ -1,0 +1,40 @@
+-- Why a name is not prelinked, as what it comes from means it.
+use Rattle.std.specs.Prelude.{Bool, true, false}
+use Rattle.pl_tls.specs.declared.fault.TlsFault.{TlsFault}
+use Rattle.pl_tls.specs.declared.fault.TlsFault.TheVariants as tls
+use Rattle.pl_scope.specs.declared.fault.WalkFault.{WalkFault}
+use Rattle.pl_scope.specs.declared.fault.WalkFault.TheVariants as walk
+use Rattle.pl_cone.specs.declared.skip.ConeFault.{ConeFault}
+use Rattle.pl_cone.specs.declared.skip.ConeFault.TheVariants as stops
+use Rattle.pl_cone.specs.declared.skip.Skip.{Skip}
+use Rattle.pl_cone.specs.declared.skip.Skip.TheVariants.{NotThere, BadMark, Refused, Static, NeededIsProgram, TooMany, Form, TlsTooLarge, Undefined, UndefinedTls, TlsMismatch, CopyOutside, NoMemory}
+
+abbrev pub is_memory : Skip → Bool
+is_memory NoMemory = true
+is_memory (NotThere _) = false
+is_memory (BadMark _) = false
+is_memory (Refused _ _ _) = false
+is_memory (Static _) = false
+is_memory (NeededIsProgram _) = false
+is_memory (TooMany _) = false
+is_memory (Form _ _) = false
+is_memory TlsTooLarge = false
+is_memory (Undefined _ _) = false
+is_memory (UndefinedTls _ _) = false
+is_memory (TlsMismatch _ _) = false
+is_memory (CopyOutside _ _) = false
+
+abbrev pub of_walk : WalkFault → Skip
+of_walk (walk.NeededIsProgram name) = NeededIsProgram name
+of_walk (walk.TooMany name) = TooMany name
+of_walk (walk.NotThere name) = NotThere name
+of_walk walk.NoMemory = NoMemory
+
+abbrev pub of_tls : TlsFault → Skip
+of_tls tls.TooLarge = TlsTooLarge
+of_tls tls.NoMemory = NoMemory
+
+-- want of memory, of the faults of a run
+abbrev pub stops_memory : ConeFault → Bool
+stops_memory stops.NoMemory = true
+stops_memory (stops.StampsSpent _) = false

@@ -1,0 +1,76 @@
+// What a run rewrites, and with what stamp.
+ghost use Rattle.std.specs.Prelude.{◌≡◌, IfOk};
+ghost use Rattle.pl_base.specs.Answers.{Answers};
+ghost use Rattle.pl_cone.specs.Cone as spec;
+ghost use Rattle.pl_cone.specs.Known.{AreAccepted};
+ghost use Rattle.pl_cone.specs.Skips.{stops_memory};
+
+use crate::current::is_stale;
+use crate::stamps::greatest;
+use crate::{ConeFault, Known};
+use pl_base::{Rows, Text};
+use pl_io::NoMemory;
+use pl_slots::Slot;
+use std::alloc::Global;
+
+/// The last stamp that there is, 2^32 - 1.
+pub const LAST_STAMP: u32 = 4_294_967_295;
+
+/// What a run rewrites.
+#[derive(Drop)]
+pub struct Cone {
+    /// The names that may be prelinked and are not current, in the order of the files.
+    pub stale: Rows<Text>,
+
+    /// The stamp that they get; the last one so far where there are none.
+    pub stamp: u32,
+}
+
+#[tactic(auto, unfolding(crate::specs::Cone::stale))]
+fn stale(alloc: Global, files: &[Known<'_>], slots: &[Slot]) -> Result<Rows<Text>, NoMemory>
+    requires { AreAccepted files.now }
+    ensures { IfOk result (λ names. names ≡ spec.stale files.now slots.now) }
+{
+    let mut names = Rows::new(alloc);
+    for known in files {
+        if is_stale(alloc, files, slots, known.name)? {
+            names.push(Text::copy_of(alloc, known.name)?)?;
+        }
+    }
+    Ok(names)
+}
+
+/// The stamp of a run at a moment, past the greatest so far.
+#[tactic(auto, unfolding(crate::specs::Cone::stamp_after))]
+fn stamp_after(greatest: u32, now: u32) -> Result<u32, ConeFault>
+    ensures { result ≡ spec.stamp_after greatest now }
+{
+    if greatest == LAST_STAMP {
+        return Err(ConeFault::StampsSpent(greatest));
+    }
+    Ok(now.max(greatest + 1))
+}
+
+/// What a run at a moment rewrites: the names that may be prelinked and are not current, and the stamp that they get. A name is current where it and each library of its walk are prelinked in the version of now, at their planned slots, with lists that tell the names, stamps and checksums of the other members of their walks.
+///
+/// `slots` are the planned ones, `last` is the stamp of the last run that gave one. The stamp is the greater of `now` and one more than the greatest of `last`, the stamps of all marks and those in their lists; it is `last` where no name is stale. `StampsSpent` comes exactly where a name is stale and that greatest stamp is the last that there is.
+///
+/// No name stands twice in `files`, and each object is one that `accept` gave.
+#[tactic(auto, unfolding(crate::specs::Cone::cone))]
+pub fn cone_of(
+    alloc: Global,
+    files: &[Known<'_>],
+    slots: &[Slot],
+    last: u32,
+    now: u32,
+) -> Result<Cone, ConeFault>
+    requires { AreAccepted files.now }
+    ensures { Answers stops_memory result (spec.cone files.now slots.now last now) }
+{
+    let stale = stale(alloc, files, slots)?;
+    if stale.as_slice().is_empty() {
+        return Ok(Cone { stale, stamp: last });
+    }
+    let stamp = stamp_after(greatest(last, files), now)?;
+    Ok(Cone { stale, stamp })
+}

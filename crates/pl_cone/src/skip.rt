@@ -1,0 +1,201 @@
+// Why a name is not prelinked, and why a run has no stamp.
+ghost use Rattle.std.specs.Prelude.{◌≡◌};
+ghost use Rattle.pl_cone.specs.declared.skip.ConeFault.TheVariants as stops;
+ghost use Rattle.pl_cone.specs.declared.skip.Skip.TheVariants as skips;
+
+use pl_base::{Rows, Text};
+use pl_io::NoMemory;
+use pl_scope::WalkFault;
+use pl_tls::TlsFault;
+use std::alloc::{AllocError, AllocFailed};
+use std::fmt;
+use thiserror::Error;
+
+/// Why a name is not prelinked. Of several causes the first counts: those of the walk in its order, then `Static`, then form faults in the order of the walk, then `TlsTooLarge`, then the link refusals in the order of the relocations.
+#[derive(Drop, Error)]
+pub enum Skip {
+    /// A needed file is not there.
+    #[error("a file is not there")]
+    NotThere(Text),
+
+    /// A file bears a mark, and is no form.
+    #[error("a mark, and no form")]
+    BadMark(Text),
+
+    /// An acceptance clause refuses a file.
+    #[error("a file is refused")]
+    Refused {
+        /// The file's name.
+        name: Text,
+
+        /// The number of the clause.
+        number: u32,
+
+        /// What of the file the clause refuses: a tag's number for clauses 10 and 11, a relocation's kind for clause 23, else 0.
+        argument: u64,
+    },
+
+    /// The name's file is a static program.
+    #[error("a static program")]
+    Static(Text),
+
+    /// An object after the first is no library, and this is its name; or an object after the first needs the first, which is a program of this name.
+    #[error("a program is needed by another object")]
+    NeededIsProgram(Text),
+
+    /// The walk has too many names, and this is the first that is too many.
+    #[error("the walk has too many members")]
+    TooMany(Text),
+
+    /// A member of the walk has no form.
+    #[error("an object has no form")]
+    Form {
+        /// The member's name.
+        name: Text,
+
+        /// The number of its first form fault.
+        number: u32,
+    },
+
+    /// An offset of thread-local storage is too great.
+    #[error("thread-local storage is too large")]
+    TlsTooLarge,
+
+    /// A reference that is not weak has no definer.
+    #[error("a symbol is undefined")]
+    Undefined {
+        /// The name of the object's file.
+        object: Text,
+
+        /// The name of the symbol to which a relocation of the object refers; none for symbol 0.
+        symbol: Option<Rows<u8>>,
+    },
+
+    /// A reference to thread-local data has no definer.
+    #[error("a thread-local symbol is undefined")]
+    UndefinedTls {
+        /// The name of the object's file.
+        object: Text,
+
+        /// The name of the symbol to which a relocation of the object refers; none for symbol 0.
+        symbol: Option<Rows<u8>>,
+    },
+
+    /// A relocation for thread-local storage refers to what is none, or another relocation to what is.
+    #[error("a symbol is thread-local, or should be")]
+    TlsMismatch {
+        /// The name of the object's file.
+        object: Text,
+
+        /// The name of the symbol to which a relocation of the object refers; none for symbol 0.
+        symbol: Option<Rows<u8>>,
+    },
+
+    /// The bytes that a COPY asks for do not lie in the memory of one PT_LOAD.
+    #[error("a copy's source is not in memory")]
+    CopyOutside {
+        /// The name of the object's file.
+        object: Text,
+
+        /// The name of the symbol to which a relocation of the object refers; none for symbol 0.
+        symbol: Option<Rows<u8>>,
+    },
+
+    /// There was no memory for the answer.
+    #[error("out of memory")]
+    NoMemory,
+}
+
+impl fmt::Debug for Skip {
+    fn fmt<W: fmt::Write>(&self, f: &mut fmt::Formatter<W>) -> fmt::Result {
+        let (cause, name) = match self {
+            Skip::NotThere(name) => ("NotThere ", name.as_str()),
+            Skip::BadMark(name) => ("BadMark ", name.as_str()),
+            Skip::Refused { name, .. } => ("Refused ", name.as_str()),
+            Skip::Static(name) => ("Static ", name.as_str()),
+            Skip::NeededIsProgram(name) => ("NeededIsProgram ", name.as_str()),
+            Skip::TooMany(name) => ("TooMany ", name.as_str()),
+            Skip::Form { name, .. } => ("Form ", name.as_str()),
+            Skip::TlsTooLarge => ("TlsTooLarge", ""),
+            Skip::Undefined { object, .. } => ("Undefined ", object.as_str()),
+            Skip::UndefinedTls { object, .. } => ("UndefinedTls ", object.as_str()),
+            Skip::TlsMismatch { object, .. } => ("TlsMismatch ", object.as_str()),
+            Skip::CopyOutside { object, .. } => ("CopyOutside ", object.as_str()),
+            Skip::NoMemory => ("NoMemory", ""),
+        };
+        f.write_str(cause)?;
+        f.write_str(name)
+    }
+}
+
+impl From<NoMemory> for Skip {
+    ghost from_gives = { λ _ skip. skip ≡ skips.NoMemory };
+
+    fn from(_: NoMemory) -> Skip {
+        Skip::NoMemory
+    }
+}
+
+impl From<AllocError> for Skip {
+    ghost from_gives = { λ _ skip. skip ≡ skips.NoMemory };
+
+    fn from(_: AllocError) -> Skip {
+        Skip::NoMemory
+    }
+}
+
+impl<T: Drop> From<AllocFailed<T>> for Skip {
+    ghost from_gives = { λ _ skip. skip ≡ skips.NoMemory };
+
+    fn from(_: AllocFailed<T>) -> Skip {
+        Skip::NoMemory
+    }
+}
+
+impl From<WalkFault> for Skip {
+    ghost use Rattle.pl_cone.specs.Skips.{of_walk};
+
+    ghost from_gives = { λ fault skip. skip ≡ of_walk fault };
+
+    fn from(fault: WalkFault) -> Skip {
+        match fault {
+            WalkFault::NeededIsProgram(name) => Skip::NeededIsProgram(name),
+            WalkFault::TooMany(name) => Skip::TooMany(name),
+            WalkFault::NotThere(name) => Skip::NotThere(name),
+            WalkFault::NoMemory => Skip::NoMemory,
+        }
+    }
+}
+
+impl From<TlsFault> for Skip {
+    ghost use Rattle.pl_cone.specs.Skips.{of_tls};
+
+    ghost from_gives = { λ fault skip. skip ≡ of_tls fault };
+
+    fn from(fault: TlsFault) -> Skip {
+        match fault {
+            TlsFault::TooLarge => Skip::TlsTooLarge,
+            TlsFault::NoMemory => Skip::NoMemory,
+        }
+    }
+}
+
+/// Why a run has no stamp.
+#[derive(Clone, Copy, Debug, PartialEq, Eq, Error)]
+pub enum ConeFault {
+    /// The greatest stamp is the last that there is, 2^32 - 1, and a name would get a later one.
+    #[error("no stamp is left")]
+    StampsSpent(u32),
+
+    /// There was no memory for the answer.
+    #[error("out of memory")]
+    NoMemory,
+}
+
+impl From<NoMemory> for ConeFault {
+    ghost from_gives = { λ _ fault. fault ≡ stops.NoMemory };
+
+    fn from(_: NoMemory) -> ConeFault {
+        ConeFault::NoMemory
+    }
+}
