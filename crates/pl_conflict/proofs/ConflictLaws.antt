@@ -125,7 +125,7 @@ alike_from places parts others member (o ∷ os) =
     (all_pieces (loaded_from places parts (member + 1) os)) (all_pieces (loaded_from places others (member + 1) os))
     (alike_pieces (base_of places member) (part_of parts member) (part_of others member) (loads o.segments)) (alike_from places parts others (member + 1) os)
 
-placed_again : (objects : List Object) (places : List ℕ) (parts others : List (List ℕ)) → ArePlaced places parts objects → ArePlaced places others objects
+pub placed_again : (objects : List Object) (places : List ℕ) (parts others : List (List ℕ)) → ArePlaced places parts objects → ArePlaced places others objects
 placed_again objects places parts others are = record {
   placed = are.placed;
   apart = lone_most lies (all_pieces (loaded places others objects))

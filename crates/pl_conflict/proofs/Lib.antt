@@ -4,3 +4,13 @@ pub mod OrderLaws
 pub mod OwnLaws
 pub mod HeldLaws
 pub mod ConflictLaws
+pub mod CompleteLaws
+pub mod MemberLaws
+pub mod ScopeLaws
+pub mod NumberLaws
+pub mod GivenLaws
+pub mod MadeLaws
+pub mod FormatLaws
+pub mod StandLaws
+pub mod SetLaws
+pub mod FolderLaws

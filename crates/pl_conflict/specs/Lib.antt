@@ -1,3 +1,7 @@
 pub mod Own
 pub mod Conflicts
 pub mod Fast
+pub mod Standing
+pub mod Prelinked
+pub mod Format
+pub mod Complete

@@ -1,10 +1,13 @@
-//! What prelinking asks of look-ups: the own words of a library, the conflict rows of a program, and the law that these rows over the prelinked files make the image of the originals (Jelínek, "Prelink").
+//! What prelinking asks of look-ups: the own words of a library, the conflict rows of a program, and the laws that prelinked files are forms and that these rows over them make the image of the originals (Jelínek, "Prelink").
 #![tactic(auto)]
 
 mod law;
 mod own;
 mod rows;
 
-pub use law::fast_is_ordinary;
+pub use law::{
+    conflicts_are_complete, fast_images_are_ordinary, fast_is_ordinary, format_is_kept,
+    prelinked_are_forms,
+};
 pub use own::own_words;
 pub use rows::conflicts;
