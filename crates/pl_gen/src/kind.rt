@@ -1,0 +1,31 @@
+ghost use Rattle.std.specs.Prelude.{◌≡◌};
+ghost use Rattle.pl_gen.specs.Lines as spec;
+
+/// A kind of relocation in the set.
+#[derive(Clone, Copy)]
+pub enum Kind {
+    /// The data address and a number.
+    Relative,
+
+    /// The address of a function, in a word of its own.
+    Abs64,
+
+    /// The same, in the global offset table.
+    GlobDat,
+
+    /// The same, for the procedure linkage table.
+    JumpSlot,
+}
+
+/// The kind that a word draws.
+#[tactic(auto, unfolding(crate::specs::Lines::kind_of))]
+pub fn kind_of(word: u64) -> Kind
+    ensures { result ≡ spec.kind_of word }
+{
+    match word % 4 {
+        0 => Kind::Relative,
+        1 => Kind::Abs64,
+        2 => Kind::GlobDat,
+        _ => Kind::JumpSlot,
+    }
+}

@@ -1,0 +1,13 @@
+//! A set of small programs and libraries that a number draws: the recipe of each, under its name.
+#![tactic(auto)]
+
+mod draws;
+mod kind;
+mod lines;
+mod recipes;
+mod relocations;
+mod set;
+#[cfg(test)]
+mod tests;
+
+pub use set::{DemoFile, demo_set};
