@@ -1,7 +1,7 @@
 -- With the conflict rows, files that stand for originals are the originals relocated, in any scope.
-use Rattle.std.proofs.Common.{◌≡◌, ℕ, zero, suc, ◌+◌, ◌-◌, ◌<◌, ◌≤◌, Bool, true, false, List, [], ◌∷◌, ◌++◌, length, map, get_or, drop, Option, Some, None, Result, Ok, refl, sym, ap, subst, ◌∙◌, arith, inl, inr}
-use Rattle.std.specs.Prelude.{◌&&◌, ◌||◌, ◌==◌, not, slice_get, slice_index}
-use Rattle.std.specs.List.{All, Any, AllZip, list_any}
+use Rattle.std.proofs.Common.{◌≡◌, ℕ, zero, suc, ◌+◌, ◌-◌, ◌<◌, ◌≤◌, Bool, true, false, List, [], ◌∷◌, length, map, get_or, drop, Option, Some, Result, Ok, refl, sym, ap, subst, ◌∙◌, arith, inl, inr}
+use Rattle.std.specs.Prelude.{◌&&◌, ◌||◌, ◌==◌, slice_get, slice_index}
+use Rattle.std.specs.List.{All, AllZip, list_any}
 use Rattle.std.specs.List.Sorted.{IsPermutation}
 use Rattle.std.specs.Option.{is_some, unwrap_or}
 use Rattle.std.proofs.lemmas.Bool.{cases_Bool, and_parts, and_from, eqb-true, eq-eqb, false≢true}
@@ -12,18 +12,16 @@ use Rattle.pl_base.specs.Answers.{◌>>=◌}
 use Rattle.pl_base.specs.Memory.{Memory, Piece, AtMostOne, lies, byte_at, layered, read, shown, filled}
 use Rattle.pl_base.proofs.AnswerLaws.{ok_same}
 use Rattle.pl_base.proofs.MemoryLaws.{IsLike, same_domain, read_byte, within_true}
-use Rattle.pl_object.specs.Reads.{reads}
 use Rattle.pl_object.specs.declared.object.Object.{Object}
-use Rattle.pl_object.specs.declared.reloc.Reloc.{Reloc}
 use Rattle.pl_image.specs.Image.{all_pieces, any_masked, byte_of}
 use Rattle.pl_image.specs.Loads.{pieces_at, loaded_at, is_masked, IsPlaced}
 use Rattle.pl_image.specs.declared.loaded.Loaded.{Loaded}
 use Rattle.pl_lists.specs.declared.conflict_row.ConflictRow.{ConflictRow}
 use Rattle.pl_tls.specs.declared.module.Module.{Module}
-use Rattle.pl_value.specs.Laws.{Fits, AllFit, AreRead, is_shared_at}
-use Rattle.pl_value.specs.Linked.{under, relocated}
+use Rattle.pl_value.specs.Laws.{Fits, AllFit, AreRead}
+use Rattle.pl_value.specs.Linked.{under}
 use Rattle.pl_value.specs.Meanings.{Row, row, rows, rows_from, meanings}
-use Rattle.pl_value.specs.Ordinary.{part_of, loaded_from, loaded, shown_linked, ArePlaced}
+use Rattle.pl_value.specs.Ordinary.{part_of, loaded_from, loaded, ArePlaced}
 use Rattle.pl_value.specs.Targets.{base_of}
 use Rattle.pl_value.specs.declared.fault.LinkFault.{LinkFault}
 use Rattle.pl_value.specs.declared.meaning.Meaning.{Meaning}
@@ -36,9 +34,9 @@ use Rattle.pl_value.proofs.MeaningLaws.{IsGiven, meanings_given, zip_all, zip_we
 use Rattle.pl_value.proofs.PlaceLaws.{reloc_over, IsHeld, relocs_held}
 use Rattle.pl_value.proofs.RowLaws.{IsKnown, rows_known}
 use Rattle.pl_conflict.specs.Conflicts.{pieces_in, held, rows_of, ascending, conflicts}
-use Rattle.pl_conflict.specs.Fast.{is_library, patches, Holds, AreForms, fast_image}
-use Rattle.pl_conflict.specs.Standing.{standing_from, standing, standing_image}
-use Rattle.pl_conflict.specs.Complete.{IsProgramScope, Stands, LibrariesStand, StandFor, ConflictsAreComplete}
+use Rattle.pl_conflict.specs.Fast.{is_library, patches, Holds, AreForms}
+use Rattle.pl_conflict.specs.Standing.{standing_from, standing}
+use Rattle.pl_conflict.specs.Complete.{IsProgramScope, Stands, ConflictsAreComplete}
 use Rattle.pl_conflict.proofs.OrderLaws.{ascending_perm}
 use Rattle.pl_conflict.proofs.PieceLaws.{fast_ordinary}
 

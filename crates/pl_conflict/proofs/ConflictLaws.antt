@@ -1,6 +1,6 @@
 -- The rows of an accepted scope at disjoint places have addresses that differ.
-use Rattle.std.proofs.Common.{◌≡◌, ℕ, suc, ◌+◌, ◌<◌, ◌≤◌, Bool, true, false, cond, List, [], ◌∷◌, ◌++◌, length, map, Option, Some, None, Result, Ok, Err, refl, sym, ap, subst, ◌∙◌, arith, inl, inr}
-use Rattle.std.specs.Prelude.{◌||◌, ◌==◌, MatchBool, ⊤, slice_get}
+use Rattle.std.proofs.Common.{◌≡◌, ℕ, suc, ◌+◌, ◌<◌, Bool, true, false, cond, List, [], ◌∷◌, ◌++◌, length, Some, None, Result, Ok, Err, refl, sym, ap, subst, ◌∙◌, arith, inl, inr}
+use Rattle.std.specs.Prelude.{◌||◌, ◌==◌, MatchBool, ⊤}
 use Rattle.std.specs.Option.{IfSome}
 use Rattle.std.specs.Str.{bytes_eq}
 use Rattle.std.specs.List.{All, AllZip, AllByRecursion, IsDistinct, list_any, filter_map, cons_option}
@@ -11,7 +11,7 @@ use Rattle.std.proofs.lemmas.List.Elements.{All-head, All-tail}
 use Rattle.std.proofs.lemmas.Option.{slice_get_within}
 use Rattle.pl_base.specs.Answers.{because, ◌>>=◌}
 use Rattle.pl_base.specs.Bytes.{bytes64}
-use Rattle.pl_base.specs.Memory.{Piece, AtMostOne, lies, is_within}
+use Rattle.pl_base.specs.Memory.{Piece, lies, is_within}
 use Rattle.pl_base.proofs.AnswerLaws.{because_ok}
 use Rattle.pl_base.proofs.MemoryLaws.{within_is}
 use Rattle.pl_tls.specs.declared.module.Module.{Module}

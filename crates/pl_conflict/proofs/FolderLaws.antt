@@ -1,15 +1,15 @@
 -- Over a folder that keeps the rule at a program's name: its files stand for their originals, and the fast image is the ordinary one.
-use Rattle.std.proofs.Common.{◌≡◌, ℕ, zero, suc, ◌+◌, ◌<◌, ◌≤◌, Bool, true, false, List, [], ◌∷◌, length, map, get_or, drop, Option, Some, None, Result, Ok, Err, refl, sym, ap, subst, ◌∙◌, arith, inl, inr}
-use Rattle.std.specs.Prelude.{◌⊎◌, ◌&&◌, ◌==◌, nat_eq, find, slice_index_or, if◌then◌else◌}
+use Rattle.std.proofs.Common.{◌≡◌, ℕ, ◌<◌, ◌≤◌, true, false, List, [], ◌∷◌, length, map, get_or, drop, Option, Some, None, Result, Ok, Err, refl, sym, ap, subst, ◌∙◌, arith, inl, inr}
+use Rattle.std.specs.Prelude.{nat_eq, slice_index_or}
 use Rattle.std.specs.Bool.{Decides}
 use Rattle.std.specs.List.{All, AllZip, filter_map, cons_option}
 use Rattle.std.specs.Option.{is_some}
 use Rattle.std.specs.Str.{bytes_eq}
 use Rattle.std.specs.Cmp.Lexicographic.{pointwise}
-use Rattle.std.proofs.lemmas.Bool.{cases_Bool, and_parts, true≢false, false≢true}
+use Rattle.std.proofs.lemmas.Bool.{cases_Bool, and_parts, false≢true}
 use Rattle.std.proofs.lemmas.Bool.Decides.{nat_tests}
 use Rattle.std.proofs.lemmas.List.Elements.{All-nil, All-cons, All-head, All-tail}
-use Rattle.std.proofs.lemmas.Option.{none-some, same_Some, slice_get-get_or}
+use Rattle.std.proofs.lemmas.Option.{same_Some, slice_get-get_or}
 use Rattle.std.proofs.lemmas.Slice.Eq.{slice_eq-Decides}
 use Rattle.pl_base.specs.Answers.{◌>>=◌}
 use Rattle.pl_base.specs.Memory.{Memory}
@@ -20,7 +20,6 @@ use Rattle.pl_elf.specs.declared.kind.Kind.TheVariants.{Program, Library, Static
 use Rattle.pl_form.specs.Files.{marked_in, original_in}
 use Rattle.pl_form.specs.Marks.{IsFormOf}
 use Rattle.pl_form.specs.declared.constants.TheConstants.{STORED}
-use Rattle.pl_form.specs.declared.file.Marked.{Marked}
 use Rattle.pl_form.proofs.BytesLaws.{forms_are_bytes}
 use Rattle.pl_form.proofs.FilesLaws.{forms_are_read}
 use Rattle.pl_image.specs.Image.{byte_of}
@@ -31,12 +30,12 @@ use Rattle.pl_scope.specs.Members.{names, others, has, told, IsLinked}
 use Rattle.pl_scope.specs.Scope as scopes
 use Rattle.pl_scope.specs.Walk.{Walked, walk_over}
 use Rattle.pl_scope.specs.declared.fault.WalkFault.{WalkFault}
-use Rattle.pl_scope.proofs.ClosureLaws.{WalkTells, walk_is, ToldWalk, member_told, MemberWalk, member_walk}
+use Rattle.pl_scope.proofs.ClosureLaws.{WalkTells, walk_is, member_told, member_walk}
 use Rattle.pl_scope.proofs.NameLaws.{same_name, eq_refl, has_cons, has_head, has_tail}
 use Rattle.pl_scope.proofs.StepLaws.{walk_there}
 use Rattle.pl_scope.proofs.WalkedLaws.{member_file}
-use Rattle.pl_sound.specs.Rule.{Format, Files, Member, object_at, mark_at, original_at, member_at, objects, walk_in, of_walk, prelinked_in, members, matches, tells_walk}
-use Rattle.pl_sound.proofs.Matching.{Matches, tells_is, members_are}
+use Rattle.pl_sound.specs.Rule.{Files, Member, object_at, mark_at, original_at, member_at, objects, walk_in, of_walk, prelinked_in, matches}
+use Rattle.pl_sound.proofs.Matching.{tells_is, members_are}
 use Rattle.pl_sound.proofs.RuleLaws.{linked, other_is, first_is}
 use Rattle.pl_tls.specs.Layout.{offsets}
 use Rattle.pl_tls.specs.declared.module.Module.{Module}
@@ -45,14 +44,14 @@ use Rattle.pl_value.specs.Ordinary.{loaded, ordinary, shown_linked}
 use Rattle.pl_value.specs.declared.fault.LinkFault.{LinkFault}
 use Rattle.pl_value.specs.declared.meaning.Meaning.{Meaning}
 use Rattle.pl_conflict.specs.Complete.{StandFor, bytes_of, file_at, files_in, originals_in, slots_in, rows_of, IsProgramWalk, FilesStand, FastImagesAreOrdinary}
-use Rattle.pl_conflict.specs.Format.{Causes, format, mark_in, slot_at, others_in, libraries, is_fast, RuleAt}
+use Rattle.pl_conflict.specs.Format.{Causes, format, slot_at, others_in, libraries, is_fast, RuleAt}
 use Rattle.pl_conflict.specs.Prelinked as prelinked
 use Rattle.pl_conflict.specs.Prelinked.{Firm, firm_of, objects_of, slots_of, originals_of, walked_of, has_numbers, library_file, named, names_in, own_walk}
 use Rattle.pl_conflict.specs.Standing.{standing_image}
 use Rattle.pl_conflict.proofs.FormatLaws.{read_is, format_kept}
-use Rattle.pl_conflict.proofs.MadeLaws.{IsProgramOf, program_made, program_is_form, IsPrelinked, prelinked_is, library_of, program_from}
-use Rattle.pl_conflict.proofs.MemberLaws.{IsFirmOf, member_firm, firms_are, HasOwn, all_own, IsSet, program_numbers}
-use Rattle.pl_conflict.proofs.SetLaws.{HasLibrary, HasFile, HasFiles, library_has, set_stands, set_fast}
+use Rattle.pl_conflict.proofs.MadeLaws.{program_made, program_is_form, prelinked_is, library_of, program_from}
+use Rattle.pl_conflict.proofs.MemberLaws.{member_firm, firms_are, HasOwn, all_own, IsSet, program_numbers}
+use Rattle.pl_conflict.proofs.SetLaws.{HasFiles, library_has, set_stands, set_fast}
 use Rattle.pl_conflict.proofs.StandLaws.{IsLibraryFile}
 
 -- ---- kinds

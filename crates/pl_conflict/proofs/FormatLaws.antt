@@ -1,5 +1,5 @@
 -- The format of prelinked files keeps what every format keeps.
-use Rattle.std.proofs.Common.{◌≡◌, ℕ, Bool, true, false, List, [], ◌∷◌, map, Option, Some, None, Result, Ok, Err, refl, sym, ap, subst, ◌∙◌, inl, inr}
+use Rattle.std.proofs.Common.{◌≡◌, ℕ, true, false, List, Option, Some, None, Ok, refl, sym, ap, subst, ◌∙◌, inl, inr}
 use Rattle.std.specs.Prelude.{◌⊎◌, nat_lt, length}
 use Rattle.std.specs.Option.{option_map}
 use Rattle.std.proofs.lemmas.Bool.{false≢true, true≢false}
@@ -9,15 +9,14 @@ use Rattle.pl_elf.specs.Kinds.{is_library, is_static}
 use Rattle.pl_elf.specs.declared.kind.Kind.{Kind}
 use Rattle.pl_elf.specs.declared.kind.Kind.TheVariants.{Program, Library, Static}
 use Rattle.pl_form.specs.Files.{marked_in, original_in, original_by}
-use Rattle.pl_form.specs.Marks.{has_mark, IsFormOf, IsMark, IsLibraryMark, IsProgramMark}
+use Rattle.pl_form.specs.Marks.{has_mark, IsFormOf, IsMark}
 use Rattle.pl_form.specs.declared.constants.TheConstants.{STORED}
 use Rattle.pl_form.specs.declared.file.Marked.{Marked}
 use Rattle.pl_form.proofs.FilesLaws.{forms_are_read, nothing_else_is_read, originals_are_bare}
 use Rattle.pl_object.specs.Reads.{reads}
 use Rattle.pl_object.specs.declared.object.Object.{Object}
-use Rattle.pl_sound.specs.Rule.{IsFormat, Mark, Member}
-use Rattle.pl_conflict.specs.Prelinked.{prelinked}
-use Rattle.pl_conflict.specs.Format.{Causes, format, mark_of, mark_in, mark_for, read_original, IsPrelinkedForm, FormatIsKept}
+use Rattle.pl_sound.specs.Rule.{Mark}
+use Rattle.pl_conflict.specs.Format.{Causes, mark_of, mark_in, read_original, FormatIsKept}
 use Rattle.pl_conflict.proofs.MadeLaws.{prelinked_forms}
 
 -- ---- what is read of a form

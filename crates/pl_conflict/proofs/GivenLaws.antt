@@ -1,14 +1,14 @@
 -- The bytes at the places of a program: one list of bytes for each of its relocations.
-use Rattle.std.proofs.Common.{◌≡◌, ℕ, zero, suc, ◌+◌, ◌-◌, ◌<◌, ◌≤◌, Bool, true, false, List, [], ◌∷◌, ◌++◌, length, map, get_or, Option, Some, None, Result, Ok, refl, sym, ap, subst, ◌∙◌, arith, inl, inr}
-use Rattle.std.specs.Prelude.{◌⊎◌, ◌==◌, filter}
-use Rattle.std.specs.List.{All, AllZip, concat, filter_map}
+use Rattle.std.proofs.Common.{◌≡◌, ℕ, ◌+◌, ◌-◌, ◌<◌, true, false, List, [], ◌∷◌, ◌++◌, length, map, get_or, Ok, refl, sym, ap, ◌∙◌, arith, inl, inr}
+use Rattle.std.specs.Prelude.{◌==◌, filter}
+use Rattle.std.specs.List.{All, AllZip, concat}
 use Rattle.std.specs.Option.{unwrap_or, IfSome}
-use Rattle.std.proofs.lemmas.Bool.{cases_Bool, cases_lt, eqb-true, true≢false}
+use Rattle.std.proofs.lemmas.Bool.{cases_Bool, cases_lt}
 use Rattle.std.proofs.lemmas.Bool.Decides.{nat_tests}
 use Rattle.std.proofs.lemmas.List.{get_or_past}
-use Rattle.std.proofs.lemmas.List.Elements.{All-nil, All-cons, All-head, All-tail, All-append, All-map}
-use Rattle.pl_base.specs.Bytes.{IsBytes, bytes64}
-use Rattle.pl_base.specs.Memory.{Memory, Piece, Fill, is_within, lies, byte_at, layered, read, filled, over}
+use Rattle.std.proofs.lemmas.List.Elements.{All-nil, All-head, All-tail, All-append, All-map}
+use Rattle.pl_base.specs.Bytes.{IsBytes}
+use Rattle.pl_base.specs.Memory.{Memory, Piece, Fill, is_within, lies, layered, read, filled, over}
 use Rattle.pl_base.proofs.MemoryLaws.{read_length, read_byte, All-filter_map}
 use Rattle.pl_base.proofs.WordLaws.{is_bytes_nil, is_bytes_append, is_bytes_bytes64}
 use Rattle.pl_form.specs.Pieces.{IsGiven as IsGivenFor}
@@ -16,7 +16,7 @@ use Rattle.pl_object.specs.declared.object.Object.{Object}
 use Rattle.pl_object.specs.declared.reloc.Reloc.{Reloc}
 use Rattle.pl_tls.specs.declared.module.Module.{Module}
 use Rattle.pl_value.specs.Linked.{put_of, copy_of, words, copies, worded, relocated}
-use Rattle.pl_value.specs.Meanings.{Row, row, rows, rows_from, meanings}
+use Rattle.pl_value.specs.Meanings.{Row, row, rows_from, meanings}
 use Rattle.pl_value.specs.declared.meaning.Meaning.{Meaning}
 use Rattle.pl_value.specs.declared.word.Word.{Word}
 use Rattle.pl_value.specs.declared.word.Word.TheVariants.{Put, Copy, Nothing}

@@ -1,14 +1,12 @@
 -- What the file of one member loads, and the rows one meaning after the other.
-use Rattle.std.proofs.Common.{◌≡◌, ℕ, suc, ◌+◌, ◌-◌, ◌<◌, ◌≤◌, true, List, [], ◌∷◌, ◌++◌, length, take, drop, get_or, Option, Some, None, refl, sym, ap, subst, ◌∙◌, arith}
-use Rattle.std.specs.Prelude.{slice_get}
-use Rattle.std.specs.List.{filter_map, All}
+use Rattle.std.proofs.Common.{◌≡◌, ℕ, ◌+◌, ◌-◌, ◌<◌, List, [], ◌∷◌, ◌++◌, length, take, drop, get_or, Option, Some, None, refl, sym, ap, subst, ◌∙◌, arith}
+use Rattle.std.specs.List.{filter_map}
 use Rattle.std.specs.Option.{option_to_list}
 use Rattle.std.proofs.lemmas.List.{append-nil, take_more, drop_more}
 use Rattle.std.proofs.lemmas.List.Elements.{filter_map-append}
 use Rattle.std.proofs.lemmas.Option.{slice_get-get_or}
 use Rattle.pl_base.specs.Memory.{Piece, layered, filled, read}
-use Rattle.pl_elf.specs.declared.constants.TheConstants.{ADDRESS_LIMIT}
-use Rattle.pl_image.specs.Image.{all_pieces, ascends, AreLoaded}
+use Rattle.pl_image.specs.Image.{all_pieces, AreLoaded}
 use Rattle.pl_image.specs.declared.loaded.Loaded.{Loaded}
 use Rattle.pl_image.proofs.PlacedLaws.{alone}
 use Rattle.pl_lists.specs.declared.conflict_row.ConflictRow.{ConflictRow}

@@ -1,24 +1,22 @@
 -- What the members of a walk prelink is a form.
-use Rattle.std.proofs.Common.{◌≡◌, ℕ, zero, suc, ◌+◌, ◌-◌, ◌*◌, ◌^◌, ◌%◌, ◌<◌, ◌≤◌, Bool, true, false, List, [], ◌∷◌, length, map, Option, Some, None, Result, Ok, Err, refl, sym, ap, subst, ◌∙◌, arith, inl, inr}
-use Rattle.std.specs.Prelude.{◌⊎◌, ◌==◌, nat_le, filter}
-use Rattle.std.specs.List.{All, AllZip, concat, filter_map, list_all}
+use Rattle.std.proofs.Common.{◌≡◌, ℕ, zero, suc, ◌+◌, ◌-◌, ◌^◌, ◌≤◌, true, false, List, [], ◌∷◌, length, map, Option, Some, None, Result, Ok, Err, refl, sym, ap, subst, ◌∙◌, arith, inl, inr}
+use Rattle.std.specs.Prelude.{nat_le, filter}
+use Rattle.std.specs.List.{All, AllZip, concat, list_all}
 use Rattle.std.proofs.lemmas.Bool.{cases_Bool, leb-true, and_from}
 use Rattle.std.proofs.lemmas.List.{length-map}
-use Rattle.std.proofs.lemmas.List.Elements.{All-nil, All-cons, All-head, All-tail, All-append, All-map}
+use Rattle.std.proofs.lemmas.List.Elements.{All-nil, All-cons, All-head, All-tail, All-append}
 use Rattle.std.proofs.lemmas.Option.{none-some, same_Some}
 use Rattle.pl_base.specs.Answers.{◌>>=◌}
-use Rattle.pl_base.specs.Bytes.{IsBytes, bytes64, part}
+use Rattle.pl_base.specs.Bytes.{IsBytes, bytes64}
 use Rattle.pl_base.specs.Memory.{Memory, Piece, layered, read}
 use Rattle.pl_base.proofs.AnswerLaws.{ok_same}
 use Rattle.pl_base.proofs.WordLaws.{is_bytes_nil, is_bytes_append, is_bytes_bytes64, is_bytes_part, is_bytes_take, is_bytes_zeros}
 use Rattle.pl_elf.specs.Headers.{loads}
 use Rattle.pl_elf.specs.Kinds.{is_library}
 use Rattle.pl_elf.specs.declared.segment.Segment.{Segment}
-use Rattle.pl_form.specs.Faults.{IsFirm}
-use Rattle.pl_form.specs.Library.{library_with, library_form}
-use Rattle.pl_form.specs.Marks.{form_with, IsFormOf, IsLibraryMark, IsProgramMark}
+use Rattle.pl_form.specs.Library.{library_with}
+use Rattle.pl_form.specs.Marks.{IsFormOf, IsLibraryMark, IsProgramMark}
 use Rattle.pl_form.specs.Program.{program_with}
-use Rattle.pl_form.specs.Reading.{IsOwn}
 use Rattle.pl_form.specs.Words as words
 use Rattle.pl_form.specs.Words.{checksum_of, all_filled}
 use Rattle.pl_form.specs.declared.constants.TheConstants.{STORED}
@@ -34,7 +32,7 @@ use Rattle.pl_lists.specs.Conflicts.{are_conflicts, ascend}
 use Rattle.pl_lists.specs.Lists.{is_list}
 use Rattle.pl_lists.specs.declared.conflict_row.ConflictRow.{ConflictRow}
 use Rattle.pl_object.specs.declared.object.Object.{Object}
-use Rattle.pl_parts.specs.Back.{when, wanted}
+use Rattle.pl_parts.specs.Back.{wanted}
 use Rattle.pl_parts.specs.Found.{ps_of}
 use Rattle.pl_parts.specs.declared.parts.Spot.{Spot}
 use Rattle.pl_scope.specs.Scope.{IsAccepted}
@@ -49,7 +47,7 @@ use Rattle.pl_value.specs.Targets.{base_of}
 use Rattle.pl_value.specs.declared.fault.LinkFault.{LinkFault}
 use Rattle.pl_value.specs.declared.meaning.Meaning.{Meaning}
 use Rattle.pl_conflict.specs.Conflicts.{rows_of, ascending, conflicts}
-use Rattle.pl_conflict.specs.Format.{mark_of, mark_for, row_of, row_for, number_of, IsPrelinkedForm, PrelinkedAreForms}
+use Rattle.pl_conflict.specs.Format.{mark_of, mark_for, row_of, row_for, number_of, PrelinkedAreForms}
 use Rattle.pl_conflict.specs.Own.{own_words}
 use Rattle.pl_conflict.specs.Prelinked as prelinked
 use Rattle.pl_conflict.specs.Prelinked.{Firm, firm_of, all_firm, objects_of, slots_of, originals_of, version_of, has_numbers, list_row, list_of, are_set, library_file, parts_of, fill_of, is_program_place, flat_of, program_by, with_rows, with_modules, program_file, file_of, stored, of_firm}

@@ -1,6 +1,6 @@
 -- Members that have forms, and what a set of them keeps.
-use Rattle.std.proofs.Common.{◌≡◌, ℕ, zero, suc, ◌+◌, ◌^◌, ◌%◌, ◌<◌, ◌≤◌, Bool, true, false, List, [], ◌∷◌, length, map, Option, Some, None, Result, Ok, Err, refl, sym, ap, subst, ◌∙◌, arith, inl, inr}
-use Rattle.std.specs.Prelude.{◌&&◌, ◌||◌, ◌==◌, not, nat_le, nat_lt, if◌then◌else◌}
+use Rattle.std.proofs.Common.{◌≡◌, ℕ, zero, suc, ◌+◌, ◌^◌, ◌%◌, ◌<◌, ◌≤◌, Bool, true, false, List, [], ◌∷◌, length, Option, Some, None, Result, Ok, Err, refl, sym, subst, inl, inr}
+use Rattle.std.specs.Prelude.{◌&&◌, ◌==◌, not, nat_le, nat_lt}
 use Rattle.std.specs.List.{All, AllZip, list_all, flat_map}
 use Rattle.std.proofs.lemmas.Bool.{cases_Bool, and_parts, eqb-true, leb-true, ltb-true, not-true}
 use Rattle.std.proofs.lemmas.List.Elements.{All-nil, All-cons}
@@ -12,8 +12,6 @@ use Rattle.pl_elf.specs.Kinds.{is_library}
 use Rattle.pl_elf.specs.declared.constants.TheConstants.{ADDRESS_LIMIT}
 use Rattle.pl_form.specs.Files.{is_byte, are_bytes}
 use Rattle.pl_form.specs.Reading.{is_firm, firm_if, firm_object, IsOwn}
-use Rattle.pl_form.specs.declared.version.Version.{Version}
-use Rattle.pl_form.specs.declared.version.Version.TheVariants.{One, Two}
 use Rattle.pl_form.proofs.SoundLaws.{own_of}
 use Rattle.pl_lists.specs.Lists.{is_list}
 use Rattle.pl_object.specs.Reads.{reads}

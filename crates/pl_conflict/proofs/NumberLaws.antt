@@ -1,19 +1,17 @@
 -- Conflict rows can be written: their numbers have 64 bits, and their addresses ascend.
-use Rattle.std.proofs.Common.{◌≡◌, ℕ, zero, suc, ◌+◌, ◌*◌, ◌/◌, ◌^◌, ◌<◌, ◌≤◌, Bool, true, false, cond, List, [], ◌∷◌, length, map, get_or, Option, Some, None, Result, Ok, Err, refl, sym, ap, subst, ◌∙◌, arith, inl, inr}
+use Rattle.std.proofs.Common.{◌≡◌, ℕ, suc, ◌+◌, ◌*◌, ◌/◌, ◌^◌, ◌<◌, ◌≤◌, Bool, true, false, cond, List, [], ◌∷◌, length, get_or, Option, Some, None, Result, Ok, Err, refl, sym, ap, subst, ◌∙◌, arith, inl, inr}
 use Rattle.std.specs.Prelude.{◌&&◌, ◌||◌, ◌==◌, not, min, nat_lt, find, slice_get}
-use Rattle.std.specs.List.{All, AllZip, list_all, list_any, filter_map, range_with_len}
+use Rattle.std.specs.List.{All, AllZip, list_all, list_any, range_with_len}
 use Rattle.std.specs.Option.{IfSome}
 use Rattle.std.specs.Result.{is_ok}
 use Rattle.std.specs.Str.{bytes_eq}
-use Rattle.std.proofs.lemmas.Bool.{cases_Bool, cases_lt, and_from, lt-ltb, false≢true}
+use Rattle.std.proofs.lemmas.Bool.{cases_Bool, cases_lt, and_from, lt-ltb}
 use Rattle.std.proofs.lemmas.Bool.Decides.{nat_tests}
-use Rattle.std.proofs.lemmas.List.{length-append, length-map}
+use Rattle.std.proofs.lemmas.List.{length-append}
 use Rattle.std.proofs.lemmas.List.Elements.{All-nil, All-cons, All-head, All-tail, All-weaker}
 use Rattle.std.proofs.lemmas.List.Sorted.{All-permutation}
 use Rattle.std.proofs.lemmas.Option.{none-some, same_Some}
-use Rattle.pl_base.specs.Answers.{refuse, unless, because}
-use Rattle.pl_base.specs.Bytes.{IsBytes, word64, bytes32, bytes64}
-use Rattle.pl_base.specs.Sums.{plus, minus}
+use Rattle.pl_base.specs.Bytes.{IsBytes, bytes64}
 use Rattle.pl_base.proofs.AnswerLaws.{refuse_none, refuse_next, bind_ok, unless_ok, ok_same, because_ok}
 use Rattle.pl_base.proofs.MemoryLaws.{All-filter_map}
 use Rattle.pl_base.proofs.SumLaws.{plus_below, minus_below}
@@ -44,7 +42,7 @@ use Rattle.pl_object.specs.declared.headers.Headers.{Headers}
 use Rattle.pl_object.specs.declared.linking.Linking.{Linking}
 use Rattle.pl_object.proofs.AcceptedLaws.{read_holds}
 use Rattle.pl_dyn.specs.declared.tags.Tag.{Tag}
-use Rattle.pl_scope.specs.Finds.{finds, own_symbol}
+use Rattle.pl_scope.specs.Finds.{finds}
 use Rattle.pl_scope.specs.declared.found.Found.{Found}
 use Rattle.pl_scope.specs.declared.reference.Reference.{Reference}
 use Rattle.pl_scope.proofs.MemberLaws.{all_at}
@@ -53,7 +51,6 @@ use Rattle.pl_sym.specs.Table as table
 use Rattle.pl_sym.specs.Table.{named}
 use Rattle.pl_sym.specs.declared.constants.TheConstants.{SYMBOL_SIZE}
 use Rattle.pl_sym.specs.declared.symbol.Symbol.{Symbol}
-use Rattle.pl_base.specs.Strings.{string_at}
 use Rattle.pl_tls.specs.Layout.{offset_after, modules_from, is_too_far, offsets}
 use Rattle.pl_tls.specs.declared.block.Block.{Block}
 use Rattle.pl_tls.specs.declared.fault.TlsFault.TheVariants.{TooLarge}

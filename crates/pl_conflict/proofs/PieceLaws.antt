@@ -1,18 +1,14 @@
 -- Files in pieces that stand for originals.
-use Rattle.std.proofs.Common.{◌≡◌, ℕ, Bool, true, false, List, [], ◌∷◌, Some, refl, ap, inl, inr}
+use Rattle.std.proofs.Common.{◌≡◌, ℕ, false, List, [], ◌∷◌, Some, refl, ap, inl, inr}
 use Rattle.std.specs.List.{list_any, AllZip}
-use Rattle.std.specs.List.Sorted.{IsPermutation}
 use Rattle.std.proofs.lemmas.Bool.{cases_Bool}
 use Rattle.pl_base.specs.Memory.{AtMostOne, Piece, lies, layered}
 use Rattle.pl_base.proofs.MemoryLaws.{layered_one, shown_same}
 use Rattle.pl_image.specs.declared.loaded.Loaded.{Loaded}
-use Rattle.pl_lists.specs.declared.conflict_row.ConflictRow.{ConflictRow}
-use Rattle.pl_value.specs.Laws.{AllFit}
 use Rattle.pl_value.specs.Linked.{under, relocated}
 use Rattle.pl_value.specs.declared.meaning.Meaning.{Meaning}
 use Rattle.pl_base.specs.Memory.{filled}
-use Rattle.pl_conflict.specs.Conflicts.{rows_of}
-use Rattle.pl_conflict.specs.Fast.{patches, is_library, IsForm, AreForms, fast_image, ordinary_image, FastIsOrdinary}
+use Rattle.pl_conflict.specs.Fast.{patches, IsForm, AreForms, FastIsOrdinary}
 use Rattle.pl_conflict.proofs.FastLaws.{IsFile, fast_is_relocated}
 
 -- where no place is over the address, the originals' byte

@@ -1,16 +1,16 @@
 -- The members of a set as a scope: each object is read of its original, and at the slots no two of them have an address in common.
-use Rattle.std.proofs.Common.{◌≡◌, ℕ, zero, suc, ◌+◌, ◌^◌, ◌<◌, ◌≤◌, Bool, true, false, List, [], ◌∷◌, ◌++◌, length, map, get_or, Ok, refl, sym, ap, subst, ◌∙◌, zero-add, arith, inl, inr}
-use Rattle.std.specs.Prelude.{◌⊎◌, ◌&&◌, ◌||◌, nat_le, nat_lt}
-use Rattle.std.specs.List.{All, AllZip, list_all, list_any, flat_map}
+use Rattle.std.proofs.Common.{◌≡◌, ℕ, zero, suc, ◌+◌, ◌^◌, ◌<◌, ◌≤◌, true, false, List, [], ◌∷◌, ◌++◌, length, map, get_or, refl, sym, ap, subst, ◌∙◌, zero-add, arith, inl, inr}
+use Rattle.std.specs.Prelude.{◌||◌, nat_le}
+use Rattle.std.specs.List.{All, list_all, list_any, flat_map}
 use Rattle.std.proofs.lemmas.Bool.{cases_Bool, and_parts, or_parts, or_from, leb-true, false≢true, false_from_ne_true}
 use Rattle.std.proofs.lemmas.Bool.Decides.{nat_tests}
 use Rattle.std.proofs.lemmas.List.Elements.{All-head, All-tail, All-weaker}
 use Rattle.std.proofs.lemmas.List.Folds.{list_any-append}
-use Rattle.pl_base.specs.Memory.{Piece, lies, is_within}
+use Rattle.pl_base.specs.Memory.{Piece, lies}
 use Rattle.pl_base.specs.Windows.{Window, holds, share, any_share}
 use Rattle.pl_base.proofs.MemoryLaws.{within_true, within_is}
 use Rattle.pl_base.proofs.WindowLaws.{holds_true}
-use Rattle.pl_elf.specs.Clauses.{AreLoads, ascend_from}
+use Rattle.pl_elf.specs.Clauses.{ascend_from}
 use Rattle.pl_elf.specs.Headers.{loads}
 use Rattle.pl_elf.specs.Kinds.{is_library}
 use Rattle.pl_elf.specs.declared.constants.TheConstants.{ADDRESS_LIMIT}
@@ -19,7 +19,6 @@ use Rattle.pl_elf.proofs.AcceptedLaws.{LoadFits, loads_fit}
 use Rattle.pl_image.specs.Image.{all_pieces}
 use Rattle.pl_image.specs.Loads.{loaded_piece, loaded_pieces, pieces_at, loaded_at, IsPlaced}
 use Rattle.pl_image.specs.declared.loaded.Loaded.{Loaded}
-use Rattle.pl_object.specs.Reads.{span}
 use Rattle.pl_object.specs.declared.object.Object.{Object}
 use Rattle.pl_object.proofs.AcceptedLaws.{accepted}
 use Rattle.pl_object.proofs.SpanLaws.{Ends, span_ends}

@@ -1,24 +1,23 @@
 -- A program and its libraries, each with its prelinked file: with the conflict rows the files are the ordinary image.
-use Rattle.std.proofs.Common.{◌≡◌, ℕ, zero, suc, ◌+◌, ◌*◌, ◌^◌, ◌%◌, ◌<◌, ◌≤◌, Bool, true, false, List, [], ◌∷◌, length, map, get_or, drop, Option, Some, None, Result, Ok, Err, refl, sym, ap, subst, ◌∙◌, arith, inl, inr}
-use Rattle.std.specs.Prelude.{if◌then◌else◌, ◌==◌, ◌||◌, not, filter, slice_get, slice_index, slice_index_or}
-use Rattle.std.specs.List.{All, AllZip, filter_map, concat, list_all}
+use Rattle.std.proofs.Common.{◌≡◌, ℕ, zero, suc, ◌+◌, ◌<◌, ◌≤◌, true, false, List, [], ◌∷◌, length, map, get_or, drop, Option, Some, None, Result, Ok, Err, refl, sym, ap, subst, ◌∙◌, arith, inl, inr}
+use Rattle.std.specs.Prelude.{if◌then◌else◌, ◌==◌, not, filter, slice_get, slice_index, slice_index_or}
+use Rattle.std.specs.List.{All, list_all}
 use Rattle.std.specs.Str.{bytes_eq}
-use Rattle.std.proofs.lemmas.Bool.{cases_Bool, and_parts, and_from, true≢false}
+use Rattle.std.proofs.lemmas.Bool.{cases_Bool, and_from, true≢false}
 use Rattle.std.proofs.lemmas.Bool.Decides.{nat_tests}
-use Rattle.std.proofs.lemmas.List.Elements.{All-head, All-tail, All-cons}
+use Rattle.std.proofs.lemmas.List.Elements.{All-head, All-tail}
 use Rattle.pl_base.specs.Answers.{◌>>=◌}
 use Rattle.pl_base.specs.Bytes.{bytes64}
-use Rattle.pl_base.specs.Memory.{Memory, layered, read}
+use Rattle.pl_base.specs.Memory.{layered, read}
 use Rattle.pl_elf.specs.Kinds.{is_library, is_program, is_static}
 use Rattle.pl_elf.specs.declared.header.Header.{Header}
 use Rattle.pl_elf.specs.declared.kind.Kind.{Kind}
 use Rattle.pl_elf.specs.declared.kind.Kind.TheVariants.{Program, Library, Static}
-use Rattle.pl_form.specs.Library.{IsFirmLibrary, IsEven, library_with}
 use Rattle.pl_form.specs.Program.{IsFirmProgram, program_with}
 use Rattle.pl_form.specs.declared.constants.TheConstants.{STORED}
 use Rattle.pl_form.proofs.AlignLaws.{align_even, slot_even}
 use Rattle.pl_form.proofs.FirmLaws.{library_three, program_two}
-use Rattle.pl_image.specs.Image.{all_pieces, byte_of}
+use Rattle.pl_image.specs.Image.{byte_of}
 use Rattle.pl_image.specs.Loads.{loaded_at}
 use Rattle.pl_image.specs.declared.loaded.Loaded.{Loaded}
 use Rattle.pl_lists.specs.declared.conflict_row.ConflictRow.{ConflictRow}
@@ -26,8 +25,7 @@ use Rattle.pl_object.specs.Accepted.{is_exec}
 use Rattle.pl_object.specs.declared.object.Object.{Object}
 use Rattle.pl_object.proofs.AcceptedLaws.{accepted}
 use Rattle.pl_tls.specs.declared.module.Module.{Module}
-use Rattle.pl_value.specs.Laws.{is_shared, is_shared_at}
-use Rattle.pl_value.specs.Linked.{relocated}
+use Rattle.pl_value.specs.Laws.{is_shared}
 use Rattle.pl_value.specs.Meanings.{meanings}
 use Rattle.pl_value.specs.Ordinary.{part_of, loaded_from, loaded, shown_linked}
 use Rattle.pl_value.specs.Targets.{base_of}

@@ -1,6 +1,6 @@
 -- The prelinked files of a program and of libraries stand for their originals.
-use Rattle.std.proofs.Common.{◌≡◌, ℕ, zero, suc, ◌+◌, ◌-◌, ◌^◌, ◌<◌, ◌≤◌, Bool, true, false, List, [], ◌∷◌, ◌++◌, length, map, get_or, drop, Option, Some, None, Ok, refl, sym, ap, subst, ◌∙◌, zero-add, arith, inl, inr}
-use Rattle.std.specs.Prelude.{◌&&◌, ◌||◌, ◌==◌, not, filter, slice_index}
+use Rattle.std.proofs.Common.{◌≡◌, ℕ, zero, suc, ◌+◌, ◌-◌, ◌^◌, ◌<◌, ◌≤◌, Bool, true, false, List, [], ◌∷◌, ◌++◌, length, map, get_or, Option, Some, None, Ok, refl, sym, ap, subst, ◌∙◌, zero-add, arith, inl, inr}
+use Rattle.std.specs.Prelude.{◌==◌, filter, slice_index}
 use Rattle.std.specs.List.{All, AllZip, list_any, concat}
 use Rattle.std.specs.Option.{is_some, unwrap_or}
 use Rattle.std.proofs.lemmas.Bool.{cases_Bool, and_from, or_parts, or_from, eq-eqb, not-false, false≢true, false_from_ne_true}
@@ -22,7 +22,7 @@ use Rattle.pl_form.specs.declared.constants.TheConstants.{STORED}
 use Rattle.pl_form.specs.declared.version.Version.{Version}
 use Rattle.pl_form.proofs.PieceLaws.{library_stands, program_stands, library_moved}
 use Rattle.pl_image.specs.Image.{all_pieces, any_masked}
-use Rattle.pl_image.specs.Loads.{loaded_piece, loaded_pieces, pieces_at, load_at, mask_at, loaded_at, loads_table, is_masked, IsPlaced}
+use Rattle.pl_image.specs.Loads.{loaded_piece, loaded_pieces, pieces_at, load_at, mask_at, loads_table, is_masked, IsPlaced}
 use Rattle.pl_image.specs.declared.loaded.Loaded.{Loaded}
 use Rattle.pl_image.specs.declared.mask.Load.{Load}
 use Rattle.pl_image.specs.declared.mask.Mask.{Mask}
@@ -43,7 +43,7 @@ use Rattle.pl_value.specs.Targets.{base_of}
 use Rattle.pl_value.specs.declared.meaning.Meaning.{Meaning}
 use Rattle.pl_value.proofs.MeaningLaws.{IsGiven, meanings_given, zip_weaker}
 use Rattle.pl_value.proofs.PlaceLaws.{reloc_over, IsHeld, relocs_held}
-use Rattle.pl_conflict.specs.Complete.{Stands, LibrariesStand, AreFormsOf, StandFor}
+use Rattle.pl_conflict.specs.Complete.{Stands, LibrariesStand, StandFor}
 use Rattle.pl_conflict.specs.Fast.{IsForm, Holds, is_library}
 use Rattle.pl_conflict.specs.Prelinked.{is_program_place}
 use Rattle.pl_conflict.specs.Standing.{standing_from, standing}

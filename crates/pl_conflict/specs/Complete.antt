@@ -1,5 +1,5 @@
 -- The conflict rows are complete: on the fast path the image is the ordinary image of the originals, whatever is in their scope.
-use Rattle.std.specs.Prelude.{◌≡◌, ◌⊎◌, ℕ, true, false, List, [], ◌∷◌, map, drop, slice_index_or, length, ◌<◌, Option, Some, None, Result, Ok}
+use Rattle.std.specs.Prelude.{◌≡◌, ℕ, true, false, List, [], map, drop, slice_index_or, length, ◌<◌, Option, Some, None, Ok}
 use Rattle.std.specs.List.{All, AllZip}
 use Rattle.pl_base.specs.Memory.{Memory, Piece, layered}
 use Rattle.pl_tls.specs.Layout.{offsets}

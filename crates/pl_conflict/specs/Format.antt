@@ -1,5 +1,5 @@
 -- The format of prelinked files, and the rule that their folder keeps.
-use Rattle.std.specs.Prelude.{◌≡◌, ℕ, Bool, true, ◌&&◌, nat_eq, nat_lt, List, [], ◌∷◌, map, drop, length, Option, Some, None, Result, Ok, Err}
+use Rattle.std.specs.Prelude.{◌≡◌, ℕ, Bool, true, ◌&&◌, nat_eq, nat_lt, List, [], ◌∷◌, map, drop, length, Option, Some, Result, Ok, Err}
 use Rattle.std.specs.Option.{option_map}
 use Rattle.std.specs.Cmp.Lexicographic.{pointwise}
 use Rattle.pl_base.specs.Answers.{because, unless}

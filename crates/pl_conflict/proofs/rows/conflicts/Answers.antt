@@ -1,5 +1,3 @@
-use Rattle.std.proofs.Common.{ap, sym, ◌∙◌, subst, List, ◌<◌, length}
-use Rattle.std.specs.List.{All}
 use Rattle.std.proofs.lemmas.Result.{err_from_is_err_and}
 use Rattle.pl_base.proofs.AnswerLaws.{because_ok}
 use Rattle.pl_scope.specs.Scope.{objects}
