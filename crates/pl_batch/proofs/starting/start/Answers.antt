@@ -1,0 +1,15 @@
+use Rattle.pl_batch.specs.Commands.{ready}
+use Rattle.pl_batch.proofs.StartLemmas.{start_failed, start_lacked, started, started_bad}
+use Rattle.pl_batch.proofs.starting.start.Goals as goal
+
+pub returns-in-Ok-clause-calls : goal.returns-in-Ok-clause-calls
+returns-in-Ok-clause-calls g c = started c.in-Ok.ensures.calls
+
+pub returns-in-Err-BadJournal-clause-calls : goal.returns-in-Err-BadJournal-clause-calls
+returns-in-Err-BadJournal-clause-calls g c = started_bad (rw c.in-Err-BadJournal.field-0-is at c.in-Err-BadJournal.ensures.calls)
+
+pub returns-in-Err-Failed-clause-calls : goal.returns-in-Err-Failed-clause-calls
+returns-in-Err-Failed-clause-calls g c = start_failed ready (rw c.in-Err-Failed.field-0-is at c.in-Err-Failed.ensures.calls)
+
+pub returns-in-Err-NoMemory-clause-calls : goal.returns-in-Err-NoMemory-clause-calls
+returns-in-Err-NoMemory-clause-calls g c = start_lacked ready (rw c.in-Err-NoMemory.field-0-is at c.in-Err-NoMemory.ensures.calls)

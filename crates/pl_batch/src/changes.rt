@@ -1,0 +1,75 @@
+// The rows of a command.
+ghost use Rattle.std.specs.Prelude.{◌≡◌, IfOk, true};
+ghost use Rattle.pl_journal.specs.Meaning.{rows_for};
+ghost use Rattle.pl_journal.specs.Spelling.{are_rows};
+ghost use Rattle.pl_batch.specs.Answers.{Finds, MeansAlone};
+ghost use Rattle.pl_batch.specs.Changes as spec;
+
+use crate::storing::{installed, removed};
+use crate::undoing::{all_undone, undone};
+use crate::{BatchFault, Cause, Run};
+use pl_base::Rows;
+use pl_folder::Folder;
+use pl_journal::{Change, are_changes};
+use std::alloc::Global;
+
+/// The rows, where a journal can have them.
+fn fitting(rows: Rows<Change>) -> Result<Rows<Change>, BatchFault>
+    ensures means { MeansAlone (spec.fitting rows) result }
+    ensures fits { IfOk result (λ rows. are_rows (rows_for rows) ≡ true) }
+{
+    if !are_changes(rows.as_slice()) {
+        return Err(BatchFault::Cause(Cause::TooManyFiles));
+    }
+    Ok(rows)
+}
+
+fn changes_by<D: Folder>(
+    alloc: Global,
+    folder: &mut D,
+    run: &Run,
+) -> Result<Rows<Change>, BatchFault>
+    requires { spec.IsRun run.now }
+    ensures { Finds (spec.changes_by (D.seen folder.old).files run.now) (λ rows. rows) result
+        (D.seen folder.old) (D.seen folder.new) }
+{
+    match run {
+        Run::UndoAll => all_undone(alloc, folder),
+        Run::Undo { names } => undone(alloc, folder, names.as_slice()),
+        Run::Install { name, bytes } => installed(alloc, folder, name.as_str(), bytes.as_slice()),
+    }
+}
+
+/// The rows of the journal of a command, ascending by name; a file whose bytes would not change has no row. Or the first cause, in this order:
+/// - of `UndoAll`: TooManyFiles, FileTooLarge in the order of the names; a file that bears a mark and is no form stays as it is;
+/// - of `Undo`: TooManyFiles, then for each name in the order given BadName, NotThere, FileTooLarge, BadMark;
+/// - of `Install`: BadName, BadMark, TooManyFiles.
+///
+/// Bytes that are installed are at most `pl_folder::STORED`. `DiskFailed` comes only where the folder failed. No call writes to the folder. Where a journal could not have the rows, which no folder that lists each name once gives, the cause is TooManyFiles.
+pub fn changes_of<D: Folder>(
+    alloc: Global,
+    folder: &mut D,
+    run: &Run,
+) -> Result<Rows<Change>, BatchFault>
+    requires { spec.IsRun run.now }
+    ensures found { Finds (spec.changes_of (D.seen folder.old).files run.now) (λ rows. rows) result
+        (D.seen folder.old) (D.seen folder.new) }
+    ensures fits { IfOk result (λ rows. are_rows (rows_for rows) ≡ true) }
+{
+    let rows = changes_by(alloc, folder, run)?;
+    fitting(rows)
+}
+
+/// The row of the journal of `--remove`, or the first cause: BadName, NotThere.
+pub(crate) fn removal_of<D: Folder>(
+    alloc: Global,
+    folder: &mut D,
+    name: &str,
+) -> Result<Rows<Change>, BatchFault>
+    ensures found { Finds (spec.removal_of (D.seen folder.old).files name.now) (λ rows. rows) result
+        (D.seen folder.old) (D.seen folder.new) }
+    ensures fits { IfOk result (λ rows. are_rows (rows_for rows) ≡ true) }
+{
+    let rows = removed(alloc, folder, name)?;
+    fitting(rows)
+}
