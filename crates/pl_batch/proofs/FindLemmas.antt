@@ -1,15 +1,13 @@
 -- How what is found in a folder goes on, and how it stops.
-use Rattle.std.proofs.Common.{◌≡◌, ℕ, List, map, Bool, true, false, Option, Some, None, refl, sym, ◌∙◌, ap, subst, ⊎_elim, inl, inr, arith}
+use Rattle.std.proofs.Common.{◌≡◌, ℕ, List, map, Bool, true, false, Option, Some, None, refl, sym, ◌∙◌, ap, subst, ⊎_elim, inr, arith}
 use Rattle.std.specs.Prelude.{Result, Ok, Err, IsErrAnd, Vec, String, string_bytes, length, nat_le, if◌then◌else◌}
 use Rattle.std.specs.declared.alloc.Global.{Global}
 use Rattle.std.specs.FinMap.{get, keys}
 use Rattle.pl_base.specs.Answers.{◌>>=◌, unless}
 use Rattle.pl_base.specs.Files.{Files}
-use Rattle.pl_folder.specs.Calls.{Calls, GivesNames, IsPlain, Takes}
+use Rattle.pl_folder.specs.Calls.{Calls, GivesNames, Takes}
 use Rattle.pl_folder.specs.Disk.{Disk, IsImage}
-use Rattle.pl_folder.specs.Effects.{Idles}
-use Rattle.pl_folder.specs.Seen.{Seen, Ending, Done, Broken, Undone}
-use Rattle.pl_folder.specs.Seen as folder
+use Rattle.pl_folder.specs.Seen.{Seen, Ending, Done, Undone}
 use Rattle.pl_folder.specs.Taken.{taken, stored}
 use Rattle.pl_folder.specs.declared.TheConstants.{STORED}
 use Rattle.pl_folder.specs.declared.fault.FolderFault.{FolderFault}
@@ -19,7 +17,7 @@ use Rattle.pl_journal.specs.Parts.{Looking}
 use Rattle.pl_journal.proofs.Endings.{makes_told, no_calls, then_told}
 use Rattle.pl_journal.proofs.RecoverLemmas.{no_look}
 use Rattle.pl_journal.proofs.RecoverParts.{looking}
-use Rattle.pl_batch.specs.Answers.{Finds, Means, MeansAlone, Stops, ending, fault_ending, of_folder, of_take}
+use Rattle.pl_batch.specs.Answers.{Finds, Means, MeansAlone, of_folder, of_take}
 use Rattle.pl_batch.specs.Names.{file_of, of_file}
 use Rattle.pl_batch.specs.Store.{is_file}
 use Rattle.pl_batch.specs.declared.cause.Cause.{Cause}

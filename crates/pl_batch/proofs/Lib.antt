@@ -6,3 +6,4 @@ pub mod StoreLemmas
 pub mod StartLemmas
 pub mod MakeLemmas
 pub mod RestoredLemmas
+pub mod LentLemmas

@@ -1,11 +1,10 @@
 -- The files that a folder stands for.
-use Rattle.std.proofs.Common.{◌≡◌, inl, inr, ⊎_elim, ℕ, ◌+◌, ◌&&◌, Bool, true, false, cond, List, [], ◌∷◌, Option, Some, None, is_some, refl, sym, ◌∙◌, ap, subst}
+use Rattle.std.proofs.Common.{◌≡◌, ℕ, ◌+◌, ◌&&◌, Bool, true, false, cond, List, [], ◌∷◌, Option, Some, None, is_some, refl, sym, ◌∙◌, ap}
 use Rattle.std.specs.Prelude.{not}
-use Rattle.std.specs.FinMap.{get, get-insert, get-remove, get-retain_keys, insert, nat_cmp-IsAntisymmetric, remove, retain_keys, slice_cmp-IsAntisymmetric}
-use Rattle.std.specs.Ordering.{nat_cmp}
-use Rattle.std.specs.Cmp.Lexicographic.{nat_list_cmp_total, slice_cmp}
+use Rattle.std.specs.FinMap.{get, get-insert, get-remove, get-retain_keys, nat_cmp-IsAntisymmetric, retain_keys, slice_cmp-IsAntisymmetric}
+use Rattle.std.specs.Cmp.Lexicographic.{nat_list_cmp_total}
 use Rattle.pl_base.specs.Files.{Files}
-use Rattle.pl_folder.specs.Disk.{Name, View, same}
+use Rattle.pl_folder.specs.Disk.{Name, same}
 use Rattle.pl_journal.specs.Names.{beside, is_own, journal}
 use Rattle.pl_journal.specs.Rows.{all_done, clean, done_from, recovered, rows_in}
 use Rattle.pl_journal.specs.declared.row.Row.{Row}

@@ -14,7 +14,6 @@ use Rattle.pl_journal.specs.Names.{journal}
 use Rattle.pl_journal.specs.Parts.{Recovers}
 use Rattle.pl_journal.specs.Rows.{all_done, recovered, rows_in}
 use Rattle.pl_journal.specs.declared.fault.JournalFault.TheVariants as journal_faults
-use Rattle.pl_journal.specs.declared.change.Change.{Change}
 use Rattle.pl_journal.specs.declared.row.Row.{Row}
 use Rattle.pl_journal.proofs.Endings.{makes_told}
 use Rattle.pl_journal.proofs.Meanings.{recovered_no_own, stands_self}

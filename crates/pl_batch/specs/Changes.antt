@@ -1,5 +1,5 @@
 -- What a command changes, as the rows of a journal.
-use Rattle.std.specs.Prelude.{◌≡◌, ◌≤◌, ℕ, ⊤, not, List, length, Result, Ok}
+use Rattle.std.specs.Prelude.{◌≤◌, ℕ, ⊤, not, List, length, Result, Ok}
 use Rattle.pl_base.specs.Answers.{◌>>=◌, unless}
 use Rattle.pl_base.specs.Files.{Files}
 use Rattle.pl_folder.specs.declared.TheConstants.{STORED}

@@ -1,10 +1,10 @@
 -- What a writing command makes of a folder: it recovers it, and then makes the changes that it means of the recovered files, all or none.
-use Rattle.std.specs.Prelude.{◌≡◌, ◌⊎◌, ℕ, not, Bool, true, length, List, [], is_some, Result, Ok, Err}
+use Rattle.std.specs.Prelude.{◌≡◌, ◌⊎◌, ℕ, not, true, length, List, [], is_some, Result, Ok, Err}
 use Rattle.std.specs.FinMap.{get}
 use Rattle.pl_base.specs.Answers.{◌>>=◌, unless}
 use Rattle.pl_base.specs.Files.{Files}
 use Rattle.pl_base.specs.Names.{is_valid_name}
-use Rattle.pl_folder.specs.Disk.{View, State, Disk, read}
+use Rattle.pl_folder.specs.Disk.{View, Disk, read}
 use Rattle.pl_folder.specs.Effects.{Effect}
 use Rattle.pl_folder.specs.Seen.{Ending, Seen}
 use Rattle.pl_folder.specs.Since.{Keeps, Within}

@@ -6,3 +6,4 @@ pub mod Commands
 pub mod Changes
 pub mod Starts
 pub mod Restored
+pub mod Lent

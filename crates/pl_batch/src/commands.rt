@@ -1,4 +1,4 @@
-//! The writing commands.
+//! The writing commands, over a folder that is held.
 ghost use Rattle.std.specs.Prelude.{IfOk, OnOk};
 ghost use Rattle.pl_folder.specs.Calls.{Calls};
 ghost use Rattle.pl_journal.specs.Parts.{IsRested};
@@ -28,12 +28,12 @@ fn start_run<D: Folder>(held: &mut Held<D>, alloc: Global, run: &Run) -> Result<
     }
 }
 
-/// Recovers the folder and then makes the changes of a run, all or none; so many names change. The first cause counts:
-/// - of `UndoAll` and `Undo`: BadJournal, then those of `changes_of`;
-/// - of `Install`: BadName, BadJournal, then those of `changes_of`.
-///
-/// After a cause the folder is recovered and nothing else changes. `DiskFailed` comes only where the folder failed: recovered, it then has all changes or none. `NoMemory` comes before any change is committed. Each image that a crash on the way may leave stands for the files before or for those after; that of a moment before the first `settle` that is done may be one of the folder's images at the start.
-pub fn do_run<D: Folder>(held: &mut Held<D>, alloc: Global, run: &Run) -> Result<usize, BatchFault>
+/// `do_run`, over a folder that is held.
+pub(crate) fn run_held<D: Folder>(
+    held: &mut Held<D>,
+    alloc: Global,
+    run: &Run,
+) -> Result<usize, BatchFault>
     requires { IsRun run.now }
     ensures calls { Calls (ending result) (Commands (run_meant run.now) (outcome result))
         (D.seen held.old.folder) (D.seen held.new.folder) }
@@ -46,8 +46,12 @@ pub fn do_run<D: Folder>(held: &mut Held<D>, alloc: Global, run: &Run) -> Result
     Ok(rows.len())
 }
 
-/// Recovers the folder and then removes the file of a name, as `do_run` makes its changes. The first cause counts: BadName, BadJournal, NotThere.
-pub fn remove<D: Folder>(held: &mut Held<D>, alloc: Global, name: &str) -> Result<(), BatchFault>
+/// `remove`, over a folder that is held.
+pub(crate) fn remove_held<D: Folder>(
+    held: &mut Held<D>,
+    alloc: Global,
+    name: &str,
+) -> Result<(), BatchFault>
     ensures { Calls (ending result) (Commands (removal_meant name.now) (outcome result))
         (D.seen held.old.folder) (D.seen held.new.folder) }
 {
@@ -57,8 +61,8 @@ pub fn remove<D: Folder>(held: &mut Held<D>, alloc: Global, name: &str) -> Resul
     Ok(())
 }
 
-/// Recovers the folder for a command that stores a file under a name, before its bytes are read. The first cause counts: BadName, BadJournal.
-pub fn recover_for<D: Folder>(
+/// `recover_for`, over a folder that is held.
+pub(crate) fn recover_held<D: Folder>(
     held: &mut Held<D>,
     alloc: Global,
     name: &str,

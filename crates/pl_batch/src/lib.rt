@@ -6,6 +6,8 @@ mod changes;
 mod commands;
 mod fault;
 mod laws;
+mod lending;
+mod lent;
 mod room;
 mod run;
 mod starting;
@@ -15,8 +17,8 @@ mod undoing;
 
 pub use cause::Cause;
 pub use changes::changes_of;
-pub use commands::{do_run, recover_for, remove};
 pub use fault::BatchFault;
 pub use laws::stands_for_files;
+pub use lending::{do_run, recover_for, remove};
 pub use room::FILES;
 pub use run::Run;

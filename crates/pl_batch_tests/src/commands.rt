@@ -3,7 +3,6 @@ use crate::marked::{original, prelinked};
 use pl_base::{Rows, Text};
 use pl_batch::{BatchFault, Cause, Run, do_run, remove};
 use pl_folder::{Folder, MemoryFolder, STORED, are_files};
-use pl_stage::Held;
 use std::alloc::Global;
 use std::test::Fail;
 
@@ -36,13 +35,11 @@ fn install(
         name: Text::copy_of(alloc, name)?,
         bytes: Rows::from_vec(bytes.to_vec(alloc)?),
     };
-    let mut held = Held { folder };
-    do_run(&mut held, alloc, &run)
+    do_run(alloc, folder, &run)
 }
 
 fn undo_all(alloc: Global, folder: &mut MemoryFolder) -> Result<usize, BatchFault> {
-    let mut held = Held { folder };
-    do_run(&mut held, alloc, &Run::UndoAll)
+    do_run(alloc, folder, &Run::UndoAll)
 }
 
 fn undo(alloc: Global, folder: &mut MemoryFolder, names: &[&str]) -> Result<usize, BatchFault> {
@@ -51,13 +48,7 @@ fn undo(alloc: Global, folder: &mut MemoryFolder, names: &[&str]) -> Result<usiz
         rows.push(Text::copy_of(alloc, name)?)?;
     }
     let run = Run::Undo { names: rows };
-    let mut held = Held { folder };
-    do_run(&mut held, alloc, &run)
-}
-
-fn removed(alloc: Global, folder: &mut MemoryFolder, name: &str) -> Result<(), BatchFault> {
-    let mut held = Held { folder };
-    remove(&mut held, alloc, name)
+    do_run(alloc, folder, &run)
 }
 
 #[test]
@@ -67,10 +58,20 @@ fn stores_and_removes(rt: HostRuntime) -> Result<(), Fail> {
     assert!(rt; install(alloc, &mut folder, "notes", NOTES)? == 1);
     assert!(rt; install(alloc, &mut folder, "notes", NOTES)? == 0);
     assert!(rt; folder.take(alloc, "notes")?.as_slice() == NOTES);
-    removed(alloc, &mut folder, "notes")?;
+    remove(alloc, &mut folder, "notes")?;
     assert!(rt; folder.names(alloc)?.is_empty());
-    assert!(rt; matches!(removed(alloc, &mut folder, "notes"), Err(BatchFault::Cause(Cause::NotThere(_)))));
-    assert!(rt; matches!(removed(alloc, &mut folder, "a/b"), Err(BatchFault::Cause(Cause::BadName))));
+    assert!(rt;
+        matches!(
+            remove(alloc, &mut folder, "notes"),
+            Err(BatchFault::Cause(Cause::NotThere(_)))
+        )
+    );
+    assert!(rt;
+        matches!(
+            remove(alloc, &mut folder, "a/b"),
+            Err(BatchFault::Cause(Cause::BadName))
+        )
+    );
     Ok(())
 }
 
@@ -78,10 +79,30 @@ fn stores_and_removes(rt: HostRuntime) -> Result<(), Fail> {
 fn looks_at_the_name_before_the_journal(rt: HostRuntime) -> Result<(), Fail> {
     let alloc = rt.alloc();
     let mut folder = folder_of(alloc, &[(JOURNAL, b"abc"), ("notes", NOTES)])?;
-    assert!(rt; matches!(install(alloc, &mut folder, "a/b", b""), Err(BatchFault::Cause(Cause::BadName))));
-    assert!(rt; matches!(install(alloc, &mut folder, "a", b""), Err(BatchFault::Cause(Cause::BadJournal))));
-    assert!(rt; matches!(removed(alloc, &mut folder, "notes"), Err(BatchFault::Cause(Cause::BadJournal))));
-    assert!(rt; matches!(undo_all(alloc, &mut folder), Err(BatchFault::Cause(Cause::BadJournal))));
+    assert!(rt;
+        matches!(
+            install(alloc, &mut folder, "a/b", b""),
+            Err(BatchFault::Cause(Cause::BadName))
+        )
+    );
+    assert!(rt;
+        matches!(
+            install(alloc, &mut folder, "a", b""),
+            Err(BatchFault::Cause(Cause::BadJournal))
+        )
+    );
+    assert!(rt;
+        matches!(
+            remove(alloc, &mut folder, "notes"),
+            Err(BatchFault::Cause(Cause::BadJournal))
+        )
+    );
+    assert!(rt;
+        matches!(
+            undo_all(alloc, &mut folder),
+            Err(BatchFault::Cause(Cause::BadJournal))
+        )
+    );
     assert!(rt; folder.take(alloc, "notes")?.as_slice() == NOTES);
     assert!(rt; folder.names(alloc)?.len() == 2);
     Ok(())
@@ -104,7 +125,12 @@ fn undoes(rt: HostRuntime) -> Result<(), Fail> {
     let library = original(alloc)?;
     let form = prelinked(alloc, &library)?;
     let mut folder = folder_of(alloc, &[("liba", &form), ("libb", &form), ("notes", NOTES)])?;
-    assert!(rt; matches!(undo(alloc, &mut folder, &["libb", "a"]), Err(BatchFault::Cause(Cause::NotThere(_)))));
+    assert!(rt;
+        matches!(
+            undo(alloc, &mut folder, &["libb", "a"]),
+            Err(BatchFault::Cause(Cause::NotThere(_)))
+        )
+    );
     assert!(rt; folder.take(alloc, "libb")? == form);
     assert!(rt; undo(alloc, &mut folder, &["libb", "notes", "libb"])? == 1);
     assert!(rt; folder.take(alloc, "libb")? == library);

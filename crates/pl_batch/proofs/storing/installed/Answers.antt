@@ -1,5 +1,5 @@
-use Rattle.std.proofs.Common.{◌≡◌, ℕ, List, map, true, false, rules, sym, ◌∙◌, ap, arith}
-use Rattle.std.specs.Prelude.{Ok, Err, Result, String, string_bytes}
+use Rattle.std.proofs.Common.{◌≡◌, List, map, true, false, rules, sym, ◌∙◌, ap}
+use Rattle.std.specs.Prelude.{String, string_bytes}
 use Rattle.std.specs.declared.alloc.Global.{Global}
 use Rattle.pl_base.specs.Names.{is_valid_name}
 use Rattle.pl_base.proofs.NameLaws.{valid_length}

@@ -1,5 +1,5 @@
 use Rattle.std.proofs.Common.{◌≡◌, ℕ, List, map, true, false, rules, sym, ◌∙◌, ap, subst}
-use Rattle.std.specs.Prelude.{Ok, Err, Result, String, string_bytes}
+use Rattle.std.specs.Prelude.{Err, String, string_bytes}
 use Rattle.std.specs.declared.alloc.Global.{Global}
 use Rattle.pl_base.specs.Names.{is_valid_name}
 use Rattle.pl_batch.specs.Answers.{Finds}
@@ -9,7 +9,7 @@ use Rattle.pl_batch.specs.declared.fault.BatchFault.TheVariants.{NoMemory}
 use Rattle.pl_batch.specs.declared.fault.BatchFault.TheVariants as faults
 use Rattle.pl_batch.specs.declared.cause.Cause.TheVariants as causes
 use Rattle.pl_batch.proofs.FindLemmas.{at_err}
-use Rattle.pl_batch.proofs.StoreLemmas.{remove_absent, remove_invalid, remove_lacks, remove_one, remove_unlisted}
+use Rattle.pl_batch.proofs.StoreLemmas.{remove_absent, remove_invalid, remove_one, remove_unlisted}
 use Rattle.pl_batch.proofs.UndoLemmas.{rows}
 use Rattle.pl_batch.proofs.storing.removed.Goals as goal
 

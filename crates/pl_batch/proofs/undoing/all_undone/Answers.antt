@@ -1,4 +1,4 @@
-use Rattle.std.proofs.Common.{◌≡◌, List, ℕ, map, true, false, rules, sym, ◌∙◌, ap, subst}
+use Rattle.std.proofs.Common.{List, map, sym, ◌∙◌, ap, subst}
 use Rattle.std.specs.Prelude.{string_bytes, String}
 use Rattle.std.specs.declared.alloc.Global.{Global}
 use Rattle.pl_batch.specs.Answers.{Finds}

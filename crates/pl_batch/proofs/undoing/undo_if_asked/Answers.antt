@@ -1,5 +1,4 @@
-use Rattle.std.proofs.Common.{◌≡◌, true, false, sym, ◌∙◌}
-use Rattle.pl_batch.specs.Names.{has_name}
+use Rattle.std.proofs.Common.{sym, ◌∙◌}
 use Rattle.pl_batch.proofs.UndoLemmas.{is_asked, not_asked}
 use Rattle.pl_batch.proofs.undoing.undo_if_asked.Goals as goal
 

@@ -1,11 +1,11 @@
-use Rattle.std.proofs.Common.{◌≡◌, List, ℕ, map, true, false, rules, sym, ◌∙◌, ap, subst}
+use Rattle.std.proofs.Common.{List, map, sym, ◌∙◌, ap, subst}
 use Rattle.std.specs.Prelude.{string_bytes, String}
 use Rattle.std.specs.declared.alloc.Global.{Global}
 use Rattle.pl_batch.specs.Answers.{Finds}
 use Rattle.pl_batch.specs.Names.{are_many}
 use Rattle.pl_batch.specs.Undo.{if_asked, rows_of, undone}
 use Rattle.pl_batch.proofs.FindLemmas.{at_err}
-use Rattle.pl_batch.proofs.UndoLemmas.{rows, texts, undone_many, undone_rows, undone_stops, undone_unlisted}
+use Rattle.pl_batch.proofs.UndoLemmas.{rows, undone_many, undone_rows, undone_stops, undone_unlisted}
 use Rattle.pl_batch.proofs.undoing.undone.Goals as goal
 
 pub returns-in_err-names : goal.returns-in_err-names

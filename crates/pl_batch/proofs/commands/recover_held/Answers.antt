@@ -6,7 +6,7 @@ use Rattle.pl_batch.specs.Commands.{Commands, Meaning, outcome, ready_for}
 use Rattle.pl_batch.specs.Starts.{Starts}
 use Rattle.pl_batch.specs.declared.fault.BatchFault.{BatchFault}
 use Rattle.pl_batch.proofs.MakeLemmas.{starts_alone, stops_alone}
-use Rattle.pl_batch.proofs.commands.recover_for.Goals as goal
+use Rattle.pl_batch.proofs.commands.recover_held.Goals as goal
 
 recovers : (first : Meaning) (r : Result (Unit {0}) BatchFault) {a b : Seen} → Calls (ending r) (Starts first (outcome r)) a b → Calls (ending r) (Commands first (outcome r)) a b
 recovers first (Ok u) call = starts_alone first call

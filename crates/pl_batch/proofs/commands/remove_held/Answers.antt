@@ -1,5 +1,4 @@
-use Rattle.std.proofs.Common.{◌≡◌, List, true, sym, ap, subst}
-use Rattle.std.specs.Prelude.{length}
+use Rattle.std.proofs.Common.{◌≡◌, List, true, sym, subst}
 use Rattle.pl_folder.specs.Calls.{Calls}
 use Rattle.pl_folder.specs.Seen.{Done}
 use Rattle.pl_journal.specs.Faults.{journal_ending}
@@ -12,7 +11,7 @@ use Rattle.pl_batch.specs.Changes.{removal_meant, removal_of}
 use Rattle.pl_batch.specs.Commands.{Commands, outcome, ready_for}
 use Rattle.pl_batch.proofs.FindLemmas.{at_err}
 use Rattle.pl_batch.proofs.MakeLemmas.{made, rested_on, stops_early, stops_finding, stops_making}
-use Rattle.pl_batch.proofs.commands.remove.Goals as goal
+use Rattle.pl_batch.proofs.commands.remove_held.Goals as goal
 
 pub returns-in_err-start_for : goal.returns-in_err-start_for
 returns-in_err-start_for g c =

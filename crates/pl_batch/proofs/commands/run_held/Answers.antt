@@ -1,5 +1,4 @@
-use Rattle.std.proofs.Common.{◌≡◌, List, true, sym, ap, subst}
-use Rattle.std.specs.Prelude.{length}
+use Rattle.std.proofs.Common.{◌≡◌, List, true, sym, subst}
 use Rattle.pl_folder.specs.Calls.{Calls}
 use Rattle.pl_folder.specs.Seen.{Done}
 use Rattle.pl_journal.specs.Faults.{journal_ending}
@@ -12,7 +11,7 @@ use Rattle.pl_batch.specs.Changes.{changes_of, ready_by, run_meant}
 use Rattle.pl_batch.specs.Commands.{Commands, outcome}
 use Rattle.pl_batch.proofs.FindLemmas.{at_err}
 use Rattle.pl_batch.proofs.MakeLemmas.{counted, made, rested_on, stops_early, stops_finding, stops_making}
-use Rattle.pl_batch.proofs.commands.do_run.Goals as goal
+use Rattle.pl_batch.proofs.commands.run_held.Goals as goal
 
 pub returns-in_err-start_run-clause-calls : goal.returns-in_err-start_run-clause-calls
 returns-in_err-start_run-clause-calls g c =

@@ -1,0 +1,52 @@
+//! The writing commands.
+ghost use Rattle.std.specs.Prelude.{IfOk};
+ghost use Rattle.pl_folder.specs.Calls.{Calls};
+ghost use Rattle.pl_batch.specs.Answers.{ending};
+ghost use Rattle.pl_batch.specs.Changes.{IsRun, removal_meant, run_meant};
+ghost use Rattle.pl_batch.specs.Commands.{Commands, Counts, outcome, ready_for};
+
+use crate::commands::{recover_held, remove_held, run_held};
+use crate::lent::Lent;
+use crate::{BatchFault, Run};
+use pl_folder::Folder;
+use pl_stage::Held;
+use std::alloc::Global;
+
+/// Recovers the folder and then makes the changes of a run, all or none; so many names change. The first cause counts:
+/// - of `UndoAll` and `Undo`: BadJournal, then those of `changes_of`;
+/// - of `Install`: BadName, BadJournal, then those of `changes_of`.
+///
+/// After a cause the folder is recovered and nothing else changes. `DiskFailed` comes only where the folder failed: recovered, it then has all changes or none. `NoMemory` comes before any change is committed. Each image that a crash on the way may leave stands for the files before or for those after; that of a moment before the first `settle` that is done may be one of the folder's images at the start.
+pub fn do_run<D: Folder>(alloc: Global, folder: &mut D, run: &Run) -> Result<usize, BatchFault>
+    requires { IsRun run.now }
+    ensures calls { Calls (ending result) (Commands (run_meant run.now) (outcome result))
+        (D.seen folder.old) (D.seen folder.new) }
+    ensures count { IfOk result (λ count. Counts (run_meant run.now) count (D.seen folder.old)) }
+{
+    let mut held = Held {
+        folder: Lent { folder },
+    };
+    run_held(&mut held, alloc, run)
+}
+
+/// Recovers the folder and then removes the file of a name, as `do_run` makes its changes. The first cause counts: BadName, BadJournal, NotThere.
+pub fn remove<D: Folder>(alloc: Global, folder: &mut D, name: &str) -> Result<(), BatchFault>
+    ensures { Calls (ending result) (Commands (removal_meant name.now) (outcome result))
+        (D.seen folder.old) (D.seen folder.new) }
+{
+    let mut held = Held {
+        folder: Lent { folder },
+    };
+    remove_held(&mut held, alloc, name)
+}
+
+/// Recovers the folder for a command that stores a file under a name, before its bytes are read. The first cause counts: BadName, BadJournal.
+pub fn recover_for<D: Folder>(alloc: Global, folder: &mut D, name: &str) -> Result<(), BatchFault>
+    ensures { Calls (ending result) (Commands (ready_for name.now) (outcome result))
+        (D.seen folder.old) (D.seen folder.new) }
+{
+    let mut held = Held {
+        folder: Lent { folder },
+    };
+    recover_held(&mut held, alloc, name)
+}
