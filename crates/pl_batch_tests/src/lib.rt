@@ -1,7 +1,0 @@
-//! Tests of pl_batch, over folders in memory.
-#![tactic(auto)]
-
-#[cfg(test)]
-mod commands;
-#[cfg(test)]
-mod marked;
