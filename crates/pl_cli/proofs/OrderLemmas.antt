@@ -11,7 +11,12 @@ use Rattle.pl_base.specs.Files.{Files}
 use Rattle.pl_base.specs.Names.{is_valid_name}
 use Rattle.pl_folder.specs.Calls.{Calls}
 use Rattle.pl_folder.specs.Seen.{Seen, IsFolder, Done}
+use Rattle.pl_form.specs.Files as forms
+use Rattle.pl_form.specs.Marks as marks
 use Rattle.pl_form.specs.Marks.{IsFile}
+use Rattle.pl_form.specs.declared.fault.FileFault.{FileFault}
+use Rattle.pl_form.specs.declared.fault.FileFault.TheVariants as faults
+use Rattle.pl_object.specs.declared.refusal.Refusal.TheVariants as refusals
 use Rattle.pl_form.specs.declared.file.File.{File}
 use Rattle.pl_form.specs.declared.file.File.TheVariants as files
 use Rattle.pl_object.specs.declared.object.Object.{Object}
@@ -26,7 +31,7 @@ use Rattle.pl_scope.specs.declared.fault.WalkFault.TheVariants as walk_faults
 use Rattle.pl_scope.specs.declared.member.Member.{Member}
 use Rattle.pl_scope.proofs.MemberLaws.{length_walked}
 use Rattle.pl_scope.proofs.WalkLaws.{give_given, walk_ends, walk_goes_on, walk_lacks, walk_stops}
-use Rattle.pl_loader.specs.Faults.{of_walk}
+use Rattle.pl_loader.specs.Faults.{of_file, of_walk}
 use Rattle.pl_loader.specs.Walk.{walk_fault}
 use Rattle.pl_loader.specs.declared.fault.LoadFault.TheVariants.{NotThere}
 use Rattle.pl_cli.specs.declared.cause.Cause.{Cause}
@@ -52,6 +57,16 @@ use Rattle.pl_cli.proofs.WalkLemmas.{goes_on, not_begun, refused_name, stopped_h
 pub accepted_by : (bytes : List ℕ) (file : File) → length bytes < 2 ^ 32 → IsFile bytes file → IsAccepted (object_by file)
 accepted_by bytes (files.Plain x) few is = record { bytes = bytes; size = few; read = is.1 }
 accepted_by bytes (files.Marked m) few is = record { bytes = m.original; size = is.firm.few; read = is.firm.accepted }
+
+pub original_is : (bytes : List ℕ) (file : File) → forms.file_in bytes ≡ Ok file → original bytes ≡ Ok (object_by file)
+unfolding original
+original_is bytes file is = ap (λ (r : Result File FileFault). r >>= λ f. Ok (object_by f)) is
+
+pub original_refused : (name bytes : List ℕ) (fault : FileFault) → Answers marks.is_memory (Err fault) (forms.file_in bytes) → StopsAlone (because (refused name) (original bytes)) (of_load_fault (of_file name fault))
+unfolding original
+original_refused name bytes faults.BadMark is = ap (λ (r : Result File FileFault). because (refused name) (r >>= λ f. Ok (object_by f))) is
+original_refused name bytes (faults.Refused (refusals.Clause number argument)) is = ap (λ (r : Result File FileFault). because (refused name) (r >>= λ f. Ok (object_by f))) is
+original_refused name bytes (faults.Refused refusals.NoMemory) is = tt
 
 lacks_object : (files : Files) (n : List ℕ) (cause : Cause) → file_in files n ≡ Err cause → object_in files n ≡ Err cause
 unfolding object_in
