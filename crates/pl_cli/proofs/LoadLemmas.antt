@@ -15,7 +15,9 @@ use Rattle.pl_scope.specs.declared.fault.WalkFault.{WalkFault}
 use Rattle.pl_loader.specs.Faults.{is_memory, of_walk}
 use Rattle.pl_loader.specs.Loading.{Loading}
 use Rattle.pl_loader.specs.Started as start
-use Rattle.pl_loader.specs.Walk.{IsUnderWay, entered, files, give, object_in, object_of, of_wanted, taken, walk_fault, with_file}
+use Rattle.pl_loader.specs.Walk.{IsUnderWay, entered, file_of, files, give, of_wanted, read_in, taken, walk_fault, with_file}
+use Rattle.pl_loader.specs.declared.object_file.ObjectFile.{ObjectFile}
+use Rattle.pl_object.specs.declared.object.Object.{Object}
 use Rattle.pl_loader.specs.declared.fault.LoadFault.{LoadFault}
 use Rattle.pl_loader.specs.declared.fault.LoadFault.TheVariants.{NotThere}
 use Rattle.pl_loader.proofs.LoadLaws.{load_ends, load_lacks, load_stops}
@@ -42,24 +44,22 @@ of_walked : (make : Walking → Loading) → ((w : Walking) → (make w).order �
 of_walked make same (Ok w) = ap Ok (sym (same w))
 of_walked make same (Err e) = refl
 
-of_objects : {O : Type 0} (r : Result O LoadFault) (step : O → Result Walking WalkFault) (make : O → Walking → Loading) → ((o : O) (w : Walking) → (make o w).order ≡ w)
-    → (because causes.Load r >>= λ o. because (walk_fault causes.Load) (step o)) ≡ because causes.Load ((r >>= λ o. because of_walk (step o) >>= λ order. Ok (make o order)) >>= λ m. Ok m.order)
-of_objects (Ok o) step make same = of_walked (make o) (same o) (step o)
-of_objects (Err e) step make same = refl
+of_files : (r : Result ObjectFile LoadFault) (step : Object → Result Walking WalkFault) (make : ObjectFile → Walking → Loading) → ((f : ObjectFile) (w : Walking) → (make f w).order ≡ w)
+    → ((because causes.Load r >>= λ f. Ok f.object) >>= λ o. because (walk_fault causes.Load) (step o)) ≡ because causes.Load ((r >>= λ f. because of_walk (step f.object) >>= λ order. Ok (make f order)) >>= λ m. Ok m.order)
+of_files (Ok f) step make same = of_walked (make f) (same f) (step f.object)
+of_files (Err e) step make same = refl
 
 module _ (l : Loading) (n bytes : List ℕ) where
   step_is : (files : Files) (name : List ℕ) → wants l.order ≡ Some n → l.name ≡ name → file_in files n ≡ Ok bytes → stepped (loaded_object files name) l.order n ≡ because causes.Load (give l (Some bytes) >>= λ m. Ok m.order)
-  unfolding taken entered object_of
+  unfolding taken entered file_of
   step_is files name is named there =
-      let looked : stepped (loaded_object files name) l.order n ≡ (because causes.Load (object_in name n bytes) >>= λ o. because (walk_fault causes.Load) (walk.entered l.order n o)) =
-      ap (λ (r : Result (List ℕ) Cause). (r >>= λ b. because causes.Load (object_in name n b)) >>= λ o. because (walk_fault causes.Load) (walk.entered l.order n o)) there in
-      let same : (object_in name n bytes >>= λ o. because of_walk (walk.entered l.order n o) >>= λ order. Ok (with_file l order (record { name = n; bytes = bytes; object = o }))) ≡ give l (Some bytes) =
-      ap (λ (m : List ℕ). object_in m n bytes >>= λ o. because of_walk (walk.entered l.order n o) >>= λ order. Ok (with_file l order (record { name = n; bytes = bytes; object = o }))) (sym named)
-      ∙ ap (λ (wanted : Option (List ℕ)). object_in l.name n bytes >>= λ o. because of_walk (walk.of_wanted l.order o wanted) >>= λ order. Ok (with_file l order (record { name = n; bytes = bytes; object = o }))) (sym is)
+      let looked : stepped (loaded_object files name) l.order n ≡ ((because causes.Load (read_in name n bytes) >>= λ f. Ok f.object) >>= λ o. because (walk_fault causes.Load) (walk.entered l.order n o)) =
+      ap (λ (r : Result (List ℕ) Cause). ((r >>= λ b. because causes.Load (read_in name n b)) >>= λ f. Ok f.object) >>= λ o. because (walk_fault causes.Load) (walk.entered l.order n o)) there in
+      let same : (read_in name n bytes >>= λ f. because of_walk (walk.entered l.order n f.object) >>= λ order. Ok (with_file l order f)) ≡ give l (Some bytes) =
+      ap (λ (m : List ℕ). read_in m n bytes >>= λ f. because of_walk (walk.entered l.order n f.object) >>= λ order. Ok (with_file l order f)) (sym named)
+      ∙ ap (λ (wanted : Option (List ℕ)). read_in l.name n bytes >>= λ f. because of_walk (walk.of_wanted l.order f.object wanted) >>= λ order. Ok (with_file l order f)) (sym is)
       ∙ ap (λ (wanted : Option (List ℕ)). of_wanted l (Some bytes) wanted) (sym is) in
-      looked
-      ∙ of_objects (object_in name n bytes) (walk.entered l.order n) (λ o order. with_file l order (record { name = n; bytes = bytes; object = o })) (λ o order. refl)
-      ∙ ap (λ (r : Result Loading LoadFault). because causes.Load (r >>= λ m. Ok m.order)) same
+      looked ∙ of_files (read_in name n bytes) (walk.entered l.order n) (λ f order. with_file l order f) (λ f order. refl) ∙ ap (λ (r : Result Loading LoadFault). because causes.Load (r >>= λ m. Ok m.order)) same
 
   pub step_goes_on : (files : Files) (name : List ℕ) (m : Loading) → wants l.order ≡ Some n → l.name ≡ name → file_in files n ≡ Ok bytes → give l (Some bytes) ≡ Ok m → stepped (loaded_object files name) l.order n ≡ Ok m.order
   step_goes_on files name m is named there went =
@@ -82,8 +82,8 @@ loaded_is policy busy fs name = then_unless (not (is_valid_name name)) causes.Ba
 -- ---- the files of the walk
 
 lacks_object : (fs : Files) (name n : List ℕ) (cause : Cause) → file_in fs n ≡ Err cause → loaded_object fs name n ≡ Err cause
-unfolding object_of
-lacks_object fs name n cause lacks = ap (λ (r : Result (List ℕ) Cause). r >>= λ bytes. because causes.Load (object_in name n bytes)) lacks
+unfolding file_of
+lacks_object fs name n cause lacks = ap (λ (r : Result (List ℕ) Cause). (r >>= λ bytes. because causes.Load (read_in name n bytes)) >>= λ f. Ok f.object) lacks
 
 module _ (a : Seen) (name : List ℕ) where
   -- of a name that is not valid

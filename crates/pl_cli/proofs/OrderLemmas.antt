@@ -1,5 +1,5 @@
 -- What `--order` finds, object by object.
-use Rattle.std.proofs.Common.{◌≡◌, ◌≤◌, ◌<◌, ℕ, List, [], ◌∷◌, ◌++◌, length, map, Bool, true, false, Some, None, refl, sym, ap, subst, ◌∙◌, arith}
+use Rattle.std.proofs.Common.{◌≡◌, ◌≤◌, ◌<◌, ◌^◌, ℕ, List, [], ◌∷◌, ◌++◌, length, map, Bool, true, false, Some, None, refl, sym, ap, subst, ◌∙◌, arith}
 use Rattle.std.specs.Prelude.{Result, Ok, Err, Vec, not}
 use Rattle.std.specs.List.{All}
 use Rattle.std.proofs.lemmas.List.{length-map}
@@ -11,7 +11,14 @@ use Rattle.pl_base.specs.Files.{Files}
 use Rattle.pl_base.specs.Names.{is_valid_name}
 use Rattle.pl_folder.specs.Calls.{Calls}
 use Rattle.pl_folder.specs.Seen.{Seen, IsFolder, Done}
-use Rattle.pl_object.specs.Reads.{reads}
+use Rattle.pl_form.specs.Files as forms
+use Rattle.pl_form.specs.Marks as marks
+use Rattle.pl_form.specs.Marks.{IsFile}
+use Rattle.pl_form.specs.declared.fault.FileFault.{FileFault}
+use Rattle.pl_form.specs.declared.fault.FileFault.TheVariants as faults
+use Rattle.pl_object.specs.declared.refusal.Refusal.TheVariants as refusals
+use Rattle.pl_form.specs.declared.file.File.{File}
+use Rattle.pl_form.specs.declared.file.File.TheVariants as files
 use Rattle.pl_object.specs.declared.object.Object.{Object}
 use Rattle.pl_scope.specs.Members.{names}
 use Rattle.pl_scope.specs.Scope as scope
@@ -24,7 +31,7 @@ use Rattle.pl_scope.specs.declared.fault.WalkFault.TheVariants as walk_faults
 use Rattle.pl_scope.specs.declared.member.Member.{Member}
 use Rattle.pl_scope.proofs.MemberLaws.{length_walked}
 use Rattle.pl_scope.proofs.WalkLaws.{give_given, walk_ends, walk_goes_on, walk_lacks, walk_stops}
-use Rattle.pl_loader.specs.Faults.{of_walk}
+use Rattle.pl_loader.specs.Faults.{of_file, of_walk}
 use Rattle.pl_loader.specs.Walk.{walk_fault}
 use Rattle.pl_loader.specs.declared.fault.LoadFault.TheVariants.{NotThere}
 use Rattle.pl_cli.specs.declared.cause.Cause.{Cause}
@@ -36,7 +43,7 @@ use Rattle.pl_cli.specs.declared.stop.Stop.TheVariants as stops
 use Rattle.pl_cli.specs.Came.{HasObject, HasOrdered, HasTaken, HasWalked}
 use Rattle.pl_cli.specs.Files.{file_in}
 use Rattle.pl_cli.specs.Looks.{stepped, takes}
-use Rattle.pl_cli.specs.Order.{member, members_of, object_in, order_text, ordered, refused, walked}
+use Rattle.pl_cli.specs.Order.{member, members_of, object_by, object_in, order_text, ordered, original, refused, walked}
 use Rattle.pl_cli.specs.Stops.{StopsAlone, of_load_fault}
 use Rattle.pl_cli.proofs.CallLemmas.{asked_all}
 use Rattle.pl_cli.proofs.LookLemmas.{AllBut, left_from, step_given, step_lacks}
@@ -46,13 +53,28 @@ use Rattle.pl_cli.proofs.WalkLemmas.{goes_on, not_begun, refused_name, stopped_h
 
 -- ---- one object
 
+-- the object of a file is accepted: it is the one of these bytes, or of its original's
+pub accepted_by : (bytes : List ℕ) (file : File) → length bytes < 2 ^ 32 → IsFile bytes file → IsAccepted (object_by file)
+accepted_by bytes (files.Plain x) few is = record { bytes = bytes; size = few; read = is.1 }
+accepted_by bytes (files.Marked m) few is = record { bytes = m.original; size = is.firm.few; read = is.firm.accepted }
+
+pub original_is : (bytes : List ℕ) (file : File) → forms.file_in bytes ≡ Ok file → original bytes ≡ Ok (object_by file)
+unfolding original
+original_is bytes file is = ap (λ (r : Result File FileFault). r >>= λ f. Ok (object_by f)) is
+
+pub original_refused : (name bytes : List ℕ) (fault : FileFault) → Answers marks.is_memory (Err fault) (forms.file_in bytes) → StopsAlone (because (refused name) (original bytes)) (of_load_fault (of_file name fault))
+unfolding original
+original_refused name bytes faults.BadMark is = ap (λ (r : Result File FileFault). because (refused name) (r >>= λ f. Ok (object_by f))) is
+original_refused name bytes (faults.Refused (refusals.Clause number argument)) is = ap (λ (r : Result File FileFault). because (refused name) (r >>= λ f. Ok (object_by f))) is
+original_refused name bytes (faults.Refused refusals.NoMemory) is = tt
+
 lacks_object : (files : Files) (n : List ℕ) (cause : Cause) → file_in files n ≡ Err cause → object_in files n ≡ Err cause
 unfolding object_in
-lacks_object files n cause lacks = ap (λ (r : Result (List ℕ) Cause). r >>= λ bytes. because (refused n) (reads bytes)) lacks
+lacks_object files n cause lacks = ap (λ (r : Result (List ℕ) Cause). r >>= λ bytes. because (refused n) (original bytes)) lacks
 
-reads_object : (files : Files) (n bytes : List ℕ) → file_in files n ≡ Ok bytes → object_in files n ≡ because (refused n) (reads bytes)
+reads_object : (files : Files) (n bytes : List ℕ) → file_in files n ≡ Ok bytes → object_in files n ≡ because (refused n) (original bytes)
 unfolding object_in
-reads_object files n bytes there = ap (λ (r : Result (List ℕ) Cause). r >>= λ b. because (refused n) (reads b)) there
+reads_object files n bytes there = ap (λ (r : Result (List ℕ) Cause). r >>= λ b. because (refused n) (original b)) there
 
 module _ (n : List ℕ) {a b : Seen} where
   -- the file was not taken
@@ -61,13 +83,13 @@ module _ (n : List ℕ) {a b : Seen} where
 
   module _ (bytes : Vec ℕ Global) (took : HasTaken n (Ok bytes) a b) where
     -- it is refused, or memory lacked
-    pub object_stopped : (stop : Stop) → StopsAlone (because (refused n) (reads bytes.items)) stop → HasObject n (Err stop) a b
+    pub object_stopped : (stop : Stop) → StopsAlone (because (refused n) (original bytes.items)) stop → HasObject n (Err stop) a b
     object_stopped (stops.Cause cause) is = record { means = λ told. reads_object a.files n bytes.items (took.means told) ∙ is; reads = refl; fails = λ e. absurd (false≢true e); calls = took.calls }
     object_stopped stops.Failed is = absurd is
     object_stopped stops.InputFailed is = absurd is
     object_stopped stops.NoMemory is = record { means = tt; reads = refl; fails = λ e. absurd (false≢true e); calls = asked_all _ took.calls }
 
-    pub object_read : (m : NamedObject) → reads bytes.items ≡ Ok m.object → HasObject n (Ok m) a b
+    pub object_read : (m : NamedObject) → original bytes.items ≡ Ok m.object → HasObject n (Ok m) a b
     object_read m is = record { means = λ told. reads_object a.files n bytes.items (took.means told) ∙ ap (because (refused n)) is; reads = refl; fails = λ e. absurd (false≢true e); calls = took.calls }
 
 -- ---- the walk

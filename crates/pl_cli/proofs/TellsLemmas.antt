@@ -4,16 +4,13 @@ use Rattle.pl_base.specs.Answers.{Tells}
 use Rattle.pl_base.specs.Files.{Files}
 use Rattle.pl_base.proofs.TellsLaws.{ok_tells, err_tells, unless_tells, then_tells, cause_tells, because_tells}
 use Rattle.pl_build.specs.Build.{build}
-use Rattle.pl_object.specs.Refusals as object
-use Rattle.pl_object.specs.declared.refusal.Refusal.{Refusal}
-use Rattle.pl_object.specs.declared.refusal.Refusal.TheVariants as refusals
-use Rattle.pl_object.proofs.RefusalLaws.{reads_tells}
+use Rattle.pl_form.specs.Marks as form
 use Rattle.pl_scope.specs.Walk as walk
 use Rattle.pl_scope.specs.declared.fault.WalkFault.{WalkFault}
 use Rattle.pl_scope.specs.declared.fault.WalkFault.TheVariants as walk_faults
 use Rattle.pl_scope.proofs.TellsLaws.{walk_tells}
 use Rattle.pl_loader.specs.Walk.{walk_fault}
-use Rattle.pl_loader.proofs.TellsLaws.{load_tells}
+use Rattle.pl_loader.proofs.TellsLaws.{file_in_tells, load_tells, of_file_tells}
 use Rattle.pl_cli.specs.declared.cause.Cause.TheVariants as causes
 use Rattle.std.specs.Prelude.{Result, Ok, Err}
 use Rattle.pl_folder.specs.Taken.{taken}
@@ -27,7 +24,7 @@ use Rattle.pl_cli.specs.Print.{bad_cache, cache_in, cache_of, no_cache, print_te
 use Rattle.pl_cli.specs.declared.command.Detail.{Detail}
 use Rattle.pl_cli.specs.Files.{valid_file, of_file, file_in}
 use Rattle.pl_cli.specs.Load.{choice, is_memory, loaded}
-use Rattle.pl_cli.specs.Order.{object_in, order_text, ordered, refused, walked}
+use Rattle.pl_cli.specs.Order.{object_in, order_text, ordered, original, refused, walked}
 use Rattle.pl_cli.specs.Make.{recipe_cause, built, made}
 
 -- ---- `--load`
@@ -46,19 +43,19 @@ loaded_tells policy busy files name = unless_tells is_memory _ _ _ refl (load_te
 
 -- ---- `--order`
 
-refused_tells : (name : List ℕ) (e : Refusal) → object.is_memory e ≡ false → is_memory (refused name e) ≡ false
-refused_tells name (refusals.Clause number argument) t = refl
-refused_tells name refusals.NoMemory t = t
-
 walk_fault_tells : (e : WalkFault) → walk.is_memory e ≡ false → is_memory (walk_fault causes.Load e) ≡ false
 walk_fault_tells (walk_faults.NeededIsProgram name) t = refl
 walk_fault_tells (walk_faults.TooMany name) t = refl
 walk_fault_tells (walk_faults.NotThere name) t = refl
 walk_fault_tells walk_faults.NoMemory t = t
 
+original_tells : (bytes : List ℕ) → Tells form.is_memory (original bytes)
+unfolding original
+original_tells bytes = then_tells form.is_memory _ _ (file_in_tells bytes) (λ file. ok_tells form.is_memory _)
+
 object_tells : (files : Files) (name : List ℕ) → Tells is_memory (object_in files name)
 unfolding object_in
-object_tells files name = then_tells is_memory _ _ (file_tells files name) (λ bytes. because_tells object.is_memory is_memory (refused name) _ (refused_tells name) (reads_tells bytes))
+object_tells files name = then_tells is_memory _ _ (file_tells files name) (λ bytes. because_tells form.is_memory is_memory (refused name) _ (of_file_tells name) (original_tells bytes))
 
 walked_tells : (files : Files) (name : List ℕ) → Tells is_memory (walked files name)
 unfolding walked

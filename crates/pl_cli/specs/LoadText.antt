@@ -1,5 +1,5 @@
 -- The text of what a program starts from.
-use Rattle.std.specs.Prelude.{ℕ, List, [], ◌∷◌, ◌++◌, codes}
+use Rattle.std.specs.Prelude.{ℕ, Bool, List, [], ◌∷◌, ◌++◌, codes, if◌then◌else◌}
 use Rattle.std.specs.Fmt.{decimal}
 use Rattle.std.specs.List.{flat_map}
 use Rattle.pl_base.specs.Digits.{hex16, line}
@@ -21,20 +21,25 @@ tls_line m = line (codes "tls " ∷ decimal m.number ∷ codes " " ∷ hex16 m.o
 unfoldable pub entry_line : ℕ → List ℕ
 entry_line entry = line (codes "entry " ∷ hex16 entry ∷ [])
 
+-- the path: from the prelinked files as they stand, or from the originals, linked
+unfoldable pub path_line : Bool → List ℕ
+path_line fast = line ((if fast then codes "fast" else codes "slow") ∷ [])
+
 -- the lines before those of the words: the path, the objects and the modules in scope order, and the entry
-unfoldable pub head_text : List Placed → List TlsModule → ℕ → List ℕ
-head_text objects modules entry =
-    line (codes "slow" ∷ []) ++ flat_map object_line objects ++ flat_map tls_line modules ++ entry_line entry
+unfoldable pub head_text : Bool → List Placed → List TlsModule → ℕ → List ℕ
+head_text fast objects modules entry =
+    path_line fast ++ flat_map object_line objects ++ flat_map tls_line modules ++ entry_line entry
 
 abbrev pub end_text : List ℕ
 end_text = line (codes "end" ∷ [])
 
 unfoldable pub load_text : Start → List ℕ
-load_text s = head_text s.objects s.modules s.entry ++ text s.memory s.extents ++ end_text
+load_text s = head_text s.fast s.objects s.modules s.entry ++ text s.memory s.extents ++ end_text
 
 -- a start as the code has it
 abbrev pub start_of : Started → Start
 start_of s = record {
+  fast = s.fast;
   objects = s.objects;
   modules = s.modules;
   entry = s.entry;

@@ -4,15 +4,17 @@ use Rattle.std.specs.List.{All}
 use Rattle.pl_base.specs.Answers.{◌>>=◌, because, unless}
 use Rattle.pl_base.specs.Files.{Files}
 use Rattle.pl_base.specs.Names.{is_valid_name}
-use Rattle.pl_object.specs.Reads.{reads}
+use Rattle.pl_form.specs.Files as forms
+use Rattle.pl_form.specs.declared.fault.FileFault.{FileFault}
+use Rattle.pl_form.specs.declared.file.File.{File}
+use Rattle.pl_form.specs.declared.file.File.TheVariants as files
 use Rattle.pl_object.specs.declared.object.Object.{Object}
-use Rattle.pl_object.specs.declared.refusal.Refusal.{Refusal}
 use Rattle.pl_scope.specs.Members.{IsWalk}
 use Rattle.pl_scope.specs.Scope.{IsAccepted}
 use Rattle.pl_scope.specs.Walk.{Walked, walk}
 use Rattle.pl_scope.specs.declared.constants.TheConstants.{MAX_MEMBERS}
 use Rattle.pl_init.specs.OrderText.{full_text, short_text}
-use Rattle.pl_loader.specs.Faults.{of_refusal}
+use Rattle.pl_loader.specs.Faults.{of_file}
 use Rattle.pl_loader.specs.Walk.{walk_fault}
 use Rattle.pl_cli.specs.Files.{file_in}
 use Rattle.pl_cli.specs.Looks.{ObjectOf}
@@ -24,13 +26,22 @@ use Rattle.pl_cli.specs.declared.named_object.NamedObject.{NamedObject}
 
 -- ---- the walk
 
+-- the object of a file: a prelinked one has that of its original
+abbrev pub object_by : File → Object
+object_by (files.Plain x) = x
+object_by (files.Marked m) = m.object
+
+-- the object that the bytes of a file have, or why they have none: their mark, or else the first acceptance clause
+unfoldable pub original : List ℕ → Result Object FileFault
+original bytes = forms.file_in bytes >>= λ file. Ok (object_by file)
+
 -- a refusal of the file of a name
-abbrev pub refused : List ℕ → Refusal → Cause
-refused name refusal = causes.Load (of_refusal name refusal)
+abbrev pub refused : List ℕ → FileFault → Cause
+refused name fault = causes.Load (of_file name fault)
 
 -- the object of a name of the walk
 unfoldable pub object_in : Files → ObjectOf
-object_in files name = file_in files name >>= λ bytes. because (refused name) (reads bytes)
+object_in files name = file_in files name >>= λ bytes. because (refused name) (original bytes)
 
 -- the names of the walk with their objects, or the first cause why there is none
 unfoldable pub walked : Files → List ℕ → Result Walked Cause

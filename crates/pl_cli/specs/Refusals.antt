@@ -5,7 +5,7 @@ use Rattle.std.specs.Char.{is_ascii_graphic}
 use Rattle.std.specs.List.{flat_map}
 use Rattle.pl_base.specs.Digits.{hex_digit, line}
 use Rattle.pl_loader.specs.declared.fault.LoadFault.{LoadFault}
-use Rattle.pl_loader.specs.declared.fault.LoadFault.TheVariants.{NotThere, Refused, NotProgram, NeededIsProgram, TooMany, TlsTooLarge, NoPlace, Undefined, UndefinedTls, TlsMismatch, CopyOutside, NoMemory}
+use Rattle.pl_loader.specs.declared.fault.LoadFault.TheVariants.{NotThere, BadMark, Refused, NotProgram, NeededIsProgram, TooMany, TlsTooLarge, NoPlace, Undefined, UndefinedTls, TlsMismatch, CopyOutside, NoMemory}
 use Rattle.pl_cli.specs.declared.cause.Cause.{Cause}
 use Rattle.pl_cli.specs.declared.cause.Cause.TheVariants.{BadName, FileTooLarge, Load, InputTooLarge, Recipe, TooManyFiles, BadCache}
 use Rattle.pl_cli.specs.declared.symbol_text.TheConstants.{BACKSLASH}
@@ -55,6 +55,7 @@ refused_recipe number kind = line (codes "refused Recipe " ∷ decimal number �
 -- a fault of a load. No load means a want of memory, so the line of NoMemory is never printed
 unfoldable pub load_refusal : LoadFault → List ℕ
 load_refusal (NotThere name) = named (codes "NotThere") name
+load_refusal (BadMark name) = named (codes "BadMark") name
 load_refusal (Refused name number argument) = refused name number argument
 load_refusal (NotProgram name) = named (codes "NotProgram") name
 load_refusal (NeededIsProgram name) = named (codes "NeededIsProgram") name

@@ -52,14 +52,23 @@ fn push_modules(alloc: Global, out: &mut Vec<u8>, modules: &[TlsModule]) -> Resu
     Ok(())
 }
 
+/// The line of the path: from the prelinked files as they stand, or from the originals, linked.
+#[tactic(auto, unfolding(crate::specs::LoadText::path_line))]
+fn path_line(started: &Started<'_>) -> &'static [u8]
+    ensures { result.now ≡ spec.path_line started.now.fast }
+{
+    if started.fast { b"fast\n" } else { b"slow\n" }
+}
+
 /// The lines before those of the words: the path, the objects and the modules in scope order, and the entry.
 #[tactic(auto, unfolding(crate::specs::LoadText::head_text))]
 pub fn head_text(alloc: Global, started: &Started<'_>) -> Result<Vec<u8>, AllocError>
     ensures { IfOk result (λ text.
-        text.items ≡ spec.head_text started.now.objects started.now.modules started.now.entry) }
+        text.items ≡ spec.head_text started.now.fast started.now.objects
+        started.now.modules started.now.entry) }
 {
     let mut head = Vec::new(alloc);
-    head.extend_from_slice(b"slow\n")?;
+    head.extend_from_slice(path_line(started))?;
     push_objects(alloc, &mut head, started.objects.as_slice())?;
     push_modules(alloc, &mut head, started.modules.as_slice())?;
     let entry = entry_line(alloc, started.entry)?;

@@ -77,6 +77,7 @@ fn load_refusal(alloc: Global, fault: LoadFault) -> Result<Vec<u8>, AllocError>
 {
     match fault {
         LoadFault::NotThere(name) => named(alloc, "NotThere", name),
+        LoadFault::BadMark(name) => named(alloc, "BadMark", name),
         LoadFault::Refused {
             name,
             number,

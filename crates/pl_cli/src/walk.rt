@@ -1,12 +1,13 @@
 // The walk of a name over a folder's files.
 ghost use Rattle.std.specs.Prelude.{◌≡◌, ◌<◌, ◌^◌, IfErr, IfOk, Ok, length};
 ghost use Rattle.pl_base.specs.Answers.{because};
-ghost use Rattle.pl_object.specs.Reads.{reads};
+ghost use Rattle.pl_loader.specs.Faults.{of_file};
 ghost use Rattle.pl_scope.specs.Scope.{IsAccepted};
 ghost use Rattle.pl_cli.specs.Came.{HasObject, HasWalked};
 ghost use Rattle.pl_cli.specs.Files.{Unasked};
-ghost use Rattle.pl_cli.specs.Order.{AreMembers, refused};
-ghost use Rattle.pl_cli.specs.Stops.{StopsAlone};
+ghost use Rattle.pl_cli.specs.Order as spec;
+ghost use Rattle.pl_cli.specs.Order.{AreMembers};
+ghost use Rattle.pl_cli.specs.Stops.{StopsAlone, of_load_fault};
 
 use crate::cause::Cause;
 use crate::named_object::NamedObject;
@@ -14,25 +15,50 @@ use crate::stop::Stop;
 use crate::take::take;
 use pl_base::{Text, is_valid_name};
 use pl_folder::Folder;
+use pl_form::{File, FileFault, read_file};
 use pl_loader::LoadFault;
-use pl_object::{Object, Refusal, accept};
+use pl_object::{Object, Refusal};
 use pl_scope::Order;
-use std::alloc::Global;
+use std::alloc::{AllocError, Global};
 
-/// The object that the file of a name is.
+/// The object of a file: a prelinked one has that of its original.
+fn object_by(file: File) -> Object
+    ensures { result ≡ spec.object_by file }
+{
+    match file {
+        File::Plain(object) => object,
+        File::Marked(marked) => marked.object,
+    }
+}
+
+/// Why the file of a name has no object.
+fn refused(alloc: Global, name: &str, fault: FileFault) -> Result<Stop, AllocError>
+    ensures { IfOk result (λ stop. stop ≡ of_load_fault (of_file name.now fault)) }
+{
+    Ok(match fault {
+        FileFault::BadMark => Stop::from(LoadFault::BadMark(Text::copy_of(alloc, name)?)),
+        FileFault::Refused(Refusal::Clause { number, argument }) => {
+            Stop::from(LoadFault::Refused {
+                name: Text::copy_of(alloc, name)?,
+                number,
+                argument,
+            })
+        }
+        FileFault::Refused(Refusal::NoMemory) => Stop::NoMemory,
+    })
+}
+
+/// The object that the file of a name has.
 fn object_of(alloc: Global, name: &str, bytes: &[u8]) -> Result<Object, Stop>
     requires { length bytes.now < 2 ^ 32 }
-    ensures ok { IfOk result (λ o. reads bytes.now ≡ Ok o) }
-    ensures stop { IfErr result (StopsAlone (because (refused name.now) (reads bytes.now))) }
+    ensures ok { IfOk result (λ o. spec.original bytes.now ≡ Ok o) }
+    ensures accepted { IfOk result IsAccepted }
+    ensures stop { IfErr result (StopsAlone (because (spec.refused name.now)
+        (spec.original bytes.now))) }
 {
-    match accept(alloc, bytes) {
-        Ok(object) => Ok(object),
-        Err(Refusal::Clause { number, argument }) => Err(Stop::from(LoadFault::Refused {
-            name: Text::copy_of(alloc, name)?,
-            number,
-            argument,
-        })),
-        Err(Refusal::NoMemory) => Err(Stop::NoMemory),
+    match read_file(alloc, bytes) {
+        Ok(file) => Ok(object_by(file)),
+        Err(fault) => Err(refused(alloc, name, fault)?),
     }
 }
 

@@ -23,7 +23,7 @@ use Rattle.pl_image.specs.declared.loaded.Loaded.{Loaded}
 use Rattle.pl_value.specs.Targets.{base_of}
 use Rattle.pl_value.specs.Ordinary.{part_of, loaded_from, loaded, ArePlaced}
 use Rattle.pl_loader.specs.Loading.{objects_of, parts_of}
-use Rattle.pl_loader.specs.Places.{load_range, taken, want_of, IsAt}
+use Rattle.pl_loader.specs.Places.{load_range, want_of, IsAt}
 use Rattle.pl_loader.specs.declared.object_file.ObjectFile.{ObjectFile}
 use Rattle.pl_object.proofs.SpanLaws.{Ends}
 use Rattle.pl_loader.proofs.SpanLaws.{IsSpanned}
@@ -89,7 +89,7 @@ alone_own place low bytes (s ∷ ss) ascend =
 -- ---- the pieces of all objects
 
 -- files as loaded at places
-abbrev loaded_each : List ObjectFile → List ℕ → List Loaded
+abbrev pub loaded_each : List ObjectFile → List ℕ → List Loaded
 loaded_each [] places = []
 loaded_each (f ∷ fs) [] = []
 loaded_each (f ∷ fs) (place ∷ places) = loaded_at place f.bytes f.object ∷ loaded_each fs places
@@ -138,21 +138,23 @@ alone_libraries (f ∷ fs) (place ∷ places) all apart =
     (alone_libraries fs places rest apart.1)
     (λ a any. pieces_miss (range_of (want_of f) place) fs places a rest apart.0 (in_want f place a spanned any))
 
--- the program's pieces are at the addresses that it takes
+-- the program's pieces are at the addresses that its original takes
+abbrev pub linked_at : ObjectFile → List Range
+linked_at f = map load_range (loads f.object.segments)
+
 taken_is : (a : ℕ) (bytes : List ℕ) (ss : List Segment) → is_free a (map load_range ss) ≡ list_any (lies a) (loaded_pieces 0 bytes ss)
 taken_is a bytes [] = refl
 taken_is a bytes (s ∷ ss) =
     let zero : 0 + s.vaddr ≡ s.vaddr = zero-add s.vaddr in
     rw (zero, taken_is a bytes ss) refl
 
-pub alone_all : (region : Range) (program : ObjectFile) (fs : List ObjectFile) (places : List ℕ) → IsSpannedFile program → All IsSpannedFile fs → AllFree region (taken program.object) (map want_of fs) places → AreApart (map want_of fs) places
+pub alone_all : (region : Range) (program : ObjectFile) (fs : List ObjectFile) (places : List ℕ) → IsSpannedFile program → All IsSpannedFile fs → AllFree region (linked_at program) (map want_of fs) places → AreApart (map want_of fs) places
     → Alone (pieces_of (program ∷ fs) (0 ∷ places))
-unfolding taken
 alone_all region program fs places spanned all free apart =
     alone_append (pieces_at 0 program.bytes program.object) (pieces_of fs places)
     (alone_own 0 0 program.bytes (loads program.object.segments) spanned.are.ascend)
     (alone_libraries fs places all apart)
-    (λ a any. pieces_free region (taken program.object) fs places a all free (taken_is a program.bytes (loads program.object.segments) ∙ any))
+    (λ a any. pieces_free region (linked_at program) fs places a all free (taken_is a program.bytes (loads program.object.segments) ∙ any))
 
 -- ---- where objects end
 
@@ -218,7 +220,7 @@ loaded_is (f ∷ fs) (place ∷ places) ps qs member size bases parts =
 from_zero : (n : ℕ) → 0 + n ≡ n
 from_zero n = zero-add n
 
-loaded_all : (fs : List ObjectFile) (places : List ℕ) → length fs ≡ length places → loaded places (parts_of fs) (objects_of fs) ≡ loaded_each fs places
+pub loaded_all : (fs : List ObjectFile) (places : List ℕ) → length fs ≡ length places → loaded places (parts_of fs) (objects_of fs) ≡ loaded_each fs places
 loaded_all fs places size =
     loaded_is fs places places (parts_of fs) 0 size (λ i lt. ap (base_of places) (from_zero i)) (λ i lt. ap (part_of (parts_of fs)) (from_zero i))
 
@@ -230,7 +232,7 @@ placed_by (f ∷ fs) (place ∷ places) at all zero d lt = record { accepted = (
 placed_by (f ∷ fs) (place ∷ places) at all (suc member) d lt = placed_by fs places at.1 (All-tail IsSpannedFile f fs all) member d (omega (arith, lt))
 
 pub are_placed : (region : Range) (program : ObjectFile) (fs : List ObjectFile) (places : List ℕ) → length fs ≡ length places → AllZip IsAt (program ∷ fs) (0 ∷ places) → IsSpannedFile program → All IsSpannedFile fs
-    → AllFree region (taken program.object) (map want_of fs) places → AreApart (map want_of fs) places → ArePlaced (0 ∷ places) (parts_of (program ∷ fs)) (objects_of (program ∷ fs))
+    → AllFree region (linked_at program) (map want_of fs) places → AreApart (map want_of fs) places → ArePlaced (0 ∷ places) (parts_of (program ∷ fs)) (objects_of (program ∷ fs))
 are_placed region program fs places size at spanned all free apart =
     let same : loaded (0 ∷ places) (parts_of (program ∷ fs)) (objects_of (program ∷ fs)) ≡ loaded_each (program ∷ fs) (0 ∷ places) = loaded_all (program ∷ fs) (0 ∷ places) (omega (arith, size)) in
     record {

@@ -1,18 +1,14 @@
 -- What is known of the files that were given to a load.
 use Rattle.std.proofs.Common.{◌≡◌, ℕ, ◌+◌, ◌≤◌, ◌-◌, List, [], ◌∷◌, ◌++◌, Option, not, length, map, take, drop, refl, sym, ap, ◌∙◌, subst, arith, get_or}
 use Rattle.std.specs.List.{All, AllZip}
-use Rattle.std.proofs.lemmas.Bool.{and_from, and_parts, not-true, not_from_false, or_parts}
 use Rattle.std.proofs.lemmas.List.{length-map, take_all}
-use Rattle.std.proofs.lemmas.List.Folds.{list_any-append}
 use Rattle.std.proofs.lemmas.List.Elements.{All-nil, All-cons, All-head, All-tail, All-map, All-weaker}
 use Rattle.pl_elf.specs.Headers.{loads}
 use Rattle.pl_elf.specs.declared.constants.TheConstants.{ADDRESS_LIMIT}
 use Rattle.pl_object.specs.declared.object.Object.{Object}
-use Rattle.pl_elf.specs.Ranges.{has}
 use Rattle.pl_elf.specs.declared.range.Range.{Range}
-use Rattle.pl_slots.specs.Holes.{is_free}
 use Rattle.pl_slots.specs.declared.slot.Want.{Want}
-use Rattle.pl_place.specs.Placing.{AllFree, IsWant}
+use Rattle.pl_place.specs.Placing.{IsWant}
 use Rattle.pl_scope.specs.Scope.{walked, objects, IsAccepted}
 use Rattle.pl_scope.specs.declared.constants.TheConstants.{MAX_MEMBERS}
 use Rattle.pl_scope.specs.declared.member.Member.{Member}
@@ -20,10 +16,12 @@ use Rattle.pl_scope.proofs.MemberLaws.{length_walked}
 use Rattle.pl_value.specs.Ordinary.{ArePlaced}
 use Rattle.pl_loader.specs.Loading.{objects_of, parts_of, IsRead, AreFiles}
 use Rattle.pl_loader.specs.Walk.{member}
-use Rattle.pl_loader.specs.Places.{region, kept_free, taken, taken_first, want_of, IsAt, IsFree}
+use Rattle.pl_loader.specs.Places.{everywhere, kept_free, taken, taken_first, want_of, IsAt, IsFree}
 use Rattle.pl_loader.specs.declared.object_file.ObjectFile.{ObjectFile}
 use Rattle.pl_loader.proofs.SpanLaws.{spanned}
-use Rattle.pl_loader.proofs.ApartLaws.{IsSpannedFile, HasSpan, all_at, are_placed}
+use Rattle.pl_loader.proofs.ApartLaws.{IsSpannedFile, HasSpan, linked_at, all_at, are_placed}
+use Rattle.pl_loader.proofs.BesideLaws.{fewer, lesser}
+use Rattle.pl_loader.proofs.FormLaws.{program_takes}
 
 -- ---- the addresses that they take
 
@@ -79,33 +77,18 @@ files_are (f ∷ fs) program le is =
     let all : take (length (f ∷ fs) - 1) fs ≡ fs = take_all (length (f ∷ fs) - 1) fs (omega arith) in
     rw (is, all) refl
 
-region_low : region.end ≤ ADDRESS_LIMIT
-region_low = omega arith
-
--- what is free of more is free of less
-fewer : (busy more : List Range) (wants : List Want) (starts : List ℕ) → AllFree region (busy ++ more) wants starts → AllFree region busy wants starts
-fewer busy more [] starts free = tt
-fewer busy more (want ∷ wants) [] free = tt
-fewer busy more (want ∷ wants) (start ∷ starts) free = (
-  λ address here.
-      let parts = and_parts (has address region) (not (is_free address (busy ++ more))) (free.0 address here) in
-      let none = or_parts (is_free address busy) (is_free address more) (sym (list_any-append (has address) busy more) ∙ not-true _ parts.1) in
-      and_from (has address region) (not (is_free address busy)) parts.0 (not_from_false (is_free address busy) none.0),
-  fewer busy more wants starts free.1,
-)
-
-in_places : (busy : Option Range) (program : ObjectFile) (fs : List ObjectFile) (starts : List ℕ) → AreFiles (program ∷ fs) → IsFree (taken_first busy program) (map want_of fs) starts
+in_places : (busy : Option Range) (program : ObjectFile) (fs : List ObjectFile) (starts : List ℕ) → AreFiles (program ∷ fs) → IsFree everywhere (taken_first busy program) (map want_of fs) starts
     → AllZip IsAt (program ∷ fs) (0 ∷ starts) × ArePlaced (0 ∷ starts) (parts_of (program ∷ fs)) (objects_of (program ∷ fs))
 in_places busy program fs starts are is =
     let size : length fs ≡ length starts = omega (arith, length-map fs want_of, is.one_each) in
     let first = program_spanned program fs are in
     let rest = libraries_spanned program fs are in
-    let free = fewer (taken program.object) (kept_free busy) (map want_of fs) starts is.free in
-    let at = all_at region (taken program.object) program fs starts region_low size first rest (libraries_have_spans program fs are) free in
-    (at, are_placed region program fs starts size at first rest free is.apart)
+    let free = lesser everywhere (linked_at program) (taken program) (map want_of fs) starts (program_takes program (All-head IsRead program fs are.read) are.program) (fewer everywhere (taken program) (kept_free busy) (map want_of fs) starts is.free) in
+    let at = all_at everywhere (linked_at program) program fs starts (omega arith) size first rest (libraries_have_spans program fs are) free in
+    (at, are_placed everywhere program fs starts size at first rest free is.apart)
 
 -- the first at 0 and the others at these places
 pub files_placed : (busy : Option Range) (files : List ObjectFile) (places : List ℕ) (program : ObjectFile) (fs : List ObjectFile) (starts : List ℕ) → files ≡ program ∷ fs → places ≡ 0 ∷ starts → AreFiles files
-    → IsFree (taken_first busy program) (map want_of fs) starts → AllZip IsAt files places × ArePlaced places (parts_of files) (objects_of files)
+    → IsFree everywhere (taken_first busy program) (map want_of fs) starts → AllZip IsAt files places × ArePlaced places (parts_of files) (objects_of files)
 files_placed busy files places program fs starts files_is places_is are is =
     rw (files_is, places_is) (in_places busy program fs starts (subst AreFiles files_is are) is)

@@ -7,5 +7,9 @@ pub mod ApartLaws
 pub mod FileLaws
 pub mod BoundsLaws
 pub mod StartLaws
+pub mod StandingLaws
+pub mod OwnLaws
+pub mod BesideLaws
+pub mod FormLaws
 pub mod WholeLaws
 pub mod TellsLaws

@@ -1,36 +1,53 @@
 -- The image and the start that the definitions mean.
-use Rattle.std.proofs.Common.{◌≡◌, ℕ, List, map, Bool, true, false, Option, Result, Ok, Err, refl, ap, sym, inl, inr}
+use Rattle.std.proofs.Common.{◌≡◌, ℕ, List, map, Bool, true, false, Option, Result, Ok, Err, refl, ap, sym, ◌∙◌, inl, inr}
 use Rattle.std.specs.Prelude.{◌⊎◌, MatchBool, ⊤}
 use Rattle.pl_base.specs.Answers.{Answers, because}
 use Rattle.pl_base.specs.Memory.{Memory}
 use Rattle.pl_elf.specs.declared.range.Range.{Range}
 use Rattle.pl_place.specs.Policy.{Answering, Choice, Follows}
 use Rattle.pl_tls.specs.declared.module.Module.{Module}
-use Rattle.pl_image.specs.Image.{Image, extents_of}
+use Rattle.pl_image.specs.Image.{Image, byte_of, extents_of}
 use Rattle.pl_value.specs.Ordinary.{loaded, ordinary, IsOrdinary}
 use Rattle.pl_value.specs.declared.fault.LinkFault.{LinkFault}
 use Rattle.pl_loader.specs.Faults.{is_memory}
+use Rattle.pl_loader.specs.Fast.{is_fast, fast_image}
 use Rattle.pl_loader.specs.Loading.{objects_of, parts_of}
 use Rattle.pl_loader.specs.Places.{IsPlaced, StopsFiles}
-use Rattle.pl_loader.specs.Started.{all_placed, tls_module, entry_of, of_link, linked, modules_of, IsLinked, start, start_at, started, FailsBy, IsRefusedBy, IsUnplacedBy, Starts, StartsBy}
+use Rattle.pl_loader.specs.Started.{all_placed, tls_module, entry_of, of_link, linked, imaged, modules_of, IsLinked, start, start_at, started, FailsBy, IsRefusedBy, IsUnplacedBy, Starts, StartsBy}
 use Rattle.pl_loader.specs.declared.object_file.ObjectFile.{ObjectFile}
 use Rattle.pl_loader.specs.declared.started.Started as code
 use Rattle.pl_loader.specs.declared.fault.LoadFault.{LoadFault}
 use Rattle.pl_loader.proofs.PlaceLaws.{places_chosen, unplaced_chosen}
 
 image_of : (fs : List ObjectFile) (at : List ℕ) (image : Image) (r : Result Memory LinkFault) → IsOrdinary (Ok image) r → image.objects ≡ loaded at (parts_of fs) (objects_of fs) → IsLinked image fs at (because (of_link fs) r)
-image_of fs at image (Ok memory) bytes objects = (memory, refl, record { bytes = bytes; objects = objects })
+image_of fs at image (Ok memory) bytes objects = (memory, refl, record { bytes = bytes; extents = ap extents_of objects })
 image_of fs at image (Err fault) never objects = absurd never
 
 pub linked_is : (fs : List ObjectFile) (at : List ℕ) (modules : List Module) (image : Image) → IsOrdinary (Ok image) (ordinary (objects_of fs) (parts_of fs) at modules) → image.objects ≡ loaded at (parts_of fs) (objects_of fs) → IsLinked image fs at (linked fs at modules)
 unfolding linked
 linked_is fs at modules image ordinary_is objects = image_of fs at image (ordinary (objects_of fs) (parts_of fs) at modules) ordinary_is objects
 
-pub start_is : (fs : List ObjectFile) (modules : List Module) (at : List ℕ) (s : code.Started) → IsLinked s.image fs at (linked fs at modules)
+-- on the slow path
+pub slow_is : (fs : List ObjectFile) (at : List ℕ) (modules : List Module) (image : Image) → is_fast fs at ≡ false → IsLinked image fs at (linked fs at modules) → IsLinked image fs at (imaged fs at modules)
+unfolding imaged
+slow_is fs at modules image slow is = rw slow is
+
+pub slow_fails : (fs : List ObjectFile) (at : List ℕ) (modules : List Module) (f : LoadFault) → is_fast fs at ≡ false → Answers is_memory (Err f) (linked fs at modules) → Answers is_memory (Err f) (imaged fs at modules)
+unfolding imaged
+slow_fails fs at modules f slow is = rw slow is
+
+-- on the fast path
+pub fast_is : (fs : List ObjectFile) (at : List ℕ) (modules : List Module) (image : Image) → is_fast fs at ≡ true → image ≡ fast_image fs at → extents_of (fast_image fs at).objects ≡ extents_of (loaded at (parts_of fs) (objects_of fs))
+    → IsLinked image fs at (imaged fs at modules)
+unfolding imaged
+fast_is fs at modules image fast is same =
+    rw fast (byte_of (fast_image fs at), refl, record { bytes = λ a. ap (λ (i : Image). byte_of i a) is; extents = ap (λ (i : Image). extents_of i.objects) is ∙ same })
+
+pub start_is : (fs : List ObjectFile) (modules : List Module) (at : List ℕ) (s : code.Started) → IsLinked s.image fs at (imaged fs at modules) → s.fast ≡ is_fast fs at
     → s.objects ≡ all_placed fs at → s.modules ≡ map (tls_module fs) modules → s.entry ≡ entry_of fs → Starts s (start_at fs modules at)
 unfolding start
-start_is fs modules at s image objects names entry =
-    (start fs at modules image.0, rw image.1 refl, record { objects = objects; modules = names; entry = entry; bytes = image.2.bytes; extents = ap extents_of image.2.objects })
+start_is fs modules at s image fast objects names entry =
+    (start fs at modules image.0, rw image.1 refl, record { fast = fast; objects = objects; modules = names; entry = entry; bytes = image.2.bytes; extents = image.2.extents })
 
 -- ---- why there is no start
 
@@ -58,9 +75,9 @@ no_places post busy fs modules f numbers stops = elim stops.because [
   | inr at ↦ inr (inr (inl (record { modules = modules; numbered = numbers; name = at.0; named = at.1; unplaced = at.2 })))
 ]
 
-pub no_links : (post : Answering) (busy : Option Range) (fs : List ObjectFile) (modules : List Module) (at : List ℕ) (f : LoadFault) → modules_of fs ≡ Ok modules → IsPlaced post busy fs at → Answers is_memory (Err f) (linked fs at modules)
+pub no_links : (post : Answering) (busy : Option Range) (fs : List ObjectFile) (modules : List Module) (at : List ℕ) (f : LoadFault) → modules_of fs ≡ Ok modules → IsPlaced post busy fs at → Answers is_memory (Err f) (imaged fs at modules)
     → FailsBy post busy fs f
-no_links post busy fs modules at f numbers placed is = elim (either f (linked fs at modules) is) [
+no_links post busy fs modules at f numbers placed is = elim (either f (imaged fs at modules) is) [
   | inl memory ↦ inl memory
   | inr refused ↦ inr (inr (inr (record { modules = modules; numbered = numbers; at = at; placed = placed; refused = refused })))
 ]

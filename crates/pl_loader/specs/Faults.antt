@@ -4,16 +4,19 @@ use Rattle.pl_tls.specs.declared.fault.TlsFault.{TlsFault}
 use Rattle.pl_tls.specs.declared.fault.TlsFault.TheVariants as tls
 use Rattle.pl_place.specs.declared.fault.PlaceFault.{PlaceFault}
 use Rattle.pl_place.specs.declared.fault.PlaceFault.TheVariants as place
+use Rattle.pl_form.specs.declared.fault.FileFault.{FileFault}
+use Rattle.pl_form.specs.declared.fault.FileFault.TheVariants as files
 use Rattle.pl_object.specs.declared.refusal.Refusal.{Refusal}
 use Rattle.pl_object.specs.declared.refusal.Refusal.TheVariants as refusals
 use Rattle.pl_scope.specs.declared.fault.WalkFault.{WalkFault}
 use Rattle.pl_scope.specs.declared.fault.WalkFault.TheVariants as walk
 use Rattle.pl_loader.specs.declared.fault.LoadFault.{LoadFault}
-use Rattle.pl_loader.specs.declared.fault.LoadFault.TheVariants.{NotThere, Refused, NotProgram, NeededIsProgram, TooMany, TlsTooLarge, NoPlace, Undefined, UndefinedTls, TlsMismatch, CopyOutside, NoMemory}
+use Rattle.pl_loader.specs.declared.fault.LoadFault.TheVariants.{NotThere, BadMark, Refused, NotProgram, NeededIsProgram, TooMany, TlsTooLarge, NoPlace, Undefined, UndefinedTls, TlsMismatch, CopyOutside, NoMemory}
 
 abbrev pub is_memory : LoadFault → Bool
 is_memory NoMemory = true
 is_memory (NotThere _) = false
+is_memory (BadMark _) = false
 is_memory (Refused _ _ _) = false
 is_memory (NotProgram _) = false
 is_memory (NeededIsProgram _) = false
@@ -25,10 +28,15 @@ is_memory (UndefinedTls _ _) = false
 is_memory (TlsMismatch _ _) = false
 is_memory (CopyOutside _ _) = false
 
--- a file of a name is refused
+-- a file of a name is refused by a clause
 abbrev pub of_refusal : List ℕ → Refusal → LoadFault
 of_refusal name (refusals.Clause number argument) = Refused name number argument
 of_refusal name refusals.NoMemory = NoMemory
+
+-- or by its mark
+abbrev pub of_file : List ℕ → FileFault → LoadFault
+of_file name files.BadMark = BadMark name
+of_file name (files.Refused refusal) = of_refusal name refusal
 
 abbrev pub of_walk : WalkFault → LoadFault
 of_walk (walk.NeededIsProgram name) = NeededIsProgram name

@@ -1,19 +1,19 @@
 -- Where the objects of a load are placed. Which addresses a loader chooses, the System V gABI leaves open: this project's profile.
-use Rattle.std.specs.Prelude.{◌≡◌, ℕ, ◌+◌, ◌≤◌, ◌⊎◌, Bool, true, ◌||◌, nat_le, if◌then◌else◌, List, [], ◌∷◌, ◌++◌, map, length, Option, Some, None, Result, Ok}
+use Rattle.std.specs.Prelude.{◌≡◌, ℕ, ◌+◌, ◌^◌, ◌<◌, ◌≤◌, ◌⊎◌, Bool, true, ◌||◌, nat_le, if◌then◌else◌, List, [], ◌∷◌, ◌++◌, map, length, Option, Some, None, Result, Ok}
 use Rattle.std.specs.List.{All, list_all}
 use Rattle.pl_base.specs.Answers.{◌>>=◌, because}
-use Rattle.pl_elf.specs.Headers.{loads}
+use Rattle.pl_elf.specs.Headers.{header, loads, segments}
 use Rattle.pl_elf.specs.declared.constants.TheConstants.{ADDRESS_LIMIT}
 use Rattle.pl_elf.specs.Ranges.{range_from}
 use Rattle.pl_elf.specs.declared.range.Range.{Range}
 use Rattle.pl_elf.specs.declared.segment.Segment.{Segment}
-use Rattle.pl_object.specs.declared.object.Object.{Object}
 use Rattle.pl_place.specs.Left.{left}
 use Rattle.pl_place.specs.Placing.{chosen, AllFree, AreApart, ArePlaced, StopsAt}
 use Rattle.pl_place.specs.Policy.{Answering, Choice}
 use Rattle.pl_slots.specs.declared.slot.Want.{Want}
 use Rattle.pl_loader.specs.Faults.{is_memory, of_place}
 use Rattle.pl_loader.specs.declared.constants.TheConstants.{REGION_START, REGION_END}
+use Rattle.pl_loader.specs.declared.object_file.Mark.{Mark}
 use Rattle.pl_loader.specs.declared.object_file.ObjectFile.{ObjectFile}
 use Rattle.pl_loader.specs.declared.fault.LoadFault.{LoadFault}
 use Rattle.pl_loader.specs.declared.fault.LoadFault.TheVariants.{NoPlace}
@@ -22,13 +22,25 @@ use Rattle.pl_loader.specs.declared.fault.LoadFault.TheVariants.{NoPlace}
 abbrev pub region : Range
 region = record { start = REGION_START; end = REGION_END }
 
+-- all addresses that an object may have
+abbrev pub everywhere : Range
+everywhere = record { start = 0; end = ADDRESS_LIMIT }
+
 -- the addresses of a PT_LOAD, as linked
 abbrev pub load_range : Segment → Range
 load_range s = range_from s.vaddr s.memsz
 
--- the addresses that a program takes
-unfoldable pub taken : Object → List Range
-taken program = map load_range (loads program.segments)
+abbrev pub segments_by : List Segment → Option Mark → List Segment
+segments_by ss None = ss
+segments_by ss (Some k) = segments k.file (header k.file)
+
+-- the segments of a file, as it stands
+abbrev pub segments_of : ObjectFile → List Segment
+segments_of f = segments_by f.object.segments f.mark
+
+-- the addresses that a program's file takes, as it stands
+unfoldable pub taken : ObjectFile → List Range
+taken program = map load_range (loads (segments_of program))
 
 -- the addresses that a library wants
 abbrev pub want_of : ObjectFile → Want
@@ -41,9 +53,13 @@ kept_free (Some range) = range ∷ []
 
 -- ---- libraries with a slot of their own
 
--- the slot that a library's file bears, if any. None does yet
+abbrev pub slot_by : Option Mark → Option ℕ
+slot_by None = None
+slot_by (Some k) = Some k.slot
+
+-- the slot that a library's file bears, where it is prelinked
 abbrev pub slot_of : ObjectFile → Option ℕ
-slot_of f = None
+slot_of f = slot_by f.mark
 
 -- the addresses of a library at a place
 abbrev pub range_at : ObjectFile → ℕ → Range
@@ -60,6 +76,11 @@ where_free taken f (Some slot) = if list_all (misses (range_at f slot)) taken th
 -- the slot of a library, where it is free of what is taken
 abbrev pub own_place : List Range → ObjectFile → Option ℕ
 own_place taken f = where_free taken f (slot_of f)
+
+-- a library ends at its own place at or below the limit of addresses
+abbrev pub Fits : ObjectFile → Option ℕ → Type 0
+Fits f None = Unit {0}
+Fits f (Some slot) = slot + f.object.span ≤ ADDRESS_LIMIT
 
 abbrev pub own_range : ObjectFile → Option ℕ → List Range
 own_range f None = []
@@ -97,7 +118,7 @@ joined (None ∷ owns) (start ∷ starts) = start ∷ joined owns starts
 
 -- what is taken before any library is placed
 abbrev pub taken_first : Option Range → ObjectFile → List Range
-taken_first busy program = taken program.object ++ kept_free busy
+taken_first busy program = taken program ++ kept_free busy
 
 -- the own places of the libraries beside a program
 abbrev pub owns_beside : Option Range → ObjectFile → List ObjectFile → List (Option ℕ)
@@ -146,8 +167,8 @@ pub record IsAt (f : ObjectFile) (place : ℕ) : Type 0 where
   pub low : place ≤ ADDRESS_LIMIT
   pub ends : All (λ s. place + (s.vaddr + s.memsz) ≤ ADDRESS_LIMIT) (loads f.object.segments)
 
--- wants have one place each, in the region and in no busy range, and no address in common
-pub record IsFree (busy : List Range) (wants : List Want) (starts : List ℕ) : Type 0 where
+-- wants have one place each, in a range and in no busy one, and no address in common
+pub record IsFree (within : Range) (busy : List Range) (wants : List Want) (starts : List ℕ) : Type 0 where
   pub one_each : length starts ≡ length wants
-  pub free : AllFree region busy wants starts
+  pub free : AllFree within busy wants starts
   pub apart : AreApart wants starts

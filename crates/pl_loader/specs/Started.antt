@@ -1,5 +1,5 @@
 -- What a load starts from: the objects at their addresses, the modules of thread-local storage, the entry and the memory (System V gABI, chapter 5; Drepper, "ELF Handling for Thread-Local Storage").
-use Rattle.std.specs.Prelude.{◌≡◌, ℕ, ◌+◌, List, [], ◌∷◌, map, fold, min, max, Option, Some, None, Result, Ok, Err, ◌⊎◌, true, slice_get, ◌==◌, if◌then◌else◌}
+use Rattle.std.specs.Prelude.{◌≡◌, ℕ, ◌+◌, List, [], ◌∷◌, map, fold, min, max, Option, Some, None, Bool, Result, Ok, Err, ◌⊎◌, true, slice_get, ◌==◌, if◌then◌else◌}
 use Rattle.std.specs.List.{zip}
 use Rattle.pl_base.specs.Answers.{◌>>=◌, because}
 use Rattle.pl_base.specs.Memory.{Memory}
@@ -17,6 +17,7 @@ use Rattle.pl_value.specs.Ordinary.{loaded, ordinary}
 use Rattle.pl_value.specs.declared.fault.LinkFault.{LinkFault}
 use Rattle.pl_value.specs.declared.fault.LinkFault.TheVariants as link
 use Rattle.pl_loader.specs.Faults.{is_memory, of_tls}
+use Rattle.pl_loader.specs.Fast.{is_fast, fast_image}
 use Rattle.pl_loader.specs.Loading.{objects_of, parts_of}
 use Rattle.pl_place.specs.Policy.{Answering, Choice}
 use Rattle.pl_loader.specs.Places.{places, IsPlaced, IsUnplaced}
@@ -100,8 +101,9 @@ of_link files (link.CopyOutside member symbol) = CopyOutside (name_of files memb
 
 -- ---- the start
 
--- what a load starts from; the extents are the addresses that each object loads
+-- what a load starts from: whether it is from the prelinked files as they stand, the objects, the modules, the entry and the memory. The extents are the addresses that each object loads
 pub record Start : Type 0 where
+  pub fast : Bool
   pub objects : List Placed
   pub modules : List TlsModule
   pub entry : ℕ
@@ -110,6 +112,7 @@ pub record Start : Type 0 where
 
 unfoldable pub start : List ObjectFile → List ℕ → List Module → Memory → Start
 start files places modules memory = record {
+  fast = is_fast files places;
   objects = all_placed files places;
   modules = map (tls_module files) modules;
   entry = entry_of files;
@@ -125,8 +128,12 @@ linked files places modules = because (of_link files) (ordinary (objects_of file
 abbrev pub modules_of : List ObjectFile → Result (List Module) LoadFault
 modules_of files = because of_tls (offsets (blocks files))
 
+-- the memory of the prelinked files as they stand, where all conditions of it hold: no link is looked for; else that of the originals, linked
+unfoldable pub imaged : List ObjectFile → List ℕ → List Module → Result Memory LoadFault
+imaged files places modules = if is_fast files places then Ok (byte_of (fast_image files places)) else linked files places modules
+
 abbrev pub start_at : List ObjectFile → List Module → List ℕ → Result Start LoadFault
-start_at files modules at = linked files at modules >>= λ memory. Ok (start files at modules memory)
+start_at files modules at = imaged files at modules >>= λ memory. Ok (start files at modules memory)
 
 -- what the files of a walk start from by a policy that is a function, or the first cause why they do not
 unfoldable pub started : Choice → Option Range → List ObjectFile → Result Start LoadFault
@@ -143,16 +150,17 @@ load choose busy fault file name = files fault file name >>= λ all. because fau
 
 -- ---- what code holds
 
--- an image: the same memory, byte by byte, of objects at these places
+-- an image: the same memory, byte by byte, of objects that load the same addresses at these places
 pub record IsImage (image : Image) (files : List ObjectFile) (places : List ℕ) (memory : Memory) : Type 0 where
   pub bytes : (address : ℕ) → byte_of image address ≡ memory address
-  pub objects : image.objects ≡ loaded places (parts_of files) (objects_of files)
+  pub extents : extents_of image.objects ≡ extents_of (loaded places (parts_of files) (objects_of files))
 
 abbrev pub IsLinked : Image → List ObjectFile → List ℕ → Result Memory LoadFault → Type 0
 IsLinked image files places meant = (memory : Memory) × (meant ≡ Ok memory) × IsImage image files places memory
 
 -- a start as the code has it: the same memory, byte by byte
 pub record IsStart (s : code.Started) (meant : Start) : Type 0 where
+  pub fast : s.fast ≡ meant.fast
   pub objects : s.objects ≡ meant.objects
   pub modules : s.modules ≡ meant.modules
   pub entry : s.entry ≡ meant.entry
@@ -172,6 +180,8 @@ pub record StartsBy (post : Answering) (busy : Option Range) (files : List Objec
   pub at : List ℕ
   pub placed : IsPlaced post busy files at
   pub starts : Starts s (start_at files modules at)
+  -- on the fast path the image is the files as they stand, with the conflict rows as its patches
+  pub stands : s.fast ≡ true → s.image ≡ fast_image files at
 
 -- a library for which nothing fits
 pub record IsUnplacedBy (post : Answering) (busy : Option Range) (files : List ObjectFile) (fault : LoadFault) : Type 0 where
@@ -187,7 +197,7 @@ pub record IsRefusedBy (post : Answering) (busy : Option Range) (files : List Ob
   pub numbered : modules_of files ≡ Ok modules
   pub at : List ℕ
   pub placed : IsPlaced post busy files at
-  pub refused : linked files at modules ≡ Err fault
+  pub refused : imaged files at modules ≡ Err fault
 
 -- why there is no start: there was no memory, or there are no modules, no places or no links, in this order
 abbrev pub FailsBy : Answering → Option Range → List ObjectFile → LoadFault → Type 0

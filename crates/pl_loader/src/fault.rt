@@ -17,6 +17,10 @@ pub enum LoadFault {
     #[error("a file is not there")]
     NotThere(Text),
 
+    /// A file has a prelink tag or an undo section, and is no prelinked file.
+    #[error("a mark, and no prelinked file")]
+    BadMark(Text),
+
     /// An acceptance clause refuses a file.
     #[error("a file is refused")]
     Refused {
@@ -99,6 +103,7 @@ impl fmt::Debug for LoadFault {
     fn fmt<W: fmt::Write>(&self, f: &mut fmt::Formatter<W>) -> fmt::Result {
         let (cause, name) = match self {
             LoadFault::NotThere(name) => ("NotThere ", name.as_str()),
+            LoadFault::BadMark(name) => ("BadMark ", name.as_str()),
             LoadFault::Refused { name, .. } => ("Refused ", name.as_str()),
             LoadFault::NotProgram(name) => ("NotProgram ", name.as_str()),
             LoadFault::NeededIsProgram(name) => ("NeededIsProgram ", name.as_str()),

@@ -3,13 +3,16 @@
 
 mod bounds;
 pub mod constants;
+mod fast;
 mod fault;
 mod linking;
 mod loader;
 mod modules;
 mod object_file;
+mod own_places;
 mod placed;
 mod placing;
+mod standing;
 mod started;
 mod starting;
 mod tls_module;
@@ -18,7 +21,7 @@ mod walk_files;
 pub use constants::{REGION_END, REGION_START};
 pub use fault::LoadFault;
 pub use loader::Loader;
-pub use object_file::ObjectFile;
+pub use object_file::{Mark, ObjectFile};
 pub use placed::Placed;
 pub use started::Started;
 pub use tls_module::TlsModule;

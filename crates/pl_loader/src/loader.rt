@@ -67,7 +67,7 @@ impl<'p, F> Loader<'p, F> {
 
     /// Gives the wanted name its file, fewer than 2^32 bytes, or tells that there is none. The names that its object needs are wanted in their order, each once.
     ///
-    /// The first cause counts, in this order: `NotThere` where there is no file; `Refused` where an acceptance clause refuses it; `NotProgram` where it is the first file, and a library; `NeededIsProgram` where it is a later file, and no library, or needs the first, which is a program; `TooMany` where a name would be wanted after `MAX_MEMBERS` names. After a fault the loader is unchanged.
+    /// The first cause counts, in this order: `NotThere` where there is no file; `BadMark` where it bears a mark and is no prelinked file; `Refused` where it bears none, and an acceptance clause refuses it; `NotProgram` where it is the first file, and a library; `NeededIsProgram` where it is a later file, and no library, or needs the first, which is a program; `TooMany` where a name would be wanted after `MAX_MEMBERS` names. After a fault the loader is unchanged.
     pub fn give(&mut self, alloc: Global, file: Option<Vec<u8>>) -> Result<(), LoadFault>
         requires wanted { IsSome (wants self.old.walk.order) }
         requires size { ForSome file (λ bytes. length bytes.items < 2 ^ 32) }
@@ -109,7 +109,9 @@ impl<'p, F> Loader<'p, F> {
 impl<'p, F: Fn(&Holes, u64, u64) -> Option<u64>> Loader<'p, F> {
     /// What the program starts from, where no name is wanted any more.
     ///
-    /// The first cause counts, in this order: `TlsTooLarge` where an offset of thread-local storage is too great; `NoPlace` at the first library for which nothing fits in what is left of the region; and the first of `Undefined`, `UndefinedTls`, `TlsMismatch` and `CopyOutside` in the order of the relocations. The objects are placed so: the program where it was linked, and each library in turn where the policy says, in what the program's PT_LOADs, the busy addresses and the libraries before it leave of the region.
+    /// The first cause counts, in this order: `TlsTooLarge` where an offset of thread-local storage is too great; `NoPlace` at the first library for which nothing fits in what is left of the region; and the first of `Undefined`, `UndefinedTls`, `TlsMismatch` and `CopyOutside` in the order of the relocations. The objects are placed so: the program where it was linked; each prelinked library in scope order at its slot, where that is free of the PT_LOADs of the program's file as it stands, of the busy addresses and of the libraries before it; and each other library in turn where the policy says, in what all these leave of the region.
+    ///
+    /// The program starts `fast` exactly where it is a prelinked file, its list has the names, stamps and checksums of the libraries of its walk, each a prelinked file, in their order, and each of them is placed at its slot. Then the memory is the files' segments as they stand, with the program's conflict rows over them, and no link is looked for. Else it is that of the originals, linked.
     pub fn start(&self, alloc: Global) -> Result<Started<'_>, LoadFault>
         requires may { policy.MayChoose (F.pre self.now.policy) }
         requires chooses { policy.Chooses (F.post self.now.policy) }

@@ -1,19 +1,18 @@
 // Where the objects of a load are placed.
-ghost use Rattle.std.specs.Prelude.{◌≡◌, ◌+◌, ◌≤◌, ◌∷◌, map, IfOk, IfErr};
+ghost use Rattle.std.specs.Prelude.{◌≡◌, ◌+◌, ◌^◌, ◌<◌, ◌∷◌, map, IfOk, IfErr};
 ghost use Rattle.std.specs.List.{All, AllZip};
-ghost use Rattle.pl_elf.specs.Headers.{loads};
-ghost use Rattle.pl_elf.specs.declared.constants.TheConstants.{ADDRESS_LIMIT};
+ghost use Rattle.pl_elf.specs.Headers.{loads as loads_spec};
 ghost use Rattle.pl_place.specs.Left.{left};
 ghost use Rattle.pl_place.specs.Placing.{ArePlaced as PolicyPlaced, IsWant};
 ghost use Rattle.pl_place.specs.Policy as policy;
 ghost use Rattle.pl_value.specs.Ordinary.{ArePlaced};
-ghost use Rattle.pl_loader.specs.Loading.{AreFiles, objects_of, parts_of};
+ghost use Rattle.pl_loader.specs.Loading.{AreFiles, IsRead, objects_of, parts_of};
 ghost use Rattle.pl_loader.specs.Places as spec;
 
+use crate::own_places::{joined, own_places};
 use crate::{LoadFault, ObjectFile, REGION_END, REGION_START};
-use pl_base::{Rows, Text};
-use pl_elf::{Range, Segment, loads};
-use pl_object::Object;
+use pl_base::Rows;
+use pl_elf::{Range, Segment, header_fields, loads, read_segments};
 use pl_place::{Holes, Placer, place_all};
 use pl_slots::Want;
 use std::alloc::{AllocError, Global};
@@ -30,44 +29,39 @@ fn region() -> Range
 
 /// The addresses of a PT_LOAD, as linked.
 fn load_range(segment: &Segment) -> Range
-    requires { segment.now.vaddr + segment.now.memsz ≤ ADDRESS_LIMIT }
+    requires { segment.now.vaddr + segment.now.memsz < 2 ^ 64 }
     ensures { result ≡ spec.load_range segment.now }
 {
     Range::from_size(segment.vaddr, segment.memsz)
 }
 
-/// The addresses that a program takes.
+/// The PT_LOADs of a file, as it stands.
+fn loads_of(alloc: Global, file: &ObjectFile) -> Result<Vec<Segment>, AllocError>
+    requires { IsRead file.now }
+    ensures value { IfOk result (λ v. v.items ≡ loads_spec (spec.segments_of file.now)) }
+    ensures ends { IfOk result (λ v. All (λ s. s.vaddr + s.memsz < 2 ^ 64) v.items) }
+{
+    match &file.mark {
+        None => loads(alloc, file.object.segments.as_slice()),
+        Some(mark) => {
+            let bytes = mark.file.as_slice();
+            let segments = read_segments(alloc, bytes, &header_fields(bytes))?;
+            loads(alloc, &segments)
+        }
+    }
+}
+
+/// The addresses that a program's file takes, as it stands.
 #[tactic(auto, unfolding(crate::specs::Places::taken))]
-fn taken(alloc: Global, program: &Object) -> Result<Vec<Range>, AllocError>
-    requires { All (λ s. s.vaddr + s.memsz ≤ ADDRESS_LIMIT) (loads program.now.segments) }
+fn taken(alloc: Global, program: &ObjectFile) -> Result<Vec<Range>, AllocError>
+    requires { IsRead program.now }
     ensures { IfOk result (λ ranges. ranges.items ≡ spec.taken program.now) }
 {
     let mut ranges = Vec::new(alloc);
-    for segment in &loads(alloc, program.segments.as_slice())? {
+    for segment in &loads_of(alloc, program)? {
         ranges.push(load_range(segment))?;
     }
     Ok(ranges)
-}
-
-/// The addresses that a library wants.
-fn want_of(alloc: Global, file: &ObjectFile) -> Result<Want, AllocError>
-    ensures { IfOk result (λ want. want ≡ spec.want_of file.now) }
-{
-    Ok(Want {
-        name: Text::copy_of(alloc, file.name.as_str())?,
-        span: file.object.span,
-        align: file.object.align,
-    })
-}
-
-fn wants_of(alloc: Global, libraries: &[ObjectFile]) -> Result<Vec<Want>, AllocError>
-    ensures { IfOk result (λ wants. wants.items ≡ map spec.want_of libraries.now) }
-{
-    let mut wants = Vec::new(alloc);
-    for library in libraries {
-        wants.push(want_of(alloc, library)?)?;
-    }
-    Ok(wants)
 }
 
 /// What is taken before any library is placed: the program, and the addresses that are kept free besides.
@@ -76,10 +70,10 @@ fn taken_first(
     busy: Option<Range>,
     program: &ObjectFile,
 ) -> Result<Vec<Range>, AllocError>
-    requires { All (λ s. s.vaddr + s.memsz ≤ ADDRESS_LIMIT) (loads program.now.object.segments) }
+    requires { IsRead program.now }
     ensures { IfOk result (λ ranges. ranges.items ≡ spec.taken_first busy program.now) }
 {
-    let mut ranges = taken(alloc, &program.object)?;
+    let mut ranges = taken(alloc, program)?;
     if let Some(range) = busy {
         ranges.push(range)?;
     }
@@ -97,13 +91,13 @@ fn policy_places<F: Fn(&Holes, u64, u64) -> Option<u64>>(
     requires chooses { policy.Chooses (F.post placer.now) }
     requires wants { All IsWant wants.now }
     ensures placed { IfOk result (λ starts. PolicyPlaced (F.post placer.now) (left spec.region taken.now) wants.now starts.items) }
-    ensures free { IfOk result (λ starts. spec.IsFree taken.now wants.now starts.items) }
+    ensures free { IfOk result (λ starts. spec.IsFree spec.region taken.now wants.now starts.items) }
     ensures stops { IfErr result (spec.StopsOf (F.post placer.now) (left spec.region taken.now) wants.now) }
 {
     Ok(place_all(alloc, placer, wants, taken, region())?)
 }
 
-/// The places of libraries beside a program.
+/// The places of libraries beside a program: first their own slots, as far as these are free, then those of the policy.
 fn library_places<F: Fn(&Holes, u64, u64) -> Option<u64>>(
     alloc: Global,
     placer: &Placer<F>,
@@ -113,20 +107,20 @@ fn library_places<F: Fn(&Holes, u64, u64) -> Option<u64>>(
 ) -> Result<Vec<u64>, LoadFault>
     requires may { policy.MayChoose (F.pre placer.now) }
     requires chooses { policy.Chooses (F.post placer.now) }
-    requires fits { All (λ s. s.vaddr + s.memsz ≤ ADDRESS_LIMIT) (loads program.now.object.segments) }
-    requires wants { All IsWant (map spec.want_of libraries.now) }
-    ensures placed { IfOk result (λ starts. spec.IsPlaced (F.post placer.now) busy (program.now ∷ libraries.now) (0 ∷ starts.items)) }
-    ensures free { IfOk result (λ starts. spec.IsFree (spec.taken_first busy program.now) (map spec.want_of libraries.now) starts.items) }
+    requires files { AreFiles (program.now ∷ libraries.now) }
+    ensures placed { IfOk result (λ places. spec.IsPlaced (F.post placer.now) busy (program.now ∷ libraries.now) (0 ∷ places.items)) }
+    ensures free { IfOk result (λ places. spec.IsFree spec.everywhere (spec.taken_first busy program.now) (map spec.want_of libraries.now) places.items) }
     ensures stops { IfErr result (spec.StopsFiles (F.post placer.now) busy (program.now ∷ libraries.now)) }
 {
-    let taken = taken_first(alloc, busy, program)?;
-    let wants = wants_of(alloc, libraries)?;
-    policy_places(alloc, placer, &wants, &taken)
+    let mut taken = taken_first(alloc, busy, program)?;
+    let own = own_places(alloc, &mut taken, libraries)?;
+    let starts = policy_places(alloc, placer, own.wants.as_slice(), &taken)?;
+    Ok(joined(alloc, own.places.as_slice(), &starts)?)
 }
 
-/// The place of each object: 0 for the first, which is the program, and those of the policy beside it for libraries.
+/// The place of each object: 0 for the first, which is the program; for each prelinked library in scope order its slot, where that is free of the program's file as it stands, of the busy addresses and of the libraries before it; and for each other library in scope order the policy's answer, in what these leave of the region.
 ///
-/// `NoPlace` comes exactly at the first library for which nothing fits in what is left.
+/// `NoPlace` comes exactly at the first of the others for which nothing fits in what is left.
 pub fn places<F: Fn(&Holes, u64, u64) -> Option<u64>>(
     alloc: Global,
     placer: &Placer<F>,
@@ -146,8 +140,8 @@ pub fn places<F: Fn(&Holes, u64, u64) -> Option<u64>>(
     let [program, libraries @ ..] = files else {
         return Ok(Rows::new(alloc));
     };
-    let starts = library_places(alloc, placer, busy, program, libraries)?;
+    let others = library_places(alloc, placer, busy, program, libraries)?;
     let mut places = Vec::from_array(alloc, [0])?;
-    places.extend_from_slice(&starts)?;
+    places.extend_from_slice(&others)?;
     Ok(Rows::from_vec(places))
 }

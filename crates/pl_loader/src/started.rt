@@ -5,6 +5,9 @@ use pl_image::Image;
 /// What a program starts from.
 #[derive(Drop)]
 pub struct Started<'a> {
+    /// Whether the program starts from the prelinked files as they stand.
+    pub fast: bool,
+
     /// The objects in memory, in scope order.
     pub objects: Rows<Placed>,
 

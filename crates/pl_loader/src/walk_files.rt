@@ -1,18 +1,19 @@
 ghost use Rattle.std.specs.Prelude.{◌≡◌, ◌<◌, ◌^◌, length, Some, Ok, Err, IsSome, IfOk, IfErr, OnOk, OnErr};
 ghost use Rattle.std.specs.Option.{option_map, ForSome};
-ghost use Rattle.pl_base.specs.Answers.{Answers, because};
-ghost use Rattle.pl_object.specs.Reads.{reads};
+ghost use Rattle.pl_base.specs.Answers.{Answers};
+ghost use Rattle.pl_form.specs.declared.file.File.TheVariants as files;
 ghost use Rattle.pl_scope.specs.Walking.{wants};
-ghost use Rattle.pl_loader.specs.Faults.{is_memory, of_refusal};
-ghost use Rattle.pl_loader.specs.Loading.{IsLoading, IsRead};
+ghost use Rattle.pl_loader.specs.Faults.{is_memory, of_file};
+ghost use Rattle.pl_loader.specs.Loading.{IsLoadable, IsLoading, IsRead};
 ghost use Rattle.pl_loader.specs.Walk as spec;
 
-use crate::{LoadFault, ObjectFile};
+use crate::{LoadFault, Mark, ObjectFile};
 use pl_base::{Rows, Text};
+use pl_form::{File, FileFault, Marked, read_file};
 use pl_io::NoMemory;
-use pl_object::{Object, Refusal, accept};
+use pl_object::Refusal;
 use pl_scope::Order;
-use std::alloc::Global;
+use std::alloc::{AllocError, Global};
 use std::marker::Model;
 
 /// The files of a walk, as far as they were given. Contracts see it as the name, how far the walk has come, and the files.
@@ -33,41 +34,94 @@ impl Model for WalkFiles {
     ghost invariant = { λ l. IsLoading (record { name = l.name; order = l.order; files = l.files.items }) };
 }
 
-/// The object that a file is, or the first acceptance clause that refuses it.
-fn read_object(alloc: Global, name: &str, bytes: &[u8]) -> Result<Object, LoadFault>
-    requires { length bytes.now < 2 ^ 32 }
-    ensures { Answers is_memory result (because (of_refusal name.now) (reads bytes.now)) }
+/// Why a file of a name is none that can be loaded.
+fn file_fault(alloc: Global, name: &str, fault: FileFault) -> Result<LoadFault, AllocError>
+    ensures { IfOk result (λ load. load ≡ of_file name.now fault) }
 {
-    match accept(alloc, bytes) {
-        Ok(object) => Ok(object),
-        Err(Refusal::Clause { number, argument }) => Err(LoadFault::Refused {
+    Ok(match fault {
+        FileFault::BadMark => LoadFault::BadMark(Text::copy_of(alloc, name)?),
+        FileFault::Refused(Refusal::Clause { number, argument }) => LoadFault::Refused {
             name: Text::copy_of(alloc, name)?,
             number,
             argument,
-        }),
-        Err(Refusal::NoMemory) => Err(LoadFault::NoMemory),
+        },
+        FileFault::Refused(Refusal::NoMemory) => LoadFault::NoMemory,
+    })
+}
+
+/// A prelinked file, with its original and its object.
+fn marked_file(name: Text, bytes: Vec<u8>, marked: Marked) -> ObjectFile
+    ensures { result ≡ spec.with_mark name bytes.items (files.Marked marked) }
+{
+    let mark = Mark {
+        file: Rows::from_vec(bytes),
+        slot: marked.slot,
+        stamp: marked.stamp,
+        checksum: marked.checksum,
+        list: marked.list,
+        conflicts: marked.conflicts,
+    };
+    ObjectFile {
+        name,
+        bytes: marked.original,
+        object: marked.object,
+        mark: Some(mark),
+    }
+}
+
+/// A file with its original and the object of that.
+fn with_mark(name: Text, bytes: Vec<u8>, file: File) -> ObjectFile
+    ensures { result ≡ spec.with_mark name bytes.items file }
+{
+    match file {
+        File::Plain(object) => ObjectFile {
+            name,
+            bytes: Rows::from_vec(bytes),
+            object,
+            mark: None,
+        },
+        File::Marked(marked) => marked_file(name, bytes, marked),
+    }
+}
+
+/// What a file of a name is, or why it cannot be loaded: its mark, or else the first acceptance clause that refuses it.
+#[tactic(auto, unfolding(crate::specs::Walk::named))]
+fn named(alloc: Global, name: Text, bytes: Vec<u8>) -> Result<ObjectFile, LoadFault>
+    requires { length bytes.items < 2 ^ 32 }
+    ensures exact { Answers is_memory result (spec.named name bytes.items) }
+    ensures read { IfOk result IsRead }
+    ensures name { IfOk result (λ file. file.name ≡ name) }
+{
+    match read_file(alloc, &bytes) {
+        Ok(file) => Ok(with_mark(name, bytes, file)),
+        Err(fault) => Err(file_fault(alloc, name.as_str(), fault)?),
     }
 }
 
 /// Refuses a library under the name that is loaded.
 #[tactic(auto, unfolding(crate::specs::Walk::loadable))]
-fn loadable(alloc: Global, loaded: &str, name: &str, object: Object) -> Result<Object, LoadFault>
-    ensures { Answers is_memory result (spec.loadable loaded.now name.now object) }
+fn loadable(alloc: Global, loaded: &str, file: ObjectFile) -> Result<ObjectFile, LoadFault>
+    ensures exact { Answers is_memory result (spec.loadable loaded.now file) }
+    ensures same { IfOk result (λ same. same ≡ file) }
+    ensures loadable { IfOk result (IsLoadable loaded.now) }
 {
-    if name == loaded && object.kind.is_library() {
-        return Err(LoadFault::NotProgram(Text::copy_of(alloc, name)?));
+    if file.name.as_str() == loaded && file.object.kind.is_library() {
+        return Err(LoadFault::NotProgram(Text::copy_of(alloc, file.name.as_str())?));
     }
-    Ok(object)
+    Ok(file)
 }
 
-/// The object of a name of the walk of the name that is loaded.
-#[tactic(auto, unfolding(crate::specs::Walk::object_in))]
-fn object_in(alloc: Global, loaded: &str, name: &str, bytes: &[u8]) -> Result<Object, LoadFault>
-    requires { length bytes.now < 2 ^ 32 }
-    ensures { Answers is_memory result (spec.object_in loaded.now name.now bytes.now) }
+/// The file of a name of the walk of the name that is loaded.
+#[tactic(auto, unfolding(crate::specs::Walk::read_in))]
+fn read_in(alloc: Global, loaded: &str, name: Text, bytes: Vec<u8>) -> Result<ObjectFile, LoadFault>
+    requires { length bytes.items < 2 ^ 32 }
+    ensures exact { Answers is_memory result (spec.read_in loaded.now name bytes.items) }
+    ensures read { IfOk result IsRead }
+    ensures named { IfOk result (λ file. file.name ≡ name) }
+    ensures loadable { IfOk result (IsLoadable loaded.now) }
 {
-    let object = read_object(alloc, name, bytes)?;
-    loadable(alloc, loaded, name, object)
+    let file = named(alloc, name, bytes)?;
+    loadable(alloc, loaded, file)
 }
 
 impl WalkFiles {
@@ -95,8 +149,9 @@ impl WalkFiles {
     fn enter(&mut self, alloc: Global, file: ObjectFile) -> Result<(), LoadFault>
         requires wanted { wants self.old.order ≡ Some file.name }
         requires read { IsRead file }
-        ensures ok { OnOk result (spec.entered self.old file.name file.bytes file.object ≡ Ok self.new) }
-        ensures err { IfErr result (λ fault. Answers is_memory (Err fault) (spec.entered self.old file.name file.bytes file.object)) }
+        requires loadable { IsLoadable self.old.name file }
+        ensures ok { OnOk result (spec.entered self.old file ≡ Ok self.new) }
+        ensures err { IfErr result (λ fault. Answers is_memory (Err fault) (spec.entered self.old file)) }
         ensures unchanged { OnErr result (self.new ≡ self.old) }
     {
         self.files.reserve(1)?;
@@ -120,15 +175,8 @@ impl WalkFiles {
         let Some(bytes) = file else {
             return Err(LoadFault::NotThere(name));
         };
-        let object = object_in(alloc, self.name.as_str(), name.as_str(), &bytes)?;
-        self.enter(
-            alloc,
-            ObjectFile {
-                name,
-                bytes: Rows::from_vec(bytes),
-                object,
-            },
-        )
+        let file = read_in(alloc, self.name.as_str(), name, bytes)?;
+        self.enter(alloc, file)
     }
 
     /// The files that were given, lent.

@@ -12,6 +12,7 @@ use Rattle.pl_cli.proofs.top.start_and_write.Goals as goal
 
 same_start : (s : Started) (whole : Start) → IsStart s whole → start_of s ≡ whole
 same_start s whole is = λ i. record {
+  fast = is.fast i;
   objects = is.objects i;
   modules = is.modules i;
   entry = is.entry i;

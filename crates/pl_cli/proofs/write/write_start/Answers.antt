@@ -11,7 +11,7 @@ unfolding load_text text_of
 returns-in_err-write_all g c =
     let seen = g.K.Sink.seen in
     let s = c.args.started.now in
-    let first = head_text s.objects s.modules s.entry in
+    let first = head_text s.fast s.objects s.modules s.entry in
     let head : c.deref.result.now ≡ first = c.deref.ensures.value ∙ c.in_ok-head.ensures in record {
       whole = search rules;
       prefix = OnErr-from _ _ (stopped_in_first first (text_of s.image) end_text (seen c.args.output.now).got (seen c.write_all.new.sink).got
@@ -25,7 +25,7 @@ unfolding load_text text_of
 returns-in_err-write_text g c =
     let seen = g.K.Sink.seen in
     let s = c.args.started.now in
-    let first = head_text s.objects s.modules s.entry in
+    let first = head_text s.fast s.objects s.modules s.entry in
     let head : c.deref.result.now ≡ first = c.deref.ensures.value ∙ c.in_ok-head.ensures in record {
       whole = search rules;
       prefix = OnErr-from _ _ (stopped_in_second first (text_of s.image) end_text (seen c.args.output.now).got (seen c.write_all.new.sink).got (seen c.write_text.new.sink).got
@@ -39,7 +39,7 @@ unfolding load_text text_of
 returns-in_err-write_all-2 g c =
     let seen = g.K.Sink.seen in
     let s = c.args.started.now in
-    let first = head_text s.objects s.modules s.entry in
+    let first = head_text s.fast s.objects s.modules s.entry in
     let head : c.deref.result.now ≡ first = c.deref.ensures.value ∙ c.in_ok-head.ensures in record {
       whole = search rules;
       prefix = OnErr-from _ _ (stopped_in_third first (text_of s.image) end_text (seen c.args.output.now).got (seen c.write_all.new.sink).got (seen c.write_text.new.sink).got (seen c.write_all-2.new.sink).got
@@ -53,7 +53,7 @@ unfolding load_text text_of
 returns g c =
     let seen = g.K.Sink.seen in
     let s = c.args.started.now in
-    let first = head_text s.objects s.modules s.entry in
+    let first = head_text s.fast s.objects s.modules s.entry in
     let head : c.deref.result.now ≡ first = c.deref.ensures.value ∙ c.in_ok-head.ensures in record {
       whole = got_three first (text_of s.image) end_text (seen c.args.output.now).got (seen c.write_all.new.sink).got (seen c.write_text.new.sink).got (seen c.write_all-2.new.sink).got
           (c.in_ok-write_all.ensures.whole ∙ ap (got_after (seen c.args.output.now).got) head) c.in_ok-write_text.ensures.whole c.in_ok-write_all-2.ensures.whole;

@@ -2,39 +2,32 @@ use Rattle.std.proofs.Common.{◌≡◌, ◌-◌, List, ◌∷◌, length, take,
 use Rattle.pl_loader.specs.Loading.{AreFiles}
 use Rattle.pl_loader.specs.declared.object_file.ObjectFile.{ObjectFile}
 use Rattle.pl_loader.proofs.ApartLaws.{nothing_placed}
-use Rattle.pl_loader.proofs.FileLaws.{files_are, files_placed, program_fits, wants_asked}
+use Rattle.pl_loader.proofs.FileLaws.{files_are, files_placed}
 use Rattle.pl_loader.proofs.placing.places.Goals as goal
 
 pub returns-in_default-clause-apart : goal.returns-in_default-clause-apart
 returns-in_default-clause-apart g c = nothing_placed c.args.files.now c.new.result c.in_default.len_below c.new.ensures
 
-pub library_places-requires-clause-fits : goal.library_places-requires-clause-fits
-library_places-requires-clause-fits g c =
-    let rest : List ObjectFile = take (length c.args.files.now - 1) (drop 1 c.args.files.now) in
-    program_fits c.program-item.result rest (subst AreFiles (files_are c.args.files.now c.program-item.result c.in-len1-up.len_at_least c.program-item.is) c.requires.files)
-
-pub library_places-requires-clause-wants : goal.library_places-requires-clause-wants
-library_places-requires-clause-wants g c =
-    let rest : List ObjectFile = take (length c.args.files.now - 1) (drop 1 c.args.files.now) in
-    wants_asked c.program-item.result rest (subst AreFiles (files_are c.args.files.now c.program-item.result c.in-len1-up.len_at_least c.program-item.is) c.requires.files)
+pub library_places-requires-clause-files : goal.library_places-requires-clause-files
+library_places-requires-clause-files g c = subst AreFiles (files_are c.args.files.now c.program-item.result c.in-len1-up.len_at_least c.program-item.is) c.requires.files
 
 pub returns-clause-within : goal.returns-clause-within
 returns-clause-within g c =
     let rest : List ObjectFile = take (length c.args.files.now - 1) (drop 1 c.args.files.now) in
-    let all : c.from_vec.result ≡ 0 ∷ c.in_ok-starts.starts.items = search rules in
-    (files_placed c.args.busy c.args.files.now c.from_vec.result c.program-item.result rest c.in_ok-starts.starts.items (files_are c.args.files.now c.program-item.result c.in-len1-up.len_at_least c.program-item.is) all c.requires.files c.in_ok-starts.ensures.free).0
+    let all : c.from_vec.result ≡ 0 ∷ c.in_ok-others.others.items = search rules in
+    (files_placed c.args.busy c.args.files.now c.from_vec.result c.program-item.result rest c.in_ok-others.others.items (files_are c.args.files.now c.program-item.result c.in-len1-up.len_at_least c.program-item.is) all c.requires.files c.in_ok-others.ensures.free).0
 
 pub returns-clause-apart : goal.returns-clause-apart
 returns-clause-apart g c =
     let rest : List ObjectFile = take (length c.args.files.now - 1) (drop 1 c.args.files.now) in
-    let all : c.from_vec.result ≡ 0 ∷ c.in_ok-starts.starts.items = search rules in
-    (files_placed c.args.busy c.args.files.now c.from_vec.result c.program-item.result rest c.in_ok-starts.starts.items (files_are c.args.files.now c.program-item.result c.in-len1-up.len_at_least c.program-item.is) all c.requires.files c.in_ok-starts.ensures.free).1
+    let all : c.from_vec.result ≡ 0 ∷ c.in_ok-others.others.items = search rules in
+    (files_placed c.args.busy c.args.files.now c.from_vec.result c.program-item.result rest c.in_ok-others.others.items (files_are c.args.files.now c.program-item.result c.in-len1-up.len_at_least c.program-item.is) all c.requires.files c.in_ok-others.ensures.free).1
 
 pub returns-clause-placed : goal.returns-clause-placed
 returns-clause-placed g c =
     let rest : List ObjectFile = take (length c.args.files.now - 1) (drop 1 c.args.files.now) in
-    let all : c.from_vec.result ≡ 0 ∷ c.in_ok-starts.starts.items = search rules in
-    rw (files_are c.args.files.now c.program-item.result c.in-len1-up.len_at_least c.program-item.is, all) c.in_ok-starts.ensures.placed
+    let all : c.from_vec.result ≡ 0 ∷ c.in_ok-others.others.items = search rules in
+    rw (files_are c.args.files.now c.program-item.result c.in-len1-up.len_at_least c.program-item.is, all) c.in_ok-others.ensures.placed
 
-pub returns-in_err-starts-clause-stops : goal.returns-in_err-starts-clause-stops
-returns-in_err-starts-clause-stops g c = rw (files_are c.args.files.now c.program-item.result c.in-len1-up.len_at_least c.program-item.is) (search rules)
+pub returns-in_err-others-clause-stops : goal.returns-in_err-others-clause-stops
+returns-in_err-others-clause-stops g c = rw (files_are c.args.files.now c.program-item.result c.in-len1-up.len_at_least c.program-item.is) (search rules)
