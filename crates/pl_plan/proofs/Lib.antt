@@ -1,0 +1,5 @@
+pub mod LoopLaws
+pub mod AlignLaws
+pub mod SameLaws
+pub mod AgreeLaws
+pub mod CurrentLaws

@@ -1,0 +1,30 @@
+-- Loops that keep what a function gives of each row, where it gives something.
+use Rattle.std.proofs.Common.{◌≡◌, ℕ, ◌+◌, ◌<◌, ◌≤◌, List, [], ◌∷◌, ◌++◌, length, drop, get_or, Option, Some, None, refl, sym, ap, ◌∙◌, append_assoc}
+use Rattle.std.specs.List.{filter_map, cons_option}
+use Rattle.std.proofs.lemmas.List.{at_drop_more, at_drop_all, append-nil}
+use Rattle.pl_scope.specs.Members.{names}
+use Rattle.pl_scope.specs.Scope.{walked}
+use Rattle.pl_scope.specs.declared.member.Member.{Member}
+
+joined : {Y : Type 0} (o : Option Y) (ys : List Y) → cons_option o [] ++ ys ≡ cons_option o ys
+joined None ys = refl
+joined (Some y) ys = refl
+
+-- one row more
+pub given_more : {X Y : Type 0} (h : X → Option Y) (ys after whole : List Y) (xs : List X) (i : ℕ) (x : X) (o : Option Y) → i < length xs → x ≡ get_or xs i x → o ≡ h x → after ≡ ys ++ cons_option o []
+    → ys ++ filter_map h (drop i xs) ≡ whole → after ++ filter_map h (drop (i + 1) xs) ≡ whole
+given_more {X = X} {Y = Y} h ys after whole xs i x o lt is given more so_far =
+    let rest : List Y = filter_map h (drop (i + 1) xs) in
+    let one : filter_map h (drop i xs) ≡ cons_option (h x) rest = at_drop_more (λ (zs : List X). filter_map h zs) xs i x lt ∙ rw (← is) refl in
+    ap (λ (z : List Y). z ++ rest) more ∙ (append_assoc ys (cons_option o []) rest
+    ∙ (ap (λ (z : List Y). ys ++ z) (joined o rest ∙ (ap (λ (p : Option Y). cons_option p rest) given ∙ sym one)) ∙ so_far))
+
+-- behind the last row
+pub given_done : {X Y : Type 0} (h : X → Option Y) (ys whole : List Y) (xs : List X) (i : ℕ) → length xs ≤ i → ys ++ filter_map h (drop i xs) ≡ whole → ys ≡ whole
+given_done {X = X} {Y = Y} h ys whole xs i le so_far =
+    sym (append-nil ys) ∙ (ap (λ (z : List Y). ys ++ z) (sym (at_drop_all (λ (zs : List X). filter_map h zs) xs i le)) ∙ so_far)
+
+-- what is given of the names of members
+pub positions_walked : (h : List ℕ → Option ℕ) (ms : List Member) → filter_map (λ m. h m.name) ms ≡ filter_map h (names (walked ms))
+positions_walked h [] = refl
+positions_walked h (m ∷ ms) = ap (λ (ys : List ℕ). cons_option (h m.name) ys) (positions_walked h ms)

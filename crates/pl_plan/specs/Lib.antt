@@ -1,0 +1,4 @@
+pub mod Faults
+pub mod Wants
+pub mod Planned
+pub mod Laws
