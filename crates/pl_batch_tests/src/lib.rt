@@ -1,0 +1,7 @@
+//! Tests of pl_batch, over folders in memory.
+#![tactic(auto)]
+
+#[cfg(test)]
+mod commands;
+#[cfg(test)]
+mod marked;
