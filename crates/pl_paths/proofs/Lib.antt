@@ -1,0 +1,5 @@
+pub mod FileLaws
+pub mod WalkLaws
+pub mod FastLaws
+pub mod PlaceLaws
+pub mod ImageLaws

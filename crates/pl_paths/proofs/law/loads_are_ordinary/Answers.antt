@@ -1,0 +1,12 @@
+use Rattle.pl_paths.proofs.ImageLaws.{images_are_ordinary, loads_are_ordinary}
+use Rattle.pl_paths.proofs.PlaceLaws.{places_are_at}
+use Rattle.pl_paths.proofs.law.loads_are_ordinary.Goals as goal
+
+pub returns-clause-places : goal.returns-clause-places
+returns-clause-places g c = images_are_ordinary
+
+pub returns-clause-placed : goal.returns-clause-placed
+returns-clause-placed g c = places_are_at
+
+pub returns-clause-load : goal.returns-clause-load
+returns-clause-load g c = loads_are_ordinary

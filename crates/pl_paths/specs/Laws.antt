@@ -1,0 +1,47 @@
+-- What is proved of the two paths of a load.
+use Rattle.std.specs.Prelude.{◌≡◌, ℕ, List, length, Option, Result, Ok}
+use Rattle.pl_elf.specs.declared.range.Range.{Range}
+use Rattle.pl_place.specs.Policy.{Choice}
+use Rattle.pl_sound.specs.Rule.{Files}
+use Rattle.pl_tls.specs.declared.module.Module.{Module}
+use Rattle.pl_conflict.specs.Format as format
+use Rattle.pl_conflict.specs.Format.{Causes, RuleAt}
+use Rattle.pl_loader.specs.Fast.{is_fast, fast_image}
+use Rattle.pl_loader.specs.Places.{places}
+use Rattle.pl_loader.specs.Started.{imaged, linked, load, modules_of}
+use Rattle.pl_loader.specs.declared.object_file.ObjectFile.{ObjectFile}
+use Rattle.pl_loader.specs.declared.fault.LoadFault.{LoadFault}
+use Rattle.pl_paths.specs.Paths.{GivesFrom, AreTaken, walk_of, IsWalkOf, folder_image, AreAt, SameMemory, ordinary_load, SameAnswer}
+
+-- ---- the fast path of a loader is that of the folder's files
+
+-- the files that a load takes are those of the folder's walk
+abbrev pub WalksAreOne : Type 0 → Type 0 → Type 0
+WalksAreOne E F = (causes : Causes F) (folder : Files) (fault : LoadFault → E) (file : List ℕ → Result (List ℕ) E) (name : List ℕ) (all : List ObjectFile)
+    → AreTaken folder fault file name all → IsWalkOf causes folder name all
+
+-- a loader takes this path where the folder's files allow it
+abbrev pub PathsAreOne : Type 0 → Type 0 → Type 0
+PathsAreOne E F = (causes : Causes F) (folder : Files) (fault : LoadFault → E) (file : List ℕ → Result (List ℕ) E) (name : List ℕ) (all : List ObjectFile) (at : List ℕ)
+    → AreTaken folder fault file name all → length at ≡ length all → is_fast all at ≡ format.is_fast causes folder name at
+
+-- and its image is theirs
+abbrev pub FastImagesAreOne : Type 0 → Type 0
+FastImagesAreOne E = (folder : Files) (fault : LoadFault → E) (file : List ℕ → Result (List ℕ) E) (name : List ℕ) (all : List ObjectFile) (at : List ℕ)
+    → AreTaken folder fault file name all → fast_image all at ≡ folder_image folder name (walk_of all) at
+
+-- ---- where the rule holds at the loaded name, the two paths give the same
+
+-- at any places
+abbrev pub ImagesAreOrdinary : Type 0 → Type 0 → Type 0
+ImagesAreOrdinary E F = (causes : Causes F) (folder : Files) (fault : LoadFault → E) (file : List ℕ → Result (List ℕ) E) (name : List ℕ) (all : List ObjectFile) (modules : List Module) (at : List ℕ)
+    → AreTaken folder fault file name all → RuleAt causes folder name → modules_of all ≡ Ok modules → AreAt all at → SameMemory (imaged all at modules) (linked all at modules)
+
+-- a policy's places are such
+abbrev pub PlacesAreAt : Type 0
+PlacesAreAt = (choose : Choice) (busy : Option Range) (all : List ObjectFile) (at : List ℕ) → places choose busy all ≡ Ok at → AreAt all at
+
+-- so the whole load is the ordinary one, whatever the policy chooses and whatever is busy
+abbrev pub LoadsAreOrdinary : Type 0 → Type 0 → Type 0
+LoadsAreOrdinary E F = (causes : Causes F) (folder : Files) (choose : Choice) (busy : Option Range) (fault : LoadFault → E) (file : List ℕ → Result (List ℕ) E) (name : List ℕ)
+    → GivesFrom folder file → RuleAt causes folder name → SameAnswer (load choose busy fault file name) (ordinary_load choose busy fault file name)
