@@ -40,10 +40,10 @@ use Rattle.pl_loader.specs.Walk.{files, member}
 use Rattle.pl_loader.specs.declared.object_file.ObjectFile.{ObjectFile}
 use Rattle.pl_loader.specs.declared.fault.LoadFault.{LoadFault}
 use Rattle.pl_loader.specs.declared.fault.LoadFault.TheVariants.{NotThere, BadMark}
-use Rattle.pl_paths.specs.Paths.{walk_of, IsWalkOf, folder_image, AreAt, SameMemory, linked_start, ordinary_at, ordinary_start, ordinary_load, SameAnswer}
+use Rattle.pl_paths.specs.Paths.{AreTaken, walk_of, IsWalkOf, folder_image, AreAt, SameMemory, linked_start, ordinary_at, ordinary_start, ordinary_load, SameAnswer}
 use Rattle.pl_paths.specs.Laws.{FastImagesAreOne, ImagesAreOrdinary, LoadsAreOrdinary}
 use Rattle.pl_paths.proofs.WalkLaws.{Begins, folder_walk, begins, walks_are_one}
-use Rattle.pl_paths.proofs.FastLaws.{loader_fast, fast_matches}
+use Rattle.pl_paths.proofs.FastLaws.{loader_fast, fast_matches, paths_are_one}
 use Rattle.pl_paths.proofs.PlaceLaws.{places_are_at}
 
 -- ---- the image of the fast path
@@ -148,29 +148,33 @@ images_are_ordinary causes folder fault file name all modules at is rule given p
 
 -- ---- the whole load
 
-by_memory : {E : Type 0} (fault : LoadFault → E) (all : List ObjectFile) (modules : List Module) (at : List ℕ) (r q : Result Memory LoadFault) → SameMemory r q
-    → SameAnswer (because fault (r >>= λ memory. Ok (start all at modules memory))) (because fault (q >>= λ memory. Ok (linked_start all at modules memory)))
+by_memory : {E : Type 0} (fault : LoadFault → E) (fast : Bool) (all : List ObjectFile) (modules : List Module) (at : List ℕ) (r q : Result Memory LoadFault) → is_fast all at ≡ fast → SameMemory r q
+    → SameAnswer (because fault (r >>= λ memory. Ok (start all at modules memory))) (because fault (q >>= λ memory. Ok (linked_start fast all at modules memory)))
 unfolding start linked_start
-by_memory fault all modules at (Ok a) (Ok b) same = record { objects = refl; modules = refl; entry = refl; bytes = same; extents = refl }
-by_memory fault all modules at (Ok a) (Err e) same = absurd same
-by_memory fault all modules at (Err e) (Ok b) same = absurd same
-by_memory fault all modules at (Err e) (Err f) same = ap fault same
+by_memory fault fast all modules at (Ok a) (Ok b) path same = record { fast = path; objects = refl; modules = refl; entry = refl; bytes = same; extents = refl }
+by_memory fault fast all modules at (Ok a) (Err e) path same = absurd same
+by_memory fault fast all modules at (Err e) (Ok b) path same = absurd same
+by_memory fault fast all modules at (Err e) (Err f) path same = ap fault same
 
--- the two images are one at all places of a policy
-abbrev Images : List ObjectFile → Type 0
-Images all = (modules : List Module) (at : List ℕ) → modules_of all ≡ Ok modules → AreAt all at → SameMemory (imaged all at modules) (linked all at modules)
+-- at all places of a policy the two images are one, and a test of the places tells the path
+record ArePaths (fast : List ℕ → Bool) (all : List ObjectFile) : Type 0 where
+  images : (modules : List Module) (at : List ℕ) → modules_of all ≡ Ok modules → AreAt all at → SameMemory (imaged all at modules) (linked all at modules)
+  path : (at : List ℕ) → AreAt all at → is_fast all at ≡ fast at
 
-by_start : {E : Type 0} (fault : LoadFault → E) (choose : Choice) (busy : Option Range) (all : List ObjectFile) → Images all → SameAnswer (because fault (started choose busy all)) (because fault (ordinary_start choose busy all))
+by_start : {E : Type 0} (fault : LoadFault → E) (fast : List ℕ → Bool) (choose : Choice) (busy : Option Range) (all : List ObjectFile) → ArePaths fast all
+    → SameAnswer (because fault (started choose busy all)) (because fault (ordinary_start fast choose busy all))
 unfolding started ordinary_start
-by_start fault choose busy all images = by_modules (modules_of all) refl
+by_start fault fast choose busy all paths = by_modules (modules_of all) refl
   where
     by_places : (modules : List Module) (p : Result (List ℕ) LoadFault) → modules_of all ≡ Ok modules → places choose busy all ≡ p
-        → SameAnswer (because fault (p >>= λ at. start_at all modules at)) (because fault (p >>= λ at. ordinary_at all modules at))
+        → SameAnswer (because fault (p >>= λ at. start_at all modules at)) (because fault (p >>= λ at. ordinary_at fast all modules at))
     by_places modules (Err e) given is = refl
-    by_places modules (Ok at) given is = by_memory fault all modules at (imaged all at modules) (linked all at modules) (images modules at given (places_are_at choose busy all at is))
+    by_places modules (Ok at) given is =
+        let placed = places_are_at choose busy all at is in
+        by_memory fault (fast at) all modules at (imaged all at modules) (linked all at modules) (paths.path at placed) (paths.images modules at given placed)
 
     by_modules : (m : Result (List Module) LoadFault) → modules_of all ≡ m
-        → SameAnswer (because fault (m >>= λ modules. places choose busy all >>= λ at. start_at all modules at)) (because fault (m >>= λ modules. places choose busy all >>= λ at. ordinary_at all modules at))
+        → SameAnswer (because fault (m >>= λ modules. places choose busy all >>= λ at. start_at all modules at)) (because fault (m >>= λ modules. places choose busy all >>= λ at. ordinary_at fast all modules at))
     by_modules (Err e) given = refl
     by_modules (Ok modules) given = by_places modules (places choose busy all) given refl
 
@@ -179,7 +183,12 @@ unfolding load ordinary_load
 loads_are_ordinary {E} causes folder choose busy fault file name gives rule = by (files fault file name) refl
   where
     by : (r : Result (List ObjectFile) E) → files fault file name ≡ r
-        → SameAnswer (r >>= λ all. because fault (started choose busy all)) (r >>= λ all. because fault (ordinary_start choose busy all))
+        → SameAnswer (r >>= λ all. because fault (started choose busy all)) (r >>= λ all. because fault (ordinary_start (format.is_fast causes folder name) choose busy all))
     by (Err e) is = refl
     by (Ok all) is =
-        by_start fault choose busy all (λ modules at given placed. images_are_ordinary causes folder fault file name all modules at (record { gives = gives; walked = is }) rule given placed)
+        let taken : AreTaken folder fault file name all = record { gives = gives; walked = is } in
+        by_start fault (format.is_fast causes folder name) choose busy all
+        (record {
+          images = λ modules at given placed. images_are_ordinary causes folder fault file name all modules at taken rule given placed;
+          path = λ at placed. paths_are_one causes folder fault file name all at taken placed.one_each;
+        })

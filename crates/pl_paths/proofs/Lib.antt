@@ -3,3 +3,4 @@ pub mod WalkLaws
 pub mod FastLaws
 pub mod PlaceLaws
 pub mod ImageLaws
+pub mod AnswerLaws

@@ -1,5 +1,6 @@
 -- What is proved of the two paths of a load.
-use Rattle.std.specs.Prelude.{◌≡◌, ℕ, List, length, Option, Result, Ok}
+use Rattle.std.specs.Prelude.{◌≡◌, ℕ, List, length, Option, Some, Result, Ok}
+use Rattle.pl_base.specs.Files.{Files as FileMap}
 use Rattle.pl_elf.specs.declared.range.Range.{Range}
 use Rattle.pl_place.specs.Policy.{Choice}
 use Rattle.pl_sound.specs.Rule.{Files}
@@ -11,6 +12,11 @@ use Rattle.pl_loader.specs.Places.{places}
 use Rattle.pl_loader.specs.Started.{imaged, linked, load, modules_of}
 use Rattle.pl_loader.specs.declared.object_file.ObjectFile.{ObjectFile}
 use Rattle.pl_loader.specs.declared.fault.LoadFault.{LoadFault}
+use Rattle.pl_words.specs.declared.command.Policy.{Policy}
+use Rattle.pl_cli.specs.Answer.{answer}
+use Rattle.pl_cli.specs.Files.{valid_file}
+use Rattle.pl_cli.specs.declared.command.Command.TheVariants.{Load}
+use Rattle.pl_paths.specs.Answers.{ordinary_answer}
 use Rattle.pl_paths.specs.Paths.{GivesFrom, AreTaken, walk_of, IsWalkOf, folder_image, AreAt, SameMemory, ordinary_load, SameAnswer}
 
 -- ---- the fast path of a loader is that of the folder's files
@@ -41,7 +47,12 @@ ImagesAreOrdinary E F = (causes : Causes F) (folder : Files) (fault : LoadFault 
 abbrev pub PlacesAreAt : Type 0
 PlacesAreAt = (choose : Choice) (busy : Option Range) (all : List ObjectFile) (at : List ℕ) → places choose busy all ≡ Ok at → AreAt all at
 
--- so the whole load is the ordinary one, whatever the policy chooses and whatever is busy
+-- so the whole load is the ordinary one, whatever the policy chooses and whatever is busy; its path is the fast one where the folder's files allow it
 abbrev pub LoadsAreOrdinary : Type 0 → Type 0 → Type 0
 LoadsAreOrdinary E F = (causes : Causes F) (folder : Files) (choose : Choice) (busy : Option Range) (fault : LoadFault → E) (file : List ℕ → Result (List ℕ) E) (name : List ℕ)
-    → GivesFrom folder file → RuleAt causes folder name → SameAnswer (load choose busy fault file name) (ordinary_load choose busy fault file name)
+    → GivesFrom folder file → RuleAt causes folder name → SameAnswer (load choose busy fault file name) (ordinary_load (format.is_fast causes folder name) choose busy fault file name)
+
+-- and `--load` answers by status and text as where the originals are linked
+abbrev pub AnswersAreOrdinary : Type 0 → Type 0
+AnswersAreOrdinary F = (causes : Causes F) (files : FileMap) (input name : List ℕ) (busy : Option Range) (policy : Policy)
+    → RuleAt causes (valid_file files) name → answer (Some (Load name busy policy)) files input ≡ ordinary_answer causes policy busy files name

@@ -1,5 +1,5 @@
 -- The two paths of a load: from the prelinked files as they stand, and from their originals, linked (System V gABI chapter 5; Jelínek, "Prelink", on starting a prelinked program).
-use Rattle.std.specs.Prelude.{◌≡◌, ℕ, false, List, map, length, slice_index_or, Option, Some, Result, Ok, Err}
+use Rattle.std.specs.Prelude.{◌≡◌, ℕ, Bool, List, map, length, slice_index_or, Option, Some, Result, Ok, Err}
 use Rattle.pl_base.specs.Answers.{◌>>=◌, because}
 use Rattle.pl_base.specs.Memory.{Memory}
 use Rattle.pl_elf.specs.declared.range.Range.{Range}
@@ -65,10 +65,10 @@ SameMemory (Err e) (Err f) = e ≡ f
 
 -- ---- the ordinary start
 
--- what files start from where their originals are linked, and none is loaded as it stands
-unfoldable pub linked_start : List ObjectFile → List ℕ → List Module → Memory → Start
-linked_start all places modules memory = record {
-  fast = false;
+-- what files start from where their originals are linked, and the word that tells the path
+unfoldable pub linked_start : Bool → List ObjectFile → List ℕ → List Module → Memory → Start
+linked_start fast all places modules memory = record {
+  fast = fast;
   objects = all_placed all places;
   modules = map (tls_module all) modules;
   entry = entry_of all;
@@ -76,22 +76,24 @@ linked_start all places modules memory = record {
   extents = extents_of (loaded places (parts_of all) (objects_of all));
 }
 
-abbrev pub ordinary_at : List ObjectFile → List Module → List ℕ → Result Start LoadFault
-ordinary_at all modules at = linked all at modules >>= λ memory. Ok (linked_start all at modules memory)
+-- the originals are linked at any places; the word is what a test of the places says
+abbrev pub ordinary_at : (List ℕ → Bool) → List ObjectFile → List Module → List ℕ → Result Start LoadFault
+ordinary_at fast all modules at = linked all at modules >>= λ memory. Ok (linked_start (fast at) all at modules memory)
 
 -- by a policy that is a function, or the first cause why they do not
-unfoldable pub ordinary_start : Choice → Option Range → List ObjectFile → Result Start LoadFault
-ordinary_start choose busy all = do
+unfoldable pub ordinary_start : (List ℕ → Bool) → Choice → Option Range → List ObjectFile → Result Start LoadFault
+ordinary_start fast choose busy all = do
   modules ← modules_of all
   at ← places choose busy all
-  ordinary_at all modules at
+  ordinary_at fast all modules at
 
--- the load of a name by this path alone
-unfoldable pub ordinary_load : {E : Type 0} → Choice → Option Range → (LoadFault → E) → (List ℕ → Result (List ℕ) E) → List ℕ → Result Start E
-ordinary_load choose busy fault file name = files fault file name >>= λ all. because fault (ordinary_start choose busy all)
+-- the load of a name that links the originals alone
+unfoldable pub ordinary_load : {E : Type 0} → (List ℕ → Bool) → Choice → Option Range → (LoadFault → E) → (List ℕ → Result (List ℕ) E) → List ℕ → Result Start E
+ordinary_load fast choose busy fault file name = files fault file name >>= λ all. because fault (ordinary_start fast choose busy all)
 
--- all of a start but the word that tells its path: the objects at their addresses, the modules, the entry and the memory
+-- the same path, objects at their addresses, modules, entry and addresses that are loaded, and the same byte at every address
 pub record IsSameStart (a b : Start) : Type 0 where
+  pub fast : a.fast ≡ b.fast
   pub objects : a.objects ≡ b.objects
   pub modules : a.modules ≡ b.modules
   pub entry : a.entry ≡ b.entry

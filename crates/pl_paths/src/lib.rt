@@ -5,4 +5,4 @@
 
 mod law;
 
-pub use law::{loads_are_ordinary, paths_are_one};
+pub use law::{answers_are_ordinary, loads_are_ordinary, paths_are_one};
