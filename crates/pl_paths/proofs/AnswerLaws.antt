@@ -1,12 +1,12 @@
 -- The answer of `--load` over a folder that keeps the rule at the loaded name.
-use Rattle.std.proofs.Common.{◌≡◌, ℕ, zero, suc, ◌+◌, ◌*◌, ◌^◌, Bool, true, false, not, List, [], ◌∷◌, ◌++◌, Option, Some, None, Result, Ok, Err, refl, sym, ap, ◌∙◌}
+use Rattle.std.proofs.Common.{◌≡◌, ℕ, zero, suc, ◌+◌, ◌*◌, ◌^◌, Bool, true, false, not, List, [], ◌∷◌, ◌++◌, Option, Some, None, Result, Ok, Err, refl, ap, ◌∙◌}
 use Rattle.std.specs.Prelude.{nat_lt, length, if◌then◌else◌}
 use Rattle.std.specs.List.{list_any, flat_map}
 use Rattle.std.specs.Option.{unwrap_or}
 use Rattle.pl_base.specs.Answers.{unless}
 use Rattle.pl_base.specs.Bytes.{word64}
 use Rattle.pl_base.specs.Files.{Files}
-use Rattle.pl_base.specs.Memory.{Memory, read}
+use Rattle.pl_base.specs.Memory.{Memory}
 use Rattle.pl_base.specs.Names.{is_valid_name}
 use Rattle.pl_base.proofs.AnswerLaws.{ok_same, unless_ok}
 use Rattle.pl_elf.specs.declared.range.Range.{Range}
@@ -20,7 +20,7 @@ use Rattle.pl_loader.specs.Started.{Start, load}
 use Rattle.pl_cli.specs.Answer.{done, refuses, load_answer}
 use Rattle.pl_cli.specs.Files.{valid_file, of_file, file_in}
 use Rattle.pl_cli.specs.Load.{choice, loaded}
-use Rattle.pl_cli.specs.LoadText.{head_text, end_text, load_text}
+use Rattle.pl_cli.specs.LoadText.{head_text, load_text}
 use Rattle.pl_cli.specs.declared.cause.Cause.{Cause}
 use Rattle.pl_cli.specs.declared.cause.Cause.TheVariants as cause
 use Rattle.pl_paths.specs.Answers.{ordinary}

@@ -8,7 +8,7 @@ use Rattle.std.proofs.lemmas.Option.{same_Some}
 use Rattle.pl_form.specs.Files.{marked_in}
 use Rattle.pl_base.specs.Answers.{◌>>=◌, because}
 use Rattle.pl_base.specs.Memory.{Memory}
-use Rattle.pl_base.proofs.AnswerLaws.{because_ok}
+use Rattle.pl_base.proofs.AnswerLaws.{because_ok, ok_same}
 use Rattle.pl_elf.specs.Kinds.{is_library, is_program}
 use Rattle.pl_elf.specs.declared.kind.Kind.{Kind}
 use Rattle.pl_elf.specs.declared.kind.Kind.TheVariants.{Library}
@@ -35,16 +35,17 @@ use Rattle.pl_loader.specs.Faults.{of_refusal, of_walk, of_tls}
 use Rattle.pl_loader.specs.Fast.{stored, is_fast, fast_image}
 use Rattle.pl_loader.specs.Loading.{objects_of, parts_of}
 use Rattle.pl_loader.specs.Places.{places}
-use Rattle.pl_loader.specs.Started.{block_of, blocks, of_link, start, linked, modules_of, imaged, start_at, started, load}
+use Rattle.pl_loader.specs.Started.{block_of, blocks, of_link, start, linked, modules_of, imaged, start_at, started, load, Start, Starts}
 use Rattle.pl_loader.specs.Walk.{files, member}
 use Rattle.pl_loader.specs.declared.object_file.ObjectFile.{ObjectFile}
+use Rattle.pl_loader.specs.declared.started.Started as code
 use Rattle.pl_loader.specs.declared.fault.LoadFault.{LoadFault}
 use Rattle.pl_loader.specs.declared.fault.LoadFault.TheVariants.{NotThere, BadMark}
 use Rattle.pl_paths.specs.Paths.{AreTaken, walk_of, IsWalkOf, folder_image, AreAt, SameMemory, linked_start, ordinary_at, ordinary_start, ordinary_load, SameAnswer}
-use Rattle.pl_paths.specs.Laws.{FastImagesAreOne, ImagesAreOrdinary, LoadsAreOrdinary}
+use Rattle.pl_paths.specs.Laws.{FastImagesAreOne, ImagesAreOrdinary, StartsAreOrdinary, LoadsAreOrdinary}
 use Rattle.pl_paths.proofs.WalkLaws.{Begins, folder_walk, begins, walks_are_one}
 use Rattle.pl_paths.proofs.FastLaws.{loader_fast, fast_matches, paths_are_one}
-use Rattle.pl_paths.proofs.PlaceLaws.{places_are_at}
+use Rattle.pl_paths.proofs.PlaceLaws.{chosen_are_at}
 
 -- ---- the image of the fast path
 
@@ -146,6 +147,26 @@ images_are_ordinary causes folder fault file name all modules at is rule given p
       | inr slow ↦ subst (λ (r : Result Memory LoadFault). SameMemory r (linked all at modules)) (sym (imaged_slow all modules at slow)) (itself (linked all at modules))
     ]
 
+-- a start from some memory has one that is the same at every address
+by_start_at : (all : List ObjectFile) (modules : List Module) (at : List ℕ) (s : code.Started) (r q : Result Memory LoadFault) → SameMemory r q → Starts s (r >>= λ memory. Ok (start all at modules memory))
+    → (memory : Memory) × (q ≡ Ok memory) × ((a : ℕ) → byte_of s.image a ≡ memory a)
+unfolding start
+by_start_at all modules at s (Ok a) (Ok b) same starts =
+    let whole : start all at modules a ≡ starts.0 = ok_same (start all at modules a) starts.0 starts.1 in
+    (b, refl, λ address. starts.2.bytes address ∙ sym (ap (λ (t : Start). t.memory address) whole) ∙ same address)
+by_start_at all modules at s (Ok a) (Err e) same starts = absurd same
+by_start_at all modules at s (Err e) (Ok b) same starts = absurd same
+by_start_at all modules at s (Err e) (Err f) same starts = absurd (no_start e starts.0 starts.1)
+  where
+    no_start : (e : LoadFault) (t : Start) → ◌≡◌ {A = Result Start LoadFault} (Err e) (Ok t) → ⊥
+    no_start e t is = cc
+
+pub starts_are_ordinary : {E F : Type 0} → StartsAreOrdinary E F
+starts_are_ordinary causes folder fault file name all modules at s is rule given placed starts =
+    let images = images_are_ordinary causes folder fault file name all modules at is rule given placed in
+    let whole = by_start_at all modules at s (imaged all at modules) (linked all at modules) images starts in
+    record { memory = whole.0; links = whole.1; bytes = whole.2 }
+
 -- ---- the whole load
 
 by_memory : {E : Type 0} (fault : LoadFault → E) (fast : Bool) (all : List ObjectFile) (modules : List Module) (at : List ℕ) (r q : Result Memory LoadFault) → is_fast all at ≡ fast → SameMemory r q
@@ -170,7 +191,7 @@ by_start fault fast choose busy all paths = by_modules (modules_of all) refl
         → SameAnswer (because fault (p >>= λ at. start_at all modules at)) (because fault (p >>= λ at. ordinary_at fast all modules at))
     by_places modules (Err e) given is = refl
     by_places modules (Ok at) given is =
-        let placed = places_are_at choose busy all at is in
+        let placed = chosen_are_at choose busy all at is in
         by_memory fault (fast at) all modules at (imaged all at modules) (linked all at modules) (paths.path at placed) (paths.images modules at given placed)
 
     by_modules : (m : Result (List Module) LoadFault) → modules_of all ≡ m

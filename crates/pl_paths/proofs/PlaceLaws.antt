@@ -38,11 +38,16 @@ joined_size taken (f ∷ fs) starts size = by (own_place taken f) starts (λ own
     by None (start ∷ starts) rest size = ap suc (rest None starts (omega (arith, size)))
 
 pub places_are_at : PlacesAreAt
+places_are_at busy [] at chosen = subst (λ (ps : List ℕ). AreAt [] ps) (sym chosen) (record { first = refl; one_each = refl })
+places_are_at busy (program ∷ libraries) at chosen =
+    subst (λ (ps : List ℕ). AreAt (program ∷ libraries) ps) (sym chosen.2) (record { first = refl; one_each = ap suc (joined_size (taken_first busy program) libraries chosen.0 chosen.1) })
+
+-- by a policy that is a function
+pub chosen_are_at : (choose : Choice) (busy : Option Range) (all : List ObjectFile) (at : List ℕ) → places choose busy all ≡ Ok at → AreAt all at
 unfolding places
-places_are_at choose busy [] at is = subst (λ (ps : List ℕ). AreAt [] ps) (ok_same [] at is) (record { first = refl; one_each = refl })
-places_are_at choose busy (program ∷ libraries) at is =
+chosen_are_at choose busy [] at is = places_are_at busy [] at (sym (ok_same [] at is))
+chosen_are_at choose busy (program ∷ libraries) at is =
     let p = bind_ok (because of_place (chosen choose (holes_beside busy program libraries) (wants_beside busy program libraries))) (λ starts. Ok (all_places busy program libraries starts)) at is in
     let starts = because_ok of_place (chosen choose (holes_beside busy program libraries) (wants_beside busy program libraries)) p.0 p.1 in
     let size = chosen_size choose (holes_beside busy program libraries) (wants_beside busy program libraries) p.0 starts in
-    subst (λ (ps : List ℕ). AreAt (program ∷ libraries) ps) (ok_same (all_places busy program libraries p.0) at p.2)
-    (record { first = refl; one_each = ap suc (joined_size (taken_first busy program) libraries p.0 size) })
+    places_are_at busy (program ∷ libraries) at (p.0, size, sym (ok_same (all_places busy program libraries p.0) at p.2))

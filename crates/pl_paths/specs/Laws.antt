@@ -8,16 +8,16 @@ use Rattle.pl_tls.specs.declared.module.Module.{Module}
 use Rattle.pl_conflict.specs.Format as format
 use Rattle.pl_conflict.specs.Format.{Causes, RuleAt}
 use Rattle.pl_loader.specs.Fast.{is_fast, fast_image}
-use Rattle.pl_loader.specs.Places.{places}
-use Rattle.pl_loader.specs.Started.{imaged, linked, load, modules_of}
+use Rattle.pl_loader.specs.Started.{imaged, linked, load, modules_of, start_at, Starts}
 use Rattle.pl_loader.specs.declared.object_file.ObjectFile.{ObjectFile}
+use Rattle.pl_loader.specs.declared.started.Started.{Started}
 use Rattle.pl_loader.specs.declared.fault.LoadFault.{LoadFault}
 use Rattle.pl_words.specs.declared.command.Policy.{Policy}
 use Rattle.pl_cli.specs.Answer.{answer}
 use Rattle.pl_cli.specs.Files.{valid_file}
 use Rattle.pl_cli.specs.declared.command.Command.TheVariants.{Load}
 use Rattle.pl_paths.specs.Answers.{ordinary_answer}
-use Rattle.pl_paths.specs.Paths.{GivesFrom, AreTaken, walk_of, IsWalkOf, folder_image, AreAt, SameMemory, ordinary_load, SameAnswer}
+use Rattle.pl_paths.specs.Paths.{GivesFrom, AreTaken, walk_of, IsWalkOf, folder_image, AreAt, AreChosen, SameMemory, IsOrdinaryStart, ordinary_load, SameAnswer}
 
 -- ---- the fast path of a loader is that of the folder's files
 
@@ -43,9 +43,14 @@ abbrev pub ImagesAreOrdinary : Type 0 → Type 0 → Type 0
 ImagesAreOrdinary E F = (causes : Causes F) (folder : Files) (fault : LoadFault → E) (file : List ℕ → Result (List ℕ) E) (name : List ℕ) (all : List ObjectFile) (modules : List Module) (at : List ℕ)
     → AreTaken folder fault file name all → RuleAt causes folder name → modules_of all ≡ Ok modules → AreAt all at → SameMemory (imaged all at modules) (linked all at modules)
 
--- a policy's places are such
+-- so what code starts from there has the bytes of the ordinary image
+abbrev pub StartsAreOrdinary : Type 0 → Type 0 → Type 0
+StartsAreOrdinary E F = (causes : Causes F) (folder : Files) (fault : LoadFault → E) (file : List ℕ → Result (List ℕ) E) (name : List ℕ) (all : List ObjectFile) (modules : List Module) (at : List ℕ) (s : Started)
+    → AreTaken folder fault file name all → RuleAt causes folder name → modules_of all ≡ Ok modules → AreAt all at → Starts s (start_at all modules at) → IsOrdinaryStart all modules at s
+
+-- whatever a policy chose, the places are such
 abbrev pub PlacesAreAt : Type 0
-PlacesAreAt = (choose : Choice) (busy : Option Range) (all : List ObjectFile) (at : List ℕ) → places choose busy all ≡ Ok at → AreAt all at
+PlacesAreAt = (busy : Option Range) (all : List ObjectFile) (at : List ℕ) → AreChosen busy all at → AreAt all at
 
 -- so the whole load is the ordinary one, whatever the policy chooses and whatever is busy; its path is the fast one where the folder's files allow it
 abbrev pub LoadsAreOrdinary : Type 0 → Type 0 → Type 0

@@ -1,10 +1,10 @@
 -- The two paths of a load: from the prelinked files as they stand, and from their originals, linked (System V gABI chapter 5; Jelínek, "Prelink", on starting a prelinked program).
-use Rattle.std.specs.Prelude.{◌≡◌, ℕ, Bool, List, map, length, slice_index_or, Option, Some, Result, Ok, Err}
+use Rattle.std.specs.Prelude.{◌≡◌, ℕ, Bool, List, [], ◌∷◌, map, length, slice_index_or, Option, Some, Result, Ok, Err}
 use Rattle.pl_base.specs.Answers.{◌>>=◌, because}
 use Rattle.pl_base.specs.Memory.{Memory}
 use Rattle.pl_elf.specs.declared.range.Range.{Range}
 use Rattle.pl_form.specs.Files.{marked_in}
-use Rattle.pl_image.specs.Image.{Image, extents_of}
+use Rattle.pl_image.specs.Image.{Image, byte_of, extents_of}
 use Rattle.pl_place.specs.Policy.{Choice}
 use Rattle.pl_scope.specs.Scope.{objects}
 use Rattle.pl_scope.specs.Walk.{Walked}
@@ -16,10 +16,11 @@ use Rattle.pl_conflict.specs.Format.{Causes, format}
 use Rattle.pl_conflict.specs.Standing.{standing_image}
 use Rattle.pl_loader.specs.Fast.{stored, conflicts_of}
 use Rattle.pl_loader.specs.Loading.{objects_of, parts_of}
-use Rattle.pl_loader.specs.Places.{places}
+use Rattle.pl_loader.specs.Places.{places, wants_beside, all_places}
 use Rattle.pl_loader.specs.Started.{Start, all_placed, tls_module, entry_of, modules_of, linked}
 use Rattle.pl_loader.specs.Walk.{files, member}
 use Rattle.pl_loader.specs.declared.object_file.ObjectFile.{ObjectFile}
+use Rattle.pl_loader.specs.declared.started.Started.{Started}
 use Rattle.pl_loader.specs.declared.fault.LoadFault.{LoadFault}
 
 -- ---- the files of a load, and those of a folder
@@ -54,6 +55,12 @@ pub record AreAt (all : List ObjectFile) (places : List ℕ) : Type 0 where
   pub first : slice_index_or places 0 0 ≡ 0
   pub one_each : length places ≡ length all
 
+-- the places of a load: a program's is 0, each library's is its slot where that is free, and each other one's was chosen, one for each
+abbrev pub AreChosen : Option Range → List ObjectFile → List ℕ → Type 0
+AreChosen busy [] places = places ≡ []
+AreChosen busy (program ∷ libraries) places =
+    (starts : List ℕ) × (length starts ≡ length (wants_beside busy program libraries)) × (places ≡ all_places busy program libraries starts)
+
 -- ---- the same memory
 
 -- the same byte at every address, or the same refusal
@@ -62,6 +69,12 @@ SameMemory (Ok a) (Ok b) = (address : ℕ) → a address ≡ b address
 SameMemory (Ok a) (Err e) = ⊥
 SameMemory (Err e) (Ok b) = ⊥
 SameMemory (Err e) (Err f) = e ≡ f
+
+-- the originals link, and an image has the bytes of their ordinary one
+pub record IsOrdinaryStart (all : List ObjectFile) (modules : List Module) (places : List ℕ) (s : Started) : Type 0 where
+  pub memory : Memory
+  pub links : linked all places modules ≡ Ok memory
+  pub bytes : (address : ℕ) → byte_of s.image address ≡ memory address
 
 -- ---- the ordinary start
 

@@ -1,9 +1,12 @@
-use Rattle.pl_paths.proofs.ImageLaws.{images_are_ordinary, loads_are_ordinary}
+use Rattle.pl_paths.proofs.ImageLaws.{images_are_ordinary, starts_are_ordinary, loads_are_ordinary}
 use Rattle.pl_paths.proofs.PlaceLaws.{places_are_at}
 use Rattle.pl_paths.proofs.law.loads_are_ordinary.Goals as goal
 
-pub returns-clause-places : goal.returns-clause-places
-returns-clause-places g c = images_are_ordinary
+pub returns-clause-image : goal.returns-clause-image
+returns-clause-image g c = images_are_ordinary
+
+pub returns-clause-start : goal.returns-clause-start
+returns-clause-start g c = starts_are_ordinary
 
 pub returns-clause-placed : goal.returns-clause-placed
 returns-clause-placed g c = places_are_at
