@@ -119,16 +119,16 @@ placed_at places member (suc k) (o ∷ os) (s ∷ ss) d have lt =
 
 -- ---- by slots as lists
 
-IsLow : Slot → Type 0
+abbrev IsLow : Slot → Type 0
 IsLow s = s.start + s.span ≤ ADDRESS_LIMIT
 
 have_all : (places : List ℕ) (member : ℕ) (os : List Object) (ss : List Slot) → ((i : ℕ) → i < length ss → base_of places (member + i) ≡ get_or (map (λ s. s.start) ss) i 0) → map (λ s. s.span) ss ≡ map (λ o. o.span) os
     → All IsLow ss → All IsAccepted os → Have places member os ss
-have_all places member [] ss bases spans low accepted = tt
-have_all places member (o ∷ os) [] bases spans low accepted = absurd cc
-have_all places member (o ∷ os) (s ∷ ss) bases spans low accepted =
+have_all places member [] ss bases spans low read = tt
+have_all places member (o ∷ os) [] bases spans low read = absurd cc
+have_all places member (o ∷ os) (s ∷ ss) bases spans low read =
     let here : member + 0 ≡ member = omega arith in
-    let first : IsAccepted o = All-head IsAccepted o os accepted in
+    let first : IsAccepted o = All-head IsAccepted o os read in
     let facts = accepted first.bytes o first.read in
     let span : s.span ≡ o.span = cc in
     let rest : map (λ s. s.span) ss ≡ map (λ o. o.span) os = cc in (
@@ -140,13 +140,13 @@ have_all places member (o ∷ os) (s ∷ ss) bases spans low accepted =
         ends = rw facts.span (span_ends o.segments facts.loads);
       },
       have_all places (member + 1) os ss (λ i lt. let next : member + 1 + i ≡ member + suc i = omega arith in ap (base_of places) next ∙ bases (suc i) (omega (arith, lt))) rest
-          (All-tail IsLow s ss low) (All-tail IsAccepted o os accepted),
+          (All-tail IsLow s ss low) (All-tail IsAccepted o os read),
     )
 
 pub placed : (places : List ℕ) (os : List Object) (ss : List Slot) → map (λ s. s.start) ss ≡ places → map (λ s. s.span) ss ≡ map (λ o. o.span) os → are_apart ss ≡ true
     → All (λ s. s.start + s.span ≤ ADDRESS_LIMIT) ss → All IsAccepted os → (parts : List (List ℕ)) → ArePlaced places parts os
-placed places os ss starts spans apart low accepted parts =
-    let have : Have places 0 os ss = have_all places 0 os ss (λ i lt. ap (base_of places) (zero-add i) ∙ ap (λ (xs : List ℕ). get_or xs i 0) (sym starts)) spans low accepted in
+placed places os ss starts spans apart low read parts =
+    let have : Have places 0 os ss = have_all places 0 os ss (λ i lt. ap (base_of places) (zero-add i) ∙ ap (λ (xs : List ℕ). get_or xs i 0) (sym starts)) spans low read in
     record {
       placed = λ member d lt. subst (λ (m : ℕ). IsPlaced (base_of places m) (get_or os member d)) (zero-add member) (placed_at places 0 member os ss d have lt);
       apart = lone_most lies (all_pieces (loaded places parts os)) (lone_all places parts 0 os ss have apart);
