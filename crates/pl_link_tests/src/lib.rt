@@ -4,6 +4,8 @@
 #[cfg(test)]
 mod build;
 #[cfg(test)]
+mod firm;
+#[cfg(test)]
 mod forms;
 #[cfg(test)]
 mod image;
@@ -19,5 +21,7 @@ mod samples;
 mod scope;
 #[cfg(test)]
 mod value;
+#[cfg(test)]
+mod walked;
 #[cfg(test)]
 mod wide;

@@ -1,19 +1,13 @@
 // Marked files: forms of recipes, forms with changed bytes, and false marks.
-ghost use Rattle.std.specs.Prelude.{◌≡◌, ◌<◌, ◌^◌, ◌++◌, ◌∷◌, [], map, filter, length, true, IfOk, IfSome, OnOk};
-ghost use Rattle.pl_form.specs.Faults.{IsFirm};
+ghost use Rattle.std.specs.Prelude.{◌<◌, length, IfSome};
 ghost use Rattle.pl_form.specs.Library.{IsFirmLibrary};
 ghost use Rattle.pl_form.specs.Program.{IsFirmProgram};
-ghost use Rattle.pl_form.specs.Words as words;
-ghost use Rattle.pl_object.specs.Relocations.{places};
 
+use crate::firm::{FILLED, fills_of, object_of};
 use crate::samples::file_of;
-use pl_base::{Rows, word16, word64};
-use pl_elf::Range;
-use pl_elf::constants::R_X86_64_NONE;
-use pl_form::{
-    File, FileFault, Fill, Marked, Version, check_form, form_library, form_program, read_file, undo,
-};
-use pl_object::{ORIGINAL, Object, Refusal, Reloc, accept};
+use pl_base::{word16, word64};
+use pl_form::{File, FileFault, Marked, Version, form_library, form_program, read_file, undo};
+use pl_object::{Object, Refusal};
 use std::alloc::{AllocError, Global};
 use std::process::Abort;
 use std::test::Fail;
@@ -27,38 +21,6 @@ const P: &str = "program\nneeds liba\ndata 8\nref f global func\nrel globdat 0 f
 const SLOT: u64 = 0x30_0000_0000;
 
 const STAMP: u32 = 1001;
-
-// What stands at each byte of a program's places.
-const FILLED: u8 = 0xa7;
-
-// A region without any address.
-const NOWHERE: Range = Range { start: 0, end: 0 };
-
-/// Adds the fill of a relocation, if it has a place.
-fn push_fill(alloc: Global, fills: &mut Vec<Fill>, reloc: &Reloc) -> Result<(), AllocError>
-    ensures { OnOk result (map words.window_of fills.new.items ≡ map words.window_of fills.old.items ++ places (filter words.has_place (reloc.now ∷ []))) }
-{
-    if reloc.kind == R_X86_64_NONE {
-        return Ok(());
-    }
-    let mut bytes = Vec::new(alloc);
-    bytes.resize(reloc.width as usize, FILLED)?;
-    fills.push(Fill {
-        address: reloc.address,
-        bytes: Rows::from_vec(bytes),
-    })?;
-    Ok(())
-}
-
-fn fills_of(alloc: Global, relocations: &[Reloc]) -> Result<Vec<Fill>, AllocError>
-    ensures { IfOk result (λ fills. words.AreFills fills.items relocations.now) }
-{
-    let mut fills = Vec::new(alloc);
-    for reloc in relocations {
-        push_fill(alloc, &mut fills, reloc)?;
-    }
-    Ok(fills)
-}
 
 fn library_form(
     alloc: Global,
@@ -81,23 +43,8 @@ fn program_form(
 ) -> Result<Vec<u8>, Fail>
     requires { IsFirmProgram file.now object.now }
 {
-    let fills = fills_of(alloc, object.relocations.as_slice())?;
+    let fills = fills_of(alloc, object.relocations.as_slice(), None)?;
     Ok(form_program(alloc, file, object, &[], &fills, &[], version)?)
-}
-
-/// The object of a file that has a form.
-pub fn object_of(alloc: Global, file: &[u8]) -> Result<Object, Fail>
-    ensures { IfOk result (IsFirm file.now) }
-{
-    if file.len() > ORIGINAL {
-        return Err("a short file".into());
-    }
-    let object = accept(alloc, file)?;
-    if object.kind.is_static() {
-        return Err("a dynamic file".into());
-    }
-    check_form(&object, NOWHERE)?;
-    Ok(object)
 }
 
 /// The form of a file.

@@ -1,7 +1,6 @@
-use Rattle.std.proofs.Common.{refl, arith}
-use Rattle.pl_lists.specs.Lists.{are_distinct, list_strings}
+use Rattle.std.proofs.Common.{map, sym, ap, ◌∙◌}
 use Rattle.pl_link_tests.proofs.forms.library_form.Goals as goal
 
-pub form_library-requires-clause-list : goal.form_library-requires-clause-list
-unfolding are_distinct list_strings
-form_library-requires-clause-list c = record { spelled = refl; names = omega arith }
+pub places_of-requires-clause-spans : goal.places_of-requires-clause-spans
+places_of-requires-clause-spans c =
+    ap (map (λ s. s.span)) c.as_slice.ensures.value ∙ (c.in_ok-slots.ensures ∙ ap (map (λ o. o.span)) (sym c.in_ok-scope.ensures.objects))

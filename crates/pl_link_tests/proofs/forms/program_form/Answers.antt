@@ -1,9 +1,6 @@
-use Rattle.std.proofs.Common.{List, ℕ, subst, sym, ◌∙◌}
-use Rattle.pl_form.specs.Faults.{IsFirm}
+use Rattle.std.proofs.Common.{map, sym, ap, ◌∙◌}
 use Rattle.pl_link_tests.proofs.forms.program_form.Goals as goal
 
-pub form_program-requires-clause-firm : goal.form_program-requires-clause-firm
-form_program-requires-clause-firm c = record {
-  firm = subst (λ (xs : List ℕ). IsFirm xs c.in_ok-object.object) (c.deref.ensures.value ∙ sym c.deref-2.ensures.value) c.in_ok-object.ensures;
-  program = sym c.is_program.ensures ∙ c.if-not-is_program.false;
-}
+pub places_of-requires-clause-spans : goal.places_of-requires-clause-spans
+places_of-requires-clause-spans c =
+    ap (map (λ s. s.span)) c.as_slice.ensures.value ∙ (c.in_ok-slots.ensures ∙ ap (map (λ o. o.span)) (sym c.in_ok-scope.ensures.objects))

@@ -6,7 +6,7 @@ use Rattle.pl_base.specs.Windows.{Window}
 use Rattle.pl_form.specs.Words.{has_place}
 use Rattle.pl_object.specs.Relocations.{places}
 use Rattle.pl_object.specs.declared.reloc.Reloc.{Reloc}
-use Rattle.pl_link_tests.proofs.marked.fills_of.Goals as goal
+use Rattle.pl_link_tests.proofs.firm.fills_of.Goals as goal
 
 abbrev placed : List Reloc → List Window
 placed rs = places (filter has_place rs)
