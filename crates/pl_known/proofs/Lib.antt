@@ -1,0 +1,10 @@
+pub mod FaultLaws
+pub mod TakenLaws
+pub mod EntryLaws
+pub mod FindLaws
+pub mod ListLaws
+pub mod LinkLaws
+pub mod KnownLaws
+pub mod StandLaws
+pub mod PlanLaws
+pub mod RuleLaws
