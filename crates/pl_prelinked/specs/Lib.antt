@@ -1,0 +1,4 @@
+pub mod Sources
+pub mod Fills
+pub mod Libraries
+pub mod Programs

@@ -1,0 +1,21 @@
+-- The walk of a library, whose numbers and names are such as they may be.
+use Rattle.std.specs.Prelude.{◌≡◌, Bool, true, List, [], ◌∷◌, drop}
+use Rattle.std.specs.List.{All, list_all}
+use Rattle.pl_base.specs.Names.{is_valid_name}
+use Rattle.pl_conflict.specs.Prelinked.{Firm, has_numbers}
+use Rattle.pl_elf.specs.Kinds.{is_library}
+
+abbrev pub has_valid_name : Firm → Bool
+has_valid_name r = is_valid_name r.member.name
+
+abbrev pub HasNumbers : Firm → Type 0
+HasNumbers r = has_numbers r ≡ true
+
+abbrev pub BeginsWithLibrary : List Firm → Type 0
+BeginsWithLibrary [] = Unit {0}
+BeginsWithLibrary (r ∷ rs) = is_library r.object.kind ≡ true
+
+pub record IsLibraryWalk (rs : List Firm) : Type 0 where
+  pub first : BeginsWithLibrary rs
+  pub numbers : All HasNumbers rs
+  pub names : list_all has_valid_name (drop 1 rs) ≡ true

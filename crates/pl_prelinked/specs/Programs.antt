@@ -1,0 +1,34 @@
+-- The walk of a program: its members' numbers are such as they may have, and no two have an address in common.
+use Rattle.std.specs.Prelude.{◌≡◌, ℕ, true, false, List, [], ◌∷◌, Option, Some, None, Result, Ok, Err}
+use Rattle.pl_conflict.specs.Prelinked.{Firm, are_set, list_of, named, version_of}
+use Rattle.pl_elf.specs.Kinds.{is_library}
+use Rattle.pl_form.specs.Program.{program_form}
+use Rattle.pl_form.specs.Words.{AreFills}
+use Rattle.pl_form.specs.declared.file.Fill.{Fill}
+use Rattle.pl_lists.specs.declared.conflict_row.ConflictRow.{ConflictRow}
+
+abbrev pub result_ok : {X E : Type 0} → Result X E → Option X
+result_ok (Ok x) = Some x
+result_ok (Err e) = None
+
+abbrev pub BeginsWithProgram : List Firm → Type 0
+BeginsWithProgram [] = Unit {0}
+BeginsWithProgram (r ∷ rs) = is_library r.object.kind ≡ false
+
+pub record IsProgramSet (rs : List Firm) : Type 0 where
+  pub first : BeginsWithProgram rs
+  pub set : are_set rs ≡ true
+
+-- the member of its name is it
+abbrev pub IsFound : List Firm → Firm → Type 0
+IsFound rs r = named rs r.member.name ≡ Some r
+
+-- there is a fill for each place of the first
+abbrev pub AreFirstFills : List Firm → List Fill → Type 0
+AreFirstFills [] fills = Unit {0}
+AreFirstFills (r ∷ rs) fills = AreFills fills r.object.relocations
+
+-- the program's form with fills and conflict rows
+abbrev pub form_of : List Firm → List Fill → List ConflictRow → Option (List ℕ)
+form_of [] fills rows = None
+form_of (r ∷ rs) fills rows = Some (program_form r.member.original (list_of rs) fills rows (version_of r.member.version))

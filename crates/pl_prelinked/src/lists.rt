@@ -1,0 +1,49 @@
+// The list of the other members of a walk.
+ghost use Rattle.std.specs.Prelude.{◌≡◌, length, IfOk};
+ghost use Rattle.pl_conflict.specs.Prelinked as spec;
+ghost use Rattle.pl_form.specs.Words as words;
+ghost use Rattle.sha2.specs.Sha256.{sha256};
+
+use crate::Source;
+use pl_base::{Rows, Text, word32};
+use pl_lists::ListRow;
+use sha2::{Digest, Sha256};
+use std::alloc::{AllocError, Global};
+
+fn digest_of(bytes: &[u8]) -> [u8; 32]
+    ensures value { result ≡ sha256 bytes.now }
+    ensures size { length result ≡ 32 }
+{
+    let mut hasher = Sha256::new();
+    hasher.update(bytes);
+    hasher.finalize()
+}
+
+/// The first four bytes of the SHA-256 of an original, as a number.
+fn checksum_of(original: &[u8]) -> u32
+    ensures { result ≡ words.checksum_of original.now }
+{
+    let digest = digest_of(original);
+    word32(&digest, 0)
+}
+
+fn list_row(alloc: Global, source: &Source<'_>) -> Result<ListRow, AllocError>
+    ensures { IfOk result (λ row. row ≡ spec.list_row source.now) }
+{
+    Ok(ListRow {
+        name: Text::copy_of(alloc, source.name)?,
+        stamp: source.stamp,
+        checksum: checksum_of(source.original),
+    })
+}
+
+/// The rows of members: their names, their stamps and the checksums of their originals.
+pub fn list_of(alloc: Global, sources: &[Source<'_>]) -> Result<Rows<ListRow>, AllocError>
+    ensures { IfOk result (λ rows. rows ≡ spec.list_of sources.now) }
+{
+    let mut rows = Rows::new(alloc);
+    for source in sources {
+        rows.push(list_row(alloc, source)?)?;
+    }
+    Ok(rows)
+}

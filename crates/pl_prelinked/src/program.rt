@@ -1,0 +1,340 @@
+// The prelinked file of a program.
+ghost use Rattle.std.specs.Prelude.{◌≡◌, ◌∷◌, length, map, true, false, Some, Ok, IfOk};
+ghost use Rattle.std.specs.List.{All};
+ghost use Rattle.std.specs.Option.{option_map};
+ghost use Rattle.pl_conflict.specs.Prelinked as spec;
+ghost use Rattle.pl_conflict.specs.Conflicts.{conflicts};
+ghost use Rattle.pl_elf.specs.Kinds.{is_library};
+ghost use Rattle.pl_prelinked.specs.Fills.{fills_of, memory_of};
+ghost use Rattle.pl_prelinked.specs.Programs.{AreFirstFills, BeginsWithProgram, IsFound, IsProgramSet, form_of, result_ok};
+ghost use Rattle.pl_form.specs.Words.{AreFills};
+ghost use Rattle.pl_image.specs.Image.{AreLoaded};
+ghost use Rattle.pl_prelinked.specs.Sources.{AreSources};
+ghost use Rattle.pl_scope.specs.Scope.{IsAccepted, objects};
+ghost use Rattle.pl_value.specs.Meanings.{meanings};
+ghost use Rattle.pl_value.specs.Ordinary as ordinary;
+ghost use Rattle.pl_tls.specs.declared.fault.TlsFault.{TlsFault};
+
+use crate::Source;
+use crate::fills::fills;
+use crate::library::library_file;
+use crate::lists::list_of;
+use crate::scopes::{own_walk, places_of, scope_of};
+use pl_base::Rows;
+use pl_conflict::conflicts;
+use pl_form::{Fill, FormFault, form_program};
+use pl_image::{Loaded, Parts};
+use pl_io::NoMemory;
+use pl_lists::ConflictRow;
+use pl_scope::Scope;
+use pl_tls::{Block, Module, TlsFault, offsets};
+use pl_value::{Meaning, OrdinaryFault, Places, load, meanings};
+use std::alloc::{AllocError, Global};
+
+/// The prelinked file of a library, by the members of its own walk.
+fn library_part(
+    alloc: Global,
+    sources: &[Source<'_>],
+    source: &Source<'_>,
+) -> Result<Vec<u8>, NoMemory>
+    requires sources { AreSources sources.now }
+    requires set { IsProgramSet sources.now }
+    requires member { IsFound sources.now source.now }
+    requires library { is_library source.now.object.kind ≡ true }
+    ensures { IfOk result (λ part. part.items
+        ≡ spec.library_file (spec.own_walk sources.now source.now.member.name)) }
+{
+    let own = own_walk(alloc, sources, source.name)?;
+    library_file(alloc, &own)
+}
+
+/// The file with which conflicts of a member are compared: a library's prelinked file, a program's original.
+#[tactic(auto, unfolding(pl_conflict::specs::Prelinked::part_of))]
+fn part_of(alloc: Global, sources: &[Source<'_>], source: &Source<'_>) -> Result<Vec<u8>, NoMemory>
+    requires sources { AreSources sources.now }
+    requires set { IsProgramSet sources.now }
+    requires member { IsFound sources.now source.now }
+    ensures { IfOk result (λ part. part.items ≡ spec.part_of sources.now source.now) }
+{
+    if source.object.kind.is_library() {
+        return library_part(alloc, sources, source);
+    }
+    Ok(Vec::from_slice(alloc, source.original)?)
+}
+
+/// Those of all members.
+fn parts_of(alloc: Global, sources: &[Source<'_>]) -> Result<Vec<Vec<u8>>, NoMemory>
+    requires sources { AreSources sources.now }
+    requires set { IsProgramSet sources.now }
+    ensures { IfOk result (λ parts. map (λ v. v.items) parts.items ≡ spec.parts_of sources.now) }
+{
+    let mut parts = Vec::new(alloc);
+    for source in sources {
+        parts.push(part_of(alloc, sources, source)?)?;
+    }
+    Ok(parts)
+}
+
+/// Byte lists, lent.
+fn lent<'a>(alloc: Global, files: &'a [Vec<u8>]) -> Result<Parts<'a>, NoMemory>
+    ensures { IfOk result (λ parts. parts ≡ map (λ v. v.items) files.now) }
+{
+    let mut parts = Parts::new(alloc);
+    for file in files {
+        parts.add(file.as_slice())?;
+    }
+    Ok(parts)
+}
+
+/// The originals of members, lent.
+fn originals<'a>(alloc: Global, sources: &[Source<'a>]) -> Result<Parts<'a>, NoMemory>
+    ensures { IfOk result (λ parts. parts ≡ spec.originals_of sources.now) }
+{
+    let mut parts = Parts::new(alloc);
+    for source in sources {
+        parts.add(source.original)?;
+    }
+    Ok(parts)
+}
+
+/// What members have of thread-local storage.
+fn blocks_of(alloc: Global, sources: &[Source<'_>]) -> Result<Vec<Option<Block>>, AllocError>
+    ensures { IfOk result (λ v. v.items ≡ map (λ r. r.object.tls) sources.now) }
+{
+    let mut blocks = Vec::new(alloc);
+    for source in sources {
+        blocks.push(source.object.tls)?;
+    }
+    Ok(blocks)
+}
+
+/// The meanings of all relocations of a scope; None where one has no value.
+fn linked(
+    alloc: Global,
+    scope: &Scope<'_>,
+    places: &Places,
+    modules: &[Module],
+) -> Result<Option<Rows<Meaning>>, NoMemory>
+    requires { length places.now ≡ length scope.now }
+    ensures { IfOk result (λ gs. gs
+        ≡ result_ok (meanings (objects scope.now) places.now modules.now)) }
+{
+    match meanings(alloc, scope, places, modules) {
+        Ok(meanings) => Ok(Some(meanings)),
+        Err(OrdinaryFault::Link(_)) => Ok(None),
+        Err(OrdinaryFault::NoMemory) => Err(NoMemory),
+    }
+}
+
+/// Those of the members' scope.
+fn meanings_of(
+    alloc: Global,
+    sources: &[Source<'_>],
+    modules: &[Module],
+) -> Result<Option<Rows<Meaning>>, NoMemory>
+    requires { AreSources sources.now }
+    ensures { IfOk result (λ gs. gs ≡ result_ok
+        (meanings (spec.objects_of sources.now) (spec.slots_of sources.now) modules.now)) }
+{
+    let scope = scope_of(alloc, sources)?;
+    let places = places_of(alloc, sources)?;
+    let meanings = linked(alloc, &scope, &places, modules)?;
+    Ok(meanings)
+}
+
+/// The conflict rows of a scope; None where a relocation has no value.
+fn compared(
+    alloc: Global,
+    scope: &Scope<'_>,
+    places: &Places,
+    modules: &[Module],
+    parts: &Parts<'_>,
+) -> Result<Option<Rows<ConflictRow>>, NoMemory>
+    requires one_each { length places.now ≡ length scope.now }
+    requires parts { length parts.now ≡ length scope.now }
+    requires accepted { All IsAccepted (objects scope.now) }
+    requires placed { ordinary.ArePlaced places.now parts.now (objects scope.now) }
+    ensures { IfOk result (λ rows. rows
+        ≡ result_ok (conflicts (objects scope.now) parts.now places.now modules.now)) }
+{
+    match conflicts(alloc, scope, places, modules, parts) {
+        Ok(rows) => Ok(Some(rows)),
+        Err(OrdinaryFault::Link(_)) => Ok(None),
+        Err(OrdinaryFault::NoMemory) => Err(NoMemory),
+    }
+}
+
+/// Those of the members' scope.
+fn rows_of(
+    alloc: Global,
+    sources: &[Source<'_>],
+    modules: &[Module],
+) -> Result<Option<Rows<ConflictRow>>, NoMemory>
+    requires sources { AreSources sources.now }
+    requires set { IsProgramSet sources.now }
+    ensures { IfOk result (λ rows. rows ≡ result_ok
+        (conflicts (spec.objects_of sources.now) (spec.parts_of sources.now)
+        (spec.slots_of sources.now) modules.now)) }
+{
+    let scope = scope_of(alloc, sources)?;
+    let places = places_of(alloc, sources)?;
+    let files = parts_of(alloc, sources)?;
+    let parts = lent(alloc, &files)?;
+    let rows = compared(alloc, &scope, &places, modules, &parts)?;
+    Ok(rows)
+}
+
+/// The objects of members as loaded, from their originals at their slots.
+fn loaded_of<'a>(alloc: Global, sources: &[Source<'a>]) -> Result<Vec<Loaded<'a>>, NoMemory>
+    requires sources { AreSources sources.now }
+    requires set { IsProgramSet sources.now }
+    ensures value { IfOk result (λ v. v.items ≡ ordinary.loaded (spec.slots_of sources.now)
+        (spec.originals_of sources.now) (spec.objects_of sources.now)) }
+    ensures loaded { IfOk result (λ v. AreLoaded v.items) }
+{
+    let scope = scope_of(alloc, sources)?;
+    let places = places_of(alloc, sources)?;
+    let parts = originals(alloc, sources)?;
+    let loaded = load(alloc, &scope, &parts, &places)?;
+    Ok(loaded)
+}
+
+/// The bytes at the program's places, as its scope makes them.
+fn place_fills(
+    alloc: Global,
+    sources: &[Source<'_>],
+    meanings: &[Meaning],
+) -> Result<Vec<Fill>, NoMemory>
+    requires sources { AreSources sources.now }
+    requires set { IsProgramSet sources.now }
+    ensures { IfOk result (λ v. v.items
+        ≡ fills_of sources.now (memory_of sources.now meanings.now)) }
+{
+    let [program, ..] = sources else {
+        return Ok(Vec::new(alloc));
+    };
+    let loaded = loaded_of(alloc, sources)?;
+    let relocs = program.object.relocations.as_slice();
+    let fills = fills(alloc, &loaded, meanings, relocs)?;
+    Ok(fills)
+}
+
+/// The form of a program, which is the first of members; None where it is longer than a folder stores.
+fn form(
+    alloc: Global,
+    program: &Source<'_>,
+    others: &[Source<'_>],
+    fills: &[Fill],
+    rows: &[ConflictRow],
+) -> Result<Option<Vec<u8>>, NoMemory>
+    requires sources { AreSources (program.now ∷ others.now) }
+    requires program { is_library program.now.object.kind ≡ false }
+    requires fills { AreFills fills.now program.now.object.relocations }
+    ensures { IfOk result (λ file. option_map (λ v. v.items) file
+        ≡ spec.stored (form_of (program.now ∷ others.now) fills.now rows.now)) }
+{
+    let list = list_of(alloc, others)?;
+    match form_program(
+        alloc,
+        program.original,
+        program.object,
+        list.as_slice(),
+        fills,
+        rows,
+        program.version,
+    ) {
+        Ok(form) => Ok(Some(form)),
+        Err(FormFault::TooLarge) => Ok(None),
+        Err(_) => Err(NoMemory),
+    }
+}
+
+/// That of the first of members with these bytes and rows.
+fn formed(
+    alloc: Global,
+    sources: &[Source<'_>],
+    fills: &[Fill],
+    rows: &[ConflictRow],
+) -> Result<Option<Vec<u8>>, NoMemory>
+    requires sources { AreSources sources.now }
+    requires program { BeginsWithProgram sources.now }
+    requires fills { AreFirstFills sources.now fills.now }
+    ensures { IfOk result (λ file. option_map (λ v. v.items) file
+        ≡ spec.stored (form_of sources.now fills.now rows.now)) }
+{
+    let [program, others @ ..] = sources else {
+        return Ok(None);
+    };
+    form(alloc, program, others, fills, rows)
+}
+
+/// The prelinked file with these meanings of all relocations and these conflict rows.
+fn with_rows(
+    alloc: Global,
+    sources: &[Source<'_>],
+    meanings: &[Meaning],
+    rows: &[ConflictRow],
+) -> Result<Option<Vec<u8>>, NoMemory>
+    requires sources { AreSources sources.now }
+    requires set { IsProgramSet sources.now }
+    ensures { IfOk result (λ file. option_map (λ v. v.items) file
+        ≡ spec.stored (form_of sources.now
+        (fills_of sources.now (memory_of sources.now meanings.now)) rows.now)) }
+{
+    let fills = place_fills(alloc, sources, meanings)?;
+    formed(alloc, sources, &fills, rows)
+}
+
+/// The prelinked file with these meanings of all relocations; None where the file is longer than a folder stores.
+fn with_meanings(
+    alloc: Global,
+    sources: &[Source<'_>],
+    modules: &[Module],
+    all: &[Meaning],
+) -> Result<Option<Vec<u8>>, NoMemory>
+    requires sources { AreSources sources.now }
+    requires set { IsProgramSet sources.now }
+    requires given { Some all.now ≡ result_ok
+        (meanings (spec.objects_of sources.now) (spec.slots_of sources.now) modules.now) }
+    ensures { IfOk result (λ file. option_map (λ v. v.items) file
+        ≡ spec.stored (spec.with_modules {E = TlsFault} sources.now (Ok modules.now))) }
+{
+    let compared = rows_of(alloc, sources, modules)?;
+    let Some(rows) = compared else {
+        return Ok(None);
+    };
+    with_rows(alloc, sources, all, rows.as_slice())
+}
+
+/// The prelinked file with these modules of thread-local storage; None where a relocation has no value, or the file is longer than a folder stores.
+fn with_modules(
+    alloc: Global,
+    sources: &[Source<'_>],
+    modules: &[Module],
+) -> Result<Option<Vec<u8>>, NoMemory>
+    requires sources { AreSources sources.now }
+    requires set { IsProgramSet sources.now }
+    ensures { IfOk result (λ file. option_map (λ v. v.items) file
+        ≡ spec.stored (spec.with_modules {E = TlsFault} sources.now (Ok modules.now))) }
+{
+    let given = meanings_of(alloc, sources, modules)?;
+    let Some(meanings) = given else {
+        return Ok(None);
+    };
+    with_meanings(alloc, sources, modules, meanings.as_slice())
+}
+
+/// The prelinked file of a program, by the members of its walk, it first; None where their thread-local storage or their links have a refusal, or the file is longer than a folder stores.
+pub fn program_file(alloc: Global, sources: &[Source<'_>]) -> Result<Option<Vec<u8>>, NoMemory>
+    requires sources { AreSources sources.now }
+    requires set { IsProgramSet sources.now }
+    ensures { IfOk result (λ file. option_map (λ v. v.items) file
+        ≡ spec.stored (spec.program_file sources.now)) }
+{
+    let blocks = blocks_of(alloc, sources)?;
+    match offsets(alloc, &blocks) {
+        Ok(modules) => with_modules(alloc, sources, modules.as_slice()),
+        Err(TlsFault::TooLarge) => Ok(None),
+        Err(TlsFault::NoMemory) => Err(NoMemory),
+    }
+}
