@@ -7,3 +7,4 @@ pub mod StartLemmas
 pub mod MakeLemmas
 pub mod RestoredLemmas
 pub mod LentLemmas
+pub mod AgainLemmas

@@ -22,7 +22,7 @@ use Rattle.pl_journal.proofs.Meanings.{before_between, stands_recovered, stands_
 use Rattle.pl_journal.proofs.Moments.{joined, weaker}
 use Rattle.pl_journal.proofs.RecoverLemmas.{looks_keep}
 use Rattle.pl_batch.specs.Answers.{Finds, fault_ending, of_journal}
-use Rattle.pl_batch.specs.Commands.{Commands, Counts, IsBefore, Made, Meaning, OnTheWay, Stopped, and_then}
+use Rattle.pl_batch.specs.Commands.{Commands, Counts, Failed, IsBefore, Lacked, Made, Meaning, OnTheWay, and_then, stopped}
 use Rattle.pl_batch.specs.Starts.{Starts}
 use Rattle.pl_batch.specs.declared.cause.Cause.{Cause}
 use Rattle.pl_batch.specs.declared.fault.BatchFault.{BatchFault}
@@ -50,9 +50,9 @@ carried_on {e = e} {b = b} {c = c} {d = d} rows looks carries = then_told looks 
 
 -- ---- a command
 
-module _ (first next : Meaning) where
+module _ (first next : Meaning Cause) where
   -- it stops as it starts
-  pub stops_early : (fault : BatchFault) {a b : Seen} → Calls (fault_ending fault) (Starts first (Stopped fault)) a b → Calls (fault_ending fault) (Commands (and_then first next) (Stopped fault)) a b
+  pub stops_early : (fault : BatchFault) {a b : Seen} → Calls (fault_ending fault) (Starts first (stopped fault)) a b → Calls (fault_ending fault) (Commands (and_then first next) (stopped fault)) a b
   stops_early DiskFailed call = makes_told refl call (λ told files. tt) (λ told disk. ⊎_elim inl (λ keeps. inr (inl keeps)) disk)
   stops_early NoMemory call = makes_told refl call (λ told files. files) (λ told disk. disk)
   stops_early (faults.Cause cause) call = makes_told refl call
@@ -72,7 +72,7 @@ module _ (first next : Meaning) where
     meant_found before answer at passes is = ap (λ (m : Result (List Change) Cause). m >>= λ none. next before) passes ∙ ap next at ∙ is
 
     module _ {c : Seen} where
-      pub stops_finding : (fault : BatchFault) → Finds (next b.files) (λ (rows : List Change). rows) (Err fault) b c → Calls (fault_ending fault) (Commands (and_then first next) (Stopped fault)) a c
+      pub stops_finding : (fault : BatchFault) → Finds (next b.files) (λ (rows : List Change). rows) (Err fault) b c → Calls (fault_ending fault) (Commands (and_then first next) (stopped fault)) a c
       stops_finding DiskFailed found = then_told start found.calls (λ told one two. tt)
           (λ told one two. inr (inl (joined a.disk b.disk c.disk (StandsFor (read a.disk.now)) one.0.0 (looks_keep b.disk c.disk (StandsFor (read a.disk.now)) one.0.0.now two))))
       stops_finding NoMemory found = then_told start found.calls
@@ -118,7 +118,7 @@ module _ (first next : Meaning) where
               },
             ))
 
-        broken : {d : Seen} → Calls Broken (CarriesOut rows) c d → Calls Broken (Commands (and_then first next) (Stopped DiskFailed)) a d
+        broken : {d : Seen} → Calls Broken (CarriesOut rows) c d → Calls Broken (Commands (and_then first next) Failed) a d
         broken {d = d} call = then_told start (carried_on rows found.calls call) (λ told one two. tt)
             (λ told one two. inr (inr (λ before is.
             let v = recovered (read a.disk.now) in (
@@ -131,20 +131,20 @@ module _ (first next : Meaning) where
               },
             ))))
 
-        lacked : {d : Seen} → Calls Undone (CarriesOut rows) c d → Calls Undone (Commands (and_then first next) (Stopped NoMemory)) a d
+        lacked : {d : Seen} → Calls Undone (CarriesOut rows) c d → Calls Undone (Commands (and_then first next) Lacked) a d
         lacked {d = d} call = then_told start (carried_on rows found.calls call)
             (λ told one two. stands_recovered (get a.files) one.0.0 one.0.1 (get d.files) (subst (λ (v : View). StandsFor v (get d.files)) (one_view (get b.files) (recovered (get a.files)) one.0.2) (two (rested (start.tells ∙ told)))))
             (λ told one two. inr (joined a.disk b.disk d.disk (StandsFor (read a.disk.now)) one.0.0
             (weaker b.disk d.disk (StandsFor (recovered (read a.disk.now))) (StandsFor (read a.disk.now)) (stands_recovered (read a.disk.now) one.0.1.rows one.0.1.spelled) (two (recovered (read a.disk.now)) one.0.1.settled))))
 
-        pub stops_making : {d : Seen} (fault : JournalFault) → IsNotBad fault → Calls (journal_ending fault) (CarriesOut rows) c d → Calls (fault_ending (of_journal fault)) (Commands (and_then first next) (Stopped (of_journal fault))) a d
+        pub stops_making : {d : Seen} (fault : JournalFault) → IsNotBad fault → Calls (journal_ending fault) (CarriesOut rows) c d → Calls (fault_ending (of_journal fault)) (Commands (and_then first next) (stopped (of_journal fault))) a d
         stops_making journal_faults.Failed plain call = broken call
         stops_making journal_faults.BadJournal plain call = absurd (plain refl)
         stops_making journal_faults.NoMemory plain call = lacked call
 
 -- ---- a command without changes of its own
 
-module _ (first : Meaning) where
+module _ (first : Meaning Cause) where
   pub starts_alone : {a b : Seen} → Calls Done (Starts first Made) a b → Calls Done (Commands first Made) a b
   starts_alone {a = a} {b = b} start = makes_told refl start
       (λ told one before is. ([], record { means = one.1 before is; files = λ n. one.0.2 n ∙ sym (is n) }))
@@ -157,7 +157,7 @@ module _ (first : Meaning) where
         },
       ))
 
-  pub stops_alone : (fault : BatchFault) {a b : Seen} → Calls (fault_ending fault) (Starts first (Stopped fault)) a b → Calls (fault_ending fault) (Commands first (Stopped fault)) a b
+  pub stops_alone : (fault : BatchFault) {a b : Seen} → Calls (fault_ending fault) (Starts first (stopped fault)) a b → Calls (fault_ending fault) (Commands first (stopped fault)) a b
   stops_alone DiskFailed call = makes_told refl call (λ told files. tt) (λ told disk. ⊎_elim inl (λ keeps. inr (inl keeps)) disk)
   stops_alone NoMemory call = makes_told refl call (λ told files. files) (λ told disk. disk)
   stops_alone (faults.Cause cause) call = makes_told refl call (λ told files. files) (λ told disk. disk)

@@ -1,6 +1,7 @@
 -- How a command starts.
 use Rattle.std.proofs.Common.{◌≡◌, inl, inr, ⊎_elim, ℕ, List, [], Bool, true, false, Option, Some, None, is_some, refl, sym, ◌∙◌, ap, subst}
 use Rattle.std.specs.Prelude.{Ok, Err, Result, not}
+use Rattle.std.proofs.lemmas.Bool.{true≢false}
 use Rattle.std.specs.FinMap.{get, same_map, slice_cmp-IsAntisymmetric, nat_cmp-IsAntisymmetric}
 use Rattle.std.specs.Cmp.Lexicographic.{nat_list_cmp_total}
 use Rattle.pl_base.specs.Answers.{unless}
@@ -19,8 +20,8 @@ use Rattle.pl_journal.proofs.Endings.{makes_told}
 use Rattle.pl_journal.proofs.Meanings.{recovered_no_own, stands_self}
 use Rattle.pl_journal.proofs.Moments.{weaker}
 use Rattle.pl_batch.specs.Answers.{ending, fault_ending}
-use Rattle.pl_batch.specs.Commands.{IsBefore, Made, Meaning, Outcome, Stopped, outcome, ready, ready_for}
-use Rattle.pl_batch.specs.Starts.{Starts, bad_name}
+use Rattle.pl_batch.specs.Commands.{Failed, IsBefore, Lacked, Made, Meaning, Outcome, Refused, outcome, ready, ready_for, stopped}
+use Rattle.pl_batch.specs.Starts.{Named, Starts, bad_name}
 use Rattle.pl_batch.specs.declared.cause.Cause.{Cause}
 use Rattle.pl_batch.specs.declared.cause.Cause.TheVariants as causes
 use Rattle.pl_batch.specs.declared.fault.BatchFault.{BatchFault}
@@ -58,7 +59,7 @@ bad_ready : (files : Files) → rows_in (get files journal) ≡ None → ready f
 unfolding ready
 bad_ready files bad = ap (λ (o : Option (List Row)). unless (not (is_some o)) causes.BadJournal (Ok [])) bad
 
-pub started_bad : {a b : Seen} → Calls Undone (Recovers (Some journal_faults.BadJournal)) a b → Calls Done (Starts ready (Stopped (faults.Cause causes.BadJournal))) a b
+pub started_bad : {a b : Seen} → Calls Undone (Recovers (Some journal_faults.BadJournal)) a b → Calls Done (Starts ready (Refused causes.BadJournal)) a b
 started_bad {a = a} {b = b} call = makes_told refl call
     (λ told files before is.
     let same : before ≡ a.files = one_map before a.files (λ n. is n ∙ recovered_bad (get a.files) files.0 n) in
@@ -74,10 +75,10 @@ started_bad {a = a} {b = b} call = makes_told refl call
 
 -- ---- faults
 
-pub start_failed : (meant : Meaning) {a b : Seen} → Calls Broken (Recovers (Some journal_faults.Failed)) a b → Calls Broken (Starts meant (Stopped DiskFailed)) a b
+pub start_failed : (meant : Meaning Cause) {a b : Seen} → Calls Broken (Recovers (Some journal_faults.Failed)) a b → Calls Broken (Starts meant Failed) a b
 start_failed meant call = makes_told refl call (λ told files. tt) (λ told disk. ⊎_elim (λ keeps. inr keeps) (λ looks. inl looks.1) disk)
 
-pub start_lacked : (meant : Meaning) {a b : Seen} → Calls Undone (Recovers (Some journal_faults.NoMemory)) a b → Calls Undone (Starts meant (Stopped NoMemory)) a b
+pub start_lacked : (meant : Meaning Cause) {a b : Seen} → Calls Undone (Recovers (Some journal_faults.NoMemory)) a b → Calls Undone (Starts meant Lacked) a b
 start_lacked meant {a = a} {b = b} call = makes_told refl call
     (λ told files. stands_self (get a.files) (get b.files) (λ n. ap (λ f. get f n) files))
     (λ told disk. ⊎_elim inr (λ looks. let no : ⊥ = cc in absurd no) disk)
@@ -88,34 +89,46 @@ valid_ready : (name : List ℕ) → is_valid_name name ≡ true → (files : Fil
 unfolding ready_for
 valid_ready name valid files = sym (ap (λ (b : Bool). unless (not b) causes.BadName (ready files)) valid)
 
-invalid_ready : (name : List ℕ) → is_valid_name name ≡ false → (files : Files) → ready_for name files ≡ Err causes.BadName
+pub invalid_ready : (name : List ℕ) → is_valid_name name ≡ false → (files : Files) → ready_for name files ≡ Err causes.BadName
 unfolding ready_for
 invalid_ready name invalid files = ap (λ (b : Bool). unless (not b) causes.BadName (ready files)) invalid
 
 module _ (name : List ℕ) where
-  pub valid_start : {e : Ending} {a b : Seen} (o : Outcome) → is_valid_name name ≡ true → Calls e (Starts ready o) a b → Calls e (Starts (ready_for name) o) a b
+  pub valid_start : {e : Ending} {a b : Seen} (o : Outcome Cause) → is_valid_name name ≡ true → Calls e (Starts ready o) a b → Calls e (Starts (ready_for name) o) a b
   valid_start {e = e} {a = a} {b = b} o valid call =
       let one : ready ≡ ready_for name = λ i files. valid_ready name valid files i in
-      subst (λ (m : Meaning). Calls e (Starts m o) a b) one call
+      subst (λ (m : Meaning Cause). Calls e (Starts m o) a b) one call
 
-  pub invalid_start : {a b : Seen} → is_valid_name name ≡ false → Calls Done (Starts ready Made) a b → Calls Done (Starts (ready_for name) (Stopped (faults.Cause causes.BadName))) a b
+  pub invalid_start : {a b : Seen} → is_valid_name name ≡ false → Calls Done (Starts ready Made) a b → Calls Done (Starts (ready_for name) (Refused causes.BadName)) a b
   invalid_start {a = a} {b = b} invalid call = makes_told refl call
       (λ told files before is. record { means = invalid_ready name invalid before; files = sym (before_is (get a.files) before b.files is files.0.2) })
       (λ told disk before is. record { means = invalid_ready name invalid before; only = λ w image n. is n ∙ disk.0.1.settled.only w image n; on_the_way = disk.0.0 })
 
-  pub invalid_stop : {a b : Seen} (cause : Cause) → is_valid_name name ≡ false → Calls Done (Starts ready (Stopped (faults.Cause cause))) a b → Calls Done (Starts (ready_for name) (Stopped (faults.Cause causes.BadName))) a b
+  pub invalid_stop : {a b : Seen} (cause : Cause) → is_valid_name name ≡ false → Calls Done (Starts ready (Refused cause)) a b → Calls Done (Starts (ready_for name) (Refused causes.BadName)) a b
   invalid_stop cause invalid call = makes_told refl call
       (λ told files before is. record { means = invalid_ready name invalid before; files = (files before is).files })
       (λ told disk before is. record { means = invalid_ready name invalid before; only = (disk before is).only; on_the_way = (disk before is).on_the_way })
 
-  pub failed_stop : {a b : Seen} → Calls Broken (Starts ready (Stopped DiskFailed)) a b → Calls Broken (Starts (ready_for name) (Stopped DiskFailed)) a b
+  pub failed_stop : {a b : Seen} → Calls Broken (Starts ready Failed) a b → Calls Broken (Starts (ready_for name) Failed) a b
   failed_stop call = makes_told refl call (λ told files. files) (λ told disk. disk)
 
-  pub lacked_stop : {a b : Seen} → Calls Undone (Starts ready (Stopped NoMemory)) a b → Calls Undone (Starts (ready_for name) (Stopped NoMemory)) a b
+  pub lacked_stop : {a b : Seen} → Calls Undone (Starts ready Lacked) a b → Calls Undone (Starts (ready_for name) Lacked) a b
   lacked_stop call = makes_told refl call (λ told files. files) (λ told disk. disk)
 
-  pub invalid_by : {a b : Seen} (r : Result (Unit {0}) BatchFault) → is_valid_name name ≡ false → Calls (ending r) (Starts ready (outcome r)) a b → Calls (fault_ending (bad_name r)) (Starts (ready_for name) (Stopped (bad_name r))) a b
+  pub invalid_by : {a b : Seen} (r : Result (Unit {0}) BatchFault) → is_valid_name name ≡ false → Calls (ending r) (Starts ready (outcome r)) a b → Calls (fault_ending (bad_name r)) (Starts (ready_for name) (stopped (bad_name r))) a b
   invalid_by (Ok u) invalid call = invalid_start invalid call
   invalid_by (Err DiskFailed) invalid call = failed_stop call
   invalid_by (Err NoMemory) invalid call = lacked_stop call
   invalid_by (Err (faults.Cause cause)) invalid call = invalid_stop cause invalid call
+
+  pub named_valid : {X : Type 0} (r : Result X BatchFault) → is_valid_name name ≡ true → Named name r
+  named_valid (Ok x) valid = valid
+  named_valid (Err DiskFailed) valid = tt
+  named_valid (Err NoMemory) valid = tt
+  named_valid (Err (faults.Cause cause)) valid = λ invalid. absurd (true≢false (sym valid ∙ invalid))
+
+  pub named_bad : (X : Type 0) (r : Result (Unit {0}) BatchFault) → Named {X = X} name (Err (bad_name r))
+  named_bad X (Ok u) = λ invalid. refl
+  named_bad X (Err DiskFailed) = tt
+  named_bad X (Err NoMemory) = tt
+  named_bad X (Err (faults.Cause cause)) = λ invalid. refl

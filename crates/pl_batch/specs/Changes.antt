@@ -31,16 +31,16 @@ unfoldable pub removal_of : Files → List ℕ → Result (List Change) Cause
 removal_of files name = removed files name >>= fitting
 
 -- what comes before the files are looked at
-abbrev pub ready_by : Run → Meaning
+abbrev pub ready_by : Run → Meaning Cause
 ready_by UndoAll = ready
 ready_by (Undo names) = ready
 ready_by (Install name bytes) = ready_for name
 
 -- a whole command
-abbrev pub run_meant : Run → Meaning
+abbrev pub run_meant : Run → Meaning Cause
 run_meant asked = and_then (ready_by asked) (λ files. changes_of files asked)
 
-abbrev pub removal_meant : List ℕ → Meaning
+abbrev pub removal_meant : List ℕ → Meaning Cause
 removal_meant name = and_then (ready_for name) (λ files. removal_of files name)
 
 -- what is asked of a command: bytes are no more than a folder stores

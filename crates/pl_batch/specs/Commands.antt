@@ -21,52 +21,60 @@ use Rattle.pl_batch.specs.declared.fault.BatchFault.TheVariants as faults
 
 -- ---- what a command means
 
--- the changes of a command or its first cause, as a function of the files that the folder stands for
-abbrev pub Meaning : Type 0
-Meaning = Files → Result (List Change) Cause
+-- the changes of a command or its first cause, as a function of the files that the folder stands for; of causes of any kind
+abbrev pub Meaning : Type 0 → Type 0
+Meaning C = Files → Result (List Change) C
 
 -- the files that a folder stands for, as a finite map
 abbrev pub IsBefore : View → Files → Type 0
 IsBefore old before = Same (get before) (recovered old)
 
 -- a journal outside its grammar is a cause, and such a folder stands for itself
-unfoldable pub ready : Meaning
+unfoldable pub ready : Meaning Cause
 ready files = unless (not (is_some (rows_in (get files journal)))) BadJournal (Ok [])
 
 -- a name that is not valid is a cause before it
-unfoldable pub ready_for : List ℕ → Meaning
+unfoldable pub ready_for : List ℕ → Meaning Cause
 ready_for name files = unless (not (is_valid_name name)) BadName (ready files)
 
 -- one command after another that changes nothing
-abbrev pub and_then : Meaning → Meaning → Meaning
+abbrev pub and_then : {C : Type 0} → Meaning C → Meaning C → Meaning C
 and_then first second files = first files >>= λ none. second files
 
 -- ---- how a command came out
 
-pub data Outcome : Type 0 where
-  Made : Outcome
-  Stopped : BatchFault → Outcome
+-- its changes are made; it was refused for a cause; the folder failed; or memory lacked
+pub data Outcome (C : Type 0) : Type 0 where
+  Made : Outcome C
+  Refused : C → Outcome C
+  Failed : Outcome C
+  Lacked : Outcome C
 
-abbrev pub outcome : {X : Type 0} → Result X BatchFault → Outcome
+abbrev pub stopped : BatchFault → Outcome Cause
+stopped (faults.Cause cause) = Refused cause
+stopped DiskFailed = Failed
+stopped NoMemory = Lacked
+
+abbrev pub outcome : {X : Type 0} → Result X BatchFault → Outcome Cause
 outcome (Ok x) = Made
-outcome (Err fault) = Stopped fault
+outcome (Err fault) = stopped fault
 
 -- ---- the files as they read
 
-pub record MakesFiles (rows : List Change) (before : Files) (new : View) (meant : Meaning) : Type 0 where
+pub record MakesFiles {C : Type 0} (rows : List Change) (before : Files) (new : View) (meant : Meaning C) : Type 0 where
   pub means : meant before ≡ Ok rows
   pub files : Same new (applied rows (get before))
 
-pub record LeavesFiles (cause : Cause) (before new : Files) (meant : Meaning) : Type 0 where
+pub record LeavesFiles {C : Type 0} (cause : C) (before new : Files) (meant : Meaning C) : Type 0 where
   pub means : meant before ≡ Err cause
   pub files : new ≡ before
 
 -- all changes are made; or a cause left the recovered files; after want of memory they stand for what they stood for. Of a folder that failed the disk tells more
-abbrev pub CommandsFiles : Meaning → Outcome → Ending → Files → Files → Type 0
+abbrev pub CommandsFiles : {C : Type 0} → Meaning C → Outcome C → Ending → Files → Files → Type 0
 CommandsFiles meant Made e old new = (before : Files) → IsBefore (get old) before → (rows : List Change) × MakesFiles rows before (get new) meant
-CommandsFiles meant (Stopped (faults.Cause cause)) e old new = (before : Files) → IsBefore (get old) before → LeavesFiles cause before new meant
-CommandsFiles meant (Stopped DiskFailed) e old new = Unit {0}
-CommandsFiles meant (Stopped NoMemory) e old new = StandsFor (get old) (get new)
+CommandsFiles meant (Refused cause) e old new = (before : Files) → IsBefore (get old) before → LeavesFiles cause before new meant
+CommandsFiles meant Failed e old new = Unit {0}
+CommandsFiles meant Lacked e old new = StandsFor (get old) (get new)
 
 -- ---- the disk
 
@@ -75,36 +83,36 @@ abbrev pub OnTheWay : View → List Change → View → Type 0
 OnTheWay old rows v = StandsFor old v ⊎ StandsBetween (recovered old) rows v
 
 -- the changes are made: the only image is the files after them
-pub record MakesDisk (rows : List Change) (before : Files) (old new : Disk) (meant : Meaning) : Type 0 where
+pub record MakesDisk {C : Type 0} (rows : List Change) (before : Files) (old new : Disk) (meant : Meaning C) : Type 0 where
   pub means : meant before ≡ Ok rows
   pub settled : IsSettled (applied rows (get before)) new.now
   pub on_the_way : Keeps old new (OnTheWay (read old.now) rows)
 
 -- a cause: the only image is the files before, and each image on the way stands for them
-pub record LeavesDisk (cause : Cause) (before : Files) (old new : Disk) (meant : Meaning) : Type 0 where
+pub record LeavesDisk {C : Type 0} (cause : C) (before : Files) (old new : Disk) (meant : Meaning C) : Type 0 where
   pub means : meant before ≡ Err cause
   pub only : Within new.now (Same (get before))
   pub on_the_way : Keeps old new (StandsFor (read old.now))
 
 -- the folder failed while the changes were made
-pub record BreaksDisk (rows : List Change) (before : Files) (old new : Disk) (meant : Meaning) : Type 0 where
+pub record BreaksDisk {C : Type 0} (rows : List Change) (before : Files) (old new : Disk) (meant : Meaning C) : Type 0 where
   pub means : meant before ≡ Ok rows
   pub on_the_way : Keeps old new (OnTheWay (read old.now) rows)
 
 -- it failed before it was first settled, where nothing is changed; or before the first change was made; or in between
-abbrev pub FailsDisk : Meaning → Disk → Disk → Type 0
+abbrev pub FailsDisk : {C : Type 0} → Meaning C → Disk → Disk → Type 0
 FailsDisk meant old new =
     Looks old new ⊎ (Keeps old new (StandsFor (read old.now)) ⊎ ((before : Files) → IsBefore (read old.now) before → (rows : List Change) × BreaksDisk rows before old new meant))
 
-abbrev pub CommandsDisk : Meaning → Outcome → Ending → Disk → Disk → Type 0
+abbrev pub CommandsDisk : {C : Type 0} → Meaning C → Outcome C → Ending → Disk → Disk → Type 0
 CommandsDisk meant Made e old new = (before : Files) → IsBefore (read old.now) before → (rows : List Change) × MakesDisk rows before old new meant
-CommandsDisk meant (Stopped (faults.Cause cause)) e old new = (before : Files) → IsBefore (read old.now) before → LeavesDisk cause before old new meant
-CommandsDisk meant (Stopped DiskFailed) e old new = FailsDisk meant old new
-CommandsDisk meant (Stopped NoMemory) e old new = Looks old new ⊎ Keeps old new (StandsFor (read old.now))
+CommandsDisk meant (Refused cause) e old new = (before : Files) → IsBefore (read old.now) before → LeavesDisk cause before old new meant
+CommandsDisk meant Failed e old new = FailsDisk meant old new
+CommandsDisk meant Lacked e old new = Looks old new ⊎ Keeps old new (StandsFor (read old.now))
 
-abbrev pub Commands : Meaning → Outcome → Effect
+abbrev pub Commands : {C : Type 0} → Meaning C → Outcome C → Effect
 Commands meant o = record { files = CommandsFiles meant o; disk = CommandsDisk meant o }
 
 -- how many names a command changes, where the folder tells its files
-abbrev pub Counts : Meaning → ℕ → Seen → Type 0
+abbrev pub Counts : {C : Type 0} → Meaning C → ℕ → Seen → Type 0
 Counts meant count old = old.tells ≡ true → (before : Files) → IsBefore (get old.files) before → (rows : List Change) × (meant before ≡ Ok rows) × (count ≡ length rows)

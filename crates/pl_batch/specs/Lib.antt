@@ -7,3 +7,4 @@ pub mod Changes
 pub mod Starts
 pub mod Restored
 pub mod Lent
+pub mod Again

@@ -1,7 +1,8 @@
 -- How a command starts: it recovers the folder, or stops.
-use Rattle.std.specs.Prelude.{◌≡◌, ◌⊎◌, [], None, Result, Ok, Err}
+use Rattle.std.specs.Prelude.{◌≡◌, ◌⊎◌, ℕ, true, false, ⊤, List, [], None, Result, Ok, Err}
 use Rattle.std.specs.FinMap.{get}
 use Rattle.pl_base.specs.Files.{Files}
+use Rattle.pl_base.specs.Names.{is_valid_name}
 use Rattle.pl_folder.specs.Disk.{Disk, read}
 use Rattle.pl_folder.specs.Effects.{Effect}
 use Rattle.pl_folder.specs.Seen.{Ending}
@@ -13,23 +14,26 @@ use Rattle.pl_batch.specs.declared.cause.Cause.TheVariants.{BadName}
 use Rattle.pl_batch.specs.declared.fault.BatchFault.{BatchFault}
 use Rattle.pl_batch.specs.declared.fault.BatchFault.TheVariants.{DiskFailed, NoMemory}
 use Rattle.pl_batch.specs.declared.fault.BatchFault.TheVariants as faults
-use Rattle.pl_batch.specs.Commands.{CommandsDisk, CommandsFiles, IsBefore, Meaning, Outcome, Made, Stopped}
+use Rattle.pl_batch.specs.declared.cause.Cause.{Cause}
+use Rattle.pl_batch.specs.Commands.{CommandsDisk, CommandsFiles, IsBefore, Meaning, Outcome, Made, Refused, Failed, Lacked}
 
 -- what the command means of the recovered files has no cause yet, and no changes
-abbrev pub Passes : Meaning → Files → Type 0
+abbrev pub Passes : Meaning Cause → Files → Type 0
 Passes meant before = meant before ≡ Ok []
 
-abbrev pub StartsFiles : Meaning → Outcome → Ending → Files → Files → Type 0
+abbrev pub StartsFiles : Meaning Cause → Outcome Cause → Ending → Files → Files → Type 0
 StartsFiles meant Made e old new = RecoversFiles None e old new × ((before : Files) → IsBefore (get old) before → Passes meant before)
-StartsFiles meant (Stopped fault) e old new = CommandsFiles meant (Stopped fault) e old new
+StartsFiles meant (Refused cause) e old new = CommandsFiles meant (Refused cause) e old new
+StartsFiles meant Failed e old new = CommandsFiles meant Failed e old new
+StartsFiles meant Lacked e old new = CommandsFiles meant Lacked e old new
 
-abbrev pub StartsDisk : Meaning → Outcome → Ending → Disk → Disk → Type 0
+abbrev pub StartsDisk : Meaning Cause → Outcome Cause → Ending → Disk → Disk → Type 0
 StartsDisk meant Made e old new = RecoversDisk None (read old.now) old new × ((before : Files) → IsBefore (read old.now) before → Passes meant before)
-StartsDisk meant (Stopped (faults.Cause cause)) e old new = CommandsDisk meant (Stopped (faults.Cause cause)) e old new
-StartsDisk meant (Stopped DiskFailed) e old new = Looks old new ⊎ Keeps old new (StandsFor (read old.now))
-StartsDisk meant (Stopped NoMemory) e old new = CommandsDisk meant (Stopped NoMemory) e old new
+StartsDisk meant (Refused cause) e old new = CommandsDisk meant (Refused cause) e old new
+StartsDisk meant Failed e old new = Looks old new ⊎ Keeps old new (StandsFor (read old.now))
+StartsDisk meant Lacked e old new = CommandsDisk meant Lacked e old new
 
-abbrev pub Starts : Meaning → Outcome → Effect
+abbrev pub Starts : Meaning Cause → Outcome Cause → Effect
 Starts meant o = record { files = StartsFiles meant o; disk = StartsDisk meant o }
 
 -- why a command stops whose name is not valid, by how it started: the folder failed or memory lacked, or else for the name
@@ -38,3 +42,10 @@ bad_name (Ok u) = faults.Cause BadName
 bad_name (Err DiskFailed) = DiskFailed
 bad_name (Err NoMemory) = NoMemory
 bad_name (Err (faults.Cause cause)) = faults.Cause BadName
+
+-- a command is done only for a valid name, and for any other one has no cause but this, whatever the folder tells
+abbrev pub Named : {X : Type 0} → List ℕ → Result X BatchFault → Type 0
+Named name (Ok x) = is_valid_name name ≡ true
+Named name (Err DiskFailed) = ⊤
+Named name (Err NoMemory) = ⊤
+Named name (Err (faults.Cause cause)) = is_valid_name name ≡ false → cause ≡ BadName

@@ -5,7 +5,7 @@ ghost use Rattle.pl_journal.specs.Parts.{IsRested};
 ghost use Rattle.pl_batch.specs.Answers.{ending};
 ghost use Rattle.pl_batch.specs.Changes.{IsRun, ready_by, removal_meant, run_meant};
 ghost use Rattle.pl_batch.specs.Commands.{Commands, Counts, outcome, ready_for};
-ghost use Rattle.pl_batch.specs.Starts.{Starts};
+ghost use Rattle.pl_batch.specs.Starts.{Named, Starts};
 
 use crate::changes::{changes_of, removal_of};
 use crate::starting::{start, start_for};
@@ -52,8 +52,9 @@ pub(crate) fn remove_held<D: Folder>(
     alloc: Global,
     name: &str,
 ) -> Result<(), BatchFault>
-    ensures { Calls (ending result) (Commands (removal_meant name.now) (outcome result))
+    ensures calls { Calls (ending result) (Commands (removal_meant name.now) (outcome result))
         (D.seen held.old.folder) (D.seen held.new.folder) }
+    ensures named { Named name.now result }
 {
     start_for(held, alloc, name)?;
     let rows = removal_of(alloc, &mut held.folder, name)?;
@@ -67,8 +68,9 @@ pub(crate) fn recover_held<D: Folder>(
     alloc: Global,
     name: &str,
 ) -> Result<(), BatchFault>
-    ensures { Calls (ending result) (Commands (ready_for name.now) (outcome result))
+    ensures calls { Calls (ending result) (Commands (ready_for name.now) (outcome result))
         (D.seen held.old.folder) (D.seen held.new.folder) }
+    ensures named { Named name.now result }
 {
     start_for(held, alloc, name)
 }

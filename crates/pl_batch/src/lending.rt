@@ -4,6 +4,7 @@ ghost use Rattle.pl_folder.specs.Calls.{Calls};
 ghost use Rattle.pl_batch.specs.Answers.{ending};
 ghost use Rattle.pl_batch.specs.Changes.{IsRun, removal_meant, run_meant};
 ghost use Rattle.pl_batch.specs.Commands.{Commands, Counts, outcome, ready_for};
+ghost use Rattle.pl_batch.specs.Starts.{Named};
 
 use crate::commands::{recover_held, remove_held, run_held};
 use crate::lent::Lent;
@@ -31,8 +32,9 @@ pub fn do_run<D: Folder>(alloc: Global, folder: &mut D, run: &Run) -> Result<usi
 
 /// Recovers the folder and then removes the file of a name, as `do_run` makes its changes. The first cause counts: BadName, BadJournal, NotThere.
 pub fn remove<D: Folder>(alloc: Global, folder: &mut D, name: &str) -> Result<(), BatchFault>
-    ensures { Calls (ending result) (Commands (removal_meant name.now) (outcome result))
+    ensures calls { Calls (ending result) (Commands (removal_meant name.now) (outcome result))
         (D.seen folder.old) (D.seen folder.new) }
+    ensures named { Named name.now result }
 {
     let mut held = Held {
         folder: Lent { folder },
@@ -40,10 +42,11 @@ pub fn remove<D: Folder>(alloc: Global, folder: &mut D, name: &str) -> Result<()
     remove_held(&mut held, alloc, name)
 }
 
-/// Recovers the folder for a command that stores a file under a name, before its bytes are read. The first cause counts: BadName, BadJournal.
+/// Recovers the folder for a command that stores a file under a name, before its bytes are read. The first cause counts: BadName, BadJournal. For a name that is not valid there is no other cause, whatever the folder tells, and no Ok.
 pub fn recover_for<D: Folder>(alloc: Global, folder: &mut D, name: &str) -> Result<(), BatchFault>
-    ensures { Calls (ending result) (Commands (ready_for name.now) (outcome result))
+    ensures calls { Calls (ending result) (Commands (ready_for name.now) (outcome result))
         (D.seen folder.old) (D.seen folder.new) }
+    ensures named { Named name.now result }
 {
     let mut held = Held {
         folder: Lent { folder },

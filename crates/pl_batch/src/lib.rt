@@ -18,7 +18,7 @@ mod undoing;
 pub use cause::Cause;
 pub use changes::changes_of;
 pub use fault::BatchFault;
-pub use laws::stands_for_files;
+pub use laws::{commands_go_on, stands_for_files};
 pub use lending::{do_run, recover_for, remove};
 pub use room::FILES;
 pub use run::Run;

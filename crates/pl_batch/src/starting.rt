@@ -5,7 +5,7 @@ ghost use Rattle.pl_journal.specs.Parts.{IsRested};
 ghost use Rattle.pl_batch.specs.Answers.{ending};
 ghost use Rattle.pl_batch.specs.Commands.{outcome, ready, ready_for};
 ghost use Rattle.pl_batch.specs.Starts as spec;
-ghost use Rattle.pl_batch.specs.Starts.{Starts};
+ghost use Rattle.pl_batch.specs.Starts.{Named, Starts};
 
 use crate::{BatchFault, Cause};
 use pl_base::is_valid_name;
@@ -49,6 +49,7 @@ pub(crate) fn start_for<D: Folder>(
     ensures calls { Calls (ending result) (Starts (ready_for name.now) (outcome result))
         (D.seen held.old.folder) (D.seen held.new.folder) }
     ensures rested { OnOk result (IsRested (D.seen held.new.folder)) }
+    ensures named { Named name.now result }
 {
     let started = start(held, alloc);
     if is_valid_name(name.as_bytes()) {

@@ -4,13 +4,14 @@ use Rattle.pl_folder.specs.Seen.{Seen}
 use Rattle.pl_batch.specs.Answers.{ending}
 use Rattle.pl_batch.specs.Commands.{Commands, Meaning, outcome, ready_for}
 use Rattle.pl_batch.specs.Starts.{Starts}
+use Rattle.pl_batch.specs.declared.cause.Cause.{Cause}
 use Rattle.pl_batch.specs.declared.fault.BatchFault.{BatchFault}
 use Rattle.pl_batch.proofs.MakeLemmas.{starts_alone, stops_alone}
 use Rattle.pl_batch.proofs.commands.recover_held.Goals as goal
 
-recovers : (first : Meaning) (r : Result (Unit {0}) BatchFault) {a b : Seen} → Calls (ending r) (Starts first (outcome r)) a b → Calls (ending r) (Commands first (outcome r)) a b
+recovers : (first : Meaning Cause) (r : Result (Unit {0}) BatchFault) {a b : Seen} → Calls (ending r) (Starts first (outcome r)) a b → Calls (ending r) (Commands first (outcome r)) a b
 recovers first (Ok u) call = starts_alone first call
 recovers first (Err fault) call = stops_alone first fault call
 
-pub returns : goal.returns
-returns g c = recovers (ready_for c.args.name.now) c.start_for.result c.start_for.ensures.calls
+pub returns-clause-calls : goal.returns-clause-calls
+returns-clause-calls g c = recovers (ready_for c.args.name.now) c.start_for.result c.start_for.ensures.calls
