@@ -11,7 +11,7 @@ const NOTES: &[u8] = b"hello\n";
 const JOURNAL: &str = ".prelink.journal";
 
 /// A folder of these files.
-fn folder_of(alloc: Global, files: &[(&str, &[u8])]) -> Result<MemoryFolder, Fail> {
+pub fn folder_of(alloc: Global, files: &[(&str, &[u8])]) -> Result<MemoryFolder, Fail> {
     let mut rows = Vec::new(alloc);
     for (name, bytes) in files {
         rows.push((String::from_str(alloc, name)?, bytes.to_vec(alloc)?))?;

@@ -5,3 +5,5 @@
 mod commands;
 #[cfg(test)]
 mod marked;
+#[cfg(test)]
+mod words;

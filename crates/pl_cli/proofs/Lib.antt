@@ -1,6 +1,5 @@
 pub mod StopLemmas
 pub mod PartLemmas
-pub mod RoomLemmas
 pub mod CallLemmas
 pub mod LookLemmas
 pub mod TakeLemmas
@@ -8,7 +7,9 @@ pub mod WalkLemmas
 pub mod LoadLemmas
 pub mod MemberLemmas
 pub mod OrderLemmas
-pub mod MakeLemmas
+pub mod WriteLemmas
+pub mod ContentLemmas
+pub mod DecimalLemmas
 pub mod PrintLemmas
 pub mod RunLemmas
 pub mod TellsLemmas

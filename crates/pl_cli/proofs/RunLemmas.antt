@@ -2,14 +2,18 @@
 use Rattle.std.proofs.Common.{◌≡◌, ℕ, List, [], false, Option, Some, None, refl, sym, ap, subst, ◌∙◌, inl, inr, arith}
 use Rattle.std.specs.Prelude.{Result, Ok, Err, Vec, is_some}
 use Rattle.std.specs.declared.alloc.Global.{Global}
+use Rattle.std.specs.FinMap.{get}
 use Rattle.std.proofs.lemmas.Bool.{true≢false}
 use Rattle.pl_base.specs.Answers.{◌>>=◌, because}
 use Rattle.pl_base.specs.Counts.{Counted}
 use Rattle.pl_base.specs.Streams.{got_after, GotPrefix}
 use Rattle.pl_io.specs.Seen.{Input, Output}
 use Rattle.pl_folder.specs.Calls.{Calls}
-use Rattle.pl_folder.specs.Seen.{Seen, Done, Undone}
+use Rattle.pl_folder.specs.Seen.{Seen, Done, Undone, IsFolder}
 use Rattle.pl_elf.specs.declared.range.Range.{Range}
+use Rattle.pl_batch.specs.Commands.{Meaning}
+use Rattle.pl_batch.specs.declared.run.Run.TheVariants as runs
+use Rattle.pl_batch.proofs.AgainLemmas.{refused_disk, refused_files}
 use Rattle.pl_loader.specs.Loading as loading
 use Rattle.pl_words.specs.declared.command.Policy.{Policy}
 use Rattle.pl_loader.specs.Started.{Start, started}
@@ -17,61 +21,85 @@ use Rattle.pl_loader.specs.declared.object_file.ObjectFile.{ObjectFile}
 use Rattle.pl_cli.specs.declared.cause.Cause.{Cause}
 use Rattle.pl_cli.specs.declared.cause.Cause.TheVariants as causes
 use Rattle.pl_cli.specs.declared.command.Command.{Command}
-use Rattle.pl_cli.specs.declared.command.Command.TheVariants.{Load, Make, Print, Order}
+use Rattle.pl_cli.specs.declared.command.Command.TheVariants.{Load, UndoAll, Undo, Store, Remove, Print, Order}
 use Rattle.pl_cli.specs.declared.command.Detail.{Detail}
 use Rattle.pl_cli.specs.declared.status.Status.{Status}
 use Rattle.pl_cli.specs.declared.status.Status.TheVariants as statuses
 use Rattle.pl_cli.specs.declared.stop.Stop.{Stop}
 use Rattle.pl_cli.specs.declared.stop.Stop.TheVariants as stops
 use Rattle.pl_cli.specs.Answer.{Answer, IsTold, answer, done, load_answer, text_answer, refuses, usage}
-use Rattle.pl_cli.specs.Came.{Came, HasLoaded, HasOrdered, HasPrinted, Makes}
+use Rattle.pl_cli.specs.Came.{Came, HasLoaded, HasOrdered, HasPrinted, Makes, as_is}
 use Rattle.pl_cli.specs.Load.{choice, loaded_files}
-use Rattle.pl_cli.specs.Outside.{Consumes, outside}
+use Rattle.pl_cli.specs.Outside.{Consumes, most_read, outside}
 use Rattle.pl_cli.specs.Ran.{Finishes, Ran, Refuses, Writes}
+use Rattle.pl_cli.specs.Words.{bytes_of, reads_input}
+use Rattle.pl_cli.specs.Writes.{WritesFolder, removes, stores, undoes}
 use Rattle.pl_cli.proofs.CallLemmas.{as_calls, asked_all, no_calls}
 use Rattle.pl_cli.proofs.LoadLemmas.{loaded_is}
-use Rattle.pl_cli.proofs.MakeLemmas.{unchanged, waits_on}
+use Rattle.pl_cli.proofs.WriteLemmas.{unread}
+use Rattle.pl_journal.proofs.Meanings.{stands_self}
+use Rattle.pl_journal.proofs.RecoverLemmas.{no_look}
 
 -- ---- the folder, where it ends with another status
 
-module _ (input : Option (List ℕ)) {a b : Seen} where
+module _ (meant : List ℕ → Meaning Cause) (input : Option (List ℕ)) {a b : Seen} where
   -- the output failed in the line of a cause
+  writes_line_failed : Calls Done (WritesFolder meant input statuses.Refused) a b → Calls Done (WritesFolder meant input statuses.WriteFault) a b
+  writes_line_failed call = as_calls Done Done refl call (λ told w. (w.0, w.1, inr w.2)) (λ told w. (w.0, w.1, inr w.2))
+
+  -- there was no memory for the line
+  writes_line_lacked : IsFolder a → Calls Done (WritesFolder meant input statuses.Refused) a b → Calls Undone (WritesFolder meant input statuses.NoMemory) a b
+  writes_line_lacked law call = as_calls Done Undone refl call
+      (λ told w. (w.0, w.1, refused_files (meant w.0) w.2.0 a b w.2.1))
+      (λ told w. (w.0, w.1, refused_disk (meant w.0) w.2.0 a b law told w.2.1))
+
+  -- the output failed in a text
+  writes_text_failed : Calls Done (WritesFolder meant input statuses.Done) a b → Calls Done (WritesFolder meant input statuses.WriteFault) a b
+  writes_text_failed call = as_calls Done Done refl call (λ told w. (w.0, w.1, inl w.2)) (λ told w. (w.0, w.1, inl w.2))
+
+module _ (input : Option (List ℕ)) {a b : Seen} where
   line_failed : (asked : Option Command) → Calls Done (Makes asked a.files input statuses.Refused) a b → Calls Done (Makes asked a.files input statuses.WriteFault) a b
   line_failed None call = call
   line_failed (Some (Load name busy policy)) call = call
   line_failed (Some Print) call = call
   line_failed (Some (Order name detail)) call = call
-  line_failed (Some (Make name)) call = as_calls Done Done refl call (λ told none. inr none) (λ told. waits_on a.disk b.disk)
+  line_failed (Some UndoAll) call = writes_line_failed (λ bytes. undoes runs.UndoAll) input call
+  line_failed (Some (Undo names)) call = writes_line_failed (λ bytes. undoes (runs.Undo names)) input call
+  line_failed (Some (Store name kind)) call = writes_line_failed (stores name kind) input call
+  line_failed (Some (Remove name)) call = writes_line_failed (λ bytes. removes name) input call
 
-  -- there was no memory for the line
-  line_lacked : (asked : Option Command) → Calls Done (Makes asked a.files input statuses.Refused) a b → Calls Undone (Makes asked a.files input statuses.NoMemory) a b
-  line_lacked None call = asked_all 0 call
-  line_lacked (Some (Load name busy policy)) call = asked_all _ call
-  line_lacked (Some Print) call = asked_all 1 call
-  line_lacked (Some (Order name detail)) call = asked_all _ call
-  line_lacked (Some (Make name)) call = as_calls Done Undone refl call (λ told none. unchanged a.files b.files none.all) (λ told. waits_on a.disk b.disk)
+  line_lacked : (asked : Option Command) → IsFolder a → Calls Done (Makes asked a.files input statuses.Refused) a b → Calls Undone (Makes asked a.files input statuses.NoMemory) a b
+  line_lacked None law call = asked_all 0 call
+  line_lacked (Some (Load name busy policy)) law call = asked_all _ call
+  line_lacked (Some Print) law call = asked_all 1 call
+  line_lacked (Some (Order name detail)) law call = asked_all _ call
+  line_lacked (Some UndoAll) law call = writes_line_lacked (λ bytes. undoes runs.UndoAll) input law call
+  line_lacked (Some (Undo names)) law call = writes_line_lacked (λ bytes. undoes (runs.Undo names)) input law call
+  line_lacked (Some (Store name kind)) law call = writes_line_lacked (stores name kind) input law call
+  line_lacked (Some (Remove name)) law call = writes_line_lacked (λ bytes. removes name) input law call
 
-  -- the output failed in a text
   text_failed : (asked : Option Command) → Calls Done (Makes asked a.files input statuses.Done) a b → Calls Done (Makes asked a.files input statuses.WriteFault) a b
   text_failed None call = call
   text_failed (Some (Load name busy policy)) call = call
   text_failed (Some Print) call = call
   text_failed (Some (Order name detail)) call = call
-  text_failed (Some (Make name)) call = as_calls Done Done refl call (λ told made. inl made) (λ told later. later)
+  text_failed (Some UndoAll) call = writes_text_failed (λ bytes. undoes runs.UndoAll) input call
+  text_failed (Some (Undo names)) call = writes_text_failed (λ bytes. undoes (runs.Undo names)) input call
+  text_failed (Some (Store name kind)) call = writes_text_failed (stores name kind) input call
+  text_failed (Some (Remove name)) call = writes_text_failed (λ bytes. removes name) input call
 
 quiet : (o p : Output) → p ≡ o → Counted false o.faults p.faults
 quiet o p same = subst (λ (q : Output). Counted false o.faults q.faults) (sym same) (record { later = omega arith; rose = λ e. cc; quiet = λ _. refl })
 
 -- ---- a command that stopped
 
-module _ (asked : Option Command) {a b : Seen} {left rest : Input} {o p : Output} where
+module _ (asked : Option Command) {Y : Type 0} (text : Y → List ℕ) {a b : Seen} {left rest : Input} {o p : Output} (law : IsFolder a) where
   -- it was refused
-  ran_refused : (cause : Cause) (status : Status) → Came asked (Err (stops.Cause cause)) a b left rest → Writes (refuses cause) status o p → Ran asked (outside a left o) (outside b rest p) status
+  ran_refused : (cause : Cause) (status : Status) → Came asked text (Err (stops.Cause cause)) a b left rest → Writes (refuses cause) status o p → Ran asked (outside a left o) (outside b rest p) status
   ran_refused cause statuses.Refused came wrote = record {
     ends = came.ends;
     prints = λ told. (ap (λ (m : Answer). m.status) (came.gives told), (wrote.prints tt).1 ∙ ap (λ (m : Answer). got_after o.got m.text) (sym (came.gives told)));
     folder = came.calls;
-    needs = λ e. cc;
     input = came.input;
     output = wrote.count;
   }
@@ -79,15 +107,13 @@ module _ (asked : Option Command) {a b : Seen} {left rest : Input} {o p : Output
     ends = refl;
     prints = λ told. subst (λ (m : Answer). GotPrefix o.got p.got m.text) (sym (came.gives told)) (wrote.prints tt);
     folder = line_failed left.left asked came.calls;
-    needs = λ e. cc;
     input = came.input;
     output = wrote.count;
   }
   ran_refused cause statuses.NoMemory came wrote = record {
     ends = refl;
     prints = wrote.prints;
-    folder = line_lacked left.left asked came.calls;
-    needs = λ e. cc;
+    folder = line_lacked left.left asked law came.calls;
     input = came.input;
     output = wrote.count;
   }
@@ -97,24 +123,23 @@ module _ (asked : Option Command) {a b : Seen} {left rest : Input} {o p : Output
   ran_refused cause statuses.ReadFault came wrote = absurd (true≢false wrote.input)
   ran_refused cause statuses.DiskFault came wrote = absurd (true≢false wrote.folder)
 
-  pub ran_stopped : (stop : Stop) (status : Status) → Came asked (Err stop) a b left rest → Refuses stop status o p → Ran asked (outside a left o) (outside b rest p) status
+  pub ran_stopped : (stop : Stop) (status : Status) → Came asked text (Err stop) a b left rest → Refuses stop status o p → Ran asked (outside a left o) (outside b rest p) status
   ran_stopped (stops.Cause cause) status came wrote = ran_refused cause status came wrote
   ran_stopped stops.Failed status came wrote = subst (Ran asked (outside a left o) (outside b rest p)) (sym wrote.0)
-      (record { ends = came.ends; prints = ap (λ (q : Output). q.got) wrote.1; folder = came.calls; needs = came.needs; input = came.input; output = quiet o p wrote.1 })
+      (record { ends = came.ends; prints = ap (λ (q : Output). q.got) wrote.1; folder = came.calls; input = came.input; output = quiet o p wrote.1 })
   ran_stopped stops.InputFailed status came wrote = subst (Ran asked (outside a left o) (outside b rest p)) (sym wrote.0)
-      (record { ends = came.ends; prints = ap (λ (q : Output). q.got) wrote.1; folder = came.calls; needs = λ e. cc; input = came.input; output = quiet o p wrote.1 })
+      (record { ends = came.ends; prints = ap (λ (q : Output). q.got) wrote.1; folder = came.calls; input = came.input; output = quiet o p wrote.1 })
   ran_stopped stops.NoMemory status came wrote = subst (Ran asked (outside a left o) (outside b rest p)) (sym wrote.0)
-      (record { ends = came.ends; prints = ap (λ (q : Output). q.got) wrote.1; folder = came.calls; needs = λ e. cc; input = came.input; output = quiet o p wrote.1 })
+      (record { ends = came.ends; prints = ap (λ (q : Output). q.got) wrote.1; folder = came.calls; input = came.input; output = quiet o p wrote.1 })
 
 -- ---- a command that came to a text
 
-module _ (asked : Option Command) (text : Vec ℕ Global) {a b : Seen} {left rest : Input} {o p : Output} (came : Came asked (Ok text) a b left rest) where
-  pub ran_done : (status : Status) → Finishes (done text.items) status o p → Ran asked (outside a left o) (outside b rest p) status
+module _ (asked : Option Command) {Y : Type 0} (text : Y → List ℕ) (y : Y) {a b : Seen} {left rest : Input} {o p : Output} (came : Came asked text (Ok y) a b left rest) where
+  pub ran_done : (status : Status) → Finishes (done (text y)) status o p → Ran asked (outside a left o) (outside b rest p) status
   ran_done statuses.Done fin = record {
     ends = came.ends;
     prints = λ told. (ap (λ (m : Answer). m.status) (came.gives told), fin.whole refl ∙ ap (λ (m : Answer). got_after o.got m.text) (sym (came.gives told)));
     folder = came.calls;
-    needs = λ e. cc;
     input = came.input;
     output = fin.count;
   }
@@ -122,7 +147,6 @@ module _ (asked : Option Command) (text : Vec ℕ Global) {a b : Seen} {left res
     ends = refl;
     prints = λ told. subst (λ (m : Answer). GotPrefix o.got p.got m.text) (sym (came.gives told)) (fin.prefix refl);
     folder = text_failed left.left asked came.calls;
-    needs = λ e. cc;
     input = came.input;
     output = fin.count;
   }
@@ -135,18 +159,18 @@ module _ (asked : Option Command) (text : Vec ℕ Global) {a b : Seen} {left res
 
 -- ---- words that are no command
 
-untouched : (i : Input) → Consumes false false i i
+untouched : (i : Input) → Consumes false 0 false i i
 untouched i = record { untouched = λ _. refl; tells = refl; most = λ e _. cc; count = record { later = omega arith; rose = λ e. cc; quiet = λ _. refl } }
 
 -- a load that stopped
 unstarted : (name : List ℕ) (busy : Option Range) (policy : Policy) (a : Seen) (cause : Cause) → loaded_files a.files name ≡ Err cause → answer (Some (Load name busy policy)) a.files [] ≡ refuses cause
 unstarted name busy policy a cause is = ap load_answer (loaded_is policy busy a.files name ∙ ap (λ (r : Result (List ObjectFile) Cause). r >>= λ all. because causes.Load (started (choice policy) busy all)) is)
 
-pub unloaded : {F : Type 0} (name : List ℕ) (busy : Option Range) (policy : Policy) {a b : Seen} (i : Input) (stop : Stop) → HasLoaded {F = F} name (Err stop) a b → Came (Some (Load name busy policy)) (Err stop) a b i i
-unloaded name busy policy {a = a} i (stops.Cause cause) found = record { gives = λ told. unstarted name busy policy a cause (found.means told.files); ends = refl; calls = found.calls; needs = λ e. cc; input = untouched i }
-unloaded name busy policy i stops.Failed found = record { gives = tt; ends = found.fails refl; calls = found.calls; needs = λ _. tt; input = untouched i }
+pub unloaded : {F : Type 0} (name : List ℕ) (busy : Option Range) (policy : Policy) {a b : Seen} (i : Input) (stop : Stop) → HasLoaded {F = F} name (Err stop) a b → Came (Some (Load name busy policy)) as_is (Err stop) a b i i
+unloaded name busy policy {a = a} i (stops.Cause cause) found = record { gives = λ told. unstarted name busy policy a cause (found.means told.files); ends = refl; calls = found.calls; input = untouched i }
+unloaded name busy policy i stops.Failed found = record { gives = tt; ends = found.fails refl; calls = found.calls; input = untouched i }
 unloaded name busy policy i stops.InputFailed found = absurd (true≢false found.reads)
-unloaded name busy policy i stops.NoMemory found = record { gives = tt; ends = refl; calls = found.calls; needs = λ e. cc; input = untouched i }
+unloaded name busy policy i stops.NoMemory found = record { gives = tt; ends = refl; calls = found.calls; input = untouched i }
 
 -- no load ends so
 loads_differ : (r : Result Start Cause) → (load_answer r).status ≡ statuses.Differs → ⊥
@@ -167,17 +191,16 @@ module _ {F : Type 0} (name : List ℕ) (busy : Option Range) (policy : Policy) 
   whole old new status told wrote = (ap (λ (m : Answer). m.status) (means told) ∙ wrote.0, wrote.1 ∙ ap (λ (m : Answer). got_after old m.text) (sym (means told)))
 
   pub ran_loaded : {o p : Output} (status : Status) → Writes (load_answer (because causes.Load (started (choice policy) busy l.walk.files))) status o p → Ran (Some (Load name busy policy)) (outside a i o) (outside b i p) status
-  ran_loaded {o = o} {p = p} statuses.Done wrote = record { ends = refl; prints = λ told. whole o.got p.got statuses.Done told (wrote.prints tt); folder = found.calls; needs = λ e. cc; input = untouched i; output = wrote.count }
-  ran_loaded {o = o} {p = p} statuses.Refused wrote = record { ends = refl; prints = λ told. whole o.got p.got statuses.Refused told (wrote.prints tt); folder = found.calls; needs = λ e. cc; input = untouched i; output = wrote.count }
+  ran_loaded {o = o} {p = p} statuses.Done wrote = record { ends = refl; prints = λ told. whole o.got p.got statuses.Done told (wrote.prints tt); folder = found.calls; input = untouched i; output = wrote.count }
+  ran_loaded {o = o} {p = p} statuses.Refused wrote = record { ends = refl; prints = λ told. whole o.got p.got statuses.Refused told (wrote.prints tt); folder = found.calls; input = untouched i; output = wrote.count }
   ran_loaded {o = o} {p = p} statuses.WriteFault wrote = record {
     ends = refl;
     prints = λ told. subst (λ (m : Answer). GotPrefix o.got p.got m.text) (sym (means told)) (wrote.prints tt);
     folder = found.calls;
-    needs = λ e. cc;
     input = untouched i;
     output = wrote.count;
   }
-  ran_loaded {o = o} {p = p} statuses.NoMemory wrote = record { ends = refl; prints = wrote.prints; folder = asked_all _ found.calls; needs = λ e. cc; input = untouched i; output = wrote.count }
+  ran_loaded {o = o} {p = p} statuses.NoMemory wrote = record { ends = refl; prints = wrote.prints; folder = asked_all _ found.calls; input = untouched i; output = wrote.count }
   ran_loaded {o = o} {p = p} statuses.Differs wrote = absurd (loads_differ _ (wrote.prints tt).0)
   ran_loaded {o = o} {p = p} statuses.Usage wrote = absurd (loads_usage _ (wrote.prints tt).0)
   ran_loaded {o = o} {p = p} statuses.ReadFault wrote = absurd (true≢false wrote.input)
@@ -185,26 +208,44 @@ module _ {F : Type 0} (name : List ℕ) (busy : Option Range) (policy : Policy) 
 
 -- ---- `--order` and `-p`
 
-pub came_ordered : (name : List ℕ) (detail : Detail) (i : Input) {a b : Seen} (r : Result (Vec ℕ Global) Stop) → HasOrdered name detail r a b → Came (Some (Order name detail)) r a b i i
-came_ordered name detail i (Ok text) found = record { gives = λ told. ap text_answer (found.means told.files); ends = refl; calls = found.calls; needs = λ e. cc; input = untouched i }
-came_ordered name detail i (Err (stops.Cause cause)) found = record { gives = λ told. ap text_answer (found.means told.files); ends = refl; calls = found.calls; needs = λ e. cc; input = untouched i }
-came_ordered name detail i (Err stops.Failed) found = record { gives = tt; ends = found.fails refl; calls = found.calls; needs = λ _. tt; input = untouched i }
+pub came_ordered : (name : List ℕ) (detail : Detail) (i : Input) {a b : Seen} (r : Result (Vec ℕ Global) Stop) → HasOrdered name detail r a b → Came (Some (Order name detail)) as_is r a b i i
+came_ordered name detail i (Ok text) found = record { gives = λ told. ap text_answer (found.means told.files); ends = refl; calls = found.calls; input = untouched i }
+came_ordered name detail i (Err (stops.Cause cause)) found = record { gives = λ told. ap text_answer (found.means told.files); ends = refl; calls = found.calls; input = untouched i }
+came_ordered name detail i (Err stops.Failed) found = record { gives = tt; ends = found.fails refl; calls = found.calls; input = untouched i }
 came_ordered name detail i (Err stops.InputFailed) found = absurd (true≢false found.reads)
-came_ordered name detail i (Err stops.NoMemory) found = record { gives = tt; ends = refl; calls = found.calls; needs = λ e. cc; input = untouched i }
+came_ordered name detail i (Err stops.NoMemory) found = record { gives = tt; ends = refl; calls = found.calls; input = untouched i }
 
-pub came_printed : (i : Input) {a b : Seen} (r : Result (Vec ℕ Global) Stop) → HasPrinted r a b → Came (Some Print) r a b i i
-came_printed i (Ok text) found = record { gives = λ told. ap text_answer (found.means told.files); ends = refl; calls = found.calls; needs = λ e. cc; input = untouched i }
-came_printed i (Err (stops.Cause cause)) found = record { gives = λ told. ap text_answer (found.means told.files); ends = refl; calls = found.calls; needs = λ e. cc; input = untouched i }
-came_printed i (Err stops.Failed) found = record { gives = tt; ends = refl; calls = found.calls; needs = λ _. tt; input = untouched i }
+pub came_printed : (i : Input) {a b : Seen} (r : Result (Vec ℕ Global) Stop) → HasPrinted r a b → Came (Some Print) as_is r a b i i
+came_printed i (Ok text) found = record { gives = λ told. ap text_answer (found.means told.files); ends = refl; calls = found.calls; input = untouched i }
+came_printed i (Err (stops.Cause cause)) found = record { gives = λ told. ap text_answer (found.means told.files); ends = refl; calls = found.calls; input = untouched i }
+came_printed i (Err stops.Failed) found = record { gives = tt; ends = refl; calls = found.calls; input = untouched i }
 came_printed i (Err stops.InputFailed) found = absurd (true≢false found.reads)
-came_printed i (Err stops.NoMemory) found = record { gives = tt; ends = refl; calls = found.calls; needs = λ e. cc; input = untouched i }
+came_printed i (Err stops.NoMemory) found = record { gives = tt; ends = refl; calls = found.calls; input = untouched i }
 
 pub ran_usage : (a : Seen) (i : Input) {o p : Output} (status : Status) → Finishes (record { status = statuses.Usage; text = usage }) status o p → Ran None (outside a i o) (outside a i p) status
-ran_usage a i statuses.Usage fin = record { ends = refl; prints = λ _. (refl, fin.whole refl); folder = no_calls Done a refl refl refl; needs = λ _. tt; input = untouched i; output = fin.count }
-ran_usage a i statuses.WriteFault fin = record { ends = refl; prints = λ _. fin.prefix refl; folder = no_calls Done a refl refl refl; needs = λ _. tt; input = untouched i; output = fin.count }
+ran_usage a i statuses.Usage fin = record { ends = refl; prints = λ _. (refl, fin.whole refl); folder = no_calls Done a refl refl refl; input = untouched i; output = fin.count }
+ran_usage a i statuses.WriteFault fin = record { ends = refl; prints = λ _. fin.prefix refl; folder = no_calls Done a refl refl refl; input = untouched i; output = fin.count }
 ran_usage a i statuses.Done fin = let e = fin.ends refl in cc
 ran_usage a i statuses.Differs fin = let e = fin.ends refl in cc
 ran_usage a i statuses.Refused fin = let e = fin.ends refl in cc
 ran_usage a i statuses.ReadFault fin = let e = fin.ends refl in cc
 ran_usage a i statuses.DiskFault fin = let e = fin.ends refl in cc
 ran_usage a i statuses.NoMemory fin = let e = fin.ends refl in cc
+
+-- ---- memory lacks before anything is asked
+
+lacks_writing : (meant : List ℕ → Meaning Cause) (input : Option (List ℕ)) (a : Seen) → Calls Undone (WritesFolder meant input statuses.NoMemory) a a
+lacks_writing meant input a = no_calls Undone a refl (bytes_of input, (λ _. refl), stands_self (get a.files) (get a.files) (λ n. refl)) (bytes_of input, (λ _. refl), inl (no_look a.disk a.disk refl))
+
+lacks : (asked : Option Command) (input : Option (List ℕ)) (a : Seen) → Calls Undone (Makes asked a.files input statuses.NoMemory) a a
+lacks None input a = no_calls Undone a refl refl (0, omega arith, refl)
+lacks (Some (Load name busy policy)) input a = no_calls Undone a refl refl (0, omega arith, refl)
+lacks (Some Print) input a = no_calls Undone a refl refl (0, omega arith, refl)
+lacks (Some (Order name detail)) input a = no_calls Undone a refl refl (0, omega arith, refl)
+lacks (Some UndoAll) input a = lacks_writing (λ bytes. undoes runs.UndoAll) input a
+lacks (Some (Undo names)) input a = lacks_writing (λ bytes. undoes (runs.Undo names)) input a
+lacks (Some (Store name kind)) input a = lacks_writing (stores name kind) input a
+lacks (Some (Remove name)) input a = lacks_writing (λ bytes. removes name) input a
+
+pub ran_lacking : (asked : Option Command) (a : Seen) (i : Input) (o : Output) → Ran asked (outside a i o) (outside a i o) statuses.NoMemory
+ran_lacking asked a i o = record { ends = refl; prints = refl; folder = lacks asked i.left a; input = unread (reads_input asked) (most_read asked) i; output = quiet o o refl }

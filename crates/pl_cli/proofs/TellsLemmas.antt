@@ -1,6 +1,6 @@
 -- No cause of a command is a want of memory.
 use Rattle.std.proofs.Common.{◌≡◌, false, refl, ℕ, List, Option, Some, None}
-use Rattle.pl_base.specs.Answers.{Tells}
+use Rattle.pl_base.specs.Answers.{Tells, because}
 use Rattle.pl_base.specs.Files.{Files}
 use Rattle.pl_base.proofs.TellsLaws.{ok_tells, err_tells, unless_tells, then_tells, cause_tells, because_tells}
 use Rattle.pl_build.specs.Build.{build}
@@ -25,7 +25,16 @@ use Rattle.pl_cli.specs.declared.command.Detail.{Detail}
 use Rattle.pl_cli.specs.Files.{valid_file, of_file, file_in}
 use Rattle.pl_cli.specs.Load.{choice, is_memory, loaded}
 use Rattle.pl_cli.specs.Order.{object_in, order_text, ordered, original, refused, walked}
-use Rattle.pl_cli.specs.Make.{recipe_cause, built, made}
+use Rattle.pl_cli.specs.declared.command.Content.{Content}
+use Rattle.pl_cli.specs.declared.command.Content.TheVariants.{File, Recipe}
+use Rattle.pl_cli.specs.Writes.{content, file_by, of_batch, recipe_cause, removes, stores, undoes}
+use Rattle.pl_journal.specs.declared.change.Change.{Change}
+use Rattle.pl_batch.specs.Changes.{changes_of, removal_meant, run_meant}
+use Rattle.pl_batch.specs.Commands.{ready_for}
+use Rattle.pl_batch.specs.declared.cause.Cause as batch
+use Rattle.pl_batch.specs.declared.cause.Cause.TheVariants as batch_causes
+use Rattle.pl_batch.specs.declared.run.Run.{Run}
+use Rattle.pl_batch.specs.declared.run.Run.TheVariants as runs
 
 -- ---- `--load`
 
@@ -78,12 +87,33 @@ pub printed_tells : (files : Files) → Tells is_memory (printed files)
 unfolding printed cache_in
 printed_tells files = then_tells is_memory (cache_in files) _ (cache_tells (taken files CACHE.now)) (λ cache. ok_tells is_memory (print_text cache))
 
--- ---- `--make`
+-- ---- the commands that write
 
-built_tells : (input : List ℕ) → Tells is_memory (built input)
-unfolding built
-built_tells input = unless_tells is_memory _ _ _ refl (cause_tells is_memory recipe_cause (build input) (λ e. refl))
+batch_cause : (cause : batch.Cause) → is_memory (of_batch cause) ≡ false
+batch_cause batch_causes.BadName = refl
+batch_cause batch_causes.BadJournal = refl
+batch_cause batch_causes.TooManyFiles = refl
+batch_cause (batch_causes.NotThere name) = refl
+batch_cause (batch_causes.FileTooLarge name) = refl
+batch_cause (batch_causes.BadMark name) = refl
 
-pub made_tells : (files : Files) (name input : List ℕ) → Tells is_memory (made files name input)
-unfolding made
-made_tells files name input = unless_tells is_memory _ _ _ refl (then_tells is_memory (built input) _ (built_tells input) (λ bytes. unless_tells is_memory _ _ _ refl (ok_tells is_memory bytes)))
+batch_tells : (r : Result (List Change) batch.Cause) → Tells is_memory (because of_batch r)
+batch_tells r = cause_tells is_memory of_batch r batch_cause
+
+pub undone_tells : (run : Run) (files : Files) → Tells is_memory (undoes run files)
+undone_tells run files = batch_tells (run_meant run files)
+
+pub removed_tells : (name : List ℕ) (files : Files) → Tells is_memory (removes name files)
+removed_tells name files = batch_tells (removal_meant name files)
+
+file_by_tells : (kind : Content) (input : List ℕ) → Tells is_memory (file_by kind input)
+file_by_tells File input = ok_tells is_memory input
+file_by_tells Recipe input = cause_tells is_memory recipe_cause (build input) (λ e. refl)
+
+content_tells : (kind : Content) (input : List ℕ) → Tells is_memory (content kind input)
+unfolding content
+content_tells kind input = unless_tells is_memory _ _ _ refl (then_tells is_memory (file_by kind input) _ (file_by_tells kind input) (λ file. unless_tells is_memory _ _ _ refl (ok_tells is_memory file)))
+
+pub stored_tells : (name : List ℕ) (kind : Content) (input : List ℕ) (files : Files) → Tells is_memory (stores name kind input files)
+stored_tells name kind input files = then_tells is_memory (because of_batch (ready_for name files)) _ (batch_tells (ready_for name files)) (λ none.
+    then_tells is_memory (content kind input) _ (content_tells kind input) (λ file. batch_tells (changes_of files (runs.Install name file))))

@@ -1,25 +1,42 @@
 -- What a run answers to what its words ask for, for the files of its folder and the bytes of its input.
-use Rattle.std.specs.Prelude.{◌≡◌, ℕ, Bool, true, List, [], ◌∷◌, codes, Option, Some, None, Result, Ok, Err}
+use Rattle.std.specs.Prelude.{◌≡◌, ℕ, Bool, true, List, [], ◌∷◌, codes, length, Option, Some, None, Result, Ok, Err}
+use Rattle.std.specs.Fmt.{decimal}
 use Rattle.pl_base.specs.Digits.{line}
 use Rattle.pl_base.specs.Files.{Files}
+use Rattle.pl_journal.specs.declared.change.Change.{Change}
 use Rattle.pl_loader.specs.Started.{Start}
+use Rattle.pl_batch.specs.Restored.{restored}
+use Rattle.pl_batch.specs.declared.run.Run.TheVariants as runs
 use Rattle.pl_cli.specs.declared.status.Status.{Status}
 use Rattle.pl_cli.specs.declared.status.Status.TheVariants as statuses
 use Rattle.pl_cli.specs.declared.cause.Cause.{Cause}
 use Rattle.pl_cli.specs.declared.command.Command.{Command}
-use Rattle.pl_cli.specs.declared.command.Command.TheVariants.{Load, Make, Print, Order}
+use Rattle.pl_cli.specs.declared.command.Command.TheVariants.{Load, UndoAll, Undo, Store, Remove, Print, Order}
+use Rattle.pl_cli.specs.declared.command.Content.{Content}
+use Rattle.pl_cli.specs.declared.command.Content.TheVariants.{File, Recipe}
 use Rattle.pl_cli.specs.Load.{loaded}
 use Rattle.pl_cli.specs.LoadText.{load_text}
-use Rattle.pl_cli.specs.Make.{made}
 use Rattle.pl_cli.specs.Order.{ordered}
 use Rattle.pl_cli.specs.Print.{printed}
 use Rattle.pl_cli.specs.Refusals.{refusal}
-use Rattle.pl_cli.specs.Words.{asks_folder, reads_input}
+use Rattle.pl_cli.specs.Words.{reads_input, rests_on_files}
+use Rattle.pl_cli.specs.Writes.{removes, stores, undoes}
 
 -- ---- texts
 
-unfoldable pub made_text : List ℕ → List ℕ
-made_text name = line (codes "made " ∷ name ∷ [])
+-- how many files were prelinked
+unfoldable pub undone_text : ℕ → List ℕ
+undone_text count = line (codes "undone " ∷ decimal count ∷ [])
+
+abbrev pub stored_word : Content → List ℕ
+stored_word File = codes "installed "
+stored_word Recipe = codes "made "
+
+unfoldable pub stored_text : Content → List ℕ → List ℕ
+stored_text kind name = line (stored_word kind ∷ name ∷ [])
+
+unfoldable pub removed_text : List ℕ → List ℕ
+removed_text name = line (codes "removed " ∷ name ∷ [])
 
 abbrev pub usage : List ℕ
 usage = line (codes "usage: prelink MODE [OPTIONS] [NAME..]" ∷ [])
@@ -41,9 +58,10 @@ abbrev pub load_answer : Result Start Cause → Answer
 load_answer (Ok start) = done (load_text start)
 load_answer (Err cause) = refuses cause
 
-abbrev pub make_answer : List ℕ → Result (List ℕ) Cause → Answer
-make_answer name (Ok bytes) = done (made_text name)
-make_answer name (Err cause) = refuses cause
+-- the rows of a writing command, or the cause why there are none
+abbrev pub write_answer : (List Change → List ℕ) → Result (List Change) Cause → Answer
+write_answer text (Ok rows) = done (text rows)
+write_answer text (Err cause) = refuses cause
 
 -- a text that is printed, or the cause why there is none
 abbrev pub text_answer : Result (List ℕ) Cause → Answer
@@ -53,11 +71,14 @@ text_answer (Err cause) = refuses cause
 abbrev pub answer : Option Command → Files → List ℕ → Answer
 answer None files input = record { status = statuses.Usage; text = usage }
 answer (Some (Load name busy policy)) files input = load_answer (loaded policy busy files name)
-answer (Some (Make name)) files input = make_answer name (made files name input)
+answer (Some UndoAll) files input = write_answer (λ rows. undone_text (length rows)) (undoes runs.UndoAll (restored files))
+answer (Some (Undo names)) files input = write_answer (λ rows. undone_text (length rows)) (undoes (runs.Undo names) (restored files))
+answer (Some (Store name kind)) files input = write_answer (λ rows. stored_text kind name) (stores name kind input (restored files))
+answer (Some (Remove name)) files input = write_answer (λ rows. removed_text name) (removes name (restored files))
 answer (Some Print) files input = text_answer (printed files)
 answer (Some (Order name detail)) files input = text_answer (ordered detail files name)
 
--- all that an answer rests on is told: the folder's files where it is asked, and what is read of the input
+-- all that an answer rests on is told: the folder's files, and what is read of the input
 pub record IsTold (asked : Option Command) (tells told : Bool) : Type 0 where
-  pub files : asks_folder asked ≡ true → tells ≡ true
+  pub files : rests_on_files asked ≡ true → tells ≡ true
   pub input : reads_input asked ≡ true → told ≡ true

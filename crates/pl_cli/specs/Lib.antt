@@ -1,11 +1,10 @@
 pub mod Statuses
 pub mod Words
-pub mod Room
+pub mod Writes
 pub mod Files
 pub mod Looks
 pub mod Load
 pub mod LoadText
-pub mod Make
 pub mod Print
 pub mod Order
 pub mod Refusals

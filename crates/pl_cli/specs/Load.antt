@@ -51,6 +51,7 @@ pub record MayStart {F : Type 0} (pre : F → Bor (List Range) → ℕ → ℕ �
 abbrev pub is_memory : Cause → Bool
 is_memory (causes.Load fault) = faults.is_memory fault
 is_memory causes.BadName = false
+is_memory causes.BadJournal = false
 is_memory (causes.FileTooLarge name) = false
 is_memory causes.InputTooLarge = false
 is_memory (causes.Recipe number kind) = false

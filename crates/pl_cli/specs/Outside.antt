@@ -1,14 +1,15 @@
 -- The outside of a run, and what each part of it shows of how a run ended.
-use Rattle.std.specs.Prelude.{◌≡◌, ◌+◌, Bool, true, false, not, Option, is_some}
+use Rattle.std.specs.Prelude.{◌≡◌, ◌+◌, ℕ, Bool, true, false, not, Option, Some, None, is_some}
 use Rattle.pl_base.specs.Counts.{Counted}
 use Rattle.pl_io.specs.Reads.{TookAtMost}
 use Rattle.pl_io.specs.Seen.{Input, Output}
 use Rattle.pl_folder.specs.Seen.{Seen, Ending, Done, Broken, Undone}
 use Rattle.pl_cli.specs.declared.command.Command.{Command}
-use Rattle.pl_cli.specs.declared.make.TheConstants.{RECIPE}
+use Rattle.pl_cli.specs.declared.command.Command.TheVariants.{Load, UndoAll, Undo, Store, Remove, Print, Order}
 use Rattle.pl_cli.specs.declared.status.Status.{Status}
 use Rattle.pl_cli.specs.declared.status.Status.TheVariants as statuses
 use Rattle.pl_cli.specs.Words.{asks_folder, reads_input}
+use Rattle.pl_cli.specs.Writes.{most_bytes}
 
 pub record Outside : Type 0 where
   pub folder : Seen
@@ -64,9 +65,20 @@ ending_of statuses.NoMemory = Undone
 
 -- ---- the input
 
--- An input counts a fault exactly where it failed. Nothing is read of one that is not to be read, and else no more than one byte more than a recipe may have.
-pub record Consumes (reads failed : Bool) (old new : Input) : Type 0 where
+-- the most bytes that an input may have
+abbrev pub most_read : Option Command → ℕ
+most_read None = 0
+most_read (Some (Load name busy policy)) = 0
+most_read (Some UndoAll) = 0
+most_read (Some (Undo names)) = 0
+most_read (Some (Store name kind)) = most_bytes kind
+most_read (Some (Remove name)) = 0
+most_read (Some Print) = 0
+most_read (Some (Order name detail)) = 0
+
+-- An input counts a fault exactly where it failed. Nothing is read of one that is not to be read, and else no more than one byte more than it may have.
+pub record Consumes (reads : Bool) (bound : ℕ) (failed : Bool) (old new : Input) : Type 0 where
   pub untouched : reads ≡ false → new ≡ old
   pub tells : is_some new.left ≡ is_some old.left
-  pub most : reads ≡ true → failed ≡ false → TookAtMost old.left new.left (RECIPE + 1)
+  pub most : reads ≡ true → failed ≡ false → TookAtMost old.left new.left (bound + 1)
   pub count : Counted failed old.faults new.faults

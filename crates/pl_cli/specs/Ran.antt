@@ -14,8 +14,8 @@ use Rattle.pl_cli.specs.declared.status.Status.TheVariants as statuses
 use Rattle.pl_cli.specs.declared.stop.Stop.{Stop}
 use Rattle.pl_cli.specs.declared.stop.Stop.TheVariants as stops
 use Rattle.pl_cli.specs.Answer.{Answer, IsTold, answer, refuses}
-use Rattle.pl_cli.specs.Came.{Makes, NeedsFirst}
-use Rattle.pl_cli.specs.Outside.{Consumes, Outside, outside, ending_of, is_read_fault, is_write_fault, may_end}
+use Rattle.pl_cli.specs.Came.{Makes}
+use Rattle.pl_cli.specs.Outside.{Consumes, Outside, outside, ending_of, is_read_fault, is_write_fault, may_end, most_read}
 use Rattle.pl_cli.specs.Words.{bytes_of, reads_input}
 
 -- ---- what is written
@@ -70,10 +70,8 @@ pub record Ran (asked : Option Command) (w v : Outside) (status : Status) : Type
   pub prints : Prints (HasTold asked w) (answer_in asked w) status w.output.got v.output.got
   -- what becomes of the folder; a fault is counted exactly where it ends with one
   pub folder : Calls (ending_of status) (Makes asked w.folder.files w.input.left status) w.folder v.folder
-  -- the folder fails a `--make` only after a recipe without a fault
-  pub needs : status ≡ statuses.DiskFault → NeedsFirst asked w.input.left
   -- what is read
-  pub input : Consumes (reads_input asked) (is_read_fault status) w.input v.input
+  pub input : Consumes (reads_input asked) (most_read asked) (is_read_fault status) w.input v.input
   pub output : Counted (is_write_fault status) w.output.faults v.output.faults
 
 -- a run of `--load`, over any input

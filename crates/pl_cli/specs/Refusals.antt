@@ -7,7 +7,7 @@ use Rattle.pl_base.specs.Digits.{hex_digit, line}
 use Rattle.pl_loader.specs.declared.fault.LoadFault.{LoadFault}
 use Rattle.pl_loader.specs.declared.fault.LoadFault.TheVariants.{NotThere, BadMark, Refused, NotProgram, NeededIsProgram, TooMany, TlsTooLarge, NoPlace, Undefined, UndefinedTls, TlsMismatch, CopyOutside, NoMemory}
 use Rattle.pl_cli.specs.declared.cause.Cause.{Cause}
-use Rattle.pl_cli.specs.declared.cause.Cause.TheVariants.{BadName, FileTooLarge, Load, InputTooLarge, Recipe, TooManyFiles, BadCache}
+use Rattle.pl_cli.specs.declared.cause.Cause.TheVariants.{BadName, BadJournal, FileTooLarge, Load, InputTooLarge, Recipe, TooManyFiles, BadCache}
 use Rattle.pl_cli.specs.declared.symbol_text.TheConstants.{BACKSLASH}
 
 -- ---- a symbol's name. It may have any bytes but 0
@@ -70,6 +70,7 @@ load_refusal NoMemory = bare (codes "NoMemory")
 
 unfoldable pub refusal : Cause → List ℕ
 refusal BadName = bare (codes "BadName")
+refusal BadJournal = bare (codes "BadJournal")
 refusal (FileTooLarge name) = named (codes "FileTooLarge") name
 refusal (Load fault) = load_refusal fault
 refusal InputTooLarge = bare (codes "InputTooLarge")

@@ -9,6 +9,9 @@ use Rattle.pl_loader.specs.declared.fault.LoadFault.{LoadFault}
 use Rattle.pl_loader.specs.declared.fault.LoadFault.TheVariants.{NotThere}
 use Rattle.pl_cache.specs.declared.fault.CacheFault.{CacheFault}
 use Rattle.pl_cache.specs.declared.fault.CacheFault.TheVariants as cache_faults
+use Rattle.pl_batch.specs.declared.fault.BatchFault.{BatchFault}
+use Rattle.pl_batch.specs.declared.fault.BatchFault.TheVariants.{DiskFailed}
+use Rattle.pl_batch.specs.declared.fault.BatchFault.TheVariants as batch_faults
 use Rattle.pl_build.specs.declared.fault.RecipeFault.{RecipeFault}
 use Rattle.pl_build.specs.declared.fault.RecipeFault.TheVariants as recipe_faults
 use Rattle.pl_cli.specs.declared.cause.Cause.{Cause}
@@ -17,17 +20,11 @@ use Rattle.pl_cli.specs.declared.status.Status.{Status}
 use Rattle.pl_cli.specs.declared.status.Status.TheVariants as statuses
 use Rattle.pl_cli.specs.declared.stop.Stop.{Stop}
 use Rattle.pl_cli.specs.declared.stop.Stop.TheVariants as stops
+use Rattle.pl_cli.specs.Writes.{of_batch}
 
 -- ---- what a fault of a part stops
 
--- a fault of the folder in a call that is given no file to take: it fails, or lacks memory
-abbrev pub of_fault : FolderFault → Stop
-of_fault folder_faults.Failed = stops.Failed
-of_fault folder_faults.NotThere = stops.Failed
-of_fault folder_faults.TooLarge = stops.Failed
-of_fault folder_faults.NoMemory = stops.NoMemory
-
--- the same where a file of a name was to be taken
+-- a fault of the folder where a file of a name was to be taken
 abbrev pub of_take : List ℕ → FolderFault → Stop
 of_take name folder_faults.Failed = stops.Failed
 of_take name folder_faults.NotThere = stops.Cause (causes.Load (NotThere name))
@@ -41,6 +38,11 @@ abbrev pub of_read_fault : ReadFault → Stop
 of_read_fault read_faults.Failed = stops.InputFailed
 of_read_fault read_faults.TooLarge = stops.Cause causes.InputTooLarge
 of_read_fault read_faults.NoMemory = stops.NoMemory
+
+abbrev pub of_batch_fault : BatchFault → Stop
+of_batch_fault DiskFailed = stops.Failed
+of_batch_fault batch_faults.NoMemory = stops.NoMemory
+of_batch_fault (batch_faults.Cause cause) = stops.Cause (of_batch cause)
 
 abbrev pub of_recipe_fault : RecipeFault → Stop
 of_recipe_fault (recipe_faults.Bad number kind) = stops.Cause (causes.Recipe number kind)
@@ -81,3 +83,7 @@ StopsAlone meant (stops.Cause cause) = meant ≡ Err cause
 StopsAlone meant stops.Failed = ⊥
 StopsAlone meant stops.InputFailed = ⊥
 StopsAlone meant stops.NoMemory = ⊤
+
+abbrev pub MeansAlone : {X : Type 0} → Result X Cause → Result X Stop → Type 0
+MeansAlone meant (Ok x) = meant ≡ Ok x
+MeansAlone meant (Err stop) = StopsAlone meant stop

@@ -7,19 +7,22 @@ pub enum Cause {
     /// The name is no valid name.
     BadName,
 
+    /// The journal is outside its grammar.
+    BadJournal,
+
     /// The file of this name is longer than a folder gives.
     FileTooLarge(Text),
 
-    /// The loader's fault, or a file that is not there; never `NoMemory`.
+    /// The loader's fault, or a file that is not there or bears a false mark; never `NoMemory`.
     Load(LoadFault),
 
-    /// The input is longer than a recipe may be.
+    /// The input is longer than a recipe may be, or a file that is stored.
     InputTooLarge,
 
     /// The number of the first line of the recipe that has a fault, counted from 1, and the lowest kind of its faults; line 0 where the file of the recipe would be too large.
     Recipe { number: u32, kind: u8 },
 
-    /// The name is new, and the folder has no room for one more.
+    /// The folder has too many files, or no room for one more.
     TooManyFiles,
 
     /// The cache's file is none.

@@ -1,4 +1,4 @@
-use pl_base::Text;
+use pl_base::{Rows, Text};
 use pl_elf::Range;
 use pl_words::Policy;
 
@@ -10,6 +10,16 @@ pub enum Detail {
 
     /// And which object reaches which.
     Full,
+}
+
+/// What an input is, of which a file is stored.
+#[derive(Clone, Copy, Debug, PartialEq, Eq)]
+pub enum Content {
+    /// The file.
+    File,
+
+    /// The file's recipe.
+    Recipe,
 }
 
 /// What words ask for, of what is there.
@@ -26,8 +36,22 @@ pub enum Command {
         policy: Policy,
     },
 
-    /// To store the file of the recipe in the input under that name.
-    Make {
+    /// To give every prelinked file its original.
+    UndoAll,
+
+    /// To give the prelinked ones of these files their originals.
+    Undo {
+        names: Rows<Text>,
+    },
+
+    /// To store the file of the input under that name.
+    Store {
+        name: Text,
+        content: Content,
+    },
+
+    /// To remove the file of that name.
+    Remove {
         name: Text,
     },
 

@@ -3,21 +3,25 @@ ghost use Rattle.std.specs.Prelude.{ℕ, List, Option};
 ghost use Rattle.pl_base.specs.Answers.{Tells};
 ghost use Rattle.pl_base.specs.Files.{Files};
 ghost use Rattle.pl_cli.specs.Load.{is_memory, loaded};
-ghost use Rattle.pl_cli.specs.Make.{made};
 ghost use Rattle.pl_cli.specs.Order.{ordered};
 ghost use Rattle.pl_cli.specs.Print.{printed};
+ghost use Rattle.pl_cli.specs.Writes.{removes, stores, undoes};
+ghost use Rattle.pl_cli.specs.declared.command.Content.{Content};
 ghost use Rattle.pl_cli.specs.declared.command.Detail.{Detail};
+ghost use Rattle.pl_batch.specs.declared.run.Run.{Run};
 ghost use Rattle.pl_elf.specs.declared.range.Range.{Range};
 ghost use Rattle.pl_words.specs.declared.command.Policy.{Policy};
 
-/// No load, no order and no recipe means a want of memory, so no answer has the line of one. It does nothing.
-#[tactic(auto, using(crate::proofs::TellsLemmas::loaded_tells, crate::proofs::TellsLemmas::made_tells, crate::proofs::TellsLemmas::ordered_tells, crate::proofs::TellsLemmas::printed_tells))]
+/// No load, no order, no cache and no command that writes means a want of memory, so no answer has the line of one. It does nothing.
+#[tactic(auto, using(crate::proofs::TellsLemmas::loaded_tells, crate::proofs::TellsLemmas::ordered_tells, crate::proofs::TellsLemmas::printed_tells, crate::proofs::TellsLemmas::undone_tells, crate::proofs::TellsLemmas::removed_tells, crate::proofs::TellsLemmas::stored_tells))]
 pub fn causes_tell()
     ensures load { (policy : Policy) (busy : Option Range) (files : Files) (name : List ℕ) →
         Tells is_memory (loaded policy busy files name) }
     ensures order { (detail : Detail) (files : Files) (name : List ℕ) →
         Tells is_memory (ordered detail files name) }
     ensures print { (files : Files) → Tells is_memory (printed files) }
-    ensures make { (files : Files) (name input : List ℕ) →
-        Tells is_memory (made files name input) }
+    ensures undo { (run : Run) (files : Files) → Tells is_memory (undoes run files) }
+    ensures remove { (name : List ℕ) (files : Files) → Tells is_memory (removes name files) }
+    ensures store { (name : List ℕ) (kind : Content) (input : List ℕ) (files : Files) →
+        Tells is_memory (stores name kind input files) }
 {}

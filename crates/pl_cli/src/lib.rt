@@ -2,22 +2,23 @@
 #![tactic(auto)]
 
 mod cause;
+mod change;
 mod command;
 mod head;
 mod laws;
 mod load;
-mod make;
 mod named_object;
 mod order;
 mod print;
 mod refusals;
-mod room;
 mod status;
 mod stop;
+mod store;
 mod symbol_text;
 mod take;
 mod text;
 mod top;
+mod undone;
 mod walk;
 mod words;
 mod write;

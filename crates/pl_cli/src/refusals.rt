@@ -109,6 +109,7 @@ pub fn refusal(alloc: Global, cause: Cause) -> Result<Vec<u8>, AllocError>
 {
     match cause {
         Cause::BadName => bare(alloc, "BadName"),
+        Cause::BadJournal => bare(alloc, "BadJournal"),
         Cause::FileTooLarge(name) => named(alloc, "FileTooLarge", name),
         Cause::Load(fault) => load_refusal(alloc, fault),
         Cause::InputTooLarge => bare(alloc, "InputTooLarge"),

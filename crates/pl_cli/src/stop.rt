@@ -1,10 +1,11 @@
 ghost use Rattle.std.specs.Prelude.{◌≡◌};
 ghost use Rattle.pl_cli.specs.declared.stop.Stop.TheVariants as stops;
+ghost use Rattle.pl_cli.specs.Writes.{of_batch};
 
 use crate::cause::Cause;
+use pl_batch::BatchFault;
 use pl_build::RecipeFault;
 use pl_cache::CacheFault;
-use pl_folder::FolderFault;
 use pl_io::{NoMemory, ReadFault};
 use pl_loader::LoadFault;
 use pl_scope::WalkFault;
@@ -47,20 +48,6 @@ impl From<NoMemory> for Stop {
     }
 }
 
-/// A fault of a call that is given no file to take: it fails, or lacks memory.
-impl From<FolderFault> for Stop {
-    ghost use Rattle.pl_cli.specs.Stops.{of_fault};
-
-    ghost from_gives = { λ fault stop. stop ≡ of_fault fault };
-
-    fn from(fault: FolderFault) -> Stop {
-        match fault {
-            FolderFault::Failed | FolderFault::NotThere | FolderFault::TooLarge => Stop::Failed,
-            FolderFault::NoMemory => Stop::NoMemory,
-        }
-    }
-}
-
 impl From<LoadFault> for Stop {
     ghost use Rattle.pl_cli.specs.Stops.{of_load_fault};
 
@@ -82,6 +69,34 @@ impl From<WalkFault> for Stop {
 
     fn from(fault: WalkFault) -> Stop {
         Stop::from(LoadFault::from(fault))
+    }
+}
+
+/// A cause of a command that changes files.
+fn batch_cause(cause: pl_batch::Cause) -> Cause
+    ensures { result ≡ of_batch cause }
+{
+    match cause {
+        pl_batch::Cause::BadName => Cause::BadName,
+        pl_batch::Cause::BadJournal => Cause::BadJournal,
+        pl_batch::Cause::TooManyFiles => Cause::TooManyFiles,
+        pl_batch::Cause::NotThere(name) => Cause::Load(LoadFault::NotThere(name)),
+        pl_batch::Cause::FileTooLarge(name) => Cause::FileTooLarge(name),
+        pl_batch::Cause::BadMark(name) => Cause::Load(LoadFault::BadMark(name)),
+    }
+}
+
+impl From<BatchFault> for Stop {
+    ghost use Rattle.pl_cli.specs.Stops.{of_batch_fault};
+
+    ghost from_gives = { λ fault stop. stop ≡ of_batch_fault fault };
+
+    fn from(fault: BatchFault) -> Stop {
+        match fault {
+            BatchFault::DiskFailed => Stop::Failed,
+            BatchFault::NoMemory => Stop::NoMemory,
+            BatchFault::Cause(cause) => Stop::Cause(batch_cause(cause)),
+        }
     }
 }
 

@@ -2,15 +2,27 @@
 ghost use Rattle.std.specs.Prelude.{◌≡◌, IfOk, string_bytes};
 ghost use Rattle.pl_cli.specs.Answer as spec;
 
+use crate::command::Content;
 use std::alloc::{AllocError, Global};
 
 /// What is printed where the words are no command.
 pub const USAGE: &[u8] = b"usage: prelink MODE [OPTIONS] [NAME..]\n";
 
-/// The line of a file that was made.
-#[tactic(auto, unfolding(crate::specs::Answer::made_text))]
-pub fn made_text(alloc: Global, name: &str) -> Result<String, AllocError>
-    ensures { IfOk result (λ text. string_bytes text ≡ spec.made_text name.now) }
+/// The line of a file that was stored.
+#[tactic(auto, unfolding(crate::specs::Answer::stored_text))]
+pub fn stored_text(alloc: Global, kind: Content, name: &str) -> Result<String, AllocError>
+    ensures { IfOk result (λ text. string_bytes text ≡ spec.stored_text kind name.now) }
 {
-    format!(in alloc; "made {name}\n")
+    match kind {
+        Content::File => format!(in alloc; "installed {name}\n"),
+        Content::Recipe => format!(in alloc; "made {name}\n"),
+    }
+}
+
+/// The line of a file that was removed.
+#[tactic(auto, unfolding(crate::specs::Answer::removed_text))]
+pub fn removed_text(alloc: Global, name: &str) -> Result<String, AllocError>
+    ensures { IfOk result (λ text. string_bytes text ≡ spec.removed_text name.now) }
+{
+    format!(in alloc; "removed {name}\n")
 }

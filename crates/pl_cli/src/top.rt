@@ -2,11 +2,11 @@
 ghost use Rattle.std.specs.Prelude.{◌≡◌, Option, false, map, string_bytes};
 ghost use Rattle.pl_place.specs.Policy as policy;
 ghost use Rattle.pl_io.specs.Seen.{Input};
-ghost use Rattle.pl_folder.specs.Seen.{Seen};
+ghost use Rattle.pl_folder.specs.Seen.{IsFolder, Seen};
 ghost use Rattle.pl_words.specs.declared.command.Policy.{Policy};
 ghost use Rattle.pl_cli.specs.declared.command.Command as commands;
-ghost use Rattle.pl_cli.specs.Answer.{load_answer};
-ghost use Rattle.pl_cli.specs.Came.{Came};
+ghost use Rattle.pl_cli.specs.Answer.{done, load_answer, undone_text};
+ghost use Rattle.pl_cli.specs.Came.{Came, as_is};
 ghost use Rattle.pl_cli.specs.Files.{Unasked};
 ghost use Rattle.pl_cli.specs.Load.{MayStart, choice, start_by};
 ghost use Rattle.pl_cli.specs.Outside.{is_write_fault, outside};
@@ -14,17 +14,20 @@ ghost use Rattle.pl_cli.specs.Ran.{Finishes, Ran, RanLoad, Refuses, Writes};
 ghost use Rattle.pl_cli.specs.Words.{asks_folder, command, reads_input};
 
 use crate::Status;
+use crate::change::{remove, undo};
 use crate::command::Command;
 use crate::load::{load, start};
-use crate::make::make;
 use crate::order::order;
 use crate::print::print;
 use crate::refusals::refusal;
 use crate::stop::Stop;
+use crate::store::store;
 use crate::text::USAGE;
+use crate::undone::undone_line;
 use crate::words::read_words;
 use crate::write::write_start;
 use crate::write_stop::WriteStop;
+use pl_batch::Run;
 use pl_elf::Range;
 use pl_folder::Folder;
 use pl_io::{Sink, Source, write_all};
@@ -62,12 +65,32 @@ fn refuse<K: Sink>(alloc: Global, stop: Stop, output: &mut K) -> Status
 
 /// Writes the text that a command came to and ends so, or ends with its stop.
 fn end_with<K: Sink>(alloc: Global, came: Result<Vec<u8>, Stop>, output: &mut K) -> Status
-    ensures { (asked : Option commands.Command) (a b : Seen) (left rest : Input) →
-        Came asked came a b left rest →
+    ensures { (asked : Option commands.Command) (a b : Seen) (left rest : Input) → IsFolder a →
+        Came asked as_is came a b left rest →
         Ran asked (outside a left (K.seen output.old)) (outside b rest (K.seen output.new)) result }
 {
     match came {
         Ok(text) => finish(output, &text, Status::Done),
+        Err(stop) => refuse(alloc, stop, output),
+    }
+}
+
+/// Writes how many files were undone, for which it takes no memory.
+fn finish_undone<K: Sink>(output: &mut K, count: usize) -> Status
+    ensures { Finishes (done (undone_text count)) result (K.seen output.old) (K.seen output.new) }
+{
+    let text = undone_line(count);
+    finish(output, text.as_slice(), Status::Done)
+}
+
+/// Writes how many files a command undid and ends so, or ends with its stop.
+fn end_undone<K: Sink>(alloc: Global, came: Result<usize, Stop>, output: &mut K) -> Status
+    ensures { (asked : Option commands.Command) (a b : Seen) (left rest : Input) → IsFolder a →
+        Came asked undone_text came a b left rest →
+        Ran asked (outside a left (K.seen output.old)) (outside b rest (K.seen output.new)) result }
+{
+    match came {
+        Ok(count) => finish_undone(output, count),
         Err(stop) => refuse(alloc, stop, output),
     }
 }
@@ -152,7 +175,11 @@ fn load_and_write<D: Folder, K: Sink>(
 
 /// Does what the words after the program's name ask for.
 ///
-/// The answer is a definition over the words, the folder's files and the bytes of the input: a status and a text for the output. `Done`, `Differs`, `Usage` and `Refused` come only with the whole of it. A fault comes only where the count of its object rose: `ReadFault` and `DiskFault` before anything was written, `WriteFault` after some first bytes of the text. `NoMemory` may come at any time before anything was written. After `Refused` and `ReadFault` all files are those before; after `NoMemory` all but a new file without its name; after `DiskFault` either these or all that the answer says. A count of faults rises only where the status is the fault of its object. Only `--make` reads the input and writes to the folder. Words that are no command, and a name that is not valid, ask neither folder nor input.
+/// The answer is a definition over the words, the folder's files and the bytes of the input: a status and a text for the output. `Done`, `Differs`, `Usage` and `Refused` come only with the whole of it. A fault comes only where the count of its object rose: `ReadFault` and `DiskFault` before anything was written, `WriteFault` after some first bytes of the text. `NoMemory` may come at any time before anything was written. A count of faults rises only where the status is the fault of its object.
+///
+/// `-u`, `--install`, `--make` and `--remove` write to the folder, and no other command does. Each recovers it first, and then makes all of its changes or none. After `Done` the only image of the folder is the one with the changes; after `Refused` and `ReadFault` the recovered one; after `WriteFault` the one or the other, as the answer has it. After `DiskFault` and `NoMemory` the folder stands for the files before, after `DiskFault` perhaps for those with all changes. An image that a crash on the way leaves stands for the files before or for those after; until the first settle that is done it may be one of the images at the start.
+///
+/// Only `--install` and `--make` read the input. Words that are no command, and a name of another command that is not valid, ask neither folder nor input.
 pub fn run<D: Folder, S: Source, K: Sink>(
     alloc: Global,
     words: &[String],
@@ -174,9 +201,22 @@ pub fn run<D: Folder, S: Source, K: Sink>(
         Ok(Command::Load { name, busy, policy }) => {
             load_and_write(alloc, folder, output, name.as_str(), busy, policy)
         }
-        Ok(Command::Make { name }) => {
-            let made = make(alloc, name.as_str(), folder, input);
-            end_with(alloc, made, output)
+        Ok(Command::UndoAll) => {
+            let undone = undo(alloc, folder, &Run::UndoAll);
+            end_undone(alloc, undone, output)
+        }
+        Ok(Command::Undo { names }) => {
+            let run = Run::Undo { names };
+            let undone = undo(alloc, folder, &run);
+            end_undone(alloc, undone, output)
+        }
+        Ok(Command::Store { name, content }) => {
+            let stored = store(alloc, name.as_str(), content, folder, input);
+            end_with(alloc, stored, output)
+        }
+        Ok(Command::Remove { name }) => {
+            let removed = remove(alloc, folder, name.as_str());
+            end_with(alloc, removed, output)
         }
         Ok(Command::Print) => {
             let printed = print(alloc, folder);

@@ -1,7 +1,7 @@
 ghost use Rattle.std.specs.Prelude.{◌≡◌, map, string_bytes};
 ghost use Rattle.pl_cli.specs.Words as spec;
 
-use crate::command::{Command, Detail};
+use crate::command::{Command, Content, Detail};
 use pl_words::WordsFault;
 use std::alloc::Global;
 
@@ -13,7 +13,17 @@ fn there(command: pl_words::Command) -> Option<Command>
         pl_words::Command::Load { name, busy, policy } => {
             Some(Command::Load { name, busy, policy })
         }
-        pl_words::Command::Make { name } => Some(Command::Make { name }),
+        pl_words::Command::UndoAll => Some(Command::UndoAll),
+        pl_words::Command::Undo { names } => Some(Command::Undo { names }),
+        pl_words::Command::Install { name } => Some(Command::Store {
+            name,
+            content: Content::File,
+        }),
+        pl_words::Command::Make { name } => Some(Command::Store {
+            name,
+            content: Content::Recipe,
+        }),
+        pl_words::Command::Remove { name } => Some(Command::Remove { name }),
         pl_words::Command::Print => Some(Command::Print),
         pl_words::Command::Order { name, verbose } => {
             let detail = if verbose { Detail::Full } else { Detail::Short };

@@ -11,3 +11,5 @@ mod loading;
 mod making;
 #[cfg(test)]
 mod running;
+#[cfg(test)]
+mod writing;

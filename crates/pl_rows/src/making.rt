@@ -1,11 +1,11 @@
-// Runs of `--make`, each followed by `--load` of the same name over the same folder.
+// Runs of `--make`, each followed by `--load` of the same name over the same folder, which is recovered first where the run failed.
 use crate::running::{Faults, NONE, folder_of, run_over};
 use pl_cli::Status;
 use std::alloc::Global;
 use std::process::Abort;
 use std::test::Fail;
 
-/// How a run of `--make` ended and what it wrote, and what `--load` wrote then.
+/// How a run of `--make` ended and what it wrote, and what `--load` writes once the folder is recovered.
 #[derive(Drop)]
 struct Made {
     status: Status,
@@ -32,6 +32,9 @@ fn make(
     let alloc: Global = rt.alloc();
     let mut folder = folder_of(rt, files, faults)?;
     let made = run_over(alloc, &mut folder, &["--make", name], recipe, faults)?;
+    if made.status == Status::DiskFault {
+        let _recovered = run_over(alloc, &mut folder, &["-u", "-a"], b"", NONE)?;
+    }
     let loaded = run_over(alloc, &mut folder, &["--load", name], b"", NONE)?;
     Ok(Made {
         status: made.status,
@@ -51,30 +54,23 @@ end
 
 const NOT_THERE: &[u8] = b"refused NotThere st\n";
 
-// Files that are there before, calls of the folder, the input and the output that fail, how the run ends, and what is loaded then: the file is new, or takes the place of one; then each call of the folder in turn, of which the last one settles the names; each of the input, and that of the output.
-const RUNS: [(&[&str], [&[u64]; 3], Status, &[u8]); 11] = [
-    (&[], [&[], &[], &[]], Status::Done, LOADED),
-    (&["st", "x"], [&[], &[], &[]], Status::Done, LOADED),
-    (&[], [&[0], &[], &[]], Status::DiskFault, NOT_THERE),
-    (&[], [&[1], &[], &[]], Status::DiskFault, NOT_THERE),
-    (&[], [&[2], &[], &[]], Status::DiskFault, NOT_THERE),
-    (&[], [&[3], &[], &[]], Status::DiskFault, NOT_THERE),
-    (&[], [&[4], &[], &[]], Status::DiskFault, NOT_THERE),
-    (&[], [&[5], &[], &[]], Status::DiskFault, LOADED),
-    (&[], [&[], &[0], &[]], Status::ReadFault, NOT_THERE),
-    (&[], [&[], &[1], &[]], Status::ReadFault, NOT_THERE),
-    (&[], [&[], &[], &[0]], Status::WriteFault, LOADED),
+// Files that are there before, calls of the input and the output that fail, how the run ends, and what is loaded then: the file is new, or takes the place of one; then each call of the input in turn, and that of the output.
+const RUNS: [(&[&str], [&[u64]; 2], Status, &[u8]); 5] = [
+    (&[], [&[], &[]], Status::Done, LOADED),
+    (&["st", "x"], [&[], &[]], Status::Done, LOADED),
+    (&[], [&[0], &[]], Status::ReadFault, NOT_THERE),
+    (&[], [&[1], &[]], Status::ReadFault, NOT_THERE),
+    (&[], [&[], &[0]], Status::WriteFault, LOADED),
 ];
 
 #[test]
 fn makes_a_static_program(rt: HostRuntime) -> Result<(), Fail> {
     let alloc = rt.alloc();
-    for (names, [folder, input, output], want, loaded) in RUNS {
+    for (names, [input, output], want, loaded) in RUNS {
         let faults = Faults {
-            folder,
             input,
             output,
-            most: 4096,
+            ..NONE
         };
         let made = make(&rt, "st", STATIC, &empty_files(alloc, names)?, faults)?;
         let text = if want == Status::Done {
@@ -87,6 +83,32 @@ fn makes_a_static_program(rt: HostRuntime) -> Result<(), Fail> {
         assert_eq!(rt; made.loaded.as_slice(), loaded);
     }
     Ok(())
+}
+
+// Each call of the folder fails in turn, until a run makes no call of that number.
+#[test]
+fn makes_a_file_or_none(rt: HostRuntime) -> Result<(), Fail> {
+    let alloc = rt.alloc();
+    let mut was_stored = false;
+    for call in 0..60_u64 {
+        let calls = [call];
+        let faults = Faults {
+            folder: &calls,
+            ..NONE
+        };
+        let made = make(&rt, "st", STATIC, &empty_files(alloc, &[])?, faults)?;
+        if made.status == Status::Done {
+            assert!(rt; was_stored);
+            return Ok(());
+        }
+        assert_eq!(rt; made.status, Status::DiskFault);
+        assert!(rt; made.text.is_empty());
+        let is_stored = made.loaded.as_slice() == LOADED;
+        assert!(rt; is_stored || made.loaded.as_slice() == NOT_THERE);
+        assert!(rt; is_stored || !was_stored);
+        was_stored = is_stored;
+    }
+    Err("a run that does not fail".into())
 }
 
 /// Makes a file, and compares what is written.

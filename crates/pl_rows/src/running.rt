@@ -39,7 +39,7 @@ pub fn folder_of(
 ) -> Result<MemoryFolder, Fail> {
     let alloc: Global = rt.alloc();
     assert!(rt; are_files(files));
-    Ok(MemoryFolder::new(alloc, files, faults.folder.to_vec(alloc)?, 100)?)
+    Ok(MemoryFolder::new(alloc, files, faults.folder.to_vec(alloc)?, 1000)?)
 }
 
 /// A run of these words over a folder and an input.

@@ -1,5 +1,6 @@
 use Rattle.std.proofs.Common.{Some}
 use Rattle.pl_cli.specs.declared.command.Command.TheVariants.{Load}
+use Rattle.pl_cli.specs.Came.{as_is}
 use Rattle.pl_cli.specs.Load.{choice}
 use Rattle.pl_cli.proofs.RunLemmas.{ran_loaded, ran_stopped, unloaded}
 use Rattle.pl_cli.proofs.top.load_placed.Goals as goal
@@ -11,4 +12,4 @@ returns-in-Ok-clause-ran g c = λ asked follows input.
 
 pub returns-in-Err-clause-ran : goal.returns-in-Err-clause-ran
 returns-in-Err-clause-ran g c = λ asked follows input.
-    ran_stopped (Some (Load c.args.name.now c.args.busy asked)) c.in-Err.stop c.refuse.result (unloaded c.args.name.now c.args.busy asked input c.in-Err.stop c.in-Err.ensures.loaded) c.refuse.ensures
+    ran_stopped (Some (Load c.args.name.now c.args.busy asked)) as_is (g.met.D.Folder.is_folder c.args.folder.now) c.in-Err.stop c.refuse.result (unloaded c.args.name.now c.args.busy asked input c.in-Err.stop c.in-Err.ensures.loaded) c.refuse.ensures

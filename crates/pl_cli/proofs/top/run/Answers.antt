@@ -1,10 +1,11 @@
 use Rattle.std.proofs.Common.{◌≡◌, Option, Some, None, map, string_bytes, sym, subst, rules}
 use Rattle.pl_cli.specs.declared.command.Command.{Command}
-use Rattle.pl_cli.specs.declared.command.Command.TheVariants.{Load, Make, Order, Print}
+use Rattle.pl_cli.specs.declared.command.Command.TheVariants.{Load, Order, Print, Remove, Store, Undo, UndoAll}
 use Rattle.pl_cli.specs.Outside.{outside}
 use Rattle.pl_cli.specs.Ran.{Ran}
 use Rattle.pl_cli.specs.Words.{command}
-use Rattle.pl_cli.proofs.RunLemmas.{came_ordered, came_printed, ran_usage}
+use Rattle.pl_cli.proofs.RunLemmas.{came_ordered, came_printed, ran_lacking, ran_usage}
+use Rattle.pl_cli.proofs.WriteLemmas.{came_removed, came_stored, came_undone, came_undone_all}
 use Rattle.pl_cli.proofs.top.run.Goals as goal
 
 pub returns-in-Ok-Load-clause-ran : goal.returns-in-Ok-Load-clause-ran
@@ -17,15 +18,49 @@ returns-in-Ok-Load-clause-ran g c =
     (sym is)
     (c.load_and_write.ensures.ran (input c.args.input.now))
 
-pub returns-in-Ok-Make-clause-ran : goal.returns-in-Ok-Make-clause-ran
-returns-in-Ok-Make-clause-ran g c =
+pub returns-in-Ok-UndoAll-clause-ran : goal.returns-in-Ok-UndoAll-clause-ran
+returns-in-Ok-UndoAll-clause-ran g c =
     let folder = g.D.Folder.seen in
     let input = g.S.Source.seen in
     let output = g.K.Sink.seen in
-    let is : command (map string_bytes c.args.words.now) ≡ Some (Make c.as_str-in-Ok-Make.result.now) = search rules in
-    subst (λ (asked : Option Command). Ran asked (outside (folder c.args.folder.now) (input c.args.input.now) (output c.args.output.now)) (outside (folder c.make-made.new.folder) (input c.make-made.new.input) (output c.end_with.new.output)) c.end_with.result)
+    let is : command (map string_bytes c.args.words.now) ≡ Some UndoAll = search rules in
+    subst (λ (asked : Option Command). Ran asked (outside (folder c.args.folder.now) (input c.args.input.now) (output c.args.output.now)) (outside (folder c.undo-undone.new.folder) (input c.args.input.now) (output c.end_undone.new.output)) c.end_undone.result)
     (sym is)
-    (c.end_with.ensures (Some (Make c.as_str-in-Ok-Make.result.now)) (folder c.args.folder.now) (folder c.make-made.new.folder) (input c.args.input.now) (input c.make-made.new.input) c.make-made.ensures.came)
+    (c.end_undone.ensures (Some UndoAll) (folder c.args.folder.now) (folder c.undo-undone.new.folder) (input c.args.input.now) (input c.args.input.now) (g.met.D.Folder.is_folder c.args.folder.now)
+    (came_undone_all (input c.args.input.now) c.undo-undone.result c.undo-undone.ensures))
+
+pub returns-in-Ok-Undo-clause-ran : goal.returns-in-Ok-Undo-clause-ran
+returns-in-Ok-Undo-clause-ran g c =
+    let folder = g.D.Folder.seen in
+    let input = g.S.Source.seen in
+    let output = g.K.Sink.seen in
+    let is : command (map string_bytes c.args.words.now) ≡ Some (Undo c.in-Ok-Undo.names) = search rules in
+    subst (λ (asked : Option Command). Ran asked (outside (folder c.args.folder.now) (input c.args.input.now) (output c.args.output.now)) (outside (folder c.undo-undone-in-Ok-Undo.new.folder) (input c.args.input.now) (output c.end_undone-in-Ok-Undo.new.output)) c.end_undone-in-Ok-Undo.result)
+    (sym is)
+    (c.end_undone-in-Ok-Undo.ensures (Some (Undo c.in-Ok-Undo.names)) (folder c.args.folder.now) (folder c.undo-undone-in-Ok-Undo.new.folder) (input c.args.input.now) (input c.args.input.now) (g.met.D.Folder.is_folder c.args.folder.now)
+    (came_undone c.in-Ok-Undo.names (input c.args.input.now) c.undo-undone-in-Ok-Undo.result c.undo-undone-in-Ok-Undo.ensures))
+
+pub returns-in-Ok-Store-clause-ran : goal.returns-in-Ok-Store-clause-ran
+returns-in-Ok-Store-clause-ran g c =
+    let folder = g.D.Folder.seen in
+    let input = g.S.Source.seen in
+    let output = g.K.Sink.seen in
+    let is : command (map string_bytes c.args.words.now) ≡ Some (Store c.as_str-in-Ok-Store.result.now c.in-Ok-Store.content) = search rules in
+    subst (λ (asked : Option Command). Ran asked (outside (folder c.args.folder.now) (input c.args.input.now) (output c.args.output.now)) (outside (folder c.store-stored.new.folder) (input c.store-stored.new.input) (output c.end_with.new.output)) c.end_with.result)
+    (sym is)
+    (c.end_with.ensures (Some (Store c.as_str-in-Ok-Store.result.now c.in-Ok-Store.content)) (folder c.args.folder.now) (folder c.store-stored.new.folder) (input c.args.input.now) (input c.store-stored.new.input) (g.met.D.Folder.is_folder c.args.folder.now)
+    (came_stored c.as_str-in-Ok-Store.result.now c.in-Ok-Store.content c.store-stored.result c.store-stored.ensures.stored))
+
+pub returns-in-Ok-Remove-clause-ran : goal.returns-in-Ok-Remove-clause-ran
+returns-in-Ok-Remove-clause-ran g c =
+    let folder = g.D.Folder.seen in
+    let input = g.S.Source.seen in
+    let output = g.K.Sink.seen in
+    let is : command (map string_bytes c.args.words.now) ≡ Some (Remove c.as_str-in-Ok-Remove.result.now) = search rules in
+    subst (λ (asked : Option Command). Ran asked (outside (folder c.args.folder.now) (input c.args.input.now) (output c.args.output.now)) (outside (folder c.remove-removed.new.folder) (input c.args.input.now) (output c.end_with-in-Ok-Remove.new.output)) c.end_with-in-Ok-Remove.result)
+    (sym is)
+    (c.end_with-in-Ok-Remove.ensures (Some (Remove c.as_str-in-Ok-Remove.result.now)) (folder c.args.folder.now) (folder c.remove-removed.new.folder) (input c.args.input.now) (input c.args.input.now) (g.met.D.Folder.is_folder c.args.folder.now)
+    (came_removed c.as_str-in-Ok-Remove.result.now (input c.args.input.now) c.remove-removed.result c.remove-removed.ensures))
 
 pub returns-in-Ok-Print-clause-ran : goal.returns-in-Ok-Print-clause-ran
 returns-in-Ok-Print-clause-ran g c =
@@ -35,7 +70,7 @@ returns-in-Ok-Print-clause-ran g c =
     let is : command (map string_bytes c.args.words.now) ≡ Some Print = search rules in
     subst (λ (asked : Option Command). Ran asked (outside (folder c.args.folder.now) (input c.args.input.now) (output c.args.output.now)) (outside (folder c.print-printed.new.folder) (input c.args.input.now) (output c.end_with-in-Ok-Print.new.output)) c.end_with-in-Ok-Print.result)
     (sym is)
-    (c.end_with-in-Ok-Print.ensures (Some Print) (folder c.args.folder.now) (folder c.print-printed.new.folder) (input c.args.input.now) (input c.args.input.now) (came_printed (input c.args.input.now) c.print-printed.result c.print-printed.ensures))
+    (c.end_with-in-Ok-Print.ensures (Some Print) (folder c.args.folder.now) (folder c.print-printed.new.folder) (input c.args.input.now) (input c.args.input.now) (g.met.D.Folder.is_folder c.args.folder.now) (came_printed (input c.args.input.now) c.print-printed.result c.print-printed.ensures))
 
 pub returns-in-Ok-Order-clause-ran : goal.returns-in-Ok-Order-clause-ran
 returns-in-Ok-Order-clause-ran g c =
@@ -45,7 +80,7 @@ returns-in-Ok-Order-clause-ran g c =
     let is : command (map string_bytes c.args.words.now) ≡ Some (Order c.as_str-in-Ok-Order.result.now c.in-Ok-Order.detail) = search rules in
     subst (λ (asked : Option Command). Ran asked (outside (folder c.args.folder.now) (input c.args.input.now) (output c.args.output.now)) (outside (folder c.order-ordered.new.folder) (input c.args.input.now) (output c.end_with-in-Ok-Order.new.output)) c.end_with-in-Ok-Order.result)
     (sym is)
-    (c.end_with-in-Ok-Order.ensures (Some (Order c.as_str-in-Ok-Order.result.now c.in-Ok-Order.detail)) (folder c.args.folder.now) (folder c.order-ordered.new.folder) (input c.args.input.now) (input c.args.input.now)
+    (c.end_with-in-Ok-Order.ensures (Some (Order c.as_str-in-Ok-Order.result.now c.in-Ok-Order.detail)) (folder c.args.folder.now) (folder c.order-ordered.new.folder) (input c.args.input.now) (input c.args.input.now) (g.met.D.Folder.is_folder c.args.folder.now)
     (came_ordered c.as_str-in-Ok-Order.result.now c.in-Ok-Order.detail (input c.args.input.now) c.order-ordered.result c.order-ordered.ensures.ordered))
 
 pub returns-in-Err-Usage-clause-ran : goal.returns-in-Err-Usage-clause-ran
@@ -57,3 +92,6 @@ returns-in-Err-Usage-clause-ran g c =
     subst (λ (asked : Option Command). Ran asked (outside (folder c.args.folder.now) (input c.args.input.now) (output c.args.output.now)) (outside (folder c.args.folder.now) (input c.args.input.now) (output c.finish.new.output)) c.finish.result)
     (sym is)
     (ran_usage (folder c.args.folder.now) (input c.args.input.now) c.finish.result c.finish.ensures)
+
+pub returns-in-Err-NoMemory-clause-ran : goal.returns-in-Err-NoMemory-clause-ran
+returns-in-Err-NoMemory-clause-ran g c = ran_lacking (command (map string_bytes c.args.words.now)) (g.D.Folder.seen c.args.folder.now) (g.S.Source.seen c.args.input.now) (g.K.Sink.seen c.args.output.now)
