@@ -285,7 +285,7 @@ fn built(alloc: Global, recipe: &str) -> Result<Rows<u8>, RecipeFault> {
 }
 
 /// Bytes in hexadecimal.
-pub fn hex(alloc: Global, bytes: &[u8]) -> Result<Vec<u8>, AllocError> {
+fn hex(alloc: Global, bytes: &[u8]) -> Result<Vec<u8>, AllocError> {
     let mut text = Vec::new(alloc);
     for byte in bytes {
         text.push(hex_digit(*byte / 16))?;

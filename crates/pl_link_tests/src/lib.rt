@@ -1,18 +1,12 @@
-//! Tests of recipes, acceptance, forms, marked files, look-up, values and images by the public calls of their crates.
+//! Tests of recipes, acceptance, look-up, orders of initialisation, values and images by the public calls of their crates.
 #![tactic(auto)]
 
 #[cfg(test)]
 mod build;
 #[cfg(test)]
-mod firm;
-#[cfg(test)]
-mod forms;
-#[cfg(test)]
 mod image;
 #[cfg(test)]
 mod init;
-#[cfg(test)]
-mod marked;
 #[cfg(test)]
 mod object;
 #[cfg(test)]
@@ -21,7 +15,5 @@ mod samples;
 mod scope;
 #[cfg(test)]
 mod value;
-#[cfg(test)]
-mod walked;
 #[cfg(test)]
 mod wide;
