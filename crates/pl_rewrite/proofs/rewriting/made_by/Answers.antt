@@ -1,0 +1,16 @@
+use Rattle.std.proofs.Common.{List, sym, subst}
+use Rattle.pl_cone.specs.declared.known.Known.{Known}
+use Rattle.pl_known.specs.Laws.{Knows}
+use Rattle.pl_known.specs.Taken.{files_in, names_of}
+use Rattle.pl_rewrite.proofs.PlanLaws.{plan_names}
+use Rattle.pl_rewrite.proofs.rewriting.made_by.Goals as goal
+
+pub all_made-requires : goal.all_made-requires
+all_made-requires c =
+    let n = plan_names (files_in c.args.files.now) (names_of c.args.files.now) c.args.asked.now c.args.planned.now c.requires.planned in
+    record {
+      taken = c.requires.taken;
+      knows = subst (λ (ks : List Known). Knows c.args.asked.now.region (files_in c.args.files.now) ks) (sym c.as_slice.ensures) (c.in_ok-known.ensures.knows c.args.asked.now.region c.requires.taken);
+      standings = n.standings;
+      stale = n.stale;
+    }

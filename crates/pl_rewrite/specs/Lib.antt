@@ -1,0 +1,5 @@
+pub mod Changes
+pub mod Reports
+pub mod Rewriting
+pub mod Members
+pub mod Laws

@@ -1,0 +1,143 @@
+-- What a run goes by, and the members of a walk as it prelinks them.
+use Rattle.std.specs.Prelude.{◌≡◌, ℕ, Bool, true, false, ◌&&◌, List, find, map, Option, Some, None, Result, Ok, Err, is_some, if◌then◌else◌}
+use Rattle.std.specs.List.{All, list_any}
+use Rattle.std.specs.Str.{bytes_eq}
+use Rattle.pl_conflict.specs.Format.{format}
+use Rattle.pl_conflict.specs.Prelinked.{Firm}
+use Rattle.pl_cone.specs.declared.skip.Skip.{Skip}
+use Rattle.pl_form.specs.Files.{marked_in, original_in}
+use Rattle.pl_form.specs.declared.file.Entry.{Entry}
+use Rattle.pl_form.specs.declared.file.Entry.TheVariants.{There, BadMark, Refused}
+use Rattle.pl_form.specs.declared.file.File.TheVariants as files
+use Rattle.pl_form.specs.declared.file.File.TheVariants.{Plain}
+use Rattle.pl_form.specs.declared.file.Marked.{Marked}
+use Rattle.pl_elf.specs.Kinds.{is_library}
+use Rattle.pl_known.specs.Laws.{Knows}
+use Rattle.pl_known.specs.Plans.{is_candidate, is_stale, stale, standings}
+use Rattle.pl_known.specs.Skips.{skip_causes}
+use Rattle.pl_known.specs.Taken.{AreTaken, entry_in, files_in, names_of}
+use Rattle.pl_known.specs.declared.taken.Taken.{Taken}
+use Rattle.pl_object.specs.declared.object.Object.{Object}
+use Rattle.pl_plan.specs.declared.planned.Planned.{Planned}
+use Rattle.pl_plan.specs.declared.standing.Standing.{Standing}
+use Rattle.pl_scope.specs.Walk.{Walked}
+use Rattle.pl_scope.specs.declared.member.Member.{Member}
+use Rattle.pl_sound.specs.Plan.{Plan, planned_member}
+use Rattle.pl_sound.specs.Rule.{Files, objects}
+use Rattle.pl_rewrite.specs.Changes as changes
+use Rattle.pl_rewrite.specs.Reports as reports
+use Rattle.pl_rewrite.specs.declared.making.Made.{Made}
+use Rattle.pl_rewrite.specs.declared.report.RowState.TheVariants.{Skipped}
+use Rattle.pl_rewrite.specs.declared.running.Run.{Run}
+
+-- ---- a run
+
+-- the files of a run, as a folder has them
+abbrev pub files_of : Run → Files
+files_of run = files_in run.files.now
+
+abbrev pub plan_of : Run → Planned
+plan_of run = run.planned.now
+
+-- the files are as they were taken, what is known of them is theirs, and the plan is of them
+pub record IsRun (run : Run) : Type 0 where
+  pub taken : AreTaken run.region run.files.now
+  pub knows : Knows run.region (files_of run) run.known.now
+  pub standings : run.planned.now.standings ≡ standings (files_of run) run.region (names_of run.files.now)
+  pub stale : run.planned.now.stale ≡ stale (files_of run) run.region run.planned.now.slots (names_of run.files.now)
+
+abbrev pub IsCandidate : Run → List ℕ → Type 0
+IsCandidate run n = is_candidate (files_of run) run.region n ≡ true
+
+abbrev pub HasCause : Run → List ℕ → Type 0
+HasCause run n = is_candidate (files_of run) run.region n ≡ false
+
+abbrev pub IsStale : Run → List ℕ → Type 0
+IsStale run n = is_stale (files_of run) run.region (plan_of run).slots n ≡ true
+
+-- the slots and stamps that names get
+abbrev pub numbers_of : Run → Plan
+numbers_of run = changes.numbers (files_of run) run.region (plan_of run)
+
+-- a candidate's file, prelinked by the plan
+abbrev pub prelinked : Run → List ℕ → Option (List ℕ)
+prelinked run n = changes.prelinked (files_of run) run.region (plan_of run) n
+
+-- ---- its files
+
+-- the file of a name
+abbrev pub found : List Taken → List ℕ → Option Taken
+found files n = find (λ t. bytes_eq t.name n) files
+
+-- it is the file of its name
+abbrev pub IsFound : Run → Taken → Type 0
+IsFound run t = found run.files.now t.name ≡ Some t
+
+-- what is told of it is what its bytes are
+abbrev pub IsRead : Taken → Type 0
+IsRead t = t.entry ≡ entry_in t.bytes
+
+-- all that was read of a file, if it is prelinked
+abbrev pub marked_by : Entry → Option Marked
+marked_by (There (Plain x)) = None
+marked_by (There (files.Marked m)) = Some m
+marked_by BadMark = None
+marked_by (Refused number argument) = None
+
+-- a name has a cause why it is not prelinked
+abbrev pub has_cause : List ℕ → Standing → Bool
+has_cause n s = bytes_eq s.name n && is_some s.cause
+
+abbrev pub is_skipped : List Standing → List ℕ → Bool
+is_skipped rows n = list_any (has_cause n) rows
+
+-- ---- the members of a walk
+
+-- a walk that is not refused
+abbrev pub walk_told : Result Walked Skip → Option Walked
+walk_told (Ok ws) = Some ws
+walk_told (Err e) = None
+
+-- a candidate with the object of its original
+pub record IsMember (run : Run) (m : List ℕ × Object) : Type 0 where
+  pub object : objects (format skip_causes) (files_of run) m.0 ≡ Ok m.1
+  pub candidate : IsCandidate run m.0
+
+-- its slot and stamp
+abbrev pub numbers_for : Run → List ℕ → Object → ℕ × ℕ
+numbers_for run n o = if is_library o.kind then ((numbers_of run).slot n, (numbers_of run).stamp n) else (0, 0)
+
+-- with what it has or gets
+abbrev pub planned_firm : Run → (List ℕ × Object) → Firm
+planned_firm run m = record { member = planned_member (format skip_causes) (files_of run) (numbers_of run) m.0; object = m.1 }
+
+-- the same of a member of a scope
+abbrev pub source : Run → Member → Firm
+source run m = planned_firm run (m.name, m.object.now)
+
+abbrev pub AreMembers : Run → List Member → Type 0
+AreMembers run ms = All (λ m. IsMember run (m.name, m.object.now)) ms
+
+abbrev pub planned_firms : Run → Walked → List Firm
+planned_firms run walked = map (planned_firm run) walked
+
+-- ---- what a run makes of a name
+
+abbrev pub made : Run → List ℕ → Made
+made run n = record {
+  change = changes.change (files_of run) run.region (plan_of run) n;
+  state = reports.state_after (files_of run) run.region (plan_of run) n;
+  given = changes.is_given (files_of run) run.region (plan_of run) n;
+}
+
+-- of a file that gets its original, for a cause
+abbrev pub made_original : Taken → Skip → Made
+made_original t cause = record { change = changes.put (Some t.bytes) t.name (Some (original_in t.bytes)); state = Skipped cause; given = false }
+
+-- of one that is prelinked anew
+abbrev pub made_new : Taken → List ℕ → Made
+made_new t file = record { change = changes.put (Some t.bytes) t.name (Some file); state = reports.state_in t.name false (marked_in file); given = true }
+
+-- of one that stays
+abbrev pub made_current : Taken → Made
+made_current t = record { change = None; state = reports.state_in t.name true (marked_in t.bytes); given = false }

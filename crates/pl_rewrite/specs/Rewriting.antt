@@ -1,0 +1,42 @@
+-- A whole run: what it changes, the cache that it leaves, and what it reports.
+use Rattle.std.specs.Prelude.{ℕ, ◌||◌, List, [], ◌∷◌, ◌++◌, map, Result, Ok}
+use Rattle.std.specs.List.{cons_option, list_any}
+use Rattle.pl_base.specs.Answers.{◌>>=◌}
+use Rattle.pl_known.specs.Plans.{planned}
+use Rattle.pl_plan.specs.declared.asked.Asked.{Asked}
+use Rattle.pl_plan.specs.declared.fault.PlanningFault.{PlanningFault}
+use Rattle.pl_plan.specs.declared.planned.Planned.{Planned}
+use Rattle.pl_sound.specs.Rule.{Files}
+use Rattle.pl_elf.specs.declared.range.Range.{Range}
+use Rattle.pl_rewrite.specs.Changes.{changes, is_given, next_cache}
+use Rattle.pl_rewrite.specs.Reports.{report, row_of}
+use Rattle.pl_rewrite.specs.declared.making.AllMade.{AllMade}
+use Rattle.pl_rewrite.specs.declared.making.Made.{Made}
+use Rattle.pl_rewrite.specs.declared.rewriting.Rewritten.{Rewritten}
+
+abbrev pub rewritten : Files → List (List ℕ) → Asked → Planned → Rewritten
+rewritten files ns a p = record {
+  rows = changes files ns a.region p;
+  cache = next_cache files ns a.region a.last p;
+  report = report files ns a.region p;
+}
+
+-- by the plan, or the first cause why there is none
+unfoldable pub rewrite : Files → List (List ℕ) → Asked → Result Rewritten PlanningFault
+rewrite files ns a = planned files ns a >>= λ p. Ok (rewritten files ns a p)
+
+-- what a run makes of all files, beside its cache
+abbrev pub all_made : Files → List (List ℕ) → Range → Planned → AllMade
+all_made files ns region p = record {
+  rows = changes files ns region p;
+  states = map (row_of files region p) ns;
+  given = list_any (is_given files region p) ns;
+}
+
+-- with one name more
+abbrev pub with_made : AllMade → List ℕ → Made → AllMade
+with_made all n made = record {
+  rows = all.rows ++ cons_option made.change [];
+  states = all.states ++ record { name = n; state = made.state } ∷ [];
+  given = all.given || made.given;
+}

@@ -1,0 +1,56 @@
+// The prelinked file of a name that may be prelinked.
+ghost use Rattle.std.specs.Prelude.{◌≡◌, Ok, IfOk};
+ghost use Rattle.std.specs.Option.{option_map};
+ghost use Rattle.pl_cone.specs.Candidates as cone;
+ghost use Rattle.pl_rewrite.specs.Members as spec;
+
+use crate::running::Run;
+use crate::sources::sources_of;
+use pl_cone::{Skip, walk_in};
+use pl_io::NoMemory;
+use pl_prelinked::prelink;
+use pl_scope::Scope;
+use std::alloc::Global;
+
+/// The file of a name with this walk, by the plan of the run.
+fn prelinked_by<'a>(
+    alloc: Global,
+    run: &Run<'a>,
+    name: &str,
+    scope: &Scope<'a>,
+) -> Result<Option<Vec<u8>>, NoMemory>
+    requires run { spec.IsRun run.now }
+    requires candidate { spec.IsCandidate run.now name.now }
+    requires walk { cone.walk_in run.now.known.now name.now ≡ Ok scope.now }
+    ensures { IfOk result (λ file. option_map (λ v. v.items) file
+        ≡ spec.prelinked run.now name.now) }
+{
+    let sources = sources_of(alloc, run, scope.members())?;
+    prelink(alloc, &sources)
+}
+
+/// The walk of a name; None where it is refused.
+fn walk_of<'a>(alloc: Global, run: &Run<'a>, name: &str) -> Result<Option<Scope<'a>>, NoMemory>
+    requires { spec.IsRun run.now }
+    ensures { IfOk result (λ scope. scope
+        ≡ spec.walk_told (cone.walk_in run.now.known.now name.now)) }
+{
+    match walk_in(alloc, run.known, name) {
+        Ok(scope) => Ok(Some(scope)),
+        Err(Skip::NoMemory) => Err(NoMemory),
+        Err(_) => Ok(None),
+    }
+}
+
+/// The file of a name that may be prelinked, by the plan of the run; None where there is none.
+pub fn prelinked(alloc: Global, run: &Run<'_>, name: &str) -> Result<Option<Vec<u8>>, NoMemory>
+    requires run { spec.IsRun run.now }
+    requires candidate { spec.IsCandidate run.now name.now }
+    ensures { IfOk result (λ file. option_map (λ v. v.items) file
+        ≡ spec.prelinked run.now name.now) }
+{
+    match walk_of(alloc, run, name)? {
+        None => Ok(None),
+        Some(scope) => prelinked_by(alloc, run, name, &scope),
+    }
+}

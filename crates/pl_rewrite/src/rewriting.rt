@@ -1,0 +1,94 @@
+// A whole run that prelinks everything.
+ghost use Rattle.std.specs.Prelude.{◌≡◌, Ok, IfOk, if◌then◌else◌};
+ghost use Rattle.pl_base.specs.Answers.{Answers};
+ghost use Rattle.pl_known.specs.Plans as plans;
+ghost use Rattle.pl_known.specs.Taken.{AreTaken, files_in, names_of};
+ghost use Rattle.pl_plan.specs.Faults.{is_memory};
+ghost use Rattle.pl_rewrite.specs.Rewriting as spec;
+
+use crate::making::{AllMade, all_made};
+use crate::running::Run;
+use crate::{Report, ReportRow};
+use pl_base::Rows;
+use pl_cache::Cache;
+use pl_io::NoMemory;
+use pl_journal::Change;
+use pl_known::{Taken, known_files, plan_files};
+use pl_plan::{Asked, Planned, PlanningFault};
+use std::alloc::Global;
+
+/// What a run changes, what it leaves in the cache, and what it reports.
+#[derive(Drop)]
+pub struct Rewritten {
+    /// The rows of the journal, in the order of the files.
+    pub rows: Rows<Change>,
+
+    /// The slots, and the last stamp that was given.
+    pub cache: Cache,
+
+    /// What became of each name, in the order of the files.
+    pub report: Report,
+}
+
+/// What a plan makes of the files.
+fn made_by(
+    alloc: Global,
+    files: &[Taken],
+    asked: &Asked<'_>,
+    planned: &Planned,
+) -> Result<AllMade, NoMemory>
+    requires taken { AreTaken asked.now.region files.now }
+    requires planned { plans.planned (files_in files.now) (names_of files.now) asked.now
+        ≡ Ok planned.now }
+    ensures { IfOk result (λ made. made ≡ spec.all_made (files_in files.now) (names_of files.now)
+        asked.now.region planned.now) }
+{
+    let known = known_files(alloc, files)?;
+    let run = Run {
+        files,
+        known: known.as_slice(),
+        region: asked.region,
+        planned,
+    };
+    all_made(alloc, &run)
+}
+
+/// The stamp of the cache after a run.
+fn last_of(asked: &Asked<'_>, planned: &Planned, made: &AllMade) -> u32
+    ensures { result ≡ (if made.now.given then planned.now.stamp else asked.now.last) }
+{
+    if made.given {
+        planned.stamp
+    } else {
+        asked.last
+    }
+}
+
+/// What a run that prelinks everything makes of the files of a folder, ascending by name; the first cause why it has no plan is NoSlot, then StampsSpent.
+///
+/// - A current name stays, and has no row. Each other name that may be prelinked is: at the planned slots, with the old stamps of current libraries and the run's stamp for the others, in version 2. Any other name gets its original, and so does one whose form would be too large. A file whose bytes would not change has no row.
+/// - The cache has the planned slots; its stamp is the run's where a name got it, and else stays.
+/// - The report has a row for each name.
+///
+/// `take_file` of pl_known gave the files under the region that is asked for, and no name stands twice. The rows of the cache have no limit here.
+#[tactic(auto, unfolding(crate::specs::Rewriting::rewrite))]
+pub fn rewrite(
+    alloc: Global,
+    files: &[Taken],
+    asked: &Asked<'_>,
+) -> Result<Rewritten, PlanningFault>
+    requires { AreTaken asked.now.region files.now }
+    ensures { Answers is_memory result (spec.rewrite (files_in files.now) (names_of files.now)
+        asked.now) }
+{
+    let planned = plan_files(alloc, files, asked)?;
+    let made = made_by(alloc, files, asked, &planned)?;
+    let last = last_of(asked, &planned, &made);
+    let AllMade { rows, states, .. } = made;
+    let Planned { slots, .. } = planned;
+    Ok(Rewritten {
+        rows,
+        cache: Cache { last, rows: slots },
+        report: Report { rows: states },
+    })
+}

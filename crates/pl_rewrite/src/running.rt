@@ -1,0 +1,67 @@
+// What a run goes by.
+ghost use Rattle.std.specs.Prelude.{◌≡◌};
+ghost use Rattle.std.specs.Option.{option_map};
+ghost use Rattle.std.specs.Str.{bytes_eq};
+ghost use Rattle.pl_scope.specs.Members.{has};
+ghost use Rattle.pl_rewrite.specs.Members as spec;
+
+use pl_base::Text;
+use pl_cone::Known;
+use pl_elf::Range;
+use pl_known::Taken;
+use pl_plan::{Planned, Standing};
+
+/// The files of a folder, and what a run plans of them.
+#[derive(Drop)]
+pub struct Run<'a> {
+    /// The files.
+    pub files: &'a [Taken],
+
+    /// What is known of them.
+    pub known: &'a [Known<'a>],
+
+    /// The addresses from which slots are given.
+    pub region: Range,
+
+    /// How the names stand, the slots, the stale names, and the stamp that these get.
+    pub planned: &'a Planned,
+}
+
+fn is_file_of(taken: &Taken, name: &str) -> bool
+    ensures { result ≡ bytes_eq taken.now.name name.now }
+{
+    taken.name.as_str() == name
+}
+
+/// The file of a name.
+pub fn find<'a>(files: &'a [Taken], name: &str) -> Option<&'a Taken>
+    ensures { option_map (λ t. t.now) result ≡ spec.found files.now name.now }
+{
+    files.iter().find(|taken| is_file_of(taken, name))
+}
+
+fn is_same(text: &Text, name: &str) -> bool
+    ensures { result ≡ bytes_eq text.now name.now }
+{
+    text.as_str() == name
+}
+
+/// Whether a name is one of these.
+pub fn is_among(names: &[Text], name: &str) -> bool
+    ensures { result ≡ has names.now name.now }
+{
+    names.iter().any(|text| is_same(text, name))
+}
+
+fn has_cause(standing: &Standing, name: &str) -> bool
+    ensures { result ≡ spec.has_cause name.now standing.now }
+{
+    standing.name.as_str() == name && standing.cause.is_some()
+}
+
+/// Whether a name has a cause why it is not prelinked.
+pub fn is_skipped(standings: &[Standing], name: &str) -> bool
+    ensures { result ≡ spec.is_skipped standings.now name.now }
+{
+    standings.iter().any(|standing| has_cause(standing, name))
+}
