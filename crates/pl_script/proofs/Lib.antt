@@ -1,0 +1,4 @@
+pub mod NumberLaws
+pub mod LimitLaws
+pub mod NamedLaws
+pub mod ScriptLaws
