@@ -3,4 +3,5 @@ pub mod WalkLaws
 pub mod FastLaws
 pub mod PlaceLaws
 pub mod ImageLaws
+pub mod HistoryLaws
 pub mod AnswerLaws

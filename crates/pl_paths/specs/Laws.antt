@@ -3,6 +3,7 @@ use Rattle.std.specs.Prelude.{◌≡◌, ℕ, List, length, Option, Some, Result
 use Rattle.pl_base.specs.Files.{Files as FileMap}
 use Rattle.pl_elf.specs.declared.range.Range.{Range}
 use Rattle.pl_place.specs.Policy.{Choice}
+use Rattle.pl_sound.specs.History.{Happened, Held}
 use Rattle.pl_sound.specs.Rule.{Files}
 use Rattle.pl_tls.specs.declared.module.Module.{Module}
 use Rattle.pl_conflict.specs.Format as format
@@ -56,6 +57,16 @@ PlacesAreAt = (busy : Option Range) (all : List ObjectFile) (at : List ℕ) → 
 abbrev pub LoadsAreOrdinary : Type 0 → Type 0 → Type 0
 LoadsAreOrdinary E F = (causes : Causes F) (folder : Files) (choose : Choice) (busy : Option Range) (fault : LoadFault → E) (file : List ℕ → Result (List ℕ) E) (name : List ℕ)
     → GivesFrom folder file → RuleAt causes folder name → SameAnswer (load choose busy fault file name) (ordinary_load (format.is_fast causes folder name) choose busy fault file name)
+
+-- a load may take each of its files at a moment of its own, while runs and edits change the folder
+abbrev pub AreHeld : Files → List Files → Files → Type 0
+AreHeld now past taken = (n bytes : List ℕ) → taken n ≡ Some bytes → Held now past n bytes
+
+-- from a start that keeps the rule it answers as one that links the originals of the files that it took, and its path is the fast one where these files allow it
+abbrev pub LoadsOverHistories : Type 0 → Type 0 → Type 0
+LoadsOverHistories E F = (causes : Causes F) (now : Files) (past : List Files) (last : ℕ) (taken : Files) (choose : Choice) (busy : Option Range) (fault : LoadFault → E) (file : List ℕ → Result (List ℕ) E) (name : List ℕ)
+    → Happened (format.format causes) now past last → AreHeld now past taken → GivesFrom taken file
+    → SameAnswer (load choose busy fault file name) (ordinary_load (format.is_fast causes taken name) choose busy fault file name)
 
 -- and `--load` answers by status and text as where the originals are linked
 abbrev pub AnswersAreOrdinary : Type 0 → Type 0

@@ -5,4 +5,6 @@
 
 mod law;
 
-pub use law::{answers_are_ordinary, loads_are_ordinary, paths_are_one};
+pub use law::{
+    answers_are_ordinary, loads_are_ordinary, loads_over_histories_are_ordinary, paths_are_one,
+};
