@@ -5,3 +5,5 @@ pub mod WalkLaws
 pub mod MadeLaws
 pub mod PlanLaws
 pub mod SoundLaws
+pub mod VerifyLaws
+pub mod HistoryLaws

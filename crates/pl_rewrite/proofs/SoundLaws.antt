@@ -65,7 +65,7 @@ originals_stay files region p n file is = elim (cases_Bool (is_current files reg
 
 -- ---- the greatest stamp
 
-fold_from : {X : Type 0} (f : X → ℕ) (xs : List X) (a : ℕ) → a ≤ fold (λ (most : ℕ) (x : X). max most (f x)) a xs
+pub fold_from : {X : Type 0} (f : X → ℕ) (xs : List X) (a : ℕ) → a ≤ fold (λ (most : ℕ) (x : X). max most (f x)) a xs
 fold_from f [] a = omega arith
 fold_from f (x ∷ xs) a = omega (arith, fold_from f xs (max a (f x)))
 
@@ -117,7 +117,7 @@ past_of most now stamp e =
     let is : max now (most + 1) ≡ stamp = ok_same (max now (most + 1)) stamp p.1 in
     omega (arith, is)
 
-stamp_past : (files : Files) (ns : List (List ℕ)) (a : Asked) (old : List (List ℕ)) (stamp : ℕ) → (length old == 0) ≡ false → stamp_for files ns a old ≡ Ok stamp → greatest files a.last ns < stamp
+pub stamp_past : (files : Files) (ns : List (List ℕ)) (a : Asked) (old : List (List ℕ)) (stamp : ℕ) → (length old == 0) ≡ false → stamp_for files ns a old ≡ Ok stamp → greatest files a.last ns < stamp
 unfolding stamp_for
 stamp_past files ns a old stamp some e =
     let given : because of_cone (stamp_after (greatest files a.last ns) a.moment) ≡ Ok stamp = rw some at e in
@@ -125,13 +125,13 @@ stamp_past files ns a old stamp some e =
 
 -- ---- a run without a stale name
 
-empty : (ns : List (List ℕ)) (n : List ℕ) → (length ns == 0) ≡ true → has ns n ≡ false
+pub empty : (ns : List (List ℕ)) (n : List ℕ) → (length ns == 0) ≡ true → has ns n ≡ false
 empty [] n e = refl
 empty (m ∷ ns) n e =
     let none : length (m ∷ ns) ≡ 0 = eqb-true (length (m ∷ ns)) 0 e in
     absurd (omega (arith, none))
 
-candidate_named : (files : Files) (ns : List (List ℕ)) (region : Range) (n : List ℕ) → AreNames files ns → is_candidate files region n ≡ true → has ns n ≡ true
+pub candidate_named : (files : Files) (ns : List (List ℕ)) (region : Range) (n : List ℕ) → AreNames files ns → is_candidate files region n ≡ true → has ns n ≡ true
 candidate_named files ns region n names candidate = elim (cases_Bool (has ns n)) [
   | inl found ↦ found
   | inr missing ↦
@@ -140,7 +140,7 @@ candidate_named files ns region n names candidate = elim (cases_Bool (has ns n))
 ]
 
 -- it takes marks away at most
-only_edits : (files : Files) (ns : List (List ℕ)) (region : Range) (p : Planned) (mixed : Files) → AreNames files ns → (length (stale files region p.slots ns) == 0) ≡ true → IsMixed files region p mixed → IsEdit (format skip_causes) files mixed
+pub only_edits : (files : Files) (ns : List (List ℕ)) (region : Range) (p : Planned) (mixed : Files) → AreNames files ns → (length (stale files region p.slots ns) == 0) ≡ true → IsMixed files region p mixed → IsEdit (format skip_causes) files mixed
 only_edits files ns region p mixed names none each n file there = by_mark (mark_in file) refl
   where
     by_mark : (o : Option Mark) → mark_in file ≡ o → (files n ≡ Some file) ⊎ (mark_in file ≡ None)

@@ -2,11 +2,12 @@
 ghost use Rattle.std.specs.Prelude.{◌≡◌, Ok, IfOk};
 ghost use Rattle.std.specs.Option.{option_map};
 ghost use Rattle.pl_cone.specs.Candidates as cone;
+ghost use Rattle.pl_cone.specs.Known.{AreAccepted};
 ghost use Rattle.pl_rewrite.specs.Members as spec;
 
 use crate::running::Run;
 use crate::sources::sources_of;
-use pl_cone::{Skip, walk_in};
+use pl_cone::{Known, Skip, walk_in};
 use pl_io::NoMemory;
 use pl_prelinked::prelink;
 use pl_scope::Scope;
@@ -30,12 +31,15 @@ fn prelinked_by<'a>(
 }
 
 /// The walk of a name; None where it is refused.
-fn walk_of<'a>(alloc: Global, run: &Run<'a>, name: &str) -> Result<Option<Scope<'a>>, NoMemory>
-    requires { spec.IsRun run.now }
-    ensures { IfOk result (λ scope. scope
-        ≡ spec.walk_told (cone.walk_in run.now.known.now name.now)) }
+pub fn walk_of<'a>(
+    alloc: Global,
+    known: &[Known<'a>],
+    name: &str,
+) -> Result<Option<Scope<'a>>, NoMemory>
+    requires { AreAccepted known.now }
+    ensures { IfOk result (λ scope. scope ≡ spec.walk_told (cone.walk_in known.now name.now)) }
 {
-    match walk_in(alloc, run.known, name) {
+    match walk_in(alloc, known, name) {
         Ok(scope) => Ok(Some(scope)),
         Err(Skip::NoMemory) => Err(NoMemory),
         Err(_) => Ok(None),
@@ -49,7 +53,7 @@ pub fn prelinked(alloc: Global, run: &Run<'_>, name: &str) -> Result<Option<Vec<
     ensures { IfOk result (λ file. option_map (λ v. v.items) file
         ≡ spec.prelinked run.now name.now) }
 {
-    match walk_of(alloc, run, name)? {
+    match walk_of(alloc, run.known, name)? {
         None => Ok(None),
         Some(scope) => prelinked_by(alloc, run, name, &scope),
     }

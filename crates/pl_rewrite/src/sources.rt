@@ -43,7 +43,7 @@ fn slot_of(slots: &[Slot], name: &str) -> u64
 }
 
 /// All that was read of a file, if it is prelinked.
-fn marked_in(entry: &Entry) -> Option<&Marked>
+pub fn marked_in(entry: &Entry) -> Option<&Marked>
     ensures { option_map (λ m. m.now) result ≡ spec.marked_by entry.now }
 {
     match entry {
