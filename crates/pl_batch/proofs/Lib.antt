@@ -8,3 +8,10 @@ pub mod MakeLemmas
 pub mod RestoredLemmas
 pub mod LentLemmas
 pub mod AgainLemmas
+pub mod OrderLemmas
+pub mod FolderLemmas
+pub mod ReadLemmas
+pub mod CacheLemmas
+pub mod AllLemmas
+pub mod SizeLemmas
+pub mod EntryLemmas

@@ -7,6 +7,8 @@ use Rattle.pl_folder.specs.Seen.{Seen, Ending, Done, Broken, Undone}
 use Rattle.pl_journal.specs.Parts.{Looking}
 use Rattle.pl_journal.specs.declared.fault.JournalFault.{JournalFault}
 use Rattle.pl_journal.specs.declared.fault.JournalFault.TheVariants as journal_faults
+use Rattle.pl_plan.specs.declared.fault.PlanningFault.{PlanningFault}
+use Rattle.pl_plan.specs.declared.fault.PlanningFault.TheVariants as planning
 use Rattle.pl_batch.specs.declared.cause.Cause.{Cause}
 use Rattle.pl_batch.specs.declared.cause.Cause.TheVariants as causes
 use Rattle.pl_batch.specs.declared.fault.BatchFault.{BatchFault}
@@ -62,6 +64,12 @@ of_take name folder_faults.Failed = DiskFailed
 of_take name folder_faults.NotThere = faults.Cause (causes.NotThere name)
 of_take name folder_faults.TooLarge = faults.Cause (causes.FileTooLarge name)
 of_take name folder_faults.NoMemory = NoMemory
+
+-- why there is no plan
+abbrev pub of_plan : PlanningFault → BatchFault
+of_plan (planning.NoSlot name span hole) = faults.Cause (causes.NoSlot name span hole)
+of_plan (planning.StampsSpent stamp) = faults.Cause (causes.StampsSpent stamp)
+of_plan planning.NoMemory = NoMemory
 
 -- a fault of the journal
 abbrev pub of_journal : JournalFault → BatchFault

@@ -6,19 +6,21 @@ use Rattle.pl_folder.specs.declared.TheConstants.{STORED}
 use Rattle.pl_journal.specs.Meaning.{rows_for}
 use Rattle.pl_journal.specs.Spelling.{are_rows}
 use Rattle.pl_journal.specs.declared.change.Change.{Change}
+use Rattle.pl_batch.specs.All.{all_changes}
 use Rattle.pl_batch.specs.Commands.{Meaning, and_then, ready, ready_for}
 use Rattle.pl_batch.specs.Store.{installed, removed}
 use Rattle.pl_batch.specs.Undo.{all_undone, undone}
 use Rattle.pl_batch.specs.declared.cause.Cause.{Cause}
 use Rattle.pl_batch.specs.declared.cause.Cause.TheVariants.{TooManyFiles}
 use Rattle.pl_batch.specs.declared.run.Run.{Run}
-use Rattle.pl_batch.specs.declared.run.Run.TheVariants.{UndoAll, Undo, Install}
+use Rattle.pl_batch.specs.declared.run.Run.TheVariants.{All, UndoAll, Undo, Install}
 
 -- a journal can have these rows
 abbrev pub fitting : List Change → Result (List Change) Cause
 fitting rows = unless (not (are_rows (rows_for rows))) TooManyFiles (Ok rows)
 
 abbrev pub changes_by : Files → Run → Result (List Change) Cause
+changes_by files (All asked) = all_changes files asked
 changes_by files UndoAll = all_undone files
 changes_by files (Undo names) = undone files names
 changes_by files (Install name bytes) = installed files name bytes
@@ -32,6 +34,7 @@ removal_of files name = removed files name >>= fitting
 
 -- what comes before the files are looked at
 abbrev pub ready_by : Run → Meaning Cause
+ready_by (All asked) = ready
 ready_by UndoAll = ready
 ready_by (Undo names) = ready
 ready_by (Install name bytes) = ready_for name
@@ -45,6 +48,7 @@ removal_meant name = and_then (ready_for name) (λ files. removal_of files name)
 
 -- what is asked of a command: bytes are no more than a folder stores
 abbrev pub IsRun : Run → Type 0
+IsRun (All asked) = ⊤
 IsRun UndoAll = ⊤
 IsRun (Undo names) = ⊤
 IsRun (Install name bytes) = length bytes ≤ STORED

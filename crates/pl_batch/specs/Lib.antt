@@ -3,6 +3,8 @@ pub mod Names
 pub mod Undo
 pub mod Store
 pub mod Commands
+pub mod Folder
+pub mod All
 pub mod Changes
 pub mod Starts
 pub mod Restored

@@ -21,6 +21,27 @@ pub enum Cause {
 
     /// The file of this name bears a mark, and is no form.
     BadMark(Text),
+
+    /// The cache is outside its grammar.
+    BadCache,
+
+    /// The originals of a folder are together larger than a run takes.
+    FolderTooLarge,
+
+    /// No hole of the region that is left holds a library at an address that it wants.
+    NoSlot {
+        /// The name of the library's file.
+        name: Text,
+
+        /// How many bytes of addresses it wants.
+        span: u64,
+
+        /// How many bytes the greatest hole has, 0 where there is none.
+        hole: u64,
+    },
+
+    /// A file is stale, and the greatest stamp, which this is, is the last that there is.
+    StampsSpent(u32),
 }
 
 impl fmt::Debug for Cause {
@@ -32,6 +53,10 @@ impl fmt::Debug for Cause {
             Cause::NotThere(name) => ("NotThere", name.as_str()),
             Cause::FileTooLarge(name) => ("FileTooLarge", name.as_str()),
             Cause::BadMark(name) => ("BadMark", name.as_str()),
+            Cause::BadCache => ("BadCache", ""),
+            Cause::FolderTooLarge => ("FolderTooLarge", ""),
+            Cause::NoSlot { name, .. } => ("NoSlot", name.as_str()),
+            Cause::StampsSpent(_) => ("StampsSpent", ""),
         };
         f.write_str(cause)?;
         f.write_str(" ")?;

@@ -5,6 +5,7 @@ ghost use Rattle.pl_journal.specs.Spelling.{are_rows};
 ghost use Rattle.pl_batch.specs.Answers.{Finds, MeansAlone};
 ghost use Rattle.pl_batch.specs.Changes as spec;
 
+use crate::all::all_changes;
 use crate::storing::{installed, removed};
 use crate::undoing::{all_undone, undone};
 use crate::{BatchFault, Cause, Run};
@@ -14,7 +15,7 @@ use pl_journal::{Change, are_changes};
 use std::alloc::Global;
 
 /// The rows, where a journal can have them.
-fn fitting(rows: Rows<Change>) -> Result<Rows<Change>, BatchFault>
+pub(crate) fn fitting(rows: Rows<Change>) -> Result<Rows<Change>, BatchFault>
     ensures means { MeansAlone (spec.fitting rows) result }
     ensures fits { IfOk result (λ rows. are_rows (rows_for rows) ≡ true) }
 {
@@ -34,13 +35,15 @@ fn changes_by<D: Folder>(
         (D.seen folder.old) (D.seen folder.new) }
 {
     match run {
+        Run::All(asked) => all_changes(alloc, folder, asked),
         Run::UndoAll => all_undone(alloc, folder),
         Run::Undo { names } => undone(alloc, folder, names.as_slice()),
         Run::Install { name, bytes } => installed(alloc, folder, name.as_str(), bytes.as_slice()),
     }
 }
 
-/// The rows of the journal of a command, ascending by name; a file whose bytes would not change has no row. Or the first cause, in this order:
+/// The rows of the journal of a command: of `All` first that of the cache, then those of names, ascending. A file whose bytes would not change has no row; a folder without a cache has an empty one. Or the first cause, in this order:
+/// - of `All`: TooManyFiles, BadCache, FileTooLarge in the order of the names, FolderTooLarge, NoSlot, StampsSpent;
 /// - of `UndoAll`: TooManyFiles, FileTooLarge in the order of the names; a file that bears a mark and is no form stays as it is;
 /// - of `Undo`: TooManyFiles, then for each name in the order given BadName, NotThere, FileTooLarge, BadMark;
 /// - of `Install`: BadName, BadMark, TooManyFiles.

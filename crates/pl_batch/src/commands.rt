@@ -1,19 +1,24 @@
 //! The writing commands, over a folder that is held.
-ghost use Rattle.std.specs.Prelude.{IfOk, OnOk};
+ghost use Rattle.std.specs.Fn.{FnOnceReturnsAt};
+ghost use Rattle.std.specs.Prelude.{IfOk, Ok, OnOk};
 ghost use Rattle.pl_folder.specs.Calls.{Calls};
 ghost use Rattle.pl_journal.specs.Parts.{IsRested};
+ghost use Rattle.pl_batch.specs.All.{Reports};
 ghost use Rattle.pl_batch.specs.Answers.{ending};
 ghost use Rattle.pl_batch.specs.Changes.{IsRun, ready_by, removal_meant, run_meant};
 ghost use Rattle.pl_batch.specs.Commands.{Commands, Counts, outcome, ready_for};
 ghost use Rattle.pl_batch.specs.Starts.{Named, Starts};
+ghost use Rattle.pl_batch.specs.declared.run.Run.TheVariants as runs;
 
+use crate::all::all_fitting;
 use crate::changes::{changes_of, removal_of};
 use crate::starting::{start, start_for};
-use crate::{BatchFault, Run};
+use crate::{BatchFault, Prelinking, Run};
 use pl_folder::Folder;
 use pl_journal::carry_out;
+use pl_rewrite::Report;
 use pl_stage::Held;
-use std::alloc::Global;
+use std::alloc::{AllocError, Global};
 
 /// Recovers the folder, for the name of a command that has one.
 fn start_run<D: Folder>(held: &mut Held<D>, alloc: Global, run: &Run) -> Result<(), BatchFault>
@@ -22,6 +27,7 @@ fn start_run<D: Folder>(held: &mut Held<D>, alloc: Global, run: &Run) -> Result<
     ensures rested { OnOk result (IsRested (D.seen held.new.folder)) }
 {
     match run {
+        Run::All(_) => start(held, alloc),
         Run::UndoAll => start(held, alloc),
         Run::Undo { names: _ } => start(held, alloc),
         Run::Install { name, bytes: _ } => start_for(held, alloc, name.as_str()),
@@ -44,6 +50,27 @@ pub(crate) fn run_held<D: Folder>(
     let rows = changes_of(alloc, &mut held.folder, run)?;
     carry_out(held, alloc, rows.as_slice())?;
     Ok(rows.len())
+}
+
+/// `prelink_all`, over a folder that is held.
+pub(crate) fn prelink_held<D: Folder, F: FnOnce(&Report) -> Result<Vec<u8>, AllocError>>(
+    held: &mut Held<D>,
+    alloc: Global,
+    asked: &Prelinking,
+    tell: F,
+) -> Result<Vec<u8>, BatchFault>
+    requires { F.IsAlwaysCallable tell }
+    ensures calls { Calls (ending result) (Commands (run_meant (runs.All asked.now))
+        (outcome result))
+        (D.seen held.old.folder) (D.seen held.new.folder) }
+    ensures told { IfOk result (λ text. Reports (FnOnceReturnsAt F.FnOnce tell) asked.now
+        (Ok text) (D.seen held.old.folder)) }
+{
+    start(held, alloc)?;
+    let made = all_fitting(alloc, &mut held.folder, asked)?;
+    let text = tell(&made.report)?;
+    carry_out(held, alloc, made.rows.as_slice())?;
+    Ok(text)
 }
 
 /// `remove`, over a folder that is held.

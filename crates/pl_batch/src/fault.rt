@@ -5,6 +5,7 @@ use crate::Cause;
 use pl_folder::FolderFault;
 use pl_io::NoMemory;
 use pl_journal::JournalFault;
+use pl_plan::PlanningFault;
 use std::alloc::{AllocError, AllocFailed};
 use std::fmt;
 use thiserror::Error;
@@ -71,6 +72,22 @@ impl From<FolderFault> for BatchFault {
                 BatchFault::DiskFailed
             }
             FolderFault::NoMemory => BatchFault::NoMemory,
+        }
+    }
+}
+
+impl From<PlanningFault> for BatchFault {
+    ghost use Rattle.pl_batch.specs.Answers.{of_plan};
+
+    ghost from_gives = { λ fault whole. whole ≡ of_plan fault };
+
+    fn from(fault: PlanningFault) -> BatchFault {
+        match fault {
+            PlanningFault::NoSlot { name, span, hole } => {
+                BatchFault::Cause(Cause::NoSlot { name, span, hole })
+            }
+            PlanningFault::StampsSpent(stamp) => BatchFault::Cause(Cause::StampsSpent(stamp)),
+            PlanningFault::NoMemory => BatchFault::NoMemory,
         }
     }
 }

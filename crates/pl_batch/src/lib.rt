@@ -1,6 +1,7 @@
 //! What each command makes of a folder: it recovers it, finds what changes, and makes the changes by the journal, all or none.
 #![tactic(auto)]
 
+mod all;
 mod cause;
 mod changes;
 mod commands;
@@ -8,6 +9,9 @@ mod fault;
 mod laws;
 mod lending;
 mod lent;
+mod order;
+mod prelinking;
+mod reading;
 mod room;
 mod run;
 mod starting;
@@ -15,10 +19,13 @@ mod storing;
 mod taking;
 mod undoing;
 
+pub use all::preview_all;
 pub use cause::Cause;
 pub use changes::changes_of;
 pub use fault::BatchFault;
 pub use laws::{commands_go_on, stands_for_files};
-pub use lending::{do_run, recover_for, remove};
+pub use lending::{do_run, prelink_all, recover_for, remove};
+pub use prelinking::Prelinking;
+pub use reading::FOLDER;
 pub use room::FILES;
 pub use run::Run;

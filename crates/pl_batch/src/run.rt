@@ -1,8 +1,12 @@
+use crate::Prelinking;
 use pl_base::{Rows, Text};
 
 /// A command that changes files, all but `--remove`.
 #[derive(Drop)]
 pub enum Run {
+    /// Prelink every file that may be prelinked.
+    All(Prelinking),
+
     /// Undo every prelinked file.
     UndoAll,
 

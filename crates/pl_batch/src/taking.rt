@@ -1,7 +1,8 @@
 //! What is asked of a folder.
-ghost use Rattle.std.specs.Prelude.{◌≡◌, ◌≢◌, ◌<◌, ◌^◌, All, IfOk, OnErr, Ok, map, string_bytes, vec_len};
+ghost use Rattle.std.specs.Prelude.{◌≡◌, ◌≢◌, ◌<◌, ◌≤◌, ◌^◌, All, IfOk, OnErr, Ok, length, map, string_bytes, vec_len};
 ghost use Rattle.std.specs.FinMap.{keys};
 ghost use Rattle.pl_base.specs.Names.{IsNameLength};
+ghost use Rattle.pl_folder.specs.declared.TheConstants.{STORED};
 ghost use Rattle.pl_batch.specs.Answers.{Finds, of_take};
 ghost use Rattle.pl_batch.specs.Names as spec;
 
@@ -47,6 +48,7 @@ pub(crate) fn take<D: Folder>(
         (λ bytes. bytes.items) result
         (D.seen folder.old) (D.seen folder.new) }
     ensures size { IfOk result (λ bytes. vec_len bytes < 2 ^ 32) }
+    ensures stored { IfOk result (λ bytes. length bytes.items ≤ STORED) }
 {
     match folder.take(alloc, name) {
         Ok(bytes) => Ok(bytes),

@@ -1,0 +1,15 @@
+use Rattle.pl_batch.specs.All.{all_reported}
+use Rattle.pl_batch.specs.Answers.{Finds}
+use Rattle.pl_batch.proofs.AllLemmas.{as_it_is, reported, unreported}
+use Rattle.pl_batch.proofs.FindLemmas.{at_err}
+use Rattle.pl_batch.proofs.all.preview_all.Goals as goal
+
+pub returns-in_err-made : goal.returns-in_err-made
+returns-in_err-made g c =
+    let seen = g.D.Folder.seen in
+    let fault = c.in_err-made.field-0.0 in
+    at_err (λ r. Finds (all_reported (seen c.args.folder.now).files c.args.asked.now) as_it_is r (seen c.args.folder.now) (seen c.all_made.new.folder)) c.from_residual.result fault c.from_residual.ensures.1
+    (unreported c.args.asked.now fault c.in_err-made.ensures)
+
+pub returns : goal.returns
+returns g c = reported c.args.asked.now c.in_ok-made.made c.in_ok-made.ensures
