@@ -6,6 +6,7 @@ use Rattle.pl_base.proofs.CountLaws.{counted_then}
 use Rattle.pl_folder.specs.Calls.{Calls}
 use Rattle.pl_folder.specs.Effects.{Asks, Effect}
 use Rattle.pl_folder.specs.Seen.{Seen, Ending, Done, Undone, is_broken}
+use Rattle.pl_journal.specs.Parts.{Looking}
 
 -- no call
 pub no_calls : {P : Effect} (e : Ending) (a : Seen) → is_broken e ≡ false → P.files e a.files a.files → P.disk e a.disk a.disk → Calls e P a a
@@ -47,3 +48,6 @@ then_calls e f {a = a} {b = b} {c = c} alike first second files disk = record {
 -- memory lacked after all calls
 pub asked_all : (n : ℕ) {a b : Seen} → Calls Done (Asks n) a b → Calls Undone (Asks n) a b
 asked_all n call = as_calls Done Undone refl call (λ told same. same) (λ told made. (n, omega arith, made))
+
+pub looked_all : {a b : Seen} → Calls Done Looking a b → Calls Undone Looking a b
+looked_all call = as_calls Done Undone refl call (λ told same. same) (λ told looks. looks)

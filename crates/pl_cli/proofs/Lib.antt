@@ -1,6 +1,7 @@
 pub mod StopLemmas
 pub mod PartLemmas
 pub mod CallLemmas
+pub mod AllLemmas
 pub mod LookLemmas
 pub mod TakeLemmas
 pub mod WalkLemmas

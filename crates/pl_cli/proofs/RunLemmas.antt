@@ -12,6 +12,7 @@ use Rattle.pl_folder.specs.Calls.{Calls}
 use Rattle.pl_folder.specs.Seen.{Seen, Done, Undone, IsFolder}
 use Rattle.pl_elf.specs.declared.range.Range.{Range}
 use Rattle.pl_batch.specs.Commands.{Meaning}
+use Rattle.pl_batch.specs.declared.prelinking.Prelinking.{Prelinking}
 use Rattle.pl_batch.specs.declared.run.Run.TheVariants as runs
 use Rattle.pl_batch.proofs.AgainLemmas.{refused_disk, refused_files}
 use Rattle.pl_loader.specs.Loading as loading
@@ -21,20 +22,20 @@ use Rattle.pl_loader.specs.declared.object_file.ObjectFile.{ObjectFile}
 use Rattle.pl_cli.specs.declared.cause.Cause.{Cause}
 use Rattle.pl_cli.specs.declared.cause.Cause.TheVariants as causes
 use Rattle.pl_cli.specs.declared.command.Command.{Command}
-use Rattle.pl_cli.specs.declared.command.Command.TheVariants.{Load, UndoAll, Undo, Store, Remove, Print, Order}
+use Rattle.pl_cli.specs.declared.command.Command.TheVariants.{Load, All, Preview, UndoAll, Undo, Store, Remove, Print, Order}
 use Rattle.pl_cli.specs.declared.command.Detail.{Detail}
 use Rattle.pl_cli.specs.declared.status.Status.{Status}
 use Rattle.pl_cli.specs.declared.status.Status.TheVariants as statuses
 use Rattle.pl_cli.specs.declared.stop.Stop.{Stop}
 use Rattle.pl_cli.specs.declared.stop.Stop.TheVariants as stops
 use Rattle.pl_cli.specs.Answer.{Answer, IsTold, answer, done, load_answer, text_answer, refuses, usage}
-use Rattle.pl_cli.specs.Came.{Came, HasLoaded, HasOrdered, HasPrinted, Makes, as_is}
+use Rattle.pl_cli.specs.Came.{Came, HasLoaded, HasOrdered, HasPreviewed, HasPrinted, Makes, as_is}
 use Rattle.pl_cli.specs.Load.{choice, loaded_files}
 use Rattle.pl_cli.specs.Outside.{Consumes, most_read, outside}
 use Rattle.pl_cli.specs.Ran.{Finishes, Ran, Refuses, Writes}
 use Rattle.pl_cli.specs.Words.{bytes_of, reads_input}
-use Rattle.pl_cli.specs.Writes.{WritesFolder, removes, stores, undoes}
-use Rattle.pl_cli.proofs.CallLemmas.{as_calls, asked_all, no_calls}
+use Rattle.pl_cli.specs.Writes.{WritesFolder, prelinks, removes, stores, undoes}
+use Rattle.pl_cli.proofs.CallLemmas.{as_calls, asked_all, looked_all, no_calls}
 use Rattle.pl_cli.proofs.LoadLemmas.{loaded_is}
 use Rattle.pl_cli.proofs.WriteLemmas.{unread}
 use Rattle.pl_journal.proofs.Meanings.{stands_self}
@@ -63,6 +64,8 @@ module _ (input : Option (List ℕ)) {a b : Seen} where
   line_failed (Some (Load name busy policy)) call = call
   line_failed (Some Print) call = call
   line_failed (Some (Order name detail)) call = call
+  line_failed (Some (All asked detail)) call = writes_line_failed (λ bytes. prelinks asked) input call
+  line_failed (Some (Preview asked detail)) call = call
   line_failed (Some UndoAll) call = writes_line_failed (λ bytes. undoes runs.UndoAll) input call
   line_failed (Some (Undo names)) call = writes_line_failed (λ bytes. undoes (runs.Undo names)) input call
   line_failed (Some (Store name kind)) call = writes_line_failed (stores name kind) input call
@@ -73,6 +76,8 @@ module _ (input : Option (List ℕ)) {a b : Seen} where
   line_lacked (Some (Load name busy policy)) law call = asked_all _ call
   line_lacked (Some Print) law call = asked_all 1 call
   line_lacked (Some (Order name detail)) law call = asked_all _ call
+  line_lacked (Some (All asked detail)) law call = writes_line_lacked (λ bytes. prelinks asked) input law call
+  line_lacked (Some (Preview asked detail)) law call = looked_all call
   line_lacked (Some UndoAll) law call = writes_line_lacked (λ bytes. undoes runs.UndoAll) input law call
   line_lacked (Some (Undo names)) law call = writes_line_lacked (λ bytes. undoes (runs.Undo names)) input law call
   line_lacked (Some (Store name kind)) law call = writes_line_lacked (stores name kind) input law call
@@ -83,6 +88,8 @@ module _ (input : Option (List ℕ)) {a b : Seen} where
   text_failed (Some (Load name busy policy)) call = call
   text_failed (Some Print) call = call
   text_failed (Some (Order name detail)) call = call
+  text_failed (Some (All asked detail)) call = writes_text_failed (λ bytes. prelinks asked) input call
+  text_failed (Some (Preview asked detail)) call = call
   text_failed (Some UndoAll) call = writes_text_failed (λ bytes. undoes runs.UndoAll) input call
   text_failed (Some (Undo names)) call = writes_text_failed (λ bytes. undoes (runs.Undo names)) input call
   text_failed (Some (Store name kind)) call = writes_text_failed (stores name kind) input call
@@ -206,7 +213,7 @@ module _ {F : Type 0} (name : List ℕ) (busy : Option Range) (policy : Policy) 
   ran_loaded {o = o} {p = p} statuses.ReadFault wrote = absurd (true≢false wrote.input)
   ran_loaded {o = o} {p = p} statuses.DiskFault wrote = absurd (true≢false wrote.folder)
 
--- ---- `--order` and `-p`
+-- ---- `--order`, `-p` and `-a -n`
 
 pub came_ordered : (name : List ℕ) (detail : Detail) (i : Input) {a b : Seen} (r : Result (Vec ℕ Global) Stop) → HasOrdered name detail r a b → Came (Some (Order name detail)) as_is r a b i i
 came_ordered name detail i (Ok text) found = record { gives = λ told. ap text_answer (found.means told.files); ends = refl; calls = found.calls; input = untouched i }
@@ -221,6 +228,13 @@ came_printed i (Err (stops.Cause cause)) found = record { gives = λ told. ap te
 came_printed i (Err stops.Failed) found = record { gives = tt; ends = refl; calls = found.calls; input = untouched i }
 came_printed i (Err stops.InputFailed) found = absurd (true≢false found.reads)
 came_printed i (Err stops.NoMemory) found = record { gives = tt; ends = refl; calls = found.calls; input = untouched i }
+
+pub came_previewed : (asked : Prelinking) (detail : Detail) (i : Input) {a b : Seen} (r : Result (Vec ℕ Global) Stop) → HasPreviewed asked detail r a b → Came (Some (Preview asked detail)) as_is r a b i i
+came_previewed asked detail i (Ok text) found = record { gives = λ told. ap text_answer (found.means told.files); ends = refl; calls = found.calls; input = untouched i }
+came_previewed asked detail i (Err (stops.Cause cause)) found = record { gives = λ told. ap text_answer (found.means told.files); ends = refl; calls = found.calls; input = untouched i }
+came_previewed asked detail i (Err stops.Failed) found = record { gives = tt; ends = refl; calls = found.calls; input = untouched i }
+came_previewed asked detail i (Err stops.InputFailed) found = absurd (true≢false found.reads)
+came_previewed asked detail i (Err stops.NoMemory) found = record { gives = tt; ends = refl; calls = found.calls; input = untouched i }
 
 pub ran_usage : (a : Seen) (i : Input) {o p : Output} (status : Status) → Finishes (record { status = statuses.Usage; text = usage }) status o p → Ran None (outside a i o) (outside a i p) status
 ran_usage a i statuses.Usage fin = record { ends = refl; prints = λ _. (refl, fin.whole refl); folder = no_calls Done a refl refl refl; input = untouched i; output = fin.count }
@@ -242,6 +256,8 @@ lacks None input a = no_calls Undone a refl refl (0, omega arith, refl)
 lacks (Some (Load name busy policy)) input a = no_calls Undone a refl refl (0, omega arith, refl)
 lacks (Some Print) input a = no_calls Undone a refl refl (0, omega arith, refl)
 lacks (Some (Order name detail)) input a = no_calls Undone a refl refl (0, omega arith, refl)
+lacks (Some (All asked detail)) input a = lacks_writing (λ bytes. prelinks asked) input a
+lacks (Some (Preview asked detail)) input a = no_calls Undone a refl refl (no_look a.disk a.disk refl)
 lacks (Some UndoAll) input a = lacks_writing (λ bytes. undoes runs.UndoAll) input a
 lacks (Some (Undo names)) input a = lacks_writing (λ bytes. undoes (runs.Undo names)) input a
 lacks (Some (Store name kind)) input a = lacks_writing (stores name kind) input a

@@ -27,12 +27,15 @@ use Rattle.pl_cli.specs.Load.{choice, is_memory, loaded}
 use Rattle.pl_cli.specs.Order.{object_in, order_text, ordered, original, refused, walked}
 use Rattle.pl_cli.specs.declared.command.Content.{Content}
 use Rattle.pl_cli.specs.declared.command.Content.TheVariants.{File, Recipe}
-use Rattle.pl_cli.specs.Writes.{content, file_by, of_batch, recipe_cause, removes, stores, undoes}
+use Rattle.pl_cli.specs.Reports.{previewed, report_text, reported}
+use Rattle.pl_cli.specs.Writes.{content, file_by, of_batch, prelinks, recipe_cause, removes, stores, undoes}
 use Rattle.pl_journal.specs.declared.change.Change.{Change}
+use Rattle.pl_batch.specs.All.{all_reported}
 use Rattle.pl_batch.specs.Changes.{changes_of, removal_meant, run_meant}
 use Rattle.pl_batch.specs.Commands.{ready_for}
 use Rattle.pl_batch.specs.declared.cause.Cause as batch
 use Rattle.pl_batch.specs.declared.cause.Cause.TheVariants as batch_causes
+use Rattle.pl_batch.specs.declared.prelinking.Prelinking.{Prelinking}
 use Rattle.pl_batch.specs.declared.run.Run.{Run}
 use Rattle.pl_batch.specs.declared.run.Run.TheVariants as runs
 
@@ -96,8 +99,12 @@ batch_cause batch_causes.TooManyFiles = refl
 batch_cause (batch_causes.NotThere name) = refl
 batch_cause (batch_causes.FileTooLarge name) = refl
 batch_cause (batch_causes.BadMark name) = refl
+batch_cause batch_causes.BadCache = refl
+batch_cause batch_causes.FolderTooLarge = refl
+batch_cause (batch_causes.NoSlot name span hole) = refl
+batch_cause (batch_causes.StampsSpent stamp) = refl
 
-batch_tells : (r : Result (List Change) batch.Cause) → Tells is_memory (because of_batch r)
+batch_tells : {X : Type 0} (r : Result X batch.Cause) → Tells is_memory (because of_batch r)
 batch_tells r = cause_tells is_memory of_batch r batch_cause
 
 pub undone_tells : (run : Run) (files : Files) → Tells is_memory (undoes run files)
@@ -117,3 +124,13 @@ content_tells kind input = unless_tells is_memory _ _ _ refl (then_tells is_memo
 pub stored_tells : (name : List ℕ) (kind : Content) (input : List ℕ) (files : Files) → Tells is_memory (stores name kind input files)
 stored_tells name kind input files = then_tells is_memory (because of_batch (ready_for name files)) _ (batch_tells (ready_for name files)) (λ none.
     then_tells is_memory (content kind input) _ (content_tells kind input) (λ file. batch_tells (changes_of files (runs.Install name file))))
+
+-- ---- a run over all files
+
+pub previewed_tells : (detail : Detail) (asked : Prelinking) (files : Files) → Tells is_memory (previewed detail asked files)
+unfolding previewed
+previewed_tells detail asked files = then_tells is_memory (because of_batch (all_reported files asked)) _ (batch_tells (all_reported files asked)) (λ report. ok_tells is_memory (report_text detail report))
+
+pub reported_tells : (detail : Detail) (asked : Prelinking) (files : Files) → Tells is_memory (reported detail asked files)
+unfolding reported
+reported_tells detail asked files = then_tells is_memory (prelinks asked files) _ (batch_tells (run_meant (runs.All asked) files)) (λ rows. previewed_tells detail asked files)

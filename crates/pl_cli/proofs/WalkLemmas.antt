@@ -20,7 +20,7 @@ use Rattle.pl_cli.proofs.LookLemmas.{AllBut, and_broken, and_last, and_more, and
 
 -- what the walk of a name finds
 abbrev pub FindsBy : {X Y : Type 0} → ObjectOf → List ℕ → Result X Cause → (Y → X) → Result Y Stop → Seen → Seen → Type 0
-FindsBy object name meant view result a c = Finds (is_valid_name name) (takes object name) meant view result a c
+FindsBy object name meant view result a c = Finds (is_valid_name name) (Asks (takes object name)) meant view result a c
 
 module _ {X Y : Type 0} (object : ObjectOf) (name : List ℕ) (meant : Result X Cause) (view : Y → X) (a : Seen) where
   -- a name that is not valid has no object

@@ -2,6 +2,7 @@
 use Rattle.std.proofs.Common.{◌≡◌, ℕ, ◌+◌, List, [], length, Bool, true, false, Option, Some, None, refl, sym, ap, subst, ◌∙◌, inl, arith}
 use Rattle.std.specs.Prelude.{Result, Ok, Err, Vec, is_some}
 use Rattle.std.specs.declared.alloc.Global.{Global}
+use Rattle.pl_rewrite.specs.declared.report.Report.{Report}
 use Rattle.std.specs.FinMap.{get}
 use Rattle.std.proofs.lemmas.Bool.{true≢false}
 use Rattle.pl_base.specs.Answers.{because, ◌>>=◌}
@@ -19,6 +20,8 @@ use Rattle.pl_journal.proofs.RecoverLemmas.{no_look}
 use Rattle.pl_batch.specs.Commands.{Commands, CommandsFiles, Counts, Failed, Lacked, Made, Meaning, Refused, ready_for, stopped}
 use Rattle.pl_batch.specs.Restored.{restored}
 use Rattle.pl_batch.specs.Starts as starts
+use Rattle.pl_batch.specs.All.{Reports, all_reported}
+use Rattle.pl_batch.specs.declared.prelinking.Prelinking.{Prelinking}
 use Rattle.pl_batch.specs.declared.cause.Cause as batch
 use Rattle.pl_batch.specs.declared.fault.BatchFault.{BatchFault}
 use Rattle.pl_batch.specs.declared.fault.BatchFault.TheVariants as batch_faults
@@ -31,14 +34,16 @@ use Rattle.pl_cli.specs.declared.cause.Cause.{Cause}
 use Rattle.pl_cli.specs.declared.cause.Cause.TheVariants as causes
 use Rattle.pl_cli.specs.declared.command.Command.TheVariants as commands
 use Rattle.pl_cli.specs.declared.command.Content.{Content}
+use Rattle.pl_cli.specs.declared.command.Detail.{Detail}
 use Rattle.pl_cli.specs.declared.stop.Stop.{Stop}
 use Rattle.pl_cli.specs.declared.stop.Stop.TheVariants as stops
-use Rattle.pl_cli.specs.Answer.{IsTold, done, refuses, removed_text, stored_text, undone_text, write_answer}
-use Rattle.pl_cli.specs.Came.{Came, HasContent, HasRemoved, HasStored, HasUndone, as_is}
+use Rattle.pl_cli.specs.Answer.{IsTold, done, refuses, removed_text, stored_text, text_answer, undone_text, write_answer}
+use Rattle.pl_cli.specs.Came.{Came, HasContent, HasPrelinked, HasRemoved, HasStored, HasUndone, as_is}
 use Rattle.pl_cli.specs.Outside.{Consumes, ending_of}
+use Rattle.pl_cli.specs.Reports.{previewed, report_text, reported}
 use Rattle.pl_cli.specs.Stops.{of_batch_fault, status_of, stop_status}
 use Rattle.pl_cli.specs.Words.{bytes_of}
-use Rattle.pl_cli.specs.Writes.{AreBytes, WritesFolder, Written, content, most_bytes, of_batch, removes, stores, undoes}
+use Rattle.pl_cli.specs.Writes.{AreBytes, WritesFolder, Written, content, most_bytes, of_batch, prelinks, removes, stores, undoes}
 use Rattle.pl_cli.proofs.CallLemmas.{as_calls, no_calls}
 
 -- ---- a fault of pl_batch as a stop
@@ -139,6 +144,58 @@ came_undone names i {a = a} {b = b} (Err (stops.Cause cause)) found = record {
 came_undone names i (Err stops.Failed) found = record { gives = tt; ends = refl; calls = writes (λ bytes. undoes (runs.Undo names)) i.left (bytes_of i.left) (λ _. refl) ℕ (Err stops.Failed) found.calls; input = unread false 0 i }
 came_undone names i (Err stops.InputFailed) found = absurd (true≢false found.reads)
 came_undone names i (Err stops.NoMemory) found = record { gives = tt; ends = refl; calls = writes (λ bytes. undoes (runs.Undo names)) i.left (bytes_of i.left) (λ _. refl) ℕ (Err stops.NoMemory) found.calls; input = unread false 0 i }
+
+-- ---- `-a`
+
+module _ (asked : Prelinking) (detail : Detail) where
+  -- a report that was found, as a text
+  previewed_as : (files : Files) (report : Report) → all_reported files asked ≡ Ok report → previewed detail asked files ≡ Ok (report_text detail report)
+  unfolding previewed
+  previewed_as files report is = ap (λ (r : Result Report batch.Cause). because of_batch r >>= λ found. Ok (report_text detail found)) is
+
+  -- the changes can be made, and this is the text; or there is a cause
+  reported_made : (files : Files) (rows : List Change) (text : List ℕ) → prelinks asked files ≡ Ok rows → previewed detail asked files ≡ Ok text → reported detail asked files ≡ Ok text
+  unfolding reported
+  reported_made files rows text made says = ap (λ (r : Result (List Change) Cause). r >>= λ changes. previewed detail asked files) made ∙ says
+
+  reported_cause : (files : Files) (cause : Cause) → prelinks asked files ≡ Err cause → reported detail asked files ≡ Err cause
+  unfolding reported
+  reported_cause files cause is = ap (λ (r : Result (List Change) Cause). r >>= λ changes. previewed detail asked files) is
+
+  pub prelinking_stopped : (fault : BatchFault) {a b : Seen} → Calls (fault_ending fault) (Commands (run_meant (runs.All asked)) (stopped fault)) a b → HasPrelinked asked detail (Err (of_batch_fault fault)) a b
+  prelinking_stopped batch_faults.DiskFailed call = record { reads = refl; calls = written_fault (run_meant (runs.All asked)) (Vec ℕ Global) batch_faults.DiskFailed call; text = tt }
+  prelinking_stopped batch_faults.NoMemory call = record { reads = refl; calls = written_fault (run_meant (runs.All asked)) (Vec ℕ Global) batch_faults.NoMemory call; text = tt }
+  prelinking_stopped (batch_faults.Cause cause) call = record { reads = refl; calls = written_fault (run_meant (runs.All asked)) (Vec ℕ Global) (batch_faults.Cause cause) call; text = tt }
+
+  pub was_prelinked : (text : Vec ℕ Global) {a b : Seen} → Calls Done (Commands (run_meant (runs.All asked)) Made) a b → Reports (λ report says. says ≡ report_text detail report) asked text.items a → HasPrelinked asked detail (Ok text) a b
+  was_prelinked text {a = a} call reports = record {
+    reads = refl;
+    calls = written_done (run_meant (runs.All asked)) text call;
+    text = λ told.
+        let found = reports told (restored a.files) (restored_before a.files) in
+        previewed_as (restored a.files) found.0 found.1 ∙ ap Ok (sym found.2);
+  }
+
+  pub came_prelinked : (i : Input) {a b : Seen} (r : Result (Vec ℕ Global) Stop) → HasPrelinked asked detail r a b → Came (Some (commands.All asked detail)) as_is r a b i i
+  came_prelinked i {a = a} {b = b} (Ok text) found = record {
+    gives = λ told.
+        let made = found.calls.files (told.files refl) (restored a.files) (restored_before a.files) in
+        ap text_answer (reported_made (restored a.files) made.0 text.items made.1.means (found.text (told.files refl)));
+    ends = refl;
+    calls = writes (λ bytes. prelinks asked) i.left (bytes_of i.left) (λ _. refl) (Vec ℕ Global) (Ok text) found.calls;
+    input = unread false 0 i;
+  }
+  came_prelinked i {a = a} {b = b} (Err (stops.Cause cause)) found = record {
+    gives = λ told.
+        let left = found.calls.files (told.files refl) (restored a.files) (restored_before a.files) in
+        ap text_answer (reported_cause (restored a.files) cause left.means);
+    ends = refl;
+    calls = writes (λ bytes. prelinks asked) i.left (bytes_of i.left) (λ _. refl) (Vec ℕ Global) (Err (stops.Cause cause)) found.calls;
+    input = unread false 0 i;
+  }
+  came_prelinked i (Err stops.Failed) found = record { gives = tt; ends = refl; calls = writes (λ bytes. prelinks asked) i.left (bytes_of i.left) (λ _. refl) (Vec ℕ Global) (Err stops.Failed) found.calls; input = unread false 0 i }
+  came_prelinked i (Err stops.InputFailed) found = absurd (true≢false found.reads)
+  came_prelinked i (Err stops.NoMemory) found = record { gives = tt; ends = refl; calls = writes (λ bytes. prelinks asked) i.left (bytes_of i.left) (λ _. refl) (Vec ℕ Global) (Err stops.NoMemory) found.calls; input = unread false 0 i }
 
 -- of a name that is not valid this is the answer, of all files
 module _ (name : List ℕ) (invalid : is_valid_name name ≡ false) (files : Files) where

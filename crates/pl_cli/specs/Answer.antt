@@ -11,7 +11,7 @@ use Rattle.pl_cli.specs.declared.status.Status.{Status}
 use Rattle.pl_cli.specs.declared.status.Status.TheVariants as statuses
 use Rattle.pl_cli.specs.declared.cause.Cause.{Cause}
 use Rattle.pl_cli.specs.declared.command.Command.{Command}
-use Rattle.pl_cli.specs.declared.command.Command.TheVariants.{Load, UndoAll, Undo, Store, Remove, Print, Order}
+use Rattle.pl_cli.specs.declared.command.Command.TheVariants.{Load, All, Preview, UndoAll, Undo, Store, Remove, Print, Order}
 use Rattle.pl_cli.specs.declared.command.Content.{Content}
 use Rattle.pl_cli.specs.declared.command.Content.TheVariants.{File, Recipe}
 use Rattle.pl_cli.specs.Load.{loaded}
@@ -19,6 +19,7 @@ use Rattle.pl_cli.specs.LoadText.{load_text}
 use Rattle.pl_cli.specs.Order.{ordered}
 use Rattle.pl_cli.specs.Print.{printed}
 use Rattle.pl_cli.specs.Refusals.{refusal}
+use Rattle.pl_cli.specs.Reports.{previewed, reported}
 use Rattle.pl_cli.specs.Words.{reads_input, rests_on_files}
 use Rattle.pl_cli.specs.Writes.{removes, stores, undoes}
 
@@ -71,6 +72,8 @@ text_answer (Err cause) = refuses cause
 abbrev pub answer : Option Command → Files → List ℕ → Answer
 answer None files input = record { status = statuses.Usage; text = usage }
 answer (Some (Load name busy policy)) files input = load_answer (loaded policy busy files name)
+answer (Some (All asked detail)) files input = text_answer (reported detail asked (restored files))
+answer (Some (Preview asked detail)) files input = text_answer (previewed detail asked files)
 answer (Some UndoAll) files input = write_answer (λ rows. undone_text (length rows)) (undoes runs.UndoAll (restored files))
 answer (Some (Undo names)) files input = write_answer (λ rows. undone_text (length rows)) (undoes (runs.Undo names) (restored files))
 answer (Some (Store name kind)) files input = write_answer (λ rows. stored_text kind name) (stores name kind input (restored files))

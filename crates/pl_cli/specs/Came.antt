@@ -8,13 +8,16 @@ use Rattle.pl_folder.specs.Calls.{Calls}
 use Rattle.pl_folder.specs.Effects.{Asks, Effect}
 use Rattle.pl_folder.specs.Seen.{Seen, is_broken}
 use Rattle.pl_loader.specs.Loading as loading
+use Rattle.pl_journal.specs.Parts.{Looking}
 use Rattle.pl_batch.specs.Commands.{Counts}
+use Rattle.pl_batch.specs.Restored.{restored}
+use Rattle.pl_batch.specs.declared.prelinking.Prelinking.{Prelinking}
 use Rattle.pl_batch.specs.declared.run.Run.{Run}
 use Rattle.pl_batch.specs.declared.run.Run.TheVariants as runs
 use Rattle.pl_cli.specs.declared.cause.Cause.{Cause}
 use Rattle.pl_cli.specs.declared.cause.Cause.TheVariants.{BadName}
 use Rattle.pl_cli.specs.declared.command.Command.{Command}
-use Rattle.pl_cli.specs.declared.command.Command.TheVariants.{Load, UndoAll, Undo, Store, Remove, Print, Order}
+use Rattle.pl_cli.specs.declared.command.Command.TheVariants.{Load, All, Preview, UndoAll, Undo, Store, Remove, Print, Order}
 use Rattle.pl_cli.specs.declared.command.Content.{Content}
 use Rattle.pl_cli.specs.declared.command.Detail.{Detail}
 use Rattle.pl_cli.specs.declared.named_object.NamedObject.{NamedObject}
@@ -27,16 +30,19 @@ use Rattle.pl_cli.specs.Looks.{takes}
 use Rattle.pl_cli.specs.Load.{loaded_files, loaded_object}
 use Rattle.pl_cli.specs.Order.{members_of, object_in, ordered, walked}
 use Rattle.pl_cli.specs.Print.{printed}
+use Rattle.pl_cli.specs.Reports.{previewed}
 use Rattle.pl_cli.specs.Outside.{Consumes, ending_of, is_read_fault, may_end, most_read}
 use Rattle.pl_cli.specs.Stops.{Means, status_of}
 use Rattle.pl_cli.specs.Words.{bytes_of, reads_input}
-use Rattle.pl_cli.specs.Writes.{AreBytes, WritesFolder, Written, content, most_bytes, removes, stores, undoes}
+use Rattle.pl_cli.specs.Writes.{AreBytes, WritesFolder, Written, content, most_bytes, prelinks, removes, stores, undoes}
 
 -- ---- what a command makes of the folder, by the status. These are the files before it, and the input's bytes where it tells them
 
 abbrev pub Makes : Option Command → Files → Option (List ℕ) → Status → Effect
 Makes None files input status = Asks 0
 Makes (Some (Load name busy policy)) files input status = Asks (takes (loaded_object files name) name)
+Makes (Some (All asked detail)) files input status = WritesFolder (λ bytes. prelinks asked) input status
+Makes (Some (Preview asked detail)) files input status = Looking
 Makes (Some UndoAll) files input status = WritesFolder (λ bytes. undoes runs.UndoAll) input status
 Makes (Some (Undo names)) files input status = WritesFolder (λ bytes. undoes (runs.Undo names)) input status
 Makes (Some (Store name kind)) files input status = WritesFolder (stores name kind) input status
@@ -46,33 +52,37 @@ Makes (Some (Order name detail)) files input status = Asks (takes (object_in fil
 
 -- ---- what is found in the folder
 
--- A value, seen by a view, or a cause is what is meant, where the folder is asked and tells its files; so many calls ask it; and it fails only where it is asked.
-pub record Finds {X Y : Type 0} (asks : Bool) (count : ℕ) (meant : Result X Cause) (view : Y → X) (result : Result Y Stop) (old new : Seen) : Type 0 where
+-- A value, seen by a view, or a cause is what is meant, where the folder is asked and tells its files; its calls have this effect; and it fails only where it is asked.
+pub record Finds {X Y : Type 0} (asks : Bool) (effect : Effect) (meant : Result X Cause) (view : Y → X) (result : Result Y Stop) (old new : Seen) : Type 0 where
   pub means : Means (asks ≡ true → old.tells ≡ true) meant view result
   pub reads : is_read_fault (status_of result) ≡ false
   pub fails : is_broken (ending_of (status_of result)) ≡ true → asks ≡ true
-  pub calls : Calls (ending_of (status_of result)) (Asks count) old new
+  pub calls : Calls (ending_of (status_of result)) effect old new
 
 -- the file of a name, or the object that it is. Only a valid name has one
 abbrev pub HasTaken : List ℕ → Result (Vec ℕ Global) Stop → Seen → Seen → Type 0
-HasTaken name result old new = Finds (is_valid_name name) (count_by is_valid_name (name ∷ [])) (file_in old.files name) (λ bytes. bytes.items) result old new
+HasTaken name result old new = Finds (is_valid_name name) (Asks (count_by is_valid_name (name ∷ []))) (file_in old.files name) (λ bytes. bytes.items) result old new
 
 abbrev pub HasObject : List ℕ → Result NamedObject Stop → Seen → Seen → Type 0
-HasObject name result old new = Finds (is_valid_name name) (count_by is_valid_name (name ∷ [])) (object_in old.files name) (λ m. m.object) result old new
+HasObject name result old new = Finds (is_valid_name name) (Asks (count_by is_valid_name (name ∷ []))) (object_in old.files name) (λ m. m.object) result old new
 
 -- the files of a load, or the objects of a walk
 abbrev pub HasLoaded : {F : Type 0} → List ℕ → Result (loading.Load F) Stop → Seen → Seen → Type 0
-HasLoaded name result old new = Finds (is_valid_name name) (takes (loaded_object old.files name) name) (loaded_files old.files name) (λ l. l.walk.files) result old new
+HasLoaded name result old new = Finds (is_valid_name name) (Asks (takes (loaded_object old.files name) name)) (loaded_files old.files name) (λ l. l.walk.files) result old new
 
 abbrev pub HasWalked : List ℕ → Result (Vec NamedObject Global) Stop → Seen → Seen → Type 0
-HasWalked name result old new = Finds (is_valid_name name) (takes (object_in old.files) name) (walked old.files name) (λ members. members_of members.items) result old new
+HasWalked name result old new = Finds (is_valid_name name) (Asks (takes (object_in old.files) name)) (walked old.files name) (λ members. members_of members.items) result old new
 
 -- the text of an order, or of the cache
 abbrev pub HasOrdered : List ℕ → Detail → Result (Vec ℕ Global) Stop → Seen → Seen → Type 0
-HasOrdered name detail result old new = Finds (is_valid_name name) (takes (object_in old.files) name) (ordered detail old.files name) (λ text. text.items) result old new
+HasOrdered name detail result old new = Finds (is_valid_name name) (Asks (takes (object_in old.files) name)) (ordered detail old.files name) (λ text. text.items) result old new
 
 abbrev pub HasPrinted : Result (Vec ℕ Global) Stop → Seen → Seen → Type 0
-HasPrinted result old new = Finds true 1 (printed old.files) (λ text. text.items) result old new
+HasPrinted result old new = Finds true (Asks 1) (printed old.files) (λ text. text.items) result old new
+
+-- the text of what a run over all files would do. Its calls only read
+abbrev pub HasPreviewed : Prelinking → Detail → Result (Vec ℕ Global) Stop → Seen → Seen → Type 0
+HasPreviewed asked detail result old new = Finds true Looking (previewed detail asked old.files) (λ text. text.items) result old new
 
 -- ---- what writing commands come to
 
@@ -91,6 +101,12 @@ Named name (Err (stops.Cause cause)) = is_valid_name name ≡ false → cause �
 Named name (Err stops.Failed) = ⊤
 Named name (Err stops.InputFailed) = is_valid_name name ≡ true
 Named name (Err stops.NoMemory) = ⊤
+
+-- what is prelinked, and the text of what became of the files that the folder stood for
+pub record HasPrelinked (asked : Prelinking) (detail : Detail) (result : Result (Vec ℕ Global) Stop) (old new : Seen) : Type 0 where
+  pub reads : is_read_fault (status_of result) ≡ false
+  pub calls : Calls (ending_of (status_of result)) (Written (prelinks asked) result) old new
+  pub text : IfOk result (λ text. old.tells ≡ true → previewed detail asked (restored old.files) ≡ Ok text.items)
 
 -- what is undone, and how many files
 pub record HasUndone (run : Run) (result : Result ℕ Stop) (old new : Seen) : Type 0 where

@@ -8,6 +8,7 @@ pub mod LoadText
 pub mod Print
 pub mod Order
 pub mod Refusals
+pub mod Reports
 pub mod Answer
 pub mod Stops
 pub mod Outside

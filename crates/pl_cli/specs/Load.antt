@@ -57,3 +57,6 @@ is_memory causes.InputTooLarge = false
 is_memory (causes.Recipe number kind) = false
 is_memory causes.TooManyFiles = false
 is_memory causes.BadCache = false
+is_memory causes.FolderTooLarge = false
+is_memory (causes.NoSlot name span hole) = false
+is_memory (causes.StampsSpent stamp) = false

@@ -5,7 +5,7 @@ use Rattle.pl_io.specs.Reads.{TookAtMost}
 use Rattle.pl_io.specs.Seen.{Input, Output}
 use Rattle.pl_folder.specs.Seen.{Seen, Ending, Done, Broken, Undone}
 use Rattle.pl_cli.specs.declared.command.Command.{Command}
-use Rattle.pl_cli.specs.declared.command.Command.TheVariants.{Load, UndoAll, Undo, Store, Remove, Print, Order}
+use Rattle.pl_cli.specs.declared.command.Command.TheVariants.{Load, All, Preview, UndoAll, Undo, Store, Remove, Print, Order}
 use Rattle.pl_cli.specs.declared.status.Status.{Status}
 use Rattle.pl_cli.specs.declared.status.Status.TheVariants as statuses
 use Rattle.pl_cli.specs.Words.{asks_folder, reads_input}
@@ -69,6 +69,8 @@ ending_of statuses.NoMemory = Undone
 abbrev pub most_read : Option Command → ℕ
 most_read None = 0
 most_read (Some (Load name busy policy)) = 0
+most_read (Some (All asked detail)) = 0
+most_read (Some (Preview asked detail)) = 0
 most_read (Some UndoAll) = 0
 most_read (Some (Undo names)) = 0
 most_read (Some (Store name kind)) = most_bytes kind

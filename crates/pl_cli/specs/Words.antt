@@ -1,35 +1,50 @@
 -- What the words after the program's name ask for, and what that may ask of the outside.
 use Rattle.std.specs.Prelude.{◌≡◌, ℕ, Bool, true, false, ⊤, List, [], Option, Some, None, Result, Ok, Err, unwrap_or, if◌then◌else◌}
 use Rattle.pl_base.specs.Names.{is_valid_name}
+use Rattle.pl_batch.specs.declared.prelinking.Prelinking.{Prelinking}
 use Rattle.pl_words.specs.Table.{read}
+use Rattle.pl_words.specs.declared.command.AllOptions.{AllOptions}
 use Rattle.pl_words.specs.declared.command.Command as words
 use Rattle.pl_words.specs.declared.command.Command.TheVariants as word
 use Rattle.pl_words.specs.declared.fault.WordsFault.{WordsFault}
 use Rattle.pl_words.specs.declared.fault.WordsFault.TheVariants.{Usage, NoMemory}
 use Rattle.pl_cli.specs.declared.command.Command.{Command}
-use Rattle.pl_cli.specs.declared.command.Command.TheVariants.{Load, UndoAll, Undo, Store, Remove, Print, Order}
+use Rattle.pl_cli.specs.declared.command.Command.TheVariants.{Load, All, Preview, UndoAll, Undo, Store, Remove, Print, Order}
 use Rattle.pl_cli.specs.declared.command.Content.TheVariants.{File, Recipe}
+use Rattle.pl_cli.specs.declared.command.Detail.{Detail}
 use Rattle.pl_cli.specs.declared.command.Detail.TheVariants.{Short, Full}
 
--- the commands that are there. The words of another ask for nothing
-abbrev pub there : words.Command → Option Command
-there (word.Load name busy policy) = Some (Load name busy policy)
-there word.UndoAll = Some UndoAll
-there (word.Undo names) = Some (Undo names)
-there (word.Install name) = Some (Store name File)
-there (word.Make name) = Some (Store name Recipe)
-there (word.Remove name) = Some (Remove name)
-there word.Print = Some Print
-there (word.Order name verbose) = Some (Order name (if verbose then Full else Short))
-there _ = None
+abbrev pub detail_of : Bool → Detail
+detail_of verbose = if verbose then Full else Short
 
-abbrev pub if_read : Result words.Command WordsFault → Option Command
-if_read (Ok asked) = there asked
-if_read (Err fault) = None
+-- what a run over all files is asked at a moment
+abbrev pub prelinking : AllOptions → ℕ → Prelinking
+prelinking options moment = record { region = options.region; share = options.share; moment = moment }
 
--- what words ask for, by the table of commands
-unfoldable pub command : List (List ℕ) → Option Command
-command ws = if_read (read ws)
+-- `-a`, or with `-n` what it would do
+abbrev pub over_all : AllOptions → ℕ → Command
+over_all options moment = if options.dry then Preview (prelinking options moment) (detail_of options.verbose) else All (prelinking options moment) (detail_of options.verbose)
+
+-- the commands that are there, at a moment. The words of another ask for nothing
+abbrev pub there : ℕ → words.Command → Option Command
+there moment (word.Load name busy policy) = Some (Load name busy policy)
+there moment (word.All options) = Some (over_all options moment)
+there moment word.UndoAll = Some UndoAll
+there moment (word.Undo names) = Some (Undo names)
+there moment (word.Install name) = Some (Store name File)
+there moment (word.Make name) = Some (Store name Recipe)
+there moment (word.Remove name) = Some (Remove name)
+there moment word.Print = Some Print
+there moment (word.Order name verbose) = Some (Order name (detail_of verbose))
+there moment _ = None
+
+abbrev pub if_read : ℕ → Result words.Command WordsFault → Option Command
+if_read moment (Ok asked) = there moment asked
+if_read moment (Err fault) = None
+
+-- what words ask for, by the table of commands; the moment is that of the run, in seconds since 1970
+unfoldable pub command : ℕ → List (List ℕ) → Option Command
+command moment ws = if_read moment (read ws)
 
 -- what was read of words, unless there was no memory
 abbrev pub Reads : Option Command → Result Command WordsFault → Type 0
@@ -42,6 +57,8 @@ Reads meant (Err NoMemory) = ⊤
 abbrev pub asks_folder : Option Command → Bool
 asks_folder None = false
 asks_folder (Some (Load name busy policy)) = is_valid_name name
+asks_folder (Some (All asked detail)) = true
+asks_folder (Some (Preview asked detail)) = true
 asks_folder (Some UndoAll) = true
 asks_folder (Some (Undo names)) = true
 asks_folder (Some (Store name kind)) = true
@@ -53,6 +70,8 @@ asks_folder (Some (Order name detail)) = is_valid_name name
 abbrev pub rests_on_files : Option Command → Bool
 rests_on_files None = false
 rests_on_files (Some (Load name busy policy)) = is_valid_name name
+rests_on_files (Some (All asked detail)) = true
+rests_on_files (Some (Preview asked detail)) = true
 rests_on_files (Some UndoAll) = true
 rests_on_files (Some (Undo names)) = true
 rests_on_files (Some (Store name kind)) = is_valid_name name
@@ -63,6 +82,8 @@ rests_on_files (Some (Order name detail)) = is_valid_name name
 abbrev pub reads_input : Option Command → Bool
 reads_input None = false
 reads_input (Some (Load name busy policy)) = false
+reads_input (Some (All asked detail)) = false
+reads_input (Some (Preview asked detail)) = false
 reads_input (Some UndoAll) = false
 reads_input (Some (Undo names)) = false
 reads_input (Some (Store name kind)) = is_valid_name name

@@ -11,6 +11,7 @@ use Rattle.pl_build.specs.declared.checks.Fault.{Fault}
 use Rattle.pl_loader.specs.declared.fault.LoadFault.TheVariants.{BadMark, NotThere}
 use Rattle.pl_batch.specs.Changes.{changes_of, removal_meant, run_meant}
 use Rattle.pl_batch.specs.Commands.{Commands, CommandsDisk, CommandsFiles, Failed, Lacked, Made, Meaning, Refused, ready_for}
+use Rattle.pl_batch.specs.declared.prelinking.Prelinking.{Prelinking}
 use Rattle.pl_batch.specs.declared.cause.Cause as batch
 use Rattle.pl_batch.specs.declared.cause.Cause.TheVariants as batch_causes
 use Rattle.pl_batch.specs.declared.run.Run.{Run}
@@ -35,10 +36,18 @@ of_batch batch_causes.TooManyFiles = causes.TooManyFiles
 of_batch (batch_causes.NotThere name) = causes.Load (NotThere name)
 of_batch (batch_causes.FileTooLarge name) = causes.FileTooLarge name
 of_batch (batch_causes.BadMark name) = causes.Load (BadMark name)
+of_batch batch_causes.BadCache = causes.BadCache
+of_batch batch_causes.FolderTooLarge = causes.FolderTooLarge
+of_batch (batch_causes.NoSlot name span hole) = causes.NoSlot name span hole
+of_batch (batch_causes.StampsSpent stamp) = causes.StampsSpent stamp
 
 -- `-u`: the journal is in its grammar, and then the rows of what is undone
 abbrev pub undoes : Run → Meaning Cause
 undoes run files = because of_batch (run_meant run files)
+
+-- `-a`: the journal likewise, and then the rows of the cache and of what is prelinked
+abbrev pub prelinks : Prelinking → Meaning Cause
+prelinks asked files = because of_batch (run_meant (runs.All asked) files)
 
 -- `--remove`
 abbrev pub removes : List ℕ → Meaning Cause

@@ -1,14 +1,15 @@
 use pl_base::{Rows, Text};
+use pl_batch::Prelinking;
 use pl_elf::Range;
 use pl_words::Policy;
 
-/// How much of an order is printed.
+/// How much is printed.
 #[derive(Clone, Copy, Debug, PartialEq, Eq)]
 pub enum Detail {
-    /// The objects in their order.
+    /// Of an order the objects; of a run over all files how many there are of each kind.
     Short,
 
-    /// And which object reaches which.
+    /// Of an order which object reaches which, too; of a run over all files a line for each name, too.
     Full,
 }
 
@@ -34,6 +35,18 @@ pub enum Command {
 
         /// Where the libraries go.
         policy: Policy,
+    },
+
+    /// To prelink every file that may be prelinked.
+    All {
+        asked: Prelinking,
+        detail: Detail,
+    },
+
+    /// To print what that would do.
+    Preview {
+        asked: Prelinking,
+        detail: Detail,
     },
 
     /// To give every prelinked file its original.

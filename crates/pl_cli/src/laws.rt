@@ -5,9 +5,11 @@ ghost use Rattle.pl_base.specs.Files.{Files};
 ghost use Rattle.pl_cli.specs.Load.{is_memory, loaded};
 ghost use Rattle.pl_cli.specs.Order.{ordered};
 ghost use Rattle.pl_cli.specs.Print.{printed};
+ghost use Rattle.pl_cli.specs.Reports.{previewed, reported};
 ghost use Rattle.pl_cli.specs.Writes.{removes, stores, undoes};
 ghost use Rattle.pl_cli.specs.declared.command.Content.{Content};
 ghost use Rattle.pl_cli.specs.declared.command.Detail.{Detail};
+ghost use Rattle.pl_batch.specs.declared.prelinking.Prelinking.{Prelinking};
 ghost use Rattle.pl_batch.specs.declared.run.Run.{Run};
 ghost use Rattle.pl_elf.specs.declared.range.Range.{Range};
 ghost use Rattle.pl_words.specs.declared.command.Policy.{Policy};
@@ -24,4 +26,13 @@ pub fn causes_tell()
     ensures remove { (name : List ℕ) (files : Files) → Tells is_memory (removes name files) }
     ensures store { (name : List ℕ) (kind : Content) (input : List ℕ) (files : Files) →
         Tells is_memory (stores name kind input files) }
+{}
+
+/// Nor does a run over all files, or what one would do. It does nothing.
+#[tactic(auto, using(crate::proofs::TellsLemmas::previewed_tells, crate::proofs::TellsLemmas::reported_tells))]
+pub fn reports_tell()
+    ensures all { (detail : Detail) (asked : Prelinking) (files : Files) →
+        Tells is_memory (reported detail asked files) }
+    ensures preview { (detail : Detail) (asked : Prelinking) (files : Files) →
+        Tells is_memory (previewed detail asked files) }
 {}

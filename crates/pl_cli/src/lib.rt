@@ -1,6 +1,7 @@
 //! The top call: words, a folder, an input and an output.
 #![tactic(auto)]
 
+mod all;
 mod cause;
 mod change;
 mod command;
@@ -11,6 +12,7 @@ mod named_object;
 mod order;
 mod print;
 mod refusals;
+mod report;
 mod status;
 mod stop;
 mod store;
@@ -24,6 +26,6 @@ mod words;
 mod write;
 mod write_stop;
 
-pub use laws::causes_tell;
+pub use laws::{causes_tell, reports_tell};
 pub use status::Status;
 pub use top::run;

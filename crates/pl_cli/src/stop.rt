@@ -83,6 +83,10 @@ fn batch_cause(cause: pl_batch::Cause) -> Cause
         pl_batch::Cause::NotThere(name) => Cause::Load(LoadFault::NotThere(name)),
         pl_batch::Cause::FileTooLarge(name) => Cause::FileTooLarge(name),
         pl_batch::Cause::BadMark(name) => Cause::Load(LoadFault::BadMark(name)),
+        pl_batch::Cause::BadCache => Cause::BadCache,
+        pl_batch::Cause::FolderTooLarge => Cause::FolderTooLarge,
+        pl_batch::Cause::NoSlot { name, span, hole } => Cause::NoSlot { name, span, hole },
+        pl_batch::Cause::StampsSpent(stamp) => Cause::StampsSpent(stamp),
     }
 }
 

@@ -14,6 +14,7 @@ ghost use Rattle.pl_cli.specs.Ran.{Finishes, Ran, RanLoad, Refuses, Writes};
 ghost use Rattle.pl_cli.specs.Words.{asks_folder, command, reads_input};
 
 use crate::Status;
+use crate::all::{prelink, preview};
 use crate::change::{remove, undo};
 use crate::command::Command;
 use crate::load::{load, start};
@@ -53,7 +54,7 @@ fn refuse<K: Sink>(alloc: Global, stop: Stop, output: &mut K) -> Status
     ensures { Refuses stop result (K.seen output.old) (K.seen output.new) }
 {
     match stop {
-        Stop::Cause(cause) => match refusal(alloc, cause) {
+        Stop::Cause(cause) => match refusal(alloc, &cause) {
             Ok(line) => finish(output, &line, Status::Refused),
             Err(_) => Status::NoMemory,
         },
@@ -177,9 +178,11 @@ fn load_and_write<D: Folder, K: Sink>(
 ///
 /// The answer is a definition over the words, the folder's files and the bytes of the input: a status and a text for the output. `Done`, `Differs`, `Usage` and `Refused` come only with the whole of it. A fault comes only where the count of its object rose: `ReadFault` and `DiskFault` before anything was written, `WriteFault` after some first bytes of the text. `NoMemory` may come at any time before anything was written. A count of faults rises only where the status is the fault of its object.
 ///
-/// `-u`, `--install`, `--make` and `--remove` write to the folder, and no other command does. Each recovers it first, and then makes all of its changes or none. After `Done` the only image of the folder is the one with the changes; after `Refused` and `ReadFault` the recovered one; after `WriteFault` the one or the other, as the answer has it. After `DiskFault` and `NoMemory` the folder stands for the files before, after `DiskFault` perhaps for those with all changes. An image that a crash on the way leaves stands for the files before or for those after; until the first settle that is done it may be one of the images at the start.
+/// `-a` without `-n`, `-u`, `--install`, `--make` and `--remove` write to the folder, and no other command does. Each recovers it first, and then makes all of its changes or none. After `Done` the only image of the folder is the one with the changes; after `Refused` and `ReadFault` the recovered one; after `WriteFault` the one or the other, as the answer has it. After `DiskFault` and `NoMemory` the folder stands for the files before, after `DiskFault` perhaps for those with all changes. An image that a crash on the way leaves stands for the files before or for those after; until the first settle that is done it may be one of the images at the start.
 ///
 /// Only `--install` and `--make` read the input. Words that are no command, and a name of another command that is not valid, ask neither folder nor input.
+///
+/// `now` is the moment of the run in seconds since 1970: the stamps that `-a` gives are at least so great.
 pub fn run<D: Folder, S: Source, K: Sink>(
     alloc: Global,
     words: &[String],
@@ -188,18 +191,26 @@ pub fn run<D: Folder, S: Source, K: Sink>(
     output: &mut K,
     now: u32,
 ) -> Status
-    ensures ran { Ran (command (map string_bytes words.now))
+    ensures ran { Ran (command now (map string_bytes words.now))
         (outside (D.seen folder.old) (S.seen input.old) (K.seen output.old))
         (outside (D.seen folder.new) (S.seen input.new) (K.seen output.new)) result }
     // No call is made of a folder that is not to be asked, nor of an input that is not to be read.
-    ensures unasked { asks_folder (command (map string_bytes words.now)) ≡ false →
+    ensures unasked { asks_folder (command now (map string_bytes words.now)) ≡ false →
         folder.new ≡ folder.old }
-    ensures unread { reads_input (command (map string_bytes words.now)) ≡ false →
+    ensures unread { reads_input (command now (map string_bytes words.now)) ≡ false →
         input.new ≡ input.old }
 {
-    match read_words(alloc, words) {
+    match read_words(alloc, words, now) {
         Ok(Command::Load { name, busy, policy }) => {
             load_and_write(alloc, folder, output, name.as_str(), busy, policy)
+        }
+        Ok(Command::All { asked, detail }) => {
+            let prelinked = prelink(alloc, folder, &asked, detail);
+            end_with(alloc, prelinked, output)
+        }
+        Ok(Command::Preview { asked, detail }) => {
+            let previewed = preview(alloc, folder, &asked, detail);
+            end_with(alloc, previewed, output)
         }
         Ok(Command::UndoAll) => {
             let undone = undo(alloc, folder, &Run::UndoAll);

@@ -2,17 +2,40 @@ ghost use Rattle.std.specs.Prelude.{◌≡◌, map, string_bytes};
 ghost use Rattle.pl_cli.specs.Words as spec;
 
 use crate::command::{Command, Content, Detail};
-use pl_words::WordsFault;
+use pl_batch::Prelinking;
+use pl_words::{AllOptions, WordsFault};
 use std::alloc::Global;
 
-/// A command that is there.
-fn there(command: pl_words::Command) -> Option<Command>
-    ensures { result ≡ spec.there command }
+/// A run over all files, or what it would do, at a moment.
+fn over_all(options: AllOptions, moment: u32) -> Command
+    ensures { result ≡ spec.over_all options moment }
+{
+    let asked = Prelinking {
+        region: options.region,
+        share: options.share,
+        moment,
+    };
+    let detail = if options.verbose {
+        Detail::Full
+    } else {
+        Detail::Short
+    };
+    if options.dry {
+        Command::Preview { asked, detail }
+    } else {
+        Command::All { asked, detail }
+    }
+}
+
+/// A command that is there, at a moment.
+fn there(command: pl_words::Command, moment: u32) -> Option<Command>
+    ensures { result ≡ spec.there moment command }
 {
     match command {
         pl_words::Command::Load { name, busy, policy } => {
             Some(Command::Load { name, busy, policy })
         }
+        pl_words::Command::All(options) => Some(over_all(options, moment)),
         pl_words::Command::UndoAll => Some(Command::UndoAll),
         pl_words::Command::Undo { names } => Some(Command::Undo { names }),
         pl_words::Command::Install { name } => Some(Command::Store {
@@ -33,13 +56,13 @@ fn there(command: pl_words::Command) -> Option<Command>
     }
 }
 
-/// What the words ask for. The words of a command that is not there ask for nothing.
+/// What the words ask for at a moment, in seconds since 1970. The words of a command that is not there ask for nothing.
 #[tactic(auto, unfolding(crate::specs::Words::command))]
-pub fn read_words(alloc: Global, words: &[String]) -> Result<Command, WordsFault>
-    ensures { spec.Reads (spec.command (map string_bytes words.now)) result }
+pub fn read_words(alloc: Global, words: &[String], moment: u32) -> Result<Command, WordsFault>
+    ensures { spec.Reads (spec.command moment (map string_bytes words.now)) result }
 {
     let command = pl_words::read_words(alloc, words)?;
-    match there(command) {
+    match there(command, moment) {
         Some(command) => Ok(command),
         None => Err(WordsFault::Usage),
     }
