@@ -1,0 +1,11 @@
+pub mod RowLemmas
+pub mod PlanLemmas
+pub mod AllLemmas
+pub mod FollowLemmas
+pub mod FitLemmas
+pub mod PageLemmas
+pub mod StampLemmas
+pub mod SlotLemmas
+pub mod SortLemmas
+pub mod SpellLemmas
+pub mod CauseLemmas

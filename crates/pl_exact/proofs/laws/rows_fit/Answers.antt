@@ -1,0 +1,8 @@
+use Rattle.pl_exact.proofs.FitLemmas.{removals_fit, runs_fit}
+use Rattle.pl_exact.proofs.laws.rows_fit.Goals as goal
+
+pub returns-clause-runs : goal.returns-clause-runs
+returns-clause-runs c = runs_fit
+
+pub returns-clause-removals : goal.returns-clause-removals
+returns-clause-removals c = removals_fit

@@ -1,0 +1,19 @@
+ghost use Rattle.pl_exact.specs.All.{AllGivesNext};
+ghost use Rattle.pl_exact.specs.Causes.{BadCacheIsOfTheCache};
+ghost use Rattle.pl_exact.specs.Fits.{RemovalsFit, RunsFit};
+
+/// With all its rows done a run that prelinks everything leaves each valid name the file that is planned for it, and the planned cache.
+pub fn all_gives_next()
+    ensures { AllGivesNext }
+{}
+
+/// The rows of every command fit a journal: there are at most 1025 of them, their names differ, and each is valid or the cache's. So TooManyFiles comes of the files alone.
+pub fn rows_fit()
+    ensures runs { RunsFit }
+    ensures removals { RemovalsFit }
+{}
+
+/// The cache that a run leaves always has a spelling, so BadCache comes of the cache that is there alone: slots end at or below 2^47, the run's moment has 32 bits, and the cache is bytes.
+pub fn bad_cache_is_of_the_cache()
+    ensures { BadCacheIsOfTheCache }
+{}
