@@ -15,3 +15,4 @@ pub mod CacheLemmas
 pub mod AllLemmas
 pub mod SizeLemmas
 pub mod EntryLemmas
+pub mod VerifyLemmas

@@ -10,3 +10,4 @@ pub mod Starts
 pub mod Restored
 pub mod Lent
 pub mod Again
+pub mod Verify

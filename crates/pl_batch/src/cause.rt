@@ -42,6 +42,24 @@ pub enum Cause {
 
     /// A file is stale, and the greatest stamp, which this is, is the last that there is.
     StampsSpent(u32),
+
+    /// The file of this name is refused by an acceptance clause.
+    Refused {
+        /// The name of the file.
+        name: Text,
+
+        /// The number of the clause.
+        number: u32,
+
+        /// What the clause tells, 0 where it tells nothing.
+        argument: u64,
+    },
+
+    /// A walk needs this name, which is no library, or the program of this name, with which it begins.
+    NeededIsProgram(Text),
+
+    /// A walk has too many names, of which this is the first.
+    TooMany(Text),
 }
 
 impl fmt::Debug for Cause {
@@ -57,6 +75,9 @@ impl fmt::Debug for Cause {
             Cause::FolderTooLarge => ("FolderTooLarge", ""),
             Cause::NoSlot { name, .. } => ("NoSlot", name.as_str()),
             Cause::StampsSpent(_) => ("StampsSpent", ""),
+            Cause::Refused { name, .. } => ("Refused", name.as_str()),
+            Cause::NeededIsProgram(name) => ("NeededIsProgram", name.as_str()),
+            Cause::TooMany(name) => ("TooMany", name.as_str()),
         };
         f.write_str(cause)?;
         f.write_str(" ")?;

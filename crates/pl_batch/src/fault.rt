@@ -6,6 +6,7 @@ use pl_folder::FolderFault;
 use pl_io::NoMemory;
 use pl_journal::JournalFault;
 use pl_plan::PlanningFault;
+use pl_scope::WalkFault;
 use std::alloc::{AllocError, AllocFailed};
 use std::fmt;
 use thiserror::Error;
@@ -102,6 +103,21 @@ impl From<JournalFault> for BatchFault {
             JournalFault::Failed => BatchFault::DiskFailed,
             JournalFault::BadJournal => BatchFault::Cause(Cause::BadJournal),
             JournalFault::NoMemory => BatchFault::NoMemory,
+        }
+    }
+}
+
+impl From<WalkFault> for BatchFault {
+    ghost use Rattle.pl_batch.specs.Verify.{of_walk_fault};
+
+    ghost from_gives = { λ fault whole. whole ≡ of_walk_fault fault };
+
+    fn from(fault: WalkFault) -> BatchFault {
+        match fault {
+            WalkFault::NeededIsProgram(name) => BatchFault::Cause(Cause::NeededIsProgram(name)),
+            WalkFault::TooMany(name) => BatchFault::Cause(Cause::TooMany(name)),
+            WalkFault::NotThere(name) => BatchFault::Cause(Cause::NotThere(name)),
+            WalkFault::NoMemory => BatchFault::NoMemory,
         }
     }
 }

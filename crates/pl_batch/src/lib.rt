@@ -18,6 +18,7 @@ mod starting;
 mod storing;
 mod taking;
 mod undoing;
+mod verifying;
 
 pub use all::preview_all;
 pub use cause::Cause;
@@ -29,3 +30,4 @@ pub use prelinking::Prelinking;
 pub use reading::FOLDER;
 pub use room::FILES;
 pub use run::Run;
+pub use verifying::verify;

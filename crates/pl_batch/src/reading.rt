@@ -67,7 +67,7 @@ pub(crate) fn cache_in(alloc: Global, bytes: &[u8]) -> Result<Cache, BatchFault>
 // ---- the files
 
 /// The file of a name, with what it is; its original's form fault is that under a region of slots.
-fn take_one<D: Folder>(
+pub(crate) fn take_one<D: Folder>(
     alloc: Global,
     folder: &mut D,
     name: &str,
