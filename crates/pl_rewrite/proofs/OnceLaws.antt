@@ -1,5 +1,5 @@
 -- What is made once a run serves every walk: the checksums of originals, and the files of libraries.
-use Rattle.std.proofs.Common.{◌≡◌, ℕ, Bool, true, false, List, [], ◌∷◌, length, get_or, map, Option, Some, None, Result, Ok, Err, refl, sym, ap, subst, ◌∙◌, inl, inr}
+use Rattle.std.proofs.Common.{◌≡◌, ℕ, true, false, List, [], ◌∷◌, length, get_or, map, Option, Some, None, Result, Ok, refl, sym, ap, subst, ◌∙◌, inl, inr}
 use Rattle.std.specs.Prelude.{IfSome, find, nat_le, slice_get}
 use Rattle.std.specs.List.{All, AllZip, cons_option, filter_map}
 use Rattle.std.specs.Str.{bytes_eq}

@@ -1,4 +1,4 @@
-use Rattle.std.proofs.Common.{sym, subst, ◌∙◌}
+use Rattle.std.proofs.Common.{sym, subst}
 use Rattle.pl_conflict.specs.Prelinked.{Firm}
 use Rattle.pl_form.specs.Program.{IsFirmProgram}
 use Rattle.pl_form.specs.Words.{AreFills}

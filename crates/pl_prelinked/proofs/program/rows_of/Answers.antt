@@ -1,6 +1,3 @@
-use Rattle.std.proofs.Common.{◌≡◌, Option, subst, sym}
-use Rattle.std.specs.Prelude.{IfSome}
-use Rattle.pl_conflict.specs.Prelinked.{parts_of}
 use Rattle.pl_prelinked.proofs.program.rows_of.Goals as goal
 
 pub rows_by-requires-clause-parts : goal.rows_by-requires-clause-parts

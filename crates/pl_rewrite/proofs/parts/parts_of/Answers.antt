@@ -1,4 +1,4 @@
-use Rattle.std.proofs.Common.{◌≡◌, ◌<◌, ℕ, List, Option, Some, length, sym, subst, arith}
+use Rattle.std.proofs.Common.{◌<◌, length, arith}
 use Rattle.pl_known.proofs.FindLaws.{zip_more}
 use Rattle.pl_rewrite.specs.Members.{IsPart}
 use Rattle.pl_rewrite.proofs.parts.parts_of.Goals as goal

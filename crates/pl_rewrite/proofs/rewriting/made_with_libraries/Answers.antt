@@ -1,4 +1,4 @@
-use Rattle.std.proofs.Common.{List, sym, subst, ◌∙◌}
+use Rattle.std.proofs.Common.{sym, subst}
 use Rattle.std.specs.List.{All}
 use Rattle.pl_rewrite.specs.Members.{IsPrelinked}
 use Rattle.pl_rewrite.proofs.rewriting.made_with_libraries.Goals as goal
