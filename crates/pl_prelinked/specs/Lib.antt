@@ -1,4 +1,5 @@
 pub mod Sources
+pub mod Lent
 pub mod Fills
 pub mod Libraries
 pub mod Programs

@@ -2,6 +2,7 @@
 #![tactic(auto)]
 
 mod fills;
+mod lent;
 mod library;
 mod lists;
 mod numbers;
@@ -12,5 +13,7 @@ mod set;
 mod source;
 mod windows;
 
-pub use prelinking::prelink;
+pub use lent::Lent;
+pub use lists::checksum_of;
+pub use prelinking::{prelink, prelink_with};
 pub use source::Source;

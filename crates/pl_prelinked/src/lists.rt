@@ -2,6 +2,7 @@
 ghost use Rattle.std.specs.Prelude.{◌≡◌, length, IfOk};
 ghost use Rattle.pl_conflict.specs.Prelinked as spec;
 ghost use Rattle.pl_form.specs.Words as words;
+ghost use Rattle.pl_prelinked.specs.Lent as lent;
 ghost use Rattle.sha2.specs.Sha256.{sha256};
 
 use crate::Source;
@@ -19,8 +20,8 @@ fn digest_of(bytes: &[u8]) -> [u8; 32]
     hasher.finalize()
 }
 
-/// The first four bytes of the SHA-256 of an original, as a number.
-fn checksum_of(original: &[u8]) -> u32
+/// The first four bytes of the SHA-256 of an original, as a number: the checksum by which lists tell it.
+pub fn checksum_of(original: &[u8]) -> u32
     ensures { result ≡ words.checksum_of original.now }
 {
     let digest = digest_of(original);
@@ -46,4 +47,14 @@ pub fn list_of(alloc: Global, sources: &[Source<'_>]) -> Result<Rows<ListRow>, A
         rows.push(list_row(alloc, source)?)?;
     }
     Ok(rows)
+}
+
+/// Those of the members after the first.
+pub fn list_after(alloc: Global, sources: &[Source<'_>]) -> Result<Rows<ListRow>, AllocError>
+    ensures { IfOk result (λ rows. rows ≡ lent.list_after sources.now) }
+{
+    let [_, others @ ..] = sources else {
+        return Ok(Rows::new(alloc));
+    };
+    list_of(alloc, others)
 }

@@ -2,15 +2,18 @@
 ghost use Rattle.std.specs.Prelude.{◌≡◌, true, Some, IfOk};
 ghost use Rattle.std.specs.Option.{option_map};
 ghost use Rattle.pl_conflict.specs.Prelinked as spec;
+ghost use Rattle.pl_prelinked.specs.Lent.{AreLent, list_after};
 ghost use Rattle.pl_prelinked.specs.Libraries.{IsLibraryWalk};
 ghost use Rattle.pl_prelinked.specs.Sources.{AreSources, members};
 
-use crate::Source;
 use crate::library::library_file;
+use crate::lists::list_after;
 use crate::program::program_file;
 use crate::set::are_set;
+use crate::{Lent, Source};
 use pl_form::STORED;
 use pl_io::NoMemory;
+use pl_lists::ListRow;
 use std::alloc::Global;
 
 /// A file, where it is no longer than a folder stores.
@@ -25,20 +28,30 @@ fn stored(file: Vec<u8>) -> Option<Vec<u8>>
 }
 
 /// A library's file, where it is no longer than a folder stores.
-fn stored_library(alloc: Global, sources: &[Source<'_>]) -> Result<Option<Vec<u8>>, NoMemory>
+fn stored_library(
+    alloc: Global,
+    sources: &[Source<'_>],
+    list: &[ListRow],
+) -> Result<Option<Vec<u8>>, NoMemory>
     requires sources { AreSources sources.now }
     requires library { IsLibraryWalk sources.now }
+    requires list { list.now ≡ list_after sources.now }
     ensures { IfOk result (λ file. option_map (λ v. v.items) file
         ≡ spec.stored (Some (spec.library_file sources.now))) }
 {
-    let file = library_file(alloc, sources)?;
+    let file = library_file(alloc, sources, list)?;
     Ok(stored(file))
 }
 
 /// The file of the first of members that can be prelinked together.
-fn file_of(alloc: Global, sources: &[Source<'_>]) -> Result<Option<Vec<u8>>, NoMemory>
+fn file_of(
+    alloc: Global,
+    sources: &[Source<'_>],
+    lent: &Lent<'_>,
+) -> Result<Option<Vec<u8>>, NoMemory>
     requires sources { AreSources sources.now }
     requires set { spec.are_set sources.now ≡ true }
+    requires lent { AreLent sources.now lent.now }
     ensures { IfOk result (λ file. option_map (λ v. v.items) file
         ≡ spec.stored (spec.file_of sources.now)) }
 {
@@ -46,9 +59,27 @@ fn file_of(alloc: Global, sources: &[Source<'_>]) -> Result<Option<Vec<u8>>, NoM
         return Ok(None);
     };
     if first.object.kind.is_library() {
-        return stored_library(alloc, sources);
+        return stored_library(alloc, sources, lent.list);
     }
-    program_file(alloc, sources)
+    program_file(alloc, sources, lent)
+}
+
+/// The file that `prelink` makes, where the caller has the rows of the members after the first, and may have the files with which the conflicts of a program are compared; these are made where it has not.
+pub fn prelink_with(
+    alloc: Global,
+    sources: &[Source<'_>],
+    lent: &Lent<'_>,
+) -> Result<Option<Vec<u8>>, NoMemory>
+    requires sources { AreSources sources.now }
+    requires lent { AreLent sources.now lent.now }
+    ensures { IfOk result (λ file. option_map (λ v. v.items) file
+        ≡ spec.prelinked (members sources.now)) }
+{
+    let set = are_set(alloc, sources)?;
+    if set {
+        return file_of(alloc, sources, lent);
+    }
+    Ok(None)
 }
 
 /// The prelinked file of the first of these members of its walk, in its version, at their slots and stamps; None where there is none:
@@ -65,9 +96,10 @@ pub fn prelink(alloc: Global, sources: &[Source<'_>]) -> Result<Option<Vec<u8>>,
     ensures { IfOk result (λ file. option_map (λ v. v.items) file
         ≡ spec.prelinked (members sources.now)) }
 {
-    let set = are_set(alloc, sources)?;
-    if set {
-        return file_of(alloc, sources);
-    }
-    Ok(None)
+    let list = list_after(alloc, sources)?;
+    let lent = Lent {
+        list: list.as_slice(),
+        parts: None,
+    };
+    prelink_with(alloc, sources, &lent)
 }

@@ -8,6 +8,7 @@ ghost use Rattle.pl_elf.specs.Kinds.{is_library};
 ghost use Rattle.pl_prelinked.specs.Fills.{fills_of, memory_of};
 ghost use Rattle.pl_prelinked.specs.Programs.{AreFirstFills, BeginsWithProgram, IsFound, IsProgramSet, form_of, result_ok};
 ghost use Rattle.pl_form.specs.Words.{AreFills};
+ghost use Rattle.pl_prelinked.specs.Lent.{AreLent, list_after};
 ghost use Rattle.pl_image.specs.Image.{AreLoaded};
 ghost use Rattle.pl_prelinked.specs.Sources.{AreSources};
 ghost use Rattle.pl_scope.specs.Scope.{IsAccepted, objects};
@@ -15,17 +16,17 @@ ghost use Rattle.pl_value.specs.Meanings.{meanings};
 ghost use Rattle.pl_value.specs.Ordinary as ordinary;
 ghost use Rattle.pl_tls.specs.declared.fault.TlsFault.{TlsFault};
 
-use crate::Source;
 use crate::fills::fills;
 use crate::library::library_file;
-use crate::lists::list_of;
+use crate::lists::list_after;
 use crate::scopes::{own_walk, places_of, scope_of};
+use crate::{Lent, Source};
 use pl_base::Rows;
 use pl_conflict::conflicts;
 use pl_form::{Fill, FormFault, form_program};
 use pl_image::{Loaded, Parts};
 use pl_io::NoMemory;
-use pl_lists::ConflictRow;
+use pl_lists::{ConflictRow, ListRow};
 use pl_scope::Scope;
 use pl_tls::{Block, Module, TlsFault, offsets};
 use pl_value::{Meaning, OrdinaryFault, Places, load, meanings};
@@ -45,7 +46,9 @@ fn library_part(
         ≡ spec.library_file (spec.own_walk sources.now source.now.member.name)) }
 {
     let own = own_walk(alloc, sources, source.name)?;
-    library_file(alloc, &own)
+    let members = own.as_slice();
+    let list = list_after(alloc, members)?;
+    library_file(alloc, members, list.as_slice())
 }
 
 /// The file with which conflicts of a member are compared: a library's prelinked file, a program's original.
@@ -164,8 +167,28 @@ fn compared(
     }
 }
 
-/// Those of the members' scope.
-fn rows_of(
+/// Those of the members' scope, by the files with which they are compared.
+fn rows_by(
+    alloc: Global,
+    sources: &[Source<'_>],
+    modules: &[Module],
+    parts: &Parts<'_>,
+) -> Result<Option<Rows<ConflictRow>>, NoMemory>
+    requires sources { AreSources sources.now }
+    requires set { IsProgramSet sources.now }
+    requires parts { parts.now ≡ spec.parts_of sources.now }
+    ensures { IfOk result (λ rows. rows ≡ result_ok
+        (conflicts (spec.objects_of sources.now) (spec.parts_of sources.now)
+        (spec.slots_of sources.now) modules.now)) }
+{
+    let scope = scope_of(alloc, sources)?;
+    let places = places_of(alloc, sources)?;
+    let rows = compared(alloc, &scope, &places, modules, parts)?;
+    Ok(rows)
+}
+
+/// The same where these files are to be made.
+fn rows_made(
     alloc: Global,
     sources: &[Source<'_>],
     modules: &[Module],
@@ -176,12 +199,29 @@ fn rows_of(
         (conflicts (spec.objects_of sources.now) (spec.parts_of sources.now)
         (spec.slots_of sources.now) modules.now)) }
 {
-    let scope = scope_of(alloc, sources)?;
-    let places = places_of(alloc, sources)?;
     let files = parts_of(alloc, sources)?;
     let parts = lent(alloc, &files)?;
-    let rows = compared(alloc, &scope, &places, modules, &parts)?;
-    Ok(rows)
+    rows_by(alloc, sources, modules, &parts)
+}
+
+/// The same where these files may be there.
+fn rows_of(
+    alloc: Global,
+    sources: &[Source<'_>],
+    modules: &[Module],
+    lent: &Lent<'_>,
+) -> Result<Option<Rows<ConflictRow>>, NoMemory>
+    requires sources { AreSources sources.now }
+    requires set { IsProgramSet sources.now }
+    requires lent { AreLent sources.now lent.now }
+    ensures { IfOk result (λ rows. rows ≡ result_ok
+        (conflicts (spec.objects_of sources.now) (spec.parts_of sources.now)
+        (spec.slots_of sources.now) modules.now)) }
+{
+    match lent.parts {
+        None => rows_made(alloc, sources, modules),
+        Some(parts) => rows_by(alloc, sources, modules, parts),
+    }
 }
 
 /// The objects of members as loaded, from their originals at their slots.
@@ -224,21 +264,22 @@ fn form(
     alloc: Global,
     program: &Source<'_>,
     others: &[Source<'_>],
+    list: &[ListRow],
     fills: &[Fill],
     rows: &[ConflictRow],
 ) -> Result<Option<Vec<u8>>, NoMemory>
     requires sources { AreSources (program.now ∷ others.now) }
     requires program { is_library program.now.object.kind ≡ false }
+    requires list { list.now ≡ spec.list_of others.now }
     requires fills { AreFills fills.now program.now.object.relocations }
     ensures { IfOk result (λ file. option_map (λ v. v.items) file
         ≡ spec.stored (form_of (program.now ∷ others.now) fills.now rows.now)) }
 {
-    let list = list_of(alloc, others)?;
     match form_program(
         alloc,
         program.original,
         program.object,
-        list.as_slice(),
+        list,
         fills,
         rows,
         program.version,
@@ -253,11 +294,13 @@ fn form(
 fn formed(
     alloc: Global,
     sources: &[Source<'_>],
+    list: &[ListRow],
     fills: &[Fill],
     rows: &[ConflictRow],
 ) -> Result<Option<Vec<u8>>, NoMemory>
     requires sources { AreSources sources.now }
     requires program { BeginsWithProgram sources.now }
+    requires list { list.now ≡ list_after sources.now }
     requires fills { AreFirstFills sources.now fills.now }
     ensures { IfOk result (λ file. option_map (λ v. v.items) file
         ≡ spec.stored (form_of sources.now fills.now rows.now)) }
@@ -265,55 +308,61 @@ fn formed(
     let [program, others @ ..] = sources else {
         return Ok(None);
     };
-    form(alloc, program, others, fills, rows)
+    form(alloc, program, others, list, fills, rows)
 }
 
 /// The prelinked file with these meanings of all relocations and these conflict rows.
 fn with_rows(
     alloc: Global,
     sources: &[Source<'_>],
+    list: &[ListRow],
     meanings: &[Meaning],
     rows: &[ConflictRow],
 ) -> Result<Option<Vec<u8>>, NoMemory>
     requires sources { AreSources sources.now }
     requires set { IsProgramSet sources.now }
+    requires list { list.now ≡ list_after sources.now }
     ensures { IfOk result (λ file. option_map (λ v. v.items) file
         ≡ spec.stored (form_of sources.now
         (fills_of sources.now (memory_of sources.now meanings.now)) rows.now)) }
 {
     let fills = place_fills(alloc, sources, meanings)?;
-    formed(alloc, sources, &fills, rows)
+    formed(alloc, sources, list, &fills, rows)
 }
 
 /// The prelinked file with these meanings of all relocations; None where the file is longer than a folder stores.
 fn with_meanings(
     alloc: Global,
     sources: &[Source<'_>],
+    lent: &Lent<'_>,
     modules: &[Module],
     all: &[Meaning],
 ) -> Result<Option<Vec<u8>>, NoMemory>
     requires sources { AreSources sources.now }
     requires set { IsProgramSet sources.now }
+    requires lent { AreLent sources.now lent.now }
     requires given { Some all.now ≡ result_ok
         (meanings (spec.objects_of sources.now) (spec.slots_of sources.now) modules.now) }
     ensures { IfOk result (λ file. option_map (λ v. v.items) file
         ≡ spec.stored (spec.with_modules {E = TlsFault} sources.now (Ok modules.now))) }
 {
-    let compared = rows_of(alloc, sources, modules)?;
+    let compared = rows_of(alloc, sources, modules, lent)?;
     let Some(rows) = compared else {
         return Ok(None);
     };
-    with_rows(alloc, sources, all, rows.as_slice())
+    with_rows(alloc, sources, lent.list, all, rows.as_slice())
 }
 
 /// The prelinked file with these modules of thread-local storage; None where a relocation has no value, or the file is longer than a folder stores.
 fn with_modules(
     alloc: Global,
     sources: &[Source<'_>],
+    lent: &Lent<'_>,
     modules: &[Module],
 ) -> Result<Option<Vec<u8>>, NoMemory>
     requires sources { AreSources sources.now }
     requires set { IsProgramSet sources.now }
+    requires lent { AreLent sources.now lent.now }
     ensures { IfOk result (λ file. option_map (λ v. v.items) file
         ≡ spec.stored (spec.with_modules {E = TlsFault} sources.now (Ok modules.now))) }
 {
@@ -321,19 +370,24 @@ fn with_modules(
     let Some(meanings) = given else {
         return Ok(None);
     };
-    with_meanings(alloc, sources, modules, meanings.as_slice())
+    with_meanings(alloc, sources, lent, modules, meanings.as_slice())
 }
 
 /// The prelinked file of a program, by the members of its walk, it first; None where their thread-local storage or their links have a refusal, or the file is longer than a folder stores.
-pub fn program_file(alloc: Global, sources: &[Source<'_>]) -> Result<Option<Vec<u8>>, NoMemory>
+pub fn program_file(
+    alloc: Global,
+    sources: &[Source<'_>],
+    lent: &Lent<'_>,
+) -> Result<Option<Vec<u8>>, NoMemory>
     requires sources { AreSources sources.now }
     requires set { IsProgramSet sources.now }
+    requires lent { AreLent sources.now lent.now }
     ensures { IfOk result (λ file. option_map (λ v. v.items) file
         ≡ spec.stored (spec.program_file sources.now)) }
 {
     let blocks = blocks_of(alloc, sources)?;
     match offsets(alloc, &blocks) {
-        Ok(modules) => with_modules(alloc, sources, modules.as_slice()),
+        Ok(modules) => with_modules(alloc, sources, lent, modules.as_slice()),
         Err(TlsFault::TooLarge) => Ok(None),
         Err(TlsFault::NoMemory) => Err(NoMemory),
     }

@@ -3,6 +3,7 @@ pub mod FileLaws
 pub mod FormLaws
 pub mod WalkLaws
 pub mod MadeLaws
+pub mod OnceLaws
 pub mod PlanLaws
 pub mod SoundLaws
 pub mod VerifyLaws

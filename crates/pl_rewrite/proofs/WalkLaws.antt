@@ -49,11 +49,11 @@ use Rattle.pl_rewrite.proofs.FormLaws.{IsOriginal, original_is, original_bytes, 
 -- ---- a candidate
 
 -- it is no static program, and its original has no form fault
-record IsSound (region : Range) (files : Files) (n : List ℕ) (x : Object) : Type 0 where
-  dynamic : is_static x.kind ≡ false
-  fault : is_some (fault_in region (original_at (format skip_causes) (files n))) ≡ false
+pub record IsSound (region : Range) (files : Files) (n : List ℕ) (x : Object) : Type 0 where
+  pub dynamic : is_static x.kind ≡ false
+  pub fault : is_some (fault_in region (original_at (format skip_causes) (files n))) ≡ false
 
-sound_is : (region : Range) (files : Files) (n : List ℕ) (x : Object) → objects (format skip_causes) files n ≡ Ok x → is_candidate files region n ≡ true → IsSound region files n x
+pub sound_is : (region : Range) (files : Files) (n : List ℕ) (x : Object) → objects (format skip_causes) files n ≡ Ok x → is_candidate files region n ≡ true → IsSound region files n x
 sound_is region files n x there candidate =
     let here : fits (format skip_causes) (fit_in region) files (Ok x) (sound.walk_in (format skip_causes) files n) ≡ true =
     sym (ap (λ (r : Result Object Skip). fits (format skip_causes) (fit_in region) files r (sound.walk_in (format skip_causes) files n)) there) ∙ candidate in
@@ -103,7 +103,7 @@ member_firm run m is member = by_file (files_of run m.0) refl member.object
 
 -- ---- all members
 
-name_at : (ws : Walked) (i : ℕ) (p : List ℕ × Object) → slice_get ws i ≡ Some p → slice_get (names ws) i ≡ Some p.0
+pub name_at : (ws : Walked) (i : ℕ) (p : List ℕ × Object) → slice_get ws i ≡ Some p → slice_get (names ws) i ≡ Some p.0
 name_at [] i p h = absurd (none-some p h)
 name_at (w ∷ ws) zero p h = ap (λ (q : List ℕ × Object). Some q.0) (same_Some w p h)
 name_at (w ∷ ws) (suc i) p h = name_at ws i p h

@@ -6,6 +6,7 @@ use Rattle.pl_conflict.specs.Format.{format}
 use Rattle.pl_conflict.specs.Prelinked.{Firm}
 use Rattle.pl_cone.specs.declared.skip.Skip.{Skip}
 use Rattle.pl_form.specs.Files.{marked_in, original_in}
+use Rattle.pl_form.specs.Words.{checksum_of}
 use Rattle.pl_form.specs.declared.file.Entry.{Entry}
 use Rattle.pl_form.specs.declared.file.Entry.TheVariants.{There, BadMark, Refused}
 use Rattle.pl_form.specs.declared.file.File.TheVariants as files
@@ -23,11 +24,13 @@ use Rattle.pl_plan.specs.declared.standing.Standing.{Standing}
 use Rattle.pl_scope.specs.Walk.{Walked}
 use Rattle.pl_scope.specs.declared.member.Member.{Member}
 use Rattle.pl_sound.specs.Plan.{Plan, planned_member}
-use Rattle.pl_sound.specs.Rule.{Files, objects}
+use Rattle.pl_sound.specs.Rule.{Files, objects, original_at}
 use Rattle.pl_rewrite.specs.Changes as changes
 use Rattle.pl_rewrite.specs.Reports as reports
 use Rattle.pl_rewrite.specs.declared.making.Made.{Made}
 use Rattle.pl_rewrite.specs.declared.report.RowState.TheVariants.{Skipped}
+use Rattle.pl_rewrite.specs.declared.running.Checksum.{Checksum}
+use Rattle.pl_rewrite.specs.declared.running.LibraryFile.{LibraryFile}
 use Rattle.pl_rewrite.specs.declared.running.Run.{Run}
 
 -- ---- a run
@@ -39,12 +42,34 @@ files_of run = files_in run.files.now
 abbrev pub plan_of : Run → Planned
 plan_of run = run.planned.now
 
--- the files are as they were taken, what is known of them is theirs, and the plan is of them
+-- the slots and stamps that names get
+abbrev pub numbers_of : Run → Plan
+numbers_of run = changes.numbers (files_of run) run.region (plan_of run)
+
+-- a candidate's file, prelinked by the plan
+abbrev pub prelinked : Run → List ℕ → Option (List ℕ)
+prelinked run n = changes.prelinked (files_of run) run.region (plan_of run) n
+
+-- ---- what is made once
+
+-- the checksum of a name's original
+abbrev pub IsChecksum : Run → Checksum → Type 0
+IsChecksum run c = c.number ≡ checksum_of (original_at (format skip_causes) (files_of run c.name.now))
+
+-- a name's prelinked file
+abbrev pub IsPrelinked : Run → LibraryFile → Type 0
+IsPrelinked run l = prelinked run l.name.now ≡ Some l.file.items
+
+-- ---- the whole
+
+-- the files are as they were taken, what is known of them is theirs, the plan is of them, and what was made already is theirs
 pub record IsRun (run : Run) : Type 0 where
   pub taken : AreTaken run.region run.files.now
   pub knows : Knows run.region (files_of run) run.known.now
   pub standings : run.planned.now.standings ≡ standings (files_of run) run.region (names_of run.files.now)
   pub stale : run.planned.now.stale ≡ stale (files_of run) run.region run.planned.now.slots (names_of run.files.now)
+  pub checksums : All (IsChecksum run) run.checksums.now
+  pub libraries : All (IsPrelinked run) run.libraries.now
 
 abbrev pub IsCandidate : Run → List ℕ → Type 0
 IsCandidate run n = is_candidate (files_of run) run.region n ≡ true
@@ -54,14 +79,6 @@ HasCause run n = is_candidate (files_of run) run.region n ≡ false
 
 abbrev pub IsStale : Run → List ℕ → Type 0
 IsStale run n = is_stale (files_of run) run.region (plan_of run).slots n ≡ true
-
--- the slots and stamps that names get
-abbrev pub numbers_of : Run → Plan
-numbers_of run = changes.numbers (files_of run) run.region (plan_of run)
-
--- a candidate's file, prelinked by the plan
-abbrev pub prelinked : Run → List ℕ → Option (List ℕ)
-prelinked run n = changes.prelinked (files_of run) run.region (plan_of run) n
 
 -- ---- its files
 
@@ -93,6 +110,13 @@ is_skipped rows n = list_any (has_cause n) rows
 
 -- ---- the members of a walk
 
+-- a library, prelinked or not
+abbrev pub is_library_entry : Entry → Bool
+is_library_entry (There (Plain x)) = is_library x.kind
+is_library_entry (There (files.Marked m)) = is_library m.object.kind
+is_library_entry BadMark = false
+is_library_entry (Refused number argument) = false
+
 -- a walk that is not refused
 abbrev pub walk_told : Result Walked Skip → Option Walked
 walk_told (Ok ws) = Some ws
@@ -120,6 +144,17 @@ AreMembers run ms = All (λ m. IsMember run (m.name, m.object.now)) ms
 
 abbrev pub planned_firms : Run → Walked → List Firm
 planned_firms run walked = map (planned_firm run) walked
+
+-- its original is that of its name's file
+abbrev pub HasOriginal : Run → Firm → Type 0
+HasOriginal run r = r.member.original ≡ original_at (format skip_causes) (files_of run r.member.name)
+
+-- the file with which conflicts of a member are compared, if there is one: a library's prelinked file, a program's original
+abbrev pub part_of : Run → Firm → Option (List ℕ)
+part_of run r = if is_library r.object.kind then prelinked run r.member.name else Some r.member.original
+
+abbrev pub IsPart : Run → Firm → List ℕ → Type 0
+IsPart run r part = part_of run r ≡ Some part
 
 -- ---- what a run makes of a name
 

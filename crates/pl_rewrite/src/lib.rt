@@ -2,7 +2,10 @@
 #![tactic(auto)]
 
 mod laws;
+mod lists;
 mod making;
+mod once;
+mod parts;
 mod prelinking;
 mod report;
 mod rewriting;

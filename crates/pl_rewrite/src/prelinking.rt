@@ -1,17 +1,60 @@
 // The prelinked file of a name that may be prelinked.
-ghost use Rattle.std.specs.Prelude.{◌≡◌, Ok, IfOk};
+ghost use Rattle.std.specs.Prelude.{◌≡◌, Ok, IfOk, IfSome};
 ghost use Rattle.std.specs.Option.{option_map};
 ghost use Rattle.pl_cone.specs.Candidates as cone;
 ghost use Rattle.pl_cone.specs.Known.{AreAccepted};
+ghost use Rattle.pl_conflict.specs.Prelinked as form;
+ghost use Rattle.pl_prelinked.specs.Lent.{list_after};
+ghost use Rattle.pl_prelinked.specs.Sources.{AreSources, members};
 ghost use Rattle.pl_rewrite.specs.Members as spec;
 
+use crate::lists::list_after;
+use crate::parts::{library_file, parts_of};
 use crate::running::Run;
 use crate::sources::sources_of;
 use pl_cone::{Known, Skip, walk_in};
+use pl_image::Parts;
 use pl_io::NoMemory;
-use pl_prelinked::prelink;
+use pl_lists::ListRow;
+use pl_prelinked::{Lent, Source, prelink_with};
 use pl_scope::Scope;
 use std::alloc::Global;
+
+/// The file of the first of members, with the files that are there already.
+fn with_parts<'p>(
+    alloc: Global,
+    sources: &[Source<'_>],
+    list: &'p [ListRow],
+    parts: &'p Parts<'p>,
+) -> Result<Option<Vec<u8>>, NoMemory>
+    requires sources { AreSources sources.now }
+    requires list { list.now ≡ list_after sources.now }
+    requires parts { parts.now ≡ form.parts_of sources.now }
+    ensures { IfOk result (λ file. option_map (λ v. v.items) file
+        ≡ form.prelinked (members sources.now)) }
+{
+    let parts = Some(parts);
+    prelink_with(alloc, sources, &Lent { list, parts })
+}
+
+/// The same, where they may not be there.
+fn prelinked_with(
+    alloc: Global,
+    sources: &[Source<'_>],
+    list: &[ListRow],
+    parts: Option<Parts<'_>>,
+) -> Result<Option<Vec<u8>>, NoMemory>
+    requires sources { AreSources sources.now }
+    requires list { list.now ≡ list_after sources.now }
+    requires parts { IfSome parts (λ p. p ≡ form.parts_of sources.now) }
+    ensures { IfOk result (λ file. option_map (λ v. v.items) file
+        ≡ form.prelinked (members sources.now)) }
+{
+    match parts {
+        None => prelink_with(alloc, sources, &Lent { list, parts: None }),
+        Some(parts) => with_parts(alloc, sources, list, &parts),
+    }
+}
 
 /// The file of a name with this walk, by the plan of the run.
 fn prelinked_by<'a>(
@@ -27,7 +70,10 @@ fn prelinked_by<'a>(
         ≡ spec.prelinked run.now name.now) }
 {
     let sources = sources_of(alloc, run, scope.members())?;
-    prelink(alloc, &sources)
+    let members = sources.as_slice();
+    let list = list_after(alloc, run, members)?;
+    let parts = parts_of(alloc, run, members)?;
+    prelinked_with(alloc, members, list.as_slice(), parts)
 }
 
 /// The walk of a name; None where it is refused.
@@ -46,8 +92,8 @@ pub fn walk_of<'a>(
     }
 }
 
-/// The file of a name that may be prelinked, by the plan of the run; None where there is none.
-pub fn prelinked(alloc: Global, run: &Run<'_>, name: &str) -> Result<Option<Vec<u8>>, NoMemory>
+/// The file of a name that may be prelinked, by the plan of the run, made now; None where there is none.
+pub fn made_prelinked(alloc: Global, run: &Run<'_>, name: &str) -> Result<Option<Vec<u8>>, NoMemory>
     requires run { spec.IsRun run.now }
     requires candidate { spec.IsCandidate run.now name.now }
     ensures { IfOk result (λ file. option_map (λ v. v.items) file
@@ -56,5 +102,18 @@ pub fn prelinked(alloc: Global, run: &Run<'_>, name: &str) -> Result<Option<Vec<
     match walk_of(alloc, run.known, name)? {
         None => Ok(None),
         Some(scope) => prelinked_by(alloc, run, name, &scope),
+    }
+}
+
+/// The same, a copy where it was made already.
+pub fn prelinked(alloc: Global, run: &Run<'_>, name: &str) -> Result<Option<Vec<u8>>, NoMemory>
+    requires run { spec.IsRun run.now }
+    requires candidate { spec.IsCandidate run.now name.now }
+    ensures { IfOk result (λ file. option_map (λ v. v.items) file
+        ≡ spec.prelinked run.now name.now) }
+{
+    match library_file(run, name) {
+        None => made_prelinked(alloc, run, name),
+        Some(file) => Ok(Some(Vec::from_slice(alloc, file)?)),
     }
 }

@@ -4,9 +4,11 @@ ghost use Rattle.pl_base.specs.Answers.{Answers};
 ghost use Rattle.pl_known.specs.Plans as plans;
 ghost use Rattle.pl_known.specs.Taken.{AreTaken, files_in, names_of};
 ghost use Rattle.pl_plan.specs.Faults.{is_memory};
+ghost use Rattle.pl_rewrite.specs.Members.{IsRun, files_of, plan_of};
 ghost use Rattle.pl_rewrite.specs.Rewriting as spec;
 
 use crate::making::{AllMade, all_made};
+use crate::once::{checksums_of, libraries_of};
 use crate::running::Run;
 use crate::{Report, ReportRow};
 use pl_base::Rows;
@@ -30,6 +32,42 @@ pub struct Rewritten {
     pub report: Report,
 }
 
+/// What a run makes of its files, where each library is prelinked once.
+fn made_with_libraries(alloc: Global, run: &Run<'_>) -> Result<AllMade, NoMemory>
+    requires { IsRun run.now }
+    ensures { IfOk result (λ made. made ≡ spec.all_made (files_of run.now)
+        (names_of run.now.files.now) run.now.region (plan_of run.now)) }
+{
+    let libraries = libraries_of(alloc, run)?;
+    let run = Run {
+        files: run.files,
+        known: run.known,
+        region: run.region,
+        planned: run.planned,
+        checksums: run.checksums,
+        libraries: libraries.as_slice(),
+    };
+    all_made(alloc, &run)
+}
+
+/// The same, where the checksum of each original is made once.
+fn made_with_checksums(alloc: Global, run: &Run<'_>) -> Result<AllMade, NoMemory>
+    requires { IsRun run.now }
+    ensures { IfOk result (λ made. made ≡ spec.all_made (files_of run.now)
+        (names_of run.now.files.now) run.now.region (plan_of run.now)) }
+{
+    let checksums = checksums_of(alloc, run)?;
+    let run = Run {
+        files: run.files,
+        known: run.known,
+        region: run.region,
+        planned: run.planned,
+        checksums: checksums.as_slice(),
+        libraries: run.libraries,
+    };
+    made_with_libraries(alloc, &run)
+}
+
 /// What a plan makes of the files.
 fn made_by(
     alloc: Global,
@@ -49,8 +87,13 @@ fn made_by(
         known: known.as_slice(),
         region: asked.region,
         planned,
+        checksums: &[],
+        libraries: &[],
     };
-    all_made(alloc, &run)
+    if planned.stale.as_slice().is_empty() {
+        return all_made(alloc, &run);
+    }
+    made_with_checksums(alloc, &run)
 }
 
 /// The stamp of the cache after a run.

@@ -11,6 +11,20 @@ use pl_elf::Range;
 use pl_known::Taken;
 use pl_plan::{Planned, Standing};
 
+/// The checksum of a name's original.
+#[derive(Clone, Copy)]
+pub struct Checksum<'a> {
+    pub name: &'a str,
+    pub number: u32,
+}
+
+/// The prelinked file of a name, by the plan of a run.
+#[derive(Drop)]
+pub struct LibraryFile<'a> {
+    pub name: &'a str,
+    pub file: Vec<u8>,
+}
+
 /// The files of a folder, and what a run plans of them.
 #[derive(Drop)]
 pub struct Run<'a> {
@@ -25,6 +39,12 @@ pub struct Run<'a> {
 
     /// How the names stand, the slots, the stale names, and the stamp that these get.
     pub planned: &'a Planned,
+
+    /// Checksums that were made already.
+    pub checksums: &'a [Checksum<'a>],
+
+    /// Prelinked files of libraries that were made already.
+    pub libraries: &'a [LibraryFile<'a>],
 }
 
 fn is_file_of(taken: &Taken, name: &str) -> bool

@@ -2,6 +2,7 @@ use Rattle.std.proofs.Common.{◌≡◌, List, sym, ap, subst, ◌∙◌}
 use Rattle.std.specs.Prelude.{IfOk}
 use Rattle.pl_conflict.specs.Own.{own_words}
 use Rattle.pl_conflict.specs.Prelinked.{Firm, library_file, objects_of, slots_of}
+use Rattle.pl_prelinked.specs.Lent.{list_after}
 use Rattle.pl_prelinked.specs.Libraries.{IsLibraryWalk}
 use Rattle.pl_prelinked.specs.Sources.{AreSources}
 use Rattle.pl_prelinked.proofs.FirmLaws.{parts_are}
@@ -19,6 +20,9 @@ form_of-requires-clause-sources c = subst AreSources (parts_are c.args.sources.n
 
 pub form_of-requires-clause-library : goal.form_of-requires-clause-library
 form_of-requires-clause-library c = subst IsLibraryWalk (parts_are c.args.sources.now c.library-item.result c.in-len1-up.len_at_least c.library-item.is) c.requires.library
+
+pub form_of-requires-clause-list : goal.form_of-requires-clause-list
+form_of-requires-clause-list c = subst (λ (rs : List Firm). c.args.list.now ≡ list_after rs) (parts_are c.args.sources.now c.library-item.result c.in-len1-up.len_at_least c.library-item.is) c.requires.list
 
 pub form_of-requires-clause-words : goal.form_of-requires-clause-words
 form_of-requires-clause-words c = c.as_slice.ensures ∙ c.in_ok-words.ensures ∙ ap (λ (rs : List Firm). own_words (objects_of rs) (slots_of rs)) (parts_are c.args.sources.now c.library-item.result c.in-len1-up.len_at_least c.library-item.is)

@@ -14,6 +14,9 @@ pub stored_library-requires-clause-library : goal.stored_library-requires-clause
 stored_library-requires-clause-library c =
     whole_library c.args.sources.now c.first-item.result _ (parts_are c.args.sources.now c.first-item.result c.in-len1-up.len_at_least c.first-item.is) c.requires.sources c.requires.set (sym (ap (λ (r : Firm). is_library r.object.kind) c.first.view_is) ∙ sym c.is_library.ensures ∙ c.if-is_library.true)
 
+pub stored_library-requires-clause-list : goal.stored_library-requires-clause-list
+stored_library-requires-clause-list c = c.requires.lent.list
+
 pub returns-then-is_library : goal.returns-then-is_library
 returns-then-is_library c =
     subst (λ (o : Option (List ℕ)). IfOk c.stored_library.result (λ file. option_map (λ v. v.items) file ≡ o))

@@ -1,4 +1,4 @@
-use Rattle.std.proofs.Common.{sym, subst, ◌∙◌}
+use Rattle.std.proofs.Common.{sym, subst}
 use Rattle.pl_conflict.specs.Prelinked.{Firm}
 use Rattle.pl_form.specs.Program.{IsFirmProgram}
 use Rattle.pl_form.specs.Words.{AreFills}
@@ -14,7 +14,7 @@ pub form_program-requires-clause-fills : goal.form_program-requires-clause-fills
 form_program-requires-clause-fills c = subst (λ (r : Firm). AreFills c.args.fills.now r.object.relocations) (sym c.program.view_is) c.requires.fills
 
 pub returns-in-Ok : goal.returns-in-Ok
-returns-in-Ok c = form_written c.args.program.now c.args.others.now c.args.fills.now c.args.rows.now _ _ _ _ _ _ _ _ c.program.view_is (c.as_slice.ensures ∙ c.in_ok-list.ensures) c.in-Ok.ensures
+returns-in-Ok c = form_written c.args.program.now c.args.others.now c.args.fills.now c.args.rows.now _ _ _ _ _ _ _ _ c.program.view_is c.requires.list c.in-Ok.ensures
 
 pub returns-in-Err-TooLarge : goal.returns-in-Err-TooLarge
-returns-in-Err-TooLarge c = form_refused c.args.program.now c.args.others.now c.args.fills.now c.args.rows.now _ _ _ _ _ _ _ TooLarge c.program.view_is (c.as_slice.ensures ∙ c.in_ok-list.ensures) (rw c.in-Err-TooLarge.field-0-is at c.in-Err-TooLarge.ensures)
+returns-in-Err-TooLarge c = form_refused c.args.program.now c.args.others.now c.args.fills.now c.args.rows.now _ _ _ _ _ _ _ TooLarge c.program.view_is c.requires.list (rw c.in-Err-TooLarge.field-0-is at c.in-Err-TooLarge.ensures)

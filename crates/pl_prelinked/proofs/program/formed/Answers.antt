@@ -3,6 +3,7 @@ use Rattle.std.specs.Prelude.{IfOk}
 use Rattle.std.specs.Option.{option_map}
 use Rattle.pl_conflict.specs.Prelinked as prelinked
 use Rattle.pl_conflict.specs.Prelinked.{Firm}
+use Rattle.pl_prelinked.specs.Lent.{list_after}
 use Rattle.pl_prelinked.specs.Programs.{AreFirstFills, BeginsWithProgram, form_of}
 use Rattle.pl_prelinked.specs.Sources.{AreSources}
 use Rattle.pl_prelinked.proofs.FirmLaws.{parts_are}
@@ -17,6 +18,9 @@ form-requires-clause-sources c = subst AreSources (parts_are c.args.sources.now 
 
 pub form-requires-clause-program : goal.form-requires-clause-program
 form-requires-clause-program c = subst BeginsWithProgram (parts_are c.args.sources.now c.program-item.result c.in-len1-up.len_at_least c.program-item.is) c.requires.program
+
+pub form-requires-clause-list : goal.form-requires-clause-list
+form-requires-clause-list c = subst (λ (rs : List Firm). c.args.list.now ≡ list_after rs) (parts_are c.args.sources.now c.program-item.result c.in-len1-up.len_at_least c.program-item.is) c.requires.list
 
 pub form-requires-clause-fills : goal.form-requires-clause-fills
 form-requires-clause-fills c = subst (λ (rs : List Firm). AreFirstFills rs c.args.fills.now) (parts_are c.args.sources.now c.program-item.result c.in-len1-up.len_at_least c.program-item.is) c.requires.fills

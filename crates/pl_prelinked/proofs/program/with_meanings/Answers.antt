@@ -8,6 +8,9 @@ use Rattle.pl_prelinked.proofs.program.with_meanings.Goals as goal
 pub returns-in_default : goal.returns-in_default
 returns-in_default c = without_rows c.args.sources.now c.args.modules.now (sym c.in_default.is ∙ c.in_ok-compared.ensures)
 
+pub with_rows-requires-clause-list : goal.with_rows-requires-clause-list
+with_rows-requires-clause-list c = c.requires.lent.list
+
 pub returns : goal.returns
 returns c =
     subst (λ (o : Option (List ℕ)). IfOk c.with_rows.result (λ file. option_map (λ v. v.items) file ≡ o))

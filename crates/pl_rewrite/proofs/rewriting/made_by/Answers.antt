@@ -1,4 +1,5 @@
 use Rattle.std.proofs.Common.{List, sym, subst}
+use Rattle.std.proofs.lemmas.List.Elements.{All-nil}
 use Rattle.pl_cone.specs.declared.known.Known.{Known}
 use Rattle.pl_known.specs.Laws.{Knows}
 use Rattle.pl_known.specs.Taken.{files_in, names_of}
@@ -13,4 +14,18 @@ all_made-requires c =
       knows = subst (λ (ks : List Known). Knows c.args.asked.now.region (files_in c.args.files.now) ks) (sym c.as_slice.ensures) (c.in_ok-known.ensures.knows c.args.asked.now.region c.requires.taken);
       standings = n.standings;
       stale = n.stale;
+      checksums = All-nil _;
+      libraries = All-nil _;
+    }
+
+pub made_with_checksums-requires : goal.made_with_checksums-requires
+made_with_checksums-requires c =
+    let n = plan_names (files_in c.args.files.now) (names_of c.args.files.now) c.args.asked.now c.args.planned.now c.requires.planned in
+    record {
+      taken = c.requires.taken;
+      knows = subst (λ (ks : List Known). Knows c.args.asked.now.region (files_in c.args.files.now) ks) (sym c.as_slice.ensures) (c.in_ok-known.ensures.knows c.args.asked.now.region c.requires.taken);
+      standings = n.standings;
+      stale = n.stale;
+      checksums = All-nil _;
+      libraries = All-nil _;
     }

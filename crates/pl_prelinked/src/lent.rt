@@ -1,0 +1,12 @@
+use pl_image::Parts;
+use pl_lists::ListRow;
+
+/// What a caller has of the members of a walk already.
+#[derive(Clone, Copy)]
+pub struct Lent<'a> {
+    /// The rows of the members after the first: their names, their stamps and the checksums of their originals.
+    pub list: &'a [ListRow],
+
+    /// Where the first is a program, the files with which its conflicts are compared: its original, and of each library the prelinked file by its own walk. None where the caller does not have them.
+    pub parts: Option<&'a Parts<'a>>,
+}

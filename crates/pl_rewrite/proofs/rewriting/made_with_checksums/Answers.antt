@@ -1,0 +1,14 @@
+use Rattle.std.proofs.Common.{sym, subst}
+use Rattle.std.specs.List.{All}
+use Rattle.pl_rewrite.specs.Members.{IsChecksum}
+use Rattle.pl_rewrite.proofs.rewriting.made_with_checksums.Goals as goal
+
+pub made_with_libraries-requires : goal.made_with_libraries-requires
+made_with_libraries-requires c = record {
+  taken = c.requires.taken;
+  knows = c.requires.knows;
+  standings = c.requires.standings;
+  stale = c.requires.stale;
+  checksums = subst (All (IsChecksum c.args.run.now)) (sym c.as_slice.ensures.value) c.in_ok-checksums.ensures;
+  libraries = c.requires.libraries;
+}
