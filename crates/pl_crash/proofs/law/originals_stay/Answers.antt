@@ -1,0 +1,12 @@
+use Rattle.pl_crash.proofs.OriginalLemmas.{images_originals}
+use Rattle.pl_crash.proofs.WholeLemmas.{removals_originals, runs_originals}
+use Rattle.pl_crash.proofs.law.originals_stay.Goals as goal
+
+pub returns-clause-runs : goal.returns-clause-runs
+returns-clause-runs g c = runs_originals
+
+pub returns-clause-removals : goal.returns-clause-removals
+returns-clause-removals g c = removals_originals
+
+pub returns-clause-images : goal.returns-clause-images
+returns-clause-images g c = images_originals

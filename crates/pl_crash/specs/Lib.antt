@@ -1,0 +1,4 @@
+pub mod Sound
+pub mod Safe
+pub mod Originals
+pub mod Laws

@@ -1,0 +1,44 @@
+// Laws of sound folders, of images that a crash leaves, and of commands.
+ghost use Rattle.pl_crash.specs.Laws.{CommandsEnd, CommandsLeave, CommandsRead, EmptyIsSound, EveryImageIsSound, ImagesKeepOriginals, OthersStaySound, RecoveredKeepTheRule, RecoveriesStaySound, RemovalsAreSafe, RemovalsKeepOriginals, RuleIsEnough, RunsAreSafe, RunsKeepOriginals, RunsStaySound, SettledAreSound, SoundKeepTheRule, VerifiedAreSound};
+
+/// A sound folder keeps the rule of prelinked files as it stands, so a load from it needs no recovery, and when it is recovered. Where there is no journal the rule is enough. A folder without files is sound.
+pub fn sound_folders_keep_the_rule()
+    ensures stands { SoundKeepTheRule }
+    ensures recovered { RecoveredKeepTheRule }
+    ensures enough { RuleIsEnough }
+    ensures empty { EmptyIsSound }
+{}
+
+/// What others may write between commands leaves a folder without a journal sound: each name in a list of a file that stayed has its old bytes, no mark, or another stamp or checksum than the list's row, and no changed file matches. Such a folder is sound, too, where each name that matches is the file that its walk's members prelink, and so is each member of its walk.
+pub fn others_stay_sound()
+    ensures others { OthersStaySound }
+    ensures verified { VerifiedAreSound }
+{}
+
+/// What a crash of a recovery leaves of a sound folder is sound, and so is what a crash of a safe command's run leaves. A settled folder that keeps the rule has sound images alone.
+pub fn images_stay_sound<C>()
+    ensures recovery { RecoveriesStaySound }
+    ensures run { RunsStaySound C }
+    ensures settled { SettledAreSound }
+{}
+
+/// The commands are safe: their changes fit a journal, and files that keep the rule keep it whichever of the changes are made.
+pub fn changes_are_safe()
+    ensures runs { RunsAreSafe }
+    ensures removals { RemovalsAreSafe }
+{}
+
+/// What a safe command leaves of a sound folder, however it comes out: each image of a moment after its start is sound, and stands for the files before it or for those after it; a command that failed or lacked memory may have only looked. Where each image at the start was sound, each one since then is. Where a command is done or refused the files after it are the only image. Of a folder that tells its files alone, what is read after it is such an image.
+pub fn commands_stay_sound<C>()
+    ensures images { CommandsLeave C }
+    ensures every { EveryImageIsSound C }
+    ensures end { CommandsEnd C }
+    ensures files { CommandsRead C }
+{}
+
+/// Undoing leaves each valid name its original, whichever of its changes are made. Storing a file and removing one change the original of that name alone. A recovered image has all originals from before the command, or all from after it.
+pub fn originals_stay<C>()
+    ensures runs { RunsKeepOriginals }
+    ensures removals { RemovalsKeepOriginals }
+    ensures images { ImagesKeepOriginals C }
+{}

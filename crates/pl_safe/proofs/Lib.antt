@@ -1,0 +1,3 @@
+pub mod MeaningLemmas
+pub mod RunLemmas
+pub mod LoadLemmas

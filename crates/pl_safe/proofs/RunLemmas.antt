@@ -1,0 +1,201 @@
+-- What a run leaves of the disk.
+use Rattle.std.proofs.Common.{◌∙◌, ◌≡◌, ℕ, zero, suc, ◌≤◌, true, false, List, Option, Some, None, Result, Ok, Err, refl, sym, subst, inl, inr, ⊎_elim, arith}
+use Rattle.std.specs.Prelude.{◌⊎◌}
+use Rattle.std.specs.FinMap.{get}
+use Rattle.std.proofs.lemmas.Bool.{false≢true, true≢false}
+use Rattle.pl_base.specs.Files.{Files}
+use Rattle.pl_folder.specs.Disk.{Disk, IsImage, Name, View, clock, read, waited}
+use Rattle.pl_folder.specs.Effects.{WaitsFor}
+use Rattle.pl_folder.specs.Seen.{Broken, Done, Ending, IsFolder, Seen, Undone}
+use Rattle.pl_folder.specs.Since.{Keeps, Within}
+use Rattle.pl_folder.proofs.ImageLaws.{read_image}
+use Rattle.pl_journal.specs.Leaves.{Looks}
+use Rattle.pl_journal.specs.Meaning.{Same}
+use Rattle.pl_journal.specs.declared.change.Change.{Change}
+use Rattle.pl_journal.proofs.Moments.{since_start, weaker}
+use Rattle.pl_batch.specs.Commands.{Failed, IsBefore, Lacked, Made, Meaning, Refused}
+use Rattle.pl_batch.specs.Restored.{restored}
+use Rattle.pl_batch.specs.declared.run.Run.TheVariants as runs
+use Rattle.pl_cli.specs.Came.{Makes}
+use Rattle.pl_cli.specs.Ran.{Ran}
+use Rattle.pl_cli.specs.Load.{loaded_object}
+use Rattle.pl_cli.specs.Looks.{takes}
+use Rattle.pl_cli.specs.Order.{object_in}
+use Rattle.pl_cli.specs.Outside.{Outside, ending_of}
+use Rattle.pl_cli.specs.Words.{bytes_of}
+use Rattle.pl_cli.specs.Writes.{AreBytes, WritesDisk}
+use Rattle.pl_cli.specs.declared.cause.Cause.{Cause}
+use Rattle.pl_cli.specs.declared.command.Command.{Command}
+use Rattle.pl_cli.specs.declared.command.Command.TheVariants.{Load, All, Preview, UndoAll, Undo, Store, Remove, Print, Order}
+use Rattle.pl_cli.specs.declared.status.Status.{Status}
+use Rattle.pl_cli.specs.declared.status.Status.TheVariants as statuses
+use Rattle.pl_crash.specs.Safe.{IsSafe, IsSafeImage, after}
+use Rattle.pl_crash.specs.Sound.{IsSound}
+use Rattle.pl_crash.proofs.CommandLemmas.{disk_ends, disk_leaves, is_before, looked, reads_path, reads_sound}
+use Rattle.pl_safe.specs.Laws.{EveryRunIsSafe, ReadersLook, OthersKeepOriginals, RunsLeave, RunsEndSound, WritersEnd}
+use Rattle.pl_safe.specs.Runs.{KeepsOriginals, LeavesSound, changed_name, is_whole, meaning, nothing, writes}
+use Rattle.pl_safe.proofs.MeaningLemmas.{prelink_keeps, prelink_safe, remove_keeps, remove_safe, store_keeps, store_safe, undo_all_keeps, undo_keeps, undo_safe}
+
+-- ---- calls that change nothing
+
+waited_now : (k : ℕ) (d : Disk) → (waited k d).now ≡ d.now
+waited_now zero d = refl
+waited_now (suc k) d = refl
+
+waited_looks : (k : ℕ) (d : Disk) → Looks d (waited k d)
+waited_looks zero d = record { now = refl; later = omega arith; each = λ t v had. inl had }
+waited_looks (suc k) d =
+    let rest = waited_looks k d in
+    let before : clock d ≤ clock (waited k d) = rest.later in
+    record { now = refl; later = omega (arith, before); each = λ t v had. ⊎_elim (λ here. inr here.1) (λ there. rest.each t v there) had }
+
+waits_look : (n : ℕ) (e : Ending) (a b : Disk) → WaitsFor n e a b → Looks a b
+waits_look n Done a b is = subst (Looks a) (sym is) (waited_looks n a)
+waits_look n Broken a b is = subst (Looks a) (sym is.2) (waited_looks is.0 a)
+waits_look n Undone a b is = subst (Looks a) (sym is.2) (waited_looks is.0 a)
+
+-- ---- a writing command
+
+-- one that is refused whatever the files are
+none_safe : IsSafe {C = Unit {0}} (λ files. Err tt)
+none_safe = record {
+  fits = λ before rows is. absurd (never rows is);
+  ready = λ before rows is. absurd (never rows is);
+  safe = λ before rows is rule. absurd (never rows is);
+}
+  where
+    never : (rows : List Change) → ◌≡◌ {A = Result (List Change) (Unit {0})} (Err tt) (Ok rows) → ⊥
+    never rows is = cc
+
+module _ (meant : Meaning Cause) (safe : IsSafe meant) (a b : Disk) (before : Files) (sound : IsSound (read a.now)) (is : IsBefore (read a.now) before) where
+  recovered_safe : (v : View) → IsSafeImage {C = Unit {0}} (λ files. Err tt) before v → IsSafeImage meant before v
+  recovered_safe v image = record { sound = image.sound; stands = inl (⊎_elim (λ same. same) (λ same. same) image.stands) }
+
+  written : (status : Status) (e : Ending) → WritesDisk meant status e a b → Looks a b ⊎ Keeps a b (IsSafeImage meant before)
+  written statuses.Done e call = inr (disk_leaves meant a b before safe sound is Made e call)
+  written statuses.Differs e call = absurd call
+  written statuses.Usage e call = absurd call
+  written statuses.Refused e call = inr (disk_leaves meant a b before safe sound is (Refused call.0) e call.1)
+  written statuses.ReadFault e call =
+      inr (weaker a b (IsSafeImage {C = Unit {0}} (λ files. Err tt) before) (IsSafeImage meant before) recovered_safe (disk_leaves (λ files. Err tt) a b before none_safe sound is (Refused tt) e call))
+  written statuses.WriteFault e call = ⊎_elim
+      (λ done. inr (disk_leaves meant a b before safe sound is Made e done))
+      (λ refused. inr (disk_leaves meant a b before safe sound is (Refused refused.0) e refused.1))
+      call
+  written statuses.DiskFault e call = disk_leaves meant a b before safe sound is Failed e call
+  written statuses.NoMemory e call = disk_leaves meant a b before safe sound is Lacked e call
+
+ended : (meant : Meaning Cause) (a b : Disk) (before : Files) → IsBefore (read a.now) before → (status : Status) (e : Ending) → is_whole status ≡ true → WritesDisk meant status e a b → Within b.now (Same (after meant before))
+ended meant a b before is statuses.Done e whole call = disk_ends meant a b before is Made e call
+ended meant a b before is statuses.Differs e whole call = absurd call
+ended meant a b before is statuses.Usage e whole call = absurd call
+ended meant a b before is statuses.Refused e whole call = disk_ends meant a b before is (Refused call.0) e call.1
+ended meant a b before is statuses.ReadFault e whole call = absurd (false≢true whole)
+ended meant a b before is statuses.WriteFault e whole call = ⊎_elim (λ done. disk_ends meant a b before is Made e done) (λ refused. disk_ends meant a b before is (Refused refused.0) e refused.1) call
+ended meant a b before is statuses.DiskFault e whole call = absurd (false≢true whole)
+ended meant a b before is statuses.NoMemory e whole call = absurd (false≢true whole)
+
+-- ---- commands
+
+-- one that only reads: it has no changes, and its calls change nothing
+record IsReader (asked : Option Command) : Type 0 where
+  pub reads : writes asked ≡ false
+  pub means : (bytes : List ℕ) → meaning asked bytes ≡ nothing
+  pub keeps : changed_name asked ≡ None
+  pub looks : (files : Files) (input : Option (List ℕ)) (status : Status) (e : Ending) (a b : Disk) → (Makes asked files input status).disk e a b → Looks a b
+
+-- one that writes: its changes are safe, it makes them, and it keeps other originals
+record IsWriter (asked : Option Command) : Type 0 where
+  pub writes : writes asked ≡ true
+  pub safe : (bytes : List ℕ) → IsSafe (meaning asked bytes)
+  pub keeps : (bytes : List ℕ) (before : Files) → KeepsOriginals (changed_name asked) (get before) (after (meaning asked bytes) before)
+  pub made : (files : Files) (input : Option (List ℕ)) (status : Status) (e : Ending) (a b : Disk) → (Makes asked files input status).disk e a b
+      → (bytes : List ℕ) × AreBytes input bytes × WritesDisk (meaning asked bytes) status e a b
+
+-- each is the one or the other
+kind : (asked : Option Command) → IsReader asked ⊎ IsWriter asked
+kind None = inl (record { reads = refl; means = λ bytes. refl; keeps = refl; looks = λ files input status e a b made. waits_look 0 e a b made })
+kind (Some (Load name busy policy)) = inl (record { reads = refl; means = λ bytes. refl; keeps = refl; looks = λ files input status e a b made. waits_look (takes (loaded_object files name) name) e a b made })
+kind (Some (All asked detail)) = inr (record { writes = refl; safe = λ bytes. prelink_safe asked; keeps = λ bytes before. prelink_keeps asked before; made = λ files input status e a b made. made })
+kind (Some (Preview asked detail)) = inl (record { reads = refl; means = λ bytes. refl; keeps = refl; looks = λ files input status e a b made. made })
+kind (Some UndoAll) = inr (record { writes = refl; safe = λ bytes. undo_safe runs.UndoAll; keeps = λ bytes before. undo_all_keeps before; made = λ files input status e a b made. made })
+kind (Some (Undo names)) = inr (record { writes = refl; safe = λ bytes. undo_safe (runs.Undo names); keeps = λ bytes before. undo_keeps names before; made = λ files input status e a b made. made })
+kind (Some (Store name content)) = inr (record { writes = refl; safe = store_safe name content; keeps = store_keeps name content; made = λ files input status e a b made. made })
+kind (Some (Remove name)) = inr (record { writes = refl; safe = λ bytes. remove_safe name; keeps = λ bytes before. remove_keeps name before; made = λ files input status e a b made. made })
+kind (Some Print) = inl (record { reads = refl; means = λ bytes. refl; keeps = refl; looks = λ files input status e a b made. waits_look 1 e a b made })
+kind (Some (Order name detail)) = inl (record { reads = refl; means = λ bytes. refl; keeps = refl; looks = λ files input status e a b made. waits_look (takes (object_in files) name) e a b made })
+
+-- ---- a run
+
+module _ (asked : Option Command) (w v : Outside) (status : Status) (told : w.folder.records ≡ true) (ran : Ran asked w v status) where
+  abbrev a : Disk
+  a = w.folder.disk
+
+  abbrev b : Disk
+  b = v.folder.disk
+
+  abbrev before : Files
+  before = restored w.folder.files
+
+  reader_looks : IsReader asked → Looks a b
+  reader_looks reader = reader.looks w.folder.files w.input.left status (ending_of status) a b (ran.folder.disk told)
+
+  abbrev LeavesBy : Type 0
+  LeavesBy = (bytes : List ℕ) × AreBytes w.input.left bytes × LeavesSound (meaning asked bytes) w.folder v.folder
+
+  leaves : IsFolder w.folder → IsSound (get w.folder.files) → IsReader asked ⊎ IsWriter asked → LeavesBy
+  leaves folder sound (inl reader) = (bytes_of w.input.left, λ told. refl, inl (reader_looks reader))
+  leaves folder sound (inr writer) =
+      let m = writer.made w.folder.files w.input.left status (ending_of status) a b (ran.folder.disk told) in
+      (m.0, m.1, written (meaning asked m.0) (writer.safe m.0) a b before (reads_sound w.folder folder told sound) (is_before w.folder folder told) status (ending_of status) m.2)
+
+  looks_by : writes asked ≡ false → IsReader asked ⊎ IsWriter asked → Looks a b
+  looks_by none (inl reader) = reader_looks reader
+  looks_by none (inr writer) = absurd (true≢false (sym writer.writes ∙ none))
+
+  abbrev EndsBy : Type 0
+  EndsBy = (bytes : List ℕ) × AreBytes w.input.left bytes × Within b.now (Same (after (meaning asked bytes) before))
+
+  ends_by : IsFolder w.folder → writes asked ≡ true → is_whole status ≡ true → IsReader asked ⊎ IsWriter asked → EndsBy
+  ends_by folder one whole (inl reader) = absurd (true≢false (sym one ∙ reader.reads))
+  ends_by folder one whole (inr writer) =
+      let m = writer.made w.folder.files w.input.left status (ending_of status) a b (ran.folder.disk told) in
+      (m.0, m.1, ended (meaning asked m.0) a b before (is_before w.folder folder told) status (ending_of status) whole m.2)
+
+pub runs_leave : RunsLeave
+runs_leave asked w v status folder told sound ran = leaves asked w v status told ran folder sound (kind asked)
+
+pub readers_look : ReadersLook
+readers_look asked w v status told none ran = looks_by asked w v status told ran none (kind asked)
+
+pub writers_end : WritersEnd
+writers_end asked w v status folder told one whole ran = ends_by asked w v status told ran folder one whole (kind asked)
+
+-- ---- every image
+
+start_sound : (a : Seen) → IsFolder a → a.records ≡ true → Within a.disk.now IsSound → IsSound (get a.files)
+start_sound a folder told start = subst IsSound (sym (reads_path a folder told)) (start (read a.disk.now) (read_image a.disk.now))
+
+pub every_safe : EveryRunIsSafe
+every_safe asked w v status folder told start ran image had =
+    let l = runs_leave asked w v status folder told (start_sound w.folder folder told start) ran in
+    ⊎_elim
+    (λ looks. start image (looked w.folder.disk v.folder.disk looks image had))
+    (λ keeps. ⊎_elim (λ was. start image was) (λ safe. safe.sound) (since_start w.folder.disk v.folder.disk (IsSafeImage (meaning asked l.0) (restored w.folder.files)) keeps image had))
+    l.2
+
+pub runs_sound : RunsEndSound
+runs_sound asked w v status folder told start ran image is =
+    let l = runs_leave asked w v status folder told (start_sound w.folder folder told start) ran in
+    ⊎_elim (λ looks. start image (subst (λ s. IsImage s image) looks.now is)) (λ keeps. (keeps.now image is).sound) l.2
+
+-- ---- originals
+
+keeps_by : (asked : Option Command) (bytes : List ℕ) (before : Files) → IsReader asked ⊎ IsWriter asked → KeepsOriginals (changed_name asked) (get before) (after (meaning asked bytes) before)
+keeps_by asked bytes before (inl reader) =
+    subst (λ (m : Meaning Cause). KeepsOriginals (changed_name asked) (get before) (after m before)) (sym (reader.means bytes))
+    (subst (λ (n : Option Name). KeepsOriginals n (get before) (get before)) (sym reader.keeps) (λ n. refl))
+keeps_by asked bytes before (inr writer) = writer.keeps bytes before
+
+pub others_keep : OthersKeepOriginals
+others_keep asked bytes before = keeps_by asked bytes before (kind asked)

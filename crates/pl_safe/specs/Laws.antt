@@ -1,0 +1,59 @@
+-- Why every run leaves a sound folder, wherever it is stopped, and why loads of one are ordinary.
+use Rattle.std.specs.Prelude.{◌≡◌, ℕ, true, false, List, Option, Some}
+use Rattle.std.specs.FinMap.{get}
+use Rattle.pl_base.specs.Files.{Files}
+use Rattle.pl_elf.specs.declared.range.Range.{Range}
+use Rattle.pl_folder.specs.Disk.{View, clock}
+use Rattle.pl_folder.specs.Seen.{IsFolder}
+use Rattle.pl_folder.specs.Since.{Since, Within}
+use Rattle.pl_journal.specs.Leaves.{Looks}
+use Rattle.pl_journal.specs.Meaning.{Same}
+use Rattle.pl_batch.specs.Restored.{restored}
+use Rattle.pl_crash.specs.Safe.{after}
+use Rattle.pl_crash.specs.Sound.{IsSound}
+use Rattle.pl_known.specs.Skips.{skip_causes}
+use Rattle.pl_words.specs.declared.command.Policy.{Policy}
+use Rattle.pl_cli.specs.Answer.{answer}
+use Rattle.pl_cli.specs.Outside.{Outside}
+use Rattle.pl_cli.specs.Ran.{Ran}
+use Rattle.pl_cli.specs.Writes.{AreBytes}
+use Rattle.pl_cli.specs.declared.command.Command.{Command}
+use Rattle.pl_cli.specs.declared.command.Command.TheVariants.{Load}
+use Rattle.pl_cli.specs.declared.status.Status.{Status}
+use Rattle.pl_paths.specs.Answers.{ordinary_answer}
+use Rattle.pl_safe.specs.Runs.{KeepsOriginals, LeavesSound, changed_name, is_whole, meaning, writes}
+
+-- ---- every run
+
+-- of a folder that reads as a sound one, by the bytes that its input has
+abbrev pub RunsLeave : Type 0
+RunsLeave =
+    (asked : Option Command) (w v : Outside) (status : Status) → IsFolder w.folder → w.folder.records ≡ true → IsSound (get w.folder.files) → Ran asked w v status → (bytes : List ℕ) × AreBytes w.input.left bytes × LeavesSound (meaning asked bytes) w.folder v.folder
+
+-- where each image at the start was sound, each one since then is; so the next run starts so
+abbrev pub EveryRunIsSafe : Type 0
+EveryRunIsSafe =
+    (asked : Option Command) (w v : Outside) (status : Status) → IsFolder w.folder → w.folder.records ≡ true → Within w.folder.disk.now IsSound → Ran asked w v status → (image : View) → Since v.folder.disk (clock w.folder.disk) image → IsSound image
+
+abbrev pub RunsEndSound : Type 0
+RunsEndSound = (asked : Option Command) (w v : Outside) (status : Status) → IsFolder w.folder → w.folder.records ≡ true → Within w.folder.disk.now IsSound → Ran asked w v status → Within v.folder.disk.now IsSound
+
+-- a command that only reads changes nothing,
+abbrev pub ReadersLook : Type 0
+ReadersLook = (asked : Option Command) (w v : Outside) (status : Status) → w.folder.records ≡ true → writes asked ≡ false → Ran asked w v status → Looks w.folder.disk v.folder.disk
+
+-- and after one that writes the files after it are the only image
+abbrev pub WritersEnd : Type 0
+WritersEnd =
+    (asked : Option Command) (w v : Outside) (status : Status) → IsFolder w.folder → w.folder.records ≡ true → writes asked ≡ true → is_whole status ≡ true → Ran asked w v status → (bytes : List ℕ) × AreBytes w.input.left bytes × Within v.folder.disk.now (Same (after (meaning asked bytes) (restored w.folder.files)))
+
+-- a command changes at most one name's original
+abbrev pub OthersKeepOriginals : Type 0
+OthersKeepOriginals = (asked : Option Command) (bytes : List ℕ) (before : Files) → KeepsOriginals (changed_name asked) (get before) (after (meaning asked bytes) before)
+
+-- ---- loads
+
+-- over a sound folder `--load` answers as if it linked the originals at the same places
+abbrev pub SoundLoadsAreOrdinary : Type 0
+SoundLoadsAreOrdinary =
+    (files : Files) (input name : List ℕ) (busy : Option Range) (policy : Policy) → IsSound (get files) → answer (Some (Load name busy policy)) files input ≡ ordinary_answer skip_causes policy busy files name

@@ -1,0 +1,64 @@
+-- What the commands of a run mean of a folder, and what a run leaves of a sound one.
+use Rattle.std.specs.Prelude.{◌≡◌, ◌⊎◌, ℕ, Bool, true, false, List, [], Option, Some, None, Ok}
+use Rattle.pl_batch.specs.Commands.{Meaning}
+use Rattle.pl_batch.specs.Restored.{restored}
+use Rattle.pl_batch.specs.declared.run.Run.TheVariants as runs
+use Rattle.pl_cli.specs.Writes.{prelinks, removes, stores, undoes}
+use Rattle.pl_cli.specs.declared.cause.Cause.{Cause}
+use Rattle.pl_cli.specs.declared.command.Command.{Command}
+use Rattle.pl_cli.specs.declared.command.Command.TheVariants.{All, UndoAll, Undo, Store, Remove}
+use Rattle.pl_cli.specs.declared.status.Status.{Status}
+use Rattle.pl_cli.specs.declared.status.Status.TheVariants as statuses
+use Rattle.pl_crash.specs.Originals.{SameOriginals, originals}
+use Rattle.pl_crash.specs.Safe.{IsSafeImage}
+use Rattle.pl_folder.specs.Disk.{Name, View, same}
+use Rattle.pl_folder.specs.Seen.{Seen}
+use Rattle.pl_folder.specs.Since.{Keeps}
+use Rattle.pl_journal.specs.Leaves.{Looks}
+
+-- ---- commands
+
+-- no changes
+abbrev pub nothing : Meaning Cause
+nothing files = Ok []
+
+-- the changes of a command, by the bytes of its input; one that only reads has none
+abbrev pub meaning : Option Command → List ℕ → Meaning Cause
+meaning (Some (All asked detail)) bytes = prelinks asked
+meaning (Some UndoAll) bytes = undoes runs.UndoAll
+meaning (Some (Undo names)) bytes = undoes (runs.Undo names)
+meaning (Some (Store name kind)) bytes = stores name kind bytes
+meaning (Some (Remove name)) bytes = removes name
+meaning _ bytes = nothing
+
+abbrev pub writes : Option Command → Bool
+writes (Some (All asked detail)) = true
+writes (Some UndoAll) = true
+writes (Some (Undo names)) = true
+writes (Some (Store name kind)) = true
+writes (Some (Remove name)) = true
+writes _ = false
+
+-- the name whose original a command may change
+abbrev pub changed_name : Option Command → Option Name
+changed_name (Some (Store name kind)) = Some name
+changed_name (Some (Remove name)) = Some name
+changed_name _ = None
+
+-- every other name keeps its own
+abbrev pub KeepsOriginals : Option Name → View → View → Type 0
+KeepsOriginals None old new = SameOriginals new old
+KeepsOriginals (Some name) old new = (n : Name) → same n name ≡ false → originals new n ≡ originals old n
+
+-- a run that ended so has done its command, or it was refused
+abbrev pub is_whole : Status → Bool
+is_whole statuses.Done = true
+is_whole statuses.Refused = true
+is_whole statuses.WriteFault = true
+is_whole _ = false
+
+-- ---- what a run leaves
+
+-- It only looked, and its images are those of the start; or each image of a moment after the start is sound, and stands for the files before it or for those after it.
+abbrev pub LeavesSound : Meaning Cause → Seen → Seen → Type 0
+LeavesSound meant a b = Looks a.disk b.disk ⊎ Keeps a.disk b.disk (IsSafeImage meant (restored a.files))
