@@ -1,5 +1,5 @@
 // Commands of which each call of the folder, the input or the output fails in turn.
-use crate::commands::{COMMANDS, Command};
+use crate::commands::{COMMANDS, Command, Input};
 use crate::running::{Faults, File, NONE, Ran, files_in, folder_of, run_words};
 use pl_cli::Status;
 use std::alloc::Global;
@@ -79,35 +79,45 @@ fn is_whole(
     Ok(())
 }
 
-/// Each call of a place fails in turn, until a run makes no call of that number.
+/// Each call of a place fails in turn, until a run makes no call of that number, which is how many calls there are.
 fn fails(
     rt: &(impl Abort + AllocGlobal),
     command: Command,
     place: Place,
     before: &[File],
     after: &[File],
-) -> Result<(), Fail> {
+) -> Result<u64, Fail> {
     for call in 0..1000_u64 {
         let failed = run_failing(rt.alloc(), before, command, place, call)?;
         if failed.ran.status == Status::Done {
-            return Ok(());
+            return Ok(call);
         }
         is_whole(rt, &failed, command, place, before, after)?;
     }
     Err("a run that does not fail".into())
 }
 
+/// Each call of the folder, of the input and of the output fails in turn.
+fn fails_everywhere(rt: &(impl Abort + AllocGlobal), command: Command) -> Result<(), Fail> {
+    let alloc: Global = rt.alloc();
+    let before = command.files(rt)?;
+    let mut folder = folder_of(alloc, &before, &[])?;
+    let _ran = command.run(alloc, &mut folder, NONE)?;
+    let calls = folder.moments();
+    let after = files_in(alloc, &mut folder)?;
+    let of_folder = fails(rt, command, Place::Folder, &before, &after)?;
+    assert_eq!(rt; of_folder, calls);
+    let of_input = fails(rt, command, Place::Input, &before, &after)?;
+    assert_eq!(rt; of_input == 0, matches!(command.input, Input::Nothing));
+    let of_output = fails(rt, command, Place::Output, &before, &after)?;
+    assert!(rt; of_output > 0);
+    Ok(())
+}
+
 #[test]
 fn fails_at_each_call(rt: HostRuntime) -> Result<(), Fail> {
-    let alloc = rt.alloc();
     for command in COMMANDS {
-        let before = command.files(&rt)?;
-        let mut folder = folder_of(alloc, &before, &[])?;
-        let _ran = command.run(alloc, &mut folder, NONE)?;
-        let after = files_in(alloc, &mut folder)?;
-        for place in [Place::Folder, Place::Input, Place::Output] {
-            fails(&rt, command, place, &before, &after)?;
-        }
+        fails_everywhere(&rt, command)?;
     }
     Ok(())
 }
