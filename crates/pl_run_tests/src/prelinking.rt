@@ -1,6 +1,8 @@
 // Runs of `-a`, with `--load`, `-p`, `-u`, `--install` and `--remove` over what it leaves.
-use crate::running::Made;
-use crate::steps::{Row, Step, take_rows};
+use crate::running::{File, Made, folder_of};
+use crate::steps::{Row, Step, Words, keeps, take_rows};
+use pl_cli::Status;
+use std::alloc::{AllocError, Global};
 use std::test::Fail;
 
 // A program and its library.
@@ -385,4 +387,78 @@ done 2 prelinked 2 current 0 skipped
 #[test]
 fn shares_slots(rt: HostRuntime) -> Result<(), Fail> {
     take_rows(&rt, &SHARED)
+}
+
+// A file of the program's own that is outside its grammar, words, how the run ends, and what it prints: a dry run sees no journal.
+const OWN: [(&str, Words, Status, &str); 4] = [
+    (
+        ".prelink.journal",
+        &["-a"],
+        Status::Refused,
+        "refused BadJournal\n",
+    ),
+    (
+        ".prelink.journal",
+        &["-a", "-n"],
+        Status::Done,
+        "done 0 prelinked 0 current 0 skipped\n",
+    ),
+    (
+        ".prelink.cache",
+        &["-a"],
+        Status::Refused,
+        "refused BadCache\n",
+    ),
+    (
+        ".prelink.cache",
+        &["-a", "-n"],
+        Status::Refused,
+        "refused BadCache\n",
+    ),
+];
+
+/// A file of three bytes.
+fn three_bytes(alloc: Global, name: &str) -> Result<Vec<File>, AllocError> {
+    let mut files = Vec::new(alloc);
+    files.push((String::from_str(alloc, name)?, b"abc".to_vec(alloc)?))?;
+    Ok(files)
+}
+
+#[test]
+fn looks_at_its_own_files(rt: HostRuntime) -> Result<(), Fail> {
+    let alloc = rt.alloc();
+    for (name, words, want, text) in OWN {
+        let mut folder = folder_of(alloc, &three_bytes(alloc, name)?, &[])?;
+        keeps(&rt, &mut folder, words, want, text)?;
+    }
+    Ok(())
+}
+
+// How many files are there, how the run ends, and what it prints.
+const COUNTS: [(usize, Status, &str); 2] = [
+    (
+        1024,
+        Status::Done,
+        "done 0 prelinked 0 current 1024 skipped\n",
+    ),
+    (1025, Status::Refused, "refused TooManyFiles\n"),
+];
+
+/// So many files, each of no bytes.
+fn many_files(alloc: Global, count: usize) -> Result<Vec<File>, AllocError> {
+    let mut files = Vec::new(alloc);
+    for number in 0..count {
+        files.push((format!(in alloc; "f{number}")?, Vec::new(alloc)))?;
+    }
+    Ok(files)
+}
+
+#[test]
+fn prelinks_as_many_files_as_there_may_be(rt: HostRuntime) -> Result<(), Fail> {
+    let alloc = rt.alloc();
+    for (count, want, text) in COUNTS {
+        let mut folder = folder_of(alloc, &many_files(alloc, count)?, &[])?;
+        keeps(&rt, &mut folder, &["-a"], want, text)?;
+    }
+    Ok(())
 }

@@ -18,7 +18,7 @@ pub type Made = (&'static str, &'static str);
 pub const NOW: u32 = 1000;
 
 /// How many calls a folder answers.
-const CALLS: u32 = 1000;
+const CALLS: u32 = 5000;
 
 /// How many bytes a sink has room for.
 const ROOM: usize = 16384;

@@ -84,7 +84,7 @@ fn prints(
 }
 
 /// A run ends so, prints this, and leaves every file as it is.
-fn keeps(
+pub fn keeps(
     rt: &(impl Abort + AllocGlobal),
     folder: &mut MemoryFolder,
     words: &[&str],
