@@ -13,5 +13,3 @@ mod running;
 mod steps;
 #[cfg(test)]
 mod stopping;
-#[cfg(test)]
-mod verifying;
