@@ -1,5 +1,5 @@
-// Loaded before the C library: refuses the allocation of the program itself whose number REFUSE says, counted from 1, and tells so on the standard error.
-// Allocations of the C library for itself are not counted.
+// Loaded before the C library: refuses the allocation of the program itself whose number REFUSE says, counted from 1, and where LATER stands in the
+// environment all later ones too. It tells so on the standard error. Allocations of the C library for itself are not counted.
 #define _GNU_SOURCE
 #include <dlfcn.h>
 #include <errno.h>
@@ -8,6 +8,7 @@
 #include <unistd.h>
 
 static long left = -1;
+static int refuses_later;
 
 static int is_refused(void *caller)
 {
@@ -18,9 +19,11 @@ static int is_refused(void *caller)
     if (left < 0) {
         const char *number = getenv("REFUSE");
         left = number ? atol(number) : 0;
+        refuses_later = getenv("LATER") != 0;
     }
     if (left == 0 || --left > 0)
         return 0;
+    left = refuses_later;
     errno = ENOMEM;
     return write(2, "refused\n", 8) == 8;
 }
