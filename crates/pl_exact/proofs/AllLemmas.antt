@@ -20,14 +20,14 @@ use Rattle.pl_journal.specs.declared.change.Change.TheVariants.{Drop, Put}
 use Rattle.pl_journal.proofs.NameLemmas.{apart}
 use Rattle.pl_plan.specs.declared.planned.Planned.{Planned}
 use Rattle.pl_rewrite.specs.Changes.{change, changes, is_file, next, put}
-use Rattle.pl_rewrite.proofs.SoundLaws.{names_stay}
+use Rattle.pl_rewrite.proofs.SoundLaws.{names_stay, next_is_from_scratch}
 use Rattle.pl_scope.specs.Members.{has}
 use Rattle.pl_batch.specs.All.{all_changes, put_cache}
 use Rattle.pl_batch.specs.Changes.{changes_of, fitting}
 use Rattle.pl_batch.specs.Folder.{cache, cache_by, cache_file, named, valid_names}
 use Rattle.pl_batch.specs.declared.cause.Cause.TheVariants as causes
 use Rattle.pl_batch.specs.declared.prelinking.Prelinking.{Prelinking}
-use Rattle.pl_exact.specs.All.{AllGivesNext, cache_or_none}
+use Rattle.pl_exact.specs.All.{AllGivesNext, NextIsFromScratch, cache_or_none}
 use Rattle.pl_exact.proofs.PlanLemmas.{NextAt, all_planned, are_names, cache_own, changes_by, next_of, rows_are}
 use Rattle.pl_exact.proofs.RowLemmas.{Each, old_or_new}
 
@@ -192,3 +192,6 @@ gives_next files p rows e =
       each = λ n valid. ap (λ (rs : List Change). applied rs (get files) n) (sym whole) ∙ after_cache files p is.plan n valid (bytes_eq is.old (cache_bytes (next_of files p is.cached is.plan))) (cache_bytes (next_of files p is.cached is.plan));
       keeps = ap (λ (rs : List Change). cache_or_none (applied rs (get files) cache)) (sym whole) ∙ cache_keeps files p is.plan is.old (cache_bytes (next_of files p is.cached is.plan)) is.found;
     }
+
+pub gives_scratch : NextIsFromScratch
+gives_scratch files p after is rule n valid = is.each n valid ∙ next_is_from_scratch (named files) p.region is.plan rule n

@@ -5,12 +5,14 @@ use Rattle.pl_base.specs.Files.{Files}
 use Rattle.pl_base.specs.Names.{is_valid_name}
 use Rattle.pl_cache.specs.Spelling.{cache_bytes}
 use Rattle.pl_cache.specs.declared.cache.Cache.{Cache}
+use Rattle.pl_conflict.specs.Format.{Rule}
 use Rattle.pl_folder.specs.Disk.{View}
 use Rattle.pl_journal.specs.Meaning.{applied}
 use Rattle.pl_journal.specs.declared.change.Change.{Change}
 use Rattle.pl_known.specs.Plans.{planned}
+use Rattle.pl_known.specs.Skips.{skip_causes}
 use Rattle.pl_plan.specs.declared.planned.Planned.{Planned}
-use Rattle.pl_rewrite.specs.Changes.{next, next_cache}
+use Rattle.pl_rewrite.specs.Changes.{from_scratch, next, next_cache}
 use Rattle.pl_batch.specs.All.{asked_of}
 use Rattle.pl_batch.specs.Changes.{changes_of}
 use Rattle.pl_batch.specs.Folder.{cache, cache_file, cache_in, named, no_cache, valid_names}
@@ -35,3 +37,7 @@ pub record HasNext (files : Files) (p : Prelinking) (after : View) : Type 0 wher
 
 abbrev pub AllGivesNext : Type 0
 AllGivesNext = (files : Files) (p : Prelinking) (rows : List Change) → changes_of files (runs.All p) ≡ Ok rows → HasNext files p (applied rows (get files))
+
+-- in a folder that keeps the rule of prelinked files these are the files from scratch, of current names too
+abbrev pub NextIsFromScratch : Type 0
+NextIsFromScratch = (files : Files) (p : Prelinking) (after : View) (is : HasNext files p after) → Rule skip_causes (named files) → (n : List ℕ) → is_valid_name n ≡ true → after n ≡ from_scratch (named files) p.region is.plan n

@@ -1,10 +1,11 @@
-ghost use Rattle.pl_exact.specs.All.{AllGivesNext};
+ghost use Rattle.pl_exact.specs.All.{AllGivesNext, NextIsFromScratch};
 ghost use Rattle.pl_exact.specs.Causes.{BadCacheIsOfTheCache};
 ghost use Rattle.pl_exact.specs.Fits.{RemovalsFit, RunsFit};
 
-/// With all its rows done a run that prelinks everything leaves each valid name the file that is planned for it, and the planned cache.
+/// With all its rows done a run that prelinks everything leaves each valid name the file that is planned for it, and the planned cache. In a folder that keeps the rule of prelinked files these are the files from scratch.
 pub fn all_gives_next()
-    ensures { AllGivesNext }
+    ensures next { AllGivesNext }
+    ensures scratch { NextIsFromScratch }
 {}
 
 /// The rows of every command fit a journal: there are at most 1025 of them, their names differ, and each is valid or the cache's. So TooManyFiles comes of the files alone.
