@@ -1,0 +1,15 @@
+pub mod AlignLaws
+pub mod RowLaws
+pub mod WordLaws
+pub mod PieLaws
+pub mod InsideLaws
+pub mod UnfixLaws
+pub mod HiddenLaws
+pub mod MovableLaws
+pub mod FileLaws
+pub mod CallLaws
+pub mod ContentLaws
+pub mod RowOfLaws
+pub mod OwnLaws
+pub mod RebasedLaws
+pub mod BearLaws

@@ -1,0 +1,113 @@
+-- Loosening undoes fixing, and gives nothing else.
+use Rattle.std.proofs.Common.{◌≡◌, ℕ, ◌+◌, ◌*◌, ◌/◌, ◌%◌, ◌^◌, ◌≤◌, Bool, true, false, List, [], ◌∷◌, length, Option, Some, None, Result, Ok, Err, refl, sym, ap, subst, ◌∙◌, arith}
+use Rattle.std.specs.Prelude.{◌&&◌, ◌==◌, nat_le, if◌then◌else◌}
+use Rattle.std.proofs.lemmas.Bool.Decides.{nat_tests}
+use Rattle.std.specs.Str.{bytes_eq}
+use Rattle.std.proofs.lemmas.Slice.Eq.{bytes_eq-Decides}
+use Rattle.pl_base.specs.Bytes.{IsBytes}
+use Rattle.pl_base.specs.Sums.{round_down}
+use Rattle.pl_base.specs.Windows.{AllIn}
+use Rattle.pl_elf.specs.Kinds.{is_program}
+use Rattle.pl_object.specs.Reads.{reads}
+use Rattle.pl_object.specs.declared.object.Object.{Object}
+use Rattle.pl_object.specs.declared.refusal.Refusal.{Refusal}
+use Rattle.pl_move.specs.Moves.{table_windows, moved, all_moved, all_back}
+use Rattle.pl_move.specs.declared.table.Table.{Table}
+use Rattle.pl_move.specs.Objects.{tables_of, LieIn}
+use Rattle.pl_move.proofs.MoveLaws.{back_undoes, length-all_moved, length-moved, moved_bytes}
+use Rattle.pl_move.proofs.ObjectLaws.{tables_in}
+use Rattle.pl_pie.specs.Words.{other_words}
+use Rattle.pl_pie.specs.Pie.{typed, as_program, pie}
+use Rattle.pl_pie.specs.Fix.{added, taken, word_windows, fixed_bytes, fits, page_of, loosened, checked_by, checked, unfixed_by, unfixed}
+use Rattle.pl_pie.specs.Laws.{UnfixIsExact, IsReadAgain, UnfixUndoes}
+use Rattle.pl_pie.proofs.WordLaws.{typed_bytes, typed_back, taken_back, long_is}
+use Rattle.pl_pie.proofs.PieLaws.{IsPie, pie_is, pie_type, not_static, and_both}
+use Rattle.pl_pie.proofs.InsideLaws.{words_in}
+
+-- ---- nothing else
+
+abbrev Found : List ℕ → List ℕ → Type 0
+Found file bytes = (o : Object) × (at : ℕ) × (pie bytes ≡ Some o) × (fits o at ≡ true) × (fixed_bytes at o bytes ≡ file)
+
+pub unfix_exact : UnfixIsExact
+unfolding unfixed checked
+unfix_exact file bytes h = of_read (reads file) h
+  where
+    of_test : (at : ℕ) (l : List ℕ) (y : Object) → pie l ≡ Some y → (b c : Bool) → fits y at ≡ b → bytes_eq (fixed_bytes at y l) file ≡ c → (if b && c then Some l else None) ≡ Some bytes → Found file bytes
+    of_test at l y is false c fit same e = absurd cc
+    of_test at l y is true false fit same e = absurd cc
+    of_test at l y is true true fit same e =
+        let one : l ≡ bytes = cc in
+        subst (λ (p : List ℕ). Found file p) one (y, at, is, fit, (bytes_eq-Decides (fixed_bytes at y l) file).0 same)
+
+    of_pie : (at : ℕ) (l : List ℕ) (y : Option Object) → pie l ≡ y → checked_by at file l y ≡ Some bytes → Found file bytes
+    of_pie at l None is e = absurd cc
+    of_pie at l (Some y) is e = of_test at l y is (fits y at) (bytes_eq (fixed_bytes at y l) file) refl refl e
+
+    of_kind : (x : Object) (b : Bool) → (if b then checked_by (page_of x) file (loosened x file) (pie (loosened x file)) else None) ≡ Some bytes → Found file bytes
+    of_kind x false e = absurd cc
+    of_kind x true e = of_pie (page_of x) (loosened x file) (pie (loosened x file)) refl e
+
+    of_read : (r : Result Object Refusal) → unfixed_by file r ≡ Some bytes → Found file bytes
+    of_read (Err fault) e = absurd cc
+    of_read (Ok x) e = of_kind x (is_program x.kind) e
+
+-- ---- the inverse
+
+page_even : (at first : ℕ) → at ≡ first / 4096 * 4096 → at % 2 ≡ 0
+page_even at first is = omega (arith, is)
+
+pages_even : (x : Object) (at : ℕ) → page_of x ≡ at → at % 2 ≡ 0
+unfolding page_of round_down
+pages_even x at is = page_even at _ (sym is)
+
+fits_small : (o : Object) (at : ℕ) → fits o at ≡ true → at ≤ 2 ^ 64
+unfolding fits
+fits_small o at h = small at o.span (and_both (at % o.align == 0 && nat_le 137438953472 at) (nat_le (at + o.span) 201863462912) h).1
+  where
+    small : (a s : ℕ) → nat_le (a + s) 201863462912 ≡ true → a ≤ 2 ^ 64
+    small a s e = grind (arith, nat_tests)
+
+all_moved_bytes : (w : ℕ) (ts : List Table) (xs : List ℕ) → AllIn (length xs) (table_windows ts) → IsBytes xs → IsBytes (all_moved w ts xs)
+unfolding all_moved
+all_moved_bytes w [] xs fits b = b
+all_moved_bytes w (t ∷ ts) xs fits b = all_moved_bytes w ts (moved w t xs) (rw (length-moved w t xs fits.0) fits.1) (moved_bytes w t xs fits.0 b)
+
+-- what was added is taken, and the type put back
+loosened_is : (bytes : List ℕ) (o x : Object) (at : ℕ) → IsBytes bytes → IsPie bytes o → at ≤ 2 ^ 64 → IsReadAgain at o (fixed_bytes at o bytes) x → loosened x (fixed_bytes at o bytes) ≡ bytes
+unfolding loosened fixed_bytes
+loosened_is bytes o x at h is small again =
+    let p : List ℕ = as_program bytes in
+    let ws : List ℕ = other_words o in
+    let long : 64 ≤ length bytes = long_is 2 bytes is.accepted.head.long in
+    let b : IsBytes p = typed_bytes 2 bytes h in
+    let lie : LieIn (length p) o = tables_in p o is.accepted (not_static o.kind is.program) in
+    let moved : List ℕ = all_moved at (tables_of o) p in
+    let len : length moved ≡ length p = length-all_moved at (tables_of o) p lie in
+    let inside : AllIn (length moved) (word_windows ws) = rw len (words_in p o is.accepted (not_static o.kind is.program)) in
+    ap (λ (n : ℕ). typed 3 (all_back n (tables_of x) (taken n (other_words x) (added at ws moved)))) again.page
+    ∙ ap (λ (us : List ℕ). typed 3 (all_back at (tables_of x) (taken at us (added at ws moved)))) again.words
+    ∙ ap (λ (ys : List ℕ). typed 3 (all_back at (tables_of x) ys)) (taken_back at ws moved inside (all_moved_bytes at (tables_of o) p lie b) small)
+    ∙ ap (λ (ts : List Table). typed 3 (all_back at ts moved)) again.tables
+    ∙ ap (typed 3) (back_undoes at (tables_of o) p lie b (small, pages_even x at again.page))
+    ∙ typed_back 3 2 bytes long h (pie_type bytes o is)
+
+checked_is : (bytes : List ℕ) (o : Object) (at : ℕ) → pie bytes ≡ Some o → fits o at ≡ true → checked at (fixed_bytes at o bytes) bytes ≡ Some bytes
+unfolding checked
+checked_is bytes o at is fit = rw (is, fit, bytes_same (fixed_bytes at o bytes)) refl
+  where
+    bytes_same : (xs : List ℕ) → bytes_eq xs xs ≡ true
+    bytes_same xs = (bytes_eq-Decides xs xs).1 refl
+
+unfixed_is : (file : List ℕ) (x : Object) → reads file ≡ Ok x → is_program x.kind ≡ true → unfixed file ≡ checked (page_of x) file (loosened x file)
+unfolding unfixed
+unfixed_is file x read program = rw (read, program) refl
+
+pub unfix_undoes : UnfixUndoes
+unfix_undoes bytes o x at h is fit again =
+    let p : IsPie bytes o = pie_is bytes o is in
+    let file : List ℕ = fixed_bytes at o bytes in
+    unfixed_is file x again.read again.program
+    ∙ ap (λ (n : ℕ). checked n file (loosened x file)) again.page
+    ∙ ap (checked at file) (loosened_is bytes o x at h p (fits_small o at fit) again)
+    ∙ checked_is bytes o at is fit

@@ -1,0 +1,4 @@
+pub mod Words
+pub mod Pie
+pub mod Fix
+pub mod Laws

@@ -1,0 +1,23 @@
+// What holds of programs that are fixed, and of what is loosened.
+ghost use Rattle.pl_pie.specs.Laws.{FixedFileBears, FixedFileIsOrdinary, PiesArePlaced, UnfixIsExact, UnfixUndoes};
+
+/// A position-independent program that is loaded at an address of the region, with other members, and the file that `fix` makes of it there have one image, 0 in the link tables, or the same link refusal.
+pub fn fixed_file_is_ordinary()
+    ensures { FixedFileIsOrdinary }
+{}
+
+/// The header, the program headers and the section headers of a file that `fix` makes are those of the fixed object.
+pub fn fixed_file_bears()
+    ensures { FixedFileBears }
+{}
+
+/// A position-independent program has memory, and its alignment is a power of two. So a policy may be asked for its address.
+pub fn pies_are_placed()
+    ensures { PiesArePlaced }
+{}
+
+/// What `unfix` gives is a position-independent program, of which the file is the one fixed at an address of the region. And where a fixed file is accepted as a program with the same words that begins in the address's page, `unfix` gives what was fixed.
+pub fn unfix_is_exact()
+    ensures exact { UnfixIsExact }
+    ensures undoes { UnfixUndoes }
+{}

@@ -1,0 +1,17 @@
+//! Position-independent programs: which files are such programs, the program that one becomes where it is fixed at an address, and how it is loosened again (System V gABI chapter 5, "Program Loading"; GNU extension DF_1_PIE).
+#![tactic(auto)]
+
+pub mod constants;
+mod fixing;
+mod law;
+mod links;
+mod meets;
+mod pie;
+mod points;
+mod unfixing;
+mod words;
+
+pub use fixing::fix;
+pub use law::{fixed_file_bears, fixed_file_is_ordinary, pies_are_placed, unfix_is_exact};
+pub use pie::is_pie;
+pub use unfixing::unfix;
