@@ -2,6 +2,7 @@ pub mod StopLemmas
 pub mod PartLemmas
 pub mod CallLemmas
 pub mod AllLemmas
+pub mod VerifyLemmas
 pub mod LookLemmas
 pub mod TakeLemmas
 pub mod WalkLemmas

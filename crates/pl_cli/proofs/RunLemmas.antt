@@ -22,14 +22,14 @@ use Rattle.pl_loader.specs.declared.object_file.ObjectFile.{ObjectFile}
 use Rattle.pl_cli.specs.declared.cause.Cause.{Cause}
 use Rattle.pl_cli.specs.declared.cause.Cause.TheVariants as causes
 use Rattle.pl_cli.specs.declared.command.Command.{Command}
-use Rattle.pl_cli.specs.declared.command.Command.TheVariants.{Load, All, Preview, UndoAll, Undo, Store, Remove, Print, Order}
+use Rattle.pl_cli.specs.declared.command.Command.TheVariants.{Load, All, Preview, UndoAll, Undo, Verify, Store, Remove, Print, Order}
 use Rattle.pl_cli.specs.declared.command.Detail.{Detail}
 use Rattle.pl_cli.specs.declared.status.Status.{Status}
 use Rattle.pl_cli.specs.declared.status.Status.TheVariants as statuses
 use Rattle.pl_cli.specs.declared.stop.Stop.{Stop}
 use Rattle.pl_cli.specs.declared.stop.Stop.TheVariants as stops
-use Rattle.pl_cli.specs.Answer.{Answer, IsTold, answer, done, load_answer, text_answer, refuses, usage}
-use Rattle.pl_cli.specs.Came.{Came, HasLoaded, HasOrdered, HasPreviewed, HasPrinted, Makes, as_is}
+use Rattle.pl_cli.specs.Answer.{Answer, IsTold, answer, compare_answer, compared, differs_text, done, load_answer, text_answer, refuses, usage}
+use Rattle.pl_cli.specs.Came.{Came, HasLoaded, HasOrdered, HasPreviewed, HasPrinted, HasVerified, Makes, as_is}
 use Rattle.pl_cli.specs.Load.{choice, loaded_files}
 use Rattle.pl_cli.specs.Outside.{Consumes, most_read, outside}
 use Rattle.pl_cli.specs.Ran.{Finishes, Ran, Refuses, Writes}
@@ -62,6 +62,7 @@ module _ (input : Option (List ℕ)) {a b : Seen} where
   line_failed : (asked : Option Command) → Calls Done (Makes asked a.files input statuses.Refused) a b → Calls Done (Makes asked a.files input statuses.WriteFault) a b
   line_failed None call = call
   line_failed (Some (Load name busy policy)) call = call
+  line_failed (Some (Verify name)) call = call
   line_failed (Some Print) call = call
   line_failed (Some (Order name detail)) call = call
   line_failed (Some (All asked detail)) call = writes_line_failed (λ bytes. prelinks asked) input call
@@ -74,6 +75,7 @@ module _ (input : Option (List ℕ)) {a b : Seen} where
   line_lacked : (asked : Option Command) → IsFolder a → Calls Done (Makes asked a.files input statuses.Refused) a b → Calls Undone (Makes asked a.files input statuses.NoMemory) a b
   line_lacked None law call = asked_all 0 call
   line_lacked (Some (Load name busy policy)) law call = asked_all _ call
+  line_lacked (Some (Verify name)) law call = looked_all call
   line_lacked (Some Print) law call = asked_all 1 call
   line_lacked (Some (Order name detail)) law call = asked_all _ call
   line_lacked (Some (All asked detail)) law call = writes_line_lacked (λ bytes. prelinks asked) input law call
@@ -86,6 +88,7 @@ module _ (input : Option (List ℕ)) {a b : Seen} where
   text_failed : (asked : Option Command) → Calls Done (Makes asked a.files input statuses.Done) a b → Calls Done (Makes asked a.files input statuses.WriteFault) a b
   text_failed None call = call
   text_failed (Some (Load name busy policy)) call = call
+  text_failed (Some (Verify name)) call = call
   text_failed (Some Print) call = call
   text_failed (Some (Order name detail)) call = call
   text_failed (Some (All asked detail)) call = writes_text_failed (λ bytes. prelinks asked) input call
@@ -236,6 +239,58 @@ came_previewed asked detail i (Err stops.Failed) found = record { gives = tt; en
 came_previewed asked detail i (Err stops.InputFailed) found = absurd (true≢false found.reads)
 came_previewed asked detail i (Err stops.NoMemory) found = record { gives = tt; ends = refl; calls = found.calls; input = untouched i }
 
+pub came_verified : (name : List ℕ) (i : Input) {a b : Seen} (stop : Stop) → HasVerified name (Err stop) a b → Came (Some (Verify name)) as_is (Err stop) a b i i
+came_verified name i (stops.Cause cause) found = record { gives = λ told. ap compare_answer (found.means told.files); ends = refl; calls = found.calls; input = untouched i }
+came_verified name i stops.Failed found = record { gives = tt; ends = found.fails refl; calls = found.calls; input = untouched i }
+came_verified name i stops.InputFailed found = absurd (true≢false found.reads)
+came_verified name i stops.NoMemory found = record { gives = tt; ends = refl; calls = found.calls; input = untouched i }
+
+-- a file that is what it should be
+pub ran_verified : (name : List ℕ) (original : Vec ℕ Global) {a b : Seen} (i : Input) → HasVerified name (Ok (Some original)) a b → {o p : Output} (status : Status) → Finishes (done original.items) status o p → Ran (Some (Verify name)) (outside a i o) (outside b i p) status
+ran_verified name original i found {o = o} {p = p} statuses.Done fin = record {
+  ends = refl;
+  prints = λ told. (ap (λ (r : Result (Option (List ℕ)) Cause). (compare_answer r).status) (found.means told.files), fin.whole refl ∙ ap (λ (r : Result (Option (List ℕ)) Cause). got_after o.got (compare_answer r).text) (sym (found.means told.files)));
+  folder = found.calls;
+  input = untouched i;
+  output = fin.count;
+}
+ran_verified name original i found {o = o} {p = p} statuses.WriteFault fin = record {
+  ends = refl;
+  prints = λ told. subst (λ (r : Result (Option (List ℕ)) Cause). GotPrefix o.got p.got (compare_answer r).text) (sym (found.means told.files)) (fin.prefix refl);
+  folder = found.calls;
+  input = untouched i;
+  output = fin.count;
+}
+ran_verified name original i found statuses.Differs fin = let e = fin.ends refl in cc
+ran_verified name original i found statuses.Usage fin = let e = fin.ends refl in cc
+ran_verified name original i found statuses.Refused fin = let e = fin.ends refl in cc
+ran_verified name original i found statuses.ReadFault fin = let e = fin.ends refl in cc
+ran_verified name original i found statuses.DiskFault fin = let e = fin.ends refl in cc
+ran_verified name original i found statuses.NoMemory fin = let e = fin.ends refl in cc
+
+-- one that differs
+pub ran_differing : (name : List ℕ) {a b : Seen} (i : Input) → HasVerified name (Ok None) a b → {o p : Output} (status : Status) → Finishes (compared None) status o p → Ran (Some (Verify name)) (outside a i o) (outside b i p) status
+ran_differing name i found {o = o} {p = p} statuses.Differs fin = record {
+  ends = refl;
+  prints = λ told. (ap (λ (r : Result (Option (List ℕ)) Cause). (compare_answer r).status) (found.means told.files), fin.whole refl ∙ ap (λ (r : Result (Option (List ℕ)) Cause). got_after o.got (compare_answer r).text) (sym (found.means told.files)));
+  folder = found.calls;
+  input = untouched i;
+  output = fin.count;
+}
+ran_differing name i found {o = o} {p = p} statuses.WriteFault fin = record {
+  ends = refl;
+  prints = λ told. subst (λ (r : Result (Option (List ℕ)) Cause). GotPrefix o.got p.got (compare_answer r).text) (sym (found.means told.files)) (fin.prefix refl);
+  folder = found.calls;
+  input = untouched i;
+  output = fin.count;
+}
+ran_differing name i found statuses.Done fin = let e = fin.ends refl in cc
+ran_differing name i found statuses.Usage fin = let e = fin.ends refl in cc
+ran_differing name i found statuses.Refused fin = let e = fin.ends refl in cc
+ran_differing name i found statuses.ReadFault fin = let e = fin.ends refl in cc
+ran_differing name i found statuses.DiskFault fin = let e = fin.ends refl in cc
+ran_differing name i found statuses.NoMemory fin = let e = fin.ends refl in cc
+
 pub ran_usage : (a : Seen) (i : Input) {o p : Output} (status : Status) → Finishes (record { status = statuses.Usage; text = usage }) status o p → Ran None (outside a i o) (outside a i p) status
 ran_usage a i statuses.Usage fin = record { ends = refl; prints = λ _. (refl, fin.whole refl); folder = no_calls Done a refl refl refl; input = untouched i; output = fin.count }
 ran_usage a i statuses.WriteFault fin = record { ends = refl; prints = λ _. fin.prefix refl; folder = no_calls Done a refl refl refl; input = untouched i; output = fin.count }
@@ -254,6 +309,7 @@ lacks_writing meant input a = no_calls Undone a refl (bytes_of input, (λ _. ref
 lacks : (asked : Option Command) (input : Option (List ℕ)) (a : Seen) → Calls Undone (Makes asked a.files input statuses.NoMemory) a a
 lacks None input a = no_calls Undone a refl refl (0, omega arith, refl)
 lacks (Some (Load name busy policy)) input a = no_calls Undone a refl refl (0, omega arith, refl)
+lacks (Some (Verify name)) input a = no_calls Undone a refl refl (no_look a.disk a.disk refl)
 lacks (Some Print) input a = no_calls Undone a refl refl (0, omega arith, refl)
 lacks (Some (Order name detail)) input a = no_calls Undone a refl refl (0, omega arith, refl)
 lacks (Some (All asked detail)) input a = lacks_writing (λ bytes. prelinks asked) input a

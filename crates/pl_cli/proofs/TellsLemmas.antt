@@ -28,9 +28,11 @@ use Rattle.pl_cli.specs.Order.{object_in, order_text, ordered, original, refused
 use Rattle.pl_cli.specs.declared.command.Content.{Content}
 use Rattle.pl_cli.specs.declared.command.Content.TheVariants.{File, Recipe}
 use Rattle.pl_cli.specs.Reports.{previewed, report_text, reported}
+use Rattle.pl_cli.specs.Verified.{verifies}
 use Rattle.pl_cli.specs.Writes.{content, file_by, of_batch, prelinks, recipe_cause, removes, stores, undoes}
 use Rattle.pl_journal.specs.declared.change.Change.{Change}
 use Rattle.pl_batch.specs.All.{all_reported}
+use Rattle.pl_batch.specs.Verify.{verified}
 use Rattle.pl_batch.specs.Changes.{changes_of, removal_meant, run_meant}
 use Rattle.pl_batch.specs.Commands.{ready_for}
 use Rattle.pl_batch.specs.declared.cause.Cause as batch
@@ -103,6 +105,9 @@ batch_cause batch_causes.BadCache = refl
 batch_cause batch_causes.FolderTooLarge = refl
 batch_cause (batch_causes.NoSlot name span hole) = refl
 batch_cause (batch_causes.StampsSpent stamp) = refl
+batch_cause (batch_causes.Refused name number argument) = refl
+batch_cause (batch_causes.NeededIsProgram name) = refl
+batch_cause (batch_causes.TooMany name) = refl
 
 batch_tells : {X : Type 0} (r : Result X batch.Cause) → Tells is_memory (because of_batch r)
 batch_tells r = cause_tells is_memory of_batch r batch_cause
@@ -134,3 +139,9 @@ previewed_tells detail asked files = then_tells is_memory (because of_batch (all
 pub reported_tells : (detail : Detail) (asked : Prelinking) (files : Files) → Tells is_memory (reported detail asked files)
 unfolding reported
 reported_tells detail asked files = then_tells is_memory (prelinks asked files) _ (batch_tells (run_meant (runs.All asked) files)) (λ rows. previewed_tells detail asked files)
+
+-- ---- `-y`
+
+pub verified_tells : (name : List ℕ) (files : Files) → Tells is_memory (verifies name files)
+unfolding verifies
+verified_tells name files = batch_tells (verified files name)

@@ -11,7 +11,7 @@ use Rattle.pl_cli.specs.declared.status.Status.{Status}
 use Rattle.pl_cli.specs.declared.status.Status.TheVariants as statuses
 use Rattle.pl_cli.specs.declared.cause.Cause.{Cause}
 use Rattle.pl_cli.specs.declared.command.Command.{Command}
-use Rattle.pl_cli.specs.declared.command.Command.TheVariants.{Load, All, Preview, UndoAll, Undo, Store, Remove, Print, Order}
+use Rattle.pl_cli.specs.declared.command.Command.TheVariants.{Load, All, Preview, UndoAll, Undo, Verify, Store, Remove, Print, Order}
 use Rattle.pl_cli.specs.declared.command.Content.{Content}
 use Rattle.pl_cli.specs.declared.command.Content.TheVariants.{File, Recipe}
 use Rattle.pl_cli.specs.Load.{loaded}
@@ -20,6 +20,7 @@ use Rattle.pl_cli.specs.Order.{ordered}
 use Rattle.pl_cli.specs.Print.{printed}
 use Rattle.pl_cli.specs.Refusals.{refusal}
 use Rattle.pl_cli.specs.Reports.{previewed, reported}
+use Rattle.pl_cli.specs.Verified.{verifies}
 use Rattle.pl_cli.specs.Words.{reads_input, rests_on_files}
 use Rattle.pl_cli.specs.Writes.{removes, stores, undoes}
 
@@ -41,6 +42,9 @@ removed_text name = line (codes "removed " ∷ name ∷ [])
 
 abbrev pub usage : List ℕ
 usage = line (codes "usage: prelink MODE [OPTIONS] [NAME..]" ∷ [])
+
+unfoldable pub differs_text : List ℕ
+differs_text = line (codes "differs" ∷ [])
 
 -- ---- answers
 
@@ -64,6 +68,15 @@ abbrev pub write_answer : (List Change → List ℕ) → Result (List Change) Ca
 write_answer text (Ok rows) = done (text rows)
 write_answer text (Err cause) = refuses cause
 
+-- the original of a file that was compared, or that it differs
+abbrev pub compared : Option (List ℕ) → Answer
+compared (Some original) = done original
+compared None = record { status = statuses.Differs; text = differs_text }
+
+abbrev pub compare_answer : Result (Option (List ℕ)) Cause → Answer
+compare_answer (Ok original) = compared original
+compare_answer (Err cause) = refuses cause
+
 -- a text that is printed, or the cause why there is none
 abbrev pub text_answer : Result (List ℕ) Cause → Answer
 text_answer (Ok text) = done text
@@ -78,6 +91,7 @@ answer (Some UndoAll) files input = write_answer (λ rows. undone_text (length r
 answer (Some (Undo names)) files input = write_answer (λ rows. undone_text (length rows)) (undoes (runs.Undo names) (restored files))
 answer (Some (Store name kind)) files input = write_answer (λ rows. stored_text kind name) (stores name kind input (restored files))
 answer (Some (Remove name)) files input = write_answer (λ rows. removed_text name) (removes name (restored files))
+answer (Some (Verify name)) files input = compare_answer (verifies name files)
 answer (Some Print) files input = text_answer (printed files)
 answer (Some (Order name detail)) files input = text_answer (ordered detail files name)
 

@@ -1,5 +1,5 @@
 -- What a command came to: what it gives to be written, or why it stopped, and what it makes of the folder and of the input.
-use Rattle.std.specs.Prelude.{◌≡◌, ℕ, Bool, true, false, List, Option, Some, None, is_some, Result, Ok, Err, IfOk, ⊤, Vec, count_by, [], ◌∷◌}
+use Rattle.std.specs.Prelude.{◌≡◌, ℕ, Bool, true, false, List, Option, Some, None, is_some, Result, Ok, Err, IfOk, ⊤, Vec, count_by, option_map, [], ◌∷◌}
 use Rattle.std.specs.declared.alloc.Global.{Global}
 use Rattle.pl_base.specs.Files.{Files}
 use Rattle.pl_base.specs.Names.{is_valid_name}
@@ -17,7 +17,7 @@ use Rattle.pl_batch.specs.declared.run.Run.TheVariants as runs
 use Rattle.pl_cli.specs.declared.cause.Cause.{Cause}
 use Rattle.pl_cli.specs.declared.cause.Cause.TheVariants.{BadName}
 use Rattle.pl_cli.specs.declared.command.Command.{Command}
-use Rattle.pl_cli.specs.declared.command.Command.TheVariants.{Load, All, Preview, UndoAll, Undo, Store, Remove, Print, Order}
+use Rattle.pl_cli.specs.declared.command.Command.TheVariants.{Load, All, Preview, UndoAll, Undo, Verify, Store, Remove, Print, Order}
 use Rattle.pl_cli.specs.declared.command.Content.{Content}
 use Rattle.pl_cli.specs.declared.command.Detail.{Detail}
 use Rattle.pl_cli.specs.declared.named_object.NamedObject.{NamedObject}
@@ -33,6 +33,7 @@ use Rattle.pl_cli.specs.Print.{printed}
 use Rattle.pl_cli.specs.Reports.{previewed}
 use Rattle.pl_cli.specs.Outside.{Consumes, ending_of, is_read_fault, may_end, most_read}
 use Rattle.pl_cli.specs.Stops.{Means, status_of}
+use Rattle.pl_cli.specs.Verified.{verifies}
 use Rattle.pl_cli.specs.Words.{bytes_of, reads_input}
 use Rattle.pl_cli.specs.Writes.{AreBytes, WritesFolder, Written, content, most_bytes, prelinks, removes, stores, undoes}
 
@@ -47,6 +48,7 @@ Makes (Some UndoAll) files input status = WritesFolder (λ bytes. undoes runs.Un
 Makes (Some (Undo names)) files input status = WritesFolder (λ bytes. undoes (runs.Undo names)) input status
 Makes (Some (Store name kind)) files input status = WritesFolder (stores name kind) input status
 Makes (Some (Remove name)) files input status = WritesFolder (λ bytes. removes name) input status
+Makes (Some (Verify name)) files input status = Looking
 Makes (Some Print) files input status = Asks 1
 Makes (Some (Order name detail)) files input status = Asks (takes (object_in files) name)
 
@@ -83,6 +85,10 @@ HasPrinted result old new = Finds true (Asks 1) (printed old.files) (λ text. te
 -- the text of what a run over all files would do. Its calls only read
 abbrev pub HasPreviewed : Prelinking → Detail → Result (Vec ℕ Global) Stop → Seen → Seen → Type 0
 HasPreviewed asked detail result old new = Finds true Looking (previewed detail asked old.files) (λ text. text.items) result old new
+
+-- what comparing a file comes to. Its calls only read
+abbrev pub HasVerified : List ℕ → Result (Option (Vec ℕ Global)) Stop → Seen → Seen → Type 0
+HasVerified name result old new = Finds (is_valid_name name) Looking (verifies name old.files) (option_map (λ v. v.items)) result old new
 
 -- ---- what writing commands come to
 

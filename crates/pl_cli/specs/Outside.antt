@@ -5,7 +5,7 @@ use Rattle.pl_io.specs.Reads.{TookAtMost}
 use Rattle.pl_io.specs.Seen.{Input, Output}
 use Rattle.pl_folder.specs.Seen.{Seen, Ending, Done, Broken, Undone}
 use Rattle.pl_cli.specs.declared.command.Command.{Command}
-use Rattle.pl_cli.specs.declared.command.Command.TheVariants.{Load, All, Preview, UndoAll, Undo, Store, Remove, Print, Order}
+use Rattle.pl_cli.specs.declared.command.Command.TheVariants.{Load, All, Preview, UndoAll, Undo, Verify, Store, Remove, Print, Order}
 use Rattle.pl_cli.specs.declared.status.Status.{Status}
 use Rattle.pl_cli.specs.declared.status.Status.TheVariants as statuses
 use Rattle.pl_cli.specs.Words.{asks_folder, reads_input}
@@ -41,10 +41,15 @@ is_write_fault statuses.WriteFault = true
 is_write_fault statuses.DiskFault = false
 is_write_fault statuses.NoMemory = false
 
--- Whether a run may end so: Usage comes for words that are no command alone, Differs never, and a fault only where its object is asked.
+-- whether it compares a file
+abbrev pub compares : Option Command → Bool
+compares (Some (Verify name)) = true
+compares _ = false
+
+-- Whether a run may end so: Usage comes for words that are no command alone, Differs where a file is compared, and a fault only where its object is asked.
 abbrev pub may_end : Option Command → Status → Bool
 may_end asked statuses.Done = is_some asked
-may_end asked statuses.Differs = false
+may_end asked statuses.Differs = compares asked
 may_end asked statuses.Usage = not (is_some asked)
 may_end asked statuses.Refused = is_some asked
 may_end asked statuses.ReadFault = reads_input asked
@@ -75,6 +80,7 @@ most_read (Some UndoAll) = 0
 most_read (Some (Undo names)) = 0
 most_read (Some (Store name kind)) = most_bytes kind
 most_read (Some (Remove name)) = 0
+most_read (Some (Verify name)) = 0
 most_read (Some Print) = 0
 most_read (Some (Order name detail)) = 0
 

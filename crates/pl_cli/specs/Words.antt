@@ -9,7 +9,7 @@ use Rattle.pl_words.specs.declared.command.Command.TheVariants as word
 use Rattle.pl_words.specs.declared.fault.WordsFault.{WordsFault}
 use Rattle.pl_words.specs.declared.fault.WordsFault.TheVariants.{Usage, NoMemory}
 use Rattle.pl_cli.specs.declared.command.Command.{Command}
-use Rattle.pl_cli.specs.declared.command.Command.TheVariants.{Load, All, Preview, UndoAll, Undo, Store, Remove, Print, Order}
+use Rattle.pl_cli.specs.declared.command.Command.TheVariants.{Load, All, Preview, UndoAll, Undo, Verify, Store, Remove, Print, Order}
 use Rattle.pl_cli.specs.declared.command.Content.TheVariants.{File, Recipe}
 use Rattle.pl_cli.specs.declared.command.Detail.{Detail}
 use Rattle.pl_cli.specs.declared.command.Detail.TheVariants.{Short, Full}
@@ -34,6 +34,7 @@ there moment (word.Undo names) = Some (Undo names)
 there moment (word.Install name) = Some (Store name File)
 there moment (word.Make name) = Some (Store name Recipe)
 there moment (word.Remove name) = Some (Remove name)
+there moment (word.Verify name) = Some (Verify name)
 there moment word.Print = Some Print
 there moment (word.Order name verbose) = Some (Order name (detail_of verbose))
 there moment _ = None
@@ -63,6 +64,7 @@ asks_folder (Some UndoAll) = true
 asks_folder (Some (Undo names)) = true
 asks_folder (Some (Store name kind)) = true
 asks_folder (Some (Remove name)) = true
+asks_folder (Some (Verify name)) = is_valid_name name
 asks_folder (Some Print) = true
 asks_folder (Some (Order name detail)) = is_valid_name name
 
@@ -76,6 +78,7 @@ rests_on_files (Some UndoAll) = true
 rests_on_files (Some (Undo names)) = true
 rests_on_files (Some (Store name kind)) = is_valid_name name
 rests_on_files (Some (Remove name)) = is_valid_name name
+rests_on_files (Some (Verify name)) = is_valid_name name
 rests_on_files (Some Print) = true
 rests_on_files (Some (Order name detail)) = is_valid_name name
 
@@ -88,6 +91,7 @@ reads_input (Some UndoAll) = false
 reads_input (Some (Undo names)) = false
 reads_input (Some (Store name kind)) = is_valid_name name
 reads_input (Some (Remove name)) = false
+reads_input (Some (Verify name)) = false
 reads_input (Some Print) = false
 reads_input (Some (Order name detail)) = false
 

@@ -8,9 +8,10 @@ use Rattle.pl_folder.specs.Seen.{Ending}
 use Rattle.pl_folder.specs.declared.TheConstants.{STORED}
 use Rattle.pl_build.specs.Build.{build}
 use Rattle.pl_build.specs.declared.checks.Fault.{Fault}
-use Rattle.pl_loader.specs.declared.fault.LoadFault.TheVariants.{BadMark, NotThere}
+use Rattle.pl_loader.specs.declared.fault.LoadFault.TheVariants.{BadMark, NeededIsProgram, NotThere, Refused, TooMany}
 use Rattle.pl_batch.specs.Changes.{changes_of, removal_meant, run_meant}
-use Rattle.pl_batch.specs.Commands.{Commands, CommandsDisk, CommandsFiles, Failed, Lacked, Made, Meaning, Refused, ready_for}
+use Rattle.pl_batch.specs.Commands.{Commands, CommandsDisk, CommandsFiles, Failed, Lacked, Made, Meaning, ready_for}
+use Rattle.pl_batch.specs.Commands as outcomes
 use Rattle.pl_batch.specs.declared.prelinking.Prelinking.{Prelinking}
 use Rattle.pl_batch.specs.declared.cause.Cause as batch
 use Rattle.pl_batch.specs.declared.cause.Cause.TheVariants as batch_causes
@@ -40,6 +41,9 @@ of_batch batch_causes.BadCache = causes.BadCache
 of_batch batch_causes.FolderTooLarge = causes.FolderTooLarge
 of_batch (batch_causes.NoSlot name span hole) = causes.NoSlot name span hole
 of_batch (batch_causes.StampsSpent stamp) = causes.StampsSpent stamp
+of_batch (batch_causes.Refused name number argument) = causes.Load (Refused name number argument)
+of_batch (batch_causes.NeededIsProgram name) = causes.Load (NeededIsProgram name)
+of_batch (batch_causes.TooMany name) = causes.Load (TooMany name)
 
 -- `-u`: the journal is in its grammar, and then the rows of what is undone
 abbrev pub undoes : Run → Meaning Cause
@@ -80,12 +84,12 @@ stores name kind input files = because of_batch (ready_for name files) >>= λ no
 
 -- nothing but its recovery
 abbrev pub Recovers : Effect
-Recovers = Commands {C = Unit {0}} (λ files. Err tt) (Refused tt)
+Recovers = Commands {C = Unit {0}} (λ files. Err tt) (outcomes.Refused tt)
 
 -- by what it came to
 abbrev pub Written : {X : Type 0} → Meaning Cause → Result X Stop → Effect
 Written meant (Ok x) = Commands meant Made
-Written meant (Err (stops.Cause cause)) = Commands meant (Refused cause)
+Written meant (Err (stops.Cause cause)) = Commands meant (outcomes.Refused cause)
 Written meant (Err stops.Failed) = Commands meant Failed
 Written meant (Err stops.InputFailed) = Recovers
 Written meant (Err stops.NoMemory) = Commands meant Lacked
@@ -95,9 +99,9 @@ abbrev pub WritesFiles : Meaning Cause → Status → Ending → Files → Files
 WritesFiles meant statuses.Done e old new = CommandsFiles meant Made e old new
 WritesFiles meant statuses.Differs e old new = ⊥
 WritesFiles meant statuses.Usage e old new = ⊥
-WritesFiles meant statuses.Refused e old new = (cause : Cause) × CommandsFiles meant (Refused cause) e old new
+WritesFiles meant statuses.Refused e old new = (cause : Cause) × CommandsFiles meant (outcomes.Refused cause) e old new
 WritesFiles meant statuses.ReadFault e old new = Recovers.files e old new
-WritesFiles meant statuses.WriteFault e old new = CommandsFiles meant Made e old new ⊎ ((cause : Cause) × CommandsFiles meant (Refused cause) e old new)
+WritesFiles meant statuses.WriteFault e old new = CommandsFiles meant Made e old new ⊎ ((cause : Cause) × CommandsFiles meant (outcomes.Refused cause) e old new)
 WritesFiles meant statuses.DiskFault e old new = CommandsFiles meant Failed e old new
 WritesFiles meant statuses.NoMemory e old new = CommandsFiles meant Lacked e old new
 
@@ -105,9 +109,9 @@ abbrev pub WritesDisk : Meaning Cause → Status → Ending → Disk → Disk �
 WritesDisk meant statuses.Done e old new = CommandsDisk meant Made e old new
 WritesDisk meant statuses.Differs e old new = ⊥
 WritesDisk meant statuses.Usage e old new = ⊥
-WritesDisk meant statuses.Refused e old new = (cause : Cause) × CommandsDisk meant (Refused cause) e old new
+WritesDisk meant statuses.Refused e old new = (cause : Cause) × CommandsDisk meant (outcomes.Refused cause) e old new
 WritesDisk meant statuses.ReadFault e old new = Recovers.disk e old new
-WritesDisk meant statuses.WriteFault e old new = CommandsDisk meant Made e old new ⊎ ((cause : Cause) × CommandsDisk meant (Refused cause) e old new)
+WritesDisk meant statuses.WriteFault e old new = CommandsDisk meant Made e old new ⊎ ((cause : Cause) × CommandsDisk meant (outcomes.Refused cause) e old new)
 WritesDisk meant statuses.DiskFault e old new = CommandsDisk meant Failed e old new
 WritesDisk meant statuses.NoMemory e old new = CommandsDisk meant Lacked e old new
 

@@ -68,6 +68,11 @@ pub enum Command {
         name: Text,
     },
 
+    /// To give the original of the file of that name, where it is what prelinking would make of it.
+    Verify {
+        name: Text,
+    },
+
     /// To print the cache.
     Print,
 

@@ -6,6 +6,7 @@ ghost use Rattle.pl_cli.specs.Load.{is_memory, loaded};
 ghost use Rattle.pl_cli.specs.Order.{ordered};
 ghost use Rattle.pl_cli.specs.Print.{printed};
 ghost use Rattle.pl_cli.specs.Reports.{previewed, reported};
+ghost use Rattle.pl_cli.specs.Verified.{verifies};
 ghost use Rattle.pl_cli.specs.Writes.{removes, stores, undoes};
 ghost use Rattle.pl_cli.specs.declared.command.Content.{Content};
 ghost use Rattle.pl_cli.specs.declared.command.Detail.{Detail};
@@ -28,11 +29,12 @@ pub fn causes_tell()
         Tells is_memory (stores name kind input files) }
 {}
 
-/// Nor does a run over all files, or what one would do. It does nothing.
-#[tactic(auto, using(crate::proofs::TellsLemmas::previewed_tells, crate::proofs::TellsLemmas::reported_tells))]
+/// Nor does a run over all files, or what one would do, or a file that is compared. It does nothing.
+#[tactic(auto, using(crate::proofs::TellsLemmas::previewed_tells, crate::proofs::TellsLemmas::reported_tells, crate::proofs::TellsLemmas::verified_tells))]
 pub fn reports_tell()
     ensures all { (detail : Detail) (asked : Prelinking) (files : Files) →
         Tells is_memory (reported detail asked files) }
     ensures preview { (detail : Detail) (asked : Prelinking) (files : Files) →
         Tells is_memory (previewed detail asked files) }
+    ensures verify { (name : List ℕ) (files : Files) → Tells is_memory (verifies name files) }
 {}

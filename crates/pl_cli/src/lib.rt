@@ -21,6 +21,7 @@ mod take;
 mod text;
 mod top;
 mod undone;
+mod verify;
 mod walk;
 mod words;
 mod write;

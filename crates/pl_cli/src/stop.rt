@@ -87,6 +87,17 @@ fn batch_cause(cause: pl_batch::Cause) -> Cause
         pl_batch::Cause::FolderTooLarge => Cause::FolderTooLarge,
         pl_batch::Cause::NoSlot { name, span, hole } => Cause::NoSlot { name, span, hole },
         pl_batch::Cause::StampsSpent(stamp) => Cause::StampsSpent(stamp),
+        pl_batch::Cause::Refused {
+            name,
+            number,
+            argument,
+        } => Cause::Load(LoadFault::Refused {
+            name,
+            number,
+            argument,
+        }),
+        pl_batch::Cause::NeededIsProgram(name) => Cause::Load(LoadFault::NeededIsProgram(name)),
+        pl_batch::Cause::TooMany(name) => Cause::Load(LoadFault::TooMany(name)),
     }
 }
 

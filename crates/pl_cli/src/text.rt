@@ -8,6 +8,9 @@ use std::alloc::{AllocError, Global};
 /// What is printed where the words are no command.
 pub const USAGE: &[u8] = b"usage: prelink MODE [OPTIONS] [NAME..]\n";
 
+/// What is printed of a file that is not what prelinking would make of it.
+pub const DIFFERS: &[u8] = b"differs\n";
+
 /// The line of a file that was stored.
 #[tactic(auto, unfolding(crate::specs::Answer::stored_text))]
 pub fn stored_text(alloc: Global, kind: Content, name: &str) -> Result<String, AllocError>

@@ -1,12 +1,13 @@
 // The top call and how its parts end.
-ghost use Rattle.std.specs.Prelude.{◌≡◌, Option, false, map, string_bytes};
+ghost use Rattle.std.specs.Prelude.{◌≡◌, ℕ, List, Option, Some, false, map, string_bytes};
 ghost use Rattle.pl_place.specs.Policy as policy;
 ghost use Rattle.pl_io.specs.Seen.{Input};
 ghost use Rattle.pl_folder.specs.Seen.{IsFolder, Seen};
 ghost use Rattle.pl_words.specs.declared.command.Policy.{Policy};
 ghost use Rattle.pl_cli.specs.declared.command.Command as commands;
+ghost use Rattle.pl_cli.specs.declared.command.Command.TheVariants.{Verify};
 ghost use Rattle.pl_cli.specs.Answer.{done, load_answer, undone_text};
-ghost use Rattle.pl_cli.specs.Came.{Came, as_is};
+ghost use Rattle.pl_cli.specs.Came.{Came, HasVerified, as_is};
 ghost use Rattle.pl_cli.specs.Files.{Unasked};
 ghost use Rattle.pl_cli.specs.Load.{MayStart, choice, start_by};
 ghost use Rattle.pl_cli.specs.Outside.{is_write_fault, outside};
@@ -23,8 +24,9 @@ use crate::print::print;
 use crate::refusals::refusal;
 use crate::stop::Stop;
 use crate::store::store;
-use crate::text::USAGE;
+use crate::text::{DIFFERS, USAGE};
 use crate::undone::undone_line;
+use crate::verify::verify;
 use crate::words::read_words;
 use crate::write::write_start;
 use crate::write_stop::WriteStop;
@@ -92,6 +94,24 @@ fn end_undone<K: Sink>(alloc: Global, came: Result<usize, Stop>, output: &mut K)
 {
     match came {
         Ok(count) => finish_undone(output, count),
+        Err(stop) => refuse(alloc, stop, output),
+    }
+}
+
+/// Writes the original of a file that was compared, or that it differs, and ends so, or ends with its stop.
+fn end_verified<K: Sink>(
+    alloc: Global,
+    came: Result<Option<Vec<u8>>, Stop>,
+    output: &mut K,
+) -> Status
+    ensures { (name : List ℕ) (a b : Seen) (input : Input) → IsFolder a →
+        HasVerified name came a b →
+        Ran (Some (Verify name)) (outside a input (K.seen output.old))
+        (outside b input (K.seen output.new)) result }
+{
+    match came {
+        Ok(Some(original)) => finish(output, &original, Status::Done),
+        Ok(None) => finish(output, DIFFERS, Status::Differs),
         Err(stop) => refuse(alloc, stop, output),
     }
 }
@@ -228,6 +248,10 @@ pub fn run<D: Folder, S: Source, K: Sink>(
         Ok(Command::Remove { name }) => {
             let removed = remove(alloc, folder, name.as_str());
             end_with(alloc, removed, output)
+        }
+        Ok(Command::Verify { name }) => {
+            let verified = verify(alloc, folder, name.as_str());
+            end_verified(alloc, verified, output)
         }
         Ok(Command::Print) => {
             let printed = print(alloc, folder);

@@ -1,6 +1,6 @@
 use Rattle.std.proofs.Common.{◌≡◌, Option, Some, None, map, string_bytes, sym, subst, rules}
 use Rattle.pl_cli.specs.declared.command.Command.{Command}
-use Rattle.pl_cli.specs.declared.command.Command.TheVariants.{All, Load, Order, Preview, Print, Remove, Store, Undo, UndoAll}
+use Rattle.pl_cli.specs.declared.command.Command.TheVariants.{All, Load, Order, Preview, Print, Remove, Store, Undo, UndoAll, Verify}
 use Rattle.pl_cli.specs.Outside.{outside}
 use Rattle.pl_cli.specs.Ran.{Ran}
 use Rattle.pl_cli.specs.Words.{command}
@@ -83,6 +83,16 @@ returns-in-Ok-Remove-clause-ran g c =
     (sym is)
     (c.end_with-in-Ok-Remove.ensures (Some (Remove c.as_str-in-Ok-Remove.result.now)) (folder c.args.folder.now) (folder c.remove-removed.new.folder) (input c.args.input.now) (input c.args.input.now) (g.met.D.Folder.is_folder c.args.folder.now)
     (came_removed c.as_str-in-Ok-Remove.result.now (input c.args.input.now) c.remove-removed.result c.remove-removed.ensures))
+
+pub returns-in-Ok-Verify-clause-ran : goal.returns-in-Ok-Verify-clause-ran
+returns-in-Ok-Verify-clause-ran g c =
+    let folder = g.D.Folder.seen in
+    let input = g.S.Source.seen in
+    let output = g.K.Sink.seen in
+    let is : command c.args.now (map string_bytes c.args.words.now) ≡ Some (Verify c.as_str-in-Ok-Verify.result.now) = search rules in
+    subst (λ (asked : Option Command). Ran asked (outside (folder c.args.folder.now) (input c.args.input.now) (output c.args.output.now)) (outside (folder c.verify-verified.new.folder) (input c.args.input.now) (output c.end_verified.new.output)) c.end_verified.result)
+    (sym is)
+    (c.end_verified.ensures c.as_str-in-Ok-Verify.result.now (folder c.args.folder.now) (folder c.verify-verified.new.folder) (input c.args.input.now) (g.met.D.Folder.is_folder c.args.folder.now) c.verify-verified.ensures.verified)
 
 pub returns-in-Ok-Print-clause-ran : goal.returns-in-Ok-Print-clause-ran
 returns-in-Ok-Print-clause-ran g c =
