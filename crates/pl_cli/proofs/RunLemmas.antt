@@ -1,6 +1,6 @@
 -- A run, from what a command came to and what was written of it.
 use Rattle.std.proofs.Common.{◌≡◌, ℕ, List, [], false, Option, Some, None, refl, sym, ap, subst, ◌∙◌, inl, inr, arith}
-use Rattle.std.specs.Prelude.{Result, Ok, Err, Vec, is_some}
+use Rattle.std.specs.Prelude.{Result, Ok, Err, Vec, is_some, option_map}
 use Rattle.std.specs.declared.alloc.Global.{Global}
 use Rattle.std.specs.FinMap.{get}
 use Rattle.std.proofs.lemmas.Bool.{true≢false}
@@ -246,7 +246,7 @@ came_verified name i stops.InputFailed found = absurd (true≢false found.reads)
 came_verified name i stops.NoMemory found = record { gives = tt; ends = refl; calls = found.calls; input = untouched i }
 
 -- a file that is what it should be
-pub ran_verified : (name : List ℕ) (original : Vec ℕ Global) {a b : Seen} (i : Input) → HasVerified name (Ok (Some original)) a b → {o p : Output} (status : Status) → Finishes (done original.items) status o p → Ran (Some (Verify name)) (outside a i o) (outside b i p) status
+ran_verified : (name : List ℕ) (original : Vec ℕ Global) {a b : Seen} (i : Input) → HasVerified name (Ok (Some original)) a b → {o p : Output} (status : Status) → Finishes (done original.items) status o p → Ran (Some (Verify name)) (outside a i o) (outside b i p) status
 ran_verified name original i found {o = o} {p = p} statuses.Done fin = record {
   ends = refl;
   prints = λ told. (ap (λ (r : Result (Option (List ℕ)) Cause). (compare_answer r).status) (found.means told.files), fin.whole refl ∙ ap (λ (r : Result (Option (List ℕ)) Cause). got_after o.got (compare_answer r).text) (sym (found.means told.files)));
@@ -269,7 +269,7 @@ ran_verified name original i found statuses.DiskFault fin = let e = fin.ends ref
 ran_verified name original i found statuses.NoMemory fin = let e = fin.ends refl in cc
 
 -- one that differs
-pub ran_differing : (name : List ℕ) {a b : Seen} (i : Input) → HasVerified name (Ok None) a b → {o p : Output} (status : Status) → Finishes (compared None) status o p → Ran (Some (Verify name)) (outside a i o) (outside b i p) status
+ran_differing : (name : List ℕ) {a b : Seen} (i : Input) → HasVerified name (Ok None) a b → {o p : Output} (status : Status) → Finishes (compared None) status o p → Ran (Some (Verify name)) (outside a i o) (outside b i p) status
 ran_differing name i found {o = o} {p = p} statuses.Differs fin = record {
   ends = refl;
   prints = λ told. (ap (λ (r : Result (Option (List ℕ)) Cause). (compare_answer r).status) (found.means told.files), fin.whole refl ∙ ap (λ (r : Result (Option (List ℕ)) Cause). got_after o.got (compare_answer r).text) (sym (found.means told.files)));
@@ -290,6 +290,10 @@ ran_differing name i found statuses.Refused fin = let e = fin.ends refl in cc
 ran_differing name i found statuses.ReadFault fin = let e = fin.ends refl in cc
 ran_differing name i found statuses.DiskFault fin = let e = fin.ends refl in cc
 ran_differing name i found statuses.NoMemory fin = let e = fin.ends refl in cc
+
+pub ran_compared : (name : List ℕ) (original : Option (Vec ℕ Global)) {a b : Seen} (i : Input) → HasVerified name (Ok original) a b → {o p : Output} (status : Status) → Finishes (compared (option_map (λ (v : Vec ℕ Global). v.items) original)) status o p → Ran (Some (Verify name)) (outside a i o) (outside b i p) status
+ran_compared name (Some original) {a = a} {b = b} i found status fin = ran_verified name original {a = a} {b = b} i found status fin
+ran_compared name None {a = a} {b = b} i found status fin = ran_differing name {a = a} {b = b} i found status fin
 
 pub ran_usage : (a : Seen) (i : Input) {o p : Output} (status : Status) → Finishes (record { status = statuses.Usage; text = usage }) status o p → Ran None (outside a i o) (outside a i p) status
 ran_usage a i statuses.Usage fin = record { ends = refl; prints = λ _. (refl, fin.whole refl); folder = no_calls Done a refl refl refl; input = untouched i; output = fin.count }

@@ -43,7 +43,7 @@ removed_text name = line (codes "removed " ∷ name ∷ [])
 abbrev pub usage : List ℕ
 usage = line (codes "usage: prelink MODE [OPTIONS] [NAME..]" ∷ [])
 
-unfoldable pub differs_text : List ℕ
+abbrev pub differs_text : List ℕ
 differs_text = line (codes "differs" ∷ [])
 
 -- ---- answers

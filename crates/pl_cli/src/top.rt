@@ -1,12 +1,12 @@
 // The top call and how its parts end.
-ghost use Rattle.std.specs.Prelude.{◌≡◌, ℕ, List, Option, Some, false, map, string_bytes};
+ghost use Rattle.std.specs.Prelude.{◌≡◌, ℕ, List, Option, Some, false, map, option_map, string_bytes};
 ghost use Rattle.pl_place.specs.Policy as policy;
 ghost use Rattle.pl_io.specs.Seen.{Input};
 ghost use Rattle.pl_folder.specs.Seen.{IsFolder, Seen};
 ghost use Rattle.pl_words.specs.declared.command.Policy.{Policy};
 ghost use Rattle.pl_cli.specs.declared.command.Command as commands;
 ghost use Rattle.pl_cli.specs.declared.command.Command.TheVariants.{Verify};
-ghost use Rattle.pl_cli.specs.Answer.{done, load_answer, undone_text};
+ghost use Rattle.pl_cli.specs.Answer.{compared, done, load_answer, undone_text};
 ghost use Rattle.pl_cli.specs.Came.{Came, HasVerified, as_is};
 ghost use Rattle.pl_cli.specs.Files.{Unasked};
 ghost use Rattle.pl_cli.specs.Load.{MayStart, choice, start_by};
@@ -98,7 +98,18 @@ fn end_undone<K: Sink>(alloc: Global, came: Result<usize, Stop>, output: &mut K)
     }
 }
 
-/// Writes the original of a file that was compared, or that it differs, and ends so, or ends with its stop.
+/// Writes the original of a file that was compared, or that it differs, and ends so.
+fn finish_compared<K: Sink>(output: &mut K, original: Option<Vec<u8>>) -> Status
+    ensures { Finishes (compared (option_map (λ v. v.items) original)) result
+        (K.seen output.old) (K.seen output.new) }
+{
+    match original {
+        Some(original) => finish(output, &original, Status::Done),
+        None => finish(output, DIFFERS, Status::Differs),
+    }
+}
+
+/// Writes what comparing a file came to and ends so, or ends with its stop.
 fn end_verified<K: Sink>(
     alloc: Global,
     came: Result<Option<Vec<u8>>, Stop>,
@@ -110,8 +121,7 @@ fn end_verified<K: Sink>(
         (outside b input (K.seen output.new)) result }
 {
     match came {
-        Ok(Some(original)) => finish(output, &original, Status::Done),
-        Ok(None) => finish(output, DIFFERS, Status::Differs),
+        Ok(original) => finish_compared(output, original),
         Err(stop) => refuse(alloc, stop, output),
     }
 }
