@@ -24,9 +24,8 @@ use Rattle.pl_journal.specs.declared.change.Change.{Change}
 use Rattle.pl_journal.specs.declared.change.Change.TheVariants.{Put, Drop}
 use Rattle.pl_journal.proofs.NameLemmas.{equal, valid_not_own}
 use Rattle.pl_known.specs.Plans.{planned}
-use Rattle.pl_plan.specs.declared.asked.Asked.{Asked}
 use Rattle.pl_plan.specs.declared.planned.Planned.{Planned}
-use Rattle.pl_rewrite.specs.Changes.{change, changes, is_file, next}
+use Rattle.pl_rewrite.specs.Changes.{change, changes, is_file, next, next_cache}
 use Rattle.pl_rewrite.specs.Changes as rewriting
 use Rattle.pl_rewrite.specs.Laws.{AreNames, IsMixed}
 use Rattle.pl_rewrite.specs.Rewriting.{rewrite, rewritten}
@@ -53,39 +52,45 @@ use Rattle.pl_crash.proofs.SoundLemmas.{named_other, named_valid}
 -- the plan by which the rows are those of a run over the files under valid names, behind the row of the cache
 pub record IsMade (fs : Files) (p : Prelinking) (rows : List Change) : Type 0 where
   pub old : List ℕ
-  pub new : List ℕ
-  pub asked : Asked
+  pub cached : Cache
+  pub found : cache_file fs ≡ Ok old
+  pub says : cache_in old ≡ Ok cached
   pub plan : Planned
-  pub planned : planned (folder.named fs) (valid_names fs) asked ≡ Ok plan
-  pub are : rows ≡ put_cache old new ++ changes (folder.named fs) (valid_names fs) asked.region plan
+  pub planned : planned (folder.named fs) (valid_names fs) (asked_of p cached) ≡ Ok plan
+  pub are : rows ≡ put_cache old (cache_bytes (next_cache (folder.named fs) (valid_names fs) p.region cached.last plan)) ++ changes (folder.named fs) (valid_names fs) p.region plan
+  pub is_spelled : is_cache (next_cache (folder.named fs) (valid_names fs) p.region cached.last plan) ≡ true
 
 view : {A B E : Type 0} (r : Result A E) (f : A → B) (x : A) (y : B) → r ≡ Ok x → ◌≡◌ {A = Result B E} (Ok (f x)) (Ok y) → (r >>= λ z. Ok (f z)) ≡ Ok y
 view {A = A} {E = E} r f x y is same = ap (λ (q : Result A E). q >>= λ z. Ok (f z)) is ∙ same
 
-spelled_rows : (old : List ℕ) (w : Rewritten) (rows : List Change) → (spelled old w >>= λ m. Ok m.rows) ≡ Ok rows → rows ≡ put_cache old (cache_bytes w.cache) ++ w.rows
+spelled_rows : (old : List ℕ) (w : Rewritten) (rows : List Change) → (spelled old w >>= λ m. Ok m.rows) ≡ Ok rows → (is_cache w.cache ≡ true) × (rows ≡ put_cache old (cache_bytes w.cache) ++ w.rows)
 unfolding spelled
-spelled_rows old w rows is = by (is_cache w.cache) is
+spelled_rows old w rows is = by (is_cache w.cache) refl is
   where
-    by : (b : Bool) → (unless (not b) causes.BadCache (Ok (with_cache old w)) >>= λ m. Ok m.rows) ≡ Ok rows → rows ≡ put_cache old (cache_bytes w.cache) ++ w.rows
-    by true is = sym (ok_same (with_cache old w).rows rows is)
-    by false is = absurd cc
+    by : (b : Bool) → is_cache w.cache ≡ b → (unless (not b) causes.BadCache (Ok (with_cache old w)) >>= λ m. Ok m.rows) ≡ Ok rows → (is_cache w.cache ≡ true) × (rows ≡ put_cache old (cache_bytes w.cache) ++ w.rows)
+    by true spelled is = (spelled, sym (ok_same (with_cache old w).rows rows is))
+    by false spelled is = absurd cc
 
-of_made : (fs : Files) (p : Prelinking) (old : List ℕ) (c : Cache) (rows : List Change) → (made_of (folder.named fs) (valid_names fs) p old c >>= λ m. Ok m.rows) ≡ Ok rows → IsMade fs p rows
+of_made : (fs : Files) (p : Prelinking) (old : List ℕ) (c : Cache) (rows : List Change) → cache_file fs ≡ Ok old → cache_in old ≡ Ok c → (made_of (folder.named fs) (valid_names fs) p old c >>= λ m. Ok m.rows) ≡ Ok rows → IsMade fs p rows
 unfolding made_of rewrite
-of_made fs p old c rows is =
+of_made fs p old c rows found says is =
     let a = asked_of p c in
     let f = folder.named fs in
     let ns = valid_names fs in
     let m = bind_ok (because of_planning (rewrite f ns a) >>= spelled old) (λ m. Ok m.rows) rows is in
     let w = bind_ok (because of_planning (rewrite f ns a)) (spelled old) m.0 m.1 in
     let r = bind_ok (planned f ns a) (λ (q : Planned). Ok (rewritten f ns a q)) w.0 (because_ok of_planning (rewrite f ns a) w.0 w.1) in
+    let same : w.0 ≡ rewritten f ns a r.0 = sym (ok_same (rewritten f ns a r.0) w.0 r.2) in
+    let parts = spelled_rows old w.0 rows (view (spelled old w.0) (λ m. m.rows) m.0 rows w.2 m.2) in
     record {
       old = old;
-      new = cache_bytes w.0.cache;
-      asked = a;
+      cached = c;
+      found = found;
+      says = says;
       plan = r.0;
       planned = r.1;
-      are = spelled_rows old w.0 rows (view (spelled old w.0) (λ m. m.rows) m.0 rows w.2 m.2) ∙ ap (λ (x : Rewritten). put_cache old (cache_bytes w.0.cache) ++ x.rows) (sym (ok_same (rewritten f ns a r.0) w.0 r.2));
+      are = parts.1 ∙ ap (λ (x : Rewritten). put_cache old (cache_bytes x.cache) ++ x.rows) same;
+      is_spelled = subst (λ (x : Rewritten). is_cache x.cache ≡ true) same parts.0;
     }
 
 pub made : (fs : Files) (p : Prelinking) (rows : List Change) → all_changes fs p ≡ Ok rows → IsMade fs p rows
@@ -97,7 +102,7 @@ made fs p rows is =
     let c = bind_ok (cache_in old.0) (made_with fs p old.0) all.0 old.2 in
     let bytes = bind_ok (all_files fs (valid_names fs)) (λ bytes. unless (are_large bytes) causes.FolderTooLarge (made_of (folder.named fs) (valid_names fs) p old.0 c.0)) all.0 c.2 in
     let small = unless_ok (are_large bytes.0) causes.FolderTooLarge (made_of (folder.named fs) (valid_names fs) p old.0 c.0) all.0 bytes.2 in
-    of_made fs p old.0 c.0 rows (view (made_of (folder.named fs) (valid_names fs) p old.0 c.0) (λ m. m.rows) all.0 rows small.1 all.2)
+    of_made fs p old.0 c.0 rows old.1 c.1 (view (made_of (folder.named fs) (valid_names fs) p old.0 c.0) (λ m. m.rows) all.0 rows small.1 all.2)
 
 -- ---- what each row is
 
@@ -127,7 +132,7 @@ all_next : (f : sound.Files) (ns : List (List ℕ)) (region : Range) (p : Planne
 unfolding changes
 all_next f ns region p = next_rows f region p ns
 
-cache_own : is_own_name cache ≡ true
+pub cache_own : is_own_name cache ≡ true
 unfolding is_own_name
 cache_own = refl
 
@@ -138,18 +143,18 @@ cache_row f old new = by (bytes_eq old new)
     by true = tt
     by false = (λ valid. absurd (true≢false (sym cache_own ∙ valid_not_own cache valid)), tt)
 
-made_next : (fs : Files) (p : Prelinking) (rows : List Change) (m : IsMade fs p rows) → AllByRecursion (IsNext (next (folder.named fs) m.asked.region m.plan)) rows
+pub made_next : (fs : Files) (p : Prelinking) (rows : List Change) (m : IsMade fs p rows) → AllByRecursion (IsNext (next (folder.named fs) p.region m.plan)) rows
 made_next fs p rows m =
-    let f = next (folder.named fs) m.asked.region m.plan in
+    let f = next (folder.named fs) p.region m.plan in
     subst (AllByRecursion (IsNext f)) (sym m.are)
-    (joined_all (IsNext f) (put_cache m.old m.new) (changes (folder.named fs) (valid_names fs) m.asked.region m.plan) (cache_row f m.old m.new) (all_next (folder.named fs) (valid_names fs) m.asked.region m.plan))
+    (joined_all (IsNext f) (put_cache m.old (cache_bytes (next_cache (folder.named fs) (valid_names fs) p.region m.cached.last m.plan))) (changes (folder.named fs) (valid_names fs) p.region m.plan) (cache_row f m.old (cache_bytes (next_cache (folder.named fs) (valid_names fs) p.region m.cached.last m.plan))) (all_next (folder.named fs) (valid_names fs) p.region m.plan))
 
 -- ---- the names
 
 key_there : (fs : Files) (n : Name) → has (keys fs) n ≡ is_some (get fs n)
 key_there fs n = any_same (λ k. bytes_eq k n) (eq_by_cmp (slice_cmp nat_cmp) n) (keys fs) (λ k. bytes_flip k n ∙ texts_ties n k) ∙ sym (contains_key-keys fs n)
 
-names_are : (fs : Files) → AreNames (named (get fs)) (valid_names fs)
+pub names_are : (fs : Files) → AreNames (named (get fs)) (valid_names fs)
 names_are fs n missing = elim (cases_Bool (is_valid_name n)) [
   | inl valid ↦ named_valid (get fs) n valid ∙ by valid (get fs n) refl
   | inr other ↦ named_other (get fs) n other
@@ -176,7 +181,7 @@ mixed_next f i (Put name bytes ∷ rows) keep v n valid all = elim (cases_Bool (
 mixed_next f i (Drop name ∷ rows) keep v n valid all = absurd all.0
 
 -- a name that is not valid gets no file
-next_none : (f : sound.Files) (region : Range) (p : Planned) (n : Name) → f n ≡ None → next f region p n ≡ None
+pub next_none : (f : sound.Files) (region : Range) (p : Planned) (n : Name) → f n ≡ None → next f region p n ≡ None
 next_none f region p n none = none_of (next f region p n) (laws.names_stay f region p n ∙ ap (λ (o : Option (List ℕ)). is_some o) none)
   where
     none_of : (o : Option (List ℕ)) → is_some o ≡ false → o ≡ None
@@ -195,7 +200,7 @@ is_mixed fs region p rows keep all n = elim (cases_Bool (is_valid_name n)) [
 pub all_safe : (fs : Files) (p : Prelinking) (rows : List Change) → all_changes fs p ≡ Ok rows → KeepsTheRule (get fs) → AreSafe rows (get fs)
 all_safe fs p rows is rule keep =
     let m = made fs p rows is in
-    laws.mixtures_keep_the_rule (named (get fs)) (valid_names fs) m.asked m.plan (named (mixed 0 rows keep (get fs))) (names_are fs) m.planned rule (is_mixed fs m.asked.region m.plan rows keep (made_next fs p rows m))
+    laws.mixtures_keep_the_rule (named (get fs)) (valid_names fs) (asked_of p m.cached) m.plan (named (mixed 0 rows keep (get fs))) (names_are fs) m.planned rule (is_mixed fs p.region m.plan rows keep (made_next fs p rows m))
 
 -- ---- originals
 
@@ -212,4 +217,4 @@ each_original fs region p (c ∷ rows) all = (next_original fs region p c all.0,
 pub all_originals : (fs : Files) (p : Prelinking) (rows : List Change) → all_changes fs p ≡ Ok rows → (keep : ℕ → Bool) → SameOriginals (mixed 0 rows keep (get fs)) (get fs)
 all_originals fs p rows is =
     let m = made fs p rows is in
-    rows_keep rows (get fs) (each_original fs m.asked.region m.plan rows (made_next fs p rows m))
+    rows_keep rows (get fs) (each_original fs p.region m.plan rows (made_next fs p rows m))

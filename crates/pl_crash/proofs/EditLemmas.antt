@@ -53,7 +53,7 @@ mixed_bare i (Drop name ∷ rows) keep v n file bare is = elim (cases_Bool (keep
   | inr miss ↦ mixed_bare (i + 1) rows keep v n file bare.1 (sym (cond-false (keep i && same n name) None (mixed (i + 1) rows keep v n) miss) ∙ is)
 ]
 
-named_edit : (rows : List Change) (keep : ℕ → Bool) (v : View) → AllByRecursion IsBare rows → IsEdit (format skip_causes) (named v) (named (mixed 0 rows keep v))
+pub named_edit : (rows : List Change) (keep : ℕ → Bool) (v : View) → AllByRecursion IsBare rows → IsEdit (format skip_causes) (named v) (named (mixed 0 rows keep v))
 named_edit rows keep v bare n file there = elim (cases_Bool (is_valid_name n)) [
   | inl valid ↦ elim (mixed_bare 0 rows keep v n file bare (sym (named_valid (mixed 0 rows keep v) n valid) ∙ there)) [ inl was ↦ inl (named_valid v n valid ∙ was) | inr none ↦ inr none ]
   | inr other ↦ absurd (none-some file (sym (named_other (mixed 0 rows keep v) n other) ∙ there))
@@ -65,7 +65,7 @@ bare_safe rows v bare rule keep = theorems.edits (format skip_causes) (format_ke
 -- ---- the rows of commands
 
 pub undone_bare : (fs : Files) → OfUndone IsBare fs
-undone_bare fs name bytes m there read = subst (λ (f : List ℕ). mark_in f ≡ None) (marked_original bytes m read) (original_bare bytes)
+undone_bare fs name bytes m valid there read = subst (λ (f : List ℕ). mark_in f ≡ None) (marked_original bytes m read) (original_bare bytes)
 
 put_by : (b : Bool) (name bytes : List ℕ) → mark_in bytes ≡ None → AllByRecursion IsBare (if b then [] else Put name bytes ∷ [])
 put_by true name bytes bare = tt

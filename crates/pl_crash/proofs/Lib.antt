@@ -5,3 +5,4 @@ pub mod CommandLemmas
 pub mod OriginalLemmas
 pub mod AllLemmas
 pub mod WholeLemmas
+pub mod StepLemmas

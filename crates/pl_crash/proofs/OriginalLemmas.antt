@@ -67,7 +67,7 @@ original_twice : (bytes : List ℕ) → original_in (original_in bytes) ≡ orig
 original_twice bytes = bare_original (original_in bytes) (original_bare bytes)
 
 pub undone_keeps : (fs : Files) → OfUndone (KeepsOriginal (get fs)) fs
-undone_keeps fs name bytes m there read valid =
+undone_keeps fs name bytes m named there read valid =
     let is : original_in bytes ≡ m.original = marked_original bytes m read in
     ap original there ∙ ap (λ (x : List ℕ). Some x) (sym (original_twice bytes) ∙ ap original_in is)
 

@@ -84,7 +84,7 @@ bare_original bytes bare = bare_by bytes (marked_in bytes) refl bare
 
 -- a property of changes has this of a file that is undone
 abbrev pub OfUndone : (Change → Type 0) → Files → Type 0
-OfUndone P fs = (name bytes : List ℕ) (m : Marked) → get fs name ≡ Some bytes → file_in bytes ≡ Ok (files.Marked m) → P (Put name m.original)
+OfUndone P fs = (name bytes : List ℕ) (m : Marked) → is_valid_name name ≡ true → get fs name ≡ Some bytes → file_in bytes ≡ Ok (files.Marked m) → P (Put name m.original)
 
 stored_same : (b : Bool) (name bytes old : List ℕ) → (if b then Ok old else Err (causes.FileTooLarge name)) ≡ Ok bytes → ◌≡◌ {A = Option (List ℕ)} (Some old) (Some bytes)
 stored_same true name bytes old is = ap (λ (x : List ℕ). Some x) (ok_same old bytes is)
@@ -120,35 +120,35 @@ module _ (P : Change → Type 0) where
   rows_all f each names out is = run_all f each names [] out tt is
 
   module _ (fs : Files) (undone_has : OfUndone P fs) where
-    form_has : (name bytes : List ℕ) (r : Result File FileFault) → get fs name ≡ Some bytes → file_in bytes ≡ r → IfSome (form_row name r) P
-    form_has name bytes (Ok (Plain x)) there is = tt
-    form_has name bytes (Ok (files.Marked m)) there is = undone_has name bytes m there is
-    form_has name bytes (Err fault) there is = tt
+    form_has : (name bytes : List ℕ) (r : Result File FileFault) → is_valid_name name ≡ true → get fs name ≡ Some bytes → file_in bytes ≡ r → IfSome (form_row name r) P
+    form_has name bytes (Ok (Plain x)) valid there is = tt
+    form_has name bytes (Ok (files.Marked m)) valid there is = undone_has name bytes m valid there is
+    form_has name bytes (Err fault) valid there is = tt
 
-    asked_has : (name bytes : List ℕ) (r : Result File FileFault) (o : Option Change) → get fs name ≡ Some bytes → file_in bytes ≡ r → asked_row name r ≡ Ok o → IfSome o P
-    asked_has name bytes (Ok file) o there read is = subst (λ (x : Option Change). IfSome x P) (ok_same (form_row name (Ok file)) o is) (form_has name bytes (Ok file) there read)
-    asked_has name bytes (Err file_faults.BadMark) o there read is = absurd cc
-    asked_has name bytes (Err (file_faults.Refused refusal)) o there read is = subst (λ (x : Option Change). IfSome x P) (ok_same None o is) tt
+    asked_has : (name bytes : List ℕ) (r : Result File FileFault) (o : Option Change) → is_valid_name name ≡ true → get fs name ≡ Some bytes → file_in bytes ≡ r → asked_row name r ≡ Ok o → IfSome o P
+    asked_has name bytes (Ok file) o valid there read is = subst (λ (x : Option Change). IfSome x P) (ok_same (form_row name (Ok file)) o is) (form_has name bytes (Ok file) valid there read)
+    asked_has name bytes (Err file_faults.BadMark) o valid there read is = absurd cc
+    asked_has name bytes (Err (file_faults.Refused refusal)) o valid there read is = subst (λ (x : Option Change). IfSome x P) (ok_same None o is) tt
 
-    any_each : (name : List ℕ) (o : Option Change) → undo_any fs name ≡ Ok o → IfSome o P
+    any_each : (name : List ℕ) (o : Option Change) → is_valid_name name ≡ true → undo_any fs name ≡ Ok o → IfSome o P
     unfolding undo_any
-    any_each name o is =
+    any_each name o valid is =
         let a = bind_ok (file_of fs name) (λ bytes. Ok (form_row name (file_in bytes))) o is in
-        subst (λ (x : Option Change). IfSome x P) (ok_same (form_row name (file_in a.0)) o a.2) (form_has name a.0 (file_in a.0) (found fs name a.0 a.1) refl)
+        subst (λ (x : Option Change). IfSome x P) (ok_same (form_row name (file_in a.0)) o a.2) (form_has name a.0 (file_in a.0) valid (found fs name a.0 a.1) refl)
 
     asked_each : (name : List ℕ) (o : Option Change) → undo_asked fs name ≡ Ok o → IfSome o P
     unfolding undo_asked
     asked_each name o is =
-        let valid = unless_ok (not (is_valid_name name)) causes.BadName (file_of fs name >>= λ bytes. asked_row name (file_in bytes)) o is in
+        let valid = refuse_ok (is_valid_name name) causes.BadName (file_of fs name >>= λ bytes. asked_row name (file_in bytes)) o is in
         let a = bind_ok (file_of fs name) (λ bytes. asked_row name (file_in bytes)) o valid.1 in
-        asked_has name a.0 (file_in a.0) o (found fs name a.0 a.1) refl a.2
+        asked_has name a.0 (file_in a.0) o valid.0 (found fs name a.0 a.1) refl a.2
 
     none_has : (o : Option Change) → ◌≡◌ {A = Result (Option Change) Cause} (Ok None) (Ok o) → IfSome o P
     none_has o is = subst (λ (x : Option Change). IfSome x P) (ok_same None o is) tt
 
-    valid_by : (b : Bool) (name : List ℕ) (o : Option Change) → (if b then undo_any fs name else Ok None) ≡ Ok o → IfSome o P
-    valid_by true name o is = any_each name o is
-    valid_by false name o is = none_has o is
+    valid_by : (b : Bool) (name : List ℕ) (o : Option Change) → is_valid_name name ≡ b → (if b then undo_any fs name else Ok None) ≡ Ok o → IfSome o P
+    valid_by true name o valid is = any_each name o valid is
+    valid_by false name o valid is = none_has o is
 
     listed_by : (b : Bool) (name : List ℕ) (o : Option Change) → (if b then undo_asked fs name else Ok None) ≡ Ok o → IfSome o P
     listed_by true name o is = asked_each name o is
@@ -156,7 +156,7 @@ module _ (P : Change → Type 0) where
 
     pub all_undone_has : (rows : List Change) → all_undone fs ≡ Ok rows → AllByRecursion P rows
     unfolding all_undone
-    all_undone_has rows is = rows_all (if_valid fs) (λ name o made. valid_by (is_valid_name name) name o made) (keys fs) rows (unless_ok (are_many (keys fs)) causes.TooManyFiles (rows_of (if_valid fs) (keys fs)) rows is).1
+    all_undone_has rows is = rows_all (if_valid fs) (λ name o made. valid_by (is_valid_name name) name o refl made) (keys fs) rows (unless_ok (are_many (keys fs)) causes.TooManyFiles (rows_of (if_valid fs) (keys fs)) rows is).1
 
     pub undone_rows_have : (names : List (List ℕ)) (rows : List Change) → undone fs names ≡ Ok rows → AllByRecursion P rows
     unfolding undone

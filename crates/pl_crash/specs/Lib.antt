@@ -2,3 +2,4 @@ pub mod Sound
 pub mod Safe
 pub mod Originals
 pub mod Laws
+pub mod Steps

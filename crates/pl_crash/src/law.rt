@@ -1,5 +1,6 @@
 // Laws of sound folders, of images that a crash leaves, and of commands.
 ghost use Rattle.pl_crash.specs.Laws.{CommandsEnd, CommandsLeave, CommandsRead, EmptyIsSound, EveryImageIsSound, ImagesKeepOriginals, OthersStaySound, RecoveredKeepTheRule, RecoveriesStaySound, RemovalsAreSafe, RemovalsKeepOriginals, RuleIsEnough, RunsAreSafe, RunsKeepOriginals, RunsStaySound, SettledAreSound, SoundKeepTheRule, VerifiedAreSound};
+ghost use Rattle.pl_crash.specs.Steps.{EmptyIsPastAll, RemovalsMakeSteps, RunsMakeSteps, StepsKeepPastAll};
 
 /// A sound folder keeps the rule of prelinked files as it stands, so a load from it needs no recovery, and when it is recovered. Where there is no journal the rule is enough. A folder without files is sound.
 pub fn sound_folders_keep_the_rule()
@@ -13,6 +14,18 @@ pub fn sound_folders_keep_the_rule()
 pub fn others_stay_sound()
     ensures others { OthersStaySound }
     ensures verified { VerifiedAreSound }
+{}
+
+/// What a command makes of a folder that keeps the rule is one step of a history, with the last stamp of its cache before and after.
+pub fn commands_are_steps()
+    ensures runs { RunsMakeSteps }
+    ensures removals { RemovalsMakeSteps }
+{}
+
+/// No stamp of a file or of a list is past the last one of the cache: so it is in a folder without files, and every command keeps it that makes steps.
+pub fn last_stamps_stay_past<C>()
+    ensures empty { EmptyIsPastAll }
+    ensures steps { StepsKeepPastAll C }
 {}
 
 /// What a crash of a recovery leaves of a sound folder is sound, and so is what a crash of a safe command's run leaves. A settled folder that keeps the rule has sound images alone.

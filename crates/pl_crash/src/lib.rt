@@ -6,6 +6,6 @@
 mod law;
 
 pub use law::{
-    changes_are_safe, commands_stay_sound, images_stay_sound, originals_stay, others_stay_sound,
-    sound_folders_keep_the_rule,
+    changes_are_safe, commands_are_steps, commands_stay_sound, images_stay_sound,
+    last_stamps_stay_past, originals_stay, others_stay_sound, sound_folders_keep_the_rule,
 };

@@ -1,0 +1,8 @@
+use Rattle.pl_crash.proofs.StepLemmas.{removals_steps, runs_steps}
+use Rattle.pl_crash.proofs.law.commands_are_steps.Goals as goal
+
+pub returns-clause-runs : goal.returns-clause-runs
+returns-clause-runs c = runs_steps
+
+pub returns-clause-removals : goal.returns-clause-removals
+returns-clause-removals c = removals_steps
