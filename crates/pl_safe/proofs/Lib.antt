@@ -1,3 +1,4 @@
 pub mod MeaningLemmas
 pub mod RunLemmas
 pub mod LoadLemmas
+pub mod VerifyLemmas

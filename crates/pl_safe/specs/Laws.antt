@@ -1,25 +1,30 @@
 -- Why every run leaves a sound folder, wherever it is stopped, and why loads of one are ordinary.
-use Rattle.std.specs.Prelude.{◌≡◌, ℕ, true, false, List, Option, Some}
+use Rattle.std.specs.Prelude.{◌≡◌, ℕ, true, false, List, [], Option, Some, None}
 use Rattle.std.specs.FinMap.{get}
 use Rattle.pl_base.specs.Files.{Files}
 use Rattle.pl_elf.specs.declared.range.Range.{Range}
-use Rattle.pl_folder.specs.Disk.{View, clock}
+use Rattle.pl_folder.specs.Disk.{Name, View, clock}
 use Rattle.pl_folder.specs.Seen.{IsFolder}
 use Rattle.pl_folder.specs.Since.{Since, Within}
 use Rattle.pl_journal.specs.Leaves.{Looks}
 use Rattle.pl_journal.specs.Meaning.{Same}
 use Rattle.pl_batch.specs.Restored.{restored}
 use Rattle.pl_crash.specs.Safe.{after}
-use Rattle.pl_crash.specs.Sound.{IsSound}
+use Rattle.pl_crash.specs.Sound.{IsSound, named}
+use Rattle.pl_conflict.specs.Format.{format}
 use Rattle.pl_known.specs.Skips.{skip_causes}
+use Rattle.pl_scope.specs.Members.{has}
+use Rattle.pl_sound.specs.Rule.{matches, members}
+use Rattle.pl_journal.specs.Names.{journal}
 use Rattle.pl_words.specs.declared.command.Policy.{Policy}
 use Rattle.pl_cli.specs.Answer.{answer}
 use Rattle.pl_cli.specs.Outside.{Outside}
 use Rattle.pl_cli.specs.Ran.{Ran}
 use Rattle.pl_cli.specs.Writes.{AreBytes}
 use Rattle.pl_cli.specs.declared.command.Command.{Command}
-use Rattle.pl_cli.specs.declared.command.Command.TheVariants.{Load}
+use Rattle.pl_cli.specs.declared.command.Command.TheVariants.{Load, Verify}
 use Rattle.pl_cli.specs.declared.status.Status.{Status}
+use Rattle.pl_cli.specs.declared.status.Status.TheVariants as statuses
 use Rattle.pl_paths.specs.Answers.{ordinary_answer}
 use Rattle.pl_safe.specs.Runs.{KeepsOriginals, LeavesSound, changed_name, is_whole, meaning, writes}
 
@@ -50,6 +55,15 @@ WritersEnd =
 -- a command changes at most one name's original
 abbrev pub OthersKeepOriginals : Type 0
 OthersKeepOriginals = (asked : Option Command) (bytes : List ℕ) (before : Files) → KeepsOriginals (changed_name asked) (get before) (after (meaning asked bytes) before)
+
+-- ---- folders whoever wrote them
+
+-- one without a journal is sound where `-y` answers Done for each name that matches and for each member of its walk
+abbrev pub VerifiedAreSound : Type 0
+VerifiedAreSound =
+    (files : Files) → get files journal ≡ None
+    → ((n m : Name) → matches (format skip_causes) (named (get files)) n ≡ true → has (members (format skip_causes) (named (get files)) n) m ≡ true → (answer (Some (Verify m)) files []).status ≡ statuses.Done)
+    → IsSound (get files)
 
 -- ---- loads
 

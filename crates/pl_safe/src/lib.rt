@@ -5,4 +5,6 @@
 
 mod law;
 
-pub use law::{every_run_is_safe, others_keep_originals, sound_loads_are_ordinary};
+pub use law::{
+    every_run_is_safe, others_keep_originals, sound_loads_are_ordinary, verified_are_sound,
+};
