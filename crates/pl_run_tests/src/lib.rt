@@ -13,3 +13,5 @@ mod running;
 mod steps;
 #[cfg(test)]
 mod stopping;
+#[cfg(test)]
+mod verifying;

@@ -27,6 +27,12 @@ pub enum Step {
     /// The run is done and what it prints begins so.
     Begins(Words, &'static str),
 
+    /// The run is done and prints the file that a recipe builds.
+    PrintsFile(Words, &'static str),
+
+    /// The run prints that a file differs, and every file stays as it is.
+    Differs(Words),
+
     /// The run is refused and prints this, and every file stays as it is.
     Refused(Words, &'static str),
 
@@ -161,6 +167,12 @@ fn take_step(
         Step::Prints(words, text) => prints(rt, folder, NOW, words, Status::Done, text),
         Step::Keeps(words, text) => keeps(rt, folder, words, Status::Done, text),
         Step::Begins(words, start) => begins(rt, folder, words, start),
+        Step::PrintsFile(words, recipe) => {
+            let text = text_of(rt, folder, words, b"", Status::Done)?;
+            assert!(rt; text == built(rt.alloc(), recipe)?, "at {words:?}");
+            Ok(())
+        }
+        Step::Differs(words) => keeps(rt, folder, words, Status::Differs, "differs\n"),
         Step::Refused(words, text) => keeps(rt, folder, words, Status::Refused, text),
         _ => take_file_step(rt, folder, step),
     }
