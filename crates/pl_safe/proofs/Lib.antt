@@ -2,3 +2,4 @@ pub mod MeaningLemmas
 pub mod RunLemmas
 pub mod LoadLemmas
 pub mod VerifyLemmas
+pub mod SafeLemmas

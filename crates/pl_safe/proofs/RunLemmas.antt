@@ -174,7 +174,7 @@ writers_end asked w v status folder told one whole ran = ends_by asked w v statu
 
 -- ---- every image
 
-start_sound : (a : Seen) → IsFolder a → a.records ≡ true → Within a.disk.now IsSound → IsSound (get a.files)
+pub start_sound : (a : Seen) → IsFolder a → a.records ≡ true → Within a.disk.now IsSound → IsSound (get a.files)
 start_sound a folder told start = subst IsSound (sym (reads_path a folder told)) (start (read a.disk.now) (read_image a.disk.now))
 
 pub every_safe : EveryRunIsSafe

@@ -9,9 +9,10 @@ ghost use Rattle.std.specs.declared.io.ErrorKind.TheVariants.{OutOfMemory};
 ghost use Rattle.pl_cli.specs.Statuses.{code_of};
 ghost use Rattle.prelink.specs.Words.{after_first};
 
-use pl_cli::{Status, run};
+use pl_cli::Status;
 use pl_hostdir::HostFolder;
 use pl_io::{StdSink, StdSource};
+use pl_safe::run;
 use std::alloc::{AllocError, Global};
 use std::env::{self, Args};
 use std::io;

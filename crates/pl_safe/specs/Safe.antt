@@ -1,0 +1,38 @@
+-- What holds of a run over a sound folder.
+use Rattle.std.specs.Prelude.{◌≡◌, ℕ, true, List, Option, Some}
+use Rattle.std.specs.FinMap.{get}
+use Rattle.pl_elf.specs.declared.range.Range.{Range}
+use Rattle.pl_folder.specs.Disk.{View, clock}
+use Rattle.pl_folder.specs.Since.{Since, Within}
+use Rattle.pl_journal.specs.Meaning.{Same}
+use Rattle.pl_batch.specs.Restored.{restored}
+use Rattle.pl_crash.specs.Safe.{after}
+use Rattle.pl_crash.specs.Sound.{IsSound}
+use Rattle.pl_known.specs.Skips.{skip_causes}
+use Rattle.pl_words.specs.declared.command.Policy.{Policy}
+use Rattle.pl_cli.specs.Answer.{answer}
+use Rattle.pl_cli.specs.Outside.{Outside}
+use Rattle.pl_cli.specs.Words.{bytes_of}
+use Rattle.pl_cli.specs.Writes.{AreBytes}
+use Rattle.pl_cli.specs.declared.command.Command.{Command}
+use Rattle.pl_cli.specs.declared.command.Command.TheVariants.{Load}
+use Rattle.pl_cli.specs.declared.status.Status.{Status}
+use Rattle.pl_paths.specs.Answers.{ordinary_answer}
+use Rattle.pl_safe.specs.Runs.{KeepsOriginals, LeavesSound, changed_name, is_whole, meaning, writes}
+
+-- A run of what words ask for, with w outside before it and v after it.
+pub record IsSafeRun (asked : Option Command) (w v : Outside) (status : Status) : Type 0 where
+  -- each image since the start is sound
+  pub every : (image : View) → Since v.folder.disk (clock w.folder.disk) image → IsSound image
+  -- it only looked, or each image of a moment after the start stands for the files before it or for those after it
+  pub leaves : (bytes : List ℕ) × AreBytes w.input.left bytes × LeavesSound (meaning asked bytes) w.folder v.folder
+  -- after a command that writes, is done or refused, the files after it are the only image
+  pub ends : writes asked ≡ true → is_whole status ≡ true → (bytes : List ℕ) × AreBytes w.input.left bytes × Within v.folder.disk.now (Same (after (meaning asked bytes) (restored w.folder.files)))
+  -- at most one name's original is not the one before
+  pub originals : (bytes : List ℕ) → KeepsOriginals (changed_name asked) (get (restored w.folder.files)) (after (meaning asked bytes) (restored w.folder.files))
+  -- the answer to `--load` is the one that links the originals
+  pub load : (name : List ℕ) (busy : Option Range) (policy : Policy) → asked ≡ Some (Load name busy policy) → answer asked w.folder.files (bytes_of w.input.left) ≡ ordinary_answer skip_causes policy busy w.folder.files name
+
+-- of a folder that tells its disk, where each image at the start was sound
+abbrev pub StaysSafe : Option Command → Outside → Outside → Status → Type 0
+StaysSafe asked w v status = w.folder.records ≡ true → Within w.folder.disk.now IsSound → IsSafeRun asked w v status
