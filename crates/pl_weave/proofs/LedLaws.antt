@@ -60,7 +60,7 @@ led_to_is name o s (Ok walk) leads = leads
 led_to_is name o s (Err fault) leads = leads
 
 -- a loader that saw one file more
-led_more : {F : Type 0} (name : List ℕ) (o : Opened F) (n : List ℕ) (file : Option (List ℕ)) → IsLed name o → wanted o ≡ Some n → IsLed name (with_file o n file)
+pub led_more : {F : Type 0} (name : List ℕ) (o : Opened F) (n : List ℕ) (file : Option (List ℕ)) → IsLed name o → wanted o ≡ Some n → IsLed name (with_file o n file)
 led_more name o n file led is = led_to_is name o (seen_of n file) (taken o.load.walk n file) (leads_wanted name n file o.fault o.load.walk o.seen led is)
 
 event_leads : {F : Type 0} (before after : Opened F) (held : folder.Seen) (name : List ℕ) (n : Option (List ℕ)) → wanted before ≡ n → IsLed name before → OpensBy n before after held → IsLed name after

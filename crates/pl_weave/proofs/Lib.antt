@@ -1,2 +1,3 @@
 pub mod LedLaws
 pub mod ManyLaws
+pub mod WovenLaws

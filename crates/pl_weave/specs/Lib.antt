@@ -1,3 +1,5 @@
 pub mod Taking
 pub mod Opening
+pub mod Runs
+pub mod Weaving
 pub mod Laws

@@ -10,7 +10,7 @@ mod taking;
 mod weave;
 
 pub use fault::WeaveFault;
-pub use laws::{events_lead, finished_are_loads};
+pub use laws::{events_lead, finished_are_loads, woven_are_led};
 pub use opening::Opening;
 pub use seen::Seen;
 pub use weave::Weave;

@@ -1,0 +1,6 @@
+//! Why loads during runs are ordinary: whatever the events of a weave are, the files that its loaders saw are of one history of runs and edits.
+#![tactic(auto)]
+
+mod laws;
+
+pub use laws::{weaves_are_ordinary, woven_have_a_history};
