@@ -22,7 +22,7 @@ pub fn folder_of(alloc: Global, files: &[(&str, &[u8])]) -> Result<MemoryFolder,
     Ok(MemoryFolder::new(alloc, &rows, Vec::new(alloc), 1000)?)
 }
 
-fn install(
+pub fn install(
     alloc: Global,
     folder: &mut MemoryFolder,
     name: &str,
@@ -38,7 +38,7 @@ fn install(
     do_run(alloc, folder, &run)
 }
 
-fn undo_all(alloc: Global, folder: &mut MemoryFolder) -> Result<usize, BatchFault> {
+pub fn undo_all(alloc: Global, folder: &mut MemoryFolder) -> Result<usize, BatchFault> {
     do_run(alloc, folder, &Run::UndoAll)
 }
 

@@ -6,4 +6,6 @@ mod commands;
 #[cfg(test)]
 mod marked;
 #[cfg(test)]
+mod prelinking;
+#[cfg(test)]
 mod words;
