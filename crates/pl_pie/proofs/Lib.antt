@@ -13,3 +13,15 @@ pub mod RowOfLaws
 pub mod OwnLaws
 pub mod RebasedLaws
 pub mod BearLaws
+pub mod TagLaws
+pub mod MemoryLaws
+pub mod KeptLaws
+pub mod UnmetLaws
+pub mod SymbolLaws
+pub mod PackedLaws
+pub mod PowerLaws
+pub mod HeadClauses
+pub mod DynamicLaws
+pub mod TablesRead
+pub mod HeadAgain
+pub mod PartsAgain
