@@ -25,3 +25,7 @@ pub mod DynamicLaws
 pub mod TablesRead
 pub mod HeadAgain
 pub mod PartsAgain
+pub mod AtLaws
+pub mod AlikeLaws
+pub mod TablesAgain
+pub mod PackedAgain

@@ -116,7 +116,7 @@ module _ (at : ℕ) (ss : List Segment) (stands : All (Stands at) ss) where
 
 -- ---- windows by sections
 
-section_kind_kept : (at kind : ℕ) (s : Section) → has_kind kind (fixed_section at s) ≡ has_kind kind s
+pub section_kind_kept : (at kind : ℕ) (s : Section) → has_kind kind (fixed_section at s) ≡ has_kind kind s
 unfolding fixed_section
 section_kind_kept at kind s = refl
 
@@ -131,7 +131,7 @@ unfolding symbols_memory
 symbols_memory_moves at ts secs address there =
     rw (value_moves at DT_SYMTAB ts address there, find_kept (has_kind SHT_DYNSYM) (has_kind SHT_DYNSYM) (fixed_section at) secs (section_kind_kept at SHT_DYNSYM), size_kept at (find (has_kind SHT_DYNSYM) secs)) refl
 
-sum_same : (at x y : ℕ) → x < 2 ^ 64 → y < 2 ^ 64 → (plus x at == plus y at) ≡ (x == y)
+pub sum_same : (at x y : ℕ) → x < 2 ^ 64 → y < 2 ^ 64 → (plus x at == plus y at) ≡ (x == y)
 sum_same at x y a b = bool_same _ _ (λ h. grind (arith, nat_tests)) (λ h. grind (arith, nat_tests))
   where
     bool_same : (a b : Bool) → (a ≡ true → b ≡ true) → (b ≡ true → a ≡ true) → a ≡ b
