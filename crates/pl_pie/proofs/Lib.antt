@@ -29,3 +29,6 @@ pub mod AtLaws
 pub mod AlikeLaws
 pub mod TablesAgain
 pub mod PackedAgain
+pub mod ObjectAgain
+pub mod BackAgain
+pub mod ImageAgain

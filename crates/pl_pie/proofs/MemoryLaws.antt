@@ -52,7 +52,7 @@ nothing_none ss = by (loader ss 0)
 
 -- ---- the program headers
 
-segment_found : (at kind : ℕ) (ss : List Segment) → segment_of_kind kind (map (fixed_segment at) ss) ≡ option_map (fixed_segment at) (segment_of_kind kind ss)
+pub segment_found : (at kind : ℕ) (ss : List Segment) → segment_of_kind kind (map (fixed_segment at) ss) ≡ option_map (fixed_segment at) (segment_of_kind kind ss)
 unfolding fixed_segment
 segment_found at kind ss = find_kept (is_of_kind kind) (is_of_kind kind) (fixed_segment at) ss (λ s. refl)
 
