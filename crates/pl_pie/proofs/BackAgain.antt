@@ -28,12 +28,13 @@ use Rattle.pl_object.specs.FilePart.{file_window, loaded_by, loader, loads_byte}
 use Rattle.pl_object.specs.Named.{dynamic_of, jmprel_of, packed_of, rela_of, symbols_of, symtabs_of, window_in, window_of}
 use Rattle.pl_object.specs.PlaceClauses as places
 use Rattle.pl_object.specs.PlaceClauses.{is_held, last_load, reloc_outside}
-use Rattle.pl_object.specs.Reads.{span}
+use Rattle.pl_object.specs.Reads.{end_in_memory, span}
 use Rattle.pl_object.specs.Relocations.{packed_relocs, place}
 use Rattle.pl_object.specs.Relocations as relocations
 use Rattle.pl_object.specs.SymbolClauses.{base_not_zero, is_above}
 use Rattle.pl_object.specs.TableClauses.{relr_table}
 use Rattle.pl_object.specs.Tables.{is_allocated}
+use Rattle.pl_object.specs.declared.constants.TheConstants.{DYNAMIC_TABLE, FIRST_SYMTAB, JMPREL_TABLE, PACKED_TABLE, RELA_TABLE, SYMBOLS_TABLE}
 use Rattle.pl_object.specs.declared.object.Object.{Object}
 use Rattle.pl_object.specs.declared.reloc.Reloc.{Reloc}
 use Rattle.pl_object.proofs.FilePartLaws.{loads_parts, loader_loads_byte}
@@ -67,7 +68,8 @@ empty_put : (at size : ℕ) (xs : List ℕ) → size ≡ 0 → put at (part at s
 unfolding put
 empty_put at size xs none =
     let here : at + 0 ≡ at = omega arith in
-    rw (none, here, append-nil (take at xs)) (take-append-drop at xs)
+    ap (λ (n : ℕ). put at (part at n xs) xs) none ∙ ap (λ (n : ℕ). take at xs ++ [] ++ drop n xs) here
+    ∙ ap (λ (ys : List ℕ). ys ++ drop at xs) (append-nil (take at xs)) ∙ take-append-drop at xs
 
 none_moved : (w : ℕ) (t : Table) (xs : List ℕ) → t.count ≡ 0 → moved w t xs ≡ xs
 unfolding moved on rows
@@ -202,7 +204,8 @@ spots_same p at ss (a ∷ addresses) stands held =
     let m : Window = record { at = a; size = 8 } in
     let h = or_parts (not (is_held false ss m)) _ held in
     let one : file_window (map (fixed_segment at) ss) (moved_window at m) ≡ file_window ss m = window_stays at ss stands m (low_place at ss a stands (whole_at ss m h.0)) in
-    rw (one, spots_same p at ss addresses stands h.1) refl
+    ap (λ (w : Window). w.at ∷ map (spot (map (fixed_segment at) ss)) (map (fixed_reloc at) (packed_relocs p ss addresses))) one
+    ∙ ap (λ (ns : List ℕ). (file_window ss m).at ∷ ns) (spots_same p at ss addresses stands h.1)
 
 -- ---- the first page
 
@@ -213,9 +216,13 @@ no_load found (s ∷ ss) none = elim (cases_Bool (is_load s)) [
   | inr miss ↦ rw miss (no_load found ss (rw miss at none))
 ]
 
+nothing_up : 0 < round_up 0 4096 → ⊥
+unfolding round_up
+nothing_up h = omega (arith, h)
+
 some_load : (ss : List Segment) → segment_of_kind PT_LOAD ss ≡ None → 0 < span ss → ⊥
-unfolding span last_load round_up
-some_load ss none some = let e = no_load None ss none in let bad : 0 < 0 = rw e at some in omega (arith, bad)
+unfolding span last_load
+some_load ss none some = nothing_up (subst (λ (m : Option Segment). 0 < round_up (end_in_memory m) 4096) (no_load None ss none) some)
 
 low_first : (s : Segment) (at : ℕ) → (s.vaddr / 4096 == 0) ≡ true → at % 4096 ≡ 0 → at ≤ ADDRESS_LIMIT → is_load s ≡ true → round_down (fixed_segment at s).vaddr 4096 ≡ at
 unfolding fixed_segment round_down
@@ -238,11 +245,11 @@ module _ (bytes : List ℕ) (o : Object) (at : ℕ) (is : IsAt bytes o at) (some
   abbrev with_tables : List Range → Object
   with_tables T = record (fixed at o) { tables = T }
 
-  size : 0 < o.span
-  size = span_some p o is.pie.accepted is.other
+  spanned : 0 < o.span
+  spanned = span_some p o is.pie.accepted is.other
 
   small : at < ADDRESS_LIMIT
-  small = let n = size in omega (arith, n, is.ends)
+  small = let n = spanned in omega (arith, n, is.ends)
 
   low_entry : o.entry < ADDRESS_LIMIT
   unfolding is_linked has_high
@@ -257,39 +264,39 @@ module _ (bytes : List ℕ) (o : Object) (at : ℕ) (is : IsAt bytes o at) (some
   entry_same = moves_stay.entry at o some small low_entry
 
   module _ (T : List Range) (same : AllZip IsSameRange T o.tables) where
-    x : Object
+    abbrev x : Object
     x = with_tables T
 
     dynamic_same : Alike (dynamic_of x) (dynamic_of o)
-    unfolding x dynamic_of
-    dynamic_same = get_same _ T o.tables same
+    unfolding dynamic_of
+    dynamic_same = get_same DYNAMIC_TABLE T o.tables same
 
     symbols_same : Alike (symbols_of x) (symbols_of o)
-    unfolding x symbols_of
-    symbols_same = get_same _ T o.tables same
+    unfolding symbols_of
+    symbols_same = get_same SYMBOLS_TABLE T o.tables same
 
     rela_same : Alike (rela_of x) (rela_of o)
-    unfolding x rela_of
-    rela_same = get_same _ T o.tables same
+    unfolding rela_of
+    rela_same = get_same RELA_TABLE T o.tables same
 
     jmprel_same : Alike (jmprel_of x) (jmprel_of o)
-    unfolding x jmprel_of
-    jmprel_same = get_same _ T o.tables same
+    unfolding jmprel_of
+    jmprel_same = get_same JMPREL_TABLE T o.tables same
 
     packed_same : Alike (packed_of x) (packed_of o)
-    unfolding x packed_of
-    packed_same = get_same _ T o.tables same
+    unfolding packed_of
+    packed_same = get_same PACKED_TABLE T o.tables same
 
     symtabs_are : AllZip SameTable (map symbol_rows (symtabs_of x)) (map symbol_rows (symtabs_of o))
-    unfolding x symtabs_of
-    symtabs_are = symtabs_same _ T o.tables same
+    unfolding symtabs_of
+    symtabs_are = symtabs_same FIRST_SYMTAB T o.tables same
 
     entry_table : SameTable (record { kind = Entry; at = 0; count = if x.entry == 0 then 0 else 1 }) (record { kind = Entry; at = 0; count = if o.entry == 0 then 0 else 1 })
-    unfolding x fixed
+    unfolding fixed
     entry_table = inl (ap (λ (b : Bool). record { kind = Entry; at = 0; count = if b then 0 else 1 }) entry_same)
 
     main_same : AllZip SameTable (main_tables x) (main_tables o)
-    unfolding main_tables x fixed fixed_header
+    unfolding main_tables fixed fixed_header
     main_same =
         (entry_table, (inl refl, (inl refl, (rows_same TagValue _ _ dynamic_same, (rows_same SymbolValue _ _ symbols_same,
         (rows_same RelocationPlace _ _ rela_same, (rows_same RelativeAddend _ _ rela_same, (rows_same RelocationPlace _ _ jmprel_same, (rows_same RelativeAddend _ _ jmprel_same,
@@ -300,7 +307,7 @@ module _ (bytes : List ℕ) (o : Object) (at : ℕ) (is : IsAt bytes o at) (some
     tables_back xs = back_same at (tables_of x) (tables_of o) xs (zip_append (main_tables x) (main_tables o) (map symbol_rows (symtabs_of x)) (map symbol_rows (symtabs_of o)) main_same symtabs_are)
 
     section_words_same : section_words x ≡ section_words o
-    unfolding section_words x fixed fixed_header
+    unfolding section_words fixed fixed_header
     section_words_same = ap (map (λ i. section_offset o.header i + 16)) (indices_same is_allocated is_allocated (fixed_section at) o.sections (λ i d lt. allocated_kept at _))
 
     symbols_kept : indices is_address (map (fixed_symbol at) o.symbols) ≡ indices is_address o.symbols
@@ -316,7 +323,7 @@ module _ (bytes : List ℕ) (o : Object) (at : ℕ) (is : IsAt bytes o at) (some
         rw empty refl
 
     x_symbols : x.symbols ≡ map (fixed_symbol at) o.symbols
-    unfolding x fixed
+    unfolding fixed
     x_symbols = refl
 
     undefined_words_same : undefined_words x ≡ undefined_words o
@@ -340,7 +347,7 @@ module _ (bytes : List ℕ) (o : Object) (at : ℕ) (is : IsAt bytes o at) (some
         subst (λ (rs : List Reloc). map (spot (map (fixed_segment at) o.segments)) (map (fixed_reloc at) rs) ≡ map (spot o.segments) rs) (sym last) (spots_same p at o.segments addresses is.stands held)
 
     packed_words_same : packed_words x ≡ packed_words o
-    unfolding packed_words x fixed
+    unfolding packed_words fixed
     packed_words_same = ap (map (spot (map (fixed_segment at) o.segments))) packed_moved ∙ packed_spots
 
     words_same : other_words x ≡ other_words o
@@ -355,7 +362,7 @@ module _ (bytes : List ℕ) (o : Object) (at : ℕ) (is : IsAt bytes o at) (some
         (and_both (begins_low o) (has_loaded_symbols o) b.0).0
 
     page_by : (m : Option Segment) → segment_of_kind PT_LOAD o.segments ≡ m → is_above m ≡ false → round_down (start_of (option_map (fixed_segment at) m)) 4096 ≡ at
-    page_by None e low = absurd (some_load o.segments e (subst (λ (n : ℕ). 0 < n) is.pie.accepted.span size))
+    page_by None e low = absurd (some_load o.segments e (subst (λ (n : ℕ). 0 < n) is.pie.accepted.span spanned))
     page_by (Some s) e low = low_first s at (first (s.vaddr / 4096 == 0) low) whole (omega (arith, small)) (find_passes (is_of_kind PT_LOAD) o.segments s e)
       where
         first : (b : Bool) → not b ≡ false → b ≡ true
@@ -363,15 +370,14 @@ module _ (bytes : List ℕ) (o : Object) (at : ℕ) (is : IsAt bytes o at) (some
         first false h = absurd (true≢false h)
 
     page_is : page_of x ≡ at
-    unfolding page_of x fixed begins_low base_not_zero
+    unfolding page_of fixed begins_low base_not_zero
     page_is =
         let low : is_above (segment_of_kind PT_LOAD o.segments) ≡ false = not_true _ begins in
         ap (λ (m : Option Segment). round_down (start_of m) 4096) (segment_found at PT_LOAD o.segments) ∙ page_by (segment_of_kind PT_LOAD o.segments) refl low
 
     with_tables_back : IsTakenBack at o x
-    unfolding x fixed
+    unfolding fixed
     with_tables_back = record { program = is.pie.program; tables = tables_back; words = words_same; page = page_is }
 
   pub taken_again : (y : Object) → IsFixed at o y → IsTakenBack at o y
-  unfolding x
   taken_again y fixed_as = subst (IsTakenBack at o) (sym fixed_as.same) (with_tables_back y.tables fixed_as.tables)

@@ -119,6 +119,10 @@ round_moved : (e at : ℕ) → at % 4096 ≡ 0 → round_up (e + at) 4096 ≡ ro
 unfolding round_up
 round_moved e at whole = omega (arith, whole)
 
+nothing_up : 0 < round_up 0 4096 → ⊥
+unfolding round_up
+nothing_up h = omega (arith, h)
+
 span_moved : (at : ℕ) (ss : List Segment) → All (Stands at) ss → at % 4096 ≡ 0 → 0 < span ss → span (map (fixed_segment at) ss) ≡ span ss + at
 unfolding span last_load
 span_moved at ss all whole some =
@@ -126,11 +130,7 @@ span_moved at ss all whole some =
     ∙ of_last (last_from None ss) (last_holds (EndMoves at) None ss (all_ends at ss all) tt) some
   where
     of_last : (m : Option Segment) → IfSome m (EndMoves at) → 0 < round_up (end_in_memory m) 4096 → round_up (end_in_memory (option_map (fixed_segment at) m)) 4096 ≡ round_up (end_in_memory m) 4096 + at
-    of_last None ends some = absurd (nothing some)
-      where
-        nothing : 0 < round_up 0 4096 → ⊥
-        unfolding round_up
-        nothing h = omega (arith, h)
+    of_last None ends some = absurd (nothing_up some)
     of_last (Some s) ends some = ap (λ (n : ℕ). round_up n 4096) ends ∙ round_moved (s.vaddr + s.memsz) at whole
 
 -- an address that is a multiple of the alignment begins a page

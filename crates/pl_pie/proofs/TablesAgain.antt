@@ -10,7 +10,7 @@ use Rattle.pl_base.specs.Windows.{Window, any_share}
 use Rattle.pl_dyn.specs.Kinds.{is_address_tag}
 use Rattle.pl_dyn.specs.declared.constants.TheConstants.{DT_PLTRELSZ, DT_HASH, DT_STRTAB, DT_SYMTAB, DT_RELA, DT_RELASZ, DT_RELAENT, DT_STRSZ, DT_SYMENT, DT_PLTREL, DT_JMPREL, DT_RELR, DT_RELRSZ, DT_RELRENT, DT_GNU_HASH, DT_VERSYM, DT_VERDEF, DT_VERNEED}
 use Rattle.pl_dyn.specs.declared.tags.Tag.{Tag}
-use Rattle.pl_elf.specs.declared.constants.TheConstants.{SHF_ALLOC, SHT_DYNSYM}
+use Rattle.pl_elf.specs.declared.constants.TheConstants.{RELA_SIZE, RELR_SIZE, SHF_ALLOC, SHT_DYNSYM}
 use Rattle.pl_elf.specs.declared.header.Header.{Header}
 use Rattle.pl_elf.specs.declared.section.Section.{Section}
 use Rattle.pl_elf.specs.declared.segment.Segment.{Segment}
@@ -118,7 +118,7 @@ lacks_kept at ts = rw (has_moved at DT_STRTAB ts, has_moved at DT_STRSZ ts, has_
 
 rela_kept : (at : ℕ) (ts : List Tag) → bad_rela (map (moved_tag at) ts) ≡ bad_rela ts
 unfolding bad_rela is_address_tag
-rela_kept at ts = rw (parted_kept at DT_RELA DT_RELASZ ts, parted_kept at DT_RELA DT_RELAENT ts, other_kept at DT_RELAENT 24 ts refl, uneven_kept at DT_RELASZ ts refl) refl
+rela_kept at ts = rw (parted_kept at DT_RELA DT_RELASZ ts, parted_kept at DT_RELA DT_RELAENT ts, other_kept at DT_RELAENT RELA_SIZE ts refl, uneven_kept at DT_RELASZ ts refl) refl
 
 jmprel_kept : (at : ℕ) (ts : List Tag) → bad_jmprel (map (moved_tag at) ts) ≡ bad_jmprel ts
 unfolding bad_jmprel is_address_tag
@@ -130,7 +130,7 @@ rows_kept at ts = rw (rela_kept at ts, jmprel_kept at ts) refl
 
 relr_kept : (at : ℕ) (ts : List Tag) → bad_relr_tags (map (moved_tag at) ts) ≡ bad_relr_tags ts
 unfolding bad_relr_tags is_address_tag
-relr_kept at ts = rw (parted_kept at DT_RELR DT_RELRSZ ts, parted_kept at DT_RELR DT_RELRENT ts, other_kept at DT_RELRENT 8 ts refl) refl
+relr_kept at ts = rw (parted_kept at DT_RELR DT_RELRSZ ts, parted_kept at DT_RELR DT_RELRENT ts, other_kept at DT_RELRENT RELR_SIZE ts refl) refl
 
 -- ---- the tables
 
