@@ -1,9 +1,8 @@
 -- The windows of a fixed file are those of the program, but for windows without bytes.
-use Rattle.std.proofs.Common.{◌≡◌, ℕ, ◌+◌, ◌%◌, ◌^◌, ◌<◌, ◌≤◌, Bool, true, false, List, [], ◌∷◌, ◌++◌, map, refl, sym, ap, subst, ◌∙◌, arith, inl, inr}
-use Rattle.std.specs.Prelude.{◌⊎◌, ◌||◌, ◌&&◌, not, nat_lt, filter, if◌then◌else◌}
+use Rattle.std.proofs.Common.{◌≡◌, ℕ, ◌^◌, ◌<◌, Bool, true, false, List, [], ◌∷◌, ◌++◌, map, refl, sym, ap, subst, ◌∙◌, arith, inl, inr}
+use Rattle.std.specs.Prelude.{◌⊎◌, ◌&&◌, not, nat_lt}
 use Rattle.std.specs.List.{All, list_any}
 use Rattle.std.proofs.lemmas.Bool.{cases_Bool}
-use Rattle.pl_base.specs.Pairs.{any_pair}
 use Rattle.pl_base.specs.Windows.{Window, end_of, share, any_share}
 use Rattle.pl_dyn.specs.Kinds.{is_address_tag}
 use Rattle.pl_dyn.specs.declared.constants.TheConstants.{DT_HASH, DT_STRTAB, DT_SYMTAB, DT_RELA, DT_RELASZ, DT_STRSZ, DT_JMPREL, DT_PLTRELSZ, DT_RELR, DT_RELRSZ, DT_GNU_HASH, DT_VERSYM, DT_VERDEF, DT_VERNEED}
@@ -14,13 +13,12 @@ use Rattle.pl_elf.specs.declared.segment.Segment.{Segment}
 use Rattle.pl_object.specs.Accepted.{AreWhole}
 use Rattle.pl_object.specs.FilePart.{nothing, file_window, in_file_part}
 use Rattle.pl_object.specs.TableClauses.{meets}
-use Rattle.pl_object.specs.Tables.{dynamic_memory, has_kind, has_tag, header_window, is_allocated, jmprel_memory, link_windows, main_windows, rela_memory, relr_memory, section_memory, section_window, sections_window, segments_window, strings_memory, symbols_memory, symtab_windows, tables_memory, tag_memory, value}
+use Rattle.pl_object.specs.Tables.{dynamic_memory, has_kind, has_tag, header_window, jmprel_memory, link_windows, main_windows, rela_memory, relr_memory, section_memory, section_window, segments_window, strings_memory, symbols_memory, symtab_windows, tables_memory, tag_memory, value}
 use Rattle.pl_object.specs.declared.object.Object.{Object}
 use Rattle.pl_fixed.specs.Fixed.{fixed_header, fixed_section, fixed_segment}
 use Rattle.pl_fixed.specs.Stays.{moved_window, Stands}
 use Rattle.pl_pie.proofs.AtLaws.{IsAt, new_tags, old_tags}
 use Rattle.pl_pie.proofs.MemoryLaws.{Alike, dynamic_memory_moves, held_stays, nothing_alike, nothing_held, section_memory_is, symbols_memory_moves, tag_memory_is, window_stays}
-use Rattle.pl_pie.proofs.RowOfLaws.{moved_tag}
 
 -- ---- lists of windows alike, one by one
 

@@ -1,8 +1,7 @@
 -- What is found of a position-independent program where it stands at an address: by it the fixed file is read.
-use Rattle.std.proofs.Common.{◌≡◌, ℕ, zero, suc, ◌+◌, ◌%◌, ◌^◌, ◌<◌, ◌≤◌, Bool, true, false, List, [], ◌∷◌, map, take, Option, Some, None, Result, Ok, refl, sym, ap, subst, ◌∙◌, arith, inl, inr}
-use Rattle.std.specs.Prelude.{find}
+use Rattle.std.proofs.Common.{◌≡◌, ℕ, zero, suc, ◌+◌, ◌%◌, ◌^◌, ◌<◌, ◌≤◌, false, List, [], ◌∷◌, map, take, Some, Ok, refl, subst, arith, inl, inr}
 use Rattle.std.specs.List.{All, range_with_len, position_or_len}
-use Rattle.std.proofs.lemmas.Bool.{cases_Bool, false≢true, true≢false}
+use Rattle.std.proofs.lemmas.Bool.{cases_Bool, true≢false}
 use Rattle.std.proofs.lemmas.List.Elements.{All-head, All-tail, All-nil, All-cons}
 use Rattle.pl_base.specs.Bytes.{IsBytes}
 use Rattle.pl_base.proofs.WordLaws.{word64_below, is_bytes_part}
@@ -11,17 +10,17 @@ use Rattle.pl_dyn.specs.Read.{has_number, first_of, value_of}
 use Rattle.pl_dyn.specs.declared.dynamic.Dynamic.{Dynamic}
 use Rattle.pl_dyn.specs.declared.tags.Tag.{Tag}
 use Rattle.pl_elf.specs.Clauses.{is_static_file}
-use Rattle.pl_elf.specs.Headers.{is_of_kind, section, section_at, sections, segment, segment_at, segment_of_kind, segments}
-use Rattle.pl_elf.specs.Kinds.{is_program, is_static}
+use Rattle.pl_elf.specs.Headers.{is_of_kind, section, section_at, sections, segment, segment_at, segments}
+use Rattle.pl_elf.specs.Kinds.{is_static}
 use Rattle.pl_elf.specs.declared.constants.TheConstants.{ADDRESS_LIMIT, PT_DYNAMIC}
 use Rattle.pl_elf.specs.declared.header.Header.{Header}
 use Rattle.pl_elf.specs.declared.section.Section.{Section}
 use Rattle.pl_elf.specs.declared.segment.Segment.{Segment}
-use Rattle.pl_object.specs.Accepted.{Accepted, tags_of}
+use Rattle.pl_object.specs.Accepted.{tags_of}
 use Rattle.pl_object.specs.FilePart.{loaded}
-use Rattle.pl_object.specs.Reads.{check, dynamic, headers, layout, linking, object, reads, span, static_object}
+use Rattle.pl_object.specs.Reads.{check, dynamic, headers, layout, linking, object, reads, static_object}
 use Rattle.pl_object.specs.TableClauses.{check_tables}
-use Rattle.pl_object.specs.Tables.{dynamic_memory, link_windows, memory_of, value}
+use Rattle.pl_object.specs.Tables.{dynamic_memory, link_windows, value}
 use Rattle.pl_object.specs.declared.headers.Headers.{Headers}
 use Rattle.pl_object.specs.declared.layout.Layout.{Layout}
 use Rattle.pl_object.specs.declared.linking.Linking.{Linking}
@@ -141,7 +140,7 @@ new_tags at bytes o = map (moved_tag at) (old_tags bytes o)
 pub record IsAt (bytes : List ℕ) (o : Object) (at : ℕ) : Type 0 where
   pub pie : IsPie bytes o
   pub other : is_static o.kind ≡ false
-  pub bytes : IsBytes (as_program bytes)
+  pub are_bytes : IsBytes (as_program bytes)
   pub even : at % 2 ≡ 0
   pub ends : at + o.span ≤ ADDRESS_LIMIT
   pub stands : All (Stands at) o.segments
@@ -167,7 +166,7 @@ is_at bytes o at are some aligned ends =
     record {
       pie = is;
       other = other;
-      bytes = b;
+      are_bytes = b;
       even = slot_even at o.align (align_even p o is.accepted) aligned;
       ends = ends;
       stands = are_standing at o.segments is.accepted.loads (subst (λ (n : ℕ). at + n ≤ ADDRESS_LIMIT) is.accepted.span ends);

@@ -1,6 +1,5 @@
 -- The dynamic table of a fixed file is read as the program's, with the values of address tags moved.
-use Rattle.std.proofs.Common.{◌≡◌, ℕ, ◌+◌, ◌*◌, ◌/◌, ◌%◌, ◌^◌, ◌<◌, ◌≤◌, Bool, true, false, List, length, map, Result, Ok, Err, refl, sym, ap, subst, ◌∙◌, arith}
-use Rattle.std.specs.Prelude.{if◌then◌else◌}
+use Rattle.std.proofs.Common.{◌≡◌, ℕ, ◌+◌, ◌*◌, ◌/◌, ◌^◌, ◌<◌, ◌≤◌, true, false, List, length, map, Ok, sym, ap, ◌∙◌, arith}
 use Rattle.std.specs.List.{All}
 use Rattle.pl_base.specs.Bytes.{part}
 use Rattle.pl_base.specs.Windows.{Window, within, IsIn}
@@ -8,23 +7,20 @@ use Rattle.pl_base.proofs.WindowLaws.{length-within, length-part}
 use Rattle.pl_dyn.specs.Entries.{entries}
 use Rattle.pl_dyn.specs.Read.{read}
 use Rattle.pl_dyn.specs.declared.dynamic.Dynamic.{Dynamic}
-use Rattle.pl_dyn.specs.declared.fault.DynFault.{DynFault}
-use Rattle.pl_dyn.specs.declared.fault.DynFault.TheVariants.{NoEnd}
 use Rattle.pl_elf.specs.Kinds.{is_static}
-use Rattle.pl_elf.specs.declared.segment.Segment.{Segment}
 use Rattle.pl_object.specs.Accepted.{Accepted, tags_of}
 use Rattle.pl_object.specs.FilePart.{file_window, in_file_part, loaded}
 use Rattle.pl_object.specs.Named.{dynamic_of}
 use Rattle.pl_object.specs.Reads.{dynamic}
 use Rattle.pl_object.specs.Tables.{dynamic_memory}
 use Rattle.pl_object.specs.declared.object.Object.{Object}
-use Rattle.pl_move.specs.Moves.{rows, row_moved}
+use Rattle.pl_move.specs.Moves.{row_moved}
 use Rattle.pl_move.specs.declared.kind.RowKind.TheVariants.{TagValue}
-use Rattle.pl_move.proofs.MoveLaws.{length-row_moved, length-rows}
+use Rattle.pl_move.proofs.MoveLaws.{length-row_moved}
 use Rattle.pl_move.proofs.ObjectLaws.{window_in}
 use Rattle.pl_fixed.specs.Fixed.{fixed_segment}
-use Rattle.pl_fixed.specs.Stays.{moved_window, Stands}
-use Rattle.pl_pie.proofs.ContentLaws.{row_at, row_room}
+use Rattle.pl_fixed.specs.Stays.{Stands}
+use Rattle.pl_pie.proofs.ContentLaws.{row_at}
 use Rattle.pl_pie.proofs.OwnLaws.{are_sized}
 use Rattle.pl_pie.proofs.RowOfLaws.{moved_tag, entries_moved}
 use Rattle.pl_pie.proofs.RebasedLaws.{rebased, rebased_length, rebased_dynamic}

@@ -96,7 +96,7 @@ of_kind false h = absurd (false≢true h)
 
 pub type_is : (p : List ℕ) (o : Object) → reads p ≡ Ok o → is_program o.kind ≡ true → (o.header.kind == ET_EXEC) ≡ true
 unfolding static_object object headers
-type_is p o e = read_holds (λ (y : Object). is_program y.kind ≡ true → (y.header.kind == ET_EXEC) ≡ true) p (λ h s program. absurd (false≢true program)) (λ h d l s program. of_kind (h.header.kind == ET_EXEC) program) o e
+type_is p o e = read_holds (λ (y : Object). is_program y.kind ≡ true → (y.header.kind == ET_EXEC) ≡ true) p (λ h s program. absurd (false≢true program)) (λ h d l s program. of_kind (h.kind == ET_EXEC) program) o e
 
 -- ---- the PT_LOADs may be moved
 
@@ -131,9 +131,10 @@ in_front (x ∷ xs) y = let rest = in_front xs y in omega (arith, rest)
 last_kept : (o : Object) (s : Section) (d : Window) → slice_get o.sections o.header.shstrndx ≡ Some s
     → (get_or (kept_windows o) (suc (length (named_windows o))) d ≡ section_window s) × (suc (length (named_windows o)) < length (kept_windows o))
 unfolding kept_windows
-last_kept o s d there =
-    (ap (λ (m : Option Section). get_or (strings_of o ∷ named_windows o ++ window_if m) (suc (length (named_windows o))) d) there ∙ at_end (named_windows o) (section_window s) d,
-    subst (λ (m : Option Section). suc (length (named_windows o)) < length (strings_of o ∷ named_windows o ++ window_if m)) (sym there) (let few = in_front (named_windows o) (section_window s) in omega (arith, few)))
+last_kept o s d there = (
+  ap (λ (m : Option Section). get_or (strings_of o ∷ named_windows o ++ window_if m) (suc (length (named_windows o))) d) there ∙ at_end (named_windows o) (section_window s) d,
+  subst (λ (m : Option Section). suc (length (named_windows o)) < length (strings_of o ∷ named_windows o ++ window_if m)) (sym there) (let few = in_front (named_windows o) (section_window s) in omega (arith, few)),
+)
 
 -- ---- the fixed file
 

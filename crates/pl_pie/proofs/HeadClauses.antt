@@ -1,5 +1,5 @@
 -- Acceptance clauses 1 to 8 take a fixed file as they take the program.
-use Rattle.std.proofs.Common.{◌≡◌, ℕ, zero, suc, ◌+◌, ◌-◌, ◌*◌, ◌/◌, ◌%◌, ◌^◌, ◌<◌, ◌≤◌, Bool, true, false, List, [], ◌∷◌, ◌++◌, length, map, get_or, Option, Some, None, Result, Ok, refl, sym, ap, subst, ◌∙◌, arith, inl, inr}
+use Rattle.std.proofs.Common.{◌≡◌, ℕ, ◌+◌, ◌*◌, ◌%◌, ◌<◌, ◌≤◌, Bool, true, false, List, [], ◌∷◌, length, map, get_or, Result, Ok, refl, sym, ap, subst, ◌∙◌, arith, inl, inr}
 use Rattle.std.specs.Prelude.{◌||◌, ◌&&◌, ◌==◌, not, nat_le, nat_lt, if◌then◌else◌}
 use Rattle.std.specs.Int.{is_power_of_two}
 use Rattle.std.specs.List.{All, list_any, range_with_len}
@@ -13,8 +13,8 @@ use Rattle.pl_base.specs.Windows.{any_share}
 use Rattle.pl_base.proofs.AnswerLaws.{refuse_none, refuse_next}
 use Rattle.pl_base.proofs.FindLaws.{any_map, any_same}
 use Rattle.pl_base.proofs.WindowLaws.{part_byte}
-use Rattle.pl_elf.specs.Clauses.{passes, not_elf, other_class, other_machine, is_seen_dynamic, has_dynamic, other_kind, is_static_file, segment_passes, section_passes, truncated, bad_align, not_congruent, bad_load, ascend_from, load_windows, overlap_in_file, bad_tls, has_second_of_a_kind, bad_segment, section_data, names, bad_section, no_sections, read}
-use Rattle.pl_elf.specs.Headers.{header, segment, section, segments, sections, is_load, is_moved_kind, is_of_kind, loads, count_of_kind}
+use Rattle.pl_elf.specs.Clauses.{passes, not_elf, other_class, other_machine, is_seen_dynamic, has_dynamic, other_kind, is_static_file, segment_passes, section_passes, truncated, bad_align, not_congruent, bad_load, ascend_from, load_windows, overlap_in_file, bad_tls, has_second_of_a_kind, bad_segment, names, bad_section, no_sections, read}
+use Rattle.pl_elf.specs.Headers.{header, segment, segments, sections, is_load, is_moved_kind, is_of_kind, loads, count_of_kind}
 use Rattle.pl_elf.specs.declared.constants.TheConstants.{ET_EXEC, ADDRESS_LIMIT, MAX_LOAD_ALIGN, MAX_SECTIONS, PT_DYNAMIC, PT_TLS, PT_INTERP}
 use Rattle.pl_elf.specs.declared.fault.HeaderFault.{HeaderFault}
 use Rattle.pl_elf.specs.declared.fault.HeaderFault.TheVariants.{NotElf, Class, Machine, Kind, Truncated, BadSegment, BadSection, NoSections}

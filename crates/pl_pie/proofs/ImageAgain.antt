@@ -177,29 +177,29 @@ same_through (Err d) (Err e) (Ok n) x y = absurd y
 same_through (Err d) (Err e) (Err f) x y = y ∙ x
 
 module _ (p : Object) (T : List Range) (os : List Object) (like : AllZip IsSameRange T p.tables) where
-  abbrev q : Object
-  q = record p { tables = T }
+  abbrev told : Object
+  told = record p { tables = T }
 
-  masked_same : (place a : ℕ) → is_masked (mask_at place q) a ≡ is_masked (mask_at place p) a
+  masked_same : (place a : ℕ) → is_masked (mask_at place told) a ≡ is_masked (mask_at place p) a
   unfolding is_masked
   masked_same place a = masked_is a (mask_at place p) T (λ k. all_have k T p.tables like)
 
-  shown_same : (place : ℕ) (file : List ℕ) (others : List Loaded) (gs : List Meaning) (a : ℕ) → shown_linked (loaded_at place file q ∷ others) gs a ≡ shown_linked (loaded_at place file p ∷ others) gs a
+  shown_same : (place : ℕ) (file : List ℕ) (others : List Loaded) (gs : List Meaning) (a : ℕ) → shown_linked (loaded_at place file told ∷ others) gs a ≡ shown_linked (loaded_at place file p ∷ others) gs a
   shown_same place file others gs a = rw (masked_same place a) refl
 
-  image_same : (parts : List (List ℕ)) (file : List ℕ) (places : List ℕ) (modules : List Module) → SameImage (ordinary (p ∷ os) (file ∷ parts) (0 ∷ places) modules) (ordinary (q ∷ os) (file ∷ parts) (0 ∷ places) modules)
+  image_same : (parts : List (List ℕ)) (file : List ℕ) (places : List ℕ) (modules : List Module) → SameImage (ordinary (p ∷ os) (file ∷ parts) (0 ∷ places) modules) (ordinary (told ∷ os) (file ∷ parts) (0 ∷ places) modules)
   unfolding ordinary loaded_from
   image_same parts file places modules =
-      subst (λ (r : Result (List Meaning) LinkFault). SameImage (meanings (p ∷ os) (0 ∷ places) modules >>= λ gs. Ok (shown_linked (loaded (0 ∷ places) (file ∷ parts) (p ∷ os)) gs)) (r >>= λ gs. Ok (shown_linked (loaded (0 ∷ places) (file ∷ parts) (q ∷ os)) gs)))
+      subst (λ (r : Result (List Meaning) LinkFault). SameImage (meanings (p ∷ os) (0 ∷ places) modules >>= λ gs. Ok (shown_linked (loaded (0 ∷ places) (file ∷ parts) (p ∷ os)) gs)) (r >>= λ gs. Ok (shown_linked (loaded (0 ∷ places) (file ∷ parts) (told ∷ os)) gs)))
       (sym (meanings_same p T os (0 ∷ places) modules)) (of_meanings (meanings (p ∷ os) (0 ∷ places) modules))
     where
       of_meanings : (r : Result (List Meaning) LinkFault)
-          → SameImage (r >>= λ gs. Ok (shown_linked (loaded (0 ∷ places) (file ∷ parts) (p ∷ os)) gs)) (r >>= λ gs. Ok (shown_linked (loaded (0 ∷ places) (file ∷ parts) (q ∷ os)) gs))
+          → SameImage (r >>= λ gs. Ok (shown_linked (loaded (0 ∷ places) (file ∷ parts) (p ∷ os)) gs)) (r >>= λ gs. Ok (shown_linked (loaded (0 ∷ places) (file ∷ parts) (told ∷ os)) gs))
       of_meanings (Err e) = refl
       of_meanings (Ok gs) = λ a. shown_same 0 file (loaded_from (0 ∷ places) (file ∷ parts) 1 os) gs a
 
   -- the same image with the object in the place of one with other link tables
   pub image_through : (before : Result Memory LinkFault) (parts : List (List ℕ)) (file : List ℕ) (places : List ℕ) (modules : List Module) → SameImage before (ordinary (p ∷ os) (file ∷ parts) (0 ∷ places) modules)
-      → SameImage before (ordinary (q ∷ os) (file ∷ parts) (0 ∷ places) modules)
+      → SameImage before (ordinary (told ∷ os) (file ∷ parts) (0 ∷ places) modules)
   image_through before parts file places modules same =
-      same_through before (ordinary (p ∷ os) (file ∷ parts) (0 ∷ places) modules) (ordinary (q ∷ os) (file ∷ parts) (0 ∷ places) modules) same (image_same parts file places modules)
+      same_through before (ordinary (p ∷ os) (file ∷ parts) (0 ∷ places) modules) (ordinary (told ∷ os) (file ∷ parts) (0 ∷ places) modules) same (image_same parts file places modules)

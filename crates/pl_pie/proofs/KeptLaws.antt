@@ -1,10 +1,10 @@
 -- A window that shares no byte with a word that moves keeps its bytes.
-use Rattle.std.proofs.Common.{◌≡◌, ℕ, zero, suc, ◌+◌, ◌-◌, ◌*◌, ◌/◌, ◌%◌, ◌^◌, ◌<◌, ◌≤◌, Bool, true, false, List, [], ◌∷◌, ◌++◌, length, map, get_or, refl, sym, ap, subst, ◌∙◌, arith, inl, inr}
-use Rattle.std.specs.Prelude.{◌⊎◌, ◌&&◌, ◌==◌, not, slice_index, if◌then◌else◌}
+use Rattle.std.proofs.Common.{◌≡◌, ℕ, ◌+◌, ◌-◌, ◌*◌, ◌/◌, ◌%◌, ◌^◌, ◌<◌, ◌≤◌, true, false, List, [], ◌∷◌, ◌++◌, length, map, refl, sym, ap, subst, ◌∙◌, arith, inl, inr}
+use Rattle.std.specs.Prelude.{◌==◌, not, slice_index, if◌then◌else◌}
 use Rattle.std.proofs.lemmas.Bool.{cases_Bool, cases_lt, or_from}
 use Rattle.std.proofs.Math.Nat.{mul-le-mul_left, mul-div-le}
 use Rattle.std.proofs.lemmas.Nat.{div-add-mod', mod_below}
-use Rattle.pl_base.specs.Bytes.{part, byte, word16, word32, word64}
+use Rattle.pl_base.specs.Bytes.{part, word64}
 use Rattle.pl_base.specs.Windows.{Window, within, holds, IsIn, AllIn, AreApart, IsApart}
 use Rattle.pl_base.proofs.WindowLaws.{holds_true, holds_false, holds_not, agree_same, agree_within, part_byte, part_part, length-part, AreAllApart, apart_turned}
 use Rattle.pl_dyn.specs.Kinds.{is_address_tag}
@@ -13,12 +13,12 @@ use Rattle.pl_elf.specs.declared.range.Range.{Range}
 use Rattle.pl_object.specs.Named.{window_of, dynamic_of, symbols_of, rela_of, jmprel_of, packed_of, symtabs_of}
 use Rattle.pl_object.specs.Tables.{header_window, segments_window}
 use Rattle.pl_object.specs.declared.object.Object.{Object}
-use Rattle.pl_move.specs.Moves.{add8, rows, row_size, word_at, moves, row_moved, table_window, table_windows, moved, all_moved}
+use Rattle.pl_move.specs.Moves.{add8, row_size, word_at, moves, row_moved, table_window, table_windows, moved, all_moved}
 use Rattle.pl_move.specs.Objects.{rows_of, symbol_rows, main_tables, tables_of}
 use Rattle.pl_move.specs.declared.kind.RowKind.{RowKind}
 use Rattle.pl_move.specs.declared.kind.RowKind.TheVariants.{Entry, SegmentAddress, PhysicalAddress, TagValue, SymbolValue, RelocationPlace, RelativeAddend, PackedAddress}
 use Rattle.pl_move.specs.declared.table.Table.{Table}
-use Rattle.pl_move.proofs.MoveLaws.{length-add8, agree_add8, length-row_moved, length-moved, moved_agrees}
+use Rattle.pl_move.proofs.MoveLaws.{agree_add8, length-row_moved, length-moved, moved_agrees}
 use Rattle.pl_pie.specs.Words.{word_window, row_start}
 use Rattle.pl_pie.proofs.ContentLaws.{within_moved, row_at, row_room}
 use Rattle.pl_pie.proofs.OwnLaws.{all_windows, entry_apart, rows_sub}
@@ -95,10 +95,14 @@ abbrev pub Clear : ℕ → List ℕ → Table → Type 0
 Clear j xs t = (i : ℕ) → i < t.count → moves t.kind (row_of t xs i) ≡ true → holds j (word_window (row_start t i + word_at t.kind)) ≡ false
 
 row_index : (s n d : ℕ) → 0 < s → d < s * n → (d / s < n) × (s * (d / s) + d % s ≡ d) × (d % s < s)
-row_index s n d some lt = (elim (cases_lt (d / s) n) [
-  | inl below ↦ below
-  | inr le ↦ absurd (omega (arith, lt, mul-le-mul_left {m = n} {n = d / s} s le, mul-div-le d s))
-], omega (arith, div-add-mod' d s), mod_below d s some)
+row_index s n d some lt = (
+  elim (cases_lt (d / s) n) [
+    | inl below ↦ below
+    | inr le ↦ absurd (omega (arith, lt, mul-le-mul_left {m = n} {n = d / s} s le, mul-div-le d s))
+  ],
+  omega (arith, div-add-mod' d s),
+  mod_below d s some,
+)
 
 shifted_out : (a k b : ℕ) → holds (a + k) (word_window (a + b)) ≡ false → holds k (word_window b) ≡ false
 shifted_out a k b out = elim (holds_false (a + k) (word_window (a + b)) out) [

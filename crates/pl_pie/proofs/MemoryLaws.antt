@@ -1,9 +1,9 @@
 -- Where the tables of a fixed program stand: at the same bytes of the file, or nowhere as before.
-use Rattle.std.proofs.Common.{◌≡◌, ℕ, zero, suc, ◌+◌, ◌-◌, ◌*◌, ◌/◌, ◌%◌, ◌^◌, ◌<◌, ◌≤◌, Bool, true, false, List, [], ◌∷◌, ◌++◌, length, map, get_or, Option, Some, None, refl, sym, ap, subst, ◌∙◌, arith, inl, inr}
-use Rattle.std.specs.Prelude.{◌⊎◌, ◌&&◌, ◌||◌, ◌==◌, not, find, filter, bit_and, is_some, min, nat_lt, if◌then◌else◌}
+use Rattle.std.proofs.Common.{◌≡◌, ℕ, ◌+◌, ◌^◌, ◌<◌, ◌≤◌, Bool, true, false, List, [], ◌∷◌, map, Option, Some, None, refl, sym, ap, subst, ◌∙◌, arith, inl, inr}
+use Rattle.std.specs.Prelude.{◌⊎◌, ◌==◌, find, bit_and, is_some}
 use Rattle.std.specs.List.{All}
 use Rattle.std.specs.Option.{option_map}
-use Rattle.std.proofs.lemmas.Bool.{cases_Bool, false≢true, eqb-true}
+use Rattle.std.proofs.lemmas.Bool.{cases_Bool, eqb-true}
 use Rattle.std.proofs.lemmas.Bool.Decides.{nat_tests}
 use Rattle.std.proofs.lemmas.List.Elements.{All-head, All-tail, All-nil, All-cons}
 use Rattle.pl_base.specs.Sums.{plus}
@@ -13,13 +13,13 @@ use Rattle.pl_dyn.specs.Kinds.{is_address_tag}
 use Rattle.pl_dyn.specs.declared.constants.TheConstants.{DT_SYMTAB}
 use Rattle.pl_dyn.specs.declared.tags.Tag.{Tag}
 use Rattle.pl_elf.specs.Clauses.{AreLoads}
-use Rattle.pl_elf.specs.Headers.{is_load, is_of_kind, is_moved_kind, loads, segment_of_kind}
-use Rattle.pl_elf.specs.declared.constants.TheConstants.{ADDRESS_LIMIT, PT_DYNAMIC, SHF_ALLOC, SHT_DYNSYM, SHT_NOBITS}
+use Rattle.pl_elf.specs.Headers.{is_of_kind, is_moved_kind, loads, segment_of_kind}
+use Rattle.pl_elf.specs.declared.constants.TheConstants.{ADDRESS_LIMIT, PT_DYNAMIC, SHF_ALLOC, SHT_DYNSYM}
 use Rattle.pl_elf.specs.declared.section.Section.{Section}
 use Rattle.pl_elf.specs.declared.segment.Segment.{Segment}
-use Rattle.pl_object.specs.FilePart.{nothing, loader, loaded_by, file_window, in_file_part, loaded}
+use Rattle.pl_object.specs.FilePart.{nothing, loader, loaded_by, file_window, in_file_part}
 use Rattle.pl_object.specs.Reads.{span}
-use Rattle.pl_object.specs.Tables.{has_tag, value, memory_of, dynamic_memory, tag_memory, symbols_memory, has_kind, section_size, is_allocated, begins_at, section_memory}
+use Rattle.pl_object.specs.Tables.{has_tag, value, memory_of, dynamic_memory, tag_memory, symbols_memory, has_kind, section_size, begins_at, section_memory}
 use Rattle.pl_object.proofs.SpanLaws.{Ends, span_ends}
 use Rattle.pl_elf.proofs.AcceptedLaws.{LoadFits, loads_fit}
 use Rattle.pl_fixed.specs.Fixed.{fixed_segment, fixed_section}

@@ -88,13 +88,22 @@ align_kept at ss = aligns_kept at 4096 ss
 abbrev last_from : Option Segment → List Segment → Option Segment
 last_from found ss = fold (λ f s. if is_load s then Some s else f) found ss
 
-last_moved : (at : ℕ) (found : Option Segment) (ss : List Segment) → last_from (option_map (fixed_segment at) found) (map (fixed_segment at) ss) ≡ option_map (fixed_segment at) (last_from found ss)
+load_kept : (at : ℕ) (s : Segment) → is_load (fixed_segment at s) ≡ is_load s
 unfolding fixed_segment
+load_kept at s = refl
+
+last_moved : (at : ℕ) (found : Option Segment) (ss : List Segment) → last_from (option_map (fixed_segment at) found) (map (fixed_segment at) ss) ≡ option_map (fixed_segment at) (last_from found ss)
 last_moved at found [] = refl
 last_moved at found (s ∷ ss) = elim (cases_Bool (is_load s)) [
-  | inl load ↦ rw load (last_moved at (Some s) ss)
-  | inr other ↦ rw other (last_moved at found ss)
+  | inl load ↦ of_test true load ∙ last_moved at (Some s) ss ∙ sym (of_old true load)
+  | inr other ↦ of_test false other ∙ last_moved at found ss ∙ sym (of_old false other)
 ]
+  where
+    of_test : (b : Bool) → is_load s ≡ b → last_from (option_map (fixed_segment at) found) (map (fixed_segment at) (s ∷ ss)) ≡ last_from (if b then Some (fixed_segment at s) else option_map (fixed_segment at) found) (map (fixed_segment at) ss)
+    of_test b is = ap (λ (c : Bool). last_from (if c then Some (fixed_segment at s) else option_map (fixed_segment at) found) (map (fixed_segment at) ss)) (load_kept at s ∙ is)
+
+    of_old : (b : Bool) → is_load s ≡ b → option_map (fixed_segment at) (last_from found (s ∷ ss)) ≡ option_map (fixed_segment at) (last_from (if b then Some s else found) ss)
+    of_old b is = ap (λ (c : Bool). option_map (fixed_segment at) (last_from (if c then Some s else found) ss)) is
 
 last_holds : (P : Segment → Type 0) (found : Option Segment) (ss : List Segment) → All (λ s. is_load s ≡ true → P s) ss → IfSome found P → IfSome (last_from found ss) P
 last_holds P found [] all before = before
@@ -135,7 +144,7 @@ span_moved at ss all whole some =
 
 -- an address that is a multiple of the alignment begins a page
 pub whole_pages : (p : List ℕ) (o : Object) (at : ℕ) → Accepted p o → at % o.align ≡ 0 → at % 4096 ≡ 0
-whole_pages p o at is aligned = remainder_kept 0 at 4096 o.align page_power (align_power p o is) (align_page p o is) aligned
+whole_pages p o at is aligned = let same = remainder_kept 0 at 4096 o.align page_power (align_power p o is) (align_page p o is) aligned in omega (arith, same)
 
 -- ---- the object
 
@@ -211,7 +220,7 @@ module _ (bytes : List ℕ) (o : Object) (at : ℕ) (is : IsAt bytes o at) (alig
       ∙ ap (λ (n : ℕ). made o.kind (fixed_entry at o.entry) o.tls o.symbolic (o.span + at) n) align_is
 
   -- what is made of the parts of the fixed file
-  pub object_again : Object
+  unfoldable pub object_again : Object
   object_again = object (headers_of (fixed at o)) (dynamic_of moved_tags (fixed at o)) (linking_of (fixed at o)) (layout_of moved_tags (fixed at o))
 
   old_tables : o.tables ≡ map range_of (link_windows o.header o.segments o.sections ts)

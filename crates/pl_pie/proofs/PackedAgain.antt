@@ -1,12 +1,11 @@
 -- The packed table of a fixed file names the program's places, moved.
-use Rattle.std.proofs.Common.{◌≡◌, ℕ, ◌+◌, ◌/◌, Bool, true, false, List, [], ◌∷◌, length, map, Result, Ok, refl, sym, ap, ◌∙◌, arith}
+use Rattle.std.proofs.Common.{◌≡◌, ℕ, ◌/◌, Bool, true, false, List, length, map, Result, Ok, refl, sym, ap, ◌∙◌}
 use Rattle.std.specs.Prelude.{◌||◌, not}
 use Rattle.std.specs.Result.{is_ok}
 use Rattle.std.proofs.lemmas.Bool.{or_parts, true≢false}
 use Rattle.pl_base.specs.Sums.{plus}
-use Rattle.pl_base.specs.Windows.{Window, within, IsIn}
+use Rattle.pl_base.specs.Windows.{Window, within}
 use Rattle.pl_base.proofs.WordLaws.{is_bytes_part}
-use Rattle.pl_elf.specs.declared.section.Section.{Section}
 use Rattle.pl_elf.specs.declared.segment.Segment.{Segment}
 use Rattle.pl_dyn.specs.declared.tags.Tag.{Tag}
 use Rattle.pl_relr.specs.Moved as relr
@@ -59,10 +58,10 @@ module _ (bytes : List ℕ) (o : Object) (at : ℕ) (is : IsAt bytes o at) where
   new_there = alike_within (file_window fixed_segments (relr_memory moved_tags)) (file_window ss (relr_memory ts)) file (packed_alike bytes o at is) ∙ ap (λ (w : Window). within w file) (sym named)
 
   table_moved : relr_table file fixed_segments moved_tags ≡ relr.moved at (relr_table p ss ts)
-  table_moved = new_there ∙ packed_read at p o is.pie.accepted is.other is.bytes ∙ ap (relr.moved at) (sym old_there)
+  table_moved = new_there ∙ packed_read at p o is.pie.accepted is.other is.are_bytes ∙ ap (relr.moved at) (sym old_there)
 
   same_length : length (relr_table file fixed_segments moved_tags) ≡ length (relr_table p ss ts)
-  same_length = ap length new_there ∙ packed_length at p o is.pie.accepted is.other is.bytes ∙ ap length (sym old_there)
+  same_length = ap length new_there ∙ packed_length at p o is.pie.accepted is.other is.are_bytes ∙ ap length (sym old_there)
 
   pub passed : ArePassed p o.header ss o.sections ts
   passed = tables_pass p o.header ss o.sections ts tt is.tables
@@ -79,7 +78,7 @@ module _ (bytes : List ℕ) (o : Object) (at : ℕ) (is : IsAt bytes o at) where
   unfolding loaded
   unpacked_again =
       ap (λ (n : ℕ). unpacked (relr_table file fixed_segments moved_tags) (n / 8)) (rebased_length at p o is.pie.accepted is.other)
-      ∙ unpacked_moved at (length p / 8) (relr_table p ss ts) (relr_table file fixed_segments moved_tags) is.even (is_bytes_part _ _ p is.bytes) table_moved same_length old_ok
+      ∙ unpacked_moved at (length p / 8) (relr_table p ss ts) (relr_table file fixed_segments moved_tags) is.even (is_bytes_part _ _ p is.are_bytes) table_moved same_length old_ok
 
   -- the places
   pub packed_again : packed_places file fixed_segments moved_tags ≡ map (λ place. plus place at) (packed_places p ss ts)

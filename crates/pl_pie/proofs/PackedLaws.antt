@@ -1,16 +1,16 @@
 -- The packed table of a fixed program names its places moved, and the word at each of them has the address.
-use Rattle.std.proofs.Common.{◌≡◌, ℕ, zero, suc, ◌+◌, ◌-◌, ◌*◌, ◌/◌, ◌%◌, ◌^◌, ◌<◌, ◌≤◌, Bool, true, false, List, [], ◌∷◌, ◌++◌, length, map, get_or, take, drop, Result, Ok, refl, sym, ap, subst, ◌∙◌, arith, inl, inr}
-use Rattle.std.specs.Prelude.{◌||◌, ◌==◌, not, nat_lt, if◌then◌else◌}
+use Rattle.std.proofs.Common.{◌≡◌, ℕ, zero, suc, ◌+◌, ◌*◌, ◌%◌, ◌<◌, ◌≤◌, Bool, true, false, List, [], ◌∷◌, ◌++◌, length, map, get_or, take, drop, Ok, refl, sym, ap, ◌∙◌, arith, inl, inr}
+use Rattle.std.specs.Prelude.{◌==◌, not, nat_lt}
 use Rattle.std.specs.Result.{is_ok}
 use Rattle.std.proofs.lemmas.Bool.{cases_Bool, or_parts, ltb-false, true≢false}
 use Rattle.std.proofs.lemmas.List.{length-drop, length-take-le, length-map, take-append-drop, drop_all, take_all, append-nil}
 use Rattle.pl_base.specs.Bytes.{IsBytes, part, put, word64, bytes64}
 use Rattle.pl_base.specs.Sums.{plus, is_aligned}
-use Rattle.pl_base.specs.Windows.{Window, within, IsIn, AllIn, AreApart, IsApart}
+use Rattle.pl_base.specs.Windows.{AllIn, AreApart, IsApart}
 use Rattle.pl_base.proofs.AnswerLaws.{refuse_none}
 use Rattle.pl_base.proofs.WindowLaws.{AreAllApart, apart_turned, agree_within}
-use Rattle.pl_base.proofs.WordLaws.{bytes64_word, word64_same, word64_put, length_bytes64, is_bytes_take, is_bytes_drop}
-use Rattle.pl_relr.specs.Entries.{entries, table_of, is_even}
+use Rattle.pl_base.proofs.WordLaws.{bytes64_word, word64_same, length_bytes64, is_bytes_take, is_bytes_drop}
+use Rattle.pl_relr.specs.Entries.{entries, table_of}
 use Rattle.pl_relr.specs.Moved as relr
 use Rattle.pl_relr.specs.Moved.{moved_entry}
 use Rattle.pl_relr.specs.Places.{places, begins_odd, unpacked}

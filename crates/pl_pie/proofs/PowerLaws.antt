@@ -1,9 +1,8 @@
 -- Of two powers of two the lesser divides the greater, so an address that is a multiple of an object's alignment is one of each segment's.
-use Rattle.std.proofs.Common.{◌≡◌, ℕ, zero, suc, ◌+◌, ◌-◌, ◌*◌, ◌/◌, ◌%◌, ◌<◌, ◌≤◌, Bool, true, false, refl, sym, ap, subst, ◌∙◌, arith, inl, inr}
-use Rattle.std.specs.Prelude.{◌==◌}
+use Rattle.std.proofs.Common.{◌≡◌, ℕ, zero, suc, ◌+◌, ◌*◌, ◌/◌, ◌%◌, ◌≤◌, true, sym, ap, ◌∙◌, arith, inl, inr}
 use Rattle.std.specs.Int.{is_power_of_two}
 use Rattle.std.specs.Int.Count.{ones_step}
-use Rattle.std.proofs.Math.Nat.{mul_assoc, mul-mod_right, add-mul-mod_self_left}
+use Rattle.std.proofs.Math.Nat.{mul_assoc, add-mul-mod_self_left}
 use Rattle.std.proofs.lemmas.Bool.{cases_lt, eqb-true}
 use Rattle.std.proofs.lemmas.Bool.Decides.{nat_tests}
 use Rattle.std.proofs.lemmas.Nat.{zero_from_ones, div-add-mod'}

@@ -1,12 +1,11 @@
 -- The symbols and the relocations of tables whose rows moved are those of the fixed program.
-use Rattle.std.proofs.Common.{◌≡◌, ℕ, zero, suc, ◌+◌, ◌-◌, ◌*◌, ◌/◌, ◌%◌, ◌^◌, ◌<◌, ◌≤◌, Bool, true, false, List, [], ◌∷◌, ◌++◌, length, map, Option, Some, None, Result, Ok, Err, refl, sym, ap, subst, ◌∙◌, arith, inl, inr}
-use Rattle.std.specs.Prelude.{◌==◌, slice_get, slice_index, if◌then◌else◌}
+use Rattle.std.proofs.Common.{◌≡◌, ℕ, zero, suc, ◌+◌, ◌*◌, ◌/◌, ◌%◌, ◌<◌, ◌≤◌, Bool, List, [], ◌∷◌, length, map, Option, Some, None, Result, Ok, refl, sym, ap, subst, ◌∙◌, arith, inl, inr}
+use Rattle.std.specs.Prelude.{◌==◌, slice_get, if◌then◌else◌}
 use Rattle.std.specs.List.{range_with_len}
 use Rattle.std.specs.Option.{option_map}
 use Rattle.std.proofs.lemmas.Bool.{cases_Bool}
 use Rattle.std.proofs.lemmas.Option.{slice_get-map}
-use Rattle.pl_base.specs.Answers.{◌>>=◌}
-use Rattle.pl_base.specs.Bytes.{IsBytes, part, byte, word16, word32, word64}
+use Rattle.pl_base.specs.Bytes.{IsBytes, part, word32, word64}
 use Rattle.pl_base.specs.Each.{each}
 use Rattle.pl_base.specs.Strings.{string_at}
 use Rattle.pl_base.proofs.AnswerLaws.{bind_ok, ok_same}
@@ -15,14 +14,12 @@ use Rattle.pl_base.proofs.WordLaws.{word16_part, word32_part, word64_part, is_by
 use Rattle.pl_sym.specs.Symbol.{is_tls, is_undefined, is_local, is_in_section}
 use Rattle.pl_sym.specs.Definers.{is_canonical}
 use Rattle.pl_sym.specs.Table.{named, symbol_at, symbol, symbols}
-use Rattle.pl_sym.specs.declared.fault.SymFault.{SymFault}
 use Rattle.pl_sym.specs.declared.symbol.Symbol.{Symbol}
 use Rattle.pl_ver.specs.declared.versions.Versions.{Versions}
 use Rattle.pl_move.specs.Moves.{row_moved}
 use Rattle.pl_move.specs.declared.kind.RowKind.TheVariants.{RelocationPlace, RelativeAddend}
 use Rattle.pl_object.specs.Names.{with_version, with_versions, versioned}
 use Rattle.pl_object.specs.Relocations.{size_of, width, reloc_at, reloc, relocs}
-use Rattle.pl_object.specs.declared.reloc.Reloc.{Reloc}
 use Rattle.pl_fixed.specs.Fixed.{moves, fixed_symbol, fixed_reloc}
 use Rattle.pl_fixed.proofs.LookupLaws.{size_kept}
 use Rattle.pl_pie.specs.Words.{passes, is_address}

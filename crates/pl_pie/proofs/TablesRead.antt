@@ -1,5 +1,5 @@
 -- The relocations, the packed table and the symbols that are read of a fixed file.
-use Rattle.std.proofs.Common.{◌≡◌, ℕ, ◌+◌, ◌*◌, ◌/◌, ◌%◌, ◌^◌, ◌<◌, ◌≤◌, Bool, true, false, List, length, map, Option, Some, Result, Ok, refl, sym, ap, subst, ◌∙◌, arith}
+use Rattle.std.proofs.Common.{◌≡◌, ℕ, ◌*◌, ◌/◌, ◌%◌, ◌<◌, Bool, false, List, length, map, Option, Ok, sym, ap, ◌∙◌, arith}
 use Rattle.std.specs.Prelude.{slice_get}
 use Rattle.pl_base.specs.Bytes.{IsBytes, part}
 use Rattle.pl_base.specs.Windows.{Window, within, IsIn}
@@ -22,7 +22,7 @@ use Rattle.pl_ver.specs.declared.versions.Versions.{Versions}
 use Rattle.pl_fixed.specs.Fixed.{fixed_symbol, fixed_reloc}
 use Rattle.pl_pie.specs.Words.{passes, is_address}
 use Rattle.pl_pie.proofs.InsideLaws.{symbols_size}
-use Rattle.pl_pie.proofs.ContentLaws.{row_at, row_room}
+use Rattle.pl_pie.proofs.ContentLaws.{row_at}
 use Rattle.pl_pie.proofs.OwnLaws.{are_sized}
 use Rattle.pl_pie.proofs.RebasedLaws.{rebased, rebased_length, rebased_rela, rebased_jmprel, rebased_packed, rebased_symbol}
 use Rattle.pl_pie.proofs.SymbolLaws.{relocs_moved, symbols_moved, versions_told}
@@ -49,10 +49,11 @@ module _ (at : ℕ) (p : List ℕ) (o : Object) (is : Accepted p o) (other : is_
       let mid : List ℕ = rows 24 (row_moved at RelocationPlace) n old in
       let len_mid : length mid ≡ length old = length-rows 24 (row_moved at RelocationPlace) n old (length-row_moved at RelocationPlace) (omega (arith, len, whole)) in
       relocs_moved at ss old (within v file) (same_size v inside) (is_bytes_part v.at v.size p bytes) (λ i lt.
-      let few : i < n = omega (arith, lt, len) in
-      (length-part (24 * i) 24 old (omega (arith, lt, len, whole)),
-      ap (part (24 * i) 24) turned ∙ row_at 24 (row_moved at RelativeAddend) n i mid (length-row_moved at RelativeAddend) (omega (arith, len, len_mid, whole)) few
-      ∙ ap (row_moved at RelativeAddend) (row_at 24 (row_moved at RelocationPlace) n i old (length-row_moved at RelocationPlace) (omega (arith, len, whole)) few)))
+      let few : i < n = omega (arith, lt, len) in (
+        length-part (24 * i) 24 old (omega (arith, lt, len, whole)),
+        ap (part (24 * i) 24) turned ∙ row_at 24 (row_moved at RelativeAddend) n i mid (length-row_moved at RelativeAddend) (omega (arith, len, len_mid, whole)) few
+            ∙ ap (row_moved at RelativeAddend) (row_at 24 (row_moved at RelocationPlace) n i old (length-row_moved at RelocationPlace) (omega (arith, len, whole)) few),
+      ))
 
   pub rela_read : (ss : List Symbol) → relocs (map (fixed_symbol at) ss) (within (rela_of o) file) ≡ map (fixed_reloc at) (relocs ss (within (rela_of o) p))
   rela_read ss = rows_of_relocs ss (rela_of o) (window_in p o (tags_of p o) _ (rela_of o) (is.tabled other) (is.tabled other).named.rela) (are_sized p o is other).rela (rebased_rela at p o is other)

@@ -1,5 +1,5 @@
 -- The tags of a table whose address tags moved: the table is read as it was, and the values of address tags moved.
-use Rattle.std.proofs.Common.{◌≡◌, ℕ, zero, suc, ◌+◌, ◌-◌, ◌*◌, ◌/◌, ◌%◌, ◌<◌, ◌≤◌, Bool, true, false, List, [], ◌∷◌, length, map, drop, Option, Some, None, Result, Ok, Err, refl, sym, ap, subst, ◌∙◌, arith, inl, inr}
+use Rattle.std.proofs.Common.{◌≡◌, ℕ, ◌-◌, Bool, true, false, List, [], ◌∷◌, length, map, drop, Option, Some, None, Result, Ok, refl, ap, ◌∙◌, inl, inr}
 use Rattle.std.specs.Prelude.{◌&&◌, ◌==◌, not, nat_lt, find, count_by, is_some, unwrap_or, if◌then◌else◌}
 use Rattle.std.specs.List.{list_all, position_or_len}
 use Rattle.std.specs.Option.{option_map}
@@ -83,7 +83,7 @@ unfound (Some a) fault next x e = absurd cc
 unfound None fault next x e = (refl, e)
 
 -- what is read of the table
-pub moved_dynamic : ℕ → Dynamic → Dynamic
+unfoldable pub moved_dynamic : ℕ → Dynamic → Dynamic
 moved_dynamic w d = record { tags = map (moved_tag w) d.tags; spare = d.spare }
 
 pub read_moved : (w : ℕ) (old new : List ℕ) (d : Dynamic) → length new ≡ length old → entries new ≡ map (moved_tag w) (entries old) → read old ≡ Ok d → read new ≡ Ok (moved_dynamic w d)

@@ -1,26 +1,24 @@
 -- The strings, the hash and version tables and the section names of a fixed file are those of the program.
-use Rattle.std.proofs.Common.{◌≡◌, ℕ, zero, suc, ◌+◌, ◌*◌, ◌%◌, ◌<◌, ◌≤◌, Bool, true, false, List, [], ◌∷◌, ◌++◌, length, get_or, refl, sym, ap, subst, ◌∙◌, arith, inl, inr}
-use Rattle.std.specs.Prelude.{◌||◌, ◌&&◌, not, slice_index}
+use Rattle.std.proofs.Common.{◌≡◌, ℕ, ◌+◌, ◌%◌, ◌<◌, Bool, true, false, List, [], ◌∷◌, length, get_or, refl, sym, subst, ◌∙◌, arith}
+use Rattle.std.specs.Prelude.{◌||◌, ◌&&◌, not}
 use Rattle.std.specs.List.{list_any, range_with_len}
-use Rattle.std.proofs.lemmas.Bool.{cases_Bool, true≢false, or_parts, or_from}
-use Rattle.std.proofs.lemmas.Bool.Decides.{nat_tests}
+use Rattle.std.proofs.lemmas.Bool.{true≢false, or_parts, or_from}
 use Rattle.std.proofs.lemmas.List.FromFn.{length-range_with_len, get_or-range_with_len}
 use Rattle.pl_base.specs.Bytes.{part}
-use Rattle.pl_base.specs.Windows.{Window, within, holds, share, IsIn, AllIn}
+use Rattle.pl_base.specs.Windows.{Window, within, holds, share, AllIn}
 use Rattle.pl_base.proofs.WindowLaws.{not_share, part_same}
-use Rattle.pl_elf.specs.Kinds.{is_static}
-use Rattle.pl_object.specs.Accepted.{Accepted, tags_of}
+use Rattle.pl_object.specs.Accepted.{tags_of}
 use Rattle.pl_object.specs.TableClauses.{meets}
 use Rattle.pl_object.specs.declared.object.Object.{Object}
 use Rattle.pl_value.proofs.LoneLaws.{none_at}
-use Rattle.pl_move.specs.Moves.{row_size, word_at, moves, table_windows, all_moved}
+use Rattle.pl_move.specs.Moves.{row_size, word_at, moves, all_moved}
 use Rattle.pl_move.specs.Objects.{tables_of, LieIn}
 use Rattle.pl_move.specs.declared.table.Table.{Table}
 use Rattle.pl_move.proofs.MoveLaws.{length-all_moved}
 use Rattle.pl_move.proofs.ObjectLaws.{tables_in}
 use Rattle.pl_pie.specs.Words.{word_window, type_window, row_start, row_meets, table_meets, tables_meet, others_meet, other_words}
 use Rattle.pl_pie.specs.Pie.{as_program, begins_low, has_loaded_symbols, loads_sections, kept_windows, writes_kept, is_laid_out}
-use Rattle.pl_pie.specs.Fix.{added, word_windows}
+use Rattle.pl_pie.specs.Fix.{word_windows}
 use Rattle.pl_pie.proofs.PieLaws.{IsPie, not_static, and_both, not_true}
 use Rattle.pl_pie.proofs.InsideLaws.{words_in}
 use Rattle.pl_pie.proofs.HiddenLaws.{apart_out, holds_in, added_out}
