@@ -297,10 +297,34 @@ module _ (bytes : List ℕ) (o : Object) (at : ℕ) (is : IsAt bytes o at) (some
 
     main_same : AllZip SameTable (main_tables x) (main_tables o)
     unfolding main_tables fixed fixed_header
-    main_same =
-        (entry_table, (inl refl, (inl refl, (rows_same TagValue _ _ dynamic_same, (rows_same SymbolValue _ _ symbols_same,
-        (rows_same RelocationPlace _ _ rela_same, (rows_same RelativeAddend _ _ rela_same, (rows_same RelocationPlace _ _ jmprel_same, (rows_same RelativeAddend _ _ jmprel_same,
-        (rows_same PackedAddress _ _ packed_same, tt))))))))))
+    main_same = (
+      entry_table,
+      (
+        inl refl,
+        (
+          inl refl,
+          (
+            rows_same TagValue _ _ dynamic_same,
+            (
+              rows_same SymbolValue _ _ symbols_same,
+              (
+                rows_same RelocationPlace _ _ rela_same,
+                (
+                  rows_same RelativeAddend _ _ rela_same,
+                  (
+                    rows_same RelocationPlace _ _ jmprel_same,
+                    (
+                      rows_same RelativeAddend _ _ jmprel_same,
+                      (rows_same PackedAddress _ _ packed_same, tt),
+                    ),
+                  ),
+                ),
+              ),
+            ),
+          ),
+        ),
+      ),
+    )
 
     tables_back : (xs : List ℕ) → all_back at (tables_of x) xs ≡ all_back at (tables_of o) xs
     unfolding tables_of

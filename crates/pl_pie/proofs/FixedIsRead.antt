@@ -73,7 +73,8 @@ pub fixed_is_read : FixedFileIsRead
 unfolding fixed_bytes
 fixed_is_read bytes o at b some fit =
     let f = is_fit o at fit in
-    let is : IsAt bytes o at = is_at bytes o at b some f.aligned f.ends in
-    (object_again bytes o at is f.aligned,
-    reads_again bytes o at some f.aligned f.ends is ∙ parts_again bytes o at is f.aligned,
-    is_fixed bytes o at is f.aligned)
+    let is : IsAt bytes o at = is_at bytes o at b some f.aligned f.ends in (
+      object_again bytes o at is f.aligned,
+      reads_again bytes o at some f.aligned f.ends is ∙ parts_again bytes o at is f.aligned,
+      is_fixed bytes o at is f.aligned,
+    )

@@ -85,8 +85,10 @@ any_misplaced : (at address : ℕ) (secs : List Section) → address < 2 ^ 64 �
     → list_any (is_misplaced (plus address at)) (map (fixed_section at) secs) ≡ list_any (is_misplaced address) secs
 any_misplaced at address [] low all loaded = refl
 any_misplaced at address (s ∷ secs) low all loaded =
-    rw (misplaced_kept at address s low (All-head (λ x. x.addr < 2 ^ 64) s secs all) (All-head (λ x. has_kind SHT_DYNSYM x ≡ true → is_allocated x ≡ true) s secs loaded),
-    any_misplaced at address secs low (All-tail (λ x. x.addr < 2 ^ 64) s secs all) (All-tail (λ x. has_kind SHT_DYNSYM x ≡ true → is_allocated x ≡ true) s secs loaded)) refl
+    rw (
+      misplaced_kept at address s low (All-head (λ x. x.addr < 2 ^ 64) s secs all) (All-head (λ x. has_kind SHT_DYNSYM x ≡ true → is_allocated x ≡ true) s secs loaded),
+      any_misplaced at address secs low (All-tail (λ x. x.addr < 2 ^ 64) s secs all) (All-tail (λ x. has_kind SHT_DYNSYM x ≡ true → is_allocated x ≡ true) s secs loaded),
+    ) refl
 
 any_begins : (at address : ℕ) (secs : List Section) → address < 2 ^ 64 → All (λ s. s.addr < 2 ^ 64) secs → list_any (begins_at (plus address at)) (map (fixed_section at) secs) ≡ list_any (begins_at address) secs
 any_begins at address [] low all = refl
@@ -190,15 +192,22 @@ module _ (bytes : List ℕ) (o : Object) (at : ℕ) (is : IsAt bytes o at) where
   dynsym_kept : other_dynsym moved_tags fixed_sections ≡ other_dynsym ts secs
   unfolding other_dynsym is_address_tag
   dynsym_kept =
-      rw (value_moves at DT_SYMTAB ts refl (is.pie.accepted.tabled is.other).whole.symbols,
-      count_kept (has_kind SHT_DYNSYM) (has_kind SHT_DYNSYM) (fixed_section at) secs (λ i d lt. section_kind_kept at SHT_DYNSYM _),
-      any_misplaced at (value DT_SYMTAB ts) secs (is.values DT_SYMTAB) is.addresses all_loaded) refl
+      rw (
+        value_moves at DT_SYMTAB ts refl (is.pie.accepted.tabled is.other).whole.symbols,
+        count_kept (has_kind SHT_DYNSYM) (has_kind SHT_DYNSYM) (fixed_section at) secs (λ i d lt. section_kind_kept at SHT_DYNSYM _),
+        any_misplaced at (value DT_SYMTAB ts) secs (is.values DT_SYMTAB) is.addresses all_loaded,
+      ) refl
 
   any_lost_kept : any_lost moved_tags fixed_sections ≡ any_lost ts secs
   unfolding any_lost is_address_tag
   any_lost_kept =
-      rw (lost_kept at DT_HASH ts secs refl (is.values DT_HASH) is.addresses, lost_kept at DT_GNU_HASH ts secs refl (is.values DT_GNU_HASH) is.addresses,
-      lost_kept at DT_VERSYM ts secs refl (is.values DT_VERSYM) is.addresses, lost_kept at DT_VERDEF ts secs refl (is.values DT_VERDEF) is.addresses, lost_kept at DT_VERNEED ts secs refl (is.values DT_VERNEED) is.addresses) refl
+      rw (
+        lost_kept at DT_HASH ts secs refl (is.values DT_HASH) is.addresses,
+        lost_kept at DT_GNU_HASH ts secs refl (is.values DT_GNU_HASH) is.addresses,
+        lost_kept at DT_VERSYM ts secs refl (is.values DT_VERSYM) is.addresses,
+        lost_kept at DT_VERDEF ts secs refl (is.values DT_VERDEF) is.addresses,
+        lost_kept at DT_VERNEED ts secs refl (is.values DT_VERNEED) is.addresses,
+      ) refl
 
   outside_kept : any_outside fixed_segments fixed_sections moved_tags ≡ any_outside ss secs ts
   unfolding any_outside
