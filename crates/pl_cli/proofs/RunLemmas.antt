@@ -22,14 +22,14 @@ use Rattle.pl_loader.specs.declared.object_file.ObjectFile.{ObjectFile}
 use Rattle.pl_cli.specs.declared.cause.Cause.{Cause}
 use Rattle.pl_cli.specs.declared.cause.Cause.TheVariants as causes
 use Rattle.pl_cli.specs.declared.command.Command.{Command}
-use Rattle.pl_cli.specs.declared.command.Command.TheVariants.{Load, All, Preview, UndoAll, Undo, Verify, Store, Remove, Print, Order}
+use Rattle.pl_cli.specs.declared.command.Command.TheVariants.{Load, All, Preview, UndoAll, Undo, Verify, Store, Remove, Print, Order, Demo}
 use Rattle.pl_cli.specs.declared.command.Detail.{Detail}
 use Rattle.pl_cli.specs.declared.status.Status.{Status}
 use Rattle.pl_cli.specs.declared.status.Status.TheVariants as statuses
 use Rattle.pl_cli.specs.declared.stop.Stop.{Stop}
 use Rattle.pl_cli.specs.declared.stop.Stop.TheVariants as stops
-use Rattle.pl_cli.specs.Answer.{Answer, IsTold, answer, compare_answer, compared, differs_text, done, load_answer, text_answer, refuses, usage}
-use Rattle.pl_cli.specs.Came.{Came, HasLoaded, HasOrdered, HasPreviewed, HasPrinted, HasVerified, Makes, as_is}
+use Rattle.pl_cli.specs.Answer.{Answer, IsTold, answer, compare_answer, compared, done, load_answer, text_answer, refuses, usage}
+use Rattle.pl_cli.specs.Came.{Came, HasDemo, HasLoaded, HasOrdered, HasPreviewed, HasPrinted, HasVerified, Makes, as_is}
 use Rattle.pl_cli.specs.Load.{choice, loaded_files}
 use Rattle.pl_cli.specs.Outside.{Consumes, most_read, outside}
 use Rattle.pl_cli.specs.Ran.{Finishes, Ran, Refuses, Writes}
@@ -65,6 +65,7 @@ module _ (input : Option (List ℕ)) {a b : Seen} where
   line_failed (Some (Verify name)) call = call
   line_failed (Some Print) call = call
   line_failed (Some (Order name detail)) call = call
+  line_failed (Some (Demo number)) call = call
   line_failed (Some (All asked detail)) call = writes_line_failed (λ bytes. prelinks asked) input call
   line_failed (Some (Preview asked detail)) call = call
   line_failed (Some UndoAll) call = writes_line_failed (λ bytes. undoes runs.UndoAll) input call
@@ -78,6 +79,7 @@ module _ (input : Option (List ℕ)) {a b : Seen} where
   line_lacked (Some (Verify name)) law call = looked_all call
   line_lacked (Some Print) law call = asked_all 1 call
   line_lacked (Some (Order name detail)) law call = asked_all _ call
+  line_lacked (Some (Demo number)) law call = asked_all 0 call
   line_lacked (Some (All asked detail)) law call = writes_line_lacked (λ bytes. prelinks asked) input law call
   line_lacked (Some (Preview asked detail)) law call = looked_all call
   line_lacked (Some UndoAll) law call = writes_line_lacked (λ bytes. undoes runs.UndoAll) input law call
@@ -91,6 +93,7 @@ module _ (input : Option (List ℕ)) {a b : Seen} where
   text_failed (Some (Verify name)) call = call
   text_failed (Some Print) call = call
   text_failed (Some (Order name detail)) call = call
+  text_failed (Some (Demo number)) call = call
   text_failed (Some (All asked detail)) call = writes_text_failed (λ bytes. prelinks asked) input call
   text_failed (Some (Preview asked detail)) call = call
   text_failed (Some UndoAll) call = writes_text_failed (λ bytes. undoes runs.UndoAll) input call
@@ -225,6 +228,13 @@ came_ordered name detail i (Err stops.Failed) found = record { gives = tt; ends 
 came_ordered name detail i (Err stops.InputFailed) found = absurd (true≢false found.reads)
 came_ordered name detail i (Err stops.NoMemory) found = record { gives = tt; ends = refl; calls = found.calls; input = untouched i }
 
+pub came_demo : (number : ℕ) (a : Seen) (i : Input) (r : Result (Vec ℕ Global) Stop) → HasDemo number r → Came (Some (Demo number)) as_is r a a i i
+came_demo number a i (Ok text) is = record { gives = λ told. ap done (sym is); ends = refl; calls = no_calls Done a refl refl refl; input = untouched i }
+came_demo number a i (Err (stops.Cause cause)) is = absurd is
+came_demo number a i (Err stops.Failed) is = absurd is
+came_demo number a i (Err stops.InputFailed) is = absurd is
+came_demo number a i (Err stops.NoMemory) is = record { gives = tt; ends = refl; calls = no_calls Undone a refl refl (0, omega arith, refl); input = untouched i }
+
 pub came_printed : (i : Input) {a b : Seen} (r : Result (Vec ℕ Global) Stop) → HasPrinted r a b → Came (Some Print) as_is r a b i i
 came_printed i (Ok text) found = record { gives = λ told. ap text_answer (found.means told.files); ends = refl; calls = found.calls; input = untouched i }
 came_printed i (Err (stops.Cause cause)) found = record { gives = λ told. ap text_answer (found.means told.files); ends = refl; calls = found.calls; input = untouched i }
@@ -316,6 +326,7 @@ lacks (Some (Load name busy policy)) input a = no_calls Undone a refl refl (0, o
 lacks (Some (Verify name)) input a = no_calls Undone a refl refl (no_look a.disk a.disk refl)
 lacks (Some Print) input a = no_calls Undone a refl refl (0, omega arith, refl)
 lacks (Some (Order name detail)) input a = no_calls Undone a refl refl (0, omega arith, refl)
+lacks (Some (Demo number)) input a = no_calls Undone a refl refl (0, omega arith, refl)
 lacks (Some (All asked detail)) input a = lacks_writing (λ bytes. prelinks asked) input a
 lacks (Some (Preview asked detail)) input a = no_calls Undone a refl refl (no_look a.disk a.disk refl)
 lacks (Some UndoAll) input a = lacks_writing (λ bytes. undoes runs.UndoAll) input a

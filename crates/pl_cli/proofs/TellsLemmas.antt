@@ -30,7 +30,6 @@ use Rattle.pl_cli.specs.declared.command.Content.TheVariants.{File, Recipe}
 use Rattle.pl_cli.specs.Reports.{previewed, report_text, reported}
 use Rattle.pl_cli.specs.Verified.{verifies}
 use Rattle.pl_cli.specs.Writes.{content, file_by, of_batch, prelinks, recipe_cause, removes, stores, undoes}
-use Rattle.pl_journal.specs.declared.change.Change.{Change}
 use Rattle.pl_batch.specs.All.{all_reported}
 use Rattle.pl_batch.specs.Verify.{verified}
 use Rattle.pl_batch.specs.Changes.{changes_of, removal_meant, run_meant}

@@ -11,9 +11,10 @@ use Rattle.pl_cli.specs.declared.status.Status.{Status}
 use Rattle.pl_cli.specs.declared.status.Status.TheVariants as statuses
 use Rattle.pl_cli.specs.declared.cause.Cause.{Cause}
 use Rattle.pl_cli.specs.declared.command.Command.{Command}
-use Rattle.pl_cli.specs.declared.command.Command.TheVariants.{Load, All, Preview, UndoAll, Undo, Verify, Store, Remove, Print, Order}
+use Rattle.pl_cli.specs.declared.command.Command.TheVariants.{Load, All, Preview, UndoAll, Undo, Verify, Store, Remove, Print, Order, Demo}
 use Rattle.pl_cli.specs.declared.command.Content.{Content}
 use Rattle.pl_cli.specs.declared.command.Content.TheVariants.{File, Recipe}
+use Rattle.pl_cli.specs.Demo.{demo_text}
 use Rattle.pl_cli.specs.Load.{loaded}
 use Rattle.pl_cli.specs.LoadText.{load_text}
 use Rattle.pl_cli.specs.Order.{ordered}
@@ -94,6 +95,7 @@ answer (Some (Remove name)) files input = write_answer (λ rows. removed_text na
 answer (Some (Verify name)) files input = compare_answer (verifies name files)
 answer (Some Print) files input = text_answer (printed files)
 answer (Some (Order name detail)) files input = text_answer (ordered detail files name)
+answer (Some (Demo number)) files input = done (demo_text number)
 
 -- all that an answer rests on is told: the folder's files, and what is read of the input
 pub record IsTold (asked : Option Command) (tells told : Bool) : Type 0 where

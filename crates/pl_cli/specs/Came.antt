@@ -17,7 +17,7 @@ use Rattle.pl_batch.specs.declared.run.Run.TheVariants as runs
 use Rattle.pl_cli.specs.declared.cause.Cause.{Cause}
 use Rattle.pl_cli.specs.declared.cause.Cause.TheVariants.{BadName}
 use Rattle.pl_cli.specs.declared.command.Command.{Command}
-use Rattle.pl_cli.specs.declared.command.Command.TheVariants.{Load, All, Preview, UndoAll, Undo, Verify, Store, Remove, Print, Order}
+use Rattle.pl_cli.specs.declared.command.Command.TheVariants.{Load, All, Preview, UndoAll, Undo, Verify, Store, Remove, Print, Order, Demo}
 use Rattle.pl_cli.specs.declared.command.Content.{Content}
 use Rattle.pl_cli.specs.declared.command.Detail.{Detail}
 use Rattle.pl_cli.specs.declared.named_object.NamedObject.{NamedObject}
@@ -25,6 +25,7 @@ use Rattle.pl_cli.specs.declared.status.Status.{Status}
 use Rattle.pl_cli.specs.declared.stop.Stop.{Stop}
 use Rattle.pl_cli.specs.declared.stop.Stop.TheVariants as stops
 use Rattle.pl_cli.specs.Answer.{Answer, IsTold, answer, done, refuses, removed_text, stored_text}
+use Rattle.pl_cli.specs.Demo.{demo_text}
 use Rattle.pl_cli.specs.Files.{file_in}
 use Rattle.pl_cli.specs.Looks.{takes}
 use Rattle.pl_cli.specs.Load.{loaded_files, loaded_object}
@@ -51,6 +52,7 @@ Makes (Some (Remove name)) files input status = WritesFolder (λ bytes. removes 
 Makes (Some (Verify name)) files input status = Looking
 Makes (Some Print) files input status = Asks 1
 Makes (Some (Order name detail)) files input status = Asks (takes (object_in files) name)
+Makes (Some (Demo number)) files input status = Asks 0
 
 -- ---- what is found in the folder
 
@@ -134,6 +136,16 @@ pub record HasStored (name : List ℕ) (kind : Content) (result : Result (Vec �
   pub calls : Calls (ending_of (status_of result)) (Written (stores name kind bytes) result) old new
   pub text : IfOk result (λ text. text.items ≡ stored_text kind name)
   pub input : Consumes (is_valid_name name) (most_bytes kind) (is_read_fault (status_of result)) left rest
+
+-- ---- what asks nothing of the outside
+
+-- the text of a set of files; there is none only for want of memory
+abbrev pub HasDemo : ℕ → Result (Vec ℕ Global) Stop → Type 0
+HasDemo number (Ok text) = text.items ≡ demo_text number
+HasDemo number (Err (stops.Cause cause)) = ⊥
+HasDemo number (Err stops.Failed) = ⊥
+HasDemo number (Err stops.InputFailed) = ⊥
+HasDemo number (Err stops.NoMemory) = ⊤
 
 -- ---- the whole
 

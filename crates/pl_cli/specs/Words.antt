@@ -9,7 +9,7 @@ use Rattle.pl_words.specs.declared.command.Command.TheVariants as word
 use Rattle.pl_words.specs.declared.fault.WordsFault.{WordsFault}
 use Rattle.pl_words.specs.declared.fault.WordsFault.TheVariants.{Usage, NoMemory}
 use Rattle.pl_cli.specs.declared.command.Command.{Command}
-use Rattle.pl_cli.specs.declared.command.Command.TheVariants.{Load, All, Preview, UndoAll, Undo, Verify, Store, Remove, Print, Order}
+use Rattle.pl_cli.specs.declared.command.Command.TheVariants.{Load, All, Preview, UndoAll, Undo, Verify, Store, Remove, Print, Order, Demo}
 use Rattle.pl_cli.specs.declared.command.Content.TheVariants.{File, Recipe}
 use Rattle.pl_cli.specs.declared.command.Detail.{Detail}
 use Rattle.pl_cli.specs.declared.command.Detail.TheVariants.{Short, Full}
@@ -37,6 +37,7 @@ there moment (word.Remove name) = Some (Remove name)
 there moment (word.Verify name) = Some (Verify name)
 there moment word.Print = Some Print
 there moment (word.Order name verbose) = Some (Order name (detail_of verbose))
+there moment (word.Demo number) = Some (Demo number)
 there moment _ = None
 
 abbrev pub if_read : ℕ → Result words.Command WordsFault → Option Command
@@ -67,6 +68,7 @@ asks_folder (Some (Remove name)) = true
 asks_folder (Some (Verify name)) = is_valid_name name
 asks_folder (Some Print) = true
 asks_folder (Some (Order name detail)) = is_valid_name name
+asks_folder (Some (Demo number)) = false
 
 -- whether the answer rests on the folder's files
 abbrev pub rests_on_files : Option Command → Bool
@@ -81,6 +83,7 @@ rests_on_files (Some (Remove name)) = is_valid_name name
 rests_on_files (Some (Verify name)) = is_valid_name name
 rests_on_files (Some Print) = true
 rests_on_files (Some (Order name detail)) = is_valid_name name
+rests_on_files (Some (Demo number)) = false
 
 abbrev pub reads_input : Option Command → Bool
 reads_input None = false
@@ -94,6 +97,7 @@ reads_input (Some (Remove name)) = false
 reads_input (Some (Verify name)) = false
 reads_input (Some Print) = false
 reads_input (Some (Order name detail)) = false
+reads_input (Some (Demo number)) = false
 
 -- the bytes of an input, where it tells them
 abbrev pub bytes_of : Option (List ℕ) → List ℕ

@@ -81,4 +81,9 @@ pub enum Command {
         name: Text,
         detail: Detail,
     },
+
+    /// To print what the set of files that a number draws comes to, prelinked and loaded in memory.
+    Demo {
+        number: u64,
+    },
 }

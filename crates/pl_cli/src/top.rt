@@ -18,6 +18,7 @@ use crate::Status;
 use crate::all::{prelink, preview};
 use crate::change::{remove, undo};
 use crate::command::Command;
+use crate::demo::demo;
 use crate::load::{load, start};
 use crate::order::order;
 use crate::print::print;
@@ -170,7 +171,7 @@ fn load_placed<D: Folder, K: Sink, F: Fn(&Holes, u64, u64) -> Option<u64>>(
 }
 
 /// Loads a program with its libraries where the policy says.
-fn load_and_write<D: Folder, K: Sink>(
+pub(crate) fn load_and_write<D: Folder, K: Sink>(
     alloc: Global,
     folder: &mut D,
     output: &mut K,
@@ -210,7 +211,7 @@ fn load_and_write<D: Folder, K: Sink>(
 ///
 /// `-a` without `-n`, `-u`, `--install`, `--make` and `--remove` write to the folder, and no other command does. Each recovers it first, and then makes all of its changes or none. After `Done` the only image of the folder is the one with the changes; after `Refused` and `ReadFault` the recovered one; after `WriteFault` the one or the other, as the answer has it. After `DiskFault` and `NoMemory` the folder stands for the files before, after `DiskFault` perhaps for those with all changes. An image that a crash on the way leaves stands for the files before or for those after; until the first settle that is done it may be one of the images at the start.
 ///
-/// Only `--install` and `--make` read the input. Words that are no command, and a name of another command that is not valid, ask neither folder nor input.
+/// Only `--install` and `--make` read the input. Words that are no command, `--demo`, and a name of another command that is not valid, ask neither folder nor input.
 ///
 /// `now` is the moment of the run in seconds since 1970: the stamps that `-a` gives are at least so great.
 pub fn run<D: Folder, S: Source, K: Sink>(
@@ -270,6 +271,10 @@ pub fn run<D: Folder, S: Source, K: Sink>(
         Ok(Command::Order { name, detail }) => {
             let ordered = order(alloc, folder, name.as_str(), detail);
             end_with(alloc, ordered, output)
+        }
+        Ok(Command::Demo { number }) => {
+            let made = demo(alloc, number);
+            end_with(alloc, made, output)
         }
         Err(WordsFault::Usage) => finish(output, USAGE, Status::Usage),
         Err(WordsFault::NoMemory) => Status::NoMemory,

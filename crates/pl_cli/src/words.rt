@@ -53,6 +53,7 @@ fn there(command: pl_words::Command, moment: u32) -> Option<Command>
             let detail = if verbose { Detail::Full } else { Detail::Short };
             Some(Command::Order { name, detail })
         }
+        pl_words::Command::Demo { number } => Some(Command::Demo { number }),
         _ => None,
     }
 }

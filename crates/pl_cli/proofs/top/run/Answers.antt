@@ -1,10 +1,10 @@
 use Rattle.std.proofs.Common.{◌≡◌, Option, Some, None, map, string_bytes, sym, subst, rules}
 use Rattle.pl_cli.specs.declared.command.Command.{Command}
-use Rattle.pl_cli.specs.declared.command.Command.TheVariants.{All, Load, Order, Preview, Print, Remove, Store, Undo, UndoAll, Verify}
+use Rattle.pl_cli.specs.declared.command.Command.TheVariants.{All, Demo, Load, Order, Preview, Print, Remove, Store, Undo, UndoAll, Verify}
 use Rattle.pl_cli.specs.Outside.{outside}
 use Rattle.pl_cli.specs.Ran.{Ran}
 use Rattle.pl_cli.specs.Words.{command}
-use Rattle.pl_cli.proofs.RunLemmas.{came_ordered, came_previewed, came_printed, ran_lacking, ran_usage}
+use Rattle.pl_cli.proofs.RunLemmas.{came_demo, came_ordered, came_previewed, came_printed, ran_lacking, ran_usage}
 use Rattle.pl_cli.proofs.WriteLemmas.{came_prelinked, came_removed, came_stored, came_undone, came_undone_all}
 use Rattle.pl_cli.proofs.top.run.Goals as goal
 
@@ -114,6 +114,17 @@ returns-in-Ok-Order-clause-ran g c =
     (sym is)
     (c.end_with-in-Ok-Order.ensures (Some (Order c.as_str-in-Ok-Order.result.now c.in-Ok-Order.detail)) (folder c.args.folder.now) (folder c.order-ordered.new.folder) (input c.args.input.now) (input c.args.input.now) (g.met.D.Folder.is_folder c.args.folder.now)
     (came_ordered c.as_str-in-Ok-Order.result.now c.in-Ok-Order.detail (input c.args.input.now) c.order-ordered.result c.order-ordered.ensures.ordered))
+
+pub returns-in-Ok-Demo-clause-ran : goal.returns-in-Ok-Demo-clause-ran
+returns-in-Ok-Demo-clause-ran g c =
+    let folder = g.D.Folder.seen in
+    let input = g.S.Source.seen in
+    let output = g.K.Sink.seen in
+    let is : command c.args.now (map string_bytes c.args.words.now) ≡ Some (Demo c.in-Ok-Demo.number) = search rules in
+    subst (λ (asked : Option Command). Ran asked (outside (folder c.args.folder.now) (input c.args.input.now) (output c.args.output.now)) (outside (folder c.args.folder.now) (input c.args.input.now) (output c.end_with-in-Ok-Demo.new.output)) c.end_with-in-Ok-Demo.result)
+    (sym is)
+    (c.end_with-in-Ok-Demo.ensures (Some (Demo c.in-Ok-Demo.number)) (folder c.args.folder.now) (folder c.args.folder.now) (input c.args.input.now) (input c.args.input.now) (g.met.D.Folder.is_folder c.args.folder.now)
+    (came_demo c.in-Ok-Demo.number (folder c.args.folder.now) (input c.args.input.now) c.demo-made.result c.demo-made.ensures))
 
 pub returns-in-Err-Usage-clause-ran : goal.returns-in-Err-Usage-clause-ran
 returns-in-Err-Usage-clause-ran g c =
