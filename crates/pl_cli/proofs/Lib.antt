@@ -10,6 +10,8 @@ pub mod LoadLemmas
 pub mod MemberLemmas
 pub mod OrderLemmas
 pub mod WriteLemmas
+pub mod FixLemmas
+pub mod GivenLemmas
 pub mod ContentLemmas
 pub mod DecimalLemmas
 pub mod PrintLemmas

@@ -22,7 +22,7 @@ use Rattle.pl_loader.specs.declared.object_file.ObjectFile.{ObjectFile}
 use Rattle.pl_cli.specs.declared.cause.Cause.{Cause}
 use Rattle.pl_cli.specs.declared.cause.Cause.TheVariants as causes
 use Rattle.pl_cli.specs.declared.command.Command.{Command}
-use Rattle.pl_cli.specs.declared.command.Command.TheVariants.{Load, All, Preview, UndoAll, Undo, Verify, Store, Remove, Print, Order, Demo}
+use Rattle.pl_cli.specs.declared.command.Command.TheVariants.{Load, All, Preview, UndoAll, Undo, Verify, Store, Remove, Fix, Unfix, Print, Order, Demo}
 use Rattle.pl_cli.specs.declared.command.Detail.{Detail}
 use Rattle.pl_cli.specs.declared.status.Status.{Status}
 use Rattle.pl_cli.specs.declared.status.Status.TheVariants as statuses
@@ -34,7 +34,7 @@ use Rattle.pl_cli.specs.Load.{choice, loaded_files}
 use Rattle.pl_cli.specs.Outside.{Consumes, most_read, outside}
 use Rattle.pl_cli.specs.Ran.{Finishes, Ran, Refuses, Writes}
 use Rattle.pl_cli.specs.Words.{bytes_of, reads_input}
-use Rattle.pl_cli.specs.Writes.{WritesFolder, prelinks, removes, stores, undoes}
+use Rattle.pl_cli.specs.Writes.{WritesFolder, fixes, loosens, prelinks, removes, stores, undoes}
 use Rattle.pl_cli.proofs.CallLemmas.{as_calls, asked_all, looked_all, no_calls}
 use Rattle.pl_cli.proofs.LoadLemmas.{loaded_is}
 use Rattle.pl_cli.proofs.WriteLemmas.{unread}
@@ -72,6 +72,8 @@ module _ (input : Option (List ℕ)) {a b : Seen} where
   line_failed (Some (Undo names)) call = writes_line_failed (λ bytes. undoes (runs.Undo names)) input call
   line_failed (Some (Store name kind)) call = writes_line_failed (stores name kind) input call
   line_failed (Some (Remove name)) call = writes_line_failed (λ bytes. removes name) input call
+  line_failed (Some (Fix name policy)) call = writes_line_failed (λ bytes. fixes policy name) input call
+  line_failed (Some (Unfix name)) call = writes_line_failed (λ bytes. loosens name) input call
 
   line_lacked : (asked : Option Command) → IsFolder a → Calls Done (Makes asked a.files input statuses.Refused) a b → Calls Undone (Makes asked a.files input statuses.NoMemory) a b
   line_lacked None law call = asked_all 0 call
@@ -86,6 +88,8 @@ module _ (input : Option (List ℕ)) {a b : Seen} where
   line_lacked (Some (Undo names)) law call = writes_line_lacked (λ bytes. undoes (runs.Undo names)) input law call
   line_lacked (Some (Store name kind)) law call = writes_line_lacked (stores name kind) input law call
   line_lacked (Some (Remove name)) law call = writes_line_lacked (λ bytes. removes name) input law call
+  line_lacked (Some (Fix name policy)) law call = writes_line_lacked (λ bytes. fixes policy name) input law call
+  line_lacked (Some (Unfix name)) law call = writes_line_lacked (λ bytes. loosens name) input law call
 
   text_failed : (asked : Option Command) → Calls Done (Makes asked a.files input statuses.Done) a b → Calls Done (Makes asked a.files input statuses.WriteFault) a b
   text_failed None call = call
@@ -100,6 +104,8 @@ module _ (input : Option (List ℕ)) {a b : Seen} where
   text_failed (Some (Undo names)) call = writes_text_failed (λ bytes. undoes (runs.Undo names)) input call
   text_failed (Some (Store name kind)) call = writes_text_failed (stores name kind) input call
   text_failed (Some (Remove name)) call = writes_text_failed (λ bytes. removes name) input call
+  text_failed (Some (Fix name policy)) call = writes_text_failed (λ bytes. fixes policy name) input call
+  text_failed (Some (Unfix name)) call = writes_text_failed (λ bytes. loosens name) input call
 
 quiet : (o p : Output) → p ≡ o → Counted false o.faults p.faults
 quiet o p same = subst (λ (q : Output). Counted false o.faults q.faults) (sym same) (record { later = omega arith; rose = λ e. cc; quiet = λ _. refl })
@@ -176,10 +182,10 @@ untouched : (i : Input) → Consumes false 0 false i i
 untouched i = record { untouched = λ _. refl; tells = refl; most = λ e _. cc; count = record { later = omega arith; rose = λ e. cc; quiet = λ _. refl } }
 
 -- a load that stopped
-unstarted : (name : List ℕ) (busy : Option Range) (policy : Policy) (a : Seen) (cause : Cause) → loaded_files a.files name ≡ Err cause → answer (Some (Load name busy policy)) a.files [] ≡ refuses cause
+unstarted : (name : List ℕ) (busy : Option Range) (policy : Policy) (a : Seen) (cause : Cause) → loaded_files policy a.files name ≡ Err cause → answer (Some (Load name busy policy)) a.files [] ≡ refuses cause
 unstarted name busy policy a cause is = ap load_answer (loaded_is policy busy a.files name ∙ ap (λ (r : Result (List ObjectFile) Cause). r >>= λ all. because causes.Load (started (choice policy) busy all)) is)
 
-pub unloaded : {F : Type 0} (name : List ℕ) (busy : Option Range) (policy : Policy) {a b : Seen} (i : Input) (stop : Stop) → HasLoaded {F = F} name (Err stop) a b → Came (Some (Load name busy policy)) as_is (Err stop) a b i i
+pub unloaded : {F : Type 0} (name : List ℕ) (busy : Option Range) (policy : Policy) {a b : Seen} (i : Input) (stop : Stop) → HasLoaded {F = F} policy name (Err stop) a b → Came (Some (Load name busy policy)) as_is (Err stop) a b i i
 unloaded name busy policy {a = a} i (stops.Cause cause) found = record { gives = λ told. unstarted name busy policy a cause (found.means told.files); ends = refl; calls = found.calls; input = untouched i }
 unloaded name busy policy i stops.Failed found = record { gives = tt; ends = found.fails refl; calls = found.calls; input = untouched i }
 unloaded name busy policy i stops.InputFailed found = absurd (true≢false found.reads)
@@ -194,7 +200,7 @@ loads_usage : (r : Result Start Cause) → (load_answer r).status ≡ statuses.U
 loads_usage (Ok start) is = cc
 loads_usage (Err cause) is = cc
 
-module _ {F : Type 0} (name : List ℕ) (busy : Option Range) (policy : Policy) {a b : Seen} (i : Input) (l : loading.Load F) (found : HasLoaded name (Ok l) a b) where
+module _ {F : Type 0} (name : List ℕ) (busy : Option Range) (policy : Policy) {a b : Seen} (i : Input) (l : loading.Load F) (found : HasLoaded policy name (Ok l) a b) where
   means : IsTold (Some (Load name busy policy)) a.tells (is_some i.left) → answer (Some (Load name busy policy)) a.files [] ≡ load_answer (because causes.Load (started (choice policy) busy l.walk.files))
   means told = ap load_answer (loaded_is policy busy a.files name ∙ ap (λ (r : Result (List ObjectFile) Cause). r >>= λ all. because causes.Load (started (choice policy) busy all)) (found.means told.files))
 
@@ -333,6 +339,8 @@ lacks (Some UndoAll) input a = lacks_writing (λ bytes. undoes runs.UndoAll) inp
 lacks (Some (Undo names)) input a = lacks_writing (λ bytes. undoes (runs.Undo names)) input a
 lacks (Some (Store name kind)) input a = lacks_writing (stores name kind) input a
 lacks (Some (Remove name)) input a = lacks_writing (λ bytes. removes name) input a
+lacks (Some (Fix name policy)) input a = lacks_writing (λ bytes. fixes policy name) input a
+lacks (Some (Unfix name)) input a = lacks_writing (λ bytes. loosens name) input a
 
 pub ran_lacking : (asked : Option Command) (a : Seen) (i : Input) (o : Output) → Ran asked (outside a i o) (outside a i o) statuses.NoMemory
 ran_lacking asked a i o = record { ends = refl; prints = refl; folder = lacks asked i.left a; input = unread (reads_input asked) (most_read asked) i; output = quiet o o refl }

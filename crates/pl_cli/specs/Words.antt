@@ -9,7 +9,7 @@ use Rattle.pl_words.specs.declared.command.Command.TheVariants as word
 use Rattle.pl_words.specs.declared.fault.WordsFault.{WordsFault}
 use Rattle.pl_words.specs.declared.fault.WordsFault.TheVariants.{Usage, NoMemory}
 use Rattle.pl_cli.specs.declared.command.Command.{Command}
-use Rattle.pl_cli.specs.declared.command.Command.TheVariants.{Load, All, Preview, UndoAll, Undo, Verify, Store, Remove, Print, Order, Demo}
+use Rattle.pl_cli.specs.declared.command.Command.TheVariants.{Load, All, Preview, UndoAll, Undo, Verify, Store, Remove, Fix, Unfix, Print, Order, Demo}
 use Rattle.pl_cli.specs.declared.command.Content.TheVariants.{File, Recipe}
 use Rattle.pl_cli.specs.declared.command.Detail.{Detail}
 use Rattle.pl_cli.specs.declared.command.Detail.TheVariants.{Short, Full}
@@ -34,6 +34,8 @@ there moment (word.Undo names) = Some (Undo names)
 there moment (word.Install name) = Some (Store name File)
 there moment (word.Make name) = Some (Store name Recipe)
 there moment (word.Remove name) = Some (Remove name)
+there moment (word.Fix name policy) = Some (Fix name policy)
+there moment (word.Unfix name) = Some (Unfix name)
 there moment (word.Verify name) = Some (Verify name)
 there moment word.Print = Some Print
 there moment (word.Order name verbose) = Some (Order name (detail_of verbose))
@@ -65,6 +67,8 @@ asks_folder (Some UndoAll) = true
 asks_folder (Some (Undo names)) = true
 asks_folder (Some (Store name kind)) = true
 asks_folder (Some (Remove name)) = true
+asks_folder (Some (Fix name policy)) = true
+asks_folder (Some (Unfix name)) = true
 asks_folder (Some (Verify name)) = is_valid_name name
 asks_folder (Some Print) = true
 asks_folder (Some (Order name detail)) = is_valid_name name
@@ -80,6 +84,8 @@ rests_on_files (Some UndoAll) = true
 rests_on_files (Some (Undo names)) = true
 rests_on_files (Some (Store name kind)) = is_valid_name name
 rests_on_files (Some (Remove name)) = is_valid_name name
+rests_on_files (Some (Fix name policy)) = is_valid_name name
+rests_on_files (Some (Unfix name)) = is_valid_name name
 rests_on_files (Some (Verify name)) = is_valid_name name
 rests_on_files (Some Print) = true
 rests_on_files (Some (Order name detail)) = is_valid_name name
@@ -94,6 +100,8 @@ reads_input (Some UndoAll) = false
 reads_input (Some (Undo names)) = false
 reads_input (Some (Store name kind)) = is_valid_name name
 reads_input (Some (Remove name)) = false
+reads_input (Some (Fix name policy)) = false
+reads_input (Some (Unfix name)) = false
 reads_input (Some (Verify name)) = false
 reads_input (Some Print) = false
 reads_input (Some (Order name detail)) = false

@@ -4,8 +4,12 @@
 mod all;
 mod cause;
 mod change;
+mod chosen;
 mod command;
 mod demo;
+mod fix;
+mod fixed;
+mod given;
 mod head;
 mod laws;
 mod load;
@@ -29,6 +33,6 @@ mod words;
 mod write;
 mod write_stop;
 
-pub use laws::{causes_tell, reports_tell};
+pub use laws::{causes_tell, replacements_tell, reports_tell};
 pub use status::Status;
 pub use top::run;

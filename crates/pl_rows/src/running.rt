@@ -116,7 +116,7 @@ pub fn check(
 }
 
 // Words that are no command, or none that is there: no call of the folder is made.
-const USAGE: [&[&str]; 13] = [
+const USAGE: [&[&str]; 15] = [
     &[],
     &["--load"],
     &["--load", "st", "st"],
@@ -130,6 +130,8 @@ const USAGE: [&[&str]; 13] = [
     &["--load", "p", "--busy", "0-1"],
     &["--weave"],
     &["--order"],
+    &["--fix"],
+    &["--unfix", "p", "--policy", "lowest"],
 ];
 
 #[test]
