@@ -6,6 +6,7 @@ pub mod Commands
 pub mod Folder
 pub mod All
 pub mod Changes
+pub mod Replace
 pub mod Starts
 pub mod Restored
 pub mod Lent

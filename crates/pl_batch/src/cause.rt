@@ -60,6 +60,15 @@ pub enum Cause {
 
     /// A walk has too many names, of which this is the first.
     TooMany(Text),
+
+    /// The original of the file of this name is no position-independent program.
+    NotPie(Text),
+
+    /// No address of the region of position-independent programs holds the program of this name.
+    NoPlace(Text),
+
+    /// The original of the file of this name is no fixed program.
+    NotFixed(Text),
 }
 
 impl fmt::Debug for Cause {
@@ -78,6 +87,9 @@ impl fmt::Debug for Cause {
             Cause::Refused { name, .. } => ("Refused", name.as_str()),
             Cause::NeededIsProgram(name) => ("NeededIsProgram", name.as_str()),
             Cause::TooMany(name) => ("TooMany", name.as_str()),
+            Cause::NotPie(name) => ("NotPie", name.as_str()),
+            Cause::NoPlace(name) => ("NoPlace", name.as_str()),
+            Cause::NotFixed(name) => ("NotFixed", name.as_str()),
         };
         f.write_str(cause)?;
         f.write_str(" ")?;

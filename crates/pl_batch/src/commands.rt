@@ -3,19 +3,23 @@ ghost use Rattle.std.specs.Fn.{FnOnceReturnsAt};
 ghost use Rattle.std.specs.Prelude.{IfOk, Ok, OnOk};
 ghost use Rattle.pl_folder.specs.Calls.{Calls};
 ghost use Rattle.pl_journal.specs.Parts.{IsRested};
+ghost use Rattle.pl_place.specs.Policy as policy;
 ghost use Rattle.pl_batch.specs.All.{Reports};
 ghost use Rattle.pl_batch.specs.Answers.{ending};
 ghost use Rattle.pl_batch.specs.Changes.{IsRun, ready_by, removal_meant, run_meant};
 ghost use Rattle.pl_batch.specs.Commands.{Commands, Counts, outcome, ready_for};
+ghost use Rattle.pl_batch.specs.Replace.{TellsAddress, fixing_meant, loosening_meant};
 ghost use Rattle.pl_batch.specs.Starts.{Named, Starts};
 ghost use Rattle.pl_batch.specs.declared.run.Run.TheVariants as runs;
 
 use crate::all::all_fitting;
 use crate::changes::{changes_of, removal_of};
+use crate::fixing::{fix_changes, unfix_changes};
 use crate::starting::{start, start_for};
 use crate::{BatchFault, Prelinking, Run};
 use pl_folder::Folder;
 use pl_journal::carry_out;
+use pl_place::{Holes, Placer};
 use pl_rewrite::Report;
 use pl_stage::Held;
 use std::alloc::{AllocError, Global};
@@ -85,6 +89,45 @@ pub(crate) fn remove_held<D: Folder>(
 {
     start_for(held, alloc, name)?;
     let rows = removal_of(alloc, &mut held.folder, name)?;
+    carry_out(held, alloc, rows.as_slice())?;
+    Ok(())
+}
+
+/// `fix_file`, over a folder that is held.
+pub(crate) fn fix_held<D: Folder, F: Fn(&Holes, u64, u64) -> Option<u64>>(
+    held: &mut Held<D>,
+    alloc: Global,
+    name: &str,
+    placer: &Placer<F>,
+) -> Result<u64, BatchFault>
+    requires may { policy.MayChoose (F.pre placer.now) }
+    requires chooses { policy.Chooses (F.post placer.now) }
+    ensures calls { (choose : policy.Choice) → policy.Follows (F.post placer.now) choose →
+        Calls (ending result) (Commands (fixing_meant choose name.now) (outcome result))
+        (D.seen held.old.folder) (D.seen held.new.folder) }
+    ensures named { Named name.now result }
+    ensures told { IfOk result (λ address. (choose : policy.Choice) →
+        policy.Follows (F.post placer.now) choose →
+        TellsAddress choose name.now address (D.seen held.old.folder)) }
+{
+    start_for(held, alloc, name)?;
+    let made = fix_changes(alloc, &mut held.folder, name, placer)?;
+    carry_out(held, alloc, made.rows.as_slice())?;
+    Ok(made.address)
+}
+
+/// `unfix_file`, over a folder that is held.
+pub(crate) fn unfix_held<D: Folder>(
+    held: &mut Held<D>,
+    alloc: Global,
+    name: &str,
+) -> Result<(), BatchFault>
+    ensures calls { Calls (ending result) (Commands (loosening_meant name.now) (outcome result))
+        (D.seen held.old.folder) (D.seen held.new.folder) }
+    ensures named { Named name.now result }
+{
+    start_for(held, alloc, name)?;
+    let rows = unfix_changes(alloc, &mut held.folder, name)?;
     carry_out(held, alloc, rows.as_slice())?;
     Ok(())
 }

@@ -33,7 +33,7 @@ fn copy_of(alloc: Global, bytes: &[u8]) -> Result<Rows<u8>, AllocError>
 }
 
 /// The bytes that are stored of a file: of a prelinked one its original.
-fn stored_as(alloc: Global, name: &str, bytes: &[u8]) -> Result<Rows<u8>, BatchFault>
+pub(crate) fn stored_as(alloc: Global, name: &str, bytes: &[u8]) -> Result<Rows<u8>, BatchFault>
     requires { length bytes.now < 2 ^ 32 }
     ensures { MeansAlone (spec.stored_as name.now bytes.now (file_in bytes.now)) result }
 {
@@ -90,7 +90,7 @@ fn drop_row(alloc: Global, name: &str) -> Result<Rows<Change>, AllocError>
 }
 
 /// The row of a name that gets these bytes, where it has not.
-fn put<D: Folder>(
+pub(crate) fn put<D: Folder>(
     alloc: Global,
     folder: &mut D,
     name: &str,

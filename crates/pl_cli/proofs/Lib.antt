@@ -10,8 +10,11 @@ pub mod LoadLemmas
 pub mod MemberLemmas
 pub mod OrderLemmas
 pub mod WriteLemmas
+pub mod FixLemmas
+pub mod GivenLemmas
 pub mod ContentLemmas
 pub mod DecimalLemmas
 pub mod PrintLemmas
 pub mod RunLemmas
 pub mod TellsLemmas
+pub mod DemoLemmas

@@ -26,9 +26,9 @@ use Rattle.pl_cli.specs.declared.cause.Cause.{Cause}
 use Rattle.pl_cli.specs.declared.cause.Cause.TheVariants as causes
 use Rattle.pl_cli.specs.declared.stop.Stop.{Stop}
 use Rattle.pl_cli.specs.declared.stop.Stop.TheVariants as stops
-use Rattle.pl_cli.specs.Came.{HasLoaded, HasTaken}
+use Rattle.pl_cli.specs.Came.{HasGiven, HasLoaded}
 use Rattle.pl_cli.specs.Files.{file_in}
-use Rattle.pl_cli.specs.Load.{choice, loaded, loaded_files, loaded_object}
+use Rattle.pl_cli.specs.Load.{choice, given_file, loaded, loaded_files, loaded_object, loading_file}
 use Rattle.pl_cli.specs.Looks.{stepped, takes}
 use Rattle.pl_cli.specs.Stops.{of_load_fault}
 use Rattle.pl_cli.proofs.CallLemmas.{asked_all}
@@ -50,10 +50,10 @@ of_files (Ok f) step make same = of_walked (make f) (same f) (step f.object)
 of_files (Err e) step make same = refl
 
 module _ (l : Loading) (n bytes : List ℕ) where
-  step_is : (files : Files) (name : List ℕ) → wants l.order ≡ Some n → l.name ≡ name → file_in files n ≡ Ok bytes → stepped (loaded_object files name) l.order n ≡ because causes.Load (give l (Some bytes) >>= λ m. Ok m.order)
+  step_is : (policy : Policy) (files : Files) (name : List ℕ) → wants l.order ≡ Some n → l.name ≡ name → loading_file policy files name n ≡ Ok bytes → stepped (loaded_object policy files name) l.order n ≡ because causes.Load (give l (Some bytes) >>= λ m. Ok m.order)
   unfolding taken entered file_of
-  step_is files name is named there =
-      let looked : stepped (loaded_object files name) l.order n ≡ ((because causes.Load (read_in name n bytes) >>= λ f. Ok f.object) >>= λ o. because (walk_fault causes.Load) (walk.entered l.order n o)) =
+  step_is policy files name is named there =
+      let looked : stepped (loaded_object policy files name) l.order n ≡ ((because causes.Load (read_in name n bytes) >>= λ f. Ok f.object) >>= λ o. because (walk_fault causes.Load) (walk.entered l.order n o)) =
       ap (λ (r : Result (List ℕ) Cause). ((r >>= λ b. because causes.Load (read_in name n b)) >>= λ f. Ok f.object) >>= λ o. because (walk_fault causes.Load) (walk.entered l.order n o)) there in
       let same : (read_in name n bytes >>= λ f. because of_walk (walk.entered l.order n f.object) >>= λ order. Ok (with_file l order f)) ≡ give l (Some bytes) =
       ap (λ (m : List ℕ). read_in m n bytes >>= λ f. because of_walk (walk.entered l.order n f.object) >>= λ order. Ok (with_file l order f)) (sym named)
@@ -61,13 +61,13 @@ module _ (l : Loading) (n bytes : List ℕ) where
       ∙ ap (λ (wanted : Option (List ℕ)). of_wanted l (Some bytes) wanted) (sym is) in
       looked ∙ of_files (read_in name n bytes) (walk.entered l.order n) (λ f order. with_file l order f) (λ f order. refl) ∙ ap (λ (r : Result Loading LoadFault). because causes.Load (r >>= λ m. Ok m.order)) same
 
-  pub step_goes_on : (files : Files) (name : List ℕ) (m : Loading) → wants l.order ≡ Some n → l.name ≡ name → file_in files n ≡ Ok bytes → give l (Some bytes) ≡ Ok m → stepped (loaded_object files name) l.order n ≡ Ok m.order
-  step_goes_on files name m is named there went =
-      step_is files name is named there ∙ ap (λ (r : Result Loading LoadFault). because causes.Load (r >>= λ k. Ok k.order)) went
+  pub step_goes_on : (policy : Policy) (files : Files) (name : List ℕ) (m : Loading) → wants l.order ≡ Some n → l.name ≡ name → loading_file policy files name n ≡ Ok bytes → give l (Some bytes) ≡ Ok m → stepped (loaded_object policy files name) l.order n ≡ Ok m.order
+  step_goes_on policy files name m is named there went =
+      step_is policy files name is named there ∙ ap (λ (r : Result Loading LoadFault). because causes.Load (r >>= λ k. Ok k.order)) went
 
-  pub step_stops : (files : Files) (name : List ℕ) (f : LoadFault) → wants l.order ≡ Some n → l.name ≡ name → file_in files n ≡ Ok bytes → give l (Some bytes) ≡ Err f → stepped (loaded_object files name) l.order n ≡ Err (causes.Load f)
-  step_stops files name f is named there stopped =
-      step_is files name is named there ∙ ap (λ (r : Result Loading LoadFault). because causes.Load (r >>= λ k. Ok k.order)) stopped
+  pub step_stops : (policy : Policy) (files : Files) (name : List ℕ) (f : LoadFault) → wants l.order ≡ Some n → l.name ≡ name → loading_file policy files name n ≡ Ok bytes → give l (Some bytes) ≡ Err f → stepped (loaded_object policy files name) l.order n ≡ Err (causes.Load f)
+  step_stops policy files name f is named there stopped =
+      step_is policy files name is named there ∙ ap (λ (r : Result Loading LoadFault). because causes.Load (r >>= λ k. Ok k.order)) stopped
 
 -- ---- the start is what the files of the walk start from
 
@@ -75,65 +75,69 @@ then_unless : {X Y : Type 0} (test : Bool) (fault : Cause) (r : Result X Cause) 
 then_unless true fault r f = refl
 then_unless false fault r f = refl
 
-pub loaded_is : (policy : Policy) (busy : Option Range) (fs : Files) (name : List ℕ) → loaded policy busy fs name ≡ (loaded_files fs name >>= λ all. because causes.Load (start.started (choice policy) busy all))
+pub loaded_is : (policy : Policy) (busy : Option Range) (fs : Files) (name : List ℕ) → loaded policy busy fs name ≡ (loaded_files policy fs name >>= λ all. because causes.Load (start.started (choice policy) busy all))
 unfolding loaded loaded_files start.load
-loaded_is policy busy fs name = then_unless (not (is_valid_name name)) causes.BadName (files causes.Load (file_in fs) name) (λ all. because causes.Load (start.started (choice policy) busy all))
+loaded_is policy busy fs name = then_unless (not (is_valid_name name)) causes.BadName (files causes.Load (loading_file policy fs name) name) (λ all. because causes.Load (start.started (choice policy) busy all))
 
 -- ---- the files of the walk
 
-lacks_object : (fs : Files) (name n : List ℕ) (cause : Cause) → file_in fs n ≡ Err cause → loaded_object fs name n ≡ Err cause
-unfolding file_of
-lacks_object fs name n cause lacks = ap (λ (r : Result (List ℕ) Cause). (r >>= λ bytes. because causes.Load (read_in name n bytes)) >>= λ f. Ok f.object) lacks
+pub lacks_file : (policy : Policy) (fs : Files) (name n : List ℕ) (cause : Cause) → file_in fs n ≡ Err cause → loading_file policy fs name n ≡ Err cause
+unfolding loading_file
+lacks_file policy fs name n cause lacks = ap (λ (r : Result (List ℕ) Cause). r >>= given_file policy name n) lacks
 
-module _ (a : Seen) (name : List ℕ) where
+lacks_object : (policy : Policy) (fs : Files) (name n : List ℕ) (cause : Cause) → loading_file policy fs name n ≡ Err cause → loaded_object policy fs name n ≡ Err cause
+unfolding file_of
+lacks_object policy fs name n cause lacks = ap (λ (r : Result (List ℕ) Cause). (r >>= λ bytes. because causes.Load (read_in name n bytes)) >>= λ f. Ok f.object) lacks
+
+module _ (policy : Policy) (a : Seen) (name : List ℕ) where
   -- of a name that is not valid
-  pub bad_name : {F : Type 0} → is_valid_name name ≡ false → HasLoaded {F = F} name (Err (stops.Cause causes.BadName)) a a
+  pub bad_name : {F : Type 0} → is_valid_name name ≡ false → HasLoaded {F = F} policy name (Err (stops.Cause causes.BadName)) a a
   unfolding loaded_files
   bad_name invalid =
-      refused_name (loaded_object a.files name) name (loaded_files a.files name) (λ l. l.walk.files) a (causes.Load (NotThere name)) invalid (lacks_object a.files name name (causes.Load (NotThere name)) (invalid_file a.files name invalid))
-      (ap (λ (b : Bool). unless (not b) causes.BadName (files causes.Load (file_in a.files) name)) invalid)
+      refused_name (loaded_object policy a.files name) name (loaded_files policy a.files name) (λ l. l.walk.files) a (causes.Load (NotThere name)) invalid (lacks_object policy a.files name name (causes.Load (NotThere name)) (lacks_file policy a.files name name (causes.Load (NotThere name)) (invalid_file a.files name invalid)))
+      (ap (λ (b : Bool). unless (not b) causes.BadName (files causes.Load (loading_file policy a.files name) name)) invalid)
 
-  pub not_begun_load : {F : Type 0} → HasLoaded {F = F} name (Err stops.NoMemory) a a
-  not_begun_load = not_begun (loaded_object a.files name) name (loaded_files a.files name) (λ l. l.walk.files) a
+  pub not_begun_load : {F : Type 0} → HasLoaded {F = F} policy name (Err stops.NoMemory) a a
+  not_begun_load = not_begun (loaded_object policy a.files name) name (loaded_files policy a.files name) (λ l. l.walk.files) a
 
-module _ (a : Seen) (name : List ℕ) (valid : is_valid_name name ≡ true) where
-  valid_files : loaded_files a.files name ≡ files causes.Load (file_in a.files) name
+module _ (policy : Policy) (a : Seen) (name : List ℕ) (valid : is_valid_name name ≡ true) where
+  valid_files : loaded_files policy a.files name ≡ files causes.Load (loading_file policy a.files name) name
   unfolding loaded_files
-  valid_files = ap (λ (b : Bool). unless (not b) causes.BadName (files causes.Load (file_in a.files) name)) valid
+  valid_files = ap (λ (b : Bool). unless (not b) causes.BadName (files causes.Load (loading_file policy a.files name) name)) valid
 
   -- all files were given
-  pub loaded_ends : (l : Loading) → wants l.order ≡ None → IsUnderWay causes.Load (file_in a.files) name l → loaded_files a.files name ≡ Ok l.files
-  loaded_ends l is way = valid_files ∙ load_ends causes.Load (file_in a.files) name l is way
+  pub loaded_ends : (l : Loading) → wants l.order ≡ None → IsUnderWay causes.Load (loading_file policy a.files name) name l → loaded_files policy a.files name ≡ Ok l.files
+  loaded_ends l is way = valid_files ∙ load_ends causes.Load (loading_file policy a.files name) name l is way
 
   -- a is the folder before, and b where the load wants n
-  module _ (folder : IsFolder a) (l : Loading) (n : List ℕ) (is : wants l.order ≡ Some n) (below : l.order.given < MAX_MEMBERS) (way : a.tells ≡ true → IsUnderWay causes.Load (file_in a.files) name l) (b c : Seen)
-      (so_far : Calls Done (AllBut (left_from (loaded_object a.files name) l.order) (takes (loaded_object a.files name) name)) a b) where
-    here : (r : Result (List ℕ) Cause) → ((is_valid_name n ≡ true → b.tells ≡ true) → file_in b.files n ≡ r) → a.tells ≡ true → file_in a.files n ≡ r
-    here r means told = ap (λ (fs : Files). file_in fs n) (sym (so_far.files told)) ∙ means (λ _. so_far.tells ∙ told)
+  module _ (folder : IsFolder a) (l : Loading) (n : List ℕ) (is : wants l.order ≡ Some n) (below : l.order.given < MAX_MEMBERS) (way : a.tells ≡ true → IsUnderWay causes.Load (loading_file policy a.files name) name l) (b c : Seen)
+      (so_far : Calls Done (AllBut (left_from (loaded_object policy a.files name) l.order) (takes (loaded_object policy a.files name) name)) a b) where
+    here : (r : Result (List ℕ) Cause) → ((is_valid_name n ≡ true → b.tells ≡ true) → loading_file policy b.files name n ≡ r) → a.tells ≡ true → loading_file policy a.files name n ≡ r
+    here r means told = ap (λ (fs : Files). loading_file policy fs name n) (sym (so_far.files told)) ∙ means (λ _. so_far.tells ∙ told)
 
     -- the wanted file was not taken
-    pub stopped_in_folder : {F : Type 0} (stop : Stop) → HasTaken n (Err stop) b c → HasLoaded {F = F} name (Err stop) a c
+    pub stopped_in_folder : {F : Type 0} (stop : Stop) → HasGiven policy name n (Err stop) b c → HasLoaded {F = F} policy name (Err stop) a c
     stopped_in_folder stop took =
-        stopped_here (loaded_object a.files name) name valid l.order n is below folder so_far (loaded_files a.files name) (λ l. l.walk.files) stop
-        (stops_as _ _ _ _ stop (λ cause told lacks. step_lacks (loaded_object a.files name) l.order n cause (lacks_object a.files name n cause (here (Err cause) lacks told))) took.means)
-        (stops_as _ _ _ _ stop (λ cause told lacks. valid_files ∙ load_lacks causes.Load (file_in a.files) name n l cause is (here (Err cause) lacks told) (way told)) took.means)
+        stopped_here (loaded_object policy a.files name) name valid l.order n is below folder so_far (loaded_files policy a.files name) (λ l. l.walk.files) stop
+        (stops_as _ _ _ _ stop (λ cause told lacks. step_lacks (loaded_object policy a.files name) l.order n cause (lacks_object policy a.files name n cause (here (Err cause) lacks told))) took.means)
+        (stops_as _ _ _ _ stop (λ cause told lacks. valid_files ∙ load_lacks causes.Load (loading_file policy a.files name) name n l cause is (here (Err cause) lacks told) (way told)) took.means)
         took.reads took.calls
 
-    module _ (bytes : Vec ℕ Global) (took : HasTaken n (Ok bytes) b c) where
-      file_is : a.tells ≡ true → file_in a.files n ≡ Ok bytes.items
+    module _ (bytes : Vec ℕ Global) (took : HasGiven policy name n (Ok bytes) b c) where
+      file_is : a.tells ≡ true → loading_file policy a.files name n ≡ Ok bytes.items
       file_is = here (Ok bytes.items) took.means
 
       -- it was given to the load
-      pub load_goes : (m : Loading) → m.order.given ≡ l.order.given + 1 → give l (Some bytes.items) ≡ Ok m → Calls Done (AllBut (left_from (loaded_object a.files name) m.order) (takes (loaded_object a.files name) name)) a c
-      load_goes m more went = goes_on (loaded_object a.files name) name valid l.order n is below folder so_far m.order more
-          (λ told. step_goes_on l n bytes.items a.files name m is (way told).named (file_is told) went) took.calls
+      pub load_goes : (m : Loading) → m.order.given ≡ l.order.given + 1 → give l (Some bytes.items) ≡ Ok m → Calls Done (AllBut (left_from (loaded_object policy a.files name) m.order) (takes (loaded_object policy a.files name) name)) a c
+      load_goes m more went = goes_on (loaded_object policy a.files name) name valid l.order n is below folder so_far m.order more
+          (λ told. step_goes_on l n bytes.items policy a.files name m is (way told).named (file_is told) went) took.calls
 
       -- it is refused, or memory lacked
-      pub stopped_at_file : {F : Type 0} (fault : LoadFault) → Answers is_memory (Err fault) (give l (Some bytes.items)) → HasLoaded {F = F} name (Err (of_load_fault fault)) a c
+      pub stopped_at_file : {F : Type 0} (fault : LoadFault) → Answers is_memory (Err fault) (give l (Some bytes.items)) → HasLoaded {F = F} policy name (Err (of_load_fault fault)) a c
       stopped_at_file {F = F} fault stop =
-          elim (is_memory fault) as (λ m. MatchBool m ⊤ (give l (Some bytes.items) ≡ Err fault) → HasLoaded {F = F} name (Err (if m then stops.NoMemory else stops.Cause (causes.Load fault))) a c) [
-            | true ↦ λ _. stopped_here (loaded_object a.files name) name valid l.order n is below folder so_far (loaded_files a.files name) (λ l. l.walk.files) stops.NoMemory tt tt refl (asked_all _ took.calls)
-            | false ↦ λ stopped. stopped_here (loaded_object a.files name) name valid l.order n is below folder so_far (loaded_files a.files name) (λ l. l.walk.files) (stops.Cause (causes.Load fault))
-                (λ told. step_stops l n bytes.items a.files name fault is (way told).named (file_is told) stopped)
-                (λ told. valid_files ∙ load_stops causes.Load (file_in a.files) name n (Some bytes.items) l fault is (file_is told) stopped (way told)) refl took.calls
+          elim (is_memory fault) as (λ m. MatchBool m ⊤ (give l (Some bytes.items) ≡ Err fault) → HasLoaded {F = F} policy name (Err (if m then stops.NoMemory else stops.Cause (causes.Load fault))) a c) [
+            | true ↦ λ _. stopped_here (loaded_object policy a.files name) name valid l.order n is below folder so_far (loaded_files policy a.files name) (λ l. l.walk.files) stops.NoMemory tt tt refl (asked_all _ took.calls)
+            | false ↦ λ stopped. stopped_here (loaded_object policy a.files name) name valid l.order n is below folder so_far (loaded_files policy a.files name) (λ l. l.walk.files) (stops.Cause (causes.Load fault))
+                (λ told. step_stops l n bytes.items policy a.files name fault is (way told).named (file_is told) stopped)
+                (λ told. valid_files ∙ load_stops causes.Load (loading_file policy a.files name) name n (Some bytes.items) l fault is (file_is told) stopped (way told)) refl took.calls
           ] stop

@@ -22,19 +22,19 @@ use Rattle.pl_loader.specs.declared.object_file.ObjectFile.{ObjectFile}
 use Rattle.pl_cli.specs.declared.cause.Cause.{Cause}
 use Rattle.pl_cli.specs.declared.cause.Cause.TheVariants as causes
 use Rattle.pl_cli.specs.declared.command.Command.{Command}
-use Rattle.pl_cli.specs.declared.command.Command.TheVariants.{Load, All, Preview, UndoAll, Undo, Verify, Store, Remove, Print, Order}
+use Rattle.pl_cli.specs.declared.command.Command.TheVariants.{Load, All, Preview, UndoAll, Undo, Verify, Store, Remove, Fix, Unfix, Print, Order, Demo}
 use Rattle.pl_cli.specs.declared.command.Detail.{Detail}
 use Rattle.pl_cli.specs.declared.status.Status.{Status}
 use Rattle.pl_cli.specs.declared.status.Status.TheVariants as statuses
 use Rattle.pl_cli.specs.declared.stop.Stop.{Stop}
 use Rattle.pl_cli.specs.declared.stop.Stop.TheVariants as stops
-use Rattle.pl_cli.specs.Answer.{Answer, IsTold, answer, compare_answer, compared, differs_text, done, load_answer, text_answer, refuses, usage}
-use Rattle.pl_cli.specs.Came.{Came, HasLoaded, HasOrdered, HasPreviewed, HasPrinted, HasVerified, Makes, as_is}
+use Rattle.pl_cli.specs.Answer.{Answer, IsTold, answer, compare_answer, compared, done, load_answer, text_answer, refuses, usage}
+use Rattle.pl_cli.specs.Came.{Came, HasDemo, HasLoaded, HasOrdered, HasPreviewed, HasPrinted, HasVerified, Makes, as_is}
 use Rattle.pl_cli.specs.Load.{choice, loaded_files}
 use Rattle.pl_cli.specs.Outside.{Consumes, most_read, outside}
 use Rattle.pl_cli.specs.Ran.{Finishes, Ran, Refuses, Writes}
 use Rattle.pl_cli.specs.Words.{bytes_of, reads_input}
-use Rattle.pl_cli.specs.Writes.{WritesFolder, prelinks, removes, stores, undoes}
+use Rattle.pl_cli.specs.Writes.{WritesFolder, fixes, loosens, prelinks, removes, stores, undoes}
 use Rattle.pl_cli.proofs.CallLemmas.{as_calls, asked_all, looked_all, no_calls}
 use Rattle.pl_cli.proofs.LoadLemmas.{loaded_is}
 use Rattle.pl_cli.proofs.WriteLemmas.{unread}
@@ -65,12 +65,15 @@ module _ (input : Option (List ℕ)) {a b : Seen} where
   line_failed (Some (Verify name)) call = call
   line_failed (Some Print) call = call
   line_failed (Some (Order name detail)) call = call
+  line_failed (Some (Demo number)) call = call
   line_failed (Some (All asked detail)) call = writes_line_failed (λ bytes. prelinks asked) input call
   line_failed (Some (Preview asked detail)) call = call
   line_failed (Some UndoAll) call = writes_line_failed (λ bytes. undoes runs.UndoAll) input call
   line_failed (Some (Undo names)) call = writes_line_failed (λ bytes. undoes (runs.Undo names)) input call
   line_failed (Some (Store name kind)) call = writes_line_failed (stores name kind) input call
   line_failed (Some (Remove name)) call = writes_line_failed (λ bytes. removes name) input call
+  line_failed (Some (Fix name policy)) call = writes_line_failed (λ bytes. fixes policy name) input call
+  line_failed (Some (Unfix name)) call = writes_line_failed (λ bytes. loosens name) input call
 
   line_lacked : (asked : Option Command) → IsFolder a → Calls Done (Makes asked a.files input statuses.Refused) a b → Calls Undone (Makes asked a.files input statuses.NoMemory) a b
   line_lacked None law call = asked_all 0 call
@@ -78,12 +81,15 @@ module _ (input : Option (List ℕ)) {a b : Seen} where
   line_lacked (Some (Verify name)) law call = looked_all call
   line_lacked (Some Print) law call = asked_all 1 call
   line_lacked (Some (Order name detail)) law call = asked_all _ call
+  line_lacked (Some (Demo number)) law call = asked_all 0 call
   line_lacked (Some (All asked detail)) law call = writes_line_lacked (λ bytes. prelinks asked) input law call
   line_lacked (Some (Preview asked detail)) law call = looked_all call
   line_lacked (Some UndoAll) law call = writes_line_lacked (λ bytes. undoes runs.UndoAll) input law call
   line_lacked (Some (Undo names)) law call = writes_line_lacked (λ bytes. undoes (runs.Undo names)) input law call
   line_lacked (Some (Store name kind)) law call = writes_line_lacked (stores name kind) input law call
   line_lacked (Some (Remove name)) law call = writes_line_lacked (λ bytes. removes name) input law call
+  line_lacked (Some (Fix name policy)) law call = writes_line_lacked (λ bytes. fixes policy name) input law call
+  line_lacked (Some (Unfix name)) law call = writes_line_lacked (λ bytes. loosens name) input law call
 
   text_failed : (asked : Option Command) → Calls Done (Makes asked a.files input statuses.Done) a b → Calls Done (Makes asked a.files input statuses.WriteFault) a b
   text_failed None call = call
@@ -91,12 +97,15 @@ module _ (input : Option (List ℕ)) {a b : Seen} where
   text_failed (Some (Verify name)) call = call
   text_failed (Some Print) call = call
   text_failed (Some (Order name detail)) call = call
+  text_failed (Some (Demo number)) call = call
   text_failed (Some (All asked detail)) call = writes_text_failed (λ bytes. prelinks asked) input call
   text_failed (Some (Preview asked detail)) call = call
   text_failed (Some UndoAll) call = writes_text_failed (λ bytes. undoes runs.UndoAll) input call
   text_failed (Some (Undo names)) call = writes_text_failed (λ bytes. undoes (runs.Undo names)) input call
   text_failed (Some (Store name kind)) call = writes_text_failed (stores name kind) input call
   text_failed (Some (Remove name)) call = writes_text_failed (λ bytes. removes name) input call
+  text_failed (Some (Fix name policy)) call = writes_text_failed (λ bytes. fixes policy name) input call
+  text_failed (Some (Unfix name)) call = writes_text_failed (λ bytes. loosens name) input call
 
 quiet : (o p : Output) → p ≡ o → Counted false o.faults p.faults
 quiet o p same = subst (λ (q : Output). Counted false o.faults q.faults) (sym same) (record { later = omega arith; rose = λ e. cc; quiet = λ _. refl })
@@ -173,10 +182,10 @@ untouched : (i : Input) → Consumes false 0 false i i
 untouched i = record { untouched = λ _. refl; tells = refl; most = λ e _. cc; count = record { later = omega arith; rose = λ e. cc; quiet = λ _. refl } }
 
 -- a load that stopped
-unstarted : (name : List ℕ) (busy : Option Range) (policy : Policy) (a : Seen) (cause : Cause) → loaded_files a.files name ≡ Err cause → answer (Some (Load name busy policy)) a.files [] ≡ refuses cause
+unstarted : (name : List ℕ) (busy : Option Range) (policy : Policy) (a : Seen) (cause : Cause) → loaded_files policy a.files name ≡ Err cause → answer (Some (Load name busy policy)) a.files [] ≡ refuses cause
 unstarted name busy policy a cause is = ap load_answer (loaded_is policy busy a.files name ∙ ap (λ (r : Result (List ObjectFile) Cause). r >>= λ all. because causes.Load (started (choice policy) busy all)) is)
 
-pub unloaded : {F : Type 0} (name : List ℕ) (busy : Option Range) (policy : Policy) {a b : Seen} (i : Input) (stop : Stop) → HasLoaded {F = F} name (Err stop) a b → Came (Some (Load name busy policy)) as_is (Err stop) a b i i
+pub unloaded : {F : Type 0} (name : List ℕ) (busy : Option Range) (policy : Policy) {a b : Seen} (i : Input) (stop : Stop) → HasLoaded {F = F} policy name (Err stop) a b → Came (Some (Load name busy policy)) as_is (Err stop) a b i i
 unloaded name busy policy {a = a} i (stops.Cause cause) found = record { gives = λ told. unstarted name busy policy a cause (found.means told.files); ends = refl; calls = found.calls; input = untouched i }
 unloaded name busy policy i stops.Failed found = record { gives = tt; ends = found.fails refl; calls = found.calls; input = untouched i }
 unloaded name busy policy i stops.InputFailed found = absurd (true≢false found.reads)
@@ -191,7 +200,7 @@ loads_usage : (r : Result Start Cause) → (load_answer r).status ≡ statuses.U
 loads_usage (Ok start) is = cc
 loads_usage (Err cause) is = cc
 
-module _ {F : Type 0} (name : List ℕ) (busy : Option Range) (policy : Policy) {a b : Seen} (i : Input) (l : loading.Load F) (found : HasLoaded name (Ok l) a b) where
+module _ {F : Type 0} (name : List ℕ) (busy : Option Range) (policy : Policy) {a b : Seen} (i : Input) (l : loading.Load F) (found : HasLoaded policy name (Ok l) a b) where
   means : IsTold (Some (Load name busy policy)) a.tells (is_some i.left) → answer (Some (Load name busy policy)) a.files [] ≡ load_answer (because causes.Load (started (choice policy) busy l.walk.files))
   means told = ap load_answer (loaded_is policy busy a.files name ∙ ap (λ (r : Result (List ObjectFile) Cause). r >>= λ all. because causes.Load (started (choice policy) busy all)) (found.means told.files))
 
@@ -224,6 +233,13 @@ came_ordered name detail i (Err (stops.Cause cause)) found = record { gives = λ
 came_ordered name detail i (Err stops.Failed) found = record { gives = tt; ends = found.fails refl; calls = found.calls; input = untouched i }
 came_ordered name detail i (Err stops.InputFailed) found = absurd (true≢false found.reads)
 came_ordered name detail i (Err stops.NoMemory) found = record { gives = tt; ends = refl; calls = found.calls; input = untouched i }
+
+pub came_demo : (number : ℕ) (a : Seen) (i : Input) (r : Result (Vec ℕ Global) Stop) → HasDemo number r → Came (Some (Demo number)) as_is r a a i i
+came_demo number a i (Ok text) is = record { gives = λ told. ap done (sym is); ends = refl; calls = no_calls Done a refl refl refl; input = untouched i }
+came_demo number a i (Err (stops.Cause cause)) is = absurd is
+came_demo number a i (Err stops.Failed) is = absurd is
+came_demo number a i (Err stops.InputFailed) is = absurd is
+came_demo number a i (Err stops.NoMemory) is = record { gives = tt; ends = refl; calls = no_calls Undone a refl refl (0, omega arith, refl); input = untouched i }
 
 pub came_printed : (i : Input) {a b : Seen} (r : Result (Vec ℕ Global) Stop) → HasPrinted r a b → Came (Some Print) as_is r a b i i
 came_printed i (Ok text) found = record { gives = λ told. ap text_answer (found.means told.files); ends = refl; calls = found.calls; input = untouched i }
@@ -316,12 +332,15 @@ lacks (Some (Load name busy policy)) input a = no_calls Undone a refl refl (0, o
 lacks (Some (Verify name)) input a = no_calls Undone a refl refl (no_look a.disk a.disk refl)
 lacks (Some Print) input a = no_calls Undone a refl refl (0, omega arith, refl)
 lacks (Some (Order name detail)) input a = no_calls Undone a refl refl (0, omega arith, refl)
+lacks (Some (Demo number)) input a = no_calls Undone a refl refl (0, omega arith, refl)
 lacks (Some (All asked detail)) input a = lacks_writing (λ bytes. prelinks asked) input a
 lacks (Some (Preview asked detail)) input a = no_calls Undone a refl refl (no_look a.disk a.disk refl)
 lacks (Some UndoAll) input a = lacks_writing (λ bytes. undoes runs.UndoAll) input a
 lacks (Some (Undo names)) input a = lacks_writing (λ bytes. undoes (runs.Undo names)) input a
 lacks (Some (Store name kind)) input a = lacks_writing (stores name kind) input a
 lacks (Some (Remove name)) input a = lacks_writing (λ bytes. removes name) input a
+lacks (Some (Fix name policy)) input a = lacks_writing (λ bytes. fixes policy name) input a
+lacks (Some (Unfix name)) input a = lacks_writing (λ bytes. loosens name) input a
 
 pub ran_lacking : (asked : Option Command) (a : Seen) (i : Input) (o : Output) → Ran asked (outside a i o) (outside a i o) statuses.NoMemory
 ran_lacking asked a i o = record { ends = refl; prints = refl; folder = lacks asked i.left a; input = unread (reads_input asked) (most_read asked) i; output = quiet o o refl }

@@ -1,5 +1,5 @@
 -- No cause of a command is a want of memory.
-use Rattle.std.proofs.Common.{◌≡◌, false, refl, ℕ, List, Option, Some, None}
+use Rattle.std.proofs.Common.{◌≡◌, Bool, true, false, refl, ℕ, List, Option, Some, None}
 use Rattle.pl_base.specs.Answers.{Tells, because}
 use Rattle.pl_base.specs.Files.{Files}
 use Rattle.pl_base.proofs.TellsLaws.{ok_tells, err_tells, unless_tells, then_tells, cause_tells, because_tells}
@@ -12,7 +12,8 @@ use Rattle.pl_scope.proofs.TellsLaws.{walk_tells}
 use Rattle.pl_loader.specs.Walk.{walk_fault}
 use Rattle.pl_loader.proofs.TellsLaws.{file_in_tells, load_tells, of_file_tells}
 use Rattle.pl_cli.specs.declared.cause.Cause.TheVariants as causes
-use Rattle.std.specs.Prelude.{Result, Ok, Err}
+use Rattle.std.specs.Prelude.{Result, Ok, Err, if◌then◌else◌}
+use Rattle.std.specs.Str.{bytes_eq}
 use Rattle.pl_folder.specs.Taken.{taken}
 use Rattle.pl_folder.specs.declared.fault.FolderFault.{FolderFault}
 use Rattle.pl_folder.specs.declared.fault.FolderFault.TheVariants as folder_faults
@@ -23,13 +24,18 @@ use Rattle.pl_cli.specs.declared.print.TheConstants.{CACHE}
 use Rattle.pl_cli.specs.Print.{bad_cache, cache_in, cache_of, no_cache, print_text, printed}
 use Rattle.pl_cli.specs.declared.command.Detail.{Detail}
 use Rattle.pl_cli.specs.Files.{valid_file, of_file, file_in}
-use Rattle.pl_cli.specs.Load.{choice, is_memory, loaded}
+use Rattle.pl_cli.specs.Load.{choice, first_by, first_file, is_memory, loaded, loading_file}
+use Rattle.pl_fix.specs.Fixing.{placed}
+use Rattle.pl_fix.specs.declared.placing.Placing.{Placing}
+use Rattle.pl_fix.specs.declared.placing.Placing.TheVariants as placings
 use Rattle.pl_cli.specs.Order.{object_in, order_text, ordered, original, refused, walked}
 use Rattle.pl_cli.specs.declared.command.Content.{Content}
 use Rattle.pl_cli.specs.declared.command.Content.TheVariants.{File, Recipe}
 use Rattle.pl_cli.specs.Reports.{previewed, report_text, reported}
 use Rattle.pl_cli.specs.Verified.{verifies}
-use Rattle.pl_cli.specs.Writes.{content, file_by, of_batch, prelinks, recipe_cause, removes, stores, undoes}
+use Rattle.pl_cli.specs.Writes.{content, file_by, of_batch, prelinks, recipe_cause, removes, stores, undoes, fixes, loosens}
+use Rattle.pl_cli.specs.Answer.{fixed_line, fixed_text}
+use Rattle.pl_batch.specs.Replace.{address_of, fixing_meant, loosening_meant}
 use Rattle.pl_journal.specs.declared.change.Change.{Change}
 use Rattle.pl_batch.specs.All.{all_reported}
 use Rattle.pl_batch.specs.Verify.{verified}
@@ -51,9 +57,24 @@ file_tells : (files : Files) (name : List ℕ) → Tells is_memory (file_in file
 unfolding file_in
 file_tells files name = looked_up_tells name (valid_file files name)
 
+first_tells : (name bytes : List ℕ) (p : Placing) → Tells is_memory (first_by name bytes p)
+first_tells name bytes placings.NotPie = ok_tells is_memory bytes
+first_tells name bytes placings.NoPlace = err_tells _ is_memory _ refl
+first_tells name bytes placings.Marked = err_tells _ is_memory _ refl
+first_tells name bytes (placings.Fixed at file) = ok_tells is_memory file
+
+given_by_tells : (policy : Policy) (name bytes : List ℕ) (b : Bool) → Tells is_memory (if b then first_file policy name bytes else Ok bytes)
+unfolding first_file
+given_by_tells policy name bytes true = first_tells name bytes (placed (choice policy) bytes)
+given_by_tells policy name bytes false = ok_tells is_memory bytes
+
+loading_tells : (policy : Policy) (files : Files) (name n : List ℕ) → Tells is_memory (loading_file policy files name n)
+unfolding loading_file
+loading_tells policy files name n = then_tells is_memory (file_in files n) _ (file_tells files n) (λ bytes. given_by_tells policy name bytes (bytes_eq n name))
+
 pub loaded_tells : (policy : Policy) (busy : Option Range) (files : Files) (name : List ℕ) → Tells is_memory (loaded policy busy files name)
 unfolding loaded
-loaded_tells policy busy files name = unless_tells is_memory _ _ _ refl (load_tells (choice policy) busy causes.Load is_memory (file_in files) name (λ f t. t) (file_tells files))
+loaded_tells policy busy files name = unless_tells is_memory _ _ _ refl (load_tells (choice policy) busy causes.Load is_memory (loading_file policy files name) name (λ f t. t) (loading_tells policy files name))
 
 -- ---- `--order`
 
@@ -108,6 +129,9 @@ batch_cause (batch_causes.StampsSpent stamp) = refl
 batch_cause (batch_causes.Refused name number argument) = refl
 batch_cause (batch_causes.NeededIsProgram name) = refl
 batch_cause (batch_causes.TooMany name) = refl
+batch_cause (batch_causes.NotPie name) = refl
+batch_cause (batch_causes.NoPlace name) = refl
+batch_cause (batch_causes.NotFixed name) = refl
 
 batch_tells : {X : Type 0} (r : Result X batch.Cause) → Tells is_memory (because of_batch r)
 batch_tells r = cause_tells is_memory of_batch r batch_cause
@@ -117,6 +141,14 @@ undone_tells run files = batch_tells (run_meant run files)
 
 pub removed_tells : (name : List ℕ) (files : Files) → Tells is_memory (removes name files)
 removed_tells name files = batch_tells (removal_meant name files)
+
+pub fixed_tells : (policy : Policy) (name : List ℕ) (files : Files) → Tells is_memory (fixed_line policy name files)
+unfolding fixed_line
+fixed_tells policy name files = then_tells is_memory (fixes policy name files) _ (batch_tells (fixing_meant (choice policy) name files)) (λ rows.
+    then_tells is_memory (because of_batch (address_of (choice policy) files name)) _ (batch_tells (address_of (choice policy) files name)) (λ at. ok_tells is_memory (fixed_text name at)))
+
+pub unfixed_tells : (name : List ℕ) (files : Files) → Tells is_memory (loosens name files)
+unfixed_tells name files = batch_tells (loosening_meant name files)
 
 file_by_tells : (kind : Content) (input : List ℕ) → Tells is_memory (file_by kind input)
 file_by_tells File input = ok_tells is_memory input

@@ -1,5 +1,5 @@
 -- What `-y` finds, from what pl_batch finds.
-use Rattle.std.proofs.Common.{◌≡◌, ℕ, List, Bool, true, false, Option, Some, None, refl, sym, ap, ◌∙◌}
+use Rattle.std.proofs.Common.{◌≡◌, ℕ, List, Bool, true, false, Option, None, refl, sym, ap, ◌∙◌}
 use Rattle.std.specs.Prelude.{Result, Ok, Err, Vec, not, option_map}
 use Rattle.std.specs.declared.alloc.Global.{Global}
 use Rattle.pl_base.specs.Answers.{because, unless, ◌>>=◌}

@@ -80,10 +80,10 @@ module _ (meant : List ℕ → Meaning Cause) (left : Option (List ℕ)) (bytes 
 -- ---- what is answered
 
 module _ (meant : Meaning Cause) (text : List Change → List ℕ) (a b : Seen) where
-  gives_made : CommandsFiles meant Made Done a.files b.files → (rows : List Change) × (write_answer text (meant (restored a.files)) ≡ done (text rows))
+  pub gives_made : CommandsFiles meant Made Done a.files b.files → (rows : List Change) × (write_answer text (meant (restored a.files)) ≡ done (text rows))
   gives_made files = let made = files (restored a.files) (restored_before a.files) in (made.0, ap (write_answer text) made.1.means)
 
-  gives_cause : (cause : Cause) → CommandsFiles meant (Refused cause) Done a.files b.files → write_answer text (meant (restored a.files)) ≡ refuses cause
+  pub gives_cause : (cause : Cause) → CommandsFiles meant (Refused cause) Done a.files b.files → write_answer text (meant (restored a.files)) ≡ refuses cause
   gives_cause cause files = ap (write_answer text) (files (restored a.files) (restored_before a.files)).means
 
 -- ---- `undo`, `remove`
@@ -206,7 +206,7 @@ module _ (name : List ℕ) (invalid : is_valid_name name ≡ false) (files : Fil
   stores_bad kind bytes = ap (λ (r : Result (List Change) batch.Cause). because of_batch r >>= λ none. content kind bytes >>= λ file. because of_batch (changes_of files (runs.Install name file))) (invalid_ready name invalid files)
 
 -- the cause of a command with a name, by whether that is valid
-by_name : (b : Bool) (name : List ℕ) (cause : Cause) (P : Cause → Type 0) → is_valid_name name ≡ b → (is_valid_name name ≡ false → cause ≡ causes.BadName) → (is_valid_name name ≡ true → P cause) → (is_valid_name name ≡ false → P causes.BadName) → P cause
+pub by_name : (b : Bool) (name : List ℕ) (cause : Cause) (P : Cause → Type 0) → is_valid_name name ≡ b → (is_valid_name name ≡ false → cause ≡ causes.BadName) → (is_valid_name name ≡ true → P cause) → (is_valid_name name ≡ false → P causes.BadName) → P cause
 by_name true name cause P is named valid bad = valid is
 by_name false name cause P is named valid bad = subst P (sym (named is)) (bad is)
 

@@ -1,20 +1,23 @@
 -- What a run answers to what its words ask for, for the files of its folder and the bytes of its input.
 use Rattle.std.specs.Prelude.{◌≡◌, ℕ, Bool, true, List, [], ◌∷◌, codes, length, Option, Some, None, Result, Ok, Err}
 use Rattle.std.specs.Fmt.{decimal}
-use Rattle.pl_base.specs.Digits.{line}
+use Rattle.pl_base.specs.Answers.{◌>>=◌, because}
+use Rattle.pl_base.specs.Digits.{hex16, line}
 use Rattle.pl_base.specs.Files.{Files}
 use Rattle.pl_journal.specs.declared.change.Change.{Change}
 use Rattle.pl_loader.specs.Started.{Start}
+use Rattle.pl_batch.specs.Replace.{address_of}
 use Rattle.pl_batch.specs.Restored.{restored}
 use Rattle.pl_batch.specs.declared.run.Run.TheVariants as runs
 use Rattle.pl_cli.specs.declared.status.Status.{Status}
 use Rattle.pl_cli.specs.declared.status.Status.TheVariants as statuses
 use Rattle.pl_cli.specs.declared.cause.Cause.{Cause}
 use Rattle.pl_cli.specs.declared.command.Command.{Command}
-use Rattle.pl_cli.specs.declared.command.Command.TheVariants.{Load, All, Preview, UndoAll, Undo, Verify, Store, Remove, Print, Order}
+use Rattle.pl_cli.specs.declared.command.Command.TheVariants.{Load, All, Preview, UndoAll, Undo, Verify, Store, Remove, Fix, Unfix, Print, Order, Demo}
 use Rattle.pl_cli.specs.declared.command.Content.{Content}
 use Rattle.pl_cli.specs.declared.command.Content.TheVariants.{File, Recipe}
-use Rattle.pl_cli.specs.Load.{loaded}
+use Rattle.pl_cli.specs.Demo.{demo_text}
+use Rattle.pl_cli.specs.Load.{loaded, choice}
 use Rattle.pl_cli.specs.LoadText.{load_text}
 use Rattle.pl_cli.specs.Order.{ordered}
 use Rattle.pl_cli.specs.Print.{printed}
@@ -22,7 +25,8 @@ use Rattle.pl_cli.specs.Refusals.{refusal}
 use Rattle.pl_cli.specs.Reports.{previewed, reported}
 use Rattle.pl_cli.specs.Verified.{verifies}
 use Rattle.pl_cli.specs.Words.{reads_input, rests_on_files}
-use Rattle.pl_cli.specs.Writes.{removes, stores, undoes}
+use Rattle.pl_cli.specs.Writes.{fixes, loosens, of_batch, removes, stores, undoes}
+use Rattle.pl_words.specs.declared.command.Policy.{Policy}
 
 -- ---- texts
 
@@ -39,6 +43,12 @@ stored_text kind name = line (stored_word kind ∷ name ∷ [])
 
 unfoldable pub removed_text : List ℕ → List ℕ
 removed_text name = line (codes "removed " ∷ name ∷ [])
+
+unfoldable pub fixed_text : List ℕ → ℕ → List ℕ
+fixed_text name address = line (codes "fixed " ∷ name ∷ codes " " ∷ hex16 address ∷ [])
+
+unfoldable pub unfixed_text : List ℕ → List ℕ
+unfixed_text name = line (codes "unfixed " ∷ name ∷ [])
 
 abbrev pub usage : List ℕ
 usage = line (codes "usage: prelink MODE [OPTIONS] [NAME..]" ∷ [])
@@ -82,6 +92,10 @@ abbrev pub text_answer : Result (List ℕ) Cause → Answer
 text_answer (Ok text) = done text
 text_answer (Err cause) = refuses cause
 
+-- `--fix`: where the changes can be made, the address at which the program is fixed
+unfoldable pub fixed_line : Policy → List ℕ → Files → Result (List ℕ) Cause
+fixed_line policy name files = fixes policy name files >>= λ rows. because of_batch (address_of (choice policy) files name) >>= λ at. Ok (fixed_text name at)
+
 abbrev pub answer : Option Command → Files → List ℕ → Answer
 answer None files input = record { status = statuses.Usage; text = usage }
 answer (Some (Load name busy policy)) files input = load_answer (loaded policy busy files name)
@@ -91,9 +105,12 @@ answer (Some UndoAll) files input = write_answer (λ rows. undone_text (length r
 answer (Some (Undo names)) files input = write_answer (λ rows. undone_text (length rows)) (undoes (runs.Undo names) (restored files))
 answer (Some (Store name kind)) files input = write_answer (λ rows. stored_text kind name) (stores name kind input (restored files))
 answer (Some (Remove name)) files input = write_answer (λ rows. removed_text name) (removes name (restored files))
+answer (Some (Fix name policy)) files input = text_answer (fixed_line policy name (restored files))
+answer (Some (Unfix name)) files input = write_answer (λ rows. unfixed_text name) (loosens name (restored files))
 answer (Some (Verify name)) files input = compare_answer (verifies name files)
 answer (Some Print) files input = text_answer (printed files)
 answer (Some (Order name detail)) files input = text_answer (ordered detail files name)
+answer (Some (Demo number)) files input = done (demo_text number)
 
 -- all that an answer rests on is told: the folder's files, and what is read of the input
 pub record IsTold (asked : Option Command) (tells told : Bool) : Type 0 where

@@ -17,17 +17,18 @@ use Rattle.pl_batch.specs.declared.run.Run.TheVariants as runs
 use Rattle.pl_cli.specs.declared.cause.Cause.{Cause}
 use Rattle.pl_cli.specs.declared.cause.Cause.TheVariants.{BadName}
 use Rattle.pl_cli.specs.declared.command.Command.{Command}
-use Rattle.pl_cli.specs.declared.command.Command.TheVariants.{Load, All, Preview, UndoAll, Undo, Verify, Store, Remove, Print, Order}
+use Rattle.pl_cli.specs.declared.command.Command.TheVariants.{Load, All, Preview, UndoAll, Undo, Verify, Store, Remove, Fix, Unfix, Print, Order, Demo}
 use Rattle.pl_cli.specs.declared.command.Content.{Content}
 use Rattle.pl_cli.specs.declared.command.Detail.{Detail}
 use Rattle.pl_cli.specs.declared.named_object.NamedObject.{NamedObject}
 use Rattle.pl_cli.specs.declared.status.Status.{Status}
 use Rattle.pl_cli.specs.declared.stop.Stop.{Stop}
 use Rattle.pl_cli.specs.declared.stop.Stop.TheVariants as stops
-use Rattle.pl_cli.specs.Answer.{Answer, IsTold, answer, done, refuses, removed_text, stored_text}
+use Rattle.pl_cli.specs.Answer.{Answer, IsTold, answer, done, refuses, removed_text, stored_text, fixed_line, fixed_text, unfixed_text}
+use Rattle.pl_cli.specs.Demo.{demo_text}
 use Rattle.pl_cli.specs.Files.{file_in}
 use Rattle.pl_cli.specs.Looks.{takes}
-use Rattle.pl_cli.specs.Load.{loaded_files, loaded_object}
+use Rattle.pl_cli.specs.Load.{loaded_files, loaded_object, loading_file}
 use Rattle.pl_cli.specs.Order.{members_of, object_in, ordered, walked}
 use Rattle.pl_cli.specs.Print.{printed}
 use Rattle.pl_cli.specs.Reports.{previewed}
@@ -35,22 +36,26 @@ use Rattle.pl_cli.specs.Outside.{Consumes, ending_of, is_read_fault, may_end, mo
 use Rattle.pl_cli.specs.Stops.{Means, status_of}
 use Rattle.pl_cli.specs.Verified.{verifies}
 use Rattle.pl_cli.specs.Words.{bytes_of, reads_input}
-use Rattle.pl_cli.specs.Writes.{AreBytes, WritesFolder, Written, content, most_bytes, prelinks, removes, stores, undoes}
+use Rattle.pl_cli.specs.Writes.{AreBytes, WritesFolder, Written, content, fixes, loosens, most_bytes, prelinks, removes, stores, undoes}
+use Rattle.pl_words.specs.declared.command.Policy.{Policy}
 
 -- ---- what a command makes of the folder, by the status. These are the files before it, and the input's bytes where it tells them
 
 abbrev pub Makes : Option Command → Files → Option (List ℕ) → Status → Effect
 Makes None files input status = Asks 0
-Makes (Some (Load name busy policy)) files input status = Asks (takes (loaded_object files name) name)
+Makes (Some (Load name busy policy)) files input status = Asks (takes (loaded_object policy files name) name)
 Makes (Some (All asked detail)) files input status = WritesFolder (λ bytes. prelinks asked) input status
 Makes (Some (Preview asked detail)) files input status = Looking
 Makes (Some UndoAll) files input status = WritesFolder (λ bytes. undoes runs.UndoAll) input status
 Makes (Some (Undo names)) files input status = WritesFolder (λ bytes. undoes (runs.Undo names)) input status
 Makes (Some (Store name kind)) files input status = WritesFolder (stores name kind) input status
 Makes (Some (Remove name)) files input status = WritesFolder (λ bytes. removes name) input status
+Makes (Some (Fix name policy)) files input status = WritesFolder (λ bytes. fixes policy name) input status
+Makes (Some (Unfix name)) files input status = WritesFolder (λ bytes. loosens name) input status
 Makes (Some (Verify name)) files input status = Looking
 Makes (Some Print) files input status = Asks 1
 Makes (Some (Order name detail)) files input status = Asks (takes (object_in files) name)
+Makes (Some (Demo number)) files input status = Asks 0
 
 -- ---- what is found in the folder
 
@@ -65,12 +70,16 @@ pub record Finds {X Y : Type 0} (asks : Bool) (effect : Effect) (meant : Result 
 abbrev pub HasTaken : List ℕ → Result (Vec ℕ Global) Stop → Seen → Seen → Type 0
 HasTaken name result old new = Finds (is_valid_name name) (Asks (count_by is_valid_name (name ∷ []))) (file_in old.files name) (λ bytes. bytes.items) result old new
 
+-- the same of a name of the walk of a name that is loaded
+abbrev pub HasGiven : Policy → List ℕ → List ℕ → Result (Vec ℕ Global) Stop → Seen → Seen → Type 0
+HasGiven policy name n result old new = Finds (is_valid_name n) (Asks (count_by is_valid_name (n ∷ []))) (loading_file policy old.files name n) (λ bytes. bytes.items) result old new
+
 abbrev pub HasObject : List ℕ → Result NamedObject Stop → Seen → Seen → Type 0
 HasObject name result old new = Finds (is_valid_name name) (Asks (count_by is_valid_name (name ∷ []))) (object_in old.files name) (λ m. m.object) result old new
 
 -- the files of a load, or the objects of a walk
-abbrev pub HasLoaded : {F : Type 0} → List ℕ → Result (loading.Load F) Stop → Seen → Seen → Type 0
-HasLoaded name result old new = Finds (is_valid_name name) (Asks (takes (loaded_object old.files name) name)) (loaded_files old.files name) (λ l. l.walk.files) result old new
+abbrev pub HasLoaded : {F : Type 0} → Policy → List ℕ → Result (loading.Load F) Stop → Seen → Seen → Type 0
+HasLoaded policy name result old new = Finds (is_valid_name name) (Asks (takes (loaded_object policy old.files name) name)) (loaded_files policy old.files name) (λ l. l.walk.files) result old new
 
 abbrev pub HasWalked : List ℕ → Result (Vec NamedObject Global) Stop → Seen → Seen → Type 0
 HasWalked name result old new = Finds (is_valid_name name) (Asks (takes (object_in old.files) name)) (walked old.files name) (λ members. members_of members.items) result old new
@@ -126,6 +135,19 @@ pub record HasRemoved (name : List ℕ) (result : Result (Vec ℕ Global) Stop) 
   pub calls : Calls (ending_of (status_of result)) (Written (removes name) result) old new
   pub text : IfOk result (λ text. text.items ≡ removed_text name)
 
+-- what is fixed, and the address of the program of the files that the folder stood for
+pub record HasFixed (name : List ℕ) (policy : Policy) (result : Result ℕ Stop) (old new : Seen) : Type 0 where
+  pub named : Named name result
+  pub reads : is_read_fault (status_of result) ≡ false
+  pub calls : Calls (ending_of (status_of result)) (Written (fixes policy name) result) old new
+  pub address : IfOk result (λ at. old.tells ≡ true → fixed_line policy name (restored old.files) ≡ Ok (fixed_text name at))
+
+pub record HasUnfixed (name : List ℕ) (result : Result (Vec ℕ Global) Stop) (old new : Seen) : Type 0 where
+  pub named : Named name result
+  pub reads : is_read_fault (status_of result) ≡ false
+  pub calls : Calls (ending_of (status_of result)) (Written (loosens name) result) old new
+  pub text : IfOk result (λ text. text.items ≡ unfixed_text name)
+
 pub record HasStored (name : List ℕ) (kind : Content) (result : Result (Vec ℕ Global) Stop) (old new : Seen) (left rest : Input) : Type 0 where
   pub bytes : List ℕ
   pub told : AreBytes left.left bytes
@@ -134,6 +156,16 @@ pub record HasStored (name : List ℕ) (kind : Content) (result : Result (Vec �
   pub calls : Calls (ending_of (status_of result)) (Written (stores name kind bytes) result) old new
   pub text : IfOk result (λ text. text.items ≡ stored_text kind name)
   pub input : Consumes (is_valid_name name) (most_bytes kind) (is_read_fault (status_of result)) left rest
+
+-- ---- what asks nothing of the outside
+
+-- the text of a set of files; there is none only for want of memory
+abbrev pub HasDemo : ℕ → Result (Vec ℕ Global) Stop → Type 0
+HasDemo number (Ok text) = text.items ≡ demo_text number
+HasDemo number (Err (stops.Cause cause)) = ⊥
+HasDemo number (Err stops.Failed) = ⊥
+HasDemo number (Err stops.InputFailed) = ⊥
+HasDemo number (Err stops.NoMemory) = ⊤
 
 -- ---- the whole
 

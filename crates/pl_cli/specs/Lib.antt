@@ -8,6 +8,7 @@ pub mod LoadText
 pub mod Print
 pub mod Order
 pub mod Refusals
+pub mod Demo
 pub mod Reports
 pub mod Verified
 pub mod Answer
@@ -16,3 +17,4 @@ pub mod Outside
 pub mod Came
 pub mod Ran
 pub mod Written
+pub mod TextSink

@@ -1,16 +1,21 @@
 -- What a program of a folder's files starts from, or the first cause why it does not.
-use Rattle.std.specs.Prelude.{◌≡◌, ℕ, Bool, false, not, List, Option, None, Result}
+use Rattle.std.specs.Prelude.{◌≡◌, ℕ, Bool, false, not, List, Option, None, Result, Ok, Err, if◌then◌else◌}
+use Rattle.std.specs.Str.{bytes_eq}
 use Rattle.std.specs.Borrow.{Bor}
-use Rattle.pl_base.specs.Answers.{because, unless}
+use Rattle.pl_base.specs.Answers.{◌>>=◌, because, unless}
 use Rattle.pl_base.specs.Files.{Files}
 use Rattle.pl_base.specs.Names.{is_valid_name}
 use Rattle.pl_elf.specs.declared.range.Range.{Range}
+use Rattle.pl_fix.specs.Fixing.{placed}
+use Rattle.pl_fix.specs.declared.placing.Placing.{Placing}
+use Rattle.pl_fix.specs.declared.placing.Placing.TheVariants.{NotPie, NoPlace, Marked, Fixed}
 use Rattle.pl_place.specs.Policies.{highest, lowest, seeded}
 use Rattle.pl_place.specs.Policy.{Choice, Chooses, MayChoose}
 use Rattle.pl_words.specs.declared.command.Policy.{Policy}
 use Rattle.pl_words.specs.declared.command.Policy.TheVariants as policies
 use Rattle.pl_scope.specs.Walking.{wants}
-use Rattle.pl_loader.specs.Faults as faults
+use Rattle.pl_loader.specs.Faults as memory
+use Rattle.pl_loader.specs.declared.fault.LoadFault.TheVariants as faults
 use Rattle.pl_loader.specs.Loading as loading
 use Rattle.pl_loader.specs.Started.{Start, load, started}
 use Rattle.pl_loader.specs.Walk as walk
@@ -26,16 +31,37 @@ choice policies.Lowest = lowest
 choice policies.Highest = highest
 choice (policies.Seeded number) = seeded number
 
+-- ---- the file of the name that is loaded: a position-independent program is loaded as the one that it becomes where the policy places it, whatever is busy
+
+abbrev pub first_by : List ℕ → List ℕ → Placing → Result (List ℕ) Cause
+first_by name bytes NotPie = Ok bytes
+first_by name bytes NoPlace = Err (causes.Load (faults.NoPlace name))
+first_by name bytes Marked = Err (causes.Load (faults.BadMark name))
+first_by name bytes (Fixed at file) = Ok file
+
+-- what is loaded of the bytes of its file
+unfoldable pub first_file : Policy → List ℕ → List ℕ → Result (List ℕ) Cause
+first_file policy name bytes = first_by name bytes (placed (choice policy) bytes)
+
+-- and of those of a name of its walk
+abbrev pub given_file : Policy → List ℕ → List ℕ → List ℕ → Result (List ℕ) Cause
+given_file policy name n bytes = if bytes_eq n name then first_file policy name bytes else Ok bytes
+
+unfoldable pub loading_file : Policy → Files → List ℕ → List ℕ → Result (List ℕ) Cause
+loading_file policy files name n = file_in files n >>= given_file policy name n
+
+-- ---- the load
+
 -- the object of a name of the walk of the name that is loaded, which is to be a program's
-abbrev pub loaded_object : Files → List ℕ → ObjectOf
-loaded_object files name = walk.object_of causes.Load (file_in files) name
+abbrev pub loaded_object : Policy → Files → List ℕ → ObjectOf
+loaded_object policy files name = walk.object_of causes.Load (loading_file policy files name) name
 
 -- the files of the walk of a name, or the first cause why there is none
-unfoldable pub loaded_files : Files → List ℕ → Result (List ObjectFile) Cause
-loaded_files files name = unless (not (is_valid_name name)) causes.BadName (walk.files causes.Load (file_in files) name)
+unfoldable pub loaded_files : Policy → Files → List ℕ → Result (List ObjectFile) Cause
+loaded_files policy files name = unless (not (is_valid_name name)) causes.BadName (walk.files causes.Load (loading_file policy files name) name)
 
 unfoldable pub loaded : Policy → Option Range → Files → List ℕ → Result Start Cause
-loaded policy busy files name = unless (not (is_valid_name name)) causes.BadName (load (choice policy) busy causes.Load (file_in files) name)
+loaded policy busy files name = unless (not (is_valid_name name)) causes.BadName (load (choice policy) busy causes.Load (loading_file policy files name) name)
 
 -- what the files of a load start from by a choice, or the first cause why they do not
 abbrev pub start_by : {F : Type 0} → Choice → loading.Load F → Result Start Cause
@@ -49,7 +75,7 @@ pub record MayStart {F : Type 0} (pre : F → Bor (List Range) → ℕ → ℕ �
 
 -- whether a cause is a want of memory. No load, no order and no recipe means one
 abbrev pub is_memory : Cause → Bool
-is_memory (causes.Load fault) = faults.is_memory fault
+is_memory (causes.Load fault) = memory.is_memory fault
 is_memory causes.BadName = false
 is_memory causes.BadJournal = false
 is_memory (causes.FileTooLarge name) = false
@@ -60,3 +86,5 @@ is_memory causes.BadCache = false
 is_memory causes.FolderTooLarge = false
 is_memory (causes.NoSlot name span hole) = false
 is_memory (causes.StampsSpent stamp) = false
+is_memory (causes.NotPie name) = false
+is_memory (causes.NotFixed name) = false

@@ -9,7 +9,7 @@ use Rattle.pl_cone.specs.declared.skip.Skip.TheVariants as skips
 use Rattle.pl_loader.specs.declared.fault.LoadFault.{LoadFault}
 use Rattle.pl_loader.specs.declared.fault.LoadFault.TheVariants.{NotThere, BadMark, Refused, NotProgram, NeededIsProgram, TooMany, TlsTooLarge, NoPlace, Undefined, UndefinedTls, TlsMismatch, CopyOutside, NoMemory}
 use Rattle.pl_cli.specs.declared.cause.Cause.{Cause}
-use Rattle.pl_cli.specs.declared.cause.Cause.TheVariants.{BadName, BadJournal, FileTooLarge, Load, InputTooLarge, Recipe, TooManyFiles, BadCache, FolderTooLarge, NoSlot, StampsSpent}
+use Rattle.pl_cli.specs.declared.cause.Cause.TheVariants.{BadName, BadJournal, FileTooLarge, Load, InputTooLarge, Recipe, TooManyFiles, BadCache, FolderTooLarge, NoSlot, StampsSpent, NotPie, NotFixed}
 use Rattle.pl_cli.specs.declared.symbol_text.TheConstants.{BACKSLASH}
 
 -- ---- a symbol's name. It may have any bytes but 0
@@ -94,6 +94,8 @@ cause_text BadCache = codes "BadCache"
 cause_text FolderTooLarge = codes "FolderTooLarge"
 cause_text (NoSlot name span hole) = no_slot name span hole
 cause_text (StampsSpent stamp) = numbered (codes "StampsSpent") stamp
+cause_text (NotPie name) = named (codes "NotPie") name
+cause_text (NotFixed name) = named (codes "NotFixed") name
 
 -- why a name is not prelinked. No run means a want of memory, so the text of NoMemory is never printed
 unfoldable pub skip_text : Skip → List ℕ

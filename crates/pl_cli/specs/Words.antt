@@ -9,7 +9,7 @@ use Rattle.pl_words.specs.declared.command.Command.TheVariants as word
 use Rattle.pl_words.specs.declared.fault.WordsFault.{WordsFault}
 use Rattle.pl_words.specs.declared.fault.WordsFault.TheVariants.{Usage, NoMemory}
 use Rattle.pl_cli.specs.declared.command.Command.{Command}
-use Rattle.pl_cli.specs.declared.command.Command.TheVariants.{Load, All, Preview, UndoAll, Undo, Verify, Store, Remove, Print, Order}
+use Rattle.pl_cli.specs.declared.command.Command.TheVariants.{Load, All, Preview, UndoAll, Undo, Verify, Store, Remove, Fix, Unfix, Print, Order, Demo}
 use Rattle.pl_cli.specs.declared.command.Content.TheVariants.{File, Recipe}
 use Rattle.pl_cli.specs.declared.command.Detail.{Detail}
 use Rattle.pl_cli.specs.declared.command.Detail.TheVariants.{Short, Full}
@@ -34,9 +34,12 @@ there moment (word.Undo names) = Some (Undo names)
 there moment (word.Install name) = Some (Store name File)
 there moment (word.Make name) = Some (Store name Recipe)
 there moment (word.Remove name) = Some (Remove name)
+there moment (word.Fix name policy) = Some (Fix name policy)
+there moment (word.Unfix name) = Some (Unfix name)
 there moment (word.Verify name) = Some (Verify name)
 there moment word.Print = Some Print
 there moment (word.Order name verbose) = Some (Order name (detail_of verbose))
+there moment (word.Demo number) = Some (Demo number)
 there moment _ = None
 
 abbrev pub if_read : ℕ → Result words.Command WordsFault → Option Command
@@ -64,9 +67,12 @@ asks_folder (Some UndoAll) = true
 asks_folder (Some (Undo names)) = true
 asks_folder (Some (Store name kind)) = true
 asks_folder (Some (Remove name)) = true
+asks_folder (Some (Fix name policy)) = true
+asks_folder (Some (Unfix name)) = true
 asks_folder (Some (Verify name)) = is_valid_name name
 asks_folder (Some Print) = true
 asks_folder (Some (Order name detail)) = is_valid_name name
+asks_folder (Some (Demo number)) = false
 
 -- whether the answer rests on the folder's files
 abbrev pub rests_on_files : Option Command → Bool
@@ -78,9 +84,12 @@ rests_on_files (Some UndoAll) = true
 rests_on_files (Some (Undo names)) = true
 rests_on_files (Some (Store name kind)) = is_valid_name name
 rests_on_files (Some (Remove name)) = is_valid_name name
+rests_on_files (Some (Fix name policy)) = is_valid_name name
+rests_on_files (Some (Unfix name)) = is_valid_name name
 rests_on_files (Some (Verify name)) = is_valid_name name
 rests_on_files (Some Print) = true
 rests_on_files (Some (Order name detail)) = is_valid_name name
+rests_on_files (Some (Demo number)) = false
 
 abbrev pub reads_input : Option Command → Bool
 reads_input None = false
@@ -91,9 +100,12 @@ reads_input (Some UndoAll) = false
 reads_input (Some (Undo names)) = false
 reads_input (Some (Store name kind)) = is_valid_name name
 reads_input (Some (Remove name)) = false
+reads_input (Some (Fix name policy)) = false
+reads_input (Some (Unfix name)) = false
 reads_input (Some (Verify name)) = false
 reads_input (Some Print) = false
 reads_input (Some (Order name detail)) = false
+reads_input (Some (Demo number)) = false
 
 -- the bytes of an input, where it tells them
 abbrev pub bytes_of : Option (List ℕ) → List ℕ

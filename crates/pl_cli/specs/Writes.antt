@@ -8,10 +8,11 @@ use Rattle.pl_folder.specs.Seen.{Ending}
 use Rattle.pl_folder.specs.declared.TheConstants.{STORED}
 use Rattle.pl_build.specs.Build.{build}
 use Rattle.pl_build.specs.declared.checks.Fault.{Fault}
-use Rattle.pl_loader.specs.declared.fault.LoadFault.TheVariants.{BadMark, NeededIsProgram, NotThere, Refused, TooMany}
+use Rattle.pl_loader.specs.declared.fault.LoadFault.TheVariants.{BadMark, NeededIsProgram, NoPlace, NotThere, Refused, TooMany}
 use Rattle.pl_batch.specs.Changes.{changes_of, removal_meant, run_meant}
 use Rattle.pl_batch.specs.Commands.{Commands, CommandsDisk, CommandsFiles, Failed, Lacked, Made, Meaning, ready_for}
 use Rattle.pl_batch.specs.Commands as outcomes
+use Rattle.pl_batch.specs.Replace.{fixing_meant, loosening_meant}
 use Rattle.pl_batch.specs.declared.prelinking.Prelinking.{Prelinking}
 use Rattle.pl_batch.specs.declared.cause.Cause as batch
 use Rattle.pl_batch.specs.declared.cause.Cause.TheVariants as batch_causes
@@ -26,7 +27,9 @@ use Rattle.pl_cli.specs.declared.status.Status.TheVariants as statuses
 use Rattle.pl_cli.specs.declared.stop.Stop.{Stop}
 use Rattle.pl_cli.specs.declared.stop.Stop.TheVariants as stops
 use Rattle.pl_cli.specs.declared.store.TheConstants.{RECIPE}
+use Rattle.pl_cli.specs.Load.{choice}
 use Rattle.pl_cli.specs.Words.{bytes_of}
+use Rattle.pl_words.specs.declared.command.Policy.{Policy}
 
 -- ---- meanings
 
@@ -44,6 +47,9 @@ of_batch (batch_causes.StampsSpent stamp) = causes.StampsSpent stamp
 of_batch (batch_causes.Refused name number argument) = causes.Load (Refused name number argument)
 of_batch (batch_causes.NeededIsProgram name) = causes.Load (NeededIsProgram name)
 of_batch (batch_causes.TooMany name) = causes.Load (TooMany name)
+of_batch (batch_causes.NotPie name) = causes.NotPie name
+of_batch (batch_causes.NoPlace name) = causes.Load (NoPlace name)
+of_batch (batch_causes.NotFixed name) = causes.NotFixed name
 
 -- `-u`: the journal is in its grammar, and then the rows of what is undone
 abbrev pub undoes : Run → Meaning Cause
@@ -56,6 +62,14 @@ prelinks asked files = because of_batch (run_meant (runs.All asked) files)
 -- `--remove`
 abbrev pub removes : List ℕ → Meaning Cause
 removes name files = because of_batch (removal_meant name files)
+
+-- `--fix`
+abbrev pub fixes : Policy → List ℕ → Meaning Cause
+fixes policy name files = because of_batch (fixing_meant (choice policy) name files)
+
+-- `--unfix`
+abbrev pub loosens : List ℕ → Meaning Cause
+loosens name files = because of_batch (loosening_meant name files)
 
 -- the most bytes that an input may have
 abbrev pub most_bytes : Content → ℕ

@@ -48,4 +48,10 @@ pub enum Cause {
 
     /// A file is stale, and the greatest stamp, which this is, is the last that there is.
     StampsSpent(u32),
+
+    /// The original of the file of this name is no position-independent program.
+    NotPie(Text),
+
+    /// The original of the file of this name is no fixed program.
+    NotFixed(Text),
 }

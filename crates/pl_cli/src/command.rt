@@ -68,6 +68,19 @@ pub enum Command {
         name: Text,
     },
 
+    /// To fix the position-independent program of that name.
+    Fix {
+        name: Text,
+
+        /// Where it goes.
+        policy: Policy,
+    },
+
+    /// To make the fixed program of that name position-independent again.
+    Unfix {
+        name: Text,
+    },
+
     /// To give the original of the file of that name, where it is what prelinking would make of it.
     Verify {
         name: Text,
@@ -80,5 +93,10 @@ pub enum Command {
     Order {
         name: Text,
         detail: Detail,
+    },
+
+    /// To print what the set of files that a number draws comes to, prelinked and loaded in memory.
+    Demo {
+        number: u64,
     },
 }

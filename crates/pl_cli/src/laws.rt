@@ -2,12 +2,13 @@
 ghost use Rattle.std.specs.Prelude.{ℕ, List, Option};
 ghost use Rattle.pl_base.specs.Answers.{Tells};
 ghost use Rattle.pl_base.specs.Files.{Files};
+ghost use Rattle.pl_cli.specs.Answer.{fixed_line};
 ghost use Rattle.pl_cli.specs.Load.{is_memory, loaded};
 ghost use Rattle.pl_cli.specs.Order.{ordered};
 ghost use Rattle.pl_cli.specs.Print.{printed};
 ghost use Rattle.pl_cli.specs.Reports.{previewed, reported};
 ghost use Rattle.pl_cli.specs.Verified.{verifies};
-ghost use Rattle.pl_cli.specs.Writes.{removes, stores, undoes};
+ghost use Rattle.pl_cli.specs.Writes.{loosens, removes, stores, undoes};
 ghost use Rattle.pl_cli.specs.declared.command.Content.{Content};
 ghost use Rattle.pl_cli.specs.declared.command.Detail.{Detail};
 ghost use Rattle.pl_batch.specs.declared.prelinking.Prelinking.{Prelinking};
@@ -27,6 +28,14 @@ pub fn causes_tell()
     ensures remove { (name : List ℕ) (files : Files) → Tells is_memory (removes name files) }
     ensures store { (name : List ℕ) (kind : Content) (input : List ℕ) (files : Files) →
         Tells is_memory (stores name kind input files) }
+{}
+
+/// Nor does a program that is fixed or loosened. It does nothing.
+#[tactic(auto, using(crate::proofs::TellsLemmas::fixed_tells, crate::proofs::TellsLemmas::unfixed_tells))]
+pub fn replacements_tell()
+    ensures fix { (policy : Policy) (name : List ℕ) (files : Files) →
+        Tells is_memory (fixed_line policy name files) }
+    ensures unfix { (name : List ℕ) (files : Files) → Tells is_memory (loosens name files) }
 {}
 
 /// Nor does a run over all files, or what one would do, or a file that is compared. It does nothing.

@@ -4,7 +4,12 @@
 mod all;
 mod cause;
 mod change;
+mod chosen;
 mod command;
+mod demo;
+mod fix;
+mod fixed;
+mod given;
 mod head;
 mod laws;
 mod load;
@@ -19,6 +24,7 @@ mod store;
 mod symbol_text;
 mod take;
 mod text;
+mod text_sink;
 mod top;
 mod undone;
 mod verify;
@@ -27,6 +33,6 @@ mod words;
 mod write;
 mod write_stop;
 
-pub use laws::{causes_tell, reports_tell};
+pub use laws::{causes_tell, replacements_tell, reports_tell};
 pub use status::Status;
 pub use top::run;

@@ -9,24 +9,26 @@ ghost use Rattle.pl_cli.specs.Load.{MayStart, start_by};
 ghost use Rattle.pl_cli.specs.Stops.{StopsAlone};
 
 use crate::cause::Cause;
+use crate::given::given;
 use crate::stop::Stop;
-use crate::take::take;
 use pl_base::is_valid_name;
 use pl_elf::Range;
 use pl_folder::Folder;
 use pl_loader::{Loader, Started};
 use pl_place::{Holes, Placer};
+use pl_words::Policy;
 use std::alloc::Global;
 
-/// The load of a name that was given the files of its whole walk, one after the other as it wanted them; or the first cause that came before. For a name that is not valid the folder is not asked.
+/// The load of a name that was given the files of its whole walk, one after the other as it wanted them; or the first cause that came before. A position-independent program is loaded as the one that it becomes where the policy places it. For a name that is not valid the folder is not asked.
 pub fn load<'p, D: Folder, F>(
     alloc: Global,
     folder: &mut D,
     name: &str,
     busy: Option<Range>,
+    asked: Policy,
     placer: &'p Placer<F>,
 ) -> Result<Loader<'p, F>, Stop>
-    ensures loaded { HasLoaded name.now result (D.seen folder.old) (D.seen folder.new) }
+    ensures loaded { HasLoaded asked name.now result (D.seen folder.old) (D.seen folder.new) }
     ensures all { IfOk result (λ loader. wants loader.walk.order ≡ None) }
     ensures busy { IfOk result (λ loader. loader.busy ≡ busy) }
     ensures policy { IfOk result (λ loader. loader.policy ≡ placer.entry.now) }
@@ -37,7 +39,7 @@ pub fn load<'p, D: Folder, F>(
     }
     let mut loader = Loader::new(alloc, name, busy, placer)?;
     while let Some(wanted) = loader.wants() {
-        let bytes = take(alloc, folder, wanted)?;
+        let bytes = given(alloc, folder, name, wanted, asked)?;
         loader.give(alloc, Some(bytes))?;
     }
     Ok(loader)

@@ -175,6 +175,8 @@ fn cause_text(alloc: Global, cause: &Cause) -> Result<Vec<u8>, AllocError>
             Ok(no_slot(alloc, name, *span, *hole)?.into_bytes())
         }
         Cause::StampsSpent(stamp) => numbered(alloc, "StampsSpent", *stamp),
+        Cause::NotPie(name) => named(alloc, "NotPie", name),
+        Cause::NotFixed(name) => named(alloc, "NotFixed", name),
     }
 }
 

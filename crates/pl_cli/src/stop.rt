@@ -98,6 +98,9 @@ fn batch_cause(cause: pl_batch::Cause) -> Cause
         }),
         pl_batch::Cause::NeededIsProgram(name) => Cause::Load(LoadFault::NeededIsProgram(name)),
         pl_batch::Cause::TooMany(name) => Cause::Load(LoadFault::TooMany(name)),
+        pl_batch::Cause::NotPie(name) => Cause::NotPie(name),
+        pl_batch::Cause::NoPlace(name) => Cause::Load(LoadFault::NoPlace(name)),
+        pl_batch::Cause::NotFixed(name) => Cause::NotFixed(name),
     }
 }
 

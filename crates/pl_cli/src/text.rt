@@ -29,3 +29,11 @@ pub fn removed_text(alloc: Global, name: &str) -> Result<String, AllocError>
 {
     format!(in alloc; "removed {name}\n")
 }
+
+/// The line of a fixed program that was made position-independent again.
+#[tactic(auto, unfolding(crate::specs::Answer::unfixed_text))]
+pub fn unfixed_text(alloc: Global, name: &str) -> Result<String, AllocError>
+    ensures { IfOk result (λ text. string_bytes text ≡ spec.unfixed_text name.now) }
+{
+    format!(in alloc; "unfixed {name}\n")
+}

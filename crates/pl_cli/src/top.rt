@@ -1,12 +1,12 @@
 // The top call and how its parts end.
-ghost use Rattle.std.specs.Prelude.{◌≡◌, ℕ, List, Option, Some, false, map, option_map, string_bytes};
+ghost use Rattle.std.specs.Prelude.{◌≡◌, ℕ, IfOk, List, Option, Some, false, map, option_map, string_bytes};
 ghost use Rattle.pl_place.specs.Policy as policy;
 ghost use Rattle.pl_io.specs.Seen.{Input};
 ghost use Rattle.pl_folder.specs.Seen.{IsFolder, Seen};
-ghost use Rattle.pl_words.specs.declared.command.Policy.{Policy};
 ghost use Rattle.pl_cli.specs.declared.command.Command as commands;
 ghost use Rattle.pl_cli.specs.declared.command.Command.TheVariants.{Verify};
-ghost use Rattle.pl_cli.specs.Answer.{compared, done, load_answer, undone_text};
+ghost use Rattle.pl_base.specs.Names.{IsNameLength};
+ghost use Rattle.pl_cli.specs.Answer.{compared, done, fixed_text, load_answer, undone_text};
 ghost use Rattle.pl_cli.specs.Came.{Came, HasVerified, as_is};
 ghost use Rattle.pl_cli.specs.Files.{Unasked};
 ghost use Rattle.pl_cli.specs.Load.{MayStart, choice, start_by};
@@ -17,7 +17,11 @@ ghost use Rattle.pl_cli.specs.Words.{asks_folder, command, reads_input};
 use crate::Status;
 use crate::all::{prelink, preview};
 use crate::change::{remove, undo};
+use crate::chosen::chosen;
 use crate::command::Command;
+use crate::demo::demo;
+use crate::fix::{fix, unfix};
+use crate::fixed::fixed_line;
 use crate::load::{load, start};
 use crate::order::order;
 use crate::print::print;
@@ -35,7 +39,7 @@ use pl_elf::Range;
 use pl_folder::Folder;
 use pl_io::{Sink, Source, write_all};
 use pl_loader::Loader;
-use pl_place::{Holes, Placer, highest, lowest, seeded};
+use pl_place::{Holes, Placer};
 use pl_words::{Policy, WordsFault};
 use std::alloc::Global;
 
@@ -98,6 +102,29 @@ fn end_undone<K: Sink>(alloc: Global, came: Result<usize, Stop>, output: &mut K)
     }
 }
 
+/// Writes where a command fixed a program, for which it takes no memory.
+fn finish_fixed<K: Sink>(output: &mut K, name: &str, address: u64) -> Status
+    requires { IsNameLength name.now }
+    ensures { Finishes (done (fixed_text name.now address)) result
+        (K.seen output.old) (K.seen output.new) }
+{
+    let text = fixed_line(name, address);
+    finish(output, text.as_slice(), Status::Done)
+}
+
+/// Writes where a command fixed the program of a name and ends so, or ends with its stop.
+fn end_fixed<K: Sink>(alloc: Global, name: &str, came: Result<u64, Stop>, output: &mut K) -> Status
+    requires { IfOk came (λ _. IsNameLength name.now) }
+    ensures { (asked : Option commands.Command) (a b : Seen) (left rest : Input) → IsFolder a →
+        Came asked (fixed_text name.now) came a b left rest →
+        Ran asked (outside a left (K.seen output.old)) (outside b rest (K.seen output.new)) result }
+{
+    match came {
+        Ok(address) => finish_fixed(output, name, address),
+        Err(stop) => refuse(alloc, stop, output),
+    }
+}
+
 /// Writes the original of a file that was compared, or that it differs, and ends so.
 fn finish_compared<K: Sink>(output: &mut K, original: Option<Vec<u8>>) -> Status
     ensures { Finishes (compared (option_map (λ v. v.items) original)) result
@@ -154,63 +181,48 @@ fn load_placed<D: Folder, K: Sink, F: Fn(&Holes, u64, u64) -> Option<u64>>(
     output: &mut K,
     name: &str,
     busy: Option<Range>,
+    asked: Policy,
     placer: &Placer<F>,
 ) -> Status
     requires may { policy.MayChoose (F.pre placer.now) }
     requires chooses { policy.Chooses (F.post placer.now) }
-    ensures ran { (asked : Policy) → policy.Follows (F.post placer.now) (choice asked) →
+    ensures ran { policy.Follows (F.post placer.now) (choice asked) →
         RanLoad name.now busy asked (D.seen folder.old) (D.seen folder.new)
         (K.seen output.old) (K.seen output.new) result }
     ensures unasked { Unasked name.now folder.old folder.new }
 {
-    match load(alloc, folder, name, busy, placer) {
+    match load(alloc, folder, name, busy, asked, placer) {
         Ok(loader) => start_and_write(alloc, &loader, output),
         Err(stop) => refuse(alloc, stop, output),
     }
 }
 
-/// Loads a program with its libraries where the policy says.
-fn load_and_write<D: Folder, K: Sink>(
+/// Loads a program with its libraries where the policy says. A position-independent program is loaded as the one that it becomes where the policy places it.
+pub(crate) fn load_and_write<D: Folder, K: Sink>(
     alloc: Global,
     folder: &mut D,
     output: &mut K,
     name: &str,
     busy: Option<Range>,
-    policy: Policy,
+    asked: Policy,
 ) -> Status
-    ensures ran { RanLoad name.now busy policy (D.seen folder.old) (D.seen folder.new)
+    ensures ran { RanLoad name.now busy asked (D.seen folder.old) (D.seen folder.new)
         (K.seen output.old) (K.seen output.new) result }
     ensures unasked { Unasked name.now folder.old folder.new }
 {
-    match policy {
-        Policy::Lowest => {
-            let placer = Placer::new(|holes: &Holes, span: u64, align: u64| lowest(
-                holes, span, align,
-            ));
-            load_placed(alloc, folder, output, name, busy, &placer)
-        }
-        Policy::Highest => {
-            let placer = Placer::new(|holes: &Holes, span: u64, align: u64| highest(
-                holes, span, align,
-            ));
-            load_placed(alloc, folder, output, name, busy, &placer)
-        }
-        Policy::Seeded(number) => {
-            let placer = Placer::new(|holes: &Holes, span: u64, align: u64| seeded(
-                number, holes, span, align,
-            ));
-            load_placed(alloc, folder, output, name, busy, &placer)
-        }
-    }
+    let placer = Placer::new(|holes: &Holes, span: u64, align: u64| chosen(
+        asked, holes, span, align,
+    ));
+    load_placed(alloc, folder, output, name, busy, asked, &placer)
 }
 
 /// Does what the words after the program's name ask for.
 ///
 /// The answer is a definition over the words, the folder's files and the bytes of the input: a status and a text for the output. `Done`, `Differs`, `Usage` and `Refused` come only with the whole of it. A fault comes only where the count of its object rose: `ReadFault` and `DiskFault` before anything was written, `WriteFault` after some first bytes of the text. `NoMemory` may come at any time before anything was written. A count of faults rises only where the status is the fault of its object.
 ///
-/// `-a` without `-n`, `-u`, `--install`, `--make` and `--remove` write to the folder, and no other command does. Each recovers it first, and then makes all of its changes or none. After `Done` the only image of the folder is the one with the changes; after `Refused` and `ReadFault` the recovered one; after `WriteFault` the one or the other, as the answer has it. After `DiskFault` and `NoMemory` the folder stands for the files before, after `DiskFault` perhaps for those with all changes. An image that a crash on the way leaves stands for the files before or for those after; until the first settle that is done it may be one of the images at the start.
+/// `-a` without `-n`, `-u`, `--install`, `--make`, `--remove`, `--fix` and `--unfix` write to the folder, and no other command does. Each recovers it first, and then makes all of its changes or none. After `Done` the only image of the folder is the one with the changes; after `Refused` and `ReadFault` the recovered one; after `WriteFault` the one or the other, as the answer has it. After `DiskFault` and `NoMemory` the folder stands for the files before, after `DiskFault` perhaps for those with all changes. An image that a crash on the way leaves stands for the files before or for those after; until the first settle that is done it may be one of the images at the start.
 ///
-/// Only `--install` and `--make` read the input. Words that are no command, and a name of another command that is not valid, ask neither folder nor input.
+/// Only `--install` and `--make` read the input. Words that are no command, `--demo`, and a name of another command that is not valid, ask neither folder nor input.
 ///
 /// `now` is the moment of the run in seconds since 1970: the stamps that `-a` gives are at least so great.
 pub fn run<D: Folder, S: Source, K: Sink>(
@@ -259,6 +271,15 @@ pub fn run<D: Folder, S: Source, K: Sink>(
             let removed = remove(alloc, folder, name.as_str());
             end_with(alloc, removed, output)
         }
+        Ok(Command::Fix { name, policy }) => {
+            let title = name.as_str();
+            let fixed = fix(alloc, folder, title, policy);
+            end_fixed(alloc, title, fixed, output)
+        }
+        Ok(Command::Unfix { name }) => {
+            let unfixed = unfix(alloc, folder, name.as_str());
+            end_with(alloc, unfixed, output)
+        }
         Ok(Command::Verify { name }) => {
             let verified = verify(alloc, folder, name.as_str());
             end_verified(alloc, verified, output)
@@ -270,6 +291,10 @@ pub fn run<D: Folder, S: Source, K: Sink>(
         Ok(Command::Order { name, detail }) => {
             let ordered = order(alloc, folder, name.as_str(), detail);
             end_with(alloc, ordered, output)
+        }
+        Ok(Command::Demo { number }) => {
+            let made = demo(alloc, number);
+            end_with(alloc, made, output)
         }
         Err(WordsFault::Usage) => finish(output, USAGE, Status::Usage),
         Err(WordsFault::NoMemory) => Status::NoMemory,

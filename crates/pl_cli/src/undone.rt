@@ -9,8 +9,8 @@ use arrayvec::ArrayVec;
 /// How many digits a number below 2^64 has at most.
 const DIGITS: usize = 20;
 
-/// How many bytes the line has at most: those of `undone` and a blank, the digits, and the newline.
-pub const ROOM: usize = 28;
+/// How many bytes a line has at most: `fixed`, a name of at most 255 bytes, 16 digits, two blanks and the newline.
+pub const ROOM: usize = 279;
 
 /// A line that takes no memory.
 pub type Line = ArrayVec<u8, ROOM>;
@@ -43,7 +43,7 @@ fn decimal_digits(number: u64) -> Line
 }
 
 /// Adds bytes to a line.
-fn push_all(line: &mut Line, bytes: &[u8])
+pub fn push_all(line: &mut Line, bytes: &[u8])
     requires { array_vec_len line.old + length bytes.now ≤ ROOM }
     ensures { line.new.items ≡ line.old.items ++ bytes.now }
 {

@@ -47,12 +47,15 @@ fn there(command: pl_words::Command, moment: u32) -> Option<Command>
             content: Content::Recipe,
         }),
         pl_words::Command::Remove { name } => Some(Command::Remove { name }),
+        pl_words::Command::Fix { name, policy } => Some(Command::Fix { name, policy }),
+        pl_words::Command::Unfix { name } => Some(Command::Unfix { name }),
         pl_words::Command::Verify { name } => Some(Command::Verify { name }),
         pl_words::Command::Print => Some(Command::Print),
         pl_words::Command::Order { name, verbose } => {
             let detail = if verbose { Detail::Full } else { Detail::Short };
             Some(Command::Order { name, detail })
         }
+        pl_words::Command::Demo { number } => Some(Command::Demo { number }),
         _ => None,
     }
 }

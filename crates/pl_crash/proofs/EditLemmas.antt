@@ -80,7 +80,7 @@ recoverable : (fs : Files) (none : List Change) → ready fs ≡ Ok none → IsR
 unfolding ready
 recoverable fs none is = (refuse_ok (is_some (rows_in (get fs journal))) causes.BadJournal (Ok []) none is).0
 
-recoverable_for : (name : List ℕ) (fs : Files) (none : List Change) → ready_for name fs ≡ Ok none → IsRecoverable (get fs)
+pub recoverable_for : (name : List ℕ) (fs : Files) (none : List Change) → ready_for name fs ≡ Ok none → IsRecoverable (get fs)
 unfolding ready_for
 recoverable_for name fs none is = recoverable fs none (refuse_ok (is_valid_name name) causes.BadName (ready fs) none is).1
 

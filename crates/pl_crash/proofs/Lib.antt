@@ -1,6 +1,7 @@
 pub mod SoundLemmas
 pub mod RowLemmas
 pub mod EditLemmas
+pub mod ReplaceLemmas
 pub mod CommandLemmas
 pub mod OriginalLemmas
 pub mod AllLemmas

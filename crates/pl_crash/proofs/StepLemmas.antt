@@ -43,9 +43,10 @@ use Rattle.pl_batch.specs.declared.prelinking.Prelinking.{Prelinking}
 use Rattle.pl_batch.specs.declared.run.Run.{Run}
 use Rattle.pl_batch.specs.declared.run.Run.TheVariants.{All, UndoAll, Undo, Install}
 use Rattle.pl_crash.specs.Sound.{KeepsTheRule, named}
-use Rattle.pl_crash.specs.Steps.{EmptyIsPastAll, HasLast, RemovalsMakeSteps, RunsMakeSteps, StepsKeepPastAll, cache_or_none}
+use Rattle.pl_crash.specs.Steps.{EmptyIsPastAll, HasLast, RemovalsMakeSteps, ReplacementsMakeSteps, RunsMakeSteps, StepsKeepPastAll, cache_or_none}
 use Rattle.pl_crash.proofs.AllLemmas.{IsMade, cache_own, made, names_are, next_none}
 use Rattle.pl_crash.proofs.EditLemmas.{IsBare, named_edit, put_bare, removal_parts, run_parts, undone_bare}
+use Rattle.pl_crash.proofs.ReplaceLemmas.{bare_mark, replacing_parts}
 use Rattle.pl_crash.proofs.RowLemmas.{OfUndone, all_undone_has, installed_is, original_bare, removed_is, undone_rows_have}
 use Rattle.pl_crash.proofs.SoundLemmas.{named_other, named_valid}
 
@@ -201,6 +202,14 @@ pub removals_steps : RemovalsMakeSteps
 removals_steps name fs rows last rule has is =
     let a = removed_is fs name rows (removal_parts name fs rows is).1 in
     edit_step rows fs last (subst (AllByRecursion IsNamed) (sym a.1) (a.0, tt)) (subst (AllByRecursion IsBare) (sym a.1) (tt, tt)) has
+
+pub replacements_steps : ReplacementsMakeSteps
+replacements_steps make name bare fs rows last rule has is =
+    let a = (replacing_parts make name fs rows is).1 in
+    edit_step rows fs last
+    (subst (AllByRecursion IsNamed) (sym a.are) (put_named (store.is_file (taken fs name) a.bytes) name a.bytes a.valid))
+    (subst (AllByRecursion IsBare) (sym a.are) (put_bare fs name a.bytes (bare_mark a.bytes (bare a.original a.bytes a.made))))
+    has
 
 -- ---- the last stamp
 

@@ -1,5 +1,5 @@
 -- Why no stop of a command leaves an unsound folder.
-use Rattle.std.specs.Prelude.{◌≡◌, ◌⊎◌, ℕ, true, List, None, Ok}
+use Rattle.std.specs.Prelude.{◌≡◌, ◌⊎◌, ℕ, true, List, Some, None, Result, Ok}
 use Rattle.std.specs.FinMap.{get}
 use Rattle.pl_base.specs.Files.{Files}
 use Rattle.pl_folder.specs.Calls.{Calls}
@@ -7,17 +7,21 @@ use Rattle.pl_conflict.specs.Format.{format}
 use Rattle.pl_folder.specs.Disk.{Name, State, View, clock}
 use Rattle.pl_folder.specs.Seen.{Ending, IsFolder, Seen}
 use Rattle.pl_folder.specs.Since.{Since, Within}
+use Rattle.pl_form.specs.Files.{marked_in}
 use Rattle.pl_journal.specs.Meaning.{IsSettled, StandsBetween, StandsFor, applied}
 use Rattle.pl_journal.specs.Names.{journal}
 use Rattle.pl_journal.specs.Rows.{recovered}
 use Rattle.pl_journal.specs.declared.change.Change.{Change}
 use Rattle.pl_known.specs.Skips.{skip_causes}
+use Rattle.pl_place.specs.Policy.{Choice}
 use Rattle.pl_scope.specs.Members.{has}
 use Rattle.pl_sound.specs.History.{IsAllowed}
 use Rattle.pl_sound.specs.Rule.{is_verified, matches, members}
 use Rattle.pl_batch.specs.Changes.{removal_meant, run_meant}
 use Rattle.pl_batch.specs.Commands.{Commands, IsBefore, Meaning, Outcome}
+use Rattle.pl_batch.specs.Replace.{fixed_as, loosened_of, replacing_meant}
 use Rattle.pl_batch.specs.Restored.{restored}
+use Rattle.pl_batch.specs.declared.cause.Cause.{Cause}
 use Rattle.pl_batch.specs.declared.run.Run.{Run}
 use Rattle.pl_crash.specs.Originals.{HasOriginal, HasOriginals, SameOriginals}
 use Rattle.pl_crash.specs.Safe.{Ends, IsSafe, IsSafeImage, Leaves, ReadsAs, after}
@@ -94,7 +98,26 @@ abbrev pub CommandsRead : Type 0 → Type 0
 CommandsRead C =
     (meant : Meaning C) (o : Outcome C) (e : Ending) (a b : Seen) → IsSafe meant → a.tells ≡ true → IsSound (get a.files) → Calls e (Commands meant o) a b → ReadsAs o (IsSafeImage meant (restored a.files)) (get b.files)
 
+-- what is made of an original is no prelinked file
+abbrev pub MakesBare : (List ℕ → Result (List ℕ) Cause) → Type 0
+MakesBare make = (original bytes : List ℕ) → make original ≡ Ok bytes → marked_in bytes ≡ None
+
+-- a command is safe that replaces a file by such a one,
+abbrev pub ReplacementsAreSafe : Type 0
+ReplacementsAreSafe = (make : List ℕ → Result (List ℕ) Cause) (name : List ℕ) → MakesBare make → IsSafe (replacing_meant make name)
+
+-- and a fixed program is one, and a loosened one
+abbrev pub FixingMakesBare : Type 0
+FixingMakesBare = (choose : Choice) (name : List ℕ) → MakesBare (fixed_as choose name)
+
+abbrev pub LooseningMakesBare : Type 0
+LooseningMakesBare = (name : List ℕ) → MakesBare (loosened_of name)
+
 -- ---- originals
+
+-- a command that replaces a file changes the original of its name alone
+abbrev pub ReplacementsKeepOriginals : Type 0
+ReplacementsKeepOriginals = (make : List ℕ → Result (List ℕ) Cause) (name : List ℕ) → MakesBare make → (before : Files) (rows : List Change) → replacing_meant make name before ≡ Ok rows → (file : List ℕ) × HasOriginal name (Some file) (get before) (applied rows (get before))
 
 -- what commands do to originals
 abbrev pub RunsKeepOriginals : Type 0

@@ -1,5 +1,5 @@
 -- Commands as steps of the history of a folder, with the last stamp of its cache.
-use Rattle.std.specs.Prelude.{◌≡◌, ℕ, List, Option, Some, None, Ok}
+use Rattle.std.specs.Prelude.{◌≡◌, ℕ, List, Option, Some, None, Result, Ok}
 use Rattle.std.specs.FinMap.{get}
 use Rattle.pl_base.specs.Files.{Files}
 use Rattle.pl_cache.specs.Reading.{read}
@@ -15,7 +15,10 @@ use Rattle.pl_sound.specs.Plan.{IsBounded}
 use Rattle.pl_batch.specs.Changes.{removal_meant, run_meant}
 use Rattle.pl_batch.specs.Commands.{Meaning}
 use Rattle.pl_batch.specs.Folder.{cache, no_cache}
+use Rattle.pl_batch.specs.Replace.{replacing_meant}
+use Rattle.pl_batch.specs.declared.cause.Cause.{Cause}
 use Rattle.pl_batch.specs.declared.run.Run.{Run}
+use Rattle.pl_crash.specs.Laws.{MakesBare}
 use Rattle.pl_crash.specs.Sound.{KeepsTheRule, named}
 
 -- the bytes of a cache; a folder without the file has an empty one
@@ -39,6 +42,9 @@ RunsMakeSteps = (asked : Run) → MakesStep (run_meant asked)
 
 abbrev pub RemovalsMakeSteps : Type 0
 RemovalsMakeSteps = (name : List ℕ) → MakesStep (removal_meant name)
+
+abbrev pub ReplacementsMakeSteps : Type 0
+ReplacementsMakeSteps = (make : List ℕ → Result (List ℕ) Cause) (name : List ℕ) → MakesBare make → MakesStep (replacing_meant make name)
 
 -- no stamp of a file or of a list is past the last one of the cache
 pub record IsPastAll (v : View) : Type 0 where

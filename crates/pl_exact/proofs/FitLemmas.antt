@@ -35,7 +35,7 @@ use Rattle.pl_batch.specs.declared.prelinking.Prelinking.{Prelinking}
 use Rattle.pl_batch.specs.declared.run.Run.TheVariants.{All, Install, Undo, UndoAll}
 use Rattle.pl_batch.specs.All.{all_changes}
 use Rattle.pl_batch.proofs.OrderLemmas.{distinct_from, keys_ascend}
-use Rattle.pl_exact.specs.Fits.{RemovalsFit, RunsFit}
+use Rattle.pl_exact.specs.Fits.{RemovalsFit, ReplacementsFit, RunsFit}
 use Rattle.pl_exact.proofs.AllLemmas.{RowAt, row_at}
 use Rattle.pl_exact.proofs.FollowLemmas.{Follow, follow_fits, follow_more, name_in, none_is, row_name, valid_names_are}
 use Rattle.pl_exact.proofs.PlanLemmas as plans
@@ -210,6 +210,9 @@ installed_fits files name bytes rows e =
     let stored = bind_ok (stored_as name bytes (file_in bytes)) (λ original. unless (is_full (keys files) name) TooManyFiles (Ok (put files name original))) rows valid.1 in
     let room = unless_ok (is_full (keys files) name) TooManyFiles (Ok (put files name stored.0)) rows stored.2 in
     subst (λ (rs : List Change). fitting rs ≡ Ok rs) (ok_same (put files name stored.0) rows room.1) (put_fits name stored.0 (is_file (taken files name) stored.0) valid.0)
+
+pub replacements_fit : ReplacementsFit
+replacements_fit files name bytes valid = put_fits name bytes (is_file (taken files name) bytes) valid
 
 pub removals_fit : RemovalsFit
 unfolding removed

@@ -1,6 +1,6 @@
 ghost use Rattle.pl_exact.specs.All.{AllGivesNext, NextIsFromScratch};
 ghost use Rattle.pl_exact.specs.Causes.{BadCacheIsOfTheCache};
-ghost use Rattle.pl_exact.specs.Fits.{RemovalsFit, RunsFit};
+ghost use Rattle.pl_exact.specs.Fits.{RemovalsFit, ReplacementsFit, RunsFit};
 
 /// With all its rows done a run that prelinks everything leaves each valid name the file that is planned for it, and the planned cache. In a folder that keeps the rule of prelinked files these are the files from scratch.
 pub fn all_gives_next()
@@ -12,6 +12,7 @@ pub fn all_gives_next()
 pub fn rows_fit()
     ensures runs { RunsFit }
     ensures removals { RemovalsFit }
+    ensures replacements { ReplacementsFit }
 {}
 
 /// The cache that a run leaves always has a spelling, so BadCache comes of the cache that is there alone: slots end at or below 2^47, the run's moment has 32 bits, and the cache is bytes.

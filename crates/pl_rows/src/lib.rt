@@ -6,6 +6,8 @@ mod changed;
 #[cfg(test)]
 mod commands;
 #[cfg(test)]
+mod fixing;
+#[cfg(test)]
 mod loading;
 #[cfg(test)]
 mod making;

@@ -116,7 +116,7 @@ pub fn check(
 }
 
 // Words that are no command, or none that is there: no call of the folder is made.
-const USAGE: [&[&str]; 13] = [
+const USAGE: [&[&str]; 15] = [
     &[],
     &["--load"],
     &["--load", "st", "st"],
@@ -128,8 +128,10 @@ const USAGE: [&[&str]; 13] = [
     &["-a", "--load", "p"],
     &["-p", "x"],
     &["--load", "p", "--busy", "0-1"],
-    &["--demo", "1"],
+    &["--weave"],
     &["--order"],
+    &["--fix"],
+    &["--unfix", "p", "--policy", "lowest"],
 ];
 
 #[test]

@@ -11,14 +11,18 @@ use Rattle.pl_journal.specs.Meaning.{applied}
 use Rattle.pl_journal.specs.declared.change.Change.{Change}
 use Rattle.pl_batch.specs.Changes.{changes_of, removal_meant, run_meant}
 use Rattle.pl_batch.specs.Commands.{Meaning, ready_for}
+use Rattle.pl_batch.specs.Replace.{fixed_as, loosened_of, replacing_meant}
 use Rattle.pl_batch.specs.declared.prelinking.Prelinking.{Prelinking}
 use Rattle.pl_batch.specs.declared.run.Run.{Run}
 use Rattle.pl_batch.specs.declared.run.Run.TheVariants as runs
-use Rattle.pl_cli.specs.Writes.{content, of_batch, prelinks, removes, stores, undoes}
+use Rattle.pl_cli.specs.Load.{choice}
+use Rattle.pl_cli.specs.Writes.{content, fixes, loosens, of_batch, prelinks, removes, stores, undoes}
+use Rattle.pl_words.specs.declared.command.Policy.{Policy}
 use Rattle.pl_cli.specs.declared.cause.Cause.{Cause}
 use Rattle.pl_cli.specs.declared.command.Content.{Content}
 use Rattle.pl_crash.specs.Originals.{HasOriginal, SameOriginals, originals}
 use Rattle.pl_crash.specs.Safe.{IsSafe, after, changed}
+use Rattle.pl_crash.proofs.ReplaceLemmas.{fixing_bare, loosening_bare, replacements_originals, replacements_safe}
 use Rattle.pl_crash.proofs.WholeLemmas.{removals_originals, removals_safe, runs_originals, runs_safe}
 use Rattle.pl_safe.specs.Runs.{KeepsOriginals}
 
@@ -58,6 +62,16 @@ prelink_safe asked = because_safe (run_meant (runs.All asked)) (prelinks asked) 
 
 pub remove_safe : (name : Name) → IsSafe (removes name)
 remove_safe name = because_safe (removal_meant name) (removes name) (removal_of name) (removals_safe name)
+
+pub fix_safe : (policy : Policy) (name : Name) → IsSafe (fixes policy name)
+fix_safe policy name =
+    let make = fixed_as (choice policy) name in
+    because_safe (replacing_meant make name) (fixes policy name) (λ before rows is. because_ok of_batch (replacing_meant make name before) rows is) (replacements_safe make name (fixing_bare (choice policy) name))
+
+pub loosen_safe : (name : Name) → IsSafe (loosens name)
+loosen_safe name =
+    let make = loosened_of name in
+    because_safe (replacing_meant make name) (loosens name) (λ before rows is. because_ok of_batch (replacing_meant make name before) rows is) (replacements_safe make name (loosening_bare name))
 
 pub store_safe : (name : Name) (kind : Content) (bytes : List ℕ) → IsSafe (stores name kind bytes)
 store_safe name kind bytes = record {
@@ -99,3 +113,15 @@ store_keeps name kind bytes before = keeps (Some name) (stores name kind bytes) 
 
 pub remove_keeps : (name : Name) (before : Files) → KeepsOriginals (Some name) (get before) (after (removes name) before)
 remove_keeps name before = keeps (Some name) (removes name) before (λ rows is. others name None (get before) (applied rows (get before)) (removals_originals name before rows (removal_of name before rows is)))
+
+pub fix_keeps : (policy : Policy) (name : Name) (before : Files) → KeepsOriginals (Some name) (get before) (after (fixes policy name) before)
+fix_keeps policy name before = keeps (Some name) (fixes policy name) before (λ rows is.
+    let make = fixed_as (choice policy) name in
+    let a = replacements_originals make name (fixing_bare (choice policy) name) before rows (because_ok of_batch (replacing_meant make name before) rows is) in
+    others name (Some a.0) (get before) (applied rows (get before)) a.1)
+
+pub loosen_keeps : (name : Name) (before : Files) → KeepsOriginals (Some name) (get before) (after (loosens name) before)
+loosen_keeps name before = keeps (Some name) (loosens name) before (λ rows is.
+    let make = loosened_of name in
+    let a = replacements_originals make name (loosening_bare name) before rows (because_ok of_batch (replacing_meant make name before) rows is) in
+    others name (Some a.0) (get before) (applied rows (get before)) a.1)

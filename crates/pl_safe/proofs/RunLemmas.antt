@@ -26,7 +26,7 @@ use Rattle.pl_cli.specs.Words.{bytes_of}
 use Rattle.pl_cli.specs.Writes.{AreBytes, WritesDisk}
 use Rattle.pl_cli.specs.declared.cause.Cause.{Cause}
 use Rattle.pl_cli.specs.declared.command.Command.{Command}
-use Rattle.pl_cli.specs.declared.command.Command.TheVariants.{Load, All, Preview, UndoAll, Undo, Verify, Store, Remove, Print, Order}
+use Rattle.pl_cli.specs.declared.command.Command.TheVariants.{Load, All, Preview, UndoAll, Undo, Verify, Store, Remove, Fix, Unfix, Print, Order, Demo}
 use Rattle.pl_cli.specs.declared.status.Status.{Status}
 use Rattle.pl_cli.specs.declared.status.Status.TheVariants as statuses
 use Rattle.pl_crash.specs.Safe.{IsSafe, IsSafeImage, after}
@@ -34,7 +34,7 @@ use Rattle.pl_crash.specs.Sound.{IsSound}
 use Rattle.pl_crash.proofs.CommandLemmas.{disk_ends, disk_leaves, is_before, looked, reads_path, reads_sound}
 use Rattle.pl_safe.specs.Laws.{EveryRunIsSafe, ReadersLook, OthersKeepOriginals, RunsLeave, RunsEndSound, WritersEnd}
 use Rattle.pl_safe.specs.Runs.{KeepsOriginals, LeavesSound, changed_name, is_whole, meaning, nothing, writes}
-use Rattle.pl_safe.proofs.MeaningLemmas.{prelink_keeps, prelink_safe, remove_keeps, remove_safe, store_keeps, store_safe, undo_all_keeps, undo_keeps, undo_safe}
+use Rattle.pl_safe.proofs.MeaningLemmas.{fix_keeps, fix_safe, loosen_keeps, loosen_safe, prelink_keeps, prelink_safe, remove_keeps, remove_safe, store_keeps, store_safe, undo_all_keeps, undo_keeps, undo_safe}
 
 -- ---- calls that change nothing
 
@@ -115,16 +115,19 @@ record IsWriter (asked : Option Command) : Type 0 where
 -- each is the one or the other
 kind : (asked : Option Command) → IsReader asked ⊎ IsWriter asked
 kind None = inl (record { reads = refl; means = λ bytes. refl; keeps = refl; looks = λ files input status e a b made. waits_look 0 e a b made })
-kind (Some (Load name busy policy)) = inl (record { reads = refl; means = λ bytes. refl; keeps = refl; looks = λ files input status e a b made. waits_look (takes (loaded_object files name) name) e a b made })
+kind (Some (Load name busy policy)) = inl (record { reads = refl; means = λ bytes. refl; keeps = refl; looks = λ files input status e a b made. waits_look (takes (loaded_object policy files name) name) e a b made })
 kind (Some (All asked detail)) = inr (record { writes = refl; safe = λ bytes. prelink_safe asked; keeps = λ bytes before. prelink_keeps asked before; made = λ files input status e a b made. made })
 kind (Some (Preview asked detail)) = inl (record { reads = refl; means = λ bytes. refl; keeps = refl; looks = λ files input status e a b made. made })
 kind (Some UndoAll) = inr (record { writes = refl; safe = λ bytes. undo_safe runs.UndoAll; keeps = λ bytes before. undo_all_keeps before; made = λ files input status e a b made. made })
 kind (Some (Undo names)) = inr (record { writes = refl; safe = λ bytes. undo_safe (runs.Undo names); keeps = λ bytes before. undo_keeps names before; made = λ files input status e a b made. made })
 kind (Some (Store name content)) = inr (record { writes = refl; safe = store_safe name content; keeps = store_keeps name content; made = λ files input status e a b made. made })
 kind (Some (Remove name)) = inr (record { writes = refl; safe = λ bytes. remove_safe name; keeps = λ bytes before. remove_keeps name before; made = λ files input status e a b made. made })
+kind (Some (Fix name policy)) = inr (record { writes = refl; safe = λ bytes. fix_safe policy name; keeps = λ bytes before. fix_keeps policy name before; made = λ files input status e a b made. made })
+kind (Some (Unfix name)) = inr (record { writes = refl; safe = λ bytes. loosen_safe name; keeps = λ bytes before. loosen_keeps name before; made = λ files input status e a b made. made })
 kind (Some (Verify name)) = inl (record { reads = refl; means = λ bytes. refl; keeps = refl; looks = λ files input status e a b made. made })
 kind (Some Print) = inl (record { reads = refl; means = λ bytes. refl; keeps = refl; looks = λ files input status e a b made. waits_look 1 e a b made })
 kind (Some (Order name detail)) = inl (record { reads = refl; means = λ bytes. refl; keeps = refl; looks = λ files input status e a b made. waits_look (takes (object_in files) name) e a b made })
+kind (Some (Demo number)) = inl (record { reads = refl; means = λ bytes. refl; keeps = refl; looks = λ files input status e a b made. waits_look 0 e a b made })
 
 -- ---- a run
 

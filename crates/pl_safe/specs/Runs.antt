@@ -3,10 +3,10 @@ use Rattle.std.specs.Prelude.{◌≡◌, ◌⊎◌, ℕ, Bool, true, false, List
 use Rattle.pl_batch.specs.Commands.{Meaning}
 use Rattle.pl_batch.specs.Restored.{restored}
 use Rattle.pl_batch.specs.declared.run.Run.TheVariants as runs
-use Rattle.pl_cli.specs.Writes.{prelinks, removes, stores, undoes}
+use Rattle.pl_cli.specs.Writes.{fixes, loosens, prelinks, removes, stores, undoes}
 use Rattle.pl_cli.specs.declared.cause.Cause.{Cause}
 use Rattle.pl_cli.specs.declared.command.Command.{Command}
-use Rattle.pl_cli.specs.declared.command.Command.TheVariants.{All, UndoAll, Undo, Store, Remove}
+use Rattle.pl_cli.specs.declared.command.Command.TheVariants.{All, UndoAll, Undo, Store, Remove, Fix, Unfix}
 use Rattle.pl_cli.specs.declared.status.Status.{Status}
 use Rattle.pl_cli.specs.declared.status.Status.TheVariants as statuses
 use Rattle.pl_crash.specs.Originals.{SameOriginals, originals}
@@ -29,6 +29,8 @@ meaning (Some UndoAll) bytes = undoes runs.UndoAll
 meaning (Some (Undo names)) bytes = undoes (runs.Undo names)
 meaning (Some (Store name kind)) bytes = stores name kind bytes
 meaning (Some (Remove name)) bytes = removes name
+meaning (Some (Fix name policy)) bytes = fixes policy name
+meaning (Some (Unfix name)) bytes = loosens name
 meaning _ bytes = nothing
 
 abbrev pub writes : Option Command → Bool
@@ -37,12 +39,16 @@ writes (Some UndoAll) = true
 writes (Some (Undo names)) = true
 writes (Some (Store name kind)) = true
 writes (Some (Remove name)) = true
+writes (Some (Fix name policy)) = true
+writes (Some (Unfix name)) = true
 writes _ = false
 
 -- the name whose original a command may change
 abbrev pub changed_name : Option Command → Option Name
 changed_name (Some (Store name kind)) = Some name
 changed_name (Some (Remove name)) = Some name
+changed_name (Some (Fix name policy)) = Some name
+changed_name (Some (Unfix name)) = Some name
 changed_name _ = None
 
 -- every other name keeps its own

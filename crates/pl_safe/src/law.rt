@@ -10,7 +10,7 @@ pub fn every_run_is_safe()
     ensures writers { WritersEnd }
 {}
 
-/// A command changes at most the original of the one name that it stores or removes.
+/// A command changes at most the original of the one name that it stores, removes, fixes or loosens.
 pub fn others_keep_originals()
     ensures { OthersKeepOriginals }
 {}

@@ -1,10 +1,11 @@
 use Rattle.std.proofs.Common.{◌≡◌, Option, Some, None, map, string_bytes, sym, subst, rules}
 use Rattle.pl_cli.specs.declared.command.Command.{Command}
-use Rattle.pl_cli.specs.declared.command.Command.TheVariants.{All, Load, Order, Preview, Print, Remove, Store, Undo, UndoAll, Verify}
+use Rattle.pl_cli.specs.declared.command.Command.TheVariants.{All, Demo, Fix, Load, Order, Preview, Print, Remove, Store, Undo, UndoAll, Unfix, Verify}
 use Rattle.pl_cli.specs.Outside.{outside}
 use Rattle.pl_cli.specs.Ran.{Ran}
 use Rattle.pl_cli.specs.Words.{command}
-use Rattle.pl_cli.proofs.RunLemmas.{came_ordered, came_previewed, came_printed, ran_lacking, ran_usage}
+use Rattle.pl_cli.proofs.RunLemmas.{came_demo, came_ordered, came_previewed, came_printed, ran_lacking, ran_usage}
+use Rattle.pl_cli.proofs.FixLemmas.{came_fixed, came_unfixed, named_length}
 use Rattle.pl_cli.proofs.WriteLemmas.{came_prelinked, came_removed, came_stored, came_undone, came_undone_all}
 use Rattle.pl_cli.proofs.top.run.Goals as goal
 
@@ -84,6 +85,33 @@ returns-in-Ok-Remove-clause-ran g c =
     (c.end_with-in-Ok-Remove.ensures (Some (Remove c.as_str-in-Ok-Remove.result.now)) (folder c.args.folder.now) (folder c.remove-removed.new.folder) (input c.args.input.now) (input c.args.input.now) (g.met.D.Folder.is_folder c.args.folder.now)
     (came_removed c.as_str-in-Ok-Remove.result.now (input c.args.input.now) c.remove-removed.result c.remove-removed.ensures))
 
+pub end_fixed-requires : goal.end_fixed-requires
+end_fixed-requires g c = named_length c.as_str-title.result.now c.fix-fixed.result c.fix-fixed.ensures.named
+
+pub returns-in-Ok-Fix-clause-ran : goal.returns-in-Ok-Fix-clause-ran
+returns-in-Ok-Fix-clause-ran g c =
+    let folder = g.D.Folder.seen in
+    let input = g.S.Source.seen in
+    let output = g.K.Sink.seen in
+    let name = c.as_str-title.result.now in
+    let is : command c.args.now (map string_bytes c.args.words.now) ≡ Some (Fix name c.in-Ok-Fix.policy) = search rules in
+    subst (λ (asked : Option Command). Ran asked (outside (folder c.args.folder.now) (input c.args.input.now) (output c.args.output.now)) (outside (folder c.fix-fixed.new.folder) (input c.args.input.now) (output c.end_fixed.new.output)) c.end_fixed.result)
+    (sym is)
+    (c.end_fixed.ensures (Some (Fix name c.in-Ok-Fix.policy)) (folder c.args.folder.now) (folder c.fix-fixed.new.folder) (input c.args.input.now) (input c.args.input.now) (g.met.D.Folder.is_folder c.args.folder.now)
+    (came_fixed name c.in-Ok-Fix.policy (input c.args.input.now) c.fix-fixed.result c.fix-fixed.ensures))
+
+pub returns-in-Ok-Unfix-clause-ran : goal.returns-in-Ok-Unfix-clause-ran
+returns-in-Ok-Unfix-clause-ran g c =
+    let folder = g.D.Folder.seen in
+    let input = g.S.Source.seen in
+    let output = g.K.Sink.seen in
+    let name = c.as_str-in-Ok-Unfix.result.now in
+    let is : command c.args.now (map string_bytes c.args.words.now) ≡ Some (Unfix name) = search rules in
+    subst (λ (asked : Option Command). Ran asked (outside (folder c.args.folder.now) (input c.args.input.now) (output c.args.output.now)) (outside (folder c.unfix-unfixed.new.folder) (input c.args.input.now) (output c.end_with-in-Ok-Unfix.new.output)) c.end_with-in-Ok-Unfix.result)
+    (sym is)
+    (c.end_with-in-Ok-Unfix.ensures (Some (Unfix name)) (folder c.args.folder.now) (folder c.unfix-unfixed.new.folder) (input c.args.input.now) (input c.args.input.now) (g.met.D.Folder.is_folder c.args.folder.now)
+    (came_unfixed name (input c.args.input.now) c.unfix-unfixed.result c.unfix-unfixed.ensures))
+
 pub returns-in-Ok-Verify-clause-ran : goal.returns-in-Ok-Verify-clause-ran
 returns-in-Ok-Verify-clause-ran g c =
     let folder = g.D.Folder.seen in
@@ -114,6 +142,17 @@ returns-in-Ok-Order-clause-ran g c =
     (sym is)
     (c.end_with-in-Ok-Order.ensures (Some (Order c.as_str-in-Ok-Order.result.now c.in-Ok-Order.detail)) (folder c.args.folder.now) (folder c.order-ordered.new.folder) (input c.args.input.now) (input c.args.input.now) (g.met.D.Folder.is_folder c.args.folder.now)
     (came_ordered c.as_str-in-Ok-Order.result.now c.in-Ok-Order.detail (input c.args.input.now) c.order-ordered.result c.order-ordered.ensures.ordered))
+
+pub returns-in-Ok-Demo-clause-ran : goal.returns-in-Ok-Demo-clause-ran
+returns-in-Ok-Demo-clause-ran g c =
+    let folder = g.D.Folder.seen in
+    let input = g.S.Source.seen in
+    let output = g.K.Sink.seen in
+    let is : command c.args.now (map string_bytes c.args.words.now) ≡ Some (Demo c.in-Ok-Demo.number) = search rules in
+    subst (λ (asked : Option Command). Ran asked (outside (folder c.args.folder.now) (input c.args.input.now) (output c.args.output.now)) (outside (folder c.args.folder.now) (input c.args.input.now) (output c.end_with-in-Ok-Demo.new.output)) c.end_with-in-Ok-Demo.result)
+    (sym is)
+    (c.end_with-in-Ok-Demo.ensures (Some (Demo c.in-Ok-Demo.number)) (folder c.args.folder.now) (folder c.args.folder.now) (input c.args.input.now) (input c.args.input.now) (g.met.D.Folder.is_folder c.args.folder.now)
+    (came_demo c.in-Ok-Demo.number (folder c.args.folder.now) (input c.args.input.now) c.demo-made.result c.demo-made.ensures))
 
 pub returns-in-Err-Usage-clause-ran : goal.returns-in-Err-Usage-clause-ran
 returns-in-Err-Usage-clause-ran g c =

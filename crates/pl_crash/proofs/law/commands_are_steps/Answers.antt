@@ -1,4 +1,4 @@
-use Rattle.pl_crash.proofs.StepLemmas.{removals_steps, runs_steps}
+use Rattle.pl_crash.proofs.StepLemmas.{removals_steps, replacements_steps, runs_steps}
 use Rattle.pl_crash.proofs.law.commands_are_steps.Goals as goal
 
 pub returns-clause-runs : goal.returns-clause-runs
@@ -6,3 +6,6 @@ returns-clause-runs c = runs_steps
 
 pub returns-clause-removals : goal.returns-clause-removals
 returns-clause-removals c = removals_steps
+
+pub returns-clause-replacements : goal.returns-clause-replacements
+returns-clause-replacements c = replacements_steps

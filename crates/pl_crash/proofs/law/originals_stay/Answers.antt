@@ -1,4 +1,5 @@
 use Rattle.pl_crash.proofs.OriginalLemmas.{images_originals}
+use Rattle.pl_crash.proofs.ReplaceLemmas.{replacements_originals}
 use Rattle.pl_crash.proofs.WholeLemmas.{removals_originals, runs_originals}
 use Rattle.pl_crash.proofs.law.originals_stay.Goals as goal
 
@@ -10,3 +11,6 @@ returns-clause-removals g c = removals_originals
 
 pub returns-clause-images : goal.returns-clause-images
 returns-clause-images g c = images_originals
+
+pub returns-clause-replacements : goal.returns-clause-replacements
+returns-clause-replacements g c = replacements_originals

@@ -1,4 +1,4 @@
-use Rattle.pl_exact.proofs.FitLemmas.{removals_fit, runs_fit}
+use Rattle.pl_exact.proofs.FitLemmas.{removals_fit, replacements_fit, runs_fit}
 use Rattle.pl_exact.proofs.laws.rows_fit.Goals as goal
 
 pub returns-clause-runs : goal.returns-clause-runs
@@ -6,3 +6,6 @@ returns-clause-runs c = runs_fit
 
 pub returns-clause-removals : goal.returns-clause-removals
 returns-clause-removals c = removals_fit
+
+pub returns-clause-replacements : goal.returns-clause-replacements
+returns-clause-replacements c = replacements_fit

@@ -1,0 +1,39 @@
+-- What a load is given of the file of a name, from what the folder gives.
+use Rattle.std.proofs.Common.{◌≡◌, ℕ, List, false, refl, sym, ap, ◌∙◌}
+use Rattle.std.specs.Prelude.{Result, Ok, Err, Vec}
+use Rattle.std.specs.declared.alloc.Global.{Global}
+use Rattle.std.proofs.lemmas.Bool.{false≢true}
+use Rattle.pl_base.specs.Answers.{◌>>=◌}
+use Rattle.pl_base.specs.Files.{Files}
+use Rattle.pl_folder.specs.Seen.{Seen}
+use Rattle.pl_words.specs.declared.command.Policy.{Policy}
+use Rattle.pl_cli.specs.declared.cause.Cause.{Cause}
+use Rattle.pl_cli.specs.declared.stop.Stop.{Stop}
+use Rattle.pl_cli.specs.declared.stop.Stop.TheVariants as stops
+use Rattle.pl_cli.specs.Came.{HasGiven, HasTaken}
+use Rattle.pl_cli.specs.Files.{file_in}
+use Rattle.pl_cli.specs.Load.{given_file, loading_file}
+use Rattle.pl_cli.specs.Stops.{StopsAlone}
+use Rattle.pl_cli.proofs.CallLemmas.{asked_all}
+use Rattle.pl_cli.proofs.LoadLemmas.{lacks_file}
+use Rattle.pl_cli.proofs.StopLemmas.{stops_as}
+
+module _ (policy : Policy) (name n : List ℕ) {a b : Seen} where
+  -- it was not taken
+  pub not_taken : (stop : Stop) → HasTaken n (Err stop) a b → HasGiven policy name n (Err stop) a b
+  not_taken stop took = record { means = stops_as _ _ _ _ stop (λ cause told lacks. lacks_file policy a.files name n cause (lacks told)) took.means; reads = took.reads; fails = took.fails; calls = took.calls }
+
+  module _ (bytes : Vec ℕ Global) (took : HasTaken n (Ok bytes) a b) where
+    given_by : (r : Result (List ℕ) Cause) → file_in a.files n ≡ Ok bytes.items → given_file policy name n bytes.items ≡ r → loading_file policy a.files name n ≡ r
+    unfolding loading_file
+    given_by r there is = ap (λ (found : Result (List ℕ) Cause). found >>= given_file policy name n) there ∙ is
+
+    -- nothing is loaded of it
+    pub not_given : (stop : Stop) → StopsAlone (given_file policy name n bytes.items) stop → HasGiven policy name n (Err stop) a b
+    not_given (stops.Cause cause) alone = record { means = λ told. given_by (Err cause) (took.means told) alone; reads = refl; fails = λ e. absurd (false≢true e); calls = took.calls }
+    not_given stops.Failed alone = absurd alone
+    not_given stops.InputFailed alone = absurd alone
+    not_given stops.NoMemory alone = record { means = tt; reads = refl; fails = λ e. absurd (false≢true e); calls = asked_all _ took.calls }
+
+    pub was_given : (file : Vec ℕ Global) → given_file policy name n bytes.items ≡ Ok file.items → HasGiven policy name n (Ok file) a b
+    was_given file is = record { means = λ told. given_by (Ok file.items) (took.means told) is; reads = refl; fails = λ e. absurd (false≢true e); calls = took.calls }

@@ -1,0 +1,10 @@
+-- What holds where a call answered Ok.
+use Rattle.std.specs.Prelude.{Result, Ok, Err, OnOk}
+
+pub on_ok : {X E P Q : Type 0} (r : Result X E) → (P → Q) → OnOk r P → OnOk r Q
+on_ok (Ok x) f p = f p
+on_ok (Err e) f p = tt
+
+pub always : {X E P : Type 0} (r : Result X E) → P → OnOk r P
+always (Ok x) p = p
+always (Err e) p = tt

@@ -1,0 +1,6 @@
+pub mod AnswerLemmas
+pub mod MakingLemmas
+pub mod PrelinkingLemmas
+pub mod CountingLemmas
+pub mod SetLemmas
+pub mod LawLemmas

@@ -1,0 +1,5 @@
+pub mod Made
+pub mod Prelinked
+pub mod Counted
+pub mod Demo
+pub mod Laws

@@ -1,0 +1,23 @@
+use pl_base::Rows;
+
+/// What a policy makes of a file.
+#[derive(Drop)]
+pub enum Placing {
+    /// It is no position-independent program.
+    NotPie,
+
+    /// No aligned address of the region of such programs holds it.
+    NoPlace,
+
+    /// The program that it becomes would be taken for a prelinked file.
+    Marked,
+
+    /// The program that it becomes.
+    Fixed {
+        /// The address that is added to its own.
+        address: u64,
+
+        /// Its bytes.
+        bytes: Rows<u8>,
+    },
+}
