@@ -20,9 +20,7 @@ use pl_base::Rows;
 use pl_batch::{BatchFault, Cause, Run, changes_of};
 use pl_folder::QuietFolder;
 use pl_io::{Failed, NoMemory};
-use pl_journal::{
-    Change, JournalFault, Step, commit_steps, do_next, finish_steps, stage_changes,
-};
+use pl_journal::{Change, JournalFault, Step, commit_steps, do_next, finish_steps, stage_changes};
 use pl_stage::Held;
 use std::alloc::Global;
 

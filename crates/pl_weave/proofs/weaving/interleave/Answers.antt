@@ -50,7 +50,7 @@ loop-event-preserved g c =
     let events = c.args.events.now in (
       c.in_ok-step.ensures.policy c.args.placer.now c.loop-event.invariant.0,
       subst (IsWeaving c.step.new.weave c.step.new.running) (sym (woven_more start events i (Open 0) c.loop-event-test.true))
-      (c.in_ok-step.ensures.goes (fold after start (take i events)) c.loop-event.invariant.1),
+          (c.in_ok-step.ensures.goes (fold after start (take i events)) c.loop-event.invariant.1),
     )
 
 pub progress-requires : goal.progress-requires
