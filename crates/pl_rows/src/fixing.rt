@@ -78,11 +78,7 @@ const STEPS: [Step; 16] = [
     (&["--fix", "liba"], Status::Refused, "refused NotPie liba\n"),
     (&["--fix", "a/b"], Status::Refused, "refused BadName\n"),
     (&["--fix", "a"], Status::Refused, "refused NotThere a\n"),
-    (
-        &["--unfix", "pi"],
-        Status::Refused,
-        "refused NotFixed pi\n",
-    ),
+    (&["--unfix", "pi"], Status::Refused, "refused NotFixed pi\n"),
     (
         &["--fix", "pi"],
         Status::Done,
@@ -97,11 +93,7 @@ const STEPS: [Step; 16] = [
     ),
     (&["--load", "pi"], Status::Done, FAST),
     (&["--unfix", "pi"], Status::Done, "unfixed pi\n"),
-    (
-        &["--unfix", "pi"],
-        Status::Refused,
-        "refused NotFixed pi\n",
-    ),
+    (&["--unfix", "pi"], Status::Refused, "refused NotFixed pi\n"),
     (&["--load", "pi"], Status::Done, SLOW),
 ];
 
