@@ -16,3 +16,4 @@ pub mod AllLemmas
 pub mod SizeLemmas
 pub mod EntryLemmas
 pub mod VerifyLemmas
+pub mod CopyLemmas

@@ -11,3 +11,4 @@ pub mod Restored
 pub mod Lent
 pub mod Again
 pub mod Verify
+pub mod Copied

@@ -15,3 +15,4 @@ pub mod DecimalLemmas
 pub mod PrintLemmas
 pub mod RunLemmas
 pub mod TellsLemmas
+pub mod WeaveLemmas

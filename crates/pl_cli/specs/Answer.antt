@@ -11,7 +11,7 @@ use Rattle.pl_cli.specs.declared.status.Status.{Status}
 use Rattle.pl_cli.specs.declared.status.Status.TheVariants as statuses
 use Rattle.pl_cli.specs.declared.cause.Cause.{Cause}
 use Rattle.pl_cli.specs.declared.command.Command.{Command}
-use Rattle.pl_cli.specs.declared.command.Command.TheVariants.{Load, All, Preview, UndoAll, Undo, Verify, Store, Remove, Print, Order}
+use Rattle.pl_cli.specs.declared.command.Command.TheVariants.{Load, All, Preview, UndoAll, Undo, Verify, Store, Remove, Print, Weave, Order}
 use Rattle.pl_cli.specs.declared.command.Content.{Content}
 use Rattle.pl_cli.specs.declared.command.Content.TheVariants.{File, Recipe}
 use Rattle.pl_cli.specs.Load.{loaded}
@@ -21,6 +21,7 @@ use Rattle.pl_cli.specs.Print.{printed}
 use Rattle.pl_cli.specs.Refusals.{refusal}
 use Rattle.pl_cli.specs.Reports.{previewed, reported}
 use Rattle.pl_cli.specs.Verified.{verifies}
+use Rattle.pl_cli.specs.Weave.{weaves}
 use Rattle.pl_cli.specs.Words.{reads_input, rests_on_files}
 use Rattle.pl_cli.specs.Writes.{removes, stores, undoes}
 
@@ -93,6 +94,7 @@ answer (Some (Store name kind)) files input = write_answer (λ rows. stored_text
 answer (Some (Remove name)) files input = write_answer (λ rows. removed_text name) (removes name (restored files))
 answer (Some (Verify name)) files input = compare_answer (verifies name files)
 answer (Some Print) files input = text_answer (printed files)
+answer (Some Weave) files input = text_answer (weaves input files)
 answer (Some (Order name detail)) files input = text_answer (ordered detail files name)
 
 -- all that an answer rests on is told: the folder's files, and what is read of the input

@@ -9,6 +9,7 @@ pub mod Print
 pub mod Order
 pub mod Refusals
 pub mod Reports
+pub mod Weave
 pub mod Verified
 pub mod Answer
 pub mod Stops

@@ -5,9 +5,10 @@ use Rattle.pl_io.specs.Reads.{TookAtMost}
 use Rattle.pl_io.specs.Seen.{Input, Output}
 use Rattle.pl_folder.specs.Seen.{Seen, Ending, Done, Broken, Undone}
 use Rattle.pl_cli.specs.declared.command.Command.{Command}
-use Rattle.pl_cli.specs.declared.command.Command.TheVariants.{Load, All, Preview, UndoAll, Undo, Verify, Store, Remove, Print, Order}
+use Rattle.pl_cli.specs.declared.command.Command.TheVariants.{Load, All, Preview, UndoAll, Undo, Verify, Store, Remove, Print, Weave, Order}
 use Rattle.pl_cli.specs.declared.status.Status.{Status}
 use Rattle.pl_cli.specs.declared.status.Status.TheVariants as statuses
+use Rattle.pl_script.specs.declared.TheConstants.{SCRIPT}
 use Rattle.pl_cli.specs.Words.{asks_folder, reads_input}
 use Rattle.pl_cli.specs.Writes.{most_bytes}
 
@@ -82,6 +83,7 @@ most_read (Some (Store name kind)) = most_bytes kind
 most_read (Some (Remove name)) = 0
 most_read (Some (Verify name)) = 0
 most_read (Some Print) = 0
+most_read (Some Weave) = SCRIPT
 most_read (Some (Order name detail)) = 0
 
 -- An input counts a fault exactly where it failed. Nothing is read of one that is not to be read, and else no more than one byte more than it may have.

@@ -9,7 +9,7 @@ use Rattle.pl_words.specs.declared.command.Command.TheVariants as word
 use Rattle.pl_words.specs.declared.fault.WordsFault.{WordsFault}
 use Rattle.pl_words.specs.declared.fault.WordsFault.TheVariants.{Usage, NoMemory}
 use Rattle.pl_cli.specs.declared.command.Command.{Command}
-use Rattle.pl_cli.specs.declared.command.Command.TheVariants.{Load, All, Preview, UndoAll, Undo, Verify, Store, Remove, Print, Order}
+use Rattle.pl_cli.specs.declared.command.Command.TheVariants.{Load, All, Preview, UndoAll, Undo, Verify, Store, Remove, Print, Weave, Order}
 use Rattle.pl_cli.specs.declared.command.Content.TheVariants.{File, Recipe}
 use Rattle.pl_cli.specs.declared.command.Detail.{Detail}
 use Rattle.pl_cli.specs.declared.command.Detail.TheVariants.{Short, Full}
@@ -36,6 +36,7 @@ there moment (word.Make name) = Some (Store name Recipe)
 there moment (word.Remove name) = Some (Remove name)
 there moment (word.Verify name) = Some (Verify name)
 there moment word.Print = Some Print
+there moment word.Weave = Some Weave
 there moment (word.Order name verbose) = Some (Order name (detail_of verbose))
 there moment _ = None
 
@@ -66,6 +67,7 @@ asks_folder (Some (Store name kind)) = true
 asks_folder (Some (Remove name)) = true
 asks_folder (Some (Verify name)) = is_valid_name name
 asks_folder (Some Print) = true
+asks_folder (Some Weave) = true
 asks_folder (Some (Order name detail)) = is_valid_name name
 
 -- whether the answer rests on the folder's files
@@ -80,6 +82,7 @@ rests_on_files (Some (Store name kind)) = is_valid_name name
 rests_on_files (Some (Remove name)) = is_valid_name name
 rests_on_files (Some (Verify name)) = is_valid_name name
 rests_on_files (Some Print) = true
+rests_on_files (Some Weave) = true
 rests_on_files (Some (Order name detail)) = is_valid_name name
 
 abbrev pub reads_input : Option Command → Bool
@@ -93,6 +96,7 @@ reads_input (Some (Store name kind)) = is_valid_name name
 reads_input (Some (Remove name)) = false
 reads_input (Some (Verify name)) = false
 reads_input (Some Print) = false
+reads_input (Some Weave) = true
 reads_input (Some (Order name detail)) = false
 
 -- the bytes of an input, where it tells them

@@ -1,8 +1,9 @@
 -- The text of a start, as it is written piece by piece.
-use Rattle.std.specs.Prelude.{◌≡◌, ℕ, Bool, true, false, List, Result, Ok, Err, IsErrOf, OnOk, OnErr}
+use Rattle.std.specs.Prelude.{◌≡◌, ℕ, Bool, true, false, List, Some, Result, Ok, Err, IsErrOf, OnOk, OnErr}
 use Rattle.pl_base.specs.Counts.{Counted}
 use Rattle.pl_base.specs.Streams.{got_after, GotPrefix}
 use Rattle.pl_io.specs.Seen.{Output}
+use Rattle.pl_cli.specs.declared.text_sink.TextSink.{TextSink}
 use Rattle.pl_cli.specs.declared.write_stop.WriteStop.{WriteStop}
 use Rattle.pl_cli.specs.declared.write_stop.WriteStop.TheVariants.{Failed, NoMemory}
 
@@ -21,3 +22,7 @@ pub record HasWrittenStart (text : List ℕ) (result : Result (Unit {0}) WriteSt
   pub prefix : OnErr result (GotPrefix old.got new.got text)
   pub early : IsErrOf result NoMemory → new.got ≡ old.got
   pub count : Counted (has_failed result) old.faults new.faults
+
+-- a text that grows tells its bytes
+abbrev pub text_seen : TextSink → Output
+text_seen sink = record { got = Some sink.text.items; faults = sink.faults }

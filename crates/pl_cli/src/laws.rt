@@ -7,6 +7,7 @@ ghost use Rattle.pl_cli.specs.Order.{ordered};
 ghost use Rattle.pl_cli.specs.Print.{printed};
 ghost use Rattle.pl_cli.specs.Reports.{previewed, reported};
 ghost use Rattle.pl_cli.specs.Verified.{verifies};
+ghost use Rattle.pl_cli.specs.Weave.{weaves};
 ghost use Rattle.pl_cli.specs.Writes.{removes, stores, undoes};
 ghost use Rattle.pl_cli.specs.declared.command.Content.{Content};
 ghost use Rattle.pl_cli.specs.declared.command.Detail.{Detail};
@@ -29,8 +30,8 @@ pub fn causes_tell()
         Tells is_memory (stores name kind input files) }
 {}
 
-/// Nor does a run over all files, or what one would do, or a file that is compared. It does nothing.
-#[tactic(auto, using(crate::proofs::TellsLemmas::previewed_tells, crate::proofs::TellsLemmas::reported_tells, crate::proofs::TellsLemmas::verified_tells))]
+/// Nor does a run over all files, or what one would do, a file that is compared, or a weave. It does nothing.
+#[tactic(auto, using(crate::proofs::TellsLemmas::previewed_tells, crate::proofs::TellsLemmas::reported_tells, crate::proofs::TellsLemmas::verified_tells, crate::proofs::TellsLemmas::woven_tells))]
 pub fn reports_tell()
     ensures all { (detail : Detail) (asked : Prelinking) (files : Files) →
         Tells is_memory (reported detail asked files) }

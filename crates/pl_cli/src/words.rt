@@ -49,6 +49,7 @@ fn there(command: pl_words::Command, moment: u32) -> Option<Command>
         pl_words::Command::Remove { name } => Some(Command::Remove { name }),
         pl_words::Command::Verify { name } => Some(Command::Verify { name }),
         pl_words::Command::Print => Some(Command::Print),
+        pl_words::Command::Weave => Some(Command::Weave),
         pl_words::Command::Order { name, verbose } => {
             let detail = if verbose { Detail::Full } else { Detail::Short };
             Some(Command::Order { name, detail })

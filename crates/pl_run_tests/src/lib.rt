@@ -15,3 +15,5 @@ mod steps;
 mod stopping;
 #[cfg(test)]
 mod verifying;
+#[cfg(test)]
+mod weaving;
