@@ -17,3 +17,4 @@ pub mod SizeLemmas
 pub mod EntryLemmas
 pub mod VerifyLemmas
 pub mod ReplaceLemmas
+pub mod CopyLemmas

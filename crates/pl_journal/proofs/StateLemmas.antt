@@ -25,7 +25,7 @@ use Rattle.pl_journal.proofs.InPlace.{does_rows, end_read}
 use Rattle.pl_journal.proofs.Meanings.{applied_no_own}
 use Rattle.pl_journal.proofs.Phases.{as_many, below_rows, row_of_first_step}
 
-none_yet : (rows : List Row) (v : View) → Same v (done_from 0 rows (λ j. ltb j 0) v)
+pub none_yet : (rows : List Row) (v : View) → Same v (done_from 0 rows (λ j. ltb j 0) v)
 none_yet rows v n = sym (none_done 0 rows v n) ∙ done_agree 0 rows (λ _. false) (λ j. ltb j 0) v n (λ j le. sym (Rattle.std.proofs.lemmas.Bool.le-ltb j 0 (omega arith)))
 
 pub commit_can : {a b : Seen} (steps : List Step) → CanPut a steps → Calls Done Commits a b → CanGoOn b steps 0

@@ -21,8 +21,8 @@ pub(crate) fn commit<D: Folder>(held: &mut Held<D>) -> Result<(), Failed>
     held.folder.settle()
 }
 
-/// Commits what is staged: then its rows can be done.
-pub(crate) fn commit_steps<D: Folder>(held: &mut Held<D>, steps: &[Step]) -> Result<(), Failed>
+/// Commits what is staged: from then on a recovery makes the changes, and their rows can be done. After a fault the recovered folder is the one before or the one after. It takes no memory.
+pub fn commit_steps<D: Folder>(held: &mut Held<D>, steps: &[Step]) -> Result<(), Failed>
     requires { CanPut (D.seen held.old.folder) steps.now }
     ensures calls { Calls (ends result) Commits (D.seen held.old.folder) (D.seen held.new.folder) }
     ensures can { OnOk result (CanGoOn (D.seen held.new.folder) steps.now 0) }

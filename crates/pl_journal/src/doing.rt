@@ -54,7 +54,7 @@ pub(crate) fn do_rows<D: Folder>(held: &mut Held<D>, steps: &[Step]) -> Result<(
 }
 
 /// Does the next row of a journal, where one is left, after so many: then `true`, else `false` without a call. It takes no memory.
-pub(crate) fn do_next<D: Folder>(
+pub fn do_next<D: Folder>(
     held: &mut Held<D>,
     steps: &[Step],
     done: usize,

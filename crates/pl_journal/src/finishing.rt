@@ -19,8 +19,8 @@ pub(crate) fn finish<D: Folder>(held: &mut Held<D>) -> Result<(), Failed>
     held.folder.settle()
 }
 
-/// Ends a journal all of whose rows are done: then none of its own names is left.
-pub(crate) fn finish_steps<D: Folder>(
+/// Ends a journal all of whose rows are done: then none of its own names is left, and the folder is settled. It takes no memory.
+pub fn finish_steps<D: Folder>(
     held: &mut Held<D>,
     steps: &[Step],
     done: usize,

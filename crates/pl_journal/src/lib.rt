@@ -26,13 +26,17 @@ mod writing;
 
 pub use carrying::carry_out;
 pub use change::Change;
+pub use committing::commit_steps;
+pub use doing::do_next;
 pub use fault::JournalFault;
 pub use file_name::FileName;
+pub use finishing::finish_steps;
 pub use laws::{after_the_start, each_part_stands, never_a_bad_journal, since_the_start};
 pub use reading::read_journal;
 pub use recovering::recover_lent;
 pub use row::Row;
 pub use rows::are_changes;
+pub use staging::stage_changes;
 pub use states::{Committed, Settled, Staged, Stopped};
 pub use step::Step;
 pub use taking::Takes;

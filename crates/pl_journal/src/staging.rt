@@ -86,8 +86,8 @@ fn stage_files<D: Folder>(
     Ok(())
 }
 
-/// Writes the bytes of the changes and their journal, each under an own name, and gives what does the changes. The folder is one that is settled and has none of the journal's own names.
-pub(crate) fn stage_changes<D: Folder>(
+/// Writes the bytes of the changes and their journal, each under an own name, and gives what does the changes. The folder is one that is settled and has none of the journal's own names. Where it gives no answer the folder stands for the files before. `BadJournal` does not come.
+pub fn stage_changes<D: Folder>(
     held: &mut Held<D>,
     alloc: Global,
     changes: &[Change],

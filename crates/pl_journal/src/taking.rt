@@ -6,6 +6,7 @@ ghost use Rattle.pl_journal.specs.declared.step.Step.{Step};
 
 use crate::states::{Committed, Settled};
 use pl_folder::{Folder, FolderFault};
+use pl_stage::Held;
 use std::alloc::Global;
 
 /// A state in which files can be taken.
@@ -48,5 +49,18 @@ impl<'a, D: Folder> Takes for Committed<'a, D> {
 
     fn take_now(&mut self, alloc: Global, name: &str) -> Result<Vec<u8>, FolderFault> {
         self.held.folder.take(alloc, name)
+    }
+}
+
+/// A held folder, between the steps of a run that is done one row at a time: it holds no rows of its own.
+impl<D: Folder> Takes for Held<D> {
+    ghost seen = { λ held. D.seen held.folder };
+
+    ghost place = { λ held. (D.seen held.folder).place };
+
+    ghost rows = { λ held. ([], 0) };
+
+    fn take_now(&mut self, alloc: Global, name: &str) -> Result<Vec<u8>, FolderFault> {
+        self.folder.take(alloc, name)
     }
 }

@@ -1,5 +1,6 @@
 pub mod Taking
 pub mod Opening
 pub mod Runs
+pub mod Running
 pub mod Weaving
 pub mod Laws

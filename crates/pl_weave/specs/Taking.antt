@@ -30,10 +30,10 @@ abbrev pub ending : {X : Type 0} → Result X WeaveFault → Ending
 ending (Ok x) = Done
 ending (Err fault) = fault_ending fault
 
--- why no file was taken: one that is too large is that of the name
+-- why no file was taken: one that is too large is that of the name, which is valid
 abbrev pub Untaken : List ℕ → WeaveFault → Seen → Type 0
 Untaken name Failed old = ⊤
-Untaken name TooLarge old = old.tells ≡ true → taken old.files name ≡ Err folder.TooLarge
+Untaken name TooLarge old = (is_valid_name name ≡ true) × (old.tells ≡ true → taken old.files name ≡ Err folder.TooLarge)
 Untaken name NoMemory old = ⊤
 
 -- the file that a folder has of a name at this moment, or that it has none; the files stay as they are

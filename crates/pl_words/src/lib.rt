@@ -12,4 +12,5 @@ mod words;
 
 pub use command::{AllOptions, Command, Policy};
 pub use fault::WordsFault;
+pub use values::REGION;
 pub use words::read_words;

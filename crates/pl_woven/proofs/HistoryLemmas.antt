@@ -25,8 +25,10 @@ use Rattle.pl_sound.specs.History.{Held}
 use Rattle.pl_sound.specs.Rule as sound
 use Rattle.pl_sound.proofs.Theorems.{histories}
 use Rattle.pl_weave.specs.Opening.{Opened, led_to, opened, seen_of, wanted}
-use Rattle.pl_weave.specs.Runs.{Progress, Runs, begun, begun_by, renamed, renamed_by, with_row}
-use Rattle.pl_weave.specs.Runs.Progress.{Does, Refused}
+use Rattle.pl_weave.specs.Runs.{Runs, begun, begun_by, renamed, renamed_by, run_rows, with_row}
+use Rattle.pl_weave.specs.declared.progress.Progress.{Progress}
+use Rattle.pl_weave.specs.declared.progress.Progress.TheVariants.{Does, Refused}
+use Rattle.pl_weave.proofs.QuietLemmas.{rows_meant}
 use Rattle.pl_weave.specs.Taking.{held_file}
 use Rattle.pl_weave.specs.Weaving.{Weaving, after, opened_at, opened_by, opened_once, woven}
 use Rattle.pl_weave.specs.declared.seen.Seen.{Seen}
@@ -69,13 +71,14 @@ goes_begun files finished [] past last happened has = record {
   held = held_now (named (get files)) past;
   keeps = λ n file h. h;
 }
-goes_begun files finished (run ∷ runs) past last happened has = by (λ more. goes_begun files more runs past last happened has) (run_meant run files) refl
+goes_begun files finished (run ∷ runs) past last happened has = by (λ more. goes_begun files more runs past last happened has) (run_rows run files) refl
   where
-    by : ((more : List Progress) → Goes (begun files more runs) (named (get files)) past) → (r : Result (List Change) Cause) → run_meant run files ≡ r
+    by : ((more : List Progress) → Goes (begun files more runs) (named (get files)) past) → (r : Result (List Change) Cause) → run_rows run files ≡ r
         → Goes (begun_by files finished runs (λ more. begun files more runs) r) (named (get files)) past
     by next (Err cause) is = next (finished ++ Refused cause ∷ [])
     by next (Ok []) is = next (finished ++ Does 0 0 ∷ [])
-    by next (Ok (row ∷ rows)) is =
+    by next (Ok (row ∷ rows)) rows_are =
+        let is : run_meant run files ≡ Ok (row ∷ rows) = rows_meant run files (row ∷ rows) rows_are in
         let step = runs_steps run files (row ∷ rows) last (rule_now (get files) past last happened) has is in
         let made_all = applied_is (row ∷ rows) (get files) in
         record {
