@@ -8,11 +8,15 @@ use Rattle.pl_base.specs.Answers.{◌>>=◌, unless}
 use Rattle.pl_base.specs.Counts.{Counted}
 use Rattle.pl_base.specs.Files.{Files}
 use Rattle.pl_base.specs.Names.{is_valid_name}
+use Rattle.pl_batch.specs.Answers.{Finds, Means, ending}
 use Rattle.pl_batch.specs.Changes.{changes_of, run_meant}
 use Rattle.pl_batch.specs.Commands.{ready, ready_for}
 use Rattle.pl_batch.specs.Store.{installed}
 use Rattle.pl_batch.specs.declared.cause.Cause.{Cause}
 use Rattle.pl_batch.specs.declared.cause.Cause.TheVariants.{BadJournal, BadName, FolderTooLarge}
+use Rattle.pl_batch.specs.declared.fault.BatchFault.{BatchFault}
+use Rattle.pl_batch.specs.declared.fault.BatchFault.TheVariants.{DiskFailed}
+use Rattle.pl_batch.specs.declared.fault.BatchFault.TheVariants as faults
 use Rattle.pl_batch.specs.declared.run.Run.{Run}
 use Rattle.pl_batch.specs.declared.run.Run.TheVariants.{All, UndoAll, Undo, Install}
 use Rattle.pl_folder.specs.Calls.{Calls}
@@ -22,7 +26,7 @@ use Rattle.pl_folder.specs.Seen.{Broken}
 use Rattle.pl_folder.specs.declared.quiet_folder.QuietFolder.{QuietFolder}
 use Rattle.pl_journal.specs.Meaning.{HasNoOwn, rows_for}
 use Rattle.pl_journal.specs.Names.{journal}
-use Rattle.pl_journal.specs.Parts.{NextOn}
+use Rattle.pl_journal.specs.Parts.{Looking, NextOn}
 use Rattle.pl_journal.specs.Rows.{rows_in}
 use Rattle.pl_journal.specs.Spelling.{are_rows}
 use Rattle.pl_journal.specs.declared.change.Change.{Change}
@@ -37,6 +41,18 @@ never_broken a b call = never_rose call.count
 
 pub never_next : {steps : List Step} {done : ℕ} (a b : QuietFolder) → done < length steps → NextOn Broken steps done (quiet_seen a) (quiet_seen b) → ⊥
 never_next a b lt on = never_broken a b (on.next lt)
+
+-- ---- what is found in a folder in memory
+
+module _ {meant : Result (List Change) Cause} (a b : QuietFolder) (r : Result (List Change) BatchFault) (found : Finds meant (λ rows. rows) r (quiet_seen a) (quiet_seen b)) where
+  pub rows_found : (rows : List Change) → r ≡ Ok rows → meant ≡ Ok rows
+  rows_found rows is = subst (λ (q : Result (List Change) BatchFault). Means ((quiet_seen a).tells ≡ true) meant (λ xs. xs) q) is found.means refl
+
+  pub cause_found : (cause : Cause) → r ≡ Err (faults.Cause cause) → meant ≡ Err cause
+  cause_found cause is = subst (λ (q : Result (List Change) BatchFault). Means ((quiet_seen a).tells ≡ true) meant (λ xs. xs) q) is found.means refl
+
+  pub never_found : r ≡ Err DiskFailed → ⊥
+  never_found is = never_broken a b (subst (λ (q : Result (List Change) BatchFault). Calls (ending q) Looking (quiet_seen a) (quiet_seen b)) is found.calls)
 
 -- ---- what a run means of files without a journal
 

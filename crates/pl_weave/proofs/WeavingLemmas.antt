@@ -1,16 +1,19 @@
 -- A loader of a weave opens a file of the folder in which its runs go on.
-use Rattle.std.proofs.Common.{◌≡◌, ◌≢◌, ◌∙◌, ◌<◌, ◌≤◌, ℕ, zero, suc, List, [], ◌∷◌, length, map, Option, Some, None, Result, Ok, Err, Bool, true, false, refl, sym, ap, subst, inl, inr, arith}
+use Rattle.std.proofs.Common.{◌≡◌, ◌≢◌, ◌∙◌, ◌+◌, ◌<◌, ◌≤◌, ℕ, zero, suc, List, [], ◌∷◌, get_or, length, map, take, Option, Some, None, Result, Ok, Err, Bool, true, false, refl, sym, ap, subst, inl, inr, arith}
 use Rattle.std.specs.Prelude.{◌⊎◌, ◌||◌, ◌++◌, All, String, Vec, cond, fold, if◌then◌else◌, is_some, nat_le, slice_get}
 use Rattle.std.specs.declared.alloc.Global.{Global}
+use Rattle.std.specs.List.{list_all}
 use Rattle.std.specs.FinMap.{find, get, get-from_entries}
 use Rattle.std.specs.Cmp.Lexicographic.{nat_list_cmp_total, slice_cmp}
 use Rattle.std.specs.Ordering.{nat_cmp}
+use Rattle.std.proofs.lemmas.List.{length-map}
 use Rattle.std.proofs.lemmas.List.Elements.{All-head, All-tail}
-use Rattle.std.proofs.lemmas.Bool.{cases_Bool, leb-false, le-leb}
+use Rattle.std.proofs.lemmas.Bool.{and_parts, cases_Bool, leb-false, le-leb}
 use Rattle.pl_base.specs.Files.{Files, file_entry, files_of}
 use Rattle.pl_base.specs.Names.{is_valid_name}
 use Rattle.pl_folder.specs.Disk.{same}
 use Rattle.pl_folder.specs.InMemory.{quiet, quiet_files, quiet_seen}
+use Rattle.pl_folder.specs.Seen as folders
 use Rattle.pl_folder.specs.Taken.{stored, taken}
 use Rattle.pl_folder.specs.declared.TheConstants.{STORED}
 use Rattle.pl_folder.specs.declared.fault.FolderFault.TheVariants as folder
@@ -22,6 +25,7 @@ use Rattle.pl_journal.specs.declared.change.Change.{Change}
 use Rattle.pl_loader.specs.Loading.{Loading}
 use Rattle.pl_loader.specs.Walk as walk
 use Rattle.pl_loader.specs.declared.fault.LoadFault.{LoadFault}
+use Rattle.pl_script.specs.Script.{is_of}
 use Rattle.pl_script.specs.declared.script.Event.{Event}
 use Rattle.pl_script.specs.declared.script.Event.TheVariants.{Open, Rename}
 use Rattle.pl_weave.specs.Opening.{Opened, Opens, OpensAt, OpensBy, led_to, opened, seen_of, wanted, with_file}
@@ -30,6 +34,7 @@ use Rattle.pl_weave.specs.Running.{AreStored, HavePolicy, IsUnderWay, IsWeaving,
 use Rattle.pl_weave.specs.Runs.{Runs}
 use Rattle.pl_weave.specs.Taking.{Untaken, held_file}
 use Rattle.pl_weave.specs.Weaving.{Weaving, after, opened_at, opened_by, opened_once}
+use Rattle.pl_weave.specs.declared.fault.WeaveFault.{WeaveFault}
 use Rattle.pl_weave.specs.declared.fault.WeaveFault.TheVariants.{TooLarge}
 use Rattle.pl_weave.specs.declared.running.Running.{Running}
 use Rattle.pl_weave.specs.declared.seen.Seen.{Seen}
@@ -102,6 +107,9 @@ at_number (suc k) (o ∷ os) (p ∷ ps) files before after was now opened others
     ap (λ q. plain q ∷ map plain ps) first ∙ ap (λ qs. plain o ∷ qs) (at_number k os ps files before after was now opened (λ other differs. others (suc other) (λ e. differs (omega (arith, e)))) (omega (arith, count)))
 at_number k [] new files before after was now opened others count = let no : ⊥ = cc in absurd no
 at_number k (o ∷ os) [] files before after was now opened others count = let no : ⊥ = cc in absurd no
+
+pub opened_ok : {F : Type 0} {w new : List (Opened F)} {loader : ℕ} {held : folders.Seen} (r : Result (Unit {0}) WeaveFault) → r ≡ Ok tt → OpensAt r loader w new held → OpensAt (Ok tt) loader w new held
+opened_ok {w = w} {new = new} {loader = loader} {held = held} r is it = subst (λ (q : Result (Unit {0}) WeaveFault). OpensAt q loader w new held) is it
 
 pub opens_one : {F : Type 0} (loader : ℕ) (old new : List (Opened F)) (held files : Files) → Agree (get held) (get files) → OpensAt (Ok tt) loader old new (quiet held) → map plain new ≡ opened_at files loader (map plain old)
 opens_one loader old new held files agree it = at_number loader old new files it.before it.after it.was it.now (plain_opened it.before it.after held files agree it.opens) it.others it.count
@@ -195,6 +203,24 @@ pub fold_more : (w : Weaving) (before : List Event) (event : Event) → fold aft
 fold_more w [] event = refl
 fold_more w (first ∷ before) event = fold_more (after w first) before event
 
+-- ---- one event of a list
+
+pub event_is : (n : ℕ) (events : List Event) (i : ℕ) (d : Event) → i < length events → list_all (is_of n) events ≡ true → is_of n (get_or events i d) ≡ true
+event_is n [] i d lt all = absurd (omega (arith, lt))
+event_is n (first ∷ events) zero d lt all = (and_parts (is_of n first) (list_all (is_of n) events) all).0
+event_is n (first ∷ events) (suc i) d lt all = event_is n events i d (omega (arith, lt)) (and_parts (is_of n first) (list_all (is_of n) events) all).1
+
+take_more : (events : List Event) (i : ℕ) (d : Event) → i < length events → take (suc i) events ≡ take i events ++ get_or events i d ∷ []
+take_more [] i d lt = absurd (omega (arith, lt))
+take_more (first ∷ events) zero d lt = refl
+take_more (first ∷ events) (suc i) d lt = ap (λ (es : List Event). first ∷ es) (take_more events i d (omega (arith, lt)))
+
+-- the weave after one event more
+pub woven_more : (w : Weaving) (events : List Event) (i : ℕ) (d : Event) → i < length events → fold after w (take (i + 1) events) ≡ after (fold after w (take i events)) (get_or events i d)
+woven_more w events i d lt =
+    let next : i + 1 ≡ suc i = omega arith in
+    ap (λ (k : ℕ). fold after w (take k events)) next ∙ ap (fold after w) (take_more events i d lt) ∙ fold_more w (take i events) (get_or events i d)
+
 at_length : (files : Files) (k : ℕ) (os : List (Opened (Unit {0}))) → length (opened_at files k os) ≡ length os
 at_length files k [] = refl
 at_length files zero (o ∷ os) = refl
@@ -209,6 +235,11 @@ after_length w (Rename ∷ events) = after_length (after w Rename) events
 abbrev Small : List (List ℕ × List ℕ) → Type 0
 Small [] = Unit {0}
 Small (e ∷ es) = (length e.1 ≤ STORED) × Small es
+
+-- there are as many loaders of this kind as of the plain one
+pub same_length : {F : Type 0} (loaders : List (Opened F)) (start : Weaving) (names : List (List ℕ)) (events : List Event) → map plain loaders ≡ (fold after start events).loaders → start.loaders ≡ map (opened tt) names → length loaders ≡ length names
+same_length loaders start names events are begin =
+    sym (length-map loaders plain) ∙ ap (λ (os : List (Opened (Unit {0}))). length os) are ∙ after_length start events ∙ ap (λ (os : List (Opened (Unit {0}))). length os) begin ∙ length-map names (opened tt)
 
 -- files in memory, each as long as a folder gives
 pub stored_files : (files : List (String Global × Vec ℕ Global)) → All (λ file. length file.1.items ≤ STORED) files → AreStored (files_of files)

@@ -1,8 +1,8 @@
-use Rattle.std.proofs.Common.{◌≡◌, ◌∙◌, None, refl, ap, sym, rules}
+use Rattle.std.proofs.Common.{◌≡◌, ◌∙◌, None, Ok, refl, ap, sym, rules}
 use Rattle.pl_weave.specs.Opening.{wanted}
 use Rattle.pl_weave.specs.Running.{files_in}
 use Rattle.pl_weave.proofs.QuietLemmas.{never_broken}
-use Rattle.pl_weave.proofs.WeavingLemmas.{never_large, opens_none, opens_one, policy_at}
+use Rattle.pl_weave.proofs.WeavingLemmas.{never_large, opened_ok, opens_none, opens_one, policy_at}
 use Rattle.pl_weave.proofs.weaving.open.Goals as goal
 
 pub returns-then-is_none-clause-opens : goal.returns-then-is_none-clause-opens
@@ -11,10 +11,14 @@ returns-then-is_none-clause-opens g c files agree =
     opens_none c.args.loader c.args.weave.now files c.loader.result.now c.loader.ensures none
 
 pub returns-in-Ok-clause-opens : goal.returns-in-Ok-clause-opens
-returns-in-Ok-clause-opens g c files agree = opens_one c.args.loader c.args.weave.now c.open.new.self (files_in c.args.held.now) files agree c.open.ensures.opens
+returns-in-Ok-clause-opens g c files agree =
+    let is : c.open.result ≡ Ok tt = search rules in
+    opens_one c.args.loader c.args.weave.now c.open.new.self (files_in c.args.held.now) files agree (opened_ok c.open.result is c.open.ensures.opens)
 
 pub returns-in-Ok-clause-same : goal.returns-in-Ok-clause-same
 returns-in-Ok-clause-same g c = c.open.ensures.calls.files refl
 
 pub returns-in-Ok-clause-policy : goal.returns-in-Ok-clause-policy
-returns-in-Ok-clause-policy g c policy has = policy_at policy c.args.loader c.args.weave.now c.open.new.self (files_in c.args.held.now) c.open.ensures.opens has
+returns-in-Ok-clause-policy g c policy has =
+    let is : c.open.result ≡ Ok tt = search rules in
+    policy_at policy c.args.loader c.args.weave.now c.open.new.self (files_in c.args.held.now) (opened_ok c.open.result is c.open.ensures.opens) has

@@ -1,4 +1,4 @@
-use Rattle.std.proofs.Common.{◌≡◌, ◌∙◌, List, [], ◌∷◌, refl, ap, sym, subst, arith}
+use Rattle.std.proofs.Common.{◌≡◌, ◌∙◌, ◌-◌, List, [], ◌∷◌, drop, length, take, refl, ap, sym, subst, arith}
 use Rattle.std.specs.FinMap.{get}
 use Rattle.pl_base.specs.Files.{Files}
 use Rattle.pl_batch.specs.declared.run.Run.{Run}
@@ -19,7 +19,8 @@ begin-requires-clause-no_own c =
 pub loop-left-preserved : goal.loop-left-preserved
 loop-left-preserved c =
     let left = c.loop-left.left.now in
-    let parts = head_rest left Rattle.pl_batch.specs.declared.run.Run.TheVariants.UndoAll c.in-len1-up.len_at_least in
+    let run = c.run-item.result in
+    let parts = head_rest left run c.in-len1-up.len_at_least ∙ ap (λ (first : Run). first ∷ take (length left - 1) (drop 1 left)) (sym c.run-item.is) in
     record {
       runs = (subst AreRuns parts c.loop-left.invariant.runs).1;
       idles = λ files idle.
