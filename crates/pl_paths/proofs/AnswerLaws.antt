@@ -161,6 +161,13 @@ same_folder policy files name same = λ i n. at n i
     at : (n : List ℕ) → (if bytes_eq n name then option_map (first_bytes policy) (valid_file files n) else valid_file files n) ≡ valid_file files n
     at n = by_test n (bytes_eq n name) refl
 
+-- the name of a program that is fixed has that program
+is_fixed : (policy : Policy) (files : Files) (name bytes file : List ℕ) (at : ℕ) → valid_file files name ≡ Some bytes → placed (choice policy) bytes ≡ placings.Fixed at file → loading_folder policy files name name ≡ Some file
+unfolding loading_folder
+is_fixed policy files name bytes file at there is =
+    ap (λ (b : Bool). if b then option_map (first_bytes policy) (valid_file files name) else valid_file files name) ((bytes_eq-Decides name name).1 refl)
+    ∙ ap (option_map (first_bytes policy)) there ∙ ap (λ (xs : List ℕ). Some xs) (first_at policy bytes (placings.Fixed at file) is)
+
 rule_given : {F : Type 0} (causes : Causes F) (policy : Policy) (files : Files) (name : List ℕ) → RuleAt causes (valid_file files) name → RuleAt causes (loading_folder policy files name) name
 rule_given causes policy files name rule = by_file (valid_file files name) refl
   where
@@ -172,18 +179,12 @@ rule_given causes policy files name rule = by_file (valid_file files name) refl
         let one : bytes ≡ other = some_same bytes other (sym there ∙ at) in
         subst (λ (xs : List ℕ). first_bytes policy xs ≡ xs) one (first_at policy bytes p is ∙ same)
 
-    is_fixed : (bytes file : List ℕ) (at : ℕ) → valid_file files name ≡ Some bytes → placed (choice policy) bytes ≡ placings.Fixed at file → loading_folder policy files name name ≡ Some file
-    unfolding loading_folder
-    is_fixed bytes file at there is =
-        ap (λ (b : Bool). if b then option_map (first_bytes policy) (valid_file files name) else valid_file files name) ((bytes_eq-Decides name name).1 refl)
-        ∙ ap (option_map (first_bytes policy)) there ∙ ap (λ (xs : List ℕ). Some xs) (first_at policy bytes (placings.Fixed at file) is)
-
     by_placing : (bytes : List ℕ) → valid_file files name ≡ Some bytes → (p : Placing) → placed (choice policy) bytes ≡ p → RuleAt causes (loading_folder policy files name) name
     by_placing bytes there placings.NotPie is = as_it_is (is_first bytes there placings.NotPie is refl)
     by_placing bytes there placings.NoPlace is = as_it_is (is_first bytes there placings.NoPlace is refl)
     by_placing bytes there placings.Marked is = as_it_is (is_first bytes there placings.Marked is refl)
     by_placing bytes there (placings.Fixed at file) is = λ m hit has.
-        absurd (true≢false (sym hit ∙ unmatched causes (loading_folder policy files name) name file (is_fixed bytes file at there is) (fixed_bare (choice policy) bytes file at is)))
+        absurd (true≢false (sym hit ∙ unmatched causes (loading_folder policy files name) name file (is_fixed policy files name bytes file at there is) (fixed_bare (choice policy) bytes file at is)))
 
     by_file : (o : Option (List ℕ)) → valid_file files name ≡ o → RuleAt causes (loading_folder policy files name) name
     by_file None none = as_it_is (λ bytes there. absurd (none-some bytes (sym none ∙ there)))
