@@ -49,7 +49,7 @@ power_from most (s ∷ ss) p none =
     let parts = or_parts (bad_load s) (list_any bad_load ss) none in
     power_from (max most s.align) ss (power_max most s.align p (bad_align_is s.align (load_fits s parts.0).align)) parts.1
 
-page_power : is_power_of_two PAGE ≡ true
+pub page_power : is_power_of_two PAGE ≡ true
 unfolding lib.Count.ones
 page_power = refl
 

@@ -29,16 +29,18 @@ use Rattle.pl_object.specs.Tables.{sections_window, rela_memory, jmprel_memory, 
 use Rattle.pl_object.specs.declared.object.Object.{Object}
 use Rattle.pl_object.specs.declared.reloc.Reloc.{Reloc}
 use Rattle.pl_object.proofs.FilePartLaws.{loads_parts, loader_loads_byte}
+use Rattle.pl_tls.specs.declared.module.Module.{Module}
+use Rattle.pl_value.specs.Ordinary.{ArePlaced, ordinary}
 use Rattle.pl_move.specs.Moves.{all_moved}
 use Rattle.pl_move.specs.Objects.{tables_of, LieIn}
 use Rattle.pl_move.proofs.MoveLaws.{length-all_moved}
 use Rattle.pl_move.proofs.ObjectLaws.{tables_in}
-use Rattle.pl_fixed.specs.Fixed.{is_relative_at, IsFixedFile}
+use Rattle.pl_fixed.specs.Fixed.{is_relative_at, IsFixedFile, fixed}
+use Rattle.pl_fixed.specs.Laws.{SameImage}
 use Rattle.pl_fixed.proofs.Theorem.{fixed_is_ordinary}
 use Rattle.pl_pie.specs.Words.{passes, is_address, section_words, undefined_words, packed_words, other_words}
-use Rattle.pl_pie.specs.Pie.{as_program, loads_window, begins_low, has_loaded_symbols, loads_sections, writes_kept, is_laid_out}
+use Rattle.pl_pie.specs.Pie.{as_program, loads_window, begins_low, has_loaded_symbols, loads_sections, writes_kept, is_laid_out, pie}
 use Rattle.pl_pie.specs.Fix.{word_windows, fixed_bytes, fits}
-use Rattle.pl_pie.specs.Laws.{FixedFileIsOrdinary}
 use Rattle.pl_pie.proofs.WordLaws.{length-added}
 use Rattle.pl_pie.proofs.PieLaws.{IsPie, pie_is, not_static, and_both, not_true}
 use Rattle.pl_pie.proofs.InsideLaws.{word_windows-append, symbols_size, packed_is, whole_at, words_in}
@@ -199,7 +201,11 @@ small_at o at h = small at o.span (and_both (at % o.align == 0 && nat_le 1374389
     small : (a s : ℕ) → nat_le (a + s) 201863462912 ≡ true → a ≤ ADDRESS_LIMIT
     small a s e = grind (arith, nat_tests)
 
-pub file_is_ordinary : FixedFileIsOrdinary
-file_is_ordinary at o os bytes parts places modules pie fit placed =
+-- with the fixed object itself
+pub fixed_object_is_ordinary : (at : ℕ) (o : Object) (os : List Object) (bytes : List ℕ) (parts : List (List ℕ)) (places : List ℕ) (modules : List Module)
+    → pie bytes ≡ Some o → fits o at ≡ true → ArePlaced (at ∷ places) (as_program bytes ∷ parts) (o ∷ os)
+    → SameImage (ordinary (o ∷ os) (as_program bytes ∷ parts) (at ∷ places) modules)
+    (ordinary (fixed at o ∷ os) (fixed_bytes at o bytes ∷ parts) (0 ∷ places) modules)
+fixed_object_is_ordinary at o os bytes parts places modules pie fit placed =
     let is : IsPie bytes o = pie_is bytes o pie in
     fixed_is_ordinary at o os (as_program bytes) (fixed_bytes at o bytes) parts places modules (movable bytes o at is (small_at o at fit)) (fixed_file bytes o at is) placed

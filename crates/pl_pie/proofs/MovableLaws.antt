@@ -27,7 +27,7 @@ unless_both false b h e = absurd (false≢true e)
 not_zero : (n : ℕ) → 0 < n → n == 0 ≡ false
 not_zero n lt = grind (arith, nat_tests)
 
-below_limit : (v : ℕ) → nat_le ADDRESS_LIMIT v ≡ false → v < ADDRESS_LIMIT
+pub below_limit : (v : ℕ) → nat_le ADDRESS_LIMIT v ≡ false → v < ADDRESS_LIMIT
 below_limit v h = grind (arith, nat_tests)
 
 some_value : (v : ℕ) → v == 0 ≡ false → 0 < v

@@ -33,7 +33,7 @@ use Rattle.pl_pie.proofs.ContentLaws.{turned, within_added, added-append, added_
 use Rattle.pl_pie.proofs.OwnLaws.{all_windows, all_apart, AreSized, are_sized, within_tables, told_header, told_segments, told_sections, told_dynamic, told_symbols, told_rela, told_jmprel, told_packed, sections_apart, undefined_apart, packed_apart}
 use Rattle.pl_pie.proofs.RowOfLaws.{header_moved, segment_moved, section_moved, symbol_row, range_same, range_mapped}
 
-slice_get_at : {X : Type 0} (xs : List X) (i : ℕ) (d : X) → i < length xs → slice_get xs i ≡ Some (get_or xs i d)
+pub slice_get_at : {X : Type 0} (xs : List X) (i : ℕ) (d : X) → i < length xs → slice_get xs i ≡ Some (get_or xs i d)
 slice_get_at [] i d lt = absurd (omega (arith, lt))
 slice_get_at (x ∷ xs) zero d lt = refl
 slice_get_at (x ∷ xs) (suc i) d lt = slice_get_at xs i d (omega (arith, lt))
@@ -218,7 +218,7 @@ module _ (at : ℕ) (p : List ℕ) (o : Object) (is : Accepted p o) (other : is_
 
   -- ---- the program headers
 
-  one_segment : (i : ℕ) → i < o.header.phnum → segment_at file (o.header.phoff + 56 * i) ≡ fixed_segment at (segment_at p (o.header.phoff + 56 * i))
+  pub one_segment : (i : ℕ) → i < o.header.phnum → segment_at file (o.header.phoff + 56 * i) ≡ fixed_segment at (segment_at p (o.header.phoff + 56 * i))
   unfolding main_tables
   one_segment i lt =
       let n : ℕ = o.header.phnum in
@@ -269,7 +269,7 @@ module _ (at : ℕ) (p : List ℕ) (o : Object) (is : Accepted p o) (other : is_
       ∙ slice_get_at (sections p o.header) i d (omega (arith, lt, ap length is.head.sections, count))
       ∙ ap (λ (x : Section). Some x) (get_or-map-range_with_len (section p o.header) 0 o.header.shnum i i d lt (omega arith))
 
-  one_section : (i : ℕ) → i < o.header.shnum → section_at file (o.header.shoff + 64 * i) ≡ fixed_section at (section_at p (o.header.shoff + 64 * i))
+  pub one_section : (i : ℕ) → i < o.header.shnum → section_at file (o.header.shoff + 64 * i) ≡ fixed_section at (section_at p (o.header.shoff + 64 * i))
   unfolding section_words section_at
   one_section i lt =
       let n : ℕ = o.header.shnum in

@@ -1,19 +1,18 @@
 -- What holds of programs that are fixed, and of what is loosened.
-use Rattle.std.specs.Prelude.{◌≡◌, ℕ, ◌<◌, true, List, ◌∷◌, Some, Ok}
+use Rattle.std.specs.Prelude.{◌≡◌, ◌⊎◌, ℕ, ◌<◌, true, List, ◌∷◌, Some, Ok}
 use Rattle.std.specs.Int.{is_power_of_two}
+use Rattle.std.specs.List.{AllZip}
 use Rattle.pl_base.specs.Bytes.{IsBytes}
 use Rattle.pl_tls.specs.declared.module.Module.{Module}
-use Rattle.pl_elf.specs.Kinds.{is_program}
+use Rattle.pl_elf.specs.declared.range.Range.{Range}
 use Rattle.pl_object.specs.Accepted.{HasHead}
 use Rattle.pl_object.specs.Reads.{reads}
 use Rattle.pl_object.specs.declared.object.Object.{Object}
-use Rattle.pl_move.specs.Objects.{tables_of}
 use Rattle.pl_value.specs.Ordinary.{ArePlaced, ordinary}
 use Rattle.pl_fixed.specs.Fixed.{fixed}
 use Rattle.pl_fixed.specs.Laws.{SameImage}
-use Rattle.pl_pie.specs.Words.{other_words}
 use Rattle.pl_pie.specs.Pie.{as_program, pie}
-use Rattle.pl_pie.specs.Fix.{fixed_bytes, fits, page_of, unfixed}
+use Rattle.pl_pie.specs.Fix.{fixed_bytes, fits, unfixed}
 
 -- ---- placing
 
@@ -28,18 +27,9 @@ abbrev pub UnfixIsExact : Type 0
 UnfixIsExact = (file bytes : List ℕ) → unfixed file ≡ Some bytes
     → (o : Object) × (at : ℕ) × (pie bytes ≡ Some o) × (fits o at ≡ true) × (fixed_bytes at o bytes ≡ file)
 
--- a fixed file is read as a program, with the same words, that begins in the page of the address
-pub record IsReadAgain (at : ℕ) (o : Object) (file : List ℕ) (x : Object) : Type 0 where
-  pub read : reads file ≡ Ok x
-  pub program : is_program x.kind ≡ true
-  pub tables : tables_of x ≡ tables_of o
-  pub words : other_words x ≡ other_words o
-  pub page : page_of x ≡ at
-
--- where a fixed file is read again so, it is loosened to what it was made of
+-- a program that is fixed and loosened is the program
 abbrev pub UnfixUndoes : Type 0
-UnfixUndoes = (bytes : List ℕ) (o x : Object) (at : ℕ) → IsBytes bytes → pie bytes ≡ Some o → fits o at ≡ true
-    → IsReadAgain at o (fixed_bytes at o bytes) x → unfixed (fixed_bytes at o bytes) ≡ Some bytes
+UnfixUndoes = (bytes : List ℕ) (o : Object) (at : ℕ) → IsBytes bytes → pie bytes ≡ Some o → fits o at ≡ true → unfixed (fixed_bytes at o bytes) ≡ Some bytes
 
 -- ---- what stands in a fixed file
 
@@ -47,11 +37,27 @@ UnfixUndoes = (bytes : List ℕ) (o x : Object) (at : ℕ) → IsBytes bytes →
 abbrev pub FixedFileBears : Type 0
 FixedFileBears = (at : ℕ) (o : Object) (bytes : List ℕ) → pie bytes ≡ Some o → HasHead (fixed_bytes at o bytes) (fixed at o)
 
+-- ---- what is read of a fixed file
+
+-- the same bytes of the file, or none
+abbrev pub IsSameRange : Range → Range → Type 0
+IsSameRange new old = (new ≡ old) ⊎ ((new.end ≡ new.start) × (old.end ≡ old.start))
+
+-- the fixed object, of which a link table that has no bytes may stand elsewhere
+pub record IsFixed (at : ℕ) (o x : Object) : Type 0 where
+  pub same : x ≡ record (fixed at o) { tables = x.tables }
+  pub tables : AllZip IsSameRange x.tables o.tables
+
+-- a fixed file is accepted, as the fixed program
+abbrev pub FixedFileIsRead : Type 0
+FixedFileIsRead = (bytes : List ℕ) (o : Object) (at : ℕ) → IsBytes bytes → pie bytes ≡ Some o → fits o at ≡ true
+    → (x : Object) × (reads (fixed_bytes at o bytes) ≡ Ok x) × IsFixed at o x
+
 -- ---- images
 
--- a position-independent program at an address, with other members, has the image of the fixed one, or the same link refusal
+-- a position-independent program at an address, with other members, has the image of what is read of the fixed file, or the same link refusal
 abbrev pub FixedFileIsOrdinary : Type 0
-FixedFileIsOrdinary = (at : ℕ) (o : Object) (os : List Object) (bytes : List ℕ) (parts : List (List ℕ)) (places : List ℕ) (modules : List Module)
-    → pie bytes ≡ Some o → fits o at ≡ true → ArePlaced (at ∷ places) (as_program bytes ∷ parts) (o ∷ os)
+FixedFileIsOrdinary = (at : ℕ) (o x : Object) (os : List Object) (bytes : List ℕ) (parts : List (List ℕ)) (places : List ℕ) (modules : List Module)
+    → IsBytes bytes → pie bytes ≡ Some o → fits o at ≡ true → reads (fixed_bytes at o bytes) ≡ Ok x → ArePlaced (at ∷ places) (as_program bytes ∷ parts) (o ∷ os)
     → SameImage (ordinary (o ∷ os) (as_program bytes ∷ parts) (at ∷ places) modules)
-    (ordinary (fixed at o ∷ os) (fixed_bytes at o bytes ∷ parts) (0 ∷ places) modules)
+    (ordinary (x ∷ os) (fixed_bytes at o bytes ∷ parts) (0 ∷ places) modules)

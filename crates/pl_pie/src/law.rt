@@ -1,7 +1,7 @@
 // What holds of programs that are fixed, and of what is loosened.
-ghost use Rattle.pl_pie.specs.Laws.{FixedFileBears, FixedFileIsOrdinary, PiesArePlaced, UnfixIsExact, UnfixUndoes};
+ghost use Rattle.pl_pie.specs.Laws.{FixedFileBears, FixedFileIsOrdinary, FixedFileIsRead, PiesArePlaced, UnfixIsExact, UnfixUndoes};
 
-/// A position-independent program that is loaded at an address of the region, with other members, and the file that `fix` makes of it there have one image, 0 in the link tables, or the same link refusal.
+/// A position-independent program that is loaded at an address of the region, with other members, and the program that is read of the file that `fix` makes of it there have one image, 0 in the link tables, or the same link refusal.
 pub fn fixed_file_is_ordinary()
     ensures { FixedFileIsOrdinary }
 {}
@@ -16,7 +16,12 @@ pub fn pies_are_placed()
     ensures { PiesArePlaced }
 {}
 
-/// What `unfix` gives is a position-independent program, of which the file is the one fixed at an address of the region. And where a fixed file is accepted as a program with the same words that begins in the address's page, `unfix` gives what was fixed.
+/// A file that `fix` makes at an address of the region is accepted, and what is read of it is the fixed object; a link table without bytes may stand elsewhere in it.
+pub fn fixed_file_is_read()
+    ensures { FixedFileIsRead }
+{}
+
+/// What `unfix` gives is a position-independent program, of which the file is the one fixed at an address of the region. And of a file that `fix` makes at an address of the region it gives what was fixed.
 pub fn unfix_is_exact()
     ensures exact { UnfixIsExact }
     ensures undoes { UnfixUndoes }

@@ -12,6 +12,8 @@ mod unfixing;
 mod words;
 
 pub use fixing::fix;
-pub use law::{fixed_file_bears, fixed_file_is_ordinary, pies_are_placed, unfix_is_exact};
+pub use law::{
+    fixed_file_bears, fixed_file_is_ordinary, fixed_file_is_read, pies_are_placed, unfix_is_exact,
+};
 pub use pie::is_pie;
 pub use unfixing::unfix;
