@@ -51,6 +51,12 @@ names_of files = map name files
 abbrev pub bytes_of : List File → List (List ℕ)
 bytes_of files = map bytes files
 
+abbrev pub Copies : Type 0
+Copies = Vec File Global
+
+abbrev pub bytes_in : Copies → List (List ℕ)
+bytes_in copies = bytes_of copies.items
+
 map_push : {X Y : Type 0} (f : X → Y) (xs : List X) (x : X) → map f (xs ++ x ∷ []) ≡ map f xs ++ f x ∷ []
 map_push f [] x = refl
 map_push f (y ∷ ys) x = ap (λ rest. f y ∷ rest) (map_push f ys x)
@@ -108,28 +114,28 @@ module _ (a : Seen) (all : List (List ℕ)) where
         calls = reads_on so_far.calls found.calls;
       }
 
-      pub stops_at : {c : Seen} (fault : BatchFault) → Finds (file_of b.files n) items (Err fault) b c → Finds (all_files a.files (valid_of all)) bytes_of (Err fault) a c
+      pub stops_at : {c : Seen} (fault : BatchFault) → Finds (file_of b.files n) items (Err fault) b c → Finds (all_files a.files (valid_of all)) bytes_in (Err fault) a c
       unfolding all_files
       stops_at DiskFailed found = record { means = tt; calls = reads_on so_far.calls found.calls }
       stops_at NoMemory found = record { means = tt; calls = reads_on so_far.calls found.calls }
       stops_at (faults.Cause cause) found = record { means = λ t. goes t (Err cause) (found.means (so_far.calls.tells ∙ t)); calls = reads_on so_far.calls found.calls }
 
       -- no memory for the file
-      pub lacks_at : {c : Seen} (taken : File) → Finds (file_of b.files n) items (Ok taken.1) b c → Finds (all_files a.files (valid_of all)) bytes_of (Err NoMemory) a c
+      pub lacks_at : {c : Seen} (taken : File) → Finds (file_of b.files n) items (Ok taken.1) b c → Finds (all_files a.files (valid_of all)) bytes_in (Err NoMemory) a c
       lacks_at taken found = record { means = tt; calls = lacks (reads_on so_far.calls found.calls) }
 
-  module _ {b : Seen} (ts : List File) (so_far : CopiedSoFar a b all [] ts) where
-    pub ends : Finds (all_files a.files (valid_of all)) bytes_of (Ok ts) a b
+  module _ {b : Seen} (ts : Copies) (so_far : CopiedSoFar a b all [] ts.items) where
+    pub ends : Finds (all_files a.files (valid_of all)) bytes_in (Ok ts) a b
     unfolding all_files each
-    ends = record { means = λ t. so_far.means t ∙ ap Ok (append-nil (bytes_of ts)); calls = so_far.calls }
+    ends = record { means = λ t. so_far.means t ∙ ap Ok (append-nil (bytes_in ts)); calls = so_far.calls }
 
-    pub end_names : names_of ts ≡ valid_of all
-    end_names = sym (append-nil (names_of ts)) ∙ so_far.names
+    pub end_names : names_of ts.items ≡ valid_of all
+    end_names = sym (append-nil (names_of ts.items)) ∙ so_far.names
 
 -- ---- the folder that they are
 
 -- what is found under a name among files and what follows them
-pub at : List ℕ → List (List ℕ × List ℕ) → Option (List ℕ)
+abbrev pub at : List ℕ → List (List ℕ × List ℕ) → Option (List ℕ)
 at q es = find (slice_cmp nat_cmp) q es
 
 file_is : (files : Files) (n found : List ℕ) → file_of files n ≡ Ok found → get files n ≡ Some found
@@ -176,20 +182,17 @@ no_more false = refl
 -- of names those that are valid
 listed_valid : (q : List ℕ) (ks : List (List ℕ)) → is_listed q (valid_of ks) ≡ (is_valid_name q && is_listed q ks)
 listed_valid q [] = sym (no_more (is_valid_name q))
-listed_valid q (k ∷ ks) = by (is_valid_name k) refl
+listed_valid q (k ∷ ks) = by (is_valid_name k) refl (listed_valid q ks)
   where
-    rest : is_listed q (valid_of ks) ≡ (is_valid_name q && is_listed q ks)
-    rest = listed_valid q ks
-
-    by : (valid : Bool) → is_valid_name k ≡ valid → is_listed q (valid_of (k ∷ ks)) ≡ (is_valid_name q && (same q k || is_listed q ks))
-    by true is =
+    by : (valid : Bool) → is_valid_name k ≡ valid → is_listed q (valid_of ks) ≡ (is_valid_name q && is_listed q ks) → is_listed q (valid_of (k ∷ ks)) ≡ (is_valid_name q && (same q k || is_listed q ks))
+    by true is rest =
         ap (λ (v : Bool). is_listed q (cond v (k ∷ valid_of ks) (valid_of ks))) is ∙ elim (cases_Bool (same q k)) [
           | inl hit ↦
               let valid : is_valid_name q ≡ true = ap is_valid_name (same_name q k hit) ∙ is in
               ap (λ (b : Bool). b || is_listed q (valid_of ks)) hit ∙ sym (ap (λ (b : Bool). b && (same q k || is_listed q ks)) valid ∙ ap (λ (b : Bool). b || is_listed q ks) hit)
           | inr miss ↦ ap (λ (b : Bool). b || is_listed q (valid_of ks)) miss ∙ rest ∙ sym (ap (λ (b : Bool). is_valid_name q && (b || is_listed q ks)) miss)
         ]
-    by false is =
+    by false is rest =
         ap (λ (v : Bool). is_listed q (cond v (k ∷ valid_of ks) (valid_of ks))) is ∙ rest ∙ elim (cases_Bool (same q k)) [
           | inl hit ↦
               let invalid : is_valid_name q ≡ false = ap is_valid_name (same_name q k hit) ∙ is in
@@ -200,7 +203,7 @@ listed_valid q (k ∷ ks) = by (is_valid_name k) refl
 get_kept : (files : Files) (q : List ℕ) → get (kept files) q ≡ cond (is_copied q) (get files q) None
 get_kept files q = get-retain_keys files is_copied q (λ x tie. ap is_copied (sym (slice_cmp-IsAntisymmetric nat_cmp-IsAntisymmetric q x tie)))
 
-at_cache : (q : List ℕ) (cached : Option (List ℕ)) → at q (cache_entry cached) ≡ cond (same q cache) cached None
+pub at_cache : (q : List ℕ) (cached : Option (List ℕ)) → at q (cache_entry cached) ≡ cond (same q cache) cached None
 at_cache q None = by (same q cache)
   where
     by : (b : Bool) → ◌≡◌ {A = Option (List ℕ)} None (cond b None None)
@@ -214,7 +217,7 @@ there_or None other none = none refl
 
 module _ (files : Files) (q : List ℕ) where
   -- the cache's file under its name
-  other : Option (List ℕ)
+  abbrev other : Option (List ℕ)
   other = cond (same q cache) (get files cache) None
 
   other_none : get files q ≡ None → other ≡ None

@@ -18,3 +18,4 @@ pub mod EntryLemmas
 pub mod VerifyLemmas
 pub mod ReplaceLemmas
 pub mod CopyLemmas
+pub mod CopiedLemmas
