@@ -1,5 +1,5 @@
 -- The text of loads that open their files during runs, as a script says, in a copy of a folder; or the first cause why there is none.
-use Rattle.std.specs.Prelude.{◌≡◌, ◌≤◌, ℕ, ◌+◌, ◌==◌, false, true, nat_lt, All, List, [], ◌∷◌, ◌++◌, codes, length, Option, Some, None, String, Vec, Result, Ok, Err, if◌then◌else◌}
+use Rattle.std.specs.Prelude.{◌≡◌, ℕ, ◌+◌, ◌==◌, nat_lt, List, [], ◌∷◌, ◌++◌, codes, length, Option, Some, None, String, Vec, Result, Ok, Err, if◌then◌else◌}
 use Rattle.std.specs.declared.alloc.Global.{Global}
 use Rattle.std.specs.Borrow.{Bor}
 use Rattle.std.specs.FinMap.{get}
@@ -8,13 +8,10 @@ use Rattle.pl_base.specs.Answers.{◌>>=◌, because, unless}
 use Rattle.pl_base.specs.Digits.{line}
 use Rattle.pl_base.specs.Each.{each}
 use Rattle.pl_base.specs.Files.{Files, files_of}
-use Rattle.pl_batch.specs.Copied.{copied}
+use Rattle.pl_batch.specs.Copied.{IsCopy, copied}
 use Rattle.pl_batch.specs.declared.prelinking.Prelinking.{Prelinking}
 use Rattle.pl_batch.specs.declared.run.Run.{Run}
 use Rattle.pl_batch.specs.declared.run.Run.TheVariants as runs
-use Rattle.pl_folder.specs.FileLists.{are_files}
-use Rattle.pl_folder.specs.declared.TheConstants.{STORED}
-use Rattle.pl_journal.specs.Meaning.{HasNoOwn}
 use Rattle.pl_loader.specs.Started.{Start}
 use Rattle.pl_loader.specs.declared.fault.LoadFault.TheVariants.{NotThere}
 use Rattle.pl_elf.specs.declared.range.Range.{Range}
@@ -145,13 +142,11 @@ text_by choose s asked files = weave_text choose (woven files s.loads asked s.ev
 abbrev pub weaves_by : Script → Files → Result (List ℕ) Cause
 weaves_by s files = runs_of files s.runs >>= λ asked. Ok (text_by lowest s asked files)
 
--- what a weave asks for: a script and its runs, and files that a folder may hold, none of them of the journal's own
+-- what a weave asks for: a script, its runs and a copy of a folder
 pub record CanWeave (s : Script) (asked : List Run) (files : List (String Global × Vec ℕ Global)) : Type 0 where
   pub script : IsScript s
   pub runs : AreRuns asked
-  pub files_are : are_files files ≡ true
-  pub no_own : HasNoOwn (get (files_of files))
-  pub stored : All (λ file. length file.1.items ≤ STORED) files
+  pub copy : IsCopy files
 
 -- `--weave`: the script comes first, then what the folder has, then the files that are installed; libraries go to the lowest places
 unfoldable pub weaves : List ℕ → Files → Result (List ℕ) Cause

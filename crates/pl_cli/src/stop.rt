@@ -8,8 +8,8 @@ use pl_build::RecipeFault;
 use pl_cache::CacheFault;
 use pl_io::{NoMemory, ReadFault};
 use pl_loader::LoadFault;
-use pl_script::ScriptFault;
 use pl_scope::WalkFault;
+use pl_script::ScriptFault;
 use std::alloc::{AllocError, AllocFailed};
 
 /// Why a command stopped.

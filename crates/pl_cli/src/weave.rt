@@ -1,11 +1,10 @@
 // Loads that open their files during runs, in a copy of the folder.
-ghost use Rattle.std.specs.Prelude.{◌≡◌, ◌≤◌, All, IfOk, length, true};
+ghost use Rattle.std.specs.Prelude.{◌≤◌, All, IfOk, length};
 ghost use Rattle.std.specs.FinMap.{get};
 ghost use Rattle.pl_base.specs.Files.{files_of};
 ghost use Rattle.pl_batch.specs.Changes.{IsRun};
-ghost use Rattle.pl_folder.specs.FileLists.{are_files};
+ghost use Rattle.pl_batch.specs.Copied.{IsCopy};
 ghost use Rattle.pl_folder.specs.declared.TheConstants.{STORED};
-ghost use Rattle.pl_journal.specs.Meaning.{HasNoOwn};
 ghost use Rattle.pl_place.specs.Policy as policy;
 ghost use Rattle.pl_script.specs.Script.{IsScript};
 ghost use Rattle.pl_weave.specs.Running.{AreRuns};
@@ -75,11 +74,7 @@ fn run_of(alloc: Global, files: &[(String, Vec<u8>)], asked: &RunLine) -> Result
 }
 
 /// The runs that a script asks for, or that a file which is to be installed is not there.
-fn runs_of(
-    alloc: Global,
-    files: &[(String, Vec<u8>)],
-    asked: &[RunLine],
-) -> Result<Rows<Run>, Stop>
+fn runs_of(alloc: Global, files: &[(String, Vec<u8>)], asked: &[RunLine]) -> Result<Rows<Run>, Stop>
     requires { All (λ file. length file.1.items ≤ STORED) files.now }
     ensures means { MeansAlone (spec.runs_of (files_of files.now) asked.now) result }
     ensures are { IfOk result AreRuns }
@@ -115,14 +110,11 @@ fn weave_placed<F: Fn(&Holes, u64, u64) -> Option<u64>>(
 /// The text of the weave of a script over files, with libraries at the lowest places; or that a file which is to be installed is not there.
 fn weave_files(alloc: Global, script: &Script, files: &[(String, Vec<u8>)]) -> Result<Vec<u8>, Stop>
     requires script { IsScript script.now }
-    requires files { are_files files.now ≡ true }
-    requires no_own { HasNoOwn (get (files_of files.now)) }
-    requires stored { All (λ file. length file.1.items ≤ STORED) files.now }
+    requires files { IsCopy files.now }
     ensures { MeansAlone (spec.weaves_by script.now (files_of files.now)) (items_of result) }
 {
     let runs = runs_of(alloc, files, script.runs.as_slice())?;
-    let placer =
-        Placer::new(|holes: &Holes, span: u64, align: u64| lowest(holes, span, align));
+    let placer = Placer::new(|holes: &Holes, span: u64, align: u64| lowest(holes, span, align));
     Ok(weave_placed(alloc, script, runs.as_slice(), files, &placer)?)
 }
 

@@ -188,12 +188,7 @@ fn add_rows(
 }
 
 /// Adds the line of a run.
-fn add_run(
-    alloc: Global,
-    number: usize,
-    run: Progress,
-    out: &mut Vec<u8>,
-) -> Result<(), AllocError>
+fn add_run(alloc: Global, number: usize, run: Progress, out: &mut Vec<u8>) -> Result<(), AllocError>
     ensures { OnOk result (out.new.items ≡ out.old.items ++ spec.run_line number run) }
 {
     match run {
