@@ -18,3 +18,4 @@ pub mod PrintLemmas
 pub mod RunLemmas
 pub mod TellsLemmas
 pub mod DemoLemmas
+pub mod WeaveLemmas
