@@ -26,7 +26,7 @@ pub fn kind_of(scope: &Scope<'_>) -> Kind
 
 /// What is asked of the walk of a name: it begins with a program or library, each member has a form, and those of a program link.
 #[tactic(auto, unfolding(crate::specs::Candidates::fit))]
-pub fn fit(alloc: Global, files: &[Known<'_>], name: &str, scope: &Scope<'_>) -> Result<(), Skip>
+fn fit(alloc: Global, files: &[Known<'_>], name: &str, scope: &Scope<'_>) -> Result<(), Skip>
     ensures { Answers is_memory result (spec.fit (fault_of files.now) name.now scope.now) }
 {
     let kind = kind_of(scope);
