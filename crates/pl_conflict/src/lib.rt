@@ -10,4 +10,4 @@ pub use law::{
     prelinked_are_forms,
 };
 pub use own::own_words;
-pub use rows::conflicts;
+pub use rows::{conflicts, conflicts_by};

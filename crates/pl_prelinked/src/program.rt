@@ -3,15 +3,15 @@ ghost use Rattle.std.specs.Prelude.{◌≡◌, ◌∷◌, length, map, true, fal
 ghost use Rattle.std.specs.List.{All};
 ghost use Rattle.std.specs.Option.{option_map};
 ghost use Rattle.pl_conflict.specs.Prelinked as spec;
-ghost use Rattle.pl_conflict.specs.Conflicts.{conflicts};
+ghost use Rattle.pl_conflict.specs.Compared.{AreConflicts, AreMeanings};
 ghost use Rattle.pl_elf.specs.Kinds.{is_library};
 ghost use Rattle.pl_prelinked.specs.Fills.{fills_of, memory_of};
-ghost use Rattle.pl_prelinked.specs.Programs.{AreFirstFills, BeginsWithProgram, IsFound, IsProgramSet, form_of, result_ok};
+ghost use Rattle.pl_prelinked.specs.Programs.{AreFirstFills, BeginsWithProgram, IsFound, IsMadeWith, IsProgramSet, form_of, result_ok};
 ghost use Rattle.pl_form.specs.Words.{AreFills};
 ghost use Rattle.pl_prelinked.specs.Lent.{AreLent, list_after};
 ghost use Rattle.pl_image.specs.Image.{AreLoaded};
 ghost use Rattle.pl_prelinked.specs.Sources.{AreSources};
-ghost use Rattle.pl_scope.specs.Scope.{IsAccepted, objects};
+ghost use Rattle.pl_scope.specs.Scope.{objects};
 ghost use Rattle.pl_value.specs.Meanings.{meanings};
 ghost use Rattle.pl_value.specs.Ordinary as ordinary;
 ghost use Rattle.pl_tls.specs.declared.fault.TlsFault.{TlsFault};
@@ -22,7 +22,7 @@ use crate::lists::list_after;
 use crate::scopes::{own_walk, places_of, scope_of};
 use crate::{Lent, Source};
 use pl_base::Rows;
-use pl_conflict::conflicts;
+use pl_conflict::conflicts_by;
 use pl_form::{Fill, FormFault, form_program};
 use pl_image::{Loaded, Parts};
 use pl_io::NoMemory;
@@ -145,82 +145,59 @@ fn meanings_of(
     Ok(meanings)
 }
 
-/// The conflict rows of a scope; None where a relocation has no value.
-fn compared(
-    alloc: Global,
-    scope: &Scope<'_>,
-    places: &Places,
-    modules: &[Module],
-    parts: &Parts<'_>,
-) -> Result<Option<Rows<ConflictRow>>, NoMemory>
-    requires one_each { length places.now ≡ length scope.now }
-    requires parts { length parts.now ≡ length scope.now }
-    requires accepted { All IsAccepted (objects scope.now) }
-    requires placed { ordinary.ArePlaced places.now parts.now (objects scope.now) }
-    ensures { IfOk result (λ rows. rows
-        ≡ result_ok (conflicts (objects scope.now) parts.now places.now modules.now)) }
-{
-    match conflicts(alloc, scope, places, modules, parts) {
-        Ok(rows) => Ok(Some(rows)),
-        Err(OrdinaryFault::Link(_)) => Ok(None),
-        Err(OrdinaryFault::NoMemory) => Err(NoMemory),
-    }
-}
-
-/// Those of the members' scope, by the files with which they are compared.
+/// The conflict rows of the members' scope by the meanings of its relocations and the files with which they are compared.
 fn rows_by(
     alloc: Global,
     sources: &[Source<'_>],
-    modules: &[Module],
+    all: &[Meaning],
     parts: &Parts<'_>,
-) -> Result<Option<Rows<ConflictRow>>, NoMemory>
+) -> Result<Rows<ConflictRow>, NoMemory>
     requires sources { AreSources sources.now }
     requires set { IsProgramSet sources.now }
+    requires given { AreMeanings (spec.objects_of sources.now) (spec.slots_of sources.now) all.now }
     requires parts { parts.now ≡ spec.parts_of sources.now }
-    ensures { IfOk result (λ rows. rows ≡ result_ok
-        (conflicts (spec.objects_of sources.now) (spec.parts_of sources.now)
-        (spec.slots_of sources.now) modules.now)) }
+    ensures { IfOk result (AreConflicts (spec.objects_of sources.now) (spec.parts_of sources.now)
+        (spec.slots_of sources.now) all.now) }
 {
     let scope = scope_of(alloc, sources)?;
     let places = places_of(alloc, sources)?;
-    let rows = compared(alloc, &scope, &places, modules, parts)?;
-    Ok(rows)
+    conflicts_by(alloc, &scope, &places, all, parts)
 }
 
 /// The same where these files are to be made.
 fn rows_made(
     alloc: Global,
     sources: &[Source<'_>],
-    modules: &[Module],
-) -> Result<Option<Rows<ConflictRow>>, NoMemory>
+    all: &[Meaning],
+) -> Result<Rows<ConflictRow>, NoMemory>
     requires sources { AreSources sources.now }
     requires set { IsProgramSet sources.now }
-    ensures { IfOk result (λ rows. rows ≡ result_ok
-        (conflicts (spec.objects_of sources.now) (spec.parts_of sources.now)
-        (spec.slots_of sources.now) modules.now)) }
+    requires given { AreMeanings (spec.objects_of sources.now) (spec.slots_of sources.now) all.now }
+    ensures { IfOk result (AreConflicts (spec.objects_of sources.now) (spec.parts_of sources.now)
+        (spec.slots_of sources.now) all.now) }
 {
     let files = parts_of(alloc, sources)?;
     let parts = lent(alloc, &files)?;
-    rows_by(alloc, sources, modules, &parts)
+    rows_by(alloc, sources, all, &parts)
 }
 
 /// The same where these files may be there.
 fn rows_of(
     alloc: Global,
     sources: &[Source<'_>],
-    modules: &[Module],
+    all: &[Meaning],
     lent: &Lent<'_>,
-) -> Result<Option<Rows<ConflictRow>>, NoMemory>
+) -> Result<Rows<ConflictRow>, NoMemory>
     requires sources { AreSources sources.now }
     requires set { IsProgramSet sources.now }
+    requires given { AreMeanings (spec.objects_of sources.now) (spec.slots_of sources.now) all.now }
     requires lent { AreLent sources.now lent.now }
-    ensures { IfOk result (λ rows. rows ≡ result_ok
-        (conflicts (spec.objects_of sources.now) (spec.parts_of sources.now)
-        (spec.slots_of sources.now) modules.now)) }
+    ensures { IfOk result (AreConflicts (spec.objects_of sources.now) (spec.parts_of sources.now)
+        (spec.slots_of sources.now) all.now) }
 {
     match lent.parts {
-        None => rows_made(alloc, sources, modules),
-        Some(parts) => rows_by(alloc, sources, modules, parts),
+        None => rows_made(alloc, sources, all),
+        Some(parts) => rows_by(alloc, sources, all, parts),
     }
 }
 
@@ -335,21 +312,15 @@ fn with_meanings(
     alloc: Global,
     sources: &[Source<'_>],
     lent: &Lent<'_>,
-    modules: &[Module],
     all: &[Meaning],
 ) -> Result<Option<Vec<u8>>, NoMemory>
     requires sources { AreSources sources.now }
     requires set { IsProgramSet sources.now }
     requires lent { AreLent sources.now lent.now }
-    requires given { Some all.now ≡ result_ok
-        (meanings (spec.objects_of sources.now) (spec.slots_of sources.now) modules.now) }
-    ensures { IfOk result (λ file. option_map (λ v. v.items) file
-        ≡ spec.stored (spec.with_modules {E = TlsFault} sources.now (Ok modules.now))) }
+    requires given { AreMeanings (spec.objects_of sources.now) (spec.slots_of sources.now) all.now }
+    ensures { IfOk result (λ file. IsMadeWith sources.now all.now (option_map (λ v. v.items) file)) }
 {
-    let compared = rows_of(alloc, sources, modules, lent)?;
-    let Some(rows) = compared else {
-        return Ok(None);
-    };
+    let rows = rows_of(alloc, sources, all, lent)?;
     with_rows(alloc, sources, lent.list, all, rows.as_slice())
 }
 
@@ -370,7 +341,7 @@ fn with_modules(
     let Some(meanings) = given else {
         return Ok(None);
     };
-    with_meanings(alloc, sources, lent, modules, meanings.as_slice())
+    with_meanings(alloc, sources, lent, meanings.as_slice())
 }
 
 /// The prelinked file of a program, by the members of its walk, it first; None where their thread-local storage or their links have a refusal, or the file is longer than a folder stores.
