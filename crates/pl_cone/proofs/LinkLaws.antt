@@ -143,9 +143,9 @@ module _ (files : List Known) (n : List ℕ) (ws : Walked) (h : walk_in files n 
       let relocs : relocations_in (slice_get (objects own) 0) ≡ o.relocations = ap relocations_in (object_at own 0 l.name first.object first.at) ∙ ap (λ (p : Object). p.relocations) same in
       let r : Reloc = get_or o.relocations i d in
       let flags : AllZip (IsFlag is.definers (objects own)) o.relocations l.closed = subst (λ (rs : List Reloc). AllZip (IsFlag is.definers (objects own)) rs l.closed) relocs is.flags in
-      let by : IsClosedBy is.definers (objects own) r = zip_at (IsFlag is.definers (objects own)) o.relocations l.closed i d true flags set refl in
+      let known : IsClosedBy is.definers (objects own) r = zip_at (IsFlag is.definers (objects own)) o.relocations l.closed i d true flags set refl in
       let whole : IsClosed (folder files) l.name own r =
-      closed (folder files) is.definers l.name own r (record { hashes = is.hashes; made = walk_made files l.name own is.walks; first = first }) by in
+      closed (folder files) is.definers l.name own r (record { hashes = is.hashes; made = walk_made files l.name own is.walks; first = first }) known in
       let named : IsMember ws m l.name = record { object = o; at = at } in
       let word = whole (λ _. 0) in
       value_there (objects ws) (zeros ws) modules m r word.0 (word.1 ws m (zeros ws) modules (record {

@@ -1,8 +1,9 @@
 -- Which relocations of libraries are known to have a value in every walk.
-use Rattle.std.specs.Prelude.{◌≡◌, ⊥, ℕ, ◌<◌, true, List, Option, Some, None, Ok, Err, Result, find, length, slice_get, slice_index_or}
+use Rattle.std.specs.Prelude.{◌≡◌, ⊥, ℕ, ◌<◌, Bool, true, false, List, Option, Some, None, Ok, find, length, slice_get, slice_index_or}
 use Rattle.std.specs.List.{All, AllZip, filter_map}
 use Rattle.std.specs.Option.{option_map}
 use Rattle.std.specs.Str.{bytes_eq}
+use Rattle.pl_elf.specs.Kinds.{is_library}
 use Rattle.pl_links.specs.Closed.{IsFlag}
 use Rattle.pl_links.specs.Definers.{HasHashes}
 use Rattle.pl_object.specs.declared.object.Object.{Object}
@@ -40,6 +41,13 @@ named m = option_map (λ x. (x.name, x.object.now)) m
 -- the names of files that have objects, with these
 abbrev pub named_objects : List Known → Walked
 named_objects files = filter_map named_object files
+
+abbrev pub is_library_of : Option Original → Bool
+is_library_of None = false
+is_library_of (Some o) = is_library o.object.now.kind
+
+abbrev pub is_library_known : Known → Bool
+is_library_known k = is_library_of (original_in (Some k.entry))
 
 -- flags for the relocations of a library, by its own walk and by what the objects of the folder define
 pub record IsLink (files : List Known) (l : Link) : Type 0 where

@@ -59,7 +59,10 @@ fn definers_of(alloc: Global, files: &[Known<'_>]) -> Result<Definers, NoMemory>
     Definers::of(alloc, &members)
 }
 
-fn is_library(known: &Known<'_>) -> bool {
+/// Whether a file is a library, prelinked or not.
+fn is_library(known: &Known<'_>) -> bool
+    ensures { result ≡ spec.is_library_known known.now }
+{
     match &known.entry {
         Entry::There(original) => original.object.kind.is_library(),
         _ => false,

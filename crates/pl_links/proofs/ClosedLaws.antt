@@ -121,21 +121,21 @@ module _ (folder : List ℕ → Option Object) (definers : List ℕ) (n : List �
   at_zero kind zero = λ at. (word_for r 0, λ walked m places modules st. of_address (objects walked) places modules m r 0 kind (no_symbol (objects walked) places m r zero))
 
   by_symbol : is_of_address r.kind ≡ true → (r.symbol == 0) ≡ false → IsSettledBy definers (objects own) (reference 0 r) → IsClosed folder n own r
-  by_symbol kind some by = λ at.
-      let o = and_then_some (λ (p : Object). slice_get p.symbols by.found.symbol) (slice_get (objects own) by.found.member) by.symbol by.is in
-      let named = member_of own by.found.member o.0 o.1 in
+  by_symbol kind some known = λ at.
+      let o = and_then_some (λ (p : Object). slice_get p.symbols known.found.symbol) (slice_get (objects own) known.found.member) known.symbol known.is in
+      let named = member_of own known.found.member o.0 o.1 in
       let file : List ℕ = named.0 in
-      let member : IsMember own by.found.member file = record { object = o.0; at = named.1 } in
-      let all : IsSettled folder n r.symbol r.kind file by.found.symbol = settled folder definers n own r.symbol r.kind by file is.hashes is.made is.first (no_copy r.kind kind) member in
-      (word_for r (address_by at file by.symbol), λ walked m places modules st.
-          let f : FindsNamed walked m r.symbol r.kind file by.found.symbol = all walked m st.made st.named (st.within file (member_has own by.found.member file member)) in
-          let same : f.named.object ≡ o.0 = same_member folder walked own f.member by.found.member file f.named.object o.0 st.made is.made f.named.at named.1 in
-          of_address (objects walked) places modules m r (address_by at file by.symbol) kind
-          (target_is (objects walked) places m r f.member by.found.symbol o.0 by.symbol at file some f.finds
-          (object_at walked f.member file f.named.object f.named.at ∙ ap (λ (p : Object). Some p) same) o.2 by.plain (st.placed f.member file f.named)))
+      let member : IsMember own known.found.member file = record { object = o.0; at = named.1 } in
+      let all : IsSettled folder n r.symbol r.kind file known.found.symbol = settled folder definers n own r.symbol r.kind known file is.hashes is.made is.first (no_copy r.kind kind) member in
+      (word_for r (address_by at file known.symbol), λ walked m places modules st.
+          let f : FindsNamed walked m r.symbol r.kind file known.found.symbol = all walked m st.made st.named (st.within file (member_has own known.found.member file member)) in
+          let same : f.named.object ≡ o.0 = same_member folder walked own f.member known.found.member file f.named.object o.0 st.made is.made f.named.at named.1 in
+          of_address (objects walked) places modules m r (address_by at file known.symbol) kind
+          (target_is (objects walked) places m r f.member known.found.symbol o.0 known.symbol at file some f.looks
+          (object_at walked f.member file f.named.object f.named.at ∙ ap (λ (p : Object). Some p) same) o.2 known.plain (st.placed f.member file f.named)))
 
   pub closed : IsClosedBy definers (objects own) r → IsClosed folder n own r
-  closed by = elim by [
+  closed known = elim known [
     | inl kind ↦ without kind
     | inr g ↦ elim (cases_Bool (r.symbol == 0)) [
       | inl zero ↦ at_zero g.kind zero
@@ -144,4 +144,4 @@ module _ (folder : List ℕ → Option Object) (definers : List ℕ) (n : List �
   ]
 
 pub flags_are_laws : FlagsAreLaws
-flags_are_laws = λ folder definers n own r is by. closed folder definers n own r is by
+flags_are_laws = λ folder definers n own r is known. closed folder definers n own r is known

@@ -167,7 +167,7 @@ module _ (folder : List ℕ → Option Object) (n : List ℕ) (v : Walked) (symb
       record {
         member = m;
         named = subst (λ (k : List ℕ). IsMember w m k) file_is named;
-        finds = finds_is (objects w) (reference m symbol kind) o s (there w m of_w named) own ∙ (rw binds refl ∙ ap (λ (i : ℕ). Some (found m i)) index);
+        looks = finds_is (objects w) (reference m symbol kind) o s (there w m of_w named) own ∙ (rw binds refl ∙ ap (λ (i : ℕ). Some (found m i)) index);
       }
 
   by_search : binds_itself s ≡ false → IsSettled folder n symbol kind file f.symbol
@@ -182,15 +182,15 @@ module _ (folder : List ℕ → Option Object) (n : List ℕ) (v : Walked) (symb
       record {
         member = p.0;
         named = p.1;
-        finds = finds_is (objects w) (reference m symbol kind) o s (there w m of_w named) own ∙ (rw binds refl ∙ p.2);
+        looks = finds_is (objects w) (reference m symbol kind) o s (there w m of_w named) own ∙ (rw binds refl ∙ p.2);
       }
 
   pub everywhere : IsSettled folder n symbol kind file f.symbol
   everywhere = elim (cases_Bool (binds_itself s)) [ inl binds ↦ itself binds | inr other ↦ by_search other ]
 
 -- what is settled by one scope of a folder is so in every one
-pub settled : (folder : List ℕ → Option Object) (definers : List ℕ) (n : List ℕ) (v : Walked) (symbol kind : ℕ) (by : IsSettledBy definers (objects v) (reference 0 symbol kind)) (file : List ℕ)
-    → HasHashes folder definers → IsMadeOf folder v → IsMember v 0 n → (kind == R_X86_64_COPY) ≡ false → IsMember v by.found.member file → IsSettled folder n symbol kind file by.found.symbol
-settled folder definers n v symbol kind by file hashes of_v first plain is =
-    let own = own_is (objects v) (reference 0 symbol kind) by.single.symbol by.single.own in
-    everywhere folder n v symbol kind by.single.symbol own.0 by.found file of_v first plain own.1 own.2 (hashes by.single.symbol.name by.single.once) by.finds is
+pub settled : (folder : List ℕ → Option Object) (definers : List ℕ) (n : List ℕ) (v : Walked) (symbol kind : ℕ) (known : IsSettledBy definers (objects v) (reference 0 symbol kind)) (file : List ℕ)
+    → HasHashes folder definers → IsMadeOf folder v → IsMember v 0 n → (kind == R_X86_64_COPY) ≡ false → IsMember v known.found.member file → IsSettled folder n symbol kind file known.found.symbol
+settled folder definers n v symbol kind known file hashes of_v first plain is =
+    let own = own_is (objects v) (reference 0 symbol kind) known.single.symbol known.single.own in
+    everywhere folder n v symbol kind known.single.symbol own.0 known.found file of_v first plain own.1 own.2 (hashes known.single.symbol.name known.single.once) known.looks is

@@ -29,7 +29,7 @@ pub record HasSingleName (definers : List ℕ) (objects : List Object) (r : Refe
 -- it has, and finds a symbol that is not thread-local
 pub record IsSettledBy (definers : List ℕ) (objects : List Object) (r : Reference) : Type 0 where
   pub found : Found
-  pub finds : finds objects r ≡ Some found
+  pub looks : finds objects r ≡ Some found
   pub symbol : Symbol
   pub is : symbol_of objects found ≡ Some symbol
   pub plain : is_tls symbol ≡ false
@@ -41,7 +41,7 @@ pub record IsSettledBy (definers : List ℕ) (objects : List Object) (r : Refere
 pub record FindsNamed (walked : Walked) (m symbol kind : ℕ) (file : List ℕ) (index : ℕ) : Type 0 where
   pub member : ℕ
   pub named : IsMember walked member file
-  pub finds : finds (objects walked) (record { member = m; symbol = symbol; kind = kind }) ≡ Some (record { member = member; symbol = index })
+  pub looks : finds (objects walked) (record { member = m; symbol = symbol; kind = kind }) ≡ Some (record { member = member; symbol = index })
 
 -- in every scope of a folder's objects that holds that name, the reference of an object does
 abbrev pub IsSettled : (List ℕ → Option Object) → List ℕ → ℕ → ℕ → List ℕ → ℕ → Type 0
