@@ -1,5 +1,5 @@
 -- A closed relocation gives one word in every scope that holds the members of its own walk.
-use Rattle.std.proofs.Common.{◌≡◌, ℕ, ℤ, Bool, true, false, cond, List, Option, Some, None, Result, Ok, refl, sym, ap, ◌∙◌, subst, inl, inr}
+use Rattle.std.proofs.Common.{◌≡◌, ℕ, true, false, List, Option, Some, Ok, refl, ap, ◌∙◌, inl, inr}
 use Rattle.std.specs.Prelude.{◌⊎◌, ◌==◌, ◌||◌, slice_get, if◌then◌else◌}
 use Rattle.std.proofs.lemmas.Bool.{cases_Bool, eqb-true}
 use Rattle.pl_base.specs.Sums.{plus}
@@ -7,7 +7,6 @@ use Rattle.pl_elf.specs.declared.constants.TheConstants.{R_X86_64_64, R_X86_64_C
 use Rattle.pl_object.specs.declared.object.Object.{Object}
 use Rattle.pl_object.specs.declared.reloc.Reloc.{Reloc}
 use Rattle.pl_scope.specs.Finds.{finds}
-use Rattle.pl_scope.specs.Members.{names, has}
 use Rattle.pl_scope.specs.Scope.{objects}
 use Rattle.pl_scope.specs.Walk.{Walked}
 use Rattle.pl_scope.specs.declared.reference.Reference.{Reference}
@@ -15,15 +14,14 @@ use Rattle.pl_scope.proofs.NameLaws.{or_cases}
 use Rattle.pl_sym.specs.Symbol.{is_absolute, is_tls}
 use Rattle.pl_sym.specs.declared.symbol.Symbol.{Symbol}
 use Rattle.pl_tls.specs.declared.module.Module.{Module}
-use Rattle.pl_value.specs.Definers.{Definer, definer, is_weak}
+use Rattle.pl_value.specs.Definers.{definer}
 use Rattle.pl_value.specs.Targets.{added, base_of, address, target}
 use Rattle.pl_value.specs.Tls.{is_tls_kind}
 use Rattle.pl_value.specs.Values.{reference, value_of}
-use Rattle.pl_value.specs.declared.fault.LinkFault.{LinkFault}
 use Rattle.pl_value.specs.declared.word.Word.{Word}
 use Rattle.pl_value.specs.declared.word.Word.TheVariants.{Put, Nothing}
-use Rattle.pl_links.specs.Closed.{is_of_address, is_without_symbol, GivesAddress, IsClosedBy, IsOwn, Stands, IsClosed, FlagsAreLaws}
-use Rattle.pl_links.specs.Folder.{IsMadeOf, IsMember}
+use Rattle.pl_links.specs.Closed.{is_of_address, is_without_symbol, IsClosedBy, IsOwn, IsClosed, FlagsAreLaws}
+use Rattle.pl_links.specs.Folder.{IsMember}
 use Rattle.pl_links.specs.Settled.{IsSettledBy, FindsNamed, IsSettled}
 use Rattle.pl_links.proofs.FolderLaws.{object_at, member_of, member_has, same_member, and_then_some}
 use Rattle.pl_links.proofs.SettledLaws.{settled}
@@ -63,9 +61,9 @@ module _ (os : List Object) (places : List ℕ) (modules : List Module) (m : ℕ
 -- one of the three kinds
 three : (kind : ℕ) → is_of_address kind ≡ true → ((kind == R_X86_64_64) ≡ true) ⊎ (((kind == R_X86_64_GLOB_DAT) ≡ true) ⊎ ((kind == R_X86_64_JUMP_SLOT) ≡ true))
 unfolding is_of_address
-three kind e = elim (or_cases (kind == R_X86_64_64) (kind == R_X86_64_GLOB_DAT || kind == R_X86_64_JUMP_SLOT) e) [
-  | inl a ↦ inl a
-  | inr b ↦ inr (or_cases (kind == R_X86_64_GLOB_DAT) (kind == R_X86_64_JUMP_SLOT) b)
+three kind e = elim (or_cases (kind == R_X86_64_64 || kind == R_X86_64_GLOB_DAT) (kind == R_X86_64_JUMP_SLOT) e) [
+  | inl ab ↦ elim (or_cases (kind == R_X86_64_64) (kind == R_X86_64_GLOB_DAT) ab) [ inl a ↦ inl a | inr b ↦ inr (inl b) ]
+  | inr c ↦ inr (inr c)
 ]
 
 of_address : (os : List Object) (places : List ℕ) (modules : List Module) (m : ℕ) (r : Reloc) (t : ℕ) → is_of_address r.kind ≡ true → target os places (reference m r) ≡ Ok t → value_of os places modules m r ≡ Ok (word_for r t)
@@ -112,8 +110,11 @@ module _ (folder : List ℕ → Option Object) (definers : List ℕ) (n : List �
   without : is_without_symbol r.kind ≡ true → IsClosed folder n own r
   unfolding is_without_symbol
   without kind = elim (or_cases (r.kind == R_X86_64_RELATIVE) (r.kind == R_X86_64_NONE) kind) [
-    | inl a ↦ λ at. (Put (added (at n) r.addend), λ walked m places modules st.
-        relative (objects walked) places modules m r a ∙ ap (λ (b : ℕ). Ok (Put (added b r.addend))) (st.placed m n st.named))
+    | inl a ↦ λ at. (
+      Put (added (at n) r.addend),
+      λ walked m places modules st.
+          relative (objects walked) places modules m r a ∙ ap (λ (b : ℕ). Ok (Put (added b r.addend))) (st.placed m n st.named),
+    )
     | inr b ↦ λ at. (Nothing, λ walked m places modules st. nothing (objects walked) places modules m r b)
   ]
 
@@ -126,13 +127,15 @@ module _ (folder : List ℕ → Option Object) (definers : List ℕ) (n : List �
       let named = member_of own known.found.member o.0 o.1 in
       let file : List ℕ = named.0 in
       let member : IsMember own known.found.member file = record { object = o.0; at = named.1 } in
-      let all : IsSettled folder n r.symbol r.kind file known.found.symbol = settled folder definers n own r.symbol r.kind known file is.hashes is.made is.first (no_copy r.kind kind) member in
-      (word_for r (address_by at file known.symbol), λ walked m places modules st.
-          let f : FindsNamed walked m r.symbol r.kind file known.found.symbol = all walked m st.made st.named (st.within file (member_has own known.found.member file member)) in
-          let same : f.named.object ≡ o.0 = same_member folder walked own f.member known.found.member file f.named.object o.0 st.made is.made f.named.at named.1 in
-          of_address (objects walked) places modules m r (address_by at file known.symbol) kind
-          (target_is (objects walked) places m r f.member known.found.symbol o.0 known.symbol at file some f.looks
-          (object_at walked f.member file f.named.object f.named.at ∙ ap (λ (p : Object). Some p) same) o.2 known.plain (st.placed f.member file f.named)))
+      let all : IsSettled folder n r.symbol r.kind file known.found.symbol = settled folder definers n own r.symbol r.kind known file is.hashes is.made is.first (no_copy r.kind kind) member in (
+        word_for r (address_by at file known.symbol),
+        λ walked m places modules st.
+            let f : FindsNamed walked m r.symbol r.kind file known.found.symbol = all walked m st.made st.named (st.within file (member_has own known.found.member file member)) in
+            let same : f.named.object ≡ o.0 = same_member folder walked own f.member known.found.member file f.named.object o.0 st.made is.made f.named.at named.1 in
+            of_address (objects walked) places modules m r (address_by at file known.symbol) kind
+            (target_is (objects walked) places m r f.member known.found.symbol o.0 known.symbol at file some f.looks
+            (object_at walked f.member file f.named.object f.named.at ∙ ap (λ (p : Object). Some p) same) o.2 known.plain (st.placed f.member file f.named)),
+      )
 
   pub closed : IsClosedBy definers (objects own) r → IsClosed folder n own r
   closed known = elim known [

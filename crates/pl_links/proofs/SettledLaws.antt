@@ -1,5 +1,5 @@
 -- A reference whose name one object at most defines finds the same in every scope that holds that object.
-use Rattle.std.proofs.Common.{◌≡◌, ℕ, zero, suc, ◌+◌, ◌-◌, ◌<◌, ◌≤◌, Bool, true, false, cond, List, [], ◌∷◌, length, get_or, Option, Some, None, refl, sym, ap, ◌∙◌, subst, arith, inl, inr}
+use Rattle.std.proofs.Common.{◌≡◌, ℕ, ◌-◌, ◌<◌, Bool, true, false, cond, List, [], ◌∷◌, length, get_or, Option, Some, None, refl, sym, ap, ◌∙◌, subst, arith, inl, inr}
 use Rattle.std.specs.Prelude.{◌==◌, ◌||◌, slice_get}
 use Rattle.std.specs.List.{list_any, range_with_len}
 use Rattle.std.specs.Option.{option_or}
@@ -9,7 +9,7 @@ use Rattle.std.proofs.lemmas.List.Folds.{list_any_at}
 use Rattle.std.proofs.lemmas.Option.{none-some, same_Some, slice_get_within}
 use Rattle.pl_elf.specs.declared.constants.TheConstants.{R_X86_64_COPY}
 use Rattle.pl_object.specs.declared.object.Object.{Object}
-use Rattle.pl_scope.specs.Finds.{found_in, of_object, in_member, first_in, binds_itself, class_of, version_wanted, found_for, searched, from_member, of_symbol, of_member, finds, own_symbol}
+use Rattle.pl_scope.specs.Finds.{found_in, of_object, in_member, first_in, binds_itself, class_of, version_wanted, found_for, searched, from_member, finds, own_symbol}
 use Rattle.pl_scope.specs.Matching.{matching}
 use Rattle.pl_scope.specs.Members.{names, has}
 use Rattle.pl_scope.specs.Scope.{objects}
@@ -23,8 +23,8 @@ use Rattle.pl_sym.specs.declared.class.Class.{Class}
 use Rattle.pl_sym.specs.declared.symbol.Symbol.{Symbol}
 use Rattle.pl_links.specs.Definers.{HasDefiner, IsSingle, HasHashes}
 use Rattle.pl_links.specs.Folder.{IsMadeOf, IsMember}
-use Rattle.pl_links.specs.Settled.{HasSingleName, IsSettledBy, FindsNamed, IsSettled}
-use Rattle.pl_links.proofs.FolderLaws.{object_at, member_of, has_member, same_object, same_member, and_then_some}
+use Rattle.pl_links.specs.Settled.{IsSettledBy, IsSettled}
+use Rattle.pl_links.proofs.FolderLaws.{object_at, member_of, has_member, same_member, and_then_some}
 
 abbrev found : ℕ → ℕ → Found
 found m s = record { member = m; symbol = s }

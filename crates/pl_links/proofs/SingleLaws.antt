@@ -1,16 +1,16 @@
 -- A hash that stands once is that of a name that one object at most defines.
-use Rattle.std.proofs.Common.{◌≡◌, ◌≢◌, ℕ, zero, suc, ◌+◌, ◌<◌, ◌≤◌, Bool, true, false, cond, List, [], ◌∷◌, ◌++◌, length, take, drop, get_or, Option, Some, None, refl, sym, ap, ◌∙◌, subst, append_assoc, arith, inl, inr}
-use Rattle.std.specs.Prelude.{◌⊎◌, ◌==◌, ◌||◌, slice_get, nat_lt}
+use Rattle.std.proofs.Common.{◌≡◌, ◌≢◌, ℕ, zero, suc, ◌+◌, ◌<◌, ◌≤◌, true, false, cond, List, [], ◌∷◌, ◌++◌, length, take, get_or, Option, Some, None, refl, sym, ap, ◌∙◌, subst, append_assoc, arith, inl, inr}
+use Rattle.std.specs.Prelude.{◌⊎◌, ◌==◌, slice_get, nat_lt}
 use Rattle.std.specs.List.{filter_map, list_any, count_by}
 use Rattle.std.specs.List.Sorted.{IsNonDecreasingBy, IsPartitionPoint, IsPermutation}
 use Rattle.std.specs.Option.{option_to_list}
 use Rattle.std.specs.Str.{bytes_eq}
 use Rattle.std.proofs.lemmas.Bool.{cases_Bool, false≢true, eqb-true, eqb-false, eq-eqb, ltb-true, ltb-false}
-use Rattle.std.proofs.lemmas.List.{take_more, take_all, append-nil}
+use Rattle.std.proofs.lemmas.List.{take_more, append-nil, get_or_default}
 use Rattle.std.proofs.lemmas.List.Elements.{filter_map-append}
 use Rattle.std.proofs.lemmas.List.Folds.{list_any_at}
 use Rattle.std.proofs.lemmas.List.Sorted.{sum_by-IsPermutation}
-use Rattle.std.proofs.lemmas.List.Sums.{sum_by-append}
+use Rattle.std.proofs.lemmas.List.Sums.{sum_by-append, sum_by-cons}
 use Rattle.std.proofs.lemmas.Option.{none-some, same_Some, slice_get_within, get_or_from_slice_get}
 use Rattle.pl_base.proofs.MemoryLaws.{any-filter_map, is_some_and}
 use Rattle.pl_elf.specs.Kinds.{is_program}
@@ -19,11 +19,11 @@ use Rattle.pl_object.specs.declared.object.Object.{Object}
 use Rattle.pl_scope.specs.Members.{told}
 use Rattle.pl_scope.specs.Scope.{walked}
 use Rattle.pl_scope.specs.declared.member.Member.{Member}
-use Rattle.pl_scope.proofs.NameLaws.{same_name, or_cases}
+use Rattle.pl_scope.proofs.NameLaws.{same_name}
 use Rattle.pl_sym.specs.Definers.{is_definer}
 use Rattle.pl_sym.specs.declared.class.Class.TheVariants.{Other}
 use Rattle.pl_sym.specs.declared.symbol.Symbol.{Symbol}
-use Rattle.pl_links.specs.Definers.{hash_of, hashes_in, all_hashes, HasDefiner, IsSingle, HasHashes}
+use Rattle.pl_links.specs.Definers.{hash_of, hashes_in, all_hashes, HasDefiner, HasHashes}
 
 -- ---- how often a number stands in a list
 
@@ -34,24 +34,21 @@ pub count_append : (h : ℕ) (xs ys : List ℕ) → count h (xs ++ ys) ≡ count
 count_append h xs ys = sum_by-append (λ (x : ℕ). cond (x == h) 1 0) xs ys
 
 count_step : (h x : ℕ) (xs : List ℕ) → count h (x ∷ xs) ≡ cond (x == h) 1 0 + count h xs
-count_step h x xs = count_append h (x ∷ []) xs ∙ one h x xs
-  where
-    one : (h x : ℕ) (xs : List ℕ) → count h (x ∷ []) + count h xs ≡ cond (x == h) 1 0 + count h xs
-    one h x xs = elim (x == h) as (λ b. cond b 1 0 + 0 + count h xs ≡ cond b 1 0 + count h xs) [ true ↦ refl | false ↦ refl ]
+count_step h x xs = sum_by-cons (λ (y : ℕ). cond (y == h) 1 0) x xs
 
 -- where it stands at all it stands once at least
 pub count_some : (h : ℕ) (xs : List ℕ) → list_any (λ x. x == h) xs ≡ true → 1 ≤ count h xs
 count_some h [] any = absurd (false≢true any)
 count_some h (x ∷ xs) any = elim (cases_Bool (x == h)) [
   | inl here ↦ rw (count_step h x xs, here) (omega arith)
-  | inr other ↦ let later : list_any (λ (y : ℕ). y == h) xs ≡ true = rw other at any in rw (count_step h x xs, other) (count_some h xs later)
+  | inr other ↦ let later : list_any (λ (y : ℕ). y == h) xs ≡ true = rw other at any in rw (count_step h x xs, other) (omega (arith, count_some h xs later))
 ]
 
 count_none : (h : ℕ) (xs : List ℕ) → ((k d : ℕ) → k < length xs → ((get_or xs k d) == h) ≡ false) → count h xs ≡ 0
 count_none h [] none = refl
 count_none h (x ∷ xs) none =
     let other : (x == h) ≡ false = none 0 0 (omega arith) in
-    rw (count_step h x xs, other) (count_none h xs (λ k d lt. none (suc k) d (omega (arith, lt))))
+    rw (count_step h x xs, other) (omega (arith, count_none h xs (λ k d lt. none (suc k) d (omega (arith, lt)))))
 
 -- where it stands at one index at most it stands once at most
 pub count_one : (h : ℕ) (xs : List ℕ) (i : ℕ) → ((k d : ℕ) → k < length xs → k ≢ i → ((get_or xs k d) == h) ≡ false) → count h xs ≤ 1
@@ -64,13 +61,13 @@ count_one h (x ∷ xs) zero others =
     ]
 count_one h (x ∷ xs) (suc i) others =
     let other : (x == h) ≡ false = others 0 0 (omega arith) (λ e. omega (arith, e)) in
-    rw (count_step h x xs, other) (count_one h xs i (λ k d lt ne. others (suc k) d (omega (arith, lt)) (λ e. ne (omega (arith, e)))))
+    rw (count_step h x xs, other) (omega (arith, count_one h xs i (λ k d lt ne. others (suc k) d (omega (arith, lt)) (λ e. ne (omega (arith, e))))))
 
 -- ---- in an ascending list
 
 -- a number that does not follow itself
 pub lone : (h : ℕ) (xs : List ℕ) (i : ℕ) → IsNonDecreasingBy (λ x. x) xs → IsPartitionPoint (λ x. nat_lt x h ≡ true) (λ x. nat_lt x h ≡ false) xs i → i ≤ length xs
-    → ((d : ℕ) → i + 1 < length xs → ((get_or xs (i + 1) d) == h) ≡ false) → count h xs ≤ 1
+    → (i + 1 < length xs → ((get_or xs (i + 1) 0) == h) ≡ false) → count h xs ≤ 1
 lone h xs i rising point within next =
     count_one h xs i (λ k d lt ne. elim (cases_Bool (nat_lt k i)) [
       | inl low ↦
@@ -80,9 +77,10 @@ lone h xs i rising point within next =
           let later : i + 1 ≤ k = omega (arith, ltb-false k i high, ne) in
           let inside : i + 1 < length xs = omega (arith, later, lt) in
           let from : h ≤ get_or xs (i + 1) d = ltb-false (get_or xs (i + 1) d) h (point.1 (i + 1) d (omega arith) inside) in
-          let differs : get_or xs (i + 1) d ≢ h = eqb-false (get_or xs (i + 1) d) h (next d inside) in
+          let same : get_or xs (i + 1) d ≡ get_or xs (i + 1) 0 = get_or_default xs (i + 1) d 0 inside in
+          let differs : get_or xs (i + 1) 0 ≢ h = eqb-false (get_or xs (i + 1) 0) h (next inside) in
           let up : get_or xs (i + 1) d ≤ get_or xs k d = rising (i + 1) k d later lt in
-          not_equal (get_or xs k d) h (inr (omega (arith, from, differs, up)))
+          not_equal (get_or xs k d) h (inr (omega (arith, from, differs, same, up)))
     ])
   where
     not_equal : (a b : ℕ) → (a < b) ⊎ (b < a) → (a == b) ≡ false
@@ -90,6 +88,9 @@ lone h xs i rising point within next =
       | inl same ↦ let e : a ≡ b = eqb-true a b same in absurd (elim apart [ inl lt ↦ omega (arith, lt, e) | inr gt ↦ omega (arith, gt, e) ])
       | inr other ↦ other
     ]
+
+pub none_next : {P : Type 0} {a b : ℕ} → nat_lt a b ≡ false → a < b → P
+none_next {a = a} {b = b} out inside = absurd (omega (arith, ltb-false a b out, inside))
 
 -- ---- the hashes of definers
 
@@ -115,19 +116,23 @@ made_more_of o items i d old front new x same lt made more so_far =
     subst (λ (ss : List Symbol). new ≡ old ++ filter_map (hash_of o) (take (i + 1) ss)) same
     (made_more o items i d old front new x lt made more (subst (λ (ss : List Symbol). front ≡ old ++ filter_map (hash_of o) (take i ss)) (sym same) so_far))
 
+all_append : (xs ys : List Member) → all_hashes (xs ++ ys) ≡ all_hashes xs ++ all_hashes ys
+unfolding all_hashes
+all_append [] ys = refl
+all_append (x ∷ xs) ys = ap (λ (hs : List ℕ). hashes_in x.object.now ++ hs) (all_append xs ys) ∙ sym (append_assoc (hashes_in x.object.now) (all_hashes xs) (all_hashes ys))
+
+all_one : (m : Member) → all_hashes (m ∷ []) ≡ hashes_in m.object.now
+unfolding all_hashes
+all_one m = append-nil (hashes_in m.object.now)
+
 -- one object more
 pub hashes_more : (ms : List Member) (i : ℕ) (m : Member) (front new : List ℕ) → i < length ms → m ≡ get_or ms i m → new ≡ front ++ hashes_in m.object.now
     → front ≡ all_hashes (take i ms) → new ≡ all_hashes (take (i + 1) ms)
 hashes_more ms i m front new lt is more so_far =
     more ∙ ap (λ (hs : List ℕ). hs ++ hashes_in m.object.now) so_far
-    ∙ ap (λ (hs : List ℕ). all_hashes (take i ms) ++ hs) (sym (append-nil (hashes_in m.object.now)))
+    ∙ ap (λ (hs : List ℕ). all_hashes (take i ms) ++ hs) (sym (all_one m))
     ∙ sym (all_append (take i ms) (m ∷ []))
     ∙ ap all_hashes (sym (take_more ms i m lt ∙ ap (λ (k : Member). take i ms ++ k ∷ []) (sym is)))
-  where
-    all_append : (xs ys : List Member) → all_hashes (xs ++ ys) ≡ all_hashes xs ++ all_hashes ys
-    unfolding all_hashes
-    all_append [] ys = refl
-    all_append (x ∷ xs) ys = ap (λ (hs : List ℕ). hashes_in x.object.now ++ hs) (all_append xs ys) ∙ sym (append_assoc (hashes_in x.object.now) (all_hashes xs) (all_hashes ys))
 
 -- a definer's hash stands among those of its object
 hash_here : (o : Object) (i : ℕ) (s : Symbol) → slice_get o.symbols i ≡ Some s → is_definer s Other (is_program o.kind) ≡ true → 1 ≤ count (gnu s.name) (hashes_in o)

@@ -1,7 +1,6 @@
 -- References that find the same symbol in every scope that holds its object.
-use Rattle.std.specs.Prelude.{◌≡◌, ℕ, true, false, ◌==◌, List, Option, Some, None, slice_get}
+use Rattle.std.specs.Prelude.{◌≡◌, ℕ, true, false, List, Option, Some, slice_get}
 use Rattle.std.specs.Option.{option_and_then}
-use Rattle.pl_elf.specs.declared.constants.TheConstants.{R_X86_64_COPY}
 use Rattle.pl_object.specs.declared.object.Object.{Object}
 use Rattle.pl_scope.specs.Finds.{finds, own_symbol}
 use Rattle.pl_scope.specs.Members.{names, has}

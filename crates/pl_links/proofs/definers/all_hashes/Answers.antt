@@ -6,7 +6,7 @@ use Rattle.pl_links.proofs.definers.all_hashes.Goals as goal
 
 pub loop-member-init : goal.loop-member-init
 unfolding all_hashes
-loop-member-init c = c.new-hashes.ensures
+loop-member-init c = c.new-hashes.ensures.items
 
 pub loop-member-preserved : goal.loop-member-preserved
 loop-member-preserved c =
