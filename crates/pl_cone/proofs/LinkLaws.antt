@@ -5,7 +5,7 @@ use Rattle.std.specs.List.{All, AllZip, filter_map, cons_option}
 use Rattle.std.specs.Option.{option_map}
 use Rattle.std.specs.Str.{bytes_eq}
 use Rattle.std.proofs.lemmas.Bool.{cases_Bool}
-use Rattle.std.proofs.lemmas.Option.{none-some, same_Some, slice_get-get_or}
+use Rattle.std.proofs.lemmas.Option.{none-some, same_Some, slice_get_read}
 use Rattle.pl_elf.specs.Kinds.{is_program}
 use Rattle.pl_elf.specs.declared.kind.Kind.{Kind}
 use Rattle.pl_elf.specs.declared.kind.Kind.TheVariants.{Program, Library, Static}
@@ -17,8 +17,9 @@ use Rattle.pl_links.proofs.FolderLaws.{object_at, member_has}
 use Rattle.pl_object.specs.declared.object.Object.{Object}
 use Rattle.pl_object.specs.declared.reloc.Reloc.{Reloc}
 use Rattle.pl_scope.specs.Members.{names, has, told, IsLinked}
-use Rattle.pl_scope.specs.Scope.{objects}
+use Rattle.pl_scope.specs.Scope.{objects, walked}
 use Rattle.pl_scope.specs.Walk.{Walked}
+use Rattle.pl_scope.specs.declared.member.Member.{Member}
 use Rattle.pl_scope.proofs.ClosureLaws.{WalkTells, walk_is}
 use Rattle.pl_scope.proofs.NameLaws.{same_name, eq_refl}
 use Rattle.pl_scope.proofs.StepLaws.{same_ok}
@@ -38,6 +39,7 @@ use Rattle.pl_cone.specs.declared.known.Known.{Known}
 use Rattle.pl_cone.specs.declared.known.Original.{Original}
 use Rattle.pl_cone.specs.declared.links.Link.{Link}
 use Rattle.pl_cone.proofs.KnownLaws.{found_holds}
+use Rattle.pl_cone.proofs.MemberLaws.{member_at}
 
 -- ---- the objects of names
 
@@ -181,3 +183,16 @@ program_values files n ws ls h all program =
 -- without any nothing is told
 pub no_values : (ws : Walked) → HaveValues ws []
 no_values ws = λ m name o modules at i d lt flagged. absurd flagged
+
+-- ---- as a loop over members asks for it
+
+pub named_at : (ms : List Member) (ws : Walked) (m : ℕ) (mem : Member) (name : List ℕ) (o : Object) → walked ms ≡ ws → m < length ms → mem ≡ get_or ms m mem → name ≡ mem.name → slice_get (objects ws) m ≡ Some o → slice_get ws m ≡ Some (name, o)
+named_at ms ws m mem name o is lt at named object =
+    let one : slice_get ws m ≡ Some (mem.name, mem.object.now) =
+    ap (λ (w : Walked). slice_get w m) (sym is) ∙ (member_at ms m ∙ ap (option_map (λ (k : Member). (k.name, k.object.now))) (slice_get_read ms (length ms) m mem refl lt at)) in
+    let same : mem.object.now ≡ o = same_Some mem.object.now o (sym (object_at ws m mem.name mem.object.now one) ∙ object) in
+    one ∙ (ap (λ (n : List ℕ). Some (n, mem.object.now)) (sym named) ∙ ap (λ (p : Object). Some (name, p)) same)
+
+pub told_of : (ws : Walked) (ls : List Link) (places : List ℕ) (m : ℕ) (n : List ℕ) (o : Object) (rs : List Reloc) (x : Option Link) (modules : List Module) → HaveValues ws ls → places ≡ zeros ws → slice_get ws m ≡ Some (n, o) → rs ≡ o.relocations
+    → x ≡ find (λ l. bytes_eq l.name n) ls → TellsOf (objects ws) places modules m rs x
+told_of ws ls places m n o rs x modules have zero at relocs found = rw (zero, relocs, found) (have m n o modules at)

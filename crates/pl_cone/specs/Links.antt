@@ -1,8 +1,10 @@
 -- Which relocations of libraries are known to have a value in every walk.
-use Rattle.std.specs.Prelude.{◌≡◌, ℕ, ◌<◌, Bool, true, false, List, Option, Some, None, Ok, find, length, slice_get, slice_index_or}
+use Rattle.std.specs.Prelude.{◌≡◌, ℕ, ◌<◌, Bool, true, false, List, Option, Some, None, Result, Ok, find, length, slice_get, slice_index_or}
 use Rattle.std.specs.List.{All, AllZip, filter_map}
 use Rattle.std.specs.Option.{option_map}
 use Rattle.std.specs.Str.{bytes_eq}
+use Rattle.pl_base.specs.Answers.{◌>>=◌}
+use Rattle.pl_base.specs.Each.{each}
 use Rattle.pl_elf.specs.Kinds.{is_library}
 use Rattle.pl_links.specs.Closed.{IsFlag}
 use Rattle.pl_links.specs.Definers.{HasHashes}
@@ -12,8 +14,9 @@ use Rattle.pl_scope.specs.Scope.{objects}
 use Rattle.pl_scope.specs.Walk.{Walked}
 use Rattle.pl_scope.specs.declared.member.Member.{Member}
 use Rattle.pl_tls.specs.declared.module.Module.{Module}
-use Rattle.pl_value.specs.Meanings.{meaning, row}
+use Rattle.pl_value.specs.Meanings.{Row, meaning, meanings, row}
 use Rattle.pl_value.specs.Values.{relocations_in}
+use Rattle.pl_value.specs.declared.fault.LinkFault.{LinkFault}
 use Rattle.pl_value.specs.declared.meaning.Meaning.{Meaning}
 use Rattle.pl_cone.specs.Candidates.{walk_in, zeros}
 use Rattle.pl_cone.specs.Known.{entry_of, original_in}
@@ -58,6 +61,19 @@ pub record IsLink (files : List Known) (l : Link) : Type 0 where
   pub flags : AllZip (IsFlag definers (objects own)) (relocations_in (slice_get (objects own) 0)) l.closed
 
 -- ---- in one scope
+
+-- that there is a value, or the refusal
+abbrev pub done : {X : Type 0} → Result X LinkFault → Result (Unit {0}) LinkFault
+done r = r >>= λ x. Ok tt
+
+abbrev pub row_has : List Object → List ℕ → List Module → Row → Result (Unit {0}) LinkFault
+row_has os places modules x = done (meaning os places modules x)
+
+abbrev pub rows_have : List Object → List ℕ → List Module → List Row → Result (Unit {0}) LinkFault
+rows_have os places modules xs = done (each (meaning os places modules) xs)
+
+abbrev pub all_have : List Object → List ℕ → List Module → Result (Unit {0}) LinkFault
+all_have os places modules = done (meanings os places modules)
 
 abbrev pub HasValue : List Object → List ℕ → List Module → ℕ → Reloc → Type 0
 HasValue os places modules member r = (g : Meaning) × (meaning os places modules (row member r) ≡ Ok g)

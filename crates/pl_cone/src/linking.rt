@@ -1,12 +1,10 @@
 // Whether the members of a program's walk link.
-ghost use Rattle.std.specs.Prelude.{◌≡◌, ◌<◌, ◌^◌, find, length, map, slice_get, slice_index_or, ℕ, IfOk, Ok};
+ghost use Rattle.std.specs.Prelude.{◌≡◌, ◌<◌, ◌^◌, find, length, map, slice_get, IfOk};
 ghost use Rattle.std.specs.Bool.{OnTrue};
 ghost use Rattle.std.specs.List.{All};
 ghost use Rattle.std.specs.Option.{option_map};
 ghost use Rattle.std.specs.Str.{bytes_eq};
-ghost use Rattle.pl_base.specs.Answers.{◌>>=◌, Answers, because};
-ghost use Rattle.pl_base.specs.Each.{each};
-ghost use Rattle.pl_object.specs.declared.reloc.Reloc.{Reloc};
+ghost use Rattle.pl_base.specs.Answers.{Answers, because};
 ghost use Rattle.pl_scope.specs.Scope.{objects, walked, IsSymbol};
 ghost use Rattle.pl_tls.specs.Layout.{offsets};
 ghost use Rattle.pl_value.specs.Definers.{IsSought};
@@ -186,8 +184,8 @@ fn link(
 ) -> Result<(), LinkFault>
     requires one_each { length places.now ≡ length scope.now }
     requires reference { IsSymbol (objects scope.now) member reloc.now.symbol }
-    ensures { result ≡ (value.meaning (objects scope.now) places.now modules.now
-        (value.row member reloc.now) >>= λ g. Ok tt) }
+    ensures { result ≡ links.row_has (objects scope.now) places.now modules.now
+        (value.row member reloc.now) }
 {
     let found = sought(scope, reference_of(member, reloc));
     word_of(scope, places, modules, member, reloc, found)?;
@@ -206,9 +204,9 @@ fn member_links(
     requires one_each { length places.now ≡ length scope.now }
     requires references { All (λ r. IsSymbol (objects scope.now) member r.symbol) relocs.now }
     requires known { links.TellsOf (objects scope.now) places.now modules.now member relocs.now
-        (option_map (λ l. l.now) known.entry) }
-    ensures { result ≡ (each (value.meaning (objects scope.now) places.now modules.now)
-        (map (value.row member) relocs.now) >>= λ gs. Ok tt) }
+        (option_map (λ l. l.now) known) }
+    ensures { result ≡ links.rows_have (objects scope.now) places.now modules.now
+        (map (value.row member) relocs.now) }
 {
     for index in 0..relocs.len() {
         if !is_flagged(known, index) {
@@ -229,7 +227,7 @@ fn members_link(
     requires places { places.now ≡ spec.zeros scope.now }
     requires one_each { length places.now ≡ length scope.now }
     requires known { links.HaveValues scope.now known.now }
-    ensures { result ≡ (value.meanings (objects scope.now) places.now modules.now >>= λ gs. Ok tt) }
+    ensures { result ≡ links.all_have (objects scope.now) places.now modules.now }
 {
     let members = scope.members();
     for member in 0..scope.count() {
