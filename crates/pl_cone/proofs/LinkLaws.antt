@@ -1,7 +1,7 @@
 -- What is known of the relocations of libraries holds in every walk.
-use Rattle.std.proofs.Common.{◌≡◌, ℕ, zero, suc, ◌+◌, ◌<◌, ◌≤◌, Bool, true, false, List, [], ◌∷◌, ◌++◌, length, map, replicate, take, get_or, Option, Some, None, Result, Ok, Err, refl, sym, ap, subst, ◌∙◌, arith, inl, inr}
+use Rattle.std.proofs.Common.{◌≡◌, ℕ, zero, suc, ◌<◌, true, false, List, [], ◌∷◌, length, replicate, get_or, Option, Some, None, Ok, refl, sym, ap, subst, ◌∙◌, arith, inl, inr}
 use Rattle.std.specs.Prelude.{find, slice_get, slice_index}
-use Rattle.std.specs.List.{All, AllZip, filter_map, cons_option}
+use Rattle.std.specs.List.{All, AllZip, cons_option}
 use Rattle.std.specs.Option.{option_map}
 use Rattle.std.specs.Str.{bytes_eq}
 use Rattle.std.proofs.lemmas.Bool.{cases_Bool}
@@ -9,7 +9,7 @@ use Rattle.std.proofs.lemmas.Option.{none-some, same_Some, slice_get_read}
 use Rattle.pl_elf.specs.Kinds.{is_program}
 use Rattle.pl_elf.specs.declared.kind.Kind.{Kind}
 use Rattle.pl_elf.specs.declared.kind.Kind.TheVariants.{Program, Library, Static}
-use Rattle.pl_links.specs.Closed.{IsFlag, IsClosedBy, IsClosed, IsOwn, Stands}
+use Rattle.pl_links.specs.Closed.{IsFlag, IsClosedBy, IsClosed}
 use Rattle.pl_links.specs.Definers.{HasDefiner, HasHashes}
 use Rattle.pl_links.specs.Folder.{IsMadeOf, IsMember, IsWithin}
 use Rattle.pl_links.proofs.ClosedLaws.{closed}
@@ -21,17 +21,16 @@ use Rattle.pl_scope.specs.Scope.{objects, walked}
 use Rattle.pl_scope.specs.Walk.{Walked}
 use Rattle.pl_scope.specs.declared.member.Member.{Member}
 use Rattle.pl_scope.proofs.ClosureLaws.{WalkTells, walk_is}
-use Rattle.pl_scope.proofs.NameLaws.{same_name, eq_refl}
+use Rattle.pl_scope.proofs.NameLaws.{same_name}
 use Rattle.pl_scope.proofs.StepLaws.{same_ok}
 use Rattle.pl_scope.proofs.WalkedLaws.{member_file, member_walk_within}
 use Rattle.pl_tls.specs.declared.module.Module.{Module}
 use Rattle.pl_value.specs.Meanings.{meaning, row, given}
-use Rattle.pl_value.specs.Targets.{base_of}
 use Rattle.pl_value.specs.Values.{relocations_in, value_of}
 use Rattle.pl_value.specs.declared.word.Word.{Word}
 use Rattle.pl_cone.specs.Candidates.{walk_in, kind_of, zeros}
 use Rattle.pl_cone.specs.Known.{entry_of, object_of, object_in, original_in}
-use Rattle.pl_cone.specs.Links.{folder, its_object, named_object, named_objects, IsLink, HasValue, IsFlagged, TellsOf, HaveValues}
+use Rattle.pl_cone.specs.Links.{folder, its_object, named_objects, IsLink, HasValue, TellsOf, HaveValues}
 use Rattle.pl_cone.specs.Skips.{of_walk}
 use Rattle.pl_cone.specs.declared.known.Entry.{Entry}
 use Rattle.pl_cone.specs.declared.known.Entry.TheVariants.{There, BadMark, Refused}
@@ -195,4 +194,4 @@ named_at ms ws m mem name o is lt at named object =
 
 pub told_of : (ws : Walked) (ls : List Link) (places : List ℕ) (m : ℕ) (n : List ℕ) (o : Object) (rs : List Reloc) (x : Option Link) (modules : List Module) → HaveValues ws ls → places ≡ zeros ws → slice_get ws m ≡ Some (n, o) → rs ≡ o.relocations
     → x ≡ find (λ l. bytes_eq l.name n) ls → TellsOf (objects ws) places modules m rs x
-told_of ws ls places m n o rs x modules have zero at relocs found = rw (zero, relocs, found) (have m n o modules at)
+told_of ws ls places m n o rs x modules have none at relocs found = rw (none, relocs, found) (have m n o modules at)

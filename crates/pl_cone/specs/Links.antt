@@ -1,6 +1,6 @@
 -- Which relocations of libraries are known to have a value in every walk.
 use Rattle.std.specs.Prelude.{◌≡◌, ℕ, ◌<◌, Bool, true, false, List, Option, Some, None, Result, Ok, find, length, slice_get, slice_index_or}
-use Rattle.std.specs.List.{All, AllZip, filter_map}
+use Rattle.std.specs.List.{AllZip, filter_map}
 use Rattle.std.specs.Option.{option_map}
 use Rattle.std.specs.Str.{bytes_eq}
 use Rattle.pl_base.specs.Answers.{◌>>=◌}

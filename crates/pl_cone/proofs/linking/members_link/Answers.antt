@@ -1,6 +1,7 @@
-use Rattle.std.proofs.Common.{◌≡◌, ◌<◌, ◌≤◌, length, sym, ap, arith, ◌∙◌}
+use Rattle.std.proofs.Common.{◌<◌, ◌≤◌, length, sym, ap, arith, ◌∙◌}
 use Rattle.std.proofs.lemmas.Result.{err_from_is_err_and}
-use Rattle.pl_scope.specs.Scope.{objects, walked}
+use Rattle.pl_scope.specs.Scope.{objects}
+use Rattle.pl_scope.specs.declared.member.Member.{Member}
 use Rattle.pl_scope.proofs.MemberLaws.{length_objects, length_walked}
 use Rattle.pl_value.specs.Meanings.{meaning, meanings}
 use Rattle.pl_value.proofs.LinkableLaws.{all_symbols}
@@ -16,7 +17,7 @@ pub member_links-requires-clause-known : goal.member_links-requires-clause-known
 member_links-requires-clause-known c =
     let ms = c.members-members.result.now in
     let lt : c.loop-member.member < length ms = omega (arith, length_walked ms, ap length c.members-members.ensures.members, c.count-member-end.ensures.count) in
-    let at = named_at ms c.args.scope.now c.loop-member.member c.index-members-member.result c.as_str.result.now c.object.result.now c.members-members.ensures.members lt c.index-members-member.is c.as_str.ensures c.object.ensures.object in
+    let at = named_at ms c.args.scope.now c.loop-member.member c.index-members-member.result c.as_str.result.now c.object.result.now c.members-members.ensures.members lt c.index-members-member.is (c.as_str.ensures ∙ ap (λ (k : Member). k.name) (sym c.index-members-member.is)) c.object.ensures.object in
     told_of c.args.scope.now c.args.known.now c.args.places.now c.loop-member.member c.as_str.result.now c.object.result.now c.as_slice-relocs.result.now _ c.args.modules.now c.requires.known c.requires.places at c.as_slice-relocs.ensures c.link_of-link.ensures
 
 pub returns-in_err-member_links : goal.returns-in_err-member_links
