@@ -256,6 +256,46 @@ fn resolved_by(
     }
 }
 
+/// How many relocations of a member no flag tells of.
+fn open_in(relocs: &[Reloc], known: Option<&Link>) -> u64 {
+    let mut open: u64 = 0;
+    for index in 0..relocs.len() {
+        if !is_flagged(known, index) {
+            open = open.saturating_add(1);
+        }
+    }
+    open
+}
+
+/// How many of all members.
+fn open_among(members: &[Member<'_>], known: &[Link]) -> u64 {
+    let mut open: u64 = 0;
+    for member in members {
+        let link = link_of(known, member.name.as_str());
+        open = open.saturating_add(open_in(member.object.relocations.as_slice(), link));
+    }
+    open
+}
+
+/// How many symbols the members have.
+fn symbols_among(members: &[Member<'_>]) -> u64 {
+    let mut count: u64 = 0;
+    for member in members {
+        count = count.saturating_add(member.object.symbols.as_slice().len() as u64);
+    }
+    count
+}
+
+/// Whether an index of all symbols costs less than to look up one by one the relocations that no flag tells of, each through the symbols of the first member. It decides the time alone.
+fn is_index_cheaper(members: &[Member<'_>], known: &[Link]) -> bool {
+    let Some(first) = members.first() else {
+        return true;
+    };
+    let each = first.object.symbols.as_slice().len() as u64;
+    let one_by_one = open_among(members, known).saturating_mul(each);
+    one_by_one > symbols_among(members).saturating_mul(8)
+}
+
 /// The first relocation without a value.
 fn resolved(
     alloc: Global,
@@ -266,7 +306,7 @@ fn resolved(
     requires { links.HaveValues scope.now known.now }
     ensures { Answers is_memory result (spec.resolved scope.now modules.now) }
 {
-    if known.is_empty() {
+    if known.is_empty() || is_index_cheaper(scope.members(), known) {
         return all_resolved(alloc, scope, modules);
     }
     resolved_by(alloc, scope, modules, known)
