@@ -80,15 +80,15 @@ object_there m (Some (There q)) o e = ap (λ (p : Object). Some p) (same_ok q.ob
 object_there m (Some BadMark) o e = absurd cc
 object_there m (Some (Refused number argument)) o e = absurd cc
 
-walk_made : (files : List Known) (n : List ℕ) (ws : Walked) → walk_in files n ≡ Ok ws → IsMadeOf (folder files) ws
+pub walk_made : (files : List Known) (n : List ℕ) (ws : Walked) → walk_in files n ≡ Ok ws → IsMadeOf (folder files) ws
 unfolding walk_in
 walk_made files n ws h = λ i m o e. object_there m (entry_of files m) o (member_file of_walk (object_of files) n ws h i (m, o) e)
 
-walk_first : (files : List Known) (n : List ℕ) (ws : Walked) → walk_in files n ≡ Ok ws → WalkTells (object_of files) n ws
+pub walk_first : (files : List Known) (n : List ℕ) (ws : Walked) → walk_in files n ≡ Ok ws → WalkTells (object_of files) n ws
 unfolding walk_in
 walk_first files n ws h = walk_is of_walk (object_of files) n ws h
 
-first_member : (files : List Known) (n : List ℕ) (ws : Walked) → walk_in files n ≡ Ok ws → IsMember ws 0 n
+pub first_member : (files : List Known) (n : List ℕ) (ws : Walked) → walk_in files n ≡ Ok ws → IsMember ws 0 n
 first_member files n ws h =
     let t = walk_first files n ws h in
     record { object = t.object; at = ap (λ (w : Walked). slice_get w 0) t.is }
@@ -99,7 +99,7 @@ walk_some files n ws h =
     rw t.is (omega arith)
 
 -- the walk of a program holds the walks of its members
-walk_within : (files : List Known) (n m : List ℕ) (ws own : Walked) → walk_in files n ≡ Ok ws → ((o : Object) → object_of files n ≡ Ok o → IsLinked o.kind) → has (names ws) m ≡ true → walk_in files m ≡ Ok own → IsWithin own ws
+pub walk_within : (files : List Known) (n m : List ℕ) (ws own : Walked) → walk_in files n ≡ Ok ws → ((o : Object) → object_of files n ≡ Ok o → IsLinked o.kind) → has (names ws) m ≡ true → walk_in files m ≡ Ok own → IsWithin own ws
 unfolding walk_in
 walk_within files n m ws own h linked there of_own =
     let p = member_walk_within of_walk (object_of files) n m ws h linked there in
@@ -108,14 +108,14 @@ walk_within files n m ws own h linked there of_own =
 
 -- ---- flags
 
-zip_at : {A B : Type 0} (R : A → B → Type 0) (xs : List A) (ys : List B) (i : ℕ) (d : A) (y : B) → AllZip R xs ys → slice_get ys i ≡ Some y → R (get_or xs i d) y
+pub zip_at : {A B : Type 0} (R : A → B → Type 0) (xs : List A) (ys : List B) (i : ℕ) (d : A) (y : B) → AllZip R xs ys → slice_get ys i ≡ Some y → R (get_or xs i d) y
 zip_at R [] [] i d y all e = absurd (cc)
 zip_at R [] (b ∷ ys) i d y all e = absurd all
 zip_at R (a ∷ xs) [] i d y all e = absurd all
 zip_at R (a ∷ xs) (b ∷ ys) zero d y all e = subst (λ z. R a z) (same_Some b y e) all.0
 zip_at R (a ∷ xs) (b ∷ ys) (suc i) d y all e = zip_at R xs ys i d y all.1 e
 
-found_name : (ls : List Link) (n : List ℕ) (l : Link) → find (λ l. bytes_eq l.name n) ls ≡ Some l → l.name ≡ n
+pub found_name : (ls : List Link) (n : List ℕ) (l : Link) → find (λ l. bytes_eq l.name n) ls ≡ Some l → l.name ≡ n
 found_name [] n l e = absurd (none-some l e)
 found_name (k ∷ ls) n l e = elim (cases_Bool (bytes_eq k.name n)) [
   | inl hit ↦ let same : k ≡ l = same_Some k l (rw hit at e) in ap (λ (x : Link). x.name) (sym same) ∙ same_name k.name n hit

@@ -25,7 +25,7 @@ use std::alloc::{AllocError, Global};
 
 /// The eight bytes that a member's file loads from an address on.
 #[tactic(auto, unfolding(crate::specs::Conflicts::held))]
-fn held(alloc: Global, files: &[Loaded<'_>], meaning: &Meaning) -> Result<Vec<u8>, AllocError>
+pub fn held(alloc: Global, files: &[Loaded<'_>], meaning: &Meaning) -> Result<Vec<u8>, AllocError>
     requires files { AreLoaded files.now }
     requires member { meaning.now.member < length files.now }
     ensures { IfOk result (λ v. v.items ≡ spec.held files.now meaning.now.member meaning.now.start) }
@@ -36,7 +36,7 @@ fn held(alloc: Global, files: &[Loaded<'_>], meaning: &Meaning) -> Result<Vec<u8
 
 /// Whether bytes are those of a word, little-endian.
 #[tactic(auto, using(pl_base::proofs::WordLaws::bytes64_std))]
-fn is_word(bytes: &[u8], word: u64) -> bool
+pub fn is_word(bytes: &[u8], word: u64) -> bool
     ensures { result ≡ bytes_eq bytes.now (bytes64 word) }
 {
     bytes == word.to_le_bytes().as_slice()
@@ -96,7 +96,7 @@ fn sort_rows(rows: &mut Vec<ConflictRow>)
     rows.sort_unstable_by_key(|row| row.address);
 }
 
-/// The conflict rows of a program whose relocations have these meanings, which `meanings` of pl_value gave for the scope at the places: the rows that `conflicts` gives. It fails only for want of memory; the other conditions are those of `conflicts`.
+/// The conflict rows of a program of whose relocations these meanings are enough: as many rows are made of them as of all that `meanings` of pl_value gives for the scope at the places. They are the rows that `conflicts` gives. It fails only for want of memory; the other conditions are those of `conflicts`.
 pub fn conflicts_by(
     alloc: Global,
     scope: &Scope<'_>,
@@ -105,7 +105,7 @@ pub fn conflicts_by(
     parts: &Parts<'_>,
 ) -> Result<Rows<ConflictRow>, NoMemory>
     requires compared { compared.AreCompared (objects scope.now) places.now parts.now }
-    requires given { compared.AreMeanings (objects scope.now) places.now meanings.now }
+    requires given { compared.AreEnough (objects scope.now) parts.now places.now meanings.now }
     ensures exact { IfOk result (compared.AreConflicts (objects scope.now) parts.now places.now meanings.now) }
     ensures ascending { IfOk result (λ rows. ascend rows ≡ true) }
 {

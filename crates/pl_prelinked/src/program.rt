@@ -3,12 +3,13 @@ ghost use Rattle.std.specs.Prelude.{◌≡◌, ◌∷◌, length, map, true, fal
 ghost use Rattle.std.specs.List.{All};
 ghost use Rattle.std.specs.Option.{option_map};
 ghost use Rattle.pl_conflict.specs.Prelinked as spec;
-ghost use Rattle.pl_conflict.specs.Compared.{AreConflicts, AreMeanings};
+ghost use Rattle.pl_conflict.specs.Compared.{AreConflicts};
 ghost use Rattle.pl_elf.specs.Kinds.{is_library};
 ghost use Rattle.pl_prelinked.specs.Fills.{fills_of, memory_of};
-ghost use Rattle.pl_prelinked.specs.Programs.{AreFirstFills, BeginsWithProgram, IsFound, IsMadeWith, IsProgramSet, form_of, result_ok};
+ghost use Rattle.pl_prelinked.specs.Programs.{AreFirstFills, BeginsWithProgram, IsAmongOf, IsEnough, IsEnoughFor, IsFound, IsMadeWith, IsProgramSet, SufficesWithSome, form_of, result_ok};
+ghost use Rattle.pl_prelinked.specs.Programs as spec_of;
 ghost use Rattle.pl_form.specs.Words.{AreFills};
-ghost use Rattle.pl_prelinked.specs.Lent.{AreLent, list_after};
+ghost use Rattle.pl_prelinked.specs.Lent.{AreLent, AreStillIn, list_after};
 ghost use Rattle.pl_image.specs.Image.{AreLoaded};
 ghost use Rattle.pl_prelinked.specs.Sources.{AreSources};
 ghost use Rattle.pl_scope.specs.Scope.{objects};
@@ -20,13 +21,15 @@ use crate::fills::fills;
 use crate::library::library_file;
 use crate::lists::list_after;
 use crate::scopes::{own_walk, places_of, scope_of};
+use crate::watched::{are_watched, windows_of};
 use crate::{Lent, Source};
 use pl_base::Rows;
-use pl_conflict::conflicts_by;
+use pl_conflict::{Still, conflicts_by, meanings_among};
 use pl_form::{Fill, FormFault, form_program};
 use pl_image::{Loaded, Parts};
 use pl_io::NoMemory;
 use pl_lists::{ConflictRow, ListRow};
+use pl_object::{Reloc, Window};
 use pl_scope::Scope;
 use pl_tls::{Block, Module, TlsFault, offsets};
 use pl_value::{Meaning, OrdinaryFault, Places, load, meanings};
@@ -145,6 +148,101 @@ fn meanings_of(
     Ok(meanings)
 }
 
+/// All meanings of the members' scope; None where a relocation has no value.
+fn all_of(
+    alloc: Global,
+    sources: &[Source<'_>],
+    modules: &[Module],
+) -> Result<Option<Rows<Meaning>>, NoMemory>
+    requires { AreSources sources.now }
+    ensures { IfOk result (IsEnough sources.now modules.now) }
+{
+    meanings_of(alloc, sources, modules)
+}
+
+/// Those that are far from windows left out, where flags tell of them.
+fn among_of(
+    alloc: Global,
+    sources: &[Source<'_>],
+    modules: &[Module],
+    still: &[Still<'_>],
+    windows: &[Window],
+) -> Result<Option<Rows<Meaning>>, NoMemory>
+    requires sources { AreSources sources.now }
+    requires still { AreStillIn sources.now still.now }
+    ensures { IfOk result (IsAmongOf sources.now modules.now still.now windows.now) }
+{
+    let scope = scope_of(alloc, sources)?;
+    let places = places_of(alloc, sources)?;
+    match meanings_among(alloc, &scope, &places, modules, still, windows) {
+        Ok(meanings) => Ok(Some(meanings)),
+        Err(OrdinaryFault::Link(_)) => Ok(None),
+        Err(OrdinaryFault::NoMemory) => Err(NoMemory),
+    }
+}
+
+/// The relocations of the first member.
+fn first_relocs<'a>(sources: &[Source<'a>]) -> &'a [Reloc]
+    ensures { result.now ≡ spec_of.first_relocs sources.now }
+{
+    let [first, ..] = sources else {
+        return &[];
+    };
+    first.object.relocations.as_slice()
+}
+
+/// Windows over what the file of the first member depends on.
+fn file_windows(alloc: Global, sources: &[Source<'_>]) -> Result<Vec<Window>, NoMemory>
+    requires { AreSources sources.now }
+{
+    let [first, ..] = sources else {
+        return Ok(Vec::new(alloc));
+    };
+    let scope = scope_of(alloc, sources)?;
+    let places = places_of(alloc, sources)?;
+    let relocs = first.object.relocations.as_slice();
+    Ok(windows_of(alloc, &scope, &places, relocs)?)
+}
+
+/// Meanings of the members' scope that are enough for the program's file, where flags tell of some that they matter nowhere.
+fn open_of(
+    alloc: Global,
+    sources: &[Source<'_>],
+    modules: &[Module],
+    still: &[Still<'_>],
+) -> Result<Option<Rows<Meaning>>, NoMemory>
+    requires sources { AreSources sources.now }
+    requires still { AreStillIn sources.now still.now }
+    ensures { IfOk result (IsEnough sources.now modules.now) }
+{
+    let windows = file_windows(alloc, sources)?;
+    let Some(found) = among_of(alloc, sources, modules, still, &windows)? else {
+        return Ok(None);
+    };
+    let watched = are_watched(&windows, first_relocs(sources), found.as_slice());
+    if watched {
+        return Ok(Some(found));
+    }
+    all_of(alloc, sources, modules)
+}
+
+/// The same, where it may not be known of any.
+fn enough_of(
+    alloc: Global,
+    sources: &[Source<'_>],
+    lent: &Lent<'_>,
+    modules: &[Module],
+) -> Result<Option<Rows<Meaning>>, NoMemory>
+    requires sources { AreSources sources.now }
+    requires lent { AreLent sources.now lent.now }
+    ensures { IfOk result (IsEnough sources.now modules.now) }
+{
+    match lent.still {
+        None => all_of(alloc, sources, modules),
+        Some(still) => open_of(alloc, sources, modules, still),
+    }
+}
+
 /// The conflict rows of the members' scope by the meanings of its relocations and the files with which they are compared.
 fn rows_by(
     alloc: Global,
@@ -154,7 +252,7 @@ fn rows_by(
 ) -> Result<Rows<ConflictRow>, NoMemory>
     requires sources { AreSources sources.now }
     requires set { IsProgramSet sources.now }
-    requires given { AreMeanings (spec.objects_of sources.now) (spec.slots_of sources.now) all.now }
+    requires given { IsEnoughFor sources.now all.now }
     requires parts { parts.now ≡ spec.parts_of sources.now }
     ensures { IfOk result (AreConflicts (spec.objects_of sources.now) (spec.parts_of sources.now)
         (spec.slots_of sources.now) all.now) }
@@ -172,7 +270,7 @@ fn rows_made(
 ) -> Result<Rows<ConflictRow>, NoMemory>
     requires sources { AreSources sources.now }
     requires set { IsProgramSet sources.now }
-    requires given { AreMeanings (spec.objects_of sources.now) (spec.slots_of sources.now) all.now }
+    requires given { IsEnoughFor sources.now all.now }
     ensures { IfOk result (AreConflicts (spec.objects_of sources.now) (spec.parts_of sources.now)
         (spec.slots_of sources.now) all.now) }
 {
@@ -190,7 +288,7 @@ fn rows_of(
 ) -> Result<Rows<ConflictRow>, NoMemory>
     requires sources { AreSources sources.now }
     requires set { IsProgramSet sources.now }
-    requires given { AreMeanings (spec.objects_of sources.now) (spec.slots_of sources.now) all.now }
+    requires given { IsEnoughFor sources.now all.now }
     requires lent { AreLent sources.now lent.now }
     ensures { IfOk result (AreConflicts (spec.objects_of sources.now) (spec.parts_of sources.now)
         (spec.slots_of sources.now) all.now) }
@@ -288,7 +386,7 @@ fn formed(
     form(alloc, program, others, list, fills, rows)
 }
 
-/// The prelinked file with these meanings of all relocations and these conflict rows.
+/// The prelinked file with the bytes that these meanings make at its places, and these conflict rows.
 fn with_rows(
     alloc: Global,
     sources: &[Source<'_>],
@@ -307,7 +405,7 @@ fn with_rows(
     formed(alloc, sources, list, &fills, rows)
 }
 
-/// The prelinked file with these meanings of all relocations; None where the file is longer than a folder stores.
+/// The prelinked file by meanings that are enough for it; None where the file is longer than a folder stores.
 fn with_meanings(
     alloc: Global,
     sources: &[Source<'_>],
@@ -317,7 +415,7 @@ fn with_meanings(
     requires sources { AreSources sources.now }
     requires set { IsProgramSet sources.now }
     requires lent { AreLent sources.now lent.now }
-    requires given { AreMeanings (spec.objects_of sources.now) (spec.slots_of sources.now) all.now }
+    requires given { SufficesWithSome sources.now all.now }
     ensures { IfOk result (λ file. IsMadeWith sources.now all.now (option_map (λ v. v.items) file)) }
 {
     let rows = rows_of(alloc, sources, all, lent)?;
@@ -337,7 +435,7 @@ fn with_modules(
     ensures { IfOk result (λ file. option_map (λ v. v.items) file
         ≡ spec.stored (spec.with_modules {E = TlsFault} sources.now (Ok modules.now))) }
 {
-    let given = meanings_of(alloc, sources, modules)?;
+    let given = enough_of(alloc, sources, lent, modules)?;
     let Some(meanings) = given else {
         return Ok(None);
     };

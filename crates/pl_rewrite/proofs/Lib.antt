@@ -4,6 +4,7 @@ pub mod FormLaws
 pub mod WalkLaws
 pub mod MadeLaws
 pub mod OnceLaws
+pub mod StillLaws
 pub mod PlanLaws
 pub mod SoundLaws
 pub mod VerifyLaws

@@ -111,11 +111,11 @@ own_by rs ws inner k same over =
     ap (λ (vs : Walked). filter_map (named rs) (names_in (walk_over (told vs) k))) same
     ∙ ap (λ (r : Result Walked WalkFault). filter_map (named rs) (names_in r)) over
 
-walked_planned : (run : Run) (ws : Walked) → walked_of (planned_firms run ws) ≡ ws
+pub walked_planned : (run : Run) (ws : Walked) → walked_of (planned_firms run ws) ≡ ws
 walked_planned run [] = refl
 walked_planned run (w ∷ ws) = ap (λ (vs : Walked). w ∷ vs) (walked_planned run ws)
 
-linked_kind : (kind : Kind) → is_static kind ≡ false → IsLinked kind
+pub linked_kind : (kind : Kind) → is_static kind ≡ false → IsLinked kind
 linked_kind Program e = inr refl
 linked_kind Library e = inl refl
 linked_kind Static e = absurd (false≢true (sym e))

@@ -12,6 +12,7 @@ mod rewriting;
 mod running;
 mod sources;
 mod states;
+mod still;
 mod verifying;
 
 pub use laws::{

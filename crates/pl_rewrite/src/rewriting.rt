@@ -10,9 +10,11 @@ ghost use Rattle.pl_rewrite.specs.Rewriting as spec;
 use crate::making::{AllMade, all_made};
 use crate::once::{checksums_of, libraries_of};
 use crate::running::Run;
+use crate::still::stills_of;
 use crate::{Report, ReportRow};
 use pl_base::Rows;
 use pl_cache::Cache;
+use pl_cone::links_of;
 use pl_io::NoMemory;
 use pl_journal::Change;
 use pl_known::{Taken, known_files, plan_files};
@@ -32,7 +34,27 @@ pub struct Rewritten {
     pub report: Report,
 }
 
-/// What a run makes of its files, where each library is prelinked once.
+/// What a run makes of its files, where relocations of libraries that matter nowhere in the walk of a program are looked up once.
+fn made_with_still(alloc: Global, run: &Run<'_>) -> Result<AllMade, NoMemory>
+    requires { IsRun run.now }
+    ensures { IfOk result (λ made. made ≡ spec.all_made (files_of run.now)
+        (names_of run.now.files.now) run.now.region (plan_of run.now)) }
+{
+    let links = links_of(alloc, run.known)?;
+    let still = stills_of(alloc, run, links.as_slice())?;
+    let run = Run {
+        files: run.files,
+        known: run.known,
+        region: run.region,
+        planned: run.planned,
+        checksums: run.checksums,
+        libraries: run.libraries,
+        still: still.as_slice(),
+    };
+    all_made(alloc, &run)
+}
+
+/// The same, where each library is prelinked once.
 fn made_with_libraries(alloc: Global, run: &Run<'_>) -> Result<AllMade, NoMemory>
     requires { IsRun run.now }
     ensures { IfOk result (λ made. made ≡ spec.all_made (files_of run.now)
@@ -46,8 +68,9 @@ fn made_with_libraries(alloc: Global, run: &Run<'_>) -> Result<AllMade, NoMemory
         planned: run.planned,
         checksums: run.checksums,
         libraries: libraries.as_slice(),
+        still: run.still,
     };
-    all_made(alloc, &run)
+    made_with_still(alloc, &run)
 }
 
 /// The same, where the checksum of each original is made once.
@@ -64,6 +87,7 @@ fn made_with_checksums(alloc: Global, run: &Run<'_>) -> Result<AllMade, NoMemory
         planned: run.planned,
         checksums: checksums.as_slice(),
         libraries: run.libraries,
+        still: run.still,
     };
     made_with_libraries(alloc, &run)
 }
@@ -89,6 +113,7 @@ fn made_by(
         planned,
         checksums: &[],
         libraries: &[],
+        still: &[],
     };
     if planned.stale.as_slice().is_empty() {
         return all_made(alloc, &run);

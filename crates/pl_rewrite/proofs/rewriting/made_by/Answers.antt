@@ -16,6 +16,7 @@ all_made-requires c =
       stale = n.stale;
       checksums = All-nil _;
       libraries = All-nil _;
+      still = All-nil _;
     }
 
 pub made_with_checksums-requires : goal.made_with_checksums-requires
@@ -28,4 +29,5 @@ made_with_checksums-requires c =
       stale = n.stale;
       checksums = All-nil _;
       libraries = All-nil _;
+      still = All-nil _;
     }

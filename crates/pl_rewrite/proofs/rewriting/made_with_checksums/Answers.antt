@@ -11,4 +11,5 @@ made_with_libraries-requires c = record {
   stale = c.requires.stale;
   checksums = subst (All (IsChecksum c.args.run.now)) (sym c.as_slice.ensures.value) c.in_ok-checksums.ensures;
   libraries = c.requires.libraries;
+  still = c.requires.still;
 }
