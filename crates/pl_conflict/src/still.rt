@@ -2,7 +2,6 @@
 ghost use Rattle.std.specs.Prelude.{◌≡◌, ◌<◌, length, slice_get, true, IfOk, Some};
 ghost use Rattle.std.specs.Bool.{OnTrue};
 ghost use Rattle.std.specs.List.{All};
-ghost use Rattle.std.specs.Option.{option_map};
 ghost use Rattle.pl_image.specs.Image.{AreLoaded};
 ghost use Rattle.pl_scope.specs.Scope.{objects, IsSymbol};
 ghost use Rattle.pl_value.specs.Values.{relocations_in};
@@ -54,13 +53,20 @@ fn is_held(
     }
 }
 
+fn is_set(flags: &[bool], index: usize) -> bool
+    ensures { OnTrue result (slice_get flags.now index ≡ Some true) }
+{
+    index < flags.len() && flags[index]
+}
+
 /// The same where the flag of an index is set.
 fn is_still(
     alloc: Global,
     own: &Scope<'_>,
     places: &Places,
     file: &[Loaded<'_>],
-    flag: Option<&bool>,
+    closed: &[bool],
+    index: usize,
     reloc: &Reloc,
 ) -> Result<bool, AllocError>
     requires one_each { length places.now ≡ length own.now }
@@ -68,13 +74,13 @@ fn is_still(
     requires file { AreLoaded file.now }
     requires one { 0 < length file.now }
     requires reference { IsSymbol (objects own.now) 0 reloc.now.symbol }
-    ensures { IfOk result (λ b. OnTrue b ((option_map (λ f. f.now) flag ≡ Some true)
+    ensures { IfOk result (λ b. OnTrue b ((slice_get closed.now index ≡ Some true)
         × spec.IsHeld (objects own.now) places.now file.now reloc.now)) }
 {
-    match flag {
-        Some(true) => is_held(alloc, own, places, file, reloc),
-        _ => Ok(false),
+    if is_set(closed, index) {
+        return is_held(alloc, own, places, file, reloc);
     }
+    Ok(false)
 }
 
 /// The same of relocations, in their order.
@@ -95,7 +101,7 @@ fn flags_of(
 {
     let mut flags = Rows::new(alloc);
     for index in 0..relocs.len() {
-        let flag = is_still(alloc, own, places, file, closed.get(index), &relocs[index])?;
+        let flag = is_still(alloc, own, places, file, closed, index, &relocs[index])?;
         flags.push(flag)?;
     }
     Ok(flags)

@@ -54,6 +54,10 @@ use Rattle.pl_prelinked.proofs.FirmLaws.{accepted_all, own_all, version_back}
 first_placed : (r : Firm) (rs : List Firm) → AreSources (r ∷ rs) → IsSet r rs → ArePlaced (slots_of (r ∷ rs)) (originals_of (r ∷ rs)) (objects_of (r ∷ rs))
 first_placed r rs are set = set_placed (r ∷ rs) (own_all (r ∷ rs) are) (and_from (has_numbers r) (list_all has_numbers rs) set.first set.numbers) set.apart
 
+pub first_is_placed : (all : List Firm) (r : Firm) (rs : List Firm) → all ≡ r ∷ rs → AreSources all → are_set all ≡ true → IsPlaced r.member.slot r.object
+first_is_placed all r rs is are set =
+    (first_placed r rs (subst AreSources is are) (set_is r rs (subst (λ (xs : List Firm). are_set xs ≡ true) is set))).placed 0 r.object (omega arith)
+
 no_set : are_set [] ≡ true → ⊥
 unfolding are_set
 no_set e = false≢true e

@@ -192,16 +192,15 @@ fn first_relocs<'a>(sources: &[Source<'a>]) -> &'a [Reloc]
 }
 
 /// Windows over what the file of the first member depends on.
-fn file_windows(alloc: Global, sources: &[Source<'_>]) -> Result<Vec<Window>, NoMemory>
+fn file_windows(alloc: Global, sources: &[Source<'_>]) -> Result<Vec<Window>, AllocError>
     requires { AreSources sources.now }
 {
-    let [first, ..] = sources else {
+    if sources.is_empty() {
         return Ok(Vec::new(alloc));
-    };
+    }
     let scope = scope_of(alloc, sources)?;
     let places = places_of(alloc, sources)?;
-    let relocs = first.object.relocations.as_slice();
-    Ok(windows_of(alloc, &scope, &places, relocs)?)
+    windows_of(alloc, &scope, &places)
 }
 
 /// Meanings of the members' scope that are enough for the program's file, where flags tell of some that they matter nowhere.

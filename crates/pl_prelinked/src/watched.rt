@@ -41,8 +41,8 @@ fn source_of(scope: &Scope<'_>, places: &Places, reloc: &Reloc) -> Option<Window
     }
 }
 
-/// A window over the places of the first member, and the windows from which its relocations copy.
-pub fn windows_of(
+/// A window over places of relocations of the first member, and the windows from which they copy.
+fn windows_by(
     alloc: Global,
     scope: &Scope<'_>,
     places: &Places,
@@ -60,6 +60,19 @@ pub fn windows_of(
         }
     }
     Ok(windows)
+}
+
+/// The same of all relocations of the first member. What the windows have is looked at again by `are_watched`.
+pub fn windows_of(
+    alloc: Global,
+    scope: &Scope<'_>,
+    places: &Places,
+) -> Result<Vec<Window>, AllocError>
+    requires one_each { length places.now ≡ length scope.now }
+    requires first { 0 < length scope.now }
+{
+    let relocs = scope.object(0).relocations.as_slice();
+    windows_by(alloc, scope, places, relocs)
 }
 
 /// Whether a window has so many addresses from one on.

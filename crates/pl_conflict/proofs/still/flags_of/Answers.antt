@@ -13,8 +13,7 @@ is_still-requires-clause-reference c =
 
 pub loop-index-preserved : goal.loop-index-preserved
 loop-index-preserved c =
-    let one = rw c.get.ensures at c.in_ok-flag.ensures in
-    held_more (objects c.args.own.now) c.args.places.now c.args.file.now c.args.closed.now c.args.relocs.now c.loop-index.index _ _ _ _ c.loop-index.invariant c.in_ok-push.ensures.ok one
+    held_more (objects c.args.own.now) c.args.places.now c.args.file.now c.args.closed.now c.args.relocs.now c.loop-index.index _ _ _ _ c.loop-index.invariant c.in_ok-push.ensures.ok c.in_ok-flag.ensures
 
 pub returns : goal.returns
 returns c = c.loop-index.invariant.held
