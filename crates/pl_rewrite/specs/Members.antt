@@ -34,10 +34,11 @@ use Rattle.pl_sound.specs.Rule.{Files, objects, original_at}
 use Rattle.pl_rewrite.specs.Changes as changes
 use Rattle.pl_rewrite.specs.Reports as reports
 use Rattle.pl_rewrite.specs.declared.making.Made.{Made}
-use Rattle.pl_rewrite.specs.declared.report.RowState.TheVariants.{Skipped}
+use Rattle.pl_rewrite.specs.declared.report.RowState.{RowState}
+use Rattle.pl_rewrite.specs.declared.report.RowState.TheVariants.{Library, Skipped}
 use Rattle.pl_rewrite.specs.declared.running.Checksum.{Checksum}
-use Rattle.pl_rewrite.specs.declared.running.LibraryFile.{LibraryFile}
 use Rattle.pl_rewrite.specs.declared.running.LibraryStill.{LibraryStill}
+use Rattle.pl_rewrite.specs.declared.running.MadeFile.{MadeFile}
 use Rattle.pl_rewrite.specs.declared.running.Run.{Run}
 
 -- ---- a run
@@ -64,8 +65,8 @@ abbrev pub IsChecksum : Run → Checksum → Type 0
 IsChecksum run c = c.number ≡ checksum_of (original_at (format skip_causes) (files_of run c.name.now))
 
 -- a name's prelinked file
-abbrev pub IsPrelinked : Run → LibraryFile → Type 0
-IsPrelinked run l = prelinked run l.name.now ≡ Some l.file.items
+abbrev pub IsPrelinked : Run → MadeFile → Type 0
+IsPrelinked run m = prelinked run m.name.now ≡ Some m.file.items
 
 -- a member with what it has or gets
 abbrev pub planned_firm : Run → (List ℕ × Object) → Firm
@@ -211,6 +212,10 @@ made_original t cause = record { change = changes.put (Some t.bytes) t.name (Som
 -- of one that is prelinked anew
 abbrev pub made_new : Taken → List ℕ → Made
 made_new t file = record { change = changes.put (Some t.bytes) t.name (Some file); state = reports.state_in t.name false (marked_in file); given = true }
+
+-- the row of a library that is prelinked anew
+abbrev pub new_library : Run → List ℕ → RowState
+new_library run n = Library false ((numbers_of run).slot n) ((numbers_of run).stamp n)
 
 -- of one that stays
 abbrev pub made_current : Taken → Made

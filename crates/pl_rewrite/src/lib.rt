@@ -3,6 +3,7 @@
 
 mod laws;
 mod lists;
+mod made;
 mod making;
 mod once;
 mod parts;

@@ -9,7 +9,7 @@ ghost use Rattle.pl_prelinked.specs.Sources.{AreSources, members};
 ghost use Rattle.pl_rewrite.specs.Members as spec;
 
 use crate::lists::list_after;
-use crate::parts::{library_file, parts_of};
+use crate::parts::parts_of;
 use crate::running::Run;
 use crate::sources::sources_of;
 use crate::still::flags_of;
@@ -129,18 +129,5 @@ pub fn made_prelinked(alloc: Global, run: &Run<'_>, name: &str) -> Result<Option
     match walk_of(alloc, run.known, name)? {
         None => Ok(None),
         Some(scope) => prelinked_by(alloc, run, name, &scope),
-    }
-}
-
-/// The same, a copy where it was made already.
-pub fn prelinked(alloc: Global, run: &Run<'_>, name: &str) -> Result<Option<Vec<u8>>, NoMemory>
-    requires run { spec.IsRun run.now }
-    requires candidate { spec.IsCandidate run.now name.now }
-    ensures { IfOk result (λ file. option_map (λ v. v.items) file
-        ≡ spec.prelinked run.now name.now) }
-{
-    match library_file(run, name) {
-        None => made_prelinked(alloc, run, name),
-        Some(file) => Ok(Some(Vec::from_slice(alloc, file)?)),
     }
 }

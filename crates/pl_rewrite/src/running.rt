@@ -20,7 +20,7 @@ pub struct Checksum<'a> {
 
 /// The prelinked file of a name, by the plan of a run.
 #[derive(Drop)]
-pub struct LibraryFile<'a> {
+pub struct MadeFile<'a> {
     pub name: &'a str,
     pub file: Vec<u8>,
 }
@@ -54,7 +54,7 @@ pub struct Run<'a> {
     pub checksums: &'a [Checksum<'a>],
 
     /// Prelinked files of libraries that were made already.
-    pub libraries: &'a [LibraryFile<'a>],
+    pub libraries: &'a [MadeFile<'a>],
 
     /// Which relocations of those libraries are known to matter nowhere in the walk of a program.
     pub still: &'a [LibraryStill<'a>],
