@@ -3,3 +3,5 @@ pub mod KnownLaws
 pub mod MemberLaws
 pub mod LoopLaws
 pub mod ListLaws
+pub mod LinkLaws
+pub mod ValueLaws

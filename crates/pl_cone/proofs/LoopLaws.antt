@@ -1,10 +1,16 @@
 -- Loops over lists: tests of all rows, runs over names, and rows that are left out.
-use Rattle.std.proofs.Common.{◌≡◌, ℕ, ◌+◌, ◌<◌, ◌≤◌, Bool, true, false, List, [], ◌∷◌, ◌++◌, length, drop, get_or, Result, Ok, Err, refl, sym, ap, ◌∙◌, append_assoc}
-use Rattle.std.specs.Prelude.{◌&&◌, map, filter}
+use Rattle.std.proofs.Common.{◌≡◌, ℕ, ◌+◌, ◌<◌, ◌≤◌, Bool, true, false, List, [], ◌∷◌, ◌++◌, length, drop, get_or, Result, Ok, Err, refl, sym, ap, ◌∙◌, append_assoc, inl, inr}
+use Rattle.std.specs.Prelude.{◌&&◌, not, map, filter}
 use Rattle.std.specs.List.{list_all}
+use Rattle.std.proofs.lemmas.Bool.{cases_Bool}
 use Rattle.std.proofs.lemmas.List.{at_drop_more, at_drop_all, append-nil}
 use Rattle.pl_base.specs.Answers.{◌>>=◌}
 use Rattle.pl_base.specs.Each.{run}
+use Rattle.pl_slots.specs.declared.slot.Slot.{Slot}
+use Rattle.pl_cone.specs.Candidates.{is_candidate, walk_in}
+use Rattle.pl_cone.specs.Cone.{candidates, stale}
+use Rattle.pl_cone.specs.Current.{all_held}
+use Rattle.pl_cone.specs.declared.known.Known.{Known}
 
 -- ---- a test of all rows
 
@@ -55,3 +61,18 @@ left_out {B = B} p g names whole xs i x lt is fails so_far =
 
 pub kept_done : {A B : Type 0} (p : B → Bool) (g : A → B) (names whole : List B) (xs : List A) (i : ℕ) → length xs ≤ i → names ++ filter p (map g (drop i xs)) ≡ whole → names ≡ whole
 kept_done {B = B} p g names whole xs i le so_far = sym (append-nil names) ∙ (ap (λ (z : List B). names ++ z) (sym (at_drop_all (λ (ys : List _). filter p (map g ys)) xs i le)) ∙ so_far)
+
+-- the candidates that are not current
+both_tests : {B : Type 0} (p q : B → Bool) (ns : List B) → filter (λ n. not (q n)) (filter p ns) ≡ filter (λ n. p n && not (p n && q n)) ns
+both_tests p q [] = refl
+both_tests {B = B} p q (n ∷ ns) = elim (cases_Bool (p n)) [
+  | inl on ↦ elim (cases_Bool (q n)) [
+    | inl held ↦ rw (on, held) (both_tests p q ns)
+    | inr stale ↦ rw (on, stale) (ap (λ (ms : List B). n ∷ ms) (both_tests p q ns))
+  ]
+  | inr off ↦ rw off (both_tests p q ns)
+]
+
+pub stale_are : (files : List Known) (slots : List Slot) → filter (λ n. not (all_held files slots (walk_in files n))) (candidates files) ≡ stale files slots
+unfolding candidates stale
+stale_are files slots = both_tests (is_candidate files) (λ n. all_held files slots (walk_in files n)) (map (λ k. k.name.now) files)

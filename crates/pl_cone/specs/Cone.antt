@@ -13,6 +13,12 @@ use Rattle.pl_cone.specs.declared.skip.ConeFault.{ConeFault}
 use Rattle.pl_cone.specs.declared.skip.ConeFault.TheVariants.{StampsSpent}
 use Rattle.pl_cone.specs.declared.cone.TheConstants.{LAST_STAMP}
 
+-- ---- the names that may be prelinked
+
+-- in the order of the files
+unfoldable pub candidates : List Known → List (List ℕ)
+candidates files = filter (is_candidate files) (map (λ k. k.name.now) files)
+
 -- ---- the stale names
 
 -- a candidate that is not current

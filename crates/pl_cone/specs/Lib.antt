@@ -1,5 +1,6 @@
 pub mod Skips
 pub mod Known
 pub mod Candidates
+pub mod Links
 pub mod Current
 pub mod Cone

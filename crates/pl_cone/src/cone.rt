@@ -1,11 +1,13 @@
 // What a run rewrites, and with what stamp.
-ghost use Rattle.std.specs.Prelude.{◌≡◌, IfOk};
+ghost use Rattle.std.specs.Prelude.{◌≡◌, not, filter, IfOk};
 ghost use Rattle.pl_base.specs.Answers.{Answers};
+ghost use Rattle.pl_cone.specs.Candidates.{walk_in};
 ghost use Rattle.pl_cone.specs.Cone as spec;
+ghost use Rattle.pl_cone.specs.Current.{all_held};
 ghost use Rattle.pl_cone.specs.Known.{AreAccepted};
 ghost use Rattle.pl_cone.specs.Skips.{stops_memory};
 
-use crate::current::is_stale;
+use crate::current::is_whole;
 use crate::stamps::greatest;
 use crate::{ConeFault, Known};
 use pl_base::{Rows, Text};
@@ -26,18 +28,53 @@ pub struct Cone {
     pub stamp: u32,
 }
 
-#[tactic(auto, unfolding(crate::specs::Cone::stale))]
-fn stale(alloc: Global, files: &[Known<'_>], slots: &[Slot]) -> Result<Rows<Text>, NoMemory>
+/// Whether a name that may be prelinked is stale.
+fn is_stale(
+    alloc: Global,
+    files: &[Known<'_>],
+    slots: &[Slot],
+    name: &str,
+) -> Result<bool, NoMemory>
     requires { AreAccepted files.now }
-    ensures { IfOk result (λ names. names ≡ spec.stale files.now slots.now) }
+    ensures { IfOk result (λ stale. stale ≡ not (all_held files.now slots.now
+        (walk_in files.now name.now))) }
+{
+    Ok(!is_whole(alloc, files, slots, name)?)
+}
+
+/// Those of the names that may be prelinked that are stale.
+fn stale_among(
+    alloc: Global,
+    files: &[Known<'_>],
+    candidates: &[Text],
+    slots: &[Slot],
+) -> Result<Rows<Text>, NoMemory>
+    requires { AreAccepted files.now }
+    ensures { IfOk result (λ names. names ≡ filter (λ n. not (all_held files.now slots.now
+        (walk_in files.now n))) candidates.now) }
 {
     let mut names = Rows::new(alloc);
-    for known in files {
-        if is_stale(alloc, files, slots, known.name)? {
-            names.push(Text::copy_of(alloc, known.name)?)?;
+    for candidate in candidates {
+        let name = candidate.as_str();
+        if is_stale(alloc, files, slots, name)? {
+            names.push(Text::copy_of(alloc, name)?)?;
         }
     }
     Ok(names)
+}
+
+/// The stale names.
+fn stale(
+    alloc: Global,
+    files: &[Known<'_>],
+    candidates: &[Text],
+    slots: &[Slot],
+) -> Result<Rows<Text>, NoMemory>
+    requires accepted { AreAccepted files.now }
+    requires candidates { candidates.now ≡ spec.candidates files.now }
+    ensures { IfOk result (λ names. names ≡ spec.stale files.now slots.now) }
+{
+    stale_among(alloc, files, candidates, slots)
 }
 
 /// The stamp of a run at a moment, past the greatest so far.
@@ -53,21 +90,23 @@ fn stamp_after(greatest: u32, now: u32) -> Result<u32, ConeFault>
 
 /// What a run at a moment rewrites: the names that may be prelinked and are not current, and the stamp that they get. A name is current where it and each library of its walk are prelinked in the version of now, at their planned slots, with lists that tell the names, stamps and checksums of the other members of their walks.
 ///
-/// `slots` are the planned ones, `last` is the stamp of the last run that gave one. The stamp is the greater of `now` and one more than the greatest of `last`, the stamps of all marks and those in their lists; it is `last` where no name is stale. `StampsSpent` comes exactly where a name is stale and that greatest stamp is the last that there is.
+/// `candidates` are the names that may be prelinked, in the order of the files, as `prelinkable` tells. `slots` are the planned ones, `last` is the stamp of the last run that gave one. The stamp is the greater of `now` and one more than the greatest of `last`, the stamps of all marks and those in their lists; it is `last` where no name is stale. `StampsSpent` comes exactly where a name is stale and that greatest stamp is the last that there is.
 ///
 /// No name stands twice in `files`, and each object is one that `accept` gave.
 #[tactic(auto, unfolding(crate::specs::Cone::cone))]
 pub fn cone_of(
     alloc: Global,
     files: &[Known<'_>],
+    candidates: &[Text],
     slots: &[Slot],
     last: u32,
     now: u32,
 ) -> Result<Cone, ConeFault>
-    requires { AreAccepted files.now }
+    requires accepted { AreAccepted files.now }
+    requires candidates { candidates.now ≡ spec.candidates files.now }
     ensures { Answers stops_memory result (spec.cone files.now slots.now last now) }
 {
-    let stale = stale(alloc, files, slots)?;
+    let stale = stale(alloc, files, candidates, slots)?;
     if stale.as_slice().is_empty() {
         return Ok(Cone { stale, stamp: last });
     }

@@ -4,11 +4,10 @@ ghost use Rattle.std.specs.List.{list_all};
 ghost use Rattle.std.specs.Option.{option_map};
 ghost use Rattle.pl_scope.specs.Members.{names};
 ghost use Rattle.pl_scope.specs.Scope.{walked};
-ghost use Rattle.pl_cone.specs.Cone.{is_stale};
+ghost use Rattle.pl_cone.specs.Candidates as candidates;
 ghost use Rattle.pl_cone.specs.Current as spec;
 ghost use Rattle.pl_cone.specs.Known.{AreAccepted};
 
-use crate::candidates::fit;
 use crate::lists::tells;
 use crate::names::mark_of;
 use crate::slots::at_slot;
@@ -80,24 +79,19 @@ fn all_held(
     Ok(true)
 }
 
-/// Whether a name may be prelinked and is not current.
-#[tactic(auto, unfolding(crate::specs::Candidates::prelinkable))]
-pub fn is_stale(
+/// Whether all members of the walk of a name hold, itself too.
+pub fn is_whole(
     alloc: Global,
     files: &[Known<'_>],
     slots: &[Slot],
     name: &str,
 ) -> Result<bool, NoMemory>
     requires { AreAccepted files.now }
-    ensures { IfOk result (λ stale. stale ≡ is_stale files.now slots.now name.now) }
+    ensures { IfOk result (λ held. held ≡ spec.all_held files.now slots.now
+        (candidates.walk_in files.now name.now)) }
 {
-    let scope = match walk_in(alloc, files, name) {
-        Ok(scope) => scope,
-        Err(Skip::NoMemory) => return Err(NoMemory),
-        Err(_) => return Ok(false),
-    };
-    match fit(alloc, files, name, &scope) {
-        Ok(()) => Ok(!all_held(alloc, files, slots, scope.members())?),
+    match walk_in(alloc, files, name) {
+        Ok(scope) => all_held(alloc, files, slots, scope.members()),
         Err(Skip::NoMemory) => Err(NoMemory),
         Err(_) => Ok(false),
     }

@@ -1,17 +1,25 @@
 // Whether the members of a program's walk link.
-ghost use Rattle.std.specs.Prelude.{◌≡◌, ◌<◌, ◌^◌, length, map, slice_get, IfOk};
+ghost use Rattle.std.specs.Prelude.{◌≡◌, ◌<◌, ◌^◌, find, length, map, slice_get, IfOk};
+ghost use Rattle.std.specs.Bool.{OnTrue};
+ghost use Rattle.std.specs.List.{All};
+ghost use Rattle.std.specs.Option.{option_map};
+ghost use Rattle.std.specs.Str.{bytes_eq};
 ghost use Rattle.pl_base.specs.Answers.{Answers, because};
-ghost use Rattle.pl_scope.specs.Scope.{walked};
+ghost use Rattle.pl_scope.specs.Scope.{objects, walked, IsSymbol};
 ghost use Rattle.pl_tls.specs.Layout.{offsets};
+ghost use Rattle.pl_value.specs.Definers.{IsSought};
+ghost use Rattle.pl_value.specs.Meanings as value;
 ghost use Rattle.pl_cone.specs.Candidates as spec;
+ghost use Rattle.pl_cone.specs.Links as links;
 ghost use Rattle.pl_cone.specs.Skips.{is_memory, of_tls};
 
-use crate::Skip;
+use crate::{Link, Skip};
 use pl_base::{Rows, Text};
-use pl_scope::{Member, Scope};
+use pl_object::Reloc;
+use pl_scope::{Found, Member, Reference, Scope, find};
 use pl_sym::Symbol;
 use pl_tls::{Block, Module, offsets};
-use pl_value::{LinkFault, OrdinaryFault, Places, meanings};
+use pl_value::{LinkFault, OrdinaryFault, Places, meanings, reference_of, word_of};
 use std::alloc::{AllocError, Global};
 
 fn blocks_of(alloc: Global, members: &[Member<'_>]) -> Result<Vec<Option<Block>>, AllocError>
@@ -117,9 +125,9 @@ fn places(alloc: Global, scope: &Scope<'_>) -> Result<Places, AllocError>
     Ok(Places::new(Rows::from_vec(rows)))
 }
 
-/// The first relocation without a value.
+/// The first relocation without a value, where each is looked up.
 #[tactic(auto, unfolding(crate::specs::Candidates::resolved))]
-fn resolved(alloc: Global, scope: &Scope<'_>, modules: &[Module]) -> Result<(), Skip>
+fn all_resolved(alloc: Global, scope: &Scope<'_>, modules: &[Module]) -> Result<(), Skip>
     ensures { Answers is_memory result (spec.resolved scope.now modules.now) }
 {
     let places = places(alloc, scope)?;
@@ -130,11 +138,186 @@ fn resolved(alloc: Global, scope: &Scope<'_>, modules: &[Module]) -> Result<(), 
     }
 }
 
-/// Whether the members link: an offset of thread-local storage may be too great, or a relocation may have no value.
+fn is_of(link: &Link, name: &str) -> bool
+    ensures { result ≡ bytes_eq link.now.name name.now }
+{
+    link.name.as_str() == name
+}
+
+/// What is known of the relocations of a name's library.
+fn link_of<'l>(links: &'l [Link], name: &str) -> Option<&'l Link>
+    ensures { option_map (λ l. l.now) result ≡ find (λ l. bytes_eq l.name name.now) links.now }
+{
+    links.iter().find(|link| is_of(link, name))
+}
+
+/// Whether a flag tells that a relocation has a value.
+fn is_flagged(link: Option<&Link>, index: usize) -> bool
+    ensures { OnTrue result (links.IsFlagged (option_map (λ l. l.now) link.entry) index) }
+{
+    let Some(link) = link else {
+        return false;
+    };
+    let flags = link.closed.as_slice();
+    index < flags.len() && flags[index]
+}
+
+/// What the symbol of a reference finds. Symbol 0 is no reference.
+fn sought(scope: &Scope<'_>, reference: Reference) -> Option<Found>
+    requires { IsSymbol (objects scope.now) reference.member reference.symbol }
+    ensures { IsSought (objects scope.now) reference result }
+{
+    if reference.symbol == 0 {
+        return None;
+    }
+    find(scope, reference)
+}
+
+/// Whether a relocation of a member has a value.
+#[tactic(auto, unfolding(pl_value::specs::Meanings::meaning))]
+fn link(
+    scope: &Scope<'_>,
+    places: &Places,
+    modules: &[Module],
+    member: u32,
+    reloc: &Reloc,
+) -> Result<(), LinkFault>
+    requires one_each { length places.now ≡ length scope.now }
+    requires reference { IsSymbol (objects scope.now) member reloc.now.symbol }
+    ensures { result ≡ links.row_has (objects scope.now) places.now modules.now
+        (value.row member reloc.now) }
+{
+    let found = sought(scope, reference_of(member, reloc));
+    word_of(scope, places, modules, member, reloc, found)?;
+    Ok(())
+}
+
+/// The first relocation of a member without a value, where a flag tells of some that they have one.
+fn member_links(
+    scope: &Scope<'_>,
+    places: &Places,
+    modules: &[Module],
+    member: u32,
+    relocs: &[Reloc],
+    known: Option<&Link>,
+) -> Result<(), LinkFault>
+    requires one_each { length places.now ≡ length scope.now }
+    requires references { All (λ r. IsSymbol (objects scope.now) member r.symbol) relocs.now }
+    requires known { links.TellsOf (objects scope.now) places.now modules.now member relocs.now
+        (option_map (λ l. l.now) known) }
+    ensures { result ≡ links.rows_have (objects scope.now) places.now modules.now
+        (map (value.row member) relocs.now) }
+{
+    for index in 0..relocs.len() {
+        if !is_flagged(known, index) {
+            link(scope, places, modules, member, &relocs[index])?;
+        }
+    }
+    Ok(())
+}
+
+/// The first relocation of the members without a value.
+#[tactic(auto, unfolding(pl_value::specs::Meanings::meanings))]
+fn members_link(
+    scope: &Scope<'_>,
+    places: &Places,
+    modules: &[Module],
+    known: &[Link],
+) -> Result<(), LinkFault>
+    requires places { places.now ≡ spec.zeros scope.now }
+    requires one_each { length places.now ≡ length scope.now }
+    requires known { links.HaveValues scope.now known.now }
+    ensures { result ≡ links.all_have (objects scope.now) places.now modules.now }
+{
+    let members = scope.members();
+    for member in 0..scope.count() {
+        let relocs = scope.object(member).relocations.as_slice();
+        let link = link_of(known, members[member as usize].name.as_str());
+        member_links(scope, places, modules, member, relocs, link)?;
+    }
+    Ok(())
+}
+
+/// The first relocation without a value, where `known` tells of some that they have one.
+#[tactic(auto, unfolding(crate::specs::Candidates::resolved))]
+fn resolved_by(
+    alloc: Global,
+    scope: &Scope<'_>,
+    modules: &[Module],
+    known: &[Link],
+) -> Result<(), Skip>
+    requires { links.HaveValues scope.now known.now }
+    ensures { Answers is_memory result (spec.resolved scope.now modules.now) }
+{
+    let places = places(alloc, scope)?;
+    match members_link(scope, &places, modules, known) {
+        Ok(()) => Ok(()),
+        Err(fault) => Err(of_link(alloc, scope.members(), fault)?),
+    }
+}
+
+/// How many relocations of a member no flag tells of.
+fn open_in(relocs: &[Reloc], known: Option<&Link>) -> u64 {
+    let mut open: u64 = 0;
+    for index in 0..relocs.len() {
+        if !is_flagged(known, index) {
+            open = open.saturating_add(1);
+        }
+    }
+    open
+}
+
+/// How many of all members.
+fn open_among(members: &[Member<'_>], known: &[Link]) -> u64 {
+    let mut open: u64 = 0;
+    for member in members {
+        let link = link_of(known, member.name.as_str());
+        open = open.saturating_add(open_in(member.object.relocations.as_slice(), link));
+    }
+    open
+}
+
+/// How many symbols the members have.
+fn symbols_among(members: &[Member<'_>]) -> u64 {
+    let mut count: u64 = 0;
+    for member in members {
+        count = count.saturating_add(member.object.symbols.as_slice().len() as u64);
+    }
+    count
+}
+
+/// Whether an index of all symbols costs less than to look up one by one the relocations that no flag tells of, each through the symbols of the first member. It decides the time alone.
+fn is_index_cheaper(members: &[Member<'_>], known: &[Link]) -> bool {
+    let Some(first) = members.first() else {
+        return true;
+    };
+    let each = first.object.symbols.as_slice().len() as u64;
+    let one_by_one = open_among(members, known).saturating_mul(each);
+    one_by_one > symbols_among(members).saturating_mul(8)
+}
+
+/// The first relocation without a value.
+fn resolved(
+    alloc: Global,
+    scope: &Scope<'_>,
+    modules: &[Module],
+    known: &[Link],
+) -> Result<(), Skip>
+    requires { links.HaveValues scope.now known.now }
+    ensures { Answers is_memory result (spec.resolved scope.now modules.now) }
+{
+    if known.is_empty() || is_index_cheaper(scope.members(), known) {
+        return all_resolved(alloc, scope, modules);
+    }
+    resolved_by(alloc, scope, modules, known)
+}
+
+/// Whether the members link: an offset of thread-local storage may be too great, or a relocation may have no value. Those of which `known` tells that they have one are not looked up.
 #[tactic(auto, unfolding(crate::specs::Candidates::linked))]
-pub fn linked(alloc: Global, scope: &Scope<'_>) -> Result<(), Skip>
+pub fn linked(alloc: Global, scope: &Scope<'_>, known: &[Link]) -> Result<(), Skip>
+    requires { links.HaveValues scope.now known.now }
     ensures { Answers is_memory result (spec.linked scope.now) }
 {
     let modules = modules(alloc, scope)?;
-    resolved(alloc, scope, modules.as_slice())
+    resolved(alloc, scope, modules.as_slice(), known)
 }

@@ -141,7 +141,7 @@ differ objects parts places modules gs accepted placed is =
     (most_lone under gs (places_are_apart read.0 objects places modules gs read.1 (placed_again objects places parts read.0 placed) is))
 
 -- each meaning is of a member
-length_loaded : (places : List ℕ) (parts : List (List ℕ)) (member : ℕ) (os : List Object) → length (loaded_from places parts member os) ≡ length os
+pub length_loaded : (places : List ℕ) (parts : List (List ℕ)) (member : ℕ) (os : List Object) → length (loaded_from places parts member os) ≡ length os
 unfolding loaded_from
 length_loaded places parts member [] = refl
 length_loaded places parts member (o ∷ os) = ap suc (length_loaded places parts (member + 1) os)
@@ -154,6 +154,17 @@ members_within objects parts places modules gs accepted is =
   where
     within : (x : Row) (g : Meaning) → x.member ≡ g.member → x.member < length objects → g.member < length (loaded places parts objects)
     within x g same lt = omega (arith, same, lt, length_loaded places parts 0 objects)
+
+-- the same of members and of what they load
+pub loaded_within : (objects : List Object) (parts : List (List ℕ)) (places : List ℕ) (gs : List Meaning) → All (λ g. g.member < length objects) gs → All (λ g. g.member < length (loaded places parts objects)) gs
+loaded_within objects parts places gs all = λ k d lt.
+    let one : (get_or gs k d).member < length objects = all k d lt in
+    omega (arith, one, length_loaded places parts 0 objects)
+
+pub objects_within : (objects : List Object) (places : List ℕ) (modules : List Module) (gs : List Meaning) → All IsAccepted objects → meanings objects places modules ≡ Ok gs → All (λ g. g.member < length objects) gs
+objects_within objects places modules gs accepted is = λ k d lt.
+    let one : (get_or gs k d).member < length (loaded places [] objects) = members_within objects [] places modules gs accepted is k d lt in
+    omega (arith, one, length_loaded places [] 0 objects)
 
 -- sorted rows are the conflicts
 pub conflicts_ok : (objects : List Object) (parts : List (List ℕ)) (places : List ℕ) (modules : List Module) (gs : List Meaning) (found sorted : List ConflictRow) → All IsAccepted objects → ArePlaced places parts objects → because Link (meanings objects places modules) ≡ Ok gs

@@ -3,6 +3,7 @@ pub mod PieceLaws
 pub mod OrderLaws
 pub mod OwnLaws
 pub mod HeldLaws
+pub mod AmongLaws
 pub mod ConflictLaws
 pub mod CompleteLaws
 pub mod MemberLaws

@@ -123,7 +123,7 @@ in_windows r bytes a own numbers any = elim (cases_Bool (is_library r.object.kin
 both_share : (v w : Window) (a : ℕ) → holds a v ≡ true → holds a w ≡ true → share v w ≡ true
 both_share v w a h g = let p = holds_true a v h in let q = holds_true a w g in grind (arith, nat_tests)
 
-none_holds : (w : Window) (vs : List Window) (a : ℕ) → holds a w ≡ true → list_any (share w) vs ≡ false → list_any (holds a) vs ≡ false
+pub none_holds : (w : Window) (vs : List Window) (a : ℕ) → holds a w ≡ true → list_any (share w) vs ≡ false → list_any (holds a) vs ≡ false
 none_holds w [] a hit none = refl
 none_holds w (v ∷ vs) a hit none =
     let p = or_parts (share w v) (list_any (share w) vs) none in

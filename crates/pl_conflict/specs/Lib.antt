@@ -1,5 +1,7 @@
 pub mod Own
 pub mod Conflicts
+pub mod Among
+pub mod Compared
 pub mod Fast
 pub mod Standing
 pub mod Prelinked

@@ -1,13 +1,17 @@
 //! What prelinking asks of look-ups: the own words of a library, the conflict rows of a program, and the laws that prelinked files are forms and that these rows over them make the image of the originals (Jelínek, "Prelink").
 #![tactic(auto)]
 
+mod among;
 mod law;
 mod own;
 mod rows;
+mod still;
 
+pub use among::{Still, meaning_of, meanings_among};
 pub use law::{
     conflicts_are_complete, fast_images_are_ordinary, fast_is_ordinary, format_is_kept,
     prelinked_are_forms,
 };
 pub use own::own_words;
-pub use rows::conflicts;
+pub use rows::{conflicts, conflicts_by};
+pub use still::still_of;

@@ -11,10 +11,12 @@ ghost use Rattle.pl_scope.specs.Scope.{objects, IsAccepted};
 ghost use Rattle.pl_value.specs.Meanings.{is_memory};
 ghost use Rattle.pl_value.specs.Ordinary.{ArePlaced};
 ghost use Rattle.pl_value.specs.declared.fault.OrdinaryFault.TheVariants.{Link};
+ghost use Rattle.pl_conflict.specs.Compared as compared;
 ghost use Rattle.pl_conflict.specs.Conflicts as spec;
 
 use pl_base::Rows;
 use pl_image::{Loaded, Parts};
+use pl_io::NoMemory;
 use pl_lists::ConflictRow;
 use pl_scope::Scope;
 use pl_tls::Module;
@@ -23,7 +25,7 @@ use std::alloc::{AllocError, Global};
 
 /// The eight bytes that a member's file loads from an address on.
 #[tactic(auto, unfolding(crate::specs::Conflicts::held))]
-fn held(alloc: Global, files: &[Loaded<'_>], meaning: &Meaning) -> Result<Vec<u8>, AllocError>
+pub fn held(alloc: Global, files: &[Loaded<'_>], meaning: &Meaning) -> Result<Vec<u8>, AllocError>
     requires files { AreLoaded files.now }
     requires member { meaning.now.member < length files.now }
     ensures { IfOk result (λ v. v.items ≡ spec.held files.now meaning.now.member meaning.now.start) }
@@ -34,7 +36,7 @@ fn held(alloc: Global, files: &[Loaded<'_>], meaning: &Meaning) -> Result<Vec<u8
 
 /// Whether bytes are those of a word, little-endian.
 #[tactic(auto, using(pl_base::proofs::WordLaws::bytes64_std))]
-fn is_word(bytes: &[u8], word: u64) -> bool
+pub fn is_word(bytes: &[u8], word: u64) -> bool
     ensures { result ≡ bytes_eq bytes.now (bytes64 word) }
 {
     bytes == word.to_le_bytes().as_slice()
@@ -94,6 +96,25 @@ fn sort_rows(rows: &mut Vec<ConflictRow>)
     rows.sort_unstable_by_key(|row| row.address);
 }
 
+/// The conflict rows of a program of whose relocations these meanings are enough: as many rows are made of them as of all that `meanings` of pl_value gives for the scope at the places. They are the rows that `conflicts` gives. It fails only for want of memory; the other conditions are those of `conflicts`.
+pub fn conflicts_by(
+    alloc: Global,
+    scope: &Scope<'_>,
+    places: &Places,
+    meanings: &[Meaning],
+    parts: &Parts<'_>,
+) -> Result<Rows<ConflictRow>, NoMemory>
+    requires compared { compared.AreCompared (objects scope.now) places.now parts.now }
+    requires given { compared.AreEnough (objects scope.now) parts.now places.now meanings.now }
+    ensures exact { IfOk result (compared.AreConflicts (objects scope.now) parts.now places.now meanings.now) }
+    ensures ascending { IfOk result (λ rows. ascend rows ≡ true) }
+{
+    let files = load(alloc, scope, parts, places)?;
+    let mut rows = rows_of(alloc, &files, meanings)?;
+    sort_rows(&mut rows);
+    Ok(Rows::from_vec(rows))
+}
+
 /// The conflict rows of a program: for each relocation of a library that gives a word in the program's scope, at these places, other than the eight bytes that the library's file loads there, its place and that word. They ascend by their addresses, which differ from one another. Else the first link refusal in scope order, in an object the relocations of DT_RELA before those of DT_JMPREL, or NoMemory.
 ///
 /// The program is the first member, and each object is one that `accept` gave. `places` and `parts` have one row for each member. `parts` are the files as they are loaded: for the program its original, for a library its prelinked file, whose PT_LOADs have the offsets of the original's. The PT_LOADs have no address in common at the places and end there within the limit of addresses.
@@ -112,8 +133,5 @@ pub fn conflicts(
     ensures ascending { IfOk result (λ rows. ascend rows ≡ true) }
 {
     let meanings = meanings(alloc, scope, places, tls)?;
-    let files = load(alloc, scope, parts, places)?;
-    let mut rows = rows_of(alloc, &files, meanings.as_slice())?;
-    sort_rows(&mut rows);
-    Ok(Rows::from_vec(rows))
+    Ok(conflicts_by(alloc, scope, places, meanings.as_slice(), parts)?)
 }

@@ -7,10 +7,42 @@ use crate::Taken;
 use crate::faults::fault_of_entry;
 use pl_base::{Rows, Text};
 use pl_elf::Range;
-use pl_form::{Entry, FileFault, STORED, read_file};
+use pl_form::{Entry, File, FileFault, Marked, STORED, read_file};
 use pl_io::NoMemory;
-use pl_object::Refusal;
+use pl_object::{Object, Refusal};
 use std::alloc::Global;
+
+/// The same rows, with no room behind them.
+fn trimmed<T>(rows: Rows<T>) -> Rows<T>
+    ensures { result ≡ rows }
+{
+    let mut rows = rows.into_vec();
+    rows.shrink_to_fit();
+    Rows::from_vec(rows)
+}
+
+/// The same object. Its long tables have no room behind them, since a run keeps the objects of all files at once.
+fn trimmed_object(object: Object) -> Object
+    ensures { result ≡ object }
+{
+    Object {
+        symbols: trimmed(object.symbols),
+        relocations: trimmed(object.relocations),
+        ..object
+    }
+}
+
+fn trimmed_file(file: File) -> File
+    ensures { result ≡ file }
+{
+    match file {
+        File::Plain(object) => File::Plain(trimmed_object(object)),
+        File::Marked(marked) => File::Marked(Marked {
+            object: trimmed_object(marked.object),
+            ..marked
+        }),
+    }
+}
 
 /// What a file is. It fails only for want of memory.
 #[tactic(auto, unfolding(crate::specs::Taken::entry_in))]
@@ -20,7 +52,7 @@ fn entry_of(alloc: Global, bytes: &[u8]) -> Result<Entry, NoMemory>
     ensures bytes { IsBytes bytes.now }
 {
     match read_file(alloc, bytes) {
-        Ok(file) => Ok(Entry::There(file)),
+        Ok(file) => Ok(Entry::There(trimmed_file(file))),
         Err(FileFault::BadMark) => Ok(Entry::BadMark),
         Err(FileFault::Refused(Refusal::Clause { number, argument })) => {
             Ok(Entry::Refused { number, argument })

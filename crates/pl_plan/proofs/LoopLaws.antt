@@ -1,7 +1,15 @@
 -- Loops that keep what a function gives of each row, where it gives something.
-use Rattle.std.proofs.Common.{◌≡◌, ℕ, ◌+◌, ◌<◌, ◌≤◌, List, [], ◌∷◌, ◌++◌, length, drop, get_or, Option, Some, None, refl, sym, ap, ◌∙◌, append_assoc}
+use Rattle.std.proofs.Common.{◌≡◌, ℕ, ◌+◌, ◌<◌, ◌≤◌, List, [], ◌∷◌, ◌++◌, length, drop, get_or, Option, Some, None, Result, Ok, Err, refl, sym, ap, ◌∙◌, append_assoc}
+use Rattle.std.specs.Prelude.{filter, map, if◌then◌else◌}
 use Rattle.std.specs.List.{filter_map, cons_option}
 use Rattle.std.proofs.lemmas.List.{at_drop_more, at_drop_all, append-nil}
+use Rattle.std.specs.Result.{is_ok}
+use Rattle.pl_cone.specs.Candidates.{is_candidate, prelinkable}
+use Rattle.pl_cone.specs.Cone as cone
+use Rattle.pl_cone.specs.declared.known.Known.{Known}
+use Rattle.pl_cone.specs.declared.skip.Skip.{Skip}
+use Rattle.pl_plan.specs.Wants as wants
+use Rattle.pl_plan.specs.Wants.{candidate, cause_of, standing, standings, unless_caused}
 use Rattle.pl_scope.specs.Members.{names}
 use Rattle.pl_scope.specs.Scope.{walked}
 use Rattle.pl_scope.specs.declared.member.Member.{Member}
@@ -28,3 +36,17 @@ given_done {X = X} {Y = Y} h ys whole xs i le so_far =
 pub positions_walked : (h : List ℕ → Option ℕ) (ms : List Member) → filter_map (λ m. h m.name) ms ≡ filter_map h (names (walked ms))
 positions_walked h [] = refl
 positions_walked h (m ∷ ms) = ap (λ (ys : List ℕ). cons_option (h m.name) ys) (positions_walked h ms)
+
+-- the names that stand well are those that may be prelinked
+with_cause : (n : List ℕ) (r : Result (Unit {0}) Skip) (later : List (List ℕ)) → cons_option (unless_caused n (cause_of r)) later ≡ (if is_ok r then n ∷ later else later)
+with_cause n (Ok u) later = refl
+with_cause n (Err cause) later = refl
+
+standing_well : (files known : List Known) → filter_map candidate (map (λ k. standing files k.name.now) known) ≡ filter (is_candidate files) (map (λ k. k.name.now) known)
+standing_well files [] = refl
+standing_well files (k ∷ known) =
+    ap (cons_option (candidate (standing files k.name.now))) (standing_well files known) ∙ with_cause k.name.now (prelinkable files k.name.now) (filter (is_candidate files) (map (λ x. x.name.now) known))
+
+pub candidates_are : (files : List Known) → wants.candidates (standings files) ≡ cone.candidates files
+unfolding wants.candidates standings cone.candidates
+candidates_are files = standing_well files files

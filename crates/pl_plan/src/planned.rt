@@ -5,7 +5,6 @@ ghost use Rattle.pl_cone.specs.Cone as cone;
 ghost use Rattle.pl_cone.specs.Known.{AreAccepted};
 ghost use Rattle.pl_plan.specs.Faults.{is_memory, of_cone};
 ghost use Rattle.pl_plan.specs.Planned as spec;
-ghost use Rattle.pl_plan.specs.Wants.{candidates};
 
 use crate::slots::slots_of;
 use crate::standing::{Standing, candidates, standings};
@@ -32,34 +31,34 @@ pub struct Planned {
     pub stamp: u32,
 }
 
-/// The slots of the libraries among the names that stand well.
+/// The slots of the libraries among names.
 fn planned_slots(
     alloc: Global,
     files: &[Known<'_>],
     asked: &Asked<'_>,
-    standings: &[Standing],
+    names: &[Text],
 ) -> Result<Rows<Slot>, PlanningFault>
     requires { AreAccepted files.now }
-    ensures { Answers is_memory result
-        (spec.slots_by files.now asked.now (candidates standings.now)) }
+    ensures { Answers is_memory result (spec.slots_by files.now asked.now names.now) }
 {
-    let names = candidates(alloc, standings)?;
-    let wants = wants_of(alloc, files, names.as_slice())?;
-    slots_of(alloc, files, asked, names.as_slice(), wants.as_slice())
+    let wants = wants_of(alloc, files, names)?;
+    slots_of(alloc, files, asked, names, wants.as_slice())
 }
 
-/// The stale names by these slots, and the run's stamp.
+/// The stale names by these slots, and the run's stamp; the names are those that may be prelinked.
 fn cone_by(
     alloc: Global,
     files: &[Known<'_>],
     asked: &Asked<'_>,
+    names: &[Text],
     slots: &[Slot],
 ) -> Result<Cone, PlanningFault>
-    requires { AreAccepted files.now }
+    requires accepted { AreAccepted files.now }
+    requires names { names.now ≡ cone.candidates files.now }
     ensures { Answers is_memory result (because of_cone
         (cone.cone files.now slots.now asked.now.last asked.now.moment)) }
 {
-    Ok(cone_of(alloc, files, slots, asked.last, asked.moment)?)
+    Ok(cone_of(alloc, files, names, slots, asked.last, asked.moment)?)
 }
 
 /// What a run plans, by what is known of the files of a folder, ascending by name.
@@ -81,8 +80,9 @@ pub fn plan_run(
     ensures { Answers is_memory result (spec.planned files.now asked.now) }
 {
     let standings = standings(alloc, files)?;
-    let slots = planned_slots(alloc, files, asked, standings.as_slice())?;
-    let Cone { stale, stamp } = cone_by(alloc, files, asked, slots.as_slice())?;
+    let names = candidates(alloc, standings.as_slice())?;
+    let slots = planned_slots(alloc, files, asked, names.as_slice())?;
+    let Cone { stale, stamp } = cone_by(alloc, files, asked, names.as_slice(), slots.as_slice())?;
     Ok(Planned {
         standings,
         slots,

@@ -1,12 +1,14 @@
 // Which names may be prelinked, and why the others may not.
 ghost use Rattle.std.specs.Prelude.{◌≡◌, ◌≤◌, length, IfOk};
+ghost use Rattle.std.specs.List.{All};
 ghost use Rattle.pl_cone.specs.Candidates as cone;
 ghost use Rattle.pl_cone.specs.Known.{AreAccepted};
+ghost use Rattle.pl_cone.specs.Links.{IsLink};
 ghost use Rattle.pl_plan.specs.Wants as spec;
 
 use crate::pushing::push_some;
 use pl_base::{Rows, Text};
-use pl_cone::{Known, Skip, prelinkable};
+use pl_cone::{Known, Link, Skip, links_of, prelinkable_with};
 use pl_io::NoMemory;
 use std::alloc::{AllocError, Global};
 
@@ -20,39 +22,65 @@ pub struct Standing {
 }
 
 /// The first cause why a name is not prelinked, if there is one.
-fn cause_of(alloc: Global, files: &[Known<'_>], name: &str) -> Result<Option<Skip>, NoMemory>
-    requires { AreAccepted files.now }
+fn cause_of(
+    alloc: Global,
+    files: &[Known<'_>],
+    links: &[Link],
+    name: &str,
+) -> Result<Option<Skip>, NoMemory>
+    requires accepted { AreAccepted files.now }
+    requires links { All (IsLink files.now) links.now }
     ensures { IfOk result (λ cause. cause ≡ spec.cause_of (cone.prelinkable files.now name.now)) }
 {
-    match prelinkable(alloc, files, name) {
+    match prelinkable_with(alloc, files, links, name) {
         Ok(()) => Ok(None),
         Err(Skip::NoMemory) => Err(NoMemory),
         Err(skip) => Ok(Some(skip)),
     }
 }
 
-fn standing_of(alloc: Global, files: &[Known<'_>], name: &str) -> Result<Standing, NoMemory>
-    requires { AreAccepted files.now }
+fn standing_of(
+    alloc: Global,
+    files: &[Known<'_>],
+    links: &[Link],
+    name: &str,
+) -> Result<Standing, NoMemory>
+    requires accepted { AreAccepted files.now }
+    requires links { All (IsLink files.now) links.now }
     ensures { IfOk result (λ standing. standing ≡ spec.standing files.now name.now) }
 {
-    let cause = cause_of(alloc, files, name)?;
+    let cause = cause_of(alloc, files, links, name)?;
     let name = Text::copy_of(alloc, name)?;
     Ok(Standing { name, cause })
 }
 
-/// How each name of the files stands, in their order: whether it may be prelinked, or the first cause why not, as `prelinkable` of pl_cone has it. It fails only for want of memory.
-///
-/// No name stands twice in `files`, and each object is one that `accept` gave.
+/// The same by what is known of the relocations of libraries.
 #[tactic(auto, unfolding(crate::specs::Wants::standings))]
-pub fn standings(alloc: Global, files: &[Known<'_>]) -> Result<Rows<Standing>, NoMemory>
-    requires { AreAccepted files.now }
+fn standings_by(
+    alloc: Global,
+    files: &[Known<'_>],
+    links: &[Link],
+) -> Result<Rows<Standing>, NoMemory>
+    requires accepted { AreAccepted files.now }
+    requires links { All (IsLink files.now) links.now }
     ensures { IfOk result (λ rows. rows ≡ spec.standings files.now) }
 {
     let mut rows = Rows::new(alloc);
     for known in files {
-        rows.push(standing_of(alloc, files, known.name)?)?;
+        rows.push(standing_of(alloc, files, links, known.name)?)?;
     }
     Ok(rows)
+}
+
+/// How each name of the files stands, in their order: whether it may be prelinked, or the first cause why not, as `prelinkable` of pl_cone has it. What a relocation of a library gives in every walk is looked up once. It fails only for want of memory.
+///
+/// No name stands twice in `files`, and each object is one that `accept` gave.
+pub fn standings(alloc: Global, files: &[Known<'_>]) -> Result<Rows<Standing>, NoMemory>
+    requires { AreAccepted files.now }
+    ensures { IfOk result (λ rows. rows ≡ spec.standings files.now) }
+{
+    let links = links_of(alloc, files)?;
+    standings_by(alloc, files, links.as_slice())
 }
 
 /// The name of a row without a cause.

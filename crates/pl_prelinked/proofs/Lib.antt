@@ -5,3 +5,4 @@ pub mod FillLaws
 pub mod ProgramLaws
 pub mod LibraryLaws
 pub mod WholeLaws
+pub mod WatchedLaws

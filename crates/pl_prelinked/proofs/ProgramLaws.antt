@@ -9,6 +9,7 @@ use Rattle.std.proofs.lemmas.Option.{none-some}
 use Rattle.pl_base.specs.Answers.{because}
 use Rattle.pl_base.specs.Memory.{read}
 use Rattle.pl_base.proofs.AnswerLaws.{ok_same}
+use Rattle.pl_conflict.specs.Compared.{AreCompared}
 use Rattle.pl_conflict.specs.Conflicts.{conflicts}
 use Rattle.pl_conflict.specs.Format.{number_of}
 use Rattle.pl_conflict.specs.Prelinked as prelinked
@@ -46,12 +47,16 @@ use Rattle.pl_prelinked.specs.Fills.{fills, fills_of, memory_of}
 use Rattle.pl_prelinked.specs.Programs.{AreFirstFills, IsProgramSet, form_of, result_ok}
 use Rattle.pl_prelinked.specs.Sources.{AreSources, firm}
 use Rattle.pl_prelinked.proofs.FillLaws.{are_fills, flat_same}
-use Rattle.pl_prelinked.proofs.FirmLaws.{own_all, version_back}
+use Rattle.pl_prelinked.proofs.FirmLaws.{accepted_all, own_all, version_back}
 
 -- ---- where the members are loaded
 
 first_placed : (r : Firm) (rs : List Firm) → AreSources (r ∷ rs) → IsSet r rs → ArePlaced (slots_of (r ∷ rs)) (originals_of (r ∷ rs)) (objects_of (r ∷ rs))
 first_placed r rs are set = set_placed (r ∷ rs) (own_all (r ∷ rs) are) (and_from (has_numbers r) (list_all has_numbers rs) set.first set.numbers) set.apart
+
+pub first_is_placed : (all : List Firm) (r : Firm) (rs : List Firm) → all ≡ r ∷ rs → AreSources all → are_set all ≡ true → IsPlaced r.member.slot r.object
+first_is_placed all r rs is are set =
+    (first_placed r rs (subst AreSources is are) (set_is r rs (subst (λ (xs : List Firm). are_set xs ≡ true) is set))).placed 0 r.object (omega arith)
 
 no_set : are_set [] ≡ true → ⊥
 unfolding are_set
@@ -112,18 +117,13 @@ pub link_some : {X E F : Type 0} (fault : E → F) (r : Result X E) (x : X) → 
 link_some fault (Ok y) x is = cc
 link_some fault (Err f) x is = absurd cc
 
-ok_of : {X E : Type 0} (r : Result X E) (x : X) → Some x ≡ result_ok r → r ≡ Ok x
+pub ok_of : {X E : Type 0} (r : Result X E) (x : X) → Some x ≡ result_ok r → r ≡ Ok x
 ok_of (Ok y) x is = cc
 ok_of (Err e) x is = absurd cc
 
 no_meanings : {E F : Type 0} (rs : List Firm) (m : Result (List Meaning) E) (c : Result (List ConflictRow) F) → None ≡ result_ok m → with_rows rs m c ≡ None
 no_meanings rs (Err e) c is = refl
 no_meanings rs (Ok gs) c is = absurd (none-some gs is)
-
-no_rows : {E F : Type 0} (rs : List Firm) (m : Result (List Meaning) E) (c : Result (List ConflictRow) F) → None ≡ result_ok c → with_rows rs m c ≡ None
-no_rows rs (Err e) c is = refl
-no_rows rs (Ok gs) (Err e) is = refl
-no_rows rs (Ok gs) (Ok rows) is = absurd (none-some rows is)
 
 both_rows : {E F : Type 0} (rs : List Firm) (m : Result (List Meaning) E) (c : Result (List ConflictRow) F) (gs : List Meaning) (rows : List ConflictRow) → m ≡ Ok gs → c ≡ Ok rows → with_rows rs m c ≡ program_by rs gs rows
 both_rows rs m c gs rows is made = rw (is, made) refl
@@ -135,17 +135,20 @@ pub without_meanings : (rs : List Firm) (modules : List Module) → None ≡ res
 without_meanings rs modules is =
     sym (ap prelinked.stored (no_meanings rs (meanings (objects_of rs) (slots_of rs) modules) (conflicts (objects_of rs) (parts_of rs) (slots_of rs) modules) is))
 
-pub without_rows : (rs : List Firm) (modules : List Module) → None ≡ result_ok (conflicts (objects_of rs) (parts_of rs) (slots_of rs) modules) → None ≡ prelinked.stored (of_program rs modules)
-without_rows rs modules is =
-    sym (ap prelinked.stored (no_rows rs (meanings (objects_of rs) (slots_of rs) modules) (conflicts (objects_of rs) (parts_of rs) (slots_of rs) modules) is))
-
-pub with_both : (rs : List Firm) (modules : List Module) (gs : List Meaning) (rows : List ConflictRow) → AreSources rs → IsProgramSet rs → Some gs ≡ result_ok (meanings (objects_of rs) (slots_of rs) modules)
-    → Some rows ≡ result_ok (conflicts (objects_of rs) (parts_of rs) (slots_of rs) modules) → prelinked.stored (form_of rs (fills_of rs (memory_of rs gs)) rows) ≡ prelinked.stored (of_program rs modules)
-with_both rs modules gs rows are set is made =
-    let given = ok_of (meanings (objects_of rs) (slots_of rs) modules) gs is in
-    let rowed = ok_of (conflicts (objects_of rs) (parts_of rs) (slots_of rs) modules) rows made in
+pub made_with : (rs : List Firm) (modules : List Module) (gs : List Meaning) (rows : List ConflictRow) → AreSources rs → IsProgramSet rs → meanings (objects_of rs) (slots_of rs) modules ≡ Ok gs → conflicts (objects_of rs) (parts_of rs) (slots_of rs) modules ≡ Ok rows
+    → prelinked.stored (form_of rs (fills_of rs (memory_of rs gs)) rows) ≡ prelinked.stored (of_program rs modules)
+made_with rs modules gs rows are set given rowed =
     ap prelinked.stored (form_is rs modules gs rows are set given
     ∙ sym (both_rows rs (meanings (objects_of rs) (slots_of rs) modules) (conflicts (objects_of rs) (parts_of rs) (slots_of rs) modules) gs rows given rowed))
+
+-- what conflicts are compared with
+pub are_compared : (rs : List Firm) → AreSources rs → IsProgramSet rs → AreCompared (objects_of rs) (slots_of rs) (parts_of rs)
+are_compared rs are set = record {
+  one_each = length-map rs (λ (r : Firm). r.member.slot) ∙ sym (length-map rs (λ (r : Firm). r.object));
+  each_part = length-map rs (prelinked.part_of rs) ∙ sym (length-map rs (λ (r : Firm). r.object));
+  accepted = accepted_all rs (own_all rs are);
+  placed = parts_placed rs are set;
+}
 
 -- ---- files that a folder stores
 

@@ -1,11 +1,22 @@
 -- The walk of a program: its members' numbers are such as they may have, and no two have an address in common.
-use Rattle.std.specs.Prelude.{◌≡◌, ℕ, true, false, List, [], ◌∷◌, Option, Some, None, Result, Ok, Err}
-use Rattle.pl_conflict.specs.Prelinked.{Firm, are_set, list_of, named, version_of}
+use Rattle.std.specs.Prelude.{◌≡◌, ◌<◌, ℕ, true, false, List, [], ◌∷◌, length, Option, Some, None, Result, Ok, Err}
+use Rattle.std.specs.List.{All}
+use Rattle.pl_base.specs.Windows.{Window}
+use Rattle.pl_conflict.specs.Among.{IsAmong}
+use Rattle.pl_conflict.specs.Compared.{AreEnough, MakeRows}
+use Rattle.pl_conflict.specs.Prelinked.{Firm, are_set, list_of, named, objects_of, parts_of, slots_of, stored, version_of, with_modules}
+use Rattle.pl_conflict.specs.declared.among.Still.{Still}
 use Rattle.pl_elf.specs.Kinds.{is_library}
 use Rattle.pl_form.specs.Program.{program_form}
 use Rattle.pl_form.specs.Words.{AreFills}
 use Rattle.pl_form.specs.declared.file.Fill.{Fill}
 use Rattle.pl_lists.specs.declared.conflict_row.ConflictRow.{ConflictRow}
+use Rattle.pl_object.specs.declared.reloc.Reloc.{Reloc}
+use Rattle.pl_tls.specs.declared.fault.TlsFault.{TlsFault}
+use Rattle.pl_tls.specs.declared.module.Module.{Module}
+use Rattle.pl_value.specs.Meanings.{meanings}
+use Rattle.pl_value.specs.declared.meaning.Meaning.{Meaning}
+use Rattle.pl_prelinked.specs.Fills.{fills_of, memory_of}
 
 abbrev pub result_ok : {X E : Type 0} → Result X E → Option X
 result_ok (Ok x) = Some x
@@ -32,3 +43,42 @@ AreFirstFills (r ∷ rs) fills = AreFills fills r.object.relocations
 abbrev pub form_of : List Firm → List Fill → List ConflictRow → Option (List ℕ)
 form_of [] fills rows = None
 form_of (r ∷ rs) fills rows = Some (program_form r.member.original (list_of rs) fills rows (version_of r.member.version))
+
+-- the program's file is the same by some meanings as by all: its conflict rows, and the bytes at its places
+pub record IsSame (rs : List Firm) (all gs : List Meaning) : Type 0 where
+  pub rows : MakeRows (objects_of rs) (parts_of rs) (slots_of rs) all gs
+  pub fills : fills_of rs (memory_of rs all) ≡ fills_of rs (memory_of rs gs)
+
+-- meanings that are enough, with modules of thread-local storage
+pub record Suffices (rs : List Firm) (tls : List Module) (gs : List Meaning) : Type 0 where
+  pub all : List Meaning
+  pub given : meanings (objects_of rs) (slots_of rs) tls ≡ Ok all
+  pub within : All (λ g. g.member < length (objects_of rs)) gs
+  pub same : IsSame rs all gs
+
+-- with some modules
+abbrev pub SufficesWithSome : List Firm → List Meaning → Type 0
+SufficesWithSome rs gs = (tls : List Module) × Suffices rs tls gs
+
+-- there are none where a relocation has no value
+abbrev pub IsEnough : List Firm → List Module → Option (List Meaning) → Type 0
+IsEnough rs tls None = None ≡ result_ok (meanings (objects_of rs) (slots_of rs) tls)
+IsEnough rs tls (Some gs) = Suffices rs tls gs
+
+-- they are enough for the conflict rows
+abbrev pub IsEnoughFor : List Firm → List Meaning → Type 0
+IsEnoughFor rs gs = AreEnough (objects_of rs) (parts_of rs) (slots_of rs) gs
+
+-- the same of meanings without those that are passed by
+abbrev pub IsAmongOf : List Firm → List Module → List Still → List Window → Option (List Meaning) → Type 0
+IsAmongOf rs tls still windows None = None ≡ result_ok (meanings (objects_of rs) (slots_of rs) tls)
+IsAmongOf rs tls still windows (Some gs) = IsAmong (objects_of rs) (slots_of rs) tls still windows gs
+
+-- the relocations of the first
+abbrev pub first_relocs : List Firm → List Reloc
+first_relocs [] = []
+first_relocs (r ∷ rs) = r.object.relocations
+
+-- with whatever modules the file is the same by these meanings as by all, it is the program's
+abbrev pub IsMadeWith : List Firm → List Meaning → Option (List ℕ) → Type 0
+IsMadeWith rs gs file = (tls : List Module) (all : List Meaning) → meanings (objects_of rs) (slots_of rs) tls ≡ Ok all → IsSame rs all gs → file ≡ stored (with_modules {E = TlsFault} rs (Ok tls))

@@ -1,3 +1,4 @@
+use pl_conflict::Still;
 use pl_image::Parts;
 use pl_lists::ListRow;
 
@@ -9,4 +10,7 @@ pub struct Lent<'a> {
 
     /// Where the first is a program, the files with which its conflicts are compared: its original, and of each library the prelinked file by its own walk. None where the caller does not have them.
     pub parts: Option<&'a Parts<'a>>,
+
+    /// Where the first is a program, which relocations of each member are known to make no conflict row, and to copy nothing. None where the caller does not know it.
+    pub still: Option<&'a [Still<'a>]>,
 }

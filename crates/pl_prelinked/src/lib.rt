@@ -11,9 +11,12 @@ mod program;
 mod scopes;
 mod set;
 mod source;
+mod still;
+mod watched;
 mod windows;
 
 pub use lent::Lent;
 pub use lists::checksum_of;
 pub use prelinking::{prelink, prelink_with};
 pub use source::Source;
+pub use still::still_words;

@@ -100,6 +100,7 @@ pub fn prelink(alloc: Global, sources: &[Source<'_>]) -> Result<Option<Vec<u8>>,
     let lent = Lent {
         list: list.as_slice(),
         parts: None,
+        still: None,
     };
     prelink_with(alloc, sources, &lent)
 }

@@ -3,15 +3,16 @@ ghost use Rattle.std.specs.Prelude.{◌≡◌, ◌∷◌, length, map, true, fal
 ghost use Rattle.std.specs.List.{All};
 ghost use Rattle.std.specs.Option.{option_map};
 ghost use Rattle.pl_conflict.specs.Prelinked as spec;
-ghost use Rattle.pl_conflict.specs.Conflicts.{conflicts};
+ghost use Rattle.pl_conflict.specs.Compared.{AreConflicts};
 ghost use Rattle.pl_elf.specs.Kinds.{is_library};
 ghost use Rattle.pl_prelinked.specs.Fills.{fills_of, memory_of};
-ghost use Rattle.pl_prelinked.specs.Programs.{AreFirstFills, BeginsWithProgram, IsFound, IsProgramSet, form_of, result_ok};
+ghost use Rattle.pl_prelinked.specs.Programs.{AreFirstFills, BeginsWithProgram, IsAmongOf, IsEnough, IsEnoughFor, IsFound, IsMadeWith, IsProgramSet, SufficesWithSome, form_of, result_ok};
+ghost use Rattle.pl_prelinked.specs.Programs as spec_of;
 ghost use Rattle.pl_form.specs.Words.{AreFills};
-ghost use Rattle.pl_prelinked.specs.Lent.{AreLent, list_after};
+ghost use Rattle.pl_prelinked.specs.Lent.{AreLent, AreStillIn, list_after};
 ghost use Rattle.pl_image.specs.Image.{AreLoaded};
 ghost use Rattle.pl_prelinked.specs.Sources.{AreSources};
-ghost use Rattle.pl_scope.specs.Scope.{IsAccepted, objects};
+ghost use Rattle.pl_scope.specs.Scope.{objects};
 ghost use Rattle.pl_value.specs.Meanings.{meanings};
 ghost use Rattle.pl_value.specs.Ordinary as ordinary;
 ghost use Rattle.pl_tls.specs.declared.fault.TlsFault.{TlsFault};
@@ -20,13 +21,15 @@ use crate::fills::fills;
 use crate::library::library_file;
 use crate::lists::list_after;
 use crate::scopes::{own_walk, places_of, scope_of};
+use crate::watched::{are_watched, windows_of};
 use crate::{Lent, Source};
 use pl_base::Rows;
-use pl_conflict::conflicts;
+use pl_conflict::{Still, conflicts_by, meanings_among};
 use pl_form::{Fill, FormFault, form_program};
 use pl_image::{Loaded, Parts};
 use pl_io::NoMemory;
 use pl_lists::{ConflictRow, ListRow};
+use pl_object::{Reloc, Window};
 use pl_scope::Scope;
 use pl_tls::{Block, Module, TlsFault, offsets};
 use pl_value::{Meaning, OrdinaryFault, Places, load, meanings};
@@ -145,82 +148,153 @@ fn meanings_of(
     Ok(meanings)
 }
 
-/// The conflict rows of a scope; None where a relocation has no value.
-fn compared(
+/// All meanings of the members' scope; None where a relocation has no value.
+fn all_of(
     alloc: Global,
-    scope: &Scope<'_>,
-    places: &Places,
+    sources: &[Source<'_>],
     modules: &[Module],
-    parts: &Parts<'_>,
-) -> Result<Option<Rows<ConflictRow>>, NoMemory>
-    requires one_each { length places.now ≡ length scope.now }
-    requires parts { length parts.now ≡ length scope.now }
-    requires accepted { All IsAccepted (objects scope.now) }
-    requires placed { ordinary.ArePlaced places.now parts.now (objects scope.now) }
-    ensures { IfOk result (λ rows. rows
-        ≡ result_ok (conflicts (objects scope.now) parts.now places.now modules.now)) }
+) -> Result<Option<Rows<Meaning>>, NoMemory>
+    requires { AreSources sources.now }
+    ensures { IfOk result (IsEnough sources.now modules.now) }
 {
-    match conflicts(alloc, scope, places, modules, parts) {
-        Ok(rows) => Ok(Some(rows)),
+    meanings_of(alloc, sources, modules)
+}
+
+/// Those that are far from windows left out, where flags tell of them.
+fn among_of(
+    alloc: Global,
+    sources: &[Source<'_>],
+    modules: &[Module],
+    still: &[Still<'_>],
+    windows: &[Window],
+) -> Result<Option<Rows<Meaning>>, NoMemory>
+    requires sources { AreSources sources.now }
+    requires still { AreStillIn sources.now still.now }
+    ensures { IfOk result (IsAmongOf sources.now modules.now still.now windows.now) }
+{
+    let scope = scope_of(alloc, sources)?;
+    let places = places_of(alloc, sources)?;
+    match meanings_among(alloc, &scope, &places, modules, still, windows) {
+        Ok(meanings) => Ok(Some(meanings)),
         Err(OrdinaryFault::Link(_)) => Ok(None),
         Err(OrdinaryFault::NoMemory) => Err(NoMemory),
     }
 }
 
-/// Those of the members' scope, by the files with which they are compared.
-fn rows_by(
+/// The relocations of the first member.
+fn first_relocs<'a>(sources: &[Source<'a>]) -> &'a [Reloc]
+    ensures { result.now ≡ spec_of.first_relocs sources.now }
+{
+    let [first, ..] = sources else {
+        return &[];
+    };
+    first.object.relocations.as_slice()
+}
+
+/// Windows over what the file of the first member depends on.
+fn file_windows(alloc: Global, sources: &[Source<'_>]) -> Result<Vec<Window>, AllocError>
+    requires { AreSources sources.now }
+{
+    if sources.is_empty() {
+        return Ok(Vec::new(alloc));
+    }
+    let scope = scope_of(alloc, sources)?;
+    let places = places_of(alloc, sources)?;
+    windows_of(alloc, &scope, &places)
+}
+
+/// Meanings of the members' scope that are enough for the program's file, where flags tell of some that they matter nowhere.
+fn open_of(
     alloc: Global,
     sources: &[Source<'_>],
     modules: &[Module],
+    still: &[Still<'_>],
+) -> Result<Option<Rows<Meaning>>, NoMemory>
+    requires sources { AreSources sources.now }
+    requires still { AreStillIn sources.now still.now }
+    ensures { IfOk result (IsEnough sources.now modules.now) }
+{
+    let windows = file_windows(alloc, sources)?;
+    let Some(found) = among_of(alloc, sources, modules, still, &windows)? else {
+        return Ok(None);
+    };
+    let watched = are_watched(&windows, first_relocs(sources), found.as_slice());
+    if watched {
+        return Ok(Some(found));
+    }
+    all_of(alloc, sources, modules)
+}
+
+/// The same, where it may not be known of any.
+fn enough_of(
+    alloc: Global,
+    sources: &[Source<'_>],
+    lent: &Lent<'_>,
+    modules: &[Module],
+) -> Result<Option<Rows<Meaning>>, NoMemory>
+    requires sources { AreSources sources.now }
+    requires lent { AreLent sources.now lent.now }
+    ensures { IfOk result (IsEnough sources.now modules.now) }
+{
+    match lent.still {
+        None => all_of(alloc, sources, modules),
+        Some(still) => open_of(alloc, sources, modules, still),
+    }
+}
+
+/// The conflict rows of the members' scope by the meanings of its relocations and the files with which they are compared.
+fn rows_by(
+    alloc: Global,
+    sources: &[Source<'_>],
+    all: &[Meaning],
     parts: &Parts<'_>,
-) -> Result<Option<Rows<ConflictRow>>, NoMemory>
+) -> Result<Rows<ConflictRow>, NoMemory>
     requires sources { AreSources sources.now }
     requires set { IsProgramSet sources.now }
+    requires given { IsEnoughFor sources.now all.now }
     requires parts { parts.now ≡ spec.parts_of sources.now }
-    ensures { IfOk result (λ rows. rows ≡ result_ok
-        (conflicts (spec.objects_of sources.now) (spec.parts_of sources.now)
-        (spec.slots_of sources.now) modules.now)) }
+    ensures { IfOk result (AreConflicts (spec.objects_of sources.now) (spec.parts_of sources.now)
+        (spec.slots_of sources.now) all.now) }
 {
     let scope = scope_of(alloc, sources)?;
     let places = places_of(alloc, sources)?;
-    let rows = compared(alloc, &scope, &places, modules, parts)?;
-    Ok(rows)
+    conflicts_by(alloc, &scope, &places, all, parts)
 }
 
 /// The same where these files are to be made.
 fn rows_made(
     alloc: Global,
     sources: &[Source<'_>],
-    modules: &[Module],
-) -> Result<Option<Rows<ConflictRow>>, NoMemory>
+    all: &[Meaning],
+) -> Result<Rows<ConflictRow>, NoMemory>
     requires sources { AreSources sources.now }
     requires set { IsProgramSet sources.now }
-    ensures { IfOk result (λ rows. rows ≡ result_ok
-        (conflicts (spec.objects_of sources.now) (spec.parts_of sources.now)
-        (spec.slots_of sources.now) modules.now)) }
+    requires given { IsEnoughFor sources.now all.now }
+    ensures { IfOk result (AreConflicts (spec.objects_of sources.now) (spec.parts_of sources.now)
+        (spec.slots_of sources.now) all.now) }
 {
     let files = parts_of(alloc, sources)?;
     let parts = lent(alloc, &files)?;
-    rows_by(alloc, sources, modules, &parts)
+    rows_by(alloc, sources, all, &parts)
 }
 
 /// The same where these files may be there.
 fn rows_of(
     alloc: Global,
     sources: &[Source<'_>],
-    modules: &[Module],
+    all: &[Meaning],
     lent: &Lent<'_>,
-) -> Result<Option<Rows<ConflictRow>>, NoMemory>
+) -> Result<Rows<ConflictRow>, NoMemory>
     requires sources { AreSources sources.now }
     requires set { IsProgramSet sources.now }
+    requires given { IsEnoughFor sources.now all.now }
     requires lent { AreLent sources.now lent.now }
-    ensures { IfOk result (λ rows. rows ≡ result_ok
-        (conflicts (spec.objects_of sources.now) (spec.parts_of sources.now)
-        (spec.slots_of sources.now) modules.now)) }
+    ensures { IfOk result (AreConflicts (spec.objects_of sources.now) (spec.parts_of sources.now)
+        (spec.slots_of sources.now) all.now) }
 {
     match lent.parts {
-        None => rows_made(alloc, sources, modules),
-        Some(parts) => rows_by(alloc, sources, modules, parts),
+        None => rows_made(alloc, sources, all),
+        Some(parts) => rows_by(alloc, sources, all, parts),
     }
 }
 
@@ -311,7 +385,7 @@ fn formed(
     form(alloc, program, others, list, fills, rows)
 }
 
-/// The prelinked file with these meanings of all relocations and these conflict rows.
+/// The prelinked file with the bytes that these meanings make at its places, and these conflict rows.
 fn with_rows(
     alloc: Global,
     sources: &[Source<'_>],
@@ -330,26 +404,20 @@ fn with_rows(
     formed(alloc, sources, list, &fills, rows)
 }
 
-/// The prelinked file with these meanings of all relocations; None where the file is longer than a folder stores.
+/// The prelinked file by meanings that are enough for it; None where the file is longer than a folder stores.
 fn with_meanings(
     alloc: Global,
     sources: &[Source<'_>],
     lent: &Lent<'_>,
-    modules: &[Module],
     all: &[Meaning],
 ) -> Result<Option<Vec<u8>>, NoMemory>
     requires sources { AreSources sources.now }
     requires set { IsProgramSet sources.now }
     requires lent { AreLent sources.now lent.now }
-    requires given { Some all.now ≡ result_ok
-        (meanings (spec.objects_of sources.now) (spec.slots_of sources.now) modules.now) }
-    ensures { IfOk result (λ file. option_map (λ v. v.items) file
-        ≡ spec.stored (spec.with_modules {E = TlsFault} sources.now (Ok modules.now))) }
+    requires given { SufficesWithSome sources.now all.now }
+    ensures { IfOk result (λ file. IsMadeWith sources.now all.now (option_map (λ v. v.items) file)) }
 {
-    let compared = rows_of(alloc, sources, modules, lent)?;
-    let Some(rows) = compared else {
-        return Ok(None);
-    };
+    let rows = rows_of(alloc, sources, all, lent)?;
     with_rows(alloc, sources, lent.list, all, rows.as_slice())
 }
 
@@ -366,11 +434,11 @@ fn with_modules(
     ensures { IfOk result (λ file. option_map (λ v. v.items) file
         ≡ spec.stored (spec.with_modules {E = TlsFault} sources.now (Ok modules.now))) }
 {
-    let given = meanings_of(alloc, sources, modules)?;
+    let given = enough_of(alloc, sources, lent, modules)?;
     let Some(meanings) = given else {
         return Ok(None);
     };
-    with_meanings(alloc, sources, lent, modules, meanings.as_slice())
+    with_meanings(alloc, sources, lent, meanings.as_slice())
 }
 
 /// The prelinked file of a program, by the members of its walk, it first; None where their thread-local storage or their links have a refusal, or the file is longer than a folder stores.

@@ -4,6 +4,8 @@ pub mod FormLaws
 pub mod WalkLaws
 pub mod MadeLaws
 pub mod OnceLaws
+pub mod StillLaws
+pub mod NewLaws
 pub mod PlanLaws
 pub mod SoundLaws
 pub mod VerifyLaws

@@ -207,6 +207,9 @@ stale_parts run n stale =
     let p = and_both (is_candidate (files_of run) run.region n) (not (is_current (files_of run) run.region run.planned.now.slots n)) stale in
     record { candidate = p.0; current = not-true (is_current (files_of run) run.region run.planned.now.slots n) p.1 }
 
+pub stale_candidate : (run : Run) (t : Taken) → IsRun run → IsFound run t → has run.planned.now.stale t.name ≡ true → IsCandidate run t.name
+stale_candidate run t is there stale = (stale_parts run t.name (sym (stale_is run t is there) ∙ stale)).candidate
+
 pub new_is : (run : Run) (t : Taken) (file : List ℕ) → IsRun run → IsFound run t → IsStale run t.name → Some file ≡ prelinked run t.name → made_new t file ≡ made run t.name
 new_is run t file is there stale new =
     let n = t.name in

@@ -1,10 +1,11 @@
 -- What is made once a run serves every walk: the checksums of originals, and the files of libraries.
-use Rattle.std.proofs.Common.{◌≡◌, ℕ, true, false, List, [], ◌∷◌, length, get_or, map, Option, Some, None, Result, Ok, refl, sym, ap, subst, ◌∙◌, inl, inr}
-use Rattle.std.specs.Prelude.{IfSome, find, nat_le, slice_get}
-use Rattle.std.specs.List.{All, AllZip, cons_option, filter_map}
+use Rattle.std.proofs.Common.{◌≡◌, ℕ, suc, true, false, List, [], ◌∷◌, length, get_or, map, Option, Some, None, Result, Ok, refl, sym, ap, subst, ◌∙◌, inl, inr}
+use Rattle.std.specs.Prelude.{IfSome, drop, find, nat_le, position, slice_get, take}
+use Rattle.std.specs.List.{All, AllZip, cons_option, filter_map, remove}
 use Rattle.std.specs.Str.{bytes_eq}
 use Rattle.std.proofs.lemmas.Bool.{cases_Bool, false≢true}
-use Rattle.std.proofs.lemmas.List.Elements.{All-nil, All-cons, All-head, All-tail}
+use Rattle.std.proofs.lemmas.List.Elements.{All-append, All-nil, All-cons, All-drop, All-head, All-tail, All-take}
+use Rattle.std.proofs.lemmas.List.Quantifiers.{position-Some}
 use Rattle.std.proofs.lemmas.Option.{none-some, same_Some, slice_get-get_or}
 use Rattle.pl_base.proofs.AnswerLaws.{ok_same}
 use Rattle.pl_cone.specs.Candidates.{walk_in}
@@ -34,7 +35,7 @@ use Rattle.pl_scope.proofs.WalkedLaws.{member_file}
 use Rattle.pl_sound.specs.Rule.{objects, original_at}
 use Rattle.pl_rewrite.specs.Members.{HasOriginal, IsChecksum, IsPrelinked, IsRun, IsCandidate, IsFound, IsMember, IsPart, files_of, planned_firm, planned_firms, prelinked}
 use Rattle.pl_rewrite.specs.declared.running.Checksum.{Checksum}
-use Rattle.pl_rewrite.specs.declared.running.LibraryFile.{LibraryFile}
+use Rattle.pl_rewrite.specs.declared.running.MadeFile.{MadeFile}
 use Rattle.pl_rewrite.specs.declared.running.Run.{Run}
 use Rattle.pl_rewrite.proofs.FileLaws.{file_at}
 use Rattle.pl_rewrite.proofs.WalkLaws.{members_are, name_at, sound_is, sources_are, walk_of, walk_prelinked}
@@ -62,15 +63,28 @@ have_originals run (w ∷ ws) = All-cons (HasOriginal run) (planned_firm run w) 
 
 -- ---- files
 
-pub library_found : (run : Run) (ls : List LibraryFile) (n : List ℕ) (l : LibraryFile) → All (IsPrelinked run) ls → find (λ x. bytes_eq x.name.now n) ls ≡ Some l → prelinked run n ≡ Some l.file.items
+pub library_found : (run : Run) (ls : List MadeFile) (n : List ℕ) (l : MadeFile) → All (IsPrelinked run) ls → find (λ x. bytes_eq x.name.now n) ls ≡ Some l → prelinked run n ≡ Some l.file.items
 library_found run [] n l all is = absurd (none-some l is)
 library_found run (x ∷ ls) n l all is = elim (cases_Bool (bytes_eq x.name.now n)) [
   | inl hit ↦
       let same : x ≡ l = same_Some x l (rw hit at is) in
       let one : IsPrelinked run x = All-head (IsPrelinked run) x ls all in
-      subst (λ (y : LibraryFile). prelinked run n ≡ Some y.file.items) same (ap (prelinked run) (sym (same_name x.name.now n hit)) ∙ one)
+      subst (λ (y : MadeFile). prelinked run n ≡ Some y.file.items) same (ap (prelinked run) (sym (same_name x.name.now n hit)) ∙ one)
   | inr miss ↦ library_found run ls n l (All-tail (IsPrelinked run) x ls all) (rw miss at is)
 ]
+
+-- ---- files that are taken out
+
+-- the one at an index at which the name stands is the name's
+pub file_there : (run : Run) (ms : List MadeFile) (n : List ℕ) (i : ℕ) (m : MadeFile) → All (IsPrelinked run) ms → position (λ x. bytes_eq x.name.now n) ms ≡ Some i → prelinked run n ≡ Some (get_or ms i m).file.items
+file_there run ms n i m all at =
+    let h = position-Some (λ (x : MadeFile). bytes_eq x.name.now n) ms i m at in
+    ap (prelinked run) (sym (same_name (get_or ms i m).name.now n h.1)) ∙ all i m h.0
+
+-- the others stay
+pub files_without : (run : Run) (ms : List MadeFile) (i : ℕ) → All (IsPrelinked run) ms → All (IsPrelinked run) (remove ms i)
+files_without run ms i all =
+    All-append (IsPrelinked run) (take i ms) (drop (suc i) ms) (All-take (IsPrelinked run) i ms all) (All-drop (IsPrelinked run) (suc i) ms all)
 
 -- ---- the own walk of a member
 
@@ -111,11 +125,11 @@ own_by rs ws inner k same over =
     ap (λ (vs : Walked). filter_map (named rs) (names_in (walk_over (told vs) k))) same
     ∙ ap (λ (r : Result Walked WalkFault). filter_map (named rs) (names_in r)) over
 
-walked_planned : (run : Run) (ws : Walked) → walked_of (planned_firms run ws) ≡ ws
+pub walked_planned : (run : Run) (ws : Walked) → walked_of (planned_firms run ws) ≡ ws
 walked_planned run [] = refl
 walked_planned run (w ∷ ws) = ap (λ (vs : Walked). w ∷ vs) (walked_planned run ws)
 
-linked_kind : (kind : Kind) → is_static kind ≡ false → IsLinked kind
+pub linked_kind : (kind : Kind) → is_static kind ≡ false → IsLinked kind
 linked_kind Program e = inr refl
 linked_kind Library e = inl refl
 linked_kind Static e = absurd (false≢true (sym e))

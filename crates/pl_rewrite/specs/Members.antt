@@ -1,10 +1,15 @@
 -- What a run goes by, and the members of a walk as it prelinks them.
-use Rattle.std.specs.Prelude.{◌≡◌, ℕ, Bool, true, false, ◌&&◌, List, find, map, Option, Some, None, Result, Ok, Err, is_some, if◌then◌else◌}
+use Rattle.std.specs.Prelude.{◌≡◌, ◌⊎◌, ℕ, Bool, true, false, ◌&&◌, List, [], find, map, Option, Some, None, Result, Ok, Err, is_some, if◌then◌else◌}
 use Rattle.std.specs.List.{All, list_any}
 use Rattle.std.specs.Str.{bytes_eq}
 use Rattle.pl_conflict.specs.Format.{format}
 use Rattle.pl_conflict.specs.Prelinked.{Firm}
+use Rattle.pl_cone.specs.Candidates.{kind_of}
+use Rattle.pl_cone.specs.Links.{IsLink}
+use Rattle.pl_cone.specs.declared.known.Known.{Known}
+use Rattle.pl_cone.specs.declared.links.Link.{Link}
 use Rattle.pl_cone.specs.declared.skip.Skip.{Skip}
+use Rattle.pl_conflict.specs.declared.among.Still.{Still}
 use Rattle.pl_form.specs.Files.{marked_in, original_in}
 use Rattle.pl_form.specs.Words.{checksum_of}
 use Rattle.pl_form.specs.declared.file.Entry.{Entry}
@@ -21,6 +26,7 @@ use Rattle.pl_known.specs.declared.taken.Taken.{Taken}
 use Rattle.pl_object.specs.declared.object.Object.{Object}
 use Rattle.pl_plan.specs.declared.planned.Planned.{Planned}
 use Rattle.pl_plan.specs.declared.standing.Standing.{Standing}
+use Rattle.pl_prelinked.specs.Libraries.{AreHeldIn}
 use Rattle.pl_scope.specs.Walk.{Walked}
 use Rattle.pl_scope.specs.declared.member.Member.{Member}
 use Rattle.pl_sound.specs.Plan.{Plan, planned_member}
@@ -28,9 +34,11 @@ use Rattle.pl_sound.specs.Rule.{Files, objects, original_at}
 use Rattle.pl_rewrite.specs.Changes as changes
 use Rattle.pl_rewrite.specs.Reports as reports
 use Rattle.pl_rewrite.specs.declared.making.Made.{Made}
-use Rattle.pl_rewrite.specs.declared.report.RowState.TheVariants.{Skipped}
+use Rattle.pl_rewrite.specs.declared.report.RowState.{RowState}
+use Rattle.pl_rewrite.specs.declared.report.RowState.TheVariants.{Library, Skipped}
 use Rattle.pl_rewrite.specs.declared.running.Checksum.{Checksum}
-use Rattle.pl_rewrite.specs.declared.running.LibraryFile.{LibraryFile}
+use Rattle.pl_rewrite.specs.declared.running.LibraryStill.{LibraryStill}
+use Rattle.pl_rewrite.specs.declared.running.MadeFile.{MadeFile}
 use Rattle.pl_rewrite.specs.declared.running.Run.{Run}
 
 -- ---- a run
@@ -57,8 +65,33 @@ abbrev pub IsChecksum : Run → Checksum → Type 0
 IsChecksum run c = c.number ≡ checksum_of (original_at (format skip_causes) (files_of run c.name.now))
 
 -- a name's prelinked file
-abbrev pub IsPrelinked : Run → LibraryFile → Type 0
-IsPrelinked run l = prelinked run l.name.now ≡ Some l.file.items
+abbrev pub IsPrelinked : Run → MadeFile → Type 0
+IsPrelinked run m = prelinked run m.name.now ≡ Some m.file.items
+
+-- a member with what it has or gets
+abbrev pub planned_firm : Run → (List ℕ × Object) → Firm
+planned_firm run m = record { member = planned_member (format skip_causes) (files_of run) (numbers_of run) m.0; object = m.1 }
+
+-- those of a walk
+abbrev pub planned_firms : Run → Walked → List Firm
+planned_firms run walked = map (planned_firm run) walked
+
+-- flags of relocations that give the same in every walk of what is known, of a name
+pub record IsLinkOf (known : List Known) (n : List ℕ) (l : Link) : Type 0 where
+  pub is : IsLink known l
+  pub named : l.name ≡ n
+
+-- each flag of a library is one of those, and its prelinked file holds at the relocation's place what it gives
+pub record IsStillBy (known : List Known) (files : List ℕ → Option (List ℕ)) (firms : Walked → List Firm) (s : LibraryStill) : Type 0 where
+  pub link : Link
+  pub known_by : IsLinkOf known s.name.now link
+  pub library : is_library (kind_of known_by.is.own) ≡ true
+  pub file : List ℕ
+  pub made : files s.name.now ≡ Some file
+  pub held : AreHeldIn (firms known_by.is.own) file link.closed s.flags
+
+abbrev pub IsStill : Run → LibraryStill → Type 0
+IsStill run s = IsStillBy run.known.now (prelinked run) (planned_firms run) s
 
 -- ---- the whole
 
@@ -70,6 +103,7 @@ pub record IsRun (run : Run) : Type 0 where
   pub stale : run.planned.now.stale ≡ stale (files_of run) run.region run.planned.now.slots (names_of run.files.now)
   pub checksums : All (IsChecksum run) run.checksums.now
   pub libraries : All (IsPrelinked run) run.libraries.now
+  pub still : All (IsStill run) run.still.now
 
 abbrev pub IsCandidate : Run → List ℕ → Type 0
 IsCandidate run n = is_candidate (files_of run) run.region n ≡ true
@@ -131,19 +165,12 @@ pub record IsMember (run : Run) (m : List ℕ × Object) : Type 0 where
 abbrev pub numbers_for : Run → List ℕ → Object → ℕ × ℕ
 numbers_for run n o = if is_library o.kind then ((numbers_of run).slot n, (numbers_of run).stamp n) else (0, 0)
 
--- with what it has or gets
-abbrev pub planned_firm : Run → (List ℕ × Object) → Firm
-planned_firm run m = record { member = planned_member (format skip_causes) (files_of run) (numbers_of run) m.0; object = m.1 }
-
 -- the same of a member of a scope
 abbrev pub source : Run → Member → Firm
 source run m = planned_firm run (m.name, m.object.now)
 
 abbrev pub AreMembers : Run → List Member → Type 0
 AreMembers run ms = All (λ m. IsMember run (m.name, m.object.now)) ms
-
-abbrev pub planned_firms : Run → Walked → List Firm
-planned_firms run walked = map (planned_firm run) walked
 
 -- its original is that of its name's file
 abbrev pub HasOriginal : Run → Firm → Type 0
@@ -155,6 +182,19 @@ part_of run r = if is_library r.object.kind then prelinked run r.member.name els
 
 abbrev pub IsPart : Run → Firm → List ℕ → Type 0
 IsPart run r part = part_of run r ≡ Some part
+
+-- flags of a member: none, or those that were made for its name
+pub record AreMadeFor (run : Run) (n : List ℕ) (flags : List Bool) : Type 0 where
+  pub made : LibraryStill
+  pub is : IsStill run made
+  pub named : made.name.now ≡ n
+  pub flags_are : flags ≡ made.flags
+
+abbrev pub AreFlagsFor : Run → List ℕ → List Bool → Type 0
+AreFlagsFor run n flags = (flags ≡ []) ⊎ AreMadeFor run n flags
+
+abbrev pub IsStillFor : Run → Firm → Still → Type 0
+IsStillFor run r s = AreFlagsFor run r.member.name s.flags.now
 
 -- ---- what a run makes of a name
 
@@ -172,6 +212,10 @@ made_original t cause = record { change = changes.put (Some t.bytes) t.name (Som
 -- of one that is prelinked anew
 abbrev pub made_new : Taken → List ℕ → Made
 made_new t file = record { change = changes.put (Some t.bytes) t.name (Some file); state = reports.state_in t.name false (marked_in file); given = true }
+
+-- the row of a library that is prelinked anew
+abbrev pub new_library : Run → List ℕ → RowState
+new_library run n = Library false ((numbers_of run).slot n) ((numbers_of run).stamp n)
 
 -- of one that stays
 abbrev pub made_current : Taken → Made

@@ -3,6 +3,7 @@
 
 mod laws;
 mod lists;
+mod made;
 mod making;
 mod once;
 mod parts;
@@ -12,6 +13,7 @@ mod rewriting;
 mod running;
 mod sources;
 mod states;
+mod still;
 mod verifying;
 
 pub use laws::{

@@ -1,6 +1,6 @@
 // What a run makes of one file.
-ghost use Rattle.std.specs.Prelude.{◌≡◌, ◌<◌, ◌^◌, ◌++◌, [], length, false, IfOk, OnOk, Some};
-ghost use Rattle.std.specs.List.{cons_option};
+ghost use Rattle.std.specs.Prelude.{◌≡◌, ◌++◌, [], false, IfOk, OnOk, Some};
+ghost use Rattle.std.specs.List.{All, cons_option};
 ghost use Rattle.pl_cone.specs.Candidates as cone;
 ghost use Rattle.pl_cone.specs.declared.skip.Skip.TheVariants as skips;
 ghost use Rattle.pl_form.specs.Files.{original_in};
@@ -10,8 +10,8 @@ ghost use Rattle.pl_rewrite.specs.Changes as changes;
 ghost use Rattle.pl_rewrite.specs.Members as spec;
 ghost use Rattle.pl_rewrite.specs.Rewriting as whole;
 
-use crate::prelinking::prelinked;
-use crate::running::{Run, is_among, is_skipped};
+use crate::made::prelinked;
+use crate::running::{MadeFile, Run, is_among, is_skipped};
 use crate::sources::original_of;
 use crate::states::{state_of_current, state_of_new, too_large};
 use crate::{ReportRow, RowState};
@@ -85,11 +85,14 @@ fn made_original(alloc: Global, taken: &Taken, cause: Skip) -> Result<Made, Allo
 }
 
 /// A file that is prelinked anew.
-fn made_new(alloc: Global, taken: &Taken, file: Vec<u8>) -> Result<Made, NoMemory>
-    requires { length file.items < 2 ^ 32 }
+fn made_new(alloc: Global, run: &Run<'_>, taken: &Taken, file: Vec<u8>) -> Result<Made, NoMemory>
+    requires run { spec.IsRun run.now }
+    requires found { spec.IsFound run.now taken.now }
+    requires candidate { spec.IsCandidate run.now taken.now.name }
+    requires file { Some file.items ≡ spec.prelinked run.now taken.now.name }
     ensures { IfOk result (λ made. made ≡ spec.made_new taken.now file.items) }
 {
-    let state = state_of_new(alloc, taken.name.as_str(), &file)?;
+    let state = state_of_new(alloc, run, taken, &file)?;
     let change = put(alloc, taken, file)?;
     Ok(Made {
         change,
@@ -121,14 +124,21 @@ fn made_large(alloc: Global, taken: &Taken) -> Result<Made, AllocError>
 }
 
 /// A file whose name is stale.
-fn made_stale(alloc: Global, run: &Run<'_>, taken: &Taken) -> Result<Made, NoMemory>
+fn made_stale(
+    alloc: Global,
+    run: &Run<'_>,
+    files: &mut Vec<MadeFile<'_>>,
+    taken: &Taken,
+) -> Result<Made, NoMemory>
     requires run { spec.IsRun run.now }
+    requires files { All (spec.IsPrelinked run.now) files.old.items }
     requires found { spec.IsFound run.now taken.now }
     requires stale { spec.IsStale run.now taken.now.name }
-    ensures { IfOk result (λ made. made ≡ spec.made run.now taken.now.name) }
+    ensures made { IfOk result (λ made. made ≡ spec.made run.now taken.now.name) }
+    ensures rest { All (spec.IsPrelinked run.now) files.new.items }
 {
-    match prelinked(alloc, run, taken.name.as_str())? {
-        Some(file) => made_new(alloc, taken, file),
+    match prelinked(alloc, run, files, taken.name.as_str())? {
+        Some(file) => made_new(alloc, run, taken, file),
         None => Ok(made_large(alloc, taken)?),
     }
 }
@@ -160,14 +170,21 @@ fn made_skipped(alloc: Global, run: &Run<'_>, taken: &Taken) -> Result<Made, NoM
 }
 
 /// What a run makes of a file.
-fn made_of(alloc: Global, run: &Run<'_>, taken: &Taken) -> Result<Made, NoMemory>
+fn made_of(
+    alloc: Global,
+    run: &Run<'_>,
+    files: &mut Vec<MadeFile<'_>>,
+    taken: &Taken,
+) -> Result<Made, NoMemory>
     requires run { spec.IsRun run.now }
+    requires files { All (spec.IsPrelinked run.now) files.old.items }
     requires found { spec.IsFound run.now taken.now }
-    ensures { IfOk result (λ made. made ≡ spec.made run.now taken.now.name) }
+    ensures made { IfOk result (λ made. made ≡ spec.made run.now taken.now.name) }
+    ensures rest { All (spec.IsPrelinked run.now) files.new.items }
 {
     let name = taken.name.as_str();
     if is_among(run.planned.stale.as_slice(), name) {
-        return made_stale(alloc, run, taken);
+        return made_stale(alloc, run, files, taken);
     }
     if is_skipped(run.planned.standings.as_slice(), name) {
         return made_skipped(alloc, run, taken);
@@ -207,19 +224,21 @@ fn add_made(alloc: Global, all: AllMade, taken: &Taken, made: Made) -> Result<Al
     })
 }
 
-/// What a run makes of all its files, in their order.
-pub fn all_made(alloc: Global, run: &Run<'_>) -> Result<AllMade, NoMemory>
-    requires { spec.IsRun run.now }
+/// What a run makes of all its files, in their order. Prelinked files that were made already are taken over, none is copied.
+pub fn all_made(alloc: Global, run: &Run<'_>, files: Vec<MadeFile<'_>>) -> Result<AllMade, NoMemory>
+    requires run { spec.IsRun run.now }
+    requires files { All (spec.IsPrelinked run.now) files.items }
     ensures { IfOk result (λ all. all ≡ whole.all_made (spec.files_of run.now)
         (names_of run.now.files.now) run.now.region (spec.plan_of run.now)) }
 {
+    let mut left = files;
     let mut all = AllMade {
         rows: Rows::new(alloc),
         states: Rows::new(alloc),
         given: false,
     };
     for taken in run.files {
-        let made = made_of(alloc, run, taken)?;
+        let made = made_of(alloc, run, &mut left, taken)?;
         all = add_made(alloc, all, taken, made)?;
     }
     Ok(all)

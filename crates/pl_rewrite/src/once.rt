@@ -4,9 +4,8 @@ ghost use Rattle.std.specs.List.{All};
 ghost use Rattle.pl_rewrite.specs.Members as spec;
 
 use crate::prelinking::made_prelinked;
-use crate::running::{Checksum, LibraryFile, Run, is_skipped};
-use crate::sources::original_of;
-use pl_form::{Entry, File};
+use crate::running::{Checksum, MadeFile, Run, is_among, is_skipped};
+use crate::sources::{is_library, original_of};
 use pl_io::NoMemory;
 use pl_known::Taken;
 use pl_prelinked::checksum_of;
@@ -36,24 +35,21 @@ pub fn checksums_of<'a>(alloc: Global, run: &Run<'a>) -> Result<Vec<Checksum<'a>
     Ok(checksums)
 }
 
-/// Whether a file is a library, prelinked or not.
-fn is_library(entry: &Entry) -> bool
-    ensures { result ≡ spec.is_library_entry entry.now }
+/// The same bytes with no room behind them.
+fn trimmed(bytes: Vec<u8>) -> Vec<u8>
+    ensures { result.items ≡ bytes.items }
 {
-    match entry {
-        Entry::There(File::Plain(object)) => object.kind.is_library(),
-        Entry::There(File::Marked(marked)) => marked.object.kind.is_library(),
-        Entry::BadMark => false,
-        Entry::Refused { .. } => false,
-    }
+    let mut trimmed = bytes;
+    trimmed.shrink_to_fit();
+    trimmed
 }
 
 /// The prelinked file of a name that may be prelinked.
-fn library_of<'a>(
+fn file_of<'a>(
     alloc: Global,
-    run: &Run<'a>,
+    run: &Run<'_>,
     taken: &'a Taken,
-) -> Result<Option<LibraryFile<'a>>, NoMemory>
+) -> Result<Option<MadeFile<'a>>, NoMemory>
     requires run { spec.IsRun run.now }
     requires candidate { spec.IsCandidate run.now taken.now.name }
     ensures { IfOk result (λ made. IfSome made (spec.IsPrelinked run.now)) }
@@ -61,7 +57,10 @@ fn library_of<'a>(
     let name = taken.name.as_str();
     match made_prelinked(alloc, run, name)? {
         None => Ok(None),
-        Some(file) => Ok(Some(LibraryFile { name, file })),
+        Some(file) => Ok(Some(MadeFile {
+            name,
+            file: trimmed(file),
+        })),
     }
 }
 
@@ -70,7 +69,7 @@ fn library_in<'a>(
     alloc: Global,
     run: &Run<'a>,
     taken: &'a Taken,
-) -> Result<Option<LibraryFile<'a>>, NoMemory>
+) -> Result<Option<MadeFile<'a>>, NoMemory>
     requires run { spec.IsRun run.now }
     requires found { spec.IsFound run.now taken.now }
     ensures { IfOk result (λ made. IfSome made (spec.IsPrelinked run.now)) }
@@ -80,13 +79,13 @@ fn library_in<'a>(
         return Ok(None);
     }
     if is_library(&taken.entry) {
-        return library_of(alloc, run, taken);
+        return file_of(alloc, run, taken);
     }
     Ok(None)
 }
 
 /// The prelinked files of all libraries that may be prelinked.
-pub fn libraries_of<'a>(alloc: Global, run: &Run<'a>) -> Result<Vec<LibraryFile<'a>>, NoMemory>
+pub fn libraries_of<'a>(alloc: Global, run: &Run<'a>) -> Result<Vec<MadeFile<'a>>, NoMemory>
     requires { spec.IsRun run.now }
     ensures { IfOk result (λ v. All (spec.IsPrelinked run.now) v.items) }
 {
@@ -97,4 +96,42 @@ pub fn libraries_of<'a>(alloc: Global, run: &Run<'a>) -> Result<Vec<LibraryFile<
         }
     }
     Ok(libraries)
+}
+
+/// The prelinked file of a program whose name is stale; None of any other file.
+fn program_in<'a>(
+    alloc: Global,
+    run: &Run<'_>,
+    taken: &'a Taken,
+) -> Result<Option<MadeFile<'a>>, NoMemory>
+    requires run { spec.IsRun run.now }
+    requires found { spec.IsFound run.now taken.now }
+    ensures { IfOk result (λ made. IfSome made (spec.IsPrelinked run.now)) }
+{
+    if is_library(&taken.entry) {
+        return Ok(None);
+    }
+    if is_among(run.planned.stale.as_slice(), taken.name.as_str()) {
+        return file_of(alloc, run, taken);
+    }
+    Ok(None)
+}
+
+/// The prelinked files of all programs whose names are stale; the files are the run's.
+pub fn programs_of<'a>(
+    alloc: Global,
+    run: &Run<'_>,
+    files: &'a [Taken],
+) -> Result<Vec<MadeFile<'a>>, NoMemory>
+    requires run { spec.IsRun run.now }
+    requires files { files.now ≡ run.now.files.now }
+    ensures { IfOk result (λ v. All (spec.IsPrelinked run.now) v.items) }
+{
+    let mut programs = Vec::new(alloc);
+    for taken in files {
+        if let Some(program) = program_in(alloc, run, taken)? {
+            programs.push(program)?;
+        }
+    }
+    Ok(programs)
 }

@@ -6,19 +6,19 @@ ghost use Rattle.std.specs.Option.{option_map};
 ghost use Rattle.std.specs.Str.{bytes_eq};
 ghost use Rattle.pl_rewrite.specs.Members as spec;
 
-use crate::running::{LibraryFile, Run};
+use crate::running::{MadeFile, Run};
 use pl_image::Parts;
 use pl_io::NoMemory;
 use pl_prelinked::Source;
 use std::alloc::Global;
 
-fn is_of(library: &LibraryFile<'_>, name: &str) -> bool
+fn is_of(library: &MadeFile<'_>, name: &str) -> bool
     ensures { result ≡ bytes_eq library.now.name.now name.now }
 {
     library.name == name
 }
 
-fn found<'f, 'a>(libraries: &'f [LibraryFile<'a>], name: &str) -> Option<&'f LibraryFile<'a>>
+fn found<'f, 'a>(libraries: &'f [MadeFile<'a>], name: &str) -> Option<&'f MadeFile<'a>>
     ensures { option_map (λ l. l.now) result
         ≡ lists.find (λ l. bytes_eq l.name.now name.now) libraries.now }
 {

@@ -4,15 +4,17 @@ ghost use Rattle.std.specs.Option.{option_map};
 ghost use Rattle.pl_cone.specs.Candidates as cone;
 ghost use Rattle.pl_cone.specs.Known.{AreAccepted};
 ghost use Rattle.pl_conflict.specs.Prelinked as form;
-ghost use Rattle.pl_prelinked.specs.Lent.{list_after};
+ghost use Rattle.pl_prelinked.specs.Lent.{AreStillIn, list_after};
 ghost use Rattle.pl_prelinked.specs.Sources.{AreSources, members};
 ghost use Rattle.pl_rewrite.specs.Members as spec;
 
 use crate::lists::list_after;
-use crate::parts::{library_file, parts_of};
+use crate::parts::parts_of;
 use crate::running::Run;
 use crate::sources::sources_of;
+use crate::still::flags_of;
 use pl_cone::{Known, Skip, walk_in};
+use pl_conflict::Still;
 use pl_image::Parts;
 use pl_io::NoMemory;
 use pl_lists::ListRow;
@@ -26,15 +28,37 @@ fn with_parts<'p>(
     sources: &[Source<'_>],
     list: &'p [ListRow],
     parts: &'p Parts<'p>,
+    still: &'p [Still<'p>],
 ) -> Result<Option<Vec<u8>>, NoMemory>
     requires sources { AreSources sources.now }
     requires list { list.now ≡ list_after sources.now }
     requires parts { parts.now ≡ form.parts_of sources.now }
+    requires still { AreStillIn sources.now still.now }
     ensures { IfOk result (λ file. option_map (λ v. v.items) file
         ≡ form.prelinked (members sources.now)) }
 {
     let parts = Some(parts);
-    prelink_with(alloc, sources, &Lent { list, parts })
+    let still = Some(still);
+    prelink_with(alloc, sources, &Lent { list, parts, still })
+}
+
+/// The same without any.
+fn without_parts(
+    alloc: Global,
+    sources: &[Source<'_>],
+    list: &[ListRow],
+) -> Result<Option<Vec<u8>>, NoMemory>
+    requires sources { AreSources sources.now }
+    requires list { list.now ≡ list_after sources.now }
+    ensures { IfOk result (λ file. option_map (λ v. v.items) file
+        ≡ form.prelinked (members sources.now)) }
+{
+    let lent = Lent {
+        list,
+        parts: None,
+        still: None,
+    };
+    prelink_with(alloc, sources, &lent)
 }
 
 /// The same, where they may not be there.
@@ -43,16 +67,18 @@ fn prelinked_with(
     sources: &[Source<'_>],
     list: &[ListRow],
     parts: Option<Parts<'_>>,
+    still: &[Still<'_>],
 ) -> Result<Option<Vec<u8>>, NoMemory>
     requires sources { AreSources sources.now }
     requires list { list.now ≡ list_after sources.now }
     requires parts { IfSome parts (λ p. p ≡ form.parts_of sources.now) }
+    requires still { AreStillIn sources.now still.now }
     ensures { IfOk result (λ file. option_map (λ v. v.items) file
         ≡ form.prelinked (members sources.now)) }
 {
     match parts {
-        None => prelink_with(alloc, sources, &Lent { list, parts: None }),
-        Some(parts) => with_parts(alloc, sources, list, &parts),
+        None => without_parts(alloc, sources, list),
+        Some(parts) => with_parts(alloc, sources, list, &parts, still),
     }
 }
 
@@ -73,7 +99,8 @@ fn prelinked_by<'a>(
     let members = sources.as_slice();
     let list = list_after(alloc, run, members)?;
     let parts = parts_of(alloc, run, members)?;
-    prelinked_with(alloc, members, list.as_slice(), parts)
+    let still = flags_of(alloc, run, members)?;
+    prelinked_with(alloc, members, list.as_slice(), parts, still.as_slice())
 }
 
 /// The walk of a name; None where it is refused.
@@ -102,18 +129,5 @@ pub fn made_prelinked(alloc: Global, run: &Run<'_>, name: &str) -> Result<Option
     match walk_of(alloc, run.known, name)? {
         None => Ok(None),
         Some(scope) => prelinked_by(alloc, run, name, &scope),
-    }
-}
-
-/// The same, a copy where it was made already.
-pub fn prelinked(alloc: Global, run: &Run<'_>, name: &str) -> Result<Option<Vec<u8>>, NoMemory>
-    requires run { spec.IsRun run.now }
-    requires candidate { spec.IsCandidate run.now name.now }
-    ensures { IfOk result (λ file. option_map (λ v. v.items) file
-        ≡ spec.prelinked run.now name.now) }
-{
-    match library_file(run, name) {
-        None => made_prelinked(alloc, run, name),
-        Some(file) => Ok(Some(Vec::from_slice(alloc, file)?)),
     }
 }

@@ -1,18 +1,21 @@
 // A whole run that prelinks everything.
 ghost use Rattle.std.specs.Prelude.{◌≡◌, Ok, IfOk, if◌then◌else◌};
+ghost use Rattle.std.specs.List.{All};
 ghost use Rattle.pl_base.specs.Answers.{Answers};
 ghost use Rattle.pl_known.specs.Plans as plans;
 ghost use Rattle.pl_known.specs.Taken.{AreTaken, files_in, names_of};
 ghost use Rattle.pl_plan.specs.Faults.{is_memory};
-ghost use Rattle.pl_rewrite.specs.Members.{IsRun, files_of, plan_of};
+ghost use Rattle.pl_rewrite.specs.Members.{IsPrelinked, IsRun, files_of, plan_of};
 ghost use Rattle.pl_rewrite.specs.Rewriting as spec;
 
 use crate::making::{AllMade, all_made};
-use crate::once::{checksums_of, libraries_of};
-use crate::running::Run;
+use crate::once::{checksums_of, libraries_of, programs_of};
+use crate::running::{MadeFile, Run};
+use crate::still::stills_of;
 use crate::{Report, ReportRow};
 use pl_base::Rows;
 use pl_cache::Cache;
+use pl_cone::links_of;
 use pl_io::NoMemory;
 use pl_journal::Change;
 use pl_known::{Taken, known_files, plan_files};
@@ -32,22 +35,72 @@ pub struct Rewritten {
     pub report: Report,
 }
 
-/// What a run makes of its files, where each library is prelinked once.
-fn made_with_libraries(alloc: Global, run: &Run<'_>) -> Result<AllMade, NoMemory>
-    requires { IsRun run.now }
-    ensures { IfOk result (λ made. made ≡ spec.all_made (files_of run.now)
-        (names_of run.now.files.now) run.now.region (plan_of run.now)) }
+/// The prelinked files of programs, where relocations of libraries that matter nowhere in the walk of a program are looked up once; the files are the run's.
+fn programs_with_still<'a>(
+    alloc: Global,
+    run: &Run<'_>,
+    files: &'a [Taken],
+) -> Result<Vec<MadeFile<'a>>, NoMemory>
+    requires run { IsRun run.now }
+    requires files { files.now ≡ run.now.files.now }
+    ensures { IfOk result (λ v. All (IsPrelinked run.now) v.items) }
 {
-    let libraries = libraries_of(alloc, run)?;
+    let links = links_of(alloc, run.known)?;
+    let still = stills_of(alloc, run, links.as_slice())?;
     let run = Run {
         files: run.files,
         known: run.known,
         region: run.region,
         planned: run.planned,
         checksums: run.checksums,
-        libraries: libraries.as_slice(),
+        libraries: run.libraries,
+        still: still.as_slice(),
     };
-    all_made(alloc, &run)
+    programs_of(alloc, &run, files)
+}
+
+/// The same, where the prelinked files of libraries are lent.
+fn programs_with<'a>(
+    alloc: Global,
+    run: &Run<'a>,
+    libraries: &[MadeFile<'_>],
+) -> Result<Vec<MadeFile<'a>>, NoMemory>
+    requires run { IsRun run.now }
+    requires libraries { All (IsPrelinked run.now) libraries.now }
+    ensures { IfOk result (λ v. All (IsPrelinked run.now) v.items) }
+{
+    let files = run.files;
+    let run = Run {
+        files,
+        known: run.known,
+        region: run.region,
+        planned: run.planned,
+        checksums: run.checksums,
+        libraries,
+        still: run.still,
+    };
+    programs_with_still(alloc, &run, files)
+}
+
+/// The prelinked files of a run: of libraries, each made once, then of programs.
+fn all_files<'a>(alloc: Global, run: &Run<'a>) -> Result<Vec<MadeFile<'a>>, NoMemory>
+    requires { IsRun run.now }
+    ensures { IfOk result (λ v. All (IsPrelinked run.now) v.items) }
+{
+    let mut files = libraries_of(alloc, run)?;
+    let mut programs = programs_with(alloc, run, files.as_slice())?;
+    files.append(&mut programs)?;
+    Ok(files)
+}
+
+/// What a run makes of its files, where each prelinked file is made once.
+fn made_with_files(alloc: Global, run: &Run<'_>) -> Result<AllMade, NoMemory>
+    requires { IsRun run.now }
+    ensures { IfOk result (λ made. made ≡ spec.all_made (files_of run.now)
+        (names_of run.now.files.now) run.now.region (plan_of run.now)) }
+{
+    let files = all_files(alloc, run)?;
+    all_made(alloc, run, files)
 }
 
 /// The same, where the checksum of each original is made once.
@@ -64,8 +117,9 @@ fn made_with_checksums(alloc: Global, run: &Run<'_>) -> Result<AllMade, NoMemory
         planned: run.planned,
         checksums: checksums.as_slice(),
         libraries: run.libraries,
+        still: run.still,
     };
-    made_with_libraries(alloc, &run)
+    made_with_files(alloc, &run)
 }
 
 /// What a plan makes of the files.
@@ -89,9 +143,10 @@ fn made_by(
         planned,
         checksums: &[],
         libraries: &[],
+        still: &[],
     };
     if planned.stale.as_slice().is_empty() {
-        return all_made(alloc, &run);
+        return all_made(alloc, &run, Vec::new(alloc));
     }
     made_with_checksums(alloc, &run)
 }

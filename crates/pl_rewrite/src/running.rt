@@ -5,7 +5,7 @@ ghost use Rattle.std.specs.Str.{bytes_eq};
 ghost use Rattle.pl_scope.specs.Members.{has};
 ghost use Rattle.pl_rewrite.specs.Members as spec;
 
-use pl_base::Text;
+use pl_base::{Rows, Text};
 use pl_cone::Known;
 use pl_elf::Range;
 use pl_known::Taken;
@@ -20,9 +20,19 @@ pub struct Checksum<'a> {
 
 /// The prelinked file of a name, by the plan of a run.
 #[derive(Drop)]
-pub struct LibraryFile<'a> {
+pub struct MadeFile<'a> {
     pub name: &'a str,
     pub file: Vec<u8>,
+}
+
+/// What is known of the relocations of a library.
+#[derive(Drop)]
+pub struct LibraryStill<'a> {
+    /// The name of its file.
+    pub name: &'a str,
+
+    /// For each of its relocations, in their order, whether it is known that in every walk which holds the library, with the slots of the plan, it gives what the library's prelinked file holds at its place.
+    pub flags: Rows<bool>,
 }
 
 /// The files of a folder, and what a run plans of them.
@@ -44,7 +54,10 @@ pub struct Run<'a> {
     pub checksums: &'a [Checksum<'a>],
 
     /// Prelinked files of libraries that were made already.
-    pub libraries: &'a [LibraryFile<'a>],
+    pub libraries: &'a [MadeFile<'a>],
+
+    /// Which relocations of those libraries are known to matter nowhere in the walk of a program.
+    pub still: &'a [LibraryStill<'a>],
 }
 
 fn is_file_of(taken: &Taken, name: &str) -> bool

@@ -33,12 +33,24 @@ fn found<'f>(slots: &'f [Slot], name: &str) -> Option<&'f Slot>
 
 /// The planned slot of a name, 0 where it has none.
 #[tactic(auto, unfolding(pl_cone::specs::Current::slot_of))]
-fn slot_of(slots: &[Slot], name: &str) -> u64
+pub fn slot_of(slots: &[Slot], name: &str) -> u64
     ensures { result ≡ cone.slot_of slots.now name.now }
 {
     match found(slots, name) {
         None => 0,
         Some(slot) => slot.start,
+    }
+}
+
+/// Whether a file is a library, prelinked or not.
+pub fn is_library(entry: &Entry) -> bool
+    ensures { result ≡ spec.is_library_entry entry.now }
+{
+    match entry {
+        Entry::There(File::Plain(object)) => object.kind.is_library(),
+        Entry::There(File::Marked(marked)) => marked.object.kind.is_library(),
+        Entry::BadMark => false,
+        Entry::Refused { .. } => false,
     }
 }
 
@@ -87,7 +99,7 @@ fn old_stamp(taken: &Taken) -> u32
 }
 
 /// The stamp of a library that may be prelinked: its old one where it is current, else the run's.
-fn next_stamp(run: &Run<'_>, taken: &Taken) -> u32
+pub fn next_stamp(run: &Run<'_>, taken: &Taken) -> u32
     requires run { spec.IsRun run.now }
     requires found { spec.IsFound run.now taken.now }
     requires candidate { spec.IsCandidate run.now taken.now.name }

@@ -22,8 +22,8 @@ made_skipped-requires-clause-skipped c =
 pub made_current-requires : goal.made_current-requires
 made_current-requires c = run_read c.args.run.now c.args.taken.now c.requires.run c.requires.found
 
-pub returns : goal.returns
-returns c =
+pub returns-clause-made : goal.returns-clause-made
+returns-clause-made c =
     let a : c.is_among.result ≡ has c.args.run.now.planned.now.stale c.args.taken.now.name =
     c.is_among.ensures ∙ (ap (λ (ns : List (List ℕ)). has ns c.as_str-name.result.now) c.as_slice.ensures ∙ ap (λ (n : List ℕ). has c.args.run.now.planned.now.stale n) c.as_str-name.ensures) in
     let b : c.is_skipped.result ≡ is_skipped c.args.run.now.planned.now.standings c.args.taken.now.name =

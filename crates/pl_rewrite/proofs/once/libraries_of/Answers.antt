@@ -4,7 +4,7 @@ use Rattle.std.specs.List.{All}
 use Rattle.std.proofs.lemmas.List.Elements.{All-nil, All-push}
 use Rattle.pl_known.specs.declared.taken.Taken.{Taken}
 use Rattle.pl_rewrite.specs.Members.{IsPrelinked, found}
-use Rattle.pl_rewrite.specs.declared.running.LibraryFile.{LibraryFile}
+use Rattle.pl_rewrite.specs.declared.running.MadeFile.{MadeFile}
 use Rattle.pl_rewrite.proofs.FileLaws.{found_at}
 use Rattle.pl_rewrite.proofs.once.libraries_of.Goals.{in-Some+in_ok-push, in_default}
 use Rattle.pl_rewrite.proofs.once.libraries_of.Goals as goal
@@ -19,8 +19,8 @@ library_in-requires-clause-found c =
 pub loop-taken-preserved : goal.loop-taken-preserved
 loop-taken-preserved c = elim c.match-branch-2.branch [
   | in-Some+in_ok-push w ↦
-      let more = ap (λ (v : Vec LibraryFile Global). v.items) w.libraries-is ∙ w.in_ok-push.ensures.items in
-      let one : IsPrelinked c.args.run.now w.in-Some.library = subst (λ (o : Option LibraryFile). IfSome o (IsPrelinked c.args.run.now)) w.in-Some.is c.in_ok-library.ensures in
+      let more = ap (λ (v : Vec MadeFile Global). v.items) w.libraries-is ∙ w.in_ok-push.ensures.items in
+      let one : IsPrelinked c.args.run.now w.in-Some.library = subst (λ (o : Option MadeFile). IfSome o (IsPrelinked c.args.run.now)) w.in-Some.is c.in_ok-library.ensures in
       subst (All (IsPrelinked c.args.run.now)) (sym more) (All-push (IsPrelinked c.args.run.now) c.loop-taken.libraries.items w.in-Some.library c.loop-taken.invariant one)
-  | in_default w ↦ subst (All (IsPrelinked c.args.run.now)) (sym (ap (λ (v : Vec LibraryFile Global). v.items) w.libraries-is)) c.loop-taken.invariant
+  | in_default w ↦ subst (All (IsPrelinked c.args.run.now)) (sym (ap (λ (v : Vec MadeFile Global). v.items) w.libraries-is)) c.loop-taken.invariant
 ]

@@ -8,6 +8,7 @@ use Rattle.pl_conflict.specs.Prelinked.{Firm}
 use Rattle.pl_prelinked.specs.Sources.{AreSources, members}
 use Rattle.pl_rewrite.specs.Members.{HasOriginal, IsMember, planned_firms}
 use Rattle.pl_rewrite.proofs.OnceLaws.{have_originals, parts_given}
+use Rattle.pl_rewrite.proofs.StillLaws.{still_are}
 use Rattle.pl_rewrite.proofs.WalkLaws.{members_are, members_each, sources_are, sources_walked, walk_prelinked}
 use Rattle.pl_rewrite.proofs.prelinking.prelinked_by.Goals as goal
 
@@ -35,6 +36,13 @@ prelinked_with-requires-clause-parts c =
     let same : c.as_slice-members.result.now ≡ planned_firms c.args.run.now c.args.scope.now =
     c.as_slice-members.ensures.value ∙ (c.in_ok-sources.ensures ∙ (sources_walked c.args.run.now c.members.result.now ∙ ap (planned_firms c.args.run.now) c.members.ensures.members)) in
     parts_given c.args.run.now c.args.name.now c.args.scope.now c.as_slice-members.result.now c.in_ok-parts.parts c.requires.run c.requires.candidate c.requires.walk same c.in_ok-parts.ensures
+
+pub prelinked_with-requires-clause-still : goal.prelinked_with-requires-clause-still
+prelinked_with-requires-clause-still c =
+    let same : c.as_slice-members.result.now ≡ planned_firms c.args.run.now c.args.scope.now =
+    c.as_slice-members.ensures.value ∙ (c.in_ok-sources.ensures ∙ (sources_walked c.args.run.now c.members.result.now ∙ ap (planned_firms c.args.run.now) c.members.ensures.members)) in
+    let zip = rw same at c.in_ok-still.ensures in
+    rw (same, c.as_slice-2.ensures.value) (still_are c.args.run.now c.args.name.now c.args.scope.now c.requires.run c.requires.candidate c.requires.walk c.in_ok-still.still.items zip)
 
 pub returns : goal.returns
 returns c =

@@ -1,13 +1,17 @@
-use Rattle.std.proofs.Common.{List, sym, subst}
+use Rattle.std.proofs.Common.{List, length, sym, ap, subst, arith}
 use Rattle.std.proofs.lemmas.List.Elements.{All-nil}
 use Rattle.pl_cone.specs.declared.known.Known.{Known}
 use Rattle.pl_known.specs.Laws.{Knows}
 use Rattle.pl_known.specs.Taken.{files_in, names_of}
+use Rattle.pl_rewrite.specs.declared.running.MadeFile.{MadeFile}
 use Rattle.pl_rewrite.proofs.PlanLaws.{plan_names}
 use Rattle.pl_rewrite.proofs.rewriting.made_by.Goals as goal
 
-pub all_made-requires : goal.all_made-requires
-all_made-requires c =
+pub all_made-requires-clause-files : goal.all_made-requires-clause-files
+all_made-requires-clause-files c = λ i d lt. absurd (omega (arith, lt, ap (λ (ms : List MadeFile). length ms) c.new.ensures.items))
+
+pub all_made-requires-clause-run : goal.all_made-requires-clause-run
+all_made-requires-clause-run c =
     let n = plan_names (files_in c.args.files.now) (names_of c.args.files.now) c.args.asked.now c.args.planned.now c.requires.planned in
     record {
       taken = c.requires.taken;
@@ -16,6 +20,7 @@ all_made-requires c =
       stale = n.stale;
       checksums = All-nil _;
       libraries = All-nil _;
+      still = All-nil _;
     }
 
 pub made_with_checksums-requires : goal.made_with_checksums-requires
@@ -28,4 +33,5 @@ made_with_checksums-requires c =
       stale = n.stale;
       checksums = All-nil _;
       libraries = All-nil _;
+      still = All-nil _;
     }

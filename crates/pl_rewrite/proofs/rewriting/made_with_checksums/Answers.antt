@@ -3,12 +3,13 @@ use Rattle.std.specs.List.{All}
 use Rattle.pl_rewrite.specs.Members.{IsChecksum}
 use Rattle.pl_rewrite.proofs.rewriting.made_with_checksums.Goals as goal
 
-pub made_with_libraries-requires : goal.made_with_libraries-requires
-made_with_libraries-requires c = record {
+pub made_with_files-requires : goal.made_with_files-requires
+made_with_files-requires c = record {
   taken = c.requires.taken;
   knows = c.requires.knows;
   standings = c.requires.standings;
   stale = c.requires.stale;
   checksums = subst (All (IsChecksum c.args.run.now)) (sym c.as_slice.ensures.value) c.in_ok-checksums.ensures;
   libraries = c.requires.libraries;
+  still = c.requires.still;
 }

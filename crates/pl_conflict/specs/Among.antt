@@ -1,0 +1,110 @@
+-- Meanings of a scope without those that are known to matter nowhere.
+use Rattle.std.specs.Prelude.{◌≡◌, ◌⊎◌, ◌<◌, ℕ, Bool, true, false, List, [], ◌∷◌, ◌++◌, map, Option, Some, None, Ok, length, slice_get, slice_index_or}
+use Rattle.std.specs.List.{list_any}
+use Rattle.pl_base.specs.Bytes.{bytes64}
+use Rattle.pl_base.specs.Each.{each}
+use Rattle.pl_base.specs.Memory.{Memory}
+use Rattle.pl_base.specs.Windows.{Window, share}
+use Rattle.pl_image.specs.declared.loaded.Loaded.{Loaded}
+use Rattle.pl_object.specs.declared.object.Object.{Object}
+use Rattle.pl_object.specs.declared.reloc.Reloc.{Reloc}
+use Rattle.pl_tls.specs.declared.module.Module.{Module}
+use Rattle.pl_value.specs.Linked.{copy_of}
+use Rattle.pl_value.specs.Meanings.{meaning, meanings, row}
+use Rattle.pl_value.specs.declared.meaning.Meaning.{Meaning}
+use Rattle.pl_value.specs.declared.word.Word.{Word}
+use Rattle.pl_value.specs.declared.word.Word.TheVariants.{Put, Copy, Nothing}
+use Rattle.pl_conflict.specs.Conflicts.{held, row_of}
+use Rattle.pl_conflict.specs.declared.among.Still.{Still}
+
+-- ---- lists
+
+-- a list without rows that are left out for a reason
+unfoldable pub Without : {X : Type 0} → (X → Type 0) → List X → List X → Type 0
+Without P [] ys = ys ≡ []
+Without {X = X} P (x ∷ xs) ys = (P x × Without P xs ys) ⊎ ((rest : List X) × ((ys ≡ x ∷ rest) × Without P xs rest))
+
+-- ---- flags
+
+abbrev pub FlagOf : Option Still → ℕ → Type 0
+FlagOf None index = ⊥
+FlagOf (Some s) index = slice_get s.flags.now index ≡ Some true
+
+-- the relocations of a member whose flags are set have values
+abbrev pub ValuesOf : List Object → List ℕ → List Module → ℕ → List Reloc → Option Still → Type 0
+ValuesOf os places tls m rs still = (i : ℕ) (d : Reloc) → i < length rs → FlagOf still i → (g : Meaning) × (meaning os places tls (row m (slice_index_or rs i d)) ≡ Ok g)
+
+-- so do those of all members
+abbrev pub HaveValues : List Object → List ℕ → List Module → List Still → Type 0
+HaveValues os places tls still = (m : ℕ) (o : Object) → slice_get os m ≡ Some o → ValuesOf os places tls m o.relocations (slice_get still m)
+
+-- ---- what matters nowhere
+
+-- no conflict row is made of it, and it copies nothing
+pub record IsQuiet (files : List Loaded) (g : Meaning) : Type 0 where
+  pub no_row : row_of files g.member g.start g.word ≡ None
+  pub no_copy : (memory : Memory) → copy_of memory g.start g.word ≡ None
+
+-- whatever the modules of thread-local storage, a relocation gives what is so
+abbrev pub GivesQuiet : List Object → List ℕ → List Loaded → ℕ → Reloc → Type 0
+GivesQuiet os places files m r = (tls : List Module) → (g : Meaning) × ((meaning os places tls (row m r) ≡ Ok g) × IsQuiet files g)
+
+-- flags tell it
+abbrev pub AreStill : List Object → List ℕ → List Loaded → List Still → Type 0
+AreStill os places files still = (m i : ℕ) (o : Object) (d : Reloc) → slice_get os m ≡ Some o → i < length o.relocations → FlagOf (slice_get still m) i → GivesQuiet os places files m (slice_index_or o.relocations i d)
+
+-- ---- without it
+
+-- the addresses of a word
+abbrev pub word_at : ℕ → Window
+word_at start = record { at = start; size = 8 }
+
+-- a word has none of the addresses of windows
+abbrev pub IsFar : List Window → ℕ → Type 0
+IsFar windows start = list_any (share (word_at start)) windows ≡ false
+
+-- the meaning of a member's relocation whose flag is set and that is far from windows
+pub record IsPassedOf (objects : List Object) (places : List ℕ) (tls : List Module) (member : ℕ) (rs : List Reloc) (still : Option Still) (windows : List Window) (g : Meaning) : Type 0 where
+  pub index : ℕ
+  pub within : index < length rs
+  pub set : FlagOf still index
+  pub gives : (d : Reloc) → meaning objects places tls (row member (slice_index_or rs index d)) ≡ Ok g
+  pub far : IsFar windows g.start
+
+-- what a member's relocations give stands behind others, but for such
+pub record Adds (objects : List Object) (places : List ℕ) (tls : List Module) (member : ℕ) (rs : List Reloc) (still : Option Still) (windows : List Window) (before after : List Meaning) : Type 0 where
+  pub all : List Meaning
+  pub given : each (meaning objects places tls) (map (row member) rs) ≡ Ok all
+  pub kept : List Meaning
+  pub is : after ≡ before ++ kept
+  pub without : Without (IsPassedOf objects places tls member rs still windows) all kept
+
+-- the same of some member
+pub record IsPassed (objects : List Object) (places : List ℕ) (tls : List Module) (still : List Still) (windows : List Window) (g : Meaning) : Type 0 where
+  pub member : ℕ
+  pub object : Object
+  pub at : slice_get objects member ≡ Some object
+  pub passed : IsPassedOf objects places tls member object.relocations (slice_get still member) windows g
+
+-- all meanings but for such
+pub record IsAmong (objects : List Object) (places : List ℕ) (tls : List Module) (still : List Still) (windows : List Window) (gs : List Meaning) : Type 0 where
+  pub all : List Meaning
+  pub given : meanings objects places tls ≡ Ok all
+  pub without : Without (IsPassed objects places tls still windows) all gs
+
+-- ---- words that a library's file holds
+
+abbrev pub HoldsWord : List Loaded → ℕ → Word → Type 0
+HoldsWord file start (Put word) = held file 0 start ≡ bytes64 word
+HoldsWord file start (Copy member from bytes) = ⊥
+HoldsWord file start Nothing = Unit {0}
+
+-- a relocation of the first object gives a word that its file holds, or nothing
+pub record IsHeld (objects : List Object) (places : List ℕ) (file : List Loaded) (r : Reloc) : Type 0 where
+  pub given : Meaning
+  pub gives : meaning objects places [] (row 0 r) ≡ Ok given
+  pub holds : HoldsWord file given.start given.word
+
+-- each flag that is set stands where another is, and tells that
+abbrev pub AreHeld : List Object → List ℕ → List Loaded → List Bool → List Reloc → List Bool → Type 0
+AreHeld os places file closed rs flags = (i : ℕ) (d : Reloc) → i < length rs → slice_get flags i ≡ Some true → (slice_get closed i ≡ Some true) × IsHeld os places file (slice_index_or rs i d)

@@ -1,0 +1,163 @@
+// The meanings of a scope without those that are known to matter nowhere.
+ghost use Rattle.std.specs.Prelude.{◌≡◌, ◌<◌, length, map, Err, IfOk, IfErr, OnOk};
+ghost use Rattle.std.specs.Bool.{OnTrue};
+ghost use Rattle.std.specs.List.{All, list_any};
+ghost use Rattle.std.specs.Option.{option_map};
+ghost use Rattle.pl_base.specs.Answers.{Answers, because};
+ghost use Rattle.pl_base.specs.Each.{each};
+ghost use Rattle.pl_base.specs.Sums.{plus};
+ghost use Rattle.pl_base.specs.Windows.{share};
+ghost use Rattle.pl_scope.specs.Scope.{objects, IsSymbol};
+ghost use Rattle.pl_value.specs.Definers.{IsSought};
+ghost use Rattle.pl_value.specs.Meanings as value;
+ghost use Rattle.pl_value.specs.Targets.{base_of};
+ghost use Rattle.pl_value.specs.declared.fault.OrdinaryFault.TheVariants.{Link};
+ghost use Rattle.pl_conflict.specs.Among as spec;
+
+use pl_base::Rows;
+use pl_object::{Reloc, Window};
+use pl_scope::{Found, Reference, Scope, find};
+use pl_tls::Module;
+use pl_value::{LinkFault, Meaning, OrdinaryFault, Places, reference_of, word_of};
+use std::alloc::Global;
+
+/// Which relocations of a member are known to matter nowhere.
+#[derive(Clone, Copy)]
+pub struct Still<'a> {
+    /// For each of its relocations, in their order; of those behind the last it is not known.
+    pub flags: &'a [bool],
+}
+
+/// What the symbol of a reference finds. Symbol 0 is no reference.
+fn sought(scope: &Scope<'_>, reference: Reference) -> Option<Found>
+    requires { IsSymbol (objects scope.now) reference.member reference.symbol }
+    ensures { IsSought (objects scope.now) reference result }
+{
+    if reference.symbol == 0 {
+        return None;
+    }
+    find(scope, reference)
+}
+
+/// The place of a relocation of a member as loaded.
+fn place_of(places: &Places, member: u32, reloc: &Reloc) -> u64
+    requires { member < length places.now }
+    ensures { result ≡ plus (base_of places.now member) reloc.now.address }
+{
+    places.as_slice()[member as usize].wrapping_add(reloc.address)
+}
+
+/// The place of a relocation of a member as loaded, and what it gives, by one look-up.
+#[tactic(auto, unfolding(pl_value::specs::Meanings::meaning))]
+pub fn meaning_of(
+    scope: &Scope<'_>,
+    places: &Places,
+    tls: &[Module],
+    member: u32,
+    reloc: &Reloc,
+) -> Result<Meaning, LinkFault>
+    requires one_each { length places.now ≡ length scope.now }
+    requires member { member < length places.now }
+    requires reference { IsSymbol (objects scope.now) member reloc.now.symbol }
+    ensures { result ≡ value.meaning (objects scope.now) places.now tls.now
+        (value.row member reloc.now) }
+{
+    let found = sought(scope, reference_of(member, reloc));
+    let word = word_of(scope, places, tls, member, reloc, found)?;
+    Ok(Meaning {
+        member,
+        start: place_of(places, member, reloc),
+        size: reloc.width,
+        word,
+    })
+}
+
+/// Whether a flag is set.
+fn is_flagged(still: Option<&Still<'_>>, index: usize) -> bool
+    ensures { OnTrue result (spec.FlagOf (option_map (λ s. s.now) still.entry) index) }
+{
+    let Some(still) = still else {
+        return false;
+    };
+    let flags = still.flags;
+    index < flags.len() && flags[index]
+}
+
+/// Whether a word has an address of windows.
+fn is_near(windows: &[Window], start: u64) -> bool
+    ensures { result ≡ list_any (share (spec.word_at start)) windows.now }
+{
+    let place = Window::new(u128::from(start), 8);
+    windows.iter().any(|window| place.shares(window))
+}
+
+/// Whether a relocation of an index is passed by.
+fn is_passed(
+    still: Option<&Still<'_>>,
+    index: usize,
+    windows: &[Window],
+    start: u64,
+) -> bool
+    ensures { OnTrue result (spec.FlagOf (option_map (λ s. s.now) still) index × spec.IsFar windows.now start) }
+{
+    is_flagged(still, index) && !is_near(windows, start)
+}
+
+/// Adds what relocations of a member give, in their order, but for those whose flags are set and that are far from windows.
+fn add_open(
+    scope: &Scope<'_>,
+    places: &Places,
+    tls: &[Module],
+    member: u32,
+    relocs: &[Reloc],
+    still: Option<&Still<'_>>,
+    windows: &[Window],
+    meanings: &mut Rows<Meaning>,
+) -> Result<(), OrdinaryFault>
+    requires one_each { length places.now ≡ length scope.now }
+    requires member { member < length places.now }
+    requires references { All (λ r. IsSymbol (objects scope.now) member r.symbol) relocs.now }
+    requires known { spec.ValuesOf (objects scope.now) places.now tls.now member relocs.now
+        (option_map (λ s. s.now) still) }
+    ensures added { OnOk result (spec.Adds (objects scope.now) places.now tls.now member relocs.now
+        (option_map (λ s. s.now) still) windows.now meanings.old meanings.new) }
+    ensures refused { IfErr result (λ fault. Answers value.is_memory (Err fault)
+        (because Link (each (value.meaning (objects scope.now) places.now tls.now)
+        (map (value.row member) relocs.now)))) }
+{
+    for index in 0..relocs.len() {
+        let reloc = &relocs[index];
+        if !is_passed(still, index, windows, place_of(places, member, reloc)) {
+            let meaning = meaning_of(scope, places, tls, member, reloc)?;
+            meanings.push(meaning)?;
+        }
+    }
+    Ok(())
+}
+
+/// What all relocations of a scope give, in their order, as `meanings` of pl_value has it, but for those whose flags in `still` are set and whose words lie far from windows: there is one row of flags for each member. Each other one is looked up by itself. Else the first of all that has no value, or NoMemory.
+///
+/// Relocations whose flags are set have values.
+pub fn meanings_among(
+    alloc: Global,
+    scope: &Scope<'_>,
+    places: &Places,
+    tls: &[Module],
+    still: &[Still<'_>],
+    windows: &[Window],
+) -> Result<Rows<Meaning>, OrdinaryFault>
+    requires one_each { length places.now ≡ length scope.now }
+    requires known { spec.HaveValues (objects scope.now) places.now tls.now still.now }
+    ensures among { IfOk result (spec.IsAmong (objects scope.now) places.now tls.now still.now
+        windows.now) }
+    ensures refused { IfErr result (λ fault. Answers value.is_memory (Err fault)
+        (because Link (value.meanings (objects scope.now) places.now tls.now))) }
+{
+    let mut meanings = Rows::new(alloc);
+    for member in 0..scope.count() {
+        let relocs = scope.object(member).relocations.as_slice();
+        let flags = still.get(member as usize);
+        add_open(scope, places, tls, member, relocs, flags, windows, &mut meanings)?;
+    }
+    Ok(meanings)
+}

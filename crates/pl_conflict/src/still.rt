@@ -1,0 +1,130 @@
+// The relocations of a library whose words its file holds.
+ghost use Rattle.std.specs.Prelude.{◌≡◌, ◌<◌, length, slice_get, true, IfOk, Some};
+ghost use Rattle.std.specs.Bool.{OnTrue};
+ghost use Rattle.std.specs.List.{All};
+ghost use Rattle.pl_image.specs.Image.{AreLoaded};
+ghost use Rattle.pl_scope.specs.Scope.{objects, IsSymbol};
+ghost use Rattle.pl_value.specs.Values.{relocations_in};
+ghost use Rattle.pl_conflict.specs.Among as spec;
+
+use crate::among::meaning_of;
+use crate::rows::{held, is_word};
+use pl_base::Rows;
+use pl_image::Loaded;
+use pl_io::NoMemory;
+use pl_object::Reloc;
+use pl_scope::Scope;
+use pl_value::{Meaning, Places, Word};
+use std::alloc::{AllocError, Global};
+
+/// Whether the file of the first member holds what a relocation of it gives.
+fn holds(alloc: Global, file: &[Loaded<'_>], meaning: &Meaning) -> Result<bool, AllocError>
+    requires file { AreLoaded file.now }
+    requires one { 0 < length file.now }
+    requires first { meaning.now.member ≡ 0 }
+    ensures { IfOk result (λ b. OnTrue b (spec.HoldsWord file.now meaning.now.start meaning.now.word)) }
+{
+    match meaning.word {
+        Word::Put(word) => Ok(is_word(&held(alloc, file, meaning)?, word)),
+        Word::Nothing => Ok(true),
+        Word::Copy { .. } => Ok(false),
+    }
+}
+
+/// Whether a relocation of the first member gives what its file holds.
+fn is_held(
+    alloc: Global,
+    own: &Scope<'_>,
+    places: &Places,
+    file: &[Loaded<'_>],
+    reloc: &Reloc,
+) -> Result<bool, AllocError>
+    requires one_each { length places.now ≡ length own.now }
+    requires first { 0 < length places.now }
+    requires file { AreLoaded file.now }
+    requires one { 0 < length file.now }
+    requires reference { IsSymbol (objects own.now) 0 reloc.now.symbol }
+    ensures { IfOk result (λ b. OnTrue b
+        (spec.IsHeld (objects own.now) places.now file.now reloc.now)) }
+{
+    match meaning_of(own, places, &[], 0, reloc) {
+        Ok(meaning) => holds(alloc, file, &meaning),
+        Err(_) => Ok(false),
+    }
+}
+
+fn is_set(flags: &[bool], index: usize) -> bool
+    ensures { OnTrue result (slice_get flags.now index ≡ Some true) }
+{
+    index < flags.len() && flags[index]
+}
+
+/// The same where the flag of an index is set.
+fn is_still(
+    alloc: Global,
+    own: &Scope<'_>,
+    places: &Places,
+    file: &[Loaded<'_>],
+    closed: &[bool],
+    index: usize,
+    reloc: &Reloc,
+) -> Result<bool, AllocError>
+    requires one_each { length places.now ≡ length own.now }
+    requires first { 0 < length places.now }
+    requires file { AreLoaded file.now }
+    requires one { 0 < length file.now }
+    requires reference { IsSymbol (objects own.now) 0 reloc.now.symbol }
+    ensures { IfOk result (λ b. OnTrue b ((slice_get closed.now index ≡ Some true)
+        × spec.IsHeld (objects own.now) places.now file.now reloc.now)) }
+{
+    if is_set(closed, index) {
+        return is_held(alloc, own, places, file, reloc);
+    }
+    Ok(false)
+}
+
+/// The same of relocations, in their order.
+fn flags_of(
+    alloc: Global,
+    own: &Scope<'_>,
+    places: &Places,
+    file: &[Loaded<'_>],
+    closed: &[bool],
+    relocs: &[Reloc],
+) -> Result<Rows<bool>, AllocError>
+    requires one_each { length places.now ≡ length own.now }
+    requires first { 0 < length places.now }
+    requires file { AreLoaded file.now }
+    requires one { 0 < length file.now }
+    requires references { All (λ r. IsSymbol (objects own.now) 0 r.symbol) relocs.now }
+    ensures { IfOk result (spec.AreHeld (objects own.now) places.now file.now closed.now relocs.now) }
+{
+    let mut flags = Rows::new(alloc);
+    for index in 0..relocs.len() {
+        let flag = is_still(alloc, own, places, file, closed, index, &relocs[index])?;
+        flags.push(flag)?;
+    }
+    Ok(flags)
+}
+
+/// For each relocation of a library, which is the first member of its own walk at these places, in their order, whether its flag in `closed` is set and it gives a word that the library's file holds there, or nothing. `file` is that file as loaded.
+///
+/// There is at least one member, and `places` has one row for each. It fails only for want of memory.
+pub fn still_of(
+    alloc: Global,
+    own: &Scope<'_>,
+    places: &Places,
+    file: &[Loaded<'_>],
+    closed: &[bool],
+) -> Result<Rows<bool>, NoMemory>
+    requires one_each { length places.now ≡ length own.now }
+    requires first { 0 < length places.now }
+    requires file { AreLoaded file.now }
+    requires one { 0 < length file.now }
+    ensures { IfOk result (spec.AreHeld (objects own.now) places.now file.now closed.now
+        (relocations_in (slice_get (objects own.now) 0))) }
+{
+    let relocs = own.object(0).relocations.as_slice();
+    let flags = flags_of(alloc, own, places, file, closed, relocs)?;
+    Ok(flags)
+}

@@ -1,0 +1,35 @@
+// Which relocations of a library are known to matter nowhere else.
+ghost use Rattle.std.specs.Prelude.{◌≡◌, true, IfOk};
+ghost use Rattle.pl_conflict.specs.Prelinked.{are_set};
+ghost use Rattle.pl_prelinked.specs.Libraries.{AreHeldIn};
+ghost use Rattle.pl_prelinked.specs.Sources.{AreSources};
+
+use crate::Source;
+use crate::scopes::{places_of, scope_of};
+use pl_base::Rows;
+use pl_conflict::still_of;
+use pl_image::load_object;
+use pl_io::NoMemory;
+use std::alloc::Global;
+
+/// For each relocation of the first of members, a library, in their order, whether its flag in `closed` is set and it gives a word that the library's file holds at its slot, or nothing.
+///
+/// The members can be prelinked together: `prelink` gives the first a file. It fails only for want of memory.
+pub fn still_words(
+    alloc: Global,
+    sources: &[Source<'_>],
+    file: &[u8],
+    closed: &[bool],
+) -> Result<Rows<bool>, NoMemory>
+    requires sources { AreSources sources.now }
+    requires set { are_set sources.now ≡ true }
+    ensures { IfOk result (AreHeldIn sources.now file.now closed.now) }
+{
+    let [library, ..] = sources else {
+        return Ok(Rows::new(alloc));
+    };
+    let scope = scope_of(alloc, sources)?;
+    let places = places_of(alloc, sources)?;
+    let loaded = load_object(alloc, library.object, file, library.slot)?;
+    still_of(alloc, &scope, &places, &[loaded], closed)
+}

@@ -1,0 +1,285 @@
+-- Flags that are made once a run are right in the walk of every program.
+use Rattle.std.proofs.Common.{◌≡◌, ℕ, zero, suc, ◌+◌, ◌<◌, Bool, true, false, List, [], ◌∷◌, length, map, get_or, Option, Some, None, Result, Ok, Err, refl, sym, ap, subst, ◌∙◌, arith, inl, inr}
+use Rattle.std.specs.Prelude.{◌||◌, ◌==◌, find, slice_get, if◌then◌else◌}
+use Rattle.std.specs.List.{All, AllZip}
+use Rattle.std.specs.Str.{bytes_eq}
+use Rattle.std.proofs.lemmas.Bool.{cases_Bool}
+use Rattle.std.proofs.lemmas.List.Elements.{All-head, All-tail}
+use Rattle.std.proofs.lemmas.Option.{none-some, same_Some}
+use Rattle.pl_base.specs.Bytes.{bytes64}
+use Rattle.pl_base.specs.Memory.{Memory, layered, read}
+use Rattle.pl_base.specs.Sums.{plus}
+use Rattle.pl_base.proofs.AnswerLaws.{ok_same}
+use Rattle.pl_cone.specs.Candidates.{kind_of, walk_in}
+use Rattle.pl_cone.specs.Known.{object_of}
+use Rattle.pl_cone.specs.Links.{folder, IsLink}
+use Rattle.pl_cone.specs.declared.links.Link.{Link}
+use Rattle.pl_cone.proofs.LinkLaws.{walk_made, walk_first, first_member, walk_within, zip_at, found_name}
+use Rattle.pl_conflict.specs.Among.{FlagOf, IsQuiet, GivesQuiet, AreStill, HoldsWord, IsHeld}
+use Rattle.pl_conflict.specs.Conflicts.{pieces_in, held, row_of}
+use Rattle.pl_conflict.specs.Format.{format}
+use Rattle.pl_conflict.specs.Prelinked as form
+use Rattle.pl_conflict.specs.Prelinked.{Firm, are_set, objects_of, parts_of, slots_of}
+use Rattle.pl_conflict.proofs.MemberLaws.{when_some}
+use Rattle.pl_conflict.specs.declared.among.Still.{Still}
+use Rattle.pl_elf.specs.Kinds.{is_library}
+use Rattle.pl_image.specs.Loads.{loaded_at}
+use Rattle.pl_image.specs.declared.loaded.Loaded.{Loaded}
+use Rattle.pl_known.specs.Skips.{skip_causes}
+use Rattle.pl_links.specs.Closed.{IsClosed, IsClosedBy, IsFlag, Stands}
+use Rattle.pl_links.specs.Folder.{IsMember as IsNamedMember, IsWithin}
+use Rattle.pl_links.proofs.ClosedLaws.{closed}
+use Rattle.pl_links.proofs.FolderLaws.{object_at, member_of, member_has}
+use Rattle.pl_lists.specs.declared.conflict_row.ConflictRow.{ConflictRow}
+use Rattle.pl_object.specs.declared.object.Object.{Object}
+use Rattle.pl_object.specs.declared.reloc.Reloc.{Reloc}
+use Rattle.pl_prelinked.specs.Lent.{AreStillIn}
+use Rattle.pl_prelinked.specs.Libraries.{AreHeldIn}
+use Rattle.pl_prelinked.specs.Sources.{AreSources, members}
+use Rattle.pl_prelinked.proofs.FirmLaws.{firm_all}
+use Rattle.pl_scope.specs.Members.{IsLinked, has, names}
+use Rattle.pl_scope.specs.Scope.{objects}
+use Rattle.pl_scope.specs.Walk.{Walked}
+use Rattle.pl_scope.proofs.NameLaws.{eq_refl, same_name}
+use Rattle.pl_sound.specs.Plan.{planned_member}
+use Rattle.pl_sound.specs.Rule as sound
+use Rattle.pl_tls.specs.declared.module.Module.{Module}
+use Rattle.pl_value.specs.Linked.{copy_of}
+use Rattle.pl_value.specs.Meanings.{given, meaning, row}
+use Rattle.pl_value.specs.Ordinary.{loaded, loaded_from, part_of}
+use Rattle.pl_value.specs.Targets.{base_of}
+use Rattle.pl_value.specs.Values.{relocations_in, value_of}
+use Rattle.pl_value.specs.declared.meaning.Meaning.{Meaning}
+use Rattle.pl_value.specs.declared.word.Word.{Word}
+use Rattle.pl_value.specs.declared.word.Word.TheVariants.{Put, Copy, Nothing}
+use Rattle.pl_rewrite.specs.Members.{AreFlagsFor, AreMadeFor, IsCandidate, IsLinkOf, IsMember, IsPart, IsRun, IsStill, IsStillFor, files_of, numbers_of, planned_firm, planned_firms, prelinked}
+use Rattle.pl_rewrite.specs.declared.running.LibraryStill.{LibraryStill}
+use Rattle.pl_rewrite.specs.declared.running.Run.{Run}
+use Rattle.pl_rewrite.proofs.OnceLaws.{linked_kind, part_is}
+use Rattle.pl_rewrite.proofs.WalkLaws.{members_are, sound_is, sources_are, walk_prelinked}
+
+-- ---- what was found
+
+pub still_found : (run : Run) (ss : List LibraryStill) (n : List ℕ) (s : LibraryStill) → All (IsStill run) ss → find (λ x. bytes_eq x.name.now n) ss ≡ Some s → AreFlagsFor run n s.flags
+still_found run [] n s all is = absurd (none-some s is)
+still_found run (x ∷ ss) n s all is = elim (cases_Bool (bytes_eq x.name.now n)) [
+  | inl hit ↦
+      let same : x ≡ s = same_Some x s (rw hit at is) in
+      inr (record {
+        made = x;
+        is = All-head (IsStill run) x ss all;
+        named = same_name x.name.now n hit;
+        flags_are = ap (λ (y : LibraryStill). y.flags) (sym same);
+      })
+  | inr miss ↦ still_found run ss n s (All-tail (IsStill run) x ss all) (rw miss at is)
+]
+
+pub link_found : (run : Run) (ls : List Link) (n : List ℕ) (l : Link) → All (IsLink run.known.now) ls → find (λ x. bytes_eq x.name n) ls ≡ Some l → IsLinkOf run.known.now n l
+link_found run [] n l all is = absurd (none-some l is)
+link_found run (x ∷ ls) n l all is = elim (cases_Bool (bytes_eq x.name n)) [
+  | inl hit ↦
+      let same : x ≡ l = same_Some x l (rw hit at is) in
+      subst (IsLinkOf run.known.now n) same (record { is = All-head (IsLink run.known.now) x ls all; named = same_name x.name n hit })
+  | inr miss ↦ link_found run ls n l (All-tail (IsLink run.known.now) x ls all) (rw miss at is)
+]
+
+-- ---- members by their indexes
+
+-- the address that a name's library gets
+abbrev slot_for : Run → List ℕ → ℕ
+slot_for run n = (planned_member (format skip_causes) (files_of run) (numbers_of run) n).slot
+
+slot_at : (run : Run) (ws : Walked) (m : ℕ) (name : List ℕ) (o : Object) → slice_get ws m ≡ Some (name, o) → base_of (slots_of (planned_firms run ws)) m ≡ slot_for run name
+slot_at run [] m name o e = absurd (none-some (name, o) e)
+slot_at run (w ∷ ws) zero name o e = ap (λ (p : List ℕ × Object). slot_for run p.0) (same_Some w (name, o) e)
+slot_at run (w ∷ ws) (suc m) name o e = slot_at run ws m name o e
+
+part_at : (run : Run) (f : Firm → List ℕ) (ws : Walked) (m : ℕ) (p : List ℕ × Object) → slice_get ws m ≡ Some p → part_of (map f (planned_firms run ws)) m ≡ f (planned_firm run p)
+part_at run f [] m p e = absurd (none-some p e)
+part_at run f (w ∷ ws) zero p e = ap (λ (q : List ℕ × Object). f (planned_firm run q)) (same_Some w p e)
+part_at run f (w ∷ ws) (suc m) p e = part_at run f ws m p e
+
+firm_at : (run : Run) (ws : Walked) (m : ℕ) (p : List ℕ × Object) → slice_get ws m ≡ Some p → slice_get (planned_firms run ws) m ≡ Some (planned_firm run p)
+firm_at run [] m p e = absurd (none-some p e)
+firm_at run (w ∷ ws) zero p e = ap (λ (q : List ℕ × Object). Some (planned_firm run q)) (same_Some w p e)
+firm_at run (w ∷ ws) (suc m) p e = firm_at run ws m p e
+
+member_at : (run : Run) (ws : Walked) (m : ℕ) (p : List ℕ × Object) → All (IsMember run) ws → slice_get ws m ≡ Some p → IsMember run p
+member_at run [] m p all e = absurd (none-some p e)
+member_at run (w ∷ ws) zero p all e = subst (IsMember run) (same_Some w p e) (All-head (IsMember run) w ws all)
+member_at run (w ∷ ws) (suc m) p all e = member_at run ws m p (All-tail (IsMember run) w ws all) e
+
+objects_planned : (run : Run) (ws : Walked) → objects_of (planned_firms run ws) ≡ objects ws
+objects_planned run [] = refl
+objects_planned run (w ∷ ws) = ap (λ (os : List Object). w.1 ∷ os) (objects_planned run ws)
+
+file_from : (places : List ℕ) (parts : List (List ℕ)) (b : ℕ) (os : List Object) (m : ℕ) (o : Object) → slice_get os m ≡ Some o → slice_get (loaded_from places parts b os) m ≡ Some (loaded_at (base_of places (b + m)) (part_of parts (b + m)) o)
+unfolding loaded_from
+file_from places parts b [] m o e = absurd (none-some o e)
+file_from places parts b (x ∷ os) zero o e =
+    let same : b ≡ b + zero = omega arith in
+    ap (λ (k : ℕ). Some (loaded_at (base_of places k) (part_of parts k) x)) same ∙ ap (λ (y : Object). Some (loaded_at (base_of places (b + zero)) (part_of parts (b + zero)) y)) (same_Some x o e)
+file_from places parts b (x ∷ os) (suc m) o e =
+    let same : b + 1 + m ≡ b + suc m = omega arith in
+    file_from places parts (b + 1) os m o e ∙ ap (λ (k : ℕ). Some (loaded_at (base_of places k) (part_of parts k) o)) same
+
+zip_get : {A B : Type 0} (R : A → B → Type 0) (xs : List A) (ys : List B) (m : ℕ) (x : A) (y : B) → AllZip R xs ys → slice_get xs m ≡ Some x → slice_get ys m ≡ Some y → R x y
+zip_get R [] ys m x y zip at there = absurd (none-some x at)
+zip_get R (a ∷ xs) [] m x y zip at there = absurd zip
+zip_get R (a ∷ xs) (b ∷ ys) zero x y zip at there = subst (λ z. R z y) (same_Some a x at) (subst (R a) (same_Some b y there) zip.0)
+zip_get R (a ∷ xs) (b ∷ ys) (suc m) x y zip at there = zip_get R xs ys m x y zip.1 at there
+
+-- ---- a word that a file holds
+
+held_by : (files : List Loaded) (one : Loaded) (m start : ℕ) → slice_get files m ≡ Some one → held files m start ≡ held (one ∷ []) 0 start
+unfolding held
+held_by files one m start e = ap (λ (o : Option Loaded). read (layered (pieces_in o)) start 8) e
+
+no_row : (files : List Loaded) (one : Loaded) (m start : ℕ) (word : Word) → slice_get files m ≡ Some one → HoldsWord (one ∷ []) start word → row_of files m start word ≡ None
+no_row files one m start (Put w) at holds =
+    let same : held files m start ≡ bytes64 w = held_by files one m start at ∙ holds in
+    elim (cases_Bool (m == 0)) [
+      | inl first ↦ rw first refl
+      | inr later ↦ rw (later, same, eq_refl (bytes64 w)) refl
+    ]
+no_row files one m start (Copy member from size) at holds = absurd holds
+no_row files one m start Nothing at holds = refl
+
+no_copy : (one : Loaded) (start : ℕ) (word : Word) → HoldsWord (one ∷ []) start word → (memory : Memory) → copy_of memory start word ≡ None
+no_copy one start (Put w) holds memory = refl
+no_copy one start (Copy member from size) holds memory = absurd holds
+no_copy one start Nothing holds memory = refl
+
+given_of : (os : List Object) (places : List ℕ) (tls : List Module) (m : ℕ) (r : Reloc) (w : Word) → value_of os places tls m r ≡ Ok w → meaning os places tls (row m r) ≡ Ok (given places (row m r) w)
+unfolding meaning
+given_of os places tls m r w e = rw e refl
+
+-- ---- in the walk of a candidate
+
+module _ (run : Run) (n : List ℕ) (ws : Walked) (is : IsRun run) (candidate : IsCandidate run n) (walk : walk_in run.known.now n ≡ Ok ws) where
+  linked : (o : Object) → object_of run.known.now n ≡ Ok o → IsLinked o.kind
+  linked o e =
+      let t = walk_first run.known.now n ws walk in
+      let same : t.object ≡ o = ok_same t.object o (sym t.file ∙ e) in
+      let one : IsMember run (n, t.object) = member_at run ws 0 (n, t.object) (members_are run n ws is candidate walk) (ap (λ (w : Walked). slice_get w 0) t.is) in
+      let there : sound.objects (format skip_causes) (files_of run) n ≡ Ok o = one.object ∙ ap (λ (p : Object). Ok p) same in
+      linked_kind o.kind (sound_is run.region (files_of run) n o there candidate).dynamic
+
+  -- a library with its own walk
+  module _ (s : LibraryStill) (k : IsStill run s) (m : ℕ) where
+    own : Walked
+    own = k.known_by.is.own
+
+    name : List ℕ
+    name = k.link.name
+
+    quiet_own : (x : Object) (rest : Walked) → own ≡ (name, x) ∷ rest → slice_get ws m ≡ Some (name, x) → (i : ℕ) (d : Reloc) → i < length x.relocations → slice_get s.flags i ≡ Some true
+        → GivesQuiet (objects_of (planned_firms run ws)) (slots_of (planned_firms run ws)) (loaded (slots_of (planned_firms run ws)) (parts_of (planned_firms run ws)) (objects_of (planned_firms run ws))) m (get_or x.relocations i d)
+    quiet_own x rest begins at i d lt set tls =
+        let known = run.known.now in
+        let rs = planned_firms run ws in
+        let inner : Walked = (name, x) ∷ rest in
+        let r : Reloc = get_or x.relocations i d in
+        let walks : walk_in known name ≡ Ok inner = k.known_by.is.walks ∙ ap (λ (w : Walked). Ok w) begins in
+        let library : is_library x.kind ≡ true = sym (ap (λ (w : Walked). is_library (kind_of w)) begins) ∙ k.library in
+        let flags : AllZip (IsFlag k.known_by.is.definers (objects inner)) x.relocations k.link.closed =
+        subst (λ (w : Walked). AllZip (IsFlag k.known_by.is.definers (objects w)) (relocations_in (slice_get (objects w) 0)) k.link.closed) begins k.known_by.is.flags in
+        let holding : AreHeldIn (planned_firms run inner) k.file k.link.closed s.flags = subst (λ (w : Walked). AreHeldIn (planned_firms run w) k.file k.link.closed s.flags) begins k.held in
+        let h = holding i d lt set in
+        let closed_by : IsClosedBy k.known_by.is.definers (objects inner) r = zip_at (IsFlag k.known_by.is.definers (objects inner)) x.relocations k.link.closed i d true flags h.0 refl in
+        let first : IsNamedMember inner 0 name = record { object = x; at = refl } in
+        let named : IsNamedMember ws m name = record { object = x; at = at } in
+        let whole : IsClosed (folder known) name inner r = closed (folder known) k.known_by.is.definers name inner r (record { hashes = k.known_by.is.hashes; made = walk_made known name inner walks; first = first }) closed_by in
+        let word = whole (slot_for run) in
+        let own_slots = slots_of (planned_firms run inner) in
+        let here : value_of (objects inner) own_slots [] 0 r ≡ Ok word.0 = word.1 inner 0 own_slots [] (record {
+          made = walk_made known name inner walks;
+          named = first;
+          within = λ j there. there;
+          placed = λ j file of_file. slot_at run inner j file of_file.object of_file.at;
+        }) in
+        let there : value_of (objects ws) (slots_of rs) tls m r ≡ Ok word.0 = word.1 ws m (slots_of rs) tls (record {
+          made = walk_made known n ws walk;
+          named = named;
+          within = walk_within known n name ws inner walk linked (member_has ws m name named) walks;
+          placed = λ j file of_file. slot_at run ws j file of_file.object of_file.at;
+        }) in
+        let one : Loaded = loaded_at (slot_for run name) k.file x in
+        let own_given : h.1.given ≡ given own_slots (row 0 r) word.0 =
+        ok_same h.1.given (given own_slots (row 0 r) word.0)
+        (sym h.1.gives ∙ ap (λ (os : List Object). meaning os own_slots [] (row 0 r)) (objects_planned run inner) ∙ given_of (objects inner) own_slots [] 0 r word.0 here) in
+        let g : Meaning = given (slots_of rs) (row m r) word.0 in
+        let start : plus (base_of own_slots 0) r.address ≡ g.start = ap (λ (b : ℕ). plus b r.address) (sym (slot_at run ws m name x at)) in
+        let own_holds : HoldsWord (one ∷ []) (plus (base_of own_slots 0) r.address) word.0 = subst (λ (y : Meaning). HoldsWord (one ∷ []) y.start y.word) own_given h.1.holds in
+        let holds : HoldsWord (one ∷ []) g.start word.0 = subst (λ (b : ℕ). HoldsWord (one ∷ []) b word.0) start own_holds in
+        let member : IsMember run (name, x) = member_at run ws m (name, x) (members_are run n ws is candidate walk) at in
+        let made : prelinked run name ≡ Some k.file = ap (prelinked run) k.known_by.named ∙ k.made in
+        let part : IsPart run (planned_firm run (name, x)) k.file = rw library made in
+        let bytes : part_of (parts_of rs) m ≡ k.file = part_at run (form.part_of rs) ws m (name, x) at ∙ part_is run n ws is candidate walk (name, x) k.file (member_has ws m name named) member part in
+        let object : slice_get (objects_of rs) m ≡ Some x = ap (λ (os : List Object). slice_get os m) (objects_planned run ws) ∙ object_at ws m name x at in
+        let file : slice_get (loaded (slots_of rs) (parts_of rs) (objects_of rs)) m ≡ Some one =
+        file_from (slots_of rs) (parts_of rs) 0 (objects_of rs) m x object
+        ∙ (ap (λ (b : ℕ). Some (loaded_at b (part_of (parts_of rs) m) x)) (slot_at run ws m name x at) ∙ ap (λ (p : List ℕ). Some (loaded_at (slot_for run name) p x)) bytes) in
+        (
+          g,
+          (
+            ap (λ (os : List Object). meaning os (slots_of rs) tls (row m r)) (objects_planned run ws) ∙ given_of (objects ws) (slots_of rs) tls m r word.0 there,
+            record {
+              no_row = no_row (loaded (slots_of rs) (parts_of rs) (objects_of rs)) one m g.start word.0 file holds;
+              no_copy = no_copy one g.start word.0 holds;
+            },
+          ),
+        )
+
+    quiet_at : (o : Object) → slice_get ws m ≡ Some (name, o) → (i : ℕ) (d : Reloc) → i < length o.relocations → slice_get s.flags i ≡ Some true
+        → GivesQuiet (objects_of (planned_firms run ws)) (slots_of (planned_firms run ws)) (loaded (slots_of (planned_firms run ws)) (parts_of (planned_firms run ws)) (objects_of (planned_firms run ws))) m (get_or o.relocations i d)
+    quiet_at o at =
+        let known = run.known.now in
+        let t = walk_first known name own k.known_by.is.walks in
+        let same : t.object ≡ o = same_Some t.object o
+        (sym (walk_made known name own k.known_by.is.walks 0 name t.object (ap (λ (w : Walked). slice_get w 0) t.is)) ∙ walk_made known n ws walk m name o at) in
+        subst (λ (y : Object). (i : ℕ) (d : Reloc) → i < length y.relocations → slice_get s.flags i ≡ Some true
+        → GivesQuiet (objects_of (planned_firms run ws)) (slots_of (planned_firms run ws)) (loaded (slots_of (planned_firms run ws)) (parts_of (planned_firms run ws)) (objects_of (planned_firms run ws))) m (get_or y.relocations i d)) same
+        (quiet_own t.object t.rest t.is (at ∙ ap (λ (y : Object). Some (name, y)) (sym same)))
+
+  flagged : (m : ℕ) (name : List ℕ) (o : Object) (flags : List Bool) → slice_get ws m ≡ Some (name, o) → AreFlagsFor run name flags → (i : ℕ) (d : Reloc) → i < length o.relocations → slice_get flags i ≡ Some true
+      → GivesQuiet (objects_of (planned_firms run ws)) (slots_of (planned_firms run ws)) (loaded (slots_of (planned_firms run ws)) (parts_of (planned_firms run ws)) (objects_of (planned_firms run ws))) m (get_or o.relocations i d)
+  flagged m name o flags at are i d lt set = elim are [
+    | inl none ↦ absurd (none-some true (sym (ap (λ (fs : List Bool). slice_get fs i) none) ∙ set))
+    | inr made ↦
+        let same : name ≡ made.is.link.name = sym (made.is.known_by.named ∙ made.named) in
+        quiet_at made.made made.is m o (at ∙ ap (λ (k : List ℕ). Some (k, o)) same) i d lt (sym (ap (λ (fs : List Bool). slice_get fs i) made.flags_are) ∙ set)
+  ]
+
+  by_flag : (m : ℕ) (name : List ℕ) (o : Object) (stills : List Still) (x : Option Still) → slice_get ws m ≡ Some (name, o) → AllZip (IsStillFor run) (planned_firms run ws) stills → slice_get stills m ≡ x → (i : ℕ) (d : Reloc) → i < length o.relocations → FlagOf x i
+      → GivesQuiet (objects_of (planned_firms run ws)) (slots_of (planned_firms run ws)) (loaded (slots_of (planned_firms run ws)) (parts_of (planned_firms run ws)) (objects_of (planned_firms run ws))) m (get_or o.relocations i d)
+  by_flag m name o stills None at zip there i d lt set = absurd set
+  by_flag m name o stills (Some st) at zip there i d lt set =
+      flagged m name o st.flags.now at (zip_get (IsStillFor run) (planned_firms run ws) stills m (planned_firm run (name, o)) st zip (firm_at run ws m (name, o) at) there) i d lt set
+
+  pub still_are : (stills : List Still) → AllZip (IsStillFor run) (planned_firms run ws) stills → AreStillIn (planned_firms run ws) stills
+  still_are stills zip = λ m i o d at lt set.
+      let named = member_of ws m o (sym (ap (λ (os : List Object). slice_get os m) (objects_planned run ws)) ∙ at) in
+      by_flag m named.0 o stills (slice_get stills m) named.1 zip refl i d lt set
+
+-- ---- as they are made
+
+pub set_of : (run : Run) (n : List ℕ) (ws : Walked) (file : List ℕ) → IsRun run → IsCandidate run n → walk_in run.known.now n ≡ Ok ws → prelinked run n ≡ Some file → are_set (planned_firms run ws) ≡ true
+set_of run n ws file is candidate known made = set_by (planned_firms run ws) file (sources_are run n ws is candidate known) (walk_prelinked run n ws is known ∙ made)
+  where
+    set_by : (rs : List Firm) (part : List ℕ) → AreSources rs → form.prelinked (members rs) ≡ Some part → are_set rs ≡ true
+    unfolding form.prelinked
+    set_by rs part are made = (when_some (are_set rs) (form.stored (form.file_of rs)) part (sym (ap form.of_firm (firm_all rs are)) ∙ made)).0
+
+pub still_made : (run : Run) (s : LibraryStill) (ws : Walked) (l : Link) (file : List ℕ) → IsLinkOf run.known.now s.name.now l → prelinked run s.name.now ≡ Some file → walk_in run.known.now s.name.now ≡ Ok ws → is_library (kind_of ws) ≡ true
+    → AreHeldIn (planned_firms run ws) file l.closed s.flags → IsStill run s
+still_made run s ws l file link made walk library held =
+    let same : ws ≡ link.is.own = ok_same ws link.is.own (sym walk ∙ ap (walk_in run.known.now) (sym link.named) ∙ link.is.walks) in
+    record {
+      link = l;
+      known_by = link;
+      library = subst (λ (w : Walked). is_library (kind_of w) ≡ true) same library;
+      file = file;
+      made = made;
+      held = subst (λ (w : Walked). AreHeldIn (planned_firms run w) file l.closed s.flags) same held;
+    }

@@ -1,0 +1,12 @@
+use Rattle.pl_rewrite.proofs.rewriting.programs_with.Goals as goal
+
+pub programs_with_still-requires-clause-run : goal.programs_with_still-requires-clause-run
+programs_with_still-requires-clause-run c = record {
+  taken = c.requires.run.taken;
+  knows = c.requires.run.knows;
+  standings = c.requires.run.standings;
+  stale = c.requires.run.stale;
+  checksums = c.requires.run.checksums;
+  libraries = c.requires.libraries;
+  still = c.requires.run.still;
+}
