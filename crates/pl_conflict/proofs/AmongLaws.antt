@@ -31,12 +31,12 @@ use Rattle.pl_conflict.specs.declared.among.Still.{Still}
 
 -- ---- lists
 
-without_append : {X : Type 0} (P : X → Type 0) (as bs cs ds : List X) → Without P as bs → Without P cs ds → Without P (as ++ cs) (bs ++ ds)
+without_append : {X : Type 0} (P : X → Type 0) (xs ys us vs : List X) → Without P xs ys → Without P us vs → Without P (xs ++ us) (ys ++ vs)
 unfolding Without
-without_append {X = X} P [] bs cs ds one two = subst (λ (ys : List X). Without P cs (ys ++ ds)) (sym one) two
-without_append {X = X} P (a ∷ as) bs cs ds one two = elim one [
-  | inl out ↦ inl (out.0, without_append P as bs cs ds out.1 two)
-  | inr kept ↦ inr (kept.0 ++ ds, (ap (λ (ys : List X). ys ++ ds) kept.1.0, without_append P as kept.0 cs ds kept.1.1 two))
+without_append {X = X} P [] ys us vs one two = subst (λ (zs : List X). Without P us (zs ++ vs)) (sym one) two
+without_append {X = X} P (x ∷ xs) ys us vs one two = elim one [
+  | inl out ↦ inl (out.0, without_append P xs ys us vs out.1 two)
+  | inr kept ↦ inr (kept.0 ++ vs, (ap (λ (zs : List X). zs ++ vs) kept.1.0, without_append P xs kept.0 us vs kept.1.1 two))
 ]
 
 without_nothing : {X : Type 0} (P : X → Type 0) → Without P [] []
@@ -118,46 +118,50 @@ pub start_is : (os : List Object) (places : List ℕ) (tls : List Module) (m : �
 unfolding meaning
 start_is os places tls m r g e = start_by places (row m r) (value_of os places tls m r) g e
 
+member_by : (places : List ℕ) (x : Row) (v : Result Word LinkFault) (g : Meaning) → (v >>= λ word. Ok (given places x word)) ≡ Ok g → g.member ≡ x.member
+member_by places x (Ok w) g e = ap (λ (h : Meaning). h.member) (sym (ok_same (given places x w) g e))
+member_by places x (Err fault) g e = absurd cc
+
+pub member_is : (os : List Object) (places : List ℕ) (tls : List Module) (m : ℕ) (r : Reloc) (g : Meaning) → meaning os places tls (row m r) ≡ Ok g → g.member ≡ m
+unfolding meaning
+member_is os places tls m r g e = member_by places (row m r) (value_of os places tls m r) g e
+
 -- ---- the relocations of a member
 
 pub some_of : (rs : List Reloc) (i : ℕ) → i < length rs → Reloc
 some_of [] i lt = absurd (omega (arith, lt))
 some_of (r ∷ rs) i lt = r
 
+abbrev pub Loop : List Object → List ℕ → List Module → ℕ → List Reloc → Option Still → List Window → ℕ → List Meaning → List Meaning → Type 0
+Loop os places tls m rs still windows i before after = SoFar (IsPassedOf os places tls m rs still windows) (meaning os places tls) (map (row m) rs) i before after
+
 module _ (os : List Object) (places : List ℕ) (tls : List Module) (m : ℕ) (rs : List Reloc) (still : Option Still) (windows : List Window) where
-  Passed : Meaning → Type 0
-  Passed = IsPassedOf os places tls m rs still windows
-
-  pub Loop : ℕ → List Meaning → List Meaning → Type 0
-  Loop i before after = SoFar (IsPassedOf os places tls m rs still windows) (meaning os places tls) (map (row m) rs) i before after
-
-  pub loop_begin : (before : List Meaning) → Loop 0 before before
+  pub loop_begin : (before : List Meaning) → Loop os places tls m rs still windows 0 before before
   loop_begin before = begin (IsPassedOf os places tls m rs still windows) (meaning os places tls) (map (row m) rs) before
 
   row_at : (i : ℕ) (d : Reloc) (y : Result Meaning LinkFault) → i < length rs → meaning os places tls (row m (get_or rs i d)) ≡ y → meaning os places tls (get_or (map (row m) rs) i (row m d)) ≡ y
   row_at i d y lt h = ap (meaning os places tls) (get_or-map (row m) rs i d (row m d) lt) ∙ h
 
-  pub loop_past : (i : ℕ) (before after : List Meaning) → i < length rs → ValuesOf os places tls m rs still → FlagOf still i → ((d : Reloc) → IsFar windows (plus (base_of places m) (get_or rs i d).address)) → Loop i before after → Loop (i + 1) before after
-  loop_past i before after lt known set far s =
-      let d = some_of rs i lt in
+  pub loop_past : (i : ℕ) (d : Reloc) (start : ℕ) (before after : List Meaning) → i < length rs → ValuesOf os places tls m rs still → FlagOf still i → start ≡ plus (base_of places m) (get_or rs i d).address → IsFar windows start → Loop os places tls m rs still windows i before after → Loop os places tls m rs still windows (i + 1) before after
+  loop_past i d start before after lt known set place far s =
       let v = known i d lt set in
       past (IsPassedOf os places tls m rs still windows) (meaning os places tls) (map (row m) rs) i (row m d) v.0 before after (omega (arith, lt, length-map rs (row m))) (row_at i d (Ok v.0) lt v.1) (record {
         index = i;
         within = lt;
         set = set;
         gives = λ e. ap (λ (r : Reloc). meaning os places tls (row m r)) (get_or_default rs i e d lt) ∙ v.1;
-        far = subst (IsFar windows) (sym (start_is os places tls m (get_or rs i d) v.0 v.1)) (far d);
+        far = subst (IsFar windows) (place ∙ sym (start_is os places tls m (get_or rs i d) v.0 v.1)) far;
       }) s
 
-  pub loop_more : (i : ℕ) (d : Reloc) (y : Meaning) (before after new : List Meaning) → i < length rs → Ok y ≡ meaning os places tls (row m (get_or rs i d)) → new ≡ after ++ y ∷ [] → Loop i before after → Loop (i + 1) before new
+  pub loop_more : (i : ℕ) (d : Reloc) (y : Meaning) (before after new : List Meaning) → i < length rs → Ok y ≡ meaning os places tls (row m (get_or rs i d)) → new ≡ after ++ y ∷ [] → Loop os places tls m rs still windows i before after → Loop os places tls m rs still windows (i + 1) before new
   loop_more i d y before after new lt h is s =
       more (IsPassedOf os places tls m rs still windows) (meaning os places tls) (map (row m) rs) i (row m d) y before after new (omega (arith, lt, length-map rs (row m))) (row_at i d (Ok y) lt (sym h)) is s
 
-  pub loop_stops : (i : ℕ) (d : Reloc) (e : LinkFault) (before after : List Meaning) → i < length rs → Err e ≡ meaning os places tls (row m (get_or rs i d)) → Loop i before after → each (meaning os places tls) (map (row m) rs) ≡ Err e
+  pub loop_stops : (i : ℕ) (d : Reloc) (e : LinkFault) (before after : List Meaning) → i < length rs → Err e ≡ meaning os places tls (row m (get_or rs i d)) → Loop os places tls m rs still windows i before after → each (meaning os places tls) (map (row m) rs) ≡ Err e
   loop_stops i d e before after lt h s =
       each_stops (meaning os places tls) (map (row m) rs) i (row m d) s.front e (each (meaning os places tls) (map (row m) rs)) (omega (arith, lt, length-map rs (row m))) (row_at i d (Err e) lt (sym h)) s.rest
 
-  pub loop_done : (i : ℕ) (before after : List Meaning) → length rs ≤ i → Loop i before after → Adds os places tls m rs still windows before after
+  pub loop_done : (i : ℕ) (before after : List Meaning) → length rs ≤ i → Loop os places tls m rs still windows i before after → Adds os places tls m rs still windows before after
   loop_done i before after le s = record {
     all = s.front;
     given = each_done (meaning os places tls) (map (row m) rs) i s.front (each (meaning os places tls) (map (row m) rs)) (omega (arith, le, length-map rs (row m))) s.rest;
@@ -251,8 +255,7 @@ held_more os places file closed rs index e flags new flag so_far is one = record
     | inl before ↦ so_far.held i d lt before
     | inr last ↦
         let at : index ≡ i = sym so_far.count ∙ sym last.0 in
-        let both = OnTrue_at last.1 one in
-        (
+        let both = OnTrue_at last.1 one in (
           ap (slice_get closed) (sym at) ∙ both.0,
           subst (IsHeld os places file) (ap (λ (n : ℕ). get_or rs n e) at ∙ get_or_default rs i e d lt) both.1,
         )

@@ -1,5 +1,5 @@
 // The meanings of a scope without those that are known to matter nowhere.
-ghost use Rattle.std.specs.Prelude.{◌≡◌, ◌<◌, length, map, Err, IfOk, IfErr, OnOk};
+ghost use Rattle.std.specs.Prelude.{◌≡◌, ◌<◌, length, map, slice_get, Err, IfOk, IfErr, OnOk};
 ghost use Rattle.std.specs.Bool.{OnTrue};
 ghost use Rattle.std.specs.List.{All, list_any};
 ghost use Rattle.std.specs.Option.{option_map};
@@ -92,13 +92,9 @@ fn is_near(windows: &[Window], start: u64) -> bool
 }
 
 /// Whether a relocation of an index is passed by.
-fn is_passed(
-    still: Option<&Still<'_>>,
-    index: usize,
-    windows: &[Window],
-    start: u64,
-) -> bool
-    ensures { OnTrue result (spec.FlagOf (option_map (λ s. s.now) still) index × spec.IsFar windows.now start) }
+fn is_passed(still: Option<&Still<'_>>, index: usize, windows: &[Window], start: u64) -> bool
+    ensures { OnTrue result (spec.FlagOf (option_map (λ s. s.now) still.entry) index
+        × spec.IsFar windows.now start) }
 {
     is_flagged(still, index) && !is_near(windows, start)
 }
@@ -120,7 +116,7 @@ fn add_open(
     requires known { spec.ValuesOf (objects scope.now) places.now tls.now member relocs.now
         (option_map (λ s. s.now) still) }
     ensures added { OnOk result (spec.Adds (objects scope.now) places.now tls.now member relocs.now
-        (option_map (λ s. s.now) still) windows.now meanings.old meanings.new) }
+        (option_map (λ s. s.now) still.entry) windows.now meanings.old meanings.new) }
     ensures refused { IfErr result (λ fault. Answers value.is_memory (Err fault)
         (because Link (each (value.meaning (objects scope.now) places.now tls.now)
         (map (value.row member) relocs.now)))) }
@@ -133,6 +129,16 @@ fn add_open(
         }
     }
     Ok(())
+}
+
+/// The flags of a member.
+fn flags_at<'s, 'a>(still: &'s [Still<'a>], member: u32) -> Option<&'s Still<'a>>
+    ensures { option_map (λ s. s.now) result ≡ slice_get still.now member }
+{
+    match still.get(member as usize) {
+        None => None,
+        Some(flags) => Some(flags),
+    }
 }
 
 /// What all relocations of a scope give, in their order, as `meanings` of pl_value has it, but for those whose flags in `still` are set and whose words lie far from windows: there is one row of flags for each member. Each other one is looked up by itself. Else the first of all that has no value, or NoMemory.
@@ -156,8 +162,17 @@ pub fn meanings_among(
     let mut meanings = Rows::new(alloc);
     for member in 0..scope.count() {
         let relocs = scope.object(member).relocations.as_slice();
-        let flags = still.get(member as usize);
-        add_open(scope, places, tls, member, relocs, flags, windows, &mut meanings)?;
+        let flags = flags_at(still, member);
+        add_open(
+            scope,
+            places,
+            tls,
+            member,
+            relocs,
+            flags,
+            windows,
+            &mut meanings,
+        )?;
     }
     Ok(meanings)
 }

@@ -6,3 +6,4 @@ pub mod ProgramLaws
 pub mod LibraryLaws
 pub mod WholeLaws
 pub mod WatchedLaws
+pub mod HeldLaws

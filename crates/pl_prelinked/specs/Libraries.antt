@@ -22,6 +22,10 @@ pub record IsLibraryWalk (rs : List Firm) : Type 0 where
   pub numbers : All HasNumbers rs
   pub names : list_all has_valid_name (drop 1 rs) ≡ true
 
+-- a member is the first
+abbrev pub BeginsWith : List Firm → Firm → Type 0
+BeginsWith all r = (rs : List Firm) × (all ≡ r ∷ rs)
+
 -- flags tell of the relocations of a library, the first of members, that its file holds their words at its slot
 abbrev pub AreHeldIn : List Firm → List ℕ → List Bool → List Bool → Type 0
 AreHeldIn [] file closed flags = flags ≡ []

@@ -1,7 +1,7 @@
 // Which relocations of a library are known to matter nowhere else.
 ghost use Rattle.std.specs.Prelude.{◌≡◌, true, IfOk};
 ghost use Rattle.pl_conflict.specs.Prelinked.{are_set};
-ghost use Rattle.pl_prelinked.specs.Libraries.{AreHeldIn};
+ghost use Rattle.pl_prelinked.specs.Libraries.{AreHeldIn, BeginsWith};
 ghost use Rattle.pl_prelinked.specs.Sources.{AreSources};
 
 use crate::Source;
@@ -11,6 +11,25 @@ use pl_conflict::still_of;
 use pl_image::load_object;
 use pl_io::NoMemory;
 use std::alloc::Global;
+
+/// The flags by the file of the first of members.
+fn still_first(
+    alloc: Global,
+    sources: &[Source<'_>],
+    library: &Source<'_>,
+    file: &[u8],
+    closed: &[bool],
+) -> Result<Rows<bool>, NoMemory>
+    requires sources { AreSources sources.now }
+    requires set { are_set sources.now ≡ true }
+    requires first { BeginsWith sources.now library.now }
+    ensures { IfOk result (AreHeldIn sources.now file.now closed.now) }
+{
+    let scope = scope_of(alloc, sources)?;
+    let places = places_of(alloc, sources)?;
+    let loaded = load_object(alloc, library.object, file, library.slot)?;
+    still_of(alloc, &scope, &places, &[loaded], closed)
+}
 
 /// For each relocation of the first of members, a library, in their order, whether its flag in `closed` is set and it gives a word that the library's file holds at its slot, or nothing.
 ///
@@ -28,8 +47,5 @@ pub fn still_words(
     let [library, ..] = sources else {
         return Ok(Rows::new(alloc));
     };
-    let scope = scope_of(alloc, sources)?;
-    let places = places_of(alloc, sources)?;
-    let loaded = load_object(alloc, library.object, file, library.slot)?;
-    still_of(alloc, &scope, &places, &[loaded], closed)
+    still_first(alloc, sources, library, file, closed)
 }

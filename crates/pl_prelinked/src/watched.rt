@@ -33,10 +33,12 @@ fn source_of(scope: &Scope<'_>, places: &Places, reloc: &Reloc) -> Option<Window
         return None;
     }
     match meaning_of(scope, places, &[], 0, reloc) {
-        Ok(Meaning {
-            word: Word::Copy { from, bytes, .. },
-            ..
-        }) => Some(Window::new(u128::from(from), bytes)),
+        Ok(
+            Meaning {
+                word: Word::Copy { from, bytes, .. },
+                ..
+            },
+        ) => Some(Window::new(u128::from(from), bytes)),
         _ => None,
     }
 }
@@ -110,5 +112,7 @@ pub fn are_watched(windows: &[Window], relocs: &[Reloc], meanings: &[Meaning]) -
     ensures { result ≡ spec.are_watched windows.now relocs.now meanings.now }
 {
     relocs.iter().all(|reloc| is_place_watched(windows, reloc))
-        && meanings.iter().all(|meaning| is_source_watched(windows, meaning))
+        && meanings
+            .iter()
+            .all(|meaning| is_source_watched(windows, meaning))
 }

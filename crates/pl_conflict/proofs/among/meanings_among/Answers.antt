@@ -15,16 +15,16 @@ add_open-requires-clause-references c =
 
 pub add_open-requires-clause-known : goal.add_open-requires-clause-known
 add_open-requires-clause-known c =
-    rw (c.as_slice-relocs.ensures, c.get-flags.ensures) (c.requires.known c.loop-member.member c.object.result.now c.object.ensures.object)
+    rw (c.as_slice-relocs.ensures, c.flags_at-flags.ensures) (c.requires.known c.loop-member.member c.object.result.now c.object.ensures.object)
 
 pub loop-member-preserved : goal.loop-member-preserved
 loop-member-preserved c =
-    let adds = rw (c.as_slice-relocs.ensures, c.get-flags.ensures) at c.in_ok-add_open.ensures.added in
+    let adds = rw (c.as_slice-relocs.ensures, c.flags_at-flags.ensures) at c.in_ok-add_open.ensures.added in
     gather_more (objects c.args.scope.now) c.args.places.now c.args.tls.now c.args.still.now c.args.windows.now c.loop-member.member c.object.result.now _ _ c.object.ensures.object adds c.loop-member.invariant
 
 pub returns-in_err-add_open-clause-refused : goal.returns-in_err-add_open-clause-refused
 returns-in_err-add_open-clause-refused c =
-    let p = err_from_is_err_and c.from_residual-in_err-add_open.result c.from_residual-in_err-add_open.ensures.1 in
+    let p = err_from_is_err_and c.from_residual.result c.from_residual.ensures.1 in
     let stop = rw c.as_slice-relocs.ensures at c.in_err-add_open.ensures.refused in
     rw (p.1, p.2) (gather_stops (objects c.args.scope.now) c.args.places.now c.args.tls.now c.args.still.now c.args.windows.now c.loop-member.member c.object.result.now _ _ c.object.ensures.object stop c.loop-member.invariant)
 
