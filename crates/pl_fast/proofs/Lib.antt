@@ -1,0 +1,6 @@
+pub mod TakenLaws
+pub mod PlaceLaws
+pub mod FastLaws
+pub mod SetLaws
+pub mod RunLaws
+pub mod DemoLaws
