@@ -36,6 +36,7 @@ use Rattle.pl_sound.specs.Rule.{Files, mark_at}
 use Rattle.pl_sound.proofs.Matching.{Matches, rule_in}
 use Rattle.pl_words.specs.declared.command.Policy.TheVariants.{Lowest}
 use Rattle.pl_fast.specs.Demo.{DemoLoadsAreFast, IsPrelinkable, IsReady, made}
+use Rattle.pl_fast.proofs.FreeLaws.{off_is_clear}
 use Rattle.pl_fast.proofs.RunLaws.{prelinked_fast}
 
 -- ---- a folder without marks keeps the rule
@@ -77,9 +78,12 @@ all_count p (n ∷ ns) each = rw (each n (has_head n ns), all_count p ns (λ m t
 each_fast : (number : ℕ) → IsPrelinkable number → (n : List ℕ) → has (programs number) n ≡ true → is_fast (cli.load (folder number) n) ≡ true
 each_fast number is n there =
     let r : IsReady number n = is.programs n there in
+    let keeps = none_matches (made number) is.bare in
+    let changes = changes_are (made number) is.rows is.runs in
     let same : folder number ≡ with_rows is.rows (made number) = folder_is number is.rows is.runs in
-    prelinked_fast (made number) (folder number) ASKED is.rows Lowest None n (none_matches (made number) is.bare) (changes_are (made number) is.rows is.runs)
-    (λ m. ap (λ (files : base.Files). get files m) same ∙ rows_get 0 is.rows (made number) m) r.prelinked r.program r.free
+    let are : (m : List ℕ) → get (folder number) m ≡ applied is.rows (get (made number)) m = λ m. ap (λ (files : base.Files). get files m) same ∙ rows_get 0 is.rows (made number) m in
+    prelinked_fast (made number) (folder number) ASKED is.rows Lowest None n keeps changes are r.prelinked r.program
+    (off_is_clear (made number) (folder number) ASKED is.rows n keeps changes are r.prelinked r.program r.off)
 
 pub demo_fast : DemoLoadsAreFast
 unfolding fast_loads

@@ -3,4 +3,5 @@ pub mod PlaceLaws
 pub mod FastLaws
 pub mod SetLaws
 pub mod RunLaws
+pub mod FreeLaws
 pub mod DemoLaws

@@ -14,7 +14,8 @@ use Rattle.pl_batch.specs.Folder.{named}
 use Rattle.pl_batch.specs.declared.prelinking.Prelinking.{Prelinking}
 use Rattle.pl_cli.specs.Files.{valid_file}
 use Rattle.pl_cone.specs.Current.{slot_of}
-use Rattle.pl_conflict.specs.Format.{Rule, format}
+use Rattle.pl_cone.specs.declared.skip.Skip.{Skip}
+use Rattle.pl_conflict.specs.Format.{Rule, format, slot_at}
 use Rattle.pl_conflict.specs.Prelinked as prelinked
 use Rattle.pl_conflict.specs.Prelinked.{library_file}
 use Rattle.pl_conflict.proofs.FormatLaws.{format_kept}
@@ -40,8 +41,9 @@ use Rattle.pl_scope.proofs.ClosureLaws.{WalkTells, member_walk, walk_is}
 use Rattle.pl_scope.proofs.NameLaws.{has_head, has_tail}
 use Rattle.pl_scope.proofs.StepLaws.{walk_local, walk_short, walk_there}
 use Rattle.pl_scope.proofs.WalkedLaws.{member_file, walk_distinct}
-use Rattle.pl_sound.specs.Plan.{Plan, is_candidate, planned_in}
-use Rattle.pl_sound.specs.Rule.{Files, Format, is_marked, mark_at, matches, objects, of_walk, row_at, row_of, walk_in}
+use Rattle.pl_sound.specs.Plan.{Plan, for_library, is_candidate, planned_in}
+use Rattle.pl_sound.specs.Rule as rule
+use Rattle.pl_sound.specs.Rule.{Files, Format, Mark, is_marked, mark_at, matches, objects, of_walk, row_at, row_of, walk_in}
 use Rattle.pl_sound.proofs.BookLaws.{marked_at}
 use Rattle.pl_sound.proofs.Matching.{Matches, rule_in, tells_back}
 use Rattle.pl_sound.proofs.PlanLaws as sound
@@ -198,13 +200,50 @@ module _ (old view : Files) (region : Range) (p : Planned) (is : (n : List ℕ) 
     pub prelinked_matches : matches f view n ≡ true
     prelinked_matches = tells_back f view n own_matches
 
+    -- ---- a library of it, after the run
+
+    inside_of : (m : List ℕ) → has (names tells.rest) m ≡ true → has (names ws) m ≡ true
+    inside_of m there = other_is (objects f old) n m ws tells (subst (λ (vs : Walked). has (others vs) m ≡ true) (sym tells.is) there)
+
+    pub library_candidate : (m : List ℕ) → has (names tells.rest) m ≡ true → is_candidate f (fit_in region) old m ≡ true
+    library_candidate m there = candidate_member f (fit_in region) old n m ws (is_made n marked).0 walks (inside_of m there)
+
+    -- it bears the planned slot
+    pub library_slot : (m : List ℕ) (o : Object) → has (names tells.rest) m ≡ true → objects f old m ≡ Ok o → is_library o.kind ≡ true → slot_at skip_causes view m ≡ slot_of p.slots m
+    library_slot m o there at library =
+        let own : IsMade m = library_made m there in
+        ap (λ (g : Option (List ℕ)). rule.slot_of (mark_at f g)) own.there
+        ∙ (ap (λ (k : Option Mark). rule.slot_of k) (made_is m own).mark
+        ∙ (ap (λ (r : Result Object Skip). for_library r (slot_of p.slots m)) at ∙ ap (λ (b : Bool). if b then slot_of p.slots m else 0) library))
+
+    -- the walk, as the files after the run have it
+    pub record IsWalkAfter : Type 0 where
+      pub object : Object
+      pub rest : Walked
+      pub walks : walk_in f view n ≡ Ok ((n, object) ∷ rest)
+      pub have : All (HasObject skip_causes old plan) rest
+      pub libraries : All (HasLibrary skip_causes old plan) rest
+      pub candidates : (m : List ℕ) → has (names rest) m ≡ true → is_candidate f (fit_in region) old m ≡ true
+      pub slots : (m : List ℕ) (o : Object) → has (names rest) m ≡ true → objects f old m ≡ Ok o → is_library o.kind ≡ true → slot_at skip_causes view m ≡ slot_of p.slots m
+
+    pub walk_after : IsWalkAfter
+    walk_after = record {
+      object = tells.object;
+      rest = tells.rest;
+      walks = own_matches.walks ∙ ap (λ (vs : Walked). Ok vs) tells.is;
+      have = rest_objects;
+      libraries = are_libraries tells.rest rest_objects tells.libraries;
+      candidates = library_candidate;
+      slots = library_slot;
+    }
+
 -- ---- a run of a command
 
 no_file : (o : Option (List ℕ)) → is_some o ≡ false → o ≡ None
 no_file None e = refl
 no_file (Some file) e = absurd (true≢false e)
 
-after_next : (files after : base.Files) (p : Prelinking) (rows : List Change) (h : HasNext files p (applied rows (get files))) → ((n : List ℕ) → get after n ≡ applied rows (get files) n) → (n : List ℕ) → valid_file after n ≡ next (named files) p.region h.plan n
+pub after_next : (files after : base.Files) (p : Prelinking) (rows : List Change) (h : HasNext files p (applied rows (get files))) → ((n : List ℕ) → get after n ≡ applied rows (get files) n) → (n : List ℕ) → valid_file after n ≡ next (named files) p.region h.plan n
 after_next files after p rows h are n = by_name (is_valid_name n) refl
   where
     by_name : (b : Bool) → is_valid_name n ≡ b → (if is_valid_name n then get after n else None) ≡ next (named files) p.region h.plan n
@@ -215,8 +254,8 @@ after_next files after p rows h are n = by_name (is_valid_name n) refl
         ap (λ (b : Bool). if b then get after n else None) invalid ∙ sym gone
 
 pub prelinked_fast : PrelinkedLoadsAreFast
-prelinked_fast files after p rows policy busy name rule changes are marked program free =
+prelinked_fast files after p rows policy busy name keeps changes are marked program free =
     let h : HasNext files p (applied rows (get files)) = gives_next files p rows changes in
-    let is : (n : List ℕ) → valid_file after n ≡ from_scratch (named files) p.region h.plan n = λ n. after_next files after p rows h are n ∙ next_is_from_scratch (named files) p.region h.plan rule n in
+    let is : (n : List ℕ) → valid_file after n ≡ from_scratch (named files) p.region h.plan n = λ n. after_next files after p rows h are n ∙ next_is_from_scratch (named files) p.region h.plan keeps n in
     matched_fast skip_causes after policy busy name (λ m match there. view_keeps (named files) (valid_file after) p.region h.plan is name m match there)
     (prelinked_matches (named files) (valid_file after) p.region h.plan is name marked program) program free

@@ -36,3 +36,7 @@ are_clear causes folder taken (Err e) = false
 -- no library that a program needs has, at its slot, an address that the program's file loads, or one that is busy
 unfoldable pub has_free_slots : {E : Type 0} → Causes E → Files → Option Range → List ℕ → Bool
 has_free_slots causes folder busy n = are_clear causes folder (loaded_by (file_at folder n) ++ kept_free busy) (walk_in (format causes) folder n)
+
+-- what a file loads has no address of a region
+abbrev pub keeps_off : Range → List ℕ → Bool
+keeps_off region file = list_all (misses region) (loaded_by file)

@@ -1,5 +1,5 @@
 -- Which programs start from the prelinked files as they stand.
-use Rattle.std.specs.Prelude.{◌≡◌, ℕ, true, List, Option, Ok}
+use Rattle.std.specs.Prelude.{◌≡◌, ℕ, true, List, Option, None, Ok}
 use Rattle.std.specs.FinMap.{get}
 use Rattle.pl_base.specs.Files.{Files}
 use Rattle.pl_batch.specs.Changes.{changes_of}
@@ -9,6 +9,7 @@ use Rattle.pl_batch.specs.declared.run.Run.TheVariants.{All}
 use Rattle.pl_cli.specs.Demo.{is_fast}
 use Rattle.pl_cli.specs.Files.{valid_file}
 use Rattle.pl_cli.specs.Load.{loaded}
+use Rattle.pl_conflict.specs.Complete.{file_at}
 use Rattle.pl_conflict.specs.Format.{Causes, Rule, RuleAt, format}
 use Rattle.pl_elf.specs.declared.range.Range.{Range}
 use Rattle.pl_journal.specs.Meaning.{applied}
@@ -16,7 +17,7 @@ use Rattle.pl_journal.specs.declared.change.Change.{Change}
 use Rattle.pl_known.specs.Skips.{skip_causes}
 use Rattle.pl_sound.specs.Rule.{is_marked, matches}
 use Rattle.pl_words.specs.declared.command.Policy.{Policy}
-use Rattle.pl_fast.specs.Clear.{IsProgram, has_free_slots}
+use Rattle.pl_fast.specs.Clear.{IsProgram, has_free_slots, keeps_off}
 
 -- a program whose list tells the files of its walk, by every policy, where the rule holds at it and its libraries' slots are free
 abbrev pub MatchedLoadsAreFast : Type 0 → Type 0
@@ -30,3 +31,10 @@ PrelinkedLoadsAreFast = (files after : Files) (p : Prelinking) (rows : List Chan
     → Rule skip_causes (named files) → changes_of files (All p) ≡ Ok rows → ((n : List ℕ) → get after n ≡ applied rows (get files) n)
     → is_marked (format skip_causes) (valid_file after) name ≡ true → IsProgram skip_causes (valid_file after) name
     → has_free_slots skip_causes (valid_file after) busy name ≡ true → is_fast (loaded policy busy after name) ≡ true
+
+-- the slots are free where the program's file, as it stands after the run, keeps off the region of the slots
+abbrev pub FilesOffTheRegionAreClear : Type 0
+FilesOffTheRegionAreClear = (files after : Files) (p : Prelinking) (rows : List Change) (name : List ℕ)
+    → Rule skip_causes (named files) → changes_of files (All p) ≡ Ok rows → ((n : List ℕ) → get after n ≡ applied rows (get files) n)
+    → is_marked (format skip_causes) (valid_file after) name ≡ true → IsProgram skip_causes (valid_file after) name
+    → keeps_off p.region (file_at (valid_file after) name) ≡ true → has_free_slots skip_causes (valid_file after) None name ≡ true
