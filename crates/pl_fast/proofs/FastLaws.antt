@@ -2,7 +2,6 @@
 use Rattle.std.proofs.Common.{◌≡◌, ℕ, suc, ◌<◌, Bool, true, false, List, [], ◌∷◌, ◌++◌, map, length, drop, Option, Some, None, Result, Ok, Err, refl, sym, ap, subst, ◌∙◌, arith, inl, inr}
 use Rattle.std.specs.Prelude.{◌&&◌, nat_eq, not, if◌then◌else◌}
 use Rattle.std.specs.List.{All, AllByRecursion, AllZip, flat_map, list_all}
-use Rattle.std.specs.FinMap.{get}
 use Rattle.std.specs.Option.{is_some}
 use Rattle.std.specs.Cmp.Lexicographic.{pointwise}
 use Rattle.std.proofs.lemmas.Bool.{and_from, and_parts, cases_Bool, false≢true}
@@ -10,18 +9,10 @@ use Rattle.std.proofs.lemmas.Bool.Decides.{nat_tests}
 use Rattle.std.proofs.lemmas.List.{length-map}
 use Rattle.std.proofs.lemmas.List.Elements.{All-head, All-tail}
 use Rattle.std.proofs.lemmas.Option.{none-some, same_Some}
-use Rattle.pl_base.specs.Answers.{◌>>=◌, because, unless}
-use Rattle.pl_base.specs.Files as base
+use Rattle.pl_base.specs.Answers.{◌>>=◌, because}
 use Rattle.pl_base.specs.Memory.{Memory}
-use Rattle.pl_base.specs.Names.{is_valid_name}
 use Rattle.pl_base.specs.Windows.{Window, any_share}
 use Rattle.pl_base.proofs.AnswerLaws.{ok_same}
-use Rattle.pl_cli.specs.Demo.{is_fast}
-use Rattle.pl_cli.specs.Files as cli
-use Rattle.pl_cli.specs.Files.{valid_file}
-use Rattle.pl_cli.specs.Load.{choice, loaded}
-use Rattle.pl_cli.specs.declared.cause.Cause.{Cause}
-use Rattle.pl_cli.specs.declared.cause.Cause.TheVariants as cause
 use Rattle.pl_conflict.specs.Complete.{file_at}
 use Rattle.pl_conflict.specs.Format as format
 use Rattle.pl_conflict.specs.Format.{Causes, RuleAt, others_in, slot_at}
@@ -43,7 +34,6 @@ use Rattle.pl_loader.specs.Fast.{fast_image, stored_by}
 use Rattle.pl_loader.specs.Loading.{IsLibrary}
 use Rattle.pl_loader.specs.Places.{kept_free, load_range, misses, places, slot_by, taken, taken_first, segments_by}
 use Rattle.pl_loader.specs.Started.{Start, block_of, blocks, imaged, linked, load, modules_of, start, start_at, started}
-use Rattle.pl_loader.specs.Walk.{files as files_in_walk}
 use Rattle.pl_loader.specs.declared.fault.LoadFault.{LoadFault}
 use Rattle.pl_loader.specs.declared.object_file.Mark.{Mark}
 use Rattle.pl_loader.specs.declared.object_file.ObjectFile.{ObjectFile}
@@ -65,11 +55,9 @@ use Rattle.pl_sound.proofs.RuleLaws.{first_is, is_other}
 use Rattle.pl_tls.specs.Layout.{offsets}
 use Rattle.pl_tls.specs.declared.block.Block.{Block}
 use Rattle.pl_tls.specs.declared.module.Module.{Module}
-use Rattle.pl_words.specs.declared.command.Policy.{Policy}
 use Rattle.pl_fast.specs.Clear.{IsProgram, are_clear, at_slot, has_free_slots, is_clear, loaded_by}
-use Rattle.pl_fast.specs.Laws.{MatchedLoadsAreFast}
 use Rattle.pl_fast.proofs.PlaceLaws.{HasSlot, IsFree, slots_are_places, tail_apart, window}
-use Rattle.pl_fast.proofs.TakenLaws.{AreMembers, load_takes, marked_there}
+use Rattle.pl_fast.proofs.TakenLaws.{AreMembers, IsTold, load_takes, marked_there}
 
 -- ---- one file
 
@@ -227,35 +215,22 @@ start_fast : (all : List ObjectFile) (at : List ℕ) (modules : List Module) (me
 unfolding start
 start_fast all at modules memory = refl
 
-valid_of : (files : base.Files) (n file : List ℕ) → valid_file files n ≡ Some file → is_valid_name n ≡ true
-valid_of files n file there = by_test (is_valid_name n) refl there
-  where
-    by_test : (b : Bool) → is_valid_name n ≡ b → (if b then get files n else None) ≡ Some file → is_valid_name n ≡ true
-    by_test true is e = is
-    by_test false is e = absurd (none-some file e)
-
 -- what is known of a program whose list tells the files of its walk
-record IsClear {E : Type 0} (causes : Causes E) (files : base.Files) (busy : Option Range) (name : List ℕ) : Type 0 where
-  rule : RuleAt causes (valid_file files) name
-  match : matches (format.format causes) (valid_file files) name ≡ true
-  program : IsProgram causes (valid_file files) name
-  free : has_free_slots causes (valid_file files) busy name ≡ true
+pub record IsClear {E : Type 0} (causes : Causes E) (folder : Files) (busy : Option Range) (name : List ℕ) : Type 0 where
+  pub rule : RuleAt causes folder name
+  pub match : matches (format.format causes) folder name ≡ true
+  pub program : IsProgram causes folder name
+  pub free : has_free_slots causes folder busy name ≡ true
 
--- the files of its load
-record AreFilesOf {E : Type 0} (causes : Causes E) (files : base.Files) (name : List ℕ) (program : ObjectFile) (fs : List ObjectFile) : Type 0 where
-  takes : AreTaken (valid_file files) cause.Load (cli.file_in files) name (program ∷ fs)
-  walks : walk_in (format.format causes) (valid_file files) name ≡ Ok (walk_of (program ∷ fs))
-  named : program.name ≡ name
-  first : IsTaken causes (valid_file files) name program
-  others : All (IsTaken causes (valid_file files) name) fs
-  kinds : All IsLibrary fs
+-- a load that is fast
+pub record IsFastLoad {G : Type 0} (r : Result Start G) : Type 0 where
+  pub start : Start
+  pub loads : r ≡ Ok start
+  pub fast : start.fast ≡ true
 
-module _ {E : Type 0} (causes : Causes E) (files : base.Files) (policy : Policy) (busy : Option Range) (name : List ℕ) (c : IsClear causes files busy name) where
+module _ {E G : Type 0} (causes : Causes E) (folder : Files) (fault : LoadFault → G) (file : List ℕ → Result (List ℕ) G) (told : IsTold folder file) (choose : Choice) (busy : Option Range) (name : List ℕ) (c : IsClear causes folder busy name) where
   abbrev f : sound.Format E
   f = format.format causes
-
-  abbrev folder : Files
-  folder = valid_file files
 
   matched : Matches f folder name
   matched = tells_is f folder name c.match
@@ -263,7 +238,7 @@ module _ {E : Type 0} (causes : Causes E) (files : base.Files) (policy : Policy)
   first_marked : is_marked f folder name ≡ true
   first_marked = ap (λ (g : Option (List ℕ)). is_some (mark_at f g)) matched.there ∙ ap (λ (k : Option sound.Mark). is_some k) matched.marked
 
-  are_members : AreMembers causes files name matched.walked
+  are_members : AreMembers causes folder name matched.walked
   are_members =
       let tells = walk_is causes.walk (objects f folder) name matched.walked matched.walks in
       record {
@@ -275,17 +250,26 @@ module _ {E : Type 0} (causes : Causes E) (files : base.Files) (policy : Policy)
         program = c.program;
       }
 
-  their_files : (all : List ObjectFile) → AreTaken folder cause.Load (cli.file_in files) name all → (b : Begins causes folder name all) → walk_in f folder name ≡ Ok (walk_of all) → AreFilesOf causes files name b.program b.libraries
+  -- the files of its load
+  record AreFilesOf (program : ObjectFile) (fs : List ObjectFile) : Type 0 where
+    takes : AreTaken folder fault file name (program ∷ fs)
+    walks : walk_in f folder name ≡ Ok (walk_of (program ∷ fs))
+    named : program.name ≡ name
+    first : IsTaken causes folder name program
+    libraries : All (IsTaken causes folder name) fs
+    kinds : All IsLibrary fs
+
+  their_files : (all : List ObjectFile) → AreTaken folder fault file name all → (b : Begins causes folder name all) → walk_in f folder name ≡ Ok (walk_of all) → AreFilesOf b.program b.libraries
   their_files all takes b walks = record {
-    takes = subst (λ (gs : List ObjectFile). AreTaken folder cause.Load (cli.file_in files) name gs) b.is takes;
+    takes = subst (λ (gs : List ObjectFile). AreTaken folder fault file name gs) b.is takes;
     walks = subst (λ (gs : List ObjectFile). walk_in f folder name ≡ Ok (walk_of gs)) b.is walks;
     named = b.named;
     first = b.first;
-    others = b.others;
+    libraries = b.others;
     kinds = b.kinds;
   }
 
-  module _ (program : ObjectFile) (fs : List ObjectFile) (are : AreFilesOf causes files name program fs) where
+  module _ (program : ObjectFile) (fs : List ObjectFile) (are : AreFilesOf program fs) where
     abbrev places_of : List ℕ
     places_of = 0 ∷ map (slot causes folder) fs
 
@@ -301,30 +285,26 @@ module _ {E : Type 0} (causes : Causes E) (files : base.Files) (policy : Policy)
     made : prelinked.prelinked (map (member_in causes folder) (names (walk_of (program ∷ fs)))) ≡ Some matched.file
     made =
         let tells = walk_is causes.walk (objects f folder) name matched.walked matched.walks in
-        let there : has (members_of matched.walked) name ≡ true = first_is (objects f folder) name matched.walked tells in
+        let there = first_is (objects f folder) name matched.walked tells in
         let rule : prelinked_in f folder name ≡ folder name = c.rule name c.match (ap (λ (ns : List (List ℕ)). has ns name) (members_are f folder name matched.walked matched.walks) ∙ there) in
-        sym (ap (of_walk f (member_in causes folder)) are.walks) ∙ rule ∙ matched.there
-      where
-        abbrev members_of : Walked → List (List ℕ)
-        members_of ws = names ws
+        sym (ap (of_walk f (member_in causes folder)) are.walks) ∙ (rule ∙ matched.there)
 
     ready : AreReady causes folder name program fs
-    ready = are_ready causes folder name program fs matched.file are.first not_library are.others are.kinds made
+    ready = are_ready causes folder name program fs matched.file are.first not_library are.libraries are.kinds made
 
     have_slots : AllByRecursion (HasSlot (slot causes folder)) fs
-    have_slots = all_slots causes folder name fs are.others are.kinds others_marked
+    have_slots = all_slots causes folder name fs are.libraries are.kinds others_marked
 
     are_free : AllByRecursion (IsFree (slot causes folder) (taken_first busy program)) fs
     unfolding has_free_slots
     are_free =
-        let all : List Range = loaded_by (file_at folder name) ++ kept_free busy in
-        let clear : are_clear causes folder all (Ok (walk_of (program ∷ fs))) ≡ true = sym (ap (are_clear causes folder all) are.walks) ∙ c.free in
+        let clear : are_clear causes folder (loaded_by (file_at folder name) ++ kept_free busy) (Ok (walk_of (program ∷ fs))) ≡ true = sym (ap (are_clear causes folder (loaded_by (file_at folder name) ++ kept_free busy)) are.walks) ∙ c.free in
         let marked : is_marked f folder program.name ≡ true = subst (λ (n : List ℕ). is_marked f folder n ≡ true) (sym are.named) first_marked in
         let own : taken program ≡ loaded_by (file_at folder name) = taken_is causes folder name program are.first marked ∙ ap (λ (n : List ℕ). loaded_by (file_at folder n)) are.named in
-        subst (λ (ts : List Range). AllByRecursion (IsFree (slot causes folder) (ts ++ kept_free busy)) fs) (sym own) (all_free causes folder all fs clear)
+        subst (λ (ts : List Range). AllByRecursion (IsFree (slot causes folder) (ts ++ kept_free busy)) fs) (sym own) (all_free causes folder (loaded_by (file_at folder name) ++ kept_free busy) fs clear)
 
-    placed : places (choice policy) busy (program ∷ fs) ≡ Ok places_of
-    placed = slots_are_places (slot causes folder) (choice policy) busy program fs have_slots are_free ready.apart
+    placed : places choose busy (program ∷ fs) ≡ Ok places_of
+    placed = slots_are_places (slot causes folder) choose busy program fs have_slots are_free ready.apart
 
     folder_fast : format.is_fast causes folder name places_of ≡ true
     unfolding format.is_fast
@@ -334,26 +314,21 @@ module _ {E : Type 0} (causes : Causes E) (files : base.Files) (policy : Policy)
         (ap (pointwise nat_eq (map (slot causes folder) fs)) same ∙ same_numbers causes folder (map (slot causes folder) fs))
 
     load_fast : loader.is_fast (program ∷ fs) places_of ≡ true
-    load_fast = paths_are_one causes folder cause.Load (cli.file_in files) name (program ∷ fs) places_of are.takes (ap suc (length-map fs (slot causes folder))) ∙ folder_fast
+    load_fast = paths_are_one causes folder fault file name (program ∷ fs) places_of are.takes (ap suc (length-map fs (slot causes folder))) ∙ folder_fast
 
-    loads_fast : is_fast (loaded policy busy files name) ≡ true
-    unfolding loaded load
-    loads_fast =
-        let begin = starts (choice policy) busy (program ∷ fs) ready.modules places_of ready.numbered placed load_fast in
-        let valid : is_valid_name name ≡ true = valid_of files name matched.file matched.there in
-        ap (λ (b : Bool). is_fast (unless (not b) cause.BadName (files_of_load >>= λ all. because cause.Load (started (choice policy) busy all)))) valid
-        ∙ ap (λ (r : Result (List ObjectFile) Cause). is_fast (r >>= λ all. because cause.Load (started (choice policy) busy all))) are.takes.walked
-        ∙ ap (λ (r : Result Start LoadFault). is_fast (because cause.Load r)) begin
-        ∙ start_fast (program ∷ fs) places_of ready.modules (byte_of (fast_image (program ∷ fs) places_of))
-        ∙ load_fast
-      where
-        abbrev files_of_load : Result (List ObjectFile) Cause
-        files_of_load = files_in_walk cause.Load (cli.file_in files) name
+    fast_start : IsFastLoad (load choose busy fault file name)
+    unfolding load
+    fast_start =
+        let begin = starts choose busy (program ∷ fs) ready.modules places_of ready.numbered placed load_fast in
+        record {
+          start = start (program ∷ fs) places_of ready.modules (byte_of (fast_image (program ∷ fs) places_of));
+          loads = ap (λ (r : Result (List ObjectFile) G). r >>= λ all. because fault (started choose busy all)) are.takes.walked ∙ ap (because fault) begin;
+          fast = start_fast (program ∷ fs) places_of ready.modules (byte_of (fast_image (program ∷ fs) places_of)) ∙ load_fast;
+        }
 
-pub matched_fast : {E : Type 0} → MatchedLoadsAreFast E
-matched_fast causes files policy busy name rule match program free =
-    let c : IsClear causes files busy name = record { rule = rule; match = match; program = program; free = free } in
-    let all = load_takes causes files name (matched causes files policy busy name c).walked (are_members causes files policy busy name c) in
-    let w = folder_walk causes (valid_file files) cause.Load (cli.file_in files) name all.0 all.1 in
-    let b = begins causes (valid_file files) name all.0 w in
-    loads_fast causes files policy busy name c b.program b.libraries (their_files causes files policy busy name c all.0 all.1 b w.walks)
+  pub loads_fast : IsFastLoad (load choose busy fault file name)
+  loads_fast =
+      let all = load_takes causes folder fault file told name matched.walked are_members in
+      let w = folder_walk causes folder fault file name all.0 all.1 in
+      let b = begins causes folder name all.0 w in
+      fast_start b.program b.libraries (their_files all.0 all.1 b w.walks)

@@ -1,4 +1,4 @@
-use Rattle.pl_fast.proofs.FastLaws.{matched_fast}
+use Rattle.pl_fast.proofs.AnswerLaws.{matched_fast}
 use Rattle.pl_fast.proofs.laws.matched_loads_are_fast.Goals as goal
 
 pub returns : goal.returns
