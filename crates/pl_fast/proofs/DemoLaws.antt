@@ -32,7 +32,7 @@ use Rattle.pl_journal.specs.declared.change.Change.{Change}
 use Rattle.pl_known.specs.Skips.{skip_causes}
 use Rattle.pl_scope.specs.Members.{has, names}
 use Rattle.pl_scope.proofs.NameLaws.{has_head, has_tail}
-use Rattle.pl_sound.specs.Rule.{Files, mark_at}
+use Rattle.pl_sound.specs.Rule.{Mark}
 use Rattle.pl_sound.proofs.Matching.{Matches, rule_in}
 use Rattle.pl_words.specs.declared.command.Policy.TheVariants.{Lowest}
 use Rattle.pl_fast.specs.Demo.{DemoLoadsAreFast, IsPrelinkable, IsReady, made}
@@ -58,7 +58,7 @@ none_matches files bare = rule_in (format skip_causes) (named files) (λ n h m t
     no_mark : (n : List ℕ) → Matches (format skip_causes) (named files) n → ⊥
     no_mark n h =
         let none : mark_in h.file ≡ None = unmarked h.file (bare n h.file (in_folder n h.file h.there)) in
-        false≢true (ap (λ k. is_some k) (sym none ∙ h.marked))
+        false≢true (ap (λ (k : Option Mark). is_some k) (sym none ∙ h.marked))
 
 -- ---- the run
 

@@ -13,7 +13,7 @@ use Rattle.pl_base.specs.Answers.{◌>>=◌, because}
 use Rattle.pl_base.specs.Memory.{Memory}
 use Rattle.pl_base.specs.Windows.{Window, any_share}
 use Rattle.pl_base.proofs.AnswerLaws.{ok_same}
-use Rattle.pl_conflict.specs.Complete.{file_at}
+use Rattle.pl_conflict.specs.Complete.{bytes_of, file_at}
 use Rattle.pl_conflict.specs.Format as format
 use Rattle.pl_conflict.specs.Format.{Causes, RuleAt, others_in, slot_at}
 use Rattle.pl_conflict.specs.Prelinked as prelinked
@@ -82,18 +82,14 @@ module _ {E : Type 0} (causes : Causes E) (folder : Files) where
   has_slot name f t library marked =
       let told : mark_at (format.format causes) (folder f.name) ≡ mark_by t.is.version f.mark = ap (mark_at (format.format causes)) t.there ∙ t.is.mark in
       let read : reads (original_in t.bytes) ≡ Ok f.object = read_is causes f.name (original_in t.bytes) f.object t.is.object in
-      record { slot = slot_told t.is.version (mark_at (format.format causes) (folder f.name)) f.mark told marked; some = (paged (original_in t.bytes) f.object read).some library }
+      record { bears = slot_told t.is.version (mark_at (format.format causes) (folder f.name)) f.mark told marked; some = (paged (original_in t.bytes) f.object read).some library }
 
   taken_is : (name : List ℕ) (f : ObjectFile) → IsTaken causes folder name f → IsMarkedFile f → taken f ≡ loaded_by (file_at folder f.name)
   unfolding taken
   taken_is name f t marked =
       let told : mark_at (format.format causes) (folder f.name) ≡ mark_by t.is.version f.mark = ap (mark_at (format.format causes)) t.there ∙ t.is.mark in
       headers_told t.is.version (mark_at (format.format causes) (folder f.name)) f.bytes t.bytes f.object.segments f.mark told marked t.is.stored
-      ∙ sym (ap loaded_by (ap (λ (g : Option (List ℕ)). bytes_in g) t.there))
-    where
-      abbrev bytes_in : Option (List ℕ) → List ℕ
-      bytes_in None = []
-      bytes_in (Some file) = file
+      ∙ sym (ap (λ (g : Option (List ℕ)). loaded_by (bytes_of g)) t.there)
 
   -- ---- its member of the set that is prelinked
 

@@ -125,37 +125,40 @@ module _ (old : Files) (region : Range) where
       by_kind true e = ap (λ (v : Want). v.name) (sym (same_Some (record { name = n; span = o.span; align = o.align }) w e))
       by_kind false e = absurd (none-some w e)
 
-  library_want : (m : List ℕ) (o : Object) → object_of m ≡ Ok o → is_library o.kind ≡ true → want_of m (object_of m) ≡ Some (record { name = m; span = o.span; align = o.align })
+  abbrev want_made : List ℕ → ℕ → ℕ → Want
+  want_made n span align = record { name = n; span = span; align = align }
+
+  library_want : (m : List ℕ) (o : Object) → object_of m ≡ Ok o → is_library o.kind ≡ true → want_of m (object_of m) ≡ Some (want_made m o.span o.align)
   library_want m o at library = ap (want_of m) at ∙ ap (λ (b : Bool). if b then Some (want_made m o.span o.align) else None) library
-    where
-      abbrev want_made : List ℕ → ℕ → ℕ → Want
-      want_made n span align = record { name = n; span = span; align = align }
 
-  slot_found : (ns : List (List ℕ)) (ss : List Slot) (m : List ℕ) (o : Object) → Within region (filter_map (λ n. want_of n (object_of n)) ns) ss → has ns m ≡ true → object_of m ≡ Ok o → is_library o.kind ≡ true → HasSlot region ss m o.span
+  abbrev wants_in : List (List ℕ) → List Want
+  wants_in ns = filter_map (λ n. want_of n (object_of n)) ns
+
+  later : (n m : List ℕ) (ns : List (List ℕ)) → has (n ∷ ns) m ≡ true → (n ≡ m → ⊥) → has ns m ≡ true
+  later n m ns there other = elim (has_cons n m ns there) [ inl e ↦ absurd (other e) | inr t ↦ t ]
+
+  -- one name more
+  one_found : (n : List ℕ) (ns : List (List ℕ)) (m : List ℕ) (o : Object) → object_of m ≡ Ok o → is_library o.kind ≡ true → has (n ∷ ns) m ≡ true → ((ts : List Slot) → Within region (wants_in ns) ts → has ns m ≡ true → HasSlot region ts m o.span)
+      → (want : Option Want) → want_of n (object_of n) ≡ want → (ts : List Slot) → Within region (cons_option want (wants_in ns)) ts → HasSlot region ts m o.span
+  one_found n ns m o at library there more None none ts serves =
+      more ts serves (later n m ns there (λ e. none-some (want_made m o.span o.align) (sym none ∙ subst (λ (k : List ℕ). want_of k (object_of k) ≡ Some (want_made m o.span o.align)) (sym e) (library_want m o at library))))
+  one_found n ns m o at library there more (Some w) is [] serves = absurd serves
+  one_found n ns m o at library there more (Some w) is (s ∷ ts) serves =
+      let name : s.name ≡ n = serves.0.0 ∙ named_want n (object_of n) w is in
+      elim (cases_Bool (bytes_eq s.name m)) [
+        | inl hit ↦
+            let same : n ≡ m = sym name ∙ same_name s.name m hit in
+            let own : want_of n (object_of n) ≡ Some (want_made m o.span o.align) = subst (λ (k : List ℕ). want_of k (object_of k) ≡ Some (want_made m o.span o.align)) (sym same) (library_want m o at library) in
+            let span : w.span ≡ o.span = ap (λ (v : Want). v.span) (same_Some w (want_made m o.span o.align) (sym is ∙ own)) in
+            record { slot = s; found = rw hit refl; large = omega (arith, serves.0.1, span); within = serves.0.2 }
+        | inr miss ↦
+            let rest = more ts serves.1 (later n m ns there (λ e. false≢true (sym miss ∙ (ap (λ (k : List ℕ). bytes_eq k m) (name ∙ e) ∙ eq_refl m)))) in
+            record { slot = rest.slot; found = rw miss rest.found; large = rest.large; within = rest.within }
+      ]
+
+  slot_found : (ns : List (List ℕ)) (ss : List Slot) (m : List ℕ) (o : Object) → Within region (wants_in ns) ss → has ns m ≡ true → object_of m ≡ Ok o → is_library o.kind ≡ true → HasSlot region ss m o.span
   slot_found [] ss m o serve there at library = absurd (false≢true there)
-  slot_found (n ∷ ns) ss m o serve there at library = by_want (want_of n (object_of n)) refl ss serve
-    where
-      later : (n ≡ m → ⊥) → has ns m ≡ true
-      later other = elim (has_cons n m ns there) [ inl e ↦ absurd (other e) | inr t ↦ t ]
-
-      here : (w : Want) → want_of n (object_of n) ≡ Some w → n ≡ m → w.span ≡ o.span
-      here w is e =
-          let own : want_of n (object_of n) ≡ Some (record { name = m; span = o.span; align = o.align }) = subst (λ (k : List ℕ). want_of k (object_of k) ≡ Some (record { name = m; span = o.span; align = o.align })) (sym e) (library_want m o at library) in
-          ap (λ (v : Want). v.span) (same_Some w (record { name = m; span = o.span; align = o.align }) (sym is ∙ own))
-
-      by_want : (want : Option Want) → want_of n (object_of n) ≡ want → (ts : List Slot) → Within region (cons_option want (filter_map (λ k. want_of k (object_of k)) ns)) ts → HasSlot region ts m o.span
-      by_want None none ts serves = slot_found ns ts m o serves (later (λ e. none-some (record { name = m; span = o.span; align = o.align }) (sym none ∙ subst (λ (k : List ℕ). want_of k (object_of k) ≡ Some (record { name = m; span = o.span; align = o.align })) (sym e) (library_want m o at library)))) at library
-      by_want (Some w) is [] serves = absurd serves
-      by_want (Some w) is (s ∷ ts) serves =
-          let name : s.name ≡ n = serves.0.0 ∙ named_want n (object_of n) w is in
-          elim (cases_Bool (bytes_eq s.name m)) [
-            | inl hit ↦
-                let same : n ≡ m = sym name ∙ same_name s.name m hit in
-                record { slot = s; found = rw hit refl; large = omega (arith, serves.0.1, here w is same); within = serves.0.2 }
-            | inr miss ↦
-                let rest = slot_found ns ts m o serves.1 (later (λ e. false≢true (sym miss ∙ (ap (λ (k : List ℕ). bytes_eq k m) (name ∙ e) ∙ eq_refl m)))) at library in
-                record { slot = rest.slot; found = rw miss rest.found; large = rest.large; within = rest.within }
-          ]
+  slot_found (n ∷ ns) ss m o serve there at library = one_found n ns m o at library there (λ ts more in_it. slot_found ns ts m o more in_it at library) (want_of n (object_of n)) refl ss serve
 
 -- ---- the planned slots
 
@@ -178,15 +181,15 @@ all_of (w ∷ ws) [] among = absurd among
 all_of (w ∷ ws) (n ∷ ns) (inl among) = All-cons Fits w ws among.1.0 (all_of ws ns among.1.1)
 all_of (w ∷ ws) (n ∷ ns) (inr among) = all_of (w ∷ ws) ns among
 
+abbrev plan_made : Files → List (List ℕ) → Asked → List Slot → ℕ → Planned
+plan_made old ns a rows stamp = record { standings = standings old a.region ns; slots = rows; stale = stale old a.region rows ns; stamp = stamp }
+
 planned_slots : (old : Files) (ns : List (List ℕ)) (a : Asked) (p : Planned) → planned old ns a ≡ Ok p → slots old ns a ≡ Ok p.slots
 unfolding planned
 planned_slots old ns a p e =
-    let q = bind_ok (slots old ns a) (λ rows. stamp_for old ns a (stale old a.region rows ns) >>= λ stamp. Ok (plan_made rows stamp)) p e in
-    let r = bind_ok (stamp_for old ns a (stale old a.region q.0 ns)) (λ stamp. Ok (plan_made q.0 stamp)) p q.2 in
-    q.1 ∙ ap (λ (x : Planned). Ok x.slots) (ok_same (plan_made q.0 r.0) p r.2)
-  where
-    abbrev plan_made : List Slot → ℕ → Planned
-    plan_made rows stamp = record { standings = standings old a.region ns; slots = rows; stale = stale old a.region rows ns; stamp = stamp }
+    let q = bind_ok (slots old ns a) (λ rows. stamp_for old ns a (stale old a.region rows ns) >>= λ stamp. Ok (plan_made old ns a rows stamp)) p e in
+    let r = bind_ok (stamp_for old ns a (stale old a.region q.0 ns)) (λ stamp. Ok (plan_made old ns a q.0 stamp)) p q.2 in
+    q.1 ∙ ap (λ (x : Planned). Ok x.slots) (ok_same (plan_made old ns a q.0 r.0) p r.2)
 
 -- a candidate that is a library has a slot in the region
 candidate_slot : (old : Files) (ns : List (List ℕ)) (a : Asked) (p : Planned) (m : List ℕ) (o : Object) → AreNames old ns → planned old ns a ≡ Ok p → is_candidate old a.region m ≡ true → objects (format skip_causes) old m ≡ Ok o → is_library o.kind ≡ true → HasSlot a.region p.slots m o.span

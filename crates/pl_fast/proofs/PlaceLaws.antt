@@ -14,6 +14,7 @@ use Rattle.pl_loader.specs.Places.{all_places, holes_beside, joined, misses, own
 use Rattle.pl_loader.specs.declared.object_file.ObjectFile.{ObjectFile}
 use Rattle.pl_place.specs.Placing.{chosen}
 use Rattle.pl_place.specs.Policy.{Choice}
+use Rattle.pl_place.specs.declared.fault.PlaceFault.{PlaceFault}
 use Rattle.pl_slots.specs.declared.slot.Want.{Want}
 
 all_append : {X : Type 0} (p : X → Bool) (xs : List X) (x : X) → list_all p xs ≡ true → p x ≡ true → list_all p (xs ++ x ∷ []) ≡ true
@@ -42,7 +43,7 @@ module _ (slot : ObjectFile → ℕ) where
 
   -- it bears that slot, and it is not empty
   pub record HasSlot (f : ObjectFile) : Type 0 where
-    pub slot : slot_of f ≡ Some (slot f)
+    pub bears : slot_of f ≡ Some (slot f)
     pub some : 0 < f.object.span
 
   -- none of its addresses is taken
@@ -65,7 +66,7 @@ module _ (slot : ObjectFile → ℕ) where
   own_are taken [] have free apart = refl
   own_are taken (f ∷ fs) have free apart =
       let q = or_parts (list_any (share (window f)) (map window fs)) (any_pair share (map window fs)) apart in
-      let here : own_place taken f ≡ Some (slot f) = ap (where_free taken f) have.0.slot ∙ ap (λ (b : Bool). if b then Some (slot f) else None) free.0 in
+      let here : own_place taken f ≡ Some (slot f) = ap (where_free taken f) have.0.bears ∙ ap (λ (b : Bool). if b then Some (slot f) else None) free.0 in
       let rest = own_are (taken ++ range f ∷ []) fs have.1 (more_taken taken f fs free.1 (one_apart f fs have.1 q.0)) q.1 in
       ap (λ (o : Option ℕ). o ∷ own_places (taken ++ own_range f o) fs) here ∙ ap (λ (os : List (Option ℕ)). Some (slot f) ∷ os) rest
 
@@ -91,6 +92,6 @@ module _ (slot : ObjectFile → ℕ) where
       let owns : owns_beside busy program fs ≡ map (λ f. Some (slot f)) fs = own_are (taken_first busy program) fs have free apart in
       let wants : wants_beside busy program fs ≡ [] = ap (wants_left fs) owns ∙ none_left fs in
       let starts : chosen choose (holes_beside busy program fs) (wants_beside busy program fs) ≡ Ok [] = ap (chosen choose (holes_beside busy program fs)) wants ∙ nothing_chosen choose (holes_beside busy program fs) in
-      ap (λ (r : Result (List ℕ) _). because of_place r >>= λ starts. Ok (all_places busy program fs starts)) starts
+      ap (λ (r : Result (List ℕ) PlaceFault). because of_place r >>= λ starts. Ok (all_places busy program fs starts)) starts
       ∙ ap (λ (os : List (Option ℕ)). Ok (0 ∷ joined os [])) owns
       ∙ ap (λ (ns : List ℕ). Ok (0 ∷ ns)) (joined_are fs)

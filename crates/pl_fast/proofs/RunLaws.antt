@@ -62,7 +62,7 @@ no_library kind is none = true≢false (sym (ap is_library is) ∙ none)
 
 -- files after a run over a folder's old ones
 module _ (old view : Files) (region : Range) (p : Planned) (is : (n : List ℕ) → view n ≡ from_scratch old region p n) where
-  abbrev f : Format _
+  abbrev f : Format Skip
   f = format skip_causes
 
   abbrev plan : Plan
@@ -184,15 +184,18 @@ module _ (old view : Files) (region : Range) (p : Planned) (is : (n : List ℕ) 
     other_made : (m : List ℕ) → has (others ws) m ≡ true → IsMade m
     other_made m there = each_made m (other_is (objects f old) n m ws tells there)
 
+    abbrev own_mark : Mark
+    own_mark = record { version = f.version; slot = for_library (objects f old n) (plan.slot n); stamp = for_library (objects f old n) (plan.stamp n); list = map (λ m. row_of f (planned skip_causes old plan m)) (others ws) }
+
     own_matches : Matches f view n
     own_matches = record {
       file = own.file;
-      mark = _;
+      mark = own_mark;
       walked = ws;
       there = own.there;
       marked = (made_is n own).mark;
       walks = walk_local skip_causes.walk skip_causes.walk (objects f old) (objects f view) n ws walks (λ m o there at. sym (same_object m (each_made m there)) ∙ at);
-      each = λ m there. ap (λ (g : Option (List ℕ)). is_some (mark_at f g)) (other_made m there).there ∙ ap (λ k. is_some k) (made_is m (other_made m there)).mark;
+      each = λ m there. ap (λ (g : Option (List ℕ)). is_some (mark_at f g)) (other_made m there).there ∙ ap (λ (k : Option Mark). is_some k) (made_is m (other_made m there)).mark;
       list = map_same (λ m. row_of f (planned skip_causes old plan m)) (λ m. row_at f m (view m)) (others ws) (λ m there.
       sym (ap (row_of f) (planned_bears f old view plan m (other_made m there).file (made_is m (other_made m there)) (other_made m there).there)));
     }

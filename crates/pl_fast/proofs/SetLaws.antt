@@ -45,7 +45,7 @@ use Rattle.pl_scope.specs.Walk.{Walked}
 use Rattle.pl_scope.specs.declared.constants.TheConstants.{MAX_MEMBERS}
 use Rattle.pl_scope.proofs.NameLaws.{eq_refl, has_cons}
 use Rattle.pl_sound.specs.Plan.{Plan, planned_member}
-use Rattle.pl_sound.specs.Rule.{Files, Member, object_at, objects}
+use Rattle.pl_sound.specs.Rule.{Files, Member, object_at, objects, original_at}
 use Rattle.pl_fast.proofs.PlaceLaws.{tail_apart}
 
 flip : (a b c d : Bool) → (a && b && c && d) ≡ (b && a && d && c)
@@ -151,19 +151,15 @@ module _ {E : Type 0} (causes : Causes E) (old : Files) (plan : Plan) where
       let read : reads (planned k).original ≡ Ok r.object = subst (λ (m : Member). reads m.original ≡ Ok r.object) made.is made.own.firm.accepted in
       by_file (old k) is read
     where
-      by_file : (g : Option (List ℕ)) → object_at (format causes) k g ≡ Ok o → reads (original_of g) ≡ Ok r.object → r.object ≡ o
+      by_file : (g : Option (List ℕ)) → object_at (format causes) k g ≡ Ok o → reads (original_at (format causes) g) ≡ Ok r.object → r.object ≡ o
       by_file None e read = absurd cc
       by_file (Some file) e read = ok_same r.object o (sym read ∙ read_is causes k (original_in file) o e)
 
-      abbrev original_of : Option (List ℕ) → List ℕ
-      original_of None = []
-      original_of (Some file) = original_in file
+  abbrev firm_with : List ℕ → Object → Firm
+  firm_with k o = record { member = planned k; object = o }
 
   firm_same : (m : List ℕ × Object) (r : Firm) → HasObject m → firm_of (planned m.0) ≡ Some r → r ≡ firm_for m
-  firm_same m r is firm = firm_is (planned m.0) r firm ∙ ap (λ (o : Object). made_of o) (same_object m.0 m.1 r is firm)
-    where
-      abbrev made_of : Object → Firm
-      made_of o = record { member = planned m.0; object = o }
+  firm_same m r is firm = firm_is (planned m.0) r firm ∙ ap (firm_with m.0) (same_object m.0 m.1 r is firm)
 
   pub firms_are : (ms : Walked) (rs : List Firm) → All HasObject ms → AreFirms ms rs → rs ≡ map firm_for ms
   firms_are [] [] have firms = refl
