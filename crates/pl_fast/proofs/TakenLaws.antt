@@ -63,7 +63,7 @@ unfolding original_in
 original_is file made is = ap (original_by file) is
 
 -- its object is the one that the format reads
-made_object : {E : Type 0} (causes : Causes E) (folder : Files) (m : List ℕ) (o : Object) (p : IsPrelinkedAt folder m) → objects (format causes) folder m ≡ Ok o → p.made.object ≡ o
+pub made_object : {E : Type 0} (causes : Causes E) (folder : Files) (m : List ℕ) (o : Object) (p : IsPrelinkedAt folder m) → objects (format causes) folder m ≡ Ok o → p.made.object ≡ o
 made_object causes folder m o p is =
     let here : read_original causes m (original_in p.file) ≡ Ok o = sym (ap (object_at (format causes) m) p.there) ∙ is in
     let read : reads p.made.original ≡ Ok o = subst (λ (xs : List ℕ). reads xs ≡ Ok o) (original_is p.file p.made p.is) (read_is causes m (original_in p.file) o here) in
