@@ -35,7 +35,8 @@ use Rattle.pl_form.proofs.PlannedLaws.{form_planned}
 use Rattle.pl_loader.specs.Started.{Start, load}
 use Rattle.pl_object.specs.Accepted.{tags_of}
 use Rattle.pl_object.specs.Reads as reads
-use Rattle.pl_object.specs.Tables.{has_flag, has_tag}
+use Rattle.pl_object.specs.Reads.{has_flag}
+use Rattle.pl_object.specs.Tables.{has_tag}
 use Rattle.pl_object.specs.declared.object.Object.{Object}
 use Rattle.pl_object.specs.declared.refusal.Refusal.{Refusal}
 use Rattle.pl_parts.specs.Forms.{original_of}
