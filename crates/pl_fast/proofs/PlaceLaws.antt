@@ -29,7 +29,7 @@ past : (a m b n : ℕ) → 0 < n → (nat_lt a (b + n) && nat_lt b (a + m) && na
 past a m b n some apart = grind (arith, nat_tests)
 
 -- of the pairs of some more windows none meets
-tail_apart : (xs ys : List Window) → any_share (xs ++ ys) ≡ false → any_share ys ≡ false
+pub tail_apart : (xs ys : List Window) → any_share (xs ++ ys) ≡ false → any_share ys ≡ false
 tail_apart [] ys apart = apart
 tail_apart (x ∷ xs) ys apart = tail_apart xs ys (or_parts (list_any (share x) (xs ++ ys)) (any_pair share (xs ++ ys)) apart).1
 

@@ -171,7 +171,7 @@ module _ {E : Type 0} (causes : Causes E) (old : Files) (plan : Plan) where
   -- ---- the libraries of a walk
 
   -- a library that has a form, at its numbers, under a valid name
-  record IsFine (m : List ℕ × Object) : Type 0 where
+  pub record IsFine (m : List ℕ × Object) : Type 0 where
     firm : firm_of (planned m.0) ≡ Some (firm_for m)
     numbers : has_numbers (firm_for m) ≡ true
     valid : is_valid_name m.0 ≡ true
