@@ -176,6 +176,10 @@ module _ {E : Type 0} (causes : Causes E) (folder : Files) where
     numbered : modules_of (program ∷ fs) ≡ Ok modules
     apart : any_share (map (window slot) fs) ≡ false
 
+  program_block : (f : ObjectFile) (r : Firm) (rs : List Firm) → r.object ≡ f.object → map (λ o. o.tls) (prelinked.objects_of (r ∷ rs)) ≡ block_of f ∷ map (λ o. o.tls) (prelinked.objects_of rs)
+  unfolding block_of
+  program_block f r rs same = ap (λ (o : Object). o.tls ∷ map (λ (x : Object). x.tls) (prelinked.objects_of rs)) same
+
   are_ready : (name : List ℕ) (program : ObjectFile) (fs : List ObjectFile) (file : List ℕ) → IsTaken causes folder name program → is_library program.object.kind ≡ false → All (IsTaken causes folder name) fs → All IsLibrary fs
       → prelinked.prelinked (map member_in (names (walk_of (program ∷ fs)))) ≡ Some file → AreReady name program fs
   are_ready name program fs file first other taken kinds made =
@@ -189,12 +193,11 @@ module _ {E : Type 0} (causes : Causes E) (folder : Files) where
         numbered = ap (because of_tls) (sym (ap offsets tls) ∙ by.numbered);
         apart = ap (λ (ws : List Window). any_share ws) (sym (all_windows name fs p.rs p.firms.1 taken kinds)) ∙ tail_apart (windows_of p.r) (flat_map windows_of p.rs) p.set.apart;
       }
-    where
-      program_block : (f : ObjectFile) (r : Firm) (rs : List Firm) → r.object ≡ f.object → map (λ o. o.tls) (prelinked.objects_of (r ∷ rs)) ≡ block_of f ∷ map (λ o. o.tls) (prelinked.objects_of rs)
-      unfolding block_of
-      program_block f r rs same = ap (λ (o : Object). o.tls ∷ map (λ (x : Object). x.tls) (prelinked.objects_of rs)) same
 
 -- ---- the start
+
+abbrev imaged_if : Bool → List ObjectFile → List ℕ → List Module → Result Memory LoadFault
+imaged_if b all at modules = if b then Ok (byte_of (fast_image all at)) else linked all at modules
 
 starts : (choose : Choice) (busy : Option Range) (all : List ObjectFile) (modules : List Module) (at : List ℕ) → modules_of all ≡ Ok modules → places choose busy all ≡ Ok at → loader.is_fast all at ≡ true
     → started choose busy all ≡ Ok (start all at modules (byte_of (fast_image all at)))
@@ -203,9 +206,6 @@ starts choose busy all modules at numbered placed fast =
     ap (λ (r : Result (List Module) LoadFault). r >>= λ ms. places choose busy all >>= start_at all ms) numbered
     ∙ ap (λ (r : Result (List ℕ) LoadFault). r >>= start_at all modules) placed
     ∙ ap (λ (b : Bool). imaged_if b all at modules >>= λ memory. Ok (start all at modules memory)) fast
-  where
-    abbrev imaged_if : Bool → List ObjectFile → List ℕ → List Module → Result Memory LoadFault
-    imaged_if b all at modules = if b then Ok (byte_of (fast_image all at)) else linked all at modules
 
 start_fast : (all : List ObjectFile) (at : List ℕ) (modules : List Module) (memory : Memory) → (start all at modules memory).fast ≡ loader.is_fast all at
 unfolding start

@@ -92,12 +92,12 @@ module _ (old view : Files) (region : Range) (p : Planned) (is : (n : List ℕ) 
   -- the rule holds of them
   pub view_keeps : Rule skip_causes view
   view_keeps = rule_in f view (rule_planned f (format_kept skip_causes) old view plan (λ m file k there marked.
-  (all_planned f (format_kept skip_causes) (fit_in region) old (slot_of p.slots) p.stamp m file k (sym (is m) ∙ there) marked).1))
+      (all_planned f (format_kept skip_causes) (fit_in region) old (slot_of p.slots) p.stamp m file k (sym (is m) ∙ there) marked).1))
 
   are_libraries : (ms : Walked) → All (HasObject skip_causes old plan) ms → ((k : List ℕ) (o : Object) → has (names ms) k ≡ true → objects f old k ≡ Ok o → o.kind ≡ Library) → All (HasLibrary skip_causes old plan) ms
   are_libraries [] have kinds = All-nil (HasLibrary skip_causes old plan)
   are_libraries (m ∷ ms) have kinds = All-cons (HasLibrary skip_causes old plan) m ms (ap is_library (kinds m.0 m.1 (has_head m.0 (names ms)) (All-head (HasObject skip_causes old plan) m ms have)))
-  (are_libraries ms (All-tail (HasObject skip_causes old plan) m ms have) (λ k o there. kinds k o (has_tail m.0 k (names ms) there)))
+      (are_libraries ms (All-tail (HasObject skip_causes old plan) m ms have) (λ k o there. kinds k o (has_tail m.0 k (names ms) there)))
 
   are_among : (all ms : Walked) → All (HasObject skip_causes old plan) ms → ((k : List ℕ) → has (names ms) k ≡ true → has (names all) k ≡ true) → AllByRecursion (IsAmong skip_causes old plan all) ms
   are_among all [] have subset = tt
@@ -197,7 +197,7 @@ module _ (old view : Files) (region : Range) (p : Planned) (is : (n : List ℕ) 
       walks = walk_local skip_causes.walk skip_causes.walk (objects f old) (objects f view) n ws walks (λ m o there at. sym (same_object m (each_made m there)) ∙ at);
       each = λ m there. ap (λ (g : Option (List ℕ)). is_some (mark_at f g)) (other_made m there).there ∙ ap (λ (k : Option Mark). is_some k) (made_is m (other_made m there)).mark;
       list = map_same (λ m. row_of f (planned skip_causes old plan m)) (λ m. row_at f m (view m)) (others ws) (λ m there.
-      sym (ap (row_of f) (planned_bears f old view plan m (other_made m there).file (made_is m (other_made m there)) (other_made m there).there)));
+          sym (ap (row_of f) (planned_bears f old view plan m (other_made m there).file (made_is m (other_made m there)) (other_made m there).there)));
     }
 
     pub prelinked_matches : matches f view n ≡ true

@@ -44,6 +44,7 @@ use Rattle.pl_scope.specs.Members.{has, names}
 use Rattle.pl_scope.specs.Walk.{Walked}
 use Rattle.pl_scope.specs.declared.constants.TheConstants.{MAX_MEMBERS}
 use Rattle.pl_scope.proofs.NameLaws.{eq_refl, has_cons}
+use Rattle.pl_scope.proofs.WalkedLaws.{limit_is}
 use Rattle.pl_sound.specs.Plan.{Plan, planned_member}
 use Rattle.pl_sound.specs.Rule.{Files, Member, object_at, objects, original_at}
 use Rattle.pl_fast.proofs.PlaceLaws.{tail_apart}
@@ -71,22 +72,17 @@ firm_is m r e = by_object (when (are_bytes m.original) (firm_object m.original))
 
 -- ---- how long the form of a library is
 
+row_length : (start : ℕ) (row : ListRow) → length (row_bytes start row) ≡ 20
+unfolding row_bytes
+row_length start row = simp (length-append, length_bytes32) refl
+
 rows_length : (at : ℕ) (rows : List ListRow) → length (list_bytes at rows) ≡ 20 * length rows
 unfolding list_bytes
 rows_length at [] = refl
 rows_length at (row ∷ rows) = length-append (row_bytes at row) (list_bytes (after at row) rows) ∙ omega (arith, row_length at row, rows_length (after at row) rows)
-  where
-    row_length : (start : ℕ) (row : ListRow) → length (row_bytes start row) ≡ 20
-    unfolding row_bytes
-    row_length start row = simp (length-append, length_bytes32) refl
-
 
 most_is : MAX_NAME ≡ 255
 most_is = refl
-
-limit_is : MAX_MEMBERS ≡ 256
-unfolding MAX_MEMBERS
-limit_is = refl
 
 stored_is : STORED ≡ 268435456
 stored_is = refl

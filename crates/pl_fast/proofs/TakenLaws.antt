@@ -142,8 +142,8 @@ module _ {E G : Type 0} (causes : Causes E) (folder : Files) (fault : LoadFault 
 
     walk_given : walk.walk (walk_fault fault) (object_of fault file name) name ≡ Ok ws
     walk_given = walk_local causes.walk (walk_fault fault) (objects (format causes) folder) (object_of fault file name) name ws are.walks (λ m o there is.
-    let g = member_given m there in
-    ap (λ (r : Result ObjectFile G). r >>= λ f. Ok f.object) g.given ∙ ap (λ (x : Object). Ok x) (g.object o is))
+        let g = member_given m there in
+        ap (λ (r : Result ObjectFile G). r >>= λ f. Ok f.object) g.given ∙ ap (λ (x : Object). Ok x) (g.object o is))
 
     -- so all of them are taken
     pub load_takes : (all : List ObjectFile) × AreTaken folder fault file name all
