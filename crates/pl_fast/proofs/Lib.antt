@@ -5,4 +5,5 @@ pub mod AnswerLaws
 pub mod SetLaws
 pub mod RunLaws
 pub mod FreeLaws
+pub mod LowLaws
 pub mod DemoLaws

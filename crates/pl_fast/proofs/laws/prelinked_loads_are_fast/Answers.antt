@@ -1,4 +1,5 @@
 use Rattle.pl_fast.proofs.FreeLaws.{off_is_clear}
+use Rattle.pl_fast.proofs.LowLaws.{low_off}
 use Rattle.pl_fast.proofs.RunLaws.{prelinked_fast}
 use Rattle.pl_fast.proofs.laws.prelinked_loads_are_fast.Goals as goal
 
@@ -7,3 +8,6 @@ returns-clause-fast c = prelinked_fast
 
 pub returns-clause-clear : goal.returns-clause-clear
 returns-clause-clear c = off_is_clear
+
+pub returns-clause-low : goal.returns-clause-low
+returns-clause-low c = low_off
