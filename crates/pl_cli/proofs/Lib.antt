@@ -19,3 +19,4 @@ pub mod RunLemmas
 pub mod TellsLemmas
 pub mod DemoLemmas
 pub mod WeaveLemmas
+pub mod WeaveTextLemmas

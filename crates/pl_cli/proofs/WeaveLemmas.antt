@@ -1,24 +1,29 @@
 -- The text of a weave, step by step.
-use Rattle.std.proofs.Common.{◌≡◌, ◌∙◌, ◌<◌, ◌≤◌, ◌+◌, ◌++◌, ◌∷◌, [], ℕ, List, length, map, append_assoc, true, false, Option, Some, None, refl, sym, ap, arith}
+use Rattle.std.proofs.Common.{◌≡◌, ◌∙◌, ◌<◌, ◌≤◌, ◌+◌, ◌++◌, ◌∷◌, [], ℕ, List, Bool, cond, drop, get_or, length, map, append_assoc, true, false, Option, Some, None, refl, sym, ap, arith}
 use Rattle.std.proofs.Math.ListN.{replicate}
 use Rattle.std.proofs.lemmas.List.{append-nil, length-map, length-replicate}
 use Rattle.std.proofs.lemmas.Bool.{true≢false}
 use Rattle.std.proofs.lemmas.Bool.Decides.{nat_tests}
-use Rattle.std.specs.Prelude.{Result, Ok, Err, String, Vec, nat_lt}
+use Rattle.std.specs.Prelude.{IfOk, Result, Ok, Err, String, Vec, nat_lt, string_bytes}
+use Rattle.std.specs.FinMap.{find, get, get-from_entries}
+use Rattle.std.specs.Cmp.Lexicographic.{nat_list_cmp_total, slice_cmp}
+use Rattle.std.specs.Ordering.{nat_cmp}
 use Rattle.std.specs.declared.alloc.Global.{Global}
 use Rattle.pl_base.specs.Answers.{◌>>=◌, Answers, because, unless}
-use Rattle.pl_base.specs.Files.{Files, files_of}
+use Rattle.pl_base.specs.Files.{Files, file_entry, files_of}
 use Rattle.pl_batch.specs.Answers as batch
 use Rattle.pl_batch.specs.Copied.{copied}
 use Rattle.pl_batch.specs.declared.fault.BatchFault.{BatchFault}
 use Rattle.pl_batch.specs.declared.fault.BatchFault.TheVariants as batch_faults
 use Rattle.pl_folder.specs.Calls.{Calls}
+use Rattle.pl_folder.specs.Disk.{same}
 use Rattle.pl_folder.specs.Seen.{Seen, Done, Undone}
 use Rattle.pl_io.specs.Reads.{HasMore}
 use Rattle.pl_io.specs.Seen.{HasReadAll, Input}
 use Rattle.pl_io.specs.declared.read_fault.ReadFault.{ReadFault}
 use Rattle.pl_io.specs.declared.read_fault.ReadFault.TheVariants as read_faults
 use Rattle.pl_journal.specs.Parts.{Looking}
+use Rattle.pl_journal.proofs.CarryLemmas.{drop_at}
 use Rattle.pl_journal.proofs.RecoverLemmas.{no_look}
 use Rattle.pl_script.specs.Script as scripts
 use Rattle.pl_script.specs.declared.TheConstants.{SCRIPT}
@@ -144,3 +149,28 @@ text_is choose loaders told w are is =
 -- so many loaders as names
 pub as_many : {F : Type 0} (loaders : List (Opened F)) (w : Weaving) (names : List (List ℕ)) → map plain loaders ≡ w.loaders → length w.loaders ≡ length names → length loaders ≡ length names
 as_many loaders w names are count = sym (length-map loaders plain) ∙ ap (λ (os : List (Opened (Unit {0}))). length os) are ∙ count
+
+-- ---- the files that are installed
+
+abbrev pub File : Type 0
+File = String Global × Vec ℕ Global
+
+abbrev at : List ℕ → List (List ℕ × List ℕ) → Option (List ℕ)
+at q es = find (slice_cmp nat_cmp) q es
+
+-- the file of a name among those from an index on
+pub first_file : (files : List File) (i : ℕ) (file : File) (q : List ℕ) → i < length files → file ≡ get_or files i file
+    → get (files_of (drop i files)) q ≡ cond (same q (string_bytes file.0)) (Some file.1.items) (get (files_of (drop (i + 1) files)) q)
+first_file files i file q lt is =
+    get-from_entries nat_list_cmp_total (map file_entry (drop i files)) q
+    ∙ ap (λ (fs : List File). at q (map file_entry fs)) (drop_at files i file lt is)
+    ∙ ap (λ (o : Option (List ℕ)). cond (same q (string_bytes file.0)) (Some file.1.items) o) (sym (get-from_entries nat_list_cmp_total (map file_entry (drop (i + 1) files)) q))
+
+pub no_file : (q : List ℕ) → get (files_of []) q ≡ None
+no_file q = get-from_entries nat_list_cmp_total [] q
+
+-- ---- what is known of an answer
+
+pub if_ok : {X E : Type 0} {P Q : X → Type 0} (r : Result X E) → ((x : X) → P x → Q x) → IfOk r P → IfOk r Q
+if_ok (Ok x) more p = more x p
+if_ok (Err e) more p = tt
