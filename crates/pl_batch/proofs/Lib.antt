@@ -17,3 +17,5 @@ pub mod SizeLemmas
 pub mod EntryLemmas
 pub mod VerifyLemmas
 pub mod ReplaceLemmas
+pub mod CopyLemmas
+pub mod CopiedLemmas

@@ -12,3 +12,4 @@ pub mod Restored
 pub mod Lent
 pub mod Again
 pub mod Verify
+pub mod Copied

@@ -18,3 +18,5 @@ pub mod PrintLemmas
 pub mod RunLemmas
 pub mod TellsLemmas
 pub mod DemoLemmas
+pub mod WeaveLemmas
+pub mod WeaveTextLemmas

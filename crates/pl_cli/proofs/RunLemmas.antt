@@ -22,19 +22,20 @@ use Rattle.pl_loader.specs.declared.object_file.ObjectFile.{ObjectFile}
 use Rattle.pl_cli.specs.declared.cause.Cause.{Cause}
 use Rattle.pl_cli.specs.declared.cause.Cause.TheVariants as causes
 use Rattle.pl_cli.specs.declared.command.Command.{Command}
-use Rattle.pl_cli.specs.declared.command.Command.TheVariants.{Load, All, Preview, UndoAll, Undo, Verify, Store, Remove, Fix, Unfix, Print, Order, Demo}
+use Rattle.pl_cli.specs.declared.command.Command.TheVariants.{Load, All, Preview, UndoAll, Undo, Verify, Store, Remove, Fix, Unfix, Print, Order, Demo, Weave}
 use Rattle.pl_cli.specs.declared.command.Detail.{Detail}
 use Rattle.pl_cli.specs.declared.status.Status.{Status}
 use Rattle.pl_cli.specs.declared.status.Status.TheVariants as statuses
 use Rattle.pl_cli.specs.declared.stop.Stop.{Stop}
 use Rattle.pl_cli.specs.declared.stop.Stop.TheVariants as stops
-use Rattle.pl_cli.specs.Answer.{Answer, IsTold, answer, compare_answer, compared, done, load_answer, text_answer, refuses, usage}
-use Rattle.pl_cli.specs.Came.{Came, HasDemo, HasLoaded, HasOrdered, HasPreviewed, HasPrinted, HasVerified, Makes, as_is}
+use Rattle.pl_cli.specs.Answer.{Answer, IsTold, answer, compare_answer, compared, done, load_answer, text_answer, refuses, usage, differs_text}
+use Rattle.pl_cli.specs.Came.{Came, HasDemo, HasLoaded, HasOrdered, HasPreviewed, HasPrinted, HasVerified, Makes, as_is, HasWoven}
 use Rattle.pl_cli.specs.Load.{choice, loaded_files}
 use Rattle.pl_cli.specs.Outside.{Consumes, most_read, outside}
 use Rattle.pl_cli.specs.Ran.{Finishes, Ran, Refuses, Writes}
+use Rattle.pl_cli.specs.Weave.{weaves}
 use Rattle.pl_cli.specs.Words.{bytes_of, reads_input}
-use Rattle.pl_cli.specs.Writes.{WritesFolder, fixes, loosens, prelinks, removes, stores, undoes}
+use Rattle.pl_cli.specs.Writes.{WritesFolder, fixes, loosens, prelinks, removes, stores, undoes, AreBytes}
 use Rattle.pl_cli.proofs.CallLemmas.{as_calls, asked_all, looked_all, no_calls}
 use Rattle.pl_cli.proofs.LoadLemmas.{loaded_is}
 use Rattle.pl_cli.proofs.WriteLemmas.{unread}
@@ -64,6 +65,7 @@ module _ (input : Option (List ℕ)) {a b : Seen} where
   line_failed (Some (Load name busy policy)) call = call
   line_failed (Some (Verify name)) call = call
   line_failed (Some Print) call = call
+  line_failed (Some Weave) call = call
   line_failed (Some (Order name detail)) call = call
   line_failed (Some (Demo number)) call = call
   line_failed (Some (All asked detail)) call = writes_line_failed (λ bytes. prelinks asked) input call
@@ -80,6 +82,7 @@ module _ (input : Option (List ℕ)) {a b : Seen} where
   line_lacked (Some (Load name busy policy)) law call = asked_all _ call
   line_lacked (Some (Verify name)) law call = looked_all call
   line_lacked (Some Print) law call = asked_all 1 call
+  line_lacked (Some Weave) law call = looked_all call
   line_lacked (Some (Order name detail)) law call = asked_all _ call
   line_lacked (Some (Demo number)) law call = asked_all 0 call
   line_lacked (Some (All asked detail)) law call = writes_line_lacked (λ bytes. prelinks asked) input law call
@@ -96,6 +99,7 @@ module _ (input : Option (List ℕ)) {a b : Seen} where
   text_failed (Some (Load name busy policy)) call = call
   text_failed (Some (Verify name)) call = call
   text_failed (Some Print) call = call
+  text_failed (Some Weave) call = call
   text_failed (Some (Order name detail)) call = call
   text_failed (Some (Demo number)) call = call
   text_failed (Some (All asked detail)) call = writes_text_failed (λ bytes. prelinks asked) input call
@@ -248,6 +252,17 @@ came_printed i (Err stops.Failed) found = record { gives = tt; ends = refl; call
 came_printed i (Err stops.InputFailed) found = absurd (true≢false found.reads)
 came_printed i (Err stops.NoMemory) found = record { gives = tt; ends = refl; calls = found.calls; input = untouched i }
 
+-- the input of a weave is read whole, where it tells its bytes
+same_weave : {bytes : List ℕ} {a : Seen} {left : Input} → AreBytes left.left bytes → IsTold (Some Weave) a.tells (is_some left.left) → answer (Some Weave) a.files (bytes_of left.left) ≡ text_answer (weaves bytes a.files)
+same_weave {a = a} told all = ap (λ (b : List ℕ). text_answer (weaves b a.files)) (sym (told (all.input refl)))
+
+pub came_woven : {a b : Seen} {left rest : Input} (r : Result (Vec ℕ Global) Stop) → HasWoven r a b left rest → Came (Some Weave) as_is r a b left rest
+came_woven (Ok text) found = record { gives = λ told. same_weave found.told told ∙ ap text_answer (found.means (told.files refl)); ends = refl; calls = found.calls; input = found.input }
+came_woven (Err (stops.Cause cause)) found = record { gives = λ told. same_weave found.told told ∙ ap text_answer (found.means (told.files refl)); ends = refl; calls = found.calls; input = found.input }
+came_woven (Err stops.Failed) found = record { gives = tt; ends = refl; calls = found.calls; input = found.input }
+came_woven (Err stops.InputFailed) found = record { gives = tt; ends = refl; calls = found.calls; input = found.input }
+came_woven (Err stops.NoMemory) found = record { gives = tt; ends = refl; calls = found.calls; input = found.input }
+
 pub came_previewed : (asked : Prelinking) (detail : Detail) (i : Input) {a b : Seen} (r : Result (Vec ℕ Global) Stop) → HasPreviewed asked detail r a b → Came (Some (Preview asked detail)) as_is r a b i i
 came_previewed asked detail i (Ok text) found = record { gives = λ told. ap text_answer (found.means told.files); ends = refl; calls = found.calls; input = untouched i }
 came_previewed asked detail i (Err (stops.Cause cause)) found = record { gives = λ told. ap text_answer (found.means told.files); ends = refl; calls = found.calls; input = untouched i }
@@ -331,6 +346,7 @@ lacks None input a = no_calls Undone a refl refl (0, omega arith, refl)
 lacks (Some (Load name busy policy)) input a = no_calls Undone a refl refl (0, omega arith, refl)
 lacks (Some (Verify name)) input a = no_calls Undone a refl refl (no_look a.disk a.disk refl)
 lacks (Some Print) input a = no_calls Undone a refl refl (0, omega arith, refl)
+lacks (Some Weave) input a = no_calls Undone a refl refl (no_look a.disk a.disk refl)
 lacks (Some (Order name detail)) input a = no_calls Undone a refl refl (0, omega arith, refl)
 lacks (Some (Demo number)) input a = no_calls Undone a refl refl (0, omega arith, refl)
 lacks (Some (All asked detail)) input a = lacks_writing (λ bytes. prelinks asked) input a

@@ -2,7 +2,8 @@
 use Rattle.std.proofs.Common.{◌≡◌, Bool, true, false, refl, ℕ, List, Option, Some, None}
 use Rattle.pl_base.specs.Answers.{Tells, because}
 use Rattle.pl_base.specs.Files.{Files}
-use Rattle.pl_base.proofs.TellsLaws.{ok_tells, err_tells, unless_tells, then_tells, cause_tells, because_tells}
+use Rattle.std.specs.FinMap.{get}
+use Rattle.pl_base.proofs.TellsLaws.{ok_tells, err_tells, unless_tells, then_tells, cause_tells, because_tells, each_tells}
 use Rattle.pl_build.specs.Build.{build}
 use Rattle.pl_form.specs.Marks as form
 use Rattle.pl_scope.specs.Walk as walk
@@ -43,7 +44,14 @@ use Rattle.pl_batch.specs.Changes.{changes_of, removal_meant, run_meant}
 use Rattle.pl_batch.specs.Commands.{ready_for}
 use Rattle.pl_batch.specs.declared.cause.Cause as batch
 use Rattle.pl_batch.specs.declared.cause.Cause.TheVariants as batch_causes
+use Rattle.pl_batch.specs.Copied.{copied}
 use Rattle.pl_batch.specs.declared.prelinking.Prelinking.{Prelinking}
+use Rattle.pl_script.specs.Script.{script}
+use Rattle.pl_script.specs.declared.fault.ScriptFault.{ScriptFault}
+use Rattle.pl_script.specs.declared.fault.ScriptFault.TheVariants as script_faults
+use Rattle.pl_script.specs.declared.line.RunLine.{RunLine}
+use Rattle.pl_script.specs.declared.line.RunLine.TheVariants as lines
+use Rattle.pl_cli.specs.Weave.{of_script, run_of, runs_of, script_in, start_file, weaves}
 use Rattle.pl_batch.specs.declared.run.Run.{Run}
 use Rattle.pl_batch.specs.declared.run.Run.TheVariants as runs
 
@@ -177,3 +185,29 @@ reported_tells detail asked files = then_tells is_memory (prelinks asked files) 
 pub verified_tells : (name : List ℕ) (files : Files) → Tells is_memory (verifies name files)
 unfolding verifies
 verified_tells name files = batch_tells (verified files name)
+
+-- ---- `--weave`
+
+script_cause : (fault : ScriptFault) → is_memory (of_script fault) ≡ false
+script_cause (script_faults.Wrong line) = refl
+script_cause script_faults.NoMemory = refl
+
+script_tells : (input : List ℕ) → Tells is_memory (script_in input)
+unfolding script_in
+script_tells input = unless_tells is_memory _ _ _ refl (cause_tells is_memory of_script (script input) script_cause)
+
+start_tells : (name : List ℕ) (file : Option (List ℕ)) → Tells is_memory (start_file name file)
+start_tells name None = err_tells _ is_memory _ refl
+start_tells name (Some bytes) = ok_tells is_memory bytes
+
+run_tells_of : (files : Files) (asked : RunLine) → Tells is_memory (run_of files asked)
+run_tells_of files (lines.Prelink now) = ok_tells is_memory _
+run_tells_of files lines.UndoAll = ok_tells is_memory _
+run_tells_of files (lines.Undo names) = ok_tells is_memory _
+run_tells_of files (lines.Install name from) = then_tells is_memory (start_file from (get files from)) _ (start_tells from (get files from)) (λ bytes. ok_tells is_memory _)
+
+pub woven_tells : (input : List ℕ) (files : Files) → Tells is_memory (weaves input files)
+unfolding weaves
+woven_tells input files = then_tells is_memory (script_in input) _ (script_tells input) (λ s.
+    then_tells is_memory (because of_batch (copied files)) _ (batch_tells (copied files)) (λ copy.
+    then_tells is_memory (runs_of copy s.runs) _ (each_tells is_memory (run_of copy) s.runs (run_tells_of copy)) (λ asked. ok_tells is_memory _)))

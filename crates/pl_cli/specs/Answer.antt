@@ -13,7 +13,7 @@ use Rattle.pl_cli.specs.declared.status.Status.{Status}
 use Rattle.pl_cli.specs.declared.status.Status.TheVariants as statuses
 use Rattle.pl_cli.specs.declared.cause.Cause.{Cause}
 use Rattle.pl_cli.specs.declared.command.Command.{Command}
-use Rattle.pl_cli.specs.declared.command.Command.TheVariants.{Load, All, Preview, UndoAll, Undo, Verify, Store, Remove, Fix, Unfix, Print, Order, Demo}
+use Rattle.pl_cli.specs.declared.command.Command.TheVariants.{Load, All, Preview, UndoAll, Undo, Verify, Store, Remove, Fix, Unfix, Print, Order, Demo, Weave}
 use Rattle.pl_cli.specs.declared.command.Content.{Content}
 use Rattle.pl_cli.specs.declared.command.Content.TheVariants.{File, Recipe}
 use Rattle.pl_cli.specs.Demo.{demo_text}
@@ -24,6 +24,7 @@ use Rattle.pl_cli.specs.Print.{printed}
 use Rattle.pl_cli.specs.Refusals.{refusal}
 use Rattle.pl_cli.specs.Reports.{previewed, reported}
 use Rattle.pl_cli.specs.Verified.{verifies}
+use Rattle.pl_cli.specs.Weave.{weaves}
 use Rattle.pl_cli.specs.Words.{reads_input, rests_on_files}
 use Rattle.pl_cli.specs.Writes.{fixes, loosens, of_batch, removes, stores, undoes}
 use Rattle.pl_words.specs.declared.command.Policy.{Policy}
@@ -109,6 +110,7 @@ answer (Some (Fix name policy)) files input = text_answer (fixed_line policy nam
 answer (Some (Unfix name)) files input = write_answer (λ rows. unfixed_text name) (loosens name (restored files))
 answer (Some (Verify name)) files input = compare_answer (verifies name files)
 answer (Some Print) files input = text_answer (printed files)
+answer (Some Weave) files input = text_answer (weaves input files)
 answer (Some (Order name detail)) files input = text_answer (ordered detail files name)
 answer (Some (Demo number)) files input = done (demo_text number)
 

@@ -8,6 +8,8 @@ use Rattle.pl_folder.specs.Calls.{Calls}
 use Rattle.pl_folder.specs.Effects.{Asks, Effect}
 use Rattle.pl_folder.specs.Seen.{Seen, is_broken}
 use Rattle.pl_loader.specs.Loading as loading
+use Rattle.pl_script.specs.declared.TheConstants.{SCRIPT}
+use Rattle.pl_script.specs.declared.script.Script.{Script}
 use Rattle.pl_journal.specs.Parts.{Looking}
 use Rattle.pl_batch.specs.Commands.{Counts}
 use Rattle.pl_batch.specs.Restored.{restored}
@@ -17,7 +19,7 @@ use Rattle.pl_batch.specs.declared.run.Run.TheVariants as runs
 use Rattle.pl_cli.specs.declared.cause.Cause.{Cause}
 use Rattle.pl_cli.specs.declared.cause.Cause.TheVariants.{BadName}
 use Rattle.pl_cli.specs.declared.command.Command.{Command}
-use Rattle.pl_cli.specs.declared.command.Command.TheVariants.{Load, All, Preview, UndoAll, Undo, Verify, Store, Remove, Fix, Unfix, Print, Order, Demo}
+use Rattle.pl_cli.specs.declared.command.Command.TheVariants.{Load, All, Preview, UndoAll, Undo, Verify, Store, Remove, Fix, Unfix, Print, Order, Demo, Weave}
 use Rattle.pl_cli.specs.declared.command.Content.{Content}
 use Rattle.pl_cli.specs.declared.command.Detail.{Detail}
 use Rattle.pl_cli.specs.declared.named_object.NamedObject.{NamedObject}
@@ -35,6 +37,7 @@ use Rattle.pl_cli.specs.Reports.{previewed}
 use Rattle.pl_cli.specs.Outside.{Consumes, ending_of, is_read_fault, may_end, most_read}
 use Rattle.pl_cli.specs.Stops.{Means, status_of}
 use Rattle.pl_cli.specs.Verified.{verifies}
+use Rattle.pl_cli.specs.Weave.{script_in, weaves}
 use Rattle.pl_cli.specs.Words.{bytes_of, reads_input}
 use Rattle.pl_cli.specs.Writes.{AreBytes, WritesFolder, Written, content, fixes, loosens, most_bytes, prelinks, removes, stores, undoes}
 use Rattle.pl_words.specs.declared.command.Policy.{Policy}
@@ -54,6 +57,7 @@ Makes (Some (Fix name policy)) files input status = WritesFolder (λ bytes. fixe
 Makes (Some (Unfix name)) files input status = WritesFolder (λ bytes. loosens name) input status
 Makes (Some (Verify name)) files input status = Looking
 Makes (Some Print) files input status = Asks 1
+Makes (Some Weave) files input status = Looking
 Makes (Some (Order name detail)) files input status = Asks (takes (object_in files) name)
 Makes (Some (Demo number)) files input status = Asks 0
 
@@ -147,6 +151,22 @@ pub record HasUnfixed (name : List ℕ) (result : Result (Vec ℕ Global) Stop) 
   pub reads : is_read_fault (status_of result) ≡ false
   pub calls : Calls (ending_of (status_of result)) (Written (loosens name) result) old new
   pub text : IfOk result (λ text. text.items ≡ unfixed_text name)
+
+-- the text of a weave. Its calls of the folder only read
+pub record HasWoven (result : Result (Vec ℕ Global) Stop) (old new : Seen) (left rest : Input) : Type 0 where
+  pub bytes : List ℕ
+  pub told : AreBytes left.left bytes
+  pub means : Means (old.tells ≡ true) (weaves bytes old.files) (λ text. text.items) result
+  pub calls : Calls (ending_of (status_of result)) Looking old new
+  pub input : Consumes true SCRIPT (is_read_fault (status_of result)) left rest
+
+-- its script, for which the folder is not asked
+pub record HasScript (result : Result Script Stop) (left rest : Input) : Type 0 where
+  pub bytes : List ℕ
+  pub told : AreBytes left.left bytes
+  pub means : Means ⊤ (script_in bytes) (λ s. s) result
+  pub folder : is_broken (ending_of (status_of result)) ≡ false
+  pub input : Consumes true SCRIPT (is_read_fault (status_of result)) left rest
 
 pub record HasStored (name : List ℕ) (kind : Content) (result : Result (Vec ℕ Global) Stop) (old new : Seen) (left rest : Input) : Type 0 where
   pub bytes : List ℕ

@@ -10,6 +10,7 @@ pub mod Order
 pub mod Refusals
 pub mod Demo
 pub mod Reports
+pub mod Weave
 pub mod Verified
 pub mod Answer
 pub mod Stops

@@ -81,6 +81,7 @@ is_memory causes.BadJournal = false
 is_memory (causes.FileTooLarge name) = false
 is_memory causes.InputTooLarge = false
 is_memory (causes.Recipe number kind) = false
+is_memory (causes.Script line) = false
 is_memory causes.TooManyFiles = false
 is_memory causes.BadCache = false
 is_memory causes.FolderTooLarge = false

@@ -5,9 +5,10 @@ use Rattle.pl_io.specs.Reads.{TookAtMost}
 use Rattle.pl_io.specs.Seen.{Input, Output}
 use Rattle.pl_folder.specs.Seen.{Seen, Ending, Done, Broken, Undone}
 use Rattle.pl_cli.specs.declared.command.Command.{Command}
-use Rattle.pl_cli.specs.declared.command.Command.TheVariants.{Load, All, Preview, UndoAll, Undo, Verify, Store, Remove, Fix, Unfix, Print, Order, Demo}
+use Rattle.pl_cli.specs.declared.command.Command.TheVariants.{Load, All, Preview, UndoAll, Undo, Verify, Store, Remove, Fix, Unfix, Print, Order, Demo, Weave}
 use Rattle.pl_cli.specs.declared.status.Status.{Status}
 use Rattle.pl_cli.specs.declared.status.Status.TheVariants as statuses
+use Rattle.pl_script.specs.declared.TheConstants.{SCRIPT}
 use Rattle.pl_cli.specs.Words.{asks_folder, reads_input}
 use Rattle.pl_cli.specs.Writes.{most_bytes}
 
@@ -84,6 +85,7 @@ most_read (Some (Fix name policy)) = 0
 most_read (Some (Unfix name)) = 0
 most_read (Some (Verify name)) = 0
 most_read (Some Print) = 0
+most_read (Some Weave) = SCRIPT
 most_read (Some (Order name detail)) = 0
 most_read (Some (Demo number)) = 0
 

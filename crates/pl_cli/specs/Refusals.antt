@@ -9,7 +9,7 @@ use Rattle.pl_cone.specs.declared.skip.Skip.TheVariants as skips
 use Rattle.pl_loader.specs.declared.fault.LoadFault.{LoadFault}
 use Rattle.pl_loader.specs.declared.fault.LoadFault.TheVariants.{NotThere, BadMark, Refused, NotProgram, NeededIsProgram, TooMany, TlsTooLarge, NoPlace, Undefined, UndefinedTls, TlsMismatch, CopyOutside, NoMemory}
 use Rattle.pl_cli.specs.declared.cause.Cause.{Cause}
-use Rattle.pl_cli.specs.declared.cause.Cause.TheVariants.{BadName, BadJournal, FileTooLarge, Load, InputTooLarge, Recipe, TooManyFiles, BadCache, FolderTooLarge, NoSlot, StampsSpent, NotPie, NotFixed}
+use Rattle.pl_cli.specs.declared.cause.Cause.TheVariants.{BadName, BadJournal, FileTooLarge, Load, InputTooLarge, Recipe, TooManyFiles, BadCache, FolderTooLarge, NoSlot, StampsSpent, NotPie, NotFixed, Script}
 use Rattle.pl_cli.specs.declared.symbol_text.TheConstants.{BACKSLASH}
 
 -- ---- a symbol's name. It may have any bytes but 0
@@ -89,6 +89,7 @@ cause_text (FileTooLarge name) = named (codes "FileTooLarge") name
 cause_text (Load fault) = load_text fault
 cause_text InputTooLarge = codes "InputTooLarge"
 cause_text (Recipe number kind) = recipe_text number kind
+cause_text (Script line) = numbered (codes "Script") line
 cause_text TooManyFiles = codes "TooManyFiles"
 cause_text BadCache = codes "BadCache"
 cause_text FolderTooLarge = codes "FolderTooLarge"

@@ -1,5 +1,6 @@
 -- Why a command stopped.
-use Rattle.std.specs.Prelude.{◌≡◌, ℕ, List, Result, Ok, Err, ⊤, if◌then◌else◌}
+use Rattle.std.specs.Prelude.{◌≡◌, ℕ, List, Result, Ok, Err, Vec, ⊤, if◌then◌else◌}
+use Rattle.std.specs.declared.alloc.Global.{Global}
 use Rattle.pl_io.specs.declared.read_fault.ReadFault.{ReadFault}
 use Rattle.pl_io.specs.declared.read_fault.ReadFault.TheVariants as read_faults
 use Rattle.pl_folder.specs.declared.fault.FolderFault.{FolderFault}
@@ -12,6 +13,8 @@ use Rattle.pl_cache.specs.declared.fault.CacheFault.TheVariants as cache_faults
 use Rattle.pl_batch.specs.declared.fault.BatchFault.{BatchFault}
 use Rattle.pl_batch.specs.declared.fault.BatchFault.TheVariants.{DiskFailed}
 use Rattle.pl_batch.specs.declared.fault.BatchFault.TheVariants as batch_faults
+use Rattle.pl_script.specs.declared.fault.ScriptFault.{ScriptFault}
+use Rattle.pl_script.specs.declared.fault.ScriptFault.TheVariants as script_faults
 use Rattle.pl_build.specs.declared.fault.RecipeFault.{RecipeFault}
 use Rattle.pl_build.specs.declared.fault.RecipeFault.TheVariants as recipe_faults
 use Rattle.pl_cli.specs.declared.cause.Cause.{Cause}
@@ -52,6 +55,10 @@ abbrev pub of_cache_fault : CacheFault → Stop
 of_cache_fault cache_faults.BadCache = stops.Cause causes.BadCache
 of_cache_fault cache_faults.NoMemory = stops.NoMemory
 
+abbrev pub of_script_fault : ScriptFault → Stop
+of_script_fault (script_faults.Wrong line) = stops.Cause (causes.Script line)
+of_script_fault script_faults.NoMemory = stops.NoMemory
+
 -- ---- what a stop means
 
 -- the status that a run ends with
@@ -87,3 +94,8 @@ StopsAlone meant stops.NoMemory = ⊤
 abbrev pub MeansAlone : {X : Type 0} → Result X Cause → Result X Stop → Type 0
 MeansAlone meant (Ok x) = meant ≡ Ok x
 MeansAlone meant (Err stop) = StopsAlone meant stop
+
+-- a text as its bytes
+abbrev pub items_of : Result (Vec ℕ Global) Stop → Result (List ℕ) Stop
+items_of (Ok text) = Ok text.items
+items_of (Err stop) = Err stop

@@ -9,7 +9,7 @@ use Rattle.pl_words.specs.declared.command.Command.TheVariants as word
 use Rattle.pl_words.specs.declared.fault.WordsFault.{WordsFault}
 use Rattle.pl_words.specs.declared.fault.WordsFault.TheVariants.{Usage, NoMemory}
 use Rattle.pl_cli.specs.declared.command.Command.{Command}
-use Rattle.pl_cli.specs.declared.command.Command.TheVariants.{Load, All, Preview, UndoAll, Undo, Verify, Store, Remove, Fix, Unfix, Print, Order, Demo}
+use Rattle.pl_cli.specs.declared.command.Command.TheVariants.{Load, All, Preview, UndoAll, Undo, Verify, Store, Remove, Fix, Unfix, Print, Order, Demo, Weave}
 use Rattle.pl_cli.specs.declared.command.Content.TheVariants.{File, Recipe}
 use Rattle.pl_cli.specs.declared.command.Detail.{Detail}
 use Rattle.pl_cli.specs.declared.command.Detail.TheVariants.{Short, Full}
@@ -25,25 +25,25 @@ prelinking options moment = record { region = options.region; share = options.sh
 abbrev pub over_all : AllOptions → ℕ → Command
 over_all options moment = if options.dry then Preview (prelinking options moment) (detail_of options.verbose) else All (prelinking options moment) (detail_of options.verbose)
 
--- the commands that are there, at a moment. The words of another ask for nothing
-abbrev pub there : ℕ → words.Command → Option Command
-there moment (word.Load name busy policy) = Some (Load name busy policy)
-there moment (word.All options) = Some (over_all options moment)
-there moment word.UndoAll = Some UndoAll
-there moment (word.Undo names) = Some (Undo names)
-there moment (word.Install name) = Some (Store name File)
-there moment (word.Make name) = Some (Store name Recipe)
-there moment (word.Remove name) = Some (Remove name)
-there moment (word.Fix name policy) = Some (Fix name policy)
-there moment (word.Unfix name) = Some (Unfix name)
-there moment (word.Verify name) = Some (Verify name)
-there moment word.Print = Some Print
-there moment (word.Order name verbose) = Some (Order name (detail_of verbose))
-there moment (word.Demo number) = Some (Demo number)
-there moment _ = None
+-- a command at a moment
+abbrev pub at_moment : ℕ → words.Command → Command
+at_moment moment (word.Load name busy policy) = Load name busy policy
+at_moment moment (word.All options) = over_all options moment
+at_moment moment word.UndoAll = UndoAll
+at_moment moment (word.Undo names) = Undo names
+at_moment moment (word.Install name) = Store name File
+at_moment moment (word.Make name) = Store name Recipe
+at_moment moment (word.Remove name) = Remove name
+at_moment moment (word.Fix name policy) = Fix name policy
+at_moment moment (word.Unfix name) = Unfix name
+at_moment moment (word.Verify name) = Verify name
+at_moment moment word.Print = Print
+at_moment moment word.Weave = Weave
+at_moment moment (word.Order name verbose) = Order name (detail_of verbose)
+at_moment moment (word.Demo number) = Demo number
 
 abbrev pub if_read : ℕ → Result words.Command WordsFault → Option Command
-if_read moment (Ok asked) = there moment asked
+if_read moment (Ok asked) = Some (at_moment moment asked)
 if_read moment (Err fault) = None
 
 -- what words ask for, by the table of commands; the moment is that of the run, in seconds since 1970
@@ -71,6 +71,7 @@ asks_folder (Some (Fix name policy)) = true
 asks_folder (Some (Unfix name)) = true
 asks_folder (Some (Verify name)) = is_valid_name name
 asks_folder (Some Print) = true
+asks_folder (Some Weave) = true
 asks_folder (Some (Order name detail)) = is_valid_name name
 asks_folder (Some (Demo number)) = false
 
@@ -88,6 +89,7 @@ rests_on_files (Some (Fix name policy)) = is_valid_name name
 rests_on_files (Some (Unfix name)) = is_valid_name name
 rests_on_files (Some (Verify name)) = is_valid_name name
 rests_on_files (Some Print) = true
+rests_on_files (Some Weave) = true
 rests_on_files (Some (Order name detail)) = is_valid_name name
 rests_on_files (Some (Demo number)) = false
 
@@ -104,6 +106,7 @@ reads_input (Some (Fix name policy)) = false
 reads_input (Some (Unfix name)) = false
 reads_input (Some (Verify name)) = false
 reads_input (Some Print) = false
+reads_input (Some Weave) = true
 reads_input (Some (Order name detail)) = false
 reads_input (Some (Demo number)) = false
 

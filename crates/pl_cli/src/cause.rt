@@ -25,6 +25,9 @@ pub enum Cause {
         kind: u8,
     },
 
+    /// The number of the first line of the script that is wrong, counted from 1.
+    Script(u64),
+
     /// The folder has too many files, or no room for one more.
     TooManyFiles,
 

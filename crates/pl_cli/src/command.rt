@@ -89,6 +89,9 @@ pub enum Command {
     /// To print the cache.
     Print,
 
+    /// To print what loads give that open their files during runs, as the script of the input says.
+    Weave,
+
     /// To print in which order the objects of the walk of that name are initialised.
     Order {
         name: Text,

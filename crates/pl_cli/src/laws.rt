@@ -9,6 +9,7 @@ ghost use Rattle.pl_cli.specs.Print.{printed};
 ghost use Rattle.pl_cli.specs.Reports.{previewed, reported};
 ghost use Rattle.pl_cli.specs.Verified.{verifies};
 ghost use Rattle.pl_cli.specs.Writes.{loosens, removes, stores, undoes};
+ghost use Rattle.pl_cli.specs.Weave.{weaves};
 ghost use Rattle.pl_cli.specs.declared.command.Content.{Content};
 ghost use Rattle.pl_cli.specs.declared.command.Detail.{Detail};
 ghost use Rattle.pl_batch.specs.declared.prelinking.Prelinking.{Prelinking};
@@ -38,8 +39,8 @@ pub fn replacements_tell()
     ensures unfix { (name : List ℕ) (files : Files) → Tells is_memory (loosens name files) }
 {}
 
-/// Nor does a run over all files, or what one would do, or a file that is compared. It does nothing.
-#[tactic(auto, using(crate::proofs::TellsLemmas::previewed_tells, crate::proofs::TellsLemmas::reported_tells, crate::proofs::TellsLemmas::verified_tells))]
+/// Nor does a run over all files, or what one would do, a file that is compared, or a weave. It does nothing.
+#[tactic(auto, using(crate::proofs::TellsLemmas::previewed_tells, crate::proofs::TellsLemmas::reported_tells, crate::proofs::TellsLemmas::verified_tells, crate::proofs::TellsLemmas::woven_tells))]
 pub fn reports_tell()
     ensures all { (detail : Detail) (asked : Prelinking) (files : Files) →
         Tells is_memory (reported detail asked files) }

@@ -29,7 +29,7 @@ fn named(alloc: Global, cause: &str, name: &Text) -> Result<Vec<u8>, AllocError>
 
 /// The text of a cause that tells a number.
 #[tactic(auto, unfolding(crate::specs::Refusals::numbered))]
-fn numbered(alloc: Global, cause: &str, number: u32) -> Result<Vec<u8>, AllocError>
+fn numbered(alloc: Global, cause: &str, number: u64) -> Result<Vec<u8>, AllocError>
     ensures { IfOk result (λ text. text.items ≡ spec.numbered cause.now number) }
 {
     Ok(format!(in alloc; "{cause} {number}")?.into_bytes())
@@ -158,7 +158,7 @@ pub fn skip_text(alloc: Global, cause: &Skip) -> Result<Vec<u8>, AllocError>
 
 /// The text of why a command is refused.
 #[tactic(auto, unfolding(crate::specs::Refusals::cause_text))]
-fn cause_text(alloc: Global, cause: &Cause) -> Result<Vec<u8>, AllocError>
+pub fn cause_text(alloc: Global, cause: &Cause) -> Result<Vec<u8>, AllocError>
     ensures { IfOk result (λ text. text.items ≡ spec.cause_text cause.now) }
 {
     match cause {
@@ -168,13 +168,14 @@ fn cause_text(alloc: Global, cause: &Cause) -> Result<Vec<u8>, AllocError>
         Cause::Load(fault) => load_text(alloc, fault),
         Cause::InputTooLarge => bare(alloc, "InputTooLarge"),
         Cause::Recipe { number, kind } => recipe_text(alloc, *number, *kind),
+        Cause::Script(line) => numbered(alloc, "Script", *line),
         Cause::TooManyFiles => bare(alloc, "TooManyFiles"),
         Cause::BadCache => bare(alloc, "BadCache"),
         Cause::FolderTooLarge => bare(alloc, "FolderTooLarge"),
         Cause::NoSlot { name, span, hole } => {
             Ok(no_slot(alloc, name, *span, *hole)?.into_bytes())
         }
-        Cause::StampsSpent(stamp) => numbered(alloc, "StampsSpent", *stamp),
+        Cause::StampsSpent(stamp) => numbered(alloc, "StampsSpent", u64::from(*stamp)),
         Cause::NotPie(name) => named(alloc, "NotPie", name),
         Cause::NotFixed(name) => named(alloc, "NotFixed", name),
     }

@@ -9,6 +9,7 @@ use pl_cache::CacheFault;
 use pl_io::{NoMemory, ReadFault};
 use pl_loader::LoadFault;
 use pl_scope::WalkFault;
+use pl_script::ScriptFault;
 use std::alloc::{AllocError, AllocFailed};
 
 /// Why a command stopped.
@@ -73,7 +74,7 @@ impl From<WalkFault> for Stop {
 }
 
 /// A cause of a command that changes files.
-fn batch_cause(cause: pl_batch::Cause) -> Cause
+pub fn batch_cause(cause: pl_batch::Cause) -> Cause
     ensures { result ≡ of_batch cause }
 {
     match cause {
@@ -154,6 +155,19 @@ impl From<RecipeFault> for Stop {
         match fault {
             RecipeFault::Bad { line, kind } => Stop::Cause(Cause::Recipe { number: line, kind }),
             RecipeFault::NoMemory => Stop::NoMemory,
+        }
+    }
+}
+
+impl From<ScriptFault> for Stop {
+    ghost use Rattle.pl_cli.specs.Stops.{of_script_fault};
+
+    ghost from_gives = { λ fault stop. stop ≡ of_script_fault fault };
+
+    fn from(fault: ScriptFault) -> Stop {
+        match fault {
+            ScriptFault::Wrong { line } => Stop::Cause(Cause::Script(line)),
+            ScriptFault::NoMemory => Stop::NoMemory,
         }
     }
 }

@@ -8,7 +8,7 @@ use std::alloc::Global;
 /// A sink that keeps all that it gets, and takes the memory for it. A call fails only for want of memory.
 #[derive(Drop)]
 pub struct TextSink {
-    text: Vec<u8>,
+    pub text: Vec<u8>,
     faults: u64,
 }
 

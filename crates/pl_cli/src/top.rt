@@ -31,6 +31,7 @@ use crate::store::store;
 use crate::text::{DIFFERS, USAGE};
 use crate::undone::undone_line;
 use crate::verify::verify;
+use crate::weave::weave;
 use crate::words::read_words;
 use crate::write::write_start;
 use crate::write_stop::WriteStop;
@@ -222,7 +223,7 @@ pub(crate) fn load_and_write<D: Folder, K: Sink>(
 ///
 /// `-a` without `-n`, `-u`, `--install`, `--make`, `--remove`, `--fix` and `--unfix` write to the folder, and no other command does. Each recovers it first, and then makes all of its changes or none. After `Done` the only image of the folder is the one with the changes; after `Refused` and `ReadFault` the recovered one; after `WriteFault` the one or the other, as the answer has it. After `DiskFault` and `NoMemory` the folder stands for the files before, after `DiskFault` perhaps for those with all changes. An image that a crash on the way leaves stands for the files before or for those after; until the first settle that is done it may be one of the images at the start.
 ///
-/// Only `--install` and `--make` read the input. Words that are no command, `--demo`, and a name of another command that is not valid, ask neither folder nor input.
+/// Only `--install`, `--make` and `--weave` read the input. Words that are no command, `--demo`, and a name of another command that is not valid, ask neither folder nor input.
 ///
 /// `now` is the moment of the run in seconds since 1970: the stamps that `-a` gives are at least so great.
 pub fn run<D: Folder, S: Source, K: Sink>(
@@ -287,6 +288,10 @@ pub fn run<D: Folder, S: Source, K: Sink>(
         Ok(Command::Print) => {
             let printed = print(alloc, folder);
             end_with(alloc, printed, output)
+        }
+        Ok(Command::Weave) => {
+            let woven = weave(alloc, folder, input);
+            end_with(alloc, woven, output)
         }
         Ok(Command::Order { name, detail }) => {
             let ordered = order(alloc, folder, name.as_str(), detail);

@@ -27,47 +27,42 @@ fn over_all(options: AllOptions, moment: u32) -> Command
     }
 }
 
-/// A command that is there, at a moment.
-fn there(command: pl_words::Command, moment: u32) -> Option<Command>
-    ensures { result ≡ spec.there moment command }
+/// A command at a moment.
+fn at_moment(command: pl_words::Command, moment: u32) -> Command
+    ensures { result ≡ spec.at_moment moment command }
 {
     match command {
-        pl_words::Command::Load { name, busy, policy } => {
-            Some(Command::Load { name, busy, policy })
-        }
-        pl_words::Command::All(options) => Some(over_all(options, moment)),
-        pl_words::Command::UndoAll => Some(Command::UndoAll),
-        pl_words::Command::Undo { names } => Some(Command::Undo { names }),
-        pl_words::Command::Install { name } => Some(Command::Store {
+        pl_words::Command::Load { name, busy, policy } => Command::Load { name, busy, policy },
+        pl_words::Command::All(options) => over_all(options, moment),
+        pl_words::Command::UndoAll => Command::UndoAll,
+        pl_words::Command::Undo { names } => Command::Undo { names },
+        pl_words::Command::Install { name } => Command::Store {
             name,
             content: Content::File,
-        }),
-        pl_words::Command::Make { name } => Some(Command::Store {
+        },
+        pl_words::Command::Make { name } => Command::Store {
             name,
             content: Content::Recipe,
-        }),
-        pl_words::Command::Remove { name } => Some(Command::Remove { name }),
-        pl_words::Command::Fix { name, policy } => Some(Command::Fix { name, policy }),
-        pl_words::Command::Unfix { name } => Some(Command::Unfix { name }),
-        pl_words::Command::Verify { name } => Some(Command::Verify { name }),
-        pl_words::Command::Print => Some(Command::Print),
+        },
+        pl_words::Command::Remove { name } => Command::Remove { name },
+        pl_words::Command::Fix { name, policy } => Command::Fix { name, policy },
+        pl_words::Command::Unfix { name } => Command::Unfix { name },
+        pl_words::Command::Verify { name } => Command::Verify { name },
+        pl_words::Command::Print => Command::Print,
+        pl_words::Command::Weave => Command::Weave,
         pl_words::Command::Order { name, verbose } => {
             let detail = if verbose { Detail::Full } else { Detail::Short };
-            Some(Command::Order { name, detail })
+            Command::Order { name, detail }
         }
-        pl_words::Command::Demo { number } => Some(Command::Demo { number }),
-        _ => None,
+        pl_words::Command::Demo { number } => Command::Demo { number },
     }
 }
 
-/// What the words ask for at a moment, in seconds since 1970. The words of a command that is not there ask for nothing.
+/// What the words ask for at a moment, in seconds since 1970.
 #[tactic(auto, unfolding(crate::specs::Words::command))]
 pub fn read_words(alloc: Global, words: &[String], moment: u32) -> Result<Command, WordsFault>
     ensures { spec.Reads (spec.command moment (map string_bytes words.now)) result }
 {
     let command = pl_words::read_words(alloc, words)?;
-    match there(command, moment) {
-        Some(command) => Ok(command),
-        None => Err(WordsFault::Usage),
-    }
+    Ok(at_moment(command, moment))
 }

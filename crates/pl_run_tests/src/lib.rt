@@ -17,3 +17,5 @@ mod steps;
 mod stopping;
 #[cfg(test)]
 mod verifying;
+#[cfg(test)]
+mod weaving;

@@ -36,6 +36,12 @@ pub enum Step {
     /// The run is refused and prints this, and every file stays as it is.
     Refused(Words, &'static str),
 
+    /// The run with this input is done and prints this, and every file stays as it is.
+    Weaves(&'static str, &'static str),
+
+    /// The same, but it is refused.
+    NotWoven(&'static str, &'static str),
+
     /// A file is made under a name by a recipe.
     Makes(&'static str, &'static str),
 
@@ -94,6 +100,21 @@ pub fn keeps(
     let before = files_in(rt.alloc(), folder)?;
     prints(rt, folder, NOW, words, want, text)?;
     assert!(rt; files_in(rt.alloc(), folder)? == before, "at {words:?}");
+    Ok(())
+}
+
+/// A weave of a script ends so, prints this, and leaves every file as it is.
+fn weaves(
+    rt: &(impl Abort + AllocGlobal),
+    folder: &mut MemoryFolder,
+    script: &str,
+    want: Status,
+    text: &str,
+) -> Result<(), Fail> {
+    let before = files_in(rt.alloc(), folder)?;
+    let woven = text_of(rt, folder, &["--weave"], script.as_bytes(), want)?;
+    assert_eq!(rt; woven.as_slice(), text.as_bytes(), "at {script}");
+    assert!(rt; files_in(rt.alloc(), folder)? == before, "at {script}");
     Ok(())
 }
 
@@ -172,6 +193,8 @@ fn take_step(
             assert!(rt; text == built(rt.alloc(), recipe)?, "at {words:?}");
             Ok(())
         }
+        Step::Weaves(script, text) => weaves(rt, folder, script, Status::Done, text),
+        Step::NotWoven(script, text) => weaves(rt, folder, script, Status::Refused, text),
         Step::Differs(words) => keeps(rt, folder, words, Status::Differs, "differs\n"),
         Step::Refused(words, text) => keeps(rt, folder, words, Status::Refused, text),
         _ => take_file_step(rt, folder, step),

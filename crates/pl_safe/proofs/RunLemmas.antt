@@ -26,7 +26,7 @@ use Rattle.pl_cli.specs.Words.{bytes_of}
 use Rattle.pl_cli.specs.Writes.{AreBytes, WritesDisk}
 use Rattle.pl_cli.specs.declared.cause.Cause.{Cause}
 use Rattle.pl_cli.specs.declared.command.Command.{Command}
-use Rattle.pl_cli.specs.declared.command.Command.TheVariants.{Load, All, Preview, UndoAll, Undo, Verify, Store, Remove, Fix, Unfix, Print, Order, Demo}
+use Rattle.pl_cli.specs.declared.command.Command.TheVariants.{Load, All, Preview, UndoAll, Undo, Verify, Store, Remove, Fix, Unfix, Print, Order, Demo, Weave}
 use Rattle.pl_cli.specs.declared.status.Status.{Status}
 use Rattle.pl_cli.specs.declared.status.Status.TheVariants as statuses
 use Rattle.pl_crash.specs.Safe.{IsSafe, IsSafeImage, after}
@@ -126,6 +126,7 @@ kind (Some (Fix name policy)) = inr (record { writes = refl; safe = λ bytes. fi
 kind (Some (Unfix name)) = inr (record { writes = refl; safe = λ bytes. loosen_safe name; keeps = λ bytes before. loosen_keeps name before; made = λ files input status e a b made. made })
 kind (Some (Verify name)) = inl (record { reads = refl; means = λ bytes. refl; keeps = refl; looks = λ files input status e a b made. made })
 kind (Some Print) = inl (record { reads = refl; means = λ bytes. refl; keeps = refl; looks = λ files input status e a b made. waits_look 1 e a b made })
+kind (Some Weave) = inl (record { reads = refl; means = λ bytes. refl; keeps = refl; looks = λ files input status e a b made. made })
 kind (Some (Order name detail)) = inl (record { reads = refl; means = λ bytes. refl; keeps = refl; looks = λ files input status e a b made. waits_look (takes (object_in files) name) e a b made })
 kind (Some (Demo number)) = inl (record { reads = refl; means = λ bytes. refl; keeps = refl; looks = λ files input status e a b made. waits_look 0 e a b made })
 

@@ -1,3 +1,4 @@
 pub mod RowLemmas
 pub mod HistoryLemmas
 pub mod OrdinaryLaws
+pub mod CopyLaws

@@ -2,6 +2,7 @@
 use Rattle.std.specs.Prelude.{◌≡◌, ◌⊎◌, ℕ, List, [], ◌∷◌, Some, slice_get, None, Result}
 use Rattle.std.specs.FinMap.{get}
 use Rattle.pl_base.specs.Files.{Files}
+use Rattle.pl_batch.specs.Copied.{kept}
 use Rattle.pl_batch.specs.declared.run.Run.{Run}
 use Rattle.pl_base.specs.Answers.{because}
 use Rattle.pl_conflict.specs.Format.{is_fast}
@@ -46,3 +47,7 @@ WeavesAreOrdinary E = (files : Files) (names : List (List ℕ)) (runs : List Run
     → KeepsTheRule (get files) → IsPastAll (get files) → slice_get names k ≡ Some name → slice_get (woven files names runs events).loaders k ≡ Some o → wanted o ≡ None
     → (taken : sound.Files) (choose : Choice) (fault : LoadFault → E) (file : List ℕ → Result (List ℕ) E) → AreSeen taken o.seen → GivesFrom taken file → HasSeen fault file o.seen
     → SameAnswer (because fault (ended choose o)) (ordinary_load (is_fast skip_causes taken name) choose o.load.busy fault file name)
+
+-- what a weave copies of a folder keeps the rule where the folder does, and no stamp of it is past the cache's last one
+abbrev pub CopiesKeep : Type 0
+CopiesKeep = (files : Files) → KeepsTheRule (get files) → IsPastAll (get files) → KeepsTheRule (get (kept files)) × IsPastAll (get (kept files))

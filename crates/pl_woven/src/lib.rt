@@ -3,4 +3,4 @@
 
 mod laws;
 
-pub use laws::{weaves_are_ordinary, woven_have_a_history};
+pub use laws::{copies_keep, weaves_are_ordinary, woven_have_a_history};

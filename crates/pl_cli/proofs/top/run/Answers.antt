@@ -1,10 +1,10 @@
 use Rattle.std.proofs.Common.{◌≡◌, Option, Some, None, map, string_bytes, sym, subst, rules}
 use Rattle.pl_cli.specs.declared.command.Command.{Command}
-use Rattle.pl_cli.specs.declared.command.Command.TheVariants.{All, Demo, Fix, Load, Order, Preview, Print, Remove, Store, Undo, UndoAll, Unfix, Verify}
+use Rattle.pl_cli.specs.declared.command.Command.TheVariants.{All, Demo, Fix, Load, Order, Preview, Print, Remove, Store, Undo, UndoAll, Unfix, Verify, Weave}
 use Rattle.pl_cli.specs.Outside.{outside}
 use Rattle.pl_cli.specs.Ran.{Ran}
 use Rattle.pl_cli.specs.Words.{command}
-use Rattle.pl_cli.proofs.RunLemmas.{came_demo, came_ordered, came_previewed, came_printed, ran_lacking, ran_usage}
+use Rattle.pl_cli.proofs.RunLemmas.{came_demo, came_ordered, came_previewed, came_printed, ran_lacking, ran_usage, came_woven}
 use Rattle.pl_cli.proofs.FixLemmas.{came_fixed, came_unfixed, named_length}
 use Rattle.pl_cli.proofs.WriteLemmas.{came_prelinked, came_removed, came_stored, came_undone, came_undone_all}
 use Rattle.pl_cli.proofs.top.run.Goals as goal
@@ -131,6 +131,17 @@ returns-in-Ok-Print-clause-ran g c =
     subst (λ (asked : Option Command). Ran asked (outside (folder c.args.folder.now) (input c.args.input.now) (output c.args.output.now)) (outside (folder c.print-printed.new.folder) (input c.args.input.now) (output c.end_with-in-Ok-Print.new.output)) c.end_with-in-Ok-Print.result)
     (sym is)
     (c.end_with-in-Ok-Print.ensures (Some Print) (folder c.args.folder.now) (folder c.print-printed.new.folder) (input c.args.input.now) (input c.args.input.now) (g.met.D.Folder.is_folder c.args.folder.now) (came_printed (input c.args.input.now) c.print-printed.result c.print-printed.ensures))
+
+pub returns-in-Ok-Weave-clause-ran : goal.returns-in-Ok-Weave-clause-ran
+returns-in-Ok-Weave-clause-ran g c =
+    let folder = g.D.Folder.seen in
+    let input = g.S.Source.seen in
+    let output = g.K.Sink.seen in
+    let is : command c.args.now (map string_bytes c.args.words.now) ≡ Some Weave = search rules in
+    subst (λ (asked : Option Command). Ran asked (outside (folder c.args.folder.now) (input c.args.input.now) (output c.args.output.now)) (outside (folder c.weave-woven.new.folder) (input c.weave-woven.new.input) (output c.end_with-in-Ok-Weave.new.output)) c.end_with-in-Ok-Weave.result)
+    (sym is)
+    (c.end_with-in-Ok-Weave.ensures (Some Weave) (folder c.args.folder.now) (folder c.weave-woven.new.folder) (input c.args.input.now) (input c.weave-woven.new.input) (g.met.D.Folder.is_folder c.args.folder.now)
+    (came_woven c.weave-woven.result c.weave-woven.ensures))
 
 pub returns-in-Ok-Order-clause-ran : goal.returns-in-Ok-Order-clause-ran
 returns-in-Ok-Order-clause-ran g c =

@@ -1,0 +1,82 @@
+-- What is added to the text of a weave.
+use Rattle.std.proofs.Common.{◌≡◌, ◌∙◌, ◌<◌, ◌≤◌, ◌+◌, ◌++◌, ◌∷◌, [], ℕ, List, length, take, zero, suc, Option, Some, None, refl, sym, ap, subst, arith, true, false}
+use Rattle.std.specs.Prelude.{Result, Ok, Err, slice_get, MatchBool, ⊤}
+use Rattle.std.proofs.lemmas.List.{length-take-le, take_more}
+use Rattle.std.proofs.lemmas.Option.{get_or_from_slice_get}
+use Rattle.pl_base.specs.Answers.{Answers, because}
+use Rattle.pl_base.specs.Streams.{got_after}
+use Rattle.pl_loader.specs.Faults.{is_memory}
+use Rattle.pl_loader.specs.Started.{IsStart, Start, Starts}
+use Rattle.pl_loader.specs.declared.fault.LoadFault.{LoadFault}
+use Rattle.pl_loader.specs.declared.started.Started.{Started}
+use Rattle.pl_place.specs.Policy.{Choice}
+use Rattle.pl_weave.specs.Opening.{Opened, ended, wanted}
+use Rattle.pl_weave.specs.Running.{HavePolicy}
+use Rattle.pl_weave.specs.declared.progress.Progress.{Progress}
+use Rattle.pl_cli.specs.LoadText.{load_text, start_of}
+use Rattle.pl_cli.specs.Refusals.{refusal}
+use Rattle.pl_cli.specs.Weave.{loader_line, loader_text, loaders_text, run_line, runs_text, start_text, state_by, wants_line}
+use Rattle.pl_cli.specs.declared.cause.Cause.TheVariants as causes
+use Rattle.pl_cli.proofs.WeaveLemmas.{loaders_push, runs_push}
+
+-- ---- one loader
+
+-- a sink that keeps all has got all
+pub kept_all : (before after text : List ℕ) → ◌≡◌ {A = Option (List ℕ)} (Some after) (got_after (Some before) text) → after ≡ before ++ text
+kept_all before after text e = cc
+
+same_start : (s : Started) (whole : Start) → IsStart s whole → start_of s ≡ whole
+same_start s whole is = λ i. record {
+  fast = is.fast i;
+  objects = is.objects i;
+  modules = is.modules i;
+  entry = is.entry i;
+  memory = λ address. is.bytes address i;
+  extents = is.extents i;
+}
+
+-- the text of what files start from
+started_text : (s : Started) (meant : Result Start LoadFault) → Starts s meant → load_text (start_of s) ≡ start_text (because causes.Load meant)
+started_text s meant starts = ap load_text (same_start s starts.0 starts.2) ∙ ap (λ (m : Result Start LoadFault). start_text (because causes.Load m)) (sym starts.1)
+
+refused_text : (fault : LoadFault) (meant : Result Start LoadFault) → is_memory fault ≡ false → Answers is_memory (Err fault) meant → refusal (causes.Load fault) ≡ start_text (because causes.Load meant)
+refused_text fault meant told answer =
+    let is : meant ≡ Err fault = subst (λ b. MatchBool b ⊤ (meant ≡ Err fault)) told answer in
+    ap (λ (m : Result Start LoadFault). start_text (because causes.Load m)) (sym is)
+
+module _ {F : Type 0} (choose : Choice) (o : Opened F) (before : List ℕ) where
+  -- it has finished
+  at_end : (text : List ℕ) → wanted o ≡ None → text ≡ start_text (because causes.Load (ended choose o)) → before ++ text ≡ before ++ loader_text choose o
+  at_end text none is = ap (λ (t : List ℕ). before ++ t) (is ∙ ap (state_by choose o) (sym none))
+
+  pub at_start : (s : Started) → wanted o ≡ None → Starts s (ended choose o) → before ++ load_text (start_of s) ≡ before ++ loader_text choose o
+  at_start s none starts = at_end (load_text (start_of s)) none (started_text s (ended choose o) starts)
+
+  pub at_refusal : (fault : LoadFault) → wanted o ≡ None → is_memory fault ≡ false → Answers is_memory (Err fault) (ended choose o) → before ++ refusal (causes.Load fault) ≡ before ++ loader_text choose o
+  at_refusal fault none told answer = at_end (refusal (causes.Load fault)) none (refused_text fault (ended choose o) told answer)
+
+  pub at_wants : (name : List ℕ) → wanted o ≡ Some name → before ++ wants_line name ≡ before ++ loader_text choose o
+  at_wants name is = ap (λ (t : List ℕ). before ++ t) (ap (state_by choose o) (sym is))
+
+-- ---- all loaders
+
+pub policy_of : {F : Type 0} (p : F) (w : List (Opened F)) (i : ℕ) (o : Opened F) → HavePolicy p w → slice_get w i ≡ Some o → o.load.policy ≡ p
+policy_of p [] i o have is = let no : ⊥ = cc in absurd no
+policy_of p (q ∷ w) zero o have is = let same : q ≡ o = cc in ap (λ (x : Opened _). x.load.policy) (sym same) ∙ have.0
+policy_of p (q ∷ w) (suc i) o have is = policy_of p w i o have.1 is
+
+pub loaders_next : {F : Type 0} (choose : Choice) (w : List (Opened F)) (i : ℕ) (o : Opened F) → slice_get w i ≡ Some o → i < length w → loaders_text choose 0 (take (i + 1) w) ≡ loaders_text choose 0 (take i w) ++ (loader_line i ++ loader_text choose o)
+loaders_next choose w i o is lt =
+    let count : 0 + length (take i w) ≡ i = let e = length-take-le i w (omega (arith, lt)) in omega (arith, e) in
+    ap (λ os. loaders_text choose 0 os) (take_more w i o lt ∙ ap (λ p. take i w ++ p ∷ []) (get_or_from_slice_get w i o o is))
+    ∙ loaders_push choose 0 (take i w) o
+    ∙ ap (λ (n : ℕ). loaders_text choose 0 (take i w) ++ (loader_line n ++ loader_text choose o)) count
+
+-- ---- all runs
+
+pub runs_next : (ps : List Progress) (i : ℕ) (p : Progress) → slice_get ps i ≡ Some p → i < length ps → runs_text 0 (take (i + 1) ps) ≡ runs_text 0 (take i ps) ++ run_line i p
+runs_next ps i p is lt =
+    let count : 0 + length (take i ps) ≡ i = let e = length-take-le i ps (omega (arith, lt)) in omega (arith, e) in
+    ap (λ xs. runs_text 0 xs) (take_more ps i p lt ∙ ap (λ q. take i ps ++ q ∷ []) (get_or_from_slice_get ps i p p is))
+    ∙ runs_push 0 (take i ps) p
+    ∙ ap (λ (n : ℕ). runs_text 0 (take i ps) ++ run_line n p) count

@@ -1,0 +1,1 @@
+-- to be written: `add_loaders` and `add_runs` in turn, then the end line (append_assoc); goal `returns`

@@ -1,0 +1,153 @@
+-- The text of loads that open their files during runs, as a script says, in a copy of a folder; or the first cause why there is none.
+use Rattle.std.specs.Prelude.{◌≡◌, ℕ, ◌+◌, ◌==◌, nat_lt, List, [], ◌∷◌, ◌++◌, codes, length, Option, Some, None, String, Vec, Result, Ok, Err, if◌then◌else◌}
+use Rattle.std.specs.declared.alloc.Global.{Global}
+use Rattle.std.specs.Borrow.{Bor}
+use Rattle.std.specs.FinMap.{get}
+use Rattle.std.specs.Fmt.{decimal}
+use Rattle.pl_base.specs.Answers.{◌>>=◌, because, unless}
+use Rattle.pl_base.specs.Digits.{line}
+use Rattle.pl_base.specs.Each.{each}
+use Rattle.pl_base.specs.Files.{Files, files_of}
+use Rattle.pl_batch.specs.Copied.{IsCopy, copied}
+use Rattle.pl_batch.specs.declared.prelinking.Prelinking.{Prelinking}
+use Rattle.pl_batch.specs.declared.run.Run.{Run}
+use Rattle.pl_batch.specs.declared.run.Run.TheVariants as runs
+use Rattle.pl_loader.specs.Started.{Start}
+use Rattle.pl_loader.specs.declared.fault.LoadFault.TheVariants.{NotThere}
+use Rattle.pl_elf.specs.declared.range.Range.{Range}
+use Rattle.pl_place.specs.Policy.{Choice, Chooses, MayChoose}
+use Rattle.pl_place.specs.Policies.{lowest}
+use Rattle.pl_script.specs.Script.{IsScript, script}
+use Rattle.pl_script.specs.declared.TheConstants.{SCRIPT}
+use Rattle.pl_script.specs.declared.fault.ScriptFault.{ScriptFault}
+use Rattle.pl_script.specs.declared.fault.ScriptFault.TheVariants as script_faults
+use Rattle.pl_script.specs.declared.line.RunLine.{RunLine}
+use Rattle.pl_script.specs.declared.line.RunLine.TheVariants.{Prelink, UndoAll, Undo, Install}
+use Rattle.pl_script.specs.declared.script.Script.{Script}
+use Rattle.pl_weave.specs.Opening.{Opened, ended, wanted}
+use Rattle.pl_weave.specs.Running.{AreRuns, HavePolicy}
+use Rattle.pl_weave.specs.Runs.{progress}
+use Rattle.pl_weave.specs.Weaving.{Weaving, woven}
+use Rattle.pl_weave.specs.declared.progress.Progress.{Progress}
+use Rattle.pl_weave.specs.declared.progress.Progress.TheVariants.{Waits, Refused, Does}
+use Rattle.pl_words.specs.declared.values.TheConstants.{REGION}
+use Rattle.pl_cli.specs.LoadText.{load_text}
+use Rattle.pl_cli.specs.Refusals.{cause_text, refusal}
+use Rattle.pl_cli.specs.Writes.{of_batch}
+use Rattle.pl_cli.specs.declared.cause.Cause.{Cause}
+use Rattle.pl_cli.specs.declared.cause.Cause.TheVariants as causes
+
+-- ---- the script
+
+-- no script means a want of memory
+abbrev pub of_script : ScriptFault → Cause
+of_script (script_faults.Wrong number) = causes.Script number
+of_script script_faults.NoMemory = causes.Script 0
+
+-- the script that an input is
+unfoldable pub script_in : List ℕ → Result Script Cause
+script_in input = unless (nat_lt SCRIPT (length input)) causes.InputTooLarge (because of_script (script input))
+
+-- ---- its runs
+
+-- a run that prelinks all files, with slots of the default region and none shared
+abbrev pub prelinking_at : ℕ → Prelinking
+prelinking_at moment = record { region = REGION; share = false; moment = moment }
+
+abbrev pub start_file : List ℕ → Option (List ℕ) → Result (List ℕ) Cause
+start_file name None = Err (causes.Load (NotThere name))
+start_file name (Some bytes) = Ok bytes
+
+-- what is installed is the file that a name has at the start
+abbrev pub run_of : Files → RunLine → Result Run Cause
+run_of files (Prelink now) = Ok (runs.All (prelinking_at now))
+run_of files UndoAll = Ok runs.UndoAll
+run_of files (Undo names) = Ok (runs.Undo names)
+run_of files (Install name from) = start_file from (get files from) >>= λ bytes. Ok (runs.Install name bytes)
+
+abbrev pub runs_of : Files → List RunLine → Result (List Run) Cause
+runs_of files asked = each (run_of files) asked
+
+-- ---- the text
+
+unfoldable pub loader_line : ℕ → List ℕ
+loader_line number = line (codes "loader " ∷ decimal number ∷ [])
+
+unfoldable pub wants_line : List ℕ → List ℕ
+wants_line name = line (codes "wants " ∷ name ∷ [])
+
+-- what a load starts from, or why it does not
+abbrev pub start_text : Result Start Cause → List ℕ
+start_text (Ok start) = load_text start
+start_text (Err cause) = refusal cause
+
+abbrev pub state_by : {F : Type 0} → Choice → Opened F → Option (List ℕ) → List ℕ
+state_by choose o (Some name) = wants_line name
+state_by choose o None = start_text (because causes.Load (ended choose o))
+
+-- the file that a loader wants; or, where it has finished, the text of its load
+abbrev pub loader_text : {F : Type 0} → Choice → Opened F → List ℕ
+loader_text choose o = state_by choose o (wanted o)
+
+-- these loaders, the first of them being of that number
+abbrev pub loaders_text : {F : Type 0} → Choice → ℕ → List (Opened F) → List ℕ
+loaders_text choose number [] = []
+loaders_text choose number (o ∷ os) = loader_line number ++ (loader_text choose o ++ loaders_text choose (number + 1) os)
+
+unfoldable pub waits_line : ℕ → List ℕ
+waits_line number = line (codes "run " ∷ decimal number ∷ codes " waits" ∷ [])
+
+unfoldable pub refused_line : ℕ → Cause → List ℕ
+refused_line number cause = line (codes "run " ∷ decimal number ∷ codes " refused " ∷ cause_text cause ∷ [])
+
+unfoldable pub done_line : ℕ → ℕ → List ℕ
+done_line number rows = line (codes "run " ∷ decimal number ∷ codes " done " ∷ decimal rows ∷ [])
+
+unfoldable pub renames_line : ℕ → ℕ → ℕ → List ℕ
+renames_line number done rows = line (codes "run " ∷ decimal number ∷ codes " renames " ∷ decimal done ∷ codes " of " ∷ decimal rows ∷ [])
+
+-- how far a run came
+abbrev pub run_line : ℕ → Progress → List ℕ
+run_line number Waits = waits_line number
+run_line number (Refused cause) = refused_line number (of_batch cause)
+run_line number (Does done rows) = if done == rows then done_line number rows else renames_line number done rows
+
+abbrev pub runs_text : ℕ → List Progress → List ℕ
+runs_text number [] = []
+runs_text number (p ∷ ps) = run_line number p ++ runs_text (number + 1) ps
+
+abbrev pub end_line : List ℕ
+end_line = line (codes "weave end" ∷ [])
+
+-- what a weave came to
+abbrev pub woven_text : {F : Type 0} → Choice → List (Opened F) → List Progress → List ℕ
+woven_text choose loaders told = loaders_text choose 0 loaders ++ (runs_text 0 told ++ end_line)
+
+-- all of them go by a policy that may be asked for each place, and answers as it may
+pub record AreChosen {F : Type 0} (pre : F → Bor (List Range) → ℕ → ℕ → Type 0) (post : F → Bor (List Range) → ℕ → ℕ → Option ℕ → Type 0) (loaders : List (Opened F)) : Type 0 where
+  pub policy : F
+  pub may : MayChoose (pre policy)
+  pub chooses : Chooses (post policy)
+  pub are : HavePolicy policy loaders
+
+-- ---- the whole
+
+abbrev pub weave_text : Choice → Weaving → List ℕ
+weave_text choose w = woven_text choose w.loaders (progress w.runs)
+
+-- the text of the weave of a script and its runs, by a policy that is a function
+abbrev pub text_by : Choice → Script → List Run → Files → List ℕ
+text_by choose s asked files = weave_text choose (woven files s.loads asked s.events)
+
+abbrev pub weaves_by : Script → Files → Result (List ℕ) Cause
+weaves_by s files = runs_of files s.runs >>= λ asked. Ok (text_by lowest s asked files)
+
+-- what a weave asks for: a script, its runs and a copy of a folder
+pub record CanWeave (s : Script) (asked : List Run) (files : List (String Global × Vec ℕ Global)) : Type 0 where
+  pub script : IsScript s
+  pub runs : AreRuns asked
+  pub copy : IsCopy files
+
+-- `--weave`: the script comes first, then what the folder has, then the files that are installed; libraries go to the lowest places
+unfoldable pub weaves : List ℕ → Files → Result (List ℕ) Cause
+weaves input files = script_in input >>= λ s. because of_batch (copied files) >>= λ copy. weaves_by s copy
