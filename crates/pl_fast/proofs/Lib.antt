@@ -1,0 +1,9 @@
+pub mod TakenLaws
+pub mod PlaceLaws
+pub mod FastLaws
+pub mod AnswerLaws
+pub mod SetLaws
+pub mod RunLaws
+pub mod FreeLaws
+pub mod LowLaws
+pub mod DemoLaws

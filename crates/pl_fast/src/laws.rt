@@ -1,0 +1,20 @@
+// Laws of fast loads.
+ghost use Rattle.pl_fast.specs.Demo.{DemoLoadsAreFast};
+ghost use Rattle.pl_fast.specs.Laws.{FilesOffTheRegionAreClear, LowProgramsKeepOff, MatchedLoadsAreFast, PrelinkedLoadsAreFast};
+
+/// `--load` of a program starts on the fast path, by every policy and whatever is busy: where its file's list tells the files of its walk, the rule of prelinked files holds at it, and no library that it needs has, at the slot that its file bears, an address that the program's file loads by its own program headers, or a busy one. It does nothing.
+pub fn matched_loads_are_fast<E>()
+    ensures { MatchedLoadsAreFast E }
+{}
+
+/// So does each program that a run which prelinks everything left prelinked, of a folder that kept the rule: its list tells its walk, since each library of it could be prelinked too. Its slots are free where its file, as it stands, keeps off the region of the run; so it does where its original's PT_LOADs end 8 GiB below it. It does nothing.
+pub fn prelinked_loads_are_fast()
+    ensures fast { PrelinkedLoadsAreFast }
+    ensures clear { FilesOffTheRegionAreClear }
+    ensures low { LowProgramsKeepOff }
+{}
+
+/// All loads of `--demo` are fast, and as many as its number draws programs, where each of these is prelinked and its file keeps off the region of the slots. It does nothing.
+pub fn demo_loads_are_fast()
+    ensures { DemoLoadsAreFast }
+{}
