@@ -1,19 +1,17 @@
 -- What is taken from a fixed file, by the object that is read of it, is what was added.
 use Rattle.std.proofs.Common.{◌≡◌, ℕ, zero, suc, ◌+◌, ◌-◌, ◌*◌, ◌/◌, ◌%◌, ◌^◌, ◌<◌, ◌≤◌, Bool, true, false, List, [], ◌∷◌, ◌++◌, length, map, take, drop, Option, Some, None, refl, sym, ap, subst, ◌∙◌, arith, inl, inr}
-use Rattle.std.specs.Prelude.{◌⊎◌, ◌||◌, ◌&&◌, ◌==◌, not, nat_le, filter, find, fold, slice_get, IfSome, if◌then◌else◌}
+use Rattle.std.specs.Prelude.{◌⊎◌, ◌||◌, ◌&&◌, ◌==◌, not, nat_le, filter, fold, slice_get, if◌then◌else◌}
 use Rattle.std.specs.List.{All, AllZip, list_any, range_with_len}
 use Rattle.std.specs.Option.{option_map}
 use Rattle.std.proofs.Math.Nat.{zero-div}
-use Rattle.std.proofs.lemmas.Bool.{cases_Bool, eqb-true, or_parts, true≢false, false≢true}
-use Rattle.std.proofs.lemmas.Bool.Decides.{nat_tests}
+use Rattle.std.proofs.lemmas.Bool.{cases_Bool, eqb-true, or_parts, true≢false}
 use Rattle.std.proofs.lemmas.List.{length-map, take-append-drop, append-nil, drop-map}
-use Rattle.std.proofs.lemmas.List.Elements.{All-head, All-tail, All-nil, All-cons}
-use Rattle.std.proofs.lemmas.Option.{slice_get-map}
+use Rattle.std.proofs.lemmas.List.Elements.{All-head, All-tail}
 use Rattle.pl_base.specs.Bytes.{part, put}
 use Rattle.pl_base.specs.Sums.{plus, round_down, round_up}
 use Rattle.pl_base.specs.Windows.{Window, on}
 use Rattle.pl_base.proofs.FindLaws.{find_passes}
-use Rattle.pl_elf.specs.Headers.{is_load, is_of_kind, loads, section_offset, segment_of_kind}
+use Rattle.pl_elf.specs.Headers.{is_load, is_of_kind, section_offset, segment_of_kind}
 use Rattle.pl_elf.specs.Kinds.{is_program}
 use Rattle.pl_elf.specs.declared.constants.TheConstants.{ADDRESS_LIMIT, PT_LOAD}
 use Rattle.pl_elf.specs.declared.range.Range.{Range}
@@ -23,7 +21,7 @@ use Rattle.pl_relr.specs.Places as relr
 use Rattle.pl_sym.specs.Definers.{is_canonical}
 use Rattle.pl_sym.specs.Symbol.{is_in_section, is_local, is_tls, is_undefined}
 use Rattle.pl_sym.specs.declared.symbol.Symbol.{Symbol}
-use Rattle.pl_object.specs.Accepted.{Accepted, tags_of}
+use Rattle.pl_object.specs.Accepted.{tags_of}
 use Rattle.pl_object.specs.FilePart.{file_window, loaded_by, loader, loads_byte}
 use Rattle.pl_object.specs.Named.{dynamic_of, jmprel_of, packed_of, rela_of, symbols_of, symtabs_of, window_in, window_of}
 use Rattle.pl_object.specs.PlaceClauses as places
@@ -38,10 +36,10 @@ use Rattle.pl_object.specs.declared.constants.TheConstants.{DYNAMIC_TABLE, FIRST
 use Rattle.pl_object.specs.declared.object.Object.{Object}
 use Rattle.pl_object.specs.declared.reloc.Reloc.{Reloc}
 use Rattle.pl_object.proofs.FilePartLaws.{loads_parts, loader_loads_byte}
-use Rattle.pl_move.specs.Moves.{all_back, moved, row_size, rows, table_window}
+use Rattle.pl_move.specs.Moves.{all_back, moved, row_size, rows}
 use Rattle.pl_move.specs.Objects.{main_tables, rows_of, symbol_rows, tables_of}
 use Rattle.pl_move.specs.declared.kind.RowKind.{RowKind}
-use Rattle.pl_move.specs.declared.kind.RowKind.TheVariants.{Entry, SegmentAddress, PhysicalAddress, TagValue, SymbolValue, RelocationPlace, RelativeAddend, PackedAddress}
+use Rattle.pl_move.specs.declared.kind.RowKind.TheVariants.{Entry, TagValue, SymbolValue, RelocationPlace, RelativeAddend, PackedAddress}
 use Rattle.pl_move.specs.declared.table.Table.{Table}
 use Rattle.pl_fixed.specs.Fixed.{KeepsItsKind, fixed, fixed_entry, fixed_header, fixed_reloc, fixed_section, fixed_segment, fixed_symbol, moves, with_value}
 use Rattle.pl_fixed.specs.Stays.{Stands, moved_window}
@@ -57,7 +55,7 @@ use Rattle.pl_pie.proofs.AtLaws.{IsAt}
 use Rattle.pl_pie.proofs.InsideLaws.{packed_is, symbols_size, whole_at}
 use Rattle.pl_pie.proofs.MemoryLaws.{Alike, segment_found, window_stays}
 use Rattle.pl_pie.proofs.MovableLaws.{below_limit, movable}
-use Rattle.pl_pie.proofs.PieLaws.{IsPie, and_both, not_true}
+use Rattle.pl_pie.proofs.PieLaws.{and_both, not_true}
 
 -- ---- tables of the same rows, or of none
 

@@ -1,5 +1,5 @@
 -- A program at an address has the image of what is read of the fixed file.
-use Rattle.std.proofs.Common.{◌≡◌, ℕ, List, ◌∷◌, refl, sym, subst, ◌∙◌}
+use Rattle.std.proofs.Common.{ℕ, List, ◌∷◌, sym, subst, ◌∙◌}
 use Rattle.std.specs.List.{AllZip}
 use Rattle.pl_base.proofs.AnswerLaws.{ok_same}
 use Rattle.pl_object.specs.declared.object.Object.{Object}

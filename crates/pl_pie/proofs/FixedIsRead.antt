@@ -7,14 +7,14 @@ use Rattle.pl_base.specs.Answers.{◌>>=◌}
 use Rattle.pl_base.specs.Bytes.{IsBytes}
 use Rattle.pl_elf.specs.declared.constants.TheConstants.{ADDRESS_LIMIT}
 use Rattle.pl_object.specs.TableClauses.{check_tables}
-use Rattle.pl_object.specs.Reads.{checked, dynamic_object, layout, linking, object, reads}
+use Rattle.pl_object.specs.Reads.{checked, dynamic_object, layout, linking, object}
 use Rattle.pl_object.specs.declared.layout.Layout.{Layout}
 use Rattle.pl_object.specs.declared.linking.Linking.{Linking}
 use Rattle.pl_object.specs.declared.object.Object.{Object}
 use Rattle.pl_object.specs.declared.refusal.Refusal.{Refusal}
 use Rattle.pl_fixed.specs.Fixed.{fixed}
 use Rattle.pl_pie.specs.Fix.{fits, fixed_bytes}
-use Rattle.pl_pie.specs.Laws.{FixedFileIsRead, IsFixed}
+use Rattle.pl_pie.specs.Laws.{FixedFileIsRead}
 use Rattle.pl_pie.specs.Pie.{pie}
 use Rattle.pl_pie.proofs.AtLaws.{IsAt, dynamic_of, file_at, headers_of, is_at, layout_of, linking_of, new_tags}
 use Rattle.pl_pie.proofs.CheckAgain.{check_again}

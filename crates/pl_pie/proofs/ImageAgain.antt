@@ -1,8 +1,7 @@
 -- The image of the object that is read of a fixed file is that of the fixed object: no byte and no relocation rests on where a link table without bytes stands.
-use Rattle.std.proofs.Common.{◌≡◌, ℕ, zero, suc, ◌+◌, Bool, true, false, List, [], ◌∷◌, ◌++◌, length, map, Option, Some, None, Result, Ok, Err, refl, sym, ap, subst, ◌∙◌, arith, inl, inr}
-use Rattle.std.specs.Prelude.{◌⊎◌, ◌||◌, ◌&&◌, ◌==◌, nat_le, nat_lt, slice_get, if◌then◌else◌}
+use Rattle.std.proofs.Common.{◌≡◌, ℕ, zero, suc, false, List, [], ◌∷◌, length, Option, Some, None, Result, Ok, Err, refl, sym, ap, subst, ◌∙◌, arith, inl, inr}
+use Rattle.std.specs.Prelude.{◌&&◌, nat_le, nat_lt, slice_get}
 use Rattle.std.specs.List.{AllZip, list_any}
-use Rattle.std.proofs.lemmas.Bool.{cases_Bool}
 use Rattle.std.proofs.lemmas.Bool.Decides.{nat_tests}
 use Rattle.pl_base.specs.Answers.{◌>>=◌}
 use Rattle.pl_base.specs.Each.{each}
@@ -15,11 +14,10 @@ use Rattle.pl_tls.specs.declared.module.Module.{Module}
 use Rattle.pl_object.specs.Relocations.{size_of}
 use Rattle.pl_object.specs.declared.object.Object.{Object}
 use Rattle.pl_object.specs.declared.reloc.Reloc.{Reloc}
-use Rattle.pl_scope.specs.Finds.{binds_itself, class_of, finds, first_in, found_for, in_member, of_member, of_symbol, own_symbol, searched, version_wanted}
+use Rattle.pl_scope.specs.Finds.{class_of, finds, first_in, found_for, in_member, of_member, of_symbol, own_symbol, searched, version_wanted}
 use Rattle.pl_scope.specs.Matching.{counts, defines, has_version, matching, unversioned, versioned}
 use Rattle.pl_scope.specs.declared.found.Found.{Found}
 use Rattle.pl_scope.specs.declared.reference.Reference.{Reference}
-use Rattle.pl_image.specs.Image.{all_pieces, any_masked}
 use Rattle.pl_image.specs.Loads.{is_masked, loaded_at, mask_at}
 use Rattle.pl_image.specs.declared.loaded.Loaded.{Loaded}
 use Rattle.pl_image.proofs.MaskLemmas.{masked_is}

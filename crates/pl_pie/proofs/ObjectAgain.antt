@@ -1,27 +1,26 @@
 -- The object that is made of the parts of a fixed file is the fixed object, but for link tables without bytes.
-use Rattle.std.proofs.Common.{◌≡◌, ℕ, ◌+◌, ◌/◌, ◌*◌, ◌%◌, ◌^◌, ◌<◌, ◌≤◌, Bool, true, false, List, [], ◌∷◌, map, Option, Some, None, refl, sym, ap, subst, ◌∙◌, arith, inl, inr}
-use Rattle.std.specs.Prelude.{◌||◌, ◌==◌, not, max, fold, bit_and, IfSome, if◌then◌else◌}
+use Rattle.std.proofs.Common.{◌≡◌, ℕ, ◌+◌, ◌%◌, ◌<◌, Bool, true, false, List, [], ◌∷◌, map, Option, Some, None, refl, sym, ap, subst, ◌∙◌, arith, inl, inr}
+use Rattle.std.specs.Prelude.{max, fold, IfSome, if◌then◌else◌}
 use Rattle.std.specs.List.{All, AllZip}
 use Rattle.std.specs.Option.{option_map}
 use Rattle.std.proofs.lemmas.Bool.{cases_Bool}
-use Rattle.std.proofs.lemmas.List.Elements.{All-head, All-tail, All-nil, All-cons}
-use Rattle.pl_base.specs.Sums.{plus, round_up}
+use Rattle.std.proofs.lemmas.List.Elements.{All-head, All-tail}
+use Rattle.pl_base.specs.Sums.{round_up}
 use Rattle.pl_base.specs.Windows.{Window}
 use Rattle.pl_dyn.specs.Kinds.{is_address_tag}
 use Rattle.pl_dyn.specs.declared.constants.TheConstants.{DT_FLAGS, DT_SYMBOLIC}
 use Rattle.pl_dyn.specs.declared.tags.Tag.{Tag}
 use Rattle.pl_elf.specs.Headers.{is_load, loads, segment_of_kind}
-use Rattle.pl_elf.specs.declared.constants.TheConstants.{ADDRESS_LIMIT, PT_TLS}
+use Rattle.pl_elf.specs.declared.constants.TheConstants.{PT_TLS}
 use Rattle.pl_elf.specs.declared.header.Header.{Header}
 use Rattle.pl_elf.specs.declared.kind.Kind.{Kind}
 use Rattle.pl_elf.specs.declared.range.Range.{Range}
-use Rattle.pl_elf.specs.declared.section.Section.{Section}
 use Rattle.pl_elf.specs.declared.segment.Segment.{Segment}
 use Rattle.pl_tls.specs.declared.block.Block.{Block}
 use Rattle.pl_object.specs.Accepted.{Accepted}
 use Rattle.pl_object.specs.PlaceClauses.{last_load}
-use Rattle.pl_object.specs.Reads.{align, block_of, end_in_memory, has_flag, is_symbolic, kind_of, object, span, tls}
-use Rattle.pl_object.specs.Tables.{has_tag, link_windows, range_of, value}
+use Rattle.pl_object.specs.Reads.{align, block_of, end_in_memory, is_symbolic, kind_of, object, span, tls}
+use Rattle.pl_object.specs.Tables.{link_windows, range_of}
 use Rattle.pl_object.specs.declared.object.Object.{Object}
 use Rattle.pl_fixed.specs.Fixed.{fixed, fixed_entry, fixed_header, fixed_reloc, fixed_section, fixed_segment, fixed_symbol}
 use Rattle.pl_fixed.specs.Stays.{Stands}

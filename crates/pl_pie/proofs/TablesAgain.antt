@@ -1,12 +1,12 @@
 -- Clauses 12 to 14 take the tables of a fixed file.
-use Rattle.std.proofs.Common.{◌≡◌, ℕ, zero, suc, ◌+◌, ◌%◌, ◌^◌, ◌<◌, ◌≤◌, Bool, true, false, List, [], ◌∷◌, length, map, Result, Ok, refl, sym, ap, subst, ◌∙◌, arith, inl, inr}
-use Rattle.std.specs.Prelude.{◌||◌, ◌&&◌, ◌==◌, not, filter, count_by, bit_and, if◌then◌else◌}
+use Rattle.std.proofs.Common.{◌≡◌, ℕ, suc, ◌^◌, ◌<◌, Bool, true, false, List, [], ◌∷◌, length, map, Ok, refl, sym, ◌∙◌, arith, inl, inr}
+use Rattle.std.specs.Prelude.{◌||◌, ◌&&◌, ◌==◌, not, filter, count_by, bit_and}
 use Rattle.std.specs.List.{All, list_any}
 use Rattle.std.proofs.lemmas.Bool.{cases_Bool, eqb-true, or_parts, true≢false, false≢true}
 use Rattle.std.proofs.lemmas.List.Elements.{All-head, All-tail, All-nil, All-cons}
 use Rattle.std.proofs.lemmas.List.Sums.{length-filter}
 use Rattle.pl_base.specs.Sums.{plus}
-use Rattle.pl_base.specs.Windows.{Window, any_share}
+use Rattle.pl_base.specs.Windows.{Window}
 use Rattle.pl_dyn.specs.Kinds.{is_address_tag}
 use Rattle.pl_dyn.specs.declared.constants.TheConstants.{DT_PLTRELSZ, DT_HASH, DT_STRTAB, DT_SYMTAB, DT_RELA, DT_RELASZ, DT_RELAENT, DT_STRSZ, DT_SYMENT, DT_PLTREL, DT_JMPREL, DT_RELR, DT_RELRSZ, DT_RELRENT, DT_GNU_HASH, DT_VERSYM, DT_VERDEF, DT_VERNEED}
 use Rattle.pl_dyn.specs.declared.tags.Tag.{Tag}
@@ -14,12 +14,10 @@ use Rattle.pl_elf.specs.declared.constants.TheConstants.{RELA_SIZE, RELR_SIZE, S
 use Rattle.pl_elf.specs.declared.header.Header.{Header}
 use Rattle.pl_elf.specs.declared.section.Section.{Section}
 use Rattle.pl_elf.specs.declared.segment.Segment.{Segment}
-use Rattle.pl_object.specs.FilePart.{file_window, in_file_part}
+use Rattle.pl_object.specs.FilePart.{file_window}
 use Rattle.pl_object.specs.TableClauses.{any_lost, any_outside, bad_jmprel, bad_packed, bad_rela, bad_relocation_tables, bad_relr_table, bad_relr_tags, bad_tables, check_tables, is_misplaced, is_other, is_uneven, lacks_tags, meets, misplaced_relr, other_dynsym, parted, tables_overlap}
 use Rattle.pl_object.specs.Tables.{begins_at, has_kind, has_tag, is_allocated, is_lost, main_windows, relr_memory, tables_memory, value}
 use Rattle.pl_object.specs.declared.object.Object.{Object}
-use Rattle.pl_object.specs.declared.refusal.Refusal.{Refusal}
-use Rattle.pl_object.specs.declared.refusal.Refusal.TheVariants.{Clause}
 use Rattle.pl_object.proofs.TabledLaws.{ArePassed}
 use Rattle.pl_fixed.specs.Fixed.{fixed_header, fixed_section, fixed_segment}
 use Rattle.pl_fixed.proofs.LookupLaws.{count_kept}
