@@ -1,0 +1,4 @@
+pub mod BackLaws
+pub mod LaidLaws
+pub mod TextLaws
+pub mod RoleLaws

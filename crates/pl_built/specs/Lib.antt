@@ -1,0 +1,5 @@
+pub mod Plain
+pub mod Planned
+pub mod Standing
+pub mod Texts
+pub mod Laws
