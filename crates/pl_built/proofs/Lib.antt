@@ -1,4 +1,9 @@
 pub mod BackLaws
 pub mod LaidLaws
 pub mod TextLaws
+pub mod RowLaws
 pub mod RoleLaws
+pub mod FileLaws
+pub mod HeadLaws
+pub mod ClauseLaws
+pub mod HeadedLaws

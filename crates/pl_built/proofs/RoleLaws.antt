@@ -151,9 +151,15 @@ some_symbols : (p : Plan) → 0 < length (symbol_table p)
 unfolding symbol_table entry_bytes
 some_symbols p = front_some _ _ (some_fields _ _)
 
+some_end : 0 < length (flat_map tag_bytes (end_tag ∷ []))
+unfolding tag_bytes
+some_end = front_some (fields (Xword 0 ∷ Xword 0 ∷ [])) [] (some_fields (Xword 0) (Xword 0 ∷ []))
+
 some_dynamic : (p : Plan) (places : List Place) → 0 < length (dynamic_table p places)
-unfolding dynamic_table tag_bytes
-some_dynamic p places = front_some _ _ (behind_some _ _ (front_some _ _ (some_fields _ _)))
+unfolding dynamic_table
+some_dynamic p places =
+    let before : List ℕ = flat_map tag_bytes (needed_tags p) ++ flat_map tag_bytes (table_tags p places) ++ flat_map tag_bytes (relocation_tags places) ++ flat_map tag_bytes (packed_tags places) ++ flat_map tag_bytes (version_tags p places) ++ flat_map tag_bytes (usual_tags p) in
+    front_some (before ++ flat_map tag_bytes (end_tag ∷ [])) (flat_map tag_bytes (spare_tags p)) (behind_some before (flat_map tag_bytes (end_tag ∷ [])) some_end)
 
 some_rela : (r : Rela) → 0 < length (rela_bytes r)
 unfolding rela_bytes
@@ -182,11 +188,11 @@ IsTold p role = (places : List Place) → (length (contents p places role) == 0)
 plain_told : (p : Plan) (a b : Bool) → 0 < length p.strings.bytes → AllByRecursion (IsTold p) (plain_roles a b (list_any is_other p.relocations) (list_any is_jump_slot p.relocations))
 unfolding contents
 plain_told p a b some = all_chosen (IsTold p) _ (
-    λ _ places. refl, λ _ places. some_bytes (sysv_table p) (some_sysv p), λ _ places. some_bytes (gnu_table p) (some_gnu p),
-    λ _ places. some_bytes (symbol_table p) (some_symbols p), λ _ places. some_bytes p.strings.bytes some,
-    λ h places. some_bytes (others p) (some_others p h), λ h places. some_bytes (jump_slots p) (some_slots p h),
-    λ _ places. some_bytes (dynamic_table p places) (some_dynamic p places),
-    λ _ places. refl, λ _ places. refl, λ _ places. refl, tt)
+    λ _ places. refl, (λ _ places. some_bytes (sysv_table p) (some_sysv p), (λ _ places. some_bytes (gnu_table p) (some_gnu p),
+    (λ _ places. some_bytes (symbol_table p) (some_symbols p), (λ _ places. some_bytes p.strings.bytes some,
+    (λ h places. some_bytes (others p) (some_others p h), (λ h places. some_bytes (jump_slots p) (some_slots p h),
+    (λ _ places. some_bytes (dynamic_table p places) (some_dynamic p places),
+    (λ _ places. refl, (λ _ places. refl, (λ _ places. refl, tt)))))))))))
 
 abbrev pub role_of : Place → Role
 role_of place = place.role
@@ -219,7 +225,7 @@ roles_run p (role ∷ roles) t u all e =
 
 -- the tables of a plain recipe are those of its sections that have one
 pub roles_stand : RolesStand
-unfolding tables
+unfolding tables plan_of
 roles_stand r t plain e = roles_run (plan_of r) (plan_of r).roles no_tables t (subst (AllByRecursion (IsTold (plan_of r))) (sym (roles_plain r plain)) (told_of r plain)) e
   where
     told_of : (r : Recipe) (plain : IsPlain r) → AllByRecursion (IsTold (plan_of r)) (plain_roles r.settings.hashes.sysv r.settings.hashes.gnu (list_any is_other r.relocations) (list_any is_jump_slot r.relocations))

@@ -203,5 +203,17 @@ text_ends s text h = elim (cases_Bool (list_any (has_text text) s.entries)) [
       | inr miss ↦ rw miss (zero_behind text rest)
     ]
 
+place_within : (text : List ℕ) (bytes : List ℕ) (es : List Entry) → AllByRecursion (IsEntry bytes) es → at_of (find (has_text text) es) ≤ length bytes
+place_within text bytes [] all = omega arith
+place_within text bytes (e ∷ es) all = elim (cases_Bool (has_text text e)) [
+  | inl hit ↦ rw hit all.0.within
+  | inr miss ↦ rw miss (place_within text bytes es all.1)
+]
+
+-- it begins inside the table
+pub text_within : (s : Strings) (text : List ℕ) → AreTexts s → text_at s text ≤ length s.bytes
+unfolding text_at
+text_within s text h = place_within text s.bytes s.entries h.entries
+
 pub texts_found : TextsAreFound
 texts_found texts text none among = text_found (texts_added start texts) text (all_texts start texts start_texts) none (among_old start texts text among)

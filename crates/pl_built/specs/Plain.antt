@@ -17,8 +17,8 @@ pub record ArePlain (s : Settings) : Type 0 where
   pub some_buckets : 0 < s.buckets
   pub few_buckets : s.buckets ≤ MAX_BUCKETS
   pub few_spare : s.spare ≤ MAX_SPARE
-  pub data : s.data_size ≤ MAX_DATA
-  pub bss : s.bss ≤ MAX_BSS
+  pub few_data : s.data_size ≤ MAX_DATA
+  pub few_bss : s.bss ≤ MAX_BSS
 
 -- a symbol without version
 pub record IsUnversioned (s : Symbol) : Type 0 where

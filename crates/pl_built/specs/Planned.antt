@@ -1,9 +1,10 @@
 -- What the headers of a built file say, by its plan.
-use Rattle.std.specs.Prelude.{ℕ, ◌+◌, Bool, true, false, List, [], ◌∷◌, map, length, codes}
+use Rattle.std.specs.Prelude.{◌≡◌, ℕ, ◌+◌, Bool, true, false, List, [], ◌∷◌, map, length, codes}
 use Rattle.pl_elf.specs.declared.constants.TheConstants.{HEADER_SIZE, SEGMENT_SIZE, SECTION_SIZE, EM_X86_64, EV_CURRENT}
 use Rattle.pl_elf.specs.declared.header.Header.{Header}
 use Rattle.pl_elf.specs.declared.section.Section.{Section}
 use Rattle.pl_elf.specs.declared.segment.Segment.{Segment}
+use Rattle.pl_elf.specs.Headers as elf
 use Rattle.pl_build.specs.declared.layout.Tables.{Tables}
 use Rattle.pl_build.specs.declared.plan.Plan.{Plan}
 use Rattle.pl_build.specs.declared.roles.Place.{Place}
@@ -82,3 +83,9 @@ planned_header p t = header_of p (length (planned_segments p t)) (sections_offse
 unfoldable pub planned_sections : Plan → Tables → List Section
 planned_sections p t =
     map section_of (section_rows p (section_names p.roles) (places_of p t (data_offset (end_of t)) (length (section_names p.roles).bytes)))
+
+-- the headers of a file are read so
+pub record IsHeaded (p : Plan) (t : Tables) (bytes : List ℕ) : Type 0 where
+  pub header : elf.header bytes ≡ planned_header p t
+  pub segments : elf.segments bytes (planned_header p t) ≡ planned_segments p t
+  pub sections : elf.sections bytes (planned_header p t) ≡ planned_sections p t

@@ -1,9 +1,11 @@
-ghost use Rattle.pl_built.specs.Laws.{RolesStand, TablesStand};
+ghost use Rattle.pl_built.specs.Rows.{EntriesAreRead, RelocsAreRead, SymbolsAreRead};
+ghost use Rattle.pl_built.specs.Laws.{FilesAreHeaded, FilesHoldTables, HeadsAreRead, RolesStand, TablesStand};
 ghost use Rattle.pl_built.specs.Texts.{TextsAreFound};
 
 /// A law: the tables of a file stand one after the other from their offset on, each at a multiple of their alignment and at its address, and at its place are its bytes.
 pub fn tables_stand()
-    ensures { TablesStand }
+    ensures stand { TablesStand }
+    ensures files { FilesHoldTables }
 {}
 
 /// A law: a text that was added to a table of strings, and has no byte 0, is the string at the offset that the table has for it.
@@ -14,4 +16,17 @@ pub fn texts_are_found()
 /// A law: of a plain recipe, a table stands for each section that has one, in the order of the sections.
 pub fn roles_stand()
     ensures { RolesStand }
+{}
+
+/// A law: the header, the program header table and the section header table of a plain recipe's file are read as the recipe's plan says, and acceptance clauses 1 to 8 take the file.
+pub fn heads_are_read()
+    ensures read { HeadsAreRead }
+    ensures taken { FilesAreHeaded }
+{}
+
+/// A law: rows of a dynamic table, of a table of relocations and of a symbol table are read as they were written, a symbol under the name that stands in the strings where its row says.
+pub fn rows_are_read()
+    ensures entries { EntriesAreRead }
+    ensures relocs { RelocsAreRead }
+    ensures symbols { SymbolsAreRead }
 {}

@@ -3,4 +3,4 @@
 
 mod law;
 
-pub use law::{roles_stand, tables_stand, texts_are_found};
+pub use law::{heads_are_read, roles_stand, rows_are_read, tables_stand, texts_are_found};
