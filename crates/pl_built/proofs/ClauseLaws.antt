@@ -1,6 +1,6 @@
 -- Acceptance clauses 1 to 8 take the file of a plain recipe.
 use Rattle.std.proofs.Common.{◌≡◌, ℕ, zero, suc, ◌+◌, ◌*◌, ◌%◌, ◌^◌, ◌<◌, ◌≤◌, Bool, true, false, List, [], ◌∷◌, ◌++◌, length, map, get_or, Option, Some, None, Result, Ok, refl, sym, ap, subst, ◌∙◌, append_assoc, length-append, arith, inl, inr}
-use Rattle.std.specs.Prelude.{not, ◌==◌, ◌&&◌, ◌||◌, nat_le, nat_lt, codes, filter, find, cond}
+use Rattle.std.specs.Prelude.{◌⊎◌, not, ◌==◌, ◌&&◌, ◌||◌, nat_le, nat_lt, codes, filter, find, cond}
 use Rattle.std.specs.List.{AllByRecursion, flat_map, list_any, range_with_len}
 use Rattle.std.proofs.lemmas.Bool.{cases_Bool, false≢true}
 use Rattle.std.proofs.lemmas.Bool.Decides.{nat_tests}
@@ -97,7 +97,7 @@ whole bytes h held =
 -- ---- 6: one PT_LOAD or two, and the dynamic table
 
 pub load_good : (s : Segment) → s.align ≡ 4096 → s.filesz ≤ s.memsz → s.vaddr % 4096 ≡ 0 → s.offset % 4096 ≡ 0 → s.vaddr + s.memsz ≤ 140737488355328 → bad_load s ≡ false
-unfolding bad_load bad_align not_congruent
+unfolding bad_load bad_align not_congruent lib.Count.ones
 load_good s align fits address offset ends =
     rw (align, not_above s.filesz s.memsz fits, address, offset, not_above (s.vaddr + s.memsz) 140737488355328 ends) refl
 
@@ -121,14 +121,12 @@ dynamic_shown false f s d good = rw (good.first_kind, good.dynamic_kind) refl
 
 pub segments_good : (h : Header) (b : Bool) (f s d : Segment) → h.phentsize ≡ 56 → AreGood f s d → bad_segment h (shown b f s d) ≡ false
 unfolding bad_segment has_second_of_a_kind overlap_in_file
-segments_good h true f s d size good =
-    rw (size, good.first_kind, good.second_kind, good.dynamic_kind, good.first_good, good.second_good, at_most 0 f.vaddr (omega arith), at_most (f.vaddr + f.memsz) s.vaddr good.apart, not_above (f.offset + f.filesz) s.offset good.files_apart) (none (nat_lt f.offset (s.offset + s.filesz)))
-  where
-    none : (b : Bool) → (b && false && nat_lt 0 f.filesz && nat_lt 0 s.filesz || false || false) ≡ false
-    none true = refl
-    none false = refl
+segments_good h true f s d size good = elim (cases_Bool (nat_lt f.offset (s.offset + s.filesz))) [
+  | inl before ↦ rw (size, good.first_good, good.second_good, good.first_kind, good.second_kind, good.dynamic_kind, at_most 0 f.vaddr (omega arith), at_most (f.vaddr + f.memsz) s.vaddr good.apart, before, not_above (f.offset + f.filesz) s.offset good.files_apart) refl
+  | inr behind ↦ rw (size, good.first_good, good.second_good, good.first_kind, good.second_kind, good.dynamic_kind, at_most 0 f.vaddr (omega arith), at_most (f.vaddr + f.memsz) s.vaddr good.apart, behind) refl
+]
 segments_good h false f s d size good =
-    rw (size, good.first_kind, good.dynamic_kind, good.first_good, at_most 0 f.vaddr (omega arith)) refl
+    rw (size, good.first_good, good.first_kind, good.dynamic_kind, at_most 0 f.vaddr (omega arith)) refl
 
 -- ---- the eight in order
 
@@ -148,5 +146,5 @@ unfolding read
 taken bytes h is t =
     rw is (refuse_next ((not_elf bytes, NotElf) ∷ (other_class bytes, Class) ∷ (other_machine h, Machine) ∷ (other_kind bytes h, Kind) ∷ (truncated bytes h, Truncated) ∷ (bad_segment h (elf.segments bytes h), BadSegment) ∷ (bad_section bytes h (elf.sections bytes h), BadSection) ∷ (no_sections h, NoSections) ∷ []) (Ok h) none)
   where
-    none : list_any (λ row. row.0) ((not_elf bytes, NotElf) ∷ (other_class bytes, Class) ∷ (other_machine h, Machine) ∷ (other_kind bytes h, Kind) ∷ (truncated bytes h, Truncated) ∷ (bad_segment h (elf.segments bytes h), BadSegment) ∷ (bad_section bytes h (elf.sections bytes h), BadSection) ∷ (no_sections h, NoSections) ∷ []) ≡ false
+    none : list_any (λ (row : Bool × HeaderFault). row.0) ((not_elf bytes, NotElf) ∷ (other_class bytes, Class) ∷ (other_machine h, Machine) ∷ (other_kind bytes h, Kind) ∷ (truncated bytes h, Truncated) ∷ (bad_segment h (elf.segments bytes h), BadSegment) ∷ (bad_section bytes h (elf.sections bytes h), BadSection) ∷ (no_sections h, NoSections) ∷ []) ≡ false
     none = rw (t.magic, t.word, t.machine, t.kind, t.inside, t.segments, t.sections, t.some) refl

@@ -1,6 +1,6 @@
 -- The file of a plain recipe meets acceptance clauses 1 to 8.
 use Rattle.std.proofs.Common.{◌≡◌, ℕ, zero, suc, ◌+◌, ◌*◌, ◌%◌, ◌^◌, ◌<◌, ◌≤◌, Bool, true, false, List, [], ◌∷◌, ◌++◌, length, map, get_or, Option, Some, None, Result, Ok, refl, sym, ap, subst, ◌∙◌, append_assoc, length-append, arith, inl, inr}
-use Rattle.std.specs.Prelude.{not, ◌==◌, ◌&&◌, ◌||◌, nat_le, nat_lt, codes, filter, find, cond}
+use Rattle.std.specs.Prelude.{◌⊎◌, not, ◌==◌, ◌&&◌, ◌||◌, nat_le, nat_lt, codes, filter, find, cond}
 use Rattle.std.specs.List.{AllByRecursion, flat_map, list_any, range_with_len}
 use Rattle.std.proofs.lemmas.Bool.{cases_Bool, false≢true}
 use Rattle.std.proofs.lemmas.Bool.Decides.{nat_tests}
@@ -88,7 +88,7 @@ standing_tables p xs from before (place ∷ places) low h =
     let s = h.0 in
     (record { some = s.some; low = omega (arith, low, s.after); within = s.within }, standing_tables p xs (place.offset + place.size) (before ++ place ∷ []) places (omega (arith, low, s.after)) h.1)
 
-found_place : (P : Place → Type 0) (name : List ℕ) (places : List Place) → AllByRecursion P places → list_any (is_at name) places ≡ true → P (place_of places name)
+pub found_place : (P : Place → Type 0) (name : List ℕ) (places : List Place) → AllByRecursion P places → list_any (is_at name) places ≡ true → P (place_of places name)
 unfolding place_of
 found_place P name [] all there = absurd (false≢true there)
 found_place P name (place ∷ places) all there = elim (cases_Bool (is_at name place)) [
@@ -168,7 +168,7 @@ unfolding chosen
 chosen_shown true f s d = refl
 chosen_shown false f s d = refl
 
-segments_shown : (p : Plan) (t : Tables) → ArePlain p.settings → is_there (place_of t.places (codes ".dynamic")) ≡ true
+pub segments_shown : (p : Plan) (t : Tables) → ArePlain p.settings → is_there (place_of t.places (codes ".dynamic")) ≡ true
     → planned_segments p t ≡ shown (has_data p.settings) (first_load p.settings (end_of t)) (second_load p.settings (end_of t)) (dynamic_segment (place_of t.places (codes ".dynamic")))
 unfolding planned_segments
 segments_shown p t plain there =
@@ -191,7 +191,7 @@ unfolding row_of section_of kind_of
 row_in p names size place (inl zeros) = inl (ap kind_of zeros)
 row_in p names size place (inr held) = inr held
 
-there_is : (place : Place) → 0 < place.size → is_there place ≡ true
+pub there_is : (place : Place) → 0 < place.size → is_there place ≡ true
 there_is place some = grind (arith, nat_tests)
 
 heads_within : (p : Plan) (t : Tables) → 64 + 56 * length (planned_segments p t) ≤ length (file_by p t)

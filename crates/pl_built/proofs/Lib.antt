@@ -1,3 +1,5 @@
+pub mod SplitLaws
+pub mod NumberLaws
 pub mod BackLaws
 pub mod LaidLaws
 pub mod TextLaws
@@ -7,3 +9,5 @@ pub mod FileLaws
 pub mod HeadLaws
 pub mod ClauseLaws
 pub mod HeadedLaws
+pub mod LoadedLaws
+pub mod TagLaws

@@ -46,7 +46,7 @@ table_back width written read fits long back alike xs all =
 read_tag : List ℕ → ℕ → Tag
 read_tag bytes at = record { number = word64 at bytes; value = word64 (at + 8) bytes }
 
-tag_long : (t : Tag) → length (tag_bytes t) ≡ 16
+pub tag_long : (t : Tag) → length (tag_bytes t) ≡ 16
 unfolding tag_bytes fields
 tag_long t = refl
 

@@ -1,6 +1,10 @@
+pub mod Split
+pub mod Numbers
 pub mod Plain
 pub mod Planned
 pub mod Standing
 pub mod Texts
 pub mod Rows
+pub mod Tags
+pub mod Loaded
 pub mod Laws

@@ -1,5 +1,9 @@
+ghost use Rattle.pl_built.specs.Numbers.{NumbersAreRead};
 ghost use Rattle.pl_built.specs.Rows.{EntriesAreRead, RelocsAreRead, SymbolsAreRead};
 ghost use Rattle.pl_built.specs.Laws.{FilesAreHeaded, FilesHoldTables, HeadsAreRead, RolesStand, TablesStand};
+ghost use Rattle.pl_built.specs.Loaded.{TablesAreLoaded};
+ghost use Rattle.pl_built.specs.Split.{PiecesAreSplit};
+ghost use Rattle.pl_built.specs.Tags.{DynamicIsRead};
 ghost use Rattle.pl_built.specs.Texts.{TextsAreFound};
 
 /// A law: the tables of a file stand one after the other from their offset on, each at a multiple of their alignment and at its address, and at its place are its bytes.
@@ -13,9 +17,19 @@ pub fn texts_are_found()
     ensures { TextsAreFound }
 {}
 
+/// A law: each table of a plain recipe's file is loaded at its address from its place in the file, by the segments that its program header table is to have.
+pub fn tables_are_loaded()
+    ensures { TablesAreLoaded }
+{}
+
 /// A law: of a plain recipe, a table stands for each section that has one, in the order of the sections.
 pub fn roles_stand()
     ensures { RolesStand }
+{}
+
+/// A law: the dynamic table of a plan is read as its tags, with as many spare entries as the recipe has, and acceptance clauses 9 to 11 refuse none.
+pub fn dynamic_is_read()
+    ensures { DynamicIsRead }
 {}
 
 /// A law: the header, the program header table and the section header table of a plain recipe's file are read as the recipe's plan says, and acceptance clauses 1 to 8 take the file.
@@ -29,4 +43,10 @@ pub fn rows_are_read()
     ensures entries { EntriesAreRead }
     ensures relocs { RelocsAreRead }
     ensures symbols { SymbolsAreRead }
+{}
+
+/// A law: the lines of a recipe and the words of a line are its pieces byte by byte, and a number of 64 bits in hexadecimal digits is read as itself.
+pub fn words_are_read()
+    ensures pieces { PiecesAreSplit }
+    ensures numbers { NumbersAreRead }
 {}

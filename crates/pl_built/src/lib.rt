@@ -3,4 +3,4 @@
 
 mod law;
 
-pub use law::{heads_are_read, roles_stand, rows_are_read, tables_stand, texts_are_found};
+pub use law::{dynamic_is_read, heads_are_read, roles_stand, rows_are_read, tables_are_loaded, tables_stand, texts_are_found, words_are_read};
