@@ -1,23 +1,14 @@
 -- Acceptance clauses 1 to 8 take the file of a plain recipe.
-use Rattle.std.proofs.Common.{◌≡◌, ℕ, zero, suc, ◌+◌, ◌*◌, ◌%◌, ◌^◌, ◌<◌, ◌≤◌, Bool, true, false, List, [], ◌∷◌, ◌++◌, length, map, get_or, Option, Some, None, Result, Ok, refl, sym, ap, subst, ◌∙◌, append_assoc, length-append, arith, inl, inr}
-use Rattle.std.specs.Prelude.{◌⊎◌, not, ◌==◌, ◌&&◌, ◌||◌, nat_le, nat_lt, codes, filter, find, cond}
-use Rattle.std.specs.List.{AllByRecursion, flat_map, list_any, range_with_len}
-use Rattle.std.proofs.lemmas.Bool.{cases_Bool, false≢true}
+use Rattle.std.proofs.Common.{◌≡◌, ℕ, zero, suc, ◌+◌, ◌*◌, ◌%◌, ◌<◌, ◌≤◌, Bool, true, false, List, [], ◌∷◌, length, Ok, refl, sym, ◌∙◌, arith, inl, inr}
+use Rattle.std.specs.Prelude.{◌⊎◌, ◌==◌, nat_le, nat_lt}
+use Rattle.std.specs.List.{AllByRecursion, list_any, range_with_len}
+use Rattle.std.proofs.lemmas.Bool.{cases_Bool}
 use Rattle.std.proofs.lemmas.Bool.Decides.{nat_tests}
-use Rattle.std.proofs.lemmas.List.{append-nil, map-append}
-use Rattle.pl_base.specs.Answers.{refuse}
-use Rattle.pl_base.specs.Bytes.{byte, part}
-use Rattle.pl_base.specs.Strings.{has_end}
-use Rattle.pl_base.specs.Sums.{plus, round_up}
-use Rattle.pl_base.specs.Windows.{any_share}
 use Rattle.pl_base.proofs.AnswerLaws.{refuse_next}
 use Rattle.pl_base.proofs.FindLaws.{any_map}
-use Rattle.pl_base.proofs.SumLaws.{plus_small, round_up-at_least, round_up-near, round_up-multiple}
-use Rattle.pl_base.proofs.WindowLaws.{part_byte}
-use Rattle.pl_elf.specs.Clauses.{passes, not_elf, other_class, other_machine, is_seen_dynamic, has_dynamic, other_kind, is_static_file, segment_passes, section_passes, truncated, bad_align, not_congruent, bad_load, ascend_from, overlap_in_file, bad_tls, has_second_of_a_kind, bad_segment, section_data, names, bad_section, no_sections, read}
+use Rattle.pl_elf.specs.Clauses.{passes, not_elf, other_class, other_machine, is_seen_dynamic, has_dynamic, other_kind, is_static_file, segment_passes, section_passes, truncated, bad_align, not_congruent, bad_load, overlap_in_file, has_second_of_a_kind, bad_segment, bad_section, no_sections, read}
 use Rattle.pl_elf.specs.Headers as elf
-use Rattle.pl_elf.specs.Headers.{is_dynamic, is_load, segment_offset}
-use Rattle.pl_elf.specs.Written as written
+use Rattle.pl_elf.specs.Headers.{is_dynamic, segment_offset}
 use Rattle.pl_elf.specs.declared.fault.HeaderFault.{HeaderFault}
 use Rattle.pl_elf.specs.declared.fault.HeaderFault.TheVariants.{NotElf, Class, Machine, Kind, Truncated, BadSegment, BadSection, NoSections}
 use Rattle.pl_elf.specs.declared.header.Header.{Header}

@@ -1,19 +1,17 @@
 -- Where the parts of a built file stand.
-use Rattle.std.proofs.Common.{◌≡◌, ℕ, zero, suc, ◌+◌, ◌-◌, ◌*◌, ◌^◌, ◌<◌, ◌≤◌, Bool, true, false, List, [], ◌∷◌, ◌++◌, length, map, replicate, Result, Ok, Err, refl, sym, ap, subst, ◌∙◌, append_assoc, length-append, arith, inl, inr}
-use Rattle.std.specs.Prelude.{codes, fold, nat_le, nat_lt, cond}
-use Rattle.std.specs.List.{AllByRecursion, flat_map}
+use Rattle.std.proofs.Common.{◌≡◌, ℕ, ◌+◌, ◌-◌, ◌*◌, ◌≤◌, true, List, [], ◌∷◌, ◌++◌, length, map, replicate, Result, Ok, Err, refl, sym, ap, subst, ◌∙◌, append_assoc, length-append, arith, inl, inr}
+use Rattle.std.specs.Prelude.{codes, fold, nat_le, nat_lt}
+use Rattle.std.specs.List.{flat_map}
 use Rattle.std.proofs.lemmas.Bool.{cases_Bool}
 use Rattle.std.proofs.lemmas.Bool.Decides.{nat_tests}
-use Rattle.std.proofs.lemmas.List.{append-nil, length-replicate, length-map}
+use Rattle.std.proofs.lemmas.List.{length-replicate}
 use Rattle.std.proofs.lemmas.List.Concat.{flat_map-append}
-use Rattle.pl_base.specs.Bytes.{bytes16, bytes32, bytes64, part, put}
+use Rattle.pl_base.specs.Bytes.{bytes16, bytes32, bytes64}
 use Rattle.pl_base.specs.Sums.{round_up}
 use Rattle.pl_base.proofs.AnswerLaws.{bind_ok, ok_same}
-use Rattle.pl_base.proofs.SumLaws.{round_up-at_least, round_up-near}
+use Rattle.pl_base.proofs.SumLaws.{round_up-at_least}
 use Rattle.pl_base.proofs.WindowLaws.{length-put}
 use Rattle.pl_base.proofs.WordLaws.{length_bytes64}
-use Rattle.pl_elf.specs.declared.header.Header.{Header}
-use Rattle.pl_elf.specs.declared.section.Section.{Section}
 use Rattle.pl_elf.specs.declared.segment.Segment.{Segment}
 use Rattle.pl_elf.specs.Written as written
 use Rattle.pl_parts.proofs.HeadLaws.{length-segment}
@@ -23,25 +21,24 @@ use Rattle.pl_build.specs.declared.layout.Tables.{Tables}
 use Rattle.pl_build.specs.declared.line.DataWord.{DataWord}
 use Rattle.pl_build.specs.declared.plan.Plan.{Plan}
 use Rattle.pl_build.specs.declared.recipe.Settings.{Settings}
-use Rattle.pl_build.specs.declared.roles.Place.{Place}
 use Rattle.pl_build.specs.declared.sections.SectionRow.{SectionRow}
 use Rattle.pl_build.specs.declared.strings.Strings.{Strings}
 use Rattle.pl_build.specs.Data.{data_bytes, word_put}
 use Rattle.pl_build.specs.Dynamic.{place_of}
 use Rattle.pl_build.specs.Fields.{field_bytes, fields}
-use Rattle.pl_build.specs.File.{ident, first_header_fields, last_header_fields, header_bytes, interp_of, front, up_to_data, places_of, file_of, parts_end, sections_offset, file_end, limited, made}
+use Rattle.pl_build.specs.File.{ident, first_header_fields, last_header_fields, header_bytes, interp_of, front, up_to_data, file_of, parts_end, sections_offset, file_end, limited, made}
 use Rattle.pl_build.specs.Layout.{filled_to, end_of, tables, too_large}
 use Rattle.pl_build.specs.Plan.{has_interp}
 use Rattle.pl_build.specs.Roles.{index_of}
-use Rattle.pl_build.specs.Sections.{first_fields, last_fields, section_bytes, section_rows}
-use Rattle.pl_build.specs.Segments.{interp_bytes, segments, with_count, data_offset}
+use Rattle.pl_build.specs.Sections.{first_fields, last_fields, section_bytes}
+use Rattle.pl_build.specs.Segments.{segments, data_offset}
 use Rattle.pl_build.specs.Strings.{section_names}
 use Rattle.pl_build.proofs.SegmentLaws.{few_segments}
-use Rattle.pl_built.specs.Planned.{header_of, section_of, planned_segments, planned_header, planned_sections}
+use Rattle.pl_built.specs.Planned.{header_of, section_of, planned_segments}
 use Rattle.pl_built.specs.Laws.{FilesHoldTables}
 use Rattle.pl_built.specs.Standing.{AreStanding, AreLaid}
 use Rattle.pl_built.proofs.LaidLaws.{standing_front, tables_laid}
-use Rattle.pl_built.proofs.BackLaws.{Begins, begins_itself, begins_more, begins_front, begins_through, rows_long}
+use Rattle.pl_built.proofs.BackLaws.{Begins, begins_itself, begins_more, begins_through, rows_long}
 
 -- ---- the bytes of rows are those that pl_elf writes
 

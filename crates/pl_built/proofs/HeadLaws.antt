@@ -1,21 +1,18 @@
 -- The header, the program header table and the section header table of a built file are read as its plan says.
-use Rattle.std.proofs.Common.{◌≡◌, ℕ, zero, suc, ◌+◌, ◌*◌, ◌%◌, ◌^◌, ◌<◌, ◌≤◌, Bool, true, false, List, [], ◌∷◌, ◌++◌, length, map, Option, Some, None, Result, Ok, refl, sym, ap, subst, ◌∙◌, append_assoc, length-append, arith, inl, inr}
-use Rattle.std.specs.Prelude.{not, ◌==◌, ◌&&◌, ◌||◌, nat_le, nat_lt, codes, filter, find, fold, position, unwrap_or, cond}
-use Rattle.std.specs.List.{AllByRecursion, flat_map, list_any, position_or_len, range_with_len}
-use Rattle.std.proofs.lemmas.Bool.{cases_Bool, and_parts, false≢true}
+use Rattle.std.proofs.Common.{◌≡◌, ℕ, ◌+◌, ◌*◌, ◌^◌, ◌<◌, ◌≤◌, Bool, true, false, List, [], ◌∷◌, ◌++◌, length, map, Option, Some, None, Ok, refl, sym, ap, subst, ◌∙◌, length-append, arith, inl, inr}
+use Rattle.std.specs.Prelude.{◌&&◌, nat_le, nat_lt, codes, filter, fold}
+use Rattle.std.specs.List.{AllByRecursion, flat_map, position_or_len, range_with_len}
+use Rattle.std.proofs.lemmas.Bool.{cases_Bool, and_parts}
 use Rattle.std.proofs.lemmas.Bool.Decides.{nat_tests}
 use Rattle.std.proofs.lemmas.List.{append-nil, length-map, map-append, take_at}
 use Rattle.pl_base.specs.Bytes.{part}
-use Rattle.pl_base.specs.Sums.{plus, round_up}
 use Rattle.pl_base.proofs.SumLaws.{plus_below, round_up-near}
-use Rattle.pl_elf.specs.declared.header.Header.{Header}
 use Rattle.pl_elf.specs.declared.section.Section.{Section}
 use Rattle.pl_elf.specs.declared.segment.Segment.{Segment}
 use Rattle.pl_elf.specs.Headers as elf
 use Rattle.pl_elf.specs.Written as written
 use Rattle.pl_elf.proofs.WrittenLaws.{header_read, segment_read, section_read}
 use Rattle.pl_parts.proofs.HeadLaws.{header_part, segment_part, section_part, length-segment, length-section}
-use Rattle.pl_build.specs.declared.kind.FileKind.{FileKind}
 use Rattle.pl_build.specs.declared.layout.Tables.{Tables}
 use Rattle.pl_build.specs.declared.plan.Plan.{Plan}
 use Rattle.pl_build.specs.declared.recipe.Recipe.{Recipe}
@@ -28,21 +25,21 @@ use Rattle.pl_build.specs.declared.strings.Strings.{Strings}
 use Rattle.pl_build.specs.Choices.{chosen}
 use Rattle.pl_build.specs.Dynamic.{place_of, null_place, is_there, is_at}
 use Rattle.pl_build.specs.Fields.{fields}
-use Rattle.pl_build.specs.File.{ident, type_of, entry_or_base, places_of, sections_offset, parts_end, file_end, file_of, header_bytes}
+use Rattle.pl_build.specs.File.{ident, type_of, entry_or_base, places_of, sections_offset, file_end, file_of, header_bytes}
 use Rattle.pl_build.specs.Layout.{end_of, filled_to, tables}
 use Rattle.pl_build.specs.Needed.{files_of}
 use Rattle.pl_build.specs.Plan.{plan_of, base_of, data_address, has_interp}
 use Rattle.pl_build.specs.Roles.{section_name, kind_of, flags_of, align_of, entsize_of, link_of, has_name, index_of}
 use Rattle.pl_build.specs.Sections.{info_of, row_of, first_places, last_places, section_rows, section_bytes}
 use Rattle.pl_build.specs.Segments.{readable, first_load, second_load, dynamic_segment, has_data, with_count, segments, data_offset}
-use Rattle.pl_build.specs.Strings.{start, section_names, role_text_added, text_added, text_at}
+use Rattle.pl_build.specs.Strings.{start, section_names, role_text_added, text_added}
 use Rattle.pl_build.specs.FileKinds.{is_position_independent}
 use Rattle.pl_built.specs.Plain.{ArePlain, IsPlain}
 use Rattle.pl_built.specs.Planned.{is_table, header_of, section_of, planned_segments, planned_header, planned_sections, IsHeaded}
 use Rattle.pl_built.specs.Laws.{HeadsAreRead}
-use Rattle.pl_built.specs.Standing.{Stands, AreStanding, AreLaid}
-use Rattle.pl_built.proofs.BackLaws.{Begins, begins_front, rows_back, part_of_begins}
-use Rattle.pl_built.proofs.FileLaws.{header_written_as, section_written_as, sections_written_as, header_long, begins_heads, heads, names_of, file_by, parts_by, shoff_long, few, made_is, before_tables, before_long}
+use Rattle.pl_built.specs.Standing.{AreStanding, AreLaid}
+use Rattle.pl_built.proofs.BackLaws.{Begins, begins_front, rows_back}
+use Rattle.pl_built.proofs.FileLaws.{header_written_as, sections_written_as, header_long, begins_heads, names_of, file_by, parts_by, shoff_long, few, made_is, before_tables, before_long}
 use Rattle.pl_built.proofs.LaidLaws.{tables_laid}
 use Rattle.pl_built.proofs.RoleLaws.{plain_roles, roles_plain, roles_stand, role_of, all_chosen, plain_needs}
 use Rattle.pl_built.proofs.TextLaws.{AreTexts, start_texts, added_texts, text_within}

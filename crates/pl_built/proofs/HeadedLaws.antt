@@ -1,17 +1,17 @@
 -- The file of a plain recipe meets acceptance clauses 1 to 8.
-use Rattle.std.proofs.Common.{◌≡◌, ℕ, zero, suc, ◌+◌, ◌*◌, ◌%◌, ◌^◌, ◌<◌, ◌≤◌, Bool, true, false, List, [], ◌∷◌, ◌++◌, length, map, get_or, Option, Some, None, Result, Ok, refl, sym, ap, subst, ◌∙◌, append_assoc, length-append, arith, inl, inr}
-use Rattle.std.specs.Prelude.{◌⊎◌, not, ◌==◌, ◌&&◌, ◌||◌, nat_le, nat_lt, codes, filter, find, cond}
+use Rattle.std.proofs.Common.{◌≡◌, ℕ, zero, suc, ◌+◌, ◌*◌, ◌%◌, ◌<◌, ◌≤◌, Bool, true, false, List, [], ◌∷◌, ◌++◌, length, map, get_or, Ok, refl, sym, ap, subst, ◌∙◌, append_assoc, length-append, arith, inl, inr}
+use Rattle.std.specs.Prelude.{◌⊎◌, not, ◌==◌, codes, filter}
 use Rattle.std.specs.List.{AllByRecursion, flat_map, list_any, range_with_len}
 use Rattle.std.proofs.lemmas.Bool.{cases_Bool, false≢true}
 use Rattle.std.proofs.lemmas.Bool.Decides.{nat_tests}
-use Rattle.std.proofs.lemmas.List.{append-nil, map-append, length-map}
+use Rattle.std.proofs.lemmas.List.{map-append}
 use Rattle.pl_base.specs.Bytes.{byte, part}
 use Rattle.pl_base.specs.Strings.{has_end}
-use Rattle.pl_base.specs.Sums.{plus, round_up}
+use Rattle.pl_base.specs.Sums.{plus}
 use Rattle.pl_base.proofs.FindLaws.{any_map}
-use Rattle.pl_base.proofs.SumLaws.{plus_small, round_up-at_least, round_up-near, round_up-multiple}
+use Rattle.pl_base.proofs.SumLaws.{plus_small, round_up-at_least, round_up-multiple}
 use Rattle.pl_base.proofs.WindowLaws.{part_byte}
-use Rattle.pl_elf.specs.Clauses.{not_elf, other_class, other_machine, has_dynamic, truncated, bad_load, bad_segment, section_data, names, bad_section, no_sections, read as elf_read}
+use Rattle.pl_elf.specs.Clauses.{not_elf, other_class, other_machine, has_dynamic, bad_load, bad_segment, section_data, names, bad_section, read as elf_read}
 use Rattle.pl_elf.specs.Headers as elf
 use Rattle.pl_elf.specs.Headers.{is_dynamic}
 use Rattle.pl_elf.specs.Written as written
@@ -25,29 +25,28 @@ use Rattle.pl_build.specs.declared.recipe.Recipe.{Recipe}
 use Rattle.pl_build.specs.declared.recipe.Settings.{Settings}
 use Rattle.pl_build.specs.declared.roles.Place.{Place}
 use Rattle.pl_build.specs.declared.roles.Role.{Role}
-use Rattle.pl_build.specs.declared.roles.Role.TheVariants.{Null, Data, Bss, Shstrtab}
+use Rattle.pl_build.specs.declared.roles.Role.TheVariants.{Data, Bss, Shstrtab}
 use Rattle.pl_build.specs.declared.sections.SectionRow.{SectionRow}
 use Rattle.pl_build.specs.declared.strings.Strings.{Strings}
 use Rattle.pl_build.specs.Choices.{chosen}
 use Rattle.pl_build.specs.Data.{data_bytes}
-use Rattle.pl_build.specs.Dynamic.{place_of, null_place, is_there, is_at}
+use Rattle.pl_build.specs.Dynamic.{place_of, is_there, is_at}
 use Rattle.pl_build.specs.Fields.{fields}
-use Rattle.pl_build.specs.File.{ident, type_of, places_of, sections_offset, parts_end, file_end, file_of, header_bytes, made, up_to_data}
+use Rattle.pl_build.specs.File.{ident, type_of, places_of, sections_offset, parts_end, file_of, header_bytes, up_to_data}
 use Rattle.pl_build.specs.FileKinds.{is_position_independent}
 use Rattle.pl_build.specs.Layout.{end_of, filled_to, tables}
 use Rattle.pl_build.specs.Plan.{plan_of, base_of, data_address}
 use Rattle.pl_build.specs.Roles.{section_name, kind_of, has_name, index_of}
 use Rattle.pl_build.specs.Sections.{row_of, first_places, last_places, section_rows, section_bytes}
 use Rattle.pl_build.specs.Segments.{readable, first_load, second_load, dynamic_segment, has_data, data_offset, segments}
-use Rattle.pl_build.specs.Strings.{section_names, text_at}
 use Rattle.pl_built.specs.Laws.{FilesAreHeaded}
 use Rattle.pl_built.specs.Plain.{ArePlain, IsPlain}
 use Rattle.pl_built.specs.Planned.{is_table, header_of, section_of, planned_segments, planned_header, planned_sections, IsHeaded}
-use Rattle.pl_built.specs.Standing.{Stands, AreStanding, AreLaid}
-use Rattle.pl_built.proofs.BackLaws.{Begins, begins_long, part_of_begins, rows_long}
-use Rattle.pl_built.proofs.ClauseLaws.{not_above, at_most, not_at_most, seen, known_kind, IsInFile, IsHeldIn, AreInside, whole, load_good, shown, AreGood, dynamic_shown, segments_good, IsTaken, taken}
+use Rattle.pl_built.specs.Standing.{AreStanding, AreLaid}
+use Rattle.pl_built.proofs.BackLaws.{begins_long, part_of_begins, rows_long}
+use Rattle.pl_built.proofs.ClauseLaws.{not_above, not_at_most, seen, known_kind, IsInFile, IsHeldIn, AreInside, whole, load_good, shown, AreGood, dynamic_shown, segments_good, IsTaken, taken}
 use Rattle.pl_built.proofs.FileLaws.{names_of, file_by, parts_by, heads, before_tables, before_long, begins_heads, begins_parts, segments_long, shoff_long, data_after, data_long, header_long, sections_written_as, made_is}
-use Rattle.pl_built.proofs.HeadLaws.{all_append, base_small, sixteen, few_roles, plain_settings, plain_segments, places_roles, sections_count, names_texts, data_small, headed, plain_first}
+use Rattle.pl_built.proofs.HeadLaws.{all_append, base_small, sixteen, few_roles, plain_settings, plain_segments, sections_count, names_texts, data_small, headed, plain_first}
 use Rattle.pl_built.proofs.LaidLaws.{tables_laid}
 use Rattle.pl_built.proofs.RoleLaws.{plain_roles, roles_plain, roles_stand, role_of}
 use Rattle.pl_built.proofs.TextLaws.{AreTexts, text_ends}

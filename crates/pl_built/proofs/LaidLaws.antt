@@ -1,13 +1,11 @@
 -- The tables stand one after the other.
-use Rattle.std.proofs.Common.{◌≡◌, ℕ, ◌+◌, ◌-◌, ◌%◌, ◌≤◌, ◌<◌, Bool, true, false, List, [], ◌∷◌, ◌++◌, length, replicate, Result, Ok, Err, refl, sym, ap, subst, ◌∙◌, append_assoc, length-append, drop, take, arith, inl, inr}
-use Rattle.std.specs.Prelude.{nat_lt, ◌==◌, cond}
+use Rattle.std.proofs.Common.{◌≡◌, ℕ, ◌+◌, ◌-◌, ◌%◌, ◌≤◌, ◌<◌, List, [], ◌∷◌, ◌++◌, length, replicate, Result, Ok, Err, refl, sym, ap, subst, ◌∙◌, append_assoc, length-append, take, arith, inl, inr}
+use Rattle.std.specs.Prelude.{nat_lt, ◌==◌}
 use Rattle.std.proofs.lemmas.Bool.{cases_Bool}
 use Rattle.std.proofs.lemmas.Bool.Decides.{nat_tests}
 use Rattle.std.proofs.lemmas.List.{append-nil, length-replicate}
-use Rattle.pl_base.specs.Answers.{◌>>=◌}
-use Rattle.pl_base.specs.Bytes.{part}
 use Rattle.pl_base.specs.Each.{run}
-use Rattle.pl_base.specs.Sums.{plus, round_up}
+use Rattle.pl_base.specs.Sums.{round_up}
 use Rattle.pl_base.proofs.AnswerLaws.{ok_same, bind_ok}
 use Rattle.pl_base.proofs.SumLaws.{round_up-at_least, round_up-multiple}
 use Rattle.std.proofs.Math.Seq.{drop-append_seam}

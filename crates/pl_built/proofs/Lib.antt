@@ -11,3 +11,4 @@ pub mod ClauseLaws
 pub mod HeadedLaws
 pub mod LoadedLaws
 pub mod TagLaws
+pub mod SymbolLaws

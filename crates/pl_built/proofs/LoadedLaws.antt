@@ -1,9 +1,8 @@
 -- The tables of a plain recipe's file are loaded at their addresses.
-use Rattle.std.proofs.Common.{◌≡◌, ℕ, ◌+◌, ◌-◌, ◌%◌, ◌^◌, ◌<◌, ◌≤◌, Bool, true, false, List, [], ◌∷◌, ◌++◌, length, Option, Some, None, Ok, refl, sym, ap, subst, ◌∙◌, length-append, arith}
-use Rattle.std.specs.Prelude.{◌==◌, ◌&&◌, nat_le, nat_lt, codes, find, min, cond}
+use Rattle.std.proofs.Common.{◌≡◌, ℕ, ◌+◌, ◌-◌, ◌<◌, ◌≤◌, Bool, true, false, List, [], ◌∷◌, ◌++◌, Some, refl, sym, ap, subst, ◌∙◌, arith}
+use Rattle.std.specs.Prelude.{nat_lt, codes, find, min}
 use Rattle.std.specs.List.{AllByRecursion}
 use Rattle.pl_base.specs.Bytes.{part}
-use Rattle.pl_base.specs.Sums.{plus}
 use Rattle.pl_base.specs.Windows.{Window}
 use Rattle.pl_base.proofs.SumLaws.{plus_small}
 use Rattle.pl_elf.specs.declared.segment.Segment.{Segment}
@@ -11,20 +10,17 @@ use Rattle.pl_object.specs.FilePart.{loads_byte, loader, file_window, loaded}
 use Rattle.std.proofs.lemmas.Bool.Decides.{nat_tests}
 use Rattle.pl_build.specs.declared.layout.Tables.{Tables}
 use Rattle.pl_build.specs.declared.plan.Plan.{Plan}
-use Rattle.pl_build.specs.declared.recipe.Recipe.{Recipe}
 use Rattle.pl_build.specs.declared.recipe.Settings.{Settings}
 use Rattle.pl_build.specs.declared.roles.Place.{Place}
-use Rattle.pl_build.specs.Dynamic.{place_of, is_at}
+use Rattle.pl_build.specs.Dynamic.{place_of}
 use Rattle.pl_build.specs.File.{sections_offset}
-use Rattle.pl_build.specs.Layout.{contents, end_of, tables}
+use Rattle.pl_build.specs.Layout.{end_of}
 use Rattle.pl_build.specs.Plan.{plan_of, base_of}
 use Rattle.pl_build.specs.Segments.{readable, first_load, second_load, dynamic_segment, has_data}
 use Rattle.pl_built.specs.Loaded.{memory_of, IsLoaded, AreLoaded, TablesAreLoaded}
-use Rattle.pl_built.specs.Plain.{IsPlain}
-use Rattle.pl_built.specs.Planned.{planned_segments}
 use Rattle.pl_built.specs.Standing.{Stands, AreStanding, AreLaid}
 use Rattle.pl_built.proofs.ClauseLaws.{at_most, shown}
-use Rattle.pl_built.proofs.FileLaws.{names_of, file_by, before_tables, before_long, begins_tables, made_is}
+use Rattle.pl_built.proofs.FileLaws.{names_of, before_tables, before_long, begins_tables, made_is}
 use Rattle.pl_built.proofs.HeadLaws.{base_small, plain_settings}
 use Rattle.pl_built.proofs.HeadedLaws.{IsTable, laid_tables, found_place, dynamic_there, segments_shown, there_is}
 use Rattle.pl_built.proofs.LaidLaws.{standing_front, tables_laid}

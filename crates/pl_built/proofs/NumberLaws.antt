@@ -1,6 +1,6 @@
 -- Hexadecimal digits are read back.
-use Rattle.std.proofs.Common.{◌≡◌, ℕ, zero, suc, ◌+◌, ◌-◌, ◌*◌, ◌/◌, ◌%◌, ◌^◌, ◌<◌, ◌≤◌, Bool, true, false, List, [], ◌∷◌, length, Option, Some, refl, sym, ap, subst, ◌∙◌, arith, inl, inr}
-use Rattle.std.specs.Prelude.{◌==◌, ◌&&◌, ◌||◌, nat_le, nat_lt, fold, cond}
+use Rattle.std.proofs.Common.{◌≡◌, ℕ, zero, suc, ◌+◌, ◌-◌, ◌*◌, ◌/◌, ◌%◌, ◌^◌, ◌<◌, ◌≤◌, true, false, List, [], ◌∷◌, length, Some, refl, sym, ap, ◌∙◌, arith, inl, inr}
+use Rattle.std.specs.Prelude.{◌==◌, nat_le, nat_lt, fold}
 use Rattle.std.specs.Fmt.{digits, digits_onto, digit_glyph}
 use Rattle.std.specs.List.{list_all}
 use Rattle.std.proofs.lemmas.Bool.{cases_Bool, cases_lt}
@@ -112,7 +112,7 @@ only_digits (suc fuel) n acc all = elim (cases_Bool (n / 16 == 0)) [
 pub numbers_read : NumbersAreRead
 unfolding number is_number value digits
 numbers_read n small =
-    let some : nat_le 1 (length (digits_onto 64 16 false n [])) ≡ true = at_most 1 (length (digits_onto 64 16 false n [])) (first_digit 63 n) in
+    let some : nat_le 1 (length (digits_onto 64 16 false n [])) ≡ true = at_most 1 (length (digits_onto 64 16 false n [])) (omega (arith, first_digit 63 n)) in
     let few : nat_le (length (digits_onto 64 16 false n [])) 16 ≡ true = at_most (length (digits_onto 64 16 false n [])) 16 (few_digits 16 64 n [] (omega arith) (omega arith) small) in
     rw (some, few, only_digits 64 n [] refl) (ap (λ (v : ℕ). Some v) (valued 16 64 n [] (omega arith) (omega arith) small small))
   where

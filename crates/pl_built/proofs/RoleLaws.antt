@@ -1,6 +1,6 @@
 -- Which tables there are.
-use Rattle.std.proofs.Common.{◌≡◌, ℕ, zero, suc, ◌+◌, ◌<◌, Bool, true, false, List, [], ◌∷◌, ◌++◌, length, map, Result, Ok, Err, refl, sym, ap, subst, ◌∙◌, append_assoc, length-append, arith, inl, inr}
-use Rattle.std.specs.Prelude.{not, ◌==◌, ◌&&◌, ◌||◌, filter, fold, cond}
+use Rattle.std.proofs.Common.{◌≡◌, ℕ, ◌<◌, Bool, true, false, List, [], ◌∷◌, ◌++◌, length, map, Ok, refl, sym, ap, subst, ◌∙◌, append_assoc, length-append, arith, inl, inr}
+use Rattle.std.specs.Prelude.{not, ◌==◌, ◌&&◌, filter, fold}
 use Rattle.std.specs.List.{AllByRecursion, flat_map, list_any}
 use Rattle.std.proofs.lemmas.Bool.{cases_Bool, false≢true}
 use Rattle.std.proofs.lemmas.Bool.Decides.{nat_tests}
@@ -31,11 +31,10 @@ use Rattle.pl_build.specs.Plan.{plan_of, roles_of, first_roles, next_roles, last
 use Rattle.pl_build.specs.Relocations.{rela_bytes, rela_of, jump_slots, others}
 use Rattle.pl_build.specs.Strings.{start, texts_added, symbols_added, symbol_added, versions_added, files_added}
 use Rattle.pl_build.specs.SymbolTable.{symbol_table, entry_bytes}
-use Rattle.pl_build.specs.Symbols.{ordered}
-use Rattle.pl_built.specs.Plain.{ArePlain, IsPlain, IsUnversioned}
+use Rattle.pl_built.specs.Plain.{IsPlain, IsUnversioned}
 use Rattle.pl_built.specs.Planned.{is_table}
 use Rattle.pl_built.specs.Laws.{RolesStand}
-use Rattle.pl_built.proofs.BackLaws.{Begins, begins_long}
+use Rattle.pl_built.proofs.BackLaws.{begins_long}
 use Rattle.pl_built.proofs.LaidLaws.{in_limit_ok}
 use Rattle.pl_built.proofs.TextLaws.{AreTexts, start_texts, added_texts, all_texts}
 

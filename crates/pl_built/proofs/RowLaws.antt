@@ -1,9 +1,8 @@
 -- Rows of tables are read as they were written.
-use Rattle.std.proofs.Common.{◌≡◌, ℕ, zero, suc, ◌+◌, ◌*◌, ◌/◌, ◌%◌, ◌^◌, ◌<◌, ◌≤◌, List, [], ◌∷◌, ◌++◌, length, map, drop, Option, Some, None, Result, Ok, Err, refl, sym, ap, subst, ◌∙◌, arith}
+use Rattle.std.proofs.Common.{◌≡◌, ℕ, ◌+◌, ◌*◌, ◌/◌, ◌%◌, ◌<◌, List, [], ◌∷◌, length, map, Option, Some, None, Result, Ok, Err, refl, ap, ◌∙◌, arith}
 use Rattle.std.specs.List.{AllByRecursion, flat_map, range_with_len}
 use Rattle.std.specs.Int.{byte_at}
 use Rattle.byteorder.specs.Numbers.{little_number-reads_back}
-use Rattle.pl_base.specs.Answers.{◌>>=◌}
 use Rattle.pl_base.specs.Bytes.{byte, part, word16, word32, word64}
 use Rattle.pl_base.specs.Each.{each}
 use Rattle.pl_base.specs.Strings.{string_at}
@@ -16,7 +15,6 @@ use Rattle.pl_sym.specs.declared.fault.SymFault.{SymFault}
 use Rattle.pl_sym.specs.declared.fault.SymFault.TheVariants.{BadSymbol}
 use Rattle.pl_sym.specs.declared.symbol.Symbol.{Symbol}
 use Rattle.pl_object.specs.Relocations.{relocs, reloc_at}
-use Rattle.pl_object.specs.declared.reloc.Reloc.{Reloc}
 use Rattle.pl_build.specs.declared.fields.Field.TheVariants.{Byte, Half, Word, Xword}
 use Rattle.pl_build.specs.declared.relocations.Rela.{Rela}
 use Rattle.pl_build.specs.declared.symbol_table.SymbolEntry.{SymbolEntry}
@@ -94,7 +92,7 @@ rela_alike bytes at =
     let here : at + 0 ≡ at = omega arith in
     rw (word64_part at 24 0 bytes (omega arith) ∙ ap (λ (n : ℕ). word64 n bytes) here, word32_part at 24 8 bytes (omega arith), word32_part at 24 12 bytes (omega arith), word64_part at 24 16 bytes (omega arith)) refl
 
-map_map : {X Y Z : Type 0} (f : Y → Z) (g : X → Y) (xs : List X) → map (λ x. f (g x)) xs ≡ map f (map g xs)
+pub map_map : {X Y Z : Type 0} (f : Y → Z) (g : X → Y) (xs : List X) → map (λ x. f (g x)) xs ≡ map f (map g xs)
 map_map f g [] = refl
 map_map {Z = Z} f g (x ∷ xs) = ap (λ (zs : List Z). f (g x) ∷ zs) (map_map f g xs)
 

@@ -1,13 +1,12 @@
 -- The pieces of a text between a separator's places, byte by byte.
-use Rattle.std.proofs.Common.{◌≡◌, ℕ, zero, suc, ◌+◌, ◌-◌, ◌<◌, ◌≤◌, Bool, true, false, List, [], ◌∷◌, ◌++◌, length, take, drop, get_or, refl, sym, ap, subst, ◌∙◌, append_assoc, length-append, length-drop, drop-cons, add-one, arith, inl, inr}
-use Rattle.std.specs.Prelude.{◌==◌, ◌&&◌, nat_le, cond}
+use Rattle.std.proofs.Common.{◌≡◌, ℕ, zero, suc, ◌+◌, ◌-◌, ◌<◌, ◌≤◌, Bool, true, false, List, [], ◌∷◌, ◌++◌, length, take, drop, get_or, refl, sym, ap, ◌∙◌, append_assoc, length-drop, drop-cons, add-one, arith, inl, inr}
+use Rattle.std.specs.Prelude.{◌==◌, ◌&&◌, nat_le}
 use Rattle.std.specs.List.{list_any}
 use Rattle.std.proofs.lemmas.Bool.{cases_Bool, cases_lt, false≢true}
 use Rattle.std.proofs.lemmas.Bool.Decides.{nat_tests}
 use Rattle.std.proofs.lemmas.List.{append-nil, take_all, take_more, drop_all, get_or-drop}
-use Rattle.bstr.specs.Find.{matches}
 use Rattle.bstr.specs.Text.{part, split_at}
-use Rattle.memchr.specs.Find.{matches_from, occurs_at, match_len}
+use Rattle.memchr.specs.Find.{matches_from, occurs_at}
 use Rattle.pl_build.specs.Words.{pieces}
 use Rattle.pl_built.specs.Split.{onto, split_by, PiecesAreSplit}
 

@@ -1,15 +1,17 @@
 -- The dynamic table of a plan is read as its tags.
-use Rattle.std.proofs.Common.{◌≡◌, ℕ, zero, suc, ◌+◌, ◌-◌, ◌*◌, ◌%◌, ◌^◌, ◌<◌, ◌≤◌, Bool, true, false, List, [], ◌∷◌, ◌++◌, length, map, take, drop, Option, Some, None, Ok, refl, sym, ap, subst, ◌∙◌, append_assoc, length-append, arith, inl, inr}
-use Rattle.std.specs.Prelude.{not, ◌==◌, ◌&&◌, ◌||◌, nat_lt, find, count_by, cond}
+use Rattle.std.proofs.Common.{◌≡◌, ℕ, zero, suc, ◌+◌, ◌-◌, ◌*◌, ◌%◌, ◌≤◌, Bool, true, false, List, [], ◌∷◌, ◌++◌, length, map, None, Result, Ok, refl, sym, ap, subst, ◌∙◌, append_assoc, arith, inl, inr}
+use Rattle.std.specs.Prelude.{not, ◌==◌, ◌&&◌, nat_lt, find, count_by, cond}
 use Rattle.std.specs.List.{AllByRecursion, flat_map, list_all, list_any, position_or_len, range_with_len}
 use Rattle.std.proofs.lemmas.Bool.{cases_Bool, false≢true, and_parts}
 use Rattle.std.proofs.lemmas.Bool.Decides.{nat_tests}
-use Rattle.std.proofs.lemmas.List.{append-nil}
 use Rattle.std.proofs.lemmas.List.Concat.{flat_map-append}
+use Rattle.std.proofs.lemmas.List.Sums.{sum_by-append, sum_by-cons}
 use Rattle.std.proofs.Math.Seq.{take-append_seam, drop-append_seam}
 use Rattle.pl_dyn.specs.Entries.{entries, is_null, tags, only_nulls_follow, null_count, is_ended}
 use Rattle.pl_dyn.specs.Kinds.{is_address_tag, is_value_tag, is_prelink_tag, is_listed, is_unknown}
 use Rattle.pl_dyn.specs.Read.{has_number, stands_twice, first_unknown, first_twice, read}
+use Rattle.pl_dyn.specs.declared.dynamic.Dynamic.{Dynamic}
+use Rattle.pl_dyn.specs.declared.fault.DynFault.{DynFault}
 use Rattle.pl_dyn.specs.declared.tags.Tag.{Tag}
 use Rattle.pl_build.specs.declared.plan.Plan.{Plan}
 use Rattle.pl_build.specs.declared.roles.Place.{Place}
@@ -26,32 +28,42 @@ use Rattle.pl_built.proofs.BackLaws.{rows_long}
 -- ---- how often a number stands
 
 count_append : {X : Type 0} (p : X → Bool) (xs ys : List X) → count_by p (xs ++ ys) ≡ count_by p xs + count_by p ys
-count_append p [] ys = omega arith
-count_append p (x ∷ xs) ys = let more = count_append p xs ys in omega (arith, more)
+count_append p xs ys = sum_by-append (λ x. cond (p x) 1 0) xs ys
+
+count_no : {X : Type 0} (p : X → Bool) (x : X) (xs : List X) → p x ≡ false → count_by p (x ∷ xs) ≡ count_by p xs
+count_no p x xs h =
+    let one : cond (p x) 1 0 ≡ 0 = rw h refl in
+    omega (arith, sum_by-cons (λ y. cond (p y) 1 0) x xs, one)
+
+count_yes : {X : Type 0} (p : X → Bool) (x : X) (xs : List X) → p x ≡ true → count_by p (x ∷ xs) ≡ count_by p xs + 1
+count_yes p x xs h =
+    let one : cond (p x) 1 0 ≡ 1 = rw h refl in
+    omega (arith, sum_by-cons (λ y. cond (p y) 1 0) x xs, one)
+
+abbrev pub is_number : ℕ → ℕ → Bool
+is_number n m = m == n
 
 -- each number once
-abbrev distinct : List ℕ → Bool
+abbrev pub distinct : List ℕ → Bool
 distinct [] = true
-distinct (n ∷ ns) = not (list_any (λ m. m == n) ns) && distinct ns
+distinct (n ∷ ns) = not (list_any (is_number n) ns) && distinct ns
 
-count_none : (n : ℕ) (ns : List ℕ) → list_any (λ m. m == n) ns ≡ false → count_by (λ m. m == n) ns ≡ 0
+count_none : (n : ℕ) (ns : List ℕ) → list_any (is_number n) ns ≡ false → count_by (is_number n) ns ≡ 0
 count_none n [] none = refl
 count_none n (m ∷ ns) none = elim (cases_Bool (m == n)) [
   | inl hit ↦ absurd (false≢true (sym (rw hit at none)))
-  | inr miss ↦ let more = count_none n ns (rw miss at none) in rw miss (omega (arith, more))
+  | inr miss ↦ count_no (is_number n) m ns miss ∙ count_none n ns (rw miss at none)
 ]
 
-count_once : (n : ℕ) (ns : List ℕ) → distinct ns ≡ true → count_by (λ m. m == n) ns ≤ 1
+count_once : (n : ℕ) (ns : List ℕ) → distinct ns ≡ true → count_by (is_number n) ns ≤ 1
 count_once n [] h = omega arith
 count_once n (m ∷ ns) h =
-    let parts = and_parts (not (list_any (λ k. k == m) ns)) (distinct ns) h in
+    let parts = and_parts (not (list_any (is_number m) ns)) (distinct ns) h in
     elim (cases_Bool (m == n)) [
       | inl hit ↦
-          let same : m ≡ n = same_number m n hit in
-          let none : list_any (λ k. k == n) ns ≡ false = subst (λ (x : ℕ). list_any (λ k. k == x) ns ≡ false) same (not_true (list_any (λ k. k == m) ns) parts.0) in
-          let rest = count_none n ns none in
-          rw hit (omega (arith, rest))
-      | inr miss ↦ let rest = count_once n ns parts.1 in rw miss (omega (arith, rest))
+          let none : list_any (is_number n) ns ≡ false = subst (λ (x : ℕ). list_any (is_number x) ns ≡ false) (same_number m n hit) (not_true (list_any (is_number m) ns) parts.0) in
+          omega (arith, count_yes (is_number n) m ns hit, count_none n ns none)
+      | inr miss ↦ omega (arith, count_no (is_number n) m ns miss, count_once n ns parts.1)
     ]
   where
     same_number : (a b : ℕ) → (a == b) ≡ true → a ≡ b
@@ -61,48 +73,69 @@ count_once n (m ∷ ns) h =
     not_true false h = refl
 
 -- of rows that are chosen, no number stands more often than among all
-chosen_count : (n : ℕ) (cs : List (Bool × Tag)) → count_by (has_number n) (chosen cs) ≤ count_by (λ m. m == n) (map (λ c. c.1.number) cs)
+abbrev pub numbers_of : List (Bool × Tag) → List ℕ
+numbers_of cs = map (λ c. c.1.number) cs
+
+chosen_count : (n : ℕ) (cs : List (Bool × Tag)) → count_by (has_number n) (chosen cs) ≤ count_by (is_number n) (numbers_of cs)
 unfolding chosen
 chosen_count n [] = omega arith
 chosen_count n (c ∷ cs) =
     let more = chosen_count n cs in
-    elim (cases_Bool c.0) [
-      | inl there ↦ rw there (omega (arith, more))
-      | inr missing ↦ rw missing (omega (arith, more))
+    elim (cases_Bool (c.1.number == n)) [
+      | inl hit ↦
+          let all : count_by (is_number n) (c.1.number ∷ numbers_of cs) ≡ count_by (is_number n) (numbers_of cs) + 1 = count_yes (is_number n) c.1.number (numbers_of cs) hit in
+          elim (cases_Bool c.0) [
+            | inl there ↦
+                let le : count_by (has_number n) (c.1 ∷ chosen cs) ≤ count_by (is_number n) (c.1.number ∷ numbers_of cs) = omega (arith, more, all, count_yes (has_number n) c.1 (chosen cs) hit) in
+                rw there le
+            | inr missing ↦
+                let le : count_by (has_number n) (chosen cs) ≤ count_by (is_number n) (c.1.number ∷ numbers_of cs) = omega (arith, more, all) in
+                rw missing le
+          ]
+      | inr miss ↦
+          let all : count_by (is_number n) (c.1.number ∷ numbers_of cs) ≡ count_by (is_number n) (numbers_of cs) = count_no (is_number n) c.1.number (numbers_of cs) miss in
+          elim (cases_Bool c.0) [
+            | inl there ↦
+                let le : count_by (has_number n) (c.1 ∷ chosen cs) ≤ count_by (is_number n) (c.1.number ∷ numbers_of cs) = omega (arith, more, all, count_no (has_number n) c.1 (chosen cs) miss) in
+                rw there le
+            | inr missing ↦
+                let le : count_by (has_number n) (chosen cs) ≤ count_by (is_number n) (c.1.number ∷ numbers_of cs) = omega (arith, more, all) in
+                rw missing le
+          ]
     ]
 
-table_count : (n : ℕ) (p : Plan) (places : List Place) → count_by (has_number n) (table_tags p places) ≤ count_by (λ m. m == n) (4 ∷ 0x6ffffef5 ∷ 5 ∷ 6 ∷ 10 ∷ 11 ∷ 16 ∷ [])
+table_count : (n : ℕ) (p : Plan) (places : List Place) → count_by (has_number n) (table_tags p places) ≤ count_by (is_number n) (4 ∷ 0x6ffffef5 ∷ 5 ∷ 6 ∷ 10 ∷ 11 ∷ 16 ∷ [])
 unfolding table_tags
 table_count n p places = chosen_count n _
 
-relocation_count : (n : ℕ) (places : List Place) → count_by (has_number n) (relocation_tags places) ≤ count_by (λ m. m == n) (2 ∷ 20 ∷ 23 ∷ 7 ∷ 8 ∷ 9 ∷ [])
+relocation_count : (n : ℕ) (places : List Place) → count_by (has_number n) (relocation_tags places) ≤ count_by (is_number n) (2 ∷ 20 ∷ 23 ∷ 7 ∷ 8 ∷ 9 ∷ [])
 unfolding relocation_tags
 relocation_count n places = chosen_count n _
 
-packed_count : (n : ℕ) (places : List Place) → count_by (has_number n) (packed_tags places) ≤ count_by (λ m. m == n) (36 ∷ 35 ∷ 37 ∷ [])
+packed_count : (n : ℕ) (places : List Place) → count_by (has_number n) (packed_tags places) ≤ count_by (is_number n) (36 ∷ 35 ∷ 37 ∷ [])
 unfolding packed_tags
 packed_count n places = chosen_count n _
 
-version_count : (n : ℕ) (p : Plan) (places : List Place) → count_by (has_number n) (version_tags p places) ≤ count_by (λ m. m == n) (0x6ffffff0 ∷ 0x6ffffffc ∷ 0x6ffffffd ∷ 0x6ffffffe ∷ 0x6fffffff ∷ [])
+version_count : (n : ℕ) (p : Plan) (places : List Place) → count_by (has_number n) (version_tags p places) ≤ count_by (is_number n) (0x6ffffff0 ∷ 0x6ffffffc ∷ 0x6ffffffd ∷ 0x6ffffffe ∷ 0x6fffffff ∷ [])
 unfolding version_tags
 version_count n p places = chosen_count n _
 
-usual_count : (n : ℕ) (p : Plan) → count_by (has_number n) (usual_tags p) ≤ count_by (λ m. m == n) (21 ∷ 24 ∷ 30 ∷ 0x6ffffffb ∷ [])
+usual_count : (n : ℕ) (p : Plan) → count_by (has_number n) (usual_tags p) ≤ count_by (is_number n) (21 ∷ 24 ∷ 30 ∷ 0x6ffffffb ∷ [])
 unfolding usual_tags
 usual_count n p = chosen_count n _
 
 needed_count : (n : ℕ) (p : Plan) (names : List (List ℕ)) → (1 == n) ≡ false → count_by (has_number n) (map (λ name. tag 1 (text_at p.strings name)) names) ≡ 0
 needed_count n p [] other = refl
-needed_count n p (name ∷ names) other = let more = needed_count n p names other in rw other (omega (arith, more))
+needed_count n p (name ∷ names) other = count_no (has_number n) (tag 1 (text_at p.strings name)) (map (λ name. tag 1 (text_at p.strings name)) names) other ∙ needed_count n p names other
 
 all_numbers : List ℕ
 all_numbers = 4 ∷ 0x6ffffef5 ∷ 5 ∷ 6 ∷ 10 ∷ 11 ∷ 16 ∷ 2 ∷ 20 ∷ 23 ∷ 7 ∷ 8 ∷ 9 ∷ 36 ∷ 35 ∷ 37 ∷ 0x6ffffff0 ∷ 0x6ffffffc ∷ 0x6ffffffd ∷ 0x6ffffffe ∷ 0x6fffffff ∷ 21 ∷ 24 ∷ 30 ∷ 0x6ffffffb ∷ []
 
-once : (n : ℕ) → count_by (λ m. m == n) (4 ∷ 0x6ffffef5 ∷ 5 ∷ 6 ∷ 10 ∷ 11 ∷ 16 ∷ []) + count_by (λ m. m == n) (2 ∷ 20 ∷ 23 ∷ 7 ∷ 8 ∷ 9 ∷ []) + count_by (λ m. m == n) (36 ∷ 35 ∷ 37 ∷ [])
-    + count_by (λ m. m == n) (0x6ffffff0 ∷ 0x6ffffffc ∷ 0x6ffffffd ∷ 0x6ffffffe ∷ 0x6fffffff ∷ []) + count_by (λ m. m == n) (21 ∷ 24 ∷ 30 ∷ 0x6ffffffb ∷ []) ≤ 1
+once : (n : ℕ) → count_by (is_number n) (4 ∷ 0x6ffffef5 ∷ 5 ∷ 6 ∷ 10 ∷ 11 ∷ 16 ∷ []) + count_by (is_number n) (2 ∷ 20 ∷ 23 ∷ 7 ∷ 8 ∷ 9 ∷ []) + count_by (is_number n) (36 ∷ 35 ∷ 37 ∷ [])
+    + count_by (is_number n) (0x6ffffff0 ∷ 0x6ffffffc ∷ 0x6ffffffd ∷ 0x6ffffffe ∷ 0x6fffffff ∷ []) + count_by (is_number n) (21 ∷ 24 ∷ 30 ∷ 0x6ffffffb ∷ []) ≤ 1
 unfolding all_numbers
 once n =
-    let q : ℕ → Bool = λ m. m == n in
+    let q : ℕ → Bool = is_number n in
     let a : List ℕ = 4 ∷ 0x6ffffef5 ∷ 5 ∷ 6 ∷ 10 ∷ 11 ∷ 16 ∷ [] in
     let b : List ℕ = 2 ∷ 20 ∷ 23 ∷ 7 ∷ 8 ∷ 9 ∷ [] in
     let c : List ℕ = 36 ∷ 35 ∷ 37 ∷ [] in
@@ -196,20 +229,29 @@ no_twice ts once = none_found (λ t. not (t.number == 1) && nat_lt 1 (count_by (
 
 -- ---- the entries
 
-step : (xs : List ℕ) (as bs : List Tag) → xs ≡ flat_map tag_bytes as → xs ++ flat_map tag_bytes bs ≡ flat_map tag_bytes (as ++ bs)
-step xs as bs e = ap (λ (l : List ℕ). l ++ flat_map tag_bytes bs) e ∙ sym (flat_map-append tag_bytes as bs)
+joined : (xs ys : List Tag) → flat_map tag_bytes xs ++ flat_map tag_bytes ys ≡ flat_map tag_bytes (xs ++ ys)
+joined xs ys = sym (flat_map-append tag_bytes xs ys)
 
 table_is : (p : Plan) (places : List Place) → dynamic_table p places ≡ flat_map tag_bytes (planned_tags p places ++ end_tag ∷ spare_tags p)
 unfolding dynamic_table planned_tags
 table_is p places =
+    let bytes : List Tag → List ℕ = λ ts. flat_map tag_bytes ts in
     let needed : List Tag = needed_tags p in
     let a : List Tag = table_tags p places in
     let b : List Tag = relocation_tags places in
     let c : List Tag = packed_tags places in
     let d : List Tag = version_tags p places in
     let e : List Tag = usual_tags p in
-    step _ (needed ++ a ++ b ++ c ++ d ++ e ++ end_tag ∷ []) (spare_tags p) (step _ (needed ++ a ++ b ++ c ++ d ++ e) (end_tag ∷ []) (step _ (needed ++ a ++ b ++ c ++ d) e (step _ (needed ++ a ++ b ++ c) d (step _ (needed ++ a ++ b) c (step _ (needed ++ a) b (step _ needed a refl))))))
-    ∙ ap (flat_map tag_bytes) (append_assoc (needed ++ a ++ b ++ c ++ d ++ e) (end_tag ∷ []) (spare_tags p))
+    let ended : List Tag = end_tag ∷ [] in
+    let spare : List Tag = spare_tags p in
+    ap (λ (l : List ℕ). l ++ bytes b ++ bytes c ++ bytes d ++ bytes e ++ bytes ended ++ bytes spare) (joined needed a)
+    ∙ ap (λ (l : List ℕ). l ++ bytes c ++ bytes d ++ bytes e ++ bytes ended ++ bytes spare) (joined (needed ++ a) b)
+    ∙ ap (λ (l : List ℕ). l ++ bytes d ++ bytes e ++ bytes ended ++ bytes spare) (joined (needed ++ a ++ b) c)
+    ∙ ap (λ (l : List ℕ). l ++ bytes e ++ bytes ended ++ bytes spare) (joined (needed ++ a ++ b ++ c) d)
+    ∙ ap (λ (l : List ℕ). l ++ bytes ended ++ bytes spare) (joined (needed ++ a ++ b ++ c ++ d) e)
+    ∙ ap (λ (l : List ℕ). l ++ bytes spare) (joined (needed ++ a ++ b ++ c ++ d ++ e) ended)
+    ∙ joined (needed ++ a ++ b ++ c ++ d ++ e ++ ended) spare
+    ∙ ap (λ (ts : List Tag). bytes ts) (append_assoc (needed ++ a ++ b ++ c ++ d ++ e) ended spare)
 
 all_ends : (k n : ℕ) (P : Tag → Type 0) → P end_tag → AllByRecursion P (map (λ i. end_tag) (range_with_len k n))
 all_ends k zero P h = tt
@@ -217,7 +259,7 @@ all_ends k (suc n) P h = (h, all_ends (k + 1) n P h)
 
 ends_count : (k n : ℕ) → count_by is_null (map (λ i. end_tag) (range_with_len k n)) ≡ n
 ends_count k zero = refl
-ends_count k (suc n) = let more = ends_count (k + 1) n in omega (arith, more)
+ends_count k (suc n) = omega (arith, count_yes is_null end_tag (map (λ i. end_tag) (range_with_len (k + 1) n)) refl, ends_count (k + 1) n)
 
 ends_all : (k n : ℕ) → list_all is_null (map (λ i. end_tag) (range_with_len k n)) ≡ true
 ends_all k zero = refl
@@ -229,7 +271,7 @@ first_null (t ∷ ts) more all = rw all.0.0 (let rest = first_null ts more all.1
 
 known_count : (ts : List Tag) → AllByRecursion IsKnown ts → count_by is_null ts ≡ 0
 known_count [] all = refl
-known_count (t ∷ ts) all = rw all.0.0 (let rest = known_count ts all.1 in omega (arith, rest))
+known_count (t ∷ ts) all = count_no is_null t ts all.0.0 ∙ known_count ts all.1
 
 -- a table of these tags, its end and so many spare entries
 read_rows : (bytes : List ℕ) (ts : List Tag) (spare : ℕ) → entries bytes ≡ ts ++ end_tag ∷ map (λ i. end_tag) (range_with_len 0 spare) → length bytes % 16 ≡ 0 → AllByRecursion IsKnown ts
@@ -238,15 +280,13 @@ unfolding read is_ended only_nulls_follow null_count tags
 read_rows bytes ts spare rows even known once =
     let ends : List Tag = map (λ i. end_tag) (range_with_len 0 spare) in
     let position : position_or_len is_null (ts ++ end_tag ∷ ends) ≡ length ts = first_null ts ends known in
-    let count : count_by is_null (ts ++ end_tag ∷ ends) ≡ suc spare = counted ends in
+    let count : count_by is_null (ts ++ end_tag ∷ ends) ≡ suc spare = omega (arith, count_append is_null ts (end_tag ∷ ends), known_count ts known, count_yes is_null end_tag ends refl, ends_count 0 spare) in
     rw (rows, position, even, count, drop-append_seam ts (end_tag ∷ ends), ends_all 0 spare, take-append_seam ts (end_tag ∷ ends), no_unknown ts known, no_twice ts once, some spare) last
   where
-    counted : (ends : List Tag) → count_by is_null (ts ++ end_tag ∷ map (λ i. end_tag) (range_with_len 0 spare)) ≡ suc spare
-    counted ends = omega (arith, count_append is_null ts (end_tag ∷ map (λ i. end_tag) (range_with_len 0 spare)), known_count ts known, ends_count 0 spare)
     some : (n : ℕ) → nat_lt 0 (suc n) ≡ true
     some n = grind (arith, nat_tests)
-    last : ◌≡◌ (Ok (record { tags = ts; spare = suc spare - 1 })) (Ok (record { tags = ts; spare = spare }))
-    last = ap (λ (n : ℕ). Ok (record { tags = ts; spare = n })) (omega arith)
+    last : ◌≡◌ {A = Result Dynamic DynFault} (Ok (record { tags = ts; spare = suc spare - 1 })) (Ok (record { tags = ts; spare = spare }))
+    last = ap (λ (n : ℕ). Ok (record { tags = ts; spare = n })) (let e : suc spare - 1 ≡ spare = omega arith in e)
 
 pub dynamic_read : DynamicIsRead
 unfolding spare_tags

@@ -1,18 +1,16 @@
 -- Texts stand in a string table where it says.
-use Rattle.std.proofs.Common.{◌≡◌, ℕ, zero, suc, ◌+◌, ◌*◌, ◌≤◌, ◌<◌, Bool, true, false, List, [], ◌∷◌, ◌++◌, length, take, drop, Option, Some, None, refl, sym, ap, subst, ◌∙◌, append_assoc, length-append, arith, inl, inr}
-use Rattle.std.specs.Prelude.{◌||◌, ◌==◌, find, fold, position, cond, nat_lt}
+use Rattle.std.proofs.Common.{◌≡◌, ℕ, ◌≤◌, ◌<◌, Bool, true, false, List, [], ◌∷◌, ◌++◌, length, drop, Some, refl, sym, ap, subst, ◌∙◌, append_assoc, length-append, arith, inl, inr}
+use Rattle.std.specs.Prelude.{◌||◌, find, nat_lt}
 use Rattle.std.specs.List.{AllByRecursion, list_any, position_or_len}
-use Rattle.std.specs.Option.{option_map}
 use Rattle.std.specs.Str.{bytes_eq}
-use Rattle.std.proofs.lemmas.Bool.{cases_Bool, or_parts, false≢true}
+use Rattle.std.proofs.lemmas.Bool.{cases_Bool, false≢true}
 use Rattle.std.proofs.lemmas.Bool.Decides.{nat_tests}
 use Rattle.std.proofs.lemmas.Slice.Eq.{bytes_eq-Decides}
-use Rattle.std.proofs.lemmas.List.{append-nil, drop-append-le}
+use Rattle.std.proofs.lemmas.List.{drop-append-le}
 use Rattle.std.proofs.Math.Seq.{take-append_seam, drop-append_seam}
 use Rattle.pl_base.specs.Strings.{is_zero, ended, has_end, string_at}
 use Rattle.pl_build.specs.declared.strings.Entry.{Entry}
 use Rattle.pl_build.specs.declared.strings.Strings.{Strings}
-use Rattle.pl_build.specs.Strings as strings
 use Rattle.pl_build.specs.Strings.{start, has_text, text_added, at_of, text_at, texts_added}
 use Rattle.pl_built.specs.Texts.{is_among, TextsAreFound}
 use Rattle.pl_built.proofs.BackLaws.{Begins, begins_itself, begins_more}
@@ -83,7 +81,7 @@ any_last p (y ∷ xs) x h = elim (cases_Bool (p y)) [
   | inr miss ↦ rw miss (any_last p xs x h)
 ]
 
-kept_text : (s : Strings) (other text : List ℕ) → is_old s text ≡ true → is_old (text_added s other) text ≡ true
+pub kept_text : (s : Strings) (other text : List ℕ) → is_old s text ≡ true → is_old (text_added s other) text ≡ true
 unfolding text_added is_old
 kept_text s other text h = elim (cases_Bool (is_old s other)) [
   | inl old ↦ rw old h
@@ -93,7 +91,7 @@ kept_text s other text h = elim (cases_Bool (is_old s other)) [
     ]
 ]
 
-new_text : (s : Strings) (text : List ℕ) → is_old (text_added s text) text ≡ true
+pub new_text : (s : Strings) (text : List ℕ) → is_old (text_added s text) text ≡ true
 unfolding text_added is_old
 new_text s text = elim (cases_Bool (is_old s text)) [
   | inl old ↦ rw old old
@@ -163,7 +161,7 @@ find_none text (e ∷ es) none = elim (cases_Bool (has_text text e)) [
 ]
 
 -- where a text begins stands the text, or a 0 where the table has none such
-begins_zero : (bytes : List ℕ) → Begins (0 ∷ []) bytes → ended bytes ≡ Some []
+pub begins_zero : (bytes : List ℕ) → Begins (0 ∷ []) bytes → ended bytes ≡ Some []
 begins_zero bytes b = ap ended b.is ∙ text_ended [] b.rest refl
 
 pub text_found : (s : Strings) (text : List ℕ) → AreTexts s → list_any is_zero text ≡ false → is_old s text ≡ true → string_at (text_at s text) s.bytes ≡ Some text

@@ -1,5 +1,5 @@
 -- Laws of built files.
-use Rattle.std.specs.Prelude.{◌≡◌, ℕ, ◌++◌, List, [], length, map, filter, Ok}
+use Rattle.std.specs.Prelude.{◌≡◌, ℕ, List, [], length, map, filter, Ok}
 use Rattle.pl_elf.specs.Clauses as elf
 use Rattle.pl_build.specs.declared.constants.TheConstants.{TABLES_OFFSET}
 use Rattle.pl_build.specs.declared.layout.Tables.{Tables}

@@ -6,5 +6,6 @@ pub mod Standing
 pub mod Texts
 pub mod Rows
 pub mod Tags
+pub mod Symbols
 pub mod Loaded
 pub mod Laws

@@ -1,5 +1,5 @@
 -- Recipes of programs and libraries in their plainest form: no versions, no thread-local block, no packed words, no path of an interpreter.
-use Rattle.std.specs.Prelude.{◌≡◌, ℕ, ◌<◌, ◌≤◌, false, [], None}
+use Rattle.std.specs.Prelude.{◌≡◌, ◌<◌, ◌≤◌, false, [], None}
 use Rattle.std.specs.List.{AllByRecursion}
 use Rattle.pl_build.specs.declared.constants.TheConstants.{MAX_BUCKETS, MAX_SPARE, MAX_DATA, MAX_BSS}
 use Rattle.pl_build.specs.declared.line.Symbol.{Symbol}

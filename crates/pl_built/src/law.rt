@@ -3,6 +3,7 @@ ghost use Rattle.pl_built.specs.Rows.{EntriesAreRead, RelocsAreRead, SymbolsAreR
 ghost use Rattle.pl_built.specs.Laws.{FilesAreHeaded, FilesHoldTables, HeadsAreRead, RolesStand, TablesStand};
 ghost use Rattle.pl_built.specs.Loaded.{TablesAreLoaded};
 ghost use Rattle.pl_built.specs.Split.{PiecesAreSplit};
+ghost use Rattle.pl_built.specs.Symbols.{SymbolTableIsRead};
 ghost use Rattle.pl_built.specs.Tags.{DynamicIsRead};
 ghost use Rattle.pl_built.specs.Texts.{TextsAreFound};
 
@@ -30,6 +31,11 @@ pub fn roles_stand()
 /// A law: the dynamic table of a plan is read as its tags, with as many spare entries as the recipe has, and acceptance clauses 9 to 11 refuse none.
 pub fn dynamic_is_read()
     ensures { DynamicIsRead }
+{}
+
+/// A law: the symbol table of a plain recipe is read as the null symbol and the recipe's, each under its name, in the order of the plan.
+pub fn symbol_table_is_read()
+    ensures { SymbolTableIsRead }
 {}
 
 /// A law: the header, the program header table and the section header table of a plain recipe's file are read as the recipe's plan says, and acceptance clauses 1 to 8 take the file.
