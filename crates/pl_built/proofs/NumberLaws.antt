@@ -109,6 +109,10 @@ only_digits (suc fuel) n acc all = elim (cases_Bool (n / 16 == 0)) [
   | inr more ↦ rw more (only_digits fuel (n / 16) (digit_glyph false (n % 16) ∷ acc) (rw (glyph_digit (n % 16) (omega arith)) all))
 ]
 
+pub hex_all : (n : ℕ) → list_all is_digit (digits 16 false n) ≡ true
+unfolding digits
+hex_all n = only_digits 64 n [] refl
+
 pub numbers_read : NumbersAreRead
 unfolding number is_number value digits
 numbers_read n small =
