@@ -237,3 +237,97 @@ chain_holds t buckets (suc steps) j m is le lt same enough = elim (cases_lt j m)
     behind : (a b : Bool) → b ≡ true → (a || b) ≡ true
     behind true b h = refl
     behind false b h = h
+
+-- ---- where the words stand
+
+firsts_long : (count : ℕ) (buckets : List ℕ) → length (firsts count buckets) ≡ count
+firsts_long count buckets = length-map (range_with_len 0 count) (first_from buckets 0) ∙ length-range_with_len 0 count
+
+nexts_long : (buckets : List ℕ) → length (nexts buckets) ≡ length buckets
+nexts_long buckets = length-map (range_with_len 0 (length buckets)) (next_after buckets) ∙ length-range_with_len 0 (length buckets)
+
+-- up to the null symbol's link
+abbrev front_words : ℕ → List ℕ → List ℕ
+front_words count buckets = counts count buckets ++ firsts count buckets ++ 0 ∷ []
+
+front_long : (count : ℕ) (buckets : List ℕ) → length (front_words count buckets) ≡ count + 3
+front_long count buckets =
+    omega (arith, length-append (counts count buckets ++ firsts count buckets) (0 ∷ []), length-append (counts count buckets) (firsts count buckets), firsts_long count buckets)
+
+all_long : (count : ℕ) (buckets : List ℕ) → length (front_words count buckets ++ nexts buckets) ≡ count + 3 + length buckets
+all_long count buckets = omega (arith, length-append (front_words count buckets) (nexts buckets), front_long count buckets, nexts_long buckets)
+
+first_at : (count : ℕ) (buckets : List ℕ) (k : ℕ) → k < count → get_or (front_words count buckets ++ nexts buckets) (2 + k) 0 ≡ first_from buckets 0 k
+first_at count buckets k lt =
+    let a : List ℕ = counts count buckets in
+    let b : List ℕ = firsts count buckets in
+    get_or_append_left (front_words count buckets) (nexts buckets) 0 (2 + k) (omega (arith, lt, front_long count buckets))
+    ∙ get_or_append_left (a ++ b) (0 ∷ []) 0 (2 + k) (omega (arith, lt, length-append a b, firsts_long count buckets))
+    ∙ get_or-append_right a b 2 (2 + k) 0 refl (omega arith)
+    ∙ get_or-map-range_with_len (first_from buckets 0) 0 count (2 + k - 2) k 0 (omega (arith, lt)) (omega arith)
+
+next_at : (count : ℕ) (buckets : List ℕ) (j : ℕ) → j < length buckets → get_or (front_words count buckets ++ nexts buckets) (count + 3 + j) 0 ≡ next_after buckets j
+next_at count buckets j lt =
+    get_or-append_right (front_words count buckets) (nexts buckets) (count + 3) (count + 3 + j) 0 (front_long count buckets) (omega arith)
+    ∙ get_or-map-range_with_len (next_after buckets) 0 (length buckets) (count + 3 + j - (count + 3)) j 0 (omega (arith, lt)) (omega arith)
+
+all_range : (f : ℕ → ℕ) (k n : ℕ) → ((i : ℕ) → f i < 2 ^ 32) → AllByRecursion (λ w. w < 2 ^ 32) (map f (range_with_len k n))
+all_range f k zero each = tt
+all_range f k (suc n) each = (each k, all_range f (k + 1) n each)
+
+all_fit : (count : ℕ) (buckets : List ℕ) → count < 2 ^ 32 → length buckets + 1 < 2 ^ 32 → AllByRecursion (λ w. w < 2 ^ 32) (front_words count buckets ++ nexts buckets)
+unfolding next_after
+all_fit count buckets few small =
+    let a : List ℕ = counts count buckets in
+    let b : List ℕ = firsts count buckets in
+    let zero_word : List ℕ = 0 ∷ [] in
+    all_append (λ w. w < 2 ^ 32) (a ++ b ++ zero_word) (nexts buckets)
+    (all_append (λ w. w < 2 ^ 32) (a ++ b) zero_word
+    (all_append (λ w. w < 2 ^ 32) a b (few, (small, tt)) (all_range (first_from buckets 0) 0 count (λ i. omega (arith, first_small buckets 0 i, small)))) (omega arith, tt))
+    (all_range (λ j. first_from buckets (j + 1) (get_or buckets j 0)) 0 (length buckets) (λ j. omega (arith, first_small buckets (j + 1) (get_or buckets j 0), small)))
+
+-- ---- the table
+
+abbrev table_of : ℕ → List ℕ → Table
+table_of count buckets = record { words = flat_map word_bytes (front_words count buckets ++ nexts buckets); gnu = false; symbols = length buckets + 1 }
+
+pub record AreFew (count : ℕ) (buckets : List ℕ) : Type 0 where
+  pub some : 0 < count
+  pub count : count < 2 ^ 32
+  pub symbols : length buckets + 1 < 2 ^ 32
+
+table_word : (count : ℕ) (buckets : List ℕ) (i : ℕ) → AreFew count buckets → i < count + 3 + length buckets → word32 (4 * i) (table_of count buckets).words ≡ get_or (front_words count buckets ++ nexts buckets) i 0
+table_word count buckets i few lt = word_at (front_words count buckets ++ nexts buckets) i (all_fit count buckets few.count few.symbols) (omega (arith, lt, all_long count buckets))
+
+table_long : (count : ℕ) (buckets : List ℕ) → length (table_of count buckets).words ≡ 4 * (count + 3 + length buckets)
+table_long count buckets = rows_long 4 word_bytes word_long (front_words count buckets ++ nexts buckets) ∙ ap (λ (n : ℕ). 4 * n) (all_long count buckets)
+
+count_is : (count : ℕ) (buckets : List ℕ) → AreFew count buckets → word32 0 (table_of count buckets).words ≡ count
+count_is count buckets few = ap (λ (at : ℕ). word32 at (table_of count buckets).words) (let e : 0 ≡ 4 * 0 = omega arith in e) ∙ table_word count buckets 0 few (omega arith)
+
+symbols_is : (count : ℕ) (buckets : List ℕ) → AreFew count buckets → word32 4 (table_of count buckets).words ≡ length buckets + 1
+symbols_is count buckets few = ap (λ (at : ℕ). word32 at (table_of count buckets).words) (let e : 4 ≡ 4 * 1 = omega arith in e) ∙ table_word count buckets 1 few (omega arith)
+
+link_place : (count : ℕ) (buckets : List ℕ) (i : ℕ) → AreFew count buckets → link_at (table_of count buckets) i ≡ 4 * (count + 2 + i)
+unfolding link_at buckets_at first_linked
+link_place count buckets i few = rw (count_is count buckets few) (omega arith)
+
+bucket_is : (count : ℕ) (buckets : List ℕ) (k : ℕ) → AreFew count buckets → k < count → bucket (table_of count buckets) k ≡ first_from buckets 0 k
+unfolding bucket buckets_at
+bucket_is count buckets k few lt =
+    ap (λ (at : ℕ). word32 at (table_of count buckets).words) (let e : 8 + 4 * k ≡ 4 * (2 + k) = omega arith in e)
+    ∙ table_word count buckets (2 + k) few (omega (arith, lt)) ∙ first_at count buckets k lt
+
+is_sysv : (count : ℕ) (buckets : List ℕ) → AreFew count buckets → IsSysv (table_of count buckets) buckets
+unfolding link is_linked first_linked
+is_sysv count buckets few = record {
+  plain = refl;
+  symbols = refl;
+  links = λ j lt.
+    ap (λ (at : ℕ). word32 at (table_of count buckets).words) (link_place count buckets (j + 1) few ∙ (let e : 4 * (count + 2 + (j + 1)) ≡ 4 * (count + 3 + j) = omega arith in e))
+    ∙ table_word count buckets (count + 3 + j) few (omega (arith, lt)) ∙ next_at count buckets j lt;
+  linked = λ j lt. rw (at_most 0 (j + 1) (omega arith), below_true (j + 1) (length buckets + 1) (omega (arith, lt)), at_most (link_at (table_of count buckets) (j + 1) + 4) (length (table_of count buckets).words) (omega (arith, lt, link_place count buckets (j + 1) few, table_long count buckets))) refl;
+}
+  where
+    at_most : (a b : ℕ) → a ≤ b → nat_le a b ≡ true
+    at_most a b le = grind (arith, nat_tests)
