@@ -12,3 +12,5 @@ pub mod HeadedLaws
 pub mod LoadedLaws
 pub mod TagLaws
 pub mod SymbolLaws
+pub mod SpelledLaws
+pub mod SysvLaws

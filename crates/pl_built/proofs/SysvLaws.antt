@@ -8,6 +8,7 @@ use Rattle.std.proofs.lemmas.List.{append-nil, length-map, get_or_append_left, g
 use Rattle.std.proofs.lemmas.List.Concat.{flat_map-append}
 use Rattle.std.proofs.lemmas.List.FromFn.{length-range_with_len, get_or-map-range_with_len}
 use Rattle.std.proofs.lemmas.List.Sums.{fails_before_first, passes_at_first}
+use Rattle.std.proofs.Math.Nat.{mod-lt}
 use Rattle.byteorder.specs.Numbers.{little_number-reads_back}
 use Rattle.pl_base.specs.Bytes.{part, word32}
 use Rattle.pl_base.proofs.WordLaws.{word32_within}
@@ -104,6 +105,9 @@ word_at ws i all lt =
 
 is_of : ℕ → ℕ → Bool
 is_of b k = k == b
+
+at_most : (a b : ℕ) → a ≤ b → nat_le a b ≡ true
+at_most a b le = grind (arith, nat_tests)
 
 below_true : (a b : ℕ) → a < b → nat_lt a b ≡ true
 below_true a b lt = grind (arith, nat_tests)
@@ -293,11 +297,11 @@ table_of count buckets = record { words = flat_map word_bytes (front_words count
 
 pub record AreFew (count : ℕ) (buckets : List ℕ) : Type 0 where
   pub some : 0 < count
-  pub count : count < 2 ^ 32
+  pub below : count < 2 ^ 32
   pub symbols : length buckets + 1 < 2 ^ 32
 
 table_word : (count : ℕ) (buckets : List ℕ) (i : ℕ) → AreFew count buckets → i < count + 3 + length buckets → word32 (4 * i) (table_of count buckets).words ≡ get_or (front_words count buckets ++ nexts buckets) i 0
-table_word count buckets i few lt = word_at (front_words count buckets ++ nexts buckets) i (all_fit count buckets few.count few.symbols) (omega (arith, lt, all_long count buckets))
+table_word count buckets i few lt = word_at (front_words count buckets ++ nexts buckets) i (all_fit count buckets few.below few.symbols) (omega (arith, lt, all_long count buckets))
 
 table_long : (count : ℕ) (buckets : List ℕ) → length (table_of count buckets).words ≡ 4 * (count + 3 + length buckets)
 table_long count buckets = rows_long 4 word_bytes word_long (front_words count buckets ++ nexts buckets) ∙ ap (λ (n : ℕ). 4 * n) (all_long count buckets)
@@ -328,6 +332,115 @@ is_sysv count buckets few = record {
     ∙ table_word count buckets (count + 3 + j) few (omega (arith, lt)) ∙ next_at count buckets j lt;
   linked = λ j lt. rw (at_most 0 (j + 1) (omega arith), below_true (j + 1) (length buckets + 1) (omega (arith, lt)), at_most (link_at (table_of count buckets) (j + 1) + 4) (length (table_of count buckets).words) (omega (arith, lt, link_place count buckets (j + 1) few, table_long count buckets))) refl;
 }
+
+-- ---- it is well formed
+
+not_zero : (n : ℕ) → (n + 1 == 0) ≡ false
+not_zero n = grind (arith, nat_tests)
+
+equal : (a b : ℕ) → a ≡ b → (a == b) ≡ true
+equal a b e = grind (arith, nat_tests)
+
+head_none : (count : ℕ) (buckets : List ℕ) (k : ℕ) → AreFew count buckets → k < count → first_from buckets 0 k ≡ 0 → head (table_of count buckets) k ≡ None
+unfolding head
+head_none count buckets k few lt none = rw (bucket_is count buckets k few lt, none) refl
+
+head_some : (count : ℕ) (buckets : List ℕ) (k index : ℕ) → AreFew count buckets → k < count → first_from buckets 0 k ≡ index + 1 → head (table_of count buckets) k ≡ Some (index + 1)
+unfolding head
+head_some count buckets k index few lt some = rw (bucket_is count buckets k few lt, some, not_zero index) refl
+
+chain_is_there : (count : ℕ) (buckets : List ℕ) (k : ℕ) → AreFew count buckets → k < count → is_some (chain (table_of count buckets) (head (table_of count buckets) k)) ≡ true
+unfolding chain
+chain_is_there count buckets k few lt =
+    let t : Table = table_of count buckets in
+    elim (next_or_none buckets 0 k) [
+      | inl none ↦ ap (λ (o : Option (List ℕ)). is_some o) (ap (chain_from t (length buckets + 1)) (head_none count buckets k few lt none) ∙ chain_none t (length buckets + 1))
+      | inr next ↦
+          let one = chain_there t buckets (length buckets + 1) next.index (is_sysv count buckets few) next.within (omega arith) in
+          ap (λ (o : Option (List ℕ)). is_some o) (ap (chain_from t (length buckets + 1)) (head_some count buckets k next.index few lt next.is) ∙ one.1)
+    ]
+
+all_in_range : (p : ℕ → Bool) (k n : ℕ) → ((i : ℕ) → i < k + n → p i ≡ true) → list_all p (range_with_len k n) ≡ true
+all_in_range p k zero each = refl
+all_in_range p k (suc n) each = rw (each k (omega arith)) (all_in_range p (k + 1) n (λ i lt. each i (omega (arith, lt))))
+
+table_formed : (count : ℕ) (buckets : List ℕ) → AreFew count buckets → well_formed (table_of count buckets) ≡ true
+unfolding well_formed has_header has_buckets is_counted has_links chains_end buckets_at
+table_formed count buckets few =
+    let t : Table = table_of count buckets in
+    let long = table_long count buckets in
+    rw (
+      count_is count buckets few,
+      symbols_is count buckets few,
+      at_most 8 (length t.words) (omega (arith, long)),
+      below_true 0 count few.some,
+      at_most (8 + 4 * count) (length t.words) (omega (arith, long)),
+      equal (length buckets + 1) (length buckets + 1) refl,
+      at_most (link_at t (length buckets + 1)) (length t.words) (omega (arith, long, link_place count buckets (length buckets + 1) few)),
+      all_in_range (λ k. is_some (chain t (head t k))) 0 count (λ k lt. chain_is_there count buckets k few (omega (arith, lt))),
+    )
+    refl
+
+-- ---- it leads to each symbol
+
+bucket_holds : (count : ℕ) (buckets : List ℕ) (b i : ℕ) → AreFew count buckets → b < count → i < length buckets → (get_or buckets i 0 == b) ≡ true
+    → (l : List ℕ) × (chain (table_of count buckets) (head (table_of count buckets) b) ≡ Some l) × (list_any (λ k. k == i + 1) l ≡ true)
+unfolding chain
+bucket_holds count buckets b i few small lt same =
+    let t : Table = table_of count buckets in
+    let first = first_before buckets 0 b i (omega arith) lt same in
+    let next = first.0 in
+    let more = chain_holds t buckets (length buckets + 1) next.index i (is_sysv count buckets few) first.1 lt (both (get_or buckets i 0) (get_or buckets next.index 0) b same next.same) (omega arith) in
+    (more.0, ap (chain_from t (length buckets + 1)) (head_some count buckets b next.index few small next.is) ∙ more.1, more.2)
   where
-    at_most : (a b : ℕ) → a ≤ b → nat_le a b ≡ true
-    at_most a b le = grind (arith, nat_tests)
+    both : (x y z : ℕ) → (x == z) ≡ true → (y == z) ≡ true → (x == y) ≡ true
+    both x y z one two = grind (arith, nat_tests)
+
+kept_all : (xs : List ℕ) → filter (λ x. true) xs ≡ xs
+kept_all [] = refl
+kept_all (x ∷ xs) = ap (λ (l : List ℕ). x ∷ l) (kept_all xs)
+
+table_leads : (count : ℕ) (buckets : List ℕ) (hash i : ℕ) → AreFew count buckets → i < length buckets → (get_or buckets i 0 == hash % count) ≡ true → is_candidate (table_of count buckets) hash (i + 1) ≡ true
+unfolding candidates matching matches admits
+table_leads count buckets hash i few lt same =
+    let there = bucket_holds count buckets (hash % count) i few (mod-lt hash few.some) lt same in
+    rw (count_is count buckets few, there.1, kept_all there.0) there.2
+
+-- ---- of a plan
+
+buckets_count : (p : Plan) → length (sysv_buckets p) ≡ length p.symbols
+unfolding sysv_buckets
+buckets_count p = length-map p.symbols (λ (s : Symbol). bucket_of p.settings.buckets (sysv s.name))
+
+few_of : (p : Plan) → FitsBuckets p → AreFew p.settings.buckets (sysv_buckets p)
+unfolding sysv_buckets
+few_of p fits = record { some = fits.some; below = fits.count; symbols = omega (arith, fits.symbols, length-map p.symbols (λ (s : Symbol). bucket_of p.settings.buckets (sysv s.name))) }
+
+with_words : List ℕ → ℕ → Table
+with_words words n = record { words = words; gnu = false; symbols = n }
+
+same_table : (p : Plan) → sysv_of p ≡ table_of p.settings.buckets (sysv_buckets p)
+unfolding sysv_table with_words
+same_table p =
+    ap (λ (words : List ℕ). with_words words (length p.symbols + 1)) (words_are p.settings.buckets (sysv_buckets p))
+    ∙ ap (λ (n : ℕ). with_words (table_of p.settings.buckets (sysv_buckets p)).words (n + 1)) (sym (buckets_count p))
+
+own_bucket : (p : Plan) (i : ℕ) (d : Symbol) → 0 < p.settings.buckets → i < length p.symbols → (get_or (sysv_buckets p) i 0 == sysv (get_or p.symbols i d).name % p.settings.buckets) ≡ true
+unfolding sysv_buckets bucket_of
+own_bucket p i d some lt = own p.symbols i lt
+  where
+    bucket_by : Symbol → ℕ
+    bucket_by s = bucket_of p.settings.buckets (sysv s.name)
+    not_none : (n : ℕ) → 0 < n → (n == 0) ≡ false
+    not_none n h = grind (arith, nat_tests)
+    own : (symbols : List Symbol) (i : ℕ) → i < length symbols → (get_or (map (λ s. bucket_of p.settings.buckets (sysv s.name)) symbols) i 0 == sysv (get_or symbols i d).name % p.settings.buckets) ≡ true
+    own [] i lt = absurd (omega (arith, lt))
+    own (s ∷ symbols) zero lt = rw (not_none p.settings.buckets some) (equal (sysv s.name % p.settings.buckets) (sysv s.name % p.settings.buckets) refl)
+    own (s ∷ symbols) (suc i) lt = own symbols i (omega (arith, lt))
+
+pub sysv_whole : SysvIsWhole
+sysv_whole p fits = record {
+  formed = subst (λ (t : Table). well_formed t ≡ true) (sym (same_table p)) (table_formed p.settings.buckets (sysv_buckets p) (few_of p fits));
+  leads = λ i d lt. subst (λ (t : Table). is_candidate t (sysv (get_or p.symbols i d).name) (i + 1) ≡ true) (sym (same_table p))
+    (table_leads p.settings.buckets (sysv_buckets p) (sysv (get_or p.symbols i d).name) i (few_of p fits) (omega (arith, lt, buckets_count p)) (own_bucket p i d fits.some lt));
+}

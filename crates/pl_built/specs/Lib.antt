@@ -7,5 +7,7 @@ pub mod Texts
 pub mod Rows
 pub mod Tags
 pub mod Symbols
+pub mod Spelled
+pub mod Hashes
 pub mod Loaded
 pub mod Laws

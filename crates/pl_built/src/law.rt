@@ -1,7 +1,9 @@
 ghost use Rattle.pl_built.specs.Numbers.{NumbersAreRead};
 ghost use Rattle.pl_built.specs.Rows.{EntriesAreRead, RelocsAreRead, SymbolsAreRead};
+ghost use Rattle.pl_built.specs.Hashes.{SysvIsWhole};
 ghost use Rattle.pl_built.specs.Laws.{FilesAreHeaded, FilesHoldTables, HeadsAreRead, RolesStand, TablesStand};
 ghost use Rattle.pl_built.specs.Loaded.{TablesAreLoaded};
+ghost use Rattle.pl_built.specs.Spelled.{AbsolutesAreRead, CopiesAreRead, FunctionsAreRead, GlobDatsAreRead, JumpSlotsAreRead, NeedsAreRead, ObjectsAreRead, RefsAreRead, RelativesAreRead};
 ghost use Rattle.pl_built.specs.Split.{PiecesAreSplit};
 ghost use Rattle.pl_built.specs.Symbols.{SymbolTableIsRead};
 ghost use Rattle.pl_built.specs.Tags.{DynamicIsRead};
@@ -55,4 +57,26 @@ pub fn rows_are_read()
 pub fn words_are_read()
     ensures pieces { PiecesAreSplit }
     ensures numbers { NumbersAreRead }
+{}
+
+/// A law: the System V hash table of a plan is well formed, and leads to each symbol of the plan by the hash of its name.
+pub fn sysv_is_whole()
+    ensures { SysvIsWhole }
+{}
+
+/// A law: the lines `needs`, `def` and `ref`, without a version, are read as what they spell.
+pub fn name_lines_are_read()
+    ensures needs { NeedsAreRead }
+    ensures functions { FunctionsAreRead }
+    ensures objects { ObjectsAreRead }
+    ensures refs { RefsAreRead }
+{}
+
+/// A law: the lines `rel` of five kinds are read as what they spell.
+pub fn rel_lines_are_read()
+    ensures copies { CopiesAreRead }
+    ensures relatives { RelativesAreRead }
+    ensures absolutes { AbsolutesAreRead }
+    ensures globdats { GlobDatsAreRead }
+    ensures jumpslots { JumpSlotsAreRead }
 {}

@@ -3,4 +3,4 @@
 
 mod law;
 
-pub use law::{dynamic_is_read, heads_are_read, roles_stand, rows_are_read, symbol_table_is_read, tables_are_loaded, tables_stand, texts_are_found, words_are_read};
+pub use law::{dynamic_is_read, heads_are_read, name_lines_are_read, rel_lines_are_read, roles_stand, rows_are_read, symbol_table_is_read, sysv_is_whole, tables_are_loaded, tables_stand, texts_are_found, words_are_read};
