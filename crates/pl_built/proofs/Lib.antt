@@ -14,3 +14,5 @@ pub mod TagLaws
 pub mod SymbolLaws
 pub mod SpelledLaws
 pub mod SysvLaws
+pub mod OrderLaws
+pub mod GnuLaws

@@ -10,4 +10,5 @@ pub mod Symbols
 pub mod Spelled
 pub mod Hashes
 pub mod Loaded
+pub mod Gnu
 pub mod Laws
