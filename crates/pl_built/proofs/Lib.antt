@@ -16,3 +16,7 @@ pub mod SpelledLaws
 pub mod SysvLaws
 pub mod OrderLaws
 pub mod GnuLaws
+pub mod RelocLaws
+pub mod ValueLaws
+pub mod ShapeLaws
+pub mod PlacedLaws

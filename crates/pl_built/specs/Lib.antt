@@ -11,4 +11,7 @@ pub mod Spelled
 pub mod Hashes
 pub mod Loaded
 pub mod Gnu
+pub mod Modest
+pub mod Relocs
+pub mod Shape
 pub mod Laws
