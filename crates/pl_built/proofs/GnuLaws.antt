@@ -9,7 +9,7 @@ use Rattle.std.proofs.lemmas.List.{length-map, get_or_append_left, get_or-append
 use Rattle.std.proofs.lemmas.List.Concat.{flat_map-append}
 use Rattle.std.proofs.lemmas.List.FromFn.{length-range_with_len, get_or-map-range_with_len}
 use Rattle.std.proofs.lemmas.List.Sums.{fails_before_first, passes_at_first}
-use Rattle.std.proofs.lemmas.Nat.{or_lt, pow_below}
+use Rattle.std.proofs.lemmas.Nat.{mod_below, or_lt, pow_below}
 use Rattle.std.proofs.lemmas.Nat.Bits.{bit_at_or, bit_at-pow_same, bit_at-lt}
 use Rattle.std.proofs.Math.Nat.{mod-lt}
 use Rattle.byteorder.specs.Numbers.{little_number-reads_back}
@@ -58,7 +58,7 @@ not_zero n some = grind (arith, nat_tests)
 
 step_small : (hash byte : ℕ) → gnu_step hash byte < 2 ^ 32
 unfolding gnu_step
-step_small hash byte = mod-lt (hash * 33 + byte) (omega arith)
+step_small hash byte = mod_below (hash * 33 + byte) (2 ^ 32) (omega arith)
 
 hashed_small : (hash : ℕ) (name : List ℕ) → hash < 2 ^ 32 → fold gnu_step hash name < 2 ^ 32
 hashed_small hash [] small = small
@@ -119,8 +119,8 @@ more_small : (word hash : ℕ) → word < 2 ^ 64 → bloom_more word hash < 2 ^ 
 unfolding bloom_more
 more_small word hash small =
     or_lt 64 (bit_or word (2 ^ first_bit hash)) (2 ^ second_bit hash 6)
-    (or_lt 64 word (2 ^ first_bit hash) small (pow_below (first_bit hash) 64 (mod-lt hash (omega arith))))
-    (pow_below (second_bit hash 6) 64 (mod-lt (hash / 2 ^ 6) (omega arith)))
+    (or_lt 64 word (2 ^ first_bit hash) small (pow_below (first_bit hash) 64 (mod_below hash 64 (omega arith))))
+    (pow_below (second_bit hash 6) 64 (mod_below (hash / 2 ^ 6) 64 (omega arith)))
 
 fold_small : (word : ℕ) (hashes : List ℕ) → word < 2 ^ 64 → fold bloom_more word hashes < 2 ^ 64
 fold_small word [] small = small
@@ -174,23 +174,23 @@ header_long count first hashes = refl
 
 count_read : (count first : ℕ) (hashes buckets : List ℕ) → count < 2 ^ 32 → word32 0 (words_of count first hashes buckets) ≡ count
 unfolding words_of header fields word32
-count_read count first hashes buckets small = little_number-reads_back 4 count [] small
+count_read count first hashes buckets small = little_number-reads_back 4 count (fields (Word first ∷ Word 1 ∷ Word 6 ∷ Xword (bloom hashes) ∷ []) ++ flat_map word_bytes (body count first hashes buckets)) small
 
 first_read : (count first : ℕ) (hashes buckets : List ℕ) → first < 2 ^ 32 → word32 4 (words_of count first hashes buckets) ≡ first
 unfolding words_of header fields word32
-first_read count first hashes buckets small = little_number-reads_back 4 first [] small
+first_read count first hashes buckets small = little_number-reads_back 4 first (fields (Word 1 ∷ Word 6 ∷ Xword (bloom hashes) ∷ []) ++ flat_map word_bytes (body count first hashes buckets)) small
 
 size_read : (count first : ℕ) (hashes buckets : List ℕ) → word32 8 (words_of count first hashes buckets) ≡ 1
 unfolding words_of header fields word32
-size_read count first hashes buckets = little_number-reads_back 4 1 [] (omega arith)
+size_read count first hashes buckets = little_number-reads_back 4 1 (fields (Word 6 ∷ Xword (bloom hashes) ∷ []) ++ flat_map word_bytes (body count first hashes buckets)) (omega arith)
 
 shift_read : (count first : ℕ) (hashes buckets : List ℕ) → word32 12 (words_of count first hashes buckets) ≡ 6
 unfolding words_of header fields word32
-shift_read count first hashes buckets = little_number-reads_back 4 6 [] (omega arith)
+shift_read count first hashes buckets = little_number-reads_back 4 6 (fields (Xword (bloom hashes) ∷ []) ++ flat_map word_bytes (body count first hashes buckets)) (omega arith)
 
 bloom_read : (count first : ℕ) (hashes buckets : List ℕ) → word64 16 (words_of count first hashes buckets) ≡ bloom hashes
 unfolding words_of header fields word64
-bloom_read count first hashes buckets = little_number-reads_back 8 (bloom hashes) [] (bloom_small hashes)
+bloom_read count first hashes buckets = little_number-reads_back 8 (bloom hashes) (flat_map word_bytes (body count first hashes buckets)) (bloom_small hashes)
 
 read_word : List ℕ → ℕ → ℕ
 read_word bytes at = word32 at bytes
@@ -387,7 +387,7 @@ more_goes_on buckets j m before lt same =
     any_at (λ b. b == get_or buckets j 0) (drop (j + 1) buckets) (m - (j + 1)) (longer (j + 1) (m - (j + 1)) buckets (omega (arith, before, lt))) (equal (get_or (drop (j + 1) buckets) (m - (j + 1)) 0) (get_or buckets j 0) (there ∙ same))
   where
     longer : (n i : ℕ) (xs : List ℕ) → n + i < length xs → i < length (drop n xs)
-    longer zero i xs h = omega (arith, h)
+    longer zero i xs h = let lt : i < length xs = omega (arith, h) in lt
     longer (suc n) i [] h = absurd (omega (arith, h))
     longer (suc n) i (x ∷ xs) h = longer n i xs (omega (arith, h))
 
@@ -515,7 +515,7 @@ buckets_there count first hashes buckets few =
     rw (buckets_place count first hashes buckets, count_read count first hashes buckets few.below, below_true 0 count few.some, within) refl
 
 size_counted : (count first : ℕ) (hashes buckets : List ℕ) → is_counted (table_of count first hashes buckets) ≡ true
-unfolding is_counted
+unfolding is_counted lib.Count.ones
 size_counted count first hashes buckets = ap (λ (n : ℕ). is_power_of_two n) (size_read count first hashes buckets)
 
 links_there : (count first : ℕ) (hashes buckets : List ℕ) → AreFew count first hashes buckets → has_links (table_of count first hashes buckets) ≡ true
@@ -623,10 +623,6 @@ offset_is : (p : Plan) (is : IsPlanned p) → symoffset p ≡ first_of p is
 unfolding symoffset
 offset_is p is = ap (λ (n : ℕ). n + 1) (others_counted p.settings.buckets p.symbols is.order)
 
-buckets_are : (count : ℕ) (symbols : List Symbol) → gnu_buckets count (map hash_of symbols) ≡ buckets_of count symbols
-unfolding gnu_buckets
-buckets_are count symbols = refl
-
 all_symbols : (p : Plan) (is : IsPlanned p) → length p.symbols + 1 ≡ first_of p is + length (hashes_of p is)
 all_symbols p is = omega (arith, ap (λ (l : List Symbol). length l) is.order.parts, length-append is.order.others is.order.own, length-map is.order.own hash_of)
 
@@ -666,8 +662,8 @@ own_index p is i d lt defined = elim (cases_lt i (length is.order.others)) [
   | inr past ↦ past
   | inl before ↦
       let there : get_or p.symbols i d ≡ get_or is.order.others i d = ap (λ (l : List Symbol). get_or l i d) is.order.parts ∙ get_or_append_left is.order.others is.order.own d i before in
-      let not : (get_or is.order.others i d).defined ≡ false = all_at (λ x. x.defined ≡ false) is.order.others i d before is.order.undefined in
-      absurd (false≢true (sym not ∙ sym (ap (λ (s : Symbol). s.defined) there) ∙ defined))
+      let never : (get_or is.order.others i d).defined ≡ false = all_at (λ x. x.defined ≡ false) is.order.others i d before is.order.undefined in
+      absurd (false≢true (sym never ∙ sym (ap (λ (s : Symbol). s.defined) there) ∙ defined))
 ]
 
 plan_leads : (p : Plan) (is : IsPlanned p) (i : ℕ) (d : Symbol) → i < length p.symbols → (get_or p.symbols i d).defined ≡ true → is_candidate (planned_table p is) (gnu (get_or p.symbols i d).name) (i + 1) ≡ true

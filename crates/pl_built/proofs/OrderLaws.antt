@@ -1,11 +1,12 @@
 -- The order of a plan's symbols: first those that it does not define, then the others by ascending buckets.
 use Rattle.std.proofs.Common.{◌≡◌, ℕ, zero, suc, ◌+◌, ◌-◌, ◌<◌, ◌≤◌, Bool, true, false, List, [], ◌∷◌, ◌++◌, length, map, get_or, refl, sym, ap, subst, ◌∙◌, arith, inl, inr}
-use Rattle.std.specs.Prelude.{not, ◌==◌, filter, count_by}
+use Rattle.std.specs.Prelude.{not, ◌==◌, filter, count_by, cond}
 use Rattle.std.specs.List.{AllByRecursion, flat_map, range_with_len}
 use Rattle.std.proofs.lemmas.Bool.{cases_Bool, and_parts, false≢true}
 use Rattle.std.proofs.lemmas.Bool.Decides.{nat_tests}
 use Rattle.std.proofs.lemmas.List.{append-nil, map-append}
 use Rattle.std.proofs.lemmas.List.Elements.{filter-append}
+use Rattle.std.proofs.lemmas.List.Sums.{sum_by-cons}
 use Rattle.pl_hash.specs.Hash.{gnu}
 use Rattle.pl_build.specs.declared.line.Symbol.{Symbol}
 use Rattle.pl_build.specs.declared.recipe.Settings.{Settings}
@@ -140,13 +141,23 @@ own_hashes count symbols o =
     ∙ ap (λ (l : List Symbol). map hash_of (l ++ filter is_defined o.own)) (filter_no is_defined o.others o.undefined)
     ∙ ap (λ (l : List Symbol). map hash_of l) (filter_all is_defined o.own o.defined)
 
+own_not_counted : (x : Symbol) (xs : List Symbol) → x.defined ≡ true → count_by is_undefined (x ∷ xs) ≡ count_by is_undefined xs
+own_not_counted x xs h =
+    let none : cond (is_undefined x) 1 0 ≡ 0 = rw h refl in
+    omega (arith, sum_by-cons (λ y. cond (is_undefined y) 1 0) x xs, none)
+
+other_counted : (x : Symbol) (xs : List Symbol) → x.defined ≡ false → count_by is_undefined (x ∷ xs) ≡ count_by is_undefined xs + 1
+other_counted x xs h =
+    let one : cond (is_undefined x) 1 0 ≡ 1 = rw h refl in
+    omega (arith, sum_by-cons (λ y. cond (is_undefined y) 1 0) x xs, one)
+
 none_counted : (symbols : List Symbol) → AllByRecursion (λ x. x.defined ≡ true) symbols → count_by is_undefined symbols ≡ 0
 none_counted [] all = refl
-none_counted (x ∷ symbols) all = rw all.0 (omega (arith, none_counted symbols all.1))
+none_counted (x ∷ symbols) all = own_not_counted x symbols all.0 ∙ none_counted symbols all.1
 
 counted : (others own : List Symbol) → AllByRecursion (λ x. x.defined ≡ false) others → AllByRecursion (λ x. x.defined ≡ true) own → count_by is_undefined (others ++ own) ≡ length others
 counted [] own all defined = none_counted own defined
-counted (x ∷ others) own all defined = rw all.0 (omega (arith, counted others own all.1 defined))
+counted (x ∷ others) own all defined = omega (arith, other_counted x (others ++ own) all.0, counted others own all.1 defined)
 
 pub others_counted : (count : ℕ) (symbols : List Symbol) (o : IsOrdered count symbols) → count_by is_undefined symbols ≡ length o.others
 others_counted count symbols o = ap (λ (l : List Symbol). count_by is_undefined l) o.parts ∙ counted o.others o.own o.undefined o.defined

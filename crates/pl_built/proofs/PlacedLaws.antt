@@ -1,10 +1,12 @@
 -- Of a plain recipe's file, the tags and sections say where its tables are, and acceptance clauses 12 to 14 take them.
-use Rattle.std.proofs.Common.{◌≡◌, ℕ, ◌+◌, ◌-◌, ◌*◌, ◌/◌, ◌%◌, ◌<◌, ◌≤◌, Bool, true, false, List, [], ◌∷◌, ◌++◌, length, map, take, drop, Option, Some, None, Ok, refl, sym, ap, subst, ◌∙◌, length-append, arith, inl, inr}
+use Rattle.std.proofs.Common.{◌≡◌, ℕ, ◌+◌, ◌-◌, ◌*◌, ◌/◌, ◌%◌, ◌<◌, ◌≤◌, Bool, true, false, List, [], ◌∷◌, ◌++◌, length, map, take, drop, Option, Some, None, Result, Ok, refl, sym, ap, subst, ◌∙◌, length-append, arith, inl, inr}
 use Rattle.std.specs.Prelude.{◌⊎◌, not, ◌==◌, ◌&&◌, ◌||◌, nat_le, nat_lt, filter, find, count_by, cond, min, codes, is_some, is_ok, unwrap_or, if◌then◌else◌}
 use Rattle.std.specs.List.{AllByRecursion, flat_map, list_any}
 use Rattle.std.proofs.lemmas.Bool.{cases_Bool, false≢true, or_from, or_left}
 use Rattle.std.proofs.lemmas.Bool.Decides.{nat_tests}
 use Rattle.std.proofs.lemmas.List.{map-append}
+use Rattle.std.proofs.lemmas.List.Sums.{sum_by-cons}
+use Rattle.pl_base.specs.Answers.{unless}
 use Rattle.pl_base.specs.Bytes.{part}
 use Rattle.pl_base.specs.Windows.{Window, share, any_share}
 use Rattle.pl_base.proofs.FindLaws.{any_found}
@@ -16,13 +18,16 @@ use Rattle.pl_elf.specs.declared.segment.Segment.{Segment}
 use Rattle.pl_dyn.specs.Read.{value_of}
 use Rattle.pl_dyn.specs.declared.tags.Tag.{Tag}
 use Rattle.pl_relr.specs.Entries.{entries}
-use Rattle.pl_relr.specs.Places as relr
+use Rattle.pl_relr.specs.declared.fault.RelrFault.{RelrFault}
+use Rattle.pl_relr.specs.declared.fault.RelrFault.TheVariants.{Packed}
+use Rattle.pl_relr.specs.Places as packed
 use Rattle.pl_object.specs.FilePart.{nothing, loader, loaded_by, file_window, in_file_part, loaded}
 use Rattle.pl_object.specs.TableClauses.{lacks_tags, is_misplaced, other_dynsym, any_lost, any_outside, tables_overlap, bad_tables, bad_rela, bad_jmprel, bad_relocation_tables, bad_relr_tags, meets, misplaced_relr, relr_table, bad_relr_table, bad_packed, check_tables}
 use Rattle.pl_object.specs.Tables.{has_tag, value, dynamic_memory, tag_memory, strings_memory, rela_memory, jmprel_memory, relr_memory, has_kind, section_size, symbols_memory, begins_at, section_memory, is_lost, tables_memory, header_window, segments_window, sections_window, section_window, symtab_windows, main_windows}
 use Rattle.pl_build.specs.declared.layout.Tables.{Tables}
 use Rattle.pl_build.specs.declared.plan.Plan.{Plan}
 use Rattle.pl_build.specs.declared.recipe.Recipe.{Recipe}
+use Rattle.pl_build.specs.declared.recipe.Settings.{Settings}
 use Rattle.pl_build.specs.declared.relocations.Rela.{Rela}
 use Rattle.pl_build.specs.declared.roles.Place.{Place}
 use Rattle.pl_build.specs.declared.roles.Role.{Role}
@@ -68,21 +73,34 @@ same_from a b h = grind (arith, nat_tests)
 unequal : (a b : ℕ) → a < b → (a == b) ≡ false
 unequal a b lt = grind (arith, nat_tests)
 
+second_false : (a b : Bool) → b ≡ false → (a && b) ≡ false
+second_false true b h = h
+second_false false b h = refl
+
+third_false : (a b c d : Bool) → c ≡ false → (a && b && c && d) ≡ false
+third_false true true c d h = rw h refl
+third_false true false c d h = refl
+third_false false b c d h = refl
+
+false_last : (a : Bool) → (a && false) ≡ false
+false_last true = refl
+false_last false = refl
+
 -- ---- how long rows are
 
+entry_long : (e : SymbolEntry) → length (entry_bytes e) ≡ 24
+unfolding entry_bytes fields
+entry_long e = refl
+
+rela_long : (r : Rela) → length (rela_bytes r) ≡ 24
+unfolding rela_bytes fields
+rela_long r = refl
+
 entries_long : (es : List SymbolEntry) → length (flat_map entry_bytes es) ≡ 24 * length es
-entries_long es = rows_long 24 entry_bytes one es
-  where
-    one : (e : SymbolEntry) → length (entry_bytes e) ≡ 24
-    unfolding entry_bytes fields
-    one e = refl
+entries_long es = rows_long 24 entry_bytes entry_long es
 
 relas_long : (rs : List Rela) → length (flat_map rela_bytes rs) ≡ 24 * length rs
-relas_long rs = rows_long 24 rela_bytes one rs
-  where
-    one : (r : Rela) → length (rela_bytes r) ≡ 24
-    unfolding rela_bytes fields
-    one r = refl
+relas_long rs = rows_long 24 rela_bytes rela_long rs
 
 even_symbols : (p : Plan) → length (symbol_table p) % 24 ≡ 0
 unfolding symbol_table
@@ -159,7 +177,7 @@ named_dynamic r e = place_chosen (codes ".dynamic") (rows_of r e)
 
 -- ---- values of tags
 
-abbrev some_if : Bool → ℕ → Option ℕ
+abbrev pub some_if : Bool → ℕ → Option ℕ
 some_if there n = if there then Some n else None
 
 -- what a tag says of a table that may be there
@@ -317,7 +335,10 @@ symbols_size p e = refl
 kinds_counted : (p : Plan) (places : List Place) → count_by (has_kind 11) (map (section_in p) places) ≡ count_by (λ role. kind_of role == 11) (map role_of places)
 unfolding section_of row_of
 kinds_counted p [] = refl
-kinds_counted p (x ∷ places) = ap (λ (n : ℕ). cond (kind_of x.role == 11) 1 0 + n) (kinds_counted p places)
+kinds_counted p (x ∷ places) =
+    sum_by-cons (λ s. cond (has_kind 11 s) 1 0) (section_in p x) (map (section_in p) places)
+    ∙ ap (λ (n : ℕ). cond (kind_of x.role == 11) 1 0 + n) (kinds_counted p places)
+    ∙ sym (sum_by-cons (λ role. cond (kind_of role == 11) 1 0) x.role (map role_of places))
 
 one_shapes : (a b c d : Bool) → (count_by (λ role. kind_of role == 11) (plain_roles a b c d) == 1) ≡ true
 unfolding chosen kind_of
@@ -342,10 +363,6 @@ unfolding is_misplaced section_of row_of
 right_one p address place (inl other) = rw other refl
 right_one p address place (inr right) =
     second_false (kind_of place.role == 11) (not (place.addr == address) || not (place.size % 24 == 0)) (rw (equal place.addr address right.0, equal (place.size % 24) 0 right.1) refl)
-  where
-    second_false : (a b : Bool) → b ≡ false → (a && b) ≡ false
-    second_false true b h = h
-    second_false false b h = refl
 
 right_all : (p : Plan) (address : ℕ) (places : List Place) → AllByRecursion (IsRight address) places → list_any (is_misplaced address) (map (section_in p) places) ≡ false
 right_all p address [] all = refl
@@ -400,11 +417,7 @@ null_begins p address = refl
 -- elsewhere
 hash_elsewhere : (p : Plan) (e : Extent) (address : ℕ) → e.addr < address → begins_at address (section_in p (place_in Hash e)) ≡ false
 unfolding begins_at section_of row_of kind_of flags_of
-hash_elsewhere p e address lt = last_false (nat_lt 0 e.size) (e.addr == address) (unequal e.addr address lt)
-  where
-    last_false : (a b : Bool) → b ≡ false → (a && b) ≡ false
-    last_false true b h = h
-    last_false false b h = refl
+hash_elsewhere p e address lt = second_false (nat_lt 0 e.size) (e.addr == address) (unequal e.addr address lt)
 
 hash_section : (r : Recipe) (t : Tables) (e : Extents) → IsPlain r → t.places ≡ chosen (rows_of r e) → r.settings.hashes.sysv ≡ true → 0 < e.hash.size
     → find (begins_at e.hash.addr) (planned_sections (plan_of r) t) ≡ Some (section_in (plan_of r) (place_in Hash e.hash))
@@ -422,10 +435,6 @@ gnu_section r t e plain shape there some before =
       | inr none ↦ rw none (false_last (test (place_in Hash e.hash)))
     ] in
     section_found r t e (begins_at e.gnu_hash.addr) (place_in GnuHash e.gnu_hash) plain shape (null_begins p e.gnu_hash.addr) (rw (first, gnu_begins p e.gnu_hash some, there) refl)
-  where
-    false_last : (a : Bool) → (a && false) ≡ false
-    false_last true = refl
-    false_last false = refl
 
 hash_size : (p : Plan) (e : Extent) → (section_in p (place_in Hash e)).size ≡ e.size
 unfolding section_of row_of
@@ -528,18 +537,9 @@ share_behind v w le = rw (not_above (w.at + w.size) v.at le) refl
 
 share_empty : (v w : Window) → v.size ≡ 0 → share v w ≡ false
 share_empty v w none = third_false (nat_lt v.at (w.at + w.size)) (nat_lt w.at (v.at + v.size)) (nat_lt 0 v.size) (nat_lt 0 w.size) (not_above v.size 0 (omega (arith, none)))
-  where
-    third_false : (a b c d : Bool) → c ≡ false → (a && b && c && d) ≡ false
-    third_false true true c d h = rw h refl
-    third_false true false c d h = refl
-    third_false false b c d h = refl
 
 share_other_empty : (v w : Window) → w.size ≡ 0 → share v w ≡ false
-share_other_empty v w none = last_false (nat_lt v.at (w.at + w.size) && nat_lt w.at (v.at + v.size) && nat_lt 0 v.size) (nat_lt 0 w.size) (not_above w.size 0 (omega (arith, none)))
-  where
-    last_false : (a b : Bool) → b ≡ false → (a && b) ≡ false
-    last_false true b h = h
-    last_false false b h = refl
+share_other_empty v w none = second_false (nat_lt v.at (w.at + w.size) && nat_lt w.at (v.at + v.size) && nat_lt 0 v.size) (nat_lt 0 w.size) (not_above w.size 0 (omega (arith, none)))
 
 low_spot : (u w : Window) (b : Bool) (e : Extent) → u.at + u.size ≤ 1024 → IsSpot b e w → (b ≡ true → 1024 ≤ e.offset) → share u w ≡ false
 low_spot u w b e low (inl none) high = share_other_empty u w none
@@ -748,14 +748,19 @@ relr_apart h ss sections tags e =
     ap (λ (w : Window). not (in_file_part ss w) || meets (main_windows h ss sections tags) (file_window ss w)) e
     ∙ or_from (not (in_file_part ss nothing)) (meets (main_windows h ss sections tags) (file_window ss nothing)) (ap (λ (b : Bool). not b) (nothing_in ss)) (empty_meets (file_window ss nothing) (main_windows h ss sections tags) (nothing_small ss))
 
-nothing_unpacked : (n : ℕ) → is_ok (relr.unpacked [] n) ≡ true
-unfolding relr.unpacked relr.places relr.places_from entries
-nothing_unpacked n = rw (not_above 0 n (omega arith)) refl
+-- a test that fails refuses nothing
+refuses_not : (b : Bool) (rest : Result (List ℕ) RelrFault) → b ≡ false → is_ok rest ≡ true → is_ok (unless b Packed rest) ≡ true
+refuses_not true rest h ok = absurd (false≢true (sym h))
+refuses_not false rest h ok = ok
+
+nothing_unpacked : (n : ℕ) → is_ok (packed.unpacked [] n) ≡ true
+unfolding packed.unpacked packed.places packed.places_from entries
+nothing_unpacked n = refuses_not (nat_lt n 0) (Ok []) (not_above 0 n (omega arith)) refl
 
 relr_good : (bytes : List ℕ) (ss : List Segment) (tags : List Tag) → relr_memory tags ≡ nothing → bad_relr_table bytes ss tags ≡ false
 unfolding bad_relr_table
 relr_good bytes ss tags e =
-    ap (λ (l : List ℕ). not (is_ok (relr.unpacked l (length bytes / 8)))) (ap (loaded bytes ss) e ∙ nothing_loaded bytes ss)
+    ap (λ (l : List ℕ). not (is_ok (packed.unpacked l (length bytes / 8)))) (ap (loaded bytes ss) e ∙ nothing_loaded bytes ss)
     ∙ ap (λ (b : Bool). not b) (nothing_unpacked (length bytes / 8))
 
 -- ---- all of them

@@ -2,12 +2,14 @@
 use Rattle.std.proofs.Common.{◌≡◌, ℕ, zero, suc, ◌+◌, ◌-◌, ◌*◌, ◌%◌, ◌^◌, ◌<◌, ◌≤◌, Bool, true, false, List, [], ◌∷◌, ◌++◌, length, map, get_or, Option, Some, None, Result, Ok, refl, sym, ap, subst, ◌∙◌, arith, inl, inr}
 use Rattle.std.specs.Prelude.{◌⊎◌, not, ◌==◌, ◌&&◌, ◌||◌, nat_le, nat_lt, filter, find, min, position, slice_get, codes}
 use Rattle.std.specs.List.{AllByRecursion, flat_map, list_any, position_or_len, range_with_len}
+use Rattle.std.specs.Option.{option_map}
 use Rattle.std.proofs.lemmas.Bool.{cases_Bool, cases_lt, and_parts, false≢true, or_cases, or_right}
 use Rattle.std.proofs.lemmas.Bool.Decides.{nat_tests}
 use Rattle.std.proofs.lemmas.List.{length-map, take_all, drop_all, map-append}
 use Rattle.std.proofs.lemmas.List.Sums.{fails_before_first, passes_at_first}
 use Rattle.std.proofs.lemmas.List.Sorted.{IsPermutation-filter_both}
 use Rattle.std.proofs.lemmas.Option.{slice_get-get_or, slice_get-map}
+use Rattle.std.proofs.lemmas.Nat.{mod_below}
 use Rattle.std.proofs.Math.Nat.{mod-lt}
 use Rattle.pl_base.specs.Pairs.{any_pair}
 use Rattle.pl_base.specs.Sums.{plus, minus}
@@ -17,6 +19,7 @@ use Rattle.pl_base.proofs.PairLaws.{any_pair_permuted}
 use Rattle.pl_base.proofs.SumLaws.{plus_below, plus_small, round_up-at_least}
 use Rattle.pl_elf.specs.declared.segment.Segment.{Segment}
 use Rattle.pl_hash.specs.Hash.{gnu}
+use Rattle.pl_sym.specs.Symbol as seen
 use Rattle.pl_sym.specs.declared.symbol.Symbol as read
 use Rattle.pl_object.specs.FilePart.{nothing, loads_byte, loader, file_window, in_file_part}
 use Rattle.pl_object.specs.PlaceClauses.{is_known, is_bad, first_bad, last_load, is_in_memory, is_held, reloc_outside, rows_of, packed_of, any_outside, reloc_overlap, spots, reloc_in_tables, is_odd, odd_addend, is_misplaced_copy, misplaced_copy, check_places, check_relocs}
@@ -61,6 +64,27 @@ use Rattle.pl_built.proofs.RowLaws.{relocs_read}
 below_true : (a b : ℕ) → a < b → nat_lt a b ≡ true
 below_true a b lt = grind (arith, nat_tests)
 
+below_from : (a b : ℕ) → nat_lt a b ≡ true → a < b
+below_from a b h = grind (arith, nat_tests)
+
+suc_not_zero : (n : ℕ) → (suc n == 0) ≡ false
+suc_not_zero n = grind (arith, nat_tests)
+
+second_false : (a b : Bool) → b ≡ false → (a && b) ≡ false
+second_false true b h = h
+second_false false b h = refl
+
+third_false : (a b c d : Bool) → c ≡ false → (a && b && c && d) ≡ false
+third_false true true c d h = rw h refl
+third_false true false c d h = refl
+third_false false b c d h = refl
+
+both_true : (a b : Bool) → a ≡ true → b ≡ true → (a && b) ≡ true
+both_true a b x y = rw (x, y) refl
+
+both_false : (a b : Bool) → a ≡ false → b ≡ false → (a || b) ≡ false
+both_false a b x y = rw (x, y) refl
+
 equal : (a b : ℕ) → a ≡ b → (a == b) ≡ true
 equal a b e = grind (arith, nat_tests)
 
@@ -101,7 +125,7 @@ none_at q (x ∷ xs) d each = rw (each 0 (omega arith), none_at q xs d (λ i lt.
 -- ---- the symbol of a name
 
 -- what stands where a list has nothing
-nobody : Symbol
+pub nobody : Symbol
 nobody = record { defined = false; written = []; name = []; version = []; default_version = false; file = []; bind = 0; kind = 0; visibility = 0; placed = false; offset = 0; size = 0 }
 
 pub record IsThere (q : Symbol → Bool) (xs : List Symbol) : Type 0 where
@@ -124,7 +148,7 @@ position_within q xs few =
     let k : ℕ = position_or_len q xs in
     elim (cases_Bool (nat_lt k (length xs))) [
       | inr none ↦ rw none (omega arith)
-      | inl there ↦ let lt : k < length xs = grind (arith, nat_tests) in rw there (omega (arith, lt, few, plus_small k 1 (omega (arith, lt, few))))
+      | inl there ↦ let lt : k < length xs = below_from k (length xs) there in rw there (omega (arith, lt, few, plus_small k 1 (omega (arith, lt, few))))
     ]
 
 any_first : {X : Type 0} (q : X → Bool) (xs ys : List X) → list_any q xs ≡ true → list_any q (xs ++ ys) ≡ true
@@ -251,7 +275,7 @@ number_small p name few = elim (cases_Bool (is_no_symbol name)) [
 addend_small : (a : Addend) → a.magnitude < 2 ^ 64 → addend_of a < 2 ^ 64
 unfolding addend_of
 addend_small a small = elim (cases_Bool a.negative) [
-  | inl below ↦ rw below (mod-lt (0 + (2 ^ 64 - a.magnitude)) (omega arith))
+  | inl below ↦ rw below (mod_below (0 + (2 ^ 64 - a.magnitude)) (2 ^ 64) (omega arith))
   | inr above ↦ rw above small
 ]
 
@@ -315,7 +339,8 @@ copied r x plain copy =
 copied_number : (r : Recipe) (x : Relocation) (there : IsThere (is_written_as x.name) (plan_of r).symbols) → length (plan_of r).symbols + 1 < 2 ^ 32 → is_no_symbol x.name ≡ false → symbol_number (plan_of r) x.name ≡ suc there.index
 unfolding symbol_number
 copied_number r x there few named =
-    let sum : plus there.index 1 ≡ suc there.index = plus_small there.index 1 (omega (arith, there.within, few)) ∙ omega arith in
+    let small : plus there.index 1 ≡ there.index + 1 = plus_small there.index 1 (omega (arith, there.within, few)) in
+    let sum : plus there.index 1 ≡ suc there.index = omega (arith, small) in
     rw (named, there.found) sum
 
 copied_size : (r : Recipe) (x : Relocation) → CopiesWord r x → (there : IsThere (is_written_as x.name) (plan_of r).symbols) → (get_or (plan_of r).symbols there.index nobody).size ≡ 8
@@ -329,11 +354,8 @@ copy_wide r x plain few copy =
     let p : Plan = plan_of r in
     let there : IsThere (is_written_as x.name) p.symbols = copied r x plain copy in
     let at : slice_get (map (planned_symbol p) p.symbols) there.index ≡ Some (planned_symbol p (get_or p.symbols there.index nobody)) =
-    slice_get-map (planned_symbol p) p.symbols there.index ∙ option_of (slice_get-get_or p.symbols there.index nobody there.within) in
+    slice_get-map (planned_symbol p) p.symbols there.index ∙ ap (λ (o : Option Symbol). option_map (planned_symbol p) o) (slice_get-get_or p.symbols there.index nobody there.within) in
     rw (copy.kind, copied_number r x there few copy.named, at) (copied_size r x copy there)
-  where
-    option_of : {k : ℕ} → slice_get (plan_of r).symbols k ≡ Some (get_or (plan_of r).symbols k nobody) → Rattle.std.specs.Option.option_map (planned_symbol (plan_of r)) (slice_get (plan_of r).symbols k) ≡ Some (planned_symbol (plan_of r) (get_or (plan_of r).symbols k nobody))
-    option_of e = ap (λ (o : Option Symbol). Rattle.std.specs.Option.option_map (planned_symbol (plan_of r)) o) e
 
 -- ---- the place of a relocation: a word, so far behind the beginning of the data
 
@@ -449,10 +471,7 @@ unfolding is_held
 word_held s program tables_end offset dynamic plain le (inl word) = rw (in_file s tables_end offset dynamic le word) refl
 word_held s program tables_end offset dynamic plain le (inr copy) =
     let memory : Bool = is_in_memory (word_at s offset) (last_load (with_data s tables_end dynamic)) in
-    or_right (in_file_part (with_data s tables_end dynamic) (word_at s offset)) (program && memory) (both program memory copy.0 (in_zeros s tables_end offset dynamic plain copy.1))
-  where
-    both : (a b : Bool) → a ≡ true → b ≡ true → (a && b) ≡ true
-    both a b x y = rw (x, y) refl
+    or_right (in_file_part (with_data s tables_end dynamic) (word_at s offset)) (program && memory) (both_true program memory copy.0 (in_zeros s tables_end offset dynamic plain copy.1))
 
 -- where it may be: in the data, or in a program in the zeros behind it
 abbrev IsPlaced : Bool → Settings → ℕ → Type 0
@@ -530,12 +549,7 @@ OffData s tables_end w = (w.at + w.size ≤ data_offset tables_end) ⊎ (data_of
 not_shared : (s : Settings) (tables_end : ℕ) (v w : Window) → InData s tables_end v → OffData s tables_end w → share v w ≡ false
 not_shared s tables_end v w (inl none) off =
     let empty : nat_lt 0 v.size ≡ false = not_above v.size 0 (omega (arith, none)) in
-    last_false (nat_lt v.at (w.at + w.size)) (nat_lt w.at (v.at + v.size)) (nat_lt 0 v.size) (nat_lt 0 w.size) empty
-  where
-    last_false : (a b c d : Bool) → c ≡ false → (a && b && c && d) ≡ false
-    last_false true true c d h = rw h refl
-    last_false true false c d h = refl
-    last_false false b c d h = refl
+    third_false (nat_lt v.at (w.at + w.size)) (nat_lt w.at (v.at + v.size)) (nat_lt 0 v.size) (nat_lt 0 w.size) empty
 not_shared s tables_end v w (inr inside) (inl before) = rw (not_above (w.at + w.size) v.at (omega (arith, inside.0, before))) refl
 not_shared s tables_end v w (inr inside) (inr behind) = elim (cases_Bool (nat_lt v.at (w.at + w.size))) [
   | inl lt ↦ rw (lt, not_above (v.at + v.size) w.at (omega (arith, inside.1, behind))) refl
@@ -602,7 +616,7 @@ copy_placed r x plain few m = elim m.form [
   | inl word ↦ rw (word_no_copy x.kind word.kind) refl
   | inr copy ↦
       let there : IsThere (is_written_as x.name) (plan_of r).symbols = copied r x plain copy in
-      rw (copy.kind, program_is r copy.program, copied_number r x there few copy.named) refl
+      rw (copy.kind, program_is r copy.program, copied_number r x there few copy.named, suc_not_zero there.index) refl
 ]
 
 copies_placed : (r : Recipe) (rs : List Relocation) → IsPlain r → length (plan_of r).symbols + 1 < 2 ^ 32 → AllByRecursion (IsModestRelocation r) rs → misplaced_copy (type_of (plan_of r).settings == 2) (read_as (plan_of r) rs) ≡ false
@@ -622,11 +636,7 @@ no_function p s x m =
         ]
       | inr weak ↦ rw weak.kind refl
     ] in
-    second_false (not (Rattle.pl_sym.specs.Symbol.is_undefined (planned_symbol p x))) (x.kind == 10) other
-  where
-    second_false : (a b : Bool) → b ≡ false → (a && b) ≡ false
-    second_false true b h = h
-    second_false false b h = refl
+    second_false (not (seen.is_undefined (planned_symbol p x))) (x.kind == 10) other
 
 no_functions : (p : Plan) (s : Settings) (symbols : List Symbol) → AllByRecursion (IsModestSymbol s) symbols → list_any is_ifunc (map (planned_symbol p) symbols) ≡ false
 no_functions p s [] all = refl
@@ -669,6 +679,10 @@ shoff_is : (p : Plan) (t : Tables) → (planned_header p t).shoff ≡ sections_o
 unfolding planned_header header_of
 shoff_is p t = refl
 
+none_packed : (ss : List Segment) → reloc_outside false ss [] ≡ false
+unfolding reloc_outside
+none_packed ss = refl
+
 -- of relocations of which these things are known
 places_taken : (program : Bool) (ss : List Segment) (ws : List Window) (count : ℕ) (rs : List Reloc) → first_bad count rs ≡ None → reloc_outside program ss rs ≡ false → reloc_overlap rs ≡ false → reloc_in_tables ws ss rs ≡ false → odd_addend rs ≡ false
     → check_relocs program ss ws count 0 rs ≡ Ok tt
@@ -679,14 +693,8 @@ places_taken program ss ws count rs good outside overlap clear plain =
     let held : (reloc_outside program ss (rows_of 0 rs) || reloc_outside false ss (packed_of 0 rs)) ≡ false =
     ap (λ (l : List Reloc). reloc_outside program ss l || reloc_outside false ss (packed_of 0 rs)) rows
     ∙ ap (λ (l : List Reloc). reloc_outside program ss rs || reloc_outside false ss l) packed
-    ∙ both (reloc_outside program ss rs) (reloc_outside false ss []) outside (none_packed ss) in
+    ∙ both_false (reloc_outside program ss rs) (reloc_outside false ss []) outside (none_packed ss) in
     rw (good, held, overlap, clear, plain) refl
-  where
-    none_packed : (ss : List Segment) → reloc_outside false ss [] ≡ false
-    unfolding reloc_outside
-    none_packed ss = refl
-    both : (a b : Bool) → a ≡ false → b ≡ false → (a || b) ≡ false
-    both a b x y = rw (x, y) refl
 
 -- by a plan whose segments these are
 by_places : (r : Recipe) (tables_end : ℕ) (dynamic : Place) (ws : List Window) → IsPlain r → IsModest r → tables_end ≤ 1048576 → length (plan_of r).symbols + 1 < 2 ^ 32 → AllByRecursion (OffData (plan_of r).settings tables_end) ws
@@ -709,7 +717,7 @@ by_places r tables_end dynamic ws plain m le few off =
     (none_odd r rs all)
 
 pub relocs_taken : PlannedRelocsAreTaken
-unfolding has_ifunc is_ifunc
+unfolding has_ifunc is_ifunc seen.is_undefined
 relocs_taken r t windows plain m e few low =
     let p : Plan = plan_of r in
     let rows = laid_tables p t e in
