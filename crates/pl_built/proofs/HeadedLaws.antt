@@ -193,7 +193,7 @@ row_in p names size place (inr held) = inr held
 pub there_is : (place : Place) → 0 < place.size → is_there place ≡ true
 there_is place some = grind (arith, nat_tests)
 
-heads_within : (p : Plan) (t : Tables) → 64 + 56 * length (planned_segments p t) ≤ length (file_by p t)
+pub heads_within : (p : Plan) (t : Tables) → 64 + 56 * length (planned_segments p t) ≤ length (file_by p t)
 heads_within p t =
     let shoff : ℕ = sections_offset p (end_of t) (names_of p) in
     let h : List ℕ = header_bytes p (length (planned_segments p t)) shoff in
@@ -375,7 +375,7 @@ planned_good r t h plain e size =
     subst (λ (ss : List Segment). bad_segment h ss ≡ false) (sym (segments_shown p t (plain_settings r plain) (there_is place d.some)))
     (segments_good h (has_data p.settings) (first_load p.settings (end_of t)) (second_load p.settings (end_of t)) (dynamic_segment place) size (good p.settings (end_of t) place (plain_settings r plain) laid.0))
 
-planned_dynamic : (r : Recipe) (t : Tables) → IsPlain r → tables (plan_of r) ≡ Ok t → list_any is_dynamic (planned_segments (plan_of r) t) ≡ true
+pub planned_dynamic : (r : Recipe) (t : Tables) → IsPlain r → tables (plan_of r) ≡ Ok t → list_any is_dynamic (planned_segments (plan_of r) t) ≡ true
 planned_dynamic r t plain e =
     let p : Plan = plan_of r in
     let laid = laid_tables p t e in

@@ -20,3 +20,6 @@ pub mod RelocLaws
 pub mod ValueLaws
 pub mod ShapeLaws
 pub mod PlacedLaws
+pub mod LinkingLaws
+pub mod FoundLaws
+pub mod AcceptedLaws

@@ -96,7 +96,7 @@ rela_long : (r : Rela) → length (rela_bytes r) ≡ 24
 unfolding rela_bytes fields
 rela_long r = refl
 
-entries_long : (es : List SymbolEntry) → length (flat_map entry_bytes es) ≡ 24 * length es
+pub entries_long : (es : List SymbolEntry) → length (flat_map entry_bytes es) ≡ 24 * length es
 entries_long es = rows_long 24 entry_bytes entry_long es
 
 relas_long : (rs : List Rela) → length (flat_map rela_bytes rs) ≡ 24 * length rs
@@ -155,23 +155,23 @@ named_slots : (r : Recipe) (e : Extents) → place_of (before_dynamic r e) (code
 unfolding section_name
 named_slots r e = place_chosen (codes ".rela.plt") (rows_before r e)
 
-no_packed : (r : Recipe) (e : Extents) → place_of (before_dynamic r e) (codes ".relr.dyn") ≡ null_place
+pub no_packed : (r : Recipe) (e : Extents) → place_of (before_dynamic r e) (codes ".relr.dyn") ≡ null_place
 unfolding section_name
 no_packed r e = place_chosen (codes ".relr.dyn") (rows_before r e)
 
-no_words : (r : Recipe) (e : Extents) → place_of (before_dynamic r e) (codes ".gnu.version") ≡ null_place
+pub no_words : (r : Recipe) (e : Extents) → place_of (before_dynamic r e) (codes ".gnu.version") ≡ null_place
 unfolding section_name
 no_words r e = place_chosen (codes ".gnu.version") (rows_before r e)
 
-no_defined : (r : Recipe) (e : Extents) → place_of (before_dynamic r e) (codes ".gnu.version_d") ≡ null_place
+pub no_defined : (r : Recipe) (e : Extents) → place_of (before_dynamic r e) (codes ".gnu.version_d") ≡ null_place
 unfolding section_name
 no_defined r e = place_chosen (codes ".gnu.version_d") (rows_before r e)
 
-no_needed : (r : Recipe) (e : Extents) → place_of (before_dynamic r e) (codes ".gnu.version_r") ≡ null_place
+pub no_needed : (r : Recipe) (e : Extents) → place_of (before_dynamic r e) (codes ".gnu.version_r") ≡ null_place
 unfolding section_name
 no_needed r e = place_chosen (codes ".gnu.version_r") (rows_before r e)
 
-named_dynamic : (r : Recipe) (e : Extents) → place_of (chosen (rows_of r e)) (codes ".dynamic") ≡ place_in Dynamic e.dynamic
+pub named_dynamic : (r : Recipe) (e : Extents) → place_of (chosen (rows_of r e)) (codes ".dynamic") ≡ place_in Dynamic e.dynamic
 unfolding section_name
 named_dynamic r e = place_chosen (codes ".dynamic") (rows_of r e)
 
@@ -191,7 +191,7 @@ tells f x b y e some = ap (λ (z : Place). if is_there z then Some (f z) else No
 tells_none : (f : Place → ℕ) (x : Place) → x ≡ null_place → (if is_there x then Some (f x) else None) ≡ None
 tells_none f x e = ap (λ (z : Place). if is_there z then Some (f z) else None) e
 
-abbrev tags_of : Recipe → Extents → List Tag
+abbrev pub tags_of : Recipe → Extents → List Tag
 tags_of r e = planned_tags (plan_of r) (before_dynamic r e)
 
 -- whether it is there, it has bytes
@@ -254,13 +254,13 @@ values_are r e have =
 
 -- ---- the sections
 
-abbrev section_in : Plan → Place → Section
+abbrev pub section_in : Plan → Place → Section
 section_in p place = section_of (row_of p (names_of p) place)
 
-abbrev last_of : Plan → Tables → List Place
+abbrev pub last_of : Plan → Tables → List Place
 last_of p t = last_places p (data_offset (end_of t)) (length (names_of p).bytes)
 
-abbrev all_places : Recipe → Extents → Tables → List Place
+abbrev pub all_places : Recipe → Extents → Tables → List Place
 all_places r e t = null_place ∷ (chosen (rows_of r e) ++ last_of (plan_of r) t)
 
 map_twice : (p : Plan) (names : Strings) (places : List Place) → map section_of (section_rows p names places) ≡ map (λ x. section_of (row_of p names x)) places
@@ -268,7 +268,7 @@ unfolding section_rows
 map_twice p names [] = refl
 map_twice p names (x ∷ places) = ap (λ (l : List Section). section_of (row_of p names x) ∷ l) (map_twice p names places)
 
-sections_are : (r : Recipe) (t : Tables) (e : Extents) → IsPlain r → t.places ≡ chosen (rows_of r e) → planned_sections (plan_of r) t ≡ map (section_in (plan_of r)) (all_places r e t)
+pub sections_are : (r : Recipe) (t : Tables) (e : Extents) → IsPlain r → t.places ≡ chosen (rows_of r e) → planned_sections (plan_of r) t ≡ map (section_in (plan_of r)) (all_places r e t)
 unfolding planned_sections places_of
 sections_are r t e plain shape =
     let p : Plan = plan_of r in
@@ -395,7 +395,7 @@ no_symtab_role Data = refl
 no_symtab_role Bss = refl
 no_symtab_role Shstrtab = refl
 
-no_symtabs : (p : Plan) (places : List Place) → symtab_windows (map (section_in p) places) ≡ []
+pub no_symtabs : (p : Plan) (places : List Place) → symtab_windows (map (section_in p) places) ≡ []
 unfolding symtab_windows section_of row_of
 no_symtabs p [] = refl
 no_symtabs p (x ∷ places) = rw (no_symtab_role x.role) (no_symtabs p places)
@@ -464,7 +464,7 @@ unfolding section_memory window_at
 section_told number tags sections true e x size = rw x (ap (λ (n : ℕ). window_at e.addr n) (size refl))
 section_told number tags sections false e x size = rw x refl
 
-no_section : (number : ℕ) (tags : List Tag) (sections : List Section) → value_of number tags ≡ None → section_memory number tags sections ≡ nothing
+pub no_section : (number : ℕ) (tags : List Tag) (sections : List Section) → value_of number tags ≡ None → section_memory number tags sections ≡ nothing
 unfolding section_memory
 no_section number tags sections x = rw x refl
 
@@ -495,22 +495,22 @@ empty_by : (o : Option Segment) → (loaded_by nothing o).size ≡ 0
 empty_by None = refl
 empty_by (Some s) = omega arith
 
-nothing_small : (ss : List Segment) → (file_window ss nothing).size ≡ 0
+pub nothing_small : (ss : List Segment) → (file_window ss nothing).size ≡ 0
 unfolding file_window
 nothing_small ss = empty_by (loader ss 0)
 
-nothing_in : (ss : List Segment) → in_file_part ss nothing ≡ true
+pub nothing_in : (ss : List Segment) → in_file_part ss nothing ≡ true
 unfolding in_file_part
 nothing_in ss = equal (file_window ss nothing).size 0 (nothing_small ss)
 
-nothing_loaded : (bytes : List ℕ) (ss : List Segment) → loaded bytes ss nothing ≡ []
+pub nothing_loaded : (bytes : List ℕ) (ss : List Segment) → loaded bytes ss nothing ≡ []
 unfolding loaded
 nothing_loaded bytes ss = ap (λ (n : ℕ). take n (drop (file_window ss nothing).at bytes)) (nothing_small ss)
 
 abbrev file_at : Extent → Window
 file_at e = record { at = e.offset; size = e.size }
 
-good_in : (p : Plan) (ss : List Segment) (tables_end : ℕ) (role : Role) (e : Extent) → IsGood p ss tables_end (place_in role e) → in_file_part ss (memory_at e) ≡ true
+pub good_in : (p : Plan) (ss : List Segment) (tables_end : ℕ) (role : Role) (e : Extent) → IsGood p ss tables_end (place_in role e) → in_file_part ss (memory_at e) ≡ true
 unfolding in_file_part
 good_in p ss tables_end role e good = ap (λ (w : Window). w.size == e.size) good.window ∙ equal e.size e.size refl
 
@@ -651,7 +651,7 @@ unfolding dynamic_memory first_load second_load dynamic_segment readable
 dynamic_shown true s tables_end d = refl
 dynamic_shown false s tables_end d = refl
 
-dynamic_is : (r : Recipe) (t : Tables) (e : Extents) → IsPlain r → t.places ≡ chosen (rows_of r e) → 0 < e.dynamic.size → dynamic_memory (planned_segments (plan_of r) t) ≡ memory_at e.dynamic
+pub dynamic_is : (r : Recipe) (t : Tables) (e : Extents) → IsPlain r → t.places ≡ chosen (rows_of r e) → 0 < e.dynamic.size → dynamic_memory (planned_segments (plan_of r) t) ≡ memory_at e.dynamic
 dynamic_is r t e plain shape some =
     let p : Plan = plan_of r in
     let there : place_of t.places (codes ".dynamic") ≡ place_in Dynamic e.dynamic = ap (λ (l : List Place). place_of l (codes ".dynamic")) shape ∙ named_dynamic r e in
@@ -692,7 +692,7 @@ seven_apart r ss tables_end e segments sections d y o s at size far good order d
     ((spots_before o s c j e.others e.slots oo slot (λ one two. order.others_slots one two), tt),
     (tt, tt)))))))
 
-segments_low : (p : Plan) (t : Tables) → ((segments_window (planned_header p t)).at ≡ 64) × ((segments_window (planned_header p t)).size ≤ 392)
+pub segments_low : (p : Plan) (t : Tables) → ((segments_window (planned_header p t)).at ≡ 64) × ((segments_window (planned_header p t)).size ≤ 392)
 unfolding planned_header header_of
 segments_low p t = (refl, omega (arith, few p t))
 
@@ -749,19 +749,19 @@ relr_apart h ss sections tags e =
     ∙ or_from (not (in_file_part ss nothing)) (meets (main_windows h ss sections tags) (file_window ss nothing)) (ap (λ (b : Bool). not b) (nothing_in ss)) (empty_meets (file_window ss nothing) (main_windows h ss sections tags) (nothing_small ss))
 
 -- a test that fails refuses nothing
-refuses_not : (b : Bool) (rest : Result (List ℕ) RelrFault) → b ≡ false → is_ok rest ≡ true → is_ok (unless b Packed rest) ≡ true
-refuses_not true rest h ok = absurd (false≢true (sym h))
-refuses_not false rest h ok = ok
+refuses_not : (b : Bool) (rest : Result (List ℕ) RelrFault) → b ≡ false → unless b Packed rest ≡ rest
+refuses_not true rest h = absurd (false≢true (sym h))
+refuses_not false rest h = refl
 
-nothing_unpacked : (n : ℕ) → is_ok (packed.unpacked [] n) ≡ true
+pub nothing_unpacked : (n : ℕ) → packed.unpacked [] n ≡ Ok []
 unfolding packed.unpacked packed.places packed.places_from entries
-nothing_unpacked n = refuses_not (nat_lt n 0) (Ok []) (not_above 0 n (omega arith)) refl
+nothing_unpacked n = refuses_not (nat_lt n 0) (Ok []) (not_above 0 n (omega arith))
 
 relr_good : (bytes : List ℕ) (ss : List Segment) (tags : List Tag) → relr_memory tags ≡ nothing → bad_relr_table bytes ss tags ≡ false
 unfolding bad_relr_table
 relr_good bytes ss tags e =
     ap (λ (l : List ℕ). not (is_ok (packed.unpacked l (length bytes / 8)))) (ap (loaded bytes ss) e ∙ nothing_loaded bytes ss)
-    ∙ ap (λ (b : Bool). not b) (nothing_unpacked (length bytes / 8))
+    ∙ ap (λ (x : Result (List ℕ) RelrFault). not (is_ok x)) (nothing_unpacked (length bytes / 8))
 
 -- ---- all of them
 
@@ -798,13 +798,17 @@ in_order r bytes t placed =
       slots_dynamic = λ there. slots.0 there refl;
     }
 
-pub tables_taken : TablesAreTaken
+-- what is known of them together
+pub record AreTaken (r : Recipe) (bytes : List ℕ) (t : Tables) (e : Extents) : Type 0 where
+  pub good : AreGood r (planned_segments (plan_of r) t) (end_of t) e
+  pub values : AreValues r e (tags_of r e)
+  pub told : TellsPlaces r e (planned_sections (plan_of r) t) (tags_of r e)
+  pub taken : check_tables bytes (planned_header (plan_of r) t) (planned_segments (plan_of r) t) (planned_sections (plan_of r) t) (tags_of r e) ≡ Ok tt
+
+pub are_taken : (r : Recipe) (bytes : List ℕ) (t : Tables) → IsPlain r → tables (plan_of r) ≡ Ok t → (here : IsPlaced r bytes t) → AreTaken r bytes t here.shape.extents
 unfolding bad_tables any_outside tables_overlap bad_relocation_tables bad_packed
-tables_taken r bytes plain made_so =
+are_taken r bytes t plain there here =
     let p : Plan = plan_of r in
-    let all = placed r bytes plain made_so in
-    let t : Tables = all.0 in
-    let here : IsPlaced r bytes t = all.2 in
     let e : Extents = here.shape.extents in
     let shape : t.places ≡ chosen (rows_of r e) = here.shape.is in
     let h : Header = planned_header p t in
@@ -813,7 +817,7 @@ tables_taken r bytes plain made_so =
     let tags : List Tag = tags_of r e in
     let good : AreGood r ss (end_of t) e = good_by_name r bytes t here in
     let order : AreInOrder r e = in_order r bytes t here in
-    let have : HaveBytes r e = record { hash = λ there. (good.hash there).some; gnu_hash = λ there. (good.gnu_hash there).some; others = λ there. (good.others there).some; slots = λ there. (good.slots there).some } in
+    let have : HaveBytes r e = record { hash = λ has. (good.hash has).some; gnu_hash = λ has. (good.gnu_hash has).some; others = λ has. (good.others has).some; slots = λ has. (good.slots has).some } in
     let before : r.settings.hashes.sysv ≡ true → r.settings.hashes.gnu ≡ true → e.hash.addr < e.gnu_hash.addr =
     λ sysv gnu. omega (arith, (good.hash sysv).address, (good.gnu_hash gnu).address, (good.hash sysv).some, order.hashes sysv gnu) in
     let v : AreValues r e tags = values_are r e have in
@@ -821,7 +825,7 @@ tables_taken r bytes plain made_so =
     let twelve : bad_tables h ss sections tags ≡ false =
     rw (
       tags_there r e tags v,
-      symbols_right r t e plain all.1 shape have (symbols_even p ss (end_of t) e.symbols good.symbols),
+      symbols_right r t e plain there shape have (symbols_even p ss (end_of t) e.symbols good.symbols),
       none_lost r t e plain shape have before,
       none_outside r ss (end_of t) e sections tags good v told,
       main_apart r t e plain shape good order told,
@@ -829,9 +833,18 @@ tables_taken r bytes plain made_so =
     refl in
     let thirteen : bad_relocation_tables tags ≡ false =
     rw (
-      rela_good tags (list_any is_other r.relocations) e.others.addr e.others.size v.rela v.relasz v.relaent (λ there. others_even p ss (end_of t) e.others (good.others there)),
-      jmprel_good tags (list_any is_jump_slot r.relocations) e.slots.addr e.slots.size v.jmprel v.pltrelsz v.pltrel (λ there. slots_even p ss (end_of t) e.slots (good.slots there)),
+      rela_good tags (list_any is_other r.relocations) e.others.addr e.others.size v.rela v.relasz v.relaent (λ has. others_even p ss (end_of t) e.others (good.others has)),
+      jmprel_good tags (list_any is_jump_slot r.relocations) e.slots.addr e.slots.size v.jmprel v.pltrelsz v.pltrel (λ has. slots_even p ss (end_of t) e.slots (good.slots has)),
     )
     refl in
     let fourteen : bad_packed bytes h ss sections tags ≡ false = rw (no_relr_tags tags v.relr v.relrsz v.relrent, relr_apart h ss sections tags told.packed, relr_good bytes ss tags told.packed) refl in
-    (t, all.1, record { extents = e; places = shape ∙ dynamic_last r e; tells = told; taken = all_taken bytes h ss sections tags twelve thirteen fourteen })
+    record { good = good; values = v; told = told; taken = all_taken bytes h ss sections tags twelve thirteen fourteen }
+
+pub tables_taken : TablesAreTaken
+tables_taken r bytes plain made_so =
+    let all = placed r bytes plain made_so in
+    let t : Tables = all.0 in
+    let here : IsPlaced r bytes t = all.2 in
+    let e : Extents = here.shape.extents in
+    let taken : AreTaken r bytes t e = are_taken r bytes t plain all.1 here in
+    (t, all.1, record { extents = e; places = here.shape.is ∙ dynamic_last r e; tells = taken.told; taken = taken.taken })

@@ -301,7 +301,7 @@ relas_fit r p (x ∷ rs) few all = (rela_fits r p x few all.0, relas_fit r p rs 
 
 -- ---- both tables are read
 
-plan_relocations : (r : Recipe) → (plan_of r).relocations ≡ r.relocations
+pub plan_relocations : (r : Recipe) → (plan_of r).relocations ≡ r.relocations
 unfolding plan_of
 plan_relocations r = refl
 
@@ -426,7 +426,7 @@ unfolding loads_byte second_load
 second_misses s tables_end offset le =
     rw (at_most (data_address s) (data_address s + offset) (omega arith), not_above (data_address s + s.data_size) (data_address s + offset) (omega (arith, le))) refl
 
-dynamic_misses : (dynamic : Place) (address : ℕ) → loads_byte address (dynamic_segment dynamic) ≡ false
+pub dynamic_misses : (dynamic : Place) (address : ℕ) → loads_byte address (dynamic_segment dynamic) ≡ false
 unfolding loads_byte dynamic_segment readable
 dynamic_misses dynamic address = refl
 
@@ -671,7 +671,7 @@ planned_as : (p : Plan) → planned_relocs p ≡ read_as p (in_order p.relocatio
 unfolding planned_relocs
 planned_as p = read_append p (filter is_other p.relocations) (filter is_jump_slot p.relocations)
 
-kind_is : (p : Plan) (t : Tables) → (planned_header p t).kind ≡ type_of p.settings
+pub kind_is : (p : Plan) (t : Tables) → (planned_header p t).kind ≡ type_of p.settings
 unfolding planned_header header_of
 kind_is p t = refl
 

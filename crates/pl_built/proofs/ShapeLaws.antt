@@ -1,15 +1,16 @@
 -- The tables of a plain recipe's file by what they hold: where they are, and that they stand one after the other.
-use Rattle.std.proofs.Common.{◌≡◌, ℕ, ◌+◌, ◌%◌, ◌<◌, ◌≤◌, Bool, true, false, List, [], ◌∷◌, ◌++◌, length, map, Ok, refl, sym, ap, subst, ◌∙◌, arith, inl, inr}
+use Rattle.std.proofs.Common.{◌≡◌, ℕ, ◌+◌, ◌%◌, ◌<◌, ◌≤◌, Bool, true, false, List, [], ◌∷◌, ◌++◌, length, map, Ok, refl, sym, ap, subst, ◌∙◌, append_assoc, arith, inl, inr}
 use Rattle.std.specs.Prelude.{filter}
 use Rattle.std.specs.List.{AllByRecursion, flat_map, list_any}
 use Rattle.std.proofs.lemmas.Bool.{cases_Bool, false≢true}
+use Rattle.std.proofs.lemmas.List.{append-nil}
 use Rattle.pl_base.specs.Bytes.{part}
 use Rattle.pl_base.specs.Windows.{Window}
 use Rattle.pl_base.proofs.AnswerLaws.{ok_same}
 use Rattle.pl_base.proofs.SumLaws.{plus_small}
 use Rattle.pl_base.proofs.WindowLaws.{length-part}
 use Rattle.pl_elf.specs.declared.segment.Segment.{Segment}
-use Rattle.pl_object.specs.FilePart.{file_window}
+use Rattle.pl_object.specs.FilePart.{file_window, loaded}
 use Rattle.pl_build.specs.declared.layout.Tables.{Tables}
 use Rattle.pl_build.specs.declared.plan.Plan.{Plan}
 use Rattle.pl_build.specs.declared.recipe.Recipe.{Recipe}
@@ -166,6 +167,21 @@ all_good p bytes ss tables_end from before (place ∷ places) fits tables standi
       long = sym (length-part place.offset place.size bytes s.within) ∙ ap (λ (l : List ℕ). length l) s.holds;
     }, all_good p bytes ss tables_end (place.offset + place.size) (before ++ place ∷ []) places fits tables.1 standing.1 loaded.1)
 
+-- its bytes are loaded
+pub record IsHeld (p : Plan) (bytes : List ℕ) (ss : List Segment) (place : Place) : Type 0 where
+  pub before : List Place
+  pub holds : loaded bytes ss (memory_of place) ≡ contents p before place.role
+
+all_held : (p : Plan) (bytes : List ℕ) (ss : List Segment) (before places : List Place) → AreLoaded p bytes ss before places → AllByRecursion (IsHeld p bytes ss) places
+all_held p bytes ss before [] h = tt
+all_held p bytes ss before (place ∷ places) h = (record { before = before; holds = h.0.holds }, all_held p bytes ss (before ++ place ∷ []) places h.1)
+
+-- those of the last one, by the places before it
+last_held : (p : Plan) (bytes : List ℕ) (ss : List Segment) (before places : List Place) (last : Place) → AreLoaded p bytes ss before (places ++ last ∷ []) → loaded bytes ss (memory_of last) ≡ contents p (before ++ places) last.role
+last_held p bytes ss before [] last h = h.0.holds ∙ ap (λ (b : List Place). contents p b last.role) (sym (append-nil before))
+last_held p bytes ss before (place ∷ places) last h =
+    last_held p bytes ss (before ++ place ∷ []) places last h.1 ∙ ap (λ (b : List Place). contents p b last.role) (append_assoc before (place ∷ []) places)
+
 -- each stands before the later ones
 abbrev pub Later : List Place → Type 0
 Later [] = Unit {0}
@@ -219,6 +235,8 @@ pub record IsPlaced (r : Recipe) (bytes : List ℕ) (t : Tables) : Type 0 where
   pub fits : end_of t ≤ 1048576
   pub good : AllByRecursion (λ c. c.0 ≡ true → IsGood (plan_of r) (planned_segments (plan_of r) t) (end_of t) c.1) (rows_of r shape.extents)
   pub later : LaterRows (rows_of r shape.extents)
+  pub held : AllByRecursion (λ c. c.0 ≡ true → IsHeld (plan_of r) bytes (planned_segments (plan_of r) t) c.1) (rows_of r shape.extents)
+  pub dynamic : loaded bytes (planned_segments (plan_of r) t) (memory_of (place_in Dynamic shape.extents.dynamic)) ≡ contents (plan_of r) (before_dynamic r shape.extents) Dynamic
 
 pub placed : (r : Recipe) (bytes : List ℕ) → IsPlain r → made (plan_of r) ≡ Ok bytes → (t : Tables) × (tables (plan_of r) ≡ Ok t) × IsPlaced r bytes t
 placed r bytes plain e =
@@ -228,14 +246,18 @@ placed r bytes plain e =
     let ss : List Segment = planned_segments p t in
     let l = tables_loaded r bytes plain e in
     let same : l.0 ≡ t = ok_same l.0 t (sym l.1 ∙ held.1) in
-    let loaded : AreLoaded p bytes ss [] t.places = subst (λ (u : Tables). AreLoaded p bytes (planned_segments p u) [] u.places) same l.2 in
+    let there : AreLoaded p bytes ss [] t.places = subst (λ (u : Tables). AreLoaded p bytes (planned_segments p u) [] u.places) same l.2 in
     let rows = laid_tables p t held.1 in
     let shape : IsShaped r t.places = shaped r t plain held.1 in
-    let good : AllByRecursion (IsGood p ss (end_of t)) t.places = all_good p bytes ss (end_of t) 1024 [] t.places rows.0 rows.1 held.2 loaded in
+    let good : AllByRecursion (IsGood p ss (end_of t)) t.places = all_good p bytes ss (end_of t) 1024 [] t.places rows.0 rows.1 held.2 there in
     let later : Later t.places = all_later p bytes 1024 [] t.places held.2 in
     (t, held.1, record {
       shape = shape;
       fits = rows.0;
       good = rows_all (IsGood p ss (end_of t)) (rows_of r shape.extents) (subst (AllByRecursion (IsGood p ss (end_of t))) shape.is good);
       later = rows_later (rows_of r shape.extents) (subst Later shape.is later);
+      held = rows_all (IsHeld p bytes ss) (rows_of r shape.extents) (subst (AllByRecursion (IsHeld p bytes ss)) shape.is (all_held p bytes ss [] t.places there));
+      dynamic =
+        last_held p bytes ss [] (before_dynamic r shape.extents) (place_in Dynamic shape.extents.dynamic)
+        (subst (AreLoaded p bytes ss []) (shape.is ∙ dynamic_last r shape.extents) there);
     })

@@ -87,7 +87,7 @@ needed_value n p (name ∷ names) ts other = rw other (needed_value n p names ts
 behind : (front : List Tag) (xs ys : List (Bool × Tag)) → (front ++ chosen xs) ++ chosen ys ≡ front ++ chosen (xs ++ ys)
 behind front xs ys = append_assoc front (chosen xs) (chosen ys) ∙ ap (λ (l : List Tag). front ++ l) (chosen_append xs ys)
 
-tags_are : (p : Plan) (places : List Place) → planned_tags p places ≡ needed_tags p ++ chosen (planned_rows p places)
+pub tags_are : (p : Plan) (places : List Place) → planned_tags p places ≡ needed_tags p ++ chosen (planned_rows p places)
 unfolding planned_tags table_tags relocation_tags packed_tags version_tags usual_tags
 tags_are p places =
     let front : List Tag = needed_tags p in

@@ -14,4 +14,5 @@ pub mod Gnu
 pub mod Modest
 pub mod Relocs
 pub mod Shape
+pub mod Accepted
 pub mod Laws

@@ -87,6 +87,8 @@ abbrev pub IsValidName : List ℕ → Type 0
 IsValidName name = is_valid_name name ≡ true
 
 pub record IsModest (r : Recipe) : Type 0 where
+  -- there is a hash table
+  pub hashed : (r.settings.hashes.sysv || r.settings.hashes.gnu) ≡ true
   pub needs : AllByRecursion IsValidName r.needs
   pub symbols : AllByRecursion (IsModestSymbol r.settings) r.symbols
   pub names : any_pair is_namesake r.symbols ≡ false
