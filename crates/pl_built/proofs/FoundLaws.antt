@@ -276,7 +276,7 @@ undefined_flips x = elim (cases_Bool x.defined) [
   | inr undefined ↦ rw undefined refl
 ]
 
-ordered_permutes : (s : Settings) (symbols : List Symbol) → 0 < s.buckets → IsPermutation symbols (ordered s symbols)
+pub ordered_permutes : (s : Settings) (symbols : List Symbol) → 0 < s.buckets → IsPermutation symbols (ordered s symbols)
 unfolding ordered in_buckets
 ordered_permutes s symbols some =
     let others : List Symbol = filter is_undefined symbols in

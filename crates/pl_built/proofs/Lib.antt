@@ -23,3 +23,4 @@ pub mod PlacedLaws
 pub mod LinkingLaws
 pub mod FoundLaws
 pub mod AcceptedLaws
+pub mod MadeLaws

@@ -99,7 +99,7 @@ rela_long r = refl
 pub entries_long : (es : List SymbolEntry) → length (flat_map entry_bytes es) ≡ 24 * length es
 entries_long es = rows_long 24 entry_bytes entry_long es
 
-relas_long : (rs : List Rela) → length (flat_map rela_bytes rs) ≡ 24 * length rs
+pub relas_long : (rs : List Rela) → length (flat_map rela_bytes rs) ≡ 24 * length rs
 relas_long rs = rows_long 24 rela_bytes rela_long rs
 
 even_symbols : (p : Plan) → length (symbol_table p) % 24 ≡ 0

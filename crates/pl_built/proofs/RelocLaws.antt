@@ -213,7 +213,7 @@ all_parts : (P : Symbol → Type 0) (f : ℕ → List Symbol) (bs : List ℕ) �
 all_parts P f [] each = tt
 all_parts P f (b ∷ bs) each = all_both P (f b) (flat_map f bs) (each b) (all_parts P f bs each)
 
-all_ordered : (P : Symbol → Type 0) (s : Settings) (symbols : List Symbol) → AllByRecursion P symbols → AllByRecursion P (ordered s symbols)
+pub all_ordered : (P : Symbol → Type 0) (s : Settings) (symbols : List Symbol) → AllByRecursion P symbols → AllByRecursion P (ordered s symbols)
 unfolding ordered
 all_ordered P s symbols all =
     all_both P (filter is_undefined symbols) (flat_map (λ b. filter (is_in s b) symbols) (range_with_len 0 s.buckets)) (all_kept P is_undefined symbols all)
@@ -305,7 +305,7 @@ pub plan_relocations : (r : Recipe) → (plan_of r).relocations ≡ r.relocation
 unfolding plan_of
 plan_relocations r = refl
 
-plan_symbols : (r : Recipe) → (plan_of r).symbols ≡ ordered r.settings r.symbols
+pub plan_symbols : (r : Recipe) → (plan_of r).symbols ≡ ordered r.settings r.symbols
 unfolding plan_of
 plan_symbols r = refl
 

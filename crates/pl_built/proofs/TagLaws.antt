@@ -232,7 +232,7 @@ no_twice ts once = none_found (λ t. not (t.number == 1) && nat_lt 1 (count_by (
 joined : (xs ys : List Tag) → flat_map tag_bytes xs ++ flat_map tag_bytes ys ≡ flat_map tag_bytes (xs ++ ys)
 joined xs ys = sym (flat_map-append tag_bytes xs ys)
 
-table_is : (p : Plan) (places : List Place) → dynamic_table p places ≡ flat_map tag_bytes (planned_tags p places ++ end_tag ∷ spare_tags p)
+pub table_is : (p : Plan) (places : List Place) → dynamic_table p places ≡ flat_map tag_bytes (planned_tags p places ++ end_tag ∷ spare_tags p)
 unfolding dynamic_table planned_tags
 table_is p places =
     let bytes : List Tag → List ℕ = λ ts. flat_map tag_bytes ts in

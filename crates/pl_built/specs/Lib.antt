@@ -15,4 +15,5 @@ pub mod Modest
 pub mod Relocs
 pub mod Shape
 pub mod Accepted
+pub mod Made
 pub mod Laws
