@@ -431,13 +431,13 @@ chain_step t first hashes buckets steps j rest is lt e = rw (is.linked j lt, e) 
 
 follows_none : (t : Table) (first : ℕ) (hashes buckets : List ℕ) (j : ℕ) → IsGnu t first hashes buckets → j < length hashes → goes_on buckets j ≡ false → following t (first + j) ≡ None
 unfolding following
-follows_none t first hashes buckets j is lt last = rw (is.bloomed, is.links j lt, chain_last hashes buckets j last) refl
+follows_none t first hashes buckets j is lt last = rw (is.links j lt, is.bloomed, chain_last hashes buckets j last) refl
 
 follows_some : (t : Table) (first : ℕ) (hashes buckets : List ℕ) (j : ℕ) → IsGnu t first hashes buckets → j < length hashes → goes_on buckets j ≡ true → following t (first + j) ≡ Some (first + (j + 1))
 unfolding following
 follows_some t first hashes buckets j is lt more =
     let next : first + j + 1 ≡ first + (j + 1) = omega arith in
-    rw (is.bloomed, is.links j lt, chain_more hashes buckets j more) (ap (λ (n : ℕ). Some n) next)
+    rw (is.links j lt, is.bloomed, chain_more hashes buckets j more) (ap (λ (n : ℕ). Some n) next)
 
 -- each chain ends, since its symbols stand one behind the other
 chain_there : (t : Table) (first : ℕ) (hashes buckets : List ℕ) (steps j : ℕ) → IsGnu t first hashes buckets → length buckets ≡ length hashes → j < length hashes → length hashes ≤ j + steps

@@ -143,12 +143,12 @@ own_hashes count symbols o =
 
 own_not_counted : (x : Symbol) (xs : List Symbol) → x.defined ≡ true → count_by is_undefined (x ∷ xs) ≡ count_by is_undefined xs
 own_not_counted x xs h =
-    let none : cond (is_undefined x) 1 0 ≡ 0 = rw h refl in
+    let none : ◌≡◌ {A = ℕ} (cond (is_undefined x) 1 0) 0 = rw h refl in
     omega (arith, sum_by-cons (λ y. cond (is_undefined y) 1 0) x xs, none)
 
 other_counted : (x : Symbol) (xs : List Symbol) → x.defined ≡ false → count_by is_undefined (x ∷ xs) ≡ count_by is_undefined xs + 1
 other_counted x xs h =
-    let one : cond (is_undefined x) 1 0 ≡ 1 = rw h refl in
+    let one : ◌≡◌ {A = ℕ} (cond (is_undefined x) 1 0) 1 = rw h refl in
     omega (arith, sum_by-cons (λ y. cond (is_undefined y) 1 0) x xs, one)
 
 none_counted : (symbols : List Symbol) → AllByRecursion (λ x. x.defined ≡ true) symbols → count_by is_undefined symbols ≡ 0
