@@ -49,7 +49,7 @@ seen bytes h within there =
 pub known_kind : (bytes : List ℕ) (h : Header) → has_dynamic bytes h ≡ true → (h.kind ≡ 2) ⊎ (h.kind ≡ 3) → other_kind bytes h ≡ false
 unfolding other_kind
 known_kind bytes h there (inl program) = rw program refl
-known_kind bytes h there (inr library) = rw (library, there) refl
+known_kind bytes h there (inr library) = rw (there, library) refl
 
 -- ---- 5: all parts lie in the file
 

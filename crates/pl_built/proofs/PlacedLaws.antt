@@ -82,9 +82,6 @@ third_false true true c d h = rw h refl
 third_false true false c d h = refl
 third_false false b c d h = refl
 
-false_last : (a : Bool) → (a && false) ≡ false
-false_last true = refl
-false_last false = refl
 
 -- ---- how long rows are
 
@@ -425,16 +422,22 @@ hash_section r t e plain shape there some =
     let p : Plan = plan_of r in
     section_found r t e (begins_at e.hash.addr) (place_in Hash e.hash) plain shape (null_begins p e.hash.addr) (rw (hash_begins p e.hash some, there) refl)
 
+-- the second of two rows, where it is there and the first is not found
+second_row : (q : Place → Bool) (a b : Bool) (x y : Place) (cs : List (Bool × Place)) → (q x && a) ≡ false → q y ≡ true → b ≡ true → first_row q ((a, x) ∷ (b, y) ∷ cs) ≡ Some y
+second_row q a b x y cs first hit there = rw (first, hit, there) refl
+
 gnu_section : (r : Recipe) (t : Tables) (e : Extents) → IsPlain r → t.places ≡ chosen (rows_of r e) → r.settings.hashes.gnu ≡ true → 0 < e.gnu_hash.size → (r.settings.hashes.sysv ≡ true → e.hash.addr < e.gnu_hash.addr)
     → find (begins_at e.gnu_hash.addr) (planned_sections (plan_of r) t) ≡ Some (section_in (plan_of r) (place_in GnuHash e.gnu_hash))
 gnu_section r t e plain shape there some before =
     let p : Plan = plan_of r in
     let test : Place → Bool = λ y. begins_at e.gnu_hash.addr (section_in p y) in
+    let rest : List (Bool × Place) = (true, place_in Dynsym e.symbols) ∷ (true, place_in Dynstr e.strings) ∷ (list_any is_other r.relocations, place_in RelaDyn e.others) ∷ (list_any is_jump_slot r.relocations, place_in RelaPlt e.slots) ∷ (true, place_in Dynamic e.dynamic) ∷ [] in
     let first : (test (place_in Hash e.hash) && r.settings.hashes.sysv) ≡ false = elim (cases_Bool r.settings.hashes.sysv) [
       | inl sysv ↦ rw (hash_elsewhere p e.hash e.gnu_hash.addr (before sysv)) refl
-      | inr none ↦ rw none (false_last (test (place_in Hash e.hash)))
+      | inr none ↦ second_false (test (place_in Hash e.hash)) r.settings.hashes.sysv none
     ] in
-    section_found r t e (begins_at e.gnu_hash.addr) (place_in GnuHash e.gnu_hash) plain shape (null_begins p e.gnu_hash.addr) (rw (first, gnu_begins p e.gnu_hash some, there) refl)
+    section_found r t e (begins_at e.gnu_hash.addr) (place_in GnuHash e.gnu_hash) plain shape (null_begins p e.gnu_hash.addr)
+    (second_row test r.settings.hashes.sysv r.settings.hashes.gnu (place_in Hash e.hash) (place_in GnuHash e.gnu_hash) rest first (gnu_begins p e.gnu_hash some) there)
 
 hash_size : (p : Plan) (e : Extent) → (section_in p (place_in Hash e)).size ≡ e.size
 unfolding section_of row_of
@@ -452,7 +455,7 @@ window_at at size = record { at = at; size = size }
 memory_tagged : (address size : ℕ) (tags : List Tag) (b : Bool) (e : Extent) → value_of address tags ≡ some_if b e.addr → value_of size tags ≡ some_if b e.size → tag_memory address size tags ≡ memory_if b e
 unfolding tag_memory
 memory_tagged address size tags true e x y = rw (x, y) refl
-memory_tagged address size tags false e x y = rw (x, y) refl
+memory_tagged address size tags false e x y = rw x refl
 
 no_memory : (address size : ℕ) (tags : List Tag) → value_of address tags ≡ None → tag_memory address size tags ≡ nothing
 unfolding tag_memory
