@@ -226,7 +226,7 @@ no_rows r q none =
     ∙ ap (λ (rs : List Relocation). flat_map rela_bytes (map (rela_of (plan_of r)) rs)) (filter_nothing q r.relocations none)
 
 none_packed : (bytes : List ℕ) (ss : List Segment) (tags : List Tag) → relr_memory tags ≡ nothing → packed_places bytes ss tags ≡ []
-unfolding packed_places relr_table
+unfolding packed_places
 none_packed bytes ss tags e =
     ap (λ (l : List ℕ). named_places (packed.unpacked l (length bytes / 8))) (ap (loaded bytes ss) e ∙ nothing_loaded bytes ss)
     ∙ ap named_places (nothing_unpacked (length bytes / 8))

@@ -191,7 +191,7 @@ bucket_small s x some = elim (cases_Bool s.hashes.gnu) [
 
 own_part : (s : Settings) (x : Symbol) → x.defined ≡ true → is_in s (bucket s x) x ≡ true
 unfolding is_in
-own_part s x defined = rw (defined, equal (bucket s x) (bucket s x) refl) refl
+own_part s x defined = both_true x.defined (bucket s x == bucket s x) defined (equal (bucket s x) (bucket s x) refl)
 
 -- the order of the symbols loses none
 any_ordered : (q : Symbol → Bool) (s : Settings) (symbols : List Symbol) → 0 < s.buckets → list_any q symbols ≡ true → list_any q (ordered s symbols) ≡ true

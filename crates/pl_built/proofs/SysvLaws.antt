@@ -41,7 +41,7 @@ of_words f (x ∷ xs) = ap (λ (l : List ℕ). field_bytes (Word (f x)) ++ l) (o
 
 -- the counts and the buckets; the null symbol's link; the links of the others
 abbrev counts : ℕ → List ℕ → List ℕ
-counts count buckets = count ∷ length buckets + 1 ∷ []
+counts count buckets = count ∷ (length buckets + 1) ∷ []
 
 abbrev firsts : ℕ → List ℕ → List ℕ
 firsts count buckets = map (first_from buckets 0) (range_with_len 0 count)
@@ -108,6 +108,9 @@ is_of b k = k == b
 
 at_most : (a b : ℕ) → a ≤ b → nat_le a b ≡ true
 at_most a b le = grind (arith, nat_tests)
+
+equal : (a b : ℕ) → a ≡ b → (a == b) ≡ true
+equal a b e = grind (arith, nat_tests)
 
 below_true : (a b : ℕ) → a < b → nat_lt a b ≡ true
 below_true a b lt = grind (arith, nat_tests)
@@ -190,11 +193,11 @@ chain_step t buckets steps j rest is lt e = rw (is.linked j lt, e) refl
 
 follows_none : (t : Table) (buckets : List ℕ) (j : ℕ) → IsSysv t buckets → j < length buckets → next_after buckets j ≡ 0 → following t (j + 1) ≡ None
 unfolding following
-follows_none t buckets j is lt none = rw (is.plain, is.links j lt, none) refl
+follows_none t buckets j is lt none = rw (is.links j lt, is.plain, none) refl
 
 follows_some : (t : Table) (buckets : List ℕ) (j next : ℕ) → IsSysv t buckets → j < length buckets → next_after buckets j ≡ next + 1 → following t (j + 1) ≡ Some (next + 1)
 unfolding following
-follows_some t buckets j next is lt some = rw (is.plain, is.links j lt, some, not_zero next) refl
+follows_some t buckets j next is lt some = rw (is.links j lt, is.plain, some, not_zero next) refl
   where
     not_zero : (n : ℕ) → (n + 1 == 0) ≡ false
     not_zero n = grind (arith, nat_tests)
@@ -234,8 +237,6 @@ chain_holds t buckets (suc steps) j m is le lt same enough = elim (cases_lt j m)
   where
     first_is : (a b : ℕ) (l : List ℕ) → a ≡ b → list_any (λ k. k == b + 1) ((a + 1) ∷ l) ≡ true
     first_is a b l e = rw (equal (a + 1) (b + 1) (omega (arith, e))) refl
-    equal : (a b : ℕ) → a ≡ b → (a == b) ≡ true
-    equal a b e = grind (arith, nat_tests)
     both_same : (a b c : ℕ) → (a == c) ≡ true → (b == c) ≡ true → (a == b) ≡ true
     both_same a b c one two = grind (arith, nat_tests)
     behind : (a b : Bool) → b ≡ true → (a || b) ≡ true
@@ -337,9 +338,6 @@ is_sysv count buckets few = record {
 
 not_zero : (n : ℕ) → (n + 1 == 0) ≡ false
 not_zero n = grind (arith, nat_tests)
-
-equal : (a b : ℕ) → a ≡ b → (a == b) ≡ true
-equal a b e = grind (arith, nat_tests)
 
 head_none : (count : ℕ) (buckets : List ℕ) (k : ℕ) → AreFew count buckets → k < count → first_from buckets 0 k ≡ 0 → head (table_of count buckets) k ≡ None
 unfolding head

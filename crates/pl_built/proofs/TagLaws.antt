@@ -32,12 +32,12 @@ count_append p xs ys = sum_by-append (λ x. cond (p x) 1 0) xs ys
 
 count_no : {X : Type 0} (p : X → Bool) (x : X) (xs : List X) → p x ≡ false → count_by p (x ∷ xs) ≡ count_by p xs
 count_no p x xs h =
-    let one : cond (p x) 1 0 ≡ 0 = rw h refl in
+    let one : ◌≡◌ {A = ℕ} (cond (p x) 1 0) 0 = rw h refl in
     omega (arith, sum_by-cons (λ y. cond (p y) 1 0) x xs, one)
 
 count_yes : {X : Type 0} (p : X → Bool) (x : X) (xs : List X) → p x ≡ true → count_by p (x ∷ xs) ≡ count_by p xs + 1
 count_yes p x xs h =
-    let one : cond (p x) 1 0 ≡ 1 = rw h refl in
+    let one : ◌≡◌ {A = ℕ} (cond (p x) 1 0) 1 = rw h refl in
     omega (arith, sum_by-cons (λ y. cond (p y) 1 0) x xs, one)
 
 abbrev pub is_number : ℕ → ℕ → Bool
@@ -217,15 +217,15 @@ no_twice : (ts : List Tag) → ((n : ℕ) → (1 == n) ≡ false → count_by (h
 unfolding first_twice stands_twice
 no_twice ts once = none_found (λ t. not (t.number == 1) && nat_lt 1 (count_by (has_number t.number) ts)) ts (λ t. one t.number)
   where
+    flipped : (n : ℕ) → (n == 1) ≡ false → (1 == n) ≡ false
+    flipped n h = grind (arith, nat_tests)
+    not_above : (c : ℕ) → c ≤ 1 → nat_lt 1 c ≡ false
+    not_above c le = grind (arith, nat_tests)
     one : (n : ℕ) → (not (n == 1) && nat_lt 1 (count_by (has_number n) ts)) ≡ false
     one n = elim (cases_Bool (n == 1)) [
       | inl needed ↦ rw needed refl
       | inr other ↦ rw (other, not_above (count_by (has_number n) ts) (once n (flipped n other))) refl
     ]
-    flipped : (n : ℕ) → (n == 1) ≡ false → (1 == n) ≡ false
-    flipped n h = grind (arith, nat_tests)
-    not_above : (c : ℕ) → c ≤ 1 → nat_lt 1 c ≡ false
-    not_above c le = grind (arith, nat_tests)
 
 -- ---- the entries
 
