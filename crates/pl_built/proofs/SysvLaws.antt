@@ -15,7 +15,7 @@ use Rattle.pl_base.proofs.WordLaws.{word32_within}
 use Rattle.pl_hash.specs.Candidates.{matching, candidates, is_candidate}
 use Rattle.pl_hash.specs.Chain.{head, following, is_linked, with_first, chain_from, chain, has_buckets, is_counted, has_links, chains_end, well_formed}
 use Rattle.pl_hash.specs.Hash.{sysv}
-use Rattle.pl_hash.specs.Table.{has_header, buckets_at, first_linked, link_at, bucket, link, admits, matches}
+use Rattle.pl_hash.specs.Table.{has_header, buckets_at, chains_at, first_linked, link_at, bucket, link, admits, matches}
 use Rattle.pl_hash.specs.declared.table.Table.{Table}
 use Rattle.pl_build.specs.declared.fields.Field.{Field}
 use Rattle.pl_build.specs.declared.fields.Field.TheVariants.{Word}
@@ -314,7 +314,7 @@ symbols_is : (count : ℕ) (buckets : List ℕ) → AreFew count buckets → wor
 symbols_is count buckets few = ap (λ (at : ℕ). word32 at (table_of count buckets).words) (let e : 4 ≡ 4 * 1 = omega arith in e) ∙ table_word count buckets 1 few (omega arith)
 
 link_place : (count : ℕ) (buckets : List ℕ) (i : ℕ) → AreFew count buckets → link_at (table_of count buckets) i ≡ 4 * (count + 2 + i)
-unfolding link_at buckets_at first_linked
+unfolding link_at chains_at buckets_at first_linked
 link_place count buckets i few = rw (count_is count buckets few) (omega arith)
 
 bucket_is : (count : ℕ) (buckets : List ℕ) (k : ℕ) → AreFew count buckets → k < count → bucket (table_of count buckets) k ≡ first_from buckets 0 k
@@ -363,7 +363,7 @@ all_in_range p k zero each = refl
 all_in_range p k (suc n) each = rw (each k (omega arith)) (all_in_range p (k + 1) n (λ i lt. each i (omega (arith, lt))))
 
 table_formed : (count : ℕ) (buckets : List ℕ) → AreFew count buckets → well_formed (table_of count buckets) ≡ true
-unfolding well_formed has_header has_buckets is_counted has_links chains_end buckets_at
+unfolding well_formed has_header has_buckets is_counted has_links chains_end chains_at buckets_at
 table_formed count buckets few =
     let t : Table = table_of count buckets in
     let long = table_long count buckets in
