@@ -69,7 +69,7 @@ half_page = refl
 -- an addend without a sign
 hex_addend : (n : ℕ) → n < 2 ^ 64 → addend (hexadecimal n) ≡ Some (record { negative = false; magnitude = n })
 unfolding addend magnitude
-hex_addend n small = rw (no_sign (hexadecimal n) (hex_all n), numbers_read n small) refl
+hex_addend n small = rw (no_sign (hexadecimal n) (hex_all n), numbers_read n small, no_sign (hexadecimal n) (hex_all n)) refl
 
 no_addend : addend (codes "0") ≡ Some (record { negative = false; magnitude = 0 })
 unfolding addend magnitude is_negative number is_number is_digit digit digit_more value
