@@ -1,11 +1,10 @@
 -- The file of a plain and modest recipe is accepted, with the object that the recipe describes.
-use Rattle.std.proofs.Common.{◌≡◌, ℕ, ◌+◌, ◌*◌, ◌/◌, ◌%◌, ◌^◌, ◌<◌, ◌≤◌, Bool, true, false, List, [], ◌∷◌, ◌++◌, length, map, Option, Some, None, Result, Ok, refl, sym, ap, subst, ◌∙◌, length-append, arith, inl, inr}
-use Rattle.std.specs.Prelude.{◌⊎◌, not, ◌==◌, ◌&&◌, nat_le, nat_lt, filter, find, codes, is_some, unwrap_or, if◌then◌else◌}
+use Rattle.std.proofs.Common.{◌≡◌, ℕ, ◌+◌, ◌*◌, ◌/◌, ◌^◌, ◌<◌, ◌≤◌, Bool, true, false, List, [], ◌∷◌, ◌++◌, length, map, Some, None, Ok, refl, sym, ap, subst, ◌∙◌, arith, inl, inr}
+use Rattle.std.specs.Prelude.{not, ◌==◌, ◌&&◌, nat_le, filter, codes}
 use Rattle.std.specs.List.{AllByRecursion, flat_map, list_any}
 use Rattle.std.proofs.lemmas.Bool.{cases_Bool, false≢true, or_parts}
 use Rattle.std.proofs.lemmas.Bool.Decides.{nat_tests}
 use Rattle.std.proofs.lemmas.List.{append-nil, length-map}
-use Rattle.pl_base.specs.Answers.{◌>>=◌, because}
 use Rattle.pl_base.specs.Windows.{Window, AllIn}
 use Rattle.pl_base.proofs.AnswerLaws.{ok_same}
 use Rattle.pl_elf.specs.Clauses as elf
@@ -13,27 +12,19 @@ use Rattle.pl_elf.specs.Headers.{sections, is_dynamic, segment_of_kind}
 use Rattle.pl_elf.specs.declared.header.Header.{Header}
 use Rattle.pl_elf.specs.declared.section.Section.{Section}
 use Rattle.pl_elf.specs.declared.segment.Segment.{Segment}
-use Rattle.pl_dyn.specs.Read as dyn
 use Rattle.pl_dyn.specs.Read.{value_of}
-use Rattle.pl_dyn.specs.declared.dynamic.Dynamic.{Dynamic}
 use Rattle.pl_dyn.specs.declared.tags.Tag.{Tag}
 use Rattle.pl_hash.specs.declared.table.Table.{Table}
 use Rattle.pl_relr.specs.Places as packed
-use Rattle.pl_relr.specs.Entries.{entries}
 use Rattle.pl_sym.specs.declared.symbol.Symbol as read
-use Rattle.pl_object.specs.FilePart.{nothing, loads_byte, loader, loaded_by, file_window, in_file_part, loaded}
-use Rattle.pl_object.specs.PlaceClauses.{check_relocs, misplaced_copy}
-use Rattle.pl_object.specs.Reads.{dynamic, check_rest, named_places, packed_places, relocations, layout, object, linking, check, checked, dynamic_object, parts, headers, reads}
-use Rattle.pl_object.specs.Refusals.{of_dynamic, of_header}
+use Rattle.pl_object.specs.FilePart.{nothing, loads_byte, loaded_by, file_window, in_file_part, loaded}
+use Rattle.pl_object.specs.PlaceClauses.{misplaced_copy}
+use Rattle.pl_object.specs.Reads.{dynamic, check_rest, named_places, packed_places, relocations, layout, linking, check, checked, dynamic_object, parts, headers, reads}
 use Rattle.pl_object.specs.Relocations.{relocs, packed_relocs}
 use Rattle.pl_object.specs.SymbolClauses.{base_not_zero, check_symbols, has_ifunc, hash_tables}
-use Rattle.pl_object.specs.TableClauses.{check_tables, relr_table}
-use Rattle.pl_object.specs.Tables.{dynamic_memory, symbols_memory, strings_memory, rela_memory, jmprel_memory, relr_memory, section_memory, tables_memory, link_windows, header_window, segments_window, sections_window, symtab_windows}
+use Rattle.pl_object.specs.Tables.{dynamic_memory, symbols_memory, strings_memory, rela_memory, jmprel_memory, relr_memory, section_memory, tables_memory, link_windows, header_window, symtab_windows}
 use Rattle.pl_object.specs.declared.headers.Headers.{Headers}
 use Rattle.pl_object.specs.declared.layout.Layout.{Layout}
-use Rattle.pl_object.specs.declared.linking.Linking.{Linking}
-use Rattle.pl_object.specs.declared.object.Object.{Object}
-use Rattle.pl_object.specs.declared.refusal.Refusal.{Refusal}
 use Rattle.pl_object.specs.declared.reloc.Reloc.{Reloc}
 use Rattle.pl_object.proofs.ReadLaws.{dynamic_object_is}
 use Rattle.pl_build.specs.declared.layout.Tables.{Tables}
@@ -41,40 +32,37 @@ use Rattle.pl_build.specs.declared.line.Relocation.{Relocation}
 use Rattle.pl_build.specs.declared.plan.Plan.{Plan}
 use Rattle.pl_build.specs.declared.recipe.Recipe.{Recipe}
 use Rattle.pl_build.specs.declared.recipe.Settings.{Settings}
-use Rattle.pl_build.specs.declared.relocations.Rela.{Rela}
 use Rattle.pl_build.specs.declared.roles.Place.{Place}
 use Rattle.pl_build.specs.declared.roles.Role.{Role}
 use Rattle.pl_build.specs.declared.roles.Role.TheVariants.{Hash, GnuHash, Dynsym, Dynstr, RelaDyn, RelaPlt, Dynamic as DynamicTable}
 use Rattle.pl_build.specs.Choices.{chosen}
 use Rattle.pl_build.specs.Dynamic.{tag, is_at, null_place, place_of, is_there, needed_tags, dynamic_table, flags_1}
-use Rattle.pl_build.specs.File.{made, type_of, sections_offset, file_end}
-use Rattle.pl_build.specs.FileKinds.{is_program}
+use Rattle.pl_build.specs.File.{type_of, file_end}
 use Rattle.pl_build.specs.HashTables.{sysv_table, gnu_table}
 use Rattle.pl_build.specs.Layout.{contents, end_of, tables}
 use Rattle.pl_build.specs.Plan.{plan_of, base_of, data_address, is_jump_slot, is_other}
 use Rattle.pl_build.specs.Segments.{readable, first_load, second_load, dynamic_segment, has_data}
 use Rattle.pl_build.specs.Relocations.{rela_bytes, rela_of, others, jump_slots}
 use Rattle.pl_build.specs.Strings.{text_at}
-use Rattle.pl_build.specs.SymbolTable.{symbol_table, entry_bytes, entry_of, null_entry}
-use Rattle.pl_built.specs.Accepted.{planned_heads, planned_dynamic, planned_linking, planned_hashes, planned_layout, planned_object, IsAccepted, PlainIsAccepted}
-use Rattle.pl_built.specs.Loaded.{memory_of}
+use Rattle.pl_build.specs.SymbolTable.{symbol_table, entry_of, null_entry}
+use Rattle.pl_built.specs.Accepted.{planned_heads, planned_dynamic, planned_linking, planned_hashes, planned_layout, planned_object, PlainIsAccepted}
 use Rattle.pl_built.specs.Modest.{IsModest}
-use Rattle.pl_built.specs.Plain.{ArePlain, IsPlain}
+use Rattle.pl_built.specs.Plain.{IsPlain}
 use Rattle.pl_built.specs.Planned.{header_of, planned_header, planned_segments, planned_sections, IsHeaded}
 use Rattle.pl_built.specs.Relocs.{planned_symbols, read_as, planned_relocs, RowsAreRead, AreTaken}
 use Rattle.pl_built.specs.Rows.{FitsTag}
-use Rattle.pl_built.specs.Shape.{Extent, Extents, place_in, rows_before, before_dynamic, memory_at, memory_if, TellsPlaces, TablesTaken}
+use Rattle.pl_built.specs.Shape.{Extent, Extents, place_in, rows_before, before_dynamic, memory_at, memory_if, TellsPlaces}
 use Rattle.pl_built.specs.Tags.{planned_tags}
-use Rattle.pl_built.proofs.ClauseLaws.{not_above, seen, shown}
-use Rattle.pl_built.proofs.FileLaws.{names_of, file_by, made_is, few}
+use Rattle.pl_built.proofs.ClauseLaws.{seen, shown}
+use Rattle.pl_built.proofs.FileLaws.{names_of, file_by, made_is}
 use Rattle.pl_built.proofs.FoundLaws.{base_in_page, hashes_complete, hashes_read, no_duplicates, small_enough, no_flags, no_flag_tag, no_interp, no_pie}
 use Rattle.pl_built.proofs.HeadLaws.{all_append, base_small, plain_settings, heads_are_read}
 use Rattle.pl_built.proofs.HeadedLaws.{planned_dynamic as dynamic_planned, heads_within, file_long, segments_shown, there_is, files_headed}
 use Rattle.pl_built.proofs.LinkingLaws.{linking_read}
-use Rattle.pl_built.proofs.PlacedLaws.{AreValues, AreGood, AreTaken as TablesAreTaken, are_taken, all_places, section_in, sections_are, no_symtabs, segments_low, no_section, named_dynamic, nothing_small, nothing_loaded, nothing_unpacked, no_words, no_defined, no_needed, no_packed, dynamic_is, good_in, entries_long}
+use Rattle.pl_built.proofs.PlacedLaws.{AreGood, AreTaken as TablesAreTaken, are_taken, all_places, sections_are, no_symtabs, segments_low, no_section, named_dynamic, nothing_small, nothing_loaded, nothing_unpacked, no_words, no_defined, no_needed, no_packed, dynamic_is, good_in, entries_long}
 use Rattle.pl_built.proofs.RelocLaws.{dynamic_misses, plan_relocations, kind_is, rows_read, relocs_taken}
 use Rattle.pl_built.proofs.RoleLaws.{all_chosen, plain_texts}
-use Rattle.pl_built.proofs.ShapeLaws.{rows_of, IsShaped, dynamic_last, IsGood, IsHeld, IsPlaced, placed}
+use Rattle.pl_built.proofs.ShapeLaws.{rows_of, dynamic_last, IsGood, IsPlaced, placed}
 use Rattle.pl_built.proofs.TagLaws.{dynamic_read}
 use Rattle.pl_built.proofs.TextLaws.{text_within}
 use Rattle.pl_built.proofs.ValueLaws.{planned_rows, tags_are}
@@ -147,9 +135,18 @@ before_small : (r : Recipe) (ss : List Segment) (tables_end : ℕ) (e : Extents)
 before_small r ss tables_end e fits good =
     let p : Plan = plan_of r in
     all_chosen IsSmall (rows_before r e) (
-    λ there. small_one p ss tables_end (place_in Hash e.hash) fits (good.hash there), (λ there. small_one p ss tables_end (place_in GnuHash e.gnu_hash) fits (good.gnu_hash there),
-    (λ _. small_one p ss tables_end (place_in Dynsym e.symbols) fits good.symbols, (λ _. small_one p ss tables_end (place_in Dynstr e.strings) fits good.strings,
-    (λ there. small_one p ss tables_end (place_in RelaDyn e.others) fits (good.others there), (λ there. small_one p ss tables_end (place_in RelaPlt e.slots) fits (good.slots there), tt))))))
+      λ there. small_one p ss tables_end (place_in Hash e.hash) fits (good.hash there),
+      (
+        λ there. small_one p ss tables_end (place_in GnuHash e.gnu_hash) fits (good.gnu_hash there),
+        (
+          λ _. small_one p ss tables_end (place_in Dynsym e.symbols) fits good.symbols,
+          (
+            λ _. small_one p ss tables_end (place_in Dynstr e.strings) fits good.strings,
+            (λ there. small_one p ss tables_end (place_in RelaDyn e.others) fits (good.others there), (λ there. small_one p ss tables_end (place_in RelaPlt e.slots) fits (good.slots there), tt)),
+          ),
+        ),
+      ),
+    )
 
 fits_tag : (n v : ℕ) → n < 2 ^ 64 → v < 2 ^ 64 → FitsTag (tag n v)
 fits_tag n v x y = record { number = x; value = y }
@@ -179,14 +176,69 @@ rows_fit r ss tables_end e plain fits good =
     let flags : flags_1 p.settings ≡ 0 = no_flags p (plain_settings r plain) in
     let none : length p.versions + 1 < 2 ^ 64 = few_versions r plain in
     all_chosen FitsTag (planned_rows p places) (
-    λ _. fits_tag 4 _ (omega arith) hash.addr, (λ _. fits_tag 0x6ffffef5 _ (omega arith) gnu_hash.addr, (λ _. fits_tag 5 _ (omega arith) strings.addr, (λ _. fits_tag 6 _ (omega arith) symbols.addr,
-    (λ _. fits_tag 10 _ (omega arith) strings.size, (λ _. fits_tag 11 24 (omega arith) (omega arith), (λ _. fits_tag 16 0 (omega arith) (omega arith),
-    (λ _. fits_tag 2 _ (omega arith) slots.size, (λ _. fits_tag 20 7 (omega arith) (omega arith), (λ _. fits_tag 23 _ (omega arith) slots.addr,
-    (λ _. fits_tag 7 _ (omega arith) rest.addr, (λ _. fits_tag 8 _ (omega arith) rest.size, (λ _. fits_tag 9 24 (omega arith) (omega arith),
-    (λ there. absurd (not_there (place_of places (codes ".relr.dyn")) (no_packed r e) there), (λ there. absurd (not_there (place_of places (codes ".relr.dyn")) (no_packed r e) there), (λ _. fits_tag 37 8 (omega arith) (omega arith),
-    (λ there. absurd (not_there (place_of places (codes ".gnu.version")) (no_words r e) there), (λ there. absurd (not_there (place_of places (codes ".gnu.version_d")) (no_defined r e) there), (λ _. fits_tag 0x6ffffffd _ (omega arith) none,
-    (λ there. absurd (not_there (place_of places (codes ".gnu.version_r")) (no_needed r e) there), (λ there. absurd (not_there (place_of places (codes ".gnu.version_r")) (no_needed r e) there),
-    (λ _. fits_tag 21 0 (omega arith) (omega arith), (λ _. fits_tag 24 0 (omega arith) (omega arith), (λ _. fits_tag 30 8 (omega arith) (omega arith), (λ _. fits_tag 0x6ffffffb (flags_1 p.settings) (omega arith) (omega (arith, flags)), tt)))))))))))))))))))))))))
+      λ _. fits_tag 4 _ (omega arith) hash.addr,
+      (
+        λ _. fits_tag 0x6ffffef5 _ (omega arith) gnu_hash.addr,
+        (
+          λ _. fits_tag 5 _ (omega arith) strings.addr,
+          (
+            λ _. fits_tag 6 _ (omega arith) symbols.addr,
+            (
+              λ _. fits_tag 10 _ (omega arith) strings.size,
+              (
+                λ _. fits_tag 11 24 (omega arith) (omega arith),
+                (
+                  λ _. fits_tag 16 0 (omega arith) (omega arith),
+                  (
+                    λ _. fits_tag 2 _ (omega arith) slots.size,
+                    (
+                      λ _. fits_tag 20 7 (omega arith) (omega arith),
+                      (
+                        λ _. fits_tag 23 _ (omega arith) slots.addr,
+                        (
+                          λ _. fits_tag 7 _ (omega arith) rest.addr,
+                          (
+                            λ _. fits_tag 8 _ (omega arith) rest.size,
+                            (
+                              λ _. fits_tag 9 24 (omega arith) (omega arith),
+                              (
+                                λ there. absurd (not_there (place_of places (codes ".relr.dyn")) (no_packed r e) there),
+                                (
+                                  λ there. absurd (not_there (place_of places (codes ".relr.dyn")) (no_packed r e) there),
+                                  (
+                                    λ _. fits_tag 37 8 (omega arith) (omega arith),
+                                    (
+                                      λ there. absurd (not_there (place_of places (codes ".gnu.version")) (no_words r e) there),
+                                      (
+                                        λ there. absurd (not_there (place_of places (codes ".gnu.version_d")) (no_defined r e) there),
+                                        (
+                                          λ _. fits_tag 0x6ffffffd _ (omega arith) none,
+                                          (
+                                            λ there. absurd (not_there (place_of places (codes ".gnu.version_r")) (no_needed r e) there),
+                                            (
+                                              λ there. absurd (not_there (place_of places (codes ".gnu.version_r")) (no_needed r e) there),
+                                              (λ _. fits_tag 21 0 (omega arith) (omega arith), (λ _. fits_tag 24 0 (omega arith) (omega arith), (λ _. fits_tag 30 8 (omega arith) (omega arith), (λ _. fits_tag 0x6ffffffb (flags_1 p.settings) (omega arith) (omega (arith, flags)), tt)))),
+                                            ),
+                                          ),
+                                        ),
+                                      ),
+                                    ),
+                                  ),
+                                ),
+                              ),
+                            ),
+                          ),
+                        ),
+                      ),
+                    ),
+                  ),
+                ),
+              ),
+            ),
+          ),
+        ),
+      ),
+    )
 
 tags_fit : (r : Recipe) (ss : List Segment) (tables_end : ℕ) (e : Extents) → IsPlain r → tables_end ≤ 1048576 → AreGood r ss tables_end e → AllByRecursion FitsTag (planned_tags (plan_of r) (before_dynamic r e))
 unfolding needed_tags
@@ -317,17 +369,43 @@ windows_low r t e plain shape low bytes taken =
     let none : IsLow n (file_window ss nothing) = omega (arith, low, nothing_small ss) in
     let absent : (number : ℕ) → value_of number tags ≡ None → IsLow n (file_window ss (section_memory number tags sections)) = λ number x. low_by ss n (section_memory number tags sections) nothing (no_section number tags sections x) none in
     let symtabs : symtab_windows sections ≡ [] = ap symtab_windows (sections_are r t e plain shape) ∙ no_symtabs p (all_places r e t) in
-    let past : 1024 ≤ n = omega arith in
-    (past_header n past, (omega (arith, past, (segments_low p t).0, (segments_low p t).1),
-    (low_by ss n (dynamic_memory ss) (memory_at e.dynamic) (dynamic_is r t e plain shape good.dynamic.some) (low_if p ss n DynamicTable true e.dynamic low (λ _. good.dynamic)),
-    (low_by ss n (symbols_memory tags sections) (memory_at e.symbols) told.symbols (low_if p ss n Dynsym true e.symbols low (λ _. good.symbols)),
-    (low_by ss n (strings_memory tags) (memory_at e.strings) told.strings (low_if p ss n Dynstr true e.strings low (λ _. good.strings)),
-    (low_by ss n (rela_memory tags) (memory_if c e.others) told.others (low_if p ss n RelaDyn c e.others low good.others),
-    (low_by ss n (jmprel_memory tags) (memory_if j e.slots) told.slots (low_if p ss n RelaPlt j e.slots low good.slots),
-    (low_by ss n (section_memory 4 tags sections) (memory_if r.settings.hashes.sysv e.hash) told.hash (low_if p ss n Hash r.settings.hashes.sysv e.hash low good.hash),
-    (low_by ss n (section_memory 0x6ffffef5 tags sections) (memory_if r.settings.hashes.gnu e.gnu_hash) told.gnu_hash (low_if p ss n GnuHash r.settings.hashes.gnu e.gnu_hash low good.gnu_hash),
-    (absent 0x6ffffff0 taken.values.versym, (absent 0x6ffffffc taken.values.verdef, (absent 0x6ffffffe taken.values.verneed,
-    (low_by ss n (relr_memory tags) nothing told.packed none, subst (AllIn n) (sym symtabs) tt)))))))))))))
+    let past : 1024 ≤ n = omega arith in (
+      past_header n past,
+      (
+        omega (arith, past, (segments_low p t).0, (segments_low p t).1),
+        (
+          low_by ss n (dynamic_memory ss) (memory_at e.dynamic) (dynamic_is r t e plain shape good.dynamic.some) (low_if p ss n DynamicTable true e.dynamic low (λ _. good.dynamic)),
+          (
+            low_by ss n (symbols_memory tags sections) (memory_at e.symbols) told.symbols (low_if p ss n Dynsym true e.symbols low (λ _. good.symbols)),
+            (
+              low_by ss n (strings_memory tags) (memory_at e.strings) told.strings (low_if p ss n Dynstr true e.strings low (λ _. good.strings)),
+              (
+                low_by ss n (rela_memory tags) (memory_if c e.others) told.others (low_if p ss n RelaDyn c e.others low good.others),
+                (
+                  low_by ss n (jmprel_memory tags) (memory_if j e.slots) told.slots (low_if p ss n RelaPlt j e.slots low good.slots),
+                  (
+                    low_by ss n (section_memory 4 tags sections) (memory_if r.settings.hashes.sysv e.hash) told.hash (low_if p ss n Hash r.settings.hashes.sysv e.hash low good.hash),
+                    (
+                      low_by ss n (section_memory 0x6ffffef5 tags sections) (memory_if r.settings.hashes.gnu e.gnu_hash) told.gnu_hash (low_if p ss n GnuHash r.settings.hashes.gnu e.gnu_hash low good.gnu_hash),
+                      (
+                        absent 0x6ffffff0 taken.values.versym,
+                        (
+                          absent 0x6ffffffc taken.values.verdef,
+                          (
+                            absent 0x6ffffffe taken.values.verneed,
+                            (low_by ss n (relr_memory tags) nothing told.packed none, subst (AllIn n) (sym symtabs) tt),
+                          ),
+                        ),
+                      ),
+                    ),
+                  ),
+                ),
+              ),
+            ),
+          ),
+        ),
+      ),
+    )
   where
     past_header : (n : ℕ) → 1024 ≤ n → IsLow n header_window
     past_header n le = omega (arith, le)
@@ -452,9 +530,12 @@ plain_accepted r bytes plain m made_so =
     let here : IsPlaced r bytes t = subst (λ (u : Tables). IsPlaced r bytes u) (ok_same placed_at.0 t (sym placed_at.1 ∙ file.1)) placed_at.2 in
     let small : length bytes ≤ 16777216 = subst (λ (l : List ℕ). length l ≤ 16777216) (sym file.2) (file_small r t plain file.1 file.3) in
     let built : IsBuilt r bytes t = record { plain = plain; modest = m; there = file.1; size = small; here = here } in
-    let linked : elf.is_static_file bytes (planned_header p t) ≡ false = linked_file bytes (planned_header p t) (dynamic_seen r bytes t plain file.1 file.2 headed) in
-    (t, file.1, record {
-      extents = here.shape.extents;
-      places = here.shape.is ∙ dynamic_last r here.shape.extents;
-      reads = reads_by bytes (planned_header p t) read_so ∙ ap (parts bytes) (heads_are p t bytes headed) ∙ parts_built r bytes t built linked;
-    })
+    let linked : elf.is_static_file bytes (planned_header p t) ≡ false = linked_file bytes (planned_header p t) (dynamic_seen r bytes t plain file.1 file.2 headed) in (
+      t,
+      file.1,
+      record {
+        extents = here.shape.extents;
+        places = here.shape.is ∙ dynamic_last r here.shape.extents;
+        reads = reads_by bytes (planned_header p t) read_so ∙ ap (parts bytes) (heads_are p t bytes headed) ∙ parts_built r bytes t built linked;
+      },
+    )

@@ -1,20 +1,19 @@
 -- The symbols of a plain and modest recipe's file are found: clauses 20 to 22, and 30 and 31.
-use Rattle.std.proofs.Common.{◌≡◌, ℕ, zero, suc, ◌+◌, ◌-◌, ◌/◌, ◌%◌, ◌^◌, ◌<◌, ◌≤◌, Bool, true, false, List, [], ◌∷◌, ◌++◌, length, map, get_or, Option, Some, None, Result, Ok, refl, sym, ap, subst, ◌∙◌, arith, inl, inr}
-use Rattle.std.specs.Prelude.{◌⊎◌, not, ◌==◌, ◌&&◌, ◌||◌, nat_le, nat_lt, filter, find, slice_get, is_some, unwrap_or, bit_and, if◌then◌else◌}
-use Rattle.std.specs.List.{AllByRecursion, flat_map, list_any, range_with_len}
+use Rattle.std.proofs.Common.{◌≡◌, ℕ, zero, suc, ◌+◌, ◌/◌, ◌^◌, ◌<◌, ◌≤◌, Bool, true, false, List, [], ◌∷◌, ◌++◌, length, map, get_or, Option, Some, None, refl, sym, ap, subst, ◌∙◌, arith, inl, inr}
+use Rattle.std.specs.Prelude.{not, ◌==◌, ◌&&◌, ◌||◌, nat_le, nat_lt, filter, slice_get, is_some, if◌then◌else◌}
+use Rattle.std.specs.List.{flat_map, list_any, range_with_len}
 use Rattle.std.specs.List.Sorted.{IsPermutation}
 use Rattle.std.specs.Option.{option_map}
 use Rattle.std.specs.Str.{bytes_eq}
-use Rattle.std.proofs.lemmas.Bool.{cases_Bool, cases_lt, false≢true, or_cases, or_from, or_parts}
+use Rattle.std.proofs.lemmas.Bool.{cases_Bool, false≢true, or_from, or_parts}
 use Rattle.std.proofs.lemmas.Bool.Decides.{nat_tests}
 use Rattle.std.proofs.lemmas.Nat.{mod_below}
 use Rattle.std.proofs.lemmas.Slice.Eq.{bytes_eq-Decides}
 use Rattle.std.proofs.lemmas.List.{length-map}
-use Rattle.std.proofs.lemmas.List.Sorted.{IsPermutation-refl, IsPermutation-trans, IsPermutation-append_right, IsPermutation-append, IsPermutation-filter_both}
+use Rattle.std.proofs.lemmas.List.Sorted.{IsPermutation-refl, IsPermutation-trans, IsPermutation-append_right, IsPermutation-filter_both}
 use Rattle.std.proofs.lemmas.Option.{slice_get-get_or, slice_get-map}
 use Rattle.pl_base.specs.Pairs.{any_pair}
-use Rattle.pl_base.proofs.FindLaws.{any_map}
-use Rattle.pl_base.proofs.PairLaws.{any_pair_permuted, any_pair_map}
+use Rattle.pl_base.proofs.PairLaws.{any_pair_permuted}
 use Rattle.pl_elf.specs.Headers.{segment_of_kind}
 use Rattle.pl_elf.specs.declared.header.Header.{Header}
 use Rattle.pl_elf.specs.declared.section.Section.{Section}
@@ -25,15 +24,14 @@ use Rattle.pl_hash.specs.Candidates.{is_candidate, name_hash}
 use Rattle.pl_hash.specs.Chain.{well_formed}
 use Rattle.pl_hash.specs.Hash.{gnu, sysv}
 use Rattle.pl_hash.specs.declared.table.Table.{Table}
-use Rattle.pl_sym.specs.Definers.{is_global, is_visible, has_plain_kind, is_linkable, has_value, is_definition, is_canonical, is_definer}
+use Rattle.pl_sym.specs.Definers.{is_linkable, is_definition, is_canonical, is_definer}
 use Rattle.pl_sym.specs.Symbol as seen
-use Rattle.pl_sym.specs.declared.class.Class.TheVariants.{Jump, Other}
+use Rattle.pl_sym.specs.declared.class.Class.TheVariants.{Other}
 use Rattle.pl_sym.specs.declared.symbol.Symbol as read
-use Rattle.pl_ver.specs.declared.versions.Versions.{Versions}
 use Rattle.pl_object.specs.FilePart.{loaded}
 use Rattle.pl_object.specs.Reads.{too_large, has_flag, is_pie}
 use Rattle.pl_object.specs.SymbolClauses.{is_above, base_not_zero, hash_table, hash_tables, defines, is_missed, misses_one, is_incomplete, hash_incomplete, is_same_version, is_twin, duplicate_definer}
-use Rattle.pl_object.specs.Tables.{has_tag, value, section_memory}
+use Rattle.pl_object.specs.Tables.{has_tag, section_memory}
 use Rattle.pl_build.specs.declared.line.Symbol.{Symbol}
 use Rattle.pl_build.specs.declared.plan.Plan.{Plan}
 use Rattle.pl_build.specs.declared.recipe.Recipe.{Recipe}
@@ -44,11 +42,11 @@ use Rattle.pl_build.specs.File.{type_of}
 use Rattle.pl_build.specs.FileKinds.{is_position_independent}
 use Rattle.pl_build.specs.HashTables.{is_defined}
 use Rattle.pl_build.specs.Plan.{plan_of, base_of}
-use Rattle.pl_build.specs.Segments.{readable, first_load, second_load, dynamic_segment, has_data}
+use Rattle.pl_build.specs.Segments.{readable, first_load, second_load, dynamic_segment}
 use Rattle.pl_build.specs.Symbols.{bucket_of, bucket, is_in, is_undefined, ordered}
 use Rattle.pl_build.specs.SymbolTable.{section_of}
 use Rattle.pl_built.specs.Accepted.{planned_hashes}
-use Rattle.pl_built.specs.Gnu.{gnu_of, FitsGnu, IsGnuWhole}
+use Rattle.pl_built.specs.Gnu.{gnu_of, IsGnuWhole}
 use Rattle.pl_built.specs.Hashes.{sysv_of, FitsBuckets, IsWhole}
 use Rattle.pl_built.specs.Modest.{is_namesake, IsModest}
 use Rattle.pl_built.specs.Plain.{ArePlain, IsPlain}
@@ -209,9 +207,9 @@ filter_both : (c d : Symbol → Bool) (xs : List Symbol) → filter d (filter c 
 filter_both c d [] = refl
 filter_both c d (x ∷ xs) = elim (cases_Bool (c x)) [
   | inl one ↦ elim (cases_Bool (d x)) [
-      | inl two ↦ rw (one, two) (ap (λ (l : List Symbol). x ∷ l) (filter_both c d xs))
-      | inr miss ↦ rw (one, miss) (filter_both c d xs)
-    ]
+    | inl two ↦ rw (one, two) (ap (λ (l : List Symbol). x ∷ l) (filter_both c d xs))
+    | inr miss ↦ rw (one, miss) (filter_both c d xs)
+  ]
   | inr miss ↦ rw miss (filter_both c d xs)
 ]
 
@@ -289,13 +287,13 @@ ordered_permutes s symbols some =
 bytes_turned : (a b : List ℕ) → bytes_eq a b ≡ bytes_eq b a
 bytes_turned a b = elim (cases_Bool (bytes_eq a b)) [
   | inl one ↦ elim (cases_Bool (bytes_eq b a)) [
-      | inl two ↦ one ∙ sym two
-      | inr two ↦ absurd (false≢true (sym two ∙ (bytes_eq-Decides b a).1 (sym ((bytes_eq-Decides a b).0 one))))
-    ]
+    | inl two ↦ one ∙ sym two
+    | inr two ↦ absurd (false≢true (sym two ∙ (bytes_eq-Decides b a).1 (sym ((bytes_eq-Decides a b).0 one))))
+  ]
   | inr one ↦ elim (cases_Bool (bytes_eq b a)) [
-      | inl two ↦ absurd (false≢true (sym one ∙ (bytes_eq-Decides a b).1 (sym ((bytes_eq-Decides b a).0 two))))
-      | inr two ↦ one ∙ sym two
-    ]
+    | inl two ↦ absurd (false≢true (sym one ∙ (bytes_eq-Decides a b).1 (sym ((bytes_eq-Decides b a).0 two))))
+    | inr two ↦ one ∙ sym two
+  ]
 ]
 
 plan_symbols : (r : Recipe) → (plan_of r).symbols ≡ ordered r.settings r.symbols

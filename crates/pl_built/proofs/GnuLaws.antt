@@ -1,6 +1,6 @@
 -- The GNU hash table of a plan is well formed, and leads to each symbol that the plan defines.
 use Rattle.std.proofs.Common.{◌≡◌, ℕ, zero, suc, ◌+◌, ◌-◌, ◌*◌, ◌/◌, ◌%◌, ◌^◌, ◌<◌, ◌≤◌, Bool, true, false, List, [], ◌∷◌, ◌++◌, length, map, drop, get_or, Option, Some, None, refl, sym, ap, subst, ◌∙◌, append_assoc, length-append, arith, inl, inr}
-use Rattle.std.specs.Prelude.{◌⊎◌, not, ◌==◌, ◌&&◌, ◌||◌, nat_le, nat_lt, bit_or, filter, fold, position, is_some, unwrap_or, max}
+use Rattle.std.specs.Prelude.{◌⊎◌, ◌==◌, ◌&&◌, nat_le, nat_lt, bit_or, filter, fold, is_some, max}
 use Rattle.std.specs.Int.{bit_at, is_power_of_two}
 use Rattle.std.specs.List.{AllByRecursion, flat_map, list_all, list_any, position_or_len, range_with_len}
 use Rattle.std.proofs.lemmas.Bool.{cases_Bool, cases_lt, false≢true, or_right}
@@ -27,10 +27,10 @@ use Rattle.pl_build.specs.declared.line.Symbol.{Symbol}
 use Rattle.pl_build.specs.declared.plan.Plan.{Plan}
 use Rattle.pl_build.specs.declared.recipe.Recipe.{Recipe}
 use Rattle.pl_build.specs.Fields.{field_bytes, fields}
-use Rattle.pl_build.specs.HashTables.{found, hash_of, gnu_hashes, gnu_buckets, symoffset, bloom_more, bloom, gnu_first, goes_on, gnu_chain, gnu_words, gnu_table}
+use Rattle.pl_build.specs.HashTables.{hash_of, gnu_hashes, gnu_buckets, symoffset, bloom_more, bloom, gnu_first, goes_on, gnu_chain, gnu_words, gnu_table}
 use Rattle.pl_build.specs.Plan.{plan_of}
-use Rattle.pl_build.specs.Symbols.{bucket_of, ordered}
-use Rattle.pl_built.specs.Gnu.{gnu_of, FitsGnu, IsGnuWhole, GnuIsWhole}
+use Rattle.pl_build.specs.Symbols.{bucket_of}
+use Rattle.pl_built.specs.Gnu.{gnu_of, FitsGnu, GnuIsWhole}
 use Rattle.pl_built.proofs.BackLaws.{begins_itself, rows_back, rows_long}
 use Rattle.pl_built.proofs.OrderLaws.{all_at, Ascends, ascends_at, buckets_of, IsOrdered, is_ordered, own_hashes, others_counted}
 
@@ -348,16 +348,16 @@ unfolding link is_linked first_linked
 is_gnu count first hashes buckets few = record {
   bloomed = refl;
   links = λ j lt.
-    ap (λ (at : ℕ). word32 at (words_of count first hashes buckets)) (link_place count first hashes buckets (first + j) few ∙ (let e : 24 + 4 * count + 4 * (first + j - first) ≡ 24 + 4 * (count + j) = omega arith in e))
-    ∙ table_word count first hashes buckets (count + j) few (omega (arith, lt)) ∙ chain_at count first hashes buckets j lt;
+      ap (λ (at : ℕ). word32 at (words_of count first hashes buckets)) (link_place count first hashes buckets (first + j) few ∙ (let e : 24 + 4 * count + 4 * (first + j - first) ≡ 24 + 4 * (count + j) = omega arith in e))
+      ∙ table_word count first hashes buckets (count + j) few (omega (arith, lt)) ∙ chain_at count first hashes buckets j lt;
   linked = λ j lt.
-    rw (
-      first_read count first hashes buckets (omega (arith, few.symbols)),
-      at_most first (first + j) (omega arith),
-      below_true (first + j) (first + length hashes) (omega (arith, lt)),
-      at_most (link_at (table_of count first hashes buckets) (first + j) + 4) (length (words_of count first hashes buckets)) (omega (arith, lt, link_place count first hashes buckets (first + j) few, table_long count first hashes buckets)),
-    )
-    refl;
+      rw (
+        first_read count first hashes buckets (omega (arith, few.symbols)),
+        at_most first (first + j) (omega arith),
+        below_true (first + j) (first + length hashes) (omega (arith, lt)),
+        at_most (link_at (table_of count first hashes buckets) (first + j) + 4) (length (words_of count first hashes buckets)) (omega (arith, lt, link_place count first hashes buckets (first + j) few, table_long count first hashes buckets)),
+      )
+      refl;
 }
 
 -- ---- whether a chain goes on
@@ -414,6 +414,7 @@ chain_half hashes buckets j = elim (cases_Bool (goes_on buckets j)) [
   where
     even : (n : ℕ) → (n * 2 + 0) / 2 ≡ n
     even n = omega arith
+
     odd : (n : ℕ) → (n * 2 + 1) / 2 ≡ n
     odd n = omega arith
 

@@ -216,12 +216,14 @@ all_append P (x ∷ xs) ys all more = (all.0, all_append P xs ys all.1 more)
 standing_fit : (p : Plan) (xs : List ℕ) (from : ℕ) (before places : List Place) → length xs ≤ 1048576 → AreStanding p xs from before places → AllByRecursion FitsPlace places
 standing_fit p xs from before [] le h = tt
 standing_fit p xs from before (place ∷ places) le h =
-    let s = h.0 in
-    (record {
-      addr = subst (λ (n : ℕ). n < 2 ^ 64) (sym s.address) (plus_below (base_of p.settings) place.offset);
-      offset = omega (arith, s.within, le);
-      size = omega (arith, s.within, le);
-    }, standing_fit p xs (place.offset + place.size) (before ++ place ∷ []) places le h.1)
+    let s = h.0 in (
+      record {
+        addr = subst (λ (n : ℕ). n < 2 ^ 64) (sym s.address) (plus_below (base_of p.settings) place.offset);
+        offset = omega (arith, s.within, le);
+        size = omega (arith, s.within, le);
+      },
+      standing_fit p xs (place.offset + place.size) (before ++ place ∷ []) places le h.1,
+    )
 
 -- the tables' places end below 1 MiB
 pub laid_fit : (p : Plan) (front : List ℕ) (t : Tables) → length front ≡ 1024 → AreLaid p front t → AllByRecursion FitsPlace t.places
@@ -235,10 +237,13 @@ plain_first r plain = rw plain.settings.bare refl
 last_fit : (p : Plan) (t : Tables) (size : ℕ) → ArePlain p.settings → end_of t ≤ 1048576 → size ≤ 256 → AllByRecursion FitsPlace (last_places p (data_offset (end_of t)) size)
 unfolding last_places
 last_fit p t size plain fits small =
-    let near : data_offset (end_of t) < end_of t + 4096 = round_up-near (end_of t) 4096 (omega arith) in
-    (record { addr = omega (arith, data_small p.settings); offset = omega (arith, near, fits); size = omega (arith, plain.few_data) },
-    (record { addr = plus_below (data_address p.settings) p.settings.data_size; offset = omega arith; size = omega (arith, plain.few_bss) },
-    (record { addr = omega arith; offset = omega (arith, near, fits, plain.few_data); size = omega (arith, small) }, tt)))
+    let near : data_offset (end_of t) < end_of t + 4096 = round_up-near (end_of t) 4096 (omega arith) in (
+      record { addr = omega (arith, data_small p.settings); offset = omega (arith, near, fits); size = omega (arith, plain.few_data) },
+      (
+        record { addr = plus_below (data_address p.settings) p.settings.data_size; offset = omega arith; size = omega (arith, plain.few_bss) },
+        (record { addr = omega arith; offset = omega (arith, near, fits, plain.few_data); size = omega (arith, small) }, tt),
+      ),
+    )
 
 row_fits : (p : Plan) (names : Strings) (place : Place) → p.versions ≡ [] → p.files ≡ [] → length p.roles ≤ 11 → AreTexts names → length names.bytes ≤ 256 → FitsPlace place → FitsSection (section_of (row_of p names place))
 unfolding row_of section_of
@@ -344,8 +349,12 @@ segments_fit : (p : Plan) (t : Tables) → ArePlain p.settings → end_of t ≤ 
 unfolding planned_segments
 segments_fit p t plain le all =
     subst (AllByRecursion FitsSegment) (sym (plain_segments p.settings (end_of t) (place_of t.places (codes ".dynamic")) plain)) (all_chosen FitsSegment _ (
-    λ _. first_fits p.settings (end_of t) le, (λ _. second_fits p.settings (end_of t) plain le,
-    (λ _. dynamic_fits (place_of t.places (codes ".dynamic")) (place_fits (codes ".dynamic") t.places all), tt))))
+      λ _. first_fits p.settings (end_of t) le,
+      (
+        λ _. second_fits p.settings (end_of t) plain le,
+        (λ _. dynamic_fits (place_of t.places (codes ".dynamic")) (place_fits (codes ".dynamic") t.places all), tt),
+      ),
+    ))
 
 segments_are : (p : Plan) (t : Tables) → ArePlain p.settings → end_of t ≤ 1048576 → AllByRecursion FitsPlace t.places → elf.segments (file_by p t) (planned_header p t) ≡ planned_segments p t
 unfolding elf.segments planned_header header_of

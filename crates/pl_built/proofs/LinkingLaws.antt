@@ -1,5 +1,5 @@
 -- The names of a plain and modest recipe's file: clauses 15 to 18.
-use Rattle.std.proofs.Common.{◌≡◌, ℕ, ◌+◌, ◌^◌, ◌<◌, ◌≤◌, Bool, true, false, List, [], ◌∷◌, ◌++◌, length, map, Option, Some, None, Result, Ok, refl, sym, ap, subst, ◌∙◌, arith, inl, inr}
+use Rattle.std.proofs.Common.{◌≡◌, ℕ, ◌^◌, ◌<◌, Bool, true, false, List, [], ◌∷◌, ◌++◌, length, map, None, Ok, refl, sym, ap, subst, ◌∙◌, arith, inl, inr}
 use Rattle.std.specs.Prelude.{not, ◌==◌, ◌&&◌, filter}
 use Rattle.std.specs.List.{AllByRecursion, list_all, list_any}
 use Rattle.std.proofs.lemmas.Bool.{cases_Bool, and_parts, false≢true, or_parts, or_from}
@@ -9,7 +9,7 @@ use Rattle.std.proofs.lemmas.List.Elements.{filter-append}
 use Rattle.pl_base.specs.Answers.{because}
 use Rattle.pl_base.specs.Each.{each}
 use Rattle.pl_base.specs.Names.{is_valid_name, is_name_byte, is_own_name, is_dots, has_name_length}
-use Rattle.pl_base.specs.Strings.{is_zero, string_at}
+use Rattle.pl_base.specs.Strings.{is_zero}
 use Rattle.pl_dyn.specs.Read.{has_number, value_of}
 use Rattle.pl_dyn.specs.declared.tags.Tag.{Tag}
 use Rattle.pl_elf.specs.declared.section.Section.{Section}
@@ -20,13 +20,11 @@ use Rattle.pl_object.specs.Refusals.{of_symbols}
 use Rattle.pl_object.specs.Reads.{linking}
 use Rattle.pl_object.specs.Tables.{symbols_memory, strings_memory}
 use Rattle.pl_object.specs.declared.headers.Headers.{Headers}
-use Rattle.pl_object.specs.declared.refusal.Refusal.{Refusal}
 use Rattle.pl_sym.specs.Table as table
 use Rattle.pl_sym.specs.declared.symbol.Symbol as read
 use Rattle.pl_build.specs.declared.line.Symbol.{Symbol}
 use Rattle.pl_build.specs.declared.plan.Plan.{Plan}
 use Rattle.pl_build.specs.declared.recipe.Recipe.{Recipe}
-use Rattle.pl_build.specs.declared.recipe.Settings.{Settings}
 use Rattle.pl_build.specs.declared.roles.Place.{Place}
 use Rattle.pl_build.specs.declared.strings.Strings.{Strings}
 use Rattle.pl_build.specs.Choices.{chosen}
@@ -34,8 +32,8 @@ use Rattle.pl_build.specs.Dynamic.{tag, needed_tags}
 use Rattle.pl_build.specs.Plan.{plan_of}
 use Rattle.pl_build.specs.Strings.{start, text_added, text_at, texts_added, symbol_added, symbols_added}
 use Rattle.pl_build.specs.SymbolTable.{symbol_table}
-use Rattle.pl_built.specs.Accepted.{planned_heads, planned_linking}
-use Rattle.pl_built.specs.Modest.{IsOwn, IsWeakReference, IsModestSymbol, IsValidName, IsModest}
+use Rattle.pl_built.specs.Accepted.{planned_linking}
+use Rattle.pl_built.specs.Modest.{IsModestSymbol, IsValidName, IsModest}
 use Rattle.pl_built.specs.Plain.{IsPlain}
 use Rattle.pl_built.specs.Relocs.{planned_symbols}
 use Rattle.pl_built.specs.Symbols.{IsSound}
@@ -159,13 +157,13 @@ sound_one r x plain m = elim m.form [
         size = omega (arith, own.within, plain.settings.few_data, plain.settings.few_bss);
       }
   | inr weak ↦ record {
-        name = valid_no_zero x.name m.name;
-        bind = omega (arith, weak.bind);
-        kind = omega (arith, weak.kind);
-        visibility = omega (arith, m.visibility);
-        offset = omega (arith, weak.offset);
-        size = omega (arith, weak.size);
-      }
+    name = valid_no_zero x.name m.name;
+    bind = omega (arith, weak.bind);
+    kind = omega (arith, weak.kind);
+    visibility = omega (arith, m.visibility);
+    offset = omega (arith, weak.offset);
+    size = omega (arith, weak.size);
+  }
 ]
 
 sound_all : (r : Recipe) (symbols : List Symbol) → IsPlain r → AllByRecursion (IsModestSymbol r.settings) symbols → AllByRecursion IsSound symbols

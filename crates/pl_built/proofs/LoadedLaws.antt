@@ -59,9 +59,10 @@ all_loaded : (p : Plan) (bytes : List ℕ) (b : Bool) (second dynamic : Segment)
     → AreLoaded p bytes (shown b (first_load p.settings tables_end) second dynamic) before places
 all_loaded p bytes b second dynamic tables_end from before [] fits all h = tt
 all_loaded p bytes b second dynamic tables_end from before (place ∷ places) fits all h =
-    let t = all.0 in
-    (one_loaded p bytes (shown b (first_load p.settings tables_end) second dynamic) from before place (window_first p.settings tables_end place.offset place.size b second dynamic t.some t.within) (omega (arith, t.some, t.within, fits)) h.0,
-    all_loaded p bytes b second dynamic tables_end (place.offset + place.size) (before ++ place ∷ []) places fits all.1 h.1)
+    let t = all.0 in (
+      one_loaded p bytes (shown b (first_load p.settings tables_end) second dynamic) from before place (window_first p.settings tables_end place.offset place.size b second dynamic t.some t.within) (omega (arith, t.some, t.within, fits)) h.0,
+      all_loaded p bytes b second dynamic tables_end (place.offset + place.size) (before ++ place ∷ []) places fits all.1 h.1,
+    )
 
 pub tables_loaded : TablesAreLoaded
 tables_loaded r bytes plain e =

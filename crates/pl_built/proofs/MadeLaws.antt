@@ -1,14 +1,13 @@
 -- Small recipes have files.
-use Rattle.std.proofs.Common.{◌≡◌, ℕ, ◌+◌, ◌-◌, ◌*◌, ◌<◌, ◌≤◌, Bool, true, false, List, [], ◌∷◌, ◌++◌, length, map, replicate, Result, Ok, Err, refl, sym, ap, subst, ◌∙◌, length-append, arith, inl, inr}
-use Rattle.std.specs.Prelude.{not, ◌==◌, nat_le, nat_lt, codes, filter, fold}
-use Rattle.std.specs.List.{AllByRecursion, flat_map, list_any, range_with_len}
+use Rattle.std.proofs.Common.{◌≡◌, ℕ, ◌+◌, ◌-◌, ◌*◌, ◌≤◌, Bool, true, List, [], ◌∷◌, ◌++◌, length, map, replicate, Ok, refl, sym, ap, subst, ◌∙◌, length-append, arith, inl, inr}
+use Rattle.std.specs.Prelude.{not, ◌==◌, nat_le, filter}
+use Rattle.std.specs.List.{AllByRecursion, list_any, range_with_len}
 use Rattle.std.proofs.lemmas.Bool.{cases_Bool}
 use Rattle.std.proofs.lemmas.Bool.Decides.{nat_tests}
 use Rattle.std.proofs.lemmas.List.{length-map, length-replicate}
 use Rattle.std.proofs.lemmas.List.FromFn.{length-range_with_len}
 use Rattle.std.proofs.lemmas.List.Filters.{length-filter_both}
 use Rattle.std.proofs.lemmas.List.Sorted.{length_permutation}
-use Rattle.pl_base.specs.Answers.{◌>>=◌}
 use Rattle.pl_base.specs.Each.{run}
 use Rattle.pl_base.specs.Names.{is_valid_name}
 use Rattle.pl_base.specs.Sums.{round_up}
@@ -16,8 +15,6 @@ use Rattle.pl_base.proofs.NameLaws.{valid_length}
 use Rattle.pl_base.proofs.SumLaws.{round_up-near, round_up-at_least}
 use Rattle.pl_dyn.specs.declared.tags.Tag.{Tag}
 use Rattle.pl_hash.specs.Hash.{sysv}
-use Rattle.pl_build.specs.declared.checks.Fault.{Fault}
-use Rattle.pl_build.specs.declared.fields.Field.{Field}
 use Rattle.pl_build.specs.declared.fields.Field.TheVariants.{Word, Xword}
 use Rattle.pl_build.specs.declared.layout.Tables.{Tables}
 use Rattle.pl_build.specs.declared.line.Relocation.{Relocation}
@@ -27,7 +24,7 @@ use Rattle.pl_build.specs.declared.recipe.Recipe.{Recipe}
 use Rattle.pl_build.specs.declared.recipe.Settings.{Settings}
 use Rattle.pl_build.specs.declared.roles.Place.{Place}
 use Rattle.pl_build.specs.declared.roles.Role.{Role}
-use Rattle.pl_build.specs.declared.roles.Role.TheVariants.{Null, Interp, Hash, GnuHash, Dynsym, Dynstr, Versym, Verdef, Verneed, RelaDyn, RelaPlt, RelrDyn, Dynamic, Data, Bss, Shstrtab}
+use Rattle.pl_build.specs.declared.roles.Role.TheVariants.{Hash, GnuHash, Dynsym, Dynstr, RelaDyn, RelaPlt, Dynamic}
 use Rattle.pl_build.specs.declared.strings.Strings.{Strings}
 use Rattle.pl_build.specs.Choices.{chosen}
 use Rattle.pl_build.specs.Dynamic.{tag_bytes, end_tag, needed_tags, spare_tags, dynamic_table}
@@ -251,9 +248,30 @@ dynamic_within p c places =
 all_within : (p : Plan) (a b c d : Bool) → IsCounted p → AllByRecursion (IsWithin p bound) (plain_roles a b c d)
 unfolding contents
 all_within p a b c d counted = all_chosen (IsWithin p bound) _ (
-    λ _ places. omega arith, (λ _. sysv_within p counted, (λ _. gnu_within p counted, (λ _. symbols_within p counted, (λ _. strings_within p counted,
-    (λ _. others_within p counted, (λ _. slots_within p counted, (λ _. dynamic_within p counted,
-    (λ _ places. omega arith, (λ _ places. omega arith, (λ _ places. omega arith, tt)))))))))))
+  λ _ places. omega arith,
+  (
+    λ _. sysv_within p counted,
+    (
+      λ _. gnu_within p counted,
+      (
+        λ _. symbols_within p counted,
+        (
+          λ _. strings_within p counted,
+          (
+            λ _. others_within p counted,
+            (
+              λ _. slots_within p counted,
+              (
+                λ _. dynamic_within p counted,
+                (λ _ places. omega arith, (λ _ places. omega arith, (λ _ places. omega arith, tt))),
+              ),
+            ),
+          ),
+        ),
+      ),
+    ),
+  ),
+)
 
 total_shapes : (a b c d : Bool) → nat_le (total bound (plain_roles a b c d)) 400000 ≡ true
 unfolding chosen

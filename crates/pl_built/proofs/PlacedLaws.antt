@@ -1,17 +1,14 @@
 -- Of a plain recipe's file, the tags and sections say where its tables are, and acceptance clauses 12 to 14 take them.
-use Rattle.std.proofs.Common.{◌≡◌, ℕ, ◌+◌, ◌-◌, ◌*◌, ◌/◌, ◌%◌, ◌<◌, ◌≤◌, Bool, true, false, List, [], ◌∷◌, ◌++◌, length, map, take, drop, Option, Some, None, Result, Ok, refl, sym, ap, subst, ◌∙◌, length-append, arith, inl, inr}
-use Rattle.std.specs.Prelude.{◌⊎◌, not, ◌==◌, ◌&&◌, ◌||◌, nat_le, nat_lt, filter, find, count_by, cond, min, codes, is_some, is_ok, unwrap_or, if◌then◌else◌}
+use Rattle.std.proofs.Common.{◌≡◌, ℕ, ◌+◌, ◌*◌, ◌/◌, ◌%◌, ◌<◌, ◌≤◌, Bool, true, false, List, [], ◌∷◌, ◌++◌, length, map, take, drop, Option, Some, None, Result, Ok, refl, sym, ap, subst, ◌∙◌, arith, inl, inr}
+use Rattle.std.specs.Prelude.{◌⊎◌, not, ◌==◌, ◌&&◌, ◌||◌, nat_lt, filter, find, count_by, cond, codes, is_ok, unwrap_or, if◌then◌else◌}
 use Rattle.std.specs.List.{AllByRecursion, flat_map, list_any}
-use Rattle.std.proofs.lemmas.Bool.{cases_Bool, false≢true, or_from, or_left}
+use Rattle.std.proofs.lemmas.Bool.{cases_Bool, false≢true, or_from}
 use Rattle.std.proofs.lemmas.Bool.Decides.{nat_tests}
-use Rattle.std.proofs.lemmas.List.{map-append}
 use Rattle.std.proofs.lemmas.List.Sums.{sum_by-cons}
 use Rattle.pl_base.specs.Answers.{unless}
-use Rattle.pl_base.specs.Bytes.{part}
 use Rattle.pl_base.specs.Windows.{Window, share, any_share}
 use Rattle.pl_base.proofs.FindLaws.{any_found}
 use Rattle.pl_base.proofs.SumLaws.{round_up-at_least}
-use Rattle.pl_elf.specs.Headers.{segment_of_kind}
 use Rattle.pl_elf.specs.declared.header.Header.{Header}
 use Rattle.pl_elf.specs.declared.section.Section.{Section}
 use Rattle.pl_elf.specs.declared.segment.Segment.{Segment}
@@ -22,8 +19,8 @@ use Rattle.pl_relr.specs.declared.fault.RelrFault.{RelrFault}
 use Rattle.pl_relr.specs.declared.fault.RelrFault.TheVariants.{Packed}
 use Rattle.pl_relr.specs.Places as packed
 use Rattle.pl_object.specs.FilePart.{nothing, loader, loaded_by, file_window, in_file_part, loaded}
-use Rattle.pl_object.specs.TableClauses.{lacks_tags, is_misplaced, other_dynsym, any_lost, any_outside, tables_overlap, bad_tables, bad_rela, bad_jmprel, bad_relocation_tables, bad_relr_tags, meets, misplaced_relr, relr_table, bad_relr_table, bad_packed, check_tables}
-use Rattle.pl_object.specs.Tables.{has_tag, value, dynamic_memory, tag_memory, strings_memory, rela_memory, jmprel_memory, relr_memory, has_kind, section_size, symbols_memory, begins_at, section_memory, is_lost, tables_memory, header_window, segments_window, sections_window, section_window, symtab_windows, main_windows}
+use Rattle.pl_object.specs.TableClauses.{lacks_tags, is_misplaced, other_dynsym, any_lost, any_outside, tables_overlap, bad_tables, bad_rela, bad_jmprel, bad_relocation_tables, bad_relr_tags, meets, misplaced_relr, bad_relr_table, bad_packed, check_tables}
+use Rattle.pl_object.specs.Tables.{value, dynamic_memory, tag_memory, strings_memory, rela_memory, jmprel_memory, relr_memory, has_kind, section_size, symbols_memory, begins_at, section_memory, is_lost, tables_memory, header_window, segments_window, sections_window, symtab_windows, main_windows}
 use Rattle.pl_build.specs.declared.layout.Tables.{Tables}
 use Rattle.pl_build.specs.declared.plan.Plan.{Plan}
 use Rattle.pl_build.specs.declared.recipe.Recipe.{Recipe}
@@ -37,18 +34,18 @@ use Rattle.pl_build.specs.declared.symbol_table.SymbolEntry.{SymbolEntry}
 use Rattle.pl_build.specs.Choices.{chosen}
 use Rattle.pl_build.specs.Dynamic.{null_place, place_of, is_there}
 use Rattle.pl_build.specs.Fields.{fields}
-use Rattle.pl_build.specs.File.{places_of, sections_offset}
+use Rattle.pl_build.specs.File.{places_of}
 use Rattle.pl_build.specs.Layout.{contents, end_of, tables}
-use Rattle.pl_build.specs.Plan.{plan_of, base_of, data_address, is_jump_slot, is_other}
+use Rattle.pl_build.specs.Plan.{plan_of, is_jump_slot, is_other}
 use Rattle.pl_build.specs.Relocations.{rela_bytes, rela_of, others, jump_slots}
 use Rattle.pl_build.specs.Roles.{section_name, kind_of, flags_of}
 use Rattle.pl_build.specs.Sections.{row_of, last_places, section_rows}
 use Rattle.pl_build.specs.Segments.{readable, first_load, second_load, dynamic_segment, has_data, data_offset}
 use Rattle.pl_build.specs.SymbolTable.{entry_bytes, entry_of, null_entry, symbol_table}
 use Rattle.pl_built.specs.Loaded.{memory_of}
-use Rattle.pl_built.specs.Plain.{ArePlain, IsPlain}
+use Rattle.pl_built.specs.Plain.{IsPlain}
 use Rattle.pl_built.specs.Planned.{header_of, section_of, planned_header, planned_segments, planned_sections}
-use Rattle.pl_built.specs.Shape.{Extent, Extents, place_in, rows_before, before_dynamic, memory_at, memory_if, TellsPlaces, TablesTaken, TablesAreTaken}
+use Rattle.pl_built.specs.Shape.{Extent, Extents, place_in, rows_before, before_dynamic, memory_at, memory_if, TellsPlaces, TablesAreTaken}
 use Rattle.pl_built.specs.Tags.{planned_tags}
 use Rattle.pl_built.proofs.BackLaws.{rows_long}
 use Rattle.pl_built.proofs.ClauseLaws.{not_above, shown}
@@ -56,7 +53,7 @@ use Rattle.pl_built.proofs.FileLaws.{names_of, few}
 use Rattle.pl_built.proofs.HeadLaws.{all_append, sixteen, plain_settings, places_roles, plain_first}
 use Rattle.pl_built.proofs.HeadedLaws.{segments_shown, there_is, parts_before}
 use Rattle.pl_built.proofs.RoleLaws.{all_chosen, plain_roles, roles_plain, role_of}
-use Rattle.pl_built.proofs.ShapeLaws.{rows_of, IsShaped, dynamic_last, IsGood, LaterRows, IsPlaced, placed}
+use Rattle.pl_built.proofs.ShapeLaws.{rows_of, dynamic_last, IsGood, IsPlaced, placed}
 use Rattle.pl_built.proofs.ValueLaws.{planned_value, place_chosen}
 
 -- ---- tests
@@ -81,7 +78,6 @@ third_false : (a b c d : Bool) → c ≡ false → (a && b && c && d) ≡ false
 third_false true true c d h = rw h refl
 third_false true false c d h = refl
 third_false false b c d h = refl
-
 
 -- ---- how long rows are
 
@@ -283,13 +279,13 @@ unfolding chosen
 row_found q [] = refl
 row_found q (c ∷ cs) = elim (cases_Bool c.0) [
   | inl there ↦ elim (cases_Bool (q c.1)) [
-      | inl hit ↦ rw (there, hit) refl
-      | inr miss ↦ rw (there, miss) (row_found q cs)
-    ]
+    | inl hit ↦ rw (there, hit) refl
+    | inr miss ↦ rw (there, miss) (row_found q cs)
+  ]
   | inr missing ↦ elim (cases_Bool (q c.1)) [
-      | inl hit ↦ rw (missing, hit) (row_found q cs)
-      | inr miss ↦ rw (missing, miss) (row_found q cs)
-    ]
+    | inl hit ↦ rw (missing, hit) (row_found q cs)
+    | inr miss ↦ rw (missing, miss) (row_found q cs)
+  ]
 ]
 
 found_front : (q : Place → Bool) (xs ys : List Place) (x : Place) → find q xs ≡ Some x → find q (xs ++ ys) ≡ Some x
@@ -368,10 +364,12 @@ right_all p address (x ∷ places) all = or_from (is_misplaced address (section_
 right_places : (r : Recipe) (t : Tables) (e : Extents) → e.symbols.size % 24 ≡ 0 → AllByRecursion (IsRight e.symbols.addr) (all_places r e t)
 unfolding kind_of last_places
 right_places r t e even =
-    let right : Place → Type 0 = IsRight e.symbols.addr in
-    (inl refl, all_append right (chosen (rows_of r e)) (last_of (plan_of r) t)
-    (all_chosen right (rows_of r e) (λ _. inl refl, (λ _. inl refl, (λ _. inr (refl, even), (λ _. inl refl, (λ _. inl refl, (λ _. inl refl, (λ _. inl refl, tt))))))))
-    (inl refl, (inl refl, (inl refl, tt))))
+    let right : Place → Type 0 = IsRight e.symbols.addr in (
+      inl refl,
+      all_append right (chosen (rows_of r e)) (last_of (plan_of r) t)
+          (all_chosen right (rows_of r e) (λ _. inl refl, (λ _. inl refl, (λ _. inr (refl, even), (λ _. inl refl, (λ _. inl refl, (λ _. inl refl, (λ _. inl refl, tt))))))))
+          (inl refl, (inl refl, (inl refl, tt))),
+    )
 
 no_symtab_role : (role : Role) → (kind_of role == 2) ≡ false
 unfolding kind_of
@@ -480,15 +478,15 @@ tells_places r t e plain shape have before =
     let v : AreValues r e tags = values_are r e have in
     record {
       symbols =
-        ap (λ (o : Option ℕ). window_at (unwrap_or o 0) (section_size (find (has_kind 11) sections))) v.symtab
-        ∙ ap (λ (o : Option Section). window_at e.symbols.addr (section_size o)) (symbols_section r t e plain shape)
-        ∙ ap (λ (n : ℕ). window_at e.symbols.addr n) (symbols_size p e.symbols);
+          ap (λ (o : Option ℕ). window_at (unwrap_or o 0) (section_size (find (has_kind 11) sections))) v.symtab
+          ∙ ap (λ (o : Option Section). window_at e.symbols.addr (section_size o)) (symbols_section r t e plain shape)
+          ∙ ap (λ (n : ℕ). window_at e.symbols.addr n) (symbols_size p e.symbols);
       strings = memory_tagged 5 10 tags true e.strings v.strtab v.strsz;
       others = memory_tagged 7 8 tags (list_any is_other r.relocations) e.others v.rela v.relasz;
       slots = memory_tagged 23 2 tags (list_any is_jump_slot r.relocations) e.slots v.jmprel v.pltrelsz;
       hash = section_told 4 tags sections r.settings.hashes.sysv e.hash v.hash (λ there. ap (λ (o : Option Section). section_size o) (hash_section r t e plain shape there (have.hash there)) ∙ hash_size p e.hash);
       gnu_hash = section_told 0x6ffffef5 tags sections r.settings.hashes.gnu e.gnu_hash v.gnu_hash
-        (λ there. ap (λ (o : Option Section). section_size o) (gnu_section r t e plain shape there (have.gnu_hash there) (λ sysv. before sysv there)) ∙ gnu_size p e.gnu_hash);
+          (λ there. ap (λ (o : Option Section). section_size o) (gnu_section r t e plain shape there (have.gnu_hash there) (λ sysv. before sysv there)) ∙ gnu_size p e.gnu_hash);
       packed = no_memory 36 35 tags v.relr;
     }
 
@@ -640,13 +638,24 @@ none_outside r ss tables_end e sections tags good v told =
     let p : Plan = plan_of r in
     let absent : (number : ℕ) → value_of number tags ≡ None → not (in_file_part ss (section_memory number tags sections)) ≡ false = λ number x. in_by ss (section_memory number tags sections) nothing (no_section number tags sections x) (nothing_in ss) in
     none_any (λ w. not (in_file_part ss w)) (tables_memory tags sections) (
-    in_by ss (symbols_memory tags sections) (memory_at e.symbols) told.symbols (good_in p ss tables_end Dynsym e.symbols good.symbols),
-    (in_by ss (strings_memory tags) (memory_at e.strings) told.strings (good_in p ss tables_end Dynstr e.strings good.strings),
-    (in_by ss (rela_memory tags) (memory_if (list_any is_other r.relocations) e.others) told.others (in_if p ss tables_end RelaDyn (list_any is_other r.relocations) e.others good.others),
-    (in_by ss (jmprel_memory tags) (memory_if (list_any is_jump_slot r.relocations) e.slots) told.slots (in_if p ss tables_end RelaPlt (list_any is_jump_slot r.relocations) e.slots good.slots),
-    (in_by ss (section_memory 4 tags sections) (memory_if r.settings.hashes.sysv e.hash) told.hash (in_if p ss tables_end Hash r.settings.hashes.sysv e.hash good.hash),
-    (in_by ss (section_memory 0x6ffffef5 tags sections) (memory_if r.settings.hashes.gnu e.gnu_hash) told.gnu_hash (in_if p ss tables_end GnuHash r.settings.hashes.gnu e.gnu_hash good.gnu_hash),
-    (absent 0x6ffffff0 v.versym, (absent 0x6ffffffc v.verdef, (absent 0x6ffffffe v.verneed, tt)))))))))
+      in_by ss (symbols_memory tags sections) (memory_at e.symbols) told.symbols (good_in p ss tables_end Dynsym e.symbols good.symbols),
+      (
+        in_by ss (strings_memory tags) (memory_at e.strings) told.strings (good_in p ss tables_end Dynstr e.strings good.strings),
+        (
+          in_by ss (rela_memory tags) (memory_if (list_any is_other r.relocations) e.others) told.others (in_if p ss tables_end RelaDyn (list_any is_other r.relocations) e.others good.others),
+          (
+            in_by ss (jmprel_memory tags) (memory_if (list_any is_jump_slot r.relocations) e.slots) told.slots (in_if p ss tables_end RelaPlt (list_any is_jump_slot r.relocations) e.slots good.slots),
+            (
+              in_by ss (section_memory 4 tags sections) (memory_if r.settings.hashes.sysv e.hash) told.hash (in_if p ss tables_end Hash r.settings.hashes.sysv e.hash good.hash),
+              (
+                in_by ss (section_memory 0x6ffffef5 tags sections) (memory_if r.settings.hashes.gnu e.gnu_hash) told.gnu_hash (in_if p ss tables_end GnuHash r.settings.hashes.gnu e.gnu_hash good.gnu_hash),
+                (absent 0x6ffffff0 v.versym, (absent 0x6ffffffc v.verdef, (absent 0x6ffffffe v.verneed, tt))),
+              ),
+            ),
+          ),
+        ),
+      ),
+    )
 
 -- the dynamic table in memory
 dynamic_shown : (b : Bool) (s : Settings) (tables_end : ℕ) (d : Place) → dynamic_memory (shown b (first_load s tables_end) (second_load s tables_end) (dynamic_segment d)) ≡ memory_of d
@@ -684,16 +693,45 @@ seven_apart r ss tables_end e segments sections d y o s at size far good order d
     let some : 1024 ≤ e.dynamic.offset = good.dynamic.low in
     let past : 1024 ≤ sections.at = omega (arith, far, good.dynamic.low, good.dynamic.within) in
     no_share (header_window ∷ segments ∷ sections ∷ d ∷ y ∷ o ∷ s ∷ []) (
-    (share_before header_window segments (omega (arith, at)), (share_before header_window sections (omega (arith, past)), (low_spot header_window d true e.dynamic (omega arith) dd (λ _. good.dynamic.low),
-    (low_spot header_window y true e.symbols (omega arith) yy (λ _. good.symbols.low), (low_spot header_window o c e.others (omega arith) oo (λ there. (good.others there).low), (low_spot header_window s j e.slots (omega arith) slot (λ there. (good.slots there).low), tt)))))),
-    ((share_before segments sections (omega (arith, low, past)), (low_spot segments d true e.dynamic low dd (λ _. good.dynamic.low),
-    (low_spot segments y true e.symbols low yy (λ _. good.symbols.low), (low_spot segments o c e.others low oo (λ there. (good.others there).low), (low_spot segments s j e.slots low slot (λ there. (good.slots there).low), tt))))),
-    ((high_spot sections d true e.dynamic tables_end far dd (λ _. good.dynamic.within), (high_spot sections y true e.symbols tables_end far yy (λ _. good.symbols.within),
-    (high_spot sections o c e.others tables_end far oo (λ there. (good.others there).within), (high_spot sections s j e.slots tables_end far slot (λ there. (good.slots there).within), tt)))),
-    ((spots_behind d y true true e.dynamic e.symbols dd yy (λ _ _. order.symbols_dynamic), (spots_behind d o true c e.dynamic e.others dd oo (λ there _. order.others_dynamic there), (spots_behind d s true j e.dynamic e.slots dd slot (λ there _. order.slots_dynamic there), tt))),
-    ((spots_before y o true c e.symbols e.others yy oo (λ _ there. order.symbols_others there), (spots_before y s true j e.symbols e.slots yy slot (λ _ there. order.symbols_slots there), tt)),
-    ((spots_before o s c j e.others e.slots oo slot (λ one two. order.others_slots one two), tt),
-    (tt, tt)))))))
+      (
+        share_before header_window segments (omega (arith, at)),
+        (
+          share_before header_window sections (omega (arith, past)),
+          (
+            low_spot header_window d true e.dynamic (omega arith) dd (λ _. good.dynamic.low),
+            (low_spot header_window y true e.symbols (omega arith) yy (λ _. good.symbols.low), (low_spot header_window o c e.others (omega arith) oo (λ there. (good.others there).low), (low_spot header_window s j e.slots (omega arith) slot (λ there. (good.slots there).low), tt))),
+          ),
+        ),
+      ),
+      (
+        (
+          share_before segments sections (omega (arith, low, past)),
+          (
+            low_spot segments d true e.dynamic low dd (λ _. good.dynamic.low),
+            (low_spot segments y true e.symbols low yy (λ _. good.symbols.low), (low_spot segments o c e.others low oo (λ there. (good.others there).low), (low_spot segments s j e.slots low slot (λ there. (good.slots there).low), tt))),
+          ),
+        ),
+        (
+          (
+            high_spot sections d true e.dynamic tables_end far dd (λ _. good.dynamic.within),
+            (
+              high_spot sections y true e.symbols tables_end far yy (λ _. good.symbols.within),
+              (high_spot sections o c e.others tables_end far oo (λ there. (good.others there).within), (high_spot sections s j e.slots tables_end far slot (λ there. (good.slots there).within), tt)),
+            ),
+          ),
+          (
+            (spots_behind d y true true e.dynamic e.symbols dd yy (λ _ _. order.symbols_dynamic), (spots_behind d o true c e.dynamic e.others dd oo (λ there _. order.others_dynamic there), (spots_behind d s true j e.dynamic e.slots dd slot (λ there _. order.slots_dynamic there), tt))),
+            (
+              (spots_before y o true c e.symbols e.others yy oo (λ _ there. order.symbols_others there), (spots_before y s true j e.symbols e.slots yy slot (λ _ there. order.symbols_slots there), tt)),
+              (
+                (spots_before o s c j e.others e.slots oo slot (λ one two. order.others_slots one two), tt),
+                (tt, tt),
+              ),
+            ),
+          ),
+        ),
+      ),
+    )
 
 pub segments_low : (p : Plan) (t : Tables) → ((segments_window (planned_header p t)).at ≡ 64) × ((segments_window (planned_header p t)).size ≤ 392)
 unfolding planned_header header_of

@@ -1,20 +1,19 @@
 -- The relocations of a modest recipe are read as its plan says, and acceptance clauses 23 to 29 take them.
-use Rattle.std.proofs.Common.{◌≡◌, ℕ, zero, suc, ◌+◌, ◌-◌, ◌*◌, ◌%◌, ◌^◌, ◌<◌, ◌≤◌, Bool, true, false, List, [], ◌∷◌, ◌++◌, length, map, get_or, Option, Some, None, Result, Ok, refl, sym, ap, subst, ◌∙◌, arith, inl, inr}
-use Rattle.std.specs.Prelude.{◌⊎◌, not, ◌==◌, ◌&&◌, ◌||◌, nat_le, nat_lt, filter, find, min, position, slice_get, codes}
+use Rattle.std.proofs.Common.{◌≡◌, ℕ, zero, suc, ◌+◌, ◌-◌, ◌*◌, ◌%◌, ◌^◌, ◌<◌, ◌≤◌, Bool, true, false, List, [], ◌∷◌, ◌++◌, length, map, get_or, Option, Some, None, Ok, refl, sym, ap, subst, ◌∙◌, arith, inl, inr}
+use Rattle.std.specs.Prelude.{◌⊎◌, not, ◌==◌, ◌&&◌, ◌||◌, nat_lt, filter, min, position, slice_get, codes}
 use Rattle.std.specs.List.{AllByRecursion, flat_map, list_any, position_or_len, range_with_len}
 use Rattle.std.specs.Option.{option_map}
-use Rattle.std.proofs.lemmas.Bool.{cases_Bool, cases_lt, and_parts, false≢true, or_cases, or_right}
+use Rattle.std.proofs.lemmas.Bool.{cases_Bool, cases_lt, false≢true, or_cases, or_right}
 use Rattle.std.proofs.lemmas.Bool.Decides.{nat_tests}
-use Rattle.std.proofs.lemmas.List.{length-map, take_all, drop_all, map-append}
+use Rattle.std.proofs.lemmas.List.{length-map, take_all, drop_all}
 use Rattle.std.proofs.lemmas.List.Sums.{fails_before_first, passes_at_first}
 use Rattle.std.proofs.lemmas.List.Sorted.{IsPermutation-filter_both}
 use Rattle.std.proofs.lemmas.Option.{slice_get-get_or, slice_get-map}
 use Rattle.std.proofs.lemmas.Nat.{mod_below}
 use Rattle.std.proofs.Math.Nat.{mod-lt}
 use Rattle.pl_base.specs.Pairs.{any_pair}
-use Rattle.pl_base.specs.Sums.{plus, minus}
+use Rattle.pl_base.specs.Sums.{plus}
 use Rattle.pl_base.specs.Windows.{Window, share, any_share, AllIn}
-use Rattle.pl_base.proofs.AnswerLaws.{refuse_next}
 use Rattle.pl_base.proofs.PairLaws.{any_pair_permuted}
 use Rattle.pl_base.proofs.SumLaws.{plus_below, plus_small, round_up-at_least}
 use Rattle.pl_elf.specs.declared.segment.Segment.{Segment}
@@ -23,11 +22,9 @@ use Rattle.pl_sym.specs.Symbol as seen
 use Rattle.pl_sym.specs.declared.symbol.Symbol as read
 use Rattle.pl_object.specs.FilePart.{nothing, loads_byte, loader, file_window, in_file_part}
 use Rattle.pl_object.specs.PlaceClauses.{is_known, is_bad, first_bad, last_load, is_in_memory, is_held, reloc_outside, rows_of, packed_of, any_outside, reloc_overlap, spots, reloc_in_tables, is_odd, odd_addend, is_misplaced_copy, misplaced_copy, check_places, check_relocs}
-use Rattle.pl_object.specs.Relocations.{width, size_of, relocs, place, places}
+use Rattle.pl_object.specs.Relocations.{width, relocs, place, places}
 use Rattle.pl_object.specs.SymbolClauses.{is_ifunc, has_ifunc}
 use Rattle.pl_object.specs.TableClauses.{meets}
-use Rattle.pl_object.specs.declared.refusal.Refusal.{Refusal}
-use Rattle.pl_object.specs.declared.refusal.Refusal.TheVariants.{Clause}
 use Rattle.pl_object.specs.declared.reloc.Reloc.{Reloc}
 use Rattle.pl_build.specs.declared.layout.Tables.{Tables}
 use Rattle.pl_build.specs.declared.line.Addend.{Addend}
@@ -36,26 +33,25 @@ use Rattle.pl_build.specs.declared.line.Symbol.{Symbol}
 use Rattle.pl_build.specs.declared.plan.Plan.{Plan}
 use Rattle.pl_build.specs.declared.recipe.Recipe.{Recipe}
 use Rattle.pl_build.specs.declared.recipe.Settings.{Settings}
-use Rattle.pl_build.specs.declared.relocations.Rela.{Rela}
 use Rattle.pl_build.specs.declared.roles.Place.{Place}
 use Rattle.pl_build.specs.Dynamic.{place_of}
 use Rattle.pl_build.specs.File.{type_of, sections_offset}
 use Rattle.pl_build.specs.FileKinds.{is_position_independent}
-use Rattle.pl_build.specs.Layout.{end_of, tables}
+use Rattle.pl_build.specs.Layout.{end_of}
 use Rattle.pl_build.specs.Plan.{plan_of, base_of, data_address, addend_of, is_jump_slot, is_other}
 use Rattle.pl_build.specs.RelocationLines.{is_no_symbol}
 use Rattle.pl_build.specs.Relocations.{rela_bytes, is_written_as, number_at, symbol_number, moved_addend, rela_of, others, jump_slots}
 use Rattle.pl_build.specs.Segments.{readable, first_load, second_load, dynamic_segment, has_data, data_offset}
 use Rattle.pl_build.specs.Symbols.{bucket_of, bucket, is_in, is_undefined, ordered}
-use Rattle.pl_built.specs.Modest.{is_word_kind, has_no_addend, ChangesWord, IsWord, CopiesWord, IsModestRelocation, IsModestSymbol, IsOwn, IsWeakReference, is_at_place_of, IsModest}
+use Rattle.pl_built.specs.Modest.{is_word_kind, has_no_addend, IsWord, CopiesWord, IsModestRelocation, IsModestSymbol, is_at_place_of, IsModest}
 use Rattle.pl_built.specs.Plain.{ArePlain, IsPlain}
 use Rattle.pl_built.specs.Planned.{header_of, planned_header, planned_segments}
-use Rattle.pl_built.specs.Relocs.{planned_symbols, read_as, planned_relocs, RowsAreRead, PlannedRelocsAreRead, AreTaken, PlannedRelocsAreTaken}
+use Rattle.pl_built.specs.Relocs.{planned_symbols, read_as, planned_relocs, PlannedRelocsAreRead, PlannedRelocsAreTaken}
 use Rattle.pl_built.specs.Rows.{FitsRela, reloc_of}
-use Rattle.pl_built.specs.Symbols.{null_symbol, planned_symbol}
+use Rattle.pl_built.specs.Symbols.{planned_symbol}
 use Rattle.pl_built.proofs.ClauseLaws.{not_above, at_most, not_at_most, shown}
 use Rattle.pl_built.proofs.FileLaws.{names_of}
-use Rattle.pl_built.proofs.HeadLaws.{base_small, data_small, plain_settings}
+use Rattle.pl_built.proofs.HeadLaws.{data_small, plain_settings}
 use Rattle.pl_built.proofs.HeadedLaws.{IsTable, laid_tables, found_place, dynamic_there, segments_shown, there_is, parts_before}
 use Rattle.pl_built.proofs.RowLaws.{relocs_read}
 
@@ -95,9 +91,9 @@ other_from : (a b : ℕ) → (a == b) ≡ false → (a < b) ⊎ (b < a)
 other_from a b h = elim (cases_lt a b) [
   | inl below ↦ inl below
   | inr past ↦ elim (cases_lt b a) [
-      | inl above ↦ inr above
-      | inr near ↦ absurd (false≢true (sym h ∙ equal a b (omega (arith, past, near))))
-    ]
+    | inl above ↦ inr above
+    | inr near ↦ absurd (false≢true (sym h ∙ equal a b (omega (arith, past, near))))
+  ]
 ]
 
 -- ---- lists
@@ -225,12 +221,12 @@ by_kind : (P : ℕ → Type 0) → P 1 → P 6 → P 7 → P 8 → (k : ℕ) →
 by_kind P one six seven eight k h = elim (or_cases (k == 1 || k == 6 || k == 7) (k == 8) h) [
   | inr e ↦ subst P (sym (same_from k 8 e)) eight
   | inl h3 ↦ elim (or_cases (k == 1 || k == 6) (k == 7) h3) [
-      | inr e ↦ subst P (sym (same_from k 7 e)) seven
-      | inl h2 ↦ elim (or_cases (k == 1) (k == 6) h2) [
-          | inr e ↦ subst P (sym (same_from k 6 e)) six
-          | inl e ↦ subst P (sym (same_from k 1 e)) one
-        ]
+    | inr e ↦ subst P (sym (same_from k 7 e)) seven
+    | inl h2 ↦ elim (or_cases (k == 1) (k == 6) h2) [
+      | inr e ↦ subst P (sym (same_from k 6 e)) six
+      | inl e ↦ subst P (sym (same_from k 1 e)) one
     ]
+  ]
 ]
 
 word_known : (k : ℕ) → is_word_kind k ≡ true → is_known k ≡ true
@@ -497,9 +493,9 @@ none_outside s program tables_end dynamic (x ∷ rs) plain le all =
 apart : (a o q : ℕ) → o % 8 ≡ 0 → q % 8 ≡ 0 → (o == q) ≡ false → share (record { at = a + o; size = 8 }) (record { at = a + q; size = 8 }) ≡ false
 apart a o q even also other = elim (other_from o q other) [
   | inl before ↦ elim (cases_Bool (nat_lt (a + o) (a + q + 8))) [
-      | inl lt ↦ rw (lt, not_above (a + o + 8) (a + q) (omega (arith, even, also, before))) refl
-      | inr ge ↦ rw ge refl
-    ]
+    | inl lt ↦ rw (lt, not_above (a + o + 8) (a + q) (omega (arith, even, also, before))) refl
+    | inr ge ↦ rw ge refl
+  ]
   | inr behind ↦ rw (not_above (a + q + 8) (a + o) (omega (arith, even, also, behind))) refl
 ]
 
@@ -596,9 +592,9 @@ odd_not p x plain = elim (cases_Bool (has_no_addend x.kind)) [
     no_relative k h = elim (or_cases (k == 6 || k == 7) (k == 5) h) [
       | inr e ↦ rw (same_from k 5 e) refl
       | inl h2 ↦ elim (or_cases (k == 6) (k == 7) h2) [
-          | inr e ↦ rw (same_from k 7 e) refl
-          | inl e ↦ rw (same_from k 6 e) refl
-        ]
+        | inr e ↦ rw (same_from k 7 e) refl
+        | inl e ↦ rw (same_from k 6 e) refl
+      ]
     ]
 
 none_odd : (r : Recipe) (rs : List Relocation) → AllByRecursion (IsModestRelocation r) rs → odd_addend (read_as (plan_of r) rs) ≡ false
@@ -631,9 +627,9 @@ unfolding is_ifunc planned_symbol
 no_function p s x m =
     let other : (x.kind == 10) ≡ false = elim m.form [
       | inl own ↦ elim own.kind [
-          | inl object ↦ rw object refl
-          | inr function ↦ rw function refl
-        ]
+        | inl object ↦ rw object refl
+        | inr function ↦ rw function refl
+      ]
       | inr weak ↦ rw weak.kind refl
     ] in
     second_false (not (seen.is_undefined (planned_symbol p x))) (x.kind == 10) other
@@ -733,13 +729,13 @@ relocs_taken r t windows plain m e few low =
     let ws : List Window = record { at = (planned_header p t).shoff; size = 64 * (planned_header p t).shnum } ∷ windows in
     record {
       places =
-        ap (λ (k : ℕ). check_relocs (k == 2) (planned_segments p t) ws (length (planned_symbols p)) 0 (planned_relocs p)) (kind_is p t)
-        ∙ ap (λ (ss : List Segment). check_relocs (type_of p.settings == 2) ss ws (length (planned_symbols p)) 0 (planned_relocs p)) shown_so
-        ∙ ap (λ (l : List Reloc). check_relocs (type_of p.settings == 2) (segments_of p.settings (end_of t) place) ws (length (planned_symbols p)) 0 l) (planned_as p)
-        ∙ by_places r (end_of t) place ws plain m rows.0 few off;
+          ap (λ (k : ℕ). check_relocs (k == 2) (planned_segments p t) ws (length (planned_symbols p)) 0 (planned_relocs p)) (kind_is p t)
+          ∙ ap (λ (ss : List Segment). check_relocs (type_of p.settings == 2) ss ws (length (planned_symbols p)) 0 (planned_relocs p)) shown_so
+          ∙ ap (λ (l : List Reloc). check_relocs (type_of p.settings == 2) (segments_of p.settings (end_of t) place) ws (length (planned_symbols p)) 0 l) (planned_as p)
+          ∙ by_places r (end_of t) place ws plain m rows.0 few off;
       functions = no_functions p r.settings p.symbols symbols;
       copies =
-        ap (λ (k : ℕ). misplaced_copy (k == 2) (planned_relocs p)) (kind_is p t)
-        ∙ ap (misplaced_copy (type_of p.settings == 2)) (planned_as p)
-        ∙ copies_placed r rs plain few all;
+          ap (λ (k : ℕ). misplaced_copy (k == 2) (planned_relocs p)) (kind_is p t)
+          ∙ ap (misplaced_copy (type_of p.settings == 2)) (planned_as p)
+          ∙ copies_placed r rs plain few all;
     }

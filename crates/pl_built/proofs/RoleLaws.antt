@@ -187,11 +187,30 @@ IsTold p role = (places : List Place) → (length (contents p places role) == 0)
 plain_told : (p : Plan) (a b : Bool) → 0 < length p.strings.bytes → AllByRecursion (IsTold p) (plain_roles a b (list_any is_other p.relocations) (list_any is_jump_slot p.relocations))
 unfolding contents
 plain_told p a b some = all_chosen (IsTold p) _ (
-    λ _ places. refl, (λ _ places. some_bytes (sysv_table p) (some_sysv p), (λ _ places. some_bytes (gnu_table p) (some_gnu p),
-    (λ _ places. some_bytes (symbol_table p) (some_symbols p), (λ _ places. some_bytes p.strings.bytes some,
-    (λ h places. some_bytes (others p) (some_others p h), (λ h places. some_bytes (jump_slots p) (some_slots p h),
-    (λ _ places. some_bytes (dynamic_table p places) (some_dynamic p places),
-    (λ _ places. refl, (λ _ places. refl, (λ _ places. refl, tt)))))))))))
+  λ _ places. refl,
+  (
+    λ _ places. some_bytes (sysv_table p) (some_sysv p),
+    (
+      λ _ places. some_bytes (gnu_table p) (some_gnu p),
+      (
+        λ _ places. some_bytes (symbol_table p) (some_symbols p),
+        (
+          λ _ places. some_bytes p.strings.bytes some,
+          (
+            λ h places. some_bytes (others p) (some_others p h),
+            (
+              λ h places. some_bytes (jump_slots p) (some_slots p h),
+              (
+                λ _ places. some_bytes (dynamic_table p places) (some_dynamic p places),
+                (λ _ places. refl, (λ _ places. refl, (λ _ places. refl, tt))),
+              ),
+            ),
+          ),
+        ),
+      ),
+    ),
+  ),
+)
 
 abbrev pub role_of : Place → Role
 role_of place = place.role

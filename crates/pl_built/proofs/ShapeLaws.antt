@@ -1,11 +1,9 @@
 -- The tables of a plain recipe's file by what they hold: where they are, and that they stand one after the other.
-use Rattle.std.proofs.Common.{◌≡◌, ℕ, ◌+◌, ◌%◌, ◌<◌, ◌≤◌, Bool, true, false, List, [], ◌∷◌, ◌++◌, length, map, Ok, refl, sym, ap, subst, ◌∙◌, append_assoc, arith, inl, inr}
+use Rattle.std.proofs.Common.{◌≡◌, ℕ, ◌+◌, ◌<◌, ◌≤◌, Bool, true, false, List, [], ◌∷◌, ◌++◌, length, map, Ok, refl, sym, ap, subst, ◌∙◌, append_assoc, arith, inl, inr}
 use Rattle.std.specs.Prelude.{filter}
-use Rattle.std.specs.List.{AllByRecursion, flat_map, list_any}
+use Rattle.std.specs.List.{AllByRecursion, list_any}
 use Rattle.std.proofs.lemmas.Bool.{cases_Bool, false≢true}
 use Rattle.std.proofs.lemmas.List.{append-nil}
-use Rattle.pl_base.specs.Bytes.{part}
-use Rattle.pl_base.specs.Windows.{Window}
 use Rattle.pl_base.proofs.AnswerLaws.{ok_same}
 use Rattle.pl_base.proofs.SumLaws.{plus_small}
 use Rattle.pl_base.proofs.WindowLaws.{length-part}
@@ -16,16 +14,16 @@ use Rattle.pl_build.specs.declared.plan.Plan.{Plan}
 use Rattle.pl_build.specs.declared.recipe.Recipe.{Recipe}
 use Rattle.pl_build.specs.declared.roles.Place.{Place}
 use Rattle.pl_build.specs.declared.roles.Role.{Role}
-use Rattle.pl_build.specs.declared.roles.Role.TheVariants.{Null, Interp, Hash, GnuHash, Dynsym, Dynstr, Versym, Verdef, Verneed, RelaDyn, RelaPlt, RelrDyn, Dynamic, Data, Bss, Shstrtab}
+use Rattle.pl_build.specs.declared.roles.Role.TheVariants.{Hash, GnuHash, Dynsym, Dynstr, RelaDyn, RelaPlt, Dynamic}
 use Rattle.pl_build.specs.Choices.{chosen}
 use Rattle.pl_build.specs.File.{made}
 use Rattle.pl_build.specs.Layout.{contents, end_of, tables}
 use Rattle.pl_build.specs.Plan.{plan_of, base_of, is_jump_slot, is_other}
-use Rattle.pl_built.specs.Loaded.{memory_of, IsLoaded, AreLoaded}
+use Rattle.pl_built.specs.Loaded.{memory_of, AreLoaded}
 use Rattle.pl_built.specs.Plain.{IsPlain}
 use Rattle.pl_built.specs.Planned.{is_table, planned_segments}
 use Rattle.pl_built.specs.Shape.{Extent, Extents, place_in, rows_before, before_dynamic}
-use Rattle.pl_built.specs.Standing.{Stands, AreStanding}
+use Rattle.pl_built.specs.Standing.{AreStanding}
 use Rattle.pl_built.proofs.FileLaws.{files_hold}
 use Rattle.pl_built.proofs.HeadLaws.{base_small}
 use Rattle.pl_built.proofs.HeadedLaws.{IsTable, laid_tables}
@@ -156,16 +154,18 @@ all_good : (p : Plan) (bytes : List ℕ) (ss : List Segment) (tables_end from : 
     → AllByRecursion (IsGood p ss tables_end) places
 all_good p bytes ss tables_end from before [] fits tables standing loaded = tt
 all_good p bytes ss tables_end from before (place ∷ places) fits tables standing loaded =
-    let s = standing.0 in
-    (record {
-      some = tables.0.some;
-      low = tables.0.low;
-      within = tables.0.within;
-      address = s.address ∙ plus_small (base_of p.settings) place.offset (omega (arith, base_small p.settings, tables.0.within, fits));
-      window = loaded.0.window;
-      before = before;
-      long = sym (length-part place.offset place.size bytes s.within) ∙ ap (λ (l : List ℕ). length l) s.holds;
-    }, all_good p bytes ss tables_end (place.offset + place.size) (before ++ place ∷ []) places fits tables.1 standing.1 loaded.1)
+    let s = standing.0 in (
+      record {
+        some = tables.0.some;
+        low = tables.0.low;
+        within = tables.0.within;
+        address = s.address ∙ plus_small (base_of p.settings) place.offset (omega (arith, base_small p.settings, tables.0.within, fits));
+        window = loaded.0.window;
+        before = before;
+        long = sym (length-part place.offset place.size bytes s.within) ∙ ap (λ (l : List ℕ). length l) s.holds;
+      },
+      all_good p bytes ss tables_end (place.offset + place.size) (before ++ place ∷ []) places fits tables.1 standing.1 loaded.1,
+    )
 
 -- its bytes are loaded
 pub record IsHeld (p : Plan) (bytes : List ℕ) (ss : List Segment) (place : Place) : Type 0 where
@@ -250,14 +250,17 @@ placed r bytes plain e =
     let rows = laid_tables p t held.1 in
     let shape : IsShaped r t.places = shaped r t plain held.1 in
     let good : AllByRecursion (IsGood p ss (end_of t)) t.places = all_good p bytes ss (end_of t) 1024 [] t.places rows.0 rows.1 held.2 there in
-    let later : Later t.places = all_later p bytes 1024 [] t.places held.2 in
-    (t, held.1, record {
-      shape = shape;
-      fits = rows.0;
-      good = rows_all (IsGood p ss (end_of t)) (rows_of r shape.extents) (subst (AllByRecursion (IsGood p ss (end_of t))) shape.is good);
-      later = rows_later (rows_of r shape.extents) (subst Later shape.is later);
-      held = rows_all (IsHeld p bytes ss) (rows_of r shape.extents) (subst (AllByRecursion (IsHeld p bytes ss)) shape.is (all_held p bytes ss [] t.places there));
-      dynamic =
-        last_held p bytes ss [] (before_dynamic r shape.extents) (place_in Dynamic shape.extents.dynamic)
-        (subst (AreLoaded p bytes ss []) (shape.is ∙ dynamic_last r shape.extents) there);
-    })
+    let later : Later t.places = all_later p bytes 1024 [] t.places held.2 in (
+      t,
+      held.1,
+      record {
+        shape = shape;
+        fits = rows.0;
+        good = rows_all (IsGood p ss (end_of t)) (rows_of r shape.extents) (subst (AllByRecursion (IsGood p ss (end_of t))) shape.is good);
+        later = rows_later (rows_of r shape.extents) (subst Later shape.is later);
+        held = rows_all (IsHeld p bytes ss) (rows_of r shape.extents) (subst (AllByRecursion (IsHeld p bytes ss)) shape.is (all_held p bytes ss [] t.places there));
+        dynamic =
+            last_held p bytes ss [] (before_dynamic r shape.extents) (place_in Dynamic shape.extents.dynamic)
+            (subst (AreLoaded p bytes ss []) (shape.is ∙ dynamic_last r shape.extents) there);
+      },
+    )

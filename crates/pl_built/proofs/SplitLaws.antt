@@ -49,6 +49,7 @@ stands_at s text i lt =
   where
     at_most : (a b : ℕ) → a ≤ b → nat_le a b ≡ true
     at_most a b le = grind (arith, nat_tests)
+
     one : (b : Bool) → (b && true) ≡ b
     one true = refl
     one false = refl
@@ -64,16 +65,16 @@ unfolding matches_from split_at split_by
 walked s text zero last i le within count = absurd (omega (arith, within, count))
 walked s text (suc n) last i le within count = elim (cases_lt i (length text)) [
   | inl lt ↦ elim (cases_Bool (get_or text i 0 == s)) [
-      | inl ends ↦
-          let next = walked s text n (i + 1) (i + 1) (omega arith) (omega (arith, lt)) (omega (arith, count)) in
-          rw (stands_at s text i lt, ends, cut text i lt, ends) (
-          ap (λ (ps : List (List ℕ)). part last i text ∷ ps) (next ∙ ap (λ (l : List ℕ). ahead l (split_by s (drop (i + 1) text))) (part_none text (i + 1)) ∙ ahead_nothing (split_by s (drop (i + 1) text)))
-          ∙ ap (λ (l : List ℕ). l ∷ split_by s (drop (i + 1) text)) (sym (append-nil (part last i text))))
-      | inr goes ↦
-          let next = walked s text n last (i + 1) (omega (arith, le)) (omega (arith, lt)) (omega (arith, count)) in
-          rw (stands_at s text i lt, goes, cut text i lt, goes) (
-          next ∙ ap (λ (l : List ℕ). ahead l (split_by s (drop (i + 1) text))) (part_more text last i le lt) ∙ ahead_more (part last i text) (get_or text i 0) (split_by s (drop (i + 1) text)))
-    ]
+    | inl ends ↦
+        let next = walked s text n (i + 1) (i + 1) (omega arith) (omega (arith, lt)) (omega (arith, count)) in
+        rw (stands_at s text i lt, ends, cut text i lt, ends) (
+        ap (λ (ps : List (List ℕ)). part last i text ∷ ps) (next ∙ ap (λ (l : List ℕ). ahead l (split_by s (drop (i + 1) text))) (part_none text (i + 1)) ∙ ahead_nothing (split_by s (drop (i + 1) text)))
+        ∙ ap (λ (l : List ℕ). l ∷ split_by s (drop (i + 1) text)) (sym (append-nil (part last i text))))
+    | inr goes ↦
+        let next = walked s text n last (i + 1) (omega (arith, le)) (omega (arith, lt)) (omega (arith, count)) in
+        rw (stands_at s text i lt, goes, cut text i lt, goes) (
+        next ∙ ap (λ (l : List ℕ). ahead l (split_by s (drop (i + 1) text))) (part_more text last i le lt) ∙ ahead_more (part last i text) (get_or text i 0) (split_by s (drop (i + 1) text)))
+  ]
   | inr past ↦
       let here : i ≡ length text = omega (arith, past, within) in
       let none : n ≡ 0 = omega (arith, here, count) in

@@ -62,12 +62,12 @@ unfolding section_of
 section_small p s few = elim (cases_Bool s.defined) [
   | inr undefined ↦ rw undefined (omega arith)
   | inl defined ↦ elim (cases_Bool (s.kind == 0)) [
-      | inl absolute ↦ rw (defined, absolute) (omega arith)
-      | inr other ↦ elim (cases_Bool (s.kind == 6 || nat_lt s.offset p.settings.data_size)) [
-          | inl data_section ↦ rw (defined, other, data_section) (omega (arith, few, index_small p.roles (codes ".data")))
-          | inr zeros ↦ rw (defined, other, zeros) (omega (arith, few, index_small p.roles (codes ".bss")))
-        ]
+    | inl absolute ↦ rw (defined, absolute) (omega arith)
+    | inr other ↦ elim (cases_Bool (s.kind == 6 || nat_lt s.offset p.settings.data_size)) [
+      | inl data_section ↦ rw (defined, other, data_section) (omega (arith, few, index_small p.roles (codes ".data")))
+      | inr zeros ↦ rw (defined, other, zeros) (omega (arith, few, index_small p.roles (codes ".bss")))
     ]
+  ]
 ]
 
 value_small : (p : Plan) (s : Symbol) → s.offset < 2 ^ 64 → value_of p s < 2 ^ 64
@@ -75,9 +75,9 @@ unfolding value_of
 value_small p s fits = elim (cases_Bool s.placed) [
   | inr nowhere ↦ rw nowhere (omega arith)
   | inl placed ↦ elim (cases_Bool (has_no_address s)) [
-      | inl number ↦ rw (placed, number) fits
-      | inr address ↦ rw (placed, address) (plus_below (data_address p.settings) s.offset)
-    ]
+    | inl number ↦ rw (placed, number) fits
+    | inr address ↦ rw (placed, address) (plus_below (data_address p.settings) s.offset)
+  ]
 ]
 
 entry_fits : (p : Plan) (s : Symbol) → AreTexts p.strings → length p.strings.bytes < 2 ^ 32 → length p.roles ≤ 11 → IsSound s → FitsEntry (entry_of p s)

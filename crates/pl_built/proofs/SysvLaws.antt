@@ -164,14 +164,16 @@ first_before buckets from b m le lt same =
       | inr past ↦ past
     ] in
     let inside : k < length rest = omega (arith, near, le, lt, length-drop from buckets) in
-    let hit : (get_or rest k 0 == b) ≡ true = passes_at_first (λ n. n == b) rest 0 inside in
-    (record {
-      index = from + k;
-      is = rw (below_true k (length rest) inside) refl;
-      after = omega arith;
-      within = omega (arith, near, le, lt);
-      same = subst (λ (x : ℕ). (x == b) ≡ true) (get_or-drop from buckets k 0) hit;
-    }, omega (arith, near, le))
+    let hit : (get_or rest k 0 == b) ≡ true = passes_at_first (λ n. n == b) rest 0 inside in (
+      record {
+        index = from + k;
+        is = rw (below_true k (length rest) inside) refl;
+        after = omega arith;
+        within = omega (arith, near, le, lt);
+        same = subst (λ (x : ℕ). (x == b) ≡ true) (get_or-drop from buckets k 0) hit;
+      },
+      omega (arith, near, le),
+    )
 
 -- ---- a table with these links
 
@@ -237,8 +239,10 @@ chain_holds t buckets (suc steps) j m is le lt same enough = elim (cases_lt j m)
   where
     first_is : (a b : ℕ) (l : List ℕ) → a ≡ b → list_any (λ k. k == b + 1) ((a + 1) ∷ l) ≡ true
     first_is a b l e = rw (equal (a + 1) (b + 1) (omega (arith, e))) refl
+
     both_same : (a b c : ℕ) → (a == c) ≡ true → (b == c) ≡ true → (a == b) ≡ true
     both_same a b c one two = grind (arith, nat_tests)
+
     behind : (a b : Bool) → b ≡ true → (a || b) ≡ true
     behind true b h = refl
     behind false b h = h
@@ -329,8 +333,8 @@ is_sysv count buckets few = record {
   plain = refl;
   symbols = refl;
   links = λ j lt.
-    ap (λ (at : ℕ). word32 at (table_of count buckets).words) (link_place count buckets (j + 1) few ∙ (let e : 4 * (count + 2 + (j + 1)) ≡ 4 * (count + 3 + j) = omega arith in e))
-    ∙ table_word count buckets (count + 3 + j) few (omega (arith, lt)) ∙ next_at count buckets j lt;
+      ap (λ (at : ℕ). word32 at (table_of count buckets).words) (link_place count buckets (j + 1) few ∙ (let e : 4 * (count + 2 + (j + 1)) ≡ 4 * (count + 3 + j) = omega arith in e))
+      ∙ table_word count buckets (count + 3 + j) few (omega (arith, lt)) ∙ next_at count buckets j lt;
   linked = λ j lt. rw (at_most 0 (j + 1) (omega arith), below_true (j + 1) (length buckets + 1) (omega (arith, lt)), at_most (link_at (table_of count buckets) (j + 1) + 4) (length (table_of count buckets).words) (omega (arith, lt, link_place count buckets (j + 1) few, table_long count buckets))) refl;
 }
 
@@ -429,8 +433,10 @@ own_bucket p i d some lt = own p.symbols i lt
   where
     bucket_by : Symbol → ℕ
     bucket_by s = bucket_of p.settings.buckets (sysv s.name)
+
     not_none : (n : ℕ) → 0 < n → (n == 0) ≡ false
     not_none n h = grind (arith, nat_tests)
+
     own : (symbols : List Symbol) (i : ℕ) → i < length symbols → (get_or (map (λ s. bucket_of p.settings.buckets (sysv s.name)) symbols) i 0 == sysv (get_or symbols i d).name % p.settings.buckets) ≡ true
     own [] i lt = absurd (omega (arith, lt))
     own (s ∷ symbols) zero lt = rw (not_none p.settings.buckets some) (equal (sysv s.name % p.settings.buckets) (sysv s.name % p.settings.buckets) refl)
@@ -440,5 +446,5 @@ pub sysv_whole : SysvIsWhole
 sysv_whole p fits = record {
   formed = subst (λ (t : Table). well_formed t ≡ true) (sym (same_table p)) (table_formed p.settings.buckets (sysv_buckets p) (few_of p fits));
   leads = λ i d lt. subst (λ (t : Table). is_candidate t (sysv (get_or p.symbols i d).name) (i + 1) ≡ true) (sym (same_table p))
-    (table_leads p.settings.buckets (sysv_buckets p) (sysv (get_or p.symbols i d).name) i (few_of p fits) (omega (arith, lt, buckets_count p)) (own_bucket p i d fits.some lt));
+      (table_leads p.settings.buckets (sysv_buckets p) (sysv (get_or p.symbols i d).name) i (few_of p fits) (omega (arith, lt, buckets_count p)) (own_bucket p i d fits.some lt));
 }

@@ -68,6 +68,7 @@ count_once n (m ∷ ns) h =
   where
     same_number : (a b : ℕ) → (a == b) ≡ true → a ≡ b
     same_number a b h = grind (arith, nat_tests)
+
     not_true : (b : Bool) → not b ≡ true → b ≡ false
     not_true true h = absurd (false≢true h)
     not_true false h = refl
@@ -157,8 +158,21 @@ planned_once n p places other =
     let c : List Tag = packed_tags places in
     let d : List Tag = version_tags p places in
     let e : List Tag = usual_tags p in
-    omega (arith, once n, needed_count n p p.needed other, table_count n p places, relocation_count n places, packed_count n places, version_count n p places, usual_count n p,
-    count_append q needed a, count_append q (needed ++ a) b, count_append q (needed ++ a ++ b) c, count_append q (needed ++ a ++ b ++ c) d, count_append q (needed ++ a ++ b ++ c ++ d) e)
+    omega (
+      arith,
+      once n,
+      needed_count n p p.needed other,
+      table_count n p places,
+      relocation_count n places,
+      packed_count n places,
+      version_count n p places,
+      usual_count n p,
+      count_append q needed a,
+      count_append q (needed ++ a) b,
+      count_append q (needed ++ a ++ b) c,
+      count_append q (needed ++ a ++ b ++ c) d,
+      count_append q (needed ++ a ++ b ++ c ++ d) e,
+    )
 
 -- ---- each tag is known, and none ends the table
 
@@ -219,8 +233,10 @@ no_twice ts once = none_found (λ t. not (t.number == 1) && nat_lt 1 (count_by (
   where
     flipped : (n : ℕ) → (n == 1) ≡ false → (1 == n) ≡ false
     flipped n h = grind (arith, nat_tests)
+
     not_above : (c : ℕ) → c ≤ 1 → nat_lt 1 c ≡ false
     not_above c le = grind (arith, nat_tests)
+
     one : (n : ℕ) → (not (n == 1) && nat_lt 1 (count_by (has_number n) ts)) ≡ false
     one n = elim (cases_Bool (n == 1)) [
       | inl needed ↦ rw needed refl
@@ -285,6 +301,7 @@ read_rows bytes ts spare rows even known once =
   where
     some : (n : ℕ) → nat_lt 0 (suc n) ≡ true
     some n = grind (arith, nat_tests)
+
     last : ◌≡◌ {A = Result Dynamic DynFault} (Ok (record { tags = ts; spare = suc spare - 1 })) (Ok (record { tags = ts; spare = spare }))
     last = ap (λ (n : ℕ). Ok (record { tags = ts; spare = n })) (let e : suc spare - 1 ≡ spare = omega arith in e)
 

@@ -86,9 +86,9 @@ unfolding text_added is_old
 kept_text s other text h = elim (cases_Bool (is_old s other)) [
   | inl old ↦ rw old h
   | inr new ↦ elim (cases_Bool (bytes_eq text [])) [
-      | inl empty ↦ rw empty refl
-      | inr some ↦ rw (new, some) (any_behind (has_text text) s.entries (record { text = other; at = length s.bytes } ∷ []) (rw some at h))
-    ]
+    | inl empty ↦ rw empty refl
+    | inr some ↦ rw (new, some) (any_behind (has_text text) s.entries (record { text = other; at = length s.bytes } ∷ []) (rw some at h))
+  ]
 ]
 
 pub new_text : (s : Strings) (text : List ℕ) → is_old (text_added s text) text ≡ true

@@ -1,8 +1,8 @@
 -- The values of a plan's tags.
-use Rattle.std.proofs.Common.{◌≡◌, ℕ, ◌+◌, Bool, true, false, List, [], ◌∷◌, ◌++◌, length, map, Option, Some, None, refl, sym, ap, ◌∙◌, append_assoc, inl, inr}
-use Rattle.std.specs.Prelude.{not, ◌==◌, ◌&&◌, filter, find, codes, unwrap_or, if◌then◌else◌}
+use Rattle.std.proofs.Common.{◌≡◌, ℕ, ◌+◌, Bool, true, false, List, [], ◌∷◌, ◌++◌, length, map, Option, Some, None, refl, ap, ◌∙◌, append_assoc, inl, inr}
+use Rattle.std.specs.Prelude.{not, ◌==◌, ◌&&◌, codes, if◌then◌else◌}
 use Rattle.std.proofs.lemmas.Bool.{cases_Bool}
-use Rattle.pl_dyn.specs.Read.{has_number, first_of, value_in, value_of}
+use Rattle.pl_dyn.specs.Read.{first_of, value_of}
 use Rattle.pl_dyn.specs.declared.tags.Tag.{Tag}
 use Rattle.pl_build.specs.declared.plan.Plan.{Plan}
 use Rattle.pl_build.specs.declared.roles.Place.{Place}
@@ -23,13 +23,13 @@ unfolding value_of first_of chosen
 value_chosen n [] = refl
 value_chosen n (c ∷ cs) = elim (cases_Bool c.0) [
   | inl there ↦ elim (cases_Bool (c.1.number == n)) [
-      | inl hit ↦ rw (there, hit) refl
-      | inr miss ↦ rw (there, miss) (value_chosen n cs)
-    ]
+    | inl hit ↦ rw (there, hit) refl
+    | inr miss ↦ rw (there, miss) (value_chosen n cs)
+  ]
   | inr missing ↦ elim (cases_Bool (c.1.number == n)) [
-      | inl hit ↦ rw (missing, hit) (value_chosen n cs)
-      | inr miss ↦ rw (missing, miss) (value_chosen n cs)
-    ]
+    | inl hit ↦ rw (missing, hit) (value_chosen n cs)
+    | inr miss ↦ rw (missing, miss) (value_chosen n cs)
+  ]
 ]
 
 pub chosen_append : {T : Type 0} (xs ys : List (Bool × T)) → chosen xs ++ chosen ys ≡ chosen (xs ++ ys)
@@ -118,11 +118,11 @@ unfolding place_of chosen
 place_chosen name [] = refl
 place_chosen name (c ∷ cs) = elim (cases_Bool c.0) [
   | inl there ↦ elim (cases_Bool (is_at name c.1)) [
-      | inl hit ↦ rw (there, hit) refl
-      | inr miss ↦ rw (there, miss) (place_chosen name cs)
-    ]
+    | inl hit ↦ rw (there, hit) refl
+    | inr miss ↦ rw (there, miss) (place_chosen name cs)
+  ]
   | inr missing ↦ elim (cases_Bool (is_at name c.1)) [
-      | inl hit ↦ rw (missing, hit) (place_chosen name cs)
-      | inr miss ↦ rw (missing, miss) (place_chosen name cs)
-    ]
+    | inl hit ↦ rw (missing, hit) (place_chosen name cs)
+    | inr miss ↦ rw (missing, miss) (place_chosen name cs)
+  ]
 ]

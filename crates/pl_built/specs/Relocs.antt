@@ -1,6 +1,5 @@
 -- The relocations of a built file.
-use Rattle.std.specs.Prelude.{◌≡◌, ◌<◌, ℕ, ◌+◌, ◌^◌, false, ◌==◌, List, ◌∷◌, ◌++◌, length, map, filter, Ok}
-use Rattle.std.specs.List.{AllByRecursion}
+use Rattle.std.specs.Prelude.{◌≡◌, ◌<◌, ◌+◌, ◌^◌, false, ◌==◌, List, ◌∷◌, ◌++◌, length, map, filter, Ok}
 use Rattle.pl_base.specs.Windows.{Window, AllIn}
 use Rattle.pl_elf.specs.declared.constants.TheConstants.{ET_EXEC}
 use Rattle.pl_sym.specs.declared.symbol.Symbol as read
@@ -52,4 +51,4 @@ pub record AreTaken (p : Plan) (t : Tables) (windows : List Window) : Type 0 whe
 
 abbrev pub PlannedRelocsAreTaken : Type 0
 PlannedRelocsAreTaken =
-  (r : Recipe) (t : Tables) (windows : List Window) → IsPlain r → IsModest r → tables (plan_of r) ≡ Ok t → length (plan_of r).symbols + 1 < 2 ^ 32 → AllIn (end_of t) windows → AreTaken (plan_of r) t windows
+    (r : Recipe) (t : Tables) (windows : List Window) → IsPlain r → IsModest r → tables (plan_of r) ≡ Ok t → length (plan_of r).symbols + 1 < 2 ^ 32 → AllIn (end_of t) windows → AreTaken (plan_of r) t windows

@@ -1,16 +1,14 @@
 -- The tables of a plain recipe's file by what they hold, and where its tags and sections say that they are.
-use Rattle.std.specs.Prelude.{◌≡◌, ℕ, ◌+◌, Bool, true, List, [], ◌∷◌, ◌++◌, Ok, if◌then◌else◌}
+use Rattle.std.specs.Prelude.{◌≡◌, ℕ, Bool, true, List, [], ◌∷◌, ◌++◌, Ok, if◌then◌else◌}
 use Rattle.std.specs.List.{list_any}
-use Rattle.pl_base.specs.Windows.{Window, AllIn}
+use Rattle.pl_base.specs.Windows.{Window}
 use Rattle.pl_elf.specs.declared.section.Section.{Section}
-use Rattle.pl_elf.specs.declared.segment.Segment.{Segment}
 use Rattle.pl_dyn.specs.declared.constants.TheConstants.{DT_HASH, DT_GNU_HASH}
 use Rattle.pl_dyn.specs.declared.tags.Tag.{Tag}
 use Rattle.pl_object.specs.FilePart.{nothing}
 use Rattle.pl_object.specs.TableClauses.{check_tables}
 use Rattle.pl_object.specs.Tables.{symbols_memory, strings_memory, rela_memory, jmprel_memory, section_memory, relr_memory}
 use Rattle.pl_build.specs.declared.layout.Tables.{Tables}
-use Rattle.pl_build.specs.declared.plan.Plan.{Plan}
 use Rattle.pl_build.specs.declared.recipe.Recipe.{Recipe}
 use Rattle.pl_build.specs.declared.roles.Place.{Place}
 use Rattle.pl_build.specs.declared.roles.Role.{Role}
