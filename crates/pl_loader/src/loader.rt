@@ -98,8 +98,8 @@ impl<'p, F> Loader<'p, F> {
         self.busy
     }
 
-    /// The policy.
-    fn placer(&self) -> &Placer<F>
+    /// The policy, by which libraries are placed that are not at their slots.
+    pub fn placer(&self) -> &Placer<F>
         ensures { result.now ≡ self.now.policy }
     {
         self.placer
