@@ -20,6 +20,13 @@ is_source_watched ws (Put word) = true
 is_source_watched ws (Copy member from size) = is_watched ws from size
 is_source_watched ws Nothing = true
 
--- windows have all places of a program, which is loaded at 0, and all from which is copied
+-- windows have all places of a program, which is loaded at 0,
+abbrev pub are_places_watched : List Window → List Reloc → Bool
+are_places_watched ws rs = list_all (λ r. is_watched ws r.address r.width) rs
+
+-- and all from which is copied
+abbrev pub are_sources_watched : List Window → List Meaning → Bool
+are_sources_watched ws gs = list_all (λ g. is_source_watched ws g.word) gs
+
 abbrev pub are_watched : List Window → List Reloc → List Meaning → Bool
-are_watched ws rs gs = list_all (λ r. is_watched ws r.address r.width) rs && list_all (λ g. is_source_watched ws g.word) gs
+are_watched ws rs gs = are_places_watched ws rs && are_sources_watched ws gs

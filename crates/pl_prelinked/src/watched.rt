@@ -107,12 +107,25 @@ fn is_source_watched(windows: &[Window], meaning: &Meaning) -> bool
     }
 }
 
+/// Whether windows have all places of a program, which is loaded at 0.
+fn are_places_watched(windows: &[Window], relocs: &[Reloc]) -> bool
+    ensures { result ≡ spec.are_places_watched windows.now relocs.now }
+{
+    relocs.iter().all(|reloc| is_place_watched(windows, reloc))
+}
+
+/// Whether they have all from which is copied.
+fn are_sources_watched(windows: &[Window], meanings: &[Meaning]) -> bool
+    ensures { result ≡ spec.are_sources_watched windows.now meanings.now }
+{
+    meanings
+        .iter()
+        .all(|meaning| is_source_watched(windows, meaning))
+}
+
 /// Whether windows have all places of a program, which is loaded at 0, and all from which is copied.
 pub fn are_watched(windows: &[Window], relocs: &[Reloc], meanings: &[Meaning]) -> bool
     ensures { result ≡ spec.are_watched windows.now relocs.now meanings.now }
 {
-    relocs.iter().all(|reloc| is_place_watched(windows, reloc))
-        && meanings
-            .iter()
-            .all(|meaning| is_source_watched(windows, meaning))
+    are_places_watched(windows, relocs) && are_sources_watched(windows, meanings)
 }
