@@ -29,7 +29,7 @@ pub struct Still<'a> {
 }
 
 /// What the symbol of a reference finds. Symbol 0 is no reference.
-fn sought(scope: &Scope<'_>, reference: Reference) -> Option<Found>
+pub fn sought(scope: &Scope<'_>, reference: Reference) -> Option<Found>
     requires { IsSymbol (objects scope.now) reference.member reference.symbol }
     ensures { IsSought (objects scope.now) reference result }
 {

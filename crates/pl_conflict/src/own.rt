@@ -2,15 +2,15 @@
 ghost use Rattle.std.specs.Prelude.{◌≡◌, ◌<◌, length, map, IfOk};
 ghost use Rattle.std.specs.List.{All};
 ghost use Rattle.pl_scope.specs.Scope.{objects, IsSymbol};
-ghost use Rattle.pl_value.specs.Definers.{IsSought};
 ghost use Rattle.pl_value.specs.Values.{reference};
 ghost use Rattle.pl_conflict.specs.Own as spec;
 
+use crate::among::sought;
 use pl_base::Rows;
 use pl_elf::constants::{R_X86_64_DTPMOD64, R_X86_64_RELATIVE, R_X86_64_TPOFF64};
 use pl_io::NoMemory;
 use pl_object::Reloc;
-use pl_scope::{Found, Kept, Reference, Scope};
+use pl_scope::{Found, Scope};
 use pl_value::{LinkFault, Places, Word, reference_of, word_of};
 use std::alloc::{AllocError, Global};
 
@@ -40,55 +40,42 @@ fn put_in(given: Result<Word, LinkFault>) -> Option<u64>
     }
 }
 
-/// What the symbol of a reference finds, by the answers that are kept. Symbol 0 is no reference.
-fn sought(kept: &mut Kept<'_, '_>, reference: Reference) -> Option<Found>
-    requires { IsSymbol (objects kept.old) reference.member reference.symbol }
-    ensures exact { IsSought (objects kept.old) reference result }
-    ensures same { kept.new ≡ kept.old }
-{
-    if reference.symbol == 0 {
-        return None;
-    }
-    kept.find(reference)
-}
-
 /// The own word of a relocation of the first member.
 #[tactic(auto, unfolding(crate::specs::Own::own_word))]
-fn own_word(kept: &mut Kept<'_, '_>, places: &Places, reloc: &Reloc) -> Option<u64>
-    requires one_each { length places.now ≡ length kept.old }
-    requires reference { IsSymbol (objects kept.old) 0 reloc.now.symbol }
-    ensures exact { result ≡ spec.own_word (objects kept.old) places.now reloc.now }
-    ensures same { kept.new ≡ kept.old }
+fn own_word(scope: &Scope<'_>, places: &Places, reloc: &Reloc) -> Option<u64>
+    requires one_each { length places.now ≡ length scope.now }
+    requires reference { IsSymbol (objects scope.now) 0 reloc.now.symbol }
+    ensures { result ≡ spec.own_word (objects scope.now) places.now reloc.now }
 {
     if is_of_start(reloc.kind) {
         return None;
     }
-    let found = sought(kept, reference_of(0, reloc));
+    let found = sought(scope, reference_of(0, reloc));
     if lacks_definer(reloc, found) {
         return None;
     }
-    put_in(word_of(kept.scope(), places, &[], 0, reloc, found))
+    put_in(word_of(scope, places, &[], 0, reloc, found))
 }
 
 /// The own words of relocations of the first member, in their order.
 fn words_of(
     alloc: Global,
-    kept: &mut Kept<'_, '_>,
+    scope: &Scope<'_>,
     places: &Places,
     relocs: &[Reloc],
 ) -> Result<Rows<Option<u64>>, AllocError>
-    requires one_each { length places.now ≡ length kept.old }
-    requires references { All (λ r. IsSymbol (objects kept.old) 0 r.symbol) relocs.now }
-    ensures { IfOk result (λ words. words ≡ map (spec.own_word (objects kept.old) places.now) relocs.now) }
+    requires one_each { length places.now ≡ length scope.now }
+    requires references { All (λ r. IsSymbol (objects scope.now) 0 r.symbol) relocs.now }
+    ensures { IfOk result (λ words. words ≡ map (spec.own_word (objects scope.now) places.now) relocs.now) }
 {
     let mut words = Rows::new(alloc);
     for reloc in relocs {
-        words.push(own_word(kept, places, reloc))?;
+        words.push(own_word(scope, places, reloc))?;
     }
     Ok(words)
 }
 
-/// The own words of a library, which is the first member of its scope, at these places: one for each of its relocations, in their order. It is the word that the relocation gives in this scope. There is none for the kinds DTPMOD64 and TPOFF64, which a program's start alone gives, for a symbol without definer, and where `value` of pl_value gives no word: then the file keeps the word that its linker wrote.
+/// The own words of a library, which is the first member of its scope, at these places: one for each of its relocations, in their order, each looked up by itself. It is the word that the relocation gives in this scope. There is none for the kinds DTPMOD64 and TPOFF64, which a program's start alone gives, for a symbol without definer, and where `value` of pl_value gives no word: then the file keeps the word that its linker wrote.
 ///
 /// There is at least one member, and `places` has one row for each. It fails only for want of memory.
 #[tactic(auto, unfolding(crate::specs::Own::own_words))]
@@ -101,9 +88,8 @@ pub fn own_words(
     requires one_each { length places.now ≡ length scope.now }
     ensures { IfOk result (λ words. words ≡ spec.own_words (objects scope.now) places.now) }
 {
-    let mut kept = Kept::new(alloc, scope)?;
     let object = scope.object(0);
     let relocs = object.relocations.as_slice();
-    let words = words_of(alloc, &mut kept, places, relocs)?;
+    let words = words_of(alloc, scope, places, relocs)?;
     Ok(words)
 }

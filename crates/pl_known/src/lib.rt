@@ -10,6 +10,6 @@ mod taking;
 
 pub use agreement::{plans_agree, rule_is_one, standings_agree};
 pub use knowing::known_files;
-pub use planning::plan_files;
+pub use planning::{FilesPlan, plan_files};
 pub use taken::Taken;
 pub use taking::take_file;

@@ -1,8 +1,10 @@
 // What a run plans.
 ghost use Rattle.std.specs.Prelude.{◌≡◌};
+ghost use Rattle.std.specs.List.{All};
 ghost use Rattle.pl_base.specs.Answers.{Answers, because};
 ghost use Rattle.pl_cone.specs.Cone as cone;
 ghost use Rattle.pl_cone.specs.Known.{AreAccepted};
+ghost use Rattle.pl_cone.specs.Links.{IsLink};
 ghost use Rattle.pl_plan.specs.Faults.{is_memory, of_cone};
 ghost use Rattle.pl_plan.specs.Planned as spec;
 
@@ -11,7 +13,7 @@ use crate::standing::{Standing, candidates, standings};
 use crate::wants::wants_of;
 use crate::{Asked, PlanningFault};
 use pl_base::{Rows, Text};
-use pl_cone::{Cone, Known, cone_of};
+use pl_cone::{Cone, Known, Link, cone_of};
 use pl_slots::Slot;
 use std::alloc::Global;
 
@@ -69,17 +71,19 @@ fn cone_by(
 ///
 /// The first cause counts: NoSlot exactly where no hole holds a library, then StampsSpent exactly where a name is stale and no stamp is left.
 ///
-/// No name stands twice in `files`, and each object is one that `accept` gave.
+/// No name stands twice in `files`, and each object is one that `accept` gave; `links_of` of pl_cone gave the links of these files.
 #[tactic(auto, unfolding(crate::specs::Planned::planned))]
 pub fn plan_run(
     alloc: Global,
     files: &[Known<'_>],
+    links: &[Link],
     asked: &Asked<'_>,
 ) -> Result<Planned, PlanningFault>
-    requires { AreAccepted files.now }
+    requires accepted { AreAccepted files.now }
+    requires links { All (IsLink files.now) links.now }
     ensures { Answers is_memory result (spec.planned files.now asked.now) }
 {
-    let standings = standings(alloc, files)?;
+    let standings = standings(alloc, files, links)?;
     let names = candidates(alloc, standings.as_slice())?;
     let slots = planned_slots(alloc, files, asked, names.as_slice())?;
     let Cone { stale, stamp } = cone_by(alloc, files, asked, names.as_slice(), slots.as_slice())?;

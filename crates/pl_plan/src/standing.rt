@@ -8,7 +8,7 @@ ghost use Rattle.pl_plan.specs.Wants as spec;
 
 use crate::pushing::push_some;
 use pl_base::{Rows, Text};
-use pl_cone::{Known, Link, Skip, links_of, prelinkable_with};
+use pl_cone::{Known, Link, Skip, prelinkable_with};
 use pl_io::NoMemory;
 use std::alloc::{AllocError, Global};
 
@@ -54,9 +54,11 @@ fn standing_of(
     Ok(Standing { name, cause })
 }
 
-/// The same by what is known of the relocations of libraries.
+/// How each name of the files stands, in their order: whether it may be prelinked, or the first cause why not, as `prelinkable` of pl_cone has it. What `links` tells of is not looked up. It fails only for want of memory.
+///
+/// No name stands twice in `files`, and each object is one that `accept` gave; `links_of` of pl_cone gave the links of these files.
 #[tactic(auto, unfolding(crate::specs::Wants::standings))]
-fn standings_by(
+pub fn standings(
     alloc: Global,
     files: &[Known<'_>],
     links: &[Link],
@@ -70,17 +72,6 @@ fn standings_by(
         rows.push(standing_of(alloc, files, links, known.name)?)?;
     }
     Ok(rows)
-}
-
-/// How each name of the files stands, in their order: whether it may be prelinked, or the first cause why not, as `prelinkable` of pl_cone has it. What a relocation of a library gives in every walk is looked up once. It fails only for want of memory.
-///
-/// No name stands twice in `files`, and each object is one that `accept` gave.
-pub fn standings(alloc: Global, files: &[Known<'_>]) -> Result<Rows<Standing>, NoMemory>
-    requires { AreAccepted files.now }
-    ensures { IfOk result (λ rows. rows ≡ spec.standings files.now) }
-{
-    let links = links_of(alloc, files)?;
-    standings_by(alloc, files, links.as_slice())
 }
 
 /// The name of a row without a cause.

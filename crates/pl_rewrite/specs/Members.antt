@@ -101,6 +101,7 @@ pub record IsRun (run : Run) : Type 0 where
   pub knows : Knows run.region (files_of run) run.known.now
   pub standings : run.planned.now.standings ≡ standings (files_of run) run.region (names_of run.files.now)
   pub stale : run.planned.now.stale ≡ stale (files_of run) run.region run.planned.now.slots (names_of run.files.now)
+  pub links : All (IsLink run.known.now) run.links.now
   pub checksums : All (IsChecksum run) run.checksums.now
   pub libraries : All (IsPrelinked run) run.libraries.now
   pub still : All (IsStill run) run.still.now

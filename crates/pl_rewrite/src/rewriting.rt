@@ -2,6 +2,8 @@
 ghost use Rattle.std.specs.Prelude.{◌≡◌, Ok, IfOk, if◌then◌else◌};
 ghost use Rattle.std.specs.List.{All};
 ghost use Rattle.pl_base.specs.Answers.{Answers};
+ghost use Rattle.pl_cone.specs.Links.{IsLink};
+ghost use Rattle.pl_known.specs.Laws.{KnowsTaken};
 ghost use Rattle.pl_known.specs.Plans as plans;
 ghost use Rattle.pl_known.specs.Taken.{AreTaken, files_in, names_of};
 ghost use Rattle.pl_plan.specs.Faults.{is_memory};
@@ -15,10 +17,9 @@ use crate::still::stills_of;
 use crate::{Report, ReportRow};
 use pl_base::Rows;
 use pl_cache::Cache;
-use pl_cone::links_of;
 use pl_io::NoMemory;
 use pl_journal::Change;
-use pl_known::{Taken, known_files, plan_files};
+use pl_known::{FilesPlan, Taken, plan_files};
 use pl_plan::{Asked, Planned, PlanningFault};
 use std::alloc::Global;
 
@@ -45,13 +46,13 @@ fn programs_with_still<'a>(
     requires files { files.now ≡ run.now.files.now }
     ensures { IfOk result (λ v. All (IsPrelinked run.now) v.items) }
 {
-    let links = links_of(alloc, run.known)?;
-    let still = stills_of(alloc, run, links.as_slice())?;
+    let still = stills_of(alloc, run)?;
     let run = Run {
         files: run.files,
         known: run.known,
         region: run.region,
         planned: run.planned,
+        links: run.links,
         checksums: run.checksums,
         libraries: run.libraries,
         still: still.as_slice(),
@@ -75,6 +76,7 @@ fn programs_with<'a>(
         known: run.known,
         region: run.region,
         planned: run.planned,
+        links: run.links,
         checksums: run.checksums,
         libraries,
         still: run.still,
@@ -115,6 +117,7 @@ fn made_with_checksums(alloc: Global, run: &Run<'_>) -> Result<AllMade, NoMemory
         known: run.known,
         region: run.region,
         planned: run.planned,
+        links: run.links,
         checksums: checksums.as_slice(),
         libraries: run.libraries,
         still: run.still,
@@ -127,25 +130,27 @@ fn made_by(
     alloc: Global,
     files: &[Taken],
     asked: &Asked<'_>,
-    planned: &Planned,
+    plan: &FilesPlan<'_>,
 ) -> Result<AllMade, NoMemory>
     requires taken { AreTaken asked.now.region files.now }
     requires planned { plans.planned (files_in files.now) (names_of files.now) asked.now
-        ≡ Ok planned.now }
+        ≡ Ok plan.now.planned }
+    requires known { KnowsTaken files.now plan.now.known }
+    requires links { All (IsLink plan.now.known) plan.now.links }
     ensures { IfOk result (λ made. made ≡ spec.all_made (files_in files.now) (names_of files.now)
-        asked.now.region planned.now) }
+        asked.now.region plan.now.planned) }
 {
-    let known = known_files(alloc, files)?;
     let run = Run {
         files,
-        known: known.as_slice(),
+        known: plan.known.as_slice(),
         region: asked.region,
-        planned,
+        planned: &plan.planned,
+        links: plan.links.as_slice(),
         checksums: &[],
         libraries: &[],
         still: &[],
     };
-    if planned.stale.as_slice().is_empty() {
+    if plan.planned.stale.as_slice().is_empty() {
         return all_made(alloc, &run, Vec::new(alloc));
     }
     made_with_checksums(alloc, &run)
@@ -179,8 +184,9 @@ pub fn rewrite(
     ensures { Answers is_memory result (spec.rewrite (files_in files.now) (names_of files.now)
         asked.now) }
 {
-    let planned = plan_files(alloc, files, asked)?;
-    let made = made_by(alloc, files, asked, &planned)?;
+    let plan = plan_files(alloc, files, asked)?;
+    let made = made_by(alloc, files, asked, &plan)?;
+    let FilesPlan { planned, .. } = plan;
     let last = last_of(asked, &planned, &made);
     let AllMade { rows, states, .. } = made;
     let Planned { slots, .. } = planned;

@@ -6,7 +6,7 @@ ghost use Rattle.pl_scope.specs.Members.{has};
 ghost use Rattle.pl_rewrite.specs.Members as spec;
 
 use pl_base::{Rows, Text};
-use pl_cone::Known;
+use pl_cone::{Known, Link};
 use pl_elf::Range;
 use pl_known::Taken;
 use pl_plan::{Planned, Standing};
@@ -49,6 +49,9 @@ pub struct Run<'a> {
 
     /// How the names stand, the slots, the stale names, and the stamp that these get.
     pub planned: &'a Planned,
+
+    /// Which relocations of the files' libraries are known to give the same in every walk.
+    pub links: &'a [Link],
 
     /// Checksums that were made already.
     pub checksums: &'a [Checksum<'a>],

@@ -5,7 +5,6 @@ ghost use Rattle.std.specs.List.{All, AllZip};
 ghost use Rattle.std.specs.Option.{option_map};
 ghost use Rattle.std.specs.Str.{bytes_eq};
 ghost use Rattle.pl_cone.specs.Candidates as cone;
-ghost use Rattle.pl_cone.specs.Links.{IsLink};
 ghost use Rattle.pl_elf.specs.Kinds.{is_library};
 ghost use Rattle.pl_rewrite.specs.Members as spec;
 
@@ -95,15 +94,13 @@ fn still_with<'a>(
 fn still_of<'a>(
     alloc: Global,
     run: &Run<'a>,
-    links: &[Link],
     name: &'a str,
 ) -> Result<Option<LibraryStill<'a>>, NoMemory>
     requires run { spec.IsRun run.now }
     requires candidate { spec.IsCandidate run.now name.now }
-    requires links { All (IsLink run.now.known.now) links.now }
     ensures { IfOk result (λ still. IfSome still (spec.IsStill run.now)) }
 {
-    let Some(link) = link_of(links, name) else {
+    let Some(link) = link_of(run.links, name) else {
         return Ok(None);
     };
     let Some(file) = library_file(run, name) else {
@@ -116,34 +113,27 @@ fn still_of<'a>(
 fn still_in<'a>(
     alloc: Global,
     run: &Run<'a>,
-    links: &[Link],
     taken: &'a Taken,
 ) -> Result<Option<LibraryStill<'a>>, NoMemory>
     requires run { spec.IsRun run.now }
     requires found { spec.IsFound run.now taken.now }
-    requires links { All (IsLink run.now.known.now) links.now }
     ensures { IfOk result (λ still. IfSome still (spec.IsStill run.now)) }
 {
     let skipped = is_skipped(run.planned.standings.as_slice(), taken.name.as_str());
     if skipped {
         return Ok(None);
     }
-    still_of(alloc, run, links, taken.name.as_str())
+    still_of(alloc, run, taken.name.as_str())
 }
 
 /// Those of all libraries whose files were made.
-pub fn stills_of<'a>(
-    alloc: Global,
-    run: &Run<'a>,
-    links: &[Link],
-) -> Result<Vec<LibraryStill<'a>>, NoMemory>
-    requires run { spec.IsRun run.now }
-    requires links { All (IsLink run.now.known.now) links.now }
+pub fn stills_of<'a>(alloc: Global, run: &Run<'a>) -> Result<Vec<LibraryStill<'a>>, NoMemory>
+    requires { spec.IsRun run.now }
     ensures { IfOk result (λ v. All (spec.IsStill run.now) v.items) }
 {
     let mut stills = Vec::new(alloc);
     for taken in run.files {
-        if let Some(still) = still_in(alloc, run, links, taken)? {
+        if let Some(still) = still_in(alloc, run, taken)? {
             stills.push(still)?;
         }
     }

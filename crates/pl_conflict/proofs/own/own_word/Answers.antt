@@ -3,14 +3,13 @@ use Rattle.pl_scope.specs.Scope.{objects}
 use Rattle.pl_conflict.proofs.OwnLaws.{own_none, own_put}
 use Rattle.pl_conflict.proofs.own.own_word.Goals as goal
 
-pub returns-then-lacks_definer-clause-exact : goal.returns-then-lacks_definer-clause-exact
-returns-then-lacks_definer-clause-exact c =
-    let sought = rw c.reference_of.ensures at c.sought-found.ensures.exact in
-    sym (own_none (objects c.args.kept.now) c.args.places.now c.args.reloc.now c.sought-found.result sought (sym c.is_of_start.ensures ∙ c.if-is_of_start.false) (sym c.lacks_definer.ensures ∙ c.if-lacks_definer.true))
+pub returns-then-lacks_definer : goal.returns-then-lacks_definer
+returns-then-lacks_definer c =
+    let sought = rw c.reference_of.ensures at c.sought-found.ensures in
+    sym (own_none (objects c.args.scope.now) c.args.places.now c.args.reloc.now c.sought-found.result sought (sym c.is_of_start.ensures ∙ c.if-is_of_start.false) (sym c.lacks_definer.ensures ∙ c.if-lacks_definer.true))
 
-pub returns-clause-exact : goal.returns-clause-exact
-returns-clause-exact c =
-    let sought = rw c.reference_of.ensures at c.sought-found.ensures.exact in
-    let own = own_put (objects c.args.kept.now) c.args.places.now c.args.reloc.now c.sought-found.result sought (sym c.is_of_start.ensures ∙ c.if-is_of_start.false) (sym c.lacks_definer.ensures ∙ c.if-lacks_definer.false) in
-    let given = rw (c.scope.ensures, c.sought-found.ensures.same) at c.word_of.ensures in
-    rw (own, c.put_in.ensures, given) refl
+pub returns : goal.returns
+returns c =
+    let sought = rw c.reference_of.ensures at c.sought-found.ensures in
+    let own = own_put (objects c.args.scope.now) c.args.places.now c.args.reloc.now c.sought-found.result sought (sym c.is_of_start.ensures ∙ c.if-is_of_start.false) (sym c.lacks_definer.ensures ∙ c.if-lacks_definer.false) in
+    rw (own, c.put_in.ensures, c.word_of.ensures) refl

@@ -5,10 +5,10 @@ use Rattle.pl_conflict.proofs.own.own_words.Goals as goal
 
 pub words_of-requires-clause-references : goal.words_of-requires-clause-references
 words_of-requires-clause-references c =
-    rw (c.as_slice-relocs.ensures, c.in_ok-kept.ensures) (all_symbols (objects c.args.scope.now) 0 c.object-object.result.now c.object-object.ensures.fit c.object-object.ensures.object)
+    rw c.as_slice-relocs.ensures (all_symbols (objects c.args.scope.now) 0 c.object-object.result.now c.object-object.ensures.fit c.object-object.ensures.object)
 
 pub returns : goal.returns
 unfolding own_words
 returns c =
-    let words = rw (c.as_slice-relocs.ensures, c.in_ok-kept.ensures) at c.in_ok-words.ensures in
+    let words = rw c.as_slice-relocs.ensures at c.in_ok-words.ensures in
     rw c.object-object.ensures.object words

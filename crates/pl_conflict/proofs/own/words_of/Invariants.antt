@@ -4,8 +4,4 @@ use Rattle.pl_conflict.specs.Own.{own_word}
 use Rattle.pl_conflict.proofs.own.words_of.Given as goal
 
 abbrev pub invariant-loop-reloc : goal.invariant-loop-reloc
-invariant-loop-reloc l =
-    record {
-      so_far : l.words ≡ map (own_word (objects l.fn.kept) l.places) (take l.reloc-index l.relocs);
-      same : l.kept ≡ l.fn.kept;
-    }
+invariant-loop-reloc l = l.words ≡ map (own_word (objects l.scope) l.places) (take l.reloc-index l.relocs)

@@ -9,6 +9,7 @@ made_with_files-requires c = record {
   knows = c.requires.knows;
   standings = c.requires.standings;
   stale = c.requires.stale;
+  links = c.requires.links;
   checksums = subst (All (IsChecksum c.args.run.now)) (sym c.as_slice.ensures.value) c.in_ok-checksums.ensures;
   libraries = c.requires.libraries;
   still = c.requires.still;

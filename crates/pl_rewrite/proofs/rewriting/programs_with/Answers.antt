@@ -6,6 +6,7 @@ programs_with_still-requires-clause-run c = record {
   knows = c.requires.run.knows;
   standings = c.requires.run.standings;
   stale = c.requires.run.stale;
+  links = c.requires.run.links;
   checksums = c.requires.run.checksums;
   libraries = c.requires.libraries;
   still = c.requires.run.still;

@@ -3,4 +3,4 @@ use Rattle.pl_rewrite.proofs.StillLaws.{link_found}
 use Rattle.pl_rewrite.proofs.still.still_of.Goals as goal
 
 pub still_with-requires-clause-link : goal.still_with-requires-clause-link
-still_with-requires-clause-link c = link_found c.args.run.now c.args.links.now c.args.name.now c.in-Some.link.now c.requires.links (sym c.in-Some.ensures)
+still_with-requires-clause-link c = link_found c.args.run.now c.args.run.now.links.now c.args.name.now c.in-Some.link.now c.requires.run.links (sym c.in-Some.ensures)

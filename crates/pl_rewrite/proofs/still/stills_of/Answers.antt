@@ -14,7 +14,7 @@ loop-taken-init c = subst (All (IsStill c.args.run.now)) (sym c.new-stills.ensur
 
 pub still_in-requires-clause-found : goal.still_in-requires-clause-found
 still_in-requires-clause-found c =
-    subst (λ (u : Taken). found c.args.run.now.files.now u.name ≡ Some u) (sym c.taken-item.is) (found_at c.args.run.now.files.now c.loop-taken.taken-index c.taken-item.result c.requires.run.taken.distinct c.loop-taken-test.true)
+    subst (λ (u : Taken). found c.args.run.now.files.now u.name ≡ Some u) (sym c.taken-item.is) (found_at c.args.run.now.files.now c.loop-taken.taken-index c.taken-item.result c.requires.taken.distinct c.loop-taken-test.true)
 
 pub loop-taken-preserved : goal.loop-taken-preserved
 loop-taken-preserved c = elim c.match-branch-2.branch [
