@@ -35,7 +35,7 @@ pub use fault::{FileFault, FormFault};
 pub use file::{Entry, File, Files, Fill, Marked};
 pub use law::{files_are_told, forms_have_one_original};
 use layout::Layout;
-pub use library_form::form_library;
+pub use library_form::{digest_of, form_library, form_library_with};
 use mark::Mark;
 pub use program_form::form_program;
 pub use reading::read_file;

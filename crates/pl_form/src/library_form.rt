@@ -140,7 +140,8 @@ pub fn digest_of(bytes: &[u8]) -> [u8; 32]
 
 /// What a version of the undo section keeps of the original's digest.
 pub fn kept_digest(version: Version, digest: [u8; 32]) -> Option<[u8; 32]>
-    ensures { result ≡ words_spec.kept_digest version digest }
+    ensures value { result ≡ words_spec.kept_digest version digest }
+    ensures size { IsDigest result }
 {
     match version {
         Version::One => None,
@@ -188,7 +189,7 @@ fn moved(
     Ok(form)
 }
 
-/// The form of an accepted library with these bytes at its places, one place after the other in the order of the relocations.
+/// The form of an accepted library of this SHA-256 with these bytes at its places, one place after the other in the order of the relocations.
 pub fn library_with(
     alloc: Global,
     original: &[u8],
@@ -198,16 +199,17 @@ pub fn library_with(
     list: &[ListRow],
     flat: &[u8],
     version: Version,
+    digest: &[u8; 32],
 ) -> Result<Vec<u8>, NoMemory>
     requires firm { spec.IsFirmLibrary original.now object.now }
     requires even { slot % 2 ≡ 0 }
     requires list { spec.IsListing list.now }
     requires flat { length flat.now ≡ back.wanted (ps_of original.now) }
+    requires digest { digest.now ≡ sha256 original.now }
     ensures form { IfOk result (λ v. v.items ≡ spec.library_with original.now slot stamp list.now flat.now version) }
     ensures size { IfOk result (λ v. length v.items ≤ spec.most_bytes original.now list.now) }
 {
-    let digest = digest_of(original);
-    let checksum = word32(&digest, 0);
+    let checksum = word32(digest, 0);
     let mark = Mark {
         slot,
         stamp,
@@ -215,8 +217,36 @@ pub fn library_with(
     };
     let lists = listed(alloc, list)?;
     check_list(&lists)?;
-    let kept = kept_digest(version, digest);
+    let kept = kept_digest(version, *digest);
     let form = moved(alloc, original, object, &mark, lists, flat, kept)?;
+    Ok(form)
+}
+
+/// The form that `form_library` gives, where the caller has the SHA-256 of the original.
+pub fn form_library_with(
+    alloc: Global,
+    original: &[u8],
+    object: &Object,
+    slot: u64,
+    stamp: u32,
+    list: &[ListRow],
+    words: &[Option<u64>],
+    version: Version,
+    digest: &[u8; 32],
+) -> Result<Vec<u8>, NoMemory>
+    requires firm { spec.IsFirmLibrary original.now object.now }
+    requires even { slot % 2 ≡ 0 }
+    requires list { spec.IsListing list.now }
+    requires words { length words.now ≡ length object.now.relocations }
+    requires digest { digest.now ≡ sha256 original.now }
+    ensures form { IfOk result (λ v. v.items ≡ spec.library_form original.now slot stamp list.now words.now version) }
+    ensures size { IfOk result (λ v. length v.items ≤ spec.most_bytes original.now list.now) }
+{
+    let layout = layout_of(alloc, original, object)?;
+    let flat = all_filled(alloc, original, layout.spots.as_slice(), words)?;
+    let form = library_with(
+        alloc, original, object, slot, stamp, list, &flat, version, digest,
+    )?;
     Ok(form)
 }
 
@@ -240,8 +270,8 @@ pub fn form_library(
     ensures form { IfOk result (λ v. v.items ≡ spec.library_form original.now slot stamp list.now words.now version) }
     ensures size { IfOk result (λ v. length v.items ≤ spec.most_bytes original.now list.now) }
 {
-    let layout = layout_of(alloc, original, object)?;
-    let flat = all_filled(alloc, original, layout.spots.as_slice(), words)?;
-    let form = library_with(alloc, original, object, slot, stamp, list, &flat, version)?;
-    Ok(form)
+    let digest = digest_of(original);
+    form_library_with(
+        alloc, original, object, slot, stamp, list, words, version, &digest,
+    )
 }

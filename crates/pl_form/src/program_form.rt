@@ -8,6 +8,7 @@ ghost use Rattle.pl_form.specs.Faults as fault_spec;
 ghost use Rattle.pl_form.specs.Program as spec;
 ghost use Rattle.pl_form.specs.Words as words;
 ghost use Rattle.pl_form.specs.Words.{AreFills};
+ghost use Rattle.sha2.specs.Sha256.{sha256};
 
 use crate::constants::STORED;
 use crate::library_form::{digest_of, kept_digest, layout_of};
@@ -86,7 +87,7 @@ fn find_last(segments: &[Segment]) -> Option<Last>
     None
 }
 
-/// A program's form with these bytes at its places.
+/// The form of a program of this SHA-256 with these bytes at its places.
 fn extended(
     alloc: Global,
     original: &[u8],
@@ -94,8 +95,10 @@ fn extended(
     lists: &Extension,
     flat: &[u8],
     version: Version,
+    digest: &[u8; 32],
 ) -> Result<Vec<u8>, NoMemory>
     requires firm { spec.IsFirmProgram original.now object.now }
+    requires digest { digest.now ≡ sha256 original.now }
     requires flat { length flat.now ≡ wanted (ps_of original.now) }
     requires lists { length lists.now.strings + (length lists.now.rows + length lists.now.conflicts) ≤ STORED }
     ensures { IfOk result (λ v. v.items ≡ spec.extended original.now lists.now flat.now version) }
@@ -105,14 +108,13 @@ fn extended(
     };
     let layout = layout_of(alloc, original, object)?;
     let plan = program_plan(alloc, original, object, &layout, &last, flat, lists)?;
-    let digest = digest_of(original);
-    let kept = kept_digest(version, digest);
+    let kept = kept_digest(version, *digest);
     let undo = undo_part(alloc, original, &layout, &plan, kept)?;
     let form = write_form(alloc, original, &layout, &plan, flat, &undo)?;
     Ok(form)
 }
 
-/// The form of an accepted program with these bytes at its places, one place after the other in the order of the relocations.
+/// The form of an accepted program of this SHA-256 with these bytes at its places, one place after the other in the order of the relocations.
 ///
 /// The program was accepted from these bytes and has no form fault other than InRegion. TooLarge comes exactly where the form has more than 256 MiB.
 pub fn program_with(
@@ -123,8 +125,10 @@ pub fn program_with(
     flat: &[u8],
     conflicts: &[ConflictRow],
     version: Version,
+    digest: &[u8; 32],
 ) -> Result<Vec<u8>, FormFault>
     requires firm { spec.IsFirmProgram original.now object.now }
+    requires digest { digest.now ≡ sha256 original.now }
     requires flat { length flat.now ≡ wanted (ps_of original.now) }
     ensures { AnswersAs (λ v. v.items) fault_spec.is_memory result (spec.stored (spec.program_with original.now list.now flat.now conflicts.now version)) }
 {
@@ -135,7 +139,7 @@ pub fn program_with(
     if are_too_long(&lists) {
         return Err(FormFault::TooLarge);
     }
-    let form = extended(alloc, original, object, &lists, flat, version)?;
+    let form = extended(alloc, original, object, &lists, flat, version, digest)?;
     if form.len() > STORED {
         return Err(FormFault::TooLarge);
     }
@@ -177,6 +181,9 @@ pub fn form_program(
     ensures { AnswersAs (λ v. v.items) fault_spec.is_memory result (spec.stored (spec.program_form original.now list.now fills.now conflicts.now version)) }
 {
     let flat = flat_of(alloc, fills)?;
-    let form = program_with(alloc, original, object, list, &flat, conflicts, version)?;
+    let digest = digest_of(original);
+    let form = program_with(
+        alloc, original, object, list, &flat, conflicts, version, &digest,
+    )?;
     Ok(form)
 }

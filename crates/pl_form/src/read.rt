@@ -1,6 +1,6 @@
 // What is read of a file that may be a form.
 ghost use Rattle.std.specs.Prelude.{◌≡◌, ◌+◌, ◌++◌, ◌*◌, ◌%◌, ◌^◌, ◌<◌, ◌≤◌, length, true, false, IfOk, OnOk, if◌then◌else◌};
-ghost use Rattle.pl_base.specs.Bytes.{part, word64};
+ghost use Rattle.pl_base.specs.Bytes.{part, word32, word64};
 ghost use Rattle.pl_base.specs.Windows.{within};
 ghost use Rattle.pl_elf.specs.Kinds.{is_library};
 ghost use Rattle.pl_lists.specs.Reading.{list_of, conflicts_of};
@@ -8,8 +8,8 @@ ghost use Rattle.pl_object.specs.PlaceClauses.{last_load};
 ghost use Rattle.pl_parts.specs.Back.{has_undo_section};
 ghost use Rattle.pl_parts.specs.Found.{ps_of};
 ghost use Rattle.pl_form.specs.Marks.{IsFormOf};
-ghost use Rattle.pl_form.specs.Words.{checksum_of};
 ghost use Rattle.pl_form.specs.Reading as spec;
+ghost use Rattle.sha2.specs.Sha256.{sha256};
 
 use crate::back::{are_filled, find_undo, front_of, restored};
 use crate::form_with::form_with;
@@ -209,20 +209,29 @@ fn stamp_in(layout: &Layout, front: &[u8]) -> u32
     (word_or_zeros(table, 16 * u128::from(layout.tags) + 8) % 4_294_967_296) as u32
 }
 
-/// The stamp and the checksum of a library; both are 0 for a program.
-fn numbers_in(object: &Object, original: &[u8], layout: &Layout, front: &[u8]) -> (u32, u32)
-    requires { spec.IsLayoutOf original.now layout.now }
-    ensures stamp { result.0 ≡ (if is_library object.now.kind then spec.stamp_in original.now front.now else 0) }
-    ensures checksum { result.1 ≡ (if is_library object.now.kind then checksum_of original.now else 0) }
+/// The stamp of a library, 0 for a program.
+fn stamp_for(object: &Object, layout: &Layout, front: &[u8]) -> u32
+    ensures { result ≡ (if is_library object.now.kind then word64 (16 * layout.now.tags + 8) (within layout.now.dynamic front.now) % 2 ^ 32 else 0) }
 {
-    if !object.kind.is_library() {
-        return (0, 0);
+    if object.kind.is_library() {
+        stamp_in(layout, front)
+    } else {
+        0
     }
-    (stamp_in(layout, front), word32(&digest_of(original), 0))
 }
 
-/// All that a file would be made of whose front is this.
-#[tactic(auto, unfolding(crate::specs::Reading::candidate))]
+/// The checksum of a library of this SHA-256, 0 for a program.
+fn checksum_in(object: &Object, digest: &[u8; 32]) -> u32
+    ensures { result ≡ (if is_library object.now.kind then word32 0 digest.now else 0) }
+{
+    if object.kind.is_library() {
+        word32(digest, 0)
+    } else {
+        0
+    }
+}
+
+/// All that a file would be made of whose front is this, by an original of this SHA-256.
 fn candidate(
     undo: &Undo,
     original: Rows<u8>,
@@ -230,11 +239,14 @@ fn candidate(
     layout: &Layout,
     lists: Lists,
     front: &[u8],
+    digest: &[u8; 32],
 ) -> Marked
-    requires { spec.IsLayoutOf original layout.now }
+    requires layout { spec.IsLayoutOf original layout.now }
+    requires digest { digest.now ≡ sha256 original }
     ensures { result ≡ spec.candidate front.now undo.now original object lists }
 {
-    let (stamp, checksum) = numbers_in(&object, original.as_slice(), layout, front);
+    let stamp = stamp_for(&object, layout, front);
+    let checksum = checksum_in(&object, digest);
     let Lists { list, conflicts } = lists;
     Marked {
         object,
@@ -271,7 +283,7 @@ fn fits(marked: &Marked, spots: &[Spot], size: usize) -> bool
     are_filled(spots, 0, size as u128) && is_placed(marked)
 }
 
-/// Whether a file is the form with these bytes at the places.
+/// Whether a file is the form with these bytes at the places, of an original of this SHA-256.
 #[tactic(auto, unfolding(crate::specs::Reading::is_form))]
 fn is_form(
     alloc: Global,
@@ -279,16 +291,18 @@ fn is_form(
     marked: &Marked,
     spots: &[Spot],
     flat: &[u8],
+    digest: &[u8; 32],
 ) -> Result<bool, AllocError>
     requires file { length file.now ≤ STORED }
     requires made { spec.IsMade marked.now }
+    requires digest { digest.now ≡ sha256 marked.now.original }
     requires spots { spots.now ≡ ps_of marked.now.original }
     ensures { IfOk result (λ b. b ≡ spec.is_form file.now marked.now flat.now) }
 {
     if !fits(marked, spots, flat.len()) {
         return Ok(false);
     }
-    match form_with(alloc, marked, flat)? {
+    match form_with(alloc, marked, flat, digest)? {
         None => Ok(false),
         Some(form) => Ok(file == form.as_slice()),
     }
@@ -301,14 +315,16 @@ fn makes_file(
     marked: &Marked,
     spots: &[Spot],
     flat: &[u8],
+    digest: &[u8; 32],
 ) -> Result<bool, AllocError>
     requires file { length file.now ≤ STORED }
     requires made { spec.IsMade marked.now }
+    requires digest { digest.now ≡ sha256 marked.now.original }
     requires spots { spots.now ≡ ps_of marked.now.original }
     ensures exact { IfOk result (λ b. b ≡ spec.is_form file.now marked.now flat.now) }
     ensures form { IfOk result (λ b. b ≡ true → IsFormOf file.now marked.now) }
 {
-    is_form(alloc, file, marked, spots, flat)
+    is_form(alloc, file, marked, spots, flat, digest)
 }
 
 /// What a file is made of, if it is a form of this original.
@@ -334,8 +350,11 @@ fn marked_by(
     let front = front_of(alloc, undo, file)?;
     let zeros = zeros_behind(&object, file);
     let flat = standing(alloc, layout.spots.as_slice(), &front, zeros)?;
-    let marked = candidate(undo, original, object, &layout, lists, &front);
-    if !makes_file(alloc, file, &marked, layout.spots.as_slice(), &flat)? {
+    let bytes = original.as_slice();
+    let digest = digest_of(bytes);
+    let marked = candidate(undo, original, object, &layout, lists, &front, &digest);
+    let spots = layout.spots.as_slice();
+    if !makes_file(alloc, file, &marked, spots, &flat, &digest)? {
         return Ok(None);
     }
     Ok(Some(marked))

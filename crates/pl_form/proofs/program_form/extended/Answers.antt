@@ -1,11 +1,10 @@
-use Rattle.std.proofs.Common.{subst, sym, ap, ◌∙◌, arith}
+use Rattle.std.proofs.Common.{sym, ap, ◌∙◌, arith}
 use Rattle.pl_object.proofs.AcceptedLaws.{accepted}
 use Rattle.pl_parts.specs.Forms.{program_form, original_of}
 use Rattle.pl_parts.specs.Found.{ss_of}
-use Rattle.pl_parts.specs.Law.{IsDigest}
 use Rattle.pl_form.specs.Program.{find_last, last_index}
 use Rattle.pl_form.specs.Words.{kept_digest}
-use Rattle.pl_form.proofs.ReadyLaws.{names_ready, ready, last_ready, extended_ready, program_fit, program_whole, extended_none, extended_some, digest_ready}
+use Rattle.pl_form.proofs.ReadyLaws.{names_ready, ready, last_ready, extended_ready, program_fit, program_whole, extended_none, extended_some}
 use Rattle.pl_form.proofs.program_form.extended.Goals as goal
 
 pub returns-in_default : goal.returns-in_default
@@ -34,7 +33,7 @@ write_form-requires-clause-fits c =
     program_fit c.args.original.now c.args.object.now c.in_ok-layout.layout c.in-Some.last c.args.lists.now c.in_ok-plan.plan c.args.flat.now c.deref.result.now c.kept_digest-kept.result c.requires.firm.firm c.requires.firm.program c.in_ok-layout.ensures
     (last_ready c.args.original.now c.args.object.now c.in-Some.last c.requires.firm.firm (ap find_last (sym c.as_slice.ensures) ∙ sym c.find_last.ensures ∙ c.in-Some.is))
     c.in_ok-plan.ensures (c.deref.ensures.value ∙ c.in_ok-undo.ensures) c.requires.flat
-    (subst IsDigest (sym c.kept_digest-kept.ensures) (digest_ready c.args.version c.digest_of-digest.result c.digest_of-digest.ensures.size)) (omega (arith, c.requires.lists))
+    c.kept_digest-kept.ensures.size (omega (arith, c.requires.lists))
 
 pub write_form-requires-clause-names : goal.write_form-requires-clause-names
 write_form-requires-clause-names c = (names_ready c.args.original.now c.args.object.now c.requires.firm.firm.accepted).row
@@ -45,6 +44,6 @@ returns c =
     ∙ program_whole c.args.original.now c.in_ok-layout.layout c.in-Some.last c.args.lists.now c.in_ok-plan.plan c.args.flat.now c.deref.result.now c.kept_digest-kept.result c.in_ok-layout.ensures
     (last_ready c.args.original.now c.args.object.now c.in-Some.last c.requires.firm.firm (ap find_last (sym c.as_slice.ensures) ∙ sym c.find_last.ensures ∙ c.in-Some.is))
     c.in_ok-plan.ensures (c.deref.ensures.value ∙ c.in_ok-undo.ensures)
-    ∙ ap (program_form (original_of c.args.original.now) (last_index (ss_of c.args.original.now)) c.in-Some.last.segment c.args.lists.now c.args.flat.now) (c.kept_digest-kept.ensures ∙ ap (kept_digest c.args.version) c.digest_of-digest.ensures.value)
+    ∙ ap (program_form (original_of c.args.original.now) (last_index (ss_of c.args.original.now)) c.in-Some.last.segment c.args.lists.now c.args.flat.now) (c.kept_digest-kept.ensures.value ∙ ap (kept_digest c.args.version) c.requires.digest)
     ∙ extended_some c.args.original.now c.in-Some.last c.args.lists.now c.args.flat.now c.args.version
     (last_ready c.args.original.now c.args.object.now c.in-Some.last c.requires.firm.firm (ap find_last (sym c.as_slice.ensures) ∙ sym c.find_last.ensures ∙ c.in-Some.is))

@@ -1,4 +1,4 @@
-use Rattle.std.proofs.Common.{◌≡◌, ℕ, List, Some, true, false, sym, subst, ◌∙◌, rules}
+use Rattle.std.proofs.Common.{◌≡◌, ℕ, List, Some, true, false, sym, ap, subst, ◌∙◌, rules}
 use Rattle.pl_elf.specs.Kinds.{is_library}
 use Rattle.pl_object.specs.PlaceClauses.{last_load}
 use Rattle.pl_parts.specs.Back.{front_of}
@@ -7,6 +7,7 @@ use Rattle.pl_form.specs.Reading.{firm_object, lists_in, standing, zeros_behind,
 use Rattle.pl_form.proofs.MarkedLaws.{own_here, head_here, spelled_here, candidate_original, layout_here, flat_is, marked_found, marked_missed}
 use Rattle.pl_form.proofs.SoundLaws.{made_of}
 use Rattle.pl_form.proofs.read.marked_by.Goals as goal
+use Rattle.sha2.specs.Sha256.{sha256}
 
 pub layout_of-requires-clause-head : goal.layout_of-requires-clause-head
 layout_of-requires-clause-head c =
@@ -26,14 +27,19 @@ makes_file-requires-clause-made c =
     let spelled = spelled_here (is_library x.kind) c.args.file.now c.in_ok-lists.field-0 l c.in_ok-lists.ensures.spelled listed in
     subst IsMade (sym c.candidate-marked.ensures) (made_of c.deref-2.result.now c.args.undo.now o x l c.args.file.now own spelled c.requires.file)
 
+pub makes_file-requires-clause-digest : goal.makes_file-requires-clause-digest
+makes_file-requires-clause-digest c =
+    let here = candidate_original c.deref-2.result.now c.args.undo.now c.args.original c.in-Some.object c.in-Some-2.lists c.candidate-marked.result c.candidate-marked.ensures in
+    c.digest_of-digest.ensures.value ∙ ap sha256 (c.as_slice-bytes.ensures ∙ sym here)
+
 pub makes_file-requires-clause-spots : goal.makes_file-requires-clause-spots
 makes_file-requires-clause-spots c =
     let o = c.args.original in
     let there : c.as_slice-2.result.now ≡ o = search rules in
     let layout = layout_here o c.as_slice-2.result.now c.in_ok-layout.layout c.in_ok-layout.ensures there in
-    let spots : c.as_slice-4.result.now ≡ c.in_ok-layout.layout.spots = search rules in
+    let spots : c.as_slice-spots.result.now ≡ c.in_ok-layout.layout.spots = search rules in
     let here = candidate_original c.deref-2.result.now c.args.undo.now o c.in-Some.object c.in-Some-2.lists c.candidate-marked.result c.candidate-marked.ensures in
-    subst (λ (ys : List ℕ). c.as_slice-4.result.now ≡ ps_of ys) (sym here) (spots ∙ layout.spots)
+    subst (λ (ys : List ℕ). c.as_slice-spots.result.now ≡ ps_of ys) (sym here) (spots ∙ layout.spots)
 
 pub returns-then-not-branch-clause-exact : goal.returns-then-not-branch-clause-exact
 returns-then-not-branch-clause-exact c =

@@ -9,7 +9,7 @@ use Rattle.pl_form.specs.Library.{library_with}
 use Rattle.pl_form.specs.Words.{all_filled}
 use Rattle.pl_form.proofs.LayoutLaws.{length-all_filled}
 use Rattle.pl_form.proofs.LengthLaws.{spots_inside}
-use Rattle.pl_form.proofs.library_form.form_library.Goals as goal
+use Rattle.pl_form.proofs.library_form.form_library_with.Goals as goal
 
 pub layout_of-requires-clause-head : goal.layout_of-requires-clause-head
 layout_of-requires-clause-head c = (accepted c.args.original.now c.args.object.now c.requires.firm.firm.accepted).head
