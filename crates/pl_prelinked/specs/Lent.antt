@@ -1,10 +1,11 @@
 -- What a caller has of the members of a walk already.
-use Rattle.std.specs.Prelude.{◌≡◌, List, [], ◌∷◌, IfSome}
+use Rattle.std.specs.Prelude.{◌≡◌, ℕ, List, [], ◌∷◌, IfSome}
 use Rattle.pl_conflict.specs.Among.{AreStill}
 use Rattle.pl_conflict.specs.Prelinked.{Firm, list_of, objects_of, parts_of, slots_of}
 use Rattle.pl_conflict.specs.declared.among.Still.{Still}
 use Rattle.pl_lists.specs.declared.list_row.ListRow.{ListRow}
 use Rattle.pl_value.specs.Ordinary.{loaded}
+use Rattle.sha2.specs.Sha256.{sha256}
 use Rattle.pl_prelinked.specs.declared.lent.Lent.{Lent}
 
 -- the rows of the members after the first
@@ -16,8 +17,14 @@ list_after (r ∷ rs) = list_of rs
 abbrev pub AreStillIn : List Firm → List Still → Type 0
 AreStillIn rs still = AreStill (objects_of rs) (slots_of rs) (loaded (slots_of rs) (parts_of rs) (objects_of rs)) still
 
--- the list is that, and the files, where they are there, are those with which conflicts are compared; flags tell what they are to tell
+-- the SHA-256 of the first's original
+abbrev pub IsFirstDigest : List Firm → List ℕ → Type 0
+IsFirstDigest [] digest = Unit {0}
+IsFirstDigest (r ∷ rs) digest = digest ≡ sha256 r.member.original
+
+-- the list is that, and the files, where they are there, are those with which conflicts are compared; flags and a digest tell what they are to tell
 pub record AreLent (rs : List Firm) (l : Lent) : Type 0 where
   pub list : l.list.now ≡ list_after rs
   pub parts : IfSome l.parts (λ p. p.now ≡ parts_of rs)
   pub still : IfSome l.still (λ s. AreStillIn rs s.now)
+  pub digest : IfSome l.digest (λ d. IsFirstDigest rs d.now)

@@ -13,4 +13,7 @@ pub struct Lent<'a> {
 
     /// Where the first is a program, which relocations of each member are known to make no conflict row, and to copy nothing. None where the caller does not know it.
     pub still: Option<&'a [Still<'a>]>,
+
+    /// The SHA-256 of the first's original. None where the caller does not have it.
+    pub digest: Option<&'a [u8; 32]>,
 }

@@ -1,24 +1,14 @@
 // The list of the other members of a walk.
-ghost use Rattle.std.specs.Prelude.{◌≡◌, length, IfOk};
+ghost use Rattle.std.specs.Prelude.{◌≡◌, IfOk};
 ghost use Rattle.pl_conflict.specs.Prelinked as spec;
 ghost use Rattle.pl_form.specs.Words as words;
 ghost use Rattle.pl_prelinked.specs.Lent as lent;
-ghost use Rattle.sha2.specs.Sha256.{sha256};
 
 use crate::Source;
 use pl_base::{Rows, Text, word32};
+use pl_form::digest_of;
 use pl_lists::ListRow;
-use sha2::{Digest, Sha256};
 use std::alloc::{AllocError, Global};
-
-fn digest_of(bytes: &[u8]) -> [u8; 32]
-    ensures value { result ≡ sha256 bytes.now }
-    ensures size { length result ≡ 32 }
-{
-    let mut hasher = Sha256::new();
-    hasher.update(bytes);
-    hasher.finalize()
-}
 
 /// The first four bytes of the SHA-256 of an original, as a number: the checksum by which lists tell it.
 pub fn checksum_of(original: &[u8]) -> u32

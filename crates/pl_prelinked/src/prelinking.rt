@@ -1,8 +1,8 @@
 // The prelinked file of a walk's members.
-ghost use Rattle.std.specs.Prelude.{◌≡◌, true, Some, IfOk};
+ghost use Rattle.std.specs.Prelude.{◌≡◌, true, Some, IfOk, IfSome};
 ghost use Rattle.std.specs.Option.{option_map};
 ghost use Rattle.pl_conflict.specs.Prelinked as spec;
-ghost use Rattle.pl_prelinked.specs.Lent.{AreLent, list_after};
+ghost use Rattle.pl_prelinked.specs.Lent.{AreLent, IsFirstDigest, list_after};
 ghost use Rattle.pl_prelinked.specs.Libraries.{IsLibraryWalk};
 ghost use Rattle.pl_prelinked.specs.Sources.{AreSources, members};
 
@@ -32,14 +32,16 @@ fn stored_library(
     alloc: Global,
     sources: &[Source<'_>],
     list: &[ListRow],
+    digest: Option<&[u8; 32]>,
 ) -> Result<Option<Vec<u8>>, NoMemory>
     requires sources { AreSources sources.now }
     requires library { IsLibraryWalk sources.now }
     requires list { list.now ≡ list_after sources.now }
+    requires digest { IfSome digest (λ d. IsFirstDigest sources.now d.now) }
     ensures { IfOk result (λ file. option_map (λ v. v.items) file
         ≡ spec.stored (Some (spec.library_file sources.now))) }
 {
-    let file = library_file(alloc, sources, list)?;
+    let file = library_file(alloc, sources, list, digest)?;
     Ok(stored(file))
 }
 
@@ -59,12 +61,12 @@ fn file_of(
         return Ok(None);
     };
     if first.object.kind.is_library() {
-        return stored_library(alloc, sources, lent.list);
+        return stored_library(alloc, sources, lent.list, lent.digest);
     }
     program_file(alloc, sources, lent)
 }
 
-/// The file that `prelink` makes, where the caller has the rows of the members after the first, and may have the files with which the conflicts of a program are compared; these are made where it has not.
+/// The file that `prelink` makes, where the caller has the rows of the members after the first, and may have the SHA-256 of the first's original and the files with which the conflicts of a program are compared; these are made where it has not.
 pub fn prelink_with(
     alloc: Global,
     sources: &[Source<'_>],
@@ -101,6 +103,7 @@ pub fn prelink(alloc: Global, sources: &[Source<'_>]) -> Result<Option<Vec<u8>>,
         list: list.as_slice(),
         parts: None,
         still: None,
+        digest: None,
     };
     prelink_with(alloc, sources, &lent)
 }

@@ -51,7 +51,7 @@ fn library_part(
     let own = own_walk(alloc, sources, source.name)?;
     let members = own.as_slice();
     let list = list_after(alloc, members)?;
-    library_file(alloc, members, list.as_slice())
+    library_file(alloc, members, list.as_slice(), None)
 }
 
 /// The file with which conflicts of a member are compared: a library's prelinked file, a program's original.

@@ -1,4 +1,4 @@
--- What is made once a run serves every walk: the checksums of originals, and the files of libraries.
+-- What is made once a run serves every walk: the digests of originals, and the files of libraries.
 use Rattle.std.proofs.Common.{◌≡◌, ℕ, suc, true, false, List, [], ◌∷◌, length, get_or, map, Option, Some, None, Result, Ok, refl, sym, ap, subst, ◌∙◌, inl, inr}
 use Rattle.std.specs.Prelude.{IfSome, drop, find, nat_le, position, slice_get, take}
 use Rattle.std.specs.List.{All, AllZip, cons_option, filter_map, remove}
@@ -17,7 +17,6 @@ use Rattle.pl_elf.specs.Kinds.{is_library, is_static}
 use Rattle.pl_elf.specs.declared.kind.Kind.{Kind}
 use Rattle.pl_elf.specs.declared.kind.Kind.TheVariants.{Program, Library, Static}
 use Rattle.pl_form.specs.Files.{original_in}
-use Rattle.pl_form.specs.Words.{checksum_of}
 use Rattle.pl_form.specs.declared.constants.TheConstants.{STORED}
 use Rattle.pl_known.proofs.StandLaws.{walks_agree}
 use Rattle.pl_known.specs.Skips.{skip_causes}
@@ -33,27 +32,28 @@ use Rattle.pl_scope.proofs.ClosureLaws.{walk_is, member_told, member_walk}
 use Rattle.pl_scope.proofs.NameLaws.{has_at, same_name}
 use Rattle.pl_scope.proofs.WalkedLaws.{member_file}
 use Rattle.pl_sound.specs.Rule.{objects, original_at}
-use Rattle.pl_rewrite.specs.Members.{HasOriginal, IsChecksum, IsPrelinked, IsRun, IsCandidate, IsFound, IsMember, IsPart, files_of, planned_firm, planned_firms, prelinked}
-use Rattle.pl_rewrite.specs.declared.running.Checksum.{Checksum}
+use Rattle.pl_rewrite.specs.Members.{HasOriginal, IsDigest, IsPrelinked, IsRun, IsCandidate, IsFound, IsMember, IsPart, files_of, planned_firm, planned_firms, prelinked}
+use Rattle.pl_rewrite.specs.declared.running.Digest.{Digest}
 use Rattle.pl_rewrite.specs.declared.running.MadeFile.{MadeFile}
 use Rattle.pl_rewrite.specs.declared.running.Run.{Run}
 use Rattle.pl_rewrite.proofs.FileLaws.{file_at}
 use Rattle.pl_rewrite.proofs.WalkLaws.{members_are, name_at, sound_is, sources_are, walk_of, walk_prelinked}
+use Rattle.sha2.specs.Sha256.{sha256}
 
--- ---- checksums
+-- ---- digests
 
-pub checksum_is : (run : Run) (t : Taken) (name original : List ℕ) (n : ℕ) → name ≡ t.name → IsFound run t → original ≡ original_in t.bytes → n ≡ checksum_of original → n ≡ checksum_of (original_at (format skip_causes) (files_of run name))
-checksum_is run t name original n named there own is =
-    is ∙ ap checksum_of (own ∙ sym (ap (original_at (format skip_causes)) (ap (files_of run) named ∙ file_at t.name run.files.now t there)))
+pub digest_is : (run : Run) (t : Taken) (name original bytes : List ℕ) → name ≡ t.name → IsFound run t → original ≡ original_in t.bytes → bytes ≡ sha256 original → bytes ≡ sha256 (original_at (format skip_causes) (files_of run name))
+digest_is run t name original bytes named there own is =
+    is ∙ ap sha256 (own ∙ sym (ap (original_at (format skip_causes)) (ap (files_of run) named ∙ file_at t.name run.files.now t there)))
 
-pub checksum_found : (run : Run) (cs : List Checksum) (n : List ℕ) (c : Checksum) → All (IsChecksum run) cs → find (λ x. bytes_eq x.name.now n) cs ≡ Some c → c.number ≡ checksum_of (original_at (format skip_causes) (files_of run n))
-checksum_found run [] n c all is = absurd (none-some c is)
-checksum_found run (x ∷ cs) n c all is = elim (cases_Bool (bytes_eq x.name.now n)) [
+pub digest_found : (run : Run) (ds : List Digest) (n : List ℕ) (d : Digest) → All (IsDigest run) ds → find (λ x. bytes_eq x.name.now n) ds ≡ Some d → d.bytes ≡ sha256 (original_at (format skip_causes) (files_of run n))
+digest_found run [] n d all is = absurd (none-some d is)
+digest_found run (x ∷ ds) n d all is = elim (cases_Bool (bytes_eq x.name.now n)) [
   | inl hit ↦
-      let same : x ≡ c = same_Some x c (rw hit at is) in
-      let one : IsChecksum run x = All-head (IsChecksum run) x cs all in
-      subst (λ (y : Checksum). y.number ≡ checksum_of (original_at (format skip_causes) (files_of run n))) same (one ∙ ap (λ (m : List ℕ). checksum_of (original_at (format skip_causes) (files_of run m))) (same_name x.name.now n hit))
-  | inr miss ↦ checksum_found run cs n c (All-tail (IsChecksum run) x cs all) (rw miss at is)
+      let same : x ≡ d = same_Some x d (rw hit at is) in
+      let one : IsDigest run x = All-head (IsDigest run) x ds all in
+      subst (λ (y : Digest). y.bytes ≡ sha256 (original_at (format skip_causes) (files_of run n))) same (one ∙ ap (λ (m : List ℕ). sha256 (original_at (format skip_causes) (files_of run m))) (same_name x.name.now n hit))
+  | inr miss ↦ digest_found run ds n d (All-tail (IsDigest run) x ds all) (rw miss at is)
 ]
 
 -- the members of a walk have the originals of their names

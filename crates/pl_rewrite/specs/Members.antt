@@ -11,7 +11,6 @@ use Rattle.pl_cone.specs.declared.links.Link.{Link}
 use Rattle.pl_cone.specs.declared.skip.Skip.{Skip}
 use Rattle.pl_conflict.specs.declared.among.Still.{Still}
 use Rattle.pl_form.specs.Files.{marked_in, original_in}
-use Rattle.pl_form.specs.Words.{checksum_of}
 use Rattle.pl_form.specs.declared.file.Entry.{Entry}
 use Rattle.pl_form.specs.declared.file.Entry.TheVariants.{There, BadMark, Refused}
 use Rattle.pl_form.specs.declared.file.File.TheVariants as files
@@ -36,10 +35,11 @@ use Rattle.pl_rewrite.specs.Reports as reports
 use Rattle.pl_rewrite.specs.declared.making.Made.{Made}
 use Rattle.pl_rewrite.specs.declared.report.RowState.{RowState}
 use Rattle.pl_rewrite.specs.declared.report.RowState.TheVariants.{Library, Skipped}
-use Rattle.pl_rewrite.specs.declared.running.Checksum.{Checksum}
+use Rattle.pl_rewrite.specs.declared.running.Digest.{Digest}
 use Rattle.pl_rewrite.specs.declared.running.LibraryStill.{LibraryStill}
 use Rattle.pl_rewrite.specs.declared.running.MadeFile.{MadeFile}
 use Rattle.pl_rewrite.specs.declared.running.Run.{Run}
+use Rattle.sha2.specs.Sha256.{sha256}
 
 -- ---- a run
 
@@ -60,9 +60,9 @@ prelinked run n = changes.prelinked (files_of run) run.region (plan_of run) n
 
 -- ---- what is made once
 
--- the checksum of a name's original
-abbrev pub IsChecksum : Run → Checksum → Type 0
-IsChecksum run c = c.number ≡ checksum_of (original_at (format skip_causes) (files_of run c.name.now))
+-- the SHA-256 of a name's original
+abbrev pub IsDigest : Run → Digest → Type 0
+IsDigest run d = d.bytes ≡ sha256 (original_at (format skip_causes) (files_of run d.name.now))
 
 -- a name's prelinked file
 abbrev pub IsPrelinked : Run → MadeFile → Type 0
@@ -102,7 +102,7 @@ pub record IsRun (run : Run) : Type 0 where
   pub standings : run.planned.now.standings ≡ standings (files_of run) run.region (names_of run.files.now)
   pub stale : run.planned.now.stale ≡ stale (files_of run) run.region run.planned.now.slots (names_of run.files.now)
   pub links : All (IsLink run.known.now) run.links.now
-  pub checksums : All (IsChecksum run) run.checksums.now
+  pub digests : All (IsDigest run) run.digests.now
   pub libraries : All (IsPrelinked run) run.libraries.now
   pub still : All (IsStill run) run.still.now
 

@@ -1,5 +1,5 @@
-// The list of the members of a walk, with checksums that were made once.
-ghost use Rattle.std.specs.Prelude.{◌≡◌, IfOk};
+// The list of the members of a walk, with digests that were made once.
+ghost use Rattle.std.specs.Prelude.{◌≡◌, IfOk, IfSome};
 ghost use Rattle.std.specs.List as lists;
 ghost use Rattle.std.specs.List.{All};
 ghost use Rattle.std.specs.Option.{option_map};
@@ -8,24 +8,49 @@ ghost use Rattle.pl_conflict.specs.Prelinked as form;
 ghost use Rattle.pl_form.specs.Words as words;
 ghost use Rattle.pl_prelinked.specs.Lent as lent;
 ghost use Rattle.pl_rewrite.specs.Members as spec;
+ghost use Rattle.sha2.specs.Sha256.{sha256};
 
-use crate::running::{Checksum, Run};
-use pl_base::{Rows, Text};
+use crate::running::{Digest, Run};
+use pl_base::{Rows, Text, word32};
 use pl_lists::ListRow;
 use pl_prelinked::{Source, checksum_of};
 use std::alloc::{AllocError, Global};
 
-fn is_of(checksum: &Checksum<'_>, name: &str) -> bool
-    ensures { result ≡ bytes_eq checksum.now.name.now name.now }
+fn is_of(digest: &Digest<'_>, name: &str) -> bool
+    ensures { result ≡ bytes_eq digest.now.name.now name.now }
 {
-    checksum.name == name
+    digest.name == name
 }
 
-fn found<'f, 'a>(checksums: &'f [Checksum<'a>], name: &str) -> Option<&'f Checksum<'a>>
-    ensures { option_map (λ c. c.now) result
-        ≡ lists.find (λ c. bytes_eq c.name.now name.now) checksums.now }
+fn found<'f, 'a>(digests: &'f [Digest<'a>], name: &str) -> Option<&'f Digest<'a>>
+    ensures { option_map (λ d. d.now) result
+        ≡ lists.find (λ d. bytes_eq d.name.now name.now) digests.now }
 {
-    checksums.iter().find(|checksum| is_of(checksum, name))
+    digests.iter().find(|digest| is_of(digest, name))
+}
+
+/// The SHA-256 of a member's original, where it was made already.
+fn digest_for<'a>(run: &Run<'a>, source: &Source<'_>) -> Option<&'a [u8; 32]>
+    requires run { spec.IsRun run.now }
+    requires own { spec.HasOriginal run.now source.now }
+    ensures { IfSome result (λ d. d.now ≡ sha256 source.now.member.original) }
+{
+    match found(run.digests, source.name) {
+        None => None,
+        Some(digest) => Some(&digest.bytes),
+    }
+}
+
+/// That of the first of members.
+pub fn first_digest<'a>(run: &Run<'a>, sources: &[Source<'_>]) -> Option<&'a [u8; 32]>
+    requires run { spec.IsRun run.now }
+    requires own { All (spec.HasOriginal run.now) sources.now }
+    ensures { IfSome result (λ d. lent.IsFirstDigest sources.now d.now) }
+{
+    let [first, ..] = sources else {
+        return None;
+    };
+    digest_for(run, first)
 }
 
 /// The checksum of a member's original.
@@ -34,9 +59,9 @@ fn checksum_for(run: &Run<'_>, source: &Source<'_>) -> u32
     requires own { spec.HasOriginal run.now source.now }
     ensures { result ≡ words.checksum_of source.now.member.original }
 {
-    match found(run.checksums, source.name) {
+    match digest_for(run, source) {
         None => checksum_of(source.original),
-        Some(checksum) => checksum.number,
+        Some(digest) => word32(digest, 0),
     }
 }
 

@@ -4,35 +4,35 @@ ghost use Rattle.std.specs.List.{All};
 ghost use Rattle.pl_rewrite.specs.Members as spec;
 
 use crate::prelinking::made_prelinked;
-use crate::running::{Checksum, MadeFile, Run, is_among, is_skipped};
+use crate::running::{Digest, MadeFile, Run, is_among, is_skipped};
 use crate::sources::{is_library, original_of};
+use pl_form::digest_of;
 use pl_io::NoMemory;
 use pl_known::Taken;
-use pl_prelinked::checksum_of;
 use std::alloc::{AllocError, Global};
 
-/// The checksum of a file's original.
-fn checksum_in<'a>(run: &Run<'a>, taken: &'a Taken) -> Checksum<'a>
+/// The SHA-256 of a file's original.
+fn digest_in<'a>(run: &Run<'a>, taken: &'a Taken) -> Digest<'a>
     requires run { spec.IsRun run.now }
     requires found { spec.IsFound run.now taken.now }
-    ensures { spec.IsChecksum run.now result }
+    ensures { spec.IsDigest run.now result }
 {
-    Checksum {
+    Digest {
         name: taken.name.as_str(),
-        number: checksum_of(original_of(taken)),
+        bytes: digest_of(original_of(taken)),
     }
 }
 
 /// Those of all files.
-pub fn checksums_of<'a>(alloc: Global, run: &Run<'a>) -> Result<Vec<Checksum<'a>>, AllocError>
+pub fn digests_of<'a>(alloc: Global, run: &Run<'a>) -> Result<Vec<Digest<'a>>, AllocError>
     requires { spec.IsRun run.now }
-    ensures { IfOk result (λ v. All (spec.IsChecksum run.now) v.items) }
+    ensures { IfOk result (λ v. All (spec.IsDigest run.now) v.items) }
 {
-    let mut checksums = Vec::new(alloc);
+    let mut digests = Vec::new(alloc);
     for taken in run.files {
-        checksums.push(checksum_in(run, taken))?;
+        digests.push(digest_in(run, taken))?;
     }
-    Ok(checksums)
+    Ok(digests)
 }
 
 /// The same bytes with no room behind them.

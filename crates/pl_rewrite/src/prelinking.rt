@@ -4,11 +4,11 @@ ghost use Rattle.std.specs.Option.{option_map};
 ghost use Rattle.pl_cone.specs.Candidates as cone;
 ghost use Rattle.pl_cone.specs.Known.{AreAccepted};
 ghost use Rattle.pl_conflict.specs.Prelinked as form;
-ghost use Rattle.pl_prelinked.specs.Lent.{AreStillIn, list_after};
+ghost use Rattle.pl_prelinked.specs.Lent.{AreStillIn, IsFirstDigest, list_after};
 ghost use Rattle.pl_prelinked.specs.Sources.{AreSources, members};
 ghost use Rattle.pl_rewrite.specs.Members as spec;
 
-use crate::lists::list_after;
+use crate::lists::{first_digest, list_after};
 use crate::parts::parts_of;
 use crate::running::Run;
 use crate::sources::sources_of;
@@ -29,17 +29,23 @@ fn with_parts<'p>(
     list: &'p [ListRow],
     parts: &'p Parts<'p>,
     still: &'p [Still<'p>],
+    digest: Option<&'p [u8; 32]>,
 ) -> Result<Option<Vec<u8>>, NoMemory>
     requires sources { AreSources sources.now }
     requires list { list.now ≡ list_after sources.now }
     requires parts { parts.now ≡ form.parts_of sources.now }
     requires still { AreStillIn sources.now still.now }
+    requires digest { IfSome digest (λ d. IsFirstDigest sources.now d.now) }
     ensures { IfOk result (λ file. option_map (λ v. v.items) file
         ≡ form.prelinked (members sources.now)) }
 {
-    let parts = Some(parts);
-    let still = Some(still);
-    prelink_with(alloc, sources, &Lent { list, parts, still })
+    let lent = Lent {
+        list,
+        parts: Some(parts),
+        still: Some(still),
+        digest,
+    };
+    prelink_with(alloc, sources, &lent)
 }
 
 /// The same without any.
@@ -47,9 +53,11 @@ fn without_parts(
     alloc: Global,
     sources: &[Source<'_>],
     list: &[ListRow],
+    digest: Option<&[u8; 32]>,
 ) -> Result<Option<Vec<u8>>, NoMemory>
     requires sources { AreSources sources.now }
     requires list { list.now ≡ list_after sources.now }
+    requires digest { IfSome digest (λ d. IsFirstDigest sources.now d.now) }
     ensures { IfOk result (λ file. option_map (λ v. v.items) file
         ≡ form.prelinked (members sources.now)) }
 {
@@ -57,6 +65,7 @@ fn without_parts(
         list,
         parts: None,
         still: None,
+        digest,
     };
     prelink_with(alloc, sources, &lent)
 }
@@ -68,17 +77,19 @@ fn prelinked_with(
     list: &[ListRow],
     parts: Option<Parts<'_>>,
     still: &[Still<'_>],
+    digest: Option<&[u8; 32]>,
 ) -> Result<Option<Vec<u8>>, NoMemory>
     requires sources { AreSources sources.now }
     requires list { list.now ≡ list_after sources.now }
     requires parts { IfSome parts (λ p. p ≡ form.parts_of sources.now) }
     requires still { AreStillIn sources.now still.now }
+    requires digest { IfSome digest (λ d. IsFirstDigest sources.now d.now) }
     ensures { IfOk result (λ file. option_map (λ v. v.items) file
         ≡ form.prelinked (members sources.now)) }
 {
     match parts {
-        None => without_parts(alloc, sources, list),
-        Some(parts) => with_parts(alloc, sources, list, &parts, still),
+        None => without_parts(alloc, sources, list, digest),
+        Some(parts) => with_parts(alloc, sources, list, &parts, still, digest),
     }
 }
 
@@ -100,7 +111,15 @@ fn prelinked_by<'a>(
     let list = list_after(alloc, run, members)?;
     let parts = parts_of(alloc, run, members)?;
     let still = flags_of(alloc, run, members)?;
-    prelinked_with(alloc, members, list.as_slice(), parts, still.as_slice())
+    let digest = first_digest(run, members);
+    prelinked_with(
+        alloc,
+        members,
+        list.as_slice(),
+        parts,
+        still.as_slice(),
+        digest,
+    )
 }
 
 /// The walk of a name; None where it is refused.

@@ -11,7 +11,7 @@ ghost use Rattle.pl_rewrite.specs.Members.{IsPrelinked, IsRun, files_of, plan_of
 ghost use Rattle.pl_rewrite.specs.Rewriting as spec;
 
 use crate::making::{AllMade, all_made};
-use crate::once::{checksums_of, libraries_of, programs_of};
+use crate::once::{digests_of, libraries_of, programs_of};
 use crate::running::{MadeFile, Run};
 use crate::still::stills_of;
 use crate::{Report, ReportRow};
@@ -53,7 +53,7 @@ fn programs_with_still<'a>(
         region: run.region,
         planned: run.planned,
         links: run.links,
-        checksums: run.checksums,
+        digests: run.digests,
         libraries: run.libraries,
         still: still.as_slice(),
     };
@@ -77,7 +77,7 @@ fn programs_with<'a>(
         region: run.region,
         planned: run.planned,
         links: run.links,
-        checksums: run.checksums,
+        digests: run.digests,
         libraries,
         still: run.still,
     };
@@ -105,20 +105,20 @@ fn made_with_files(alloc: Global, run: &Run<'_>) -> Result<AllMade, NoMemory>
     all_made(alloc, run, files)
 }
 
-/// The same, where the checksum of each original is made once.
-fn made_with_checksums(alloc: Global, run: &Run<'_>) -> Result<AllMade, NoMemory>
+/// The same, where the SHA-256 of each original is made once.
+fn made_with_digests(alloc: Global, run: &Run<'_>) -> Result<AllMade, NoMemory>
     requires { IsRun run.now }
     ensures { IfOk result (λ made. made ≡ spec.all_made (files_of run.now)
         (names_of run.now.files.now) run.now.region (plan_of run.now)) }
 {
-    let checksums = checksums_of(alloc, run)?;
+    let digests = digests_of(alloc, run)?;
     let run = Run {
         files: run.files,
         known: run.known,
         region: run.region,
         planned: run.planned,
         links: run.links,
-        checksums: checksums.as_slice(),
+        digests: digests.as_slice(),
         libraries: run.libraries,
         still: run.still,
     };
@@ -146,14 +146,14 @@ fn made_by(
         region: asked.region,
         planned: &plan.planned,
         links: plan.links.as_slice(),
-        checksums: &[],
+        digests: &[],
         libraries: &[],
         still: &[],
     };
     if plan.planned.stale.as_slice().is_empty() {
         return all_made(alloc, &run, Vec::new(alloc));
     }
-    made_with_checksums(alloc, &run)
+    made_with_digests(alloc, &run)
 }
 
 /// The stamp of the cache after a run.

@@ -11,11 +11,11 @@ use pl_elf::Range;
 use pl_known::Taken;
 use pl_plan::{Planned, Standing};
 
-/// The checksum of a name's original.
+/// The SHA-256 of a name's original.
 #[derive(Clone, Copy)]
-pub struct Checksum<'a> {
+pub struct Digest<'a> {
     pub name: &'a str,
-    pub number: u32,
+    pub bytes: [u8; 32],
 }
 
 /// The prelinked file of a name, by the plan of a run.
@@ -53,8 +53,8 @@ pub struct Run<'a> {
     /// Which relocations of the files' libraries are known to give the same in every walk.
     pub links: &'a [Link],
 
-    /// Checksums that were made already.
-    pub checksums: &'a [Checksum<'a>],
+    /// The SHA-256 of originals, where it was made already.
+    pub digests: &'a [Digest<'a>],
 
     /// Prelinked files of libraries that were made already.
     pub libraries: &'a [MadeFile<'a>],

@@ -1,8 +1,8 @@
 use Rattle.std.proofs.Common.{◌≡◌, List, sym, ap, subst, ◌∙◌}
-use Rattle.std.specs.Prelude.{IfOk}
+use Rattle.std.specs.Prelude.{IfOk, IfSome}
 use Rattle.pl_conflict.specs.Own.{own_words}
 use Rattle.pl_conflict.specs.Prelinked.{Firm, library_file, objects_of, slots_of}
-use Rattle.pl_prelinked.specs.Lent.{list_after}
+use Rattle.pl_prelinked.specs.Lent.{IsFirstDigest, list_after}
 use Rattle.pl_prelinked.specs.Libraries.{IsLibraryWalk}
 use Rattle.pl_prelinked.specs.Sources.{AreSources}
 use Rattle.pl_prelinked.proofs.FirmLaws.{parts_are}
@@ -26,6 +26,10 @@ form_of-requires-clause-list c = subst (λ (rs : List Firm). c.args.list.now ≡
 
 pub form_of-requires-clause-words : goal.form_of-requires-clause-words
 form_of-requires-clause-words c = c.as_slice.ensures ∙ c.in_ok-words.ensures ∙ ap (λ (rs : List Firm). own_words (objects_of rs) (slots_of rs)) (parts_are c.args.sources.now c.library-item.result c.in-len1-up.len_at_least c.library-item.is)
+
+pub form_of-requires-clause-digest : goal.form_of-requires-clause-digest
+form_of-requires-clause-digest c =
+    subst (λ (rs : List Firm). IfSome c.args.digest (λ d. IsFirstDigest rs d.now)) (parts_are c.args.sources.now c.library-item.result c.in-len1-up.len_at_least c.library-item.is) c.requires.digest
 
 pub returns : goal.returns
 returns c = subst (λ (rs : List Firm). IfOk c.form_of.result (λ file. file.items ≡ library_file rs)) (sym (parts_are c.args.sources.now c.library-item.result c.in-len1-up.len_at_least c.library-item.is)) c.form_of.ensures

@@ -17,6 +17,9 @@ stored_library-requires-clause-library c =
 pub stored_library-requires-clause-list : goal.stored_library-requires-clause-list
 stored_library-requires-clause-list c = c.requires.lent.list
 
+pub stored_library-requires-clause-digest : goal.stored_library-requires-clause-digest
+stored_library-requires-clause-digest c = c.requires.lent.digest
+
 pub returns-then-is_library : goal.returns-then-is_library
 returns-then-is_library c =
     subst (λ (o : Option (List ℕ)). IfOk c.stored_library.result (λ file. option_map (λ v. v.items) file ≡ o))

@@ -22,13 +22,13 @@ all_made-requires-clause-run c =
       standings = n.standings;
       stale = n.stale;
       links = rw (c.as_slice.ensures, c.as_slice-2.ensures) c.requires.links;
-      checksums = All-nil _;
+      digests = All-nil _;
       libraries = All-nil _;
       still = All-nil _;
     }
 
-pub made_with_checksums-requires : goal.made_with_checksums-requires
-made_with_checksums-requires c =
+pub made_with_digests-requires : goal.made_with_digests-requires
+made_with_digests-requires c =
     let n = plan_names (files_in c.args.files.now) (names_of c.args.files.now) c.args.asked.now c.args.plan.now.planned c.requires.planned in
     record {
       taken = c.requires.taken;
@@ -36,7 +36,7 @@ made_with_checksums-requires c =
       standings = n.standings;
       stale = n.stale;
       links = rw (c.as_slice.ensures, c.as_slice-2.ensures) c.requires.links;
-      checksums = All-nil _;
+      digests = All-nil _;
       libraries = All-nil _;
       still = All-nil _;
     }

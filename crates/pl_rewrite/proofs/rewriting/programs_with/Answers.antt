@@ -7,7 +7,7 @@ programs_with_still-requires-clause-run c = record {
   standings = c.requires.run.standings;
   stale = c.requires.run.stale;
   links = c.requires.run.links;
-  checksums = c.requires.run.checksums;
+  digests = c.requires.run.digests;
   libraries = c.requires.libraries;
   still = c.requires.run.still;
 }

@@ -10,7 +10,7 @@ programs_of-requires-clause-run c = record {
   standings = c.requires.run.standings;
   stale = c.requires.run.stale;
   links = c.requires.run.links;
-  checksums = c.requires.run.checksums;
+  digests = c.requires.run.digests;
   libraries = c.requires.run.libraries;
   still = subst (All (IsStill c.args.run.now)) (sym c.as_slice.ensures.value) c.in_ok-still.ensures;
 }

@@ -1,7 +1,7 @@
 use Rattle.std.proofs.Common.{sym, subst}
 use Rattle.std.specs.List.{All}
-use Rattle.pl_rewrite.specs.Members.{IsChecksum}
-use Rattle.pl_rewrite.proofs.rewriting.made_with_checksums.Goals as goal
+use Rattle.pl_rewrite.specs.Members.{IsDigest}
+use Rattle.pl_rewrite.proofs.rewriting.made_with_digests.Goals as goal
 
 pub made_with_files-requires : goal.made_with_files-requires
 made_with_files-requires c = record {
@@ -10,7 +10,7 @@ made_with_files-requires c = record {
   standings = c.requires.standings;
   stale = c.requires.stale;
   links = c.requires.links;
-  checksums = subst (All (IsChecksum c.args.run.now)) (sym c.as_slice.ensures.value) c.in_ok-checksums.ensures;
+  digests = subst (All (IsDigest c.args.run.now)) (sym c.as_slice.ensures.value) c.in_ok-digests.ensures;
   libraries = c.requires.libraries;
   still = c.requires.still;
 }
