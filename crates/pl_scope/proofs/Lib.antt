@@ -14,3 +14,4 @@ pub mod WalkedLaws
 pub mod FoundLaws
 pub mod IndexLaws
 pub mod KeptLaws
+pub mod CanonicalLaws

@@ -7,7 +7,7 @@ use Rattle.pl_sym.specs.declared.class.Class.{Class}
 use Rattle.pl_sym.specs.declared.class.Class.TheVariants.{Jump, Other}
 use Rattle.pl_ver.specs.Fields.{index_of}
 use Rattle.pl_ver.specs.declared.constants.TheConstants.{VER_NDX_GLOBAL}
-use Rattle.pl_hash.specs.Hash.{gnu, sysv}
+use Rattle.pl_hash.specs.Hash.{gnu}
 use Rattle.pl_hash.specs.Chain.{IsWellFormed}
 use Rattle.pl_hash.specs.Candidates.{candidates, is_candidate, name_hash}
 use Rattle.pl_hash.specs.declared.table.Table.{Table}
@@ -84,8 +84,7 @@ is_other Other = true
 unfoldable pub has_canonical : Object → List ℕ → Class → Bool
 has_canonical o name class = is_other class && is_program o.kind && list_any (is_canonical_of o name) o.symbols
 
--- ---- the hashes of what is wanted
+-- ---- the hash of what is wanted
 
 pub record IsWanted (w : Wanted) : Type 0 where
   pub gnu : w.gnu ≡ gnu w.name.now
-  pub sysv : w.sysv ≡ sysv w.name.now

@@ -1,7 +1,8 @@
 // The definer that a reference finds.
-ghost use Rattle.std.specs.Prelude.{◌≡◌, ◌<◌, length, IfSome, Some};
+ghost use Rattle.std.specs.Prelude.{◌≡◌, ◌<◌, ◌==◌, ◌&&◌, length, not, IfSome, Some};
 ghost use Rattle.std.specs.List.{list_any};
 ghost use Rattle.std.specs.Option.{option_map};
+ghost use Rattle.pl_sym.specs.Symbol.{is_undefined};
 ghost use Rattle.pl_scope.specs.Scope.{objects, IsFit, IsSymbol};
 ghost use Rattle.pl_scope.specs.Matching.{matching};
 ghost use Rattle.pl_scope.specs.Probing as probing;
@@ -38,9 +39,19 @@ fn binds_itself(symbol: &Symbol) -> bool
     symbol.is_local() || (symbol.visibility != STV_DEFAULT && !symbol.is_undefined())
 }
 
+/// Whether a symbol is undefined and has a value. No other defines a name for some references alone, and most are told apart by this without a look at their names.
+fn may_be_canonical(symbol: &Symbol) -> bool
+    ensures { result ≡ (not (symbol.now.value == 0) && is_undefined symbol.now) }
+{
+    symbol.value != 0 && symbol.is_undefined()
+}
+
 fn is_canonical_of(object: &Object, name: &[u8], symbol: &Symbol) -> bool
     ensures { result ≡ probing.is_canonical_of object.now name.now symbol.now }
 {
+    if !may_be_canonical(symbol) {
+        return false;
+    }
     defines(object, name, Class::Other, symbol) && !defines(object, name, Class::Jump, symbol)
 }
 

@@ -12,7 +12,7 @@ use pl_sym::{Class, Symbol};
 use pl_ver::constants::VER_NDX_GLOBAL;
 use pl_ver::index_of;
 
-/// What a reference asks of each object: a definer of a name, for a class of relocations and with or without a version. The name's hashes are made once.
+/// What a reference asks of each object: a definer of a name, for a class of relocations and with or without a version. The name's hash in GNU tables, which most objects have, is made once.
 #[derive(Drop)]
 pub struct Wanted<'a> {
     pub name: &'a [u8],
@@ -23,9 +23,6 @@ pub struct Wanted<'a> {
 
     /// The name's hash in a GNU table.
     pub gnu: u32,
-
-    /// The name's hash in a System V table.
-    pub sysv: u32,
 }
 
 #[tactic(auto, unfolding(crate::specs::Finds::class_of))]
@@ -55,7 +52,7 @@ pub fn wanted_by<'a>(object: &'a Object, symbol: &'a Symbol, kind: u32) -> Wante
     ensures name { result.name.now ≡ symbol.now.name }
     ensures class { result.class ≡ finds.class_of kind }
     ensures version { option_map (λ name. name.now) result.version ≡ finds.version_wanted object.now symbol.now }
-    ensures hashes { spec.IsWanted result }
+    ensures hash { spec.IsWanted result }
 {
     let name = symbol.name.as_slice();
     Wanted {
@@ -63,7 +60,6 @@ pub fn wanted_by<'a>(object: &'a Object, symbol: &'a Symbol, kind: u32) -> Wante
         class: class_of(kind),
         version: version_wanted(object, symbol),
         gnu: gnu_hash(name),
-        sysv: sysv_hash(name),
     }
 }
 
@@ -72,5 +68,9 @@ pub fn hash_in(wanted: &Wanted<'_>, table: &Table) -> u32
     requires { spec.IsWanted wanted.now }
     ensures { result ≡ name_hash table.now wanted.now.name.now }
 {
-    if table.gnu { wanted.gnu } else { wanted.sysv }
+    if table.gnu {
+        wanted.gnu
+    } else {
+        sysv_hash(wanted.name)
+    }
 }
