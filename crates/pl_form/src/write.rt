@@ -14,12 +14,36 @@ use crate::Layout;
 use crate::bytes::{plain, push_part, put_bytes, section_table, segment_table, up};
 use crate::places::put_visible;
 use pl_base::Rows;
-use pl_elf::constants::{HEADER_SIZE, SHT_PROGBITS, SHT_STRTAB};
+use pl_elf::constants::{HEADER_SIZE, SECTION_SIZE, SHT_PROGBITS, SHT_STRTAB};
 use pl_elf::{Header, Section, header_fields, read_section, section_data, write_header};
 use pl_move::move_tables;
 use pl_parts::Plan;
 use pl_parts::constants::{NAMES_NAME, UNDO_NAME};
 use std::alloc::{AllocError, Global};
+
+/// How many bytes there may be of a form, so that room is made for them at once. Nothing but memory and time depends on it.
+fn room_for(bytes: &[u8], plan: &Plan, undo: &[u8]) -> usize {
+    // The names of sections, and the 0 bytes between parts.
+    let mut room: usize = 1024;
+    room = room.saturating_add(bytes.len());
+    room = room.saturating_add(plan.more.len());
+    room = room.saturating_add(undo.len());
+    room = room.saturating_add(plan.names.len());
+    room = room.saturating_add(SECTION_SIZE.saturating_mul(plan.sections.len()));
+    for part in plan.parts.as_slice() {
+        room = room.saturating_add(part.len());
+    }
+    room
+}
+
+/// A copy of bytes with room for so many.
+fn copy_with(alloc: Global, bytes: &[u8], room: usize) -> Result<Vec<u8>, AllocError>
+    ensures { IfOk result (λ v. v.items ≡ bytes.now) }
+{
+    let mut copy = Vec::with_capacity(alloc, room)?;
+    copy.extend_from_slice(bytes)?;
+    Ok(copy)
+}
 
 /// The original's bytes moved, with bytes at the places, and the new dynamic table and program headers.
 #[tactic(auto, unfolding(pl_parts::specs::Parts::moved_part))]
@@ -29,6 +53,7 @@ fn under_header(
     layout: &Layout,
     plan: &Plan,
     flat: &[u8],
+    room: usize,
 ) -> Result<Vec<u8>, AllocError>
     requires { LiesIn bytes.now layout.now plan.now flat.now }
     ensures under { IfOk result (λ v. v.items ≡ parts.under_header plan.now (original bytes.now layout.now) flat.now) }
@@ -36,7 +61,7 @@ fn under_header(
 {
     let phoff = header_fields(bytes).phoff;
     let segments = segment_table(alloc, plan.segments.as_slice())?;
-    let mut front = Vec::from_slice(alloc, bytes)?;
+    let mut front = copy_with(alloc, bytes, room)?;
     move_tables(&mut front, layout.tables.as_slice(), plan.slot);
     put_visible(&mut front, layout.spots.as_slice(), flat);
     put_bytes(
@@ -48,20 +73,38 @@ fn under_header(
     Ok(front)
 }
 
-/// Bytes with others inserted at an offset.
-fn with_inserted(
+/// Bytes with others inserted at an offset, with room for so many.
+fn with_more(
     alloc: Global,
     cut: usize,
     more: &[u8],
     bytes: &[u8],
+    room: usize,
 ) -> Result<Vec<u8>, AllocError>
     requires { cut ≤ length bytes.now }
     ensures { IfOk result (λ v. v.items ≡ inserted cut more.now bytes.now) }
 {
-    let mut file = Vec::from_slice(alloc, &bytes[..cut])?;
+    let mut file = copy_with(alloc, &bytes[..cut], room)?;
     file.extend_from_slice(more)?;
     file.extend_from_slice(&bytes[cut..])?;
     Ok(file)
+}
+
+/// The same. Where nothing is inserted, no byte is copied.
+fn with_inserted(
+    alloc: Global,
+    cut: usize,
+    more: &[u8],
+    bytes: Vec<u8>,
+    room: usize,
+) -> Result<Vec<u8>, AllocError>
+    requires { cut ≤ length bytes.items }
+    ensures { IfOk result (λ v. v.items ≡ inserted cut more.now bytes.items) }
+{
+    if more.is_empty() {
+        return Ok(bytes);
+    }
+    with_more(alloc, cut, more, &bytes, room)
 }
 
 /// Adds each part at the next multiple of 8.
@@ -102,12 +145,13 @@ fn body(
     layout: &Layout,
     plan: &Plan,
     flat: &[u8],
+    room: usize,
 ) -> Result<Vec<u8>, AllocError>
     requires { LiesIn bytes.now layout.now plan.now flat.now }
     ensures { IfOk result (λ v. v.items ≡ parts.joined (inserted plan.now.cut plan.now.more (parts.under_header plan.now (original bytes.now layout.now) flat.now)) plan.now.parts) }
 {
-    let front = under_header(alloc, bytes, layout, plan, flat)?;
-    let mut file = with_inserted(alloc, plan.cut, plan.more.as_slice(), &front)?;
+    let front = under_header(alloc, bytes, layout, plan, flat, room)?;
+    let mut file = with_inserted(alloc, plan.cut, plan.more.as_slice(), front, room)?;
     push_parts(&mut file, plan.parts.as_slice())?;
     Ok(file)
 }
@@ -182,7 +226,8 @@ pub fn write_form(
     requires names { headers.section_offset (headers.header bytes.now) (headers.header bytes.now).shstrndx + 64 ≤ length bytes.now }
     ensures { IfOk result (λ v. v.items ≡ parts.form plan.now (original bytes.now layout.now) flat.now undo.now) }
 {
-    let mut file = body(alloc, bytes, layout, plan, flat)?;
+    let room = room_for(bytes, plan, undo);
+    let mut file = body(alloc, bytes, layout, plan, flat, room)?;
     let names = old_names(bytes);
     let rows = push_ends(alloc, &mut file, names, plan, undo)?;
     let at = up(file.len());

@@ -1,0 +1,13 @@
+use Rattle.std.proofs.Common.{◌≡◌, ℕ, List, [], ◌∷◌, length, sym, ◌∙◌, arith}
+use Rattle.std.proofs.lemmas.Bool.{eqb-true}
+use Rattle.std.proofs.lemmas.List.{take-append-drop}
+use Rattle.pl_parts.specs.Back.{inserted}
+use Rattle.pl_form.proofs.write.with_inserted.Goals as goal
+
+none_inserted : (cut : ℕ) (more bytes : List ℕ) → length more ≡ 0 → bytes ≡ inserted cut more bytes
+none_inserted cut [] bytes e = sym (take-append-drop cut bytes)
+none_inserted cut (m ∷ ms) bytes e = absurd (omega (arith, e))
+
+pub returns-then-is_empty : goal.returns-then-is_empty
+returns-then-is_empty c =
+    none_inserted c.args.cut c.args.more.now c.args.bytes.items (eqb-true (length c.args.more.now) 0 (sym c.is_empty.ensures ∙ c.if-is_empty.true))
