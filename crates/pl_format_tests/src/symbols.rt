@@ -1,13 +1,12 @@
 // Tests of pl_sym.
-use pl_base::Rows;
 use pl_sym::constants::{
     SHN_ABS, SHN_HIRESERVE, SHN_LORESERVE, SHN_UNDEF, STB_GLOBAL, STB_GNU_UNIQUE, STB_LOCAL,
     STB_WEAK, STT_FILE, STT_FUNC, STT_GNU_IFUNC, STT_NOTYPE, STT_OBJECT, STT_SECTION, STT_TLS,
     STV_DEFAULT, STV_HIDDEN, STV_INTERNAL, STV_PROTECTED,
 };
-use pl_sym::{Class, SymFault, Symbol, is_definer, read_symbols};
+use pl_sym::{Class, Name, SymFault, Symbol, is_definer, read_symbols};
 use pl_ver::constants::VER_NDX_GLOBAL;
-use std::alloc::Global;
+use std::alloc::{AllocError, Global};
 use std::process::Abort;
 
 /// Value, binding, type, visibility and section.
@@ -157,10 +156,10 @@ fn refuses_names_without_end(rt: HostRuntime) {
     }
 }
 
-fn symbol(alloc: Global, fields: Fields) -> Symbol {
+fn symbol(alloc: Global, fields: Fields) -> Result<Symbol, AllocError> {
     let (value, bind, kind, visibility, section) = fields;
-    Symbol {
-        name: Rows::new(alloc),
+    Ok(Symbol {
+        name: Name::copy_of(alloc, &[])?,
         value,
         size: 8,
         bind,
@@ -168,7 +167,7 @@ fn symbol(alloc: Global, fields: Fields) -> Symbol {
         visibility,
         section,
         version: VER_NDX_GLOBAL,
-    }
+    })
 }
 
 /// Whether it is a definer for jump slots and for other references, in a library, then in a program.
@@ -181,11 +180,17 @@ fn answers(symbol: &Symbol) -> [bool; 4] {
     ]
 }
 
-fn expect_answers(rt: &impl Abort, alloc: Global, symbols: &[Fields], wanted: [bool; 4]) {
+fn expect_answers(
+    rt: &impl Abort,
+    alloc: Global,
+    symbols: &[Fields],
+    wanted: [bool; 4],
+) -> Result<(), AllocError> {
     for fields in symbols {
-        let symbol = symbol(alloc, *fields);
+        let symbol = symbol(alloc, *fields)?;
         assert!(rt; answers(&symbol) == wanted, "{fields:?}");
     }
+    Ok(())
 }
 
 /// Definers for each reference. Type 5 is a common block.
@@ -230,10 +235,10 @@ const CANONICAL: [Fields; 3] = [
 ];
 
 #[test]
-fn knows_definers(rt: HostRuntime) {
-    expect_answers(&rt, rt.alloc(), &ALWAYS, [true; 4]);
-    expect_answers(&rt, rt.alloc(), &NEVER, [false; 4]);
-    expect_answers(&rt, rt.alloc(), &CANONICAL, [false, false, false, true]);
+fn knows_definers(rt: HostRuntime) -> Result<(), AllocError> {
+    expect_answers(&rt, rt.alloc(), &ALWAYS, [true; 4])?;
+    expect_answers(&rt, rt.alloc(), &NEVER, [false; 4])?;
+    expect_answers(&rt, rt.alloc(), &CANONICAL, [false, false, false, true])
 }
 
 /// Sections; whether a symbol there is undefined, absolute, in a section.
@@ -247,9 +252,9 @@ const SECTIONS: [(u16, [bool; 3]); 6] = [
 ];
 
 #[test]
-fn knows_sections(rt: HostRuntime) {
+fn knows_sections(rt: HostRuntime) -> Result<(), AllocError> {
     for (section, wanted) in &SECTIONS {
-        let symbol = symbol(rt.alloc(), (0, STB_LOCAL, STT_TLS, STV_DEFAULT, *section));
+        let symbol = symbol(rt.alloc(), (0, STB_LOCAL, STT_TLS, STV_DEFAULT, *section))?;
         let found = [
             symbol.is_undefined(),
             symbol.is_absolute(),
@@ -258,4 +263,5 @@ fn knows_sections(rt: HostRuntime) {
         assert!(rt; found == *wanted, "{section}");
         assert!(rt; symbol.is_local() && symbol.is_tls());
     }
+    Ok(())
 }

@@ -1,3 +1,4 @@
 pub mod Symbol
 pub mod Table
 pub mod Definers
+pub mod Name

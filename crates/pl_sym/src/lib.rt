@@ -5,11 +5,13 @@ mod class;
 pub mod constants;
 mod definers;
 mod fault;
+mod name;
 mod symbol;
 mod table;
 
 pub use class::Class;
 pub use definers::is_definer;
 pub use fault::SymFault;
+pub use name::Name;
 pub use symbol::Symbol;
 pub use table::read_symbols;

@@ -1,14 +1,14 @@
 ghost use Rattle.std.specs.Prelude.{◌≡◌};
 ghost use Rattle.pl_sym.specs.Symbol as spec;
 
+use crate::Name;
 use crate::constants::{SHN_ABS, SHN_HIRESERVE, SHN_LORESERVE, SHN_UNDEF, STB_LOCAL, STT_TLS};
-use pl_base::Rows;
 
 /// A symbol as a row of a symbol table describes it (gABI chapter 4, "Symbol Table").
 #[derive(Drop)]
 pub struct Symbol {
     /// The bytes of its name, without the 0 that ends it.
-    pub name: Rows<u8>,
+    pub name: Name,
 
     /// An address, or a number if the symbol is absolute, or an offset in the TLS block.
     pub value: u64,

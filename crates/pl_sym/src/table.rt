@@ -3,7 +3,7 @@ ghost use Rattle.pl_base.specs.Answers.{Answers};
 ghost use Rattle.pl_sym.specs.Table as spec;
 
 use crate::constants::SYMBOL_SIZE;
-use crate::{SymFault, Symbol};
+use crate::{Name, SymFault, Symbol};
 use pl_base::{Rows, string_at, word16, word32, word64};
 use pl_ver::Demand;
 use pl_ver::constants::VER_NDX_GLOBAL;
@@ -19,7 +19,7 @@ fn symbol_at(alloc: Global, table: &[u8], strings: &[u8], at: usize) -> Result<S
     match string_at(strings, u64::from(word32(table, at))) {
         None => Err(SymFault::BadSymbol),
         Some(name) => Ok(Symbol {
-            name: Rows::from_vec(Vec::from_slice(alloc, name)?),
+            name: Name::copy_of(alloc, name)?,
             value: word64(table, at + 8),
             size: word64(table, at + 16),
             bind: info >> 4,
