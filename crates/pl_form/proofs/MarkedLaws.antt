@@ -1,8 +1,7 @@
 -- How what a file is made of is told, step by step.
-use Rattle.std.proofs.Common.{◌≡◌, ℕ, ◌+◌, ◌*◌, ◌%◌, ◌<◌, ◌≤◌, Bool, true, false, List, [], length, Option, Some, None, Ok, refl, sym, ap, subst, ◌∙◌, arith}
-use Rattle.std.specs.Prelude.{◌^◌, if◌then◌else◌}
-use Rattle.pl_base.specs.Bytes.{word32, word64}
-use Rattle.pl_base.specs.Windows.{within}
+use Rattle.std.proofs.Common.{◌≡◌, ℕ, ◌<◌, ◌≤◌, Bool, true, false, List, [], length, Option, Some, None, Ok, refl, sym, ap, subst, ◌∙◌, arith}
+use Rattle.std.specs.Prelude.{if◌then◌else◌}
+use Rattle.pl_base.specs.Bytes.{word32}
 use Rattle.pl_elf.specs.Kinds.{is_library}
 use Rattle.pl_elf.specs.declared.segment.Segment.{Segment}
 use Rattle.pl_object.specs.Accepted.{HasHead}
@@ -21,7 +20,7 @@ use Rattle.pl_form.specs.Originals.{original}
 use Rattle.pl_lists.specs.Conflicts.{ascend, are_conflicts}
 use Rattle.pl_lists.specs.declared.conflict_row.ConflictRow.{ConflictRow}
 use Rattle.pl_lists.specs.declared.list_row.ListRow.{ListRow}
-use Rattle.pl_form.specs.Reading.{IsOwn, OwnIfAny, IsSpelledList, ListIfAny, AreSpelled, SpelledIfAny, with_conflicts, firm_object, lists_in, candidate, version_in, standing, zeros_behind, places_in, is_form, checked, marked_by, IsMade, IsLayoutOf}
+use Rattle.pl_form.specs.Reading.{IsOwn, OwnIfAny, IsSpelledList, ListIfAny, AreSpelled, SpelledIfAny, with_conflicts, firm_object, lists_in, candidate, stamp_behind, version_in, standing, zeros_behind, places_in, is_form, checked, marked_by, IsMade, IsLayoutOf}
 use Rattle.pl_form.specs.declared.file.Marked.{Marked}
 use Rattle.pl_form.specs.declared.layout.Layout.{Layout}
 use Rattle.pl_form.specs.declared.read.Lists.{Lists}
@@ -98,7 +97,7 @@ spelled_here library file found l spelled is = subst (SpelledIfAny library file)
 
 -- what a file would be made of, by its parts
 pub candidate_is : (front : List ℕ) (u : Undo) (o : List ℕ) (x : Object) (l : Lists) (layout : Layout) (digest : List ℕ) (stamp checksum : ℕ) (v : Version) → IsLayoutOf o layout → digest ≡ sha256 o
-    → stamp ≡ (if is_library x.kind then word64 (16 * layout.tags + 8) (within layout.dynamic front) % 2 ^ 32 else 0) → checksum ≡ (if is_library x.kind then word32 0 digest else 0) → v ≡ version_in u.digest
+    → stamp ≡ (if is_library x.kind then stamp_behind layout front else 0) → checksum ≡ (if is_library x.kind then word32 0 digest else 0) → v ≡ version_in u.digest
     → record { object = x; original = o; slot = u.slot; stamp = stamp; checksum = checksum; list = l.list; conflicts = l.conflicts; version = v } ≡ candidate front u o x l
 unfolding candidate
 candidate_is front u o x l layout digest stamp checksum v is same stamps sums version = rw (stamps, sums, version, same, is.tags, is.dynamic) refl

@@ -139,6 +139,10 @@ version_in (Some digest) = Two
 abbrev pub stamp_in : List ℕ → List ℕ → ℕ
 stamp_in o front = word64 (16 * length (tags_of o) + 8) (within (d_of o) front) % 2 ^ 32
 
+-- the same by a layout
+abbrev pub stamp_behind : Layout → List ℕ → ℕ
+stamp_behind l front = word64 (16 * l.tags + 8) (within l.dynamic front) % 2 ^ 32
+
 -- all that a file would be made of whose front is this
 unfoldable pub candidate : List ℕ → Undo → List ℕ → Object → Lists → Marked
 candidate front u o x l = record {

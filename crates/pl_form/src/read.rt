@@ -203,7 +203,7 @@ fn version_in(digest: &Option<[u8; DIGEST_SIZE]>) -> Version
 
 /// The stamp that stands in the first entry behind the tags.
 fn stamp_in(layout: &Layout, front: &[u8]) -> u32
-    ensures { result ≡ word64 (16 * layout.now.tags + 8) (within layout.now.dynamic front.now) % 2 ^ 32 }
+    ensures { result ≡ spec.stamp_behind layout.now front.now }
 {
     let table = part(front, layout.dynamic.at(), layout.dynamic.size());
     (word_or_zeros(table, 16 * u128::from(layout.tags) + 8) % 4_294_967_296) as u32
@@ -211,7 +211,8 @@ fn stamp_in(layout: &Layout, front: &[u8]) -> u32
 
 /// The stamp of a library, 0 for a program.
 fn stamp_for(object: &Object, layout: &Layout, front: &[u8]) -> u32
-    ensures { result ≡ (if is_library object.now.kind then word64 (16 * layout.now.tags + 8) (within layout.now.dynamic front.now) % 2 ^ 32 else 0) }
+    ensures { result ≡ (if is_library object.now.kind
+        then spec.stamp_behind layout.now front.now else 0) }
 {
     if object.kind.is_library() {
         stamp_in(layout, front)
