@@ -1,7 +1,6 @@
 // What is read of a file that may be a form.
 ghost use Rattle.std.specs.Prelude.{◌≡◌, ◌+◌, ◌++◌, ◌*◌, ◌%◌, ◌^◌, ◌<◌, ◌≤◌, length, true, false, IfOk, OnOk, if◌then◌else◌};
-ghost use Rattle.pl_base.specs.Bytes.{part, word32, word64};
-ghost use Rattle.pl_base.specs.Windows.{within};
+ghost use Rattle.pl_base.specs.Bytes.{part, word32};
 ghost use Rattle.pl_elf.specs.Kinds.{is_library};
 ghost use Rattle.pl_lists.specs.Reading.{list_of, conflicts_of};
 ghost use Rattle.pl_object.specs.PlaceClauses.{last_load};
