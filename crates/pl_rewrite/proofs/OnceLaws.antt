@@ -173,7 +173,7 @@ file_made rs r rest part are is library made =
     let small = when_some (nat_le (length (library_file rs)) STORED) (Some (library_file rs)) part (file_library rs r rest is library ∙ set.1) in
     same_Some (library_file rs) part small.1
 
-part_is : (run : Run) (n : List ℕ) (ws : Walked) → IsRun run → IsCandidate run n → walk_in run.known.now n ≡ Ok ws → (p : List ℕ × Object) (part : List ℕ) → has (names ws) p.0 ≡ true → IsMember run p → IsPart run (planned_firm run p) part
+pub part_is : (run : Run) (n : List ℕ) (ws : Walked) → IsRun run → IsCandidate run n → walk_in run.known.now n ≡ Ok ws → (p : List ℕ × Object) (part : List ℕ) → has (names ws) p.0 ≡ true → IsMember run p → IsPart run (planned_firm run p) part
     → form.part_of (planned_firms run ws) (planned_firm run p) ≡ part
 unfolding form.part_of
 part_is run n ws is candidate known p part there member given = elim (cases_Bool (is_library p.1.kind)) [
