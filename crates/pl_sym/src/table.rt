@@ -47,7 +47,7 @@ pub fn read_symbols(alloc: Global, table: &[u8], strings: &[u8]) -> Result<Rows<
     ensures { Answers spec.is_memory result (spec.symbols table.now strings.now) }
 {
     ask_for_names(alloc, table, strings)?;
-    let mut symbols = Rows::new(alloc);
+    let mut symbols = Rows::from_vec(Vec::with_capacity(alloc, table.len() / SYMBOL_SIZE)?);
     for index in 0..table.len() / SYMBOL_SIZE {
         symbols.push(symbol_at(alloc, table, strings, SYMBOL_SIZE * index)?)?;
     }

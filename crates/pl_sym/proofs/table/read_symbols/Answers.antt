@@ -8,7 +8,7 @@ use Rattle.pl_sym.proofs.table.read_symbols.Goals as goal
 
 pub loop-index-init : goal.loop-index-init
 unfolding symbols
-loop-index-init c = rw c.new-symbols.ensures (rows_begin (spec.symbol c.args.table.now c.args.strings.now) (length c.args.table.now / SYMBOL_SIZE))
+loop-index-init c = rw (c.from_vec-symbols.ensures, c.in_ok-with_capacity.ensures.items) (rows_begin (spec.symbol c.args.table.now c.args.strings.now) (length c.args.table.now / SYMBOL_SIZE))
 
 pub returns-in_err-symbol_at : goal.returns-in_err-symbol_at
 returns-in_err-symbol_at c =
