@@ -219,8 +219,7 @@ module _ (run : Run) (n : List ℕ) (ws : Walked) (is : IsRun run) (candidate : 
         let object : slice_get (objects_of rs) m ≡ Some x = ap (λ (os : List Object). slice_get os m) (objects_planned run ws) ∙ object_at ws m name x at in
         let file : slice_get (loaded (slots_of rs) (parts_of rs) (objects_of rs)) m ≡ Some one =
         file_from (slots_of rs) (parts_of rs) 0 (objects_of rs) m x object
-        ∙ (ap (λ (b : ℕ). Some (loaded_at b (part_of (parts_of rs) m) x)) (slot_at run ws m name x at) ∙ ap (λ (p : List ℕ). Some (loaded_at (slot_for run name) p x)) bytes) in
-        (
+        ∙ (ap (λ (b : ℕ). Some (loaded_at b (part_of (parts_of rs) m) x)) (slot_at run ws m name x at) ∙ ap (λ (p : List ℕ). Some (loaded_at (slot_for run name) p x)) bytes) in (
           g,
           (
             ap (λ (os : List Object). meaning os (slots_of rs) tls (row m r)) (objects_planned run ws) ∙ given_of (objects ws) (slots_of rs) tls m r word.0 there,
@@ -264,12 +263,12 @@ module _ (run : Run) (n : List ℕ) (ws : Walked) (is : IsRun run) (candidate : 
 
 -- ---- as they are made
 
+set_by : (rs : List Firm) (part : List ℕ) → AreSources rs → form.prelinked (members rs) ≡ Some part → are_set rs ≡ true
+unfolding form.prelinked
+set_by rs part are made = (when_some (are_set rs) (form.stored (form.file_of rs)) part (sym (ap form.of_firm (firm_all rs are)) ∙ made)).0
+
 pub set_of : (run : Run) (n : List ℕ) (ws : Walked) (file : List ℕ) → IsRun run → IsCandidate run n → walk_in run.known.now n ≡ Ok ws → prelinked run n ≡ Some file → are_set (planned_firms run ws) ≡ true
 set_of run n ws file is candidate known made = set_by (planned_firms run ws) file (sources_are run n ws is candidate known) (walk_prelinked run n ws is known ∙ made)
-  where
-    set_by : (rs : List Firm) (part : List ℕ) → AreSources rs → form.prelinked (members rs) ≡ Some part → are_set rs ≡ true
-    unfolding form.prelinked
-    set_by rs part are made = (when_some (are_set rs) (form.stored (form.file_of rs)) part (sym (ap form.of_firm (firm_all rs are)) ∙ made)).0
 
 pub still_made : (run : Run) (s : LibraryStill) (ws : Walked) (l : Link) (file : List ℕ) → IsLinkOf run.known.now s.name.now l → prelinked run s.name.now ≡ Some file → walk_in run.known.now s.name.now ≡ Ok ws → is_library (kind_of ws) ≡ true
     → AreHeldIn (planned_firms run ws) file l.closed s.flags → IsStill run s
