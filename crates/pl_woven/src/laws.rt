@@ -6,7 +6,7 @@ pub fn woven_have_a_history()
     ensures { WovenHaveAHistory }
 {}
 
-/// So a loader that has finished answers as a load that links the originals of the files that it saw, at the same places, whatever the policy is; and its path is the fast one exactly where these files allow it there.
+/// So a loader that has finished answers as a load that links the originals of the files that it saw, at the same places, whatever the policy is; of its own file, where that is a position-independent program, it links the one that it becomes. And its path is the fast one exactly where these files allow it there.
 pub fn weaves_are_ordinary<E>()
     ensures { WeavesAreOrdinary E }
 {}
