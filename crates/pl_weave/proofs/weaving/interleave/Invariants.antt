@@ -10,4 +10,4 @@ use Rattle.pl_weave.proofs.weaving.interleave.Given as goal
 abbrev pub invariant-loop-event : goal.invariant-loop-event
 invariant-loop-event g l =
     (policies l.weave ≡ map (λ name. l.placer) l.names)
-    × IsWeaving (g.F.Fn.post l.placer) l.weave l.running (λ choose. fold (after choose) (record { loaders = map (opened tt) l.names; runs = begun (files_of l.files) [] l.runs }) (take l.event-index l.events))
+    × IsWeaving (goal.F-post g l.placer) l.weave l.running (λ choose. fold (after choose) (record { loaders = map (opened tt) l.names; runs = begun (files_of l.files) [] l.runs }) (take l.event-index l.events))

@@ -11,8 +11,8 @@ pub returns-clause-opens : goal.returns-clause-opens
 returns-clause-opens g c =
     let w = c.self.inside.loaders.items in
     let lt : c.args.loader < length w = subst (λ (v : List (Opened _)). c.args.loader < length v) (sym c.self.view_is) c.requires.below in
-    subst (λ (v : List (Opened _)). OpensAt g.F.Fn.post c.open.result c.args.loader v (slice_set w c.args.loader c.open.new.self) (g.T.Takes.seen c.args.held.now)) c.self.view_is
-    (opens_at g.F.Fn.post w c.args.loader c.index_mut.result.now c.open.new.self c.open.result (g.T.Takes.seen c.args.held.now) lt c.index_mut.ensures.value c.open.ensures.opens)
+    subst (λ (v : List (Opened _)). OpensAt (goal.F-post g) c.open.result c.args.loader v (slice_set w c.args.loader c.open.new.self) (g.T.Takes.seen c.args.held.now)) c.self.view_is
+    (opens_at (goal.F-post g) w c.args.loader c.index_mut.result.now c.open.new.self c.open.result (g.T.Takes.seen c.args.held.now) lt c.index_mut.ensures.value c.open.ensures.opens)
 
 pub returns-clause-calls : goal.returns-clause-calls
 returns-clause-calls g c =
@@ -26,5 +26,5 @@ pub open-requires : goal.open-requires
 open-requires g c =
     let w = c.self.inside.loaders.items in
     let lt : c.args.loader < length w = subst (λ (v : List (Opened _)). c.args.loader < length v) (sym c.self.view_is) c.requires.below in
-    let chosen : AreChosen g.F.Fn.pre g.F.Fn.post w = subst (λ (v : List (Opened _)). AreChosen g.F.Fn.pre g.F.Fn.post v) (sym c.self.view_is) c.requires.chosen in
-    may_open g.F.Fn.pre g.F.Fn.post w c.args.loader c.index_mut.result.now chosen lt c.index_mut.ensures.value
+    let chosen : AreChosen (goal.F-pre g) (goal.F-post g) w = subst (λ (v : List (Opened _)). AreChosen (goal.F-pre g) (goal.F-post g) v) (sym c.self.view_is) c.requires.chosen in
+    may_open (goal.F-pre g) (goal.F-post g) w c.args.loader c.index_mut.result.now chosen lt c.index_mut.ensures.value
