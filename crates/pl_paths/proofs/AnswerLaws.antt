@@ -80,7 +80,7 @@ text_same m k (ranges ∷ extents) same =
 
 -- ---- starts that are the same have one text
 
-start_same : (a b : Start) → IsSameStart a b → load_text a ≡ load_text b
+pub start_same : (a b : Start) → IsSameStart a b → load_text a ≡ load_text b
 unfolding load_text
 start_same a b same =
     let first : head_text a.fast a.objects a.modules a.entry ≡ head_text b.fast b.objects b.modules b.entry = rw (same.fast, same.objects, same.modules, same.entry) refl in
