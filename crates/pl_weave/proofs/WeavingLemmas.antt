@@ -223,6 +223,17 @@ woven_more choose w events i d lt =
     let next : i + 1 ≡ suc i = omega arith in
     ap (λ (k : ℕ). fold (after choose) w (take k events)) next ∙ ap (fold (after choose) w) (take_more events i d lt) ∙ fold_more choose w (take i events) (get_or events i d)
 
+at_length : (choose : Choice) (files : Files) (k : ℕ) (os : List (Opened (Unit {0}))) → length (opened_at choose files k os) ≡ length os
+at_length choose files k [] = refl
+at_length choose files zero (o ∷ os) = refl
+at_length choose files (suc k) (o ∷ os) = ap suc (at_length choose files k os)
+
+-- there are as many loaders after events
+pub after_length : (choose : Choice) (w : Weaving) (events : List Event) → length (fold (after choose) w events).loaders ≡ length w.loaders
+after_length choose w [] = refl
+after_length choose w (Open loader ∷ events) = after_length choose (after choose w (Open loader)) events ∙ at_length choose w.runs.files loader w.loaders
+after_length choose w (Rename ∷ events) = after_length choose (after choose w Rename) events
+
 abbrev Small : List (List ℕ × List ℕ) → Type 0
 Small [] = Unit {0}
 Small (e ∷ es) = (length e.1 ≤ STORED) × Small es

@@ -18,6 +18,7 @@ use Rattle.pl_loader.specs.Walk.{IsFile, begun, entered, read_in, taken, with_fi
 use Rattle.pl_loader.specs.declared.fault.LoadFault.{LoadFault}
 use Rattle.pl_loader.specs.declared.fault.LoadFault.TheVariants.{NotThere}
 use Rattle.pl_paths.specs.Paths.{GivesFrom}
+use Rattle.pl_place.specs.Policy.{Choice}
 use Rattle.pl_scope.specs.Members.{has}
 use Rattle.pl_scope.specs.Walk.{added}
 use Rattle.pl_scope.specs.Walk as scope
@@ -25,7 +26,8 @@ use Rattle.pl_scope.specs.Walking.{Walking, wants}
 use Rattle.pl_scope.specs.declared.fault.WalkFault.{WalkFault}
 use Rattle.pl_scope.proofs.NameLaws.{eq_flip, eq_laws, eq_refl, has_flip, same_name}
 use Rattle.pl_scope.proofs.StepLaws.{added_cases, entered_is, grown}
-use Rattle.pl_weave.specs.Opening.{HasSeen, Leads, LeadsOn}
+use Rattle.pl_weave.specs.Given.{given}
+use Rattle.pl_weave.specs.Opening.{HasSeen, Leads, LeadsOn, taken_as}
 use Rattle.pl_weave.specs.declared.seen.Seen.{Seen}
 use Rattle.pl_woven.specs.Laws.{AreSeen, SawFile}
 use Rattle.pl_woven.specs.Texts.{file_seen, seen_file}
@@ -80,6 +82,12 @@ took walk next n (Some bytes) is went =
       apart = λ d. subst (λ (w : Walking). IsDistinct bytes_eq w.names) (sym order_is) (run_apart object.needed walk.order.names en.names en.runs d);
     }
 
+-- whatever is loaded of it
+took_as : (choose : Choice) (walk next : Loading) (n : List ℕ) (file : Option (List ℕ)) → wants walk.order ≡ Some n → taken_as choose walk n file ≡ Ok next → Took walk next
+took_as choose walk next n file is went =
+    let a = bind_ok (given choose walk.name n file) (taken walk n) next went in
+    took walk next n a.0 is a.2
+
 still_at : (ns more : List (List ℕ)) (i : ℕ) (n : List ℕ) → slice_get ns i ≡ Some n → slice_get (ns ++ more) i ≡ Some n
 still_at [] more i n at = let no : ⊥ = cc in absurd no
 still_at (x ∷ ns) more zero n at = at
@@ -91,10 +99,10 @@ abbrev Unlike : List ℕ → List Seen → Type 0
 Unlike n [] = Unit {0}
 Unlike n (s ∷ seen) = (bytes_eq s.name n ≡ false) × Unlike n seen
 
-unlike : (walk : Loading) (seen : List Seen) (came : Result Loading LoadFault) (i : ℕ) (n : List ℕ) → Leads walk seen came → IsDistinct bytes_eq walk.order.names → i < walk.order.given → slice_get walk.order.names i ≡ Some n → Unlike n seen
-unlike walk [] came i n led apart lt at = tt
-unlike walk (s ∷ seen) came i n led apart lt at =
-    (other, on (λ next t more. unlike next seen came i n more (t.apart apart) (omega (arith, lt, t.given)) (subst (λ (ns : List (List ℕ)). slice_get ns i ≡ Some n) (sym t.names) (still_at walk.order.names t.more i n at))) (taken walk s.name s.file) refl led.1)
+unlike : (choose : Choice) (walk : Loading) (seen : List Seen) (came : Result Loading LoadFault) (i : ℕ) (n : List ℕ) → Leads choose walk seen came → IsDistinct bytes_eq walk.order.names → i < walk.order.given → slice_get walk.order.names i ≡ Some n → Unlike n seen
+unlike choose walk [] came i n led apart lt at = tt
+unlike choose walk (s ∷ seen) came i n led apart lt at =
+    (other, on (λ next t more. unlike choose next seen came i n more (t.apart apart) (omega (arith, lt, t.given)) (subst (λ (ns : List (List ℕ)). slice_get ns i ≡ Some n) (sym t.names) (still_at walk.order.names t.more i n at))) (taken_as choose walk s.name s.file) refl led.1)
   where
     names : List (List ℕ)
     names = walk.order.names
@@ -108,8 +116,8 @@ unlike walk (s ∷ seen) came i n led apart lt at =
         ∙ ap (λ (m : List ℕ). bytes_eq (get_or names i n) m) (sym (get_or_from_slice_get names walk.order.given s.name n led.0))
         ∙ pair
 
-    on : ((next : Loading) → Took walk next → Leads next seen came → Unlike n seen) → (r : Result Loading LoadFault) → taken walk s.name s.file ≡ r → LeadsOn (λ next. Leads next seen came) r seen came → Unlike n seen
-    on further (Ok next) went more = further next (took walk next s.name s.file led.0 went) more
+    on : ((next : Loading) → Took walk next → Leads choose next seen came → Unlike n seen) → (r : Result Loading LoadFault) → taken_as choose walk s.name s.file ≡ r → LeadsOn (λ next. Leads choose next seen came) r seen came → Unlike n seen
+    on further (Ok next) went more = further next (took_as choose walk next s.name s.file led.0 went) more
     on further (Err fault) went more = subst (λ (l : List Seen). Unlike n l) (sym more.0) tt
 
 -- ---- each file that was seen is the one of its name
@@ -122,17 +130,17 @@ owns_more : (s : Seen) (all seen : List Seen) → Unlike s.name seen → Owns al
 owns_more s all [] other owns = tt
 owns_more s all (t ∷ seen) other owns = (ap (λ (b : Bool). if b then s.file else file_seen all t.name) other.0 ∙ owns.0, owns_more s all seen other.1 owns.1)
 
-owns_all : (walk : Loading) (seen : List Seen) (came : Result Loading LoadFault) → Leads walk seen came → IsDistinct bytes_eq walk.order.names → Owns seen seen
-owns_all walk [] came led apart = tt
-owns_all walk (s ∷ seen) came led apart =
-    let rest = on (λ next t more. owns_all next seen came more (t.apart apart)) (taken walk s.name s.file) refl led.1 in
+owns_all : (choose : Choice) (walk : Loading) (seen : List Seen) (came : Result Loading LoadFault) → Leads choose walk seen came → IsDistinct bytes_eq walk.order.names → Owns seen seen
+owns_all choose walk [] came led apart = tt
+owns_all choose walk (s ∷ seen) came led apart =
+    let rest = on (λ next t more. owns_all choose next seen came more (t.apart apart)) (taken_as choose walk s.name s.file) refl led.1 in
     (ap (λ (b : Bool). if b then s.file else file_seen seen s.name) (eq_refl s.name), owns_more s seen seen rest.1 rest.0)
   where
-    on : ((next : Loading) → Took walk next → Leads next seen came → Owns seen seen) → (r : Result Loading LoadFault) → taken walk s.name s.file ≡ r → LeadsOn (λ next. Leads next seen came) r seen came → Owns seen seen × Unlike s.name seen
+    on : ((next : Loading) → Took walk next → Leads choose next seen came → Owns seen seen) → (r : Result Loading LoadFault) → taken_as choose walk s.name s.file ≡ r → LeadsOn (λ next. Leads choose next seen came) r seen came → Owns seen seen × Unlike s.name seen
     on further (Ok next) went more =
-        let t = took walk next s.name s.file led.0 went in
+        let t = took_as choose walk next s.name s.file led.0 went in
         let there = subst (λ (ns : List (List ℕ)). slice_get ns walk.order.given ≡ Some s.name) (sym t.names) (still_at walk.order.names t.more walk.order.given s.name led.0) in
-        (further next t more, unlike next seen came walk.order.given s.name more (t.apart apart) (omega (arith, t.given)) there)
+        (further next t more, unlike choose next seen came walk.order.given s.name more (t.apart apart) (omega (arith, t.given)) there)
     on further (Err fault) went more = subst (λ (l : List Seen). Owns l l × Unlike s.name l) (sym more.0) (tt, tt)
 
 is_file : (all : List Seen) (n : List ℕ) (file : Option (List ℕ)) → file_seen all n ≡ file → IsFile causes.Load (seen_file all) n file
@@ -144,9 +152,9 @@ tells_each all [] owns = tt
 tells_each all (s ∷ seen) owns = (is_file all s.name s.file owns.0, tells_each all seen owns.1)
 
 -- what was seen is what is told of the names
-pub has_seen : (name : List ℕ) (seen : List Seen) (came : Result Loading LoadFault) → Leads (begun name) seen came → HasSeen causes.Load (seen_file seen) seen
+pub has_seen : (choose : Choice) (name : List ℕ) (seen : List Seen) (came : Result Loading LoadFault) → Leads choose (begun name) seen came → HasSeen causes.Load (seen_file seen) seen
 unfolding IsDistinct
-has_seen name seen came led = tells_each seen seen (owns_all (begun name) seen came led (tt, tt))
+has_seen choose name seen came led = tells_each seen seen (owns_all choose (begun name) seen came led (tt, tt))
 
 -- ---- each file that is told was seen
 

@@ -19,15 +19,16 @@ use Rattle.pl_elf.specs.declared.range.Range.{Range}
 use Rattle.pl_known.specs.Skips.{skip_causes}
 use Rattle.pl_loader.specs.Loading.{Loading}
 use Rattle.pl_loader.specs.Started.{Start, load}
-use Rattle.pl_loader.specs.Walk.{taken}
 use Rattle.pl_loader.specs.declared.fault.LoadFault.{LoadFault}
+use Rattle.pl_paths.specs.Answers.{loading_folder}
 use Rattle.pl_paths.specs.Paths.{SameAnswer, ordinary_load}
 use Rattle.pl_paths.proofs.AnswerLaws.{start_same}
 use Rattle.pl_place.specs.Policies.{lowest}
 use Rattle.pl_script.specs.declared.script.Event.{Event}
 use Rattle.pl_script.specs.declared.script.Event.TheVariants.{Open, Rename}
 use Rattle.pl_script.specs.declared.script.Script.{Script}
-use Rattle.pl_weave.specs.Opening.{Opened, came_to, ended, led_to, opened, seen_of, wanted}
+use Rattle.pl_weave.specs.Given.{given_from}
+use Rattle.pl_weave.specs.Opening.{Opened, came_to, ended, led_to, opened, seen_of, taken_as, wanted}
 use Rattle.pl_weave.specs.Runs.{begun, progress}
 use Rattle.pl_weave.specs.Taking.{held_file}
 use Rattle.pl_weave.specs.Weaving.{Weaving, after, opened_at, opened_by, opened_once, woven}
@@ -54,22 +55,22 @@ free_led : (o : Opened (Unit {0})) (s : Seen) (came : Result Loading LoadFault) 
 free_led o s (Ok walk) free = free
 free_led o s (Err fault) free = free
 
-free_by : (files : Files) (o : Opened (Unit {0})) (name : Option (List ℕ)) → o.load.busy ≡ None → (opened_by files o name).load.busy ≡ None
+free_by : (files : Files) (o : Opened (Unit {0})) (name : Option (List ℕ)) → o.load.busy ≡ None → (opened_by lowest files o name).load.busy ≡ None
 free_by files o None free = free
-free_by files o (Some name) free = free_led o (seen_of name (held_file files name)) (taken o.load.walk name (held_file files name)) free
+free_by files o (Some name) free = free_led o (seen_of name (held_file files name)) (taken_as lowest o.load.walk name (held_file files name)) free
 
-free_at : (files : Files) (k : ℕ) (os : List (Opened (Unit {0}))) → AreFree os → AreFree (opened_at files k os)
+free_at : (files : Files) (k : ℕ) (os : List (Opened (Unit {0}))) → AreFree os → AreFree (opened_at lowest files k os)
 free_at files k [] free = tt
 free_at files zero (o ∷ os) free = (free_by files o (wanted o) free.0, free.1)
 free_at files (suc k) (o ∷ os) free = (free.0, free_at files k os free.1)
 
-free_after : (w : Weaving) (event : Event) → AreFree w.loaders → AreFree (after w event).loaders
+free_after : (w : Weaving) (event : Event) → AreFree w.loaders → AreFree (after lowest w event).loaders
 free_after w (Open loader) free = free_at w.runs.files loader w.loaders free
 free_after w Rename free = free
 
-free_all : (w : Weaving) (events : List Event) → AreFree w.loaders → AreFree (fold after w events).loaders
+free_all : (w : Weaving) (events : List Event) → AreFree w.loaders → AreFree (fold (after lowest) w events).loaders
 free_all w [] free = free
-free_all w (event ∷ events) free = free_all (after w event) events (free_after w event free)
+free_all w (event ∷ events) free = free_all (after lowest w event) events (free_after w event free)
 
 free_one : (os : List (Opened (Unit {0}))) (k : ℕ) (o : Opened (Unit {0})) → AreFree os → slice_get os k ≡ Some o → o.load.busy ≡ None
 free_one [] k o free there = let no : ⊥ = cc in absurd no
@@ -103,18 +104,18 @@ module _ (starts : Starting) (files : Files) (names : List (List ℕ)) (runs : L
   start : Weaving
   start = record { loaders = map (opened tt) names; runs = begun files [] runs }
 
-  count : length (woven files names runs events).loaders ≡ length names
-  count = after_length start events ∙ length-map names (opened tt)
+  count : length (woven lowest files names runs events).loaders ≡ length names
+  count = after_length lowest start events ∙ length-map names (opened tt)
 
-  pub same_weave : PrintsSo starts names (woven files names runs events).loaders → loaders_text lowest 0 (woven files names runs events).loaders ++ (runs_text 0 (progress (woven files names runs events).runs) ++ end_line) ≡ weave_from starts names (woven files names runs events)
-  same_weave prints = ap (λ (text : List ℕ). text ++ (runs_text 0 (progress (woven files names runs events).runs) ++ end_line)) (same_texts starts 0 names (woven files names runs events).loaders count prints)
+  pub same_weave : PrintsSo starts names (woven lowest files names runs events).loaders → loaders_text lowest 0 (woven lowest files names runs events).loaders ++ (runs_text 0 (progress (woven lowest files names runs events).runs) ++ end_line) ≡ weave_from starts names (woven lowest files names runs events)
+  same_weave prints = ap (λ (text : List ℕ). text ++ (runs_text 0 (progress (woven lowest files names runs events).runs) ++ end_line)) (same_texts starts 0 names (woven lowest files names runs events).loaders count prints)
 
 -- each loader of it that has finished starts from the load of the files that it saw
-loads_so : (files : Files) (names : List (List ℕ)) (runs : List Run) (events : List Event) → PrintsSo loaded_from names (woven files names runs events).loaders
+loads_so : (files : Files) (names : List (List ℕ)) (runs : List Run) (events : List Event) → PrintsSo loaded_from names (woven lowest files names runs events).loaders
 loads_so files names runs events k name o named there done =
-    let led = woven_are_led files names runs events k name o named there in
-    let free = free_one (woven files names runs events).loaders k o (free_all (record { loaders = map (opened tt) names; runs = begun files [] runs }) events (free_new names)) there in
-    ap start_text (sym (finished_are_loads o lowest causes.Load (seen_file o.seen) name led done (has_seen name o.seen (came_to o.fault o.load.walk) led)) ∙ ap (λ (busy : Option Range). load lowest busy causes.Load (seen_file o.seen) name) free)
+    let led = woven_are_led lowest files names runs events k name o named there in
+    let free = free_one (woven lowest files names runs events).loaders k o (free_all (record { loaders = map (opened tt) names; runs = begun files [] runs }) events (free_new names)) there in
+    ap start_text (sym (finished_are_loads o lowest causes.Load (seen_file o.seen) name led done (has_seen lowest name o.seen (came_to o.fault o.load.walk) led)) ∙ ap (λ (busy : Option Range). load lowest busy causes.Load (given_from lowest causes.Load (seen_file o.seen) name) name) free)
 
 same_start_text : (r q : Result Start Cause) → SameAnswer r q → start_text r ≡ start_text q
 same_start_text (Ok a) (Ok b) same = start_same a b same
@@ -123,29 +124,29 @@ same_start_text (Err e) (Ok b) same = absurd same
 same_start_text (Err e) (Err f) same = ap (λ (c : Cause). start_text (Err c)) same
 
 -- or, by the rule, from what plain linking gives
-links_so : (files : Files) (names : List (List ℕ)) (runs : List Run) (events : List Event) → KeepsTheRule (get files) → IsPastAll (get files) → PrintsSo linked_from names (woven files names runs events).loaders
+links_so : (files : Files) (names : List (List ℕ)) (runs : List Run) (events : List Event) → KeepsTheRule (get files) → IsPastAll (get files) → PrintsSo linked_from names (woven lowest files names runs events).loaders
 links_so files names runs events rule past k name o named there done =
-    let led = woven_are_led files names runs events k name o named there in
-    let free = free_one (woven files names runs events).loaders k o (free_all (record { loaders = map (opened tt) names; runs = begun files [] runs }) events (free_new names)) there in
-    let seen = has_seen name o.seen (came_to o.fault o.load.walk) led in
-    same_start_text (because causes.Load (ended lowest o)) (ordinary_load (is_fast skip_causes (file_seen o.seen) name) lowest o.load.busy causes.Load (seen_file o.seen) name)
-        (weaves_are_ordinary files names runs events k name o rule past named there done (file_seen o.seen) lowest causes.Load (seen_file o.seen) (are_seen o.seen) (gives_seen o.seen) seen)
-    ∙ ap (λ (busy : Option Range). start_text (ordinary_load (is_fast skip_causes (file_seen o.seen) name) lowest busy causes.Load (seen_file o.seen) name)) free
+    let led = woven_are_led lowest files names runs events k name o named there in
+    let free = free_one (woven lowest files names runs events).loaders k o (free_all (record { loaders = map (opened tt) names; runs = begun files [] runs }) events (free_new names)) there in
+    let seen = has_seen lowest name o.seen (came_to o.fault o.load.walk) led in
+    same_start_text (because causes.Load (ended lowest o)) (ordinary_load (is_fast skip_causes (loading_folder lowest (file_seen o.seen) name) name) lowest o.load.busy causes.Load (given_from lowest causes.Load (seen_file o.seen) name) name)
+        (weaves_are_ordinary lowest files names runs events k name o rule past named there done (file_seen o.seen) causes.Load (seen_file o.seen) (are_seen o.seen) (gives_seen o.seen) seen)
+    ∙ ap (λ (busy : Option Range). start_text (ordinary_load (is_fast skip_causes (loading_folder lowest (file_seen o.seen) name) name) lowest busy causes.Load (given_from lowest causes.Load (seen_file o.seen) name) name)) free
 
 -- ---- the command
 
-same_runs : (starts : Starting) (s : Script) (copy : Files) → ((asked : List Run) → PrintsSo starts s.loads (woven copy s.loads asked s.events).loaders)
-    → (asked : Result (List Run) Cause) → (asked >>= λ runs. Ok (text_by lowest s runs copy)) ≡ (asked >>= λ runs. Ok (weave_from starts s.loads (woven copy s.loads runs s.events)))
+same_runs : (starts : Starting) (s : Script) (copy : Files) → ((asked : List Run) → PrintsSo starts s.loads (woven lowest copy s.loads asked s.events).loaders)
+    → (asked : Result (List Run) Cause) → (asked >>= λ runs. Ok (text_by lowest s runs copy)) ≡ (asked >>= λ runs. Ok (weave_from starts s.loads (woven lowest copy s.loads runs s.events)))
 same_runs starts s copy prints (Err cause) = refl
 same_runs starts s copy prints (Ok asked) = ap (λ (text : List ℕ). Ok text) (same_weave starts copy s.loads asked s.events (prints asked))
 
-same_copy : (starts : Starting) (s : Script) (found : Result Files batch.Cause) → ((copy : Files) (asked : List Run) → found ≡ Ok copy → PrintsSo starts s.loads (woven copy s.loads asked s.events).loaders)
-    → (because of_batch found >>= λ copy. runs_of copy s.runs >>= λ asked. Ok (text_by lowest s asked copy)) ≡ (because of_batch found >>= λ copy. runs_of copy s.runs >>= λ asked. Ok (weave_from starts s.loads (woven copy s.loads asked s.events)))
+same_copy : (starts : Starting) (s : Script) (found : Result Files batch.Cause) → ((copy : Files) (asked : List Run) → found ≡ Ok copy → PrintsSo starts s.loads (woven lowest copy s.loads asked s.events).loaders)
+    → (because of_batch found >>= λ copy. runs_of copy s.runs >>= λ asked. Ok (text_by lowest s asked copy)) ≡ (because of_batch found >>= λ copy. runs_of copy s.runs >>= λ asked. Ok (weave_from starts s.loads (woven lowest copy s.loads asked s.events)))
 same_copy starts s (Err cause) prints = refl
 same_copy starts s (Ok copy) prints = same_runs starts s copy (λ asked. prints copy asked refl) (runs_of copy s.runs)
 
-same_script : (starts : Starting) (files : Files) (read : Result Script Cause) → ((s : Script) (copy : Files) (asked : List Run) → copied files ≡ Ok copy → PrintsSo starts s.loads (woven copy s.loads asked s.events).loaders)
-    → (read >>= λ s. because of_batch (copied files) >>= λ copy. runs_of copy s.runs >>= λ asked. Ok (text_by lowest s asked copy)) ≡ (read >>= λ s. because of_batch (copied files) >>= λ copy. runs_of copy s.runs >>= λ asked. Ok (weave_from starts s.loads (woven copy s.loads asked s.events)))
+same_script : (starts : Starting) (files : Files) (read : Result Script Cause) → ((s : Script) (copy : Files) (asked : List Run) → copied files ≡ Ok copy → PrintsSo starts s.loads (woven lowest copy s.loads asked s.events).loaders)
+    → (read >>= λ s. because of_batch (copied files) >>= λ copy. runs_of copy s.runs >>= λ asked. Ok (text_by lowest s asked copy)) ≡ (read >>= λ s. because of_batch (copied files) >>= λ copy. runs_of copy s.runs >>= λ asked. Ok (weave_from starts s.loads (woven lowest copy s.loads asked s.events)))
 same_script starts files (Err cause) prints = refl
 same_script starts files (Ok s) prints = same_copy starts s (copied files) (prints s)
 

@@ -16,8 +16,10 @@ use Rattle.pl_crash.specs.Steps.{IsPastAll}
 use Rattle.pl_known.specs.Skips.{skip_causes}
 use Rattle.pl_loader.specs.Started.{Start, load}
 use Rattle.pl_loader.specs.declared.fault.LoadFault.TheVariants.{NotThere}
+use Rattle.pl_paths.specs.Answers.{loading_folder}
 use Rattle.pl_paths.specs.Paths.{ordinary_load}
 use Rattle.pl_place.specs.Policies.{lowest}
+use Rattle.pl_weave.specs.Given.{given_from}
 use Rattle.pl_weave.specs.Opening.{Opened, wanted}
 use Rattle.pl_weave.specs.Runs.{progress}
 use Rattle.pl_weave.specs.Weaving.{Weaving, woven}
@@ -39,13 +41,13 @@ seen_file seen n = ok_or (file_seen seen n) (causes.Load (NotThere n))
 abbrev pub Starting : Type 0
 Starting = List ℕ → List Seen → Result Start Cause
 
--- by the load of these files, on either path
+-- by the load of these files, as `--load` loads them, on either path
 abbrev pub loaded_from : Starting
-loaded_from name seen = load lowest None causes.Load (seen_file seen) name
+loaded_from name seen = load lowest None causes.Load (given_from lowest causes.Load (seen_file seen) name) name
 
--- by plain linking of their originals. The path is told to be the fast one where these files allow it at these places
+-- by plain linking of their originals, and of a position-independent program of the one that it becomes. The path is told to be the fast one where these files allow it at these places
 abbrev pub linked_from : Starting
-linked_from name seen = ordinary_load (is_fast skip_causes (file_seen seen) name) lowest None causes.Load (seen_file seen) name
+linked_from name seen = ordinary_load (is_fast skip_causes (loading_folder lowest (file_seen seen) name) name) lowest None causes.Load (given_from lowest causes.Load (seen_file seen) name) name
 
 -- ---- the text
 
@@ -64,7 +66,7 @@ weave_from starts names w = texts_from starts 0 names w.loaders ++ (runs_text 0 
 
 -- `--weave` with such ends; its causes are the same
 abbrev pub weaves_from : Starting → List ℕ → Files → Result (List ℕ) Cause
-weaves_from starts input files = script_in input >>= λ s. because of_batch (copied files) >>= λ copy. runs_of copy s.runs >>= λ asked. Ok (weave_from starts s.loads (woven copy s.loads asked s.events))
+weaves_from starts input files = script_in input >>= λ s. because of_batch (copied files) >>= λ copy. runs_of copy s.runs >>= λ asked. Ok (weave_from starts s.loads (woven lowest copy s.loads asked s.events))
 
 -- ---- laws
 
