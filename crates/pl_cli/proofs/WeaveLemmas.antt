@@ -2,7 +2,7 @@
 use Rattle.std.proofs.Common.{◌≡◌, ◌∙◌, ◌<◌, ◌≤◌, ◌+◌, ◌++◌, ◌∷◌, [], ℕ, suc, List, Bool, cond, drop, get_or, length, map, append_assoc, true, false, Option, Some, None, refl, sym, ap, arith, inl, inr}
 use Rattle.std.proofs.Math.ListN.{drop_of_length-le, replicate}
 use Rattle.std.proofs.lemmas.List.{append-nil, length-map, length-replicate}
-use Rattle.std.proofs.lemmas.Bool.{cases_Bool, true≢false}
+use Rattle.std.proofs.lemmas.Bool.{cases_Bool, false≢true, true≢false}
 use Rattle.std.proofs.lemmas.Bool.Decides.{nat_tests}
 use Rattle.std.specs.Prelude.{IfOk, Result, Ok, Err, String, Vec, nat_lt, string_bytes}
 use Rattle.std.specs.FinMap.{find, get, get-from_entries}
@@ -67,11 +67,13 @@ fits input few =
     let test : nat_lt SCRIPT (length input) ≡ false = grind (arith, nat_tests) in
     ap (λ b. unless b InputTooLarge (because of_script (scripts.script input))) test
 
+-- more bytes than a bound
+longer : (bound : ℕ) → (bytes : List ℕ) × (bound < length bytes)
+longer bound = let size : length {A = ℕ} (replicate (bound + 1) 0) ≡ bound + 1 = length-replicate {A = ℕ} (bound + 1) 0 in (replicate (bound + 1) 0, omega (arith, size))
+
 more_bytes : (tells after : Option (List ℕ)) → HasMore tells after SCRIPT → (bytes : List ℕ) × AreBytes tells bytes × (script_in bytes ≡ Err InputTooLarge)
 more_bytes (Some input) after more = (input, λ _. refl, too_large input more.0)
-more_bytes None after more =
-    let size : length {A = ℕ} (replicate (SCRIPT + 1) 0) ≡ SCRIPT + 1 = length-replicate {A = ℕ} (SCRIPT + 1) 0 in
-    (replicate (SCRIPT + 1) 0, λ e. cc, too_large (replicate (SCRIPT + 1) 0) (omega (arith, size)))
+more_bytes None after more = let input = longer SCRIPT in (input.0, λ e. absurd (false≢true e), too_large input.0 input.1)
 
 module _ {left rest : Input} where
   pub unread : (fault : ReadFault) → HasReadAll SCRIPT (Err fault) left rest → HasScript (Err (of_read_fault fault)) left rest
@@ -88,7 +90,7 @@ module _ {left rest : Input} where
     pub was_read : (s : Script) → scripts.script input.items ≡ Ok s → HasScript (Ok s) left rest
     was_read s is = record { bytes = input.items; told = are_bytes; means = λ _. fits input.items read.bound ∙ ap (because of_script) is; folder = refl; input = record { untouched = λ e. cc; tells = read.tells; most = λ _ _. read.took; count = read.count } }
 
-    pub was_wrong : (fault : ScriptFault) → Answers scripts.is_memory {X = Script} (Err fault) (scripts.script input.items) → HasScript (Err (of_script_fault fault)) left rest
+    pub was_wrong : (fault : ScriptFault) → Answers {X = Script} scripts.is_memory (Err fault) (scripts.script input.items) → HasScript (Err (of_script_fault fault)) left rest
     was_wrong (script_faults.Wrong line) is = record { bytes = input.items; told = are_bytes; means = λ _. fits input.items read.bound ∙ ap (because of_script) is; folder = refl; input = record { untouched = λ e. cc; tells = read.tells; most = λ _ _. read.took; count = read.count } }
     was_wrong script_faults.NoMemory is = record { bytes = input.items; told = are_bytes; means = tt; folder = refl; input = record { untouched = λ e. cc; tells = read.tells; most = λ _ _. read.took; count = read.count } }
 
