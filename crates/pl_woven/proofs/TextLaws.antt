@@ -101,7 +101,7 @@ same_texts starts number (name ∷ names) (o ∷ os) count prints =
 -- ---- a weave
 
 module _ (starts : Starting) (files : Files) (names : List (List ℕ)) (runs : List Run) (events : List Event) where
-  start : Weaving
+  abbrev start : Weaving
   start = record { loaders = map (opened tt) names; runs = begun files [] runs }
 
   count : length (woven lowest files names runs events).loaders ≡ length names
