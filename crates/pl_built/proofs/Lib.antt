@@ -24,3 +24,6 @@ pub mod LinkingLaws
 pub mod FoundLaws
 pub mod AcceptedLaws
 pub mod MadeLaws
+pub mod NameLaws
+pub mod SetLaws
+pub mod GatherLaws

@@ -19,7 +19,7 @@ use Rattle.pl_built.proofs.NumberLaws.{hex_all, numbers_read}
 use Rattle.pl_built.proofs.SplitLaws.{pieces_split, split_ended, split_last}
 
 -- a line by its words
-line_by : (text : List ℕ) (words : List (List ℕ)) → split_by 32 text ≡ words → line text ≡ line_of words
+pub line_by : (text : List ℕ) (words : List (List ℕ)) → split_by 32 text ≡ words → line text ≡ line_of words
 unfolding line
 line_by text words e = ap line_of (pieces_split 32 text ∙ e)
 
