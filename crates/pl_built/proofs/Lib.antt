@@ -27,3 +27,8 @@ pub mod MadeLaws
 pub mod NameLaws
 pub mod SetLaws
 pub mod GatherLaws
+pub mod ShortLaws
+pub mod CoverLaws
+pub mod FaultLaws
+pub mod FineLaws
+pub mod DrawnLaws

@@ -56,7 +56,7 @@ three_plain : (n : ℕ) → list_all is_plain (three n) ≡ true
 unfolding three digits
 three_plain n = all_append is_plain (replicate (3 - length (decimal n)) 48) (decimal n) (zeros_plain (3 - length (decimal n))) (digits_plain 64 n [] refl)
 
-three_few : (n : ℕ) → length (three n) ≤ 67
+pub three_few : (n : ℕ) → length (three n) ≤ 67
 unfolding three digits
 three_few n =
     omega (arith, length-append (replicate (3 - length (decimal n)) 48) (decimal n), length-replicate {A = ℕ} (3 - length (decimal n)) 48, digits_few 64 n [])
@@ -101,7 +101,7 @@ uncut xs none = rw (none_at 64 xs none, not_below (length xs)) refl
 
 -- a letter and such bytes behind it
 plain_name : (first : ℕ) (rest : List ℕ) → nat_le 97 first ≡ true → list_all is_plain (first ∷ rest) ≡ true → length rest ≤ 80 → IsPlainName (first ∷ rest)
-unfolding is_valid_name is_own_name is_dots
+unfolding is_valid_name is_own_name is_dots is_plain
 plain_name first rest letter all few = record {
   valid =
     let some : nat_le 1 (length (first ∷ rest)) ≡ true = at_most 1 (length (first ∷ rest)) (omega arith) in
@@ -132,12 +132,15 @@ object_plain n = plain_name 111 (three n) refl (three_plain n) (omega (arith, th
 
 -- no newline in them
 pub library_line : (n : ℕ) → list_any (λ b. b == 10) (library_name n) ≡ false
+unfolding is_plain
 library_line n = none_of 10 refl (library_name n) (all_append is_plain (codes "lib") (three n) refl (three_plain n))
 
 pub function_in_line : (n : ℕ) → list_any (λ b. b == 10) (function_name n) ≡ false
+unfolding is_plain
 function_in_line n = none_of 10 refl (function_name n) (all_append is_plain (codes "s") (three n) refl (three_plain n))
 
 pub object_in_line : (n : ℕ) → list_any (λ b. b == 10) (object_name n) ≡ false
+unfolding is_plain
 object_in_line n = none_of 10 refl (object_name n) (all_append is_plain (codes "o") (three n) refl (three_plain n))
 
 -- ---- names of different numbers differ

@@ -244,8 +244,8 @@ library_spells count i words =
     let relocations = all_relocations (functions words) 0x808 (library_words words) (omega (arith, take_few 256 (drop 66 words))) in
     let object = spells_both (object_spell i) relocations in
     let defs = spells_both (all_defs [] 0 (functions words) (omega (arith, functions_few words))) object in
-    let data = spells_both library_data defs in
-    let third = spells_both (needs_spell (at words 1 % count)) data in
+    let page = spells_both library_data defs in
+    let third = spells_both (needs_spell (at words 1 % count)) page in
     let second = spells_both (needs_spell (at words 0 % count)) third in
     let first = spells_both (needs_spell ((i + 1) % count)) second in
     spells_both library_head first
@@ -256,8 +256,8 @@ program_spells count words =
     let object = spells_both (object_spell (at words 0 % count)) (copy_spell (at words 0 % count)) in
     let bss = spells_both program_bss object in
     let relocations = spells_both (all_relocations [] 0 (program_words words) (omega (arith, take_few 128 (drop 3 words)))) bss in
-    let data = spells_both program_data relocations in
-    let needs = spells_both (all_needs [] (needed count words)) data in
+    let page = spells_both program_data relocations in
+    let needs = spells_both (all_needs [] (needed count words)) page in
     spells_both program_head needs
 
 pub libraries_spell : LibrariesSpell

@@ -75,7 +75,7 @@ abbrev pub program_words : List ℕ → List ℕ
 program_words words = take 128 (drop 3 words)
 
 abbrev pub settings_of : FileKind → Bool → ℕ → ℕ → Settings
-settings_of kind sysv data bss = record {
+settings_of kind sysv size zeros = record {
   kind = kind;
   usual = false;
   hashes = record { sysv = sysv; gnu = true };
@@ -83,8 +83,8 @@ settings_of kind sysv data bss = record {
   spare = SPARE;
   symbolic = false;
   entry = None;
-  data_size = data;
-  bss = bss;
+  data_size = size;
+  bss = zeros;
   tls = None;
 }
 
