@@ -1,5 +1,5 @@
 -- The lines of a generated set's recipes have no fault.
-use Rattle.std.proofs.Common.{◌≡◌, ℕ, zero, suc, ◌+◌, ◌*◌, ◌%◌, Bool, true, false, List, [], ◌∷◌, ◌++◌, length, map, take, Option, Some, None, refl, sym, ap, subst, ◌∙◌, append_assoc, length-append, arith, inl, inr}
+use Rattle.std.proofs.Common.{◌≡◌, ℕ, zero, suc, ◌+◌, ◌*◌, ◌%◌, ◌<◌, Bool, true, false, List, [], ◌∷◌, ◌++◌, length, map, take, Option, Some, None, refl, sym, ap, subst, ◌∙◌, append_assoc, length-append, arith, inl, inr}
 use Rattle.std.proofs.Math.Seq.{take-append_seam}
 use Rattle.std.specs.Prelude.{not, ◌==◌, ◌&&◌, ◌||◌, nat_lt, codes, cond, slice_get}
 use Rattle.std.specs.List.{AllByRecursion, find, list_any, range_with_len}
@@ -174,7 +174,7 @@ pub record IsBare (s : Symbol) : Type 0 where
   pub version : s.version ≡ []
   pub same : s.written ≡ s.name
 
-bare_both : (xs ys : List Symbol) → AllByRecursion IsBare xs → AllByRecursion IsBare ys → AllByRecursion IsBare (xs ++ ys)
+pub bare_both : (xs ys : List Symbol) → AllByRecursion IsBare xs → AllByRecursion IsBare ys → AllByRecursion IsBare (xs ++ ys)
 bare_both [] ys one two = two
 bare_both (x ∷ xs) ys one two = (one.0, bare_both xs ys one.1 two)
 
@@ -267,7 +267,7 @@ once_bare before n s bare = by_test (has before n)
     by_test true = tt
     by_test false = (bare, tt)
 
-defined_bare : (name : List ℕ) (kind offset : ℕ) → IsBare (defined name kind offset)
+pub defined_bare : (name : List ℕ) (kind offset : ℕ) → IsBare (defined name kind offset)
 unfolding defined
 defined_bare name kind offset = record { version = refl; same = refl }
 
@@ -275,7 +275,7 @@ referred_bare : (name : List ℕ) → IsBare (referred name)
 unfolding referred
 referred_bare name = record { version = refl; same = refl }
 
-own_bare : (before : List ℕ) (offset : ℕ) (xs : List ℕ) → AllByRecursion IsBare (own_functions before offset xs)
+pub own_bare : (before : List ℕ) (offset : ℕ) (xs : List ℕ) → AllByRecursion IsBare (own_functions before offset xs)
 unfolding own_functions
 own_bare before offset [] = tt
 own_bare before offset (n ∷ more) =
@@ -289,7 +289,7 @@ reference_bare known Abs64 word = once_bare known (word % 1000) (referred (funct
 reference_bare known GlobDat word = once_bare known (word % 1000) (referred (function_name (word % 1000))) (referred_bare (function_name (word % 1000)))
 reference_bare known JumpSlot word = once_bare known (word % 1000) (referred (function_name (word % 1000))) (referred_bare (function_name (word % 1000)))
 
-references_bare : (known words : List ℕ) → AllByRecursion IsBare (references known words)
+pub references_bare : (known words : List ℕ) → AllByRecursion IsBare (references known words)
 unfolding references
 references_bare known (kind ∷ (word ∷ more)) =
     bare_both (reference known (kind_of kind) word) (references (known_after known (kind_of kind) word) more) (reference_bare known (kind_of kind) word) (references_bare (known_after known (kind_of kind) word) more)

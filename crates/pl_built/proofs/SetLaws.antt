@@ -236,7 +236,7 @@ take_few (suc n) [] = omega arith
 take_few (suc n) (x ∷ xs) = let more = take_few n xs in omega (arith, more)
 
 pub functions_few : (words : List ℕ) → length (functions words) ≤ 64
-functions_few words = omega (arith, length-map (λ (word : ℕ). word % 1000) (take 64 (drop 2 words)), take_few 64 (drop 2 words))
+functions_few words = omega (arith, length-map (take 64 (drop 2 words)) (λ (word : ℕ). word % 1000), take_few 64 (drop 2 words))
 
 library_spells : (count i : ℕ) (words : List ℕ) → Spells (library_recipe count i words) (library_lines count i words)
 unfolding library_recipe library_lines

@@ -145,33 +145,47 @@ then_short text rest m n one two = omega (arith, length-append text rest, one, t
 at_most : (text : List ℕ) (n : ℕ) → length text ≡ n → length text ≤ n
 at_most text n long = omega (arith, long)
 
+whole : (text rest : List ℕ) (m n : ℕ) → length text ≤ m → length rest ≤ n → m + n ≤ 2 ^ 20 → length (text ++ rest) ≤ 2 ^ 20
+whole text rest m n one two few = omega (arith, length-append text rest, one, two, few)
+
 pub library_short : (count i : ℕ) (words : List ℕ) → length (library_recipe count i words) ≤ 2 ^ 20
 unfolding library_recipe
 library_short count i words =
-    let relocations_few : length (relocations (functions words) 0x808 (library_words words)) ≤ 131072 = let short = all_relocations_short (functions words) 0x808 (library_words words) in omega (arith, short, take_few 256 (drop 66 words)) in
+    let relocs : List ℕ = relocations (functions words) 0x808 (library_words words) in
+    let from_object : List ℕ = object_line i ++ relocs in
+    let from_defs : List ℕ = def_lines [] 0 (functions words) ++ from_object in
+    let from_page : List ℕ = codes "data 1000\n" ++ from_defs in
+    let from_third : List ℕ = needs_line (at words 1 % count) ++ from_page in
+    let from_second : List ℕ = needs_line (at words 0 % count) ++ from_third in
+    let from_first : List ℕ = needs_line ((i + 1) % count) ++ from_second in
+    let relocs_few : length relocs ≤ 131072 = let short = all_relocations_short (functions words) 0x808 (library_words words) in omega (arith, short, take_few 256 (drop 66 words)) in
     let defs_few : length (def_lines [] 0 (functions words)) ≤ 32768 = let short = all_defs_short [] 0 (functions words) in omega (arith, short, functions_few words) in
-    let object = then_short (object_line i) (relocations (functions words) 0x808 (library_words words)) 512 131072 (object_short i) relocations_few in
-    let defs = then_short (def_lines [] 0 (functions words)) (object_line i ++ relocations (functions words) 0x808 (library_words words)) 32768 131584 defs_few object in
-    let page = then_short (codes "data 1000\n") (def_lines [] 0 (functions words) ++ (object_line i ++ relocations (functions words) 0x808 (library_words words))) 10 164352 (at_most (codes "data 1000\n") 10 refl) defs in
-    let third = then_short (needs_line (at words 1 % count)) _ 512 164362 (needs_short (at words 1 % count)) page in
-    let second = then_short (needs_line (at words 0 % count)) _ 512 164874 (needs_short (at words 0 % count)) third in
-    let first = then_short (needs_line ((i + 1) % count)) _ 512 165386 (needs_short ((i + 1) % count)) second in
-    let all = then_short (codes "library\nhash both\nbuckets 8\n") _ 28 165898 (at_most (codes "library\nhash both\nbuckets 8\n") 28 refl) first in
-    omega (arith, all)
+    let object : length from_object ≤ 131584 = then_short (object_line i) relocs 512 131072 (object_short i) relocs_few in
+    let defs : length from_defs ≤ 164352 = then_short (def_lines [] 0 (functions words)) from_object 32768 131584 defs_few object in
+    let page : length from_page ≤ 164362 = then_short (codes "data 1000\n") from_defs 10 164352 (at_most (codes "data 1000\n") 10 refl) defs in
+    let third : length from_third ≤ 164874 = then_short (needs_line (at words 1 % count)) from_page 512 164362 (needs_short (at words 1 % count)) page in
+    let second : length from_second ≤ 165386 = then_short (needs_line (at words 0 % count)) from_third 512 164874 (needs_short (at words 0 % count)) third in
+    let first : length from_first ≤ 165898 = then_short (needs_line ((i + 1) % count)) from_second 512 165386 (needs_short ((i + 1) % count)) second in
+    whole (codes "library\nhash both\nbuckets 8\n") from_first 28 165898 (at_most (codes "library\nhash both\nbuckets 8\n") 28 refl) first (omega arith)
 
 needed_few : (count : ℕ) (words : List ℕ) → length (needed count words) ≤ 3
-needed_few count words = omega (arith, length-map (λ (word : ℕ). word % count) (take 3 words), take_few 3 words)
+needed_few count words = omega (arith, length-map (take 3 words) (λ (word : ℕ). word % count), take_few 3 words)
 
 pub program_short : (count : ℕ) (words : List ℕ) → length (program_recipe count words) ≤ 2 ^ 20
 unfolding program_recipe
 program_short count words =
     let i : ℕ = at words 0 % count in
+    let relocs : List ℕ = relocations [] 0 (program_words words) in
+    let from_object : List ℕ = object_line i ++ copy_line i in
+    let from_bss : List ℕ = codes "bss 8\n" ++ from_object in
+    let from_relocs : List ℕ = relocs ++ from_bss in
+    let from_page : List ℕ = codes "data 800\n" ++ from_relocs in
+    let from_needs : List ℕ = needs_lines [] (needed count words) ++ from_page in
     let needs_few : length (needs_lines [] (needed count words)) ≤ 1536 = let short = all_needs_short [] (needed count words) in omega (arith, short, needed_few count words) in
-    let relocations_few : length (relocations [] 0 (program_words words)) ≤ 65536 = let short = all_relocations_short [] 0 (program_words words) in omega (arith, short, take_few 128 (drop 3 words)) in
-    let object = then_short (object_line i) (copy_line i) 512 512 (object_short i) (copy_short i) in
-    let bss = then_short (codes "bss 8\n") (object_line i ++ copy_line i) 6 1024 (at_most (codes "bss 8\n") 6 refl) object in
-    let all_relocations = then_short (relocations [] 0 (program_words words)) (codes "bss 8\n" ++ (object_line i ++ copy_line i)) 65536 1030 relocations_few bss in
-    let page = then_short (codes "data 800\n") _ 9 66566 (at_most (codes "data 800\n") 9 refl) all_relocations in
-    let needs = then_short (needs_lines [] (needed count words)) _ 1536 66575 needs_few page in
-    let all = then_short (codes "program\nhash gnu\nbuckets 8\n") _ 27 68111 (at_most (codes "program\nhash gnu\nbuckets 8\n") 27 refl) needs in
-    omega (arith, all)
+    let relocs_few : length relocs ≤ 65536 = let short = all_relocations_short [] 0 (program_words words) in omega (arith, short, take_few 128 (drop 3 words)) in
+    let object : length from_object ≤ 1024 = then_short (object_line i) (copy_line i) 512 512 (object_short i) (copy_short i) in
+    let bss : length from_bss ≤ 1030 = then_short (codes "bss 8\n") from_object 6 1024 (at_most (codes "bss 8\n") 6 refl) object in
+    let with_relocs : length from_relocs ≤ 66566 = then_short relocs from_bss 65536 1030 relocs_few bss in
+    let page : length from_page ≤ 66575 = then_short (codes "data 800\n") from_relocs 9 66566 (at_most (codes "data 800\n") 9 refl) with_relocs in
+    let needs : length from_needs ≤ 68111 = then_short (needs_lines [] (needed count words)) from_page 1536 66575 needs_few page in
+    whole (codes "program\nhash gnu\nbuckets 8\n") from_needs 27 68111 (at_most (codes "program\nhash gnu\nbuckets 8\n") 27 refl) needs (omega arith)
