@@ -32,3 +32,4 @@ pub mod CoverLaws
 pub mod FaultLaws
 pub mod FineLaws
 pub mod DrawnLaws
+pub mod SetNameLaws

@@ -10,7 +10,7 @@ use Rattle.std.proofs.lemmas.List.{length-replicate}
 use Rattle.std.proofs.lemmas.Slice.Eq.{bytes_eq-Decides}
 use Rattle.pl_base.specs.Names.{has_name_length, is_name_byte, is_own_name, is_dots, is_valid_name}
 use Rattle.pl_build.specs.Words.{cut}
-use Rattle.pl_gen.specs.Lines.{three, library_name, function_name, object_name}
+use Rattle.pl_gen.specs.Lines.{three, library_name, program_name, function_name, object_name}
 use Rattle.pl_built.specs.Spelled.{IsPlainName}
 
 -- a lower-case letter or a digit
@@ -130,6 +130,10 @@ pub object_plain : (n : ℕ) → IsPlainName (object_name n)
 unfolding is_plain
 object_plain n = plain_name 111 (three n) refl (three_plain n) (omega (arith, three_few n))
 
+pub program_plain : (n : ℕ) → IsPlainName (program_name n)
+unfolding is_plain
+program_plain n = plain_name 112 (114 ∷ 111 ∷ 103 ∷ three n) refl (three_plain n) (omega (arith, three_few n))
+
 -- no newline in them
 pub library_line : (n : ℕ) → list_any (λ b. b == 10) (library_name n) ≡ false
 unfolding is_plain
@@ -205,17 +209,27 @@ three_same m n low small same =
     let c : 48 + m % 10 ≡ 48 + n % 10 = ap (item 2) e in
     omega (arith, a, b, c)
 
-pub function_apart : (m n : ℕ) → m < 1000 → n < 1000 → (m == n) ≡ false → bytes_eq (function_name m) (function_name n) ≡ false
-function_apart m n low small other = elim (cases_Bool (bytes_eq (function_name m) (function_name n))) [
+-- names that differ behind their first letters
+behind_apart : (front : ℕ) (a b : List ℕ) (m n : ℕ) → m < 1000 → n < 1000 → (m == n) ≡ false → drop front a ≡ three m → drop front b ≡ three n → bytes_eq a b ≡ false
+behind_apart front a b m n low small other one two = elim (cases_Bool (bytes_eq a b)) [
   | inl hit ↦
-      let names : function_name m ≡ function_name n = (bytes_eq-Decides (function_name m) (function_name n)).0 hit in
-      let same : m ≡ n = three_same m n low small (ap (drop 1) names) in
+      let names : a ≡ b = (bytes_eq-Decides a b).0 hit in
+      let same : m ≡ n = three_same m n low small (sym one ∙ ap (drop front) names ∙ two) in
       absurd (false≢true (sym other ∙ equal m n same))
   | inr miss ↦ miss
 ]
   where
     equal : (a b : ℕ) → a ≡ b → (a == b) ≡ true
     equal a b e = grind (arith, nat_tests)
+
+pub function_apart : (m n : ℕ) → m < 1000 → n < 1000 → (m == n) ≡ false → bytes_eq (function_name m) (function_name n) ≡ false
+function_apart m n low small other = behind_apart 1 (function_name m) (function_name n) m n low small other refl refl
+
+pub library_apart : (m n : ℕ) → m < 1000 → n < 1000 → (m == n) ≡ false → bytes_eq (library_name m) (library_name n) ≡ false
+library_apart m n low small other = behind_apart 3 (library_name m) (library_name n) m n low small other refl refl
+
+pub program_apart : (m n : ℕ) → m < 1000 → n < 1000 → (m == n) ≡ false → bytes_eq (program_name m) (program_name n) ≡ false
+program_apart m n low small other = behind_apart 4 (program_name m) (program_name n) m n low small other refl refl
 
 pub same_name : (name : List ℕ) → bytes_eq name name ≡ true
 same_name name = (bytes_eq-Decides name name).1 refl

@@ -19,4 +19,5 @@ pub mod Made
 pub mod SetRecipes
 pub mod SetLines
 pub mod SetRead
+pub mod SetNames
 pub mod Laws

@@ -1,6 +1,5 @@
 -- How the files of a generated set are read.
 use Rattle.std.specs.Prelude.{◌≡◌, ◌≤◌, ◌^◌, ℕ, List, length, Ok}
-use Rattle.pl_build.specs.declared.constants.TheConstants.{MAX_FILE}
 use Rattle.pl_build.specs.declared.layout.Tables.{Tables}
 use Rattle.pl_build.specs.declared.recipe.Recipe.{Recipe}
 use Rattle.pl_build.specs.Build.{build}
@@ -20,14 +19,14 @@ pub record IsFine (r : Recipe) : Type 0 where
   pub modest : IsModest r
   pub bounded : IsBounded r
 
--- a text of at most 1 MiB is built into the file of a recipe, and the file is accepted with the object that this recipe describes
+-- a text of at most 1 MiB is built into the file of a recipe, which has at most 2 MiB and is accepted with the object that this recipe describes
 pub record IsRead (text : List ℕ) (r : Recipe) : Type 0 where
   pub short : length text ≤ 2 ^ 20
   pub fine : IsFine r
   pub bytes : List ℕ
   pub built : build text ≡ Ok bytes
   pub made : file.made (plan_of r) ≡ Ok bytes
-  pub small : length bytes ≤ MAX_FILE
+  pub small : length bytes ≤ 2 ^ 21
   pub t : Tables
   pub tables : layout.tables (plan_of r) ≡ Ok t
   pub accepted : IsAccepted r bytes t
