@@ -130,8 +130,9 @@ all_known known place (kind ∷ (word ∷ rest)) symbols more are =
     let next : AreThere later (symbols ++ mine) = there_after known symbols (kind_of kind) word are in
     let same : ((symbols ++ mine) ++ others) ++ more ≡ (symbols ++ (mine ++ others)) ++ more = ap (λ (ss : List Symbol). ss ++ more) (append_assoc symbols mine others) in
     let one : IsKnown ((symbols ++ mine) ++ (others ++ more)) (relocation_of place (kind_of kind) word) =
-    known_more (symbols ++ mine) (others ++ more) (relocation_of place (kind_of kind) word) (one_known known place (symbols ++ mine) (kind_of kind) word next) in
-    (subst (λ (ss : List Symbol). IsKnown ss (relocation_of place (kind_of kind) word)) (sym (append_assoc (symbols ++ mine) others more) ∙ same) one,
-    subst (λ (ss : List Symbol). AllByRecursion (IsKnown ss) (relocations_from (place + 8) rest)) same (all_known later (place + 8) rest (symbols ++ mine) more next))
+    known_more (symbols ++ mine) (others ++ more) (relocation_of place (kind_of kind) word) (one_known known place (symbols ++ mine) (kind_of kind) word next) in (
+      subst (λ (ss : List Symbol). IsKnown ss (relocation_of place (kind_of kind) word)) (sym (append_assoc (symbols ++ mine) others more) ∙ same) one,
+      subst (λ (ss : List Symbol). AllByRecursion (IsKnown ss) (relocations_from (place + 8) rest)) same (all_known later (place + 8) rest (symbols ++ mine) more next),
+    )
 all_known known place (kind ∷ []) symbols more are = tt
 all_known known place [] symbols more are = tt

@@ -66,7 +66,7 @@ plan_settings : (r : Recipe) → (plan_of r).settings ≡ r.settings
 unfolding plan_of
 plan_settings r = refl
 
-file_small : (r : Recipe) (bytes : List ℕ) → IsFine r → r.settings.data_size ≤ 2 ^ 20 → made (plan_of r) ≡ Ok bytes → length bytes ≤ 2 ^ 21
+file_small : (r : Recipe) (bytes : List ℕ) → IsFine r → r.settings.data_size ≤ 2 ^ 16 → made (plan_of r) ≡ Ok bytes → length bytes ≤ 2 ^ 21
 unfolding sections_offset parts_end
 file_small r bytes fine few e =
     let p : Plan = plan_of r in
@@ -78,7 +78,7 @@ file_small r bytes fine few e =
     omega (arith, ap (λ (l : List ℕ). length l) f.2, file_long r t fine.plain f.1, round_up-near n 8 (omega arith), round_up-near (end_of t) 4096 (omega arith), ends, same, few, few_names r fine.plain, few_roles r fine.plain)
 
 -- of each recipe of the class that a text is built as
-read_so : (text : List ℕ) (r : Recipe) → length text ≤ 2 ^ 20 → IsFine r → r.settings.data_size ≤ 2 ^ 20 → build text ≡ made (plan_of r) → IsRead text r
+read_so : (text : List ℕ) (r : Recipe) → length text ≤ 2 ^ 20 → IsFine r → r.settings.data_size ≤ 2 ^ 16 → build text ≡ made (plan_of r) → IsRead text r
 read_so text r short fine few is =
     let m = bounded_made r fine.plain fine.modest fine.bounded in
     let accepted = plain_accepted r m.0 fine.plain fine.modest m.1 in
@@ -94,11 +94,11 @@ read_so text r short fine few is =
       accepted = accepted.2;
     }
 
-library_data : (count i : ℕ) (words : List ℕ) → (library_of count i words).settings.data_size ≤ 2 ^ 20
+library_data : (count i : ℕ) (words : List ℕ) → (library_of count i words).settings.data_size ≤ 2 ^ 16
 unfolding library_of
 library_data count i words = omega arith
 
-program_data : (count : ℕ) (words : List ℕ) → (program_of count words).settings.data_size ≤ 2 ^ 20
+program_data : (count : ℕ) (words : List ℕ) → (program_of count words).settings.data_size ≤ 2 ^ 16
 unfolding program_of
 program_data count words = omega arith
 

@@ -337,9 +337,10 @@ library_faultless count i words distinct =
     Hash (record { sysv = true; gnu = true }) ∷ Buckets 8 ∷ Needs (library_name ((i + 1) % count)) ∷ Needs (library_name (at words 0 % count)) ∷ Needs (library_name (at words 1 % count)) ∷ Data 0x1000 ∷ rest in
     let tail : AreSpotless lines head rest =
     spotless_both lines head (map Names own) (Names object ∷ relocations)
-    (names_spotless lines head [] own (object ∷ others) told_head (own_bare [] 0 known) distinct)
-    ((names_spotless lines defs own (object ∷ []) others told_defs bare_front distinct).0,
-    relocations_spotless lines front symbols (own ++ object ∷ []) known 0x808 (library_words words) [] told knowns told_front bare_all no_more) in
+    (names_spotless lines head [] own (object ∷ others) told_head (own_bare [] 0 known) distinct) (
+      (names_spotless lines defs own (object ∷ []) others told_defs bare_front distinct).0,
+      relocations_spotless lines front symbols (own ++ object ∷ []) known 0x808 (library_words words) [] told knowns told_front bare_all no_more,
+    ) in
     let fine : AreSpotless lines (First Library ∷ []) body =
     (hash_spotless lines Library true true, (buckets_spotless lines Library true true, (needs_spotless lines _ _, (needs_spotless lines _ _, (needs_spotless lines _ _, (data_spotless lines _ 0x1000 refl (needing_no_data Library true ((i + 1) % count) (at words 0 % count) (at words 1 % count)), tail)))))) in
     no_fault Library (body ++ Empty ∷ []) refl (spotless_both lines (First Library ∷ []) body (Empty ∷ []) fine (end_spotless lines (First Library ∷ body), tt))
@@ -405,7 +406,11 @@ program_faultless count words distinct =
     let tail : AreSpotless lines front (relocations ++ last) =
     spotless_both lines front relocations last (relocations_spotless lines front symbols [] [] 0 (program_words words) (object ∷ []) told knowns told_front bare_others distinct) ending in
     let body : List Line = Hash (record { sysv = false; gnu = true }) ∷ Buckets 8 ∷ (map Needs needs ++ (Data 0x800 ∷ (relocations ++ last))) in
-    let fine : AreSpotless lines (First Program ∷ []) body =
-    (hash_spotless lines Program false true, (buckets_spotless lines Program false true,
-    spotless_both lines head (map Needs needs) (Data 0x800 ∷ (relocations ++ last)) (all_needs_spotless lines head needs) (data_spotless lines needing 0x800 refl no_data, tail))) in
+    let fine : AreSpotless lines (First Program ∷ []) body = (
+      hash_spotless lines Program false true,
+      (
+        buckets_spotless lines Program false true,
+        spotless_both lines head (map Needs needs) (Data 0x800 ∷ (relocations ++ last)) (all_needs_spotless lines head needs) (data_spotless lines needing 0x800 refl no_data, tail),
+      ),
+    ) in
     no_fault Program (body ++ Empty ∷ []) refl (spotless_both lines (First Program ∷ []) body (Empty ∷ []) fine (end_spotless lines (First Program ∷ body), tt))

@@ -148,7 +148,7 @@ own_apart before offset (n ∷ more) small =
     let rest : List Symbol = own_functions (before ++ n ∷ []) (offset + 8) more in
     no_pair_both is_namesake (once before n y) rest (once_alone is_namesake before n y) (own_apart (before ++ n ∷ []) (offset + 8) more small.1)
     (once_each (λ x. list_any (is_namesake x) rest ≡ false) before n y (λ miss.
-        own_avoided y (before ++ n ∷ []) (offset + 8) more (record { number = n; name = refl; small = small.0; there = has_last before n }) small.1))
+    own_avoided y (before ++ n ∷ []) (offset + 8) more (record { number = n; name = refl; small = small.0; there = has_last before n }) small.1))
 
 own_among : (before : List ℕ) (offset : ℕ) (numbers : List ℕ) → AllByRecursion IsSmall numbers → AllByRecursion (IsAmong (before ++ numbers)) (own_functions before offset numbers)
 unfolding own_functions defined
@@ -156,7 +156,7 @@ own_among before offset [] small = tt
 own_among before offset (n ∷ more) small =
     all_both (IsAmong (before ++ n ∷ more)) (once before n (defined (function_name n) STT_FUNC offset)) (own_functions (before ++ n ∷ []) (offset + 8) more)
     (once_each (IsAmong (before ++ n ∷ more)) before n (defined (function_name n) STT_FUNC offset) (λ miss.
-        record { number = n; name = refl; small = small.0; there = has_back before (n ∷ more) n (has_first n more) }))
+    record { number = n; name = refl; small = small.0; there = has_back before (n ∷ more) n (has_first n more) }))
     (subst (λ (among : List ℕ). AllByRecursion (IsAmong among) (own_functions (before ++ n ∷ []) (offset + 8) more)) (append_assoc before (n ∷ []) more) (own_among (before ++ n ∷ []) (offset + 8) more small.1))
 
 own_modest : (s : Settings) (before : List ℕ) (offset : ℕ) (numbers : List ℕ) → offset + 8 * length numbers ≤ s.data_size + s.bss → AllByRecursion (IsModestSymbol s) (own_functions before offset numbers)
@@ -228,7 +228,7 @@ reference_avoided : (x : Symbol) (known : List ℕ) (kind : Kind) (word : ℕ) �
 unfolding referred
 reference_avoided x known kind word is =
     none_of_each (is_namesake x) (reference known kind word) (reference_each (λ y. is_namesake x y ≡ false) known kind word (λ miss there.
-        names_apart x.name (function_name (word % 1000)) is.number (word % 1000) known is.name refl is.small (word_small word) is.there miss))
+    names_apart x.name (function_name (word % 1000)) is.number (word % 1000) known is.name refl is.small (word_small word) is.there miss))
 
 references_avoided : (x : Symbol) (known words : List ℕ) → IsAmong known x → list_any (is_namesake x) (references known words) ≡ false
 unfolding references
@@ -247,7 +247,7 @@ references_apart known (kind ∷ word ∷ more) =
     let rest : List Symbol = references after more in
     no_pair_both is_namesake (reference known (kind_of kind) word) rest (reference_alone is_namesake known (kind_of kind) word) (references_apart after more)
     (reference_each (λ x. list_any (is_namesake x) rest ≡ false) known (kind_of kind) word (λ miss there.
-        references_avoided (referred (function_name (word % 1000))) after more (record { number = word % 1000; name = refl; small = word_small word; there = there })))
+    references_avoided (referred (function_name (word % 1000))) after more (record { number = word % 1000; name = refl; small = word_small word; there = there })))
 
 references_each : (P : Symbol → Type 0) (known words : List ℕ) → ((n : ℕ) → P (referred (function_name n))) → AllByRecursion P (references known words)
 unfolding references
@@ -322,9 +322,10 @@ relocations_between place [] = tt
 relocations_between place (kind ∷ []) = tt
 relocations_between place (kind ∷ word ∷ more) =
     let here = place_of place (kind_of kind) word in (
-    record { after = omega (arith, here); before = omega (arith, here) },
-    all_map (IsBetween (place + 8) (place + 8 + 4 * length more)) (IsBetween place (place + 4 * length (kind ∷ word ∷ more))) (relocations_from (place + 8) more)
-    (λ x is. between_more place (place + 8) (place + 8 + 4 * length more) (place + 4 * length (kind ∷ word ∷ more)) x (omega arith) (omega arith) is) (relocations_between (place + 8) more))
+      record { after = omega (arith, here); before = omega (arith, here) },
+      all_map (IsBetween (place + 8) (place + 8 + 4 * length more)) (IsBetween place (place + 4 * length (kind ∷ word ∷ more))) (relocations_from (place + 8) more)
+          (λ x is. between_more place (place + 8) (place + 8 + 4 * length more) (place + 4 * length (kind ∷ word ∷ more)) x (omega arith) (omega arith) is) (relocations_between (place + 8) more),
+    )
 
 off_place : (p a : ℕ) → p < a → (p == a) ≡ false
 off_place p a lt = grind (arith, nat_tests)
@@ -338,7 +339,7 @@ places_apart place (kind ∷ word ∷ more) =
     let here = place_of place (kind_of kind) word in
     let rest : List Relocation = relocations_from (place + 8) more in
     rw (none_of_each (is_at_place_of x) rest
-      (all_map (IsBetween (place + 8) (place + 8 + 4 * length more)) (λ y. is_at_place_of x y ≡ false) rest (λ y is. off_place x.offset y.offset (omega (arith, here, is.after))) (relocations_between (place + 8) more)))
+    (all_map (IsBetween (place + 8) (place + 8 + 4 * length more)) (λ y. is_at_place_of x y ≡ false) rest (λ y is. off_place x.offset y.offset (omega (arith, here, is.after))) (relocations_between (place + 8) more)))
     (places_apart (place + 8) more)
 
 relocation_modest : (r : Recipe) (place : ℕ) (kind : Kind) (word : ℕ) → place % 8 ≡ 0 → place + 8 ≤ r.settings.data_size → IsModestRelocation r (relocation_of place kind word)
@@ -381,7 +382,7 @@ library_apart i fs words small =
     let rest : List Symbol = references fs words in
     no_pair_both is_namesake (own_functions [] 0 fs) (own_object i ∷ rest) (own_apart [] 0 fs small) (rw (object_avoids i fs words) (references_apart fs words))
     (all_map (IsAmong fs) (λ x. list_any (is_namesake x) (own_object i ∷ rest) ≡ false) (own_functions [] 0 fs)
-      (λ x is. rw (by_object x.name is.number i is.name) (references_avoided x fs words is)) (own_among [] 0 fs small))
+    (λ x is. rw (by_object x.name is.number i is.name) (references_avoided x fs words is)) (own_among [] 0 fs small))
 
 pub library_fine : (count i : ℕ) (words : List ℕ) → IsFine (library_of count i words)
 unfolding library_of
@@ -402,7 +403,7 @@ library_fine count i words =
         hashed = refl;
         needs = ((library_plain ((i + 1) % count)).valid, ((library_plain (at words 0 % count)).valid, ((library_plain (at words 1 % count)).valid, tt)));
         symbols = all_both (IsModestSymbol (library_of count i words).settings) (own_functions [] 0 fs) (own_object i ∷ references fs ws) (own_modest (library_of count i words).settings [] 0 fs (omega (arith, few)))
-          (object_modest (library_of count i words).settings i (omega arith), references_each (IsModestSymbol (library_of count i words).settings) fs ws (referred_modest (library_of count i words).settings));
+            (object_modest (library_of count i words).settings i (omega arith), references_each (IsModestSymbol (library_of count i words).settings) fs ws (referred_modest (library_of count i words).settings));
         names = library_apart i fs ws small;
         relocations = relocations_modest (library_of count i words) 0x808 ws refl (omega (arith, short));
         places = places_apart 0x808 ws;
@@ -458,7 +459,7 @@ program_fits count words = (
       named = refl;
       known = object_known (at words 0 % count) (program_words words);
       sizes = all_both (IsWord (object_name (at words 0 % count))) (references [] (program_words words)) (own_object (at words 0 % count) ∷ [])
-        (references_each (IsWord (object_name (at words 0 % count))) [] (program_words words) (referred_word (at words 0 % count))) ((λ hit. refl), tt);
+          (references_each (IsWord (object_name (at words 0 % count))) [] (program_words words) (referred_word (at words 0 % count))) ((λ hit. refl), tt);
     });
     aligned = refl;
     small = omega arith;
@@ -492,7 +493,7 @@ program_fine count words =
         hashed = refl;
         needs = needed_valid [] ns;
         symbols = all_both (IsModestSymbol (program_of count words).settings) (references [] ws) (own_object i ∷ []) (references_each (IsModestSymbol (program_of count words).settings) [] ws (referred_modest (program_of count words).settings))
-          (object_modest (program_of count words).settings i (omega arith), tt);
+            (object_modest (program_of count words).settings i (omega arith), tt);
         names = program_apart i ws;
         relocations = all_both (IsModestRelocation (program_of count words)) (relocations_from 0 ws) (copy_of i ∷ []) (relocations_modest (program_of count words) 0 ws refl (omega (arith, short))) (program_fits count words);
         places = program_places i ws (omega (arith, short));

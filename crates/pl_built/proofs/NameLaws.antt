@@ -104,11 +104,11 @@ plain_name : (first : ℕ) (rest : List ℕ) → nat_le 97 first ≡ true → li
 unfolding is_valid_name is_own_name is_dots is_plain
 plain_name first rest letter all few = record {
   valid =
-    let some : nat_le 1 (length (first ∷ rest)) ≡ true = at_most 1 (length (first ∷ rest)) (omega arith) in
-    let short : nat_le (length (first ∷ rest)) 255 ≡ true = at_most (length (first ∷ rest)) 255 (omega (arith, few)) in
-    let no_dot : (46 == first) ≡ false = grind (arith, nat_tests) in
-    let dot_no : (first == 46) ≡ false = grind (arith, nat_tests) in
-    rw (some, short, all_bytes is_plain is_name_byte plain_byte (first ∷ rest) all, no_dot, dot_no) refl;
+      let some : nat_le 1 (length (first ∷ rest)) ≡ true = at_most 1 (length (first ∷ rest)) (omega arith) in
+      let short : nat_le (length (first ∷ rest)) 255 ≡ true = at_most (length (first ∷ rest)) 255 (omega (arith, few)) in
+      let no_dot : (46 == first) ≡ false = grind (arith, nat_tests) in
+      let dot_no : (first == 46) ≡ false = grind (arith, nat_tests) in
+      rw (some, short, all_bytes is_plain is_name_byte plain_byte (first ∷ rest) all, no_dot, dot_no) refl;
   unsigned = uncut (first ∷ rest) (none_of 64 refl (first ∷ rest) all);
   whole = none_of 32 refl (first ∷ rest) all;
 }

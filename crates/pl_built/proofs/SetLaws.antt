@@ -39,16 +39,16 @@ spells_nothing = record { followed = λ rest. refl }
 spells_both : {a b : List ℕ} {xs ys : List Line} → Spells a xs → Spells b ys → Spells (a ++ b) (xs ++ ys)
 spells_both {a} {b} {xs} {ys} one two = record {
   followed = λ rest.
-    ap (λ (t : List ℕ). map line (split_by 10 t)) (append_assoc a b rest) ∙ one.followed (b ++ rest) ∙ ap (λ (ls : List Line). xs ++ ls) (two.followed rest) ∙ sym (append_assoc xs ys (map line (split_by 10 rest)));
+      ap (λ (t : List ℕ). map line (split_by 10 t)) (append_assoc a b rest) ∙ one.followed (b ++ rest) ∙ ap (λ (ls : List Line). xs ++ ls) (two.followed rest) ∙ sym (append_assoc xs ys (map line (split_by 10 rest)));
 }
 
 -- one line and its newline
 spells_line : (text : List ℕ) (l : Line) → list_any (λ b. b == 10) text ≡ false → line text ≡ l → Spells (text ++ 10 ∷ []) (l ∷ [])
 spells_line text l whole is = record {
   followed = λ rest.
-    ap (λ (t : List ℕ). map line (split_by 10 t)) (append_assoc text (10 ∷ []) rest)
-    ∙ ap (map line) (split_ended 10 text rest whole)
-    ∙ ap (λ (x : Line). x ∷ map line (split_by 10 rest)) is;
+      ap (λ (t : List ℕ). map line (split_by 10 t)) (append_assoc text (10 ∷ []) rest)
+      ∙ ap (map line) (split_ended 10 text rest whole)
+      ∙ ap (λ (x : Line). x ∷ map line (split_by 10 rest)) is;
 }
 
 spells_as : (a b : List ℕ) (xs : List Line) → a ≡ b → Spells b xs → Spells a xs
