@@ -324,7 +324,7 @@ names_data p t =
     let long : length front ≡ data_offset (end_of t) + p.settings.data_size = length-append (up_to_data p t (end_of t) shoff) (data_bytes p.settings.data_size p.words) ∙ omega (arith, data_after p t shoff, data_long p.settings.data_size p.words) in
     ap (λ (n : ℕ). part n (length (names_of p).bytes) (file_by p t)) (sym long) ∙ part_of_begins front (names_of p).bytes (file_by p t) (begins_parts p t)
 
-names_are : (r : Recipe) (t : Tables) → IsPlain r → tables (plan_of r) ≡ Ok t → IsHeaded (plan_of r) t (file_by (plan_of r) t) → names (file_by (plan_of r) t) (planned_header (plan_of r) t) ≡ (names_of (plan_of r)).bytes
+pub names_are : (r : Recipe) (t : Tables) → IsPlain r → tables (plan_of r) ≡ Ok t → IsHeaded (plan_of r) t (file_by (plan_of r) t) → names (file_by (plan_of r) t) (planned_header (plan_of r) t) ≡ (names_of (plan_of r)).bytes
 names_are r t plain e h =
     let p : Plan = plan_of r in
     let head : Header = planned_header p t in

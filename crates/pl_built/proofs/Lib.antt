@@ -23,6 +23,7 @@ pub mod PlacedLaws
 pub mod LinkingLaws
 pub mod FoundLaws
 pub mod AcceptedLaws
+pub mod WholeLaws
 pub mod MadeLaws
 pub mod NameLaws
 pub mod SetLaws
