@@ -1,24 +1,22 @@
 -- The files of a generated set are built as their recipes describe, and read so.
-use Rattle.std.proofs.Common.{◌≡◌, ℕ, ◌+◌, ◌*◌, ◌^◌, ◌%◌, ◌≤◌, false, List, [], ◌∷◌, ◌++◌, length, None, Ok, Result, refl, sym, ap, subst, ◌∙◌, arith}
+use Rattle.std.proofs.Common.{◌≡◌, ℕ, ◌+◌, ◌^◌, ◌%◌, ◌≤◌, false, List, [], ◌∷◌, ◌++◌, length, None, Ok, refl, ap, ◌∙◌, arith}
 use Rattle.pl_base.specs.Pairs.{any_pair}
 use Rattle.pl_base.proofs.SumLaws.{round_up-near}
-use Rattle.pl_build.specs.declared.checks.Fault.{Fault}
 use Rattle.pl_build.specs.declared.layout.Tables.{Tables}
 use Rattle.pl_build.specs.declared.line.Line.{Line}
 use Rattle.pl_build.specs.declared.line.Line.TheVariants.{Empty}
 use Rattle.pl_build.specs.declared.plan.Plan.{Plan}
 use Rattle.pl_build.specs.declared.recipe.Recipe.{Recipe}
 use Rattle.pl_build.specs.declared.recipe.Settings.{Settings}
-use Rattle.pl_build.specs.Build.{build, lines, made_of}
+use Rattle.pl_build.specs.Build.{build, made_of}
 use Rattle.pl_build.specs.Checks.{first_fault}
 use Rattle.pl_build.specs.File.{made, parts_end, sections_offset}
-use Rattle.pl_build.specs.Layout.{tables, end_of}
+use Rattle.pl_build.specs.Layout.{end_of}
 use Rattle.pl_build.specs.Plan.{plan_of}
 use Rattle.pl_build.specs.Segments.{data_offset}
 use Rattle.pl_build.specs.Recipe.{gathered}
 use Rattle.pl_gen.specs.Draws.{at}
 use Rattle.pl_gen.specs.Set.{functions, library_recipe, program_recipe}
-use Rattle.pl_built.specs.Accepted.{IsAccepted}
 use Rattle.pl_built.specs.Modest.{is_namesake}
 use Rattle.pl_built.specs.SetLines.{library_lines, program_lines, LibrariesAreBuilt, ProgramsAreBuilt}
 use Rattle.pl_built.specs.SetRead.{IsFine, IsRead, SetIsRead}

@@ -1,6 +1,6 @@
 -- The recipes of a generated set are plain, modest and bounded.
-use Rattle.std.proofs.Common.{◌≡◌, ℕ, zero, suc, ◌+◌, ◌*◌, ◌%◌, ◌^◌, ◌<◌, ◌≤◌, Bool, true, false, List, [], ◌∷◌, ◌++◌, length, take, drop, map, refl, sym, ap, subst, ◌∙◌, arith, append_assoc, length-append, inl, inr}
-use Rattle.std.specs.Prelude.{◌==◌, ◌||◌, codes}
+use Rattle.std.proofs.Common.{◌≡◌, ℕ, zero, suc, ◌+◌, ◌*◌, ◌%◌, ◌<◌, ◌≤◌, Bool, true, false, List, [], ◌∷◌, ◌++◌, length, take, drop, map, refl, sym, ap, subst, ◌∙◌, arith, append_assoc, length-append, inl, inr}
+use Rattle.std.specs.Prelude.{◌==◌, ◌||◌}
 use Rattle.std.specs.List.{AllByRecursion, list_any}
 use Rattle.std.specs.Str.{bytes_eq}
 use Rattle.std.proofs.lemmas.Bool.{cases_Bool, false≢true, or_parts, or_right}
@@ -14,20 +14,17 @@ use Rattle.pl_build.specs.declared.line.Relocation.{Relocation}
 use Rattle.pl_build.specs.declared.line.Symbol.{Symbol}
 use Rattle.pl_build.specs.declared.recipe.Recipe.{Recipe}
 use Rattle.pl_build.specs.declared.recipe.Settings.{Settings}
-use Rattle.pl_build.specs.declared.kind.FileKind.TheVariants.{Program, Library}
 use Rattle.pl_build.specs.Plan.{addend_of}
 use Rattle.pl_build.specs.RelocationLines.{is_no_symbol}
 use Rattle.pl_build.specs.Relocations.{is_written_as}
-use Rattle.pl_elf.specs.declared.constants.TheConstants.{R_X86_64_64, R_X86_64_GLOB_DAT, R_X86_64_JUMP_SLOT}
 use Rattle.pl_gen.specs.Draws.{at}
 use Rattle.pl_gen.specs.Lines.{library_name, function_name, object_name, has, kind_of, known_after}
 use Rattle.pl_gen.specs.Set.{functions, needed}
 use Rattle.pl_gen.specs.declared.kind.Kind.{Kind}
 use Rattle.pl_gen.specs.declared.kind.Kind.TheVariants.{Relative, Abs64, GlobDat, JumpSlot}
 use Rattle.pl_sym.specs.declared.constants.TheConstants.{STT_FUNC}
-use Rattle.pl_built.specs.Made.{IsBounded}
-use Rattle.pl_built.specs.Modest.{IsModest, IsModestSymbol, IsModestRelocation, IsValidName, IsWord, is_at_place_of, is_namesake}
-use Rattle.pl_built.specs.Plain.{IsPlain, IsUnversioned}
+use Rattle.pl_built.specs.Modest.{IsModestSymbol, IsModestRelocation, IsValidName, IsWord, is_at_place_of, is_namesake}
+use Rattle.pl_built.specs.Plain.{IsUnversioned}
 use Rattle.pl_built.specs.SetRead.{IsFine}
 use Rattle.pl_built.specs.SetRecipes.{copy_of, library_of, library_words, needed_names, once, own_functions, own_object, program_of, program_words, reference, references, relocation_of, relocations_from}
 use Rattle.pl_built.specs.Spelled.{defined, referred, relocated}

@@ -38,7 +38,7 @@ use Rattle.pl_build.specs.Layout.{end_of, filled_to, tables}
 use Rattle.pl_build.specs.Plan.{plan_of, base_of, data_address}
 use Rattle.pl_build.specs.Roles.{section_name, kind_of, has_name, index_of}
 use Rattle.pl_build.specs.Sections.{row_of, first_places, last_places, section_rows, section_bytes}
-use Rattle.pl_build.specs.Segments.{readable, first_load, second_load, dynamic_segment, has_data, data_offset, segments}
+use Rattle.pl_build.specs.Segments.{readable, first_load, second_load, dynamic_segment, has_data, data_offset}
 use Rattle.pl_built.specs.Laws.{FilesAreHeaded}
 use Rattle.pl_built.specs.Plain.{ArePlain, IsPlain}
 use Rattle.pl_built.specs.Planned.{is_table, header_of, section_of, planned_segments, planned_header, planned_sections, IsHeaded}

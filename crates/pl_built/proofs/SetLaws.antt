@@ -1,6 +1,6 @@
 -- The recipes of a generated set spell their lines.
 use Rattle.std.proofs.Common.{◌≡◌, ℕ, zero, suc, ◌+◌, ◌*◌, ◌%◌, ◌^◌, ◌<◌, ◌≤◌, Bool, true, false, List, [], ◌∷◌, ◌++◌, length, map, take, drop, refl, sym, ap, subst, ◌∙◌, append_assoc, arith, inl, inr}
-use Rattle.std.specs.Prelude.{◌==◌, ◌||◌, codes, cond}
+use Rattle.std.specs.Prelude.{◌==◌, codes}
 use Rattle.std.specs.List.{list_all, list_any}
 use Rattle.std.proofs.lemmas.Bool.{cases_Bool, and_parts, false≢true}
 use Rattle.std.proofs.lemmas.Bool.Decides.{nat_tests}
@@ -8,7 +8,6 @@ use Rattle.std.proofs.lemmas.List.{append-nil, length-map, map-append}
 use Rattle.pl_build.specs.declared.kind.FileKind.TheVariants.{Program, Library}
 use Rattle.pl_build.specs.declared.line.Line.{Line}
 use Rattle.pl_build.specs.declared.line.Line.TheVariants.{Empty, First, Hash, Buckets, Needs, Data, Bss, Names, Relocates}
-use Rattle.pl_build.specs.declared.line.Symbol.{Symbol}
 use Rattle.pl_build.specs.Build.{lines}
 use Rattle.pl_build.specs.Grammar.{line, line_of, bare, pair, hash_line, number_line_by, number_line}
 use Rattle.pl_build.specs.Words.{is_digit, digit, is_number, digit_more, value, number}

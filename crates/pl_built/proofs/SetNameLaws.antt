@@ -1,22 +1,19 @@
 -- The names that the recipes of a generated set have, and those of its files.
-use Rattle.std.proofs.Common.{◌≡◌, ℕ, zero, suc, ◌+◌, ◌*◌, ◌%◌, ◌<◌, ◌≤◌, Bool, true, false, List, [], ◌∷◌, ◌++◌, length, map, take, refl, sym, ap, subst, ◌∙◌, arith, inl, inr}
-use Rattle.std.specs.Prelude.{◌==◌, ◌&&◌, ◌||◌, cond}
+use Rattle.std.proofs.Common.{◌≡◌, ℕ, ◌+◌, ◌%◌, ◌<◌, Bool, true, false, List, [], ◌∷◌, ◌++◌, length, map, take, refl, sym, ap, ◌∙◌, arith, inl, inr}
+use Rattle.std.specs.Prelude.{◌||◌}
 use Rattle.std.specs.List.{AllByRecursion, list_any}
 use Rattle.std.specs.Str.{bytes_eq}
 use Rattle.std.proofs.Math.Nat.{mod-lt}
-use Rattle.std.proofs.lemmas.Bool.{cases_Bool, and_parts, false≢true, or_cases, or_right}
-use Rattle.std.proofs.lemmas.Bool.Decides.{nat_tests}
+use Rattle.std.proofs.lemmas.Bool.{cases_Bool, false≢true, or_cases}
 use Rattle.std.proofs.lemmas.List.Folds.{list_any-append}
 use Rattle.std.proofs.lemmas.Slice.Eq.{bytes_eq-Decides}
-use Rattle.pl_build.specs.declared.line.Relocation.{Relocation}
 use Rattle.pl_build.specs.declared.line.Symbol.{Symbol}
-use Rattle.pl_build.specs.declared.recipe.Recipe.{Recipe}
 use Rattle.pl_gen.specs.Draws.{at}
-use Rattle.pl_gen.specs.Lines.{library_name, program_name, object_name, has, kind_of}
+use Rattle.pl_gen.specs.Lines.{library_name, object_name, has, kind_of}
 use Rattle.pl_gen.specs.Set.{functions, needed}
 use Rattle.pl_gen.specs.declared.kind.Kind.{Kind}
 use Rattle.pl_gen.specs.declared.kind.Kind.TheVariants.{Relative, Abs64, GlobDat, JumpSlot}
-use Rattle.pl_built.specs.SetNames.{IsSpelled, defines_name, copies_name, is_needed, IsLibraryAmong, IsNamed, IsLibraryNamed, IsProgramNamed, RecipesAreNamed, FilesAreNamed}
+use Rattle.pl_built.specs.SetNames.{IsSpelled, defines_name, copies_name, is_needed, IsLibraryAmong, RecipesAreNamed, FilesAreNamed}
 use Rattle.pl_built.specs.SetRecipes.{once, needed_names, own_functions, own_object, references, relocation_of, relocations_from, copy_of, library_words, program_words, library_of, program_of}
 use Rattle.pl_built.specs.Spelled.{defined, relocated}
 use Rattle.pl_built.proofs.CoverLaws.{any_second}

@@ -1,5 +1,5 @@
 -- The recipes of a generated set have at most 1 MiB.
-use Rattle.std.proofs.Common.{◌≡◌, ℕ, zero, suc, ◌+◌, ◌*◌, ◌/◌, ◌%◌, ◌^◌, ◌≤◌, false, true, List, [], ◌∷◌, ◌++◌, length, map, take, drop, refl, length-append, arith, inl, inr}
+use Rattle.std.proofs.Common.{◌≡◌, ℕ, zero, suc, ◌+◌, ◌*◌, ◌/◌, ◌%◌, ◌^◌, ◌≤◌, false, List, [], ◌∷◌, ◌++◌, length, take, drop, refl, length-append, arith, inl, inr}
 use Rattle.std.specs.Prelude.{◌==◌, codes}
 use Rattle.std.specs.Fmt.{digits, digits_onto, digit_glyph}
 use Rattle.std.specs.List.{AllByRecursion}
@@ -7,7 +7,7 @@ use Rattle.std.proofs.lemmas.Bool.{cases_Bool}
 use Rattle.std.proofs.lemmas.List.{length-map}
 use Rattle.pl_base.specs.Digits.{line}
 use Rattle.pl_gen.specs.Draws.{at}
-use Rattle.pl_gen.specs.Lines.{three, library_name, function_name, object_name, hexadecimal, needs_line, def_line, object_line, ref_line, copy_line, relative_line, function_line, has, unless_there, needs_lines, def_lines, kind_of, by_function, relocation, known_after, relocations}
+use Rattle.pl_gen.specs.Lines.{library_name, function_name, object_name, hexadecimal, needs_line, def_line, object_line, ref_line, copy_line, relative_line, function_line, has, unless_there, needs_lines, def_lines, kind_of, by_function, relocation, known_after, relocations}
 use Rattle.pl_gen.specs.Set.{functions, needed, library_recipe, program_recipe}
 use Rattle.pl_gen.specs.declared.kind.Kind.{Kind}
 use Rattle.pl_gen.specs.declared.kind.Kind.TheVariants.{Relative, Abs64, GlobDat, JumpSlot}

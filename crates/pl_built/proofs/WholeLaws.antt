@@ -16,7 +16,7 @@ use Rattle.pl_built.specs.Plain.{IsPlain}
 use Rattle.pl_built.specs.Planned.{IsHeaded, planned_header, planned_segments}
 use Rattle.pl_built.specs.Shape.{before_dynamic}
 use Rattle.pl_built.proofs.AcceptedLaws.{dynamic_ok, held_by_name}
-use Rattle.pl_built.proofs.FileLaws.{file_by, made_is, names_of}
+use Rattle.pl_built.proofs.FileLaws.{made_is, names_of}
 use Rattle.pl_built.proofs.HeadLaws.{heads_are_read}
 use Rattle.pl_built.proofs.HeadedLaws.{names_are}
 use Rattle.pl_built.proofs.PlacedLaws.{are_taken}
