@@ -1,10 +1,10 @@
 -- The files of a set, each made from its recipe.
 use Rattle.std.proofs.Common.{◌≡◌, ℕ, ◌+◌, ◌≤◌, Bool, true, false, cond, List, [], ◌∷◌, length, Option, Some, None, refl, sym, ap, subst, ◌∙◌, arith, inl, inr}
 use Rattle.std.specs.Prelude.{◌||◌, count_by, fold, map, nat_lt, not, if◌then◌else◌}
-use Rattle.std.specs.Cmp.Lexicographic.{nat_list_cmp_total}
-use Rattle.std.specs.FinMap.{contains_key, empty, get, get-empty, get-insert, get-retain_keys, insert, keys, len, len-empty, len-entries, len-insert}
+use Rattle.std.specs.Cmp.Lexicographic.{nat_list_cmp_total, slice_cmp}
+use Rattle.std.specs.FinMap.{contains_key, entries, get, get-empty, get-insert, get-retain_keys, insert, keys, len, len-empty, len-entries, len-insert}
 use Rattle.std.specs.List.{AllByRecursion, IsDistinct}
-use Rattle.std.specs.Ordering.{is_eq}
+use Rattle.std.specs.Ordering.{is_eq, nat_cmp}
 use Rattle.std.specs.Str.{bytes_eq}
 use Rattle.std.proofs.lemmas.Bool.{cases_Bool, false≢true}
 use Rattle.std.proofs.lemmas.Bool.Decides.{nat_tests}
@@ -63,7 +63,7 @@ module _ (P : List ℕ → List ℕ → Type 0) where
   files_more (f ∷ set) files old new = files_more set (with_file files f) (file_more files f old new.0) new.1
 
   none_have : Have no_files
-  none_have n file there = absurd (none-some file (sym (get-empty n) ∙ there))
+  none_have n file there = absurd (none-some file (sym (get-empty (slice_cmp nat_cmp) n) ∙ there))
 
   pub each_made : (set : List (List ℕ × List ℕ)) → AllByRecursion Makes set → Have (made_files set)
   unfolding made_files
@@ -155,8 +155,8 @@ pub few_made : (set : List (List ℕ × List ℕ)) → length set ≤ FILES → 
 unfolding are_many made_files
 few_made set few =
     let ks = keys (fold with_file no_files set) in
-    let none : len no_files ≡ 0 = len-empty _ _ in
-    let all : length ks ≤ length set = omega (arith, length-map _ (λ e. e.0), len-entries (fold with_file no_files set), files_len set no_files, none) in
+    let none : len no_files ≡ 0 = len-empty (slice_cmp nat_cmp) (List ℕ) in
+    let all : length ks ≤ length set = omega (arith, length-map (entries (fold with_file no_files set)) (λ (e : List ℕ × List ℕ). e.0), len-entries (fold with_file no_files set), files_len set no_files, none) in
     not_less FILES (count_by is_valid_name ks) (omega (arith, count_by-le-length is_valid_name ks, all, few))
 
 -- ---- where no two have one name
@@ -214,7 +214,7 @@ later_made (f ∷ set) files distinct new = (
 
 begin_new : (set : List (List ℕ × List ℕ)) → AllByRecursion (λ f. is_valid_name f.0 ≡ true) set → AllByRecursion (IsNew no_files) set
 begin_new [] valid = tt
-begin_new (f ∷ set) valid = ((valid.0, get-empty f.0), begin_new set valid.1)
+begin_new (f ∷ set) valid = ((valid.0, get-empty (slice_cmp nat_cmp) f.0), begin_new set valid.1)
 
 pub all_made : (set : List (List ℕ × List ℕ)) → IsDistinct bytes_eq (map (λ f. f.0) set) → AllByRecursion (λ f. is_valid_name f.0 ≡ true) set → AllByRecursion (IsMade (made_files set)) set
 unfolding made_files

@@ -6,7 +6,7 @@ use Rattle.std.specs.List.{AllByRecursion, cons_option, filter_map, list_any, su
 use Rattle.std.specs.Option.{is_some, option_map}
 use Rattle.std.proofs.lemmas.Bool.{cases_Bool, false≢true, le-leb, or_left, or_right}
 use Rattle.std.proofs.lemmas.Bool.Decides.{nat_tests}
-use Rattle.std.proofs.lemmas.List.Sums.{sum_by-cons}
+use Rattle.std.proofs.lemmas.List.Sums.{length-filter, sum_by-cons}
 use Rattle.std.proofs.lemmas.Option.{none-some, same_Some}
 use Rattle.std.proofs.Math.Nat.{add-mul, mul-le-mul_right}
 use Rattle.pl_base.specs.Answers.{◌>>=◌, because, unless}
@@ -41,7 +41,7 @@ use Rattle.pl_conflict.proofs.FormatLaws.{read_is}
 use Rattle.pl_elf.specs.Kinds.{is_library}
 use Rattle.pl_elf.specs.declared.range.Range.{Range}
 use Rattle.pl_exact.specs.Causes.{IsAsked}
-use Rattle.pl_exact.proofs.FitLemmas.{few_names, runs_fit}
+use Rattle.pl_exact.proofs.FitLemmas.{runs_fit}
 use Rattle.pl_exact.proofs.SlotLemmas.{Among, Fits, among_holds, among_short, want_name, wants_among}
 use Rattle.pl_exact.proofs.SpellLemmas.{next_spelled}
 use Rattle.pl_folder.specs.Disk.{Name, same}
@@ -70,7 +70,7 @@ use Rattle.pl_slots.specs.declared.fault.PlanFault.{PlanFault}
 use Rattle.pl_slots.specs.declared.slot.Slot.{Slot}
 use Rattle.pl_slots.specs.declared.slot.Want.{Want}
 use Rattle.pl_sound.specs.Rule.{Files, Mark, mark_at, object_at, objects}
-use Rattle.pl_fast.specs.Small.{HasRoom, IsSmall, IsSmallFolder, SmallFoldersAreTaken}
+use Rattle.pl_fast.specs.Small.{Bounds, HasRoom, IsSmall, IsSmallFolder, SmallFoldersAreTaken}
 use Rattle.pl_fast.proofs.RoomLaws.{all_placed, all_take}
 
 -- ---- files
@@ -78,12 +78,6 @@ use Rattle.pl_fast.proofs.RoomLaws.{all_placed, all_take}
 original_is : (file : List ℕ) → marked_in file ≡ None → original_in file ≡ file
 unfolding original_in
 original_is file plain = ap (original_by file) plain
-
-stored_is : STORED ≡ 268435456
-stored_is = refl
-
-folder_is : FOLDER ≡ 1073741824
-folder_is = refl
 
 not_below : (a b : ℕ) → b ≤ a → nat_lt a b ≡ false
 not_below a b h = grind (arith, nat_tests)
@@ -111,33 +105,38 @@ all_there : (files : base.Files) → AllByRecursion (IsThere files) (valid_names
 all_there files = passed (IsThere files) is_valid_name (keys files) (all_by (IsThere files) (keys files) (λ n there. some_there (get files n) (contains_key-keys files n ∙ there)))
 
 -- the files of names, each of which is there
-record AreTaken (files : base.Files) (ns : List (List ℕ)) : Type 0 where
+record AreTaken (files : base.Files) (most : ℕ) (ns : List (List ℕ)) : Type 0 where
   bytes : List (List ℕ)
   taken : each (file_of files) ns ≡ Ok bytes
-  few : sum_by (λ file. length (original_in file)) bytes ≤ length ns * 2 ^ 20
+  few : sum_by (λ file. length (original_in file)) bytes ≤ length ns * most
 
-module _ (files : base.Files) (most : ℕ) (small : (n file : List ℕ) → get files n ≡ Some file → IsSmall most file) where
-  one_taken : (n file : List ℕ) → get files n ≡ Some file → file_of files n ≡ Ok file
+more_taken : (most l k t : ℕ) → k ≤ most → t ≤ l * most → k + t ≤ suc l * most
+more_taken most l k t le rest =
+    let is : (l + 1) * most ≡ l * most + 1 * most = add-mul l 1 most in
+    omega (arith, is, le, rest)
+
+module _ (files : base.Files) (b : Bounds) (small : (n file : List ℕ) → get files n ≡ Some file → IsSmall b file) where
+  one_taken : b.bytes ≤ STORED → (n file : List ℕ) → get files n ≡ Some file → file_of files n ≡ Ok file
   unfolding file_of
-  one_taken n file there =
-      let fits : nat_le (length file) STORED ≡ true = le-leb (length file) STORED (omega (arith, (small n file there).size, stored_is)) in
-      ap (of_file n) there ∙ ap (λ (b : Bool). if b then Ok file else Err (causes.FileTooLarge n)) fits
+  one_taken stored n file there =
+      let fits : nat_le (length file) STORED ≡ true = le-leb (length file) STORED (omega (arith, (small n file there).size, stored)) in
+      ap (of_file n) there ∙ ap (λ (test : Bool). if test then Ok file else Err (causes.FileTooLarge n)) fits
 
   abbrev size_of : List ℕ → ℕ
   size_of file = length (original_in file)
 
-  are_taken : (ns : List (List ℕ)) → AllByRecursion (IsThere files) ns → AreTaken files ns
+  are_taken : b.bytes ≤ STORED → (ns : List (List ℕ)) → AllByRecursion (IsThere files) ns → AreTaken files b.bytes ns
   unfolding each
-  are_taken [] all = record { bytes = []; taken = refl; few = omega arith }
-  are_taken (n ∷ ns) all =
+  are_taken stored [] all = record { bytes = []; taken = refl; few = omega arith }
+  are_taken stored (n ∷ ns) all =
       let file = all.0.0 in
-      let rest = are_taken ns all.1 in
+      let rest = are_taken stored ns all.1 in
       let is = small n file all.0.1 in
       let size : size_of file ≡ length file = ap length (original_is file is.plain) in
       record {
         bytes = file ∷ rest.bytes;
-        taken = ap (λ (r : Result (List ℕ) Cause). r >>= λ y. each (file_of files) ns >>= λ ys. Ok (y ∷ ys)) (one_taken n file all.0.1) ∙ ap (λ (r : Result (List (List ℕ)) Cause). r >>= λ ys. Ok (file ∷ ys)) rest.taken;
-        few = omega (arith, sum_by-cons size_of file rest.bytes, size, is.size, rest.few);
+        taken = ap (λ (r : Result (List ℕ) Cause). r >>= λ y. each (file_of files) ns >>= λ ys. Ok (y ∷ ys)) (one_taken stored n file all.0.1) ∙ ap (λ (r : Result (List (List ℕ)) Cause). r >>= λ ys. Ok (file ∷ ys)) rest.taken;
+        few = omega (arith, sum_by-cons size_of file rest.bytes, more_taken b.bytes (length ns) (size_of file) (sum_by size_of rest.bytes) (omega (arith, size, is.size)) rest.few);
       }
 
   -- ---- marks and objects
@@ -154,14 +153,14 @@ module _ (files : base.Files) (most : ℕ) (small : (n file : List ℕ) → get 
       by_file None is = refl
       by_file (Some file) is = ap (option_map mark_of) (small n file (at_name (is_valid_name n) file is)).plain
 
-  object_small : (n : List ℕ) (o : Object) → objects (format skip_causes) (named files) n ≡ Ok o → o.span + o.align ≤ most
+  object_small : (n : List ℕ) (o : Object) → objects (format skip_causes) (named files) n ≡ Ok o → o.span + o.align ≤ b.addresses
   object_small n o e = by_file (named files n) refl e
     where
       at_name : (b : Bool) (file : List ℕ) → (if b then get files n else None) ≡ Some file → get files n ≡ Some file
       at_name true file is = is
       at_name false file is = absurd cc
 
-      by_file : (g : Option (List ℕ)) → named files n ≡ g → object_at (format skip_causes) n g ≡ Ok o → o.span + o.align ≤ most
+      by_file : (g : Option (List ℕ)) → named files n ≡ g → object_at (format skip_causes) n g ≡ Ok o → o.span + o.align ≤ b.addresses
       by_file None is at = absurd cc
       by_file (Some file) is at =
           let known = small n file (at_name (is_valid_name n) file is) in
@@ -183,31 +182,33 @@ module _ (files : base.Files) (most : ℕ) (small : (n file : List ℕ) → get 
 
   -- ---- slots
 
-  want_small : (n : List ℕ) (r : Result Object Skip) (w : Want) → objects (format skip_causes) (named files) n ≡ r → want_of n r ≡ Some w → w.span + w.align ≤ most
+  want_small : (n : List ℕ) (r : Result Object Skip) (w : Want) → objects (format skip_causes) (named files) n ≡ r → want_of n r ≡ Some w → w.span + w.align ≤ b.addresses
   want_small n (Err e) w at is = absurd (none-some w is)
   want_small n (Ok o) w at is = by_kind (is_library o.kind) is
     where
-      by_kind : (b : Bool) → (if b then Some (record { name = n; span = o.span; align = o.align }) else None) ≡ Some w → w.span + w.align ≤ most
-      by_kind true e = subst (λ (v : Want). v.span + v.align ≤ most) (same_Some (record { name = n; span = o.span; align = o.align }) w e) (object_small n o at)
+      by_kind : (test : Bool) → (if test then Some (record { name = n; span = o.span; align = o.align }) else None) ≡ Some w → w.span + w.align ≤ b.addresses
+      by_kind true e = subst (λ (v : Want). v.span + v.align ≤ b.addresses) (same_Some (record { name = n; span = o.span; align = o.align }) w e) (object_small n o at)
       by_kind false e = absurd (none-some w e)
 
-  more_taken : (l k t : ℕ) → k ≤ most → t ≤ l * most → k + t ≤ suc l * most
-  more_taken l k t le rest =
-      let is : (l + 1) * most ≡ l * most + 1 * most = add-mul l 1 most in
-      omega (arith, is, le, rest)
-
-  few_taken : (ns : List (List ℕ)) → all_take (wants (named files) ns) ≤ length (wants (named files) ns) * most
+  few_taken : (ns : List (List ℕ)) → all_take (wants (named files) ns) ≤ length (wants (named files) ns) * b.addresses
   few_taken [] = omega arith
   few_taken (n ∷ ns) = by_want (want_of n (objects (format skip_causes) (named files) n)) refl (few_taken ns)
     where
-      by_want : (o : Option Want) → want_of n (objects (format skip_causes) (named files) n) ≡ o → all_take (wants (named files) ns) ≤ length (wants (named files) ns) * most
-          → all_take (cons_option o (wants (named files) ns)) ≤ length (cons_option o (wants (named files) ns)) * most
+      by_want : (o : Option Want) → want_of n (objects (format skip_causes) (named files) n) ≡ o → all_take (wants (named files) ns) ≤ length (wants (named files) ns) * b.addresses
+          → all_take (cons_option o (wants (named files) ns)) ≤ length (cons_option o (wants (named files) ns)) * b.addresses
       by_want None is rest = rest
-      by_want (Some w) is rest = more_taken (length (wants (named files) ns)) (w.span + w.align) (all_take (wants (named files) ns)) (want_small n (objects (format skip_causes) (named files) n) w refl is) rest
+      by_want (Some w) is rest = more_taken b.addresses (length (wants (named files) ns)) (w.span + w.align) (all_take (wants (named files) ns)) (want_small n (objects (format skip_causes) (named files) n) w refl is) rest
 
-  module _ (p : Prelinking) (room : HasRoom most p) (few : are_many (keys files) ≡ false) where
+  module _ (p : Prelinking) (room : HasRoom b p) (short : count_by is_valid_name (keys files) ≤ b.files) where
+    few : are_many (keys files) ≡ false
+    unfolding are_many
+    few = not_below FILES (count_by is_valid_name (keys files)) (omega (arith, short, room.few))
+
     abbrev ns : List (List ℕ)
     ns = valid_names files
+
+    names_few : length ns ≤ b.files
+    names_few = omega (arith, length-filter is_valid_name (keys files), short)
 
     abbrev a : Asked
     a = asked_of p no_cache
@@ -222,11 +223,10 @@ module _ (files : base.Files) (most : ℕ) (small : (n file : List ℕ) → get 
     unfolding slots_of
     slots_taken =
         let ws = wants (named files) chosen in
-        let short : length ws ≤ 1024 = omega (arith, among_short want_name Fits ws ns among, few_names files few) in
-        let most_take : length ws * most ≤ 1024 * most = mul-le-mul_right most short in
-        let whole : p.region.start + 1024 * most ≤ p.region.end = room.room in
-        let found = all_placed p.region ws room.some (omega (arith, few_taken chosen, most_take, whole)) (among_holds want_name Fits ws ns among) in
-        (found.0, ap (λ (b : Bool). because of_plan (if b then plan_shared [] ws (walks (named files) ws chosen) p.region else plan (disjoint [] ws p.region) ws p.region)) room.alone ∙ ap (because of_plan) found.1)
+        let less : length ws ≤ b.files = omega (arith, among_short want_name Fits ws ns among, names_few) in
+        let most_take : length ws * b.addresses ≤ b.files * b.addresses = mul-le-mul_right b.addresses less in
+        let found = all_placed p.region ws room.some (omega (arith, few_taken chosen, most_take, room.room)) (among_holds want_name Fits ws ns among) in
+        (found.0, ap (λ (test : Bool). because of_plan (if test then plan_shared [] ws (walks (named files) ws chosen) p.region else plan (disjoint [] ws p.region) ws p.region)) room.alone ∙ ap (because of_plan) found.1)
 
     -- ---- the plan
 
@@ -261,20 +261,22 @@ module _ (files : base.Files) (most : ℕ) (small : (n file : List ℕ) → get 
         let w = rewritten (named files) ns a is_planned.0 in
         let fine : is_cache w.cache ≡ true = next_spelled files p no_cache is_planned.0 asked.region asked.moment (empty_spelled [] refl) few is_planned.1 in
         ap (λ (r : Result Rewritten PlanningFault). because of_planning r >>= spelled (cache_bytes no_cache)) is_rewritten
-        ∙ ap (λ (b : Bool). unless (not b) causes.BadCache (Ok all_rows)) fine
+        ∙ ap (λ (test : Bool). unless (not test) causes.BadCache (Ok all_rows)) fine
 
-    files_taken : AreTaken files ns
-    files_taken = are_taken ns (all_there files)
+    files_taken : AreTaken files b.bytes ns
+    files_taken = are_taken room.stored ns (all_there files)
 
     not_large : are_large files_taken.bytes ≡ false
     unfolding are_large
-    not_large = not_below FOLDER (sum_by (λ file. length (original_in file)) files_taken.bytes) (omega (arith, files_taken.few, few_names files few, folder_is))
+    not_large =
+        let most : length ns * b.bytes ≤ b.files * b.bytes = mul-le-mul_right b.bytes names_few in
+        not_below FOLDER (sum_by (λ file. length (original_in file)) files_taken.bytes) (omega (arith, files_taken.few, most, room.together))
 
     with_taken : IsAsked p → made_with files p (cache_bytes no_cache) no_cache ≡ Ok all_rows
     unfolding made_with all_files
     with_taken asked =
         ap (λ (r : Result (List (List ℕ)) Cause). r >>= λ bytes. unless (are_large bytes) causes.FolderTooLarge (made_of (named files) ns p (cache_bytes no_cache) no_cache)) files_taken.taken
-        ∙ (ap (λ (b : Bool). unless b causes.FolderTooLarge (made_of (named files) ns p (cache_bytes no_cache) no_cache)) not_large ∙ made_taken asked)
+        ∙ (ap (λ (test : Bool). unless test causes.FolderTooLarge (made_of (named files) ns p (cache_bytes no_cache) no_cache)) not_large ∙ made_taken asked)
 
     by_taken : IsAsked p → get files cache ≡ None → made_by files p ≡ Ok all_rows
     unfolding made_by cache_file
@@ -285,7 +287,7 @@ module _ (files : base.Files) (most : ℕ) (small : (n file : List ℕ) → get 
     all_taken : IsAsked p → get files cache ≡ None → all_changes files p ≡ Ok all_rows.rows
     unfolding all_changes all_made
     all_taken asked none =
-        ap (λ (b : Bool). unless b causes.TooManyFiles (made_by files p) >>= λ made. Ok made.rows) few
+        ap (λ (test : Bool). unless test causes.TooManyFiles (made_by files p) >>= λ made. Ok made.rows) few
         ∙ ap (λ (r : Result AllMade Cause). r >>= λ made. Ok made.rows) (by_taken asked none)
 
     run_taken : IsAsked p → get files cache ≡ None → get files journal ≡ None → run_meant (All p) files ≡ Ok all_rows.rows
@@ -296,4 +298,4 @@ module _ (files : base.Files) (most : ℕ) (small : (n file : List ℕ) → get 
         ∙ (ap (λ (r : Result (List Change) Cause). r >>= fitting) taken ∙ runs_fit files (All p) all_rows.rows taken)
 
 pub small_taken : SmallFoldersAreTaken
-small_taken files p most small asked room = ((all_rows files most small.each p room small.few).rows, run_taken files most small.each p room small.few asked small.no_cache small.no_journal)
+small_taken files p b small asked room = ((all_rows files b small.each p room small.few).rows, run_taken files b small.each p room small.few asked small.no_cache small.no_journal)

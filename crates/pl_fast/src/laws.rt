@@ -15,7 +15,7 @@ pub fn prelinked_loads_are_fast()
     ensures low { LowProgramsKeepOff }
 {}
 
-/// A run that prelinks everything is not refused: in a folder without journal and cache, of at most 1024 files under valid names, each of at most 1 MiB and not prelinked, where the region has room for 1024 libraries with their alignments, and slots are not shared. It does nothing.
+/// A run that prelinks everything is not refused: in a folder without journal and cache, of so many files under valid names, each of at most so many bytes and not prelinked, where a run takes as much and its region has room for as many libraries with their alignments, of which each gets addresses of its own. It does nothing.
 pub fn small_folders_are_taken()
     ensures { SmallFoldersAreTaken }
 {}
