@@ -97,11 +97,11 @@ shared_within region (w ∷ ws) (s ∷ ss) count each =
     let first = each 0 w s (omega arith) in
     ((first.name, first.large, first.aligned, first.within), shared_within region ws ss (omega (arith, count)) (λ i v t lt. each (suc i) v t (omega (arith, lt))))
 
-aligns_of : (ws : List Want) → All Fits ws → All (λ w. 0 < w.align) ws
+pub aligns_of : (ws : List Want) → All Fits ws → All (λ w. 0 < w.align) ws
 aligns_of [] all = All-nil (λ (w : Want). 0 < w.align)
 aligns_of (w ∷ ws) all = All-cons (λ (v : Want). 0 < v.align) w ws (All-head Fits w ws all).align (aligns_of ws (All-tail Fits w ws all))
 
-spans_of : (ws : List Want) → All Fits ws → All (λ w. 0 < w.span) ws
+pub spans_of : (ws : List Want) → All Fits ws → All (λ w. 0 < w.span) ws
 spans_of [] all = All-nil (λ (w : Want). 0 < w.span)
 spans_of (w ∷ ws) all = All-cons (λ (v : Want). 0 < v.span) w ws (All-head Fits w ws all).some (spans_of ws (All-tail Fits w ws all))
 
@@ -178,7 +178,7 @@ plan_within old a ns ss fits e = by_share a.share e
         apart_within kept a.region (wants old ns) ss
         (rows_serve kept (wants old ns) a.region (Ok ss) (aligns_of (wants old ns) fits) (because_ok of_plan (plan kept (wants old ns) a.region) ss is) (spans_of (wants old ns) fits))
 
-all_of : (ws : List Want) (ns : List (List ℕ)) → Among want_name Fits ws ns → All Fits ws
+pub all_of : (ws : List Want) (ns : List (List ℕ)) → Among want_name Fits ws ns → All Fits ws
 all_of [] ns among = All-nil Fits
 all_of (w ∷ ws) [] among = absurd among
 all_of (w ∷ ws) (n ∷ ns) (inl among) = All-cons Fits w ws among.1.0 (all_of ws ns among.1.1)
@@ -187,7 +187,7 @@ all_of (w ∷ ws) (n ∷ ns) (inr among) = all_of (w ∷ ws) ns among
 abbrev plan_made : Files → List (List ℕ) → Asked → List Slot → ℕ → Planned
 plan_made old ns a rows stamp = record { standings = standings old a.region ns; slots = rows; stale = stale old a.region rows ns; stamp = stamp }
 
-planned_slots : (old : Files) (ns : List (List ℕ)) (a : Asked) (p : Planned) → planned old ns a ≡ Ok p → slots old ns a ≡ Ok p.slots
+pub planned_slots : (old : Files) (ns : List (List ℕ)) (a : Asked) (p : Planned) → planned old ns a ≡ Ok p → slots old ns a ≡ Ok p.slots
 unfolding planned
 planned_slots old ns a p e =
     let q = bind_ok (slots old ns a) (λ rows. stamp_for old ns a (stale old a.region rows ns) >>= λ stamp. Ok (plan_made old ns a rows stamp)) p e in
