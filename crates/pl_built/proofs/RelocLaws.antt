@@ -217,7 +217,7 @@ all_ordered P s symbols all =
 
 -- ---- kinds
 
-pub by_kind : (P : ℕ → Type 0) → P 1 → P 6 → P 7 → P 8 → (k : ℕ) → is_word_kind k ≡ true → P k
+by_kind : (P : ℕ → Type 0) → P 1 → P 6 → P 7 → P 8 → (k : ℕ) → is_word_kind k ≡ true → P k
 by_kind P one six seven eight k h = elim (or_cases (k == 1 || k == 6 || k == 7) (k == 8) h) [
   | inr e ↦ subst P (sym (same_from k 8 e)) eight
   | inl h3 ↦ elim (or_cases (k == 1 || k == 6) (k == 7) h3) [

@@ -3,7 +3,7 @@ use Rattle.std.proofs.Common.{◌≡◌, ℕ, zero, suc, ◌+◌, ◌^◌, ◌<�
 use Rattle.std.specs.Prelude.{◌⊎◌, ◌&&◌, ◌||◌, not, ◌==◌, nat_le, nat_lt, slice_get, filter, codes}
 use Rattle.std.specs.List.{AllByRecursion, list_any}
 use Rattle.std.specs.Str.{bytes_eq}
-use Rattle.std.proofs.lemmas.Bool.{and_parts, cases_Bool, false≢true, or_right}
+use Rattle.std.proofs.lemmas.Bool.{and_parts, cases_Bool, false≢true, or_cases, or_right}
 use Rattle.std.proofs.lemmas.Bool.Decides.{nat_tests}
 use Rattle.std.proofs.lemmas.List.{length-map}
 use Rattle.std.proofs.lemmas.List.Sorted.{length_permutation}
@@ -38,7 +38,7 @@ use Rattle.pl_build.specs.Segments.{dynamic_segment, first_load, has_data, secon
 use Rattle.pl_build.specs.SymbolTable.{section_of, value_of}
 use Rattle.pl_build.specs.Symbols.{ordered}
 use Rattle.pl_built.specs.Accepted.{planned_heads, planned_layout, planned_linking, planned_object}
-use Rattle.pl_built.specs.Modest.{ChangesWord as ChangesWordOf, CopiesWord, IsModest, IsModestRelocation, IsModestSymbol, IsOwn, IsWeakReference}
+use Rattle.pl_built.specs.Modest.{ChangesWord as ChangesWordOf, CopiesWord, IsModest, IsModestRelocation, IsModestSymbol, IsOwn, IsWeakReference, is_word_kind}
 use Rattle.pl_built.specs.Plain.{ArePlain, IsPlain}
 use Rattle.pl_built.specs.Planned.{planned_segments}
 use Rattle.pl_built.specs.Relocs.{planned_relocs, planned_symbols, read_as}
@@ -48,7 +48,7 @@ use Rattle.pl_built.proofs.ClauseLaws.{shown}
 use Rattle.pl_built.proofs.FoundLaws.{ordered_permutes}
 use Rattle.pl_built.proofs.HeadLaws.{data_small, few_roles, index_small, plain_settings, sixteen}
 use Rattle.pl_built.proofs.HeadedLaws.{IsTable, dynamic_there, found_place, laid_tables, segments_shown, there_is}
-use Rattle.pl_built.proofs.RelocLaws.{IsThere, all_ordered, any_ordered, by_kind, copied, copied_number, copied_size, nobody, number_small, plan_relocations, plan_symbols, position_there}
+use Rattle.pl_built.proofs.RelocLaws.{IsThere, all_ordered, any_ordered, copied, copied_number, copied_size, nobody, number_small, plan_relocations, plan_symbols, position_there}
 use Rattle.pl_built.proofs.RoleLaws.{plain_roles, roles_plain}
 use Rattle.pl_built.specs.SetNames.{IsSpelled, copies_name, defines_name}
 use Rattle.pl_ready.specs.Described.{CopiesNamed, DescribedObjectsAreSettled, HasDefinition, IsDescribing}
@@ -307,10 +307,25 @@ record IsKnown (r : Recipe) (o : Object) : Type 0 where
 one_more : (r : Recipe) (o : Object) → IsKnown r o → length o.symbols ≡ suc (length (plan_of r).symbols)
 one_more r o known = ap (λ (ss : List read.Symbol). length ss) known.symbols ∙ (let n = length-map (plan_of r).symbols (planned_symbol (plan_of r)) in omega (arith, n))
 
+same_from : (a b : ℕ) → (a == b) ≡ true → a ≡ b
+same_from a b h = grind (arith, nat_tests)
+
+word_kind : (k : ℕ) → is_word_kind k ≡ true → IsWordKind k
+word_kind k h = elim (or_cases (k == 1 || k == 6 || k == 7) (k == 8) h) [
+  | inr relative ↦ inl (same_from k 8 relative)
+  | inl three ↦ elim (or_cases (k == 1 || k == 6) (k == 7) three) [
+    | inr slot ↦ inr (inr (inr (same_from k 7 slot)))
+    | inl two ↦ elim (or_cases (k == 1) (k == 6) two) [
+      | inr data_word ↦ inr (inr (inl (same_from k 6 data_word)))
+      | inl absolute ↦ inr (inl (same_from k 1 absolute))
+    ]
+  ]
+]
+
 word_changes : (r : Recipe) (o : Object) (x : Relocation) → IsKnown r o → ChangesWordOf r.settings x → ChangesWord o (reloc_of (planned_symbols (plan_of r)) (rela_of (plan_of r) x))
 unfolding reloc_of rela_of
 word_changes r o x known word = record {
-  kind = by_kind IsWordKind (inr (inl refl)) (inr (inr (inl refl))) (inr (inr (inr refl))) (inl refl) x.kind word.kind;
+  kind = word_kind x.kind word.kind;
   symbol = omega (arith, number_small (plan_of r) x.name known.few, one_more r o known);
 }
 
