@@ -1,8 +1,7 @@
 -- The loads of `--demo`.
-use Rattle.std.proofs.Common.{◌≡◌, ℕ, suc, ◌+◌, Bool, true, false, cond, List, [], ◌∷◌, map, length, Option, Some, None, Result, Ok, refl, sym, ap, subst, ◌∙◌}
+use Rattle.std.proofs.Common.{◌≡◌, ℕ, Bool, true, false, List, [], ◌∷◌, map, length, Option, Some, None, Result, Ok, refl, sym, ap, subst, ◌∙◌}
 use Rattle.std.specs.Prelude.{count_by, if◌then◌else◌}
-use Rattle.std.specs.Cmp.Lexicographic.{nat_list_cmp_total}
-use Rattle.std.specs.FinMap.{get, get-insert, get-remove}
+use Rattle.std.specs.FinMap.{get}
 use Rattle.std.specs.List.{range_with_len}
 use Rattle.std.specs.Option.{is_some, option_map}
 use Rattle.std.proofs.lemmas.Bool.{false≢true}
@@ -23,16 +22,15 @@ use Rattle.pl_demo.specs.Demo.{folder, programs}
 use Rattle.pl_demo.specs.Prelinked.{after, prelinked, with_rows}
 use Rattle.pl_demo.specs.declared.prelinking.TheConstants.{ASKED}
 use Rattle.pl_demo.proofs.LawLemmas.{programs_drawn}
+use Rattle.pl_demo.proofs.PrelinkingLemmas.{rows_get}
 use Rattle.pl_form.specs.Files.{marked_in}
 use Rattle.pl_form.specs.declared.file.Marked.{Marked}
 use Rattle.pl_gen.specs.Lines.{program_name}
 use Rattle.pl_gen.specs.Set as drawn
-use Rattle.pl_folder.specs.Disk.{Name, same}
-use Rattle.pl_journal.specs.Meaning.{applied, mixed}
+use Rattle.pl_journal.specs.Meaning.{applied}
 use Rattle.pl_journal.specs.declared.change.Change.{Change}
-use Rattle.pl_journal.specs.declared.change.Change.TheVariants.{Drop, Put}
 use Rattle.pl_known.specs.Skips.{skip_causes}
-use Rattle.pl_scope.specs.Members.{has, names}
+use Rattle.pl_scope.specs.Members.{has}
 use Rattle.pl_scope.proofs.NameLaws.{has_head, has_tail}
 use Rattle.pl_sound.specs.Rule.{Mark}
 use Rattle.pl_sound.proofs.Matching.{Matches, rule_in}
@@ -63,12 +61,6 @@ none_matches files bare = rule_in (format skip_causes) (named files) (λ n h m t
         false≢true (ap (λ (k : Option Mark). is_some k) (sym none ∙ h.marked))
 
 -- ---- the run
-
--- changes that are all made
-rows_get : (i : ℕ) (rows : List Change) (files : base.Files) (n : Name) → get (with_rows rows files) n ≡ mixed i rows (λ _. true) (get files) n
-rows_get i [] files n = refl
-rows_get i (Put name bytes ∷ rows) files n = get-insert nat_list_cmp_total (with_rows rows files) name bytes n ∙ ap (λ (o : Option (List ℕ)). cond (same n name) (Some bytes) o) (rows_get (i + 1) rows files n)
-rows_get i (Drop name ∷ rows) files n = get-remove nat_list_cmp_total (with_rows rows files) name n ∙ ap (λ (o : Option (List ℕ)). cond (same n name) None o) (rows_get (i + 1) rows files n)
 
 changes_are : (files : base.Files) (rows : List Change) → run_meant (All ASKED) files ≡ Ok rows → changes_of files (All ASKED) ≡ Ok rows
 changes_are files rows e = (bind_ok (ready files) (λ none. changes_of files (All ASKED)) rows e).2

@@ -7,3 +7,6 @@ pub mod RunLaws
 pub mod FreeLaws
 pub mod LowLaws
 pub mod DemoLaws
+pub mod RoomLaws
+pub mod SmallLaws
+pub mod MadeLaws

@@ -168,10 +168,10 @@ module _ {E : Type 0} (causes : Causes E) (old : Files) (plan : Plan) where
 
   -- a library that has a form, at its numbers, under a valid name
   pub record IsFine (m : List ℕ × Object) : Type 0 where
-    firm : firm_of (planned m.0) ≡ Some (firm_for m)
-    numbers : has_numbers (firm_for m) ≡ true
-    valid : is_valid_name m.0 ≡ true
-    library : is_library m.1.kind ≡ true
+    pub firm : firm_of (planned m.0) ≡ Some (firm_for m)
+    pub numbers : has_numbers (firm_for m) ≡ true
+    pub valid : is_valid_name m.0 ≡ true
+    pub library : is_library m.1.kind ≡ true
 
   abbrev pub HasLibrary : List ℕ × Object → Type 0
   HasLibrary m = is_library m.1.kind ≡ true
@@ -259,7 +259,7 @@ module _ {E : Type 0} (causes : Causes E) (old : Files) (plan : Plan) where
   firm_members (m ∷ ms) = ap (λ (ns : List Member). planned m.0 ∷ ns) (firm_members ms)
 
   -- they prelink a file for the first
-  fine_file : (m : List ℕ × Object) (ms : Walked) → AllByRecursion IsFine (m ∷ ms) → any_share (map window_for (m ∷ ms)) ≡ false → IsDistinct bytes_eq (names (m ∷ ms)) → length (names (m ∷ ms)) ≤ MAX_MEMBERS
+  pub fine_file : (m : List ℕ × Object) (ms : Walked) → AllByRecursion IsFine (m ∷ ms) → any_share (map window_for (m ∷ ms)) ≡ false → IsDistinct bytes_eq (names (m ∷ ms)) → length (names (m ∷ ms)) ≤ MAX_MEMBERS
       → prelinked.prelinked (map planned (names (m ∷ ms))) ≡ Some (library_file (map firm_for (m ∷ ms)))
   fine_file m ms fine apart distinct few =
       let count = length-map ms firm_for in

@@ -5,4 +5,6 @@
 
 mod laws;
 
-pub use laws::{demo_loads_are_fast, matched_loads_are_fast, prelinked_loads_are_fast};
+pub use laws::{
+    demo_loads_are_fast, matched_loads_are_fast, prelinked_loads_are_fast, small_folders_are_taken,
+};

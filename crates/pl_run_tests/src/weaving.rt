@@ -36,8 +36,22 @@ run 0 done 1
 weave end
 ";
 
-// A library is installed between the files of a load, or behind them; scripts that are none, and one without lines; a loader that has opened nothing; runs that are refused, wait, or are under way.
-const WEAVES: [Row; 2] = [
+// A position-independent program, placed as `--load` places it, and a library of a later moment.
+const PLACED: &str = "loader 0
+slow
+object 0000002000000000 0000002000101000 pi
+object 0000003000000000 0000003000101000 liba
+entry 0000002000100000
+word 0000002000100000 0000003000100000
+word 0000002000100008 0000002000100000
+word 0000003000100000 000000000000aaaa
+end
+run 0 done 1
+weave end
+";
+
+// A library is installed between the files of a load, or behind them; scripts that are none, and one without lines; a loader that has opened nothing; runs that are refused, wait, or are under way; a position-independent program.
+const WEAVES: [Row; 3] = [
     (
         &[("liba", "liba"), ("p", "p")],
         &[
@@ -70,6 +84,26 @@ const WEAVES: [Row; 2] = [
             Step::Weaves(
                 "load p\nopen 0\nopen 0\n",
                 "loader 0\nrefused NotThere p\nweave end\n",
+            ),
+        ],
+    ),
+    (
+        &[
+            ("liba", "liba"),
+            ("libx", LIBX),
+            (
+                "pi",
+                "pie\nneeds liba\nentry 0\ndata 10\nref f global func\nrel globdat 0 f 0\nrel relative 8 - 0\n",
+            ),
+        ],
+        &[
+            Step::Weaves(
+                "load pi\ninstall liba libx\nopen 0\nrename\nopen 0\n",
+                PLACED,
+            ),
+            Step::Weaves(
+                "load pi\nload liba\nopen 0\nopen 1\n",
+                "loader 0\nwants liba\nloader 1\nrefused NotProgram liba\nweave end\n",
             ),
         ],
     ),
