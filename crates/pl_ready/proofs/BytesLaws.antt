@@ -187,9 +187,28 @@ roles_hold r plain modest =
     subst (AllByRecursion (HoldsBytes p)) (sym (roles_plain r plain))
     (all_chosen (HoldsBytes p)
     ((true, Null) ∷ (r.settings.hashes.sysv, Hash) ∷ (r.settings.hashes.gnu, GnuHash) ∷ (true, Dynsym) ∷ (true, Dynstr) ∷ (list_any is_other r.relocations, RelaDyn) ∷ (list_any is_jump_slot r.relocations, RelaPlt)
-      ∷ (true, Dynamic) ∷ (true, Data) ∷ (true, Bss) ∷ (true, Shstrtab) ∷ [])
-    (λ e places. is_bytes_nil, (λ e places. sysv_is p, (λ e places. gnu_is p, (λ e places. entries_are p, (λ e places. texts, (λ e places. relas_are _, (λ e places. relas_are _,
-      (λ e places. dynamic_is p places, (λ e places. is_bytes_nil, (λ e places. is_bytes_nil, (λ e places. is_bytes_nil, tt))))))))))))
+    ∷ (true, Dynamic) ∷ (true, Data) ∷ (true, Bss) ∷ (true, Shstrtab) ∷ []) (
+      λ e places. is_bytes_nil,
+      (
+        λ e places. sysv_is p,
+        (
+          λ e places. gnu_is p,
+          (
+            λ e places. entries_are p,
+            (
+              λ e places. texts,
+              (
+                λ e places. relas_are _,
+                (
+                  λ e places. relas_are _,
+                  (λ e places. dynamic_is p places, (λ e places. is_bytes_nil, (λ e places. is_bytes_nil, (λ e places. is_bytes_nil, tt)))),
+                ),
+              ),
+            ),
+          ),
+        ),
+      ),
+    ))
 
 step_is : (p : Plan) (t u : Tables) (role : Role) → IsBytes t.bytes → HoldsBytes p role → role_added p t role ≡ Ok u → IsBytes u.bytes
 unfolding role_added table_added aligned

@@ -17,7 +17,6 @@ use Rattle.pl_elf.specs.declared.range.Range.{Range}
 use Rattle.pl_elf.specs.declared.segment.Segment.{Segment}
 use Rattle.pl_object.specs.PlaceClauses.{last_load}
 use Rattle.pl_object.specs.Reads.{align, object, reads, span, tls}
-use Rattle.pl_elf.specs.Headers.{segment_of_kind}
 use Rattle.pl_object.specs.declared.object.Object.{Object}
 use Rattle.pl_object.specs.declared.refusal.Refusal.{Refusal}
 use Rattle.pl_object.specs.declared.reloc.Reloc.{Reloc}
@@ -30,7 +29,7 @@ use Rattle.pl_form.specs.declared.constants.TheConstants.{STORED}
 use Rattle.pl_form.specs.declared.file.Marked.{Marked}
 use Rattle.pl_scope.specs.Members.{has, names}
 use Rattle.pl_scope.specs.Scope.{objects as objects_of}
-use Rattle.pl_scope.specs.Walk.{Walked, walk}
+use Rattle.pl_scope.specs.Walk.{Walked}
 use Rattle.pl_scope.proofs.ClosureLaws.{WalkTells, walk_is}
 use Rattle.pl_scope.proofs.NameLaws.{has_at, has_cons, has_head, has_step, has_tail}
 use Rattle.pl_scope.proofs.WalkedLaws.{member_file}
@@ -287,13 +286,13 @@ is_closed : (files : Files) (all : List (List ℕ)) → AreLibraries files all �
 is_closed files all libraries = record {
   few = libraries.few;
   each = λ n there. (let l = libraries.each n there in
-  let h : IsHeld files l.recipe n = held files all Library n l.recipe l.file in
-  record {
-    object = h.object;
-    file = object_is files l.recipe n h;
-    kind = held_library files all n l.recipe l.file;
-    needs = λ m needed. l.file.needs m (subst (λ (ns : List (List ℕ)). has ns m ≡ true) h.needed needed);
-  });
+      let h : IsHeld files l.recipe n = held files all Library n l.recipe l.file in
+      record {
+        object = h.object;
+        file = object_is files l.recipe n h;
+        kind = held_library files all n l.recipe l.file;
+        needs = λ m needed. l.file.needs m (subst (λ (ns : List (List ℕ)). has ns m ≡ true) h.needed needed);
+      });
 }
 
 -- a member of a walk: the file of a recipe, without form fault

@@ -248,7 +248,7 @@ own_loaded p t x d plain visible own are =
       definition = placed_definition (planned_symbol p x) placed;
       relative = no_number (planned_symbol p x) placed.low;
       loaded = subst (λ (ss : List Segment). list_any (is_in_load (value_of p x) x.size) ss ≡ true) (sym are)
-        (or_right (is_in_load (value_of p x) x.size (first_load p.settings (end_of t))) (is_in_load (value_of p x) x.size second || (is_in_load (value_of p x) x.size (dynamic_segment d) || false)) (rw hit refl));
+          (or_right (is_in_load (value_of p x) x.size (first_load p.settings (end_of t))) (is_in_load (value_of p x) x.size second || (is_in_load (value_of p x) x.size (dynamic_segment d) || false)) (rw hit refl));
     }
 
 weak_loose : (p : Plan) (x : Symbol) → IsWeakReference x → IsLoose (planned_symbol p x)
@@ -439,7 +439,7 @@ symbols_of r t before is e known =
     record {
       null = λ s at. (let here : ◌≡◌ {A = Option read.Symbol} (Some null_symbol) (Some s) = at in let same : null_symbol ≡ s = cc in subst IsNull same (record { ordinary = null_ordinary; nothing = null_nothing }));
       each = λ k s at. all_get (IsSettled (planned_segments p t)) (map (planned_symbol p) p.symbols) k s
-        (all_mapped (IsModestSymbol p.settings) (IsSettled (planned_segments p t)) (planned_symbol p) (λ x modest. symbol_settled p t x (place_of t.places (codes ".dynamic")) (plan_plain r is.plain) (shown_by r t is.plain is.some_data e) modest) p.symbols known.modest) at;
+          (all_mapped (IsModestSymbol p.settings) (IsSettled (planned_segments p t)) (planned_symbol p) (λ x modest. symbol_settled p t x (place_of t.places (codes ".dynamic")) (plan_plain r is.plain) (shown_by r t is.plain is.some_data e) modest) p.symbols known.modest) at;
     }
 
 relocs_of : (r : Recipe) (t : Tables) (before : List Place) → (planned_object r t before).relocations ≡ planned_relocs (plan_of r)

@@ -162,10 +162,10 @@ row_whole p names cut place (inr held) = rw (torn held) (and_false (not (kind_of
     and_false true = refl
     and_false false = refl
 
-rows_whole : (p : Plan) (names : Strings) (cut : ℕ) (places : List Place) → AllByRecursion (IsWhole cut) places → AllByRecursion (λ x. is_torn_section cut x ≡ false) (map section_of (section_rows p names places))
+rows_whole : (p : Plan) (names : Strings) (limit : ℕ) (places : List Place) → AllByRecursion (IsWhole limit) places → AllByRecursion (λ x. is_torn_section limit x ≡ false) (map section_of (section_rows p names places))
 unfolding section_rows
-rows_whole p names cut [] all = tt
-rows_whole p names cut (place ∷ places) all = (row_whole p names cut place all.0, rows_whole p names cut places all.1)
+rows_whole p names limit [] all = tt
+rows_whole p names limit (place ∷ places) all = (row_whole p names limit place all.0, rows_whole p names limit places all.1)
 
 tables_whole : (cut : ℕ) (places : List Place) (n : ℕ) → n ≤ cut → AllByRecursion (IsTable n) places → AllByRecursion (IsWhole cut) places
 tables_whole cut [] n le all = tt
@@ -254,10 +254,10 @@ roomy_objects r t before region plain e room above =
       there = subst (λ (ss : List Segment). last_load ss ≡ Some (second_load s (end_of t))) (sym segments_are) (last_is s (end_of t) d);
       zeros = zeros_few s (end_of t) d flat own;
       headers = subst (λ (n : ℕ). stray_header (planned_object r t before) n ≡ false) (sym (cut_is s (end_of t) d)) (heads_whole (planned_object r t before) (cut s (end_of t) d) (rows_before p t)
-        (subst (λ (ss : List Segment). list_any (λ x. is_torn (cut s (end_of t) d) x.offset x.filesz) ss ≡ false) (sym segments_are) (none_of_each (λ x. is_torn (cut s (end_of t) d) x.offset x.filesz) (three s (end_of t) d) (segments_whole s (end_of t) d there.within)))
-        (none_of_each (is_torn_section (cut s (end_of t) d)) (planned_sections p t) whole) (table_behind p t));
+          (subst (λ (ss : List Segment). list_any (λ x. is_torn (cut s (end_of t) d) x.offset x.filesz) ss ≡ false) (sym segments_are) (none_of_each (λ x. is_torn (cut s (end_of t) d) x.offset x.filesz) (three s (end_of t) d) (segments_whole s (end_of t) d there.within)))
+          (none_of_each (is_torn_section (cut s (end_of t) d)) (planned_sections p t) whole) (table_behind p t));
       off = off_region (planned_segments p t) (second_load s (end_of t)) region
-        (subst (λ (ss : List Segment). list_any (is_loaded_in (region_window region)) ss ≡ false) (sym segments_are) (none_of_each (is_loaded_in (region_window region)) (three s (end_of t) d) (segments_outside s (end_of t) d flat laid.0 region high)))
-        (gap_outside s (end_of t) d flat region high);
+          (subst (λ (ss : List Segment). list_any (is_loaded_in (region_window region)) ss ≡ false) (sym segments_are) (none_of_each (is_loaded_in (region_window region)) (three s (end_of t) d) (segments_outside s (end_of t) d flat laid.0 region high)))
+          (gap_outside s (end_of t) d flat region high);
       latest = subst (λ (ss : List Segment). list_any (is_later (second_load s (end_of t))) ss ≡ false) (sym segments_are) (none_of_each (is_later (second_load s (end_of t))) (three s (end_of t) d) (none_later s (end_of t) d));
     })

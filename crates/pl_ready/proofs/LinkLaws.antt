@@ -1,5 +1,5 @@
 -- Each relocation of a settled scope has a value.
-use Rattle.std.proofs.Common.{◌≡◌, ℕ, zero, suc, ◌+◌, ◌-◌, ◌<◌, ◌≤◌, Bool, true, false, List, [], ◌∷◌, ◌++◌, length, map, get_or, Option, Some, None, Result, Ok, refl, sym, ap, subst, ◌∙◌, arith, inl, inr}
+use Rattle.std.proofs.Common.{◌≡◌, ℕ, zero, suc, ◌+◌, ◌<◌, ◌≤◌, Bool, true, false, List, [], ◌∷◌, ◌++◌, length, map, get_or, Option, Some, None, Result, Ok, refl, sym, ap, subst, ◌∙◌, arith, inl, inr}
 use Rattle.std.specs.Prelude.{◌==◌, ◌&&◌, not, nat_le, nat_lt, min, position, slice_get}
 use Rattle.std.specs.List.{AllByRecursion, list_any}
 use Rattle.std.specs.Option.{option_or}
@@ -35,7 +35,7 @@ use Rattle.pl_ver.specs.Fields.{index_of}
 use Rattle.pl_ver.specs.declared.constants.TheConstants.{VER_NDX_GLOBAL}
 use Rattle.pl_value.specs.Copies.{copied, copy, is_in_load, is_outside}
 use Rattle.pl_value.specs.Definers.{Definer, definer, is_weak}
-use Rattle.pl_value.specs.Meanings.{Row, given, meaning, meanings, row, rows, rows_from}
+use Rattle.pl_value.specs.Meanings.{Row, meaning, meanings, row, rows, rows_from}
 use Rattle.pl_value.specs.Targets.{address, target}
 use Rattle.pl_value.specs.Values.{reference, value_of}
 use Rattle.pl_value.specs.declared.word.Word.TheVariants.{Copy}
@@ -179,7 +179,7 @@ given_found os r o s kind version g unversioned =
     let copies : (r.kind == R_X86_64_COPY) ≡ true = ap (λ (k : ℕ). k == R_X86_64_COPY) kind in
     let here = some_in_member os s.name (class_of r.kind) (suc g.member) g.object (suc g.index) g.symbol g.there g.at g.definition unversioned g.named in
     let found = some_first os s.name (class_of r.kind) None g.member 1 (length os) (omega (arith, slice_get_within os (suc g.member) g.object g.there)) here.0
-        (subst (λ (m : ℕ). in_member os s.name (class_of r.kind) None m ≡ Some here.0) (omega arith) here.1) in
+    (subst (λ (m : ℕ). in_member os s.name (class_of r.kind) None m ≡ Some here.0) (omega arith) here.1) in
     rw (no_version o s version, copies) found
 
 -- ---- definers

@@ -1,15 +1,12 @@
 -- Objects that plain and modest recipes describe, as members of a scope.
-use Rattle.std.specs.Prelude.{◌≡◌, ◌⊎◌, ◌<◌, ◌==◌, ◌&&◌, ℕ, Bool, true, suc, List, slice_get, Some, Ok}
+use Rattle.std.specs.Prelude.{◌≡◌, ◌⊎◌, ◌<◌, ℕ, true, suc, List, slice_get, Some, Ok}
 use Rattle.std.specs.List.{AllByRecursion, list_any}
-use Rattle.std.specs.Str.{bytes_eq}
 use Rattle.pl_elf.specs.declared.constants.TheConstants.{R_X86_64_COPY}
 use Rattle.pl_object.specs.declared.object.Object.{Object}
 use Rattle.pl_object.specs.declared.reloc.Reloc.{Reloc}
 use Rattle.pl_sym.specs.Definers.{is_definition}
 use Rattle.pl_sym.specs.declared.symbol.Symbol as read
 use Rattle.pl_build.specs.declared.layout.Tables.{Tables}
-use Rattle.pl_build.specs.declared.line.Relocation.{Relocation}
-use Rattle.pl_build.specs.declared.line.Symbol.{Symbol}
 use Rattle.pl_build.specs.declared.recipe.Recipe.{Recipe}
 use Rattle.pl_build.specs.declared.roles.Place.{Place}
 use Rattle.pl_build.specs.Layout.{tables}

@@ -5,7 +5,6 @@ use Rattle.pl_elf.specs.declared.range.Range.{Range}
 use Rattle.pl_build.specs.File.{made}
 use Rattle.pl_build.specs.Plan.{plan_of}
 use Rattle.pl_built.specs.SetRecipes.{library_of, program_of}
-use Rattle.pl_gen.specs.Draws.{at}
 use Rattle.pl_gen.specs.Lines.{library_name}
 use Rattle.pl_sound.specs.Rule.{Files}
 use Rattle.pl_ready.specs.Candidates.{AreLibraries, IsProgramFile}
