@@ -35,7 +35,8 @@ use Rattle.pl_scope.proofs.NameLaws.{has_head, has_tail}
 use Rattle.pl_sound.specs.Rule.{Mark}
 use Rattle.pl_sound.proofs.Matching.{Matches, rule_in}
 use Rattle.pl_words.specs.declared.command.Policy.TheVariants.{Lowest}
-use Rattle.pl_fast.specs.Demo.{DemoLoadsAreFast, IsPrelinkable, IsReady, made}
+use Rattle.pl_demo_set.specs.Folder.{made}
+use Rattle.pl_fast.specs.Demo.{DemoLoadsAreFast, IsPrelinkable, IsReady}
 use Rattle.pl_fast.proofs.FreeLaws.{off_is_clear}
 use Rattle.pl_fast.proofs.RunLaws.{prelinked_fast}
 

@@ -2,15 +2,13 @@
 use Rattle.std.specs.Prelude.{◌≡◌, ℕ, true, List, None, Ok, Some}
 use Rattle.std.specs.FinMap.{get}
 use Rattle.pl_batch.specs.Changes.{run_meant}
-use Rattle.pl_batch.specs.Restored.{restored}
 use Rattle.pl_batch.specs.declared.run.Run.TheVariants.{All}
 use Rattle.pl_cli.specs.Demo.{fast_loads}
 use Rattle.pl_cli.specs.Files.{valid_file}
 use Rattle.pl_conflict.specs.Complete.{file_at}
 use Rattle.pl_conflict.specs.Format.{format}
-use Rattle.pl_base.specs.Files.{Files}
 use Rattle.pl_demo.specs.Demo.{folder, programs}
-use Rattle.pl_demo.specs.Made.{made_files}
+use Rattle.pl_demo_set.specs.Folder.{made}
 use Rattle.pl_demo.specs.declared.prelinking.TheConstants.{ASKED}
 use Rattle.pl_form.specs.Files.{marked_in}
 use Rattle.pl_gen.specs.Set as drawn
@@ -19,10 +17,6 @@ use Rattle.pl_known.specs.Skips.{skip_causes}
 use Rattle.pl_scope.specs.Members.{has}
 use Rattle.pl_sound.specs.Rule.{is_marked}
 use Rattle.pl_fast.specs.Clear.{IsProgram, keeps_off}
-
--- the files of a set as they are made
-abbrev pub made : ℕ → Files
-made number = restored (made_files (drawn.demo_set number))
 
 -- a program of a set, prelinked, whose file keeps off the region of the slots
 pub record IsReady (number : ℕ) (name : List ℕ) : Type 0 where
