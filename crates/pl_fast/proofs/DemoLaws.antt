@@ -1,11 +1,12 @@
 -- The loads of `--demo`.
-use Rattle.std.proofs.Common.{◌≡◌, ℕ, Bool, true, false, List, [], ◌∷◌, map, length, Option, Some, None, Result, Ok, refl, sym, ap, subst, ◌∙◌}
+use Rattle.std.proofs.Common.{◌≡◌, ℕ, ◌+◌, Bool, true, false, List, [], ◌∷◌, map, length, Option, Some, None, Result, Ok, refl, sym, ap, arith, ◌∙◌}
 use Rattle.std.specs.Prelude.{count_by, if◌then◌else◌}
 use Rattle.std.specs.FinMap.{get}
 use Rattle.std.specs.List.{range_with_len}
 use Rattle.std.specs.Option.{is_some, option_map}
 use Rattle.std.proofs.lemmas.Bool.{false≢true}
 use Rattle.std.proofs.lemmas.List.FromFn.{length-map-range_with_len}
+use Rattle.std.proofs.lemmas.List.Sums.{sum_by-cons}
 use Rattle.pl_base.specs.Files as base
 use Rattle.pl_base.specs.Names.{is_valid_name}
 use Rattle.pl_base.proofs.AnswerLaws.{bind_ok}
@@ -73,7 +74,11 @@ folder_is number rows e = ap (λ (r : Result (List Change) Cause). after r (made
 
 all_count : (p : List ℕ → Bool) (ns : List (List ℕ)) → ((n : List ℕ) → has ns n ≡ true → p n ≡ true) → count_by p ns ≡ length ns
 all_count p [] each = refl
-all_count p (n ∷ ns) each = rw (each n (has_head n ns), all_count p ns (λ m there. each m (has_tail n m ns there))) refl
+all_count p (n ∷ ns) each =
+    let one : List ℕ → ℕ = λ m. if p m then 1 else 0 in
+    let split : count_by p (n ∷ ns) ≡ one n + count_by p ns = sum_by-cons one n ns in
+    let first : one n ≡ 1 = ap (λ (b : Bool). if b then 1 else 0) (each n (has_head n ns)) in
+    omega (arith, split, first, all_count p ns (λ m there. each m (has_tail n m ns there)))
 
 each_fast : (number : ℕ) → IsPrelinkable number → (n : List ℕ) → has (programs number) n ≡ true → is_fast (cli.load (folder number) n) ≡ true
 each_fast number is n there =

@@ -20,7 +20,6 @@ use Rattle.pl_batch.specs.Changes.{changes_of, fitting, run_meant}
 use Rattle.pl_batch.specs.Commands.{ready}
 use Rattle.pl_batch.specs.Folder.{all_files, are_large, bad_cache, cache, cache_by, cache_file, cache_in, named, no_cache, valid_names}
 use Rattle.pl_batch.specs.Names.{are_many, file_of, of_file}
-use Rattle.pl_batch.specs.declared.all.AllMade.{AllMade}
 use Rattle.pl_batch.specs.declared.cause.Cause.{Cause}
 use Rattle.pl_batch.specs.declared.cause.Cause.TheVariants as causes
 use Rattle.pl_batch.specs.declared.prelinking.Prelinking.{Prelinking}
@@ -81,6 +80,9 @@ original_is file plain = ap (original_by file) plain
 
 not_below : (a b : ℕ) → b ≤ a → nat_lt a b ≡ false
 not_below a b h = grind (arith, nat_tests)
+
+then_ok : {A B E : Type 0} (r : Result A E) (x : A) (f : A → Result B E) → r ≡ Ok x → (r >>= f) ≡ f x
+then_ok {A = A} {E = E} r x f is = ap (λ (q : Result A E). q >>= f) is
 
 -- a name has a file
 abbrev IsThere : base.Files → List ℕ → Type 0
@@ -242,7 +244,10 @@ module _ (files : base.Files) (b : Bounds) (small : (n file : List ℕ) → get 
         ap (λ (r : Result (List Slot) PlanningFault). r >>= λ rows. stamp_for (named files) ns a (stale (named files) p.region rows ns) >>= λ stamp. Ok (plan_made rows stamp)) s.1
         ∙ ap (λ (r : Result ℕ PlanningFault). r >>= λ stamp. Ok (plan_made s.0 stamp)) t.1)
 
-    is_rewritten : rewrite (named files) ns a ≡ Ok (rewritten (named files) ns a is_planned.0)
+    abbrev all_new : Rewritten
+    all_new = rewritten (named files) ns a is_planned.0
+
+    is_rewritten : rewrite (named files) ns a ≡ Ok all_new
     unfolding rewrite
     is_rewritten = ap (λ (r : Result Planned PlanningFault). r >>= λ made. Ok (rewritten (named files) ns a made)) is_planned.1
 
@@ -252,16 +257,12 @@ module _ (files : base.Files) (b : Bounds) (small : (n file : List ℕ) → get 
     unfolding cache_in
     empty_says = ap (because bad_cache) (read_again no_cache (empty_spelled [] refl))
 
-    abbrev all_rows : AllMade
-    all_rows = with_cache (cache_bytes no_cache) (rewritten (named files) ns a is_planned.0)
-
-    made_taken : IsAsked p → made_of (named files) ns p (cache_bytes no_cache) no_cache ≡ Ok all_rows
+    made_taken : IsAsked p → made_of (named files) ns p (cache_bytes no_cache) no_cache ≡ Ok (with_cache (cache_bytes no_cache) all_new)
     unfolding made_of spelled
     made_taken asked =
-        let w = rewritten (named files) ns a is_planned.0 in
-        let fine : is_cache w.cache ≡ true = next_spelled files p no_cache is_planned.0 asked.region asked.moment (empty_spelled [] refl) few is_planned.1 in
+        let fine : is_cache all_new.cache ≡ true = next_spelled files p no_cache is_planned.0 asked.region asked.moment (empty_spelled [] refl) few is_planned.1 in
         ap (λ (r : Result Rewritten PlanningFault). because of_planning r >>= spelled (cache_bytes no_cache)) is_rewritten
-        ∙ ap (λ (test : Bool). unless (not test) causes.BadCache (Ok all_rows)) fine
+        ∙ ap (λ (test : Bool). unless (not test) causes.BadCache (Ok (with_cache (cache_bytes no_cache) all_new))) fine
 
     files_taken : AreTaken files b.bytes ns
     files_taken = are_taken room.stored ns (all_there files)
@@ -272,30 +273,34 @@ module _ (files : base.Files) (b : Bounds) (small : (n file : List ℕ) → get 
         let most : length ns * b.bytes ≤ b.files * b.bytes = mul-le-mul_right b.bytes names_few in
         not_below FOLDER (sum_by (λ file. length (original_in file)) files_taken.bytes) (omega (arith, files_taken.few, most, room.together))
 
-    with_taken : IsAsked p → made_with files p (cache_bytes no_cache) no_cache ≡ Ok all_rows
+    with_taken : IsAsked p → made_with files p (cache_bytes no_cache) no_cache ≡ Ok (with_cache (cache_bytes no_cache) all_new)
     unfolding made_with all_files
     with_taken asked =
         ap (λ (r : Result (List (List ℕ)) Cause). r >>= λ bytes. unless (are_large bytes) causes.FolderTooLarge (made_of (named files) ns p (cache_bytes no_cache) no_cache)) files_taken.taken
         ∙ (ap (λ (test : Bool). unless test causes.FolderTooLarge (made_of (named files) ns p (cache_bytes no_cache) no_cache)) not_large ∙ made_taken asked)
 
-    by_taken : IsAsked p → get files cache ≡ None → made_by files p ≡ Ok all_rows
+    by_taken : IsAsked p → get files cache ≡ None → made_by files p ≡ Ok (with_cache (cache_bytes no_cache) all_new)
     unfolding made_by cache_file
     by_taken asked none =
         ap (λ (o : Option (List ℕ)). cache_by o >>= λ old. cache_in old >>= λ cached. made_with files p old cached) none
         ∙ (ap (λ (r : Result Cache Cause). r >>= λ cached. made_with files p (cache_bytes no_cache) cached) empty_says ∙ with_taken asked)
 
-    all_taken : IsAsked p → get files cache ≡ None → all_changes files p ≡ Ok all_rows.rows
+    all_taken : IsAsked p → get files cache ≡ None → all_changes files p ≡ Ok (with_cache (cache_bytes no_cache) all_new).rows
     unfolding all_changes all_made
     all_taken asked none =
         ap (λ (test : Bool). unless test causes.TooManyFiles (made_by files p) >>= λ made. Ok made.rows) few
-        ∙ ap (λ (r : Result AllMade Cause). r >>= λ made. Ok made.rows) (by_taken asked none)
+        ∙ then_ok (made_by files p) (with_cache (cache_bytes no_cache) all_new) (λ made. Ok made.rows) (by_taken asked none)
 
-    run_taken : IsAsked p → get files cache ≡ None → get files journal ≡ None → run_meant (All p) files ≡ Ok all_rows.rows
-    unfolding ready changes_of
+    is_ready : get files journal ≡ None → ready files ≡ Ok []
+    unfolding ready
+    is_ready none = ap (λ (o : Option (List ℕ)). unless (not (is_some (rows_in o))) causes.BadJournal (Ok [])) none
+
+    run_taken : IsAsked p → get files cache ≡ None → get files journal ≡ None → run_meant (All p) files ≡ Ok (with_cache (cache_bytes no_cache) all_new).rows
+    unfolding changes_of
     run_taken asked none without =
         let taken = all_taken asked none in
-        ap (λ (o : Option (List ℕ)). unless (not (is_some (rows_in o))) causes.BadJournal (Ok []) >>= λ ready. changes_of files (All p)) without
-        ∙ (ap (λ (r : Result (List Change) Cause). r >>= fitting) taken ∙ runs_fit files (All p) all_rows.rows taken)
+        then_ok (ready files) [] (λ (x : List Change). changes_of files (All p)) (is_ready without)
+        ∙ (ap (λ (r : Result (List Change) Cause). r >>= fitting) taken ∙ runs_fit files (All p) (with_cache (cache_bytes no_cache) all_new).rows taken)
 
 pub small_taken : SmallFoldersAreTaken
-small_taken files p b small asked room = ((all_rows files b small.each p room small.few).rows, run_taken files b small.each p room small.few asked small.no_cache small.no_journal)
+small_taken files p b small asked room = (_, run_taken files b small.each p room small.few asked small.no_cache small.no_journal)
