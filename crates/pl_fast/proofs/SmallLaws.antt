@@ -1,8 +1,8 @@
 -- A run that prelinks everything takes a small folder.
-use Rattle.std.proofs.Common.{◌≡◌, ℕ, suc, ◌+◌, ◌*◌, ◌^◌, ◌<◌, ◌≤◌, Bool, true, false, cond, List, [], ◌∷◌, map, length, Option, Some, None, Result, Ok, Err, refl, sym, ap, subst, ◌∙◌, arith, inl, inr, ⊎_elim}
+use Rattle.std.proofs.Common.{◌≡◌, ℕ, suc, ◌+◌, ◌*◌, ◌≤◌, Bool, true, false, List, [], ◌∷◌, length, Option, Some, None, Result, Ok, Err, refl, ap, subst, ◌∙◌, arith, inl, inr}
 use Rattle.std.specs.Prelude.{◌==◌, count_by, filter, fold, max, nat_le, nat_lt, not, if◌then◌else◌}
 use Rattle.std.specs.FinMap.{contains_key-keys, get, keys}
-use Rattle.std.specs.List.{AllByRecursion, cons_option, filter_map, list_any, sum_by}
+use Rattle.std.specs.List.{AllByRecursion, cons_option, list_any, sum_by}
 use Rattle.std.specs.Option.{is_some, option_map}
 use Rattle.std.proofs.lemmas.Bool.{cases_Bool, false≢true, le-leb, or_left, or_right}
 use Rattle.std.proofs.lemmas.Bool.Decides.{nat_tests}
@@ -13,8 +13,6 @@ use Rattle.pl_base.specs.Answers.{◌>>=◌, because, unless}
 use Rattle.pl_base.specs.Each.{each}
 use Rattle.pl_base.specs.Files as base
 use Rattle.pl_base.specs.Names.{is_valid_name}
-use Rattle.pl_base.proofs.AnswerLaws.{ok_same}
-use Rattle.pl_base.proofs.EachLaws.{length-each}
 use Rattle.pl_batch.specs.All.{all_changes, all_made, asked_of, made_by, made_of, made_with, of_planning, spelled, with_cache}
 use Rattle.pl_batch.specs.Changes.{changes_of, fitting, run_meant}
 use Rattle.pl_batch.specs.Commands.{ready}
@@ -27,30 +25,25 @@ use Rattle.pl_batch.specs.declared.reading.TheConstants.{FOLDER}
 use Rattle.pl_batch.specs.declared.room.TheConstants.{FILES}
 use Rattle.pl_batch.specs.declared.run.Run.TheVariants.{All}
 use Rattle.pl_batch.proofs.CacheLemmas.{empty_spelled}
-use Rattle.pl_cache.specs.Reading.{read}
 use Rattle.pl_cache.specs.Spelling.{cache_bytes, is_cache}
 use Rattle.pl_cache.specs.declared.cache.Cache.{Cache}
-use Rattle.pl_cache.specs.declared.fault.CacheFault.{CacheFault}
 use Rattle.pl_cache.proofs.CacheLaws.{read_again}
 use Rattle.pl_cone.specs.Cone.{stamp_after}
-use Rattle.pl_cone.specs.declared.skip.ConeFault.{ConeFault}
 use Rattle.pl_cone.specs.declared.skip.Skip.{Skip}
 use Rattle.pl_conflict.specs.Format.{format, mark_in, mark_of}
 use Rattle.pl_conflict.proofs.FormatLaws.{read_is}
 use Rattle.pl_elf.specs.Kinds.{is_library}
-use Rattle.pl_elf.specs.declared.range.Range.{Range}
 use Rattle.pl_exact.specs.Causes.{IsAsked}
 use Rattle.pl_exact.proofs.FitLemmas.{runs_fit}
 use Rattle.pl_exact.proofs.SlotLemmas.{Among, Fits, among_holds, among_short, want_name, wants_among}
 use Rattle.pl_exact.proofs.SpellLemmas.{next_spelled}
-use Rattle.pl_folder.specs.Disk.{Name, same}
+use Rattle.pl_folder.specs.Disk.{same}
 use Rattle.pl_folder.specs.declared.TheConstants.{STORED}
 use Rattle.pl_folder.proofs.ImageLaws.{itself}
 use Rattle.pl_form.specs.Files.{marked_in, original_by, original_in}
 use Rattle.pl_journal.specs.Names.{journal}
 use Rattle.pl_journal.specs.Rows.{rows_in}
 use Rattle.pl_journal.specs.declared.change.Change.{Change}
-use Rattle.pl_journal.specs.declared.row.Row.{Row}
 use Rattle.pl_known.specs.Plans.{candidates, greatest, greatest_of, is_candidate, planned, slots, slots_of, stale, stamp_for, standings, walks, wants}
 use Rattle.pl_known.specs.Skips.{skip_causes}
 use Rattle.pl_object.specs.Reads.{reads}
@@ -65,11 +58,10 @@ use Rattle.pl_rewrite.specs.declared.rewriting.Rewritten.{Rewritten}
 use Rattle.pl_share.specs.Disjoint.{disjoint}
 use Rattle.pl_share.specs.Shared.{plan_shared}
 use Rattle.pl_slots.specs.Plan.{plan}
-use Rattle.pl_slots.specs.declared.fault.PlanFault.{PlanFault}
 use Rattle.pl_slots.specs.declared.slot.Slot.{Slot}
 use Rattle.pl_slots.specs.declared.slot.Want.{Want}
-use Rattle.pl_sound.specs.Rule.{Files, Mark, mark_at, object_at, objects}
-use Rattle.pl_fast.specs.Small.{Bounds, HasRoom, IsSmall, IsSmallFolder, SmallFoldersAreTaken}
+use Rattle.pl_sound.specs.Rule.{Mark, mark_at, object_at, objects}
+use Rattle.pl_fast.specs.Small.{Bounds, HasRoom, IsSmall, SmallFoldersAreTaken}
 use Rattle.pl_fast.proofs.RoomLaws.{all_placed, all_take}
 
 -- ---- files
@@ -239,10 +231,11 @@ module _ (files : base.Files) (b : Bounds) (small : (n file : List ℕ) → get 
     unfolding planned
     is_planned =
         let s = slots_taken in
-        let t = stamp_taken ns (stale (named files) p.region s.0 ns) a refl in
-        (plan_made s.0 t.0,
-        ap (λ (r : Result (List Slot) PlanningFault). r >>= λ rows. stamp_for (named files) ns a (stale (named files) p.region rows ns) >>= λ stamp. Ok (plan_made rows stamp)) s.1
-        ∙ ap (λ (r : Result ℕ PlanningFault). r >>= λ stamp. Ok (plan_made s.0 stamp)) t.1)
+        let t = stamp_taken ns (stale (named files) p.region s.0 ns) a refl in (
+          plan_made s.0 t.0,
+          ap (λ (r : Result (List Slot) PlanningFault). r >>= λ rows. stamp_for (named files) ns a (stale (named files) p.region rows ns) >>= λ stamp. Ok (plan_made rows stamp)) s.1
+              ∙ ap (λ (r : Result ℕ PlanningFault). r >>= λ stamp. Ok (plan_made s.0 stamp)) t.1,
+        )
 
     abbrev all_new : Rewritten
     all_new = rewritten (named files) ns a is_planned.0
