@@ -1,23 +1,34 @@
 -- What a load is given of the file of a name, from what the folder gives.
-use Rattle.std.proofs.Common.{◌≡◌, ℕ, List, false, refl, sym, ap, ◌∙◌}
-use Rattle.std.specs.Prelude.{Result, Ok, Err, Vec}
+use Rattle.std.proofs.Common.{◌≡◌, ℕ, Bool, List, true, false, refl, sym, ap, ◌∙◌}
+use Rattle.std.specs.Prelude.{MatchBool, Result, Ok, Err, Vec, ⊤, if◌then◌else◌}
 use Rattle.std.specs.declared.alloc.Global.{Global}
 use Rattle.std.proofs.lemmas.Bool.{false≢true}
-use Rattle.pl_base.specs.Answers.{◌>>=◌}
+use Rattle.pl_base.specs.Answers.{◌>>=◌, because}
 use Rattle.pl_base.specs.Files.{Files}
 use Rattle.pl_folder.specs.Seen.{Seen}
 use Rattle.pl_words.specs.declared.command.Policy.{Policy}
+use Rattle.pl_loader.specs.Faults as memory
+use Rattle.pl_loader.specs.declared.fault.LoadFault.{LoadFault}
 use Rattle.pl_cli.specs.declared.cause.Cause.{Cause}
+use Rattle.pl_cli.specs.declared.cause.Cause.TheVariants as causes
 use Rattle.pl_cli.specs.declared.stop.Stop.{Stop}
 use Rattle.pl_cli.specs.declared.stop.Stop.TheVariants as stops
 use Rattle.pl_cli.specs.Came.{HasGiven, HasTaken}
 use Rattle.pl_cli.specs.Files.{file_in}
 use Rattle.pl_weave.specs.Given.{given_from}
 use Rattle.pl_cli.specs.Load.{given_file, loading_file}
-use Rattle.pl_cli.specs.Stops.{MeansAlone, StopsAlone, items_of}
+use Rattle.pl_cli.specs.Stops.{MeansAlone, StopsAlone, items_of, of_load_fault}
 use Rattle.pl_cli.proofs.CallLemmas.{asked_all}
 use Rattle.pl_cli.proofs.LoadLemmas.{lacks_file}
 use Rattle.pl_cli.proofs.StopLemmas.{stops_as}
+
+-- a fault of a load that is meant, or a want of memory
+pub stops_load : (meant : Result (List ℕ) LoadFault) (e : LoadFault) → MatchBool (memory.is_memory e) ⊤ (meant ≡ Err e) → StopsAlone (because causes.Load meant) (of_load_fault e)
+stops_load meant e told = by (memory.is_memory e) told
+  where
+    by : (b : Bool) → MatchBool b ⊤ (meant ≡ Err e) → StopsAlone (because causes.Load meant) (if b then stops.NoMemory else stops.Cause (causes.Load e))
+    by true told = tt
+    by false told = ap (because causes.Load) told
 
 module _ (policy : Policy) (name n : List ℕ) {a b : Seen} where
   -- it was not taken

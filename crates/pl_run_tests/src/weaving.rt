@@ -57,14 +57,8 @@ const WEAVES: [Row; 3] = [
         &[
             Step::Prints(&["-a"], "done 2 prelinked 0 current 0 skipped\n"),
             Step::Makes("libx", LIBX),
-            Step::Weaves(
-                "load p\ninstall liba libx\nopen 0\nrename\nopen 0\n",
-                SLOW,
-            ),
-            Step::Weaves(
-                "load p\ninstall liba libx\nopen 0\nopen 0\nrename\n",
-                FAST,
-            ),
+            Step::Weaves("load p\ninstall liba libx\nopen 0\nrename\nopen 0\n", SLOW),
+            Step::Weaves("load p\ninstall liba libx\nopen 0\nopen 0\nrename\n", FAST),
             Step::Weaves(
                 "load p\nopen 0\nundo\nprelink 2000",
                 "loader 0\nwants liba\nrun 0 renames 0 of 2\nrun 1 waits\nweave end\n",
@@ -197,6 +191,7 @@ const TURNS: [(&str, Turn); 4] = [
 
 /// How many runs and how many steps a script has.
 const FEW: usize = 3;
+
 const STEPS: usize = 12;
 
 /// A weave as the runs of its script show it, each done whole: the folder's files after each run, the files as they stand, how many runs have finished, and the files that two loads of `e` saw.
@@ -211,7 +206,10 @@ struct Shown {
 
 /// A copy of a file.
 fn copy_of(alloc: Global, file: &File) -> Result<File, Fail> {
-    Ok((String::from_str(alloc, file.0.as_str())?, file.1.to_vec(alloc)?))
+    Ok((
+        String::from_str(alloc, file.0.as_str())?,
+        file.1.to_vec(alloc)?,
+    ))
 }
 
 /// The file that a run puts next: the first by name that is not as it is after the run.
@@ -272,8 +270,14 @@ fn told_of(alloc: Global, seen: &[File]) -> Result<Vec<u8>, Fail> {
         1 => Ok(b"wants libe\n".to_vec(alloc)?),
         _ => {
             let mut folder = folder_of(alloc, seen, &[])?;
-            let Ran { status: _, text } =
-                run_over(alloc, &mut folder, &["--load", "e"], b"", NOW, NONE)?;
+            let Ran { status: _, text } = run_over(
+                alloc,
+                &mut folder,
+                &["--load", "e"],
+                b"",
+                NOW,
+                NONE,
+            )?;
             Ok(text)
         }
     }
@@ -321,7 +325,14 @@ fn weave_once(rt: &(impl Abort + AllocGlobal), files: &[File], seed: u64) -> Res
         script.push_str(line)?;
         turn_once(alloc, &mut shown, turn)?;
     }
-    let ran = run_over(alloc, &mut folder, &["--weave"], script.as_bytes(), NOW, NONE)?;
+    let ran = run_over(
+        alloc,
+        &mut folder,
+        &["--weave"],
+        script.as_bytes(),
+        NOW,
+        NONE,
+    )?;
     let mut want = b"loader 0\n".to_vec(alloc)?;
     want.extend_from_slice(&told_of(alloc, &shown.first)?)?;
     want.extend_from_slice(b"loader 1\n")?;

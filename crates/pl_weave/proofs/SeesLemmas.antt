@@ -1,9 +1,10 @@
 -- A loader sees a file of the name that it wants.
-use Rattle.std.proofs.Common.{◌≡◌, ◌∙◌, ℕ, List, Option, Some, None, Result, Ok, Err, refl, sym, ap}
+use Rattle.std.proofs.Common.{◌≡◌, ◌∙◌, ◌++◌, ◌∷◌, [], ℕ, false, List, Option, Some, None, Result, Ok, Err, refl, sym, ap, subst}
+use Rattle.std.specs.Prelude.{MatchBool, OnOk, ⊤}
 use Rattle.std.specs.Option.{ok_or}
 use Rattle.pl_base.specs.Answers.{◌>>=◌, because}
 use Rattle.pl_base.proofs.AnswerLaws.{bind_ok, ok_same}
-use Rattle.pl_loader.specs.Faults.{of_walk}
+use Rattle.pl_loader.specs.Faults.{is_memory, of_walk}
 use Rattle.pl_loader.specs.Loading.{Loading}
 use Rattle.pl_loader.specs.Walk.{entered, give, of_wanted, read_in, taken, with_file}
 use Rattle.pl_loader.specs.declared.fault.LoadFault.{LoadFault}
@@ -13,6 +14,7 @@ use Rattle.pl_scope.specs.Walk as walk
 use Rattle.pl_scope.specs.Walking.{wants}
 use Rattle.pl_weave.specs.Given.{given}
 use Rattle.pl_weave.specs.Opening.{Opened, Sees, led_to, seen_of, taken_as, wanted, wanted_by}
+use Rattle.pl_weave.specs.declared.seen.Seen.{Seen}
 
 -- ---- the name that is loaded stays
 
@@ -55,3 +57,25 @@ module _ {F : Type 0} (post : F → Answering) (o new : Opened F) (name loaded :
   -- nothing is loaded of it
   pub sees_none : (fault : LoadFault) → ((choose : Choice) → Follows (post o.load.policy) choose → given choose loaded name file ≡ Err fault) → new ≡ led_to o (seen_of name file) (Err fault) → Sees post name file o new
   sees_none fault given_is now = record { came = Err fault; exact = λ choose follows. taken_given choose (Err fault) (given_is choose follows); now = now }
+
+-- ---- what it is then
+
+pub led_on : {F : Type 0} (o new : Opened F) (s : Seen) (walk : Loading) → new.load ≡ record o.load { walk = walk } → new.seen ≡ o.seen ++ s ∷ [] → new.fault ≡ None → new ≡ led_to o s (Ok walk)
+led_on o new s walk load seen fault = λ i. record { load = load i; seen = seen i; fault = fault i }
+
+pub led_off : {F : Type 0} (o new : Opened F) (s : Seen) (fault : LoadFault) → new.load ≡ o.load → new.seen ≡ o.seen ++ s ∷ [] → new.fault ≡ Some fault → new ≡ led_to o s (Err fault)
+led_off o new s fault load seen refused = λ i. record { load = load i; seen = seen i; fault = refused i }
+
+-- a loader that wants a name was not refused
+pub unrefused_yet : {F : Type 0} (o : Opened F) (name : List ℕ) → wanted o ≡ Some name → o.fault ≡ None
+unrefused_yet o name is = (wanted_parts o.fault o.load.walk name is).0
+
+-- ---- answers
+
+-- a fault that is no want of memory is the one that is meant
+pub is_told : {X : Type 0} (fault : LoadFault) (meant : Result X LoadFault) → is_memory fault ≡ false → MatchBool (is_memory fault) ⊤ (meant ≡ Err fault) → meant ≡ Err fault
+is_told fault meant kept told = subst (λ b. MatchBool b ⊤ (meant ≡ Err fault)) kept told
+
+pub on_both : {X E P Q R : Type 0} (r : Result X E) → (P → Q → R) → OnOk r P → OnOk r Q → OnOk r R
+on_both (Ok x) both p q = both p q
+on_both (Err e) both p q = tt

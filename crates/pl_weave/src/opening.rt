@@ -89,7 +89,6 @@ impl<'p, F> Opening<'p, F> {
         self.fault = Some(fault);
         Ok(())
     }
-
 }
 
 impl<'p, F: Fn(&Holes, u64, u64) -> Option<u64>> Opening<'p, F> {

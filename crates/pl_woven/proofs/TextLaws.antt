@@ -101,7 +101,7 @@ same_texts starts number (name ∷ names) (o ∷ os) count prints =
 -- ---- a weave
 
 module _ (starts : Starting) (files : Files) (names : List (List ℕ)) (runs : List Run) (events : List Event) where
-  start : Weaving
+  abbrev start : Weaving
   start = record { loaders = map (opened tt) names; runs = begun files [] runs }
 
   count : length (woven lowest files names runs events).loaders ≡ length names
@@ -130,7 +130,7 @@ links_so files names runs events rule past k name o named there done =
     let free = free_one (woven lowest files names runs events).loaders k o (free_all (record { loaders = map (opened tt) names; runs = begun files [] runs }) events (free_new names)) there in
     let seen = has_seen lowest name o.seen (came_to o.fault o.load.walk) led in
     same_start_text (because causes.Load (ended lowest o)) (ordinary_load (is_fast skip_causes (loading_folder lowest (file_seen o.seen) name) name) lowest o.load.busy causes.Load (given_from lowest causes.Load (seen_file o.seen) name) name)
-        (weaves_are_ordinary lowest files names runs events k name o rule past named there done (file_seen o.seen) causes.Load (seen_file o.seen) (are_seen o.seen) (gives_seen o.seen) seen)
+    (weaves_are_ordinary lowest files names runs events k name o rule past named there done (file_seen o.seen) causes.Load (seen_file o.seen) (are_seen o.seen) (gives_seen o.seen) seen)
     ∙ ap (λ (busy : Option Range). start_text (ordinary_load (is_fast skip_causes (loading_folder lowest (file_seen o.seen) name) name) lowest busy causes.Load (given_from lowest causes.Load (seen_file o.seen) name) name)) free
 
 -- ---- the command
