@@ -1,8 +1,7 @@
 -- The loads of `--demo`.
-use Rattle.std.proofs.Common.{◌≡◌, ℕ, ◌+◌, Bool, true, false, List, [], ◌∷◌, map, length, Option, Some, None, Result, Ok, refl, sym, ap, arith, ◌∙◌}
+use Rattle.std.proofs.Common.{◌≡◌, ℕ, ◌+◌, Bool, true, false, List, [], ◌∷◌, length, Option, Some, None, Result, Ok, refl, sym, ap, arith, ◌∙◌}
 use Rattle.std.specs.Prelude.{count_by, if◌then◌else◌}
 use Rattle.std.specs.FinMap.{get}
-use Rattle.std.specs.List.{range_with_len}
 use Rattle.std.specs.Option.{is_some, option_map}
 use Rattle.std.proofs.lemmas.Bool.{false≢true}
 use Rattle.std.proofs.lemmas.List.FromFn.{length-map-range_with_len}
@@ -17,7 +16,6 @@ use Rattle.pl_batch.specs.declared.cause.Cause.{Cause}
 use Rattle.pl_batch.specs.declared.run.Run.TheVariants.{All}
 use Rattle.pl_cli.specs.Demo as cli
 use Rattle.pl_cli.specs.Demo.{fast_loads, is_fast}
-use Rattle.pl_cli.specs.Files.{valid_file}
 use Rattle.pl_conflict.specs.Format.{Rule, format, mark_in, mark_of}
 use Rattle.pl_demo.specs.Demo.{folder, programs}
 use Rattle.pl_demo.specs.Prelinked.{after, prelinked, with_rows}
@@ -25,7 +23,6 @@ use Rattle.pl_demo.specs.declared.prelinking.TheConstants.{ASKED}
 use Rattle.pl_demo.proofs.LawLemmas.{programs_drawn}
 use Rattle.pl_demo.proofs.PrelinkingLemmas.{rows_get}
 use Rattle.pl_form.specs.Files.{marked_in}
-use Rattle.pl_form.specs.declared.file.Marked.{Marked}
 use Rattle.pl_gen.specs.Lines.{program_name}
 use Rattle.pl_gen.specs.Set as drawn
 use Rattle.pl_journal.specs.Meaning.{applied}
