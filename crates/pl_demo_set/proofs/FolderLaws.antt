@@ -12,6 +12,7 @@ use Rattle.std.proofs.lemmas.List.{append-nil, length-map, map-append}
 use Rattle.std.proofs.lemmas.List.Sums.{count_by-le-length}
 use Rattle.std.proofs.lemmas.List.FromFn.{length-map-range_with_len}
 use Rattle.std.proofs.Math.Nat.{mod-lt}
+use Rattle.pl_base.specs.Bytes.{IsBytes}
 use Rattle.pl_base.specs.Files.{Files}
 use Rattle.pl_base.specs.Names.{is_valid_name}
 use Rattle.pl_base.proofs.AnswerLaws.{ok_same}
@@ -45,10 +46,11 @@ use Rattle.rand_pcg.specs.Lcg.{Lcg}
 use Rattle.rand_pcg.specs.Pcg.{pcg64}
 use Rattle.pl_scope.specs.Members.{has}
 use Rattle.pl_scope.proofs.NameLaws.{has_head, has_tail}
-use Rattle.pl_ready.specs.Candidates.{AreLibraries, IsKnownFile, kind_for}
+use Rattle.pl_ready.specs.Candidates.{AreLibraries, IsKnownFile, IsProgramFile, kind_for}
 use Rattle.pl_ready.specs.Described.{IsDescribing}
 use Rattle.pl_ready.specs.Forms.{HasRoom, IsAbove}
 use Rattle.pl_ready.specs.SetFiles.{HasLibrary, HasProgram, library_names}
+use Rattle.pl_ready.proofs.BytesLaws.{plain_bytes}
 use Rattle.pl_ready.proofs.CandidateLaws.{files_known, libraries_ready, programs_ready}
 use Rattle.pl_ready.proofs.SetFilesLaws.{set_libraries, set_programs}
 use Rattle.pl_demo_set.specs.Folder.{DemosAreReady, IsDemoFolder, bounds, files_of, made}
@@ -289,6 +291,31 @@ all_small number n file there =
     (all_mapped (Makes IsSmallFile) (drawn.program (drawn.libraries number) (after (322 * drawn.libraries number) (after 2 (seeded number)))) (program_makes number) (range_with_len 0 (drawn.programs number))))
     n file (sym (ap (λ (files : Files). get files n) (folder_is number)) ∙ there)
 
+abbrev IsWritten : List ℕ → List ℕ → Type 0
+IsWritten n file = IsBytes file
+
+library_writes : (number i : ℕ) → Makes IsWritten (drawn.library (drawn.libraries number) (after 2 (seeded number)) i)
+library_writes number i file valid is =
+    let l : ℕ = drawn.libraries number in
+    let ws : List ℕ = words 322 (after (322 * i) (after 2 (seeded number))) in
+    let read = set_read.libraries l i ws in
+    subst IsBytes (same_some read.bytes file (sym (text_made (library_recipe l i ws) (library_of l i ws) read) ∙ is)) (plain_bytes (library_of l i ws) read.bytes read.fine.plain read.fine.modest read.made)
+
+program_writes : (number j : ℕ) → Makes IsWritten (drawn.program (drawn.libraries number) (after (322 * drawn.libraries number) (after 2 (seeded number))) j)
+program_writes number j file valid is =
+    let l : ℕ = drawn.libraries number in
+    let ws : List ℕ = words 131 (after (131 * j) (after (322 * l) (after 2 (seeded number)))) in
+    let read = set_read.programs l ws in
+    subst IsBytes (same_some read.bytes file (sym (text_made (program_recipe l ws) (program_of l ws) read) ∙ is)) (plain_bytes (program_of l ws) read.bytes read.fine.plain read.fine.modest read.made)
+
+pub all_written : (number : ℕ) (n file : List ℕ) → get (made number) n ≡ Some file → IsBytes file
+all_written number n file there =
+    each_made IsWritten (libraries_in number ++ programs_in number)
+    (all_both (Makes IsWritten) (libraries_in number) (programs_in number)
+    (all_mapped (Makes IsWritten) (drawn.library (drawn.libraries number) (after 2 (seeded number))) (library_writes number) (range_with_len 0 (drawn.libraries number)))
+    (all_mapped (Makes IsWritten) (drawn.program (drawn.libraries number) (after (322 * drawn.libraries number) (after 2 (seeded number)))) (program_writes number) (range_with_len 0 (drawn.programs number))))
+    n file (sym (ap (λ (files : Files). get files n) (folder_is number)) ∙ there)
+
 small_folder : (number : ℕ) → IsSmallFolder bounds (made number)
 small_folder number = record {
   no_journal = ap (λ (files : Files). get files journal) (folder_is number) ∙ no_journal_made (libraries_in number ++ programs_in number);
@@ -313,7 +340,7 @@ named_from (suc count) from k le lt = elim (cases_lt from k) [
 library_named : (count k : ℕ) → k < count → has (library_names count) (library_name k) ≡ true
 library_named count k lt = named_from count 0 k (omega arith) (omega (arith, lt))
 
-asked_is : IsAsked ASKED
+pub asked_is : IsAsked ASKED
 asked_is = record { region = omega arith; moment = omega arith }
 
 room_is : HasRoomFor bounds ASKED
@@ -323,17 +350,25 @@ above_is : (count : ℕ) (ws : List ℕ) → IsAbove (program_of count ws).setti
 unfolding program_of
 above_is count ws = inl (omega (arith, data_small (program_of count ws).settings))
 
+pub demo_libraries : (number : ℕ) → AreLibraries (files_of number) (library_names (drawn.libraries number))
+demo_libraries number = set_libraries (files_of number) (drawn.libraries number) (omega arith) (omega (arith, libraries_few number)) (demo_folder number).libraries
+
+pub demo_program : (number j : ℕ) → j < drawn.programs number → IsProgramFile (files_of number) (library_names (drawn.libraries number)) ASKED.region (program_name j)
+demo_program number j lt =
+    let l : ℕ = drawn.libraries number in
+    let p : HasProgram (files_of number) l (program_name j) = (demo_folder number).programs j lt in
+    set_programs (files_of number) l ASKED.region (program_name j) (omega arith) (demo_folder number).libraries p (above_is l p.words)
+
 pub demo_ready : DemosAreReady
 demo_ready number =
     let folder : IsDemoFolder number = demo_folder number in
     let l : ℕ = drawn.libraries number in
     let run = small_taken (made number) ASKED bounds folder.small asked_is room_is in
-    let libraries : AreLibraries (files_of number) (library_names l) = set_libraries (files_of number) l (omega arith) (omega (arith, libraries_few number)) folder.libraries in
+    let libraries : AreLibraries (files_of number) (library_names l) = demo_libraries number in
     record {
       folder = folder;
       rows = run.0;
       runs = run.1;
       libraries = λ i lt. libraries_ready (files_of number) (library_names l) ASKED.region (library_name i) libraries (library_named l i lt);
-      programs = λ j lt. (let p : HasProgram (files_of number) l (program_name j) = folder.programs j lt in
-          programs_ready (files_of number) (library_names l) ASKED.region (program_name j) libraries (set_programs (files_of number) l ASKED.region (program_name j) (omega arith) folder.libraries p (above_is l p.words)));
+      programs = λ j lt. programs_ready (files_of number) (library_names l) ASKED.region (program_name j) libraries (demo_program number j lt);
     }

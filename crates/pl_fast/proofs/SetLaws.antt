@@ -230,30 +230,30 @@ module _ {E : Type 0} (causes : Causes E) (old : Files) (plan : Plan) where
 
   -- ---- what is fine together
 
-  fine_windows : (ms : Walked) → AllByRecursion IsFine ms → flat_map windows_of (map firm_for ms) ≡ map window_for ms
+  pub fine_windows : (ms : Walked) → AllByRecursion IsFine ms → flat_map windows_of (map firm_for ms) ≡ map window_for ms
   unfolding windows_of
   fine_windows [] fine = refl
   fine_windows (m ∷ ms) fine =
       ap (λ (b : Bool). (if b then window_for m ∷ [] else map load_window (loads m.1.segments)) ++ flat_map windows_of (map firm_for ms)) fine.0.library
       ∙ ap (λ (ws : List Window). window_for m ∷ ws) (fine_windows ms fine.1)
 
-  fine_numbers : (ms : Walked) → AllByRecursion IsFine ms → list_all has_numbers (map firm_for ms) ≡ true
+  pub fine_numbers : (ms : Walked) → AllByRecursion IsFine ms → list_all has_numbers (map firm_for ms) ≡ true
   fine_numbers [] fine = refl
   fine_numbers (m ∷ ms) fine = and_from (has_numbers (firm_for m)) (list_all has_numbers (map firm_for ms)) fine.0.numbers (fine_numbers ms fine.1)
 
-  fine_valid : (ms : Walked) → AllByRecursion IsFine ms → list_all has_valid_name (map firm_for ms) ≡ true
+  pub fine_valid : (ms : Walked) → AllByRecursion IsFine ms → list_all has_valid_name (map firm_for ms) ≡ true
   fine_valid [] fine = refl
   fine_valid (m ∷ ms) fine = and_from (is_valid_name m.0) (list_all has_valid_name (map firm_for ms)) fine.0.valid (fine_valid ms fine.1)
 
-  fine_firms : (ms : Walked) → AllByRecursion IsFine ms → All (λ r. firm_of r.member ≡ Some r) (map firm_for ms)
+  pub fine_firms : (ms : Walked) → AllByRecursion IsFine ms → All (λ r. firm_of r.member ≡ Some r) (map firm_for ms)
   fine_firms [] fine = All-nil (λ (r : Firm). firm_of r.member ≡ Some r)
   fine_firms (m ∷ ms) fine = All-cons (λ (r : Firm). firm_of r.member ≡ Some r) (firm_for m) (map firm_for ms) fine.0.firm (fine_firms ms fine.1)
 
-  firm_names : (ms : Walked) → names_of (map firm_for ms) ≡ names ms
+  pub firm_names : (ms : Walked) → names_of (map firm_for ms) ≡ names ms
   firm_names [] = refl
   firm_names (m ∷ ms) = ap (λ (ns : List (List ℕ)). m.0 ∷ ns) (firm_names ms)
 
-  firm_members : (ms : Walked) → members (map firm_for ms) ≡ map planned (names ms)
+  pub firm_members : (ms : Walked) → members (map firm_for ms) ≡ map planned (names ms)
   firm_members [] = refl
   firm_members (m ∷ ms) = ap (λ (ns : List Member). planned m.0 ∷ ns) (firm_members ms)
 

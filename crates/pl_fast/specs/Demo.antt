@@ -18,10 +18,10 @@ pub record IsReady (number : ℕ) (name : List ℕ) : Type 0 where
   pub program : IsProgram skip_causes (valid_file (folder number)) name
   pub off : keeps_off ASKED.region (file_at (valid_file (folder number)) name) ≡ true
 
--- after the run, each program of a set is ready
-abbrev pub AreReady : ℕ → Type 0
-AreReady number = (n : List ℕ) → has (programs number) n ≡ true → IsReady number n
+-- after the run each program of a set is ready
+abbrev pub DemoProgramsAreReady : Type 0
+DemoProgramsAreReady = (number : ℕ) (n : List ℕ) → has (programs number) n ≡ true → IsReady number n
 
--- then all of its loads are fast, and there are as many as the number draws programs
+-- so all loads are fast, and there are as many as the number draws programs
 abbrev pub DemoLoadsAreFast : Type 0
-DemoLoadsAreFast = (number : ℕ) → AreReady number → fast_loads (folder number) (programs number) ≡ drawn.programs number
+DemoLoadsAreFast = (number : ℕ) → fast_loads (folder number) (programs number) ≡ drawn.programs number
