@@ -1,8 +1,7 @@
 -- The loads of `--demo`.
-use Rattle.std.proofs.Common.{◌≡◌, ℕ, ◌+◌, Bool, true, false, List, [], ◌∷◌, map, length, Option, Some, None, Result, Ok, refl, sym, ap, arith, ◌∙◌}
+use Rattle.std.proofs.Common.{◌≡◌, ℕ, ◌+◌, Bool, true, false, List, [], ◌∷◌, length, Option, Some, None, Result, Ok, refl, sym, ap, arith, ◌∙◌}
 use Rattle.std.specs.Prelude.{count_by, if◌then◌else◌}
 use Rattle.std.specs.FinMap.{get}
-use Rattle.std.specs.List.{range_with_len}
 use Rattle.std.specs.Option.{is_some, option_map}
 use Rattle.std.proofs.lemmas.Bool.{false≢true}
 use Rattle.std.proofs.lemmas.List.FromFn.{length-map-range_with_len}
@@ -17,7 +16,6 @@ use Rattle.pl_batch.specs.declared.cause.Cause.{Cause}
 use Rattle.pl_batch.specs.declared.run.Run.TheVariants.{All}
 use Rattle.pl_cli.specs.Demo as cli
 use Rattle.pl_cli.specs.Demo.{fast_loads, is_fast}
-use Rattle.pl_cli.specs.Files.{valid_file}
 use Rattle.pl_conflict.specs.Format.{Rule, format, mark_in, mark_of}
 use Rattle.pl_demo.specs.Demo.{folder, programs}
 use Rattle.pl_demo.specs.Prelinked.{after, prelinked, with_rows}
@@ -25,7 +23,6 @@ use Rattle.pl_demo.specs.declared.prelinking.TheConstants.{ASKED}
 use Rattle.pl_demo.proofs.LawLemmas.{programs_drawn}
 use Rattle.pl_demo.proofs.PrelinkingLemmas.{rows_get}
 use Rattle.pl_form.specs.Files.{marked_in}
-use Rattle.pl_form.specs.declared.file.Marked.{Marked}
 use Rattle.pl_gen.specs.Lines.{program_name}
 use Rattle.pl_gen.specs.Set as drawn
 use Rattle.pl_journal.specs.Meaning.{applied}
@@ -36,7 +33,9 @@ use Rattle.pl_scope.proofs.NameLaws.{has_head, has_tail}
 use Rattle.pl_sound.specs.Rule.{Mark}
 use Rattle.pl_sound.proofs.Matching.{Matches, rule_in}
 use Rattle.pl_words.specs.declared.command.Policy.TheVariants.{Lowest}
-use Rattle.pl_fast.specs.Demo.{DemoLoadsAreFast, IsPrelinkable, IsReady, made}
+use Rattle.pl_demo_set.specs.Folder.{IsDemoReady, made}
+use Rattle.pl_demo_set.proofs.FolderLaws.{demo_ready}
+use Rattle.pl_fast.specs.Demo.{AreReady, DemoLoadsAreFast, IsReady}
 use Rattle.pl_fast.proofs.FreeLaws.{off_is_clear}
 use Rattle.pl_fast.proofs.RunLaws.{prelinked_fast}
 
@@ -80,15 +79,16 @@ all_count p (n ∷ ns) each =
     let first : one n ≡ 1 = ap (λ (b : Bool). if b then 1 else 0) (each n (has_head n ns)) in
     omega (arith, split, first, all_count p ns (λ m there. each m (has_tail n m ns there)))
 
-each_fast : (number : ℕ) → IsPrelinkable number → (n : List ℕ) → has (programs number) n ≡ true → is_fast (cli.load (folder number) n) ≡ true
+each_fast : (number : ℕ) → AreReady number → (n : List ℕ) → has (programs number) n ≡ true → is_fast (cli.load (folder number) n) ≡ true
 each_fast number is n there =
-    let r : IsReady number n = is.programs n there in
-    let keeps = none_matches (made number) is.bare in
-    let changes = changes_are (made number) is.rows is.runs in
-    let same : folder number ≡ with_rows is.rows (made number) = folder_is number is.rows is.runs in
-    let are : (m : List ℕ) → get (folder number) m ≡ applied is.rows (get (made number)) m = λ m. ap (λ (files : base.Files). get files m) same ∙ rows_get 0 is.rows (made number) m in
-    prelinked_fast (made number) (folder number) ASKED is.rows Lowest None n keeps changes are r.prelinked r.program
-    (off_is_clear (made number) (folder number) ASKED is.rows n keeps changes are r.prelinked r.program r.off)
+    let r : IsReady number n = is n there in
+    let demo : IsDemoReady number = demo_ready number in
+    let keeps = none_matches (made number) (λ m file e. (demo.folder.small.each m file e).plain) in
+    let changes = changes_are (made number) demo.rows demo.runs in
+    let same : folder number ≡ with_rows demo.rows (made number) = folder_is number demo.rows demo.runs in
+    let are : (m : List ℕ) → get (folder number) m ≡ applied demo.rows (get (made number)) m = λ m. ap (λ (files : base.Files). get files m) same ∙ rows_get 0 demo.rows (made number) m in
+    prelinked_fast (made number) (folder number) ASKED demo.rows Lowest None n keeps changes are r.prelinked r.program
+    (off_is_clear (made number) (folder number) ASKED demo.rows n keeps changes are r.prelinked r.program r.off)
 
 pub demo_fast : DemoLoadsAreFast
 unfolding fast_loads

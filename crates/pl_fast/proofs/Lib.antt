@@ -7,6 +7,3 @@ pub mod RunLaws
 pub mod FreeLaws
 pub mod LowLaws
 pub mod DemoLaws
-pub mod RoomLaws
-pub mod SmallLaws
-pub mod MadeLaws

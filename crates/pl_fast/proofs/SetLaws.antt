@@ -1,9 +1,9 @@
 -- The libraries of a program that can be prelinked can be prelinked.
-use Rattle.std.proofs.Common.{◌≡◌, ℕ, ◌+◌, ◌*◌, ◌^◌, ◌<◌, ◌≤◌, Bool, true, false, List, [], ◌∷◌, ◌++◌, map, length, Option, Some, None, Result, Ok, Err, refl, sym, ap, subst, ◌∙◌, arith, inl, inr, length-append}
-use Rattle.std.specs.Prelude.{◌&&◌, ◌||◌, nat_lt, nat_le, not, if◌then◌else◌}
+use Rattle.std.proofs.Common.{◌≡◌, ℕ, ◌+◌, ◌*◌, ◌≤◌, Bool, true, false, List, [], ◌∷◌, ◌++◌, map, length, Option, Some, None, Ok, refl, sym, ap, subst, ◌∙◌, arith, inl, inr, length-append}
+use Rattle.std.specs.Prelude.{◌&&◌, nat_lt, not, if◌then◌else◌}
 use Rattle.std.specs.List.{All, AllByRecursion, AllZip, IsDistinct, flat_map, list_all, list_any}
 use Rattle.std.specs.Str.{bytes_eq}
-use Rattle.std.proofs.lemmas.Bool.{and_from, and_parts, cases_Bool, false≢true, le-leb, or_from, or_parts}
+use Rattle.std.proofs.lemmas.Bool.{and_from, and_parts, false≢true, or_from, or_parts}
 use Rattle.std.proofs.lemmas.List.{length-map}
 use Rattle.std.proofs.lemmas.List.Elements.{All-nil, All-cons, All-head, All-tail}
 use Rattle.std.proofs.lemmas.Option.{none-some, same_Some}
@@ -14,7 +14,7 @@ use Rattle.pl_base.specs.declared.names.TheConstants.{MAX_NAME}
 use Rattle.pl_base.proofs.AnswerLaws.{ok_same}
 use Rattle.pl_base.proofs.NameLaws.{valid_length}
 use Rattle.pl_base.proofs.WordLaws.{length_bytes32}
-use Rattle.pl_conflict.specs.Format.{Causes, format, read_original}
+use Rattle.pl_conflict.specs.Format.{Causes, format}
 use Rattle.pl_conflict.specs.Prelinked as prelinked
 use Rattle.pl_conflict.specs.Prelinked.{Firm, are_set, file_of, firm_of, has_numbers, library_file, list_of, list_row, load_window, stored, version_of, windows_of, with_object}
 use Rattle.pl_conflict.proofs.FormatLaws.{read_is}
@@ -25,12 +25,11 @@ use Rattle.pl_elf.specs.Kinds.{is_library}
 use Rattle.pl_form.specs.Files.{are_bytes, original_in}
 use Rattle.pl_form.specs.Library.{library_with, most_bytes}
 use Rattle.pl_form.specs.Reading.{firm_object}
-use Rattle.pl_form.specs.Words.{listed}
 use Rattle.pl_form.specs.declared.constants.TheConstants.{STORED}
 use Rattle.pl_form.proofs.AlignLaws.{align_even, slot_even}
 use Rattle.pl_form.proofs.KeptLaws.{library_most_with}
 use Rattle.pl_form.proofs.LengthLaws.{accepted_small}
-use Rattle.pl_lists.specs.Lists.{after, is_list, is_row, list_bytes, list_strings, row_bytes}
+use Rattle.pl_lists.specs.Lists.{after, is_row, list_bytes, list_strings, row_bytes}
 use Rattle.pl_lists.specs.declared.list_row.ListRow.{ListRow}
 use Rattle.pl_object.specs.Reads.{reads}
 use Rattle.pl_object.specs.declared.object.Object.{Object}
