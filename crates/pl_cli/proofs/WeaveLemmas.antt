@@ -104,22 +104,22 @@ no_script a stops.Failed found = let no : ⊥ = true≢false found.folder in abs
 no_script a stops.InputFailed found = record { bytes = found.bytes; told = found.told; means = tt; calls = no_calls Done a refl refl (no_look a.disk a.disk refl); input = found.input }
 no_script a stops.NoMemory found = record { bytes = found.bytes; told = found.told; means = tt; calls = no_calls Undone a refl refl (no_look a.disk a.disk refl); input = found.input }
 
-module _ {a b : Seen} {left rest : Input} (s : Script) (found : HasScript (Ok s) left rest) where
-  -- with the script what is meant is by the copy
-  by_script : weaves found.bytes a.files ≡ (because of_batch (copied a.files) >>= λ copy. weaves_by s copy)
-  unfolding weaves
-  by_script = ap (λ (r : Result Script Cause). r >>= λ t. because of_batch (copied a.files) >>= λ copy. weaves_by t copy) (found.means tt)
+-- with the script what is meant is by the copy
+by_script : {left rest : Input} (s : Script) (found : HasScript (Ok s) left rest) (files : Files) → weaves found.bytes files ≡ (because of_batch (copied files) >>= λ copy. weaves_by s copy)
+unfolding weaves
+by_script s found files = ap (λ (r : Result Script Cause). r >>= λ t. because of_batch (copied files) >>= λ copy. weaves_by t copy) (found.means tt)
 
+module _ {a b : Seen} {left rest : Input} (s : Script) (found : HasScript (Ok s) left rest) where
   -- the folder is not copied
   pub not_copied : (fault : BatchFault) → batch.Finds {Y = Vec (String Global × Vec ℕ Global) Global} (copied a.files) (λ files. files_of files.items) (Err fault) a b → HasWoven (Err (of_batch_fault fault)) a b left rest
   not_copied batch_faults.DiskFailed it = record { bytes = found.bytes; told = found.told; means = tt; calls = it.calls; input = found.input }
   not_copied batch_faults.NoMemory it = record { bytes = found.bytes; told = found.told; means = tt; calls = it.calls; input = found.input }
-  not_copied (batch_faults.Cause cause) it = record { bytes = found.bytes; told = found.told; means = λ told. by_script ∙ ap (λ r. because of_batch r >>= λ copy. weaves_by s copy) (it.means told); calls = it.calls; input = found.input }
+  not_copied (batch_faults.Cause cause) it = record { bytes = found.bytes; told = found.told; means = λ told. by_script s found a.files ∙ ap (λ r. because of_batch r >>= λ copy. weaves_by s copy) (it.means told); calls = it.calls; input = found.input }
 
   -- the weave of its files
   pub woven_so : (files : Files) → (a.tells ≡ true → copied a.files ≡ Ok files) → Calls Done Looking a b → (r : Result (Vec ℕ Global) Stop) → MeansAlone (weaves_by s files) (items_of r) → HasWoven r a b left rest
-  woven_so files is calls (Ok text) means = record { bytes = found.bytes; told = found.told; means = λ told. by_script ∙ ap (λ r. because of_batch r >>= λ copy. weaves_by s copy) (is told) ∙ means; calls = calls; input = found.input }
-  woven_so files is calls (Err (stops.Cause cause)) means = record { bytes = found.bytes; told = found.told; means = λ told. by_script ∙ ap (λ r. because of_batch r >>= λ copy. weaves_by s copy) (is told) ∙ means; calls = calls; input = found.input }
+  woven_so files is calls (Ok text) means = record { bytes = found.bytes; told = found.told; means = λ told. by_script s found a.files ∙ ap (λ r. because of_batch r >>= λ copy. weaves_by s copy) (is told) ∙ means; calls = calls; input = found.input }
+  woven_so files is calls (Err (stops.Cause cause)) means = record { bytes = found.bytes; told = found.told; means = λ told. by_script s found a.files ∙ ap (λ r. because of_batch r >>= λ copy. weaves_by s copy) (is told) ∙ means; calls = calls; input = found.input }
   woven_so files is calls (Err stops.Failed) means = absurd means
   woven_so files is calls (Err stops.InputFailed) means = absurd means
   woven_so files is calls (Err stops.NoMemory) means = record { bytes = found.bytes; told = found.told; means = tt; calls = looked_all calls; input = found.input }
