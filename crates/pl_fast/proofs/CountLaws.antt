@@ -1,7 +1,7 @@
 -- The objects of a walk among files that recipes describe have few relocations.
-use Rattle.std.proofs.Common.{◌≡◌, ℕ, ◌+◌, ◌*◌, ◌^◌, ◌≤◌, Bool, true, false, List, [], ◌∷◌, ◌++◌, length, map, filter, get_or, Option, Some, Result, Ok, refl, sym, ap, subst, ◌∙◌, arith, inl, inr}
+use Rattle.std.proofs.Common.{◌≡◌, ℕ, ◌*◌, ◌^◌, ◌≤◌, Bool, true, List, [], ◌∷◌, length, map, filter, get_or, Some, Ok, refl, sym, ap, subst, ◌∙◌, arith, inl, inr}
 use Rattle.std.specs.Prelude.{◌⊎◌}
-use Rattle.std.specs.List.{All, AllByRecursion}
+use Rattle.std.specs.List.{All}
 use Rattle.std.proofs.lemmas.Bool.{cases_Bool}
 use Rattle.std.proofs.lemmas.List.{length-append, length-map}
 use Rattle.std.proofs.lemmas.List.Elements.{All-head, All-tail}
@@ -36,7 +36,6 @@ use Rattle.pl_ready.proofs.ClosedLaws.{roots_walk}
 use Rattle.pl_scope.specs.Members.{has, names}
 use Rattle.pl_scope.specs.Scope as scope
 use Rattle.pl_scope.specs.Walk.{Walked}
-use Rattle.pl_scope.specs.declared.constants.TheConstants.{MAX_MEMBERS}
 use Rattle.pl_scope.proofs.NameLaws.{has_head, has_tail}
 use Rattle.pl_scope.proofs.StepLaws.{walk_short}
 use Rattle.pl_scope.proofs.WalkedLaws.{limit_is, member_file}
