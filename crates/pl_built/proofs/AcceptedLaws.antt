@@ -85,7 +85,7 @@ pub record AreHeld (r : Recipe) (bytes : List ℕ) (ss : List Segment) (e : Exte
   pub slots : list_any is_jump_slot r.relocations ≡ true → loaded bytes ss (memory_at e.slots) ≡ jump_slots (plan_of r)
   pub dynamic : loaded bytes ss (memory_at e.dynamic) ≡ dynamic_table (plan_of r) (before_dynamic r e)
 
-held_by_name : (r : Recipe) (bytes : List ℕ) (t : Tables) (here : IsPlaced r bytes t) → AreHeld r bytes (planned_segments (plan_of r) t) here.shape.extents
+pub held_by_name : (r : Recipe) (bytes : List ℕ) (t : Tables) (here : IsPlaced r bytes t) → AreHeld r bytes (planned_segments (plan_of r) t) here.shape.extents
 unfolding contents
 held_by_name r bytes t here =
     let h = here.held in
@@ -251,7 +251,7 @@ tags_fit r ss tables_end e plain fits good =
 
 -- ---- clauses 9 to 11
 
-dynamic_ok : (r : Recipe) (bytes : List ℕ) (t : Tables) (e : Extents) → IsPlain r → end_of t ≤ 1048576 → t.places ≡ chosen (rows_of r e) → AreGood r (planned_segments (plan_of r) t) (end_of t) e → AreHeld r bytes (planned_segments (plan_of r) t) e
+pub dynamic_ok : (r : Recipe) (bytes : List ℕ) (t : Tables) (e : Extents) → IsPlain r → end_of t ≤ 1048576 → t.places ≡ chosen (rows_of r e) → AreGood r (planned_segments (plan_of r) t) (end_of t) e → AreHeld r bytes (planned_segments (plan_of r) t) e
     → dynamic bytes (planned_segments (plan_of r) t) ≡ Ok (planned_dynamic (plan_of r) (before_dynamic r e))
 unfolding dynamic planned_dynamic
 dynamic_ok r bytes t e plain fits shape good held =

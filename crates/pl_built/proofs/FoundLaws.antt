@@ -22,7 +22,7 @@ use Rattle.pl_dyn.specs.Read.{value_of}
 use Rattle.pl_dyn.specs.declared.tags.Tag.{Tag}
 use Rattle.pl_hash.specs.Candidates.{is_candidate, name_hash}
 use Rattle.pl_hash.specs.Chain.{well_formed}
-use Rattle.pl_hash.specs.Hash.{gnu, sysv}
+use Rattle.pl_hash.specs.Hash.{gnu}
 use Rattle.pl_hash.specs.declared.table.Table.{Table}
 use Rattle.pl_sym.specs.Definers.{is_linkable, is_definition, is_canonical, is_definer}
 use Rattle.pl_sym.specs.Symbol as seen

@@ -30,7 +30,7 @@ use Rattle.pl_build.specs.Layout.{end_of, filled_to, tables}
 use Rattle.pl_build.specs.Needed.{files_of}
 use Rattle.pl_build.specs.Plan.{plan_of, base_of, data_address, has_interp}
 use Rattle.pl_build.specs.Roles.{section_name, kind_of, flags_of, align_of, entsize_of, link_of, has_name, index_of}
-use Rattle.pl_build.specs.Sections.{info_of, row_of, first_places, last_places, section_rows, section_bytes}
+use Rattle.pl_build.specs.Sections.{info_of, row_of, first_places, last_places, section_rows}
 use Rattle.pl_build.specs.Segments.{readable, first_load, second_load, dynamic_segment, has_data, with_count, segments, data_offset}
 use Rattle.pl_build.specs.Strings.{start, section_names, role_text_added, text_added}
 use Rattle.pl_build.specs.FileKinds.{is_position_independent}

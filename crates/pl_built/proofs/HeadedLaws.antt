@@ -38,7 +38,7 @@ use Rattle.pl_build.specs.Layout.{end_of, filled_to, tables}
 use Rattle.pl_build.specs.Plan.{plan_of, base_of, data_address}
 use Rattle.pl_build.specs.Roles.{section_name, kind_of, has_name, index_of}
 use Rattle.pl_build.specs.Sections.{row_of, first_places, last_places, section_rows, section_bytes}
-use Rattle.pl_build.specs.Segments.{readable, first_load, second_load, dynamic_segment, has_data, data_offset, segments}
+use Rattle.pl_build.specs.Segments.{readable, first_load, second_load, dynamic_segment, has_data, data_offset}
 use Rattle.pl_built.specs.Laws.{FilesAreHeaded}
 use Rattle.pl_built.specs.Plain.{ArePlain, IsPlain}
 use Rattle.pl_built.specs.Planned.{is_table, header_of, section_of, planned_segments, planned_header, planned_sections, IsHeaded}
@@ -324,7 +324,7 @@ names_data p t =
     let long : length front ≡ data_offset (end_of t) + p.settings.data_size = length-append (up_to_data p t (end_of t) shoff) (data_bytes p.settings.data_size p.words) ∙ omega (arith, data_after p t shoff, data_long p.settings.data_size p.words) in
     ap (λ (n : ℕ). part n (length (names_of p).bytes) (file_by p t)) (sym long) ∙ part_of_begins front (names_of p).bytes (file_by p t) (begins_parts p t)
 
-names_are : (r : Recipe) (t : Tables) → IsPlain r → tables (plan_of r) ≡ Ok t → IsHeaded (plan_of r) t (file_by (plan_of r) t) → names (file_by (plan_of r) t) (planned_header (plan_of r) t) ≡ (names_of (plan_of r)).bytes
+pub names_are : (r : Recipe) (t : Tables) → IsPlain r → tables (plan_of r) ≡ Ok t → IsHeaded (plan_of r) t (file_by (plan_of r) t) → names (file_by (plan_of r) t) (planned_header (plan_of r) t) ≡ (names_of (plan_of r)).bytes
 names_are r t plain e h =
     let p : Plan = plan_of r in
     let head : Header = planned_header p t in

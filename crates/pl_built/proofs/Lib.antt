@@ -23,4 +23,14 @@ pub mod PlacedLaws
 pub mod LinkingLaws
 pub mod FoundLaws
 pub mod AcceptedLaws
+pub mod WholeLaws
 pub mod MadeLaws
+pub mod NameLaws
+pub mod SetLaws
+pub mod GatherLaws
+pub mod ShortLaws
+pub mod CoverLaws
+pub mod FaultLaws
+pub mod FineLaws
+pub mod DrawnLaws
+pub mod SetNameLaws

@@ -130,7 +130,7 @@ pub record IsThere (q : Symbol → Bool) (xs : List Symbol) : Type 0 where
   pub within : index < length xs
   pub passes : q (get_or xs index nobody) ≡ true
 
-position_there : (q : Symbol → Bool) (xs : List Symbol) → list_any q xs ≡ true → IsThere q xs
+pub position_there : (q : Symbol → Bool) (xs : List Symbol) → list_any q xs ≡ true → IsThere q xs
 position_there q xs h =
     let k : ℕ = position_or_len q xs in
     elim (cases_lt k (length xs)) [
@@ -190,7 +190,7 @@ unfolding is_in
 own_part s x defined = both_true x.defined (bucket s x == bucket s x) defined (equal (bucket s x) (bucket s x) refl)
 
 -- the order of the symbols loses none
-any_ordered : (q : Symbol → Bool) (s : Settings) (symbols : List Symbol) → 0 < s.buckets → list_any q symbols ≡ true → list_any q (ordered s symbols) ≡ true
+pub any_ordered : (q : Symbol → Bool) (s : Settings) (symbols : List Symbol) → 0 < s.buckets → list_any q symbols ≡ true → list_any q (ordered s symbols) ≡ true
 unfolding ordered
 any_ordered q s symbols some h =
     let there : IsThere q symbols = position_there q symbols h in
@@ -261,7 +261,7 @@ kind_small r x m = elim m.form [
   | inr copy ↦ omega (arith, copy.kind)
 ]
 
-number_small : (p : Plan) (name : List ℕ) → length p.symbols + 1 < 2 ^ 32 → symbol_number p name ≤ length p.symbols
+pub number_small : (p : Plan) (name : List ℕ) → length p.symbols + 1 < 2 ^ 32 → symbol_number p name ≤ length p.symbols
 unfolding symbol_number
 number_small p name few = elim (cases_Bool (is_no_symbol name)) [
   | inl none ↦ rw none (omega arith)
@@ -309,7 +309,7 @@ plan_settings : (r : Recipe) → (plan_of r).settings ≡ r.settings
 unfolding plan_of
 plan_settings r = refl
 
-modest_relocations : (r : Recipe) → IsModest r → AllByRecursion (IsModestRelocation r) (plan_of r).relocations
+pub modest_relocations : (r : Recipe) → IsModest r → AllByRecursion (IsModestRelocation r) (plan_of r).relocations
 modest_relocations r m = subst (AllByRecursion (IsModestRelocation r)) (sym (plan_relocations r)) m.relocations
 
 rows_of_read : (r : Recipe) (p : Plan) (rs : List Relocation) → length p.symbols + 1 < 2 ^ 32 → AllByRecursion (IsModestRelocation r) rs → relocs (planned_symbols p) (flat_map rela_bytes (map (rela_of p) rs)) ≡ read_as p rs
@@ -327,19 +327,19 @@ rows_read r m few =
 
 -- ---- how wide a copy is
 
-copied : (r : Recipe) (x : Relocation) → IsPlain r → CopiesWord r x → IsThere (is_written_as x.name) (plan_of r).symbols
+pub copied : (r : Recipe) (x : Relocation) → IsPlain r → CopiesWord r x → IsThere (is_written_as x.name) (plan_of r).symbols
 copied r x plain copy =
     position_there (is_written_as x.name) (plan_of r).symbols
     (subst (λ (l : List Symbol). list_any (is_written_as x.name) l ≡ true) (sym (plan_symbols r)) (any_ordered (is_written_as x.name) r.settings r.symbols plain.settings.some_buckets copy.known))
 
-copied_number : (r : Recipe) (x : Relocation) (there : IsThere (is_written_as x.name) (plan_of r).symbols) → length (plan_of r).symbols + 1 < 2 ^ 32 → is_no_symbol x.name ≡ false → symbol_number (plan_of r) x.name ≡ suc there.index
+pub copied_number : (r : Recipe) (x : Relocation) (there : IsThere (is_written_as x.name) (plan_of r).symbols) → length (plan_of r).symbols + 1 < 2 ^ 32 → is_no_symbol x.name ≡ false → symbol_number (plan_of r) x.name ≡ suc there.index
 unfolding symbol_number
 copied_number r x there few named =
     let small : plus there.index 1 ≡ there.index + 1 = plus_small there.index 1 (omega (arith, there.within, few)) in
     let sum : plus there.index 1 ≡ suc there.index = omega (arith, small) in
     rw (named, there.found) sum
 
-copied_size : (r : Recipe) (x : Relocation) → CopiesWord r x → (there : IsThere (is_written_as x.name) (plan_of r).symbols) → (get_or (plan_of r).symbols there.index nobody).size ≡ 8
+pub copied_size : (r : Recipe) (x : Relocation) → CopiesWord r x → (there : IsThere (is_written_as x.name) (plan_of r).symbols) → (get_or (plan_of r).symbols there.index nobody).size ≡ 8
 copied_size r x copy there =
     let sizes : AllByRecursion (IsWord x.name) (plan_of r).symbols = subst (AllByRecursion (IsWord x.name)) (sym (plan_symbols r)) (all_ordered (IsWord x.name) r.settings r.symbols copy.sizes) in
     all_at (IsWord x.name) (plan_of r).symbols there.index nobody there.within sizes there.passes
@@ -655,7 +655,7 @@ all_aligned : (r : Recipe) (rs : List Relocation) → AllByRecursion (IsModestRe
 all_aligned r [] all = tt
 all_aligned r (x ∷ rs) all = (all.0.aligned, all_aligned r rs all.1)
 
-abbrev in_order : List Relocation → List Relocation
+abbrev pub in_order : List Relocation → List Relocation
 in_order rs = filter is_other rs ++ filter is_jump_slot rs
 
 read_append : (p : Plan) (xs ys : List Relocation) → read_as p xs ++ read_as p ys ≡ read_as p (xs ++ ys)
@@ -663,7 +663,7 @@ unfolding read_as
 read_append p [] ys = refl
 read_append p (x ∷ xs) ys = ap (λ (l : List Reloc). reloc_of (planned_symbols p) (rela_of p x) ∷ l) (read_append p xs ys)
 
-planned_as : (p : Plan) → planned_relocs p ≡ read_as p (in_order p.relocations)
+pub planned_as : (p : Plan) → planned_relocs p ≡ read_as p (in_order p.relocations)
 unfolding planned_relocs
 planned_as p = read_append p (filter is_other p.relocations) (filter is_jump_slot p.relocations)
 

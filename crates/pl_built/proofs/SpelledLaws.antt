@@ -1,25 +1,22 @@
 -- Each line is read as what it spells.
-use Rattle.std.proofs.Common.{◌≡◌, ℕ, ◌^◌, ◌<◌, Bool, true, false, List, [], ◌∷◌, ◌++◌, length, Option, Some, None, refl, sym, ap, ◌∙◌, arith, inl, inr}
-use Rattle.std.specs.Prelude.{◌==◌, ◌&&◌, ◌||◌, codes, cond, nat_eq}
-use Rattle.std.specs.Fmt.{digits}
-use Rattle.std.specs.List.{list_all, list_any, starts_with}
-use Rattle.std.proofs.lemmas.Bool.{cases_Bool, and_parts, false≢true}
+use Rattle.std.proofs.Common.{◌≡◌, ℕ, ◌^◌, ◌<◌, Bool, true, false, List, [], ◌∷◌, ◌++◌, Some, refl, ap, ◌∙◌, arith, inl, inr}
+use Rattle.std.specs.Prelude.{◌==◌, ◌||◌, codes, cond}
+use Rattle.std.specs.List.{list_all, list_any}
+use Rattle.std.proofs.lemmas.Bool.{cases_Bool, and_parts}
 use Rattle.std.proofs.lemmas.Bool.Decides.{nat_tests}
 use Rattle.pl_base.specs.Names.{is_valid_name, is_name_byte, is_own_name, is_dots}
-use Rattle.pl_build.specs.declared.line.Addend.{Addend}
-use Rattle.pl_build.specs.declared.line.Line.{Line}
 use Rattle.pl_build.specs.declared.line.Line.TheVariants.{Wrong, Needs, Names, Relocates}
 use Rattle.pl_build.specs.Grammar.{line, line_of, pair, needs_line, longer}
-use Rattle.pl_build.specs.RelocationLines.{symbol_kind, other_kind, relocation_kind, is_no_symbol, fits, addend, addend_by, relocation_line, rel_line}
+use Rattle.pl_build.specs.RelocationLines.{symbol_kind, other_kind, relocation_kind, is_no_symbol, fits, addend, relocation_line, rel_line}
 use Rattle.pl_build.specs.SymbolLines.{bind_of, symbol_type, visibility_of, after_visibility, has_file, named_file, after_file, has_place, place_offset, after_place, is_def, def_named, def_line, has_fitting_version, is_ref, ref_named, ref_line}
-use Rattle.pl_build.specs.Words.{words_of, is_digit, digit, is_number, digit_more, value, number, is_negative, magnitude, cut, name_of, has_version, is_doubled, version_of, is_written}
+use Rattle.pl_build.specs.Words.{is_digit, digit, is_number, digit_more, value, number, is_negative, magnitude, cut, name_of, has_version, is_doubled, version_of, is_written}
 use Rattle.pl_built.specs.Spelled.{IsPlainName, hexadecimal, defined, referred, relocated, NeedsAreRead, FunctionsAreRead, ObjectsAreRead, RefsAreRead, CopiesAreRead, RelativesAreRead, by_function, AbsolutesAreRead, GlobDatsAreRead, JumpSlotsAreRead}
 use Rattle.pl_built.specs.Split.{split_by}
 use Rattle.pl_built.proofs.NumberLaws.{hex_all, numbers_read}
 use Rattle.pl_built.proofs.SplitLaws.{pieces_split, split_ended, split_last}
 
 -- a line by its words
-line_by : (text : List ℕ) (words : List (List ℕ)) → split_by 32 text ≡ words → line text ≡ line_of words
+pub line_by : (text : List ℕ) (words : List (List ℕ)) → split_by 32 text ≡ words → line text ≡ line_of words
 unfolding line
 line_by text words e = ap line_of (pieces_split 32 text ∙ e)
 

@@ -1,10 +1,10 @@
 -- The System V hash table of a plan is well formed, and leads to each symbol.
 use Rattle.std.proofs.Common.{◌≡◌, ℕ, zero, suc, ◌+◌, ◌-◌, ◌*◌, ◌%◌, ◌^◌, ◌<◌, ◌≤◌, Bool, true, false, List, [], ◌∷◌, ◌++◌, length, map, drop, get_or, Option, Some, None, refl, sym, ap, subst, ◌∙◌, length-append, length-drop, arith, inl, inr}
-use Rattle.std.specs.Prelude.{◌⊎◌, not, ◌==◌, ◌&&◌, ◌||◌, nat_le, nat_lt, filter, position, is_some, unwrap_or, cond}
+use Rattle.std.specs.Prelude.{◌⊎◌, ◌==◌, ◌||◌, nat_le, nat_lt, filter, is_some}
 use Rattle.std.specs.List.{AllByRecursion, flat_map, list_all, list_any, position_or_len, range_with_len}
 use Rattle.std.proofs.lemmas.Bool.{cases_Bool, cases_lt, false≢true}
 use Rattle.std.proofs.lemmas.Bool.Decides.{nat_tests}
-use Rattle.std.proofs.lemmas.List.{append-nil, length-map, get_or_append_left, get_or-append_right, get_or-drop, get_or-map}
+use Rattle.std.proofs.lemmas.List.{length-map, get_or_append_left, get_or-append_right, get_or-drop}
 use Rattle.std.proofs.lemmas.List.Concat.{flat_map-append}
 use Rattle.std.proofs.lemmas.List.FromFn.{length-range_with_len, get_or-map-range_with_len}
 use Rattle.std.proofs.lemmas.List.Sums.{fails_before_first, passes_at_first}
@@ -17,14 +17,13 @@ use Rattle.pl_hash.specs.Chain.{head, following, is_linked, with_first, chain_fr
 use Rattle.pl_hash.specs.Hash.{sysv}
 use Rattle.pl_hash.specs.Table.{has_header, buckets_at, chains_at, first_linked, link_at, bucket, link, admits, matches}
 use Rattle.pl_hash.specs.declared.table.Table.{Table}
-use Rattle.pl_build.specs.declared.fields.Field.{Field}
 use Rattle.pl_build.specs.declared.fields.Field.TheVariants.{Word}
 use Rattle.pl_build.specs.declared.line.Symbol.{Symbol}
 use Rattle.pl_build.specs.declared.plan.Plan.{Plan}
 use Rattle.pl_build.specs.Fields.{field_bytes, fields}
-use Rattle.pl_build.specs.HashTables.{found, sysv_buckets, first_from, next_after, sysv_words, sysv_table}
+use Rattle.pl_build.specs.HashTables.{sysv_buckets, first_from, next_after, sysv_words, sysv_table}
 use Rattle.pl_build.specs.Symbols.{bucket_of}
-use Rattle.pl_built.specs.Hashes.{sysv_of, FitsBuckets, IsWhole, SysvIsWhole}
+use Rattle.pl_built.specs.Hashes.{sysv_of, FitsBuckets, SysvIsWhole}
 use Rattle.pl_built.proofs.HeadLaws.{all_append}
 use Rattle.pl_built.proofs.RowLaws.{table_back}
 use Rattle.pl_built.proofs.BackLaws.{rows_long}

@@ -16,4 +16,8 @@ pub mod Relocs
 pub mod Shape
 pub mod Accepted
 pub mod Made
+pub mod SetRecipes
+pub mod SetLines
+pub mod SetRead
+pub mod SetNames
 pub mod Laws

@@ -5,7 +5,6 @@ use Rattle.std.specs.List.{list_any}
 use Rattle.pl_base.specs.Names.{is_valid_name}
 use Rattle.pl_elf.specs.declared.constants.TheConstants.{R_X86_64_64, R_X86_64_COPY, R_X86_64_GLOB_DAT, R_X86_64_JUMP_SLOT, R_X86_64_RELATIVE}
 use Rattle.pl_sym.specs.declared.constants.TheConstants.{STB_GLOBAL, STB_WEAK, STT_OBJECT, STT_FUNC, STV_DEFAULT}
-use Rattle.pl_build.specs.declared.line.Line.{Line}
 use Rattle.pl_build.specs.declared.line.Line.TheVariants.{Needs, Names, Relocates}
 use Rattle.pl_build.specs.declared.line.Relocation.{Relocation}
 use Rattle.pl_build.specs.declared.line.Symbol.{Symbol}

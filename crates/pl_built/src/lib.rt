@@ -6,6 +6,7 @@ mod bounded;
 mod gnu;
 mod law;
 mod relocs;
+mod set;
 mod tables;
 
 pub use accepted::plain_is_accepted;
@@ -17,4 +18,5 @@ pub use law::{
     texts_are_found, words_are_read,
 };
 pub use relocs::{relocs_are_read, relocs_are_taken};
+pub use set::{set_is_built, set_is_named, set_is_read, set_is_spelled};
 pub use tables::tables_are_taken;

@@ -28,6 +28,7 @@ use Rattle.pl_cli.specs.declared.stop.Stop.{Stop}
 use Rattle.pl_cli.specs.declared.stop.Stop.TheVariants as stops
 use Rattle.pl_cli.specs.Came.{HasGiven, HasLoaded}
 use Rattle.pl_cli.specs.Files.{file_in}
+use Rattle.pl_weave.specs.Given.{given_from}
 use Rattle.pl_cli.specs.Load.{choice, given_file, loaded, loaded_files, loaded_object, loading_file}
 use Rattle.pl_cli.specs.Looks.{stepped, takes}
 use Rattle.pl_cli.specs.Stops.{of_load_fault}
@@ -82,7 +83,7 @@ loaded_is policy busy fs name = then_unless (not (is_valid_name name)) causes.Ba
 -- ---- the files of the walk
 
 pub lacks_file : (policy : Policy) (fs : Files) (name n : List ℕ) (cause : Cause) → file_in fs n ≡ Err cause → loading_file policy fs name n ≡ Err cause
-unfolding loading_file
+unfolding loading_file given_from
 lacks_file policy fs name n cause lacks = ap (λ (r : Result (List ℕ) Cause). r >>= given_file policy name n) lacks
 
 lacks_object : (policy : Policy) (fs : Files) (name n : List ℕ) (cause : Cause) → loading_file policy fs name n ≡ Err cause → loaded_object policy fs name n ≡ Err cause

@@ -25,7 +25,10 @@ use Rattle.pl_cli.specs.declared.print.TheConstants.{CACHE}
 use Rattle.pl_cli.specs.Print.{bad_cache, cache_in, cache_of, no_cache, print_text, printed}
 use Rattle.pl_cli.specs.declared.command.Detail.{Detail}
 use Rattle.pl_cli.specs.Files.{valid_file, of_file, file_in}
-use Rattle.pl_cli.specs.Load.{choice, first_by, first_file, is_memory, loaded, loading_file}
+use Rattle.pl_cli.specs.Load.{choice, is_memory, loaded, loading_file}
+use Rattle.pl_loader.specs.Faults as memory
+use Rattle.pl_place.specs.Policy.{Choice}
+use Rattle.pl_weave.specs.Given.{first_by, first_of, given_from}
 use Rattle.pl_fix.specs.Fixing.{placed}
 use Rattle.pl_fix.specs.declared.placing.Placing.{Placing}
 use Rattle.pl_fix.specs.declared.placing.Placing.TheVariants as placings
@@ -65,20 +68,21 @@ file_tells : (files : Files) (name : List ℕ) → Tells is_memory (file_in file
 unfolding file_in
 file_tells files name = looked_up_tells name (valid_file files name)
 
-first_tells : (name bytes : List ℕ) (p : Placing) → Tells is_memory (first_by name bytes p)
-first_tells name bytes placings.NotPie = ok_tells is_memory bytes
-first_tells name bytes placings.NoPlace = err_tells _ is_memory _ refl
-first_tells name bytes placings.Marked = err_tells _ is_memory _ refl
-first_tells name bytes (placings.Fixed at file) = ok_tells is_memory file
+first_tells : (name bytes : List ℕ) (p : Placing) → Tells memory.is_memory (first_by name bytes p)
+first_tells name bytes placings.NotPie = ok_tells memory.is_memory bytes
+first_tells name bytes placings.NoPlace = err_tells _ memory.is_memory _ refl
+first_tells name bytes placings.Marked = err_tells _ memory.is_memory _ refl
+first_tells name bytes (placings.Fixed at file) = ok_tells memory.is_memory file
 
-given_by_tells : (policy : Policy) (name bytes : List ℕ) (b : Bool) → Tells is_memory (if b then first_file policy name bytes else Ok bytes)
-unfolding first_file
-given_by_tells policy name bytes true = first_tells name bytes (placed (choice policy) bytes)
-given_by_tells policy name bytes false = ok_tells is_memory bytes
+given_tells : (choose : Choice) (name bytes : List ℕ) (b : Bool) → Tells memory.is_memory (if b then first_of choose name bytes else Ok bytes)
+unfolding first_of
+given_tells choose name bytes true = first_tells name bytes (placed choose bytes)
+given_tells choose name bytes false = ok_tells memory.is_memory bytes
 
 loading_tells : (policy : Policy) (files : Files) (name n : List ℕ) → Tells is_memory (loading_file policy files name n)
-unfolding loading_file
-loading_tells policy files name n = then_tells is_memory (file_in files n) _ (file_tells files n) (λ bytes. given_by_tells policy name bytes (bytes_eq n name))
+unfolding loading_file given_from
+loading_tells policy files name n =
+    then_tells is_memory (file_in files n) _ (file_tells files n) (λ bytes. because_tells memory.is_memory is_memory causes.Load _ (λ f t. t) (given_tells (choice policy) name bytes (bytes_eq n name)))
 
 pub loaded_tells : (policy : Policy) (busy : Option Range) (files : Files) (name : List ℕ) → Tells is_memory (loaded policy busy files name)
 unfolding loaded

@@ -1,5 +1,5 @@
 -- What is added to the text of a weave.
-use Rattle.std.proofs.Common.{◌≡◌, ◌∙◌, ◌<◌, ◌≤◌, ◌+◌, ◌++◌, ◌∷◌, [], ℕ, List, length, take, zero, suc, Option, Some, None, refl, sym, ap, subst, arith, true, false}
+use Rattle.std.proofs.Common.{◌≡◌, ◌∙◌, ◌<◌, ◌≤◌, ◌+◌, ◌++◌, ◌∷◌, [], ℕ, List, length, take, zero, suc, Option, Some, None, refl, sym, append_assoc, ap, subst, arith, true, false}
 use Rattle.std.specs.Prelude.{Result, Ok, Err, slice_get, MatchBool, ⊤}
 use Rattle.std.proofs.lemmas.List.{length-take-le, take_more}
 use Rattle.std.proofs.lemmas.Option.{get_or_from_slice_get}
@@ -72,11 +72,35 @@ loaders_next choose w i o is lt =
     ∙ loaders_push choose 0 (take i w) o
     ∙ ap (λ (n : ℕ). loaders_text choose 0 (take i w) ++ (loader_line n ++ loader_text choose o)) count
 
+-- a loader more, behind what came before
+pub loaders_added : {F : Type 0} (choose : Choice) (w : List (Opened F)) (i : ℕ) (o : Opened F) (before so_far lined new : List ℕ) → slice_get w i ≡ Some o → i < length w
+    → lined ≡ so_far ++ loader_line i → new ≡ lined ++ loader_text choose o → so_far ≡ before ++ loaders_text choose 0 (take i w) → new ≡ before ++ loaders_text choose 0 (take (i + 1) w)
+loaders_added choose w i o before so_far lined new is lt line added told =
+    let texts = loaders_text choose 0 (take i w) in
+    added ∙ ap (λ (t : List ℕ). t ++ loader_text choose o) (line ∙ ap (λ (t : List ℕ). t ++ loader_line i) told)
+    ∙ append_assoc (before ++ texts) (loader_line i) (loader_text choose o)
+    ∙ append_assoc before texts (loader_line i ++ loader_text choose o)
+    ∙ ap (λ (t : List ℕ). before ++ t) (sym (loaders_next choose w i o is lt))
+
 -- ---- all runs
 
-pub runs_next : (ps : List Progress) (i : ℕ) (p : Progress) → slice_get ps i ≡ Some p → i < length ps → runs_text 0 (take (i + 1) ps) ≡ runs_text 0 (take i ps) ++ run_line i p
-runs_next ps i p is lt =
-    let count : 0 + length (take i ps) ≡ i = let e = length-take-le i ps (omega (arith, lt)) in omega (arith, e) in
-    ap (λ xs. runs_text 0 xs) (take_more ps i p lt ∙ ap (λ q. take i ps ++ q ∷ []) (get_or_from_slice_get ps i p p is))
-    ∙ runs_push 0 (take i ps) p
-    ∙ ap (λ (n : ℕ). runs_text 0 (take i ps) ++ run_line n p) count
+-- a run more
+pub run_added : (ps : List Progress) (p : Progress) (number : ℕ) (before so_far new : List ℕ) → number ≡ length ps → new ≡ so_far ++ run_line number p → so_far ≡ before ++ runs_text 0 ps → new ≡ before ++ runs_text 0 (ps ++ p ∷ [])
+run_added ps p number before so_far new at added told =
+    let texts = runs_text 0 ps in
+    added ∙ ap (λ (t : List ℕ). t ++ run_line number p) told
+    ∙ append_assoc before texts (run_line number p)
+    ∙ ap (λ (n : ℕ). before ++ (texts ++ run_line n p)) {x = number} {y = 0 + length ps} (omega (arith, at))
+    ∙ ap (λ (t : List ℕ). before ++ t) (sym (runs_push 0 ps p))
+
+-- what is left, where nothing is
+pub none_left : {X : Type 0} (xs : List X) → length xs ≡ 0 → xs ≡ []
+none_left [] none = refl
+none_left (x ∷ xs) none = absurd (omega (arith, none))
+
+-- ---- the whole
+
+-- one text behind another
+pub text_added : (start one two three loaders told end : List ℕ) → start ≡ [] → one ≡ start ++ loaders → two ≡ one ++ told → three ≡ two ++ end → three ≡ loaders ++ (told ++ end)
+text_added start one two three loaders told end none first second third =
+    third ∙ ap (λ (t : List ℕ). t ++ end) (second ∙ ap (λ (t : List ℕ). t ++ told) (first ∙ ap (λ (t : List ℕ). t ++ loaders) none)) ∙ append_assoc loaders told end

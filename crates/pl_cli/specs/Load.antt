@@ -1,25 +1,21 @@
 -- What a program of a folder's files starts from, or the first cause why it does not.
-use Rattle.std.specs.Prelude.{◌≡◌, ℕ, Bool, false, not, List, Option, None, Result, Ok, Err, if◌then◌else◌}
-use Rattle.std.specs.Str.{bytes_eq}
+use Rattle.std.specs.Prelude.{◌≡◌, ℕ, Bool, false, not, List, Option, None, Result}
 use Rattle.std.specs.Borrow.{Bor}
-use Rattle.pl_base.specs.Answers.{◌>>=◌, because, unless}
+use Rattle.pl_base.specs.Answers.{because, unless}
 use Rattle.pl_base.specs.Files.{Files}
 use Rattle.pl_base.specs.Names.{is_valid_name}
 use Rattle.pl_elf.specs.declared.range.Range.{Range}
-use Rattle.pl_fix.specs.Fixing.{placed}
-use Rattle.pl_fix.specs.declared.placing.Placing.{Placing}
-use Rattle.pl_fix.specs.declared.placing.Placing.TheVariants.{NotPie, NoPlace, Marked, Fixed}
 use Rattle.pl_place.specs.Policies.{highest, lowest, seeded}
 use Rattle.pl_place.specs.Policy.{Choice, Chooses, MayChoose}
 use Rattle.pl_words.specs.declared.command.Policy.{Policy}
 use Rattle.pl_words.specs.declared.command.Policy.TheVariants as policies
 use Rattle.pl_scope.specs.Walking.{wants}
 use Rattle.pl_loader.specs.Faults as memory
-use Rattle.pl_loader.specs.declared.fault.LoadFault.TheVariants as faults
 use Rattle.pl_loader.specs.Loading as loading
 use Rattle.pl_loader.specs.Started.{Start, load, started}
 use Rattle.pl_loader.specs.Walk as walk
 use Rattle.pl_loader.specs.declared.object_file.ObjectFile.{ObjectFile}
+use Rattle.pl_weave.specs.Given.{given_from, given_of}
 use Rattle.pl_cli.specs.Files.{file_in}
 use Rattle.pl_cli.specs.Looks.{ObjectOf}
 use Rattle.pl_cli.specs.declared.cause.Cause.{Cause}
@@ -31,24 +27,13 @@ choice policies.Lowest = lowest
 choice policies.Highest = highest
 choice (policies.Seeded number) = seeded number
 
--- ---- the file of the name that is loaded: a position-independent program is loaded as the one that it becomes where the policy places it, whatever is busy
+-- ---- the files that are loaded, as a loader of a weave loads them: of a position-independent program the one that it becomes where the policy places it, whatever is busy
 
-abbrev pub first_by : List ℕ → List ℕ → Placing → Result (List ℕ) Cause
-first_by name bytes NotPie = Ok bytes
-first_by name bytes NoPlace = Err (causes.Load (faults.NoPlace name))
-first_by name bytes Marked = Err (causes.Load (faults.BadMark name))
-first_by name bytes (Fixed at file) = Ok file
-
--- what is loaded of the bytes of its file
-unfoldable pub first_file : Policy → List ℕ → List ℕ → Result (List ℕ) Cause
-first_file policy name bytes = first_by name bytes (placed (choice policy) bytes)
-
--- and of those of a name of its walk
 abbrev pub given_file : Policy → List ℕ → List ℕ → List ℕ → Result (List ℕ) Cause
-given_file policy name n bytes = if bytes_eq n name then first_file policy name bytes else Ok bytes
+given_file policy name n bytes = because causes.Load (given_of (choice policy) name n bytes)
 
 unfoldable pub loading_file : Policy → Files → List ℕ → List ℕ → Result (List ℕ) Cause
-loading_file policy files name n = file_in files n >>= given_file policy name n
+loading_file policy files name n = given_from (choice policy) causes.Load (file_in files) name n
 
 -- ---- the load
 

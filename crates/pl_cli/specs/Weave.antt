@@ -1,7 +1,6 @@
 -- The text of loads that open their files during runs, as a script says, in a copy of a folder; or the first cause why there is none.
-use Rattle.std.specs.Prelude.{◌≡◌, ℕ, ◌+◌, ◌==◌, nat_lt, List, [], ◌∷◌, ◌++◌, codes, length, Option, Some, None, String, Vec, Result, Ok, Err, if◌then◌else◌}
+use Rattle.std.specs.Prelude.{ℕ, ◌+◌, ◌==◌, false, nat_lt, List, [], ◌∷◌, ◌++◌, codes, length, Option, Some, None, String, Vec, Result, Ok, Err, if◌then◌else◌}
 use Rattle.std.specs.declared.alloc.Global.{Global}
-use Rattle.std.specs.Borrow.{Bor}
 use Rattle.std.specs.FinMap.{get}
 use Rattle.std.specs.Fmt.{decimal}
 use Rattle.pl_base.specs.Answers.{◌>>=◌, because, unless}
@@ -14,8 +13,7 @@ use Rattle.pl_batch.specs.declared.run.Run.{Run}
 use Rattle.pl_batch.specs.declared.run.Run.TheVariants as runs
 use Rattle.pl_loader.specs.Started.{Start}
 use Rattle.pl_loader.specs.declared.fault.LoadFault.TheVariants.{NotThere}
-use Rattle.pl_elf.specs.declared.range.Range.{Range}
-use Rattle.pl_place.specs.Policy.{Choice, Chooses, MayChoose}
+use Rattle.pl_place.specs.Policy.{Choice}
 use Rattle.pl_place.specs.Policies.{lowest}
 use Rattle.pl_script.specs.Script.{IsScript, script}
 use Rattle.pl_script.specs.declared.TheConstants.{SCRIPT}
@@ -25,7 +23,7 @@ use Rattle.pl_script.specs.declared.line.RunLine.{RunLine}
 use Rattle.pl_script.specs.declared.line.RunLine.TheVariants.{Prelink, UndoAll, Undo, Install}
 use Rattle.pl_script.specs.declared.script.Script.{Script}
 use Rattle.pl_weave.specs.Opening.{Opened, ended, wanted}
-use Rattle.pl_weave.specs.Running.{AreRuns, HavePolicy}
+use Rattle.pl_weave.specs.Running.{AreRuns}
 use Rattle.pl_weave.specs.Runs.{progress}
 use Rattle.pl_weave.specs.Weaving.{Weaving, woven}
 use Rattle.pl_weave.specs.declared.progress.Progress.{Progress}
@@ -123,13 +121,6 @@ end_line = line (codes "weave end" ∷ [])
 abbrev pub woven_text : {F : Type 0} → Choice → List (Opened F) → List Progress → List ℕ
 woven_text choose loaders told = loaders_text choose 0 loaders ++ (runs_text 0 told ++ end_line)
 
--- all of them go by a policy that may be asked for each place, and answers as it may
-pub record AreChosen {F : Type 0} (pre : F → Bor (List Range) → ℕ → ℕ → Type 0) (post : F → Bor (List Range) → ℕ → ℕ → Option ℕ → Type 0) (loaders : List (Opened F)) : Type 0 where
-  pub policy : F
-  pub may : MayChoose (pre policy)
-  pub chooses : Chooses (post policy)
-  pub are : HavePolicy policy loaders
-
 -- ---- the whole
 
 abbrev pub weave_text : Choice → Weaving → List ℕ
@@ -137,7 +128,7 @@ weave_text choose w = woven_text choose w.loaders (progress w.runs)
 
 -- the text of the weave of a script and its runs, by a policy that is a function
 abbrev pub text_by : Choice → Script → List Run → Files → List ℕ
-text_by choose s asked files = weave_text choose (woven files s.loads asked s.events)
+text_by choose s asked files = weave_text choose (woven choose files s.loads asked s.events)
 
 abbrev pub weaves_by : Script → Files → Result (List ℕ) Cause
 weaves_by s files = runs_of files s.runs >>= λ asked. Ok (text_by lowest s asked files)

@@ -47,7 +47,12 @@ fn text_of(alloc: Global, folder: &mut QuietFolder, name: &str) -> Result<Vec<u8
     match load_and_write(alloc, folder, &mut output, name, None, Policy::Lowest) {
         Status::Done => Ok(output.into_text()),
         Status::Refused => Ok(output.into_text()),
-        _ => Err(NoMemory),
+        Status::WriteFault => Err(NoMemory),
+        Status::NoMemory => Err(NoMemory),
+        Status::Differs => unreachable!(),
+        Status::Usage => unreachable!(),
+        Status::ReadFault => unreachable!(),
+        Status::DiskFault => unreachable!(),
     }
 }
 

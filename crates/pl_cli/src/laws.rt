@@ -47,4 +47,5 @@ pub fn reports_tell()
     ensures preview { (detail : Detail) (asked : Prelinking) (files : Files) →
         Tells is_memory (previewed detail asked files) }
     ensures verify { (name : List ℕ) (files : Files) → Tells is_memory (verifies name files) }
+    ensures weave { (input : List ℕ) (files : Files) → Tells is_memory (weaves input files) }
 {}

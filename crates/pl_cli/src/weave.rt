@@ -1,5 +1,5 @@
 // Loads that open their files during runs, in a copy of the folder.
-ghost use Rattle.std.specs.Prelude.{◌≤◌, All, IfOk, length};
+ghost use Rattle.std.specs.Prelude.{◌≡◌, ◌≤◌, All, IfOk, length};
 ghost use Rattle.std.specs.FinMap.{get};
 ghost use Rattle.pl_base.specs.Files.{files_of};
 ghost use Rattle.pl_batch.specs.Changes.{IsRun};

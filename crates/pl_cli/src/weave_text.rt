@@ -3,7 +3,7 @@ ghost use Rattle.std.specs.Prelude.{◌≡◌, ◌++◌, IfOk, None, OnOk, false
 ghost use Rattle.pl_loader.specs.Faults.{is_memory};
 ghost use Rattle.pl_place.specs.Policy as policy;
 ghost use Rattle.pl_weave.specs.Opening as loaders;
-ghost use Rattle.pl_weave.specs.Running.{HavePolicy};
+ghost use Rattle.pl_weave.specs.Running.{AreChosen, HavePolicy};
 ghost use Rattle.pl_weave.specs.declared.progress.Progress.TheVariants.{Does};
 ghost use Rattle.pl_cli.specs.LoadText.{load_text, start_of};
 ghost use Rattle.pl_cli.specs.Refusals as refusals;
@@ -111,7 +111,7 @@ fn add_loaders<F: Fn(&Holes, u64, u64) -> Option<u64>>(
     out: &mut TextSink,
 ) -> Result<(), NoMemory>
     requires count { length weave.now ≡ count }
-    requires chosen { spec.AreChosen F.pre F.post weave.now }
+    requires chosen { AreChosen F.pre F.post weave.now }
     ensures { OnOk result ((p : F) (choose : policy.Choice) → HavePolicy p weave.now →
         policy.Follows (F.post p) choose →
         out.new.text.items ≡ out.old.text.items ++ spec.loaders_text choose 0 weave.now) }
@@ -222,7 +222,7 @@ pub fn woven_text<F: Fn(&Holes, u64, u64) -> Option<u64>>(
     count: u32,
 ) -> Result<Vec<u8>, NoMemory>
     requires count { length woven.weave ≡ count }
-    requires chosen { spec.AreChosen F.pre F.post woven.weave }
+    requires chosen { AreChosen F.pre F.post woven.weave }
     ensures { IfOk result (λ text. (p : F) (choose : policy.Choice) →
         HavePolicy p woven.entry.weave → policy.Follows (F.post p) choose →
         text.items ≡ spec.woven_text choose woven.entry.weave woven.entry.runs) }

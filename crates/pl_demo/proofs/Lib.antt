@@ -1,4 +1,5 @@
 pub mod AnswerLemmas
+pub mod QuietLemmas
 pub mod MakingLemmas
 pub mod PrelinkingLemmas
 pub mod CountingLemmas

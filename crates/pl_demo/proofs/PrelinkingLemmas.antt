@@ -25,7 +25,7 @@ use Rattle.pl_demo.proofs.AnswerLemmas.{on_ok}
 use Rattle.pl_demo.specs.declared.prelinking.TheConstants.{ASKED}
 
 -- changes that are all made
-rows_get : (i : ℕ) (rows : List Change) (files : Files) (n : Name) → get (with_rows rows files) n ≡ mixed i rows (λ _. true) (get files) n
+pub rows_get : (i : ℕ) (rows : List Change) (files : Files) (n : Name) → get (with_rows rows files) n ≡ mixed i rows (λ _. true) (get files) n
 rows_get i [] files n = refl
 rows_get i (Put name bytes ∷ rows) files n = get-insert nat_list_cmp_total (with_rows rows files) name bytes n ∙ ap (λ (o : Option (List ℕ)). cond (same n name) (Some bytes) o) (rows_get (i + 1) rows files n)
 rows_get i (Drop name ∷ rows) files n = get-remove nat_list_cmp_total (with_rows rows files) name n ∙ ap (λ (o : Option (List ℕ)). cond (same n name) None o) (rows_get (i + 1) rows files n)

@@ -92,7 +92,7 @@ fn counts_at(alloc: Global, folder: &mut QuietFolder, name: &str) -> Result<Coun
         Ok(bytes) => counts_in(alloc, &bytes),
         Err(FolderFault::NotThere) => Ok(Counts::none()),
         Err(FolderFault::TooLarge) => Ok(Counts::none()),
-        Err(FolderFault::Failed) => Err(NoMemory),
+        Err(FolderFault::Failed) => unreachable!(),
         Err(FolderFault::NoMemory) => Err(NoMemory),
     }
 }

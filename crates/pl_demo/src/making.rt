@@ -1,14 +1,15 @@
 // The files of a set, each made from its recipe.
-ghost use Rattle.std.specs.Prelude.{◌≡◌, IfOk, None, OnOk, fold, true};
+ghost use Rattle.std.specs.Prelude.{◌≡◌, ◌≢◌, IfOk, None, OnOk, fold, true};
 ghost use Rattle.std.specs.FinMap.{contains_key, insert};
 ghost use Rattle.pl_base.specs.Names.{IsNameLength};
+ghost use Rattle.pl_folder.specs.Calls.{IsPlain};
 ghost use Rattle.pl_folder.specs.Effects.{appended};
 ghost use Rattle.pl_folder.specs.InMemory.{quiet_files};
 ghost use Rattle.pl_demo.specs.Made as spec;
 
 use pl_base::{Rows, is_valid_name};
 use pl_build::{RecipeFault, build};
-use pl_folder::{Folder, QuietFolder, STORED};
+use pl_folder::{Folder, FolderFault, QuietFolder, STORED};
 use pl_gen::DemoFile;
 use pl_io::NoMemory;
 use std::alloc::Global;
@@ -50,7 +51,20 @@ fn made(alloc: Global, recipe: &[u8]) -> Result<Option<Rows<u8>>, NoMemory>
     }
 }
 
-/// Adds bytes at the end of a file that is there. A folder in memory never fails, so what its calls lack is memory.
+/// What a call that changes a folder in memory lacked. No call of such a folder fails, so that is memory alone.
+fn lacked(fault: FolderFault) -> NoMemory
+    requires plain { IsPlain fault }
+    requires never_fails { fault ≢ FolderFault.Failed }
+{
+    match fault {
+        FolderFault::NoMemory => NoMemory,
+        FolderFault::Failed => unreachable!(),
+        FolderFault::NotThere => unreachable!(),
+        FolderFault::TooLarge => unreachable!(),
+    }
+}
+
+/// Adds bytes at the end of a file that is there.
 fn append(alloc: Global, folder: &mut QuietFolder, name: &str, bytes: &[u8]) -> Result<(), NoMemory>
     requires length { IsNameLength name.now }
     requires there { contains_key (quiet_files folder.old) name.now ≡ true }
@@ -59,7 +73,7 @@ fn append(alloc: Global, folder: &mut QuietFolder, name: &str, bytes: &[u8]) -> 
 {
     match folder.append(alloc, name, bytes) {
         Ok(()) => Ok(()),
-        Err(_) => Err(NoMemory),
+        Err(fault) => Err(lacked(fault)),
     }
 }
 
@@ -71,7 +85,7 @@ fn put(alloc: Global, folder: &mut QuietFolder, name: &str, bytes: &[u8]) -> Res
 {
     match folder.create(alloc, name) {
         Ok(()) => append(alloc, folder, name, bytes),
-        Err(_) => Err(NoMemory),
+        Err(fault) => Err(lacked(fault)),
     }
 }
 

@@ -1,5 +1,5 @@
 // The run that prelinks the set.
-ghost use Rattle.std.specs.Prelude.{◌≡◌, OnOk, true};
+ghost use Rattle.std.specs.Prelude.{◌≡◌, ◌≢◌, OnOk, true};
 ghost use Rattle.pl_folder.specs.InMemory.{quiet_files};
 ghost use Rattle.pl_demo.specs.Prelinked as spec;
 
@@ -24,11 +24,12 @@ pub const ASKED: Prelinking = Prelinking {
 
 /// A run that is refused is done. A folder in memory never fails, so what else stops one over it is want of memory.
 fn unless_refused(fault: &BatchFault) -> Result<(), NoMemory>
+    requires { fault.now ≢ BatchFault.DiskFailed }
     ensures { OnOk result (spec.is_refused fault.now ≡ true) }
 {
     match fault {
         BatchFault::Cause(_) => Ok(()),
-        BatchFault::DiskFailed => Err(NoMemory),
+        BatchFault::DiskFailed => unreachable!(),
         BatchFault::NoMemory => Err(NoMemory),
     }
 }

@@ -7,13 +7,14 @@ use Rattle.std.specs.Str.{bytes_eq}
 use Rattle.std.proofs.lemmas.Bool.{true≢false}
 use Rattle.std.proofs.lemmas.Bool.Decides.{nat_tests}
 use Rattle.std.proofs.lemmas.Option.{none-some, same_Some}
-use Rattle.pl_base.specs.Answers.{◌>>=◌, unless}
+use Rattle.pl_base.specs.Answers.{◌>>=◌, because, unless}
 use Rattle.pl_base.specs.Files.{Files}
 use Rattle.pl_base.specs.Names.{is_valid_name}
 use Rattle.pl_base.proofs.AnswerLaws.{bind_ok, ok_same, unless_ok}
 use Rattle.pl_cli.specs.Demo.{is_fast}
 use Rattle.pl_cli.specs.Files.{file_in, of_file, valid_file}
-use Rattle.pl_cli.specs.Load.{choice, first_by, first_file, given_file, loaded, loading_file}
+use Rattle.pl_weave.specs.Given.{first_by, first_of, given_from}
+use Rattle.pl_cli.specs.Load.{choice, given_file, loaded, loading_file}
 use Rattle.pl_cli.specs.declared.cause.Cause.{Cause}
 use Rattle.pl_cli.specs.declared.cause.Cause.TheVariants as cause
 use Rattle.pl_conflict.specs.Format.{Causes, format}
@@ -121,8 +122,8 @@ no_pie file kind = by_object (reads.reads (as_program file))
     by_object (Err fault) = refl
     by_object (Ok o) = ap (λ (b : Bool). if b then Some o else None) (not_pie file o kind)
 
-as_it_is : (policy : Policy) (name file : List ℕ) → (header file).kind ≡ 2 → first_file policy name file ≡ Ok file
-unfolding first_file placed
+as_it_is : (policy : Policy) (name file : List ℕ) → (header file).kind ≡ 2 → first_of (choice policy) name file ≡ Ok file
+unfolding first_of placed
 as_it_is policy name file kind = ap (λ (o : Option Object). first_by name file (placed_by (choice policy) file o)) (no_pie file kind)
 
 -- ---- what the load of a program is told
@@ -131,21 +132,21 @@ as_it_is policy name file kind = ap (λ (o : Option Object). first_by name file 
 record IsProgramFile (policy : Policy) (files : Files) (name : List ℕ) : Type 0 where
   file : List ℕ
   there : valid_file files name ≡ Some file
-  loads : first_file policy name file ≡ Ok file
+  loads : first_of (choice policy) name file ≡ Ok file
 
 module _ (policy : Policy) (files : Files) (name : List ℕ) (own : IsProgramFile policy files name) where
   one_file : (file : List ℕ) → valid_file files name ≡ Some file → own.file ≡ file
   one_file file there = same_Some own.file file (sym own.there ∙ there)
 
   given_told : (m file : List ℕ) → valid_file files m ≡ Some file → given_file policy name m file ≡ Ok file
-  given_told m file there = by_test (bytes_eq m name) refl
+  given_told m file there = ap (because cause.Load) (by_test (bytes_eq m name) refl)
     where
-      by_test : (b : Bool) → bytes_eq m name ≡ b → (if b then first_file policy name file else Ok file) ≡ Ok file
-      by_test true hit = subst (λ (xs : List ℕ). first_file policy name xs ≡ Ok xs) (one_file file (subst (λ (k : List ℕ). valid_file files k ≡ Some file) (same_name m name hit) there)) own.loads
+      by_test : (b : Bool) → bytes_eq m name ≡ b → (if b then first_of (choice policy) name file else Ok file) ≡ Ok file
+      by_test true hit = subst (λ (xs : List ℕ). first_of (choice policy) name xs ≡ Ok xs) (one_file file (subst (λ (k : List ℕ). valid_file files k ≡ Some file) (same_name m name hit) there)) own.loads
       by_test false miss = refl
 
   program_told : IsTold (valid_file files) (loading_file policy files name)
-  unfolding loading_file
+  unfolding loading_file given_from
   program_told = record {
     gives = λ n bytes is.
         let a = bind_ok (file_in files n) (given_file policy name n) bytes is in

@@ -1,6 +1,6 @@
 -- The slots of libraries lie in the region of a run, so a program's file that keeps off the region keeps off them.
-use Rattle.std.proofs.Common.{◌≡◌, ℕ, suc, ◌+◌, ◌<◌, ◌≤◌, Bool, true, false, List, [], ◌∷◌, ◌++◌, length, get_or, Option, Some, None, Result, Ok, Err, refl, sym, ap, subst, ◌∙◌, arith, inl, inr, append-nil}
-use Rattle.std.specs.Prelude.{◌&&◌, ◌||◌, nat_le, find, if◌then◌else◌}
+use Rattle.std.proofs.Common.{◌≡◌, ℕ, suc, ◌+◌, ◌<◌, ◌≤◌, Bool, true, false, cond, List, [], ◌∷◌, ◌++◌, length, get_or, Option, Some, None, Result, Ok, Err, refl, sym, ap, subst, ◌∙◌, arith, inl, inr, append-nil}
+use Rattle.std.specs.Prelude.{◌||◌, nat_le, find, if◌then◌else◌}
 use Rattle.std.specs.FinMap.{get}
 use Rattle.std.specs.List.{All, cons_option, filter_map, list_all}
 use Rattle.std.specs.Str.{bytes_eq}
@@ -9,7 +9,7 @@ use Rattle.std.proofs.lemmas.Bool.Decides.{nat_tests}
 use Rattle.std.proofs.lemmas.List.Elements.{All-nil, All-cons, All-head, All-tail}
 use Rattle.std.proofs.lemmas.Option.{none-some, same_Some}
 use Rattle.pl_base.specs.Answers.{◌>>=◌, because}
-use Rattle.pl_base.specs.Files as base
+use Rattle.pl_base.specs.Sums.{is_aligned}
 use Rattle.pl_base.proofs.AnswerLaws.{because_ok, bind_ok, ok_same}
 use Rattle.pl_batch.specs.All.{asked_of}
 use Rattle.pl_batch.specs.Folder.{named, valid_names}
@@ -24,9 +24,8 @@ use Rattle.pl_elf.specs.declared.range.Range.{Range}
 use Rattle.pl_exact.specs.All.{HasNext}
 use Rattle.pl_exact.proofs.AllLemmas.{gives_next}
 use Rattle.pl_exact.proofs.PlanLemmas.{are_names}
-use Rattle.pl_exact.proofs.SlotLemmas.{Among, Fits, among_holds, want_name, wants_among}
+use Rattle.pl_exact.proofs.SlotLemmas.{Among, Fits, want_name, wants_among}
 use Rattle.pl_journal.specs.Meaning.{applied}
-use Rattle.pl_known.specs.Fits.{fit_in}
 use Rattle.pl_known.specs.Plans.{candidates, is_candidate, planned, slots, slots_of, stale, stamp_for, standings, walks, wants}
 use Rattle.pl_known.specs.Skips.{skip_causes}
 use Rattle.pl_loader.specs.Places.{kept_free, misses}
@@ -52,8 +51,8 @@ use Rattle.pl_slots.specs.declared.slot.Slot.{Slot}
 use Rattle.pl_slots.specs.declared.slot.Want.{Want}
 use Rattle.pl_slots.proofs.PlannedLaws.{rows_serve}
 use Rattle.pl_sound.specs.Plan as sound
-use Rattle.pl_sound.specs.Rule.{Files, objects, walk_in}
-use Rattle.pl_fast.specs.Clear.{are_clear, at_slot, has_free_slots, is_clear, keeps_off, loaded_by}
+use Rattle.pl_sound.specs.Rule.{Files, objects}
+use Rattle.pl_fast.specs.Clear.{are_clear, has_free_slots, is_clear, loaded_by}
 use Rattle.pl_fast.specs.Laws.{FilesOffTheRegionAreClear}
 use Rattle.pl_fast.proofs.RunLaws.{IsWalkAfter, after_next, walk_after}
 use Rattle.pl_fast.proofs.SetLaws.{HasLibrary, HasObject}
@@ -80,13 +79,13 @@ abbrev Within : Range → List Want → List Slot → Type 0
 Within region [] [] = Unit {0}
 Within region [] (s ∷ ss) = ⊥
 Within region (w ∷ ws) [] = ⊥
-Within region (w ∷ ws) (s ∷ ss) = ((s.name ≡ w.name) × (w.span ≤ s.span) × (lies_in region s ≡ true)) × Within region ws ss
+Within region (w ∷ ws) (s ∷ ss) = ((s.name ≡ w.name) × (w.span ≤ s.span) × (is_aligned s.start w.align ≡ true) × (lies_in region s ≡ true)) × Within region ws ss
 
 apart_within : (kept : List Slot) (region : Range) (ws : List Want) (ss : List Slot) → apart.AllServe kept region ws ss → Within region ws ss
 apart_within kept region [] [] serve = tt
 apart_within kept region [] (s ∷ ss) serve = absurd serve
 apart_within kept region (w ∷ ws) [] serve = absurd serve
-apart_within kept region (w ∷ ws) (s ∷ ss) serve = ((serve.0.name, serve.0.large, serve.0.within), apart_within kept region ws ss serve.1)
+apart_within kept region (w ∷ ws) (s ∷ ss) serve = ((serve.0.name, serve.0.large, serve.0.aligned, serve.0.within), apart_within kept region ws ss serve.1)
 
 shared_within : (region : Range) (ws : List Want) (ss : List Slot) → length ss ≡ length ws → ((i : ℕ) (w : Want) (s : Slot) → i < length ws → shared.Serves region (get_or ws i w) (get_or ss i s)) → Within region ws ss
 shared_within region [] [] count each = tt
@@ -94,24 +93,25 @@ shared_within region [] (s ∷ ss) count each = absurd (omega (arith, count))
 shared_within region (w ∷ ws) [] count each = absurd (omega (arith, count))
 shared_within region (w ∷ ws) (s ∷ ss) count each =
     let first = each 0 w s (omega arith) in
-    ((first.name, first.large, first.within), shared_within region ws ss (omega (arith, count)) (λ i v t lt. each (suc i) v t (omega (arith, lt))))
+    ((first.name, first.large, first.aligned, first.within), shared_within region ws ss (omega (arith, count)) (λ i v t lt. each (suc i) v t (omega (arith, lt))))
 
-aligns_of : (ws : List Want) → All Fits ws → All (λ w. 0 < w.align) ws
+pub aligns_of : (ws : List Want) → All Fits ws → All (λ w. 0 < w.align) ws
 aligns_of [] all = All-nil (λ (w : Want). 0 < w.align)
 aligns_of (w ∷ ws) all = All-cons (λ (v : Want). 0 < v.align) w ws (All-head Fits w ws all).align (aligns_of ws (All-tail Fits w ws all))
 
-spans_of : (ws : List Want) → All Fits ws → All (λ w. 0 < w.span) ws
+pub spans_of : (ws : List Want) → All Fits ws → All (λ w. 0 < w.span) ws
 spans_of [] all = All-nil (λ (w : Want). 0 < w.span)
 spans_of (w ∷ ws) all = All-cons (λ (v : Want). 0 < v.span) w ws (All-head Fits w ws all).some (spans_of ws (All-tail Fits w ws all))
 
 -- ---- the slot of a name
 
--- a name's slot, no smaller than a span, in the region
-record HasSlot (region : Range) (ss : List Slot) (m : List ℕ) (span : ℕ) : Type 0 where
-  slot : Slot
-  found : find (λ s. bytes_eq s.name m) ss ≡ Some slot
-  large : span ≤ slot.span
-  within : lies_in region slot ≡ true
+-- a name's slot, aligned, no smaller than a span, in the region
+pub record HasSlot (region : Range) (ss : List Slot) (m : List ℕ) (span align : ℕ) : Type 0 where
+  pub slot : Slot
+  pub found : find (λ s. bytes_eq s.name m) ss ≡ Some slot
+  pub large : span ≤ slot.span
+  pub aligned : is_aligned slot.start align ≡ true
+  pub within : lies_in region slot ≡ true
 
 module _ (old : Files) (region : Range) where
   abbrev object_of : List ℕ → Result Object Skip
@@ -138,8 +138,8 @@ module _ (old : Files) (region : Range) where
   later n m ns there other = elim (has_cons n m ns there) [ inl e ↦ absurd (other e) | inr t ↦ t ]
 
   -- one name more
-  one_found : (n : List ℕ) (ns : List (List ℕ)) (m : List ℕ) (o : Object) → object_of m ≡ Ok o → is_library o.kind ≡ true → has (n ∷ ns) m ≡ true → ((ts : List Slot) → Within region (wants_in ns) ts → has ns m ≡ true → HasSlot region ts m o.span)
-      → (want : Option Want) → want_of n (object_of n) ≡ want → (ts : List Slot) → Within region (cons_option want (wants_in ns)) ts → HasSlot region ts m o.span
+  one_found : (n : List ℕ) (ns : List (List ℕ)) (m : List ℕ) (o : Object) → object_of m ≡ Ok o → is_library o.kind ≡ true → has (n ∷ ns) m ≡ true → ((ts : List Slot) → Within region (wants_in ns) ts → has ns m ≡ true → HasSlot region ts m o.span o.align)
+      → (want : Option Want) → want_of n (object_of n) ≡ want → (ts : List Slot) → Within region (cons_option want (wants_in ns)) ts → HasSlot region ts m o.span o.align
   one_found n ns m o at library there more None none ts serves =
       more ts serves (later n m ns there (λ e. none-some (want_made m o.span o.align) (sym none ∙ subst (λ (k : List ℕ). want_of k (object_of k) ≡ Some (want_made m o.span o.align)) (sym e) (library_want m o at library))))
   one_found n ns m o at library there more (Some w) is [] serves = absurd serves
@@ -149,14 +149,15 @@ module _ (old : Files) (region : Range) where
         | inl hit ↦
             let same : n ≡ m = sym name ∙ same_name s.name m hit in
             let own : want_of n (object_of n) ≡ Some (want_made m o.span o.align) = subst (λ (k : List ℕ). want_of k (object_of k) ≡ Some (want_made m o.span o.align)) (sym same) (library_want m o at library) in
-            let span : w.span ≡ o.span = ap (λ (v : Want). v.span) (same_Some w (want_made m o.span o.align) (sym is ∙ own)) in
-            record { slot = s; found = rw hit refl; large = omega (arith, serves.0.1, span); within = serves.0.2 }
+            let want : w ≡ want_made m o.span o.align = same_Some w (want_made m o.span o.align) (sym is ∙ own) in
+            let span : w.span ≡ o.span = ap (λ (v : Want). v.span) want in
+            record { slot = s; found = rw hit refl; large = omega (arith, serves.0.1, span); aligned = subst (λ (v : Want). is_aligned s.start v.align ≡ true) want serves.0.2; within = serves.0.3 }
         | inr miss ↦
             let rest = more ts serves.1 (later n m ns there (λ e. false≢true (sym miss ∙ (ap (λ (k : List ℕ). bytes_eq k m) (name ∙ e) ∙ eq_refl m)))) in
-            record { slot = rest.slot; found = rw miss rest.found; large = rest.large; within = rest.within }
+            record { slot = rest.slot; found = ap (λ (b : Bool). cond b (Some s) (find (λ t. bytes_eq t.name m) ts)) miss ∙ rest.found; large = rest.large; aligned = rest.aligned; within = rest.within }
       ]
 
-  slot_found : (ns : List (List ℕ)) (ss : List Slot) (m : List ℕ) (o : Object) → Within region (wants_in ns) ss → has ns m ≡ true → object_of m ≡ Ok o → is_library o.kind ≡ true → HasSlot region ss m o.span
+  slot_found : (ns : List (List ℕ)) (ss : List Slot) (m : List ℕ) (o : Object) → Within region (wants_in ns) ss → has ns m ≡ true → object_of m ≡ Ok o → is_library o.kind ≡ true → HasSlot region ss m o.span o.align
   slot_found [] ss m o serve there at library = absurd (false≢true there)
   slot_found (n ∷ ns) ss m o serve there at library = one_found n ns m o at library there (λ ts more in_it. slot_found ns ts m o more in_it at library) (want_of n (object_of n)) refl ss serve
 
@@ -175,7 +176,7 @@ plan_within old a ns ss fits e = by_share a.share e
         apart_within kept a.region (wants old ns) ss
         (rows_serve kept (wants old ns) a.region (Ok ss) (aligns_of (wants old ns) fits) (because_ok of_plan (plan kept (wants old ns) a.region) ss is) (spans_of (wants old ns) fits))
 
-all_of : (ws : List Want) (ns : List (List ℕ)) → Among want_name Fits ws ns → All Fits ws
+pub all_of : (ws : List Want) (ns : List (List ℕ)) → Among want_name Fits ws ns → All Fits ws
 all_of [] ns among = All-nil Fits
 all_of (w ∷ ws) [] among = absurd among
 all_of (w ∷ ws) (n ∷ ns) (inl among) = All-cons Fits w ws among.1.0 (all_of ws ns among.1.1)
@@ -184,7 +185,7 @@ all_of (w ∷ ws) (n ∷ ns) (inr among) = all_of (w ∷ ws) ns among
 abbrev plan_made : Files → List (List ℕ) → Asked → List Slot → ℕ → Planned
 plan_made old ns a rows stamp = record { standings = standings old a.region ns; slots = rows; stale = stale old a.region rows ns; stamp = stamp }
 
-planned_slots : (old : Files) (ns : List (List ℕ)) (a : Asked) (p : Planned) → planned old ns a ≡ Ok p → slots old ns a ≡ Ok p.slots
+pub planned_slots : (old : Files) (ns : List (List ℕ)) (a : Asked) (p : Planned) → planned old ns a ≡ Ok p → slots old ns a ≡ Ok p.slots
 unfolding planned
 planned_slots old ns a p e =
     let q = bind_ok (slots old ns a) (λ rows. stamp_for old ns a (stale old a.region rows ns) >>= λ stamp. Ok (plan_made old ns a rows stamp)) p e in
@@ -192,13 +193,13 @@ planned_slots old ns a p e =
     q.1 ∙ ap (λ (x : Planned). Ok x.slots) (ok_same (plan_made old ns a q.0 r.0) p r.2)
 
 -- a candidate that is a library has a slot in the region
-candidate_slot : (old : Files) (ns : List (List ℕ)) (a : Asked) (p : Planned) (m : List ℕ) (o : Object) → AreNames old ns → planned old ns a ≡ Ok p → is_candidate old a.region m ≡ true → objects (format skip_causes) old m ≡ Ok o → is_library o.kind ≡ true → HasSlot a.region p.slots m o.span
+pub candidate_slot : (old : Files) (ns : List (List ℕ)) (a : Asked) (p : Planned) (m : List ℕ) (o : Object) → AreNames old ns → planned old ns a ≡ Ok p → is_candidate old a.region m ≡ true → objects (format skip_causes) old m ≡ Ok o → is_library o.kind ≡ true → HasSlot a.region p.slots m o.span o.align
 candidate_slot old ns a p m o named_all plan_is candidate at library =
     let there : has (candidates old a.region ns) m ≡ true = passed_at (is_candidate old a.region) m ns (candidate_named old ns a.region m named_all candidate) ∙ candidate in
     let fits : All Fits (wants old (candidates old a.region ns)) = all_of (wants old (candidates old a.region ns)) ns (wants_among old (is_candidate old a.region) ns) in
     slot_found old a.region (candidates old a.region ns) p.slots m o (plan_within old a (candidates old a.region ns) p.slots fits (planned_slots old ns a p plan_is)) there at library
 
-slot_start : (ss : List Slot) (m : List ℕ) (s : Slot) → find (λ t. bytes_eq t.name m) ss ≡ Some s → slot_of ss m ≡ s.start
+pub slot_start : (ss : List Slot) (m : List ℕ) (s : Slot) → find (λ t. bytes_eq t.name m) ss ≡ Some s → slot_of ss m ≡ s.start
 unfolding slot_of
 slot_start ss m s found = ap start_of found
 

@@ -1,11 +1,11 @@
 -- After a run that prelinks everything each program that is prelinked has a list that tells the files of its walk.
-use Rattle.std.proofs.Common.{◌≡◌, ◌≤◌, ℕ, Bool, true, false, List, [], ◌∷◌, map, length, get_or, Option, Some, None, Result, Ok, Err, refl, sym, ap, subst, ◌∙◌, inl, inr}
-use Rattle.std.specs.Prelude.{◌⊎◌, if◌then◌else◌}
+use Rattle.std.proofs.Common.{◌≡◌, ◌≤◌, ℕ, Bool, true, false, List, [], ◌∷◌, map, length, get_or, Option, Some, None, Result, Ok, refl, sym, ap, subst, ◌∙◌, inl, inr}
+use Rattle.std.specs.Prelude.{if◌then◌else◌}
 use Rattle.std.specs.FinMap.{get}
 use Rattle.std.specs.List.{All, AllByRecursion, IsDistinct}
 use Rattle.std.specs.Option.{is_some, option_map, option_or}
 use Rattle.std.specs.Str.{bytes_eq}
-use Rattle.std.proofs.lemmas.Bool.{false≢true, true≢false}
+use Rattle.std.proofs.lemmas.Bool.{true≢false}
 use Rattle.std.proofs.lemmas.List.Elements.{All-nil, All-cons, All-head, All-tail}
 use Rattle.std.proofs.lemmas.Option.{slice_get-get_or}
 use Rattle.pl_base.specs.Files as base
@@ -22,7 +22,7 @@ use Rattle.pl_conflict.proofs.FormatLaws.{format_kept}
 use Rattle.pl_conflict.proofs.MadeLaws.{prelinked_is}
 use Rattle.pl_elf.specs.Kinds.{is_library}
 use Rattle.pl_elf.specs.declared.kind.Kind.{Kind}
-use Rattle.pl_elf.specs.declared.kind.Kind.TheVariants.{Library, Program}
+use Rattle.pl_elf.specs.declared.kind.Kind.TheVariants.{Library}
 use Rattle.pl_elf.specs.declared.range.Range.{Range}
 use Rattle.pl_exact.specs.All.{HasNext}
 use Rattle.pl_exact.proofs.AllLemmas.{gives_next}
@@ -48,7 +48,7 @@ use Rattle.pl_sound.proofs.BookLaws.{marked_at}
 use Rattle.pl_sound.proofs.Matching.{Matches, rule_in, tells_back}
 use Rattle.pl_sound.proofs.PlanLaws as sound
 use Rattle.pl_sound.proofs.PlanLaws.{all_planned, candidate_member, planned_bears, planned_is, planned_object, rule_planned}
-use Rattle.pl_sound.proofs.RuleLaws.{first_is, is_other, linked, map_same, other_is, other_library}
+use Rattle.pl_sound.proofs.RuleLaws.{is_other, linked, map_same, other_is, other_library}
 use Rattle.pl_fast.specs.Clear.{IsProgram}
 use Rattle.pl_fast.specs.Laws.{PrelinkedLoadsAreFast}
 use Rattle.pl_fast.proofs.AnswerLaws.{matched_fast}
@@ -187,6 +187,9 @@ module _ (old view : Files) (region : Range) (p : Planned) (is : (n : List ℕ) 
     abbrev own_mark : Mark
     own_mark = record { version = f.version; slot = for_library (objects f old n) (plan.slot n); stamp = for_library (objects f old n) (plan.stamp n); list = map (λ m. row_of f (planned skip_causes old plan m)) (others ws) }
 
+    walks_after : walk_in f view n ≡ Ok ws
+    walks_after = walk_local skip_causes.walk skip_causes.walk (objects f old) (objects f view) n ws walks (λ m o there at. sym (same_object m (each_made m there)) ∙ at)
+
     own_matches : Matches f view n
     own_matches = record {
       file = own.file;
@@ -194,7 +197,7 @@ module _ (old view : Files) (region : Range) (p : Planned) (is : (n : List ℕ) 
       walked = ws;
       there = own.there;
       marked = (made_is n own).mark;
-      walks = walk_local skip_causes.walk skip_causes.walk (objects f old) (objects f view) n ws walks (λ m o there at. sym (same_object m (each_made m there)) ∙ at);
+      walks = walks_after;
       each = λ m there. ap (λ (g : Option (List ℕ)). is_some (mark_at f g)) (other_made m there).there ∙ ap (λ (k : Option Mark). is_some k) (made_is m (other_made m there)).mark;
       list = map_same (λ m. row_of f (planned skip_causes old plan m)) (λ m. row_at f m (view m)) (others ws) (λ m there.
           sym (ap (row_of f) (planned_bears f old view plan m (other_made m there).file (made_is m (other_made m there)) (other_made m there).there)));
@@ -208,11 +211,11 @@ module _ (old view : Files) (region : Range) (p : Planned) (is : (n : List ℕ) 
     inside_of : (m : List ℕ) → has (names tells.rest) m ≡ true → has (names ws) m ≡ true
     inside_of m there = other_is (objects f old) n m ws tells (subst (λ (vs : Walked). has (others vs) m ≡ true) (sym tells.is) there)
 
-    pub library_candidate : (m : List ℕ) → has (names tells.rest) m ≡ true → is_candidate f (fit_in region) old m ≡ true
+    library_candidate : (m : List ℕ) → has (names tells.rest) m ≡ true → is_candidate f (fit_in region) old m ≡ true
     library_candidate m there = candidate_member f (fit_in region) old n m ws (is_made n marked).0 walks (inside_of m there)
 
     -- it bears the planned slot
-    pub library_slot : (m : List ℕ) (o : Object) → has (names tells.rest) m ≡ true → objects f old m ≡ Ok o → is_library o.kind ≡ true → slot_at skip_causes view m ≡ slot_of p.slots m
+    library_slot : (m : List ℕ) (o : Object) → has (names tells.rest) m ≡ true → objects f old m ≡ Ok o → is_library o.kind ≡ true → slot_at skip_causes view m ≡ slot_of p.slots m
     library_slot m o there at library =
         let own : IsMade m = library_made m there in
         ap (λ (g : Option (List ℕ)). rule.slot_of (mark_at f g)) own.there
@@ -233,7 +236,7 @@ module _ (old view : Files) (region : Range) (p : Planned) (is : (n : List ℕ) 
     walk_after = record {
       object = tells.object;
       rest = tells.rest;
-      walks = own_matches.walks ∙ ap (λ (vs : Walked). Ok vs) tells.is;
+      walks = walks_after ∙ ap (λ (vs : Walked). Ok vs) tells.is;
       have = rest_objects;
       libraries = are_libraries tells.rest rest_objects tells.libraries;
       candidates = library_candidate;

@@ -1,5 +1,5 @@
 // Laws of fast loads.
-ghost use Rattle.pl_fast.specs.Demo.{DemoLoadsAreFast};
+ghost use Rattle.pl_fast.specs.Demo.{DemoLoadsAreFast, DemoProgramsAreReady};
 ghost use Rattle.pl_fast.specs.Laws.{FilesOffTheRegionAreClear, LowProgramsKeepOff, MatchedLoadsAreFast, PrelinkedLoadsAreFast};
 
 /// `--load` of a program starts on the fast path, by every policy and whatever is busy: where its file's list tells the files of its walk, the rule of prelinked files holds at it, and no library that it needs has, at the slot that its file bears, an address that the program's file loads by its own program headers, or a busy one. It does nothing.
@@ -14,7 +14,8 @@ pub fn prelinked_loads_are_fast()
     ensures low { LowProgramsKeepOff }
 {}
 
-/// All loads of `--demo` are fast, and as many as its number draws programs, where each of these is prelinked and its file keeps off the region of the slots. It does nothing.
+/// For every number each program of the set of `--demo` is prelinked by its run, and its file keeps off the region of the slots; so all of its loads are fast, and they are as many as the number draws programs. It does nothing.
 pub fn demo_loads_are_fast()
-    ensures { DemoLoadsAreFast }
+    ensures ready { DemoProgramsAreReady }
+    ensures fast { DemoLoadsAreFast }
 {}

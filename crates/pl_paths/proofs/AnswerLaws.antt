@@ -7,12 +7,12 @@ use Rattle.std.specs.Str.{bytes_eq}
 use Rattle.std.proofs.lemmas.Bool.{true≢false}
 use Rattle.std.proofs.lemmas.Option.{none-some}
 use Rattle.std.proofs.lemmas.Slice.Eq.{bytes_eq-Decides}
-use Rattle.pl_base.specs.Answers.{unless}
+use Rattle.pl_base.specs.Answers.{because, unless}
 use Rattle.pl_base.specs.Bytes.{word64}
 use Rattle.pl_base.specs.Files.{Files}
 use Rattle.pl_base.specs.Memory.{Memory}
 use Rattle.pl_base.specs.Names.{is_valid_name}
-use Rattle.pl_base.proofs.AnswerLaws.{bind_ok, ok_same, unless_ok}
+use Rattle.pl_base.proofs.AnswerLaws.{because_ok, bind_ok, ok_same, unless_ok}
 use Rattle.pl_elf.specs.declared.range.Range.{Range}
 use Rattle.pl_elf.specs.Ranges.{has}
 use Rattle.pl_folder.specs.declared.TheConstants.{STORED}
@@ -26,12 +26,16 @@ use Rattle.pl_fix.specs.declared.placing.Placing.TheVariants as placings
 use Rattle.pl_fix.proofs.BareLaws.{fixed_bare}
 use Rattle.pl_form.specs.Files.{marked_in}
 use Rattle.pl_form.specs.declared.file.Marked.{Marked}
+use Rattle.pl_place.specs.Policy.{Choice}
+use Rattle.pl_sound.specs.Rule as sound
 use Rattle.pl_sound.specs.Rule.{Mark, mark_at, matches, tells_walk, walk_in}
 use Rattle.pl_words.specs.declared.command.Policy.{Policy}
 use Rattle.pl_loader.specs.Started.{Start, load}
+use Rattle.pl_loader.specs.declared.fault.LoadFault.{LoadFault}
+use Rattle.pl_weave.specs.Given.{first_by, first_of, given_from, given_of}
 use Rattle.pl_cli.specs.Answer.{done, refuses, load_answer}
 use Rattle.pl_cli.specs.Files.{valid_file, of_file, file_in}
-use Rattle.pl_cli.specs.Load.{choice, first_by, first_file, given_file, loaded, loading_file}
+use Rattle.pl_cli.specs.Load.{choice, loaded, loading_file}
 use Rattle.pl_cli.specs.LoadText.{head_text, load_text}
 use Rattle.pl_cli.specs.declared.cause.Cause.{Cause}
 use Rattle.pl_cli.specs.declared.cause.Cause.TheVariants as cause
@@ -76,7 +80,7 @@ text_same m k (ranges ∷ extents) same =
 
 -- ---- starts that are the same have one text
 
-start_same : (a b : Start) → IsSameStart a b → load_text a ≡ load_text b
+pub start_same : (a b : Start) → IsSameStart a b → load_text a ≡ load_text b
 unfolding load_text
 start_same a b same =
     let first : head_text a.fast a.objects a.modules a.entry ≡ head_text b.fast b.objects b.modules b.entry = rw (same.fast, same.objects, same.modules, same.entry) refl in
@@ -106,29 +110,29 @@ gives files n bytes is = given_by n bytes (valid_file files n) is
 
 -- ---- the file of the name that is loaded
 
-first_given : (policy : Policy) (name found bytes : List ℕ) (p : Placing) → first_by name found p ≡ Ok bytes → of_placing found p ≡ bytes
-first_given policy name found bytes placings.NotPie e = ok_same found bytes e
-first_given policy name found bytes placings.NoPlace e = absurd cc
-first_given policy name found bytes placings.Marked e = absurd cc
-first_given policy name found bytes (placings.Fixed at file) e = ok_same file bytes e
+first_given : (name found bytes : List ℕ) (p : Placing) → first_by name found p ≡ Ok bytes → of_placing found p ≡ bytes
+first_given name found bytes placings.NotPie e = ok_same found bytes e
+first_given name found bytes placings.NoPlace e = absurd cc
+first_given name found bytes placings.Marked e = absurd cc
+first_given name found bytes (placings.Fixed at file) e = ok_same file bytes e
 
-first_is : (policy : Policy) (name found bytes : List ℕ) → first_file policy name found ≡ Ok bytes → first_bytes policy found ≡ bytes
-unfolding first_bytes first_file
-first_is policy name found bytes e = first_given policy name found bytes (placed (choice policy) found) e
+first_is : (choose : Choice) (name found bytes : List ℕ) → first_of choose name found ≡ Ok bytes → first_bytes choose found ≡ bytes
+unfolding first_bytes first_of
+first_is choose name found bytes e = first_given name found bytes (placed choose found) e
 
 -- what a placing makes of a file
-first_at : (policy : Policy) (bytes : List ℕ) (p : Placing) → placed (choice policy) bytes ≡ p → first_bytes policy bytes ≡ of_placing bytes p
+first_at : (choose : Choice) (bytes : List ℕ) (p : Placing) → placed choose bytes ≡ p → first_bytes choose bytes ≡ of_placing bytes p
 unfolding first_bytes
-first_at policy bytes p is = ap (of_placing bytes) is
+first_at choose bytes p is = ap (of_placing bytes) is
 
-gives_given : (policy : Policy) (files : Files) (name : List ℕ) → GivesFrom (loading_folder policy files name) (loading_file policy files name)
-unfolding loading_folder loading_file
-gives_given policy files name n bytes is =
-    let a = bind_ok (file_in files n) (given_file policy name n) bytes is in
-    by_test (bytes_eq n name) a.0 (gives files n a.0 a.1) a.2
+pub gives_given : {E : Type 0} (choose : Choice) (folder : sound.Files) (fault : LoadFault → E) (file : List ℕ → Result (List ℕ) E) (name : List ℕ) → GivesFrom folder file → GivesFrom (loading_folder choose folder name) (given_from choose fault file name)
+unfolding loading_folder given_from
+gives_given choose folder fault file name gives n bytes is =
+    let a = bind_ok (file n) (λ found. because fault (given_of choose name n found)) bytes is in
+    by_test (bytes_eq n name) a.0 (gives n a.0 a.1) (because_ok fault (given_of choose name n a.0) bytes a.2)
   where
-    by_test : (b : Bool) (found : List ℕ) → valid_file files n ≡ Some found → (if b then first_file policy name found else Ok found) ≡ Ok bytes → (if b then option_map (first_bytes policy) (valid_file files n) else valid_file files n) ≡ Some bytes
-    by_test true found there e = ap (option_map (first_bytes policy)) there ∙ ap (λ (xs : List ℕ). Some xs) (first_is policy name found bytes e)
+    by_test : (b : Bool) (found : List ℕ) → folder n ≡ Some found → (if b then first_of choose name found else Ok found) ≡ Ok bytes → (if b then option_map (first_bytes choose) (folder n) else folder n) ≡ Some bytes
+    by_test true found there e = ap (option_map (first_bytes choose)) there ∙ ap (λ (xs : List ℕ). Some xs) (first_is choose name found bytes e)
     by_test false found there e = there ∙ ap (λ (xs : List ℕ). Some xs) (ok_same found bytes e)
 
 -- ---- the rule at it
@@ -144,60 +148,65 @@ unmatched causes folder name file there bare =
     ∙ ap (λ (k : Option Mark). tells_walk (format.format causes) folder k (walk_in (format.format causes) folder name)) (bare_mark file bare)
 
 -- a file that is loaded as it is leaves the folder as it is
-same_folder : (policy : Policy) (files : Files) (name : List ℕ) → ((bytes : List ℕ) → valid_file files name ≡ Some bytes → first_bytes policy bytes ≡ bytes) → loading_folder policy files name ≡ valid_file files
+same_folder : (choose : Choice) (folder : sound.Files) (name : List ℕ) → ((bytes : List ℕ) → folder name ≡ Some bytes → first_bytes choose bytes ≡ bytes) → loading_folder choose folder name ≡ folder
 unfolding loading_folder
-same_folder policy files name same = λ i n. at n i
+same_folder choose folder name same = λ i n. at n i
   where
-    here : (o : Option (List ℕ)) → valid_file files name ≡ o → option_map (first_bytes policy) o ≡ o
+    here : (o : Option (List ℕ)) → folder name ≡ o → option_map (first_bytes choose) o ≡ o
     here None is = refl
     here (Some bytes) is = ap (λ (xs : List ℕ). Some xs) (same bytes is)
 
-    by_test : (n : List ℕ) (b : Bool) → bytes_eq n name ≡ b → (if b then option_map (first_bytes policy) (valid_file files n) else valid_file files n) ≡ valid_file files n
+    by_test : (n : List ℕ) (b : Bool) → bytes_eq n name ≡ b → (if b then option_map (first_bytes choose) (folder n) else folder n) ≡ folder n
     by_test n false is = refl
     by_test n true is =
         let one : n ≡ name = (bytes_eq-Decides n name).0 is in
-        subst (λ (m : List ℕ). option_map (first_bytes policy) (valid_file files m) ≡ valid_file files m) (sym one) (here (valid_file files name) refl)
+        subst (λ (m : List ℕ). option_map (first_bytes choose) (folder m) ≡ folder m) (sym one) (here (folder name) refl)
 
-    at : (n : List ℕ) → (if bytes_eq n name then option_map (first_bytes policy) (valid_file files n) else valid_file files n) ≡ valid_file files n
+    at : (n : List ℕ) → (if bytes_eq n name then option_map (first_bytes choose) (folder n) else folder n) ≡ folder n
     at n = by_test n (bytes_eq n name) refl
 
 -- the name of a program that is fixed has that program
-is_fixed : (policy : Policy) (files : Files) (name bytes file : List ℕ) (at : ℕ) → valid_file files name ≡ Some bytes → placed (choice policy) bytes ≡ placings.Fixed at file → loading_folder policy files name name ≡ Some file
+is_fixed : (choose : Choice) (folder : sound.Files) (name bytes file : List ℕ) (at : ℕ) → folder name ≡ Some bytes → placed choose bytes ≡ placings.Fixed at file → loading_folder choose folder name name ≡ Some file
 unfolding loading_folder
-is_fixed policy files name bytes file at there is =
-    ap (λ (b : Bool). if b then option_map (first_bytes policy) (valid_file files name) else valid_file files name) ((bytes_eq-Decides name name).1 refl)
-    ∙ ap (option_map (first_bytes policy)) there ∙ ap (λ (xs : List ℕ). Some xs) (first_at policy bytes (placings.Fixed at file) is)
+is_fixed choose folder name bytes file at there is =
+    ap (λ (b : Bool). if b then option_map (first_bytes choose) (folder name) else folder name) ((bytes_eq-Decides name name).1 refl)
+    ∙ ap (option_map (first_bytes choose)) there ∙ ap (λ (xs : List ℕ). Some xs) (first_at choose bytes (placings.Fixed at file) is)
 
-rule_given : {F : Type 0} (causes : Causes F) (policy : Policy) (files : Files) (name : List ℕ) → RuleAt causes (valid_file files) name → RuleAt causes (loading_folder policy files name) name
-rule_given causes policy files name rule = by_file (valid_file files name) refl
+pub rule_given : {F : Type 0} (causes : Causes F) (choose : Choice) (folder : sound.Files) (name : List ℕ) → RuleAt causes folder name → RuleAt causes (loading_folder choose folder name) name
+rule_given causes choose folder name rule = by_file (folder name) refl
   where
-    as_it_is : ((bytes : List ℕ) → valid_file files name ≡ Some bytes → first_bytes policy bytes ≡ bytes) → RuleAt causes (loading_folder policy files name) name
-    as_it_is same = subst (λ (folder : List ℕ → Option (List ℕ)). RuleAt causes folder name) (sym (same_folder policy files name same)) rule
+    as_it_is : ((bytes : List ℕ) → folder name ≡ Some bytes → first_bytes choose bytes ≡ bytes) → RuleAt causes (loading_folder choose folder name) name
+    as_it_is same = subst (λ (files : List ℕ → Option (List ℕ)). RuleAt causes files name) (sym (same_folder choose folder name same)) rule
 
-    is_first : (bytes : List ℕ) → valid_file files name ≡ Some bytes → (p : Placing) → placed (choice policy) bytes ≡ p → of_placing bytes p ≡ bytes → (other : List ℕ) → valid_file files name ≡ Some other → first_bytes policy other ≡ other
+    is_first : (bytes : List ℕ) → folder name ≡ Some bytes → (p : Placing) → placed choose bytes ≡ p → of_placing bytes p ≡ bytes → (other : List ℕ) → folder name ≡ Some other → first_bytes choose other ≡ other
     is_first bytes there p is same other at =
         let one : bytes ≡ other = some_same bytes other (sym there ∙ at) in
-        subst (λ (xs : List ℕ). first_bytes policy xs ≡ xs) one (first_at policy bytes p is ∙ same)
+        subst (λ (xs : List ℕ). first_bytes choose xs ≡ xs) one (first_at choose bytes p is ∙ same)
 
-    by_placing : (bytes : List ℕ) → valid_file files name ≡ Some bytes → (p : Placing) → placed (choice policy) bytes ≡ p → RuleAt causes (loading_folder policy files name) name
+    by_placing : (bytes : List ℕ) → folder name ≡ Some bytes → (p : Placing) → placed choose bytes ≡ p → RuleAt causes (loading_folder choose folder name) name
     by_placing bytes there placings.NotPie is = as_it_is (is_first bytes there placings.NotPie is refl)
     by_placing bytes there placings.NoPlace is = as_it_is (is_first bytes there placings.NoPlace is refl)
     by_placing bytes there placings.Marked is = as_it_is (is_first bytes there placings.Marked is refl)
     by_placing bytes there (placings.Fixed at file) is = λ m hit has.
-        absurd (true≢false (sym hit ∙ unmatched causes (loading_folder policy files name) name file (is_fixed policy files name bytes file at there is) (fixed_bare (choice policy) bytes file at is)))
+        absurd (true≢false (sym hit ∙ unmatched causes (loading_folder choose folder name) name file (is_fixed choose folder name bytes file at there is) (fixed_bare choose bytes file at is)))
 
-    by_file : (o : Option (List ℕ)) → valid_file files name ≡ o → RuleAt causes (loading_folder policy files name) name
+    by_file : (o : Option (List ℕ)) → folder name ≡ o → RuleAt causes (loading_folder choose folder name) name
     by_file None none = as_it_is (λ bytes there. absurd (none-some bytes (sym none ∙ there)))
-    by_file (Some bytes) there = by_placing bytes there (placed (choice policy) bytes) refl
+    by_file (Some bytes) there = by_placing bytes there (placed choose bytes) refl
 
 -- ---- the answer
+
+loads_given : (policy : Policy) (files : Files) (name : List ℕ) → GivesFrom (loading_folder (choice policy) (valid_file files) name) (loading_file policy files name)
+unfolding loading_file
+loads_given policy files name = gives_given (choice policy) (valid_file files) cause.Load (file_in files) name (gives files)
 
 pub answers_are_ordinary : {F : Type 0} → AnswersAreOrdinary F
 unfolding loaded ordinary
 answers_are_ordinary causes files input name busy policy rule =
-    by (not (is_valid_name name)) (loads_are_ordinary causes (loading_folder policy files name) (choice policy) busy cause.Load (loading_file policy files name) name (gives_given policy files name) (rule_given causes policy files name rule))
+    by (not (is_valid_name name))
+    (loads_are_ordinary causes (loading_folder (choice policy) (valid_file files) name) (choice policy) busy cause.Load (loading_file policy files name) name (loads_given policy files name) (rule_given causes (choice policy) (valid_file files) name rule))
   where
-    by : (bad : Bool) → SameAnswer (load (choice policy) busy cause.Load (loading_file policy files name) name) (ordinary_load (format.is_fast causes (loading_folder policy files name) name) (choice policy) busy cause.Load (loading_file policy files name) name)
-        → load_answer (unless bad cause.BadName (load (choice policy) busy cause.Load (loading_file policy files name) name)) ≡ load_answer (unless bad cause.BadName (ordinary_load (format.is_fast causes (loading_folder policy files name) name) (choice policy) busy cause.Load (loading_file policy files name) name))
+    by : (bad : Bool) → SameAnswer (load (choice policy) busy cause.Load (loading_file policy files name) name) (ordinary_load (format.is_fast causes (loading_folder (choice policy) (valid_file files) name) name) (choice policy) busy cause.Load (loading_file policy files name) name)
+        → load_answer (unless bad cause.BadName (load (choice policy) busy cause.Load (loading_file policy files name) name)) ≡ load_answer (unless bad cause.BadName (ordinary_load (format.is_fast causes (loading_folder (choice policy) (valid_file files) name) name) (choice policy) busy cause.Load (loading_file policy files name) name))
     by true same = refl
     by false same = answer_same _ _ same

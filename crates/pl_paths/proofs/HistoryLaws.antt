@@ -10,7 +10,7 @@ use Rattle.pl_paths.specs.Laws.{AreHeld, LoadsOverHistories}
 use Rattle.pl_paths.proofs.ImageLaws.{loads_are_ordinary}
 
 -- files each of which was held at some moment keep the rule together
-rule_held : {F : Type 0} (causes : Causes F) (now : Files) (past : List Files) (last : ℕ) (taken : Files) → Happened (format.format causes) now past last → AreHeld now past taken → Rule (format.format causes) taken
+pub rule_held : {F : Type 0} (causes : Causes F) (now : Files) (past : List Files) (last : ℕ) (taken : Files) → Happened (format.format causes) now past last → AreHeld now past taken → Rule (format.format causes) taken
 rule_held causes now past last taken happened held = (histories (format.format causes) (format_kept causes) now past last happened).1 taken held
 
 pub loads_over_histories : {E F : Type 0} → LoadsOverHistories E F

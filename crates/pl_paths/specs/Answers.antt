@@ -6,6 +6,8 @@ use Rattle.pl_base.specs.Answers.{unless}
 use Rattle.pl_base.specs.Files.{Files}
 use Rattle.pl_base.specs.Names.{is_valid_name}
 use Rattle.pl_elf.specs.declared.range.Range.{Range}
+use Rattle.pl_place.specs.Policy.{Choice}
+use Rattle.pl_sound.specs.Rule as sound
 use Rattle.pl_words.specs.declared.command.Policy.{Policy}
 use Rattle.pl_conflict.specs.Format.{Causes, is_fast}
 use Rattle.pl_fix.specs.Fixing.{placed}
@@ -26,17 +28,17 @@ of_placing bytes NoPlace = bytes
 of_placing bytes Marked = bytes
 of_placing bytes (Fixed at file) = file
 
-unfoldable pub first_bytes : Policy → List ℕ → List ℕ
-first_bytes policy bytes = of_placing bytes (placed (choice policy) bytes)
+unfoldable pub first_bytes : Choice → List ℕ → List ℕ
+first_bytes choose bytes = of_placing bytes (placed choose bytes)
 
--- the folder with that file
-unfoldable pub loading_folder : Policy → Files → List ℕ → List ℕ → Option (List ℕ)
-loading_folder policy files name n = if bytes_eq n name then option_map (first_bytes policy) (valid_file files n) else valid_file files n
+-- a folder's files with that one in its place
+unfoldable pub loading_folder : Choice → sound.Files → List ℕ → List ℕ → Option (List ℕ)
+loading_folder choose folder name n = if bytes_eq n name then option_map (first_bytes choose) (folder n) else folder n
 
 -- what a program of a folder's files starts from where the originals are linked, or the first cause why it does not. The path is the fast one where these files allow it at these places
 unfoldable pub ordinary : {F : Type 0} → Causes F → Policy → Option Range → Files → List ℕ → Result Start Cause
 ordinary causes policy busy files name =
-    unless (not (is_valid_name name)) cause.BadName (ordinary_load (is_fast causes (loading_folder policy files name) name) (choice policy) busy cause.Load (loading_file policy files name) name)
+    unless (not (is_valid_name name)) cause.BadName (ordinary_load (is_fast causes (loading_folder (choice policy) (valid_file files) name) name) (choice policy) busy cause.Load (loading_file policy files name) name)
 
 -- the status and the text of it
 abbrev pub ordinary_answer : {F : Type 0} → Causes F → Policy → Option Range → Files → List ℕ → Answer

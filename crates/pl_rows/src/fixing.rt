@@ -55,6 +55,19 @@ word 0000002000100000 0000002000100008
 end
 ";
 
+// What a weave prints whose one loader opens `pi` and then `liba`.
+const WOVEN: &str = "loader 0
+slow
+object 0000002000000000 0000002000101000 pi
+object 0000003000000000 0000003000101000 liba
+entry 0000002000100000
+word 0000002000100000 0000003000100000
+word 0000002000100008 0000002000100000
+word 0000003000100000 0000000000001111
+end
+weave end
+";
+
 // Words, how the run ends, and what is written.
 type Step = (&'static [&'static str], Status, &'static str);
 
@@ -133,6 +146,17 @@ fn fixes_and_loosens(rt: HostRuntime) -> Result<(), Fail> {
     }
     let after = folder.take(alloc, "pi")?;
     assert_eq!(rt; after.as_slice(), before.as_slice());
+    Ok(())
+}
+
+#[test]
+fn weaves_a_program(rt: HostRuntime) -> Result<(), Fail> {
+    let files = files_of(&rt, &RECIPES)?;
+    let mut folder = folder_of(&rt, &files, NONE)?;
+    let script = b"load pi\nopen 0\nopen 0\n";
+    let Ran { status, text } = run_over(rt.alloc(), &mut folder, &["--weave"], script, NONE)?;
+    assert_eq!(rt; text.as_slice(), WOVEN.as_bytes());
+    assert_eq!(rt; status, Status::Done);
     Ok(())
 }
 

@@ -36,21 +36,29 @@ run 0 done 1
 weave end
 ";
 
-// A library is installed between the files of a load, or behind them; scripts that are none, and one without lines; a loader that has opened nothing; runs that are refused, wait, or are under way.
-const WEAVES: [Row; 2] = [
+// A position-independent program, placed as `--load` places it, and a library of a later moment.
+const PLACED: &str = "loader 0
+slow
+object 0000002000000000 0000002000101000 pi
+object 0000003000000000 0000003000101000 liba
+entry 0000002000100000
+word 0000002000100000 0000003000100000
+word 0000002000100008 0000002000100000
+word 0000003000100000 000000000000aaaa
+end
+run 0 done 1
+weave end
+";
+
+// A library is installed between the files of a load, or behind them; scripts that are none, and one without lines; a loader that has opened nothing; runs that are refused, wait, or are under way; a position-independent program.
+const WEAVES: [Row; 3] = [
     (
         &[("liba", "liba"), ("p", "p")],
         &[
             Step::Prints(&["-a"], "done 2 prelinked 0 current 0 skipped\n"),
             Step::Makes("libx", LIBX),
-            Step::Weaves(
-                "load p\ninstall liba libx\nopen 0\nrename\nopen 0\n",
-                SLOW,
-            ),
-            Step::Weaves(
-                "load p\ninstall liba libx\nopen 0\nopen 0\nrename\n",
-                FAST,
-            ),
+            Step::Weaves("load p\ninstall liba libx\nopen 0\nrename\nopen 0\n", SLOW),
+            Step::Weaves("load p\ninstall liba libx\nopen 0\nopen 0\nrename\n", FAST),
             Step::Weaves(
                 "load p\nopen 0\nundo\nprelink 2000",
                 "loader 0\nwants liba\nrun 0 renames 0 of 2\nrun 1 waits\nweave end\n",
@@ -70,6 +78,26 @@ const WEAVES: [Row; 2] = [
             Step::Weaves(
                 "load p\nopen 0\nopen 0\n",
                 "loader 0\nrefused NotThere p\nweave end\n",
+            ),
+        ],
+    ),
+    (
+        &[
+            ("liba", "liba"),
+            ("libx", LIBX),
+            (
+                "pi",
+                "pie\nneeds liba\nentry 0\ndata 10\nref f global func\nrel globdat 0 f 0\nrel relative 8 - 0\n",
+            ),
+        ],
+        &[
+            Step::Weaves(
+                "load pi\ninstall liba libx\nopen 0\nrename\nopen 0\n",
+                PLACED,
+            ),
+            Step::Weaves(
+                "load pi\nload liba\nopen 0\nopen 1\n",
+                "loader 0\nwants liba\nloader 1\nrefused NotProgram liba\nweave end\n",
             ),
         ],
     ),
@@ -163,6 +191,7 @@ const TURNS: [(&str, Turn); 4] = [
 
 /// How many runs and how many steps a script has.
 const FEW: usize = 3;
+
 const STEPS: usize = 12;
 
 /// A weave as the runs of its script show it, each done whole: the folder's files after each run, the files as they stand, how many runs have finished, and the files that two loads of `e` saw.
@@ -177,7 +206,10 @@ struct Shown {
 
 /// A copy of a file.
 fn copy_of(alloc: Global, file: &File) -> Result<File, Fail> {
-    Ok((String::from_str(alloc, file.0.as_str())?, file.1.to_vec(alloc)?))
+    Ok((
+        String::from_str(alloc, file.0.as_str())?,
+        file.1.to_vec(alloc)?,
+    ))
 }
 
 /// The file that a run puts next: the first by name that is not as it is after the run.
@@ -238,8 +270,14 @@ fn told_of(alloc: Global, seen: &[File]) -> Result<Vec<u8>, Fail> {
         1 => Ok(b"wants libe\n".to_vec(alloc)?),
         _ => {
             let mut folder = folder_of(alloc, seen, &[])?;
-            let Ran { status: _, text } =
-                run_over(alloc, &mut folder, &["--load", "e"], b"", NOW, NONE)?;
+            let Ran { status: _, text } = run_over(
+                alloc,
+                &mut folder,
+                &["--load", "e"],
+                b"",
+                NOW,
+                NONE,
+            )?;
             Ok(text)
         }
     }
@@ -287,7 +325,14 @@ fn weave_once(rt: &(impl Abort + AllocGlobal), files: &[File], seed: u64) -> Res
         script.push_str(line)?;
         turn_once(alloc, &mut shown, turn)?;
     }
-    let ran = run_over(alloc, &mut folder, &["--weave"], script.as_bytes(), NOW, NONE)?;
+    let ran = run_over(
+        alloc,
+        &mut folder,
+        &["--weave"],
+        script.as_bytes(),
+        NOW,
+        NONE,
+    )?;
     let mut want = b"loader 0\n".to_vec(alloc)?;
     want.extend_from_slice(&told_of(alloc, &shown.first)?)?;
     want.extend_from_slice(b"loader 1\n")?;

@@ -9,7 +9,7 @@ use Rattle.pl_cli.specs.Words.{bytes_of}
 use Rattle.pl_cli.specs.declared.command.Command.{Command}
 use Rattle.pl_cli.specs.declared.status.Status.{Status}
 use Rattle.pl_safe.specs.Safe.{StaysSafe}
-use Rattle.pl_safe.proofs.LoadLemmas.{loads_ordinary}
+use Rattle.pl_safe.proofs.LoadLemmas.{loads_ordinary, weaves_ordinary}
 use Rattle.pl_safe.proofs.RunLemmas.{every_safe, others_keep, runs_leave, start_sound, writers_end}
 
 pub stays_safe : (asked : Option Command) (w v : Outside) (status : Status) → IsFolder w.folder → Ran asked w v status → StaysSafe asked w v status
@@ -23,4 +23,7 @@ stays_safe asked w v status folder ran told start =
       load = λ name busy policy is.
           ap (λ (c : Option Command). answer c w.folder.files (bytes_of w.input.left)) is
           ∙ loads_ordinary w.folder.files (bytes_of w.input.left) name busy policy sound;
+      weave = λ is past.
+          ap (λ (c : Option Command). answer c w.folder.files (bytes_of w.input.left)) is
+          ∙ weaves_ordinary w.folder.files (bytes_of w.input.left) sound past;
     }

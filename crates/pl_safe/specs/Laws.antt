@@ -11,21 +11,23 @@ use Rattle.pl_journal.specs.Meaning.{Same}
 use Rattle.pl_batch.specs.Restored.{restored}
 use Rattle.pl_crash.specs.Safe.{after}
 use Rattle.pl_crash.specs.Sound.{IsSound, named}
+use Rattle.pl_crash.specs.Steps.{IsPastAll}
 use Rattle.pl_conflict.specs.Format.{format}
 use Rattle.pl_known.specs.Skips.{skip_causes}
 use Rattle.pl_scope.specs.Members.{has}
 use Rattle.pl_sound.specs.Rule.{matches, members}
 use Rattle.pl_journal.specs.Names.{journal}
 use Rattle.pl_words.specs.declared.command.Policy.{Policy}
-use Rattle.pl_cli.specs.Answer.{answer}
+use Rattle.pl_cli.specs.Answer.{answer, text_answer}
 use Rattle.pl_cli.specs.Outside.{Outside}
 use Rattle.pl_cli.specs.Ran.{Ran}
 use Rattle.pl_cli.specs.Writes.{AreBytes}
 use Rattle.pl_cli.specs.declared.command.Command.{Command}
-use Rattle.pl_cli.specs.declared.command.Command.TheVariants.{Load, Verify}
+use Rattle.pl_cli.specs.declared.command.Command.TheVariants.{Load, Verify, Weave}
 use Rattle.pl_cli.specs.declared.status.Status.{Status}
 use Rattle.pl_cli.specs.declared.status.Status.TheVariants as statuses
 use Rattle.pl_paths.specs.Answers.{ordinary_answer}
+use Rattle.pl_woven.specs.Texts.{linked_from, weaves_from}
 use Rattle.pl_safe.specs.Runs.{KeepsOriginals, LeavesSound, changed_name, is_whole, meaning, writes}
 
 -- ---- every run
@@ -71,3 +73,7 @@ VerifiedAreSound =
 abbrev pub SoundLoadsAreOrdinary : Type 0
 SoundLoadsAreOrdinary =
     (files : Files) (input name : List ℕ) (busy : Option Range) (policy : Policy) → IsSound (get files) → answer (Some (Load name busy policy)) files input ≡ ordinary_answer skip_causes policy busy files name
+
+-- and where no stamp is past the last one of its cache `--weave` answers as if each loader that has finished linked the originals of the files that it saw
+abbrev pub SoundWeavesAreOrdinary : Type 0
+SoundWeavesAreOrdinary = (files : Files) (input : List ℕ) → IsSound (get files) → IsPastAll (get files) → answer (Some Weave) files input ≡ text_answer (weaves_from linked_from input files)

@@ -8,16 +8,18 @@ use Rattle.pl_journal.specs.Meaning.{Same}
 use Rattle.pl_batch.specs.Restored.{restored}
 use Rattle.pl_crash.specs.Safe.{after}
 use Rattle.pl_crash.specs.Sound.{IsSound}
+use Rattle.pl_crash.specs.Steps.{IsPastAll}
 use Rattle.pl_known.specs.Skips.{skip_causes}
 use Rattle.pl_words.specs.declared.command.Policy.{Policy}
-use Rattle.pl_cli.specs.Answer.{answer}
+use Rattle.pl_cli.specs.Answer.{answer, text_answer}
 use Rattle.pl_cli.specs.Outside.{Outside}
 use Rattle.pl_cli.specs.Words.{bytes_of}
 use Rattle.pl_cli.specs.Writes.{AreBytes}
 use Rattle.pl_cli.specs.declared.command.Command.{Command}
-use Rattle.pl_cli.specs.declared.command.Command.TheVariants.{Load}
+use Rattle.pl_cli.specs.declared.command.Command.TheVariants.{Load, Weave}
 use Rattle.pl_cli.specs.declared.status.Status.{Status}
 use Rattle.pl_paths.specs.Answers.{ordinary_answer}
+use Rattle.pl_woven.specs.Texts.{linked_from, weaves_from}
 use Rattle.pl_safe.specs.Runs.{KeepsOriginals, LeavesSound, changed_name, is_whole, meaning, writes}
 
 -- A run of what words ask for, with w outside before it and v after it.
@@ -32,6 +34,8 @@ pub record IsSafeRun (asked : Option Command) (w v : Outside) (status : Status) 
   pub originals : (bytes : List ℕ) → KeepsOriginals (changed_name asked) (get (restored w.folder.files)) (after (meaning asked bytes) (restored w.folder.files))
   -- the answer to `--load` is the one that links the originals
   pub load : (name : List ℕ) (busy : Option Range) (policy : Policy) → asked ≡ Some (Load name busy policy) → answer asked w.folder.files (bytes_of w.input.left) ≡ ordinary_answer skip_causes policy busy w.folder.files name
+  -- and the answer to `--weave` is the one whose loaders print what linking the originals of the files that they saw gives, where no stamp is past the last one of the folder's cache
+  pub weave : asked ≡ Some Weave → IsPastAll (get w.folder.files) → answer asked w.folder.files (bytes_of w.input.left) ≡ text_answer (weaves_from linked_from (bytes_of w.input.left) w.folder.files)
 
 -- of a folder that tells its disk, where each image at the start was sound
 abbrev pub StaysSafe : Option Command → Outside → Outside → Status → Type 0

@@ -6,7 +6,6 @@ use Rattle.std.specs.List.{list_all}
 use Rattle.std.specs.FinMap.{find, get, get-from_entries}
 use Rattle.std.specs.Cmp.Lexicographic.{nat_list_cmp_total, slice_cmp}
 use Rattle.std.specs.Ordering.{nat_cmp}
-use Rattle.std.proofs.lemmas.List.{length-map}
 use Rattle.std.proofs.lemmas.List.Elements.{All-head, All-tail}
 use Rattle.std.proofs.lemmas.Bool.{and_parts, cases_Bool, leb-false, le-leb}
 use Rattle.pl_base.specs.Files.{Files, file_entry, files_of}
@@ -23,17 +22,18 @@ use Rattle.pl_journal.specs.Names.{cache, is_own}
 use Rattle.pl_journal.proofs.Done.{row_not_own}
 use Rattle.pl_journal.specs.declared.change.Change.{Change}
 use Rattle.pl_loader.specs.Loading.{Loading}
-use Rattle.pl_loader.specs.Walk as walk
 use Rattle.pl_loader.specs.declared.fault.LoadFault.{LoadFault}
+use Rattle.pl_place.specs.Policy.{Answering, Choice, Follows}
 use Rattle.pl_script.specs.Script.{is_of}
 use Rattle.pl_script.specs.declared.script.Event.{Event}
 use Rattle.pl_script.specs.declared.script.Event.TheVariants.{Open, Rename}
 use Rattle.pl_weave.specs.Opening.{Opened, Opens, OpensAt, OpensBy, led_to, opened, seen_of, wanted, with_file}
 use Rattle.pl_stage.specs.declared.held.Held.{Held}
-use Rattle.pl_weave.specs.Running.{AreStored, HavePolicy, IsUnderWay, IsWeaving, Stands, StandsBy, files_in, plain}
+use Rattle.pl_weave.specs.Running.{AreStored, HavePolicy, IsUnderWay, Stands, StandsBy, files_in, plain, policies}
 use Rattle.pl_weave.specs.Runs.{Runs}
 use Rattle.pl_weave.specs.Taking.{Untaken, held_file}
 use Rattle.pl_weave.specs.Weaving.{Weaving, after, opened_at, opened_by, opened_once}
+use Rattle.pl_weave.proofs.ManyLaws.{policy_of}
 use Rattle.pl_weave.specs.declared.fault.WeaveFault.{WeaveFault}
 use Rattle.pl_weave.specs.declared.fault.WeaveFault.TheVariants.{TooLarge}
 use Rattle.pl_weave.specs.declared.running.Running.{Running}
@@ -61,8 +61,8 @@ large_by (Some bytes) is = by (nat_le (length bytes) STORED) refl is
     by true small is = let no : ⊥ = cc in absurd no
     by false small is = (bytes, refl, omega (arith, leb-false (length bytes) STORED small))
 
-pub never_large : {F : Type 0} {w new : List (Opened F)} {loader : ℕ} (folder : QuietFolder) {o : Opened F} (name : List ℕ) → AreStored (quiet_files folder) → slice_get w loader ≡ Some o → wanted o ≡ Some name
-    → OpensAt (Err TooLarge) loader w new (quiet_seen folder) → ⊥
+pub never_large : {F : Type 0} {post : F → Answering} {w new : List (Opened F)} {loader : ℕ} (folder : QuietFolder) {o : Opened F} (name : List ℕ) → AreStored (quiet_files folder) → slice_get w loader ≡ Some o → wanted o ≡ Some name
+    → OpensAt post (Err TooLarge) loader w new (quiet_seen folder) → ⊥
 never_large folder {o = o} name are there wants opens =
     let same_loader : opens.before ≡ o = let e = sym opens.was ∙ there in cc in
     let untaken = opens.opens name (ap wanted same_loader ∙ wants) in
@@ -75,17 +75,19 @@ plain_led : {F : Type 0} (o : Opened F) (s : Seen) (r : Result Loading LoadFault
 plain_led o s (Ok walk) = refl
 plain_led o s (Err fault) = refl
 
-pub plain_opened : {F : Type 0} (old new : Opened F) (held files : Files) → Agree (get held) (get files) → Opens (Ok tt) old new (quiet held) → plain new ≡ opened_once files (plain old)
-plain_opened old new held files agree opens = by (wanted old) refl opens
+pub plain_opened : {F : Type 0} (post : F → Answering) (choose : Choice) (old new : Opened F) (held files : Files) → Agree (get held) (get files) → Follows (post old.load.policy) choose → Opens post (Ok tt) old new (quiet held)
+    → plain new ≡ opened_once choose files (plain old)
+plain_opened post choose old new held files agree follows opens = by (wanted old) refl opens
   where
-    by : (n : Option (List ℕ)) → wanted old ≡ n → OpensBy n old new (quiet held) → plain new ≡ opened_once files (plain old)
-    by None is same = ap plain same ∙ sym (ap (opened_by files (plain old)) is)
+    by : (n : Option (List ℕ)) → wanted old ≡ n → OpensBy post n old new (quiet held) → plain new ≡ opened_once choose files (plain old)
+    by None is same = ap plain same ∙ sym (ap (opened_by choose files (plain old)) is)
     by (Some name) is opened =
         let file : opened.0 ≡ held_file files name = opened.1 refl ∙ same_file held files name agree in
-        ap plain opened.2
-        ∙ plain_led old (seen_of name opened.0) (walk.taken old.load.walk name opened.0)
-        ∙ ap (λ (f : Option (List ℕ)). with_file (plain old) name f) file
-        ∙ sym (ap (opened_by files (plain old)) is)
+        ap plain opened.2.now
+        ∙ plain_led old (seen_of name opened.0) opened.2.came
+        ∙ ap (led_to (plain old) (seen_of name opened.0)) (sym (opened.2.exact choose follows))
+        ∙ ap (λ (f : Option (List ℕ)). with_file choose (plain old) name f) file
+        ∙ sym (ap (opened_by choose files (plain old)) is)
 
 same_list : {A : Type 0} (xs ys : List A) → length xs ≡ length ys → ((i : ℕ) → slice_get xs i ≡ slice_get ys i) → xs ≡ ys
 same_list [] [] count are = refl
@@ -96,71 +98,71 @@ same_list (x ∷ xs) (y ∷ ys) count are =
     ap (λ z. z ∷ xs) first ∙ ap (λ zs. y ∷ zs) (same_list xs ys (omega (arith, count)) (λ i. are (suc i)))
 
 -- the loader of a number has opened its file, and no other
-at_number : {F : Type 0} (k : ℕ) (old new : List (Opened F)) (files : Files) (before after : Opened F) → slice_get old k ≡ Some before → slice_get new k ≡ Some after → plain after ≡ opened_once files (plain before)
-    → ((other : ℕ) → other ≢ k → slice_get new other ≡ slice_get old other) → length new ≡ length old → map plain new ≡ opened_at files k (map plain old)
-at_number zero (o ∷ os) (p ∷ ps) files before after was now opened others count =
-    let first : plain p ≡ opened_once files (plain o) = let e : o ≡ before = cc in let f : p ≡ after = cc in ap plain f ∙ opened ∙ ap (λ q. opened_once files (plain q)) (sym e) in
+at_number : {F : Type 0} (choose : Choice) (k : ℕ) (old new : List (Opened F)) (files : Files) (before after : Opened F) → slice_get old k ≡ Some before → slice_get new k ≡ Some after → plain after ≡ opened_once choose files (plain before)
+    → ((other : ℕ) → other ≢ k → slice_get new other ≡ slice_get old other) → length new ≡ length old → map plain new ≡ opened_at choose files k (map plain old)
+at_number choose zero (o ∷ os) (p ∷ ps) files before after was now opened others count =
+    let first : plain p ≡ opened_once choose files (plain o) = let e : o ≡ before = cc in let f : p ≡ after = cc in ap plain f ∙ opened ∙ ap (λ q. opened_once choose files (plain q)) (sym e) in
     let rest : ps ≡ os = same_list ps os (omega (arith, count)) (λ i. others (suc i) (λ e. omega (arith, e))) in
-    ap (λ q. q ∷ map plain ps) first ∙ ap (λ qs. opened_once files (plain o) ∷ map plain qs) rest
-at_number (suc k) (o ∷ os) (p ∷ ps) files before after was now opened others count =
+    ap (λ q. q ∷ map plain ps) first ∙ ap (λ qs. opened_once choose files (plain o) ∷ map plain qs) rest
+at_number choose (suc k) (o ∷ os) (p ∷ ps) files before after was now opened others count =
     let first : p ≡ o = let e = others zero (λ e. omega (arith, e)) in cc in
-    ap (λ q. plain q ∷ map plain ps) first ∙ ap (λ qs. plain o ∷ qs) (at_number k os ps files before after was now opened (λ other differs. others (suc other) (λ e. differs (omega (arith, e)))) (omega (arith, count)))
-at_number k [] new files before after was now opened others count = let no : ⊥ = cc in absurd no
-at_number k (o ∷ os) [] files before after was now opened others count = let no : ⊥ = cc in absurd no
+    ap (λ q. plain q ∷ map plain ps) first ∙ ap (λ qs. plain o ∷ qs) (at_number choose k os ps files before after was now opened (λ other differs. others (suc other) (λ e. differs (omega (arith, e)))) (omega (arith, count)))
+at_number choose k [] new files before after was now opened others count = let no : ⊥ = cc in absurd no
+at_number choose k (o ∷ os) [] files before after was now opened others count = let no : ⊥ = cc in absurd no
 
-pub opened_ok : {F : Type 0} {w new : List (Opened F)} {loader : ℕ} {held : folders.Seen} (r : Result (Unit {0}) WeaveFault) → r ≡ Ok tt → OpensAt r loader w new held → OpensAt (Ok tt) loader w new held
-opened_ok {w = w} {new = new} {loader = loader} {held = held} r is it = subst (λ (q : Result (Unit {0}) WeaveFault). OpensAt q loader w new held) is it
+pub opened_ok : {F : Type 0} {post : F → Answering} {w new : List (Opened F)} {loader : ℕ} {held : folders.Seen} (r : Result (Unit {0}) WeaveFault) → r ≡ Ok tt → OpensAt post r loader w new held → OpensAt post (Ok tt) loader w new held
+opened_ok {post = post} {w = w} {new = new} {loader = loader} {held = held} r is it = subst (λ (q : Result (Unit {0}) WeaveFault). OpensAt post q loader w new held) is it
 
-pub opens_one : {F : Type 0} (loader : ℕ) (old new : List (Opened F)) (held files : Files) → Agree (get held) (get files) → OpensAt (Ok tt) loader old new (quiet held) → map plain new ≡ opened_at files loader (map plain old)
-opens_one loader old new held files agree it = at_number loader old new files it.before it.after it.was it.now (plain_opened it.before it.after held files agree it.opens) it.others it.count
+pub opens_one : {F : Type 0} {post : F → Answering} (p : F) (choose : Choice) (loader : ℕ) (old new : List (Opened F)) (held files : Files) → Agree (get held) (get files) → HavePolicy p old → Follows (post p) choose → OpensAt post (Ok tt) loader old new (quiet held)
+    → map plain new ≡ opened_at choose files loader (map plain old)
+opens_one {post = post} p choose loader old new held files agree have follows it =
+    let by_it : Follows (post it.before.load.policy) choose = subst (λ q. Follows (post q) choose) (sym (policy_of p old loader it.before have it.was)) follows in
+    at_number choose loader old new files it.before it.after it.was it.now (plain_opened post choose it.before it.after held files agree by_it it.opens) it.others it.count
 
 -- where a loader has finished its event changes nothing
-finished_at : (files : Files) (k : ℕ) (os : List (Opened (Unit {0}))) (o : Opened (Unit {0})) → slice_get os k ≡ Some o → wanted o ≡ None → opened_at files k os ≡ os
-finished_at files k [] o there none = refl
-finished_at files zero (p ∷ os) o there none =
+finished_at : (choose : Choice) (files : Files) (k : ℕ) (os : List (Opened (Unit {0}))) (o : Opened (Unit {0})) → slice_get os k ≡ Some o → wanted o ≡ None → opened_at choose files k os ≡ os
+finished_at choose files k [] o there none = refl
+finished_at choose files zero (p ∷ os) o there none =
     let same : p ≡ o = cc in
-    ap (λ q. q ∷ os) (ap (opened_by files p) (ap wanted same ∙ none))
-finished_at files (suc k) (p ∷ os) o there none = ap (λ qs. p ∷ qs) (finished_at files k os o there none)
+    ap (λ q. q ∷ os) (ap (opened_by choose files p) (ap wanted same ∙ none))
+finished_at choose files (suc k) (p ∷ os) o there none = ap (λ qs. p ∷ qs) (finished_at choose files k os o there none)
 
 mapped_at : {F : Type 0} (k : ℕ) (os : List (Opened F)) (o : Opened F) → slice_get os k ≡ Some o → slice_get (map plain os) k ≡ Some (plain o)
 mapped_at k [] o there = let no : ⊥ = cc in absurd no
 mapped_at zero (p ∷ os) o there = let same : p ≡ o = cc in ap (λ q. Some (plain q)) same
 mapped_at (suc k) (p ∷ os) o there = mapped_at k os o there
 
-pub opens_none : {F : Type 0} (loader : ℕ) (old : List (Opened F)) (files : Files) (o : Opened F) → slice_get old loader ≡ Some o → wanted o ≡ None → map plain old ≡ opened_at files loader (map plain old)
-opens_none loader old files o there none = sym (finished_at files loader (map plain old) (plain o) (mapped_at loader old o there) none)
+pub opens_none : {F : Type 0} (choose : Choice) (loader : ℕ) (old : List (Opened F)) (files : Files) (o : Opened F) → slice_get old loader ≡ Some o → wanted o ≡ None → map plain old ≡ opened_at choose files loader (map plain old)
+opens_none choose loader old files o there none = sym (finished_at choose files loader (map plain old) (plain o) (mapped_at loader old o there) none)
 
--- ---- the policy stays
+-- ---- the policies stay
 
-policy_opened : {F : Type 0} (policy : F) (old new : Opened F) (held : Files) → old.load.policy ≡ policy → Opens (Ok tt) old new (quiet held) → new.load.policy ≡ policy
-policy_opened policy old new held has opens = by (wanted old) opens
+policy_opened : {F : Type 0} (post : F → Answering) (old new : Opened F) (held : Files) → Opens post (Ok tt) old new (quiet held) → new.load.policy ≡ old.load.policy
+policy_opened post old new held opens = by (wanted old) opens
   where
-    after_file : (s : Seen) (r : Result Loading LoadFault) → (led_to old s r).load.policy ≡ policy
-    after_file s (Ok walk) = has
-    after_file s (Err fault) = has
+    after_file : (s : Seen) (r : Result Loading LoadFault) → (led_to old s r).load.policy ≡ old.load.policy
+    after_file s (Ok walk) = refl
+    after_file s (Err fault) = refl
 
-    by : (n : Option (List ℕ)) → OpensBy n old new (quiet held) → new.load.policy ≡ policy
-    by None same_loader = ap (λ (o : Opened _). o.load.policy) same_loader ∙ has
-    by (Some name) opened = ap (λ (o : Opened _). o.load.policy) opened.2 ∙ after_file (seen_of name opened.0) (walk.taken old.load.walk name opened.0)
+    by : (n : Option (List ℕ)) → OpensBy post n old new (quiet held) → new.load.policy ≡ old.load.policy
+    by None same_loader = ap (λ (o : Opened _). o.load.policy) same_loader
+    by (Some name) opened = ap (λ (o : Opened _). o.load.policy) opened.2.now ∙ after_file (seen_of name opened.0) opened.2.came
 
-pub policy_at : {F : Type 0} (policy : F) (k : ℕ) (old new : List (Opened F)) (held : Files) → OpensAt (Ok tt) k old new (quiet held) → HavePolicy policy old → HavePolicy policy new
-policy_at policy k old new held it has = by k old new it.was it.now it.others it.count has
+pub policies_at : {F : Type 0} {post : F → Answering} (k : ℕ) (old new : List (Opened F)) (held : Files) → OpensAt post (Ok tt) k old new (quiet held) → policies new ≡ policies old
+policies_at {post = post} k old new held it = by k old new it.was it.now it.others it.count
   where
-    by : (k : ℕ) (old new : List (Opened _)) → slice_get old k ≡ Some it.before → slice_get new k ≡ Some it.after → ((other : ℕ) → other ≢ k → slice_get new other ≡ slice_get old other) → length new ≡ length old → HavePolicy policy old → HavePolicy policy new
-    by zero (o ∷ os) (p ∷ ps) was now others count has =
+    by : (k : ℕ) (old new : List (Opened _)) → slice_get old k ≡ Some it.before → slice_get new k ≡ Some it.after → ((other : ℕ) → other ≢ k → slice_get new other ≡ slice_get old other) → length new ≡ length old → policies new ≡ policies old
+    by zero (o ∷ os) (p ∷ ps) was now others count =
         let first : o ≡ it.before = cc in
         let second : p ≡ it.after = cc in
         let rest : ps ≡ os = same_list ps os (omega (arith, count)) (λ i. others (suc i) (λ e. omega (arith, e))) in
-        (ap (λ (q : Opened _). q.load.policy) second ∙ policy_opened policy it.before it.after held (ap (λ (q : Opened _). q.load.policy) (sym first) ∙ has.0) it.opens, subst (HavePolicy policy) (sym rest) has.1)
-    by (suc k) (o ∷ os) (p ∷ ps) was now others count has =
+        ap (λ qs. p.load.policy ∷ policies qs) rest
+        ∙ ap (λ q. q ∷ policies os) (ap (λ (q : Opened _). q.load.policy) second ∙ policy_opened post it.before it.after held it.opens ∙ ap (λ (q : Opened _). q.load.policy) (sym first))
+    by (suc k) (o ∷ os) (p ∷ ps) was now others count =
         let first : p ≡ o = let e = others zero (λ e. omega (arith, e)) in cc in
-        (ap (λ (q : Opened _). q.load.policy) first ∙ has.0, by k os ps was now (λ other differs. others (suc other) (λ e. differs (omega (arith, e)))) (omega (arith, count)) has.1)
-    by k [] new was now others count has = let no : ⊥ = cc in absurd no
-    by k (o ∷ os) [] was now others count has = let no : ⊥ = cc in absurd no
-
-pub policy_new : {F : Type 0} (policy : F) (names : List (List ℕ)) → HavePolicy policy (map (opened policy) names)
-policy_new policy [] = tt
-policy_new policy (name ∷ names) = (refl, policy_new policy names)
+        ap (λ (q : Opened _). q.load.policy ∷ policies ps) first ∙ ap (λ qs. o.load.policy ∷ qs) (by k os ps was now (λ other differs. others (suc other) (λ e. differs (omega (arith, e)))) (omega (arith, count)))
+    by k [] new was now others count = let no : ⊥ = cc in absurd no
+    by k (o ∷ os) [] was now others count = let no : ⊥ = cc in absurd no
 
 -- new loaders, whatever policy they go by
 pub plain_new : {F : Type 0} (policy : F) (names : List (List ℕ)) → map plain (map (opened policy) names) ≡ map (opened tt) names
@@ -199,9 +201,9 @@ stands_held m r held same stands = record {
 
 -- ---- all events
 
-pub fold_more : (w : Weaving) (before : List Event) (event : Event) → fold after w (before ++ event ∷ []) ≡ after (fold after w before) event
-fold_more w [] event = refl
-fold_more w (first ∷ before) event = fold_more (after w first) before event
+pub fold_more : (choose : Choice) (w : Weaving) (before : List Event) (event : Event) → fold (after choose) w (before ++ event ∷ []) ≡ after choose (fold (after choose) w before) event
+fold_more choose w [] event = refl
+fold_more choose w (first ∷ before) event = fold_more choose (after choose w first) before event
 
 -- ---- one event of a list
 
@@ -216,30 +218,25 @@ take_more (first ∷ events) zero d lt = refl
 take_more (first ∷ events) (suc i) d lt = ap (λ (es : List Event). first ∷ es) (take_more events i d (omega (arith, lt)))
 
 -- the weave after one event more
-pub woven_more : (w : Weaving) (events : List Event) (i : ℕ) (d : Event) → i < length events → fold after w (take (i + 1) events) ≡ after (fold after w (take i events)) (get_or events i d)
-woven_more w events i d lt =
+pub woven_more : (choose : Choice) (w : Weaving) (events : List Event) (i : ℕ) (d : Event) → i < length events → fold (after choose) w (take (i + 1) events) ≡ after choose (fold (after choose) w (take i events)) (get_or events i d)
+woven_more choose w events i d lt =
     let next : i + 1 ≡ suc i = omega arith in
-    ap (λ (k : ℕ). fold after w (take k events)) next ∙ ap (fold after w) (take_more events i d lt) ∙ fold_more w (take i events) (get_or events i d)
+    ap (λ (k : ℕ). fold (after choose) w (take k events)) next ∙ ap (fold (after choose) w) (take_more events i d lt) ∙ fold_more choose w (take i events) (get_or events i d)
 
-at_length : (files : Files) (k : ℕ) (os : List (Opened (Unit {0}))) → length (opened_at files k os) ≡ length os
-at_length files k [] = refl
-at_length files zero (o ∷ os) = refl
-at_length files (suc k) (o ∷ os) = ap suc (at_length files k os)
+at_length : (choose : Choice) (files : Files) (k : ℕ) (os : List (Opened (Unit {0}))) → length (opened_at choose files k os) ≡ length os
+at_length choose files k [] = refl
+at_length choose files zero (o ∷ os) = refl
+at_length choose files (suc k) (o ∷ os) = ap suc (at_length choose files k os)
 
 -- there are as many loaders after events
-pub after_length : (w : Weaving) (events : List Event) → length (fold after w events).loaders ≡ length w.loaders
-after_length w [] = refl
-after_length w (Open loader ∷ events) = after_length (after w (Open loader)) events ∙ at_length w.runs.files loader w.loaders
-after_length w (Rename ∷ events) = after_length (after w Rename) events
+pub after_length : (choose : Choice) (w : Weaving) (events : List Event) → length (fold (after choose) w events).loaders ≡ length w.loaders
+after_length choose w [] = refl
+after_length choose w (Open loader ∷ events) = after_length choose (after choose w (Open loader)) events ∙ at_length choose w.runs.files loader w.loaders
+after_length choose w (Rename ∷ events) = after_length choose (after choose w Rename) events
 
 abbrev Small : List (List ℕ × List ℕ) → Type 0
 Small [] = Unit {0}
 Small (e ∷ es) = (length e.1 ≤ STORED) × Small es
-
--- there are as many loaders of this kind as of the plain one
-pub same_length : {F : Type 0} (loaders : List (Opened F)) (start : Weaving) (names : List (List ℕ)) (events : List Event) → map plain loaders ≡ (fold after start events).loaders → start.loaders ≡ map (opened tt) names → length loaders ≡ length names
-same_length loaders start names events are begin =
-    sym (length-map loaders plain) ∙ ap (λ (os : List (Opened (Unit {0}))). length os) are ∙ after_length start events ∙ ap (λ (os : List (Opened (Unit {0}))). length os) begin ∙ length-map names (opened tt)
 
 -- files in memory, each as long as a folder gives
 pub stored_files : (files : List (String Global × Vec ℕ Global)) → All (λ file. length file.1.items ≤ STORED) files → AreStored (files_of files)

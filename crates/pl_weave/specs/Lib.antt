@@ -1,4 +1,5 @@
 pub mod Taking
+pub mod Given
 pub mod Opening
 pub mod Runs
 pub mod Running

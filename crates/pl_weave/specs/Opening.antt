@@ -7,8 +7,9 @@ use Rattle.pl_loader.specs.Started.{Start, started}
 use Rattle.pl_loader.specs.Walk.{IsFile, begun, taken}
 use Rattle.pl_loader.specs.declared.fault.LoadFault.{LoadFault}
 use Rattle.pl_loader.specs.declared.object_file.ObjectFile.{ObjectFile}
-use Rattle.pl_place.specs.Policy.{Choice}
+use Rattle.pl_place.specs.Policy.{Answering, Choice, Follows}
 use Rattle.pl_scope.specs.Walking.{wants}
+use Rattle.pl_weave.specs.Given.{given}
 use Rattle.pl_weave.specs.Taking.{Untaken, asks_for, held_file}
 use Rattle.pl_weave.specs.declared.fault.WeaveFault.{WeaveFault}
 use Rattle.pl_weave.specs.declared.seen.Seen.{Seen}
@@ -44,18 +45,28 @@ led_to o s (Err fault) = record { load = o.load; seen = o.seen ++ s ∷ []; faul
 abbrev pub without_last : {F : Type 0} → Opened F → Opened F
 without_last o = record o { seen = take (length o.seen - 1) o.seen }
 
--- it saw this file of the name that it wanted, or that there is none
-abbrev pub with_file : {F : Type 0} → Opened F → List ℕ → Option (List ℕ) → Opened F
-with_file o name file = led_to o (seen_of name file) (taken o.load.walk name file)
+-- the wanted name is given what is loaded of its file, if there is one
+abbrev pub taken_as : Choice → Loading → List ℕ → Option (List ℕ) → Result Loading LoadFault
+taken_as choose walk name file = given choose walk.name name file >>= taken walk name
 
-abbrev pub OpensBy : {F : Type 0} → Option (List ℕ) → Opened F → Opened F → folder.Seen → Type 0
-OpensBy None old new held = new ≡ old
-OpensBy (Some name) old new held = (file : Option (List ℕ)) × (held.tells ≡ true → file ≡ held_file held.files name) × (new ≡ with_file old name file)
+-- it saw this file of the name that it wanted, or that there is none
+abbrev pub with_file : {F : Type 0} → Choice → Opened F → List ℕ → Option (List ℕ) → Opened F
+with_file choose o name file = led_to o (seen_of name file) (taken_as choose o.load.walk name file)
+
+-- the same, whatever its policy is: where that is a function, the file is given as that says
+pub record Sees {F : Type 0} (post : F → Answering) (name : List ℕ) (file : Option (List ℕ)) (old new : Opened F) : Type 0 where
+  pub came : Result Loading LoadFault
+  pub exact : (choose : Choice) → Follows (post old.load.policy) choose → taken_as choose old.load.walk name file ≡ came
+  pub now : new ≡ led_to old (seen_of name file) came
+
+abbrev pub OpensBy : {F : Type 0} → (F → Answering) → Option (List ℕ) → Opened F → Opened F → folder.Seen → Type 0
+OpensBy post None old new held = new ≡ old
+OpensBy post (Some name) old new held = (file : Option (List ℕ)) × (held.tells ≡ true → file ≡ held_file held.files name) × Sees post name file old new
 
 -- the one file that it wants is the one that the folder has at this moment, or there is none; where it has finished nothing changes
-abbrev pub Opens : {F : Type 0} → Result (Unit {0}) WeaveFault → Opened F → Opened F → folder.Seen → Type 0
-Opens (Ok _) old new held = OpensBy (wanted old) old new held
-Opens (Err fault) old new held = (name : List ℕ) → wanted old ≡ Some name → Untaken name fault held
+abbrev pub Opens : {F : Type 0} → (F → Answering) → Result (Unit {0}) WeaveFault → Opened F → Opened F → folder.Seen → Type 0
+Opens post (Ok _) old new held = OpensBy post (wanted old) old new held
+Opens post (Err fault) old new held = (name : List ℕ) → wanted old ≡ Some name → Untaken name fault held
 
 abbrev pub asks_by : Option (List ℕ) → ℕ
 asks_by None = 0
@@ -67,22 +78,22 @@ asks o = asks_by (wanted o)
 
 -- ---- all events
 
--- The files that a loader saw, each of the name that it wanted, lead it to this: to the walk so far, or to why it was refused.
+-- The files that a loader saw, each of the name that it wanted, lead it to this: to the walk so far, or to why it was refused. Its policy is a function.
 abbrev pub LeadsOn : (Loading → Type 0) → Result Loading LoadFault → List Seen → Result Loading LoadFault → Type 0
 LeadsOn further (Ok walk) seen came = further walk
 LeadsOn further (Err fault) seen came = (seen ≡ []) × (came ≡ Err fault)
 
-abbrev pub Leads : Loading → List Seen → Result Loading LoadFault → Type 0
-Leads walk [] came = came ≡ Ok walk
-Leads walk (s ∷ seen) came = (wants walk.order ≡ Some s.name) × LeadsOn (λ next. Leads next seen came) (taken walk s.name s.file) seen came
+abbrev pub Leads : Choice → Loading → List Seen → Result Loading LoadFault → Type 0
+Leads choose walk [] came = came ≡ Ok walk
+Leads choose walk (s ∷ seen) came = (wants walk.order ≡ Some s.name) × LeadsOn (λ next. Leads choose next seen came) (taken_as choose walk s.name s.file) seen came
 
 abbrev pub came_to : Option LoadFault → Loading → Result Loading LoadFault
 came_to None walk = Ok walk
 came_to (Some fault) walk = Err fault
 
 -- a loader of a name is where the files that it saw lead it
-abbrev pub IsLed : {F : Type 0} → List ℕ → Opened F → Type 0
-IsLed name o = Leads (begun name) o.seen (came_to o.fault o.load.walk)
+abbrev pub IsLed : {F : Type 0} → Choice → List ℕ → Opened F → Type 0
+IsLed choose name o = Leads choose (begun name) o.seen (came_to o.fault o.load.walk)
 
 -- ---- the end
 
@@ -117,11 +128,11 @@ abbrev pub asks_at : {F : Type 0} → List (Opened F) → ℕ → ℕ
 asks_at w loader = asks_by (wanted_at w loader)
 
 -- the loader of a number opens its file, and all others stay as they are
-pub record OpensAt {F : Type 0} (result : Result (Unit {0}) WeaveFault) (loader : ℕ) (old new : List (Opened F)) (held : folder.Seen) : Type 0 where
+pub record OpensAt {F : Type 0} (post : F → Answering) (result : Result (Unit {0}) WeaveFault) (loader : ℕ) (old new : List (Opened F)) (held : folder.Seen) : Type 0 where
   pub before : Opened F
   pub after : Opened F
   pub was : slice_get old loader ≡ Some before
   pub now : slice_get new loader ≡ Some after
-  pub opens : Opens result before after held
+  pub opens : Opens post result before after held
   pub others : (other : ℕ) → other ≢ loader → slice_get new other ≡ slice_get old other
   pub count : length new ≡ length old

@@ -1,5 +1,6 @@
 -- A folder in memory in which runs go on, and the runs that it stands for.
-use Rattle.std.specs.Prelude.{◌≡◌, ℕ, ◌≤◌, ◌<◌, ltb, true, false, List, [], ◌∷◌, ◌++◌, drop, length, map, Some, Result, Ok, Err}
+use Rattle.std.specs.Prelude.{◌≡◌, ℕ, ◌≤◌, ◌<◌, ltb, true, false, List, [], ◌∷◌, ◌++◌, drop, length, map, Option, Some, Result, Ok, Err}
+use Rattle.std.specs.Borrow.{Bor}
 use Rattle.std.specs.FinMap.{get}
 use Rattle.std.specs.List.{list_any}
 use Rattle.pl_base.specs.Files.{Files}
@@ -7,6 +8,7 @@ use Rattle.pl_base.specs.Names.{is_valid_name}
 use Rattle.pl_batch.specs.Changes.{IsRun}
 use Rattle.pl_batch.specs.declared.cause.Cause.{Cause}
 use Rattle.pl_batch.specs.declared.run.Run.{Run}
+use Rattle.pl_elf.specs.declared.range.Range.{Range}
 use Rattle.pl_folder.specs.InMemory.{quiet_files}
 use Rattle.pl_folder.specs.declared.TheConstants.{STORED}
 use Rattle.pl_folder.specs.declared.quiet_folder.QuietFolder.{QuietFolder}
@@ -15,6 +17,7 @@ use Rattle.pl_journal.specs.Parts.{IsReady, committed}
 use Rattle.pl_journal.specs.Rows.{done_from}
 use Rattle.pl_journal.specs.declared.change.Change.{Change}
 use Rattle.pl_journal.specs.declared.step.Step.{Step}
+use Rattle.pl_place.specs.Policy.{Answering, Choice, Chooses, Follows, MayChoose}
 use Rattle.pl_stage.specs.declared.held.Held.{Held}
 use Rattle.pl_weave.specs.Opening.{Opened}
 use Rattle.pl_weave.specs.Runs.{Runs, is_large, progress}
@@ -99,17 +102,28 @@ Begins (Ok (row ∷ rows)) files old new = Works (row ∷ rows) files new × (ne
 abbrev pub plain : {F : Type 0} → Opened F → Opened (Unit {0})
 plain o = record { load = record { walk = o.load.walk; busy = o.load.busy; policy = tt }; seen = o.seen; fault = o.fault }
 
+-- the policies of loaders, in their order
+abbrev pub policies : {F : Type 0} → List (Opened F) → List F
+policies loaders = map (λ o. o.load.policy) loaders
+
 -- each loader goes by this policy
 abbrev pub HavePolicy : {F : Type 0} → F → List (Opened F) → Type 0
 HavePolicy policy [] = Unit {0}
 HavePolicy policy (o ∷ os) = (o.load.policy ≡ policy) × HavePolicy policy os
 
--- loaders and a folder are those of a weave
-pub record IsWeaving {F : Type 0} (loaders : List (Opened F)) (m : Running) (w : Weaving) : Type 0 where
-  pub loaders_are : map plain loaders ≡ w.loaders
-  pub runs_are : Stands m w.runs
+-- all of them go by a policy that may be asked for each place, and answers as it may
+pub record AreChosen {F : Type 0} (pre : F → Bor (List Range) → ℕ → ℕ → Type 0) (post : F → Bor (List Range) → ℕ → ℕ → Option ℕ → Type 0) (loaders : List (Opened F)) : Type 0 where
+  pub policy : F
+  pub may : MayChoose (pre policy)
+  pub chooses : Chooses (post policy)
+  pub are : HavePolicy policy loaders
+
+-- loaders and a folder are those of a weave: the loaders where their policy is a function, the folder whatever it is
+pub record IsWeaving {F : Type 0} (post : Answering) (loaders : List (Opened F)) (m : Running) (w : Choice → Weaving) : Type 0 where
+  pub loaders_are : (choose : Choice) → Follows post choose → map plain loaders ≡ (w choose).loaders
+  pub runs_are : (choose : Choice) → Stands m (w choose).runs
 
 -- what a weave came to
-pub record IsWoven {F : Type 0} (woven : Woven F) (w : Weaving) : Type 0 where
-  pub loaders_are : map plain woven.weave ≡ w.loaders
-  pub progress_is : woven.runs ≡ progress w.runs
+pub record IsWoven {F : Type 0} (post : Answering) (woven : Woven F) (w : Choice → Weaving) : Type 0 where
+  pub loaders_are : (choose : Choice) → Follows post choose → map plain woven.weave ≡ (w choose).loaders
+  pub progress_is : (choose : Choice) → woven.runs ≡ progress (w choose).runs

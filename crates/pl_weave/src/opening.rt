@@ -7,10 +7,12 @@ ghost use Rattle.pl_folder.specs.Effects.{Asks};
 ghost use Rattle.pl_loader.specs.Faults.{is_memory};
 ghost use Rattle.pl_loader.specs.Started as start;
 ghost use Rattle.pl_place.specs.Policy as policy;
+ghost use Rattle.pl_weave.specs.Given.{MayPlace};
 ghost use Rattle.pl_weave.specs.Opening as spec;
 ghost use Rattle.pl_weave.specs.Taking.{ending};
 
 use crate::copying::{copy_fault, copy_file};
+use crate::given::given;
 use crate::taking::take;
 use crate::{Seen, WeaveFault};
 use pl_base::Text;
@@ -24,27 +26,32 @@ use std::marker::Model;
 /// A load that opens one file at a time, in the order of its walk, and keeps what it saw. Contracts see it as the load, the files that it saw, and why it was refused, if it was.
 #[derive(Drop)]
 pub struct Opening<'p, F> {
+    name: Text,
     loader: Loader<'p, F>,
     seen: Vec<Seen>,
     fault: Option<LoadFault>,
 }
 
 impl<'p, F> Model for Opening<'p, F> {
+    ghost use Rattle.std.specs.Prelude.{◌≡◌};
     ghost use Rattle.pl_weave.specs.Opening.{Opened};
 
     ghost Value = { Opened F };
 
     ghost view = { λ o. record { load = o.loader; seen = o.seen.items; fault = o.fault } };
+
+    ghost invariant = { λ o. o.name ≡ o.loader.walk.name };
 }
 
 impl<'p, F> Opening<'p, F> {
     /// The load of a name that saw no file yet. The placer says where libraries go that are not at their slots. It fails only for want of memory.
     pub fn new(alloc: Global, name: &str, placer: &'p Placer<F>) -> Result<Opening<'p, F>, NoMemory>
         ensures opened { IfOk result (λ o. o ≡ spec.opened placer.entry.now name.now) }
-        ensures led { IfOk result (spec.IsLed name.now) }
+        ensures led { IfOk result (λ o. (choose : policy.Choice) → spec.IsLed choose name.now o) }
     {
         let loader = Loader::new(alloc, name, None, placer)?;
         Ok(Opening {
+            name: Text::copy_of(alloc, name)?,
             loader,
             seen: Vec::new(alloc),
             fault: None,
@@ -82,29 +89,38 @@ impl<'p, F> Opening<'p, F> {
         self.fault = Some(fault);
         Ok(())
     }
+}
 
+impl<'p, F: Fn(&Holes, u64, u64) -> Option<u64>> Opening<'p, F> {
     /// It sees a file of the name that it wants, fewer than 2^32 bytes, or that there is none.
     fn see(&mut self, alloc: Global, name: Text, file: Option<Vec<u8>>) -> Result<(), WeaveFault>
+        requires policy { MayPlace F.pre F.post self.old.load.policy }
         requires wanted { spec.wanted self.old ≡ Some name }
         requires size { ForSome file (λ bytes. length bytes.items < 2 ^ 32) }
-        ensures ok { OnOk result
-            (self.new ≡ spec.with_file self.old name (option_map (λ bytes. bytes.items) file)) }
+        ensures ok { OnOk result (spec.Sees F.post name
+            (option_map (λ bytes. bytes.items) file) self.old self.new) }
         ensures unchanged { OnErr result (self.new ≡ self.old) }
         ensures lacks { IfErr result (λ fault. fault ≡ WeaveFault.NoMemory) }
     {
         let copy = copy_file(alloc, &file)?;
+        let placer = self.loader.placer();
+        let given = given(alloc, placer, self.name.as_str(), name.as_str(), file);
         self.seen.push(Seen { name, file: copy })?;
-        match self.loader.give(alloc, file) {
-            Ok(()) => Ok(()),
+        match given {
+            Ok(file) => match self.loader.give(alloc, file) {
+                Ok(()) => Ok(()),
+                Err(fault) => self.refuse(fault),
+            },
             Err(fault) => self.refuse(fault),
         }
     }
 
-    /// Opens the one file that it wants, as the folder holds it at this moment: with one call of the folder, or none where the name is not valid. Where it has finished nothing is done.
+    /// Opens the one file that it wants, as the folder holds it at this moment: with one call of the folder, or none where the name is not valid. Where it has finished nothing is done. What it saw is that file; of a position-independent program's own file it loads the program that this becomes where the policy places it.
     ///
     /// `Failed` comes only where the folder failed, `TooLarge` where the file is longer than a folder gives. After a fault the load is unchanged.
     pub fn open<T: Takes>(&mut self, alloc: Global, held: &mut T) -> Result<(), WeaveFault>
-        ensures opens { spec.Opens result self.old self.new (T.seen held.old) }
+        requires { MayPlace F.pre F.post self.old.load.policy }
+        ensures opens { spec.Opens F.post result self.old self.new (T.seen held.old) }
         ensures calls { Calls (ending result) (Asks (spec.asks self.old))
             (T.seen held.old) (T.seen held.new) }
         ensures place { T.place held.new ≡ T.place held.old }
@@ -118,9 +134,7 @@ impl<'p, F> Opening<'p, F> {
         let file = take(alloc, held, name.as_str())?;
         self.see(alloc, name, file)
     }
-}
 
-impl<'p, F: Fn(&Holes, u64, u64) -> Option<u64>> Opening<'p, F> {
     /// What the files that it saw start from, or the first cause why they do not. It has finished.
     pub fn finish(&self, alloc: Global) -> Result<Started<'_>, LoadFault>
         requires may { policy.MayChoose (F.pre self.now.load.policy) }

@@ -3,13 +3,14 @@ ghost use Rattle.std.specs.Prelude.{◌≡◌, ◌<◌, IfOk, OnErr, Some, lengt
 ghost use Rattle.pl_folder.specs.Calls.{Calls};
 ghost use Rattle.pl_folder.specs.Effects.{Asks};
 ghost use Rattle.pl_weave.specs.Opening as spec;
+ghost use Rattle.pl_weave.specs.Running.{AreChosen};
 ghost use Rattle.pl_weave.specs.Taking.{ending};
 
 use crate::{Opening, WeaveFault};
 use pl_base::Text;
 use pl_io::NoMemory;
 use pl_journal::Takes;
-use pl_place::Placer;
+use pl_place::{Holes, Placer};
 use std::alloc::Global;
 use std::marker::Model;
 
@@ -51,7 +52,9 @@ impl<'p, F> Weave<'p, F> {
     {
         &self.loaders[loader as usize]
     }
+}
 
+impl<'p, F: Fn(&Holes, u64, u64) -> Option<u64>> Weave<'p, F> {
     /// A loader opens the one file that it wants, as the folder holds it at this moment, or does nothing where it has finished. All other loaders stay as they are.
     ///
     /// `Failed` comes only where the folder failed, `TooLarge` where the file is longer than a folder gives. After a fault the weave is unchanged.
@@ -61,8 +64,9 @@ impl<'p, F> Weave<'p, F> {
         loader: u32,
         held: &mut T,
     ) -> Result<(), WeaveFault>
-        requires { loader < length self.old }
-        ensures opens { spec.OpensAt result loader self.old self.new (T.seen held.old) }
+        requires below { loader < length self.old }
+        requires chosen { AreChosen F.pre F.post self.old }
+        ensures opens { spec.OpensAt F.post result loader self.old self.new (T.seen held.old) }
         ensures calls { Calls (ending result) (Asks (spec.asks_at self.old loader))
             (T.seen held.old) (T.seen held.new) }
         ensures place { T.place held.new ≡ T.place held.old }

@@ -1,12 +1,13 @@
 //! A weave: loaders that open one file an event, and runs that do one row an event.
-ghost use Rattle.std.specs.Prelude.{◌≡◌, ◌<◌, ◌≤◌, All, true, length, map, IfOk, OnOk};
+ghost use Rattle.std.specs.Prelude.{◌≡◌, ◌<◌, true, length, map, IfOk, OnOk};
 ghost use Rattle.std.specs.FinMap.{get};
 ghost use Rattle.std.specs.List.{list_all};
 ghost use Rattle.pl_base.specs.Files.{Files, files_of};
-ghost use Rattle.pl_folder.specs.FileLists.{are_files};
-ghost use Rattle.pl_folder.specs.declared.TheConstants.{STORED};
-ghost use Rattle.pl_journal.specs.Meaning.{Agree, HasNoOwn};
+ghost use Rattle.pl_batch.specs.Copied.{IsCopy};
+ghost use Rattle.pl_journal.specs.Meaning.{Agree};
+ghost use Rattle.pl_place.specs.Policy as policy;
 ghost use Rattle.pl_script.specs.Script.{is_of};
+ghost use Rattle.pl_weave.specs.Given.{MayPlace};
 ghost use Rattle.pl_weave.specs.Running as spec;
 ghost use Rattle.pl_weave.specs.Running.{files_in};
 ghost use Rattle.pl_weave.specs.Weaving as weaving;
@@ -17,7 +18,7 @@ use pl_base::{Rows, Text};
 use pl_batch::Run;
 use pl_folder::QuietFolder;
 use pl_io::NoMemory;
-use pl_place::Placer;
+use pl_place::{Holes, Placer};
 use pl_script::Event;
 use pl_stage::Held;
 use std::alloc::Global;
@@ -31,19 +32,21 @@ pub struct Woven<'p, F> {
 
 /// A loader opens the one file that it wants, as the folder holds it at this moment. No file is longer than a folder gives.
 #[tactic(auto, using(crate::proofs::QuietLemmas::never_broken, crate::proofs::WeavingLemmas::never_large))]
-fn open<F>(
+fn open<F: Fn(&Holes, u64, u64) -> Option<u64>>(
     alloc: Global,
     weave: &mut Weave<'_, F>,
     held: &mut Held<QuietFolder>,
     loader: u32,
 ) -> Result<(), NoMemory>
     requires below { loader < length weave.old }
+    requires chosen { spec.AreChosen F.pre F.post weave.old }
     requires stored { spec.AreStored (files_in held.old) }
-    ensures opens { OnOk result ((files : Files) → Agree (get (files_in held.old)) (get files) →
-        map spec.plain weave.new ≡ weaving.opened_at files loader (map spec.plain weave.old)) }
+    ensures opens { OnOk result ((files : Files) (p : F) (choose : policy.Choice) →
+        Agree (get (files_in held.old)) (get files) → spec.HavePolicy p weave.old →
+        policy.Follows (F.post p) choose →
+        map spec.plain weave.new ≡ weaving.opened_at choose files loader (map spec.plain weave.old)) }
     ensures same { OnOk result (files_in held.new ≡ files_in held.old) }
-    ensures policy { OnOk result ((policy : F) → spec.HavePolicy policy weave.old →
-        spec.HavePolicy policy weave.new) }
+    ensures policies { OnOk result (spec.policies weave.new ≡ spec.policies weave.old) }
 {
     if weave.loader(loader).wants().is_none() {
         return Ok(());
@@ -57,18 +60,20 @@ fn open<F>(
 }
 
 /// One event: a loader opens a file, or the run under way does its next row.
-fn step<F>(
+fn step<F: Fn(&Holes, u64, u64) -> Option<u64>>(
     alloc: Global,
     weave: &mut Weave<'_, F>,
     running: &mut Running<'_>,
     event: Event,
 ) -> Result<(), NoMemory>
     requires of { is_of (length weave.old) event ≡ true }
+    requires chosen { spec.AreChosen F.pre F.post weave.old }
     requires goes { spec.GoesOn running.old }
-    ensures goes { OnOk result ((w : weaving.Weaving) → spec.IsWeaving weave.old running.old w →
-        spec.IsWeaving weave.new running.new (weaving.after w event)) }
-    ensures policy { OnOk result ((policy : F) → spec.HavePolicy policy weave.old →
-        spec.HavePolicy policy weave.new) }
+    ensures woven { OnOk result ((w : policy.Choice → weaving.Weaving) (p : F) →
+        spec.HavePolicy p weave.old → spec.IsWeaving (F.post p) weave.old running.old w →
+        spec.IsWeaving (F.post p) weave.new running.new
+        (λ choose. weaving.after choose (w choose) event)) }
+    ensures policies { OnOk result (spec.policies weave.new ≡ spec.policies weave.old) }
 {
     match event {
         Event::Open { loader } => open(alloc, weave, &mut running.held, loader)?,
@@ -79,8 +84,8 @@ fn step<F>(
 
 /// The weave of files, of loaders of these names and of these runs, after these events: each loader with the files that it saw, and how far each run came.
 ///
-/// Each name has 1 to 255 bytes and one file, at most `pl_folder::STORED` bytes where the name is valid, and none is of the journal's own. Bytes that are installed are at most so many. Each event that opens a file is of one of the loaders. It fails only for want of memory.
-pub fn interleave<'p, F>(
+/// The files are those of a copy of a folder. Each name has 1 to 255 bytes and one file, at most `pl_folder::STORED` bytes where the name is valid, and none is of the journal's own. Bytes that are installed are at most so many. Each event that opens a file is of one of the loaders. It fails only for want of memory.
+pub fn interleave<'p, F: Fn(&Holes, u64, u64) -> Option<u64>>(
     alloc: Global,
     files: &[(String, Vec<u8>)],
     names: &[Text],
@@ -88,14 +93,15 @@ pub fn interleave<'p, F>(
     events: &[Event],
     placer: &'p Placer<F>,
 ) -> Result<Woven<'p, F>, NoMemory>
-    requires files { are_files files.now ≡ true }
-    requires no_own { HasNoOwn (get (files_of files.now)) }
-    requires stored { All (λ file. length file.1.items ≤ STORED) files.now }
+    requires copy { IsCopy files.now }
     requires runs { spec.AreRuns runs.now }
     requires events { list_all (is_of (length names.now)) events.now ≡ true }
-    ensures woven { IfOk result (λ w. spec.IsWoven w
-        (weaving.woven (files_of files.now) names.now runs.now events.now)) }
-    ensures policy { IfOk result (λ w. spec.HavePolicy placer.entry.now w.weave) }
+    requires policy { MayPlace F.pre F.post placer.now }
+    // Where the policy follows a function, it is the weave by that function.
+    ensures woven { IfOk result (λ w. spec.IsWoven (F.post placer.entry.now) w
+        (λ choose. weaving.woven choose (files_of files.now) names.now runs.now events.now)) }
+    ensures policies { IfOk result (λ w.
+        spec.policies w.weave ≡ map (λ name. placer.entry.now) names.now) }
 {
     let folder = QuietFolder::new(alloc, files)?;
     let mut weave = Weave::new(alloc, names, placer)?;

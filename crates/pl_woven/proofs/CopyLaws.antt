@@ -1,12 +1,16 @@
 -- The copy of a folder in which a weave goes on.
-use Rattle.std.proofs.Common.{◌≡◌, ◌∙◌, ℕ, List, Bool, true, false, cond, Option, None, refl, sym, ap, subst}
+use Rattle.std.proofs.Common.{◌≡◌, ◌∙◌, ℕ, List, Bool, true, false, cond, Option, None, Ok, refl, sym, ap, subst}
 use Rattle.std.specs.Prelude.{◌||◌, if◌then◌else◌}
-use Rattle.std.specs.FinMap.{get, get-retain_keys, nat_cmp-IsAntisymmetric, slice_cmp-IsAntisymmetric}
+use Rattle.std.specs.FinMap.{get, keys, get-retain_keys, nat_cmp-IsAntisymmetric, slice_cmp-IsAntisymmetric}
 use Rattle.std.specs.Str.{bytes_eq}
+use Rattle.pl_base.specs.Answers.{◌>>=◌, unless}
 use Rattle.pl_base.specs.Files.{Files}
 use Rattle.pl_base.specs.Names.{is_valid_name}
-use Rattle.pl_batch.specs.Copied.{is_copied, kept}
-use Rattle.pl_batch.specs.Folder.{cache}
+use Rattle.pl_base.proofs.AnswerLaws.{bind_ok, ok_same, unless_ok}
+use Rattle.pl_batch.specs.Copied.{are_bulky, cache_there, copied, copied_by, is_copied, kept}
+use Rattle.pl_batch.specs.Folder.{all_files, cache, valid_names}
+use Rattle.pl_batch.specs.Names.{are_many}
+use Rattle.pl_batch.specs.declared.cause.Cause.TheVariants.{FolderTooLarge, TooManyFiles}
 use Rattle.pl_conflict.specs.Format.{Rule, format}
 use Rattle.pl_crash.specs.Sound.{named}
 use Rattle.pl_crash.specs.Steps.{cache_or_none}
@@ -16,6 +20,15 @@ use Rattle.pl_cache.specs.declared.cache.Cache.{Cache}
 use Rattle.pl_sound.specs.Plan.{IsBounded}
 use Rattle.pl_sound.specs.Rule as sound
 use Rattle.pl_woven.specs.Laws.{CopiesKeep}
+
+-- a copy is the files that are kept
+pub copied_is_kept : (files copy : Files) → copied files ≡ Ok copy → copy ≡ kept files
+unfolding copied copied_by
+copied_is_kept files copy is =
+    let few = unless_ok (are_many (keys files)) TooManyFiles (copied_by files) copy is in
+    let found = bind_ok (cache_there files) (λ found. all_files files (valid_names files) >>= λ bytes. unless (are_bulky bytes) FolderTooLarge (Ok (kept files))) copy few.1 in
+    let all = bind_ok (all_files files (valid_names files)) (λ bytes. unless (are_bulky bytes) FolderTooLarge (Ok (kept files))) copy found.2 in
+    sym (ok_same (kept files) copy (unless_ok (are_bulky all.0) FolderTooLarge (Ok (kept files)) copy all.2).1)
 
 get_kept : (files : Files) (n : List ℕ) → get (kept files) n ≡ cond (is_copied n) (get files n) None
 get_kept files n = get-retain_keys files is_copied n (λ x tie. ap is_copied (sym (slice_cmp-IsAntisymmetric nat_cmp-IsAntisymmetric n x tie)))

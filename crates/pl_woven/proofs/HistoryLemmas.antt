@@ -18,13 +18,14 @@ use Rattle.pl_journal.specs.Meaning.{rows_for}
 use Rattle.pl_journal.specs.Spelling.{differ, name_of}
 use Rattle.pl_journal.specs.declared.change.Change.{Change}
 use Rattle.pl_known.specs.Skips.{skip_causes}
+use Rattle.pl_place.specs.Policy.{Choice}
 use Rattle.pl_rewrite.specs.History.{Happened}
 use Rattle.pl_script.specs.declared.script.Event.{Event}
 use Rattle.pl_script.specs.declared.script.Event.TheVariants.{Open, Rename}
 use Rattle.pl_sound.specs.History.{Held}
 use Rattle.pl_sound.specs.Rule as sound
 use Rattle.pl_sound.proofs.Theorems.{histories}
-use Rattle.pl_weave.specs.Opening.{Opened, led_to, opened, seen_of, wanted}
+use Rattle.pl_weave.specs.Opening.{Opened, led_to, opened, seen_of, taken_as, wanted}
 use Rattle.pl_weave.specs.Runs.{Runs, begun, begun_by, renamed, renamed_by, run_rows, with_row}
 use Rattle.pl_weave.specs.declared.progress.Progress.{Progress}
 use Rattle.pl_weave.specs.declared.progress.Progress.TheVariants.{Does, Refused}
@@ -33,7 +34,6 @@ use Rattle.pl_weave.specs.Taking.{held_file}
 use Rattle.pl_weave.specs.Weaving.{Weaving, after, opened_at, opened_by, opened_once, woven}
 use Rattle.pl_weave.specs.declared.seen.Seen.{Seen}
 use Rattle.pl_loader.specs.Loading.{Loading}
-use Rattle.pl_loader.specs.Walk.{taken}
 use Rattle.pl_loader.specs.declared.fault.LoadFault.{LoadFault}
 use Rattle.pl_woven.specs.Laws.{HasHistory, SawFile, WovenHaveAHistory}
 use Rattle.pl_woven.proofs.RowLemmas.{applied_is, first_done, first_stands, made, rest_apart, rows_apart}
@@ -174,21 +174,21 @@ saw_push (first ∷ seen) s n bytes (inr later) = elim (saw_push seen s n bytes 
 abbrev AllStand : (List ℕ → List ℕ → Type 0) → Files → Type 0
 AllStand P files = (n bytes : List ℕ) → held_file files n ≡ Some bytes → P n bytes
 
-saw_once : (P : List ℕ → List ℕ → Type 0) (files : Files) → AllStand P files → (o : Opened (Unit {0})) → SawIn P o.seen → SawIn P (opened_once files o).seen
-saw_once P files stand o saw = by (wanted o)
+saw_once : (P : List ℕ → List ℕ → Type 0) (choose : Choice) (files : Files) → AllStand P files → (o : Opened (Unit {0})) → SawIn P o.seen → SawIn P (opened_once choose files o).seen
+saw_once P choose files stand o saw = by (wanted o)
   where
-    by : (wants : Option (List ℕ)) → SawIn P (opened_by files o wants).seen
+    by : (wants : Option (List ℕ)) → SawIn P (opened_by choose files o wants).seen
     by None = saw
     by (Some name) = λ n bytes it. elim (saw_push o.seen (seen_of name (held_file files name)) n bytes
-        (subst (λ (seen : List Seen). SawFile seen n bytes) (led_seen o (seen_of name (held_file files name)) (taken o.load.walk name (held_file files name))) it)) [
+        (subst (λ (seen : List Seen). SawFile seen n bytes) (led_seen o (seen_of name (held_file files name)) (taken_as choose o.load.walk name (held_file files name))) it)) [
           | inl old ↦ saw n bytes old
           | inr new ↦ subst (λ (m : List ℕ). P m bytes) new.0 (stand name bytes new.1)
         ]
 
-saw_at : (P : List ℕ → List ℕ → Type 0) (files : Files) → AllStand P files → (k : ℕ) (os : List (Opened (Unit {0}))) → AllSaw P os → AllSaw P (opened_at files k os)
-saw_at P files stand k [] saw = tt
-saw_at P files stand zero (o ∷ os) saw = (saw_once P files stand o saw.0, saw.1)
-saw_at P files stand (suc k) (o ∷ os) saw = (saw.0, saw_at P files stand k os saw.1)
+saw_at : (P : List ℕ → List ℕ → Type 0) (choose : Choice) (files : Files) → AllStand P files → (k : ℕ) (os : List (Opened (Unit {0}))) → AllSaw P os → AllSaw P (opened_at choose files k os)
+saw_at P choose files stand k [] saw = tt
+saw_at P choose files stand zero (o ∷ os) saw = (saw_once P choose files stand o saw.0, saw.1)
+saw_at P choose files stand (suc k) (o ∷ os) saw = (saw.0, saw_at P choose files stand k os saw.1)
 
 some_loader : (a b : Opened (Unit {0})) → ◌≡◌ {A = Option (Opened (Unit {0}))} (Some a) (Some b) → a ≡ b
 some_loader a b e = cc
@@ -209,14 +209,14 @@ record Going (w : Weaving) : Type 0 where
   goes : Goes w.runs begin before
   saw : AllSaw (Held (named (made w.runs.left (get w.runs.files))) goes.past) w.loaders
 
-going_after : (w : Weaving) (event : Event) → Going w → Going (after w event)
-going_after w (Open loader) going = record {
+going_after : (choose : Choice) (w : Weaving) (event : Event) → Going w → Going (after choose w event)
+going_after choose w (Open loader) going = record {
   begin = going.begin;
   before = going.before;
   goes = going.goes;
-  saw = saw_at (Held (named (made w.runs.left (get w.runs.files))) going.goes.past) w.runs.files going.goes.held loader w.loaders going.saw;
+  saw = saw_at (Held (named (made w.runs.left (get w.runs.files))) going.goes.past) choose w.runs.files going.goes.held loader w.loaders going.saw;
 }
-going_after w Rename going =
+going_after choose w Rename going =
     let now : sound.Files = named (made w.runs.left (get w.runs.files)) in
     let so_far : Goes w.runs now going.goes.past = record {
       past = going.goes.past;
@@ -235,9 +235,9 @@ going_after w Rename going =
       saw = saw_weaker (Held now going.goes.past) (Held (named (made (renamed w.runs).left (get (renamed w.runs).files))) next.past) next.keeps w.loaders going.saw;
     }
 
-going_all : (w : Weaving) (events : List Event) → Going w → Going (fold after w events)
-going_all w [] going = going
-going_all w (event ∷ events) going = going_all (after w event) events (going_after w event going)
+going_all : (choose : Choice) (w : Weaving) (events : List Event) → Going w → Going (fold (after choose) w events)
+going_all choose w [] going = going
+going_all choose w (event ∷ events) going = going_all choose (after choose w event) events (going_after choose w event going)
 
 going_begun : (files : Files) (names : List (List ℕ)) (runs : List Run) → KeepsTheRule (get files) → IsPastAll (get files) → Going (record { loaders = map (opened tt) names; runs = begun files [] runs })
 going_begun files names runs rule past =
@@ -259,5 +259,5 @@ history_of w going = record {
 }
 
 pub woven_have_a_history : WovenHaveAHistory
-woven_have_a_history files names runs events rule past =
-    history_of (woven files names runs events) (going_all (record { loaders = map (opened tt) names; runs = begun files [] runs }) events (going_begun files names runs rule past))
+woven_have_a_history choose files names runs events rule past =
+    history_of (woven choose files names runs events) (going_all choose (record { loaders = map (opened tt) names; runs = begun files [] runs }) events (going_begun files names runs rule past))

@@ -10,12 +10,14 @@ use Rattle.pl_crash.specs.Sound.{KeepsTheRule}
 use Rattle.pl_crash.specs.Steps.{IsPastAll}
 use Rattle.pl_known.specs.Skips.{skip_causes}
 use Rattle.pl_loader.specs.declared.fault.LoadFault.{LoadFault}
+use Rattle.pl_paths.specs.Answers.{loading_folder}
 use Rattle.pl_paths.specs.Paths.{GivesFrom, SameAnswer, ordinary_load}
 use Rattle.pl_place.specs.Policy.{Choice}
 use Rattle.pl_rewrite.specs.History.{Happened}
 use Rattle.pl_script.specs.declared.script.Event.{Event}
 use Rattle.pl_sound.specs.History.{Held}
 use Rattle.pl_sound.specs.Rule as sound
+use Rattle.pl_weave.specs.Given.{given_from}
 use Rattle.pl_weave.specs.Opening.{HasSeen, Opened, ended, wanted}
 use Rattle.pl_weave.specs.Weaving.{Weaving, woven}
 use Rattle.pl_weave.specs.declared.seen.Seen.{Seen}
@@ -35,18 +37,18 @@ pub record HasHistory (w : Weaving) : Type 0 where
 
 -- From files that keep the rule, and whose cache's last stamp no stamp is past, a weave has such a history, whatever its events are.
 abbrev pub WovenHaveAHistory : Type 0
-WovenHaveAHistory = (files : Files) (names : List (List ℕ)) (runs : List Run) (events : List Event) → KeepsTheRule (get files) → IsPastAll (get files) → HasHistory (woven files names runs events)
+WovenHaveAHistory = (choose : Choice) (files : Files) (names : List (List ℕ)) (runs : List Run) (events : List Event) → KeepsTheRule (get files) → IsPastAll (get files) → HasHistory (woven choose files names runs events)
 
 -- each file here is one that was seen
 abbrev pub AreSeen : sound.Files → List Seen → Type 0
 AreSeen taken seen = (n bytes : List ℕ) → taken n ≡ Some bytes → SawFile seen n bytes
 
--- So a loader of it that has finished answers as a load that links the originals of the files that it saw, at the same places; and its path is the fast one exactly where these files allow it there.
+-- So a loader of it that has finished answers as a load that links the originals of the files that it saw, at the same places, and of its own file, where that is a position-independent program, the one that it becomes; and its path is the fast one exactly where these files allow it there.
 abbrev pub WeavesAreOrdinary : Type 0 → Type 0
-WeavesAreOrdinary E = (files : Files) (names : List (List ℕ)) (runs : List Run) (events : List Event) (k : ℕ) (name : List ℕ) (o : Opened (Unit {0}))
-    → KeepsTheRule (get files) → IsPastAll (get files) → slice_get names k ≡ Some name → slice_get (woven files names runs events).loaders k ≡ Some o → wanted o ≡ None
-    → (taken : sound.Files) (choose : Choice) (fault : LoadFault → E) (file : List ℕ → Result (List ℕ) E) → AreSeen taken o.seen → GivesFrom taken file → HasSeen fault file o.seen
-    → SameAnswer (because fault (ended choose o)) (ordinary_load (is_fast skip_causes taken name) choose o.load.busy fault file name)
+WeavesAreOrdinary E = (choose : Choice) (files : Files) (names : List (List ℕ)) (runs : List Run) (events : List Event) (k : ℕ) (name : List ℕ) (o : Opened (Unit {0}))
+    → KeepsTheRule (get files) → IsPastAll (get files) → slice_get names k ≡ Some name → slice_get (woven choose files names runs events).loaders k ≡ Some o → wanted o ≡ None
+    → (taken : sound.Files) (fault : LoadFault → E) (file : List ℕ → Result (List ℕ) E) → AreSeen taken o.seen → GivesFrom taken file → HasSeen fault file o.seen
+    → SameAnswer (because fault (ended choose o)) (ordinary_load (is_fast skip_causes (loading_folder choose taken name) name) choose o.load.busy fault (given_from choose fault file name) name)
 
 -- what a weave copies of a folder keeps the rule where the folder does, and no stamp of it is past the cache's last one
 abbrev pub CopiesKeep : Type 0

@@ -3,4 +3,6 @@
 
 mod laws;
 
-pub use laws::{copies_keep, weaves_are_ordinary, woven_have_a_history};
+pub use laws::{
+    copies_keep, weaves_are_ordinary, weaves_print_ordinary_loads, woven_have_a_history,
+};

@@ -1,8 +1,10 @@
 use Rattle.std.proofs.Common.{None, refl, ap}
+use Rattle.std.proofs.lemmas.Bool.{false≢true}
 use Rattle.pl_folder.specs.InMemory.{quiet_files}
 use Rattle.pl_io.specs.Seen.{Input, Output}
 use Rattle.pl_cli.specs.TextSink.{sink_seen}
 use Rattle.pl_cli.specs.declared.status.Status.TheVariants.{Done, Refused}
+use Rattle.pl_demo.proofs.QuietLemmas.{never_broken}
 use Rattle.pl_cli.proofs.DemoLemmas.{was_loaded}
 use Rattle.pl_cli.proofs.demo.text_of.Goals as goal
 
@@ -25,3 +27,15 @@ returns-in-Refused-clause-text c =
 
 pub returns-in-Refused-clause-same : goal.returns-in-Refused-clause-same
 returns-in-Refused-clause-same c = (c.load_and_write.ensures.ran no_input).folder.files refl
+
+pub unreachable-requires : goal.unreachable-requires
+unreachable-requires c = false≢true (rw c.in-Differs.is at (c.load_and_write.ensures.ran no_input)).ends
+
+pub unreachable-in-Usage-requires : goal.unreachable-in-Usage-requires
+unreachable-in-Usage-requires c = false≢true (rw c.in-Usage.is at (c.load_and_write.ensures.ran no_input)).ends
+
+pub unreachable-in-ReadFault-requires : goal.unreachable-in-ReadFault-requires
+unreachable-in-ReadFault-requires c = false≢true (rw c.in-ReadFault.is at (c.load_and_write.ensures.ran no_input)).ends
+
+pub unreachable-in-DiskFault-requires : goal.unreachable-in-DiskFault-requires
+unreachable-in-DiskFault-requires c = never_broken c.args.folder.now c.load_and_write.new.folder (rw c.in-DiskFault.is at (c.load_and_write.ensures.ran no_input)).folder

@@ -1,10 +1,10 @@
-use Rattle.std.proofs.Common.{refl}
-use Rattle.std.specs.Prelude.{Err, Ok}
+use Rattle.std.proofs.Common.{List, subst}
 use Rattle.pl_base.specs.Files.{files_of}
 use Rattle.pl_cli.specs.Came.{HasWoven}
-use Rattle.pl_cli.specs.Stops.{of_batch_fault}
+use Rattle.pl_cli.specs.Stops.{MeansAlone, items_of, of_batch_fault}
+use Rattle.pl_cli.specs.Weave.{weaves_by}
 use Rattle.pl_cli.proofs.StopLemmas.{at_err}
-use Rattle.pl_cli.proofs.WeaveLemmas.{no_script, not_copied, woven_so}
+use Rattle.pl_cli.proofs.WeaveLemmas.{File, no_script, not_copied, woven_so}
 use Rattle.pl_cli.proofs.weave.weave.Goals as goal
 
 pub returns-in_err-script : goal.returns-in_err-script
@@ -25,4 +25,7 @@ returns-in_err-files g c =
 
 pub returns : goal.returns
 returns g c =
-    woven_so c.in_ok-script.script c.in_ok-script.ensures.script (files_of c.in_ok-files.files.items) c.in_ok-files.ensures.found.means c.in_ok-files.ensures.found.calls c.weave_files.result c.weave_files.ensures
+    let script = c.in_ok-script.script in
+    let result = c.weave_files.result in
+    woven_so script c.in_ok-script.ensures.script (files_of c.in_ok-files.files.items) c.in_ok-files.ensures.found.means c.in_ok-files.ensures.found.calls result
+    (subst (λ (files : List File). MeansAlone (weaves_by script (files_of files)) (items_of result)) c.deref.ensures.value c.weave_files.ensures)
