@@ -1,14 +1,13 @@
 -- A program whose list tells the files of its walk loads fast where its libraries' slots are free.
-use Rattle.std.proofs.Common.{◌≡◌, ℕ, suc, ◌<◌, Bool, true, false, List, [], ◌∷◌, ◌++◌, map, length, drop, Option, Some, None, Result, Ok, Err, refl, sym, ap, subst, ◌∙◌, arith, inl, inr}
-use Rattle.std.specs.Prelude.{◌&&◌, nat_eq, not, if◌then◌else◌}
+use Rattle.std.proofs.Common.{◌≡◌, ℕ, suc, Bool, true, false, List, [], ◌∷◌, ◌++◌, map, Option, Some, None, Result, Ok, refl, sym, ap, subst, ◌∙◌, arith, inl, inr}
+use Rattle.std.specs.Prelude.{nat_eq, if◌then◌else◌}
 use Rattle.std.specs.List.{All, AllByRecursion, AllZip, flat_map, list_all}
 use Rattle.std.specs.Option.{is_some}
 use Rattle.std.specs.Cmp.Lexicographic.{pointwise}
-use Rattle.std.proofs.lemmas.Bool.{and_from, and_parts, cases_Bool, false≢true}
+use Rattle.std.proofs.lemmas.Bool.{and_from, and_parts, false≢true}
 use Rattle.std.proofs.lemmas.Bool.Decides.{nat_tests}
 use Rattle.std.proofs.lemmas.List.{length-map}
 use Rattle.std.proofs.lemmas.List.Elements.{All-head, All-tail}
-use Rattle.std.proofs.lemmas.Option.{none-some, same_Some}
 use Rattle.pl_base.specs.Answers.{◌>>=◌, because}
 use Rattle.pl_base.specs.Memory.{Memory}
 use Rattle.pl_base.specs.Windows.{Window, any_share}
@@ -21,7 +20,7 @@ use Rattle.pl_conflict.specs.Prelinked.{Firm, firm_of, windows_of}
 use Rattle.pl_conflict.proofs.FormatLaws.{read_is}
 use Rattle.pl_conflict.proofs.MadeLaws.{IsPrelinked, IsProgramOf, prelinked_is, program_from}
 use Rattle.pl_conflict.proofs.MemberLaws.{member_firm}
-use Rattle.pl_elf.specs.Headers.{header, loads, segments}
+use Rattle.pl_elf.specs.Headers.{loads}
 use Rattle.pl_elf.specs.Kinds.{is_library}
 use Rattle.pl_elf.specs.declared.range.Range.{Range}
 use Rattle.pl_elf.specs.declared.segment.Segment.{Segment}
@@ -32,7 +31,7 @@ use Rattle.pl_loader.specs.Faults.{of_tls}
 use Rattle.pl_loader.specs.Fast as loader
 use Rattle.pl_loader.specs.Fast.{fast_image, stored_by}
 use Rattle.pl_loader.specs.Loading.{IsLibrary}
-use Rattle.pl_loader.specs.Places.{kept_free, load_range, misses, places, slot_by, taken, taken_first, segments_by}
+use Rattle.pl_loader.specs.Places.{kept_free, load_range, places, slot_by, taken, taken_first, segments_by}
 use Rattle.pl_loader.specs.Started.{Start, block_of, blocks, imaged, linked, load, modules_of, start, start_at, started}
 use Rattle.pl_loader.specs.declared.fault.LoadFault.{LoadFault}
 use Rattle.pl_loader.specs.declared.object_file.Mark.{Mark}
@@ -55,7 +54,7 @@ use Rattle.pl_sound.proofs.RuleLaws.{first_is, is_other}
 use Rattle.pl_tls.specs.Layout.{offsets}
 use Rattle.pl_tls.specs.declared.block.Block.{Block}
 use Rattle.pl_tls.specs.declared.module.Module.{Module}
-use Rattle.pl_fast.specs.Clear.{IsProgram, are_clear, at_slot, has_free_slots, is_clear, loaded_by}
+use Rattle.pl_fast.specs.Clear.{IsProgram, are_clear, has_free_slots, is_clear, loaded_by}
 use Rattle.pl_fast.proofs.PlaceLaws.{HasSlot, IsFree, slots_are_places, tail_apart, window}
 use Rattle.pl_fast.proofs.TakenLaws.{AreMembers, IsTold, load_takes, marked_there}
 

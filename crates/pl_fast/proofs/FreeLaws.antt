@@ -1,6 +1,6 @@
 -- The slots of libraries lie in the region of a run, so a program's file that keeps off the region keeps off them.
 use Rattle.std.proofs.Common.{◌≡◌, ℕ, suc, ◌+◌, ◌<◌, ◌≤◌, Bool, true, false, cond, List, [], ◌∷◌, ◌++◌, length, get_or, Option, Some, None, Result, Ok, Err, refl, sym, ap, subst, ◌∙◌, arith, inl, inr, append-nil}
-use Rattle.std.specs.Prelude.{◌&&◌, ◌||◌, nat_le, find, if◌then◌else◌}
+use Rattle.std.specs.Prelude.{◌||◌, nat_le, find, if◌then◌else◌}
 use Rattle.std.specs.FinMap.{get}
 use Rattle.std.specs.List.{All, cons_option, filter_map, list_all}
 use Rattle.std.specs.Str.{bytes_eq}
@@ -9,7 +9,6 @@ use Rattle.std.proofs.lemmas.Bool.Decides.{nat_tests}
 use Rattle.std.proofs.lemmas.List.Elements.{All-nil, All-cons, All-head, All-tail}
 use Rattle.std.proofs.lemmas.Option.{none-some, same_Some}
 use Rattle.pl_base.specs.Answers.{◌>>=◌, because}
-use Rattle.pl_base.specs.Files as base
 use Rattle.pl_base.specs.Sums.{is_aligned}
 use Rattle.pl_base.proofs.AnswerLaws.{because_ok, bind_ok, ok_same}
 use Rattle.pl_batch.specs.All.{asked_of}
@@ -25,9 +24,8 @@ use Rattle.pl_elf.specs.declared.range.Range.{Range}
 use Rattle.pl_exact.specs.All.{HasNext}
 use Rattle.pl_exact.proofs.AllLemmas.{gives_next}
 use Rattle.pl_exact.proofs.PlanLemmas.{are_names}
-use Rattle.pl_exact.proofs.SlotLemmas.{Among, Fits, among_holds, want_name, wants_among}
+use Rattle.pl_exact.proofs.SlotLemmas.{Among, Fits, want_name, wants_among}
 use Rattle.pl_journal.specs.Meaning.{applied}
-use Rattle.pl_known.specs.Fits.{fit_in}
 use Rattle.pl_known.specs.Plans.{candidates, is_candidate, planned, slots, slots_of, stale, stamp_for, standings, walks, wants}
 use Rattle.pl_known.specs.Skips.{skip_causes}
 use Rattle.pl_loader.specs.Places.{kept_free, misses}
@@ -53,8 +51,8 @@ use Rattle.pl_slots.specs.declared.slot.Slot.{Slot}
 use Rattle.pl_slots.specs.declared.slot.Want.{Want}
 use Rattle.pl_slots.proofs.PlannedLaws.{rows_serve}
 use Rattle.pl_sound.specs.Plan as sound
-use Rattle.pl_sound.specs.Rule.{Files, objects, walk_in}
-use Rattle.pl_fast.specs.Clear.{are_clear, at_slot, has_free_slots, is_clear, keeps_off, loaded_by}
+use Rattle.pl_sound.specs.Rule.{Files, objects}
+use Rattle.pl_fast.specs.Clear.{are_clear, has_free_slots, is_clear, loaded_by}
 use Rattle.pl_fast.specs.Laws.{FilesOffTheRegionAreClear}
 use Rattle.pl_fast.proofs.RunLaws.{IsWalkAfter, after_next, walk_after}
 use Rattle.pl_fast.proofs.SetLaws.{HasLibrary, HasObject}

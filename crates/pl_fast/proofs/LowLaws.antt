@@ -1,12 +1,11 @@
 -- The form of a program that lies low keeps off a region that lies high.
-use Rattle.std.proofs.Common.{◌≡◌, ℕ, zero, suc, ◌+◌, ◌^◌, ◌<◌, ◌≤◌, Bool, true, false, List, [], ◌∷◌, length, map, get_or, Some, refl, sym, ap, subst, ◌∙◌, arith, inl, inr}
+use Rattle.std.proofs.Common.{◌≡◌, ℕ, zero, suc, ◌+◌, ◌^◌, ◌<◌, ◌≤◌, true, List, [], ◌∷◌, length, map, get_or, Some, refl, sym, ap, subst, ◌∙◌, arith, inl, inr}
 use Rattle.std.specs.Prelude.{◌&&◌, ◌||◌, nat_le, nat_lt}
 use Rattle.std.specs.List.{All, AllByRecursion, list_all}
 use Rattle.std.proofs.lemmas.Bool.{and_from, cases_Bool, true≢false}
 use Rattle.std.proofs.lemmas.Bool.Decides.{nat_tests}
 use Rattle.std.proofs.lemmas.List.Elements.{All-head, All-tail}
 use Rattle.pl_elf.specs.Headers.{header, is_load, loads}
-use Rattle.pl_elf.specs.Kinds.{is_library}
 use Rattle.pl_elf.specs.declared.range.Range.{Range}
 use Rattle.pl_elf.specs.declared.segment.Segment.{Segment}
 use Rattle.pl_form.specs.Marks.{IsFormOf, IsProgramMark}
@@ -30,7 +29,6 @@ use Rattle.pl_parts.proofs.LoadFacts.{last_is}
 use Rattle.pl_parts.proofs.StandLaws.{program_grows}
 use Rattle.pl_parts.proofs.TableLaws.{programs_are_extended}
 use Rattle.pl_parts.proofs.WholeTheorem.{program_is}
-use Rattle.pl_fast.specs.Clear.{keeps_off, loaded_by}
 use Rattle.pl_fast.specs.Laws.{LowProgramsKeepOff}
 
 -- a PT_LOAD ends at or below an address

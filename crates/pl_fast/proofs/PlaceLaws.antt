@@ -1,5 +1,5 @@
 -- Libraries whose slots are free are placed there.
-use Rattle.std.proofs.Common.{◌≡◌, ℕ, ◌+◌, ◌<◌, Bool, true, false, List, [], ◌∷◌, ◌++◌, map, Option, Some, None, Result, Ok, refl, sym, ap, ◌∙◌, arith, inl, inr}
+use Rattle.std.proofs.Common.{◌≡◌, ℕ, ◌+◌, ◌<◌, Bool, true, false, List, [], ◌∷◌, ◌++◌, map, Option, Some, None, Result, Ok, refl, ap, ◌∙◌, arith}
 use Rattle.std.specs.Prelude.{◌&&◌, ◌||◌, nat_le, nat_lt, if◌then◌else◌}
 use Rattle.std.specs.List.{AllByRecursion, list_all, list_any}
 use Rattle.std.proofs.lemmas.Bool.{and_from, and_parts, or_parts}
@@ -7,7 +7,6 @@ use Rattle.std.proofs.lemmas.Bool.Decides.{nat_tests}
 use Rattle.pl_base.specs.Answers.{◌>>=◌, because}
 use Rattle.pl_base.specs.Pairs.{any_pair}
 use Rattle.pl_base.specs.Windows.{Window, any_share, share}
-use Rattle.pl_elf.specs.Ranges.{range_from}
 use Rattle.pl_elf.specs.declared.range.Range.{Range}
 use Rattle.pl_loader.specs.Faults.{of_place}
 use Rattle.pl_loader.specs.Places.{all_places, holes_beside, joined, misses, own_place, own_places, own_range, owns_beside, places, range_at, slot_of, taken_first, wants_beside, wants_left, where_free}
@@ -15,7 +14,6 @@ use Rattle.pl_loader.specs.declared.object_file.ObjectFile.{ObjectFile}
 use Rattle.pl_place.specs.Placing.{chosen}
 use Rattle.pl_place.specs.Policy.{Choice}
 use Rattle.pl_place.specs.declared.fault.PlaceFault.{PlaceFault}
-use Rattle.pl_slots.specs.declared.slot.Want.{Want}
 
 all_append : {X : Type 0} (p : X → Bool) (xs : List X) (x : X) → list_all p xs ≡ true → p x ≡ true → list_all p (xs ++ x ∷ []) ≡ true
 all_append p [] x all one = and_from (p x) true one refl

@@ -1,11 +1,11 @@
 -- After a run that prelinks everything each program that is prelinked has a list that tells the files of its walk.
-use Rattle.std.proofs.Common.{◌≡◌, ◌≤◌, ℕ, Bool, true, false, List, [], ◌∷◌, map, length, get_or, Option, Some, None, Result, Ok, Err, refl, sym, ap, subst, ◌∙◌, inl, inr}
-use Rattle.std.specs.Prelude.{◌⊎◌, if◌then◌else◌}
+use Rattle.std.proofs.Common.{◌≡◌, ◌≤◌, ℕ, Bool, true, false, List, [], ◌∷◌, map, length, get_or, Option, Some, None, Result, Ok, refl, sym, ap, subst, ◌∙◌, inl, inr}
+use Rattle.std.specs.Prelude.{if◌then◌else◌}
 use Rattle.std.specs.FinMap.{get}
 use Rattle.std.specs.List.{All, AllByRecursion, IsDistinct}
 use Rattle.std.specs.Option.{is_some, option_map, option_or}
 use Rattle.std.specs.Str.{bytes_eq}
-use Rattle.std.proofs.lemmas.Bool.{false≢true, true≢false}
+use Rattle.std.proofs.lemmas.Bool.{true≢false}
 use Rattle.std.proofs.lemmas.List.Elements.{All-nil, All-cons, All-head, All-tail}
 use Rattle.std.proofs.lemmas.Option.{slice_get-get_or}
 use Rattle.pl_base.specs.Files as base
@@ -22,7 +22,7 @@ use Rattle.pl_conflict.proofs.FormatLaws.{format_kept}
 use Rattle.pl_conflict.proofs.MadeLaws.{prelinked_is}
 use Rattle.pl_elf.specs.Kinds.{is_library}
 use Rattle.pl_elf.specs.declared.kind.Kind.{Kind}
-use Rattle.pl_elf.specs.declared.kind.Kind.TheVariants.{Library, Program}
+use Rattle.pl_elf.specs.declared.kind.Kind.TheVariants.{Library}
 use Rattle.pl_elf.specs.declared.range.Range.{Range}
 use Rattle.pl_exact.specs.All.{HasNext}
 use Rattle.pl_exact.proofs.AllLemmas.{gives_next}
@@ -48,7 +48,7 @@ use Rattle.pl_sound.proofs.BookLaws.{marked_at}
 use Rattle.pl_sound.proofs.Matching.{Matches, rule_in, tells_back}
 use Rattle.pl_sound.proofs.PlanLaws as sound
 use Rattle.pl_sound.proofs.PlanLaws.{all_planned, candidate_member, planned_bears, planned_is, planned_object, rule_planned}
-use Rattle.pl_sound.proofs.RuleLaws.{first_is, is_other, linked, map_same, other_is, other_library}
+use Rattle.pl_sound.proofs.RuleLaws.{is_other, linked, map_same, other_is, other_library}
 use Rattle.pl_fast.specs.Clear.{IsProgram}
 use Rattle.pl_fast.specs.Laws.{PrelinkedLoadsAreFast}
 use Rattle.pl_fast.proofs.AnswerLaws.{matched_fast}

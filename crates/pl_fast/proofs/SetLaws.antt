@@ -1,9 +1,9 @@
 -- The libraries of a program that can be prelinked can be prelinked.
-use Rattle.std.proofs.Common.{◌≡◌, ℕ, ◌+◌, ◌*◌, ◌^◌, ◌<◌, ◌≤◌, Bool, true, false, List, [], ◌∷◌, ◌++◌, map, length, Option, Some, None, Result, Ok, Err, refl, sym, ap, subst, ◌∙◌, arith, inl, inr, length-append}
-use Rattle.std.specs.Prelude.{◌&&◌, ◌||◌, nat_lt, nat_le, not, if◌then◌else◌}
+use Rattle.std.proofs.Common.{◌≡◌, ℕ, ◌+◌, ◌*◌, ◌≤◌, Bool, true, false, List, [], ◌∷◌, ◌++◌, map, length, Option, Some, None, Ok, refl, sym, ap, subst, ◌∙◌, arith, inl, inr, length-append}
+use Rattle.std.specs.Prelude.{◌&&◌, nat_lt, not, if◌then◌else◌}
 use Rattle.std.specs.List.{All, AllByRecursion, AllZip, IsDistinct, flat_map, list_all, list_any}
 use Rattle.std.specs.Str.{bytes_eq}
-use Rattle.std.proofs.lemmas.Bool.{and_from, and_parts, cases_Bool, false≢true, le-leb, or_from, or_parts}
+use Rattle.std.proofs.lemmas.Bool.{and_from, and_parts, false≢true, or_from, or_parts}
 use Rattle.std.proofs.lemmas.List.{length-map}
 use Rattle.std.proofs.lemmas.List.Elements.{All-nil, All-cons, All-head, All-tail}
 use Rattle.std.proofs.lemmas.Option.{none-some, same_Some}
@@ -14,7 +14,7 @@ use Rattle.pl_base.specs.declared.names.TheConstants.{MAX_NAME}
 use Rattle.pl_base.proofs.AnswerLaws.{ok_same}
 use Rattle.pl_base.proofs.NameLaws.{valid_length}
 use Rattle.pl_base.proofs.WordLaws.{length_bytes32}
-use Rattle.pl_conflict.specs.Format.{Causes, format, read_original}
+use Rattle.pl_conflict.specs.Format.{Causes, format}
 use Rattle.pl_conflict.specs.Prelinked as prelinked
 use Rattle.pl_conflict.specs.Prelinked.{Firm, are_set, file_of, firm_of, has_numbers, library_file, list_of, list_row, load_window, stored, version_of, windows_of, with_object}
 use Rattle.pl_conflict.proofs.FormatLaws.{read_is}
@@ -25,12 +25,11 @@ use Rattle.pl_elf.specs.Kinds.{is_library}
 use Rattle.pl_form.specs.Files.{are_bytes, original_in}
 use Rattle.pl_form.specs.Library.{library_with, most_bytes}
 use Rattle.pl_form.specs.Reading.{firm_object}
-use Rattle.pl_form.specs.Words.{listed}
 use Rattle.pl_form.specs.declared.constants.TheConstants.{STORED}
 use Rattle.pl_form.proofs.AlignLaws.{align_even, slot_even}
 use Rattle.pl_form.proofs.KeptLaws.{library_most_with}
 use Rattle.pl_form.proofs.LengthLaws.{accepted_small}
-use Rattle.pl_lists.specs.Lists.{after, is_list, is_row, list_bytes, list_strings, row_bytes}
+use Rattle.pl_lists.specs.Lists.{after, is_row, list_bytes, list_strings, row_bytes}
 use Rattle.pl_lists.specs.declared.list_row.ListRow.{ListRow}
 use Rattle.pl_object.specs.Reads.{reads}
 use Rattle.pl_object.specs.declared.object.Object.{Object}
@@ -231,30 +230,30 @@ module _ {E : Type 0} (causes : Causes E) (old : Files) (plan : Plan) where
 
   -- ---- what is fine together
 
-  fine_windows : (ms : Walked) → AllByRecursion IsFine ms → flat_map windows_of (map firm_for ms) ≡ map window_for ms
+  pub fine_windows : (ms : Walked) → AllByRecursion IsFine ms → flat_map windows_of (map firm_for ms) ≡ map window_for ms
   unfolding windows_of
   fine_windows [] fine = refl
   fine_windows (m ∷ ms) fine =
       ap (λ (b : Bool). (if b then window_for m ∷ [] else map load_window (loads m.1.segments)) ++ flat_map windows_of (map firm_for ms)) fine.0.library
       ∙ ap (λ (ws : List Window). window_for m ∷ ws) (fine_windows ms fine.1)
 
-  fine_numbers : (ms : Walked) → AllByRecursion IsFine ms → list_all has_numbers (map firm_for ms) ≡ true
+  pub fine_numbers : (ms : Walked) → AllByRecursion IsFine ms → list_all has_numbers (map firm_for ms) ≡ true
   fine_numbers [] fine = refl
   fine_numbers (m ∷ ms) fine = and_from (has_numbers (firm_for m)) (list_all has_numbers (map firm_for ms)) fine.0.numbers (fine_numbers ms fine.1)
 
-  fine_valid : (ms : Walked) → AllByRecursion IsFine ms → list_all has_valid_name (map firm_for ms) ≡ true
+  pub fine_valid : (ms : Walked) → AllByRecursion IsFine ms → list_all has_valid_name (map firm_for ms) ≡ true
   fine_valid [] fine = refl
   fine_valid (m ∷ ms) fine = and_from (is_valid_name m.0) (list_all has_valid_name (map firm_for ms)) fine.0.valid (fine_valid ms fine.1)
 
-  fine_firms : (ms : Walked) → AllByRecursion IsFine ms → All (λ r. firm_of r.member ≡ Some r) (map firm_for ms)
+  pub fine_firms : (ms : Walked) → AllByRecursion IsFine ms → All (λ r. firm_of r.member ≡ Some r) (map firm_for ms)
   fine_firms [] fine = All-nil (λ (r : Firm). firm_of r.member ≡ Some r)
   fine_firms (m ∷ ms) fine = All-cons (λ (r : Firm). firm_of r.member ≡ Some r) (firm_for m) (map firm_for ms) fine.0.firm (fine_firms ms fine.1)
 
-  firm_names : (ms : Walked) → names_of (map firm_for ms) ≡ names ms
+  pub firm_names : (ms : Walked) → names_of (map firm_for ms) ≡ names ms
   firm_names [] = refl
   firm_names (m ∷ ms) = ap (λ (ns : List (List ℕ)). m.0 ∷ ns) (firm_names ms)
 
-  firm_members : (ms : Walked) → members (map firm_for ms) ≡ map planned (names ms)
+  pub firm_members : (ms : Walked) → members (map firm_for ms) ≡ map planned (names ms)
   firm_members [] = refl
   firm_members (m ∷ ms) = ap (λ (ns : List Member). planned m.0 ∷ ns) (firm_members ms)
 

@@ -1,9 +1,9 @@
 -- A load takes all files of a walk whose members are prelinked.
-use Rattle.std.proofs.Common.{◌≡◌, ℕ, ◌≤◌, Bool, true, false, List, [], ◌∷◌, length, Option, Some, None, Result, Ok, Err, refl, sym, ap, subst, ◌∙◌, arith, inl, inr}
+use Rattle.std.proofs.Common.{◌≡◌, ℕ, Bool, true, false, List, [], ◌∷◌, Option, Some, None, Result, Ok, refl, sym, ap, subst, ◌∙◌}
 use Rattle.std.specs.Prelude.{◌&&◌}
 use Rattle.std.specs.Option.{is_some, option_map}
 use Rattle.std.specs.Str.{bytes_eq}
-use Rattle.std.proofs.lemmas.Bool.{cases_Bool, false≢true}
+use Rattle.std.proofs.lemmas.Bool.{false≢true}
 use Rattle.pl_base.specs.Answers.{◌>>=◌, because, unless}
 use Rattle.pl_base.specs.Each.{each}
 use Rattle.pl_base.proofs.AnswerLaws.{ok_same}
@@ -133,11 +133,10 @@ module _ {E G : Type 0} (causes : Causes E) (folder : Files) (fault : LoadFault 
     all_given [] have = ([], refl)
     all_given (p ∷ vs) have =
         let first = have p.0 (has_head p.0 (names vs)) in
-        let rest = all_given vs (λ m there. have m (has_tail p.0 m (names vs) there)) in
-        (
+        let rest = all_given vs (λ m there. have m (has_tail p.0 m (names vs) there)) in (
           first.taken ∷ rest.0,
           ap (λ (r : Result ObjectFile G). r >>= λ f. each (λ m. file_of fault file name m.0) vs >>= λ fs. Ok (f ∷ fs)) first.given
-          ∙ ap (λ (r : Result (List ObjectFile) G). r >>= λ fs. Ok (first.taken ∷ fs)) rest.1,
+              ∙ ap (λ (r : Result (List ObjectFile) G). r >>= λ fs. Ok (first.taken ∷ fs)) rest.1,
         )
 
     walk_given : walk.walk (walk_fault fault) (object_of fault file name) name ≡ Ok ws
@@ -149,8 +148,7 @@ module _ {E G : Type 0} (causes : Causes E) (folder : Files) (fault : LoadFault 
     pub load_takes : (all : List ObjectFile) × AreTaken folder fault file name all
     unfolding load.files load.walked
     load_takes =
-        let all = all_given ws member_given in
-        (
+        let all = all_given ws member_given in (
           all.0,
           record {
             gives = told.gives;

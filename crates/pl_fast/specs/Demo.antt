@@ -1,28 +1,16 @@
 -- When all loads of `--demo` are fast.
-use Rattle.std.specs.Prelude.{◌≡◌, ℕ, true, List, None, Ok, Some}
-use Rattle.std.specs.FinMap.{get}
-use Rattle.pl_batch.specs.Changes.{run_meant}
-use Rattle.pl_batch.specs.Restored.{restored}
-use Rattle.pl_batch.specs.declared.run.Run.TheVariants.{All}
+use Rattle.std.specs.Prelude.{◌≡◌, ℕ, true, List}
 use Rattle.pl_cli.specs.Demo.{fast_loads}
 use Rattle.pl_cli.specs.Files.{valid_file}
 use Rattle.pl_conflict.specs.Complete.{file_at}
 use Rattle.pl_conflict.specs.Format.{format}
-use Rattle.pl_base.specs.Files.{Files}
 use Rattle.pl_demo.specs.Demo.{folder, programs}
-use Rattle.pl_demo.specs.Made.{made_files}
 use Rattle.pl_demo.specs.declared.prelinking.TheConstants.{ASKED}
-use Rattle.pl_form.specs.Files.{marked_in}
 use Rattle.pl_gen.specs.Set as drawn
-use Rattle.pl_journal.specs.declared.change.Change.{Change}
 use Rattle.pl_known.specs.Skips.{skip_causes}
 use Rattle.pl_scope.specs.Members.{has}
 use Rattle.pl_sound.specs.Rule.{is_marked}
 use Rattle.pl_fast.specs.Clear.{IsProgram, keeps_off}
-
--- the files of a set as they are made
-abbrev pub made : ℕ → Files
-made number = restored (made_files (drawn.demo_set number))
 
 -- a program of a set, prelinked, whose file keeps off the region of the slots
 pub record IsReady (number : ℕ) (name : List ℕ) : Type 0 where
@@ -30,13 +18,10 @@ pub record IsReady (number : ℕ) (name : List ℕ) : Type 0 where
   pub program : IsProgram skip_causes (valid_file (folder number)) name
   pub off : keeps_off ASKED.region (file_at (valid_file (folder number)) name) ≡ true
 
--- no file of a set is prelinked before the run, the run is not refused, and each program is ready after it
-pub record IsPrelinkable (number : ℕ) : Type 0 where
-  pub bare : (n file : List ℕ) → get (made number) n ≡ Some file → marked_in file ≡ None
-  pub rows : List Change
-  pub runs : run_meant (All ASKED) (made number) ≡ Ok rows
-  pub programs : (n : List ℕ) → has (programs number) n ≡ true → IsReady number n
+-- after the run each program of a set is ready
+abbrev pub DemoProgramsAreReady : Type 0
+DemoProgramsAreReady = (number : ℕ) (n : List ℕ) → has (programs number) n ≡ true → IsReady number n
 
--- then all of its loads are fast, and there are as many as the number draws programs
+-- so all loads are fast, and there are as many as the number draws programs
 abbrev pub DemoLoadsAreFast : Type 0
-DemoLoadsAreFast = (number : ℕ) → IsPrelinkable number → fast_loads (folder number) (programs number) ≡ drawn.programs number
+DemoLoadsAreFast = (number : ℕ) → fast_loads (folder number) (programs number) ≡ drawn.programs number

@@ -1,4 +1,3 @@
 pub mod Clear
-pub mod Small
 pub mod Laws
 pub mod Demo

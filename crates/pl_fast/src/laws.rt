@@ -1,7 +1,6 @@
 // Laws of fast loads.
-ghost use Rattle.pl_fast.specs.Demo.{DemoLoadsAreFast};
+ghost use Rattle.pl_fast.specs.Demo.{DemoLoadsAreFast, DemoProgramsAreReady};
 ghost use Rattle.pl_fast.specs.Laws.{FilesOffTheRegionAreClear, LowProgramsKeepOff, MatchedLoadsAreFast, PrelinkedLoadsAreFast};
-ghost use Rattle.pl_fast.specs.Small.{SmallFoldersAreTaken};
 
 /// `--load` of a program starts on the fast path, by every policy and whatever is busy: where its file's list tells the files of its walk, the rule of prelinked files holds at it, and no library that it needs has, at the slot that its file bears, an address that the program's file loads by its own program headers, or a busy one. It does nothing.
 pub fn matched_loads_are_fast<E>()
@@ -15,12 +14,8 @@ pub fn prelinked_loads_are_fast()
     ensures low { LowProgramsKeepOff }
 {}
 
-/// A run that prelinks everything is not refused: in a folder without journal and cache, of so many files under valid names, each of at most so many bytes and not prelinked, where a run takes as much and its region has room for as many libraries with their alignments, of which each gets addresses of its own. It does nothing.
-pub fn small_folders_are_taken()
-    ensures { SmallFoldersAreTaken }
-{}
-
-/// All loads of `--demo` are fast, and as many as its number draws programs, where each of these is prelinked and its file keeps off the region of the slots. It does nothing.
+/// For every number each program of the set of `--demo` is prelinked by its run, and its file keeps off the region of the slots; so all of its loads are fast, and they are as many as the number draws programs. It does nothing.
 pub fn demo_loads_are_fast()
-    ensures { DemoLoadsAreFast }
+    ensures ready { DemoProgramsAreReady }
+    ensures fast { DemoLoadsAreFast }
 {}

@@ -5,6 +5,4 @@
 
 mod laws;
 
-pub use laws::{
-    demo_loads_are_fast, matched_loads_are_fast, prelinked_loads_are_fast, small_folders_are_taken,
-};
+pub use laws::{demo_loads_are_fast, matched_loads_are_fast, prelinked_loads_are_fast};

@@ -1,38 +1,45 @@
 // Tests of pl_base: names of files, and strings.
+use crate::cases::parts;
 use pl_base::{Strings, is_own_name, is_valid_name, string_at, valid_text};
+use std::test::Fail;
 
-/// Texts, and whether each is a valid name.
-const NAMES: [(&str, bool); 14] = [
-    ("libc.so.6", true),
-    ("a", true),
-    ("~", true),
-    ("...", true),
-    (".prelink", true),
-    ("", false),
-    (".", false),
-    ("..", false),
-    ("a b", false),
-    ("a/b", false),
-    ("\u{7f}", false),
-    ("é", false),
-    (".prelink.", false),
-    (".prelink.cache", false),
-];
+/// Whether a text is a valid name, and the text.
+const NAMES: &str = "\
+true: libc.so.6\n\
+true: a\n\
+true: ~\n\
+true: ...\n\
+true: .prelink\n\
+false:\n\
+false: .\n\
+false: ..\n\
+false: a b\n\
+false: a/b\n\
+false: \u{7f}\n\
+false: é\n\
+false: .prelink.\n\
+false: .prelink.cache";
+
+/// Whether the text of a line is told to be a valid name as the line says.
+fn is_told(line: &str) -> Result<bool, Fail> {
+    let (valid, name) = parts(line)?;
+    let (valid, bytes) = (valid == "true", name.as_bytes());
+    let is_own = name.starts_with(".prelink.");
+    Ok(
+        is_valid_name(bytes) == valid
+            && valid_text(bytes).is_some() == valid
+            && is_own_name(bytes) == is_own,
+    )
+}
 
 #[test]
-fn knows_valid_names(rt: HostRuntime) {
-    for (name, is_valid) in &NAMES {
-        let bytes = name.as_bytes();
-        assert!(rt; is_valid_name(bytes) == *is_valid, "{name}");
-        assert!(rt; valid_text(bytes).is_some() == *is_valid, "{name}");
-        assert!(rt;
-            is_own_name(bytes) == name.starts_with(".prelink."),
-            "{name}"
-        );
+fn knows_valid_names(rt: HostRuntime) -> Result<(), Fail> {
+    for line in NAMES.lines() {
+        assert!(rt; is_told(line)?, "{line}");
     }
     let long = [b'n'; 256];
-    assert!(rt; is_valid_name(&long[1..]));
-    assert!(rt; !is_valid_name(&long));
+    assert!(rt; is_valid_name(&long[1..]) && !is_valid_name(&long));
+    Ok(())
 }
 
 const STRINGS: &[u8] = b"\0main\0x\0end";
@@ -49,13 +56,18 @@ const BEGINS: [(u32, Option<&[u8]>); 8] = [
     (u32::MAX, None),
 ];
 
+/// Whether such a string, or none, begins at an offset.
+fn begins(at: u32, string: Option<&[u8]>) -> bool {
+    let strings = Strings::new(STRINGS);
+    string_at(STRINGS, u64::from(at)) == string
+        && strings.string_at(at) == string
+        && strings.has_end(at) == string.is_some()
+}
+
 #[test]
 fn reads_strings(rt: HostRuntime) {
-    let strings = Strings::new(STRINGS);
     for (at, string) in &BEGINS {
-        assert!(rt; string_at(STRINGS, u64::from(*at)) == *string, "{at}");
-        assert!(rt; strings.string_at(*at) == *string, "{at}");
-        assert!(rt; strings.has_end(*at) == string.is_some(), "{at}");
+        assert!(rt; begins(*at, *string), "{at}");
     }
     assert!(rt; string_at(STRINGS, u64::MAX).is_none());
 }

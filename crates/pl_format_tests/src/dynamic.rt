@@ -1,15 +1,16 @@
 // Tests of pl_dyn.
+use crate::cases::{numbers, parts};
 use pl_dyn::constants::{
     DT_GNU_HASH, DT_HASH, DT_INIT_ARRAY, DT_INIT_ARRAYSZ, DT_JMPREL, DT_NEEDED, DT_PLTGOT,
     DT_PLTREL, DT_PLTRELSZ, DT_RELA, DT_RELACOUNT, DT_RELAENT, DT_RELASZ, DT_SONAME, DT_STRSZ,
     DT_STRTAB, DT_SYMENT, DT_SYMTAB, DT_VERDEF, DT_VERDEFNUM, DT_VERNEED, DT_VERSYM,
 };
 use pl_dyn::{
-    DynFault, entry, is_address_tag, is_ended, is_listed, is_prelink_tag, is_value_tag,
+    DynFault, Dynamic, entry, is_address_tag, is_ended, is_listed, is_prelink_tag, is_value_tag,
     read_dynamic, tag,
 };
 use std::alloc::{AllocError, Global};
-use std::process::Abort;
+use std::test::Fail;
 
 /// The whole `.dynamic` of a library that gcc and GNU ld 2.40 made (`gcc -shared -nostdlib -Wl,--hash-style=both`, with a version script and a library that it needs).
 const LIBRARY: [u8; 416] = [
@@ -54,71 +55,55 @@ const LIBRARY_TAGS: [(u64, u64); 21] = [
     (DT_RELACOUNT, 1),
 ];
 
+/// Whether the tags and what is found of each are these.
+fn has_tags(dynamic: &Dynamic, tags: &[(u64, u64)]) -> bool {
+    for (entry, (number, value)) in dynamic.tags.as_slice().iter().zip(tags) {
+        if entry.number != *number
+            || entry.value != *value
+            || tag(dynamic, *number) != Some(*value)
+        {
+            return false;
+        }
+    }
+    dynamic.tags.len() == tags.len()
+}
+
+/// Five entries of tag DT_NULL end the section.
 #[test]
 fn reads_a_library(rt: HostRuntime) -> Result<(), DynFault> {
     let dynamic = read_dynamic(rt.alloc(), &LIBRARY)?;
-    assert!(rt; dynamic.tags.len() == LIBRARY_TAGS.len());
-    for (entry, (number, value)) in dynamic.tags.as_slice().iter().zip(&LIBRARY_TAGS) {
-        assert!(rt;
-            entry.number == *number && entry.value == *value,
-            "{number}"
-        );
-        assert!(rt; tag(&dynamic, *number) == Some(*value), "{number}");
-    }
+    assert!(rt; has_tags(&dynamic, &LIBRARY_TAGS));
     assert!(rt; tag(&dynamic, DT_VERNEED).is_none());
-
-    // Five entries of tag DT_NULL end the section.
     assert!(rt; dynamic.spare == 4);
-    assert!(rt; is_ended(&LIBRARY));
-    assert!(rt; entry(&LIBRARY, 25).number == 0);
+    assert!(rt; is_ended(&LIBRARY) && entry(&LIBRARY, 25).number == 0);
     Ok(())
 }
 
-/// Words of a table, and how many tags and spare ends it has, or the first clause that refuses it.
-const TABLES: [(&[u64], Result<(usize, u32), DynFault>); 23] = [
-    (&[0, 0], Ok((0, 0))),
-    (&[1, 9, 1, 4, 5, 0x400, 0, 0, 0, 7], Ok((3, 1))),
-    (&[0x6fff_fdf5, 0, 0x6fff_fdf8, 0, 0, 0], Ok((2, 0))),
-    (&[0x6fff_fd00, 0, 0x6fff_fdff, 0, 0, 0], Ok((2, 0))),
-    (&[35, 0, 36, 0, 37, 0, 0, 0], Ok((3, 0))),
-    // clause 9
-    (&[], Err(DynFault::NoEnd)),
-    (&[1, 9], Err(DynFault::NoEnd)),
-    (&[0, 0, 0], Err(DynFault::NoEnd)),
-    (&[1, 9, 0, 0, 1, 4], Err(DynFault::NoEnd)),
-    (&[1, 9, 0, 0, 0, 0, 1, 4, 0, 0], Err(DynFault::NoEnd)),
-    // clause 10
-    (&[1, 9, 17, 0, 31, 0, 0, 0], Err(DynFault::UnknownTag(17))),
-    (
-        &[0x6fff_fef8, 0, 0, 0],
-        Err(DynFault::UnknownTag(0x6fff_fef8)),
-    ),
-    (
-        &[0x6fff_fef9, 0, 0, 0],
-        Err(DynFault::UnknownTag(0x6fff_fef9)),
-    ),
-    (
-        &[0x6fff_fcff, 0, 0, 0],
-        Err(DynFault::UnknownTag(0x6fff_fcff)),
-    ),
-    (
-        &[0x6fff_fe00, 0, 0, 0],
-        Err(DynFault::UnknownTag(0x6fff_fe00)),
-    ),
-    (
-        &[0x1_0000_0005, 0, 0, 0],
-        Err(DynFault::UnknownTag(0x1_0000_0005)),
-    ),
-    // clause 11
-    (&[1, 9, 5, 0, 5, 0, 0, 0], Err(DynFault::Twice(5))),
-    (&[5, 1, 6, 2, 6, 3, 5, 4, 0, 0], Err(DynFault::Twice(5))),
-    (&[6, 1, 5, 2, 6, 3, 5, 4, 0, 0], Err(DynFault::Twice(6))),
-    (&[36, 0, 1, 9, 36, 0, 0, 0], Err(DynFault::Twice(36))),
-    // the first clause that refuses
-    (&[17, 0, 5, 0, 5, 0], Err(DynFault::NoEnd)),
-    (&[5, 0, 5, 0, 0, 0, 17, 0], Err(DynFault::NoEnd)),
-    (&[5, 0, 5, 0, 17, 0, 0, 0], Err(DynFault::UnknownTag(17))),
-];
+/// What is read of tables, or the first clause that refuses them, each before the words of its table in hexadecimal.
+const TABLES: &str = "\
+0 tags and 0 spare: 0 0\n\
+3 tags and 1 spare: 1 9 1 4 5 400 0 0 0 7\n\
+2 tags and 0 spare: 6ffffdf5 0 6ffffdf8 0 0 0\n\
+2 tags and 0 spare: 6ffffd00 0 6ffffdff 0 0 0\n\
+3 tags and 0 spare: 23 0 24 0 25 0 0 0\n\
+no end:\n\
+no end: 1 9\n\
+no end: 0 0 0\n\
+no end: 1 9 0 0 1 4\n\
+no end: 1 9 0 0 0 0 1 4 0 0\n\
+unknown tag 17: 1 9 11 0 1f 0 0 0\n\
+unknown tag 1879047928: 6ffffef8 0 0 0\n\
+unknown tag 1879047929: 6ffffef9 0 0 0\n\
+unknown tag 1879047423: 6ffffcff 0 0 0\n\
+unknown tag 1879047680: 6ffffe00 0 0 0\n\
+unknown tag 4294967301: 100000005 0 0 0\n\
+tag 5 stands twice: 1 9 5 0 5 0 0 0\n\
+tag 5 stands twice: 5 1 6 2 6 3 5 4 0 0\n\
+tag 6 stands twice: 6 1 5 2 6 3 5 4 0 0\n\
+tag 36 stands twice: 24 0 1 9 24 0 0 0\n\
+no end: 11 0 5 0 5 0\n\
+no end: 5 0 5 0 0 0 11 0\n\
+unknown tag 17: 5 0 5 0 11 0 0 0";
 
 fn bytes_of(alloc: Global, words: &[u64]) -> Result<Vec<u8>, AllocError> {
     let mut bytes = Vec::new(alloc);
@@ -128,18 +113,33 @@ fn bytes_of(alloc: Global, words: &[u64]) -> Result<Vec<u8>, AllocError> {
     Ok(bytes)
 }
 
-fn counts(alloc: Global, words: &[u64]) -> Result<(usize, u32), DynFault> {
-    let mut table = bytes_of(alloc, words)?;
-    table.truncate(4096);
-    let dynamic = read_dynamic(alloc, &table)?;
-    Ok((dynamic.tags.len(), dynamic.spare))
+/// What is read of a table, as the cases spell it.
+fn answer(alloc: Global, table: &[u8]) -> Result<String, AllocError> {
+    if table.len() > 4096 {
+        return String::from_str(alloc, "a short table");
+    }
+    match read_dynamic(alloc, table) {
+        Ok(dynamic) => {
+            let (tags, spare) = (dynamic.tags.len(), dynamic.spare);
+            format!(in alloc; "{tags} tags and {spare} spare")
+        }
+        Err(fault) => format!(in alloc; "{fault}"),
+    }
+}
+
+/// Whether the table of a line is read as the line says.
+fn is_answered(alloc: Global, line: &str) -> Result<bool, Fail> {
+    let (wanted, words) = parts(line)?;
+    let table = bytes_of(alloc, &numbers(alloc, words)?)?;
+    Ok(answer(alloc, &table)?.as_str() == wanted)
 }
 
 #[test]
-fn refuses_by_the_first_clause(rt: HostRuntime) {
-    for (words, answer) in &TABLES {
-        assert!(rt; counts(rt.alloc(), words) == *answer, "{words:?}");
+fn refuses_by_the_first_clause(rt: HostRuntime) -> Result<(), Fail> {
+    for line in TABLES.lines() {
+        assert!(rt; is_answered(rt.alloc(), line)?, "{line}");
     }
+    Ok(())
 }
 
 const ADDRESSES: [u64; 16] = [
@@ -197,28 +197,22 @@ const PRELINK: [u64; 6] = [
     0x6fff_fef9,
 ];
 
-fn kinds(number: u64) -> [bool; 3] {
-    [
-        is_address_tag(number),
-        is_value_tag(number),
-        is_prelink_tag(number),
-    ]
-}
-
-fn expect_kinds(rt: &impl Abort, first: u64, last: u64) {
-    for number in first..=last {
-        let wanted = [
-            ADDRESSES.contains(&number),
-            VALUES.contains(&number) || (0x6fff_fd00..=0x6fff_fdff).contains(&number),
-            PRELINK.contains(&number),
-        ];
-        assert!(rt; kinds(number) == wanted, "{number}");
-        assert!(rt; is_listed(number) == (wanted != [false; 3]), "{number}");
-    }
+/// Whether the kinds of a tag are those of the three lists.
+fn is_known(number: u64) -> bool {
+    let address = ADDRESSES.contains(&number);
+    let value = VALUES.contains(&number) || (0x6fff_fd00..=0x6fff_fdff).contains(&number);
+    let prelink = PRELINK.contains(&number);
+    is_address_tag(number) == address
+        && is_value_tag(number) == value
+        && is_prelink_tag(number) == prelink
+        && is_listed(number) == (address || value || prelink)
 }
 
 #[test]
 fn knows_the_kinds(rt: HostRuntime) {
-    expect_kinds(&rt, 0, 64);
-    expect_kinds(&rt, 0x6fff_fc00, 0x7000_0100);
+    for (first, last) in [(0, 64), (0x6fff_fc00, 0x7000_0100)] {
+        for number in first..=last {
+            assert!(rt; is_known(number), "{number}");
+        }
+    }
 }

@@ -1,4 +1,5 @@
 // Tests of pl_elf.
+use crate::cases::{number, numbers, parts};
 use pl_base::part;
 use pl_elf::constants::{
     ET_EXEC, HEADER_SIZE, MAX_SECTIONS, PT_DYNAMIC, PT_LOAD, SECTION_SIZE, SEGMENT_SIZE, SHT_STRTAB,
@@ -9,6 +10,7 @@ use pl_elf::{
     write_segment,
 };
 use std::alloc::{AllocError, Global};
+use std::test::Fail;
 
 /// An offset of a file, and a number of so many bytes that is put there.
 type Change = (usize, usize, u64);
@@ -114,35 +116,66 @@ const NAMES: Section = Section {
     entsize: 0,
 };
 
+/// Whether the program's header is read.
+fn reads_header(bytes: &[u8]) -> bool {
+    match read_header(bytes) {
+        Ok(header) => header == HEADER && is_static_file(bytes, &header),
+        Err(_) => false,
+    }
+}
+
+/// Whether the second segment of a file is that of the program.
+fn reads_segments(alloc: Global, bytes: &[u8]) -> Result<bool, AllocError> {
+    match read_header(bytes) {
+        Ok(header) => Ok(read_segments(alloc, bytes, &header)?.get(1) == Some(&DATA)),
+        Err(_) => Ok(false),
+    }
+}
+
+/// Whether the second section of a file is that of the program.
+fn reads_sections(alloc: Global, bytes: &[u8]) -> Result<bool, AllocError> {
+    match read_header(bytes) {
+        Ok(header) => Ok(read_sections(alloc, bytes, &header)?.get(1) == Some(&NAMES)),
+        Err(_) => Ok(false),
+    }
+}
+
 #[test]
 fn reads_headers(rt: HostRuntime) -> Result<(), AllocError> {
     let alloc = rt.alloc();
     let file = program(alloc, &[])?;
-    let bytes = file.as_slice();
-    let answer = read_header(bytes);
-    assert!(rt; answer == Ok(HEADER));
-    if let Ok(header) = answer {
-        assert!(rt; is_static_file(bytes, &header));
-        assert!(rt; read_segments(alloc, bytes, &header)?.get(1) == Some(&DATA));
-        assert!(rt; read_sections(alloc, bytes, &header)?.get(1) == Some(&NAMES));
-    }
-    assert!(rt; section_data(bytes, &NAMES) == b"\0.shstrtab\0".as_slice());
+    assert!(rt; reads_header(&file));
+    assert!(rt; reads_segments(alloc, &file)?);
+    assert!(rt; reads_sections(alloc, &file)?);
+    assert!(rt; section_data(&file, &NAMES) == b"\0.shstrtab\0".as_slice());
     Ok(())
+}
+
+/// What is written of the program's header, its second segment and its second section.
+fn header_row() -> [u8; HEADER_SIZE] {
+    let mut row = [0xffu8; HEADER_SIZE];
+    write_header(&HEADER, &mut row);
+    row
+}
+
+fn segment_row() -> [u8; SEGMENT_SIZE] {
+    let mut row = [0xffu8; SEGMENT_SIZE];
+    write_segment(&DATA, &mut row);
+    row
+}
+
+fn section_row() -> [u8; SECTION_SIZE] {
+    let mut row = [0xffu8; SECTION_SIZE];
+    write_section(&NAMES, &mut row);
+    row
 }
 
 #[test]
 fn writes_headers(rt: HostRuntime) -> Result<(), AllocError> {
     let file = program(rt.alloc(), &[])?;
-    let bytes = file.as_slice();
-    let mut row = [0xffu8; HEADER_SIZE];
-    write_header(&HEADER, &mut row);
-    assert!(rt; row.as_slice() == part(bytes, 0, 64));
-    let mut row = [0xffu8; SEGMENT_SIZE];
-    write_segment(&DATA, &mut row);
-    assert!(rt; row.as_slice() == part(bytes, 0x78, 56));
-    let mut row = [0xffu8; SECTION_SIZE];
-    write_section(&NAMES, &mut row);
-    assert!(rt; row.as_slice() == part(bytes, 0x1060, 64));
+    assert!(rt; header_row().as_slice() == part(&file, 0, 64));
+    assert!(rt; segment_row().as_slice() == part(&file, 0x78, 56));
+    assert!(rt; section_row().as_slice() == part(&file, 0x1060, 64));
     Ok(())
 }
 
@@ -159,58 +192,53 @@ fn lists_by_kind(rt: HostRuntime) -> Result<(), AllocError> {
     Ok(())
 }
 
-/// Changes of the program, and the first clause that refuses what they make of it, 0 where none does.
-const CHANGED: [(&[Change], u8); 45] = [
-    (&[(0, 1, 0x7e)], 1),
-    (&[(3, 1, 0x47), (4, 1, 1)], 1),
-    (&[(4, 1, 1), (18, 2, 3)], 2),
-    (&[(5, 1, 2)], 2),
-    (&[(6, 1, 0)], 2),
-    (&[(18, 2, 3), (16, 2, 1)], 3),
-    (&[(16, 2, 1), (32, 8, 0x1fff)], 4),
-    // a library without PT_DYNAMIC, with one, and with one outside the file
-    (&[(16, 2, 3)], 4),
-    (&[(16, 2, 3), (0x78, 4, 2)], 0),
-    (&[(16, 2, 3), (0x1069, 4, 2), (32, 8, 0x1069)], 4),
-    (&[(16, 2, 3), (0x1068, 4, 2), (32, 8, 0x1068)], 5),
-    (&[(32, 8, 0x1031), (54, 2, 57)], 5),
-    (&[(40, 8, 0x1021)], 5),
-    (&[(40, 8, u64::MAX)], 5),
-    (&[(0x80, 8, u64::MAX)], 5),
-    (&[(0x1080, 8, 0x91)], 5),
-    // no file bytes past the end: not looked at in a static program
-    (&[(0x78, 4, 4), (0x80, 8, 0x1_0000), (0x98, 8, 0)], 0),
-    (&[(0x80, 8, 0x1_0000), (0x98, 8, 0)], 0),
-    (&[(0x78, 4, 2), (0x80, 8, 0x1_0000), (0x98, 8, 0)], 5),
-    // a NOBITS section has no file bytes, so no names either
-    (&[(0x1064, 4, 8), (0x1080, 8, 0x91)], 7),
-    (&[(54, 2, 57), (58, 2, 63)], 6),
-    (&[(0x40, 4, 4), (0x78, 4, 4)], 6),
-    (&[(56, 2, 3), (0x78, 4, 2), (0xb0, 4, 2)], 6),
-    (&[(56, 2, 3), (0x78, 4, 7), (0xb0, 4, 7)], 6),
-    (&[(56, 2, 3), (0x78, 4, 3), (0xb0, 4, 3)], 6),
-    (&[(56, 2, 3), (0x78, 4, 4), (0xb0, 4, 4)], 0),
-    (&[(0xa0, 8, 0xf)], 6),
-    (&[(0xa8, 8, 3), (0x88, 8, 0x50_0002)], 6),
-    (&[(0xa8, 8, 0), (0x88, 8, 0x50_0001)], 0),
-    (&[(0xa8, 8, 0x20_0000), (0x88, 8, 0x60_1000)], 0),
-    (&[(0xa8, 8, 0x40_0000), (0x88, 8, 0x80_1000)], 6),
-    (&[(0x88, 8, 0x50_0001)], 6),
-    (&[(0x88, 8, 0x7fff_ffff_f000), (0xa0, 8, 0x1000)], 0),
-    (&[(0x88, 8, 0x7fff_ffff_f000), (0xa0, 8, 0x1001)], 6),
-    (&[(0x88, 8, 0x3f_f000)], 6),
-    (&[(0x88, 8, 0x40_0000)], 6),
-    // one byte of the file in common, and the next byte
-    (&[(0x80, 8, 0xaf), (0xa8, 8, 1)], 6),
-    (&[(0x80, 8, 0xb0), (0xa8, 8, 1)], 0),
-    (&[(0x78, 4, 7), (0xa8, 8, 3)], 6),
-    (&[(58, 2, 63)], 7),
-    (&[(62, 2, 2)], 7),
-    (&[(62, 2, 0)], 7),
-    (&[(0x1060, 4, 11)], 7),
-    (&[(0x101a, 1, 0x41)], 7),
-    (&[(60, 2, 0), (58, 2, 0), (62, 2, 9)], 8),
-];
+/// Changes of the program, in hexadecimal, behind the first clause that refuses what they make of it, 0 where none does. Among them: a library without PT_DYNAMIC, with one, and with one outside the file; no file bytes past the end, which in a static program is not looked at; a NOBITS section, which has no file bytes, so no names either; one byte of the file in common, and the next byte.
+const CHANGED: &str = "\
+1: 0 1 7e\n\
+1: 3 1 47  4 1 1\n\
+2: 4 1 1  12 2 3\n\
+2: 5 1 2\n\
+2: 6 1 0\n\
+3: 12 2 3  10 2 1\n\
+4: 10 2 1  20 8 1fff\n\
+4: 10 2 3\n\
+0: 10 2 3  78 4 2\n\
+4: 10 2 3  1069 4 2  20 8 1069\n\
+5: 10 2 3  1068 4 2  20 8 1068\n\
+5: 20 8 1031  36 2 39\n\
+5: 28 8 1021\n\
+5: 28 8 ffffffffffffffff\n\
+5: 80 8 ffffffffffffffff\n\
+5: 1080 8 91\n\
+0: 78 4 4  80 8 10000  98 8 0\n\
+0: 80 8 10000  98 8 0\n\
+5: 78 4 2  80 8 10000  98 8 0\n\
+7: 1064 4 8  1080 8 91\n\
+6: 36 2 39  3a 2 3f\n\
+6: 40 4 4  78 4 4\n\
+6: 38 2 3  78 4 2  b0 4 2\n\
+6: 38 2 3  78 4 7  b0 4 7\n\
+6: 38 2 3  78 4 3  b0 4 3\n\
+0: 38 2 3  78 4 4  b0 4 4\n\
+6: a0 8 f\n\
+6: a8 8 3  88 8 500002\n\
+0: a8 8 0  88 8 500001\n\
+0: a8 8 200000  88 8 601000\n\
+6: a8 8 400000  88 8 801000\n\
+6: 88 8 500001\n\
+0: 88 8 7ffffffff000  a0 8 1000\n\
+6: 88 8 7ffffffff000  a0 8 1001\n\
+6: 88 8 3ff000\n\
+6: 88 8 400000\n\
+6: 80 8 af  a8 8 1\n\
+0: 80 8 b0  a8 8 1\n\
+6: 78 4 7  a8 8 3\n\
+7: 3a 2 3f\n\
+7: 3e 2 2\n\
+7: 3e 2 0\n\
+7: 1060 4 b\n\
+7: 101a 1 41\n\
+8: 3c 2 0  3a 2 0  3e 2 9";
 
 /// The clause that refuses a file, 0 where none does.
 fn clause(bytes: &[u8]) -> u8 {
@@ -227,15 +255,36 @@ fn clause(bytes: &[u8]) -> u8 {
     }
 }
 
+/// The changes of a line: each three numbers, of which the first are the offset and the size.
+fn changes_of(alloc: Global, line: &str) -> Result<Vec<Change>, Fail> {
+    let mut changes = Vec::new(alloc);
+    for change in numbers(alloc, line)?.chunks(3) {
+        let [at, size, number] = change else {
+            return Err("three numbers".into());
+        };
+        changes.push((*at as usize, *size as usize, *number))?;
+    }
+    Ok(changes)
+}
+
+/// Whether the clause of a line refuses the program with its changes.
+fn is_refused(alloc: Global, line: &str) -> Result<bool, Fail> {
+    let (wanted, changes) = parts(line)?;
+    let file = program(alloc, &changes_of(alloc, changes)?)?;
+    Ok(u64::from(clause(&file)) == number(wanted)?)
+}
+
+/// How many bytes are left of the program, and the clause that refuses them.
+const CUT: [(u64, u8); 3] = [(0, 1), (63, 1), (4255, 5)];
+
 #[test]
-fn refuses_by_the_first_clause(rt: HostRuntime) -> Result<(), AllocError> {
+fn refuses_by_the_first_clause(rt: HostRuntime) -> Result<(), Fail> {
     let alloc = rt.alloc();
-    for (changes, wanted) in &CHANGED {
-        let file = program(alloc, changes)?;
-        assert!(rt; clause(&file) == *wanted, "{changes:?}");
+    for line in CHANGED.lines() {
+        assert!(rt; is_refused(alloc, line)?, "{line}");
     }
     let file = program(alloc, &[])?;
-    for (size, wanted) in [(0, 1), (63, 1), (4255, 5)] {
+    for (size, wanted) in CUT {
         assert!(rt; clause(part(&file, 0, size)) == wanted, "{size} bytes");
     }
     Ok(())

@@ -1,51 +1,101 @@
-// Tests of pl_folder.
+// Tests of pl_folder. Files are spelled as text: each name with its bytes, parted by blanks.
+use crate::cases::{number, numbers, parts};
 use pl_folder::{
     Folder, FolderFault, MemoryFolder, NEW_FILE, QuietFolder, STORED, are_files, replace,
 };
 use std::alloc::{AllocError, Global};
+use std::test::Fail;
 
-/// Files of these names, each with 3 bytes.
-fn files(alloc: Global, names: &[&str]) -> Result<Vec<(String, Vec<u8>)>, AllocError> {
+/// The files that a text spells.
+fn files_of(alloc: Global, text: &str) -> Result<Vec<(String, Vec<u8>)>, AllocError> {
     let mut files = Vec::new(alloc);
-    for name in names {
-        files.push((String::from_str(alloc, name)?, b"old".to_vec(alloc)?))?;
+    for file in text.split_whitespace() {
+        let (name, bytes) = file.split_once('=').unwrap_or((file, ""));
+        files.push((
+            String::from_str(alloc, name)?,
+            bytes.as_bytes().to_vec(alloc)?,
+        ))?;
     }
     Ok(files)
 }
 
-/// Names, and whether they are the names of a folder's files.
-const LISTS: [(&[&str], bool); 4] = [
-    (&[], true),
-    (&["a", "b"], true),
-    (&["a", "b", "a"], false),
-    (&[""], false),
-];
+/// Files, and whether they are those of a folder.
+const LISTS: &str = "\
+true:\n\
+true: a=old b=old\n\
+false: a=old b=old a=old\n\
+false: =old";
+
+/// Whether the files of a line are told to be a folder's as the line says.
+fn is_told(alloc: Global, line: &str) -> Result<bool, Fail> {
+    let (fine, files) = parts(line)?;
+    Ok(are_files(&files_of(alloc, files)?) == (fine == "true"))
+}
 
 #[test]
-fn knows_files(rt: HostRuntime) -> Result<(), AllocError> {
+fn knows_files(rt: HostRuntime) -> Result<(), Fail> {
     let alloc = rt.alloc();
-    for (names, fine) in &LISTS {
-        assert!(rt; are_files(&files(alloc, names)?) == *fine, "{names:?}");
+    for line in LISTS.lines() {
+        assert!(rt; is_told(alloc, line)?, "{line}");
     }
     for (len, fine) in [(255, true), (256, false)] {
         let name = "n".repeat(alloc, len)?;
-        assert!(rt; are_files(&files(alloc, &[&name])?) == fine, "{len}");
+        assert!(rt;
+            are_files(&files_of(alloc, name.as_str())?) == fine,
+            "{len}"
+        );
     }
     // The clauses name the limit, so its number stands here once more.
     assert!(rt; STORED == 268_435_456);
     Ok(())
 }
 
-/// A folder of two files, which answers so many calls but one that fails.
-pub(crate) fn folder(alloc: Global, fails: u64, calls: u32) -> Result<MemoryFolder, FolderFault> {
-    let files = files(alloc, &["q", NEW_FILE])?;
+/// A folder of files, which answers so many calls but those that fail.
+pub(crate) fn folder_of(
+    alloc: Global,
+    files: &str,
+    fails: Vec<u64>,
+    calls: u32,
+) -> Result<MemoryFolder, FolderFault> {
+    let files = files_of(alloc, files)?;
     if !are_files(&files) {
         return Err(FolderFault::NotThere);
     }
-    match MemoryFolder::new(alloc, &files, vec![in alloc; fails; 1]?, calls) {
+    match MemoryFolder::new(alloc, &files, fails, calls) {
         Ok(folder) => Ok(folder),
         Err(_) => Err(FolderFault::NoMemory),
     }
+}
+
+/// The two files of a folder. The first has the name `NEW_FILE`.
+const FILES: &str = ".prelink.new.0=old q=old";
+
+/// A folder of two files, which answers so many calls but one that fails.
+pub(crate) fn folder(alloc: Global, fails: u64, calls: u32) -> Result<MemoryFolder, FolderFault> {
+    folder_of(alloc, FILES, vec![in alloc; fails; 1]?, calls)
+}
+
+/// The files of a folder.
+fn text_of(alloc: Global, folder: &mut MemoryFolder) -> Result<Vec<u8>, FolderFault> {
+    let mut text = Vec::new(alloc);
+    for name in &folder.names(alloc)? {
+        if !text.is_empty() {
+            text.extend_from_slice(b" ")?;
+        }
+        text.extend_from_slice(name.as_bytes())?;
+        text.extend_from_slice(b"=")?;
+        text.extend_from_slice(folder.take(alloc, name.as_str())?.as_slice())?;
+    }
+    Ok(text)
+}
+
+/// Whether the folder has exactly these files.
+pub(crate) fn has(
+    alloc: Global,
+    folder: &mut MemoryFolder,
+    files: &str,
+) -> Result<bool, FolderFault> {
+    Ok(text_of(alloc, folder)?.as_slice() == files.as_bytes())
 }
 
 /// Calls of `take`, and the answers of a folder whose call 1 fails and that answers 5 calls.
@@ -84,10 +134,7 @@ fn replaced(alloc: Global) -> Result<MemoryFolder, FolderFault> {
 fn replaces_files_whole(rt: HostRuntime) -> Result<(), FolderFault> {
     let alloc = rt.alloc();
     let mut folder = replaced(alloc)?;
-    assert!(rt; folder.names(alloc)?.len() == 2);
-    for (name, bytes) in [("q", b"new".as_slice()), ("r", b"newer".as_slice())] {
-        assert!(rt; folder.take(alloc, name)?.as_slice() == bytes, "{name}");
-    }
+    assert!(rt; has(alloc, &mut folder, "q=new r=newer")?);
     Ok(())
 }
 
@@ -99,19 +146,21 @@ fn write_pieces(alloc: Global, folder: &mut MemoryFolder) -> Result<(), FolderFa
     folder.append(alloc, "a", b"pieces")
 }
 
+/// Removes a file, and once more.
+fn remove_twice(folder: &mut MemoryFolder) -> Result<(), FolderFault> {
+    folder.remove("q")?;
+    folder.remove("q")?;
+    Ok(())
+}
+
 #[test]
 fn changes_files(rt: HostRuntime) -> Result<(), FolderFault> {
     let alloc = rt.alloc();
     let mut folder = folder(alloc, 100, 100)?;
     write_pieces(alloc, &mut folder)?;
-    assert!(rt; folder.take(alloc, "a")?.as_slice() == b"two pieces".as_slice());
-    folder.remove("q")?;
-    folder.remove("q")?;
-    let names = folder.names(alloc)?;
-    assert!(rt; names.len() == 2);
-    for (name, expected) in names.iter().zip([NEW_FILE, "a"]) {
-        assert!(rt; name.as_str() == expected);
-    }
+    assert!(rt; has(alloc, &mut folder, ".prelink.new.0=old a=two pieces q=old")?);
+    remove_twice(&mut folder)?;
+    assert!(rt; has(alloc, &mut folder, ".prelink.new.0=old a=two pieces")?);
     Ok(())
 }
 
@@ -128,71 +177,55 @@ fn change(alloc: Global, folder: &mut MemoryFolder) -> Result<(), FolderFault> {
     Ok(())
 }
 
-pub(crate) type Listed = &'static [(&'static str, &'static [u8])];
-
 /// What a read gives after so many of the calls.
-const READS: [Listed; 8] = [
-    &[(NEW_FILE, b"old"), ("q", b"old")],
-    &[(NEW_FILE, b"old"), ("a", b""), ("q", b"old")],
-    &[(NEW_FILE, b"old"), ("a", b"ab"), ("q", b"old")],
-    &[(NEW_FILE, b"old"), ("a", b"ab"), ("q", b"old")],
-    &[(NEW_FILE, b"old"), ("q", b"ab")],
-    &[(NEW_FILE, b"old"), ("q", b"abc")],
-    &[("q", b"abc")],
-    &[("q", b"abc")],
-];
+const READS: &str = "\
+0: .prelink.new.0=old q=old\n\
+1: .prelink.new.0=old a= q=old\n\
+2: .prelink.new.0=old a=ab q=old\n\
+3: .prelink.new.0=old a=ab q=old\n\
+4: .prelink.new.0=old q=ab\n\
+5: .prelink.new.0=old q=abc\n\
+6: q=abc";
 
-/// Moments and choices, and what a crash then leaves: bit 0 keeps the creation of `a` and the bytes of its file while it is not firm, bit 1 keeps the rename, bit 2 the removal.
-const IMAGES: [(u64, u64, Listed); 19] = [
-    (0, 0, &[(NEW_FILE, b"old"), ("q", b"old")]),
-    (1, 0, &[(NEW_FILE, b"old"), ("q", b"old")]),
-    (
-        1,
-        u64::MAX,
-        &[(NEW_FILE, b"old"), ("a", b""), ("q", b"old")],
-    ),
-    (2, 1, &[(NEW_FILE, b"old"), ("a", b"ab"), ("q", b"old")]),
-    (2, 2, &[(NEW_FILE, b"old"), ("q", b"old")]),
-    (3, 1, &[(NEW_FILE, b"old"), ("a", b"ab"), ("q", b"old")]),
-    (3, 0, &[(NEW_FILE, b"old"), ("q", b"old")]),
-    (4, 0, &[(NEW_FILE, b"old"), ("q", b"old")]),
-    (4, 1, &[(NEW_FILE, b"old"), ("a", b"ab"), ("q", b"old")]),
-    (4, 2, &[(NEW_FILE, b"old"), ("q", b"ab")]),
-    (4, 3, &[(NEW_FILE, b"old"), ("q", b"ab")]),
-    (5, 0, &[(NEW_FILE, b"old"), ("q", b"old")]),
-    (5, 1, &[(NEW_FILE, b"old"), ("a", b"abc"), ("q", b"old")]),
-    (5, 2, &[(NEW_FILE, b"old"), ("q", b"")]),
-    (5, u64::MAX, &[(NEW_FILE, b"old"), ("q", b"abc")]),
-    (6, 4, &[("q", b"old")]),
-    (
-        6,
-        6_148_914_691_236_517_205,
-        &[("a", b"abc"), ("q", b"old")],
-    ),
-    (
-        6,
-        12_297_829_382_473_034_410,
-        &[(NEW_FILE, b"old"), ("q", b"")],
-    ),
-    (7, 0, &[("q", b"abc")]),
-];
+/// What a read gives after all of them.
+const READ: &str = "q=abc";
 
-/// Whether the folder has exactly these files.
-pub(crate) fn has(
+/// Moments and choices, in hexadecimal, and what a crash then leaves: bit 0 keeps the creation of `a` and the bytes of its file while it is not firm, bit 1 keeps the rename, bit 2 the removal.
+const IMAGES: &str = "\
+0 0: .prelink.new.0=old q=old\n\
+1 0: .prelink.new.0=old q=old\n\
+1 ffffffffffffffff: .prelink.new.0=old a= q=old\n\
+2 1: .prelink.new.0=old a=ab q=old\n\
+2 2: .prelink.new.0=old q=old\n\
+3 1: .prelink.new.0=old a=ab q=old\n\
+3 0: .prelink.new.0=old q=old\n\
+4 0: .prelink.new.0=old q=old\n\
+4 1: .prelink.new.0=old a=ab q=old\n\
+4 2: .prelink.new.0=old q=ab\n\
+4 3: .prelink.new.0=old q=ab\n\
+5 0: .prelink.new.0=old q=old\n\
+5 1: .prelink.new.0=old a=abc q=old\n\
+5 2: .prelink.new.0=old q=\n\
+5 ffffffffffffffff: .prelink.new.0=old q=abc\n\
+6 4: q=old\n\
+6 5555555555555555: a=abc q=old\n\
+6 aaaaaaaaaaaaaaaa: .prelink.new.0=old q=\n\
+7 0: q=abc";
+
+/// What a crash after so many calls leaves.
+pub(crate) fn image(
     alloc: Global,
-    folder: &mut MemoryFolder,
-    files: Listed,
-) -> Result<bool, FolderFault> {
-    let names = folder.names(alloc)?;
-    if names.len() != files.len() {
-        return Ok(false);
+    folder: &MemoryFolder,
+    moment: u64,
+    choice: u64,
+) -> Result<MemoryFolder, FolderFault> {
+    if folder.moments() < moment {
+        return Err(FolderFault::NotThere);
     }
-    for ((name, bytes), listed) in files.iter().zip(&names) {
-        if listed.as_str() != *name || folder.take(alloc, name)?.as_slice() != *bytes {
-            return Ok(false);
-        }
+    match folder.image(alloc, moment, choice) {
+        Ok(image) => Ok(image),
+        Err(_) => Err(FolderFault::NoMemory),
     }
-    Ok(true)
 }
 
 /// Whether a crash after so many calls leaves exactly these files.
@@ -201,49 +234,58 @@ fn leaves(
     folder: &MemoryFolder,
     moment: u64,
     choice: u64,
-    files: Listed,
+    files: &str,
 ) -> Result<bool, FolderFault> {
-    if folder.moments() < moment {
-        return Ok(false);
-    }
-    let Ok(mut image) = folder.image(alloc, moment, choice) else {
-        return Err(FolderFault::NoMemory);
-    };
+    let mut image = image(alloc, folder, moment, choice)?;
     has(alloc, &mut image, files)
 }
 
+/// Whether a crash leaves what a line says.
+fn leaves_image(alloc: Global, folder: &MemoryFolder, line: &str) -> Result<bool, Fail> {
+    let (chosen, files) = parts(line)?;
+    let chosen = numbers(alloc, chosen)?;
+    let [moment, choice] = chosen.as_slice() else {
+        return Err("two numbers".into());
+    };
+    Ok(leaves(alloc, folder, *moment, *choice, files)?)
+}
+
+/// Whether a crash that loses nothing leaves what a read gives.
+fn leaves_read(alloc: Global, folder: &MemoryFolder, line: &str) -> Result<bool, Fail> {
+    let (moment, files) = parts(line)?;
+    Ok(leaves(alloc, folder, number(moment)?, u64::MAX, files)?)
+}
+
 #[test]
-fn leaves_what_is_chosen(rt: HostRuntime) -> Result<(), FolderFault> {
+fn leaves_what_is_chosen(rt: HostRuntime) -> Result<(), Fail> {
     let alloc = rt.alloc();
     let mut folder = folder(alloc, 100, 100)?;
     change(alloc, &mut folder)?;
     assert!(rt; folder.moments() == 7);
-    for (moment, choice, files) in &IMAGES {
-        assert!(rt;
-            leaves(alloc, &folder, *moment, *choice, files)?,
-            "{moment} {choice}"
-        );
+    for line in IMAGES.lines() {
+        assert!(rt; leaves_image(alloc, &folder, line)?, "{line}");
     }
-    for (moment, files) in READS.iter().enumerate() {
-        assert!(rt;
-            leaves(alloc, &folder, moment as u64, u64::MAX, files)?,
-            "{moment}"
-        );
+    for line in READS.lines() {
+        assert!(rt; leaves_read(alloc, &folder, line)?, "{line}");
     }
+    assert!(rt; leaves(alloc, &folder, 7, u64::MAX, READ)?);
     Ok(())
 }
 
+/// Whether a folder whose call of that number fails is left as a line says.
+fn fails_at(alloc: Global, line: &str) -> Result<bool, Fail> {
+    let (fails, files) = parts(line)?;
+    let fails = number(fails)?;
+    let mut folder = folder(alloc, fails, 100)?;
+    let failed = change(alloc, &mut folder) == Err(FolderFault::Failed);
+    let counted = folder.moments() == fails.wrapping_add(1);
+    Ok(failed && counted && has(alloc, &mut folder, files)?)
+}
+
 #[test]
-fn fails_at_each_call(rt: HostRuntime) -> Result<(), FolderFault> {
-    let alloc = rt.alloc();
-    for (fails, files) in READS.iter().enumerate().take(7) {
-        let mut folder = folder(alloc, fails as u64, 100)?;
-        assert!(rt;
-            change(alloc, &mut folder) == Err(FolderFault::Failed),
-            "{fails}"
-        );
-        assert!(rt; folder.moments() == fails as u64 + 1, "{fails}");
-        assert!(rt; has(alloc, &mut folder, files)?, "{fails}");
+fn fails_at_each_call(rt: HostRuntime) -> Result<(), Fail> {
+    for line in READS.lines() {
+        assert!(rt; fails_at(rt.alloc(), line)?, "{line}");
     }
     Ok(())
 }
@@ -260,14 +302,22 @@ fn change_quietly(alloc: Global, folder: &mut QuietFolder) -> Result<(), FolderF
     Ok(())
 }
 
+/// A folder in which no call fails.
+fn quiet_folder(alloc: Global) -> Result<QuietFolder, FolderFault> {
+    let files = files_of(alloc, FILES)?;
+    if !are_files(&files) {
+        return Err(FolderFault::NotThere);
+    }
+    match QuietFolder::new(alloc, &files) {
+        Ok(folder) => Ok(folder),
+        Err(_) => Err(FolderFault::NoMemory),
+    }
+}
+
 #[test]
 fn changes_files_quietly(rt: HostRuntime) -> Result<(), FolderFault> {
     let alloc = rt.alloc();
-    let files = files(alloc, &["q", NEW_FILE])?;
-    assert!(rt; are_files(&files));
-    let Ok(mut folder) = QuietFolder::new(alloc, &files) else {
-        return Err(FolderFault::NoMemory);
-    };
+    let mut folder = quiet_folder(alloc)?;
     change_quietly(alloc, &mut folder)?;
     assert!(rt; folder.names(alloc)?.len() == 1);
     assert!(rt; folder.take(alloc, "q")?.as_slice() == b"ab".as_slice());

@@ -1,20 +1,22 @@
 // Tests of pl_journal, over a folder in memory.
 ghost use Rattle.pl_base.specs.Names.{IsNameLength};
 
-use crate::folder::{Listed, has};
+use crate::cases::parts;
+use crate::folder::{folder_of, has, image};
 use pl_base::{Rows, Text};
-use pl_folder::{Folder, FolderFault, MemoryFolder, are_files};
+use pl_folder::{FolderFault, MemoryFolder};
 use pl_journal::{
     Change, JournalFault, Row, Takes, are_changes, carry_out, read_journal, recover, recover_lent,
     write_journal,
 };
 use pl_stage::Held;
 use std::alloc::Global;
+use std::test::Fail;
 
 /// The files before the run, and those after it.
-const BEFORE: Listed = &[("a", b"old"), ("b", b"gone"), ("c", b"kept")];
+const BEFORE: &str = "a=old b=gone c=kept";
 
-const AFTER: Listed = &[("a", b"new"), ("c", b"kept"), ("d", b"added")];
+const AFTER: &str = "a=new c=kept d=added";
 
 /// The changes of the run: bytes for a name, or none where it is dropped.
 const CHANGES: [(&str, Option<&[u8]>); 3] = [
@@ -31,20 +33,9 @@ const CHOICES: [u64; 4] = [
     12_297_829_382_473_034_410,
 ];
 
-/// A folder of these files, some of whose calls fail.
-fn folder_of(
-    alloc: Global,
-    files: Listed,
-    fail_at: Vec<u64>,
-) -> Result<MemoryFolder, JournalFault> {
-    let mut rows = Vec::new(alloc);
-    for (name, bytes) in files {
-        rows.push((String::from_str(alloc, name)?, bytes.to_vec(alloc)?))?;
-    }
-    if !are_files(&rows) {
-        return Err(JournalFault::BadJournal);
-    }
-    Ok(MemoryFolder::new(alloc, &rows, fail_at, 100)?)
+/// A folder of the files before the run, some of whose calls fail.
+fn folder_before(alloc: Global, fails: Vec<u64>) -> Result<MemoryFolder, FolderFault> {
+    folder_of(alloc, BEFORE, fails, 100)
 }
 
 fn changes(alloc: Global) -> Result<Vec<Change>, JournalFault> {
@@ -78,21 +69,8 @@ fn recovered(alloc: Global, folder: &mut MemoryFolder) -> Result<(), JournalFaul
     recover_lent(&mut held, alloc)
 }
 
-/// What a crash after so many calls leaves.
-fn image(
-    alloc: Global,
-    folder: &MemoryFolder,
-    moment: u64,
-    choice: u64,
-) -> Result<MemoryFolder, JournalFault> {
-    if folder.moments() < moment {
-        return Err(JournalFault::BadJournal);
-    }
-    Ok(folder.image(alloc, moment, choice)?)
-}
-
 /// Whether each image of each moment, recovered, has these files.
-fn each_is(alloc: Global, folder: &MemoryFolder, files: Listed) -> Result<bool, JournalFault> {
+fn each_is(alloc: Global, folder: &MemoryFolder, files: &str) -> Result<bool, JournalFault> {
     for moment in 0..=folder.moments() {
         for choice in &CHOICES {
             let mut image = image(alloc, folder, moment, *choice)?;
@@ -106,7 +84,10 @@ fn each_is(alloc: Global, folder: &MemoryFolder, files: Listed) -> Result<bool, 
 }
 
 /// The files that a folder is recovered to, where these are those before or those after the run.
-fn stands_for(alloc: Global, folder: &mut MemoryFolder) -> Result<Option<Listed>, JournalFault> {
+fn stands_for(
+    alloc: Global,
+    folder: &mut MemoryFolder,
+) -> Result<Option<&'static str>, JournalFault> {
     recovered(alloc, folder)?;
     if has(alloc, folder, BEFORE)? {
         return Ok(Some(BEFORE));
@@ -149,7 +130,7 @@ fn each_again_is_whole(alloc: Global, folder: &MemoryFolder) -> Result<bool, Jou
 #[test]
 fn leaves_before_or_after(rt: HostRuntime) -> Result<(), JournalFault> {
     let alloc = rt.alloc();
-    let mut folder = folder_of(alloc, BEFORE, Vec::new(alloc))?;
+    let mut folder = folder_before(alloc, Vec::new(alloc))?;
     run(alloc, &mut folder)?;
     assert!(rt; folder.moments() == 23);
     assert!(rt; each_again_is_whole(alloc, &folder)?);
@@ -157,17 +138,17 @@ fn leaves_before_or_after(rt: HostRuntime) -> Result<(), JournalFault> {
     Ok(())
 }
 
+/// Whether a run over a folder whose call of that number fails leaves files of before or after it, and so does each crash.
+fn fails_at(alloc: Global, fails: u64) -> Result<bool, JournalFault> {
+    let mut folder = folder_before(alloc, vec![in alloc; fails; 1]?)?;
+    let failed = run(alloc, &mut folder) == Err(JournalFault::Failed);
+    Ok(failed && each_is_whole(alloc, &folder)? && stands_for(alloc, &mut folder)?.is_some())
+}
+
 #[test]
 fn fails_at_each_call(rt: HostRuntime) -> Result<(), JournalFault> {
-    let alloc = rt.alloc();
     for fails in 0..23 {
-        let mut folder = folder_of(alloc, BEFORE, vec![in alloc; fails; 1]?)?;
-        assert!(rt;
-            run(alloc, &mut folder) == Err(JournalFault::Failed),
-            "{fails}"
-        );
-        assert!(rt; each_is_whole(alloc, &folder)?, "{fails}");
-        assert!(rt; stands_for(alloc, &mut folder)?.is_some(), "{fails}");
+        assert!(rt; fails_at(rt.alloc(), fails)?, "{fails}");
     }
     Ok(())
 }
@@ -203,21 +184,26 @@ fn run_by_states(alloc: Global, folder: &mut MemoryFolder) -> Result<(), Journal
     Ok(())
 }
 
+/// Whether changes state by state leave the files of after the run, and each crash those of before or after it.
+fn goes_by_states(alloc: Global) -> Result<bool, JournalFault> {
+    let mut folder = folder_before(alloc, Vec::new(alloc))?;
+    run_by_states(alloc, &mut folder)?;
+    let counted = folder.moments() == 23;
+    Ok(counted && has(alloc, &mut folder, AFTER)? && each_is_whole(alloc, &folder)?)
+}
+
+/// Whether changes state by state fail at the call of that number, and leave the files of before or after the run.
+fn fails_by_states(alloc: Global, fails: u64) -> Result<bool, JournalFault> {
+    let mut folder = folder_before(alloc, vec![in alloc; fails; 1]?)?;
+    let failed = run_by_states(alloc, &mut folder) == Err(JournalFault::Failed);
+    Ok(failed && stands_for(alloc, &mut folder)?.is_some())
+}
+
 #[test]
 fn goes_from_state_to_state(rt: HostRuntime) -> Result<(), JournalFault> {
-    let alloc = rt.alloc();
-    let mut folder = folder_of(alloc, BEFORE, Vec::new(alloc))?;
-    assert!(rt; run_by_states(alloc, &mut folder) == Ok(()));
-    assert!(rt; folder.moments() == 23);
-    assert!(rt; has(alloc, &mut folder, AFTER)?);
-    assert!(rt; each_is_whole(alloc, &folder)?);
+    assert!(rt; goes_by_states(rt.alloc())?);
     for fails in 0..23 {
-        let mut folder = folder_of(alloc, BEFORE, vec![in alloc; fails; 1]?)?;
-        assert!(rt;
-            run_by_states(alloc, &mut folder) == Err(JournalFault::Failed),
-            "{fails}"
-        );
-        assert!(rt; stands_for(alloc, &mut folder)?.is_some(), "{fails}");
+        assert!(rt; fails_by_states(rt.alloc(), fails)?, "{fails}");
     }
     Ok(())
 }
@@ -238,7 +224,7 @@ fn stop_staged(alloc: Global, folder: &mut MemoryFolder) -> Result<(), JournalFa
 #[test]
 fn stops_before_the_commit(rt: HostRuntime) -> Result<(), JournalFault> {
     let alloc = rt.alloc();
-    let mut folder = folder_of(alloc, BEFORE, Vec::new(alloc))?;
+    let mut folder = folder_before(alloc, Vec::new(alloc))?;
     stop_staged(alloc, &mut folder)?;
     assert!(rt; stands_for(alloc, &mut folder)? == Some(BEFORE));
     Ok(())
@@ -288,119 +274,70 @@ fn takes_committed(alloc: Global, folder: &mut MemoryFolder) -> Result<bool, Jou
 #[test]
 fn takes_files_in_its_states(rt: HostRuntime) -> Result<(), JournalFault> {
     let alloc = rt.alloc();
-    let mut folder = folder_of(alloc, BEFORE, Vec::new(alloc))?;
+    let mut folder = folder_before(alloc, Vec::new(alloc))?;
     assert!(rt; takes_settled(alloc, &mut folder)?);
     assert!(rt; takes_committed(alloc, &mut folder)?);
     assert!(rt; stands_for(alloc, &mut folder)? == Some(AFTER));
     // The third call of a run that changes nothing is the first `take`.
-    let mut folder = folder_of(alloc, BEFORE, vec![in alloc; 2; 1]?)?;
+    let mut folder = folder_before(alloc, vec![in alloc; 2; 1]?)?;
     assert!(rt; !takes_settled(alloc, &mut folder)?);
     assert!(rt; has(alloc, &mut folder, BEFORE)?);
     Ok(())
 }
 
 /// Folders, and what they are recovered to: rows that are left to be done or not, files of a run that was not committed, and names of the program that are no run's.
-const RECOVERED: [(Listed, Listed); 5] = [
-    (
-        &[
-            (".prelink.journal", b"PLJRNL01\x02\0\0\0\x01\x01a\x02\x01b"),
-            (".prelink.new.0", b"new"),
-            ("a", b"old"),
-            ("b", b"gone"),
-        ],
-        &[("a", b"new")],
-    ),
-    (
-        &[
-            (
-                ".prelink.journal",
-                b"PLJRNL01\x02\0\0\0\x01\x01a\x01\x0e.prelink.cache",
-            ),
-            (".prelink.new.1", b"rows"),
-            ("a", b"new"),
-        ],
-        &[(".prelink.cache", b"rows"), ("a", b"new")],
-    ),
-    (
-        &[
-            (".prelink.journal", b"PLJRNL01\x01\0\0\0\x02\x01a"),
-            (".prelink.new.0", b"stray"),
-            ("a", b"old"),
-        ],
-        &[],
-    ),
-    (
-        &[
-            (".prelink.cache", b"rows"),
-            (".prelink.journal.new", b"PLJRNL01\x01\0\0\0\x02\x01a"),
-            (".prelink.new.0", b"new"),
-            (".prelink.new.x", b""),
-            (".prelink.other", b"other"),
-            ("a", b"old"),
-        ],
-        &[
-            (".prelink.cache", b"rows"),
-            (".prelink.other", b"other"),
-            ("a", b"old"),
-        ],
-    ),
-    (&[("a", b"old")], &[("a", b"old")]),
-];
+const RECOVERED: &str = "\
+.prelink.journal=PLJRNL01\x02\0\0\0\x01\x01a\x02\x01b .prelink.new.0=new a=old b=gone: a=new\n\
+.prelink.journal=PLJRNL01\x02\0\0\0\x01\x01a\x01\x0e.prelink.cache .prelink.new.1=rows a=new: .prelink.cache=rows a=new\n\
+.prelink.journal=PLJRNL01\x01\0\0\0\x02\x01a .prelink.new.0=stray a=old:\n\
+.prelink.cache=rows .prelink.journal.new=PLJRNL01\x01\0\0\0\x02\x01a .prelink.new.0=new .prelink.new.x= .prelink.other=other a=old: .prelink.cache=rows .prelink.other=other a=old\n\
+a=old: a=old";
+
+/// Whether a folder is recovered to the files of a line, and so is each image of that.
+fn recovers(alloc: Global, line: &str) -> Result<bool, Fail> {
+    let (files, wanted) = parts(line)?;
+    let mut folder = folder_of(alloc, files, Vec::new(alloc), 100)?;
+    recovered(alloc, &mut folder)?;
+    Ok(has(alloc, &mut folder, wanted)? && each_is(alloc, &folder, wanted)?)
+}
 
 #[test]
-fn recovers_what_is_left(rt: HostRuntime) -> Result<(), JournalFault> {
-    let alloc = rt.alloc();
-    for (number, (files, expected)) in RECOVERED.iter().enumerate() {
-        let mut folder = folder_of(alloc, files, Vec::new(alloc))?;
-        recovered(alloc, &mut folder)?;
-        assert!(rt; has(alloc, &mut folder, expected)?, "{number}");
-        assert!(rt; each_is(alloc, &folder, expected)?, "{number}");
+fn recovers_what_is_left(rt: HostRuntime) -> Result<(), Fail> {
+    for line in RECOVERED.lines() {
+        assert!(rt; recovers(rt.alloc(), line)?, "{line:?}");
     }
     Ok(())
 }
 
 /// Bytes that are no journal: the magic, the number of rows, what a row does, its name, a name twice, and bytes behind the rows.
-const BAD: [&[u8]; 12] = [
-    b"",
-    b"PLJRNL01\0\0\0",
-    b"PLJRNL02\0\0\0\0",
-    b"PLJRNL01\x01\0\0\0",
-    b"PLJRNL01\x01\0\0\0\x01",
-    b"PLJRNL01\x01\0\0\0\x00\x01a",
-    b"PLJRNL01\x01\0\0\0\x03\x01a",
-    b"PLJRNL01\x01\0\0\0\x01\x00",
-    b"PLJRNL01\x01\0\0\0\x01\x03a/b",
-    b"PLJRNL01\x01\0\0\0\x02\x10.prelink.journal",
-    b"PLJRNL01\x02\0\0\0\x01\x01a\x02\x01a",
-    b"PLJRNL01\x01\0\0\0\x01\x01a\0",
-];
+const BAD: &str = "\n\
+PLJRNL01\0\0\0\n\
+PLJRNL02\0\0\0\0\n\
+PLJRNL01\x01\0\0\0\n\
+PLJRNL01\x01\0\0\0\x01\n\
+PLJRNL01\x01\0\0\0\x00\x01a\n\
+PLJRNL01\x01\0\0\0\x03\x01a\n\
+PLJRNL01\x01\0\0\0\x01\x00\n\
+PLJRNL01\x01\0\0\0\x01\x03a/b\n\
+PLJRNL01\x01\0\0\0\x02\x10.prelink.journal\n\
+PLJRNL01\x02\0\0\0\x01\x01a\x02\x01a\n\
+PLJRNL01\x01\0\0\0\x01\x01a\0";
+
+/// Whether a journal is refused, and stands in its folder then as before.
+fn is_refused(alloc: Global, journal: &str) -> Result<bool, JournalFault> {
+    let read = read_journal(alloc, journal.as_bytes());
+    let files = format!(in alloc; ".prelink.journal={journal}")?;
+    let mut folder = folder_of(alloc, files.as_str(), Vec::new(alloc), 100)?;
+    let left = recovered(alloc, &mut folder);
+    let refused = matches!(read, Err(JournalFault::BadJournal));
+    let kept = left == Err(JournalFault::BadJournal);
+    Ok(refused && kept && has(alloc, &mut folder, files.as_str())?)
+}
 
 #[test]
 fn refuses_bad_journals(rt: HostRuntime) -> Result<(), JournalFault> {
-    let alloc = rt.alloc();
-    for bytes in &BAD {
-        assert!(rt;
-            matches!(read_journal(alloc, bytes), Err(JournalFault::BadJournal)),
-            "{bytes:?}"
-        );
-        let files = vec![in alloc;
-            (
-                String::from_str(alloc, ".prelink.journal")?,
-                bytes.to_vec(alloc)?
-            ),
-        ]?;
-        if !are_files(&files) {
-            return Err(JournalFault::BadJournal);
-        }
-        let mut folder = MemoryFolder::new(alloc, &files, Vec::new(alloc), 100)?;
-        assert!(rt;
-            recovered(alloc, &mut folder) == Err(JournalFault::BadJournal),
-            "{bytes:?}"
-        );
-        assert!(rt;
-            folder.take(alloc, ".prelink.journal")?.as_slice() == *bytes,
-            "{bytes:?}"
-        );
+    for journal in BAD.lines() {
+        assert!(rt; is_refused(rt.alloc(), journal)?, "{journal:?}");
     }
     Ok(())
 }
@@ -431,12 +368,16 @@ fn spells_journals(rt: HostRuntime) -> Result<(), JournalFault> {
             [Row::Put { .. }, Row::Drop { .. }, Row::Put { .. }]
         )
     );
-    assert!(rt; read_journal(alloc, &long_journal(alloc, 1025)?)?.len() == 1025);
-    assert!(rt;
-        matches!(
-            read_journal(alloc, &long_journal(alloc, 1026)?),
-            Err(JournalFault::BadJournal)
-        )
-    );
     Ok(())
+}
+
+/// How many rows are read of a journal of so many.
+fn rows_of(alloc: Global, rows: u32) -> Result<usize, JournalFault> {
+    Ok(read_journal(alloc, &long_journal(alloc, rows)?)?.len())
+}
+
+#[test]
+fn reads_the_most_rows(rt: HostRuntime) {
+    assert!(rt; rows_of(rt.alloc(), 1025) == Ok(1025));
+    assert!(rt; rows_of(rt.alloc(), 1026) == Err(JournalFault::BadJournal));
 }

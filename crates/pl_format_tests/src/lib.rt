@@ -6,6 +6,8 @@ mod base;
 #[cfg(test)]
 mod cache;
 #[cfg(test)]
+mod cases;
+#[cfg(test)]
 mod dynamic;
 #[cfg(test)]
 mod elf;

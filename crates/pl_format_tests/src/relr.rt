@@ -1,6 +1,7 @@
 // Tests of pl_relr.
 use pl_base::put64;
 use pl_relr::{RelrFault, is_packable, move_table, pack, unpack};
+use std::alloc::{AllocError, Global};
 use std::test::Fail;
 
 // A table of the gABI's form: an even entry names its place; the next 63 places have the bits from 1 on of an odd entry, and those after them the ones of the next.
@@ -27,42 +28,48 @@ fn table(entries: &[u64; 3]) -> [u8; 24] {
     table
 }
 
-fn table_of_one(entry: u64) -> [u8; 8] {
-    let mut table = [0; 8];
-    put64(&mut table, 0, entry);
-    table
+/// How many places a table names, of which so many are allowed.
+fn count(alloc: Global, table: &[u8], most: u64) -> Result<usize, RelrFault> {
+    Ok(unpack(alloc, table, most)?.len())
 }
 
 #[test]
 fn a_table_names_its_places(rt: HostRuntime) -> Result<(), Fail> {
-    let table = table(&ENTRIES);
-    assert_eq!(rt;
-        unpack(rt.alloc(), &table, 3)?.as_slice(),
-        PLACES.as_slice()
-    );
-    assert!(rt; unpack(rt.alloc(), &table, 2).err() == Some(RelrFault::Packed));
-    assert!(rt; unpack(rt.alloc(), &[0; 20], 3).err() == Some(RelrFault::Packed));
-    assert_eq!(rt; unpack(rt.alloc(), &[], 0)?.len(), 0);
-    for (entry, most, count) in &ONES {
-        let places = unpack(rt.alloc(), &table_of_one(*entry), *most);
-        assert!(rt; places.map(|places| places.len()) == *count);
-    }
+    let alloc = rt.alloc();
+    assert!(rt; unpack(alloc, &table(&ENTRIES), 3)?.as_slice() == PLACES.as_slice());
+    assert!(rt; count(alloc, &table(&ENTRIES), 2) == Err(RelrFault::Packed));
+    assert!(rt; count(alloc, &[0; 20], 3) == Err(RelrFault::Packed));
+    assert!(rt; count(alloc, &[], 0) == Ok(0));
     Ok(())
 }
 
 #[test]
-fn places_have_a_table(rt: HostRuntime) -> Result<(), Fail> {
-    assert!(rt; is_packable(&PLACES));
-    assert_eq!(rt;
-        pack(rt.alloc(), &PLACES)?.as_slice(),
-        table(&ENTRIES).as_slice()
-    );
-    assert!(rt; is_packable(&[]));
-    assert_eq!(rt; pack(rt.alloc(), &[])?.len(), 0);
+fn an_entry_names_places(rt: HostRuntime) {
+    for (entry, most, places) in &ONES {
+        assert!(rt;
+            count(rt.alloc(), &entry.to_le_bytes(), *most) == *places,
+            "{entry}"
+        );
+    }
+}
+
+/// Whether places have this table.
+fn is_packed(alloc: Global, places: &[u64], table: &[u8]) -> Result<bool, AllocError> {
+    Ok(is_packable(places) && pack(alloc, places)?.as_slice() == table)
+}
+
+#[test]
+fn places_have_a_table(rt: HostRuntime) -> Result<(), AllocError> {
+    assert!(rt; is_packed(rt.alloc(), &PLACES, &table(&ENTRIES))?);
+    assert!(rt; is_packed(rt.alloc(), &[], &[])?);
+    Ok(())
+}
+
+#[test]
+fn places_have_no_table(rt: HostRuntime) {
     assert!(rt; !is_packable(&[9]));
     assert!(rt; !is_packable(&[8, 14]));
     assert!(rt; !is_packable(&[0x8000_0000_0000]));
-    Ok(())
 }
 
 #[test]

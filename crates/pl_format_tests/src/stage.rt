@@ -3,10 +3,12 @@ ghost use Rattle.std.specs.Prelude.{OnOk};
 ghost use Rattle.pl_base.specs.Names.{IsNameLength};
 ghost use Rattle.pl_folder.specs.Calls.{IsThere};
 
-use crate::folder::{Listed, folder, has};
-use pl_folder::{Folder, FolderFault, MemoryFolder, NEW_FILE};
+use crate::cases::{number, parts};
+use crate::folder::{folder, has};
+use pl_folder::{Folder, FolderFault, MemoryFolder};
 use pl_stage::{Held, firm_there, fresh};
 use std::alloc::Global;
+use std::test::Fail;
 
 /// Writes a file in two pieces, makes it firm, and gives it another name.
 fn name_new(alloc: Global, folder: &mut MemoryFolder) -> Result<(), FolderFault> {
@@ -31,36 +33,40 @@ fn name_new(alloc: Global, folder: &mut MemoryFolder) -> Result<(), FolderFault>
 }
 
 /// What a read gives after so many of the calls.
-const NAMED: [Listed; 6] = [
-    &[(NEW_FILE, b"old"), ("q", b"old")],
-    &[(NEW_FILE, b"old"), ("a", b""), ("q", b"old")],
-    &[(NEW_FILE, b"old"), ("a", b"two "), ("q", b"old")],
-    &[(NEW_FILE, b"old"), ("a", b"two pieces"), ("q", b"old")],
-    &[(NEW_FILE, b"old"), ("a", b"two pieces"), ("q", b"old")],
-    &[(NEW_FILE, b"old"), ("q", b"two pieces")],
-];
+const NAMED: &str = "\
+0: .prelink.new.0=old q=old\n\
+1: .prelink.new.0=old a= q=old\n\
+2: .prelink.new.0=old a=two  q=old\n\
+3: .prelink.new.0=old a=two pieces q=old\n\
+4: .prelink.new.0=old a=two pieces q=old";
+
+/// What it gives after all of them.
+const ALL_NAMED: &str = ".prelink.new.0=old q=two pieces";
 
 #[test]
 fn names_a_file_that_is_firm(rt: HostRuntime) -> Result<(), FolderFault> {
     let alloc = rt.alloc();
     let mut folder = folder(alloc, 100, 100)?;
-    assert!(rt; name_new(alloc, &mut folder) == Ok(()));
+    name_new(alloc, &mut folder)?;
     assert!(rt; folder.moments() == 5);
-    assert!(rt; has(alloc, &mut folder, NAMED[5])?);
+    assert!(rt; has(alloc, &mut folder, ALL_NAMED)?);
     Ok(())
 }
 
+/// Whether a folder whose call of that number fails is left as a line says.
+fn fails_at(alloc: Global, line: &str) -> Result<bool, Fail> {
+    let (fails, files) = parts(line)?;
+    let fails = number(fails)?;
+    let mut folder = folder(alloc, fails, 100)?;
+    let failed = name_new(alloc, &mut folder) == Err(FolderFault::Failed);
+    let counted = folder.moments() == fails.wrapping_add(1);
+    Ok(failed && counted && has(alloc, &mut folder, files)?)
+}
+
 #[test]
-fn fails_at_each_call(rt: HostRuntime) -> Result<(), FolderFault> {
-    let alloc = rt.alloc();
-    for (fails, files) in NAMED.iter().enumerate().take(5) {
-        let mut folder = folder(alloc, fails as u64, 100)?;
-        assert!(rt;
-            name_new(alloc, &mut folder) == Err(FolderFault::Failed),
-            "{fails}"
-        );
-        assert!(rt; folder.moments() == fails as u64 + 1, "{fails}");
-        assert!(rt; has(alloc, &mut folder, files)?, "{fails}");
+fn fails_at_each_call(rt: HostRuntime) -> Result<(), Fail> {
+    for line in NAMED.lines() {
+        assert!(rt; fails_at(rt.alloc(), line)?, "{line}");
     }
     Ok(())
 }
@@ -95,27 +101,31 @@ fn name_there(alloc: Global, folder: &mut MemoryFolder) -> Result<(), FolderFaul
 }
 
 /// What a read gives after so many of the calls.
-const THERE: [Listed; 5] = [
-    &[(NEW_FILE, b"old"), ("q", b"old")],
-    &[(NEW_FILE, b"old"), ("a", b""), ("q", b"old")],
-    &[(NEW_FILE, b"old"), ("a", b""), ("q", b"old")],
-    &[(NEW_FILE, b"old"), ("a", b""), ("q", b"old")],
-    &[(NEW_FILE, b"old"), ("q", b"")],
-];
+const THERE: &str = "\
+0: .prelink.new.0=old q=old\n\
+1: .prelink.new.0=old a= q=old\n\
+2: .prelink.new.0=old a= q=old\n\
+3: .prelink.new.0=old a= q=old";
+
+/// What it gives after all of them.
+const ALL_THERE: &str = ".prelink.new.0=old q=";
+
+/// Whether a folder whose call of that number fails is left as a line says.
+fn fails_there(alloc: Global, line: &str) -> Result<bool, Fail> {
+    let (fails, files) = parts(line)?;
+    let mut folder = folder(alloc, number(fails)?, 100)?;
+    let failed = name_there(alloc, &mut folder) == Err(FolderFault::Failed);
+    Ok(failed && has(alloc, &mut folder, files)?)
+}
 
 #[test]
-fn names_a_file_that_is_there(rt: HostRuntime) -> Result<(), FolderFault> {
+fn names_a_file_that_is_there(rt: HostRuntime) -> Result<(), Fail> {
     let alloc = rt.alloc();
     let mut whole = folder(alloc, 100, 100)?;
-    assert!(rt; name_there(alloc, &mut whole) == Ok(()));
-    assert!(rt; has(alloc, &mut whole, THERE[4])?);
-    for (fails, files) in THERE.iter().enumerate().take(4) {
-        let mut folder = folder(alloc, fails as u64, 100)?;
-        assert!(rt;
-            name_there(alloc, &mut folder) == Err(FolderFault::Failed),
-            "{fails}"
-        );
-        assert!(rt; has(alloc, &mut folder, files)?, "{fails}");
+    name_there(alloc, &mut whole)?;
+    assert!(rt; has(alloc, &mut whole, ALL_THERE)?);
+    for line in THERE.lines() {
+        assert!(rt; fails_there(alloc, line)?, "{line}");
     }
     Ok(())
 }

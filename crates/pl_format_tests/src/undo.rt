@@ -1,5 +1,5 @@
 // Tests of pl_undo.
-use pl_base::Rows;
+use pl_base::{Rows, part};
 use pl_elf::constants::{ET_DYN, ET_EXEC};
 use pl_io::NoMemory;
 use pl_undo::{Undo, UndoFault, read_undo, write_undo};
@@ -35,15 +35,22 @@ fn section(alloc: Global, kind: u16, at: usize, byte: u8) -> Result<Vec<u8>, All
     Ok(bytes)
 }
 
+/// Whether it is what the section of a library has.
+fn is_of_a_library(undo: &Undo) -> bool {
+    undo.slot == 0x30_0010_1000
+        && undo.cut == 0x1234
+        && undo.shift == 0
+        && undo.length == 0x1234
+        && undo.headers.as_slice() == headers(ET_DYN).as_slice()
+        && undo.kept.as_slice() == b"kept!".as_slice()
+}
+
 #[test]
 fn both_ways(rt: HostRuntime) -> Result<(), UndoFault> {
     let alloc = rt.alloc();
     let bytes = section(alloc, ET_DYN, 0, b'P')?;
     let undo = read_undo(alloc, &bytes)?;
-    let numbers = [undo.slot, undo.cut, undo.shift, undo.length];
-    assert!(rt; numbers == [0x30_0010_1000, 0x1234, 0, 0x1234]);
-    assert!(rt; undo.headers.as_slice() == headers(ET_DYN).as_slice());
-    assert!(rt; undo.kept.as_slice() == b"kept!".as_slice());
+    assert!(rt; is_of_a_library(&undo));
     assert!(rt; write_undo(alloc, &undo).as_deref() == Ok(bytes.as_slice()));
     Ok(())
 }
@@ -65,19 +72,28 @@ fn writes_for_a_program(rt: HostRuntime) -> Result<(), NoMemory> {
     Ok(())
 }
 
-/// A section of version 2 has the digest behind the first bytes and the numbers, and the header behind it.
-#[test]
-fn writes_the_digest(rt: HostRuntime) -> Result<(), UndoFault> {
-    let alloc = rt.alloc();
+/// The section of a library with a digest.
+fn with_digest(alloc: Global) -> Result<Vec<u8>, UndoFault> {
     let mut undo = read_undo(alloc, &section(alloc, ET_DYN, 0, b'P')?)?;
     undo.digest = Some([7; 32]);
-    let Ok(bytes) = write_undo(alloc, &undo) else {
-        return Err(UndoFault::NoMemory);
-    };
-    assert!(rt; bytes.starts_with(b"PLUNDO02"));
-    assert!(rt; bytes.get(48..80) == Some([7u8; 32].as_slice()));
-    assert!(rt; bytes.get(80..328) == Some(headers(ET_DYN).as_slice()));
-    assert!(rt; read_undo(alloc, &bytes)?.digest == Some([7; 32]));
+    match write_undo(alloc, &undo) {
+        Ok(bytes) => Ok(bytes),
+        Err(_) => Err(UndoFault::NoMemory),
+    }
+}
+
+/// A section of version 2 has the digest behind the first bytes and the numbers, and the header behind it.
+fn is_of_version_2(bytes: &[u8]) -> bool {
+    bytes.starts_with(b"PLUNDO02")
+        && part(bytes, 48, 32) == [7u8; 32].as_slice()
+        && part(bytes, 80, 248) == headers(ET_DYN).as_slice()
+}
+
+#[test]
+fn writes_the_digest(rt: HostRuntime) -> Result<(), UndoFault> {
+    let bytes = with_digest(rt.alloc())?;
+    assert!(rt; is_of_version_2(&bytes));
+    assert!(rt; read_undo(rt.alloc(), &bytes)?.digest == Some([7; 32]));
     Ok(())
 }
 
@@ -121,18 +137,23 @@ fn refuses_what_is_no_section(rt: HostRuntime) -> Result<(), AllocError> {
 }
 
 /// Sizes to which the section of 301 bytes is cut.
-const SIZES: [usize; 6] = [0, 47, 48, 111, 112, 300];
+const SIZES: [u64; 6] = [0, 47, 48, 111, 112, 300];
 
 #[test]
 fn refuses_other_sizes(rt: HostRuntime) -> Result<(), AllocError> {
     let alloc = rt.alloc();
-    let bad = Some(UndoFault::BadUndo);
-    let mut bytes = section(alloc, ET_DYN, 0, b'P')?;
-    bytes.push(0)?;
-    assert!(rt; fault(alloc, &bytes) == bad);
-    for size in SIZES.iter().rev() {
-        bytes.truncate(*size);
-        assert!(rt; fault(alloc, &bytes) == bad, "{size}");
+    let bytes = section(alloc, ET_DYN, 0, b'P')?;
+    for size in SIZES {
+        let cut = part(&bytes, 0, size);
+        assert!(rt; fault(alloc, cut) == Some(UndoFault::BadUndo), "{size}");
     }
+    Ok(())
+}
+
+#[test]
+fn refuses_a_byte_behind_it(rt: HostRuntime) -> Result<(), AllocError> {
+    let mut bytes = section(rt.alloc(), ET_DYN, 0, b'P')?;
+    bytes.extend_from_slice(b"\0")?;
+    assert!(rt; fault(rt.alloc(), &bytes) == Some(UndoFault::BadUndo));
     Ok(())
 }

@@ -1,6 +1,8 @@
 // Tests of pl_ver.
+use crate::cases::{numbers, parts};
 use pl_ver::{VerFault, Versions, read_versions, version_of};
-use std::alloc::Global;
+use std::alloc::{AllocError, Global};
+use std::test::Fail;
 
 /// The sections from which versions are read, and how many Verdef and Verneed records there are.
 #[derive(Clone, Copy)]
@@ -90,16 +92,22 @@ const LINKED_NAMES: [(u16, &[u8], bool); 5] = [
     (4, b"B2", false),
 ];
 
+/// Whether the names of versions are these.
+fn has_names(versions: &Versions, names: &[(u16, &[u8], bool)]) -> bool {
+    for (row, (index, name, defined)) in versions.names.as_slice().iter().zip(names) {
+        if row.index != *index || row.defined != *defined || row.name.as_slice() != *name {
+            return false;
+        }
+    }
+    versions.names.len() == names.len()
+}
+
 #[test]
 fn reads_what_a_linker_wrote(rt: HostRuntime) -> Result<(), VerFault> {
     let linked = read(rt.alloc(), &LINKED)?;
     let index = [0, 4, 5, 0x8002, 3, 3, 2, 2, 3];
     assert!(rt; linked.index.as_slice() == index.as_slice());
-    assert!(rt; linked.names.len() == LINKED_NAMES.len());
-    for (row, (index, name, defined)) in linked.names.as_slice().iter().zip(&LINKED_NAMES) {
-        assert!(rt; row.index == *index && row.defined == *defined, "{index}");
-        assert!(rt; row.name.as_slice() == *name, "{index}");
-    }
+    assert!(rt; has_names(&linked, &LINKED_NAMES));
     Ok(())
 }
 
@@ -121,170 +129,195 @@ fn finds_versions(rt: HostRuntime) -> Result<(), VerFault> {
     let made = read(alloc, &MADE)?;
     let linked = read(alloc, &LINKED)?;
     for (word, of_made, of_linked) in &ASKED {
-        assert!(rt; version_of(&made, *word) == *of_made, "{word}");
-        assert!(rt; version_of(&linked, *word) == *of_linked, "{word}");
+        let is_made = version_of(&made, *word) == *of_made;
+        let is_linked = version_of(&linked, *word) == *of_linked;
+        assert!(rt; is_made && is_linked, "{word}");
     }
     Ok(())
 }
 
-const BAD_CHAIN: Option<VerFault> = Some(VerFault::BadChain);
-
-const BAD_INDEX: Option<VerFault> = Some(VerFault::BadIndex);
-
-/// An offset in a section, the byte that is put there, and the first clause that refuses it then.
-type Edit = (usize, u8, Option<VerFault>);
-
-/// Indices of symbols.
-const VERSYM_EDITS: [Edit; 3] = [(14, 9, BAD_INDEX), (15, 0x80, None), (15, 0x40, BAD_INDEX)];
-
-const VERDEF_EDITS: [Edit; 18] = [
-    // records that pass their section, and names without end
-    (69, 1, BAD_CHAIN),
-    (20, 23, BAD_CHAIN),
-    (51, 255, BAD_CHAIN),
-    // chains longer or shorter than their counts
-    (16, 0, BAD_CHAIN),
-    (72, 4, BAD_CHAIN),
-    (6, 2, BAD_CHAIN),
-    (24, 8, BAD_CHAIN),
-    // a Verdef without a name
-    (6, 0, BAD_CHAIN),
-    // indices of records
-    (32, 3, BAD_INDEX),
-    (33, 0x80, BAD_INDEX),
-    (2, 0, BAD_INDEX),
-    (2, 2, BAD_INDEX),
-    (2, 3, None),
-    (4, 0, None),
-    (30, 1, None),
-    // a Verdaux that two Verdefs share
-    (12, 48, None),
-    // versions and hashes
-    (0, 9, None),
-    (8, 9, None),
-];
-
-const VERNEED_EDITS: [Edit; 15] = [
-    // records that pass their section, and names without end
-    (9, 1, BAD_CHAIN),
-    (4, 23, BAD_CHAIN),
-    (40, 23, BAD_CHAIN),
-    (40, 22, None),
-    // chains longer or shorter than their counts
-    (2, 1, BAD_CHAIN),
-    (2, 3, BAD_CHAIN),
-    (12, 16, BAD_CHAIN),
-    (28, 0, BAD_CHAIN),
-    // a Verneed without a version reads nothing
-    (2, 0, BAD_INDEX),
-    // indices of records
-    (22, 2, BAD_INDEX),
-    (22, 5, BAD_INDEX),
-    (38, 0, BAD_INDEX),
-    // versions, hashes, flags of Vernaux records
-    (0, 9, None),
-    (16, 9, None),
-    (20, 9, None),
-];
-
-fn put(section: &mut [u8], at: usize, byte: u8) {
-    if at < section.len() {
-        section[at] = byte;
+/// What is read of sections, as the cases spell it.
+fn answer(alloc: Global, sections: &Sections<'_>) -> Result<String, AllocError> {
+    match read(alloc, sections) {
+        Ok(_) => String::from_str(alloc, "read"),
+        Err(fault) => format!(in alloc; "{fault:?}"),
     }
 }
 
-fn fault(alloc: Global, sections: &Sections<'_>) -> Option<VerFault> {
-    read(alloc, sections).err()
-}
+/// A section, or the Verdef section of the linker, an offset there and the byte that is put there, in hexadecimal, and what is read of the sections then. In turn: indices of symbols; in both others records that pass their section and names without end, chains longer or shorter than their counts, a record without a name or a version, indices of records; a Verdaux that two Verdefs share; versions, hashes and flags; the linker's second name of V2.
+const EDITS: &str = "\
+versym e 9: BadIndex\n\
+versym f 80: read\n\
+versym f 40: BadIndex\n\
+verdef 45 1: BadChain\n\
+verdef 14 17: BadChain\n\
+verdef 33 ff: BadChain\n\
+verdef 10 0: BadChain\n\
+verdef 48 4: BadChain\n\
+verdef 6 2: BadChain\n\
+verdef 18 8: BadChain\n\
+verdef 6 0: BadChain\n\
+verdef 20 3: BadIndex\n\
+verdef 21 80: BadIndex\n\
+verdef 2 0: BadIndex\n\
+verdef 2 2: BadIndex\n\
+verdef 2 3: read\n\
+verdef 4 0: read\n\
+verdef 1e 1: read\n\
+verdef c 30: read\n\
+verdef 0 9: read\n\
+verdef 8 9: read\n\
+verneed 9 1: BadChain\n\
+verneed 4 17: BadChain\n\
+verneed 28 17: BadChain\n\
+verneed 28 16: read\n\
+verneed 2 1: BadChain\n\
+verneed 2 3: BadChain\n\
+verneed c 10: BadChain\n\
+verneed 1c 0: BadChain\n\
+verneed 2 0: BadIndex\n\
+verneed 16 2: BadIndex\n\
+verneed 16 5: BadIndex\n\
+verneed 26 0: BadIndex\n\
+verneed 0 9: read\n\
+verneed 10 9: read\n\
+verneed 14 9: read\n\
+linked 54 ff: BadChain";
 
-#[test]
-fn refuses_by_the_first_clause(rt: HostRuntime) {
-    for (at, byte, wanted) in &VERSYM_EDITS {
-        let mut versym = VERSYM;
-        put(&mut versym, *at, *byte);
-        let sections = Sections {
-            versym: &versym,
-            ..MADE
-        };
-        assert!(rt; fault(rt.alloc(), &sections) == *wanted, "versym {at}");
-    }
-    for (at, byte, wanted) in &VERDEF_EDITS {
-        let mut verdef = VERDEF;
-        put(&mut verdef, *at, *byte);
-        let sections = Sections {
-            verdef: &verdef,
-            ..MADE
-        };
-        assert!(rt; fault(rt.alloc(), &sections) == *wanted, "verdef {at}");
-    }
-    for (at, byte, wanted) in &VERNEED_EDITS {
-        let mut verneed = VERNEED;
-        put(&mut verneed, *at, *byte);
-        let sections = Sections {
-            verneed: &verneed,
-            ..MADE
-        };
-        assert!(rt; fault(rt.alloc(), &sections) == *wanted, "verneed {at}");
-    }
-}
-
-/// How many bytes are left of the versym, the verdef, the verneed and the strings, and the first clause that refuses them then.
-const CUTS: [(usize, usize, usize, usize, Option<VerFault>); 5] = [
-    (15, 84, 48, 23, None),
-    (0, 84, 48, 23, None),
-    (16, 83, 48, 23, BAD_CHAIN),
-    (16, 84, 47, 23, BAD_CHAIN),
-    (16, 84, 48, 22, BAD_CHAIN),
-];
-
-fn cut(section: &[u8], size: usize) -> &[u8] {
-    &section[..size.min(section.len())]
-}
-
-#[test]
-fn refuses_sections_that_are_cut(rt: HostRuntime) {
-    for (versym, verdef, verneed, strings, wanted) in &CUTS {
-        let sections = Sections {
-            versym: cut(&VERSYM, *versym),
-            verdef: cut(&VERDEF, *verdef),
-            verneed: cut(&VERNEED, *verneed),
-            strings: cut(STRINGS, *strings),
-            ..MADE
-        };
-        assert!(rt;
-            fault(rt.alloc(), &sections) == *wanted,
-            "{versym} {verdef} {verneed}"
-        );
-    }
-
-    // the second name of V2
-    let mut verdef = LINKED_VERDEF;
-    put(&mut verdef, 84, 255);
-    let sections = Sections {
-        verdef: &verdef,
-        ..LINKED
+/// A section with another byte at an offset.
+fn edited(alloc: Global, section: &[u8], edit: &[u64]) -> Result<Vec<u8>, Fail> {
+    let [at, byte] = edit else {
+        return Err("two numbers".into());
     };
-    assert!(rt; fault(rt.alloc(), &sections) == BAD_CHAIN);
+    let mut section = section.to_vec(alloc)?;
+    if let Some(place) = section.get_mut(*at as usize) {
+        *place = u8::try_from(*byte)?;
+    }
+    Ok(section)
 }
 
-/// How many Verdef and Verneed records there are to be, and the first clause that refuses the sections then.
-const COUNTS: [(u64, u64, Option<VerFault>); 6] = [
-    (2, 1, BAD_CHAIN),
-    (4, 1, BAD_CHAIN),
-    (u64::MAX, 1, BAD_CHAIN),
-    (3, 2, BAD_CHAIN),
-    (0, 1, BAD_INDEX),
-    (3, 0, BAD_INDEX),
-];
+/// What is read of the sections with one of them edited.
+fn answer_to(alloc: Global, section: &str, edit: &[u64]) -> Result<String, Fail> {
+    if section == "versym" {
+        let versym = edited(alloc, &VERSYM, edit)?;
+        Ok(answer(
+            alloc,
+            &Sections {
+                versym: &versym,
+                ..MADE
+            },
+        )?)
+    } else if section == "verdef" {
+        let verdef = edited(alloc, &VERDEF, edit)?;
+        Ok(answer(
+            alloc,
+            &Sections {
+                verdef: &verdef,
+                ..MADE
+            },
+        )?)
+    } else if section == "verneed" {
+        let verneed = edited(alloc, &VERNEED, edit)?;
+        Ok(answer(
+            alloc,
+            &Sections {
+                verneed: &verneed,
+                ..MADE
+            },
+        )?)
+    } else {
+        let verdef = edited(alloc, &LINKED_VERDEF, edit)?;
+        Ok(answer(
+            alloc,
+            &Sections {
+                verdef: &verdef,
+                ..LINKED
+            },
+        )?)
+    }
+}
+
+/// Whether the edit of a line is read as the line says.
+fn is_answered(alloc: Global, line: &str) -> Result<bool, Fail> {
+    let (edit, wanted) = parts(line)?;
+    let (section, edit) = edit.split_once(' ').ok_or("a section")?;
+    let answer = answer_to(alloc, section, &numbers(alloc, edit)?)?;
+    Ok(answer.as_str() == wanted)
+}
 
 #[test]
-fn refuses_other_counts(rt: HostRuntime) {
-    for (defs, needs, wanted) in &COUNTS {
-        let sections = Sections {
-            defs: *defs,
-            needs: *needs,
-            ..MADE
-        };
-        assert!(rt; fault(rt.alloc(), &sections) == *wanted, "{defs} {needs}");
+fn refuses_by_the_first_clause(rt: HostRuntime) -> Result<(), Fail> {
+    for line in EDITS.lines() {
+        assert!(rt; is_answered(rt.alloc(), line)?, "{line}");
     }
+    Ok(())
+}
+
+/// How many bytes are left of the versym, the verdef, the verneed and the strings, in hexadecimal, and what is read of them then.
+const CUTS: &str = "\
+f 54 30 17: read\n\
+0 54 30 17: read\n\
+10 53 30 17: BadChain\n\
+10 54 2f 17: BadChain\n\
+10 54 30 16: BadChain";
+
+fn cut(section: &[u8], size: u64) -> &[u8] {
+    &section[..section.len().min(size as usize)]
+}
+
+/// Whether the cut sections of a line are read as the line says.
+fn is_cut(alloc: Global, line: &str) -> Result<bool, Fail> {
+    let (sizes, wanted) = parts(line)?;
+    let sizes = numbers(alloc, sizes)?;
+    let [versym, verdef, verneed, strings] = sizes.as_slice() else {
+        return Err("four sizes".into());
+    };
+    let sections = Sections {
+        versym: cut(&VERSYM, *versym),
+        verdef: cut(&VERDEF, *verdef),
+        verneed: cut(&VERNEED, *verneed),
+        strings: cut(STRINGS, *strings),
+        ..MADE
+    };
+    Ok(answer(alloc, &sections)?.as_str() == wanted)
+}
+
+#[test]
+fn refuses_sections_that_are_cut(rt: HostRuntime) -> Result<(), Fail> {
+    for line in CUTS.lines() {
+        assert!(rt; is_cut(rt.alloc(), line)?, "{line}");
+    }
+    Ok(())
+}
+
+/// How many Verdef and Verneed records there are to be, in hexadecimal, and what is read of the sections then.
+const COUNTS: &str = "\
+2 1: BadChain\n\
+4 1: BadChain\n\
+ffffffffffffffff 1: BadChain\n\
+3 2: BadChain\n\
+0 1: BadIndex\n\
+3 0: BadIndex";
+
+/// Whether the sections with the counts of a line are read as the line says.
+fn is_counted(alloc: Global, line: &str) -> Result<bool, Fail> {
+    let (counts, wanted) = parts(line)?;
+    let counts = numbers(alloc, counts)?;
+    let [defs, needs] = counts.as_slice() else {
+        return Err("two counts".into());
+    };
+    let sections = Sections {
+        defs: *defs,
+        needs: *needs,
+        ..MADE
+    };
+    Ok(answer(alloc, &sections)?.as_str() == wanted)
+}
+
+#[test]
+fn refuses_other_counts(rt: HostRuntime) -> Result<(), Fail> {
+    for line in COUNTS.lines() {
+        assert!(rt; is_counted(rt.alloc(), line)?, "{line}");
+    }
+    Ok(())
 }

@@ -1,13 +1,13 @@
 -- Where libraries, with their alignments, take no more addresses than a region has, each gets a slot.
-use Rattle.std.proofs.Common.{◌≡◌, ◌≢◌, ℕ, ◌+◌, ◌-◌, ◌*◌, ◌/◌, ◌<◌, ◌≤◌, true, List, [], ◌∷◌, ◌++◌, Option, Some, None, Result, Ok, refl, sym, ap, ◌∙◌, arith, inl, inr}
+use Rattle.std.proofs.Common.{◌≡◌, ℕ, ◌+◌, ◌-◌, ◌<◌, ◌≤◌, true, List, [], ◌∷◌, ◌++◌, Option, Some, None, Result, Ok, refl, sym, ap, ◌∙◌, arith, inl, inr}
 use Rattle.std.specs.Prelude.{fold, max, min, nat_le}
 use Rattle.std.specs.List.{AllByRecursion, flat_map}
-use Rattle.std.proofs.lemmas.Bool.{and_from, and_parts, cases_lt, false≢true, le-leb, leb-true, lt-ltb, or_cases, or_left, or_right}
+use Rattle.std.proofs.lemmas.Bool.{and_from, and_parts, false≢true, le-leb, leb-true, lt-ltb, or_cases, or_left, or_right}
 use Rattle.std.proofs.lemmas.List.Folds.{list_any-append}
 use Rattle.std.proofs.Math.Nat.{div-mul-le_self}
 use Rattle.pl_base.specs.Answers.{◌>>=◌}
 use Rattle.pl_base.specs.Each.{run}
-use Rattle.pl_base.specs.Sums.{is_aligned, round_up}
+use Rattle.pl_base.specs.Sums.{round_up}
 use Rattle.pl_base.proofs.SumLaws.{round_up-aligned, round_up-at_least}
 use Rattle.pl_elf.specs.declared.range.Range.{Range}
 use Rattle.pl_exact.proofs.SlotLemmas.{Fits}
@@ -135,8 +135,9 @@ pub all_placed : (region : Range) (ws : List Want) → region.start < region.end
 unfolding plan
 all_placed region ws some room fits =
     let begun : Planned = record { rows = []; holes = region_holes region } in
-    let p = placing region ws begun (all_take ws) region.start fits (region_are_holes region) (region_fits region (all_take ws) some room) (omega arith) in
-    (p.0.rows,
-    ap (λ (kept : List Slot). run (next kept region) (record { rows = []; holes = kept_holes kept region ws }) ws >>= λ (planned : Planned). Ok planned.rows) (no_rows region ws)
-    ∙ (ap (λ (holes : List Range). run (next [] region) (record { rows = []; holes = holes }) ws >>= λ (planned : Planned). Ok planned.rows) (whole_region region ws)
-    ∙ ap (λ (r : Result Planned PlanFault). r >>= λ (planned : Planned). Ok planned.rows) p.1))
+    let p = placing region ws begun (all_take ws) region.start fits (region_are_holes region) (region_fits region (all_take ws) some room) (omega arith) in (
+      p.0.rows,
+      ap (λ (kept : List Slot). run (next kept region) (record { rows = []; holes = kept_holes kept region ws }) ws >>= λ (planned : Planned). Ok planned.rows) (no_rows region ws)
+          ∙ (ap (λ (holes : List Range). run (next [] region) (record { rows = []; holes = holes }) ws >>= λ (planned : Planned). Ok planned.rows) (whole_region region ws)
+          ∙ ap (λ (r : Result Planned PlanFault). r >>= λ (planned : Planned). Ok planned.rows) p.1),
+    )

@@ -22,7 +22,6 @@ use Rattle.pl_batch.specs.declared.room.TheConstants.{FILES}
 use Rattle.pl_demo.specs.Made.{made, made_files, no_files, with_file, with_made}
 use Rattle.pl_journal.specs.Names.{is_own, journal}
 use Rattle.pl_journal.specs.Rows.{rows_in}
-use Rattle.pl_journal.specs.declared.row.Row.{Row}
 use Rattle.pl_journal.proofs.Done.{row_not_own}
 use Rattle.pl_scope.proofs.NameLaws.{eq_refl}
 

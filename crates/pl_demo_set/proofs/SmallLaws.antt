@@ -1,8 +1,8 @@
 -- A run that prelinks everything takes a small folder.
-use Rattle.std.proofs.Common.{◌≡◌, ℕ, suc, ◌+◌, ◌*◌, ◌^◌, ◌<◌, ◌≤◌, Bool, true, false, cond, List, [], ◌∷◌, map, length, Option, Some, None, Result, Ok, Err, refl, sym, ap, subst, ◌∙◌, arith, inl, inr, ⊎_elim}
+use Rattle.std.proofs.Common.{◌≡◌, ℕ, suc, ◌+◌, ◌*◌, ◌≤◌, Bool, true, false, List, [], ◌∷◌, length, Option, Some, None, Result, Ok, Err, refl, ap, subst, ◌∙◌, arith, inl, inr}
 use Rattle.std.specs.Prelude.{◌==◌, count_by, filter, fold, max, nat_le, nat_lt, not, if◌then◌else◌}
 use Rattle.std.specs.FinMap.{contains_key-keys, get, keys}
-use Rattle.std.specs.List.{AllByRecursion, cons_option, filter_map, list_any, sum_by}
+use Rattle.std.specs.List.{AllByRecursion, cons_option, list_any, sum_by}
 use Rattle.std.specs.Option.{is_some, option_map}
 use Rattle.std.proofs.lemmas.Bool.{cases_Bool, false≢true, le-leb, or_left, or_right}
 use Rattle.std.proofs.lemmas.Bool.Decides.{nat_tests}
@@ -13,14 +13,11 @@ use Rattle.pl_base.specs.Answers.{◌>>=◌, because, unless}
 use Rattle.pl_base.specs.Each.{each}
 use Rattle.pl_base.specs.Files as base
 use Rattle.pl_base.specs.Names.{is_valid_name}
-use Rattle.pl_base.proofs.AnswerLaws.{ok_same}
-use Rattle.pl_base.proofs.EachLaws.{length-each}
 use Rattle.pl_batch.specs.All.{all_changes, all_made, asked_of, made_by, made_of, made_with, of_planning, spelled, with_cache}
 use Rattle.pl_batch.specs.Changes.{changes_of, fitting, run_meant}
 use Rattle.pl_batch.specs.Commands.{ready}
 use Rattle.pl_batch.specs.Folder.{all_files, are_large, bad_cache, cache, cache_by, cache_file, cache_in, named, no_cache, valid_names}
 use Rattle.pl_batch.specs.Names.{are_many, file_of, of_file}
-use Rattle.pl_batch.specs.declared.all.AllMade.{AllMade}
 use Rattle.pl_batch.specs.declared.cause.Cause.{Cause}
 use Rattle.pl_batch.specs.declared.cause.Cause.TheVariants as causes
 use Rattle.pl_batch.specs.declared.prelinking.Prelinking.{Prelinking}
@@ -28,30 +25,25 @@ use Rattle.pl_batch.specs.declared.reading.TheConstants.{FOLDER}
 use Rattle.pl_batch.specs.declared.room.TheConstants.{FILES}
 use Rattle.pl_batch.specs.declared.run.Run.TheVariants.{All}
 use Rattle.pl_batch.proofs.CacheLemmas.{empty_spelled}
-use Rattle.pl_cache.specs.Reading.{read}
 use Rattle.pl_cache.specs.Spelling.{cache_bytes, is_cache}
 use Rattle.pl_cache.specs.declared.cache.Cache.{Cache}
-use Rattle.pl_cache.specs.declared.fault.CacheFault.{CacheFault}
 use Rattle.pl_cache.proofs.CacheLaws.{read_again}
 use Rattle.pl_cone.specs.Cone.{stamp_after}
-use Rattle.pl_cone.specs.declared.skip.ConeFault.{ConeFault}
 use Rattle.pl_cone.specs.declared.skip.Skip.{Skip}
 use Rattle.pl_conflict.specs.Format.{format, mark_in, mark_of}
 use Rattle.pl_conflict.proofs.FormatLaws.{read_is}
 use Rattle.pl_elf.specs.Kinds.{is_library}
-use Rattle.pl_elf.specs.declared.range.Range.{Range}
 use Rattle.pl_exact.specs.Causes.{IsAsked}
 use Rattle.pl_exact.proofs.FitLemmas.{runs_fit}
 use Rattle.pl_exact.proofs.SlotLemmas.{Among, Fits, among_holds, among_short, want_name, wants_among}
 use Rattle.pl_exact.proofs.SpellLemmas.{next_spelled}
-use Rattle.pl_folder.specs.Disk.{Name, same}
+use Rattle.pl_folder.specs.Disk.{same}
 use Rattle.pl_folder.specs.declared.TheConstants.{STORED}
 use Rattle.pl_folder.proofs.ImageLaws.{itself}
 use Rattle.pl_form.specs.Files.{marked_in, original_by, original_in}
 use Rattle.pl_journal.specs.Names.{journal}
 use Rattle.pl_journal.specs.Rows.{rows_in}
 use Rattle.pl_journal.specs.declared.change.Change.{Change}
-use Rattle.pl_journal.specs.declared.row.Row.{Row}
 use Rattle.pl_known.specs.Plans.{candidates, greatest, greatest_of, is_candidate, planned, slots, slots_of, stale, stamp_for, standings, walks, wants}
 use Rattle.pl_known.specs.Skips.{skip_causes}
 use Rattle.pl_object.specs.Reads.{reads}
@@ -66,12 +58,11 @@ use Rattle.pl_rewrite.specs.declared.rewriting.Rewritten.{Rewritten}
 use Rattle.pl_share.specs.Disjoint.{disjoint}
 use Rattle.pl_share.specs.Shared.{plan_shared}
 use Rattle.pl_slots.specs.Plan.{plan}
-use Rattle.pl_slots.specs.declared.fault.PlanFault.{PlanFault}
 use Rattle.pl_slots.specs.declared.slot.Slot.{Slot}
 use Rattle.pl_slots.specs.declared.slot.Want.{Want}
-use Rattle.pl_sound.specs.Rule.{Files, Mark, mark_at, object_at, objects}
-use Rattle.pl_fast.specs.Small.{Bounds, HasRoom, IsSmall, IsSmallFolder, SmallFoldersAreTaken}
-use Rattle.pl_fast.proofs.RoomLaws.{all_placed, all_take}
+use Rattle.pl_sound.specs.Rule.{Mark, mark_at, object_at, objects}
+use Rattle.pl_demo_set.specs.Small.{Bounds, HasRoom, IsSmall, SmallFoldersAreTaken}
+use Rattle.pl_demo_set.proofs.RoomLaws.{all_placed, all_take}
 
 -- ---- files
 
@@ -114,6 +105,9 @@ more_taken : (most l k t : ℕ) → k ≤ most → t ≤ l * most → k + t ≤ 
 more_taken most l k t le rest =
     let is : (l + 1) * most ≡ l * most + 1 * most = add-mul l 1 most in
     omega (arith, is, le, rest)
+
+then_ok : {X Y E : Type 0} (r : Result X E) (x : X) (f : X → Result Y E) → r ≡ Ok x → (r >>= f) ≡ f x
+then_ok r x f e = rw e refl
 
 module _ (files : base.Files) (b : Bounds) (small : (n file : List ℕ) → get files n ≡ Some file → IsSmall b file) where
   one_taken : b.bytes ≤ STORED → (n file : List ℕ) → get files n ≡ Some file → file_of files n ≡ Ok file
@@ -237,10 +231,11 @@ module _ (files : base.Files) (b : Bounds) (small : (n file : List ℕ) → get 
     unfolding planned
     is_planned =
         let s = slots_taken in
-        let t = stamp_taken ns (stale (named files) p.region s.0 ns) a refl in
-        (plan_made s.0 t.0,
-        ap (λ (r : Result (List Slot) PlanningFault). r >>= λ rows. stamp_for (named files) ns a (stale (named files) p.region rows ns) >>= λ stamp. Ok (plan_made rows stamp)) s.1
-        ∙ ap (λ (r : Result ℕ PlanningFault). r >>= λ stamp. Ok (plan_made s.0 stamp)) t.1)
+        let t = stamp_taken ns (stale (named files) p.region s.0 ns) a refl in (
+          plan_made s.0 t.0,
+          ap (λ (r : Result (List Slot) PlanningFault). r >>= λ rows. stamp_for (named files) ns a (stale (named files) p.region rows ns) >>= λ stamp. Ok (plan_made rows stamp)) s.1
+              ∙ ap (λ (r : Result ℕ PlanningFault). r >>= λ stamp. Ok (plan_made s.0 stamp)) t.1,
+        )
 
     is_rewritten : rewrite (named files) ns a ≡ Ok (rewritten (named files) ns a is_planned.0)
     unfolding rewrite
@@ -252,16 +247,16 @@ module _ (files : base.Files) (b : Bounds) (small : (n file : List ℕ) → get 
     unfolding cache_in
     empty_says = ap (because bad_cache) (read_again no_cache (empty_spelled [] refl))
 
-    abbrev all_rows : AllMade
-    all_rows = with_cache (cache_bytes no_cache) (rewritten (named files) ns a is_planned.0)
+    abbrev run_made : Rewritten
+    run_made = rewritten (named files) ns a is_planned.0
 
-    made_taken : IsAsked p → made_of (named files) ns p (cache_bytes no_cache) no_cache ≡ Ok all_rows
+    made_taken : IsAsked p → made_of (named files) ns p (cache_bytes no_cache) no_cache ≡ Ok (with_cache (cache_bytes no_cache) run_made)
     unfolding made_of spelled
     made_taken asked =
         let w = rewritten (named files) ns a is_planned.0 in
         let fine : is_cache w.cache ≡ true = next_spelled files p no_cache is_planned.0 asked.region asked.moment (empty_spelled [] refl) few is_planned.1 in
         ap (λ (r : Result Rewritten PlanningFault). because of_planning r >>= spelled (cache_bytes no_cache)) is_rewritten
-        ∙ ap (λ (test : Bool). unless (not test) causes.BadCache (Ok all_rows)) fine
+        ∙ ap (λ (test : Bool). unless (not test) causes.BadCache (Ok (with_cache (cache_bytes no_cache) run_made))) fine
 
     files_taken : AreTaken files b.bytes ns
     files_taken = are_taken room.stored ns (all_there files)
@@ -272,30 +267,29 @@ module _ (files : base.Files) (b : Bounds) (small : (n file : List ℕ) → get 
         let most : length ns * b.bytes ≤ b.files * b.bytes = mul-le-mul_right b.bytes names_few in
         not_below FOLDER (sum_by (λ file. length (original_in file)) files_taken.bytes) (omega (arith, files_taken.few, most, room.together))
 
-    with_taken : IsAsked p → made_with files p (cache_bytes no_cache) no_cache ≡ Ok all_rows
+    with_taken : IsAsked p → made_with files p (cache_bytes no_cache) no_cache ≡ Ok (with_cache (cache_bytes no_cache) run_made)
     unfolding made_with all_files
     with_taken asked =
         ap (λ (r : Result (List (List ℕ)) Cause). r >>= λ bytes. unless (are_large bytes) causes.FolderTooLarge (made_of (named files) ns p (cache_bytes no_cache) no_cache)) files_taken.taken
         ∙ (ap (λ (test : Bool). unless test causes.FolderTooLarge (made_of (named files) ns p (cache_bytes no_cache) no_cache)) not_large ∙ made_taken asked)
 
-    by_taken : IsAsked p → get files cache ≡ None → made_by files p ≡ Ok all_rows
+    by_taken : IsAsked p → get files cache ≡ None → made_by files p ≡ Ok (with_cache (cache_bytes no_cache) run_made)
     unfolding made_by cache_file
     by_taken asked none =
         ap (λ (o : Option (List ℕ)). cache_by o >>= λ old. cache_in old >>= λ cached. made_with files p old cached) none
         ∙ (ap (λ (r : Result Cache Cause). r >>= λ cached. made_with files p (cache_bytes no_cache) cached) empty_says ∙ with_taken asked)
 
-    all_taken : IsAsked p → get files cache ≡ None → all_changes files p ≡ Ok all_rows.rows
+    all_taken : IsAsked p → get files cache ≡ None → all_changes files p ≡ Ok (with_cache (cache_bytes no_cache) run_made).rows
     unfolding all_changes all_made
     all_taken asked none =
-        ap (λ (test : Bool). unless test causes.TooManyFiles (made_by files p) >>= λ made. Ok made.rows) few
-        ∙ ap (λ (r : Result AllMade Cause). r >>= λ made. Ok made.rows) (by_taken asked none)
+        then_ok (unless (are_many (keys files)) causes.TooManyFiles (made_by files p)) (with_cache (cache_bytes no_cache) run_made) (λ made. Ok made.rows) (ap (λ (test : Bool). unless test causes.TooManyFiles (made_by files p)) few ∙ by_taken asked none)
 
-    run_taken : IsAsked p → get files cache ≡ None → get files journal ≡ None → run_meant (All p) files ≡ Ok all_rows.rows
+    run_taken : IsAsked p → get files cache ≡ None → get files journal ≡ None → run_meant (All p) files ≡ Ok (with_cache (cache_bytes no_cache) run_made).rows
     unfolding ready changes_of
     run_taken asked none without =
         let taken = all_taken asked none in
-        ap (λ (o : Option (List ℕ)). unless (not (is_some (rows_in o))) causes.BadJournal (Ok []) >>= λ ready. changes_of files (All p)) without
-        ∙ (ap (λ (r : Result (List Change) Cause). r >>= fitting) taken ∙ runs_fit files (All p) all_rows.rows taken)
+        ap (λ (o : Option (List ℕ)). ◌>>=◌ {A = List Change} (unless (not (is_some (rows_in o))) causes.BadJournal (Ok [])) (λ ready. changes_of files (All p))) without
+        ∙ (ap (λ (r : Result (List Change) Cause). r >>= fitting) taken ∙ runs_fit files (All p) (with_cache (cache_bytes no_cache) run_made).rows taken)
 
 pub small_taken : SmallFoldersAreTaken
-small_taken files p b small asked room = ((all_rows files b small.each p room small.few).rows, run_taken files b small.each p room small.few asked small.no_cache small.no_journal)
+small_taken files p b small asked room = ((with_cache (cache_bytes no_cache) (run_made files b small.each p room small.few)).rows, run_taken files b small.each p room small.few asked small.no_cache small.no_journal)

@@ -1,0 +1,4 @@
+pub mod MadeLaws
+pub mod RoomLaws
+pub mod SmallLaws
+pub mod FolderLaws
