@@ -253,12 +253,12 @@ came_printed i (Err stops.InputFailed) found = absurd (true≢false found.reads)
 came_printed i (Err stops.NoMemory) found = record { gives = tt; ends = refl; calls = found.calls; input = untouched i }
 
 -- the input of a weave is read whole, where it tells its bytes
-same_weave : {bytes : List ℕ} {a : Seen} {left : Input} → AreBytes left.left bytes → IsTold (Some Weave) a.tells (is_some left.left) → answer (Some Weave) a.files (bytes_of left.left) ≡ text_answer (weaves bytes a.files)
-same_weave {a = a} told all = ap (λ (b : List ℕ). text_answer (weaves b a.files)) (sym (told (all.input refl)))
+same_weave : (bytes : List ℕ) (a : Seen) (left : Input) → AreBytes left.left bytes → IsTold (Some Weave) a.tells (is_some left.left) → answer (Some Weave) a.files (bytes_of left.left) ≡ text_answer (weaves bytes a.files)
+same_weave bytes a left told all = ap (λ (b : List ℕ). text_answer (weaves b a.files)) (sym (told (all.input refl)))
 
 pub came_woven : {a b : Seen} {left rest : Input} (r : Result (Vec ℕ Global) Stop) → HasWoven r a b left rest → Came (Some Weave) as_is r a b left rest
-came_woven (Ok text) found = record { gives = λ told. same_weave found.told told ∙ ap text_answer (found.means (told.files refl)); ends = refl; calls = found.calls; input = found.input }
-came_woven (Err (stops.Cause cause)) found = record { gives = λ told. same_weave found.told told ∙ ap text_answer (found.means (told.files refl)); ends = refl; calls = found.calls; input = found.input }
+came_woven {a = a} {left = left} (Ok text) found = record { gives = λ told. same_weave found.bytes a left found.told told ∙ ap text_answer (found.means (told.files refl)); ends = refl; calls = found.calls; input = found.input }
+came_woven {a = a} {left = left} (Err (stops.Cause cause)) found = record { gives = λ told. same_weave found.bytes a left found.told told ∙ ap text_answer (found.means (told.files refl)); ends = refl; calls = found.calls; input = found.input }
 came_woven (Err stops.Failed) found = record { gives = tt; ends = refl; calls = found.calls; input = found.input }
 came_woven (Err stops.InputFailed) found = record { gives = tt; ends = refl; calls = found.calls; input = found.input }
 came_woven (Err stops.NoMemory) found = record { gives = tt; ends = refl; calls = found.calls; input = found.input }

@@ -115,7 +115,7 @@ pub fn check(
     Ok(())
 }
 
-// Words that are no command, or none that is there: no call of the folder is made.
+// Words that are no command: no call of the folder is made.
 const USAGE: [&[&str]; 15] = [
     &[],
     &["--load"],
@@ -128,7 +128,7 @@ const USAGE: [&[&str]; 15] = [
     &["-a", "--load", "p"],
     &["-p", "x"],
     &["--load", "p", "--busy", "0-1"],
-    &["--weave"],
+    &["--weave", "p"],
     &["--order"],
     &["--fix"],
     &["--unfix", "p", "--policy", "lowest"],

@@ -31,11 +31,11 @@ returns-in-Refused-clause-same c = (c.load_and_write.ensures.ran no_input).folde
 pub unreachable-requires : goal.unreachable-requires
 unreachable-requires c = false≢true (rw c.in-Differs.is at (c.load_and_write.ensures.ran no_input)).ends
 
-pub unreachable-in-Usage-requires : goal.unreachable-in-Usage-requires
-unreachable-in-Usage-requires c = false≢true (rw c.in-Usage.is at (c.load_and_write.ensures.ran no_input)).ends
+pub unreachable-requires-in-Usage : goal.unreachable-requires-in-Usage
+unreachable-requires-in-Usage c = false≢true (rw c.in-Usage.is at (c.load_and_write.ensures.ran no_input)).ends
 
-pub unreachable-in-ReadFault-requires : goal.unreachable-in-ReadFault-requires
-unreachable-in-ReadFault-requires c = false≢true (rw c.in-ReadFault.is at (c.load_and_write.ensures.ran no_input)).ends
+pub unreachable-requires-in-ReadFault : goal.unreachable-requires-in-ReadFault
+unreachable-requires-in-ReadFault c = false≢true (rw c.in-ReadFault.is at (c.load_and_write.ensures.ran no_input)).ends
 
-pub unreachable-in-DiskFault-requires : goal.unreachable-in-DiskFault-requires
-unreachable-in-DiskFault-requires c = never_broken c.args.folder.now c.load_and_write.new.folder (rw c.in-DiskFault.is at (c.load_and_write.ensures.ran no_input)).folder
+pub unreachable-requires-in-DiskFault : goal.unreachable-requires-in-DiskFault
+unreachable-requires-in-DiskFault c = never_broken c.args.folder.now c.load_and_write.new.folder (rw c.in-DiskFault.is at (c.load_and_write.ensures.ran no_input)).folder
