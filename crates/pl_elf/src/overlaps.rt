@@ -110,6 +110,8 @@ fn sweep(extents: &[Extent]) -> bool
 }
 
 /// Whether two PT_LOADs have a byte of the file in common: their windows are sorted once, in a table on the stack, and the time grows as `n log n`.
+/// It is kept a call of its own, so that only files with many program headers take the room of that table.
+#[inline(never)]
 fn any_sorted_shares(bytes: &[u8], header: &Header) -> bool
     requires segments { HasSegments bytes.now header.now }
     requires room { header.now.phnum ≤ MOST }
