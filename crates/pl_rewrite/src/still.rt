@@ -1,5 +1,5 @@
 // Which relocations of libraries are known to matter nowhere in the walk of a program.
-ghost use Rattle.std.specs.Prelude.{◌≡◌, ◌++◌, Ok, IfOk, IfSome, OnOk, Some};
+ghost use Rattle.std.specs.Prelude.{◌≡◌, true, Ok, IfOk, IfSome, Some};
 ghost use Rattle.std.specs.List as lists;
 ghost use Rattle.std.specs.List.{All, AllZip};
 ghost use Rattle.std.specs.Option.{option_map};
