@@ -123,6 +123,11 @@ file_from places parts b (x ∷ os) (suc m) o e =
     let same : b + 1 + m ≡ b + suc m = omega arith in
     file_from places parts (b + 1) os m o e ∙ ap (λ (k : ℕ). Some (loaded_at (base_of places k) (part_of parts k) o)) same
 
+file_at : (places : List ℕ) (parts : List (List ℕ)) (os : List Object) (m : ℕ) (o : Object) → slice_get os m ≡ Some o → slice_get (loaded places parts os) m ≡ Some (loaded_at (base_of places m) (part_of parts m) o)
+file_at places parts os m o e =
+    let same : 0 + m ≡ m = omega arith in
+    file_from places parts 0 os m o e ∙ ap (λ (k : ℕ). Some (loaded_at (base_of places k) (part_of parts k) o)) same
+
 zip_get : {A B : Type 0} (R : A → B → Type 0) (xs : List A) (ys : List B) (m : ℕ) (x : A) (y : B) → AllZip R xs ys → slice_get xs m ≡ Some x → slice_get ys m ≡ Some y → R x y
 zip_get R [] ys m x y zip at there = absurd (none-some x at)
 zip_get R (a ∷ xs) [] m x y zip at there = absurd zip
@@ -167,16 +172,11 @@ module _ (run : Run) (n : List ℕ) (ws : Walked) (is : IsRun run) (candidate : 
 
   -- a library with its own walk
   module _ (s : LibraryStill) (k : IsStill run s) (m : ℕ) where
-    own : Walked
-    own = k.known_by.is.own
-
-    name : List ℕ
-    name = k.link.name
-
-    quiet_own : (x : Object) (rest : Walked) → own ≡ (name, x) ∷ rest → slice_get ws m ≡ Some (name, x) → (i : ℕ) (d : Reloc) → i < length x.relocations → slice_get s.flags i ≡ Some true
+    quiet_own : (x : Object) (rest : Walked) → k.known_by.is.own ≡ (k.link.name, x) ∷ rest → slice_get ws m ≡ Some (k.link.name, x) → (i : ℕ) (d : Reloc) → i < length x.relocations → slice_get s.flags i ≡ Some true
         → GivesQuiet (objects_of (planned_firms run ws)) (slots_of (planned_firms run ws)) (loaded (slots_of (planned_firms run ws)) (parts_of (planned_firms run ws)) (objects_of (planned_firms run ws))) m (get_or x.relocations i d)
     quiet_own x rest begins at i d lt set tls =
         let known = run.known.now in
+        let name : List ℕ = k.link.name in
         let rs = planned_firms run ws in
         let inner : Walked = (name, x) ∷ rest in
         let r : Reloc = get_or x.relocations i d in
@@ -218,7 +218,7 @@ module _ (run : Run) (n : List ℕ) (ws : Walked) (is : IsRun run) (candidate : 
         let bytes : part_of (parts_of rs) m ≡ k.file = part_at run (form.part_of rs) ws m (name, x) at ∙ part_is run n ws is candidate walk (name, x) k.file (member_has ws m name named) member part in
         let object : slice_get (objects_of rs) m ≡ Some x = ap (λ (os : List Object). slice_get os m) (objects_planned run ws) ∙ object_at ws m name x at in
         let file : slice_get (loaded (slots_of rs) (parts_of rs) (objects_of rs)) m ≡ Some one =
-        file_from (slots_of rs) (parts_of rs) 0 (objects_of rs) m x object
+        file_at (slots_of rs) (parts_of rs) (objects_of rs) m x object
         ∙ (ap (λ (b : ℕ). Some (loaded_at b (part_of (parts_of rs) m) x)) (slot_at run ws m name x at) ∙ ap (λ (p : List ℕ). Some (loaded_at (slot_for run name) p x)) bytes) in (
           g,
           (
@@ -230,10 +230,12 @@ module _ (run : Run) (n : List ℕ) (ws : Walked) (is : IsRun run) (candidate : 
           ),
         )
 
-    quiet_at : (o : Object) → slice_get ws m ≡ Some (name, o) → (i : ℕ) (d : Reloc) → i < length o.relocations → slice_get s.flags i ≡ Some true
+    quiet_at : (o : Object) → slice_get ws m ≡ Some (k.link.name, o) → (i : ℕ) (d : Reloc) → i < length o.relocations → slice_get s.flags i ≡ Some true
         → GivesQuiet (objects_of (planned_firms run ws)) (slots_of (planned_firms run ws)) (loaded (slots_of (planned_firms run ws)) (parts_of (planned_firms run ws)) (objects_of (planned_firms run ws))) m (get_or o.relocations i d)
     quiet_at o at =
         let known = run.known.now in
+        let name : List ℕ = k.link.name in
+        let own : Walked = k.known_by.is.own in
         let t = walk_first known name own k.known_by.is.walks in
         let same : t.object ≡ o = same_Some t.object o
         (sym (walk_made known name own k.known_by.is.walks 0 name t.object (ap (λ (w : Walked). slice_get w 0) t.is)) ∙ walk_made known n ws walk m name o at) in

@@ -22,8 +22,8 @@ list_after-requires-clause-own c =
     c.as_slice-members.ensures.value ∙ (c.in_ok-sources.ensures ∙ (sources_walked c.args.run.now c.members.result.now ∙ ap (planned_firms c.args.run.now) c.members.ensures.members)) in
     subst (All (HasOriginal c.args.run.now)) (sym same) (have_originals c.args.run.now c.args.scope.now)
 
-pub first_digest-requires-clause-own : goal.first_digest-requires-clause-own
-first_digest-requires-clause-own c =
+pub first_digest-digest-requires-clause-own : goal.first_digest-digest-requires-clause-own
+first_digest-digest-requires-clause-own c =
     let same : c.as_slice-members.result.now ≡ planned_firms c.args.run.now c.args.scope.now =
     c.as_slice-members.ensures.value ∙ (c.in_ok-sources.ensures ∙ (sources_walked c.args.run.now c.members.result.now ∙ ap (planned_firms c.args.run.now) c.members.ensures.members)) in
     subst (All (HasOriginal c.args.run.now)) (sym same) (have_originals c.args.run.now c.args.scope.now)
