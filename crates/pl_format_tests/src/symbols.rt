@@ -130,6 +130,18 @@ fn reads_symbols(rt: HostRuntime) -> Result<(), SymFault> {
     Ok(())
 }
 
+/// Longer than the names that stand in a symbol.
+const LONG: &[u8] = b"a_name_of_more_than_23_bytes";
+
+#[test]
+fn keeps_names_of_each_length(rt: HostRuntime) -> Result<(), AllocError> {
+    for size in 0..=LONG.len() {
+        let name = Name::copy_of(rt.alloc(), &LONG[..size])?;
+        assert!(rt; name.as_slice() == &LONG[..size], "{size}");
+    }
+    Ok(())
+}
+
 /// Where the name of a symbol begins in the strings, and whether it has an end.
 const NAMES: [(u8, bool); 6] = [
     (7, true),
