@@ -19,8 +19,8 @@ form_library_with-requires-clause-list c = subst IsListing (sym c.requires.list)
 pub form_library_with-requires-clause-words : goal.form_library_with-requires-clause-words
 form_library_with-requires-clause-words c = ap length c.requires.words ∙ words_count c.args.library.now c.args.others.now ∙ ap (λ (r : Firm). length r.object.relocations) (sym c.library.view_is)
 
-pub digest_for-requires : goal.digest_for-requires
-digest_for-requires c = subst (λ (r : Firm). IfSome c.args.digest (λ d. d.now ≡ sha256 r.member.original)) (sym c.library.view_is) c.requires.digest
+pub digest_for-digest-requires : goal.digest_for-digest-requires
+digest_for-digest-requires c = subst (λ (r : Firm). IfSome c.args.digest (λ d. d.now ≡ sha256 r.member.original)) (sym c.library.view_is) c.requires.digest
 
 pub returns : goal.returns
 returns c = c.in_ok-file.ensures.form ∙ form_same c.args.library.now c.args.others.now _ _ _ _ _ _ _ _ c.library.view_is c.requires.list c.requires.words
