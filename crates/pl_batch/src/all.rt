@@ -92,13 +92,13 @@ fn spelled(alloc: Global, old: &[u8], rewritten: Rewritten) -> Result<AllMade, B
 /// What a run makes of files that were taken, by the bytes of the cache and what they say.
 fn made_of(
     alloc: Global,
-    files: &[Taken],
+    files: Rows<Taken>,
     asked: &Prelinking,
     old: &[u8],
     cache: &Cache,
 ) -> Result<AllMade, BatchFault>
-    requires { AreTaken asked.now.region files.now }
-    ensures { MeansAlone (spec.made_of (files_in files.now) (names_of files.now)
+    requires { AreTaken asked.now.region files }
+    ensures { MeansAlone (spec.made_of (files_in files) (names_of files)
         asked.now old.now cache.now) result }
 {
     let run = Asked {
@@ -132,7 +132,7 @@ fn made_by<D: Folder>(
     if are_large(files.as_slice()) {
         return Err(BatchFault::Cause(Cause::FolderTooLarge));
     }
-    made_of(alloc, files.as_slice(), asked, &old, &cache)
+    made_of(alloc, files, asked, &old, &cache)
 }
 
 /// What a run makes of the files of a folder, or its first cause. A folder that lists each name once, ascending, gives names that ascend.

@@ -1,5 +1,5 @@
 -- Loops that gather meanings past those that are known to matter nowhere.
-use Rattle.std.proofs.Common.{◌≡◌, ℕ, zero, suc, ◌+◌, ◌<◌, ◌≤◌, Bool, true, false, List, [], ◌∷◌, ◌++◌, length, map, drop, get_or, Option, Some, None, Result, Ok, Err, refl, sym, ap, subst, ◌∙◌, append_assoc, arith, inl, inr}
+use Rattle.std.proofs.Common.{◌≡◌, ℕ, zero, suc, ◌+◌, ◌<◌, ◌≤◌, Bool, true, List, [], ◌∷◌, ◌++◌, length, map, drop, get_or, Option, Some, None, Result, Ok, Err, refl, sym, ap, subst, ◌∙◌, append_assoc, arith, inl, inr}
 use Rattle.std.specs.Prelude.{◌⊎◌, MatchBool, ⊤, slice_get}
 use Rattle.std.specs.Bool.{OnTrue}
 use Rattle.std.specs.List.{All, cons_option, filter_map}
@@ -177,7 +177,7 @@ pub record Gathered (os : List Object) (places : List ℕ) (tls : List Module) (
   pub rest : with_front front (each (meaning os places tls) (rows_from i (drop i os))) ≡ each (meaning os places tls) (rows os)
   pub without : Without (IsPassed os places tls still windows) front gs
 
-front_err : (front : List Meaning) (r : Result (List Meaning) LinkFault) (e : OrdinaryFault) → MatchBool (is_memory e) ⊤ (because Link r ≡ Err e) → MatchBool (is_memory e) ⊤ (because Link (with_front front r) ≡ Err e)
+pub front_err : (front : List Meaning) (r : Result (List Meaning) LinkFault) (e : OrdinaryFault) → MatchBool (is_memory e) ⊤ (because Link r ≡ Err e) → MatchBool (is_memory e) ⊤ (because Link (with_front front r) ≡ Err e)
 front_err front r NoMemory stop = tt
 front_err front r (Link fault) stop = ap (λ (s : Result (List Meaning) LinkFault). because Link (with_front front s)) (linked_err r fault stop)
 

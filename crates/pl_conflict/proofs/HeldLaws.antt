@@ -39,10 +39,19 @@ single : {X Y : Type 0} (h : X → Option Y) (x : X) (o : Option Y) → h x ≡ 
 single h x None is = rw is refl
 single h x (Some y) is = rw is refl
 
+-- the rows of one meaning more
+pub rows_one : (files : List Loaded) (gs : List Meaning) (g : Meaning) (o : Option ConflictRow) → o ≡ row_of files g.member g.start g.word → rows_of files gs ++ option_to_list o ≡ rows_of files (gs ++ g ∷ [])
+unfolding rows_of
+rows_one files gs g o made =
+    let h : Meaning → Option ConflictRow = λ g. row_of files g.member g.start g.word in
+    ap (λ (ys : List ConflictRow). filter_map h gs ++ ys) (sym (single h g o (sym made))) ∙ sym (filter_map-append h gs (g ∷ []))
+
+-- and of others
+pub rows_both : (files : List Loaded) (gs hs : List Meaning) → rows_of files gs ++ rows_of files hs ≡ rows_of files (gs ++ hs)
+unfolding rows_of
+rows_both files gs hs = sym (filter_map-append (λ g. row_of files g.member g.start g.word) gs hs)
+
 pub rows_more : (files : List Loaded) (gs : List Meaning) (i : ℕ) (d : Meaning) (front new : List ConflictRow) (o : Option ConflictRow) → i < length gs → o ≡ row_of files (get_or gs i d).member (get_or gs i d).start (get_or gs i d).word → new ≡ front ++ option_to_list o
     → front ≡ rows_of files (take i gs) → new ≡ rows_of files (take (i + 1) gs)
-unfolding rows_of
 rows_more files gs i d front new o lt made more so_far =
-    let h : Meaning → Option ConflictRow = λ g. row_of files g.member g.start g.word in
-    let one = ap (filter_map h) (take_more gs i d lt) ∙ filter_map-append h (take i gs) (get_or gs i d ∷ []) in
-    more ∙ ap (λ (ys : List ConflictRow). ys ++ option_to_list o) so_far ∙ ap (λ (ys : List ConflictRow). filter_map h (take i gs) ++ ys) (sym (single h (get_or gs i d) o (sym made))) ∙ sym one
+    more ∙ ap (λ (ys : List ConflictRow). ys ++ option_to_list o) so_far ∙ rows_one files (take i gs) (get_or gs i d) o made ∙ ap (rows_of files) (sym (take_more gs i d lt))

@@ -1,20 +1,28 @@
 -- Meanings of a scope without those that are known to matter nowhere.
-use Rattle.std.specs.Prelude.{◌≡◌, ◌⊎◌, ◌<◌, ℕ, Bool, true, false, List, [], ◌∷◌, ◌++◌, map, Option, Some, None, Ok, length, slice_get, slice_index_or}
+use Rattle.std.specs.Prelude.{◌≡◌, ◌⊎◌, ◌<◌, ℕ, Bool, true, false, List, [], ◌∷◌, ◌++◌, map, Option, Some, None, Ok, Err, length, slice_get, slice_index, slice_index_or}
 use Rattle.std.specs.List.{list_any}
+use Rattle.pl_base.specs.Answers.{Answers, because}
 use Rattle.pl_base.specs.Bytes.{bytes64}
 use Rattle.pl_base.specs.Each.{each}
 use Rattle.pl_base.specs.Memory.{Memory}
+use Rattle.pl_base.specs.Sums.{plus}
 use Rattle.pl_base.specs.Windows.{Window, share}
 use Rattle.pl_image.specs.declared.loaded.Loaded.{Loaded}
+use Rattle.pl_lists.specs.declared.conflict_row.ConflictRow.{ConflictRow}
 use Rattle.pl_object.specs.declared.object.Object.{Object}
 use Rattle.pl_object.specs.declared.reloc.Reloc.{Reloc}
 use Rattle.pl_tls.specs.declared.module.Module.{Module}
 use Rattle.pl_value.specs.Linked.{copy_of}
-use Rattle.pl_value.specs.Meanings.{meaning, meanings, row}
+use Rattle.pl_value.specs.Meanings.{is_memory, meaning, meanings, row}
+use Rattle.pl_value.specs.Ordinary.{loaded}
+use Rattle.pl_value.specs.Targets.{base_of}
+use Rattle.pl_value.specs.declared.fault.OrdinaryFault.{OrdinaryFault}
+use Rattle.pl_value.specs.declared.fault.OrdinaryFault.TheVariants.{Link}
 use Rattle.pl_value.specs.declared.meaning.Meaning.{Meaning}
 use Rattle.pl_value.specs.declared.word.Word.{Word}
 use Rattle.pl_value.specs.declared.word.Word.TheVariants.{Put, Copy, Nothing}
-use Rattle.pl_conflict.specs.Conflicts.{held, row_of}
+use Rattle.pl_conflict.specs.Compared.{AreCompared}
+use Rattle.pl_conflict.specs.Conflicts.{conflicts, held, row_of, rows_of}
 use Rattle.pl_conflict.specs.declared.among.Still.{Still}
 
 -- ---- lists
@@ -108,3 +116,53 @@ pub record IsHeld (objects : List Object) (places : List ℕ) (file : List Loade
 -- each flag that is set stands where another is, and tells that
 abbrev pub AreHeld : List Object → List ℕ → List Loaded → List Bool → List Reloc → List Bool → Type 0
 AreHeld os places file closed rs flags = (i : ℕ) (d : Reloc) → i < length rs → slice_get flags i ≡ Some true → (slice_get closed i ≡ Some true) × IsHeld os places file (slice_index_or rs i d)
+
+-- ---- words that members' files hold
+
+-- the first object of files holds a word at the place of a relocation, where it is loaded at a place
+abbrev pub HoldsAt : List Loaded → ℕ → Reloc → ℕ → Type 0
+HoldsAt files place r word = held files 0 (plus place r.address) ≡ bytes64 word
+
+-- a row tells the word that a member's file holds from an address on
+abbrev pub TellsHeld : List Loaded → ℕ → ℕ → Option Still → ℕ → Type 0
+TellsHeld files m start None index = ⊥
+TellsHeld files m start (Some s) index = (word : ℕ) × ((slice_get s.held.now index ≡ Some word) × (held files m start ≡ bytes64 word))
+
+-- rows tell it for the place of each relocation of each member but the first
+abbrev pub TellHeld : List Object → List ℕ → List Loaded → List Still → Type 0
+TellHeld os places files still =
+    (m i : ℕ) (o : Object) (d : Reloc) → 0 < m → slice_get os m ≡ Some o → i < length o.relocations
+    → TellsHeld files m (plus (base_of places m) (slice_index_or o.relocations i d).address) (slice_get still m) i
+
+-- ---- rows by what is known
+
+-- the word that is told of a relocation; 0 where none is
+abbrev pub word_of : Option Still → ℕ → ℕ
+word_of None index = 0
+word_of (Some s) index = slice_index s.held.now index
+
+-- the row of a meaning, whatever the files, where its member's file holds this word, or the member is the program
+abbrev pub IsRowBy : Meaning → ℕ → Option ConflictRow → Type 0
+IsRowBy g word row = (files : List Loaded) → (0 < g.member → held files g.member g.start ≡ bytes64 word) → row ≡ row_of files g.member g.start g.word
+
+-- flags and words tell what is so of the relocations of a member
+pub record AreTold (objects : List Object) (places : List ℕ) (files : List Loaded) (member : ℕ) (rs : List Reloc) (still : Option Still) : Type 0 where
+  pub quiet : (i : ℕ) (d : Reloc) → i < length rs → FlagOf still i → GivesQuiet objects places files member (slice_index_or rs i d)
+  pub held : (i : ℕ) (d : Reloc) → 0 < member → i < length rs → TellsHeld files member (plus (base_of places member) (slice_index_or rs i d).address) still i
+
+-- the rows of a member's relocations stand behind others, whatever the files of which flags and words tell
+pub record AddsRows (objects : List Object) (places : List ℕ) (tls : List Module) (member : ℕ) (rs : List Reloc) (still : Option Still) (before after : List ConflictRow) : Type 0 where
+  pub all : List Meaning
+  pub given : each (meaning objects places tls) (map (row member) rs) ≡ Ok all
+  pub made : List ConflictRow
+  pub is : after ≡ before ++ made
+  pub rows : (files : List Loaded) → AreTold objects places files member rs still → made ≡ rows_of files all
+
+-- the answer of a loop over a member's relocations that ends with a fault
+abbrev pub RefusesOne : List Object → List ℕ → List Module → ℕ → List Reloc → OrdinaryFault → Type 0
+RefusesOne os places tls m rs fault = Answers is_memory (Err fault) (because Link (each (meaning os places tls) (map (row m) rs)))
+
+-- they are the conflict rows, whatever the files with which members can be compared and of which flags and words tell
+abbrev pub AreRowsAmong : List Object → List ℕ → List Module → List Still → List ConflictRow → Type 0
+AreRowsAmong os places tls still rows =
+    (parts : List (List ℕ)) → AreCompared os places parts → AreStill os places (loaded places parts os) still → TellHeld os places (loaded places parts os) still → conflicts os parts places tls ≡ Ok rows

@@ -1,10 +1,9 @@
 // The meanings of a scope without those that are known to matter nowhere.
-ghost use Rattle.std.specs.Prelude.{◌≡◌, ◌<◌, length, map, slice_get, Err, IfOk, IfErr, OnOk};
+ghost use Rattle.std.specs.Prelude.{◌≡◌, ◌<◌, length, slice_get, Err, IfOk, IfErr, OnOk};
 ghost use Rattle.std.specs.Bool.{OnTrue};
 ghost use Rattle.std.specs.List.{All, list_any};
 ghost use Rattle.std.specs.Option.{option_map};
 ghost use Rattle.pl_base.specs.Answers.{Answers, because};
-ghost use Rattle.pl_base.specs.Each.{each};
 ghost use Rattle.pl_base.specs.Sums.{plus};
 ghost use Rattle.pl_base.specs.Windows.{share};
 ghost use Rattle.pl_scope.specs.Scope.{objects, IsSymbol};
@@ -21,11 +20,14 @@ use pl_tls::Module;
 use pl_value::{LinkFault, Meaning, OrdinaryFault, Places, reference_of, word_of};
 use std::alloc::Global;
 
-/// Which relocations of a member are known to matter nowhere.
+/// What is known of the relocations of a member, for each in their order; of those behind the last it is not known.
 #[derive(Clone, Copy)]
 pub struct Still<'a> {
-    /// For each of its relocations, in their order; of those behind the last it is not known.
+    /// Whether it matters nowhere.
     pub flags: &'a [bool],
+
+    /// The word that the member's file holds at its place.
+    pub held: &'a [u64],
 }
 
 /// What the symbol of a reference finds. Symbol 0 is no reference.
@@ -47,7 +49,7 @@ fn place_of(places: &Places, member: u32, reloc: &Reloc) -> u64
     places.as_slice()[member as usize].wrapping_add(reloc.address)
 }
 
-/// The place of a relocation of a member as loaded, and what it gives, by one look-up.
+/// The place of a relocation of a member as loaded, and what it gives, by one look-up; or its link refusal.
 #[tactic(auto, unfolding(pl_value::specs::Meanings::meaning))]
 pub fn meaning_of(
     scope: &Scope<'_>,
@@ -73,7 +75,7 @@ pub fn meaning_of(
 }
 
 /// Whether a flag is set.
-fn is_flagged(still: Option<&Still<'_>>, index: usize) -> bool
+pub fn is_flagged(still: Option<&Still<'_>>, index: usize) -> bool
     ensures { OnTrue result (spec.FlagOf (option_map (λ s. s.now) still.entry) index) }
 {
     let Some(still) = still else {
@@ -117,9 +119,8 @@ fn add_open(
         (option_map (λ s. s.now) still) }
     ensures added { OnOk result (spec.Adds (objects scope.now) places.now tls.now member relocs.now
         (option_map (λ s. s.now) still.entry) windows.now meanings.old meanings.new) }
-    ensures refused { IfErr result (λ fault. Answers value.is_memory (Err fault)
-        (because Link (each (value.meaning (objects scope.now) places.now tls.now)
-        (map (value.row member) relocs.now)))) }
+    ensures refused { IfErr result (spec.RefusesOne (objects scope.now) places.now tls.now member
+        relocs.now) }
 {
     for index in 0..relocs.len() {
         let reloc = &relocs[index];
@@ -132,7 +133,7 @@ fn add_open(
 }
 
 /// The flags of a member.
-fn flags_at<'s, 'a>(still: &'s [Still<'a>], member: u32) -> Option<&'s Still<'a>>
+pub fn flags_at<'s, 'a>(still: &'s [Still<'a>], member: u32) -> Option<&'s Still<'a>>
     ensures { option_map (λ s. s.now) result ≡ slice_get still.now member }
 {
     match still.get(member as usize) {

@@ -3,6 +3,7 @@
 
 mod among;
 mod law;
+mod open;
 mod own;
 mod rows;
 mod still;
@@ -12,6 +13,7 @@ pub use law::{
     conflicts_are_complete, fast_images_are_ordinary, fast_is_ordinary, format_is_kept,
     prelinked_are_forms,
 };
+pub use open::conflicts_among;
 pub use own::own_words;
 pub use rows::{conflicts, conflicts_by};
-pub use still::still_of;
+pub use still::{still_of, words_held};

@@ -25,13 +25,18 @@ use std::alloc::{AllocError, Global};
 
 /// The eight bytes that a member's file loads from an address on.
 #[tactic(auto, unfolding(crate::specs::Conflicts::held))]
-pub fn held(alloc: Global, files: &[Loaded<'_>], meaning: &Meaning) -> Result<Vec<u8>, AllocError>
+pub fn held(
+    alloc: Global,
+    files: &[Loaded<'_>],
+    member: u32,
+    start: u64,
+) -> Result<Vec<u8>, AllocError>
     requires files { AreLoaded files.now }
-    requires member { meaning.now.member < length files.now }
-    ensures { IfOk result (λ v. v.items ≡ spec.held files.now meaning.now.member meaning.now.start) }
+    requires member { member < length files.now }
+    ensures { IfOk result (λ v. v.items ≡ spec.held files.now member start) }
 {
-    let member = meaning.member as usize;
-    read(alloc, &files[member..member + 1], &[], meaning.start, 8)
+    let index = member as usize;
+    read(alloc, &files[index..index + 1], &[], start, 8)
 }
 
 /// Whether bytes are those of a word, little-endian.
@@ -58,7 +63,7 @@ fn row_of(
     if meaning.member == 0 {
         return Ok(None);
     }
-    let held = held(alloc, files, meaning)?;
+    let held = held(alloc, files, meaning.member, meaning.start)?;
     if is_word(&held, word) {
         return Ok(None);
     }
@@ -89,14 +94,14 @@ fn rows_of(
 }
 
 /// Puts rows into ascending order of their addresses.
-fn sort_rows(rows: &mut Vec<ConflictRow>)
+pub fn sort_rows(rows: &mut Vec<ConflictRow>)
     ensures rows { IsPermutation rows.old.items rows.new.items }
     ensures sorted { IsNonDecreasingBy (λ r. r.address) rows.new.items }
 {
     rows.sort_unstable_by_key(|row| row.address);
 }
 
-/// The conflict rows of a program of whose relocations these meanings are enough: as many rows are made of them as of all that `meanings` of pl_value gives for the scope at the places. They are the rows that `conflicts` gives. It fails only for want of memory; the other conditions are those of `conflicts`.
+/// The conflict rows of a program of whose relocations these meanings are enough: the same rows are made of them as of all that `meanings` of pl_value gives for the scope at the places. They are the rows that `conflicts` gives. It fails only for want of memory; the other conditions are those of `conflicts`.
 pub fn conflicts_by(
     alloc: Global,
     scope: &Scope<'_>,

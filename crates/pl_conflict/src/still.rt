@@ -1,7 +1,8 @@
 // The relocations of a library whose words its file holds.
 ghost use Rattle.std.specs.Prelude.{◌≡◌, ◌<◌, length, slice_get, true, IfOk, Some};
 ghost use Rattle.std.specs.Bool.{OnTrue};
-ghost use Rattle.std.specs.List.{All};
+ghost use Rattle.std.specs.List.{All, AllZip};
+ghost use Rattle.pl_base.specs.Bytes.{bytes64};
 ghost use Rattle.pl_image.specs.Image.{AreLoaded};
 ghost use Rattle.pl_scope.specs.Scope.{objects, IsSymbol};
 ghost use Rattle.pl_value.specs.Values.{relocations_in};
@@ -9,7 +10,7 @@ ghost use Rattle.pl_conflict.specs.Among as spec;
 
 use crate::among::meaning_of;
 use crate::rows::{held, is_word};
-use pl_base::Rows;
+use pl_base::{Rows, word64};
 use pl_image::Loaded;
 use pl_io::NoMemory;
 use pl_object::Reloc;
@@ -25,7 +26,7 @@ fn holds(alloc: Global, file: &[Loaded<'_>], meaning: &Meaning) -> Result<bool, 
     ensures { IfOk result (λ b. OnTrue b (spec.HoldsWord file.now meaning.now.start meaning.now.word)) }
 {
     match meaning.word {
-        Word::Put(word) => Ok(is_word(&held(alloc, file, meaning)?, word)),
+        Word::Put(word) => Ok(is_word(&held(alloc, file, meaning.member, meaning.start)?, word)),
         Word::Nothing => Ok(true),
         Word::Copy { .. } => Ok(false),
     }
@@ -127,4 +128,45 @@ pub fn still_of(
     let relocs = own.object(0).relocations.as_slice();
     let flags = flags_of(alloc, own, places, file, closed, relocs)?;
     Ok(flags)
+}
+
+/// The word that eight bytes are, little-endian.
+fn word_in(bytes: &[u8]) -> u64
+    requires { length bytes.now ≡ 8 }
+    ensures { bytes.now ≡ bytes64 result }
+{
+    word64(bytes, 0)
+}
+
+/// The word that the first object of files holds at the place of a relocation of it.
+fn word_held(
+    alloc: Global,
+    file: &[Loaded<'_>],
+    place: u64,
+    reloc: &Reloc,
+) -> Result<u64, AllocError>
+    requires file { AreLoaded file.now }
+    requires one { 0 < length file.now }
+    ensures { IfOk result (spec.HoldsAt file.now place reloc.now) }
+{
+    let bytes = held(alloc, file, 0, place.wrapping_add(reloc.address))?;
+    Ok(word_in(&bytes))
+}
+
+/// The words that a library's file, which is loaded at a place, holds at the places of its relocations, in their order. It fails only for want of memory.
+pub fn words_held(
+    alloc: Global,
+    file: &[Loaded<'_>],
+    place: u64,
+    relocs: &[Reloc],
+) -> Result<Rows<u64>, AllocError>
+    requires file { AreLoaded file.now }
+    requires one { 0 < length file.now }
+    ensures { IfOk result (AllZip (spec.HoldsAt file.now place) relocs.now) }
+{
+    let mut words = Rows::new(alloc);
+    for reloc in relocs {
+        words.push(word_held(alloc, file, place, reloc)?)?;
+    }
+    Ok(words)
 }

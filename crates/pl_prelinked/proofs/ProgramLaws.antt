@@ -6,11 +6,11 @@ use Rattle.std.proofs.lemmas.Bool.{cases_Bool, and_from, false≢true, ltb-false
 use Rattle.std.proofs.lemmas.Bool.Decides.{nat_tests}
 use Rattle.std.proofs.lemmas.List.{length-map}
 use Rattle.std.proofs.lemmas.Option.{none-some}
-use Rattle.pl_base.specs.Answers.{because}
+use Rattle.pl_base.specs.Answers.{because, ◌>>=◌}
 use Rattle.pl_base.specs.Memory.{read}
 use Rattle.pl_base.proofs.AnswerLaws.{ok_same}
 use Rattle.pl_conflict.specs.Compared.{AreCompared}
-use Rattle.pl_conflict.specs.Conflicts.{conflicts}
+use Rattle.pl_conflict.specs.Conflicts.{ascending, conflicts, rows_of}
 use Rattle.pl_conflict.specs.Format.{number_of}
 use Rattle.pl_conflict.specs.Prelinked as prelinked
 use Rattle.pl_conflict.specs.Prelinked.{Firm, are_set, has_numbers, is_program_place, list_of, objects_of, originals_of, parts_of, program_by, slots_of, version_of, with_rows}
@@ -40,11 +40,11 @@ use Rattle.pl_tls.specs.declared.fault.TlsFault.{TlsFault}
 use Rattle.pl_tls.specs.declared.module.Module.{Module}
 use Rattle.pl_scope.proofs.WalkedLaws.{limit_is}
 use Rattle.pl_value.specs.Meanings.{meanings}
-use Rattle.pl_value.specs.Ordinary.{ArePlaced}
+use Rattle.pl_value.specs.Ordinary.{ArePlaced, loaded}
 use Rattle.pl_value.specs.declared.meaning.Meaning.{Meaning}
 use Rattle.pl_value.proofs.PlaceLaws.{relocs_held}
 use Rattle.pl_prelinked.specs.Fills.{fills, fills_of, memory_of}
-use Rattle.pl_prelinked.specs.Programs.{AreFirstFills, IsProgramSet, form_of, result_ok}
+use Rattle.pl_prelinked.specs.Programs.{AreFirstFills, IsProgramSet, conflicts_with, form_of, result_ok}
 use Rattle.pl_prelinked.specs.Sources.{AreSources, firm}
 use Rattle.pl_prelinked.proofs.FillLaws.{are_fills, flat_same}
 use Rattle.pl_prelinked.proofs.FirmLaws.{accepted_all, own_all, version_back}
@@ -61,6 +61,10 @@ first_is_placed all r rs is are set =
 no_set : are_set [] ≡ true → ⊥
 unfolding are_set
 no_set e = false≢true e
+
+pub some_set : (rs : List Firm) → are_set rs ≡ true → 0 < length rs
+some_set [] set = absurd (no_set set)
+some_set (r ∷ rs) set = omega arith
 
 pub originals_placed : (rs : List Firm) → AreSources rs → IsProgramSet rs → ArePlaced (slots_of rs) (originals_of rs) (objects_of rs)
 originals_placed [] are set = absurd (no_set set.set)
@@ -134,6 +138,24 @@ of_program rs modules = with_rows rs (meanings (objects_of rs) (slots_of rs) mod
 pub without_meanings : (rs : List Firm) (modules : List Module) → None ≡ result_ok (meanings (objects_of rs) (slots_of rs) modules) → None ≡ prelinked.stored (of_program rs modules)
 without_meanings rs modules is =
     sym (ap prelinked.stored (no_meanings rs (meanings (objects_of rs) (slots_of rs) modules) (conflicts (objects_of rs) (parts_of rs) (slots_of rs) modules) is))
+
+no_rows : {E F : Type 0} (rs : List Firm) (m : Result (List Meaning) E) (c : Result (List ConflictRow) F) → None ≡ result_ok c → with_rows rs m c ≡ None
+no_rows rs (Err e) c is = refl
+no_rows rs (Ok gs) (Err e) is = refl
+no_rows rs (Ok gs) (Ok rows) is = absurd (none-some rows is)
+
+pub without_rows : (rs : List Firm) (modules : List Module) → None ≡ conflicts_with rs modules → None ≡ prelinked.stored (of_program rs modules)
+without_rows rs modules is =
+    sym (ap prelinked.stored (no_rows rs (meanings (objects_of rs) (slots_of rs) modules) (conflicts (objects_of rs) (parts_of rs) (slots_of rs) modules) is))
+
+refused_next : {X Y E : Type 0} (m : Result X E) (f : X → Result Y E) → None ≡ result_ok m → None ≡ result_ok (m >>= f)
+refused_next (Err e) f is = refl
+refused_next (Ok x) f is = absurd (none-some x is)
+
+-- where a relocation has no value there are no conflict rows
+pub no_conflicts : (rs : List Firm) (modules : List Module) → None ≡ result_ok (meanings (objects_of rs) (slots_of rs) modules) → None ≡ conflicts_with rs modules
+unfolding conflicts
+no_conflicts rs modules is = refused_next (meanings (objects_of rs) (slots_of rs) modules) (λ gs. Ok (ascending (rows_of (loaded (slots_of rs) (parts_of rs) (objects_of rs)) gs))) is
 
 pub made_with : (rs : List Firm) (modules : List Module) (gs : List Meaning) (rows : List ConflictRow) → AreSources rs → IsProgramSet rs → meanings (objects_of rs) (slots_of rs) modules ≡ Ok gs → conflicts (objects_of rs) (parts_of rs) (slots_of rs) modules ≡ Ok rows
     → prelinked.stored (form_of rs (fills_of rs (memory_of rs gs)) rows) ≡ prelinked.stored (of_program rs modules)

@@ -1,19 +1,16 @@
 -- At addresses that windows have, the scope makes the same by some meanings as by all.
-use Rattle.std.proofs.Common.{◌≡◌, ℕ, ◌+◌, ◌<◌, ◌≤◌, true, false, List, [], ◌∷◌, length, map, Option, Some, None, Result, Ok, Err, refl, sym, ap, subst, ◌∙◌, arith, inl, inr}
-use Rattle.std.specs.Prelude.{filter, nat_le, nat_lt, slice_get}
+use Rattle.std.proofs.Common.{◌≡◌, ℕ, ◌+◌, ◌<◌, true, false, List, [], ◌∷◌, length, map, Option, Some, None, Ok, refl, sym, ap, ◌∙◌, arith, inl, inr}
+use Rattle.std.specs.Prelude.{filter}
 use Rattle.std.specs.List.{All, cons_option, filter_map, list_all, list_any}
 use Rattle.std.specs.Option.{IfSome, unwrap_or}
 use Rattle.std.proofs.lemmas.Bool.{cases_Bool, and_parts, false≢true}
 use Rattle.std.proofs.lemmas.Bool.Decides.{nat_tests}
-use Rattle.std.proofs.lemmas.List.{length-map}
 use Rattle.pl_base.specs.Bytes.{bytes64}
 use Rattle.pl_base.specs.Memory.{Memory, Fill, is_within, over, read, filled, layered}
-use Rattle.pl_base.specs.Windows.{Window, holds, end_of}
-use Rattle.pl_base.proofs.AnswerLaws.{ok_same}
+use Rattle.pl_base.specs.Windows.{Window, holds}
 use Rattle.pl_base.proofs.MemoryLaws.{read_length, read_byte}
 use Rattle.pl_base.proofs.WordLaws.{length_bytes64}
 use Rattle.pl_conflict.specs.Among.{Without, AreStill, HaveValues, IsFar, IsPassed, IsAmong, word_at}
-use Rattle.pl_conflict.specs.Compared.{AreEnough}
 use Rattle.pl_conflict.specs.Conflicts.{row_of, rows_of}
 use Rattle.pl_conflict.specs.Prelinked.{Firm, objects_of, originals_of, parts_of, slots_of}
 use Rattle.pl_conflict.specs.declared.among.Still.{Still}
@@ -24,7 +21,6 @@ use Rattle.pl_form.specs.Words.{has_place}
 use Rattle.pl_form.specs.declared.file.Fill as form
 use Rattle.pl_image.specs.Image.{all_pieces}
 use Rattle.pl_image.specs.declared.loaded.Loaded.{Loaded}
-use Rattle.pl_lists.specs.declared.conflict_row.ConflictRow.{ConflictRow}
 use Rattle.pl_object.specs.declared.object.Object.{Object}
 use Rattle.pl_object.specs.declared.reloc.Reloc.{Reloc}
 use Rattle.pl_scope.proofs.NameLaws.{or_cases}
@@ -38,7 +34,7 @@ use Rattle.pl_value.specs.declared.word.Word.TheVariants.{Put, Copy, Nothing}
 use Rattle.pl_value.proofs.ReadLaws.{reads}
 use Rattle.pl_prelinked.specs.Fills.{fill_at, fills, fills_of, memory_of}
 use Rattle.pl_prelinked.specs.Lent.{AreStillIn}
-use Rattle.pl_prelinked.specs.Programs.{IsAmongOf, IsEnough, IsEnoughFor, IsSame, Suffices, SufficesWithSome, first_relocs, result_ok}
+use Rattle.pl_prelinked.specs.Programs.{IsEnough, IsEnoughFor, Suffices, first_relocs, result_ok}
 use Rattle.pl_prelinked.specs.Sources.{AreSources}
 use Rattle.pl_prelinked.specs.Watched.{covers, is_watched, is_source_watched, are_watched}
 use Rattle.pl_prelinked.proofs.FirmLaws.{accepted_all, own_all}
@@ -208,5 +204,5 @@ have_values os places tls files still are = λ m o at i d lt set.
     let q = are m i o d at lt set tls in
     (q.0, q.1.0)
 
-pub rows_enough : (rs : List Firm) (gs : List Meaning) → SufficesWithSome rs gs → IsEnoughFor rs gs
-rows_enough rs gs given = record { tls = given.0; all = given.1.all; given = given.1.given; within = given.1.within; rows = given.1.same.rows }
+pub rows_enough : (rs : List Firm) (tls : List Module) (gs : List Meaning) → Suffices rs tls gs → IsEnoughFor rs gs
+rows_enough rs tls gs given = record { tls = tls; all = given.all; given = given.given; within = given.within; rows = given.same.rows }

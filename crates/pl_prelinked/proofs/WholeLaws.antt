@@ -1,16 +1,18 @@
 -- The prelinked file by what members are.
-use Rattle.std.proofs.Common.{◌≡◌, ◌<◌, Bool, true, false, List, [], ◌∷◌, length, Some, None, refl, sym, ap, subst, ◌∙◌, arith}
+use Rattle.std.proofs.Common.{◌≡◌, ◌<◌, ℕ, Bool, true, false, List, [], ◌∷◌, length, Some, None, refl, sym, ap, subst, ◌∙◌, arith}
 use Rattle.std.specs.List.{All, list_all}
 use Rattle.std.proofs.lemmas.Bool.{and_from}
+use Rattle.pl_conflict.specs.Own.{own_words}
 use Rattle.pl_conflict.specs.Prelinked as prelinked
-use Rattle.pl_conflict.specs.Prelinked.{Firm, are_set, file_of, has_numbers, library_file, of_firm, program_file, stored}
+use Rattle.pl_conflict.specs.Prelinked.{Firm, are_set, file_of, has_numbers, library_file, list_of, objects_of, of_firm, program_file, slots_of, stored}
 use Rattle.pl_conflict.proofs.MemberLaws.{IsSet, set_is}
 use Rattle.pl_elf.specs.Kinds.{is_library}
 use Rattle.pl_parts.specs.Back.{when}
-use Rattle.pl_prelinked.specs.Libraries.{HasNumbers, IsLibraryWalk}
+use Rattle.pl_prelinked.specs.Libraries.{HasFormWith, HasNumbers, IsLibraryWalk, file_with}
 use Rattle.pl_prelinked.specs.Programs.{IsProgramSet}
 use Rattle.pl_prelinked.specs.Sources.{AreSources, members}
 use Rattle.pl_prelinked.proofs.FirmLaws.{firm_all, true_all}
+use Rattle.pl_prelinked.proofs.LibraryLaws.{file_is, form_with}
 use Rattle.pl_prelinked.proofs.ListLaws.{valid_of}
 
 whole : (rs : List Firm) → AreSources rs → prelinked.prelinked (members rs) ≡ when (are_set rs) (stored (file_of rs))
@@ -54,3 +56,12 @@ file_library all r rs is library = subst (λ (xs : List Firm). stored (Some (lib
 
 pub file_program : (all : List Firm) (r : Firm) (rs : List Firm) → all ≡ r ∷ rs → is_library r.object.kind ≡ false → stored (program_file all) ≡ stored (file_of all)
 file_program all r rs is program = subst (λ (xs : List Firm). stored (program_file xs) ≡ stored (file_of xs)) (sym is) (first_program r rs program)
+
+-- ---- a library by itself, with the list of the other members and its own words
+
+pub library_made : (r : Firm) (rs : List Firm) → AreSources (r ∷ rs) → is_library r.object.kind ≡ true → are_set (r ∷ rs) ≡ true
+    → stored (Some (file_with r (list_of rs) (own_words (objects_of (r ∷ rs)) (slots_of (r ∷ rs))))) ≡ prelinked.prelinked (members (r ∷ rs))
+library_made r rs are library set = ap (λ (file : List ℕ). stored (Some file)) (file_is r rs) ∙ first_library r rs library ∙ prelinked_set (r ∷ rs) are set
+
+pub library_has_form : (r : Firm) (rs : List Firm) → AreSources (r ∷ rs) → is_library r.object.kind ≡ true → are_set (r ∷ rs) ≡ true → HasFormWith r (list_of rs) (own_words (objects_of (r ∷ rs)) (slots_of (r ∷ rs)))
+library_has_form r rs are library set = form_with r rs are (library_first r rs are (set_is r rs set) library)

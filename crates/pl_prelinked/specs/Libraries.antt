@@ -1,11 +1,15 @@
 -- The walk of a library, whose numbers and names are such as they may be.
-use Rattle.std.specs.Prelude.{◌≡◌, ℕ, Bool, true, List, [], ◌∷◌, drop}
-use Rattle.std.specs.List.{All, list_all}
+use Rattle.std.specs.Prelude.{◌≡◌, ℕ, ◌%◌, Bool, true, List, [], ◌∷◌, drop, length, Option, Some}
+use Rattle.std.specs.List.{All, AllZip, list_all}
 use Rattle.pl_base.specs.Names.{is_valid_name}
-use Rattle.pl_conflict.specs.Among.{AreHeld}
-use Rattle.pl_conflict.specs.Prelinked.{Firm, has_numbers, objects_of, slots_of}
+use Rattle.pl_conflict.specs.Among.{AreHeld, HoldsAt}
+use Rattle.pl_conflict.specs.Own.{own_words}
+use Rattle.pl_conflict.specs.Prelinked.{Firm, are_set, has_numbers, objects_of, slots_of, version_of}
 use Rattle.pl_elf.specs.Kinds.{is_library}
+use Rattle.pl_form.specs.Library.{IsFirmLibrary, IsListing, library_form}
 use Rattle.pl_image.specs.Loads.{loaded_at}
+use Rattle.pl_lists.specs.declared.list_row.ListRow.{ListRow}
+use Rattle.pl_parts.specs.Back.{when}
 
 abbrev pub has_valid_name : Firm → Bool
 has_valid_name r = is_valid_name r.member.name
@@ -30,3 +34,25 @@ BeginsWith all r = (rs : List Firm) × (all ≡ r ∷ rs)
 abbrev pub AreHeldIn : List Firm → List ℕ → List Bool → List Bool → Type 0
 AreHeldIn [] file closed flags = flags ≡ []
 AreHeldIn (r ∷ rs) file closed flags = AreHeld (objects_of (r ∷ rs)) (slots_of (r ∷ rs)) (loaded_at r.member.slot file r.object ∷ []) closed r.object.relocations flags
+
+-- words of the relocations of a library, the first of members, that its file holds at their places, where it is loaded at its slot
+abbrev pub AreWordsIn : List Firm → List ℕ → List ℕ → Type 0
+AreWordsIn [] file words = words ≡ []
+AreWordsIn (r ∷ rs) file words = AllZip (HoldsAt (loaded_at r.member.slot file r.object ∷ []) r.member.slot) r.object.relocations words
+
+-- ---- the file of a library by itself
+
+-- with this list, and these words at its places
+abbrev pub file_with : Firm → List ListRow → List (Option ℕ) → List ℕ
+file_with r list words = library_form r.member.original r.member.slot r.member.stamp list words (version_of r.member.version)
+
+-- it has a form with them
+pub record HasFormWith (r : Firm) (rows : List ListRow) (own : List (Option ℕ)) : Type 0 where
+  pub firm : IsFirmLibrary r.member.original r.object
+  pub even : r.member.slot % 2 ≡ 0
+  pub list : IsListing rows
+  pub words : length own ≡ length r.object.relocations
+
+-- the own words of the first of members that can be prelinked together
+abbrev pub words_in : List Firm → Option (List (Option ℕ))
+words_in rs = when (are_set rs) (Some (own_words (objects_of rs) (slots_of rs)))

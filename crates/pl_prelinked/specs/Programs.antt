@@ -3,8 +3,9 @@ use Rattle.std.specs.Prelude.{◌≡◌, ◌<◌, ℕ, true, false, List, [], �
 use Rattle.std.specs.List.{All}
 use Rattle.pl_base.specs.Windows.{Window}
 use Rattle.pl_conflict.specs.Among.{IsAmong}
+use Rattle.pl_conflict.specs.Conflicts.{conflicts}
 use Rattle.pl_conflict.specs.Compared.{AreEnough, MakeRows}
-use Rattle.pl_conflict.specs.Prelinked.{Firm, are_set, list_of, named, objects_of, parts_of, slots_of, stored, version_of, with_modules}
+use Rattle.pl_conflict.specs.Prelinked.{Firm, are_set, list_of, named, objects_of, parts_of, slots_of, version_of}
 use Rattle.pl_conflict.specs.declared.among.Still.{Still}
 use Rattle.pl_elf.specs.Kinds.{is_library}
 use Rattle.pl_form.specs.Program.{program_form}
@@ -12,7 +13,6 @@ use Rattle.pl_form.specs.Words.{AreFills}
 use Rattle.pl_form.specs.declared.file.Fill.{Fill}
 use Rattle.pl_lists.specs.declared.conflict_row.ConflictRow.{ConflictRow}
 use Rattle.pl_object.specs.declared.reloc.Reloc.{Reloc}
-use Rattle.pl_tls.specs.declared.fault.TlsFault.{TlsFault}
 use Rattle.pl_tls.specs.declared.module.Module.{Module}
 use Rattle.pl_value.specs.Meanings.{meanings}
 use Rattle.pl_value.specs.declared.meaning.Meaning.{Meaning}
@@ -56,9 +56,9 @@ pub record Suffices (rs : List Firm) (tls : List Module) (gs : List Meaning) : T
   pub within : All (λ g. g.member < length (objects_of rs)) gs
   pub same : IsSame rs all gs
 
--- with some modules
-abbrev pub SufficesWithSome : List Firm → List Meaning → Type 0
-SufficesWithSome rs gs = (tls : List Module) × Suffices rs tls gs
+-- the conflict rows of the members' scope; none where a relocation has no value
+abbrev pub conflicts_with : List Firm → List Module → Option (List ConflictRow)
+conflicts_with rs tls = result_ok (conflicts (objects_of rs) (parts_of rs) (slots_of rs) tls)
 
 -- there are none where a relocation has no value
 abbrev pub IsEnough : List Firm → List Module → Option (List Meaning) → Type 0
@@ -78,7 +78,3 @@ IsAmongOf rs tls still windows (Some gs) = IsAmong (objects_of rs) (slots_of rs)
 abbrev pub first_relocs : List Firm → List Reloc
 first_relocs [] = []
 first_relocs (r ∷ rs) = r.object.relocations
-
--- with whatever modules the file is the same by these meanings as by all, it is the program's
-abbrev pub IsMadeWith : List Firm → List Meaning → Option (List ℕ) → Type 0
-IsMadeWith rs gs file = (tls : List Module) (all : List Meaning) → meanings (objects_of rs) (slots_of rs) tls ≡ Ok all → IsSame rs all gs → file ≡ stored (with_modules {E = TlsFault} rs (Ok tls))

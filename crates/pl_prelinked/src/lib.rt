@@ -16,7 +16,8 @@ mod watched;
 mod windows;
 
 pub use lent::Lent;
+pub use library::{library_words, prelink_library};
 pub use lists::checksum_of;
 pub use prelinking::{prelink, prelink_with};
 pub use source::Source;
-pub use still::still_words;
+pub use still::{held_words, still_words};

@@ -18,7 +18,7 @@ use std::alloc::Global;
 
 /// A file, where it is no longer than a folder stores.
 #[tactic(auto, using(crate::proofs::ProgramLaws::stored_small, crate::proofs::ProgramLaws::stored_large))]
-fn stored(file: Vec<u8>) -> Option<Vec<u8>>
+pub fn stored(file: Vec<u8>) -> Option<Vec<u8>>
     ensures { option_map (λ v. v.items) result ≡ spec.stored (Some file.items) }
 {
     if file.len() > STORED {
@@ -66,7 +66,7 @@ fn file_of(
     program_file(alloc, sources, lent)
 }
 
-/// The file that `prelink` makes, where the caller has the rows of the members after the first, and may have the SHA-256 of the first's original and the files with which the conflicts of a program are compared; these are made where it has not.
+/// The file that `prelink` makes, where the caller has the rows of the members after the first, and may have the SHA-256 of the first's original, and of a program's walk what is known of the members' relocations: which of them make no conflict row and copy nothing, and which words the libraries' prelinked files hold at their places. What it has not is found out here. It fails only for want of memory.
 pub fn prelink_with(
     alloc: Global,
     sources: &[Source<'_>],
@@ -101,7 +101,6 @@ pub fn prelink(alloc: Global, sources: &[Source<'_>]) -> Result<Option<Vec<u8>>,
     let list = list_after(alloc, sources)?;
     let lent = Lent {
         list: list.as_slice(),
-        parts: None,
         still: None,
         digest: None,
     };

@@ -6,10 +6,10 @@ ghost use Rattle.pl_conflict.specs.Prelinked as spec;
 ghost use Rattle.pl_conflict.specs.Compared.{AreConflicts};
 ghost use Rattle.pl_elf.specs.Kinds.{is_library};
 ghost use Rattle.pl_prelinked.specs.Fills.{fills_of, memory_of};
-ghost use Rattle.pl_prelinked.specs.Programs.{AreFirstFills, BeginsWithProgram, IsAmongOf, IsEnough, IsEnoughFor, IsFound, IsMadeWith, IsProgramSet, SufficesWithSome, form_of, result_ok};
+ghost use Rattle.pl_prelinked.specs.Programs.{AreFirstFills, BeginsWithProgram, IsAmongOf, IsEnough, IsEnoughFor, IsFound, IsProgramSet, Suffices, conflicts_with, form_of, result_ok};
 ghost use Rattle.pl_prelinked.specs.Programs as spec_of;
 ghost use Rattle.pl_form.specs.Words.{AreFills};
-ghost use Rattle.pl_prelinked.specs.Lent.{AreLent, AreStillIn, list_after};
+ghost use Rattle.pl_prelinked.specs.Lent.{AreLent, AreStillIn, TellHeldIn, list_after};
 ghost use Rattle.pl_image.specs.Image.{AreLoaded};
 ghost use Rattle.pl_prelinked.specs.Sources.{AreSources};
 ghost use Rattle.pl_scope.specs.Scope.{objects};
@@ -24,7 +24,7 @@ use crate::scopes::{own_walk, places_of, scope_of};
 use crate::watched::{are_watched, windows_of};
 use crate::{Lent, Source};
 use pl_base::Rows;
-use pl_conflict::{Still, conflicts_by, meanings_among};
+use pl_conflict::{Still, conflicts_among, conflicts_by, meanings_among};
 use pl_form::{Fill, FormFault, form_program};
 use pl_image::{Loaded, Parts};
 use pl_io::NoMemory;
@@ -278,23 +278,45 @@ fn rows_made(
     rows_by(alloc, sources, all, &parts)
 }
 
-/// The same where these files may be there.
+/// The conflict rows by what is known of the relocations of the members; None where a relocation has no value.
+fn rows_among(
+    alloc: Global,
+    sources: &[Source<'_>],
+    modules: &[Module],
+    still: &[Still<'_>],
+) -> Result<Option<Rows<ConflictRow>>, NoMemory>
+    requires sources { AreSources sources.now }
+    requires set { IsProgramSet sources.now }
+    requires still { AreStillIn sources.now still.now }
+    requires held { TellHeldIn sources.now still.now }
+    ensures { IfOk result (λ rows. rows ≡ conflicts_with sources.now modules.now) }
+{
+    let scope = scope_of(alloc, sources)?;
+    let places = places_of(alloc, sources)?;
+    match conflicts_among(alloc, &scope, &places, modules, still) {
+        Ok(rows) => Ok(Some(rows)),
+        Err(OrdinaryFault::Link(_)) => Ok(None),
+        Err(OrdinaryFault::NoMemory) => Err(NoMemory),
+    }
+}
+
+/// The conflict rows of the members' scope, where it may be known what matters of their relocations.
 fn rows_of(
     alloc: Global,
     sources: &[Source<'_>],
     all: &[Meaning],
     lent: &Lent<'_>,
-) -> Result<Rows<ConflictRow>, NoMemory>
+    modules: &[Module],
+) -> Result<Option<Rows<ConflictRow>>, NoMemory>
     requires sources { AreSources sources.now }
     requires set { IsProgramSet sources.now }
-    requires given { IsEnoughFor sources.now all.now }
+    requires given { Suffices sources.now modules.now all.now }
     requires lent { AreLent sources.now lent.now }
-    ensures { IfOk result (AreConflicts (spec.objects_of sources.now) (spec.parts_of sources.now)
-        (spec.slots_of sources.now) all.now) }
+    ensures { IfOk result (λ rows. rows ≡ conflicts_with sources.now modules.now) }
 {
-    match lent.parts {
-        None => rows_made(alloc, sources, all),
-        Some(parts) => rows_by(alloc, sources, all, parts),
+    match lent.still {
+        None => Ok(Some(rows_made(alloc, sources, all)?)),
+        Some(still) => rows_among(alloc, sources, modules, still),
     }
 }
 
@@ -409,15 +431,19 @@ fn with_meanings(
     alloc: Global,
     sources: &[Source<'_>],
     lent: &Lent<'_>,
+    modules: &[Module],
     all: &[Meaning],
 ) -> Result<Option<Vec<u8>>, NoMemory>
     requires sources { AreSources sources.now }
     requires set { IsProgramSet sources.now }
     requires lent { AreLent sources.now lent.now }
-    requires given { SufficesWithSome sources.now all.now }
-    ensures { IfOk result (λ file. IsMadeWith sources.now all.now (option_map (λ v. v.items) file)) }
+    requires given { Suffices sources.now modules.now all.now }
+    ensures { IfOk result (λ file. option_map (λ v. v.items) file
+        ≡ spec.stored (spec.with_modules {E = TlsFault} sources.now (Ok modules.now))) }
 {
-    let rows = rows_of(alloc, sources, all, lent)?;
+    let Some(rows) = rows_of(alloc, sources, all, lent, modules)? else {
+        return Ok(None);
+    };
     with_rows(alloc, sources, lent.list, all, rows.as_slice())
 }
 
@@ -438,7 +464,7 @@ fn with_modules(
     let Some(meanings) = given else {
         return Ok(None);
     };
-    with_meanings(alloc, sources, lent, meanings.as_slice())
+    with_meanings(alloc, sources, lent, modules, meanings.as_slice())
 }
 
 /// The prelinked file of a program, by the members of its walk, it first; None where their thread-local storage or their links have a refusal, or the file is longer than a folder stores.

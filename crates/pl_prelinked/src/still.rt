@@ -1,13 +1,13 @@
 // Which relocations of a library are known to matter nowhere else.
 ghost use Rattle.std.specs.Prelude.{◌≡◌, true, IfOk};
 ghost use Rattle.pl_conflict.specs.Prelinked.{are_set};
-ghost use Rattle.pl_prelinked.specs.Libraries.{AreHeldIn, BeginsWith};
+ghost use Rattle.pl_prelinked.specs.Libraries.{AreHeldIn, AreWordsIn, BeginsWith};
 ghost use Rattle.pl_prelinked.specs.Sources.{AreSources};
 
 use crate::Source;
 use crate::scopes::{places_of, scope_of};
 use pl_base::Rows;
-use pl_conflict::still_of;
+use pl_conflict::{still_of, words_held};
 use pl_image::load_object;
 use pl_io::NoMemory;
 use std::alloc::Global;
@@ -48,4 +48,36 @@ pub fn still_words(
         return Ok(Rows::new(alloc));
     };
     still_first(alloc, sources, library, file, closed)
+}
+
+/// The words by the file of the first of members.
+fn words_first(
+    alloc: Global,
+    sources: &[Source<'_>],
+    library: &Source<'_>,
+    file: &[u8],
+) -> Result<Rows<u64>, NoMemory>
+    requires sources { AreSources sources.now }
+    requires set { are_set sources.now ≡ true }
+    requires first { BeginsWith sources.now library.now }
+    ensures { IfOk result (AreWordsIn sources.now file.now) }
+{
+    let loaded = load_object(alloc, library.object, file, library.slot)?;
+    let relocs = library.object.relocations.as_slice();
+    let words = words_held(alloc, &[loaded], library.slot, relocs)?;
+    Ok(words)
+}
+
+/// For each relocation of the first of members, a library, in their order, the word that the library's file holds at its place, where it is loaded at its slot.
+///
+/// The members can be prelinked together: `prelink` gives the first a file. It fails only for want of memory.
+pub fn held_words(alloc: Global, sources: &[Source<'_>], file: &[u8]) -> Result<Rows<u64>, NoMemory>
+    requires sources { AreSources sources.now }
+    requires set { are_set sources.now ≡ true }
+    ensures { IfOk result (AreWordsIn sources.now file.now) }
+{
+    let [library, ..] = sources else {
+        return Ok(Rows::new(alloc));
+    };
+    words_first(alloc, sources, library, file)
 }

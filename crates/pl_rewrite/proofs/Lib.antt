@@ -5,8 +5,11 @@ pub mod WalkLaws
 pub mod MadeLaws
 pub mod OnceLaws
 pub mod StillLaws
+pub mod PartLaws
 pub mod NewLaws
 pub mod PlanLaws
+pub mod DecidingLaws
+pub mod FinishingLaws
 pub mod SoundLaws
 pub mod VerifyLaws
 pub mod HistoryLaws

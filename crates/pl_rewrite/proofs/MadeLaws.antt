@@ -198,11 +198,11 @@ given_by files region p n b new stale file = ap (λ (c : Bool). c && is_some (ch
 -- ---- what is made
 
 -- of a stale name
-record StaleParts (run : Run) (n : List ℕ) : Type 0 where
-  candidate : IsCandidate run n
-  current : is_current (files_of run) run.region run.planned.now.slots n ≡ false
+pub record StaleParts (run : Run) (n : List ℕ) : Type 0 where
+  pub candidate : IsCandidate run n
+  pub current : is_current (files_of run) run.region run.planned.now.slots n ≡ false
 
-stale_parts : (run : Run) (n : List ℕ) → IsStale run n → StaleParts run n
+pub stale_parts : (run : Run) (n : List ℕ) → IsStale run n → StaleParts run n
 stale_parts run n stale =
     let p = and_both (is_candidate (files_of run) run.region n) (not (is_current (files_of run) run.region run.planned.now.slots n)) stale in
     record { candidate = p.0; current = not-true (is_current (files_of run) run.region run.planned.now.slots n) p.1 }

@@ -1,7 +1,7 @@
 -- What is made once a run serves every walk: the digests of originals, and the files of libraries.
-use Rattle.std.proofs.Common.{◌≡◌, ℕ, suc, true, false, List, [], ◌∷◌, length, get_or, map, Option, Some, None, Result, Ok, refl, sym, ap, subst, ◌∙◌, inl, inr}
-use Rattle.std.specs.Prelude.{IfSome, drop, find, nat_le, position, slice_get, take}
-use Rattle.std.specs.List.{All, AllZip, cons_option, filter_map, remove}
+use Rattle.std.proofs.Common.{◌≡◌, ℕ, suc, true, false, List, [], ◌∷◌, length, get_or, Option, Some, Result, Ok, refl, sym, ap, subst, ◌∙◌, inl, inr}
+use Rattle.std.specs.Prelude.{drop, find, nat_le, position, slice_get, take}
+use Rattle.std.specs.List.{All, cons_option, filter_map, remove}
 use Rattle.std.specs.Str.{bytes_eq}
 use Rattle.std.proofs.lemmas.Bool.{cases_Bool, false≢true}
 use Rattle.std.proofs.lemmas.List.Elements.{All-append, All-nil, All-cons, All-drop, All-head, All-tail, All-take}
@@ -60,18 +60,6 @@ digest_found run (x ∷ ds) n d all is = elim (cases_Bool (bytes_eq x.name.now n
 pub have_originals : (run : Run) (ws : Walked) → All (HasOriginal run) (planned_firms run ws)
 have_originals run [] = All-nil (HasOriginal run)
 have_originals run (w ∷ ws) = All-cons (HasOriginal run) (planned_firm run w) (planned_firms run ws) refl (have_originals run ws)
-
--- ---- files
-
-pub library_found : (run : Run) (ls : List MadeFile) (n : List ℕ) (l : MadeFile) → All (IsPrelinked run) ls → find (λ x. bytes_eq x.name.now n) ls ≡ Some l → prelinked run n ≡ Some l.file.items
-library_found run [] n l all is = absurd (none-some l is)
-library_found run (x ∷ ls) n l all is = elim (cases_Bool (bytes_eq x.name.now n)) [
-  | inl hit ↦
-      let same : x ≡ l = same_Some x l (rw hit at is) in
-      let one : IsPrelinked run x = All-head (IsPrelinked run) x ls all in
-      subst (λ (y : MadeFile). prelinked run n ≡ Some y.file.items) same (ap (prelinked run) (sym (same_name x.name.now n hit)) ∙ one)
-  | inr miss ↦ library_found run ls n l (All-tail (IsPrelinked run) x ls all) (rw miss at is)
-]
 
 -- ---- files that are taken out
 
@@ -190,37 +178,3 @@ part_is run n ws is candidate known p part there member given = elim (cases_Bool
       let file : Some (planned_firm run p).member.original ≡ Some part = rw other at given in
       rw other (same_Some (planned_firm run p).member.original part file)
 ]
-
--- ---- all parts
-
-abbrev IsInside : Run → Walked → (List ℕ × Object) → Type 0
-IsInside run ws p = (has (names ws) p.0 ≡ true) × IsMember run p
-
-parts_from : (run : Run) (n : List ℕ) (ws : Walked) → IsRun run → IsCandidate run n → walk_in run.known.now n ≡ Ok ws → (qs : Walked) (parts : List (List ℕ)) → All (IsInside run ws) qs → AllZip (IsPart run) (planned_firms run qs) parts
-    → parts ≡ map (form.part_of (planned_firms run ws)) (planned_firms run qs)
-parts_from run n ws is candidate known [] [] inside zip = refl
-parts_from run n ws is candidate known [] (part ∷ parts) inside zip = absurd zip
-parts_from run n ws is candidate known (q ∷ qs) [] inside zip = absurd zip
-parts_from run n ws is candidate known (q ∷ qs) (part ∷ parts) inside zip =
-    let one = All-head (IsInside run ws) q qs inside in
-    ap (λ (x : List ℕ). x ∷ parts) (sym (part_is run n ws is candidate known q part one.0 one.1 zip.0))
-    ∙ ap (λ (later : List (List ℕ)). form.part_of (planned_firms run ws) (planned_firm run q) ∷ later) (parts_from run n ws is candidate known qs parts (All-tail (IsInside run ws) q qs inside) zip.1)
-
-pub parts_are : (run : Run) (n : List ℕ) (ws : Walked) (parts : List (List ℕ)) → IsRun run → IsCandidate run n → walk_in run.known.now n ≡ Ok ws → AllZip (IsPart run) (planned_firms run ws) parts → parts ≡ parts_of (planned_firms run ws)
-parts_are run n ws parts is candidate known zip =
-    parts_from run n ws is candidate known ws parts
-    (λ i d lt. (has_at (names ws) i (get_or ws i d).0 (name_at ws i (get_or ws i d) (slice_get-get_or ws i d lt)), members_are run n ws is candidate known i d lt)) zip
-
--- the same where they may not be there
-pub parts_given : (run : Run) (n : List ℕ) (ws : Walked) (rs : List Firm) (parts : Option (List (List ℕ))) → IsRun run → IsCandidate run n → walk_in run.known.now n ≡ Ok ws → rs ≡ planned_firms run ws
-    → IfSome parts (λ p. AllZip (IsPart run) rs p) → IfSome parts (λ p. p ≡ parts_of rs)
-parts_given run n ws rs None is candidate known same given = tt
-parts_given run n ws rs (Some parts) is candidate known same given =
-    subst (λ (xs : List Firm). parts ≡ parts_of xs) (sym same) (parts_are run n ws parts is candidate known (subst (λ (xs : List Firm). AllZip (IsPart run) xs parts) same given))
-
--- as the code finds them
-pub part_library : (run : Run) (r : Firm) (name file : List ℕ) → name ≡ r.member.name → is_library r.object.kind ≡ true → prelinked run name ≡ Some file → IsPart run r file
-part_library run r name file named library given = rw library (sym (ap (prelinked run) named) ∙ given)
-
-pub part_program : (run : Run) (r : Firm) (original : List ℕ) → original ≡ r.member.original → is_library r.object.kind ≡ false → IsPart run r original
-part_program run r original same other = rw other (ap (λ (bytes : List ℕ). Some bytes) (sym same))

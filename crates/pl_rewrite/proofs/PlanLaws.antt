@@ -1,6 +1,6 @@
 -- A run from its plan, and what it makes of all names.
 use Rattle.std.proofs.Common.{◌≡◌, ℕ, ◌+◌, ◌<◌, ◌≤◌, Bool, true, false, List, [], ◌∷◌, ◌++◌, length, take, get_or, Option, Some, None, Result, Ok, refl, sym, ap, subst, ◌∙◌}
-use Rattle.std.specs.Prelude.{◌||◌, map, if◌then◌else◌}
+use Rattle.std.specs.Prelude.{◌||◌, map}
 use Rattle.std.specs.List.{cons_option, filter_map, list_any}
 use Rattle.std.proofs.lemmas.List.{take_all, take_more}
 use Rattle.pl_base.specs.Answers.{◌>>=◌}
@@ -17,11 +17,10 @@ use Rattle.pl_slots.specs.declared.slot.Slot.{Slot}
 use Rattle.pl_sound.specs.Rule.{Files}
 use Rattle.pl_rewrite.specs.Changes.{change, changes, is_given, next_cache}
 use Rattle.pl_rewrite.specs.Reports.{report, row_of, state_after}
-use Rattle.pl_rewrite.specs.Rewriting.{all_made, rewrite, rewritten, with_made}
+use Rattle.pl_rewrite.specs.Rewriting.{all_made, rewrite, rewritten, rewritten_with, with_made}
 use Rattle.pl_rewrite.specs.declared.making.AllMade.{AllMade}
 use Rattle.pl_rewrite.specs.declared.making.Made.{Made}
 use Rattle.pl_rewrite.specs.declared.report.ReportRow.{ReportRow}
-use Rattle.pl_rewrite.specs.declared.rewriting.Rewritten.{Rewritten}
 
 -- ---- what a plan says of its names
 
@@ -114,13 +113,12 @@ made_none files region p rows states none also = ap (λ (x : List Change). make 
 
 -- ---- the whole
 
-abbrev whole : AllMade → List Slot → ℕ → Rewritten
-whole made rows last = record { rows = made.rows; cache = record { last = last; rows = rows }; report = record { rows = made.states } }
+-- with what is made of all files
+pub rewritten_is : (files : Files) (ns : List (List ℕ)) (a : Asked) (p : Planned) (made : AllMade) → made ≡ all_made files ns a.region p → rewritten_with a p made ≡ rewritten files ns a p
+unfolding next_cache report
+rewritten_is files ns a p made is = ap (rewritten_with a p) is
 
-pub rewrite_is : (files : Files) (ns : List (List ℕ)) (a : Asked) (p : Planned) (made : AllMade) (last : ℕ) → planned files ns a ≡ Ok p → made ≡ all_made files ns a.region p → last ≡ (if made.given then p.stamp else a.last)
-    → rewrite files ns a ≡ Ok (record { rows = made.rows; cache = record { last = last; rows = p.slots }; report = record { rows = made.states } })
-unfolding rewrite next_cache report
-rewrite_is files ns a p made last plan is stamp =
-    let whole_stamp : last ≡ (if (all_made files ns a.region p).given then p.stamp else a.last) = stamp ∙ ap (λ (m : AllMade). if m.given then p.stamp else a.last) is in
-    ap (λ (r : Result Planned PlanningFault). r >>= λ q. Ok (rewritten files ns a q)) plan
-    ∙ ap (λ (x : Rewritten). Ok x) (sym (ap (λ (m : AllMade). whole m p.slots last) is ∙ ap (λ (x : ℕ). whole (all_made files ns a.region p) p.slots x) whole_stamp))
+-- by a plan
+pub rewrite_is : (files : Files) (ns : List (List ℕ)) (a : Asked) (p : Planned) → planned files ns a ≡ Ok p → rewrite files ns a ≡ Ok (rewritten files ns a p)
+unfolding rewrite
+rewrite_is files ns a p plan = ap (λ (r : Result Planned PlanningFault). r >>= λ q. Ok (rewritten files ns a q)) plan

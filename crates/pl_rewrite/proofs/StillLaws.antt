@@ -1,11 +1,12 @@
--- Flags that are made once a run are right in the walk of every program.
-use Rattle.std.proofs.Common.{◌≡◌, ℕ, zero, suc, ◌+◌, ◌<◌, Bool, true, false, List, [], ◌∷◌, length, map, get_or, Option, Some, None, Result, Ok, Err, refl, sym, ap, subst, ◌∙◌, arith, inl, inr}
-use Rattle.std.specs.Prelude.{◌||◌, ◌==◌, find, slice_get, if◌then◌else◌}
+-- What is found of libraries once a run is right in the walk of every program.
+use Rattle.std.proofs.Common.{◌≡◌, ℕ, zero, suc, ◌+◌, ◌<◌, Bool, true, List, [], ◌∷◌, length, map, get_or, Option, Some, None, Ok, refl, sym, ap, subst, ◌∙◌, arith, inl, inr}
+use Rattle.std.specs.Prelude.{◌==◌, ◌⊎◌, ◌++◌, IfSome, find, slice_get, take}
 use Rattle.std.specs.List.{All, AllZip}
+use Rattle.std.specs.Option.{option_map}
 use Rattle.std.specs.Str.{bytes_eq}
 use Rattle.std.proofs.lemmas.Bool.{cases_Bool}
 use Rattle.std.proofs.lemmas.List.Elements.{All-head, All-tail}
-use Rattle.std.proofs.lemmas.Option.{none-some, same_Some}
+use Rattle.std.proofs.lemmas.Option.{none-some, same_Some, slice_get-get_or}
 use Rattle.pl_base.specs.Bytes.{bytes64}
 use Rattle.pl_base.specs.Memory.{Memory, layered, read}
 use Rattle.pl_base.specs.Sums.{plus}
@@ -14,30 +15,27 @@ use Rattle.pl_cone.specs.Candidates.{kind_of, walk_in}
 use Rattle.pl_cone.specs.Known.{object_of}
 use Rattle.pl_cone.specs.Links.{folder, IsLink}
 use Rattle.pl_cone.specs.declared.links.Link.{Link}
-use Rattle.pl_cone.proofs.LinkLaws.{walk_made, walk_first, first_member, walk_within, zip_at, found_name}
-use Rattle.pl_conflict.specs.Among.{FlagOf, IsQuiet, GivesQuiet, AreStill, HoldsWord, IsHeld}
+use Rattle.pl_cone.proofs.LinkLaws.{walk_made, walk_first, walk_within, zip_at}
+use Rattle.pl_conflict.specs.Among.{FlagOf, GivesQuiet, HoldsAt, HoldsWord, TellsHeld}
 use Rattle.pl_conflict.specs.Conflicts.{pieces_in, held, row_of}
 use Rattle.pl_conflict.specs.Format.{format}
 use Rattle.pl_conflict.specs.Prelinked as form
-use Rattle.pl_conflict.specs.Prelinked.{Firm, are_set, objects_of, parts_of, slots_of}
-use Rattle.pl_conflict.proofs.MemberLaws.{when_some}
+use Rattle.pl_conflict.specs.Prelinked.{Firm, objects_of, parts_of, slots_of}
 use Rattle.pl_conflict.specs.declared.among.Still.{Still}
 use Rattle.pl_elf.specs.Kinds.{is_library}
 use Rattle.pl_image.specs.Loads.{loaded_at}
 use Rattle.pl_image.specs.declared.loaded.Loaded.{Loaded}
+use Rattle.pl_known.proofs.FindLaws.{zip_more}
 use Rattle.pl_known.specs.Skips.{skip_causes}
-use Rattle.pl_links.specs.Closed.{IsClosed, IsClosedBy, IsFlag, Stands}
-use Rattle.pl_links.specs.Folder.{IsMember as IsNamedMember, IsWithin}
+use Rattle.pl_links.specs.Closed.{IsClosed, IsClosedBy, IsFlag}
+use Rattle.pl_links.specs.Folder.{IsMember as IsNamedMember}
 use Rattle.pl_links.proofs.ClosedLaws.{closed}
 use Rattle.pl_links.proofs.FolderLaws.{object_at, member_of, member_has}
-use Rattle.pl_lists.specs.declared.conflict_row.ConflictRow.{ConflictRow}
 use Rattle.pl_object.specs.declared.object.Object.{Object}
 use Rattle.pl_object.specs.declared.reloc.Reloc.{Reloc}
-use Rattle.pl_prelinked.specs.Lent.{AreStillIn}
-use Rattle.pl_prelinked.specs.Libraries.{AreHeldIn}
-use Rattle.pl_prelinked.specs.Sources.{AreSources, members}
-use Rattle.pl_prelinked.proofs.FirmLaws.{firm_all}
-use Rattle.pl_scope.specs.Members.{IsLinked, has, names}
+use Rattle.pl_prelinked.specs.Lent.{AreStillIn, TellHeldIn}
+use Rattle.pl_prelinked.specs.Libraries.{AreHeldIn, AreWordsIn}
+use Rattle.pl_scope.specs.Members.{IsLinked}
 use Rattle.pl_scope.specs.Scope.{objects}
 use Rattle.pl_scope.specs.Walk.{Walked}
 use Rattle.pl_scope.proofs.NameLaws.{eq_refl, same_name}
@@ -52,26 +50,30 @@ use Rattle.pl_value.specs.Values.{relocations_in, value_of}
 use Rattle.pl_value.specs.declared.meaning.Meaning.{Meaning}
 use Rattle.pl_value.specs.declared.word.Word.{Word}
 use Rattle.pl_value.specs.declared.word.Word.TheVariants.{Put, Copy, Nothing}
-use Rattle.pl_rewrite.specs.Members.{AreFlagsFor, AreMadeFor, IsCandidate, IsLinkOf, IsMember, IsPart, IsRun, IsStill, IsStillFor, files_of, numbers_of, planned_firm, planned_firms, prelinked}
-use Rattle.pl_rewrite.specs.declared.running.LibraryStill.{LibraryStill}
+use Rattle.pl_rewrite.specs.Members.{AreStillFor, IsCandidate, IsLibrary, IsLinkOf, IsMember, IsPart, IsRun, IsStillBy, IsStillFor, files_of, numbers_of, planned_firm, planned_firms, prelinked}
+use Rattle.pl_rewrite.specs.declared.running.Library.{Library}
 use Rattle.pl_rewrite.specs.declared.running.Run.{Run}
 use Rattle.pl_rewrite.proofs.OnceLaws.{linked_kind, part_is}
-use Rattle.pl_rewrite.proofs.WalkLaws.{members_are, sound_is, sources_are, walk_prelinked}
+use Rattle.pl_rewrite.proofs.WalkLaws.{members_are, sound_is}
 
 -- ---- what was found
 
-pub still_found : (run : Run) (ss : List LibraryStill) (n : List ℕ) (s : LibraryStill) → All (IsStill run) ss → find (λ x. bytes_eq x.name.now n) ss ≡ Some s → AreFlagsFor run n s.flags
-still_found run [] n s all is = absurd (none-some s is)
-still_found run (x ∷ ss) n s all is = elim (cases_Bool (bytes_eq x.name.now n)) [
+-- what is known of a library by its flags
+abbrev IsStill : Run → Library → Type 0
+IsStill run s = IsStillBy run.known.now (prelinked run) (planned_firms run) s
+
+-- a library of a name
+pub record IsOf (run : Run) (n : List ℕ) (l : Library) : Type 0 where
+  pub is : IsLibrary run l
+  pub named : l.name.now ≡ n
+
+pub library_found : (run : Run) (ls : List Library) (n : List ℕ) (l : Library) → All (IsLibrary run) ls → find (λ x. bytes_eq x.name.now n) ls ≡ Some l → IsOf run n l
+library_found run [] n l all is = absurd (none-some l is)
+library_found run (x ∷ ls) n l all is = elim (cases_Bool (bytes_eq x.name.now n)) [
   | inl hit ↦
-      let same : x ≡ s = same_Some x s (rw hit at is) in
-      inr (record {
-        made = x;
-        is = All-head (IsStill run) x ss all;
-        named = same_name x.name.now n hit;
-        flags_are = ap (λ (y : LibraryStill). y.flags) (sym same);
-      })
-  | inr miss ↦ still_found run ss n s (All-tail (IsStill run) x ss all) (rw miss at is)
+      let same : x ≡ l = same_Some x l (rw hit at is) in
+      subst (IsOf run n) same (record { is = All-head (IsLibrary run) x ls all; named = same_name x.name.now n hit })
+  | inr miss ↦ library_found run ls n l (All-tail (IsLibrary run) x ls all) (rw miss at is)
 ]
 
 pub link_found : (run : Run) (ls : List Link) (n : List ℕ) (l : Link) → All (IsLink run.known.now) ls → find (λ x. bytes_eq x.name n) ls ≡ Some l → IsLinkOf run.known.now n l
@@ -134,6 +136,27 @@ zip_get R (a ∷ xs) [] m x y zip at there = absurd zip
 zip_get R (a ∷ xs) (b ∷ ys) zero x y zip at there = subst (λ z. R z y) (same_Some a x at) (subst (R a) (same_Some b y there) zip.0)
 zip_get R (a ∷ xs) (b ∷ ys) (suc m) x y zip at there = zip_get R xs ys m x y zip.1 at there
 
+zip_found : {A B : Type 0} (R : A → B → Type 0) (xs : List A) (ys : List B) (m : ℕ) (x : A) → AllZip R xs ys → slice_get xs m ≡ Some x → (y : B) × ((slice_get ys m ≡ Some y) × R x y)
+zip_found R [] ys m x zip at = absurd (none-some x at)
+zip_found R (a ∷ xs) [] m x zip at = absurd zip
+zip_found R (a ∷ xs) (b ∷ ys) zero x zip at = (b, (refl, subst (λ z. R z b) (same_Some a x at) zip.0))
+zip_found R (a ∷ xs) (b ∷ ys) (suc m) x zip at = zip_found R xs ys m x zip.1 at
+
+-- ---- what is known of members
+
+-- of a member it is what was found of its library, or there are no flags
+still_at : (run : Run) (rs : List Firm) (stills : List Still) (m : ℕ) (r : Firm) (st : Still) → AreStillFor run rs stills → slice_get rs m ≡ Some r → slice_get stills m ≡ Some st → (st.flags.now ≡ []) ⊎ IsStillFor run r st
+still_at run [] stills m r st are at there = absurd (none-some r at)
+still_at run (x ∷ rs) [] m r st are at there = absurd are
+still_at run (x ∷ rs) (s ∷ all) zero r st are at there = inl (subst (λ (y : Still). y.flags.now ≡ []) (same_Some s st there) are.0)
+still_at run (x ∷ rs) (s ∷ all) (suc m) r st are at there = inr (zip_get (IsStillFor run) rs all m r st are.1 at there)
+
+-- it is known of each but the first
+told_at : (run : Run) (rs : List Firm) (stills : List Still) (m : ℕ) (r : Firm) → AreStillFor run rs stills → slice_get rs (suc m) ≡ Some r → (st : Still) × ((slice_get stills (suc m) ≡ Some st) × IsStillFor run r st)
+told_at run [] stills m r are at = absurd (none-some r at)
+told_at run (x ∷ rs) [] m r are at = absurd are
+told_at run (x ∷ rs) (s ∷ all) m r are at = zip_found (IsStillFor run) rs all m r are.1 at
+
 -- ---- a word that a file holds
 
 held_by : (files : List Loaded) (one : Loaded) (m start : ℕ) → slice_get files m ≡ Some one → held files m start ≡ held (one ∷ []) 0 start
@@ -159,6 +182,12 @@ given_of : (os : List Object) (places : List ℕ) (tls : List Module) (m : ℕ) 
 unfolding meaning
 given_of os places tls m r w e = rw e refl
 
+-- words tell what the file of a member with which conflicts are compared holds at the places of its relocations
+abbrev TellsIn : List Firm → ℕ → List ℕ → Object → Type 0
+TellsIn rs m words o =
+    (i : ℕ) (d : Reloc) → i < length o.relocations
+    → (word : ℕ) × ((slice_get words i ≡ Some word) × (held (loaded (slots_of rs) (parts_of rs) (objects_of rs)) m (plus (base_of (slots_of rs) m) (get_or o.relocations i d).address) ≡ bytes64 word))
+
 -- ---- in the walk of a candidate
 
 module _ (run : Run) (n : List ℕ) (ws : Walked) (is : IsRun run) (candidate : IsCandidate run n) (walk : walk_in run.known.now n ≡ Ok ws) where
@@ -171,7 +200,36 @@ module _ (run : Run) (n : List ℕ) (ws : Walked) (is : IsRun run) (candidate : 
       linked_kind o.kind (sound_is run.region (files_of run) n o there candidate).dynamic
 
   -- a library with its own walk
-  module _ (s : LibraryStill) (k : IsStill run s) (m : ℕ) where
+  module _ (s : Library) (k : IsStill run s) (m : ℕ) where
+    -- its prelinked file is the one with which it is compared
+    file_own : (x : Object) → is_library x.kind ≡ true → slice_get ws m ≡ Some (k.link.name, x)
+        → slice_get (loaded (slots_of (planned_firms run ws)) (parts_of (planned_firms run ws)) (objects_of (planned_firms run ws))) m ≡ Some (loaded_at (slot_for run k.link.name) k.file x)
+    file_own x library at =
+        let name : List ℕ = k.link.name in
+        let rs = planned_firms run ws in
+        let named : IsNamedMember ws m name = record { object = x; at = at } in
+        let member : IsMember run (name, x) = member_at run ws m (name, x) (members_are run n ws is candidate walk) at in
+        let made : prelinked run name ≡ Some k.file = ap (prelinked run) k.known_by.named ∙ k.made in
+        let part : IsPart run (planned_firm run (name, x)) k.file = rw library made in
+        let bytes : part_of (parts_of rs) m ≡ k.file = part_at run (form.part_of rs) ws m (name, x) at ∙ part_is run n ws is candidate walk (name, x) k.file (member_has ws m name named) member part in
+        let object : slice_get (objects_of rs) m ≡ Some x = ap (λ (os : List Object). slice_get os m) (objects_planned run ws) ∙ object_at ws m name x at in
+        file_at (slots_of rs) (parts_of rs) (objects_of rs) m x object
+        ∙ (ap (λ (b : ℕ). Some (loaded_at b (part_of (parts_of rs) m) x)) (slot_at run ws m name x at) ∙ ap (λ (p : List ℕ). Some (loaded_at (slot_for run name) p x)) bytes)
+
+    held_own : (x : Object) (rest : Walked) (words : List ℕ) → k.known_by.is.own ≡ (k.link.name, x) ∷ rest → slice_get ws m ≡ Some (k.link.name, x) → AreWordsIn (planned_firms run k.known_by.is.own) k.file words → TellsIn (planned_firms run ws) m words x
+    held_own x rest words begins at are i d lt =
+        let name : List ℕ = k.link.name in
+        let rs = planned_firms run ws in
+        let inner : Walked = (name, x) ∷ rest in
+        let r : Reloc = get_or x.relocations i d in
+        let library : is_library x.kind ≡ true = sym (ap (λ (w : Walked). is_library (kind_of w)) begins) ∙ k.library in
+        let one : Loaded = loaded_at (slot_for run name) k.file x in
+        let zip : AllZip (HoldsAt (one ∷ []) (slot_for run name)) x.relocations words = subst (λ (w : Walked). AreWordsIn (planned_firms run w) k.file words) begins are in
+        let h = zip_found (HoldsAt (one ∷ []) (slot_for run name)) x.relocations words i r zip (slice_get-get_or x.relocations i d lt) in
+        let files = loaded (slots_of rs) (parts_of rs) (objects_of rs) in
+        let start : plus (base_of (slots_of rs) m) r.address ≡ plus (slot_for run name) r.address = ap (λ (b : ℕ). plus b r.address) (slot_at run ws m name x at) in
+        (h.0, (h.1.0, ap (held files m) start ∙ held_by files one m (plus (slot_for run name) r.address) (file_own x library at) ∙ h.1.1))
+
     quiet_own : (x : Object) (rest : Walked) → k.known_by.is.own ≡ (k.link.name, x) ∷ rest → slice_get ws m ≡ Some (k.link.name, x) → (i : ℕ) (d : Reloc) → i < length x.relocations → slice_get s.flags i ≡ Some true
         → GivesQuiet (objects_of (planned_firms run ws)) (slots_of (planned_firms run ws)) (loaded (slots_of (planned_firms run ws)) (parts_of (planned_firms run ws)) (objects_of (planned_firms run ws))) m (get_or x.relocations i d)
     quiet_own x rest begins at i d lt set tls =
@@ -212,14 +270,7 @@ module _ (run : Run) (n : List ℕ) (ws : Walked) (is : IsRun run) (candidate : 
         let start : plus (base_of own_slots 0) r.address ≡ g.start = ap (λ (b : ℕ). plus b r.address) (sym (slot_at run ws m name x at)) in
         let own_holds : HoldsWord (one ∷ []) (plus (base_of own_slots 0) r.address) word.0 = subst (λ (y : Meaning). HoldsWord (one ∷ []) y.start y.word) own_given h.1.holds in
         let holds : HoldsWord (one ∷ []) g.start word.0 = subst (λ (b : ℕ). HoldsWord (one ∷ []) b word.0) start own_holds in
-        let member : IsMember run (name, x) = member_at run ws m (name, x) (members_are run n ws is candidate walk) at in
-        let made : prelinked run name ≡ Some k.file = ap (prelinked run) k.known_by.named ∙ k.made in
-        let part : IsPart run (planned_firm run (name, x)) k.file = rw library made in
-        let bytes : part_of (parts_of rs) m ≡ k.file = part_at run (form.part_of rs) ws m (name, x) at ∙ part_is run n ws is candidate walk (name, x) k.file (member_has ws m name named) member part in
-        let object : slice_get (objects_of rs) m ≡ Some x = ap (λ (os : List Object). slice_get os m) (objects_planned run ws) ∙ object_at ws m name x at in
-        let file : slice_get (loaded (slots_of rs) (parts_of rs) (objects_of rs)) m ≡ Some one =
-        file_at (slots_of rs) (parts_of rs) (objects_of rs) m x object
-        ∙ (ap (λ (b : ℕ). Some (loaded_at b (part_of (parts_of rs) m) x)) (slot_at run ws m name x at) ∙ ap (λ (p : List ℕ). Some (loaded_at (slot_for run name) p x)) bytes) in (
+        let file : slice_get (loaded (slots_of rs) (parts_of rs) (objects_of rs)) m ≡ Some one = file_own x library at in (
           g,
           (
             ap (λ (os : List Object). meaning os (slots_of rs) tls (row m r)) (objects_planned run ws) ∙ given_of (objects ws) (slots_of rs) tls m r word.0 there,
@@ -243,44 +294,76 @@ module _ (run : Run) (n : List ℕ) (ws : Walked) (is : IsRun run) (candidate : 
         → GivesQuiet (objects_of (planned_firms run ws)) (slots_of (planned_firms run ws)) (loaded (slots_of (planned_firms run ws)) (parts_of (planned_firms run ws)) (objects_of (planned_firms run ws))) m (get_or y.relocations i d)) same
         (quiet_own t.object t.rest t.is (at ∙ ap (λ (y : Object). Some (name, y)) (sym same)))
 
-  flagged : (m : ℕ) (name : List ℕ) (o : Object) (flags : List Bool) → slice_get ws m ≡ Some (name, o) → AreFlagsFor run name flags → (i : ℕ) (d : Reloc) → i < length o.relocations → slice_get flags i ≡ Some true
+    held_at : (o : Object) (words : List ℕ) → slice_get ws m ≡ Some (k.link.name, o) → AreWordsIn (planned_firms run k.known_by.is.own) k.file words → TellsIn (planned_firms run ws) m words o
+    held_at o words at are =
+        let known = run.known.now in
+        let name : List ℕ = k.link.name in
+        let own : Walked = k.known_by.is.own in
+        let t = walk_first known name own k.known_by.is.walks in
+        let same : t.object ≡ o = same_Some t.object o
+        (sym (walk_made known name own k.known_by.is.walks 0 name t.object (ap (λ (w : Walked). slice_get w 0) t.is)) ∙ walk_made known n ws walk m name o at) in
+        subst (TellsIn (planned_firms run ws) m words) same (held_own t.object t.rest words t.is (at ∙ ap (λ (y : Object). Some (name, y)) (sym same)) are)
+
+  flagged : (m : ℕ) (name : List ℕ) (o : Object) (st : Still) → IsStillFor run (planned_firm run (name, o)) st → slice_get ws m ≡ Some (name, o) → (i : ℕ) (d : Reloc) → i < length o.relocations → slice_get st.flags.now i ≡ Some true
       → GivesQuiet (objects_of (planned_firms run ws)) (slots_of (planned_firms run ws)) (loaded (slots_of (planned_firms run ws)) (parts_of (planned_firms run ws)) (objects_of (planned_firms run ws))) m (get_or o.relocations i d)
-  flagged m name o flags at are i d lt set = elim are [
+  flagged m name o st f at i d lt set =
+      let same : name ≡ f.is.still.link.name = sym (f.is.still.known_by.named ∙ f.named) in
+      quiet_at f.found f.is.still m o (at ∙ ap (λ (k : List ℕ). Some (k, o)) same) i d lt (sym (ap (λ (fs : List Bool). slice_get fs i) f.flags) ∙ set)
+
+  by_flag : (m : ℕ) (name : List ℕ) (o : Object) (stills : List Still) (x : Option Still) → slice_get ws m ≡ Some (name, o) → AreStillFor run (planned_firms run ws) stills → slice_get stills m ≡ x → (i : ℕ) (d : Reloc) → i < length o.relocations → FlagOf x i
+      → GivesQuiet (objects_of (planned_firms run ws)) (slots_of (planned_firms run ws)) (loaded (slots_of (planned_firms run ws)) (parts_of (planned_firms run ws)) (objects_of (planned_firms run ws))) m (get_or o.relocations i d)
+  by_flag m name o stills None at are there i d lt set = absurd set
+  by_flag m name o stills (Some st) at are there i d lt set = elim (still_at run (planned_firms run ws) stills m (planned_firm run (name, o)) st are (firm_at run ws m (name, o) at) there) [
     | inl none ↦ absurd (none-some true (sym (ap (λ (fs : List Bool). slice_get fs i) none) ∙ set))
-    | inr made ↦
-        let same : name ≡ made.is.link.name = sym (made.is.known_by.named ∙ made.named) in
-        quiet_at made.made made.is m o (at ∙ ap (λ (k : List ℕ). Some (k, o)) same) i d lt (sym (ap (λ (fs : List Bool). slice_get fs i) made.flags_are) ∙ set)
+    | inr found ↦ flagged m name o st found at i d lt set
   ]
 
-  by_flag : (m : ℕ) (name : List ℕ) (o : Object) (stills : List Still) (x : Option Still) → slice_get ws m ≡ Some (name, o) → AllZip (IsStillFor run) (planned_firms run ws) stills → slice_get stills m ≡ x → (i : ℕ) (d : Reloc) → i < length o.relocations → FlagOf x i
-      → GivesQuiet (objects_of (planned_firms run ws)) (slots_of (planned_firms run ws)) (loaded (slots_of (planned_firms run ws)) (parts_of (planned_firms run ws)) (objects_of (planned_firms run ws))) m (get_or o.relocations i d)
-  by_flag m name o stills None at zip there i d lt set = absurd set
-  by_flag m name o stills (Some st) at zip there i d lt set =
-      flagged m name o st.flags.now at (zip_get (IsStillFor run) (planned_firms run ws) stills m (planned_firm run (name, o)) st zip (firm_at run ws m (name, o) at) there) i d lt set
-
-  pub still_are : (stills : List Still) → AllZip (IsStillFor run) (planned_firms run ws) stills → AreStillIn (planned_firms run ws) stills
-  still_are stills zip = λ m i o d at lt set.
+  pub still_are : (stills : List Still) → AreStillFor run (planned_firms run ws) stills → AreStillIn (planned_firms run ws) stills
+  still_are stills are = λ m i o d at lt set.
       let named = member_of ws m o (sym (ap (λ (os : List Object). slice_get os m) (objects_planned run ws)) ∙ at) in
-      by_flag m named.0 o stills (slice_get stills m) named.1 zip refl i d lt set
+      by_flag m named.0 o stills (slice_get stills m) named.1 are refl i d lt set
 
--- ---- as they are made
+  told : (m : ℕ) (name : List ℕ) (o : Object) (st : Still) → IsStillFor run (planned_firm run (name, o)) st → slice_get ws m ≡ Some (name, o) → TellsIn (planned_firms run ws) m st.held.now o
+  told m name o st f at =
+      let same : name ≡ f.is.still.link.name = sym (f.is.still.known_by.named ∙ f.named) in
+      subst (λ (words : List ℕ). TellsIn (planned_firms run ws) m words o) (sym f.held) (held_at f.found f.is.still m o f.found.parts.held (at ∙ ap (λ (k : List ℕ). Some (k, o)) same) f.is.words)
 
-set_by : (rs : List Firm) (part : List ℕ) → AreSources rs → form.prelinked (members rs) ≡ Some part → are_set rs ≡ true
-unfolding form.prelinked
-set_by rs part are made = (when_some (are_set rs) (form.stored (form.file_of rs)) part (sym (ap form.of_firm (firm_all rs are)) ∙ made)).0
+  by_index : (m i : ℕ) (o : Object) (d : Reloc) (stills : List Still) → 0 < m → slice_get (objects_of (planned_firms run ws)) m ≡ Some o → i < length o.relocations → AreStillFor run (planned_firms run ws) stills
+      → TellsHeld (loaded (slots_of (planned_firms run ws)) (parts_of (planned_firms run ws)) (objects_of (planned_firms run ws))) m (plus (base_of (slots_of (planned_firms run ws)) m) (get_or o.relocations i d).address) (slice_get stills m) i
+  by_index zero i o d stills some at lt are = absurd (omega (arith, some))
+  by_index (suc m) i o d stills some at lt are =
+      let rs = planned_firms run ws in
+      let named = member_of ws (suc m) o (sym (ap (λ (os : List Object). slice_get os (suc m)) (objects_planned run ws)) ∙ at) in
+      let t = told_at run rs stills m (planned_firm run (named.0, o)) are (firm_at run ws (suc m) (named.0, o) named.1) in
+      subst (λ (x : Option Still). TellsHeld (loaded (slots_of rs) (parts_of rs) (objects_of rs)) (suc m) (plus (base_of (slots_of rs) (suc m)) (get_or o.relocations i d).address) x i) (sym t.1.0)
+      (told (suc m) named.0 o t.0 t.1.1 named.1 i d lt)
 
-pub set_of : (run : Run) (n : List ℕ) (ws : Walked) (file : List ℕ) → IsRun run → IsCandidate run n → walk_in run.known.now n ≡ Ok ws → prelinked run n ≡ Some file → are_set (planned_firms run ws) ≡ true
-set_of run n ws file is candidate known made = set_by (planned_firms run ws) file (sources_are run n ws is candidate known) (walk_prelinked run n ws is known ∙ made)
+  pub told_are : (stills : List Still) → AreStillFor run (planned_firms run ws) stills → TellHeldIn (planned_firms run ws) stills
+  told_are stills are = λ m i o d some at lt. by_index m i o d stills some at lt are
 
-pub still_made : (run : Run) (s : LibraryStill) (ws : Walked) (l : Link) (file : List ℕ) → IsLinkOf run.known.now s.name.now l → prelinked run s.name.now ≡ Some file → walk_in run.known.now s.name.now ≡ Ok ws → is_library (kind_of ws) ≡ true
-    → AreHeldIn (planned_firms run ws) file l.closed s.flags → IsStill run s
-still_made run s ws l file link made walk library held =
-    let same : ws ≡ link.is.own = ok_same ws link.is.own (sym walk ∙ ap (walk_in run.known.now) (sym link.named) ∙ link.is.walks) in
-    record {
-      link = l;
-      known_by = link;
-      library = subst (λ (w : Walked). is_library (kind_of w) ≡ true) same library;
-      file = file;
-      made = made;
-      held = subst (λ (w : Walked). AreHeldIn (planned_firms run w) file l.closed s.flags) same held;
-    }
+-- ---- as it is gathered
+
+-- what is known of members behind a first, of which nothing is
+pub record Follows (run : Run) (others : List Firm) (all : List Still) : Type 0 where
+  pub first : Still
+  pub rest : List Still
+  pub is : all ≡ first ∷ rest
+  pub none : first.flags.now ≡ []
+  pub zip : AllZip (IsStillFor run) others rest
+
+pub follows_more : (run : Run) (others : List Firm) (i : ℕ) (r : Firm) (all after : List Still) (s : Still) → i < length others → r ≡ get_or others i r → Follows run (take i others) all → IsStillFor run r s → after ≡ all ++ s ∷ []
+    → Follows run (take (i + 1) others) after
+follows_more run others i r all after s lt at f one is = record {
+  first = f.first;
+  rest = f.rest ++ s ∷ [];
+  is = is ∙ ap (λ (xs : List Still). xs ++ s ∷ []) f.is;
+  none = f.none;
+  zip = zip_more (IsStillFor run) others i r f.rest (f.rest ++ s ∷ []) s lt at f.zip one refl;
+}
+
+-- ---- as it is lent
+
+pub lent_some : {A B C : Type 0} (f : A → C) (g : B → C) (P : C → Type 0) (x : Option A) (y : Option B) → option_map f x ≡ option_map g y → IfSome y (λ b. P (g b)) → IfSome x (λ a. P (f a))
+lent_some f g P None y e h = tt
+lent_some f g P (Some a) None e h = absurd (none-some (f a) (sym e))
+lent_some f g P (Some a) (Some b) e h = subst P (sym (same_Some (f a) (g b) e)) h

@@ -1,7 +1,10 @@
 pub mod Changes
 pub mod Reports
 pub mod Rewriting
+pub mod Words
 pub mod Members
+pub mod Finishing
+pub mod Deciding
 pub mod Laws
 pub mod Verify
 pub mod History

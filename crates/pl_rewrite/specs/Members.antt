@@ -1,10 +1,10 @@
 -- What a run goes by, and the members of a walk as it prelinks them.
-use Rattle.std.specs.Prelude.{◌≡◌, ◌⊎◌, ℕ, Bool, true, false, ◌&&◌, List, [], find, map, Option, Some, None, Result, Ok, Err, is_some, if◌then◌else◌}
-use Rattle.std.specs.List.{All, list_any}
+use Rattle.std.specs.Prelude.{◌≡◌, ℕ, Bool, true, false, ◌&&◌, List, [], ◌∷◌, find, map, Option, Some, None, Result, Ok, Err, is_some, if◌then◌else◌}
+use Rattle.std.specs.List.{All, AllZip, list_any}
 use Rattle.std.specs.Str.{bytes_eq}
 use Rattle.pl_conflict.specs.Format.{format}
-use Rattle.pl_conflict.specs.Prelinked.{Firm}
-use Rattle.pl_cone.specs.Candidates.{kind_of}
+use Rattle.pl_conflict.specs.Prelinked.{Firm, stored}
+use Rattle.pl_cone.specs.Candidates.{kind_of, walk_in}
 use Rattle.pl_cone.specs.Links.{IsLink}
 use Rattle.pl_cone.specs.declared.known.Known.{Known}
 use Rattle.pl_cone.specs.declared.links.Link.{Link}
@@ -16,6 +16,8 @@ use Rattle.pl_form.specs.declared.file.Entry.TheVariants.{There, BadMark, Refuse
 use Rattle.pl_form.specs.declared.file.File.TheVariants as files
 use Rattle.pl_form.specs.declared.file.File.TheVariants.{Plain}
 use Rattle.pl_form.specs.declared.file.Marked.{Marked}
+use Rattle.pl_form.specs.declared.version.Version.TheVariants.{Two}
+use Rattle.pl_elf.specs.declared.range.Range.{Range}
 use Rattle.pl_elf.specs.Kinds.{is_library}
 use Rattle.pl_known.specs.Laws.{Knows}
 use Rattle.pl_known.specs.Plans.{is_candidate, is_stale, stale, standings}
@@ -25,18 +27,22 @@ use Rattle.pl_known.specs.declared.taken.Taken.{Taken}
 use Rattle.pl_object.specs.declared.object.Object.{Object}
 use Rattle.pl_plan.specs.declared.planned.Planned.{Planned}
 use Rattle.pl_plan.specs.declared.standing.Standing.{Standing}
-use Rattle.pl_prelinked.specs.Libraries.{AreHeldIn}
+use Rattle.pl_prelinked.specs.Libraries.{AreHeldIn, AreWordsIn, HasFormWith, file_with}
+use Rattle.pl_prelinked.specs.Sources.{firm}
 use Rattle.pl_scope.specs.Walk.{Walked}
 use Rattle.pl_scope.specs.declared.member.Member.{Member}
 use Rattle.pl_sound.specs.Plan.{Plan, planned_member}
 use Rattle.pl_sound.specs.Rule.{Files, objects, original_at}
 use Rattle.pl_rewrite.specs.Changes as changes
 use Rattle.pl_rewrite.specs.Reports as reports
+use Rattle.pl_rewrite.specs.Words.{words_of}
 use Rattle.pl_rewrite.specs.declared.making.Made.{Made}
 use Rattle.pl_rewrite.specs.declared.report.RowState.{RowState}
-use Rattle.pl_rewrite.specs.declared.report.RowState.TheVariants.{Library, Skipped}
+use Rattle.pl_rewrite.specs.declared.report.RowState.TheVariants as states
+use Rattle.pl_rewrite.specs.declared.report.RowState.TheVariants.{Skipped}
 use Rattle.pl_rewrite.specs.declared.running.Digest.{Digest}
-use Rattle.pl_rewrite.specs.declared.running.LibraryStill.{LibraryStill}
+use Rattle.pl_rewrite.specs.declared.running.FileParts.{FileParts}
+use Rattle.pl_rewrite.specs.declared.running.Library.{Library}
 use Rattle.pl_rewrite.specs.declared.running.MadeFile.{MadeFile}
 use Rattle.pl_rewrite.specs.declared.running.Run.{Run}
 use Rattle.sha2.specs.Sha256.{sha256}
@@ -82,7 +88,7 @@ pub record IsLinkOf (known : List Known) (n : List ℕ) (l : Link) : Type 0 wher
   pub named : l.name ≡ n
 
 -- each flag of a library is one of those, and its prelinked file holds at the relocation's place what it gives
-pub record IsStillBy (known : List Known) (files : List ℕ → Option (List ℕ)) (firms : Walked → List Firm) (s : LibraryStill) : Type 0 where
+pub record IsStillBy (known : List Known) (files : List ℕ → Option (List ℕ)) (firms : Walked → List Firm) (s : Library) : Type 0 where
   pub link : Link
   pub known_by : IsLinkOf known s.name.now link
   pub library : is_library (kind_of known_by.is.own) ≡ true
@@ -90,8 +96,24 @@ pub record IsStillBy (known : List Known) (files : List ℕ → Option (List ℕ
   pub made : files s.name.now ≡ Some file
   pub held : AreHeldIn (firms known_by.is.own) file link.closed s.flags
 
-abbrev pub IsStill : Run → LibraryStill → Type 0
-IsStill run s = IsStillBy run.known.now (prelinked run) (planned_firms run) s
+-- a name's prelinked file is the one that is made of its original with these
+pub record HasParts (files : Files) (region : Range) (p : Planned) (n : List ℕ) (parts : FileParts) : Type 0 where
+  pub object : Object
+  pub there : objects (format skip_causes) files n ≡ Ok object
+  pub slot : parts.slot ≡ (changes.numbers files region p).slot n
+  pub stamp : parts.stamp ≡ (changes.numbers files region p).stamp n
+  pub digest : parts.digest ≡ sha256 (original_at (format skip_causes) (files n))
+  pub form : HasFormWith (firm n (original_at (format skip_causes) (files n)) object Two parts.slot parts.stamp) parts.list (words_of parts)
+  pub file : stored (Some (file_with (firm n (original_at (format skip_causes) (files n)) object Two parts.slot parts.stamp) parts.list (words_of parts))) ≡ changes.prelinked files region p n
+
+-- a library's flags, the words that its prelinked file holds at the places of its relocations, and what that is made of
+pub record IsLibraryBy (known : List Known) (files : List ℕ → Option (List ℕ)) (firms : Walked → List Firm) (has : List ℕ → FileParts → Type 0) (l : Library) : Type 0 where
+  pub still : IsStillBy known files firms l
+  pub words : AreWordsIn (firms still.known_by.is.own) still.file l.parts.held
+  pub parts : has l.name.now l.parts
+
+abbrev pub IsLibrary : Run → Library → Type 0
+IsLibrary run l = IsLibraryBy run.known.now (prelinked run) (planned_firms run) (HasParts (files_of run) run.region (plan_of run)) l
 
 -- ---- the whole
 
@@ -103,8 +125,7 @@ pub record IsRun (run : Run) : Type 0 where
   pub stale : run.planned.now.stale ≡ stale (files_of run) run.region run.planned.now.slots (names_of run.files.now)
   pub links : All (IsLink run.known.now) run.links.now
   pub digests : All (IsDigest run) run.digests.now
-  pub libraries : All (IsPrelinked run) run.libraries.now
-  pub still : All (IsStill run) run.still.now
+  pub libraries : All (IsLibrary run) run.libraries.now
 
 abbrev pub IsCandidate : Run → List ℕ → Type 0
 IsCandidate run n = is_candidate (files_of run) run.region n ≡ true
@@ -184,27 +205,40 @@ part_of run r = if is_library r.object.kind then prelinked run r.member.name els
 abbrev pub IsPart : Run → Firm → List ℕ → Type 0
 IsPart run r part = part_of run r ≡ Some part
 
--- flags of a member: none, or those that were made for its name
-pub record AreMadeFor (run : Run) (n : List ℕ) (flags : List Bool) : Type 0 where
-  pub made : LibraryStill
-  pub is : IsStill run made
-  pub named : made.name.now ≡ n
-  pub flags_are : flags ≡ made.flags
+-- the members of a candidate's own walk, which begins with a library, and what is known of its relocations
+pub record IsOwnWalk (run : Run) (l : Link) (n : List ℕ) (rs : List Firm) : Type 0 where
+  pub candidate : IsCandidate run n
+  pub link : IsLinkOf run.known.now n l
+  pub walk : Walked
+  pub walks : walk_in run.known.now n ≡ Ok walk
+  pub library : is_library (kind_of walk) ≡ true
+  pub members : rs ≡ planned_firms run walk
 
-abbrev pub AreFlagsFor : Run → List ℕ → List Bool → Type 0
-AreFlagsFor run n flags = (flags ≡ []) ⊎ AreMadeFor run n flags
+-- what is known of a member's relocations is what was found of the library of its name
+pub record IsStillFor (run : Run) (r : Firm) (s : Still) : Type 0 where
+  pub found : Library
+  pub is : IsLibrary run found
+  pub named : found.name.now ≡ r.member.name
+  pub flags : s.flags.now ≡ found.flags
+  pub held : s.held.now ≡ found.parts.held
 
-abbrev pub IsStillFor : Run → Firm → Still → Type 0
-IsStillFor run r s = AreFlagsFor run r.member.name s.flags.now
+-- nothing is known of the first
+abbrev pub AreStillFor : Run → List Firm → List Still → Type 0
+AreStillFor run [] all = all ≡ []
+AreStillFor run (r ∷ rs) [] = ⊥
+AreStillFor run (r ∷ rs) (s ∷ all) = (s.flags.now ≡ []) × AllZip (IsStillFor run) rs all
 
 -- ---- what a run makes of a name
 
-abbrev pub made : Run → List ℕ → Made
-made run n = record {
-  change = changes.change (files_of run) run.region (plan_of run) n;
-  state = reports.state_after (files_of run) run.region (plan_of run) n;
-  given = changes.is_given (files_of run) run.region (plan_of run) n;
+abbrev pub made_in : Files → Range → Planned → List ℕ → Made
+made_in files region p n = record {
+  change = changes.change files region p n;
+  state = reports.state_after files region p n;
+  given = changes.is_given files region p n;
 }
+
+abbrev pub made : Run → List ℕ → Made
+made run n = made_in (files_of run) run.region (plan_of run) n
 
 -- of a file that gets its original, for a cause
 abbrev pub made_original : Taken → Skip → Made
@@ -216,7 +250,7 @@ made_new t file = record { change = changes.put (Some t.bytes) t.name (Some file
 
 -- the row of a library that is prelinked anew
 abbrev pub new_library : Run → List ℕ → RowState
-new_library run n = Library false ((numbers_of run).slot n) ((numbers_of run).stamp n)
+new_library run n = states.Library false ((numbers_of run).slot n) ((numbers_of run).stamp n)
 
 -- of one that stays
 abbrev pub made_current : Taken → Made

@@ -1,15 +1,19 @@
 -- A whole run: what it changes, the cache that it leaves, and what it reports.
-use Rattle.std.specs.Prelude.{ℕ, ◌||◌, List, [], ◌∷◌, ◌++◌, map, Result, Ok}
-use Rattle.std.specs.List.{cons_option, list_any}
+use Rattle.std.specs.Prelude.{ℕ, ◌||◌, if◌then◌else◌, List, [], ◌∷◌, ◌++◌, map, Result, Ok}
+use Rattle.std.specs.List.{AllZip, cons_option, list_any}
 use Rattle.pl_base.specs.Answers.{◌>>=◌}
 use Rattle.pl_known.specs.Plans.{planned}
+use Rattle.pl_known.specs.Taken.{AreTaken, files_in}
+use Rattle.pl_known.specs.declared.taken.Taken.{Taken}
 use Rattle.pl_plan.specs.declared.asked.Asked.{Asked}
 use Rattle.pl_plan.specs.declared.fault.PlanningFault.{PlanningFault}
 use Rattle.pl_plan.specs.declared.planned.Planned.{Planned}
 use Rattle.pl_sound.specs.Rule.{Files}
 use Rattle.pl_elf.specs.declared.range.Range.{Range}
 use Rattle.pl_rewrite.specs.Changes.{changes, is_given, next_cache}
+use Rattle.pl_rewrite.specs.Deciding.{IsDecidedIn}
 use Rattle.pl_rewrite.specs.Reports.{report, row_of}
+use Rattle.pl_rewrite.specs.declared.deciding.Decided.{Decided}
 use Rattle.pl_rewrite.specs.declared.making.AllMade.{AllMade}
 use Rattle.pl_rewrite.specs.declared.making.Made.{Made}
 use Rattle.pl_rewrite.specs.declared.rewriting.Rewritten.{Rewritten}
@@ -19,6 +23,14 @@ rewritten files ns a p = record {
   rows = changes files ns a.region p;
   cache = next_cache files ns a.region a.last p;
   report = report files ns a.region p;
+}
+
+-- with what is made of all files, and the cache that is left
+abbrev pub rewritten_with : Asked → Planned → AllMade → Rewritten
+rewritten_with a p all = record {
+  rows = all.rows;
+  cache = record { last = if all.given then p.stamp else a.last; rows = p.slots };
+  report = record { rows = all.states };
 }
 
 -- by the plan, or the first cause why there is none
@@ -40,3 +52,8 @@ with_made all n made = record {
   states = all.states ++ record { name = n; state = made.state } ∷ [];
   given = all.given || made.given;
 }
+
+-- what is made of each of these files by what was decided of it is what the run makes of it
+pub record AreDecided (ts : List Taken) (a : Asked) (p : Planned) (ds : List Decided) : Type 0 where
+  pub taken : AreTaken a.region ts
+  pub each : AllZip (IsDecidedIn (files_in ts) a.region p) ts ds

@@ -1,6 +1,8 @@
 //! What a run that prelinks everything makes of the files of a folder: the rows of a journal, the cache that it leaves and its report, as a function of the files that were taken (Jelínek, "Prelink").
 #![tactic(auto)]
 
+mod deciding;
+mod finishing;
 mod laws;
 mod lists;
 mod made;

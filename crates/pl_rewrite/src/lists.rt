@@ -12,6 +12,7 @@ ghost use Rattle.sha2.specs.Sha256.{sha256};
 
 use crate::running::{Digest, Run};
 use pl_base::{Rows, Text, word32};
+use pl_form::digest_of;
 use pl_lists::ListRow;
 use pl_prelinked::{Source, checksum_of};
 use std::alloc::{AllocError, Global};
@@ -30,7 +31,7 @@ fn found<'f, 'a>(digests: &'f [Digest<'a>], name: &str) -> Option<&'f Digest<'a>
 }
 
 /// The SHA-256 of a member's original, where it was made already.
-fn digest_for<'a>(run: &Run<'a>, source: &Source<'_>) -> Option<&'a [u8; 32]>
+fn digest_made<'a>(run: &Run<'a>, source: &Source<'_>) -> Option<&'a [u8; 32]>
     requires run { spec.IsRun run.now }
     requires own { spec.HasOriginal run.now source.now }
     ensures { IfSome result (λ d. d.now ≡ sha256 source.now.member.original) }
@@ -50,7 +51,19 @@ pub fn first_digest<'a>(run: &Run<'a>, sources: &[Source<'_>]) -> Option<&'a [u8
     let [first, ..] = sources else {
         return None;
     };
-    digest_for(run, first)
+    digest_made(run, first)
+}
+
+/// The same, made now where it was not.
+pub fn digest_for(run: &Run<'_>, source: &Source<'_>) -> [u8; 32]
+    requires run { spec.IsRun run.now }
+    requires own { spec.HasOriginal run.now source.now }
+    ensures { result ≡ sha256 source.now.member.original }
+{
+    match digest_made(run, source) {
+        None => digest_of(source.original),
+        Some(digest) => *digest,
+    }
 }
 
 /// The checksum of a member's original.
@@ -59,7 +72,7 @@ fn checksum_for(run: &Run<'_>, source: &Source<'_>) -> u32
     requires own { spec.HasOriginal run.now source.now }
     ensures { result ≡ words.checksum_of source.now.member.original }
 {
-    match digest_for(run, source) {
+    match digest_made(run, source) {
         None => checksum_of(source.original),
         Some(digest) => word32(digest, 0),
     }

@@ -1,19 +1,18 @@
 // What a run makes of one file.
 ghost use Rattle.std.specs.Prelude.{◌≡◌, ◌++◌, [], false, IfOk, OnOk, Some};
-ghost use Rattle.std.specs.List.{All, cons_option};
+ghost use Rattle.std.specs.List.{cons_option};
 ghost use Rattle.pl_cone.specs.Candidates as cone;
 ghost use Rattle.pl_cone.specs.declared.skip.Skip.TheVariants as skips;
 ghost use Rattle.pl_form.specs.Files.{original_in};
-ghost use Rattle.pl_known.specs.Taken.{names_of};
 ghost use Rattle.pl_plan.specs.Wants as wants;
+ghost use Rattle.pl_scope.specs.Members.{has};
 ghost use Rattle.pl_rewrite.specs.Changes as changes;
 ghost use Rattle.pl_rewrite.specs.Members as spec;
 ghost use Rattle.pl_rewrite.specs.Rewriting as whole;
 
-use crate::made::prelinked;
-use crate::running::{MadeFile, Run, is_among, is_skipped};
+use crate::running::{Run, is_skipped};
 use crate::sources::original_of;
-use crate::states::{state_of_current, state_of_new, too_large};
+use crate::states::{state_of_current, too_large};
 use crate::{ReportRow, RowState};
 use pl_base::{Rows, Text};
 use pl_cone::{Skip, prelinkable};
@@ -48,16 +47,21 @@ pub struct AllMade {
     pub given: bool,
 }
 
-/// The row that gives a name other bytes; None where they are the same.
-fn put(alloc: Global, taken: &Taken, bytes: Vec<u8>) -> Result<Option<Change>, AllocError>
+/// The row that gives a name other bytes than its old ones; None where they are the same.
+pub fn put(
+    alloc: Global,
+    name: &str,
+    old: &[u8],
+    bytes: Vec<u8>,
+) -> Result<Option<Change>, AllocError>
     ensures { IfOk result (λ row. row
-        ≡ changes.put (Some taken.now.bytes) taken.now.name (Some bytes.items)) }
+        ≡ changes.put (Some old.now) name.now (Some bytes.items)) }
 {
-    if taken.bytes.as_slice() == bytes.as_slice() {
+    if old == bytes.as_slice() {
         return Ok(None);
     }
     Ok(Some(Change::Put {
-        name: Text::copy_of(alloc, taken.name.as_str())?,
+        name: Text::copy_of(alloc, name)?,
         bytes: Rows::from_vec(bytes),
     }))
 }
@@ -69,7 +73,7 @@ fn put_original(alloc: Global, taken: &Taken) -> Result<Option<Change>, AllocErr
         ≡ changes.put (Some taken.now.bytes) taken.now.name (Some (original_in taken.now.bytes))) }
 {
     let original = Vec::from_slice(alloc, original_of(taken))?;
-    put(alloc, taken, original)
+    put(alloc, taken.name.as_str(), taken.bytes.as_slice(), original)
 }
 
 /// A file that gets its original, for a cause.
@@ -81,23 +85,6 @@ fn made_original(alloc: Global, taken: &Taken, cause: Skip) -> Result<Made, Allo
         change: put_original(alloc, taken)?,
         state: RowState::Skipped(cause),
         given: false,
-    })
-}
-
-/// A file that is prelinked anew.
-fn made_new(alloc: Global, run: &Run<'_>, taken: &Taken, file: Vec<u8>) -> Result<Made, NoMemory>
-    requires run { spec.IsRun run.now }
-    requires found { spec.IsFound run.now taken.now }
-    requires candidate { spec.IsCandidate run.now taken.now.name }
-    requires file { Some file.items ≡ spec.prelinked run.now taken.now.name }
-    ensures { IfOk result (λ made. made ≡ spec.made_new taken.now file.items) }
-{
-    let state = state_of_new(alloc, run, taken, &file)?;
-    let change = put(alloc, taken, file)?;
-    Ok(Made {
-        change,
-        state,
-        given: true,
     })
 }
 
@@ -114,33 +101,13 @@ fn made_current(alloc: Global, taken: &Taken) -> Result<Made, AllocError>
 }
 
 /// A file whose form would be too large.
-fn made_large(alloc: Global, taken: &Taken) -> Result<Made, AllocError>
+pub fn made_large(alloc: Global, taken: &Taken) -> Result<Made, AllocError>
     requires { spec.IsRead taken.now }
     ensures { IfOk result (λ made. made
         ≡ spec.made_original taken.now (skips.Form taken.now.name 6)) }
 {
     let cause = too_large(alloc, taken.name.as_str())?;
     made_original(alloc, taken, cause)
-}
-
-/// A file whose name is stale.
-fn made_stale(
-    alloc: Global,
-    run: &Run<'_>,
-    files: &mut Vec<MadeFile<'_>>,
-    taken: &Taken,
-) -> Result<Made, NoMemory>
-    requires run { spec.IsRun run.now }
-    requires files { All (spec.IsPrelinked run.now) files.old.items }
-    requires found { spec.IsFound run.now taken.now }
-    requires stale { spec.IsStale run.now taken.now.name }
-    ensures made { IfOk result (λ made. made ≡ spec.made run.now taken.now.name) }
-    ensures rest { All (spec.IsPrelinked run.now) files.new.items }
-{
-    match prelinked(alloc, run, files, taken.name.as_str())? {
-        Some(file) => made_new(alloc, run, taken, file),
-        None => Ok(made_large(alloc, taken)?),
-    }
 }
 
 /// Why a name is not prelinked, if there is a cause.
@@ -169,24 +136,14 @@ fn made_skipped(alloc: Global, run: &Run<'_>, taken: &Taken) -> Result<Made, NoM
     }
 }
 
-/// What a run makes of a file.
-fn made_of(
-    alloc: Global,
-    run: &Run<'_>,
-    files: &mut Vec<MadeFile<'_>>,
-    taken: &Taken,
-) -> Result<Made, NoMemory>
+/// What a run makes of a file whose name is not stale.
+pub fn made_of(alloc: Global, run: &Run<'_>, taken: &Taken) -> Result<Made, NoMemory>
     requires run { spec.IsRun run.now }
-    requires files { All (spec.IsPrelinked run.now) files.old.items }
     requires found { spec.IsFound run.now taken.now }
-    ensures made { IfOk result (λ made. made ≡ spec.made run.now taken.now.name) }
-    ensures rest { All (spec.IsPrelinked run.now) files.new.items }
+    requires fresh { has run.now.planned.now.stale taken.now.name ≡ false }
+    ensures { IfOk result (λ made. made ≡ spec.made run.now taken.now.name) }
 {
-    let name = taken.name.as_str();
-    if is_among(run.planned.stale.as_slice(), name) {
-        return made_stale(alloc, run, files, taken);
-    }
-    if is_skipped(run.planned.standings.as_slice(), name) {
+    if is_skipped(run.planned.standings.as_slice(), taken.name.as_str()) {
         return made_skipped(alloc, run, taken);
     }
     Ok(made_current(alloc, taken)?)
@@ -202,16 +159,16 @@ fn add_row(rows: &mut Rows<Change>, row: Option<Change>) -> Result<(), AllocErro
     }
 }
 
-/// Adds what a run makes of a file.
-fn add_made(alloc: Global, all: AllMade, taken: &Taken, made: Made) -> Result<AllMade, AllocError>
-    ensures { IfOk result (λ more. more ≡ whole.with_made all taken.now.name made) }
+/// Adds what a run makes of the file of a name.
+pub fn add_made(alloc: Global, all: AllMade, name: &str, made: Made) -> Result<AllMade, AllocError>
+    ensures { IfOk result (λ more. more ≡ whole.with_made all name.now made) }
 {
     let AllMade {
         mut rows,
         mut states,
         given,
     } = all;
-    let name = Text::copy_of(alloc, taken.name.as_str())?;
+    let name = Text::copy_of(alloc, name)?;
     add_row(&mut rows, made.change)?;
     states.push(ReportRow {
         name,
@@ -222,24 +179,4 @@ fn add_made(alloc: Global, all: AllMade, taken: &Taken, made: Made) -> Result<Al
         states,
         given: given || made.given,
     })
-}
-
-/// What a run makes of all its files, in their order. Prelinked files that were made already are taken over, none is copied.
-pub fn all_made(alloc: Global, run: &Run<'_>, files: Vec<MadeFile<'_>>) -> Result<AllMade, NoMemory>
-    requires run { spec.IsRun run.now }
-    requires files { All (spec.IsPrelinked run.now) files.items }
-    ensures { IfOk result (λ all. all ≡ whole.all_made (spec.files_of run.now)
-        (names_of run.now.files.now) run.now.region (spec.plan_of run.now)) }
-{
-    let mut left = files;
-    let mut all = AllMade {
-        rows: Rows::new(alloc),
-        states: Rows::new(alloc),
-        given: false,
-    };
-    for taken in run.files {
-        let made = made_of(alloc, run, &mut left, taken)?;
-        all = add_made(alloc, all, taken, made)?;
-    }
-    Ok(all)
 }

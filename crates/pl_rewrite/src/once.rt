@@ -4,7 +4,7 @@ ghost use Rattle.std.specs.List.{All};
 ghost use Rattle.pl_rewrite.specs.Members as spec;
 
 use crate::prelinking::made_prelinked;
-use crate::running::{Digest, MadeFile, Run, is_among, is_skipped};
+use crate::running::{Digest, MadeFile, Run, is_among};
 use crate::sources::{is_library, original_of};
 use pl_form::digest_of;
 use pl_io::NoMemory;
@@ -62,40 +62,6 @@ fn file_of<'a>(
             file: trimmed(file),
         })),
     }
-}
-
-/// The same of a file; None where it is no library, or may not be prelinked.
-fn library_in<'a>(
-    alloc: Global,
-    run: &Run<'a>,
-    taken: &'a Taken,
-) -> Result<Option<MadeFile<'a>>, NoMemory>
-    requires run { spec.IsRun run.now }
-    requires found { spec.IsFound run.now taken.now }
-    ensures { IfOk result (λ made. IfSome made (spec.IsPrelinked run.now)) }
-{
-    let skipped = is_skipped(run.planned.standings.as_slice(), taken.name.as_str());
-    if skipped {
-        return Ok(None);
-    }
-    if is_library(&taken.entry) {
-        return file_of(alloc, run, taken);
-    }
-    Ok(None)
-}
-
-/// The prelinked files of all libraries that may be prelinked.
-pub fn libraries_of<'a>(alloc: Global, run: &Run<'a>) -> Result<Vec<MadeFile<'a>>, NoMemory>
-    requires { spec.IsRun run.now }
-    ensures { IfOk result (λ v. All (spec.IsPrelinked run.now) v.items) }
-{
-    let mut libraries = Vec::new(alloc);
-    for taken in run.files {
-        if let Some(library) = library_in(alloc, run, taken)? {
-            libraries.push(library)?;
-        }
-    }
-    Ok(libraries)
 }
 
 /// The prelinked file of a program whose name is stale; None of any other file.

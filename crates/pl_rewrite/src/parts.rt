@@ -1,67 +1,234 @@
-// The files with which the conflicts of a program are compared, where they were made already.
-ghost use Rattle.std.specs.Prelude.{◌≡◌, IfOk, IfSome, Some};
+// What is known of libraries before their prelinked files are made for good.
+ghost use Rattle.std.specs.Prelude.{◌≡◌, true, Ok, IfOk, IfSome};
 ghost use Rattle.std.specs.List as lists;
-ghost use Rattle.std.specs.List.{AllZip};
+ghost use Rattle.std.specs.List.{All};
 ghost use Rattle.std.specs.Option.{option_map};
 ghost use Rattle.std.specs.Str.{bytes_eq};
+ghost use Rattle.pl_cone.specs.Candidates as cone;
+ghost use Rattle.pl_elf.specs.Kinds.{is_library};
 ghost use Rattle.pl_rewrite.specs.Members as spec;
+ghost use Rattle.pl_rewrite.specs.Words as words;
 
-use crate::running::{MadeFile, Run};
-use pl_image::Parts;
+use crate::lists::{digest_for, list_after};
+use crate::prelinking::walk_of;
+use crate::running::{FileParts, Library, Run, is_skipped};
+use crate::sources::{is_library, sources_of};
+use pl_base::Rows;
+use pl_cone::Link;
 use pl_io::NoMemory;
-use pl_prelinked::Source;
-use std::alloc::Global;
+use pl_known::Taken;
+use pl_prelinked::{Source, held_words, library_words, prelink_library, still_words};
+use pl_scope::Scope;
+use std::alloc::{AllocError, Global};
 
-fn is_of(library: &MadeFile<'_>, name: &str) -> bool
-    ensures { result ≡ bytes_eq library.now.name.now name.now }
-{
-    library.name == name
-}
+// ---- own words
 
-fn found<'f, 'a>(libraries: &'f [MadeFile<'a>], name: &str) -> Option<&'f MadeFile<'a>>
-    ensures { option_map (λ l. l.now) result
-        ≡ lists.find (λ l. bytes_eq l.name.now name.now) libraries.now }
+/// Whether the word that a file holds at the place of a relocation is its own; None where it has another.
+fn own_flag(word: Option<u64>, held: u64) -> Option<bool>
+    ensures { IfSome result (λ own. words.word_by held own ≡ word) }
 {
-    libraries.iter().find(|library| is_of(library, name))
-}
-
-/// The prelinked file of a name by the plan of the run, where it was made already.
-pub fn library_file<'a>(run: &Run<'a>, name: &str) -> Option<&'a [u8]>
-    requires { spec.IsRun run.now }
-    ensures { IfSome result (λ file. spec.prelinked run.now name.now ≡ Some file.now) }
-{
-    match found(run.libraries, name) {
-        None => None,
-        Some(library) => Some(library.file.as_slice()),
+    match word {
+        None => Some(false),
+        Some(word) if word == held => Some(true),
+        Some(_) => None,
     }
 }
 
-/// The file with which conflicts of a member are compared: a library's prelinked file, where it was made already, and a program's original.
-fn part_of<'a>(run: &Run<'a>, source: &Source<'a>) -> Option<&'a [u8]>
-    requires { spec.IsRun run.now }
-    ensures { IfSome result (λ part. spec.IsPart run.now source.now part.now) }
-{
-    if source.object.kind.is_library() {
-        return library_file(run, source.name);
-    }
-    Some(source.original)
-}
-
-/// Those of all members; None where one was not made.
-pub fn parts_of<'a>(
+/// The same of all relocations; None where one has another word than the file holds.
+fn own_flags(
     alloc: Global,
-    run: &Run<'a>,
-    sources: &[Source<'a>],
-) -> Result<Option<Parts<'a>>, NoMemory>
-    requires { spec.IsRun run.now }
-    ensures { IfOk result (λ parts. IfSome parts (λ p. AllZip (spec.IsPart run.now) sources.now p)) }
+    wanted: &[Option<u64>],
+    held: &[u64],
+) -> Result<Option<Rows<bool>>, AllocError>
+    ensures { IfOk result (λ flags. IfSome flags (λ own.
+        words.words_by held.now own ≡ wanted.now)) }
 {
-    let mut parts = Parts::new(alloc);
-    for source in sources {
-        let Some(part) = part_of(run, source) else {
+    let mut flags = Rows::new(alloc);
+    for index in 0..wanted.len() {
+        if index >= held.len() {
+            return Ok(None);
+        }
+        let Some(flag) = own_flag(wanted[index], held[index]) else {
             return Ok(None);
         };
-        parts.add(part)?;
+        flags.push(flag)?;
     }
-    Ok(Some(parts))
+    Ok(Some(flags))
+}
+
+fn word_by(held: u64, own: bool) -> Option<u64>
+    ensures { result ≡ words.word_by held own }
+{
+    if own { Some(held) } else { None }
+}
+
+/// The own words of a library's relocations, in their order.
+pub fn own_words_of(alloc: Global, parts: &FileParts) -> Result<Vec<Option<u64>>, AllocError>
+    ensures { IfOk result (λ v. v.items ≡ words.words_of parts.now) }
+{
+    let held = parts.held.as_slice();
+    let own = parts.own.as_slice();
+    let mut words = Vec::new(alloc);
+    for (word, own) in held.iter().zip(own) {
+        words.push(word_by(*word, *own))?;
+    }
+    Ok(words)
+}
+
+// ---- libraries
+
+fn is_link_of(link: &Link, name: &str) -> bool
+    ensures { result ≡ bytes_eq link.now.name name.now }
+{
+    link.name.as_str() == name
+}
+
+/// Which relocations of a name are known to give the same in every walk.
+fn link_of<'l>(links: &'l [Link], name: &str) -> Option<&'l Link>
+    ensures { option_map (λ l. l.now) result
+        ≡ lists.find (λ l. bytes_eq l.name name.now) links.now }
+{
+    links.iter().find(|link| is_link_of(link, name))
+}
+
+fn begins_with_library(scope: &Scope<'_>) -> bool
+    ensures { result ≡ is_library (cone.kind_of scope.now) }
+{
+    match scope.members().first() {
+        None => false,
+        Some(member) => member.object.kind.is_library(),
+    }
+}
+
+/// What is known of a library, the first of these members of its walk, by its prelinked file. None where there is no such file.
+fn library_among<'a>(
+    alloc: Global,
+    run: &Run<'a>,
+    link: &Link,
+    name: &'a str,
+    sources: &[Source<'a>],
+) -> Result<Option<Library<'a>>, NoMemory>
+    requires run { spec.IsRun run.now }
+    requires own { spec.IsOwnWalk run.now link.now name.now sources.now }
+    ensures { IfOk result (λ library. IfSome library (spec.IsLibrary run.now)) }
+{
+    let [library, ..] = sources else {
+        return Ok(None);
+    };
+    let Some(words) = library_words(alloc, sources)? else {
+        return Ok(None);
+    };
+    let list = list_after(alloc, run, sources)?;
+    let digest = digest_for(run, library);
+    let (list_rows, word_rows) = (list.as_slice(), words.as_slice());
+    let Some(file) = prelink_library(alloc, library, list_rows, word_rows, &digest)? else {
+        return Ok(None);
+    };
+    let held = held_words(alloc, sources, &file)?;
+    let Some(own) = own_flags(alloc, word_rows, held.as_slice())? else {
+        return Ok(None);
+    };
+    let flags = still_words(alloc, sources, &file, link.closed.as_slice())?;
+    Ok(Some(Library {
+        name,
+        flags,
+        parts: FileParts {
+            slot: library.slot,
+            stamp: library.stamp,
+            digest,
+            list,
+            held,
+            own,
+        },
+    }))
+}
+
+/// The same with its walk.
+fn library_by<'a>(
+    alloc: Global,
+    run: &Run<'a>,
+    link: &Link,
+    name: &'a str,
+    scope: &Scope<'a>,
+) -> Result<Option<Library<'a>>, NoMemory>
+    requires run { spec.IsRun run.now }
+    requires candidate { spec.IsCandidate run.now name.now }
+    requires link { spec.IsLinkOf run.now.known.now name.now link.now }
+    requires walk { cone.walk_in run.now.known.now name.now ≡ Ok scope.now }
+    requires library { is_library (cone.kind_of scope.now) ≡ true }
+    ensures { IfOk result (λ library. IfSome library (spec.IsLibrary run.now)) }
+{
+    let sources = sources_of(alloc, run, scope.members())?;
+    library_among(alloc, run, link, name, sources.as_slice())
+}
+
+/// The same of a name; None where it has no walk that begins with a library.
+fn library_with<'a>(
+    alloc: Global,
+    run: &Run<'a>,
+    link: &Link,
+    name: &'a str,
+) -> Result<Option<Library<'a>>, NoMemory>
+    requires run { spec.IsRun run.now }
+    requires candidate { spec.IsCandidate run.now name.now }
+    requires link { spec.IsLinkOf run.now.known.now name.now link.now }
+    ensures { IfOk result (λ library. IfSome library (spec.IsLibrary run.now)) }
+{
+    let Some(scope) = walk_of(alloc, run.known, name)? else {
+        return Ok(None);
+    };
+    if begins_with_library(&scope) {
+        return library_by(alloc, run, link, name, &scope);
+    }
+    Ok(None)
+}
+
+/// The same of a name that may be prelinked.
+fn library_of<'a>(
+    alloc: Global,
+    run: &Run<'a>,
+    name: &'a str,
+) -> Result<Option<Library<'a>>, NoMemory>
+    requires run { spec.IsRun run.now }
+    requires candidate { spec.IsCandidate run.now name.now }
+    ensures { IfOk result (λ library. IfSome library (spec.IsLibrary run.now)) }
+{
+    match link_of(run.links, name) {
+        None => Ok(None),
+        Some(link) => library_with(alloc, run, link, name),
+    }
+}
+
+/// The same of a file; None where it is no library, or may not be prelinked.
+fn library_in<'a>(
+    alloc: Global,
+    run: &Run<'a>,
+    taken: &'a Taken,
+) -> Result<Option<Library<'a>>, NoMemory>
+    requires run { spec.IsRun run.now }
+    requires found { spec.IsFound run.now taken.now }
+    ensures { IfOk result (λ library. IfSome library (spec.IsLibrary run.now)) }
+{
+    let skipped = is_skipped(run.planned.standings.as_slice(), taken.name.as_str());
+    if skipped {
+        return Ok(None);
+    }
+    if is_library(&taken.entry) {
+        return library_of(alloc, run, taken.name.as_str());
+    }
+    Ok(None)
+}
+
+/// What is known of all libraries that may be prelinked.
+pub fn libraries_of<'a>(alloc: Global, run: &Run<'a>) -> Result<Vec<Library<'a>>, NoMemory>
+    requires { spec.IsRun run.now }
+    ensures { IfOk result (λ v. All (spec.IsLibrary run.now) v.items) }
+{
+    let mut libraries = Vec::new(alloc);
+    for taken in run.files {
+        if let Some(library) = library_in(alloc, run, taken)? {
+            libraries.push(library)?;
+        }
+    }
+    Ok(libraries)
 }

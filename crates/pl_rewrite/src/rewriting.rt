@@ -1,20 +1,23 @@
 // A whole run that prelinks everything.
 ghost use Rattle.std.specs.Prelude.{◌≡◌, Ok, IfOk, if◌then◌else◌};
-ghost use Rattle.std.specs.List.{All};
-ghost use Rattle.pl_base.specs.Answers.{Answers};
+ghost use Rattle.std.specs.List.{All, AllZip};
+ghost use Rattle.pl_base.specs.Answers.{Answers, AnswersAs};
 ghost use Rattle.pl_cone.specs.Links.{IsLink};
 ghost use Rattle.pl_known.specs.Laws.{KnowsTaken};
 ghost use Rattle.pl_known.specs.Plans as plans;
 ghost use Rattle.pl_known.specs.Taken.{AreTaken, files_in, names_of};
 ghost use Rattle.pl_plan.specs.Faults.{is_memory};
-ghost use Rattle.pl_rewrite.specs.Members.{IsPrelinked, IsRun, files_of, plan_of};
+ghost use Rattle.pl_rewrite.specs.Deciding.{IsDecided};
+ghost use Rattle.pl_rewrite.specs.Members.{IsLibrary, IsPrelinked, IsRun};
 ghost use Rattle.pl_rewrite.specs.Rewriting as spec;
 
-use crate::making::{AllMade, all_made};
-use crate::once::{digests_of, libraries_of, programs_of};
-use crate::running::{MadeFile, Run};
-use crate::still::stills_of;
-use crate::{Report, ReportRow};
+use crate::Report;
+use crate::deciding::{Decided, Left, all_decided};
+use crate::finishing::{all_bare, made_last};
+use crate::making::{AllMade, add_made};
+use crate::once::{digests_of, programs_of};
+use crate::parts::libraries_of;
+use crate::running::{Library, MadeFile, Run};
 use pl_base::Rows;
 use pl_cache::Cache;
 use pl_io::NoMemory;
@@ -36,38 +39,14 @@ pub struct Rewritten {
     pub report: Report,
 }
 
-/// The prelinked files of programs, where relocations of libraries that matter nowhere in the walk of a program are looked up once; the files are the run's.
-fn programs_with_still<'a>(
-    alloc: Global,
-    run: &Run<'_>,
-    files: &'a [Taken],
-) -> Result<Vec<MadeFile<'a>>, NoMemory>
-    requires run { IsRun run.now }
-    requires files { files.now ≡ run.now.files.now }
-    ensures { IfOk result (λ v. All (IsPrelinked run.now) v.items) }
-{
-    let still = stills_of(alloc, run)?;
-    let run = Run {
-        files: run.files,
-        known: run.known,
-        region: run.region,
-        planned: run.planned,
-        links: run.links,
-        digests: run.digests,
-        libraries: run.libraries,
-        still: still.as_slice(),
-    };
-    programs_of(alloc, &run, files)
-}
-
-/// The same, where the prelinked files of libraries are lent.
+/// The prelinked files of programs, where what is known of libraries is lent.
 fn programs_with<'a>(
     alloc: Global,
     run: &Run<'a>,
-    libraries: &[MadeFile<'_>],
+    libraries: &[Library<'_>],
 ) -> Result<Vec<MadeFile<'a>>, NoMemory>
     requires run { IsRun run.now }
-    requires libraries { All (IsPrelinked run.now) libraries.now }
+    requires libraries { All (IsLibrary run.now) libraries.now }
     ensures { IfOk result (λ v. All (IsPrelinked run.now) v.items) }
 {
     let files = run.files;
@@ -79,37 +58,28 @@ fn programs_with<'a>(
         links: run.links,
         digests: run.digests,
         libraries,
-        still: run.still,
     };
-    programs_with_still(alloc, &run, files)
+    programs_of(alloc, &run, files)
 }
 
-/// The prelinked files of a run: of libraries, each made once, then of programs.
-fn all_files<'a>(alloc: Global, run: &Run<'a>) -> Result<Vec<MadeFile<'a>>, NoMemory>
+/// What is decided of the files of a run, where each library is looked through once.
+fn decided_with_libraries(alloc: Global, run: &Run<'_>) -> Result<Vec<Decided>, NoMemory>
     requires { IsRun run.now }
-    ensures { IfOk result (λ v. All (IsPrelinked run.now) v.items) }
+    ensures { IfOk result (λ v. AllZip (IsDecided run.now) run.now.files.now v.items) }
 {
-    let mut files = libraries_of(alloc, run)?;
-    let mut programs = programs_with(alloc, run, files.as_slice())?;
-    files.append(&mut programs)?;
-    Ok(files)
-}
-
-/// What a run makes of its files, where each prelinked file is made once.
-fn made_with_files(alloc: Global, run: &Run<'_>) -> Result<AllMade, NoMemory>
-    requires { IsRun run.now }
-    ensures { IfOk result (λ made. made ≡ spec.all_made (files_of run.now)
-        (names_of run.now.files.now) run.now.region (plan_of run.now)) }
-{
-    let files = all_files(alloc, run)?;
-    all_made(alloc, run, files)
+    let libraries = libraries_of(alloc, run)?;
+    let programs = programs_with(alloc, run, libraries.as_slice())?;
+    let left = Left {
+        libraries,
+        programs,
+    };
+    all_decided(alloc, run, left)
 }
 
 /// The same, where the SHA-256 of each original is made once.
-fn made_with_digests(alloc: Global, run: &Run<'_>) -> Result<AllMade, NoMemory>
+fn decided_with_digests(alloc: Global, run: &Run<'_>) -> Result<Vec<Decided>, NoMemory>
     requires { IsRun run.now }
-    ensures { IfOk result (λ made. made ≡ spec.all_made (files_of run.now)
-        (names_of run.now.files.now) run.now.region (plan_of run.now)) }
+    ensures { IfOk result (λ v. AllZip (IsDecided run.now) run.now.files.now v.items) }
 {
     let digests = digests_of(alloc, run)?;
     let run = Run {
@@ -120,25 +90,23 @@ fn made_with_digests(alloc: Global, run: &Run<'_>) -> Result<AllMade, NoMemory>
         links: run.links,
         digests: digests.as_slice(),
         libraries: run.libraries,
-        still: run.still,
     };
-    made_with_files(alloc, &run)
+    decided_with_libraries(alloc, &run)
 }
 
-/// What a plan makes of the files.
-fn made_by(
+/// What a plan decides of the files.
+fn decided_by(
     alloc: Global,
     files: &[Taken],
     asked: &Asked<'_>,
     plan: &FilesPlan<'_>,
-) -> Result<AllMade, NoMemory>
+) -> Result<Vec<Decided>, NoMemory>
     requires taken { AreTaken asked.now.region files.now }
     requires planned { plans.planned (files_in files.now) (names_of files.now) asked.now
         ≡ Ok plan.now.planned }
     requires known { KnowsTaken files.now plan.now.known }
     requires links { All (IsLink plan.now.known) plan.now.links }
-    ensures { IfOk result (λ made. made ≡ spec.all_made (files_in files.now) (names_of files.now)
-        asked.now.region plan.now.planned) }
+    ensures { IfOk result (λ v. spec.AreDecided files.now asked.now plan.now.planned v.items) }
 {
     let run = Run {
         files,
@@ -148,12 +116,35 @@ fn made_by(
         links: plan.links.as_slice(),
         digests: &[],
         libraries: &[],
-        still: &[],
     };
     if plan.planned.stale.as_slice().is_empty() {
-        return all_made(alloc, &run, Vec::new(alloc));
+        let left = Left {
+            libraries: Vec::new(alloc),
+            programs: Vec::new(alloc),
+        };
+        return all_decided(alloc, &run, left);
     }
-    made_with_digests(alloc, &run)
+    decided_with_digests(alloc, &run)
+}
+
+/// What is planned of files, and decided of each.
+#[derive(Drop)]
+struct Choice {
+    planned: Planned,
+    decided: Vec<Decided>,
+}
+
+fn choice_of(alloc: Global, files: &[Taken], asked: &Asked<'_>) -> Result<Choice, PlanningFault>
+    requires { AreTaken asked.now.region files.now }
+    ensures planned { AnswersAs (λ c. c.planned) is_memory result
+        (plans.planned (files_in files.now) (names_of files.now) asked.now) }
+    ensures decided { IfOk result (λ c. spec.AreDecided files.now asked.now c.planned
+        c.decided.items) }
+{
+    let plan = plan_files(alloc, files, asked)?;
+    let decided = decided_by(alloc, files, asked, &plan)?;
+    let FilesPlan { planned, .. } = plan;
+    Ok(Choice { planned, decided })
 }
 
 /// The stamp of the cache after a run.
@@ -167,6 +158,47 @@ fn last_of(asked: &Asked<'_>, planned: &Planned, made: &AllMade) -> u32
     }
 }
 
+/// What a run makes, with the cache that it leaves.
+fn with_cache(asked: &Asked<'_>, planned: Planned, made: AllMade) -> Rewritten
+    ensures { result ≡ spec.rewritten_with asked.now planned made }
+{
+    let last = last_of(asked, &planned, &made);
+    let AllMade { rows, states, .. } = made;
+    let Planned { slots, .. } = planned;
+    Rewritten {
+        rows,
+        cache: Cache { last, rows: slots },
+        report: Report { rows: states },
+    }
+}
+
+/// What a run makes of its files by what was decided of them. What is known of them is let go first, and then each file in its turn.
+fn finished(
+    alloc: Global,
+    files: Vec<Taken>,
+    asked: &Asked<'_>,
+    choice: Choice,
+) -> Result<Rewritten, NoMemory>
+    requires { spec.AreDecided files.items asked.now choice.planned choice.decided.items }
+    ensures { IfOk result (λ all. all ≡ spec.rewritten (files_in files.items)
+        (names_of files.items) asked.now choice.planned) }
+{
+    let Choice { planned, decided } = choice;
+    let mut decided = decided.into_iter();
+    let mut all = AllMade {
+        rows: Rows::new(alloc),
+        states: Rows::new(alloc),
+        given: false,
+    };
+    for bare in all_bare(alloc, files)? {
+        if let Some(one) = decided.next() {
+            let made = made_last(alloc, &bare, one)?;
+            all = add_made(alloc, all, bare.name.as_str(), made)?;
+        }
+    }
+    Ok(with_cache(asked, planned, all))
+}
+
 /// What a run that prelinks everything makes of the files of a folder, ascending by name; the first cause why it has no plan is NoSlot, then StampsSpent.
 ///
 /// - A current name stays, and has no row. Each other name that may be prelinked is: at the planned slots, with the old stamps of current libraries and the run's stamp for the others, in version 2. Any other name gets its original, and so does one whose form would be too large. A file whose bytes would not change has no row.
@@ -174,25 +206,18 @@ fn last_of(asked: &Asked<'_>, planned: &Planned, made: &AllMade) -> u32
 /// - The report has a row for each name.
 ///
 /// `take_file` of pl_known gave the files under the region that is asked for, and no name stands twice. The rows of the cache have no limit here.
+///
+/// The files are taken over. What is known of them is let go once everything is decided. Then the files of libraries are made, and each original is let go once its file is there.
 #[tactic(auto, unfolding(crate::specs::Rewriting::rewrite))]
 pub fn rewrite(
     alloc: Global,
-    files: &[Taken],
+    files: Rows<Taken>,
     asked: &Asked<'_>,
 ) -> Result<Rewritten, PlanningFault>
-    requires { AreTaken asked.now.region files.now }
-    ensures { Answers is_memory result (spec.rewrite (files_in files.now) (names_of files.now)
-        asked.now) }
+    requires { AreTaken asked.now.region files }
+    ensures { Answers is_memory result (spec.rewrite (files_in files) (names_of files) asked.now) }
 {
-    let plan = plan_files(alloc, files, asked)?;
-    let made = made_by(alloc, files, asked, &plan)?;
-    let FilesPlan { planned, .. } = plan;
-    let last = last_of(asked, &planned, &made);
-    let AllMade { rows, states, .. } = made;
-    let Planned { slots, .. } = planned;
-    Ok(Rewritten {
-        rows,
-        cache: Cache { last, rows: slots },
-        report: Report { rows: states },
-    })
+    let choice = choice_of(alloc, files.as_slice(), asked)?;
+    let rewritten = finished(alloc, files.into_vec(), asked, choice)?;
+    Ok(rewritten)
 }

@@ -9,6 +9,7 @@ use pl_base::{Rows, Text};
 use pl_cone::{Known, Link};
 use pl_elf::Range;
 use pl_known::Taken;
+use pl_lists::ListRow;
 use pl_plan::{Planned, Standing};
 
 /// The SHA-256 of a name's original.
@@ -25,14 +26,39 @@ pub struct MadeFile<'a> {
     pub file: Vec<u8>,
 }
 
-/// What is known of the relocations of a library.
+/// What the prelinked file of a library is made of, beside its original.
 #[derive(Drop)]
-pub struct LibraryStill<'a> {
+pub struct FileParts {
+    /// Its slot.
+    pub slot: u64,
+
+    /// Its stamp.
+    pub stamp: u32,
+
+    /// The SHA-256 of its original.
+    pub digest: [u8; 32],
+
+    /// The rows of the other members of its walk.
+    pub list: Rows<ListRow>,
+
+    /// For each of its relocations, in their order, the word that the file holds at its place.
+    pub held: Rows<u64>,
+
+    /// Whether that is the relocation's own word; where it is not, it has none, and the file keeps what its linker wrote.
+    pub own: Rows<bool>,
+}
+
+/// What is known of a library, whose prelinked file is made last.
+#[derive(Drop)]
+pub struct Library<'a> {
     /// The name of its file.
     pub name: &'a str,
 
     /// For each of its relocations, in their order, whether it is known that in every walk which holds the library, with the slots of the plan, it gives what the library's prelinked file holds at its place.
     pub flags: Rows<bool>,
+
+    /// What that file is made of.
+    pub parts: FileParts,
 }
 
 /// The files of a folder, and what a run plans of them.
@@ -56,11 +82,8 @@ pub struct Run<'a> {
     /// The SHA-256 of originals, where it was made already.
     pub digests: &'a [Digest<'a>],
 
-    /// Prelinked files of libraries that were made already.
-    pub libraries: &'a [MadeFile<'a>],
-
-    /// Which relocations of those libraries are known to matter nowhere in the walk of a program.
-    pub still: &'a [LibraryStill<'a>],
+    /// What is known of libraries, where it was found already.
+    pub libraries: &'a [Library<'a>],
 }
 
 fn is_file_of(taken: &Taken, name: &str) -> bool

@@ -33,7 +33,7 @@ fn found<'f>(slots: &'f [Slot], name: &str) -> Option<&'f Slot>
 
 /// The planned slot of a name, 0 where it has none.
 #[tactic(auto, unfolding(pl_cone::specs::Current::slot_of))]
-pub fn slot_of(slots: &[Slot], name: &str) -> u64
+fn slot_of(slots: &[Slot], name: &str) -> u64
     ensures { result ≡ cone.slot_of slots.now name.now }
 {
     match found(slots, name) {
@@ -99,7 +99,7 @@ fn old_stamp(taken: &Taken) -> u32
 }
 
 /// The stamp of a library that may be prelinked: its old one where it is current, else the run's.
-pub fn next_stamp(run: &Run<'_>, taken: &Taken) -> u32
+fn next_stamp(run: &Run<'_>, taken: &Taken) -> u32
     requires run { spec.IsRun run.now }
     requires found { spec.IsFound run.now taken.now }
     requires candidate { spec.IsCandidate run.now taken.now.name }

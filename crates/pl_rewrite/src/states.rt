@@ -1,5 +1,5 @@
 // What is reported of a file that may be prelinked.
-ghost use Rattle.std.specs.Prelude.{◌≡◌, ◌<◌, ◌^◌, length, true, false, IfOk, Some};
+ghost use Rattle.std.specs.Prelude.{◌≡◌, ◌<◌, ◌^◌, length, true, false, IfOk};
 ghost use Rattle.pl_cone.specs.declared.skip.Skip.TheVariants as skips;
 ghost use Rattle.pl_form.specs.Files.{file_in, marked_in};
 ghost use Rattle.pl_rewrite.specs.Members as members;
@@ -7,8 +7,7 @@ ghost use Rattle.pl_rewrite.specs.Reports as spec;
 ghost use Rattle.pl_rewrite.specs.declared.report.RowState.TheVariants as states;
 
 use crate::RowState;
-use crate::running::Run;
-use crate::sources::{is_library, marked_of, next_stamp, slot_of};
+use crate::sources::marked_of;
 use pl_base::Text;
 use pl_cone::Skip;
 use pl_form::{File, FileFault, Marked, read_file};
@@ -100,7 +99,7 @@ fn form_of(alloc: Global, bytes: &[u8]) -> Result<Option<Marked>, NoMemory>
 }
 
 /// What is read of a file that is made now.
-fn state_by_form(alloc: Global, name: &str, bytes: &[u8]) -> Result<RowState, NoMemory>
+pub fn state_by_form(alloc: Global, name: &str, bytes: &[u8]) -> Result<RowState, NoMemory>
     requires { length bytes.now < 2 ^ 32 }
     ensures { IfOk result (λ state. state ≡ spec.state_in name.now false (marked_in bytes.now)) }
 {
@@ -108,38 +107,4 @@ fn state_by_form(alloc: Global, name: &str, bytes: &[u8]) -> Result<RowState, No
         None => Ok(too_large_state(alloc, name)?),
         Some(marked) => Ok(new_state(&marked)),
     }
-}
-
-/// A library that is made now: its planned slot, and the stamp that it gets.
-fn new_library(run: &Run<'_>, taken: &Taken) -> RowState
-    requires run { members.IsRun run.now }
-    requires found { members.IsFound run.now taken.now }
-    requires candidate { members.IsCandidate run.now taken.now.name }
-    ensures { result ≡ members.new_library run.now taken.now.name }
-{
-    RowState::Library {
-        current: false,
-        slot: slot_of(run.planned.slots.as_slice(), taken.name.as_str()),
-        stamp: next_stamp(run, taken),
-    }
-}
-
-/// A file that is made now. That of a library is not read for it.
-pub fn state_of_new(
-    alloc: Global,
-    run: &Run<'_>,
-    taken: &Taken,
-    bytes: &[u8],
-) -> Result<RowState, NoMemory>
-    requires run { members.IsRun run.now }
-    requires found { members.IsFound run.now taken.now }
-    requires candidate { members.IsCandidate run.now taken.now.name }
-    requires file { Some bytes.now ≡ members.prelinked run.now taken.now.name }
-    ensures { IfOk result (λ state. state
-        ≡ spec.state_in taken.now.name false (marked_in bytes.now)) }
-{
-    if is_library(&taken.entry) {
-        return Ok(new_library(run, taken));
-    }
-    state_by_form(alloc, taken.name.as_str(), bytes)
 }

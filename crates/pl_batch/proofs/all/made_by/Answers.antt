@@ -45,8 +45,8 @@ returns-then-are_large g c =
 pub made_of-requires : goal.made_of-requires
 made_of-requires g c =
     are_taken c.args.asked.now.region (map string_bytes c.args.names.now) _ c.requires.ascend
-    (ap names_of c.as_slice-2.ensures ∙ c.in_ok-files.ensures.names)
-    (subst (λ (ts : List Taken). All (IsTaken c.args.asked.now.region) ts) (sym c.as_slice-2.ensures) c.in_ok-files.ensures.each)
+    c.in_ok-files.ensures.names
+    c.in_ok-files.ensures.each
 
 pub returns : goal.returns
 returns g c =
@@ -54,5 +54,4 @@ returns g c =
     small c.args.asked.now c.in_ok-old.old c.in_ok-old.ensures c.in_ok-cache.cache says (map string_bytes c.args.names.now) c.requires.listed c.in_ok-files.files c.in_ok-files.ensures.found c.made_of.result
     (ap (λ (ts : List Taken). are_large (bytes_of ts)) (sym c.as_slice.ensures) ∙ sym c.are_large.ensures ∙ c.if-are_large.false)
     c.in_ok-files.ensures.names
-    (subst (λ (ts : List Taken). MeansAlone (made_of (files_in ts) (names_of ts) c.args.asked.now c.in_ok-old.old.items c.in_ok-cache.cache) c.made_of.result) c.as_slice-2.ensures
-    (subst (λ (bytes : List ℕ). MeansAlone (made_of (files_in c.as_slice-2.result.now) (names_of c.as_slice-2.result.now) c.args.asked.now bytes c.in_ok-cache.cache) c.made_of.result) c.deref-2.ensures.value c.made_of.ensures))
+    (subst (λ (bytes : List ℕ). MeansAlone (made_of (files_in c.in_ok-files.files) (names_of c.in_ok-files.files) c.args.asked.now bytes c.in_ok-cache.cache) c.made_of.result) c.deref-2.ensures.value c.made_of.ensures)

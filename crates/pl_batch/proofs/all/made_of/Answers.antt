@@ -13,8 +13,8 @@ use Rattle.pl_batch.proofs.all.made_of.Goals as goal
 
 pub returns-in_err-rewritten : goal.returns-in_err-rewritten
 returns-in_err-rewritten c =
-    let files = files_in c.args.files.now in
-    let ns = names_of c.args.files.now in
+    let files = files_in c.args.files in
+    let ns = names_of c.args.files in
     let p = c.args.asked.now in
     let fault = c.in_err-rewritten.field-0.0 in
     at_err (λ r. MeansAlone (made_of files ns p c.args.old.now c.args.cache.now) r) c.from_residual.result (of_plan fault) c.from_residual.ensures.1
@@ -22,7 +22,7 @@ returns-in_err-rewritten c =
 
 pub returns : goal.returns
 returns c =
-    let files = files_in c.args.files.now in
-    let ns = names_of c.args.files.now in
+    let files = files_in c.args.files in
+    let ns = names_of c.args.files in
     let p = c.args.asked.now in
     rewritten files ns p c.args.old.now c.args.cache.now c.in_ok-rewritten.rewritten c.spelled.result (sym (asked_is files ns p c.args.cache.now c.as_slice.result c.as_slice.ensures) ∙ c.in_ok-rewritten.ensures) c.spelled.ensures

@@ -1,4 +1,4 @@
-use Rattle.std.proofs.Common.{◌≡◌, ap, sym, ◌∙◌}
+use Rattle.std.proofs.Common.{ap, sym, ◌∙◌}
 use Rattle.pl_base.specs.Answers.{because}
 use Rattle.pl_base.proofs.AnswerLaws.{because_ok}
 use Rattle.pl_scope.specs.Scope.{objects}

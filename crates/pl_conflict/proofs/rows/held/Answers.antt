@@ -4,7 +4,7 @@ use Rattle.pl_conflict.proofs.HeldLaws.{one_loaded, held_is}
 use Rattle.pl_conflict.proofs.rows.held.Goals as goal
 
 pub read-requires : goal.read-requires
-read-requires c = one_loaded c.args.files.now c.args.meaning.now.member c.requires.files c.requires.member
+read-requires c = one_loaded c.args.files.now c.args.member c.requires.files c.requires.member
 
 pub returns : goal.returns
-returns c = subst (λ (bytes : List ℕ). IfOk c.read.result (λ v. v.items ≡ bytes)) (held_is c.args.files.now c.args.meaning.now.member c.args.meaning.now.start c.requires.member) c.read.ensures
+returns c = subst (λ (bytes : List ℕ). IfOk c.read.result (λ v. v.items ≡ bytes)) (held_is c.args.files.now c.args.member c.args.start c.requires.member) c.read.ensures

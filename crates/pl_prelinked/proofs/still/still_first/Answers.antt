@@ -1,10 +1,7 @@
-use Rattle.std.proofs.Common.{◌≡◌, List, [], ◌∷◌, ap, sym, subst, ◌∙◌}
+use Rattle.std.proofs.Common.{◌≡◌, ap, sym, subst, ◌∙◌}
 use Rattle.std.proofs.lemmas.Result.{IfOk-weaker}
-use Rattle.std.specs.Prelude.{slice_get}
-use Rattle.pl_conflict.specs.Among.{AreHeld}
-use Rattle.pl_conflict.specs.Prelinked.{Firm, objects_of, slots_of}
+use Rattle.pl_conflict.specs.Prelinked.{Firm}
 use Rattle.pl_image.specs.Loads.{IsPlaced, loaded_at}
-use Rattle.pl_image.specs.declared.loaded.Loaded.{Loaded}
 use Rattle.pl_image.proofs.PlacedLaws.{alone}
 use Rattle.pl_prelinked.proofs.FirmLaws.{one_each, objects_walked}
 use Rattle.pl_prelinked.proofs.HeldLaws.{first_held, some_slots}

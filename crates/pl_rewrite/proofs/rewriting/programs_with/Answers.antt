@@ -1,7 +1,7 @@
 use Rattle.pl_rewrite.proofs.rewriting.programs_with.Goals as goal
 
-pub programs_with_still-requires-clause-run : goal.programs_with_still-requires-clause-run
-programs_with_still-requires-clause-run c = record {
+pub programs_of-requires-clause-run : goal.programs_of-requires-clause-run
+programs_of-requires-clause-run c = record {
   taken = c.requires.run.taken;
   knows = c.requires.run.knows;
   standings = c.requires.run.standings;
@@ -9,5 +9,4 @@ programs_with_still-requires-clause-run c = record {
   links = c.requires.run.links;
   digests = c.requires.run.digests;
   libraries = c.requires.libraries;
-  still = c.requires.run.still;
 }

@@ -1,16 +1,23 @@
-use Rattle.pl_known.specs.Taken.{files_in, names_of}
+use Rattle.std.proofs.Common.{◌≡◌, List, Ok, sym, ap, subst, ◌∙◌}
+use Rattle.pl_known.specs.Plans.{planned}
+use Rattle.pl_known.specs.Taken.{AreTaken, files_in, names_of}
+use Rattle.pl_known.specs.declared.taken.Taken.{Taken}
+use Rattle.pl_rewrite.specs.Rewriting.{AreDecided, rewritten}
+use Rattle.pl_rewrite.specs.declared.rewriting.Rewritten.{Rewritten}
 use Rattle.pl_rewrite.proofs.PlanLaws.{rewrite_is}
 use Rattle.pl_rewrite.proofs.rewriting.rewrite.Goals as goal
 
-pub made_by-requires-clause-planned : goal.made_by-requires-clause-planned
-made_by-requires-clause-planned c = c.in_ok-plan.ensures.planned
+pub choice_of-requires : goal.choice_of-requires
+choice_of-requires c = subst (AreTaken c.args.asked.now.region) (sym c.as_slice.ensures) c.requires
 
-pub made_by-requires-clause-known : goal.made_by-requires-clause-known
-made_by-requires-clause-known c = c.in_ok-plan.ensures.known
-
-pub made_by-requires-clause-links : goal.made_by-requires-clause-links
-made_by-requires-clause-links c = c.in_ok-plan.ensures.links
+pub finished-requires : goal.finished-requires
+finished-requires c =
+    subst (λ (ts : List Taken). AreDecided ts c.args.asked.now c.in_ok-choice.choice.planned c.in_ok-choice.choice.decided.items) (c.as_slice.ensures ∙ sym c.into_vec.ensures) c.in_ok-choice.ensures.decided
 
 pub returns : goal.returns
 returns c =
-    rewrite_is (files_in c.args.files.now) (names_of c.args.files.now) c.args.asked.now c.in_ok-plan.plan.planned c.in_ok-made.made c.last_of-last.result c.in_ok-plan.ensures.planned c.in_ok-made.ensures c.last_of-last.ensures
+    let plan : planned (files_in c.args.files) (names_of c.args.files) c.args.asked.now ≡ Ok c.in_ok-choice.choice.planned =
+    subst (λ (ts : List Taken). planned (files_in ts) (names_of ts) c.args.asked.now ≡ Ok c.in_ok-choice.choice.planned) c.as_slice.ensures c.in_ok-choice.ensures.planned in
+    let whole : c.in_ok-rewritten.rewritten ≡ rewritten (files_in c.args.files) (names_of c.args.files) c.args.asked.now c.in_ok-choice.choice.planned =
+    subst (λ (ts : List Taken). c.in_ok-rewritten.rewritten ≡ rewritten (files_in ts) (names_of ts) c.args.asked.now c.in_ok-choice.choice.planned) c.into_vec.ensures c.in_ok-rewritten.ensures in
+    rewrite_is (files_in c.args.files) (names_of c.args.files) c.args.asked.now c.in_ok-choice.choice.planned plan ∙ ap (λ (x : Rewritten). Ok x) (sym whole)

@@ -1,9 +1,0 @@
-use Rattle.std.proofs.Common.{◌<◌, length, arith}
-use Rattle.pl_known.proofs.FindLaws.{zip_more}
-use Rattle.pl_rewrite.specs.Members.{IsPart}
-use Rattle.pl_rewrite.proofs.parts.parts_of.Goals as goal
-
-pub loop-source-preserved : goal.loop-source-preserved
-loop-source-preserved c =
-    let lt : c.loop-source.source-index < length c.args.sources.now = omega arith in
-    zip_more (IsPart c.args.run.now) c.args.sources.now c.loop-source.source-index c.source-item.result c.loop-source.parts _ _ lt c.source-item.is c.loop-source.invariant (rw c.in-Some.is at c.part_of.ensures) c.in_ok-add.ensures.ok

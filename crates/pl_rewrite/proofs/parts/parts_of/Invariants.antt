@@ -1,7 +1,0 @@
-use Rattle.std.proofs.Common.{take}
-use Rattle.std.specs.List.{AllZip}
-use Rattle.pl_rewrite.specs.Members.{IsPart}
-use Rattle.pl_rewrite.proofs.parts.parts_of.Given as goal
-
-abbrev pub invariant-loop-source : goal.invariant-loop-source
-invariant-loop-source l = AllZip (IsPart l.run) (take l.source-index l.sources) l.parts
