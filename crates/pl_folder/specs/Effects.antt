@@ -2,7 +2,7 @@
 use Rattle.std.specs.Prelude.{◌≡◌, ◌⊎◌, ℕ, ◌≤◌, List, [], ◌++◌, length, take, unwrap_or}
 use Rattle.std.specs.FinMap.{get, insert, remove}
 use Rattle.pl_base.specs.Files.{Files}
-use Rattle.pl_folder.specs.Disk.{State, Disk, after, clock, waited}
+use Rattle.pl_folder.specs.Disk.{State, Disk, after, waited}
 use Rattle.pl_folder.specs.Seen.{Ending, Done, Broken, Undone}
 use Rattle.pl_folder.specs.States as state
 
@@ -111,7 +111,3 @@ WaitsFor n Undone old new = (k : ℕ) × (k ≤ n) × (new ≡ waited k old)
 
 abbrev pub Asks : ℕ → Effect
 Asks n = record { files = SameFiles; disk = WaitsFor n }
-
--- the clock goes on
-abbrev pub GoesOn : Ending → Disk → Disk → Type 0
-GoesOn ending old new = clock old ≤ clock new

@@ -6,7 +6,6 @@ pub mod Entries
 pub mod FileLists
 pub mod InMemory
 pub mod Kept
-pub mod Replaced
 pub mod Replay
 pub mod Replaying
 pub mod Seen

@@ -1,5 +1,4 @@
 use crate::Version;
-use indexmap::IndexMap;
 use pl_base::Rows;
 use pl_lists::{ConflictRow, ListRow};
 use pl_object::Object;
@@ -50,12 +49,6 @@ pub enum Entry {
 
     /// The first acceptance clause that refuses it, with its argument.
     Refused { number: u32, argument: u64 },
-}
-
-/// What is known of the file of each valid name of a folder.
-#[derive(Drop)]
-pub struct Files {
-    pub rows: IndexMap<String, Entry>,
 }
 
 /// The bytes at the place of a relocation.

@@ -32,7 +32,7 @@ pub use alike::{forms_leave_the_rest, forms_stand_for_originals};
 pub use check::check_form;
 pub use constants::STORED;
 pub use fault::{FileFault, FormFault};
-pub use file::{Entry, File, Files, Fill, Marked};
+pub use file::{Entry, File, Fill, Marked};
 pub use law::{files_are_told, forms_have_one_original};
 use layout::Layout;
 pub use library_form::{digest_of, form_library, form_library_with};

@@ -1,8 +1,6 @@
 // Tests of pl_folder. Files are spelled as text: each name with its bytes, parted by blanks.
 use crate::cases::{number, numbers, parts};
-use pl_folder::{
-    Folder, FolderFault, MemoryFolder, NEW_FILE, QuietFolder, STORED, are_files, replace,
-};
+use pl_folder::{Folder, FolderFault, MemoryFolder, QuietFolder, STORED, are_files};
 use std::alloc::{AllocError, Global};
 use std::test::Fail;
 
@@ -67,7 +65,10 @@ pub(crate) fn folder_of(
     }
 }
 
-/// The two files of a folder. The first has the name `NEW_FILE`.
+/// A name of the program's own.
+const NEW_FILE: &str = ".prelink.new.0";
+
+/// The two files of a folder.
 const FILES: &str = ".prelink.new.0=old q=old";
 
 /// A folder of two files, which answers so many calls but one that fails.
@@ -116,25 +117,6 @@ fn takes_files_by_its_script(rt: HostRuntime) -> Result<(), FolderFault> {
         let taken = folder.take(alloc, name);
         assert!(rt; taken.as_deref() == answer.as_deref(), "call {call}");
     }
-    Ok(())
-}
-
-/// Replaces a file in a folder that fails at the last call of that, and another one after it.
-fn replaced(alloc: Global) -> Result<MemoryFolder, FolderFault> {
-    let mut folder = folder(alloc, 4, 100)?;
-    let mut lent = &mut folder;
-    if replace(alloc, &mut lent, "q", b"new") != Err(FolderFault::Failed) {
-        return Err(FolderFault::NotThere);
-    }
-    replace(alloc, &mut lent, "r", b"newer")?;
-    Ok(folder)
-}
-
-#[test]
-fn replaces_files_whole(rt: HostRuntime) -> Result<(), FolderFault> {
-    let alloc = rt.alloc();
-    let mut folder = replaced(alloc)?;
-    assert!(rt; has(alloc, &mut folder, "q=new r=newer")?);
     Ok(())
 }
 
