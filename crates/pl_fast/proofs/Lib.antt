@@ -15,3 +15,4 @@ pub mod CandidateLaws
 pub mod ReadyLaws
 pub mod CountLaws
 pub mod DemoLaws
+pub mod DemoTextLaws
