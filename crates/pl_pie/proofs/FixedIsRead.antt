@@ -13,8 +13,8 @@ use Rattle.pl_object.specs.declared.linking.Linking.{Linking}
 use Rattle.pl_object.specs.declared.object.Object.{Object}
 use Rattle.pl_object.specs.declared.refusal.Refusal.{Refusal}
 use Rattle.pl_fixed.specs.Fixed.{fixed}
-use Rattle.pl_pie.specs.Fix.{fits, fixed_bytes}
-use Rattle.pl_pie.specs.Laws.{FixedFileIsRead}
+use Rattle.pl_pie.specs.Fix.{MayBeFixed, fits, fixed_bytes}
+use Rattle.pl_pie.specs.Laws.{FitsMayBeFixed, FixedFileIsRead}
 use Rattle.pl_pie.specs.Pie.{pie}
 use Rattle.pl_pie.proofs.AtLaws.{IsAt, dynamic_of, file_at, headers_of, is_at, layout_of, linking_of, new_tags}
 use Rattle.pl_pie.proofs.CheckAgain.{check_again}
@@ -28,16 +28,15 @@ use Rattle.pl_pie.proofs.TablesAgain.{tables_again}
 -- ---- an address at which a program fits
 
 pub record IsFit (o : Object) (at : ℕ) : Type 0 where
-  pub aligned : at % o.align ≡ 0
   pub from : 137438953472 ≤ at
-  pub ends : at + o.span ≤ ADDRESS_LIMIT
+  pub may : MayBeFixed o at
 
 pub is_fit : (o : Object) (at : ℕ) → fits o at ≡ true → IsFit o at
 unfolding fits
 is_fit o at h =
     let a = and_both (at % o.align == 0 && nat_le 137438953472 at) (nat_le (at + o.span) 201863462912) h in
     let b = and_both (at % o.align == 0) (nat_le 137438953472 at) a.0 in
-    record { aligned = eqb-true (at % o.align) 0 b.0; from = above at b.1; ends = below (at + o.span) a.1 }
+    record { from = above at b.1; may = record { aligned = eqb-true (at % o.align) 0 b.0; ends = below (at + o.span) a.1 } }
   where
     above : (n : ℕ) → nat_le 137438953472 n ≡ true → 137438953472 ≤ n
     above n e = grind (arith, nat_tests)
@@ -66,15 +65,17 @@ module _ (bytes : List ℕ) (o : Object) (at : ℕ) (is : IsAt bytes o at) where
       ∙ ap (λ (w : Layout). checked file f (dynamic_of ts (fixed at o)) l w) (layout_again bytes o at is)
       ∙ ap (λ (r : Result (Unit {0}) Refusal). r >>= λ _. Ok (object f (dynamic_of ts (fixed at o)) l places)) (check_again bytes o at is)
 
-pub at_fit : (bytes : List ℕ) (o : Object) (at : ℕ) → IsBytes bytes → pie bytes ≡ Some o → fits o at ≡ true → IsAt bytes o at
-at_fit bytes o at b some fit = let f = is_fit o at fit in is_at bytes o at b some f.aligned f.ends
+pub fits_may : FitsMayBeFixed
+fits_may o at fit = (is_fit o at fit).may
+
+pub at_place : (bytes : List ℕ) (o : Object) (at : ℕ) → IsBytes bytes → pie bytes ≡ Some o → MayBeFixed o at → IsAt bytes o at
+at_place bytes o at b some may = is_at bytes o at b some may.aligned may.ends
 
 pub fixed_is_read : FixedFileIsRead
 unfolding fixed_bytes
-fixed_is_read bytes o at b some fit =
-    let f = is_fit o at fit in
-    let is : IsAt bytes o at = is_at bytes o at b some f.aligned f.ends in (
-      object_again bytes o at is f.aligned,
-      reads_again bytes o at some f.aligned f.ends is ∙ parts_again bytes o at is f.aligned,
-      is_fixed bytes o at is f.aligned,
+fixed_is_read bytes o at b some may =
+    let is : IsAt bytes o at = at_place bytes o at b some may in (
+      object_again bytes o at is may.aligned,
+      reads_again bytes o at some may.aligned may.ends is ∙ parts_again bytes o at is may.aligned,
+      is_fixed bytes o at is may.aligned,
     )

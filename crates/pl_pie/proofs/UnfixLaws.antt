@@ -20,7 +20,7 @@ use Rattle.pl_pie.specs.Pie.{typed, as_program, pie}
 use Rattle.pl_pie.specs.Fix.{added, taken, word_windows, fixed_bytes, fits, page_of, loosened, checked_by, checked, unfixed_by, unfixed}
 use Rattle.pl_pie.specs.Laws.{UnfixIsExact, UnfixUndoes}
 use Rattle.pl_pie.proofs.BackAgain.{IsTakenBack, taken_again}
-use Rattle.pl_pie.proofs.FixedIsRead.{at_fit, fixed_is_read, is_fit}
+use Rattle.pl_pie.proofs.FixedIsRead.{at_place, fixed_is_read, is_fit}
 use Rattle.pl_pie.proofs.ObjectAgain.{whole_pages}
 use Rattle.pl_pie.proofs.WordLaws.{typed_bytes, typed_back, taken_back, long_is}
 use Rattle.pl_pie.proofs.PieLaws.{IsPie, pie_is, pie_type, not_static, and_both}
@@ -103,10 +103,10 @@ unfix_undoes bytes o at h is fit =
     let p : IsPie bytes o = pie_is bytes o is in
     let file : List ℕ = fixed_bytes at o bytes in
     let f = is_fit o at fit in
-    let stands = at_fit bytes o at h is fit in
-    let read = fixed_is_read bytes o at h is fit in
+    let stands = at_place bytes o at h is f.may in
+    let read = fixed_is_read bytes o at h is f.may in
     let x : Object = read.0 in
-    let again : IsTakenBack at o x = taken_again bytes o at stands (omega (arith, f.from)) (whole_pages (as_program bytes) o at p.accepted f.aligned) x read.2 in
+    let again : IsTakenBack at o x = taken_again bytes o at stands (omega (arith, f.from)) (whole_pages (as_program bytes) o at p.accepted f.may.aligned) x read.2 in
     unfixed_is file x read.1 again.program
     ∙ ap (λ (n : ℕ). checked n file (loosened x file)) again.page
     ∙ ap (checked at file) (loosened_is bytes o x at h p (fits_small o at fit) stands.even again)
