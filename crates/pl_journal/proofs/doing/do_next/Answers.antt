@@ -10,4 +10,4 @@ do_step-requires g c =
 pub returns-clause-can : goal.returns-clause-can
 returns-clause-can g c =
     let lt : c.args.done < length c.args.steps.now = omega (arith, c.if-done-steps.false) in
-    next_can c.args.steps.now c.args.done c.index-steps-done.result lt c.index-steps-done.is c.requires c.in_ok-do_step.ensures
+    next_can c.args.steps.now c.args.done c.index-steps-done.result lt c.index-steps-done.is c.requires c.in_ok-do_step.ensures.calls
