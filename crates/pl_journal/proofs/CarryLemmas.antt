@@ -131,13 +131,13 @@ module _ (before : View) (no_own : HasNoOwn before) (edits : List Edit) (bytes :
 
   staged_journal : (i : ℕ) (more : List Edit) → staged i more before journal ≡ before journal
   staged_journal i [] = refl
-  staged_journal i (Write name some ∷ more) = cond-false (same journal (beside i)) _ _ refl ∙ staged_journal (i + 1) more
+  staged_journal i (Write name some ∷ more) = cond-false (same journal (beside i)) (Some some) (staged (i + 1) more before journal) refl ∙ staged_journal (i + 1) more
   staged_journal i (Erase name ∷ more) = staged_journal (i + 1) more
 
   pub staged_between : (w : View) → Same w (all_staged edits bytes before) → StandsBetween before edits w
   staged_between w is = untouched_between w (record {
     agree = λ n valid. is n ∙ cond-false (same n journal_new) _ _ (valid_not n journal_new valid refl) ∙ staged_agree 0 edits n valid;
-    no_journal = is journal ∙ cond-false (same journal journal_new) _ _ refl ∙ staged_journal 0 edits ∙ no_own journal refl;
+    no_journal = is journal ∙ cond-false (same journal journal_new) (Some bytes) (staged 0 edits before journal) refl ∙ staged_journal 0 edits ∙ no_own journal refl;
   })
 
   -- no row is done yet, or all of them

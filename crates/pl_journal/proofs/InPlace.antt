@@ -5,7 +5,7 @@ use Rattle.pl_base.specs.Files.{Files}
 use Rattle.pl_folder.specs.Calls.{Calls, IsThere}
 use Rattle.pl_folder.specs.Disk.{Name, View, State, Disk, read}
 use Rattle.pl_folder.specs.Effects.{Effect}
-use Rattle.pl_folder.specs.Seen.{Seen, Ending, Done, Broken}
+use Rattle.pl_folder.specs.Seen.{Seen, Ending, Done, Broken, Undone}
 use Rattle.pl_folder.specs.Since.{Keeps}
 use Rattle.pl_journal.specs.Faults.{journal_ending}
 use Rattle.pl_journal.specs.Leaves.{DoEdits}

@@ -78,7 +78,7 @@ settles_names s firm = λ i. record {
 
 -- ---- calls
 
-abbrev of_disks : {a b : Seen} → b.records ≡ a.records → (a.records ≡ true → AllFirm a.disk.now → Firmly a.disk b.disk) → RunsFirmly Done a b
+of_disks : {a b : Seen} → b.records ≡ a.records → (a.records ≡ true → AllFirm a.disk.now → Firmly a.disk b.disk) → RunsFirmly Done a b
 of_disks records both = record { records = records; alike = λ told firm. (both told firm).0; firm = λ told firm. (both told firm).1 }
 
 pub firmly_none : (a : Seen) → RunsFirmly Done a a
