@@ -1,5 +1,5 @@
 -- What the commands change that replace the file of a name by what they make of its original: fixing a position-independent program, and loosening a fixed one.
-use Rattle.std.specs.Prelude.{◌≡◌, ℕ, true, not, ⊤, List, Option, Some, None, Result, Ok, Err}
+use Rattle.std.specs.Prelude.{◌≡◌, ℕ, true, not, ⊤, List, Option, Some, None, Result, Ok, Err, IfOk}
 use Rattle.std.specs.FinMap.{get}
 use Rattle.pl_base.specs.Answers.{◌>>=◌, unless}
 use Rattle.pl_base.specs.Files.{Files}
@@ -7,12 +7,14 @@ use Rattle.pl_base.specs.Names.{is_valid_name}
 use Rattle.pl_fix.specs.Fixing.{loosened, placed}
 use Rattle.pl_fix.specs.declared.placing.Placing.{Placing}
 use Rattle.pl_fix.specs.declared.placing.Placing.TheVariants as placings
+use Rattle.pl_folder.specs.Calls.{Calls}
 use Rattle.pl_folder.specs.Seen.{Seen}
 use Rattle.pl_form.specs.Files.{file_in}
 use Rattle.pl_journal.specs.declared.change.Change.{Change}
 use Rattle.pl_place.specs.Policy.{Choice}
+use Rattle.pl_batch.specs.Answers.{Finds, ending}
 use Rattle.pl_batch.specs.Changes.{fitting}
-use Rattle.pl_batch.specs.Commands.{IsBefore, Meaning, and_then, ready_for}
+use Rattle.pl_batch.specs.Commands.{Commands, IsBefore, Meaning, and_then, outcome, ready_for}
 use Rattle.pl_batch.specs.Names.{file_of}
 use Rattle.pl_batch.specs.Store.{put, stored_as}
 use Rattle.pl_batch.specs.declared.cause.Cause.{Cause}
@@ -20,6 +22,7 @@ use Rattle.pl_batch.specs.declared.cause.Cause.TheVariants.{BadMark, BadName, No
 use Rattle.pl_batch.specs.declared.fault.BatchFault.{BatchFault}
 use Rattle.pl_batch.specs.declared.fault.BatchFault.TheVariants.{DiskFailed, NoMemory}
 use Rattle.pl_batch.specs.declared.fault.BatchFault.TheVariants as faults
+use Rattle.pl_batch.specs.declared.fixing.FixMade.{FixMade}
 use Rattle.pl_batch.specs.declared.fixing.FixedFile.{FixedFile}
 
 -- ---- a file is replaced
@@ -72,6 +75,16 @@ address_of choose files name = original_of files name >>= λ original. fixed_of 
 -- an answer is the address of the program of the files that a folder stands for, where it tells them
 abbrev pub TellsAddress : Choice → List ℕ → ℕ → Seen → Type 0
 TellsAddress choose name at old = old.tells ≡ true → (before : Files) → IsBefore (get old.files) before → address_of choose before name ≡ Ok at
+
+-- the rows of the command and the address are found in a folder, by a policy that is a function
+pub record FindsFixed (choose : Choice) (name : List ℕ) (result : Result FixMade BatchFault) (old new : Seen) : Type 0 where
+  pub found : Finds (replacement_of (fixed_as choose name) old.files name) (λ made. made.rows) result old new
+  pub told : IfOk result (λ made. old.tells ≡ true → address_of choose old.files name ≡ Ok made.address)
+
+-- a whole command by such a policy: what its calls make of the folder, and that the answer is the address
+pub record Fixes (choose : Choice) (name : List ℕ) (result : Result ℕ BatchFault) (old new : Seen) : Type 0 where
+  pub calls : Calls (ending result) (Commands (fixing_meant choose name) (outcome result)) old new
+  pub told : IfOk result (λ at. TellsAddress choose name at old)
 
 -- ---- loosening
 

@@ -9,7 +9,7 @@ use Rattle.pl_object.specs.declared.object.Object.{Object}
 use Rattle.pl_pie.specs.Fix.{fixed_bytes, unfixed}
 use Rattle.pl_pie.specs.Pie.{pie}
 use Rattle.pl_pie.specs.declared.constants.TheConstants.{REGION_START, REGION_END}
-use Rattle.pl_place.specs.Policy.{Choice}
+use Rattle.pl_place.specs.Policy.{Answered, Answering, Choice, MayAnswer}
 use Rattle.pl_slots.specs.Holes.{region_holes}
 use Rattle.pl_fix.specs.declared.placing.Placing.{Placing}
 use Rattle.pl_fix.specs.declared.placing.Placing.TheVariants.{NotPie, NoPlace, Marked, Fixed}
@@ -21,6 +21,32 @@ pie_region = record { start = REGION_START; end = REGION_END }
 -- nothing in them is busy
 abbrev pub pie_holes : List Range
 pie_holes = region_holes pie_region
+
+-- ---- a policy's answer
+
+-- what a policy is asked for a program in the whole region, and its answer
+pub record Asked : Type 0 where
+  pub span : ℕ
+  pub align : ℕ
+  pub answer : Option ℕ
+
+-- the policy answered so, as it may; or nothing was asked
+abbrev pub WasAsked : Answering → Option Asked → Type 0
+WasAsked post None = ⊤
+WasAsked post (Some a) = Answered post pie_holes a.span a.align a.answer × MayAnswer pie_holes a.span a.align a.answer
+
+-- a function answers so too
+abbrev pub AnswersSo : Option Asked → Choice → Type 0
+AnswersSo None choose = ⊤
+AnswersSo (Some a) choose = choose pie_holes a.span a.align ≡ a.answer
+
+-- what holds by a policy that is asked at most once, whether it follows a function or none: it holds of each function that answers as the policy did
+pub record HoldsBy (post : Answering) (P : Choice → Type 0) : Type 0 where
+  pub asked : Option Asked
+  pub was : WasAsked post asked
+  pub holds : (choose : Choice) → AnswersSo asked choose → P choose
+
+-- ---- a file at the answer
 
 -- a file, by what it is: none where it is a prelinked one
 abbrev pub bare_by : List ℕ → Result File FileFault → Option (List ℕ)
