@@ -4,13 +4,14 @@ use Rattle.std.specs.FinMap.{get}
 use Rattle.pl_base.specs.Answers.{◌>>=◌, unless}
 use Rattle.pl_base.specs.Files.{Files}
 use Rattle.pl_base.specs.Names.{is_valid_name}
-use Rattle.pl_fix.specs.Fixing.{loosened, placed}
+use Rattle.pl_fix.specs.Fixing.{placed}
 use Rattle.pl_fix.specs.declared.placing.Placing.{Placing}
 use Rattle.pl_fix.specs.declared.placing.Placing.TheVariants as placings
 use Rattle.pl_folder.specs.Calls.{Calls}
 use Rattle.pl_folder.specs.Seen.{Seen}
 use Rattle.pl_form.specs.Files.{file_in}
 use Rattle.pl_journal.specs.declared.change.Change.{Change}
+use Rattle.pl_pie.specs.Fix.{unfixed}
 use Rattle.pl_place.specs.Policy.{Choice}
 use Rattle.pl_batch.specs.Answers.{Finds, ending}
 use Rattle.pl_batch.specs.Changes.{fitting}
@@ -18,7 +19,7 @@ use Rattle.pl_batch.specs.Commands.{Commands, IsBefore, Meaning, and_then, outco
 use Rattle.pl_batch.specs.Names.{file_of}
 use Rattle.pl_batch.specs.Store.{put, stored_as}
 use Rattle.pl_batch.specs.declared.cause.Cause.{Cause}
-use Rattle.pl_batch.specs.declared.cause.Cause.TheVariants.{BadMark, BadName, NoPlace, NotFixed, NotPie}
+use Rattle.pl_batch.specs.declared.cause.Cause.TheVariants.{BadName, NoPlace, NotFixed, NotPie}
 use Rattle.pl_batch.specs.declared.fault.BatchFault.{BatchFault}
 use Rattle.pl_batch.specs.declared.fault.BatchFault.TheVariants.{DiskFailed, NoMemory}
 use Rattle.pl_batch.specs.declared.fault.BatchFault.TheVariants as faults
@@ -54,7 +55,6 @@ IsAlone (faults.Cause cause) = ⊤
 abbrev pub fixed_by : List ℕ → Placing → Result FixedFile Cause
 fixed_by name placings.NotPie = Err (NotPie name)
 fixed_by name placings.NoPlace = Err (NoPlace name)
-fixed_by name placings.Marked = Err (BadMark name)
 fixed_by name (placings.Fixed at bytes) = Ok (record { address = at; bytes = bytes })
 
 -- the program that an original becomes where a policy places it
@@ -94,7 +94,7 @@ loosened_by name (Some bytes) = Ok bytes
 
 -- the position-independent program of which an original is the fixed one
 unfoldable pub loosened_of : List ℕ → List ℕ → Result (List ℕ) Cause
-loosened_of name original = loosened_by name (loosened original)
+loosened_of name original = loosened_by name (unfixed original)
 
 abbrev pub loosening_meant : List ℕ → Meaning Cause
 loosening_meant name = replacing_meant (loosened_of name) name

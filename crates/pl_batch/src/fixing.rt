@@ -15,9 +15,10 @@ use crate::storing::{put, stored_as};
 use crate::taking::take;
 use crate::{BatchFault, Cause};
 use pl_base::{Rows, Text, is_valid_name};
-use pl_fix::{Placing, fix_placed, loosen};
+use pl_fix::{Placing, fix_placed};
 use pl_folder::Folder;
 use pl_journal::Change;
+use pl_pie::unfix;
 use pl_place::{Holes, Placer};
 use std::alloc::Global;
 
@@ -78,7 +79,7 @@ fn put_fitting<D: Folder>(
     fitting(rows)
 }
 
-/// The program that a name's original becomes where a policy places it, or the cause: NotPie, NoPlace. It is BadMark where it would be taken for a prelinked file.
+/// The program that a name's original becomes where a policy places it, or the cause: NotPie, NoPlace.
 fn fixed_of<F: Fn(&Holes, u64, u64) -> Option<u64>>(
     alloc: Global,
     name: &str,
@@ -95,7 +96,6 @@ fn fixed_of<F: Fn(&Holes, u64, u64) -> Option<u64>>(
     match fix_placed(alloc, placer, original)? {
         Placing::NotPie => Err(BatchFault::Cause(Cause::NotPie(Text::copy_of(alloc, name)?))),
         Placing::NoPlace => Err(BatchFault::Cause(Cause::NoPlace(Text::copy_of(alloc, name)?))),
-        Placing::Marked => Err(BatchFault::Cause(Cause::BadMark(Text::copy_of(alloc, name)?))),
         Placing::Fixed { address, bytes } => Ok(FixedFile { address, bytes }),
     }
 }
@@ -106,7 +106,7 @@ fn loosened_of(alloc: Global, name: &str, original: &[u8]) -> Result<Rows<u8>, B
     requires { length original.now < 2 ^ 32 }
     ensures { MeansAlone (spec.loosened_of name.now original.now) result }
 {
-    match loosen(alloc, original)? {
+    match unfix(alloc, original)? {
         Some(bytes) => Ok(bytes),
         None => Err(BatchFault::Cause(Cause::NotFixed(Text::copy_of(alloc, name)?))),
     }

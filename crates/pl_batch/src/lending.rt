@@ -72,7 +72,7 @@ pub fn remove<D: Folder>(alloc: Global, folder: &mut D, name: &str) -> Result<()
     remove_held(&mut held, alloc, name)
 }
 
-/// Recovers the folder and then fixes the position-independent program of a name where the policy places it, and tells the address. The name gets the program that `fix` of pl_pie makes of the original of its file there, as `do_run` makes its changes; the policy is asked once, for the whole region of such programs, 0x2000000000 to 0x2f00000000. The first cause counts: BadName, BadJournal, NotThere, FileTooLarge, BadMark, NotPie, NoPlace. BadMark comes too where the program that is made would be taken for a prelinked file.
+/// Recovers the folder and then fixes the position-independent program of a name where the policy places it, and tells the address. The name gets the program that `fix` of pl_pie makes of the original of its file there, as `do_run` makes its changes; the policy is asked once, for the whole region of such programs, 0x2000000000 to 0x2f00000000. The first cause counts: BadName, BadJournal, NotThere, FileTooLarge, BadMark, NotPie, NoPlace.
 ///
 /// What is said of the folder and of the address is said by the answer that the policy gave, whether it follows a function or none: it is so of each function that answers so. For a name that is not valid there is no other cause than BadName, whatever the folder tells, and no Ok.
 pub fn fix_file<D: Folder, F: Fn(&Holes, u64, u64) -> Option<u64>>(

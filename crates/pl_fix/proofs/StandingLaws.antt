@@ -80,7 +80,7 @@ grown_bears p o flat undo slot s borne fits grown load start = record {
 
 -- ---- the window in the form
 
-right_test : (load : Bool) (bad : Bool) → load ≡ true → (load && bad) ≡ false → bad ≡ false
+pub right_test : (load : Bool) (bad : Bool) → load ≡ true → (load && bad) ≡ false → bad ≡ false
 right_test true bad e h = h
 right_test false bad e h = absurd (true≢false (sym e))
 

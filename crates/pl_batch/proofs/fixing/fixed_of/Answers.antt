@@ -6,7 +6,7 @@ use Rattle.pl_fix.proofs.HoldLaws.{then_holds, unasked}
 use Rattle.pl_batch.specs.Answers.{MeansAlone}
 use Rattle.pl_batch.specs.Replace.{fixed_by, fixed_of}
 use Rattle.pl_batch.specs.declared.cause.Cause.{Cause}
-use Rattle.pl_batch.specs.declared.cause.Cause.TheVariants.{BadMark, NoPlace, NotPie}
+use Rattle.pl_batch.specs.declared.cause.Cause.TheVariants.{NoPlace, NotPie}
 use Rattle.pl_batch.specs.declared.fixing.FixedFile.{FixedFile}
 use Rattle.pl_batch.proofs.fixing.fixed_of.Goals as goal
 
@@ -21,12 +21,6 @@ unfolding fixed_of
 returns-in_ok-copy_of-in-NoPlace-clause-means g c = then_holds c.in_ok-fix_placed.ensures.placed (λ choose made.
     let is : placed choose c.args.original.now ≡ placings.NoPlace = sym made ∙ c.in-NoPlace.is in
     ap (fixed_by c.args.name.now) is ∙ ap (λ (n : List ℕ). Err (NoPlace n)) (sym c.in_ok-copy_of-in-NoPlace.ensures))
-
-pub returns-in_ok-copy_of-in-Marked-clause-means : goal.returns-in_ok-copy_of-in-Marked-clause-means
-unfolding fixed_of
-returns-in_ok-copy_of-in-Marked-clause-means g c = then_holds c.in_ok-fix_placed.ensures.placed (λ choose made.
-    let is : placed choose c.args.original.now ≡ placings.Marked = sym made ∙ c.in-Marked.is in
-    ap (fixed_by c.args.name.now) is ∙ ap (λ (n : List ℕ). Err (BadMark n)) (sym c.in_ok-copy_of-in-Marked.ensures))
 
 pub returns-in-Fixed-clause-means : goal.returns-in-Fixed-clause-means
 unfolding fixed_of

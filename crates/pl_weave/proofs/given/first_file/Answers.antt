@@ -17,12 +17,6 @@ returns-in_ok-copy_of-in-NoPlace-clause-means g c choose follows =
     ap (first_by c.args.name.now c.args.bytes.items) (ap (placed choose) (sym c.deref.ensures.value) ∙ sym (by_function c.in_ok-fix_placed.ensures.placed choose follows) ∙ c.in-NoPlace.is)
     ∙ ap (λ (n : List ℕ). Err (faults.NoPlace n)) (sym c.in_ok-copy_of-in-NoPlace.ensures)
 
-pub returns-in_ok-copy_of-in-Marked-clause-means : goal.returns-in_ok-copy_of-in-Marked-clause-means
-unfolding first_of
-returns-in_ok-copy_of-in-Marked-clause-means g c choose follows =
-    ap (first_by c.args.name.now c.args.bytes.items) (ap (placed choose) (sym c.deref.ensures.value) ∙ sym (by_function c.in_ok-fix_placed.ensures.placed choose follows) ∙ c.in-Marked.is)
-    ∙ ap (λ (n : List ℕ). Err (faults.BadMark n)) (sym c.in_ok-copy_of-in-Marked.ensures)
-
 pub returns-in-Fixed-clause-means : goal.returns-in-Fixed-clause-means
 unfolding first_of
 returns-in-Fixed-clause-means g c choose follows =
