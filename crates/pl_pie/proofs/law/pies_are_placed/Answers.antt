@@ -1,5 +1,5 @@
 use Rattle.pl_pie.proofs.CallLaws.{pie_placed}
-use Rattle.pl_pie.proofs.FixedIsRead.{fits_may}
+use Rattle.pl_pie.proofs.FitLaws.{fits_may}
 use Rattle.pl_pie.proofs.law.pies_are_placed.Goals as goal
 
 pub returns-clause-placed : goal.returns-clause-placed
