@@ -22,7 +22,7 @@ use Rattle.pl_journal.specs.declared.row.Row.TheVariants.{Put, Drop}
 use Rattle.pl_journal.specs.declared.step.Step.{Step}
 use Rattle.pl_journal.specs.declared.step.Step.TheVariants.{Put as PutStep, Drop as DropStep, Skip}
 use Rattle.pl_journal.proofs.Done.{distinct_test, done_agree, none_done}
-use Rattle.pl_journal.proofs.Endings.{Stops, at_done, makes_told, no_calls, stopped, then_told, when_done}
+use Rattle.pl_journal.proofs.Endings.{Stops, makes_told, no_calls, stopped, then_told, when_done}
 use Rattle.pl_journal.proofs.FileViews.{get_removed, get_renamed}
 use Rattle.pl_journal.proofs.Moments.{joined, starts, weaker}
 use Rattle.pl_journal.proofs.Phases.{as_many, at_drop, at_firm_row, at_last, at_put, at_remove, at_rename, at_settle, at_settle_rows, at_skip, drop_step_row, keeps_drop, keeps_firm_row, keeps_last, keeps_nothing, keeps_put, keeps_remove, keeps_rename, keeps_settle, keeps_settle_clear, keeps_settle_rows, put_step_row, row_of_first_step, skip_step_row, to_finishing}

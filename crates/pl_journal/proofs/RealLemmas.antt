@@ -1,13 +1,13 @@
 -- Runs on a disk whose settle makes names last, and no file's bytes.
-use Rattle.std.proofs.Common.{◌≡◌, ◌⊎◌, inl, inr, ⊎_elim, ℕ, ◌==◌, ◌<◌, true, false, List, [], ◌∷◌, ◌++◌, Option, Some, None, take, refl, sym, ◌∙◌, ap, subst, Result, Ok, Err}
+use Rattle.std.proofs.Common.{◌≡◌, ◌⊎◌, inl, inr, ⊎_elim, ℕ, ◌==◌, ◌<◌, true, List, [], ◌∷◌, ◌++◌, Option, Some, None, take, refl, sym, ◌∙◌, ap, subst, Result, Ok, Err}
 use Rattle.std.specs.Prelude.{IsErrAnd}
 use Rattle.std.proofs.lemmas.Bool.{cases_Bool, cond-true, cond-false, eq-eqb, eqb-true}
 use Rattle.pl_folder.specs.Calls.{Calls}
 use Rattle.pl_folder.specs.Disk.{Name, View, Content, State, Disk, after, clock, names_of}
-use Rattle.pl_folder.specs.Effects.{Appends, Does, DoesOrNot, GrowsDisk, Idles, StepsDisk, StepsDiskOrNot, Waited, Waits, creates, firms, removes, renames, settles}
+use Rattle.pl_folder.specs.Effects.{Appends, Does, DoesOrNot, GrowsDisk, Idles, StepsDisk, StepsDiskOrNot, Waited, Waits, creates, firms, removes, settles}
 use Rattle.pl_folder.specs.Seen.{Ending, Done, Broken, Undone, Seen}
 use Rattle.pl_folder.specs.Since.{Keeps, Since}
-use Rattle.pl_folder.specs.States.{with_file, appended, appended_to, created, firmed, firmed_at, removed, renamed, settled}
+use Rattle.pl_folder.specs.States.{appended, appended_to, created, firmed, firmed_at, renamed, settled}
 use Rattle.pl_folder.proofs.ImageLaws.{firmed_firm, itself, renamed_firm}
 use Rattle.pl_journal.specs.Faults.{journal_ending, part_ending}
 use Rattle.pl_journal.specs.Parts.{AtDone, NamesFile, NamesDisk, is_firm}

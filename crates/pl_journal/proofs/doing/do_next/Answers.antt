@@ -1,4 +1,4 @@
-use Rattle.std.proofs.Common.{◌<◌, ◌≤◌, ◌∙◌, length, arith, refl, subst}
+use Rattle.std.proofs.Common.{◌<◌, ◌∙◌, length, arith, refl, subst}
 use Rattle.std.proofs.lemmas.List.{get_or_default}
 use Rattle.pl_folder.specs.Calls.{Calls}
 use Rattle.pl_folder.specs.Seen.{Done}
