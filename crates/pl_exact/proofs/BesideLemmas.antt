@@ -20,21 +20,22 @@ use Rattle.pl_batch.specs.declared.prelinking.Prelinking.{Prelinking}
 use Rattle.pl_batch.proofs.OrderLemmas.{distinct_from, keys_ascend}
 use Rattle.pl_cache.specs.declared.cache.Cache.{Cache}
 use Rattle.pl_conflict.specs.Format.{format}
+use Rattle.pl_elf.specs.declared.range.Range.{Range}
 use Rattle.pl_exact.proofs.SlotLemmas.{Among, Fits, among_all, want_name, wants_among}
 use Rattle.pl_known.specs.Plans.{candidates, is_candidate, planned, slots_of, walks, wants}
 use Rattle.pl_known.specs.Skips.{skip_causes}
 use Rattle.pl_plan.specs.Faults.{of_plan}
 use Rattle.pl_plan.specs.declared.planned.Planned.{Planned}
-use Rattle.pl_scope.specs.Members.{has, names}
+use Rattle.pl_scope.specs.Members.{has}
 use Rattle.pl_scope.proofs.NameLaws.{eq_refl, has_cons, same_name}
 use Rattle.pl_share.specs.Disjoint.{disjoint}
 use Rattle.pl_share.specs.Shared.{plan_shared}
 use Rattle.pl_share.proofs.DisjointLaws.{disjoint_apart}
 use Rattle.pl_slots.specs.Apart.{are_apart, is_beside}
+use Rattle.pl_slots.specs.Plan.{plan as slot_plan}
 use Rattle.pl_slots.specs.declared.slot.Want.{Want}
 use Rattle.pl_slots.proofs.PlannedLaws.{rows_apart}
 use Rattle.pl_slots.specs.declared.slot.Slot.{Slot}
-use Rattle.pl_sound.specs.Plan.{fits}
 use Rattle.pl_sound.specs.Rule.{Files}
 use Rattle.std.proofs.lemmas.List.Folds.{find_at}
 use Rattle.pl_rewrite.specs.Laws.{AreNames}
@@ -199,8 +200,8 @@ module _ (old : Files) (ns : List (List ℕ)) (a : Asked) (made : Planned) (name
       one_passes (λ walk. walk_has walk i && walk_has walk j) walk_of chosen n (passed_at (is_candidate old a.region) n ns (candidate_named old ns a.region n named_all candidate) ∙ candidate)
       (and_from (walk_has (walk_of n) i) (walk_has (walk_of n) j) (given_has (position_of (wants old chosen)) (members (format skip_causes) old n) m i first here) (given_has (position_of (wants old chosen)) (members (format skip_causes) old n) q j second there))
 
-  fits : All Fits (wants old chosen)
-  fits = all_of (wants old chosen) ns (wants_among old (is_candidate old a.region) ns)
+  all_fit : All Fits (wants old chosen)
+  all_fit = all_of (wants old chosen) ns (wants_among old (is_candidate old a.region) ns)
 
   slots_are : slots_of old a chosen (wants old chosen) ≡ Ok made.slots
   slots_are = planned_slots old ns a made is_planned
@@ -211,15 +212,15 @@ module _ (old : Files) (ns : List (List ℕ)) (a : Asked) (made : Planned) (name
       let ws = wants old chosen in
       let placed : plan_shared a.rows.now ws (walks old ws chosen) a.region ≡ Ok made.slots = because_ok of_plan (plan_shared a.rows.now ws (walks old ws chosen) a.region) made.slots
       (sym (ap (λ (b : Bool). because of_plan (if b then plan_shared a.rows.now ws (walks old ws chosen) a.region else slot_plan (disjoint a.rows.now ws a.region) ws a.region)) shared) ∙ slots_are) in
-      share_laws.slots_apart a.rows.now ws (walks old ws chosen) a.region (Ok made.slots) (aligns_of ws fits) placed (spans_of ws fits)
+      share_laws.slots_apart a.rows.now ws (walks old ws chosen) a.region (Ok made.slots) (aligns_of ws all_fit) placed (spans_of ws all_fit)
 
-  module _ (n m q : List ℕ) (s t : Slot) (candidate : is_candidate old a.region n ≡ true) (first : has (members (format skip_causes) old n) m ≡ true) (second : has (members (format skip_causes) old n) q ≡ true) (differ : bytes_eq m q ≡ false)
+  module _ (n m q : List ℕ) (s t : Slot) (candidate : is_candidate old a.region n ≡ true) (first : has (members (format skip_causes) old n) m ≡ true) (second : has (members (format skip_causes) old n) q ≡ true) (unlike : bytes_eq m q ≡ false)
       (here : find (λ x. bytes_eq x.name m) made.slots ≡ Some s) (there : find (λ x. bytes_eq x.name q) made.slots ≡ Some t) where
     shared_beside : a.share ≡ true → is_beside s t ≡ true
     shared_beside shared =
         let ws = wants old chosen in
         let ss = made.slots in
-        let serve : Within a.region ws ss = plan_within old a chosen ss fits slots_are in
+        let serve : Within a.region ws ss = plan_within old a chosen ss all_fit slots_are in
         let b : StandsAt a.region m ws ss s = stands_at a.region m ws ss s serve here in
         let c : StandsAt a.region q ws ss t = stands_at a.region q ws ss t serve there in
         let i : ℕ = slot_place m ss in
@@ -229,12 +230,12 @@ module _ (old : Files) (ns : List (List ℕ)) (a : Asked) (made : Planned) (name
         let left : s.name ≡ m = same_name s.name m (found_name m ss s here) in
         let right : t.name ≡ q = same_name t.name q (found_name q ss t there) in
         let named_so : m ≡ q = sym left ∙ (ap (λ (x : Slot). x.name) one ∙ right) in
-        false≢true (sym differ ∙ (ap (bytes_eq m) (sym named_so) ∙ eq_refl m)) in
+        false≢true (sym unlike ∙ (ap (bytes_eq m) (sym named_so) ∙ eq_refl m)) in
         let apart = walks_apart shared i j s b.within c.within other (together n m q i j candidate first second b.place c.place) in
-        subst (λ (x : Slot). is_beside x t ≡ true) (get_or_from_slice_get ss i s s b.at) (subst (λ (y : Slot). is_beside (get_or ss i s) y ≡ true) (get_or_from_slice_get ss j s t c.at) apart)
+        subst (λ (x : Slot). is_beside x t ≡ true) (get_or_from_slice_get ss i s s b.at) (subst (λ (y : Slot). is_beside (get_or ss i s) y ≡ true) (get_or_from_slice_get ss j t s c.at) apart)
 
     alone_beside : IsDistinct bytes_eq ns → a.share ≡ false → is_beside s t ≡ true
-    alone_beside distinct alone = found_beside m q s t made.slots (alone_apart old ns a made distinct alone is_planned) differ here there
+    alone_beside distinct alone = found_beside m q s t made.slots (alone_apart old ns a made distinct alone is_planned) unlike here there
 
     -- the slots of two libraries of a candidate's walk
     pub beside : IsDistinct bytes_eq ns → is_beside s t ≡ true
