@@ -11,3 +11,4 @@ pub mod CandidateLaws
 pub mod ReadyLaws
 pub mod CountLaws
 pub mod DemoLaws
+pub mod DemoTextLaws
