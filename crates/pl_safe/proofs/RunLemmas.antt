@@ -7,7 +7,7 @@ use Rattle.pl_base.specs.Files.{Files}
 use Rattle.pl_folder.specs.Disk.{Disk, IsImage, Name, View, clock, read, waited}
 use Rattle.pl_folder.specs.Calls.{Calls}
 use Rattle.pl_folder.specs.Effects.{Effect, WaitsFor}
-use Rattle.pl_folder.specs.Seen.{Broken, Done, Ending, IsFolder, Seen, Undone, is_broken}
+use Rattle.pl_folder.specs.Seen.{Broken, Done, Ending, IsFolder, Seen, Undone}
 use Rattle.pl_folder.specs.Since.{Keeps, Within}
 use Rattle.pl_folder.proofs.ImageLaws.{read_image}
 use Rattle.pl_journal.specs.Leaves.{Looks}
@@ -31,7 +31,7 @@ use Rattle.pl_cli.specs.declared.command.Command.{Command}
 use Rattle.pl_cli.specs.declared.command.Command.TheVariants.{Load, All, Preview, UndoAll, Undo, Verify, Store, Remove, Fix, Unfix, Print, Order, Demo, Weave}
 use Rattle.pl_cli.specs.declared.status.Status.{Status}
 use Rattle.pl_cli.specs.declared.status.Status.TheVariants as statuses
-use Rattle.pl_crash.specs.Safe.{IsSafe, IsSafeImage, ReadsAs, after}
+use Rattle.pl_crash.specs.Safe.{IsSafe, IsSafeImage, after}
 use Rattle.pl_crash.specs.Sound.{IsSound}
 use Rattle.pl_crash.specs.Steps.{MakesStep}
 use Rattle.pl_crash.proofs.CommandLemmas.{commands_read, disk_ends, disk_leaves, is_before, looked, reads_path, reads_sound}
@@ -105,7 +105,7 @@ abbrev unrecorded : Seen → Seen
 unrecorded a = record a { records = false }
 
 module _ (effect : Effect) (e : Ending) (a b : Seen) (calls : Calls e effect a b) (told : a.tells ≡ true) (sound : IsSound (get a.files)) where
-  read_as : {C : Type 0} (meant : Meaning C) (o : Outcome C) → IsSafe meant → CommandsFiles meant o e a.files b.files → ReadsAs o (IsSafeImage meant (restored a.files)) (get b.files)
+  read_as : {C : Type 0} (meant : Meaning C) (o : Outcome C) → IsSafe meant → CommandsFiles meant o e a.files b.files → IsSafeImage meant (restored a.files) (get b.files)
   read_as meant o safe call = commands_read meant o e (unrecorded a) (unrecorded b) safe told sound (record {
     tells = calls.tells;
     records = refl;
@@ -115,15 +115,15 @@ module _ (effect : Effect) (e : Ending) (a b : Seen) (calls : Calls e effect a b
     count = calls.count;
   })
 
-  read_written : (meant : Meaning Cause) → IsSafe meant → (status : Status) → is_broken (ending_of status) ≡ false → WritesFiles meant status e a.files b.files → IsSafeImage meant (restored a.files) (get b.files)
-  read_written meant safe statuses.Done fine call = read_as meant Made safe call
-  read_written meant safe statuses.Differs fine call = absurd call
-  read_written meant safe statuses.Usage fine call = absurd call
-  read_written meant safe statuses.Refused fine call = read_as meant (Refused call.0) safe call.1
-  read_written meant safe statuses.ReadFault fine call = recovered_safe meant (restored a.files) (get b.files) (read_as (λ files. Err tt) (Refused tt) none_safe call)
-  read_written meant safe statuses.WriteFault fine call = ⊎_elim (λ done. read_as meant Made safe done) (λ refused. read_as meant (Refused refused.0) safe refused.1) call
-  read_written meant safe statuses.DiskFault fine call = absurd (true≢false fine)
-  read_written meant safe statuses.NoMemory fine call = read_as meant Lacked safe call
+  read_written : (meant : Meaning Cause) → IsSafe meant → (status : Status) → WritesFiles meant status e a.files b.files → IsSafeImage meant (restored a.files) (get b.files)
+  read_written meant safe statuses.Done call = read_as meant Made safe call
+  read_written meant safe statuses.Differs call = absurd call
+  read_written meant safe statuses.Usage call = absurd call
+  read_written meant safe statuses.Refused call = read_as meant (Refused call.0) safe call.1
+  read_written meant safe statuses.ReadFault call = recovered_safe meant (restored a.files) (get b.files) (read_as (λ files. Err tt) (Refused tt) none_safe call)
+  read_written meant safe statuses.WriteFault call = ⊎_elim (λ done. read_as meant Made safe done) (λ refused. read_as meant (Refused refused.0) safe refused.1) call
+  read_written meant safe statuses.DiskFault call = read_as meant Failed safe call
+  read_written meant safe statuses.NoMemory call = read_as meant Lacked safe call
 
   read_still : (meant : Meaning Cause) → b.files ≡ a.files → IsSafeImage meant (restored a.files) (get b.files)
   read_still meant same =
@@ -216,21 +216,21 @@ writers_end asked w v status folder told one whole ran = ends_by asked w v statu
 
 -- ---- what is read
 
-read_by : (asked : Option Command) (w v : Outside) (status : Status) → w.folder.tells ≡ true → IsSound (get w.folder.files) → Ran asked w v status → is_broken (ending_of status) ≡ false → IsReader asked ⊎ IsWriter asked
+read_by : (asked : Option Command) (w v : Outside) (status : Status) → w.folder.tells ≡ true → IsSound (get w.folder.files) → Ran asked w v status → IsReader asked ⊎ IsWriter asked
     → (bytes : List ℕ) × AreBytes w.input.left bytes × IsSafeImage (meaning asked bytes) (restored w.folder.files) (get v.folder.files)
-read_by asked w v status told sound ran fine (inl reader) =
+read_by asked w v status told sound ran (inl reader) =
     let e : Ending = ending_of status in
     let effect : Effect = Makes asked w.folder.files w.input.left status in
     let same = reader.stays w.folder.files w.input.left status e w.folder.files v.folder.files (ran.folder.files told) in
     (bytes_of w.input.left, λ given. refl, read_still effect e w.folder v.folder ran.folder told sound (meaning asked (bytes_of w.input.left)) same)
-read_by asked w v status told sound ran fine (inr writer) =
+read_by asked w v status told sound ran (inr writer) =
     let e : Ending = ending_of status in
     let effect : Effect = Makes asked w.folder.files w.input.left status in
     let m = writer.read w.folder.files w.input.left status e w.folder.files v.folder.files (ran.folder.files told) in
-    (m.0, m.1, read_written effect e w.folder v.folder ran.folder told sound (meaning asked m.0) (writer.safe m.0) status fine m.2)
+    (m.0, m.1, read_written effect e w.folder v.folder ran.folder told sound (meaning asked m.0) (writer.safe m.0) status m.2)
 
 pub runs_read : RunsRead
-runs_read asked w v status told sound ran fine = read_by asked w v status told sound ran fine (kind asked)
+runs_read asked w v status told sound ran = read_by asked w v status told sound ran (kind asked)
 
 -- ---- every image
 

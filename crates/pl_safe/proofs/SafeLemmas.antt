@@ -26,9 +26,9 @@ known asked p detail w v status is done ran = subst (λ (s : Status). Ran (Some 
 
 reads_safe : (asked : Option Command) (w v : Outside) (status : Status) → Ran asked w v status → w.folder.tells ≡ true → IsSound (get w.folder.files) → ReadsSafe asked w v status
 reads_safe asked w v status ran told sound = record {
-  reads = λ fine. runs_read asked w v status told sound ran fine;
+  reads = runs_read asked w v status told sound ran;
   scratch = λ p detail is done. files_scratch p detail w v told sound (known asked p detail w v status is done ran);
-  stamps = λ past fine. files_past asked w v status told sound past ran fine;
+  stamps = λ past. files_past asked w v status told sound past ran;
   past = λ past one whole. written_are_past asked w v status told sound past one whole ran;
   originals = λ bytes. others_keep asked bytes (restored w.folder.files);
   load = λ name busy policy is.

@@ -92,8 +92,8 @@ writers_past asked w v status folder told sound past one whole ran image is =
 -- ---- files
 
 pub files_past : FilesStandPastAll
-files_past asked w v status told sound past ran fine =
-    let r = runs_read asked w v status told sound ran fine in
+files_past asked w v status told sound past ran =
+    let r = runs_read asked w v status told sound ran in
     image_past asked r.0 (was w) (keeps_rule w sound) past (get v.folder.files) r.2
 
 module _ (meant : Meaning Cause) (steps : MakesStep meant) (old new : Files) (rule : KeepsTheRule (get (restored old))) (past : IsPastAll (get (restored old))) where

@@ -4,7 +4,7 @@ use Rattle.std.specs.FinMap.{get}
 use Rattle.pl_base.specs.Files.{Files}
 use Rattle.pl_elf.specs.declared.range.Range.{Range}
 use Rattle.pl_folder.specs.Disk.{Name, View, clock}
-use Rattle.pl_folder.specs.Seen.{IsFolder, is_broken}
+use Rattle.pl_folder.specs.Seen.{IsFolder}
 use Rattle.pl_folder.specs.Since.{Since, Within}
 use Rattle.pl_journal.specs.Leaves.{Looks}
 use Rattle.pl_journal.specs.Meaning.{Same}
@@ -20,7 +20,7 @@ use Rattle.pl_sound.specs.Rule.{matches, members}
 use Rattle.pl_journal.specs.Names.{journal}
 use Rattle.pl_words.specs.declared.command.Policy.{Policy}
 use Rattle.pl_cli.specs.Answer.{answer, text_answer}
-use Rattle.pl_cli.specs.Outside.{Outside, ending_of}
+use Rattle.pl_cli.specs.Outside.{Outside}
 use Rattle.pl_cli.specs.Ran.{Ran}
 use Rattle.pl_cli.specs.Writes.{AreBytes}
 use Rattle.pl_cli.specs.declared.command.Command.{Command}
@@ -56,10 +56,10 @@ abbrev pub WritersEnd : Type 0
 WritersEnd =
     (asked : Option Command) (w v : Outside) (status : Status) → IsFolder w.folder → w.folder.records ≡ true → writes asked ≡ true → is_whole status ≡ true → Ran asked w v status → (bytes : List ℕ) × AreBytes w.input.left bytes × Within v.folder.disk.now (Same (after (meaning asked bytes) (restored w.folder.files)))
 
--- what is read after a run over a folder that tells its files alone is sound, and stands for the files before or after, where the folder did not fail
+-- what is read after a run over a folder that tells its files alone is sound, and stands for the files before or after
 abbrev pub RunsRead : Type 0
 RunsRead =
-    (asked : Option Command) (w v : Outside) (status : Status) → w.folder.tells ≡ true → IsSound (get w.folder.files) → Ran asked w v status → is_broken (ending_of status) ≡ false
+    (asked : Option Command) (w v : Outside) (status : Status) → w.folder.tells ≡ true → IsSound (get w.folder.files) → Ran asked w v status
     → (bytes : List ℕ) × AreBytes w.input.left bytes × IsSafeImage (meaning asked bytes) (restored w.folder.files) (get v.folder.files)
 
 -- a command changes at most one name's original
@@ -100,7 +100,7 @@ WritersEndPastAll =
 -- the same of the files that are read after a run over a folder that tells its files alone
 abbrev pub FilesStandPastAll : Type 0
 FilesStandPastAll =
-    (asked : Option Command) (w v : Outside) (status : Status) → w.folder.tells ≡ true → IsSound (get w.folder.files) → IsPastAll (get (restored w.folder.files)) → Ran asked w v status → is_broken (ending_of status) ≡ false → StandsPastAll (get v.folder.files)
+    (asked : Option Command) (w v : Outside) (status : Status) → w.folder.tells ≡ true → IsSound (get w.folder.files) → IsPastAll (get (restored w.folder.files)) → Ran asked w v status → StandsPastAll (get v.folder.files)
 
 abbrev pub WrittenArePastAll : Type 0
 WrittenArePastAll =

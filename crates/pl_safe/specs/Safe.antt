@@ -1,9 +1,8 @@
 -- What holds of a run over a sound folder.
-use Rattle.std.specs.Prelude.{◌≡◌, ℕ, true, false, List, Option, Some}
+use Rattle.std.specs.Prelude.{◌≡◌, ℕ, true, List, Option, Some}
 use Rattle.std.specs.FinMap.{get}
 use Rattle.pl_elf.specs.declared.range.Range.{Range}
 use Rattle.pl_folder.specs.Disk.{View, clock}
-use Rattle.pl_folder.specs.Seen.{is_broken}
 use Rattle.pl_folder.specs.Since.{Since, Within}
 use Rattle.pl_journal.specs.Meaning.{Same}
 use Rattle.pl_batch.specs.Restored.{restored}
@@ -14,7 +13,7 @@ use Rattle.pl_crash.specs.Steps.{IsPastAll}
 use Rattle.pl_known.specs.Skips.{skip_causes}
 use Rattle.pl_words.specs.declared.command.Policy.{Policy}
 use Rattle.pl_cli.specs.Answer.{answer, text_answer}
-use Rattle.pl_cli.specs.Outside.{Outside, ending_of}
+use Rattle.pl_cli.specs.Outside.{Outside}
 use Rattle.pl_cli.specs.Words.{bytes_of}
 use Rattle.pl_cli.specs.Writes.{AreBytes}
 use Rattle.pl_cli.specs.declared.command.Command.{Command}
@@ -28,12 +27,12 @@ use Rattle.pl_safe.specs.Runs.{IsFromScratch, KeepsOriginals, LeavesPastAll, Lea
 
 -- A run of what words ask for, with w outside before it and v after it: what it answers, and what is read of the folder after it.
 pub record ReadsSafe (asked : Option Command) (w v : Outside) (status : Status) : Type 0 where
-  -- the files after it are sound, and stand for those before it or for those that its command makes of them, where the folder did not fail
-  pub reads : is_broken (ending_of status) ≡ false → (bytes : List ℕ) × AreBytes w.input.left bytes × IsSafeImage (meaning asked bytes) (restored w.folder.files) (get v.folder.files)
+  -- the files after it are sound, and stand for those before it or for those that its command makes of them
+  pub reads : (bytes : List ℕ) × AreBytes w.input.left bytes × IsSafeImage (meaning asked bytes) (restored w.folder.files) (get v.folder.files)
   -- after `-a` they are those from scratch
   pub scratch : (p : Prelinking) (detail : Detail) → asked ≡ Some (All p detail) → status ≡ statuses.Done → IsFromScratch (restored w.folder.files) p (get v.folder.files)
   -- where no stamp was past the last one of the cache, none is of the files that they stand for,
-  pub stamps : IsPastAll (get (restored w.folder.files)) → is_broken (ending_of status) ≡ false → StandsPastAll (get v.folder.files)
+  pub stamps : IsPastAll (get (restored w.folder.files)) → StandsPastAll (get v.folder.files)
   -- nor, after a command that writes, is done or refused, of themselves
   pub past : IsPastAll (get (restored w.folder.files)) → writes asked ≡ true → is_whole status ≡ true → IsPastAll (get v.folder.files)
   -- at most one name's original is not the one before

@@ -10,7 +10,7 @@ pub fn every_run_is_safe()
     ensures writers { WritersEnd }
 {}
 
-/// What is read of a folder that tells its files alone, after a run over one that reads as a sound one: where the folder did not fail, it is sound, and stands for the files before the run or for those after it.
+/// What is read of a folder that tells its files alone, after a run over one that reads as a sound one, however the run ends: it is sound, and stands for the files before the run or for those after it.
 pub fn runs_read_as_safe()
     ensures { RunsRead }
 {}
