@@ -46,7 +46,11 @@ use Rattle.pl_scope.proofs.NameLaws.{eq_refl, has_cons}
 use Rattle.pl_scope.proofs.WalkedLaws.{limit_is}
 use Rattle.pl_sound.specs.Plan.{Plan, planned_member}
 use Rattle.pl_sound.specs.Rule.{Files, Member, object_at, objects, original_at}
-use Rattle.pl_fast.proofs.PlaceLaws.{tail_apart}
+
+-- of the pairs of some more windows none meets
+pub tail_apart : (xs ys : List Window) → any_share (xs ++ ys) ≡ false → any_share ys ≡ false
+tail_apart [] ys apart = apart
+tail_apart (x ∷ xs) ys apart = tail_apart xs ys (or_parts (list_any (share x) (xs ++ ys)) (any_pair share (xs ++ ys)) apart).1
 
 flip : (a b c d : Bool) → (a && b && c && d) ≡ (b && a && d && c)
 flip true true true true = refl
