@@ -14,11 +14,9 @@ use std::os::unix::fs::MetadataExt;
 // The most bytes of a path, as the system's PATH_MAX without the ending zero.
 const MAX_PATH: usize = 4095;
 
-/// A name of a folder, with its path, which takes no memory.
+/// A name of a folder: its path, which takes no memory.
 #[derive(Drop)]
-pub(crate) struct Entry<'f, 'n> {
-    folder: &'f str,
-    name: &'n str,
+pub(crate) struct Entry {
     path: ArrayString<MAX_PATH>,
 }
 
@@ -64,16 +62,16 @@ fn if_same<F: OpenFile + Drop>(file: F, looked: &Metadata) -> io::Result<Option<
     }
 }
 
-impl<'f, 'n> Entry<'f, 'n> {
+impl Entry {
     /// A name of a folder. It fails only where the path is too long.
-    pub(crate) fn new(folder: &'f str, name: &'n str) -> io::Result<Entry<'f, 'n>>
+    pub(crate) fn new(folder: &str, name: &str) -> io::Result<Entry>
         ensures path { IfOk result (λ entry. entry.path.bytes ≡ (folder.now ++ codes "/") ++ name.now) }
         ensures fault { IfErr result (λ error. error_kind error ≡ InvalidInput) }
     {
         let mut path = ArrayString::from(folder).map_err(too_long)?;
         path.try_push_str("/").map_err(too_long)?;
         path.try_push_str(name).map_err(too_long)?;
-        Ok(Entry { folder, name, path })
+        Ok(Entry { path })
     }
 
     /// Its path.
@@ -83,9 +81,25 @@ impl<'f, 'n> Entry<'f, 'n> {
         self.path.as_str()
     }
 
-    /// Whether it is one of the program's own.
+    // The path of the folder.
+    fn folder(&self) -> &str {
+        match self.path().rsplit_once('/') {
+            Some((folder, _)) => folder,
+            None => self.path(),
+        }
+    }
+
+    // The name.
+    fn name(&self) -> &str {
+        match self.path().rsplit_once('/') {
+            Some((_, name)) => name,
+            None => self.path(),
+        }
+    }
+
+    /// Whether the name is one of the program's own.
     pub(crate) fn is_own(&self) -> bool {
-        is_own_name(self.name.as_bytes())
+        is_own_name(self.name().as_bytes())
     }
 
     /// What has the name, if anything. An own name of a file that is `Foreign` is an error.
@@ -93,7 +107,7 @@ impl<'f, 'n> Entry<'f, 'n> {
         let there = look_at(rt, self.path())?;
         if self.is_own() {
             if let Some(metadata) = &there {
-                require_trusted(rt, self.folder, metadata)?;
+                require_trusted(rt, self.folder(), metadata)?;
             }
         }
         Ok(there)
@@ -110,7 +124,7 @@ impl<'f, 'n> Entry<'f, 'n> {
 
     /// Whether what has the name is in the way of a file: a valid name's directory, socket, fifo or device. What has an own name, and a symbolic link, count as not there.
     pub(crate) fn blocks(&self, there: &Metadata) -> bool {
-        is_valid_name(self.name.as_bytes()) && !there.is_file() && !there.is_symlink()
+        is_valid_name(self.name().as_bytes()) && !there.is_file() && !there.is_symlink()
     }
 
     /// Removes what has the name, whatever it is: a directory only where it is empty. What is in the way of a file is an error, and stays.

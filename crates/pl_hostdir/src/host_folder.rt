@@ -60,7 +60,7 @@ where
 
     /// Counts the files that are read and written from now on on a line for people.
     pub fn show(&mut self, progress: &'p Progress)
-        ensures seen { self.new.faults ≡ self.old.faults }
+        ensures seen { ⟦<HostFolder<'p, R> as Folder>⟧.seen self.new ≡ ⟦<HostFolder<'p, R> as Folder>⟧.seen self.old }
         ensures path { folder_path self.new ≡ folder_path self.old }
     {
         self.progress = Some(progress);

@@ -1,4 +1,4 @@
-//! The program `prelink`: the top call over the folder that it runs in, its standard input and output, and the clock.
+//! The program `prelink`: the top call over the folder that it runs in, its standard input and output, and the clock, and lines for people on standard error.
 #![tactic(auto)]
 
 ghost use Rattle.std.specs.Prelude.{◌≡◌, ◌≢◌, drop, is_ok, true, IfErr, IfOk};
@@ -10,7 +10,8 @@ ghost use Rattle.pl_cli.specs.Statuses.{code_of};
 ghost use Rattle.prelink.specs.Words.{after_first};
 
 use pl_cli::Status;
-use pl_hostdir::HostFolder;
+use pl_explain::{Ended, KeptReader, KeptWriter, LastLine, explain};
+use pl_hostdir::{AfterProgress, HostFolder, Progress};
 use pl_io::{StdSink, StdSource};
 use pl_safe::run;
 use std::alloc::{AllocError, Global};
@@ -57,15 +58,39 @@ fn exit_code(status: Status) -> ExitCode
     ExitCode::from(status.code())
 }
 
+/// Tells people how the run ended, on standard error. That it takes nothing changes nothing.
+fn tell(rt: HostRuntime, ended: &Ended<'_>) {
+    let mut to = rt.stderr();
+    let _ = explain(&mut to, ended);
+}
+
+/// What the program ends with where there is no memory for the words or the folder.
+fn end_without_memory(rt: HostRuntime) -> ExitCode {
+    let ended = Ended {
+        status: Status::NoMemory,
+        words: &[],
+        line: b"",
+        folder: None,
+        input: None,
+        output: None,
+    };
+    tell(rt, &ended);
+    exit_code(Status::NoMemory)
+}
+
 fn main(rt: HostRuntime) -> ExitCode {
+    let progress = Progress::new(rt.stderr());
     let Ok(words) = words_of(rt.alloc(), env::args(&rt)) else {
-        return exit_code(Status::NoMemory);
+        return end_without_memory(rt);
     };
     let Ok(mut folder) = HostFolder::new(&rt, rt.alloc(), ".") else {
-        return exit_code(Status::NoMemory);
+        return end_without_memory(rt);
     };
-    let mut input = StdSource::new(rt.reader());
-    let mut output = StdSink::new(io::writer(&rt));
+    folder.show(&progress);
+    let mut reader = KeptReader::new(rt.reader());
+    let mut writer = KeptWriter::new(AfterProgress::new(io::writer(&rt), &progress));
+    let mut input = StdSource::new(&mut reader);
+    let mut output = LastLine::new(StdSink::new(&mut writer));
     let now = seconds(&rt);
     let status = run(
         rt.alloc(),
@@ -75,5 +100,15 @@ fn main(rt: HostRuntime) -> ExitCode {
         &mut output,
         now,
     );
+    progress.end();
+    let ended = Ended {
+        status,
+        words: &words,
+        line: output.line(),
+        folder: folder.first_fault(),
+        input: reader.error(),
+        output: writer.error(),
+    };
+    tell(rt, &ended);
     exit_code(status)
 }
