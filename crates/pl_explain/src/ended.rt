@@ -1,9 +1,6 @@
-ghost use Rattle.std.specs.Prelude.{◌≡◌, true, IsOk};
-ghost use Rattle.pl_explain.specs.Quiet.{is_quiet};
-
 use pl_cli::Status;
 use pl_hostdir::FirstFault;
-use std::io::{self, Write};
+use std::io;
 
 /// How a run ended, and what was seen of the outside.
 #[derive(Clone, Copy)]
@@ -25,17 +22,4 @@ pub struct Ended<'a> {
 
     /// The first error of the output.
     pub output: Option<&'a io::Error>,
-}
-
-/// Writes lines for people about a run that ended, each with `prelink: ` before it: nothing where the command was done or a file differs, and then no call is made of the writer.
-///
-/// An error is one of the writer.
-pub fn explain<W: Write>(to: &mut W, ended: &Ended<'_>) -> io::Result<()>
-    ensures quiet { is_quiet ended.now.status ≡ true → to.new ≡ to.old }
-    ensures quiet_ok { is_quiet ended.now.status ≡ true → IsOk result }
-{
-    match ended.status {
-        Status::Done | Status::Differs => Ok(()),
-        _ => to.write_all(b"prelink: it ended otherwise\n"),
-    }
 }
