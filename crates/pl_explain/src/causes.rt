@@ -4,7 +4,7 @@
 pub fn sentence(cause: &[u8]) -> Option<&'static str> {
     match cause {
         b"BadName" => Some(
-            "The name is not valid: a name has 1 to 255 bytes from 0x21 to 0x7e without a slash, is neither . nor .., and does not begin with .prelink. and more.",
+            "The name is not valid: it is empty, longer than 255 bytes, . or .., begins with .prelink. or has a slash or a byte that is not from 0x21 to 0x7e.",
         ),
         b"NotThere" => Some("The folder has no regular file of this name."),
         b"FileTooLarge" => Some("The file is longer than 256 MiB."),

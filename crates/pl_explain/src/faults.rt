@@ -1,7 +1,7 @@
-// The calls of the folder that may fail, and the reasons that are no error of the system, one sentence each. The manual page has the same table.
-use pl_hostdir::Call;
+// The calls of the folder that may fail, and why they do where the system gives no error, one sentence each. The manual page has the same table.
+use pl_hostdir::{Call, Reason};
 
-/// What could not be done.
+/// What could not be done. The system's words follow.
 pub fn sentence(call: Call) -> &'static str {
     match call {
         Call::List => "The names of the folder could not be listed",
@@ -16,19 +16,23 @@ pub fn sentence(call: Call) -> &'static str {
     }
 }
 
-/// Another command holds the folder.
-pub const BUSY: &str =
-    "Another prelink command writes in this folder. Nothing was done; try again when it has ended.";
+/// The sentence of a reason that is no error of the system.
+pub fn reason(reason: &Reason) -> Option<&'static str> {
+    match reason {
+        Reason::System(_) => None,
+        Reason::Busy => Some(
+            "Another prelink command writes in this folder. Nothing was done; try again when it has ended.",
+        ),
+        Reason::NotAFile => Some(
+            "The name is that of a directory, a socket, a fifo or a device, and of no regular file.",
+        ),
+        Reason::Foreign => Some(
+            "The name is one of the program's own, and its file belongs neither to you nor to the owner of the folder nor to root. Nothing was done with it; remove it if nobody needs it.",
+        ),
+    }
+}
 
-/// The name is that of no regular file.
-pub const NOT_A_FILE: &str =
-    "The name is that of a directory, a socket, a fifo or a device, and of no regular file.";
-
-/// The name is the program's own, and its file is somebody else's.
-pub const FOREIGN: &str =
-    "The name is one of the program's own, and its file belongs neither to you nor to the owner of the folder nor to root. Nothing was done with it; remove it if nobody needs it.";
-
-/// A call of the folder failed.
+/// A call of the folder failed, and none is known.
 pub const FOLDER: &str = "The folder failed";
 
 /// The input failed.

@@ -30,9 +30,7 @@ fn tell_fault<W: Write>(to: &mut W, fault: &FirstFault) -> io::Result<()> {
     }
     match &fault.reason {
         Reason::System(error) => writeln!(to, "{}: {error}", faults::sentence(fault.call)),
-        Reason::Busy => writeln!(to, "{}", faults::BUSY),
-        Reason::NotAFile => writeln!(to, "{}", faults::NOT_A_FILE),
-        Reason::Foreign => writeln!(to, "{}", faults::FOREIGN),
+        reason => writeln!(to, "{}", faults::reason(reason).unwrap_or(faults::FOLDER)),
     }
 }
 
