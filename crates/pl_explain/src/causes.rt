@@ -9,7 +9,7 @@ pub fn sentence(cause: &[u8]) -> Option<&'static str> {
         b"NotThere" => Some("The folder has no regular file of this name."),
         b"FileTooLarge" => Some("The file is longer than 256 MiB."),
         b"BadMark" => Some(
-            "The file bears a mark of a prelinked file and is none: something else changed it.",
+            "The file bears the mark of a prelinked file, and is not one as prelink makes it: something else made or changed it.",
         ),
         b"Refused" => Some(
             "The file is no program or library that is accepted. The first number is that of the acceptance clause.",
@@ -73,9 +73,7 @@ pub fn remedy(cause: &[u8]) -> Option<&'static str> {
         b"BadMark" => Some(
             "Put the file of before in its place. Undo prelinked files (prelink -u NAME) before strip, patchelf and the like change them.",
         ),
-        b"NoPlace" => Some(
-            "Give other addresses by --busy or another --policy, if the words have one.",
-        ),
+        b"NoPlace" => Some("With fewer addresses of --busy more is left."),
         b"BadJournal" => Some(
             "Nothing was changed. Delete .prelink.journal; what the interrupted command did not do stays undone.",
         ),

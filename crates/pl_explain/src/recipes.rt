@@ -7,7 +7,7 @@ pub fn sentence(kind: u64) -> Option<&'static str> {
             "The line is not in the grammar of recipes, or a name in it is not valid; the first line has to say what is made.",
         ),
         2 => Some(
-            "A number of the line is over its limit, or a word of the line passes the data or meets another packed word.",
+            "A number of the line is over its limit, a word passes the data, or a packed word is at an odd offset or meets another one.",
         ),
         3 => Some("The line names a symbol or a version that no line of the recipe defines."),
         4 => Some(
