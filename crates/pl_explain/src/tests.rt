@@ -1,3 +1,4 @@
+use crate::table::row;
 use crate::{Ended, KeptReader, KeptWriter, LastLine, causes, clauses, explain, forms, recipes};
 use arrayvec::ArrayString;
 use pl_cli::Status;
@@ -14,39 +15,33 @@ use std::test::Fail;
 const CAUSES: &str =
     "BadName NotThere FileTooLarge BadMark Refused Static Form NotProgram NeededIsProgram TooMany TlsTooLarge NoPlace Undefined UndefinedTls TlsMismatch CopyOutside BadJournal BadCache TooManyFiles FolderTooLarge NoSlot StampsSpent NotPie NotFixed InputTooLarge Recipe Script";
 
-/// Asserts that the numbers from 1 to the last alone have sentences, no two the same.
-fn are_told<F: Fn(u64) -> Option<&'static str>>(rt: &impl Abort, last: u64, sentence: F)
-    requires { F.IsAlwaysCallable sentence }
-{
-    for number in 0..40 {
-        let there = 1 <= number && number <= last;
-        assert_eq!(rt;
-            sentence(number).is_some_and(|text| !text.is_empty()),
-            there
-        );
-        for other in 0..number {
-            assert!(rt; !there || sentence(number) != sentence(other));
-        }
+/// Asserts that the rows of a table are those of the numbers from 1 to the last, in their order, with sentences of which no two are the same.
+fn are_told(rt: &impl Abort, table: &str, last: u64) -> Result<(), Fail> {
+    let mut count = 0u64;
+    for line in table.split('\n') {
+        let (key, text) = line.split_once(' ').ok_or("a space")?;
+        count = count.saturating_add(1);
+        assert_eq!(rt; key.parse::<u64>()?, count);
+        assert!(rt; text.len() > 10 && table.matches(text).count() == 1);
     }
+    assert_eq!(rt; count, last);
+    Ok(())
 }
 
 #[test]
-fn each_number_has_its_sentence(rt: HostRuntime) {
-    are_told(&rt, 31, clauses::sentence);
-    are_told(&rt, 6, forms::sentence);
-    are_told(&rt, 5, recipes::sentence);
+fn each_number_has_its_sentence(rt: HostRuntime) -> Result<(), Fail> {
+    are_told(&rt, clauses::SENTENCES, 31)?;
+    are_told(&rt, forms::SENTENCES, 6)?;
+    are_told(&rt, recipes::SENTENCES, 5)
 }
 
 #[test]
 fn each_cause_has_its_sentence(rt: HostRuntime) {
     for cause in CAUSES.split(' ') {
-        let sentence = causes::sentence(cause.as_bytes());
-        assert!(rt; sentence.is_some_and(|text| !text.is_empty()), "{cause}");
-        for other in CAUSES.split(' ') {
-            assert!(rt; cause == other || causes::sentence(other.as_bytes()) != sentence);
-        }
+        let text = row(causes::SENTENCES, cause).unwrap_or("");
+        assert!(rt; text.len() > 10, "{cause}");
     }
-    assert!(rt; causes::sentence(b"NoMemory").is_none());
+    assert!(rt; row(causes::SENTENCES, "NoMemory").is_none());
 }
 
 // ---- what is said
