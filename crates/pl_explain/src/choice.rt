@@ -25,30 +25,61 @@ pub enum Choice {
     Weave,
 }
 
+const CHOICES: [Choice; 19] = [
+    Choice::Load,
+    Choice::Busy,
+    Choice::Policy,
+    Choice::Order,
+    Choice::All,
+    Choice::DryRun,
+    Choice::Verbose,
+    Choice::ConserveMemory,
+    Choice::Region,
+    Choice::Undo,
+    Choice::Verify,
+    Choice::Install,
+    Choice::Remove,
+    Choice::Make,
+    Choice::Fix,
+    Choice::Unfix,
+    Choice::PrintCache,
+    Choice::Demo,
+    Choice::Weave,
+];
+
 impl Choice {
     /// The option that is spelled so behind two dashes.
     pub fn by_name(name: &str) -> Option<Choice> {
-        match name {
-            "load" => Some(Choice::Load),
-            "busy" => Some(Choice::Busy),
-            "policy" => Some(Choice::Policy),
-            "order" => Some(Choice::Order),
-            "all" => Some(Choice::All),
-            "dry-run" => Some(Choice::DryRun),
-            "verbose" => Some(Choice::Verbose),
-            "conserve-memory" => Some(Choice::ConserveMemory),
-            "region" => Some(Choice::Region),
-            "undo" => Some(Choice::Undo),
-            "verify" => Some(Choice::Verify),
-            "install" => Some(Choice::Install),
-            "remove" => Some(Choice::Remove),
-            "make" => Some(Choice::Make),
-            "fix" => Some(Choice::Fix),
-            "unfix" => Some(Choice::Unfix),
-            "print-cache" => Some(Choice::PrintCache),
-            "demo" => Some(Choice::Demo),
-            "weave" => Some(Choice::Weave),
-            _ => None,
+        for choice in CHOICES.iter() {
+            if choice.name() == name {
+                return Some(*choice);
+            }
+        }
+        None
+    }
+
+    /// How the option is spelled behind two dashes.
+    fn name(self) -> &'static str {
+        match self {
+            Choice::Load => "load",
+            Choice::Busy => "busy",
+            Choice::Policy => "policy",
+            Choice::Order => "order",
+            Choice::All => "all",
+            Choice::DryRun => "dry-run",
+            Choice::Verbose => "verbose",
+            Choice::ConserveMemory => "conserve-memory",
+            Choice::Region => "region",
+            Choice::Undo => "undo",
+            Choice::Verify => "verify",
+            Choice::Install => "install",
+            Choice::Remove => "remove",
+            Choice::Make => "make",
+            Choice::Fix => "fix",
+            Choice::Unfix => "unfix",
+            Choice::PrintCache => "print-cache",
+            Choice::Demo => "demo",
+            Choice::Weave => "weave",
         }
     }
 

@@ -1,3 +1,5 @@
+ghost use Rattle.std.specs.Prelude.{◌≡◌};
+
 use std::io::{self, Read};
 
 /// A reader that keeps its first error, over another one, whose contract it has.
@@ -9,7 +11,9 @@ pub struct KeptReader<R: Read> {
 
 impl<R: Read> KeptReader<R> {
     /// A reader over another one, before any call.
-    pub fn new(reader: R) -> KeptReader<R> {
+    pub fn new(reader: R) -> KeptReader<R>
+        ensures { ⟦<KeptReader<R> as Read>⟧.remaining result ≡ R.remaining reader }
+    {
         KeptReader {
             reader,
             error: None,

@@ -1,3 +1,5 @@
+ghost use Rattle.std.specs.Prelude.{◌≡◌};
+
 use std::io::{self, Write};
 
 /// A writer that keeps its first error, over another one, whose contract it has.
@@ -9,7 +11,9 @@ pub struct KeptWriter<W: Write> {
 
 impl<W: Write> KeptWriter<W> {
     /// A writer over another one, before any call.
-    pub fn new(writer: W) -> KeptWriter<W> {
+    pub fn new(writer: W) -> KeptWriter<W>
+        ensures { ⟦<KeptWriter<W> as Write>⟧.contents result ≡ W.contents writer }
+    {
         KeptWriter {
             writer,
             error: None,

@@ -1,3 +1,5 @@
+ghost use Rattle.std.specs.Prelude.{◌≡◌};
+
 use crate::line::Line;
 use pl_io::{Failed, Sink};
 
@@ -10,7 +12,9 @@ pub struct LastLine<K: Sink> {
 
 impl<K: Sink> LastLine<K> {
     /// A sink over another one, before any call.
-    pub fn new(sink: K) -> LastLine<K> {
+    pub fn new(sink: K) -> LastLine<K>
+        ensures { ⟦<LastLine<K> as Sink>⟧.seen result ≡ K.seen sink }
+    {
         LastLine {
             sink,
             line: Line::new(),

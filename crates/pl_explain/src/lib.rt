@@ -16,6 +16,7 @@ mod line;
 mod outside;
 mod recipes;
 mod refusal;
+mod table;
 #[cfg(test)]
 mod tests;
 mod values;

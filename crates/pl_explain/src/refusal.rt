@@ -1,6 +1,10 @@
 // The line of a refusal, and what is said of it.
+use crate::table::row;
 use crate::{causes, clauses, forms, recipes};
 use std::io::{self, Write};
+
+/// What is said of a line that is none of a refusal.
+const REFUSED: &str = "The command was refused.";
 
 /// What the line of a refusal tells: its cause, and the words behind it.
 #[derive(Clone, Copy, Debug, PartialEq, Eq)]
@@ -28,11 +32,6 @@ fn read_refusal(line: &[u8]) -> Option<Refusal<'_>> {
     })
 }
 
-/// The number that a word spells.
-fn number(word: Option<&str>) -> Option<u64> {
-    word?.parse::<u64>().ok()
-}
-
 impl<'a> Refusal<'a> {
     /// Writes the name, the symbol or the line that the cause is about.
     fn tell_about<W: Write>(&self, to: &mut W) -> io::Result<()> {
@@ -51,9 +50,7 @@ impl<'a> Refusal<'a> {
 
     /// Writes the sentence of the cause.
     fn tell_cause<W: Write>(&self, to: &mut W) -> io::Result<()> {
-        let sentence = causes::sentence(self.cause.as_bytes()).unwrap_or(
-            "The command was refused.",
-        );
+        let sentence = row(causes::SENTENCES, self.cause).unwrap_or(REFUSED);
         to.write_all(b"prelink: ")?;
         self.tell_about(to)?;
         writeln!(to, "{sentence}")
@@ -61,17 +58,19 @@ impl<'a> Refusal<'a> {
 
     /// Writes the sentence of the number that stands with the cause, and what can be done about it.
     fn tell_number<W: Write>(&self, to: &mut W) -> io::Result<()> {
-        let Some(number) = number(self.second) else {
-            return Ok(());
-        };
+        let number = self.second.unwrap_or("");
         let (kind, sentence, remedy) = match self.cause {
             "Refused" => (
                 "Acceptance clause",
-                clauses::sentence(number),
-                clauses::remedy(number),
+                row(clauses::SENTENCES, number),
+                row(clauses::REMEDIES, number),
             ),
-            "Form" => ("Form fault", forms::sentence(number), forms::remedy(number)),
-            "Recipe" => ("Fault", recipes::sentence(number), None),
+            "Form" => (
+                "Form fault",
+                row(forms::SENTENCES, number),
+                row(forms::REMEDIES, number),
+            ),
+            "Recipe" => ("Fault", row(recipes::SENTENCES, number), None),
             _ => ("", None, None),
         };
         if let Some(sentence) = sentence {
@@ -92,9 +91,9 @@ fn tell_remedy<W: Write>(to: &mut W, remedy: Option<&str>) -> io::Result<()> {
 /// Writes why a command was refused, by the line that says so.
 pub fn tell_refusal<W: Write>(to: &mut W, line: &[u8]) -> io::Result<()> {
     let Some(refusal) = read_refusal(line) else {
-        return writeln!(to, "prelink: The command was refused.");
+        return writeln!(to, "prelink: {REFUSED}");
     };
     refusal.tell_cause(to)?;
     refusal.tell_number(to)?;
-    tell_remedy(to, causes::remedy(refusal.cause.as_bytes()))
+    tell_remedy(to, row(causes::REMEDIES, refusal.cause))
 }

@@ -6,7 +6,9 @@ ghost use Rattle.pl_base.specs.Names.{IsNameLength};
 ghost use Rattle.pl_folder.specs.Calls.{GivesNames, IsPlain};
 ghost use Rattle.pl_folder.specs.Seen.{Broken, fault_ending, is_broken};
 ghost use Rattle.pl_io.specs.Scripts.{one_more};
-ghost use Rattle.pl_hostdir.specs.Errors.{fault_of};
+ghost use Rattle.std.specs.IoError.{error_kind};
+ghost use Rattle.pl_hostdir.specs.Errors as spec;
+ghost use Rattle.pl_hostdir.specs.Errors.{calling_fault};
 ghost use Rattle.pl_hostdir.specs.Listing.{is_listed};
 ghost use Rattle.pl_hostdir.specs.Unseen.{unseen};
 ghost use Rattle.std.proofs.lemmas.Bool.{false≢true};
@@ -85,23 +87,38 @@ where
 
     // What a fault means for a call that takes memory: a want of memory, or else a fault, which is counted.
     fn stop(&mut self, fault: FirstFault) -> FolderFault
-        ensures kind { result ≡ fault_of fault.reason }
+        ensures kind { result ≡ spec.fault_of fault.reason }
         ensures plain { IsPlain result }
         ensures counted { fault_ending result ≡ Broken → self.new.faults ≡ one_more self.old.faults }
         ensures count { Counted (is_broken (fault_ending result)) self.old.faults self.new.faults }
     {
-        if is_out_of_memory(&fault.reason) {
-            return FolderFault::NoMemory;
+        let meaning = fault_of(&fault.reason);
+        if matches!(meaning, FolderFault::Failed) {
+            self.fail(fault);
         }
-        FolderFault::from(self.fail(fault))
+        meaning
     }
 }
 
-// Whether a reason is a want of memory.
-fn is_out_of_memory(reason: &Reason) -> bool {
+// What an error of the system means for a call that takes memory.
+fn system_fault(error: &io::Error) -> FolderFault
+    ensures kind { result ≡ calling_fault (error_kind error.now) }
+    ensures plain { IsPlain result }
+{
+    match error.kind() {
+        io::ErrorKind::OutOfMemory => FolderFault::NoMemory,
+        _ => FolderFault::Failed,
+    }
+}
+
+// What a reason means for a call that takes memory.
+fn fault_of(reason: &Reason) -> FolderFault
+    ensures kind { result ≡ spec.fault_of reason.now }
+    ensures plain { IsPlain result }
+{
     match reason {
-        Reason::System(error) => error.kind() == io::ErrorKind::OutOfMemory,
-        _ => false,
+        Reason::System(error) => system_fault(error),
+        Reason::Busy | Reason::NotAFile | Reason::Foreign => FolderFault::Failed,
     }
 }
 

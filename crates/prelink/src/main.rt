@@ -1,14 +1,16 @@
 //! The program `prelink`: the top call over the folder that it runs in, its standard input and output, and the clock, and lines for people on standard error.
 #![tactic(auto)]
 
-ghost use Rattle.std.specs.Prelude.{◌≡◌, ◌≢◌, drop, is_ok, true, IfErr, IfOk};
+ghost use Rattle.std.specs.Prelude.{◌≡◌, ◌≢◌, ◌≤◌, drop, is_ok, length, true, IfErr, IfOk};
 ghost use Rattle.std.specs.IoError.{error_kind};
 ghost use Rattle.std.specs.Process.{exit_status};
 ghost use Rattle.std.specs.Vec.Iter.{into_iter_items};
 ghost use Rattle.std.specs.declared.io.ErrorKind.TheVariants.{OutOfMemory};
 ghost use Rattle.pl_cli.specs.Statuses.{code_of};
 ghost use Rattle.prelink.specs.Words.{after_first};
+ghost use Rattle.prelink.specs.declared.TheConstants.{LINE};
 
+use arrayvec::ArrayVec;
 use pl_cli::Status;
 use pl_explain::{Ended, KeptReader, KeptWriter, LastLine, explain};
 use pl_hostdir::{AfterProgress, HostFolder, Progress};
@@ -20,6 +22,9 @@ use std::io;
 use std::process::ExitCode;
 use std::rt::Clock;
 use std::time::{SystemTime, UNIX_EPOCH};
+
+/// The most bytes of the last line that the output keeps.
+const LINE: usize = 512;
 
 /// The words after the program's name, which is the first.
 fn after_name(alloc: Global, words: Args) -> Result<Vec<String>, AllocError>
@@ -56,6 +61,15 @@ fn exit_code(status: Status) -> ExitCode
     ensures { exit_status result ≡ code_of status }
 {
     ExitCode::from(status.code())
+}
+
+/// A copy of a line of at most `LINE` bytes, and none of a longer one. It borrows nothing of the output, whose writer is asked for its error next.
+fn copy_of(line: &[u8]) -> ArrayVec<u8, LINE>
+    ensures { length line.now ≤ LINE → result.items ≡ line.now }
+{
+    let mut copy = ArrayVec::new();
+    let _ = copy.try_extend_from_slice(line);
+    copy
 }
 
 /// Tells people how the run ended, on standard error. That it takes nothing changes nothing.
@@ -101,10 +115,11 @@ fn main(rt: HostRuntime) -> ExitCode {
         now,
     );
     progress.end();
+    let line = copy_of(output.line());
     let ended = Ended {
         status,
         words: &words,
-        line: output.line(),
+        line: line.as_slice(),
         folder: folder.first_fault(),
         input: reader.error(),
         output: writer.error(),
