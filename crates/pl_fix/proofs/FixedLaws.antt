@@ -112,12 +112,12 @@ module _ (bytes : List ℕ) (o : Object) (at : ℕ) (some : pie bytes ≡ Some o
         (subst (λ (xs : List ℕ). dynamic xs (ss_of xs) ≡ Ok read_as.0) same read_as.1))
   ]
 
-none_by : (file : List ℕ) (found : Option Marked) → marked_in file ≡ found → ((m : Marked) → IsFormOf file m → ⊥) → found ≡ None
-none_by file None is none = refl
-none_by file (Some m) is none = absurd (none m (nothing_else_is_read file m is))
+none_by : (xs : List ℕ) (found : Option Marked) → marked_in xs ≡ found → ((m : Marked) → IsFormOf xs m → ⊥) → found ≡ None
+none_by xs None e none = refl
+none_by xs (Some m) e none = absurd (none m (nothing_else_is_read xs m e))
 
-pub no_mark : (file : List ℕ) → ((m : Marked) → IsFormOf file m → ⊥) → marked_in file ≡ None
-no_mark file none = none_by file (marked_in file) refl none
+pub no_mark : (xs : List ℕ) → ((m : Marked) → IsFormOf xs m → ⊥) → marked_in xs ≡ None
+no_mark xs none = none_by xs (marked_in xs) refl none
 
 pub made_bare : (bytes : List ℕ) (o : Object) (at : ℕ) → pie bytes ≡ Some o → MayBeFixed o at → marked_in (fixed_bytes at o bytes) ≡ None
 made_bare bytes o at some may = no_mark (fixed_bytes at o bytes) (no_form bytes o at some may)

@@ -55,8 +55,11 @@ returns-in_err-carry_out-clause-fixes g c = then_holds c.in_ok-made.ensures.foun
     let fault = c.in_err-carry_out.field-0.0 in
     let all = c.in_ok-made.made in
     at_err (λ r. Fixes choose name r (seen c.args.held.now.folder) (seen c.carry_out.new.held.folder)) c.from_residual-in_err-carry_out.result (of_journal fault) c.from_residual-in_err-carry_out.ensures.1
-    (record { calls = stops_making (ready_for name) (λ files. replacement_of (fixed_as choose name) files name) (g.met.D.Folder.is_folder c.args.held.now.folder) c.in_ok-start_for.ensures.calls all.rows (of_made all finds.found) c.in_ok-start_for.ensures.rested fault c.in_err-carry_out.ensures.plain
-    (subst (λ (rows : List Change). Calls (journal_ending fault) (CarriesOut rows) (seen c.fix_changes.new.folder) (seen c.carry_out.new.held.folder)) c.as_slice.ensures c.in_err-carry_out.ensures.calls); told = tt }))
+    (record {
+      calls = stops_making (ready_for name) (λ files. replacement_of (fixed_as choose name) files name) (g.met.D.Folder.is_folder c.args.held.now.folder) c.in_ok-start_for.ensures.calls all.rows (of_made all finds.found) c.in_ok-start_for.ensures.rested fault c.in_err-carry_out.ensures.plain
+          (subst (λ (rows : List Change). Calls (journal_ending fault) (CarriesOut rows) (seen c.fix_changes.new.folder) (seen c.carry_out.new.held.folder)) c.as_slice.ensures c.in_err-carry_out.ensures.calls);
+      told = tt;
+    }))
 
 pub returns-clause-fixes : goal.returns-clause-fixes
 returns-clause-fixes g c = then_holds c.in_ok-made.ensures.found (λ choose finds.

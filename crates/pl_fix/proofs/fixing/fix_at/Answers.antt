@@ -22,4 +22,4 @@ returns-in_ok-fix-in-Some c =
     let o = c.args.object.now in
     let at = c.in-Some.address in
     let place : IsPlace pie_holes o.span o.align at = rw c.in-Some.is at c.requires.place in
-    rw (c.in-Some.is, place_fits o at place) (ap (λ (file : List ℕ). Fixed at file) (c.from_vec.ensures ∙ c.in_ok-fix-in-Some.ensures))
+    rw (c.in-Some.is, place_fits o at place) (ap (λ (file : List ℕ). Fixed at file) (c.from_vec-bytes.ensures ∙ c.in_ok-fix-in-Some.ensures))
