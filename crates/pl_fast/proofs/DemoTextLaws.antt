@@ -1,5 +1,5 @@
 -- The text of `--demo`: its loads answer as by linking the originals, and its files have the relocations of their recipes.
-use Rattle.std.proofs.Common.{◌≡◌, ℕ, zero, suc, ◌+◌, ◌*◌, ◌%◌, ◌^◌, ◌<◌, ◌≤◌, Bool, true, false, List, [], ◌∷◌, length, map, Option, Some, None, Result, Ok, Err, refl, sym, ap, subst, ◌∙◌, arith, drop, length-append}
+use Rattle.std.proofs.Common.{◌≡◌, ◌++◌, ℕ, zero, suc, ◌+◌, ◌*◌, ◌%◌, ◌^◌, ◌<◌, ◌≤◌, Bool, true, false, List, [], ◌∷◌, length, map, Option, Some, None, Result, Ok, Err, refl, sym, ap, subst, ◌∙◌, arith, drop, length-append}
 use Rattle.std.specs.Prelude.{filter, fold, if◌then◌else◌}
 use Rattle.std.specs.FinMap.{get}
 use Rattle.std.specs.List.{flat_map, range_with_len}
@@ -10,6 +10,7 @@ use Rattle.std.proofs.lemmas.List.{length-drop, length-map, length-take-le}
 use Rattle.std.proofs.lemmas.List.Filters.{length-filter_both}
 use Rattle.std.proofs.lemmas.List.Sums.{fold-append}
 use Rattle.std.proofs.lemmas.Option.{same_Some}
+use Rattle.pl_base.specs.Answers.{unless}
 use Rattle.pl_base.specs.Files as base
 use Rattle.pl_base.specs.Names.{is_valid_name}
 use Rattle.pl_base.proofs.AnswerLaws.{ok_same}
@@ -48,11 +49,12 @@ use Rattle.pl_folder.specs.Taken.{stored}
 use Rattle.pl_folder.specs.declared.TheConstants as folders
 use Rattle.pl_folder.specs.declared.fault.FolderFault.TheVariants.{TooLarge}
 use Rattle.pl_form.specs.Files.{file_by, file_in, marked_in, original_by, original_in}
-use Rattle.pl_form.specs.Marks.{IsFormOf}
+use Rattle.pl_form.specs.Marks.{IsFormOf, as_file}
 use Rattle.pl_form.specs.declared.constants.TheConstants as forms
 use Rattle.pl_form.specs.declared.fault.FileFault.{FileFault}
+use Rattle.pl_form.specs.declared.fault.FileFault.TheVariants.{BadMark}
 use Rattle.pl_form.specs.declared.file.File.{File}
-use Rattle.pl_form.specs.declared.file.File.TheVariants as files
+use Rattle.pl_form.specs.declared.file.File.TheVariants.{Plain}
 use Rattle.pl_form.specs.declared.file.Marked.{Marked}
 use Rattle.pl_form.proofs.FilesLaws.{nothing_else_is_read}
 use Rattle.pl_gen.specs.Draws.{after, at, seeded}
@@ -112,13 +114,14 @@ planned_long : (r : Recipe) → length (planned_relocs (plan_of r)) ≡ length r
 unfolding planned_relocs plan_of
 planned_long r =
     let p : Plan = plan_of r in
-    omega (
+    let long : length (read_as p (filter is_other r.relocations) ++ read_as p (filter is_jump_slot r.relocations)) ≡ length r.relocations = omega (
       arith,
       length-append (read_as p (filter is_other r.relocations)) (read_as p (filter is_jump_slot r.relocations)),
       read_long p (filter is_other r.relocations),
       read_long p (filter is_jump_slot r.relocations),
       length-filter_both is_jump_slot is_other (λ x. refl) r.relocations,
-    )
+    ) in
+    long
 
 object_long : (r : Recipe) (t : Tables) (before : List Place) → length (planned_object r t before).relocations ≡ length r.relocations
 unfolding planned_object planned_layout object
@@ -144,7 +147,8 @@ unfolding program_of
 program_long count ws long =
     let left : length (drop 3 ws) ≡ 128 = omega (arith, long, length-drop 3 ws) in
     let drawn' : length (relocations_from 0 (program_words ws)) ≡ 64 = from_long 64 0 (program_words ws) (length-take-le 128 (drop 3 ws) (omega (arith, left))) in
-    omega (arith, drawn', length-append (relocations_from 0 (program_words ws)) (copy_of (at ws 0 % count) ∷ []))
+    let more : length (relocations_from 0 (program_words ws) ++ copy_of (at ws 0 % count) ∷ []) ≡ 65 = omega (arith, drawn', length-append (relocations_from 0 (program_words ws)) (copy_of (at ws 0 % count) ∷ [])) in
+    more
 
 -- ---- what is counted of a file
 
@@ -168,8 +172,8 @@ stored_is file small = ap (λ (b : Bool). counts_in (if b then Ok file else Err 
 -- a file that is stored, whether or not it is prelinked, has the relocations of its original
 counts_by_mark : (file bytes : List ℕ) (x : Object) (o : Option Marked) → marked_in file ≡ o → original_by file o ≡ bytes → IsBare bytes → reads bytes ≡ Ok x → length bytes ≤ 2 ^ 21 → (counts_in (stored (Some file))).relocations ≡ length x.relocations
 counts_by_mark file bytes x None none same bare read short =
-    let plain : file_by bytes None ≡ Ok (files.Plain x) = rw (bare.unmarked, read) refl in
-    let is : file_in file ≡ Ok (files.Plain x) = told file ∙ (ap (λ (o : Option Marked). file_by file o) none ∙ (ap (λ (z : List ℕ). file_by z None) same ∙ plain)) in
+    let plain : file_by bytes None ≡ Ok (Plain x) = ap (λ (b : Bool). unless b BadMark (as_file (reads bytes))) bare.unmarked ∙ ap as_file read in
+    let is : file_in file ≡ Ok (Plain x) = told file ∙ (ap (λ (o : Option Marked). file_by file o) none ∙ (ap (λ (z : List ℕ). file_by z None) same ∙ plain)) in
     let small : length file ≤ folders.STORED = subst (λ (z : List ℕ). length z ≤ folders.STORED) (sym same) (omega (arith, short, folder_limit)) in
     ap (λ (c : Counts). c.relocations) (stored_is file small) ∙ ap (λ (r : Result File FileFault). (counts_if r).relocations) is
 counts_by_mark file bytes x (Some m) marked same bare read short =
@@ -251,12 +255,16 @@ step files total name = plus total (counts_of files name)
 
 counts_fold : (files : base.Files) (f : ℕ → List ℕ) (each count from : ℕ) (total : Counts) → ((i : ℕ) → i < from + count → (counts_of files (f i)).relocations ≡ each)
     → (fold (step files) total (map f (range_with_len from count))).relocations ≡ total.relocations + each * count
-counts_fold files f each zero from total all = omega (arith, mul-zero each)
+counts_fold files f each zero from total all = let none_more : total.relocations ≡ total.relocations + each * zero = omega (arith, mul-zero each) in none_more
 counts_fold files f each (suc count) from total all =
     let rest : (fold (step files) (step files total (f from)) (map f (range_with_len (from + 1) count))).relocations ≡ (total.relocations + (counts_of files (f from)).relocations) + each * count =
     counts_fold files f each count (from + 1) (step files total (f from)) (λ i lt. all i (omega (arith, lt))) in
     let first : (counts_of files (f from)).relocations ≡ each = all from (omega arith) in
-    omega (arith, rest, first, mul-suc each count)
+    let one_more : (total.relocations + (counts_of files (f from)).relocations) + each * count ≡ total.relocations + each * suc count = omega (arith, first, mul-suc each count) in
+    rest ∙ one_more
+
+both : (a b l g : ℕ) → a ≡ 0 + 128 * l → b ≡ a + 65 * g → b ≡ 128 * l + 65 * g
+both a b l g first second = omega (arith, first, second)
 
 pub relocations_drawn : DemoRelocationsAreDrawn
 unfolding counts all_counts
@@ -266,10 +274,10 @@ relocations_drawn number =
     let libraries : List (List ℕ) = map library_name (range_with_len 0 l) in
     let own : List (List ℕ) = map program_name (range_with_len 0 g) in
     let front : Counts = fold (step (folder number)) none libraries in
-    let first : front.relocations ≡ 128 * l = counts_fold (folder number) library_name 128 l 0 none (λ i lt. library_counts number i (omega (arith, lt))) in
+    let first : front.relocations ≡ 0 + 128 * l = counts_fold (folder number) library_name 128 l 0 none (λ i lt. library_counts number i (omega (arith, lt))) in
     let second : (fold (step (folder number)) front own).relocations ≡ front.relocations + 65 * g = counts_fold (folder number) program_name 65 g 0 front (λ j lt. program_counts number j (omega (arith, lt))) in
     ap (λ (ns : List (List ℕ)). (fold (step (folder number)) none ns).relocations) (names_are number)
-    ∙ (ap (λ (c : Counts). c.relocations) (fold-append (step (folder number)) none libraries own) ∙ omega (arith, first, second))
+    ∙ (ap (λ (c : Counts). c.relocations) (fold-append (step (folder number)) none libraries own) ∙ both front.relocations (fold (step (folder number)) front own).relocations l g first second)
 
 -- ---- the text
 
