@@ -1,16 +1,19 @@
-//! The program `prelink`: the top call over the folder that it runs in, its standard input and output, and the clock.
+//! The program `prelink`: the top call over the folder that it runs in, its standard input and output, and the clock, and lines for people on standard error.
 #![tactic(auto)]
 
-ghost use Rattle.std.specs.Prelude.{◌≡◌, ◌≢◌, drop, is_ok, true, IfErr, IfOk};
+ghost use Rattle.std.specs.Prelude.{◌≡◌, ◌≢◌, ◌≤◌, drop, is_ok, length, true, IfErr, IfOk};
 ghost use Rattle.std.specs.IoError.{error_kind};
 ghost use Rattle.std.specs.Process.{exit_status};
 ghost use Rattle.std.specs.Vec.Iter.{into_iter_items};
 ghost use Rattle.std.specs.declared.io.ErrorKind.TheVariants.{OutOfMemory};
 ghost use Rattle.pl_cli.specs.Statuses.{code_of};
 ghost use Rattle.prelink.specs.Words.{after_first};
+ghost use Rattle.prelink.specs.declared.TheConstants.{LINE};
 
+use arrayvec::ArrayVec;
 use pl_cli::Status;
-use pl_hostdir::HostFolder;
+use pl_explain::{Ended, KeptReader, KeptWriter, LastLine, explain};
+use pl_hostdir::{AfterProgress, HostFolder, Progress};
 use pl_io::{StdSink, StdSource};
 use pl_safe::run;
 use std::alloc::{AllocError, Global};
@@ -19,6 +22,9 @@ use std::io;
 use std::process::ExitCode;
 use std::rt::Clock;
 use std::time::{SystemTime, UNIX_EPOCH};
+
+/// The most bytes of the last line that the output keeps.
+const LINE: usize = 512;
 
 /// The words after the program's name, which is the first.
 fn after_name(alloc: Global, words: Args) -> Result<Vec<String>, AllocError>
@@ -57,15 +63,48 @@ fn exit_code(status: Status) -> ExitCode
     ExitCode::from(status.code())
 }
 
+/// A copy of a line of at most `LINE` bytes, and none of a longer one. It borrows nothing of the output, whose writer is asked for its error next.
+fn copy_of(line: &[u8]) -> ArrayVec<u8, LINE>
+    ensures { length line.now ≤ LINE → result.items ≡ line.now }
+{
+    let mut copy = ArrayVec::new();
+    let _ = copy.try_extend_from_slice(line);
+    copy
+}
+
+/// Tells people how the run ended, on standard error. That it takes nothing changes nothing.
+fn tell(rt: HostRuntime, ended: &Ended<'_>) {
+    let mut to = rt.stderr();
+    let _ = explain(&mut to, ended);
+}
+
+/// What the program ends with where there is no memory for the words or the folder.
+fn end_without_memory(rt: HostRuntime) -> ExitCode {
+    let ended = Ended {
+        status: Status::NoMemory,
+        words: &[],
+        line: b"",
+        folder: None,
+        input: None,
+        output: None,
+    };
+    tell(rt, &ended);
+    exit_code(Status::NoMemory)
+}
+
 fn main(rt: HostRuntime) -> ExitCode {
+    let progress = Progress::new(rt.stderr());
     let Ok(words) = words_of(rt.alloc(), env::args(&rt)) else {
-        return exit_code(Status::NoMemory);
+        return end_without_memory(rt);
     };
     let Ok(mut folder) = HostFolder::new(&rt, rt.alloc(), ".") else {
-        return exit_code(Status::NoMemory);
+        return end_without_memory(rt);
     };
-    let mut input = StdSource::new(rt.reader());
-    let mut output = StdSink::new(io::writer(&rt));
+    folder.show(&progress);
+    let mut reader = KeptReader::new(rt.reader());
+    let mut writer = KeptWriter::new(AfterProgress::new(io::writer(&rt), &progress));
+    let mut input = StdSource::new(&mut reader);
+    let mut output = LastLine::new(StdSink::new(&mut writer));
     let now = seconds(&rt);
     let status = run(
         rt.alloc(),
@@ -75,5 +114,16 @@ fn main(rt: HostRuntime) -> ExitCode {
         &mut output,
         now,
     );
+    progress.end();
+    let line = copy_of(output.line());
+    let ended = Ended {
+        status,
+        words: &words,
+        line: line.as_slice(),
+        folder: folder.first_fault(),
+        input: reader.error(),
+        output: writer.error(),
+    };
+    tell(rt, &ended);
     exit_code(status)
 }

@@ -1,0 +1,157 @@
+// The options of the command line.
+
+/// An option of the command line. The first fills the room that a list of them has.
+#[derive(Clone, Copy, Debug, Default, PartialEq, Eq)]
+pub enum Choice {
+    #[default]
+    Load,
+    Busy,
+    Policy,
+    Order,
+    All,
+    DryRun,
+    Verbose,
+    ConserveMemory,
+    Region,
+    Undo,
+    Verify,
+    Install,
+    Remove,
+    Make,
+    Fix,
+    Unfix,
+    PrintCache,
+    Demo,
+    Weave,
+}
+
+const CHOICES: [Choice; 19] = [
+    Choice::Load,
+    Choice::Busy,
+    Choice::Policy,
+    Choice::Order,
+    Choice::All,
+    Choice::DryRun,
+    Choice::Verbose,
+    Choice::ConserveMemory,
+    Choice::Region,
+    Choice::Undo,
+    Choice::Verify,
+    Choice::Install,
+    Choice::Remove,
+    Choice::Make,
+    Choice::Fix,
+    Choice::Unfix,
+    Choice::PrintCache,
+    Choice::Demo,
+    Choice::Weave,
+];
+
+impl Choice {
+    /// The option that is spelled so behind two dashes.
+    pub fn by_name(name: &str) -> Option<Choice> {
+        for choice in CHOICES.iter() {
+            if choice.name() == name {
+                return Some(*choice);
+            }
+        }
+        None
+    }
+
+    /// How the option is spelled behind two dashes.
+    fn name(self) -> &'static str {
+        match self {
+            Choice::Load => "load",
+            Choice::Busy => "busy",
+            Choice::Policy => "policy",
+            Choice::Order => "order",
+            Choice::All => "all",
+            Choice::DryRun => "dry-run",
+            Choice::Verbose => "verbose",
+            Choice::ConserveMemory => "conserve-memory",
+            Choice::Region => "region",
+            Choice::Undo => "undo",
+            Choice::Verify => "verify",
+            Choice::Install => "install",
+            Choice::Remove => "remove",
+            Choice::Make => "make",
+            Choice::Fix => "fix",
+            Choice::Unfix => "unfix",
+            Choice::PrintCache => "print-cache",
+            Choice::Demo => "demo",
+            Choice::Weave => "weave",
+        }
+    }
+
+    /// The option of a letter.
+    pub fn by_letter(letter: u8) -> Option<Choice> {
+        match letter {
+            b'a' => Some(Choice::All),
+            b'n' => Some(Choice::DryRun),
+            b'v' => Some(Choice::Verbose),
+            b'm' => Some(Choice::ConserveMemory),
+            b'u' => Some(Choice::Undo),
+            b'y' => Some(Choice::Verify),
+            b'p' => Some(Choice::PrintCache),
+            _ => None,
+        }
+    }
+
+    /// How the option is written, by its letter if it has one.
+    pub fn word(self) -> &'static str {
+        match self {
+            Choice::Load => "--load",
+            Choice::Busy => "--busy",
+            Choice::Policy => "--policy",
+            Choice::Order => "--order",
+            Choice::All => "-a",
+            Choice::DryRun => "-n",
+            Choice::Verbose => "-v",
+            Choice::ConserveMemory => "-m",
+            Choice::Region => "--region",
+            Choice::Undo => "-u",
+            Choice::Verify => "-y",
+            Choice::Install => "--install",
+            Choice::Remove => "--remove",
+            Choice::Make => "--make",
+            Choice::Fix => "--fix",
+            Choice::Unfix => "--unfix",
+            Choice::PrintCache => "-p",
+            Choice::Demo => "--demo",
+            Choice::Weave => "--weave",
+        }
+    }
+
+    /// Whether the option has a value.
+    pub fn has_value(self) -> bool {
+        match self {
+            Choice::All | Choice::DryRun | Choice::Verbose | Choice::ConserveMemory => false,
+            Choice::Undo | Choice::PrintCache | Choice::Weave => false,
+            _ => true,
+        }
+    }
+
+    /// Whether the option says what is to be done.
+    pub fn is_mode(self) -> bool {
+        match self {
+            Choice::Busy | Choice::Policy | Choice::Region => false,
+            Choice::DryRun | Choice::Verbose | Choice::ConserveMemory => false,
+            _ => true,
+        }
+    }
+
+    /// Whether the other option may stand beside this one, which says what is to be done.
+    pub fn goes_with(self, other: Choice) -> bool {
+        match self {
+            Choice::Load => matches!(other, Choice::Busy | Choice::Policy),
+            Choice::Fix => matches!(other, Choice::Policy),
+            Choice::Order => matches!(other, Choice::Verbose),
+            Choice::All => matches!(
+                other,
+                Choice::DryRun | Choice::Verbose | Choice::ConserveMemory | Choice::Region
+            ),
+            Choice::Undo => matches!(other, Choice::All),
+            _ => false,
+        }
+    }
+}
