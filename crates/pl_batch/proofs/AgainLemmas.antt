@@ -91,7 +91,12 @@ module _ (v : View) (rows : List Row) (found : rows_in (v journal) ≡ Some rows
         let eq = at before (subst (λ (u : View). IsBefore u before) is stands) in
         let r = two b (here (get b) (one_view (get b) (recovered v) same)) in
         (r.0, record { means = ap meant eq ∙ r.1.means; files = λ n. r.1.files n ∙ ap (λ (f : Files). applied r.0 (get f) n) (sym eq) })
-    files_on Failed e a c is two = tt
+    files_on Failed e a c is (inl stands) =
+        inl (subst (λ (u : View). StandsFor u (get c)) (sym is) (stands_recovered v rows found (get c) (subst (λ (u : View). StandsFor u (get c)) (one_view (get b) (recovered v) same) stands)))
+    files_on Failed e a c is (inr breaks) = inr (λ before stands.
+        let eq = at before (subst (λ (u : View). IsBefore u before) is stands) in
+        let r = breaks b (here (get b) (one_view (get b) (recovered v) same)) in
+        (r.0, record { means = ap meant eq ∙ r.1.means; stands = subst (λ (f : Files). StandsBetween (get f) r.0 (get c)) (sym eq) r.1.stands }))
     files_on Lacked e a c is two =
         subst (λ (u : View). StandsFor u (get c)) (sym is) (stands_recovered v rows found (get c) (subst (λ (u : View). StandsFor u (get c)) (one_view (get b) (recovered v) same) two))
     files_on (Refused cause) e a c is two = λ before stands.
@@ -222,7 +227,8 @@ module _ {C D : Type 0} (f : C → D) (meant : Meaning C) where
   recaused (Refused cause) call = makes_told refl call
       (λ told one before is. let l = one before is in record { means = ap (because f) l.means; files = l.files })
       (λ told one before is. let l = one before is in record { means = ap (because f) l.means; only = l.only; on_the_way = l.on_the_way })
-  recaused Failed call = makes_told refl call (λ told one. tt)
+  recaused Failed call = makes_told refl call
+      (λ told one. ⊎_elim inl (λ breaks. inr (λ before is. let made = breaks before is in (made.0, record { means = ap (because f) made.1.means; stands = made.1.stands }))) one)
       (λ told one. ⊎_elim inl (λ more. inr (⊎_elim inl (λ breaks. inr (λ before is. let made = breaks before is in (made.0, record { means = ap (because f) made.1.means; on_the_way = made.1.on_the_way }))) more)) one)
   recaused Lacked call = makes_told refl call (λ told one. one) (λ told one. one)
 
@@ -230,7 +236,15 @@ module _ {C D : Type 0} (f : C → D) (meant : Meaning C) where
 
 -- the folder broke in a recovery alone: so far nothing is changed
 early_fails : (name : List ℕ) {C : Type 0} (meant : Meaning C) {a b : Seen} → IsFolder a → Calls Broken (Commands (ready_for name) Failed) a b → Calls Broken (Commands meant Failed) a b
-early_fails name meant {a = a} {b = b} law call = makes_told refl call (λ told one. tt)
+early_fails name meant {a = a} {b = b} law call = makes_told refl call
+    (λ told one. inl (⊎_elim (λ stands. stands) (λ breaks.
+    let v = get a.files in
+    let before = restored a.files in
+    let broke = breaks before (restored_before a.files) in
+    let is = is_ready name before broke.0 broke.1.means in
+    let j = journal_rows v before (restored_before a.files) is.1 in
+    let between : StandsBetween (recovered v) broke.0 (get b.files) = subst (λ (u : View). StandsBetween u broke.0 (get b.files)) (one_view (get before) (recovered v) (restored_before a.files)) broke.1.stands in
+    no_way v j.0 j.1 (get b.files) (inr (subst (λ (rs : List Change). StandsBetween (recovered v) rs (get b.files)) is.0 between))) one))
     (λ told one. ⊎_elim inl (λ more. inr (⊎_elim inl (λ breaks.
     let v = read a.disk.now in
     let before = restored a.files in

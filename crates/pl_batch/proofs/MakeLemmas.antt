@@ -53,7 +53,7 @@ carried_on {e = e} {b = b} {c = c} {d = d} rows looks carries = then_told looks 
 module _ (first next : Meaning Cause) where
   -- it stops as it starts
   pub stops_early : (fault : BatchFault) {a b : Seen} → Calls (fault_ending fault) (Starts first (stopped fault)) a b → Calls (fault_ending fault) (Commands (and_then first next) (stopped fault)) a b
-  stops_early DiskFailed call = makes_told refl call (λ told files. tt) (λ told disk. ⊎_elim inl (λ keeps. inr (inl keeps)) disk)
+  stops_early DiskFailed call = makes_told refl call (λ told files. inl files) (λ told disk. ⊎_elim inl (λ keeps. inr (inl keeps)) disk)
   stops_early NoMemory call = makes_told refl call (λ told files. files) (λ told disk. disk)
   stops_early (faults.Cause cause) call = makes_told refl call
       (λ told files before is. let l = files before is in record { means = ap (λ (m : Result (List Change) Cause). m >>= λ none. next before) l.means; files = l.files })
@@ -73,7 +73,8 @@ module _ (first next : Meaning Cause) where
 
     module _ {c : Seen} where
       pub stops_finding : (fault : BatchFault) → Finds (next b.files) (λ (rows : List Change). rows) (Err fault) b c → Calls (fault_ending fault) (Commands (and_then first next) (stopped fault)) a c
-      stops_finding DiskFailed found = then_told start found.calls (λ told one two. tt)
+      stops_finding DiskFailed found = then_told start found.calls
+          (λ told one two. inl (stands_recovered (get a.files) one.0.0 one.0.1 (get c.files) (stands_self (recovered (get a.files)) (get c.files) (λ n. ap (λ f. get f n) two ∙ one.0.2 n))))
           (λ told one two. inr (inl (joined a.disk b.disk c.disk (StandsFor (read a.disk.now)) one.0.0 (looks_keep b.disk c.disk (StandsFor (read a.disk.now)) one.0.0.now two))))
       stops_finding NoMemory found = then_told start found.calls
           (λ told one two. stands_recovered (get a.files) one.0.0 one.0.1 (get c.files) (stands_self (recovered (get a.files)) (get c.files) (λ n. ap (λ f. get f n) two ∙ one.0.2 n)))
@@ -119,7 +120,15 @@ module _ (first next : Meaning Cause) where
             ))
 
         broken : {d : Seen} → Calls Broken (CarriesOut rows) c d → Calls Broken (Commands (and_then first next) Failed) a d
-        broken {d = d} call = then_told start (carried_on rows found.calls call) (λ told one two. tt)
+        broken {d = d} call = then_told start (carried_on rows found.calls call)
+            (λ told one two. inr (λ before is.
+            let at = here told before is in (
+              rows,
+              record {
+                means = meant_found before (Ok rows) at (one.1 before is) (found.means (start.tells ∙ told));
+                stands = subst (λ (f : Files). StandsBetween (get f) rows (get d.files)) (sym at) (two (rested (start.tells ∙ told)));
+              },
+            )))
             (λ told one two. inr (inr (λ before is.
             let v = recovered (read a.disk.now) in (
               rows,
@@ -158,6 +167,6 @@ module _ (first : Meaning Cause) where
       ))
 
   pub stops_alone : (fault : BatchFault) {a b : Seen} → Calls (fault_ending fault) (Starts first (stopped fault)) a b → Calls (fault_ending fault) (Commands first (stopped fault)) a b
-  stops_alone DiskFailed call = makes_told refl call (λ told files. tt) (λ told disk. ⊎_elim inl (λ keeps. inr (inl keeps)) disk)
+  stops_alone DiskFailed call = makes_told refl call (λ told files. inl files) (λ told disk. ⊎_elim inl (λ keeps. inr (inl keeps)) disk)
   stops_alone NoMemory call = makes_told refl call (λ told files. files) (λ told disk. disk)
   stops_alone (faults.Cause cause) call = makes_told refl call (λ told files. files) (λ told disk. disk)

@@ -76,7 +76,7 @@ started_bad {a = a} {b = b} call = makes_told refl call
 -- ---- faults
 
 pub start_failed : (meant : Meaning Cause) {a b : Seen} → Calls Broken (Recovers (Some journal_faults.Failed)) a b → Calls Broken (Starts meant Failed) a b
-start_failed meant call = makes_told refl call (λ told files. tt) (λ told disk. ⊎_elim (λ keeps. inr keeps) (λ looks. inl looks.1) disk)
+start_failed meant call = makes_told refl call (λ told files. files) (λ told disk. ⊎_elim (λ keeps. inr keeps) (λ looks. inl looks.1) disk)
 
 pub start_lacked : (meant : Meaning Cause) {a b : Seen} → Calls Undone (Recovers (Some journal_faults.NoMemory)) a b → Calls Undone (Starts meant Lacked) a b
 start_lacked meant {a = a} {b = b} call = makes_told refl call

@@ -69,11 +69,20 @@ pub record LeavesFiles {C : Type 0} (cause : C) (before new : Files) (meant : Me
   pub means : meant before ≡ Err cause
   pub files : new ≡ before
 
--- all changes are made; or a cause left the recovered files; after want of memory they stand for what they stood for. Of a folder that failed the disk tells more
+-- the folder failed while the changes were made: recovered, the files are those before or those after
+pub record BreaksFiles {C : Type 0} (rows : List Change) (before : Files) (new : View) (meant : Meaning C) : Type 0 where
+  pub means : meant before ≡ Ok rows
+  pub stands : StandsBetween (get before) rows new
+
+-- it failed before the first change was made, and they stand for what they stood for; or after that
+abbrev pub FailsFiles : {C : Type 0} → Meaning C → Files → Files → Type 0
+FailsFiles meant old new = StandsFor (get old) (get new) ⊎ ((before : Files) → IsBefore (get old) before → (rows : List Change) × BreaksFiles rows before (get new) meant)
+
+-- all changes are made; or a cause left the recovered files; or the folder failed; after want of memory they stand for what they stood for
 abbrev pub CommandsFiles : {C : Type 0} → Meaning C → Outcome C → Ending → Files → Files → Type 0
 CommandsFiles meant Made e old new = (before : Files) → IsBefore (get old) before → (rows : List Change) × MakesFiles rows before (get new) meant
 CommandsFiles meant (Refused cause) e old new = (before : Files) → IsBefore (get old) before → LeavesFiles cause before new meant
-CommandsFiles meant Failed e old new = Unit {0}
+CommandsFiles meant Failed e old new = FailsFiles meant old new
 CommandsFiles meant Lacked e old new = StandsFor (get old) (get new)
 
 -- ---- the disk

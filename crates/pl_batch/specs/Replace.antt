@@ -1,25 +1,29 @@
 -- What the commands change that replace the file of a name by what they make of its original: fixing a position-independent program, and loosening a fixed one.
-use Rattle.std.specs.Prelude.{◌≡◌, ℕ, true, not, ⊤, List, Option, Some, None, Result, Ok, Err}
+use Rattle.std.specs.Prelude.{◌≡◌, ℕ, true, not, ⊤, List, Option, Some, None, Result, Ok, Err, IfOk}
 use Rattle.std.specs.FinMap.{get}
 use Rattle.pl_base.specs.Answers.{◌>>=◌, unless}
 use Rattle.pl_base.specs.Files.{Files}
 use Rattle.pl_base.specs.Names.{is_valid_name}
-use Rattle.pl_fix.specs.Fixing.{loosened, placed}
+use Rattle.pl_fix.specs.Fixing.{placed}
 use Rattle.pl_fix.specs.declared.placing.Placing.{Placing}
 use Rattle.pl_fix.specs.declared.placing.Placing.TheVariants as placings
+use Rattle.pl_folder.specs.Calls.{Calls}
 use Rattle.pl_folder.specs.Seen.{Seen}
 use Rattle.pl_form.specs.Files.{file_in}
 use Rattle.pl_journal.specs.declared.change.Change.{Change}
+use Rattle.pl_pie.specs.Fix.{unfixed}
 use Rattle.pl_place.specs.Policy.{Choice}
+use Rattle.pl_batch.specs.Answers.{Finds, ending}
 use Rattle.pl_batch.specs.Changes.{fitting}
-use Rattle.pl_batch.specs.Commands.{IsBefore, Meaning, and_then, ready_for}
+use Rattle.pl_batch.specs.Commands.{Commands, IsBefore, Meaning, and_then, outcome, ready_for}
 use Rattle.pl_batch.specs.Names.{file_of}
 use Rattle.pl_batch.specs.Store.{put, stored_as}
 use Rattle.pl_batch.specs.declared.cause.Cause.{Cause}
-use Rattle.pl_batch.specs.declared.cause.Cause.TheVariants.{BadMark, BadName, NoPlace, NotFixed, NotPie}
+use Rattle.pl_batch.specs.declared.cause.Cause.TheVariants.{BadName, NoPlace, NotFixed, NotPie}
 use Rattle.pl_batch.specs.declared.fault.BatchFault.{BatchFault}
 use Rattle.pl_batch.specs.declared.fault.BatchFault.TheVariants.{DiskFailed, NoMemory}
 use Rattle.pl_batch.specs.declared.fault.BatchFault.TheVariants as faults
+use Rattle.pl_batch.specs.declared.fixing.FixMade.{FixMade}
 use Rattle.pl_batch.specs.declared.fixing.FixedFile.{FixedFile}
 
 -- ---- a file is replaced
@@ -51,7 +55,6 @@ IsAlone (faults.Cause cause) = ⊤
 abbrev pub fixed_by : List ℕ → Placing → Result FixedFile Cause
 fixed_by name placings.NotPie = Err (NotPie name)
 fixed_by name placings.NoPlace = Err (NoPlace name)
-fixed_by name placings.Marked = Err (BadMark name)
 fixed_by name (placings.Fixed at bytes) = Ok (record { address = at; bytes = bytes })
 
 -- the program that an original becomes where a policy places it
@@ -73,6 +76,16 @@ address_of choose files name = original_of files name >>= λ original. fixed_of 
 abbrev pub TellsAddress : Choice → List ℕ → ℕ → Seen → Type 0
 TellsAddress choose name at old = old.tells ≡ true → (before : Files) → IsBefore (get old.files) before → address_of choose before name ≡ Ok at
 
+-- the rows of the command and the address are found in a folder, by a policy that is a function
+pub record FindsFixed (choose : Choice) (name : List ℕ) (result : Result FixMade BatchFault) (old new : Seen) : Type 0 where
+  pub found : Finds (replacement_of (fixed_as choose name) old.files name) (λ made. made.rows) result old new
+  pub told : IfOk result (λ made. old.tells ≡ true → address_of choose old.files name ≡ Ok made.address)
+
+-- a whole command by such a policy: what its calls make of the folder, and that the answer is the address
+pub record Fixes (choose : Choice) (name : List ℕ) (result : Result ℕ BatchFault) (old new : Seen) : Type 0 where
+  pub calls : Calls (ending result) (Commands (fixing_meant choose name) (outcome result)) old new
+  pub told : IfOk result (λ at. TellsAddress choose name at old)
+
 -- ---- loosening
 
 abbrev pub loosened_by : List ℕ → Option (List ℕ) → Result (List ℕ) Cause
@@ -81,7 +94,7 @@ loosened_by name (Some bytes) = Ok bytes
 
 -- the position-independent program of which an original is the fixed one
 unfoldable pub loosened_of : List ℕ → List ℕ → Result (List ℕ) Cause
-loosened_of name original = loosened_by name (loosened original)
+loosened_of name original = loosened_by name (unfixed original)
 
 abbrev pub loosening_meant : List ℕ → Meaning Cause
 loosening_meant name = replacing_meant (loosened_of name) name

@@ -24,7 +24,7 @@ Passes meant before = meant before ≡ Ok []
 abbrev pub StartsFiles : Meaning Cause → Outcome Cause → Ending → Files → Files → Type 0
 StartsFiles meant Made e old new = RecoversFiles None e old new × ((before : Files) → IsBefore (get old) before → Passes meant before)
 StartsFiles meant (Refused cause) e old new = CommandsFiles meant (Refused cause) e old new
-StartsFiles meant Failed e old new = CommandsFiles meant Failed e old new
+StartsFiles meant Failed e old new = StandsFor (get old) (get new)
 StartsFiles meant Lacked e old new = CommandsFiles meant Lacked e old new
 
 abbrev pub StartsDisk : Meaning Cause → Outcome Cause → Ending → Disk → Disk → Type 0

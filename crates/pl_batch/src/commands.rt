@@ -1,6 +1,7 @@
 //! The writing commands, over a folder that is held.
 ghost use Rattle.std.specs.Fn.{FnOnceReturnsAt};
 ghost use Rattle.std.specs.Prelude.{IfOk, Ok, OnOk};
+ghost use Rattle.pl_fix.specs.Fixing.{HoldsBy};
 ghost use Rattle.pl_folder.specs.Calls.{Calls};
 ghost use Rattle.pl_journal.specs.Parts.{IsRested};
 ghost use Rattle.pl_place.specs.Policy as policy;
@@ -8,7 +9,7 @@ ghost use Rattle.pl_batch.specs.All.{Reports};
 ghost use Rattle.pl_batch.specs.Answers.{ending};
 ghost use Rattle.pl_batch.specs.Changes.{IsRun, ready_by, removal_meant, run_meant};
 ghost use Rattle.pl_batch.specs.Commands.{Commands, Counts, outcome, ready_for};
-ghost use Rattle.pl_batch.specs.Replace.{TellsAddress, fixing_meant, loosening_meant};
+ghost use Rattle.pl_batch.specs.Replace.{Fixes, loosening_meant};
 ghost use Rattle.pl_batch.specs.Starts.{Named, Starts};
 ghost use Rattle.pl_batch.specs.declared.run.Run.TheVariants as runs;
 
@@ -102,13 +103,9 @@ pub(crate) fn fix_held<D: Folder, F: Fn(&Holes, u64, u64) -> Option<u64>>(
 ) -> Result<u64, BatchFault>
     requires may { policy.MayChoose (F.pre placer.now) }
     requires chooses { policy.Chooses (F.post placer.now) }
-    ensures calls { (choose : policy.Choice) → policy.Follows (F.post placer.now) choose →
-        Calls (ending result) (Commands (fixing_meant choose name.now) (outcome result))
-        (D.seen held.old.folder) (D.seen held.new.folder) }
+    ensures fixes { HoldsBy (F.post placer.now)
+        (λ choose. Fixes choose name.now result (D.seen held.old.folder) (D.seen held.new.folder)) }
     ensures named { Named name.now result }
-    ensures told { IfOk result (λ address. (choose : policy.Choice) →
-        policy.Follows (F.post placer.now) choose →
-        TellsAddress choose name.now address (D.seen held.old.folder)) }
 {
     start_for(held, alloc, name)?;
     let made = fix_changes(alloc, &mut held.folder, name, placer)?;

@@ -1,6 +1,7 @@
 //! What fixing a position-independent program changes, and loosening a fixed one.
-ghost use Rattle.std.specs.Prelude.{◌≡◌, ◌<◌, ◌^◌, IfErr, IfOk, Ok, length, true};
+ghost use Rattle.std.specs.Prelude.{◌≡◌, ◌<◌, ◌^◌, IfErr, IfOk, length, true};
 ghost use Rattle.pl_base.specs.Names.{IsNameLength, is_valid_name};
+ghost use Rattle.pl_fix.specs.Fixing.{HoldsBy};
 ghost use Rattle.pl_folder.specs.Calls.{Calls};
 ghost use Rattle.pl_journal.specs.Meaning.{rows_for};
 ghost use Rattle.pl_journal.specs.Parts.{Looking};
@@ -14,9 +15,10 @@ use crate::storing::{put, stored_as};
 use crate::taking::take;
 use crate::{BatchFault, Cause};
 use pl_base::{Rows, Text, is_valid_name};
-use pl_fix::{Placing, fix_placed, loosen};
+use pl_fix::{Placing, fix_placed};
 use pl_folder::Folder;
 use pl_journal::Change;
+use pl_pie::unfix;
 use pl_place::{Holes, Placer};
 use std::alloc::Global;
 
@@ -77,7 +79,7 @@ fn put_fitting<D: Folder>(
     fitting(rows)
 }
 
-/// The program that a name's original becomes where a policy places it, or the cause: NotPie, NoPlace. It is BadMark where it would be taken for a prelinked file.
+/// The program that a name's original becomes where a policy places it, or the cause: NotPie, NoPlace.
 fn fixed_of<F: Fn(&Holes, u64, u64) -> Option<u64>>(
     alloc: Global,
     name: &str,
@@ -87,14 +89,13 @@ fn fixed_of<F: Fn(&Holes, u64, u64) -> Option<u64>>(
     requires may { policy.MayChoose (F.pre placer.now) }
     requires chooses { policy.Chooses (F.post placer.now) }
     requires few { length original.now < 2 ^ 32 }
-    ensures means { (choose : policy.Choice) → policy.Follows (F.post placer.now) choose →
-        MeansAlone (spec.fixed_of choose name.now original.now) result }
+    ensures means { HoldsBy (F.post placer.now)
+        (λ choose. MeansAlone (spec.fixed_of choose name.now original.now) result) }
     ensures alone { IfErr result spec.IsAlone }
 {
     match fix_placed(alloc, placer, original)? {
         Placing::NotPie => Err(BatchFault::Cause(Cause::NotPie(Text::copy_of(alloc, name)?))),
         Placing::NoPlace => Err(BatchFault::Cause(Cause::NoPlace(Text::copy_of(alloc, name)?))),
-        Placing::Marked => Err(BatchFault::Cause(Cause::BadMark(Text::copy_of(alloc, name)?))),
         Placing::Fixed { address, bytes } => Ok(FixedFile { address, bytes }),
     }
 }
@@ -105,7 +106,7 @@ fn loosened_of(alloc: Global, name: &str, original: &[u8]) -> Result<Rows<u8>, B
     requires { length original.now < 2 ^ 32 }
     ensures { MeansAlone (spec.loosened_of name.now original.now) result }
 {
-    match loosen(alloc, original)? {
+    match unfix(alloc, original)? {
         Some(bytes) => Ok(bytes),
         None => Err(BatchFault::Cause(Cause::NotFixed(Text::copy_of(alloc, name)?))),
     }
@@ -120,15 +121,10 @@ pub(crate) fn fix_changes<D: Folder, F: Fn(&Holes, u64, u64) -> Option<u64>>(
 ) -> Result<FixMade, BatchFault>
     requires may { policy.MayChoose (F.pre placer.now) }
     requires chooses { policy.Chooses (F.post placer.now) }
-    ensures found { (choose : policy.Choice) → policy.Follows (F.post placer.now) choose →
-        Finds (spec.replacement_of (spec.fixed_as choose name.now) (D.seen folder.old).files
-        name.now) (λ made. made.rows) result
-        (D.seen folder.old) (D.seen folder.new) }
+    ensures found { HoldsBy (F.post placer.now)
+        (λ choose. spec.FindsFixed choose name.now result (D.seen folder.old) (D.seen folder.new)) }
     ensures looks { Calls (ending result) Looking (D.seen folder.old) (D.seen folder.new) }
     ensures fits { IfOk result (λ made. are_rows (rows_for made.rows) ≡ true) }
-    ensures told { IfOk result (λ made. (choose : policy.Choice) →
-        policy.Follows (F.post placer.now) choose → (D.seen folder.old).tells ≡ true →
-        spec.address_of choose (D.seen folder.old).files name.now ≡ Ok made.address) }
 {
     let original = take_original(alloc, folder, name)?;
     let program = fixed_of(alloc, name, original.as_slice(), placer)?;

@@ -1,13 +1,14 @@
 //! The writing commands.
 ghost use Rattle.std.specs.Fn.{FnOnceReturnsAt};
 ghost use Rattle.std.specs.Prelude.{IfOk, Ok};
+ghost use Rattle.pl_fix.specs.Fixing.{HoldsBy};
 ghost use Rattle.pl_folder.specs.Calls.{Calls};
 ghost use Rattle.pl_place.specs.Policy as policy;
 ghost use Rattle.pl_batch.specs.All.{Reports};
 ghost use Rattle.pl_batch.specs.Answers.{ending};
 ghost use Rattle.pl_batch.specs.Changes.{IsRun, removal_meant, run_meant};
 ghost use Rattle.pl_batch.specs.Commands.{Commands, Counts, outcome, ready_for};
-ghost use Rattle.pl_batch.specs.Replace.{TellsAddress, fixing_meant, loosening_meant};
+ghost use Rattle.pl_batch.specs.Replace.{Fixes, loosening_meant};
 ghost use Rattle.pl_batch.specs.Starts.{Named};
 ghost use Rattle.pl_batch.specs.declared.run.Run.TheVariants as runs;
 
@@ -71,9 +72,9 @@ pub fn remove<D: Folder>(alloc: Global, folder: &mut D, name: &str) -> Result<()
     remove_held(&mut held, alloc, name)
 }
 
-/// Recovers the folder and then fixes the position-independent program of a name where the policy places it, and tells the address. The name gets the program that `fix` of pl_pie makes of the original of its file there, as `do_run` makes its changes; the policy is asked once, for the whole region of such programs, 0x2000000000 to 0x2f00000000. The first cause counts: BadName, BadJournal, NotThere, FileTooLarge, BadMark, NotPie, NoPlace. BadMark comes too where the program that is made would be taken for a prelinked file.
+/// Recovers the folder and then fixes the position-independent program of a name where the policy places it, and tells the address. The name gets the program that `fix` of pl_pie makes of the original of its file there, as `do_run` makes its changes; the policy is asked once, for the whole region of such programs, 0x2000000000 to 0x2f00000000. The first cause counts: BadName, BadJournal, NotThere, FileTooLarge, BadMark, NotPie, NoPlace.
 ///
-/// What is said of the folder and of the address is said of a policy that follows a function. For a name that is not valid there is no other cause than BadName, whatever the folder tells, and no Ok.
+/// What is said of the folder and of the address is said by the answer that the policy gave, whether it follows a function or none: it is so of each function that answers so. For a name that is not valid there is no other cause than BadName, whatever the folder tells, and no Ok.
 pub fn fix_file<D: Folder, F: Fn(&Holes, u64, u64) -> Option<u64>>(
     alloc: Global,
     folder: &mut D,
@@ -82,13 +83,9 @@ pub fn fix_file<D: Folder, F: Fn(&Holes, u64, u64) -> Option<u64>>(
 ) -> Result<u64, BatchFault>
     requires may { policy.MayChoose (F.pre placer.now) }
     requires chooses { policy.Chooses (F.post placer.now) }
-    ensures calls { (choose : policy.Choice) → policy.Follows (F.post placer.now) choose →
-        Calls (ending result) (Commands (fixing_meant choose name.now) (outcome result))
-        (D.seen folder.old) (D.seen folder.new) }
+    ensures fixes { HoldsBy (F.post placer.now)
+        (λ choose. Fixes choose name.now result (D.seen folder.old) (D.seen folder.new)) }
     ensures named { Named name.now result }
-    ensures told { IfOk result (λ address. (choose : policy.Choice) →
-        policy.Follows (F.post placer.now) choose →
-        TellsAddress choose name.now address (D.seen folder.old)) }
 {
     let mut held = Held {
         folder: Lent { folder },

@@ -71,7 +71,6 @@ file_tells files name = looked_up_tells name (valid_file files name)
 first_tells : (name bytes : List ℕ) (p : Placing) → Tells memory.is_memory (first_by name bytes p)
 first_tells name bytes placings.NotPie = ok_tells memory.is_memory bytes
 first_tells name bytes placings.NoPlace = err_tells _ memory.is_memory _ refl
-first_tells name bytes placings.Marked = err_tells _ memory.is_memory _ refl
 first_tells name bytes (placings.Fixed at file) = ok_tells memory.is_memory file
 
 given_tells : (choose : Choice) (name bytes : List ℕ) (b : Bool) → Tells memory.is_memory (if b then first_of choose name bytes else Ok bytes)

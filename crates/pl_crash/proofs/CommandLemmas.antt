@@ -21,11 +21,11 @@ use Rattle.pl_journal.proofs.Done.{distinct_test, recovered_by}
 use Rattle.pl_journal.proofs.GrammarLaws.{written_rows}
 use Rattle.pl_journal.proofs.Meanings.{applied_no_own, recovered_no_own}
 use Rattle.pl_journal.proofs.Moments.{since_start, weaker}
-use Rattle.pl_batch.specs.Commands.{CommandsDisk, CommandsFiles, Failed, IsBefore, Lacked, LeavesFiles, Made, MakesFiles, Meaning, OnTheWay, Outcome, Refused}
+use Rattle.pl_batch.specs.Commands.{CommandsDisk, CommandsFiles, Failed, FailsFiles, IsBefore, Lacked, LeavesFiles, Made, MakesFiles, Meaning, OnTheWay, Outcome, Refused}
 use Rattle.pl_batch.specs.Restored.{restored}
 use Rattle.pl_batch.proofs.RestoredLemmas.{restored_before}
 use Rattle.pl_crash.specs.Laws.{CommandsEnd, CommandsLeave, CommandsRead, EveryImageIsSound}
-use Rattle.pl_crash.specs.Safe.{Ends, IsSafe, IsSafeImage, Leaves, ReadsAs, after, changed}
+use Rattle.pl_crash.specs.Safe.{Ends, IsSafe, IsSafeImage, Leaves, after, changed}
 use Rattle.pl_crash.specs.Sound.{IsSound, KeepsTheRule}
 use Rattle.pl_crash.proofs.SoundLemmas.{before_keeps, before_path, between_sound, no_rows, recoveries_sound, run_safe}
 
@@ -193,10 +193,16 @@ module _ {C : Type 0} (meant : Meaning C) (old new before : Files) (safe : IsSaf
           let path : get before ≡ get old = λ i n. (is n ∙ bad_itself (get old) bad n) i in
           record { sound = subst IsSound (sym path) sound; stands = inl (subst (λ (v : View). Same (recovered v) v) (sym path) (bad_itself (get old) bad)) }
 
-  files_read : (o : Outcome C) (e : Ending) → CommandsFiles meant o e old new → ReadsAs o (IsSafeImage meant before) (get new)
+  failed_read : FailsFiles meant old new → IsSafeImage meant before (get new)
+  failed_read (inl stands) = stands_safe meant (get old) before sound is (get new) stands
+  failed_read (inr breaks) =
+      let m = breaks before is in
+      between_safe meant (get old) before sound is safe m.0 m.1.means (get new) (subst (λ (v : View). StandsBetween v m.0 (get new)) (before_path (get old) before is) m.1.stands)
+
+  files_read : (o : Outcome C) (e : Ending) → CommandsFiles meant o e old new → IsSafeImage meant before (get new)
   files_read Made e call = let m = call before is in made_read m.0 m.1
   files_read (Refused cause) e call = refused_read cause (call before is)
-  files_read Failed e call = tt
+  files_read Failed e call = failed_read call
   files_read Lacked e call = stands_safe meant (get old) before sound is (get new) call
 
 pub commands_read : {C : Type 0} → CommandsRead C

@@ -8,10 +8,12 @@ use Rattle.pl_base.specs.Files.{Files}
 use Rattle.pl_base.specs.Names.{is_valid_name}
 use Rattle.pl_base.proofs.AnswerLaws.{bind_ok, ok_same, refuse_ok}
 use Rattle.pl_conflict.specs.Format.{mark_in, mark_of}
-use Rattle.pl_fix.specs.Fixing.{loosened, placed}
+use Rattle.pl_fix.specs.Fixing.{placed}
 use Rattle.pl_fix.specs.declared.placing.Placing.{Placing}
 use Rattle.pl_fix.specs.declared.placing.Placing.TheVariants as placings
-use Rattle.pl_fix.proofs.BareLaws.{fixed_bare, loosened_bare}
+use Rattle.pl_fix.proofs.BareLaws.{fixed_bare}
+use Rattle.pl_fix.proofs.LooseLaws.{unfixed_bare}
+use Rattle.pl_pie.specs.Fix.{unfixed}
 use Rattle.pl_form.specs.Files.{file_in, marked_in, original_in}
 use Rattle.pl_form.specs.declared.file.Marked.{Marked}
 use Rattle.pl_journal.specs.Laws.{IsRecoverable}
@@ -87,13 +89,12 @@ fixing_bare choose name original bytes e = by_placing (placed choose original) r
     by_placing : (p : Placing) → placed choose original ≡ p → (fixed_by name p >>= λ fixed. Ok fixed.bytes) ≡ Ok bytes → marked_in bytes ≡ None
     by_placing placings.NotPie is h = absurd cc
     by_placing placings.NoPlace is h = absurd cc
-    by_placing placings.Marked is h = absurd cc
     by_placing (placings.Fixed at file) is h = subst (λ (xs : List ℕ). marked_in xs ≡ None) (ok_same file bytes h) (fixed_bare choose original file at is)
 
 pub loosening_bare : LooseningMakesBare
 unfolding loosened_of
-loosening_bare name original bytes e = by_found (loosened original) refl e
+loosening_bare name original bytes e = by_found (unfixed original) refl e
   where
-    by_found : (m : Option (List ℕ)) → loosened original ≡ m → loosened_by name m ≡ Ok bytes → marked_in bytes ≡ None
+    by_found : (m : Option (List ℕ)) → unfixed original ≡ m → loosened_by name m ≡ Ok bytes → marked_in bytes ≡ None
     by_found None is h = absurd cc
-    by_found (Some found) is h = subst (λ (xs : List ℕ). marked_in xs ≡ None) (ok_same found bytes h) (loosened_bare original found is)
+    by_found (Some found) is h = subst (λ (xs : List ℕ). marked_in xs ≡ None) (ok_same found bytes h) (unfixed_bare original found is)

@@ -24,7 +24,7 @@ use Rattle.pl_batch.specs.Restored.{restored}
 use Rattle.pl_batch.specs.declared.cause.Cause.{Cause}
 use Rattle.pl_batch.specs.declared.run.Run.{Run}
 use Rattle.pl_crash.specs.Originals.{HasOriginal, HasOriginals, SameOriginals}
-use Rattle.pl_crash.specs.Safe.{Ends, IsSafe, IsSafeImage, Leaves, ReadsAs, after}
+use Rattle.pl_crash.specs.Safe.{Ends, IsSafe, IsSafeImage, Leaves, after}
 use Rattle.pl_crash.specs.Sound.{IsSound, KeepsTheRule, named}
 
 -- ---- sound folders
@@ -93,10 +93,10 @@ EveryImageIsSound C =
 abbrev pub CommandsEnd : Type 0 → Type 0
 CommandsEnd C = (meant : Meaning C) (o : Outcome C) (e : Ending) (a b : Seen) → IsFolder a → a.records ≡ true → Calls e (Commands meant o) a b → Ends o (after meant (restored a.files)) b.disk.now
 
--- and of a folder that tells its files alone, what is read afterwards is such an image
+-- and of a folder that tells its files alone, what is read afterwards is such an image, also where it failed
 abbrev pub CommandsRead : Type 0 → Type 0
 CommandsRead C =
-    (meant : Meaning C) (o : Outcome C) (e : Ending) (a b : Seen) → IsSafe meant → a.tells ≡ true → IsSound (get a.files) → Calls e (Commands meant o) a b → ReadsAs o (IsSafeImage meant (restored a.files)) (get b.files)
+    (meant : Meaning C) (o : Outcome C) (e : Ending) (a b : Seen) → IsSafe meant → a.tells ≡ true → IsSound (get a.files) → Calls e (Commands meant o) a b → IsSafeImage meant (restored a.files) (get b.files)
 
 -- what is made of an original is no prelinked file
 abbrev pub MakesBare : (List ℕ → Result (List ℕ) Cause) → Type 0

@@ -54,10 +54,3 @@ Ends Made files s = Within s (Same files)
 Ends (Refused cause) files s = Within s (Same files)
 Ends Failed files s = Unit {0}
 Ends Lacked files s = Unit {0}
-
--- what is read after it has P, where the folder did not fail
-abbrev pub ReadsAs : {C : Type 0} → Outcome C → (View → Type 0) → View → Type 0
-ReadsAs Made P v = P v
-ReadsAs (Refused cause) P v = P v
-ReadsAs Failed P v = Unit {0}
-ReadsAs Lacked P v = P v

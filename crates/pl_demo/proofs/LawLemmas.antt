@@ -56,7 +56,7 @@ all_of : (xs : List ℕ) → filter is_program (map program_name xs) ≡ map pro
 all_of [] = refl
 all_of (j ∷ xs) = ap (λ (b : Bool). cond b (program_name j ∷ filter is_program (map program_name xs)) (filter is_program (map program_name xs))) (a_program j) ∙ ap (λ (z : List (List ℕ)). program_name j ∷ z) (all_of xs)
 
-names_are : (number : ℕ) → names number ≡ map library_name (range_with_len 0 (drawn.libraries number)) ++ map program_name (range_with_len 0 (drawn.programs number))
+pub names_are : (number : ℕ) → names number ≡ map library_name (range_with_len 0 (drawn.libraries number)) ++ map program_name (range_with_len 0 (drawn.programs number))
 unfolding names demo_set
 names_are number =
     map-append (λ (file : File). file.0) (libraries_in number) (programs_in number)

@@ -53,7 +53,7 @@ use Rattle.pl_ready.specs.SetFiles.{HasLibrary, HasProgram, library_names}
 use Rattle.pl_ready.proofs.BytesLaws.{plain_bytes}
 use Rattle.pl_ready.proofs.CandidateLaws.{files_known, libraries_ready, programs_ready}
 use Rattle.pl_ready.proofs.SetFilesLaws.{set_libraries, set_programs}
-use Rattle.pl_demo_set.specs.Folder.{DemosAreReady, IsDemoFolder, bounds, files_of, made}
+use Rattle.pl_demo_set.specs.Folder.{DemosAreReady, IsDemoFolder, bounds, files_of, library_words, made, program_words}
 
 -- ---- lists
 
@@ -88,7 +88,7 @@ libraries_few number = let lt : at (words 2 (seeded number)) 0 % 57 < 57 = mod-l
 programs_few : (number : ℕ) → drawn.programs number ≤ 12
 programs_few number = let lt : at (words 2 (seeded number)) 1 % 12 < 12 = mod-lt (at (words 2 (seeded number)) 1) (omega arith) in omega (arith, lt)
 
-words_long : (count : ℕ) (g : Lcg) → length (words count g) ≡ count
+pub words_long : (count : ℕ) (g : Lcg) → length (words count g) ≡ count
 unfolding words
 words_long zero g = refl
 words_long (suc count) g = ap suc (words_long count (pcg64 g).1)
@@ -245,7 +245,7 @@ has_made number = subst (λ (files : Files). AllByRecursion (λ f. get files f.0
 named_is : (number : ℕ) (n bytes : List ℕ) → is_valid_name n ≡ true → get (made number) n ≡ Some bytes → files_of number n ≡ Some bytes
 named_is number n bytes valid there = ap (λ (b : Bool). if b then get (made number) n else None) valid ∙ there
 
-library_there : (number i : ℕ) → i < drawn.libraries number → HasLibrary (files_of number) (drawn.libraries number) i
+library_there : (number i : ℕ) → i < drawn.libraries number → HasLibrary (files_of number) (drawn.libraries number) i (library_words number i)
 library_there number i lt =
     let l : ℕ = drawn.libraries number in
     let g : Lcg = after 2 (seeded number) in
@@ -253,9 +253,9 @@ library_there number i lt =
     let is = set_read.libraries l i ws in
     let all = all_front (λ f. get (made number) f.0 ≡ spec.made f.1) (libraries_in number) (programs_in number) (has_made number) in
     let at_name : get (made number) (library_name i) ≡ spec.made (library_recipe l i ws) = at_ranged (λ f. get (made number) f.0 ≡ spec.made f.1) (drawn.library l g) l 0 i (omega arith) (omega (arith, lt)) all in
-    record { words = ws; bytes = is.bytes; made = is.made; there = named_is number (library_name i) is.bytes (files_named.libraries i) (at_name ∙ text_made (library_recipe l i ws) (library_of l i ws) is) }
+    record { bytes = is.bytes; made = is.made; there = named_is number (library_name i) is.bytes (files_named.libraries i) (at_name ∙ text_made (library_recipe l i ws) (library_of l i ws) is) }
 
-program_there : (number j : ℕ) → j < drawn.programs number → HasProgram (files_of number) (drawn.libraries number) (program_name j)
+program_there : (number j : ℕ) → j < drawn.programs number → HasProgram (files_of number) (drawn.libraries number) (program_name j) (program_words number j)
 program_there number j lt =
     let l : ℕ = drawn.libraries number in
     let g : Lcg = after (322 * l) (after 2 (seeded number)) in
@@ -263,7 +263,7 @@ program_there number j lt =
     let is = set_read.programs l ws in
     let all = all_back (λ f. get (made number) f.0 ≡ spec.made f.1) (libraries_in number) (programs_in number) (has_made number) in
     let at_name : get (made number) (program_name j) ≡ spec.made (program_recipe l ws) = at_ranged (λ f. get (made number) f.0 ≡ spec.made f.1) (drawn.program l g) (drawn.programs number) 0 j (omega arith) (omega (arith, lt)) all in
-    record { words = ws; some = omega (arith, words_long 131 (after (131 * j) g)); bytes = is.bytes; made = is.made; there = named_is number (program_name j) is.bytes (files_named.programs j) (at_name ∙ text_made (program_recipe l ws) (program_of l ws) is) }
+    record { some = omega (arith, words_long 131 (after (131 * j) g)); bytes = is.bytes; made = is.made; there = named_is number (program_name j) is.bytes (files_named.programs j) (at_name ∙ text_made (program_recipe l ws) (program_of l ws) is) }
 
 abbrev IsSmallFile : List ℕ → List ℕ → Type 0
 IsSmallFile n file = IsSmall bounds file
@@ -351,13 +351,13 @@ unfolding program_of
 above_is count ws = inl (omega (arith, data_small (program_of count ws).settings))
 
 pub demo_libraries : (number : ℕ) → AreLibraries (files_of number) (library_names (drawn.libraries number))
-demo_libraries number = set_libraries (files_of number) (drawn.libraries number) (omega arith) (omega (arith, libraries_few number)) (demo_folder number).libraries
+demo_libraries number = set_libraries (files_of number) (drawn.libraries number) (library_words number) (omega arith) (omega (arith, libraries_few number)) (demo_folder number).libraries
 
 pub demo_program : (number j : ℕ) → j < drawn.programs number → IsProgramFile (files_of number) (library_names (drawn.libraries number)) ASKED.region (program_name j)
 demo_program number j lt =
     let l : ℕ = drawn.libraries number in
-    let p : HasProgram (files_of number) l (program_name j) = (demo_folder number).programs j lt in
-    set_programs (files_of number) l ASKED.region (program_name j) (omega arith) (demo_folder number).libraries p (above_is l p.words)
+    let own : List ℕ = program_words number j in
+    set_programs (files_of number) l (library_words number) ASKED.region (program_name j) own (omega arith) (demo_folder number).libraries ((demo_folder number).programs j lt) (above_is l own)
 
 pub demo_ready : DemosAreReady
 demo_ready number =

@@ -1,5 +1,5 @@
 -- The folder of a generated set before it is prelinked.
-use Rattle.std.specs.Prelude.{◌≡◌, ◌<◌, ◌^◌, ℕ, true, List, Ok}
+use Rattle.std.specs.Prelude.{◌≡◌, ◌<◌, ◌*◌, ◌^◌, ℕ, true, List, Ok}
 use Rattle.pl_base.specs.Files as base
 use Rattle.pl_batch.specs.Changes.{run_meant}
 use Rattle.pl_batch.specs.Folder.{named}
@@ -9,6 +9,7 @@ use Rattle.pl_conflict.specs.Format.{format}
 use Rattle.pl_demo.specs.Made.{made_files}
 use Rattle.pl_demo.specs.declared.prelinking.TheConstants.{ASKED}
 use Rattle.pl_demo_set.specs.Small.{Bounds, IsSmallFolder}
+use Rattle.pl_gen.specs.Draws.{after, seeded, words}
 use Rattle.pl_gen.specs.Lines.{library_name, program_name}
 use Rattle.pl_gen.specs.Set as drawn
 use Rattle.pl_journal.specs.declared.change.Change.{Change}
@@ -26,14 +27,21 @@ made number = restored (made_files (drawn.demo_set number))
 abbrev pub files_of : ℕ → Files
 files_of number = named (made number)
 
+-- the words that a library of a number draws, and those of a program
+abbrev pub library_words : ℕ → ℕ → List ℕ
+library_words number i = words 322 (after (322 * i) (after 2 (seeded number)))
+
+abbrev pub program_words : ℕ → ℕ → List ℕ
+program_words number j = words 131 (after (131 * j) (after (322 * drawn.libraries number) (after 2 (seeded number))))
+
 -- at most 128 files of 2 MiB, with 128 MiB of addresses each
 abbrev pub bounds : Bounds
 bounds = record { files = 128; bytes = 2 ^ 21; addresses = 2 ^ 27 }
 
--- each name has the file that its recipe describes, and they are small
+-- each name has the file that its recipe describes, by the words that it draws, and they are small
 pub record IsDemoFolder (number : ℕ) : Type 0 where
-  pub libraries : HasLibraries (files_of number) (drawn.libraries number)
-  pub programs : (j : ℕ) → j < drawn.programs number → HasProgram (files_of number) (drawn.libraries number) (program_name j)
+  pub libraries : HasLibraries (files_of number) (drawn.libraries number) (library_words number)
+  pub programs : (j : ℕ) → j < drawn.programs number → HasProgram (files_of number) (drawn.libraries number) (program_name j) (program_words number j)
   pub small : IsSmallFolder bounds (made number)
 
 -- the run of `--demo` is not refused, and can prelink each name

@@ -9,3 +9,11 @@ pub mod SlotLemmas
 pub mod SortLemmas
 pub mod SpellLemmas
 pub mod CauseLemmas
+pub mod WantLemmas
+pub mod BesideLemmas
+pub mod SetLemmas
+pub mod ApartLemmas
+pub mod AlikeLemmas
+pub mod LinkLemmas
+pub mod ProgramLemmas
+pub mod CandidateLemmas

@@ -1,3 +1,4 @@
 pub mod All
 pub mod Fits
 pub mod Causes
+pub mod Candidates

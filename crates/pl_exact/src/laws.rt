@@ -1,4 +1,5 @@
 ghost use Rattle.pl_exact.specs.All.{AllGivesNext, NextIsFromScratch};
+ghost use Rattle.pl_exact.specs.Candidates.{CandidatesAreMarked, CandidatesArePrelinked};
 ghost use Rattle.pl_exact.specs.Causes.{BadCacheIsOfTheCache};
 ghost use Rattle.pl_exact.specs.Fits.{RemovalsFit, ReplacementsFit, RunsFit};
 
@@ -6,6 +7,12 @@ ghost use Rattle.pl_exact.specs.Fits.{RemovalsFit, ReplacementsFit, RunsFit};
 pub fn all_gives_next()
     ensures next { AllGivesNext }
     ensures scratch { NextIsFromScratch }
+{}
+
+/// A name that may be prelinked is prelinked, whether slots may be shared or not: it has a prelinked file, and what it has after the run bears a mark, unless it is a program whose file would be longer than a folder stores. Then each step of the definition of that file has a value: its members' originals have forms, their numbers are such as they may have, their addresses are apart, and all links resolve.
+pub fn candidates_are_prelinked()
+    ensures prelinked { CandidatesArePrelinked }
+    ensures marked { CandidatesAreMarked }
 {}
 
 /// The rows of every command fit a journal: there are at most 1025 of them, their names differ, and each is valid or the cache's. So TooManyFiles comes of the files alone.

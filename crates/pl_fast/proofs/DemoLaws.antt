@@ -72,7 +72,7 @@ unmarked : (file : List ℕ) → marked_in file ≡ None → mark_in file ≡ No
 unfolding mark_in
 unmarked file none = ap (option_map mark_of) none
 
-in_folder : (files : base.Files) (n file : List ℕ) → named files n ≡ Some file → get files n ≡ Some file
+pub in_folder : (files : base.Files) (n file : List ℕ) → named files n ≡ Some file → get files n ≡ Some file
 in_folder files n file is = by_name (is_valid_name n) is
   where
     by_name : (b : Bool) → (if b then get files n else None) ≡ Some file → get files n ≡ Some file
@@ -97,13 +97,13 @@ unfolding folder prelinked
 folder_is number rows e = ap (λ (r : Result (List Change) Cause). after r (made number)) e
 
 -- the folder before the run keeps the rule, and that after it has what the changes say
-record IsRunOf (number : ℕ) : Type 0 where
-  demo : IsDemoReady number
-  keeps : Rule skip_causes (named (made number))
-  changes : changes_of (made number) (All ASKED) ≡ Ok demo.rows
-  are : (m : List ℕ) → get (folder number) m ≡ applied demo.rows (get (made number)) m
+pub record IsRunOf (number : ℕ) : Type 0 where
+  pub demo : IsDemoReady number
+  pub keeps : Rule skip_causes (named (made number))
+  pub changes : changes_of (made number) (All ASKED) ≡ Ok demo.rows
+  pub are : (m : List ℕ) → get (folder number) m ≡ applied demo.rows (get (made number)) m
 
-run_of : (number : ℕ) → IsRunOf number
+pub run_of : (number : ℕ) → IsRunOf number
 run_of number =
     let demo : IsDemoReady number = demo_ready number in
     let same : folder number ≡ with_rows demo.rows (made number) = folder_is number demo.rows demo.runs in

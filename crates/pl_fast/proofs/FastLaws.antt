@@ -55,7 +55,8 @@ use Rattle.pl_tls.specs.Layout.{offsets}
 use Rattle.pl_tls.specs.declared.block.Block.{Block}
 use Rattle.pl_tls.specs.declared.module.Module.{Module}
 use Rattle.pl_fast.specs.Clear.{IsProgram, are_clear, has_free_slots, is_clear, loaded_by}
-use Rattle.pl_fast.proofs.PlaceLaws.{HasSlot, IsFree, slots_are_places, tail_apart, window}
+use Rattle.pl_exact.proofs.SetLemmas.{tail_apart}
+use Rattle.pl_fast.proofs.PlaceLaws.{HasSlot, IsFree, slots_are_places, window}
 use Rattle.pl_fast.proofs.TakenLaws.{AreMembers, IsTold, load_takes, marked_there}
 
 -- ---- one file

@@ -2,16 +2,13 @@ pub mod TakenLaws
 pub mod PlaceLaws
 pub mod FastLaws
 pub mod AnswerLaws
-pub mod SetLaws
 pub mod RunLaws
 pub mod FreeLaws
 pub mod LowLaws
 pub mod LengthLaws
-pub mod AlikeLaws
 pub mod LinkedLaws
-pub mod ApartLaws
-pub mod ProgramFileLaws
 pub mod CandidateLaws
 pub mod ReadyLaws
 pub mod CountLaws
 pub mod DemoLaws
+pub mod DemoTextLaws

@@ -1,21 +1,17 @@
--- The members of a program's walk whose originals link prelink a file for it, and how long that is at most.
-use Rattle.std.proofs.Common.{◌≡◌, ℕ, ◌+◌, ◌*◌, ◌^◌, ◌≤◌, Bool, true, false, List, [], ◌∷◌, length, map, replicate, Some, Result, Ok, Err, refl, sym, ap, subst, ◌∙◌, arith}
+-- How long the file of a program is at most that the members of its walk make.
+use Rattle.std.proofs.Common.{◌≡◌, ℕ, ◌+◌, ◌*◌, ◌^◌, ◌≤◌, Bool, true, false, List, [], ◌∷◌, length, map, Some, Ok, refl, sym, ap, subst, ◌∙◌, arith}
 use Rattle.std.specs.Prelude.{◌&&◌, filter, nat_lt}
 use Rattle.std.specs.List.{concat, list_all}
-use Rattle.std.specs.Result.{is_ok}
-use Rattle.std.proofs.lemmas.Bool.{and_parts, false≢true}
+use Rattle.std.proofs.lemmas.Bool.{and_parts}
 use Rattle.std.proofs.lemmas.List.{length-append, length-map}
 use Rattle.pl_base.specs.Memory.{read}
 use Rattle.pl_base.specs.Names.{is_valid_name}
 use Rattle.pl_base.proofs.NameLaws.{valid_length}
 use Rattle.pl_elf.specs.Kinds.{is_library}
 use Rattle.pl_tls.specs.Layout.{offsets}
-use Rattle.pl_tls.specs.declared.fault.TlsFault.{TlsFault}
 use Rattle.pl_tls.specs.declared.module.Module.{Module}
 use Rattle.pl_lists.specs.Lists.{ended_name, is_row, list_strings}
-use Rattle.pl_lists.specs.declared.conflict_row.ConflictRow.{ConflictRow}
 use Rattle.pl_lists.specs.declared.list_row.ListRow.{ListRow}
-use Rattle.pl_object.specs.declared.object.Object.{Object}
 use Rattle.pl_object.proofs.AcceptedLaws.{accepted}
 use Rattle.pl_parts.specs.Back.{wanted}
 use Rattle.pl_parts.specs.Found.{ps_of}
@@ -24,12 +20,10 @@ use Rattle.pl_form.specs.Words.{flat_of}
 use Rattle.pl_form.proofs.FillLaws.{fills_wanted}
 use Rattle.pl_image.specs.Loads.{IsPlaced, pieces_at}
 use Rattle.pl_value.specs.Meanings.{meanings}
-use Rattle.pl_value.specs.Ordinary.{loaded}
 use Rattle.pl_value.specs.declared.meaning.Meaning.{Meaning}
 use Rattle.pl_value.proofs.PlaceLaws.{relocs_held}
-use Rattle.pl_conflict.specs.Conflicts.{ascending, conflicts, rows_of}
 use Rattle.pl_conflict.specs.Prelinked as prelinked
-use Rattle.pl_conflict.specs.Prelinked.{Firm, are_set, file_of, has_numbers, is_program_place, list_of, list_row, objects_of, originals_of, parts_of, program_by, program_file, slots_of, stored, version_of, with_modules, with_rows}
+use Rattle.pl_conflict.specs.Prelinked.{Firm, is_program_place, list_of, list_row, objects_of, parts_of, program_file, slots_of, version_of}
 use Rattle.pl_conflict.proofs.GivenLaws.{own_meanings}
 use Rattle.pl_conflict.proofs.MemberLaws.{HasOwn, IsSet, program_numbers, set_is}
 use Rattle.pl_prelinked.specs.Fills.{fills, memory_of}
@@ -40,52 +34,10 @@ use Rattle.pl_prelinked.proofs.FirmLaws.{own_all}
 use Rattle.pl_prelinked.proofs.ProgramLaws.{originals_placed, firm_program}
 use Rattle.pl_scope.proofs.WalkedLaws.{limit_is}
 use Rattle.pl_known.specs.Fits.{resolves}
-use Rattle.pl_fast.proofs.AlikeLaws.{meanings_alike}
+use Rattle.pl_exact.proofs.LinkLemmas.{Links, file_is, links_at}
 use Rattle.pl_fast.proofs.LengthLaws.{conflicts_most, program_most, relocations_in}
 
--- ---- the links at the slots
-
-ok_is : {X E : Type 0} (r : Result X E) → is_ok r ≡ true → (x : X) × (r ≡ Ok x)
-ok_is (Ok x) e = (x, refl)
-ok_is (Err f) e = absurd (false≢true e)
-
-modules_of : (objects : List Object) (r : Result (List Module) TlsFault) → resolves objects r ≡ true → (modules : List Module) × (r ≡ Ok modules) × (is_ok (meanings objects (replicate (length objects) 0) modules) ≡ true)
-modules_of objects (Ok modules) e = (modules, refl, e)
-modules_of objects (Err f) e = absurd (false≢true e)
-
--- what the members' relocations give at their slots, and the conflict rows
-pub record Links (rs : List Firm) : Type 0 where
-  pub modules : List Module
-  pub storage : offsets (map (λ o. o.tls) (objects_of rs)) ≡ Ok modules
-  pub gives : List Meaning
-  pub given : meanings (objects_of rs) (slots_of rs) modules ≡ Ok gives
-  pub rows : List ConflictRow
-  pub made : conflicts (objects_of rs) (parts_of rs) (slots_of rs) modules ≡ Ok rows
-
-conflicts_are : (objects : List Object) (parts : List (List ℕ)) (places : List ℕ) (modules : List Module) (gs : List Meaning) → meanings objects places modules ≡ Ok gs → conflicts objects parts places modules ≡ Ok (ascending (rows_of (loaded places parts objects) gs))
-unfolding conflicts
-conflicts_are objects parts places modules gs e = rw e refl
-
-pub links_at : (rs : List Firm) → resolves (objects_of rs) (offsets (map (λ o. o.tls) (objects_of rs))) ≡ true → Links rs
-links_at rs e =
-    let m = modules_of (objects_of rs) (offsets (map (λ o. o.tls) (objects_of rs))) e in
-    let modules : List Module = m.0 in
-    let slots : List ℕ = slots_of rs in
-    let some = ok_is (meanings (objects_of rs) slots modules) (meanings_alike (objects_of rs) slots (replicate (length (objects_of rs)) 0) modules ∙ m.2) in
-    record {
-      modules = modules;
-      storage = m.1;
-      gives = some.0;
-      given = some.1;
-      rows = ascending (rows_of (loaded slots (parts_of rs) (objects_of rs)) some.0);
-      made = conflicts_are (objects_of rs) (parts_of rs) slots modules some.0 some.1;
-    }
-
--- ---- the file
-
-pub file_is : (r : Firm) (rs : List Firm) (l : Links (r ∷ rs)) → program_file (r ∷ rs) ≡ Some (program_with r.member.original (list_of rs) (prelinked.flat_of (r ∷ rs) l.gives) l.rows (version_of r.member.version))
-unfolding program_file
-file_is r rs l = rw (l.storage, l.given, l.made) refl
+-- ---- how many bytes its places have
 
 flat_is : (rs : List Firm) (gs : List Meaning) → prelinked.flat_of rs gs ≡ concat (map (λ g. read (memory_of rs gs) g.start g.size) (filter is_program_place gs))
 unfolding prelinked.flat_of
@@ -128,7 +80,7 @@ strings_short (row ∷ rows) all =
 -- a program's file is made, where its scope has few relocations, and is no longer than a folder stores
 pub record IsMadeOf (r : Firm) (rs : List Firm) : Type 0 where
   pub file : List ℕ
-  pub made : file_of (r ∷ rs) ≡ Some file
+  pub made : program_file (r ∷ rs) ≡ Some file
   pub short : length file ≤ 8 * length r.member.original + 2 ^ 26
 
 pub program_made : (r : Firm) (rs : List Firm) → AreSources (r ∷ rs) → is_library r.object.kind ≡ false → IsProgramSet (r ∷ rs) → resolves (objects_of (r ∷ rs)) (offsets (map (λ o. o.tls) (objects_of (r ∷ rs)))) ≡ true
@@ -148,9 +100,6 @@ program_made r rs are program whole e few =
     let most = program_most o r.object list (prelinked.flat_of all l.gives) l.rows (version_of r.member.version) own.firm (firm_program r own program).program filled (omega (arith, rows, strings, count, few, are.few, limit_is)) in
     record {
       file = form;
-      made = file_as r rs program ∙ file_is r rs l;
+      made = file_is r rs l;
       short = omega (arith, most, rows, strings, count, few, are.few, limit_is);
     }
-  where
-    file_as : (r : Firm) (rs : List Firm) → is_library r.object.kind ≡ false → file_of (r ∷ rs) ≡ program_file (r ∷ rs)
-    file_as r rs program = rw program refl

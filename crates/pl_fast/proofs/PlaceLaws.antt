@@ -26,11 +26,6 @@ all_append p (y ∷ xs) x all one =
 past : (a m b n : ℕ) → 0 < n → (nat_lt a (b + n) && nat_lt b (a + m) && nat_lt 0 m && nat_lt 0 n) ≡ false → (nat_le (b + n) a || nat_le (a + m) b || nat_le (a + m) a) ≡ true
 past a m b n some apart = grind (arith, nat_tests)
 
--- of the pairs of some more windows none meets
-pub tail_apart : (xs ys : List Window) → any_share (xs ++ ys) ≡ false → any_share ys ≡ false
-tail_apart [] ys apart = apart
-tail_apart (x ∷ xs) ys apart = tail_apart xs ys (or_parts (list_any (share x) (xs ++ ys)) (any_pair share (xs ++ ys)) apart).1
-
 module _ (slot : ObjectFile → ℕ) where
   -- a library at its slot
   abbrev pub window : ObjectFile → Window

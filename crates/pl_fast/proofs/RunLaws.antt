@@ -52,7 +52,7 @@ use Rattle.pl_sound.proofs.RuleLaws.{is_other, linked, map_same, other_is, other
 use Rattle.pl_fast.specs.Clear.{IsProgram}
 use Rattle.pl_fast.specs.Laws.{PrelinkedLoadsAreFast}
 use Rattle.pl_fast.proofs.AnswerLaws.{matched_fast}
-use Rattle.pl_fast.proofs.SetLaws.{AreFine, HasLibrary, HasObject, IsAmong, firm_for, libraries_fine, planned, some_file}
+use Rattle.pl_exact.proofs.SetLemmas.{AreFine, HasLibrary, HasObject, IsAmong, firm_for, libraries_fine, planned, some_file}
 
 made_by : (candidate : Bool) (planned old : Option (List ℕ)) (file : List ℕ) → candidate ≡ true → planned ≡ Some file → option_or (if candidate then planned else None) old ≡ Some file
 made_by candidate planned old file on is = rw (on, is) refl

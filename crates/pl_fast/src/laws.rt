@@ -1,5 +1,6 @@
 // Laws of fast loads.
 ghost use Rattle.pl_fast.specs.Demo.{DemoLoadsAreFast, DemoProgramsAreReady};
+ghost use Rattle.pl_fast.specs.DemoText.{DemoRelocationsAreDrawn, DemoTextIsDrawn, DemoTextsAreOrdinary};
 ghost use Rattle.pl_fast.specs.Laws.{FilesOffTheRegionAreClear, LowProgramsKeepOff, MatchedLoadsAreFast, PrelinkedLoadsAreFast};
 
 /// `--load` of a program starts on the fast path, by every policy and whatever is busy: where its file's list tells the files of its walk, the rule of prelinked files holds at it, and no library that it needs has, at the slot that its file bears, an address that the program's file loads by its own program headers, or a busy one. It does nothing.
@@ -18,4 +19,11 @@ pub fn prelinked_loads_are_fast()
 pub fn demo_loads_are_fast()
     ensures ready { DemoProgramsAreReady }
     ensures fast { DemoLoadsAreFast }
+{}
+
+/// For every number the text of `--demo` is known, but for how many conflict rows there are: the set has as many files as the number draws; their relocations are 128 a library and 65 a program; as many loads are fast as there are programs; and the digest is that of the texts of loads that link the originals, at the same places. It does nothing.
+pub fn demo_text_is_drawn()
+    ensures texts { DemoTextsAreOrdinary }
+    ensures relocations { DemoRelocationsAreDrawn }
+    ensures text { DemoTextIsDrawn }
 {}

@@ -5,4 +5,6 @@
 
 mod laws;
 
-pub use laws::{demo_loads_are_fast, matched_loads_are_fast, prelinked_loads_are_fast};
+pub use laws::{
+    demo_loads_are_fast, demo_text_is_drawn, matched_loads_are_fast, prelinked_loads_are_fast,
+};

@@ -1,2 +1,10 @@
+pub mod HoldLaws
+pub mod StandingLaws
+pub mod EntriesLaws
+pub mod ProgramLaws
+pub mod FixedLaws
+pub mod FindLaws
+pub mod TagsLaws
+pub mod LooseLaws
 pub mod PlaceLaws
 pub mod BareLaws

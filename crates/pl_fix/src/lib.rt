@@ -5,6 +5,6 @@ mod fixing;
 mod law;
 mod placing;
 
-pub use fixing::{fix_placed, loosen};
+pub use fixing::fix_placed;
 pub use law::files_are_bare;
 pub use placing::Placing;

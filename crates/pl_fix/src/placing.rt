@@ -9,9 +9,6 @@ pub enum Placing {
     /// No aligned address of the region of such programs holds it.
     NoPlace,
 
-    /// The program that it becomes would be taken for a prelinked file.
-    Marked,
-
     /// The program that it becomes.
     Fixed {
         /// The address that is added to its own.

@@ -10,3 +10,4 @@ pub mod RowLaws
 pub mod OrderLaws
 pub mod RelationLaws
 pub mod NameLaws
+pub mod EarliestLaws

@@ -123,7 +123,7 @@ needs_edge ws i j closed n =
     ap (λ (z : List ℕ). has_number z j) (needs_at ws i n.needing n.from)
     ∙ numbers_there (names ws) n.needing.1.needed j n.needed.0 n.name (number_found (names ws) j n.needed.0 closed.distinct (get_map (λ (q : List ℕ × Object). q.0) ws j n.needed n.to))
 
-edge_needs : (ws : Walked) (i j : ℕ) → has_number (needs (graph ws) i) j ≡ true → Needs ws i j
+pub edge_needs : (ws : Walked) (i j : ℕ) → has_number (needs (graph ws) i) j ≡ true → Needs ws i j
 edge_needs ws i j t = elim (cases_lt i (length ws)) [
   | inl lt ↦ from_pair lt
   | inr past ↦ absurd (false≢true (sym (ap (λ (z : List ℕ). has_number z j) (get_or_past (graph ws) i [] (rw (length_graph ws) past))) ∙ t))

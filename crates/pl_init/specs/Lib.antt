@@ -5,3 +5,4 @@ pub mod Right
 pub mod Lawful
 pub mod Marks
 pub mod OrderText
+pub mod Laws

@@ -3,6 +3,7 @@
 
 mod certificate;
 mod graph;
+mod laws;
 mod marks;
 mod names;
 mod ordering;
@@ -14,6 +15,7 @@ mod table;
 mod text;
 
 pub use certificate::{reach, right};
+pub use laws::{printed_order_is_the_earliest, rows_are_the_relation};
 pub use orders::{check, order};
 pub use relation::{Reach, ReachRow};
 pub use text::{full_text, order_text, short_text};

@@ -3,10 +3,10 @@ use Rattle.std.proofs.Common.{◌≡◌, ⊎_elim, ℕ, suc, ◌+◌, ◌<◌, B
 use Rattle.std.proofs.Math.Seq.{drop-cons}
 use Rattle.std.proofs.lemmas.Bool.Decides.{nat_tests}
 use Rattle.std.proofs.lemmas.Bool.{cases_Bool, cond-true, cond-false}
-use Rattle.pl_folder.specs.Disk.{View, State, IsWhole, bytes_of, same, read}
+use Rattle.pl_folder.specs.Disk.{Name, View, State, IsWhole, bytes_of, same, read}
 use Rattle.pl_folder.specs.Since.{Within}
-use Rattle.pl_journal.specs.Names.{beside, journal}
-use Rattle.pl_journal.specs.Rows.{rows_in, rows_of}
+use Rattle.pl_journal.specs.Names.{beside, is_own, journal, journal_new}
+use Rattle.pl_journal.specs.Rows.{done_from, rows_in, rows_of}
 use Rattle.pl_journal.specs.Spelling.{are_rows}
 use Rattle.pl_journal.specs.declared.row.Row.{Row}
 use Rattle.pl_folder.specs.declared.TheConstants.{STORED}
@@ -21,7 +21,8 @@ use Rattle.pl_journal.specs.declared.step.Step.{Step}
 use Rattle.pl_journal.specs.declared.step.Step.TheVariants.{Put as PutStep, Drop as DropStep, Skip}
 use Rattle.pl_folder.proofs.ImageLaws.{read_image}
 use Rattle.pl_journal.proofs.NameLemmas.{equal}
-use Rattle.pl_journal.proofs.Done.{AreDistinct, beside_apart, distinct_test}
+use Rattle.pl_journal.proofs.Done.{AreDistinct, beside_apart, distinct_test, none_done, valid_not}
+use Rattle.pl_journal.proofs.Phases.{all_clearing, clearing_cut}
 use Rattle.pl_journal.proofs.Meanings.{stands_self, midway_stands, clearing_stands, untouched_stands, Holds, committed, committed_holds, committed_between, before_between, ends_applied, applied_no_own}
 
 -- an element of a list, and the rest
@@ -121,6 +122,33 @@ module _ (before : View) (no_own : HasNoOwn before) (edits : List Edit) (bytes :
 
   pub committing_between : (w : View) → Committing before (all_staged edits bytes before) rows w → StandsBetween before edits w
   committing_between w = ⊎_elim (untouched_between w) (midway_between w)
+
+  -- what is staged is only under own names
+  staged_agree : (i : ℕ) (more : List Edit) (n : Name) → is_own n ≡ false → staged i more before n ≡ before n
+  staged_agree i [] n valid = refl
+  staged_agree i (Write name some ∷ more) n valid = cond-false (same n (beside i)) _ _ (valid_not n (beside i) valid refl) ∙ staged_agree (i + 1) more n valid
+  staged_agree i (Erase name ∷ more) n valid = staged_agree (i + 1) more n valid
+
+  staged_journal : (i : ℕ) (more : List Edit) → staged i more before journal ≡ before journal
+  staged_journal i [] = refl
+  staged_journal i (Write name some ∷ more) = cond-false (same journal (beside i)) (Some some) (staged (i + 1) more before journal) refl ∙ staged_journal (i + 1) more
+  staged_journal i (Erase name ∷ more) = staged_journal (i + 1) more
+
+  pub staged_between : (w : View) → Same w (all_staged edits bytes before) → StandsBetween before edits w
+  staged_between w is = untouched_between w (record {
+    agree = λ n valid. is n ∙ cond-false (same n journal_new) _ _ (valid_not n journal_new valid refl) ∙ staged_agree 0 edits n valid;
+    no_journal = is journal ∙ cond-false (same journal journal_new) (Some bytes) (staged 0 edits before journal) refl ∙ staged_journal 0 edits ∙ no_own journal refl;
+  })
+
+  -- no row is done yet, or all of them
+  pub committed_is_between : (w : View) → Same w v0 → StandsBetween before edits w
+  committed_is_between w is = midway_between w (record { keep = λ _. false; done = λ n. is n ∙ sym (none_done 0 rows v0 n) })
+
+  pub all_between : (w : View) → Same w (done_from 0 rows (λ _. true) v0) → StandsBetween before edits w
+  all_between w is = midway_between w (record { keep = λ _. true; done = is })
+
+  pub ended_between : (w : View) → ((n : Name) → w n ≡ cond (same n journal) None (done_from 0 rows (λ _. true) v0 n)) → StandsBetween before edits w
+  ended_between w is = clearing_between w (clearing_cut v0 rows (distinct_test rows distinct) journal refl (done_from 0 rows (λ _. true) v0) w is (all_clearing v0 rows (distinct_test rows distinct) (done_from 0 rows (λ _. true) v0) (λ n. refl)))
 
   pub finishing_between : (w : View) → Finishing v0 rows w → StandsBetween before edits w
   finishing_between w = ⊎_elim (midway_between w) (clearing_between w)

@@ -4,7 +4,7 @@ use Rattle.std.specs.FinMap.{contains_key, get}
 use Rattle.pl_base.specs.Files.{Files}
 use Rattle.pl_folder.specs.Calls.{Calls, IsThere}
 use Rattle.pl_folder.specs.Disk.{Name, View, State, Disk, after, read, same}
-use Rattle.pl_folder.specs.Effects.{Does, DoesOrNot, Effect, StepsDisk, StepsDiskOrNot, StepsFiles, firms, removes, renamed, renames, settles}
+use Rattle.pl_folder.specs.Effects.{Does, DoesOrNot, Effect, SameFiles, StepsDisk, StepsDiskOrNot, StepsFiles, firms, removes, renamed, renames, settles}
 use Rattle.pl_folder.specs.Seen.{Seen, Ending, Done, Broken, Undone}
 use Rattle.pl_folder.specs.Since.{Keeps}
 use Rattle.pl_folder.specs.States as state
@@ -12,7 +12,7 @@ use Rattle.pl_folder.proofs.ImageLaws.{removed_reads, settled_whole, settled_wit
 use Rattle.pl_journal.specs.FileNames.{name_text}
 use Rattle.pl_journal.specs.Meaning.{Same}
 use Rattle.pl_journal.specs.Names.{beside, journal, journal_new}
-use Rattle.pl_journal.specs.Parts.{AtDone, CanDo, CanStep, Commits, DoesRows, DoesTo, DoRows, Finishes, Goes, IsFinished, NamesFile, Reads, StepsOn, is_firm, stepped, without_journal}
+use Rattle.pl_journal.specs.Parts.{AtDone, AtEnd, CanDo, CanStep, Commits, DoesRows, DoesTo, DoRows, Finishes, Goes, IsFinished, NamesFile, ReadsOrNot, StepsOn, is_firm, stepped, without_journal}
 use Rattle.pl_journal.specs.Phases.{Committing, Finishing, IsClearing, IsCommitting, IsDoing, IsStaged, IsStaging, IsStep, Midway, RowAt, IsPut, finished, shifted}
 use Rattle.pl_journal.specs.Rows.{done_from}
 use Rattle.pl_journal.specs.Spelling.{are_rows}
@@ -22,7 +22,7 @@ use Rattle.pl_journal.specs.declared.row.Row.TheVariants.{Put, Drop}
 use Rattle.pl_journal.specs.declared.step.Step.{Step}
 use Rattle.pl_journal.specs.declared.step.Step.TheVariants.{Put as PutStep, Drop as DropStep, Skip}
 use Rattle.pl_journal.proofs.Done.{distinct_test, done_agree, none_done}
-use Rattle.pl_journal.proofs.Endings.{Stops, at_done, makes_told, no_calls, stopped, then_told, when_done}
+use Rattle.pl_journal.proofs.Endings.{Stops, makes_told, no_calls, stopped, then_told, when_done}
 use Rattle.pl_journal.proofs.FileViews.{get_removed, get_renamed}
 use Rattle.pl_journal.proofs.Moments.{joined, starts, weaker}
 use Rattle.pl_journal.proofs.Phases.{as_many, at_drop, at_firm_row, at_last, at_put, at_remove, at_rename, at_settle, at_settle_rows, at_skip, drop_step_row, keeps_drop, keeps_firm_row, keeps_last, keeps_nothing, keeps_put, keeps_remove, keeps_rename, keeps_settle, keeps_settle_clear, keeps_settle_rows, put_step_row, row_of_first_step, skip_step_row, to_finishing}
@@ -39,10 +39,10 @@ done_step_or_not step e x y is disk = subst (λ f. StepsDiskOrNot step f x y) is
 
 module _ (from to : List ℕ) where
   pub names_stop : {a b : Seen} → Calls Broken (DoesOrNot (firms from)) a b → Calls Broken (NamesFile from to) a b
-  names_stop call = makes_told refl call (λ told files. tt) (λ told disk. inl disk)
+  names_stop call = makes_told refl call (λ told files. inl files) (λ told disk. inl disk)
 
-  named_files : (e : Ending) (x y z : Files) → y ≡ x → StepsFiles (λ files. renamed files from to) e y z → AtDone e (z ≡ renamed x from to)
-  named_files e x y z one two = when_done e (λ is. subst (λ f. StepsFiles (λ files. renamed files from to) f y z) is two ∙ ap (λ (f : Files). renamed f from to) one)
+  named_files : (e : Ending) (x y z : Files) → y ≡ x → StepsFiles (λ files. renamed files from to) e y z → StepsFiles (λ files. renamed files from to) e x z
+  named_files e x y z one two = subst (λ (f : Files). StepsFiles (λ files. renamed files from to) e f z) one two
 
   named_disk : (e : Ending) (x y z : Disk) → y ≡ is_firm from x → StepsDisk (state.renamed from to) e y z → Rattle.pl_journal.specs.Parts.NamesDisk from to e x z
   named_disk e x y z one two = by_ending e (subst (λ d. StepsDisk (state.renamed from to) e d z) one two)
@@ -55,24 +55,49 @@ module _ (from to : List ℕ) where
   pub names_on : {e : Ending} {a b c : Seen} → Calls Done (DoesOrNot (firms from)) a b → Calls e (Does (renames from to)) b c → Calls e (NamesFile from to) a c
   names_on {e = e} {a = a} {b = b} {c = c} first second = then_told first second (λ told one two. named_files e a.files b.files c.files one two) (λ told one two. named_disk e a.disk b.disk c.disk one two)
 
+-- ---- what is read after an ending
+
+same_view : {x y : Files} → y ≡ x → Same (get y) (get x)
+same_view is n = ap (λ (f : Files). get f n) is
+
+pub read_not : (f : View → View) (e : Ending) (x y : Files) → Stops e → Same (get y) (get x) → ReadsOrNot f e x y
+read_not f Done x y stops is = absurd stops
+read_not f Broken x y stops is = inl is
+read_not f Undone x y stops is = tt
+
+pub read_done : (f : View → View) (e : Ending) (x y : Files) → Same (get y) (f (get x)) → ReadsOrNot f e x y
+read_done f Done x y is = is
+read_done f Broken x y is = inr is
+read_done f Undone x y is = tt
+
+read_steps : (f : View → View) (step : Files → Files) (e : Ending) (x y : Files) → Same (get (step x)) (f (get x)) → StepsFiles step e x y → ReadsOrNot f e x y
+read_steps f step Done x y does is = λ n. same_view is n ∙ does n
+read_steps f step Broken x y does (inl is) = inl (same_view is)
+read_steps f step Broken x y does (inr is) = inr (λ n. same_view is n ∙ does n)
+read_steps f step Undone x y does is = tt
+
 -- a named file, by the files
-named_view : (e : Ending) (from to : List ℕ) (x y : Files) → contains_key x from ≡ true → AtDone e (y ≡ renamed x from to) → Reads (shifted from to) e x y
-named_view e from to x y there named = at_done e (λ is n. ap (λ (f : Files). get f n) is ∙ get_renamed x from to there n) named
+named_view : (e : Ending) (from to : List ℕ) (x y : Files) → contains_key x from ≡ true → StepsFiles (λ files. renamed files from to) e x y → ReadsOrNot (shifted from to) e x y
+named_view e from to x y there named = read_steps (shifted from to) (λ files. renamed files from to) e x y (get_renamed x from to there) named
+
+-- a file that goes
+pub removed_view : (e : Ending) (name : List ℕ) (x y : Files) → StepsFiles (λ files. Rattle.std.specs.FinMap.remove files name) e x y → ReadsOrNot (λ v n. cond (same n name) None (v n)) e x y
+removed_view e name x y gone = read_steps (λ v n. cond (same n name) None (v n)) (λ files. Rattle.std.specs.FinMap.remove files name) e x y (get_removed x name) gone
 
 -- ---- the commit
 
 abbrev pub SettlesStaged : Effect
-SettlesStaged = record { files = λ e old new. AtDone e (new ≡ old); disk = λ e old new. (before r : View) (rows : List Row) → is_some (r journal_new) ≡ true → Goes (IsStaging before r) (Committing before r rows) (IsStaged before r) e old new }
+SettlesStaged = record { files = SameFiles; disk = λ e old new. (before r : View) (rows : List Row) → is_some (r journal_new) ≡ true → Goes (IsStaging before r) (Committing before r rows) (IsStaged before r) e old new }
 
 abbrev pub NamesJournal : Effect
-NamesJournal = record { files = Reads (shifted journal_new journal); disk = λ e old new. (before r : View) (rows : List Row) → is_some (r journal_new) ≡ true → Goes (IsStaging before r) (Committing before r rows) (IsCommitting before r) e old new }
+NamesJournal = record { files = ReadsOrNot (shifted journal_new journal); disk = λ e old new. (before r : View) (rows : List Row) → is_some (r journal_new) ≡ true → Goes (IsStaging before r) (Committing before r rows) (IsCommitting before r) e old new }
 
 pub settles_staged : {e : Ending} {a b : Seen} → Calls e (DoesOrNot settles) a b → Calls e SettlesStaged a b
-settles_staged {e = e} {a = a} {b = b} call = makes_told refl call (λ told same_files. when_done e (λ is. same_files))
+settles_staged {e = e} {a = a} {b = b} call = makes_told refl call (λ told same_files. same_files)
     (λ told disk before r rows there staging. (keeps_settle before r rows there a.disk staging e b.disk disk, when_done e (λ is. at_settle before r rows there a.disk staging b.disk (done_step_or_not state.settled e a.disk b.disk is disk))))
 
 pub settles_stop : {e : Ending} {a b : Seen} → Stops e → Calls e SettlesStaged a b → Calls e Commits a b
-settles_stop {e = e} stops call = makes_told refl call (λ told files. stopped _ e stops) (λ told disk before r rows there staging. ((disk before r rows there staging).0, stopped _ e stops))
+settles_stop {e = e} {a = a} {b = b} stops call = makes_told refl call (λ told files. read_not (shifted journal_new journal) e a.files b.files stops (same_view files)) (λ told disk before r rows there staging. ((disk before r rows there staging).0, stopped _ e stops))
 
 pub settled_there : {a b : Seen} → Calls Done SettlesStaged a b → IsThere a journal_new → IsThere b journal_new
 settled_there call there told = let before = sym call.tells ∙ told in ap (λ (f : Files). contains_key f journal_new) (call.files before) ∙ there before
@@ -102,18 +127,18 @@ journal_named before r rows there d staged e d2 = by_ending e
 
 pub names_journal : {e : Ending} {a b c : Seen} → IsThere a journal_new → Calls Done SettlesStaged a b → Calls e (NamesFile journal_new journal) b c → Calls e NamesJournal a c
 names_journal {e = e} {a = a} {b = b} {c = c} there first second = then_told first second
-    (λ told one two. at_done e (λ reads n. reads n ∙ ap (λ (f : Files). shifted journal_new journal (get f) n) one) (named_view e journal_new journal b.files c.files (ap (λ (f : Files). contains_key f journal_new) one ∙ there told) two))
+    (λ told one two. subst (λ (f : Files). ReadsOrNot (shifted journal_new journal) e f c.files) one (named_view e journal_new journal b.files c.files (ap (λ (f : Files). contains_key f journal_new) one ∙ there told) two))
     (λ told one two before r rows is staging.
     let was = one before r rows is staging in
     let next = journal_named before r rows is b.disk was.1 e c.disk two in
     (joined a.disk b.disk c.disk (Committing before r rows) was.0 next.0, next.1))
 
 pub names_stop_commit : {e : Ending} {a b : Seen} → Stops e → Calls e NamesJournal a b → Calls e Commits a b
-names_stop_commit {e = e} stops call = makes_told refl call (λ told files. stopped _ e stops) (λ told disk before r rows there staging. ((disk before r rows there staging).0, stopped _ e stops))
+names_stop_commit {e = e} stops call = makes_told refl call (λ told files. files) (λ told disk before r rows there staging. ((disk before r rows there staging).0, stopped _ e stops))
 
 pub commits_on : {e : Ending} {a b c : Seen} → Calls Done NamesJournal a b → Calls e (DoesOrNot settles) b c → Calls e Commits a c
 commits_on {e = e} {a = a} {b = b} {c = c} first second = then_told first second
-    (λ told one two. when_done e (λ is n. ap (λ (f : Files). get f n) two ∙ one n))
+    (λ told one two. read_done (shifted journal_new journal) e a.files c.files (λ n. same_view two n ∙ one n))
     (λ told one two before r rows there staging.
     let was = one before r rows there staging in (
       joined a.disk b.disk c.disk (Committing before r rows) was.0 (keeps_last before r rows there b.disk was.1 e c.disk two),
@@ -184,9 +209,7 @@ pub steps_drop : {e : Ending} {a b : Seen} (name : FileName) (n : List ℕ) → 
 steps_drop {e = e} {a = a} {b = b} name n is call =
     let at : Calls e (Does (removes (name_text name))) a b = subst (λ q. Calls e (Does (removes q)) a b) is call in
     makes_told refl at
-    (λ told files. when_done e (λ done q.
-    let gone : b.files ≡ Rattle.std.specs.FinMap.remove a.files (name_text name) = subst (λ f. StepsFiles (λ fs. Rattle.std.specs.FinMap.remove fs (name_text name)) f a.files b.files) done files in
-    ap (λ (f : Files). get f q) gone ∙ get_removed a.files (name_text name) q))
+    (λ told files. removed_view e (name_text name) a.files b.files files)
     (λ told disk v rows k row fine at_row does doing.
     let it = drop_step_row v rows k row (DropStep name) name refl at_row does in (
       keeps_drop v rows fine k a.disk doing (name_text name) it.0 it.1 it.2 e b.disk disk,
@@ -207,6 +230,14 @@ none_stepped steps a = no_calls Done a refl
     below_zero : (j : ℕ) → false ≡ ltb j 0
     below_zero j = Rattle.std.proofs.Common.sym (Rattle.std.proofs.lemmas.Bool.le-ltb j 0 (omega arith))
 
+-- what is read after one row more
+row_read : (e : Ending) (v : View) (rows : List Row) (fine : are_rows rows ≡ true) (k : ℕ) (row : Row) (step : Step) → RowAt 0 rows k row → IsStep v k row step → (x y : Files) → Same (get x) (done_from 0 rows (λ j. ltb j k) v) → ReadsOrNot (stepped step) e x y
+    → AtEnd e (Same (get y) (done_from 0 rows (λ j. ltb j (k + 1)) v)) (Midway v rows (get y))
+row_read Done v rows fine k row step at does x y was now = next_done v rows fine k row step at does (get x) (get y) was now
+row_read Broken v rows fine k row step at does x y was (inl is) = record { keep = λ j. ltb j k; done = λ n. is n ∙ was n }
+row_read Broken v rows fine k row step at does x y was (inr now) = record { keep = λ j. ltb j (k + 1); done = next_done v rows fine k row step at does (get x) (get y) was now }
+row_read Undone v rows fine k row step at does x y was now = tt
+
 module _ (steps : List Step) (k : ℕ) (step : Step) (lt : k < length steps) (is : step ≡ get_or steps k step) where
   pub step_there : {a b : Seen} → CanDo a steps → Calls Done (DoesTo k steps) a b → CanStep b step
   step_there {a = a} {b = b} can call = by_step step is
@@ -224,15 +255,20 @@ module _ (steps : List Step) (k : ℕ) (step : Step) (lt : k < length steps) (is
   steps_on {e = e} {a = a} {b = b} {c = c} first second = then_told first second
       (λ told one two rows fine are.
       let it = row_of_first_step (get a.files) rows steps k step are lt is in
-      at_done e (λ reads. next_done (get a.files) rows fine k it.0 step it.1 it.2 (get b.files) (get c.files) (one rows fine are) reads) two)
+      row_read e (get a.files) rows fine k it.0 step it.1 it.2 b.files c.files (one rows fine are) two)
       (λ told one two v rows fine are doing.
       let it = row_of_first_step v rows steps k step are lt is in
       let was = one v rows fine are doing in
       let next = two v rows k it.0 fine it.1 it.2 was.1 in
       (joined a.disk b.disk c.disk (Midway v rows) was.0 next.0, next.1))
 
+rows_midway : (X Y Z : Type 0) (e : Ending) → Stops e → AtEnd e X Z → AtEnd e Y Z
+rows_midway X Y Z Done stops end = absurd stops
+rows_midway X Y Z Broken stops end = end
+rows_midway X Y Z Undone stops end = tt
+
 pub rows_stop : {e : Ending} {a b : Seen} (k : ℕ) (steps : List Step) → Stops e → Calls e (DoesTo k steps) a b → Calls e (DoesRows steps) a b
-rows_stop {e = e} k steps stops call = makes_told refl call (λ told files rows fine are. stopped _ e stops) (λ told disk v rows fine are doing. ((disk v rows fine are doing).0, stopped _ e stops))
+rows_stop {e = e} k steps stops call = makes_told refl call (λ told files rows fine are. rows_midway _ _ _ e stops (files rows fine are)) (λ told disk v rows fine are doing. ((disk v rows fine are doing).0, stopped _ e stops))
 
 pub rows_all : {a b : Seen} (k : ℕ) (steps : List Step) → k ≡ length steps → Calls Done (DoesTo k steps) a b → Calls Done (DoesRows steps) a b
 rows_all {a = a} {b = b} k steps all call = subst (λ j. Calls Done (DoesTo j steps) a b) all call
@@ -246,23 +282,21 @@ abbrev IsWithoutJournal : View → List Row → State → Type 0
 IsWithoutJournal v rows s = IsClearing v rows s × Same (read s) (finished v rows)
 
 abbrev pub SettlesRows : Effect
-SettlesRows = record { files = λ e old new. AtDone e (new ≡ old); disk = λ e old new. (v : View) (rows : List Row) → are_rows rows ≡ true → Goes (IsDoing v rows (length rows)) (Finishing v rows) (IsSettledDone v rows) e old new }
+SettlesRows = record { files = SameFiles; disk = λ e old new. (v : View) (rows : List Row) → are_rows rows ≡ true → Goes (IsDoing v rows (length rows)) (Finishing v rows) (IsSettledDone v rows) e old new }
 
 abbrev pub RemovesJournal : Effect
-RemovesJournal = record { files = Reads without_journal; disk = λ e old new. (v : View) (rows : List Row) → are_rows rows ≡ true → Goes (IsDoing v rows (length rows)) (Finishing v rows) (IsWithoutJournal v rows) e old new }
+RemovesJournal = record { files = ReadsOrNot without_journal; disk = λ e old new. (v : View) (rows : List Row) → are_rows rows ≡ true → Goes (IsDoing v rows (length rows)) (Finishing v rows) (IsWithoutJournal v rows) e old new }
 
 pub settles_rows : {e : Ending} {a b : Seen} → Calls e (DoesOrNot settles) a b → Calls e SettlesRows a b
-settles_rows {e = e} {a = a} {b = b} call = makes_told refl call (λ told same_files. when_done e (λ is. same_files))
+settles_rows {e = e} {a = a} {b = b} call = makes_told refl call (λ told same_files. same_files)
     (λ told disk v rows fine doing. (keeps_settle_rows v rows fine a.disk doing e b.disk disk, when_done e (λ is. at_settle_rows v rows fine a.disk doing b.disk (done_step_or_not state.settled e a.disk b.disk is disk))))
 
 pub settles_rows_stop : {e : Ending} {a b : Seen} → Stops e → Calls e SettlesRows a b → Calls e Finishes a b
-settles_rows_stop {e = e} stops call = makes_told refl call (λ told files. stopped _ e stops) (λ told disk v rows fine doing. ((disk v rows fine doing).0, stopped _ e stops))
+settles_rows_stop {e = e} {a = a} {b = b} stops call = makes_told refl call (λ told files. read_not without_journal e a.files b.files stops (same_view files)) (λ told disk v rows fine doing. ((disk v rows fine doing).0, stopped _ e stops))
 
 pub removes_journal : {e : Ending} {a b c : Seen} → Calls Done SettlesRows a b → Calls e (Does (removes journal)) b c → Calls e RemovesJournal a c
 removes_journal {e = e} {a = a} {b = b} {c = c} first second = then_told first second
-    (λ told one two. when_done e (λ done q.
-    let gone : c.files ≡ Rattle.std.specs.FinMap.remove b.files journal = subst (λ f. StepsFiles (λ fs. Rattle.std.specs.FinMap.remove fs journal) f b.files c.files) done two in
-    ap (λ (f : Files). get f q) gone ∙ get_removed b.files journal q ∙ ap (λ (f : Files). without_journal (get f) q) one))
+    (λ told one two. subst (λ (f : Files). ReadsOrNot without_journal e f c.files) one (removed_view e journal b.files c.files two))
     (λ told one two v rows fine doing.
     let was = one v rows fine doing in (
       joined a.disk b.disk c.disk (Finishing v rows) was.0 (to_finishing v rows fine b.disk c.disk (keeps_remove v rows fine b.disk was.1.0 journal refl e c.disk two)),
@@ -274,11 +308,11 @@ removes_journal {e = e} {a = a} {b = b} {c = c} first second = then_told first s
     ))
 
 pub removes_journal_stop : {e : Ending} {a b : Seen} → Stops e → Calls e RemovesJournal a b → Calls e Finishes a b
-removes_journal_stop {e = e} stops call = makes_told refl call (λ told files. stopped _ e stops) (λ told disk v rows fine doing. ((disk v rows fine doing).0, stopped _ e stops))
+removes_journal_stop {e = e} stops call = makes_told refl call (λ told files. files) (λ told disk v rows fine doing. ((disk v rows fine doing).0, stopped _ e stops))
 
 pub finishes_on : {e : Ending} {a b c : Seen} → Calls Done RemovesJournal a b → Calls e (DoesOrNot settles) b c → Calls e Finishes a c
 finishes_on {e = e} {a = a} {b = b} {c = c} first second = then_told first second
-    (λ told one two. when_done e (λ is n. ap (λ (f : Files). get f n) two ∙ one n))
+    (λ told one two. read_done without_journal e a.files c.files (λ n. same_view two n ∙ one n))
     (λ told one two v rows fine doing.
     let was = one v rows fine doing in (
       joined a.disk b.disk c.disk (Finishing v rows) was.0 (to_finishing v rows fine b.disk c.disk (keeps_settle_clear v rows fine b.disk was.1.0 e c.disk two)),

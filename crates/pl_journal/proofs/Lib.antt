@@ -18,3 +18,4 @@ pub mod InPlace
 pub mod StateLemmas
 pub mod RecoverLemmas
 pub mod RecoverParts
+pub mod RealLemmas

@@ -21,7 +21,7 @@ use Rattle.pl_journal.specs.Leaves.{IsCalm, Looks, OwnAreIn, RecoversDisk, fault
 use Rattle.pl_journal.specs.Lists.{IsListOf, any_own, is_listed, texts}
 use Rattle.pl_journal.specs.Meaning.{Same, StandsFor}
 use Rattle.pl_journal.specs.Names.{is_own, journal}
-use Rattle.pl_journal.specs.Parts.{AreNames, AtDone, DoRows, DoesJournal, DoesJournalOf, DoesRows, CanDo, IsAtRest, IsRested, Looking, Recovers, RecoversSettled, RemovesIfOwn, RemovesOwn, RemovesTo, StepsSpelled, without_own, without_owns}
+use Rattle.pl_journal.specs.Parts.{AreNames, AtDone, AtEnd, DoRows, DoesJournal, DoesJournalOf, DoesRows, CanDo, IsAtRest, IsRested, Looking, Recovers, RecoversSettled, RemovesIfOwn, RemovesOwn, RemovesTo, StepsSpelled, StillClears, without_own, without_owns}
 use Rattle.pl_journal.specs.Phases.{AreSteps, Clearing, IsClearing, IsDoing, Midway}
 use Rattle.pl_journal.specs.Reading.{rows_spelled}
 use Rattle.pl_journal.specs.Rows.{clean, done_from, rows_in, rows_of}
@@ -34,14 +34,18 @@ use Rattle.pl_journal.proofs.CarryLemmas.{rows_in_distinct, settled_read, too_lo
 use Rattle.pl_journal.proofs.Done.{distinct_test, recovered_by}
 use Rattle.pl_journal.proofs.Endings.{Stops, at_done, makes_told, no_calls, stopped, then_told, when_done}
 use Rattle.pl_journal.proofs.FileViews.{get_removed, listed, one_view, read_files}
-use Rattle.pl_journal.proofs.Meanings.{midway_stands, nothing_recovered, recovered_no_own}
+use Rattle.pl_journal.proofs.Meanings.{clearing_stands, midway_stands, nothing_recovered, recovered_no_own, stands_self}
 use Rattle.pl_journal.proofs.Moments.{joined, starts, weaker}
 use Rattle.pl_journal.proofs.NameLemmas.{equal}
-use Rattle.pl_journal.proofs.Phases.{as_many, at_remove, below_rows, keeps_remove}
+use Rattle.pl_journal.proofs.Phases.{all_clearing, as_many, at_remove, below_rows, clearing_cut, keeps_remove}
 use Rattle.pl_journal.proofs.RecoverLemmas.{calm_at, calm_clearing, calm_doing, calm_listed, calm_reads, calm_recovered, calm_self, calm_settled, clearing_all, last_at, last_keeps, looks_keep, no_look, no_own_of, not_listed, own_done, passed_listed, recovers_first, removed_listed, settle_at, settle_keeps, waits_look}
 
 done_or_not : (step : State → State) (x y : Disk) → StepsDiskOrNot step Done x y → y ≡ after (step x.now) x
 done_or_not step x y is = is
+
+-- files that are as they were stand for what they stood for
+unchanged : {x y : Files} → y ≡ x → StandsFor (get x) (get y)
+unchanged {x = x} {y = y} is = stands_self (get x) (get y) (λ n. ap (λ (f : Files). get f n) is)
 
 -- calls that only read, as a part
 pub looking : {e f : Ending} {a b : Seen} → is_broken e ≡ is_broken f → Calls e Idles a b → Calls f Looking a b
@@ -135,7 +139,7 @@ module _ (names : List Name) (a : Seen) (law : IsFolder a) (are : AreNames a nam
 
   -- it has no steps
   pub steps_stop : (fault : JournalFault) → (fault ≡ BadJournal → a.tells ≡ true → rows_in (get a.files journal) ≡ None) → {b : Seen} → Calls (journal_ending fault) Looking a b → Calls (journal_ending fault) (DoesJournal names (Some fault)) a b
-  steps_stop Failed bad {b = b} call = makes_told refl call (λ told files. tt) (λ told looks v calm all. looks_keep a.disk b.disk (StandsFor v) (calm_self v a.disk.now calm) looks)
+  steps_stop Failed bad {b = b} call = makes_told refl call (λ told files. unchanged files) (λ told looks v calm all. looks_keep a.disk b.disk (StandsFor v) (calm_self v a.disk.now calm) looks)
   steps_stop BadJournal bad {b = b} call = makes_told refl call (λ told files. (bad refl told, files))
       (λ told looks v calm all. (looks_keep a.disk b.disk (Same v) calm.only looks, ap (λ (w : View). rows_in (w journal)) (sym (seen_so told v calm)) ∙ bad refl (law.tells told)))
   steps_stop NoMemory bad {b = b} call = makes_told refl call (λ told files. files) (λ told looks v calm all. looks_keep a.disk b.disk (StandsFor v) (calm_self v a.disk.now calm) looks)
@@ -153,20 +157,26 @@ module _ (names : List Name) (a : Seen) (law : IsFolder a) (are : AreNames a nam
     -- the rows are done
     abbrev pub RowsOn : Effect
     RowsOn = record {
-      files = λ e old new. (told : a.tells ≡ true) → AtDone e (Same (get new) (done_from 0 (does told).rows (λ _. true) (get a.files)));
+      files = λ e old new. (told : a.tells ≡ true) → AtEnd e (Same (get new) (done_from 0 (does told).rows (λ _. true) (get a.files))) (StandsFor (get a.files) (get new));
       disk = λ e old new. (told : a.records ≡ true) (v : View) (calm : IsCalm v a.disk.now) → Keeps a.disk new (StandsFor v) × AtDone e (IsDoing v (does_so told v calm).rows (length (does_so told v calm).rows) new.now);
     }
 
     all_rows : (rows : List Row) (old new : View) → AreSteps old 0 rows steps → Same new (done_from 0 rows (λ j. Rattle.std.proofs.Common.ltb j (length steps)) old) → Same new (done_from 0 rows (λ _. true) old)
     all_rows rows old new are reads n = reads n ∙ ap (λ k. done_from 0 rows (λ j. Rattle.std.proofs.Common.ltb j k) old n) (as_many old 0 rows steps are) ∙ below_rows rows old n
 
+    rows_end : (e : Ending) (rows : List Row) → rows_in (get a.files journal) ≡ Some rows → are_rows rows ≡ true → AreSteps (get a.files) 0 rows steps → (new : View)
+        → AtEnd e (Same new (done_from 0 rows (λ j. Rattle.std.proofs.Common.ltb j (length steps)) (get a.files))) (Midway (get a.files) rows new) → AtEnd e (Same new (done_from 0 rows (λ _. true) (get a.files))) (StandsFor (get a.files) new)
+    rows_end Done rows spelled fine are new done = all_rows rows (get a.files) new are done
+    rows_end Broken rows spelled fine are new part = midway_stands (get a.files) rows spelled (distinct_test rows fine) new part
+    rows_end Undone rows spelled fine are new end = tt
+
     pub rows_on : {e : Ending} {b c : Seen} → Calls Done Looking a b → Calls e (DoesRows steps) b c → Calls e RowsOn a c
     rows_on {e = e} {b = b} {c = c} first second = then_told first second
         (λ told one two again.
         let it = does again in
         let fine = rows_in_distinct (get a.files journal) it.rows it.spelled in
-        let done = subst (λ (f : Files). AreSteps (get f) 0 it.rows steps → AtDone e (Same (get c.files) (done_from 0 it.rows (λ j. Rattle.std.proofs.Common.ltb j (length steps)) (get f)))) one (two it.rows fine) it.steps_are in
-        at_done e (all_rows it.rows (get a.files) (get c.files) it.steps_are) done)
+        let done = subst (λ (f : Files). (DoesRows steps).files e f c.files) one two it.rows fine it.steps_are in
+        rows_end e it.rows it.spelled fine it.steps_are (get c.files) done)
         (λ told one two again v calm.
         let it = does_so again v calm in
         let fine = rows_in_distinct (v journal) it.rows it.spelled in
@@ -177,10 +187,13 @@ module _ (names : List Name) (a : Seen) (law : IsFolder a) (are : AreNames a nam
         ))
 
     pub rows_failed : {c : Seen} → Calls Broken RowsOn a c → Calls Broken (DoesJournal names (Some Failed)) a c
-    rows_failed call = makes_told refl call (λ told files. tt) (λ told disk v calm all. (disk told v calm).0)
+    rows_failed call = makes_told refl call (λ told files. files told) (λ told disk v calm all. (disk told v calm).0)
 
     pub settle_failed : {b c : Seen} → Calls Done RowsOn a b → Calls Broken (DoesOrNot settles) b c → Calls Broken (DoesJournal names (Some Failed)) a c
-    settle_failed {b = b} {c = c} first second = then_told first second (λ told one two. tt)
+    settle_failed {b = b} {c = c} first second = then_told first second
+        (λ told one two.
+        let it = does told in
+        midway_stands (get a.files) it.rows it.spelled (distinct_test it.rows (rows_in_distinct (get a.files journal) it.rows it.spelled)) (get c.files) (record { keep = λ _. true; done = λ n. ap (λ (f : Files). get f n) two ∙ one told n }))
         (λ told one two v calm all.
         let was = one told v calm in
         let it = does_so told v calm in
@@ -199,21 +212,39 @@ module _ (names : List Name) (a : Seen) (law : IsFolder a) (are : AreNames a nam
 
 pub passes_name : (name : List ℕ) → is_own name ≡ false → (a : Seen) → Calls Done (RemovesIfOwn name) a a
 passes_name name valid a = no_calls Done a refl
-    (λ told n. sym (cond-false (is_own name && same n name) None (get a.files n) (ap (λ b. b && same n name) valid)))
+    (λ told. ((λ n. sym (cond-false (is_own name && same n name) None (get a.files n) (ap (λ b. b && same n name) valid))), λ v rows fine clearing. clearing))
     (λ told. ((λ v rows fine clearing. (starts a.disk (Clearing v rows) clearing.within, clearing)), λ names all. passed_listed name names a.disk.now valid all))
+
+still_clears : (e : Ending) (name : List ℕ) → is_own name ≡ true → (x y : Files) → StepsFiles (λ files. finite.remove files name) e x y → StillClears x y
+still_clears e name own x y step v rows fine clearing = by_ending e step
+  where
+    as_before : y ≡ x → Clearing v rows (get y)
+    as_before is = subst (λ (f : Files). Clearing v rows (get f)) (sym is) clearing
+
+    gone : y ≡ finite.remove x name → Clearing v rows (get y)
+    gone is = clearing_cut v rows (distinct_test rows fine) name own (get x) (get y) (λ n. ap (λ (f : Files). get f n) is ∙ get_removed x name n) clearing
+
+    by_ending : (e : Ending) → StepsFiles (λ files. finite.remove files name) e x y → Clearing v rows (get y)
+    by_ending Done is = gone is
+    by_ending Broken (inl is) = as_before is
+    by_ending Broken (inr is) = gone is
+    by_ending Undone is = as_before is
 
 pub removes_name : {e : Ending} {a b : Seen} (name : List ℕ) → is_own name ≡ true → Calls e (Does (removes name)) a b → Calls e (RemovesIfOwn name) a b
 removes_name {e = e} {a = a} {b = b} name own call = makes_told refl call
-    (λ told files. when_done e (λ done n.
-    let gone : b.files ≡ finite.remove a.files name = subst (λ f. StepsFiles (λ fs. finite.remove fs name) f a.files b.files) done files in
-    ap (λ (f : Files). get f n) gone ∙ get_removed a.files name n ∙ sym (ap (λ c. cond (c && same n name) None (get a.files n)) own)))
+    (λ told files. (
+      when_done e (λ done n.
+          let gone : b.files ≡ finite.remove a.files name = subst (λ f. StepsFiles (λ fs. finite.remove fs name) f a.files b.files) done files in
+          ap (λ (f : Files). get f n) gone ∙ get_removed a.files name n ∙ sym (ap (λ c. cond (c && same n name) None (get a.files n)) own)),
+      still_clears e name own a.files b.files files,
+    ))
     (λ told disk. (
       λ v rows fine clearing. (keeps_remove v rows fine a.disk clearing name own e b.disk disk, when_done e (λ done. at_remove v rows fine a.disk clearing name own b.disk (subst (λ f. StepsDisk (state.removed name) f a.disk b.disk) done disk))),
       λ names all. when_done e (λ done. subst (λ (d : Disk). OwnAreIn names d.now) (sym (subst (λ f. StepsDisk (state.removed name) f a.disk b.disk) done disk)) (removed_listed name names a.disk.now all)),
     ))
 
 pub none_removed : (names : List Name) (a : Seen) → Calls Done (RemovesTo names names) a a
-none_removed names a = no_calls Done a refl (λ told n. refl) (λ told. ((λ v rows fine clearing. (starts a.disk (Clearing v rows) clearing.within, clearing)), λ all. all))
+none_removed names a = no_calls Done a refl (λ told. ((λ n. refl), λ v rows fine clearing. clearing)) (λ told. ((λ v rows fine clearing. (starts a.disk (Clearing v rows) clearing.within, clearing)), λ all. all))
 
 one_more_name : (name : Name) (rest : List Name) (v : View) (n : Name) → without_owns rest (without_own name v) n ≡ without_owns (name ∷ rest) v n
 one_more_name name rest v n = ⊎_elim
@@ -240,7 +271,7 @@ one_more_name name rest v n = ⊎_elim
 
 pub removes_on : {e : Ending} {a b c : Seen} (names : List Name) (name : Name) (rest : List Name) → Calls Done (RemovesTo names (name ∷ rest)) a b → Calls e (RemovesIfOwn name) b c → Calls e (RemovesTo names rest) a c
 removes_on {e = e} {a = a} {b = b} {c = c} names name rest first second = then_told first second
-    (λ told one two. at_done e (λ reads n. ap (λ (v : View). without_owns rest v n) (one_view _ _ reads) ∙ one_more_name name rest (get b.files) n ∙ one n) two)
+    (λ told one two. (at_done e (λ reads n. ap (λ (v : View). without_owns rest v n) (one_view _ _ reads) ∙ one_more_name name rest (get b.files) n ∙ one.0 n) two.0, λ v rows fine clearing. two.1 v rows fine (one.1 v rows fine clearing)))
     (λ told one two. (
       λ v rows fine clearing.
           let was = one.0 v rows fine clearing in
@@ -250,7 +281,7 @@ removes_on {e = e} {a = a} {b = b} {c = c} names name rest first second = then_t
     ))
 
 pub removes_stop : {e : Ending} {a b : Seen} (names left : List Name) → Stops e → Calls e (RemovesTo names left) a b → Calls e (RemovesOwn names) a b
-removes_stop {e = e} names left stops call = makes_told refl call (λ told files. stopped _ e stops) (λ told disk. ((λ v rows fine clearing. ((disk.0 v rows fine clearing).0, stopped _ e stops)), λ all. stopped _ e stops))
+removes_stop {e = e} names left stops call = makes_told refl call (λ told files. (stopped _ e stops, files.1)) (λ told disk. ((λ v rows fine clearing. ((disk.0 v rows fine clearing).0, stopped _ e stops)), λ all. stopped _ e stops))
 
 -- ---- from a settled folder
 
@@ -282,20 +313,25 @@ pub record Emptied (v : View) (e : Ending) (old new : Disk) : Type 0 where
 
 module _ (names : List Name) (a : Seen) (law : IsFolder a) (are : AreNames a names) where
   pub journal_stops : (fault : JournalFault) {b : Seen} → Calls (journal_ending fault) (DoesJournal names (Some fault)) a b → Calls (journal_ending fault) (RecoversSettled (Some fault)) a b
-  journal_stops Failed call = makes_told refl call (λ told files. tt) (λ told disk v calm. disk v calm (names_so names a law are told v calm))
+  journal_stops Failed call = makes_told refl call (λ told files. files) (λ told disk v calm. disk v calm (names_so names a law are told v calm))
   journal_stops BadJournal call = makes_told refl call (λ told files. files) (λ told disk v calm. disk v calm (names_so names a law are told v calm))
   journal_stops NoMemory call = makes_told refl call (λ told files. files) (λ told disk v calm. disk v calm (names_so names a law are told v calm))
 
   -- the rows are done, and own names are gone
   abbrev pub OwnGone : Effect
   OwnGone = record {
-    files = λ e old new. (rows : List Row) × (rows_in (get old journal) ≡ Some rows) × AtDone e (Same (get new) (without_owns names (done_from 0 rows (λ _. true) (get old))));
+    files = λ e old new. (rows : List Row) × (rows_in (get old journal) ≡ Some rows) × AtDone e (Same (get new) (without_owns names (done_from 0 rows (λ _. true) (get old)))) × StandsFor (get old) (get new);
     disk = λ e old new. (v : View) → IsCalm v old.now → IsListOf names v → Emptied v e old new;
   }
 
+  own_stands : (rows : List Row) → rows_in (get a.files journal) ≡ Some rows → (w : View) → Same w (done_from 0 rows (λ _. true) (get a.files)) → (new : View) → (Clearing (get a.files) rows w → Clearing (get a.files) rows new) → StandsFor (get a.files) new
+  own_stands rows spelled w is new goes =
+      let apart = distinct_test rows (rows_in_distinct (get a.files journal) rows spelled) in
+      clearing_stands (get a.files) rows spelled apart new (goes (all_clearing (get a.files) rows apart w is))
+
   pub own_gone : {e : Ending} {b c : Seen} → Calls Done (DoesJournal names None) a b → Calls e (RemovesOwn names) b c → Calls e OwnGone a c
   own_gone {e = e} {b = b} {c = c} first second = then_told first second
-      (λ told one two. (one.0, one.1, at_done e (λ reads n. reads n ∙ ap (λ (v : View). without_owns names v n) (one_view _ _ one.2)) (emptied told two)))
+      (λ told one two. (one.0, one.1, at_done e (λ reads n. reads n ∙ ap (λ (v : View). without_owns names v n) (one_view _ _ one.2)) (emptied told two.0), own_stands one.0 one.1 (get b.files) one.2 (get c.files) (two.1 (get a.files) one.0 (rows_in_distinct (get a.files journal) one.0 one.1))))
       (λ told one two v calm all.
       let was = one v calm all in
       let fine = rows_in_distinct (v journal) was.0 was.1 in
@@ -312,10 +348,10 @@ module _ (names : List Name) (a : Seen) (law : IsFolder a) (are : AreNames a nam
       emptied told reads = at_done e (λ is n. sym (cond-false (is_own n && false) None (get c.files n) (Rattle.std.proofs.lemmas.Bool.and_right (is_own n) false refl)) ∙ is n) reads
 
   pub gone_failed : {b : Seen} → Calls Broken OwnGone a b → Calls Broken (RecoversSettled (Some Failed)) a b
-  gone_failed call = makes_told refl call (λ told files. tt) (λ told disk v calm. (disk v calm (names_so names a law are told v calm)).keeps)
+  gone_failed call = makes_told refl call (λ told files. files.3) (λ told disk v calm. (disk v calm (names_so names a law are told v calm)).keeps)
 
   pub end_failed : {b c : Seen} → Calls Done OwnGone a b → Calls Broken (DoesOrNot settles) b c → Calls Broken (RecoversSettled (Some Failed)) a c
-  end_failed {b = b} {c = c} first second = then_told first second (λ told one two. tt)
+  end_failed {b = b} {c = c} first second = then_told first second (λ told one two. subst (λ (f : Files). StandsFor (get a.files) (get f)) (sym two) one.3)
       (λ told one two v calm.
       let was = one v calm (names_so names a law are told v calm) in
       joined a.disk b.disk c.disk (StandsFor v) was.keeps (last_keeps v was.rows was.spelled b.disk was.clearing Broken c.disk two))
@@ -346,7 +382,7 @@ module _ (names : List Name) (a : Seen) (law : IsFolder a) (are : AreNames a nam
 -- ---- the names are asked for
 
 pub names_stop : (fault : FolderFault) → IsPlain fault → {a b : Seen} → Calls (fault_ending fault) Idles a b → Calls (journal_ending (of_folder fault)) (RecoversSettled (Some (of_folder fault))) a b
-names_stop folder.Failed plain {a = a} {b = b} call = makes_told refl call (λ told files. tt) (λ told waits v calm. looks_keep a.disk b.disk (StandsFor v) (calm_self v a.disk.now calm) (waits_look Broken a.disk b.disk waits))
+names_stop folder.Failed plain {a = a} {b = b} call = makes_told refl call (λ told files. unchanged files) (λ told waits v calm. looks_keep a.disk b.disk (StandsFor v) (calm_self v a.disk.now calm) (waits_look Broken a.disk b.disk waits))
 names_stop folder.NotThere plain call = absurd plain
 names_stop folder.TooLarge plain call = absurd plain
 names_stop folder.NoMemory plain {a = a} {b = b} call = makes_told refl call (λ told files. files) (λ told waits v calm. looks_keep a.disk b.disk (StandsFor v) (calm_self v a.disk.now calm) (waits_look Undone a.disk b.disk waits))
@@ -384,7 +420,7 @@ names_then {e = e} fault {a = a} {b = b} {c = c} first second = then_told first 
 -- ---- from any folder
 
 pub settle_stops : {a b : Seen} → Calls Broken (DoesOrNot settles) a b → Calls Broken (Recovers (Some Failed)) a b
-settle_stops {a = a} {b = b} call = makes_told refl call (λ told files. tt) (λ told waits. inr (refl, waits_look Broken a.disk b.disk waits))
+settle_stops {a = a} {b = b} call = makes_told refl call (λ told files. unchanged files) (λ told waits. inr (refl, waits_look Broken a.disk b.disk waits))
 
 pub settle_then : {e : Ending} (fault : Option JournalFault) {a b c : Seen} → IsFolder a → Calls Done (DoesOrNot settles) a b → Calls e (RecoversSettled fault) b c → Calls e (Recovers fault) a c
 settle_then {e = e} fault {a = a} {b = b} {c = c} law first second = then_told first second

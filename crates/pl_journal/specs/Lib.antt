@@ -10,3 +10,4 @@ pub mod Phases
 pub mod Leaves
 pub mod Parts
 pub mod Laws
+pub mod RealDisk

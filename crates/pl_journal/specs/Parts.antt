@@ -4,7 +4,7 @@ use Rattle.std.specs.FinMap.{get}
 use Rattle.pl_base.specs.Files.{Files}
 use Rattle.pl_folder.specs.Calls.{Calls, IsThere}
 use Rattle.pl_folder.specs.Disk.{Name, View, State, Disk, IsWhole, after, read, same}
-use Rattle.pl_folder.specs.Effects.{Effect, SameFiles, StepsDisk, StepsDiskOrNot, renamed}
+use Rattle.pl_folder.specs.Effects.{Effect, SameFiles, StepsDisk, StepsDiskOrNot, StepsFiles, renamed}
 use Rattle.pl_folder.specs.Seen.{Ending, Done, Broken, Undone, Seen}
 use Rattle.pl_folder.specs.Since.{Keeps, Within}
 use Rattle.pl_folder.specs.States as state
@@ -33,6 +33,18 @@ AtDone Undone X = Unit {0}
 abbrev pub Reads : (View → View) → Ending → Files → Files → Type 0
 Reads f e old new = AtDone e (Same (get new) (f (get old)))
 
+-- the same, and where the folder failed this is read or what was read before
+abbrev pub ReadsOrNot : (View → View) → Ending → Files → Files → Type 0
+ReadsOrNot f Done old new = Same (get new) (f (get old))
+ReadsOrNot f Broken old new = Same (get new) (get old) ⊎ Same (get new) (f (get old))
+ReadsOrNot f Undone old new = Unit {0}
+
+-- by how it ended: done, or the folder failed
+abbrev pub AtEnd : Ending → Type 0 → Type 0 → Type 0
+AtEnd Done X Y = X
+AtEnd Broken X Y = Y
+AtEnd Undone X Y = Unit {0}
+
 -- from a state with A, each image on the way has P, and where it is done the state has B
 abbrev pub Goes : (State → Type 0) → (View → Type 0) → (State → Type 0) → Ending → Disk → Disk → Type 0
 Goes A P B e old new = A old.now → Keeps old new P × AtDone e (B new.now)
@@ -40,7 +52,7 @@ Goes A P B e old new = A old.now → Keeps old new P × AtDone e (B new.now)
 -- ---- a file that is made firm and gets another name: `firm`, `rename`
 
 abbrev pub NamesFiles : Name → Name → Ending → Files → Files → Type 0
-NamesFiles from to e old new = AtDone e (new ≡ renamed old from to)
+NamesFiles from to e old new = StepsFiles (λ files. renamed files from to) e old new
 
 abbrev pub is_firm : Name → Disk → Disk
 is_firm name d = after (state.firmed name d.now) d
@@ -118,7 +130,7 @@ CommitsDisk e old new =
     (before r : View) (rows : List Row) → is_some (r journal_new) ≡ true → Goes (IsStaging before r) (Committing before r rows) (IsDoing (shifted journal_new journal r) rows 0) e old new
 
 abbrev pub Commits : Effect
-Commits = record { files = Reads (shifted journal_new journal); disk = CommitsDisk }
+Commits = record { files = ReadsOrNot (shifted journal_new journal); disk = CommitsDisk }
 
 -- ---- the rows
 
@@ -138,7 +150,7 @@ StepsOnDisk step e old new =
     (v : View) (rows : List Row) (k : ℕ) (row : Row) → are_rows rows ≡ true → RowAt 0 rows k row → IsStep v k row step → Goes (IsDoing v rows k) (Midway v rows) (IsDoing v rows (k + 1)) e old new
 
 abbrev pub StepsOn : Step → Effect
-StepsOn step = record { files = Reads (stepped step); disk = StepsOnDisk step }
+StepsOn step = record { files = ReadsOrNot (stepped step); disk = StepsOnDisk step }
 
 -- the steps do a journal's rows, of a folder that reads so
 pub record DoRows (steps : List Step) (v : View) : Type 0 where
@@ -151,7 +163,7 @@ abbrev pub CanDo : Seen → List Step → Type 0
 CanDo seen steps = seen.tells ≡ true → DoRows steps (get seen.files)
 
 abbrev pub DoesToFiles : ℕ → List Step → Ending → Files → Files → Type 0
-DoesToFiles k steps e old new = (rows : List Row) → are_rows rows ≡ true → AreSteps (get old) 0 rows steps → AtDone e (Same (get new) (done_from 0 rows (λ j. ltb j k) (get old)))
+DoesToFiles k steps e old new = (rows : List Row) → are_rows rows ≡ true → AreSteps (get old) 0 rows steps → AtEnd e (Same (get new) (done_from 0 rows (λ j. ltb j k) (get old))) (Midway (get old) rows (get new))
 
 abbrev pub DoesToDisk : ℕ → List Step → Ending → Disk → Disk → Type 0
 DoesToDisk k steps e old new = (v : View) (rows : List Row) → are_rows rows ≡ true → AreSteps v 0 rows steps → Goes (IsDoing v rows 0) (Midway v rows) (IsDoing v rows k) e old new
@@ -175,7 +187,7 @@ abbrev pub FinishesDisk : Ending → Disk → Disk → Type 0
 FinishesDisk e old new = (v : View) (rows : List Row) → are_rows rows ≡ true → Goes (IsDoing v rows (length rows)) (Finishing v rows) (IsFinished v rows) e old new
 
 abbrev pub Finishes : Effect
-Finishes = record { files = Reads without_journal; disk = FinishesDisk }
+Finishes = record { files = ReadsOrNot without_journal; disk = FinishesDisk }
 
 -- ---- from staging to the end
 
@@ -198,7 +210,7 @@ CanPut seen steps = seen.tells ≡ true → ReadsReady steps (get seen.files)
 
 abbrev pub PutsFiles : List Step → Ending → Files → Files → Type 0
 PutsFiles steps e old new =
-    (before : View) (edits : List Edit) → IsReady before edits steps → Same (get old) (all_staged edits (journal_of edits) before) → AtDone e (Same (get new) (applied edits before))
+    (before : View) (edits : List Edit) → IsReady before edits steps → Same (get old) (all_staged edits (journal_of edits) before) → AtEnd e (Same (get new) (applied edits before)) (StandsBetween before edits (get new))
 
 abbrev pub PutsDisk : List Step → Ending → Disk → Disk → Type 0
 PutsDisk steps e old new =
@@ -215,10 +227,10 @@ CarriesDisk before edits Done old new = Keeps old new (StandsBetween before edit
 CarriesDisk before edits Broken old new = Keeps old new (StandsBetween before edits)
 CarriesDisk before edits Undone old new = Keeps old new (StandsFor before)
 
--- The same of the files as they read, where the folder tells these alone. Such a folder has no fault.
+-- the same of the files as they read, where the folder tells these alone
 abbrev pub CarriesFiles : View → List Edit → Ending → View → Type 0
 CarriesFiles before edits Done v = Same v (applied edits before)
-CarriesFiles before edits Broken v = Unit {0}
+CarriesFiles before edits Broken v = StandsBetween before edits v
 CarriesFiles before edits Undone v = StandsFor before v
 
 abbrev pub CarriesOutFiles : List Edit → Ending → Files → Files → Type 0
@@ -266,6 +278,10 @@ pub record DoesJournalOf (steps : List Step) (v : View) : Type 0 where
   pub spelled : rows_in (v journal) ≡ Some rows
   pub steps_are : AreSteps v 0 rows steps
 
+-- what stood for a folder as its own names went still does
+abbrev pub StillClears : Files → Files → Type 0
+StillClears old new = (v : View) (rows : List Row) → are_rows rows ≡ true → Clearing v rows (get old) → Clearing v rows (get new)
+
 -- an own name is dropped
 abbrev pub without_own : Name → View → View
 without_own name v n = cond (is_own name && same n name) None (v n)
@@ -276,7 +292,7 @@ RemovesIfOwnDisk name e old new =
     × ((names : List Name) → OwnAreIn (name ∷ names) old.now → AtDone e (OwnAreIn names new.now))
 
 abbrev pub RemovesIfOwn : Name → Effect
-RemovesIfOwn name = record { files = Reads (without_own name); disk = RemovesIfOwnDisk name }
+RemovesIfOwn name = record { files = λ e old new. Reads (without_own name) e old new × StillClears old new; disk = RemovesIfOwnDisk name }
 
 -- of these names the own ones are dropped
 abbrev pub without_owns : List Name → View → View
@@ -284,7 +300,7 @@ without_owns names v n = cond (is_own n && is_listed n names) None (v n)
 
 -- these names are left to be walked over
 abbrev pub RemovesToFiles : List Name → List Name → Ending → Files → Files → Type 0
-RemovesToFiles names left e old new = AtDone e (Same (without_owns left (get new)) (without_owns names (get old)))
+RemovesToFiles names left e old new = AtDone e (Same (without_owns left (get new)) (without_owns names (get old))) × StillClears old new
 
 abbrev pub RemovesToDisk : List Name → List Name → Ending → Disk → Disk → Type 0
 RemovesToDisk names left e old new =
@@ -300,7 +316,7 @@ RemovesOwn names = RemovesTo names []
 -- all rows of the journal are done, own names are left
 abbrev pub DoesJournalFiles : Option JournalFault → Ending → Files → Files → Type 0
 DoesJournalFiles None e old new = (rows : List Row) × (rows_in (get old journal) ≡ Some rows) × Same (get new) (done_from 0 rows (λ _. true) (get old))
-DoesJournalFiles (Some Failed) e old new = Unit {0}
+DoesJournalFiles (Some Failed) e old new = StandsFor (get old) (get new)
 DoesJournalFiles (Some BadJournal) e old new = (rows_in (get old journal) ≡ None) × (new ≡ old)
 DoesJournalFiles (Some NoMemory) e old new = new ≡ old
 
@@ -318,7 +334,7 @@ DoesJournal names fault = record { files = DoesJournalFiles fault; disk = DoesJo
 
 abbrev pub RecoversFiles : Option JournalFault → Ending → Files → Files → Type 0
 RecoversFiles None e old new = (rows : List Row) × (rows_in (get old journal) ≡ Some rows) × Same (get new) (recovered (get old))
-RecoversFiles (Some Failed) e old new = Unit {0}
+RecoversFiles (Some Failed) e old new = StandsFor (get old) (get new)
 RecoversFiles (Some BadJournal) e old new = (rows_in (get old journal) ≡ None) × (new ≡ old)
 RecoversFiles (Some NoMemory) e old new = new ≡ old
 

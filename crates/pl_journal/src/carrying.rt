@@ -1,9 +1,10 @@
 ghost use Rattle.std.specs.Prelude.{◌≡◌, [], true, IfErr, OnOk};
 ghost use Rattle.pl_folder.specs.Calls.{Calls};
-ghost use Rattle.pl_folder.specs.Seen.{ends};
+ghost use Rattle.pl_folder.specs.Seen.{Done, ends};
 ghost use Rattle.pl_journal.specs.Faults.{IsNotBad, part_ending};
 ghost use Rattle.pl_journal.specs.Meaning.{rows_for};
 ghost use Rattle.pl_journal.specs.Parts.{CanPut, CarriesOut, IsRested, PutsInPlace};
+ghost use Rattle.pl_journal.specs.RealDisk.{RunsFirmly};
 ghost use Rattle.pl_journal.specs.Spelling.{are_rows};
 
 use crate::committing::commit;
@@ -19,7 +20,9 @@ use std::alloc::Global;
 /// Commits what is staged, does its rows and ends its journal. It takes no memory.
 pub(crate) fn put_in_place<D: Folder>(held: &mut Held<D>, steps: &[Step]) -> Result<(), Failed>
     requires { CanPut (D.seen held.old.folder) steps.now }
-    ensures { Calls (ends result) (PutsInPlace steps.now) (D.seen held.old.folder)
+    ensures calls { Calls (ends result) (PutsInPlace steps.now) (D.seen held.old.folder)
+        (D.seen held.new.folder) }
+    ensures real { RunsFirmly Done (D.seen held.old.folder)
         (D.seen held.new.folder) }
 {
     commit(held)?;
@@ -29,7 +32,7 @@ pub(crate) fn put_in_place<D: Folder>(held: &mut Held<D>, steps: &[Step]) -> Res
 
 /// Makes all the changes or, after a crash or a fault and a recovery, all or none. The folder is one that `recover` settled.
 ///
-/// Afterwards none of the journal's own names is there. `NoMemory` comes before anything is committed: the recovered folder is the one before. After `Failed` it is the one before or the one after. `BadJournal` does not come. No changes are no call.
+/// Afterwards none of the journal's own names is there. `NoMemory` comes before anything is committed: the recovered folder is the one before. After `Failed` it is the one before or the one after. `BadJournal` does not come. No changes are no call. From a disk all of whose files are firm it is the same on one whose `settle` makes names last and no file's bytes.
 pub fn carry_out<D: Folder>(
     held: &mut Held<D>,
     alloc: Global,
@@ -42,6 +45,8 @@ pub fn carry_out<D: Folder>(
     ensures plain { IfErr result IsNotBad }
     ensures ends { OnOk result (IsRested (D.seen held.new.folder)) }
     ensures nothing { changes.now ≡ [] → D.seen held.new.folder ≡ D.seen held.old.folder }
+    ensures real { RunsFirmly (part_ending result) (D.seen held.old.folder)
+        (D.seen held.new.folder) }
 {
     if changes.is_empty() {
         return Ok(());

@@ -1,9 +1,10 @@
 ghost use Rattle.std.specs.Prelude.{◌≡◌, ◌+◌, nat_lt, length, IfOk, if◌then◌else◌};
 ghost use Rattle.pl_folder.specs.Calls.{Calls, IsThere};
-ghost use Rattle.pl_folder.specs.Seen.{ends};
+ghost use Rattle.pl_folder.specs.Seen.{Done, ends};
 ghost use Rattle.pl_journal.specs.FileNames.{name_text};
 ghost use Rattle.pl_journal.specs.declared.step.Step.TheVariants as steps;
 ghost use Rattle.pl_journal.specs.Parts.{CanDo, CanGoOn, CanStep, DoesRows, NextOn, StepsOn};
+ghost use Rattle.pl_journal.specs.RealDisk.{RunsFirmly};
 
 use crate::naming::name_firm;
 use crate::{FileName, Step};
@@ -14,7 +15,9 @@ use pl_stage::Held;
 /// Does a row that puts.
 fn put_file<D: Folder>(held: &mut Held<D>, from: &FileName, to: &FileName) -> Result<(), Failed>
     requires { IsThere (D.seen held.old.folder) (name_text from.now) }
-    ensures { Calls (ends result) (StepsOn (steps.Put from.now to.now)) (D.seen held.old.folder)
+    ensures calls { Calls (ends result) (StepsOn (steps.Put from.now to.now)) (D.seen held.old.folder)
+        (D.seen held.new.folder) }
+    ensures real { RunsFirmly Done (D.seen held.old.folder)
         (D.seen held.new.folder) }
 {
     name_firm(held, from.as_str(), to.as_str())
@@ -22,7 +25,9 @@ fn put_file<D: Folder>(held: &mut Held<D>, from: &FileName, to: &FileName) -> Re
 
 /// Does a row that drops.
 fn drop_file<D: Folder>(held: &mut Held<D>, name: &FileName) -> Result<(), Failed>
-    ensures { Calls (ends result) (StepsOn (steps.Drop name.now)) (D.seen held.old.folder)
+    ensures calls { Calls (ends result) (StepsOn (steps.Drop name.now)) (D.seen held.old.folder)
+        (D.seen held.new.folder) }
+    ensures real { RunsFirmly Done (D.seen held.old.folder)
         (D.seen held.new.folder) }
 {
     held.folder.remove(name.as_str())
@@ -31,7 +36,9 @@ fn drop_file<D: Folder>(held: &mut Held<D>, name: &FileName) -> Result<(), Faile
 /// Does one row of a journal. It takes no memory.
 pub(crate) fn do_step<D: Folder>(held: &mut Held<D>, step: &Step) -> Result<(), Failed>
     requires { CanStep (D.seen held.old.folder) step.now }
-    ensures { Calls (ends result) (StepsOn step.now) (D.seen held.old.folder)
+    ensures calls { Calls (ends result) (StepsOn step.now) (D.seen held.old.folder)
+        (D.seen held.new.folder) }
+    ensures real { RunsFirmly Done (D.seen held.old.folder)
         (D.seen held.new.folder) }
 {
     match step {
@@ -44,7 +51,9 @@ pub(crate) fn do_step<D: Folder>(held: &mut Held<D>, step: &Step) -> Result<(), 
 /// Does the rows of a journal one after the other. It takes no memory.
 pub(crate) fn do_rows<D: Folder>(held: &mut Held<D>, steps: &[Step]) -> Result<(), Failed>
     requires { CanDo (D.seen held.old.folder) steps.now }
-    ensures { Calls (ends result) (DoesRows steps.now) (D.seen held.old.folder)
+    ensures calls { Calls (ends result) (DoesRows steps.now) (D.seen held.old.folder)
+        (D.seen held.new.folder) }
+    ensures real { RunsFirmly Done (D.seen held.old.folder)
         (D.seen held.new.folder) }
 {
     for step in steps {
@@ -61,6 +70,8 @@ pub fn do_next<D: Folder>(held: &mut Held<D>, steps: &[Step], done: usize) -> Re
     ensures left { IfOk result (λ more. more ≡ nat_lt done (length steps.now)) }
     ensures can { IfOk result (λ more. CanGoOn (D.seen held.new.folder) steps.now
         (if more then done + 1 else done)) }
+    ensures real { RunsFirmly Done (D.seen held.old.folder)
+        (D.seen held.new.folder) }
 {
     if done >= steps.len() {
         return Ok(false);

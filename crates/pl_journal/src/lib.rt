@@ -31,7 +31,9 @@ pub use doing::do_next;
 pub use fault::JournalFault;
 pub use file_name::FileName;
 pub use finishing::finish_steps;
-pub use laws::{after_the_start, each_part_stands, never_a_bad_journal, since_the_start};
+pub use laws::{
+    after_the_start, each_part_stands, never_a_bad_journal, on_a_real_disk, since_the_start,
+};
 pub use reading::read_journal;
 pub use recovering::recover_lent;
 pub use row::Row;

@@ -3,12 +3,13 @@ ghost use Rattle.std.specs.FinMap.{get};
 ghost use Rattle.pl_base.specs.Names.{IsNameLength};
 ghost use Rattle.pl_folder.specs.Calls.{Calls};
 ghost use Rattle.pl_folder.specs.Disk.{after};
-ghost use Rattle.pl_folder.specs.Seen.{ends};
+ghost use Rattle.pl_folder.specs.Seen.{Done, ends};
 ghost use Rattle.pl_journal.specs.Faults.{part_ending};
 ghost use Rattle.pl_journal.specs.Leaves.{fault_of};
 ghost use Rattle.pl_journal.specs.Lists.{IsListOf, texts};
 ghost use Rattle.pl_journal.specs.Names.{journal};
 ghost use Rattle.pl_journal.specs.Parts.{AreNames, DoesJournal, DoesJournalOf, IsAtRest, IsQuiet, IsRested, Looking, Recovers, RecoversSettled, RemovesIfOwn, RemovesOwn, StepsSpelled};
+ghost use Rattle.pl_journal.specs.RealDisk.{RunsFirmly};
 ghost use Rattle.pl_journal.specs.Reading.{rows_spelled};
 ghost use Rattle.pl_journal.specs.Rows.{rows_in};
 ghost use Rattle.pl_journal.specs.declared.fault.JournalFault.TheVariants as faults;
@@ -36,6 +37,7 @@ fn steps_of(alloc: Global, bytes: &[u8], names: &[String]) -> Result<Rows<Step>,
 }
 
 /// What does the rows of the folder's journal; without one there are none. The folder stays as it is.
+#[tactic(auto, using(crate::proofs::RealLemmas::firmly_idle))]
 fn read_steps<D: Folder>(
     held: &mut Held<D>,
     alloc: Global,
@@ -48,6 +50,8 @@ fn read_steps<D: Folder>(
         (get (D.seen held.old.folder).files)) }
     ensures bad { IfErr result (λ fault. fault ≡ faults.BadJournal → (D.seen held.old.folder).tells
         ≡ true → rows_in (get (D.seen held.old.folder).files journal) ≡ None) }
+    ensures real { RunsFirmly Done (D.seen held.old.folder)
+        (D.seen held.new.folder) }
 {
     match held.folder.take(alloc, JOURNAL) {
         Ok(bytes) => steps_of(alloc, bytes.as_slice(), names),
@@ -65,8 +69,10 @@ fn do_journal<D: Folder>(
     names: &[String],
 ) -> Result<(), JournalFault>
     requires { AreNames (D.seen held.old.folder) (texts names.now) }
-    ensures { Calls (part_ending result) (DoesJournal (texts names.now) (fault_of result))
+    ensures calls { Calls (part_ending result) (DoesJournal (texts names.now) (fault_of result))
         (D.seen held.old.folder) (D.seen held.new.folder) }
+    ensures real { RunsFirmly Done (D.seen held.old.folder)
+        (D.seen held.new.folder) }
 {
     if !is_in(names, JOURNAL) {
         return Ok(());
@@ -80,7 +86,9 @@ fn do_journal<D: Folder>(
 /// Removes the name where it is one of the journal's own.
 fn remove_if_own<D: Folder>(held: &mut Held<D>, name: &str) -> Result<(), Failed>
     requires { IsNameLength name.now }
-    ensures { Calls (ends result) (RemovesIfOwn name.now) (D.seen held.old.folder)
+    ensures calls { Calls (ends result) (RemovesIfOwn name.now) (D.seen held.old.folder)
+        (D.seen held.new.folder) }
+    ensures real { RunsFirmly Done (D.seen held.old.folder)
         (D.seen held.new.folder) }
 {
     if !is_own(name) {
@@ -92,7 +100,9 @@ fn remove_if_own<D: Folder>(held: &mut Held<D>, name: &str) -> Result<(), Failed
 /// Removes those of the names that are the journal's own.
 fn remove_own<D: Folder>(held: &mut Held<D>, names: &[String]) -> Result<(), Failed>
     requires { All (λ name. IsNameLength (string_bytes name)) names.now }
-    ensures { Calls (ends result) (RemovesOwn (texts names.now)) (D.seen held.old.folder)
+    ensures calls { Calls (ends result) (RemovesOwn (texts names.now)) (D.seen held.old.folder)
+        (D.seen held.new.folder) }
+    ensures real { RunsFirmly Done (D.seen held.old.folder)
         (D.seen held.new.folder) }
 {
     for name in names {
@@ -109,8 +119,10 @@ fn recover_named<D: Folder>(
 ) -> Result<(), JournalFault>
     requires names { AreNames (D.seen held.old.folder) (texts names.now) }
     requires lengths { All (λ name. IsNameLength (string_bytes name)) names.now }
-    ensures { Calls (part_ending result) (RecoversSettled (fault_of result))
+    ensures calls { Calls (part_ending result) (RecoversSettled (fault_of result))
         (D.seen held.old.folder) (D.seen held.new.folder) }
+    ensures real { RunsFirmly Done (D.seen held.old.folder)
+        (D.seen held.new.folder) }
 {
     do_journal(held, alloc, names)?;
     remove_own(held, names)?;
@@ -130,6 +142,8 @@ fn recover_listed<D: Folder>(
         (D.seen held.old.folder) (D.seen held.new.folder) }
     ensures quiet { IsRested (D.seen held.old.folder) → (D.seen held.old.folder).tells ≡ true →
         D.seen held.new.folder ≡ D.seen held.old.folder }
+    ensures real { RunsFirmly Done (D.seen held.old.folder)
+        (D.seen held.new.folder) }
 {
     if !has_own(names) {
         return Ok(());
@@ -144,6 +158,8 @@ fn recover_settled<D: Folder>(held: &mut Held<D>, alloc: Global) -> Result<(), J
     ensures quiet { OnOk result (IsRested (D.seen held.old.folder) →
         (D.seen held.old.folder).records ≡ true → (D.seen held.new.folder).disk ≡ after
         (D.seen held.old.folder).disk.now (D.seen held.old.folder).disk) }
+    ensures real { RunsFirmly Done (D.seen held.old.folder)
+        (D.seen held.new.folder) }
 {
     let names = held.folder.names(alloc)?;
     recover_listed(held, alloc, names.as_slice())
@@ -151,12 +167,14 @@ fn recover_settled<D: Folder>(held: &mut Held<D>, alloc: Global) -> Result<(), J
 
 /// Recovers a folder, as `recover`, and lets it go.
 ///
-/// Where none of the journal's own names is there its only calls are a `settle` and a `names`.
+/// Where none of the journal's own names is there its only calls are a `settle` and a `names`. From a disk all of whose files are firm it is the same on one whose `settle` makes names last and no file's bytes.
 pub fn recover_lent<D: Folder>(held: &mut Held<D>, alloc: Global) -> Result<(), JournalFault>
     ensures calls { Calls (part_ending result) (Recovers (fault_of result)) (D.seen held.old.folder)
         (D.seen held.new.folder) }
     ensures rested { OnOk result (IsAtRest (D.seen held.new.folder)) }
     ensures quiet { OnOk result (IsQuiet (D.seen held.old.folder) (D.seen held.new.folder)) }
+    ensures real { RunsFirmly Done (D.seen held.old.folder)
+        (D.seen held.new.folder) }
 {
     held.folder.settle()?;
     recover_settled(held, alloc)

@@ -113,7 +113,6 @@ gives files n bytes is = given_by n bytes (valid_file files n) is
 first_given : (name found bytes : List ℕ) (p : Placing) → first_by name found p ≡ Ok bytes → of_placing found p ≡ bytes
 first_given name found bytes placings.NotPie e = ok_same found bytes e
 first_given name found bytes placings.NoPlace e = absurd cc
-first_given name found bytes placings.Marked e = absurd cc
 first_given name found bytes (placings.Fixed at file) e = ok_same file bytes e
 
 first_is : (choose : Choice) (name found bytes : List ℕ) → first_of choose name found ≡ Ok bytes → first_bytes choose found ≡ bytes
@@ -186,7 +185,6 @@ rule_given causes choose folder name rule = by_file (folder name) refl
     by_placing : (bytes : List ℕ) → folder name ≡ Some bytes → (p : Placing) → placed choose bytes ≡ p → RuleAt causes (loading_folder choose folder name) name
     by_placing bytes there placings.NotPie is = as_it_is (is_first bytes there placings.NotPie is refl)
     by_placing bytes there placings.NoPlace is = as_it_is (is_first bytes there placings.NoPlace is refl)
-    by_placing bytes there placings.Marked is = as_it_is (is_first bytes there placings.Marked is refl)
     by_placing bytes there (placings.Fixed at file) is = λ m hit has.
         absurd (true≢false (sym hit ∙ unmatched causes (loading_folder choose folder name) name file (is_fixed choose folder name bytes file at there is) (fixed_bare choose bytes file at is)))
 

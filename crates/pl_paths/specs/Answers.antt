@@ -12,7 +12,7 @@ use Rattle.pl_words.specs.declared.command.Policy.{Policy}
 use Rattle.pl_conflict.specs.Format.{Causes, is_fast}
 use Rattle.pl_fix.specs.Fixing.{placed}
 use Rattle.pl_fix.specs.declared.placing.Placing.{Placing}
-use Rattle.pl_fix.specs.declared.placing.Placing.TheVariants.{NotPie, NoPlace, Marked, Fixed}
+use Rattle.pl_fix.specs.declared.placing.Placing.TheVariants.{NotPie, NoPlace, Fixed}
 use Rattle.pl_loader.specs.Started.{Start}
 use Rattle.pl_cli.specs.Answer.{Answer, load_answer}
 use Rattle.pl_cli.specs.Files.{valid_file}
@@ -25,7 +25,6 @@ use Rattle.pl_paths.specs.Paths.{ordinary_load}
 abbrev pub of_placing : List ℕ → Placing → List ℕ
 of_placing bytes NotPie = bytes
 of_placing bytes NoPlace = bytes
-of_placing bytes Marked = bytes
 of_placing bytes (Fixed at file) = file
 
 unfoldable pub first_bytes : Choice → List ℕ → List ℕ

@@ -1,9 +1,8 @@
 -- A fixed file loads the program's bytes, but in link tables and under RELATIVE relocations; so its image is that of the program.
 use Rattle.std.proofs.Common.{◌≡◌, ℕ, ◌+◌, ◌-◌, ◌*◌, ◌%◌, ◌<◌, ◌≤◌, Bool, true, false, List, [], ◌∷◌, ◌++◌, length, map, get_or, Option, Some, None, refl, sym, ap, subst, ◌∙◌, arith, inl, inr}
-use Rattle.std.specs.Prelude.{◌&&◌, ◌==◌, not, nat_le, filter, slice_get, slice_index_or}
+use Rattle.std.specs.Prelude.{◌&&◌, not, filter, slice_get, slice_index_or}
 use Rattle.std.specs.List.{All, list_any, range_with_len}
 use Rattle.std.proofs.lemmas.Bool.{cases_Bool, true≢false, or_parts, or_from}
-use Rattle.std.proofs.lemmas.Bool.Decides.{nat_tests}
 use Rattle.std.proofs.lemmas.List.{length-map}
 use Rattle.std.proofs.lemmas.List.Elements.{All-head, All-tail, All-nil, All-cons}
 use Rattle.std.proofs.lemmas.List.Folds.{list_any-append}
@@ -40,7 +39,7 @@ use Rattle.pl_fixed.specs.Laws.{SameImage}
 use Rattle.pl_fixed.proofs.Theorem.{fixed_is_ordinary}
 use Rattle.pl_pie.specs.Words.{passes, is_address, section_words, undefined_words, packed_words, other_words}
 use Rattle.pl_pie.specs.Pie.{as_program, loads_window, begins_low, has_loaded_symbols, loads_sections, writes_kept, is_laid_out, pie}
-use Rattle.pl_pie.specs.Fix.{word_windows, fixed_bytes, fits}
+use Rattle.pl_pie.specs.Fix.{MayBeFixed, word_windows, fixed_bytes}
 use Rattle.pl_pie.proofs.WordLaws.{length-added}
 use Rattle.pl_pie.proofs.PieLaws.{IsPie, pie_is, not_static, and_both, not_true}
 use Rattle.pl_pie.proofs.InsideLaws.{word_windows-append, symbols_size, packed_is, whole_at, words_in}
@@ -194,18 +193,14 @@ fixed_file bytes o at is =
           ∙ moved_out at (tables_of o) p (s.offset + k) lie (tables_out p o (s.offset + k) (is.accepted.tabled other) seen);
     }
 
-small_at : (o : Object) (at : ℕ) → fits o at ≡ true → at ≤ ADDRESS_LIMIT
-unfolding fits
-small_at o at h = small at o.span (and_both (at % o.align == 0 && nat_le 137438953472 at) (nat_le (at + o.span) 201863462912) h).1
-  where
-    small : (a s : ℕ) → nat_le (a + s) 201863462912 ≡ true → a ≤ ADDRESS_LIMIT
-    small a s e = grind (arith, nat_tests)
+small_at : (o : Object) (at : ℕ) → MayBeFixed o at → at ≤ ADDRESS_LIMIT
+small_at o at may = omega (arith, may.ends)
 
 -- with the fixed object itself
 pub fixed_object_is_ordinary : (at : ℕ) (o : Object) (os : List Object) (bytes : List ℕ) (parts : List (List ℕ)) (places : List ℕ) (modules : List Module)
-    → pie bytes ≡ Some o → fits o at ≡ true → ArePlaced (at ∷ places) (as_program bytes ∷ parts) (o ∷ os)
+    → pie bytes ≡ Some o → MayBeFixed o at → ArePlaced (at ∷ places) (as_program bytes ∷ parts) (o ∷ os)
     → SameImage (ordinary (o ∷ os) (as_program bytes ∷ parts) (at ∷ places) modules)
     (ordinary (fixed at o ∷ os) (fixed_bytes at o bytes ∷ parts) (0 ∷ places) modules)
-fixed_object_is_ordinary at o os bytes parts places modules pie fit placed =
+fixed_object_is_ordinary at o os bytes parts places modules pie may placed =
     let is : IsPie bytes o = pie_is bytes o pie in
-    fixed_is_ordinary at o os (as_program bytes) (fixed_bytes at o bytes) parts places modules (movable bytes o at is (small_at o at fit)) (fixed_file bytes o at is) placed
+    fixed_is_ordinary at o os (as_program bytes) (fixed_bytes at o bytes) parts places modules (movable bytes o at is (small_at o at may)) (fixed_file bytes o at is) placed

@@ -18,10 +18,10 @@ unfolding fixed
 like_tables at o x is = is.tables
 
 pub file_is_ordinary : FixedFileIsOrdinary
-file_is_ordinary at o x os bytes parts places modules are pie fit read placed =
+file_is_ordinary at o x os bytes parts places modules are pie may read placed =
     let file : List ℕ = fixed_bytes at o bytes in
-    let r = fixed_is_read bytes o at are pie fit in
+    let r = fixed_is_read bytes o at are pie may in
     let is : IsFixed at o x = subst (IsFixed at o) (ok_same r.0 x (sym r.1 ∙ read)) r.2 in
     let before = ordinary (o ∷ os) (as_program bytes ∷ parts) (at ∷ places) modules in
     subst (λ (y : Object). SameImage before (ordinary (y ∷ os) (file ∷ parts) (0 ∷ places) modules)) (sym is.same)
-    (image_through (fixed at o) x.tables os (like_tables at o x is) before parts file places modules (fixed_object_is_ordinary at o os bytes parts places modules pie fit placed))
+    (image_through (fixed at o) x.tables os (like_tables at o x is) before parts file places modules (fixed_object_is_ordinary at o os bytes parts places modules pie may placed))

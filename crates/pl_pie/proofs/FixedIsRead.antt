@@ -1,11 +1,7 @@
 -- A fixed file is accepted, as the fixed program.
-use Rattle.std.proofs.Common.{◌≡◌, ℕ, ◌+◌, ◌%◌, ◌≤◌, true, List, Some, Result, Ok, ap, ◌∙◌, arith}
-use Rattle.std.specs.Prelude.{◌&&◌, ◌==◌, nat_le}
-use Rattle.std.proofs.lemmas.Bool.{eqb-true}
-use Rattle.std.proofs.lemmas.Bool.Decides.{nat_tests}
+use Rattle.std.proofs.Common.{◌≡◌, ℕ, ◌%◌, List, Some, Result, Ok, ap, ◌∙◌}
 use Rattle.pl_base.specs.Answers.{◌>>=◌}
 use Rattle.pl_base.specs.Bytes.{IsBytes}
-use Rattle.pl_elf.specs.declared.constants.TheConstants.{ADDRESS_LIMIT}
 use Rattle.pl_object.specs.TableClauses.{check_tables}
 use Rattle.pl_object.specs.Reads.{checked, dynamic_object, layout, linking, object}
 use Rattle.pl_object.specs.declared.layout.Layout.{Layout}
@@ -13,7 +9,7 @@ use Rattle.pl_object.specs.declared.linking.Linking.{Linking}
 use Rattle.pl_object.specs.declared.object.Object.{Object}
 use Rattle.pl_object.specs.declared.refusal.Refusal.{Refusal}
 use Rattle.pl_fixed.specs.Fixed.{fixed}
-use Rattle.pl_pie.specs.Fix.{fits, fixed_bytes}
+use Rattle.pl_pie.specs.Fix.{MayBeFixed, fixed_bytes}
 use Rattle.pl_pie.specs.Laws.{FixedFileIsRead}
 use Rattle.pl_pie.specs.Pie.{pie}
 use Rattle.pl_pie.proofs.AtLaws.{IsAt, dynamic_of, file_at, headers_of, is_at, layout_of, linking_of, new_tags}
@@ -22,28 +18,7 @@ use Rattle.pl_pie.proofs.LayoutAgain.{layout_again}
 use Rattle.pl_pie.proofs.LinkingAgain.{linking_again}
 use Rattle.pl_pie.proofs.ObjectAgain.{is_fixed, object_again}
 use Rattle.pl_pie.proofs.PartsAgain.{reads_again}
-use Rattle.pl_pie.proofs.PieLaws.{and_both}
 use Rattle.pl_pie.proofs.TablesAgain.{tables_again}
-
--- ---- an address at which a program fits
-
-pub record IsFit (o : Object) (at : ℕ) : Type 0 where
-  pub aligned : at % o.align ≡ 0
-  pub from : 137438953472 ≤ at
-  pub ends : at + o.span ≤ ADDRESS_LIMIT
-
-pub is_fit : (o : Object) (at : ℕ) → fits o at ≡ true → IsFit o at
-unfolding fits
-is_fit o at h =
-    let a = and_both (at % o.align == 0 && nat_le 137438953472 at) (nat_le (at + o.span) 201863462912) h in
-    let b = and_both (at % o.align == 0) (nat_le 137438953472 at) a.0 in
-    record { aligned = eqb-true (at % o.align) 0 b.0; from = above at b.1; ends = below (at + o.span) a.1 }
-  where
-    above : (n : ℕ) → nat_le 137438953472 n ≡ true → 137438953472 ≤ n
-    above n e = grind (arith, nat_tests)
-
-    below : (n : ℕ) → nat_le n 201863462912 ≡ true → n ≤ ADDRESS_LIMIT
-    below n e = grind (arith, nat_tests)
 
 -- ---- clause by clause
 
@@ -66,15 +41,14 @@ module _ (bytes : List ℕ) (o : Object) (at : ℕ) (is : IsAt bytes o at) where
       ∙ ap (λ (w : Layout). checked file f (dynamic_of ts (fixed at o)) l w) (layout_again bytes o at is)
       ∙ ap (λ (r : Result (Unit {0}) Refusal). r >>= λ _. Ok (object f (dynamic_of ts (fixed at o)) l places)) (check_again bytes o at is)
 
-pub at_fit : (bytes : List ℕ) (o : Object) (at : ℕ) → IsBytes bytes → pie bytes ≡ Some o → fits o at ≡ true → IsAt bytes o at
-at_fit bytes o at b some fit = let f = is_fit o at fit in is_at bytes o at b some f.aligned f.ends
+pub at_place : (bytes : List ℕ) (o : Object) (at : ℕ) → IsBytes bytes → pie bytes ≡ Some o → MayBeFixed o at → IsAt bytes o at
+at_place bytes o at b some may = is_at bytes o at b some may.aligned may.ends
 
 pub fixed_is_read : FixedFileIsRead
 unfolding fixed_bytes
-fixed_is_read bytes o at b some fit =
-    let f = is_fit o at fit in
-    let is : IsAt bytes o at = is_at bytes o at b some f.aligned f.ends in (
-      object_again bytes o at is f.aligned,
-      reads_again bytes o at some f.aligned f.ends is ∙ parts_again bytes o at is f.aligned,
-      is_fixed bytes o at is f.aligned,
+fixed_is_read bytes o at b some may =
+    let is : IsAt bytes o at = at_place bytes o at b some may in (
+      object_again bytes o at is may.aligned,
+      reads_again bytes o at some may.aligned may.ends is ∙ parts_again bytes o at is may.aligned,
+      is_fixed bytes o at is may.aligned,
     )

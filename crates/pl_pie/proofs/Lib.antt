@@ -37,6 +37,8 @@ pub mod LayoutAgain
 pub mod PlacesAgain
 pub mod CheckAgain
 pub mod ObjectAgain
+pub mod FitLaws
+pub mod ExactLaws
 pub mod FixedIsRead
 pub mod BackAgain
 pub mod ImageAgain

@@ -1,4 +1,4 @@
--- Loosening undoes fixing, and gives nothing else.
+-- Loosening undoes fixing.
 use Rattle.std.proofs.Common.{◌≡◌, ℕ, ◌+◌, ◌%◌, ◌^◌, ◌≤◌, Bool, true, false, List, [], ◌∷◌, length, Option, Some, None, Result, Ok, Err, refl, ap, subst, ◌∙◌, arith}
 use Rattle.std.specs.Prelude.{◌&&◌, ◌==◌, nat_le, if◌then◌else◌}
 use Rattle.std.proofs.lemmas.Bool.Decides.{nat_tests}
@@ -18,43 +18,14 @@ use Rattle.pl_move.proofs.ObjectLaws.{tables_in}
 use Rattle.pl_pie.specs.Words.{other_words}
 use Rattle.pl_pie.specs.Pie.{typed, as_program, pie}
 use Rattle.pl_pie.specs.Fix.{added, taken, word_windows, fixed_bytes, fits, page_of, loosened, checked_by, checked, unfixed_by, unfixed}
-use Rattle.pl_pie.specs.Laws.{UnfixIsExact, UnfixUndoes}
+use Rattle.pl_pie.specs.Laws.{UnfixUndoes}
 use Rattle.pl_pie.proofs.BackAgain.{IsTakenBack, taken_again}
-use Rattle.pl_pie.proofs.FixedIsRead.{at_fit, fixed_is_read, is_fit}
+use Rattle.pl_pie.proofs.FitLaws.{is_fit}
+use Rattle.pl_pie.proofs.FixedIsRead.{at_place, fixed_is_read}
 use Rattle.pl_pie.proofs.ObjectAgain.{whole_pages}
 use Rattle.pl_pie.proofs.WordLaws.{typed_bytes, typed_back, taken_back, long_is}
 use Rattle.pl_pie.proofs.PieLaws.{IsPie, pie_is, pie_type, not_static, and_both}
 use Rattle.pl_pie.proofs.InsideLaws.{words_in}
-
--- ---- nothing else
-
-abbrev Found : List ℕ → List ℕ → Type 0
-Found file bytes = (o : Object) × (at : ℕ) × (pie bytes ≡ Some o) × (fits o at ≡ true) × (fixed_bytes at o bytes ≡ file)
-
-pub unfix_exact : UnfixIsExact
-unfolding unfixed checked
-unfix_exact file bytes h = of_read (reads file) h
-  where
-    of_test : (at : ℕ) (l : List ℕ) (y : Object) → pie l ≡ Some y → (b c : Bool) → fits y at ≡ b → bytes_eq (fixed_bytes at y l) file ≡ c → (if b && c then Some l else None) ≡ Some bytes → Found file bytes
-    of_test at l y is false c fit same e = absurd cc
-    of_test at l y is true false fit same e = absurd cc
-    of_test at l y is true true fit same e =
-        let one : l ≡ bytes = cc in
-        subst (λ (p : List ℕ). Found file p) one (y, at, is, fit, (bytes_eq-Decides (fixed_bytes at y l) file).0 same)
-
-    of_pie : (at : ℕ) (l : List ℕ) (y : Option Object) → pie l ≡ y → checked_by at file l y ≡ Some bytes → Found file bytes
-    of_pie at l None is e = absurd cc
-    of_pie at l (Some y) is e = of_test at l y is (fits y at) (bytes_eq (fixed_bytes at y l) file) refl refl e
-
-    of_kind : (x : Object) (b : Bool) → (if b then checked_by (page_of x) file (loosened x file) (pie (loosened x file)) else None) ≡ Some bytes → Found file bytes
-    of_kind x false e = absurd cc
-    of_kind x true e = of_pie (page_of x) (loosened x file) (pie (loosened x file)) refl e
-
-    of_read : (r : Result Object Refusal) → unfixed_by file r ≡ Some bytes → Found file bytes
-    of_read (Err fault) e = absurd cc
-    of_read (Ok x) e = of_kind x (is_program x.kind) e
-
--- ---- the inverse
 
 fits_small : (o : Object) (at : ℕ) → fits o at ≡ true → at ≤ 2 ^ 64
 unfolding fits
@@ -103,10 +74,10 @@ unfix_undoes bytes o at h is fit =
     let p : IsPie bytes o = pie_is bytes o is in
     let file : List ℕ = fixed_bytes at o bytes in
     let f = is_fit o at fit in
-    let stands = at_fit bytes o at h is fit in
-    let read = fixed_is_read bytes o at h is fit in
+    let stands = at_place bytes o at h is f.may in
+    let read = fixed_is_read bytes o at h is f.may in
     let x : Object = read.0 in
-    let again : IsTakenBack at o x = taken_again bytes o at stands (omega (arith, f.from)) (whole_pages (as_program bytes) o at p.accepted f.aligned) x read.2 in
+    let again : IsTakenBack at o x = taken_again bytes o at stands (omega (arith, f.from)) (whole_pages (as_program bytes) o at p.accepted f.may.aligned) x read.2 in
     unfixed_is file x read.1 again.program
     ∙ ap (λ (n : ℕ). checked n file (loosened x file)) again.page
     ∙ ap (checked at file) (loosened_is bytes o x at h p (fits_small o at fit) stands.even again)

@@ -1,11 +1,11 @@
 -- A program fixed at an address, as bytes, and how it is loosened again from its own bytes.
-use Rattle.std.specs.Prelude.{ℕ, ◌+◌, ◌-◌, ◌%◌, ◌^◌, Bool, ◌&&◌, ◌==◌, nat_le, List, [], ◌∷◌, Option, Some, None, Result, Ok, Err, if◌then◌else◌}
+use Rattle.std.specs.Prelude.{◌≡◌, ◌≤◌, ℕ, ◌+◌, ◌-◌, ◌%◌, ◌^◌, Bool, ◌&&◌, ◌==◌, nat_le, List, [], ◌∷◌, Option, Some, None, Result, Ok, Err, if◌then◌else◌}
 use Rattle.std.specs.Str.{bytes_eq}
 use Rattle.pl_base.specs.Sums.{round_down}
 use Rattle.pl_base.specs.Windows.{Window}
 use Rattle.pl_elf.specs.Headers.{segment_of_kind}
 use Rattle.pl_elf.specs.Kinds.{is_program}
-use Rattle.pl_elf.specs.declared.constants.TheConstants.{ET_DYN, PT_LOAD, PAGE}
+use Rattle.pl_elf.specs.declared.constants.TheConstants.{ET_DYN, PT_LOAD, PAGE, ADDRESS_LIMIT}
 use Rattle.pl_elf.specs.declared.segment.Segment.{Segment}
 use Rattle.pl_object.specs.Reads.{reads}
 use Rattle.pl_object.specs.declared.object.Object.{Object}
@@ -38,7 +38,12 @@ word_windows (at ∷ ats) = word_window at ∷ word_windows ats
 unfoldable pub fixed_bytes : ℕ → Object → List ℕ → List ℕ
 fixed_bytes at o bytes = added at (other_words o) (all_moved at (tables_of o) (as_program bytes))
 
--- an address at which a position-independent program may be fixed: aligned, and inside the region
+-- an address at which `fix` takes a program: aligned, and the program ends there at or below the limit of addresses
+pub record MayBeFixed (o : Object) (at : ℕ) : Type 0 where
+  pub aligned : at % o.align ≡ 0
+  pub ends : at + o.span ≤ ADDRESS_LIMIT
+
+-- one at which a fixed program is found again by its bytes: aligned, and inside the region
 unfoldable pub fits : Object → ℕ → Bool
 fits o at = at % o.align == 0 && nat_le REGION_START at && nat_le (at + o.span) REGION_END
 

@@ -12,13 +12,17 @@ use Rattle.pl_value.specs.Ordinary.{ArePlaced, ordinary}
 use Rattle.pl_fixed.specs.Fixed.{fixed}
 use Rattle.pl_fixed.specs.Laws.{SameImage}
 use Rattle.pl_pie.specs.Pie.{as_program, pie}
-use Rattle.pl_pie.specs.Fix.{fixed_bytes, fits, unfixed}
+use Rattle.pl_pie.specs.Fix.{MayBeFixed, fixed_bytes, fits, unfixed}
 
 -- ---- placing
 
 -- a position-independent program has memory, and an alignment that is a power of two: a policy may be asked for its address
 abbrev pub PiesArePlaced : Type 0
 PiesArePlaced = (bytes : List ℕ) (o : Object) → pie bytes ≡ Some o → (0 < o.span) × (is_power_of_two o.align ≡ true)
+
+-- an address of the region at which a program fits is one at which `fix` takes it
+abbrev pub FitsMayBeFixed : Type 0
+FitsMayBeFixed = (o : Object) (at : ℕ) → fits o at ≡ true → MayBeFixed o at
 
 -- ---- loosening
 
@@ -48,16 +52,16 @@ pub record IsFixed (at : ℕ) (o x : Object) : Type 0 where
   pub same : x ≡ record (fixed at o) { tables = x.tables }
   pub tables : AllZip IsSameRange x.tables o.tables
 
--- a fixed file is accepted, as the fixed program
+-- a fixed file is accepted, as the fixed program, wherever `fix` takes one
 abbrev pub FixedFileIsRead : Type 0
-FixedFileIsRead = (bytes : List ℕ) (o : Object) (at : ℕ) → IsBytes bytes → pie bytes ≡ Some o → fits o at ≡ true
+FixedFileIsRead = (bytes : List ℕ) (o : Object) (at : ℕ) → IsBytes bytes → pie bytes ≡ Some o → MayBeFixed o at
     → (x : Object) × (reads (fixed_bytes at o bytes) ≡ Ok x) × IsFixed at o x
 
 -- ---- images
 
--- a position-independent program at an address, with other members, has the image of what is read of the fixed file, or the same link refusal
+-- a position-independent program at an address where `fix` takes it, with other members, has the image of what is read of the fixed file, or the same link refusal
 abbrev pub FixedFileIsOrdinary : Type 0
 FixedFileIsOrdinary = (at : ℕ) (o x : Object) (os : List Object) (bytes : List ℕ) (parts : List (List ℕ)) (places : List ℕ) (modules : List Module)
-    → IsBytes bytes → pie bytes ≡ Some o → fits o at ≡ true → reads (fixed_bytes at o bytes) ≡ Ok x → ArePlaced (at ∷ places) (as_program bytes ∷ parts) (o ∷ os)
+    → IsBytes bytes → pie bytes ≡ Some o → MayBeFixed o at → reads (fixed_bytes at o bytes) ≡ Ok x → ArePlaced (at ∷ places) (as_program bytes ∷ parts) (o ∷ os)
     → SameImage (ordinary (o ∷ os) (as_program bytes ∷ parts) (at ∷ places) modules)
     (ordinary (x ∷ os) (fixed_bytes at o bytes ∷ parts) (0 ∷ places) modules)

@@ -88,40 +88,40 @@ program_kind count words = refl
 
 -- ---- the files
 
-library_file : (files : Files) (count i : ℕ) → 0 < count → (h : HasLibrary files count i) → HasFile files (library_names count) Library (library_name i) (library_of count i h.words)
-library_file files count i some h =
-    let is : IsLibraryNamed count i (library_of count i h.words) = recipes_named.libraries count i h.words in
+library_file : (files : Files) (count i : ℕ) (words : List ℕ) → 0 < count → HasLibrary files count i words → HasFile files (library_names count) Library (library_name i) (library_of count i words)
+library_file files count i words some h =
+    let is : IsLibraryNamed count i (library_of count i words) = recipes_named.libraries count i words in
     record {
-      same_kind = library_kind count i h.words;
-      describing = describing_of count (library_of count i h.words) (library_fine count i h.words) is.named (library_some count i h.words);
-      room = library_room count i h.words;
+      same_kind = library_kind count i words;
+      describing = describing_of count (library_of count i words) (library_fine count i words) is.named (library_some count i words);
+      room = library_room count i words;
       bytes = h.bytes;
       made = h.made;
       there = h.there;
       needs = λ m needed. among_there count m (is.named.needs m some needed);
     }
 
-library_ready : (files : Files) (count i : ℕ) → 0 < count → HasLibrary files count i → IsLibraryFile files (library_names count) (library_name i)
-library_ready files count i some h = record { recipe = library_of count i h.words; file = library_file files count i some h; copies = (recipes_named.libraries count i h.words).copies }
+library_ready : (files : Files) (count i : ℕ) (words : List ℕ) → 0 < count → HasLibrary files count i words → IsLibraryFile files (library_names count) (library_name i)
+library_ready files count i words some h = record { recipe = library_of count i words; file = library_file files count i words some h; copies = (recipes_named.libraries count i words).copies }
 
 pub set_libraries : SetLibrariesAreReady
-set_libraries files count some few has_all = record {
+set_libraries files count words some few has_all = record {
   few = omega (arith, length-map-range_with_len library_name 0 count, few, limit_is);
-  each = λ n there. (let k = library_numbered count n there in subst (IsLibraryFile files (library_names count)) k.is (library_ready files count k.number some (has_all k.number k.below)));
+  each = λ n there. (let k = library_numbered count n there in subst (IsLibraryFile files (library_names count)) k.is (library_ready files count k.number (words k.number) some (has_all k.number k.below)));
 }
 
 pub set_programs : SetProgramsAreReady
-set_programs files count region n some has_all p above =
-    let r : Recipe = program_of count p.words in
-    let k : ℕ = at p.words 0 % count in
-    let is : IsProgramNamed count k r = recipes_named.programs count p.words p.some in
-    let lib : HasLibrary files count k = has_all k (mod-lt (at p.words 0) some) in
+set_programs files count words region n own some has_all p above =
+    let r : Recipe = program_of count own in
+    let k : ℕ = at own 0 % count in
+    let is : IsProgramNamed count k r = recipes_named.programs count own p.some in
+    let lib : HasLibrary files count k (words k) = has_all k (mod-lt (at own 0) some) in
     record {
       recipe = r;
       file = record {
-        same_kind = program_kind count p.words;
-        describing = describing_of count r (program_fine count p.words) is.named (program_some count p.words);
-        room = program_room count p.words;
+        same_kind = program_kind count own;
+        describing = describing_of count r (program_fine count own) is.named (program_some count own);
+        room = program_room count own;
         bytes = p.bytes;
         made = p.made;
         there = p.there;
@@ -131,8 +131,8 @@ set_programs files count region n some has_all p above =
       copies = λ name hit. record {
         library = library_name k;
         needed = is.needed;
-        recipe = library_of count k lib.words;
-        file = library_file files count k some lib;
-        defines = subst (λ (name : List ℕ). list_any (defines_name name) (library_of count k lib.words).symbols ≡ true) (sym (is.copies name hit)) (recipes_named.libraries count k lib.words).defines;
+        recipe = library_of count k (words k);
+        file = library_file files count k (words k) some lib;
+        defines = subst (λ (name : List ℕ). list_any (defines_name name) (library_of count k (words k)).symbols ≡ true) (sym (is.copies name hit)) (recipes_named.libraries count k (words k)).defines;
       };
     }

@@ -14,19 +14,18 @@ use Rattle.pl_ready.specs.Forms.{IsAbove}
 abbrev pub library_names : ℕ → List (List ℕ)
 library_names count = map library_name (range_with_len 0 count)
 
--- a name has the file of the library of an index, by whatever words
-pub record HasLibrary (files : Files) (count i : ℕ) : Type 0 where
-  pub words : List ℕ
+-- a name has the file of the library of an index, by these words
+pub record HasLibrary (files : Files) (count i : ℕ) (words : List ℕ) : Type 0 where
   pub bytes : List ℕ
   pub made : made (plan_of (library_of count i words)) ≡ Ok bytes
   pub there : files (library_name i) ≡ Some bytes
 
-abbrev pub HasLibraries : Files → ℕ → Type 0
-HasLibraries files count = (i : ℕ) → i < count → HasLibrary files count i
+-- and each index one by its own words
+abbrev pub HasLibraries : Files → ℕ → (ℕ → List ℕ) → Type 0
+HasLibraries files count words = (i : ℕ) → i < count → HasLibrary files count i (words i)
 
--- and one that of a program, by at least one word
-pub record HasProgram (files : Files) (count : ℕ) (n : List ℕ) : Type 0 where
-  pub words : List ℕ
+-- a name has the file of a program, by these words, of which there is one at least
+pub record HasProgram (files : Files) (count : ℕ) (n words : List ℕ) : Type 0 where
   pub some : 0 < length words
   pub bytes : List ℕ
   pub made : made (plan_of (program_of count words)) ≡ Ok bytes
@@ -34,7 +33,8 @@ pub record HasProgram (files : Files) (count : ℕ) (n : List ℕ) : Type 0 wher
 
 -- the libraries of a set need one another alone, and its programs need them
 abbrev pub SetLibrariesAreReady : Type 0
-SetLibrariesAreReady = (files : Files) (count : ℕ) → 0 < count → count < 256 → HasLibraries files count → AreLibraries files (library_names count)
+SetLibrariesAreReady = (files : Files) (count : ℕ) (words : ℕ → List ℕ) → 0 < count → count < 256 → HasLibraries files count words → AreLibraries files (library_names count)
 
 abbrev pub SetProgramsAreReady : Type 0
-SetProgramsAreReady = (files : Files) (count : ℕ) (region : Range) (n : List ℕ) → 0 < count → HasLibraries files count → (p : HasProgram files count n) → IsAbove (program_of count p.words).settings region → IsProgramFile files (library_names count) region n
+SetProgramsAreReady = (files : Files) (count : ℕ) (words : ℕ → List ℕ) (region : Range) (n own : List ℕ) → 0 < count → HasLibraries files count words → HasProgram files count n own → IsAbove (program_of count own).settings region
+    → IsProgramFile files (library_names count) region n

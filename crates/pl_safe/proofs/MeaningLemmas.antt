@@ -22,7 +22,9 @@ use Rattle.pl_cli.specs.declared.cause.Cause.{Cause}
 use Rattle.pl_cli.specs.declared.command.Content.{Content}
 use Rattle.pl_crash.specs.Originals.{HasOriginal, SameOriginals, originals}
 use Rattle.pl_crash.specs.Safe.{IsSafe, after, changed}
+use Rattle.pl_crash.specs.Steps.{MakesStep}
 use Rattle.pl_crash.proofs.ReplaceLemmas.{fixing_bare, loosening_bare, replacements_originals, replacements_safe}
+use Rattle.pl_crash.proofs.StepLemmas.{removals_steps, replacements_steps, runs_steps}
 use Rattle.pl_crash.proofs.WholeLemmas.{removals_originals, removals_safe, runs_originals, runs_safe}
 use Rattle.pl_safe.specs.Runs.{KeepsOriginals}
 
@@ -39,7 +41,7 @@ because_safe meant other same safe = record {
 run_of : (asked : Run) (before : Files) (rows : List Change) → undoes asked before ≡ Ok rows → run_meant asked before ≡ Ok rows
 run_of asked before rows is = because_ok of_batch (run_meant asked before) rows is
 
-all_of : (asked : Prelinking) (before : Files) (rows : List Change) → prelinks asked before ≡ Ok rows → run_meant (runs.All asked) before ≡ Ok rows
+pub all_of : (asked : Prelinking) (before : Files) (rows : List Change) → prelinks asked before ≡ Ok rows → run_meant (runs.All asked) before ≡ Ok rows
 all_of asked before rows is = because_ok of_batch (run_meant (runs.All asked) before) rows is
 
 removal_of : (name : Name) (before : Files) (rows : List Change) → removes name before ≡ Ok rows → removal_meant name before ≡ Ok rows
@@ -79,6 +81,36 @@ store_safe name kind bytes = record {
   ready = λ before rows is. let a = store_of name kind bytes before rows is in (runs_safe (runs.Install name a.0)).ready before rows a.1;
   safe = λ before rows is rule. let a = store_of name kind bytes before rows is in (runs_safe (runs.Install name a.0)).safe before rows a.1 rule;
 }
+
+-- ---- steps
+
+-- a command that has only another's changes makes its steps
+because_steps : {C D : Type 0} (meant : Meaning C) (other : Meaning D) → ((before : Files) (rows : List Change) → other before ≡ Ok rows → meant before ≡ Ok rows) → MakesStep meant → MakesStep other
+because_steps meant other same steps = λ before rows last rule has is. steps before rows last rule has (same before rows is)
+
+pub undo_steps : (asked : Run) → MakesStep (undoes asked)
+undo_steps asked = because_steps (run_meant asked) (undoes asked) (run_of asked) (runs_steps asked)
+
+pub prelink_steps : (asked : Prelinking) → MakesStep (prelinks asked)
+prelink_steps asked = because_steps (run_meant (runs.All asked)) (prelinks asked) (all_of asked) (runs_steps (runs.All asked))
+
+pub remove_steps : (name : Name) → MakesStep (removes name)
+remove_steps name = because_steps (removal_meant name) (removes name) (removal_of name) (removals_steps name)
+
+pub fix_steps : (policy : Policy) (name : Name) → MakesStep (fixes policy name)
+fix_steps policy name =
+    let make = fixed_as (choice policy) name in
+    because_steps (replacing_meant make name) (fixes policy name) (λ before rows is. because_ok of_batch (replacing_meant make name before) rows is) (replacements_steps make name (fixing_bare (choice policy) name))
+
+pub loosen_steps : (name : Name) → MakesStep (loosens name)
+loosen_steps name =
+    let make = loosened_of name in
+    because_steps (replacing_meant make name) (loosens name) (λ before rows is. because_ok of_batch (replacing_meant make name before) rows is) (replacements_steps make name (loosening_bare name))
+
+pub store_steps : (name : Name) (kind : Content) (bytes : List ℕ) → MakesStep (stores name kind bytes)
+store_steps name kind bytes = λ before rows last rule has is.
+    let a = store_of name kind bytes before rows is in
+    runs_steps (runs.Install name a.0) before rows last rule has a.1
 
 -- ---- originals
 

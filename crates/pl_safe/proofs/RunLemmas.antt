@@ -5,7 +5,8 @@ use Rattle.std.specs.FinMap.{get}
 use Rattle.std.proofs.lemmas.Bool.{false≢true, true≢false}
 use Rattle.pl_base.specs.Files.{Files}
 use Rattle.pl_folder.specs.Disk.{Disk, IsImage, Name, View, clock, read, waited}
-use Rattle.pl_folder.specs.Effects.{WaitsFor}
+use Rattle.pl_folder.specs.Calls.{Calls}
+use Rattle.pl_folder.specs.Effects.{Effect, WaitsFor}
 use Rattle.pl_folder.specs.Seen.{Broken, Done, Ending, IsFolder, Seen, Undone}
 use Rattle.pl_folder.specs.Since.{Keeps, Within}
 use Rattle.pl_folder.proofs.ImageLaws.{read_image}
@@ -13,9 +14,10 @@ use Rattle.pl_journal.specs.Leaves.{Looks}
 use Rattle.pl_journal.specs.Meaning.{Same}
 use Rattle.pl_journal.specs.declared.change.Change.{Change}
 use Rattle.pl_journal.proofs.Moments.{since_start, weaker}
-use Rattle.pl_batch.specs.Commands.{Failed, IsBefore, Lacked, Made, Meaning, Refused}
+use Rattle.pl_batch.specs.Commands.{CommandsFiles, Failed, IsBefore, Lacked, Made, Meaning, Outcome, Refused}
 use Rattle.pl_batch.specs.Restored.{restored}
 use Rattle.pl_batch.specs.declared.run.Run.TheVariants as runs
+use Rattle.pl_batch.proofs.RestoredLemmas.{restored_before}
 use Rattle.pl_cli.specs.Came.{Makes}
 use Rattle.pl_cli.specs.Ran.{Ran}
 use Rattle.pl_cli.specs.Load.{loaded_object}
@@ -23,7 +25,7 @@ use Rattle.pl_cli.specs.Looks.{takes}
 use Rattle.pl_cli.specs.Order.{object_in}
 use Rattle.pl_cli.specs.Outside.{Outside, ending_of}
 use Rattle.pl_cli.specs.Words.{bytes_of}
-use Rattle.pl_cli.specs.Writes.{AreBytes, WritesDisk}
+use Rattle.pl_cli.specs.Writes.{AreBytes, WritesDisk, WritesFiles}
 use Rattle.pl_cli.specs.declared.cause.Cause.{Cause}
 use Rattle.pl_cli.specs.declared.command.Command.{Command}
 use Rattle.pl_cli.specs.declared.command.Command.TheVariants.{Load, All, Preview, UndoAll, Undo, Verify, Store, Remove, Fix, Unfix, Print, Order, Demo, Weave}
@@ -31,10 +33,11 @@ use Rattle.pl_cli.specs.declared.status.Status.{Status}
 use Rattle.pl_cli.specs.declared.status.Status.TheVariants as statuses
 use Rattle.pl_crash.specs.Safe.{IsSafe, IsSafeImage, after}
 use Rattle.pl_crash.specs.Sound.{IsSound}
-use Rattle.pl_crash.proofs.CommandLemmas.{disk_ends, disk_leaves, is_before, looked, reads_path, reads_sound}
-use Rattle.pl_safe.specs.Laws.{EveryRunIsSafe, ReadersLook, OthersKeepOriginals, RunsLeave, RunsEndSound, WritersEnd}
+use Rattle.pl_crash.specs.Steps.{MakesStep}
+use Rattle.pl_crash.proofs.CommandLemmas.{commands_read, disk_ends, disk_leaves, is_before, looked, reads_path, reads_sound}
+use Rattle.pl_safe.specs.Laws.{EveryRunIsSafe, ReadersLook, OthersKeepOriginals, RunsLeave, RunsEndSound, RunsRead, WritersEnd}
 use Rattle.pl_safe.specs.Runs.{KeepsOriginals, LeavesSound, changed_name, is_whole, meaning, nothing, writes}
-use Rattle.pl_safe.proofs.MeaningLemmas.{fix_keeps, fix_safe, loosen_keeps, loosen_safe, prelink_keeps, prelink_safe, remove_keeps, remove_safe, store_keeps, store_safe, undo_all_keeps, undo_keeps, undo_safe}
+use Rattle.pl_safe.proofs.MeaningLemmas.{fix_keeps, fix_safe, fix_steps, loosen_keeps, loosen_safe, loosen_steps, prelink_keeps, prelink_safe, prelink_steps, remove_keeps, remove_safe, remove_steps, store_keeps, store_safe, store_steps, undo_all_keeps, undo_keeps, undo_safe, undo_steps}
 
 -- ---- calls that change nothing
 
@@ -67,17 +70,18 @@ none_safe = record {
     never : (rows : List Change) → ◌≡◌ {A = Result (List Change) (Unit {0})} (Err tt) (Ok rows) → ⊥
     never rows is = cc
 
-module _ (meant : Meaning Cause) (safe : IsSafe meant) (a b : Disk) (before : Files) (sound : IsSound (read a.now)) (is : IsBefore (read a.now) before) where
-  recovered_safe : (v : View) → IsSafeImage {C = Unit {0}} (λ files. Err tt) before v → IsSafeImage meant before v
-  recovered_safe v image = record { sound = image.sound; stands = inl (⊎_elim (λ same. same) (λ same. same) image.stands) }
+-- what its recovery leaves is what any command may leave
+recovered_safe : (meant : Meaning Cause) (before : Files) (v : View) → IsSafeImage {C = Unit {0}} (λ files. Err tt) before v → IsSafeImage meant before v
+recovered_safe meant before v image = record { sound = image.sound; stands = inl (⊎_elim (λ same. same) (λ same. same) image.stands) }
 
+module _ (meant : Meaning Cause) (safe : IsSafe meant) (a b : Disk) (before : Files) (sound : IsSound (read a.now)) (is : IsBefore (read a.now) before) where
   written : (status : Status) (e : Ending) → WritesDisk meant status e a b → Looks a b ⊎ Keeps a b (IsSafeImage meant before)
   written statuses.Done e call = inr (disk_leaves meant a b before safe sound is Made e call)
   written statuses.Differs e call = absurd call
   written statuses.Usage e call = absurd call
   written statuses.Refused e call = inr (disk_leaves meant a b before safe sound is (Refused call.0) e call.1)
   written statuses.ReadFault e call =
-      inr (weaker a b (IsSafeImage {C = Unit {0}} (λ files. Err tt) before) (IsSafeImage meant before) recovered_safe (disk_leaves (λ files. Err tt) a b before none_safe sound is (Refused tt) e call))
+      inr (weaker a b (IsSafeImage {C = Unit {0}} (λ files. Err tt) before) (IsSafeImage meant before) (recovered_safe meant before) (disk_leaves (λ files. Err tt) a b before none_safe sound is (Refused tt) e call))
   written statuses.WriteFault e call = ⊎_elim
       (λ done. inr (disk_leaves meant a b before safe sound is Made e done))
       (λ refused. inr (disk_leaves meant a b before safe sound is (Refused refused.0) e refused.1))
@@ -95,40 +99,74 @@ ended meant a b before is statuses.WriteFault e whole call = ⊎_elim (λ done. 
 ended meant a b before is statuses.DiskFault e whole call = absurd (false≢true whole)
 ended meant a b before is statuses.NoMemory e whole call = absurd (false≢true whole)
 
+-- ---- what is read after a writing command
+
+abbrev unrecorded : Seen → Seen
+unrecorded a = record a { records = false }
+
+module _ (effect : Effect) (e : Ending) (a b : Seen) (calls : Calls e effect a b) (told : a.tells ≡ true) (sound : IsSound (get a.files)) where
+  read_as : {C : Type 0} (meant : Meaning C) (o : Outcome C) → IsSafe meant → CommandsFiles meant o e a.files b.files → IsSafeImage meant (restored a.files) (get b.files)
+  read_as meant o safe call = commands_read meant o e (unrecorded a) (unrecorded b) safe told sound (record {
+    tells = calls.tells;
+    records = refl;
+    place = calls.place;
+    files = λ _. call;
+    disk = λ recorded. absurd (false≢true recorded);
+    count = calls.count;
+  })
+
+  read_written : (meant : Meaning Cause) → IsSafe meant → (status : Status) → WritesFiles meant status e a.files b.files → IsSafeImage meant (restored a.files) (get b.files)
+  read_written meant safe statuses.Done call = read_as meant Made safe call
+  read_written meant safe statuses.Differs call = absurd call
+  read_written meant safe statuses.Usage call = absurd call
+  read_written meant safe statuses.Refused call = read_as meant (Refused call.0) safe call.1
+  read_written meant safe statuses.ReadFault call = recovered_safe meant (restored a.files) (get b.files) (read_as (λ files. Err tt) (Refused tt) none_safe call)
+  read_written meant safe statuses.WriteFault call = ⊎_elim (λ done. read_as meant Made safe done) (λ refused. read_as meant (Refused refused.0) safe refused.1) call
+  read_written meant safe statuses.DiskFault call = read_as meant Failed safe call
+  read_written meant safe statuses.NoMemory call = read_as meant Lacked safe call
+
+  read_still : (meant : Meaning Cause) → b.files ≡ a.files → IsSafeImage meant (restored a.files) (get b.files)
+  read_still meant same =
+      subst (λ (files : Files). IsSafeImage meant (restored a.files) (get files)) (sym same) (record { sound = sound; stands = inl (λ n. sym (restored_before a.files n)) })
+
 -- ---- commands
 
 -- one that only reads: it has no changes, and its calls change nothing
-record IsReader (asked : Option Command) : Type 0 where
+pub record IsReader (asked : Option Command) : Type 0 where
   pub reads : writes asked ≡ false
   pub means : (bytes : List ℕ) → meaning asked bytes ≡ nothing
   pub keeps : changed_name asked ≡ None
+  pub stays : (files : Files) (input : Option (List ℕ)) (status : Status) (e : Ending) (a b : Files) → (Makes asked files input status).files e a b → b ≡ a
   pub looks : (files : Files) (input : Option (List ℕ)) (status : Status) (e : Ending) (a b : Disk) → (Makes asked files input status).disk e a b → Looks a b
 
 -- one that writes: its changes are safe, it makes them, and it keeps other originals
-record IsWriter (asked : Option Command) : Type 0 where
+pub record IsWriter (asked : Option Command) : Type 0 where
   pub writes : writes asked ≡ true
   pub safe : (bytes : List ℕ) → IsSafe (meaning asked bytes)
+  pub steps : (bytes : List ℕ) → MakesStep (meaning asked bytes)
   pub keeps : (bytes : List ℕ) (before : Files) → KeepsOriginals (changed_name asked) (get before) (after (meaning asked bytes) before)
   pub made : (files : Files) (input : Option (List ℕ)) (status : Status) (e : Ending) (a b : Disk) → (Makes asked files input status).disk e a b
       → (bytes : List ℕ) × AreBytes input bytes × WritesDisk (meaning asked bytes) status e a b
+  pub read : (files : Files) (input : Option (List ℕ)) (status : Status) (e : Ending) (a b : Files) → (Makes asked files input status).files e a b
+      → (bytes : List ℕ) × AreBytes input bytes × WritesFiles (meaning asked bytes) status e a b
 
 -- each is the one or the other
-kind : (asked : Option Command) → IsReader asked ⊎ IsWriter asked
-kind None = inl (record { reads = refl; means = λ bytes. refl; keeps = refl; looks = λ files input status e a b made. waits_look 0 e a b made })
-kind (Some (Load name busy policy)) = inl (record { reads = refl; means = λ bytes. refl; keeps = refl; looks = λ files input status e a b made. waits_look (takes (loaded_object policy files name) name) e a b made })
-kind (Some (All asked detail)) = inr (record { writes = refl; safe = λ bytes. prelink_safe asked; keeps = λ bytes before. prelink_keeps asked before; made = λ files input status e a b made. made })
-kind (Some (Preview asked detail)) = inl (record { reads = refl; means = λ bytes. refl; keeps = refl; looks = λ files input status e a b made. made })
-kind (Some UndoAll) = inr (record { writes = refl; safe = λ bytes. undo_safe runs.UndoAll; keeps = λ bytes before. undo_all_keeps before; made = λ files input status e a b made. made })
-kind (Some (Undo names)) = inr (record { writes = refl; safe = λ bytes. undo_safe (runs.Undo names); keeps = λ bytes before. undo_keeps names before; made = λ files input status e a b made. made })
-kind (Some (Store name content)) = inr (record { writes = refl; safe = store_safe name content; keeps = store_keeps name content; made = λ files input status e a b made. made })
-kind (Some (Remove name)) = inr (record { writes = refl; safe = λ bytes. remove_safe name; keeps = λ bytes before. remove_keeps name before; made = λ files input status e a b made. made })
-kind (Some (Fix name policy)) = inr (record { writes = refl; safe = λ bytes. fix_safe policy name; keeps = λ bytes before. fix_keeps policy name before; made = λ files input status e a b made. made })
-kind (Some (Unfix name)) = inr (record { writes = refl; safe = λ bytes. loosen_safe name; keeps = λ bytes before. loosen_keeps name before; made = λ files input status e a b made. made })
-kind (Some (Verify name)) = inl (record { reads = refl; means = λ bytes. refl; keeps = refl; looks = λ files input status e a b made. made })
-kind (Some Print) = inl (record { reads = refl; means = λ bytes. refl; keeps = refl; looks = λ files input status e a b made. waits_look 1 e a b made })
-kind (Some Weave) = inl (record { reads = refl; means = λ bytes. refl; keeps = refl; looks = λ files input status e a b made. made })
-kind (Some (Order name detail)) = inl (record { reads = refl; means = λ bytes. refl; keeps = refl; looks = λ files input status e a b made. waits_look (takes (object_in files) name) e a b made })
-kind (Some (Demo number)) = inl (record { reads = refl; means = λ bytes. refl; keeps = refl; looks = λ files input status e a b made. waits_look 0 e a b made })
+pub kind : (asked : Option Command) → IsReader asked ⊎ IsWriter asked
+kind None = inl (record { reads = refl; means = λ bytes. refl; keeps = refl; stays = λ files input status e a b same. same; looks = λ files input status e a b made. waits_look 0 e a b made })
+kind (Some (Load name busy policy)) = inl (record { reads = refl; means = λ bytes. refl; keeps = refl; stays = λ files input status e a b same. same; looks = λ files input status e a b made. waits_look (takes (loaded_object policy files name) name) e a b made })
+kind (Some (All asked detail)) = inr (record { writes = refl; safe = λ bytes. prelink_safe asked; steps = λ bytes. prelink_steps asked; keeps = λ bytes before. prelink_keeps asked before; made = λ files input status e a b made. made; read = λ files input status e a b made. made })
+kind (Some (Preview asked detail)) = inl (record { reads = refl; means = λ bytes. refl; keeps = refl; stays = λ files input status e a b same. same; looks = λ files input status e a b made. made })
+kind (Some UndoAll) = inr (record { writes = refl; safe = λ bytes. undo_safe runs.UndoAll; steps = λ bytes. undo_steps runs.UndoAll; keeps = λ bytes before. undo_all_keeps before; made = λ files input status e a b made. made; read = λ files input status e a b made. made })
+kind (Some (Undo names)) = inr (record { writes = refl; safe = λ bytes. undo_safe (runs.Undo names); steps = λ bytes. undo_steps (runs.Undo names); keeps = λ bytes before. undo_keeps names before; made = λ files input status e a b made. made; read = λ files input status e a b made. made })
+kind (Some (Store name content)) = inr (record { writes = refl; safe = store_safe name content; steps = store_steps name content; keeps = store_keeps name content; made = λ files input status e a b made. made; read = λ files input status e a b made. made })
+kind (Some (Remove name)) = inr (record { writes = refl; safe = λ bytes. remove_safe name; steps = λ bytes. remove_steps name; keeps = λ bytes before. remove_keeps name before; made = λ files input status e a b made. made; read = λ files input status e a b made. made })
+kind (Some (Fix name policy)) = inr (record { writes = refl; safe = λ bytes. fix_safe policy name; steps = λ bytes. fix_steps policy name; keeps = λ bytes before. fix_keeps policy name before; made = λ files input status e a b made. made; read = λ files input status e a b made. made })
+kind (Some (Unfix name)) = inr (record { writes = refl; safe = λ bytes. loosen_safe name; steps = λ bytes. loosen_steps name; keeps = λ bytes before. loosen_keeps name before; made = λ files input status e a b made. made; read = λ files input status e a b made. made })
+kind (Some (Verify name)) = inl (record { reads = refl; means = λ bytes. refl; keeps = refl; stays = λ files input status e a b same. same; looks = λ files input status e a b made. made })
+kind (Some Print) = inl (record { reads = refl; means = λ bytes. refl; keeps = refl; stays = λ files input status e a b same. same; looks = λ files input status e a b made. waits_look 1 e a b made })
+kind (Some Weave) = inl (record { reads = refl; means = λ bytes. refl; keeps = refl; stays = λ files input status e a b same. same; looks = λ files input status e a b made. made })
+kind (Some (Order name detail)) = inl (record { reads = refl; means = λ bytes. refl; keeps = refl; stays = λ files input status e a b same. same; looks = λ files input status e a b made. waits_look (takes (object_in files) name) e a b made })
+kind (Some (Demo number)) = inl (record { reads = refl; means = λ bytes. refl; keeps = refl; stays = λ files input status e a b same. same; looks = λ files input status e a b made. waits_look 0 e a b made })
 
 -- ---- a run
 
@@ -175,6 +213,24 @@ readers_look asked w v status told none ran = looks_by asked w v status told ran
 
 pub writers_end : WritersEnd
 writers_end asked w v status folder told one whole ran = ends_by asked w v status told ran folder one whole (kind asked)
+
+-- ---- what is read
+
+read_by : (asked : Option Command) (w v : Outside) (status : Status) → w.folder.tells ≡ true → IsSound (get w.folder.files) → Ran asked w v status → IsReader asked ⊎ IsWriter asked
+    → (bytes : List ℕ) × AreBytes w.input.left bytes × IsSafeImage (meaning asked bytes) (restored w.folder.files) (get v.folder.files)
+read_by asked w v status told sound ran (inl reader) =
+    let e : Ending = ending_of status in
+    let effect : Effect = Makes asked w.folder.files w.input.left status in
+    let same = reader.stays w.folder.files w.input.left status e w.folder.files v.folder.files (ran.folder.files told) in
+    (bytes_of w.input.left, λ given. refl, read_still effect e w.folder v.folder ran.folder told sound (meaning asked (bytes_of w.input.left)) same)
+read_by asked w v status told sound ran (inr writer) =
+    let e : Ending = ending_of status in
+    let effect : Effect = Makes asked w.folder.files w.input.left status in
+    let m = writer.read w.folder.files w.input.left status e w.folder.files v.folder.files (ran.folder.files told) in
+    (m.0, m.1, read_written effect e w.folder v.folder ran.folder told sound (meaning asked m.0) (writer.safe m.0) status m.2)
+
+pub runs_read : RunsRead
+runs_read asked w v status told sound ran = read_by asked w v status told sound ran (kind asked)
 
 -- ---- every image
 

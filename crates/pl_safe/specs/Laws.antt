@@ -9,7 +9,8 @@ use Rattle.pl_folder.specs.Since.{Since, Within}
 use Rattle.pl_journal.specs.Leaves.{Looks}
 use Rattle.pl_journal.specs.Meaning.{Same}
 use Rattle.pl_batch.specs.Restored.{restored}
-use Rattle.pl_crash.specs.Safe.{after}
+use Rattle.pl_batch.specs.declared.prelinking.Prelinking.{Prelinking}
+use Rattle.pl_crash.specs.Safe.{IsSafeImage, after}
 use Rattle.pl_crash.specs.Sound.{IsSound, named}
 use Rattle.pl_crash.specs.Steps.{IsPastAll}
 use Rattle.pl_conflict.specs.Format.{format}
@@ -23,12 +24,13 @@ use Rattle.pl_cli.specs.Outside.{Outside}
 use Rattle.pl_cli.specs.Ran.{Ran}
 use Rattle.pl_cli.specs.Writes.{AreBytes}
 use Rattle.pl_cli.specs.declared.command.Command.{Command}
-use Rattle.pl_cli.specs.declared.command.Command.TheVariants.{Load, Verify, Weave}
+use Rattle.pl_cli.specs.declared.command.Command.TheVariants.{All, Load, Verify, Weave}
+use Rattle.pl_cli.specs.declared.command.Detail.{Detail}
 use Rattle.pl_cli.specs.declared.status.Status.{Status}
 use Rattle.pl_cli.specs.declared.status.Status.TheVariants as statuses
 use Rattle.pl_paths.specs.Answers.{ordinary_answer}
 use Rattle.pl_woven.specs.Texts.{linked_from, weaves_from}
-use Rattle.pl_safe.specs.Runs.{KeepsOriginals, LeavesSound, changed_name, is_whole, meaning, writes}
+use Rattle.pl_safe.specs.Runs.{IsFromScratch, KeepsOriginals, LeavesPastAll, LeavesSound, StandsPastAll, changed_name, is_whole, meaning, writes}
 
 -- ---- every run
 
@@ -54,9 +56,55 @@ abbrev pub WritersEnd : Type 0
 WritersEnd =
     (asked : Option Command) (w v : Outside) (status : Status) → IsFolder w.folder → w.folder.records ≡ true → writes asked ≡ true → is_whole status ≡ true → Ran asked w v status → (bytes : List ℕ) × AreBytes w.input.left bytes × Within v.folder.disk.now (Same (after (meaning asked bytes) (restored w.folder.files)))
 
+-- what is read after a run over a folder that tells its files alone is sound, and stands for the files before or after
+abbrev pub RunsRead : Type 0
+RunsRead =
+    (asked : Option Command) (w v : Outside) (status : Status) → w.folder.tells ≡ true → IsSound (get w.folder.files) → Ran asked w v status
+    → (bytes : List ℕ) × AreBytes w.input.left bytes × IsSafeImage (meaning asked bytes) (restored w.folder.files) (get v.folder.files)
+
 -- a command changes at most one name's original
 abbrev pub OthersKeepOriginals : Type 0
 OthersKeepOriginals = (asked : Option Command) (bytes : List ℕ) (before : Files) → KeepsOriginals (changed_name asked) (get before) (after (meaning asked bytes) before)
+
+-- ---- what prelinking everything gives
+
+-- after `-a` is done over a folder that reads as a sound one each image has the files from scratch,
+abbrev pub ImagesAreFromScratch : Type 0
+ImagesAreFromScratch =
+    (p : Prelinking) (detail : Detail) (w v : Outside) → IsFolder w.folder → w.folder.records ≡ true → IsSound (get w.folder.files) → Ran (Some (All p detail)) w v statuses.Done → Within v.folder.disk.now (IsFromScratch (restored w.folder.files) p)
+
+-- and so have the files that are read, where the folder tells its files alone
+abbrev pub FilesAreFromScratch : Type 0
+FilesAreFromScratch =
+    (p : Prelinking) (detail : Detail) (w v : Outside) → w.folder.tells ≡ true → IsSound (get w.folder.files) → Ran (Some (All p detail)) w v statuses.Done → IsFromScratch (restored w.folder.files) p (get v.folder.files)
+
+-- ---- stamps
+
+-- where no stamp is past the last one of the cache, in the files that each image at the start stands for, none is in those that an image since then stands for
+abbrev pub EveryImageStandsPastAll : Type 0
+EveryImageStandsPastAll =
+    (asked : Option Command) (w v : Outside) (status : Status) → IsFolder w.folder → w.folder.records ≡ true → IsSound (get w.folder.files) → Within w.folder.disk.now StandsPastAll → Ran asked w v status
+    → (image : View) → Since v.folder.disk (clock w.folder.disk) image → StandsPastAll image
+
+-- where none is in the files that are read, a run only looked, or none is in those that an image of a moment after its start stands for,
+abbrev pub RunsLeavePastAll : Type 0
+RunsLeavePastAll =
+    (asked : Option Command) (w v : Outside) (status : Status) → IsFolder w.folder → w.folder.records ≡ true → IsSound (get w.folder.files) → IsPastAll (get (restored w.folder.files)) → Ran asked w v status → LeavesPastAll w.folder v.folder
+
+-- nor in an image itself, after a command that writes, is done or refused
+abbrev pub WritersEndPastAll : Type 0
+WritersEndPastAll =
+    (asked : Option Command) (w v : Outside) (status : Status) → IsFolder w.folder → w.folder.records ≡ true → IsSound (get w.folder.files) → IsPastAll (get (restored w.folder.files)) → writes asked ≡ true → is_whole status ≡ true → Ran asked w v status
+    → Within v.folder.disk.now IsPastAll
+
+-- the same of the files that are read after a run over a folder that tells its files alone
+abbrev pub FilesStandPastAll : Type 0
+FilesStandPastAll =
+    (asked : Option Command) (w v : Outside) (status : Status) → w.folder.tells ≡ true → IsSound (get w.folder.files) → IsPastAll (get (restored w.folder.files)) → Ran asked w v status → StandsPastAll (get v.folder.files)
+
+abbrev pub WrittenArePastAll : Type 0
+WrittenArePastAll =
+    (asked : Option Command) (w v : Outside) (status : Status) → w.folder.tells ≡ true → IsSound (get w.folder.files) → IsPastAll (get (restored w.folder.files)) → writes asked ≡ true → is_whole status ≡ true → Ran asked w v status → IsPastAll (get v.folder.files)
 
 -- ---- folders whoever wrote them
 

@@ -1,7 +1,11 @@
 -- What the commands of a run mean of a folder, and what a run leaves of a sound one.
 use Rattle.std.specs.Prelude.{◌≡◌, ◌⊎◌, ℕ, Bool, true, false, List, [], Option, Some, None, Ok}
+use Rattle.pl_base.specs.Files.{Files}
+use Rattle.pl_base.specs.Names.{is_valid_name}
 use Rattle.pl_batch.specs.Commands.{Meaning}
+use Rattle.pl_batch.specs.Folder.{named}
 use Rattle.pl_batch.specs.Restored.{restored}
+use Rattle.pl_batch.specs.declared.prelinking.Prelinking.{Prelinking}
 use Rattle.pl_batch.specs.declared.run.Run.TheVariants as runs
 use Rattle.pl_cli.specs.Writes.{fixes, loosens, prelinks, removes, stores, undoes}
 use Rattle.pl_cli.specs.declared.cause.Cause.{Cause}
@@ -11,10 +15,14 @@ use Rattle.pl_cli.specs.declared.status.Status.{Status}
 use Rattle.pl_cli.specs.declared.status.Status.TheVariants as statuses
 use Rattle.pl_crash.specs.Originals.{SameOriginals, originals}
 use Rattle.pl_crash.specs.Safe.{IsSafeImage}
+use Rattle.pl_crash.specs.Steps.{IsPastAll}
+use Rattle.pl_exact.specs.All.{HasNext}
 use Rattle.pl_folder.specs.Disk.{Name, View, same}
 use Rattle.pl_folder.specs.Seen.{Seen}
 use Rattle.pl_folder.specs.Since.{Keeps}
 use Rattle.pl_journal.specs.Leaves.{Looks}
+use Rattle.pl_journal.specs.Rows.{recovered}
+use Rattle.pl_rewrite.specs.Changes.{from_scratch}
 
 -- ---- commands
 
@@ -68,3 +76,20 @@ is_whole _ = false
 -- It only looked, and its images are those of the start; or each image of a moment after the start is sound, and stands for the files before it or for those after it.
 abbrev pub LeavesSound : Meaning Cause → Seen → Seen → Type 0
 LeavesSound meant a b = Looks a.disk b.disk ⊎ Keeps a.disk b.disk (IsSafeImage meant (restored a.files))
+
+-- ---- what prelinking everything gives
+
+-- each valid name has what prelinking everything from scratch gives of the files before, and the cache is the planned one
+pub record IsFromScratch (before : Files) (p : Prelinking) (after : View) : Type 0 where
+  pub next : HasNext before p after
+  pub each : (n : Name) → is_valid_name n ≡ true → after n ≡ from_scratch (named before) p.region next.plan n
+
+-- ---- stamps
+
+-- in the files that it stands for no stamp is past the last one of their cache
+abbrev pub StandsPastAll : View → Type 0
+StandsPastAll v = IsPastAll (recovered v)
+
+-- a run only looked, or that holds of each image of a moment after its start
+abbrev pub LeavesPastAll : Seen → Seen → Type 0
+LeavesPastAll a b = Looks a.disk b.disk ⊎ Keeps a.disk b.disk StandsPastAll

@@ -1,5 +1,5 @@
 // Laws of whole runs.
-ghost use Rattle.pl_safe.specs.Laws.{EveryRunIsSafe, SoundLoadsAreOrdinary, SoundWeavesAreOrdinary, ReadersLook, OthersKeepOriginals, RunsLeave, RunsEndSound, VerifiedAreSound, WritersEnd};
+ghost use Rattle.pl_safe.specs.Laws.{EveryImageStandsPastAll, EveryRunIsSafe, FilesAreFromScratch, FilesStandPastAll, ImagesAreFromScratch, SoundLoadsAreOrdinary, SoundWeavesAreOrdinary, ReadersLook, OthersKeepOriginals, RunsLeave, RunsLeavePastAll, RunsEndSound, RunsRead, VerifiedAreSound, WritersEnd, WritersEndPastAll, WrittenArePastAll};
 
 /// What a run leaves of a folder that reads as a sound one, whatever its words ask for and however it ends: it only looked, or each image of a moment after its start is sound, and stands for the files before it or for those after it. Where each image at the start was sound, each one since then is. A command that only reads changes nothing; after one that writes, is done or refused, and whether or not its text could be written, the files after it are the only image.
 pub fn every_run_is_safe()
@@ -8,6 +8,26 @@ pub fn every_run_is_safe()
     ensures next { RunsEndSound }
     ensures readers { ReadersLook }
     ensures writers { WritersEnd }
+{}
+
+/// What is read of a folder that tells its files alone, after a run over one that reads as a sound one, however the run ends: it is sound, and stands for the files before the run or for those after it.
+pub fn runs_read_as_safe()
+    ensures { RunsRead }
+{}
+
+/// After `-a` is done, each valid name has what prelinking everything from scratch gives, and the cache is the planned one: in each image, where the folder tells its disk, and as the files are read, where it tells these alone.
+pub fn runs_prelink_from_scratch()
+    ensures images { ImagesAreFromScratch }
+    ensures files { FilesAreFromScratch }
+{}
+
+/// Every command keeps it that no stamp of a file or of a list is past the last one of the cache: in the files that each image since the start stands for, where it was so of each image at the start; of each moment after the start, where it was so of the files that were read; and in the images themselves after a command that writes, is done or refused. So it is of the files that are read, where the folder tells these alone.
+pub fn runs_keep_stamps_past()
+    ensures every { EveryImageStandsPastAll }
+    ensures leaves { RunsLeavePastAll }
+    ensures writers { WritersEndPastAll }
+    ensures files { FilesStandPastAll }
+    ensures written { WrittenArePastAll }
 {}
 
 /// A command changes at most the original of the one name that it stores, removes, fixes or loosens.

@@ -1,3 +1,4 @@
 pub mod Together
 pub mod Disjoint
 pub mod Shared
+pub mod Laws

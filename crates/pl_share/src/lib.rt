@@ -4,10 +4,12 @@
 mod asked;
 mod given;
 mod keeping;
+mod laws;
 mod sharing;
 mod together;
 mod walks;
 
 pub use keeping::disjoint;
+pub use laws::plans_agree;
 pub use sharing::plan_shared;
 pub use walks::Walks;

@@ -6,7 +6,7 @@ use Rattle.pl_base.specs.Answers.{◌>>=◌, because}
 use Rattle.pl_elf.specs.declared.range.Range.{Range}
 use Rattle.pl_fix.specs.Fixing.{placed}
 use Rattle.pl_fix.specs.declared.placing.Placing.{Placing}
-use Rattle.pl_fix.specs.declared.placing.Placing.TheVariants.{NotPie, NoPlace, Marked, Fixed}
+use Rattle.pl_fix.specs.declared.placing.Placing.TheVariants.{NotPie, NoPlace, Fixed}
 use Rattle.pl_loader.specs.declared.fault.LoadFault.{LoadFault}
 use Rattle.pl_loader.specs.declared.fault.LoadFault.TheVariants as faults
 use Rattle.pl_place.specs.Policy.{Choice, Chooses, MayChoose}
@@ -14,7 +14,6 @@ use Rattle.pl_place.specs.Policy.{Choice, Chooses, MayChoose}
 abbrev pub first_by : List ℕ → List ℕ → Placing → Result (List ℕ) LoadFault
 first_by name bytes NotPie = Ok bytes
 first_by name bytes NoPlace = Err (faults.NoPlace name)
-first_by name bytes Marked = Err (faults.BadMark name)
 first_by name bytes (Fixed at file) = Ok file
 
 -- the bytes of the program's file, by a policy that is a function. What is busy does not count

@@ -28,7 +28,6 @@ fn first_file<F: Fn(&Holes, u64, u64) -> Option<u64>>(
     match fix_placed(alloc, placer, &bytes)? {
         Placing::NotPie => Ok(bytes),
         Placing::NoPlace => Err(LoadFault::NoPlace(Text::copy_of(alloc, name)?)),
-        Placing::Marked => Err(LoadFault::BadMark(Text::copy_of(alloc, name)?)),
         Placing::Fixed {
             address: _,
             bytes: file,
@@ -38,7 +37,7 @@ fn first_file<F: Fn(&Holes, u64, u64) -> Option<u64>>(
 
 /// What is loaded of the bytes of the file of a name of the walk of a program that is loaded: of its own file, where that is a position-independent program, the program that it becomes where the policy places it, whatever is busy; any other file is loaded as it is. A file has fewer than 2^32 bytes.
 ///
-/// `NoPlace` comes where the policy finds no place for the program, and `BadMark` where the program that it becomes would be taken for a prelinked file.
+/// `NoPlace` comes where the policy finds no place for the program.
 pub fn given_file<F: Fn(&Holes, u64, u64) -> Option<u64>>(
     alloc: Global,
     placer: &Placer<F>,

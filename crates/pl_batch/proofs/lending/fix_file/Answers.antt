@@ -1,4 +1,5 @@
 use Rattle.std.proofs.Common.{◌≡◌, rules, subst}
+use Rattle.pl_fix.proofs.HoldLaws.{then_holds}
 use Rattle.pl_folder.specs.Calls.{Calls}
 use Rattle.pl_folder.specs.Seen.{Seen}
 use Rattle.pl_batch.specs.Answers.{ending}
@@ -7,12 +8,12 @@ use Rattle.pl_batch.specs.Replace.{fixing_meant}
 use Rattle.pl_batch.proofs.LentLemmas.{first_of, returned}
 use Rattle.pl_batch.proofs.lending.fix_file.Goals as goal
 
-pub returns-clause-calls : goal.returns-clause-calls
-returns-clause-calls g c = λ choose follows.
-    let call = c.fix_held.ensures.calls choose follows in
+pub returns-clause-fixes : goal.returns-clause-fixes
+returns-clause-fixes g c = then_holds c.fix_held.ensures.fixes (λ choose fixes.
+    let call = fixes.calls in
     let same = first_of _ _ _ _ call.place in
     let end : g.D.Folder.seen c.fix_held.new.held.folder.folder.now ≡ g.D.Folder.seen c.folder-1.given.0 = search rules in
-    subst (λ (s : Seen). Calls (ending c.fix_held.result) (Commands (fixing_meant choose c.args.name.now) (outcome c.fix_held.result)) (g.D.Folder.seen c.args.folder.now) s) end (returned _ _ call)
-
-pub returns-clause-told : goal.returns-clause-told
-returns-clause-told g c = c.fix_held.ensures.told
+    record {
+      calls = subst (λ (s : Seen). Calls (ending c.fix_held.result) (Commands (fixing_meant choose c.args.name.now) (outcome c.fix_held.result)) (g.D.Folder.seen c.args.folder.now) s) end (returned _ _ call);
+      told = fixes.told;
+    })

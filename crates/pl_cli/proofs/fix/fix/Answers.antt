@@ -1,4 +1,5 @@
 use Rattle.std.proofs.Common.{rules}
+use Rattle.pl_fix.proofs.HoldLaws.{by_function}
 use Rattle.pl_cli.specs.Came.{HasFixed}
 use Rattle.pl_cli.specs.Load.{choice}
 use Rattle.pl_cli.specs.Stops.{of_batch_fault}
@@ -10,11 +11,11 @@ pub returns-in_err-fix_file : goal.returns-in_err-fix_file
 returns-in_err-fix_file g c =
     let folder = g.D.Folder.seen in
     let fault = c.in_err-fix_file.field-0.0 in
+    let fixes = by_function c.in_err-fix_file.ensures.fixes (choice c.args.asked) (λ at span align answer call. search rules) in
     at_err (λ r. HasFixed c.args.name.now c.args.asked r (folder c.args.folder.now) (folder c.fix_file.new.folder)) c.from_residual.result (of_batch_fault fault) c.from_residual.ensures.1
-    (fixing_stopped c.args.name.now c.args.asked fault (c.in_err-fix_file.ensures.calls (choice c.args.asked) (λ at span align answer call. search rules)) c.in_err-fix_file.ensures.named)
+    (fixing_stopped c.args.name.now c.args.asked fault fixes.calls c.in_err-fix_file.ensures.named)
 
 pub returns : goal.returns
 returns g c =
-    was_fixed c.args.name.now c.args.asked c.in_ok-fix_file.field-0 c.in_ok-fix_file.ensures.named
-    (c.in_ok-fix_file.ensures.calls (choice c.args.asked) (λ at span align answer call. search rules))
-    (c.in_ok-fix_file.ensures.told (choice c.args.asked) (λ at span align answer call. search rules))
+    let fixes = by_function c.in_ok-fix_file.ensures.fixes (choice c.args.asked) (λ at span align answer call. search rules) in
+    was_fixed c.args.name.now c.args.asked c.in_ok-fix_file.field-0 c.in_ok-fix_file.ensures.named fixes.calls fixes.told

@@ -1,7 +1,8 @@
-use Rattle.std.proofs.Common.{◌≡◌, ◌<◌, ◌^◌, sym, subst, ◌∙◌, ap, List, ℕ, length}
+use Rattle.std.proofs.Common.{◌∙◌, ap, List, ℕ}
 use Rattle.pl_slots.specs.Holes.{IsPlace}
 use Rattle.pl_fix.specs.Fixing.{pie_holes}
-use Rattle.pl_fix.proofs.PlaceLaws.{aligned_at, ends_below, fixed_small}
+use Rattle.pl_fix.specs.declared.placing.Placing.TheVariants.{Fixed}
+use Rattle.pl_fix.proofs.PlaceLaws.{aligned_at, ends_below, place_fits}
 use Rattle.pl_fix.proofs.fixing.fix_at.Goals as goal
 
 pub fix-requires-clause-aligned : goal.fix-requires-clause-aligned
@@ -16,7 +17,9 @@ fix-requires-clause-ends c =
     let fits : IsPlace pie_holes o.span o.align c.in-Some.address = rw c.in-Some.is at c.requires.place in
     ends_below c.in-Some.address o.span fits.1
 
-pub bare-requires : goal.bare-requires
-bare-requires c =
-    subst (λ (xs : List ℕ). length xs < 2 ^ 32) (sym (c.from_vec.ensures ∙ c.in_ok-file-in-Some.ensures))
-    (fixed_small c.args.bytes.now c.args.object.now c.in-Some.address c.requires.object c.requires.few)
+pub returns-in_ok-fix-in-Some : goal.returns-in_ok-fix-in-Some
+returns-in_ok-fix-in-Some c =
+    let o = c.args.object.now in
+    let at = c.in-Some.address in
+    let place : IsPlace pie_holes o.span o.align at = rw c.in-Some.is at c.requires.place in
+    rw (c.in-Some.is, place_fits o at place) (ap (λ (file : List ℕ). Fixed at file) (c.from_vec.ensures ∙ c.in_ok-fix-in-Some.ensures))

@@ -1,9 +1,9 @@
 use Rattle.std.proofs.Common.{◌≡◌, ℕ, List, Option, Some, sym, subst, ap, ◌∙◌}
 use Rattle.pl_elf.specs.declared.range.Range.{Range}
-use Rattle.pl_place.specs.Policy.{Choice, IsAsked, MayAnswer}
+use Rattle.pl_place.specs.Policy.{IsAsked, MayAnswer}
 use Rattle.pl_pie.specs.Pie.{pie}
 use Rattle.pl_pie.proofs.CallLaws.{pie_placed}
-use Rattle.pl_fix.specs.Fixing.{IsSmall, fixed_at, pie_holes, placed}
+use Rattle.pl_fix.specs.Fixing.{Asked, HoldsBy, IsSmall, fixed_at, pie_holes, placed}
 use Rattle.pl_fix.proofs.BareLaws.{small_at}
 use Rattle.pl_fix.proofs.fixing.fix_placed.Goals as goal
 
@@ -23,13 +23,15 @@ fix_at-requires-clause-place g c =
 
 pub returns-in_ok-fix_at-in-Some-clause-placed : goal.returns-in_ok-fix_at-in-Some-clause-placed
 unfolding placed
-returns-in_ok-fix_at-in-Some-clause-placed g c = λ choose follows.
+returns-in_ok-fix_at-in-Some-clause-placed g c =
     let o = c.in-Some.object in
     let pied : pie c.args.bytes.now ≡ Some o = sym c.in_ok-is_pie.ensures ∙ c.in-Some.is in
-    let asked = c.place-place.ensures.answer in
-    let answer : c.place-place.result ≡ choose pie_holes o.span o.align =
-    follows asked.0 o.span o.align c.place-place.result asked.2 ∙ ap (λ (holes : List Range). choose holes o.span o.align) (asked.1 ∙ c.in_ok-holes-in-Some.ensures) in
-    rw pied (c.in_ok-fix_at-in-Some.ensures ∙ ap (fixed_at c.args.bytes.now o) answer)
+    let call = c.place-place.ensures.answer in
+    record {
+      asked = Some (record { span = o.span; align = o.align; answer = c.place-place.result });
+      was = ((call.0, call.1 ∙ c.in_ok-holes-in-Some.ensures, call.2), subst (λ (holes : List Range). MayAnswer holes o.span o.align c.place-place.result) c.in_ok-holes-in-Some.ensures c.place-place.ensures.fits);
+      holds = λ choose so. rw pied (c.in_ok-fix_at-in-Some.ensures ∙ ap (fixed_at c.args.bytes.now o) (sym so));
+    }
 
 pub returns-in_ok-fix_at-in-Some-clause-small : goal.returns-in_ok-fix_at-in-Some-clause-small
 returns-in_ok-fix_at-in-Some-clause-small g c =

@@ -6,4 +6,4 @@ pub commit-requires : goal.commit-requires
 commit-requires g c = staged_there (g.D.Folder.seen c.args.held.now.folder) c.args.steps.now c.requires
 
 pub returns-clause-can : goal.returns-clause-can
-returns-clause-can g c = ok_commit_can c.commit.result c.args.steps.now c.requires c.commit.ensures
+returns-clause-can g c = ok_commit_can c.commit.result c.args.steps.now c.requires c.commit.ensures.calls

@@ -3,6 +3,7 @@ use Rattle.pl_journal.specs.Leaves.{fault_of}
 use Rattle.pl_journal.specs.Parts.{RecoversSettled}
 use Rattle.pl_journal.proofs.Endings.{passed_by}
 use Rattle.pl_journal.proofs.RecoverParts.{names_after, names_stop, names_then, ok_any, quiet_names}
+use Rattle.pl_journal.proofs.RealLemmas.{firmly_idle, firmly_then}
 use Rattle.pl_journal.proofs.recovering.recover_settled.Goals as goal
 
 pub returns-in_err-names-clause-calls : goal.returns-in_err-names-clause-calls
@@ -18,3 +19,9 @@ returns-clause-calls g c = names_then (fault_of c.recover_listed.result) c.in_ok
 
 pub returns-clause-quiet : goal.returns-clause-quiet
 returns-clause-quiet g c = ok_any _ c.recover_listed.result (quiet_names (g.met.D.Folder.is_folder c.args.held.now.folder) c.in_ok-names.ensures.calls c.recover_listed.ensures.quiet)
+
+pub returns-in_err-names-clause-real : goal.returns-in_err-names-clause-real
+returns-in_err-names-clause-real g c = firmly_idle c.in_err-names.ensures.calls
+
+pub returns-clause-real : goal.returns-clause-real
+returns-clause-real g c = firmly_then (firmly_idle c.in_ok-names.ensures.calls) c.recover_listed.ensures.real

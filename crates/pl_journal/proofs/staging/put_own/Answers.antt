@@ -1,6 +1,7 @@
 use Rattle.pl_journal.specs.declared.fault.JournalFault.TheVariants.{Failed}
 use Rattle.pl_journal.proofs.Endings.{failed_not_bad, not_bad_of, not_bad_with, passed_folder, passed_with, plain_stops}
 use Rattle.pl_journal.proofs.StageLemmas.{create_stops, created_there, firmed_on, wrote, wrote_stops, wrote_there}
+use Rattle.pl_journal.proofs.RealLemmas.{also_alike, appended_alike, created_alike, firmed_alike, firmly_put, stops_alike}
 use Rattle.pl_journal.proofs.staging.put_own.Goals as goal
 
 pub returns-in_err-create-clause-calls : goal.returns-in_err-create-clause-calls
@@ -41,3 +42,15 @@ returns-in_err-append-clause-plain g c = not_bad_of c.from_residual-in_err-appen
 
 pub returns-in_err-firm-clause-plain : goal.returns-in_err-firm-clause-plain
 returns-in_err-firm-clause-plain g c = not_bad_with c.from_residual-in_err-firm.result Failed c.from_residual-in_err-firm.ensures.1 failed_not_bad
+
+pub returns-in_err-create-clause-real : goal.returns-in_err-create-clause-real
+returns-in_err-create-clause-real g c = stops_alike _ c.from_residual.result c.from_residual.ensures.1 (created_alike c.args.name.now c.in_err-create.ensures.calls)
+
+pub returns-in_err-append-clause-real : goal.returns-in_err-append-clause-real
+returns-in_err-append-clause-real g c = stops_alike _ c.from_residual-in_err-append.result c.from_residual-in_err-append.ensures.1 (also_alike (created_alike c.args.name.now c.in_ok-create.ensures.calls) (appended_alike c.args.name.now c.args.bytes.now c.in_err-append.ensures.calls))
+
+pub returns-in_err-firm-clause-real : goal.returns-in_err-firm-clause-real
+returns-in_err-firm-clause-real g c = stops_alike _ c.from_residual-in_err-firm.result c.from_residual-in_err-firm.ensures.1 (also_alike (also_alike (created_alike c.args.name.now c.in_ok-create.ensures.calls) (appended_alike c.args.name.now c.args.bytes.now c.in_ok-append.ensures.calls)) (firmed_alike c.args.name.now c.in_err-firm.ensures))
+
+pub returns-clause-real : goal.returns-clause-real
+returns-clause-real g c = firmly_put c.args.name.now c.args.bytes.now c.in_ok-create.ensures.calls c.in_ok-append.ensures.calls c.in_ok-firm.ensures

@@ -3,6 +3,7 @@ use Rattle.pl_journal.specs.declared.fault.JournalFault.TheVariants.{NoMemory}
 use Rattle.pl_journal.proofs.Endings.{fault_stops, memory_not_bad, not_bad_with, passed_with}
 use Rattle.pl_journal.proofs.InPlace.{staged_can}
 use Rattle.pl_journal.proofs.StageLemmas.{files_stop, journal_on, staged_nothing}
+use Rattle.pl_journal.proofs.RealLemmas.{firmly_none, firmly_then, stops_firmly}
 use Rattle.pl_journal.proofs.staging.stage_changes.Goals as goal
 
 pub returns-in_err-bytes-clause-calls : goal.returns-in_err-bytes-clause-calls
@@ -42,3 +43,18 @@ returns-in_err-stage_files-clause-plain g c =
 
 pub returns-in_err-put_own-clause-plain : goal.returns-in_err-put_own-clause-plain
 returns-in_err-put_own-clause-plain g c = not_bad_with c.from_residual-in_err-put_own.result c.in_err-put_own.field-0.0 c.from_residual-in_err-put_own.ensures.1 c.in_err-put_own.ensures.plain
+
+pub returns-in_err-bytes-clause-real : goal.returns-in_err-bytes-clause-real
+returns-in_err-bytes-clause-real g c = stops_firmly _ c.from_residual.result c.from_residual.ensures.1 (firmly_none (g.D.Folder.seen c.args.held.now.folder))
+
+pub returns-in_err-steps-clause-real : goal.returns-in_err-steps-clause-real
+returns-in_err-steps-clause-real g c = stops_firmly _ c.from_residual-in_err-steps.result c.from_residual-in_err-steps.ensures.1 (firmly_none (g.D.Folder.seen c.args.held.now.folder))
+
+pub returns-in_err-stage_files-clause-real : goal.returns-in_err-stage_files-clause-real
+returns-in_err-stage_files-clause-real g c = stops_firmly _ c.from_residual-in_err-stage_files.result c.from_residual-in_err-stage_files.ensures.1 c.in_err-stage_files.ensures.real
+
+pub returns-in_err-put_own-clause-real : goal.returns-in_err-put_own-clause-real
+returns-in_err-put_own-clause-real g c = stops_firmly _ c.from_residual-in_err-put_own.result c.from_residual-in_err-put_own.ensures.1 (firmly_then c.in_ok-stage_files.ensures.real c.in_err-put_own.ensures.real)
+
+pub returns-clause-real : goal.returns-clause-real
+returns-clause-real g c = firmly_then c.in_ok-stage_files.ensures.real c.in_ok-put_own.ensures.real

@@ -1,4 +1,5 @@
-use Rattle.pl_pie.proofs.UnfixLaws.{unfix_exact, unfix_undoes}
+use Rattle.pl_pie.proofs.ExactLaws.{unfix_exact}
+use Rattle.pl_pie.proofs.UnfixLaws.{unfix_undoes}
 use Rattle.pl_pie.proofs.law.unfix_is_exact.Goals as goal
 
 pub returns-clause-exact : goal.returns-clause-exact

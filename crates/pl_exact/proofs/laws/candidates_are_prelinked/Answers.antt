@@ -1,0 +1,8 @@
+use Rattle.pl_exact.proofs.CandidateLemmas.{candidates_marked, candidates_prelinked}
+use Rattle.pl_exact.proofs.laws.candidates_are_prelinked.Goals as goal
+
+pub returns-clause-prelinked : goal.returns-clause-prelinked
+returns-clause-prelinked c = candidates_prelinked
+
+pub returns-clause-marked : goal.returns-clause-marked
+returns-clause-marked c = candidates_marked
