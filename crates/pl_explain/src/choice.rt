@@ -1,7 +1,7 @@
 // The options of the command line.
 
 /// An option of the command line. The first fills the room that a list of them has.
-#[derive(Clone, Copy, Debug, Default, PartialEq, Eq)]
+#[derive(Clone, Copy, Default, PartialEq, Eq)]
 pub enum Choice {
     #[default]
     Load,

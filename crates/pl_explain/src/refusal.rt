@@ -7,7 +7,7 @@ use std::io::{self, Write};
 const REFUSED: &str = "The command was refused.";
 
 /// What the line of a refusal tells: its cause, and the words behind it.
-#[derive(Clone, Copy, Debug, PartialEq, Eq)]
+#[derive(Clone, Copy)]
 struct Refusal<'a> {
     cause: &'a str,
     first: Option<&'a str>,

@@ -47,7 +47,7 @@ fn each_cause_has_its_sentence(rt: HostRuntime) {
 // ---- what is said
 
 /// An end of which nothing more is known.
-fn bare(status: Status) -> Ended<'static> {
+fn bare<'a>(status: Status) -> Ended<'a> {
     Ended {
         status,
         words: &[],
@@ -102,10 +102,8 @@ fn refusals_are_told(rt: HostRuntime) -> Result<(), Fail> {
     for _ in 0..7 {
         let (block, after) = rest.split_once("\n\n").ok_or("a block")?;
         let (line, wanted) = block.split_once('\n').ok_or("a line")?;
-        let refused = Ended {
-            line: line.as_bytes(),
-            ..bare(Status::Refused)
-        };
+        let mut refused = bare(Status::Refused);
+        refused.line = line.as_bytes();
         let mut text = Vec::new(rt.alloc());
         explain(&mut text, &refused)?;
         assert_eq!(rt; str::from_utf8(&text)?.trim_end(), wanted);
@@ -150,10 +148,8 @@ fn the_wrong_word_is_told(rt: HostRuntime) -> Result<(), Fail> {
     for row in WORDS.split('\n') {
         let (line, wanted) = row.split_once('|').ok_or("a bar")?;
         let words = texts(alloc, line)?;
-        let ended = Ended {
-            words: &words,
-            ..bare(Status::Usage)
-        };
+        let mut ended = bare(Status::Usage);
+        ended.words = &words;
         let mut text = Vec::new(alloc);
         explain(&mut text, &ended)?;
         let (first, rest) = str::from_utf8(&text)?.split_once('\n').ok_or("one line")?;
@@ -174,10 +170,8 @@ fn faults(
 ) -> Result<(), Fail> {
     let name = ArrayString::from(name).unwrap_or(ArrayString::new());
     let fault = FirstFault { call, name, reason };
-    let ended = Ended {
-        folder: Some(&fault),
-        ..bare(Status::DiskFault)
-    };
+    let mut ended = bare(Status::DiskFault);
+    ended.folder = Some(&fault);
     says(rt, alloc, &ended, wanted)
 }
 
@@ -237,10 +231,8 @@ fn the_error_of_the_input_is_kept(rt: HostRuntime) -> Result<(), Fail> {
     let mut reader = KeptReader::new(Broken);
     let mut source = StdSource::new(&mut reader);
     assert!(rt; source.read(&mut [0]).is_err());
-    let ended = Ended {
-        input: reader.error(),
-        ..bare(Status::ReadFault)
-    };
+    let mut ended = bare(Status::ReadFault);
+    ended.input = reader.error();
     let wanted = "prelink: The input could not be read: nothing comes\n";
     says(&rt, rt.alloc(), &ended, wanted)
 }
@@ -251,10 +243,8 @@ fn the_error_of_the_output_is_kept(rt: HostRuntime) -> Result<(), Fail> {
     let mut sink = LastLine::new(StdSink::new(&mut writer));
     assert!(rt; sink.write(b"a").is_err());
     assert!(rt; sink.line().is_empty());
-    let ended = Ended {
-        output: writer.error(),
-        ..bare(Status::WriteFault)
-    };
+    let mut ended = bare(Status::WriteFault);
+    ended.output = writer.error();
     let wanted = "prelink: The output could not be written: nothing goes\n";
     says(&rt, rt.alloc(), &ended, wanted)
 }

@@ -3,7 +3,7 @@ use crate::choice::Choice;
 use std::io::{self, Write};
 
 /// What is wrong about words that are no command.
-#[derive(Clone, Copy, Debug, PartialEq, Eq)]
+#[derive(Clone, Copy)]
 pub enum Wrong<'a> {
     /// There are no words.
     Nothing,
@@ -54,39 +54,48 @@ fn form(choice: Choice) -> &'static str {
     }
 }
 
+/// Writes a sentence about an option, which it begins with.
+fn tell_choice<W: Write>(to: &mut W, choice: Choice, text: &str) -> io::Result<()> {
+    writeln!(to, "prelink: {} {text}", choice.word())
+}
+
+/// Writes a sentence about a word, which it begins with.
+fn tell_word<W: Write>(to: &mut W, word: &str, text: &str) -> io::Result<()> {
+    writeln!(to, "prelink: {word:?} {text}")
+}
+
+/// Writes that an option has no value, and which it is to have.
+fn tell_unvalued<W: Write>(to: &mut W, choice: Choice) -> io::Result<()> {
+    let (word, form) = (choice.word(), form(choice));
+    writeln!(to, "prelink: {word} wants a value, {form}.")
+}
+
+/// Writes that a value is not of the form that its option has.
+fn tell_value<W: Write>(to: &mut W, choice: Choice, value: &str) -> io::Result<()> {
+    let (word, form) = (choice.word(), form(choice));
+    writeln!(
+        to,
+        "prelink: {value:?} is no value of {word}, which is {form}."
+    )
+}
+
 /// Writes what is wrong, in one line.
 pub fn tell_wrong<W: Write>(to: &mut W, wrong: Wrong<'_>) -> io::Result<()> {
     match wrong {
-        Wrong::Nothing => writeln!(to, "prelink: No command is given."),
-        Wrong::NoOption(word) => writeln!(to, "prelink: {word:?} is no option."),
-        Wrong::Twice(choice) => writeln!(to, "prelink: {} stands twice.", choice.word()),
-        Wrong::Valued(choice) => writeln!(to, "prelink: {} has no value.", choice.word()),
-        Wrong::Unvalued(choice) => writeln!(
-            to,
-            "prelink: {} wants a value, {}.",
-            choice.word(),
-            form(choice)
-        ),
-        Wrong::Value(choice, value) => writeln!(
-            to,
-            "prelink: {value:?} is no value of {}, which is {}.",
-            choice.word(),
-            form(choice)
-        ),
-        Wrong::NoCommand(name) => writeln!(to, "prelink: {name:?} is no command."),
-        Wrong::Alone(choice) => writeln!(
-            to,
-            "prelink: {} goes with a command, and none is given.",
-            choice.word()
-        ),
-        Wrong::Beside(choice, mode) => writeln!(
-            to,
-            "prelink: {} does not go with {}.",
-            choice.word(),
-            mode.word()
-        ),
-        Wrong::Name(name) => writeln!(to, "prelink: {name:?} is a name too many."),
-        Wrong::NoNames => writeln!(to, "prelink: -u wants -a or the names of files."),
-        Wrong::Other => writeln!(to, "prelink: The words are no command."),
+        Wrong::Nothing => to.write_all(b"prelink: No command is given.\n"),
+        Wrong::NoOption(word) => tell_word(to, word, "is no option."),
+        Wrong::Twice(choice) => tell_choice(to, choice, "stands twice."),
+        Wrong::Valued(choice) => tell_choice(to, choice, "has no value."),
+        Wrong::Unvalued(choice) => tell_unvalued(to, choice),
+        Wrong::Value(choice, value) => tell_value(to, choice, value),
+        Wrong::NoCommand(name) => tell_word(to, name, "is no command."),
+        Wrong::Alone(choice) => tell_choice(to, choice, "goes with a command, and none is given."),
+        Wrong::Beside(choice, mode) => {
+            let (word, mode) = (choice.word(), mode.word());
+            writeln!(to, "prelink: {word} does not go with {mode}.")
+        }
+        Wrong::Name(name) => tell_word(to, name, "is a name too many."),
+        Wrong::NoNames => to.write_all(b"prelink: -u wants -a or the names of files.\n"),
+        Wrong::Other => to.write_all(b"prelink: The words are no command.\n"),
     }
 }
