@@ -2,19 +2,20 @@
 use crate::Reason;
 use crate::bits::{PRIVATE, bits_of, set_bits, take_over};
 use crate::entry::Entry;
-use std::fs::{self, Files, OpenFile};
-use std::os::unix::fs::OpenOptionsExt;
+use std::fs::{self, Files, OpenFile, Permissions};
+use std::os::unix::fs::{OpenOptionsExt, PermissionsExt};
 
 // The own name of an empty file that is made and removed, to see which permission bits a new file gets. It is one of those that a recovery clears away.
 const PROBE: &str = ".prelink.new.mode";
 
-/// Gives the name a new, empty file, its owner's alone, in place of what has the name.
+/// Gives the name a new, empty file, its owner's alone, in place of what has the name. Its mode is never wider, and whatever the umask is its owner may write it.
 pub(crate) fn create_file(rt: &impl Files, folder: &str, name: &str) -> Result<(), Reason> {
     let entry = Entry::new(folder, name)?;
     entry.clear(rt)?;
     let mut to_create = fs::File::options();
     to_create.write(true).create_new(true).mode(PRIVATE);
-    to_create.open(rt, entry.path())?;
+    let file = to_create.open(rt, entry.path())?;
+    file.set_permissions(Permissions::from_mode(PRIVATE))?;
     Ok(())
 }
 

@@ -143,17 +143,12 @@ impl Entry {
         Ok(())
     }
 
-    /// Removes what has the name, where that is no regular file. A directory that is not empty stays: it is in nobody's way, or else the call whose way it is in says so.
+    /// Removes what has the name, where that is no regular file. A directory that is not empty is an error.
     pub(crate) fn clear_other(&self, rt: &impl Files) -> Result<(), Reason> {
-        let Some(there) = self.look(rt)? else {
-            return Ok(());
-        };
-        if there.is_dir() {
-            let _ = fs::remove_dir(rt, self.path());
-        } else if !there.is_file() {
-            fs::remove_file(rt, self.path())?;
+        match self.look(rt)? {
+            Some(there) if !there.is_file() => self.clear(rt),
+            _ => Ok(()),
         }
-        Ok(())
     }
 
     /// The regular file that a rename to the name takes the place of, if there is one. A symbolic link, and whatever has an own name, give way to the rename, a directory only where it is empty. What is in the way of a file is an error.
