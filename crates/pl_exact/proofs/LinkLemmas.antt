@@ -8,7 +8,6 @@ use Rattle.pl_tls.specs.declared.module.Module.{Module}
 use Rattle.pl_lists.specs.declared.conflict_row.ConflictRow.{ConflictRow}
 use Rattle.pl_object.specs.declared.object.Object.{Object}
 use Rattle.pl_form.specs.Program.{program_with}
-use Rattle.pl_form.specs.Words.{flat_of}
 use Rattle.pl_value.specs.Meanings.{meanings}
 use Rattle.pl_value.specs.Ordinary.{loaded}
 use Rattle.pl_value.specs.declared.meaning.Meaning.{Meaning}

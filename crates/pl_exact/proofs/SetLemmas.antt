@@ -16,7 +16,7 @@ use Rattle.pl_base.proofs.NameLaws.{valid_length}
 use Rattle.pl_base.proofs.WordLaws.{length_bytes32}
 use Rattle.pl_conflict.specs.Format.{Causes, format}
 use Rattle.pl_conflict.specs.Prelinked as prelinked
-use Rattle.pl_conflict.specs.Prelinked.{Firm, are_set, file_of, firm_of, has_numbers, library_file, list_of, list_row, load_window, stored, version_of, windows_of, with_object}
+use Rattle.pl_conflict.specs.Prelinked.{Firm, are_set, firm_of, has_numbers, library_file, list_of, list_row, load_window, version_of, windows_of, with_object}
 use Rattle.pl_conflict.proofs.FormatLaws.{read_is}
 use Rattle.pl_conflict.proofs.MadeLaws.{library_file_is, library_flat, library_wanted}
 use Rattle.pl_conflict.proofs.MemberLaws.{HasOwn, IsSet, library_numbers, member_firm}

@@ -1,5 +1,5 @@
 -- A name that may be prelinked is prelinked: a run that prelinks everything has a file for each candidate, unless it is a program whose file would be longer than a folder stores.
-use Rattle.std.specs.Prelude.{◌≡◌, ◌<◌, ℕ, true, List, map, length, Option, Some, None, Ok}
+use Rattle.std.specs.Prelude.{◌≡◌, ◌<◌, ℕ, true, List, map, length, Some, None, Ok}
 use Rattle.std.specs.FinMap.{get}
 use Rattle.pl_base.specs.Bytes.{IsBytes}
 use Rattle.pl_base.specs.Files.{Files}

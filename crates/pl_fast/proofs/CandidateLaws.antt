@@ -1,5 +1,5 @@
 -- A run that prelinks everything prelinks each program that is a candidate, whose original is short and whose scope has few relocations.
-use Rattle.std.proofs.Common.{◌≡◌, ℕ, ◌^◌, ◌≤◌, true, false, List, ◌∷◌, map, length, Some, Ok, sym, ap, subst, ◌∙◌, arith}
+use Rattle.std.proofs.Common.{◌≡◌, ℕ, ◌^◌, ◌≤◌, true, false, List, map, length, Some, Ok, sym, ap, subst, ◌∙◌, arith}
 use Rattle.std.specs.FinMap.{get, keys}
 use Rattle.std.proofs.lemmas.Option.{same_Some}
 use Rattle.pl_base.specs.Bytes.{IsBytes}

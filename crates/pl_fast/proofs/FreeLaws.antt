@@ -20,7 +20,7 @@ use Rattle.pl_exact.proofs.AllLemmas.{gives_next}
 use Rattle.pl_exact.proofs.PlanLemmas.{are_names}
 use Rattle.pl_exact.proofs.WantLemmas.{candidate_slot, slot_start}
 use Rattle.pl_journal.specs.Meaning.{applied}
-use Rattle.pl_known.specs.Plans.{candidates, is_candidate, planned, slots, walks}
+use Rattle.pl_known.specs.Plans.{is_candidate, planned}
 use Rattle.pl_known.specs.Skips.{skip_causes}
 use Rattle.pl_loader.specs.Places.{kept_free, misses}
 use Rattle.pl_object.specs.declared.object.Object.{Object}
@@ -32,7 +32,7 @@ use Rattle.pl_rewrite.proofs.SoundLaws.{next_is_from_scratch}
 use Rattle.pl_scope.specs.Members.{has, names}
 use Rattle.pl_scope.specs.Walk.{Walked}
 use Rattle.pl_scope.proofs.NameLaws.{has_head, has_tail}
-use Rattle.pl_slots.specs.Plan.{lies_in, plan}
+use Rattle.pl_slots.specs.Plan.{lies_in}
 use Rattle.pl_slots.specs.declared.slot.Slot.{Slot}
 use Rattle.pl_sound.specs.Plan as sound
 use Rattle.pl_sound.specs.Rule.{Files, objects}

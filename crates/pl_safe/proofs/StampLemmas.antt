@@ -4,11 +4,10 @@ use Rattle.std.specs.Prelude.{◌⊎◌}
 use Rattle.std.specs.FinMap.{get}
 use Rattle.std.proofs.lemmas.Bool.{false≢true, true≢false}
 use Rattle.pl_base.specs.Files.{Files}
-use Rattle.pl_folder.specs.Disk.{Disk, View, clock, read}
+use Rattle.pl_folder.specs.Disk.{View, read}
 use Rattle.pl_folder.specs.Seen.{Ending}
-use Rattle.pl_folder.specs.Since.{Keeps, Since, Within}
+use Rattle.pl_folder.specs.Since.{Within}
 use Rattle.pl_folder.proofs.ImageLaws.{read_image}
-use Rattle.pl_journal.specs.Leaves.{Looks}
 use Rattle.pl_journal.specs.Meaning.{Same, applied}
 use Rattle.pl_journal.specs.Rows.{recovered}
 use Rattle.pl_journal.specs.declared.change.Change.{Change}
@@ -27,10 +26,10 @@ use Rattle.pl_crash.specs.Safe.{IsSafeImage, after, changed}
 use Rattle.pl_crash.specs.Sound.{IsSound, KeepsTheRule}
 use Rattle.pl_crash.specs.Steps.{IsPastAll, MakesStep}
 use Rattle.pl_crash.proofs.CommandLemmas.{is_before, looked}
-use Rattle.pl_crash.proofs.SoundLemmas.{before_keeps, before_path}
+use Rattle.pl_crash.proofs.SoundLemmas.{before_keeps}
 use Rattle.pl_crash.proofs.StepLemmas.{steps_past}
 use Rattle.pl_safe.specs.Laws.{EveryImageStandsPastAll, FilesStandPastAll, RunsLeavePastAll, WritersEndPastAll, WrittenArePastAll}
-use Rattle.pl_safe.specs.Runs.{LeavesPastAll, StandsPastAll, is_whole, meaning, nothing, writes}
+use Rattle.pl_safe.specs.Runs.{StandsPastAll, is_whole, meaning, writes}
 use Rattle.pl_safe.proofs.RunLemmas.{IsReader, IsWriter, kind, runs_leave, runs_read, writers_end}
 
 past_along : (v w : View) → Same v w → IsPastAll w → IsPastAll v
