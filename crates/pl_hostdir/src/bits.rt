@@ -2,7 +2,8 @@
 ghost use Rattle.std.specs.Prelude.{◌≡◌};
 ghost use Rattle.pl_hostdir.specs.Bits as spec;
 
-use std::fs::{Files, Metadata, OpenFile, Permissions};
+use crate::HostFile;
+use std::fs::{Metadata, OpenFile, Permissions};
 use std::io;
 use std::os::unix::fs::{MetadataExt, PermissionsExt};
 
@@ -64,21 +65,16 @@ pub(crate) fn set_bits<F: OpenFile>(file: &F, bits: u32) -> io::Result<()> {
     file.sync_all()
 }
 
-/// Gives the open file of a path the owner and the group of another one, where the system lets it, then that one's permission bits, and syncs it.
+/// Gives an open file the owner and the group of another one, where the system lets it, then that one's permission bits, and syncs it.
 ///
 /// Where the owner or the group is not that one's, the file gets neither of the bits of set-user-id and set-group-id, and where the group is not, its group may do no more than the others. Which owner and group it has is looked at after the tries: their errors tell nothing more.
-pub(crate) fn take_over<R: Files>(
-    rt: &R,
-    path: &str,
-    file: &R::File,
-    old: &Metadata,
-) -> io::Result<()> {
+pub(crate) fn take_over<F: OpenFile + HostFile>(file: &F, old: &Metadata) -> io::Result<()> {
     let made = file.metadata()?;
     if made.gid() != old.gid() {
-        let _ = rt.lchown(path, None, Some(old.gid()));
+        let _ = file.give(None, Some(old.gid()));
     }
     if made.uid() != old.uid() {
-        let _ = rt.lchown(path, Some(old.uid()), None);
+        let _ = file.give(Some(old.uid()), None);
     }
     let now = file.metadata()?;
     let kept = Kept {

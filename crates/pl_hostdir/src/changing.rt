@@ -1,7 +1,7 @@
 //! The calls that change files of the folder.
-use crate::Reason;
 use crate::bits::{PRIVATE, bits_of, set_bits, take_over};
 use crate::entry::Entry;
+use crate::{HostFile, Reason};
 use std::fs::{self, Files, OpenFile, Permissions};
 use std::os::unix::fs::{OpenOptionsExt, PermissionsExt};
 
@@ -54,17 +54,20 @@ fn bits_of_new(rt: &impl Files, folder: &str, name: &str) -> Result<u32, Reason>
 }
 
 /// Gives a file another name. In place of a file it takes over that one's owner, group and permission bits, so that a program can still be started, and else gets the bits of a new file. It is synced with them before it gets the name.
-pub(crate) fn rename_file(
-    rt: &impl Files,
+pub(crate) fn rename_file<R: Files>(
+    rt: &R,
     folder: &str,
     from: &str,
     to: &str,
-) -> Result<(), Reason> {
+) -> Result<(), Reason>
+where
+    R::File: HostFile,
+{
     let from = Entry::new(folder, from)?;
     let to = Entry::new(folder, to)?;
     let file = open_to_read(rt, &from)?;
     match to.replaced(rt)? {
-        Some(old) => take_over(rt, from.path(), &file, &old)?,
+        Some(old) => take_over(&file, &old)?,
         None => set_bits(&file, bits_of_new(rt, folder, PROBE)?)?,
     }
     fs::rename(rt, from.path(), to.path())?;

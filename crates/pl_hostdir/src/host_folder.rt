@@ -15,10 +15,10 @@ ghost use Rattle.std.proofs.lemmas.Bool.{false≢true};
 
 use crate::changing::{create_file, open_to_append, remove_name, rename_file, sync_file};
 use crate::listing::{clear_others, list_names};
-use crate::lock::{Lock, lock_folder};
+use crate::lock::lock_folder;
 use crate::take_fault::TakeFault;
 use crate::taking::take_file;
-use crate::{Call, FirstFault, Progress, Reason};
+use crate::{Call, FirstFault, HostFile, Progress, Reason};
 use pl_folder::{Folder, FolderFault};
 use pl_io::{Failed, NoMemory};
 use std::alloc::Global;
@@ -41,7 +41,7 @@ pub struct HostFolder<'p, R: Files> {
 
 impl<'p, R: Files + AllocGlobal + Clone + Drop> HostFolder<'p, R>
 where
-    R::File: Lock,
+    R::File: HostFile,
 {
     ghost use Rattle.pl_hostdir.specs.Paths.{folder_path};
 
@@ -132,7 +132,7 @@ fn answer<T>(call: Call, name: &str, given: Result<T, Reason>) -> Result<T, Firs
 
 impl<'p, R: Files + AllocGlobal + Clone + Drop> HostFolder<'p, R>
 where
-    R::File: Lock,
+    R::File: HostFile,
 {
     // Locks the folder, where that is not done.
     fn hold(&mut self) -> Result<(), FirstFault>
@@ -229,7 +229,7 @@ where
 
 impl<'p, R: Files + AllocGlobal + Clone + Drop> Folder for HostFolder<'p, R>
 where
-    R::File: Lock,
+    R::File: HostFile,
 {
     ghost seen = { λ folder. unseen folder.faults };
 
