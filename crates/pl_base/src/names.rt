@@ -58,7 +58,8 @@ pub fn is_valid_name(name: &[u8]) -> bool
 /// The bytes of a valid name as text. None where they are no valid name.
 #[tactic(auto, using(crate::proofs::NameLaws::not_text))]
 pub fn valid_text(name: &[u8]) -> Option<&str>
-    ensures { option_map (λ x. x.now) result ≡ (if spec.is_valid_name name.now then Some name.now else None) }
+    ensures { option_map (λ x. x.now) result ≡ (if spec.is_valid_name name.now then Some name.now
+        else None) }
 {
     match str::from_utf8(name) {
         Err(_) => None,

@@ -196,7 +196,8 @@ pub fn preview_all<D: Folder>(
     folder: &mut D,
     asked: &Prelinking,
 ) -> Result<Report, BatchFault>
-    ensures { Finds (spec.all_reported (D.seen folder.old).files asked.now) (λ report. report) result
+    ensures { Finds (spec.all_reported (D.seen folder.old).files asked.now)
+        (λ report. report) result
         (D.seen folder.old) (D.seen folder.new) }
 {
     let made = all_made(alloc, folder, asked)?;

@@ -84,7 +84,8 @@ fn add_cache(
     cache: Option<Vec<u8>>,
 ) -> Result<(), AllocError>
     ensures { OnOk result (map file_entry files.new.items ≡
-        map file_entry files.old.items ++ spec.cache_entry (option_map (λ bytes. bytes.items) cache)) }
+        map file_entry files.old.items ++ spec.cache_entry
+        (option_map (λ bytes. bytes.items) cache)) }
 {
     if let Some(bytes) = cache {
         files.push((String::from_str(alloc, CACHE)?, bytes))?;
@@ -122,7 +123,8 @@ pub fn copy_files<D: Folder>(
     alloc: Global,
     folder: &mut D,
 ) -> Result<Vec<(String, Vec<u8>)>, BatchFault>
-    ensures found { Finds (spec.copied (D.seen folder.old).files) (λ files. files_of files.items) result
+    ensures found { Finds (spec.copied (D.seen folder.old).files)
+        (λ files. files_of files.items) result
         (D.seen folder.old) (D.seen folder.new) }
     ensures files { IfOk result (λ files. spec.IsCopy files.items) }
 {

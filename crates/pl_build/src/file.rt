@@ -89,7 +89,8 @@ fn last_header_fields(phnum: usize, shnum: usize, shstrndx: usize) -> [Field; 7]
 
 #[tactic(auto, unfolding(crate::specs::File::header_bytes))]
 fn push_header(out: &mut Vec<u8>, plan: &Plan, phnum: usize, shoff: u64) -> Result<(), AllocError>
-    ensures { OnOk result (out.new.items ≡ out.old.items ++ spec.header_bytes plan.now phnum shoff) }
+    ensures { OnOk result (out.new.items ≡ out.old.items
+        ++ spec.header_bytes plan.now phnum shoff) }
 {
     let roles = plan.roles.as_slice();
     let shstrndx = index_of(roles, b".shstrtab");
@@ -176,7 +177,8 @@ fn file_of(
 ) -> Result<Vec<u8>, AllocError>
     requires tables { tables_end < 2 ^ 32 }
     requires size { plan.now.settings.data_size < 2 ^ 32 }
-    ensures { IfOk result (λ v. v.items ≡ spec.file_of plan.now tables.now tables_end names.now shoff) }
+    ensures { IfOk result (λ v. v.items ≡ spec.file_of plan.now tables.now tables_end names.now
+        shoff) }
 {
     let size = plan.settings.data_size;
     let names_size = names.bytes.len() as u64;

@@ -57,7 +57,8 @@ fn next_after(buckets: &[u64], index: usize) -> u64
 }
 
 fn sysv_heads(alloc: Global, count: u64, buckets: &[u64]) -> Result<Vec<Field>, AllocError>
-    ensures { IfOk result (λ v. v.items ≡ map (λ b. Field.Word (spec.first_from buckets.now 0 b)) (range_with_len 0 count)) }
+    ensures { IfOk result (λ v. v.items ≡ map (λ b. Field.Word (spec.first_from buckets.now 0 b))
+        (range_with_len 0 count)) }
 {
     (0..count)
         .map(|bucket| Field::Word(first_from(buckets, 0, bucket)))
@@ -65,7 +66,8 @@ fn sysv_heads(alloc: Global, count: u64, buckets: &[u64]) -> Result<Vec<Field>, 
 }
 
 fn sysv_chains(alloc: Global, buckets: &[u64]) -> Result<Vec<Field>, AllocError>
-    ensures { IfOk result (λ v. v.items ≡ map (λ k. Field.Word (spec.next_after buckets.now k)) (range_with_len 0 (length buckets.now))) }
+    ensures { IfOk result (λ v. v.items ≡ map (λ k. Field.Word (spec.next_after buckets.now k))
+        (range_with_len 0 (length buckets.now))) }
 {
     (0..buckets.len())
         .map(|index| Field::Word(next_after(buckets, index)))
@@ -198,7 +200,8 @@ fn gnu_heads(
     first: usize,
     buckets: &[u64],
 ) -> Result<Vec<Field>, AllocError>
-    ensures { IfOk result (λ v. v.items ≡ map (λ b. Field.Word (spec.gnu_first first buckets.now b)) (range_with_len 0 count)) }
+    ensures { IfOk result (λ v. v.items ≡ map (λ b. Field.Word (spec.gnu_first first buckets.now b))
+        (range_with_len 0 count)) }
 {
     (0..count)
         .map(|bucket| Field::Word(gnu_first(first, buckets, bucket)))
@@ -207,7 +210,8 @@ fn gnu_heads(
 
 fn gnu_chains(alloc: Global, hashes: &[u32], buckets: &[u64]) -> Result<Vec<Field>, AllocError>
     requires { length buckets.now ≡ length hashes.now }
-    ensures { IfOk result (λ v. v.items ≡ map (λ k. Field.Word (spec.gnu_chain hashes.now buckets.now k)) (range_with_len 0 (length hashes.now))) }
+    ensures { IfOk result (λ v. v.items ≡ map (λ k. Field.Word
+        (spec.gnu_chain hashes.now buckets.now k)) (range_with_len 0 (length hashes.now))) }
 {
     (0..hashes.len())
         .map(|index| Field::Word(gnu_chain(hashes, buckets, index)))

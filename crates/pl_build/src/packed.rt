@@ -58,7 +58,8 @@ fn data_word(settings: &Settings, word: PackedWord) -> DataWord
 }
 
 fn packed_words(alloc: Global, recipe: &Recipe) -> Result<Vec<DataWord>, AllocError>
-    ensures { IfOk result (λ v. v.items ≡ map (plan.data_word recipe.now.settings) recipe.now.packed) }
+    ensures { IfOk result (λ v. v.items ≡ map (plan.data_word recipe.now.settings)
+        recipe.now.packed) }
 {
     let packed = recipe.packed.as_slice();
     packed

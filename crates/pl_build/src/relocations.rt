@@ -88,7 +88,8 @@ fn rela_of(plan: &Plan, relocation: &Relocation) -> Rela
 }
 
 fn jump_slot_rows(alloc: Global, plan: &Plan) -> Result<Vec<Rela>, AllocError>
-    ensures { IfOk result (λ v. v.items ≡ map (spec.rela_of plan.now) (filter is_jump_slot plan.now.relocations)) }
+    ensures { IfOk result (λ v. v.items ≡ map (spec.rela_of plan.now)
+        (filter is_jump_slot plan.now.relocations)) }
 {
     let relocations = plan.relocations.as_slice();
     relocations
@@ -99,7 +100,8 @@ fn jump_slot_rows(alloc: Global, plan: &Plan) -> Result<Vec<Rela>, AllocError>
 }
 
 fn other_rows(alloc: Global, plan: &Plan) -> Result<Vec<Rela>, AllocError>
-    ensures { IfOk result (λ v. v.items ≡ map (spec.rela_of plan.now) (filter is_other plan.now.relocations)) }
+    ensures { IfOk result (λ v. v.items ≡ map (spec.rela_of plan.now)
+        (filter is_other plan.now.relocations)) }
 {
     let relocations = plan.relocations.as_slice();
     relocations

@@ -198,7 +198,8 @@ fn with_count(
 ) -> Result<Vec<Segment>, AllocError>
     requires tables { tables_end < 2 ^ 32 }
     requires small { count < 2 ^ 32 }
-    ensures { IfOk result (λ v. v.items ≡ spec.with_count settings.now tables_end dynamic.now count) }
+    ensures { IfOk result (λ v. v.items ≡ spec.with_count settings.now tables_end dynamic.now
+        count) }
 {
     chosen(
         alloc,

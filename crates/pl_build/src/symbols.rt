@@ -91,7 +91,8 @@ fn keep_in(
     number: u64,
     symbol: &Symbol,
 ) -> Result<Rows<Symbol>, AllocError>
-    ensures { IfOk result (λ v. v ≡ spec.kept (spec.is_in settings.now number symbol.now) symbol.now to) }
+    ensures { IfOk result (λ v. v ≡ spec.kept (spec.is_in settings.now number symbol.now) symbol.now
+        to) }
 {
     if !is_in(settings, number, symbol) {
         return Ok(to);

@@ -73,7 +73,8 @@ fn version_word(plan: &Plan, symbol: &Symbol) -> u64
 }
 
 fn word_fields(alloc: Global, plan: &Plan) -> Result<Vec<Field>, AllocError>
-    ensures { IfOk result (λ v. v.items ≡ map (λ s. Field.Half (spec.version_word plan.now s)) plan.now.symbols) }
+    ensures { IfOk result (λ v. v.items ≡ map (λ s. Field.Half (spec.version_word plan.now s))
+        plan.now.symbols) }
 {
     plan.symbols
         .as_slice()
@@ -102,7 +103,8 @@ fn push_verdef(
     name: &[u8],
     next: u64,
 ) -> Result<(), AllocError>
-    ensures { OnOk result (out.new.items ≡ out.old.items ++ spec.verdef_bytes plan.now flags index name.now next) }
+    ensures { OnOk result (out.new.items ≡ out.old.items
+        ++ spec.verdef_bytes plan.now flags index name.now next) }
 {
     push_fields(
         out,
@@ -144,7 +146,8 @@ fn push_verdef_at(out: &mut Vec<u8>, plan: &Plan, index: usize) -> Result<(), Al
 }
 
 fn push_verdefs(out: &mut Vec<u8>, plan: &Plan) -> Result<(), AllocError>
-    ensures { OnOk result (out.new.items ≡ out.old.items ++ flat_map (spec.verdef_at plan.now) (range_with_len 0 (length plan.now.versions))) }
+    ensures { OnOk result (out.new.items ≡ out.old.items
+        ++ flat_map (spec.verdef_at plan.now) (range_with_len 0 (length plan.now.versions))) }
 {
     let count = plan.versions.len();
     for index in 0..count {
@@ -191,7 +194,8 @@ fn next_vernaux(later: &[Need], need: &Need) -> u64
 #[tactic(auto, unfolding(crate::specs::Versions::vernaux_bytes))]
 fn push_vernaux(out: &mut Vec<u8>, plan: &Plan, index: usize, need: &Need) -> Result<(), AllocError>
     requires { index < length plan.now.needs }
-    ensures { OnOk result (out.new.items ≡ out.old.items ++ spec.vernaux_bytes plan.now index need.now) }
+    ensures { OnOk result (out.new.items ≡ out.old.items
+        ++ spec.vernaux_bytes plan.now index need.now) }
 {
     let version = need.version.as_slice();
     let later = &plan.needs.as_slice()[index + 1..];
@@ -216,7 +220,8 @@ fn push_vernaux_of(
     need: &Need,
 ) -> Result<(), AllocError>
     requires { index < length plan.now.needs }
-    ensures { OnOk result (out.new.items ≡ out.old.items ++ spec.vernaux_of plan.now file.now index need.now) }
+    ensures { OnOk result (out.new.items ≡ out.old.items
+        ++ spec.vernaux_of plan.now file.now index need.now) }
 {
     if !is_of(file, need) {
         return Ok(());
@@ -232,7 +237,8 @@ fn push_vernaux_at(
     index: usize,
 ) -> Result<(), AllocError>
     requires { index < length plan.now.needs }
-    ensures { OnOk result (out.new.items ≡ out.old.items ++ spec.vernaux_at plan.now file.now index) }
+    ensures { OnOk result (out.new.items ≡ out.old.items
+        ++ spec.vernaux_at plan.now file.now index) }
 {
     match plan.needs.as_slice().get(index) {
         Some(need) => push_vernaux_of(out, plan, file, index, need),
@@ -241,7 +247,9 @@ fn push_vernaux_at(
 }
 
 fn push_vernauxes(out: &mut Vec<u8>, plan: &Plan, file: &[u8]) -> Result<(), AllocError>
-    ensures { OnOk result (out.new.items ≡ out.old.items ++ flat_map (spec.vernaux_at plan.now file.now) (range_with_len 0 (length plan.now.needs))) }
+    ensures { OnOk result (out.new.items ≡ out.old.items
+        ++ flat_map (spec.vernaux_at plan.now file.now)
+        (range_with_len 0 (length plan.now.needs))) }
 {
     let count = plan.needs.len();
     for index in 0..count {
@@ -313,7 +321,8 @@ fn push_verneed_at(out: &mut Vec<u8>, plan: &Plan, index: usize) -> Result<(), A
 }
 
 fn push_verneeds(out: &mut Vec<u8>, plan: &Plan) -> Result<(), AllocError>
-    ensures { OnOk result (out.new.items ≡ out.old.items ++ flat_map (spec.verneed_at plan.now) (range_with_len 0 (length plan.now.files))) }
+    ensures { OnOk result (out.new.items ≡ out.old.items
+        ++ flat_map (spec.verneed_at plan.now) (range_with_len 0 (length plan.now.files))) }
 {
     let count = plan.files.len();
     for index in 0..count {

@@ -39,7 +39,8 @@ fn take_number64(bytes: &[u8]) -> Result<(u64, &[u8]), CacheFault>
 /// A name of so many bytes.
 #[tactic(auto, unfolding(crate::specs::Reading::name_of_size))]
 fn take_text(alloc: Global, size: usize, bytes: &[u8]) -> Result<(Text, &[u8]), CacheFault>
-    ensures { AnswersAs (λ x. (x.0, x.1.now)) spec.is_memory result (spec.name_of_size size bytes.now) }
+    ensures { AnswersAs (λ x. (x.0, x.1.now)) spec.is_memory result
+        (spec.name_of_size size bytes.now) }
 {
     if bytes.len() < size {
         return Err(CacheFault::BadCache);
@@ -153,9 +154,11 @@ pub fn read_cache(alloc: Global, bytes: &[u8]) -> Result<Cache, CacheFault>
     // What is read is spelled so.
     ensures found { IfOk result (spelling.IsCacheOf bytes.now) }
     // What is spelled so is read, unless there is no memory.
-    ensures only { (cache : declared.Cache) → spelling.IsCacheOf bytes.now cache → Answers spec.is_memory result (Ok cache) }
+    ensures only { (cache : declared.Cache) → spelling.IsCacheOf bytes.now cache
+        → Answers spec.is_memory result (Ok cache) }
     // No bytes spell two caches.
-    ensures unique { (cache other : declared.Cache) → spelling.IsCacheOf bytes.now cache → spelling.IsCacheOf bytes.now other → cache ≡ other }
+    ensures unique { (cache other : declared.Cache) → spelling.IsCacheOf bytes.now cache
+        → spelling.IsCacheOf bytes.now other → cache ≡ other }
     ensures exact { Answers spec.is_memory result (spec.read bytes.now) }
 {
     read(alloc, bytes)

@@ -29,7 +29,8 @@ use std::alloc::{AllocError, Global};
 /// The file of a name, copied, or that there is none.
 fn file_of(alloc: Global, files: &[(String, Vec<u8>)], name: &str) -> Result<Rows<u8>, Stop>
     requires { All (λ file. length file.1.items ≤ STORED) files.now }
-    ensures means { MeansAlone (spec.start_file name.now (get (files_of files.now) name.now)) result }
+    ensures means { MeansAlone (spec.start_file name.now (get (files_of files.now) name.now))
+        result }
     ensures size { IfOk result (λ bytes. length bytes ≤ STORED) }
 {
     for file in files {

@@ -22,7 +22,8 @@ fn known_of<'f, 'a>(files: &'f [Known<'a>], name: &str) -> Option<&'f Known<'a>>
 #[tactic(auto, unfolding(crate::specs::Known::entry_of))]
 pub fn entry_of<'f, 'a>(files: &'f [Known<'a>], name: &str) -> Option<&'f Entry<'a>>
     ensures value { option_map (λ e. e.now) result ≡ spec.entry_of files.now name.now }
-    ensures accepted { spec.AreAccepted files.now → IfSome result (λ e. spec.IsAcceptedEntry e.now) }
+    ensures accepted { spec.AreAccepted files.now
+        → IfSome result (λ e. spec.IsAcceptedEntry e.now) }
 {
     match known_of(files, name) {
         None => None,

@@ -72,7 +72,8 @@ fn add_rows(
     requires references { All (λ r. IsSymbol (objects scope.now) member r.symbol) relocs.now }
     requires known { spec.ValuesOf (objects scope.now) places.now tls.now member relocs.now
         (option_map (λ s. s.now) still) }
-    ensures added { OnOk result (spec.AddsRows (objects scope.now) places.now tls.now member relocs.now
+    ensures added { OnOk result (spec.AddsRows (objects scope.now) places.now tls.now member
+        relocs.now
         (option_map (λ s. s.now) still.entry) rows.old.items rows.new.items) }
     ensures refused { IfErr result (spec.RefusesOne (objects scope.now) places.now tls.now member
         relocs.now) }
@@ -100,7 +101,8 @@ pub fn conflicts_among(
 ) -> Result<Rows<ConflictRow>, OrdinaryFault>
     requires one_each { length places.now ≡ length scope.now }
     requires known { spec.HaveValues (objects scope.now) places.now tls.now still.now }
-    ensures exact { IfOk result (spec.AreRowsAmong (objects scope.now) places.now tls.now still.now) }
+    ensures exact { IfOk result (spec.AreRowsAmong (objects scope.now) places.now tls.now
+        still.now) }
     ensures refused { IfErr result (λ fault. Answers value.is_memory (Err fault)
         (because Link (value.meanings (objects scope.now) places.now tls.now))) }
 {

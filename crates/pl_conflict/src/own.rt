@@ -66,7 +66,8 @@ fn words_of(
 ) -> Result<Rows<Option<u64>>, AllocError>
     requires one_each { length places.now ≡ length scope.now }
     requires references { All (λ r. IsSymbol (objects scope.now) 0 r.symbol) relocs.now }
-    ensures { IfOk result (λ words. words ≡ map (spec.own_word (objects scope.now) places.now) relocs.now) }
+    ensures { IfOk result (λ words. words ≡ map (spec.own_word (objects scope.now) places.now)
+        relocs.now) }
 {
     let mut words = Rows::new(alloc);
     for reloc in relocs {

@@ -55,7 +55,8 @@ fn row_of(
 ) -> Result<Option<ConflictRow>, AllocError>
     requires files { AreLoaded files.now }
     requires member { meaning.now.member < length files.now }
-    ensures { IfOk result (λ row. row ≡ spec.row_of files.now meaning.now.member meaning.now.start meaning.now.word) }
+    ensures { IfOk result (λ row. row ≡ spec.row_of files.now meaning.now.member meaning.now.start
+        meaning.now.word) }
 {
     let Word::Put(word) = meaning.word else {
         return Ok(None);
@@ -111,7 +112,8 @@ pub fn conflicts_by(
 ) -> Result<Rows<ConflictRow>, NoMemory>
     requires compared { compared.AreCompared (objects scope.now) places.now parts.now }
     requires given { compared.AreEnough (objects scope.now) parts.now places.now meanings.now }
-    ensures exact { IfOk result (compared.AreConflicts (objects scope.now) parts.now places.now meanings.now) }
+    ensures exact { IfOk result (compared.AreConflicts (objects scope.now) parts.now places.now
+        meanings.now) }
     ensures ascending { IfOk result (λ rows. ascend rows ≡ true) }
 {
     let files = load(alloc, scope, parts, places)?;
@@ -134,7 +136,8 @@ pub fn conflicts(
     requires parts { length parts.now ≡ length scope.now }
     requires accepted { All IsAccepted (objects scope.now) }
     requires placed { ArePlaced places.now parts.now (objects scope.now) }
-    ensures exact { Answers is_memory result (because Link (spec.conflicts (objects scope.now) parts.now places.now tls.now)) }
+    ensures exact { Answers is_memory result (because Link
+        (spec.conflicts (objects scope.now) parts.now places.now tls.now)) }
     ensures ascending { IfOk result (λ rows. ascend rows ≡ true) }
 {
     let meanings = meanings(alloc, scope, places, tls)?;

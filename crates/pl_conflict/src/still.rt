@@ -23,7 +23,8 @@ fn holds(alloc: Global, file: &[Loaded<'_>], meaning: &Meaning) -> Result<bool, 
     requires file { AreLoaded file.now }
     requires one { 0 < length file.now }
     requires first { meaning.now.member ≡ 0 }
-    ensures { IfOk result (λ b. OnTrue b (spec.HoldsWord file.now meaning.now.start meaning.now.word)) }
+    ensures { IfOk result (λ b. OnTrue b (spec.HoldsWord file.now meaning.now.start
+        meaning.now.word)) }
 {
     match meaning.word {
         Word::Put(word) => Ok(is_word(&held(alloc, file, meaning.member, meaning.start)?, word)),
@@ -98,7 +99,8 @@ fn flags_of(
     requires file { AreLoaded file.now }
     requires one { 0 < length file.now }
     requires references { All (λ r. IsSymbol (objects own.now) 0 r.symbol) relocs.now }
-    ensures { IfOk result (spec.AreHeld (objects own.now) places.now file.now closed.now relocs.now) }
+    ensures { IfOk result (spec.AreHeld (objects own.now) places.now file.now closed.now
+        relocs.now) }
 {
     let mut flags = Rows::new(alloc);
     for index in 0..relocs.len() {

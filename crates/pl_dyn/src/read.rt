@@ -38,7 +38,8 @@ pub fn read_dynamic(alloc: Global, table: &[u8]) -> Result<Dynamic, DynFault>
     requires { length table.now < 2 ^ 32 }
     ensures exact { Answers spec.is_memory result (spec.read table.now) }
     ensures places { IfOk result (λ dynamic. AreEntries table.now dynamic.tags) }
-    ensures whole { IfOk result (λ dynamic. ENTRY_SIZE * (length dynamic.tags + dynamic.spare + 1) ≡ length table.now) }
+    ensures whole { IfOk result (λ dynamic. ENTRY_SIZE * (length dynamic.tags + dynamic.spare + 1)
+        ≡ length table.now) }
 {
     if !is_ended(table) {
         return Err(DynFault::NoEnd);

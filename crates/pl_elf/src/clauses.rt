@@ -98,7 +98,8 @@ fn section_passes(bytes: &[u8], section: &Section) -> bool
 #[tactic(auto, unfolding(crate::specs::Headers::segments))]
 fn any_segment_passes(bytes: &[u8], header: &Header, is_static: bool) -> bool
     requires { HasSegments bytes.now header.now }
-    ensures { result ≡ list_any (spec.segment_passes bytes.now is_static) (segments bytes.now header.now) }
+    ensures { result ≡ list_any (spec.segment_passes bytes.now is_static)
+        (segments bytes.now header.now) }
 {
     (0..header.phnum)
         .map(|index| read_segment(bytes, header, index))

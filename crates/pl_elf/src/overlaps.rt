@@ -22,7 +22,8 @@ const MOST: usize = 65535;
 #[tactic(auto, unfolding(crate::specs::Headers::segment_at))]
 fn load_shares(bytes: &[u8], at: usize, first: &Extent) -> bool
     requires { at + SEGMENT_SIZE ≤ length bytes.now }
-    ensures { let other = segment_at bytes.now at in result ≡ (is_load other && windows.share first.now (spec.load_window other)) }
+    ensures { let other = segment_at bytes.now at in result
+        ≡ (is_load other && windows.share first.now (spec.load_window other)) }
 {
     word32(bytes, at) == PT_LOAD
         && first.shares(&Extent::new(word64(bytes, at + 8), word64(bytes, at + 32)))
@@ -33,7 +34,8 @@ fn load_shares(bytes: &[u8], at: usize, first: &Extent) -> bool
 fn shares_later(bytes: &[u8], header: &Header, first: &Extent, index: u16) -> bool
     requires table { HasSegments bytes.now header.now }
     requires within { index < header.now.phnum }
-    ensures { result ≡ list_any (windows.share first.now) (spec.load_windows (loads (drop (index + 1) (segments bytes.now header.now)))) }
+    ensures { result ≡ list_any (windows.share first.now)
+        (spec.load_windows (loads (drop (index + 1) (segments bytes.now header.now)))) }
 {
     let table = header.phoff as usize;
     let count = header.phnum;
@@ -65,7 +67,8 @@ fn any_pair_shares(bytes: &[u8], header: &Header) -> bool
 fn fill(bytes: &[u8], header: &Header, table: &mut [Extent]) -> usize
     requires segments { HasSegments bytes.now header.now }
     requires room { header.now.phnum ≤ length table.old }
-    ensures rows { take result table.new ≡ spec.load_windows (loads (segments bytes.now header.now)) }
+    ensures rows { take result table.new ≡ spec.load_windows
+        (loads (segments bytes.now header.now)) }
     ensures few { result ≤ length table.new }
 {
     let mut count = 0;

@@ -24,7 +24,8 @@ pub fn section_data<'a>(bytes: &'a [u8], section: &Section) -> &'a [u8]
 #[tactic(auto, unfolding(crate::specs::Headers::sections))]
 fn any_without_end(bytes: &[u8], header: &Header, strings: &Strings<'_>) -> bool
     requires { HasSections bytes.now header.now }
-    ensures { result ≡ list_any (λ s. not (has_end s.name strings.now)) (sections bytes.now header.now) }
+    ensures { result ≡ list_any (λ s. not (has_end s.name strings.now))
+        (sections bytes.now header.now) }
 {
     (0..header.shnum)
         .map(|index| read_section(bytes, header, index))

@@ -71,7 +71,8 @@ fn has_second_of_a_kind(bytes: &[u8], header: &Header) -> bool
 #[tactic(auto, unfolding(crate::specs::Headers::segments))]
 fn has_bad_load(bytes: &[u8], header: &Header) -> bool
     requires { HasSegments bytes.now header.now }
-    ensures { result ≡ list_any (λ s. is_load s && spec.bad_load s) (segments bytes.now header.now) }
+    ensures { result ≡ list_any (λ s. is_load s && spec.bad_load s)
+        (segments bytes.now header.now) }
 {
     (0..header.phnum)
         .map(|index| read_segment(bytes, header, index))

@@ -36,7 +36,11 @@ fn write_ident(ident: &[u8; EI_NIDENT], into: &mut [u8])
 
 fn write_header_end(header: &Header, into: &mut [u8])
     requires { length into.old ≡ HEADER_SIZE }
-    ensures bytes { let h = header.now in into.new ≡ put 62 (bytes16 h.shstrndx) (put 60 (bytes16 h.shnum) (put 58 (bytes16 h.shentsize) (put 56 (bytes16 h.phnum) (put 54 (bytes16 h.phentsize) (put 52 (bytes16 h.ehsize) (put 48 (bytes32 h.flags) into.old)))))) }
+    ensures bytes { let h = header.now in into.new
+        ≡ put 62 (bytes16 h.shstrndx) (put 60 (bytes16 h.shnum)
+        (put 58 (bytes16 h.shentsize) (put 56 (bytes16 h.phnum)
+        (put 54 (bytes16 h.phentsize) (put 52 (bytes16 h.ehsize)
+        (put 48 (bytes32 h.flags) into.old)))))) }
     ensures flags { header.now.flags < 2 ^ 32 }
     ensures ehsize { header.now.ehsize < 2 ^ 16 }
     ensures phentsize { header.now.phentsize < 2 ^ 16 }
@@ -89,7 +93,9 @@ pub fn write_section(section: &Section, into: &mut [u8])
 
 fn write_section_end(section: &Section, into: &mut [u8])
     requires { length into.old ≡ SECTION_SIZE }
-    ensures bytes { let s = section.now in into.new ≡ put 56 (bytes64 s.entsize) (put 48 (bytes64 s.addralign) (put 44 (bytes32 s.info) (put 40 (bytes32 s.link) into.old))) }
+    ensures bytes { let s = section.now in into.new
+        ≡ put 56 (bytes64 s.entsize) (put 48 (bytes64 s.addralign)
+        (put 44 (bytes32 s.info) (put 40 (bytes32 s.link) into.old))) }
     ensures link { section.now.link < 2 ^ 32 }
     ensures info { section.now.info < 2 ^ 32 }
     ensures addralign { section.now.addralign < 2 ^ 64 }

@@ -72,7 +72,8 @@ impl Change {
 
     /// The name that the change binds.
     pub(crate) fn bound_name(&self) -> Option<&Name>
-        ensures { option_map (λ name. name_bytes name.now) result ≡ bound_name (change_of self.now) }
+        ensures { option_map (λ name. name_bytes name.now) result
+            ≡ bound_name (change_of self.now) }
     {
         match self {
             Change::Bind { name, file: _ } => Some(name),

@@ -29,28 +29,32 @@ pub trait Folder {
     /// Gives the name an empty file, in place of one that is there. After `Failed` the files are as before or as changed.
     fn create(&mut self, alloc: Global, name: &str) -> Result<(), FolderFault>
         requires { IsNameLength name.now }
-        ensures calls { Calls (ending result) (Does (creates name.now)) (seen self.old) (seen self.new) }
+        ensures calls { Calls (ending result) (Does (creates name.now)) (seen self.old)
+            (seen self.new) }
         ensures plain { IfErr result IsPlain };
 
     /// Adds bytes at the end of a file that is there. After `Failed` it has some first bytes of them, perhaps none or all.
     fn append(&mut self, alloc: Global, name: &str, bytes: &[u8]) -> Result<(), FolderFault>
         requires length { IsNameLength name.now }
         requires there { IsThere (seen self.old) name.now }
-        ensures calls { Calls (ending result) (Appends name.now bytes.now) (seen self.old) (seen self.new) }
+        ensures calls { Calls (ending result) (Appends name.now bytes.now) (seen self.old)
+            (seen self.new) }
         ensures plain { IfErr result IsPlain };
 
     /// Makes the bytes of a file that is there firm: they outlast a crash, until more are added. The files stay as they are.
     fn firm(&mut self, name: &str) -> Result<(), Failed>
         requires length { IsNameLength name.now }
         requires there { IsThere (seen self.old) name.now }
-        ensures { Calls (ends result) (DoesOrNot (firms name.now)) (seen self.old) (seen self.new) };
+        ensures { Calls (ends result) (DoesOrNot (firms name.now)) (seen self.old)
+            (seen self.new) };
 
     /// Gives the file of one name, which is there, another name, in place of a file that has it. After a fault the files are as before or as changed.
     fn rename(&mut self, from: &str, to: &str) -> Result<(), Failed>
         requires length { IsNameLength from.now }
         requires to_length { IsNameLength to.now }
         requires there { IsThere (seen self.old) from.now }
-        ensures { Calls (ends result) (Does (renames from.now to.now)) (seen self.old) (seen self.new) };
+        ensures { Calls (ends result) (Does (renames from.now to.now)) (seen self.old)
+            (seen self.new) };
 
     /// Removes the file of a name, where it is there. After a fault the files are as before or as changed.
     fn remove(&mut self, name: &str) -> Result<(), Failed>

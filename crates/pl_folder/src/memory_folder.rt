@@ -51,8 +51,11 @@ impl MemoryFolder {
         calls: u32,
     ) -> Result<MemoryFolder, NoMemory>
         requires { are_files files.now ≡ true }
-        ensures seen { IfOk result (λ folder. ⟦<MemoryFolder as Folder>⟧.seen folder ≡ record { tells = true; records = true; files = files_of files.now; disk = started (map file_entry files.now); faults = 0; place = 0 }) }
-        ensures fail_at { IfOk result (λ folder. (folder_script folder).fail_at.items ≡ fail_at.items) }
+        ensures seen { IfOk result (λ folder. ⟦<MemoryFolder as Folder>⟧.seen folder
+            ≡ record { tells = true; records = true; files = files_of files.now; disk = started
+            (map file_entry files.now); faults = 0; place = 0 }) }
+        ensures fail_at { IfOk result (λ folder. (folder_script folder).fail_at.items
+            ≡ fail_at.items) }
         ensures made { IfOk result (λ folder. (folder_script folder).calls ≡ 0) }
         ensures calls { IfOk result (λ folder. most_calls folder ≡ calls) }
     {
@@ -64,8 +67,12 @@ impl MemoryFolder {
     /// Bit `i` modulo 64 of `choice` says whether the `i`-th change of names since the last settle outlasts the crash, and whether the `i`-th file that is not firm is whole or empty. `moment` is at most the number of calls that the folder has recorded.
     pub fn image(&self, alloc: Global, moment: u64, choice: u64) -> Result<MemoryFolder, NoMemory>
         requires { moment ≤ clock (⟦<MemoryFolder as Folder>⟧.seen self.now).disk }
-        ensures reads { IfOk result (λ image. (n : List ℕ) → get (⟦<MemoryFolder as Folder>⟧.seen image).files n ≡ read (image_of choice (state_at (⟦<MemoryFolder as Folder>⟧.seen self.now).disk moment)) n) }
-        ensures starts { IfOk result (λ image. IsStart (⟦<MemoryFolder as Folder>⟧.seen image).disk) }
+        ensures reads { IfOk result (λ image. (n : List ℕ)
+            → get (⟦<MemoryFolder as Folder>⟧.seen image).files n
+            ≡ read (image_of choice (state_at (⟦<MemoryFolder as Folder>⟧.seen self.now).disk
+            moment)) n) }
+        ensures starts { IfOk result (λ image. IsStart
+            (⟦<MemoryFolder as Folder>⟧.seen image).disk) }
         ensures fresh { IfOk result (λ image. IsFresh self.now image) }
     {
         let mut replay = Replay::new(alloc, &self.first)?;
@@ -90,8 +97,11 @@ impl MemoryFolder {
         fail_at: Vec<u64>,
         calls: u32,
     ) -> Result<MemoryFolder, NoMemory>
-        ensures seen { IfOk result (λ folder. folder_seen folder ≡ record { tells = true; records = true; files = table_files files; disk = started_with files; faults = 0; place = 0 }) }
-        ensures fail_at { IfOk result (λ folder. (folder_script folder).fail_at.items ≡ fail_at.items) }
+        ensures seen { IfOk result (λ folder. folder_seen folder
+            ≡ record { tells = true; records = true; files = table_files files; disk = started_with
+            files; faults = 0; place = 0 }) }
+        ensures fail_at { IfOk result (λ folder. (folder_script folder).fail_at.items
+            ≡ fail_at.items) }
         ensures made { IfOk result (λ folder. (folder_script folder).calls ≡ 0) }
         ensures calls { IfOk result (λ folder. most_calls folder ≡ calls) }
     {
@@ -108,9 +118,12 @@ impl MemoryFolder {
     fn call(&mut self) -> Result<(), Failed>
         ensures fails { is_ok result ≡ not (call_fails self.old) }
         ensures call { IsCounted self.old self.new }
-        ensures count { Counted (is_err result) (folder_script self.old).faults (folder_script self.new).faults }
+        ensures count { Counted (is_err result) (folder_script self.old).faults
+            (folder_script self.new).faults }
         ensures same { (self.new.files ≡ self.old.files) × (self.new.first ≡ self.old.first) }
-        ensures open { OnOk result ((self.new.past ≡ self.old.past) × (vec_len self.new.past < self.new.calls) × (vec_len self.new.past < self.new.script.calls)) }
+        ensures open { OnOk result ((self.new.past ≡ self.old.past)
+            × (vec_len self.new.past < self.new.calls)
+            × (vec_len self.new.past < self.new.script.calls)) }
         ensures waited { OnErr result (Waited (folder_disk self.old) (folder_disk self.new)) }
     {
         if self.script.calls >= u64::from(self.calls) {
@@ -128,8 +141,10 @@ impl MemoryFolder {
     fn wait(&mut self)
         requires most { vec_len self.old.past < self.old.calls }
         requires made { vec_len self.old.past < self.old.script.calls }
-        ensures disk { folder_disk self.new ≡ after (folder_disk self.old).now (folder_disk self.old) }
-        ensures rest { (self.new.files ≡ self.old.files) × (self.new.first ≡ self.old.first) × (self.new.script ≡ self.old.script) × (self.new.calls ≡ self.old.calls) }
+        ensures disk { folder_disk self.new ≡ after (folder_disk self.old).now
+            (folder_disk self.old) }
+        ensures rest { (self.new.files ≡ self.old.files) × (self.new.first ≡ self.old.first)
+            × (self.new.script ≡ self.old.script) × (self.new.calls ≡ self.old.calls) }
     {
         record(&mut self.past, Call::Nothing);
     }
@@ -182,7 +197,8 @@ impl Folder for MemoryFolder {
 
     fn create(&mut self, alloc: Global, name: &str) -> Result<(), FolderFault>
         requires { IsNameLength name.now }
-        ensures calls { Calls (ending result) (Does (creates name.now)) (folder_seen self.old) (folder_seen self.new) }
+        ensures calls { Calls (ending result) (Does (creates name.now)) (folder_seen self.old)
+            (folder_seen self.new) }
         ensures plain { IfErr result IsPlain }
         ensures same { OnErr result (folder_files self.new ≡ folder_files self.old) }
         ensures scripted_ok { OnOk result (call_fails self.old ≡ false) }
@@ -199,7 +215,8 @@ impl Folder for MemoryFolder {
     fn append(&mut self, alloc: Global, name: &str, bytes: &[u8]) -> Result<(), FolderFault>
         requires length { IsNameLength name.now }
         requires there { contains_key (folder_files self.old) name.now ≡ true }
-        ensures calls { Calls (ending result) (Appends name.now bytes.now) (folder_seen self.old) (folder_seen self.new) }
+        ensures calls { Calls (ending result) (Appends name.now bytes.now) (folder_seen self.old)
+            (folder_seen self.new) }
         ensures plain { IfErr result IsPlain }
         ensures same { OnErr result (folder_files self.new ≡ folder_files self.old) }
         ensures scripted_ok { OnOk result (call_fails self.old ≡ false) }
@@ -216,7 +233,8 @@ impl Folder for MemoryFolder {
 
     fn firm(&mut self, name: &str) -> Result<(), Failed>
         requires { IsNameLength name.now }
-        ensures calls { Calls (ends result) (DoesOrNot (firms name.now)) (folder_seen self.old) (folder_seen self.new) }
+        ensures calls { Calls (ends result) (DoesOrNot (firms name.now)) (folder_seen self.old)
+            (folder_seen self.new) }
         ensures scripted { is_ok result ≡ not (call_fails self.old) }
         ensures call { IsCounted self.old self.new }
     {
@@ -230,7 +248,8 @@ impl Folder for MemoryFolder {
         requires length { IsNameLength from.now }
         requires to_length { IsNameLength to.now }
         requires there { contains_key (folder_files self.old) from.now ≡ true }
-        ensures calls { Calls (ends result) (Does (renames from.now to.now)) (folder_seen self.old) (folder_seen self.new) }
+        ensures calls { Calls (ends result) (Does (renames from.now to.now)) (folder_seen self.old)
+            (folder_seen self.new) }
         ensures same { OnErr result (folder_files self.new ≡ folder_files self.old) }
         ensures scripted { is_ok result ≡ not (call_fails self.old) }
         ensures call { IsCounted self.old self.new }
@@ -245,7 +264,8 @@ impl Folder for MemoryFolder {
 
     fn remove(&mut self, name: &str) -> Result<(), Failed>
         requires { IsNameLength name.now }
-        ensures calls { Calls (ends result) (Does (removes name.now)) (folder_seen self.old) (folder_seen self.new) }
+        ensures calls { Calls (ends result) (Does (removes name.now)) (folder_seen self.old)
+            (folder_seen self.new) }
         ensures same { OnErr result (folder_files self.new ≡ folder_files self.old) }
         ensures scripted { is_ok result ≡ not (call_fails self.old) }
         ensures call { IsCounted self.old self.new }
@@ -258,7 +278,8 @@ impl Folder for MemoryFolder {
     }
 
     fn settle(&mut self) -> Result<(), Failed>
-        ensures calls { Calls (ends result) (DoesOrNot settles) (folder_seen self.old) (folder_seen self.new) }
+        ensures calls { Calls (ends result) (DoesOrNot settles) (folder_seen self.old)
+            (folder_seen self.new) }
         ensures scripted { is_ok result ≡ not (call_fails self.old) }
         ensures call { IsCounted self.old self.new }
     {

@@ -27,7 +27,8 @@ impl QuietFolder {
     /// Each name has 1 to 255 bytes, and no two files have one name, as `are_files` tells.
     pub fn new(alloc: Global, files: &[(String, Vec<u8>)]) -> Result<QuietFolder, NoMemory>
         requires { are_files files.now ≡ true }
-        ensures { IfOk result (λ folder. ⟦<QuietFolder as Folder>⟧.seen folder ≡ quiet (files_of files.now)) }
+        ensures { IfOk result (λ folder. ⟦<QuietFolder as Folder>⟧.seen folder
+            ≡ quiet (files_of files.now)) }
     {
         Ok(QuietFolder {
             files: FileTable::copies_of(alloc, files)?,
@@ -57,7 +58,8 @@ impl Folder for QuietFolder {
 
     fn create(&mut self, alloc: Global, name: &str) -> Result<(), FolderFault>
         requires { IsNameLength name.now }
-        ensures calls { Calls (ending result) (Does (creates name.now)) (quiet_seen self.old) (quiet_seen self.new) }
+        ensures calls { Calls (ending result) (Does (creates name.now)) (quiet_seen self.old)
+            (quiet_seen self.new) }
         ensures plain { IfErr result IsPlain }
         ensures never_fails { IfErr result (λ fault. fault ≢ FolderFault.Failed) }
     {
@@ -66,7 +68,8 @@ impl Folder for QuietFolder {
 
     fn append(&mut self, _alloc: Global, name: &str, bytes: &[u8]) -> Result<(), FolderFault>
         requires { contains_key (quiet_files self.old) name.now ≡ true }
-        ensures calls { Calls (ending result) (Appends name.now bytes.now) (quiet_seen self.old) (quiet_seen self.new) }
+        ensures calls { Calls (ending result) (Appends name.now bytes.now) (quiet_seen self.old)
+            (quiet_seen self.new) }
         ensures plain { IfErr result IsPlain }
         ensures never_fails { IfErr result (λ fault. fault ≢ FolderFault.Failed) }
     {
@@ -74,7 +77,8 @@ impl Folder for QuietFolder {
     }
 
     fn firm(&mut self, name: &str) -> Result<(), Failed>
-        ensures calls { Calls (ends result) (DoesOrNot (firms name.now)) (quiet_seen self.old) (quiet_seen self.new) }
+        ensures calls { Calls (ends result) (DoesOrNot (firms name.now)) (quiet_seen self.old)
+            (quiet_seen self.new) }
         ensures never_fails { is_ok result ≡ true }
     {
         Ok(())
@@ -83,7 +87,8 @@ impl Folder for QuietFolder {
     fn rename(&mut self, from: &str, to: &str) -> Result<(), Failed>
         requires there { contains_key (quiet_files self.old) from.now ≡ true }
         requires to_length { IsNameLength to.now }
-        ensures calls { Calls (ends result) (Does (renames from.now to.now)) (quiet_seen self.old) (quiet_seen self.new) }
+        ensures calls { Calls (ends result) (Does (renames from.now to.now)) (quiet_seen self.old)
+            (quiet_seen self.new) }
         ensures never_fails { is_ok result ≡ true }
     {
         self.files.rename(from, to);
@@ -91,7 +96,8 @@ impl Folder for QuietFolder {
     }
 
     fn remove(&mut self, name: &str) -> Result<(), Failed>
-        ensures calls { Calls (ends result) (Does (removes name.now)) (quiet_seen self.old) (quiet_seen self.new) }
+        ensures calls { Calls (ends result) (Does (removes name.now)) (quiet_seen self.old)
+            (quiet_seen self.new) }
         ensures never_fails { is_ok result ≡ true }
     {
         self.files.remove(name);
@@ -99,7 +105,8 @@ impl Folder for QuietFolder {
     }
 
     fn settle(&mut self) -> Result<(), Failed>
-        ensures calls { Calls (ends result) (DoesOrNot settles) (quiet_seen self.old) (quiet_seen self.new) }
+        ensures calls { Calls (ends result) (DoesOrNot settles) (quiet_seen self.old)
+            (quiet_seen self.new) }
         ensures never_fails { is_ok result ≡ true }
     {
         Ok(())

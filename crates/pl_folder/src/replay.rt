@@ -57,7 +57,8 @@ impl Replay {
 
     /// Does one call more.
     pub(crate) fn step(&mut self, alloc: Global, call: &Call) -> Result<(), AllocError>
-        ensures { OnOk result ((s : State) → IsWhole s → Stands self.old s → Stands self.new (step_of call.now s)) }
+        ensures { OnOk result ((s : State) → IsWhole s → Stands self.old s
+            → Stands self.new (step_of call.now s)) }
     {
         match call {
             Call::Nothing => Ok(()),
@@ -75,13 +76,15 @@ impl Replay {
 
     // The number of a name's file.
     fn file_of(&self, name: &Name) -> Option<usize>
-        ensures { result ≡ bound_by (changes_of self.now.changes.items) (name_bytes name.now) (bound_by (changes_of self.now.settled.items) (name_bytes name.now) None) }
+        ensures { result ≡ bound_by (changes_of self.now.changes.items) (name_bytes name.now)
+            (bound_by (changes_of self.now.settled.items) (name_bytes name.now) None) }
     {
         bound(&self.changes, name, bound(&self.settled, name, None))
     }
 
     fn create(&mut self, alloc: Global, name: &Name) -> Result<(), AllocError>
-        ensures { OnOk result ((s : State) → Stands self.old s → Stands self.new (state.created (name_bytes name.now) s)) }
+        ensures { OnOk result ((s : State) → Stands self.old s
+            → Stands self.new (state.created (name_bytes name.now) s)) }
     {
         let file = self.files.len();
         self.changes.push(Change::Bind {
@@ -96,7 +99,8 @@ impl Replay {
     }
 
     fn append(&mut self, name: &Name, bytes: &[u8]) -> Result<(), AllocError>
-        ensures { OnOk result ((s : State) → IsWhole s → Stands self.old s → Stands self.new (state.appended (name_bytes name.now) bytes.now s)) }
+        ensures { OnOk result ((s : State) → IsWhole s → Stands self.old s
+            → Stands self.new (state.appended (name_bytes name.now) bytes.now s)) }
     {
         let Some(file) = self.file_of(name) else {
             return Ok(());
@@ -110,7 +114,8 @@ impl Replay {
     }
 
     fn firm(&mut self, name: &Name)
-        ensures { (s : State) → IsWhole s → Stands self.old s → Stands self.new (state.firmed (name_bytes name.now) s) }
+        ensures { (s : State) → IsWhole s → Stands self.old s
+            → Stands self.new (state.firmed (name_bytes name.now) s) }
     {
         let Some(file) = self.file_of(name) else {
             return;
@@ -121,7 +126,8 @@ impl Replay {
     }
 
     fn rename(&mut self, from: &Name, to: &Name) -> Result<(), AllocError>
-        ensures { OnOk result ((s : State) → Stands self.old s → Stands self.new (state.renamed (name_bytes from.now) (name_bytes to.now) s)) }
+        ensures { OnOk result ((s : State) → Stands self.old s
+            → Stands self.new (state.renamed (name_bytes from.now) (name_bytes to.now) s)) }
     {
         let Some(file) = self.file_of(from) else {
             return Ok(());
@@ -135,7 +141,8 @@ impl Replay {
     }
 
     fn remove(&mut self, name: &Name) -> Result<(), AllocError>
-        ensures { OnOk result ((s : State) → Stands self.old s → Stands self.new (state.removed (name_bytes name.now) s)) }
+        ensures { OnOk result ((s : State) → Stands self.old s
+            → Stands self.new (state.removed (name_bytes name.now) s)) }
     {
         self.changes.push(Change::Unbind { name: name.copy() })?;
         Ok(())
@@ -143,7 +150,8 @@ impl Replay {
 
     /// Settles the disk after a crash that left what is chosen. Without a crash all is left.
     pub(crate) fn settle(&mut self, alloc: Global, choice: Choice) -> Result<(), AllocError>
-        ensures { OnOk result ((s : State) → Stands self.old s → Stands self.new (image_by (keeps choice) s)) }
+        ensures { OnOk result ((s : State) → Stands self.old s
+            → Stands self.new (image_by (keeps choice) s)) }
     {
         keep(&mut self.settled, &self.changes, choice)?;
         self.changes.clear();
@@ -153,7 +161,8 @@ impl Replay {
 
     /// The files of a settled disk.
     pub(crate) fn table(&self, alloc: Global) -> Result<FileTable, AllocError>
-        ensures { IfOk result (λ table. (n : NameBytes) → get (table_files table) n ≡ settled_view self.now n) }
+        ensures { IfOk result (λ table. (n : NameBytes) → get (table_files table) n
+            ≡ settled_view self.now n) }
     {
         let mut table = FileTable::new(alloc);
         for change in &self.settled {
@@ -166,7 +175,8 @@ impl Replay {
 
     // Adds the file of a name to a table, where it is not there yet.
     fn add_to(&self, alloc: Global, table: &mut FileTable, name: &Name) -> Result<(), AllocError>
-        ensures { OnOk result (Adds (settled_view self.now) (name_bytes name.now) (table_files table.old) (table_files table.new)) }
+        ensures { OnOk result (Adds (settled_view self.now) (name_bytes name.now)
+            (table_files table.old) (table_files table.new)) }
     {
         if table.has(name.as_str()) {
             return Ok(());
@@ -201,7 +211,8 @@ fn bound(changes: &[Change], name: &Name, before: Option<usize>) -> Option<usize
 
 // Adds the changes that are chosen to those that are settled.
 fn keep(settled: &mut Vec<Change>, changes: &[Change], choice: Choice) -> Result<(), AllocError>
-    ensures { OnOk result (changes_of settled.new.items ≡ changes_of settled.old.items ++ chosen_changes (keeps choice) 0 (changes_of changes.now)) }
+    ensures { OnOk result (changes_of settled.new.items ≡ changes_of settled.old.items
+        ++ chosen_changes (keeps choice) 0 (changes_of changes.now)) }
 {
     for (i, change) in changes.iter().enumerate() {
         if choice.keeps(i) {
@@ -213,7 +224,8 @@ fn keep(settled: &mut Vec<Change>, changes: &[Change], choice: Choice) -> Result
 
 // The files after a crash that left those which are chosen, of the ones that are not firm.
 fn shown(alloc: Global, files: &[Loaded], choice: Choice) -> Result<Vec<Loaded>, AllocError>
-    ensures { IfOk result (λ shown. contents_of shown.items ≡ shown_files (keeps choice) 0 (contents_of files.now)) }
+    ensures { IfOk result (λ shown. contents_of shown.items
+        ≡ shown_files (keeps choice) 0 (contents_of files.now)) }
 {
     let mut shown = Vec::new(alloc);
     let mut loose = 0;

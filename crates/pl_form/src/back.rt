@@ -39,7 +39,8 @@ fn undo_row(header: &Header) -> Window
 
 /// The section header of a file's undo section, where there is such a row, and it and its bytes lie in the file.
 fn undo_section(file: &[u8]) -> Option<Section>
-    ensures { result ≡ back.when (back.has_undo_section file.now) (Some (back.undo_section file.now)) }
+    ensures { result ≡ back.when (back.has_undo_section file.now)
+        (Some (back.undo_section file.now)) }
 {
     if file.len() < HEADER_SIZE {
         return None;
@@ -114,7 +115,8 @@ fn stored_headers(alloc: Global, bytes: &[u8]) -> Result<StoredHeaders, AllocErr
 fn put_stored(front: &mut [u8], undo: &Undo, header: &Header, dynamic: &Window)
     requires head { header.now ≡ headers.header undo.now.headers }
     requires whole { IsWhole undo.now }
-    requires room { windows.AllIn (length front.old) (back.head_windows header.now ++ dynamic.now ∷ []) }
+    requires room { windows.AllIn (length front.old) (back.head_windows header.now ++ dynamic.now
+        ∷ []) }
     ensures { front.new ≡ windows.put_all (back.stored undo.now dynamic.now) front.old }
 {
     let headers = undo.headers.as_slice();
@@ -241,9 +243,11 @@ fn fits_tables(size: usize, header: &Header, dynamic: &Window, tables: &[Table])
 fn put_back(front: &mut [u8], undo: &Undo, header: &Header, dynamic: &Window, tables: &[Table])
     requires head { header.now ≡ headers.header undo.now.headers }
     requires whole { IsWhole undo.now }
-    requires room { windows.AllIn (length front.old) (back.head_windows header.now ++ dynamic.now ∷ []) }
+    requires room { windows.AllIn (length front.old) (back.head_windows header.now ++ dynamic.now
+        ∷ []) }
     requires tables { windows.AllIn (length front.old) (table_windows tables.now) }
-    ensures { front.new ≡ all_back undo.now.slot tables.now (windows.put_all (back.stored undo.now dynamic.now) front.old) }
+    ensures { front.new ≡ all_back undo.now.slot tables.now
+        (windows.put_all (back.stored undo.now dynamic.now) front.old) }
 {
     put_stored(front, undo, header, dynamic);
     move_tables_back(front, tables, undo.slot);

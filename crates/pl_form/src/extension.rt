@@ -19,7 +19,8 @@ const EXTENSION_ALIGN: u64 = 16;
 /// Puts those of the first bytes, which are for a place, that lie in the zeros of the last PT_LOAD, and answers those for the places behind it.
 fn put_behind<'a>(zeros: &mut [u8], spot: &Spot, flat: &'a [u8]) -> &'a [u8]
     requires { spot.now.behind + spot.now.hidden ≤ length zeros.old }
-    ensures zeros { zeros.new ≡ put spot.now.behind (take spot.now.hidden (drop spot.now.size flat.now)) zeros.old }
+    ensures zeros { zeros.new ≡ put spot.now.behind
+        (take spot.now.hidden (drop spot.now.size flat.now)) zeros.old }
     ensures rest { result.now ≡ drop spot.now.hidden (drop spot.now.size flat.now) }
 {
     let (hidden, rest) = split(split(flat, spot.size).1, spot.hidden);

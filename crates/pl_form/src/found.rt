@@ -69,7 +69,8 @@ pub fn has_tables(segments: &[Segment], sections: &[Section], tags: &[Tag]) -> b
 /// Adds a table of symbols, where a section is a SYMTAB section.
 #[tactic(auto, unfolding(pl_object::specs::Tables::symtab_windows))]
 fn push_symtab(all: &mut Rows<Table>, section: &Section) -> Result<(), AllocError>
-    ensures { OnOk result (all.new ≡ all.old ++ spec.symtab_tables (tables.symtab_windows (section.now ∷ []))) }
+    ensures { OnOk result (all.new ≡ all.old ++ spec.symtab_tables
+        (tables.symtab_windows (section.now ∷ []))) }
 {
     if section.kind != SHT_SYMTAB {
         return Ok(());
@@ -81,7 +82,8 @@ fn push_symtab(all: &mut Rows<Table>, section: &Section) -> Result<(), AllocErro
 
 /// Adds a table of symbols for each SYMTAB section.
 fn push_symtabs(all: &mut Rows<Table>, sections: &[Section]) -> Result<(), AllocError>
-    ensures { OnOk result (all.new ≡ all.old ++ spec.symtab_tables (tables.symtab_windows sections.now)) }
+    ensures { OnOk result (all.new ≡ all.old ++ spec.symtab_tables
+        (tables.symtab_windows sections.now)) }
 {
     for section in sections {
         push_symtab(all, section)?;
@@ -217,7 +219,8 @@ fn zeros_from(last: Option<Segment>) -> u128
 
 /// Where all places stand.
 fn spots_of(alloc: Global, segments: &[Segment], places: &[Window]) -> Result<Vec<Spot>, AllocError>
-    ensures { IfOk result (λ v. v.items ≡ loads.spots_of segments.now (spec.zeros_from (clauses.last_load segments.now)) places.now) }
+    ensures { IfOk result (λ v. v.items ≡ loads.spots_of segments.now
+        (spec.zeros_from (clauses.last_load segments.now)) places.now) }
 {
     let start = zeros_from(last_load(segments));
     places
@@ -265,7 +268,9 @@ pub fn find_spots(
     tags: &[Tag],
     rows: &[u8],
 ) -> Result<Rows<Spot>, AllocError>
-    ensures { IfOk result (λ spots. spots ≡ loads.spots_of segments.now (spec.zeros_from (clauses.last_load segments.now)) (spec.places_by segments.now tags.now rows.now)) }
+    ensures { IfOk result (λ spots. spots ≡ loads.spots_of segments.now
+        (spec.zeros_from (clauses.last_load segments.now))
+        (spec.places_by segments.now tags.now rows.now)) }
 {
     let places = all_places(
         alloc,

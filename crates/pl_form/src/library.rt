@@ -99,7 +99,9 @@ fn library_table(
     table: &[u8],
 ) -> Result<Vec<u8>, AllocError>
     requires { 16 * tags + 32 ≤ length table.now }
-    ensures { IfOk result (λ v. v.items ≡ put (16 * tags) (parts.library_entries mark.now.stamp mark.now.checksum) (rows 16 (row_moved mark.now.slot TagValue) tags table.now)) }
+    ensures { IfOk result (λ v. v.items ≡ put (16 * tags)
+        (parts.library_entries mark.now.stamp mark.now.checksum)
+        (rows 16 (row_moved mark.now.slot TagValue) tags table.now)) }
 {
     let mut moved = moved_table(alloc, mark.slot, tags, table)?;
     let entries = library_entries(alloc, mark)?;
@@ -145,7 +147,9 @@ fn library_sections(
     requires strings { length listed.now.strings < 2 ^ 32 }
     requires rows { length object.now.sections < 2 ^ 16 }
     requires names { HasNames bytes.now }
-    ensures { IfOk result (λ v. let old = map (parts.moved_section slot) object.now.sections in v.items ≡ old ++ parts.list_sections listed.now (length bytes.now) (length old) (length (parts.old_names bytes.now))) }
+    ensures { IfOk result (λ v. let old = map (parts.moved_section slot) object.now.sections in
+        v.items ≡ old ++ parts.list_sections listed.now (length bytes.now) (length old)
+        (length (parts.old_names bytes.now))) }
 {
     let mut sections = moved_sections(alloc, slot, object.sections.as_slice())?;
     let new = list_sections(listed, bytes.len(), sections.len(), old_names(bytes).len());
@@ -175,7 +179,8 @@ pub fn library_plan(
     requires head { HasHead bytes.now object.now }
     requires library { IsMovable bytes.now object.now layout.now }
     requires strings { length listed.strings < 2 ^ 32 }
-    ensures { IfOk result (λ plan. plan ≡ parts.library_plan (original bytes.now layout.now) mark.now.slot mark.now.stamp mark.now.checksum listed) }
+    ensures { IfOk result (λ plan. plan ≡ parts.library_plan (original bytes.now layout.now)
+        mark.now.slot mark.now.stamp mark.now.checksum listed) }
 {
     let table = part(bytes, layout.dynamic.at(), layout.dynamic.size());
     let sections = library_sections(alloc, bytes, object, mark.slot, &listed)?;

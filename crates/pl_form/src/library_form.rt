@@ -78,7 +78,8 @@ fn push_word(out: &mut Vec<u8>, size: u64, word: u64) -> Result<(), AllocError>
 /// Adds the original's bytes at a place behind a word.
 fn push_behind(out: &mut Vec<u8>, bytes: &[u8], spot: &Spot) -> Result<(), AllocError>
     requires { spot.now.at + spot.now.size ≤ length bytes.now }
-    ensures { OnOk result (out.new.items ≡ out.old.items ++ part (spot.now.at + 8) (spot.now.size - 8) bytes.now) }
+    ensures { OnOk result (out.new.items ≡ out.old.items
+        ++ part (spot.now.at + 8) (spot.now.size - 8) bytes.now) }
 {
     let size = spot.size.saturating_sub(8);
     out.extend_from_slice(part(bytes, spot.at + 8, size))
@@ -92,7 +93,8 @@ fn push_filled(
     word: Option<u64>,
 ) -> Result<(), AllocError>
     requires { spot.now.at + spot.now.size ≤ length bytes.now }
-    ensures { OnOk result (out.new.items ≡ out.old.items ++ words_spec.filled bytes.now spot.now word) }
+    ensures { OnOk result (out.new.items ≡ out.old.items
+        ++ words_spec.filled bytes.now spot.now word) }
 {
     let Some(word) = word else {
         return push_memory(out, bytes, spot);
@@ -180,7 +182,8 @@ fn moved(
     requires list { spec.IsShortList listed }
     requires flat { length flat.now ≡ back.wanted (ps_of original.now) }
     requires digest { IsDigest digest }
-    ensures { IfOk result (λ v. v.items ≡ forms.library_form (original_of original.now) mark.now.slot mark.now.stamp mark.now.checksum listed flat.now digest) }
+    ensures { IfOk result (λ v. v.items ≡ forms.library_form (original_of original.now)
+        mark.now.slot mark.now.stamp mark.now.checksum listed flat.now digest) }
 {
     let layout = layout_of(alloc, original, object)?;
     let plan = library_plan(alloc, original, object, &layout, mark, listed)?;
@@ -206,7 +209,8 @@ pub fn library_with(
     requires list { spec.IsListing list.now }
     requires flat { length flat.now ≡ back.wanted (ps_of original.now) }
     requires digest { digest.now ≡ sha256 original.now }
-    ensures form { IfOk result (λ v. v.items ≡ spec.library_with original.now slot stamp list.now flat.now version) }
+    ensures form { IfOk result (λ v. v.items ≡ spec.library_with original.now slot stamp list.now
+        flat.now version) }
     ensures size { IfOk result (λ v. length v.items ≤ spec.most_bytes original.now list.now) }
 {
     let checksum = word32(digest, 0);
@@ -239,7 +243,8 @@ pub fn form_library_with(
     requires list { spec.IsListing list.now }
     requires words { length words.now ≡ length object.now.relocations }
     requires digest { digest.now ≡ sha256 original.now }
-    ensures form { IfOk result (λ v. v.items ≡ spec.library_form original.now slot stamp list.now words.now version) }
+    ensures form { IfOk result (λ v. v.items ≡ spec.library_form original.now slot stamp list.now
+        words.now version) }
     ensures size { IfOk result (λ v. length v.items ≤ spec.most_bytes original.now list.now) }
 {
     let layout = layout_of(alloc, original, object)?;
@@ -267,7 +272,8 @@ pub fn form_library(
     requires even { slot % 2 ≡ 0 }
     requires list { spec.IsListing list.now }
     requires words { length words.now ≡ length object.now.relocations }
-    ensures form { IfOk result (λ v. v.items ≡ spec.library_form original.now slot stamp list.now words.now version) }
+    ensures form { IfOk result (λ v. v.items ≡ spec.library_form original.now slot stamp list.now
+        words.now version) }
     ensures size { IfOk result (λ v. length v.items ≤ spec.most_bytes original.now list.now) }
 {
     let digest = digest_of(original);

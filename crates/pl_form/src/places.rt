@@ -43,7 +43,8 @@ pub fn push_zeros(out: &mut Vec<u8>, count: u64) -> Result<(), AllocError>
 
 /// Adds the memory bytes of a place: those in the file, and the zeros behind them.
 pub fn push_memory(out: &mut Vec<u8>, bytes: &[u8], spot: &Spot) -> Result<(), AllocError>
-    ensures { OnOk result (out.new.items ≡ out.old.items ++ part spot.now.at spot.now.size bytes.now ++ replicate spot.now.hidden 0) }
+    ensures { OnOk result (out.new.items ≡ out.old.items ++ part spot.now.at spot.now.size bytes.now
+        ++ replicate spot.now.hidden 0) }
 {
     out.extend_from_slice(part(bytes, spot.at, spot.size))?;
     push_zeros(out, spot.hidden)

@@ -206,7 +206,8 @@ fn program_sections(
     requires names { names + 100 < 2 ^ 32 }
     requires last { IsShort last.now }
     requires lists { AreShort lists.now }
-    ensures { IfOk result (λ v. v.items ≡ spec.all_sections names old.now last.now shift lists.now) }
+    ensures { IfOk result (λ v. v.items ≡ spec.all_sections names old.now last.now shift
+        lists.now) }
 {
     let mut sections = old_sections(alloc, shift, last, old)?;
     let new = new_sections(last, lists, old.len(), names);
@@ -309,7 +310,8 @@ pub fn program_plan(
     requires program { IsExtended bytes.now object.now layout.now last.now }
     requires flat { length flat.now ≡ back.wanted layout.now.spots }
     requires lists { AreShort lists.now }
-    ensures { IfOk result (λ plan. plan ≡ parts.program_plan (original bytes.now layout.now) last.now.index last.now.segment flat.now lists.now) }
+    ensures { IfOk result (λ plan. plan ≡ parts.program_plan (original bytes.now layout.now)
+        last.now.index last.now.segment flat.now lists.now) }
 {
     let segment = &last.segment;
     let cut = segment.offset + segment.filesz;

@@ -49,7 +49,8 @@ fn extension_of(
 ) -> Result<Extension, NoMemory>
     requires firm { spec.IsFirmProgram original.now object.now }
     requires names { length (list_strings list.now) ≤ STORED }
-    ensures { IfOk result (λ lists. lists ≡ words.extension_of original.now list.now conflicts.now) }
+    ensures { IfOk result (λ lists. lists ≡ words.extension_of original.now list.now
+        conflicts.now) }
 {
     let window = strings_of(object);
     let old = part(original, window.at(), window.size());
@@ -65,7 +66,8 @@ fn extension_of(
 
 /// Whether the parts of an extension alone have more bytes than a form.
 fn are_too_long(lists: &Extension) -> bool
-    ensures { result ≡ nat_lt STORED (length lists.now.strings + (length lists.now.rows + length lists.now.conflicts)) }
+    ensures { result ≡ nat_lt STORED (length lists.now.strings +
+        (length lists.now.rows + length lists.now.conflicts)) }
 {
     let size = (lists.strings.len() as u128)
         + (lists.rows.len() as u128)
@@ -100,7 +102,8 @@ fn extended(
     requires firm { spec.IsFirmProgram original.now object.now }
     requires digest { digest.now ≡ sha256 original.now }
     requires flat { length flat.now ≡ wanted (ps_of original.now) }
-    requires lists { length lists.now.strings + (length lists.now.rows + length lists.now.conflicts) ≤ STORED }
+    requires lists { length lists.now.strings + (length lists.now.rows + length lists.now.conflicts)
+        ≤ STORED }
     ensures { IfOk result (λ v. v.items ≡ spec.extended original.now lists.now flat.now version) }
 {
     let Some(last) = find_last(object.segments.as_slice()) else {
@@ -130,7 +133,8 @@ pub fn program_with(
     requires firm { spec.IsFirmProgram original.now object.now }
     requires digest { digest.now ≡ sha256 original.now }
     requires flat { length flat.now ≡ wanted (ps_of original.now) }
-    ensures { AnswersAs (λ v. v.items) fault_spec.is_memory result (spec.stored (spec.program_with original.now list.now flat.now conflicts.now version)) }
+    ensures { AnswersAs (λ v. v.items) fault_spec.is_memory result
+        (spec.stored (spec.program_with original.now list.now flat.now conflicts.now version)) }
 {
     if has_long_names(list) {
         return Err(FormFault::TooLarge);
@@ -178,7 +182,8 @@ pub fn form_program(
 ) -> Result<Vec<u8>, FormFault>
     requires firm { spec.IsFirmProgram original.now object.now }
     requires fills { AreFills fills.now object.now.relocations }
-    ensures { AnswersAs (λ v. v.items) fault_spec.is_memory result (spec.stored (spec.program_form original.now list.now fills.now conflicts.now version)) }
+    ensures { AnswersAs (λ v. v.items) fault_spec.is_memory result
+        (spec.stored (spec.program_form original.now list.now fills.now conflicts.now version)) }
 {
     let flat = flat_of(alloc, fills)?;
     let digest = digest_of(original);

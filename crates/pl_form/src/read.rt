@@ -169,7 +169,9 @@ fn push_standing(
     front: &[u8],
     zeros: &[u8],
 ) -> Result<(), AllocError>
-    ensures { OnOk result (flat.new.items ≡ flat.old.items ++ part spot.now.at spot.now.size front.now ++ part spot.now.behind spot.now.hidden zeros.now) }
+    ensures { OnOk result (flat.new.items ≡ flat.old.items
+        ++ part spot.now.at spot.now.size front.now
+        ++ part spot.now.behind spot.now.hidden zeros.now) }
 {
     flat.extend_from_slice(part(front, spot.at, spot.size))?;
     flat.extend_from_slice(part(zeros, spot.behind, spot.hidden))

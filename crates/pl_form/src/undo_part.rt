@@ -44,7 +44,8 @@ fn headers(alloc: Global, bytes: &[u8]) -> Result<Vec<u8>, AllocError>
 
 /// The bytes of the dynamic table, and those of memory at all places.
 fn kept(alloc: Global, bytes: &[u8], layout: &Layout) -> Result<Vec<u8>, AllocError>
-    ensures { IfOk result (λ v. v.items ≡ within layout.now.dynamic bytes.now ++ back.memory_of layout.now.spots bytes.now) }
+    ensures { IfOk result (λ v. v.items ≡ within layout.now.dynamic bytes.now
+        ++ back.memory_of layout.now.spots bytes.now) }
 {
     let dynamic = part(bytes, layout.dynamic.at(), layout.dynamic.size());
     let mut kept = Vec::from_slice(alloc, dynamic)?;
@@ -61,7 +62,8 @@ pub fn undo_part(
     digest: Option<[u8; DIGEST_SIZE]>,
 ) -> Result<Vec<u8>, NoMemory>
     requires { 64 ≤ length bytes.now }
-    ensures { IfOk result (λ v. v.items ≡ forms.undo_part plan.now (original bytes.now layout.now) digest) }
+    ensures { IfOk result (λ v. v.items ≡ forms.undo_part plan.now (original bytes.now layout.now)
+        digest) }
 {
     let undo = Undo {
         slot: plan.slot,

@@ -56,7 +56,8 @@ fn under_header(
     room: usize,
 ) -> Result<Vec<u8>, AllocError>
     requires { LiesIn bytes.now layout.now plan.now flat.now }
-    ensures under { IfOk result (λ v. v.items ≡ parts.under_header plan.now (original bytes.now layout.now) flat.now) }
+    ensures under { IfOk result (λ v. v.items ≡ parts.under_header plan.now
+        (original bytes.now layout.now) flat.now) }
     ensures size { IfOk result (λ v. length v.items ≡ length bytes.now) }
 {
     let phoff = header_fields(bytes).phoff;
@@ -119,7 +120,8 @@ fn push_parts(file: &mut Vec<u8>, next: &[Rows<u8>]) -> Result<(), AllocError>
 
 /// The bytes of the section of section names.
 pub fn old_names<'a>(bytes: &'a [u8]) -> &'a [u8]
-    requires row { headers.section_offset (headers.header bytes.now) (headers.header bytes.now).shstrndx + 64 ≤ length bytes.now }
+    requires row { headers.section_offset (headers.header bytes.now)
+        (headers.header bytes.now).shstrndx + 64 ≤ length bytes.now }
     requires long { 64 ≤ length bytes.now }
     ensures { result.now ≡ names bytes.now (headers.header bytes.now) }
 {
@@ -129,7 +131,8 @@ pub fn old_names<'a>(bytes: &'a [u8]) -> &'a [u8]
 
 /// The names of the sections of a form: the original's, then the new ones.
 fn names_part(alloc: Global, old: &[u8], plan: &Plan) -> Result<Vec<u8>, AllocError>
-    ensures { IfOk result (λ v. v.items ≡ old.now ++ (plan.now.names ++ (UNDO_NAME ++ NAMES_NAME))) }
+    ensures { IfOk result (λ v. v.items ≡ old.now
+        ++ (plan.now.names ++ (UNDO_NAME ++ NAMES_NAME))) }
 {
     let mut names = Vec::from_slice(alloc, old)?;
     names.extend_from_slice(plan.names.as_slice())?;
@@ -148,7 +151,9 @@ fn body(
     room: usize,
 ) -> Result<Vec<u8>, AllocError>
     requires { LiesIn bytes.now layout.now plan.now flat.now }
-    ensures { IfOk result (λ v. v.items ≡ parts.joined (inserted plan.now.cut plan.now.more (parts.under_header plan.now (original bytes.now layout.now) flat.now)) plan.now.parts) }
+    ensures { IfOk result (λ v. v.items ≡ parts.joined
+        (inserted plan.now.cut plan.now.more (parts.under_header plan.now
+        (original bytes.now layout.now) flat.now)) plan.now.parts) }
 {
     let front = under_header(alloc, bytes, layout, plan, flat, room)?;
     let mut file = with_inserted(alloc, plan.cut, plan.more.as_slice(), front, room)?;
@@ -165,8 +170,10 @@ fn push_ends(
     undo: &[u8],
 ) -> Result<Vec<Section>, AllocError>
     requires { ends.names_end (length file.old.items) old.now plan.now (length undo.now) < 2 ^ 32 }
-    ensures file { OnOk result (file.new.items ≡ parts.joined file.old.items (undo.now ∷ parts.all_names old.now plan.now ∷ [])) }
-    ensures rows { IfOk result (λ v. v.items ≡ ends.ended_rows (length file.old.items) old.now plan.now (length undo.now)) }
+    ensures file { OnOk result (file.new.items
+        ≡ parts.joined file.old.items (undo.now ∷ parts.all_names old.now plan.now ∷ [])) }
+    ensures rows { IfOk result (λ v. v.items ≡ ends.ended_rows (length file.old.items) old.now
+        plan.now (length undo.now)) }
 {
     let name = old.len() + plan.names.len();
     let names = names_part(alloc, old, plan)?;
@@ -223,8 +230,10 @@ pub fn write_form(
     undo: &[u8],
 ) -> Result<Vec<u8>, AllocError>
     requires fits { Fits plan.now (original bytes.now layout.now) flat.now (length undo.now) }
-    requires names { headers.section_offset (headers.header bytes.now) (headers.header bytes.now).shstrndx + 64 ≤ length bytes.now }
-    ensures { IfOk result (λ v. v.items ≡ parts.form plan.now (original bytes.now layout.now) flat.now undo.now) }
+    requires names { headers.section_offset (headers.header bytes.now)
+        (headers.header bytes.now).shstrndx + 64 ≤ length bytes.now }
+    ensures { IfOk result (λ v. v.items ≡ parts.form plan.now (original bytes.now layout.now)
+        flat.now undo.now) }
 {
     let room = room_for(bytes, plan, undo);
     let mut file = body(alloc, bytes, layout, plan, flat, room)?;

@@ -38,7 +38,8 @@ fn def_front(alloc: Global, number: u64) -> Result<String, AllocError>
 
 /// What stands behind its name.
 fn def_back(alloc: Global, offset: u64) -> Result<String, AllocError>
-    ensures { IfOk result (λ text. string_bytes text ≡ codes " global func " ++ spec.hexadecimal offset ++ codes " 8\n") }
+    ensures { IfOk result (λ text. string_bytes text ≡ codes " global func "
+        ++ spec.hexadecimal offset ++ codes " 8\n") }
 {
     format!(in alloc; " global func {offset:x} 8\n")
 }

@@ -22,7 +22,8 @@ fn push_def(
     offset: u64,
     number: u64,
 ) -> Result<(), AllocError>
-    ensures { OnOk result (string_bytes out.new ≡ string_bytes out.old ++ lines.unless_there before.now number (lines.def_line offset number)) }
+    ensures { OnOk result (string_bytes out.new ≡ string_bytes out.old
+        ++ lines.unless_there before.now number (lines.def_line offset number)) }
 {
     if !before.contains(&number) {
         out.push_str(def_line(alloc, offset, number)?.as_str())?;
@@ -33,7 +34,8 @@ fn push_def(
 /// Adds the lines of functions that are defined, each once, and 8 bytes behind the one of the turn before.
 fn push_defs(alloc: Global, out: &mut String, functions: &[u64]) -> Result<(), AllocError>
     requires { 8 * length functions.now ≤ 2 ^ 32 }
-    ensures { OnOk result (string_bytes out.new ≡ string_bytes out.old ++ lines.def_lines [] 0 functions.now) }
+    ensures { OnOk result (string_bytes out.new ≡ string_bytes out.old
+        ++ lines.def_lines [] 0 functions.now) }
 {
     for turn in 0..functions.len() {
         let offset = 8 * turn as u64;
@@ -49,7 +51,8 @@ fn push_needed(
     before: &[u64],
     library: u64,
 ) -> Result<(), AllocError>
-    ensures { OnOk result (string_bytes out.new ≡ string_bytes out.old ++ lines.unless_there before.now library (lines.needs_line library)) }
+    ensures { OnOk result (string_bytes out.new ≡ string_bytes out.old
+        ++ lines.unless_there before.now library (lines.needs_line library)) }
 {
     if !before.contains(&library) {
         out.push_str(needs_line(alloc, library)?.as_str())?;
@@ -59,7 +62,8 @@ fn push_needed(
 
 /// Adds the lines of needed libraries, each once.
 fn push_needs(alloc: Global, out: &mut String, libraries: &[u64]) -> Result<(), AllocError>
-    ensures { OnOk result (string_bytes out.new ≡ string_bytes out.old ++ lines.needs_lines [] libraries.now) }
+    ensures { OnOk result (string_bytes out.new ≡ string_bytes out.old
+        ++ lines.needs_lines [] libraries.now) }
 {
     for turn in 0..libraries.len() {
         push_needed(alloc, out, &libraries[..turn], libraries[turn])?;

@@ -8,7 +8,8 @@ use std::alloc::{AllocError, Global};
 
 /// Adds the line of a function's symbol, where it has none yet.
 fn push_ref(alloc: Global, out: &mut String, known: &[u64], number: u64) -> Result<(), AllocError>
-    ensures { OnOk result (string_bytes out.new ≡ string_bytes out.old ++ spec.unless_there known.now number (spec.ref_line number)) }
+    ensures { OnOk result (string_bytes out.new ≡ string_bytes out.old
+        ++ spec.unless_there known.now number (spec.ref_line number)) }
 {
     if !known.contains(&number) {
         out.push_str(ref_line(alloc, number)?.as_str())?;
@@ -25,7 +26,8 @@ fn push_by_function(
     place: u64,
     number: u64,
 ) -> Result<(), AllocError>
-    ensures text { OnOk result (string_bytes out.new ≡ string_bytes out.old ++ spec.by_function known.old.items kind.now place number) }
+    ensures text { OnOk result (string_bytes out.new ≡ string_bytes out.old
+        ++ spec.by_function known.old.items kind.now place number) }
     ensures known { OnOk result (known.new.items ≡ known.old.items ++ number ∷ []) }
 {
     push_ref(alloc, out, known, number)?;
@@ -44,7 +46,8 @@ fn push_relocation(
     kind: Kind,
     word: u64,
 ) -> Result<(), AllocError>
-    ensures text { OnOk result (string_bytes out.new ≡ string_bytes out.old ++ spec.relocation known.old.items place kind word) }
+    ensures text { OnOk result (string_bytes out.new ≡ string_bytes out.old
+        ++ spec.relocation known.old.items place kind word) }
     ensures known { OnOk result (known.new.items ≡ spec.known_after known.old.items kind word) }
 {
     let number = word % 1000;
@@ -65,7 +68,8 @@ pub fn push_relocations(
     words: &[u64],
 ) -> Result<(), AllocError>
     requires { place + 8 * length words.now ≤ 2 ^ 32 }
-    ensures { OnOk result (string_bytes out.new ≡ string_bytes out.old ++ spec.relocations functions.items place words.now) }
+    ensures { OnOk result (string_bytes out.new ≡ string_bytes out.old
+        ++ spec.relocations functions.items place words.now) }
 {
     let mut known = functions;
     for turn in 0..words.len() / 2 {

@@ -28,7 +28,8 @@ fn push_libraries(
     generator: &mut Lcg128Xsl64,
     count: u64,
 ) -> Result<(), AllocError>
-    ensures files { OnOk result (spec.seen files.new.items ≡ spec.seen files.old.items ++ map (spec.library count generator.old) (range_with_len 0 count)) }
+    ensures files { OnOk result (spec.seen files.new.items ≡ spec.seen files.old.items
+        ++ map (spec.library count generator.old) (range_with_len 0 count)) }
     ensures generator { OnOk result (generator.new ≡ after (322 * count) generator.old) }
 {
     for index in 0..count {
@@ -50,7 +51,8 @@ fn push_programs(
     count: u64,
 ) -> Result<(), AllocError>
     requires { 0 < libraries }
-    ensures { OnOk result (spec.seen files.new.items ≡ spec.seen files.old.items ++ map (spec.program libraries generator.old) (range_with_len 0 count)) }
+    ensures { OnOk result (spec.seen files.new.items ≡ spec.seen files.old.items
+        ++ map (spec.program libraries generator.old) (range_with_len 0 count)) }
 {
     for index in 0..count {
         let words = draw(alloc, generator, PROGRAM_WORDS)?;

@@ -36,7 +36,8 @@ fn next(table: &Table, index: u32) -> Option<u32>
 /// The jumps of one step.
 fn steps(alloc: Global, table: &Table) -> Result<Vec<Option<u32>>, AllocError>
     requires { HasHeader table.now }
-    ensures { IfOk result (λ v. v.items ≡ map (spec.next table.now) (range_with_len 0 table.now.symbols)) }
+    ensures { IfOk result (λ v. v.items ≡ map (spec.next table.now)
+        (range_with_len 0 table.now.symbols)) }
 {
     (0..table.symbols)
         .map(|index| next(table, index))
@@ -102,7 +103,8 @@ fn all_done(queries: &[Query]) -> bool
 /// Goes all steps of all queries.
 fn answered(alloc: Global, table: &Table, first: Vec<Query>) -> Result<Vec<Query>, AllocError>
     requires header { HasHeader table.now }
-    requires few { (index : ℕ) → index < length first.items → (asked.query_at first.items index).left < 2 ^ 32 }
+    requires few { (index : ℕ) → index < length first.items
+        → (asked.query_at first.items index).left < 2 ^ 32 }
     ensures { IfOk result (λ v. asked.AreAnswered table.now first.items v.items) }
 {
     let mut queries = first;
@@ -180,7 +182,9 @@ fn all_own(
     requires formed { IsWellFormed table.now }
     requires len { length queries.now ≡ length hashes.now }
     ensures len { IfOk result (λ v. length v.items ≡ length hashes.now) }
-    ensures exact { IfOk result (λ v. (index : ℕ) → index < length hashes.now → slice_index_or v.items index false ≡ spec.is_own table.now (slice_index hashes.now index) index (asked.place_at queries.now index)) }
+    ensures exact { IfOk result (λ v. (index : ℕ) → index < length hashes.now
+        → slice_index_or v.items index false ≡ spec.is_own table.now (slice_index hashes.now index)
+        index (asked.place_at queries.now index)) }
 {
     let mut own = Vec::new(alloc);
     for index in 0..hashes.len() {
@@ -203,7 +207,9 @@ fn all_lengths(alloc: Global, table: &Table) -> Result<Vec<u32>, AllocError>
 pub fn found(alloc: Global, table: &Table, hashes: &[u32]) -> Result<Vec<bool>, AllocError>
     requires { IsWellFormed table.now }
     ensures len { IfOk result (λ v. length v.items ≡ length hashes.now) }
-    ensures exact { IfOk result (λ v. (index : ℕ) → index < length hashes.now → slice_index_or v.items index false ≡ is_candidate table.now (slice_index hashes.now index) index) }
+    ensures exact { IfOk result (λ v. (index : ℕ) → index < length hashes.now
+        → slice_index_or v.items index false ≡ is_candidate table.now (slice_index hashes.now index)
+        index) }
 {
     let lengths = all_lengths(alloc, table)?;
     let first = all_queries(alloc, table, &lengths, hashes)?;

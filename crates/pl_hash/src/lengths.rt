@@ -64,7 +64,8 @@ fn note(table: &Table, lengths: &mut [u32], start: Option<u32>, count: u32)
     requires ends { spec.EndsAfter table.now start count }
     ensures known { spec.AreLengths table.now lengths.new }
     ensures start { spec.IsKnown lengths.new start }
-    ensures more { (index : ℕ) → 0 < slice_index lengths.old index → 0 < slice_index lengths.new index }
+    ensures more { (index : ℕ) → 0 < slice_index lengths.old index
+        → 0 < slice_index lengths.new index }
 {
     let mut at = start;
     let mut left = count;

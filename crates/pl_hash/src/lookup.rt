@@ -74,11 +74,13 @@ fn first_matching(table: &Table, hash: u32, start: Option<u32>) -> Option<u32>
 pub fn first(table: &Table, hash: u32) -> Option<u32>
     requires { IsWellFormed table.now }
     ensures value { result ≡ slice_get (spec.candidates table.now hash) 0 }
-    ensures rest { spec.rest_from result (spec.candidates table.now hash) ≡ spec.candidates table.now hash }
+    ensures rest { spec.rest_from result (spec.candidates table.now hash)
+        ≡ spec.candidates table.now hash }
     ensures given { IfSome result (λ index. IsTrue (spec.is_candidate table.now hash index)) }
 
     // Each candidate is a symbol, and is listed once.
-    ensures within { (index : ℕ) → IsTrue (spec.is_candidate table.now hash index) → index < table.now.symbols }
+    ensures within { (index : ℕ) → IsTrue (spec.is_candidate table.now hash index)
+        → index < table.now.symbols }
     ensures once { IsDistinct nat_eq (spec.candidates table.now hash) }
 {
     if !admits(table, hash) {
@@ -94,7 +96,8 @@ pub fn next(table: &Table, hash: u32, index: u32) -> Option<u32>
     requires formed { IsWellFormed table.now }
     requires given { IsTrue (spec.is_candidate table.now hash index) }
     ensures value { result ≡ slice_get (spec.rest_after index (spec.candidates table.now hash)) 0 }
-    ensures rest { spec.rest_from result (spec.candidates table.now hash) ≡ spec.rest_after index (spec.candidates table.now hash) }
+    ensures rest { spec.rest_from result (spec.candidates table.now hash)
+        ≡ spec.rest_after index (spec.candidates table.now hash) }
     ensures given { IfSome result (λ index. IsTrue (spec.is_candidate table.now hash index)) }
 {
     first_matching(table, hash, following(table, index))

@@ -65,7 +65,8 @@ fn if_same<F: OpenFile + Drop>(file: F, looked: &Metadata) -> io::Result<Option<
 impl Entry {
     /// A name of a folder. It fails only where the path is too long.
     pub(crate) fn new(folder: &str, name: &str) -> io::Result<Entry>
-        ensures path { IfOk result (λ entry. entry.path.bytes ≡ (folder.now ++ codes "/") ++ name.now) }
+        ensures path { IfOk result (λ entry. entry.path.bytes ≡ (folder.now ++ codes "/")
+            ++ name.now) }
         ensures fault { IfErr result (λ error. error_kind error ≡ InvalidInput) }
     {
         let mut path = ArrayString::from(folder).map_err(too_long)?;

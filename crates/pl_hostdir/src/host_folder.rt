@@ -47,7 +47,8 @@ where
 
     /// The folder of a path, before any call. It fails only for want of memory.
     pub fn new(rt: R, alloc: Global, path: &str) -> Result<HostFolder<'p, R>, NoMemory>
-        ensures seen { IfOk result (λ folder. ⟦<HostFolder<'p, R> as Folder>⟧.seen folder ≡ unseen 0) }
+        ensures seen { IfOk result (λ folder. ⟦<HostFolder<'p, R> as Folder>⟧.seen folder
+            ≡ unseen 0) }
         ensures path { IfOk result (λ folder. folder_path folder ≡ path.now) }
     {
         Ok(HostFolder {
@@ -62,7 +63,8 @@ where
 
     /// Counts the files that are read and written from now on on a line for people.
     pub fn show(&mut self, progress: &'p Progress)
-        ensures seen { ⟦<HostFolder<'p, R> as Folder>⟧.seen self.new ≡ ⟦<HostFolder<'p, R> as Folder>⟧.seen self.old }
+        ensures seen { ⟦<HostFolder<'p, R> as Folder>⟧.seen self.new
+            ≡ ⟦<HostFolder<'p, R> as Folder>⟧.seen self.old }
         ensures path { folder_path self.new ≡ folder_path self.old }
     {
         self.progress = Some(progress);
@@ -89,7 +91,8 @@ where
     fn stop(&mut self, fault: FirstFault) -> FolderFault
         ensures kind { result ≡ spec.fault_of fault.reason }
         ensures plain { IsPlain result }
-        ensures counted { fault_ending result ≡ Broken → self.new.faults ≡ one_more self.old.faults }
+        ensures counted { fault_ending result ≡ Broken → self.new.faults
+            ≡ one_more self.old.faults }
         ensures count { Counted (is_broken (fault_ending result)) self.old.faults self.new.faults }
     {
         let meaning = fault_of(&fault.reason);
@@ -201,8 +204,10 @@ where
 
     // `names`. In a folder that is locked, what has own names and is no file is cleared away.
     fn list(&self) -> Result<Vec<String>, FirstFault>
-        ensures listed { IfOk result (λ names. All (λ name. is_listed (string_bytes name) ≡ true) names.items) }
-        ensures lengths { IfOk result (λ names. All (λ name. IsNameLength (string_bytes name)) names.items) }
+        ensures listed { IfOk result (λ names. All (λ name. is_listed (string_bytes name) ≡ true)
+            names.items) }
+        ensures lengths { IfOk result (λ names. All (λ name. IsNameLength (string_bytes name))
+            names.items) }
         ensures ascend { IfOk result (λ names. IsSorted string_cmp names.items) }
     {
         let names = list_names(&self.rt, &self.path)?;
@@ -238,7 +243,8 @@ where
     fn names(&mut self, _alloc: Global) -> Result<Vec<String>, FolderFault>
         ensures names { GivesNames result (unseen self.old.faults) (unseen self.new.faults) }
         // It lists no other names, ascending.
-        ensures listed { IfOk result (λ names. All (λ name. is_listed (string_bytes name) ≡ true) names.items) }
+        ensures listed { IfOk result (λ names. All (λ name. is_listed (string_bytes name) ≡ true)
+            names.items) }
         ensures ascend { IfOk result (λ names. IsSorted string_cmp names.items) }
     {
         match self.list() {

@@ -16,7 +16,8 @@ const LOOKS: u32 = 16;
 
 // The bytes of a file that had this length, or the first ones, one more than a file may have: what is left of the file, where it tells it.
 fn read_stored<F: Read + Drop>(alloc: Global, file: F, length: usize) -> io::Result<Vec<u8>>
-    ensures { IfOk result (λ bytes. IfSome (F.remaining file) (λ left. bytes.items ≡ take (STORED + 1) left)) }
+    ensures { IfOk result (λ bytes. IfSome (F.remaining file)
+        (λ left. bytes.items ≡ take (STORED + 1) left)) }
 {
     let mut bytes = Vec::with_capacity(alloc, length.saturating_add(1))?;
     file.take(STORED as u64 + 1).read_to_end(&mut bytes)?;

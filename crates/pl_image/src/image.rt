@@ -53,7 +53,8 @@ impl<'a> Image<'a> {
         patches: Vec<Patch>,
     ) -> Result<Image<'a>, AllocError>
         requires { spec.AreLoaded objects.items }
-        ensures { IfOk result (λ i. i ≡ record { objects = objects.entry.items; patches = patches.items }) }
+        ensures { IfOk result (λ i. i ≡ record
+            { objects = objects.entry.items; patches = patches.items }) }
     {
         let touched = index_patches(alloc, &patches)?;
         let masked = masked_ranges(alloc, &objects)?;
@@ -77,7 +78,8 @@ impl<'a> Image<'a> {
     /// The byte that is shown at an address that an object loads.
     fn shown(&self, touching: &[Touch], below: u8, address: u64) -> u8
         requires { AreTouching self.now.patches touching.now (address / 8) }
-        ensures { result ≡ (if spec.any_masked self.now.objects address then 0 else fold (laid address) below self.now.patches) }
+        ensures { result ≡ (if spec.any_masked self.now.objects address then 0 else fold
+            (laid address) below self.now.patches) }
     {
         if any_has(&self.masked, address) {
             0
@@ -101,7 +103,8 @@ impl<'a> Image<'a> {
     /// Where the masked addresses end that begin with one, which is the address itself where it is not masked.
     fn masked_end(&self, address: u64) -> u64
         ensures after { address ≤ result }
-        ensures masked { (a : ℕ) → address ≤ a → a < result → spec.any_masked self.now.objects a ≡ true }
+        ensures masked { (a : ℕ) → address ≤ a → a < result → spec.any_masked self.now.objects a
+            ≡ true }
     {
         end_at(&self.masked, address)
     }
@@ -109,7 +112,8 @@ impl<'a> Image<'a> {
     /// Whether no byte of the word of a number is masked.
     fn is_shown(&self, number: u64) -> bool
         requires { number < WORDS }
-        ensures { result ≡ true → (a : ℕ) → 8 * number ≤ a → a < 8 * number + 8 → spec.any_masked self.now.objects a ≡ false }
+        ensures { result ≡ true → (a : ℕ) → 8 * number ≤ a → a < 8 * number + 8
+            → spec.any_masked self.now.objects a ≡ false }
     {
         near(&self.masked, 8 * number, 8).len() == 0
     }
@@ -119,7 +123,8 @@ impl<'a> Image<'a> {
         requires own { spec.AreOwn self.now pieces.now }
         requires touching { AreTouching self.now.patches touching.now number }
         requires limit { number < WORDS }
-        ensures { IfSome result (λ word. word ≡ word_in (spec.own_memory self.now pieces.now) (8 * number)) }
+        ensures { IfSome result (λ word. word ≡ word_in (spec.own_memory self.now pieces.now)
+            (8 * number)) }
     {
         if touching.len() > 0 || !self.is_shown(number) {
             return None;
@@ -171,7 +176,8 @@ impl<'a> Image<'a> {
         requires limit { from ≤ WORDS }
         ensures within { (from ≤ result) × (result ≤ WORDS) }
         ensures clear { IsClear (spec.own_memory self.now pieces.now) (8 * from) (8 * result) }
-        ensures found { result < WORDS → (list_any (spec.stores_in result) pieces.now || is_touched self.now.patches result) ≡ true }
+        ensures found { result < WORDS → (list_any (spec.stores_in result) pieces.now || is_touched
+            self.now.patches result) ≡ true }
     {
         next_stored(pieces, from).min(next_touched(&self.touched, from))
     }
@@ -182,7 +188,8 @@ impl<'a> Image<'a> {
         requires limit { from ≤ WORDS }
         ensures within { (from ≤ result) × (result ≤ WORDS) }
         ensures clear { IsClear (spec.own_memory self.now pieces.now) (8 * from) (8 * result) }
-        ensures found { result < WORDS → (list_any (spec.stores_in result) pieces.now || is_touched self.now.patches result) ≡ true }
+        ensures found { result < WORDS → (list_any (spec.stores_in result) pieces.now || is_touched
+            self.now.patches result) ≡ true }
     {
         let number = self.next_content(pieces, from);
         let shown = (self.masked_end(8 * number) / 8).min(WORDS);
@@ -216,7 +223,8 @@ impl<'a> Image<'a> {
 
     /// Adds the lines of all objects.
     fn add_objects<K: Sink>(&self, lines: &mut Lines, sink: &mut K) -> Result<(), Failed>
-        ensures { HasPassed result (spec.text_of self.now) (lines.old.items ++ spec.text_of self.now)
+        ensures { HasPassed result (spec.text_of self.now)
+            (lines.old.items ++ spec.text_of self.now)
             lines.old.items lines.new.items (K.seen sink.old) (K.seen sink.new) }
     {
         for object in &self.objects {

@@ -108,7 +108,8 @@ pub fn load_object<'a>(
     requires { spec.IsPlaced place object.now }
     ensures value { IfOk result (λ loaded. loaded ≡ spec.loaded_at place bytes.now object.now) }
     ensures ascends { IfOk result (λ loaded. ascends 0 loaded.pieces ≡ true) }
-    ensures fits { IfOk result (λ loaded. All (λ l. l.start + l.size ≤ ADDRESS_LIMIT) loaded.mask.loads) }
+    ensures fits { IfOk result (λ loaded. All (λ l. l.start + l.size ≤ ADDRESS_LIMIT)
+        loaded.mask.loads) }
 {
     let pieces = load_pieces(alloc, object, bytes, place)?;
     let mask = load_mask(alloc, object, place)?;

@@ -15,7 +15,8 @@ use std::alloc::{AllocError, Global};
 /// Adds the addresses at which bytes of a table are loaded.
 fn add_table(ranges: &mut Vec<Range>, load: &Load, table: &Range) -> Result<(), AllocError>
     requires { load.now.start + load.now.size ≤ ADDRESS_LIMIT }
-    ensures { OnOk result ((a : ℕ) → list_any (has a) ranges.new.items ≡ (list_any (has a) ranges.old.items || spec.loads_table a load.now table.now)) }
+    ensures { OnOk result ((a : ℕ) → list_any (has a) ranges.new.items
+        ≡ (list_any (has a) ranges.old.items || spec.loads_table a load.now table.now)) }
 {
     let from = table.start.saturating_sub(load.offset);
     let to = table.end.saturating_sub(load.offset).min(load.size);
@@ -32,7 +33,9 @@ fn add_table(ranges: &mut Vec<Range>, load: &Load, table: &Range) -> Result<(), 
 fn add_load(ranges: &mut Vec<Range>, load: &Load, tables: &[Range]) -> Result<(), AllocError>
     requires fits { load.now.start + load.now.size ≤ ADDRESS_LIMIT }
     requires rising { rises 0 tables.now ≡ true }
-    ensures { OnOk result ((a : ℕ) → list_any (has a) ranges.new.items ≡ (list_any (has a) ranges.old.items || list_any (spec.loads_table a load.now) tables.now)) }
+    ensures { OnOk result ((a : ℕ) → list_any (has a) ranges.new.items
+        ≡ (list_any (has a) ranges.old.items || list_any (spec.loads_table a load.now)
+        tables.now)) }
 {
     let near = near(tables, load.offset, load.size);
     for table in near {
@@ -45,7 +48,9 @@ fn add_load(ranges: &mut Vec<Range>, load: &Load, tables: &[Range]) -> Result<()
 fn add_loads(ranges: &mut Vec<Range>, loads: &[Load], tables: &[Range]) -> Result<(), AllocError>
     requires fit { All (λ l. l.start + l.size ≤ ADDRESS_LIMIT) loads.now }
     requires rising { rises 0 tables.now ≡ true }
-    ensures { OnOk result ((a : ℕ) → list_any (has a) ranges.new.items ≡ (list_any (has a) ranges.old.items || list_any (λ l. list_any (spec.loads_table a l) tables.now) loads.now)) }
+    ensures { OnOk result ((a : ℕ) → list_any (has a) ranges.new.items
+        ≡ (list_any (has a) ranges.old.items || list_any
+        (λ l. list_any (spec.loads_table a l) tables.now) loads.now)) }
 {
     for load in loads {
         add_load(ranges, load, tables)?;
@@ -56,7 +61,8 @@ fn add_loads(ranges: &mut Vec<Range>, loads: &[Load], tables: &[Range]) -> Resul
 /// Adds the masked addresses of an object.
 fn add_mask(alloc: Global, ranges: &mut Vec<Range>, mask: &Mask) -> Result<(), AllocError>
     requires { All (λ l. l.start + l.size ≤ ADDRESS_LIMIT) mask.now.loads }
-    ensures { OnOk result ((a : ℕ) → list_any (has a) ranges.new.items ≡ (list_any (has a) ranges.old.items || spec.is_masked mask.now a)) }
+    ensures { OnOk result ((a : ℕ) → list_any (has a) ranges.new.items
+        ≡ (list_any (has a) ranges.old.items || spec.is_masked mask.now a)) }
 {
     let tables = Vec::from_slice(alloc, mask.tables.as_slice())?;
     let tables = apart(alloc, tables)?;
@@ -80,7 +86,8 @@ fn all_masked(alloc: Global, objects: &[Loaded<'_>]) -> Result<Vec<Range>, Alloc
 pub fn masked_ranges(alloc: Global, objects: &[Loaded<'_>]) -> Result<Vec<Range>, AllocError>
     requires { All (λ o. All (λ l. l.start + l.size ≤ ADDRESS_LIMIT) o.mask.loads) objects.now }
     ensures rises { IfOk result (λ v. rises 0 v.items ≡ true) }
-    ensures masked { IfOk result (λ v. (a : ℕ) → list_any (has a) v.items ≡ any_masked objects.now a) }
+    ensures masked { IfOk result (λ v. (a : ℕ) → list_any (has a) v.items
+        ≡ any_masked objects.now a) }
 {
     let ranges = all_masked(alloc, objects)?;
     apart(alloc, ranges)

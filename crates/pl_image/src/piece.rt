@@ -75,8 +75,10 @@ fn stored(piece: &Piece<'_>) -> u64
 
 /// The word at an address, where the piece's file has all its bytes.
 pub fn stored_word(piece: &Piece<'_>, address: u64) -> Option<u64>
-    ensures whole { IfSome result (λ word. (piece.now.start ≤ address) × (address + 8 ≤ piece.now.start + spec.stored piece.now)) }
-    ensures value { IfSome result (λ word. word ≡ word64 (address - piece.now.start) piece.now.bytes) }
+    ensures whole { IfSome result (λ word. (piece.now.start ≤ address)
+        × (address + 8 ≤ piece.now.start + spec.stored piece.now)) }
+    ensures value { IfSome result (λ word. word
+        ≡ word64 (address - piece.now.start) piece.now.bytes) }
 {
     if address < piece.start {
         return None;
@@ -116,7 +118,8 @@ pub fn next_stored(pieces: &[Piece<'_>], from: u64) -> u64
     requires ascending { ascends 0 pieces.now ≡ true }
     requires limit { from ≤ WORDS }
     ensures within { (from ≤ result) × (result ≤ WORDS) }
-    ensures none { (address : ℕ) → 8 * from ≤ address → address < 8 * result → list_any (spec.stores address) pieces.now ≡ false }
+    ensures none { (address : ℕ) → 8 * from ≤ address → address < 8 * result
+        → list_any (spec.stores address) pieces.now ≡ false }
     ensures found { result < WORDS → list_any (spec.stores_in result) pieces.now ≡ true }
 {
     let address = 8 * from;
@@ -140,7 +143,8 @@ fn end(piece: &Piece<'_>) -> u64
 pub fn pieces_begin(pieces: &[Piece<'_>]) -> u64
     requires { ascends 0 pieces.now ≡ true }
     ensures limit { result ≤ WORDS }
-    ensures before { (address : ℕ) → address < 8 * result → list_any (memory.lies address) pieces.now ≡ false }
+    ensures before { (address : ℕ) → address < 8 * result
+        → list_any (memory.lies address) pieces.now ≡ false }
 {
     if pieces.is_empty() {
         return 0;
@@ -152,7 +156,8 @@ pub fn pieces_begin(pieces: &[Piece<'_>]) -> u64
 pub fn pieces_end(pieces: &[Piece<'_>]) -> u64
     requires { ascends 0 pieces.now ≡ true }
     ensures limit { result ≤ WORDS }
-    ensures past { (address : ℕ) → 8 * result ≤ address → list_any (memory.lies address) pieces.now ≡ false }
+    ensures past { (address : ℕ) → 8 * result ≤ address → list_any (memory.lies address) pieces.now
+        ≡ false }
 {
     if pieces.is_empty() {
         return 0;

@@ -20,7 +20,8 @@ fn sort_ranges(ranges: &mut Vec<Range>)
 /// Ranges that ascend and do not overlap, with the same addresses. The time grows as `n log n`.
 pub fn apart(alloc: Global, mut ranges: Vec<Range>) -> Result<Vec<Range>, AllocError>
     ensures rises { IfOk result (λ v. spec.rises 0 v.items ≡ true) }
-    ensures same { IfOk result (λ v. (a : ℕ) → list_any (has a) v.items ≡ list_any (has a) ranges.items) }
+    ensures same { IfOk result (λ v. (a : ℕ) → list_any (has a) v.items
+        ≡ list_any (has a) ranges.items) }
 {
     sort_ranges(&mut ranges);
     let kept = merged(alloc, &ranges)?;
@@ -56,7 +57,8 @@ fn starts_before(range: &Range, from: u64, size: u64) -> bool
 /// The ranges, of some that rise, that begin before the end of so many addresses and end after their begin.
 pub fn near(ranges: &[Range], from: u64, size: u64) -> &[Range]
     requires { spec.rises 0 ranges.now ≡ true }
-    ensures same { (a : ℕ) → from ≤ a → a < from + size → list_any (has a) result.now ≡ list_any (has a) ranges.now }
+    ensures same { (a : ℕ) → from ≤ a → a < from + size → list_any (has a) result.now
+        ≡ list_any (has a) ranges.now }
     ensures only { All (λ range. (from < range.end) × (range.start < from + size)) result.now }
 {
     let first = ranges.partition_point(|range| range.end <= from);

@@ -45,7 +45,8 @@ fn add_touches(touched: &mut Vec<Touch>, patches: &[Patch], index: usize) -> Res
 
 /// The words that patches touch, in the order of the patches.
 fn touches(alloc: Global, patches: &[Patch]) -> Result<Vec<Touch>, AllocError>
-    ensures { IfOk result (λ touched. spec.IsIndexOf patches.now touched.items (length patches.now)) }
+    ensures { IfOk result (λ touched. spec.IsIndexOf patches.now touched.items
+        (length patches.now)) }
 {
     let mut touched = Vec::new(alloc);
     for index in 0..patches.len() {
@@ -67,7 +68,8 @@ pub fn index_patches(alloc: Global, patches: &[Patch]) -> Result<Vec<Touch>, All
 fn before(touched: &[Touch], number: u64) -> usize
     requires { IsNonDecreasingBy (λ t. t.number) touched.now }
     ensures bound { result ≤ length touched.now }
-    ensures point { IsPartitionPoint (λ t. nat_lt t.number number ≡ true) (λ t. nat_lt t.number number ≡ false) touched.now result }
+    ensures point { IsPartitionPoint (λ t. nat_lt t.number number ≡ true)
+        (λ t. nat_lt t.number number ≡ false) touched.now result }
 {
     touched.partition_point(|touch| touch.number < number)
 }
@@ -103,7 +105,8 @@ pub fn next_touched(touched: &[Touch], from: u64) -> u64
     requires rising { IsNonDecreasingBy (λ t. t.number) touched.now }
     requires limit { from ≤ WORDS }
     ensures within { (from ≤ result) × (result ≤ WORDS) }
-    ensures none { (n : ℕ) → from ≤ n → n < result → list_any (λ t. t.number == n) touched.now ≡ false }
+    ensures none { (n : ℕ) → from ≤ n → n < result → list_any (λ t. t.number == n) touched.now
+        ≡ false }
     ensures found { result < WORDS → list_any (λ t. t.number == result) touched.now ≡ true }
 {
     let index = before(touched, from);

@@ -21,7 +21,8 @@ pub fn reach(alloc: Global, scope: &Scope<'_>) -> Result<Reach, NoMemory>
     requires walk { IsWalk scope.now }
     ensures rows { IfOk result (λ reach. reach.rows ≡ all_reached (graph scope.now)) }
     ensures right { IfOk result (λ reach. is_right (graph scope.now) reach.rows ≡ true) }
-    ensures numbered { IfOk result (λ reach. list_all (is_numbered (length scope.now)) reach.rows ≡ true) }
+    ensures numbered { IfOk result (λ reach. list_all (is_numbered (length scope.now)) reach.rows
+        ≡ true) }
     ensures relation { IfOk result (λ reach. AreReaches scope.now reach.rows) }
 {
     let graph = graph_of(alloc, scope.members())?;

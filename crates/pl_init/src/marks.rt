@@ -16,7 +16,8 @@ pub fn no_marks() -> [bool; MAX_MEMBERS]
 pub fn mark(marks: &mut [bool], member: u32)
     requires small { member < MAX_MEMBERS }
     requires long { length marks.old ≡ MAX_MEMBERS }
-    ensures { (test : ℕ → Bool) → AreMarks marks.old test → AreMarks marks.new (λ k. k == member || test k) }
+    ensures { (test : ℕ → Bool) → AreMarks marks.old test
+        → AreMarks marks.new (λ k. k == member || test k) }
 {
     marks[member as usize] = true;
 }

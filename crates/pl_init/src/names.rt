@@ -39,7 +39,8 @@ pub fn numbers_of(
     needed: &[Text],
 ) -> Result<Rows<u32>, NoMemory>
     requires { length names.now.keys ≤ MAX_MEMBERS }
-    ensures { IfOk result (λ numbers. numbers ≡ filter_map (spec.number (map string_bytes names.now.keys)) needed.now) }
+    ensures { IfOk result (λ numbers. numbers ≡ filter_map
+        (spec.number (map string_bytes names.now.keys)) needed.now) }
 {
     let mut numbers = Rows::new(alloc);
     for name in needed {

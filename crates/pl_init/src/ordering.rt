@@ -31,7 +31,8 @@ fn is_next(table: &Table<'_>, count: u32, stands: &[bool], member: u32) -> bool
 fn next_of(table: &Table<'_>, count: u32, stands: &[bool]) -> Option<u32>
     requires few { count ≤ MAX_MEMBERS }
     requires long { length stands.now ≡ MAX_MEMBERS }
-    ensures value { result ≡ find (is_marked_next table.now.rows.now count stands.now) (range_with_len 0 count) }
+    ensures value { result ≡ find (is_marked_next table.now.rows.now count stands.now)
+        (range_with_len 0 count) }
     ensures small { IfSome result (λ member. member < count) }
 {
     (0..count).find(|member| is_next(table, count, stands, *member))

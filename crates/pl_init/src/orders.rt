@@ -40,7 +40,8 @@ pub fn order(alloc: Global, scope: &Scope<'_>, reach: &Reach) -> Result<Vec<u32>
     ensures printed { IfOk result (λ order. IsPrinted scope.now order.items) }
     ensures lawful { IfOk result (λ order. IsLawful scope.now order.items) }
     // the same, as it is computed from the rows
-    ensures rows { IfOk result (λ order. order.items ≡ ordered reach.now.rows (length scope.now) (length scope.now) []) }
+    ensures rows { IfOk result (λ order. order.items
+        ≡ ordered reach.now.rows (length scope.now) (length scope.now) []) }
 {
     let table = table_of(scope, reach);
     Ok(ordered(alloc, &table, scope.count())?)

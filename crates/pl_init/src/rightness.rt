@@ -54,7 +54,8 @@ fn is_step(graph: &[Rows<u32>], seen: &[bool], row: &ReachRow) -> bool
     requires graph { IsGraph graph.now }
     requires numbered { spec.is_numbered (length graph.now) row.now ≡ true }
     requires long { length seen.now ≡ MAX_MEMBERS }
-    ensures { (before : List Row) → AreMarks seen.now (is_seen row.now.from before) → result ≡ spec.is_step graph.now row.now.from before row.now }
+    ensures { (before : List Row) → AreMarks seen.now (is_seen row.now.from before) → result
+        ≡ spec.is_step graph.now row.now.from before row.now }
 {
     !seen[row.to as usize] && seen[row.via as usize] && is_needed(graph, row.via, row.to)
 }
@@ -65,7 +66,8 @@ fn are_steps(graph: &[Rows<u32>], seen: &mut [bool], member: u32, rows: &[ReachR
     requires numbered { list_all (spec.is_numbered (length graph.now)) rows.now ≡ true }
     requires seen { AreMarks seen.old (is_seen member []) }
     ensures value { result ≡ spec.are_steps graph.now member [] (spec.rows_of rows.now member) }
-    ensures seen { OnTrue result (AreMarks seen.new (is_seen member (spec.rows_of rows.now member))) }
+    ensures seen { OnTrue result (AreMarks seen.new
+        (is_seen member (spec.rows_of rows.now member))) }
 {
     for row in rows {
         if row.from == member {
@@ -121,7 +123,8 @@ fn is_right_at(graph: &[Rows<u32>], rows: &[ReachRow], member: u32) -> bool
 fn are_right(graph: &[Rows<u32>], rows: &[ReachRow]) -> bool
     requires graph { IsGraph graph.now }
     requires numbered { list_all (spec.is_numbered (length graph.now)) rows.now ≡ true }
-    ensures { result ≡ list_all (spec.is_right_at graph.now rows.now) (range_with_len 0 (length graph.now)) }
+    ensures { result ≡ list_all (spec.is_right_at graph.now rows.now)
+        (range_with_len 0 (length graph.now)) }
 {
     let count = graph.len() as u32;
     (0..count).all(|member| is_right_at(graph, rows, member))

@@ -24,7 +24,8 @@ fn name_at<'a>(members: &'a [Member<'_>], member: u32) -> &'a str
 #[tactic(auto, unfolding(crate::specs::OrderText::init_line))]
 fn init_line(alloc: Global, members: &[Member<'_>], member: u32) -> Result<String, AllocError>
     requires { member < length (walked members.now) }
-    ensures { IfOk result (λ text. string_bytes text ≡ spec.init_line (names (walked members.now)) member) }
+    ensures { IfOk result (λ text. string_bytes text
+        ≡ spec.init_line (names (walked members.now)) member) }
 {
     let name = name_at(members, member);
     format!(in alloc; "init {name}\n")
@@ -33,7 +34,8 @@ fn init_line(alloc: Global, members: &[Member<'_>], member: u32) -> Result<Strin
 #[tactic(auto, unfolding(crate::specs::OrderText::reach_line))]
 fn reach_line(alloc: Global, members: &[Member<'_>], row: &ReachRow) -> Result<String, AllocError>
     requires { is_numbered (length (walked members.now)) row.now ≡ true }
-    ensures { IfOk result (λ text. string_bytes text ≡ spec.reach_line (names (walked members.now)) row.now) }
+    ensures { IfOk result (λ text. string_bytes text
+        ≡ spec.reach_line (names (walked members.now)) row.now) }
 {
     let (from, to, via) = (
         name_at(members, row.from),
@@ -50,7 +52,8 @@ fn push_inits(
     order: &[u32],
 ) -> Result<(), AllocError>
     requires { All (λ m. m < length (walked members.now)) order.now }
-    ensures { OnOk result (out.new.items ≡ out.old.items ++ flat_map (spec.init_line (names (walked members.now))) order.now) }
+    ensures { OnOk result (out.new.items ≡ out.old.items
+        ++ flat_map (spec.init_line (names (walked members.now))) order.now) }
 {
     for member in order {
         let line = init_line(alloc, members, *member)?;
@@ -66,7 +69,8 @@ fn push_rows(
     rows: &[ReachRow],
 ) -> Result<(), AllocError>
     requires { All (λ r. is_numbered (length (walked members.now)) r ≡ true) rows.now }
-    ensures { OnOk result (out.new.items ≡ out.old.items ++ flat_map (spec.reach_line (names (walked members.now))) rows.now) }
+    ensures { OnOk result (out.new.items ≡ out.old.items
+        ++ flat_map (spec.reach_line (names (walked members.now))) rows.now) }
 {
     for row in rows {
         let line = reach_line(alloc, members, row)?;
@@ -85,7 +89,8 @@ pub fn order_text(
 ) -> Result<Vec<u8>, NoMemory>
     requires order { AreMembers scope.now order.now }
     requires rows { list_all (is_numbered (length scope.now)) rows.now ≡ true }
-    ensures { IfOk result (λ text. text.items ≡ spec.order_text (names scope.now) order.now rows.now) }
+    ensures { IfOk result (λ text. text.items ≡ spec.order_text (names scope.now) order.now
+        rows.now) }
 {
     let mut text = Vec::new(alloc);
     let members = scope.members();

@@ -15,7 +15,8 @@ use pl_stage::Held;
 /// Does a row that puts.
 fn put_file<D: Folder>(held: &mut Held<D>, from: &FileName, to: &FileName) -> Result<(), Failed>
     requires { IsThere (D.seen held.old.folder) (name_text from.now) }
-    ensures calls { Calls (ends result) (StepsOn (steps.Put from.now to.now)) (D.seen held.old.folder)
+    ensures calls { Calls (ends result) (StepsOn (steps.Put from.now to.now))
+        (D.seen held.old.folder)
         (D.seen held.new.folder) }
     ensures real { RunsFirmly Done (D.seen held.old.folder)
         (D.seen held.new.folder) }

@@ -77,7 +77,8 @@ fn sort_hashes(hashes: &mut Vec<u32>)
 fn before(hashes: &[u32], hash: u32) -> usize
     requires { IsNonDecreasingBy (λ h. h) hashes.now }
     ensures bound { result ≤ length hashes.now }
-    ensures point { IsPartitionPoint (λ h. nat_lt h hash ≡ true) (λ h. nat_lt h hash ≡ false) hashes.now result }
+    ensures point { IsPartitionPoint (λ h. nat_lt h hash ≡ true)
+        (λ h. nat_lt h hash ≡ false) hashes.now result }
 {
     hashes.partition_point(|other| *other < hash)
 }

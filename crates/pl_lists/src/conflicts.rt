@@ -67,9 +67,11 @@ pub fn read_conflicts(alloc: Global, table: &[u8]) -> Result<Rows<ConflictRow>, 
     // What is read is spelled so.
     ensures found { IfOk result (conflicts.AreConflictsOf table.now) }
     // What is spelled so is read, unless there is no memory.
-    ensures only { (rows : List ConflictRow) → conflicts.AreConflictsOf table.now rows → Answers spec.is_memory result (Ok rows) }
+    ensures only { (rows : List ConflictRow) → conflicts.AreConflictsOf table.now rows
+        → Answers spec.is_memory result (Ok rows) }
     // No bytes spell two lists of rows.
-    ensures unique { (rows others : List ConflictRow) → conflicts.AreConflictsOf table.now rows → conflicts.AreConflictsOf table.now others → rows ≡ others }
+    ensures unique { (rows others : List ConflictRow) → conflicts.AreConflictsOf table.now rows
+        → conflicts.AreConflictsOf table.now others → rows ≡ others }
     ensures exact { Answers spec.is_memory result (spec.conflicts_of table.now) }
 {
     conflicts_of(alloc, table)
@@ -88,7 +90,8 @@ fn push_conflict(table: &mut Vec<u8>, row: &ConflictRow) -> Result<(), AllocErro
 /// The table of conflict rows. Where the addresses ascend strictly, it is their one spelling, which `read_conflicts` reads.
 pub fn write_conflicts(alloc: Global, rows: &[ConflictRow]) -> Result<Vec<u8>, NoMemory>
     ensures table { IfOk result (λ table. table.items ≡ conflicts.conflicts_bytes rows.now) }
-    ensures spelled { IfOk result (λ table. conflicts.are_conflicts rows.now ≡ true → conflicts.AreConflictsOf table.items rows.now) }
+    ensures spelled { IfOk result (λ table. conflicts.are_conflicts rows.now ≡ true
+        → conflicts.AreConflictsOf table.items rows.now) }
 {
     let mut table = Vec::new(alloc);
     for row in rows {

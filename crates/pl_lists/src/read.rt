@@ -136,9 +136,11 @@ pub fn read_list(alloc: Global, table: &[u8], strings: &[u8]) -> Result<Rows<Lis
     // What is read is spelled so.
     ensures found { IfOk result (lists.IsListOf table.now strings.now) }
     // What is spelled so is read, unless there is no memory.
-    ensures only { (rows : List ListRow) → lists.IsListOf table.now strings.now rows → Answers spec.is_memory result (Ok rows) }
+    ensures only { (rows : List ListRow) → lists.IsListOf table.now strings.now rows
+        → Answers spec.is_memory result (Ok rows) }
     // No bytes spell two lists.
-    ensures unique { (rows others : List ListRow) → lists.IsListOf table.now strings.now rows → lists.IsListOf table.now strings.now others → rows ≡ others }
+    ensures unique { (rows others : List ListRow) → lists.IsListOf table.now strings.now rows
+        → lists.IsListOf table.now strings.now others → rows ≡ others }
     ensures exact { Answers spec.is_memory result (spec.list_of table.now strings.now) }
 {
     list_of(alloc, table, strings)

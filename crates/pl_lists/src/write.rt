@@ -59,10 +59,13 @@ pub fn write_list(
     strings: &mut Vec<u8>,
 ) -> Result<Vec<u8>, NoMemory>
     requires { length strings.old.items + length (lists.list_strings rows.now) < 2 ^ 32 }
-    ensures table { IfOk result (λ table. table.items ≡ lists.list_bytes (length strings.old.items) rows.now) }
-    ensures strings { OnOk result (strings.new.items ≡ strings.old.items ++ lists.list_strings rows.now) }
+    ensures table { IfOk result (λ table. table.items
+        ≡ lists.list_bytes (length strings.old.items) rows.now) }
+    ensures strings { OnOk result (strings.new.items ≡ strings.old.items
+        ++ lists.list_strings rows.now) }
     ensures same { OnErr result (strings.new.items ≡ strings.old.items) }
-    ensures spelled { IfOk result (λ table. lists.is_list rows.now ≡ true → lists.IsListOf table.items strings.new.items rows.now) }
+    ensures spelled { IfOk result (λ table. lists.is_list rows.now ≡ true
+        → lists.IsListOf table.items strings.new.items rows.now) }
 {
     let table = list_bytes(alloc, strings.len(), rows)?;
     let names = list_strings(alloc, rows)?;

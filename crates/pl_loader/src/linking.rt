@@ -117,8 +117,10 @@ pub fn linked<'a>(
     requires few { length files.now ≤ MAX_MEMBERS }
     requires one_each { length places.now ≡ length files.now }
     requires placed { ArePlaced places.now (parts_of files.now) (objects_of files.now) }
-    ensures ok { IfOk result (λ image. spec.IsLinked image files.now places.now (spec.linked files.now places.now modules.now)) }
-    ensures err { IfErr result (λ fault. Answers is_memory (Err fault) (spec.linked files.now places.now modules.now)) }
+    ensures ok { IfOk result (λ image. spec.IsLinked image files.now places.now
+        (spec.linked files.now places.now modules.now)) }
+    ensures err { IfErr result (λ fault. Answers is_memory (Err fault)
+        (spec.linked files.now places.now modules.now)) }
 {
     let scope = scope(alloc, files)?;
     let parts = parts(alloc, files)?;

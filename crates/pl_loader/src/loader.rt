@@ -44,11 +44,16 @@ impl<'p, F> Loader<'p, F> {
         busy: Option<Range>,
         placer: &'p Placer<F>,
     ) -> Result<Loader<'p, F>, NoMemory>
-        ensures begun { IfOk result (λ loader. loader ≡ record { walk = spec.begun name.now; busy = busy; policy = placer.entry.now }) }
+        ensures begun { IfOk result (λ loader. loader
+            ≡ record { walk = spec.begun name.now; busy = busy; policy = placer.entry.now }) }
         // all files of the walk of the name are still to come
-        ensures begins { IfOk result (λ loader. (file : List ℕ → Result (List ℕ) faults.LoadFault) → spec.IsUnderWay itself file name.now loader.walk) }
+        ensures begins { IfOk result (λ loader. (file : List ℕ → Result (List ℕ) faults.LoadFault)
+            → spec.IsUnderWay itself file name.now loader.walk) }
         // a law over definitions: the whole load means no want of memory where what is told of its files does not
-        ensures never_memory { (choose : policy.Choice) (file : List ℕ → Result (List ℕ) faults.LoadFault) → ((n : List ℕ) → Tells is_memory (file n)) → Tells is_memory (start.load choose busy itself file name.now) }
+        ensures never_memory { (choose : policy.Choice)
+            (file : List ℕ → Result (List ℕ) faults.LoadFault)
+            → ((n : List ℕ) → Tells is_memory (file n))
+            → Tells is_memory (start.load choose busy itself file name.now) }
     {
         Ok(Loader {
             walk: WalkFiles::new(alloc, name)?,
@@ -71,14 +76,25 @@ impl<'p, F> Loader<'p, F> {
     pub fn give(&mut self, alloc: Global, file: Option<Vec<u8>>) -> Result<(), LoadFault>
         requires wanted { IsSome (wants self.old.walk.order) }
         requires size { ForSome file (λ bytes. length bytes.items < 2 ^ 32) }
-        ensures ok { OnOk result (spec.give self.old.walk (option_map (λ bytes. bytes.items) file) ≡ Ok self.new.walk) }
-        ensures err { IfErr result (λ fault. Answers is_memory (Err fault) (spec.give self.old.walk (option_map (λ bytes. bytes.items) file))) }
+        ensures ok { OnOk result (spec.give self.old.walk (option_map (λ bytes. bytes.items) file)
+            ≡ Ok self.new.walk) }
+        ensures err { IfErr result (λ fault. Answers is_memory (Err fault)
+            (spec.give self.old.walk (option_map (λ bytes. bytes.items) file))) }
         ensures same { self.new ≡ record self.old { walk = self.new.walk } }
         ensures unchanged { OnErr result (self.new ≡ self.old) }
         // where the file is the one that the name has, the load goes on with one file more,
-        ensures goes_on { OnOk result ((files : List ℕ → Result (List ℕ) faults.LoadFault) (name wanted : List ℕ) → wants self.old.walk.order ≡ Some wanted → spec.IsFile itself files wanted (option_map (λ bytes. bytes.items) file) → spec.IsUnderWay itself files name self.old.walk → spec.IsUnderWay itself files name self.new.walk) }
+        ensures goes_on { OnOk result ((files : List ℕ → Result (List ℕ) faults.LoadFault)
+            (name wanted : List ℕ) → wants self.old.walk.order ≡ Some wanted
+            → spec.IsFile itself files wanted (option_map (λ bytes. bytes.items) file)
+            → spec.IsUnderWay itself files name self.old.walk
+            → spec.IsUnderWay itself files name self.new.walk) }
         // or the fault is what the whole load means
-        ensures stops { IfErr result (λ fault. (choose : policy.Choice) (busy : Option range.Range) (files : List ℕ → Result (List ℕ) faults.LoadFault) (name wanted : List ℕ) → wants self.old.walk.order ≡ Some wanted → spec.IsFile itself files wanted (option_map (λ bytes. bytes.items) file) → spec.IsUnderWay itself files name self.old.walk → Answers is_memory (Err fault) (start.load choose busy itself files name)) }
+        ensures stops { IfErr result (λ fault. (choose : policy.Choice) (busy : Option range.Range)
+            (files : List ℕ → Result (List ℕ) faults.LoadFault) (name wanted : List ℕ)
+            → wants self.old.walk.order ≡ Some wanted
+            → spec.IsFile itself files wanted (option_map (λ bytes. bytes.items) file)
+            → spec.IsUnderWay itself files name self.old.walk
+            → Answers is_memory (Err fault) (start.load choose busy itself files name)) }
     {
         self.walk.give(alloc, file)
     }
@@ -117,14 +133,29 @@ impl<'p, F: Fn(&Holes, u64, u64) -> Option<u64>> Loader<'p, F> {
         requires chooses { policy.Chooses (F.post self.now.policy) }
         requires given { wants self.now.walk.order ≡ None }
         // by any policy, each library is where it answered
-        ensures ok { IfOk result (start.StartsBy (F.post self.now.policy) self.now.busy self.now.walk.files) }
-        ensures err { IfErr result (start.FailsBy (F.post self.now.policy) self.now.busy self.now.walk.files) }
+        ensures ok { IfOk result (start.StartsBy (F.post self.now.policy) self.now.busy
+            self.now.walk.files) }
+        ensures err { IfErr result (start.FailsBy (F.post self.now.policy) self.now.busy
+            self.now.walk.files) }
         // where the policy is a function, this is what the files start from,
-        ensures exact { IfOk result (λ s. (choose : policy.Choice) → policy.Follows (F.post self.now.policy) choose → start.Starts s (start.started choose self.now.busy self.now.walk.files)) }
-        ensures exact_fault { IfErr result (λ fault. (choose : policy.Choice) → policy.Follows (F.post self.now.policy) choose → Answers is_memory (Err fault) (start.started choose self.now.busy self.now.walk.files)) }
+        ensures exact { IfOk result (λ s. (choose : policy.Choice)
+            → policy.Follows (F.post self.now.policy) choose
+            → start.Starts s (start.started choose self.now.busy self.now.walk.files)) }
+        ensures exact_fault { IfErr result (λ fault. (choose : policy.Choice)
+            → policy.Follows (F.post self.now.policy) choose
+            → Answers is_memory (Err fault) (start.started choose self.now.busy
+            self.now.walk.files)) }
         // and where all files are those that the names have, this is what the name starts from
-        ensures whole { IfOk result (λ s. (choose : policy.Choice) (files : List ℕ → Result (List ℕ) faults.LoadFault) (name : List ℕ) → policy.Follows (F.post self.now.policy) choose → spec.IsUnderWay itself files name self.now.walk → start.Starts s (start.load choose self.now.busy itself files name)) }
-        ensures fails { IfErr result (λ fault. (choose : policy.Choice) (files : List ℕ → Result (List ℕ) faults.LoadFault) (name : List ℕ) → policy.Follows (F.post self.now.policy) choose → spec.IsUnderWay itself files name self.now.walk → Answers is_memory (Err fault) (start.load choose self.now.busy itself files name)) }
+        ensures whole { IfOk result (λ s. (choose : policy.Choice)
+            (files : List ℕ → Result (List ℕ) faults.LoadFault) (name : List ℕ)
+            → policy.Follows (F.post self.now.policy) choose
+            → spec.IsUnderWay itself files name self.now.walk
+            → start.Starts s (start.load choose self.now.busy itself files name)) }
+        ensures fails { IfErr result (λ fault. (choose : policy.Choice)
+            (files : List ℕ → Result (List ℕ) faults.LoadFault) (name : List ℕ)
+            → policy.Follows (F.post self.now.policy) choose
+            → spec.IsUnderWay itself files name self.now.walk
+            → Answers is_memory (Err fault) (start.load choose self.now.busy itself files name)) }
     {
         started(alloc, self.placer(), self.busy(), self.files())
     }

@@ -119,9 +119,12 @@ pub fn own_places(
 ) -> Result<Owned, AllocError>
     requires read { All IsRead libraries.now }
     requires libraries { All IsLibrary libraries.now }
-    ensures places { IfOk result (λ own. own.places ≡ spec.own_places taken.old.items libraries.now) }
-    ensures wants { IfOk result (λ own. own.wants ≡ spec.wants_left libraries.now (spec.own_places taken.old.items libraries.now)) }
-    ensures taken { OnOk result (taken.new.items ≡ taken.old.items ++ spec.own_ranges libraries.now (spec.own_places taken.old.items libraries.now)) }
+    ensures places { IfOk result (λ own. own.places
+        ≡ spec.own_places taken.old.items libraries.now) }
+    ensures wants { IfOk result (λ own. own.wants
+        ≡ spec.wants_left libraries.now (spec.own_places taken.old.items libraries.now)) }
+    ensures taken { OnOk result (taken.new.items ≡ taken.old.items
+        ++ spec.own_ranges libraries.now (spec.own_places taken.old.items libraries.now)) }
 {
     let mut places = Vec::new(alloc);
     let mut wants = Vec::new(alloc);

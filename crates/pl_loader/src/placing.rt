@@ -90,9 +90,12 @@ fn policy_places<F: Fn(&Holes, u64, u64) -> Option<u64>>(
     requires may { policy.MayChoose (F.pre placer.now) }
     requires chooses { policy.Chooses (F.post placer.now) }
     requires wants { All IsWant wants.now }
-    ensures placed { IfOk result (λ starts. PolicyPlaced (F.post placer.now) (left spec.region taken.now) wants.now starts.items) }
-    ensures free { IfOk result (λ starts. spec.IsFree spec.region taken.now wants.now starts.items) }
-    ensures stops { IfErr result (spec.StopsOf (F.post placer.now) (left spec.region taken.now) wants.now) }
+    ensures placed { IfOk result (λ starts. PolicyPlaced (F.post placer.now)
+        (left spec.region taken.now) wants.now starts.items) }
+    ensures free { IfOk result (λ starts. spec.IsFree spec.region taken.now wants.now
+        starts.items) }
+    ensures stops { IfErr result (spec.StopsOf (F.post placer.now) (left spec.region taken.now)
+        wants.now) }
 {
     Ok(place_all(alloc, placer, wants, taken, region())?)
 }
@@ -108,9 +111,12 @@ fn library_places<F: Fn(&Holes, u64, u64) -> Option<u64>>(
     requires may { policy.MayChoose (F.pre placer.now) }
     requires chooses { policy.Chooses (F.post placer.now) }
     requires files { AreFiles (program.now ∷ libraries.now) }
-    ensures placed { IfOk result (λ places. spec.IsPlaced (F.post placer.now) busy (program.now ∷ libraries.now) (0 ∷ places.items)) }
-    ensures free { IfOk result (λ places. spec.IsFree spec.everywhere (spec.taken_first busy program.now) (map spec.want_of libraries.now) places.items) }
-    ensures stops { IfErr result (spec.StopsFiles (F.post placer.now) busy (program.now ∷ libraries.now)) }
+    ensures placed { IfOk result (λ places. spec.IsPlaced (F.post placer.now) busy
+        (program.now ∷ libraries.now) (0 ∷ places.items)) }
+    ensures free { IfOk result (λ places. spec.IsFree spec.everywhere
+        (spec.taken_first busy program.now) (map spec.want_of libraries.now) places.items) }
+    ensures stops { IfErr result (spec.StopsFiles (F.post placer.now) busy
+        (program.now ∷ libraries.now)) }
 {
     let mut taken = taken_first(alloc, busy, program)?;
     let own = own_places(alloc, &mut taken, libraries)?;
@@ -135,7 +141,8 @@ pub fn places<F: Fn(&Holes, u64, u64) -> Option<u64>>(
     // each object ends there at or below the limit of addresses,
     ensures within { IfOk result (λ places. AllZip spec.IsAt files.now places) }
     // and no two objects have an address in common
-    ensures apart { IfOk result (λ places. ArePlaced places (parts_of files.now) (objects_of files.now)) }
+    ensures apart { IfOk result (λ places. ArePlaced places (parts_of files.now)
+        (objects_of files.now)) }
 {
     let [program, libraries @ ..] = files else {
         return Ok(Rows::new(alloc));

@@ -50,8 +50,11 @@ fn add_piece<'a>(
     borne: &Segment,
     place: u64,
 ) -> Result<(), AllocError>
-    requires { is_load segment.now ≡ true → place + (segment.now.vaddr + segment.now.memsz) ≤ ADDRESS_LIMIT }
-    ensures { OnOk result (pieces.new ≡ pieces.old ++ (if is_load segment.now then parts.stands place bytes.now segment.now borne.now ∷ [] else [])) }
+    requires { is_load segment.now ≡ true → place + (segment.now.vaddr + segment.now.memsz) ≤
+        ADDRESS_LIMIT }
+    ensures { OnOk result (pieces.new ≡ pieces.old
+        ++ (if is_load segment.now then parts.stands place bytes.now segment.now borne.now
+        ∷ [] else [])) }
 {
     if segment.is_load() {
         pieces.push(piece(bytes, segment, borne, place))?;
@@ -67,8 +70,10 @@ fn pieces<'a>(
     headers: &[Segment],
     place: u64,
 ) -> Result<Rows<Piece<'a>>, AllocError>
-    requires { All (λ s. is_load s ≡ true → place + (s.vaddr + s.memsz) ≤ ADDRESS_LIMIT) segments.now }
-    ensures { IfOk result (λ pieces. pieces ≡ parts.pieces_of place bytes.now segments.now headers.now) }
+    requires { All (λ s. is_load s ≡ true → place + (s.vaddr + s.memsz) ≤ ADDRESS_LIMIT)
+        segments.now }
+    ensures { IfOk result (λ pieces. pieces ≡ parts.pieces_of place bytes.now segments.now
+        headers.now) }
 {
     let mut pieces = Rows::new(alloc);
     for (segment, borne) in segments.iter().zip(headers) {
@@ -86,9 +91,11 @@ fn standing_file<'a>(
     requires read { IsRead file.now }
     requires marked { spec.IsMarked file.now }
     requires placed { IsPlaced place file.now.object }
-    ensures value { IfOk result (λ loaded. loaded ≡ standing_at place (spec.stored file.now) file.now.object) }
+    ensures value { IfOk result (λ loaded. loaded
+        ≡ standing_at place (spec.stored file.now) file.now.object) }
     ensures ascends { IfOk result (λ loaded. ascends 0 loaded.pieces ≡ true) }
-    ensures fits { IfOk result (λ loaded. All (λ l. l.start + l.size ≤ ADDRESS_LIMIT) loaded.mask.loads) }
+    ensures fits { IfOk result (λ loaded. All (λ l. l.start + l.size ≤ ADDRESS_LIMIT)
+        loaded.mask.loads) }
 {
     let bytes = stored(file);
     let headers = read_segments(alloc, bytes, &header_fields(bytes))?;
@@ -113,7 +120,8 @@ fn standing_files<'a>(
     requires marked { All spec.IsMarked files.now }
     requires one_each { length places.now ≡ length files.now }
     requires placed { ArePlaced places.now (parts_of files.now) (objects_of files.now) }
-    ensures value { IfOk result (λ v. v.items ≡ standing places.now (map spec.stored files.now) (objects_of files.now)) }
+    ensures value { IfOk result (λ v. v.items ≡ standing places.now (map spec.stored files.now)
+        (objects_of files.now)) }
     ensures loaded { IfOk result (λ v. AreLoaded v.items) }
 {
     let mut loaded = Vec::new(alloc);

@@ -45,9 +45,12 @@ fn imaged<'a>(
     requires few { length files.now ≤ MAX_MEMBERS }
     requires one_each { length places.now ≡ length files.now }
     requires placed { ArePlaced places.now (parts_of files.now) (objects_of files.now) }
-    ensures ok { IfOk result (λ image. spec.IsLinked image files.now places.now (spec.imaged files.now places.now modules.now)) }
-    ensures stands { IfOk result (λ image. is_fast_spec files.now places.now ≡ true → image ≡ fast_image files.now places.now) }
-    ensures err { IfErr result (λ fault. Answers is_memory (Err fault) (spec.imaged files.now places.now modules.now)) }
+    ensures ok { IfOk result (λ image. spec.IsLinked image files.now places.now
+        (spec.imaged files.now places.now modules.now)) }
+    ensures stands { IfOk result (λ image. is_fast_spec files.now places.now ≡ true → image
+        ≡ fast_image files.now places.now) }
+    ensures err { IfErr result (λ fault. Answers is_memory (Err fault)
+        (spec.imaged files.now places.now modules.now)) }
 {
     if is_fast(files, places.as_slice()) {
         standing(alloc, files, places.as_slice())

@@ -151,7 +151,8 @@ impl WalkFiles {
         requires read { IsRead file }
         requires loadable { IsLoadable self.old.name file }
         ensures ok { OnOk result (spec.entered self.old file ≡ Ok self.new) }
-        ensures err { IfErr result (λ fault. Answers is_memory (Err fault) (spec.entered self.old file)) }
+        ensures err { IfErr result (λ fault. Answers is_memory (Err fault)
+            (spec.entered self.old file)) }
         ensures unchanged { OnErr result (self.new ≡ self.old) }
     {
         self.files.reserve(1)?;
@@ -164,8 +165,10 @@ impl WalkFiles {
     pub fn give(&mut self, alloc: Global, file: Option<Vec<u8>>) -> Result<(), LoadFault>
         requires wanted { IsSome (wants self.old.order) }
         requires size { ForSome file (λ bytes. length bytes.items < 2 ^ 32) }
-        ensures ok { OnOk result (spec.give self.old (option_map (λ bytes. bytes.items) file) ≡ Ok self.new) }
-        ensures err { IfErr result (λ fault. Answers is_memory (Err fault) (spec.give self.old (option_map (λ bytes. bytes.items) file))) }
+        ensures ok { OnOk result (spec.give self.old (option_map (λ bytes. bytes.items) file)
+            ≡ Ok self.new) }
+        ensures err { IfErr result (λ fault. Answers is_memory (Err fault)
+            (spec.give self.old (option_map (λ bytes. bytes.items) file))) }
         ensures unchanged { OnErr result (self.new ≡ self.old) }
     {
         let Some(wanted) = self.wants() else {

@@ -81,7 +81,8 @@ pub fn move_by(bytes: &mut [u8], object: &Object, slot: u64)
     requires even { slot % 2 ≡ 0 }
     ensures moved { bytes.new ≡ moves.all_moved slot (spec.tables_of object.now) bytes.old }
     // `move_back` undoes it
-    ensures back { IsBytes bytes.old → moves.all_back slot (spec.tables_of object.now) bytes.new ≡ bytes.old }
+    ensures back { IsBytes bytes.old → moves.all_back slot (spec.tables_of object.now) bytes.new
+        ≡ bytes.old }
 {
     move_tables(bytes, &main_tables(object), slot);
     move_symtabs(bytes, symtabs_of(object), slot);
@@ -93,7 +94,8 @@ pub fn move_back(bytes: &mut [u8], object: &Object, slot: u64)
     requires even { slot % 2 ≡ 0 }
     ensures moved { bytes.new ≡ moves.all_back slot (spec.tables_of object.now) bytes.old }
     // `move_by` undoes it
-    ensures forth { IsBytes bytes.old → moves.all_moved slot (spec.tables_of object.now) bytes.new ≡ bytes.old }
+    ensures forth { IsBytes bytes.old → moves.all_moved slot (spec.tables_of object.now) bytes.new
+        ≡ bytes.old }
 {
     move_symtabs_back(bytes, symtabs_of(object), slot);
     move_tables_back(bytes, &main_tables(object), slot);

@@ -104,7 +104,8 @@ fn relocations(
 ) -> Result<Vec<Reloc>, AllocError>
     requires loads { AreLoads (loads segments.now) }
     requires packed { packed.now ≡ spec.packed_places bytes.now segments.now tags.now }
-    ensures { IfOk result (λ v. v.items ≡ spec.relocations bytes.now segments.now tags.now symbols.now) }
+    ensures { IfOk result (λ v. v.items ≡ spec.relocations bytes.now segments.now tags.now
+        symbols.now) }
 {
     let mut all = relocs(alloc, symbols, loaded(bytes, segments, rela_memory(tags)))?;
     let slots = relocs(alloc, symbols, loaded(bytes, segments, jmprel_memory(tags)))?;
@@ -138,7 +139,8 @@ fn layout(
     requires few { length bytes.now < 2 ^ 32 }
     requires symbols { length linking.now.symbols < 2 ^ 32 }
     requires loads { AreLoads (loads headers.now.segments) }
-    ensures { IfOk result (λ layout. layout ≡ spec.layout bytes.now headers.now tags.now linking.now) }
+    ensures { IfOk result (λ layout. layout ≡ spec.layout bytes.now headers.now tags.now
+        linking.now) }
 {
     let segments = headers.segments.as_slice();
     let sections = headers.sections.as_slice();
@@ -167,7 +169,8 @@ fn check(
 ) -> Result<(), Refusal>
     requires few { length linking.now.symbols < 2 ^ 32 }
     requires loads { AreLoads (loads headers.now.segments) }
-    ensures { Answers is_memory result (spec.check bytes.now headers.now dynamic.now.tags linking.now layout.now) }
+    ensures { Answers is_memory result (spec.check bytes.now headers.now dynamic.now.tags
+        linking.now layout.now) }
 {
     let program = headers.header.kind == ET_EXEC;
     let segments = headers.segments.as_slice();
@@ -257,7 +260,8 @@ fn object(
 #[tactic(auto, unfolding(crate::specs::Reads::static_object))]
 fn static_object(alloc: Global, headers: Headers) -> Result<Object, AllocError>
     requires loads { AreLoads (loads headers.segments) }
-    requires windows { All (λ w. end_of w < 2 ^ 64) (tables.static_windows headers.header headers.sections) }
+    requires windows { All (λ w. end_of w < 2 ^ 64)
+        (tables.static_windows headers.header headers.sections) }
     ensures { IfOk result (λ o. o ≡ spec.static_object headers) }
 {
     let Headers {

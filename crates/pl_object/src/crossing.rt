@@ -30,7 +30,8 @@ fn marks_of(alloc: Global, windows: &[Window], is_table: bool) -> Result<Vec<Mar
 }
 
 fn marks(alloc: Global, tables: &[Window], spots: &[Window]) -> Result<Vec<Mark>, AllocError>
-    ensures { IfOk result (λ v. v.items ≡ map (spec.mark true) tables.now ++ map (spec.mark false) spots.now) }
+    ensures { IfOk result (λ v. v.items ≡ map (spec.mark true) tables.now
+        ++ map (spec.mark false) spots.now) }
 {
     let mut marks = marks_of(alloc, tables, true)?;
     let more = marks_of(alloc, spots, false)?;

@@ -83,7 +83,8 @@ fn version_keys(
     program: bool,
     symbols: &[Symbol],
 ) -> Result<Rows<Rows<u8>>, AllocError>
-    ensures { IfOk result (λ keys. keys ≡ spec.keys (spec.version_key (Some versions.now) program) symbols.now) }
+    ensures { IfOk result (λ keys. keys ≡ spec.keys (spec.version_key (Some versions.now) program)
+        symbols.now) }
 {
     let places = first_places(alloc, versions.names.as_slice())?;
     let mut keys = Rows::new(alloc);
@@ -102,7 +103,8 @@ fn named_keys(
     program: bool,
     symbols: &[Symbol],
 ) -> Result<Rows<Rows<u8>>, AllocError>
-    ensures { IfOk result (λ keys. keys ≡ spec.keys (spec.version_key versions.now program) symbols.now) }
+    ensures { IfOk result (λ keys. keys ≡ spec.keys (spec.version_key versions.now program)
+        symbols.now) }
 {
     match versions {
         None => Ok(Rows::new(alloc)),

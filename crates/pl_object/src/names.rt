@@ -76,7 +76,8 @@ pub fn symbols(
     sections: &[Section],
     tags: &[Tag],
 ) -> Result<Rows<Symbol>, Refusal>
-    ensures exact { Answers is_memory result (spec.symbols bytes.now segments.now sections.now tags.now) }
+    ensures exact { Answers is_memory result (spec.symbols bytes.now segments.now sections.now
+        tags.now) }
     ensures few { IfOk result (λ symbols. length symbols ≤ length bytes.now) }
 {
     let table = loaded(bytes, segments, symbols_memory(tags, sections));
@@ -118,7 +119,8 @@ fn table_versions(
     sections: &[Section],
     tags: &[Tag],
 ) -> Result<Versions, Refusal>
-    ensures { Answers is_memory result (spec.table_versions bytes.now segments.now sections.now tags.now) }
+    ensures { Answers is_memory result (spec.table_versions bytes.now segments.now sections.now
+        tags.now) }
 {
     let versions = read_versions(
         alloc,
@@ -157,7 +159,8 @@ fn known_versions(
     symbols: &[Symbol],
 ) -> Result<Option<Versions>, Refusal>
     requires { length symbols.now < 2 ^ 32 }
-    ensures { Answers is_memory result (spec.known_versions bytes.now segments.now sections.now tags.now symbols.now) }
+    ensures { Answers is_memory result (spec.known_versions bytes.now segments.now sections.now
+        tags.now symbols.now) }
 {
     if !has_tag(tags, DT_VERSYM) {
         return Ok(None);
@@ -181,7 +184,8 @@ pub fn versions(
     symbols: &[Symbol],
 ) -> Result<Option<Versions>, Refusal>
     requires { length symbols.now < 2 ^ 32 }
-    ensures { Answers is_memory result (spec.versions bytes.now segments.now sections.now tags.now symbols.now) }
+    ensures { Answers is_memory result (spec.versions bytes.now segments.now sections.now tags.now
+        symbols.now) }
 {
     if bad_version_tags(tags) {
         return Err(Refusal::clause(17));

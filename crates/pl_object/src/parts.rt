@@ -115,7 +115,8 @@ pub fn check_rest(
     symbols: &[Symbol],
     relocs: &[Reloc],
 ) -> Result<(), Refusal>
-    ensures { result ≡ spec.check_rest bytes.now header.now segments.now tags.now symbols.now relocs.now }
+    ensures { result ≡ spec.check_rest bytes.now header.now segments.now tags.now symbols.now
+        relocs.now }
 {
     if has_ifunc(symbols) {
         return Err(Refusal::clause(28));

@@ -184,7 +184,8 @@ fn check_places(
     packed: u32,
     relocs: &[Reloc],
 ) -> Result<(), Refusal>
-    ensures { Answers is_memory result (spec.check_places program loads.now tables.now packed relocs.now) }
+    ensures { Answers is_memory result (spec.check_places program loads.now tables.now packed
+        relocs.now) }
 {
     if any_outside(program, loads, packed, relocs) {
         return Err(Refusal::clause(24));
@@ -213,7 +214,8 @@ pub fn check_relocs(
     relocs: &[Reloc],
 ) -> Result<(), Refusal>
     requires { AreLoads (loads segments.now) }
-    ensures { Answers is_memory result (spec.check_relocs program segments.now tables.now count packed relocs.now) }
+    ensures { Answers is_memory result (spec.check_relocs program segments.now tables.now count
+        packed relocs.now) }
 {
     if let Some(reloc) = first_bad(count, relocs) {
         return Err(Refusal::Clause {

@@ -41,7 +41,8 @@ fn is_above(segment: Option<Segment>) -> bool
 }
 
 fn table_of(alloc: Global, words: &[u8], gnu: bool, symbols: u32) -> Result<Table, AllocError>
-    ensures { IfOk result (λ table. table ≡ record { words = words.now; gnu = gnu; symbols = symbols }) }
+    ensures { IfOk result (λ table. table ≡ record
+        { words = words.now; gnu = gnu; symbols = symbols }) }
 {
     let words = Vec::from_slice(alloc, words)?;
     Ok(Table {
@@ -64,7 +65,8 @@ fn add_hash_table(
     gnu: bool,
     number: u64,
 ) -> Result<(), AllocError>
-    ensures { OnOk result (tables.new ≡ tables.old ++ spec.hash_table bytes.now segments.now sections.now tags.now count gnu number) }
+    ensures { OnOk result (tables.new ≡ tables.old
+        ++ spec.hash_table bytes.now segments.now sections.now tags.now count gnu number) }
 {
     if has_tag(tags, number) {
         let memory = section_memory(tags, sections, number);
@@ -83,7 +85,8 @@ pub fn hash_tables(
     tags: &[Tag],
     count: u32,
 ) -> Result<Rows<Table>, AllocError>
-    ensures { IfOk result (λ tables. tables ≡ spec.hash_tables bytes.now segments.now sections.now tags.now count) }
+    ensures { IfOk result (λ tables. tables ≡ spec.hash_tables bytes.now segments.now sections.now
+        tags.now count) }
 {
     let mut tables = Rows::new(alloc);
     add_hash_table(
@@ -119,7 +122,8 @@ fn defines(symbol: &Symbol) -> bool
 
 /// The hashes of the symbols' names that a table goes by.
 fn hashes(alloc: Global, table: &Table, symbols: &[Symbol]) -> Result<Vec<u32>, AllocError>
-    ensures { IfOk result (λ v. v.items ≡ map (λ s. candidates.name_hash table.now s.name) symbols.now) }
+    ensures { IfOk result (λ v. v.items ≡ map (λ s. candidates.name_hash table.now s.name)
+        symbols.now) }
 {
     symbols
         .iter()
@@ -129,7 +133,8 @@ fn hashes(alloc: Global, table: &Table, symbols: &[Symbol]) -> Result<Vec<u32>, 
 
 fn is_unfound(found: &[bool], index: usize, symbols: &[Symbol]) -> bool
     requires { length found.now ≡ length symbols.now }
-    ensures { result ≡ finding.is_unfound (slice_index_or found.now index false) (slice_get symbols.now index) }
+    ensures { result ≡ finding.is_unfound (slice_index_or found.now index false)
+        (slice_get symbols.now index) }
 {
     match symbols.get(index) {
         None => false,
@@ -139,7 +144,8 @@ fn is_unfound(found: &[bool], index: usize, symbols: &[Symbol]) -> bool
 
 fn any_unfound(found: &[bool], symbols: &[Symbol]) -> bool
     requires { length found.now ≡ length symbols.now }
-    ensures { result ≡ list_any (λ index. finding.is_unfound (slice_index_or found.now index false) (slice_get symbols.now index)) (range_with_len 0 (length symbols.now)) }
+    ensures { result ≡ list_any (λ index. finding.is_unfound (slice_index_or found.now index false)
+        (slice_get symbols.now index)) (range_with_len 0 (length symbols.now)) }
 {
     (0..symbols.len()).any(|index| is_unfound(found, index, symbols))
 }
@@ -218,7 +224,8 @@ pub fn check_symbols(
     symbols: &[Symbol],
 ) -> Result<(), Refusal>
     requires { length symbols.now < 2 ^ 32 }
-    ensures { Answers is_memory result (spec.check_symbols program segments.now tables.now versions.now symbols.now) }
+    ensures { Answers is_memory result (spec.check_symbols program segments.now tables.now
+        versions.now symbols.now) }
 {
     if base_not_zero(program, segments) {
         return Err(Refusal::clause(20));

@@ -99,7 +99,8 @@ fn tables_overlap(
     sections: &[Section],
     tags: &[Tag],
 ) -> Result<bool, AllocError>
-    ensures { IfOk result (λ b. b ≡ spec.tables_overlap header.now segments.now sections.now tags.now) }
+    ensures { IfOk result (λ b. b ≡ spec.tables_overlap header.now segments.now sections.now
+        tags.now) }
 {
     let windows = main_windows(alloc, header, segments, sections, tags)?;
     any_share(alloc, &windows)
@@ -198,7 +199,8 @@ fn misplaced_relr(
     sections: &[Section],
     tags: &[Tag],
 ) -> Result<bool, AllocError>
-    ensures { IfOk result (λ b. b ≡ spec.misplaced_relr header.now segments.now sections.now tags.now) }
+    ensures { IfOk result (λ b. b ≡ spec.misplaced_relr header.now segments.now sections.now
+        tags.now) }
 {
     let memory = relr_memory(tags);
     let main = main_windows(alloc, header, segments, sections, tags)?;
@@ -242,7 +244,8 @@ fn bad_packed(
     tags: &[Tag],
 ) -> Result<bool, AllocError>
     requires { length bytes.now < 2 ^ 32 }
-    ensures { IfOk result (λ b. b ≡ spec.bad_packed bytes.now header.now segments.now sections.now tags.now) }
+    ensures { IfOk result (λ b. b ≡ spec.bad_packed bytes.now header.now segments.now sections.now
+        tags.now) }
 {
     if bad_relr_tags(tags) || misplaced_relr(alloc, header, segments, sections, tags)? {
         return Ok(true);
@@ -261,7 +264,8 @@ pub fn check_tables(
     tags: &[Tag],
 ) -> Result<(), Refusal>
     requires { length bytes.now < 2 ^ 32 }
-    ensures { Answers is_memory result (spec.check_tables bytes.now header.now segments.now sections.now tags.now) }
+    ensures { Answers is_memory result (spec.check_tables bytes.now header.now segments.now
+        sections.now tags.now) }
 {
     if bad_tables(alloc, header, segments, sections, tags)? {
         return Err(Refusal::clause(12));

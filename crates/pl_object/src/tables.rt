@@ -67,7 +67,8 @@ pub fn main_windows(
     sections: &[Section],
     tags: &[Tag],
 ) -> Result<Vec<Window>, AllocError>
-    ensures { IfOk result (λ v. v.items ≡ spec.main_windows header.now segments.now sections.now tags.now) }
+    ensures { IfOk result (λ v. v.items ≡ spec.main_windows header.now segments.now sections.now
+        tags.now) }
 {
     let main = [
         header_window(),
@@ -116,7 +117,8 @@ pub fn link_windows(
     sections: &[Section],
     tags: &[Tag],
 ) -> Result<Vec<Window>, AllocError>
-    ensures { IfOk result (λ v. v.items ≡ spec.link_windows header.now segments.now sections.now tags.now) }
+    ensures { IfOk result (λ v. v.items ≡ spec.link_windows header.now segments.now sections.now
+        tags.now) }
 {
     let named = file_windows(alloc, segments, &tables_memory(tags, sections))?;
     let mut windows = Vec::from_array(

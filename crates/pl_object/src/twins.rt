@@ -52,7 +52,8 @@ fn is_definer_entry(program: bool, symbols: &[Symbol], entry: &Entry) -> bool
 /// The definers.
 fn entries(alloc: Global, program: bool, symbols: &[Symbol]) -> Result<Vec<Entry>, AllocError>
     requires { length symbols.now < 2 ^ 32 }
-    ensures { IfOk result (λ v. v.items ≡ filter (spec.is_definer_entry program symbols.now) (map (spec.entry_of symbols.now) (range_with_len 0 (length symbols.now)))) }
+    ensures { IfOk result (λ v. v.items ≡ filter (spec.is_definer_entry program symbols.now)
+        (map (spec.entry_of symbols.now) (range_with_len 0 (length symbols.now)))) }
 {
     (0..symbols.len())
         .map(|index| entry_of(symbols, index))
@@ -86,7 +87,8 @@ pub fn version_name(versions: &Option<Versions>, word: u16) -> Option<&[u8]>
 }
 
 fn is_same_name(versions: &Option<Versions>, word: u16, other: u16) -> bool
-    ensures { result ≡ clauses.is_same_name (clauses.version_name versions.now word) (clauses.version_name versions.now other) }
+    ensures { result ≡ clauses.is_same_name (clauses.version_name versions.now word)
+        (clauses.version_name versions.now other) }
 {
     let Some(name) = version_name(versions, word) else {
         return false;
@@ -143,7 +145,8 @@ fn meets_run(
     entry: &Entry,
     others: &[Entry],
 ) -> bool
-    ensures { result ≡ runs.meets_run (spec.are_twins versions.now program symbols.now) spec.key entry.now others.now }
+    ensures { result ≡ runs.meets_run (spec.are_twins versions.now program symbols.now) spec.key
+        entry.now others.now }
 {
     for other in others {
         if other.hash != entry.hash {
@@ -163,7 +166,8 @@ fn any_run(
     symbols: &[Symbol],
     entries: &[Entry],
 ) -> bool
-    ensures { result ≡ runs.any_run (spec.are_twins versions.now program symbols.now) spec.key entries.now }
+    ensures { result ≡ runs.any_run (spec.are_twins versions.now program symbols.now) spec.key
+        entries.now }
 {
     for index in 0..entries.len() {
         if meets_run(

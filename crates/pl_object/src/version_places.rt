@@ -65,7 +65,8 @@ fn row_of<'a>(
     word: u16,
 ) -> Option<&'a VersionName>
     requires { spec.ArePlaces versions.now.names places.now }
-    ensures { option_map (λ row. row.now) result ≡ find (spec.has_index (fields.index_of word)) versions.now.names }
+    ensures { option_map (λ row. row.now) result
+        ≡ find (spec.has_index (fields.index_of word)) versions.now.names }
 {
     row_at(
         versions.names.as_slice(),

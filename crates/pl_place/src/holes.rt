@@ -46,7 +46,8 @@ impl Holes {
     /// The end of the highest hole, 0 where there is none. What fits ends there at most.
     pub fn end(&self) -> u64
         ensures value { result ≡ spec.greatest_end self.now }
-        ensures most { (span start : ℕ) → fits_at self.now span start ≡ true → start + span ≤ result }
+        ensures most { (span start : ℕ) → fits_at self.now span start ≡ true
+            → start + span ≤ result }
     {
         greatest_end(self.rows())
     }
@@ -85,7 +86,8 @@ fn holes_left(alloc: Global, region: Range, busy: &[Range]) -> Result<Holes, All
 /// The holes of a region beside ranges that are busy. The ranges may overlap, and lie outside of the region.
 pub fn left(alloc: Global, region: Range, busy: &[Range]) -> Result<Holes, AllocError>
     ensures value { IfOk result (λ holes. holes ≡ spec.left region busy.now) }
-    ensures free { IfOk result (λ holes. (address : ℕ) → is_free address holes ≡ (has address region && not (is_free address busy.now))) }
+    ensures free { IfOk result (λ holes. (address : ℕ) → is_free address holes
+        ≡ (has address region && not (is_free address busy.now))) }
 {
     holes_left(alloc, region, busy)
 }

@@ -21,7 +21,9 @@ fn place_one<F: Fn(&Holes, u64, u64) -> Option<u64>>(
     requires may { policy.MayChoose (F.pre placer.now) }
     requires chooses { policy.Chooses (F.post placer.now) }
     requires want { spec.IsWant want.now }
-    ensures some { IfSome result (λ range. (range ≡ spec.range_of want.now range.start) × (range.start < range.end) × spec.Chose (F.post placer.now) holes.now want.now (Some range.start)) }
+    ensures some { IfSome result (λ range. (range ≡ spec.range_of want.now range.start)
+        × (range.start < range.end) × spec.Chose (F.post placer.now) holes.now want.now
+        (Some range.start)) }
     ensures none { IfNone result (spec.Chose (F.post placer.now) holes.now want.now None) }
 {
     let start = placer.place(holes, want.span, want.align)?;
@@ -39,7 +41,8 @@ fn placed<F: Fn(&Holes, u64, u64) -> Option<u64>>(
     requires may { policy.MayChoose (F.pre placer.now) }
     requires chooses { policy.Chooses (F.post placer.now) }
     requires wants { All spec.IsWant wants.now }
-    ensures places { IfOk result (λ starts. spec.ArePlaced (F.post placer.now) free wants.now starts.items) }
+    ensures places { IfOk result (λ starts. spec.ArePlaced (F.post placer.now) free wants.now
+        starts.items) }
     ensures fault { IfErr result (spec.IsFault (F.post placer.now) free wants.now) }
 {
     let mut holes = free;
@@ -74,16 +77,21 @@ pub fn place_all<F: Fn(&Holes, u64, u64) -> Option<u64>>(
     requires chooses { policy.Chooses (F.post placer.now) }
     requires wants { All spec.IsWant wants.now }
     // Each place is the policy's answer for the holes that are left.
-    ensures places { IfOk result (λ starts. spec.ArePlaced (F.post placer.now) (left region busy.now) wants.now starts.items) }
+    ensures places { IfOk result (λ starts. spec.ArePlaced (F.post placer.now)
+        (left region busy.now) wants.now starts.items) }
     // Each place is aligned, and lies whole in a hole of the region beside the busy ranges,
-    ensures fit { IfOk result (λ starts. spec.AllFit (left region busy.now) wants.now starts.items) }
+    ensures fit { IfOk result (λ starts. spec.AllFit (left region busy.now) wants.now
+        starts.items) }
     // so each of its addresses is in the region and in no busy range.
     ensures free { IfOk result (λ starts. spec.AllFree region busy.now wants.now starts.items) }
     // No two places share an address.
     ensures apart { IfOk result (λ starts. spec.AreApart wants.now starts.items) }
-    ensures fault { IfErr result (spec.IsFault (F.post placer.now) (left region busy.now) wants.now) }
+    ensures fault { IfErr result (spec.IsFault (F.post placer.now) (left region busy.now)
+        wants.now) }
     // Where the policy follows a function, they are that function's.
-    ensures exact { (choose : policy.Choice) → policy.Follows (F.post placer.now) choose → AnswersAs (λ starts. starts.items) spec.is_memory result (spec.chosen choose (left region busy.now) wants.now) }
+    ensures exact { (choose : policy.Choice) → policy.Follows (F.post placer.now) choose
+        → AnswersAs (λ starts. starts.items) spec.is_memory result
+        (spec.chosen choose (left region busy.now) wants.now) }
 {
     placed(alloc, placer, wants, left(alloc, region, busy)?)
 }

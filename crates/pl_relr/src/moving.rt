@@ -26,9 +26,11 @@ pub fn move_table(table: &mut [u8], slot: u64)
     ensures moved { table.new ≡ spec.moved slot table.old }
 
     // Each even entry has the slot added, each odd one stays.
-    ensures each { (i : ℕ) → i < entry_count table.old → entry table.new i ≡ spec.moved_entry slot (entry table.old i) }
+    ensures each { (i : ℕ) → i < entry_count table.old → entry table.new i
+        ≡ spec.moved_entry slot (entry table.old i) }
     ensures undo { spec.moved (2 ^ 64 - slot) table.new ≡ table.old }
-    ensures places { begins_odd (entries table.old) ≡ false → places table.new ≡ map (λ place. plus place slot) (places table.old) }
+    ensures places { begins_odd (entries table.old) ≡ false → places table.new
+        ≡ map (λ place. plus place slot) (places table.old) }
 {
     for index in 0..entry_count(table) {
         let entry = entry(table, index);

@@ -69,7 +69,8 @@ fn odd_entry(next: u64, places: &[u64]) -> u64
 fn push_entries(table: &mut Vec<u8>, first: u64, places: &[u64]) -> Result<(), AllocError>
     requires packable { spec.ArePackable places.now }
     requires low { first < 2 ^ 48 }
-    ensures { OnOk result (table.new.items ≡ table.old.items ++ table_of (spec.packed_from first 0 places.now)) }
+    ensures { OnOk result (table.new.items ≡ table.old.items
+        ++ table_of (spec.packed_from first 0 places.now)) }
 {
     let mut next = first;
     let mut at = 0;
@@ -95,7 +96,8 @@ fn push_entries(table: &mut Vec<u8>, first: u64, places: &[u64]) -> Result<(), A
 pub fn pack(alloc: Global, places: &[u64]) -> Result<Rows<u8>, AllocError>
     requires { spec.ArePackable places.now }
     ensures exact { IfOk result (λ table. table ≡ spec.packed places.now) }
-    ensures back { IfOk result (λ table. (most : ℕ) → length places.now ≤ most → unpacked table most ≡ Ok places.now) }
+    ensures back { IfOk result (λ table. (most : ℕ) → length places.now ≤ most → unpacked table most
+        ≡ Ok places.now) }
 {
     let mut table = Vec::new(alloc);
     if !places.is_empty() {

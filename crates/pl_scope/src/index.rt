@@ -35,7 +35,8 @@ fn entry_of(object: &Object, member: u32, symbol: &Symbol) -> Option<Entry>
 
 /// Adds the definers of a member.
 fn add_entries(entries: &mut Vec<Entry>, object: &Object, member: u32) -> Result<(), AllocError>
-    ensures { OnOk result (entries.new.items ≡ entries.old.items ++ filter_map (spec.entry_of object.now member) object.now.symbols) }
+    ensures { OnOk result (entries.new.items ≡ entries.old.items
+        ++ filter_map (spec.entry_of object.now member) object.now.symbols) }
 {
     for symbol in object.symbols.as_slice() {
         if let Some(entry) = entry_of(object, member, symbol) {
@@ -77,7 +78,8 @@ pub fn index_of(alloc: Global, scope: &Scope<'_>) -> Result<Vec<Entry>, AllocErr
 fn before(index: &[Entry], hash: u64) -> usize
     requires { IsNonDecreasingBy (λ e. e.hash) index.now }
     ensures bound { result ≤ length index.now }
-    ensures point { IsPartitionPoint (λ e. nat_lt e.hash hash ≡ true) (λ e. nat_lt e.hash hash ≡ false) index.now result }
+    ensures point { IsPartitionPoint (λ e. nat_lt e.hash hash ≡ true)
+        (λ e. nat_lt e.hash hash ≡ false) index.now result }
 {
     index.partition_point(|entry| u64::from(entry.hash) < hash)
 }
@@ -85,8 +87,10 @@ fn before(index: &[Entry], hash: u64) -> usize
 /// The entries of a hash.
 pub fn under(index: &[Entry], hash: u32) -> &[Entry]
     requires { IsNonDecreasingBy (λ e. e.hash) index.now }
-    ensures whole { (m : ℕ) → list_any (spec.is_entry hash m) index.now ≡ true → list_any (λ e. e.member == m) result.now ≡ true }
-    ensures among { (count : ℕ) → All (λ e. e.member < count) index.now → All (λ e. e.member < count) result.now }
+    ensures whole { (m : ℕ) → list_any (spec.is_entry hash m) index.now ≡ true
+        → list_any (λ e. e.member == m) result.now ≡ true }
+    ensures among { (count : ℕ) → All (λ e. e.member < count) index.now
+        → All (λ e. e.member < count) result.now }
 {
     let hash = u64::from(hash);
     let first = before(index, hash);

@@ -45,7 +45,8 @@ fn unasked_row(alloc: Global, object: &Object) -> Result<Vec<Answers>, AllocErro
 
 /// A place for each symbol of each member.
 fn unasked_rows(alloc: Global, scope: &Scope<'_>) -> Result<Vec<Vec<Answers>>, AllocError>
-    ensures { IfOk result (λ rows. map (λ row. row.items) rows.items ≡ map spec.unasked_row (objects scope.now)) }
+    ensures { IfOk result (λ rows. map (λ row. row.items) rows.items
+        ≡ map spec.unasked_row (objects scope.now)) }
 {
     let mut rows = Vec::new(alloc);
     for member in 0..scope.count() {
@@ -86,7 +87,8 @@ impl<'s, 'a> Kept<'s, 'a> {
     pub fn find(&mut self, reference: Reference) -> Option<Found>
         requires { IsSymbol (objects self.old) reference.member reference.symbol }
         ensures exact { result ≡ finds (objects self.old) reference }
-        ensures within { IfSome result (λ found. IsSymbol (objects self.old) found.member found.symbol) }
+        ensures within { IfSome result (λ found. IsSymbol (objects self.old) found.member
+            found.symbol) }
         ensures same { self.new ≡ self.old }
     {
         let answers = self.rows[reference.member as usize][reference.symbol as usize];

@@ -85,7 +85,8 @@ fn has_canonical(object: &Object, name: &[u8], class: Class) -> bool
 /// The index of an object's symbol that matches, by a search through all its symbols.
 fn matching_by_list(object: &Object, wanted: &Wanted<'_>) -> Option<u32>
     requires { IsFit object.now }
-    ensures { result ≡ matching object.now wanted.now.name.now wanted.now.class (option_map (λ x. x.now) wanted.now.version) }
+    ensures { result ≡ matching object.now wanted.now.name.now wanted.now.class
+        (option_map (λ x. x.now) wanted.now.version) }
 {
     match matching(object, wanted.name, wanted.class, wanted.version) {
         None => None,
@@ -97,7 +98,8 @@ fn matching_by_list(object: &Object, wanted: &Wanted<'_>) -> Option<u32>
 fn matching_by_hash(object: &Object, wanted: &Wanted<'_>) -> Option<u32>
     requires fit { IsFit object.now }
     requires wanted { probing.IsWanted wanted.now }
-    ensures { result ≡ matching object.now wanted.now.name.now wanted.now.class (option_map (λ x. x.now) wanted.now.version) }
+    ensures { result ≡ matching object.now wanted.now.name.now wanted.now.class
+        (option_map (λ x. x.now) wanted.now.version) }
 {
     if has_canonical(object, wanted.name, wanted.class) {
         return matching_by_list(object, wanted);
@@ -119,7 +121,8 @@ fn found_in(member: u32, matched: Option<u32>) -> Option<Found>
 fn in_member(scope: &Scope<'_>, wanted: &Wanted<'_>, member: u32, way: Way<'_>) -> Option<Found>
     requires within { member < length scope.now }
     requires wanted { probing.IsWanted wanted.now }
-    ensures { result ≡ spec.in_member (objects scope.now) wanted.now.name.now wanted.now.class (option_map (λ x. x.now) wanted.now.version) member }
+    ensures { result ≡ spec.in_member (objects scope.now) wanted.now.name.now wanted.now.class
+        (option_map (λ x. x.now) wanted.now.version) member }
 {
     let object = scope.object(member);
     let matched = match way {
@@ -133,7 +136,8 @@ fn in_member(scope: &Scope<'_>, wanted: &Wanted<'_>, member: u32, way: Way<'_>) 
 #[tactic(auto, using(crate::proofs::SearchLaws::first_more, crate::proofs::SearchLaws::first_done))]
 fn first_in_order(scope: &Scope<'_>, wanted: &Wanted<'_>, start: u32, way: Way<'_>) -> Option<Found>
     requires { probing.IsWanted wanted.now }
-    ensures { result ≡ spec.first_in (objects scope.now) wanted.now.name.now wanted.now.class (option_map (λ x. x.now) wanted.now.version) (spec.from_member start (length scope.now)) }
+    ensures { result ≡ spec.first_in (objects scope.now) wanted.now.name.now wanted.now.class
+        (option_map (λ x. x.now) wanted.now.version) (spec.from_member start (length scope.now)) }
 {
     let count = scope.count();
     for member in start..count {
@@ -165,7 +169,8 @@ fn best_of(
 ) -> Option<Found>
     requires within { member < length scope.now }
     requires wanted { probing.IsWanted wanted.now }
-    ensures { result ≡ index.best_of (objects scope.now) wanted.now.name.now wanted.now.class (option_map (λ x. x.now) wanted.now.version) start best member }
+    ensures { result ≡ index.best_of (objects scope.now) wanted.now.name.now wanted.now.class
+        (option_map (λ x. x.now) wanted.now.version) start best member }
 {
     if is_better(start, best, member) {
         in_member(scope, wanted, member, Way::InOrder).or(best)
@@ -183,7 +188,8 @@ fn first_indexed(
 ) -> Option<Found>
     requires wanted { probing.IsWanted wanted.now }
     requires index { index.IsIndex (objects scope.now) entries.now }
-    ensures { result ≡ spec.first_in (objects scope.now) wanted.now.name.now wanted.now.class (option_map (λ x. x.now) wanted.now.version) (spec.from_member start (length scope.now)) }
+    ensures { result ≡ spec.first_in (objects scope.now) wanted.now.name.now wanted.now.class
+        (option_map (λ x. x.now) wanted.now.version) (spec.from_member start (length scope.now)) }
 {
     let mut best = None;
     for entry in under(entries, wanted.gnu) {
@@ -196,7 +202,8 @@ fn first_indexed(
 fn first_from(scope: &Scope<'_>, wanted: &Wanted<'_>, start: u32, way: Way<'_>) -> Option<Found>
     requires wanted { probing.IsWanted wanted.now }
     requires way { index.IsWay (objects scope.now) way }
-    ensures { result ≡ spec.first_in (objects scope.now) wanted.now.name.now wanted.now.class (option_map (λ x. x.now) wanted.now.version) (spec.from_member start (length scope.now)) }
+    ensures { result ≡ spec.first_in (objects scope.now) wanted.now.name.now wanted.now.class
+        (option_map (λ x. x.now) wanted.now.version) (spec.from_member start (length scope.now)) }
 {
     match way {
         Way::Indexed(entries) => first_indexed(scope, wanted, start, entries),
@@ -216,7 +223,9 @@ fn in_order(
     requires within { reference.member < length scope.now }
     requires wanted { probing.IsWanted wanted.now }
     requires way { index.IsWay (objects scope.now) way }
-    ensures { result ≡ spec.first_in (objects scope.now) wanted.now.name.now wanted.now.class (option_map (λ x. x.now) wanted.now.version) (spec.searched object.now reference (length scope.now)) }
+    ensures { result ≡ spec.first_in (objects scope.now) wanted.now.name.now wanted.now.class
+        (option_map (λ x. x.now) wanted.now.version)
+        (spec.searched object.now reference (length scope.now)) }
 {
     if reference.kind == R_X86_64_COPY {
         return first_from(scope, wanted, 1, way);
@@ -283,7 +292,8 @@ pub fn find_by(scope: &Scope<'_>, reference: Reference, way: Way<'_>) -> Option<
 pub fn find(scope: &Scope<'_>, reference: Reference) -> Option<Found>
     requires { IsSymbol (objects scope.now) reference.member reference.symbol }
     ensures exact { result ≡ spec.finds (objects scope.now) reference }
-    ensures within { IfSome result (λ found. IsSymbol (objects scope.now) found.member found.symbol) }
+    ensures within { IfSome result (λ found. IsSymbol (objects scope.now) found.member
+        found.symbol) }
 {
     find_by(scope, reference, Way::InOrder)
 }

@@ -42,13 +42,15 @@ pub fn is_of_version(
     version: &[u8],
     symbol: &Symbol,
 ) -> bool
-    ensures { result ≡ (spec.defines object.now name.now class symbol.now && spec.has_version object.now version.now symbol.now) }
+    ensures { result ≡ (spec.defines object.now name.now class symbol.now && spec.has_version
+        object.now version.now symbol.now) }
 {
     defines(object, name, class, symbol) && has_version(object, version, symbol)
 }
 
 fn of_version(object: &Object, name: &[u8], class: Class, version: &[u8]) -> Option<usize>
-    ensures value { result ≡ position (λ s. spec.defines object.now name.now class s && spec.has_version object.now version.now s) object.now.symbols }
+    ensures value { result ≡ position (λ s. spec.defines object.now name.now class s &&
+        spec.has_version object.now version.now s) object.now.symbols }
     ensures within { IfSome result (λ i. i < length object.now.symbols) }
 {
     object.symbols.as_slice().iter().position(|symbol| is_of_version(
@@ -57,13 +59,15 @@ fn of_version(object: &Object, name: &[u8], class: Class, version: &[u8]) -> Opt
 }
 
 pub fn is_of_no_version(object: &Object, name: &[u8], class: Class, symbol: &Symbol) -> bool
-    ensures { result ≡ (spec.defines object.now name.now class symbol.now && symbol.now.version == VER_NDX_GLOBAL) }
+    ensures { result ≡ (spec.defines object.now name.now class symbol.now && symbol.now.version ==
+        VER_NDX_GLOBAL) }
 {
     defines(object, name, class, symbol) && symbol.version == VER_NDX_GLOBAL
 }
 
 fn of_no_version(object: &Object, name: &[u8], class: Class) -> Option<usize>
-    ensures value { result ≡ position (λ s. spec.defines object.now name.now class s && s.version == VER_NDX_GLOBAL) object.now.symbols }
+    ensures value { result ≡ position (λ s. spec.defines object.now name.now class s && s.version ==
+        VER_NDX_GLOBAL) object.now.symbols }
     ensures within { IfSome result (λ i. i < length object.now.symbols) }
 {
     object
@@ -93,7 +97,8 @@ fn count_definers(object: &Object, name: &[u8], class: Class, hidden: bool) -> u
 }
 
 fn first_definer(object: &Object, name: &[u8], class: Class, hidden: bool) -> Option<usize>
-    ensures value { result ≡ position (spec.counts object.now name.now class hidden) object.now.symbols }
+    ensures value { result ≡ position (spec.counts object.now name.now class hidden)
+        object.now.symbols }
     ensures within { IfSome result (λ i. i < length object.now.symbols) }
 {
     object
@@ -105,7 +110,8 @@ fn first_definer(object: &Object, name: &[u8], class: Class, hidden: bool) -> Op
 
 /// The index of the only definer, of all or of those that are not hidden.
 fn only_definer(object: &Object, name: &[u8], class: Class, hidden: bool) -> Option<usize>
-    ensures value { result ≡ spec.only (spec.counts object.now name.now class hidden) object.now.symbols }
+    ensures value { result ≡ spec.only (spec.counts object.now name.now class hidden)
+        object.now.symbols }
     ensures within { IfSome result (λ i. i < length object.now.symbols) }
 {
     if count_definers(object, name, class, hidden) == 1 {
@@ -134,7 +140,8 @@ fn versioned(object: &Object, name: &[u8], class: Class, version: &[u8]) -> Opti
 }
 
 pub fn is_at_index(object: &Object, name: &[u8], class: Class, index: u16, symbol: &Symbol) -> bool
-    ensures { result ≡ (spec.defines object.now name.now class symbol.now && index_of symbol.now.version == index) }
+    ensures { result ≡ (spec.defines object.now name.now class symbol.now && index_of
+        symbol.now.version == index) }
 {
     defines(object, name, class, symbol) && index_of(symbol.version) == index
 }
@@ -169,7 +176,8 @@ fn unversioned(object: &Object, name: &[u8], class: Class) -> Option<usize>
 
 /// The index of an object's symbol that matches a name, for references of a class, with or without a version.
 pub fn matching(object: &Object, name: &[u8], class: Class, version: Option<&[u8]>) -> Option<usize>
-    ensures value { result ≡ spec.matching object.now name.now class (option_map (λ x. x.now) version.entry) }
+    ensures value { result ≡ spec.matching object.now name.now class
+        (option_map (λ x. x.now) version.entry) }
     ensures within { IfSome result (λ i. i < length object.now.symbols) }
 {
     match version {

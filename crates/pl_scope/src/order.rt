@@ -60,7 +60,8 @@ fn name_at(names: &[Text], index: usize) -> Option<&Text>
 }
 
 fn needed_program<'a>(program: Option<&str>, needed: &'a [Text]) -> Option<&'a Text>
-    ensures { option_map (λ n. n.now) result ≡ spec.needed_program (option_map (λ n. n.now) program.entry) needed.now }
+    ensures { option_map (λ n. n.now) result ≡ spec.needed_program
+        (option_map (λ n. n.now) program.entry) needed.now }
 {
     match program {
         None => None,
@@ -72,7 +73,8 @@ fn needed_program<'a>(program: Option<&str>, needed: &'a [Text]) -> Option<&'a T
 #[tactic(auto, unfolding(crate::specs::Walk::added))]
 fn add(alloc: Global, names: &mut Vec<Text>, name: &Text) -> Result<(), WalkFault>
     ensures ok { OnOk result (spec.added names.old.items name.now ≡ Ok names.new.items) }
-    ensures err { IfErr result (λ fault. Answers spec.is_memory (Err fault) (spec.added names.old.items name.now)) }
+    ensures err { IfErr result (λ fault. Answers spec.is_memory (Err fault)
+        (spec.added names.old.items name.now)) }
     ensures front { take (length names.old.items) names.new.items ≡ names.old.items }
     ensures few { length names.old.items ≤ MAX_MEMBERS → length names.new.items ≤ MAX_MEMBERS }
 {
@@ -90,7 +92,8 @@ fn add(alloc: Global, names: &mut Vec<Text>, name: &Text) -> Result<(), WalkFaul
 /// Adds needed names at the end, each where it is new. After a fault some of them may stand there.
 fn add_each(alloc: Global, names: &mut Vec<Text>, needed: &[Text]) -> Result<(), WalkFault>
     ensures ok { OnOk result (run spec.added names.old.items needed.now ≡ Ok names.new.items) }
-    ensures err { IfErr result (λ fault. Answers spec.is_memory (Err fault) (run spec.added names.old.items needed.now)) }
+    ensures err { IfErr result (λ fault. Answers spec.is_memory (Err fault)
+        (run spec.added names.old.items needed.now)) }
     ensures front { take (length names.old.items) names.new.items ≡ names.old.items }
     ensures few { length names.old.items ≤ MAX_MEMBERS → length names.new.items ≤ MAX_MEMBERS }
 {
@@ -103,7 +106,8 @@ fn add_each(alloc: Global, names: &mut Vec<Text>, needed: &[Text]) -> Result<(),
 /// Adds needed names at the end, each where it is new. After a fault the names are as before.
 fn append(alloc: Global, names: &mut Vec<Text>, needed: &[Text]) -> Result<(), WalkFault>
     ensures ok { OnOk result (run spec.added names.old.items needed.now ≡ Ok names.new.items) }
-    ensures err { IfErr result (λ fault. Answers spec.is_memory (Err fault) (run spec.added names.old.items needed.now)) }
+    ensures err { IfErr result (λ fault. Answers spec.is_memory (Err fault)
+        (run spec.added names.old.items needed.now)) }
     ensures unchanged { OnErr result (names.new.items ≡ names.old.items) }
     ensures more { length names.old.items ≤ length names.new.items }
     ensures few { length names.old.items ≤ MAX_MEMBERS → length names.new.items ≤ MAX_MEMBERS }
@@ -123,7 +127,9 @@ impl Order {
     pub fn new(alloc: Global, name: &str) -> Result<Order, NoMemory>
         ensures begun { IfOk result (λ order. order ≡ spec.begun name.now) }
         // the walk of the name is still to come
-        ensures begins { IfOk result (λ order. (files : List ℕ → Result declared.Object fault.WalkFault) → spec.IsUnderWay spec.itself files name.now [] order) }
+        ensures begins { IfOk result (λ order.
+            (files : List ℕ → Result declared.Object fault.WalkFault)
+            → spec.IsUnderWay spec.itself files name.now [] order) }
     {
         let mut names = Vec::new(alloc);
         names.push(Text::copy_of(alloc, name)?)?;
@@ -140,7 +146,10 @@ impl Order {
         ensures all { IfNone result (self.now.given ≡ length self.now.names) }
         ensures walking { IsWalking self.now }
         // what was walked so far is then the whole walk
-        ensures ends { IfNone result ((files : List ℕ → Result declared.Object fault.WalkFault) (name : List ℕ) (walked : spec.Walked) → spec.IsUnderWay spec.itself files name walked self.now → spec.walk spec.itself files name ≡ Ok walked) }
+        ensures ends { IfNone result ((files : List ℕ → Result declared.Object fault.WalkFault)
+            (name : List ℕ) (walked : spec.Walked)
+            → spec.IsUnderWay spec.itself files name walked self.now
+            → spec.walk spec.itself files name ≡ Ok walked) }
     {
         match name_at(self.names.as_slice(), self.given) {
             None => None,
@@ -183,7 +192,8 @@ impl Order {
     fn enter(&mut self, alloc: Global, object: &Object) -> Result<(), WalkFault>
         requires wanted { IsSome (wants self.old) }
         ensures ok { OnOk result (spec.give self.old object.now ≡ Ok self.new) }
-        ensures err { IfErr result (λ fault. Answers spec.is_memory (Err fault) (spec.give self.old object.now)) }
+        ensures err { IfErr result (λ fault. Answers spec.is_memory (Err fault)
+            (spec.give self.old object.now)) }
         ensures unchanged { OnErr result (self.new ≡ self.old) }
         ensures walking { IsWalking self.old }
     {
@@ -203,10 +213,15 @@ impl Order {
     pub fn give(&mut self, alloc: Global, object: &Object) -> Result<(), WalkFault>
         requires wanted { IsSome (wants self.old) }
         ensures ok { OnOk result (spec.give self.old object.now ≡ Ok self.new) }
-        ensures err { IfErr result (λ fault. Answers spec.is_memory (Err fault) (spec.give self.old object.now)) }
+        ensures err { IfErr result (λ fault. Answers spec.is_memory (Err fault)
+            (spec.give self.old object.now)) }
         ensures unchanged { OnErr result (self.new ≡ self.old) }
         // where the object is the file's of that name, the walk goes on with one member more
-        ensures goes_on { OnOk result ((files : List ℕ → Result declared.Object fault.WalkFault) (name : List ℕ) (walked : spec.Walked) (wanted : List ℕ) → wants self.old ≡ Some wanted → files wanted ≡ Ok object.now → spec.IsUnderWay spec.itself files name walked self.old → spec.IsUnderWay spec.itself files name (walked ++ (wanted, object.now) ∷ []) self.new) }
+        ensures goes_on { OnOk result ((files : List ℕ → Result declared.Object fault.WalkFault)
+            (name : List ℕ) (walked : spec.Walked) (wanted : List ℕ) → wants self.old ≡ Some wanted
+            → files wanted ≡ Ok object.now → spec.IsUnderWay spec.itself files name walked self.old
+            → spec.IsUnderWay spec.itself files name (walked ++ (wanted, object.now) ∷ [])
+            self.new) }
     {
         self.enter(alloc, object)
     }

@@ -92,7 +92,8 @@ fn with_picked(least: Option<u32>, index: u32, picked: bool) -> Option<u32>
 /// The least index that a step takes of those to which the hash leads.
 fn least(probe: &Probe<'_>, pick: Pick<'_>) -> Option<u32>
     requires { spec.IsProbe probe.now }
-    ensures { result ≡ spec.least_from (spec.picks probe.now pick.entry) None (spec.led_to probe.now) }
+    ensures { result ≡ spec.least_from (spec.picks probe.now pick.entry) None
+        (spec.led_to probe.now) }
 {
     let mut least = None;
     let mut at = first(probe.table, probe.hash);
@@ -113,7 +114,8 @@ fn is_other_picked(probe: &Probe<'_>, pick: Pick<'_>, index: u32, candidate: u32
 /// Whether a step takes another one than an index of those to which the hash leads.
 fn has_another(probe: &Probe<'_>, pick: Pick<'_>, index: u32) -> bool
     requires { spec.IsProbe probe.now }
-    ensures { result ≡ spec.another (spec.picks probe.now pick.entry) index (spec.led_to probe.now) }
+    ensures { result ≡ spec.another (spec.picks probe.now pick.entry) index
+        (spec.led_to probe.now) }
 {
     let mut at = first(probe.table, probe.hash);
     while let Some(candidate) = at {
@@ -128,7 +130,8 @@ fn has_another(probe: &Probe<'_>, pick: Pick<'_>, index: u32) -> bool
 /// The index of the first symbol that a step takes.
 fn first_picked(probe: &Probe<'_>, pick: Pick<'_>) -> Option<u32>
     requires { spec.IsProbe probe.now }
-    ensures { result ≡ position (spec.picked probe.now.object.now probe.now.name.now pick.entry) probe.now.object.now.symbols }
+    ensures { result ≡ position (spec.picked probe.now.object.now probe.now.name.now pick.entry)
+        probe.now.object.now.symbols }
 {
     least(probe, pick)
 }
@@ -136,7 +139,8 @@ fn first_picked(probe: &Probe<'_>, pick: Pick<'_>) -> Option<u32>
 /// The index of the only symbol that a step takes.
 fn only_picked(probe: &Probe<'_>, pick: Pick<'_>) -> Option<u32>
     requires { spec.IsProbe probe.now }
-    ensures { result ≡ matching.only (spec.picked probe.now.object.now probe.now.name.now pick.entry) probe.now.object.now.symbols }
+    ensures { result ≡ matching.only (spec.picked probe.now.object.now probe.now.name.now
+        pick.entry) probe.now.object.now.symbols }
 {
     let Some(index) = first_picked(probe, pick) else {
         return None;
@@ -201,7 +205,8 @@ fn last_table(object: &Object) -> Option<&Table>
 pub fn matching_by_table(object: &Object, wanted: &Wanted<'_>) -> Option<u32>
     requires fit { IsFit object.now }
     requires wanted { spec.IsWanted wanted.now }
-    ensures { result ≡ matching.matching object.now wanted.now.name.now Jump (option_map (λ x. x.now) wanted.now.version) }
+    ensures { result ≡ matching.matching object.now wanted.now.name.now Jump
+        (option_map (λ x. x.now) wanted.now.version) }
 {
     let Some(table) = last_table(object) else {
         return None;

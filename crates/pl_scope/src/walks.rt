@@ -16,8 +16,10 @@ fn member_of<'a>(
     name: &str,
     objects: &'a IndexMap<String, Object>,
 ) -> Result<Member<'a>, WalkFault>
-    ensures ok { IfOk result (λ m. spec.object_of (get_by_text objects.now) name.now ≡ Ok m.object.now) }
-    ensures err { IfErr result (λ fault. Answers spec.is_memory (Err fault) (spec.object_of (get_by_text objects.now) name.now)) }
+    ensures ok { IfOk result (λ m. spec.object_of (get_by_text objects.now) name.now
+        ≡ Ok m.object.now) }
+    ensures err { IfErr result (λ fault. Answers spec.is_memory (Err fault)
+        (spec.object_of (get_by_text objects.now) name.now)) }
     ensures name { IfOk result (λ m. m.name ≡ name.now) }
     ensures among { IfOk result (λ m. IsAmong (values objects.now) m.object.now) }
 {
@@ -39,8 +41,10 @@ pub fn walk<'a>(
     objects: &'a IndexMap<String, Object>,
 ) -> Result<Scope<'a>, WalkFault>
     requires { All IsAccepted (values objects.now) }
-    ensures ok { IfOk result (λ scope. spec.walk_over (get_by_text objects.now) name.now ≡ Ok scope) }
-    ensures err { IfErr result (λ fault. Answers spec.is_memory (Err fault) (spec.walk_over (get_by_text objects.now) name.now)) }
+    ensures ok { IfOk result (λ scope. spec.walk_over (get_by_text objects.now) name.now
+        ≡ Ok scope) }
+    ensures err { IfErr result (λ fault. Answers spec.is_memory (Err fault)
+        (spec.walk_over (get_by_text objects.now) name.now)) }
 {
     let mut order = Order::new(alloc, name)?;
     let mut members = Vec::new(alloc);

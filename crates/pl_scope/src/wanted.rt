@@ -51,7 +51,8 @@ fn version_wanted<'a>(object: &'a Object, symbol: &Symbol) -> Option<&'a [u8]>
 pub fn wanted_by<'a>(object: &'a Object, symbol: &'a Symbol, kind: u32) -> Wanted<'a>
     ensures name { result.name.now ≡ symbol.now.name }
     ensures class { result.class ≡ finds.class_of kind }
-    ensures version { option_map (λ name. name.now) result.version ≡ finds.version_wanted object.now symbol.now }
+    ensures version { option_map (λ name. name.now) result.version
+        ≡ finds.version_wanted object.now symbol.now }
     ensures hash { spec.IsWanted result }
 {
     let name = symbol.name.as_slice();

@@ -23,7 +23,8 @@ use std::alloc::{AllocError, Global};
 /// Whether a row meets no slot of a marked want.
 fn is_clear(given: &[Given], marks: &[bool], row: &Slot) -> bool
     requires { All (λ g. g.want < length marks.now) given.now }
-    ensures { result ≡ list_all (λ g. not (slice_index_or marks.now g.want false) || is_beside row.now g.slot) given.now }
+    ensures { result ≡ list_all (λ g. not (slice_index_or marks.now g.want false) || is_beside
+        row.now g.slot) given.now }
 {
     given
         .iter()
@@ -67,7 +68,8 @@ fn keep_row(
     requires within { position < count }
     requires given { AreGiven given.old count }
     requires end { row.now.start + row.now.span < 2 ^ 64 }
-    ensures kept { OnOk result (given.new ≡ spec.with_row asked.now.walks.now given.old position (Some row.now)) }
+    ensures kept { OnOk result (given.new ≡ spec.with_row asked.now.walks.now given.old position
+        (Some row.now)) }
     ensures given { OnOk result (AreGiven given.new count) }
 {
     let marks = marks_of(alloc, asked.walks, count, position)?;
@@ -103,7 +105,8 @@ fn keep(
     requires align { 0 < want.now.align }
     requires within { position < count }
     requires given { AreGiven given.old count }
-    ensures kept { OnOk result (given.new ≡ spec.kept asked.now.rows.now asked.now.walks.now asked.now.region given.old position want.now) }
+    ensures kept { OnOk result (given.new ≡ spec.kept asked.now.rows.now asked.now.walks.now
+        asked.now.region given.old position want.now) }
     ensures given { OnOk result (AreGiven given.new count) }
 {
     match find_row(asked.rows, asked.region, want) {
@@ -124,8 +127,11 @@ fn place_in(
     requires align { 0 < want.now.align }
     requires within { position < count }
     requires given { AreGiven given.old count }
-    ensures ok { OnOk result (spec.at_place given.old position want.now holes.now (lowest want.now.span want.now.align holes.now) ≡ Ok given.new) }
-    ensures err { IfErr result (λ fault. Answers is_memory (Err fault) (spec.at_place given.old position want.now holes.now (lowest want.now.span want.now.align holes.now))) }
+    ensures ok { OnOk result (spec.at_place given.old position want.now holes.now
+        (lowest want.now.span want.now.align holes.now) ≡ Ok given.new) }
+    ensures err { IfErr result (λ fault. Answers is_memory (Err fault)
+        (spec.at_place given.old position want.now holes.now
+        (lowest want.now.span want.now.align holes.now))) }
     ensures given { OnOk result (AreGiven given.new count) }
 {
     let name = Text::copy_of(alloc, want.name.as_str())?;
@@ -160,8 +166,10 @@ fn place(
     requires align { 0 < want.now.align }
     requires within { position < count }
     requires given { AreGiven given.old count }
-    ensures ok { OnOk result (spec.placed asked.now.walks.now asked.now.region given.old position want.now ≡ Ok given.new) }
-    ensures err { IfErr result (λ fault. Answers is_memory (Err fault) (spec.placed asked.now.walks.now asked.now.region given.old position want.now)) }
+    ensures ok { OnOk result (spec.placed asked.now.walks.now asked.now.region given.old position
+        want.now ≡ Ok given.new) }
+    ensures err { IfErr result (λ fault. Answers is_memory (Err fault)
+        (spec.placed asked.now.walks.now asked.now.region given.old position want.now)) }
     ensures given { OnOk result (AreGiven given.new count) }
 {
     if has_slot(given.as_slice(), position) {
@@ -175,7 +183,8 @@ fn place(
 /// The rows that the wants keep.
 fn keep_all(alloc: Global, asked: &Asked<'_>, wants: &[Want]) -> Result<Rows<Given>, AllocError>
     requires { All (λ want. 0 < want.align) wants.now }
-    ensures kept { IfOk result (λ given. given ≡ spec.all_kept asked.now.rows.now asked.now.walks.now asked.now.region [] 0 wants.now) }
+    ensures kept { IfOk result (λ given. given
+        ≡ spec.all_kept asked.now.rows.now asked.now.walks.now asked.now.region [] 0 wants.now) }
     ensures given { IfOk result (λ given. AreGiven given (length wants.now)) }
 {
     let mut given = Rows::new(alloc);
@@ -201,7 +210,8 @@ fn place_all(
 ) -> Result<Rows<Given>, PlanFault>
     requires align { All (λ want. 0 < want.align) wants.now }
     requires given { AreGiven kept (length wants.now) }
-    ensures { Answers is_memory result (spec.all_placed asked.now.walks.now asked.now.region kept 0 wants.now) }
+    ensures { Answers is_memory result (spec.all_placed asked.now.walks.now asked.now.region kept 0
+        wants.now) }
 {
     let mut given = kept;
     for position in 0..wants.len() {
@@ -228,7 +238,8 @@ fn slot_of(given: &[Given], position: usize) -> Option<&Slot>
 
 /// Adds a slot, if there is one.
 fn push_slot(alloc: Global, slots: &mut Rows<Slot>, slot: Option<&Slot>) -> Result<(), AllocError>
-    ensures { OnOk result (slots.new ≡ slots.old ++ cons_option (option_map (λ slot. slot.now) slot.entry) []) }
+    ensures { OnOk result (slots.new ≡ slots.old
+        ++ cons_option (option_map (λ slot. slot.now) slot.entry) []) }
 {
     match slot {
         None => Ok(()),
@@ -249,7 +260,8 @@ fn slots_of(alloc: Global, given: &[Given], count: usize) -> Result<Rows<Slot>, 
 
 fn planned(alloc: Global, asked: &Asked<'_>, wants: &[Want]) -> Result<Rows<Slot>, PlanFault>
     requires { All (λ want. 0 < want.align) wants.now }
-    ensures { Answers is_memory result (spec.plan_shared asked.now.rows.now wants.now asked.now.walks.now asked.now.region) }
+    ensures { Answers is_memory result (spec.plan_shared asked.now.rows.now wants.now
+        asked.now.walks.now asked.now.region) }
 {
     let kept = keep_all(alloc, asked, wants)?;
     let given = place_all(alloc, asked, wants, kept)?;
@@ -266,11 +278,14 @@ pub fn plan_shared(
 ) -> Result<Rows<Slot>, PlanFault>
     requires { All (λ want. 0 < want.align) wants.now }
     // Which slots, or which fault.
-    ensures exact { Answers is_memory result (spec.plan_shared rows.now wants.now walks.now.rows region) }
+    ensures exact { Answers is_memory result (spec.plan_shared rows.now wants.now walks.now.rows
+        region) }
     // Each want's slot is as large as it wants, aligned and in the region.
-    ensures serve { IfOk result (λ slots. All (λ want. 0 < want.span) wants.now → spec.AllServe region wants.now slots) }
+    ensures serve { IfOk result (λ slots. All (λ want. 0 < want.span) wants.now
+        → spec.AllServe region wants.now slots) }
     // In each walk no two slots share an address.
-    ensures apart { IfOk result (λ slots. All (λ want. 0 < want.span) wants.now → spec.WalksAreApart walks.now.rows slots) }
+    ensures apart { IfOk result (λ slots. All (λ want. 0 < want.span) wants.now
+        → spec.WalksAreApart walks.now.rows slots) }
 {
     let asked = Asked {
         rows,

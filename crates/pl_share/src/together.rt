@@ -14,7 +14,8 @@ fn has(walk: &[u32], want: usize) -> bool
 /// Marks the wants that a walk holds.
 fn mark_all(marks: &mut [bool], walk: &[u32])
     ensures long { length marks.new ≡ length marks.old }
-    ensures each { (j : ℕ) → j < length marks.old → slice_index_or marks.new j false ≡ (slice_index_or marks.old j false || spec.walk_has walk.now j) }
+    ensures each { (j : ℕ) → j < length marks.old → slice_index_or marks.new j false
+        ≡ (slice_index_or marks.old j false || spec.walk_has walk.now j) }
 {
     for want in walk {
         if (*want as usize) < marks.len() {
@@ -26,7 +27,9 @@ fn mark_all(marks: &mut [bool], walk: &[u32])
 /// Marks the wants that a walk holds, where it holds this one.
 fn mark_with(marks: &mut [bool], walk: &[u32], want: usize)
     ensures long { length marks.new ≡ length marks.old }
-    ensures each { (j : ℕ) → j < length marks.old → slice_index_or marks.new j false ≡ (slice_index_or marks.old j false || (spec.walk_has walk.now want && spec.walk_has walk.now j)) }
+    ensures each { (j : ℕ) → j < length marks.old → slice_index_or marks.new j false
+        ≡ (slice_index_or marks.old j false ||
+        (spec.walk_has walk.now want && spec.walk_has walk.now j)) }
 {
     if has(walk, want) {
         mark_all(marks, walk);
@@ -36,7 +39,8 @@ fn mark_with(marks: &mut [bool], walk: &[u32], want: usize)
 /// Marks the wants that some walk holds together with one.
 fn mark_together(marks: &mut [bool], walks: &[Rows<u32>], want: usize)
     ensures long { length marks.new ≡ length marks.old }
-    ensures each { (j : ℕ) → j < length marks.old → slice_index_or marks.new j false ≡ (slice_index_or marks.old j false || spec.are_together walks.now want j) }
+    ensures each { (j : ℕ) → j < length marks.old → slice_index_or marks.new j false
+        ≡ (slice_index_or marks.old j false || spec.are_together walks.now want j) }
 {
     for walk in walks {
         mark_with(marks, walk.as_slice(), want);

@@ -42,7 +42,8 @@ fn whole_region(alloc: Global, region: Range) -> Result<Vec<Range>, AllocError>
 pub fn region_holes(alloc: Global, region: Range) -> Result<Vec<Range>, AllocError>
     ensures value { IfOk result (λ holes. holes.items ≡ spec.region_holes region) }
     ensures holes { IfOk result (λ holes. spec.AreHoles holes.items) }
-    ensures free { IfOk result (λ holes. (address : ℕ) → spec.is_free address holes.items ≡ has address region) }
+    ensures free { IfOk result (λ holes. (address : ℕ) → spec.is_free address holes.items
+        ≡ has address region) }
 {
     whole_region(alloc, region)
 }
@@ -61,8 +62,10 @@ fn cut_each(alloc: Global, holes: &[Range], taken: Range) -> Result<Vec<Range>, 
 /// What is left of holes beside a range that is taken: the addresses that are in the holes and not in the range.
 pub fn without(alloc: Global, holes: &[Range], taken: Range) -> Result<Vec<Range>, AllocError>
     ensures value { IfOk result (λ left. left.items ≡ spec.without taken holes.now) }
-    ensures holes { IfOk result (λ left. taken.start < taken.end → spec.AreHoles holes.now → spec.AreHoles left.items) }
-    ensures free { IfOk result (λ left. (address : ℕ) → spec.is_free address left.items ≡ (spec.is_free address holes.now && not (has address taken))) }
+    ensures holes { IfOk result (λ left. taken.start < taken.end → spec.AreHoles holes.now
+        → spec.AreHoles left.items) }
+    ensures free { IfOk result (λ left. (address : ℕ) → spec.is_free address left.items
+        ≡ (spec.is_free address holes.now && not (has address taken))) }
 {
     cut_each(alloc, holes, taken)
 }

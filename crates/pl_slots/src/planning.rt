@@ -151,9 +151,12 @@ pub fn plan(
     // Which slots, or which fault.
     ensures exact { Answers spec.is_memory result (spec.plan kept.now wants.now region) }
     // Each want's slot is its kept row, or as large as it wants; it is aligned and in the region.
-    ensures serve { IfOk result (λ rows. All (λ want. 0 < want.span) wants.now → spec.AllServe kept.now region wants.now rows) }
+    ensures serve { IfOk result (λ rows. All (λ want. 0 < want.span) wants.now
+        → spec.AllServe kept.now region wants.now rows) }
     // No two slots share an address.
-    ensures apart { IfOk result (λ rows. All (λ want. 0 < want.span) wants.now → AllPairs (λ a b. a.name ≢ b.name) wants.now → are_apart kept.now ≡ true → are_apart rows ≡ true) }
+    ensures apart { IfOk result (λ rows. All (λ want. 0 < want.span) wants.now
+        → AllPairs (λ a b. a.name ≢ b.name) wants.now → are_apart kept.now ≡ true → are_apart rows
+        ≡ true) }
 {
     all_placed(alloc, kept, wants, region)
 }

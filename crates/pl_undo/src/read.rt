@@ -143,9 +143,11 @@ pub fn read_undo(alloc: Global, bytes: &[u8]) -> Result<Undo, UndoFault>
     // What is read is spelled so.
     ensures found { IfOk result (section.IsUndoOf bytes.now) }
     // What is spelled so is read, unless there is no memory.
-    ensures only { (undo : Undo) → section.IsUndoOf bytes.now undo → Answers spec.is_memory result (Ok undo) }
+    ensures only { (undo : Undo) → section.IsUndoOf bytes.now undo
+        → Answers spec.is_memory result (Ok undo) }
     // No bytes spell two values.
-    ensures unique { (undo other : Undo) → section.IsUndoOf bytes.now undo → section.IsUndoOf bytes.now other → undo ≡ other }
+    ensures unique { (undo other : Undo) → section.IsUndoOf bytes.now undo
+        → section.IsUndoOf bytes.now other → undo ≡ other }
     ensures exact { Answers spec.is_memory result (spec.undo_of bytes.now) }
 {
     undo_of(alloc, bytes)

@@ -29,7 +29,8 @@ fn push_digest(bytes: &mut Vec<u8>, digest: &Option<[u8; DIGEST_SIZE]>) -> Resul
 #[tactic(auto, unfolding(crate::specs::Section::undo_bytes))]
 pub fn write_undo(alloc: Global, undo: &Undo) -> Result<Vec<u8>, NoMemory>
     ensures value { IfOk result (λ bytes. bytes.items ≡ section.undo_bytes undo.now) }
-    ensures spelled { IfOk result (λ bytes. section.is_undo undo.now ≡ true → section.IsUndoOf bytes.items undo.now) }
+    ensures spelled { IfOk result (λ bytes. section.is_undo undo.now ≡ true
+        → section.IsUndoOf bytes.items undo.now) }
 {
     let mut bytes = magic(&undo.digest).to_vec(alloc)?;
     push64(&mut bytes, undo.slot)?;

@@ -40,7 +40,8 @@ fn meaning(
 ) -> Result<Meaning, LinkFault>
     requires one_each { length places.now ≡ length kept.old }
     requires reference { IsSymbol (objects kept.old) member reloc.now.symbol }
-    ensures exact { result ≡ spec.meaning (objects kept.old) places.now tls.now (spec.row member reloc.now) }
+    ensures exact { result ≡ spec.meaning (objects kept.old) places.now tls.now
+        (spec.row member reloc.now) }
     ensures same { kept.new ≡ kept.old }
 {
     let found = sought(kept, reference_of(member, reloc));
@@ -64,8 +65,13 @@ fn add_each(
 ) -> Result<(), OrdinaryFault>
     requires one_each { length places.now ≡ length kept.old }
     requires references { All (λ r. IsSymbol (objects kept.old) member r.symbol) relocs.now }
-    ensures ok { OnOk result (with_front meanings.old (each (spec.meaning (objects kept.old) places.now tls.now) (map (spec.row member) relocs.now)) ≡ Ok meanings.new) }
-    ensures err { IfErr result (λ fault. Answers spec.is_memory (Err fault) (because Link (with_front meanings.old (each (spec.meaning (objects kept.old) places.now tls.now) (map (spec.row member) relocs.now))))) }
+    ensures ok { OnOk result (with_front meanings.old
+        (each (spec.meaning (objects kept.old) places.now tls.now)
+        (map (spec.row member) relocs.now)) ≡ Ok meanings.new) }
+    ensures err { IfErr result (λ fault. Answers spec.is_memory (Err fault)
+        (because Link (with_front meanings.old
+        (each (spec.meaning (objects kept.old) places.now tls.now)
+        (map (spec.row member) relocs.now))))) }
     ensures same { kept.new ≡ kept.old }
 {
     for reloc in relocs {
@@ -83,7 +89,8 @@ pub fn meanings(
     tls: &[Module],
 ) -> Result<Rows<Meaning>, OrdinaryFault>
     requires { length places.now ≡ length scope.now }
-    ensures { Answers spec.is_memory result (because Link (spec.meanings (objects scope.now) places.now tls.now)) }
+    ensures { Answers spec.is_memory result (because Link
+        (spec.meanings (objects scope.now) places.now tls.now)) }
 {
     let mut kept = Kept::new(alloc, scope)?;
     let mut meanings = Rows::new(alloc);

@@ -25,7 +25,8 @@ pub fn load<'a>(
     requires one_each { length places.now ≡ length scope.now }
     requires parts { length parts.now ≡ length scope.now }
     requires placed { spec.ArePlaced places.now parts.now (objects scope.now) }
-    ensures value { IfOk result (λ v. v.items ≡ spec.loaded places.now parts.now (objects scope.now)) }
+    ensures value { IfOk result (λ v. v.items ≡ spec.loaded places.now parts.now
+        (objects scope.now)) }
     ensures loaded { IfOk result (λ v. AreLoaded v.items) }
 {
     let files = parts.as_slice();
@@ -74,7 +75,8 @@ fn copy_of(
     meaning: &Meaning,
 ) -> Result<Option<Patch>, AllocError>
     requires { AreLoaded loaded.now }
-    ensures { IfOk result (λ patch. patch ≡ linked.copy_of (filled (layered (all_pieces loaded.now)) words.now) meaning.now.start meaning.now.word) }
+    ensures { IfOk result (λ patch. patch ≡ linked.copy_of
+        (filled (layered (all_pieces loaded.now)) words.now) meaning.now.start meaning.now.word) }
 {
     match meaning.word {
         Word::Copy { from, bytes, .. } => Ok(Some(Patch {
@@ -94,7 +96,8 @@ fn copies(
     meanings: &[Meaning],
 ) -> Result<Vec<Patch>, AllocError>
     requires { AreLoaded loaded.now }
-    ensures { IfOk result (λ v. v.items ≡ linked.copies (filled (layered (all_pieces loaded.now)) words.now) meanings.now) }
+    ensures { IfOk result (λ v. v.items ≡ linked.copies
+        (filled (layered (all_pieces loaded.now)) words.now) meanings.now) }
 {
     let mut patches = Vec::new(alloc);
     for meaning in meanings {
@@ -118,8 +121,10 @@ pub fn ordinary<'a>(
     requires one_each { length places.now ≡ length scope.now }
     requires parts { length parts.now ≡ length scope.now }
     requires placed { spec.ArePlaced places.now parts.now (objects scope.now) }
-    ensures exact { spec.IsOrdinary result (spec.ordinary (objects scope.now) parts.now places.now tls.now) }
-    ensures objects { IfOk result (λ image. image.objects ≡ spec.loaded places.now parts.now (objects scope.now)) }
+    ensures exact { spec.IsOrdinary result (spec.ordinary (objects scope.now) parts.now places.now
+        tls.now) }
+    ensures objects { IfOk result (λ image. image.objects
+        ≡ spec.loaded places.now parts.now (objects scope.now)) }
 {
     let meanings = meanings(alloc, scope, places, tls)?;
     let loaded = load(alloc, scope, parts, places)?;

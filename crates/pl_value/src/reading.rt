@@ -30,7 +30,8 @@ fn read_loaded(
     size: u64,
 ) -> Result<Vec<u8>, AllocError>
     requires { AreLoaded loaded.now }
-    ensures { IfOk result (λ v. v.items ≡ spec.read (spec.layered (all_pieces loaded.now)) from size) }
+    ensures { IfOk result (λ v. v.items ≡ spec.read (spec.layered (all_pieces loaded.now)) from
+        size) }
 {
     (0..size)
         .map(|distance| byte_after(loaded, from, distance))
@@ -40,7 +41,9 @@ fn read_loaded(
 /// Whether a patch may have bytes for so many addresses from one on.
 #[tactic(auto, using(crate::proofs::ReadLaws::read_far))]
 fn is_near(patch: &Patch, from: u64, size: u64) -> bool
-    ensures { OnFalse result ((m : spec.Memory) → spec.read (spec.over patch.now.start patch.now.bytes m) from size ≡ spec.read m from size) }
+    ensures { OnFalse result ((m : spec.Memory)
+        → spec.read (spec.over patch.now.start patch.now.bytes m) from size
+        ≡ spec.read m from size) }
 {
     u128::from(patch.address) < end(from, size)
         && u128::from(from) < end(patch.address, patch.bytes.len() as u64)
@@ -48,7 +51,8 @@ fn is_near(patch: &Patch, from: u64, size: u64) -> bool
 
 /// Writes a byte at its address over those that were read from one on, if it is among them.
 fn lay_byte(address: u128, byte: u8, from: u64, bytes: &mut [u8])
-    ensures here { from ≤ address → address < from + length bytes.old → bytes.new ≡ slice_set bytes.old (address - from) byte }
+    ensures here { from ≤ address → address < from + length bytes.old → bytes.new
+        ≡ slice_set bytes.old (address - from) byte }
     ensures there { (address < from) ⊎ (from + length bytes.old ≤ address) → bytes.new ≡ bytes.old }
 {
     if address >= u128::from(from) && address < end(from, bytes.len() as u64) {
@@ -58,7 +62,8 @@ fn lay_byte(address: u128, byte: u8, from: u64, bytes: &mut [u8])
 
 /// Writes the bytes of a patch over those that were read from an address on.
 fn lay(patch: &Patch, from: u64, bytes: &mut [u8])
-    ensures { (m : spec.Memory) → bytes.old ≡ spec.read m from (length bytes.old) → bytes.new ≡ spec.read (spec.over patch.now.start patch.now.bytes m) from (length bytes.old) }
+    ensures { (m : spec.Memory) → bytes.old ≡ spec.read m from (length bytes.old) → bytes.new
+        ≡ spec.read (spec.over patch.now.start patch.now.bytes m) from (length bytes.old) }
 {
     for index in 0..patch.bytes.len() {
         lay_byte(
@@ -79,7 +84,8 @@ pub fn read(
     size: u64,
 ) -> Result<Vec<u8>, AllocError>
     requires { AreLoaded loaded.now }
-    ensures { IfOk result (λ v. v.items ≡ spec.read (spec.filled (spec.layered (all_pieces loaded.now)) patches.now) from size) }
+    ensures { IfOk result (λ v. v.items ≡ spec.read
+        (spec.filled (spec.layered (all_pieces loaded.now)) patches.now) from size) }
 {
     let mut bytes = read_loaded(alloc, loaded, from, size)?;
     for patch in patches {

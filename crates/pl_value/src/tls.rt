@@ -16,7 +16,8 @@ use pl_tls::Module;
 /// The begin of the object's own block.
 fn own(scope: &Scope<'_>, reference: Reference) -> Result<TlsIndex, LinkFault>
     requires { IsSymbol (objects scope.now) reference.member reference.symbol }
-    ensures { result ≡ spec.own reference (spec.has_block (slice_get (objects scope.now) reference.member)) }
+    ensures { result ≡ spec.own reference (spec.has_block
+        (slice_get (objects scope.now) reference.member)) }
 {
     let object = scope.object(reference.member);
     if object.tls.is_none() {

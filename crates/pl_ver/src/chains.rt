@@ -38,7 +38,8 @@ pub fn is_named(strings: &Strings<'_>, section: &[u8], field: usize, at: usize) 
 #[tactic(auto, unfolding(crate::specs::Chains::is_verdef))]
 fn is_verdef(lengths: &[u16], verdef: &[u8], at: usize) -> bool
     requires { at + VERDEF_SIZE ≤ length verdef.now }
-    ensures { (strings : List ℕ) → AreLengths (spec.is_named strings verdef.now VDA_NAME) VERDAUX_SIZE verdef.now lengths.now 0 → result ≡ spec.is_verdef strings verdef.now at }
+    ensures { (strings : List ℕ) → AreLengths (spec.is_named strings verdef.now VDA_NAME)
+        VERDAUX_SIZE verdef.now lengths.now 0 → result ≡ spec.is_verdef strings verdef.now at }
 {
     let count = verdef_count(verdef, at);
     count != 0 && has_length(lengths, count, verdef_names(verdef, at))
@@ -48,7 +49,8 @@ fn is_verdef(lengths: &[u16], verdef: &[u8], at: usize) -> bool
 #[tactic(auto, unfolding(crate::specs::Chains::is_verneed))]
 fn is_verneed(strings: &Strings<'_>, lengths: &[u16], verneed: &[u8], at: usize) -> bool
     requires record { at + VERNEED_SIZE ≤ length verneed.now }
-    requires lengths { AreLengths (spec.is_named strings.now verneed.now VNA_NAME) VERNAUX_SIZE verneed.now lengths.now 0 }
+    requires lengths { AreLengths (spec.is_named strings.now verneed.now VNA_NAME) VERNAUX_SIZE
+        verneed.now lengths.now 0 }
     ensures { result ≡ spec.is_verneed strings.now verneed.now at }
 {
     let count = verneed_count(verneed, at);

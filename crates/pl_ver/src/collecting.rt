@@ -70,7 +70,8 @@ pub fn collect(
 ) -> Result<Records, VerFault>
     requires verdefs { AreVerdefs verdef.now defs }
     requires verneeds { AreVerneeds verneed.now needs }
-    ensures { Answers spec.is_memory result (distinct (defined verdef.now defs ++ needed verneed.now needs)) }
+    ensures { Answers spec.is_memory result (distinct
+        (defined verdef.now defs ++ needed verneed.now needs)) }
 {
     let records = with_defined(Records::new(alloc)?, verdef, defs)?;
     with_needed(records, verneed, needs)

@@ -28,7 +28,8 @@ fn length_at(
 ) -> u16
     requires next { NEXT_SIZE ≤ size }
     requires field { field + 4 ≤ size }
-    requires behind { spec.AreLengths (is_named strings.now section.now field) size section.now lengths.now (at + 1) }
+    requires behind { spec.AreLengths (is_named strings.now section.now field) size section.now
+        lengths.now (at + 1) }
     ensures { spec.IsLength (is_named strings.now section.now field) size section.now at result }
 {
     if end(at as u64, size as u64) > section.len() as u128 {
@@ -55,7 +56,8 @@ pub fn lengths(
 ) -> Result<Vec<u16>, AllocError>
     requires next { NEXT_SIZE ≤ size }
     requires field { field + 4 ≤ size }
-    ensures { IfOk result (λ v. spec.AreLengths (is_named strings.now section.now field) size section.now v.items 0) }
+    ensures { IfOk result (λ v. spec.AreLengths (is_named strings.now section.now field) size
+        section.now v.items 0) }
 {
     let mut lengths = Vec::from_elem(alloc, 0, section.len())?;
     let mut at = section.len();
@@ -69,7 +71,9 @@ pub fn lengths(
 /// Whether so many records from an offset on are a chain with names.
 #[tactic(auto, using(crate::proofs::LengthLaws::told))]
 pub fn has_length(lengths: &[u16], count: u16, first: usize) -> bool
-    ensures { (passes : ℕ → Bool) (size : ℕ) (section : List ℕ) → spec.AreLengths passes size section lengths.now 0 → result ≡ is_chain passes size section count first }
+    ensures { (passes : ℕ → Bool) (size : ℕ) (section : List ℕ)
+        → spec.AreLengths passes size section lengths.now 0 → result
+        ≡ is_chain passes size section count first }
 {
     count == 0 || count == length_from(lengths, first)
 }

@@ -72,7 +72,8 @@ pub fn read_versions(
     needs: u64,
     strings: &[u8],
 ) -> Result<Versions, VerFault>
-    ensures { Answers spec.is_memory result (spec.versions versym.now verdef.now defs verneed.now needs strings.now) }
+    ensures { Answers spec.is_memory result (spec.versions versym.now verdef.now defs verneed.now
+        needs strings.now) }
 {
     let table = Strings::new(strings);
     if !(are_verdefs(alloc, &table, verdef, defs)?

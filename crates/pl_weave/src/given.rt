@@ -22,7 +22,8 @@ fn first_file<F: Fn(&Holes, u64, u64) -> Option<u64>>(
     requires policy { spec.MayPlace F.pre F.post placer.now }
     requires few { length bytes.items < 2 ^ 32 }
     ensures means { (choose : policy.Choice) → policy.Follows (F.post placer.now) choose →
-        AnswersAs (λ file. file.items) is_memory result (spec.first_of choose name.now bytes.items) }
+        AnswersAs (λ file. file.items) is_memory result
+        (spec.first_of choose name.now bytes.items) }
     ensures few { IfOk result (λ file. length file.items < 2 ^ 32) }
 {
     match fix_placed(alloc, placer, &bytes)? {

@@ -43,7 +43,8 @@ impl<'r> Running<'r> {
         requires no_own { HasNoOwn (get (quiet_files folder)) }
         requires stored { spec.AreStored (quiet_files folder) }
         requires runs { spec.AreRuns waiting.now }
-        ensures { IfOk result (λ m. spec.Stands m (runs.begun (quiet_files folder) [] waiting.now)) }
+        ensures { IfOk result (λ m. spec.Stands m
+            (runs.begun (quiet_files folder) [] waiting.now)) }
     {
         let mut running = Running {
             held: Held { folder },
@@ -111,7 +112,8 @@ impl<'r> Running<'r> {
         requires left { self.old.done < length self.old.steps }
         requires can { ReadsDone self.old.steps self.old.done (get (files_in self.old.held)) }
         ensures goes { (row : changes.Change) (rows : List changes.Change) (files : Files) →
-            spec.IsUnderWay self.old.steps self.old.done (row ∷ rows) files (files_in self.old.held) →
+            spec.IsUnderWay self.old.steps self.old.done (row ∷ rows) files
+            (files_in self.old.held) →
             spec.IsUnderWay self.new.steps self.new.done rows (runs.with_row files row)
             (files_in self.new.held) }
         ensures done { self.new.done ≡ self.old.done + 1 }

@@ -44,7 +44,8 @@ fn open<F: Fn(&Holes, u64, u64) -> Option<u64>>(
     ensures opens { OnOk result ((files : Files) (p : F) (choose : policy.Choice) →
         Agree (get (files_in held.old)) (get files) → spec.HavePolicy p weave.old →
         policy.Follows (F.post p) choose →
-        map spec.plain weave.new ≡ weaving.opened_at choose files loader (map spec.plain weave.old)) }
+        map spec.plain weave.new ≡ weaving.opened_at choose files loader
+        (map spec.plain weave.old)) }
     ensures same { OnOk result (files_in held.new ≡ files_in held.old) }
     ensures policies { OnOk result (spec.policies weave.new ≡ spec.policies weave.old) }
 {

@@ -34,7 +34,8 @@ fn is_among(names: &[&str], name: &str) -> bool
 }
 
 fn has_all(matches: &ArgMatches<'_>, names: &[&str]) -> bool
-    ensures { result ≡ list_all (spec.is_given (rows_of (found_of matches.now))) (map (λ s. s.now) names.now) }
+    ensures { result ≡ list_all (spec.is_given (rows_of (found_of matches.now)))
+        (map (λ s. s.now) names.now) }
 {
     for name in names {
         if !is_given(matches, name) {
@@ -45,14 +46,16 @@ fn has_all(matches: &ArgMatches<'_>, names: &[&str]) -> bool
 }
 
 fn is_allowed(matches: &ArgMatches<'_>, must: &[&str], may: &[&str], name: &str) -> bool
-    ensures { result ≡ spec.is_allowed (map (λ s. s.now) must.now) (map (λ s. s.now) may.now) (rows_of (found_of matches.now)) name.now }
+    ensures { result ≡ spec.is_allowed (map (λ s. s.now) must.now) (map (λ s. s.now) may.now)
+        (rows_of (found_of matches.now)) name.now }
 {
     !is_given(matches, name) || is_among(must, name) || is_among(may, name)
 }
 
 #[tactic(auto, using(crate::proofs::FoundLaws::rows_by_names))]
 fn has_no_other(matches: &ArgMatches<'_>, must: &[&str], may: &[&str]) -> bool
-    ensures { result ≡ spec.has_no_other (map (λ s. s.now) must.now) (map (λ s. s.now) may.now) (rows_of (found_of matches.now)) }
+    ensures { result ≡ spec.has_no_other (map (λ s. s.now) must.now) (map (λ s. s.now) may.now)
+        (rows_of (found_of matches.now)) }
 {
     for name in matches.ids() {
         if !is_allowed(matches, must, may, name) {
@@ -65,7 +68,8 @@ fn has_no_other(matches: &ArgMatches<'_>, must: &[&str], may: &[&str]) -> bool
 /// Whether the words give all that must stand, and besides it nothing but what may.
 #[tactic(auto, unfolding(crate::specs::Found::fits))]
 pub fn fits(matches: &ArgMatches<'_>, must: &[&str], may: &[&str]) -> bool
-    ensures { result ≡ spec.fits (map (λ s. s.now) must.now) (map (λ s. s.now) may.now) (rows_of (found_of matches.now)) }
+    ensures { result ≡ spec.fits (map (λ s. s.now) must.now) (map (λ s. s.now) may.now)
+        (rows_of (found_of matches.now)) }
 {
     has_all(matches, must) && has_no_other(matches, must, may)
 }
@@ -81,7 +85,8 @@ pub fn value<'a>(matches: &ArgMatches<'a>, name: &str) -> Option<&'a str>
 /// All values of an option, if it has one.
 #[tactic(auto, using(crate::proofs::FoundLaws::values_in_rows))]
 pub fn values<'m, 'a>(matches: &'m ArgMatches<'a>, name: &str) -> Option<&'m [&'a str]>
-    ensures { option_map (λ all. map (λ s. s.now) all.now) result ≡ all_of name.now (rows_of (found_of matches.now)) }
+    ensures { option_map (λ all. map (λ s. s.now) all.now) result
+        ≡ all_of name.now (rows_of (found_of matches.now)) }
 {
     matches.get_strs(name)
 }

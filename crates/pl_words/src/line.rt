@@ -99,7 +99,8 @@ fn others<'a>(alloc: Global) -> Result<Vec<Arg<'a>>, AllocError>
 #[tactic(auto, using(crate::proofs::LineLaws::grown))]
 fn with<'a>(line: Command<'a>, args: Vec<Arg<'a>>) -> Result<Command<'a>, AllocError>
     requires { spec.are_simple (map rule_of args.items) ≡ true }
-    ensures { IfOk result (λ new. app_of new ≡ spec.with_rules (app_of line.entry) (map rule_of args.entry.items)) }
+    ensures { IfOk result (λ new. app_of new ≡ spec.with_rules (app_of line.entry)
+        (map rule_of args.entry.items)) }
 {
     line.args(args)
 }
@@ -135,7 +136,8 @@ fn fault_of(kind: ErrorKind) -> WordsFault
 
 /// What the words give, each option, flag and name.
 pub fn parsed<'a>(alloc: Global, words: &'a [String]) -> Result<ArgMatches<'a>, WordsFault>
-    ensures { AnswersAs (λ m. rows_of (found_of m)) spec.is_memory result (spec.parsed (map string_bytes words.entry.now)) }
+    ensures { AnswersAs (λ m. rows_of (found_of m)) spec.is_memory result
+        (spec.parsed (map string_bytes words.entry.now)) }
 {
     let line = line(alloc)?;
     match line.try_get_matches_from(words) {

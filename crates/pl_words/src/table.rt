@@ -70,7 +70,8 @@ fn order(alloc: Global, matches: &ArgMatches<'_>) -> Result<Command, WordsFault>
 /// The commands on one file, with nothing besides its name.
 #[tactic(auto, unfolding(crate::specs::Table::forms_on_a_file))]
 fn on_a_file(alloc: Global, matches: &ArgMatches<'_>) -> Result<Command, WordsFault>
-    ensures { Answers is_memory result (spec.chosen spec.forms_on_a_file (rows_of (found_of matches.now))) }
+    ensures { Answers is_memory result (spec.chosen spec.forms_on_a_file
+        (rows_of (found_of matches.now))) }
 {
     if fits(matches, &["verify"], &[]) {
         let name = name_of(alloc, matches, "verify")?;
@@ -98,7 +99,8 @@ fn on_a_file(alloc: Global, matches: &ArgMatches<'_>) -> Result<Command, WordsFa
 /// The commands in memory, and those on one file.
 #[tactic(auto, unfolding(crate::specs::Table::forms_in_memory))]
 fn in_memory(alloc: Global, matches: &ArgMatches<'_>) -> Result<Command, WordsFault>
-    ensures { Answers is_memory result (spec.chosen spec.forms_in_memory (rows_of (found_of matches.now))) }
+    ensures { Answers is_memory result (spec.chosen spec.forms_in_memory
+        (rows_of (found_of matches.now))) }
 {
     if fits(matches, &["demo"], &[]) {
         return demo(matches);
@@ -112,7 +114,8 @@ fn in_memory(alloc: Global, matches: &ArgMatches<'_>) -> Result<Command, WordsFa
 /// The command on the cache, and those in memory and on one file.
 #[tactic(auto, unfolding(crate::specs::Table::forms_on_the_cache))]
 fn on_the_cache(alloc: Global, matches: &ArgMatches<'_>) -> Result<Command, WordsFault>
-    ensures { Answers is_memory result (spec.chosen spec.forms_on_the_cache (rows_of (found_of matches.now))) }
+    ensures { Answers is_memory result (spec.chosen spec.forms_on_the_cache
+        (rows_of (found_of matches.now))) }
 {
     if fits(matches, &["print-cache"], &[]) {
         return Ok(Command::Print);
@@ -123,7 +126,8 @@ fn on_the_cache(alloc: Global, matches: &ArgMatches<'_>) -> Result<Command, Word
 /// The commands on all or some files, and those above.
 #[tactic(auto, unfolding(crate::specs::Table::forms_on_files))]
 fn on_files(alloc: Global, matches: &ArgMatches<'_>) -> Result<Command, WordsFault>
-    ensures { Answers is_memory result (spec.chosen spec.forms_on_files (rows_of (found_of matches.now))) }
+    ensures { Answers is_memory result (spec.chosen spec.forms_on_files
+        (rows_of (found_of matches.now))) }
 {
     if fits(
         matches,

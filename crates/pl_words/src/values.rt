@@ -16,7 +16,8 @@ use std::alloc::{AllocError, Global};
 /// The value of an option that must have one.
 #[tactic(auto, unfolding(crate::specs::Values::value))]
 fn needed<'a>(matches: &ArgMatches<'a>, option: &str) -> Result<&'a str, WordsFault>
-    ensures { AnswersAs (λ s. s.now) is_memory result (spec.value (rows_of (found_of matches.now)) option.now) }
+    ensures { AnswersAs (λ s. s.now) is_memory result
+        (spec.value (rows_of (found_of matches.now)) option.now) }
 {
     match value(matches, option) {
         Some(value) => Ok(value),
@@ -35,7 +36,8 @@ pub fn name_of(alloc: Global, matches: &ArgMatches<'_>, option: &str) -> Result<
 /// The number that is an option's value.
 #[tactic(auto, unfolding(crate::specs::Values::number_of))]
 pub fn number_of(matches: &ArgMatches<'_>, option: &str) -> Result<u64, WordsFault>
-    ensures { Answers is_memory result (spec.number_of (rows_of (found_of matches.now)) option.now) }
+    ensures { Answers is_memory result (spec.number_of (rows_of (found_of matches.now))
+        option.now) }
 {
     decimal(needed(matches, option)?)
 }
