@@ -52,8 +52,14 @@ impl MemoryFolder {
     ) -> Result<MemoryFolder, NoMemory>
         requires { are_files files.now ≡ true }
         ensures seen { IfOk result (λ folder. ⟦<MemoryFolder as Folder>⟧.seen folder
-            ≡ record { tells = true; records = true; files = files_of files.now; disk = started
-            (map file_entry files.now); faults = 0; place = 0 }) }
+            ≡ record {
+              tells = true;
+              records = true;
+              files = files_of files.now;
+              disk = started (map file_entry files.now);
+              faults = 0;
+              place = 0;
+            }) }
         ensures fail_at { IfOk result (λ folder. (folder_script folder).fail_at.items
             ≡ fail_at.items) }
         ensures made { IfOk result (λ folder. (folder_script folder).calls ≡ 0) }
@@ -98,8 +104,14 @@ impl MemoryFolder {
         calls: u32,
     ) -> Result<MemoryFolder, NoMemory>
         ensures seen { IfOk result (λ folder. folder_seen folder
-            ≡ record { tells = true; records = true; files = table_files files; disk = started_with
-            files; faults = 0; place = 0 }) }
+            ≡ record {
+              tells = true;
+              records = true;
+              files = table_files files;
+              disk = started_with files;
+              faults = 0;
+              place = 0;
+            }) }
         ensures fail_at { IfOk result (λ folder. (folder_script folder).fail_at.items
             ≡ fail_at.items) }
         ensures made { IfOk result (λ folder. (folder_script folder).calls ≡ 0) }
