@@ -86,7 +86,7 @@ fn undo_any<D: Folder>(
     form_row(alloc, name, &bytes)
 }
 
-/// The same of a name that was asked for alone.
+/// What undoing a name of the folder changes, or its first cause, where the name was asked for; nothing else.
 fn undo_if_asked<D: Folder>(
     alloc: Global,
     folder: &mut D,
@@ -102,7 +102,7 @@ fn undo_if_asked<D: Folder>(
     undo_asked(alloc, folder, name)
 }
 
-/// The same of a name that is valid alone.
+/// What undoing a name of the folder changes, or its first cause, where the name is valid; nothing else.
 fn undo_if_valid<D: Folder>(
     alloc: Global,
     folder: &mut D,

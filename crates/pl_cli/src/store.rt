@@ -42,7 +42,7 @@ fn file_by(alloc: Global, kind: Content, input: Vec<u8>) -> Result<Rows<u8>, Sto
     }
 }
 
-/// The same, where a folder stores it.
+/// The file that an input is, or the one that its recipe describes, where a folder stores a file of that size.
 fn stored_by(alloc: Global, kind: Content, input: Vec<u8>) -> Result<Rows<u8>, Stop>
     requires { length input.items ≤ spec.most_bytes kind }
     ensures means { MeansAlone (spec.content kind input.items) result }

@@ -42,7 +42,7 @@ fn is_stale(
     Ok(!is_whole(alloc, files, slots, name)?)
 }
 
-/// Those of the names that may be prelinked that are stale.
+/// The stale names among the names that may be prelinked.
 fn stale_among(
     alloc: Global,
     files: &[Known<'_>],

@@ -38,7 +38,7 @@ fn member_of<'a>(alloc: Global, known: &Known<'a>) -> Result<Option<Member<'a>>,
     }))
 }
 
-/// Those of all files, in their order.
+/// All files' names with their objects, in the files' order, but for files that have none.
 fn members_of<'a>(alloc: Global, files: &[Known<'a>]) -> Result<Vec<Member<'a>>, AllocError>
     ensures { IfOk result (λ v. walked v.items ≡ spec.named_objects files.now) }
 {

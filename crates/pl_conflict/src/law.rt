@@ -8,7 +8,7 @@ pub fn fast_is_ordinary()
     ensures { FastIsOrdinary }
 {}
 
-/// The same over a scope: a program and libraries, each accepted in its original, at places where no PT_LOADs meet. Their files load where they stand, by their own program headers, at the addresses of the originals; the libraries' files load what they would by their originals' headers; where no link table is, each file has its original's bytes outside the places, and the program's has the bytes of the relocated originals at its places. Then with the conflict rows of the scope as patches over the files as they stand, the image is the ordinary one at every address.
+/// The law of the fast path over a scope: a program and libraries, each accepted in its original, at places where no PT_LOADs meet. Their files load where they stand, by their own program headers, at the addresses of the originals; the libraries' files load what they would by their originals' headers; where no link table is, each file has its original's bytes outside the places, and the program's has the bytes of the relocated originals at its places. Then with the conflict rows of the scope as patches over the files as they stand, the image is the ordinary one at every address.
 pub fn conflicts_are_complete()
     ensures { ConflictsAreComplete }
 {}

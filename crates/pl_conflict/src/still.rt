@@ -61,7 +61,7 @@ fn is_set(flags: &[bool], index: usize) -> bool
     index < flags.len() && flags[index]
 }
 
-/// The same where the flag of an index is set.
+/// Whether the flag of an index is set and the file holds the word of that relocation.
 fn is_still(
     alloc: Global,
     own: &Scope<'_>,
@@ -85,7 +85,7 @@ fn is_still(
     Ok(false)
 }
 
-/// The same of relocations, in their order.
+/// For each relocation, in order: whether its flag is set and the file holds its word.
 fn flags_of(
     alloc: Global,
     own: &Scope<'_>,

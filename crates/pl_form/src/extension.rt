@@ -122,7 +122,7 @@ pub fn extension(
     Ok(block)
 }
 
-/// The same with zeros up to a multiple of 16 bytes, so that what follows in the file keeps its alignment.
+/// A block with zeros up to a multiple of 16 bytes, so that what follows in the file keeps its alignment.
 #[tactic(auto, unfolding(pl_parts::specs::Parts::whole_extension))]
 pub fn whole_extension(alloc: Global, block: &[u8]) -> Result<Vec<u8>, AllocError>
     ensures { IfOk result (λ v. v.items ≡ parts.whole_extension block.now) }

@@ -310,7 +310,7 @@ fn is_form(
     }
 }
 
-/// The same. Where it is, the file is a form of what is given.
+/// Whether a file is the form with these bytes at the places, of an original of this SHA-256. Where it is, the file is a form of what is given.
 fn makes_file(
     alloc: Global,
     file: &[u8],

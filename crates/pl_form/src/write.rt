@@ -91,7 +91,7 @@ fn with_more(
     Ok(file)
 }
 
-/// The same. Where nothing is inserted, no byte is copied.
+/// Bytes with others inserted at an offset, with room for so many. Where nothing is inserted, no byte is copied.
 fn with_inserted(
     alloc: Global,
     cut: usize,

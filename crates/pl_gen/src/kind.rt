@@ -10,10 +10,10 @@ pub enum Kind {
     /// The address of a function, in a word of its own.
     Abs64,
 
-    /// The same, in the global offset table.
+    /// The address of a function, in the global offset table.
     GlobDat,
 
-    /// The same, for the procedure linkage table.
+    /// The address of a function, for the procedure linkage table.
     JumpSlot,
 }
 

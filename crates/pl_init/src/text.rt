@@ -111,7 +111,7 @@ pub fn short_text(alloc: Global, scope: &Scope<'_>) -> Result<Vec<u8>, NoMemory>
     order_text(alloc, scope, &order, &[])
 }
 
-/// The same, with the rows of who reaches whom. It fails only for want of memory.
+/// The text of the order in which the members of a walk are initialised, with the rows of who reaches whom. It fails only for want of memory.
 #[tactic(auto, unfolding(crate::specs::OrderText::full_text))]
 pub fn full_text(alloc: Global, scope: &Scope<'_>) -> Result<Vec<u8>, NoMemory>
     requires { IsWalk scope.now }

@@ -12,7 +12,7 @@ use pl_io::NoMemory;
 use pl_object::{Object, Refusal};
 use std::alloc::Global;
 
-/// The same rows, with no room behind them.
+/// Rows with no room behind them.
 fn trimmed<T>(rows: Rows<T>) -> Rows<T>
     ensures { result ≡ rows }
 {
@@ -21,7 +21,7 @@ fn trimmed<T>(rows: Rows<T>) -> Rows<T>
     Rows::from_vec(rows)
 }
 
-/// The same object. Its long tables have no room behind them, since a run keeps the objects of all files at once.
+/// An object whose long tables have no room behind them, since a run keeps the objects of all files at once.
 fn trimmed_object(object: Object) -> Object
     ensures { result ≡ object }
 {

@@ -79,7 +79,7 @@ fn is_closed(definers: &Definers, own: &Scope<'_>, reloc: &Reloc) -> bool
     reloc.symbol == 0 || is_settled(definers, own, reference_of(0, reloc))
 }
 
-/// The same of relocations, in their order.
+/// For each relocation, in order: whether it gives the same in every scope.
 fn flags_of(
     alloc: Global,
     definers: &Definers,

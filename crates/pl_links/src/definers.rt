@@ -55,7 +55,7 @@ fn add_hashes(hashes: &mut Vec<u32>, object: &Object) -> Result<(), AllocError>
     Ok(())
 }
 
-/// Those of all objects, one after the other.
+/// The hashes of the definers of all objects, one object after the other.
 fn all_hashes(alloc: Global, files: &[Member<'_>]) -> Result<Vec<u32>, AllocError>
     ensures { IfOk result (λ v. v.items ≡ spec.all_hashes files.now) }
 {
@@ -93,7 +93,7 @@ fn is_repeated(hashes: &[u32], hash: u32) -> bool
 }
 
 impl Definers {
-    /// Those of objects under names, of which no two are one. The time grows as `n log n` with the symbols. It fails only for want of memory.
+    /// The hashes of the definers of objects under names, of which no two are one. The time grows as `n log n` with the symbols. It fails only for want of memory.
     pub fn of(alloc: Global, files: &[Member<'_>]) -> Result<Definers, NoMemory>
         ensures { IfOk result (spec.HasHashes (told (walked files.now))) }
     {

@@ -95,7 +95,7 @@ fn version_keys(
     Ok(keys)
 }
 
-/// The same, which are none where the object has no versions.
+/// The keys of all symbols, in order; none where the object has no versions.
 #[tactic(auto, using(crate::proofs::KeyLaws::no_version_keys))]
 fn named_keys(
     alloc: Global,

@@ -22,7 +22,7 @@ pub fn set_type(bytes: &mut [u8], kind: u16)
     put16(bytes, TYPE_AT, kind);
 }
 
-/// The same bytes with the type of a program.
+/// The bytes of a file with the type of a program.
 pub fn as_program(alloc: Global, bytes: &[u8]) -> Result<Vec<u8>, AllocError>
     requires { HEADER_SIZE ≤ length bytes.now }
     ensures bytes { IfOk result (λ v. v.items ≡ spec.as_program bytes.now) }

@@ -95,7 +95,7 @@ fn rows_of(
     Ok(rows)
 }
 
-/// The same as walks. There are fewer than 2^32 wants; more count as a want of memory.
+/// The walks of names, each as positions among the wants. There are fewer than 2^32 wants; more count as a want of memory.
 pub fn walks_of(
     alloc: Global,
     files: &[Known<'_>],

@@ -136,7 +136,7 @@ fn push_fill(
     Ok(())
 }
 
-/// Those of all relocations that are not NONE, in their order.
+/// What stands at the places of all relocations that are not NONE, in their order.
 #[tactic(auto, unfolding(crate::specs::Fills::fills))]
 fn fills_at(
     alloc: Global,

@@ -39,7 +39,7 @@ pub fn list_of(alloc: Global, sources: &[Source<'_>]) -> Result<Rows<ListRow>, A
     Ok(rows)
 }
 
-/// Those of the members after the first.
+/// The rows of the members after the first.
 pub fn list_after(alloc: Global, sources: &[Source<'_>]) -> Result<Rows<ListRow>, AllocError>
     ensures { IfOk result (λ rows. rows ≡ lent.list_after sources.now) }
 {

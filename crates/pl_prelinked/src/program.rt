@@ -68,7 +68,7 @@ fn part_of(alloc: Global, sources: &[Source<'_>], source: &Source<'_>) -> Result
     Ok(Vec::from_slice(alloc, source.original)?)
 }
 
-/// Those of all members.
+/// The files with which conflicts of all members are compared.
 fn parts_of(alloc: Global, sources: &[Source<'_>]) -> Result<Vec<Vec<u8>>, NoMemory>
     requires sources { AreSources sources.now }
     requires set { IsProgramSet sources.now }
@@ -132,7 +132,7 @@ fn linked(
     }
 }
 
-/// Those of the members' scope.
+/// The meanings of the members' scope.
 fn meanings_of(
     alloc: Global,
     sources: &[Source<'_>],
@@ -225,7 +225,7 @@ fn open_of(
     all_of(alloc, sources, modules)
 }
 
-/// The same, where it may not be known of any.
+/// Meanings of the members' scope that are enough for the program's file, where flags may be there for none of the members.
 fn enough_of(
     alloc: Global,
     sources: &[Source<'_>],
@@ -261,7 +261,7 @@ fn rows_by(
     conflicts_by(alloc, &scope, &places, all, parts)
 }
 
-/// The same where these files are to be made.
+/// The conflict rows of the members' scope by the meanings of its relocations, where the files with which they are compared are to be made.
 fn rows_made(
     alloc: Global,
     sources: &[Source<'_>],
@@ -386,7 +386,7 @@ fn form(
     }
 }
 
-/// That of the first of members with these bytes and rows.
+/// The form of the first of members with these bytes at its places and these rows.
 fn formed(
     alloc: Global,
     sources: &[Source<'_>],

@@ -36,7 +36,7 @@ impl<'a> Model for Source<'a> {
 }
 
 impl<'a> Source<'a> {
-    /// The same member.
+    /// A copy of the member.
     pub fn copy(&self) -> Source<'a>
         ensures { result ≡ self.now }
     {

@@ -64,7 +64,7 @@ fn windows_by(
     Ok(windows)
 }
 
-/// The same of all relocations of the first member. What the windows have is looked at again by `are_watched`.
+/// A window over all places of the relocations of the first member, and the windows from which they copy. What the windows have is looked at again by `are_watched`.
 pub fn windows_of(
     alloc: Global,
     scope: &Scope<'_>,

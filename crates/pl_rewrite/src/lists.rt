@@ -42,7 +42,7 @@ fn digest_made<'a>(run: &Run<'a>, source: &Source<'_>) -> Option<&'a [u8; 32]>
     }
 }
 
-/// That of the first of members.
+/// The SHA-256 of the first member's original, where it was made already.
 pub fn first_digest<'a>(run: &Run<'a>, sources: &[Source<'_>]) -> Option<&'a [u8; 32]>
     requires run { spec.IsRun run.now }
     requires own { All (spec.HasOriginal run.now) sources.now }
@@ -54,7 +54,7 @@ pub fn first_digest<'a>(run: &Run<'a>, sources: &[Source<'_>]) -> Option<&'a [u8
     digest_made(run, first)
 }
 
-/// The same, made now where it was not.
+/// The SHA-256 of a member's original, made now where it was not made already.
 pub fn digest_for(run: &Run<'_>, source: &Source<'_>) -> [u8; 32]
     requires run { spec.IsRun run.now }
     requires own { spec.HasOriginal run.now source.now }
@@ -107,7 +107,7 @@ fn list_of(
     Ok(rows)
 }
 
-/// Those of the members after the first.
+/// The rows of the members after the first.
 pub fn list_after(
     alloc: Global,
     run: &Run<'_>,

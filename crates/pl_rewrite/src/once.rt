@@ -23,7 +23,7 @@ fn digest_in<'a>(run: &Run<'a>, taken: &'a Taken) -> Digest<'a>
     }
 }
 
-/// Those of all files.
+/// The SHA-256 of the originals of all files.
 pub fn digests_of<'a>(alloc: Global, run: &Run<'a>) -> Result<Vec<Digest<'a>>, AllocError>
     requires { spec.IsRun run.now }
     ensures { IfOk result (λ v. All (spec.IsDigest run.now) v.items) }
@@ -35,7 +35,7 @@ pub fn digests_of<'a>(alloc: Global, run: &Run<'a>) -> Result<Vec<Digest<'a>>, A
     Ok(digests)
 }
 
-/// The same bytes with no room behind them.
+/// Bytes with no room behind them.
 fn trimmed(bytes: Vec<u8>) -> Vec<u8>
     ensures { result.items ≡ bytes.items }
 {

@@ -34,7 +34,7 @@ fn own_flag(word: Option<u64>, held: u64) -> Option<bool>
     }
 }
 
-/// The same of all relocations; None where one has another word than the file holds.
+/// For each relocation, whether the word that the file holds at its place is its own; None where one has another word than the file holds.
 fn own_flags(
     alloc: Global,
     wanted: &[Option<u64>],
@@ -143,7 +143,7 @@ fn library_among<'a>(
     }))
 }
 
-/// The same with its walk.
+/// What is known of a library, the first of this walk, by its prelinked file. None where there is no such file.
 fn library_by<'a>(
     alloc: Global,
     run: &Run<'a>,
@@ -162,7 +162,7 @@ fn library_by<'a>(
     library_among(alloc, run, link, name, sources.as_slice())
 }
 
-/// The same of a name; None where it has no walk that begins with a library.
+/// What is known of the library of a name; None where it has no walk that begins with a library.
 fn library_with<'a>(
     alloc: Global,
     run: &Run<'a>,
@@ -183,7 +183,7 @@ fn library_with<'a>(
     Ok(None)
 }
 
-/// The same of a name that may be prelinked.
+/// What is known of the library of a name that may be prelinked; None where it is no library.
 fn library_of<'a>(
     alloc: Global,
     run: &Run<'a>,
@@ -199,7 +199,7 @@ fn library_of<'a>(
     }
 }
 
-/// The same of a file; None where it is no library, or may not be prelinked.
+/// What is known of the library of a file; None where it is no library, or may not be prelinked.
 fn library_in<'a>(
     alloc: Global,
     run: &Run<'a>,

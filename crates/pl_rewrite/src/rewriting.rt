@@ -76,7 +76,7 @@ fn decided_with_libraries(alloc: Global, run: &Run<'_>) -> Result<Vec<Decided>, 
     all_decided(alloc, run, left)
 }
 
-/// The same, where the SHA-256 of each original is made once.
+/// What is decided of the files of a run, where the SHA-256 of each original is made once.
 fn decided_with_digests(alloc: Global, run: &Run<'_>) -> Result<Vec<Decided>, NoMemory>
     requires { IsRun run.now }
     ensures { IfOk result (λ v. AllZip (IsDecided run.now) run.now.files.now v.items) }

@@ -143,7 +143,7 @@ fn source_of<'a>(run: &Run<'a>, taken: &'a Taken, object: &'a Object) -> Source<
     }
 }
 
-/// The same by the member's name.
+/// A member as its file and the plan have it, found by the member's name.
 fn member_source<'a>(run: &Run<'a>, member: &Member<'a>) -> Option<Source<'a>>
     requires run { spec.IsRun run.now }
     requires member { spec.IsMember run.now (member.now.name, member.now.object.now) }
@@ -155,7 +155,7 @@ fn member_source<'a>(run: &Run<'a>, member: &Member<'a>) -> Option<Source<'a>>
     }
 }
 
-/// The same of all members, in their order.
+/// All members as their files and the plan have them, in their order.
 pub fn sources_of<'a>(
     alloc: Global,
     run: &Run<'a>,

@@ -37,7 +37,7 @@ fn still_for<'a>(run: &Run<'a>, source: &Source<'_>) -> Option<Still<'a>>
     }
 }
 
-/// The same of all members, in their order, where nothing is known of the first, which is the walk's program. None where another has nothing.
+/// What is known of the relocations of all members, in their order, where nothing is known of the first, which is the walk's program. None where another has nothing.
 pub fn still_of<'a>(
     alloc: Global,
     run: &Run<'a>,

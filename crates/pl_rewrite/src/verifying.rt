@@ -41,7 +41,7 @@ fn source_by<'a>(taken: &'a Taken, object: &'a Object, marked: &'a Marked) -> So
     }
 }
 
-/// The same by its file, if that is prelinked.
+/// A member of a walk, as its prelinked file bears it, by its file, if that is prelinked.
 fn source_in<'a>(taken: &'a Taken, object: &'a Object) -> Option<Source<'a>>
     ensures { result ≡ spec.source_of object.now (Some taken.now) }
 {
@@ -51,7 +51,7 @@ fn source_in<'a>(taken: &'a Taken, object: &'a Object) -> Option<Source<'a>>
     }
 }
 
-/// The same by its name.
+/// A member of a walk, as its prelinked file bears it, by its name, if its file is prelinked.
 fn source_of<'a>(files: &'a [Taken], member: &Member<'a>) -> Option<Source<'a>>
     ensures { result ≡ spec.source files.now member.now }
 {

@@ -17,13 +17,13 @@ use pl_ver::constants::{VER_NDX_GLOBAL, VER_NDX_LOCAL};
 /// Which of the definers of a name a step of the search takes.
 #[derive(Clone, Copy)]
 pub enum Pick<'a> {
-    /// Those of a version.
+    /// The definers of a version.
     Version(&'a [u8]),
 
     /// Those whose version word is exactly that of no version.
     Plain,
 
-    /// Those of a version index, bit 15 aside.
+    /// The definers of a version index, bit 15 aside.
     Index(u16),
 
     /// Each.

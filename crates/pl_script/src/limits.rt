@@ -52,7 +52,7 @@ fn is_wrong(made: usize, before: &[Line], line: &Line) -> bool
     }
 }
 
-/// The same of the line at an index.
+/// Whether the line at an index of a script with so many loaders is wrong.
 #[tactic(auto, unfolding(crate::specs::Limits::is_wrong_at))]
 fn is_wrong_at(made: usize, lines: &[Line], index: usize) -> bool
     ensures { result ≡ spec.is_wrong_at made lines.now index }
