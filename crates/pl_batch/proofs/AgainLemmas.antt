@@ -19,8 +19,9 @@ use Rattle.pl_journal.proofs.Endings.{makes_told, then_told}
 use Rattle.pl_journal.proofs.FileViews.{one_view, read_files}
 use Rattle.pl_journal.proofs.Meanings.{nothing_done, nothing_recovered, recovered_no_own, stands_recovered, stands_self}
 use Rattle.pl_journal.proofs.Moments.{joined, weaker}
+use Rattle.pl_journal.proofs.RealLemmas.{on_any, on_then}
 use Rattle.pl_journal.proofs.RecoverLemmas.{looks_keep}
-use Rattle.pl_batch.specs.Commands.{Commands, CommandsDisk, CommandsFiles, Failed, IsBefore, Lacked, Made, Meaning, OnTheWay, Outcome, Refused, ready, ready_for, stopped}
+use Rattle.pl_batch.specs.Commands.{Commands, CommandsDisk, CommandsFiles, CommandsOn, Failed, IsBefore, Lacked, Made, Meaning, OnTheWay, Outcome, Refused, ready, ready_for, stopped}
 use Rattle.pl_batch.specs.Restored.{restored}
 use Rattle.pl_batch.specs.declared.cause.Cause.{Cause}
 use Rattle.pl_batch.specs.declared.cause.Cause.TheVariants as causes
@@ -118,20 +119,20 @@ module _ (A B C : Disk) (rows : List Row) (found : rows_in (read A.now journal) 
   way_on changes next = joined A B C (OnTheWay v changes) (weaker A B (StandsFor v) (OnTheWay v changes) (λ w s. inl s) keeps)
       (weaker B C (OnTheWay (read B.now) changes) (OnTheWay v changes) (λ w s. way v rows found changes w (subst (λ (u : View). OnTheWay u changes w) is s)) next)
 
-  disk_on : (o : Outcome K) (e : Ending) → CommandsDisk meant o e B C → CommandsDisk meant o e A C
-  disk_on Made e two = λ before stands.
+  disk_on : (o : Outcome K) → CommandsOn meant o B C → CommandsOn meant o A C
+  disk_on Made two = λ before stands.
       let eq = at v rows found meant b same before stands in
       let r = two b (here v rows found meant b same (read B.now) is) in
       (r.0, record { means = ap meant eq ∙ r.1.means; settled = subst (λ (f : Files). IsSettled (applied r.0 (get f)) C.now) (sym eq) r.1.settled; on_the_way = way_on r.0 r.1.on_the_way })
-  disk_on Failed e (inl looks) = inr (inl (looks_on looks))
-  disk_on Failed e (inr (inl next)) = inr (inl (stands_on next))
-  disk_on Failed e (inr (inr breaks)) = inr (inr (λ before stands.
+  disk_on Failed (inl looks) = inr (inl (looks_on looks))
+  disk_on Failed (inr (inl next)) = inr (inl (stands_on next))
+  disk_on Failed (inr (inr breaks)) = inr (inr (λ before stands.
       let eq = at v rows found meant b same before stands in
       let r = breaks b (here v rows found meant b same (read B.now) is) in
       (r.0, record { means = ap meant eq ∙ r.1.means; on_the_way = way_on r.0 r.1.on_the_way })))
-  disk_on Lacked e (inl looks) = inr (looks_on looks)
-  disk_on Lacked e (inr next) = inr (stands_on next)
-  disk_on (Refused cause) e two = λ before stands.
+  disk_on Lacked (inl looks) = inr (looks_on looks)
+  disk_on Lacked (inr next) = inr (stands_on next)
+  disk_on (Refused cause) two = λ before stands.
       let eq = at v rows found meant b same before stands in
       let l = two b (here v rows found meant b same (read B.now) is) in
       record { means = ap meant eq ∙ l.means; only = λ w image n. ap (λ (f : Files). get f n) eq ∙ l.only w image n; on_the_way = stands_on l.on_the_way }
@@ -163,13 +164,13 @@ module _ (name : List ℕ) (a b : Seen) (law : IsFolder a) (first : Calls Done (
     disk_keeps : Keeps a.disk b.disk (StandsFor start)
     disk_keeps =
         let before = restored a.files in
-        let made = first.disk told before stands in
+        let made = (first.disk told).0 before stands in
         let none = (is_ready name before made.0 made.1.means).0 in
         weaker a.disk b.disk (OnTheWay start made.0) (StandsFor start) (λ w s. no_way start disk_rows.0 disk_rows.1 w (subst (λ (rs : List Change). OnTheWay start rs w) none s)) made.1.on_the_way
 
     disk_only : (before : Files) → IsBefore start before → Within b.disk.now (Same (get before))
     disk_only before is w image n =
-        let made = first.disk told before is in
+        let made = (first.disk told).0 before is in
         let none = (is_ready name before made.0 made.1.means).0 in
         ap (λ (rs : List Change). applied rs (get before) n) (sym none) ∙ made.1.settled.only w image n
 
@@ -183,16 +184,19 @@ module _ (name : List ℕ) (a b : Seen) (law : IsFolder a) (first : Calls Done (
         let made = one before is in
         let ready_is = made.1.means ∙ ap Ok (is_ready name before made.0 made.1.means).0 in
         record { means = refuses before ready_is; files = sym (before_is (get a.files) before b.files is (it_files told).2) })
-        (λ told one before is.
-        let made = one before is in
-        let ready_is = made.1.means ∙ ap Ok (is_ready name before made.0 made.1.means).0 in
-        record { means = refuses before ready_is; only = disk_only told before is; on_the_way = disk_keeps told })
+        (λ told one. (
+          λ before is.
+              let made = one.0 before is in
+              let ready_is = made.1.means ∙ ap Ok (is_ready name before made.0 made.1.means).0 in
+              record { means = refuses before ready_is; only = disk_only told before is; on_the_way = disk_keeps told },
+          one.1,
+        ))
 
     -- or memory lacks
     pub lacked_after : Calls Undone (Commands meant Lacked) a b
     lacked_after = makes_told refl first
         (λ told one. let it = it_files told in stands_recovered (get a.files) it.0 it.1 (get b.files) (stands_self (recovered (get a.files)) (get b.files) it.2))
-        (λ told one. inr (disk_keeps told))
+        (λ told one. (inr (disk_keeps told), on_any Undone one.1))
 
 -- ---- or a command comes
 
@@ -206,7 +210,7 @@ commands_on name meant o e a b c la lb first second = then_told first second
     let rows = disk_rows name a b la first told in
     let same = disk_same name a b la first told in
     let is : read b.disk.now ≡ recovered v = sym (read_files b lb (first.records ∙ told)) ∙ one_view (get b.files) (recovered v) same in
-    disk_on a.disk b.disk c.disk rows.0 rows.1 meant b.files same is (disk_keeps name a b la first told) o e two)
+    (disk_on a.disk b.disk c.disk rows.0 rows.1 meant b.files same is (disk_keeps name a b la first told) o two.0, on_then one.1 two.1))
 
 -- ---- a cause in other words
 
@@ -223,13 +227,13 @@ module _ {C D : Type 0} (f : C → D) (meant : Meaning C) where
   pub recaused : (o : Outcome C) {e : Ending} {a b : Seen} → Calls e (Commands meant o) a b → Calls e (Commands meant_by (outcome_by f o)) a b
   recaused Made call = makes_told refl call
       (λ told one before is. let made = one before is in (made.0, record { means = ap (because f) made.1.means; files = made.1.files }))
-      (λ told one before is. let made = one before is in (made.0, record { means = ap (because f) made.1.means; settled = made.1.settled; on_the_way = made.1.on_the_way }))
+      (λ told one. (λ before is. let made = one.0 before is in (made.0, record { means = ap (because f) made.1.means; settled = made.1.settled; on_the_way = made.1.on_the_way }), one.1))
   recaused (Refused cause) call = makes_told refl call
       (λ told one before is. let l = one before is in record { means = ap (because f) l.means; files = l.files })
-      (λ told one before is. let l = one before is in record { means = ap (because f) l.means; only = l.only; on_the_way = l.on_the_way })
+      (λ told one. (λ before is. let l = one.0 before is in record { means = ap (because f) l.means; only = l.only; on_the_way = l.on_the_way }, one.1))
   recaused Failed call = makes_told refl call
       (λ told one. ⊎_elim inl (λ breaks. inr (λ before is. let made = breaks before is in (made.0, record { means = ap (because f) made.1.means; stands = made.1.stands }))) one)
-      (λ told one. ⊎_elim inl (λ more. inr (⊎_elim inl (λ breaks. inr (λ before is. let made = breaks before is in (made.0, record { means = ap (because f) made.1.means; on_the_way = made.1.on_the_way }))) more)) one)
+      (λ told one. (⊎_elim inl (λ more. inr (⊎_elim inl (λ breaks. inr (λ before is. let made = breaks before is in (made.0, record { means = ap (because f) made.1.means; on_the_way = made.1.on_the_way }))) more)) one.0, one.1))
   recaused Lacked call = makes_told refl call (λ told one. one) (λ told one. one)
 
 -- ---- it stops before it is ready
@@ -245,14 +249,17 @@ early_fails name meant {a = a} {b = b} law call = makes_told refl call
     let j = journal_rows v before (restored_before a.files) is.1 in
     let between : StandsBetween (recovered v) broke.0 (get b.files) = subst (λ (u : View). StandsBetween u broke.0 (get b.files)) (one_view (get before) (recovered v) (restored_before a.files)) broke.1.stands in
     no_way v j.0 j.1 (get b.files) (inr (subst (λ (rs : List Change). StandsBetween (recovered v) rs (get b.files)) is.0 between))) one))
-    (λ told one. ⊎_elim inl (λ more. inr (⊎_elim inl (λ breaks.
-    let v = read a.disk.now in
-    let before = restored a.files in
-    let stands = subst (λ (u : View). IsBefore u before) (read_files a law told) (restored_before a.files) in
-    let broke = breaks before stands in
-    let is = is_ready name before broke.0 broke.1.means in
-    let j = journal_rows v before stands is.1 in
-    inl (weaker a.disk b.disk (OnTheWay v broke.0) (StandsFor v) (λ w s. no_way v j.0 j.1 w (subst (λ (rs : List Change). OnTheWay v rs w) is.0 s)) broke.1.on_the_way)) more)) one)
+    (λ told one. (
+      ⊎_elim inl (λ more. inr (⊎_elim inl (λ breaks.
+          let v = read a.disk.now in
+          let before = restored a.files in
+          let stands = subst (λ (u : View). IsBefore u before) (read_files a law told) (restored_before a.files) in
+          let broke = breaks before stands in
+          let is = is_ready name before broke.0 broke.1.means in
+          let j = journal_rows v before stands is.1 in
+          inl (weaker a.disk b.disk (OnTheWay v broke.0) (StandsFor v) (λ w s. no_way v j.0 j.1 w (subst (λ (rs : List Change). OnTheWay v rs w) is.0 s)) broke.1.on_the_way)) more)) one.0,
+      one.1,
+    ))
 
 module _ (name : List ℕ) {C : Type 0} (f : Cause → C) (meant : Meaning C) (refuses : (cause : Cause) (before : Files) → ready_for name before ≡ Err cause → meant before ≡ Err (f cause)) where
   pub stops_first : (fault : BatchFault) {a b : Seen} → IsFolder a → Calls (fault_ending fault) (Commands (ready_for name) (stopped fault)) a b → Calls (fault_ending fault) (Commands meant (outcome_by f (stopped fault))) a b
@@ -260,7 +267,7 @@ module _ (name : List ℕ) {C : Type 0} (f : Cause → C) (meant : Meaning C) (r
   stops_first NoMemory law call = makes_told refl call (λ told one. one) (λ told one. one)
   stops_first (faults.Cause cause) law call = makes_told refl call
       (λ told one before is. let l = one before is in record { means = refuses cause before l.means; files = l.files })
-      (λ told one before is. let l = one before is in record { means = refuses cause before l.means; only = l.only; on_the_way = l.on_the_way })
+      (λ told one. (λ before is. let l = one.0 before is in record { means = refuses cause before l.means; only = l.only; on_the_way = l.on_the_way }, one.1))
 
 -- ---- refused, and then no memory is left to say so
 
@@ -280,4 +287,4 @@ module _ {C : Type 0} (meant : Meaning C) (cause : C) (a b : Seen) where
   pub refused_disk : IsFolder a → a.records ≡ true → CommandsDisk meant (Refused cause) Done a.disk b.disk → CommandsDisk meant Lacked Undone a.disk b.disk
   refused_disk law told one =
       let stands = subst (λ (u : View). IsBefore u (restored a.files)) (read_files a law told) (restored_before a.files) in
-      inr (one (restored a.files) stands).on_the_way
+      (inr (one.0 (restored a.files) stands).on_the_way, on_any Undone one.1)

@@ -13,12 +13,14 @@ use Rattle.pl_folder.specs.Seen.{Seen, Ending, Done, Broken, Undone}
 use Rattle.pl_journal.specs.Meaning.{Same, StandsFor}
 use Rattle.pl_journal.specs.Names.{journal}
 use Rattle.pl_journal.specs.Parts.{Recovers}
+use Rattle.pl_journal.specs.RealDisk.{RunsFirmly}
 use Rattle.pl_journal.specs.Rows.{all_done, recovered, rows_in}
 use Rattle.pl_journal.specs.declared.fault.JournalFault.TheVariants as journal_faults
 use Rattle.pl_journal.specs.declared.row.Row.{Row}
 use Rattle.pl_journal.proofs.Endings.{makes_told}
 use Rattle.pl_journal.proofs.Meanings.{recovered_no_own, stands_self}
 use Rattle.pl_journal.proofs.Moments.{weaker}
+use Rattle.pl_journal.proofs.RealLemmas.{on_any}
 use Rattle.pl_batch.specs.Answers.{ending, fault_ending}
 use Rattle.pl_batch.specs.Commands.{Failed, IsBefore, Lacked, Made, Meaning, Outcome, Refused, outcome, ready, ready_for, stopped}
 use Rattle.pl_batch.specs.Starts.{Named, Starts, bad_name}
@@ -44,10 +46,10 @@ no_journal_ready files none = ap (λ (o : Option (List ℕ)). unless (not (is_so
 ready_recovered : (old : View) (rows : List Row) → rows_in (old journal) ≡ Some rows → (before : Files) → IsBefore old before → ready before ≡ Ok []
 ready_recovered old rows is before stands = no_journal_ready before (stands journal ∙ recovered_no_own old rows is journal refl)
 
-pub started : {a b : Seen} → Calls Done (Recovers None) a b → Calls Done (Starts ready Made) a b
-started {a = a} call = makes_told refl call
+pub started : {a b : Seen} → Calls Done (Recovers None) a b → RunsFirmly Done a b → Calls Done (Starts ready Made) a b
+started {a = a} call real = makes_told refl call
     (λ told files. (files, λ before is. ready_recovered (get a.files) files.0 files.1 before is))
-    (λ told disk. (disk, λ before is. ready_recovered (read a.disk.now) disk.1.rows disk.1.spelled before is))
+    (λ told disk. ((disk, λ before is. ready_recovered (read a.disk.now) disk.1.rows disk.1.spelled before is), real.disk told))
 
 -- ---- outside it
 
@@ -59,29 +61,32 @@ bad_ready : (files : Files) → rows_in (get files journal) ≡ None → ready f
 unfolding ready
 bad_ready files bad = ap (λ (o : Option (List Row)). unless (not (is_some o)) causes.BadJournal (Ok [])) bad
 
-pub started_bad : {a b : Seen} → Calls Undone (Recovers (Some journal_faults.BadJournal)) a b → Calls Done (Starts ready (Refused causes.BadJournal)) a b
-started_bad {a = a} {b = b} call = makes_told refl call
+pub started_bad : {a b : Seen} → Calls Undone (Recovers (Some journal_faults.BadJournal)) a b → RunsFirmly Done a b → Calls Done (Starts ready (Refused causes.BadJournal)) a b
+started_bad {a = a} {b = b} call real = makes_told refl call
     (λ told files before is.
     let same : before ≡ a.files = one_map before a.files (λ n. is n ∙ recovered_bad (get a.files) files.0 n) in
     record { means = ap ready same ∙ bad_ready a.files files.0; files = files.1 ∙ sym same })
-    (λ told disk before is. ⊎_elim
-    (λ keeps. record {
-      means = bad_ready before (ap rows_in (is journal ∙ recovered_bad (read a.disk.now) keeps.1 journal) ∙ keeps.1);
-      only = λ w image n. is n ∙ recovered_bad (read a.disk.now) keeps.1 n ∙ keeps.0.now w image n;
-      on_the_way = weaker a.disk b.disk (Same (read a.disk.now)) (StandsFor (read a.disk.now)) (λ w same. stands_self (read a.disk.now) w (λ n. sym (same n))) keeps.0;
-    })
-    (λ looks. let no : ⊥ = cc in absurd no)
-    disk)
+    (λ told disk. (
+      λ before is. ⊎_elim
+          (λ keeps. record {
+            means = bad_ready before (ap rows_in (is journal ∙ recovered_bad (read a.disk.now) keeps.1 journal) ∙ keeps.1);
+            only = λ w image n. is n ∙ recovered_bad (read a.disk.now) keeps.1 n ∙ keeps.0.now w image n;
+            on_the_way = weaker a.disk b.disk (Same (read a.disk.now)) (StandsFor (read a.disk.now)) (λ w same. stands_self (read a.disk.now) w (λ n. sym (same n))) keeps.0;
+          })
+          (λ looks. let no : ⊥ = cc in absurd no)
+          disk,
+      real.disk told,
+    ))
 
 -- ---- faults
 
-pub start_failed : (meant : Meaning Cause) {a b : Seen} → Calls Broken (Recovers (Some journal_faults.Failed)) a b → Calls Broken (Starts meant Failed) a b
-start_failed meant call = makes_told refl call (λ told files. files) (λ told disk. ⊎_elim (λ keeps. inr keeps) (λ looks. inl looks.1) disk)
+pub start_failed : (meant : Meaning Cause) {a b : Seen} → Calls Broken (Recovers (Some journal_faults.Failed)) a b → RunsFirmly Done a b → Calls Broken (Starts meant Failed) a b
+start_failed meant call real = makes_told refl call (λ told files. files) (λ told disk. (⊎_elim (λ keeps. inr keeps) (λ looks. inl looks.1) disk, on_any Broken (real.disk told)))
 
-pub start_lacked : (meant : Meaning Cause) {a b : Seen} → Calls Undone (Recovers (Some journal_faults.NoMemory)) a b → Calls Undone (Starts meant Lacked) a b
-start_lacked meant {a = a} {b = b} call = makes_told refl call
+pub start_lacked : (meant : Meaning Cause) {a b : Seen} → Calls Undone (Recovers (Some journal_faults.NoMemory)) a b → RunsFirmly Done a b → Calls Undone (Starts meant Lacked) a b
+start_lacked meant {a = a} {b = b} call real = makes_told refl call
     (λ told files. stands_self (get a.files) (get b.files) (λ n. ap (λ f. get f n) files))
-    (λ told disk. ⊎_elim inr (λ looks. let no : ⊥ = cc in absurd no) disk)
+    (λ told disk. (⊎_elim inr (λ looks. let no : ⊥ = cc in absurd no) disk, on_any Undone (real.disk told)))
 
 -- ---- for a name
 
@@ -102,12 +107,12 @@ module _ (name : List ℕ) where
   pub invalid_start : {a b : Seen} → is_valid_name name ≡ false → Calls Done (Starts ready Made) a b → Calls Done (Starts (ready_for name) (Refused causes.BadName)) a b
   invalid_start {a = a} {b = b} invalid call = makes_told refl call
       (λ told files before is. record { means = invalid_ready name invalid before; files = sym (before_is (get a.files) before b.files is files.0.2) })
-      (λ told disk before is. record { means = invalid_ready name invalid before; only = λ w image n. is n ∙ disk.0.1.settled.only w image n; on_the_way = disk.0.0 })
+      (λ told disk. (λ before is. record { means = invalid_ready name invalid before; only = λ w image n. is n ∙ disk.0.0.1.settled.only w image n; on_the_way = disk.0.0.0 }, disk.1))
 
   pub invalid_stop : {a b : Seen} (cause : Cause) → is_valid_name name ≡ false → Calls Done (Starts ready (Refused cause)) a b → Calls Done (Starts (ready_for name) (Refused causes.BadName)) a b
   invalid_stop cause invalid call = makes_told refl call
       (λ told files before is. record { means = invalid_ready name invalid before; files = (files before is).files })
-      (λ told disk before is. record { means = invalid_ready name invalid before; only = (disk before is).only; on_the_way = (disk before is).on_the_way })
+      (λ told disk. (λ before is. record { means = invalid_ready name invalid before; only = (disk.0 before is).only; on_the_way = (disk.0 before is).on_the_way }, disk.1))
 
   pub failed_stop : {a b : Seen} → Calls Broken (Starts ready Failed) a b → Calls Broken (Starts (ready_for name) Failed) a b
   failed_stop call = makes_told refl call (λ told files. files) (λ told disk. disk)

@@ -11,6 +11,7 @@ use Rattle.pl_folder.specs.Since.{Keeps, Within}
 use Rattle.pl_journal.specs.Leaves.{Looks}
 use Rattle.pl_journal.specs.Meaning.{Same, StandsFor, StandsBetween, IsSettled, applied}
 use Rattle.pl_journal.specs.Names.{journal}
+use Rattle.pl_journal.specs.RealDisk.{RunsFirmlyOn}
 use Rattle.pl_journal.specs.Rows.{recovered, rows_in}
 use Rattle.pl_journal.specs.declared.change.Change.{Change}
 use Rattle.pl_batch.specs.declared.cause.Cause.{Cause}
@@ -113,11 +114,16 @@ abbrev pub FailsDisk : {C : Type 0} → Meaning C → Disk → Disk → Type 0
 FailsDisk meant old new =
     Looks old new ⊎ (Keeps old new (StandsFor (read old.now)) ⊎ ((before : Files) → IsBefore (read old.now) before → (rows : List Change) × BreaksDisk rows before old new meant))
 
+-- by how it came out
+abbrev pub CommandsOn : {C : Type 0} → Meaning C → Outcome C → Disk → Disk → Type 0
+CommandsOn meant Made old new = (before : Files) → IsBefore (read old.now) before → (rows : List Change) × MakesDisk rows before old new meant
+CommandsOn meant (Refused cause) old new = (before : Files) → IsBefore (read old.now) before → LeavesDisk cause before old new meant
+CommandsOn meant Failed old new = FailsDisk meant old new
+CommandsOn meant Lacked old new = Looks old new ⊎ Keeps old new (StandsFor (read old.now))
+
+-- and it is the same on a disk whose settle makes names last and no file's bytes, from one all of whose files are firm
 abbrev pub CommandsDisk : {C : Type 0} → Meaning C → Outcome C → Ending → Disk → Disk → Type 0
-CommandsDisk meant Made e old new = (before : Files) → IsBefore (read old.now) before → (rows : List Change) × MakesDisk rows before old new meant
-CommandsDisk meant (Refused cause) e old new = (before : Files) → IsBefore (read old.now) before → LeavesDisk cause before old new meant
-CommandsDisk meant Failed e old new = FailsDisk meant old new
-CommandsDisk meant Lacked e old new = Looks old new ⊎ Keeps old new (StandsFor (read old.now))
+CommandsDisk meant o e old new = CommandsOn meant o old new × RunsFirmlyOn e old new
 
 abbrev pub Commands : {C : Type 0} → Meaning C → Outcome C → Effect
 Commands meant o = record { files = CommandsFiles meant o; disk = CommandsDisk meant o }

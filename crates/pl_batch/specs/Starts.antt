@@ -10,12 +10,13 @@ use Rattle.pl_folder.specs.Since.{Keeps}
 use Rattle.pl_journal.specs.Leaves.{Looks, RecoversDisk}
 use Rattle.pl_journal.specs.Meaning.{StandsFor}
 use Rattle.pl_journal.specs.Parts.{RecoversFiles}
+use Rattle.pl_journal.specs.RealDisk.{RunsFirmlyOn}
 use Rattle.pl_batch.specs.declared.cause.Cause.TheVariants.{BadName}
 use Rattle.pl_batch.specs.declared.fault.BatchFault.{BatchFault}
 use Rattle.pl_batch.specs.declared.fault.BatchFault.TheVariants.{DiskFailed, NoMemory}
 use Rattle.pl_batch.specs.declared.fault.BatchFault.TheVariants as faults
 use Rattle.pl_batch.specs.declared.cause.Cause.{Cause}
-use Rattle.pl_batch.specs.Commands.{CommandsDisk, CommandsFiles, IsBefore, Meaning, Outcome, Made, Refused, Failed, Lacked}
+use Rattle.pl_batch.specs.Commands.{CommandsFiles, CommandsOn, IsBefore, Meaning, Outcome, Made, Refused, Failed, Lacked}
 
 -- what the command means of the recovered files has no cause yet, and no changes
 abbrev pub Passes : Meaning Cause → Files → Type 0
@@ -27,11 +28,14 @@ StartsFiles meant (Refused cause) e old new = CommandsFiles meant (Refused cause
 StartsFiles meant Failed e old new = StandsFor (get old) (get new)
 StartsFiles meant Lacked e old new = CommandsFiles meant Lacked e old new
 
+abbrev pub StartsOn : Meaning Cause → Outcome Cause → Disk → Disk → Type 0
+StartsOn meant Made old new = RecoversDisk None (read old.now) old new × ((before : Files) → IsBefore (read old.now) before → Passes meant before)
+StartsOn meant (Refused cause) old new = CommandsOn meant (Refused cause) old new
+StartsOn meant Failed old new = Looks old new ⊎ Keeps old new (StandsFor (read old.now))
+StartsOn meant Lacked old new = CommandsOn meant Lacked old new
+
 abbrev pub StartsDisk : Meaning Cause → Outcome Cause → Ending → Disk → Disk → Type 0
-StartsDisk meant Made e old new = RecoversDisk None (read old.now) old new × ((before : Files) → IsBefore (read old.now) before → Passes meant before)
-StartsDisk meant (Refused cause) e old new = CommandsDisk meant (Refused cause) e old new
-StartsDisk meant Failed e old new = Looks old new ⊎ Keeps old new (StandsFor (read old.now))
-StartsDisk meant Lacked e old new = CommandsDisk meant Lacked e old new
+StartsDisk meant o e old new = StartsOn meant o old new × RunsFirmlyOn e old new
 
 abbrev pub Starts : Meaning Cause → Outcome Cause → Effect
 Starts meant o = record { files = StartsFiles meant o; disk = StartsDisk meant o }

@@ -13,6 +13,7 @@ use Rattle.pl_folder.specs.Calls.{Calls}
 use Rattle.pl_folder.specs.Seen.{Seen, Done, Undone}
 use Rattle.pl_journal.specs.declared.change.Change.{Change}
 use Rattle.pl_journal.proofs.Meanings.{stands_self}
+use Rattle.pl_journal.proofs.RealLemmas.{on_looks}
 use Rattle.pl_journal.proofs.RecoverLemmas.{no_look}
 use Rattle.pl_words.specs.declared.command.Policy.{Policy}
 use Rattle.pl_batch.specs.Answers.{fault_ending}
@@ -118,7 +119,7 @@ module _ (name : List ℕ) where
 
   -- there was no memory for the line
   pub not_said : (a : Seen) → HasUnfixed name (Err stops.NoMemory) a a
-  not_said a = record { named = tt; reads = refl; calls = no_calls Undone a refl (stands_self (get a.files) (get a.files) (λ n. refl)) (inl (no_look a.disk a.disk refl)); text = tt }
+  not_said a = record { named = tt; reads = refl; calls = no_calls Undone a refl (stands_self (get a.files) (get a.files) (λ n. refl)) (inl (no_look a.disk a.disk refl), on_looks Undone (no_look a.disk a.disk refl)); text = tt }
 
   pub came_unfixed : (i : Input) {a b : Seen} (r : Result (Vec ℕ Global) Stop) → HasUnfixed name r a b → Came (Some (commands.Unfix name)) as_is r a b i i
   came_unfixed i {a = a} {b = b} (Ok text) found = record {

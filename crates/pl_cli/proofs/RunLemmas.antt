@@ -40,6 +40,7 @@ use Rattle.pl_cli.proofs.CallLemmas.{as_calls, asked_all, looked_all, no_calls}
 use Rattle.pl_cli.proofs.LoadLemmas.{loaded_is}
 use Rattle.pl_cli.proofs.WriteLemmas.{unread}
 use Rattle.pl_journal.proofs.Meanings.{stands_self}
+use Rattle.pl_journal.proofs.RealLemmas.{on_looks}
 use Rattle.pl_journal.proofs.RecoverLemmas.{no_look}
 
 -- ---- the folder, where it ends with another status
@@ -339,7 +340,7 @@ ran_usage a i statuses.NoMemory fin = let e = fin.ends refl in cc
 -- ---- memory lacks before anything is asked
 
 lacks_writing : (meant : List ℕ → Meaning Cause) (input : Option (List ℕ)) (a : Seen) → Calls Undone (WritesFolder meant input statuses.NoMemory) a a
-lacks_writing meant input a = no_calls Undone a refl (bytes_of input, (λ _. refl), stands_self (get a.files) (get a.files) (λ n. refl)) (bytes_of input, (λ _. refl), inl (no_look a.disk a.disk refl))
+lacks_writing meant input a = no_calls Undone a refl (bytes_of input, (λ _. refl), stands_self (get a.files) (get a.files) (λ n. refl)) (bytes_of input, (λ _. refl), (inl (no_look a.disk a.disk refl), on_looks Undone (no_look a.disk a.disk refl)))
 
 lacks : (asked : Option Command) (input : Option (List ℕ)) (a : Seen) → Calls Undone (Makes asked a.files input statuses.NoMemory) a a
 lacks None input a = no_calls Undone a refl refl (0, omega arith, refl)

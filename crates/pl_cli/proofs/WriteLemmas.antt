@@ -16,6 +16,7 @@ use Rattle.pl_journal.specs.declared.change.Change.{Change}
 use Rattle.pl_batch.specs.Answers.{fault_ending}
 use Rattle.pl_batch.specs.Changes.{changes_of, removal_meant, removal_of, run_meant}
 use Rattle.pl_journal.proofs.Meanings.{stands_self}
+use Rattle.pl_journal.proofs.RealLemmas.{on_looks}
 use Rattle.pl_journal.proofs.RecoverLemmas.{no_look}
 use Rattle.pl_batch.specs.Commands.{Commands, CommandsFiles, Counts, Failed, Lacked, Made, Meaning, Refused, ready_for, stopped}
 use Rattle.pl_batch.specs.Restored.{restored}
@@ -112,7 +113,7 @@ module _ (name : List ℕ) where
 
   -- there was no memory for the line
   pub unsaid : (a : Seen) → HasRemoved name (Err stops.NoMemory) a a
-  unsaid a = record { named = tt; reads = refl; calls = no_calls Undone a refl (stands_self (get a.files) (get a.files) (λ n. refl)) (inl (no_look a.disk a.disk refl)); text = tt }
+  unsaid a = record { named = tt; reads = refl; calls = no_calls Undone a refl (stands_self (get a.files) (get a.files) (λ n. refl)) (inl (no_look a.disk a.disk refl), on_looks Undone (no_look a.disk a.disk refl)); text = tt }
 
 -- ---- `-u`
 

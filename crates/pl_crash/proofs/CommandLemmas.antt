@@ -21,7 +21,7 @@ use Rattle.pl_journal.proofs.Done.{distinct_test, recovered_by}
 use Rattle.pl_journal.proofs.GrammarLaws.{written_rows}
 use Rattle.pl_journal.proofs.Meanings.{applied_no_own, recovered_no_own}
 use Rattle.pl_journal.proofs.Moments.{since_start, weaker}
-use Rattle.pl_batch.specs.Commands.{CommandsDisk, CommandsFiles, Failed, FailsFiles, IsBefore, Lacked, LeavesFiles, Made, MakesFiles, Meaning, OnTheWay, Outcome, Refused}
+use Rattle.pl_batch.specs.Commands.{CommandsDisk, CommandsFiles, CommandsOn, Failed, FailsFiles, IsBefore, Lacked, LeavesFiles, Made, MakesFiles, Meaning, OnTheWay, Outcome, Refused}
 use Rattle.pl_batch.specs.Restored.{restored}
 use Rattle.pl_batch.proofs.RestoredLemmas.{restored_before}
 use Rattle.pl_crash.specs.Laws.{CommandsEnd, CommandsLeave, CommandsRead, EveryImageIsSound}
@@ -79,14 +79,17 @@ module _ {C : Type 0} (meant : Meaning C) (a b : Disk) (before : Files) (safe : 
   keeps_way : (rows : List Change) → meant before ≡ Ok rows → Keeps a b (OnTheWay (read a.now) rows) → Keeps a b P
   keeps_way rows means keeps = weaker a b (OnTheWay (read a.now) rows) P (way_safe meant (read a.now) before sound is safe rows means) keeps
 
+  leaves_on : (o : Outcome C) → CommandsOn meant o a b → Leaves o P a b
+  leaves_on Made call = let m = call before is in keeps_way m.0 m.1.means m.1.on_the_way
+  leaves_on (Refused cause) call = keeps_standing (call before is).on_the_way
+  leaves_on Failed (inl looks) = inl looks
+  leaves_on Failed (inr (inl keeps)) = inr (keeps_standing keeps)
+  leaves_on Failed (inr (inr breaks)) = let m = breaks before is in inr (keeps_way m.0 m.1.means m.1.on_the_way)
+  leaves_on Lacked (inl looks) = inl looks
+  leaves_on Lacked (inr keeps) = inr (keeps_standing keeps)
+
   pub disk_leaves : (o : Outcome C) (e : Ending) → CommandsDisk meant o e a b → Leaves o P a b
-  disk_leaves Made e call = let m = call before is in keeps_way m.0 m.1.means m.1.on_the_way
-  disk_leaves (Refused cause) e call = keeps_standing (call before is).on_the_way
-  disk_leaves Failed e (inl looks) = inl looks
-  disk_leaves Failed e (inr (inl keeps)) = inr (keeps_standing keeps)
-  disk_leaves Failed e (inr (inr breaks)) = let m = breaks before is in inr (keeps_way m.0 m.1.means m.1.on_the_way)
-  disk_leaves Lacked e (inl looks) = inl looks
-  disk_leaves Lacked e (inr keeps) = inr (keeps_standing keeps)
+  disk_leaves o e call = leaves_on o call.0
 
 pub commands_leave : {C : Type 0} → CommandsLeave C
 commands_leave meant o e a b safe folder told sound call =
@@ -128,10 +131,10 @@ every_sound meant o e a b safe folder told start call v had =
 
 pub disk_ends : {C : Type 0} (meant : Meaning C) (a b : Disk) (before : Files) → IsBefore (read a.now) before → (o : Outcome C) (e : Ending) → CommandsDisk meant o e a b → Ends o (after meant before) b.now
 disk_ends meant a b before is Made e call =
-    let m = call before is in
+    let m = call.0 before is in
     subst (λ (v : View). Within b.now (Same v)) (sym (after_made meant before m.0 m.1.means)) m.1.settled.only
 disk_ends meant a b before is (Refused cause) e call =
-    let l = call before is in
+    let l = call.0 before is in
     subst (λ (v : View). Within b.now (Same v)) (sym (after_refused meant before cause l.means)) l.only
 disk_ends meant a b before is Failed e call = tt
 disk_ends meant a b before is Lacked e call = tt

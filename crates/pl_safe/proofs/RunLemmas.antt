@@ -8,12 +8,14 @@ use Rattle.pl_folder.specs.Disk.{Disk, IsImage, Name, View, clock, read}
 use Rattle.pl_folder.specs.Calls.{Calls}
 use Rattle.pl_folder.specs.Effects.{Effect, WaitsFor}
 use Rattle.pl_folder.specs.Seen.{Broken, Done, Ending, IsFolder, Seen, Undone}
-use Rattle.pl_folder.specs.Since.{Keeps, Within}
+use Rattle.pl_folder.specs.Since.{Keeps, Since, Within}
 use Rattle.pl_folder.proofs.ImageLaws.{read_image}
 use Rattle.pl_journal.specs.Leaves.{Looks}
 use Rattle.pl_journal.specs.Meaning.{Same}
 use Rattle.pl_journal.specs.declared.change.Change.{Change}
+use Rattle.pl_journal.specs.RealDisk.{RunsFirmlyOn}
 use Rattle.pl_journal.proofs.Moments.{since_start, weaker}
+use Rattle.pl_journal.proofs.RealLemmas.{on_looks}
 use Rattle.pl_journal.proofs.RecoverLemmas.{waited_look}
 use Rattle.pl_batch.specs.Commands.{CommandsFiles, Failed, IsBefore, Lacked, Made, Meaning, Outcome, Refused}
 use Rattle.pl_batch.specs.Restored.{restored}
@@ -36,7 +38,7 @@ use Rattle.pl_crash.specs.Safe.{IsSafe, IsSafeImage, after}
 use Rattle.pl_crash.specs.Sound.{IsSound}
 use Rattle.pl_crash.specs.Steps.{MakesStep}
 use Rattle.pl_crash.proofs.CommandLemmas.{commands_read, disk_ends, disk_leaves, is_before, looked, reads_path, reads_sound}
-use Rattle.pl_safe.specs.Laws.{EveryRunIsSafe, ReadersLook, OthersKeepOriginals, RunsLeave, RunsEndSound, RunsRead, WritersEnd}
+use Rattle.pl_safe.specs.Laws.{EveryRunIsSafe, ImagesOfRealDisks, ReadersLook, OthersKeepOriginals, RunsLeave, RunsEndSound, RunsOnRealDisks, RunsRead, WritersEnd}
 use Rattle.pl_safe.specs.Runs.{KeepsOriginals, LeavesSound, changed_name, is_whole, meaning, nothing, writes}
 use Rattle.pl_safe.proofs.MeaningLemmas.{fix_keeps, fix_safe, fix_steps, loosen_keeps, loosen_safe, loosen_steps, prelink_keeps, prelink_safe, prelink_steps, remove_keeps, remove_safe, remove_steps, store_keeps, store_safe, store_steps, undo_all_keeps, undo_keeps, undo_safe, undo_steps}
 
@@ -88,6 +90,18 @@ ended meant a b before is statuses.ReadFault e whole call = absurd (false≢true
 ended meant a b before is statuses.WriteFault e whole call = ⊎_elim (λ done. disk_ends meant a b before is Made e done) (λ refused. disk_ends meant a b before is (Refused refused.0) e refused.1) call
 ended meant a b before is statuses.DiskFault e whole call = absurd (false≢true whole)
 ended meant a b before is statuses.NoMemory e whole call = absurd (false≢true whole)
+
+-- ---- on a disk whose settle makes names last and no file's bytes
+
+firmly_written : (meant : Meaning Cause) (a b : Disk) (status : Status) (e : Ending) → WritesDisk meant status e a b → RunsFirmlyOn e a b
+firmly_written meant a b statuses.Done e call = call.1
+firmly_written meant a b statuses.Differs e call = absurd call
+firmly_written meant a b statuses.Usage e call = absurd call
+firmly_written meant a b statuses.Refused e call = call.1.1
+firmly_written meant a b statuses.ReadFault e call = call.1
+firmly_written meant a b statuses.WriteFault e call = ⊎_elim (λ done. done.1) (λ refused. refused.1.1) call
+firmly_written meant a b statuses.DiskFault e call = call.1
+firmly_written meant a b statuses.NoMemory e call = call.1
 
 -- ---- what is read after a writing command
 
@@ -195,6 +209,12 @@ module _ (asked : Option Command) (w v : Outside) (status : Status) (told : w.fo
       let m = writer.made w.folder.files w.input.left status (ending_of status) a b (ran.folder.disk told) in
       (m.0, m.1, ended (meaning asked m.0) a b before (is_before w.folder folder told) status (ending_of status) whole m.2)
 
+  firmly_by : IsReader asked ⊎ IsWriter asked → RunsFirmlyOn (ending_of status) a b
+  firmly_by (inl reader) = on_looks (ending_of status) (reader_looks reader)
+  firmly_by (inr writer) =
+      let m = writer.made w.folder.files w.input.left status (ending_of status) a b (ran.folder.disk told) in
+      firmly_written (meaning asked m.0) a b status (ending_of status) m.2
+
 pub runs_leave : RunsLeave
 runs_leave asked w v status folder told sound ran = leaves asked w v status told ran folder sound (kind asked)
 
@@ -239,6 +259,16 @@ pub runs_sound : RunsEndSound
 runs_sound asked w v status folder told start ran image is =
     let l = runs_leave asked w v status folder told (start_sound w.folder folder told start) ran in
     ⊎_elim (λ looks. start image (subst (λ s. IsImage s image) looks.now is)) (λ keeps. (keeps.now image is).sound) l.2
+
+-- ---- on a real disk
+
+pub runs_on_real : RunsOnRealDisks
+runs_on_real asked w v status told ran = firmly_by asked w v status told ran (kind asked)
+
+pub images_of_real : ImagesOfRealDisks
+images_of_real asked w v status folder told start firm ran =
+    let run = (runs_on_real asked w v status told ran).alike firm in
+    (run, λ image had. every_safe asked w v status folder told start ran image (subst (λ (d : Disk). Since d (clock w.folder.disk) image) (sym run.alike) had))
 
 -- ---- originals
 

@@ -16,7 +16,7 @@ use Rattle.pl_cli.specs.declared.status.Status.TheVariants as statuses
 use Rattle.pl_crash.specs.Sound.{IsSound}
 use Rattle.pl_safe.specs.Safe.{ReadsSafe, StaysSafe}
 use Rattle.pl_safe.proofs.LoadLemmas.{loads_ordinary, weaves_ordinary}
-use Rattle.pl_safe.proofs.RunLemmas.{every_safe, others_keep, runs_leave, runs_read, start_sound, writers_end}
+use Rattle.pl_safe.proofs.RunLemmas.{every_safe, others_keep, runs_leave, runs_on_real, runs_read, start_sound, writers_end}
 use Rattle.pl_safe.proofs.ScratchLemmas.{files_scratch, images_scratch}
 use Rattle.pl_safe.proofs.StampLemmas.{every_past, files_past, runs_past, writers_past, written_are_past}
 
@@ -42,6 +42,7 @@ reads_safe asked w v status ran told sound = record {
 pub stays_safe : (asked : Option Command) (w v : Outside) (status : Status) → IsFolder w.folder → Ran asked w v status → StaysSafe asked w v status
 stays_safe asked w v status folder ran = record {
   files = reads_safe asked w v status ran;
+  real = λ told. runs_on_real asked w v status told ran;
   images = λ told start.
       let sound = start_sound w.folder folder told start in
       record {

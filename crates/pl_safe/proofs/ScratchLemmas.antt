@@ -37,7 +37,7 @@ pub images_scratch : ImagesAreFromScratch
 images_scratch p detail w v folder told sound ran image is =
     let before : Files = restored w.folder.files in
     let call = ran.folder.disk told in
-    let m = call.2 before (is_before w.folder folder told) in
+    let m = call.2.0 before (is_before w.folder folder told) in
     let made : View = applied m.0 (get before) in
     let same : image ≡ made = λ i n. sym (m.1.settled.only image is n) i in
     scratch_along before p made image same (made_scratch before p m.0 (before_keeps (get w.folder.files) before sound (restored_before w.folder.files)) m.1.means)

@@ -8,6 +8,7 @@ use Rattle.pl_folder.specs.Seen.{IsFolder}
 use Rattle.pl_folder.specs.Since.{Since, Within}
 use Rattle.pl_journal.specs.Leaves.{Looks}
 use Rattle.pl_journal.specs.Meaning.{Same}
+use Rattle.pl_journal.specs.RealDisk.{AllFirm, RunsAlike, RunsFirmlyOn, disk_by, names_settled}
 use Rattle.pl_batch.specs.Restored.{restored}
 use Rattle.pl_batch.specs.declared.prelinking.Prelinking.{Prelinking}
 use Rattle.pl_crash.specs.Safe.{IsSafeImage, after}
@@ -20,7 +21,7 @@ use Rattle.pl_sound.specs.Rule.{matches, members}
 use Rattle.pl_journal.specs.Names.{journal}
 use Rattle.pl_words.specs.declared.command.Policy.{Policy}
 use Rattle.pl_cli.specs.Answer.{answer, text_answer}
-use Rattle.pl_cli.specs.Outside.{Outside}
+use Rattle.pl_cli.specs.Outside.{Outside, ending_of}
 use Rattle.pl_cli.specs.Ran.{Ran}
 use Rattle.pl_cli.specs.Writes.{AreBytes}
 use Rattle.pl_cli.specs.declared.command.Command.{Command}
@@ -55,6 +56,16 @@ ReadersLook = (asked : Option Command) (w v : Outside) (status : Status) → w.f
 abbrev pub WritersEnd : Type 0
 WritersEnd =
     (asked : Option Command) (w v : Outside) (status : Status) → IsFolder w.folder → w.folder.records ≡ true → writes asked ≡ true → is_whole status ≡ true → Ran asked w v status → (bytes : List ℕ) × AreBytes w.input.left bytes × Within v.folder.disk.now (Same (after (meaning asked bytes) (restored w.folder.files)))
+
+-- From a disk all of whose files are firm a run is the same on one whose settle makes names last and no file's bytes; and where it is done all files are firm.
+abbrev pub RunsOnRealDisks : Type 0
+RunsOnRealDisks = (asked : Option Command) (w v : Outside) (status : Status) → w.folder.records ≡ true → Ran asked w v status → RunsFirmlyOn (ending_of status) w.folder.disk v.folder.disk
+
+-- so each image of such a disk since the start is sound, where each one at the start was
+abbrev pub ImagesOfRealDisks : Type 0
+ImagesOfRealDisks =
+    (asked : Option Command) (w v : Outside) (status : Status) → IsFolder w.folder → w.folder.records ≡ true → Within w.folder.disk.now IsSound → AllFirm w.folder.disk.now → Ran asked w v status
+    → (run : RunsAlike w.folder.disk v.folder.disk) × ((image : View) → Since (disk_by names_settled run.calls w.folder.disk) (clock w.folder.disk) image → IsSound image)
 
 -- what is read after a run over a folder that tells its files alone is sound, and stands for the files before or after
 abbrev pub RunsRead : Type 0

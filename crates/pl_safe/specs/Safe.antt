@@ -5,6 +5,7 @@ use Rattle.pl_elf.specs.declared.range.Range.{Range}
 use Rattle.pl_folder.specs.Disk.{View, clock}
 use Rattle.pl_folder.specs.Since.{Since, Within}
 use Rattle.pl_journal.specs.Meaning.{Same}
+use Rattle.pl_journal.specs.RealDisk.{RunsFirmlyOn}
 use Rattle.pl_batch.specs.Restored.{restored}
 use Rattle.pl_batch.specs.declared.prelinking.Prelinking.{Prelinking}
 use Rattle.pl_crash.specs.Safe.{IsSafeImage, after}
@@ -13,7 +14,7 @@ use Rattle.pl_crash.specs.Steps.{IsPastAll}
 use Rattle.pl_known.specs.Skips.{skip_causes}
 use Rattle.pl_words.specs.declared.command.Policy.{Policy}
 use Rattle.pl_cli.specs.Answer.{answer, text_answer}
-use Rattle.pl_cli.specs.Outside.{Outside}
+use Rattle.pl_cli.specs.Outside.{Outside, ending_of}
 use Rattle.pl_cli.specs.Words.{bytes_of}
 use Rattle.pl_cli.specs.Writes.{AreBytes}
 use Rattle.pl_cli.specs.declared.command.Command.{Command}
@@ -65,3 +66,5 @@ pub record IsSafeRun (asked : Option Command) (w v : Outside) (status : Status) 
 pub record StaysSafe (asked : Option Command) (w v : Outside) (status : Status) : Type 0 where
   pub files : w.folder.tells ≡ true → IsSound (get w.folder.files) → ReadsSafe asked w v status
   pub images : w.folder.records ≡ true → Within w.folder.disk.now IsSound → IsSafeRun asked w v status
+  -- from a disk all of whose files are firm, the same run on one whose settle makes names last and no file's bytes
+  pub real : w.folder.records ≡ true → RunsFirmlyOn (ending_of status) w.folder.disk v.folder.disk

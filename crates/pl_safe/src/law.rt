@@ -1,5 +1,5 @@
 // Laws of whole runs.
-ghost use Rattle.pl_safe.specs.Laws.{EveryImageStandsPastAll, EveryRunIsSafe, FilesAreFromScratch, FilesStandPastAll, ImagesAreFromScratch, SoundLoadsAreOrdinary, SoundWeavesAreOrdinary, ReadersLook, OthersKeepOriginals, RunsLeave, RunsLeavePastAll, RunsEndSound, RunsRead, VerifiedAreSound, WritersEnd, WritersEndPastAll, WrittenArePastAll};
+ghost use Rattle.pl_safe.specs.Laws.{EveryImageStandsPastAll, EveryRunIsSafe, FilesAreFromScratch, FilesStandPastAll, ImagesAreFromScratch, ImagesOfRealDisks, SoundLoadsAreOrdinary, SoundWeavesAreOrdinary, ReadersLook, OthersKeepOriginals, RunsLeave, RunsLeavePastAll, RunsEndSound, RunsOnRealDisks, RunsRead, VerifiedAreSound, WritersEnd, WritersEndPastAll, WrittenArePastAll};
 
 /// What a run leaves of a folder that reads as a sound one, whatever its words ask for and however it ends: it only looked, or each image of a moment after its start is sound, and stands for the files before it or for those after it. Where each image at the start was sound, each one since then is. A command that only reads changes nothing; after one that writes, is done or refused, and whether or not its text could be written, the files after it are the only image.
 pub fn every_run_is_safe()
@@ -8,6 +8,12 @@ pub fn every_run_is_safe()
     ensures next { RunsEndSound }
     ensures readers { ReadersLook }
     ensures writers { WritersEnd }
+{}
+
+/// From a disk all of whose files are firm, every run is the same, moment for moment, on a disk whose settle makes names last and no file's bytes, as real ones are; and where it is done or refused all files are firm, so the next run starts so. What is proved of the images of the one holds of those of the other: each one since the start is sound, where each one at the start was.
+pub fn runs_on_real_disks()
+    ensures runs { RunsOnRealDisks }
+    ensures images { ImagesOfRealDisks }
 {}
 
 /// What is read of a folder that tells its files alone, after a run over one that reads as a sound one, however the run ends: it is sound, and stands for the files before the run or for those after it.

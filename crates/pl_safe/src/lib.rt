@@ -7,7 +7,8 @@ mod law;
 mod top;
 
 pub use law::{
-    every_run_is_safe, others_keep_originals, runs_keep_stamps_past, runs_prelink_from_scratch,
-    runs_read_as_safe, sound_loads_are_ordinary, sound_weaves_are_ordinary, verified_are_sound,
+    every_run_is_safe, others_keep_originals, runs_keep_stamps_past, runs_on_real_disks,
+    runs_prelink_from_scratch, runs_read_as_safe, sound_loads_are_ordinary,
+    sound_weaves_are_ordinary, verified_are_sound,
 };
 pub use top::run;

@@ -15,6 +15,8 @@ use std::alloc::Global;
 /// Of a folder that tells its files and reads as a sound one, it says besides: what is read of it afterwards is sound, and stands for the files before the run or for those after it. After `-a` each valid name has what prelinking everything from scratch gives, and the cache is the planned one. At most the original of the one name that is stored, removed, fixed or loosened is not the one before. The answer to `--load` is the one that links the originals; so is the text of each loader of `--weave` that has finished, of the originals of the files that it saw, where no stamp is past the last one of the folder's cache, which every command keeps.
 ///
 /// Of a folder that tells its disk, and each image of which is sound at the start: each image since then is sound, and each one of a moment after the start stands for the files before the run or for those after it, unless the run only looked. After a command that writes, is done or refused, the files after it are the only image; after `-a` those from scratch. No image stands for files with a stamp past the last one of their cache, where none did at the start.
+///
+/// From a disk all of whose files are firm the run is the same, moment for moment, on a disk whose `settle` makes names last and no file's bytes, as real ones are; where it is done or refused all files are firm after it.
 pub fn run<D: Folder, S: Source, K: Sink>(
     alloc: Global,
     words: &[String],

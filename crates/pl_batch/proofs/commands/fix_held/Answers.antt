@@ -57,7 +57,7 @@ returns-in_err-carry_out-clause-fixes g c = then_holds c.in_ok-made.ensures.foun
     at_err (λ r. Fixes choose name r (seen c.args.held.now.folder) (seen c.carry_out.new.held.folder)) c.from_residual-in_err-carry_out.result (of_journal fault) c.from_residual-in_err-carry_out.ensures.1
     (record {
       calls = stops_making (ready_for name) (λ files. replacement_of (fixed_as choose name) files name) (g.met.D.Folder.is_folder c.args.held.now.folder) c.in_ok-start_for.ensures.calls all.rows (of_made all finds.found) c.in_ok-start_for.ensures.rested fault c.in_err-carry_out.ensures.plain
-          (subst (λ (rows : List Change). Calls (journal_ending fault) (CarriesOut rows) (seen c.fix_changes.new.folder) (seen c.carry_out.new.held.folder)) c.as_slice.ensures c.in_err-carry_out.ensures.calls);
+          (subst (λ (rows : List Change). Calls (journal_ending fault) (CarriesOut rows) (seen c.fix_changes.new.folder) (seen c.carry_out.new.held.folder)) c.as_slice.ensures c.in_err-carry_out.ensures.calls) c.in_err-carry_out.ensures.real;
       told = tt;
     }))
 
@@ -68,6 +68,6 @@ returns-clause-fixes g c = then_holds c.in_ok-made.ensures.found (λ choose find
     let all = c.in_ok-made.made in
     record {
       calls = made (ready_for name) (λ files. replacement_of (fixed_as choose name) files name) (g.met.D.Folder.is_folder c.args.held.now.folder) c.in_ok-start_for.ensures.calls all.rows (of_made all finds.found) c.in_ok-start_for.ensures.rested
-          (subst (λ (rows : List Change). Calls Done (CarriesOut rows) (seen c.fix_changes.new.folder) (seen c.carry_out.new.held.folder)) c.as_slice.ensures c.in_ok-carry_out.ensures.calls);
+          (subst (λ (rows : List Change). Calls Done (CarriesOut rows) (seen c.fix_changes.new.folder) (seen c.carry_out.new.held.folder)) c.as_slice.ensures c.in_ok-carry_out.ensures.calls) c.in_ok-carry_out.ensures.real;
       told = tells choose name (ready_for name) all.address c.in_ok-start_for.ensures.calls finds.told;
     })

@@ -49,7 +49,7 @@ returns-in_err-carry_out-clause-calls g c =
     let all = c.in_ok-made.made in
     at_err (λ r. Calls (ending r) (Commands (run_meant run) (outcome r)) (seen c.args.held.now.folder) (seen c.carry_out.new.held.folder)) c.from_residual-in_err-carry_out.result (of_journal fault) c.from_residual-in_err-carry_out.ensures.1
     (stops_making ready (λ files. changes_of files run) (g.met.D.Folder.is_folder c.args.held.now.folder) c.in_ok-start.ensures.calls all.rows (of_rows all c.in_ok-made.ensures.found) c.in_ok-start.ensures.rested fault c.in_err-carry_out.ensures.plain
-    (subst (λ (rows : List Change). Calls (journal_ending fault) (CarriesOut rows) (seen c.all_fitting.new.folder) (seen c.carry_out.new.held.folder)) c.as_slice.ensures c.in_err-carry_out.ensures.calls))
+    (subst (λ (rows : List Change). Calls (journal_ending fault) (CarriesOut rows) (seen c.all_fitting.new.folder) (seen c.carry_out.new.held.folder)) c.as_slice.ensures c.in_err-carry_out.ensures.calls) c.in_err-carry_out.ensures.real)
 
 pub returns-clause-calls : goal.returns-clause-calls
 returns-clause-calls g c =
@@ -57,7 +57,7 @@ returns-clause-calls g c =
     let run = All c.args.asked.now in
     let all = c.in_ok-made.made in
     made ready (λ files. changes_of files run) (g.met.D.Folder.is_folder c.args.held.now.folder) c.in_ok-start.ensures.calls all.rows (of_rows all c.in_ok-made.ensures.found) c.in_ok-start.ensures.rested
-    (subst (λ (rows : List Change). Calls Done (CarriesOut rows) (seen c.all_fitting.new.folder) (seen c.carry_out.new.held.folder)) c.as_slice.ensures c.in_ok-carry_out.ensures.calls)
+    (subst (λ (rows : List Change). Calls Done (CarriesOut rows) (seen c.all_fitting.new.folder) (seen c.carry_out.new.held.folder)) c.as_slice.ensures c.in_ok-carry_out.ensures.calls) c.in_ok-carry_out.ensures.real
 
 pub returns-in_err-text-clause-calls : goal.returns-in_err-text-clause-calls
 returns-in_err-text-clause-calls g c =

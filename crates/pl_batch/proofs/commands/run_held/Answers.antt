@@ -42,14 +42,14 @@ returns-in_err-carry_out-clause-calls g c =
     let fault = c.in_err-carry_out.field-0.0 in
     at_err (λ r. Calls (ending r) (Commands (run_meant run) (outcome r)) (seen c.args.held.now.folder) (seen c.carry_out.new.held.folder)) c.from_residual-in_err-carry_out.result (of_journal fault) c.from_residual-in_err-carry_out.ensures.1
     (stops_making (ready_by run) (λ files. changes_of files run) (g.met.D.Folder.is_folder c.args.held.now.folder) c.in_ok-start_run.ensures.calls c.in_ok-rows.rows c.in_ok-rows.ensures.found c.in_ok-start_run.ensures.rested fault c.in_err-carry_out.ensures.plain
-    (subst (λ (rows : List Change). Calls (journal_ending fault) (CarriesOut rows) (seen c.changes_of.new.folder) (seen c.carry_out.new.held.folder)) c.as_slice.ensures c.in_err-carry_out.ensures.calls))
+    (subst (λ (rows : List Change). Calls (journal_ending fault) (CarriesOut rows) (seen c.changes_of.new.folder) (seen c.carry_out.new.held.folder)) c.as_slice.ensures c.in_err-carry_out.ensures.calls) c.in_err-carry_out.ensures.real)
 
 pub returns-clause-calls : goal.returns-clause-calls
 returns-clause-calls g c =
     let seen = g.D.Folder.seen in
     let run = c.args.run.now in
     made (ready_by run) (λ files. changes_of files run) (g.met.D.Folder.is_folder c.args.held.now.folder) c.in_ok-start_run.ensures.calls c.in_ok-rows.rows c.in_ok-rows.ensures.found c.in_ok-start_run.ensures.rested
-    (subst (λ (rows : List Change). Calls Done (CarriesOut rows) (seen c.changes_of.new.folder) (seen c.carry_out.new.held.folder)) c.as_slice.ensures c.in_ok-carry_out.ensures.calls)
+    (subst (λ (rows : List Change). Calls Done (CarriesOut rows) (seen c.changes_of.new.folder) (seen c.carry_out.new.held.folder)) c.as_slice.ensures c.in_ok-carry_out.ensures.calls) c.in_ok-carry_out.ensures.real
 
 pub returns-clause-count : goal.returns-clause-count
 returns-clause-count g c =

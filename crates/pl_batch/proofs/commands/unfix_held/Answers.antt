@@ -53,11 +53,11 @@ returns-in_err-carry_out-clause-calls g c =
     let fault = c.in_err-carry_out.field-0.0 in
     at_err (λ r. Calls (ending r) (Commands (loosening_meant name) (outcome r)) (seen c.args.held.now.folder) (seen c.carry_out.new.held.folder)) c.from_residual-in_err-carry_out.result (of_journal fault) c.from_residual-in_err-carry_out.ensures.1
     (stops_making (ready_for name) (λ files. replacement_of (loosened_of name) files name) (g.met.D.Folder.is_folder c.args.held.now.folder) c.in_ok-start_for.ensures.calls c.in_ok-rows.rows c.in_ok-rows.ensures.found c.in_ok-start_for.ensures.rested fault c.in_err-carry_out.ensures.plain
-    (subst (λ (rows : List Change). Calls (journal_ending fault) (CarriesOut rows) (seen c.unfix_changes.new.folder) (seen c.carry_out.new.held.folder)) c.as_slice.ensures c.in_err-carry_out.ensures.calls))
+    (subst (λ (rows : List Change). Calls (journal_ending fault) (CarriesOut rows) (seen c.unfix_changes.new.folder) (seen c.carry_out.new.held.folder)) c.as_slice.ensures c.in_err-carry_out.ensures.calls) c.in_err-carry_out.ensures.real)
 
 pub returns-clause-calls : goal.returns-clause-calls
 returns-clause-calls g c =
     let seen = g.D.Folder.seen in
     let name = c.args.name.now in
     made (ready_for name) (λ files. replacement_of (loosened_of name) files name) (g.met.D.Folder.is_folder c.args.held.now.folder) c.in_ok-start_for.ensures.calls c.in_ok-rows.rows c.in_ok-rows.ensures.found c.in_ok-start_for.ensures.rested
-    (subst (λ (rows : List Change). Calls Done (CarriesOut rows) (seen c.unfix_changes.new.folder) (seen c.carry_out.new.held.folder)) c.as_slice.ensures c.in_ok-carry_out.ensures.calls)
+    (subst (λ (rows : List Change). Calls Done (CarriesOut rows) (seen c.unfix_changes.new.folder) (seen c.carry_out.new.held.folder)) c.as_slice.ensures c.in_ok-carry_out.ensures.calls) c.in_ok-carry_out.ensures.real

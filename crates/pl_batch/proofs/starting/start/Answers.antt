@@ -3,13 +3,13 @@ use Rattle.pl_batch.proofs.StartLemmas.{start_failed, start_lacked, started, sta
 use Rattle.pl_batch.proofs.starting.start.Goals as goal
 
 pub returns-in-Ok-clause-calls : goal.returns-in-Ok-clause-calls
-returns-in-Ok-clause-calls g c = started c.in-Ok.ensures.calls
+returns-in-Ok-clause-calls g c = started c.in-Ok.ensures.calls c.in-Ok.ensures.real
 
 pub returns-in-Err-BadJournal-clause-calls : goal.returns-in-Err-BadJournal-clause-calls
-returns-in-Err-BadJournal-clause-calls g c = started_bad (rw c.in-Err-BadJournal.field-0-is at c.in-Err-BadJournal.ensures.calls)
+returns-in-Err-BadJournal-clause-calls g c = started_bad (rw c.in-Err-BadJournal.field-0-is at c.in-Err-BadJournal.ensures.calls) c.in-Err-BadJournal.ensures.real
 
 pub returns-in-Err-Failed-clause-calls : goal.returns-in-Err-Failed-clause-calls
-returns-in-Err-Failed-clause-calls g c = start_failed ready (rw c.in-Err-Failed.field-0-is at c.in-Err-Failed.ensures.calls)
+returns-in-Err-Failed-clause-calls g c = start_failed ready (rw c.in-Err-Failed.field-0-is at c.in-Err-Failed.ensures.calls) c.in-Err-Failed.ensures.real
 
 pub returns-in-Err-NoMemory-clause-calls : goal.returns-in-Err-NoMemory-clause-calls
-returns-in-Err-NoMemory-clause-calls g c = start_lacked ready (rw c.in-Err-NoMemory.field-0-is at c.in-Err-NoMemory.ensures.calls)
+returns-in-Err-NoMemory-clause-calls g c = start_lacked ready (rw c.in-Err-NoMemory.field-0-is at c.in-Err-NoMemory.ensures.calls) c.in-Err-NoMemory.ensures.real
