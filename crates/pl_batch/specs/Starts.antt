@@ -16,6 +16,7 @@ use Rattle.pl_batch.specs.declared.fault.BatchFault.TheVariants.{DiskFailed, NoM
 use Rattle.pl_batch.specs.declared.fault.BatchFault.TheVariants as faults
 use Rattle.pl_batch.specs.declared.cause.Cause.{Cause}
 use Rattle.pl_batch.specs.Commands.{CommandsDisk, CommandsFiles, IsBefore, Meaning, Outcome, Made, Refused, Failed, Lacked}
+use Rattle.pl_batch.specs.Quiet.{WritesNothing}
 
 -- what the command means of the recovered files has no cause yet, and no changes
 abbrev pub Passes : Meaning Cause → Files → Type 0
@@ -28,7 +29,7 @@ StartsFiles meant Failed e old new = StandsFor (get old) (get new)
 StartsFiles meant Lacked e old new = CommandsFiles meant Lacked e old new
 
 abbrev pub StartsDisk : Meaning Cause → Outcome Cause → Ending → Disk → Disk → Type 0
-StartsDisk meant Made e old new = RecoversDisk None (read old.now) old new × ((before : Files) → IsBefore (read old.now) before → Passes meant before)
+StartsDisk meant Made e old new = RecoversDisk None (read old.now) old new × ((before : Files) → IsBefore (read old.now) before → Passes meant before) × WritesNothing old new
 StartsDisk meant (Refused cause) e old new = CommandsDisk meant (Refused cause) e old new
 StartsDisk meant Failed e old new = Looks old new ⊎ Keeps old new (StandsFor (read old.now))
 StartsDisk meant Lacked e old new = CommandsDisk meant Lacked e old new
