@@ -1,5 +1,5 @@
 -- Settles, and calls that only read.
-use Rattle.std.proofs.Common.{◌≡◌, inl, inr, ⊎_elim, ℕ, Option, refl, sym, ◌∙◌, ap, subst, arith}
+use Rattle.std.proofs.Common.{◌≡◌, inl, inr, ⊎_elim, ℕ, true, Option, refl, sym, ◌∙◌, ap, subst, arith}
 use Rattle.std.specs.FinMap.{get}
 use Rattle.pl_folder.specs.Disk.{View, IsImage, Disk, Shows, State, after, kept, names_of, read}
 use Rattle.pl_folder.specs.Seen.{Seen, IsFolder}
@@ -29,8 +29,8 @@ two_calls d = record {
 }
 
 -- a recovery of a folder without own names
-pub recovers_quiet : {a b : Seen} → IsFolder a → IsQuiet a b → a.records ≡ true → WritesNothing a.disk b.disk
-recovers_quiet {a = a} law quiet told no_own =
+pub recovers_quiet : (a b : Seen) → IsFolder a → IsQuiet a b → a.records ≡ true → WritesNothing a.disk b.disk
+recovers_quiet a b law quiet told no_own =
     let rested : IsRested a = λ t n own. law.reads told n ∙ no_own n own in
     subst (OnlySettles a.disk) (sym (quiet rested told)) (two_calls a.disk)
 

@@ -46,9 +46,9 @@ ready_recovered : (old : View) (rows : List Row) → rows_in (old journal) ≡ S
 ready_recovered old rows is before stands = no_journal_ready before (stands journal ∙ recovered_no_own old rows is journal refl)
 
 pub started : {a b : Seen} → IsFolder a → IsQuiet a b → Calls Done (Recovers None) a b → Calls Done (Starts ready Made) a b
-started {a = a} law quiet call = makes_told refl call
+started {a = a} {b = b} law quiet call = makes_told refl call
     (λ told files. (files, λ before is. ready_recovered (get a.files) files.0 files.1 before is))
-    (λ told disk. (disk, (λ before is. ready_recovered (read a.disk.now) disk.1.rows disk.1.spelled before is), recovers_quiet law quiet told))
+    (λ told disk. (disk, (λ before is. ready_recovered (read a.disk.now) disk.1.rows disk.1.spelled before is), recovers_quiet a b law quiet told))
 
 -- ---- outside it
 

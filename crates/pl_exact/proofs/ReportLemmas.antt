@@ -2,7 +2,7 @@
 use Rattle.std.proofs.Common.{◌≡◌, ◌⊎◌, inl, inr, ℕ, Bool, true, false, List, [], ◌∷◌, map, get_or, Option, Some, None, Result, Ok, Err, refl, sym, ap, subst, ◌∙◌}
 use Rattle.std.specs.FinMap.{get}
 use Rattle.std.specs.List.{All, list_all}
-use Rattle.std.specs.Prelude.{◌&&◌, ◌==◌, is_some, not, slice_get, if◌then◌else◌}
+use Rattle.std.specs.Prelude.{◌&&◌, ◌==◌, is_some, length, not, slice_get, if◌then◌else◌}
 use Rattle.std.specs.Result.{is_ok}
 use Rattle.std.proofs.lemmas.Bool.{false≢true}
 use Rattle.std.proofs.lemmas.List.Elements.{All-map}
@@ -244,7 +244,7 @@ module _ (files : base.Files) (p : Prelinking) (plan : Planned) (run : HasPlan f
   marked_says : (current : Bool) (m : Marked) → SaysPrelinked (state_of current m)
   marked_says current m = by_kind_of (is_library m.object.kind)
     where
-      by_kind_of : (b : Bool) → SaysPrelinked (if b then states.Library current m.slot m.stamp else states.Program current _)
+      by_kind_of : (b : Bool) → SaysPrelinked (if b then states.Library current m.slot m.stamp else states.Program current (length m.conflicts))
       by_kind_of true = tt
       by_kind_of false = tt
 
