@@ -1,7 +1,6 @@
 -- Settles, and calls that only read.
-use Rattle.std.proofs.Common.{◌≡◌, inl, inr, ⊎_elim, ℕ, true, Option, refl, sym, ◌∙◌, ap, subst, arith}
-use Rattle.std.specs.FinMap.{get}
-use Rattle.pl_folder.specs.Disk.{View, IsImage, Disk, Shows, State, after, kept, names_of, read}
+use Rattle.std.proofs.Common.{◌≡◌, inl, inr, ⊎_elim, true, refl, sym, ◌∙◌, ap, subst, arith}
+use Rattle.pl_folder.specs.Disk.{View, IsImage, Disk, Shows, State, after, kept, read}
 use Rattle.pl_folder.specs.Seen.{Seen, IsFolder}
 use Rattle.pl_folder.specs.States.{settled}
 use Rattle.pl_folder.proofs.ImageLaws.{read_image, settled_within}
