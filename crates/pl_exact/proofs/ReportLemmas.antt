@@ -294,7 +294,7 @@ reports_tell files p told bytes asked e =
     let made = is.1 in
     let spelled = read_spelled files made.old made.cached (λ file at. bytes cache file at) made.found made.says in
     let run : HasPlan files p made.plan = record { bytes = bytes; asked = asked; cached = made.cached; spelled = spelled; is = made.is_planned } in
-    let rows : told.rows ≡ map (row_of (named files) p.region made.plan) (valid_names files) = ap (λ (r : Report). r.rows) (sym is.2 ∙ made.tells) in
+    let rows : told.rows ≡ map (row_of (named files) p.region made.plan) (valid_names files) = ap (λ (r : Report). r.rows) made.tells in
     record {
       plan = made.plan;
       planned = run;
