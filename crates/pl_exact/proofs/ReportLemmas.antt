@@ -1,8 +1,8 @@
 -- What the report of a run that prelinks everything says of each name.
 use Rattle.std.proofs.Common.{◌≡◌, ◌⊎◌, inl, inr, ℕ, Bool, true, false, List, [], ◌∷◌, map, get_or, Option, Some, None, Result, Ok, Err, refl, sym, ap, subst, ◌∙◌}
 use Rattle.std.specs.FinMap.{get}
-use Rattle.std.specs.List.{All, list_all}
-use Rattle.std.specs.Prelude.{◌&&◌, ◌==◌, is_some, length, not, slice_get, if◌then◌else◌}
+use Rattle.std.specs.List.{All, list_all, list_any}
+use Rattle.std.specs.Prelude.{◌&&◌, ◌==◌, is_some, length, nat_lt, not, slice_get, if◌then◌else◌}
 use Rattle.std.specs.Result.{is_ok}
 use Rattle.std.proofs.lemmas.Bool.{false≢true}
 use Rattle.std.proofs.lemmas.List.Elements.{All-map}
@@ -14,7 +14,7 @@ use Rattle.pl_base.proofs.TellsLaws.{because_tells, cause_tells, either_tells, e
 use Rattle.pl_batch.specs.All.{all_reported, asked_of}
 use Rattle.pl_batch.specs.Folder.{cache, named, valid_names}
 use Rattle.pl_batch.specs.declared.prelinking.Prelinking.{Prelinking}
-use Rattle.pl_cone.specs.Candidates.{all_formed, fit, formed, kind_of, linked, of_link, resolved}
+use Rattle.pl_cone.specs.Candidates.{all_formed, blocks, fit, formed, kind_of, linked, of_link, resolved, zeros}
 use Rattle.pl_cone.specs.Skips.{of_tls, of_walk}
 use Rattle.pl_cone.specs.declared.skip.Skip.{Skip}
 use Rattle.pl_cone.specs.declared.skip.Skip.TheVariants as skips
@@ -24,9 +24,10 @@ use Rattle.pl_elf.specs.declared.kind.Kind.{Kind}
 use Rattle.pl_elf.specs.declared.kind.Kind.TheVariants.{Library, Program, Static}
 use Rattle.pl_elf.specs.declared.range.Range.{Range}
 use Rattle.pl_elf.specs.declared.segment.Segment.{Segment}
-use Rattle.pl_form.specs.Faults.{form_fault, program_fault}
+use Rattle.pl_form.specs.Faults.{bss_too_large, cut_of, form_fault, in_region, is_later, program_fault, stray_header, wanted_spare}
 use Rattle.pl_form.specs.Files.{original_in}
 use Rattle.pl_form.specs.Marks.{has_mark}
+use Rattle.pl_form.specs.declared.constants.TheConstants.{STORED}
 use Rattle.pl_form.specs.declared.file.Marked.{Marked}
 use Rattle.pl_form.specs.declared.fault.FormFault.{FormFault}
 use Rattle.pl_form.specs.declared.fault.FormFault.TheVariants as forms
@@ -49,6 +50,7 @@ use Rattle.pl_rewrite.specs.declared.report.RowState.{RowState}
 use Rattle.pl_rewrite.specs.declared.report.RowState.TheVariants as states
 use Rattle.pl_rewrite.proofs.FormLaws.{original_is}
 use Rattle.pl_scope.specs.Members.{names}
+use Rattle.pl_scope.specs.Scope as scope
 use Rattle.pl_scope.specs.Walk.{Walked}
 use Rattle.pl_scope.specs.Walk as walking
 use Rattle.pl_scope.specs.declared.fault.WalkFault.{WalkFault}
@@ -61,6 +63,7 @@ use Rattle.pl_sound.specs.Rule.{Files, object_at, objects, original_at, walk_in}
 use Rattle.pl_tls.specs.Layout.{offsets}
 use Rattle.pl_tls.specs.declared.fault.TlsFault.{TlsFault}
 use Rattle.pl_tls.specs.declared.fault.TlsFault.TheVariants as tls_faults
+use Rattle.pl_value.specs.Meanings.{meanings}
 use Rattle.pl_value.specs.declared.fault.LinkFault.{LinkFault}
 use Rattle.pl_value.specs.declared.fault.LinkFault.TheVariants as link_faults
 use Rattle.pl_exact.specs.Candidates.{HasPlan, IsTooLong}
@@ -148,7 +151,9 @@ refusal_not n refusals.NoMemory = refl
 object_not : (n : List ℕ) (file : Option (List ℕ)) → Tells is_sixth (object_at (format skip_causes) n file)
 unfolding read_original
 object_not n None = err_tells Object is_sixth (skips.NotThere n) refl
-object_not n (Some file) = unless_tells is_sixth _ _ _ refl (unless_tells is_sixth _ _ _ refl (cause_tells is_sixth (skip_causes.refused n) (reads (original_in file)) (refusal_not n)))
+object_not n (Some file) =
+    unless_tells is_sixth (nat_lt STORED (length (original_in file))) (skip_causes.large n) _ refl
+    (unless_tells is_sixth (has_mark (original_in file)) (skip_causes.bad_mark n) _ refl (cause_tells is_sixth (skip_causes.refused n) (reads (original_in file)) (refusal_not n)))
 
 -- a form fault that is found before a form is made
 abbrev is_last : FormFault → Bool
@@ -158,11 +163,17 @@ is_last _ = false
 program_not : (o : Object) (last : Option Segment) (region : Range) → Tells is_last (program_fault o last region)
 unfolding program_fault
 program_not o None region = ok_tells is_last tt
-program_not o (Some last) region = unless_tells is_last _ _ _ refl (unless_tells is_last _ _ _ refl (unless_tells is_last _ _ _ refl (unless_tells is_last _ _ _ refl (ok_tells is_last tt))))
+program_not o (Some last) region =
+    unless_tells is_last (bss_too_large last) forms.BssTooLarge _ refl
+    (unless_tells is_last (stray_header o (cut_of last)) forms.StrayHeader _ refl
+    (unless_tells is_last (in_region o.segments last region) forms.InRegion _ refl
+    (unless_tells is_last (list_any (is_later last) o.segments) forms.LastLoadNotLast (Ok tt) refl (ok_tells is_last tt))))
 
 form_not : (o : Object) (region : Range) → Tells is_last (form_fault o region)
 unfolding form_fault
-form_not o region = unless_tells is_last _ _ _ refl (either_tells is_last (is_library o.kind) _ _ (ok_tells is_last tt) (program_not o (last_load o.segments) region))
+form_not o region =
+    unless_tells is_last (nat_lt o.spare (wanted_spare o)) forms.NoSpareTags _ refl
+    (either_tells is_last (is_library o.kind) (Ok tt) (program_fault o (last_load o.segments) region) (ok_tells is_last tt) (program_not o (last_load o.segments) region))
 
 number_not : (n : List ℕ) (r : Result (Unit {0}) FormFault) → Tells is_last r → (number : ℕ) → fault_number r ≡ Some number → is_six number ≡ false
 unfolding Tells
@@ -200,7 +211,10 @@ link_not ws (link_faults.CopyOutside member symbol) = refl
 linked_not : (ws : Walked) → Tells is_sixth (linked ws)
 unfolding linked resolved
 linked_not ws =
-    then_tells is_sixth _ _ (cause_tells is_sixth of_tls _ tls_not) (λ modules. then_tells is_sixth _ _ (cause_tells is_sixth (of_link ws) _ (link_not ws)) (λ gs. ok_tells is_sixth tt))
+    then_tells is_sixth (because of_tls (offsets (blocks ws))) (resolved ws) (cause_tells is_sixth of_tls (offsets (blocks ws)) tls_not)
+    (λ modules.
+    let found = meanings (scope.objects ws) (zeros ws) modules in
+    then_tells is_sixth (because (of_link ws) found) (λ gs. Ok tt) (cause_tells is_sixth (of_link ws) found (link_not ws)) (λ gs. ok_tells is_sixth tt))
 
 module _ (files : Files) (region : Range) where
   formed_not : (n : List ℕ) → Tells is_sixth (formed (fault_at region files) n)
@@ -213,12 +227,13 @@ module _ (files : Files) (region : Range) where
   fit_not : (n : List ℕ) (ws : Walked) → Tells is_sixth (fit (fault_at region files) n ws)
   unfolding fit all_formed
   fit_not n ws = unless_tells is_sixth (is_static (kind_of ws)) (skips.Static n) _ refl
-      (then_tells is_sixth _ _ (run_tells is_sixth (λ u m. formed (fault_at region files) m) tt (names ws) (λ u m. formed_not m))
-      (λ u. either_tells is_sixth (is_program (kind_of ws)) _ _ (linked_not ws) (ok_tells is_sixth tt)))
+      (then_tells is_sixth (run (λ u m. formed (fault_at region files) m) tt (names ws)) (λ u. if is_program (kind_of ws) then linked ws else Ok tt)
+      (run_tells is_sixth (λ u m. formed (fault_at region files) m) tt (names ws) (λ u m. formed_not m))
+      (λ u. either_tells is_sixth (is_program (kind_of ws)) (linked ws) (Ok tt) (linked_not ws) (ok_tells is_sixth tt)))
 
   skip_not : (n : List ℕ) → Tells is_sixth (skip_of files region n)
   unfolding skip_of
-  skip_not n = then_tells is_sixth _ _ (walk_tells of_walk is_sixth (objects (format skip_causes) files) n (λ e t. walk_not e) (λ m. object_not m (files m))) (fit_not n)
+  skip_not n = then_tells is_sixth (walking.walk of_walk (objects (format skip_causes) files) n) (fit (fault_at region files) n) (walk_tells of_walk is_sixth (objects (format skip_causes) files) n (λ e t. walk_not e) (λ m. object_not m (files m))) (fit_not n)
 
 -- ---- a row
 
