@@ -1,21 +1,19 @@
 -- How what is found in a folder goes on, and how it stops.
-use Rattle.std.proofs.Common.{◌≡◌, ℕ, List, map, Bool, true, false, Option, Some, None, refl, sym, ◌∙◌, ap, subst, ⊎_elim, inr, arith}
+use Rattle.std.proofs.Common.{◌≡◌, ℕ, List, map, Bool, true, false, Option, Some, None, refl, sym, ◌∙◌, ap, subst}
 use Rattle.std.specs.Prelude.{Result, Ok, Err, IsErrAnd, Vec, String, string_bytes, length, nat_le, if◌then◌else◌}
 use Rattle.std.specs.declared.alloc.Global.{Global}
 use Rattle.std.specs.FinMap.{get, keys}
 use Rattle.pl_base.specs.Answers.{◌>>=◌, unless}
 use Rattle.pl_base.specs.Files.{Files}
 use Rattle.pl_folder.specs.Calls.{Calls, GivesNames, Takes}
-use Rattle.pl_folder.specs.Disk.{Disk, IsImage}
 use Rattle.pl_folder.specs.Seen.{Seen, Ending, Done, Undone}
 use Rattle.pl_folder.specs.Taken.{taken, stored}
 use Rattle.pl_folder.specs.declared.TheConstants.{STORED}
 use Rattle.pl_folder.specs.declared.fault.FolderFault.{FolderFault}
 use Rattle.pl_folder.specs.declared.fault.FolderFault.TheVariants as folder_faults
-use Rattle.pl_journal.specs.Leaves.{Looks}
 use Rattle.pl_journal.specs.Parts.{Looking}
 use Rattle.pl_journal.proofs.Endings.{makes_told, no_calls, then_told}
-use Rattle.pl_journal.proofs.RecoverLemmas.{no_look}
+use Rattle.pl_journal.proofs.RecoverLemmas.{looks_on, no_look}
 use Rattle.pl_journal.proofs.RecoverParts.{looking}
 use Rattle.pl_batch.specs.Answers.{Finds, Means, MeansAlone, of_folder, of_take}
 use Rattle.pl_batch.specs.Names.{file_of, of_file}
@@ -31,13 +29,6 @@ at_err P (Ok x) e is p = absurd is
 at_err {E = E} P (Err f) e is p = subst (λ (g : E). P (Err g)) (sym is) p
 
 -- ---- calls that only read
-
-pub looks_on : (a b c : Disk) → Looks a b → Looks b c → Looks a c
-looks_on a b c first second = record {
-  now = second.now ∙ first.now;
-  later = omega (arith, first.later, second.later);
-  each = λ t v had. ⊎_elim (first.each t v) (λ image. inr (subst (λ s. IsImage s v) first.now image)) (second.each t v had);
-}
 
 pub reads_on : {e : Ending} {a b c : Seen} → Calls Done Looking a b → Calls e Looking b c → Calls e Looking a c
 reads_on {a = a} {b = b} {c = c} first second = then_told first second (λ told one two. two ∙ one) (λ told one two. looks_on a.disk b.disk c.disk one two)

@@ -1,20 +1,22 @@
 -- Runs on a disk whose settle makes names last, and no file's bytes.
-use Rattle.std.proofs.Common.{◌≡◌, ◌⊎◌, inl, inr, ⊎_elim, ℕ, ◌==◌, ◌<◌, true, List, [], ◌∷◌, ◌++◌, Option, Some, None, take, refl, sym, ◌∙◌, ap, subst, Result, Ok, Err}
+use Rattle.std.proofs.Common.{◌≡◌, ◌⊎◌, inl, inr, ⊎_elim, ℕ, zero, suc, ◌==◌, ◌<◌, true, List, [], ◌∷◌, ◌++◌, Option, Some, None, take, refl, sym, ◌∙◌, ap, subst, Result, Ok, Err}
 use Rattle.std.specs.Prelude.{IsErrAnd}
 use Rattle.std.proofs.lemmas.Bool.{cases_Bool, cond-true, cond-false, eq-eqb, eqb-true}
 use Rattle.pl_folder.specs.Calls.{Calls}
-use Rattle.pl_folder.specs.Disk.{Name, View, Content, State, Disk, after, clock, names_of}
+use Rattle.pl_folder.specs.Disk.{Name, View, Content, State, Disk, after, clock, names_of, waited}
 use Rattle.pl_folder.specs.Effects.{Appends, Does, DoesOrNot, GrowsDisk, Idles, StepsDisk, StepsDiskOrNot, Waited, Waits, creates, firms, removes, settles}
 use Rattle.pl_folder.specs.Seen.{Ending, Done, Broken, Undone, Seen}
 use Rattle.pl_folder.specs.Since.{Keeps, Since}
 use Rattle.pl_folder.specs.States.{appended, appended_to, created, firmed, firmed_at, renamed, settled}
 use Rattle.pl_folder.proofs.ImageLaws.{firmed_firm, itself, renamed_firm}
 use Rattle.pl_journal.specs.Faults.{journal_ending, part_ending}
-use Rattle.pl_journal.specs.Parts.{AtDone, NamesFile, NamesDisk, is_firm}
-use Rattle.pl_journal.specs.RealDisk.{DiskCall, Wait, Create, Append, Firm, Rename, Remove, Settle, AllFirm, RunsAlike, RunsFirmly, disk_by, names_settled, step_by}
+use Rattle.pl_journal.specs.Leaves.{Looks}
+use Rattle.pl_journal.specs.Parts.{NamesFile, NamesDisk, is_firm}
+use Rattle.pl_journal.specs.RealDisk.{DiskCall, Wait, Create, Append, Firm, Rename, Remove, Settle, AllFirm, RunsAlike, RunsFirmly, RunsFirmlyOn, disk_by, names_settled, step_by}
 use Rattle.pl_journal.specs.declared.fault.JournalFault.{JournalFault}
-use Rattle.pl_journal.proofs.Endings.{fault_stops, stopped}
+use Rattle.pl_journal.proofs.Endings.{at_done, fault_stops, stopped, when_done}
 use Rattle.pl_journal.proofs.Moments.{after_start}
+use Rattle.pl_journal.proofs.RecoverLemmas.{waited_now}
 
 -- ---- runs
 
@@ -79,22 +81,42 @@ settles_names s firm = λ i. record {
 -- ---- calls
 
 of_disks : {a b : Seen} → b.records ≡ a.records → (a.records ≡ true → AllFirm a.disk.now → Firmly a.disk b.disk) → RunsFirmly Done a b
-of_disks records both = record { records = records; alike = λ told firm. (both told firm).0; firm = λ told firm. (both told firm).1 }
+of_disks records both = record { records = records; disk = λ told. record { alike = λ firm. (both told firm).0; firm = λ firm. (both told firm).1 } }
+
+-- nothing happens
+pub on_none : (d : Disk) → RunsFirmlyOn Done d d
+on_none d = record { alike = λ firm. no_run refl; firm = λ firm. firm }
+
+-- one after another
+pub on_then : {e : Ending} {x y z : Disk} → RunsFirmlyOn Done x y → RunsFirmlyOn e y z → RunsFirmlyOn e x z
+on_then {e = e} first second = record {
+  alike = λ firm. alike_then (first.alike firm) (second.alike (first.firm firm));
+  firm = at_done e (λ to firm. to (first.firm firm)) second.firm;
+}
+
+-- what holds of one that is done holds of any
+pub on_any : (e : Ending) {x y : Disk} → RunsFirmlyOn Done x y → RunsFirmlyOn e x y
+on_any e run = record { alike = run.alike; firm = when_done e (λ is. run.firm) }
+
+-- calls that only read
+looked_run : (k : ℕ) (d : Disk) → RunsAlike d (waited k d)
+looked_run zero d = no_run refl
+looked_run (suc k) d = alike_then (looked_run k d) (one_run Wait refl (ap (λ (s : State). after s (waited k d)) (sym (waited_now k d))))
+
+pub on_looks : (e : Ending) {x y : Disk} → Looks x y → RunsFirmlyOn e x y
+on_looks e {x = x} {y = y} looks = on_any e (record {
+  alike = λ firm. subst (RunsAlike x) (sym looks.waits.1) (looked_run looks.waits.0 x);
+  firm = λ firm. subst AllFirm (sym looks.now) firm;
+})
 
 pub firmly_none : (a : Seen) → RunsFirmly Done a a
-firmly_none a = record { records = refl; alike = λ told firm. no_run refl; firm = λ told firm. firm }
+firmly_none a = record { records = refl; disk = λ told. on_none a.disk }
 
 pub firmly_then : {e : Ending} {a b c : Seen} → RunsFirmly Done a b → RunsFirmly e b c → RunsFirmly e a c
-firmly_then {e = e} {a = a} {b = b} {c = c} first second = record {
+firmly_then first second = record {
   records = second.records ∙ first.records;
-  alike = λ told firm. alike_then (first.alike told firm) (second.alike (first.records ∙ told) (first.firm told firm));
-  firm = at_end e second.firm;
+  disk = λ told. on_then (first.disk told) (second.disk (first.records ∙ told));
 }
-  where
-    at_end : (e : Ending) → AtDone e (b.records ≡ true → AllFirm b.disk.now → AllFirm c.disk.now) → AtDone e (a.records ≡ true → AllFirm a.disk.now → AllFirm c.disk.now)
-    at_end Done to = λ told firm. to (first.records ∙ told) (first.firm told firm)
-    at_end Broken to = tt
-    at_end Undone to = tt
 
 pub firmly_settled : {e : Ending} {a b : Seen} → Calls e (DoesOrNot settles) a b → RunsFirmly Done a b
 firmly_settled {e = e} {a = a} {b = b} call = of_disks call.records (λ told firm. does_or_not_firm Settle a.disk b.disk firm (λ file. refl) (settles_names a.disk.now firm) e (call.disk told))
@@ -195,26 +217,22 @@ firmed_alike {e = e} name call = record { records = call.records; alike = λ tol
 -- it did not come to its end
 pub stops_alike : {X : Type 0} (Q : JournalFault → Type 0) (r : Result X JournalFault) {a b : Seen} → IsErrAnd r Q → Alike a b → RunsFirmly (part_ending r) a b
 stops_alike Q (Ok x) is run = absurd is
-stops_alike Q (Err fault) is run = record { records = run.records; alike = λ told firm. run.alike told; firm = stopped _ (journal_ending fault) (fault_stops fault) }
+stops_alike Q (Err fault) is run = record { records = run.records; disk = λ told. record { alike = λ firm. run.alike told; firm = stopped _ (journal_ending fault) (fault_stops fault) } }
 
 pub stops_firmly : {X : Type 0} (Q : JournalFault → Type 0) (r : Result X JournalFault) {e : Ending} {a b : Seen} → IsErrAnd r Q → RunsFirmly e a b → RunsFirmly (part_ending r) a b
 stops_firmly Q (Ok x) is run = absurd is
-stops_firmly Q (Err fault) is run = record { records = run.records; alike = run.alike; firm = stopped _ (journal_ending fault) (fault_stops fault) }
+stops_firmly Q (Err fault) is run = record { records = run.records; disk = λ told. record { alike = (run.disk told).alike; firm = stopped _ (journal_ending fault) (fault_stops fault) } }
 
 -- it is created, has its bytes, and is made firm
 pub firmly_put : {a b c d : Seen} (name : Name) (bytes : List ℕ) → Calls Done (Does (creates name)) a b → Calls Done (Appends name bytes) b c → Calls Done (DoesOrNot (firms name)) c d → RunsFirmly Done a d
-firmly_put {a = a} {b = b} {c = c} {d = d} name bytes one two three = record {
-  records = whole.records;
-  alike = λ told firm. whole.alike told;
-  firm = λ told firm.
-      let again : b.records ≡ true = one.records ∙ told in
-      let created_at : b.disk ≡ after (created name a.disk.now) a.disk = one.disk told in
-      let appended_at : c.disk ≡ after (appended name bytes b.disk.now) b.disk = two.disk again in
-      let firmed_at_end : d.disk ≡ after (firmed name c.disk.now) c.disk = three.disk (two.records ∙ again) in
-      let loose : LooseAt name b.disk.now = subst (λ (x : Disk). LooseAt name x.now) (sym created_at) (created_loose name a.disk.now firm) in
-      let grown : LooseAt name c.disk.now = subst (λ (x : Disk). LooseAt name x.now) (sym appended_at) (appended_loose name bytes b.disk.now loose) in
-      subst (λ (x : Disk). AllFirm x.now) (sym firmed_at_end) (firmed_loose name c.disk.now grown);
-}
+firmly_put {a = a} {b = b} {c = c} {d = d} name bytes one two three = of_disks whole.records (λ told firm.
+    let again : b.records ≡ true = one.records ∙ told in
+    let created_at : b.disk ≡ after (created name a.disk.now) a.disk = one.disk told in
+    let appended_at : c.disk ≡ after (appended name bytes b.disk.now) b.disk = two.disk again in
+    let firmed_at_end : d.disk ≡ after (firmed name c.disk.now) c.disk = three.disk (two.records ∙ again) in
+    let loose : LooseAt name b.disk.now = subst (λ (x : Disk). LooseAt name x.now) (sym created_at) (created_loose name a.disk.now firm) in
+    let grown : LooseAt name c.disk.now = subst (λ (x : Disk). LooseAt name x.now) (sym appended_at) (appended_loose name bytes b.disk.now loose) in
+    (whole.alike told, subst (λ (x : Disk). AllFirm x.now) (sym firmed_at_end) (firmed_loose name c.disk.now grown)))
   where
     whole : Alike a d
     whole = also_alike (also_alike (created_alike name one) (appended_alike name bytes two)) (firmed_alike name three)

@@ -1,9 +1,9 @@
 -- Recovery, from a folder that is settled.
-use Rattle.std.proofs.Common.{◌≡◌, inl, inr, ⊎_elim, ℕ, ◌+◌, ◌<◌, ◌&&◌, ◌||◌, Bool, true, false, cond, List, [], ◌∷◌, length, get_or, drop, Option, Some, None, is_some, ltb, refl, sym, ◌∙◌, ap, subst, arith, String, string_bytes}
+use Rattle.std.proofs.Common.{◌≡◌, inl, inr, ⊎_elim, ℕ, ◌+◌, ◌<◌, ◌&&◌, ◌||◌, Bool, true, false, cond, List, [], ◌∷◌, length, get_or, drop, Option, Some, None, is_some, ltb, zero, suc, refl, sym, ◌∙◌, ap, subst, arith, String, string_bytes}
 use Rattle.std.specs.declared.alloc.Global.{Global}
 use Rattle.std.proofs.lemmas.Bool.{both_ways, cases_Bool, and_left, and_right, and_parts, eqb-true, eq-eqb, false_from_ne_true, cond-true, cond-false}
 use Rattle.std.proofs.lemmas.Bool.Decides.{nat_tests}
-use Rattle.pl_folder.specs.Disk.{Name, View, State, Disk, IsWhole, same, read, after}
+use Rattle.pl_folder.specs.Disk.{Name, View, State, Disk, IsImage, IsWhole, same, read, after, waited}
 use Rattle.pl_folder.specs.Since.{Within, Keeps}
 use Rattle.pl_folder.specs.Effects.{StepsDiskOrNot, Waits}
 use Rattle.pl_folder.specs.Seen.{Ending, Done, Broken, Undone}
@@ -29,11 +29,34 @@ use Rattle.pl_journal.proofs.CarryLemmas.{rows_in_distinct, drop_at}
 use Rattle.pl_journal.proofs.Moments.{joined, weaker, does_or_not, one_call}
 
 -- calls that only read
+pub waited_now : (k : ℕ) (d : Disk) → (waited k d).now ≡ d.now
+waited_now zero d = refl
+waited_now (suc k) d = refl
+
+waited_more : (j k : ℕ) (d : Disk) → waited j (waited k d) ≡ waited (j + k) d
+waited_more zero k d = let e : 0 + k ≡ k = omega arith in rw e refl
+waited_more (suc j) k d =
+    let e : suc j + k ≡ suc (j + k) = omega arith in
+    rw e (ap (λ (s : State). after s (waited j (waited k d))) (waited_now k d) ∙ ap (after d.now) (waited_more j k d))
+
+pub looks_on : (a b c : Disk) → Looks a b → Looks b c → Looks a c
+looks_on a b c first second = record {
+  waits = (second.waits.0 + first.waits.0, second.waits.1 ∙ ap (waited second.waits.0) first.waits.1 ∙ waited_more second.waits.0 first.waits.0 a);
+  now = second.now ∙ first.now;
+  later = omega (arith, first.later, second.later);
+  each = λ t v had. ⊎_elim (first.each t v) (λ image. inr (subst (λ s. IsImage s v) first.now image)) (second.each t v had);
+}
+
 pub no_look : (d new : Disk) → new ≡ d → Looks d new
-no_look d new is = subst (Looks d) (sym is) (record { now = refl; later = omega arith; each = λ t v had. inl had })
+no_look d new is = subst (Looks d) (sym is) (record { waits = (0, refl); now = refl; later = omega arith; each = λ t v had. inl had })
 
 pub one_look : (d new : Disk) → new ≡ after d.now d → Looks d new
-one_look d new is = subst (Looks d) (sym is) (record { now = refl; later = omega arith; each = λ t v had. ⊎_elim (λ here. inr here.1) inl had })
+one_look d new is = subst (Looks d) (sym is) (record { waits = (1, refl); now = refl; later = omega arith; each = λ t v had. ⊎_elim (λ here. inr here.1) inl had })
+
+-- so many calls
+pub waited_look : (k : ℕ) (d : Disk) → Looks d (waited k d)
+waited_look zero d = no_look d d refl
+waited_look (suc k) d = looks_on d (waited k d) (waited (suc k) d) (waited_look k d) (one_look (waited k d) (waited (suc k) d) (ap (λ (s : State). after s (waited k d)) (sym (waited_now k d))))
 
 pub waits_look : (e : Ending) (d new : Disk) → Waits e d new → Looks d new
 waits_look Done d new is = one_look d new is

@@ -1,6 +1,6 @@
 -- What each part of a writing command leaves of the disk.
 use Rattle.std.specs.Prelude.{◌≡◌, ◌⊎◌, ℕ, ◌≤◌, ◌+◌, true, List, [], ◌∷◌, Option, Some, None, is_some, Result, Ok, Err}
-use Rattle.pl_folder.specs.Disk.{Name, View, State, IsImage, IsWhole, Disk, clock, read}
+use Rattle.pl_folder.specs.Disk.{Name, View, State, IsImage, IsWhole, Disk, clock, read, waited}
 use Rattle.pl_folder.specs.Since.{Since, Within, Keeps}
 use Rattle.pl_journal.specs.Lists.{is_listed}
 use Rattle.pl_journal.specs.FileNames.{name_text}
@@ -14,8 +14,9 @@ use Rattle.pl_journal.specs.declared.step.Step.TheVariants.{Put as PutStep, Drop
 use Rattle.pl_journal.specs.declared.fault.JournalFault.{JournalFault}
 use Rattle.pl_journal.specs.declared.fault.JournalFault.TheVariants.{Failed, BadJournal, NoMemory}
 
--- calls that only read
+-- Calls that only read: some moments pass, and nothing changes.
 pub record Looks (old new : Disk) : Type 0 where
+  pub waits : (k : ℕ) × (new ≡ waited k old)
   pub now : new.now ≡ old.now
   pub later : clock old ≤ clock new
   pub each : (t : ℕ) (v : View) → Since new t v → Since old t v ⊎ IsImage old.now v

@@ -46,10 +46,14 @@ abbrev pub AllFirm : State → Type 0
 AllFirm s = (file : ℕ) → (s.files file).is_firm ≡ true
 
 -- From a disk all of whose files are firm, a run is the same on such a disk; and where it is done all files are firm.
+pub record RunsFirmlyOn (e : Ending) (old new : Disk) : Type 0 where
+  pub alike : AllFirm old.now → RunsAlike old new
+  pub firm : AtDone e (AllFirm old.now → AllFirm new.now)
+
+-- so it is of a folder that tells its disk
 pub record RunsFirmly (e : Ending) (old new : Seen) : Type 0 where
   pub records : new.records ≡ old.records
-  pub alike : old.records ≡ true → AllFirm old.disk.now → RunsAlike old.disk new.disk
-  pub firm : AtDone e (old.records ≡ true → AllFirm old.disk.now → AllFirm new.disk.now)
+  pub disk : old.records ≡ true → RunsFirmlyOn e old.disk new.disk
 
 -- what a crash of such a disk leaves, after the first moment of the run, has P
 abbrev pub OnRealDisk : (View → Type 0) → Type 0

@@ -1,10 +1,10 @@
 -- What a run leaves of the disk.
-use Rattle.std.proofs.Common.{◌∙◌, ◌≡◌, ℕ, zero, suc, ◌≤◌, true, false, List, Option, Some, None, Result, Ok, Err, refl, sym, subst, inl, inr, ⊎_elim, arith}
+use Rattle.std.proofs.Common.{◌∙◌, ◌≡◌, ℕ, true, false, List, Option, Some, None, Result, Ok, Err, refl, sym, subst, inl, inr, ⊎_elim}
 use Rattle.std.specs.Prelude.{◌⊎◌}
 use Rattle.std.specs.FinMap.{get}
 use Rattle.std.proofs.lemmas.Bool.{false≢true, true≢false}
 use Rattle.pl_base.specs.Files.{Files}
-use Rattle.pl_folder.specs.Disk.{Disk, IsImage, Name, View, clock, read, waited}
+use Rattle.pl_folder.specs.Disk.{Disk, IsImage, Name, View, clock, read}
 use Rattle.pl_folder.specs.Calls.{Calls}
 use Rattle.pl_folder.specs.Effects.{Effect, WaitsFor}
 use Rattle.pl_folder.specs.Seen.{Broken, Done, Ending, IsFolder, Seen, Undone}
@@ -14,6 +14,7 @@ use Rattle.pl_journal.specs.Leaves.{Looks}
 use Rattle.pl_journal.specs.Meaning.{Same}
 use Rattle.pl_journal.specs.declared.change.Change.{Change}
 use Rattle.pl_journal.proofs.Moments.{since_start, weaker}
+use Rattle.pl_journal.proofs.RecoverLemmas.{waited_look}
 use Rattle.pl_batch.specs.Commands.{CommandsFiles, Failed, IsBefore, Lacked, Made, Meaning, Outcome, Refused}
 use Rattle.pl_batch.specs.Restored.{restored}
 use Rattle.pl_batch.specs.declared.run.Run.TheVariants as runs
@@ -41,21 +42,10 @@ use Rattle.pl_safe.proofs.MeaningLemmas.{fix_keeps, fix_safe, fix_steps, loosen_
 
 -- ---- calls that change nothing
 
-waited_now : (k : ℕ) (d : Disk) → (waited k d).now ≡ d.now
-waited_now zero d = refl
-waited_now (suc k) d = refl
-
-waited_looks : (k : ℕ) (d : Disk) → Looks d (waited k d)
-waited_looks zero d = record { now = refl; later = omega arith; each = λ t v had. inl had }
-waited_looks (suc k) d =
-    let rest = waited_looks k d in
-    let before : clock d ≤ clock (waited k d) = rest.later in
-    record { now = refl; later = omega (arith, before); each = λ t v had. ⊎_elim (λ here. inr here.1) (λ there. rest.each t v there) had }
-
 waits_look : (n : ℕ) (e : Ending) (a b : Disk) → WaitsFor n e a b → Looks a b
-waits_look n Done a b is = subst (Looks a) (sym is) (waited_looks n a)
-waits_look n Broken a b is = subst (Looks a) (sym is.2) (waited_looks is.0 a)
-waits_look n Undone a b is = subst (Looks a) (sym is.2) (waited_looks is.0 a)
+waits_look n Done a b is = subst (Looks a) (sym is) (waited_look n a)
+waits_look n Broken a b is = subst (Looks a) (sym is.2) (waited_look is.0 a)
+waits_look n Undone a b is = subst (Looks a) (sym is.2) (waited_look is.0 a)
 
 -- ---- a writing command
 
