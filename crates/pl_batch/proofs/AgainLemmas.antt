@@ -28,6 +28,8 @@ use Rattle.pl_batch.specs.declared.cause.Cause.TheVariants as causes
 use Rattle.pl_batch.proofs.RestoredLemmas.{restored_before}
 use Rattle.pl_batch.proofs.StartLemmas.{before_is}
 use Rattle.pl_batch.specs.Again.{GoesOn}
+use Rattle.pl_batch.specs.Quiet.{WritesNothing}
+use Rattle.pl_batch.proofs.QuietLemmas.{quiet_then}
 use Rattle.pl_batch.specs.Answers.{fault_ending}
 use Rattle.pl_batch.specs.declared.fault.BatchFault.{BatchFault}
 use Rattle.pl_batch.specs.declared.fault.BatchFault.TheVariants.{DiskFailed, NoMemory}
@@ -105,7 +107,7 @@ module _ (v : View) (rows : List Row) (found : rows_in (v journal) ≡ Some rows
         let l = two b (here (get b) (one_view (get b) (recovered v) same)) in
         record { means = ap meant eq ∙ l.means; files = l.files ∙ sym eq }
 
-module _ (A B C : Disk) (rows : List Row) (found : rows_in (read A.now journal) ≡ Some rows) {K : Type 0} (meant : Meaning K) (b : Files) (same : Same (get b) (recovered (read A.now))) (is : read B.now ≡ recovered (read A.now)) (keeps : Keeps A B (StandsFor (read A.now))) where
+module _ (A B C : Disk) (rows : List Row) (found : rows_in (read A.now journal) ≡ Some rows) {K : Type 0} (meant : Meaning K) (b : Files) (same : Same (get b) (recovered (read A.now))) (is : read B.now ≡ recovered (read A.now)) (keeps : Keeps A B (StandsFor (read A.now))) (quiet : WritesNothing A B) where
   abbrev v : View
   v = read A.now
 
@@ -119,11 +121,14 @@ module _ (A B C : Disk) (rows : List Row) (found : rows_in (read A.now journal) 
   way_on changes next = joined A B C (OnTheWay v changes) (weaker A B (StandsFor v) (OnTheWay v changes) (λ w s. inl s) keeps)
       (weaker B C (OnTheWay (read B.now) changes) (OnTheWay v changes) (λ w s. way v rows found changes w (subst (λ (u : View). OnTheWay u changes w) is s)) next)
 
+  quiet_on : WritesNothing B C → WritesNothing A C
+  quiet_on next none = quiet_then A B C (quiet none) (next (subst HasNoOwn (sym is) (no_own v rows found)))
+
   disk_on : (o : Outcome K) → CommandsOn meant o B C → CommandsOn meant o A C
   disk_on Made two = λ before stands.
       let eq = at v rows found meant b same before stands in
       let r = two b (here v rows found meant b same (read B.now) is) in
-      (r.0, record { means = ap meant eq ∙ r.1.means; settled = subst (λ (f : Files). IsSettled (applied r.0 (get f)) C.now) (sym eq) r.1.settled; on_the_way = way_on r.0 r.1.on_the_way })
+      (r.0, record { means = ap meant eq ∙ r.1.means; settled = subst (λ (f : Files). IsSettled (applied r.0 (get f)) C.now) (sym eq) r.1.settled; on_the_way = way_on r.0 r.1.on_the_way; quiet = λ none. quiet_on (r.1.quiet none) })
   disk_on Failed (inl looks) = inr (inl (looks_on looks))
   disk_on Failed (inr (inl next)) = inr (inl (stands_on next))
   disk_on Failed (inr (inr breaks)) = inr (inr (λ before stands.
@@ -135,7 +140,7 @@ module _ (A B C : Disk) (rows : List Row) (found : rows_in (read A.now journal) 
   disk_on (Refused cause) two = λ before stands.
       let eq = at v rows found meant b same before stands in
       let l = two b (here v rows found meant b same (read B.now) is) in
-      record { means = ap meant eq ∙ l.means; only = λ w image n. ap (λ (f : Files). get f n) eq ∙ l.only w image n; on_the_way = stands_on l.on_the_way }
+      record { means = ap meant eq ∙ l.means; only = λ w image n. ap (λ (f : Files). get f n) eq ∙ l.only w image n; on_the_way = stands_on l.on_the_way; quiet = quiet_on l.quiet }
 
 -- ---- a recovery that is done
 
@@ -168,6 +173,12 @@ module _ (name : List ℕ) (a b : Seen) (law : IsFolder a) (first : Calls Done (
         let none = (is_ready name before made.0 made.1.means).0 in
         weaker a.disk b.disk (OnTheWay start made.0) (StandsFor start) (λ w s. no_way start disk_rows.0 disk_rows.1 w (subst (λ (rs : List Change). OnTheWay start rs w) none s)) made.1.on_the_way
 
+    disk_quiet : WritesNothing a.disk b.disk
+    disk_quiet =
+        let before = restored a.files in
+        let made = (first.disk told).0 before stands in
+        made.1.quiet (is_ready name before made.0 made.1.means).0
+
     disk_only : (before : Files) → IsBefore start before → Within b.disk.now (Same (get before))
     disk_only before is w image n =
         let made = (first.disk told).0 before is in
@@ -188,7 +199,7 @@ module _ (name : List ℕ) (a b : Seen) (law : IsFolder a) (first : Calls Done (
           λ before is.
               let made = one.0 before is in
               let ready_is = made.1.means ∙ ap Ok (is_ready name before made.0 made.1.means).0 in
-              record { means = refuses before ready_is; only = disk_only told before is; on_the_way = disk_keeps told },
+              record { means = refuses before ready_is; only = disk_only told before is; on_the_way = disk_keeps told; quiet = disk_quiet told },
           one.1,
         ))
 
@@ -210,7 +221,7 @@ commands_on name meant o e a b c la lb first second = then_told first second
     let rows = disk_rows name a b la first told in
     let same = disk_same name a b la first told in
     let is : read b.disk.now ≡ recovered v = sym (read_files b lb (first.records ∙ told)) ∙ one_view (get b.files) (recovered v) same in
-    (disk_on a.disk b.disk c.disk rows.0 rows.1 meant b.files same is (disk_keeps name a b la first told) o two.0, on_then one.1 two.1))
+    (disk_on a.disk b.disk c.disk rows.0 rows.1 meant b.files same is (disk_keeps name a b la first told) (disk_quiet name a b la first told) o two.0, on_then one.1 two.1))
 
 -- ---- a cause in other words
 
@@ -227,10 +238,10 @@ module _ {C D : Type 0} (f : C → D) (meant : Meaning C) where
   pub recaused : (o : Outcome C) {e : Ending} {a b : Seen} → Calls e (Commands meant o) a b → Calls e (Commands meant_by (outcome_by f o)) a b
   recaused Made call = makes_told refl call
       (λ told one before is. let made = one before is in (made.0, record { means = ap (because f) made.1.means; files = made.1.files }))
-      (λ told one. (λ before is. let made = one.0 before is in (made.0, record { means = ap (because f) made.1.means; settled = made.1.settled; on_the_way = made.1.on_the_way }), one.1))
+      (λ told one. (λ before is. let made = one.0 before is in (made.0, record { means = ap (because f) made.1.means; settled = made.1.settled; on_the_way = made.1.on_the_way; quiet = made.1.quiet }), one.1))
   recaused (Refused cause) call = makes_told refl call
       (λ told one before is. let l = one before is in record { means = ap (because f) l.means; files = l.files })
-      (λ told one. (λ before is. let l = one.0 before is in record { means = ap (because f) l.means; only = l.only; on_the_way = l.on_the_way }, one.1))
+      (λ told one. (λ before is. let l = one.0 before is in record { means = ap (because f) l.means; only = l.only; on_the_way = l.on_the_way; quiet = l.quiet }, one.1))
   recaused Failed call = makes_told refl call
       (λ told one. ⊎_elim inl (λ breaks. inr (λ before is. let made = breaks before is in (made.0, record { means = ap (because f) made.1.means; stands = made.1.stands }))) one)
       (λ told one. (⊎_elim inl (λ more. inr (⊎_elim inl (λ breaks. inr (λ before is. let made = breaks before is in (made.0, record { means = ap (because f) made.1.means; on_the_way = made.1.on_the_way }))) more)) one.0, one.1))
@@ -267,7 +278,7 @@ module _ (name : List ℕ) {C : Type 0} (f : Cause → C) (meant : Meaning C) (r
   stops_first NoMemory law call = makes_told refl call (λ told one. one) (λ told one. one)
   stops_first (faults.Cause cause) law call = makes_told refl call
       (λ told one before is. let l = one before is in record { means = refuses cause before l.means; files = l.files })
-      (λ told one. (λ before is. let l = one.0 before is in record { means = refuses cause before l.means; only = l.only; on_the_way = l.on_the_way }, one.1))
+      (λ told one. (λ before is. let l = one.0 before is in record { means = refuses cause before l.means; only = l.only; on_the_way = l.on_the_way; quiet = l.quiet }, one.1))
 
 -- ---- refused, and then no memory is left to say so
 

@@ -3,6 +3,7 @@ pub mod FindLemmas
 pub mod RowLemmas
 pub mod UndoLemmas
 pub mod StoreLemmas
+pub mod QuietLemmas
 pub mod StartLemmas
 pub mod MakeLemmas
 pub mod RestoredLemmas

@@ -30,6 +30,8 @@ use Rattle.pl_batch.specs.declared.cause.Cause.{Cause}
 use Rattle.pl_batch.specs.declared.fault.BatchFault.{BatchFault}
 use Rattle.pl_batch.specs.declared.fault.BatchFault.TheVariants.{DiskFailed, NoMemory}
 use Rattle.pl_batch.specs.declared.fault.BatchFault.TheVariants as faults
+use Rattle.pl_batch.specs.Quiet.{WritesNothing}
+use Rattle.pl_batch.proofs.QuietLemmas.{quiet_looks}
 use Rattle.pl_batch.proofs.StartLemmas.{before_is}
 
 -- ---- reading leaves a folder as it is
@@ -59,7 +61,7 @@ module _ (first next : Meaning Cause) where
   stops_early NoMemory call = makes_told refl call (λ told files. files) (λ told disk. disk)
   stops_early (faults.Cause cause) call = makes_told refl call
       (λ told files before is. let l = files before is in record { means = ap (λ (m : Result (List Change) Cause). m >>= λ none. next before) l.means; files = l.files })
-      (λ told disk. (λ before is. let l = disk.0 before is in record { means = ap (λ (m : Result (List Change) Cause). m >>= λ none. next before) l.means; only = l.only; on_the_way = l.on_the_way }, disk.1))
+      (λ told disk. (λ before is. let l = disk.0 before is in record { means = ap (λ (m : Result (List Change) Cause). m >>= λ none. next before) l.means; only = l.only; on_the_way = l.on_the_way; quiet = l.quiet }, disk.1))
 
   module _ {a b : Seen} (law : IsFolder a) (start : Calls Done (Starts first Made) a b) where
     here : a.tells ≡ true → (before : Files) → IsBefore (get a.files) before → before ≡ b.files
@@ -99,6 +101,7 @@ module _ (first next : Meaning Cause) where
                   means = meant_found before (Err cause) at (one.1 before is) (found.means (start.tells ∙ law.tells told));
                   only = λ w image n. is n ∙ one.0.1.settled.only w (subst (λ (s : State). IsImage s w) two.now image) n;
                   on_the_way = joined a.disk b.disk c.disk (StandsFor (read a.disk.now)) one.0.0 (looks_keep b.disk c.disk (StandsFor (read a.disk.now)) one.0.0.now two);
+                  quiet = quiet_looks a.disk b.disk c.disk two one.2;
                 },
             runs_found Done Done found.calls told,
           ))
@@ -108,8 +111,13 @@ module _ (first next : Meaning Cause) where
         pub counted : (count : ℕ) → count ≡ length rows → Counts (and_then first next) count a
         counted count is told before stands = (rows, meant_found before (Ok rows) (here told before stands) ((start.files told).1 before stands) (found.means (start.tells ∙ told)), is)
 
-        pub made : {d : Seen} → Calls Done (CarriesOut rows) c d → RunsFirmly Done c d → Calls Done (Commands (and_then first next) Made) a d
-        made {d = d} call real = then_told start (carried_on rows found.calls call)
+        -- no changes are no call
+        still : {d : Seen} → (rows ≡ [] → d ≡ c) → a.records ≡ true → WritesNothing a.disk b.disk → rows ≡ [] → WritesNothing a.disk d.disk
+        still nothing told quiet none =
+            subst (λ (s : Seen). WritesNothing a.disk s.disk) (sym (nothing none)) (quiet_looks a.disk b.disk c.disk (found.calls.disk (start.records ∙ told)) quiet)
+
+        pub made : {d : Seen} → Calls Done (CarriesOut rows) c d → RunsFirmly Done c d → (rows ≡ [] → d ≡ c) → Calls Done (Commands (and_then first next) Made) a d
+        made {d = d} call real nothing = then_told start (carried_on rows found.calls call)
             (λ told one two before is.
             let at = here told before is in (
               rows,
@@ -130,6 +138,7 @@ module _ (first next : Meaning Cause) where
                   on_the_way = joined a.disk b.disk d.disk (OnTheWay (read a.disk.now) rows)
                       (weaker a.disk b.disk (StandsFor (read a.disk.now)) (OnTheWay (read a.disk.now) rows) (λ w x. inl x) one.0.0)
                       (weaker b.disk d.disk (StandsBetween v rows) (OnTheWay (read a.disk.now) rows) (λ w x. inr x) s.0);
+                  quiet = still nothing told one.2;
                 },
               ),
               runs_made Done found.calls real told,
@@ -188,6 +197,7 @@ module _ (first : Meaning Cause) where
             means = one.1 before is;
             settled = subst (λ (view : View). IsSettled view b.disk.now) (one_view (recovered (read a.disk.now)) (applied [] (get before)) (λ n. sym (is n))) one.0.1.settled;
             on_the_way = weaker a.disk b.disk (StandsFor (read a.disk.now)) (OnTheWay (read a.disk.now) []) (λ w x. inl x) one.0.0;
+            quiet = λ none. one.2;
           },
         ),
         it.1,

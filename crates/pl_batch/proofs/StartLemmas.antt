@@ -9,10 +9,10 @@ use Rattle.pl_base.specs.Files.{Files}
 use Rattle.pl_base.specs.Names.{is_valid_name}
 use Rattle.pl_folder.specs.Calls.{Calls}
 use Rattle.pl_folder.specs.Disk.{View, read}
-use Rattle.pl_folder.specs.Seen.{Seen, Ending, Done, Broken, Undone}
-use Rattle.pl_journal.specs.Meaning.{Same, StandsFor}
+use Rattle.pl_folder.specs.Seen.{Seen, Ending, Done, Broken, Undone, IsFolder}
+use Rattle.pl_journal.specs.Meaning.{HasNoOwn, Same, StandsFor}
 use Rattle.pl_journal.specs.Names.{journal}
-use Rattle.pl_journal.specs.Parts.{Recovers}
+use Rattle.pl_journal.specs.Parts.{IsQuiet, Recovers}
 use Rattle.pl_journal.specs.RealDisk.{RunsFirmly}
 use Rattle.pl_journal.specs.Rows.{all_done, recovered, rows_in}
 use Rattle.pl_journal.specs.declared.fault.JournalFault.TheVariants as journal_faults
@@ -29,6 +29,7 @@ use Rattle.pl_batch.specs.declared.cause.Cause.TheVariants as causes
 use Rattle.pl_batch.specs.declared.fault.BatchFault.{BatchFault}
 use Rattle.pl_batch.specs.declared.fault.BatchFault.TheVariants.{DiskFailed, NoMemory}
 use Rattle.pl_batch.specs.declared.fault.BatchFault.TheVariants as faults
+use Rattle.pl_batch.proofs.QuietLemmas.{recovers_quiet}
 
 one_map : (m n : Files) → Same (get m) (get n) → m ≡ n
 one_map m n is = same_map nat_list_cmp_total (slice_cmp-IsAntisymmetric nat_cmp-IsAntisymmetric) m n is
@@ -46,10 +47,10 @@ no_journal_ready files none = ap (λ (o : Option (List ℕ)). unless (not (is_so
 ready_recovered : (old : View) (rows : List Row) → rows_in (old journal) ≡ Some rows → (before : Files) → IsBefore old before → ready before ≡ Ok []
 ready_recovered old rows is before stands = no_journal_ready before (stands journal ∙ recovered_no_own old rows is journal refl)
 
-pub started : {a b : Seen} → Calls Done (Recovers None) a b → RunsFirmly Done a b → Calls Done (Starts ready Made) a b
-started {a = a} call real = makes_told refl call
+pub started : {a b : Seen} → IsFolder a → IsQuiet a b → Calls Done (Recovers None) a b → RunsFirmly Done a b → Calls Done (Starts ready Made) a b
+started {a = a} {b = b} law quiet call real = makes_told refl call
     (λ told files. (files, λ before is. ready_recovered (get a.files) files.0 files.1 before is))
-    (λ told disk. ((disk, λ before is. ready_recovered (read a.disk.now) disk.1.rows disk.1.spelled before is), real.disk told))
+    (λ told disk. ((disk, (λ before is. ready_recovered (read a.disk.now) disk.1.rows disk.1.spelled before is), recovers_quiet a b law quiet told), real.disk told))
 
 -- ---- outside it
 
@@ -60,6 +61,10 @@ recovered_bad v bad n = ap (λ o. all_done o v n) bad
 bad_ready : (files : Files) → rows_in (get files journal) ≡ None → ready files ≡ Err causes.BadJournal
 unfolding ready
 bad_ready files bad = ap (λ (o : Option (List Row)). unless (not (is_some o)) causes.BadJournal (Ok [])) bad
+
+-- there is none where no own name is there
+no_bad_journal : (v : View) → HasNoOwn v → rows_in (v journal) ≡ None → ⊥
+no_bad_journal v no_own bad = let none : rows_in None ≡ None = ap rows_in (sym (no_own journal refl)) ∙ bad in absurd cc
 
 pub started_bad : {a b : Seen} → Calls Undone (Recovers (Some journal_faults.BadJournal)) a b → RunsFirmly Done a b → Calls Done (Starts ready (Refused causes.BadJournal)) a b
 started_bad {a = a} {b = b} call real = makes_told refl call
@@ -72,6 +77,7 @@ started_bad {a = a} {b = b} call real = makes_told refl call
             means = bad_ready before (ap rows_in (is journal ∙ recovered_bad (read a.disk.now) keeps.1 journal) ∙ keeps.1);
             only = λ w image n. is n ∙ recovered_bad (read a.disk.now) keeps.1 n ∙ keeps.0.now w image n;
             on_the_way = weaker a.disk b.disk (Same (read a.disk.now)) (StandsFor (read a.disk.now)) (λ w same. stands_self (read a.disk.now) w (λ n. sym (same n))) keeps.0;
+            quiet = λ no_own. absurd (no_bad_journal (read a.disk.now) no_own keeps.1);
           })
           (λ looks. let no : ⊥ = cc in absurd no)
           disk,
@@ -107,12 +113,12 @@ module _ (name : List ℕ) where
   pub invalid_start : {a b : Seen} → is_valid_name name ≡ false → Calls Done (Starts ready Made) a b → Calls Done (Starts (ready_for name) (Refused causes.BadName)) a b
   invalid_start {a = a} {b = b} invalid call = makes_told refl call
       (λ told files before is. record { means = invalid_ready name invalid before; files = sym (before_is (get a.files) before b.files is files.0.2) })
-      (λ told disk. (λ before is. record { means = invalid_ready name invalid before; only = λ w image n. is n ∙ disk.0.0.1.settled.only w image n; on_the_way = disk.0.0.0 }, disk.1))
+      (λ told disk. (λ before is. record { means = invalid_ready name invalid before; only = λ w image n. is n ∙ disk.0.0.1.settled.only w image n; on_the_way = disk.0.0.0; quiet = disk.0.2 }, disk.1))
 
   pub invalid_stop : {a b : Seen} (cause : Cause) → is_valid_name name ≡ false → Calls Done (Starts ready (Refused cause)) a b → Calls Done (Starts (ready_for name) (Refused causes.BadName)) a b
   invalid_stop cause invalid call = makes_told refl call
       (λ told files before is. record { means = invalid_ready name invalid before; files = (files before is).files })
-      (λ told disk. (λ before is. record { means = invalid_ready name invalid before; only = (disk.0 before is).only; on_the_way = (disk.0 before is).on_the_way }, disk.1))
+      (λ told disk. (λ before is. record { means = invalid_ready name invalid before; only = (disk.0 before is).only; on_the_way = (disk.0 before is).on_the_way; quiet = (disk.0 before is).quiet }, disk.1))
 
   pub failed_stop : {a b : Seen} → Calls Broken (Starts ready Failed) a b → Calls Broken (Starts (ready_for name) Failed) a b
   failed_stop call = makes_told refl call (λ told files. files) (λ told disk. disk)

@@ -19,6 +19,7 @@ use Rattle.pl_batch.specs.declared.cause.Cause.TheVariants.{BadName, BadJournal}
 use Rattle.pl_batch.specs.declared.fault.BatchFault.{BatchFault}
 use Rattle.pl_batch.specs.declared.fault.BatchFault.TheVariants.{DiskFailed, NoMemory}
 use Rattle.pl_batch.specs.declared.fault.BatchFault.TheVariants as faults
+use Rattle.pl_batch.specs.Quiet.{WritesNothing}
 
 -- ---- what a command means
 
@@ -92,17 +93,19 @@ CommandsFiles meant Lacked e old new = StandsFor (get old) (get new)
 abbrev pub OnTheWay : View → List Change → View → Type 0
 OnTheWay old rows v = StandsFor old v ⊎ StandsBetween (recovered old) rows v
 
--- the changes are made: the only image is the files after them
+-- the changes are made: the only image is the files after them; where there are none, nothing is written
 pub record MakesDisk {C : Type 0} (rows : List Change) (before : Files) (old new : Disk) (meant : Meaning C) : Type 0 where
   pub means : meant before ≡ Ok rows
   pub settled : IsSettled (applied rows (get before)) new.now
   pub on_the_way : Keeps old new (OnTheWay (read old.now) rows)
+  pub quiet : rows ≡ [] → WritesNothing old new
 
--- a cause: the only image is the files before, and each image on the way stands for them
+-- a cause: the only image is the files before, and each image on the way stands for them; nothing is written
 pub record LeavesDisk {C : Type 0} (cause : C) (before : Files) (old new : Disk) (meant : Meaning C) : Type 0 where
   pub means : meant before ≡ Err cause
   pub only : Within new.now (Same (get before))
   pub on_the_way : Keeps old new (StandsFor (read old.now))
+  pub quiet : WritesNothing old new
 
 -- the folder failed while the changes were made
 pub record BreaksDisk {C : Type 0} (rows : List Change) (before : Files) (old new : Disk) (meant : Meaning C) : Type 0 where

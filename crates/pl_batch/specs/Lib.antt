@@ -2,6 +2,7 @@ pub mod Answers
 pub mod Names
 pub mod Undo
 pub mod Store
+pub mod Quiet
 pub mod Commands
 pub mod Folder
 pub mod All

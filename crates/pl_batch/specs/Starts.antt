@@ -17,6 +17,7 @@ use Rattle.pl_batch.specs.declared.fault.BatchFault.TheVariants.{DiskFailed, NoM
 use Rattle.pl_batch.specs.declared.fault.BatchFault.TheVariants as faults
 use Rattle.pl_batch.specs.declared.cause.Cause.{Cause}
 use Rattle.pl_batch.specs.Commands.{CommandsFiles, CommandsOn, IsBefore, Meaning, Outcome, Made, Refused, Failed, Lacked}
+use Rattle.pl_batch.specs.Quiet.{WritesNothing}
 
 -- what the command means of the recovered files has no cause yet, and no changes
 abbrev pub Passes : Meaning Cause → Files → Type 0
@@ -29,7 +30,7 @@ StartsFiles meant Failed e old new = StandsFor (get old) (get new)
 StartsFiles meant Lacked e old new = CommandsFiles meant Lacked e old new
 
 abbrev pub StartsOn : Meaning Cause → Outcome Cause → Disk → Disk → Type 0
-StartsOn meant Made old new = RecoversDisk None (read old.now) old new × ((before : Files) → IsBefore (read old.now) before → Passes meant before)
+StartsOn meant Made old new = RecoversDisk None (read old.now) old new × ((before : Files) → IsBefore (read old.now) before → Passes meant before) × WritesNothing old new
 StartsOn meant (Refused cause) old new = CommandsOn meant (Refused cause) old new
 StartsOn meant Failed old new = Looks old new ⊎ Keeps old new (StandsFor (read old.now))
 StartsOn meant Lacked old new = CommandsOn meant Lacked old new

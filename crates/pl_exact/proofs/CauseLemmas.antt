@@ -50,7 +50,7 @@ by_file (Some found) old c bytes e is =
     let same = by_size found old (nat_le (length found) STORED) e in
     (read_takes old c (subst IsBytes same (bytes found refl)) is).0
 
-read_spelled : (files : Files) (old : List ℕ) (c : Cache) → HasBytes files → cache_file files ≡ Ok old → cache_in old ≡ Ok c → is_cache c ≡ true
+pub read_spelled : (files : Files) (old : List ℕ) (c : Cache) → HasBytes files → cache_file files ≡ Ok old → cache_in old ≡ Ok c → is_cache c ≡ true
 unfolding cache_file
 read_spelled files old c bytes e is = by_file (get files cache) old c bytes e (read_of old c is)
 

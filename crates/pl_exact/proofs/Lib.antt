@@ -17,3 +17,4 @@ pub mod AlikeLemmas
 pub mod LinkLemmas
 pub mod ProgramLemmas
 pub mod CandidateLemmas
+pub mod ReportLemmas

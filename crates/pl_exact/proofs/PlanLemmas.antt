@@ -27,9 +27,11 @@ use Rattle.pl_known.specs.Plans.{planned}
 use Rattle.pl_plan.specs.declared.planned.Planned.{Planned}
 use Rattle.pl_rewrite.specs.Changes.{change, changes, is_file, next, next_cache, put}
 use Rattle.pl_rewrite.specs.Laws.{AreNames}
+use Rattle.pl_rewrite.specs.Reports.{report}
+use Rattle.pl_rewrite.specs.declared.report.Report.{Report}
 use Rattle.pl_rewrite.specs.Rewriting.{rewrite, rewritten}
 use Rattle.pl_rewrite.specs.declared.rewriting.Rewritten.{Rewritten}
-use Rattle.pl_batch.specs.All.{all_changes, all_made, asked_of, made_by, made_of, made_with, of_planning, put_cache, spelled, with_cache}
+use Rattle.pl_batch.specs.All.{all_changes, all_made, all_reported, asked_of, made_by, made_of, made_with, of_planning, put_cache, spelled, with_cache}
 use Rattle.pl_batch.specs.Folder.{all_files, are_large, cache, cache_file, cache_in, named, valid_names}
 use Rattle.pl_batch.specs.Names.{are_many}
 use Rattle.pl_batch.specs.declared.cause.Cause.TheVariants as causes
@@ -53,6 +55,17 @@ pub record IsPlanned (files : Files) (p : Prelinking) (rows : List Change) : Typ
   pub is_planned : planned (named files) (valid_names files) (asked_of p cached) ≡ Ok plan
   pub are : rows ≡ put_cache old (cache_bytes (next_of files p cached plan)) ++ changes_by files p plan
 
+-- the same of all that a run makes, its report too
+pub record IsMade (files : Files) (p : Prelinking) (rows : List Change) (told : Report) : Type 0 where
+  pub old : List ℕ
+  pub found : cache_file files ≡ Ok old
+  pub cached : Cache
+  pub says : cache_in old ≡ Ok cached
+  pub plan : Planned
+  pub is_planned : planned (named files) (valid_names files) (asked_of p cached) ≡ Ok plan
+  pub are : rows ≡ put_cache old (cache_bytes (next_of files p cached plan)) ++ changes_by files p plan
+  pub tells : told ≡ report (named files) (valid_names files) p.region plan
+
 module _ (files : Files) (p : Prelinking) where
   pub rewritten_is : (cached : Cache) (w : Rewritten) → rewrite (named files) (valid_names files) (asked_of p cached) ≡ Ok w
       → (plan : Planned) × (planned (named files) (valid_names files) (asked_of p cached) ≡ Ok plan) × (rewritten (named files) (valid_names files) (asked_of p cached) plan ≡ w)
@@ -66,13 +79,13 @@ module _ (files : Files) (p : Prelinking) where
   spelled_is old w made e = ok_same (with_cache old w) made (unless_ok (not (is_cache w.cache)) causes.BadCache (Ok (with_cache old w)) made e).1
 
   made_is : (old : List ℕ) (cached : Cache) (made : _) → made_of (named files) (valid_names files) p old cached ≡ Ok made
-      → (plan : Planned) × (planned (named files) (valid_names files) (asked_of p cached) ≡ Ok plan) × (made.rows ≡ put_cache old (cache_bytes (next_of files p cached plan)) ++ changes_by files p plan)
+      → (plan : Planned) × (planned (named files) (valid_names files) (asked_of p cached) ≡ Ok plan) × (made.rows ≡ put_cache old (cache_bytes (next_of files p cached plan)) ++ changes_by files p plan) × (made.report ≡ report (named files) (valid_names files) p.region plan)
   unfolding made_of
   made_is old cached made e =
       let step = bind_ok (because of_planning (rewrite (named files) (valid_names files) (asked_of p cached))) (spelled old) made e in
       let w = rewritten_is cached step.0 (because_ok of_planning (rewrite (named files) (valid_names files) (asked_of p cached)) step.0 step.1) in
       let whole : with_cache old (rewritten (named files) (valid_names files) (asked_of p cached) w.0) ≡ made = ap (with_cache old) w.2 ∙ spelled_is old step.0 made step.2 in
-      (w.0, w.1, sym (ap (λ m. m.rows) whole))
+      (w.0, w.1, sym (ap (λ m. m.rows) whole), sym (ap (λ m. m.report) whole))
 
   with_is : (old : List ℕ) (cached : Cache) (made : _) → made_with files p old cached ≡ Ok made → made_of (named files) (valid_names files) p old cached ≡ Ok made
   unfolding made_with
@@ -80,15 +93,15 @@ module _ (files : Files) (p : Prelinking) where
       let step = bind_ok (all_files files (valid_names files)) (λ bytes. unless (are_large bytes) causes.FolderTooLarge (made_of (named files) (valid_names files) p old cached)) made e in
       (unless_ok (are_large step.0) causes.FolderTooLarge (made_of (named files) (valid_names files) p old cached) made step.2).1
 
-  by_is : (made : _) → made_by files p ≡ Ok made → IsPlanned files p made.rows
+  by_is : (made : _) → made_by files p ≡ Ok made → IsMade files p made.rows made.report
   unfolding made_by
   by_is made e =
       let found = bind_ok (cache_file files) (λ old. cache_in old >>= λ cached. made_with files p old cached) made e in
       let says = bind_ok (cache_in found.0) (λ cached. made_with files p found.0 cached) made found.2 in
       let made_so = made_is found.0 says.0 made (with_is found.0 says.0 made says.2) in
-      record { old = found.0; found = found.1; cached = says.0; says = says.1; plan = made_so.0; is_planned = made_so.1; are = made_so.2 }
+      record { old = found.0; found = found.1; cached = says.0; says = says.1; plan = made_so.0; is_planned = made_so.1; are = made_so.2; tells = made_so.3 }
 
-  all_is : (made : _) → all_made files p ≡ Ok made → IsPlanned files p made.rows
+  all_is : (made : _) → all_made files p ≡ Ok made → IsMade files p made.rows made.report
   unfolding all_made
   all_is made e = by_is made (unless_ok (are_many (keys files)) causes.TooManyFiles (made_by files p) made e).1
 
@@ -96,7 +109,14 @@ module _ (files : Files) (p : Prelinking) where
   unfolding all_changes
   all_planned rows e =
       let step = bind_ok (all_made files p) (λ made. Ok made.rows) rows e in
-      subst (λ (rs : List Change). IsPlanned files p rs) (ok_same step.0.rows rows step.2) (all_is step.0 step.1)
+      let is = all_is step.0 step.1 in
+      record { old = is.old; found = is.found; cached = is.cached; says = is.says; plan = is.plan; is_planned = is.is_planned; are = sym (ok_same step.0.rows rows step.2) ∙ is.are }
+
+  pub all_told : (told : Report) → all_reported files p ≡ Ok told → (rows : List Change) × IsMade files p rows told
+  unfolding all_reported
+  all_told told e =
+      let step = bind_ok (all_made files p) (λ made. Ok made.report) told e in
+      (step.0.rows, subst (IsMade files p step.0.rows) (ok_same step.0.report told step.2) (all_is step.0 step.1))
 
 -- ---- the rows of names
 

@@ -2,6 +2,7 @@ ghost use Rattle.pl_exact.specs.All.{AllGivesNext, NextIsFromScratch};
 ghost use Rattle.pl_exact.specs.Candidates.{CandidatesAreMarked, CandidatesArePrelinked};
 ghost use Rattle.pl_exact.specs.Causes.{BadCacheIsOfTheCache};
 ghost use Rattle.pl_exact.specs.Fits.{RemovalsFit, ReplacementsFit, RunsFit};
+ghost use Rattle.pl_exact.specs.Reported.{ReportsTellNames};
 
 /// With all its rows done a run that prelinks everything leaves each valid name the file that is planned for it, and the planned cache. In a folder that keeps the rule of prelinked files these are the files from scratch.
 pub fn all_gives_next()
@@ -9,10 +10,11 @@ pub fn all_gives_next()
     ensures scratch { NextIsFromScratch }
 {}
 
-/// A name that may be prelinked is prelinked, whether slots may be shared or not: it has a prelinked file, and what it has after the run bears a mark, unless it is a program whose file would be longer than a folder stores. Then each step of the definition of that file has a value: its members' originals have forms, their numbers are such as they may have, their addresses are apart, and all links resolve.
+/// A name that may be prelinked is prelinked, whether slots may be shared or not: it has a prelinked file, and what it has after the run bears a mark, unless it is a program whose file would be longer than a folder stores. Then each step of the definition of that file has a value: its members' originals have forms, their numbers are such as they may have, their addresses are apart, and all links resolve. The report of a run says so: it names each such name prelinked or current, and has the sixth form fault of those programs alone.
 pub fn candidates_are_prelinked()
     ensures prelinked { CandidatesArePrelinked }
     ensures marked { CandidatesAreMarked }
+    ensures reported { ReportsTellNames }
 {}
 
 /// The rows of every command fit a journal: there are at most 1025 of them, their names differ, and each is valid or the cache's. So TooManyFiles comes of the files alone.

@@ -1,4 +1,4 @@
-use Rattle.std.proofs.Common.{◌≡◌, List, true, sym, subst}
+use Rattle.std.proofs.Common.{◌≡◌, List, true, sym, ◌∙◌, subst}
 use Rattle.pl_fix.proofs.HoldLaws.{then_holds, unasked}
 use Rattle.pl_folder.specs.Calls.{Calls}
 use Rattle.pl_folder.specs.Seen.{Done}
@@ -68,6 +68,7 @@ returns-clause-fixes g c = then_holds c.in_ok-made.ensures.found (λ choose find
     let all = c.in_ok-made.made in
     record {
       calls = made (ready_for name) (λ files. replacement_of (fixed_as choose name) files name) (g.met.D.Folder.is_folder c.args.held.now.folder) c.in_ok-start_for.ensures.calls all.rows (of_made all finds.found) c.in_ok-start_for.ensures.rested
-          (subst (λ (rows : List Change). Calls Done (CarriesOut rows) (seen c.fix_changes.new.folder) (seen c.carry_out.new.held.folder)) c.as_slice.ensures c.in_ok-carry_out.ensures.calls) c.in_ok-carry_out.ensures.real;
+          (subst (λ (rows : List Change). Calls Done (CarriesOut rows) (seen c.fix_changes.new.folder) (seen c.carry_out.new.held.folder)) c.as_slice.ensures c.in_ok-carry_out.ensures.calls) c.in_ok-carry_out.ensures.real
+          (λ none. c.in_ok-carry_out.ensures.nothing (c.as_slice.ensures ∙ none));
       told = tells choose name (ready_for name) all.address c.in_ok-start_for.ensures.calls finds.told;
     })

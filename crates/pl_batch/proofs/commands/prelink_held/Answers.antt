@@ -1,4 +1,4 @@
-use Rattle.std.proofs.Common.{◌≡◌, List, true, refl, sym, subst}
+use Rattle.std.proofs.Common.{◌≡◌, List, true, refl, sym, ◌∙◌, subst}
 use Rattle.std.specs.Fn.{FnOnceReturnsAt}
 use Rattle.std.specs.Prelude.{Ok}
 use Rattle.pl_folder.specs.Calls.{Calls}
@@ -58,6 +58,7 @@ returns-clause-calls g c =
     let all = c.in_ok-made.made in
     made ready (λ files. changes_of files run) (g.met.D.Folder.is_folder c.args.held.now.folder) c.in_ok-start.ensures.calls all.rows (of_rows all c.in_ok-made.ensures.found) c.in_ok-start.ensures.rested
     (subst (λ (rows : List Change). Calls Done (CarriesOut rows) (seen c.all_fitting.new.folder) (seen c.carry_out.new.held.folder)) c.as_slice.ensures c.in_ok-carry_out.ensures.calls) c.in_ok-carry_out.ensures.real
+    (λ none. c.in_ok-carry_out.ensures.nothing (c.as_slice.ensures ∙ none))
 
 pub returns-in_err-text-clause-calls : goal.returns-in_err-text-clause-calls
 returns-in_err-text-clause-calls g c =

@@ -1,4 +1,4 @@
-use Rattle.std.proofs.Common.{◌≡◌, List, true, sym, subst}
+use Rattle.std.proofs.Common.{◌≡◌, List, true, sym, ◌∙◌, subst}
 use Rattle.pl_folder.specs.Calls.{Calls}
 use Rattle.pl_folder.specs.Seen.{Done}
 use Rattle.pl_journal.specs.Faults.{journal_ending}
@@ -50,6 +50,7 @@ returns-clause-calls g c =
     let run = c.args.run.now in
     made (ready_by run) (λ files. changes_of files run) (g.met.D.Folder.is_folder c.args.held.now.folder) c.in_ok-start_run.ensures.calls c.in_ok-rows.rows c.in_ok-rows.ensures.found c.in_ok-start_run.ensures.rested
     (subst (λ (rows : List Change). Calls Done (CarriesOut rows) (seen c.changes_of.new.folder) (seen c.carry_out.new.held.folder)) c.as_slice.ensures c.in_ok-carry_out.ensures.calls) c.in_ok-carry_out.ensures.real
+    (λ none. c.in_ok-carry_out.ensures.nothing (c.as_slice.ensures ∙ none))
 
 pub returns-clause-count : goal.returns-clause-count
 returns-clause-count g c =

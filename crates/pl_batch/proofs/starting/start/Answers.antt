@@ -3,7 +3,7 @@ use Rattle.pl_batch.proofs.StartLemmas.{start_failed, start_lacked, started, sta
 use Rattle.pl_batch.proofs.starting.start.Goals as goal
 
 pub returns-in-Ok-clause-calls : goal.returns-in-Ok-clause-calls
-returns-in-Ok-clause-calls g c = started c.in-Ok.ensures.calls c.in-Ok.ensures.real
+returns-in-Ok-clause-calls g c = started (g.met.D.Folder.is_folder c.args.held.now.folder) c.in-Ok.ensures.quiet c.in-Ok.ensures.calls c.in-Ok.ensures.real
 
 pub returns-in-Err-BadJournal-clause-calls : goal.returns-in-Err-BadJournal-clause-calls
 returns-in-Err-BadJournal-clause-calls g c = started_bad (rw c.in-Err-BadJournal.field-0-is at c.in-Err-BadJournal.ensures.calls) c.in-Err-BadJournal.ensures.real

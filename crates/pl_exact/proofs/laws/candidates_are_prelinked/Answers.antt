@@ -1,4 +1,5 @@
 use Rattle.pl_exact.proofs.CandidateLemmas.{candidates_marked, candidates_prelinked}
+use Rattle.pl_exact.proofs.ReportLemmas.{reports_tell}
 use Rattle.pl_exact.proofs.laws.candidates_are_prelinked.Goals as goal
 
 pub returns-clause-prelinked : goal.returns-clause-prelinked
@@ -6,3 +7,6 @@ returns-clause-prelinked c = candidates_prelinked
 
 pub returns-clause-marked : goal.returns-clause-marked
 returns-clause-marked c = candidates_marked
+
+pub returns-clause-reported : goal.returns-clause-reported
+returns-clause-reported c = reports_tell
