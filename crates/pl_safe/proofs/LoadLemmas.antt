@@ -3,9 +3,9 @@ use Rattle.std.proofs.Common.{ap}
 use Rattle.std.specs.FinMap.{get}
 use Rattle.pl_known.specs.Skips.{skip_causes}
 use Rattle.pl_cli.specs.Answer.{text_answer}
-use Rattle.pl_paths.proofs.AnswerLaws.{answers_are_ordinary}
-use Rattle.pl_crash.proofs.SoundLemmas.{sound_keep}
-use Rattle.pl_woven.proofs.TextLaws.{weaves_print_ordinary}
+use Rattle.law_loads.proofs.AnswerLaws.{answers_are_ordinary}
+use Rattle.law_folder.proofs.SoundLemmas.{sound_keep}
+use Rattle.law_loads.proofs.TextLaws.{weaves_print_ordinary}
 use Rattle.pl_safe.specs.Laws.{SoundLoadsAreOrdinary, SoundWeavesAreOrdinary}
 
 pub loads_ordinary : SoundLoadsAreOrdinary

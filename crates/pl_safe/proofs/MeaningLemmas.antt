@@ -20,12 +20,12 @@ use Rattle.pl_cli.specs.Writes.{content, fixes, loosens, of_batch, prelinks, rem
 use Rattle.pl_words.specs.declared.command.Policy.{Policy}
 use Rattle.pl_cli.specs.declared.cause.Cause.{Cause}
 use Rattle.pl_cli.specs.declared.command.Content.{Content}
-use Rattle.pl_crash.specs.Originals.{HasOriginal, SameOriginals, originals}
-use Rattle.pl_crash.specs.Safe.{IsSafe, after, changed}
-use Rattle.pl_crash.specs.Steps.{MakesStep}
-use Rattle.pl_crash.proofs.ReplaceLemmas.{fixing_bare, loosening_bare, replacements_originals, replacements_safe}
-use Rattle.pl_crash.proofs.StepLemmas.{removals_steps, replacements_steps, runs_steps}
-use Rattle.pl_crash.proofs.WholeLemmas.{removals_originals, removals_safe, runs_originals, runs_safe}
+use Rattle.law_folder.specs.Originals.{HasOriginal, SameOriginals, originals}
+use Rattle.law_folder.specs.Safe.{IsSafe, after, changed}
+use Rattle.law_folder.specs.Steps.{MakesStep}
+use Rattle.law_folder.proofs.ReplaceLemmas.{fixing_bare, loosening_bare, replacements_originals, replacements_safe}
+use Rattle.law_folder.proofs.StepLemmas.{removals_steps, replacements_steps, runs_steps}
+use Rattle.law_folder.proofs.WholeLemmas.{removals_originals, removals_safe, runs_originals, runs_safe}
 use Rattle.pl_safe.specs.Runs.{KeepsOriginals}
 
 -- ---- safe

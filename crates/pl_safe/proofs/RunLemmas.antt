@@ -34,10 +34,10 @@ use Rattle.pl_cli.specs.declared.command.Command.{Command}
 use Rattle.pl_cli.specs.declared.command.Command.TheVariants.{Load, All, Preview, UndoAll, Undo, Verify, Store, Remove, Fix, Unfix, Print, Order, Demo, Weave}
 use Rattle.pl_cli.specs.declared.status.Status.{Status}
 use Rattle.pl_cli.specs.declared.status.Status.TheVariants as statuses
-use Rattle.pl_crash.specs.Safe.{IsSafe, IsSafeImage, after}
-use Rattle.pl_crash.specs.Sound.{IsSound}
-use Rattle.pl_crash.specs.Steps.{MakesStep}
-use Rattle.pl_crash.proofs.CommandLemmas.{commands_read, disk_ends, disk_leaves, is_before, looked, reads_path, reads_sound}
+use Rattle.law_folder.specs.Safe.{IsSafe, IsSafeImage, after}
+use Rattle.law_folder.specs.Sound.{IsSound}
+use Rattle.law_folder.specs.Steps.{MakesStep}
+use Rattle.law_folder.proofs.CommandLemmas.{commands_read, disk_ends, disk_leaves, is_before, looked, reads_path, reads_sound}
 use Rattle.pl_safe.specs.Laws.{EveryRunIsSafe, ImagesOfRealDisks, ReadersLook, OthersKeepOriginals, RunsLeave, RunsEndSound, RunsOnRealDisks, RunsRead, WritersEnd}
 use Rattle.pl_safe.specs.Runs.{KeepsOriginals, LeavesSound, changed_name, is_whole, meaning, nothing, writes}
 use Rattle.pl_safe.proofs.MeaningLemmas.{fix_keeps, fix_safe, fix_steps, loosen_keeps, loosen_safe, loosen_steps, prelink_keeps, prelink_safe, prelink_steps, remove_keeps, remove_safe, remove_steps, store_keeps, store_safe, store_steps, undo_all_keeps, undo_keeps, undo_safe, undo_steps}

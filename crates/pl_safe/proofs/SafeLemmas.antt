@@ -13,7 +13,7 @@ use Rattle.pl_cli.specs.declared.command.Command.TheVariants.{All}
 use Rattle.pl_cli.specs.declared.command.Detail.{Detail}
 use Rattle.pl_cli.specs.declared.status.Status.{Status}
 use Rattle.pl_cli.specs.declared.status.Status.TheVariants as statuses
-use Rattle.pl_crash.specs.Sound.{IsSound}
+use Rattle.law_folder.specs.Sound.{IsSound}
 use Rattle.pl_safe.specs.Safe.{ReadsSafe, StaysSafe}
 use Rattle.pl_safe.proofs.LoadLemmas.{loads_ordinary, weaves_ordinary}
 use Rattle.pl_safe.proofs.RunLemmas.{every_safe, others_keep, runs_leave, runs_on_real, runs_read, start_sound, writers_end}

@@ -13,11 +13,11 @@ use Rattle.pl_batch.specs.declared.prelinking.Prelinking.{Prelinking}
 use Rattle.pl_batch.specs.declared.run.Run.TheVariants as runs
 use Rattle.pl_batch.proofs.RestoredLemmas.{restored_before}
 use Rattle.pl_cli.specs.Writes.{prelinks}
-use Rattle.pl_crash.specs.Sound.{KeepsTheRule}
-use Rattle.pl_crash.proofs.CommandLemmas.{is_before}
-use Rattle.pl_crash.proofs.SoundLemmas.{before_keeps}
-use Rattle.pl_exact.specs.All.{HasNext}
-use Rattle.pl_exact.proofs.AllLemmas.{gives_next, gives_scratch}
+use Rattle.law_folder.specs.Sound.{KeepsTheRule}
+use Rattle.law_folder.proofs.CommandLemmas.{is_before}
+use Rattle.law_folder.proofs.SoundLemmas.{before_keeps}
+use Rattle.law_folder.specs.All.{HasNext}
+use Rattle.law_folder.proofs.NextLemmas.{gives_next, gives_scratch}
 use Rattle.pl_safe.specs.Laws.{FilesAreFromScratch, ImagesAreFromScratch}
 use Rattle.pl_safe.specs.Runs.{IsFromScratch}
 use Rattle.pl_safe.proofs.MeaningLemmas.{all_of}

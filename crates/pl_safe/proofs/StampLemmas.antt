@@ -22,12 +22,12 @@ use Rattle.pl_cli.specs.declared.cause.Cause.{Cause}
 use Rattle.pl_cli.specs.declared.command.Command.{Command}
 use Rattle.pl_cli.specs.declared.status.Status.{Status}
 use Rattle.pl_cli.specs.declared.status.Status.TheVariants as statuses
-use Rattle.pl_crash.specs.Safe.{IsSafeImage, after, changed}
-use Rattle.pl_crash.specs.Sound.{IsSound, KeepsTheRule}
-use Rattle.pl_crash.specs.Steps.{IsPastAll, MakesStep}
-use Rattle.pl_crash.proofs.CommandLemmas.{is_before, looked}
-use Rattle.pl_crash.proofs.SoundLemmas.{before_keeps}
-use Rattle.pl_crash.proofs.StepLemmas.{steps_past}
+use Rattle.law_folder.specs.Safe.{IsSafeImage, after, changed}
+use Rattle.law_folder.specs.Sound.{IsSound, KeepsTheRule}
+use Rattle.law_folder.specs.Steps.{IsPastAll, MakesStep}
+use Rattle.law_folder.proofs.CommandLemmas.{is_before, looked}
+use Rattle.law_folder.proofs.SoundLemmas.{before_keeps}
+use Rattle.law_folder.proofs.StepLemmas.{steps_past}
 use Rattle.pl_safe.specs.Laws.{EveryImageStandsPastAll, FilesStandPastAll, RunsLeavePastAll, WritersEndPastAll, WrittenArePastAll}
 use Rattle.pl_safe.specs.Runs.{StandsPastAll, is_whole, meaning, writes}
 use Rattle.pl_safe.proofs.RunLemmas.{IsReader, IsWriter, kind, runs_leave, runs_read, writers_end}

@@ -22,8 +22,8 @@ use Rattle.pl_cli.specs.Writes.{of_batch}
 use Rattle.pl_cli.specs.declared.cause.Cause.{Cause}
 use Rattle.pl_cli.specs.declared.command.Command.TheVariants.{Verify}
 use Rattle.pl_cli.specs.declared.status.Status.TheVariants as statuses
-use Rattle.pl_crash.specs.Sound.{named}
-use Rattle.pl_crash.proofs.SoundLemmas.{rule_enough}
+use Rattle.law_folder.specs.Sound.{named}
+use Rattle.law_folder.proofs.SoundLemmas.{rule_enough}
 use Rattle.pl_safe.specs.Laws.{VerifiedAreSound}
 
 -- an answer that is Done has an original

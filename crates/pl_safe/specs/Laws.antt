@@ -11,9 +11,9 @@ use Rattle.pl_journal.specs.Meaning.{Same}
 use Rattle.pl_journal.specs.RealDisk.{AllFirm, RunsAlike, RunsFirmlyOn, disk_by, names_settled}
 use Rattle.pl_batch.specs.Restored.{restored}
 use Rattle.pl_batch.specs.declared.prelinking.Prelinking.{Prelinking}
-use Rattle.pl_crash.specs.Safe.{IsSafeImage, after}
-use Rattle.pl_crash.specs.Sound.{IsSound, named}
-use Rattle.pl_crash.specs.Steps.{IsPastAll}
+use Rattle.law_folder.specs.Safe.{IsSafeImage, after}
+use Rattle.law_folder.specs.Sound.{IsSound, named}
+use Rattle.law_folder.specs.Steps.{IsPastAll}
 use Rattle.pl_conflict.specs.Format.{format}
 use Rattle.pl_known.specs.Skips.{skip_causes}
 use Rattle.pl_scope.specs.Members.{has}
@@ -29,8 +29,8 @@ use Rattle.pl_cli.specs.declared.command.Command.TheVariants.{All, Load, Verify,
 use Rattle.pl_cli.specs.declared.command.Detail.{Detail}
 use Rattle.pl_cli.specs.declared.status.Status.{Status}
 use Rattle.pl_cli.specs.declared.status.Status.TheVariants as statuses
-use Rattle.pl_paths.specs.Answers.{ordinary_answer}
-use Rattle.pl_woven.specs.Texts.{linked_from, weaves_from}
+use Rattle.law_loads.specs.Answers.{ordinary_answer}
+use Rattle.law_loads.specs.Texts.{linked_from, weaves_from}
 use Rattle.pl_safe.specs.Runs.{IsFromScratch, KeepsOriginals, LeavesPastAll, LeavesSound, StandsPastAll, changed_name, is_whole, meaning, writes}
 
 -- ---- every run

@@ -13,10 +13,10 @@ use Rattle.pl_cli.specs.declared.command.Command.{Command}
 use Rattle.pl_cli.specs.declared.command.Command.TheVariants.{All, UndoAll, Undo, Store, Remove, Fix, Unfix}
 use Rattle.pl_cli.specs.declared.status.Status.{Status}
 use Rattle.pl_cli.specs.declared.status.Status.TheVariants as statuses
-use Rattle.pl_crash.specs.Originals.{SameOriginals, originals}
-use Rattle.pl_crash.specs.Safe.{IsSafeImage}
-use Rattle.pl_crash.specs.Steps.{IsPastAll}
-use Rattle.pl_exact.specs.All.{HasNext}
+use Rattle.law_folder.specs.Originals.{SameOriginals, originals}
+use Rattle.law_folder.specs.Safe.{IsSafeImage}
+use Rattle.law_folder.specs.Steps.{IsPastAll}
+use Rattle.law_folder.specs.All.{HasNext}
 use Rattle.pl_folder.specs.Disk.{Name, View, same}
 use Rattle.pl_folder.specs.Seen.{Seen}
 use Rattle.pl_folder.specs.Since.{Keeps}

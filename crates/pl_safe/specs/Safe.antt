@@ -8,9 +8,9 @@ use Rattle.pl_journal.specs.Meaning.{Same}
 use Rattle.pl_journal.specs.RealDisk.{RunsFirmlyOn}
 use Rattle.pl_batch.specs.Restored.{restored}
 use Rattle.pl_batch.specs.declared.prelinking.Prelinking.{Prelinking}
-use Rattle.pl_crash.specs.Safe.{IsSafeImage, after}
-use Rattle.pl_crash.specs.Sound.{IsSound}
-use Rattle.pl_crash.specs.Steps.{IsPastAll}
+use Rattle.law_folder.specs.Safe.{IsSafeImage, after}
+use Rattle.law_folder.specs.Sound.{IsSound}
+use Rattle.law_folder.specs.Steps.{IsPastAll}
 use Rattle.pl_known.specs.Skips.{skip_causes}
 use Rattle.pl_words.specs.declared.command.Policy.{Policy}
 use Rattle.pl_cli.specs.Answer.{answer, text_answer}
@@ -22,8 +22,8 @@ use Rattle.pl_cli.specs.declared.command.Command.TheVariants.{All, Load, Weave}
 use Rattle.pl_cli.specs.declared.command.Detail.{Detail}
 use Rattle.pl_cli.specs.declared.status.Status.{Status}
 use Rattle.pl_cli.specs.declared.status.Status.TheVariants as statuses
-use Rattle.pl_paths.specs.Answers.{ordinary_answer}
-use Rattle.pl_woven.specs.Texts.{linked_from, weaves_from}
+use Rattle.law_loads.specs.Answers.{ordinary_answer}
+use Rattle.law_loads.specs.Texts.{linked_from, weaves_from}
 use Rattle.pl_safe.specs.Runs.{IsFromScratch, KeepsOriginals, LeavesPastAll, LeavesSound, StandsPastAll, changed_name, is_whole, meaning, writes}
 
 -- A run of what words ask for, with w outside before it and v after it: what it answers, and what is read of the folder after it.

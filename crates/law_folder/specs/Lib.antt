@@ -1,0 +1,10 @@
+pub mod All
+pub mod Fits
+pub mod Causes
+pub mod Candidates
+pub mod Reported
+pub mod Sound
+pub mod Safe
+pub mod Originals
+pub mod Laws
+pub mod Steps

@@ -1,0 +1,13 @@
+pub mod FileLaws
+pub mod WalkLaws
+pub mod FastLaws
+pub mod PlaceLaws
+pub mod ImageLaws
+pub mod HistoryLaws
+pub mod AnswerLaws
+pub mod RowLemmas
+pub mod HistoryLemmas
+pub mod OrdinaryLaws
+pub mod CopyLaws
+pub mod SeenLemmas
+pub mod TextLaws

@@ -1,0 +1,5 @@
+pub mod Paths
+pub mod Answers
+pub mod Loads
+pub mod Weaves
+pub mod Texts

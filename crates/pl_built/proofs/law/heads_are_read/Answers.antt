@@ -1,9 +1,0 @@
-use Rattle.pl_built.proofs.HeadLaws.{heads_are_read}
-use Rattle.pl_built.proofs.HeadedLaws.{files_headed}
-use Rattle.pl_built.proofs.law.heads_are_read.Goals as goal
-
-pub returns-clause-read : goal.returns-clause-read
-returns-clause-read c = heads_are_read
-
-pub returns-clause-taken : goal.returns-clause-taken
-returns-clause-taken c = files_headed

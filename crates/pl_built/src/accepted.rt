@@ -1,6 +1,0 @@
-ghost use Rattle.pl_built.specs.Accepted.{PlainIsAccepted};
-
-/// A law: the file of a plain and modest recipe is accepted, with the object that the recipe describes.
-pub fn plain_is_accepted()
-    ensures { PlainIsAccepted }
-{}

@@ -1,9 +1,0 @@
-pub mod SoundLemmas
-pub mod RowLemmas
-pub mod EditLemmas
-pub mod ReplaceLemmas
-pub mod CommandLemmas
-pub mod OriginalLemmas
-pub mod AllLemmas
-pub mod WholeLemmas
-pub mod StepLemmas

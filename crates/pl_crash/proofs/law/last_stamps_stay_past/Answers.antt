@@ -1,8 +1,0 @@
-use Rattle.pl_crash.proofs.StepLemmas.{empty_past, steps_past}
-use Rattle.pl_crash.proofs.law.last_stamps_stay_past.Goals as goal
-
-pub returns-clause-empty : goal.returns-clause-empty
-returns-clause-empty g c = empty_past
-
-pub returns-clause-steps : goal.returns-clause-steps
-returns-clause-steps g c = steps_past

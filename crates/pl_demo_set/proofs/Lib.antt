@@ -1,4 +1,0 @@
-pub mod MadeLaws
-pub mod RoomLaws
-pub mod SmallLaws
-pub mod FolderLaws

@@ -1,4 +1,0 @@
-pub mod Clear
-pub mod Laws
-pub mod Demo
-pub mod DemoText

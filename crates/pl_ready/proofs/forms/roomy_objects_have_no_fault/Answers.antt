@@ -1,5 +1,0 @@
-use Rattle.pl_ready.proofs.FormLaws.{roomy_objects}
-use Rattle.pl_ready.proofs.forms.roomy_objects_have_no_fault.Goals as goal
-
-pub returns : goal.returns
-returns c = roomy_objects

@@ -1,6 +1,0 @@
-ghost use Rattle.pl_ready.specs.Closed.{RootsWalkWithin};
-
-/// A law: among fewer than 256 libraries that need one another alone, the walk of each, and of each program that needs no others, is not refused, and stays among them.
-pub fn roots_walk_within<E>()
-    ensures { RootsWalkWithin E }
-{}
