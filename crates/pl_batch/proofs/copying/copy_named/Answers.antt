@@ -2,7 +2,8 @@ use Rattle.std.proofs.Common.{◌≡◌, ◌∙◌, List, ap, false, map, sym, t
 use Rattle.std.specs.Prelude.{string_bytes}
 use Rattle.pl_batch.specs.Answers.{Finds}
 use Rattle.pl_batch.specs.Copied.{are_bulky, copied_by}
-use Rattle.pl_batch.proofs.CopiedLemmas.{bulky, is_copy, small, uncached, untaken, whole}
+use Rattle.pl_batch.specs.declared.fault.BatchFault.TheVariants.{NoMemory}
+use Rattle.pl_batch.proofs.CopiedLemmas.{bulky, is_copy, small, uncached, unkept, untaken, whole}
 use Rattle.pl_batch.proofs.CopyLemmas.{File, bytes_of}
 use Rattle.pl_batch.proofs.FindLemmas.{at_err}
 use Rattle.pl_batch.proofs.copying.copy_named.Goals as goal
@@ -25,6 +26,12 @@ pub returns-then-are_bulky-clause-found : goal.returns-then-are_bulky-clause-fou
 returns-then-are_bulky-clause-found g c =
     let is : are_bulky (bytes_of c.in_ok-files.files.items) ≡ true = ap (λ (files : List File). are_bulky (bytes_of files)) (sym c.deref.ensures.value) ∙ sym c.are_bulky.ensures ∙ c.if-are_bulky.true in
     bulky c.in_ok-cache.cache c.in_ok-cache.ensures.found (map string_bytes c.args.names.now) c.requires.listed c.in_ok-files.files c.in_ok-files.ensures.found is
+
+pub returns-in_err-add_cache-clause-found : goal.returns-in_err-add_cache-clause-found
+returns-in_err-add_cache-clause-found g c =
+    let seen = g.D.Folder.seen in
+    at_err (λ r. Finds (copied_by (seen c.args.folder.now).files) whole r (seen c.args.folder.now) (seen c.take_files.new.folder)) c.from_residual-in_err-add_cache.result NoMemory c.from_residual-in_err-add_cache.ensures.1
+    (unkept c.in_ok-cache.cache c.in_ok-cache.ensures.found (map string_bytes c.args.names.now) c.requires.listed c.in_ok-files.files c.in_ok-files.ensures.found)
 
 pub returns-clause-found : goal.returns-clause-found
 returns-clause-found g c =

@@ -11,7 +11,8 @@ use Rattle.pl_journal.proofs.RecoverLemmas.{names_from}
 use Rattle.pl_batch.specs.Answers.{Finds}
 use Rattle.pl_batch.specs.Folder.{all_files}
 use Rattle.pl_batch.specs.Names.{file_of}
-use Rattle.pl_batch.proofs.FindLemmas.{at_err}
+use Rattle.pl_batch.specs.declared.fault.BatchFault.TheVariants.{NoMemory}
+use Rattle.pl_batch.proofs.FindLemmas.{at_err, lacks_finds, reads_on}
 use Rattle.pl_batch.proofs.CopyLemmas.{CopiedSoFar, File, bytes_in, ends, goes_on, stops_at, valid_of}
 use Rattle.pl_batch.proofs.UndoLemmas.{items}
 use Rattle.pl_batch.proofs.copying.take_files.Goals as goal
@@ -30,6 +31,22 @@ returns-in_err-bytes-clause-found g c =
     let found = subst (λ (n : List ℕ). Finds (file_of b.files n) items (Err fault) b (seen c.take.new.folder)) {y = string_bytes name} c.as_str-in-loop-name.ensures.value c.in_err-bytes.ensures.found in
     at_err (λ r. Finds (all_files a.files (valid_of (texts names))) bytes_in r a (seen c.take.new.folder)) c.from_residual.result fault c.from_residual.ensures.1
     (stops_at a (texts names) (string_bytes name) (texts (drop (i + 1) names)) c.loop-name.files.items here valid fault found)
+
+pub returns-in_err-from_str-clause-found : goal.returns-in_err-from_str-clause-found
+returns-in_err-from_str-clause-found g c =
+    let seen = g.D.Folder.seen in
+    let a = seen c.args.folder.now in
+    let meant = all_files a.files (valid_of (texts c.args.names.now)) in
+    at_err (λ r. Finds meant bytes_in r a (seen c.take.new.folder)) c.from_residual-in_err-from_str.result NoMemory c.from_residual-in_err-from_str.ensures.1
+    (lacks_finds meant bytes_in (reads_on c.loop-name.invariant.0.calls c.in_ok-bytes.ensures.found.calls))
+
+pub returns-in_err-push-clause-found : goal.returns-in_err-push-clause-found
+returns-in_err-push-clause-found g c =
+    let seen = g.D.Folder.seen in
+    let a = seen c.args.folder.now in
+    let meant = all_files a.files (valid_of (texts c.args.names.now)) in
+    at_err (λ r. Finds meant bytes_in r a (seen c.take.new.folder)) c.from_residual-in_err-push.result NoMemory c.from_residual-in_err-push.ensures.1
+    (lacks_finds meant bytes_in (reads_on c.loop-name.invariant.0.calls c.in_ok-bytes.ensures.found.calls))
 
 pub loop-name-preserved : goal.loop-name-preserved
 loop-name-preserved g c =
