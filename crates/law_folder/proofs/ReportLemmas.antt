@@ -1,17 +1,14 @@
 -- What the report of a run that prelinks everything says of each name.
 use Rattle.std.proofs.Common.{◌≡◌, ◌⊎◌, inl, inr, ℕ, Bool, true, false, List, [], ◌∷◌, map, get_or, Option, Some, None, Result, Ok, Err, refl, sym, ap, subst, ◌∙◌}
-use Rattle.std.specs.FinMap.{get}
 use Rattle.std.specs.List.{All, list_all, list_any}
-use Rattle.std.specs.Prelude.{◌&&◌, ◌==◌, is_some, length, nat_lt, not, slice_get, if◌then◌else◌}
+use Rattle.std.specs.Prelude.{◌&&◌, ◌==◌, is_some, length, nat_lt, not, if◌then◌else◌}
 use Rattle.std.specs.Result.{is_ok}
 use Rattle.std.proofs.lemmas.Bool.{false≢true}
 use Rattle.std.proofs.lemmas.List.Elements.{All-map}
-use Rattle.pl_base.specs.Answers.{◌>>=◌, Tells, because, refuse, unless, unless_found}
-use Rattle.pl_base.specs.Bytes.{IsBytes}
+use Rattle.pl_base.specs.Answers.{◌>>=◌, Tells, because, unless_found}
 use Rattle.pl_base.specs.Each.{run}
 use Rattle.pl_base.specs.Files as base
-use Rattle.pl_base.proofs.TellsLaws.{because_tells, cause_tells, either_tells, err_tells, found_tells, ok_tells, run_tells, then_tells, unless_tells}
-use Rattle.pl_batch.specs.All.{all_reported, asked_of}
+use Rattle.pl_base.proofs.TellsLaws.{cause_tells, either_tells, err_tells, ok_tells, run_tells, then_tells, unless_tells}
 use Rattle.pl_batch.specs.Folder.{cache, named, valid_names}
 use Rattle.pl_batch.specs.declared.prelinking.Prelinking.{Prelinking}
 use Rattle.pl_cone.specs.Candidates.{all_formed, blocks, fit, formed, kind_of, linked, of_link, resolved, zeros}
@@ -45,7 +42,6 @@ use Rattle.pl_plan.specs.declared.planned.Planned.{Planned}
 use Rattle.pl_rewrite.specs.Changes.{next}
 use Rattle.pl_rewrite.specs.Reports.{marked_at, report, row_of, state_after, state_by, state_of}
 use Rattle.pl_rewrite.specs.declared.report.Report.{Report}
-use Rattle.pl_rewrite.specs.declared.report.ReportRow.{ReportRow}
 use Rattle.pl_rewrite.specs.declared.report.RowState.{RowState}
 use Rattle.pl_rewrite.specs.declared.report.RowState.TheVariants as states
 use Rattle.pl_rewrite.proofs.FormLaws.{original_is}
@@ -66,12 +62,11 @@ use Rattle.pl_tls.specs.declared.fault.TlsFault.TheVariants as tls_faults
 use Rattle.pl_value.specs.Meanings.{meanings}
 use Rattle.pl_value.specs.declared.fault.LinkFault.{LinkFault}
 use Rattle.pl_value.specs.declared.fault.LinkFault.TheVariants as link_faults
-use Rattle.law_folder.specs.Candidates.{HasPlan, IsTooLong}
-use Rattle.law_folder.specs.Causes.{IsAsked}
-use Rattle.law_folder.specs.Reported.{ReportsTellNames, SaysPrelinked, SaysTooLong, TellsName, TellsNames}
+use Rattle.law_folder.specs.Candidates.{HasPlan}
+use Rattle.law_folder.specs.Reported.{ReportsTellNames, SaysPrelinked, SaysTooLong, TellsName}
 use Rattle.law_folder.proofs.CandidateLemmas.{candidates_marked}
 use Rattle.law_folder.proofs.CauseLemmas.{read_spelled}
-use Rattle.law_folder.proofs.PlanLemmas.{IsMade, all_told}
+use Rattle.law_folder.proofs.PlanLemmas.{all_told}
 
 -- ---- a name may be prelinked where it has no cause
 
