@@ -1,5 +1,5 @@
 ghost use Rattle.std.specs.Prelude.{◌≡◌, ℕ, ◌+◌, ◌*◌, ◌/◌, ◌≤◌, ◌<◌, ◌++◌, ◌||◌, fold, true, false, IfOk, IfSome, if◌then◌else◌};
-ghost use Rattle.std.specs.List.{list_any};
+ghost use Rattle.std.specs.List.{All, list_any};
 ghost use Rattle.pl_base.specs.Memory.{layered};
 ghost use Rattle.pl_image.specs.Image as spec;
 ghost use Rattle.pl_image.specs.Index.{AreTouching, is_touched, laid};
@@ -9,7 +9,10 @@ ghost use Rattle.pl_io.specs.Seen.{HasWrittenAll};
 use crate::image_text::{add_word, flush};
 use crate::lines::{Lines, WORDS};
 use crate::masked::masked_ranges;
-use crate::piece::{byte_at, next_stored, piece_at, pieces_begin, pieces_end, stored_word};
+use crate::patch::patch_word;
+use crate::piece::{
+    byte_at, has_word, next_stored, piece_at, pieces_begin, pieces_end, stored_word,
+};
 use crate::ranges::{any_has, end_at, near};
 use crate::touched::{Touch, index_patches, next_touched, patched, touching};
 use crate::{Loaded, Patch, Piece};
@@ -135,6 +138,43 @@ impl<'a> Image<'a> {
         }
     }
 
+    /// The word of a number of an object with these pieces, where the last patch that touches it has all its bytes: one piece has their addresses, and none of them is masked.
+    fn patched_word(&self, pieces: &[Piece<'_>], touching: &[Touch], number: u64) -> Option<u64>
+        requires own { spec.AreOwn self.now pieces.now }
+        requires touching { AreTouching self.now.patches touching.now number }
+        requires only { All (λ touch. touch.number ≡ number) touching.now }
+        requires limit { number < WORDS }
+        ensures { IfSome result (λ word. word ≡ word_in (spec.own_memory self.now pieces.now)
+            (8 * number)) }
+    {
+        if touching.len() == 0 || !self.is_shown(number) {
+            return None;
+        }
+        let last = &touching[touching.len() - 1];
+        match piece_at(pieces, 8 * number) {
+            Some(piece) if has_word(piece, 8 * number) => {
+                patch_word(&self.patches[last.patch], 8 * number)
+            }
+            _ => None,
+        }
+    }
+
+    /// The word of a number of an object with these pieces, where it is one of a file or one of a patch.
+    fn whole_word(&self, pieces: &[Piece<'_>], touching: &[Touch], number: u64) -> Option<u64>
+        requires own { spec.AreOwn self.now pieces.now }
+        requires touching { AreTouching self.now.patches touching.now number }
+        requires only { All (λ touch. touch.number ≡ number) touching.now }
+        requires limit { number < WORDS }
+        ensures { IfSome result (λ word. word ≡ word_in (spec.own_memory self.now pieces.now)
+            (8 * number)) }
+    {
+        if touching.len() == 0 {
+            self.plain_word(pieces, touching, number)
+        } else {
+            self.patched_word(pieces, touching, number)
+        }
+    }
+
     /// The word of a number of an object with these pieces, byte by byte.
     #[tactic(auto, unfolding(crate::specs::Lines::word_in, pl_base::specs::Memory::read))]
     fn mixed_word(&self, pieces: &[Piece<'_>], touching: &[Touch], number: u64) -> u64
@@ -164,7 +204,7 @@ impl<'a> Image<'a> {
         ensures { result ≡ word_in (spec.own_memory self.now pieces.now) (8 * number) }
     {
         let touching = touching(&self.patches, &self.touched, number);
-        match self.plain_word(pieces, touching, number) {
+        match self.whole_word(pieces, touching, number) {
             Some(word) => word,
             None => self.mixed_word(pieces, touching, number),
         }

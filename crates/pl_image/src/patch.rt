@@ -1,6 +1,8 @@
-ghost use Rattle.std.specs.Prelude.{◌≡◌};
+ghost use Rattle.std.specs.Prelude.{◌≡◌, ◌+◌, ◌-◌, ◌≤◌, length, IfSome};
+ghost use Rattle.pl_base.specs.Bytes.{word64};
 ghost use Rattle.pl_image.specs.Index as spec;
 
+use pl_base::word64;
 use std::marker::Model;
 
 /// Bytes for a place in memory, over what was there. Contracts see it as a fill.
@@ -26,5 +28,24 @@ pub fn laid(patch: &Patch, found: u8, address: u64) -> u8
         patch.bytes[(address - patch.address) as usize]
     } else {
         found
+    }
+}
+
+/// The word at an address, where a patch has all its bytes.
+pub fn patch_word(patch: &Patch, address: u64) -> Option<u64>
+    ensures whole { IfSome result (λ word. (patch.now.start ≤ address)
+        × (address + 8 ≤ patch.now.start + length patch.now.bytes)) }
+    ensures value { IfSome result (λ word. word
+        ≡ word64 (address - patch.now.start) patch.now.bytes) }
+{
+    if address < patch.address {
+        return None;
+    }
+    let at = address - patch.address;
+    let size = patch.bytes.len() as u64;
+    if at < size && 8 <= size - at {
+        Some(word64(&patch.bytes, at as usize))
+    } else {
+        None
     }
 }

@@ -1,4 +1,5 @@
 ghost use Rattle.std.specs.Prelude.{◌≡◌, ℕ, ◌+◌, ◌-◌, ◌*◌, ◌/◌, ◌≤◌, ◌<◌, true, false, nat_le, nat_lt, IfSome};
+ghost use Rattle.std.specs.Bool.{OnTrue};
 ghost use Rattle.std.specs.List.{find, list_any};
 ghost use Rattle.std.specs.Option.{option_copied};
 ghost use Rattle.pl_base.specs.Bytes.{word64};
@@ -47,6 +48,14 @@ fn lies(address: u64, piece: &Piece<'_>) -> bool
     ensures { result ≡ memory.lies address piece.now }
 {
     piece.start <= address && address - piece.start < piece.size
+}
+
+/// Whether the piece has the eight addresses from one on.
+pub fn has_word(piece: &Piece<'_>, address: u64) -> bool
+    ensures { OnTrue result ((piece.now.start ≤ address)
+        × (address + 8 ≤ piece.now.start + piece.now.size)) }
+{
+    piece.start <= address && 8 <= piece.size && address - piece.start <= piece.size - 8
 }
 
 /// The piece that has an address, of pieces that ascend.
