@@ -57,7 +57,8 @@ pub fn fix_placed<F: Fn(&Holes, u64, u64) -> Option<u64>>(
     requires may { policy.MayChoose (F.pre placer.now) }
     requires chooses { policy.Chooses (F.post placer.now) }
     requires few { length bytes.now < 2 ^ 32 }
-    // It is what each function makes of the file that answers as the policy did, which was asked at most once.
+    // It is what each function makes of the file that answers as the policy did, which was asked
+    // at most once.
     ensures placed { IfOk result (λ p. spec.HoldsBy (F.post placer.now)
         (λ choose. p ≡ spec.placed choose bytes.now)) }
     ensures small { IfOk result spec.IsSmall }

@@ -49,7 +49,8 @@ impl<'p, F> Loader<'p, F> {
         // all files of the walk of the name are still to come
         ensures begins { IfOk result (λ loader. (file : List ℕ → Result (List ℕ) faults.LoadFault)
             → spec.IsUnderWay itself file name.now loader.walk) }
-        // a law over definitions: the whole load means no want of memory where what is told of its files does not
+        // a law over definitions: the whole load means no want of memory where what is told of its
+        // files does not
         ensures never_memory { (choose : policy.Choice)
             (file : List ℕ → Result (List ℕ) faults.LoadFault)
             → ((n : List ℕ) → Tells is_memory (file n))
