@@ -1,6 +1,7 @@
 // The own words of a library.
 ghost use Rattle.std.specs.Prelude.{◌≡◌, ◌<◌, length, map, IfOk};
-ghost use Rattle.pl_scope.specs.Scope.{objects, AreReferences, IsSymbol};
+ghost use Rattle.std.specs.List.{All};
+ghost use Rattle.pl_scope.specs.Scope.{objects, IsSymbol};
 ghost use Rattle.pl_value.specs.Values.{reference};
 ghost use Rattle.pl_conflict.specs.Own as spec;
 
@@ -64,7 +65,7 @@ fn words_of(
     relocs: &[Reloc],
 ) -> Result<Rows<Option<u64>>, AllocError>
     requires one_each { length places.now ≡ length scope.now }
-    requires references { AreReferences scope.now 0 relocs.now }
+    requires references { All (λ r. IsSymbol (objects scope.now) 0 r.symbol) relocs.now }
     ensures { IfOk result (λ words. words ≡ map (spec.own_word (objects scope.now) places.now)
         relocs.now) }
 {

@@ -1,10 +1,10 @@
 // The relocations of a library whose words its file holds.
 ghost use Rattle.std.specs.Prelude.{◌≡◌, ◌<◌, length, slice_get, true, IfOk, Some};
 ghost use Rattle.std.specs.Bool.{OnTrue};
-ghost use Rattle.std.specs.List.{AllZip};
+ghost use Rattle.std.specs.List.{All, AllZip};
 ghost use Rattle.pl_base.specs.Bytes.{bytes64};
 ghost use Rattle.pl_image.specs.Image.{AreLoaded};
-ghost use Rattle.pl_scope.specs.Scope.{objects, AreReferences, IsSymbol};
+ghost use Rattle.pl_scope.specs.Scope.{objects, IsSymbol};
 ghost use Rattle.pl_value.specs.Values.{relocations_in};
 ghost use Rattle.pl_conflict.specs.Among as spec;
 
@@ -98,7 +98,7 @@ fn flags_of(
     requires first { 0 < length places.now }
     requires file { AreLoaded file.now }
     requires one { 0 < length file.now }
-    requires references { AreReferences own.now 0 relocs.now }
+    requires references { All (λ r. IsSymbol (objects own.now) 0 r.symbol) relocs.now }
     ensures { IfOk result (spec.AreHeld (objects own.now) places.now file.now closed.now
         relocs.now) }
 {

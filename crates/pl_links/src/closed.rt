@@ -1,9 +1,9 @@
 // The relocations of a library that give the same in every scope of a folder.
 ghost use Rattle.std.specs.Prelude.{◌≡◌, ◌<◌, ◌==◌, false, length, slice_get, IfOk};
 ghost use Rattle.std.specs.Bool.{OnTrue};
-ghost use Rattle.std.specs.List.{AllZip};
+ghost use Rattle.std.specs.List.{All, AllZip};
 ghost use Rattle.pl_elf.specs.declared.constants.TheConstants.{R_X86_64_COPY};
-ghost use Rattle.pl_scope.specs.Scope.{objects, AreReferences, IsReference, IsSymbol};
+ghost use Rattle.pl_scope.specs.Scope.{objects, IsSymbol};
 ghost use Rattle.pl_value.specs.Values.{relocations_in};
 ghost use Rattle.pl_links.specs.Closed as spec;
 ghost use Rattle.pl_links.specs.Settled as settled;
@@ -47,7 +47,7 @@ fn found_symbol<'a>(own: &Scope<'a>, found: Found) -> &'a Symbol
 
 /// Whether the name of a reference of the first member has one object at most that defines it.
 fn is_single(definers: &Definers, own: &Scope<'_>, reference: Reference) -> bool
-    requires { IsReference own.now reference }
+    requires { IsSymbol (objects own.now) reference.member reference.symbol }
     ensures { OnTrue result (settled.HasSingleName definers.now (objects own.now) reference) }
 {
     let symbol = own_symbol(own, reference);
@@ -56,7 +56,7 @@ fn is_single(definers: &Definers, own: &Scope<'_>, reference: Reference) -> bool
 
 /// Whether a reference of the first member finds a symbol with an address, the same in every scope.
 fn is_settled(definers: &Definers, own: &Scope<'_>, reference: Reference) -> bool
-    requires { IsReference own.now reference }
+    requires { IsSymbol (objects own.now) reference.member reference.symbol }
     ensures { OnTrue result (settled.IsSettledBy definers.now (objects own.now) reference) }
 {
     let Some(found) = find(own, reference) else {
@@ -86,7 +86,7 @@ fn flags_of(
     own: &Scope<'_>,
     relocs: &[Reloc],
 ) -> Result<Rows<bool>, AllocError>
-    requires { AreReferences own.now 0 relocs.now }
+    requires { All (λ r. IsSymbol (objects own.now) 0 r.symbol) relocs.now }
     ensures { IfOk result (AllZip (spec.IsFlag definers.now (objects own.now)) relocs.now) }
 {
     let mut flags = Rows::new(alloc);

@@ -1,7 +1,7 @@
 // The addresses on which the file of a program depends.
 ghost use Rattle.std.specs.Prelude.{◌≡◌, ◌<◌, length};
-ghost use Rattle.std.specs.List.{list_all};
-ghost use Rattle.pl_scope.specs.Scope.{objects, AreReferences, IsSymbol};
+ghost use Rattle.std.specs.List.{All, list_all};
+ghost use Rattle.pl_scope.specs.Scope.{objects, IsSymbol};
 ghost use Rattle.pl_prelinked.specs.Watched as spec;
 
 use pl_base::end;
@@ -52,7 +52,7 @@ fn windows_by(
 ) -> Result<Vec<Window>, AllocError>
     requires one_each { length places.now ≡ length scope.now }
     requires first { 0 < length places.now }
-    requires references { AreReferences scope.now 0 relocs.now }
+    requires references { All (λ r. IsSymbol (objects scope.now) 0 r.symbol) relocs.now }
 {
     let mut windows = Vec::new(alloc);
     windows.push(hull(relocs))?;

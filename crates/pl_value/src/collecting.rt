@@ -1,8 +1,9 @@
 // What all relocations of a scope give.
 ghost use Rattle.std.specs.Prelude.{◌≡◌, length, map, Ok, Err, OnOk, IfErr};
+ghost use Rattle.std.specs.List.{All};
 ghost use Rattle.pl_base.specs.Answers.{Answers, because};
 ghost use Rattle.pl_base.specs.Each.{each, with_front};
-ghost use Rattle.pl_scope.specs.Scope.{objects, AreReferences, IsReference, IsSymbol};
+ghost use Rattle.pl_scope.specs.Scope.{objects, IsSymbol};
 ghost use Rattle.pl_value.specs.Definers.{IsSought};
 ghost use Rattle.pl_value.specs.Meanings as spec;
 ghost use Rattle.pl_value.specs.declared.fault.OrdinaryFault.TheVariants.{Link};
@@ -18,7 +19,7 @@ use std::alloc::Global;
 
 /// What the symbol of a reference finds, by the answers that are kept. Symbol 0 is no reference.
 fn sought(kept: &mut Kept<'_, '_>, reference: Reference) -> Option<Found>
-    requires { IsReference kept.old reference }
+    requires { IsSymbol (objects kept.old) reference.member reference.symbol }
     ensures exact { IsSought (objects kept.old) reference result }
     ensures same { kept.new ≡ kept.old }
 {
@@ -63,7 +64,7 @@ fn add_each(
     meanings: &mut Rows<Meaning>,
 ) -> Result<(), OrdinaryFault>
     requires one_each { length places.now ≡ length kept.old }
-    requires references { AreReferences kept.old member relocs.now }
+    requires references { All (λ r. IsSymbol (objects kept.old) member r.symbol) relocs.now }
     ensures ok { OnOk result (with_front meanings.old
         (each (spec.meaning (objects kept.old) places.now tls.now)
         (map (spec.row member) relocs.now)) ≡ Ok meanings.new) }
