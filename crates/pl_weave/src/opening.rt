@@ -3,6 +3,7 @@ ghost use Rattle.std.specs.Prelude.{◌≡◌, ◌<◌, ◌^◌, false, None, So
 ghost use Rattle.std.specs.Option.{ForSome, option_map};
 ghost use Rattle.pl_folder.specs.Calls.{Calls};
 ghost use Rattle.pl_folder.specs.Effects.{Asks};
+ghost use Rattle.pl_loader.specs.Faults.{is_memory};
 ghost use Rattle.pl_place.specs.Policy as policy;
 ghost use Rattle.pl_weave.specs.Given.{MayPlace};
 ghost use Rattle.pl_weave.specs.Opening as spec;
