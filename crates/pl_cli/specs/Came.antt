@@ -88,11 +88,11 @@ HasObject name result old new = Finds (is_valid_name name) (Asks (count_by is_va
 abbrev pub HasLoaded : {F : Type 0} → Policy → List ℕ → Result (loading.Load F) Stop → Seen → Seen → Type 0
 HasLoaded policy name result old new = Finds (is_valid_name name) (Asks (takes (loaded_object policy old.files name) name)) (loaded_files policy old.files name) (λ l. l.walk.files) result old new
 
--- the start is that of a load's files, by each function that its policy follows
+-- the start is that of the load's files, whichever function its policy follows
 abbrev pub IsStarted : {F : Type 0} → Answering → loading.Load F → Started → Type 0
 IsStarted post l s = (choose : Choice) → Follows post choose → Starts s (started choose l.busy l.walk.files)
 
--- the load has no start for this reason, by each function that its policy follows, or memory lacked
+-- the load has no start for this cause, whichever function its policy follows, or memory lacked
 abbrev pub IsNotStarted : {F : Type 0} → Answering → loading.Load F → Stop → Type 0
 IsNotStarted post l stop = (choose : Choice) → Follows post choose → StopsAlone (start_by choose l) stop
 

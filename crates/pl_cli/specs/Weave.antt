@@ -121,7 +121,7 @@ end_line = line (codes "weave end" ∷ [])
 abbrev pub woven_text : {F : Type 0} → Choice → List (Opened F) → List Progress → List ℕ
 woven_text choose loaders told = loaders_text choose 0 loaders ++ (runs_text 0 told ++ end_line)
 
--- the text is that of what a weave came to, by each function that the policy of its loaders follows
+-- the text is that of a weave's loaders and of how its runs went, whichever function the policy of the loaders follows
 abbrev pub IsWovenText : {F : Type 0} → (F → Answering) → List (Opened F) → List Progress → Vec ℕ Global → Type 0
 IsWovenText {F = F} post loaders told text = (p : F) (choose : Choice) → HavePolicy p loaders → Follows (post p) choose → text.items ≡ woven_text choose loaders told
 

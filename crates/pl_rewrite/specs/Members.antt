@@ -67,8 +67,8 @@ abbrev pub prelinked : Run → List ℕ → Option (List ℕ)
 prelinked run n = changes.prelinked (files_of run) run.region (plan_of run) n
 
 -- a name's prelinked file, where it has one
-abbrev pub IsFileOf : Run → List ℕ → Option (Vec ℕ Global) → Type 0
-IsFileOf run n file = option_map (λ v. v.items) file ≡ prelinked run n
+abbrev pub IsPrelinkedOf : Run → List ℕ → Option (Vec ℕ Global) → Type 0
+IsPrelinkedOf run n file = option_map (λ v. v.items) file ≡ prelinked run n
 
 -- ---- what is made once
 

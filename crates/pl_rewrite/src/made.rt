@@ -32,7 +32,7 @@ pub fn prelinked(
     requires run { spec.IsRun run.now }
     requires made { All (spec.IsPrelinked run.now) made.old.items }
     requires candidate { spec.IsCandidate run.now name.now }
-    ensures file { IfOk result (spec.IsFileOf run.now name.now) }
+    ensures file { IfOk result (spec.IsPrelinkedOf run.now name.now) }
     ensures rest { All (spec.IsPrelinked run.now) made.new.items }
 {
     match index_of(made.as_slice(), name) {

@@ -26,7 +26,7 @@ first_of choose name bytes = first_by name bytes (placed choose bytes)
 abbrev pub given_of : Choice → List ℕ → List ℕ → List ℕ → Result (List ℕ) LoadFault
 given_of choose name n bytes = if bytes_eq n name then first_of choose name bytes else Ok bytes
 
--- a call gives the bytes of the file of n as each function says that the policy follows, or lacks memory
+-- the result is the file that is loaded of n, whichever function the policy follows, or want of memory
 abbrev pub GivesFile : Answering → List ℕ → List ℕ → List ℕ → Result (Vec ℕ Global) LoadFault → Type 0
 GivesFile post name n bytes result = (choose : Choice) → Follows post choose → AnswersAs (λ file. file.items) is_memory result (given_of choose name n bytes)
 

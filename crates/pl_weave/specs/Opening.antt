@@ -97,7 +97,7 @@ came_to (Some fault) walk = Err fault
 abbrev pub IsLed : {F : Type 0} → Choice → List ℕ → Opened F → Type 0
 IsLed choose name o = Leads choose (begun name) o.seen (came_to o.fault o.load.walk)
 
--- it is there by every policy that is a function, as one that saw no file yet is
+-- so it is whatever function the policy follows
 abbrev pub IsAlwaysLed : {F : Type 0} → List ℕ → Opened F → Type 0
 IsAlwaysLed name o = (choose : Choice) → IsLed choose name o
 
@@ -115,11 +115,11 @@ seen_files o = files_by o.fault o.load.walk
 abbrev pub ended : {F : Type 0} → Choice → Opened F → Result Start LoadFault
 ended choose o = seen_files o >>= started choose o.load.busy
 
--- the start is that of the files that it saw, by each function that the policy follows
+-- the start is that of the files that it saw, whichever function the policy follows
 abbrev pub EndsStarted : {F : Type 0} → Answering → Opened F → Started → Type 0
 EndsStarted post o s = (choose : Choice) → Follows post choose → Starts s (ended choose o)
 
--- the fault is the first cause why they do not start, by each function that the policy follows, or a want of memory
+-- the fault is the first cause why they do not start, whichever function the policy follows, or want of memory
 abbrev pub EndsRefused : {F : Type 0} → Answering → Opened F → LoadFault → Type 0
 EndsRefused post o fault = (choose : Choice) → Follows post choose → Answers is_memory (Err fault) (ended choose o)
 
