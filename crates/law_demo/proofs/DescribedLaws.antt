@@ -52,7 +52,7 @@ use Rattle.law_demo.proofs.RelocLaws.{IsThere, all_ordered, any_ordered, copied,
 use Rattle.law_demo.proofs.RoleLaws.{plain_roles, roles_plain}
 use Rattle.law_demo.specs.SetNames.{IsSpelled, copies_name, defines_name}
 use Rattle.law_demo.specs.Described.{CopiesNamed, DescribedObjectsAreSettled, HasDefinition, IsDescribing}
-use Rattle.law_demo.specs.Links.{ChangesWord, DefinesNothing, HasSettledSymbols, IsLoaded, IsNull, IsSettled, IsWordKind}
+use Rattle.law_demo.specs.Links.{ChangesWord, DefinesNothing, HasSettledSymbols, IsLoaded, IsNull, IsSettledSymbol, IsWordKind}
 
 -- ---- lists
 
@@ -258,7 +258,7 @@ weak_loose p x weak = record { section = rw weak.undefined refl; value = rw weak
 unversioned_is : version_index 1 ≡ 1
 unversioned_is = refl
 
-symbol_settled : (p : Plan) (t : Tables) (x : Symbol) (d : Place) → IsOfPlain p → planned_segments p t ≡ shown true (first_load p.settings (end_of t)) (second_load p.settings (end_of t)) (dynamic_segment d) → IsModestSymbol p.settings x → IsSettled (planned_segments p t) (planned_symbol p x)
+symbol_settled : (p : Plan) (t : Tables) (x : Symbol) (d : Place) → IsOfPlain p → planned_segments p t ≡ shown true (first_load p.settings (end_of t)) (second_load p.settings (end_of t)) (dynamic_segment d) → IsModestSymbol p.settings x → IsSettledSymbol (planned_segments p t) (planned_symbol p x)
 unfolding planned_symbol
 symbol_settled p t x d plain are modest = elim modest.form [
   | inl own ↦ record { ordinary = not_local_storage (planned_symbol p x) own.kind; unversioned = unversioned_is; form = inl (own_loaded p t x d plain modest.visibility own are) }
@@ -438,8 +438,8 @@ symbols_of r t before is e known =
     let p : Plan = plan_of r in
     record {
       null = λ s at. (let here : ◌≡◌ {A = Option read.Symbol} (Some null_symbol) (Some s) = at in let same : null_symbol ≡ s = cc in subst IsNull same (record { ordinary = null_ordinary; nothing = null_nothing }));
-      each = λ k s at. all_get (IsSettled (planned_segments p t)) (map (planned_symbol p) p.symbols) k s
-          (all_mapped (IsModestSymbol p.settings) (IsSettled (planned_segments p t)) (planned_symbol p) (λ x modest. symbol_settled p t x (place_of t.places (codes ".dynamic")) (plan_plain r is.plain) (shown_by r t is.plain is.some_data e) modest) p.symbols known.modest) at;
+      each = λ k s at. all_get (IsSettledSymbol (planned_segments p t)) (map (planned_symbol p) p.symbols) k s
+          (all_mapped (IsModestSymbol p.settings) (IsSettledSymbol (planned_segments p t)) (planned_symbol p) (λ x modest. symbol_settled p t x (place_of t.places (codes ".dynamic")) (plan_plain r is.plain) (shown_by r t is.plain is.some_data e) modest) p.symbols known.modest) at;
     }
 
 relocs_of : (r : Recipe) (t : Tables) (before : List Place) → (planned_object r t before).relocations ≡ planned_relocs (plan_of r)

@@ -23,7 +23,7 @@ use Rattle.pl_object.specs.declared.object.Object.{Object}
 use Rattle.pl_build.specs.declared.kind.FileKind.{FileKind}
 use Rattle.pl_build.specs.declared.kind.FileKind.TheVariants.{Library, Program}
 use Rattle.pl_build.specs.declared.recipe.Recipe.{Recipe}
-use Rattle.law_demo.specs.SetNames.{AreApart, IsNamed}
+use Rattle.law_demo.specs.SetNames.{NamesAreDistinct, IsNamed}
 use Rattle.law_demo.specs.SetRead.{IsFine, IsRead}
 use Rattle.law_demo.specs.SetRecipes.{library_of, program_of}
 use Rattle.law_demo.proofs.DrawnLaws.{set_read}
@@ -113,12 +113,12 @@ set_long number =
 unequal : (a b : ℕ) → a < b → (a == b) ≡ false
 unequal a b lt = grind (arith, nat_tests)
 
-later_apart : (name_of : ℕ → List ℕ) (rest : List (List ℕ)) (count from k : ℕ) → AreApart name_of → k < from → from + count ≤ 1000 → AllByRecursion (λ n. bytes_eq (name_of k) n ≡ false) rest → AllByRecursion (λ n. bytes_eq (name_of k) n ≡ false) (map name_of (range_with_len from count) ++ rest)
+later_apart : (name_of : ℕ → List ℕ) (rest : List (List ℕ)) (count from k : ℕ) → NamesAreDistinct name_of → k < from → from + count ≤ 1000 → AllByRecursion (λ n. bytes_eq (name_of k) n ≡ false) rest → AllByRecursion (λ n. bytes_eq (name_of k) n ≡ false) (map name_of (range_with_len from count) ++ rest)
 later_apart name_of rest zero from k apart lt few all = all
 later_apart name_of rest (suc count) from k apart lt few all =
     (apart k from (omega (arith, lt, few)) (omega (arith, few)) (unequal k from lt), later_apart name_of rest count (from + 1) k apart (omega (arith, lt)) (omega (arith, few)) all)
 
-distinct_more : (name_of : ℕ → List ℕ) (rest : List (List ℕ)) (count from : ℕ) → AreApart name_of → from + count ≤ 1000 → ((k : ℕ) → AllByRecursion (λ n. bytes_eq (name_of k) n ≡ false) rest) → IsDistinct bytes_eq rest
+distinct_more : (name_of : ℕ → List ℕ) (rest : List (List ℕ)) (count from : ℕ) → NamesAreDistinct name_of → from + count ≤ 1000 → ((k : ℕ) → AllByRecursion (λ n. bytes_eq (name_of k) n ≡ false) rest) → IsDistinct bytes_eq rest
     → IsDistinct bytes_eq (map name_of (range_with_len from count) ++ rest)
 unfolding IsDistinct
 distinct_more name_of rest zero from apart few cross distinct = distinct

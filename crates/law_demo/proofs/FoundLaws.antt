@@ -20,7 +20,7 @@ use Rattle.pl_elf.specs.declared.section.Section.{Section}
 use Rattle.pl_elf.specs.declared.segment.Segment.{Segment}
 use Rattle.pl_dyn.specs.Read.{value_of}
 use Rattle.pl_dyn.specs.declared.tags.Tag.{Tag}
-use Rattle.pl_hash.specs.Candidates.{is_candidate, name_hash}
+use Rattle.pl_hash.specs.ChainSymbols.{is_chain_symbol, name_hash}
 use Rattle.pl_hash.specs.Chain.{well_formed}
 use Rattle.pl_hash.specs.Hash.{gnu}
 use Rattle.pl_hash.specs.declared.table.Table.{Table}
@@ -107,7 +107,7 @@ undefined_defines_not p x undefined = rw undefined refl
 
 -- a table that leads to each symbol that is defined
 abbrev Leads : Plan → Table → Type 0
-Leads p t = (i : ℕ) → i < length p.symbols → (get_or p.symbols i nobody).defined ≡ true → is_candidate t (name_hash t (get_or p.symbols i nobody).name) (i + 1) ≡ true
+Leads p t = (i : ℕ) → i < length p.symbols → (get_or p.symbols i nobody).defined ≡ true → is_chain_symbol t (name_hash t (get_or p.symbols i nobody).name) (i + 1) ≡ true
 
 one_not_missed : (p : Plan) (t : Table) (i : ℕ) → Leads p t → i < length p.symbols → is_missed t (suc i) (Some (planned_symbol p (get_or p.symbols i nobody))) ≡ false
 unfolding planned_symbol
@@ -117,8 +117,8 @@ one_not_missed p t i leads lt =
       | inr undefined ↦ rw (undefined_defines_not p x undefined) refl
       | inl defined ↦
           let index : i + 1 ≡ suc i = omega arith in
-          let there : is_candidate t (name_hash t x.name) (suc i) ≡ true = subst (λ (n : ℕ). is_candidate t (name_hash t x.name) n ≡ true) index (leads i lt defined) in
-          second_false (defines (planned_symbol p x)) (not (is_candidate t (name_hash t x.name) (suc i))) (ap (λ (b : Bool). not b) there)
+          let there : is_chain_symbol t (name_hash t x.name) (suc i) ≡ true = subst (λ (n : ℕ). is_chain_symbol t (name_hash t x.name) n ≡ true) index (leads i lt defined) in
+          second_false (defines (planned_symbol p x)) (not (is_chain_symbol t (name_hash t x.name) (suc i))) (ap (λ (b : Bool). not b) there)
     ]
 
 symbol_at : (p : Plan) (i : ℕ) → i < length p.symbols → slice_get (planned_symbols p) (suc i) ≡ Some (planned_symbol p (get_or p.symbols i nobody))

@@ -17,7 +17,7 @@ use Rattle.pl_base.specs.Bytes.{part, word32, word64}
 use Rattle.pl_base.specs.Sums.{plus}
 use Rattle.pl_base.proofs.SumLaws.{plus_small}
 use Rattle.pl_base.proofs.WordLaws.{word32_within}
-use Rattle.pl_hash.specs.Candidates.{matching, candidates, is_candidate}
+use Rattle.pl_hash.specs.ChainSymbols.{matching, chain_symbols, is_chain_symbol}
 use Rattle.pl_hash.specs.Chain.{head, following, is_linked, with_first, chain_from, chain, has_buckets, is_counted, has_links, has_empty_buckets, chains_end, well_formed}
 use Rattle.pl_hash.specs.Hash.{gnu, gnu_step}
 use Rattle.pl_hash.specs.Table.{has_header, buckets_at, chains_at, first_linked, link_at, bucket, link, bloom_word, has_bit, first_bit, second_bit, admits, matches}
@@ -591,8 +591,8 @@ table_admits count first hashes buckets hash i lt is =
     both a b x y = rw (x, y) refl
 
 table_leads : (count first : ℕ) (hashes buckets : List ℕ) (hash i : ℕ) → AreFew count first hashes buckets → i < length hashes → get_or hashes i 0 ≡ hash → get_or buckets i 0 ≡ hash % count
-    → is_candidate (table_of count first hashes buckets) hash (first + i) ≡ true
-unfolding candidates matching
+    → is_chain_symbol (table_of count first hashes buckets) hash (first + i) ≡ true
+unfolding chain_symbols matching
 table_leads count first hashes buckets hash i few lt is own =
     let t : Table = table_of count first hashes buckets in
     let there = bucket_holds count first hashes buckets (hash % count) i few (mod-lt hash few.some) lt own in
@@ -667,7 +667,7 @@ own_index p is i d lt defined = elim (cases_lt i (length is.order.others)) [
       absurd (false≢true (sym never ∙ sym (ap (λ (s : Symbol). s.defined) there) ∙ defined))
 ]
 
-plan_leads : (p : Plan) (is : IsPlanned p) (i : ℕ) (d : Symbol) → i < length p.symbols → (get_or p.symbols i d).defined ≡ true → is_candidate (planned_table p is) (gnu (get_or p.symbols i d).name) (i + 1) ≡ true
+plan_leads : (p : Plan) (is : IsPlanned p) (i : ℕ) (d : Symbol) → i < length p.symbols → (get_or p.symbols i d).defined ≡ true → is_chain_symbol (planned_table p is) (gnu (get_or p.symbols i d).name) (i + 1) ≡ true
 unfolding hash_of
 plan_leads p is i d lt defined =
     let count : ℕ = p.settings.buckets in
@@ -680,7 +680,7 @@ plan_leads p is i d lt defined =
     let hashed : get_or (hashes_of p is) j 0 ≡ gnu (get_or p.symbols i d).name = get_or-map hash_of o.own j d 0 inside ∙ sym (ap (λ (s : Symbol). gnu s.name) own) in
     let at : first_of p is + j ≡ i + 1 = omega (arith, past) in
     let bucketed : get_or (buckets_of count o.own) j 0 ≡ gnu (get_or p.symbols i d).name % count = own_bucket count o.own j is.some inside ∙ ap (λ (n : ℕ). n % count) hashed in
-    subst (λ (n : ℕ). is_candidate (planned_table p is) (gnu (get_or p.symbols i d).name) n ≡ true) at
+    subst (λ (n : ℕ). is_chain_symbol (planned_table p is) (gnu (get_or p.symbols i d).name) n ≡ true) at
     (table_leads count (first_of p is) (hashes_of p is) (buckets_of count o.own) (gnu (get_or p.symbols i d).name) j (few_of p is) (omega (arith, inside, long)) hashed bucketed)
 
 pub gnu_whole : GnuIsWhole
@@ -689,5 +689,5 @@ gnu_whole r fits =
     let is : IsPlanned p = is_planned r fits in
     record {
       formed = subst (λ (t : Table). well_formed t ≡ true) (sym (same_table p is)) (table_formed p.settings.buckets (first_of p is) (hashes_of p is) (buckets_of p.settings.buckets is.order.own) (few_of p is));
-      leads = λ i d lt defined. subst (λ (t : Table). is_candidate t (gnu (get_or p.symbols i d).name) (i + 1) ≡ true) (sym (same_table p is)) (plan_leads p is i d lt defined);
+      leads = λ i d lt defined. subst (λ (t : Table). is_chain_symbol t (gnu (get_or p.symbols i d).name) (i + 1) ≡ true) (sym (same_table p is)) (plan_leads p is i d lt defined);
     }

@@ -39,7 +39,7 @@ use Rattle.pl_value.specs.Meanings.{Row, meaning, meanings, row, rows, rows_from
 use Rattle.pl_value.specs.Targets.{address, target}
 use Rattle.pl_value.specs.Values.{reference, value_of}
 use Rattle.pl_value.specs.declared.word.Word.TheVariants.{Copy}
-use Rattle.law_demo.specs.Links.{AreSettled, ChangesWord, CopiesGiven, HasSettledSymbols, IsGiven, IsLoaded, IsOptional, IsSettled, SettledScopesLink}
+use Rattle.law_demo.specs.Links.{AreSettled, ChangesWord, CopiesGiven, HasSettledSymbols, IsGiven, IsLoaded, IsOptional, IsSettledSymbol, SettledScopesLink}
 
 abbrev HasValue : {X E : Type 0} → Result X E → Type 0
 HasValue {X = X} r = (x : X) × (r ≡ Ok x)
@@ -310,7 +310,7 @@ module _ (os : List Object) (places : List ℕ) (has : (m : ℕ) (o : Object) �
   settled_target : (m k kind : ℕ) (o : Object) → (kind == R_X86_64_COPY) ≡ false → slice_get os m ≡ Some o → (s : Symbol) → slice_get o.symbols k ≡ Some s → HasValue (target os places (record { member = m; symbol = k; kind = kind }))
   settled_target m zero kind o other there s at = target_null os places (record { member = m; symbol = 0; kind = kind }) refl
   settled_target m (suc k) kind o other there s at =
-      let settled : IsSettled o.segments s = (has m o there).each k s at in
+      let settled : IsSettledSymbol o.segments s = (has m o there).each k s at in
       elim settled.form [
         | inl loaded ↦ loaded_target (record { member = m; symbol = suc k; kind = kind }) o s other (not_null k) there at settled.ordinary settled.unversioned loaded
         | inr optional ↦ optional_target (record { member = m; symbol = suc k; kind = kind }) o s (not_null k) there at settled.ordinary optional
@@ -360,12 +360,12 @@ copy_reference : (os : List Object) (places : List ℕ) (r : Reference) (o : Obj
 copy_reference os places r o k s settled kind symbol there at loaded gives =
     let some : (r.symbol == 0) ≡ false = ap (λ (n : ℕ). n == 0) symbol ∙ not_null k in
     let here : slice_get o.symbols r.symbol ≡ Some s = ap (slice_get o.symbols) symbol ∙ at in
-    let own : IsSettled o.segments s = (settled.symbols r.member o there).each k s at in
+    let own : IsSettledSymbol o.segments s = (settled.symbols r.member o there).each k s at in
     let f = finds_by os r o s there here in
     elim (cases_Bool (binds_itself s)) [
       | inl itself ↦ copy_with os places r some (itself_defines os r o s (f.itself itself) there here own.ordinary loaded)
       | inr others ↦
-          let other : IsSettled gives.object.segments gives.symbol = (settled.symbols (suc gives.member) gives.object gives.there).each gives.index gives.symbol gives.at in
+          let other : IsSettledSymbol gives.object.segments gives.symbol = (settled.symbols (suc gives.member) gives.object gives.there).each gives.index gives.symbol gives.at in
           let found = given_found os r o s kind own.unversioned gives other.unversioned in
           copy_with os places r some (searched_defines os r o s found.0 settled.symbols (f.others others) found.1)
     ]

@@ -14,7 +14,7 @@ use Rattle.law_folder.proofs.SlotLemmas.{Fits}
 use Rattle.pl_share.specs.Disjoint as disjoint
 use Rattle.pl_share.specs.Disjoint.{disjoint}
 use Rattle.pl_slots.specs.Holes.{AreHoles, IsLowest, IsPlace, cut, fits_at, hole, lowest, region_holes, spans_in, without}
-use Rattle.pl_slots.specs.Plan.{at_place, kept_holes, kept_row, next, placed, plan, range_of, slot_at, without_kept}
+use Rattle.pl_slots.specs.Plan.{at_place, kept_holes, kept_row, next, placed, plan, slot_range, slot_at, without_kept}
 use Rattle.pl_slots.specs.declared.fault.PlanFault.{PlanFault}
 use Rattle.pl_slots.specs.declared.planned.Planned.{Planned}
 use Rattle.pl_slots.specs.declared.slot.Slot.{Slot}
@@ -92,7 +92,7 @@ all_take [] = 0
 all_take (w ∷ ws) = w.span + w.align + all_take ws
 
 abbrev with_place : Planned → Want → ℕ → Planned
-with_place planned w start = record { rows = planned.rows ++ slot_at w start ∷ []; holes = without (range_of (slot_at w start)) planned.holes }
+with_place planned w start = record { rows = planned.rows ++ slot_at w start ∷ []; holes = without (slot_range (slot_at w start)) planned.holes }
 
 placing : (region : Range) (ws : List Want) (planned : Planned) (m s : ℕ) → AllByRecursion Fits ws → AreHoles planned.holes → fits_at planned.holes m s ≡ true → all_take ws ≤ m
     → (after : Planned) × (run (next [] region) planned ws ≡ Ok after)
@@ -102,8 +102,8 @@ placing region (w ∷ ws) planned m s fits are free room =
     let p = one_place planned.holes w.span w.align m s fits.0.align are free (omega (arith, room)) in
     let some = fits.0.some in
     let rest = placing region ws (with_place planned w p.0) (m - (w.span + w.align)) (s + (w.span + w.align)) fits.1
-    (without_are_holes (range_of (slot_at w p.0)) planned.holes (omega (arith, some)) are)
-    (fits_left (range_of (slot_at w p.0)) planned.holes m s (m - (w.span + w.align)) (s + (w.span + w.align)) (omega (arith, some)) p.2 (omega (arith, room)) free) (omega (arith, room)) in
+    (without_are_holes (slot_range (slot_at w p.0)) planned.holes (omega (arith, some)) are)
+    (fits_left (slot_range (slot_at w p.0)) planned.holes m s (m - (w.span + w.align)) (s + (w.span + w.align)) (omega (arith, some)) p.2 (omega (arith, room)) free) (omega (arith, room)) in
     (rest.0, ap (λ (o : Option ℕ). at_place planned w o >>= λ t. run (next [] region) t ws) p.1 ∙ rest.1)
 
 -- ---- without rows to keep

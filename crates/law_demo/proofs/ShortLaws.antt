@@ -5,7 +5,7 @@ use Rattle.std.specs.Fmt.{digits, digits_onto, digit_glyph}
 use Rattle.std.specs.List.{AllByRecursion}
 use Rattle.std.proofs.lemmas.Bool.{cases_Bool}
 use Rattle.std.proofs.lemmas.List.{length-map}
-use Rattle.pl_base.specs.Digits.{line}
+use Rattle.pl_base.specs.Digits.{line_text}
 use Rattle.pl_gen.specs.Draws.{at}
 use Rattle.pl_gen.specs.Lines.{library_name, function_name, object_name, hexadecimal, needs_line, def_line, object_line, ref_line, copy_line, relative_line, function_line, has, unless_there, needs_lines, def_lines, kind_of, by_function, relocation, known_after, relocations}
 use Rattle.pl_gen.specs.Set.{functions, needed, library_recipe, program_recipe}
@@ -43,11 +43,11 @@ object_piece n = omega (arith, three_few n)
 fixed : (piece : List ℕ) (n : ℕ) → length piece ≡ n → n ≤ 70 → IsPiece piece
 fixed piece n long few = omega (arith, long, few)
 
-line_long : (pieces : List (List ℕ)) → AllByRecursion IsPiece pieces → length (line pieces) ≤ 70 * length pieces + 1
+line_long : (pieces : List (List ℕ)) → AllByRecursion IsPiece pieces → length (line_text pieces) ≤ 70 * length pieces + 1
 line_long [] all = omega arith
-line_long (piece ∷ pieces) all = let rest = line_long pieces all.1 in omega (arith, length-append piece (line pieces), all.0, rest)
+line_long (piece ∷ pieces) all = let rest = line_long pieces all.1 in omega (arith, length-append piece (line_text pieces), all.0, rest)
 
-line_short : (pieces : List (List ℕ)) (n : ℕ) → length pieces ≡ n → n ≤ 7 → AllByRecursion IsPiece pieces → length (line pieces) ≤ 512
+line_short : (pieces : List (List ℕ)) (n : ℕ) → length pieces ≡ n → n ≤ 7 → AllByRecursion IsPiece pieces → length (line_text pieces) ≤ 512
 line_short pieces n long few all = omega (arith, line_long pieces all, long, few)
 
 -- ---- each line

@@ -13,7 +13,7 @@ use Rattle.pl_base.specs.Answers.{◌>>=◌, because, unless}
 use Rattle.pl_base.specs.Each.{each}
 use Rattle.pl_base.specs.Files as base
 use Rattle.pl_base.specs.Names.{is_valid_name}
-use Rattle.pl_batch.specs.All.{all_changes, all_made, asked_of, made_by, made_of, made_with, of_planning, spelled, with_cache}
+use Rattle.pl_batch.specs.All.{all_changes, all_made, asked_of, made_of_folder, made_of, made_with_cache, of_planning, spelled, with_cache}
 use Rattle.pl_batch.specs.Changes.{changes_of, fitting, run_meant}
 use Rattle.pl_batch.specs.Commands.{ready}
 use Rattle.pl_batch.specs.Folder.{all_files, are_large, bad_cache, cache, cache_by, cache_file, cache_in, named, no_cache, valid_names}
@@ -267,22 +267,22 @@ module _ (files : base.Files) (b : Bounds) (small : (n file : List ℕ) → get 
         let most : length ns * b.bytes ≤ b.files * b.bytes = mul-le-mul_right b.bytes names_few in
         not_below FOLDER (sum_by (λ file. length (original_in file)) files_taken.bytes) (omega (arith, files_taken.few, most, room.together))
 
-    with_taken : IsAsked p → made_with files p (cache_bytes no_cache) no_cache ≡ Ok (with_cache (cache_bytes no_cache) run_made)
-    unfolding made_with all_files
+    with_taken : IsAsked p → made_with_cache files p (cache_bytes no_cache) no_cache ≡ Ok (with_cache (cache_bytes no_cache) run_made)
+    unfolding made_with_cache all_files
     with_taken asked =
         ap (λ (r : Result (List (List ℕ)) Cause). r >>= λ bytes. unless (are_large bytes) causes.FolderTooLarge (made_of (named files) ns p (cache_bytes no_cache) no_cache)) files_taken.taken
         ∙ (ap (λ (test : Bool). unless test causes.FolderTooLarge (made_of (named files) ns p (cache_bytes no_cache) no_cache)) not_large ∙ made_taken asked)
 
-    by_taken : IsAsked p → get files cache ≡ None → made_by files p ≡ Ok (with_cache (cache_bytes no_cache) run_made)
-    unfolding made_by cache_file
+    by_taken : IsAsked p → get files cache ≡ None → made_of_folder files p ≡ Ok (with_cache (cache_bytes no_cache) run_made)
+    unfolding made_of_folder cache_file
     by_taken asked none =
-        ap (λ (o : Option (List ℕ)). cache_by o >>= λ old. cache_in old >>= λ cached. made_with files p old cached) none
-        ∙ (ap (λ (r : Result Cache Cause). r >>= λ cached. made_with files p (cache_bytes no_cache) cached) empty_says ∙ with_taken asked)
+        ap (λ (o : Option (List ℕ)). cache_by o >>= λ old. cache_in old >>= λ cached. made_with_cache files p old cached) none
+        ∙ (ap (λ (r : Result Cache Cause). r >>= λ cached. made_with_cache files p (cache_bytes no_cache) cached) empty_says ∙ with_taken asked)
 
     all_taken : IsAsked p → get files cache ≡ None → all_changes files p ≡ Ok (with_cache (cache_bytes no_cache) run_made).rows
     unfolding all_changes all_made
     all_taken asked none =
-        then_ok (unless (are_many (keys files)) causes.TooManyFiles (made_by files p)) (with_cache (cache_bytes no_cache) run_made) (λ made. Ok made.rows) (ap (λ (test : Bool). unless test causes.TooManyFiles (made_by files p)) few ∙ by_taken asked none)
+        then_ok (unless (are_many (keys files)) causes.TooManyFiles (made_of_folder files p)) (with_cache (cache_bytes no_cache) run_made) (λ made. Ok made.rows) (ap (λ (test : Bool). unless test causes.TooManyFiles (made_of_folder files p)) few ∙ by_taken asked none)
 
     run_taken : IsAsked p → get files cache ≡ None → get files journal ≡ None → run_meant (All p) files ≡ Ok (with_cache (cache_bytes no_cache) run_made).rows
     unfolding ready changes_of

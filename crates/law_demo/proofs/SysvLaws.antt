@@ -12,7 +12,7 @@ use Rattle.std.proofs.Math.Nat.{mod-lt}
 use Rattle.byteorder.specs.Numbers.{little_number-reads_back}
 use Rattle.pl_base.specs.Bytes.{part, word32}
 use Rattle.pl_base.proofs.WordLaws.{word32_within}
-use Rattle.pl_hash.specs.Candidates.{matching, candidates, is_candidate}
+use Rattle.pl_hash.specs.ChainSymbols.{matching, chain_symbols, is_chain_symbol}
 use Rattle.pl_hash.specs.Chain.{head, following, is_linked, with_first, chain_from, chain, has_buckets, is_counted, has_links, chains_end, well_formed}
 use Rattle.pl_hash.specs.Hash.{sysv}
 use Rattle.pl_hash.specs.Table.{has_header, buckets_at, chains_at, first_linked, link_at, bucket, link, admits, matches}
@@ -401,8 +401,8 @@ kept_all : (xs : List ℕ) → filter (λ x. true) xs ≡ xs
 kept_all [] = refl
 kept_all (x ∷ xs) = ap (λ (l : List ℕ). x ∷ l) (kept_all xs)
 
-table_leads : (count : ℕ) (buckets : List ℕ) (hash i : ℕ) → AreFew count buckets → i < length buckets → (get_or buckets i 0 == hash % count) ≡ true → is_candidate (table_of count buckets) hash (i + 1) ≡ true
-unfolding candidates matching matches admits
+table_leads : (count : ℕ) (buckets : List ℕ) (hash i : ℕ) → AreFew count buckets → i < length buckets → (get_or buckets i 0 == hash % count) ≡ true → is_chain_symbol (table_of count buckets) hash (i + 1) ≡ true
+unfolding chain_symbols matching matches admits
 table_leads count buckets hash i few lt same =
     let there = bucket_holds count buckets (hash % count) i few (mod-lt hash few.some) lt same in
     rw (count_is count buckets few, there.1, kept_all there.0) there.2
@@ -444,6 +444,6 @@ own_bucket p i d some lt = own p.symbols i lt
 pub sysv_whole : SysvIsWhole
 sysv_whole p fits = record {
   formed = subst (λ (t : Table). well_formed t ≡ true) (sym (same_table p)) (table_formed p.settings.buckets (sysv_buckets p) (few_of p fits));
-  leads = λ i d lt. subst (λ (t : Table). is_candidate t (sysv (get_or p.symbols i d).name) (i + 1) ≡ true) (sym (same_table p))
+  leads = λ i d lt. subst (λ (t : Table). is_chain_symbol t (sysv (get_or p.symbols i d).name) (i + 1) ≡ true) (sym (same_table p))
       (table_leads p.settings.buckets (sysv_buckets p) (sysv (get_or p.symbols i d).name) i (few_of p fits) (omega (arith, lt, buckets_count p)) (own_bucket p i d fits.some lt));
 }

@@ -1,6 +1,6 @@
 -- The GNU hash table of a built file.
 use Rattle.std.specs.Prelude.{◌≡◌, ℕ, ◌+◌, ◌^◌, ◌<◌, true, length, get_or}
-use Rattle.pl_hash.specs.Candidates.{is_candidate}
+use Rattle.pl_hash.specs.ChainSymbols.{is_chain_symbol}
 use Rattle.pl_hash.specs.Chain.{well_formed}
 use Rattle.pl_hash.specs.Hash.{gnu}
 use Rattle.pl_hash.specs.declared.table.Table.{Table}
@@ -24,7 +24,7 @@ pub record FitsGnu (r : Recipe) : Type 0 where
 -- it is well formed, and leads to each symbol that the plan defines by the hash of its name
 pub record IsGnuWhole (p : Plan) : Type 0 where
   pub formed : well_formed (gnu_of p) ≡ true
-  pub leads : (i : ℕ) (d : Symbol) → i < length p.symbols → (get_or p.symbols i d).defined ≡ true → is_candidate (gnu_of p) (gnu (get_or p.symbols i d).name) (i + 1) ≡ true
+  pub leads : (i : ℕ) (d : Symbol) → i < length p.symbols → (get_or p.symbols i d).defined ≡ true → is_chain_symbol (gnu_of p) (gnu (get_or p.symbols i d).name) (i + 1) ≡ true
 
 abbrev pub GnuIsWhole : Type 0
 GnuIsWhole = (r : Recipe) → FitsGnu r → IsGnuWhole (plan_of r)

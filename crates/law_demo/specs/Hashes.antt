@@ -1,6 +1,6 @@
 -- The System V hash table of a built file.
 use Rattle.std.specs.Prelude.{◌≡◌, ℕ, ◌+◌, ◌^◌, ◌<◌, true, false, length, get_or}
-use Rattle.pl_hash.specs.Candidates.{is_candidate}
+use Rattle.pl_hash.specs.ChainSymbols.{is_chain_symbol}
 use Rattle.pl_hash.specs.Chain.{well_formed}
 use Rattle.pl_hash.specs.Hash.{sysv}
 use Rattle.pl_hash.specs.declared.table.Table.{Table}
@@ -20,7 +20,7 @@ pub record FitsBuckets (p : Plan) : Type 0 where
 -- it is well formed, and leads to each symbol of the plan by the hash of its name
 pub record IsWhole (p : Plan) : Type 0 where
   pub formed : well_formed (sysv_of p) ≡ true
-  pub leads : (i : ℕ) (d : Symbol) → i < length p.symbols → is_candidate (sysv_of p) (sysv (get_or p.symbols i d).name) (i + 1) ≡ true
+  pub leads : (i : ℕ) (d : Symbol) → i < length p.symbols → is_chain_symbol (sysv_of p) (sysv (get_or p.symbols i d).name) (i + 1) ≡ true
 
 abbrev pub SysvIsWhole : Type 0
 SysvIsWhole = (p : Plan) → FitsBuckets p → IsWhole p

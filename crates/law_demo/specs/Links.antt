@@ -34,7 +34,7 @@ pub record IsOptional (s : Symbol) : Type 0 where
   pub weak : s.bind ≡ STB_WEAK
 
 -- one or the other, without a version, and not thread-local
-pub record IsSettled (ss : List Segment) (s : Symbol) : Type 0 where
+pub record IsSettledSymbol (ss : List Segment) (s : Symbol) : Type 0 where
   pub ordinary : is_tls s ≡ false
   pub unversioned : index_of s.version ≡ VER_NDX_GLOBAL
   pub form : IsLoaded ss s ⊎ IsOptional s
@@ -46,7 +46,7 @@ pub record IsNull (s : Symbol) : Type 0 where
 
 pub record HasSettledSymbols (o : Object) : Type 0 where
   pub null : (s : Symbol) → slice_get o.symbols 0 ≡ Some s → IsNull s
-  pub each : (k : ℕ) (s : Symbol) → slice_get o.symbols (suc k) ≡ Some s → IsSettled o.segments s
+  pub each : (k : ℕ) (s : Symbol) → slice_get o.symbols (suc k) ≡ Some s → IsSettledSymbol o.segments s
 
 -- ---- relocations
 

@@ -54,12 +54,12 @@ pub record RecipesAreNamed : Type 0 where
 
 -- ---- the names of files
 
-abbrev pub AreApart : (ℕ → List ℕ) → Type 0
-AreApart name_of = (m n : ℕ) → m < 1000 → n < 1000 → (m == n) ≡ false → bytes_eq (name_of m) (name_of n) ≡ false
+abbrev pub NamesAreDistinct : (ℕ → List ℕ) → Type 0
+NamesAreDistinct name_of = (m n : ℕ) → m < 1000 → n < 1000 → (m == n) ≡ false → bytes_eq (name_of m) (name_of n) ≡ false
 
 pub record FilesAreNamed : Type 0 where
   pub libraries : (i : ℕ) → is_valid_name (library_name i) ≡ true
   pub programs : (j : ℕ) → is_valid_name (program_name j) ≡ true
-  pub apart : AreApart library_name
-  pub programs_apart : AreApart program_name
+  pub apart : NamesAreDistinct library_name
+  pub programs_apart : NamesAreDistinct program_name
   pub kinds_apart : (i j : ℕ) → bytes_eq (library_name i) (program_name j) ≡ false

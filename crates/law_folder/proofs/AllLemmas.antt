@@ -35,7 +35,7 @@ use Rattle.pl_rewrite.proofs.SoundLaws as laws
 use Rattle.pl_scope.specs.Members.{has}
 use Rattle.pl_sound.specs.Rule as sound
 use Rattle.pl_sound.proofs.Matching.{and_both}
-use Rattle.pl_batch.specs.All.{all_changes, all_made, asked_of, made_by, made_of, made_with, of_planning, put_cache, spelled, with_cache}
+use Rattle.pl_batch.specs.All.{all_changes, all_made, asked_of, made_of_folder, made_of, made_with_cache, of_planning, put_cache, spelled, with_cache}
 use Rattle.pl_batch.specs.Folder as folder
 use Rattle.pl_batch.specs.Folder.{all_files, are_large, cache, cache_file, cache_in, valid_names}
 use Rattle.pl_batch.specs.Names.{are_many}
@@ -94,12 +94,12 @@ of_made fs p old c rows found says is =
     }
 
 pub made : (fs : Files) (p : Prelinking) (rows : List Change) → all_changes fs p ≡ Ok rows → IsMade fs p rows
-unfolding all_changes all_made made_by made_with
+unfolding all_changes all_made made_of_folder made_with_cache
 made fs p rows is =
     let all = bind_ok (all_made fs p) (λ m. Ok m.rows) rows is in
-    let few = unless_ok (are_many (keys fs)) causes.TooManyFiles (made_by fs p) all.0 all.1 in
-    let old = bind_ok (cache_file fs) (λ old. cache_in old >>= λ c. made_with fs p old c) all.0 few.1 in
-    let c = bind_ok (cache_in old.0) (made_with fs p old.0) all.0 old.2 in
+    let few = unless_ok (are_many (keys fs)) causes.TooManyFiles (made_of_folder fs p) all.0 all.1 in
+    let old = bind_ok (cache_file fs) (λ old. cache_in old >>= λ c. made_with_cache fs p old c) all.0 few.1 in
+    let c = bind_ok (cache_in old.0) (made_with_cache fs p old.0) all.0 old.2 in
     let bytes = bind_ok (all_files fs (valid_names fs)) (λ bytes. unless (are_large bytes) causes.FolderTooLarge (made_of (folder.named fs) (valid_names fs) p old.0 c.0)) all.0 c.2 in
     let small = unless_ok (are_large bytes.0) causes.FolderTooLarge (made_of (folder.named fs) (valid_names fs) p old.0 c.0) all.0 bytes.2 in
     of_made fs p old.0 c.0 rows old.1 c.1 (view (made_of (folder.named fs) (valid_names fs) p old.0 c.0) (λ m. m.rows) all.0 rows small.1 all.2)

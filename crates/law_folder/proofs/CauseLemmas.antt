@@ -17,7 +17,7 @@ use Rattle.pl_plan.specs.declared.fault.PlanningFault.{PlanningFault}
 use Rattle.pl_plan.specs.declared.fault.PlanningFault.TheVariants as plan
 use Rattle.pl_rewrite.specs.Rewriting.{rewrite}
 use Rattle.pl_rewrite.specs.declared.rewriting.Rewritten.{Rewritten}
-use Rattle.pl_batch.specs.All.{all_changes, all_made, asked_of, made_by, made_of, made_with, of_planning, spelled, with_cache}
+use Rattle.pl_batch.specs.All.{all_changes, all_made, asked_of, made_of_folder, made_of, made_with_cache, of_planning, spelled, with_cache}
 use Rattle.pl_batch.specs.Folder.{all_files, are_large, bad_cache, cache, cache_by, cache_file, cache_in, named, no_cache, valid_names}
 use Rattle.pl_batch.specs.Names.{are_many, file_of, of_file}
 use Rattle.pl_batch.specs.declared.cause.Cause.{Cause}
@@ -105,25 +105,25 @@ module _ (files : Files) (p : Prelinking) (asked : IsAsked p) (bytes : HasBytes 
       absurd (true≢false (sym good ∙ misspelled old w.0 w.2)))
       (bind_err (because of_planning (rewrite (named files) (valid_names files) (asked_of p c))) (spelled old) causes.BadCache e)
 
-  not_with : (old : List ℕ) (c : Cache) → is_cache c ≡ true → are_many (keys files) ≡ false → made_with files p old c ≡ Err causes.BadCache → ⊥
-  unfolding made_with all_files
+  not_with : (old : List ℕ) (c : Cache) → is_cache c ≡ true → are_many (keys files) ≡ false → made_with_cache files p old c ≡ Err causes.BadCache → ⊥
+  unfolding made_with_cache all_files
   not_with old c fine few e = ⊎_elim (no_files files (valid_names files))
       (λ all. not_made old c fine few (refused (are_large all.0) causes.FolderTooLarge (made_of (named files) (valid_names files) p old c) (λ same. absurd cc) all.2).1)
       (bind_err (each (file_of files) (valid_names files)) (λ found. unless (are_large found) causes.FolderTooLarge (made_of (named files) (valid_names files) p old c)) causes.BadCache e)
 
-  of_cache : are_many (keys files) ≡ false → made_by files p ≡ Err causes.BadCache → (cache_file files >>= cache_in) ≡ Err causes.BadCache
-  unfolding made_by
+  of_cache : are_many (keys files) ≡ false → made_of_folder files p ≡ Err causes.BadCache → (cache_file files >>= cache_in) ≡ Err causes.BadCache
+  unfolding made_of_folder
   of_cache few e = ⊎_elim
       (λ bad. ap (λ (r : Result (List ℕ) Cause). r >>= cache_in) bad)
       (λ old. ⊎_elim
       (λ bad. ap (λ (r : Result (List ℕ) Cause). r >>= cache_in) old.1 ∙ bad)
       (λ c. absurd (not_with old.0 c.0 (read_spelled files old.0 c.0 bytes old.1 c.1) few c.2))
-      (bind_err (cache_in old.0) (λ c. made_with files p old.0 c) causes.BadCache old.2))
-      (bind_err (cache_file files) (λ old. cache_in old >>= λ c. made_with files p old c) causes.BadCache e)
+      (bind_err (cache_in old.0) (λ c. made_with_cache files p old.0 c) causes.BadCache old.2))
+      (bind_err (cache_file files) (λ old. cache_in old >>= λ c. made_with_cache files p old c) causes.BadCache e)
 
   of_made : all_made files p ≡ Err causes.BadCache → (cache_file files >>= cache_in) ≡ Err causes.BadCache
   unfolding all_made
-  of_made e = let few = refused (are_many (keys files)) causes.TooManyFiles (made_by files p) (λ same. absurd cc) e in of_cache few.0 few.1
+  of_made e = let few = refused (are_many (keys files)) causes.TooManyFiles (made_of_folder files p) (λ same. absurd cc) e in of_cache few.0 few.1
 
 pub bad_cache_is : BadCacheIsOfTheCache
 unfolding all_changes

@@ -23,7 +23,7 @@ use Rattle.pl_journal.specs.declared.change.Change.{Change}
 use Rattle.pl_journal.specs.declared.change.Change.TheVariants.{Drop, Put}
 use Rattle.pl_plan.specs.declared.planned.Planned.{Planned}
 use Rattle.pl_rewrite.specs.Changes.{change, changes}
-use Rattle.pl_batch.specs.All.{all_made, made_by, put_cache}
+use Rattle.pl_batch.specs.All.{all_made, made_of_folder, put_cache}
 use Rattle.pl_batch.specs.Changes.{fitting}
 use Rattle.pl_batch.specs.Folder.{cache, named, valid_names}
 use Rattle.pl_batch.specs.Names.{are_many, file_of, has_name, is_full}
@@ -90,7 +90,7 @@ few_of : (files : Files) (p : Prelinking) (rows : List Change) → all_changes f
 unfolding all_changes all_made
 few_of files p rows e =
     let step = bind_ok (all_made files p) (λ made. Ok made.rows) rows e in
-    (unless_ok (are_many (keys files)) TooManyFiles (made_by files p) step.0 step.1).0
+    (unless_ok (are_many (keys files)) TooManyFiles (made_of_folder files p) step.0 step.1).0
 
 prelinking_fits : (files : Files) (p : Prelinking) (rows : List Change) → all_changes files p ≡ Ok rows → fitting rows ≡ Ok rows
 prelinking_fits files p rows e =

@@ -31,7 +31,7 @@ use Rattle.pl_rewrite.specs.Reports.{report}
 use Rattle.pl_rewrite.specs.declared.report.Report.{Report}
 use Rattle.pl_rewrite.specs.Rewriting.{rewrite, rewritten}
 use Rattle.pl_rewrite.specs.declared.rewriting.Rewritten.{Rewritten}
-use Rattle.pl_batch.specs.All.{all_changes, all_made, all_reported, asked_of, made_by, made_of, made_with, of_planning, put_cache, spelled, with_cache}
+use Rattle.pl_batch.specs.All.{all_changes, all_made, all_reported, asked_of, made_of_folder, made_of, made_with_cache, of_planning, put_cache, spelled, with_cache}
 use Rattle.pl_batch.specs.Folder.{all_files, are_large, cache, cache_file, cache_in, named, valid_names}
 use Rattle.pl_batch.specs.Names.{are_many}
 use Rattle.pl_batch.specs.declared.cause.Cause.TheVariants as causes
@@ -87,23 +87,23 @@ module _ (files : Files) (p : Prelinking) where
       let whole : with_cache old (rewritten (named files) (valid_names files) (asked_of p cached) w.0) ≡ made = ap (with_cache old) w.2 ∙ spelled_is old step.0 made step.2 in
       (w.0, w.1, sym (ap (λ m. m.rows) whole), sym (ap (λ m. m.report) whole))
 
-  with_is : (old : List ℕ) (cached : Cache) (made : _) → made_with files p old cached ≡ Ok made → made_of (named files) (valid_names files) p old cached ≡ Ok made
-  unfolding made_with
+  with_is : (old : List ℕ) (cached : Cache) (made : _) → made_with_cache files p old cached ≡ Ok made → made_of (named files) (valid_names files) p old cached ≡ Ok made
+  unfolding made_with_cache
   with_is old cached made e =
       let step = bind_ok (all_files files (valid_names files)) (λ bytes. unless (are_large bytes) causes.FolderTooLarge (made_of (named files) (valid_names files) p old cached)) made e in
       (unless_ok (are_large step.0) causes.FolderTooLarge (made_of (named files) (valid_names files) p old cached) made step.2).1
 
-  by_is : (made : _) → made_by files p ≡ Ok made → IsMade files p made.rows made.report
-  unfolding made_by
+  by_is : (made : _) → made_of_folder files p ≡ Ok made → IsMade files p made.rows made.report
+  unfolding made_of_folder
   by_is made e =
-      let found = bind_ok (cache_file files) (λ old. cache_in old >>= λ cached. made_with files p old cached) made e in
-      let says = bind_ok (cache_in found.0) (λ cached. made_with files p found.0 cached) made found.2 in
+      let found = bind_ok (cache_file files) (λ old. cache_in old >>= λ cached. made_with_cache files p old cached) made e in
+      let says = bind_ok (cache_in found.0) (λ cached. made_with_cache files p found.0 cached) made found.2 in
       let made_so = made_is found.0 says.0 made (with_is found.0 says.0 made says.2) in
       record { old = found.0; found = found.1; cached = says.0; says = says.1; plan = made_so.0; is_planned = made_so.1; are = made_so.2; tells = made_so.3 }
 
   all_is : (made : _) → all_made files p ≡ Ok made → IsMade files p made.rows made.report
   unfolding all_made
-  all_is made e = by_is made (unless_ok (are_many (keys files)) causes.TooManyFiles (made_by files p) made e).1
+  all_is made e = by_is made (unless_ok (are_many (keys files)) causes.TooManyFiles (made_of_folder files p) made e).1
 
   pub all_planned : (rows : List Change) → all_changes files p ≡ Ok rows → IsPlanned files p rows
   unfolding all_changes

@@ -29,7 +29,7 @@ use Rattle.pl_object.specs.declared.object.Object.{Object}
 use Rattle.pl_plan.specs.Wants.{want_of}
 use Rattle.pl_share.specs.Disjoint as disjoint
 use Rattle.pl_share.specs.Shared as shared
-use Rattle.pl_share.specs.Shared.{Serves}
+use Rattle.pl_share.specs.Shared.{IsSlotFor}
 use Rattle.pl_share.specs.declared.given.Given.{Given}
 use Rattle.pl_share.proofs.SoundLaws.{slots_serve}
 use Rattle.pl_slots.specs.Apart.{is_beside}
@@ -192,7 +192,7 @@ abbrev pub Served : Range → List Want → List Slot → Type 0
 Served region [] [] = Unit {0}
 Served region [] (s ∷ ss) = ⊥
 Served region (w ∷ ws) [] = ⊥
-Served region (w ∷ ws) (s ∷ ss) = (Serves region w s × IsWhole s) × Served region ws ss
+Served region (w ∷ ws) (s ∷ ss) = (IsSlotFor region w s × IsWhole s) × Served region ws ss
 
 got_whole : (o : Option Slot) (w : Want) (s : Slot) → WholeAt o → Fits w → Gets o w s → IsWhole s
 got_whole (Some row) w s whole fits is = subst (λ (t : Slot). IsWhole t) (sym is) whole
@@ -265,7 +265,7 @@ slots_hold : (given : List Given) (is : List ℕ) → AllByRecursion GivenWhole 
 slots_hold given [] all = tt
 slots_hold given (i ∷ is) all = one_slot (shared.slot_of given i) (filter_map (shared.slot_of given) is) (given_found _ given all) (slots_hold given is all)
 
-shared_served : (region : Range) (ws : List Want) (ss : List Slot) → length ss ≡ length ws → ((i : ℕ) (w : Want) (s : Slot) → i < length ws → Serves region (get_or ws i w) (get_or ss i s)) → AllByRecursion IsWhole ss → Served region ws ss
+shared_served : (region : Range) (ws : List Want) (ss : List Slot) → length ss ≡ length ws → ((i : ℕ) (w : Want) (s : Slot) → i < length ws → IsSlotFor region (get_or ws i w) (get_or ss i s)) → AllByRecursion IsWhole ss → Served region ws ss
 shared_served region [] [] count each whole = tt
 shared_served region [] (s ∷ ss) count each whole = absurd (omega (arith, count))
 shared_served region (w ∷ ws) [] count each whole = absurd (omega (arith, count))
@@ -285,7 +285,7 @@ shared_slots rows ws walks region ss whole fits e =
 
 -- ---- so they are rows of a cache
 
-slot_row : (region : Range) (w : Want) (s : Slot) → region.end ≤ ADDRESS_LIMIT → Fits w → is_valid_name w.name ≡ true → Serves region w s → IsWhole s → cache.is_row s ≡ true
+slot_row : (region : Range) (w : Want) (s : Slot) → region.end ≤ ADDRESS_LIMIT → Fits w → is_valid_name w.name ≡ true → IsSlotFor region w s → IsWhole s → cache.is_row s ≡ true
 unfolding cache.is_row lies_in
 slot_row region w s below fits valid serves whole =
     let ends = leb-true (s.start + s.span) region.end (and_parts (nat_le region.start s.start) (nat_le (s.start + s.span) region.end) serves.within).1 in

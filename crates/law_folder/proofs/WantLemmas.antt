@@ -52,7 +52,7 @@ apart_within kept region [] (s ∷ ss) serve = absurd serve
 apart_within kept region (w ∷ ws) [] serve = absurd serve
 apart_within kept region (w ∷ ws) (s ∷ ss) serve = ((serve.0.name, serve.0.large, serve.0.aligned, serve.0.within), apart_within kept region ws ss serve.1)
 
-shared_within : (region : Range) (ws : List Want) (ss : List Slot) → length ss ≡ length ws → ((i : ℕ) (w : Want) (s : Slot) → i < length ws → shared.Serves region (get_or ws i w) (get_or ss i s)) → Within region ws ss
+shared_within : (region : Range) (ws : List Want) (ss : List Slot) → length ss ≡ length ws → ((i : ℕ) (w : Want) (s : Slot) → i < length ws → shared.IsSlotFor region (get_or ws i w) (get_or ss i s)) → Within region ws ss
 shared_within region [] [] count each = tt
 shared_within region [] (s ∷ ss) count each = absurd (omega (arith, count))
 shared_within region (w ∷ ws) [] count each = absurd (omega (arith, count))

@@ -4,7 +4,7 @@ use Rattle.std.specs.Option.{ok_or}
 use Rattle.pl_base.specs.Answers.{◌>>=◌, because}
 use Rattle.pl_base.proofs.AnswerLaws.{bind_ok, because_ok, ok_same}
 use Rattle.pl_elf.specs.declared.range.Range.{Range}
-use Rattle.pl_place.specs.Placing.{chosen, range_of}
+use Rattle.pl_place.specs.Placing.{chosen, want_range}
 use Rattle.pl_place.specs.Policy.{Choice}
 use Rattle.pl_place.specs.declared.fault.PlaceFault.TheVariants.{NoPlace}
 use Rattle.pl_slots.specs.Holes.{without}
@@ -20,9 +20,9 @@ chosen_size : (choose : Choice) (holes : List Range) (wants : List Want) (starts
 unfolding chosen
 chosen_size choose holes [] starts is = ap length (sym (ok_same [] starts is))
 chosen_size choose holes (want ∷ wants) starts is =
-    let p = bind_ok (ok_or (choose holes want.span want.align) (NoPlace want.name)) (λ start. chosen choose (without (range_of want start) holes) wants >>= λ more. Ok (start ∷ more)) starts is in
-    let q = bind_ok (chosen choose (without (range_of want p.0) holes) wants) (λ more. Ok (p.0 ∷ more)) starts p.2 in
-    let rest = chosen_size choose (without (range_of want p.0) holes) wants q.0 q.1 in
+    let p = bind_ok (ok_or (choose holes want.span want.align) (NoPlace want.name)) (λ start. chosen choose (without (want_range want start) holes) wants >>= λ more. Ok (start ∷ more)) starts is in
+    let q = bind_ok (chosen choose (without (want_range want p.0) holes) wants) (λ more. Ok (p.0 ∷ more)) starts p.2 in
+    let rest = chosen_size choose (without (want_range want p.0) holes) wants q.0 q.1 in
     ap length (sym (ok_same (p.0 ∷ q.0) starts q.2)) ∙ ap suc rest
 
 -- a library's own place, or one of those

@@ -9,7 +9,7 @@ use Rattle.std.proofs.lemmas.List.{get_or-map, length-map, get_or_default}
 use Rattle.std.proofs.lemmas.List.FromFn.{length-range_with_len, get_or-range_with_len}
 use Rattle.std.proofs.lemmas.List.Folds.{list_any_at}
 use Rattle.std.proofs.lemmas.List.Elements.{All-head, All-tail, All-nil, All-cons}
-use Rattle.pl_base.specs.Memory.{Memory, is_within, over, read, AtMostOne, Piece, lies, byte_at, layered, Fill, covers, byte_of, filled, shown}
+use Rattle.pl_base.specs.Memory.{Memory, is_within, over, read, AtMostOne, Piece, lies, byte_at, layered, Fill, covers, fill_byte, filled, shown}
 
 -- ---- addresses of a range
 
@@ -107,13 +107,13 @@ any-filter_map {Y = Y} p h (x ∷ xs) =
 -- ---- fills
 
 -- a byte under fills: each fill over the address has it, and there is one, or it was there before
-pub settled : (memory : Memory) (fs : List Fill) (a : ℕ) (v : Option ℕ) → All (λ f. covers a f ≡ true → Some (byte_of a f) ≡ v) fs → (memory a ≡ v) ⊎ (list_any (covers a) fs ≡ true) → filled memory fs a ≡ v
+pub settled : (memory : Memory) (fs : List Fill) (a : ℕ) (v : Option ℕ) → All (λ f. covers a f ≡ true → Some (fill_byte a f) ≡ v) fs → (memory a ≡ v) ⊎ (list_any (covers a) fs ≡ true) → filled memory fs a ≡ v
 unfolding filled
 settled memory [] a v agree (inl there) = there
 settled memory [] a v agree (inr some) = absurd (false≢true some)
 settled memory (f ∷ fs) a v agree start =
-    let one : covers a f ≡ true → Some (byte_of a f) ≡ v = All-head (λ g. covers a g ≡ true → Some (byte_of a g) ≡ v) f fs agree in
-    settled (over f.start f.bytes memory) fs a v (All-tail (λ g. covers a g ≡ true → Some (byte_of a g) ≡ v) f fs agree)
+    let one : covers a f ≡ true → Some (fill_byte a f) ≡ v = All-head (λ g. covers a g ≡ true → Some (fill_byte a g) ≡ v) f fs agree in
+    settled (over f.start f.bytes memory) fs a v (All-tail (λ g. covers a g ≡ true → Some (fill_byte a g) ≡ v) f fs agree)
     (elim (cases_Bool (covers a f)) [
       | inl hit ↦ inl (rw hit (one hit))
       | inr miss ↦ elim start [ inl there ↦ inl (rw miss there) | inr some ↦ inr (rw miss at some) ]
@@ -128,10 +128,10 @@ filled_away memory (f ∷ fs) a none =
     filled_away (over f.start f.bytes memory) fs a p.1 ∙ rw p.0 refl
 
 -- the byte of the one fill over an address
-pub filled_one : (memory : Memory) (fs : List Fill) (i a : ℕ) (d : Fill) → AtMostOne covers fs → i < length fs → covers a (get_or fs i d) ≡ true → filled memory fs a ≡ Some (byte_of a (get_or fs i d))
+pub filled_one : (memory : Memory) (fs : List Fill) (i a : ℕ) (d : Fill) → AtMostOne covers fs → i < length fs → covers a (get_or fs i d) ≡ true → filled memory fs a ≡ Some (fill_byte a (get_or fs i d))
 filled_one memory fs i a d lone lt hit =
     let same : All (λ f. covers a f ≡ true → f ≡ get_or fs i d) fs = lone_same covers fs i a d lone lt hit in
-    settled memory fs a (Some (byte_of a (get_or fs i d))) (λ k e within here. ap (λ (f : Fill). Some (byte_of a f)) (same k e within here)) (inr (list_any_at (covers a) fs i d lt hit))
+    settled memory fs a (Some (fill_byte a (get_or fs i d))) (λ k e within here. ap (λ (f : Fill). Some (fill_byte a f)) (same k e within here)) (inr (list_any_at (covers a) fs i d lt hit))
 
 -- one list of fills after another
 pub filled-append : (m : Memory) (fs gs : List Fill) → filled m (fs ++ gs) ≡ filled (filled m fs) gs
@@ -140,7 +140,7 @@ filled-append m [] gs = refl
 filled-append m (f ∷ fs) gs = filled-append (over f.start f.bytes m) fs gs
 
 -- a byte under fills, as a loop over them reads it
-pub filled_at : (m : Memory) (fs : List Fill) (a : ℕ) → filled m fs a ≡ fold (λ (o : Option ℕ) (f : Fill). cond (covers a f) (Some (byte_of a f)) o) (m a) fs
+pub filled_at : (m : Memory) (fs : List Fill) (a : ℕ) → filled m fs a ≡ fold (λ (o : Option ℕ) (f : Fill). cond (covers a f) (Some (fill_byte a f)) o) (m a) fs
 unfolding filled
 filled_at m [] a = refl
 filled_at m (f ∷ fs) a = filled_at (over f.start f.bytes m) fs a
@@ -148,7 +148,7 @@ filled_at m (f ∷ fs) a = filled_at (over f.start f.bytes m) fs a
 -- fills change nothing where memories that they are laid over agree
 pub filled_same : (m n : Memory) (fs : List Fill) (a : ℕ) → m a ≡ n a → filled m fs a ≡ filled n fs a
 filled_same m n fs a same =
-    filled_at m fs a ∙ ap (λ (o : Option ℕ). fold (λ (v : Option ℕ) (f : Fill). cond (covers a f) (Some (byte_of a f)) v) o fs) same ∙ sym (filled_at n fs a)
+    filled_at m fs a ∙ ap (λ (o : Option ℕ). fold (λ (v : Option ℕ) (f : Fill). cond (covers a f) (Some (fill_byte a f)) v) o fs) same ∙ sym (filled_at n fs a)
 
 -- ---- pieces
 

@@ -8,7 +8,7 @@ use Rattle.std.proofs.Math.Nat.{min-le_left}
 use Rattle.std.proofs.lemmas.List.{places, ext_get_or, length-append, length-take, length-drop, length-take-le, length-replicate, get_or-take, get_or-drop, drop-drop, drop-take, take-take, take_all, take-append-drop, take-append-le, drop-append-le, append-nil, take_at, drop_at}
 use Rattle.std.proofs.lemmas.List.Folds.{list_any-append}
 use Rattle.pl_base.specs.Bytes.{part, put}
-use Rattle.pl_base.specs.Windows.{Window, end_of, within, on, Put, window_of, windows, put_all, own, holds, share, any_share, are_in, IsIn, AllIn, AreApart, IsApart, Agree, gap, ◌⊕◌}
+use Rattle.pl_base.specs.Windows.{Window, end_of, within, on, Put, put_window, windows, put_all, own, holds, share, any_share, are_in, IsIn, AllIn, AreApart, IsApart, Agree, gap, ◌⊕◌}
 
 -- a put changes no length
 pub length-put : (at : ℕ) (new bytes : List ℕ) → at + length new ≤ length bytes → length (put at new bytes) ≡ length bytes
@@ -114,13 +114,13 @@ agree_put ws at new xs ys h fits =
 -- ---- many puts
 
 -- the other file's bytes put into windows: so many windows less
-pub agree_puts : (ps : List Put) (ws : List Window) (xs ys : List ℕ) → Agree (windows ps ++ ws) xs ys → AllIn (length ys) (windows ps) → ((k : ℕ) (d : Put) → k < length ps → (get_or ps k d).bytes ≡ within (window_of (get_or ps k d)) ys)
+pub agree_puts : (ps : List Put) (ws : List Window) (xs ys : List ℕ) → Agree (windows ps ++ ws) xs ys → AllIn (length ys) (windows ps) → ((k : ℕ) (d : Put) → k < length ps → (get_or ps k d).bytes ≡ within (put_window (get_or ps k d)) ys)
     → Agree ws (put_all ps xs) ys
 unfolding put_all
 agree_puts [] ws xs ys h fits theirs = h
 agree_puts (p ∷ ps) ws xs ys h fits theirs =
-    let one : Agree (windows ps ++ ws) (put p.at (within (window_of p) ys) xs) ys = agree_back (window_of p) (windows ps ++ ws) xs ys h fits.0 in
-    let mine : p.bytes ≡ within (window_of p) ys = theirs 0 p (omega arith) in
+    let one : Agree (windows ps ++ ws) (put p.at (within (put_window p) ys) xs) ys = agree_back (put_window p) (windows ps ++ ws) xs ys h fits.0 in
+    let mine : p.bytes ≡ within (put_window p) ys = theirs 0 p (omega arith) in
     agree_puts ps ws (put p.at p.bytes xs) ys (rw (← mine) at one) fits.1 (λ k d lt. theirs (suc k) d (omega (arith, lt)))
 
 -- what was put is there
@@ -150,8 +150,8 @@ agree_edits [] ws xs ys h fits = h
 agree_edits (p ∷ ps) ws xs ys h fits =
     let one = agree_edit ws p.at p.bytes xs ys h fits.0 in
     let same_size : length (put p.at p.bytes xs) ≡ length xs = one.size ∙ sym h.size in
-    let rest = agree_edits ps (window_of p ∷ ws) (put p.at p.bytes xs) ys one (rw same_size fits.1) in
-    agree_wider (windows ps ++ (window_of p ∷ ws)) (windows (p ∷ ps) ++ ws) (put_all ps (put p.at p.bytes xs)) ys (carried (window_of p) (windows ps) ws) rest
+    let rest = agree_edits ps (put_window p ∷ ws) (put p.at p.bytes xs) ys one (rw same_size fits.1) in
+    agree_wider (windows ps ++ (put_window p ∷ ws)) (windows (p ∷ ps) ++ ws) (put_all ps (put p.at p.bytes xs)) ys (carried (put_window p) (windows ps) ws) rest
 
 -- the other file's bytes written into windows: so many windows less
 pub agree_own : (ws vs : List Window) (xs ys : List ℕ) → Agree (ws ++ vs) xs ys → AllIn (length ys) ws → Agree vs (put_all (own ws ys) xs) ys
@@ -333,12 +333,12 @@ within_apart_of_puts v ps xs apart fits all =
     agree_within v (windows ps) (put_all ps xs) xs (subst (λ (ws : List Window). Agree ws (put_all ps xs) xs) (append-nil (windows ps)) edited) fits apart
 
 -- of puts that lie apart each is there
-pub put_all_at : (ps : List Put) (xs : List ℕ) → AreAllApart (windows ps) → AllIn (length xs) (windows ps) → (i : ℕ) (d : Put) → i < length ps → within (window_of (get_or ps i d)) (put_all ps xs) ≡ (get_or ps i d).bytes
+pub put_all_at : (ps : List Put) (xs : List ℕ) → AreAllApart (windows ps) → AllIn (length xs) (windows ps) → (i : ℕ) (d : Put) → i < length ps → within (put_window (get_or ps i d)) (put_all ps xs) ≡ (get_or ps i d).bytes
 unfolding put_all
 put_all_at [] xs apart fits i d lt = absurd (omega (arith, lt))
 put_all_at (p ∷ ps) xs apart fits zero d lt =
     let same_size : length (put p.at p.bytes xs) ≡ length xs = length-put p.at p.bytes xs fits.0 in
-    within_apart_of_puts (window_of p) ps (put p.at p.bytes xs) apart.0 (rw same_size fits.0) (rw same_size fits.1) ∙ within_put p.at p.bytes xs fits.0
+    within_apart_of_puts (put_window p) ps (put p.at p.bytes xs) apart.0 (rw same_size fits.0) (rw same_size fits.1) ∙ within_put p.at p.bytes xs fits.0
 put_all_at (p ∷ ps) xs apart fits (suc i) d lt =
     let same_size : length (put p.at p.bytes xs) ≡ length xs = length-put p.at p.bytes xs fits.0 in
     put_all_at ps (put p.at p.bytes xs) apart.1 (rw same_size fits.1) i d (omega (arith, lt))

@@ -15,6 +15,6 @@ unfoldable pub hex16 : ℕ → List ℕ
 hex16 number = hex_digits 16 number
 
 -- pieces one after the other, and the newline that ends them
-abbrev pub line : List (List ℕ) → List ℕ
-line [] = 10 ∷ []
-line (piece ∷ pieces) = piece ++ line pieces
+abbrev pub line_text : List (List ℕ) → List ℕ
+line_text [] = 10 ∷ []
+line_text (piece ∷ pieces) = piece ++ line_text pieces

@@ -26,12 +26,12 @@ pub record Put : Type 0 where
   pub at : ℕ
   pub bytes : List ℕ
 
-abbrev pub window_of : Put → Window
-window_of p = record { at = p.at; size = length p.bytes }
+abbrev pub put_window : Put → Window
+put_window p = record { at = p.at; size = length p.bytes }
 
 abbrev pub windows : List Put → List Window
 windows [] = []
-windows (p ∷ ps) = window_of p ∷ windows ps
+windows (p ∷ ps) = put_window p ∷ windows ps
 
 -- each in turn
 unfoldable pub put_all : List Put → List ℕ → List ℕ

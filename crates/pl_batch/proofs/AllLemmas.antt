@@ -28,8 +28,8 @@ use Rattle.pl_rewrite.specs.declared.rewriting.Rewritten.{Rewritten}
 use Rattle.pl_slots.specs.declared.slot.Slot.{Slot}
 use Rattle.pl_sound.specs.Rule as sound
 use Rattle.pl_rewrite.specs.declared.report.Report.{Report}
-use Rattle.pl_batch.specs.All.{Reports, all_changes, all_made, all_reported, asked_of, made_by, made_of, made_with, of_planning, spelled}
-use Rattle.pl_batch.specs.Answers.{Finds, MeansAlone, of_plan}
+use Rattle.pl_batch.specs.All.{Reports, all_changes, all_made, all_reported, asked_of, made_of_folder, made_of, made_with_cache, of_planning, spelled}
+use Rattle.pl_batch.specs.Answers.{Finds, BatchMeansAlone, of_plan}
 use Rattle.pl_batch.specs.Changes.{changes_of, fitting}
 use Rattle.pl_batch.specs.Commands.{Made, ready}
 use Rattle.pl_batch.specs.Folder.{IsRead, all_files, are_large, ascend, cache_file, cache_in, named, valid_names}
@@ -65,15 +65,15 @@ pub asked_is : (files : sound.Files) (ns : List (List ℕ)) (p : Prelinking) (c 
 asked_is files ns p c rows is = lies_anywhere files ns p c.last rows ∙ ap (λ (rs : List Slot). rewrite files ns (asked_of p (record { last = c.last; rows = rs }))) is
 
 module _ (files : sound.Files) (ns : List (List ℕ)) (p : Prelinking) (old : List ℕ) (c : Cache) where
-  pub unplanned : (fault : PlanningFault) → Answers is_memory (Err fault) (rewrite files ns (asked_of p c)) → MeansAlone (made_of files ns p old c) (Err (of_plan fault))
+  pub unplanned : (fault : PlanningFault) → Answers is_memory (Err fault) (rewrite files ns (asked_of p c)) → BatchMeansAlone (made_of files ns p old c) (Err (of_plan fault))
   unfolding made_of
   unplanned (planning.NoSlot name span hole) answers = ap (λ (m : Result Rewritten PlanningFault). because of_planning m >>= spelled old) answers
   unplanned (planning.StampsSpent stamp) answers = ap (λ (m : Result Rewritten PlanningFault). because of_planning m >>= spelled old) answers
   unplanned planning.NoMemory answers = tt
 
-  pub rewritten : (w : Rewritten) (r : Result AllMade BatchFault) → rewrite files ns (asked_of p c) ≡ Ok w → MeansAlone (spelled old w) r → MeansAlone (made_of files ns p old c) r
+  pub rewritten : (w : Rewritten) (r : Result AllMade BatchFault) → rewrite files ns (asked_of p c) ≡ Ok w → BatchMeansAlone (spelled old w) r → BatchMeansAlone (made_of files ns p old c) r
   unfolding made_of
-  rewritten w r is alone = subst (λ (m : Result Rewritten PlanningFault). MeansAlone (because of_planning m >>= spelled old) r) (sym is) alone
+  rewritten w r is alone = subst (λ (m : Result Rewritten PlanningFault). BatchMeansAlone (because of_planning m >>= spelled old) r) (sym is) alone
 
 -- ---- files that were taken
 
@@ -93,24 +93,24 @@ are_taken region ns ts rise names all = record { each = all; distinct = subst (�
 
 module _ (p : Prelinking) where
   abbrev cached : Files → List ℕ → Result AllMade Cause
-  cached files old = cache_in old >>= λ c. made_with files p old c
+  cached files old = cache_in old >>= λ c. made_with_cache files p old c
 
   module _ {a b : Seen} where
-    pub uncached : (fault : BatchFault) → Finds (cache_file a.files) items (Err fault) a b → Finds (made_by a.files p) it (Err fault) a b
-    unfolding made_by
+    pub uncached : (fault : BatchFault) → Finds (cache_file a.files) items (Err fault) a b → Finds (made_of_folder a.files p) it (Err fault) a b
+    unfolding made_of_folder
     uncached fault found = stops_finds (cache_file a.files) items (cached a.files) it fault found
 
     module _ (old : Vec ℕ Global) (file : Finds (cache_file a.files) items (Ok old) a b) where
-      cached_on : {c : Seen} (r : Result AllMade BatchFault) → Finds (cached b.files old.items) it r b c → Finds (made_by a.files p) it r a c
-      unfolding made_by
+      cached_on : {c : Seen} (r : Result AllMade BatchFault) → Finds (cached b.files old.items) it r b c → Finds (made_of_folder a.files p) it r a c
+      unfolding made_of_folder
       cached_on r found = then_finds (cache_file a.files) items old cached it r file found
 
-      pub misspelled : (fault : BatchFault) → MeansAlone (cache_in old.items) (Err fault) → Finds (made_by a.files p) it (Err fault) a b
-      misspelled fault alone = cached_on (Err fault) (alone_stops (cache_in old.items) (made_with b.files p old.items) it fault b alone)
+      pub misspelled : (fault : BatchFault) → BatchMeansAlone (cache_in old.items) (Err fault) → Finds (made_of_folder a.files p) it (Err fault) a b
+      misspelled fault alone = cached_on (Err fault) (alone_stops (cache_in old.items) (made_with_cache b.files p old.items) it fault b alone)
 
       module _ (c : Cache) (says : cache_in old.items ≡ Ok c) where
-        with_files : {d : Seen} (r : Result AllMade BatchFault) → Finds (made_with b.files p old.items c) it r b d → Finds (made_by a.files p) it r a d
-        with_files r found = cached_on r (same_found (cached b.files old.items) (made_with b.files p old.items c) it r (ap (λ (m : Result Cache Cause). m >>= λ c. made_with b.files p old.items c) says) found)
+        with_files : {d : Seen} (r : Result AllMade BatchFault) → Finds (made_with_cache b.files p old.items c) it r b d → Finds (made_of_folder a.files p) it r a d
+        with_files r found = cached_on r (same_found (cached b.files old.items) (made_with_cache b.files p old.items c) it r (ap (λ (m : Result Cache Cause). m >>= λ c. made_with_cache b.files p old.items c) says) found)
 
         module _ (ns : List (List ℕ)) (listed : a.tells ≡ true → ns ≡ keys a.files) where
           keys_are : b.tells ≡ true → ns ≡ keys b.files
@@ -127,19 +127,19 @@ module _ (p : Prelinking) where
           abbrev rest : List (List ℕ) → Result AllMade Cause
           rest bytes = unless (are_large bytes) causes.FolderTooLarge (made_of (named b.files) (valid_names b.files) p old.items c)
 
-          pub untaken : {d : Seen} (fault : BatchFault) → Finds (all_files b.files (filter is_valid_name ns)) bytes_of (Err fault) b d → Finds (made_by a.files p) it (Err fault) a d
-          unfolding made_with
+          pub untaken : {d : Seen} (fault : BatchFault) → Finds (all_files b.files (filter is_valid_name ns)) bytes_of (Err fault) b d → Finds (made_of_folder a.files p) it (Err fault) a d
+          unfolding made_with_cache
           untaken fault found = with_files (Err fault) (stops_finds (all_files b.files (valid_names b.files)) bytes_of rest it fault (renamed (Err fault) found))
 
           module _ {d : Seen} (ts : List Taken) (found : Finds (all_files b.files (filter is_valid_name ns)) bytes_of (Ok ts) b d) where
-            pub large : are_large (bytes_of ts) ≡ true → Finds (made_by a.files p) it (Err (faults.Cause causes.FolderTooLarge)) a d
-            unfolding made_with
+            pub large : are_large (bytes_of ts) ≡ true → Finds (made_of_folder a.files p) it (Err (faults.Cause causes.FolderTooLarge)) a d
+            unfolding made_with_cache
             large is = with_files (Err (faults.Cause causes.FolderTooLarge)) (then_alone (all_files b.files (valid_names b.files)) bytes_of ts rest (Err (faults.Cause causes.FolderTooLarge)) (renamed (Ok ts) found)
                 (ap (λ (v : Bool). unless v causes.FolderTooLarge (made_of (named b.files) (valid_names b.files) p old.items c)) is))
 
-            pub small : (r : Result AllMade BatchFault) → are_large (bytes_of ts) ≡ false → names_of ts ≡ filter is_valid_name ns → MeansAlone (made_of (files_in ts) (names_of ts) p old.items c) r → Finds (made_by a.files p) it r a d
-            unfolding made_with
-            small r is names alone = with_files r (alone_finds (made_of (files_in ts) (names_of ts) p old.items c) r (made_with b.files p old.items c) (λ t.
+            pub small : (r : Result AllMade BatchFault) → are_large (bytes_of ts) ≡ false → names_of ts ≡ filter is_valid_name ns → BatchMeansAlone (made_of (files_in ts) (names_of ts) p old.items c) r → Finds (made_of_folder a.files p) it r a d
+            unfolding made_with_cache
+            small r is names alone = with_files r (alone_finds (made_of (files_in ts) (names_of ts) p old.items c) r (made_with_cache b.files p old.items c) (λ t.
                 let one = renamed (Ok ts) found in
                 let named_so : names_of ts ≡ valid_names b.files = names ∙ ap (filter is_valid_name) (keys_are t) in
                 ap (λ (m : Result (List (List ℕ)) Cause). m >>= rest) (one.means t)
@@ -150,7 +150,7 @@ module _ (p : Prelinking) where
   -- ---- the names
 
   abbrev all_of : Files → List (List ℕ) → Result AllMade Cause
-  all_of files ns = unless (are_many ns) causes.TooManyFiles (made_by files p)
+  all_of files ns = unless (are_many ns) causes.TooManyFiles (made_of_folder files p)
 
   module _ {a b : Seen} where
     pub all_unlisted : (fault : BatchFault) → Finds (Ok (keys a.files)) texts (Err fault) a b → Finds (all_made a.files p) it (Err fault) a b
@@ -172,14 +172,14 @@ module _ (p : Prelinking) where
           sym (keys_listed told) ∙ ap keys (sym (listed.calls.files told))
 
       pub all_many : are_many (texts names) ≡ true → Finds (all_made a.files p) it (Err (faults.Cause causes.TooManyFiles)) a b
-      all_many many = all_listed (Err (faults.Cause causes.TooManyFiles)) (refused (are_many (texts names)) causes.TooManyFiles (made_by b.files p) it b many)
+      all_many many = all_listed (Err (faults.Cause causes.TooManyFiles)) (refused (are_many (texts names)) causes.TooManyFiles (made_of_folder b.files p) it b many)
 
       -- a folder that tells its files lists names that ascend
       pub all_mixed : ascend (texts names) ≡ false → Finds (all_made a.files p) it (Err (faults.Cause causes.TooManyFiles)) a b
       all_mixed mixed = record { means = λ t. absurd (false≢true (sym mixed ∙ sym (ap ascend (keys_listed t)) ∙ keys_ascend a.files)); calls = listed.calls }
 
-      pub all_few : {c : Seen} (r : Result AllMade BatchFault) → are_many (texts names) ≡ false → Finds (made_by b.files p) it r b c → Finds (all_made a.files p) it r a c
-      all_few r few found = all_listed r (passed (are_many (texts names)) causes.TooManyFiles (made_by b.files p) it r few found)
+      pub all_few : {c : Seen} (r : Result AllMade BatchFault) → are_many (texts names) ≡ false → Finds (made_of_folder b.files p) it r b c → Finds (all_made a.files p) it r a c
+      all_few r few found = all_listed r (passed (are_many (texts names)) causes.TooManyFiles (made_of_folder b.files p) it r few found)
 
 -- ---- its rows and its report
 
@@ -223,7 +223,7 @@ module _ (p : Prelinking) {a b : Seen} where
     unfolding all_changes
     changed = then_alone (all_made a.files p) it made rows_in (Ok made.rows) found refl
 
-    pub fits : (r : Result (List Change) BatchFault) → MeansAlone (fitting made.rows) r → Finds (changes_of a.files (runs.All p)) rows r a b
+    pub fits : (r : Result (List Change) BatchFault) → BatchMeansAlone (fitting made.rows) r → Finds (changes_of a.files (runs.All p)) rows r a b
     unfolding changes_of
     fits r alone = then_alone (all_changes a.files p) rows made.rows fitting r changed alone
 

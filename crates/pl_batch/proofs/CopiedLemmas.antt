@@ -33,7 +33,7 @@ use Rattle.pl_journal.specs.Meaning.{HasNoOwn}
 use Rattle.pl_journal.proofs.RecoverParts.{looking}
 use Rattle.pl_journal.specs.Names.{is_own}
 use Rattle.pl_journal.proofs.Done.{row_not_own}
-use Rattle.pl_batch.specs.Answers.{Finds, MeansAlone}
+use Rattle.pl_batch.specs.Answers.{Finds, BatchMeansAlone}
 use Rattle.pl_batch.specs.Copied.{IsCopy, are_bulky, cache_entry, cache_there, copied, copied_by, kept}
 use Rattle.pl_batch.specs.Folder.{all_files, ascend, bad_cache, cache, cache_by, cache_file, cache_in, no_cache, valid_names}
 use Rattle.pl_batch.specs.Names.{are_many, file_of}
@@ -119,7 +119,7 @@ unfolding cache_in
 empty_says = ap (because bad_cache) (read_again no_cache (empty_spelled [] refl))
 
 module _ {a b : Seen} where
-  pub misspelled_cache : (file : Vec ℕ Global) → Takes cache (Ok file) a b → (fault : BatchFault) → MeansAlone (cache_in file.items) (Err fault) → Finds (cache_there a.files) cached (Err fault) a b
+  pub misspelled_cache : (file : Vec ℕ Global) → Takes cache (Ok file) a b → (fault : BatchFault) → BatchMeansAlone (cache_in file.items) (Err fault) → Finds (cache_there a.files) cached (Err fault) a b
   misspelled_cache file takes fault alone = then_finds (cache_file a.files) items file of_file cached (Err fault) (cache_took file takes) (alone_stops (cache_in file.items) (λ slots. Ok (get b.files cache)) cached fault b alone)
 
   pub cache_copied : (file : Vec ℕ Global) → Takes cache (Ok file) a b → (slots : Cache) → cache_in file.items ≡ Ok slots → Finds (cache_there a.files) cached (Ok (Some file)) a b

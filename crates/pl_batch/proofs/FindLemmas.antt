@@ -15,7 +15,7 @@ use Rattle.pl_journal.specs.Parts.{Looking}
 use Rattle.pl_journal.proofs.Endings.{makes_told, no_calls, then_told}
 use Rattle.pl_journal.proofs.RecoverLemmas.{looks_on, no_look}
 use Rattle.pl_journal.proofs.RecoverParts.{looking}
-use Rattle.pl_batch.specs.Answers.{Finds, Means, MeansAlone, of_folder, of_take}
+use Rattle.pl_batch.specs.Answers.{Finds, BatchMeans, BatchMeansAlone, of_folder, of_take}
 use Rattle.pl_batch.specs.Names.{file_of, of_file}
 use Rattle.pl_batch.specs.Store.{is_file}
 use Rattle.pl_batch.specs.declared.cause.Cause.{Cause}
@@ -43,7 +43,7 @@ lacks call = makes_told refl call (λ told files. files) (λ told looks. looks)
 
 -- ---- meanings in other words
 
-pub other_means : {X Y : Type 0} (told now : Type 0) (meant other : Result X Cause) (view : Y → X) (r : Result Y BatchFault) → (told → now) → (told → meant ≡ other) → Means now other view r → Means told meant view r
+pub other_means : {X Y : Type 0} (told now : Type 0) (meant other : Result X Cause) (view : Y → X) (r : Result Y BatchFault) → (told → now) → (told → meant ≡ other) → BatchMeans now other view r → BatchMeans told meant view r
 other_means told now meant other view (Ok y) to is means = λ t. is t ∙ means (to t)
 other_means told now meant other view (Err DiskFailed) to is means = tt
 other_means told now meant other view (Err NoMemory) to is means = tt
@@ -73,7 +73,7 @@ pub lacks_finds : {X Y : Type 0} (meant : Result X Cause) (view : Y → X) {a b 
 lacks_finds meant view call = record { means = tt; calls = lacks call }
 
 -- what needs no folder
-pub alone_finds : {X : Type 0} (pure : Result X Cause) (r : Result X BatchFault) {a b : Seen} (meant : Result X Cause) → (a.tells ≡ true → meant ≡ pure) → MeansAlone pure r → Calls Done Looking a b → Finds meant (λ x. x) r a b
+pub alone_finds : {X : Type 0} (pure : Result X Cause) (r : Result X BatchFault) {a b : Seen} (meant : Result X Cause) → (a.tells ≡ true → meant ≡ pure) → BatchMeansAlone pure r → Calls Done Looking a b → Finds meant (λ x. x) r a b
 alone_finds pure (Ok x) meant is alone call = record { means = λ t. is t ∙ alone; calls = call }
 alone_finds pure (Err DiskFailed) meant is alone call = absurd alone
 alone_finds pure (Err NoMemory) meant is alone call = record { means = tt; calls = lacks call }
@@ -81,11 +81,11 @@ alone_finds pure (Err (faults.Cause cause)) meant is alone call = record { means
 
 -- after something that was found
 pub then_alone : {X Y Z : Type 0} (first : Result X Cause) (view : Y → X) (y : Y) (next : X → Result Z Cause) (r : Result Z BatchFault) {a b : Seen}
-    → Finds first view (Ok y) a b → MeansAlone (next (view y)) r → Finds (first >>= next) (λ z. z) r a b
+    → Finds first view (Ok y) a b → BatchMeansAlone (next (view y)) r → Finds (first >>= next) (λ z. z) r a b
 then_alone first view y next r one alone = alone_finds (next (view y)) r (first >>= next) (λ t. ap (λ m. m >>= next) (one.means t)) alone one.calls
 
 -- what needs no folder stops
-pub alone_stops : {X Z W : Type 0} (pure : Result X Cause) (next : X → Result Z Cause) (last : W → Z) (fault : BatchFault) (a : Seen) → MeansAlone pure (Err fault) → Finds (pure >>= next) last (Err fault) a a
+pub alone_stops : {X Z W : Type 0} (pure : Result X Cause) (next : X → Result Z Cause) (last : W → Z) (fault : BatchFault) (a : Seen) → BatchMeansAlone pure (Err fault) → Finds (pure >>= next) last (Err fault) a a
 alone_stops pure next last DiskFailed a alone = absurd alone
 alone_stops pure next last NoMemory a alone = record { means = tt; calls = lacks (no_asking a) }
 alone_stops pure next last (faults.Cause cause) a alone = record { means = λ t. ap (λ m. m >>= next) alone; calls = no_asking a }

@@ -20,7 +20,7 @@ use Rattle.pl_object.specs.Reads.{reads}
 use Rattle.pl_object.specs.declared.object.Object.{Object}
 use Rattle.pl_object.specs.declared.refusal.Refusal.{Refusal}
 use Rattle.pl_place.specs.Policy.{Choice}
-use Rattle.pl_batch.specs.Answers.{Finds, MeansAlone, fault_ending}
+use Rattle.pl_batch.specs.Answers.{Finds, BatchMeansAlone, fault_ending}
 use Rattle.pl_batch.specs.Changes.{fitting}
 use Rattle.pl_batch.specs.Commands.{Made, Meaning}
 use Rattle.pl_batch.specs.Names.{file_of}
@@ -70,7 +70,7 @@ module _ (name : List ℕ) where
     unfolding original_of
     original_untaken fault valid found = passed (not (is_valid_name name)) causes.BadName (file_of a.files name >>= stored_of) as_bytes (Err fault) (ap not valid) (stops_finds (file_of a.files name) items stored_of as_bytes fault found)
 
-    pub original_taken : (file : Vec ℕ Global) (r : Result (List ℕ) BatchFault) → is_valid_name name ≡ true → Finds (file_of a.files name) items (Ok file) a b → MeansAlone (stored_as name file.items (file_in file.items)) r → Finds (original_of a.files name) as_bytes r a b
+    pub original_taken : (file : Vec ℕ Global) (r : Result (List ℕ) BatchFault) → is_valid_name name ≡ true → Finds (file_of a.files name) items (Ok file) a b → BatchMeansAlone (stored_as name file.items (file_in file.items)) r → Finds (original_of a.files name) as_bytes r a b
     unfolding original_of
     original_taken file r valid found alone = passed (not (is_valid_name name)) causes.BadName (file_of a.files name >>= stored_of) as_bytes r (ap not valid) (then_alone (file_of a.files name) items file stored_of r found alone)
 
@@ -94,7 +94,7 @@ module _ (make : List ℕ → Result (List ℕ) Cause) (name : List ℕ) where
       goes_on r next = then_finds (original_of a.files name) as_bytes original made_of rows r found next
 
       -- nothing is made of it
-      pub unmade : (fault : BatchFault) → MeansAlone (make original) (Err fault) → Finds (replacement_of make a.files name) rows (Err fault) a b
+      pub unmade : (fault : BatchFault) → BatchMeansAlone (make original) (Err fault) → Finds (replacement_of make a.files name) rows (Err fault) a b
       unmade fault alone = goes_on (Err fault) (alone_stops (make original) (put_of b.files) rows fault b alone)
 
       -- it is put
@@ -107,7 +107,7 @@ module _ (name bytes : List ℕ) {a b : Seen} where
   pub unput : (fault : BatchFault) → Finds (Ok (put a.files name bytes)) rows (Err fault) a b → Finds (put_fitting a.files name bytes) rows (Err fault) a b
   unput fault found = stops_finds (Ok (put a.files name bytes)) rows fitting rows fault found
 
-  pub put_fits : (found : List Change) (r : Result (List Change) BatchFault) → Finds (Ok (put a.files name bytes)) rows (Ok found) a b → MeansAlone (fitting found) r → Finds (put_fitting a.files name bytes) rows r a b
+  pub put_fits : (found : List Change) (r : Result (List Change) BatchFault) → Finds (Ok (put a.files name bytes)) rows (Ok found) a b → BatchMeansAlone (fitting found) r → Finds (put_fitting a.files name bytes) rows r a b
   put_fits found r put_it alone = then_alone (Ok (put a.files name bytes)) rows found fitting r put_it alone
 
 -- ---- fixing
@@ -125,7 +125,7 @@ abbrev address_in : FixedFile → Result ℕ Cause
 address_in fixed = Ok fixed.address
 
 module _ (choose : Choice) (name original : List ℕ) where
-  pub not_fixed : (fault : BatchFault) → MeansAlone (fixed_of choose name original) (Err fault) → MeansAlone (fixed_as choose name original) (Err fault)
+  pub not_fixed : (fault : BatchFault) → BatchMeansAlone (fixed_of choose name original) (Err fault) → BatchMeansAlone (fixed_as choose name original) (Err fault)
   unfolding fixed_as
   not_fixed DiskFailed alone = absurd alone
   not_fixed NoMemory alone = tt

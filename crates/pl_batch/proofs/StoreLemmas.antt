@@ -11,7 +11,7 @@ use Rattle.pl_folder.specs.Taken.{taken}
 use Rattle.pl_form.specs.Files.{file_in}
 use Rattle.pl_journal.specs.declared.change.Change.{Change}
 use Rattle.pl_journal.specs.declared.change.Change.TheVariants.{Drop, Put}
-use Rattle.pl_batch.specs.Answers.{Finds, MeansAlone}
+use Rattle.pl_batch.specs.Answers.{Finds, BatchMeansAlone}
 use Rattle.pl_batch.specs.Names.{has_name, is_full}
 use Rattle.pl_batch.specs.Store.{installed, is_file, put, removed, stored_as}
 use Rattle.pl_batch.specs.declared.cause.Cause.{Cause}
@@ -62,7 +62,7 @@ module _ (name bytes : List ℕ) where
     unfolding installed
     stored {a = a} r found = passed (not (is_valid_name name)) causes.BadName (stored_as name bytes (file_in bytes) >>= place a.files) rows r (ap not valid) found
 
-    pub unstored : (a : Seen) (fault : BatchFault) → MeansAlone (stored_as name bytes (file_in bytes)) (Err fault) → Finds (installed a.files name bytes) rows (Err fault) a a
+    pub unstored : (a : Seen) (fault : BatchFault) → BatchMeansAlone (stored_as name bytes (file_in bytes)) (Err fault) → Finds (installed a.files name bytes) rows (Err fault) a a
     unstored a fault alone = stored (Err fault) (alone_stops (stored_as name bytes (file_in bytes)) (place a.files) rows fault a alone)
 
     module _ (original : List ℕ) (is : stored_as name bytes (file_in bytes) ≡ Ok original) {a : Seen} where
@@ -100,7 +100,7 @@ module _ (name : List ℕ) where
     remove_unlisted fault found = removing (Err fault) (stops_finds (Ok (keys a.files)) texts (gone a.files) rows fault found)
 
     module _ {b : Seen} (names : Vec (String Global) Global) (listed : Finds (Ok (keys a.files)) texts (Ok names) a b) where
-      removing_of : (r : Result (List Change) BatchFault) → MeansAlone (gone b.files (texts names)) r → Finds (removed a.files name) rows r a b
+      removing_of : (r : Result (List Change) BatchFault) → BatchMeansAlone (gone b.files (texts names)) r → Finds (removed a.files name) rows r a b
       removing_of r alone = removing r (then_alone (Ok (keys a.files)) texts names (gone a.files) r listed alone)
 
       pub remove_absent : has_name name (texts names) ≡ false → Finds (removed a.files name) rows (Err (faults.Cause (causes.NotThere name))) a b

@@ -9,7 +9,7 @@ use Rattle.pl_base.specs.Names.{is_valid_name}
 use Rattle.pl_folder.specs.Seen.{Seen}
 use Rattle.pl_form.specs.Files.{file_in}
 use Rattle.pl_journal.specs.declared.change.Change.{Change}
-use Rattle.pl_batch.specs.Answers.{Finds, MeansAlone}
+use Rattle.pl_batch.specs.Answers.{Finds, BatchMeansAlone}
 use Rattle.pl_batch.specs.Names.{are_many, file_of, has_name}
 use Rattle.pl_batch.specs.Undo.{all_pass, all_undone, asked_row, form_row, if_asked, if_valid, rows_of, undo_any, undo_asked, undone}
 use Rattle.pl_batch.specs.declared.cause.Cause.{Cause}
@@ -49,7 +49,7 @@ module _ (name : List ℕ) where
     unfolding undo_asked
     asked_untaken fault valid found = passed (not (is_valid_name name)) causes.BadName (file_of a.files name >>= asked_of name) row (Err fault) (ap not valid) (stops_finds (file_of a.files name) items (asked_of name) row fault found)
 
-    pub asked_taken : (bytes : Vec ℕ Global) (r : Result Row BatchFault) → is_valid_name name ≡ true → Finds (file_of a.files name) items (Ok bytes) a b → MeansAlone (asked_row name (file_in bytes.items)) r → Finds (undo_asked a.files name) row r a b
+    pub asked_taken : (bytes : Vec ℕ Global) (r : Result Row BatchFault) → is_valid_name name ≡ true → Finds (file_of a.files name) items (Ok bytes) a b → BatchMeansAlone (asked_row name (file_in bytes.items)) r → Finds (undo_asked a.files name) row r a b
     unfolding undo_asked
     asked_taken bytes r valid found alone = passed (not (is_valid_name name)) causes.BadName (file_of a.files name >>= asked_of name) row r (ap not valid) (then_alone (file_of a.files name) items bytes (asked_of name) r found alone)
 
@@ -57,7 +57,7 @@ module _ (name : List ℕ) where
     unfolding undo_any
     any_untaken fault found = stops_finds (file_of a.files name) items (any_of name) row fault found
 
-    pub any_taken : (bytes : Vec ℕ Global) (r : Result Row BatchFault) → Finds (file_of a.files name) items (Ok bytes) a b → MeansAlone (Ok (form_row name (file_in bytes.items))) r → Finds (undo_any a.files name) row r a b
+    pub any_taken : (bytes : Vec ℕ Global) (r : Result Row BatchFault) → Finds (file_of a.files name) items (Ok bytes) a b → BatchMeansAlone (Ok (form_row name (file_in bytes.items))) r → Finds (undo_any a.files name) row r a b
     unfolding undo_any
     any_taken bytes r found alone = then_alone (file_of a.files name) items bytes (any_of name) r found alone
 

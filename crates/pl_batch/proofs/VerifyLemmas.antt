@@ -51,7 +51,7 @@ use Rattle.pl_scope.proofs.WalkLaws.{give_given, walk_begins, walk_ends, walk_go
 use Rattle.pl_sound.specs.Rule as sound
 use Rattle.pl_sound.specs.Rule.{is_marked, is_same, mark_at, object_at, objects, original_at, prelinked_in}
 use Rattle.pl_sound.proofs.RuleLaws.{AgreeOn, first_is, prelinked_agree}
-use Rattle.pl_batch.specs.Answers.{Finds, StopsAlone}
+use Rattle.pl_batch.specs.Answers.{Finds, BatchStopsAlone}
 use Rattle.pl_batch.specs.Folder.{named}
 use Rattle.pl_batch.specs.Names.{file_of, of_file}
 use Rattle.pl_batch.specs.Verify.{AreIn, causes, nowhere, object_by, of_walk, of_walk_fault, original_if_verified, verified, walked, walked_names, wanted_file}
@@ -312,7 +312,7 @@ module _ {a b : Seen} (name : List ℕ) (ts : List Taken) (w : Walking) (n : Lis
         ∙ (ap (λ (m : List ℕ). object_by m (entry_in t.bytes)) (sym called) ∙ (ap (object_by t.name) (sym (entry_read t read)) ∙ e))
 
     -- it has no object
-    pub no_object : (fault : BatchFault) → StopsAlone (object_by t.name t.entry) fault → Finds (walked_names a.files name) names_of (Err fault) a c
+    pub no_object : (fault : BatchFault) → BatchStopsAlone (object_by t.name t.entry) fault → Finds (walked_names a.files name) names_of (Err fault) a c
     no_object faults.DiskFailed stops = absurd stops
     no_object faults.NoMemory stops = record { means = tt; calls = lacks (reads_on s.calls found.calls) }
     no_object (faults.Cause cause) stops = record { means = lacks_object cause (object_at_entry (Err cause) stops); calls = reads_on s.calls found.calls }

@@ -51,17 +51,17 @@ unfoldable pub made_of : sound.Files → List (List ℕ) → Prelinking → List
 made_of files ns p old cache = because of_planning (rewrite files ns (asked_of p cache)) >>= spelled old
 
 -- the limits come after the cache
-unfoldable pub made_with : Files → Prelinking → List ℕ → Cache → Result AllMade Cause
-made_with files p old cache =
+unfoldable pub made_with_cache : Files → Prelinking → List ℕ → Cache → Result AllMade Cause
+made_with_cache files p old cache =
     all_files files (valid_names files) >>= λ bytes.
     unless (are_large bytes) FolderTooLarge (made_of (named files) (valid_names files) p old cache)
 
-unfoldable pub made_by : Files → Prelinking → Result AllMade Cause
-made_by files p = cache_file files >>= λ old. cache_in old >>= λ cache. made_with files p old cache
+unfoldable pub made_of_folder : Files → Prelinking → Result AllMade Cause
+made_of_folder files p = cache_file files >>= λ old. cache_in old >>= λ cache. made_with_cache files p old cache
 
 -- what a run makes of the files of a folder, or its first cause
 unfoldable pub all_made : Files → Prelinking → Result AllMade Cause
-all_made files p = unless (are_many (keys files)) TooManyFiles (made_by files p)
+all_made files p = unless (are_many (keys files)) TooManyFiles (made_of_folder files p)
 
 -- its rows
 unfoldable pub all_changes : Files → Prelinking → Result (List Change) Cause

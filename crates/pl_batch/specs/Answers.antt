@@ -26,29 +26,29 @@ ending (Ok x) = Done
 ending (Err fault) = fault_ending fault
 
 -- a cause is the one that is meant, where all that it rests on is told; a failed folder and a want of memory mean nothing
-abbrev pub Stops : {X : Type 0} → Type 0 → Result X Cause → BatchFault → Type 0
-Stops told meant DiskFailed = ⊤
-Stops told meant NoMemory = ⊤
-Stops told meant (faults.Cause cause) = told → meant ≡ Err cause
+abbrev pub BatchStops : {X : Type 0} → Type 0 → Result X Cause → BatchFault → Type 0
+BatchStops told meant DiskFailed = ⊤
+BatchStops told meant NoMemory = ⊤
+BatchStops told meant (faults.Cause cause) = told → meant ≡ Err cause
 
 -- a value, seen by a view, and a cause are the ones that are meant
-abbrev pub Means : {X Y : Type 0} → Type 0 → Result X Cause → (Y → X) → Result Y BatchFault → Type 0
-Means told meant view (Ok y) = told → meant ≡ Ok (view y)
-Means told meant view (Err fault) = Stops told meant fault
+abbrev pub BatchMeans : {X Y : Type 0} → Type 0 → Result X Cause → (Y → X) → Result Y BatchFault → Type 0
+BatchMeans told meant view (Ok y) = told → meant ≡ Ok (view y)
+BatchMeans told meant view (Err fault) = BatchStops told meant fault
 
 -- the same of a call that asks nothing of the folder
-abbrev pub StopsAlone : {X : Type 0} → Result X Cause → BatchFault → Type 0
-StopsAlone meant DiskFailed = ⊥
-StopsAlone meant NoMemory = ⊤
-StopsAlone meant (faults.Cause cause) = meant ≡ Err cause
+abbrev pub BatchStopsAlone : {X : Type 0} → Result X Cause → BatchFault → Type 0
+BatchStopsAlone meant DiskFailed = ⊥
+BatchStopsAlone meant NoMemory = ⊤
+BatchStopsAlone meant (faults.Cause cause) = meant ≡ Err cause
 
-abbrev pub MeansAlone : {X : Type 0} → Result X Cause → Result X BatchFault → Type 0
-MeansAlone meant (Ok x) = meant ≡ Ok x
-MeansAlone meant (Err fault) = StopsAlone meant fault
+abbrev pub BatchMeansAlone : {X : Type 0} → Result X Cause → Result X BatchFault → Type 0
+BatchMeansAlone meant (Ok x) = meant ≡ Ok x
+BatchMeansAlone meant (Err fault) = BatchStopsAlone meant fault
 
 -- a value or a cause that is found in a folder, whose files stay as they are: its calls only read
 pub record Finds {X Y : Type 0} (meant : Result X Cause) (view : Y → X) (result : Result Y BatchFault) (old new : Seen) : Type 0 where
-  pub means : Means (old.tells ≡ true) meant view result
+  pub means : BatchMeans (old.tells ≡ true) meant view result
   pub calls : Calls (ending result) Looking old new
 
 -- a fault of the folder in a call that is given no file to take

@@ -7,7 +7,7 @@ ghost use Rattle.pl_journal.specs.Spelling.{are_rows};
 ghost use Rattle.pl_journal.specs.declared.change.Change.TheVariants.{Put};
 ghost use Rattle.pl_known.specs.Taken.{AreTaken, files_in, names_of};
 ghost use Rattle.pl_batch.specs.All as spec;
-ghost use Rattle.pl_batch.specs.Answers.{Finds, MeansAlone};
+ghost use Rattle.pl_batch.specs.Answers.{Finds, BatchMeansAlone};
 ghost use Rattle.pl_batch.specs.Changes.{changes_of};
 ghost use Rattle.pl_batch.specs.Folder as reading;
 ghost use Rattle.pl_batch.specs.declared.run.Run.TheVariants as runs;
@@ -74,7 +74,7 @@ fn put_cache(
 /// The rows with that of the cache, where it has a spelling.
 #[tactic(auto, unfolding(crate::specs::All::spelled))]
 fn spelled(alloc: Global, old: &[u8], rewritten: Rewritten) -> Result<AllMade, BatchFault>
-    ensures { MeansAlone (spec.spelled old.now rewritten) result }
+    ensures { BatchMeansAlone (spec.spelled old.now rewritten) result }
 {
     let Rewritten {
         rows,
@@ -98,7 +98,7 @@ fn made_of(
     cache: &Cache,
 ) -> Result<AllMade, BatchFault>
     requires { AreTaken asked.now.region files }
-    ensures { MeansAlone (spec.made_of (files_in files) (names_of files)
+    ensures { BatchMeansAlone (spec.made_of (files_in files) (names_of files)
         asked.now old.now cache.now) result }
 {
     let run = Asked {
@@ -113,7 +113,7 @@ fn made_of(
 }
 
 /// What a run makes of the files of a folder with these names, ascending.
-fn made_by<D: Folder>(
+fn made_of_folder<D: Folder>(
     alloc: Global,
     folder: &mut D,
     names: &[String],
@@ -123,7 +123,7 @@ fn made_by<D: Folder>(
     requires ascend { reading.ascend (map string_bytes names.now) ≡ true }
     requires listed { (D.seen folder.old).tells ≡ true
         → map string_bytes names.now ≡ keys (D.seen folder.old).files }
-    ensures { Finds (spec.made_by (D.seen folder.old).files asked.now) (λ made. made) result
+    ensures { Finds (spec.made_of_folder (D.seen folder.old).files asked.now) (λ made. made) result
         (D.seen folder.old) (D.seen folder.new) }
 {
     let old = cache_file(alloc, folder)?;
@@ -151,7 +151,7 @@ fn all_made<D: Folder>(
     if !ascend(&names) {
         return Err(BatchFault::Cause(Cause::TooManyFiles));
     }
-    made_by(alloc, folder, &names, asked)
+    made_of_folder(alloc, folder, &names, asked)
 }
 
 /// The rows of a run, or its first cause.

@@ -2,7 +2,7 @@
 ghost use Rattle.std.specs.Prelude.{◌≡◌, IfOk, true};
 ghost use Rattle.pl_journal.specs.Meaning.{rows_for};
 ghost use Rattle.pl_journal.specs.Spelling.{are_rows};
-ghost use Rattle.pl_batch.specs.Answers.{Finds, MeansAlone};
+ghost use Rattle.pl_batch.specs.Answers.{Finds, BatchMeansAlone};
 ghost use Rattle.pl_batch.specs.Changes as spec;
 
 use crate::all::all_changes;
@@ -16,7 +16,7 @@ use std::alloc::Global;
 
 /// The rows, where a journal can have them.
 pub(crate) fn fitting(rows: Rows<Change>) -> Result<Rows<Change>, BatchFault>
-    ensures means { MeansAlone (spec.fitting rows) result }
+    ensures means { BatchMeansAlone (spec.fitting rows) result }
     ensures fits { IfOk result (λ rows. are_rows (rows_for rows) ≡ true) }
 {
     if !are_changes(rows.as_slice()) {

@@ -7,7 +7,7 @@ ghost use Rattle.pl_journal.specs.Meaning.{rows_for};
 ghost use Rattle.pl_journal.specs.Parts.{Looking};
 ghost use Rattle.pl_journal.specs.Spelling.{are_rows};
 ghost use Rattle.pl_place.specs.Policy as policy;
-ghost use Rattle.pl_batch.specs.Answers.{Finds, MeansAlone, ending};
+ghost use Rattle.pl_batch.specs.Answers.{Finds, BatchMeansAlone, ending};
 ghost use Rattle.pl_batch.specs.Replace as spec;
 
 use crate::changes::fitting;
@@ -90,7 +90,7 @@ fn fixed_of<F: Fn(&Holes, u64, u64) -> Option<u64>>(
     requires chooses { policy.Chooses (F.post placer.now) }
     requires few { length original.now < 2 ^ 32 }
     ensures means { HoldsBy (F.post placer.now)
-        (λ choose. MeansAlone (spec.fixed_of choose name.now original.now) result) }
+        (λ choose. BatchMeansAlone (spec.fixed_of choose name.now original.now) result) }
     ensures alone { IfErr result spec.IsAlone }
 {
     match fix_placed(alloc, placer, original)? {
@@ -104,7 +104,7 @@ fn fixed_of<F: Fn(&Holes, u64, u64) -> Option<u64>>(
 #[tactic(auto, unfolding(crate::specs::Replace::loosened_of))]
 fn loosened_of(alloc: Global, name: &str, original: &[u8]) -> Result<Rows<u8>, BatchFault>
     requires { length original.now < 2 ^ 32 }
-    ensures { MeansAlone (spec.loosened_of name.now original.now) result }
+    ensures { BatchMeansAlone (spec.loosened_of name.now original.now) result }
 {
     match unfix(alloc, original)? {
         Some(bytes) => Ok(bytes),

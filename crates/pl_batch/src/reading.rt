@@ -4,7 +4,7 @@ ghost use Rattle.pl_base.specs.Names.{IsNameLength, is_valid_name};
 ghost use Rattle.pl_cache.specs.Spelling.{cache_bytes};
 ghost use Rattle.pl_form.specs.Files.{original_in};
 ghost use Rattle.pl_known.specs.Taken.{IsTaken, names_of};
-ghost use Rattle.pl_batch.specs.Answers.{Finds, MeansAlone};
+ghost use Rattle.pl_batch.specs.Answers.{Finds, BatchMeansAlone};
 ghost use Rattle.pl_batch.specs.Folder as spec;
 ghost use Rattle.pl_batch.specs.Names.{file_of};
 
@@ -55,7 +55,7 @@ pub(crate) fn cache_file<D: Folder>(alloc: Global, folder: &mut D) -> Result<Vec
 /// What bytes say as a cache.
 #[tactic(auto, unfolding(crate::specs::Folder::cache_in))]
 pub(crate) fn cache_in(alloc: Global, bytes: &[u8]) -> Result<Cache, BatchFault>
-    ensures { MeansAlone (spec.cache_in bytes.now) result }
+    ensures { BatchMeansAlone (spec.cache_in bytes.now) result }
 {
     match read_cache(alloc, bytes) {
         Ok(cache) => Ok(cache),

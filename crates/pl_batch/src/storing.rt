@@ -4,7 +4,7 @@ ghost use Rattle.pl_base.specs.Names.{IsNameLength};
 ghost use Rattle.pl_folder.specs.declared.TheConstants.{STORED};
 ghost use Rattle.pl_folder.specs.Taken.{taken};
 ghost use Rattle.pl_form.specs.Files.{file_in};
-ghost use Rattle.pl_batch.specs.Answers.{Finds, MeansAlone};
+ghost use Rattle.pl_batch.specs.Answers.{Finds, BatchMeansAlone};
 ghost use Rattle.pl_journal.specs.declared.change.Change.TheVariants.{Drop, Put};
 ghost use Rattle.pl_batch.specs.Store as spec;
 
@@ -35,7 +35,7 @@ fn copy_of(alloc: Global, bytes: &[u8]) -> Result<Rows<u8>, AllocError>
 /// The bytes that are stored of a file: of a prelinked one its original.
 pub(crate) fn stored_as(alloc: Global, name: &str, bytes: &[u8]) -> Result<Rows<u8>, BatchFault>
     requires { length bytes.now < 2 ^ 32 }
-    ensures { MeansAlone (spec.stored_as name.now bytes.now (file_in bytes.now)) result }
+    ensures { BatchMeansAlone (spec.stored_as name.now bytes.now (file_in bytes.now)) result }
 {
     match read_file(alloc, bytes) {
         Ok(File::Plain(_)) => Ok(copy_of(alloc, bytes)?),

@@ -2,7 +2,7 @@
 ghost use Rattle.std.specs.Prelude.{◌≡◌, ◌<◌, ◌^◌, All, IfOk, OnOk, Ok, length, map, string_bytes};
 ghost use Rattle.pl_base.specs.Names.{IsNameLength};
 ghost use Rattle.pl_form.specs.Files.{file_in};
-ghost use Rattle.pl_batch.specs.Answers.{Finds, MeansAlone};
+ghost use Rattle.pl_batch.specs.Answers.{Finds, BatchMeansAlone};
 ghost use Rattle.pl_journal.specs.declared.change.Change.TheVariants.{Put};
 ghost use Rattle.pl_batch.specs.Undo as spec;
 
@@ -30,7 +30,7 @@ fn original_row(alloc: Global, name: &str, marked: Marked) -> Result<Change, All
 /// What undoing makes of the file of a name that was asked for.
 fn asked_row(alloc: Global, name: &str, bytes: &[u8]) -> Result<Option<Change>, BatchFault>
     requires { length bytes.now < 2 ^ 32 }
-    ensures { MeansAlone (spec.asked_row name.now (file_in bytes.now)) result }
+    ensures { BatchMeansAlone (spec.asked_row name.now (file_in bytes.now)) result }
 {
     match read_file(alloc, bytes) {
         Ok(File::Plain(_)) => Ok(None),
@@ -46,7 +46,7 @@ fn asked_row(alloc: Global, name: &str, bytes: &[u8]) -> Result<Option<Change>, 
 /// What undoing makes of the file of any name: one with a mark that is no form stays.
 fn form_row(alloc: Global, name: &str, bytes: &[u8]) -> Result<Option<Change>, BatchFault>
     requires { length bytes.now < 2 ^ 32 }
-    ensures { MeansAlone (Ok (spec.form_row name.now (file_in bytes.now))) result }
+    ensures { BatchMeansAlone (Ok (spec.form_row name.now (file_in bytes.now))) result }
 {
     match read_file(alloc, bytes) {
         Ok(File::Plain(_)) => Ok(None),

@@ -5,7 +5,7 @@ ghost use Rattle.pl_base.specs.Names.{is_valid_name};
 ghost use Rattle.pl_known.specs.Taken.{AreTaken, IsTaken, files_in, names_of};
 ghost use Rattle.pl_rewrite.specs.Verify as rewrite;
 ghost use Rattle.pl_scope.specs.Walking.{wants};
-ghost use Rattle.pl_batch.specs.Answers.{Finds, StopsAlone};
+ghost use Rattle.pl_batch.specs.Answers.{Finds, BatchStopsAlone};
 ghost use Rattle.pl_batch.specs.Verify as spec;
 
 use crate::reading::take_one;
@@ -39,7 +39,7 @@ fn take_wanted<D: Folder>(alloc: Global, folder: &mut D, name: &str) -> Result<T
 fn object_of(alloc: Global, taken: &Taken) -> Result<&Object, BatchFault>
     ensures ok { IfOk result (λ object. spec.object_by taken.now.name taken.now.entry
         ≡ Ok object.now) }
-    ensures err { IfErr result (StopsAlone (spec.object_by taken.now.name taken.now.entry)) }
+    ensures err { IfErr result (BatchStopsAlone (spec.object_by taken.now.name taken.now.entry)) }
 {
     match &taken.entry {
         Entry::There(File::Plain(object)) => Ok(object),

@@ -2,7 +2,7 @@
 use Rattle.std.specs.Prelude.{◌≡◌, ℕ, Bool, true, List, [], ◌∷◌, codes, length, Option, Some, None, Result, Ok, Err}
 use Rattle.std.specs.Fmt.{decimal}
 use Rattle.pl_base.specs.Answers.{◌>>=◌, because}
-use Rattle.pl_base.specs.Digits.{hex16, line}
+use Rattle.pl_base.specs.Digits.{hex16, line_text}
 use Rattle.pl_base.specs.Files.{Files}
 use Rattle.pl_journal.specs.declared.change.Change.{Change}
 use Rattle.pl_loader.specs.Started.{Start}
@@ -33,29 +33,29 @@ use Rattle.pl_words.specs.declared.command.Policy.{Policy}
 
 -- how many files were prelinked
 unfoldable pub undone_text : ℕ → List ℕ
-undone_text count = line (codes "undone " ∷ decimal count ∷ [])
+undone_text count = line_text (codes "undone " ∷ decimal count ∷ [])
 
 abbrev pub stored_word : Content → List ℕ
 stored_word File = codes "installed "
 stored_word Recipe = codes "made "
 
 unfoldable pub stored_text : Content → List ℕ → List ℕ
-stored_text kind name = line (stored_word kind ∷ name ∷ [])
+stored_text kind name = line_text (stored_word kind ∷ name ∷ [])
 
 unfoldable pub removed_text : List ℕ → List ℕ
-removed_text name = line (codes "removed " ∷ name ∷ [])
+removed_text name = line_text (codes "removed " ∷ name ∷ [])
 
 unfoldable pub fixed_text : List ℕ → ℕ → List ℕ
-fixed_text name address = line (codes "fixed " ∷ name ∷ codes " " ∷ hex16 address ∷ [])
+fixed_text name address = line_text (codes "fixed " ∷ name ∷ codes " " ∷ hex16 address ∷ [])
 
 unfoldable pub unfixed_text : List ℕ → List ℕ
-unfixed_text name = line (codes "unfixed " ∷ name ∷ [])
+unfixed_text name = line_text (codes "unfixed " ∷ name ∷ [])
 
 abbrev pub usage : List ℕ
-usage = line (codes "usage: prelink MODE [OPTIONS] [NAME..]" ∷ [])
+usage = line_text (codes "usage: prelink MODE [OPTIONS] [NAME..]" ∷ [])
 
 abbrev pub differs_text : List ℕ
-differs_text = line (codes "differs" ∷ [])
+differs_text = line_text (codes "differs" ∷ [])
 
 -- ---- answers
 

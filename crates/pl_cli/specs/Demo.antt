@@ -4,7 +4,7 @@ use Rattle.std.specs.Fmt.{decimal}
 use Rattle.std.specs.List.{flat_map, starts_with}
 use Rattle.hex.specs.Hex.{encode_lower}
 use Rattle.sha2.specs.Sha256.{sha256}
-use Rattle.pl_base.specs.Digits.{line}
+use Rattle.pl_base.specs.Digits.{line_text}
 use Rattle.pl_base.specs.Files.{Files}
 use Rattle.pl_demo.specs.Demo as demo
 use Rattle.pl_demo.specs.declared.counting.Counts.{Counts}
@@ -42,11 +42,11 @@ fast_loads files names = count_by (λ name. is_fast (load files name)) names
 -- ---- lines
 
 unfoldable pub count_line : List ℕ → ℕ → List ℕ
-count_line word count = line (word ∷ codes " " ∷ decimal count ∷ [])
+count_line word count = line_text (word ∷ codes " " ∷ decimal count ∷ [])
 
 -- two hexadecimal digits for each byte
 unfoldable pub digest_line : List ℕ → List ℕ
-digest_line digest = line (codes "digest " ∷ encode_lower digest ∷ [])
+digest_line digest = line_text (codes "digest " ∷ encode_lower digest ∷ [])
 
 -- the five lines; the digest is the SHA-256 of the texts
 unfoldable pub lines : ℕ → Counts → ℕ → List ℕ → List ℕ

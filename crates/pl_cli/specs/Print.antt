@@ -3,7 +3,7 @@ use Rattle.std.specs.Prelude.{ℕ, ◌+◌, List, [], ◌∷◌, ◌++◌, codes
 use Rattle.std.specs.Fmt.{decimal}
 use Rattle.std.specs.List.{flat_map}
 use Rattle.pl_base.specs.Answers.{◌>>=◌, because}
-use Rattle.pl_base.specs.Digits.{hex16, line}
+use Rattle.pl_base.specs.Digits.{hex16, line_text}
 use Rattle.pl_base.specs.Files.{Files}
 use Rattle.pl_cache.specs.Reading.{read}
 use Rattle.pl_cache.specs.declared.cache.Cache.{Cache}
@@ -39,11 +39,11 @@ cache_in files = cache_of (taken files CACHE.now)
 -- ---- its text
 
 unfoldable pub last_line : ℕ → List ℕ
-last_line last = line (codes "last " ∷ decimal last ∷ [])
+last_line last = line_text (codes "last " ∷ decimal last ∷ [])
 
 -- a slot: where it begins and ends, and the name of its library
 unfoldable pub slot_line : Slot → List ℕ
-slot_line slot = line (codes "slot " ∷ hex16 slot.start ∷ codes " " ∷ hex16 (slot.start + slot.span) ∷ codes " " ∷ slot.name ∷ [])
+slot_line slot = line_text (codes "slot " ∷ hex16 slot.start ∷ codes " " ∷ hex16 (slot.start + slot.span) ∷ codes " " ∷ slot.name ∷ [])
 
 unfoldable pub print_text : Cache → List ℕ
 print_text cache = last_line cache.last ++ flat_map slot_line cache.rows

@@ -3,7 +3,7 @@ use Rattle.std.specs.Prelude.{ℕ, ◌/◌, ◌%◌, Bool, ◌&&◌, ◌||◌, n
 use Rattle.std.specs.Fmt.{decimal}
 use Rattle.std.specs.Char.{is_ascii_graphic}
 use Rattle.std.specs.List.{flat_map}
-use Rattle.pl_base.specs.Digits.{hex16, hex_digit, line}
+use Rattle.pl_base.specs.Digits.{hex16, hex_digit, line_text}
 use Rattle.pl_cone.specs.declared.skip.Skip.{Skip}
 use Rattle.pl_cone.specs.declared.skip.Skip.TheVariants as skips
 use Rattle.pl_loader.specs.declared.fault.LoadFault.{LoadFault}
@@ -116,4 +116,4 @@ skip_text skips.NoMemory = codes "NoMemory"
 
 -- the line of a refusal
 unfoldable pub refusal : Cause → List ℕ
-refusal cause = line (codes "refused " ∷ cause_text cause ∷ [])
+refusal cause = line_text (codes "refused " ∷ cause_text cause ∷ [])

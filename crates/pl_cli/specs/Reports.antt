@@ -3,7 +3,7 @@ use Rattle.std.specs.Prelude.{ℕ, Bool, true, false, not, List, [], ◌∷◌, 
 use Rattle.std.specs.Fmt.{decimal}
 use Rattle.std.specs.List.{flat_map}
 use Rattle.pl_base.specs.Answers.{◌>>=◌, because}
-use Rattle.pl_base.specs.Digits.{hex16, line}
+use Rattle.pl_base.specs.Digits.{hex16, line_text}
 use Rattle.pl_base.specs.Files.{Files}
 use Rattle.pl_rewrite.specs.declared.report.Report.{Report}
 use Rattle.pl_rewrite.specs.declared.report.ReportRow.{ReportRow}
@@ -41,7 +41,7 @@ state_text (Program current conflicts) = program_text conflicts
 state_text (Skipped cause) = skip_text cause
 
 unfoldable pub row_line : ReportRow → List ℕ
-row_line row = line (state_word row.state ∷ codes " " ∷ row.name ∷ codes " " ∷ state_text row.state ∷ [])
+row_line row = line_text (state_word row.state ∷ codes " " ∷ row.name ∷ codes " " ∷ state_text row.state ∷ [])
 
 -- ---- how many names the run prelinks, how many are current, and how many are not prelinked
 
@@ -70,7 +70,7 @@ unfoldable pub is_skipped : ReportRow → Bool
 is_skipped row = is_left row.state
 
 unfoldable pub counts_line : List ReportRow → List ℕ
-counts_line rows = line (codes "done " ∷ decimal (count_by is_prelinked rows) ∷ codes " prelinked " ∷ decimal (count_by is_current rows) ∷ codes " current " ∷ decimal (count_by is_skipped rows) ∷ codes " skipped" ∷ [])
+counts_line rows = line_text (codes "done " ∷ decimal (count_by is_prelinked rows) ∷ codes " prelinked " ∷ decimal (count_by is_current rows) ∷ codes " current " ∷ decimal (count_by is_skipped rows) ∷ codes " skipped" ∷ [])
 
 -- ---- the whole
 

@@ -4,7 +4,7 @@ use Rattle.std.specs.declared.alloc.Global.{Global}
 use Rattle.std.specs.FinMap.{get}
 use Rattle.std.specs.Fmt.{decimal}
 use Rattle.pl_base.specs.Answers.{◌>>=◌, because, unless}
-use Rattle.pl_base.specs.Digits.{line}
+use Rattle.pl_base.specs.Digits.{line_text}
 use Rattle.pl_base.specs.Each.{each}
 use Rattle.pl_base.specs.Files.{Files, files_of}
 use Rattle.pl_batch.specs.Copied.{IsCopy, copied}
@@ -69,10 +69,10 @@ runs_of files asked = each (run_of files) asked
 -- ---- the text
 
 unfoldable pub loader_line : ℕ → List ℕ
-loader_line number = line (codes "loader " ∷ decimal number ∷ [])
+loader_line number = line_text (codes "loader " ∷ decimal number ∷ [])
 
 unfoldable pub wants_line : List ℕ → List ℕ
-wants_line name = line (codes "wants " ∷ name ∷ [])
+wants_line name = line_text (codes "wants " ∷ name ∷ [])
 
 -- what a load starts from, or why it does not
 abbrev pub start_text : Result Start Cause → List ℕ
@@ -93,16 +93,16 @@ loaders_text choose number [] = []
 loaders_text choose number (o ∷ os) = loader_line number ++ (loader_text choose o ++ loaders_text choose (number + 1) os)
 
 unfoldable pub waits_line : ℕ → List ℕ
-waits_line number = line (codes "run " ∷ decimal number ∷ codes " waits" ∷ [])
+waits_line number = line_text (codes "run " ∷ decimal number ∷ codes " waits" ∷ [])
 
 unfoldable pub refused_line : ℕ → Cause → List ℕ
-refused_line number cause = line (codes "run " ∷ decimal number ∷ codes " refused " ∷ cause_text cause ∷ [])
+refused_line number cause = line_text (codes "run " ∷ decimal number ∷ codes " refused " ∷ cause_text cause ∷ [])
 
 unfoldable pub done_line : ℕ → ℕ → List ℕ
-done_line number rows = line (codes "run " ∷ decimal number ∷ codes " done " ∷ decimal rows ∷ [])
+done_line number rows = line_text (codes "run " ∷ decimal number ∷ codes " done " ∷ decimal rows ∷ [])
 
 unfoldable pub renames_line : ℕ → ℕ → ℕ → List ℕ
-renames_line number done rows = line (codes "run " ∷ decimal number ∷ codes " renames " ∷ decimal done ∷ codes " of " ∷ decimal rows ∷ [])
+renames_line number done rows = line_text (codes "run " ∷ decimal number ∷ codes " renames " ∷ decimal done ∷ codes " of " ∷ decimal rows ∷ [])
 
 -- how far a run came
 abbrev pub run_line : ℕ → Progress → List ℕ
@@ -115,7 +115,7 @@ runs_text number [] = []
 runs_text number (p ∷ ps) = run_line number p ++ runs_text (number + 1) ps
 
 abbrev pub end_line : List ℕ
-end_line = line (codes "weave end" ∷ [])
+end_line = line_text (codes "weave end" ∷ [])
 
 -- what a weave came to
 abbrev pub woven_text : {F : Type 0} → Choice → List (Opened F) → List Progress → List ℕ

@@ -9,7 +9,7 @@ use Rattle.std.proofs.lemmas.Option.{none-some, same_Some, slice_get_read}
 use Rattle.pl_elf.specs.Kinds.{is_program}
 use Rattle.pl_elf.specs.declared.kind.Kind.{Kind}
 use Rattle.pl_elf.specs.declared.kind.Kind.TheVariants.{Program, Library, Static}
-use Rattle.pl_links.specs.Closed.{IsFlag, IsClosedBy, IsClosed}
+use Rattle.pl_links.specs.Closed.{IsFlag, IsClosedBy, GivesOneWord}
 use Rattle.pl_links.specs.Definers.{HasDefiner, HasHashes}
 use Rattle.pl_links.specs.Folder.{IsMadeOf, IsMember, IsWithin}
 use Rattle.pl_links.proofs.ClosedLaws.{closed}
@@ -30,7 +30,7 @@ use Rattle.pl_value.specs.Values.{relocations_in, value_of}
 use Rattle.pl_value.specs.declared.word.Word.{Word}
 use Rattle.pl_cone.specs.Candidates.{walk_in, kind_of, zeros}
 use Rattle.pl_cone.specs.Known.{entry_of, object_of, object_in, original_in}
-use Rattle.pl_cone.specs.Links.{folder, its_object, named_objects, IsLink, HasValue, TellsOf, HaveValues}
+use Rattle.pl_cone.specs.Links.{folder, its_object, named_objects, IsLink, HasValue, TellsOf, HaveValuesAtZero}
 use Rattle.pl_cone.specs.Skips.{of_walk}
 use Rattle.pl_cone.specs.declared.known.Entry.{Entry}
 use Rattle.pl_cone.specs.declared.known.Entry.TheVariants.{There, BadMark, Refused}
@@ -145,7 +145,7 @@ module _ (files : List Known) (n : List ℕ) (ws : Walked) (h : walk_in files n 
       let r : Reloc = get_or o.relocations i d in
       let flags : AllZip (IsFlag is.definers (objects own)) o.relocations l.closed = subst (λ (rs : List Reloc). AllZip (IsFlag is.definers (objects own)) rs l.closed) relocs is.flags in
       let known : IsClosedBy is.definers (objects own) r = zip_at (IsFlag is.definers (objects own)) o.relocations l.closed i d true flags set refl in
-      let whole : IsClosed (folder files) l.name own r =
+      let whole : GivesOneWord (folder files) l.name own r =
       closed (folder files) is.definers l.name own r (record { hashes = is.hashes; made = walk_made files l.name own is.walks; first = first }) known in
       let named : IsMember ws m l.name = record { object = o; at = at } in
       let word = whole (λ _. 0) in
@@ -163,7 +163,7 @@ module _ (files : List Known) (n : List ℕ) (ws : Walked) (h : walk_in files n 
       let same : name ≡ l.name = sym (found_name ls name l e) in
       flag_right l is m o modules (at ∙ ap (λ (k : List ℕ). Some (k, o)) same) i d flagged
 
-  pub have_values : (ls : List Link) → All (IsLink files) ls → HaveValues ws ls
+  pub have_values : (ls : List Link) → All (IsLink files) ls → HaveValuesAtZero ws ls
   have_values ls all = λ m name o modules at. tells ls all m name o modules (find (λ l. bytes_eq l.name name) ls) at refl
 
 -- ---- of a program
@@ -173,14 +173,14 @@ linked_program Program e = inr refl
 linked_program Library e = absurd cc
 linked_program Static e = absurd cc
 
-pub program_values : (files : List Known) (n : List ℕ) (ws : Walked) (ls : List Link) → walk_in files n ≡ Ok ws → All (IsLink files) ls → is_program (kind_of ws) ≡ true → HaveValues ws ls
+pub program_values : (files : List Known) (n : List ℕ) (ws : Walked) (ls : List Link) → walk_in files n ≡ Ok ws → All (IsLink files) ls → is_program (kind_of ws) ≡ true → HaveValuesAtZero ws ls
 program_values files n ws ls h all program =
     let t = walk_first files n ws h in
     let kind : is_program t.object.kind ≡ true = sym (ap (λ (w : Walked). is_program (kind_of w)) t.is) ∙ program in
     have_values files n ws h (λ o e. linked_program o.kind (ap (λ (p : Object). is_program p.kind) (same_ok o t.object (sym e ∙ t.file)) ∙ kind)) ls all
 
 -- without any nothing is told
-pub no_values : (ws : Walked) → HaveValues ws []
+pub no_values : (ws : Walked) → HaveValuesAtZero ws []
 no_values ws = λ m name o modules at i d lt flagged. absurd flagged
 
 -- ---- as a loop over members asks for it
@@ -192,6 +192,6 @@ named_at ms ws m mem name o is lt at named object =
     let same : mem.object.now ≡ o = same_Some mem.object.now o (sym (object_at ws m mem.name mem.object.now one) ∙ object) in
     one ∙ (ap (λ (n : List ℕ). Some (n, mem.object.now)) (sym named) ∙ ap (λ (p : Object). Some (name, p)) same)
 
-pub told_of : (ws : Walked) (ls : List Link) (places : List ℕ) (m : ℕ) (n : List ℕ) (o : Object) (rs : List Reloc) (x : Option Link) (modules : List Module) → HaveValues ws ls → places ≡ zeros ws → slice_get ws m ≡ Some (n, o) → rs ≡ o.relocations
+pub told_of : (ws : Walked) (ls : List Link) (places : List ℕ) (m : ℕ) (n : List ℕ) (o : Object) (rs : List Reloc) (x : Option Link) (modules : List Module) → HaveValuesAtZero ws ls → places ≡ zeros ws → slice_get ws m ≡ Some (n, o) → rs ≡ o.relocations
     → x ≡ find (λ l. bytes_eq l.name n) ls → TellsOf (objects ws) places modules m rs x
 told_of ws ls places m n o rs x modules have none at relocs found = rw (none, relocs, found) (have m n o modules at)

@@ -88,6 +88,6 @@ abbrev pub TellsOf : List Object → List ℕ → List Module → ℕ → List R
 TellsOf os places modules member rs link = (i : ℕ) (d : Reloc) → i < length rs → IsFlagged link i → HasValue os places modules member (slice_index_or rs i d)
 
 -- so do those of all members
-abbrev pub HaveValues : Walked → List Link → Type 0
-HaveValues walked links = (m : ℕ) (n : List ℕ) (o : Object) (modules : List Module) → slice_get walked m ≡ Some (n, o)
+abbrev pub HaveValuesAtZero : Walked → List Link → Type 0
+HaveValuesAtZero walked links = (m : ℕ) (n : List ℕ) (o : Object) (modules : List Module) → slice_get walked m ≡ Some (n, o)
     → TellsOf (objects walked) (zeros walked) modules m o.relocations (find (λ l. bytes_eq l.name n) links)

@@ -5,7 +5,7 @@ ghost use Rattle.pl_base.specs.Answers.{Answers};
 ghost use Rattle.pl_elf.specs.Kinds.{is_program};
 ghost use Rattle.pl_cone.specs.Candidates as spec;
 ghost use Rattle.pl_cone.specs.Known.{AreAccepted, fault_of};
-ghost use Rattle.pl_cone.specs.Links.{HaveValues, IsLink};
+ghost use Rattle.pl_cone.specs.Links.{HaveValuesAtZero, IsLink};
 ghost use Rattle.pl_cone.specs.Skips.{is_memory};
 
 use crate::forms::all_formed;
@@ -36,7 +36,7 @@ fn fit(
     name: &str,
     scope: &Scope<'_>,
 ) -> Result<(), Skip>
-    requires { is_program (spec.kind_of scope.now) ≡ true → HaveValues scope.now links.now }
+    requires { is_program (spec.kind_of scope.now) ≡ true → HaveValuesAtZero scope.now links.now }
     ensures { Answers is_memory result (spec.fit (fault_of files.now) name.now scope.now) }
 {
     let kind = kind_of(scope);

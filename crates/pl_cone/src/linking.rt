@@ -225,7 +225,7 @@ fn members_link(
 ) -> Result<(), LinkFault>
     requires places { places.now ≡ spec.zeros scope.now }
     requires one_each { length places.now ≡ length scope.now }
-    requires known { links.HaveValues scope.now known.now }
+    requires known { links.HaveValuesAtZero scope.now known.now }
     ensures { result ≡ links.all_have (objects scope.now) places.now modules.now }
 {
     let members = scope.members();
@@ -245,7 +245,7 @@ fn resolved_by(
     modules: &[Module],
     known: &[Link],
 ) -> Result<(), Skip>
-    requires { links.HaveValues scope.now known.now }
+    requires { links.HaveValuesAtZero scope.now known.now }
     ensures { spec.AnswersResolved scope.now modules.now result }
 {
     let places = places(alloc, scope)?;
@@ -302,7 +302,7 @@ fn resolved(
     modules: &[Module],
     known: &[Link],
 ) -> Result<(), Skip>
-    requires { links.HaveValues scope.now known.now }
+    requires { links.HaveValuesAtZero scope.now known.now }
     ensures { spec.AnswersResolved scope.now modules.now result }
 {
     if known.is_empty() || is_index_cheaper(scope.members(), known) {
@@ -314,7 +314,7 @@ fn resolved(
 /// Whether the members link: an offset of thread-local storage may be too great, or a relocation may have no value. Those of which `known` tells that they have one are not looked up.
 #[tactic(auto, unfolding(crate::specs::Candidates::linked))]
 pub fn linked(alloc: Global, scope: &Scope<'_>, known: &[Link]) -> Result<(), Skip>
-    requires { links.HaveValues scope.now known.now }
+    requires { links.HaveValuesAtZero scope.now known.now }
     ensures { Answers is_memory result (spec.linked scope.now) }
 {
     let modules = modules(alloc, scope)?;

@@ -10,7 +10,7 @@ use Rattle.std.proofs.lemmas.List.Sorted.{All-permutation, list_any-IsPermutatio
 use Rattle.std.proofs.lemmas.List.Folds.{Any-from_list_any, list_any_at}
 use Rattle.std.proofs.lemmas.Slice.Eq.{bytes_eq-Decides}
 use Rattle.pl_base.specs.Bytes.{bytes64}
-use Rattle.pl_base.specs.Memory.{Memory, Fill, is_within, covers, byte_of, filled, AtMostOne}
+use Rattle.pl_base.specs.Memory.{Memory, Fill, is_within, covers, fill_byte, filled, AtMostOne}
 use Rattle.pl_base.proofs.MemoryLaws.{settled, All-filter_map, any-filter_map, is_some_and, lone_same, read_length, within_less, within_none}
 use Rattle.pl_base.proofs.WordLaws.{length_bytes64}
 use Rattle.pl_image.specs.declared.loaded.Loaded.{Loaded}
@@ -30,22 +30,22 @@ abbrev pub Inside : (Meaning → Option Fill) → ℕ → Meaning → Type 0
 Inside make a g = under a g ≡ false → IfSome (make g) (λ f. covers a f ≡ false)
 
 -- a fill that is not over an address says nothing of it
-vacuous : (o : Option Fill) (a : ℕ) (v : Option ℕ) → IfSome o (λ f. covers a f ≡ false) → IfSome o (λ f. covers a f ≡ true → Some (byte_of a f) ≡ v)
+vacuous : (o : Option Fill) (a : ℕ) (v : Option ℕ) → IfSome o (λ f. covers a f ≡ false) → IfSome o (λ f. covers a f ≡ true → Some (fill_byte a f) ≡ v)
 vacuous None a v h = tt
 vacuous (Some f) a v h = λ hit. absurd (false≢true (sym h ∙ hit))
 
 -- the byte at an address under no place
 laid_away : (make : Meaning → Option Fill) (gs : List Meaning) (fs : List Fill) (m : Memory) (a : ℕ) → IsPermutation (filter_map make gs) fs → All (Inside make a) gs → list_any (under a) gs ≡ false → filled m fs a ≡ m a
 laid_away make gs fs m a perm inside none =
-    let P : Fill → Type 0 = λ f. covers a f ≡ true → Some (byte_of a f) ≡ m a in
+    let P : Fill → Type 0 = λ f. covers a f ≡ true → Some (fill_byte a f) ≡ m a in
     let each : All (λ g. IfSome (make g) P) gs = λ k d lt. vacuous (make (get_or gs k d)) a (m a) (inside k d lt (none_at (under a) gs k d lt none)) in
     settled m fs a (m a) (All-permutation P (filter_map make gs) fs perm (All-filter_map P make gs each)) (inl refl)
 
 -- the byte at an address under the place at i
 laid_at : (make : Meaning → Option Fill) (gs : List Meaning) (fs : List Fill) (m : Memory) (a i : ℕ) (d : Meaning) (v : Option ℕ) → IsPermutation (filter_map make gs) fs → All (Inside make a) gs → AtMostOne under gs → i < length gs → under a (get_or gs i d) ≡ true
-    → IfSome (make (get_or gs i d)) (λ f. covers a f ≡ true → Some (byte_of a f) ≡ v) → (m a ≡ v) ⊎ (is_some_and (covers a) (make (get_or gs i d)) ≡ true) → filled m fs a ≡ v
+    → IfSome (make (get_or gs i d)) (λ f. covers a f ≡ true → Some (fill_byte a f) ≡ v) → (m a ≡ v) ⊎ (is_some_and (covers a) (make (get_or gs i d)) ≡ true) → filled m fs a ≡ v
 laid_at make gs fs m a i d v perm inside lone lt hit one start =
-    let P : Fill → Type 0 = λ f. covers a f ≡ true → Some (byte_of a f) ≡ v in
+    let P : Fill → Type 0 = λ f. covers a f ≡ true → Some (fill_byte a f) ≡ v in
     let same : All (λ g. under a g ≡ true → g ≡ get_or gs i d) gs = lone_same under gs i a d lone lt hit in
     let each : All (λ g. IfSome (make g) P) gs = λ k e within. elim (cases_Bool (under a (get_or gs k e))) [
       | inl here ↦ subst (λ (g : Meaning). IfSome (make g) P) (sym (same k e within here)) one
@@ -175,8 +175,8 @@ row_none files member start (Copy from at n) X program = tt
 row_none files member start Nothing X program = tt
 
 -- a row has the word's byte
-row_byte : (bytes : List ℕ) (start w a : ℕ) → IfSome (differing bytes start w) (λ f. covers a f ≡ true → Some (byte_of a f) ≡ Some (byte_in a start w))
-row_byte bytes start w a = elim (bytes_eq bytes (bytes64 w)) as (λ b. IfSome (cond b None (Some (word_fill start w))) (λ f. covers a f ≡ true → Some (byte_of a f) ≡ Some (byte_in a start w))) [
+row_byte : (bytes : List ℕ) (start w a : ℕ) → IfSome (differing bytes start w) (λ f. covers a f ≡ true → Some (fill_byte a f) ≡ Some (byte_in a start w))
+row_byte bytes start w a = elim (bytes_eq bytes (bytes64 w)) as (λ b. IfSome (cond b None (Some (word_fill start w))) (λ f. covers a f ≡ true → Some (fill_byte a f) ≡ Some (byte_in a start w))) [
   | true ↦ tt
   | false ↦ λ _. refl
 ]
@@ -207,7 +207,7 @@ fast_library base files members gs rows a i d w fit lone perm there lt hit libra
     let row : make_row members g ≡ differing bytes g.start w = row_is members g.member g.start g.word w library is in
     let size : g.size ≡ 8 = sized (is_library g.member) g.size g.word w is (fit i d lt) in
     laid_at (make_row members) gs rows files a i d v perm (rows_inside members gs a fit) lone lt hit
-    (subst (λ (o : Option Fill). IfSome o (λ h. covers a h ≡ true → Some (byte_of a h) ≡ v)) (sym row) (row_byte bytes g.start w a))
+    (subst (λ (o : Option Fill). IfSome o (λ h. covers a h ≡ true → Some (fill_byte a h) ≡ v)) (sym row) (row_byte bytes g.start w a))
     (subst (λ (o : Option Fill). (files a ≡ v) ⊎ (is_some_and (covers a) o ≡ true)) (sym row) (row_or_file files bytes a g.start g.size w size hit there))
     ∙ sym (relocated_put base gs a i d w fit lone lt hit is)
   where
@@ -222,7 +222,7 @@ fast_at base files members gs rows a i d fit lone perm file lt hit =
     elim (cases_Bool (is_library g.member)) [
       | inr program ↦
           laid_at (make_row members) gs rows files a i d (relocated base gs a) perm (rows_inside members gs a fit) lone lt hit
-          (row_none members g.member g.start g.word (λ f. covers a f ≡ true → Some (byte_of a f) ≡ relocated base gs a) program) (inl (file.program i d lt hit program))
+          (row_none members g.member g.start g.word (λ f. covers a f ≡ true → Some (fill_byte a f) ≡ relocated base gs a) program) (inl (file.program i d lt hit program))
       | inl library ↦
           let put = put_there (is_library g.member) g.start g.size a g.word library (fit i d lt) hit in
           fast_library base files members gs rows a i d put.0 fit lone perm (file.library i d lt hit library) lt hit library put.1

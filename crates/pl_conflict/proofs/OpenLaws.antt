@@ -30,7 +30,7 @@ use Rattle.pl_value.specs.declared.fault.OrdinaryFault.TheVariants.{Link}
 use Rattle.pl_value.specs.declared.meaning.Meaning.{Meaning}
 use Rattle.pl_value.specs.declared.word.Word.TheVariants.{Put}
 use Rattle.pl_value.proofs.CollectingLaws.{reloc_more, reloc_stops, relocs_done, member_more, member_stops, members_done}
-use Rattle.pl_conflict.specs.Among.{FlagOf, ValuesOf, IsQuiet, AreStill, TellsHeld, TellHeld, IsRowBy, AreTold, AddsRows, RefusesOne, word_of}
+use Rattle.pl_conflict.specs.Among.{FlagOf, ValuesOf, IsQuiet, AreStill, TellsHeld, TellHeld, IsRowBy, AreTold, AddsRows, RefusesOne, held_word}
 use Rattle.pl_conflict.specs.Conflicts.{pieces_in, held, row_of, rows_of}
 use Rattle.pl_conflict.specs.declared.among.Still.{Still}
 use Rattle.pl_conflict.proofs.AmongLaws.{front_err, member_is, some_of, start_is}
@@ -66,7 +66,7 @@ row_by files m start h w same above is tells =
     no_test : (a : ℕ) → (a ≡ 0 → ⊥) → (a == 0) ≡ false
     no_test a above = grind (arith, nat_tests)
 
-told_is : (files : List Loaded) (m start : ℕ) (still : Option Still) (i : ℕ) → TellsHeld files m start still i → held files m start ≡ bytes64 (word_of still i)
+told_is : (files : List Loaded) (m start : ℕ) (still : Option Still) (i : ℕ) → TellsHeld files m start still i → held files m start ≡ bytes64 (held_word still i)
 told_is files m start None i told = absurd told
 told_is files m start (Some s) i told = told.1.1 ∙ ap bytes64 (sym (get_or_from_slice_get s.held.now i told.0 0 told.1.0))
 
@@ -120,7 +120,7 @@ module _ (os : List Object) (places : List ℕ) (tls : List Module) (m : ℕ) (r
       }
 
   -- another one makes a row by the word that is told of it
-  pub rowed_more : (i : ℕ) (d : Reloc) (y : Meaning) (o : Option ConflictRow) (before after new : List ConflictRow) → i < length rs → Ok y ≡ meaning os places tls (row m (get_or rs i d)) → IsRowBy y (word_of still i) o → new ≡ after ++ option_to_list o → Rowed os places tls m rs still i before after
+  pub rowed_more : (i : ℕ) (d : Reloc) (y : Meaning) (o : Option ConflictRow) (before after new : List ConflictRow) → i < length rs → Ok y ≡ meaning os places tls (row m (get_or rs i d)) → IsRowBy y (held_word still i) o → new ≡ after ++ option_to_list o → Rowed os places tls m rs still i before after
       → Rowed os places tls m rs still (i + 1) before new
   rowed_more i d y o before after new lt is made more s =
       let member : y.member ≡ m = member_is os places tls m (get_or rs i d) y (sym is) in
@@ -131,7 +131,7 @@ module _ (os : List Object) (places : List ℕ) (tls : List Module) (m : ℕ) (r
         made = s.made ++ option_to_list o;
         is = more ∙ ap (λ (zs : List ConflictRow). zs ++ option_to_list o) s.is ∙ append_assoc before s.made (option_to_list o);
         rows = λ files told.
-            let by : 0 < y.member → held files y.member y.start ≡ bytes64 (word_of still i) = λ above.
+            let by : 0 < y.member → held files y.member y.start ≡ bytes64 (held_word still i) = λ above.
             ap (λ (k : ℕ). held files k y.start) member ∙ ap (held files m) start
             ∙ told_is files m (plus (base_of places m) (get_or rs i d).address) still i (told.held i d (omega (arith, above, member)) lt)
             in

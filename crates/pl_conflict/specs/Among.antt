@@ -64,12 +64,12 @@ AreStill os places files still = (m i : ℕ) (o : Object) (d : Reloc) → slice_
 -- ---- without it
 
 -- the addresses of a word
-abbrev pub word_at : ℕ → Window
-word_at start = record { at = start; size = 8 }
+abbrev pub word_window : ℕ → Window
+word_window start = record { at = start; size = 8 }
 
 -- a word has none of the addresses of windows
 abbrev pub IsFar : List Window → ℕ → Type 0
-IsFar windows start = list_any (share (word_at start)) windows ≡ false
+IsFar windows start = list_any (share (word_window start)) windows ≡ false
 
 -- the meaning of a member's relocation whose flag is set and that is far from windows
 pub record IsPassedOf (objects : List Object) (places : List ℕ) (tls : List Module) (member : ℕ) (rs : List Reloc) (still : Option Still) (windows : List Window) (g : Meaning) : Type 0 where
@@ -137,9 +137,9 @@ TellHeld os places files still =
 -- ---- rows by what is known
 
 -- the word that is told of a relocation; 0 where none is
-abbrev pub word_of : Option Still → ℕ → ℕ
-word_of None index = 0
-word_of (Some s) index = slice_index s.held.now index
+abbrev pub held_word : Option Still → ℕ → ℕ
+held_word None index = 0
+held_word (Some s) index = slice_index s.held.now index
 
 -- the row of a meaning, whatever the files, where its member's file holds this word, or the member is the program
 abbrev pub IsRowBy : Meaning → ℕ → Option ConflictRow → Type 0

@@ -87,7 +87,7 @@ pub fn is_flagged(still: Option<&Still<'_>>, index: usize) -> bool
 
 /// Whether a word has an address of windows.
 fn is_near(windows: &[Window], start: u64) -> bool
-    ensures { result ≡ list_any (share (spec.word_at start)) windows.now }
+    ensures { result ≡ list_any (share (spec.word_window start)) windows.now }
 {
     let place = Window::new(u128::from(start), 8);
     windows.iter().any(|window| place.shares(window))

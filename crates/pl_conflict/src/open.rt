@@ -22,7 +22,7 @@ use std::alloc::Global;
 
 /// The word that a member's file holds at the place of a relocation of it, where it is known; else 0.
 fn held_at(still: Option<&Still<'_>>, index: usize) -> u64
-    ensures { result ≡ spec.word_of (option_map (λ s. s.now) still.entry) index }
+    ensures { result ≡ spec.held_word (option_map (λ s. s.now) still.entry) index }
 {
     let Some(still) = still else {
         return 0;

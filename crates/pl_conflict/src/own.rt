@@ -58,7 +58,7 @@ fn own_word(scope: &Scope<'_>, places: &Places, reloc: &Reloc) -> Option<u64>
 }
 
 /// The own words of relocations of the first member, in their order.
-fn words_of(
+fn relocation_words(
     alloc: Global,
     scope: &Scope<'_>,
     places: &Places,
@@ -91,6 +91,6 @@ pub fn own_words(
 {
     let object = scope.object(0);
     let relocs = object.relocations.as_slice();
-    let words = words_of(alloc, scope, places, relocs)?;
+    let words = relocation_words(alloc, scope, places, relocs)?;
     Ok(words)
 }

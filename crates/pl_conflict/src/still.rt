@@ -19,7 +19,7 @@ use pl_value::{Meaning, Places, Word};
 use std::alloc::{AllocError, Global};
 
 /// Whether the file of the first member holds what a relocation of it gives.
-fn holds(alloc: Global, file: &[Loaded<'_>], meaning: &Meaning) -> Result<bool, AllocError>
+fn holds_word(alloc: Global, file: &[Loaded<'_>], meaning: &Meaning) -> Result<bool, AllocError>
     requires file { AreLoaded file.now }
     requires one { 0 < length file.now }
     requires first { meaning.now.member ≡ 0 }
@@ -50,7 +50,7 @@ fn is_held(
         (spec.IsHeld (objects own.now) places.now file.now reloc.now)) }
 {
     match meaning_of(own, places, &[], 0, reloc) {
-        Ok(meaning) => holds(alloc, file, &meaning),
+        Ok(meaning) => holds_word(alloc, file, &meaning),
         Err(_) => Ok(false),
     }
 }

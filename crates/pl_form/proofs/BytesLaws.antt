@@ -21,7 +21,7 @@ use Rattle.pl_lists.specs.Conflicts.{conflict_bytes, conflicts_bytes}
 use Rattle.pl_lists.specs.Lists.{after, are_distinct, is_row, list_bytes, list_strings, row_bytes as list_row_bytes}
 use Rattle.pl_lists.specs.declared.conflict_row.ConflictRow.{ConflictRow}
 use Rattle.pl_lists.specs.declared.list_row.ListRow.{ListRow}
-use Rattle.pl_move.specs.Moves.{all_moved, moved, moves, add8, row_moved, row_size, rows, table_window, word_at}
+use Rattle.pl_move.specs.Moves.{all_moved, moved, moves, add8, row_moved, row_size, rows, table_window, word_offset}
 use Rattle.pl_move.specs.declared.kind.RowKind.{RowKind}
 use Rattle.pl_move.specs.declared.kind.RowKind.TheVariants.{TagValue}
 use Rattle.pl_move.specs.declared.table.Table.{Table}
@@ -200,7 +200,7 @@ rows_bytes size f (suc n) xs keeps h =
 row_bytes : (more : ℕ) (kind : RowKind) (r : List ℕ) → IsBytes r → IsBytes (row_moved more kind r)
 unfolding row_moved add8
 row_bytes more kind r h = elim (cases_Bool (moves kind r)) [
-  | inl hit ↦ rw hit (is_bytes_put (word_at kind) (bytes64 (plus (word64 (word_at kind) r) more)) r (is_bytes_bytes64 (plus (word64 (word_at kind) r) more)) h)
+  | inl hit ↦ rw hit (is_bytes_put (word_offset kind) (bytes64 (plus (word64 (word_offset kind) r) more)) r (is_bytes_bytes64 (plus (word64 (word_offset kind) r) more)) h)
   | inr miss ↦ rw miss h
 ]
 

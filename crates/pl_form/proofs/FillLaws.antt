@@ -29,7 +29,7 @@ use Rattle.pl_parts.specs.Parts.{Original, joined_size, program_plan, zeros_part
 use Rattle.pl_parts.specs.declared.parts.Extension.{Extension}
 use Rattle.pl_form.specs.Faults.{IsFirm}
 use Rattle.pl_form.specs.Program.{extended, last_index, program_with, stored}
-use Rattle.pl_form.specs.Words.{AreFills, flat_of, window_of, has_place, strings_of, extension_of, digest_in}
+use Rattle.pl_form.specs.Words.{AreFills, flat_of, fill_window, has_place, strings_of, extension_of, digest_in}
 use Rattle.pl_form.specs.declared.constants.TheConstants.{STORED}
 use Rattle.pl_form.specs.declared.fault.FormFault.TheVariants.{TooLarge}
 use Rattle.pl_form.specs.declared.file.Fill.{Fill}
@@ -92,7 +92,7 @@ unfolding spot_of file_window
 spots_total ss start [] = refl
 spots_total ss start (p ∷ ps) = omega (arith, window_short p (loader ss p.at), spots_total ss start ps)
 
-flat_total : (fills : List Fill) → length (flat_of fills) ≡ total (map window_of fills)
+flat_total : (fills : List Fill) → length (flat_of fills) ≡ total (map fill_window fills)
 flat_total [] = refl
 flat_total (f ∷ fs) = length-append f.bytes (flat_of fs) ∙ omega (arith, flat_total fs)
 

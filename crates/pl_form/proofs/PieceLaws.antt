@@ -18,7 +18,7 @@ use Rattle.pl_lists.specs.declared.list_row.ListRow.{ListRow}
 use Rattle.pl_object.specs.PlaceClauses.{last_load}
 use Rattle.pl_object.specs.Relocations as relocations
 use Rattle.pl_object.specs.Relocations.{places}
-use Rattle.pl_object.specs.Tables.{link_windows, range_of}
+use Rattle.pl_object.specs.Tables.{link_windows, window_range}
 use Rattle.pl_object.specs.declared.object.Object.{Object}
 use Rattle.pl_object.specs.declared.reloc.Reloc.{Reloc}
 use Rattle.pl_parts.specs.Back.{wanted}
@@ -62,10 +62,10 @@ none_loaded test (s ∷ ss) (suc i) d none lt load = elim (cases_Bool (is_load s
   | inr miss ↦ none_loaded test ss i d (rw miss at none) (omega (arith, lt)) load
 ]
 
-none_held : (inside : Bool) (n : ℕ) (ws : List Window) → inside ≡ true → list_any (λ table. inside && has n table) (map range_of ws) ≡ false → list_any (holds n) ws ≡ false
+none_held : (inside : Bool) (n : ℕ) (ws : List Window) → inside ≡ true → list_any (λ table. inside && has n table) (map window_range ws) ≡ false → list_any (holds n) ws ≡ false
 none_held inside n [] hit none = refl
 none_held inside n (w ∷ ws) hit none =
-    let p = or_parts (inside && has n (range_of w)) (list_any (λ table. inside && has n table) (map range_of ws)) none in
+    let p = or_parts (inside && has n (window_range w)) (list_any (λ table. inside && has n table) (map window_range ws)) none in
     or_from (holds n w) (list_any (holds n) ws) (rw hit at p.0) (none_held inside n ws hit p.1)
 
 -- ---- a byte of no place
@@ -103,8 +103,8 @@ piece_away file o x given place address i k d found is lt load below at seen awa
     subst (λ (ss : List Segment). list_any (λ s. list_any (λ table. is_within (place + s.vaddr) s.filesz address && has (s.offset + (address - (place + s.vaddr))) table) x.tables) (loads ss) ≡ false) found.rows seen in
     let here : list_any (λ table. is_within (place + s.vaddr) s.filesz address && has (s.offset + (address - (place + s.vaddr))) table) x.tables ≡ false =
     none_loaded (λ s. list_any (λ table. is_within (place + s.vaddr) s.filesz address && has (s.offset + (address - (place + s.vaddr))) table) x.tables) (ss_of o) i d rows lt load in
-    let tables : list_any (λ table. is_within (place + s.vaddr) s.filesz address && has (s.offset + k) table) (map range_of (link_windows (header o) (ss_of o) (secs_of o) (tags_of o))) ≡ false =
-    subst (λ (n : ℕ). list_any (λ table. is_within (place + s.vaddr) s.filesz address && has (s.offset + n) table) (map range_of (link_windows (header o) (ss_of o) (secs_of o) (tags_of o))) ≡ false) offset
+    let tables : list_any (λ table. is_within (place + s.vaddr) s.filesz address && has (s.offset + k) table) (map window_range (link_windows (header o) (ss_of o) (secs_of o) (tags_of o))) ≡ false =
+    subst (λ (n : ℕ). list_any (λ table. is_within (place + s.vaddr) s.filesz address && has (s.offset + n) table) (map window_range (link_windows (header o) (ss_of o) (secs_of o) (tags_of o))) ≡ false) offset
     (subst (λ (ts : List Range). list_any (λ table. is_within (place + s.vaddr) s.filesz address && has (s.offset + (address - (place + s.vaddr))) table) ts ≡ false) found.linked here) in
     let places_away : list_any (holds (s.vaddr + k)) (places_of o) ≡ false =
     subst (λ (ws : List Window). list_any (holds (s.vaddr + k)) ws ≡ false) found.placed (away_from place address (s.vaddr + k) x.relocations (omega (arith, at)) away) in

@@ -2,7 +2,7 @@
 use Rattle.std.proofs.Common.{◌≡◌, ℕ, zero, suc, ◌+◌, ◌-◌, ◌<◌, ◌≤◌, List, [], ◌∷◌, ◌++◌, length, get_or, take, drop, replicate, refl, sym, ap, ◌∙◌, arith}
 use Rattle.std.proofs.lemmas.List.{length-take-le, length-drop, length-replicate, take-append-drop}
 use Rattle.pl_base.specs.Bytes.{part}
-use Rattle.pl_base.specs.Windows.{Window, within, Put, window_of, AllIn}
+use Rattle.pl_base.specs.Windows.{Window, within, Put, put_window, AllIn}
 use Rattle.pl_base.proofs.WindowLaws.{agree_within, all_in, put_all_at, AreAllApart}
 use Rattle.pl_elf.specs.Headers.{header}
 use Rattle.pl_elf.specs.declared.segment.Segment.{Segment}
@@ -40,10 +40,10 @@ standing_stands (p ∷ ps) flat front zeros size h =
 -- ---- place by place
 
 abbrev Visible : List Spot → List ℕ → List ℕ → Type 0
-Visible ps flat front = (i : ℕ) (d : Put) → i < length ps → within (window_of (get_or (visible ps flat) i d)) front ≡ (get_or (visible ps flat) i d).bytes
+Visible ps flat front = (i : ℕ) (d : Put) → i < length ps → within (put_window (get_or (visible ps flat) i d)) front ≡ (get_or (visible ps flat) i d).bytes
 
 abbrev Hidden : List Spot → List ℕ → List ℕ → Type 0
-Hidden ps flat zeros = (i : ℕ) (d : Put) → i < length ps → within (window_of (get_or (hidden ps flat) i d)) zeros ≡ (get_or (hidden ps flat) i d).bytes
+Hidden ps flat zeros = (i : ℕ) (d : Put) → i < length ps → within (put_window (get_or (hidden ps flat) i d)) zeros ≡ (get_or (hidden ps flat) i d).bytes
 
 abbrev none : Put
 none = record { at = 0; bytes = [] }
@@ -64,7 +64,7 @@ stand_by (p ∷ ps) flat front zeros size v h =
 
 -- ---- in the front part of a form
 
-visible_window : (ps : List Spot) (flat : List ℕ) (i : ℕ) (d : Put) (e : Spot) → length flat ≡ wanted ps → i < length ps → window_of (get_or (visible ps flat) i d) ≡ record { at = (get_or ps i e).at; size = (get_or ps i e).size }
+visible_window : (ps : List Spot) (flat : List ℕ) (i : ℕ) (d : Put) (e : Spot) → length flat ≡ wanted ps → i < length ps → put_window (get_or (visible ps flat) i d) ≡ record { at = (get_or ps i e).at; size = (get_or ps i e).size }
 visible_window [] flat i d e size lt = absurd (omega (arith, lt))
 visible_window (p ∷ ps) flat zero d e size lt = ap (λ (n : ℕ). record { at = p.at; size = n }) (length-take-le p.size flat (omega (arith, size)))
 visible_window (p ∷ ps) flat (suc i) d e size lt =
@@ -95,9 +95,9 @@ front_visible p o flat undo fits apart i d lt =
     let ins = all_in (length o.bytes) (spot_windows o.spots) fits.spots_in in
     let size : length (all_moved p.slot o.tables o.bytes) ≡ length o.bytes = length-all_moved p.slot o.tables o.bytes (all_in (length o.bytes) (table_windows o.tables) fits.tables_in) in
     let ws = windows_visible o.spots flat fits.fills in
-    let moved : within (window_of v) (moved_part p o flat) ≡ v.bytes =
+    let moved : within (put_window v) (moved_part p o flat) ≡ v.bytes =
     put_all_at (visible o.spots flat) (all_moved p.slot o.tables o.bytes) (rw ws apart.spots) (rw (size, ws) ins) i d (omega (arith, lt, length-visible o.spots flat)) in
-    let same : window_of v ≡ w = visible_window o.spots flat i d no_spot fits.fills lt in
+    let same : put_window v ≡ w = visible_window o.spots flat i d no_spot fits.fills lt in
     let front : within w (front_part p o flat undo) ≡ within w (moved_part p o flat) =
     agree_within w (header_window ∷ segments_window (header o.bytes) ∷ o.dynamic ∷ []) (front_part p o flat undo) (moved_part p o flat) (front_moved p o flat undo fits)
     (omega (arith, length-moved_part p o flat undo fits, spot_in (length o.bytes) o.spots i no_spot ins lt)) (apart.heads i no_spot lt) in

@@ -58,8 +58,8 @@ all_filled o (p ∷ ps) (word ∷ words) = filled o p word ++ all_filled o ps wo
 
 -- ---- the fills of a program
 
-abbrev pub window_of : Fill → Window
-window_of fill = record { at = fill.address; size = length fill.bytes }
+abbrev pub fill_window : Fill → Window
+fill_window fill = record { at = fill.address; size = length fill.bytes }
 
 abbrev pub bytes_of : Fill → List ℕ
 bytes_of fill = fill.bytes
@@ -73,7 +73,7 @@ has_place r = not (r.kind == R_X86_64_NONE)
 
 -- one for each relocation that is not NONE, in the order of the relocations, at its address and as wide as it
 abbrev pub AreFills : List Fill → List Reloc → Type 0
-AreFills fills rs = map window_of fills ≡ places (filter has_place rs)
+AreFills fills rs = map fill_window fills ≡ places (filter has_place rs)
 
 -- ---- digests
 

@@ -2,7 +2,7 @@
 use Rattle.std.specs.Prelude.{ℕ, ◌+◌, ◌*◌, ◌-◌, ◌%◌, ◌==◌, Bool, false, List, [], ◌∷◌, ◌++◌, codes, length, replicate, if◌then◌else◌}
 use Rattle.std.specs.List.{list_any}
 use Rattle.std.specs.Fmt.{decimal, digits}
-use Rattle.pl_base.specs.Digits.{line}
+use Rattle.pl_base.specs.Digits.{line_text}
 use Rattle.pl_gen.specs.declared.kind.Kind.{Kind}
 use Rattle.pl_gen.specs.declared.kind.Kind.TheVariants.{Relative, Abs64, GlobDat, JumpSlot}
 
@@ -32,25 +32,25 @@ hexadecimal number = digits 16 false number
 -- ---- lines
 
 unfoldable pub needs_line : ℕ → List ℕ
-needs_line i = line (codes "needs " ∷ library_name i ∷ [])
+needs_line i = line_text (codes "needs " ∷ library_name i ∷ [])
 
 unfoldable pub def_line : ℕ → ℕ → List ℕ
-def_line offset number = line (codes "def " ∷ function_name number ∷ codes " global func " ∷ hexadecimal offset ∷ codes " 8" ∷ [])
+def_line offset number = line_text (codes "def " ∷ function_name number ∷ codes " global func " ∷ hexadecimal offset ∷ codes " 8" ∷ [])
 
 unfoldable pub object_line : ℕ → List ℕ
-object_line i = line (codes "def " ∷ object_name i ∷ codes " global object 800 8" ∷ [])
+object_line i = line_text (codes "def " ∷ object_name i ∷ codes " global object 800 8" ∷ [])
 
 unfoldable pub ref_line : ℕ → List ℕ
-ref_line number = line (codes "ref " ∷ function_name number ∷ codes " weak func" ∷ [])
+ref_line number = line_text (codes "ref " ∷ function_name number ∷ codes " weak func" ∷ [])
 
 unfoldable pub copy_line : ℕ → List ℕ
-copy_line i = line (codes "rel copy 800 " ∷ object_name i ∷ codes " 0" ∷ [])
+copy_line i = line_text (codes "rel copy 800 " ∷ object_name i ∷ codes " 0" ∷ [])
 
 unfoldable pub relative_line : ℕ → ℕ → List ℕ
-relative_line place addend = line (codes "rel relative " ∷ hexadecimal place ∷ codes " - " ∷ hexadecimal addend ∷ [])
+relative_line place addend = line_text (codes "rel relative " ∷ hexadecimal place ∷ codes " - " ∷ hexadecimal addend ∷ [])
 
 unfoldable pub function_line : List ℕ → ℕ → ℕ → List ℕ
-function_line kind place number = line (codes "rel " ∷ kind ∷ codes " " ∷ hexadecimal place ∷ codes " " ∷ function_name number ∷ codes " 0" ∷ [])
+function_line kind place number = line_text (codes "rel " ∷ kind ∷ codes " " ∷ hexadecimal place ∷ codes " " ∷ function_name number ∷ codes " 0" ∷ [])
 
 -- ---- many lines
 

@@ -13,12 +13,12 @@ use Rattle.pl_hash.specs.declared.table.Table.{Table}
 use Rattle.pl_hash.specs.declared.jumps.Query.{Query}
 use Rattle.pl_hash.specs.Table.{bucket_count, admits, matches}
 use Rattle.pl_hash.specs.Chain.{chain, chain_from, following, head, is_linked, well_formed, IsWellFormed}
-use Rattle.pl_hash.specs.Candidates.{matching, candidates, is_candidate}
+use Rattle.pl_hash.specs.ChainSymbols.{matching, chain_symbols, is_chain_symbol}
 use Rattle.pl_hash.specs.Lengths.{EndsAfter, IsKnown, AreLengths, HasLengths}
 use Rattle.pl_hash.specs.Jumps.{next, reach, jump, AreJumps, advanced, is_at, is_own}
 use Rattle.pl_hash.specs.Queries.{nowhere, query_at, place_at, IsQuery, AreQueries, AreAnswered, all_done}
 use Rattle.pl_hash.proofs.ChainLaws.{chain_from-none}
-use Rattle.pl_hash.proofs.CandidateLaws.{has, opens, follows, chain_value, IsLinked-from}
+use Rattle.pl_hash.proofs.ChainSymbolLaws.{has, opens, follows, chain_value, IsLinked-from}
 use Rattle.pl_hash.proofs.WholeLaws.{IsWellFormed-from}
 use Rattle.pl_hash.proofs.LengthLaws.{ends_length, ends_next}
 
@@ -61,9 +61,9 @@ has_if : (a : Bool) (i : ℕ) (xs : List ℕ) → has i (cond a xs []) ≡ cond 
 has_if true i xs = refl
 has_if false i xs = refl
 
-candidate_is : (t : Table) (hash i : ℕ) → (has i (chain_of t (head t (hash % bucket_count t))) && ((true && matches t hash i) && admits t hash)) ≡ is_candidate t hash i
-unfolding candidates matching
-candidate_is t hash i =
+chain_symbol_is : (t : Table) (hash i : ℕ) → (has i (chain_of t (head t (hash % bucket_count t))) && ((true && matches t hash i) && admits t hash)) ≡ is_chain_symbol t hash i
+unfolding chain_symbols matching
+chain_symbol_is t hash i =
     let xs = chain_of t (head t (hash % bucket_count t)) in
     own_is (has i xs) (matches t hash i) (admits t hash)
     ∙ ap (λ (b : Bool). cond (admits t hash) b false) (sym (has_passing (matches t hash) i xs))
@@ -304,21 +304,21 @@ linked_in t start i ends there =
     (follows t t.symbols start v.0 i (omega arith) v.1 (rw v.1 at there)).0
 
 own_by : (t : Table) (hash i : ℕ) (at : Option ℕ) → IsWellFormed t → IsSome (chain t (head t (hash % bucket_count t))) → is_at i at ≡ has i (chain_of t (head t (hash % bucket_count t)))
-    → is_own t hash i at ≡ is_candidate t hash i
-own_by t hash i None formed ends is = ap (λ (b : Bool). b && ((true && matches t hash i) && admits t hash)) is ∙ candidate_is t hash i
+    → is_own t hash i at ≡ is_chain_symbol t hash i
+own_by t hash i None formed ends is = ap (λ (b : Bool). b && ((true && matches t hash i) && admits t hash)) is ∙ chain_symbol_is t hash i
 own_by t hash i (Some x) formed ends is = elim (eqb_tells x i) [
   | inl e ↦
       let there : has i (chain_of t (head t (hash % bucket_count t))) ≡ true = sym is ∙ e.0 in
       let link : is_linked t i ≡ true = linked_in t (head t (hash % bucket_count t)) i ends there in
-      rw (e.0, e.1, link) (ap (λ (b : Bool). b && ((true && matches t hash i) && admits t hash)) (sym there) ∙ candidate_is t hash i)
+      rw (e.0, e.1, link) (ap (λ (b : Bool). b && ((true && matches t hash i) && admits t hash)) (sym there) ∙ chain_symbol_is t hash i)
   | inr e ↦
       let out : has i (chain_of t (head t (hash % bucket_count t))) ≡ false = sym is ∙ e.0 in
-      rw e.0 (ap (λ (b : Bool). b && ((true && matches t hash i) && admits t hash)) (sym out) ∙ candidate_is t hash i)
+      rw e.0 (ap (λ (b : Bool). b && ((true && matches t hash i) && admits t hash)) (sym out) ∙ chain_symbol_is t hash i)
 ]
 
--- the answers of the queries are the candidates
+-- the answers of the queries are the symbols to which hashes lead
 pub own_answers : (t : Table) (hashes : List ℕ) (first qs : List Query) (i : ℕ) → IsWellFormed t → AreQueries t hashes (length hashes) first → AreAnswered t first qs → i < length hashes
-    → is_own t (slice_index hashes i) i (place_at qs i) ≡ is_candidate t (slice_index hashes i) i
+    → is_own t (slice_index hashes i) i (place_at qs i) ≡ is_chain_symbol t (slice_index hashes i) i
 own_answers t hashes first qs i formed asked answered lt =
     let hash : ℕ = slice_index hashes i in
     let k : ℕ = hash % bucket_count t in

@@ -10,7 +10,7 @@ use Rattle.pl_hash.specs.Table.{bucket_count}
 use Rattle.pl_hash.specs.Chain.{chain, chain_from, chains_end, following, head, is_linked}
 use Rattle.pl_hash.specs.Lengths.{EndsAfter, sum_of, IsLength, IsKnown, AreLengths}
 use Rattle.pl_hash.proofs.ChainLaws.{chain_from-none, chain_from-zero, chain_from-linked, is_some-with_first}
-use Rattle.pl_hash.proofs.CandidateLaws.{IsLinked-from}
+use Rattle.pl_hash.proofs.ChainSymbolLaws.{IsLinked-from}
 
 -- ---- one symbol of a chain
 

@@ -1,5 +1,5 @@
 pub mod ChainLaws
 pub mod WholeLaws
-pub mod CandidateLaws
+pub mod ChainSymbolLaws
 pub mod LengthLaws
 pub mod JumpLaws

@@ -1,9 +1,9 @@
-// Which symbols are candidates of their own hashes. How far each lies behind the head of its bucket's chain is told by the lengths of the chains; where so many steps lead from the head is found for all at once, by jumps of 1, 2, 4 and so on steps.
+// Which symbols their own hashes lead to. How far each lies behind the head of its bucket's chain is told by the lengths of the chains; where so many steps lead from the head is found for all at once, by jumps of 1, 2, 4 and so on steps.
 ghost use Rattle.std.specs.Prelude.{◌≡◌, ◌<◌, ◌%◌, ◌^◌, ℕ, map, length, slice_index, slice_index_or, false, None, IfOk, OnOk};
 ghost use Rattle.std.specs.List.{range_with_len};
 ghost use Rattle.pl_hash.specs.Table.{HasHeader, bucket_count};
 ghost use Rattle.pl_hash.specs.Chain.{IsWellFormed};
-ghost use Rattle.pl_hash.specs.Candidates.{is_candidate};
+ghost use Rattle.pl_hash.specs.ChainSymbols.{is_chain_symbol};
 ghost use Rattle.pl_hash.specs.Lengths.{HasLengths};
 ghost use Rattle.pl_hash.specs.Jumps as spec;
 ghost use Rattle.pl_hash.specs.Queries as asked;
@@ -203,12 +203,13 @@ fn all_lengths(alloc: Global, table: &Table) -> Result<Vec<u32>, AllocError>
     Ok(lengths)
 }
 
-/// For each of so many symbols, by their hashes, whether it is one of a table's candidates of its own hash, that is, whether `first`, or a `next` after it, gives it for that hash (System V gABI chapter 5, "Hash Table"; GNU hash table). The time grows as the counts of symbols and of buckets, times the logarithm of the longest chain, also where chains share their ends. It fails only for want of memory.
+/// For each of so many symbols, by their hashes, whether its own hash leads to it, that is, whether `first`, or a `next` after it, gives it for that hash (System V gABI chapter 5, "Hash Table"; GNU hash table). The time grows as the counts of symbols and of buckets, times the logarithm of the longest chain, also where chains share their ends. It fails only for want of memory.
 pub fn found(alloc: Global, table: &Table, hashes: &[u32]) -> Result<Vec<bool>, AllocError>
     requires { IsWellFormed table.now }
     ensures len { IfOk result (λ v. length v.items ≡ length hashes.now) }
     ensures exact { IfOk result (λ v. (index : ℕ) → index < length hashes.now
-        → slice_index_or v.items index false ≡ is_candidate table.now (slice_index hashes.now index)
+        → slice_index_or v.items index false ≡ is_chain_symbol table.now
+        (slice_index hashes.now index)
         index) }
 {
     let lengths = all_lengths(alloc, table)?;

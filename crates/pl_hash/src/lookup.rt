@@ -3,7 +3,7 @@ ghost use Rattle.std.specs.Prelude.{◌≡◌, ℕ, ◌<◌, nat_eq, slice_get, 
 ghost use Rattle.std.specs.List.{IsDistinct};
 ghost use Rattle.pl_hash.specs.Table as part;
 ghost use Rattle.pl_hash.specs.Chain.{IsLinked, IsWellFormed, chain};
-ghost use Rattle.pl_hash.specs.Candidates as spec;
+ghost use Rattle.pl_hash.specs.ChainSymbols as spec;
 
 use crate::chain::{following, head};
 use crate::hash::{gnu_hash, sysv_hash};
@@ -67,21 +67,21 @@ fn first_matching(table: &Table, hash: u32, start: Option<u32>) -> Option<u32>
     None
 }
 
-/// The first symbol that a hash leads to: the first of the table's candidates of that hash (System V gABI chapter 5, "Hash Table"; GNU hash table). `None` exactly where there is none: the bloom word refuses the hash, its bucket is empty or, in a GNU table, no link has the upper 31 bits of the hash.
+/// The first symbol that a hash leads to: the first symbol of its chain that may have it (System V gABI chapter 5, "Hash Table"; GNU hash table). `None` exactly where there is none: the bloom word refuses the hash, its bucket is empty or, in a GNU table, no link has the upper 31 bits of the hash.
 ///
-/// The candidates are distinct and below the count of symbols. No memory is taken, and no more steps than the chain has symbols.
-#[tactic(auto, unfolding(crate::specs::Candidates::candidates))]
+/// The symbols are distinct and below the count of symbols. No memory is taken, and no more steps than the chain has symbols.
+#[tactic(auto, unfolding(crate::specs::ChainSymbols::chain_symbols))]
 pub fn first(table: &Table, hash: u32) -> Option<u32>
     requires { IsWellFormed table.now }
-    ensures value { result ≡ slice_get (spec.candidates table.now hash) 0 }
-    ensures rest { spec.rest_from result (spec.candidates table.now hash)
-        ≡ spec.candidates table.now hash }
-    ensures given { IfSome result (λ index. IsTrue (spec.is_candidate table.now hash index)) }
+    ensures value { result ≡ slice_get (spec.chain_symbols table.now hash) 0 }
+    ensures rest { spec.rest_from result (spec.chain_symbols table.now hash)
+        ≡ spec.chain_symbols table.now hash }
+    ensures given { IfSome result (λ index. IsTrue (spec.is_chain_symbol table.now hash index)) }
 
-    // Each candidate is a symbol, and is listed once.
-    ensures within { (index : ℕ) → IsTrue (spec.is_candidate table.now hash index)
+    // Each index is one of a symbol, and is listed once.
+    ensures within { (index : ℕ) → IsTrue (spec.is_chain_symbol table.now hash index)
         → index < table.now.symbols }
-    ensures once { IsDistinct nat_eq (spec.candidates table.now hash) }
+    ensures once { IsDistinct nat_eq (spec.chain_symbols table.now hash) }
 {
     if !admits(table, hash) {
         return None;
@@ -89,16 +89,17 @@ pub fn first(table: &Table, hash: u32) -> Option<u32>
     first_matching(table, hash, head(table, hash % bucket_count(table)))
 }
 
-/// The symbol after one that `first` or `next` gave for this table and hash: the next of the table's candidates of that hash, in the order of their chain (System V gABI chapter 5, "Hash Table"; GNU hash table). `None` exactly after the last.
+/// The symbol after one that `first` or `next` gave for this table and hash: the next symbol of its chain that may have it (System V gABI chapter 5, "Hash Table"; GNU hash table). `None` exactly after the last.
 ///
-/// A candidate may have another name: its name, and its version, are the caller's to compare. No memory is taken, and no more steps than the chain has symbols left.
+/// The symbol may have another name: its name, and its version, are the caller's to compare. No memory is taken, and no more steps than the chain has symbols left.
 pub fn next(table: &Table, hash: u32, index: u32) -> Option<u32>
     requires formed { IsWellFormed table.now }
-    requires given { IsTrue (spec.is_candidate table.now hash index) }
-    ensures value { result ≡ slice_get (spec.rest_after index (spec.candidates table.now hash)) 0 }
-    ensures rest { spec.rest_from result (spec.candidates table.now hash)
-        ≡ spec.rest_after index (spec.candidates table.now hash) }
-    ensures given { IfSome result (λ index. IsTrue (spec.is_candidate table.now hash index)) }
+    requires given { IsTrue (spec.is_chain_symbol table.now hash index) }
+    ensures value { result ≡ slice_get (spec.rest_after index (spec.chain_symbols table.now hash))
+        0 }
+    ensures rest { spec.rest_from result (spec.chain_symbols table.now hash)
+        ≡ spec.rest_after index (spec.chain_symbols table.now hash) }
+    ensures given { IfSome result (λ index. IsTrue (spec.is_chain_symbol table.now hash index)) }
 {
     first_matching(table, hash, following(table, index))
 }

@@ -6,7 +6,7 @@ use Rattle.std.proofs.lemmas.Bool.{cases_lt}
 use Rattle.std.proofs.lemmas.Bool.Decides.{nat_tests}
 use Rattle.std.proofs.lemmas.List.{get_or-drop}
 use Rattle.pl_base.specs.Bytes.{word64}
-use Rattle.pl_base.specs.Memory.{Piece, Fill, lies, byte_at, covers, byte_of}
+use Rattle.pl_base.specs.Memory.{Piece, Fill, lies, byte_at, covers, fill_byte}
 use Rattle.pl_elf.specs.declared.range.Range.{Range}
 use Rattle.pl_elf.specs.Ranges.{has}
 use Rattle.pl_image.specs.declared.touched.Touch.{Touch}
@@ -37,7 +37,7 @@ plain i ps p ts n own touching none seen found low high = sym (word_by (own_memo
 
 -- the last of the patches that touch a word decides a byte that it has
 fold_last : (patches : List Fill) (ts : List Touch) (a found j : ℕ) (d : Touch) → length ts ≡ suc j → (get_or ts j d).number ≡ a / 8
-    → covers a (patch_of patches (get_or ts j d).patch) ≡ true → fold (laid_by patches a) found ts ≡ byte_of a (patch_of patches (get_or ts j d).patch)
+    → covers a (patch_of patches (get_or ts j d).patch) ≡ true → fold (laid_by patches a) found ts ≡ fill_byte a (patch_of patches (get_or ts j d).patch)
 fold_last patches [] a found j d size word hit = absurd (omega (arith, size))
 fold_last patches (x ∷ []) a found zero d size word hit =
     let here : (x.number == a / 8) ≡ true = grind (arith, nat_tests) in
@@ -55,10 +55,10 @@ patched i ps p ts n d f own touching some number is seen found low high from to 
     let shown : any_masked i.objects (8 * n + k) ≡ false = seen (8 * n + k) (omega arith) (omega (arith, lt)) in
     let word : (8 * n + k) / 8 ≡ n = omega (arith, lt) in
     let covered : covers (8 * n + k) f ≡ true = grind (arith, nat_tests) in
-    let byte : fold (laid (8 * n + k)) (byte_at (8 * n + k) p) i.patches ≡ byte_of (8 * n + k) f =
+    let byte : fold (laid (8 * n + k)) (byte_at (8 * n + k) p) i.patches ≡ fill_byte (8 * n + k) f =
     sym (touching.whole (8 * n + k) (byte_at (8 * n + k) p) word)
     ∙ fold_last i.patches ts (8 * n + k) (byte_at (8 * n + k) p) (length ts - 1) d (omega (arith, some)) (number ∙ sym word) (ap (covers (8 * n + k)) (sym is) ∙ covered)
-    ∙ ap (byte_of (8 * n + k)) (sym is) in
+    ∙ ap (fill_byte (8 * n + k)) (sym is) in
     let index : 8 * n + k - f.start ≡ 8 * n - f.start + k = omega (arith, from) in
     own_found i ps own (8 * n + k) p one ∙ rw shown (byte ∙ ap (slice_index f.bytes) index ∙ sym (get_or-drop (8 * n - f.start) f.bytes k 0))))
 

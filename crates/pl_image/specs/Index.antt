@@ -2,7 +2,7 @@
 use Rattle.std.specs.Prelude.{◌≡◌, ℕ, ◌+◌, ◌/◌, ◌<◌, max, take, Bool, true, ◌&&◌, ◌==◌, nat_le, nat_lt, List, [], ◌∷◌, length, fold, slice_index_or, if◌then◌else◌}
 use Rattle.std.specs.List.{list_any, All}
 use Rattle.std.specs.List.Sorted.{IsNonDecreasingBy}
-use Rattle.pl_base.specs.Memory.{Fill, covers, byte_of}
+use Rattle.pl_base.specs.Memory.{Fill, covers, fill_byte}
 use Rattle.pl_elf.specs.declared.range.Range.{Range}
 use Rattle.pl_image.specs.declared.loaded.Loaded.{Loaded}
 use Rattle.pl_image.specs.declared.touched.Touch.{Touch}
@@ -13,7 +13,7 @@ use Rattle.pl_elf.specs.Ranges.{has}
 
 -- the byte at an address with a patch over it
 abbrev pub laid : ℕ → ℕ → Fill → ℕ
-laid address found fill = if covers address fill then byte_of address fill else found
+laid address found fill = if covers address fill then fill_byte address fill else found
 
 -- the patch of an index; one that covers nothing where there is none
 abbrev pub patch_of : List Fill → ℕ → Fill
@@ -83,7 +83,7 @@ merged end (range ∷ ranges) =
 -- ---- an image
 
 -- objects and patches, with the words that the patches touch and the masked addresses
-pub record IsImage (objects : List Loaded) (patches : List Fill) (touched : List Touch) (masked : List Range) : Type 0 where
+pub record IsIndexedImage (objects : List Loaded) (patches : List Fill) (touched : List Touch) (masked : List Range) : Type 0 where
   pub loaded : AreLoaded objects
   pub index : IsIndex patches touched
   pub rising : rises 0 masked ≡ true

@@ -5,7 +5,7 @@ use Rattle.std.specs.Option.{unwrap_or}
 use Rattle.std.specs.Result.{is_err}
 use Rattle.pl_base.specs.Bytes.{word64}
 use Rattle.pl_base.specs.Counts.{Counted}
-use Rattle.pl_base.specs.Digits.{hex16, line}
+use Rattle.pl_base.specs.Digits.{hex16, line_text}
 use Rattle.pl_base.specs.Memory.{Memory, read}
 use Rattle.pl_base.specs.Streams.{got_after, GotPrefix}
 use Rattle.pl_io.specs.Seen.{Output}
@@ -24,7 +24,7 @@ unfoldable pub word_in : Memory → ℕ → ℕ
 word_in memory address = word64 0 (read memory address 8)
 
 unfoldable pub word_text : ℕ → ℕ → List ℕ
-word_text address word = line (codes "word " ∷ hex16 address ∷ codes " " ∷ hex16 word ∷ [])
+word_text address word = line_text (codes "word " ∷ hex16 address ∷ codes " " ∷ hex16 word ∷ [])
 
 abbrev pub unless_zero : ℕ → ℕ → List ℕ
 unless_zero address word = if word == 0 then [] else word_text address word

@@ -40,13 +40,13 @@ pub struct Image<'a> {
 
 impl<'a> Model for Image<'a> {
     ghost use Rattle.pl_image.specs.Image as words;
-    ghost use Rattle.pl_image.specs.Index.{IsImage};
+    ghost use Rattle.pl_image.specs.Index.{IsIndexedImage};
 
     ghost Value = { words.Image };
 
     ghost view = { λ i. record { objects = i.objects.items; patches = i.patches.items } };
 
-    ghost invariant = { λ i. IsImage i.objects.items i.patches.items i.touched.items i.masked.items };
+    ghost invariant = { λ i. IsIndexedImage i.objects.items i.patches.items i.touched.items i.masked.items };
 }
 
 impl<'a> Image<'a> {

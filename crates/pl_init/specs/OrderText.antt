@@ -1,7 +1,7 @@
 -- The text of an order.
 use Rattle.std.specs.Prelude.{ℕ, List, [], ◌∷◌, ◌++◌, codes, length, slice_index_or}
 use Rattle.std.specs.List.{flat_map}
-use Rattle.pl_base.specs.Digits.{line}
+use Rattle.pl_base.specs.Digits.{line_text}
 use Rattle.pl_scope.specs.Walk.{Walked}
 use Rattle.pl_scope.specs.Members.{names}
 use Rattle.pl_init.specs.declared.relation.ReachRow.{ReachRow}
@@ -15,15 +15,15 @@ name_at names m = slice_index_or names m []
 
 -- a member, in its turn
 unfoldable pub init_line : List (List ℕ) → ℕ → List ℕ
-init_line names m = line (codes "init " ∷ name_at names m ∷ [])
+init_line names m = line_text (codes "init " ∷ name_at names m ∷ [])
 
 -- a row: who reaches whom, and by whom it was found
 unfoldable pub reach_line : List (List ℕ) → ReachRow → List ℕ
-reach_line names r = line (codes "reach " ∷ name_at names r.from ∷ codes " " ∷ name_at names r.to ∷ codes " via " ∷ name_at names r.via ∷ [])
+reach_line names r = line_text (codes "reach " ∷ name_at names r.from ∷ codes " " ∷ name_at names r.to ∷ codes " via " ∷ name_at names r.via ∷ [])
 
 -- the members in their order, the rows, and the end
 unfoldable pub order_text : List (List ℕ) → List ℕ → List ReachRow → List ℕ
-order_text names order rows = flat_map (init_line names) order ++ flat_map (reach_line names) rows ++ line (codes "end" ∷ [])
+order_text names order rows = flat_map (init_line names) order ++ flat_map (reach_line names) rows ++ line_text (codes "end" ∷ [])
 
 -- ---- of a walk
 

@@ -25,7 +25,7 @@ use Rattle.pl_plan.specs.Faults.{of_cone, of_plan}
 use Rattle.pl_plan.specs.Laws.{row_of, seen}
 use Rattle.pl_plan.specs.Planned as plan
 use Rattle.pl_plan.specs.Wants as wants
-use Rattle.pl_plan.specs.Wants.{candidate, cause_of, position_of, want_of, names_in}
+use Rattle.pl_plan.specs.Wants.{name_without_cause, cause_of, position_of, want_of, names_in}
 use Rattle.pl_plan.specs.declared.asked.Asked.{Asked}
 use Rattle.pl_plan.specs.declared.fault.PlanningFault.{PlanningFault}
 use Rattle.pl_plan.specs.declared.planned.Planned.{Planned}
@@ -66,20 +66,20 @@ standings_same region files known k (j ∷ ks) =
     ∙ ap (λ (rows : List Standing). spec.standing files region j.name.now ∷ rows) (standings_same region files known k ks)
 
 -- the names without a cause
-without_cause : (known ks : List Known) → filter_map candidate (map (λ k. wants.standing known k.name.now) ks) ≡ filter (cone.is_candidate known) (names ks)
+without_cause : (known ks : List Known) → filter_map name_without_cause (map (λ k. wants.standing known k.name.now) ks) ≡ filter (cone.is_candidate known) (names ks)
 without_cause known [] = refl
 without_cause known (k ∷ ks) = of_result (without_cause known ks) (prelinkable known k.name.now) refl
   where
-    of_result : filter_map candidate (map (λ j. wants.standing known j.name.now) ks) ≡ filter (cone.is_candidate known) (names ks) → (r : Result (Unit {0}) Skip) → prelinkable known k.name.now ≡ r
-        → filter_map candidate (map (λ j. wants.standing known j.name.now) (k ∷ ks)) ≡ filter (cone.is_candidate known) (names (k ∷ ks))
+    of_result : filter_map name_without_cause (map (λ j. wants.standing known j.name.now) ks) ≡ filter (cone.is_candidate known) (names ks) → (r : Result (Unit {0}) Skip) → prelinkable known k.name.now ≡ r
+        → filter_map name_without_cause (map (λ j. wants.standing known j.name.now) (k ∷ ks)) ≡ filter (cone.is_candidate known) (names (k ∷ ks))
     of_result rest (Ok u) is = rw is (ap (λ (ns : List (List ℕ)). k.name.now ∷ ns) rest)
     of_result rest (Err e) is = rw is rest
 
 candidate_same : (region : Range) (files : Files) (known : List Known) → Knows region files known → (n : List ℕ) → cone.is_candidate known n ≡ spec.is_candidate files region n
 candidate_same region files known k n = sym (candidates_agree (format skip_causes) (fit_in region) files known k.tells n)
 
-candidates_same : (region : Range) (files : Files) (known : List Known) → Knows region files known → wants.candidates (wants.standings known) ≡ spec.candidates files region (names known)
-unfolding wants.candidates wants.standings
+candidates_same : (region : Range) (files : Files) (known : List Known) → Knows region files known → wants.names_without_cause (wants.standings known) ≡ spec.candidates files region (names known)
+unfolding wants.names_without_cause wants.standings
 candidates_same region files known k =
     without_cause known known ∙ filter_agree (cone.is_candidate known) (spec.is_candidate files region) (candidate_same region files known k) (names known)
 
@@ -104,7 +104,7 @@ walks_same : (region : Range) (files : Files) (known : List Known) → Knows reg
 unfolding wants.walks
 walks_same region files known k ws ns = map_same (wants.positions known ws) (λ (n : List ℕ). filter_map (position_of ws) (members (format skip_causes) files n)) (positions_same region files known k ws) ns
 
-slots_same : (a : Asked) (files : Files) (known : List Known) → Knows a.region files known → plan.slots_by known a (wants.candidates (wants.standings known)) ≡ spec.slots files (names known) a
+slots_same : (a : Asked) (files : Files) (known : List Known) → Knows a.region files known → plan.slots_by known a (wants.names_without_cause (wants.standings known)) ≡ spec.slots files (names known) a
 unfolding plan.slots spec.slots_of
 slots_same a files known k =
     let ns : List (List ℕ) = spec.candidates files a.region (names known) in

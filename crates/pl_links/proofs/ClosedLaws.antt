@@ -20,11 +20,11 @@ use Rattle.pl_value.specs.Tls.{is_tls_kind}
 use Rattle.pl_value.specs.Values.{reference, value_of}
 use Rattle.pl_value.specs.declared.word.Word.{Word}
 use Rattle.pl_value.specs.declared.word.Word.TheVariants.{Put, Nothing}
-use Rattle.pl_links.specs.Closed.{is_of_address, is_without_symbol, IsClosedBy, IsOwn, IsClosed, FlagsAreLaws}
+use Rattle.pl_links.specs.Closed.{is_of_address, is_without_symbol, IsClosedBy, IsOwn, GivesOneWord, FlagsAreLaws}
 use Rattle.pl_links.specs.Folder.{IsMember}
-use Rattle.pl_links.specs.Settled.{IsSettledBy, FindsNamed, IsSettled}
+use Rattle.pl_links.specs.OneSymbol.{FindsOneSymbolBy, FindsNamed, FindsOneSymbol}
 use Rattle.pl_links.proofs.FolderLaws.{object_at, member_of, member_has, same_member, and_then_some}
-use Rattle.pl_links.proofs.SettledLaws.{settled}
+use Rattle.pl_links.proofs.OneSymbolLaws.{settled}
 
 -- ---- kinds
 
@@ -107,7 +107,7 @@ target_is os places m r k i o s at file some found there own plain placed =
 -- ---- the whole
 
 module _ (folder : List ℕ → Option Object) (definers : List ℕ) (n : List ℕ) (own : Walked) (r : Reloc) (is : IsOwn folder definers n own) where
-  without : is_without_symbol r.kind ≡ true → IsClosed folder n own r
+  without : is_without_symbol r.kind ≡ true → GivesOneWord folder n own r
   unfolding is_without_symbol
   without kind = elim (or_cases (r.kind == R_X86_64_RELATIVE) (r.kind == R_X86_64_NONE) kind) [
     | inl a ↦ λ at. (
@@ -118,16 +118,16 @@ module _ (folder : List ℕ → Option Object) (definers : List ℕ) (n : List �
     | inr b ↦ λ at. (Nothing, λ walked m places modules st. nothing (objects walked) places modules m r b)
   ]
 
-  at_zero : is_of_address r.kind ≡ true → (r.symbol == 0) ≡ true → IsClosed folder n own r
+  at_zero : is_of_address r.kind ≡ true → (r.symbol == 0) ≡ true → GivesOneWord folder n own r
   at_zero kind zero = λ at. (word_for r 0, λ walked m places modules st. of_address (objects walked) places modules m r 0 kind (no_symbol (objects walked) places m r zero))
 
-  by_symbol : is_of_address r.kind ≡ true → (r.symbol == 0) ≡ false → IsSettledBy definers (objects own) (reference 0 r) → IsClosed folder n own r
+  by_symbol : is_of_address r.kind ≡ true → (r.symbol == 0) ≡ false → FindsOneSymbolBy definers (objects own) (reference 0 r) → GivesOneWord folder n own r
   by_symbol kind some known = λ at.
       let o = and_then_some (λ (p : Object). slice_get p.symbols known.found.symbol) (slice_get (objects own) known.found.member) known.symbol known.is in
       let named = member_of own known.found.member o.0 o.1 in
       let file : List ℕ = named.0 in
       let member : IsMember own known.found.member file = record { object = o.0; at = named.1 } in
-      let all : IsSettled folder n r.symbol r.kind file known.found.symbol = settled folder definers n own r.symbol r.kind known file is.hashes is.made is.first (no_copy r.kind kind) member in (
+      let all : FindsOneSymbol folder n r.symbol r.kind file known.found.symbol = settled folder definers n own r.symbol r.kind known file is.hashes is.made is.first (no_copy r.kind kind) member in (
         word_for r (address_by at file known.symbol),
         λ walked m places modules st.
             let f : FindsNamed walked m r.symbol r.kind file known.found.symbol = all walked m st.made st.named (st.within file (member_has own known.found.member file member)) in
@@ -137,7 +137,7 @@ module _ (folder : List ℕ → Option Object) (definers : List ℕ) (n : List �
             (object_at walked f.member file f.named.object f.named.at ∙ ap (λ (p : Object). Some p) same) o.2 known.plain (st.placed f.member file f.named)),
       )
 
-  pub closed : IsClosedBy definers (objects own) r → IsClosed folder n own r
+  pub closed : IsClosedBy definers (objects own) r → GivesOneWord folder n own r
   closed known = elim known [
     | inl kind ↦ without kind
     | inr g ↦ elim (cases_Bool (r.symbol == 0)) [

@@ -11,7 +11,7 @@ use Rattle.pl_value.specs.Values.{reference, value_of}
 use Rattle.pl_value.specs.declared.word.Word.{Word}
 use Rattle.pl_links.specs.Definers.{HasHashes}
 use Rattle.pl_links.specs.Folder.{IsMadeOf, IsMember, IsWithin}
-use Rattle.pl_links.specs.Settled.{IsSettledBy}
+use Rattle.pl_links.specs.OneSymbol.{FindsOneSymbolBy}
 
 -- ---- by the own walk of a library
 
@@ -26,7 +26,7 @@ is_without_symbol kind = kind == R_X86_64_RELATIVE || kind == R_X86_64_NONE
 -- a relocation refers to no symbol, or it gives the address of one that is settled
 pub record GivesAddress (definers : List ℕ) (own : List Object) (r : Reloc) : Type 0 where
   pub kind : is_of_address r.kind ≡ true
-  pub symbol : ((r.symbol == 0) ≡ true) ⊎ IsSettledBy definers own (reference 0 r)
+  pub symbol : ((r.symbol == 0) ≡ true) ⊎ FindsOneSymbolBy definers own (reference 0 r)
 
 abbrev pub IsClosedBy : List ℕ → List Object → Reloc → Type 0
 IsClosedBy definers own r = (is_without_symbol r.kind ≡ true) ⊎ GivesAddress definers own r
@@ -51,10 +51,10 @@ pub record Stands (folder : List ℕ → Option Object) (n : List ℕ) (own : Wa
   pub placed : (i : ℕ) (file : List ℕ) → IsMember walked i file → base_of places i ≡ at file
 
 -- for each way to give addresses to names there is one word that a relocation gives in every such scope
-abbrev pub IsClosed : (List ℕ → Option Object) → List ℕ → Walked → Reloc → Type 0
-IsClosed folder n own r = (at : List ℕ → ℕ) → (word : Word) × ((walked : Walked) (m : ℕ) (places : List ℕ) (modules : List Module) → Stands folder n own at walked m places → value_of (objects walked) places modules m r ≡ Ok word)
+abbrev pub GivesOneWord : (List ℕ → Option Object) → List ℕ → Walked → Reloc → Type 0
+GivesOneWord folder n own r = (at : List ℕ → ℕ) → (word : Word) × ((walked : Walked) (m : ℕ) (places : List ℕ) (modules : List Module) → Stands folder n own at walked m places → value_of (objects walked) places modules m r ≡ Ok word)
 
 -- ---- laws
 
 abbrev pub FlagsAreLaws : Type 0
-FlagsAreLaws = (folder : List ℕ → Option Object) (definers : List ℕ) (n : List ℕ) (own : Walked) (r : Reloc) → IsOwn folder definers n own → IsClosedBy definers (objects own) r → IsClosed folder n own r
+FlagsAreLaws = (folder : List ℕ → Option Object) (definers : List ℕ) (n : List ℕ) (own : Walked) (r : Reloc) → IsOwn folder definers n own → IsClosedBy definers (objects own) r → GivesOneWord folder n own r

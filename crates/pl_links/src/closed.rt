@@ -6,7 +6,7 @@ ghost use Rattle.pl_elf.specs.declared.constants.TheConstants.{R_X86_64_COPY};
 ghost use Rattle.pl_scope.specs.Scope.{objects, IsSymbol};
 ghost use Rattle.pl_value.specs.Values.{relocations_in};
 ghost use Rattle.pl_links.specs.Closed as spec;
-ghost use Rattle.pl_links.specs.Settled as settled;
+ghost use Rattle.pl_links.specs.OneSymbol as one_symbol;
 
 use crate::Definers;
 use pl_base::Rows;
@@ -39,7 +39,7 @@ fn is_without_symbol(kind: u32) -> bool
 /// The symbol that was found in a scope.
 fn found_symbol<'a>(own: &Scope<'a>, found: Found) -> &'a Symbol
     requires { IsSymbol (objects own.now) found.member found.symbol }
-    ensures { settled.symbol_of (objects own.now) found ≡ Some result.now }
+    ensures { one_symbol.symbol_of (objects own.now) found ≡ Some result.now }
 {
     let object = own.object(found.member);
     &object.symbols.as_slice()[found.symbol as usize]
@@ -48,7 +48,7 @@ fn found_symbol<'a>(own: &Scope<'a>, found: Found) -> &'a Symbol
 /// Whether the name of a reference of the first member has one object at most that defines it.
 fn is_single(definers: &Definers, own: &Scope<'_>, reference: Reference) -> bool
     requires { IsSymbol (objects own.now) reference.member reference.symbol }
-    ensures { OnTrue result (settled.HasSingleName definers.now (objects own.now) reference) }
+    ensures { OnTrue result (one_symbol.HasSingleName definers.now (objects own.now) reference) }
 {
     let symbol = own_symbol(own, reference);
     !definers.may_share(symbol.name.as_slice())
@@ -57,7 +57,7 @@ fn is_single(definers: &Definers, own: &Scope<'_>, reference: Reference) -> bool
 /// Whether a reference of the first member finds a symbol with an address, the same in every scope.
 fn is_settled(definers: &Definers, own: &Scope<'_>, reference: Reference) -> bool
     requires { IsSymbol (objects own.now) reference.member reference.symbol }
-    ensures { OnTrue result (settled.IsSettledBy definers.now (objects own.now) reference) }
+    ensures { OnTrue result (one_symbol.FindsOneSymbolBy definers.now (objects own.now) reference) }
 {
     let Some(found) = find(own, reference) else {
         return false;

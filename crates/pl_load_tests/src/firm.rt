@@ -73,7 +73,7 @@ fn push_fill(
     reloc: &Reloc,
     image: Option<&Image<'_>>,
 ) -> Result<(), AllocError>
-    ensures { OnOk result (map spec.window_of fills.new.items ≡ map spec.window_of fills.old.items ++ places (filter spec.has_place (reloc.now ∷ []))) }
+    ensures { OnOk result (map spec.fill_window fills.new.items ≡ map spec.fill_window fills.old.items ++ places (filter spec.has_place (reloc.now ∷ []))) }
 {
     if reloc.kind == R_X86_64_NONE {
         return Ok(());

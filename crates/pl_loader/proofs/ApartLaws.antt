@@ -16,7 +16,7 @@ use Rattle.pl_elf.specs.declared.segment.Segment.{Segment}
 use Rattle.pl_object.specs.declared.object.Object.{Object}
 use Rattle.pl_slots.specs.Holes.{is_free}
 use Rattle.pl_elf.specs.Ranges.{has, range_from}
-use Rattle.pl_place.specs.Placing.{range_of, MissesAll, AllFree, AreApart}
+use Rattle.pl_place.specs.Placing.{want_range, MissesAll, AllFree, WantsAreApart}
 use Rattle.pl_image.specs.Image.{all_pieces}
 use Rattle.pl_image.specs.Loads.{loaded_piece, loaded_pieces, pieces_at, loaded_at, IsPlaced}
 use Rattle.pl_image.specs.declared.loaded.Loaded.{Loaded}
@@ -101,7 +101,7 @@ abbrev pub IsSpannedFile : ObjectFile → Type 0
 IsSpannedFile f = IsSpanned f.object
 
 -- a library's pieces lie in the addresses that it wants
-in_want : (f : ObjectFile) (place a : ℕ) → IsSpannedFile f → list_any (lies a) (pieces_at place f.bytes f.object) ≡ true → has a (range_of (want_of f) place) ≡ true
+in_want : (f : ObjectFile) (place a : ℕ) → IsSpannedFile f → list_any (lies a) (pieces_at place f.bytes f.object) ≡ true → has a (want_range (want_of f) place) ≡ true
 in_want f place a spanned any =
     let from : place + 0 ≤ a = lies_from place 0 a f.bytes (loads f.object.segments) spanned.are.ascend any in
     let below = lies_below place f.object.span a f.bytes (loads f.object.segments) spanned.span any in
@@ -127,7 +127,7 @@ pieces_free region busy (f ∷ fs) (place ∷ places) a all free hit =
     no_both (has a region) (is_free a busy) (free.0 a (in_want f place a (All-head IsSpannedFile f fs all) any)) hit))
     (pieces_free region busy fs places a (All-tail IsSpannedFile f fs all) free.1 hit)
 
-alone_libraries : (fs : List ObjectFile) (places : List ℕ) → All IsSpannedFile fs → AreApart (map want_of fs) places → Alone (pieces_of fs places)
+alone_libraries : (fs : List ObjectFile) (places : List ℕ) → All IsSpannedFile fs → WantsAreApart (map want_of fs) places → Alone (pieces_of fs places)
 alone_libraries [] places all apart = tt
 alone_libraries (f ∷ fs) [] all apart = tt
 alone_libraries (f ∷ fs) (place ∷ places) all apart =
@@ -136,7 +136,7 @@ alone_libraries (f ∷ fs) (place ∷ places) all apart =
     alone_append (pieces_at place f.bytes f.object) (pieces_of fs places)
     (alone_own place 0 f.bytes (loads f.object.segments) spanned.are.ascend)
     (alone_libraries fs places rest apart.1)
-    (λ a any. pieces_miss (range_of (want_of f) place) fs places a rest apart.0 (in_want f place a spanned any))
+    (λ a any. pieces_miss (want_range (want_of f) place) fs places a rest apart.0 (in_want f place a spanned any))
 
 -- the program's pieces are at the addresses that its original takes
 abbrev pub linked_at : ObjectFile → List Range
@@ -148,7 +148,7 @@ taken_is a bytes (s ∷ ss) =
     let zero : 0 + s.vaddr ≡ s.vaddr = zero-add s.vaddr in
     rw (zero, taken_is a bytes ss) refl
 
-pub alone_all : (region : Range) (program : ObjectFile) (fs : List ObjectFile) (places : List ℕ) → IsSpannedFile program → All IsSpannedFile fs → AllFree region (linked_at program) (map want_of fs) places → AreApart (map want_of fs) places
+pub alone_all : (region : Range) (program : ObjectFile) (fs : List ObjectFile) (places : List ℕ) → IsSpannedFile program → All IsSpannedFile fs → AllFree region (linked_at program) (map want_of fs) places → WantsAreApart (map want_of fs) places
     → Alone (pieces_of (program ∷ fs) (0 ∷ places))
 alone_all region program fs places spanned all free apart =
     alone_append (pieces_at 0 program.bytes program.object) (pieces_of fs places)
@@ -232,7 +232,7 @@ placed_by (f ∷ fs) (place ∷ places) at all zero d lt = record { accepted = (
 placed_by (f ∷ fs) (place ∷ places) at all (suc member) d lt = placed_by fs places at.1 (All-tail IsSpannedFile f fs all) member d (omega (arith, lt))
 
 pub are_placed : (region : Range) (program : ObjectFile) (fs : List ObjectFile) (places : List ℕ) → length fs ≡ length places → AllZip IsAt (program ∷ fs) (0 ∷ places) → IsSpannedFile program → All IsSpannedFile fs
-    → AllFree region (linked_at program) (map want_of fs) places → AreApart (map want_of fs) places → ArePlaced (0 ∷ places) (parts_of (program ∷ fs)) (objects_of (program ∷ fs))
+    → AllFree region (linked_at program) (map want_of fs) places → WantsAreApart (map want_of fs) places → ArePlaced (0 ∷ places) (parts_of (program ∷ fs)) (objects_of (program ∷ fs))
 are_placed region program fs places size at spanned all free apart =
     let same : loaded (0 ∷ places) (parts_of (program ∷ fs)) (objects_of (program ∷ fs)) ≡ loaded_each (program ∷ fs) (0 ∷ places) = loaded_all (program ∷ fs) (0 ∷ places) (omega (arith, size)) in
     record {

@@ -10,7 +10,7 @@ use Rattle.pl_elf.specs.declared.range.Range.{Range}
 use Rattle.pl_elf.specs.Ranges.{has}
 use Rattle.pl_elf.specs.Kinds.{is_library}
 use Rattle.pl_form.specs.Marks.{IsLibraryMark, IsProgramMark}
-use Rattle.pl_place.specs.Placing.{range_of, AllFree, AreApart, MissesAll, IsWant}
+use Rattle.pl_place.specs.Placing.{want_range, AllFree, WantsAreApart, MissesAll, IsWant}
 use Rattle.pl_slots.specs.Holes.{is_free}
 use Rattle.pl_slots.specs.declared.slot.Want.{Want}
 use Rattle.pl_loader.specs.Loading.{IsRead, IsLibrary, IsForm, IsFormIfMarked, made_of}
@@ -156,7 +156,7 @@ misses_free r taken [] places free = tt
 misses_free r taken (want ∷ wants) [] free = tt
 misses_free r taken (want ∷ wants) (place ∷ places) free = (
   λ a here.
-      false_from_ne_true (has a (range_of want place)) (λ there.
+      false_from_ne_true (has a (want_range want place)) (λ there.
       let parts = and_parts (has a everywhere) (not (is_free a (taken ++ r ∷ []))) (free.0 a there) in
       let none = free_left a taken (r ∷ []) (not-true _ parts.1) in
       false≢true (sym (or_parts (has a r) false none.1).0 ∙ here)),
@@ -174,7 +174,7 @@ misses_joined r (f ∷ fs) (Some slot ∷ owns) starts none misses = (
   misses_joined r fs owns starts (λ a here. (or_parts (has a (range_at f slot)) (is_free a (own_ranges fs owns)) (none a here)).1) misses,
 )
 
-apart_all : (taken : List Range) (fs : List ObjectFile) (owns : List (Option ℕ)) (starts : List ℕ) → AreOwn taken fs owns → AllFree region (taken ++ own_ranges fs owns) (wants_left fs owns) starts → AreApart (wants_left fs owns) starts → AreApart (map want_of fs) (joined owns starts)
+apart_all : (taken : List Range) (fs : List ObjectFile) (owns : List (Option ℕ)) (starts : List ℕ) → AreOwn taken fs owns → AllFree region (taken ++ own_ranges fs owns) (wants_left fs owns) starts → WantsAreApart (wants_left fs owns) starts → WantsAreApart (map want_of fs) (joined owns starts)
 unfolding joined wants_left own_ranges
 apart_all taken [] owns starts own free apart = tt
 apart_all taken (f ∷ fs) [] starts own free apart = absurd own

@@ -2,7 +2,7 @@
 use Rattle.std.proofs.Common.{◌≡◌, ℕ, List, [], ◌∷◌, Option, Ok, Err, refl, sym, ap, arith, length, inl, inr}
 use Rattle.pl_elf.specs.declared.range.Range.{Range}
 use Rattle.pl_place.specs.Left.{left}
-use Rattle.pl_place.specs.Placing.{InTurn, ArePlaced, IsFault, StopsAt, range_of}
+use Rattle.pl_place.specs.Placing.{InTurn, ArePlacedInTurn, IsFault, StopsAt, want_range}
 use Rattle.pl_place.specs.Policy.{Answering, Choice, Follows}
 use Rattle.pl_slots.specs.Holes.{without}
 use Rattle.pl_slots.specs.declared.slot.Want.{Want}
@@ -22,10 +22,10 @@ one_each post holes [] [] placed = refl
 one_each post holes [] (start ∷ starts) placed = absurd placed
 one_each post holes (want ∷ wants) [] placed = absurd placed
 one_each post holes (want ∷ wants) (start ∷ starts) placed =
-    let rest = one_each post (without (range_of want start) holes) wants starts placed.1 in
+    let rest = one_each post (without (want_range want start) holes) wants starts placed.1 in
     omega (arith, rest)
 
-pub places_free : (post : Answering) (busy : List Range) (wants : List Want) (starts : List ℕ) → ArePlaced post (left region busy) wants starts → IsFree region busy wants starts
+pub places_free : (post : Answering) (busy : List Range) (wants : List Want) (starts : List ℕ) → ArePlacedInTurn post (left region busy) wants starts → IsFree region busy wants starts
 places_free post busy wants starts placed = record {
   one_each = one_each post (left region busy) wants starts placed.in_turn;
   free = fit_free region busy wants starts (all_fit post (left region busy) wants starts placed);

@@ -8,7 +8,7 @@ use Rattle.pl_elf.specs.Ranges.{range_from}
 use Rattle.pl_elf.specs.declared.range.Range.{Range}
 use Rattle.pl_elf.specs.declared.segment.Segment.{Segment}
 use Rattle.pl_place.specs.Left.{left}
-use Rattle.pl_place.specs.Placing.{chosen, AllFree, AreApart, ArePlaced, StopsAt}
+use Rattle.pl_place.specs.Placing.{chosen, AllFree, WantsAreApart, ArePlacedInTurn, StopsAt}
 use Rattle.pl_place.specs.Policy.{Answering, Choice}
 use Rattle.pl_slots.specs.declared.slot.Want.{Want}
 use Rattle.pl_loader.specs.Faults.{is_memory, of_place}
@@ -146,7 +146,7 @@ places choose busy (program ∷ libraries) =
 abbrev pub IsPlaced : Answering → Option Range → List ObjectFile → List ℕ → Type 0
 IsPlaced post busy [] places = places ≡ []
 IsPlaced post busy (program ∷ libraries) places =
-    (starts : List ℕ) × ArePlaced post (holes_beside busy program libraries) (wants_beside busy program libraries) starts × (places ≡ all_places busy program libraries starts)
+    (starts : List ℕ) × ArePlacedInTurn post (holes_beside busy program libraries) (wants_beside busy program libraries) starts × (places ≡ all_places busy program libraries starts)
 
 -- or it answered that nothing fits for the library of this name, where the ones before it are placed
 abbrev pub IsUnplaced : Answering → Option Range → List ObjectFile → List ℕ → Type 0
@@ -171,4 +171,4 @@ pub record IsAt (f : ObjectFile) (place : ℕ) : Type 0 where
 pub record IsFree (within : Range) (busy : List Range) (wants : List Want) (starts : List ℕ) : Type 0 where
   pub one_each : length starts ≡ length wants
   pub free : AllFree within busy wants starts
-  pub apart : AreApart wants starts
+  pub apart : WantsAreApart wants starts

@@ -153,12 +153,12 @@ load choose busy fault file name = files fault file name >>= λ all. because fau
 -- ---- what code holds
 
 -- an image: the same memory, byte by byte, of objects that load the same addresses at these places
-pub record IsImage (image : Image) (files : List ObjectFile) (places : List ℕ) (memory : Memory) : Type 0 where
+pub record IsImageOf (image : Image) (files : List ObjectFile) (places : List ℕ) (memory : Memory) : Type 0 where
   pub bytes : (address : ℕ) → byte_of image address ≡ memory address
   pub extents : extents_of image.objects ≡ extents_of (loaded places (parts_of files) (objects_of files))
 
 abbrev pub IsLinked : Image → List ObjectFile → List ℕ → Result Memory LoadFault → Type 0
-IsLinked image files places meant = (memory : Memory) × (meant ≡ Ok memory) × IsImage image files places memory
+IsLinked image files places meant = (memory : Memory) × (meant ≡ Ok memory) × IsImageOf image files places memory
 
 -- a start as the code has it: the same memory, byte by byte
 pub record IsStart (s : code.Started) (meant : Start) : Type 0 where

@@ -3,7 +3,7 @@ ghost use Rattle.std.specs.Prelude.{◌≡◌, ◌+◌, ◌^◌, ◌<◌, ◌∷
 ghost use Rattle.std.specs.List.{All, AllZip};
 ghost use Rattle.pl_elf.specs.Headers.{loads as loads_spec};
 ghost use Rattle.pl_place.specs.Left.{left};
-ghost use Rattle.pl_place.specs.Placing.{ArePlaced as PolicyPlaced, IsWant};
+ghost use Rattle.pl_place.specs.Placing.{ArePlacedInTurn as PolicyPlaced, IsWant};
 ghost use Rattle.pl_place.specs.Policy as policy;
 ghost use Rattle.pl_value.specs.Ordinary.{ArePlaced};
 ghost use Rattle.pl_loader.specs.Loading.{AreFiles, IsRead, objects_of, parts_of};

@@ -14,7 +14,7 @@ use Rattle.pl_elf.specs.Headers.{is_moved_kind}
 use Rattle.pl_move.specs.declared.kind.RowKind.{RowKind}
 use Rattle.pl_move.specs.declared.kind.RowKind.TheVariants.{Entry, SegmentAddress, PhysicalAddress, TagValue, SymbolValue, RelocationPlace, RelativeAddend, PackedAddress}
 use Rattle.pl_move.specs.declared.table.Table.{Table}
-use Rattle.pl_move.specs.Moves.{add8, rows, row_size, word_at, has_section, moves, row_moved, table_window, table_windows, IsSlot, moved, all_moved, all_back}
+use Rattle.pl_move.specs.Moves.{add8, rows, row_size, word_offset, has_section, moves, row_moved, table_window, table_windows, IsSlot, moved, all_moved, all_back}
 
 -- ---- one word
 
@@ -83,7 +83,7 @@ pub less_even : (w : ℕ) → IsSlot w → (2 ^ 64 - w) % 2 ≡ 0
 less_even w slot = omega (arith, slot.0, slot.1)
 
 -- whether a row's word moves is not told by that word
-stays : (kind : RowKind) (w : ℕ) (r : List ℕ) → length r ≡ row_size kind → w % 2 ≡ 0 → moves kind (add8 (word_at kind) w r) ≡ moves kind r
+stays : (kind : RowKind) (w : ℕ) (r : List ℕ) → length r ≡ row_size kind → w % 2 ≡ 0 → moves kind (add8 (word_offset kind) w r) ≡ moves kind r
 stays Entry w r n even = refl
 stays SegmentAddress w r n even = ap is_moved_kind (kept32 16 w 0 r (omega (arith, n)) (omega (arith, n)) (inl (omega arith)))
 stays PhysicalAddress w r n even = ap is_moved_kind (kept32 24 w 0 r (omega (arith, n)) (omega (arith, n)) (inl (omega arith)))
@@ -93,7 +93,7 @@ stays RelocationPlace w r n even = ap (λ (k : ℕ). not (k == 0)) (kept32 0 w 8
 stays RelativeAddend w r n even = ap (λ (k : ℕ). k == 8) (kept32 16 w 8 r (omega (arith, n)) (omega (arith, n)) (inl (omega arith)))
 stays PackedAddress w r n even = ap (λ (k : ℕ). k == 0) (ap (λ (x : ℕ). x % 2) (word64_added 0 w r (omega (arith, n))) ∙ same_parity (word64 0 r) w even)
 
-in_row : (kind : RowKind) → word_at kind + 8 ≤ row_size kind
+in_row : (kind : RowKind) → word_offset kind + 8 ≤ row_size kind
 in_row Entry = omega arith
 in_row SegmentAddress = omega arith
 in_row PhysicalAddress = omega arith
@@ -109,14 +109,14 @@ has_rows kind = omega (arith, in_row kind)
 pub length-row_moved : (w : ℕ) (kind : RowKind) (r : List ℕ) → length r ≡ row_size kind → length (row_moved w kind r) ≡ row_size kind
 unfolding row_moved
 length-row_moved w kind r n = elim (cases_Bool (moves kind r)) [
-  | inl hit ↦ rw hit (length-add8 (word_at kind) w r (omega (arith, n, in_row kind)) ∙ n)
+  | inl hit ↦ rw hit (length-add8 (word_offset kind) w r (omega (arith, n, in_row kind)) ∙ n)
   | inr miss ↦ rw miss n
 ]
 
 row_back : (w : ℕ) (kind : RowKind) (r : List ℕ) → length r ≡ row_size kind → IsBytes r → IsSlot w → row_moved (2 ^ 64 - w) kind (row_moved w kind r) ≡ r
 unfolding row_moved
 row_back w kind r n h le = elim (cases_Bool (moves kind r)) [
-  | inl hit ↦ rw (hit, stays kind w r n le.1 ∙ hit) (add8_back (word_at kind) w r (omega (arith, n, in_row kind)) h le.0)
+  | inl hit ↦ rw (hit, stays kind w r n le.1 ∙ hit) (add8_back (word_offset kind) w r (omega (arith, n, in_row kind)) h le.0)
   | inr miss ↦ rw (miss, miss) refl
 ]
 
@@ -125,7 +125,7 @@ row_back w kind r n h le = elim (cases_Bool (moves kind r)) [
 row_bytes : (w : ℕ) (kind : RowKind) (r : List ℕ) → length r ≡ row_size kind → IsBytes r → IsBytes (row_moved w kind r)
 unfolding row_moved add8
 row_bytes w kind r n h = elim (cases_Bool (moves kind r)) [
-  | inl hit ↦ rw hit (is_bytes_put (word_at kind) (bytes64 (plus (word64 (word_at kind) r) w)) r (is_bytes_bytes64 (plus (word64 (word_at kind) r) w)) h)
+  | inl hit ↦ rw hit (is_bytes_put (word_offset kind) (bytes64 (plus (word64 (word_offset kind) r) w)) r (is_bytes_bytes64 (plus (word64 (word_offset kind) r) w)) h)
   | inr miss ↦ rw miss h
 ]
 

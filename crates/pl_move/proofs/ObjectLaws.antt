@@ -12,8 +12,8 @@ use Rattle.pl_elf.specs.declared.range.Range.{Range}
 use Rattle.pl_dyn.specs.declared.tags.Tag.{Tag}
 use Rattle.pl_object.specs.Accepted.{Accepted, HasHead, IsTabled}
 use Rattle.pl_object.specs.FilePart.{file_window}
-use Rattle.pl_object.specs.Named.{window_of, dynamic_of, symbols_of, rela_of, jmprel_of, packed_of, symtabs_of}
-use Rattle.pl_object.specs.Tables.{range_of, link_windows}
+use Rattle.pl_object.specs.Named.{range_window, dynamic_of, symbols_of, rela_of, jmprel_of, packed_of, symtabs_of}
+use Rattle.pl_object.specs.Tables.{window_range, link_windows}
 use Rattle.pl_object.specs.declared.object.Object.{Object}
 use Rattle.pl_object.proofs.ExtentLaws.{file_window_in}
 use Rattle.pl_move.specs.Moves.{row_size, table_window, table_windows, moved, all_moved, all_back}
@@ -39,17 +39,17 @@ pub all_in_parts : (n : ℕ) (vs ws : List Window) → AllIn n (vs ++ ws) → Al
 all_in_parts n [] ws h = (tt, h)
 all_in_parts n (v ∷ vs) ws h = let p = all_in_parts n vs ws h.1 in ((h.0, p.0), p.1)
 
-symbols_in : (n : ℕ) (rs : List Range) → AllIn n (map window_of rs) → AllIn n (table_windows (map symbol_rows rs))
+symbols_in : (n : ℕ) (rs : List Range) → AllIn n (map range_window rs) → AllIn n (table_windows (map symbol_rows rs))
 symbols_in n [] h = tt
-symbols_in n (r ∷ rs) h = (rows_in n SymbolValue (window_of r) h.0, symbols_in n rs h.1)
+symbols_in n (r ∷ rs) h = (rows_in n SymbolValue (range_window r) h.0, symbols_in n rs h.1)
 
-range_in : (n : ℕ) (w : Window) → w.at + w.size ≤ n → IsIn n (window_of (range_of w))
+range_in : (n : ℕ) (w : Window) → w.at + w.size ≤ n → IsIn n (range_window (window_range w))
 range_in n w le = omega (arith, le)
 
-ranges_in : (n k : ℕ) (ws : List Window) → All (λ (range : Range). range.end ≤ n) (map range_of ws) → AllIn n (map window_of (drop k (map range_of ws)))
+ranges_in : (n k : ℕ) (ws : List Window) → All (λ (range : Range). range.end ≤ n) (map window_range ws) → AllIn n (map range_window (drop k (map window_range ws)))
 ranges_in n zero [] all = tt
 ranges_in n (suc k) [] all = tt
-ranges_in n zero (w ∷ ws) all = (range_in n w (all 0 (range_of w) (omega arith)), ranges_in n zero ws (λ i d lt. all (suc i) d (omega (arith, lt))))
+ranges_in n zero (w ∷ ws) all = (range_in n w (all 0 (window_range w) (omega arith)), ranges_in n zero ws (λ i d lt. all (suc i) d (omega (arith, lt))))
 ranges_in n (suc k) (w ∷ ws) all = ranges_in n k ws (λ i d lt. all (suc i) d (omega (arith, lt)))
 
 entry_in : (n entry : ℕ) → 64 ≤ n → 0 + 64 * (if entry == 0 then 0 else 1) ≤ n
@@ -99,12 +99,12 @@ main_in bytes o ts head is =
       ),
     )
 
-pub symtabs_in : (bytes : List ℕ) (o : Object) (ts : List Tag) → Accepted bytes o → IsTabled bytes o ts → AllIn (length bytes) (map window_of (symtabs_of o))
+pub symtabs_in : (bytes : List ℕ) (o : Object) (ts : List Tag) → Accepted bytes o → IsTabled bytes o ts → AllIn (length bytes) (map range_window (symtabs_of o))
 unfolding symtabs_of
 symtabs_in bytes o ts is tabled =
     let ws = link_windows o.header o.segments o.sections ts in
-    let all : All (λ (range : Range). range.end ≤ length bytes) (map range_of ws) = subst (λ (rs : List Range). All (λ (range : Range). range.end ≤ length bytes) rs) tabled.shape is.tables in
-    subst (λ (rs : List Range). AllIn (length bytes) (map window_of (drop 13 rs))) (sym tabled.shape) (ranges_in (length bytes) 13 ws all)
+    let all : All (λ (range : Range). range.end ≤ length bytes) (map window_range ws) = subst (λ (rs : List Range). All (λ (range : Range). range.end ≤ length bytes) rs) tabled.shape is.tables in
+    subst (λ (rs : List Range). AllIn (length bytes) (map range_window (drop 13 rs))) (sym tabled.shape) (ranges_in (length bytes) 13 ws all)
 
 pub tables_in : TablesLieInTheFile
 unfolding tables_of
@@ -116,22 +116,22 @@ tables_in bytes o is other =
 
 -- ---- the SYMTAB sections one at a time
 
-symtab_table : (rs : List Range) (i : ℕ) (d : Range) (w : Window) (t : Table) → w ≡ window_of (get_or rs i d) → t ≡ rows_of SymbolValue w → i < length rs → t ≡ get_or (map symbol_rows rs) i t
+symtab_table : (rs : List Range) (i : ℕ) (d : Range) (w : Window) (t : Table) → w ≡ range_window (get_or rs i d) → t ≡ rows_of SymbolValue w → i < length rs → t ≡ get_or (map symbol_rows rs) i t
 symtab_table rs i d w t window told lt = told ∙ ap (rows_of SymbolValue) window ∙ sym (get_or-map symbol_rows rs i d t lt)
 
 symtab_in : (rs : List Range) (i : ℕ) → i < length rs → i < length (map symbol_rows rs)
 symtab_in rs i lt = omega (arith, lt, length-map rs symbol_rows)
 
-pub symtab_room : (n : ℕ) (rs : List Range) (i : ℕ) (d : Range) (w : Window) (t : Table) → w ≡ window_of (get_or rs i d) → t ≡ rows_of SymbolValue w → i < length rs → AllIn n (table_windows (map symbol_rows rs)) → IsIn n (table_window t)
+pub symtab_room : (n : ℕ) (rs : List Range) (i : ℕ) (d : Range) (w : Window) (t : Table) → w ≡ range_window (get_or rs i d) → t ≡ rows_of SymbolValue w → i < length rs → AllIn n (table_windows (map symbol_rows rs)) → IsIn n (table_window t)
 symtab_room n rs i d w t window told lt fits =
     subst (λ (x : Table). IsIn n (table_window x)) (sym (symtab_table rs i d w t window told lt)) (windows_at n (map symbol_rows rs) i t fits (symtab_in rs i lt))
 
-pub symtab_more : (slot : ℕ) (rs : List Range) (i : ℕ) (d : Range) (w : Window) (t : Table) (xs ys new : List ℕ) → w ≡ window_of (get_or rs i d) → t ≡ rows_of SymbolValue w → i < length rs
+pub symtab_more : (slot : ℕ) (rs : List Range) (i : ℕ) (d : Range) (w : Window) (t : Table) (xs ys new : List ℕ) → w ≡ range_window (get_or rs i d) → t ≡ rows_of SymbolValue w → i < length rs
     → ys ≡ all_moved slot (take i (map symbol_rows rs)) xs → new ≡ moved slot t ys → new ≡ all_moved slot (take (i + 1) (map symbol_rows rs)) xs
 symtab_more slot rs i d w t xs ys new window told lt is written =
     tables_more slot (map symbol_rows rs) i t xs ys new (symtab_in rs i lt) is (written ∙ ap (λ (x : Table). moved slot x ys) (symtab_table rs i d w t window told lt))
 
-pub symtab_back : (slot : ℕ) (rs : List Range) (i : ℕ) (d : Range) (w : Window) (t : Table) (xs ys new : List ℕ) → w ≡ window_of (get_or rs (i - 1) d) → t ≡ rows_of SymbolValue w → 0 < i → i ≤ length rs
+pub symtab_back : (slot : ℕ) (rs : List Range) (i : ℕ) (d : Range) (w : Window) (t : Table) (xs ys new : List ℕ) → w ≡ range_window (get_or rs (i - 1) d) → t ≡ rows_of SymbolValue w → 0 < i → i ≤ length rs
     → ys ≡ all_back slot (drop i (map symbol_rows rs)) xs → new ≡ moved (2 ^ 64 - slot) t ys → new ≡ all_back slot (drop (i - 1) (map symbol_rows rs)) xs
 symtab_back slot rs i d w t xs ys new window told some le is written =
     back_more slot (map symbol_rows rs) i t xs ys new some (omega (arith, le, length-map rs symbol_rows)) is

@@ -11,7 +11,7 @@ use Rattle.pl_base.specs.Windows.{Window, on, IsIn, AllIn}
 use Rattle.pl_base.proofs.WindowLaws.{length-put, part_behind}
 use Rattle.pl_move.specs.declared.kind.RowKind.{RowKind}
 use Rattle.pl_move.specs.declared.table.Table.{Table}
-use Rattle.pl_move.specs.Moves.{add8, rows, row_size, word_at, moves, row_moved, table_window, table_windows, moved, all_moved, all_back}
+use Rattle.pl_move.specs.Moves.{add8, rows, row_size, word_offset, moves, row_moved, table_window, table_windows, moved, all_moved, all_back}
 use Rattle.pl_move.proofs.MoveLaws.{length-rows, length-row_moved, length-moved}
 
 -- what is written through a part of a slice is put there
@@ -77,8 +77,8 @@ rows_more size s k n count f xs ys new keeps same is_size lt long is written =
 row_wrapped : (less more : ℕ) (kind : RowKind) (r : List ℕ) → less < 2 ^ 64 → (more + less) % 2 ^ 64 ≡ 0 → more < 2 ^ 64 → row_moved more kind r ≡ row_moved (2 ^ 64 - less) kind r
 unfolding row_moved add8
 row_wrapped less more kind r small sum fits =
-    let same : plus (word64 (word_at kind) r) more ≡ plus (word64 (word_at kind) r) (2 ^ 64 - less) = omega (arith, small, sum, fits) in
-    ap (λ (x : ℕ). if moves kind r then put (word_at kind) (bytes64 x) r else r) same
+    let same : plus (word64 (word_offset kind) r) more ≡ plus (word64 (word_offset kind) r) (2 ^ 64 - less) = omega (arith, small, sum, fits) in
+    ap (λ (x : ℕ). if moves kind r then put (word_offset kind) (bytes64 x) r else r) same
 
 rows_same : (size : ℕ) (f g : List ℕ → List ℕ) (n : ℕ) (xs : List ℕ) → ((r : List ℕ) → f r ≡ g r) → rows size f n xs ≡ rows size g n xs
 unfolding rows

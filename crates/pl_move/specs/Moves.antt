@@ -30,15 +30,15 @@ row_size RelocationPlace = 24
 row_size RelativeAddend = 24
 row_size PackedAddress = 8
 
-abbrev pub word_at : RowKind → ℕ
-word_at Entry = 24
-word_at SegmentAddress = 16
-word_at PhysicalAddress = 24
-word_at TagValue = 8
-word_at SymbolValue = 8
-word_at RelocationPlace = 0
-word_at RelativeAddend = 16
-word_at PackedAddress = 0
+abbrev pub word_offset : RowKind → ℕ
+word_offset Entry = 24
+word_offset SegmentAddress = 16
+word_offset PhysicalAddress = 24
+word_offset TagValue = 8
+word_offset SymbolValue = 8
+word_offset RelocationPlace = 0
+word_offset RelativeAddend = 16
+word_offset PackedAddress = 0
 
 abbrev pub has_section : ℕ → Bool
 has_section section = nat_lt 0 section && nat_lt section 0xff00
@@ -55,7 +55,7 @@ moves RelativeAddend row = word32 8 row == 8
 moves PackedAddress row = word64 0 row % 2 == 0
 
 unfoldable pub row_moved : ℕ → RowKind → List ℕ → List ℕ
-row_moved more kind row = if moves kind row then add8 (word_at kind) more row else row
+row_moved more kind row = if moves kind row then add8 (word_offset kind) more row else row
 
 abbrev pub table_window : Table → Window
 table_window t = record { at = t.at; size = row_size t.kind * t.count }

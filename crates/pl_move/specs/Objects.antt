@@ -4,7 +4,7 @@ use Rattle.pl_base.specs.Windows.{Window, AllIn}
 use Rattle.pl_elf.specs.Kinds.{is_static}
 use Rattle.pl_elf.specs.declared.range.Range.{Range}
 use Rattle.pl_object.specs.Accepted.{Accepted}
-use Rattle.pl_object.specs.Named.{window_of, dynamic_of, symbols_of, rela_of, jmprel_of, packed_of, symtabs_of}
+use Rattle.pl_object.specs.Named.{range_window, dynamic_of, symbols_of, rela_of, jmprel_of, packed_of, symtabs_of}
 use Rattle.pl_object.specs.declared.object.Object.{Object}
 use Rattle.pl_move.specs.Moves.{row_size, table_windows}
 use Rattle.pl_move.specs.declared.kind.RowKind.{RowKind}
@@ -16,7 +16,7 @@ abbrev pub rows_of : RowKind → Window → Table
 rows_of kind w = record { kind = kind; at = w.at; count = w.size / row_size kind }
 
 abbrev pub symbol_rows : Range → Table
-symbol_rows range = rows_of SymbolValue (window_of range)
+symbol_rows range = rows_of SymbolValue (range_window range)
 
 -- the header, where there is an entry, the program headers, the dynamic table, the symbols and the relocations
 unfoldable pub main_tables : Object → List Table

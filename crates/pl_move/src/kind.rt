@@ -56,8 +56,8 @@ impl RowKind {
     }
 
     /// Where the word stands in a row.
-    pub fn word_at(self) -> usize
-        ensures at { result ≡ spec.word_at self }
+    pub fn word_offset(self) -> usize
+        ensures at { result ≡ spec.word_offset self }
         ensures within { result + 8 ≤ spec.row_size self }
     {
         match self {

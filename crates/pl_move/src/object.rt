@@ -8,7 +8,7 @@ ghost use Rattle.pl_move.specs.Objects as spec;
 use crate::{RowKind, Table, move_table, move_table_back, move_tables, move_tables_back};
 use pl_elf::Range;
 use pl_object::{
-    Object, Window, dynamic_of, jmprel_of, packed_of, rela_of, symbols_of, symtabs_of, window_of,
+    Object, Window, dynamic_of, jmprel_of, packed_of, range_window, rela_of, symbols_of, symtabs_of,
 };
 
 /// The whole rows of a window.
@@ -58,7 +58,7 @@ fn move_symtabs(bytes: &mut [u8], symtabs: &[Range], slot: u64)
     ensures { bytes.new ≡ moves.all_moved slot (map spec.symbol_rows symtabs.now) bytes.old }
 {
     for range in symtabs {
-        let table = rows_of(RowKind::SymbolValue, window_of(range));
+        let table = rows_of(RowKind::SymbolValue, range_window(range));
         move_table(bytes, &table, slot);
     }
 }
@@ -68,7 +68,7 @@ fn move_symtabs_back(bytes: &mut [u8], symtabs: &[Range], slot: u64)
     ensures { bytes.new ≡ moves.all_back slot (map spec.symbol_rows symtabs.now) bytes.old }
 {
     for index in (0..symtabs.len()).rev() {
-        let table = rows_of(RowKind::SymbolValue, window_of(&symtabs[index]));
+        let table = rows_of(RowKind::SymbolValue, range_window(&symtabs[index]));
         move_table_back(bytes, &table, slot);
     }
 }

@@ -11,7 +11,7 @@ fn move_row(row: &mut [u8], kind: RowKind, more: u64)
     ensures { row.new ≡ spec.row_moved more kind row.old }
 {
     if kind.moves(row) {
-        let at = kind.word_at();
+        let at = kind.word_offset();
         put64(row, at, word64(row, at).wrapping_add(more));
     }
 }

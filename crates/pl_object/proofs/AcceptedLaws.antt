@@ -32,7 +32,7 @@ use Rattle.pl_hash.specs.declared.table.Table.{Table}
 use Rattle.pl_hash.proofs.WholeLaws.{IsWellFormed-from}
 use Rattle.pl_ver.specs.declared.versions.Versions.{Versions}
 use Rattle.pl_object.specs.FilePart.{file_window, in_file_part, loaded}
-use Rattle.pl_object.specs.Tables.{has_tag, dynamic_memory, symbols_memory, rela_memory, jmprel_memory, section_memory, sections_window, range_of, static_windows}
+use Rattle.pl_object.specs.Tables.{has_tag, dynamic_memory, symbols_memory, rela_memory, jmprel_memory, section_memory, sections_window, window_range, static_windows}
 use Rattle.pl_object.specs.Names.{strings, needed, symbols, versions, versioned}
 use Rattle.pl_object.specs.SymbolClauses.{has_ifunc, check_symbols, base_not_zero, hash_table, hash_tables, defines, misses_one, is_incomplete, hash_incomplete, duplicate_definer}
 use Rattle.pl_object.specs.TableClauses.{check_tables}
@@ -130,7 +130,7 @@ packed_most symbols rela jmprel bytes ss addresses =
 
 -- ---- link tables
 
-ranges_in : (size : ℕ) (ws : List Window) → list_all (is_in size) ws ≡ true → (i : ℕ) (d : Range) → i < length (map range_of ws) → (get_or (map range_of ws) i d).end ≤ size
+ranges_in : (size : ℕ) (ws : List Window) → list_all (is_in size) ws ≡ true → (i : ℕ) (d : Range) → i < length (map window_range ws) → (get_or (map window_range ws) i d).end ≤ size
 ranges_in size [] all i d lt = absurd (omega (arith, lt))
 ranges_in size (w ∷ ws) all zero d lt = leb-true (end_of w) size (and_parts (is_in size w) (list_all (is_in size) ws) all).0
 ranges_in size (w ∷ ws) all (suc i) d lt = ranges_in size ws (and_parts (is_in size w) (list_all (is_in size) ws) all).1 i d (omega (arith, lt))

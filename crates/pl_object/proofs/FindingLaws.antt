@@ -5,7 +5,7 @@ use Rattle.std.specs.List.{list_any, range_with_len}
 use Rattle.std.proofs.lemmas.List.{length-map}
 use Rattle.pl_sym.specs.declared.symbol.Symbol.{Symbol}
 use Rattle.pl_hash.specs.declared.table.Table.{Table}
-use Rattle.pl_hash.specs.Candidates.{name_hash, is_candidate}
+use Rattle.pl_hash.specs.ChainSymbols.{name_hash, is_chain_symbol}
 use Rattle.pl_object.specs.SymbolClauses.{defines, is_missed, misses_one}
 use Rattle.pl_object.specs.Finding.{is_unfound}
 
@@ -20,7 +20,7 @@ at_map f (x ∷ xs) zero s e = cc
 at_map f (x ∷ xs) (suc i) s e = at_map f xs i s e
 
 pub misses_is : (table : Table) (symbols : List Symbol) (hashes : List ℕ) (found : List Bool) → hashes ≡ map (λ s. name_hash table s.name) symbols
-    → ((i : ℕ) → i < length hashes → get_or found i false ≡ is_candidate table (slice_index hashes i) i)
+    → ((i : ℕ) → i < length hashes → get_or found i false ≡ is_chain_symbol table (slice_index hashes i) i)
     → list_any (λ i. is_unfound (get_or found i false) (slice_get symbols i)) (range_with_len 0 (length symbols)) ≡ misses_one symbols table
 unfolding misses_one
 misses_is table symbols hashes found are each =
@@ -34,4 +34,4 @@ misses_is table symbols hashes found are each =
     at i lt None e = refl
     at i lt (Some s) e =
         let told : slice_index hashes i ≡ name_hash table s.name = rw are (at_map hash symbols i s e) in
-        ap (λ (b : Bool). defines s && not b) (each i lt ∙ ap (λ (h : ℕ). is_candidate table h i) told)
+        ap (λ (b : Bool). defines s && not b) (each i lt ∙ ap (λ (h : ℕ). is_chain_symbol table h i) told)

@@ -30,9 +30,9 @@ use Rattle.pl_relr.specs.Places.{begins_odd, places, unpacked}
 use Rattle.pl_relr.specs.declared.fault.RelrFault.{RelrFault}
 use Rattle.pl_relr.specs.declared.fault.RelrFault.TheVariants.{Packed}
 use Rattle.pl_object.specs.FilePart.{nothing, loader, loaded_by, file_window, in_file_part, loaded}
-use Rattle.pl_object.specs.Tables.{has_tag, value, memory_of, dynamic_memory, tag_memory, has_kind, section_size, symbols_memory, strings_memory, rela_memory, jmprel_memory, relr_memory, tables_memory, symtab_windows, main_windows, link_windows, range_of}
+use Rattle.pl_object.specs.Tables.{has_tag, value, memory_of, dynamic_memory, tag_memory, has_kind, section_size, symbols_memory, strings_memory, rela_memory, jmprel_memory, relr_memory, tables_memory, symtab_windows, main_windows, link_windows, window_range}
 use Rattle.pl_object.specs.TableClauses.{lacks_tags, is_misplaced, other_dynsym, any_lost, any_outside, tables_overlap, bad_tables, parted, is_other, is_uneven, bad_rela, bad_jmprel, bad_relocation_tables, meets, relr_table, bad_relr_tags, misplaced_relr, bad_relr_table, bad_packed, check_tables}
-use Rattle.pl_object.specs.Named.{window_of, dynamic_of, symbols_of, strings_of, rela_of, jmprel_of, packed_of, symtabs_of}
+use Rattle.pl_object.specs.Named.{range_window, dynamic_of, symbols_of, strings_of, rela_of, jmprel_of, packed_of, symtabs_of}
 use Rattle.pl_object.specs.Reads.{dynamic, named_places, packed_places}
 use Rattle.pl_object.specs.Accepted.{AreWhole, AreNamed}
 use Rattle.pl_object.specs.declared.object.Object.{Object}
@@ -234,7 +234,7 @@ pub record IsMade (o : Object) (bytes : List ℕ) (d : Dynamic) : Type 0 where
   pub table : IsTable bytes o.segments d
   pub passed : ArePassed bytes o.header o.segments o.sections d.tags
   pub symbols : length o.symbols ≡ length (loaded bytes o.segments (symbols_memory d.tags o.sections)) / SYMBOL_SIZE
-  pub shape : o.tables ≡ map range_of (link_windows o.header o.segments o.sections d.tags)
+  pub shape : o.tables ≡ map window_range (link_windows o.header o.segments o.sections d.tags)
 
 pub whole_is : (o : Object) (bytes : List ℕ) (d : Dynamic) → IsMade o bytes d → AreWhole o d.tags
 whole_is o bytes d is =
@@ -265,16 +265,16 @@ whole_is o bytes d is =
 -- ---- the link tables by their names
 
 -- a window's range is the window again
-pub window_back : (w : Window) → window_of (range_of w) ≡ w
+pub window_back : (w : Window) → range_window (window_range w) ≡ w
 window_back w =
     let same : w.at + w.size - w.at ≡ w.size = omega arith in
     ap (λ (n : ℕ). record { at = w.at; size = n }) same
 
-pub windows_back : (ws : List Window) → map window_of (map range_of ws) ≡ ws
+pub windows_back : (ws : List Window) → map range_window (map window_range ws) ≡ ws
 windows_back [] = refl
 windows_back (w ∷ ws) = rw (window_back w, windows_back ws) refl
 
-named_by : (o : Object) (ts : List Tag) → o.tables ≡ map range_of (link_windows o.header o.segments o.sections ts) → AreNamed o ts
+named_by : (o : Object) (ts : List Tag) → o.tables ≡ map window_range (link_windows o.header o.segments o.sections ts) → AreNamed o ts
 unfolding link_windows tables_memory dynamic_of symbols_of strings_of rela_of jmprel_of packed_of symtabs_of
 named_by o ts is = record {
   dynamic = rw is (window_back (file_window o.segments (dynamic_memory o.segments)));

@@ -16,8 +16,8 @@ use Rattle.pl_hash.specs.Chain.{IsWellFormed}
 use Rattle.pl_hash.specs.declared.table.Table.{Table}
 use Rattle.pl_relr.specs.Places as relr
 use Rattle.pl_object.specs.FilePart.{file_window, in_file_part, loaded}
-use Rattle.pl_object.specs.Tables.{has_tag, range_of, dynamic_memory, symbols_memory, strings_memory, rela_memory, jmprel_memory, relr_memory, tables_memory, symtab_windows, sections_window, main_windows, link_windows}
-use Rattle.pl_object.specs.Named.{window_of, dynamic_of, symbols_of, strings_of, rela_of, jmprel_of, packed_of, symtabs_of}
+use Rattle.pl_object.specs.Tables.{has_tag, window_range, dynamic_memory, symbols_memory, strings_memory, rela_memory, jmprel_memory, relr_memory, tables_memory, symtab_windows, sections_window, main_windows, link_windows}
+use Rattle.pl_object.specs.Named.{range_window, dynamic_of, symbols_of, strings_of, rela_of, jmprel_of, packed_of, symtabs_of}
 use Rattle.pl_object.specs.TableClauses.{meets, relr_table}
 use Rattle.pl_object.specs.SymbolClauses.{hash_tables, hash_incomplete}
 use Rattle.pl_object.specs.Relocations.{width, raw_width, relocs, packed_relocs}
@@ -33,7 +33,7 @@ is_exec o = o.header.kind == ET_EXEC
 
 -- the link tables and the section header table: no place shares a byte with one of them
 abbrev pub kept_windows : Object → List Window
-kept_windows o = sections_window o.header ∷ map window_of o.tables
+kept_windows o = sections_window o.header ∷ map range_window o.tables
 
 -- ---- the header and its tables
 
@@ -83,13 +83,13 @@ pub record AreNamed (o : Object) (ts : List Tag) : Type 0 where
   pub rela : rela_of o ≡ file_window o.segments (rela_memory ts)
   pub jmprel : jmprel_of o ≡ file_window o.segments (jmprel_memory ts)
   pub packed : packed_of o ≡ file_window o.segments (relr_memory ts)
-  pub symtabs : map window_of (symtabs_of o) ≡ symtab_windows o.sections
+  pub symtabs : map range_window (symtabs_of o) ≡ symtab_windows o.sections
 
 -- what is known of a program or library by these tags, those of its dynamic table
 pub record IsTabled (bytes : List ℕ) (o : Object) (ts : List Tag) : Type 0 where
   -- the file bytes of each segment lie in the file
   pub files : list_any (segment_passes bytes false) o.segments ≡ false
-  pub shape : o.tables ≡ map range_of (link_windows o.header o.segments o.sections ts)
+  pub shape : o.tables ≡ map window_range (link_windows o.header o.segments o.sections ts)
   pub named : AreNamed o ts
   pub whole : AreWhole o ts
   -- no two of the headers and the tables that are changed when an object is moved overlap in the file, the packed table included

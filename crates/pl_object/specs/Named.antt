@@ -7,12 +7,12 @@ use Rattle.pl_object.specs.declared.constants.TheConstants.{DYNAMIC_TABLE, SYMBO
 use Rattle.pl_object.specs.declared.object.Object.{Object}
 
 -- a link table as a window of the file
-abbrev pub window_of : Range → Window
-window_of range = record { at = range.start; size = range.end - range.start }
+abbrev pub range_window : Range → Window
+range_window range = record { at = range.start; size = range.end - range.start }
 
 abbrev pub window_in : Option Range → Window
 window_in None = nothing
-window_in (Some range) = window_of range
+window_in (Some range) = range_window range
 
 -- the link table at an index
 abbrev pub table_at : ℕ → Object → Window

@@ -19,7 +19,7 @@ use Rattle.pl_tls.specs.declared.block.Block.{Block}
 use Rattle.pl_relr.specs.Places.{unpacked}
 use Rattle.pl_relr.specs.declared.fault.RelrFault.{RelrFault}
 use Rattle.pl_object.specs.FilePart.{loaded, in_file_part}
-use Rattle.pl_object.specs.Tables.{has_tag, value, dynamic_memory, rela_memory, jmprel_memory, sections_window, link_windows, static_windows, range_of}
+use Rattle.pl_object.specs.Tables.{has_tag, value, dynamic_memory, rela_memory, jmprel_memory, sections_window, link_windows, static_windows, window_range}
 use Rattle.pl_object.specs.TableClauses.{check_tables, relr_table}
 use Rattle.pl_object.specs.Names.{strings, needed, symbols, versions, versioned}
 use Rattle.pl_object.specs.SymbolClauses.{hash_tables, check_symbols, has_ifunc}
@@ -131,7 +131,7 @@ object f d l places = record {
   hashes = places.hashes;
   relocations = places.relocations;
   packed = places.packed;
-  tables = map range_of places.windows;
+  tables = map window_range places.windows;
   tls = tls f.segments;
   symbolic = is_symbolic d.tags;
   spare = d.spare;
@@ -152,7 +152,7 @@ static_object f = record {
   hashes = [];
   relocations = [];
   packed = 0;
-  tables = map range_of (static_windows f.header f.sections);
+  tables = map window_range (static_windows f.header f.sections);
   tls = tls f.segments;
   symbolic = false;
   spare = 0;

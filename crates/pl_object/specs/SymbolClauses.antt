@@ -15,7 +15,7 @@ use Rattle.pl_sym.specs.Symbol.{is_undefined}
 use Rattle.pl_sym.specs.declared.constants.TheConstants.{STT_GNU_IFUNC}
 use Rattle.pl_sym.specs.declared.symbol.Symbol.{Symbol}
 use Rattle.pl_sym.specs.declared.class.Class.TheVariants.{Jump, Other}
-use Rattle.pl_hash.specs.Candidates.{is_candidate, name_hash}
+use Rattle.pl_hash.specs.ChainSymbols.{is_chain_symbol, name_hash}
 use Rattle.pl_hash.specs.Chain.{well_formed}
 use Rattle.pl_hash.specs.declared.table.Table.{Table}
 use Rattle.pl_ver.specs.Fields.{index_of}
@@ -54,9 +54,9 @@ defines s = is_definer s Jump false
 
 abbrev pub is_missed : Table → ℕ → Option Symbol → Bool
 is_missed table index None = false
-is_missed table index (Some s) = defines s && not (is_candidate table (name_hash table s.name) index)
+is_missed table index (Some s) = defines s && not (is_chain_symbol table (name_hash table s.name) index)
 
--- a definer that a table's candidates of its own name's hash lack
+-- a definer to which the hash of its own name does not lead
 unfoldable pub misses_one : List Symbol → Table → Bool
 misses_one symbols table = list_any (λ index. is_missed table index (slice_get symbols index)) (range_with_len 0 (length symbols))
 

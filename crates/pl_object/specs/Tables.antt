@@ -121,5 +121,5 @@ link_windows h ss sections tags =
 unfoldable pub static_windows : Header → List Section → List Window
 static_windows h sections = (header_window ∷ segments_window h ∷ []) ++ symtab_windows sections
 
-abbrev pub range_of : Window → Range
-range_of w = range_from w.at w.size
+abbrev pub window_range : Window → Range
+window_range w = range_from w.at w.size

@@ -33,7 +33,7 @@ pub use acceptance::accept;
 pub use constants::ORIGINAL;
 pub use file_part::{file_window, in_file_part, loaded};
 pub use named::{
-    dynamic_of, jmprel_of, packed_of, rela_of, strings_of, symbols_of, symtabs_of, window_of,
+    dynamic_of, jmprel_of, packed_of, range_window, rela_of, strings_of, symbols_of, symtabs_of,
 };
 pub use names::read_needed;
 pub use object::Object;

@@ -10,8 +10,8 @@ use crate::{Object, Window};
 use pl_elf::Range;
 
 /// A link table as a window of the file.
-pub fn window_of(range: &Range) -> Window
-    ensures { result ≡ spec.window_of range.now }
+pub fn range_window(range: &Range) -> Window
+    ensures { result ≡ spec.range_window range.now }
 {
     Window::new(
         u128::from(range.start),
@@ -24,7 +24,7 @@ fn table_at(object: &Object, index: usize) -> Window
 {
     match object.tables.as_slice().get(index) {
         None => Window::new(0, 0),
-        Some(range) => window_of(range),
+        Some(range) => range_window(range),
     }
 }
 

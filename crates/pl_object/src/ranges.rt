@@ -8,9 +8,9 @@ use pl_base::Rows;
 use pl_elf::Range;
 use std::alloc::{AllocError, Global};
 
-fn range_of(window: &Window) -> Range
+fn window_range(window: &Window) -> Range
     requires { end_of window.now < 2 ^ 64 }
-    ensures { result ≡ spec.range_of window.now }
+    ensures { result ≡ spec.window_range window.now }
 {
     Range::from_size(window.at() as u64, window.size())
 }
@@ -18,11 +18,11 @@ fn range_of(window: &Window) -> Range
 /// Windows as ranges.
 pub fn ranges_of(alloc: Global, windows: &[Window]) -> Result<Rows<Range>, AllocError>
     requires { All (λ w. end_of w < 2 ^ 64) windows.now }
-    ensures { IfOk result (λ ranges. ranges ≡ map spec.range_of windows.now) }
+    ensures { IfOk result (λ ranges. ranges ≡ map spec.window_range windows.now) }
 {
     let mut ranges = Rows::new(alloc);
     for window in windows {
-        ranges.push(range_of(window))?;
+        ranges.push(window_range(window))?;
     }
     Ok(ranges)
 }

@@ -2,7 +2,7 @@
 ghost use Rattle.std.specs.Prelude.{◌≡◌, ◌++◌, ◌<◌, ◌^◌, false, length, map, slice_get, slice_index_or, OnOk, IfOk};
 ghost use Rattle.std.specs.List.{list_any, range_with_len};
 ghost use Rattle.pl_base.specs.Answers.{Answers};
-ghost use Rattle.pl_hash.specs.Candidates as candidates;
+ghost use Rattle.pl_hash.specs.ChainSymbols as chains;
 ghost use Rattle.pl_hash.specs.Chain.{IsWellFormed};
 ghost use Rattle.pl_object.specs.Finding as finding;
 ghost use Rattle.pl_object.specs.Refusals.{is_memory};
@@ -122,7 +122,7 @@ fn defines(symbol: &Symbol) -> bool
 
 /// The hashes of the symbols' names that a table goes by.
 fn hashes(alloc: Global, table: &Table, symbols: &[Symbol]) -> Result<Vec<u32>, AllocError>
-    ensures { IfOk result (λ v. v.items ≡ map (λ s. candidates.name_hash table.now s.name)
+    ensures { IfOk result (λ v. v.items ≡ map (λ s. chains.name_hash table.now s.name)
         symbols.now) }
 {
     symbols
@@ -150,7 +150,7 @@ fn any_unfound(found: &[bool], symbols: &[Symbol]) -> bool
     (0..symbols.len()).any(|index| is_unfound(found, index, symbols))
 }
 
-/// Whether the table's candidates of a definer's own hash lack it.
+/// Whether a definer's own hash does not lead to it.
 fn misses_one(alloc: Global, symbols: &[Symbol], table: &Table) -> Result<bool, AllocError>
     requires { IsWellFormed table.now }
     ensures { IfOk result (λ b. b ≡ spec.misses_one symbols.now table.now) }

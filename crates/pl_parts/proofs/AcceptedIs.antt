@@ -26,8 +26,8 @@ use Rattle.pl_relr.specs.Places.{begins_odd, unpacked}
 use Rattle.pl_relr.specs.declared.fault.RelrFault.TheVariants.{Packed}
 use Rattle.pl_object.specs.Accepted.{Accepted, IsTabled, kept_windows, tags_of as object_tags}
 use Rattle.pl_object.specs.FilePart.{file_window, in_file_part, loaded}
-use Rattle.pl_object.specs.Named.{window_of}
-use Rattle.pl_object.specs.Tables.{has_tag, range_of, dynamic_memory, symbols_memory, strings_memory, rela_memory, jmprel_memory, relr_memory, tables_memory, section_memory, main_windows, link_windows, header_window, segments_window, sections_window}
+use Rattle.pl_object.specs.Named.{range_window}
+use Rattle.pl_object.specs.Tables.{has_tag, window_range, dynamic_memory, symbols_memory, strings_memory, rela_memory, jmprel_memory, relr_memory, tables_memory, section_memory, main_windows, link_windows, header_window, segments_window, sections_window}
 use Rattle.pl_object.specs.TableClauses.{meets, relr_table, bad_relr_tags, misplaced_relr, bad_relr_table, bad_packed}
 use Rattle.pl_object.specs.Reads.{reads, headers, layout, object, static_object}
 use Rattle.pl_object.specs.declared.linking.Linking.{Linking}
@@ -112,11 +112,11 @@ all_places_are symbols bytes ss rela jmprel packed t n m k a b c wide named =
 
 -- ---- clause 26
 
-windows_back : (ws : List Window) → map window_of (map range_of ws) ≡ ws
+windows_back : (ws : List Window) → map range_window (map window_range ws) ≡ ws
 windows_back [] = refl
 windows_back (w ∷ ws) =
     let same : w.at + w.size - w.at ≡ w.size = omega arith in
-    ap (λ (n : ℕ). record { at = w.at; size = n } ∷ map window_of (map range_of ws)) same ∙ ap (λ (vs : List Window). w ∷ vs) (windows_back ws)
+    ap (λ (n : ℕ). record { at = w.at; size = n } ∷ map range_window (map window_range ws)) same ∙ ap (λ (vs : List Window). w ∷ vs) (windows_back ws)
 
 -- what is clear of the link tables and the section headers is clear of what moves and of what Back restores
 one_kept : (h : Header) (ss : List Segment) (secs : List Section) (ts : List Tag) (w : Window) → meets (sections_window h ∷ link_windows h ss secs ts) w ≡ false → meets (packed_in ss ts ∷ main_windows h ss secs ts) w ≡ false
@@ -144,11 +144,11 @@ all_kept h ss secs ts (w ∷ ws) e =
     let p = or_parts (meets (sections_window h ∷ link_windows h ss secs ts) w) (list_any (meets (sections_window h ∷ link_windows h ss secs ts)) ws) e in
     or_from _ _ (one_kept h ss secs ts w p.0) (all_kept h ss secs ts ws p.1)
 
-clear_of : (o : Object) (ts : List Tag) → o.tables ≡ map range_of (link_windows o.header o.segments o.sections ts) → reloc_in_tables (kept_windows o) o.segments o.relocations ≡ false
+clear_of : (o : Object) (ts : List Tag) → o.tables ≡ map window_range (link_windows o.header o.segments o.sections ts) → reloc_in_tables (kept_windows o) o.segments o.relocations ≡ false
     → list_any (meets (packed_in o.segments ts ∷ main_windows o.header o.segments o.sections ts)) (map (file_window o.segments) (places o.relocations)) ≡ false
 unfolding reloc_in_tables spots
 clear_of o ts shape e =
-    let ws : map window_of o.tables ≡ link_windows o.header o.segments o.sections ts = ap (map window_of) shape ∙ windows_back (link_windows o.header o.segments o.sections ts) in
+    let ws : map range_window o.tables ≡ link_windows o.header o.segments o.sections ts = ap (map range_window) shape ∙ windows_back (link_windows o.header o.segments o.sections ts) in
     all_kept o.header o.segments o.sections ts (map (file_window o.segments) (places o.relocations))
     (subst (λ (vs : List Window). list_any (meets (sections_window o.header ∷ vs)) (map (file_window o.segments) (places o.relocations)) ≡ false) ws e)
 

@@ -2,7 +2,7 @@
 use Rattle.std.proofs.Common.{◌≡◌, ℕ, zero, suc, ◌+◌, ◌-◌, ◌<◌, ◌≤◌, List, [], ◌∷◌, length, get_or, take, drop, replicate, refl, sym, ap, subst, ◌∙◌, arith}
 use Rattle.std.proofs.lemmas.List.{length-take-le, length-drop, length-replicate, take-take, drop-take, get_or-take, get_or-drop}
 use Rattle.pl_base.specs.Bytes.{part}
-use Rattle.pl_base.specs.Windows.{Window, within, Put, window_of, put_all, AllIn, IsApart}
+use Rattle.pl_base.specs.Windows.{Window, within, Put, put_window, put_all, AllIn, IsApart}
 use Rattle.pl_base.proofs.WindowLaws.{part_byte, agree_within, all_in, put_all_at, AreAllApart}
 use Rattle.pl_elf.specs.Headers.{header}
 use Rattle.pl_elf.specs.declared.segment.Segment.{Segment}
@@ -53,7 +53,7 @@ pub record Apart (o : Original) : Type 0 where
   pub heads : (i : ℕ) (e : Spot) → i < length o.spots → IsApart (record { at = (get_or o.spots i e).at; size = (get_or o.spots i e).size }) (header_window ∷ segments_window (header o.bytes) ∷ o.dynamic ∷ [])
 
 moved_fill : (p : Plan) (o : Original) (flat : List ℕ) (undo i : ℕ) (d : Put) → Fits p o flat undo → Apart o → i < length (visible o.spots flat)
-    → within (window_of (get_or (visible o.spots flat) i d)) (moved_part p o flat) ≡ (get_or (visible o.spots flat) i d).bytes
+    → within (put_window (get_or (visible o.spots flat) i d)) (moved_part p o flat) ≡ (get_or (visible o.spots flat) i d).bytes
 unfolding moved_part
 moved_fill p o flat undo i d fits apart lt =
     let size : length (all_moved p.slot o.tables o.bytes) ≡ length o.bytes = length-all_moved p.slot o.tables o.bytes (all_in (length o.bytes) (table_windows o.tables) fits.tables_in) in
@@ -73,10 +73,10 @@ front_fill p o flat undo i j e n fits apart lt small =
     let ws = windows_visible o.spots flat fits.fills in
     let is = visible_at o.spots flat i d e n lt in
     let given : length (take s.size fill) ≡ s.size = length-take-le s.size fill (omega (arith, length-fill o.spots flat i e n fits.fills lt)) in
-    let there : within (window_of (get_or (visible o.spots flat) i d)) (moved_part p o flat) ≡ (get_or (visible o.spots flat) i d).bytes =
+    let there : within (put_window (get_or (visible o.spots flat) i d)) (moved_part p o flat) ≡ (get_or (visible o.spots flat) i d).bytes =
     moved_fill p o flat undo i d fits apart (omega (arith, lt, length-visible o.spots flat)) in
     let there' : within (record { at = s.at; size = length (take s.size fill) }) (moved_part p o flat) ≡ take s.size fill =
-    subst (λ (q : Put). within (window_of q) (moved_part p o flat) ≡ q.bytes) is there in
+    subst (λ (q : Put). within (put_window q) (moved_part p o flat) ≡ q.bytes) is there in
     let moved : within w (moved_part p o flat) ≡ take s.size fill = subst (λ (k : ℕ). part s.at k (moved_part p o flat) ≡ take s.size fill) given there' in
     let front : within w (front_part p o flat undo) ≡ within w (moved_part p o flat) =
     agree_within w (header_window ∷ segments_window (header o.bytes) ∷ o.dynamic ∷ []) (front_part p o flat undo) (moved_part p o flat) (front_moved p o flat undo fits)
@@ -96,9 +96,9 @@ zeros_fill o last flat i j e n size apart inside lt small =
     let ws = windows_hidden o.spots flat size in
     let is = hidden_at o.spots flat i d e n lt in
     let given : length (drop s.size fill) ≡ s.hidden = length-drop s.size fill ∙ omega (arith, length-fill o.spots flat i e n size lt) in
-    let there : within (window_of (get_or (hidden o.spots flat) i d)) (put_all (hidden o.spots flat) zs) ≡ (get_or (hidden o.spots flat) i d).bytes =
+    let there : within (put_window (get_or (hidden o.spots flat) i d)) (put_all (hidden o.spots flat) zs) ≡ (get_or (hidden o.spots flat) i d).bytes =
     put_all_at (hidden o.spots flat) zs (rw ws apart) (rw (zs_size, ws) inside) i d (omega (arith, lt, length-hidden o.spots flat)) in
     let there' : within (record { at = s.behind; size = length (drop s.size fill) }) (put_all (hidden o.spots flat) zs) ≡ drop s.size fill =
-    subst (λ (q : Put). within (window_of q) (put_all (hidden o.spots flat) zs) ≡ q.bytes) is there in
+    subst (λ (q : Put). within (put_window q) (put_all (hidden o.spots flat) zs) ≡ q.bytes) is there in
     sym (part_byte s.behind (length (drop s.size fill)) (put_all (hidden o.spots flat) zs) j (omega (arith, given, small)))
     ∙ ap (λ (xs : List ℕ). get_or xs j 0) there' ∙ get_or-drop s.size fill j 0

@@ -6,7 +6,7 @@ use Rattle.std.proofs.lemmas.Bool.{cases_Bool, or_parts}
 use Rattle.std.proofs.lemmas.Bool.Decides.{nat_tests}
 use Rattle.std.proofs.lemmas.List.{length-append, length-take-le, length-drop, append-nil, get_or-append-add}
 use Rattle.pl_base.specs.Bytes.{part, put, word64}
-use Rattle.pl_base.specs.Windows.{Window, Put, window_of, windows, holds, AllIn, Agree}
+use Rattle.pl_base.specs.Windows.{Window, Put, put_window, windows, holds, AllIn, Agree}
 use Rattle.pl_base.proofs.WordLaws.{word16_below, word32_below, word64_below}
 use Rattle.pl_base.proofs.WindowLaws.{length-put, length-part, within_put, agree_itself, agree_edit, agree_edits, agree_wider, all_in, part_part, part_apart}
 use Rattle.pl_elf.specs.Headers.{header, section, section_at, section_offset}
@@ -53,14 +53,14 @@ unfolding new_header
 new_length p o undo long = length-header _ (ident_length o.bytes long)
 
 -- three puts over what was there
-three : (ws : List Window) (a b c : Put) (xs ys : List ℕ) → Agree ws xs ys → AllIn (length xs) (window_of a ∷ window_of b ∷ window_of c ∷ [])
-    → Agree (window_of a ∷ window_of b ∷ window_of c ∷ ws) (put a.at a.bytes (put b.at b.bytes (put c.at c.bytes xs))) ys
+three : (ws : List Window) (a b c : Put) (xs ys : List ℕ) → Agree ws xs ys → AllIn (length xs) (put_window a ∷ put_window b ∷ put_window c ∷ [])
+    → Agree (put_window a ∷ put_window b ∷ put_window c ∷ ws) (put a.at a.bytes (put b.at b.bytes (put c.at c.bytes xs))) ys
 three ws a b c xs ys h fits =
     let size_c : length (put c.at c.bytes xs) ≡ length xs = length-put c.at c.bytes xs fits.1.1.0 in
     let size_b : length (put b.at b.bytes (put c.at c.bytes xs)) ≡ length xs = length-put b.at b.bytes (put c.at c.bytes xs) (rw size_c fits.1.0) ∙ size_c in
     let one = agree_edit ws c.at c.bytes xs ys h fits.1.1.0 in
-    let two = agree_edit (window_of c ∷ ws) b.at b.bytes (put c.at c.bytes xs) ys one (rw size_c fits.1.0) in
-    agree_edit (window_of b ∷ window_of c ∷ ws) a.at a.bytes (put b.at b.bytes (put c.at c.bytes xs)) ys two (rw size_b fits.0)
+    let two = agree_edit (put_window c ∷ ws) b.at b.bytes (put c.at c.bytes xs) ys one (rw size_c fits.1.0) in
+    agree_edit (put_window b ∷ put_window c ∷ ws) a.at a.bytes (put b.at b.bytes (put c.at c.bytes xs)) ys two (rw size_b fits.0)
 
 moved_agrees : (p : Plan) (o : Original) (flat : List ℕ) (undo : ℕ) → Fits p o flat undo → Agree (spot_windows o.spots) (moved_part p o flat) (all_moved p.slot o.tables o.bytes)
 unfolding moved_part

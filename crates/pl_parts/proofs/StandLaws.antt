@@ -18,7 +18,7 @@ use Rattle.pl_object.specs.Accepted.{is_exec, tags_of as object_tags}
 use Rattle.pl_object.specs.FilePart.{loader, file_window, in_file_part}
 use Rattle.pl_object.specs.PlaceClauses.{last_load, is_held, reloc_outside, reloc_overlap}
 use Rattle.pl_object.specs.Relocations.{places}
-use Rattle.pl_object.specs.Tables.{range_of, link_windows}
+use Rattle.pl_object.specs.Tables.{window_range, link_windows}
 use Rattle.pl_object.specs.declared.object.Object.{Object}
 use Rattle.pl_object.proofs.AcceptedLaws.{accepted}
 use Rattle.pl_parts.specs.Back.{wanted}
@@ -52,10 +52,10 @@ parts_found o x is =
       rows = rows;
       placed = places_are o x acc is.dynamic (named_of o x is.few is.accepted is.dynamic);
       linked = (acc.tabled is.dynamic).shape
-          ∙ ap (λ (h : Header). map range_of (link_windows h x.segments x.sections (object_tags o x))) head
-          ∙ ap (λ (ss : List Segment). map range_of (link_windows (header o) ss x.sections (object_tags o x))) rows
-          ∙ ap (λ (secs : List Section). map range_of (link_windows (header o) (ss_of o) secs (object_tags o x))) (sections_are o x acc)
-          ∙ ap (λ (ts : List Tag). map range_of (link_windows (header o) (ss_of o) (secs_of o) ts)) (tags_are o x acc);
+          ∙ ap (λ (h : Header). map window_range (link_windows h x.segments x.sections (object_tags o x))) head
+          ∙ ap (λ (ss : List Segment). map window_range (link_windows (header o) ss x.sections (object_tags o x))) rows
+          ∙ ap (λ (secs : List Section). map window_range (link_windows (header o) (ss_of o) secs (object_tags o x))) (sections_are o x acc)
+          ∙ ap (λ (ts : List Tag). map window_range (link_windows (header o) (ss_of o) (secs_of o) ts)) (tags_are o x acc);
     }
 
 -- ---- bytes for the places

@@ -10,7 +10,7 @@ use Rattle.pl_elf.specs.declared.segment.Segment.{Segment}
 use Rattle.pl_object.specs.PlaceClauses.{last_load}
 use Rattle.pl_object.specs.Reads.{reads}
 use Rattle.pl_object.specs.Relocations.{places}
-use Rattle.pl_object.specs.Tables.{link_windows, range_of}
+use Rattle.pl_object.specs.Tables.{link_windows, window_range}
 use Rattle.pl_object.specs.declared.object.Object.{Object}
 use Rattle.pl_parts.specs.declared.parts.Extension.{Extension}
 use Rattle.pl_parts.specs.declared.parts.Listed.{Listed}
@@ -150,7 +150,7 @@ pub record IsFoundIn (o : List ℕ) (x : Object) : Type 0 where
   pub head : x.header ≡ header o
   pub rows : x.segments ≡ ss_of o
   pub placed : places x.relocations ≡ places_of o
-  pub linked : x.tables ≡ map range_of (link_windows (header o) (ss_of o) (secs_of o) (tags_of o))
+  pub linked : x.tables ≡ map window_range (link_windows (header o) (ss_of o) (secs_of o) (tags_of o))
 
 abbrev pub PartsAreFound : Type 0
 PartsAreFound = (o : List ℕ) (x : Object) → IsOriginal o x → IsFoundIn o x

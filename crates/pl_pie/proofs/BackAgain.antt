@@ -23,7 +23,7 @@ use Rattle.pl_sym.specs.Symbol.{is_in_section, is_local, is_tls, is_undefined}
 use Rattle.pl_sym.specs.declared.symbol.Symbol.{Symbol}
 use Rattle.pl_object.specs.Accepted.{tags_of}
 use Rattle.pl_object.specs.FilePart.{file_window, loaded_by, loader, loads_byte}
-use Rattle.pl_object.specs.Named.{dynamic_of, jmprel_of, packed_of, rela_of, symbols_of, symtabs_of, window_in, window_of}
+use Rattle.pl_object.specs.Named.{dynamic_of, jmprel_of, packed_of, rela_of, symbols_of, symtabs_of, window_in, range_window}
 use Rattle.pl_object.specs.PlaceClauses as places
 use Rattle.pl_object.specs.PlaceClauses.{is_held, last_load, reloc_outside}
 use Rattle.pl_object.specs.Reads.{end_in_memory, span}
@@ -96,8 +96,8 @@ rows_same kind new old (inr none) = inr (rw none.0 (zero-div (row_size kind)), r
 
 -- ---- link tables
 
-window_same : (new old : Range) → IsSameRange new old → Alike (window_of new) (window_of old)
-window_same new old (inl same) = inl (ap window_of same)
+window_same : (new old : Range) → IsSameRange new old → Alike (range_window new) (range_window old)
+window_same new old (inl same) = inl (ap range_window same)
 window_same new old (inr none) = inr (omega (arith, none.0), omega (arith, none.1))
 
 get_same : (i : ℕ) (new old : List Range) → AllZip IsSameRange new old → Alike (window_in (slice_get new i)) (window_in (slice_get old i))
@@ -111,7 +111,7 @@ symtabs_same : (n : ℕ) (new old : List Range) → AllZip IsSameRange new old �
 symtabs_same zero [] [] all = tt
 symtabs_same zero [] (y ∷ ys) all = absurd all
 symtabs_same zero (x ∷ xs) [] all = absurd all
-symtabs_same zero (x ∷ xs) (y ∷ ys) all = (rows_same SymbolValue (window_of x) (window_of y) (window_same x y all.0), symtabs_same zero xs ys all.1)
+symtabs_same zero (x ∷ xs) (y ∷ ys) all = (rows_same SymbolValue (range_window x) (range_window y) (window_same x y all.0), symtabs_same zero xs ys all.1)
 symtabs_same (suc n) [] [] all = tt
 symtabs_same (suc n) [] (y ∷ ys) all = absurd all
 symtabs_same (suc n) (x ∷ xs) [] all = absurd all

@@ -11,7 +11,7 @@ use Rattle.pl_dyn.specs.declared.tags.Tag.{Tag}
 use Rattle.pl_elf.specs.declared.constants.TheConstants.{ADDRESS_LIMIT, ET_EXEC}
 use Rattle.pl_elf.specs.declared.header.Header.{Header}
 use Rattle.pl_elf.specs.declared.segment.Segment.{Segment}
-use Rattle.pl_object.specs.Named.{window_of}
+use Rattle.pl_object.specs.Named.{range_window}
 use Rattle.pl_object.specs.PlaceClauses.{check_relocs, misplaced_copy, reloc_in_tables}
 use Rattle.pl_object.specs.Reads.{check, check_rest, is_pie, too_large}
 use Rattle.pl_object.specs.SymbolClauses.{check_symbols, has_ifunc}
@@ -118,8 +118,8 @@ module _ (bytes : List ℕ) (o : Object) (at : ℕ) (is : IsAt bytes o at) where
   fair : All IsFair rs
   fair k d lt = (none_wide o.symbols (get_or rs k d) (is.pie.accepted.widths k d lt), relocs_low p o is.pie.accepted is.other is.are_bytes k d lt)
 
-  tables_are : map window_of o.tables ≡ link_windows o.header o.segments o.sections ts
-  tables_are = ap (map window_of) (is.pie.accepted.tabled is.other).shape ∙ windows_back (link_windows o.header o.segments o.sections ts)
+  tables_are : map range_window o.tables ≡ link_windows o.header o.segments o.sections ts
+  tables_are = ap (map range_window) (is.pie.accepted.tabled is.other).shape ∙ windows_back (link_windows o.header o.segments o.sections ts)
 
   taken : AreTaken o.segments (sections_window o.header ∷ link_windows o.header o.segments o.sections ts) (length o.symbols) o.packed rs
   taken =

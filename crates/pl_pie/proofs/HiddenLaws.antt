@@ -17,7 +17,7 @@ use Rattle.pl_elf.specs.declared.range.Range.{Range}
 use Rattle.pl_elf.specs.declared.segment.Segment.{Segment}
 use Rattle.pl_object.specs.Accepted.{IsTabled, tags_of}
 use Rattle.pl_object.specs.FilePart.{nothing, loads_byte, loader}
-use Rattle.pl_object.specs.Named.{window_of, window_in, dynamic_of, symbols_of, rela_of, jmprel_of, packed_of, symtabs_of}
+use Rattle.pl_object.specs.Named.{range_window, window_in, dynamic_of, symbols_of, rela_of, jmprel_of, packed_of, symtabs_of}
 use Rattle.pl_object.specs.Tables.{header_window, segments_window, link_windows}
 use Rattle.pl_object.specs.declared.object.Object.{Object}
 use Rattle.pl_object.proofs.FilePartLaws.{loads_parts}
@@ -69,10 +69,10 @@ holds_in j at size le lt = grind (arith, nat_tests)
 
 -- ---- tables
 
-range_out : (j : ℕ) (r : Range) → has j r ≡ false → holds j (window_of r) ≡ false
-range_out j r out = elim (cases_Bool (holds j (window_of r))) [
+range_out : (j : ℕ) (r : Range) → has j r ≡ false → holds j (range_window r) ≡ false
+range_out j r out = elim (cases_Bool (holds j (range_window r))) [
   | inr miss ↦ miss
-  | inl hit ↦ let h = holds_true j (window_of r) hit in absurd (true≢false (sym (inside j r.start r.end h.0 (omega (arith, h.0, h.1))) ∙ out))
+  | inl hit ↦ let h = holds_true j (range_window r) hit in absurd (true≢false (sym (inside j r.start r.end h.0 (omega (arith, h.0, h.1))) ∙ out))
 ]
   where
     inside : (j a b : ℕ) → a ≤ j → j < b → (nat_le a j && nat_lt j b) ≡ true
@@ -103,7 +103,7 @@ symtabs_out : (j : ℕ) (rs : List Range) → list_any (has j) rs ≡ false → 
 symtabs_out j [] none = refl
 symtabs_out j (r ∷ rs) none =
     let p = or_parts (has j r) (list_any (has j) rs) none in
-    or_from _ _ (rows_out j SymbolValue (window_of r) (range_out j r p.0)) (symtabs_out j rs p.1)
+    or_from _ _ (rows_out j SymbolValue (range_window r) (range_out j r p.0)) (symtabs_out j rs p.1)
 
 header_out : (p : List ℕ) (o : Object) (j : ℕ) → IsTabled p o (tags_of p o) → list_any (has j) o.tables ≡ false → holds j header_window ≡ false
 unfolding link_windows

@@ -10,10 +10,10 @@ use Rattle.pl_base.proofs.WindowLaws.{holds_true, holds_false, holds_not, agree_
 use Rattle.pl_dyn.specs.Kinds.{is_address_tag}
 use Rattle.pl_elf.specs.Headers.{is_moved_kind}
 use Rattle.pl_elf.specs.declared.range.Range.{Range}
-use Rattle.pl_object.specs.Named.{window_of, dynamic_of, symbols_of, rela_of, jmprel_of, packed_of, symtabs_of}
+use Rattle.pl_object.specs.Named.{range_window, dynamic_of, symbols_of, rela_of, jmprel_of, packed_of, symtabs_of}
 use Rattle.pl_object.specs.Tables.{header_window, segments_window}
 use Rattle.pl_object.specs.declared.object.Object.{Object}
-use Rattle.pl_move.specs.Moves.{add8, row_size, word_at, moves, row_moved, table_window, table_windows, moved, all_moved}
+use Rattle.pl_move.specs.Moves.{add8, row_size, word_offset, moves, row_moved, table_window, table_windows, moved, all_moved}
 use Rattle.pl_move.specs.Objects.{rows_of, symbol_rows, main_tables, tables_of}
 use Rattle.pl_move.specs.declared.kind.RowKind.{RowKind}
 use Rattle.pl_move.specs.declared.kind.RowKind.TheVariants.{Entry, SegmentAddress, PhysicalAddress, TagValue, SymbolValue, RelocationPlace, RelativeAddend, PackedAddress}
@@ -26,7 +26,7 @@ use Rattle.pl_pie.proofs.RowOfLaws.{kept8, kept16, kept32, kept64, moved64}
 
 -- ---- one row
 
-in_row : (kind : RowKind) → word_at kind + 8 ≤ row_size kind
+in_row : (kind : RowKind) → word_offset kind + 8 ≤ row_size kind
 in_row Entry = omega arith
 in_row SegmentAddress = omega arith
 in_row PhysicalAddress = omega arith
@@ -37,10 +37,10 @@ in_row RelativeAddend = omega arith
 in_row PackedAddress = omega arith
 
 -- a byte outside of the word that moves
-row_byte : (w : ℕ) (kind : RowKind) (r : List ℕ) (k : ℕ) → length r ≡ row_size kind → (moves kind r ≡ true → holds k (word_window (word_at kind)) ≡ false) → slice_index (row_moved w kind r) k ≡ slice_index r k
+row_byte : (w : ℕ) (kind : RowKind) (r : List ℕ) (k : ℕ) → length r ≡ row_size kind → (moves kind r ≡ true → holds k (word_window (word_offset kind)) ≡ false) → slice_index (row_moved w kind r) k ≡ slice_index r k
 unfolding row_moved
 row_byte w kind r k n apart = elim (cases_Bool (moves kind r)) [
-  | inl hit ↦ rw hit ((agree_add8 (word_at kind) w r (omega (arith, n, in_row kind))).bytes k (or_from _ _ (apart hit) refl))
+  | inl hit ↦ rw hit ((agree_add8 (word_offset kind) w r (omega (arith, n, in_row kind))).bytes k (or_from _ _ (apart hit) refl))
   | inr miss ↦ rw miss refl
 ]
 
@@ -48,7 +48,7 @@ row_byte w kind r k n apart = elim (cases_Bool (moves kind r)) [
 parity : (x w : ℕ) → w % 2 ≡ 0 → (x + w) % 2 ^ 64 % 2 ≡ x % 2
 parity x w even = omega (arith, even)
 
-same_word : (kind : RowKind) (w : ℕ) (r : List ℕ) → length r ≡ row_size kind → w % 2 ≡ 0 → moves kind (add8 (word_at kind) w r) ≡ moves kind r
+same_word : (kind : RowKind) (w : ℕ) (r : List ℕ) → length r ≡ row_size kind → w % 2 ≡ 0 → moves kind (add8 (word_offset kind) w r) ≡ moves kind r
 same_word Entry w r n even = refl
 same_word SegmentAddress w r n even = ap is_moved_kind (kept32 0 16 w r (omega (arith, n)) (inl (omega arith)))
 same_word PhysicalAddress w r n even = ap is_moved_kind (kept32 0 24 w r (omega (arith, n)) (inl (omega arith)))
@@ -62,7 +62,7 @@ same_word PackedAddress w r n even = ap (λ (k : ℕ). k == 0) (ap (λ (x : ℕ)
 abbrev AreTold : RowKind → RowKind → Type 0
 AreTold k l = (w : ℕ) (r : List ℕ) → length r ≡ row_size k → w % 2 ≡ 0 → moves l (row_moved w k r) ≡ moves l r
 
-by_word : (k l : RowKind) → ((w : ℕ) (r : List ℕ) → length r ≡ row_size k → w % 2 ≡ 0 → moves l (add8 (word_at k) w r) ≡ moves l r) → AreTold k l
+by_word : (k l : RowKind) → ((w : ℕ) (r : List ℕ) → length r ≡ row_size k → w % 2 ≡ 0 → moves l (add8 (word_offset k) w r) ≡ moves l r) → AreTold k l
 unfolding row_moved
 by_word k l told w r n even = elim (cases_Bool (moves k r)) [
   | inl hit ↦ rw hit (told w r n even)
@@ -92,7 +92,7 @@ moved_row w t i xs fits lt =
 
 -- no word that moves has the byte
 abbrev pub Clear : ℕ → List ℕ → Table → Type 0
-Clear j xs t = (i : ℕ) → i < t.count → moves t.kind (row_of t xs i) ≡ true → holds j (word_window (row_start t i + word_at t.kind)) ≡ false
+Clear j xs t = (i : ℕ) → i < t.count → moves t.kind (row_of t xs i) ≡ true → holds j (word_window (row_start t i + word_offset t.kind)) ≡ false
 
 row_index : (s n d : ℕ) → 0 < s → d < s * n → (d / s < n) × (s * (d / s) + d % s ≡ d) × (d % s < s)
 row_index s n d some lt = (
@@ -125,8 +125,8 @@ table_byte w t xs j fits clear = elim (cases_Bool (holds j (table_window t))) [
         let e : t.at + s * i + k ≡ j = omega (arith, ix.1, h.0) in
         let room : s * i + s ≤ s * t.count = row_room s i t.count ix.0 in
         let len : length (row_of t xs i) ≡ s = length-part (t.at + s * i) s xs (omega (arith, room, fits)) in
-        let out : moves t.kind (row_of t xs i) ≡ true → holds k (word_window (word_at t.kind)) ≡ false =
-        λ hit. shifted_out (t.at + s * i) k (word_at t.kind) (subst (λ (m : ℕ). holds m (word_window (t.at + s * i + word_at t.kind)) ≡ false) (sym e) (clear i ix.0 hit)) in
+        let out : moves t.kind (row_of t xs i) ≡ true → holds k (word_window (word_offset t.kind)) ≡ false =
+        λ hit. shifted_out (t.at + s * i) k (word_offset t.kind) (subst (λ (m : ℕ). holds m (word_window (t.at + s * i + word_offset t.kind)) ≡ false) (sym e) (clear i ix.0 hit)) in
         subst (λ (m : ℕ). slice_index (moved w t xs) m ≡ slice_index xs m) e
         (sym (part_byte (t.at + s * i) s (moved w t xs) k ix.2) ∙ ap (λ (r : List ℕ). slice_index r k) (moved_row w t i xs fits ix.0)
         ∙ row_byte w t.kind (row_of t xs i) k len out ∙ part_byte (t.at + s * i) s xs k ix.2)
@@ -202,17 +202,17 @@ leave_both (t ∷ ts) us a b each = (leaves_both t ts us a.0 each.0, leave_both 
 both_rows : (k l : RowKind) (v w : Window) → AreApart v w → AreApart (table_window (rows_of k v)) (table_window (rows_of l w))
 both_rows k l v w apart = rows_sub l (table_window (rows_of k v)) w (apart_turned w (table_window (rows_of k v)) (rows_sub k w v (apart_turned v w apart)))
 
-symtabs_leave : (t : Table) (rs : List Range) → IsApart (table_window t) (map window_of rs) → LeavesAll t (map symbol_rows rs)
+symtabs_leave : (t : Table) (rs : List Range) → IsApart (table_window t) (map range_window rs) → LeavesAll t (map symbol_rows rs)
 symtabs_leave t [] apart = tt
-symtabs_leave t (r ∷ rs) apart = (leaves_apart t (symbol_rows r) (apart_turned (table_window t) (table_window (symbol_rows r)) (rows_sub SymbolValue (table_window t) (window_of r) apart.0)), symtabs_leave t rs apart.1)
+symtabs_leave t (r ∷ rs) apart = (leaves_apart t (symbol_rows r) (apart_turned (table_window t) (table_window (symbol_rows r)) (rows_sub SymbolValue (table_window t) (range_window r) apart.0)), symtabs_leave t rs apart.1)
 
 rows_of_apart : (k : RowKind) (v : Window) (ws : List Window) → IsApart v ws → IsApart (table_window (rows_of k v)) ws
 rows_of_apart k v [] apart = tt
 rows_of_apart k v (w ∷ ws) apart = (apart_turned w (table_window (rows_of k v)) (rows_sub k w v (apart_turned v w apart.0)), rows_of_apart k v ws apart.1)
 
-symtabs_leave_all : (rs : List Range) → AreAllApart (map window_of rs) → AllLeave (map symbol_rows rs)
+symtabs_leave_all : (rs : List Range) → AreAllApart (map range_window rs) → AllLeave (map symbol_rows rs)
 symtabs_leave_all [] apart = tt
-symtabs_leave_all (r ∷ rs) apart = (symtabs_leave (symbol_rows r) rs (rows_of_apart SymbolValue (window_of r) (map window_of rs) apart.0), symtabs_leave_all rs apart.1)
+symtabs_leave_all (r ∷ rs) apart = (symtabs_leave (symbol_rows r) rs (rows_of_apart SymbolValue (range_window r) (map range_window rs) apart.0), symtabs_leave_all rs apart.1)
 
 entry_first : (entry : ℕ) (v : Window) → AreApart v (record { at = 0; size = 64 }) → AreApart v (record { at = 0; size = 64 * (if entry == 0 then 0 else 1) })
 entry_first entry v apart = entry_apart v entry apart
@@ -271,7 +271,7 @@ main_leave o a = (entry_leaves o a, (segment_leaves o a, (physical_leaves o a, (
 
 main_symtabs : (o : Object) → AreAllApart (all_windows o) → EachLeaves (main_tables o) (map symbol_rows (symtabs_of o))
 unfolding main_tables
-main_symtabs o a = (symtabs_leave (entry_table o) (symtabs_of o) (entry_symtabs o.entry (map window_of (symtabs_of o)) a.1.0.1.1.1.1.1.1), (symtabs_leave (segment_table o) (symtabs_of o) (a.1.1.0.1.1.1.1.1), (symtabs_leave (physical_table o) (symtabs_of o) (a.1.1.0.1.1.1.1.1), (symtabs_leave (rows_of TagValue (dynamic_of o)) (symtabs_of o) (rows_of_apart TagValue (dynamic_of o) (map window_of (symtabs_of o)) (a.1.1.1.1.0.1.1.1)), (symtabs_leave (rows_of SymbolValue (symbols_of o)) (symtabs_of o) (rows_of_apart SymbolValue (symbols_of o) (map window_of (symtabs_of o)) (a.1.1.1.1.1.0.1.1)), (symtabs_leave (rows_of RelocationPlace (rela_of o)) (symtabs_of o) (rows_of_apart RelocationPlace (rela_of o) (map window_of (symtabs_of o)) (a.1.1.1.1.1.1.0.1)), (symtabs_leave (rows_of RelativeAddend (rela_of o)) (symtabs_of o) (rows_of_apart RelativeAddend (rela_of o) (map window_of (symtabs_of o)) (a.1.1.1.1.1.1.0.1)), (symtabs_leave (rows_of RelocationPlace (jmprel_of o)) (symtabs_of o) (rows_of_apart RelocationPlace (jmprel_of o) (map window_of (symtabs_of o)) (a.1.1.1.1.1.1.1.0)), (symtabs_leave (rows_of RelativeAddend (jmprel_of o)) (symtabs_of o) (rows_of_apart RelativeAddend (jmprel_of o) (map window_of (symtabs_of o)) (a.1.1.1.1.1.1.1.0)), (symtabs_leave (rows_of PackedAddress (packed_of o)) (symtabs_of o) (rows_of_apart PackedAddress (packed_of o) (map window_of (symtabs_of o)) (a.0.1.1.1.1.1.1.1)), tt))))))))))
+main_symtabs o a = (symtabs_leave (entry_table o) (symtabs_of o) (entry_symtabs o.entry (map range_window (symtabs_of o)) a.1.0.1.1.1.1.1.1), (symtabs_leave (segment_table o) (symtabs_of o) (a.1.1.0.1.1.1.1.1), (symtabs_leave (physical_table o) (symtabs_of o) (a.1.1.0.1.1.1.1.1), (symtabs_leave (rows_of TagValue (dynamic_of o)) (symtabs_of o) (rows_of_apart TagValue (dynamic_of o) (map range_window (symtabs_of o)) (a.1.1.1.1.0.1.1.1)), (symtabs_leave (rows_of SymbolValue (symbols_of o)) (symtabs_of o) (rows_of_apart SymbolValue (symbols_of o) (map range_window (symtabs_of o)) (a.1.1.1.1.1.0.1.1)), (symtabs_leave (rows_of RelocationPlace (rela_of o)) (symtabs_of o) (rows_of_apart RelocationPlace (rela_of o) (map range_window (symtabs_of o)) (a.1.1.1.1.1.1.0.1)), (symtabs_leave (rows_of RelativeAddend (rela_of o)) (symtabs_of o) (rows_of_apart RelativeAddend (rela_of o) (map range_window (symtabs_of o)) (a.1.1.1.1.1.1.0.1)), (symtabs_leave (rows_of RelocationPlace (jmprel_of o)) (symtabs_of o) (rows_of_apart RelocationPlace (jmprel_of o) (map range_window (symtabs_of o)) (a.1.1.1.1.1.1.1.0)), (symtabs_leave (rows_of RelativeAddend (jmprel_of o)) (symtabs_of o) (rows_of_apart RelativeAddend (jmprel_of o) (map range_window (symtabs_of o)) (a.1.1.1.1.1.1.1.0)), (symtabs_leave (rows_of PackedAddress (packed_of o)) (symtabs_of o) (rows_of_apart PackedAddress (packed_of o) (map range_window (symtabs_of o)) (a.0.1.1.1.1.1.1.1)), tt))))))))))
 
 pub tables_leave : (o : Object) → AreAllApart (all_windows o) → AllLeave (tables_of o)
 unfolding tables_of

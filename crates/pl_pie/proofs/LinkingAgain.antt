@@ -14,7 +14,7 @@ use Rattle.pl_dyn.specs.declared.tags.Tag.{Tag}
 use Rattle.pl_elf.specs.declared.section.Section.{Section}
 use Rattle.pl_elf.specs.declared.segment.Segment.{Segment}
 use Rattle.pl_object.specs.FilePart.{file_window, loaded}
-use Rattle.pl_object.specs.Named.{window_of, symbols_of, strings_of}
+use Rattle.pl_object.specs.Named.{range_window, symbols_of, strings_of}
 use Rattle.pl_object.specs.Names.{bad_version_tags, counted, known_versions, miscounted, needed, needed_name, record_count, strings, symbols, table_versions, versioned, versions}
 use Rattle.pl_object.specs.Reads.{linking}
 use Rattle.pl_object.specs.Refusals.{of_symbols}
@@ -51,7 +51,7 @@ unfolding kept_windows named_windows link_windows tables_memory
 kept_are bytes o at is =
     let t = is.pie.accepted.tabled is.other in
     let five : List Window = section_at_tag bytes o DT_HASH ∷ section_at_tag bytes o DT_GNU_HASH ∷ section_at_tag bytes o DT_VERSYM ∷ section_at_tag bytes o DT_VERDEF ∷ section_at_tag bytes o DT_VERNEED ∷ [] in
-    ap (λ (rs : List Range). strings_of o ∷ map window_of (take 5 (drop 7 rs)) ++ window_if (slice_get o.sections o.header.shstrndx)) t.shape
+    ap (λ (rs : List Range). strings_of o ∷ map range_window (take 5 (drop 7 rs)) ++ window_if (slice_get o.sections o.header.shstrndx)) t.shape
     ∙ ap (λ (ws : List Window). strings_of o ∷ ws ++ window_if (slice_get o.sections o.header.shstrndx)) (windows_back five)
 
 kept_by : (bytes : List ℕ) (o : Object) (at k : ℕ) (d : Window) (ws : List Window) → IsAt bytes o at → kept_windows o ≡ ws → k < length ws → within (get_or ws k d) (file_at at o bytes) ≡ within (get_or ws k d) (as_program bytes)

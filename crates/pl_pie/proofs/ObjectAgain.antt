@@ -20,7 +20,7 @@ use Rattle.pl_tls.specs.declared.block.Block.{Block}
 use Rattle.pl_object.specs.Accepted.{Accepted}
 use Rattle.pl_object.specs.PlaceClauses.{last_load}
 use Rattle.pl_object.specs.Reads.{align, block_of, end_in_memory, is_symbolic, kind_of, object, span, tls}
-use Rattle.pl_object.specs.Tables.{link_windows, range_of}
+use Rattle.pl_object.specs.Tables.{link_windows, window_range}
 use Rattle.pl_object.specs.declared.object.Object.{Object}
 use Rattle.pl_fixed.specs.Fixed.{fixed, fixed_entry, fixed_header, fixed_reloc, fixed_section, fixed_segment, fixed_symbol}
 use Rattle.pl_fixed.specs.Stays.{Stands}
@@ -37,11 +37,11 @@ use Rattle.pl_pie.proofs.TagLaws.{has_moved, value_stays}
 
 -- ---- the link tables
 
-range_alike : (new old : Window) → Alike new old → IsSameRange (range_of new) (range_of old)
-range_alike new old (inl same) = inl (ap range_of same)
+range_alike : (new old : Window) → Alike new old → IsSameRange (window_range new) (window_range old)
+range_alike new old (inl same) = inl (ap window_range same)
 range_alike new old (inr none) = inr (omega (arith, none.0), omega (arith, none.1))
 
-ranges_alike : (new old : List Window) → AllAlike new old → AllZip IsSameRange (map range_of new) (map range_of old)
+ranges_alike : (new old : List Window) → AllAlike new old → AllZip IsSameRange (map window_range new) (map window_range old)
 ranges_alike [] [] all = tt
 ranges_alike [] (y ∷ ys) all = absurd all
 ranges_alike (x ∷ xs) [] all = absurd all
@@ -161,7 +161,7 @@ module _ (bytes : List ℕ) (o : Object) (at : ℕ) (is : IsAt bytes o at) (alig
   fixed_segments = map (fixed_segment at) o.segments
 
   abbrev tables_again : List Range
-  tables_again = map range_of (link_windows (fixed_header at o.header) fixed_segments (map (fixed_section at) o.sections) moved_tags)
+  tables_again = map window_range (link_windows (fixed_header at o.header) fixed_segments (map (fixed_section at) o.sections) moved_tags)
 
   made : Kind → ℕ → Option Block → Bool → ℕ → ℕ → Object
   made kind entry block symbolic size most = record {
@@ -222,7 +222,7 @@ module _ (bytes : List ℕ) (o : Object) (at : ℕ) (is : IsAt bytes o at) (alig
   unfoldable pub object_again : Object
   object_again = object (headers_of (fixed at o)) (dynamic_of moved_tags (fixed at o)) (linking_of (fixed at o)) (layout_of moved_tags (fixed at o))
 
-  old_tables : o.tables ≡ map range_of (link_windows o.header o.segments o.sections ts)
+  old_tables : o.tables ≡ map window_range (link_windows o.header o.segments o.sections ts)
   old_tables = (is.pie.accepted.tabled is.other).shape
 
   pub is_fixed : IsFixed at o object_again

@@ -22,7 +22,7 @@ use Rattle.pl_elf.specs.declared.segment.Segment.{Segment}
 use Rattle.pl_relr.specs.Places as relr
 use Rattle.pl_object.specs.Accepted.{Accepted, IsTabled, tags_of, kept_windows}
 use Rattle.pl_object.specs.FilePart.{file_window, in_file_part, loaded}
-use Rattle.pl_object.specs.Named.{window_of, dynamic_of, symbols_of, rela_of, jmprel_of, packed_of, symtabs_of}
+use Rattle.pl_object.specs.Named.{range_window, dynamic_of, symbols_of, rela_of, jmprel_of, packed_of, symtabs_of}
 use Rattle.pl_object.specs.PlaceClauses.{is_held, reloc_outside, reloc_in_tables, spots}
 use Rattle.pl_object.specs.Relocations.{place, places, packed_relocs, relocs}
 use Rattle.pl_object.specs.TableClauses.{meets, relr_table}
@@ -46,7 +46,7 @@ use Rattle.pl_pie.proofs.ContentLaws.{Told, turned, within_told, rows_apart}
 
 abbrev pub all_windows : Object → List Window
 all_windows o =
-    packed_of o ∷ header_window ∷ segments_window o.header ∷ sections_window o.header ∷ dynamic_of o ∷ symbols_of o ∷ rela_of o ∷ jmprel_of o ∷ map window_of (symtabs_of o)
+    packed_of o ∷ header_window ∷ segments_window o.header ∷ sections_window o.header ∷ dynamic_of o ∷ symbols_of o ∷ rela_of o ∷ jmprel_of o ∷ map range_window (symtabs_of o)
 
 own_windows_are : (p : List ℕ) (o : Object) (ts : List Tag) → IsTabled p o ts → all_windows o ≡ file_window o.segments (relr_memory ts) ∷ main_windows o.header o.segments o.sections ts
 unfolding main_windows
@@ -124,13 +124,13 @@ entry_apart v entry apart = elim (cases_Bool (entry == 0)) [
   | inr some ↦ rw some apart
 ]
 
-symtab_rows : (v : Window) (rs : List Range) → IsApart v (map window_of rs) → IsApart v (table_windows (map symbol_rows rs))
+symtab_rows : (v : Window) (rs : List Range) → IsApart v (map range_window rs) → IsApart v (table_windows (map symbol_rows rs))
 symtab_rows v [] h = tt
-symtab_rows v (r ∷ rs) h = (rows_sub SymbolValue v (window_of r) h.0, symtab_rows v rs h.1)
+symtab_rows v (r ∷ rs) h = (rows_sub SymbolValue v (range_window r) h.0, symtab_rows v rs h.1)
 
 -- ---- a window of a file whose tables moved
 
-pub within_tables : (at : ℕ) (p : List ℕ) (o : Object) (v : Window) (bs : List Bool) → LieIn (length p) o → IsIn (length p) v → IsApart v (map window_of (symtabs_of o)) → Told v (table_windows (main_tables o)) bs
+pub within_tables : (at : ℕ) (p : List ℕ) (o : Object) (v : Window) (bs : List Bool) → LieIn (length p) o → IsIn (length p) v → IsApart v (map range_window (symtabs_of o)) → Told v (table_windows (main_tables o)) bs
     → within v (all_moved at (tables_of o) p) ≡ turned at (main_tables o) bs (within v p)
 unfolding tables_of
 within_tables at p o v bs lie inside symtabs told =
@@ -252,7 +252,7 @@ packed_apart p o v is other pick =
     let last : List Reloc = packed_relocs p ss addresses in
     let front : List Reloc = relocs o.symbols (loaded p ss (rela_memory ts)) ++ relocs o.symbols (loaded p ss (jmprel_memory ts)) in
     let held : list_any (λ m. not (is_held false ss m)) (places last) ≡ false = subst (λ (rs : List Reloc). list_any (λ m. not (is_held false ss m)) (places rs) ≡ false) same is.packed_held in
-    let links : map window_of o.tables ≡ link_windows o.header ss o.sections ts = ap (map window_of) t.shape ∙ windows_back (link_windows o.header ss o.sections ts) in
+    let links : map range_window o.tables ≡ link_windows o.header ss o.sections ts = ap (map range_window) t.shape ∙ windows_back (link_windows o.header ss o.sections ts) in
     let own : List Window = file_window ss (relr_memory ts) ∷ main_windows o.header ss o.sections ts in
     let wide : Reloc → Bool = λ r. meets (sections_window o.header ∷ link_windows o.header ss o.sections ts) (file_window ss (place r)) in
     let each : list_any (λ r. meets (kept_windows o) (file_window ss (place r))) o.relocations ≡ false =

@@ -11,7 +11,7 @@ use Rattle.pl_object.specs.Accepted.{tags_of}
 use Rattle.pl_object.specs.TableClauses.{meets}
 use Rattle.pl_object.specs.declared.object.Object.{Object}
 use Rattle.pl_value.proofs.LoneLaws.{none_at}
-use Rattle.pl_move.specs.Moves.{row_size, word_at, moves, all_moved}
+use Rattle.pl_move.specs.Moves.{row_size, word_offset, moves, all_moved}
 use Rattle.pl_move.specs.Objects.{tables_of, LieIn}
 use Rattle.pl_move.specs.declared.table.Table.{Table}
 use Rattle.pl_move.proofs.MoveLaws.{length-all_moved}
@@ -46,9 +46,9 @@ unfolding table_meets row_meets
 clear_from j k ws d p [] lt hit none = tt
 clear_from j k ws d p (t ∷ ts) lt hit none =
     let q = or_parts (table_meets ws p t) (list_any (table_meets ws p) ts) none in
-    (λ i few moved. unmet_out j k ws d (word_window (row_start t i + word_at t.kind)) (row i few moved q.0) lt hit, clear_from j k ws d p ts lt hit q.1)
+    (λ i few moved. unmet_out j k ws d (word_window (row_start t i + word_offset t.kind)) (row i few moved q.0) lt hit, clear_from j k ws d p ts lt hit q.1)
   where
-    row : (i : ℕ) → i < t.count → moves t.kind (part (row_start t i) (row_size t.kind) p) ≡ true → table_meets ws p t ≡ false → meets ws (word_window (row_start t i + word_at t.kind)) ≡ false
+    row : (i : ℕ) → i < t.count → moves t.kind (part (row_start t i) (row_size t.kind) p) ≡ true → table_meets ws p t ≡ false → meets ws (word_window (row_start t i + word_offset t.kind)) ≡ false
     row i few moved none = unless_moved _ _ (none_in_range (row_meets ws p t) t.count i none few) moved
 
 words_clear : (j k : ℕ) (ws : List Window) (d : Window) (ats : List ℕ) → k < length ws → holds j (get_or ws k d) ≡ true → list_any (λ at. meets ws (word_window at)) ats ≡ false → list_any (holds j) (word_windows ats) ≡ false

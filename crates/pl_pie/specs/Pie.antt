@@ -13,7 +13,7 @@ use Rattle.pl_sym.specs.Symbol.{is_absolute, is_in_section}
 use Rattle.pl_sym.specs.Definers.{is_linkable, has_value}
 use Rattle.pl_sym.specs.declared.symbol.Symbol.{Symbol}
 use Rattle.pl_object.specs.Accepted.{tags_of}
-use Rattle.pl_object.specs.Named.{window_of, strings_of}
+use Rattle.pl_object.specs.Named.{range_window, strings_of}
 use Rattle.pl_object.specs.Reads as reads
 use Rattle.pl_object.specs.SymbolClauses.{base_not_zero}
 use Rattle.pl_object.specs.TableClauses.{meets}
@@ -62,7 +62,7 @@ window_if (Some s) = section_window s ∷ []
 
 -- the tables of DT_HASH, DT_GNU_HASH, DT_VERSYM, DT_VERDEF and DT_VERNEED in the file
 unfoldable pub named_windows : Object → List Window
-named_windows o = map window_of (take HASH_AND_VERSION_TABLES (drop HASH_TABLE o.tables))
+named_windows o = map range_window (take HASH_AND_VERSION_TABLES (drop HASH_TABLE o.tables))
 
 -- what is read by name: the strings, the hash tables, the version tables, and the section of section names
 unfoldable pub kept_windows : Object → List Window

@@ -16,7 +16,7 @@ use Rattle.pl_object.specs.Relocations.{place}
 use Rattle.pl_object.specs.TableClauses.{meets}
 use Rattle.pl_object.specs.Tables.{is_allocated}
 use Rattle.pl_object.specs.declared.object.Object.{Object}
-use Rattle.pl_move.specs.Moves.{row_size, word_at, moves, table_windows}
+use Rattle.pl_move.specs.Moves.{row_size, word_offset, moves, table_windows}
 use Rattle.pl_move.specs.Objects.{symbol_rows, tables_of}
 use Rattle.pl_move.specs.declared.table.Table.{Table}
 use Rattle.pl_pie.specs.declared.constants.TheConstants.{ADDR_AT, VALUE_AT, TYPE_AT, TYPE_SIZE, WORD_SIZE}
@@ -65,7 +65,7 @@ row_start t index = t.at + row_size t.kind * index
 -- the row of an index has a word that moves, and that shares a byte with one of the windows
 unfoldable pub row_meets : List Window → List ℕ → Table → ℕ → Bool
 row_meets ws bytes t index =
-    moves t.kind (part (row_start t index) (row_size t.kind) bytes) && meets ws (word_window (row_start t index + word_at t.kind))
+    moves t.kind (part (row_start t index) (row_size t.kind) bytes) && meets ws (word_window (row_start t index + word_offset t.kind))
 
 unfoldable pub table_meets : List Window → List ℕ → Table → Bool
 table_meets ws bytes t = list_any (row_meets ws bytes t) (range_with_len 0 t.count)

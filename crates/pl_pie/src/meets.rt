@@ -11,7 +11,7 @@ use crate::constants::WORD_SIZE;
 use pl_elf::Range;
 use pl_move::{RowKind, Table, rows_of};
 use pl_object::{
-    Object, Window, dynamic_of, jmprel_of, packed_of, rela_of, symbols_of, symtabs_of, window_of,
+    Object, Window, dynamic_of, jmprel_of, packed_of, range_window, rela_of, symbols_of, symtabs_of,
 };
 
 /// Whether a window shares a byte with one of the others.
@@ -35,7 +35,7 @@ fn row_meets(windows: &[Window], bytes: &[u8], table: &Table, index: u64) -> boo
 {
     let size = table.kind.row_size();
     let start = table.at as usize + size * index as usize;
-    let word = start + table.kind.word_at();
+    let word = start + table.kind.word_offset();
     table.kind.moves(&bytes[start..start + size]) && meets(windows, word_window(word as u128))
 }
 
@@ -95,7 +95,7 @@ fn symtab_meets(windows: &[Window], bytes: &[u8], range: &Range) -> bool
     requires { IsIn (length bytes.now) (moves.table_window (objects.symbol_rows range.now)) }
     ensures { result ≡ spec.symtab_meets windows.now bytes.now range.now }
 {
-    let table = rows_of(RowKind::SymbolValue, window_of(range));
+    let table = rows_of(RowKind::SymbolValue, range_window(range));
     table_meets(windows, bytes, &table)
 }
 

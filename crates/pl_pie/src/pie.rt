@@ -35,7 +35,12 @@ pub fn as_program(alloc: Global, bytes: &[u8]) -> Result<Vec<u8>, AllocError>
 
 /// Whether an accepted object is that of a position-independent program.
 #[tactic(auto, using(crate::proofs::PieLaws::not_static), unfolding(crate::specs::Pie::is_pie))]
-fn holds(alloc: Global, bytes: &[u8], program: &[u8], object: &Object) -> Result<bool, AllocError>
+fn is_pie_object(
+    alloc: Global,
+    bytes: &[u8],
+    program: &[u8],
+    object: &Object,
+) -> Result<bool, AllocError>
     requires long { HEADER_SIZE ≤ length bytes.now }
     requires program { program.now ≡ spec.as_program bytes.now }
     requires accepted { Accepted program.now object.now }
@@ -68,7 +73,7 @@ pub fn is_pie(alloc: Global, bytes: &[u8]) -> Result<Option<Object>, NoMemory>
         Err(Refusal::NoMemory) => return Err(NoMemory),
         Err(Refusal::Clause { .. }) => return Ok(None),
     };
-    if !holds(alloc, bytes, &program, &object)? {
+    if !is_pie_object(alloc, bytes, &program, &object)? {
         return Ok(None);
     }
     Ok(Some(object))

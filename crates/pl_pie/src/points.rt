@@ -20,7 +20,7 @@ use pl_elf::constants::{ET_DYN, HEADER_SIZE, PAGE, PT_INTERP, PT_LOAD, SHF_ALLOC
 use pl_elf::{Header, Range, Section, Segment, header_fields, segment_of_kind};
 use pl_object::tables::sections_window;
 use pl_object::tags::{dynamic_memory, has_tag, value};
-use pl_object::{Object, Window, loaded, strings_of, window_of};
+use pl_object::{Object, Window, loaded, range_window, strings_of};
 use std::alloc::{AllocError, Global};
 
 // ---- the file tells that it is a program
@@ -115,7 +115,7 @@ fn named_windows(alloc: Global, object: &Object) -> Result<Vec<Window>, AllocErr
 {
     hash_and_version_tables(object.tables.as_slice())
         .iter()
-        .map(|range| window_of(range))
+        .map(|range| range_window(range))
         .collect(alloc)
 }
 

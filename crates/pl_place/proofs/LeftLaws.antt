@@ -7,11 +7,11 @@ use Rattle.pl_elf.specs.declared.range.Range.{Range}
 use Rattle.pl_slots.specs.Holes.{region_holes, without, is_free, spans_in, fits_at}
 use Rattle.pl_elf.specs.Ranges.{has}
 use Rattle.pl_slots.proofs.HoleLaws.{free_without, free_in_region}
-use Rattle.pl_place.specs.Left.{beside, left, greatest_end}
+use Rattle.pl_place.specs.Left.{without_busy, left, greatest_end}
 
 -- a range with addresses is taken out
-pub beside_some : (holes : List Range) (taken : Range) → taken.start < taken.end → beside holes taken ≡ without taken holes
-beside_some holes taken lt = rw (lt-ltb taken.start taken.end lt) refl
+pub without_busy_some : (holes : List Range) (taken : Range) → taken.start < taken.end → without_busy holes taken ≡ without taken holes
+without_busy_some holes taken lt = rw (lt-ltb taken.start taken.end lt) refl
 
 -- a range without addresses has none of them
 none_in : (address : ℕ) (taken : Range) → nat_lt taken.start taken.end ≡ false → has address taken ≡ false
@@ -21,8 +21,8 @@ kept : (b : Bool) → b ≡ (b && not false)
 kept true = refl
 kept false = refl
 
-free_beside : (address : ℕ) (holes : List Range) (taken : Range) → is_free address (beside holes taken) ≡ (is_free address holes && not (has address taken))
-free_beside address holes taken = elim (cases_Bool (nat_lt taken.start taken.end)) [
+free_without_busy : (address : ℕ) (holes : List Range) (taken : Range) → is_free address (without_busy holes taken) ≡ (is_free address holes && not (has address taken))
+free_without_busy address holes taken = elim (cases_Bool (nat_lt taken.start taken.end)) [
   | inl some ↦ rw some (free_without address taken holes)
   | inr none ↦ rw (none, none_in address taken none) (kept (is_free address holes))
 ]
@@ -32,11 +32,11 @@ both true true r = refl
 both true false r = refl
 both false t r = refl
 
-free_after : (address : ℕ) (holes busy : List Range) → is_free address (fold beside holes busy) ≡ (is_free address holes && not (is_free address busy))
+free_after : (address : ℕ) (holes busy : List Range) → is_free address (fold without_busy holes busy) ≡ (is_free address holes && not (is_free address busy))
 free_after address holes [] = kept (is_free address holes)
 free_after address holes (taken ∷ busy) =
-    free_after address (beside holes taken) busy
-    ∙ ap (λ b. b && not (is_free address busy)) (free_beside address holes taken)
+    free_after address (without_busy holes taken) busy
+    ∙ ap (λ b. b && not (is_free address busy)) (free_without_busy address holes taken)
     ∙ both (is_free address holes) (has address taken) (is_free address busy)
 
 -- the addresses of the region that no busy range has

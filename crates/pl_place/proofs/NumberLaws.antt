@@ -10,7 +10,7 @@ use Rattle.pl_base.specs.Below.{count_below}
 use Rattle.pl_base.specs.Sums.{round_up, is_aligned}
 use Rattle.pl_base.proofs.SumLaws.{round_up-at_least}
 use Rattle.pl_elf.specs.declared.range.Range.{Range}
-use Rattle.pl_slots.specs.Holes.{holds, AreHolesFrom, spans_in, fits_at}
+use Rattle.pl_slots.specs.Holes.{fits_in, AreHolesFrom, spans_in, fits_at}
 use Rattle.pl_slots.proofs.LowestLaws.{round_up-least, fits_from}
 use Rattle.pl_place.specs.Left.{greatest_end}
 use Rattle.pl_place.specs.Numbering.{is_place, places_below, room, all_room, place_in, numbered}
@@ -77,26 +77,26 @@ place_above align number hole p = omega (arith, round_up-at_least hole.start ali
 abbrev slack : ℕ → ℕ → Range → ℕ
 slack span align hole = hole.end - span - round_up hole.start align
 
-room_some : (span align : ℕ) (hole : Range) → holds span align hole ≡ true → room span align hole ≡ slack span align hole / align + 1
+room_some : (span align : ℕ) (hole : Range) → fits_in span align hole ≡ true → room span align hole ≡ slack span align hole / align + 1
 unfolding room
 room_some span align hole hit = rw hit refl
 
-room_none : (span align : ℕ) (hole : Range) → holds span align hole ≡ false → room span align hole ≡ 0
+room_none : (span align : ℕ) (hole : Range) → fits_in span align hole ≡ false → room span align hole ≡ 0
 unfolding room
 room_none span align hole miss = rw miss refl
 
-hit_fits : (span align : ℕ) (hole : Range) → holds span align hole ≡ true → round_up hole.start align + span ≤ hole.end
-unfolding holds
+hit_fits : (span align : ℕ) (hole : Range) → fits_in span align hole ≡ true → round_up hole.start align + span ≤ hole.end
+unfolding fits_in
 hit_fits span align hole hit = leb-true (round_up hole.start align + span) hole.end hit
 
-miss_passes : (span align : ℕ) (hole : Range) → holds span align hole ≡ false → hole.end < round_up hole.start align + span
-unfolding holds
+miss_passes : (span align : ℕ) (hole : Range) → fits_in span align hole ≡ false → hole.end < round_up hole.start align + span
+unfolding fits_in
 miss_passes span align hole miss = leb-false (round_up hole.start align + span) hole.end miss
 
 -- a place of a number below the room lies in the hole
 pub place_within : (span align : ℕ) (hole : Range) (number : ℕ) → number < room span align hole → place_in align hole number + span ≤ hole.end
 unfolding place_in
-place_within span align hole number lt = elim (cases_Bool (holds span align hole)) [
+place_within span align hole number lt = elim (cases_Bool (fits_in span align hole)) [
   | inl hit ↦
       let d : ℕ = slack span align hole in
       let at_most : number ≤ d / align = omega (arith, lt, room_some span align hole hit) in
@@ -109,7 +109,7 @@ place_within span align hole number lt = elim (cases_Bool (holds span align hole
 -- and every other passes its end
 place_beyond : (span align : ℕ) (hole : Range) (number : ℕ) → 0 < align → room span align hole ≤ number → hole.end < place_in align hole number + span
 unfolding place_in
-place_beyond span align hole number p le = elim (cases_Bool (holds span align hole)) [
+place_beyond span align hole number p le = elim (cases_Bool (fits_in span align hole)) [
   | inl hit ↦
       let d : ℕ = slack span align hole in
       let at_least : d / align + 1 ≤ number = omega (arith, le, room_some span align hole hit) in

@@ -15,9 +15,9 @@ use Rattle.pl_place.specs.declared.fault.PlaceFault.{PlaceFault}
 use Rattle.pl_place.specs.declared.fault.PlaceFault.TheVariants.{NoPlace, NoMemory}
 use Rattle.pl_base.specs.Answers.{Answers, AnswersAs}
 use Rattle.pl_place.specs.Policy.{Answering, Choice, Follows}
-use Rattle.pl_place.specs.Left.{beside, left}
-use Rattle.pl_place.specs.Placing.{Chose, chosen, is_memory, range_of, InTurn, ArePlaced, StopsAt, AllFit, AllFree, MissesAll, AreApart, Because, IsFault}
-use Rattle.pl_place.proofs.LeftLaws.{beside_some, free_left}
+use Rattle.pl_place.specs.Left.{without_busy, left}
+use Rattle.pl_place.specs.Placing.{Chose, chosen, is_memory, want_range, InTurn, ArePlacedInTurn, StopsAt, AllInHoles, AllFree, MissesAll, WantsAreApart, Because, IsFault}
+use Rattle.pl_place.proofs.LeftLaws.{without_busy_some, free_left}
 
 -- ---- one want more
 
@@ -31,11 +31,11 @@ at_want : (wants : List Want) (i : ℕ) (want : Want) → i < length wants → w
 at_want wants i want lt is = at_drop_more (λ (xs : List Want). xs) wants i want lt ∙ rw (← is) refl
 
 pub so_far_more : (post : Answering) (free : List Range) (wants : List Want) (holes : List Range) (i : ℕ) (want : Want) (range : Range) (starts : List ℕ)
-    → i < length wants → want ≡ get_or wants i want → range ≡ range_of want range.start → range.start < range.end → Chose post holes want (Some range.start)
-    → IsSoFar post free wants holes (drop i wants) starts → IsSoFar post free wants (beside holes range) (drop (i + 1) wants) (starts ++ range.start ∷ [])
+    → i < length wants → want ≡ get_or wants i want → range ≡ want_range want range.start → range.start < range.end → Chose post holes want (Some range.start)
+    → IsSoFar post free wants holes (drop i wants) starts → IsSoFar post free wants (without_busy holes range) (drop (i + 1) wants) (starts ++ range.start ∷ [])
 so_far_more post free wants holes i want range starts lt is at some chose so_far =
     let here : IsSoFar post free wants holes (want ∷ drop (i + 1) wants) starts = subst (λ rest. IsSoFar post free wants holes rest starts) (at_want wants i want lt is) so_far in
-    let left : beside holes range ≡ without (range_of want range.start) holes = beside_some holes range some ∙ ap (λ r. without r holes) at in
+    let left : without_busy holes range ≡ without (want_range want range.start) holes = without_busy_some holes range some ∙ ap (λ r. without r holes) at in
     subst (λ holes. IsSoFar post free wants holes (drop (i + 1) wants) (starts ++ range.start ∷ [])) (sym left) (record {
       places = λ more p. rw append_assoc (here.places (range.start ∷ more) (chose, p));
       stops = λ name p. here.stops name (inr (range.start, chose, p));
@@ -47,7 +47,7 @@ so_far_stops post free wants holes i want starts lt is chose so_far =
     let here : IsSoFar post free wants holes (want ∷ drop (i + 1) wants) starts = subst (λ rest. IsSoFar post free wants holes rest starts) (at_want wants i want lt is) so_far in
     here.stops want.name (inl (refl, chose))
 
-pub so_far_ends : (post : Answering) (free : List Range) (wants : List Want) (holes : List Range) (i : ℕ) (starts : List ℕ) → length wants ≤ i → IsSoFar post free wants holes (drop i wants) starts → ArePlaced post free wants starts
+pub so_far_ends : (post : Answering) (free : List Range) (wants : List Want) (holes : List Range) (i : ℕ) (starts : List ℕ) → length wants ≤ i → IsSoFar post free wants holes (drop i wants) starts → ArePlacedInTurn post free wants starts
 so_far_ends post free wants holes i starts le so_far =
     let here : IsSoFar post free wants holes [] starts = subst (λ rest. IsSoFar post free wants holes rest starts) (at_drop_all (λ (xs : List Want). xs) wants i le) so_far in
     record { in_turn = subst (InTurn post free wants) (append-nil starts) (here.places [] tt) }
@@ -91,21 +91,21 @@ fits_wider span start taken (free ∷ holes) fits =
       | inr later ↦ or_right (spans_in start span free) (fits_at holes span start) (fits_wider span start taken holes later)
     ]
 
-all_wider : (taken : Range) (holes : List Range) (wants : List Want) (starts : List ℕ) → AllFit (without taken holes) wants starts → AllFit holes wants starts
+all_wider : (taken : Range) (holes : List Range) (wants : List Want) (starts : List ℕ) → AllInHoles (without taken holes) wants starts → AllInHoles holes wants starts
 all_wider taken holes [] [] all = tt
 all_wider taken holes (want ∷ wants) (start ∷ starts) all = ((all.0.0, fits_wider want.span start taken holes all.0.1), all_wider taken holes wants starts all.1)
 all_wider taken holes [] (start ∷ starts) all = all
 all_wider taken holes (want ∷ wants) [] all = all
 
 -- each place fits
-placed_fit : (post : Answering) (holes : List Range) (wants : List Want) (starts : List ℕ) → InTurn post holes wants starts → AllFit holes wants starts
+placed_fit : (post : Answering) (holes : List Range) (wants : List Want) (starts : List ℕ) → InTurn post holes wants starts → AllInHoles holes wants starts
 placed_fit post holes [] [] placed = tt
 placed_fit post holes (want ∷ wants) (start ∷ starts) placed =
-    (placed.0.1, all_wider (range_of want start) holes wants starts (placed_fit post (without (range_of want start) holes) wants starts placed.1))
+    (placed.0.1, all_wider (want_range want start) holes wants starts (placed_fit post (without (want_range want start) holes) wants starts placed.1))
 placed_fit post holes [] (start ∷ starts) placed = placed
 placed_fit post holes (want ∷ wants) [] placed = placed
 
-pub all_fit : (post : Answering) (holes : List Range) (wants : List Want) (starts : List ℕ) → ArePlaced post holes wants starts → AllFit holes wants starts
+pub all_fit : (post : Answering) (holes : List Range) (wants : List Want) (starts : List ℕ) → ArePlacedInTurn post holes wants starts → AllInHoles holes wants starts
 all_fit post holes wants starts placed = placed_fit post holes wants starts placed.in_turn
 
 -- the addresses of what fits are free
@@ -114,17 +114,17 @@ fit_is_free address span start holes fits within =
     let parts = and_parts (nat_le start address) (nat_lt address (start + span)) within in
     fits_free holes span start address fits (leb-true start address parts.0) (ltb-true address (start + span) parts.1)
 
-misses : (taken : Range) (holes : List Range) (wants : List Want) (starts : List ℕ) → AllFit (without taken holes) wants starts → MissesAll taken wants starts
+misses : (taken : Range) (holes : List Range) (wants : List Want) (starts : List ℕ) → AllInHoles (without taken holes) wants starts → MissesAll taken wants starts
 misses taken holes [] starts all = tt
 misses taken holes (want ∷ wants) [] all = tt
 misses taken holes (want ∷ wants) (start ∷ starts) all = (
-  λ address hit. false_from_ne_true (has address (range_of want start)) (λ there.
+  λ address hit. false_from_ne_true (has address (want_range want start)) (λ there.
       no_both (is_free address holes) (has address taken) (sym (free_without address taken holes) ∙ fit_is_free address want.span start (without taken holes) all.0.1 there) hit),
   misses taken holes wants starts all.1,
 )
 
 -- what fits beside busy ranges is in the region and in none of them
-pub fit_free : (region : Range) (busy : List Range) (wants : List Want) (starts : List ℕ) → AllFit (left region busy) wants starts → AllFree region busy wants starts
+pub fit_free : (region : Range) (busy : List Range) (wants : List Want) (starts : List ℕ) → AllInHoles (left region busy) wants starts → AllFree region busy wants starts
 fit_free region busy [] starts all = tt
 fit_free region busy (want ∷ wants) [] all = tt
 fit_free region busy (want ∷ wants) (start ∷ starts) all = (
@@ -133,15 +133,15 @@ fit_free region busy (want ∷ wants) (start ∷ starts) all = (
 )
 
 -- no two places share an address
-placed_apart : (post : Answering) (holes : List Range) (wants : List Want) (starts : List ℕ) → InTurn post holes wants starts → AreApart wants starts
+placed_apart : (post : Answering) (holes : List Range) (wants : List Want) (starts : List ℕ) → InTurn post holes wants starts → WantsAreApart wants starts
 placed_apart post holes [] starts placed = tt
 placed_apart post holes (want ∷ wants) [] placed = tt
 placed_apart post holes (want ∷ wants) (start ∷ starts) placed = (
-  misses (range_of want start) holes wants starts (placed_fit post (without (range_of want start) holes) wants starts placed.1),
-  placed_apart post (without (range_of want start) holes) wants starts placed.1,
+  misses (want_range want start) holes wants starts (placed_fit post (without (want_range want start) holes) wants starts placed.1),
+  placed_apart post (without (want_range want start) holes) wants starts placed.1,
 )
 
-pub all_apart : (post : Answering) (holes : List Range) (wants : List Want) (starts : List ℕ) → ArePlaced post holes wants starts → AreApart wants starts
+pub all_apart : (post : Answering) (holes : List Range) (wants : List Want) (starts : List ℕ) → ArePlacedInTurn post holes wants starts → WantsAreApart wants starts
 all_apart post holes wants starts placed = placed_apart post holes wants starts placed.in_turn
 
 -- ---- a policy that follows a function
@@ -158,7 +158,7 @@ in_turn_chosen post choose follows holes [] (start ∷ starts) placed = absurd p
 in_turn_chosen post choose follows holes (want ∷ wants) [] placed = absurd placed
 in_turn_chosen post choose follows holes (want ∷ wants) (start ∷ starts) placed =
     let here = told post choose follows holes want (Some start) placed.0 in
-    let rest = in_turn_chosen post choose follows (without (range_of want start) holes) wants starts placed.1 in
+    let rest = in_turn_chosen post choose follows (without (want_range want start) holes) wants starts placed.1 in
     rw (here, rest) refl
 
 pub stops_chosen : (post : Answering) (choose : Choice) → Follows post choose → (holes : List Range) (wants : List Want) (name : List ℕ) → StopsAt post holes wants name → chosen choose holes wants ≡ Err (NoPlace name)
@@ -169,11 +169,11 @@ stops_chosen post choose follows holes (want ∷ wants) name (inl here) =
     rw (none, here.0) refl
 stops_chosen post choose follows holes (want ∷ wants) name (inr later) =
     let here = told post choose follows holes want (Some later.0) later.1 in
-    let rest = stops_chosen post choose follows (without (range_of want later.0) holes) wants name later.2 in
+    let rest = stops_chosen post choose follows (without (want_range want later.0) holes) wants name later.2 in
     rw (here, rest) refl
 
 -- the places, and why there are none, are those of the function
-pub all_chosen : (post : Answering) (choose : Choice) (holes : List Range) (wants : List Want) (starts : List ℕ) → Follows post choose → ArePlaced post holes wants starts → chosen choose holes wants ≡ Ok starts
+pub all_chosen : (post : Answering) (choose : Choice) (holes : List Range) (wants : List Want) (starts : List ℕ) → Follows post choose → ArePlacedInTurn post holes wants starts → chosen choose holes wants ≡ Ok starts
 all_chosen post choose holes wants starts follows placed = in_turn_chosen post choose follows holes wants starts placed.in_turn
 
 fault_chosen : (post : Answering) (choose : Choice) (holes : List Range) (wants : List Want) (fault : PlaceFault) → Follows post choose → IsFault post holes wants fault → Answers is_memory (Err fault) (chosen choose holes wants)
@@ -181,6 +181,6 @@ fault_chosen post choose holes wants (NoPlace name) follows is = stops_chosen po
 fault_chosen post choose holes wants NoMemory follows is = tt
 
 pub answers_chosen : {X : Type 0} (view : X → List ℕ) (post : Answering) (choose : Choice) (holes : List Range) (wants : List Want) (r : Result X PlaceFault) → Follows post choose
-    → IfOk r (λ x. ArePlaced post holes wants (view x)) → IfErr r (IsFault post holes wants) → AnswersAs view is_memory r (chosen choose holes wants)
+    → IfOk r (λ x. ArePlacedInTurn post holes wants (view x)) → IfErr r (IsFault post holes wants) → AnswersAs view is_memory r (chosen choose holes wants)
 answers_chosen view post choose holes wants (Ok x) follows placed fault = all_chosen post choose holes wants (view x) follows placed
 answers_chosen view post choose holes wants (Err e) follows placed fault = fault_chosen post choose holes wants e follows fault

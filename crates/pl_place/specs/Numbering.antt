@@ -3,7 +3,7 @@ use Rattle.std.specs.Prelude.{◌≡◌, ℕ, ◌+◌, ◌-◌, ◌*◌, ◌/◌
 use Rattle.pl_base.specs.Below.{count_below}
 use Rattle.pl_base.specs.Sums.{plus, round_up, is_aligned}
 use Rattle.pl_elf.specs.declared.range.Range.{Range}
-use Rattle.pl_slots.specs.Holes.{holds, fits_at}
+use Rattle.pl_slots.specs.Holes.{fits_in, fits_at}
 use Rattle.pl_place.specs.Left.{greatest_end}
 use Rattle.rand_core.specs.Pcg32Seed.{pcg32_seed}
 use Rattle.rand_pcg.specs.Pcg.{pcg64, pcg64_of_seed}
@@ -30,7 +30,7 @@ IsSeeded number holes span align start =
 -- how many places there are in one hole
 unfoldable pub room : ℕ → ℕ → Range → ℕ
 room span align hole =
-    if holds span align hole then (hole.end - span - round_up hole.start align) / align + 1 else 0
+    if fits_in span align hole then (hole.end - span - round_up hole.start align) / align + 1 else 0
 
 -- and in all
 unfoldable pub all_room : ℕ → ℕ → List Range → ℕ

@@ -16,8 +16,8 @@ abbrev pub Chose : Answering → List Range → Want → Option ℕ → Type 0
 Chose post holes want answer = Answered post holes want.span want.align answer × MayAnswer holes want.span want.align answer
 
 -- the addresses of a want
-abbrev pub range_of : Want → ℕ → Range
-range_of want start = range_from start want.span
+abbrev pub want_range : Want → ℕ → Range
+want_range want start = range_from start want.span
 
 -- each want in turn is where the policy says in the holes that are left beside those before it
 abbrev pub InTurn : Answering → List Range → List Want → List ℕ → Type 0
@@ -25,9 +25,9 @@ InTurn post holes [] [] = Unit {0}
 InTurn post holes [] (start ∷ starts) = ⊥
 InTurn post holes (want ∷ wants) [] = ⊥
 InTurn post holes (want ∷ wants) (start ∷ starts) =
-    Chose post holes want (Some start) × InTurn post (without (range_of want start) holes) wants starts
+    Chose post holes want (Some start) × InTurn post (without (want_range want start) holes) wants starts
 
-pub record ArePlaced (post : Answering) (holes : List Range) (wants : List Want) (starts : List ℕ) : Type 0 where
+pub record ArePlacedInTurn (post : Answering) (holes : List Range) (wants : List Want) (starts : List ℕ) : Type 0 where
   pub in_turn : InTurn post holes wants starts
 
 -- so it was for some first wants, and for the next one, of this name, nothing fits
@@ -35,7 +35,7 @@ abbrev pub StopsAt : Answering → List Range → List Want → List ℕ → Typ
 StopsAt post holes [] name = ⊥
 StopsAt post holes (want ∷ wants) name =
     ((want.name ≡ name) × Chose post holes want None)
-    ⊎ ((start : ℕ) × Chose post holes want (Some start) × StopsAt post (without (range_of want start) holes) wants name)
+    ⊎ ((start : ℕ) × Chose post holes want (Some start) × StopsAt post (without (want_range want start) holes) wants name)
 
 -- why wants have no places
 abbrev pub Because : Answering → List Range → List Want → PlaceFault → Type 0
@@ -48,18 +48,18 @@ pub record IsFault (post : Answering) (holes : List Range) (wants : List Want) (
 -- ---- what places are, whatever the policy
 
 -- each place is aligned and lies whole in one of the holes
-abbrev pub AllFit : List Range → List Want → List ℕ → Type 0
-AllFit holes [] [] = Unit {0}
-AllFit holes [] (start ∷ starts) = ⊥
-AllFit holes (want ∷ wants) [] = ⊥
-AllFit holes (want ∷ wants) (start ∷ starts) = IsPlace holes want.span want.align start × AllFit holes wants starts
+abbrev pub AllInHoles : List Range → List Want → List ℕ → Type 0
+AllInHoles holes [] [] = Unit {0}
+AllInHoles holes [] (start ∷ starts) = ⊥
+AllInHoles holes (want ∷ wants) [] = ⊥
+AllInHoles holes (want ∷ wants) (start ∷ starts) = IsPlace holes want.span want.align start × AllInHoles holes wants starts
 
 -- each address of a want is in the region and in no busy range
 abbrev pub AllFree : Range → List Range → List Want → List ℕ → Type 0
 AllFree region busy [] starts = Unit {0}
 AllFree region busy (want ∷ wants) [] = Unit {0}
 AllFree region busy (want ∷ wants) (start ∷ starts) =
-    ((address : ℕ) → has address (range_of want start) ≡ true → (has address region && not (is_free address busy)) ≡ true)
+    ((address : ℕ) → has address (want_range want start) ≡ true → (has address region && not (is_free address busy)) ≡ true)
     × AllFree region busy wants starts
 
 -- no address of a range is an address of a want
@@ -67,13 +67,13 @@ abbrev pub MissesAll : Range → List Want → List ℕ → Type 0
 MissesAll range [] starts = Unit {0}
 MissesAll range (want ∷ wants) [] = Unit {0}
 MissesAll range (want ∷ wants) (start ∷ starts) =
-    ((address : ℕ) → has address range ≡ true → has address (range_of want start) ≡ false) × MissesAll range wants starts
+    ((address : ℕ) → has address range ≡ true → has address (want_range want start) ≡ false) × MissesAll range wants starts
 
 -- no address is an address of two wants
-abbrev pub AreApart : List Want → List ℕ → Type 0
-AreApart [] starts = Unit {0}
-AreApart (want ∷ wants) [] = Unit {0}
-AreApart (want ∷ wants) (start ∷ starts) = MissesAll (range_of want start) wants starts × AreApart wants starts
+abbrev pub WantsAreApart : List Want → List ℕ → Type 0
+WantsAreApart [] starts = Unit {0}
+WantsAreApart (want ∷ wants) [] = Unit {0}
+WantsAreApart (want ∷ wants) (start ∷ starts) = MissesAll (want_range want start) wants starts × WantsAreApart wants starts
 
 abbrev pub IsWant : Want → Type 0
 IsWant want = IsAsked want.span want.align
@@ -89,7 +89,7 @@ unfoldable pub chosen : Choice → List Range → List Want → Result (List ℕ
 chosen choose holes [] = Ok []
 chosen choose holes (want ∷ wants) = do
   start ← ok_or (choose holes want.span want.align) (NoPlace want.name)
-  starts ← chosen choose (without (range_of want start) holes) wants
+  starts ← chosen choose (without (want_range want start) holes) wants
   Ok (start ∷ starts)
 
 -- where the policy follows a function, the answer is that function's places or its fault, or a want of memory

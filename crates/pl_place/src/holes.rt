@@ -53,8 +53,8 @@ impl Holes {
     }
 
     /// What is left beside a range that is taken. A range without addresses takes nothing.
-    pub fn beside(self, alloc: Global, taken: Range) -> Result<Holes, AllocError>
-        ensures { IfOk result (λ holes. holes ≡ spec.beside self taken) }
+    pub fn without_busy(self, alloc: Global, taken: Range) -> Result<Holes, AllocError>
+        ensures { IfOk result (λ holes. holes ≡ spec.without_busy self taken) }
     {
         if taken.start < taken.end {
             Ok(Holes::new(without(alloc, self.rows(), taken)?))
@@ -78,7 +78,7 @@ fn holes_left(alloc: Global, region: Range, busy: &[Range]) -> Result<Holes, All
 {
     let mut holes = Holes::new(region_holes(alloc, region)?);
     for taken in busy {
-        holes = holes.beside(alloc, *taken)?;
+        holes = holes.without_busy(alloc, *taken)?;
     }
     Ok(holes)
 }

@@ -6,7 +6,7 @@ use pl_elf::Range;
 use pl_slots::first_address;
 
 /// How many places there are in a hole.
-#[tactic(auto, unfolding(crate::specs::Numbering::room, pl_slots::specs::Holes::holds))]
+#[tactic(auto, unfolding(crate::specs::Numbering::room, pl_slots::specs::Holes::fits_in))]
 fn room(hole: Range, span: u64, align: u64) -> u128
     requires { 0 < align }
     ensures value { result ≡ spec.room span align hole }

@@ -20,7 +20,7 @@ fn place_one<F: Fn(&Holes, u64, u64) -> Option<u64>>(
     requires may { policy.MayChoose (F.pre placer.now) }
     requires chooses { policy.Chooses (F.post placer.now) }
     requires want { spec.IsWant want.now }
-    ensures some { IfSome result (λ range. (range ≡ spec.range_of want.now range.start)
+    ensures some { IfSome result (λ range. (range ≡ spec.want_range want.now range.start)
         × (range.start < range.end) × spec.Chose (F.post placer.now) holes.now want.now
         (Some range.start)) }
     ensures none { IfNone result (spec.Chose (F.post placer.now) holes.now want.now None) }
@@ -40,7 +40,7 @@ fn placed<F: Fn(&Holes, u64, u64) -> Option<u64>>(
     requires may { policy.MayChoose (F.pre placer.now) }
     requires chooses { policy.Chooses (F.post placer.now) }
     requires wants { All spec.IsWant wants.now }
-    ensures places { IfOk result (λ starts. spec.ArePlaced (F.post placer.now) free wants.now
+    ensures places { IfOk result (λ starts. spec.ArePlacedInTurn (F.post placer.now) free wants.now
         starts.items) }
     ensures fault { IfErr result (spec.IsFault (F.post placer.now) free wants.now) }
 {
@@ -54,7 +54,7 @@ fn placed<F: Fn(&Holes, u64, u64) -> Option<u64>>(
                 });
             }
             Some(range) => {
-                holes = holes.beside(alloc, range)?;
+                holes = holes.without_busy(alloc, range)?;
                 starts.push(range.start)?;
             }
         }
@@ -76,15 +76,15 @@ pub fn place_all<F: Fn(&Holes, u64, u64) -> Option<u64>>(
     requires chooses { policy.Chooses (F.post placer.now) }
     requires wants { All spec.IsWant wants.now }
     // Each place is the policy's answer for the holes that are left.
-    ensures places { IfOk result (λ starts. spec.ArePlaced (F.post placer.now)
+    ensures places { IfOk result (λ starts. spec.ArePlacedInTurn (F.post placer.now)
         (left region busy.now) wants.now starts.items) }
     // Each place is aligned, and lies whole in a hole of the region beside the busy ranges,
-    ensures fit { IfOk result (λ starts. spec.AllFit (left region busy.now) wants.now
+    ensures fit { IfOk result (λ starts. spec.AllInHoles (left region busy.now) wants.now
         starts.items) }
     // so each of its addresses is in the region and in no busy range.
     ensures free { IfOk result (λ starts. spec.AllFree region busy.now wants.now starts.items) }
     // No two places share an address.
-    ensures apart { IfOk result (λ starts. spec.AreApart wants.now starts.items) }
+    ensures apart { IfOk result (λ starts. spec.WantsAreApart wants.now starts.items) }
     ensures fault { IfErr result (spec.IsFault (F.post placer.now) (left region busy.now)
         wants.now) }
     // Where the policy follows a function, they are that function's.

@@ -9,7 +9,7 @@ use Rattle.pl_cone.specs.Cone as cone
 use Rattle.pl_cone.specs.declared.known.Known.{Known}
 use Rattle.pl_cone.specs.declared.skip.Skip.{Skip}
 use Rattle.pl_plan.specs.Wants as wants
-use Rattle.pl_plan.specs.Wants.{candidate, cause_of, standing, standings, unless_caused}
+use Rattle.pl_plan.specs.Wants.{name_without_cause, cause_of, standing, standings, unless_caused}
 use Rattle.pl_scope.specs.Members.{names}
 use Rattle.pl_scope.specs.Scope.{walked}
 use Rattle.pl_scope.specs.declared.member.Member.{Member}
@@ -42,11 +42,11 @@ with_cause : (n : List ℕ) (r : Result (Unit {0}) Skip) (later : List (List ℕ
 with_cause n (Ok u) later = refl
 with_cause n (Err cause) later = refl
 
-standing_well : (files known : List Known) → filter_map candidate (map (λ k. standing files k.name.now) known) ≡ filter (is_candidate files) (map (λ k. k.name.now) known)
+standing_well : (files known : List Known) → filter_map name_without_cause (map (λ k. standing files k.name.now) known) ≡ filter (is_candidate files) (map (λ k. k.name.now) known)
 standing_well files [] = refl
 standing_well files (k ∷ known) =
-    ap (cons_option (candidate (standing files k.name.now))) (standing_well files known) ∙ with_cause k.name.now (prelinkable files k.name.now) (filter (is_candidate files) (map (λ x. x.name.now) known))
+    ap (cons_option (name_without_cause (standing files k.name.now))) (standing_well files known) ∙ with_cause k.name.now (prelinkable files k.name.now) (filter (is_candidate files) (map (λ x. x.name.now) known))
 
-pub candidates_are : (files : List Known) → wants.candidates (standings files) ≡ cone.candidates files
-unfolding wants.candidates standings cone.candidates
+pub candidates_are : (files : List Known) → wants.names_without_cause (standings files) ≡ cone.candidates files
+unfolding wants.names_without_cause standings cone.candidates
 candidates_are files = standing_well files files

@@ -4,7 +4,7 @@ use Rattle.pl_base.specs.Answers.{◌>>=◌, because}
 use Rattle.pl_cone.specs.Cone.{cone}
 use Rattle.pl_cone.specs.declared.known.Known.{Known}
 use Rattle.pl_plan.specs.Faults.{of_cone, of_plan}
-use Rattle.pl_plan.specs.Wants.{standings, candidates, wants, walks}
+use Rattle.pl_plan.specs.Wants.{standings, names_without_cause, wants, walks}
 use Rattle.pl_plan.specs.declared.asked.Asked.{Asked}
 use Rattle.pl_plan.specs.declared.fault.PlanningFault.{PlanningFault}
 use Rattle.pl_plan.specs.declared.planned.Planned.{Planned}
@@ -26,6 +26,6 @@ slots_by files a ns = slots files a ns (wants files ns)
 -- the slots, the stale names and the stamp, or the first cause
 unfoldable pub planned : List Known → Asked → Result Planned PlanningFault
 planned files a =
-    slots_by files a (candidates (standings files)) >>= λ slots.
+    slots_by files a (names_without_cause (standings files)) >>= λ slots.
     because of_cone (cone files slots a.last a.moment) >>= λ c.
     Ok (record { standings = standings files; slots = slots; stale = c.stale; stamp = c.stamp })

@@ -30,12 +30,12 @@ abbrev pub unless_caused : List ℕ → Option Skip → Option (List ℕ)
 unless_caused n None = Some n
 unless_caused n (Some cause) = None
 
-abbrev pub candidate : Standing → Option (List ℕ)
-candidate s = unless_caused s.name s.cause
+abbrev pub name_without_cause : Standing → Option (List ℕ)
+name_without_cause s = unless_caused s.name s.cause
 
 -- the names without a cause
-unfoldable pub candidates : List Standing → List (List ℕ)
-candidates rows = filter_map candidate rows
+unfoldable pub names_without_cause : List Standing → List (List ℕ)
+names_without_cause rows = filter_map name_without_cause rows
 
 -- ---- who wants a slot
 

@@ -9,7 +9,7 @@ ghost use Rattle.pl_plan.specs.Faults.{is_memory, of_cone};
 ghost use Rattle.pl_plan.specs.Planned as spec;
 
 use crate::slots::slots_of;
-use crate::standing::{Standing, candidates, standings};
+use crate::standing::{Standing, names_without_cause, standings};
 use crate::wants::wants_of;
 use crate::{Asked, PlanningFault};
 use pl_base::{Rows, Text};
@@ -84,7 +84,7 @@ pub fn plan_run(
     ensures { Answers is_memory result (spec.planned files.now asked.now) }
 {
     let standings = standings(alloc, files, links)?;
-    let names = candidates(alloc, standings.as_slice())?;
+    let names = names_without_cause(alloc, standings.as_slice())?;
     let slots = planned_slots(alloc, files, asked, names.as_slice())?;
     let Cone { stale, stamp } = cone_by(alloc, files, asked, names.as_slice(), slots.as_slice())?;
     Ok(Planned {

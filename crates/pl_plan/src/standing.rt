@@ -75,8 +75,8 @@ pub fn standings(
 }
 
 /// The name of a row without a cause.
-fn candidate(alloc: Global, row: &Standing) -> Result<Option<Text>, AllocError>
-    ensures { IfOk result (λ name. name ≡ spec.candidate row.now) }
+fn name_without_cause(alloc: Global, row: &Standing) -> Result<Option<Text>, AllocError>
+    ensures { IfOk result (λ name. name ≡ spec.name_without_cause row.now) }
 {
     match &row.cause {
         None => Ok(Some(Text::copy_of(alloc, row.name.as_str())?)),
@@ -85,13 +85,13 @@ fn candidate(alloc: Global, row: &Standing) -> Result<Option<Text>, AllocError>
 }
 
 /// The names without a cause, in their order.
-#[tactic(auto, unfolding(crate::specs::Wants::candidates))]
-pub fn candidates(alloc: Global, rows: &[Standing]) -> Result<Rows<Text>, AllocError>
-    ensures { IfOk result (λ names. names ≡ spec.candidates rows.now) }
+#[tactic(auto, unfolding(crate::specs::Wants::names_without_cause))]
+pub fn names_without_cause(alloc: Global, rows: &[Standing]) -> Result<Rows<Text>, AllocError>
+    ensures { IfOk result (λ names. names ≡ spec.names_without_cause rows.now) }
 {
     let mut names = Rows::new(alloc);
     for row in rows {
-        push_some(&mut names, candidate(alloc, row)?)?;
+        push_some(&mut names, name_without_cause(alloc, row)?)?;
     }
     Ok(names)
 }

@@ -11,7 +11,7 @@ use Rattle.pl_base.specs.Windows.{Window}
 use Rattle.pl_base.proofs.MemoryLaws.{filled-append, read_length, within_is}
 use Rattle.pl_conflict.proofs.GivenLaws.{IsOwnGiven}
 use Rattle.pl_elf.specs.declared.constants.TheConstants.{R_X86_64_NONE}
-use Rattle.pl_form.specs.Words.{AreFills, flat_of, has_place, window_of}
+use Rattle.pl_form.specs.Words.{AreFills, flat_of, has_place, fill_window}
 use Rattle.pl_form.specs.declared.file.Fill.{Fill}
 use Rattle.pl_image.specs.Image.{all_pieces}
 use Rattle.pl_image.specs.declared.loaded.Loaded.{Loaded}
@@ -51,10 +51,10 @@ fills_more m rs i d front new lt more so_far =
 
 -- ---- they are fills of the places
 
-windows_are : (m : Memory) (rs : List Reloc) → map window_of (map (fill_at m) rs) ≡ places rs
+windows_are : (m : Memory) (rs : List Reloc) → map fill_window (map (fill_at m) rs) ≡ places rs
 windows_are m [] = refl
 windows_are m (r ∷ rs) =
-    ap (λ (n : ℕ). record { at = r.address; size = n } ∷ map window_of (map (fill_at m) rs)) (read_length m r.address r.width)
+    ap (λ (n : ℕ). record { at = r.address; size = n } ∷ map fill_window (map (fill_at m) rs)) (read_length m r.address r.width)
     ∙ ap (λ (ws : List Window). record { at = r.address; size = r.width } ∷ ws) (windows_are m rs)
 
 pub are_fills : (m : Memory) (rs : List Reloc) → AreFills (fills m rs) rs

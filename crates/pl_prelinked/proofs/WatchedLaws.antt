@@ -10,7 +10,7 @@ use Rattle.pl_base.specs.Memory.{Memory, Fill, is_within, over, read, filled, la
 use Rattle.pl_base.specs.Windows.{Window, holds}
 use Rattle.pl_base.proofs.MemoryLaws.{read_length, read_byte}
 use Rattle.pl_base.proofs.WordLaws.{length_bytes64}
-use Rattle.pl_conflict.specs.Among.{Without, AreStill, HaveValues, IsFar, IsPassed, IsAmong, word_at}
+use Rattle.pl_conflict.specs.Among.{Without, AreStill, HaveValues, IsFar, IsPassed, IsAmong, word_window}
 use Rattle.pl_conflict.specs.Conflicts.{row_of, rows_of}
 use Rattle.pl_conflict.specs.Prelinked.{Firm, objects_of, originals_of, parts_of, slots_of}
 use Rattle.pl_conflict.specs.declared.among.Still.{Still}
@@ -36,18 +36,18 @@ use Rattle.pl_prelinked.specs.Fills.{fill_at, fills, fills_of, memory_of}
 use Rattle.pl_prelinked.specs.Lent.{AreStillIn}
 use Rattle.pl_prelinked.specs.Programs.{IsEnough, IsEnoughFor, Suffices, first_relocs, result_ok}
 use Rattle.pl_prelinked.specs.Sources.{AreSources}
-use Rattle.pl_prelinked.specs.Watched.{covers, is_watched, is_source_watched, are_watched}
+use Rattle.pl_prelinked.specs.Watched.{contains_bytes, is_watched, is_source_watched, are_watched}
 use Rattle.pl_prelinked.proofs.FirmLaws.{accepted_all, own_all}
 use Rattle.pl_prelinked.proofs.ProgramLaws.{ok_of}
 
 -- ---- addresses
 
-covers_holds : (from size k : ℕ) (w : Window) → covers from size w ≡ true → k < size → holds (from + k) w ≡ true
+covers_holds : (from size k : ℕ) (w : Window) → contains_bytes from size w ≡ true → k < size → holds (from + k) w ≡ true
 covers_holds from size k w e lt = grind (arith, nat_tests)
 
 watched_at : (ws : List Window) (from size k : ℕ) → is_watched ws from size ≡ true → k < size → list_any (holds (from + k)) ws ≡ true
 watched_at [] from size k e lt = absurd (false≢true e)
-watched_at (w ∷ ws) from size k e lt = elim (or_cases (covers from size w) (list_any (covers from size) ws) e) [
+watched_at (w ∷ ws) from size k e lt = elim (or_cases (contains_bytes from size w) (list_any (contains_bytes from size) ws) e) [
   | inl one ↦ rw (covers_holds from size k w one lt) refl
   | inr later ↦ elim (cases_Bool (holds (from + k) w)) [
     | inl hit ↦ rw hit refl
@@ -57,7 +57,7 @@ watched_at (w ∷ ws) from size k e lt = elim (or_cases (covers from size w) (li
 
 far_not : (ws : List Window) (start a : ℕ) → IsFar ws start → list_any (holds a) ws ≡ true → is_within start 8 a ≡ false
 far_not ws start a far at = elim (cases_Bool (is_within start 8 a)) [
-  | inl hit ↦ absurd (false≢true (sym (none_holds (word_at start) ws a hit far) ∙ at))
+  | inl hit ↦ absurd (false≢true (sym (none_holds (word_window start) ws a hit far) ∙ at))
   | inr miss ↦ miss
 ]
 

@@ -8,12 +8,12 @@ use Rattle.pl_value.specs.declared.word.Word.{Word}
 use Rattle.pl_value.specs.declared.word.Word.TheVariants.{Put, Copy, Nothing}
 
 -- a window has so many addresses from one on
-abbrev pub covers : ℕ → ℕ → Window → Bool
-covers from size w = nat_le w.at from && nat_le (from + size) (end_of w)
+abbrev pub contains_bytes : ℕ → ℕ → Window → Bool
+contains_bytes from size w = nat_le w.at from && nat_le (from + size) (end_of w)
 
 -- one of the windows has
 abbrev pub is_watched : List Window → ℕ → ℕ → Bool
-is_watched ws from size = list_any (covers from size) ws
+is_watched ws from size = list_any (contains_bytes from size) ws
 
 abbrev pub is_source_watched : List Window → Word → Bool
 is_source_watched ws (Put word) = true

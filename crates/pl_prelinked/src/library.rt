@@ -20,7 +20,7 @@ use pl_lists::ListRow;
 use std::alloc::Global;
 
 /// The own words of the first of members.
-fn words_of(alloc: Global, sources: &[Source<'_>]) -> Result<Rows<Option<u64>>, NoMemory>
+fn first_own_words(alloc: Global, sources: &[Source<'_>]) -> Result<Rows<Option<u64>>, NoMemory>
     requires sources { AreSources sources.now }
     requires some { 0 < length sources.now }
     ensures { IfOk result (λ words. words
@@ -84,7 +84,7 @@ pub fn library_file(
     let [library, ..] = sources else {
         return Ok(Vec::new(alloc));
     };
-    let words = words_of(alloc, sources)?;
+    let words = first_own_words(alloc, sources)?;
     let digest = digest_for(library.original, digest);
     form_of(alloc, library, list, words.as_slice(), &digest)
 }
@@ -101,7 +101,7 @@ pub fn library_words(
 {
     let set = are_set(alloc, sources)?;
     if set {
-        return Ok(Some(words_of(alloc, sources)?));
+        return Ok(Some(first_own_words(alloc, sources)?));
     }
     Ok(None)
 }

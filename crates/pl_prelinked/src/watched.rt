@@ -78,8 +78,8 @@ pub fn windows_of(
 }
 
 /// Whether a window has so many addresses from one on.
-fn covers(window: &Window, from: u64, size: u64) -> bool
-    ensures { result ≡ spec.covers from size window.now }
+fn contains_bytes(window: &Window, from: u64, size: u64) -> bool
+    ensures { result ≡ spec.contains_bytes from size window.now }
 {
     window.at() <= u128::from(from) && end(from, size) - window.at() <= u128::from(window.size())
 }
@@ -88,7 +88,9 @@ fn covers(window: &Window, from: u64, size: u64) -> bool
 fn is_watched(windows: &[Window], from: u64, size: u64) -> bool
     ensures { result ≡ spec.is_watched windows.now from size }
 {
-    windows.iter().any(|window| covers(window, from, size))
+    windows
+        .iter()
+        .any(|window| contains_bytes(window, from, size))
 }
 
 fn is_place_watched(windows: &[Window], reloc: &Reloc) -> bool

@@ -36,11 +36,11 @@ use Rattle.pl_scope.proofs.NameLaws.{same_name}
 use Rattle.pl_sound.specs.Rule.{object_at, original_at}
 use Rattle.pl_rewrite.specs.Changes.{put}
 use Rattle.pl_rewrite.specs.Deciding.{HasPartsIfAny, IsDecided, IsDecidedIn}
-use Rattle.pl_rewrite.specs.Finishing.{HasForm, HasFormBy, bare_of, library_file, library_firm, made_by, made_with}
-use Rattle.pl_rewrite.specs.Members.{HasParts, IsFound, IsLibrary, IsRun, IsStale, files_of, is_library_entry, made, numbers_of, plan_of, prelinked}
+use Rattle.pl_rewrite.specs.Finishing.{HasForm, HasFormBy, bare_of, storable_library, library_firm, made_by, made_with}
+use Rattle.pl_rewrite.specs.Members.{HasParts, IsFound, IsRunLibrary, IsRun, IsStale, files_of, is_library_entry, made, numbers_of, plan_of, prelinked}
 use Rattle.pl_rewrite.specs.Reports as reports
 use Rattle.pl_rewrite.specs.Rewriting.{AreDecided}
-use Rattle.pl_rewrite.specs.Words.{words_of}
+use Rattle.pl_rewrite.specs.Words.{own_words_of}
 use Rattle.pl_rewrite.specs.declared.deciding.Decided.{Decided}
 use Rattle.pl_rewrite.specs.declared.deciding.Decided.TheVariants as decided
 use Rattle.pl_rewrite.specs.declared.making.Made.{Made}
@@ -58,15 +58,15 @@ use Rattle.sha2.specs.Sha256.{sha256}
 -- ---- libraries that are taken out
 
 -- the one at an index at which the name stands is the name's
-pub parts_there : (run : Run) (ls : List Library) (n : List ℕ) (i : ℕ) (l : Library) → All (IsLibrary run) ls → position (λ x. bytes_eq x.name.now n) ls ≡ Some i → HasParts (files_of run) run.region (plan_of run) n (get_or ls i l).parts
+pub parts_there : (run : Run) (ls : List Library) (n : List ℕ) (i : ℕ) (l : Library) → All (IsRunLibrary run) ls → position (λ x. bytes_eq x.name.now n) ls ≡ Some i → HasParts (files_of run) run.region (plan_of run) n (get_or ls i l).parts
 parts_there run ls n i l all at =
     let h = position-Some (λ (x : Library). bytes_eq x.name.now n) ls i l at in
     subst (λ (m : List ℕ). HasParts (files_of run) run.region (plan_of run) m (get_or ls i l).parts) (same_name (get_or ls i l).name.now n h.1) (all i l h.0).parts
 
 -- the others stay
-pub libraries_without : (run : Run) (ls : List Library) (i : ℕ) → All (IsLibrary run) ls → All (IsLibrary run) (remove ls i)
+pub libraries_without : (run : Run) (ls : List Library) (i : ℕ) → All (IsRunLibrary run) ls → All (IsRunLibrary run) (remove ls i)
 libraries_without run ls i all =
-    All-append (IsLibrary run) (take i ls) (drop (suc i) ls) (All-take (IsLibrary run) i ls all) (All-drop (IsLibrary run) (suc i) ls all)
+    All-append (IsRunLibrary run) (take i ls) (drop (suc i) ls) (All-take (IsRunLibrary run) i ls all) (All-drop (IsRunLibrary run) (suc i) ls all)
 
 -- ---- the object of a file
 
@@ -118,12 +118,12 @@ firm_same run t f parts there p is =
 form_left : (run : Run) (t : Taken) (f : File) (parts : FileParts) → IsFound run t → HasPartsOf run t parts → file_in t.bytes ≡ Ok f → HasForm t.name (original_in t.bytes) (object_of f) parts
 form_left run t f parts there p is = record {
   digest = p.digest ∙ ap (λ (file : Option (List ℕ)). sha256 (original_at (format skip_causes) file)) (file_at t.name run.files.now t there);
-  form = subst (λ (r : Firm). HasFormWith r parts.list (words_of parts)) (firm_same run t f parts there p is) p.form;
+  form = subst (λ (r : Firm). HasFormWith r parts.list (own_words_of parts)) (firm_same run t f parts there p is) p.form;
 }
 
-file_left : (run : Run) (t : Taken) (f : File) (parts : FileParts) → IsFound run t → HasPartsOf run t parts → file_in t.bytes ≡ Ok f → library_file t.name (original_in t.bytes) (object_of f) parts ≡ prelinked run t.name
+file_left : (run : Run) (t : Taken) (f : File) (parts : FileParts) → IsFound run t → HasPartsOf run t parts → file_in t.bytes ≡ Ok f → storable_library t.name (original_in t.bytes) (object_of f) parts ≡ prelinked run t.name
 file_left run t f parts there p is =
-    sym (ap (λ (r : Firm). stored (Some (file_with r parts.list (words_of parts)))) (firm_same run t f parts there p is)) ∙ p.file
+    sym (ap (λ (r : Firm). stored (Some (file_with r parts.list (own_words_of parts)))) (firm_same run t f parts there p is)) ∙ p.file
 
 -- ---- what is made of it
 

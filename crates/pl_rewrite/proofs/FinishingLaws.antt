@@ -27,9 +27,9 @@ use Rattle.pl_plan.specs.declared.planned.Planned.{Planned}
 use Rattle.pl_prelinked.specs.Libraries.{HasFormWith, file_with}
 use Rattle.pl_prelinked.specs.Sources.{firm}
 use Rattle.pl_rewrite.specs.Deciding.{IsDecidedIn}
-use Rattle.pl_rewrite.specs.Finishing.{HasForm, HasFormBy, MayBeLast, MayBeLeft, bare_of, library_file, made_by, made_last, made_left, made_with}
+use Rattle.pl_rewrite.specs.Finishing.{HasForm, HasFormBy, MayBeLast, MayBeLeft, bare_of, storable_library, made_by, made_last, made_left, made_with}
 use Rattle.pl_rewrite.specs.Rewriting.{all_made, with_made}
-use Rattle.pl_rewrite.specs.Words.{words_of}
+use Rattle.pl_rewrite.specs.Words.{own_words_of}
 use Rattle.pl_rewrite.specs.declared.deciding.Decided.{Decided}
 use Rattle.pl_rewrite.specs.declared.finishing.Bare.{Bare}
 use Rattle.pl_rewrite.specs.declared.making.AllMade.{AllMade}
@@ -39,11 +39,11 @@ use Rattle.pl_rewrite.proofs.PlanLaws.{made_more}
 
 -- ---- the file of a library, as the code gives its parts
 
-pub form_given : (name original : List ℕ) (o : Object) (parts : FileParts) (list : List ListRow) (words : List (Option ℕ)) → list ≡ parts.list → words ≡ words_of parts → HasForm name original o parts → HasFormWith (firm name original o Two parts.slot parts.stamp) list words
+pub form_given : (name original : List ℕ) (o : Object) (parts : FileParts) (list : List ListRow) (words : List (Option ℕ)) → list ≡ parts.list → words ≡ own_words_of parts → HasForm name original o parts → HasFormWith (firm name original o Two parts.slot parts.stamp) list words
 form_given name original o parts list words listed worded has = rw (listed, worded) has.form
 
-pub file_given : (name original : List ℕ) (o : Object) (parts : FileParts) (list : List ListRow) (words : List (Option ℕ)) → list ≡ parts.list → words ≡ words_of parts
-    → stored (Some (file_with (firm name original o Two parts.slot parts.stamp) list words)) ≡ library_file name original o parts
+pub file_given : (name original : List ℕ) (o : Object) (parts : FileParts) (list : List ListRow) (words : List (Option ℕ)) → list ≡ parts.list → words ≡ own_words_of parts
+    → stored (Some (file_with (firm name original o Two parts.slot parts.stamp) list words)) ≡ storable_library name original o parts
 file_given name original o parts list words listed worded = rw (listed, worded) refl
 
 -- ---- what a library's bytes are
@@ -85,11 +85,11 @@ form_plain b parts original x may is own = subst (λ (o : List ℕ). HasForm b.n
 pub form_marked : (b : Bare) (parts : FileParts) (original : List ℕ) (m : Marked) → MayBeLeft b parts → file_in b.bytes ≡ Ok (files.Marked m) → original ≡ original_in b.bytes → HasForm b.name original m.object parts
 form_marked b parts original m may is own = subst (λ (o : List ℕ). HasForm b.name o m.object parts) (sym own) (subst (HasFormBy b parts) is may.form)
 
-pub left_plain : (b : Bare) (parts : FileParts) (original : List ℕ) (x : Object) → file_in b.bytes ≡ Ok (Plain x) → original ≡ original_in b.bytes → made_with b parts (library_file b.name original x parts) ≡ made_left b parts
-left_plain b parts original x is own = ap (λ (o : List ℕ). made_with b parts (library_file b.name o x parts)) own ∙ sym (ap (made_by b parts) is)
+pub left_plain : (b : Bare) (parts : FileParts) (original : List ℕ) (x : Object) → file_in b.bytes ≡ Ok (Plain x) → original ≡ original_in b.bytes → made_with b parts (storable_library b.name original x parts) ≡ made_left b parts
+left_plain b parts original x is own = ap (λ (o : List ℕ). made_with b parts (storable_library b.name o x parts)) own ∙ sym (ap (made_by b parts) is)
 
-pub left_marked : (b : Bare) (parts : FileParts) (original : List ℕ) (m : Marked) → file_in b.bytes ≡ Ok (files.Marked m) → original ≡ original_in b.bytes → made_with b parts (library_file b.name original m.object parts) ≡ made_left b parts
-left_marked b parts original m is own = ap (λ (o : List ℕ). made_with b parts (library_file b.name o m.object parts)) own ∙ sym (ap (made_by b parts) is)
+pub left_marked : (b : Bare) (parts : FileParts) (original : List ℕ) (m : Marked) → file_in b.bytes ≡ Ok (files.Marked m) → original ≡ original_in b.bytes → made_with b parts (storable_library b.name original m.object parts) ≡ made_left b parts
+left_marked b parts original m is own = ap (λ (o : List ℕ). made_with b parts (storable_library b.name o m.object parts)) own ∙ sym (ap (made_by b parts) is)
 
 -- ---- one file more
 

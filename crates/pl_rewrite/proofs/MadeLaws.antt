@@ -42,7 +42,7 @@ use Rattle.pl_sound.proofs.Matching.{and_both}
 use Rattle.pl_sound.proofs.PlanLaws.{current_stamp, new_stamp}
 use Rattle.pl_rewrite.specs.Changes as changes
 use Rattle.pl_rewrite.specs.Changes.{from_scratch, next, put, is_file}
-use Rattle.pl_rewrite.specs.Members.{IsRun, IsRead, IsCandidate, HasCause, IsStale, IsMember, IsFound, files_of, plan_of, numbers_of, numbers_for, found, is_skipped, planned_firm, prelinked, made, made_new, made_original, made_current}
+use Rattle.pl_rewrite.specs.Members.{IsRun, IsRead, IsCandidate, HasCause, IsStale, IsPrelinkable, IsFound, files_of, plan_of, numbers_of, numbers_for, found, is_skipped, planned_firm, prelinked, made, made_of_taken, made_original, made_current}
 use Rattle.pl_rewrite.specs.Reports as reports
 use Rattle.pl_rewrite.specs.Reports.{state_by, marked_at}
 use Rattle.pl_rewrite.specs.declared.making.Made.{Made}
@@ -125,7 +125,7 @@ pair_second false x y = refl
 abbrev made_firm : List ℕ → List ℕ → Object → ℕ → ℕ → Firm
 made_firm n original o slot stamp = record { member = record { name = n; original = original; version = 2; slot = slot; stamp = stamp }; object = o }
 
-pub source_is : (run : Run) (t : Taken) (o : Object) (original : List ℕ) (slot stamp : ℕ) → IsFound run t → IsMember run (t.name, o) → original ≡ original_in t.bytes → slot ≡ (numbers_for run t.name o).0 → stamp ≡ (numbers_for run t.name o).1
+pub source_is : (run : Run) (t : Taken) (o : Object) (original : List ℕ) (slot stamp : ℕ) → IsFound run t → IsPrelinkable run (t.name, o) → original ≡ original_in t.bytes → slot ≡ (numbers_for run t.name o).0 → stamp ≡ (numbers_for run t.name o).1
     → firm t.name original o Two slot stamp ≡ planned_firm run (t.name, o)
 source_is run t o original slot stamp there member own first second =
     let numbers = numbers_of run in
@@ -139,7 +139,7 @@ source_is run t o original slot stamp there member own first second =
     ∙ ap (λ (x : ℕ). made_firm t.name (original_at (format skip_causes) (files_of run t.name)) o (for_library (objects (format skip_causes) (files_of run) t.name) (numbers.slot t.name)) x) b)
 
 -- the same, where the name is given
-pub source_named : (run : Run) (t : Taken) (o : Object) (name original : List ℕ) (slot stamp : ℕ) → name ≡ t.name → IsFound run t → IsMember run (t.name, o) → original ≡ original_in t.bytes → slot ≡ (numbers_for run t.name o).0 → stamp ≡ (numbers_for run t.name o).1
+pub source_named : (run : Run) (t : Taken) (o : Object) (name original : List ℕ) (slot stamp : ℕ) → name ≡ t.name → IsFound run t → IsPrelinkable run (t.name, o) → original ≡ original_in t.bytes → slot ≡ (numbers_for run t.name o).0 → stamp ≡ (numbers_for run t.name o).1
     → firm name original o Two slot stamp ≡ planned_firm run (t.name, o)
 source_named run t o name original slot stamp named there member own first second = ap (λ (n : List ℕ). firm n original o Two slot stamp) named ∙ source_is run t o original slot stamp there member own first second
 
@@ -149,7 +149,7 @@ run_read run t is there = is_read run.region t (taken_at run.region t.name run.f
 
 -- ---- a member by its name
 
-pub member_there : (run : Run) (n : List ℕ) (o : Object) → IsMember run (n, o) → found run.files.now n ≡ None → ⊥
+pub member_there : (run : Run) (n : List ℕ) (o : Object) → IsPrelinkable run (n, o) → found run.files.now n ≡ None → ⊥
 unfolding files_in
 member_there run n o member none = no_object (sym (ap (λ (found : Option Taken). object_at (format skip_causes) n (option_map (λ (t : Taken). t.bytes) found)) none) ∙ member.object)
   where
@@ -210,7 +210,7 @@ stale_parts run n stale =
 pub stale_candidate : (run : Run) (t : Taken) → IsRun run → IsFound run t → has run.planned.now.stale t.name ≡ true → IsCandidate run t.name
 stale_candidate run t is there stale = (stale_parts run t.name (sym (stale_is run t is there) ∙ stale)).candidate
 
-pub new_is : (run : Run) (t : Taken) (file : List ℕ) → IsRun run → IsFound run t → IsStale run t.name → Some file ≡ prelinked run t.name → made_new t file ≡ made run t.name
+pub new_is : (run : Run) (t : Taken) (file : List ℕ) → IsRun run → IsFound run t → IsStale run t.name → Some file ≡ prelinked run t.name → made_of_taken t file ≡ made run t.name
 new_is run t file is there stale new =
     let n = t.name in
     let p = stale_parts run n stale in

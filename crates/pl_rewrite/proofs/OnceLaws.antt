@@ -32,7 +32,7 @@ use Rattle.pl_scope.proofs.ClosureLaws.{walk_is, member_told, member_walk}
 use Rattle.pl_scope.proofs.NameLaws.{has_at, same_name}
 use Rattle.pl_scope.proofs.WalkedLaws.{member_file}
 use Rattle.pl_sound.specs.Rule.{objects, original_at}
-use Rattle.pl_rewrite.specs.Members.{HasOriginal, IsDigest, IsPrelinked, IsRun, IsCandidate, IsFound, IsMember, IsPart, files_of, planned_firm, planned_firms, prelinked}
+use Rattle.pl_rewrite.specs.Members.{HasOriginal, IsRunDigest, IsPrelinked, IsRun, IsCandidate, IsFound, IsPrelinkable, IsPart, files_of, planned_firm, planned_firms, prelinked}
 use Rattle.pl_rewrite.specs.declared.running.Digest.{Digest}
 use Rattle.pl_rewrite.specs.declared.running.MadeFile.{MadeFile}
 use Rattle.pl_rewrite.specs.declared.running.Run.{Run}
@@ -46,14 +46,14 @@ pub digest_is : (run : Run) (t : Taken) (name original bytes : List ℕ) → nam
 digest_is run t name original bytes named there own is =
     is ∙ ap sha256 (own ∙ sym (ap (original_at (format skip_causes)) (ap (files_of run) named ∙ file_at t.name run.files.now t there)))
 
-pub digest_found : (run : Run) (ds : List Digest) (n : List ℕ) (d : Digest) → All (IsDigest run) ds → find (λ x. bytes_eq x.name.now n) ds ≡ Some d → d.bytes ≡ sha256 (original_at (format skip_causes) (files_of run n))
+pub digest_found : (run : Run) (ds : List Digest) (n : List ℕ) (d : Digest) → All (IsRunDigest run) ds → find (λ x. bytes_eq x.name.now n) ds ≡ Some d → d.bytes ≡ sha256 (original_at (format skip_causes) (files_of run n))
 digest_found run [] n d all is = absurd (none-some d is)
 digest_found run (x ∷ ds) n d all is = elim (cases_Bool (bytes_eq x.name.now n)) [
   | inl hit ↦
       let same : x ≡ d = same_Some x d (rw hit at is) in
-      let one : IsDigest run x = All-head (IsDigest run) x ds all in
+      let one : IsRunDigest run x = All-head (IsRunDigest run) x ds all in
       subst (λ (y : Digest). y.bytes ≡ sha256 (original_at (format skip_causes) (files_of run n))) same (one ∙ ap (λ (m : List ℕ). sha256 (original_at (format skip_causes) (files_of run m))) (same_name x.name.now n hit))
-  | inr miss ↦ digest_found run ds n d (All-tail (IsDigest run) x ds all) (rw miss at is)
+  | inr miss ↦ digest_found run ds n d (All-tail (IsRunDigest run) x ds all) (rw miss at is)
 ]
 
 -- the members of a walk have the originals of their names
@@ -82,7 +82,7 @@ record IsNamed (run : Run) (rs : List Firm) (k : List ℕ) : Type 0 where
   named : named rs k ≡ Some (planned_firm run (k, object))
   file : objects (format skip_causes) (files_of run) k ≡ Ok object
 
-is_named : (run : Run) (ws : Walked) (k : List ℕ) → All (IsMember run) ws → has (names ws) k ≡ true → IsNamed run (planned_firms run ws) k
+is_named : (run : Run) (ws : Walked) (k : List ℕ) → All (IsPrelinkable run) ws → has (names ws) k ≡ true → IsNamed run (planned_firms run ws) k
 is_named run [] k all there = absurd (false≢true there)
 is_named run (w ∷ ws) k all there = elim (cases_Bool (bytes_eq w.0 k)) [
   | inl hit ↦
@@ -90,11 +90,11 @@ is_named run (w ∷ ws) k all there = elim (cases_Bool (bytes_eq w.0 k)) [
       record {
         object = w.1;
         named = rw hit (ap (λ (n : List ℕ). Some (planned_firm run (n, w.1))) same);
-        file = subst (λ (n : List ℕ). objects (format skip_causes) (files_of run) n ≡ Ok w.1) same (All-head (IsMember run) w ws all).object;
+        file = subst (λ (n : List ℕ). objects (format skip_causes) (files_of run) n ≡ Ok w.1) same (All-head (IsPrelinkable run) w ws all).object;
       }
   | inr miss ↦
       let later : has (names ws) k ≡ true = rw miss at there in
-      let one = is_named run ws k (All-tail (IsMember run) w ws all) later in
+      let one = is_named run ws k (All-tail (IsPrelinkable run) w ws all) later in
       record { object = one.object; named = rw miss one.named; file = one.file }
 ]
 
@@ -161,7 +161,7 @@ file_made rs r rest part are is library made =
     let small = when_some (nat_le (length (library_file rs)) STORED) (Some (library_file rs)) part (file_library rs r rest is library ∙ set.1) in
     same_Some (library_file rs) part small.1
 
-pub part_is : (run : Run) (n : List ℕ) (ws : Walked) → IsRun run → IsCandidate run n → walk_in run.known.now n ≡ Ok ws → (p : List ℕ × Object) (part : List ℕ) → has (names ws) p.0 ≡ true → IsMember run p → IsPart run (planned_firm run p) part
+pub part_is : (run : Run) (n : List ℕ) (ws : Walked) → IsRun run → IsCandidate run n → walk_in run.known.now n ≡ Ok ws → (p : List ℕ × Object) (part : List ℕ) → has (names ws) p.0 ≡ true → IsPrelinkable run p → IsPart run (planned_firm run p) part
     → form.part_of (planned_firms run ws) (planned_firm run p) ≡ part
 unfolding form.part_of
 part_is run n ws is candidate known p part there member given = elim (cases_Bool (is_library p.1.kind)) [

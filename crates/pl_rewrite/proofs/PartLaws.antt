@@ -27,8 +27,8 @@ use Rattle.pl_scope.specs.Walk.{Walked}
 use Rattle.pl_scope.proofs.ClosureLaws.{walk_is}
 use Rattle.pl_sound.specs.Plan.{for_library}
 use Rattle.pl_sound.specs.Rule.{objects, original_at}
-use Rattle.pl_rewrite.specs.Members.{HasOriginal, HasParts, IsLibrary, IsOwnWalk, IsRun, files_of, numbers_of, plan_of, planned_firm, planned_firms, prelinked}
-use Rattle.pl_rewrite.specs.Words.{word_by, words_by, words_of}
+use Rattle.pl_rewrite.specs.Members.{HasOriginal, HasParts, IsRunLibrary, IsOwnWalk, IsRun, files_of, numbers_of, plan_of, planned_firm, planned_firms, prelinked}
+use Rattle.pl_rewrite.specs.Words.{word_by, words_by, own_words_of}
 use Rattle.pl_rewrite.specs.declared.running.FileParts.{FileParts}
 use Rattle.pl_rewrite.specs.declared.running.Library.{Library}
 use Rattle.pl_rewrite.specs.declared.running.Run.{Run}
@@ -156,7 +156,7 @@ pub record HasThese (r : Firm) (rows : List ListRow) (wanted : List (Option ℕ)
   pub stamp : parts.stamp ≡ r.member.stamp
   pub digest : parts.digest ≡ sha256 r.member.original
   pub list : parts.list ≡ rows
-  pub words : words_of parts ≡ wanted
+  pub words : own_words_of parts ≡ wanted
 
 number_is : (run : Run) (n : List ℕ) (o : Object) (number : ℕ) → objects (format skip_causes) (files_of run) n ≡ Ok o → is_library o.kind ≡ true → for_library (objects (format skip_causes) (files_of run) n) number ≡ number
 number_is run n o number there library = rw there (rw library refl)
@@ -176,17 +176,17 @@ has_parts run n r list words parts first these form file =
       stamp = these.stamp ∙ (ap (λ (f : Firm). f.member.stamp) first.planned ∙ number_is run n o ((numbers_of run).stamp n) first.there first.library);
       digest = these.digest ∙ ap (λ (f : Firm). sha256 f.member.original) first.planned;
       form =
-          subst (λ (f : Firm). HasFormWith f parts.list (words_of parts)) (sym same)
-          (subst (λ (rows : List ListRow). HasFormWith r rows (words_of parts)) (sym these.list) (subst (HasFormWith r list) (sym these.words) form));
+          subst (λ (f : Firm). HasFormWith f parts.list (own_words_of parts)) (sym same)
+          (subst (λ (rows : List ListRow). HasFormWith r rows (own_words_of parts)) (sym these.list) (subst (HasFormWith r list) (sym these.words) form));
       file =
-          ap (λ (f : Firm). stored (Some (file_with f parts.list (words_of parts)))) same
-          ∙ (ap (λ (rows : List ListRow). stored (Some (file_with r rows (words_of parts)))) these.list ∙ (ap (λ (ws : List (Option ℕ)). stored (Some (file_with r list ws))) these.words ∙ file));
+          ap (λ (f : Firm). stored (Some (file_with f parts.list (own_words_of parts)))) same
+          ∙ (ap (λ (rows : List ListRow). stored (Some (file_with r rows (own_words_of parts)))) these.list ∙ (ap (λ (ws : List (Option ℕ)). stored (Some (file_with r list ws))) these.words ∙ file));
     }
 
 -- ---- what is known of it
 
 pub library_is : (run : Run) (l : Link) (x : Library) (rs : List Firm) (r : Firm) (rest : List Firm) (words : List (Option ℕ)) (file : List ℕ) → IsRun run → IsOwnWalk run l x.name.now rs → rs ≡ r ∷ rest → Some words ≡ words_in rs
-    → Some file ≡ stored (Some (file_with r (list_after rs) words)) → AreHeldIn rs file l.closed x.flags → AreWordsIn rs file x.parts.held → HasThese r (list_after rs) words x.parts → IsLibrary run x
+    → Some file ≡ stored (Some (file_with r (list_after rs) words)) → AreHeldIn rs file l.closed x.flags → AreWordsIn rs file x.parts.held → HasThese r (list_after rs) words x.parts → IsRunLibrary run x
 library_is run l x rs r rest words file is own begins told made held holds these =
     let n : List ℕ = x.name.now in
     let walk : own.walk ≡ own.link.is.own = ok_same own.walk own.link.is.own (sym own.walks ∙ (ap (walk_in run.known.now) (sym own.link.named) ∙ own.link.is.walks)) in

@@ -27,7 +27,7 @@ use Rattle.pl_image.specs.Loads.{loaded_at}
 use Rattle.pl_image.specs.declared.loaded.Loaded.{Loaded}
 use Rattle.pl_known.proofs.FindLaws.{zip_more}
 use Rattle.pl_known.specs.Skips.{skip_causes}
-use Rattle.pl_links.specs.Closed.{IsClosed, IsClosedBy, IsFlag}
+use Rattle.pl_links.specs.Closed.{GivesOneWord, IsClosedBy, IsFlag}
 use Rattle.pl_links.specs.Folder.{IsMember as IsNamedMember}
 use Rattle.pl_links.proofs.ClosedLaws.{closed}
 use Rattle.pl_links.proofs.FolderLaws.{object_at, member_of, member_has}
@@ -50,7 +50,7 @@ use Rattle.pl_value.specs.Values.{relocations_in, value_of}
 use Rattle.pl_value.specs.declared.meaning.Meaning.{Meaning}
 use Rattle.pl_value.specs.declared.word.Word.{Word}
 use Rattle.pl_value.specs.declared.word.Word.TheVariants.{Put, Copy, Nothing}
-use Rattle.pl_rewrite.specs.Members.{AreStillFor, IsCandidate, IsLibrary, IsLinkOf, IsMember, IsPart, IsRun, IsStillBy, IsStillFor, files_of, numbers_of, planned_firm, planned_firms, prelinked}
+use Rattle.pl_rewrite.specs.Members.{AreStillFor, IsCandidate, IsRunLibrary, IsLinkOf, IsPrelinkable, IsPart, IsRun, IsStillBy, IsStillFor, files_of, numbers_of, planned_firm, planned_firms, prelinked}
 use Rattle.pl_rewrite.specs.declared.running.Library.{Library}
 use Rattle.pl_rewrite.specs.declared.running.Run.{Run}
 use Rattle.pl_rewrite.proofs.OnceLaws.{linked_kind, part_is}
@@ -64,16 +64,16 @@ IsStill run s = IsStillBy run.known.now (prelinked run) (planned_firms run) s
 
 -- a library of a name
 pub record IsOf (run : Run) (n : List ℕ) (l : Library) : Type 0 where
-  pub is : IsLibrary run l
+  pub is : IsRunLibrary run l
   pub named : l.name.now ≡ n
 
-pub library_found : (run : Run) (ls : List Library) (n : List ℕ) (l : Library) → All (IsLibrary run) ls → find (λ x. bytes_eq x.name.now n) ls ≡ Some l → IsOf run n l
+pub library_found : (run : Run) (ls : List Library) (n : List ℕ) (l : Library) → All (IsRunLibrary run) ls → find (λ x. bytes_eq x.name.now n) ls ≡ Some l → IsOf run n l
 library_found run [] n l all is = absurd (none-some l is)
 library_found run (x ∷ ls) n l all is = elim (cases_Bool (bytes_eq x.name.now n)) [
   | inl hit ↦
       let same : x ≡ l = same_Some x l (rw hit at is) in
-      subst (IsOf run n) same (record { is = All-head (IsLibrary run) x ls all; named = same_name x.name.now n hit })
-  | inr miss ↦ library_found run ls n l (All-tail (IsLibrary run) x ls all) (rw miss at is)
+      subst (IsOf run n) same (record { is = All-head (IsRunLibrary run) x ls all; named = same_name x.name.now n hit })
+  | inr miss ↦ library_found run ls n l (All-tail (IsRunLibrary run) x ls all) (rw miss at is)
 ]
 
 pub link_found : (run : Run) (ls : List Link) (n : List ℕ) (l : Link) → All (IsLink run.known.now) ls → find (λ x. bytes_eq x.name n) ls ≡ Some l → IsLinkOf run.known.now n l
@@ -106,10 +106,10 @@ firm_at run [] m p e = absurd (none-some p e)
 firm_at run (w ∷ ws) zero p e = ap (λ (q : List ℕ × Object). Some (planned_firm run q)) (same_Some w p e)
 firm_at run (w ∷ ws) (suc m) p e = firm_at run ws m p e
 
-member_at : (run : Run) (ws : Walked) (m : ℕ) (p : List ℕ × Object) → All (IsMember run) ws → slice_get ws m ≡ Some p → IsMember run p
+member_at : (run : Run) (ws : Walked) (m : ℕ) (p : List ℕ × Object) → All (IsPrelinkable run) ws → slice_get ws m ≡ Some p → IsPrelinkable run p
 member_at run [] m p all e = absurd (none-some p e)
-member_at run (w ∷ ws) zero p all e = subst (IsMember run) (same_Some w p e) (All-head (IsMember run) w ws all)
-member_at run (w ∷ ws) (suc m) p all e = member_at run ws m p (All-tail (IsMember run) w ws all) e
+member_at run (w ∷ ws) zero p all e = subst (IsPrelinkable run) (same_Some w p e) (All-head (IsPrelinkable run) w ws all)
+member_at run (w ∷ ws) (suc m) p all e = member_at run ws m p (All-tail (IsPrelinkable run) w ws all) e
 
 objects_planned : (run : Run) (ws : Walked) → objects_of (planned_firms run ws) ≡ objects ws
 objects_planned run [] = refl
@@ -195,7 +195,7 @@ module _ (run : Run) (n : List ℕ) (ws : Walked) (is : IsRun run) (candidate : 
   linked o e =
       let t = walk_first run.known.now n ws walk in
       let same : t.object ≡ o = ok_same t.object o (sym t.file ∙ e) in
-      let one : IsMember run (n, t.object) = member_at run ws 0 (n, t.object) (members_are run n ws is candidate walk) (ap (λ (w : Walked). slice_get w 0) t.is) in
+      let one : IsPrelinkable run (n, t.object) = member_at run ws 0 (n, t.object) (members_are run n ws is candidate walk) (ap (λ (w : Walked). slice_get w 0) t.is) in
       let there : sound.objects (format skip_causes) (files_of run) n ≡ Ok o = one.object ∙ ap (λ (p : Object). Ok p) same in
       linked_kind o.kind (sound_is run.region (files_of run) n o there candidate).dynamic
 
@@ -208,7 +208,7 @@ module _ (run : Run) (n : List ℕ) (ws : Walked) (is : IsRun run) (candidate : 
         let name : List ℕ = k.link.name in
         let rs = planned_firms run ws in
         let named : IsNamedMember ws m name = record { object = x; at = at } in
-        let member : IsMember run (name, x) = member_at run ws m (name, x) (members_are run n ws is candidate walk) at in
+        let member : IsPrelinkable run (name, x) = member_at run ws m (name, x) (members_are run n ws is candidate walk) at in
         let made : prelinked run name ≡ Some k.file = ap (prelinked run) k.known_by.named ∙ k.made in
         let part : IsPart run (planned_firm run (name, x)) k.file = rw library made in
         let bytes : part_of (parts_of rs) m ≡ k.file = part_at run (form.part_of rs) ws m (name, x) at ∙ part_is run n ws is candidate walk (name, x) k.file (member_has ws m name named) member part in
@@ -247,7 +247,7 @@ module _ (run : Run) (n : List ℕ) (ws : Walked) (is : IsRun run) (candidate : 
         let closed_by : IsClosedBy k.known_by.is.definers (objects inner) r = zip_at (IsFlag k.known_by.is.definers (objects inner)) x.relocations k.link.closed i d true flags h.0 refl in
         let first : IsNamedMember inner 0 name = record { object = x; at = refl } in
         let named : IsNamedMember ws m name = record { object = x; at = at } in
-        let whole : IsClosed (folder known) name inner r = closed (folder known) k.known_by.is.definers name inner r (record { hashes = k.known_by.is.hashes; made = walk_made known name inner walks; first = first }) closed_by in
+        let whole : GivesOneWord (folder known) name inner r = closed (folder known) k.known_by.is.definers name inner r (record { hashes = k.known_by.is.hashes; made = walk_made known name inner walks; first = first }) closed_by in
         let word = whole (slot_for run) in
         let own_slots = slots_of (planned_firms run inner) in
         let here : value_of (objects inner) own_slots [] 0 r ≡ Ok word.0 = word.1 inner 0 own_slots [] (record {

@@ -41,7 +41,7 @@ use Rattle.pl_sound.proofs.Matching.{and_both, each_all}
 use Rattle.pl_sound.proofs.PlanLaws.{candidate_member}
 use Rattle.pl_sound.proofs.RuleLaws.{first_is}
 use Rattle.pl_rewrite.specs.Changes as changes
-use Rattle.pl_rewrite.specs.Members.{AreMembers, IsRun, IsCandidate, IsMember, files_of, numbers_of, planned_firm, planned_firms, prelinked, source, walk_told}
+use Rattle.pl_rewrite.specs.Members.{ArePrelinkable, IsRun, IsCandidate, IsPrelinkable, files_of, numbers_of, planned_firm, planned_firms, prelinked, source, walk_told}
 use Rattle.pl_rewrite.specs.declared.running.Run.{Run}
 use Rattle.pl_rewrite.proofs.FileLaws.{file_taken, taken_at}
 use Rattle.pl_rewrite.proofs.FormLaws.{IsOriginal, original_is, original_bytes, firm_nowhere, no_fault, firm_member}
@@ -82,7 +82,7 @@ sound_is region files n x there candidate =
 abbrev IsFirm : Firm → Type 0
 IsFirm r = firm_of r.member ≡ Some r
 
-member_firm : (run : Run) (m : List ℕ × Object) → IsRun run → IsMember run m → IsFirm (planned_firm run m)
+member_firm : (run : Run) (m : List ℕ × Object) → IsRun run → IsPrelinkable run m → IsFirm (planned_firm run m)
 member_firm run m is member = by_file (files_of run m.0) refl member.object
   where
     by_file : (file : Option (List ℕ)) → files_of run m.0 ≡ file → object_at (format skip_causes) m.0 file ≡ Ok m.1 → IsFirm (planned_firm run m)
@@ -112,7 +112,7 @@ name_at (w ∷ ws) (suc i) p h = name_at ws i p h
 pub walk_of : (run : Run) (n : List ℕ) (r : Result Walked Skip) → IsRun run → walk_in run.known.now n ≡ r → sound.walk_in (format skip_causes) (files_of run) n ≡ r
 walk_of run n r is walks = sym (walks_agree run.region (files_of run) run.known.now is.knows n) ∙ walks
 
-pub members_are : (run : Run) (n : List ℕ) (ws : Walked) → IsRun run → IsCandidate run n → walk_in run.known.now n ≡ Ok ws → All (IsMember run) ws
+pub members_are : (run : Run) (n : List ℕ) (ws : Walked) → IsRun run → IsCandidate run n → walk_in run.known.now n ≡ Ok ws → All (IsPrelinkable run) ws
 members_are run n ws is candidate known =
     let walks = walk_of run n (Ok ws) is known in
     λ k d lt.
@@ -136,7 +136,7 @@ sources_are run n ws is candidate known =
     let short : length (names ws) ≤ MAX_MEMBERS = walk_short skip_causes.walk (objects (format skip_causes) (files_of run)) n ws walks in
     record {
       few = omega (arith, short, length-map ws (planned_firm run), length-map ws (λ (p : List ℕ × Object). p.0));
-      firm = All-map IsFirm (planned_firm run) ws (All-weaker (IsMember run) (λ m. IsFirm (planned_firm run m)) (λ m member. member_firm run m is member) ws (members_are run n ws is candidate known));
+      firm = All-map IsFirm (planned_firm run) ws (All-weaker (IsPrelinkable run) (λ m. IsFirm (planned_firm run m)) (λ m member. member_firm run m is member) ws (members_are run n ws is candidate known));
       distinct = subst (IsDistinct bytes_eq) (sym (firms_named run ws)) (walk_distinct skip_causes.walk (objects (format skip_causes) (files_of run)) n ws walks);
     }
 
@@ -173,7 +173,7 @@ pub sources_walked : (run : Run) (ms : List scope.Member) → map (source run) m
 sources_walked run [] = refl
 sources_walked run (m ∷ ms) = ap (λ (rs : List Firm). planned_firm run (m.name, m.object.now) ∷ rs) (sources_walked run ms)
 
-pub members_each : (run : Run) (ms : List scope.Member) → All (IsMember run) (walked ms) → AreMembers run ms
-members_each run [] all = All-nil (λ (m : scope.Member). IsMember run (m.name, m.object.now))
+pub members_each : (run : Run) (ms : List scope.Member) → All (IsPrelinkable run) (walked ms) → ArePrelinkable run ms
+members_each run [] all = All-nil (λ (m : scope.Member). IsPrelinkable run (m.name, m.object.now))
 members_each run (m ∷ ms) all =
-    All-cons (λ (x : scope.Member). IsMember run (x.name, x.object.now)) m ms (All-head (IsMember run) (m.name, m.object.now) (walked ms) all) (members_each run ms (All-tail (IsMember run) (m.name, m.object.now) (walked ms) all))
+    All-cons (λ (x : scope.Member). IsPrelinkable run (x.name, x.object.now)) m ms (All-head (IsPrelinkable run) (m.name, m.object.now) (walked ms) all) (members_each run ms (All-tail (IsPrelinkable run) (m.name, m.object.now) (walked ms) all))

@@ -6,7 +6,7 @@ use Rattle.pl_known.specs.declared.taken.Taken.{Taken}
 use Rattle.pl_plan.specs.declared.planned.Planned.{Planned}
 use Rattle.pl_sound.specs.Rule.{Files}
 use Rattle.pl_rewrite.specs.Finishing.{MayBeLast, bare_of, made_last}
-use Rattle.pl_rewrite.specs.Members.{HasParts, IsLibrary, IsPrelinked, files_of, made_in, plan_of}
+use Rattle.pl_rewrite.specs.Members.{HasParts, IsRunLibrary, IsPrelinked, files_of, made_in, plan_of}
 use Rattle.pl_rewrite.specs.declared.deciding.Decided.{Decided}
 use Rattle.pl_rewrite.specs.declared.deciding.Left.{Left}
 use Rattle.pl_rewrite.specs.declared.running.FileParts.{FileParts}
@@ -26,5 +26,5 @@ HasPartsIfAny run n (Some parts) = HasParts (files_of run) run.region (plan_of r
 
 -- what was found of files is theirs
 pub record IsLeft (run : Run) (left : Left) : Type 0 where
-  pub libraries : All (IsLibrary run) left.libraries.items
+  pub libraries : All (IsRunLibrary run) left.libraries.items
   pub programs : All (IsPrelinked run) left.programs.items

@@ -14,7 +14,7 @@ use Rattle.pl_prelinked.specs.Libraries.{HasFormWith, file_with}
 use Rattle.pl_prelinked.specs.Sources.{firm}
 use Rattle.pl_rewrite.specs.Changes as changes
 use Rattle.pl_rewrite.specs.Reports as reports
-use Rattle.pl_rewrite.specs.Words.{words_of}
+use Rattle.pl_rewrite.specs.Words.{own_words_of}
 use Rattle.pl_rewrite.specs.declared.deciding.Decided.{Decided}
 use Rattle.pl_rewrite.specs.declared.deciding.Decided.TheVariants as decided
 use Rattle.pl_rewrite.specs.declared.finishing.Bare.{Bare}
@@ -31,13 +31,13 @@ bare_of t = record { name = t.name; bytes = t.bytes }
 abbrev pub library_firm : List ℕ → List ℕ → Object → FileParts → Firm
 library_firm n original o parts = firm n original o Two parts.slot parts.stamp
 
-abbrev pub library_file : List ℕ → List ℕ → Object → FileParts → Option (List ℕ)
-library_file n original o parts = stored (Some (file_with (library_firm n original o parts) parts.list (words_of parts)))
+abbrev pub storable_library : List ℕ → List ℕ → Object → FileParts → Option (List ℕ)
+storable_library n original o parts = stored (Some (file_with (library_firm n original o parts) parts.list (own_words_of parts)))
 
 -- it can be made
 pub record HasForm (n original : List ℕ) (o : Object) (parts : FileParts) : Type 0 where
   pub digest : parts.digest ≡ sha256 original
-  pub form : HasFormWith (library_firm n original o parts) parts.list (words_of parts)
+  pub form : HasFormWith (library_firm n original o parts) parts.list (own_words_of parts)
 
 -- ---- what is made
 
@@ -55,8 +55,8 @@ made_with b parts None = made_large b
 made_with b parts (Some file) = made_library b parts file
 
 abbrev pub made_by : Bare → FileParts → Result File FileFault → Made
-made_by b parts (Ok (Plain x)) = made_with b parts (library_file b.name (original_in b.bytes) x parts)
-made_by b parts (Ok (files.Marked m)) = made_with b parts (library_file b.name (original_in b.bytes) m.object parts)
+made_by b parts (Ok (Plain x)) = made_with b parts (storable_library b.name (original_in b.bytes) x parts)
+made_by b parts (Ok (files.Marked m)) = made_with b parts (storable_library b.name (original_in b.bytes) m.object parts)
 made_by b parts (Err fault) = made_large b
 
 abbrev pub made_left : Bare → FileParts → Made

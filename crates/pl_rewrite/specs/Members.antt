@@ -37,7 +37,7 @@ use Rattle.pl_sound.specs.Plan.{Plan, planned_member}
 use Rattle.pl_sound.specs.Rule.{Files, objects, original_at}
 use Rattle.pl_rewrite.specs.Changes as changes
 use Rattle.pl_rewrite.specs.Reports as reports
-use Rattle.pl_rewrite.specs.Words.{words_of}
+use Rattle.pl_rewrite.specs.Words.{own_words_of}
 use Rattle.pl_rewrite.specs.declared.making.Made.{Made}
 use Rattle.pl_rewrite.specs.declared.report.RowState.{RowState}
 use Rattle.pl_rewrite.specs.declared.report.RowState.TheVariants as states
@@ -73,8 +73,8 @@ IsPrelinkedOf run n file = option_map (λ v. v.items) file ≡ prelinked run n
 -- ---- what is made once
 
 -- the SHA-256 of a name's original
-abbrev pub IsDigest : Run → Digest → Type 0
-IsDigest run d = d.bytes ≡ sha256 (original_at (format skip_causes) (files_of run d.name.now))
+abbrev pub IsRunDigest : Run → Digest → Type 0
+IsRunDigest run d = d.bytes ≡ sha256 (original_at (format skip_causes) (files_of run d.name.now))
 
 -- a name's prelinked file
 abbrev pub IsPrelinked : Run → MadeFile → Type 0
@@ -109,8 +109,8 @@ pub record HasParts (files : Files) (region : Range) (p : Planned) (n : List ℕ
   pub slot : parts.slot ≡ (changes.numbers files region p).slot n
   pub stamp : parts.stamp ≡ (changes.numbers files region p).stamp n
   pub digest : parts.digest ≡ sha256 (original_at (format skip_causes) (files n))
-  pub form : HasFormWith (firm n (original_at (format skip_causes) (files n)) object Two parts.slot parts.stamp) parts.list (words_of parts)
-  pub file : stored (Some (file_with (firm n (original_at (format skip_causes) (files n)) object Two parts.slot parts.stamp) parts.list (words_of parts))) ≡ changes.prelinked files region p n
+  pub form : HasFormWith (firm n (original_at (format skip_causes) (files n)) object Two parts.slot parts.stamp) parts.list (own_words_of parts)
+  pub file : stored (Some (file_with (firm n (original_at (format skip_causes) (files n)) object Two parts.slot parts.stamp) parts.list (own_words_of parts))) ≡ changes.prelinked files region p n
 
 -- a library's flags, the words that its prelinked file holds at the places of its relocations, and what that is made of
 pub record IsLibraryBy (known : List Known) (files : List ℕ → Option (List ℕ)) (firms : Walked → List Firm) (has : List ℕ → FileParts → Type 0) (l : Library) : Type 0 where
@@ -118,12 +118,12 @@ pub record IsLibraryBy (known : List Known) (files : List ℕ → Option (List �
   pub words : AreWordsIn (firms still.known_by.is.own) still.file l.parts.held
   pub parts : has l.name.now l.parts
 
-abbrev pub IsLibrary : Run → Library → Type 0
-IsLibrary run l = IsLibraryBy run.known.now (prelinked run) (planned_firms run) (HasParts (files_of run) run.region (plan_of run)) l
+abbrev pub IsRunLibrary : Run → Library → Type 0
+IsRunLibrary run l = IsLibraryBy run.known.now (prelinked run) (planned_firms run) (HasParts (files_of run) run.region (plan_of run)) l
 
 -- such a library, where there is one
 abbrev pub IsLibraryIfAny : Run → Option Library → Type 0
-IsLibraryIfAny run library = IfSome library (IsLibrary run)
+IsLibraryIfAny run library = IfSome library (IsRunLibrary run)
 
 -- ---- the whole
 
@@ -134,8 +134,8 @@ pub record IsRun (run : Run) : Type 0 where
   pub standings : run.planned.now.standings ≡ standings (files_of run) run.region (names_of run.files.now)
   pub stale : run.planned.now.stale ≡ stale (files_of run) run.region run.planned.now.slots (names_of run.files.now)
   pub links : All (IsLink run.known.now) run.links.now
-  pub digests : All (IsDigest run) run.digests.now
-  pub libraries : All (IsLibrary run) run.libraries.now
+  pub digests : All (IsRunDigest run) run.digests.now
+  pub libraries : All (IsRunLibrary run) run.libraries.now
 
 abbrev pub IsCandidate : Run → List ℕ → Type 0
 IsCandidate run n = is_candidate (files_of run) run.region n ≡ true
@@ -189,7 +189,7 @@ walk_told (Ok ws) = Some ws
 walk_told (Err e) = None
 
 -- a candidate with the object of its original
-pub record IsMember (run : Run) (m : List ℕ × Object) : Type 0 where
+pub record IsPrelinkable (run : Run) (m : List ℕ × Object) : Type 0 where
   pub object : objects (format skip_causes) (files_of run) m.0 ≡ Ok m.1
   pub candidate : IsCandidate run m.0
 
@@ -201,8 +201,8 @@ numbers_for run n o = if is_library o.kind then ((numbers_of run).slot n, (numbe
 abbrev pub source : Run → Member → Firm
 source run m = planned_firm run (m.name, m.object.now)
 
-abbrev pub AreMembers : Run → List Member → Type 0
-AreMembers run ms = All (λ m. IsMember run (m.name, m.object.now)) ms
+abbrev pub ArePrelinkable : Run → List Member → Type 0
+ArePrelinkable run ms = All (λ m. IsPrelinkable run (m.name, m.object.now)) ms
 
 -- its original is that of its name's file
 abbrev pub HasOriginal : Run → Firm → Type 0
@@ -227,7 +227,7 @@ pub record IsOwnWalk (run : Run) (l : Link) (n : List ℕ) (rs : List Firm) : Ty
 -- what is known of a member's relocations is what was found of the library of its name
 pub record IsStillFor (run : Run) (r : Firm) (s : Still) : Type 0 where
   pub found : Library
-  pub is : IsLibrary run found
+  pub is : IsRunLibrary run found
   pub named : found.name.now ≡ r.member.name
   pub flags : s.flags.now ≡ found.flags
   pub held : s.held.now ≡ found.parts.held
@@ -255,8 +255,8 @@ abbrev pub made_original : Taken → Skip → Made
 made_original t cause = record { change = changes.put (Some t.bytes) t.name (Some (original_in t.bytes)); state = Skipped cause; given = false }
 
 -- of one that is prelinked anew
-abbrev pub made_new : Taken → List ℕ → Made
-made_new t file = record { change = changes.put (Some t.bytes) t.name (Some file); state = reports.state_in t.name false (marked_in file); given = true }
+abbrev pub made_of_taken : Taken → List ℕ → Made
+made_of_taken t file = record { change = changes.put (Some t.bytes) t.name (Some file); state = reports.state_in t.name false (marked_in file); given = true }
 
 -- the row of a library that is prelinked anew
 abbrev pub new_library : Run → List ℕ → RowState

@@ -12,5 +12,5 @@ words_by [] own = []
 words_by (w ∷ held) [] = []
 words_by (w ∷ held) (b ∷ own) = word_by w b ∷ words_by held own
 
-abbrev pub words_of : FileParts → List (Option ℕ)
-words_of parts = words_by parts.held parts.own
+abbrev pub own_words_of : FileParts → List (Option ℕ)
+own_words_of parts = words_by parts.held parts.own

@@ -52,9 +52,9 @@ fn index_of(libraries: &[Library<'_>], name: &str) -> Option<usize>
 
 /// What the file of a stale library is made of, taken out of what is known; None where nothing is known of it.
 fn parts_for(libraries: &mut Vec<Library<'_>>, run: &Run<'_>, name: &str) -> Option<FileParts>
-    requires { All (members.IsLibrary run.now) libraries.old.items }
+    requires { All (members.IsRunLibrary run.now) libraries.old.items }
     ensures parts { spec.HasPartsIfAny run.now name.now result }
-    ensures rest { All (members.IsLibrary run.now) libraries.new.items }
+    ensures rest { All (members.IsRunLibrary run.now) libraries.new.items }
 {
     match index_of(libraries.as_slice(), name) {
         None => None,
@@ -88,12 +88,12 @@ fn file_for(
 /// What the file of a stale library is made of, taken out of what is known; None of any other file, and where nothing is known of it.
 fn library_left(libraries: &mut Vec<Library<'_>>, run: &Run<'_>, taken: &Taken) -> Option<FileParts>
     requires run { members.IsRun run.now }
-    requires libraries { All (members.IsLibrary run.now) libraries.old.items }
+    requires libraries { All (members.IsRunLibrary run.now) libraries.old.items }
     requires found { members.IsFound run.now taken.now }
     requires stale { members.IsStale run.now taken.now.name }
     ensures decided { IfSome result (λ parts. spec.IsDecided run.now taken.now
         (decided.Library parts)) }
-    ensures rest { All (members.IsLibrary run.now) libraries.new.items }
+    ensures rest { All (members.IsRunLibrary run.now) libraries.new.items }
 {
     if is_library(&taken.entry) {
         return parts_for(libraries, run, taken.name.as_str());

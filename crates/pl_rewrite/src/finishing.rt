@@ -86,7 +86,7 @@ fn made_library(
 }
 
 /// The prelinked file of a library of its original and these parts; None where it is longer than a folder stores.
-fn library_file(
+fn storable_library(
     alloc: Global,
     name: &str,
     original: &[u8],
@@ -95,7 +95,7 @@ fn library_file(
 ) -> Result<Option<Vec<u8>>, NoMemory>
     requires { spec.HasForm name.now original.now object.now parts.now }
     ensures { IfOk result (λ file. option_map (λ v. v.items) file
-        ≡ spec.library_file name.now original.now object.now parts.now) }
+        ≡ spec.storable_library name.now original.now object.now parts.now) }
 {
     let words = own_words_of(alloc, parts)?;
     let library = Source {
@@ -126,9 +126,9 @@ fn made_by(
     requires original { original.now ≡ original_in bare.now.bytes }
     requires form { spec.HasForm bare.now.name original.now object.now parts.now }
     ensures { IfOk result (λ made. made ≡ spec.made_with bare.now parts.now
-        (spec.library_file bare.now.name original.now object.now parts.now)) }
+        (spec.storable_library bare.now.name original.now object.now parts.now)) }
 {
-    match library_file(alloc, bare.name.as_str(), original, object, parts)? {
+    match storable_library(alloc, bare.name.as_str(), original, object, parts)? {
         None => Ok(made_large(alloc, bare, original)?),
         Some(file) => Ok(made_library(alloc, bare, parts, file)?),
     }

@@ -15,7 +15,7 @@ use std::alloc::{AllocError, Global};
 fn digest_in<'a>(run: &Run<'a>, taken: &'a Taken) -> Digest<'a>
     requires run { spec.IsRun run.now }
     requires found { spec.IsFound run.now taken.now }
-    ensures { spec.IsDigest run.now result }
+    ensures { spec.IsRunDigest run.now result }
 {
     Digest {
         name: taken.name.as_str(),
@@ -26,7 +26,7 @@ fn digest_in<'a>(run: &Run<'a>, taken: &'a Taken) -> Digest<'a>
 /// The SHA-256 of the originals of all files.
 pub fn digests_of<'a>(alloc: Global, run: &Run<'a>) -> Result<Vec<Digest<'a>>, AllocError>
     requires { spec.IsRun run.now }
-    ensures { IfOk result (λ v. All (spec.IsDigest run.now) v.items) }
+    ensures { IfOk result (λ v. All (spec.IsRunDigest run.now) v.items) }
 {
     let mut digests = Vec::new(alloc);
     for taken in run.files {

@@ -64,7 +64,7 @@ fn word_by(held: u64, own: bool) -> Option<u64>
 
 /// The own words of a library's relocations, in their order.
 pub fn own_words_of(alloc: Global, parts: &FileParts) -> Result<Vec<Option<u64>>, AllocError>
-    ensures { IfOk result (λ v. v.items ≡ words.words_of parts.now) }
+    ensures { IfOk result (λ v. v.items ≡ words.own_words_of parts.now) }
 {
     let held = parts.held.as_slice();
     let own = parts.own.as_slice();
@@ -222,7 +222,7 @@ fn library_in<'a>(
 /// What is known of all libraries that may be prelinked.
 pub fn libraries_of<'a>(alloc: Global, run: &Run<'a>) -> Result<Vec<Library<'a>>, NoMemory>
     requires { spec.IsRun run.now }
-    ensures { IfOk result (λ v. All (spec.IsLibrary run.now) v.items) }
+    ensures { IfOk result (λ v. All (spec.IsRunLibrary run.now) v.items) }
 {
     let mut libraries = Vec::new(alloc);
     for taken in run.files {

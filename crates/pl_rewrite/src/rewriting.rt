@@ -8,7 +8,7 @@ ghost use Rattle.pl_known.specs.Plans as plans;
 ghost use Rattle.pl_known.specs.Taken.{AreTaken, files_in, names_of};
 ghost use Rattle.pl_plan.specs.Faults.{is_memory};
 ghost use Rattle.pl_rewrite.specs.Deciding.{IsDecided};
-ghost use Rattle.pl_rewrite.specs.Members.{IsLibrary, IsPrelinked, IsRun};
+ghost use Rattle.pl_rewrite.specs.Members.{IsRunLibrary, IsPrelinked, IsRun};
 ghost use Rattle.pl_rewrite.specs.Rewriting as spec;
 
 use crate::Report;
@@ -46,7 +46,7 @@ fn programs_with<'a>(
     libraries: &[Library<'_>],
 ) -> Result<Vec<MadeFile<'a>>, NoMemory>
     requires run { IsRun run.now }
-    requires libraries { All (IsLibrary run.now) libraries.now }
+    requires libraries { All (IsRunLibrary run.now) libraries.now }
     ensures { IfOk result (λ v. All (IsPrelinked run.now) v.items) }
 {
     let files = run.files;

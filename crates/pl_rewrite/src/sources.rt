@@ -129,7 +129,7 @@ fn numbers_of(run: &Run<'_>, taken: &Taken, object: &Object) -> (u64, u32)
 fn source_of<'a>(run: &Run<'a>, taken: &'a Taken, object: &'a Object) -> Source<'a>
     requires run { spec.IsRun run.now }
     requires found { spec.IsFound run.now taken.now }
-    requires member { spec.IsMember run.now (taken.now.name, object.now) }
+    requires member { spec.IsPrelinkable run.now (taken.now.name, object.now) }
     ensures { result ≡ spec.planned_firm run.now (taken.now.name, object.now) }
 {
     let (slot, stamp) = numbers_of(run, taken, object);
@@ -146,7 +146,7 @@ fn source_of<'a>(run: &Run<'a>, taken: &'a Taken, object: &'a Object) -> Source<
 /// A member as its file and the plan have it, found by the member's name.
 fn member_source<'a>(run: &Run<'a>, member: &Member<'a>) -> Option<Source<'a>>
     requires run { spec.IsRun run.now }
-    requires member { spec.IsMember run.now (member.now.name, member.now.object.now) }
+    requires member { spec.IsPrelinkable run.now (member.now.name, member.now.object.now) }
     ensures { result ≡ Some (spec.source run.now member.now) }
 {
     match find(run.files, member.name.as_str()) {
@@ -162,7 +162,7 @@ pub fn sources_of<'a>(
     members: &[Member<'a>],
 ) -> Result<Vec<Source<'a>>, AllocError>
     requires run { spec.IsRun run.now }
-    requires members { spec.AreMembers run.now members.now }
+    requires members { spec.ArePrelinkable run.now members.now }
     ensures { IfOk result (λ v. v.items ≡ map (spec.source run.now) members.now) }
 {
     let mut sources = Vec::new(alloc);

@@ -6,7 +6,7 @@ use Rattle.std.proofs.lemmas.Bool.{cases_Bool, false≢true, ltb-true, ltb-false
 use Rattle.std.proofs.lemmas.Slice.Eq.{bytes_eq-Decides}
 use Rattle.pl_sym.specs.declared.symbol.Symbol.{Symbol}
 use Rattle.pl_sym.specs.declared.class.Class.TheVariants.{Jump}
-use Rattle.pl_hash.specs.Candidates.{name_hash, is_candidate}
+use Rattle.pl_hash.specs.ChainSymbols.{name_hash, is_chain_symbol}
 use Rattle.pl_object.specs.declared.object.Object.{Object}
 use Rattle.pl_scope.specs.Matching.{defines, counts, only}
 use Rattle.pl_scope.specs.Probing.{picked, passes, passes_at, IsProbe, led_to, picks, lesser, least_from, another}
@@ -147,7 +147,7 @@ listed p pick is i holds =
     let parts = and_parts _ _ (defines_of o p.name.now pick at.0 at.2) in
     let named : at.0.name ≡ p.name.now = (bytes_eq-Decides at.0.name p.name.now).0 parts.1 in
     let hash : name_hash p.table.now at.0.name ≡ p.hash = ap (name_hash p.table.now) named ∙ sym is.hash in
-    subst (λ (h : ℕ). is_candidate p.table.now h i ≡ true) hash (is.table.complete i at.0 at.1 parts.0)
+    subst (λ (h : ℕ). is_chain_symbol p.table.now h i ≡ true) hash (is.table.complete i at.0 at.1 parts.0)
 
 pub first_is : (p : Probe) (pick : Pick) → IsProbe p → least_from (picks p pick) None (led_to p) ≡ position (picked p.object.now p.name.now pick) p.object.now.symbols
 first_is p pick is = least_is (picked p.object.now p.name.now pick) p.object.now.symbols (led_to p) (listed p pick is)

@@ -8,7 +8,7 @@ use Rattle.pl_sym.specs.Definers.{is_definer}
 use Rattle.pl_sym.specs.declared.symbol.Symbol.{Symbol}
 use Rattle.pl_sym.specs.declared.class.Class.TheVariants.{Jump}
 use Rattle.pl_hash.specs.Chain.{well_formed}
-use Rattle.pl_hash.specs.Candidates.{name_hash, is_candidate}
+use Rattle.pl_hash.specs.ChainSymbols.{name_hash, is_chain_symbol}
 use Rattle.pl_hash.specs.declared.table.Table.{Table}
 use Rattle.pl_hash.proofs.WholeLaws.{IsWellFormed-from}
 use Rattle.pl_object.specs.SymbolClauses.{defines, is_missed, misses_one, is_incomplete, hash_incomplete}
@@ -43,12 +43,12 @@ incomplete_parts : (t : Table) (symbols : List Symbol) → is_incomplete symbols
 unfolding is_incomplete
 incomplete_parts t symbols e = let parts = or_parts (not (well_formed t)) (misses_one symbols t) e in (negated (well_formed t) parts.0, parts.1)
 
-leads : (t : Table) (symbols : List Symbol) (i : ℕ) (s : Symbol) → misses_one symbols t ≡ false → slice_get symbols i ≡ Some s → is_definer s Jump false ≡ true → is_candidate t (name_hash t s.name) i ≡ true
+leads : (t : Table) (symbols : List Symbol) (i : ℕ) (s : Symbol) → misses_one symbols t ≡ false → slice_get symbols i ≡ Some s → is_definer s Jump false ≡ true → is_chain_symbol t (name_hash t s.name) i ≡ true
 unfolding misses_one
 leads t symbols i s none e holds =
     let missed : is_missed t i (slice_get symbols i) ≡ false = none_in_range (λ k. is_missed t k (slice_get symbols k)) 0 (length symbols) i none (omega arith) (omega (arith, slice_get_within symbols i s e)) in
-    let here : (defines s && not (is_candidate t (name_hash t s.name) i)) ≡ false = ap (is_missed t i) (sym e) ∙ missed in
-    leads_by (defines s) (is_candidate t (name_hash t s.name) i) here holds
+    let here : (defines s && not (is_chain_symbol t (name_hash t s.name) i)) ≡ false = ap (is_missed t i) (sym e) ∙ missed in
+    leads_by (defines s) (is_chain_symbol t (name_hash t s.name) i) here holds
 
 none_incomplete : (o : Object) → IsFit o → list_any (is_incomplete o.symbols) o.hashes ≡ false
 unfolding hash_incomplete

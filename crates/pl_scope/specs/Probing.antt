@@ -9,7 +9,7 @@ use Rattle.pl_ver.specs.Fields.{index_of}
 use Rattle.pl_ver.specs.declared.constants.TheConstants.{VER_NDX_GLOBAL}
 use Rattle.pl_hash.specs.Hash.{gnu}
 use Rattle.pl_hash.specs.Chain.{IsWellFormed}
-use Rattle.pl_hash.specs.Candidates.{candidates, is_candidate, name_hash}
+use Rattle.pl_hash.specs.ChainSymbols.{chain_symbols, is_chain_symbol, name_hash}
 use Rattle.pl_hash.specs.declared.table.Table.{Table}
 use Rattle.pl_elf.specs.Kinds.{is_program}
 use Rattle.pl_object.specs.declared.object.Object.{Object}
@@ -43,7 +43,7 @@ passes_at p symbols index = passes p (slice_get symbols index)
 pub record IsTable (o : Object) (t : Table) : Type 0 where
   pub formed : IsWellFormed t
   pub symbols : t.symbols ≡ length o.symbols
-  pub complete : (i : ℕ) (s : Symbol) → slice_get o.symbols i ≡ Some s → is_definer s Jump false ≡ true → is_candidate t (name_hash t s.name) i ≡ true
+  pub complete : (i : ℕ) (s : Symbol) → slice_get o.symbols i ≡ Some s → is_definer s Jump false ≡ true → is_chain_symbol t (name_hash t s.name) i ≡ true
 
 -- a table of the object, and the hash of the name by which it goes
 pub record IsProbe (p : Probe) : Type 0 where
@@ -51,7 +51,7 @@ pub record IsProbe (p : Probe) : Type 0 where
   pub hash : p.hash ≡ name_hash p.table.now p.name.now
 
 abbrev pub led_to : Probe → List ℕ
-led_to p = candidates p.table.now p.hash
+led_to p = chain_symbols p.table.now p.hash
 
 -- whether a step takes the symbol of an index
 abbrev pub picks : Probe → Pick → ℕ → Bool

@@ -1,7 +1,7 @@
 // What a reference asks of each object.
 ghost use Rattle.std.specs.Prelude.{◌≡◌};
 ghost use Rattle.std.specs.Option.{option_map};
-ghost use Rattle.pl_hash.specs.Candidates.{name_hash};
+ghost use Rattle.pl_hash.specs.ChainSymbols.{name_hash};
 ghost use Rattle.pl_scope.specs.Finds as finds;
 ghost use Rattle.pl_scope.specs.Probing as spec;
 

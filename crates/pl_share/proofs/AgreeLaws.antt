@@ -17,12 +17,12 @@ use Rattle.pl_slots.specs.declared.fault.PlanFault.{PlanFault}
 use Rattle.pl_slots.specs.Apart.{is_beside}
 use Rattle.pl_slots.specs.Holes.{region_holes, without, lowest}
 use Rattle.pl_slots.specs.Plan as apart
-use Rattle.pl_slots.specs.Plan.{kept_row, keeps, range_of, slot_at, without_kept}
+use Rattle.pl_slots.specs.Plan.{kept_row, keeps, slot_range, slot_at, without_kept}
 use Rattle.pl_slots.proofs.ApartLaws.{with_kept, differ}
 use Rattle.pl_share.specs.declared.given.Given.{Given}
 use Rattle.pl_share.specs.Disjoint.{with_row, disjoint}
 use Rattle.pl_share.specs.Shared as shared
-use Rattle.pl_share.specs.Shared.{given_to, is_clear, kept, all_kept, beside, holes_for, has_slot, at_place, placed, all_placed, slot_of, slots_of, plan_shared}
+use Rattle.pl_share.specs.Shared.{given_to, is_clear, kept, all_kept, without_slot, holes_for, has_slot, at_place, placed, all_placed, slot_of, slots_of, plan_shared}
 use Rattle.pl_share.specs.Laws.{AllAreTogether, TogetherIsApart}
 use Rattle.pl_share.proofs.KeptLaws.{rows_in, AreOwn, Keep, own_keep, found_own}
 use Rattle.pl_share.proofs.StepLaws.{slots_more}
@@ -181,22 +181,22 @@ slots_push given i a (suc n) slot all = rw (slot_other given i a slot (differ_ba
 -- ---- holes
 
 abbrev left : Range → List Given → List Range
-left region given = fold (λ holes g. without (range_of g.slot) holes) (region_holes region) given
+left region given = fold (λ holes g. without (slot_range g.slot) holes) (region_holes region) given
 
-holes_together : (walks : List (List ℕ)) (count i : ℕ) (given : List Given) (holes : List Range) → AllAreTogether walks count → i < count → Within count given → fold (beside walks i) holes given ≡ fold (λ holes g. without (range_of g.slot) holes) holes given
+holes_together : (walks : List (List ℕ)) (count i : ℕ) (given : List Given) (holes : List Range) → AllAreTogether walks count → i < count → Within count given → fold (without_slot walks i) holes given ≡ fold (λ holes g. without (slot_range g.slot) holes) holes given
 holes_together walks count i [] holes together small within = refl
-holes_together walks count i (g ∷ given) holes together small within = rw (together i g.want small within.0) (holes_together walks count i given (without (range_of g.slot) holes) together small within.1)
+holes_together walks count i (g ∷ given) holes together small within = rw (together i g.want small within.0) (holes_together walks count i given (without (slot_range g.slot) holes) together small within.1)
 
 holes_are : (walks : List (List ℕ)) (region : Range) (count i : ℕ) (given : List Given) → AllAreTogether walks count → i < count → Within count given → holes_for walks region given i ≡ left region given
 unfolding holes_for
 holes_are walks region count i given together small within = holes_together walks count i given (region_holes region) together small within
 
-holes_one : (found : Option Slot) (i : ℕ) (more : List Given) (holes : List Range) → fold (λ holes g. without (range_of g.slot) holes) holes (numbered_one i found more) ≡ fold (λ holes g. without (range_of g.slot) holes) (without_kept found holes) more
+holes_one : (found : Option Slot) (i : ℕ) (more : List Given) (holes : List Range) → fold (λ holes g. without (slot_range g.slot) holes) holes (numbered_one i found more) ≡ fold (λ holes g. without (slot_range g.slot) holes) (without_kept found holes) more
 holes_one None i more holes = refl
 holes_one (Some slot) i more holes = refl
 
 holes_kept : (rows : List Slot) (region : Range) (wants : List Want) (owns : List (Option Slot)) (i : ℕ) (holes : List Range) → Keep rows region wants owns
-    → fold (λ holes want. without_kept (kept_row rows region want) holes) holes wants ≡ fold (λ holes g. without (range_of g.slot) holes) holes (numbered i owns)
+    → fold (λ holes want. without_kept (kept_row rows region want) holes) holes wants ≡ fold (λ holes g. without (slot_range g.slot) holes) holes (numbered i owns)
 holes_kept rows region [] [] i holes keep = refl
 holes_kept rows region (want ∷ wants) (own ∷ owns) i holes keep =
     ap (λ (found : Option Slot). fold (λ holes want. without_kept (kept_row rows region want) holes) (without_kept found holes) wants) keep.0
@@ -235,15 +235,15 @@ state_some region given i slot is =
     ap (λ (rows : List Slot). record { rows = rows; holes = left region given }) (sym (slots_more given i ∙ ap (λ (found : Option Slot). slots_of given i ++ cons_option found []) is))
 
 state_push : (region : Range) (given : List Given) (i : ℕ) (slot : Slot) → slot_of given i ≡ None
-    → ◌≡◌ {A = Planned} (record { rows = slots_of given i ++ slot ∷ []; holes = without (range_of slot) (left region given) }) (state region (given ++ given_to i slot ∷ []) (i + 1))
+    → ◌≡◌ {A = Planned} (record { rows = slots_of given i ++ slot ∷ []; holes = without (slot_range slot) (left region given) }) (state region (given ++ given_to i slot ∷ []) (i + 1))
 state_push region given i slot none =
     let rows : slots_of (given ++ given_to i slot ∷ []) (i + 1) ≡ slots_of given i ++ slot ∷ [] =
     slots_more (given ++ given_to i slot ∷ []) i
     ∙ (ap (λ (found : Option Slot). slots_of (given ++ given_to i slot ∷ []) i ++ cons_option found []) (slot_own given i slot none)
     ∙ ap (λ (z : List Slot). z ++ slot ∷ []) (slots_push given i 0 i slot (omega arith))) in
-    let holes : left region (given ++ given_to i slot ∷ []) ≡ without (range_of slot) (left region given) =
-    fold-append (λ (holes : List Range) (g : Given). without (range_of g.slot) holes) (region_holes region) given (given_to i slot ∷ []) in
-    ap (λ (z : List Slot). record { rows = z; holes = without (range_of slot) (left region given) }) (sym rows)
+    let holes : left region (given ++ given_to i slot ∷ []) ≡ without (slot_range slot) (left region given) =
+    fold-append (λ (holes : List Range) (g : Given). without (slot_range g.slot) holes) (region_holes region) given (given_to i slot ∷ []) in
+    ap (λ (z : List Slot). record { rows = z; holes = without (slot_range slot) (left region given) }) (sym rows)
     ∙ ap (λ (z : List Range). record { rows = slots_of (given ++ given_to i slot ∷ []) (i + 1); holes = z }) (sym holes)
 
 step_some : (rows : List Slot) (walks : List (List ℕ)) (region : Range) (count : ℕ) (want : Want) (wants : List Want) (given : List Given) (i : ℕ) (slot : Slot) → slot_of given i ≡ Some slot → kept_row rows region want ≡ Some slot

@@ -17,13 +17,13 @@ use Rattle.pl_slots.specs.declared.slot.Slot.{Slot}
 use Rattle.pl_slots.specs.declared.fault.PlanFault.{PlanFault}
 use Rattle.pl_slots.specs.Apart.{is_beside}
 use Rattle.pl_slots.specs.Holes.{region_holes, without, lowest, is_free, IsPlace}
-use Rattle.pl_slots.specs.Plan.{kept_row, range_of, slot_at, is_memory}
+use Rattle.pl_slots.specs.Plan.{kept_row, slot_range, slot_at, is_memory}
 use Rattle.pl_slots.proofs.ApartLaws.{beside_back, fits_beside, taken_not_free}
 use Rattle.pl_slots.proofs.HoleLaws.{free_in_region}
 use Rattle.pl_slots.proofs.ServeLaws.{AreSome, are_some, IsKept, is_kept, lowest_fits, lies_where_free, still_free, InRegion}
 use Rattle.pl_share.specs.declared.given.Given.{Given}
 use Rattle.pl_share.specs.Together.{walk_has, are_together}
-use Rattle.pl_share.specs.Shared.{given_to, is_clear, with_row, kept, all_kept, beside, holes_for, has_slot, at_place, placed, all_placed, slot_of, slots_of, plan_shared, Serves, AllServe, WalksAreApart}
+use Rattle.pl_share.specs.Shared.{given_to, is_clear, with_row, kept, all_kept, without_slot, holes_for, has_slot, at_place, placed, all_placed, slot_of, slots_of, plan_shared, IsSlotFor, AreSlotsFor, WalksAreApart}
 
 abbrev ok_in : {A : Type 0} → A → Result A PlanFault
 ok_in x = Ok x
@@ -48,7 +48,7 @@ abbrev pub Clear : List (List ℕ) → Given → Given → Type 0
 Clear walks a b = are_together walks a.want b.want ≡ true → is_beside a.slot b.slot ≡ true
 
 abbrev pub IsServed : Range → List Want → Given → Type 0
-IsServed region wants g = (g.want < length wants) × ((w : Want) → Serves region (slice_index_or wants g.want w) g.slot) × (0 < g.slot.span)
+IsServed region wants g = (g.want < length wants) × ((w : Want) → IsSlotFor region (slice_index_or wants g.want w) g.slot) × (0 < g.slot.span)
 
 pub record AreSound (walks : List (List ℕ)) (region : Range) (wants : List Want) (given : List Given) : Type 0 where
   pub served : All (IsServed region wants) given
@@ -90,7 +90,7 @@ kept_sound rows walks region wants given i want (Some row) is small at some s =
           let keeps : IsKept region want row = is_kept rows region want row is in
           rw clear (record {
             sound = sound_push walks region wants given i row s.sound
-                (small, λ w. subst (λ (z : Want). Serves region z row) (sym (at w)) (record { name = keeps.name; large = keeps.large; aligned = keeps.aligned; within = keeps.within }), omega (arith, keeps.large, some))
+                (small, λ w. subst (λ (z : Want). IsSlotFor region z row) (sym (at w)) (record { name = keeps.name; large = keeps.large; aligned = keeps.aligned; within = keeps.within }), omega (arith, keeps.large, some))
                 (clear_all walks given i row clear) (λ k d lt same. let b : (get_or given k d).want < i = s.below k d lt in clash b same);
             below = All-push (λ (g : Given). g.want < i + 1) given (given_to i row) (λ k d lt. let b : (get_or given k d).want < i = s.below k d lt in omega arith) (omega arith);
           })
@@ -121,32 +121,32 @@ all_kept_sound rows walks region wants front (want ∷ rest) given i is long som
 
 -- ---- holes beside slots
 
-fold_free : (walks : List (List ℕ)) (i address : ℕ) (given : List Given) (holes : List Range) → is_free address (fold (beside walks i) holes given) ≡ true → is_free address holes ≡ true
+fold_free : (walks : List (List ℕ)) (i address : ℕ) (given : List Given) (holes : List Range) → is_free address (fold (without_slot walks i) holes given) ≡ true → is_free address holes ≡ true
 fold_free walks i address [] holes free = free
 fold_free walks i address (g ∷ given) holes free =
-    let rest : is_free address (beside walks i holes g) ≡ true = fold_free walks i address given (beside walks i holes g) free in
+    let rest : is_free address (without_slot walks i holes g) ≡ true = fold_free walks i address given (without_slot walks i holes g) free in
     elim (cases_Bool (are_together walks i g.want)) [
-      | inl t ↦ still_free (range_of g.slot) holes address (rw t at rest)
+      | inl t ↦ still_free (slot_range g.slot) holes address (rw t at rest)
       | inr f ↦ rw f at rest
     ]
 
-fold_taken : (walks : List (List ℕ)) (i address : ℕ) (given : List Given) (holes : List Range) (k : ℕ) (d : Given) → k < length given → are_together walks i (get_or given k d).want ≡ true → has address (range_of (get_or given k d).slot) ≡ true → is_free address (fold (beside walks i) holes given) ≡ false
+fold_taken : (walks : List (List ℕ)) (i address : ℕ) (given : List Given) (holes : List Range) (k : ℕ) (d : Given) → k < length given → are_together walks i (get_or given k d).want ≡ true → has address (slot_range (get_or given k d).slot) ≡ true → is_free address (fold (without_slot walks i) holes given) ≡ false
 fold_taken walks i address [] holes k d lt t within = absurd (omega arith)
 fold_taken walks i address (g ∷ given) holes zero d lt t within =
-    elim (cases_Bool (is_free address (fold (beside walks i) (beside walks i holes g) given))) [
+    elim (cases_Bool (is_free address (fold (without_slot walks i) (without_slot walks i holes g) given))) [
       | inl free ↦
-          let rest : is_free address (beside walks i holes g) ≡ true = fold_free walks i address given (beside walks i holes g) free in
-          let cut : is_free address (without (range_of g.slot) holes) ≡ true = rw t at rest in
-          absurd (false≢true (sym (taken_not_free (range_of g.slot) holes address within) ∙ cut))
+          let rest : is_free address (without_slot walks i holes g) ≡ true = fold_free walks i address given (without_slot walks i holes g) free in
+          let cut : is_free address (without (slot_range g.slot) holes) ≡ true = rw t at rest in
+          absurd (false≢true (sym (taken_not_free (slot_range g.slot) holes address within) ∙ cut))
       | inr none ↦ none
     ]
-fold_taken walks i address (g ∷ given) holes (suc k) d lt t within = fold_taken walks i address given (beside walks i holes g) k d (omega arith) t within
+fold_taken walks i address (g ∷ given) holes (suc k) d lt t within = fold_taken walks i address given (without_slot walks i holes g) k d (omega arith) t within
 
 holes_inside : (walks : List (List ℕ)) (region : Range) (given : List Given) (i : ℕ) → InRegion region (holes_for walks region given i)
 unfolding holes_for
 holes_inside walks region given i = λ address free. sym (free_in_region address region) ∙ fold_free walks i address given (region_holes region) free
 
-holes_taken : (walks : List (List ℕ)) (region : Range) (given : List Given) (i address k : ℕ) (d : Given) → k < length given → are_together walks i (get_or given k d).want ≡ true → has address (range_of (get_or given k d).slot) ≡ true → is_free address (holes_for walks region given i) ≡ false
+holes_taken : (walks : List (List ℕ)) (region : Range) (given : List Given) (i address k : ℕ) (d : Given) → k < length given → are_together walks i (get_or given k d).want ≡ true → has address (slot_range (get_or given k d).slot) ≡ true → is_free address (holes_for walks region given i) ≡ false
 unfolding holes_for
 holes_taken walks region given i address k d lt t within = fold_taken walks i address given (region_holes region) k d lt t within
 
@@ -183,10 +183,10 @@ place_sound walks region wants given after i want None none small at aligns some
 place_sound walks region wants given after i want (Some start) none small at aligns some is ok s =
     let slot : Slot = slot_at want start in
     let place : IsPlace (holes_for walks region given i) want.span want.align start = lowest_fits want.span want.align start (holes_for walks region given i) aligns is in
-    let serves : Serves region want slot = record { name = refl; large = omega arith; aligned = place.0; within = lies_where_free region (holes_for walks region given i) slot (holes_inside walks region given i) some place.1 } in
+    let serves : IsSlotFor region want slot = record { name = refl; large = omega arith; aligned = place.0; within = lies_where_free region (holes_for walks region given i) slot (holes_inside walks region given i) some place.1 } in
     let clear : All (λ g. are_together walks i g.want ≡ true → is_beside slot g.slot ≡ true) given = λ k d lt t.
     fits_beside (holes_for walks region given i) slot (get_or given k d).slot some place.1 (s.sound.served k d lt).2 (λ address within. holes_taken walks region given i address k d lt t within) in
-    let all : AreSound walks region wants (given ++ given_to i slot ∷ []) = sound_push walks region wants given i slot s.sound (small, λ w. subst (λ (z : Want). Serves region z slot) (sym (at w)) serves, some) clear (not_there given i none) in
+    let all : AreSound walks region wants (given ++ given_to i slot ∷ []) = sound_push walks region wants given i slot s.sound (small, λ w. subst (λ (z : Want). IsSlotFor region z slot) (sym (at w)) serves, some) clear (not_there given i none) in
     subst (λ (z : List Given). SoundTo walks region wants z (i + 1)) (ok_same (given ++ given_to i slot ∷ []) after ok)
     (record { sound = all; covers = up_to (given ++ given_to i slot ∷ []) i (λ j lt. has_front given (given_to i slot ∷ []) j (s.covers j lt)) (has_new given i slot) })
 
@@ -272,15 +272,15 @@ slots_given walks region wants given i s d sound small h =
 slots_count : (walks : List (List ℕ)) (region : Range) (wants : List Want) (given : List Given) → SoundTo walks region wants given (length wants) → length (slots_of given (length wants)) ≡ length wants
 slots_count walks region wants given sound = (all_some (slot_of given) (length wants) 0 (λ j low high. some_slot given j (sound.covers j (omega arith)))).count
 
-all_serve : (walks : List (List ℕ)) (region : Range) (wants : List Want) (given : List Given) → SoundTo walks region wants given (length wants) → AllServe region wants (slots_of given (length wants))
+all_serve : (walks : List (List ℕ)) (region : Range) (wants : List Want) (given : List Given) → SoundTo walks region wants given (length wants) → AreSlotsFor region wants (slots_of given (length wants))
 all_serve walks region wants given sound = record {
   count = slots_count walks region wants given sound;
   each = λ i w s small.
       let h : HasGiven given i = given_at given i (sound.covers i small) in
       let d : Given = given_to i s in
       let served : IsServed region wants (get_or given h.at d) = sound.sound.served h.at d h.small in
-      let serves : Serves region (slice_index_or wants (get_or given h.at d).want w) (get_or given h.at d).slot = served.1 w in
-      subst (λ (x : Slot). Serves region (slice_index_or wants i w) x) (sym (slots_given walks region wants given i s d sound small h)) (subst (λ (k : ℕ). Serves region (slice_index_or wants k w) (get_or given h.at d).slot) (h.want d) serves);
+      let serves : IsSlotFor region (slice_index_or wants (get_or given h.at d).want w) (get_or given h.at d).slot = served.1 w in
+      subst (λ (x : Slot). IsSlotFor region (slice_index_or wants i w) x) (sym (slots_given walks region wants given i s d sound small h)) (subst (λ (k : ℕ). IsSlotFor region (slice_index_or wants k w) (get_or given h.at d).slot) (h.want d) serves);
 }
 
 walks_apart : (walks : List (List ℕ)) (region : Range) (wants : List Want) (given : List Given) → SoundTo walks region wants given (length wants) → WalksAreApart walks (slots_of given (length wants))
@@ -317,11 +317,11 @@ whole_sound rows wants walks region given some ok =
     none n = omega arith
 
 pub slots_serve : (rows : List Slot) (wants : List Want) (walks : List (List ℕ)) (region : Range) (result : Result (List Slot) PlanFault) → All (λ want. 0 < want.align) wants → Answers is_memory result (plan_shared rows wants walks region)
-    → IfOk result (λ slots. All (λ want. 0 < want.span) wants → AllServe region wants slots)
+    → IfOk result (λ slots. All (λ want. 0 < want.span) wants → AreSlotsFor region wants slots)
 unfolding plan_shared
 slots_serve rows wants walks region (Ok slots) aligns ok = λ spans.
     let split : (given : List Given) × (all_placed walks region (all_kept rows walks region [] 0 wants) 0 wants ≡ Ok given) × (ok_in (slots_of given (length wants)) ≡ Ok slots) = bind_ok (all_placed walks region (all_kept rows walks region [] 0 wants) 0 wants) (λ given. Ok (slots_of given (length wants))) slots ok in
-    subst (AllServe region wants) (ok_same (slots_of split.0 (length wants)) slots split.2) (all_serve walks region wants split.0 (whole_sound rows wants walks region split.0 (are_some wants aligns spans) split.1))
+    subst (AreSlotsFor region wants) (ok_same (slots_of split.0 (length wants)) slots split.2) (all_serve walks region wants split.0 (whole_sound rows wants walks region split.0 (are_some wants aligns spans) split.1))
 slots_serve rows wants walks region (Err e) aligns ok = tt
 
 pub slots_apart : (rows : List Slot) (wants : List Want) (walks : List (List ℕ)) (region : Range) (result : Result (List Slot) PlanFault) → All (λ want. 0 < want.align) wants → Answers is_memory result (plan_shared rows wants walks region)

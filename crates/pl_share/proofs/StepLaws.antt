@@ -12,7 +12,7 @@ use Rattle.pl_slots.specs.declared.slot.Slot.{Slot}
 use Rattle.pl_slots.specs.declared.fault.PlanFault.{PlanFault}
 use Rattle.pl_slots.specs.Apart.{is_beside}
 use Rattle.pl_slots.specs.Holes.{region_holes, without, lowest}
-use Rattle.pl_slots.specs.Plan.{range_of}
+use Rattle.pl_slots.specs.Plan.{slot_range}
 use Rattle.pl_share.specs.declared.given.Given.{Given}
 use Rattle.pl_share.specs.Together.{are_together, AreMarks}
 use Rattle.pl_share.specs.Shared.{given_to, AreGiven, is_clear, kept, all_kept, holes_for, marked_holes, with_row, has_slot, at_place, placed, all_placed, slot_of, slots_of, plan_shared}
@@ -33,11 +33,11 @@ clear_by_marks walks given i count marks row m within =
     (λ k d lt. ap (λ (b : Bool). not b || is_beside row (get_or given k d).slot) (m.each (get_or given k d).want (within k d lt)))
 
 same_fold : (p q : Given → Bool) (given : List Given) (holes : List Range) → ((k : ℕ) (d : Given) → k < length given → p (get_or given k d) ≡ q (get_or given k d))
-    → fold (λ hs g. if p g then without (range_of g.slot) hs else hs) holes given ≡ fold (λ hs g. if q g then without (range_of g.slot) hs else hs) holes given
+    → fold (λ hs g. if p g then without (slot_range g.slot) hs else hs) holes given ≡ fold (λ hs g. if q g then without (slot_range g.slot) hs else hs) holes given
 same_fold p q [] holes same = refl
 same_fold p q (g ∷ given) holes same =
-    ap (λ (b : Bool). fold (λ hs x. if p x then without (range_of x.slot) hs else hs) (if b then without (range_of g.slot) holes else holes) given) (same zero g (omega arith))
-    ∙ same_fold p q given (if q g then without (range_of g.slot) holes else holes) (λ k d lt. same (suc k) d (omega arith))
+    ap (λ (b : Bool). fold (λ hs x. if p x then without (slot_range x.slot) hs else hs) (if b then without (slot_range g.slot) holes else holes) given) (same zero g (omega arith))
+    ∙ same_fold p q given (if q g then without (slot_range g.slot) holes else holes) (λ k d lt. same (suc k) d (omega arith))
 
 pub holes_by_marks : (walks : List (List ℕ)) (region : Range) (given : List Given) (i count : ℕ) (marks : List Bool) → AreMarks marks walks i count → All (λ g. g.want < count) given → marked_holes marks region given ≡ holes_for walks region given i
 unfolding holes_for

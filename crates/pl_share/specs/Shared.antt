@@ -11,7 +11,7 @@ use Rattle.pl_slots.specs.declared.fault.PlanFault.{PlanFault}
 use Rattle.pl_slots.specs.declared.fault.PlanFault.TheVariants.{NoSlot}
 use Rattle.pl_slots.specs.Apart.{is_beside}
 use Rattle.pl_slots.specs.Holes.{region_holes, without, lowest, greatest}
-use Rattle.pl_slots.specs.Plan.{kept_row, range_of, slot_at, lies_in}
+use Rattle.pl_slots.specs.Plan.{kept_row, slot_range, slot_at, lies_in}
 use Rattle.pl_share.specs.declared.given.Given.{Given}
 use Rattle.pl_share.specs.Together.{are_together}
 
@@ -25,7 +25,7 @@ pub record AreGiven (given : List Given) (count : ℕ) : Type 0 where
 
 -- the holes that slots of marked wants leave
 abbrev pub marked_holes : List Bool → Range → List Given → List Range
-marked_holes marks region given = fold (λ holes g. if slice_index_or marks g.want false then without (range_of g.slot) holes else holes) (region_holes region) given
+marked_holes marks region given = fold (λ holes g. if slice_index_or marks g.want false then without (slot_range g.slot) holes else holes) (region_holes region) given
 
 -- ---- kept rows
 
@@ -49,12 +49,12 @@ all_kept rows walks region given i (want ∷ wants) = all_kept rows walks region
 -- ---- the others
 
 -- what a slot leaves of holes, where it is one of a want that is loaded together with this one
-abbrev pub beside : List (List ℕ) → ℕ → List Range → Given → List Range
-beside walks i holes g = if are_together walks i g.want then without (range_of g.slot) holes else holes
+abbrev pub without_slot : List (List ℕ) → ℕ → List Range → Given → List Range
+without_slot walks i holes g = if are_together walks i g.want then without (slot_range g.slot) holes else holes
 
 -- the holes that the slots given so far leave for a want
 unfoldable pub holes_for : List (List ℕ) → Range → List Given → ℕ → List Range
-holes_for walks region given i = fold (beside walks i) (region_holes region) given
+holes_for walks region given i = fold (without_slot walks i) (region_holes region) given
 
 abbrev pub has_slot : List Given → ℕ → Bool
 has_slot given i = list_any (λ g. g.want == i) given
@@ -88,16 +88,16 @@ plan_shared rows wants walks region = all_placed walks region (all_kept rows wal
 -- ---- what a plan is known to give
 
 -- a slot serves a want: it is the want's, no smaller than the want, aligned as the want asks, and in the region
-pub record Serves (region : Range) (want : Want) (slot : Slot) : Type 0 where
+pub record IsSlotFor (region : Range) (want : Want) (slot : Slot) : Type 0 where
   pub name : slot.name ≡ want.name
   pub large : want.span ≤ slot.span
   pub aligned : is_aligned slot.start want.align ≡ true
   pub within : lies_in region slot ≡ true
 
 -- one slot for each want, in their order
-pub record AllServe (region : Range) (wants : List Want) (slots : List Slot) : Type 0 where
+pub record AreSlotsFor (region : Range) (wants : List Want) (slots : List Slot) : Type 0 where
   pub count : length slots ≡ length wants
-  pub each : (i : ℕ) (w : Want) (s : Slot) → i < length wants → Serves region (slice_index_or wants i w) (slice_index_or slots i s)
+  pub each : (i : ℕ) (w : Want) (s : Slot) → i < length wants → IsSlotFor region (slice_index_or wants i w) (slice_index_or slots i s)
 
 -- in each walk no two slots share an address
 abbrev pub WalksAreApart : List (List ℕ) → List Slot → Type 0

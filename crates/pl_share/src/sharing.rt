@@ -282,7 +282,7 @@ pub fn plan_shared(
         region) }
     // Each want's slot is as large as it wants, aligned and in the region.
     ensures serve { IfOk result (λ slots. All (λ want. 0 < want.span) wants.now
-        → spec.AllServe region wants.now slots) }
+        → spec.AreSlotsFor region wants.now slots) }
     // In each walk no two slots share an address.
     ensures apart { IfOk result (λ slots. All (λ want. 0 < want.span) wants.now
         → spec.WalksAreApart walks.now.rows slots) }

@@ -15,7 +15,7 @@ use Rattle.pl_slots.specs.declared.planned.Planned.{Planned}
 use Rattle.pl_slots.specs.Apart.{is_beside, are_apart}
 use Rattle.pl_slots.specs.Holes.{without, lowest, is_free, fits_at}
 use Rattle.pl_elf.specs.Ranges.{has}
-use Rattle.pl_slots.specs.Plan.{next, placed, slot_at, at_place, with_row, kept_or_placed, kept_row, keeps, range_of, without_kept}
+use Rattle.pl_slots.specs.Plan.{next, placed, slot_at, at_place, with_row, kept_or_placed, kept_row, keeps, slot_range, without_kept}
 use Rattle.pl_slots.proofs.HoleLaws.{free_without}
 use Rattle.pl_slots.proofs.ServeLaws.{AreSome, is_kept, lowest_fits, fits_free, still_free, free_before}
 
@@ -46,7 +46,7 @@ apart_with (x ∷ xs) ys slot apart besides =
 -- each slot has some addresses, and none of them is free
 abbrev pub Outside : List Range → List Slot → Type 0
 Outside holes [] = Unit {0}
-Outside holes (slot ∷ slots) = (0 < slot.span) × ((address : ℕ) → has address (range_of slot) ≡ true → is_free address holes ≡ false) × Outside holes slots
+Outside holes (slot ∷ slots) = (0 < slot.span) × ((address : ℕ) → has address (slot_range slot) ≡ true → is_free address holes ≡ false) × Outside holes slots
 
 not_free : (address : ℕ) (more fewer : List Range) → (is_free address fewer ≡ true → is_free address more ≡ true) → is_free address more ≡ false → is_free address fewer ≡ false
 not_free address more fewer was taken = elim (cases_Bool (is_free address fewer)) [
@@ -59,7 +59,7 @@ outside_fewer more fewer [] was out = tt
 outside_fewer more fewer (slot ∷ slots) was out =
     (out.0, λ address within. not_free address more fewer (was address) (out.1 address within), outside_fewer more fewer slots was out.2)
 
-outside_with : (holes : List Range) (xs ys : List Slot) (slot : Slot) → Outside holes (xs ++ ys) → 0 < slot.span → ((address : ℕ) → has address (range_of slot) ≡ true → is_free address holes ≡ false) → Outside holes (xs ++ slot ∷ ys)
+outside_with : (holes : List Range) (xs ys : List Slot) (slot : Slot) → Outside holes (xs ++ ys) → 0 < slot.span → ((address : ℕ) → has address (slot_range slot) ≡ true → is_free address holes ≡ false) → Outside holes (xs ++ slot ∷ ys)
 outside_with holes [] ys slot out some taken = (some, taken, out)
 outside_with holes (x ∷ xs) ys slot out some taken = (out.0, out.1, outside_with holes xs ys slot out.2 some taken)
 
@@ -69,7 +69,7 @@ taken_not_free taken holes address within = free_without address taken holes ∙
 
 -- a slot that fits in holes is beside each slot outside of them
 pub fits_beside : (holes : List Range) (slot other : Slot) → 0 < slot.span → fits_at holes slot.span slot.start ≡ true → 0 < other.span
-    → ((address : ℕ) → has address (range_of other) ≡ true → is_free address holes ≡ false) → is_beside slot other ≡ true
+    → ((address : ℕ) → has address (slot_range other) ≡ true → is_free address holes ≡ false) → is_beside slot other ≡ true
 fits_beside holes slot other some fits more taken = elim (cases_Bool (is_beside slot other)) [
   | inl besides ↦ besides
   | inr none ↦
@@ -77,7 +77,7 @@ fits_beside holes slot other some fits more taken = elim (cases_Bool (is_beside 
       let outside = or_parts (nat_le (slot.start + slot.span) other.start) (nat_le (other.start + other.span) slot.start) none in
       let low : other.start < slot.start + slot.span = leb-false (slot.start + slot.span) other.start outside.0 in
       let high : slot.start < other.start + other.span = leb-false (other.start + other.span) slot.start outside.1 in
-      let within : has first (range_of other) ≡ true = and_from _ _ (le-leb other.start first (omega arith)) (lt-ltb first (other.start + other.span) (omega (arith, high, more))) in
+      let within : has first (slot_range other) ≡ true = and_from _ _ (le-leb other.start first (omega arith)) (lt-ltb first (other.start + other.span) (omega (arith, high, more))) in
       absurd (true≢false (sym (fits_free holes slot.span slot.start first fits (omega arith) (omega (arith, low, some))) ∙ taken first within))
 ]
 
@@ -172,9 +172,9 @@ outside_with_kept : (kept : List Slot) (region : Range) (want : Want) (wants : L
     → ((holes : List Range) → Outside (left_of kept region wants holes) (kept_rows kept region wants)) → Outside (left_of kept region wants (without_kept found holes)) (with_kept found (kept_rows kept region wants))
 outside_with_kept kept region want wants holes None none some rest = rest holes
 outside_with_kept kept region want wants holes (Some row) is some rest =
-    let less : List Range = without (range_of row) holes in (
+    let less : List Range = without (slot_range row) holes in (
       omega (arith, some, (is_kept kept region want row is).large),
-      λ address within. not_free address less (left_of kept region wants less) (free_before kept region wants less address) (taken_not_free (range_of row) holes address within),
+      λ address within. not_free address less (left_of kept region wants less) (free_before kept region wants less address) (taken_not_free (slot_range row) holes address within),
       rest less,
     )
 
@@ -203,7 +203,7 @@ placed_well : (kept : List Slot) (region : Range) (before after : Planned) (want
 placed_well kept region before after want wants None none aligns some is ok well = absurd cc
 placed_well kept region before after want wants (Some start) none aligns some is ok well =
     let slot : Slot = slot_at want start in
-    let taken : Range = range_of slot in
+    let taken : Range = slot_range slot in
     let place = lowest_fits want.span want.align start before.holes aligns is in
     let later : List Slot = kept_rows kept region wants in
     let apart : are_apart (before.rows ++ later) ≡ true = subst (λ (found : Option Slot). are_apart (before.rows ++ with_kept found later) ≡ true) (sym none) well.apart in

@@ -8,13 +8,13 @@ use Rattle.std.specs.List.{find, flat_map}
 use Rattle.pl_base.specs.Sums.{round_up}
 use Rattle.pl_base.proofs.FindLaws.{find_passes}
 use Rattle.pl_elf.specs.declared.range.Range.{Range}
-use Rattle.pl_slots.specs.Holes.{hole, region_holes, cut, without, holds, AreHoles, AreHolesFrom, is_free}
+use Rattle.pl_slots.specs.Holes.{hole, region_holes, cut, without, fits_in, AreHoles, AreHolesFrom, is_free}
 use Rattle.pl_elf.specs.Ranges.{has}
 
 -- a hole that is found holds the span
-pub found_holds : (span align : ℕ) (holes : List Range) (hole : Range) → Some hole ≡ find (holds span align) holes → round_up hole.start align + span ≤ hole.end
-unfolding holds
-found_holds span align holes hole is = leb-true (round_up hole.start align + span) hole.end (find_passes (holds span align) holes hole (sym is))
+pub found_fits : (span align : ℕ) (holes : List Range) (hole : Range) → Some hole ≡ find (fits_in span align) holes → round_up hole.start align + span ≤ hole.end
+unfolding fits_in
+found_fits span align holes hole is = leb-true (round_up hole.start align + span) hole.end (find_passes (fits_in span align) holes hole (sym is))
 
 -- ---- holes stay holes
 

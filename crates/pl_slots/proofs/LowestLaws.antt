@@ -8,7 +8,7 @@ use Rattle.std.proofs.Math.Nat.{div-mul-le_self, mul-le-mul_right, add-mul}
 use Rattle.pl_base.specs.Sums.{round_up, is_aligned}
 use Rattle.pl_base.proofs.SumLaws.{round_up-at_least, round_up-aligned}
 use Rattle.pl_elf.specs.declared.range.Range.{Range}
-use Rattle.pl_slots.specs.Holes.{holds, lowest, AreHoles, AreHolesFrom, spans_in, fits_at, IsPlace, IsLowest}
+use Rattle.pl_slots.specs.Holes.{fits_in, lowest, AreHoles, AreHolesFrom, spans_in, fits_at, IsPlace, IsLowest}
 
 -- a multiple that is not below a number is not below the number rounded up
 pub round_up-least : (x a y : ℕ) → 0 < a → is_aligned y a ≡ true → x ≤ y → round_up x a ≤ y
@@ -43,7 +43,7 @@ fits_from low (h ∷ holes) span start are fits = elim (or_cases (spans_in start
 ]
 
 pub is_lowest : (low span align start : ℕ) (holes : List Range) → 0 < align → AreHolesFrom low holes → Some start ≡ lowest span align holes → IsLowest holes span align start
-unfolding lowest holds
+unfolding lowest fits_in
 is_lowest low span align start [] p are is = absurd cc
 is_lowest low span align start (h ∷ holes) p are is = elim (cases_Bool (nat_le (round_up h.start align + span) h.end)) [
   | inl hit ↦
@@ -70,7 +70,7 @@ is_lowest low span align start (h ∷ holes) p are is = elim (cases_Bool (nat_le
 ]
 
 pub is_none : (span align start : ℕ) (holes : List Range) → 0 < align → None ≡ lowest span align holes → IsPlace holes span align start → ⊥
-unfolding lowest holds
+unfolding lowest fits_in
 is_none span align start [] p is place = false≢true place.1
 is_none span align start (h ∷ holes) p is place = elim (cases_Bool (nat_le (round_up h.start align + span) h.end)) [
   | inl hit ↦ absurd (none-some (round_up h.start align) (is ∙ (rw hit refl)))

@@ -15,9 +15,9 @@ use Rattle.pl_elf.specs.declared.range.Range.{Range}
 use Rattle.pl_slots.specs.declared.slot.Want.{Want}
 use Rattle.pl_slots.specs.declared.slot.Slot.{Slot}
 use Rattle.pl_slots.specs.declared.planned.Planned.{Planned}
-use Rattle.pl_slots.specs.Holes.{region_holes, without, lowest, holds, is_free, spans_in, fits_at, IsPlace}
+use Rattle.pl_slots.specs.Holes.{region_holes, without, lowest, fits_in, is_free, spans_in, fits_at, IsPlace}
 use Rattle.pl_elf.specs.Ranges.{has}
-use Rattle.pl_slots.specs.Plan.{next, placed, slot_at, at_place, with_row, kept_or_placed, kept_row, kept_holes, keeps, lies_in, range_of, without_kept, Gets, Serves, AllServe}
+use Rattle.pl_slots.specs.Plan.{next, placed, slot_at, at_place, with_row, kept_or_placed, kept_row, kept_holes, keeps, lies_in, slot_range, without_kept, Gets, Serves, AllServe}
 use Rattle.pl_slots.proofs.HoleLaws.{free_without, free_in_region}
 
 -- ---- wants that can be planned
@@ -53,7 +53,7 @@ is_kept kept region want row is =
 
 -- what is lowest is a place
 pub lowest_fits : (span align start : ℕ) (holes : List Range) → 0 < align → Some start ≡ lowest span align holes → IsPlace holes span align start
-unfolding lowest holds
+unfolding lowest fits_in
 lowest_fits span align start [] p is = absurd cc
 lowest_fits span align start (h ∷ holes) p is = elim (cases_Bool (nat_le (round_up h.start align + span) h.end)) [
   | inl hit ↦
@@ -87,7 +87,7 @@ pub still_free : (taken : Range) (holes : List Range) (address : ℕ) → is_fre
 still_free taken holes address free = (and_parts (is_free address holes) _ (sym (free_without address taken holes) ∙ free)).0
 
 without_kept_free : (row : Option Slot) (holes : List Range) (address : ℕ) → is_free address (without_kept row holes) ≡ true → is_free address holes ≡ true
-without_kept_free (Some row) holes address free = still_free (range_of row) holes address free
+without_kept_free (Some row) holes address free = still_free (slot_range row) holes address free
 without_kept_free None holes address free = free
 
 -- what is free beside the kept rows was free
@@ -132,9 +132,9 @@ place_serves kept region before want start none aligns some inside is =
 placed_is_step : (kept : List Slot) (region : Range) (before after : Planned) (want : Want) (found : Option ℕ) → None ≡ kept_row kept region want → 0 < want.align → 0 < want.span → InRegion region before.holes
     → found ≡ lowest want.span want.align before.holes → at_place before want found ≡ Ok after → IsStep kept region before want after
 placed_is_step kept region before after want (Some start) none aligns some inside is ok =
-    let whole : record { rows = before.rows ++ slot_at want start ∷ []; holes = without (range_of (slot_at want start)) before.holes } ≡ after = ok_same _ after ok in
+    let whole : record { rows = before.rows ++ slot_at want start ∷ []; holes = without (slot_range (slot_at want start)) before.holes } ≡ after = ok_same _ after ok in
     subst (IsStep kept region before want) whole
-    (record { slot = slot_at want start; rows = refl; serves = place_serves kept region before want start none aligns some inside is; fewer = still_free (range_of (slot_at want start)) before.holes })
+    (record { slot = slot_at want start; rows = refl; serves = place_serves kept region before want start none aligns some inside is; fewer = still_free (slot_range (slot_at want start)) before.holes })
 placed_is_step kept region before after want None none aligns some inside is ok = absurd cc
 
 is_step_by : (kept : List Slot) (region : Range) (before after : Planned) (want : Want) (row : Option Slot) → row ≡ kept_row kept region want → 0 < want.align → 0 < want.span → InRegion region before.holes

@@ -23,12 +23,12 @@ unfoldable pub without : Range → List Range → List Range
 without taken holes = flat_map (cut taken) holes
 
 -- whether a span fits in a hole at its least aligned address
-unfoldable pub holds : ℕ → ℕ → Range → Bool
-holds span align hole = nat_le (round_up hole.start align + span) hole.end
+unfoldable pub fits_in : ℕ → ℕ → Range → Bool
+fits_in span align hole = nat_le (round_up hole.start align + span) hole.end
 
 -- the least aligned address at which a span fits in a hole
 unfoldable pub lowest : ℕ → ℕ → List Range → Option ℕ
-lowest span align holes = option_map (λ hole. round_up hole.start align) (find (holds span align) holes)
+lowest span align holes = option_map (λ hole. round_up hole.start align) (find (fits_in span align) holes)
 
 -- the size of the greatest hole, 0 where there is none
 unfoldable pub greatest : List Range → ℕ

@@ -19,8 +19,8 @@ is_memory NoMemory = true
 is_memory (NoSlot _ _ _) = false
 
 -- the addresses of a slot
-abbrev pub range_of : Slot → Range
-range_of slot = range_from slot.start slot.span
+abbrev pub slot_range : Slot → Range
+slot_range slot = range_from slot.start slot.span
 
 -- whether a slot lies in a region
 unfoldable pub lies_in : Range → Slot → Bool
@@ -36,7 +36,7 @@ kept_row kept region want = find (keeps region want) kept
 
 -- what is left of holes beside a kept row, if there is one
 abbrev pub without_kept : Option Slot → List Range → List Range
-without_kept (Some slot) holes = without (range_of slot) holes
+without_kept (Some slot) holes = without (slot_range slot) holes
 without_kept None holes = holes
 
 -- the holes that the kept rows of all wants leave in a region
@@ -53,7 +53,7 @@ with_row planned slot = record { rows = planned.rows ++ slot ∷ []; holes = pla
 
 -- a want at an address, which is taken from now on
 abbrev pub at_place : Planned → Want → Option ℕ → Result Planned PlanFault
-at_place planned want (Some start) = Ok (record { rows = planned.rows ++ slot_at want start ∷ []; holes = without (range_of (slot_at want start)) planned.holes })
+at_place planned want (Some start) = Ok (record { rows = planned.rows ++ slot_at want start ∷ []; holes = without (slot_range (slot_at want start)) planned.holes })
 at_place planned want None = Err (NoSlot want.name want.span (greatest planned.holes))
 
 -- a want that keeps no row takes the least aligned address of a hole

@@ -80,28 +80,31 @@ pub fn first_address(hole: Range, align: u64) -> u128
 }
 
 /// Whether a span fits in a hole at its least aligned address.
-#[tactic(auto, unfolding(crate::specs::Holes::holds))]
-fn holds(hole: Range, span: u64, align: u64) -> bool
+#[tactic(auto, unfolding(crate::specs::Holes::fits_in))]
+fn fits_in(hole: Range, span: u64, align: u64) -> bool
     requires { 0 < align }
-    ensures { result ≡ spec.holds span align hole }
+    ensures { result ≡ spec.fits_in span align hole }
 {
     first_address(hole, align) + u128::from(span) <= u128::from(hole.end)
 }
 
-fn first_that_holds(holes: &[Range], span: u64, align: u64) -> Option<Range>
+fn first_that_fits(holes: &[Range], span: u64, align: u64) -> Option<Range>
     requires { 0 < align }
-    ensures { result ≡ find (spec.holds span align) holes.now }
+    ensures { result ≡ find (spec.fits_in span align) holes.now }
 {
-    holes.iter().copied().find(|hole| holds(*hole, span, align))
+    holes
+        .iter()
+        .copied()
+        .find(|hole| fits_in(*hole, span, align))
 }
 
-#[tactic(auto, using(crate::proofs::HoleLaws::found_holds), unfolding(crate::specs::Holes::lowest))]
+#[tactic(auto, using(crate::proofs::HoleLaws::found_fits), unfolding(crate::specs::Holes::lowest))]
 fn first_place(holes: &[Range], span: u64, align: u64) -> Option<u64>
     requires { 0 < align }
     ensures value { result ≡ spec.lowest span align holes.now }
     ensures within { IfSome result (λ start. start + span < 2 ^ 64) }
 {
-    match first_that_holds(holes, span, align) {
+    match first_that_fits(holes, span, align) {
         None => None,
         Some(hole) => Some(first_address(hole, align) as u64),
     }

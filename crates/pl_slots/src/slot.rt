@@ -47,7 +47,7 @@ impl Slot {
     /// The addresses of the slot.
     pub fn range(&self) -> Range
         requires { self.now.start + self.now.span < 2 ^ 64 }
-        ensures { result ≡ spec.range_of self.now }
+        ensures { result ≡ spec.slot_range self.now }
     {
         Range::from_size(self.start, self.span)
     }

@@ -41,7 +41,7 @@ pub fn load<'a>(
 
 /// A word for its place, where there is one.
 #[tactic(auto, using(pl_base::proofs::WordLaws::bytes64_std))]
-fn word_of(alloc: Global, meaning: &Meaning) -> Result<Option<Patch>, AllocError>
+fn word_patch(alloc: Global, meaning: &Meaning) -> Result<Option<Patch>, AllocError>
     ensures { IfOk result (λ patch. patch ≡ linked.put_of meaning.now.start meaning.now.word) }
 {
     match meaning.word {
@@ -60,7 +60,7 @@ fn words(alloc: Global, meanings: &[Meaning]) -> Result<Vec<Patch>, AllocError>
 {
     let mut patches = Vec::new(alloc);
     for meaning in meanings {
-        if let Some(patch) = word_of(alloc, meaning)? {
+        if let Some(patch) = word_patch(alloc, meaning)? {
             patches.push(patch)?;
         }
     }

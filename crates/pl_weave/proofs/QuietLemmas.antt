@@ -8,7 +8,7 @@ use Rattle.pl_base.specs.Answers.{◌>>=◌, unless}
 use Rattle.pl_base.specs.Counts.{Counted}
 use Rattle.pl_base.specs.Files.{Files}
 use Rattle.pl_base.specs.Names.{is_valid_name}
-use Rattle.pl_batch.specs.Answers.{Finds, Means, ending}
+use Rattle.pl_batch.specs.Answers.{Finds, BatchMeans, ending}
 use Rattle.pl_batch.specs.Changes.{changes_of, run_meant}
 use Rattle.pl_batch.specs.Commands.{ready, ready_for}
 use Rattle.pl_batch.specs.Store.{installed}
@@ -46,10 +46,10 @@ never_next a b lt on = never_broken a b (on.next lt)
 
 module _ {meant : Result (List Change) Cause} (a b : QuietFolder) (r : Result (List Change) BatchFault) (found : Finds meant (λ rows. rows) r (quiet_seen a) (quiet_seen b)) where
   pub rows_found : (rows : List Change) → r ≡ Ok rows → meant ≡ Ok rows
-  rows_found rows is = subst (λ (q : Result (List Change) BatchFault). Means ((quiet_seen a).tells ≡ true) meant (λ xs. xs) q) is found.means refl
+  rows_found rows is = subst (λ (q : Result (List Change) BatchFault). BatchMeans ((quiet_seen a).tells ≡ true) meant (λ xs. xs) q) is found.means refl
 
   pub cause_found : (cause : Cause) → r ≡ Err (faults.Cause cause) → meant ≡ Err cause
-  cause_found cause is = subst (λ (q : Result (List Change) BatchFault). Means ((quiet_seen a).tells ≡ true) meant (λ xs. xs) q) is found.means refl
+  cause_found cause is = subst (λ (q : Result (List Change) BatchFault). BatchMeans ((quiet_seen a).tells ≡ true) meant (λ xs. xs) q) is found.means refl
 
   pub never_found : r ≡ Err DiskFailed → ⊥
   never_found is = never_broken a b (subst (λ (q : Result (List Change) BatchFault). Calls (ending q) Looking (quiet_seen a) (quiet_seen b)) is found.calls)

@@ -23,14 +23,14 @@ pub returns-then-not-ascend : goal.returns-then-not-ascend
 returns-then-not-ascend g c =
     all_mixed c.args.asked.now c.in_ok-names.names c.in_ok-names.ensures.found (ap (λ (ns : List (String Global)). ascend (map string_bytes ns)) (sym c.deref-2.ensures.value) ∙ sym c.ascend.ensures ∙ c.if-not-ascend.true)
 
-pub made_by-requires-clause-ascend : goal.made_by-requires-clause-ascend
-made_by-requires-clause-ascend g c =
+pub made_of_folder-requires-clause-ascend : goal.made_of_folder-requires-clause-ascend
+made_of_folder-requires-clause-ascend g c =
     ap (λ (ns : List (String Global)). ascend (map string_bytes ns)) (c.deref-3.ensures.value ∙ sym c.deref-2.ensures.value) ∙ sym c.ascend.ensures ∙ c.if-not-ascend.false
 
-pub made_by-requires-clause-listed : goal.made_by-requires-clause-listed
-made_by-requires-clause-listed g c =
+pub made_of_folder-requires-clause-listed : goal.made_of_folder-requires-clause-listed
+made_of_folder-requires-clause-listed g c =
     λ t. ap (λ (ns : List (String Global)). map string_bytes ns) c.deref-3.ensures.value ∙ names_listed c.args.asked.now c.in_ok-names.names c.in_ok-names.ensures.found t
 
 pub returns : goal.returns
 returns g c =
-    all_few c.args.asked.now c.in_ok-names.names c.in_ok-names.ensures.found c.made_by.result (ap (λ (ns : List (String Global)). are_many (map string_bytes ns)) (sym c.deref.ensures.value) ∙ sym c.are_many.ensures ∙ c.if-are_many.false) c.made_by.ensures
+    all_few c.args.asked.now c.in_ok-names.names c.in_ok-names.ensures.found c.made_of_folder.result (ap (λ (ns : List (String Global)). are_many (map string_bytes ns)) (sym c.deref.ensures.value) ∙ sym c.are_many.ensures ∙ c.if-are_many.false) c.made_of_folder.ensures

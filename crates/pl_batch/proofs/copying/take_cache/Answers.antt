@@ -1,5 +1,5 @@
 use Rattle.std.proofs.Common.{◌∙◌, ℕ, List, Err, ap, subst, sym}
-use Rattle.pl_batch.specs.Answers.{Finds, MeansAlone}
+use Rattle.pl_batch.specs.Answers.{Finds, BatchMeansAlone}
 use Rattle.pl_batch.specs.Copied.{cache_there}
 use Rattle.pl_batch.specs.Folder.{cache_in}
 use Rattle.pl_batch.proofs.CopiedLemmas.{cache_copied, cached, large_cache, misspelled_cache, no_cache_copied}
@@ -11,7 +11,7 @@ returns-in_err-cache_in-in-Ok-clause-found g c =
     let seen = g.D.Folder.seen in
     let fault = c.in_err-cache_in-in-Ok.field-0.0 in
     at_err (λ r. Finds (cache_there (seen c.args.folder.now).files) cached r (seen c.args.folder.now) (seen c.take.new.self)) c.from_residual.result fault c.from_residual.ensures.1
-    (misspelled_cache c.in-Ok.bytes c.in-Ok.ensures fault (subst (λ (bytes : List ℕ). MeansAlone (cache_in bytes) (Err fault)) c.deref.ensures.value c.in_err-cache_in-in-Ok.ensures))
+    (misspelled_cache c.in-Ok.bytes c.in-Ok.ensures fault (subst (λ (bytes : List ℕ). BatchMeansAlone (cache_in bytes) (Err fault)) c.deref.ensures.value c.in_err-cache_in-in-Ok.ensures))
 
 pub returns-in_ok-cache_in-in-Ok-clause-found : goal.returns-in_ok-cache_in-in-Ok-clause-found
 returns-in_ok-cache_in-in-Ok-clause-found g c = cache_copied c.in-Ok.bytes c.in-Ok.ensures c.in_ok-cache_in-in-Ok.field-0 (ap cache_in (sym c.deref.ensures.value) ∙ c.in_ok-cache_in-in-Ok.ensures)

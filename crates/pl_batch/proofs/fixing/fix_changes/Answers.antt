@@ -4,7 +4,7 @@ use Rattle.pl_base.proofs.NameLaws.{valid_length}
 use Rattle.pl_fix.proofs.HoldLaws.{then_holds, unasked}
 use Rattle.pl_folder.specs.Calls.{Calls}
 use Rattle.pl_journal.specs.Parts.{Looking}
-use Rattle.pl_batch.specs.Answers.{MeansAlone, ending}
+use Rattle.pl_batch.specs.Answers.{BatchMeansAlone, ending}
 use Rattle.pl_batch.specs.Replace.{FindsFixed, fixed_as, fixed_of}
 use Rattle.pl_batch.proofs.FindLemmas.{at_err, reads_on}
 use Rattle.pl_batch.proofs.ReplaceLemmas.{by_made, by_made_err, is_fixed, made_put, no_original, not_fixed, still, told_address, unmade}
@@ -41,7 +41,7 @@ returns-in_err-program-clause-found g c = then_holds c.in_err-program.ensures.me
     let name = c.args.name.now in
     let original = c.in_ok-original.original in
     let fault = c.in_err-program.field-0.0 in
-    let alone = subst (λ (xs : List ℕ). MeansAlone (fixed_of choose name xs) (Err fault)) c.as_slice.ensures means in
+    let alone = subst (λ (xs : List ℕ). BatchMeansAlone (fixed_of choose name xs) (Err fault)) c.as_slice.ensures means in
     at_err (λ r. FindsFixed choose name r a (seen c.take_original.new.folder)) c.from_residual-in_err-program.result fault c.from_residual-in_err-program.ensures.1
     (record { found = by_made_err fault (unmade (fixed_as choose name) name original c.in_ok-original.ensures.found fault (not_fixed choose name original fault alone)); told = tt }))
 
@@ -62,7 +62,7 @@ returns-in_err-rows-clause-found g c = then_holds c.in_ok-program.ensures.means 
     let original = c.in_ok-original.original in
     let program = c.in_ok-program.program in
     let fault = c.in_err-rows.field-0.0 in
-    let is = subst (λ (xs : List ℕ). MeansAlone (fixed_of choose name xs) (Ok program)) c.as_slice.ensures means in
+    let is = subst (λ (xs : List ℕ). BatchMeansAlone (fixed_of choose name xs) (Ok program)) c.as_slice.ensures means in
     at_err (λ r. FindsFixed choose name r a (seen c.put_fitting.new.folder)) c.from_residual-in_err-rows.result fault c.from_residual-in_err-rows.ensures.1
     (record { found = by_made_err fault (made_put (fixed_as choose name) name original c.in_ok-original.ensures.found program.bytes (is_fixed choose name original program is) (Err fault) c.in_err-rows.ensures.found); told = tt }))
 
@@ -79,7 +79,7 @@ returns-clause-found g c = then_holds c.in_ok-program.ensures.means (λ choose m
     let name = c.args.name.now in
     let original = c.in_ok-original.original in
     let program = c.in_ok-program.program in
-    let is = subst (λ (xs : List ℕ). MeansAlone (fixed_of choose name xs) (Ok program)) c.as_slice.ensures means in
+    let is = subst (λ (xs : List ℕ). BatchMeansAlone (fixed_of choose name xs) (Ok program)) c.as_slice.ensures means in
     record {
       found = by_made (record { rows = c.in_ok-rows.rows; address = program.address })
           (made_put (fixed_as choose name) name original c.in_ok-original.ensures.found program.bytes (is_fixed choose name original program is) (Ok c.in_ok-rows.rows) c.in_ok-rows.ensures.found);

@@ -3,7 +3,7 @@ use Rattle.std.specs.Prelude.{Err, Result}
 use Rattle.pl_fix.specs.Fixing.{placed}
 use Rattle.pl_fix.specs.declared.placing.Placing.TheVariants as placings
 use Rattle.pl_fix.proofs.HoldLaws.{then_holds, unasked}
-use Rattle.pl_batch.specs.Answers.{MeansAlone}
+use Rattle.pl_batch.specs.Answers.{BatchMeansAlone}
 use Rattle.pl_batch.specs.Replace.{fixed_by, fixed_of}
 use Rattle.pl_batch.specs.declared.cause.Cause.{Cause}
 use Rattle.pl_batch.specs.declared.cause.Cause.TheVariants.{NoPlace, NotPie}

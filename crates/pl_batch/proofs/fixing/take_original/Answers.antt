@@ -3,7 +3,7 @@ use Rattle.pl_base.specs.Names.{is_valid_name}
 use Rattle.pl_base.proofs.NameLaws.{valid_length}
 use Rattle.pl_form.specs.Files.{file_in}
 use Rattle.std.specs.Prelude.{Err, Ok, Result}
-use Rattle.pl_batch.specs.Answers.{Finds, MeansAlone}
+use Rattle.pl_batch.specs.Answers.{Finds, BatchMeansAlone}
 use Rattle.pl_batch.specs.Replace.{original_of}
 use Rattle.pl_batch.specs.Store.{stored_as}
 use Rattle.pl_batch.specs.declared.cause.Cause.{Cause}
@@ -38,14 +38,14 @@ returns-in_err-original-clause-found g c =
     let fault = c.in_err-original.field-0.0 in
     at_err (λ r. Finds (original_of a.files c.args.name.now) as_bytes r a (seen c.take.new.folder)) c.from_residual-in_err-original.result fault c.from_residual-in_err-original.ensures.1
     (original_taken c.args.name.now c.in_ok-file.file (Err fault) valid c.in_ok-file.ensures.found
-    (subst (λ (bytes : List ℕ). MeansAlone (stored_as c.args.name.now bytes (file_in bytes)) (Err fault)) c.deref.ensures.value c.in_err-original.ensures))
+    (subst (λ (bytes : List ℕ). BatchMeansAlone (stored_as c.args.name.now bytes (file_in bytes)) (Err fault)) c.deref.ensures.value c.in_err-original.ensures))
 
 pub returns-clause-found : goal.returns-clause-found
 returns-clause-found g c =
     let valid : is_valid_name c.args.name.now ≡ true = search rules in
     let original = c.in_ok-original.original in
     original_taken c.args.name.now c.in_ok-file.file (Ok original) valid c.in_ok-file.ensures.found
-    (subst (λ (bytes : List ℕ). MeansAlone (stored_as c.args.name.now bytes (file_in bytes)) (Ok original)) c.deref.ensures.value c.in_ok-original.ensures)
+    (subst (λ (bytes : List ℕ). BatchMeansAlone (stored_as c.args.name.now bytes (file_in bytes)) (Ok original)) c.deref.ensures.value c.in_ok-original.ensures)
 
 pub returns-clause-valid : goal.returns-clause-valid
 returns-clause-valid g c = search rules

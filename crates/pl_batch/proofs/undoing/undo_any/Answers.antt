@@ -1,7 +1,7 @@
 use Rattle.std.proofs.Common.{ℕ, List, subst}
 use Rattle.std.specs.Prelude.{Ok}
 use Rattle.pl_form.specs.Files.{file_in}
-use Rattle.pl_batch.specs.Answers.{Finds, MeansAlone}
+use Rattle.pl_batch.specs.Answers.{Finds, BatchMeansAlone}
 use Rattle.pl_batch.specs.Undo.{form_row, undo_any}
 use Rattle.pl_batch.proofs.FindLemmas.{at_err}
 use Rattle.pl_batch.proofs.UndoLemmas.{any_taken, any_untaken, row}
@@ -16,4 +16,4 @@ returns-in_err-bytes g c =
 pub returns : goal.returns
 returns g c =
     any_taken c.args.name.now c.in_ok-bytes.bytes c.form_row.result c.in_ok-bytes.ensures.found
-    (subst (λ (bytes : List ℕ). MeansAlone (Ok (form_row c.args.name.now (file_in bytes))) c.form_row.result) c.deref.ensures.value c.form_row.ensures)
+    (subst (λ (bytes : List ℕ). BatchMeansAlone (Ok (form_row c.args.name.now (file_in bytes))) c.form_row.result) c.deref.ensures.value c.form_row.ensures)

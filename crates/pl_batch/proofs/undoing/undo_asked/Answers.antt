@@ -2,7 +2,7 @@ use Rattle.std.proofs.Common.{◌≡◌, ℕ, List, true, false, rules, subst}
 use Rattle.pl_base.specs.Names.{is_valid_name}
 use Rattle.pl_base.proofs.NameLaws.{valid_length}
 use Rattle.pl_form.specs.Files.{file_in}
-use Rattle.pl_batch.specs.Answers.{Finds, MeansAlone}
+use Rattle.pl_batch.specs.Answers.{Finds, BatchMeansAlone}
 use Rattle.pl_batch.specs.Undo.{asked_row, undo_asked}
 use Rattle.pl_batch.proofs.FindLemmas.{at_err}
 use Rattle.pl_batch.proofs.UndoLemmas.{asked_taken, asked_untaken, bad_name, row}
@@ -29,4 +29,4 @@ pub returns : goal.returns
 returns g c =
     let valid : is_valid_name c.args.name.now ≡ true = search rules in
     asked_taken c.args.name.now c.in_ok-bytes.bytes c.asked_row.result valid c.in_ok-bytes.ensures.found
-    (subst (λ (bytes : List ℕ). MeansAlone (asked_row c.args.name.now (file_in bytes)) c.asked_row.result) c.deref.ensures.value c.asked_row.ensures)
+    (subst (λ (bytes : List ℕ). BatchMeansAlone (asked_row c.args.name.now (file_in bytes)) c.asked_row.result) c.deref.ensures.value c.asked_row.ensures)

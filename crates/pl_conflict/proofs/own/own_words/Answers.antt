@@ -3,8 +3,8 @@ use Rattle.pl_value.proofs.LinkableLaws.{all_symbols}
 use Rattle.pl_conflict.specs.Own.{own_words}
 use Rattle.pl_conflict.proofs.own.own_words.Goals as goal
 
-pub words_of-requires-clause-references : goal.words_of-requires-clause-references
-words_of-requires-clause-references c =
+pub relocation_words-requires-clause-references : goal.relocation_words-requires-clause-references
+relocation_words-requires-clause-references c =
     rw c.as_slice-relocs.ensures (all_symbols (objects c.args.scope.now) 0 c.object-object.result.now c.object-object.ensures.fit c.object-object.ensures.object)
 
 pub returns : goal.returns

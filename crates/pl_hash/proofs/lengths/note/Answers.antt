@@ -1,6 +1,6 @@
 use Rattle.std.proofs.Common.{Some, arith}
 use Rattle.pl_hash.specs.Lengths.{IsKnown}
-use Rattle.pl_hash.proofs.CandidateLaws.{IsLinked-from}
+use Rattle.pl_hash.proofs.ChainSymbolLaws.{IsLinked-from}
 use Rattle.pl_hash.proofs.LengthLaws.{AreNoted, begin_notes, note_one, notes_done, ends_linked, ends_length}
 use Rattle.pl_hash.proofs.lengths.note.Goals as goal
 

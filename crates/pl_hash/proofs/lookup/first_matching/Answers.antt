@@ -1,7 +1,7 @@
 use Rattle.std.proofs.Common.{ℕ, List, sym, ◌∙◌, ap, Some, slice_get}
 use Rattle.std.specs.Prelude.{IsSome}
 use Rattle.pl_hash.specs.Chain.{chain}
-use Rattle.pl_hash.proofs.CandidateLaws.{IsLinked-from, opens, none_left, hit, miss, still_ends, fewer_left}
+use Rattle.pl_hash.proofs.ChainSymbolLaws.{IsLinked-from, opens, none_left, hit, miss, still_ends, fewer_left}
 use Rattle.pl_hash.proofs.lookup.first_matching.Goals as goal
 
 pub matches-requires-clause-linked : goal.matches-requires-clause-linked

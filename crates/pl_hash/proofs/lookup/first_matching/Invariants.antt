@@ -1,8 +1,8 @@
 use Rattle.std.proofs.Common.{◌≡◌, slice_get}
 use Rattle.std.specs.Prelude.{IsSome}
 use Rattle.pl_hash.specs.Chain.{chain}
-use Rattle.pl_hash.specs.Candidates.{matching}
-use Rattle.pl_hash.proofs.CandidateLaws.{left}
+use Rattle.pl_hash.specs.ChainSymbols.{matching}
+use Rattle.pl_hash.proofs.ChainSymbolLaws.{left}
 use Rattle.pl_hash.proofs.lookup.first_matching.Given as goal
 
 abbrev pub invariant-loop-at : goal.invariant-loop-at

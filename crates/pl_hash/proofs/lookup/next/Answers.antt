@@ -1,6 +1,6 @@
 use Rattle.std.proofs.Common.{◌≡◌, slice_get}
-use Rattle.pl_hash.specs.Candidates.{candidates, rest_after}
-use Rattle.pl_hash.proofs.CandidateLaws.{IsLinked-from, goes_on, candidates-distinct, given_after, next_is, rest_from-next}
+use Rattle.pl_hash.specs.ChainSymbols.{chain_symbols, rest_after}
+use Rattle.pl_hash.proofs.ChainSymbolLaws.{IsLinked-from, goes_on, chain_symbols-distinct, given_after, next_is, rest_from-next}
 use Rattle.pl_hash.proofs.lookup.next.Goals as goal
 
 pub following-requires-clause-linked : goal.following-requires-clause-linked
@@ -16,14 +16,14 @@ returns-clause-value c =
 
 pub returns-clause-rest : goal.returns-clause-rest
 returns-clause-rest c =
-    let xs = candidates c.args.table.now c.args.hash in
+    let xs = chain_symbols c.args.table.now c.args.hash in
     let value : c.first_matching.result ≡ slice_get (rest_after c.args.index xs) 0 =
     rw (c.first_matching.ensures, c.following.ensures) (next_is c.args.table.now c.args.hash c.args.index c.requires.formed c.requires.given) in
-    rw value (rest_from-next c.args.index xs (candidates-distinct c.args.table.now c.args.hash c.requires.formed))
+    rw value (rest_from-next c.args.index xs (chain_symbols-distinct c.args.table.now c.args.hash c.requires.formed))
 
 pub returns-clause-given : goal.returns-clause-given
 returns-clause-given c =
-    let xs = candidates c.args.table.now c.args.hash in
+    let xs = chain_symbols c.args.table.now c.args.hash in
     let value : c.first_matching.result ≡ slice_get (rest_after c.args.index xs) 0 =
     rw (c.first_matching.ensures, c.following.ensures) (next_is c.args.table.now c.args.hash c.args.index c.requires.formed c.requires.given) in
     rw value (given_after c.args.index xs)

@@ -1,6 +1,6 @@
 use Rattle.std.proofs.Common.{◌≡◌, map, take}
-use Rattle.pl_object.specs.Tables.{range_of}
+use Rattle.pl_object.specs.Tables.{window_range}
 use Rattle.pl_object.proofs.ranges.ranges_of.Given as goal
 
 abbrev pub invariant-loop-window : goal.invariant-loop-window
-invariant-loop-window l = l.ranges ≡ map range_of (take l.window-index l.windows)
+invariant-loop-window l = l.ranges ≡ map window_range (take l.window-index l.windows)

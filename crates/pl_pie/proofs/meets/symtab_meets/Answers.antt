@@ -8,4 +8,4 @@ use Rattle.pl_pie.proofs.meets.symtab_meets.Goals as goal
 
 pub table_meets-requires : goal.table_meets-requires
 table_meets-requires c =
-    subst (λ (t : Table). IsIn (length c.args.bytes.now) (table_window t)) (sym (c.rows_of-table.ensures ∙ ap (λ (w : Window). rows_of SymbolValue w) c.window_of.ensures)) c.requires
+    subst (λ (t : Table). IsIn (length c.args.bytes.now) (table_window t)) (sym (c.rows_of-table.ensures ∙ ap (λ (w : Window). rows_of SymbolValue w) c.range_window.ensures)) c.requires

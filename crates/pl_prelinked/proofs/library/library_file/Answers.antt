@@ -10,8 +10,8 @@ use Rattle.sha2.specs.Sha256.{sha256}
 pub returns-in_default : goal.returns-in_default
 returns-in_default c = c.new.ensures.items ∙ no_file c.args.sources.now c.in_default.len_below
 
-pub words_of-requires-clause-some : goal.words_of-requires-clause-some
-words_of-requires-clause-some c = c.in-len1-up.len_at_least
+pub first_own_words-requires-clause-some : goal.first_own_words-requires-clause-some
+first_own_words-requires-clause-some c = c.in-len1-up.len_at_least
 
 pub digest_for-digest-requires : goal.digest_for-digest-requires
 digest_for-digest-requires c =

@@ -3,11 +3,11 @@ use Rattle.pl_prelinked.proofs.LibraryLaws.{words_set, words_none}
 use Rattle.pl_prelinked.proofs.ProgramLaws.{some_set}
 use Rattle.pl_prelinked.proofs.library.library_words.Goals as goal
 
-pub words_of-requires-clause-some : goal.words_of-requires-clause-some
-words_of-requires-clause-some c = some_set c.args.sources.now (sym c.in_ok-set.ensures ∙ c.if-set.true)
+pub first_own_words-requires-clause-some : goal.first_own_words-requires-clause-some
+first_own_words-requires-clause-some c = some_set c.args.sources.now (sym c.in_ok-set.ensures ∙ c.if-set.true)
 
 pub returns-then-set : goal.returns-then-set
-returns-then-set c = words_set c.args.sources.now _ (sym c.in_ok-set.ensures ∙ c.if-set.true) c.in_ok-words_of.ensures
+returns-then-set c = words_set c.args.sources.now _ (sym c.in_ok-set.ensures ∙ c.if-set.true) c.in_ok-first_own_words.ensures
 
 pub returns : goal.returns
 returns c = words_none c.args.sources.now (sym c.in_ok-set.ensures ∙ c.if-set.false)

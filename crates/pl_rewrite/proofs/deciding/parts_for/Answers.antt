@@ -2,7 +2,7 @@ use Rattle.std.proofs.Common.{◌≡◌, Some, sym, ap, subst, ◌∙◌}
 use Rattle.std.specs.Prelude.{position}
 use Rattle.std.specs.List.{All}
 use Rattle.std.specs.Str.{bytes_eq}
-use Rattle.pl_rewrite.specs.Members.{HasParts, IsLibrary, files_of, plan_of}
+use Rattle.pl_rewrite.specs.Members.{HasParts, IsRunLibrary, files_of, plan_of}
 use Rattle.pl_rewrite.specs.declared.running.Library.{Library}
 use Rattle.pl_rewrite.proofs.DecidingLaws.{libraries_without, parts_there}
 use Rattle.pl_rewrite.proofs.deciding.parts_for.Goals as goal
@@ -16,4 +16,4 @@ returns-in-Some-clause-parts c =
 
 pub returns-in-Some-clause-rest : goal.returns-in-Some-clause-rest
 returns-in-Some-clause-rest c =
-    subst (All (IsLibrary c.args.run.now)) (sym c.remove-parts.ensures.items) (libraries_without c.args.run.now c.args.libraries.now.items c.in-Some.index c.requires)
+    subst (All (IsRunLibrary c.args.run.now)) (sym c.remove-parts.ensures.items) (libraries_without c.args.run.now c.args.libraries.now.items c.in-Some.index c.requires)

@@ -2,12 +2,12 @@ use Rattle.std.proofs.Common.{◌≡◌, Some, sym, subst}
 use Rattle.std.specs.List.{All}
 use Rattle.std.proofs.lemmas.List.Elements.{All-nil, All-push}
 use Rattle.pl_known.specs.declared.taken.Taken.{Taken}
-use Rattle.pl_rewrite.specs.Members.{IsDigest, found}
+use Rattle.pl_rewrite.specs.Members.{IsRunDigest, found}
 use Rattle.pl_rewrite.proofs.FileLaws.{found_at}
 use Rattle.pl_rewrite.proofs.once.digests_of.Goals as goal
 
 pub loop-taken-init : goal.loop-taken-init
-loop-taken-init c = subst (All (IsDigest c.args.run.now)) (sym c.new-digests.ensures.items) (All-nil (IsDigest c.args.run.now))
+loop-taken-init c = subst (All (IsRunDigest c.args.run.now)) (sym c.new-digests.ensures.items) (All-nil (IsRunDigest c.args.run.now))
 
 pub digest_in-requires-clause-found : goal.digest_in-requires-clause-found
 digest_in-requires-clause-found c =
@@ -15,4 +15,4 @@ digest_in-requires-clause-found c =
 
 pub loop-taken-preserved : goal.loop-taken-preserved
 loop-taken-preserved c =
-    subst (All (IsDigest c.args.run.now)) (sym c.in_ok-push.ensures.items) (All-push (IsDigest c.args.run.now) c.loop-taken.digests.items c.digest_in.result c.loop-taken.invariant c.digest_in.ensures)
+    subst (All (IsRunDigest c.args.run.now)) (sym c.in_ok-push.ensures.items) (All-push (IsRunDigest c.args.run.now) c.loop-taken.digests.items c.digest_in.result c.loop-taken.invariant c.digest_in.ensures)

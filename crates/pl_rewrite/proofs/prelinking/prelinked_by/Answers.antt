@@ -7,7 +7,7 @@ use Rattle.std.proofs.lemmas.Option.{IfSome_then}
 use Rattle.pl_conflict.specs.Prelinked as form
 use Rattle.pl_conflict.specs.Prelinked.{Firm}
 use Rattle.pl_prelinked.specs.Sources.{AreSources, members}
-use Rattle.pl_rewrite.specs.Members.{AreStillFor, HasOriginal, IsMember, planned_firms}
+use Rattle.pl_rewrite.specs.Members.{AreStillFor, HasOriginal, IsPrelinkable, planned_firms}
 use Rattle.pl_rewrite.proofs.OnceLaws.{have_originals}
 use Rattle.pl_rewrite.proofs.StillLaws.{lent_some, still_are, told_are}
 use Rattle.pl_rewrite.proofs.WalkLaws.{members_are, members_each, sources_are, sources_walked, walk_prelinked}
@@ -15,7 +15,7 @@ use Rattle.pl_rewrite.proofs.prelinking.prelinked_by.Goals as goal
 
 pub sources_of-requires-clause-members : goal.sources_of-requires-clause-members
 sources_of-requires-clause-members c =
-    members_each c.args.run.now c.members.result.now (subst (All (IsMember c.args.run.now)) (sym c.members.ensures.members) (members_are c.args.run.now c.args.name.now c.args.scope.now c.requires.run c.requires.candidate c.requires.walk))
+    members_each c.args.run.now c.members.result.now (subst (All (IsPrelinkable c.args.run.now)) (sym c.members.ensures.members) (members_are c.args.run.now c.args.name.now c.args.scope.now c.requires.run c.requires.candidate c.requires.walk))
 
 pub list_after-requires-clause-own : goal.list_after-requires-clause-own
 list_after-requires-clause-own c =

@@ -1,6 +1,6 @@
 use Rattle.std.proofs.Common.{◌≡◌, ℕ, List, Some, sym, ap, subst, ◌∙◌}
 use Rattle.pl_conflict.specs.Prelinked.{Firm}
-use Rattle.pl_rewrite.specs.Members.{IsMember, found, planned_firm}
+use Rattle.pl_rewrite.specs.Members.{IsPrelinkable, found, planned_firm}
 use Rattle.pl_rewrite.proofs.FileLaws.{found_name, found_own}
 use Rattle.pl_rewrite.proofs.MadeLaws.{member_there}
 use Rattle.pl_rewrite.proofs.sources.member_source.Goals as goal
@@ -17,7 +17,7 @@ source_of-requires-clause-found c =
 pub source_of-requires-clause-member : goal.source_of-requires-clause-member
 source_of-requires-clause-member c =
     let at : found c.args.run.now.files.now c.args.member.now.name ≡ Some c.in-Some.taken.now = sym (c.in-Some.ensures ∙ ap (found c.args.run.now.files.now) c.as_str.ensures) in
-    subst (λ (n : List ℕ). IsMember c.args.run.now (n, c.args.member.now.object.now)) (sym (found_name c.args.member.now.name c.args.run.now.files.now c.in-Some.taken.now at)) c.requires.member
+    subst (λ (n : List ℕ). IsPrelinkable c.args.run.now (n, c.args.member.now.object.now)) (sym (found_name c.args.member.now.name c.args.run.now.files.now c.in-Some.taken.now at)) c.requires.member
 
 pub returns-in-Some : goal.returns-in-Some
 returns-in-Some c =

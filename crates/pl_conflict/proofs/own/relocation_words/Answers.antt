@@ -3,7 +3,7 @@ use Rattle.std.proofs.lemmas.List.{take_all}
 use Rattle.pl_scope.specs.Scope.{objects}
 use Rattle.pl_conflict.specs.Own.{own_word}
 use Rattle.pl_conflict.proofs.OwnLaws.{words_more}
-use Rattle.pl_conflict.proofs.own.words_of.Goals as goal
+use Rattle.pl_conflict.proofs.own.relocation_words.Goals as goal
 
 pub own_word-requires-clause-reference : goal.own_word-requires-clause-reference
 own_word-requires-clause-reference c = c.requires.references c.loop-reloc.reloc-index _ c.loop-reloc-test.true

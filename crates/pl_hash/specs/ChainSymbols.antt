@@ -16,12 +16,12 @@ unfoldable pub matching : Table → ℕ → Option ℕ → List ℕ
 matching table hash start = filter (matches table hash) (unwrap_or (chain table start) [])
 
 -- The symbols that a hash leads to, in the order of their chain. System V: its bucket's chain. GNU: none where the bloom word refuses the hash, else those of the chain whose link has the upper 31 bits of the hash.
-unfoldable pub candidates : Table → ℕ → List ℕ
-candidates table hash = if admits table hash then matching table hash (head table (hash % bucket_count table)) else []
+unfoldable pub chain_symbols : Table → ℕ → List ℕ
+chain_symbols table hash = if admits table hash then matching table hash (head table (hash % bucket_count table)) else []
 
 -- whether a hash leads to a symbol
-abbrev pub is_candidate : Table → ℕ → ℕ → Bool
-is_candidate table hash index = list_any (λ k. k == index) (candidates table hash)
+abbrev pub is_chain_symbol : Table → ℕ → ℕ → Bool
+is_chain_symbol table hash index = list_any (λ k. k == index) (chain_symbols table hash)
 
 -- ---- one after the other
 

@@ -1,4 +1,4 @@
--- What the candidates of a hash are, one symbol at a time.
+-- What the symbols of a chain are, one at a time.
 use Rattle.std.proofs.Common.{◌≡◌, ℕ, zero, suc, ◌+◌, ◌<◌, ◌≤◌, Bool, true, false, cond, eqb, ◌||◌, List, [], ◌∷◌, Option, Some, None, refl, sym, ap, subst, ◌∙◌, arith, inl, inr, length}
 use Rattle.std.specs.Prelude.{IsTrue, IsSome, IfSome, nat_eq, slice_get, filter, ◌==◌, ◌%◌}
 use Rattle.std.specs.Option.{unwrap_or}
@@ -11,7 +11,7 @@ use Rattle.pl_hash.specs.declared.table.Table.{Table}
 use Rattle.pl_hash.specs.declared.table.TheConstants.{WORD_SIZE}
 use Rattle.pl_hash.specs.Table.{bucket_count, admits, matches, link_at}
 use Rattle.pl_hash.specs.Chain.{chain_from, chain, following, head, is_linked, IsLinked, IsWellFormed}
-use Rattle.pl_hash.specs.Candidates.{matching, candidates, is_candidate, rest_after, rest_from}
+use Rattle.pl_hash.specs.ChainSymbols.{matching, chain_symbols, is_chain_symbol, rest_after, rest_from}
 use Rattle.pl_hash.proofs.ChainLaws.{opened, chain_from-none, chain_from-zero, more_steps, same_chain}
 
 pub IsLinked-from : (t : Table) (index : ℕ) → is_linked t index ≡ true → IsLinked t index
@@ -125,9 +125,9 @@ follows t (suc n) (Some first) xs index le e h =
     let o = opened t n first xs e in
     rw o.3 (follows_by t n first index o.0 (eqb first index) refl (omega arith) o.1 o.2 (follows t n (following t first) o.0 index (omega arith) o.2) (rw o.3 at h))
 
--- ---- the candidates
+-- ---- the symbols of a chain
 
--- after a symbol of a list of candidates come those from the following one
+-- after a symbol of the list come those from the following one
 pub record GoesOn (t : Table) (hash index : ℕ) (xs : List ℕ) : Type 0 where
   pub linked : is_linked t index ≡ true
   pub ends : IsSome (chain t (following t index))
@@ -145,13 +145,13 @@ goes_on_by : (t : Table) (hash index : ℕ) (start : Option ℕ) (admitted : Boo
 goes_on_by t hash index start false ends h = absurd (false≢true h)
 goes_on_by t hash index start true ends h = let v = chain_value (chain t start) ends in goes_on_from t hash index start v.0 v.1 h
 
-pub goes_on : (t : Table) (hash index : ℕ) → IsWellFormed t → IsTrue (is_candidate t hash index) → GoesOn t hash index (candidates t hash)
-unfolding candidates
+pub goes_on : (t : Table) (hash index : ℕ) → IsWellFormed t → IsTrue (is_chain_symbol t hash index) → GoesOn t hash index (chain_symbols t hash)
+unfolding chain_symbols
 goes_on t hash index formed h =
     let k = hash % bucket_count t in
     goes_on_by t hash index (head t k) (admits t hash) (formed.ends k (mod_below hash (bucket_count t) formed.buckets.some)) h
 
--- ---- the candidates are distinct
+-- ---- the symbols are distinct
 
 -- a chain from one of its symbols on is shorter than the chain
 reaches_by : (t : Table) (n first index : ℕ) (rest : List ℕ) (same : Bool) → eqb first index ≡ same → chain_from t (suc n) (Some first) ≡ Some (first ∷ rest)
@@ -220,16 +220,16 @@ unfolding IsDistinct
 distinct_by xs true h = h
 distinct_by xs false h = tt
 
-pub candidates-distinct : (t : Table) (hash : ℕ) → IsWellFormed t → IsDistinct nat_eq (candidates t hash)
-unfolding candidates
-candidates-distinct t hash formed =
+pub chain_symbols-distinct : (t : Table) (hash : ℕ) → IsWellFormed t → IsDistinct nat_eq (chain_symbols t hash)
+unfolding chain_symbols
+chain_symbols-distinct t hash formed =
     let k = hash % bucket_count t in
     distinct_by (matching t hash (head t k)) (admits t hash) (matching-distinct t hash (head t k) (formed.ends k (mod_below hash (bucket_count t) formed.buckets.some)))
 
-pub candidate_below : (t : Table) (hash index : ℕ) → IsWellFormed t → IsTrue (is_candidate t hash index) → index < t.symbols
-candidate_below t hash index formed h = (IsLinked-from t index (goes_on t hash index formed h).linked).below
+pub chain_symbol_below : (t : Table) (hash index : ℕ) → IsWellFormed t → IsTrue (is_chain_symbol t hash index) → index < t.symbols
+chain_symbol_below t hash index formed h = (IsLinked-from t index (goes_on t hash index formed h).linked).below
 
--- ---- a walk over the candidates
+-- ---- one symbol after the other
 
 has-rest_after_by : (x index i : ℕ) (xs : List ℕ) (same : Bool) → (has i (rest_after index xs) ≡ true → has i xs ≡ true) → has i (cond same xs (rest_after index xs)) ≡ true → has i (x ∷ xs) ≡ true
 has-rest_after_by x index i xs true more h = or_right (eqb x i) (has i xs) h
@@ -292,5 +292,5 @@ pub rest_from-next : (index : ℕ) (xs : List ℕ) → IsDistinct nat_eq xs → 
 rest_from-next index xs distinct = rest_from_by xs (rest_after index xs) (λ y zs e. after_next index y xs zs distinct e)
 
 -- the first from the following one on is the one after it
-pub next_is : (t : Table) (hash index : ℕ) → IsWellFormed t → IsTrue (is_candidate t hash index) → slice_get (matching t hash (following t index)) 0 ≡ slice_get (rest_after index (candidates t hash)) 0
+pub next_is : (t : Table) (hash index : ℕ) → IsWellFormed t → IsTrue (is_chain_symbol t hash index) → slice_get (matching t hash (following t index)) 0 ≡ slice_get (rest_after index (chain_symbols t hash)) 0
 next_is t hash index formed given = ap (λ (xs : List ℕ). slice_get xs 0) (sym (goes_on t hash index formed given).rest)

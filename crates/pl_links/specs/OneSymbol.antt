@@ -26,7 +26,7 @@ pub record HasSingleName (definers : List ℕ) (objects : List Object) (r : Refe
   pub once : AtMostOnce definers symbol.name
 
 -- it has, and finds a symbol that is not thread-local
-pub record IsSettledBy (definers : List ℕ) (objects : List Object) (r : Reference) : Type 0 where
+pub record FindsOneSymbolBy (definers : List ℕ) (objects : List Object) (r : Reference) : Type 0 where
   pub found : Found
   pub looks : finds objects r ≡ Some found
   pub symbol : Symbol
@@ -43,5 +43,5 @@ pub record FindsNamed (walked : Walked) (m symbol kind : ℕ) (file : List ℕ) 
   pub looks : finds (objects walked) (record { member = m; symbol = symbol; kind = kind }) ≡ Some (record { member = member; symbol = index })
 
 -- in every scope of a folder's objects that holds that name, the reference of an object does
-abbrev pub IsSettled : (List ℕ → Option Object) → List ℕ → ℕ → ℕ → List ℕ → ℕ → Type 0
-IsSettled objects n symbol kind file index = (walked : Walked) (m : ℕ) → IsMadeOf objects walked → IsMember walked m n → has (names walked) file ≡ true → FindsNamed walked m symbol kind file index
+abbrev pub FindsOneSymbol : (List ℕ → Option Object) → List ℕ → ℕ → ℕ → List ℕ → ℕ → Type 0
+FindsOneSymbol objects n symbol kind file index = (walked : Walked) (m : ℕ) → IsMadeOf objects walked → IsMember walked m n → has (names walked) file ≡ true → FindsNamed walked m symbol kind file index

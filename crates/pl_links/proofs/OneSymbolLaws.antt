@@ -23,7 +23,7 @@ use Rattle.pl_sym.specs.declared.class.Class.{Class}
 use Rattle.pl_sym.specs.declared.symbol.Symbol.{Symbol}
 use Rattle.pl_links.specs.Definers.{HasDefiner, IsSingle, HasHashes}
 use Rattle.pl_links.specs.Folder.{IsMadeOf, IsMember}
-use Rattle.pl_links.specs.Settled.{IsSettledBy, IsSettled}
+use Rattle.pl_links.specs.OneSymbol.{FindsOneSymbolBy, FindsOneSymbol}
 use Rattle.pl_links.proofs.FolderLaws.{object_at, member_of, has_member, same_member, and_then_some}
 
 abbrev found : ℕ → ℕ → Found
@@ -159,7 +159,7 @@ module _ (folder : List ℕ → Option Object) (n : List ℕ) (v : Walked) (symb
       let same : first.object ≡ named.object = same_member folder v w 0 m n first.object named.object of_v of_w first.at named.at in
       object_at w m n named.object named.at ∙ ap (λ (p : Object). Some p) (sym same ∙ of_first)
 
-  itself : binds_itself s ≡ true → IsSettled folder n symbol kind file f.symbol
+  itself : binds_itself s ≡ true → FindsOneSymbol folder n symbol kind file f.symbol
   itself binds = λ w m of_w named has_file.
       let f_is : found 0 symbol ≡ f = same_Some (found 0 symbol) f (sym (finds_is (objects v) (reference 0 symbol kind) o s at own ∙ rw binds refl) ∙ finds_f) in
       let file_is : n ≡ file = ap first_name (same_Some (n, first.object) (file, is.object) (sym first.at ∙ (ap (λ (g : Found). slice_get v g.member) f_is ∙ is.at))) in
@@ -170,7 +170,7 @@ module _ (folder : List ℕ → Option Object) (n : List ℕ) (v : Walked) (symb
         looks = finds_is (objects w) (reference m symbol kind) o s (there w m of_w named) own ∙ (rw binds refl ∙ ap (λ (i : ℕ). Some (found m i)) index);
       }
 
-  by_search : binds_itself s ≡ false → IsSettled folder n symbol kind file f.symbol
+  by_search : binds_itself s ≡ false → FindsOneSymbol folder n symbol kind file f.symbol
   unfolding found_for
   by_search binds = λ w m of_w named has_file.
       let searches : first_in (objects v) s.name (class_of kind) (version_wanted o s) (searched o (reference 0 symbol kind) (length (objects v))) ≡ Some f =
@@ -185,12 +185,12 @@ module _ (folder : List ℕ → Option Object) (n : List ℕ) (v : Walked) (symb
         looks = finds_is (objects w) (reference m symbol kind) o s (there w m of_w named) own ∙ (rw binds refl ∙ p.2);
       }
 
-  pub everywhere : IsSettled folder n symbol kind file f.symbol
+  pub everywhere : FindsOneSymbol folder n symbol kind file f.symbol
   everywhere = elim (cases_Bool (binds_itself s)) [ inl binds ↦ itself binds | inr other ↦ by_search other ]
 
 -- what is settled by one scope of a folder is so in every one
-pub settled : (folder : List ℕ → Option Object) (definers : List ℕ) (n : List ℕ) (v : Walked) (symbol kind : ℕ) (known : IsSettledBy definers (objects v) (reference 0 symbol kind)) (file : List ℕ)
-    → HasHashes folder definers → IsMadeOf folder v → IsMember v 0 n → (kind == R_X86_64_COPY) ≡ false → IsMember v known.found.member file → IsSettled folder n symbol kind file known.found.symbol
+pub settled : (folder : List ℕ → Option Object) (definers : List ℕ) (n : List ℕ) (v : Walked) (symbol kind : ℕ) (known : FindsOneSymbolBy definers (objects v) (reference 0 symbol kind)) (file : List ℕ)
+    → HasHashes folder definers → IsMadeOf folder v → IsMember v 0 n → (kind == R_X86_64_COPY) ≡ false → IsMember v known.found.member file → FindsOneSymbol folder n symbol kind file known.found.symbol
 settled folder definers n v symbol kind known file hashes of_v first plain is =
     let own = own_is (objects v) (reference 0 symbol kind) known.single.symbol known.single.own in
     everywhere folder n v symbol kind known.single.symbol own.0 known.found file of_v first plain own.1 own.2 (hashes known.single.symbol.name known.single.once) known.looks is

@@ -2,7 +2,7 @@ use Rattle.std.proofs.Common.{◌≡◌, ℕ, List, Option, subst, ◌∙◌, Ve
 use Rattle.std.specs.Prelude.{IfOk}
 use Rattle.std.specs.Option.{option_map}
 use Rattle.pl_rewrite.proofs.FinishingLaws.{file_given, form_given}
-use Rattle.pl_rewrite.proofs.finishing.library_file.Goals as goal
+use Rattle.pl_rewrite.proofs.finishing.storable_library.Goals as goal
 
 pub prelink_library-requires-clause-library : goal.prelink_library-requires-clause-library
 prelink_library-requires-clause-library c =

@@ -3,7 +3,7 @@ use Rattle.pl_conflict.specs.Own.{own_words}
 use Rattle.pl_conflict.specs.Prelinked.{slots_of}
 use Rattle.pl_object.specs.declared.object.Object.{Object}
 use Rattle.pl_prelinked.proofs.FirmLaws.{one_each, objects_walked, some_walked}
-use Rattle.pl_prelinked.proofs.library.words_of.Goals as goal
+use Rattle.pl_prelinked.proofs.library.first_own_words.Goals as goal
 
 pub own_words-requires-clause-first : goal.own_words-requires-clause-first
 own_words-requires-clause-first c = rw c.in_ok-scope.ensures (some_walked c.args.sources.now c.requires.some)
