@@ -29,10 +29,10 @@ use Rattle.pl_object.specs.declared.reloc.Reloc.{Reloc}
 use Rattle.pl_object.proofs.ReadLaws.{dynamic_object_is}
 use Rattle.pl_build.specs.declared.layout.Tables.{Tables}
 use Rattle.pl_build.specs.declared.line.Relocation.{Relocation}
-use Rattle.pl_build.specs.declared.plan.Plan.{Plan}
+use Rattle.pl_build.specs.declared.layout_plan.LayoutPlan.{LayoutPlan}
 use Rattle.pl_build.specs.declared.recipe.Recipe.{Recipe}
 use Rattle.pl_build.specs.declared.recipe.Settings.{Settings}
-use Rattle.pl_build.specs.declared.roles.Place.{Place}
+use Rattle.pl_build.specs.declared.roles.PlacedSection.{PlacedSection}
 use Rattle.pl_build.specs.declared.roles.Role.{Role}
 use Rattle.pl_build.specs.declared.roles.Role.TheVariants.{Hash, GnuHash, Dynsym, Dynstr, RelaDyn, RelaPlt, Dynamic as DynamicTable}
 use Rattle.pl_build.specs.Choices.{chosen}
@@ -40,10 +40,10 @@ use Rattle.pl_build.specs.Dynamic.{tag, is_at, null_place, place_of, is_there, n
 use Rattle.pl_build.specs.File.{type_of, file_end}
 use Rattle.pl_build.specs.HashTables.{sysv_table, gnu_table}
 use Rattle.pl_build.specs.Layout.{contents, end_of, tables}
-use Rattle.pl_build.specs.Plan.{plan_of, base_of, data_address, is_jump_slot, is_other}
+use Rattle.pl_build.specs.LayoutPlan.{plan_of, base_of, data_address, is_jump_slot, is_other}
 use Rattle.pl_build.specs.Segments.{readable, first_load, second_load, dynamic_segment, has_data}
 use Rattle.pl_build.specs.Relocations.{rela_bytes, rela_of, others, jump_slots}
-use Rattle.pl_build.specs.Strings.{text_at}
+use Rattle.pl_build.specs.StringTable.{text_at}
 use Rattle.pl_build.specs.SymbolTable.{symbol_table, entry_of, null_entry}
 use Rattle.law_demo.specs.Accepted.{planned_heads, planned_dynamic, planned_linking, planned_hashes, planned_layout, planned_object, PlainIsAccepted}
 use Rattle.law_demo.specs.Modest.{IsModest}
@@ -104,7 +104,7 @@ held_by_name r bytes t here =
 few_symbols : (r : Recipe) (ss : List Segment) (tables_end : ℕ) (e : Extents) → tables_end ≤ 1048576 → AreGood r ss tables_end e → length (plan_of r).symbols + 1 < 2 ^ 32
 unfolding contents symbol_table
 few_symbols r ss tables_end e fits good =
-    let p : Plan = plan_of r in
+    let p : LayoutPlan = plan_of r in
     let long : e.symbols.size ≡ 24 * length (null_entry ∷ map (entry_of p) p.symbols) = good.symbols.long ∙ entries_long (null_entry ∷ map (entry_of p) p.symbols) in
     omega (arith, long, length-map p.symbols (entry_of p), good.symbols.within, fits)
 
@@ -116,14 +116,14 @@ few_strings r ss tables_end e fits good =
 
 -- ---- the tags fit their fields
 
-pub record IsSmall (place : Place) : Type 0 where
+pub record IsSmall (place : PlacedSection) : Type 0 where
   pub addr : place.addr < 2 ^ 64
   pub size : place.size < 2 ^ 64
 
-small_one : (p : Plan) (ss : List Segment) (tables_end : ℕ) (place : Place) → tables_end ≤ 1048576 → IsGood p ss tables_end place → IsSmall place
+small_one : (p : LayoutPlan) (ss : List Segment) (tables_end : ℕ) (place : PlacedSection) → tables_end ≤ 1048576 → IsGood p ss tables_end place → IsSmall place
 small_one p ss tables_end place fits good = record { addr = omega (arith, good.address, base_small p.settings, good.within, fits); size = omega (arith, good.within, fits) }
 
-place_small : (name : List ℕ) (places : List Place) → AllByRecursion IsSmall places → IsSmall (place_of places name)
+place_small : (name : List ℕ) (places : List PlacedSection) → AllByRecursion IsSmall places → IsSmall (place_of places name)
 unfolding place_of
 place_small name [] all = record { addr = omega arith; size = omega arith }
 place_small name (x ∷ places) all = elim (cases_Bool (is_at name x)) [
@@ -133,7 +133,7 @@ place_small name (x ∷ places) all = elim (cases_Bool (is_at name x)) [
 
 before_small : (r : Recipe) (ss : List Segment) (tables_end : ℕ) (e : Extents) → tables_end ≤ 1048576 → AreGood r ss tables_end e → AllByRecursion IsSmall (before_dynamic r e)
 before_small r ss tables_end e fits good =
-    let p : Plan = plan_of r in
+    let p : LayoutPlan = plan_of r in
     all_chosen IsSmall (rows_before r e) (
       λ there. small_one p ss tables_end (place_in Hash e.hash) fits (good.hash there),
       (
@@ -151,11 +151,11 @@ before_small r ss tables_end e fits good =
 fits_tag : (n v : ℕ) → n < 2 ^ 64 → v < 2 ^ 64 → FitsTag (tag n v)
 fits_tag n v x y = record { number = x; value = y }
 
-needed_fit : (p : Plan) (names : List (List ℕ)) → ((name : List ℕ) → text_at p.strings name < 2 ^ 64) → AllByRecursion FitsTag (map (λ name. tag 1 (text_at p.strings name)) names)
+needed_fit : (p : LayoutPlan) (names : List (List ℕ)) → ((name : List ℕ) → text_at p.strings name < 2 ^ 64) → AllByRecursion FitsTag (map (λ name. tag 1 (text_at p.strings name)) names)
 needed_fit p [] small = tt
 needed_fit p (name ∷ names) small = (fits_tag 1 (text_at p.strings name) (omega arith) (small name), needed_fit p names small)
 
-not_there : (x : Place) → x ≡ null_place → is_there x ≡ true → ⊥
+not_there : (x : PlacedSection) → x ≡ null_place → is_there x ≡ true → ⊥
 not_there x e there = false≢true (sym (ap is_there e) ∙ there)
 
 few_versions : (r : Recipe) → IsPlain r → length (plan_of r).versions + 1 < 2 ^ 64
@@ -164,8 +164,8 @@ few_versions r plain = omega (arith, ap (λ (l : List (List ℕ)). length l) pla
 
 rows_fit : (r : Recipe) (ss : List Segment) (tables_end : ℕ) (e : Extents) → IsPlain r → tables_end ≤ 1048576 → AreGood r ss tables_end e → AllByRecursion FitsTag (chosen (planned_rows (plan_of r) (before_dynamic r e)))
 rows_fit r ss tables_end e plain fits good =
-    let p : Plan = plan_of r in
-    let places : List Place = before_dynamic r e in
+    let p : LayoutPlan = plan_of r in
+    let places : List PlacedSection = before_dynamic r e in
     let all : AllByRecursion IsSmall places = before_small r ss tables_end e fits good in
     let hash = place_small (codes ".hash") places all in
     let gnu_hash = place_small (codes ".gnu.hash") places all in
@@ -243,8 +243,8 @@ rows_fit r ss tables_end e plain fits good =
 tags_fit : (r : Recipe) (ss : List Segment) (tables_end : ℕ) (e : Extents) → IsPlain r → tables_end ≤ 1048576 → AreGood r ss tables_end e → AllByRecursion FitsTag (planned_tags (plan_of r) (before_dynamic r e))
 unfolding needed_tags
 tags_fit r ss tables_end e plain fits good =
-    let p : Plan = plan_of r in
-    let places : List Place = before_dynamic r e in
+    let p : LayoutPlan = plan_of r in
+    let places : List PlacedSection = before_dynamic r e in
     let small : (name : List ℕ) → text_at p.strings name < 2 ^ 64 = λ name. omega (arith, text_within p.strings name (plain_texts r plain), few_strings r ss tables_end e fits good) in
     subst (AllByRecursion FitsTag) (sym (tags_are p places))
     (all_append FitsTag (needed_tags p) (chosen (planned_rows p places)) (needed_fit p p.needed small) (rows_fit r ss tables_end e plain fits good))
@@ -255,7 +255,7 @@ pub dynamic_ok : (r : Recipe) (bytes : List ℕ) (t : Tables) (e : Extents) → 
     → dynamic bytes (planned_segments (plan_of r) t) ≡ Ok (planned_dynamic (plan_of r) (before_dynamic r e))
 unfolding dynamic planned_dynamic
 dynamic_ok r bytes t e plain fits shape good held =
-    let p : Plan = plan_of r in
+    let p : LayoutPlan = plan_of r in
     let ss : List Segment = planned_segments p t in
     let memory : dynamic_memory ss ≡ memory_at e.dynamic = dynamic_is r t e plain shape good.dynamic.some in
     let inside : in_file_part ss (dynamic_memory ss) ≡ true = ap (in_file_part ss) memory ∙ good_in p ss (end_of t) DynamicTable e.dynamic good.dynamic in
@@ -287,7 +287,7 @@ relocations_are : (r : Recipe) (bytes : List ℕ) (ss : List Segment) (sections 
     → relocations bytes ss tags (planned_symbols (plan_of r)) ≡ planned_relocs (plan_of r)
 unfolding relocations planned_relocs packed_relocs others jump_slots
 relocations_are r bytes ss sections e tags m few_all held told =
-    let p : Plan = plan_of r in
+    let p : LayoutPlan = plan_of r in
     let symbols : List read.Symbol = planned_symbols p in
     let rows : RowsAreRead p = rows_read r m few_all in
     let one : loaded bytes ss (rela_memory tags) ≡ others p = ap (loaded bytes ss) told.others ∙ loaded_if bytes ss (list_any is_other r.relocations) e.others (others p) held.rest (λ none. no_rows r is_other none) in
@@ -306,7 +306,7 @@ layout_is : (r : Recipe) (bytes : List ℕ) (t : Tables) (e : Extents) → IsMod
     → layout bytes (planned_heads (plan_of r) t) (planned_tags (plan_of r) (before_dynamic r e)) (planned_linking r) ≡ planned_layout r t (before_dynamic r e)
 unfolding layout planned_layout planned_heads planned_linking layout_with
 layout_is r bytes t e m few_all held taken =
-    let p : Plan = plan_of r in
+    let p : LayoutPlan = plan_of r in
     let ss : List Segment = planned_segments p t in
     let sections : List Section = planned_sections p t in
     let tags : List Tag = planned_tags p (before_dynamic r e) in
@@ -332,7 +332,7 @@ first_begins : (s : Settings) (tables_end : ℕ) → (loaded_by nothing (Some (f
 unfolding first_load readable
 first_begins s tables_end = omega arith
 
-nothing_low : (s : Settings) (tables_end : ℕ) (b : Bool) (d : Place) → (file_window (shown b (first_load s tables_end) (second_load s tables_end) (dynamic_segment d)) nothing).at ≤ tables_end
+nothing_low : (s : Settings) (tables_end : ℕ) (b : Bool) (d : PlacedSection) → (file_window (shown b (first_load s tables_end) (second_load s tables_end) (dynamic_segment d)) nothing).at ≤ tables_end
 unfolding file_window
 nothing_low s tables_end true d = elim (cases_Bool (loads_byte 0 (first_load s tables_end))) [
   | inl hit ↦ rw hit (first_begins s tables_end)
@@ -346,7 +346,7 @@ nothing_low s tables_end false d = elim (cases_Bool (loads_byte 0 (first_load s 
 abbrev IsLow : ℕ → Window → Type 0
 IsLow n w = w.at + w.size ≤ n
 
-low_if : (p : Plan) (ss : List Segment) (tables_end : ℕ) (role : Role) (b : Bool) (e : Extent) → (file_window ss nothing).at ≤ tables_end → (b ≡ true → IsGood p ss tables_end (place_in role e)) → IsLow tables_end (file_window ss (memory_if b e))
+low_if : (p : LayoutPlan) (ss : List Segment) (tables_end : ℕ) (role : Role) (b : Bool) (e : Extent) → (file_window ss nothing).at ≤ tables_end → (b ≡ true → IsGood p ss tables_end (place_in role e)) → IsLow tables_end (file_window ss (memory_if b e))
 low_if p ss tables_end role true e low good = subst (IsLow tables_end) (sym (good refl).window) (good refl).within
 low_if p ss tables_end role false e low good = omega (arith, low, nothing_small ss)
 
@@ -357,7 +357,7 @@ windows_low : (r : Recipe) (t : Tables) (e : Extents) → IsPlain r → t.places
     → AllIn (end_of t) (link_windows (planned_header (plan_of r) t) (planned_segments (plan_of r) t) (planned_sections (plan_of r) t) (planned_tags (plan_of r) (before_dynamic r e)))
 unfolding link_windows tables_memory
 windows_low r t e plain shape low bytes taken =
-    let p : Plan = plan_of r in
+    let p : LayoutPlan = plan_of r in
     let n : ℕ = end_of t in
     let ss : List Segment = planned_segments p t in
     let sections : List Section = planned_sections p t in
@@ -433,14 +433,14 @@ checked_built : (r : Recipe) (bytes : List ℕ) (t : Tables) (built : IsBuilt r 
     → check bytes (planned_heads (plan_of r) t) (planned_tags (plan_of r) (before_dynamic r built.here.shape.extents)) (planned_linking r) (planned_layout r t (before_dynamic r built.here.shape.extents)) ≡ Ok tt
 unfolding check planned_heads planned_linking planned_layout
 checked_built r bytes t built =
-    let p : Plan = plan_of r in
+    let p : LayoutPlan = plan_of r in
     let e : Extents = built.here.shape.extents in
     let shape : t.places ≡ chosen (rows_of r e) = built.here.shape.is in
     let taken : TablesAreTaken r bytes t e = are_taken r bytes t built.plain built.there built.here in
     let ss : List Segment = planned_segments p t in
     let h : Header = planned_header p t in
-    let d : Place = place_of t.places (codes ".dynamic") in
-    let some : 0 < d.size = subst (λ (x : Place). 0 < x.size) (sym (ap (λ (l : List Place). place_of l (codes ".dynamic")) shape ∙ named_dynamic r e)) taken.good.dynamic.some in
+    let d : PlacedSection = place_of t.places (codes ".dynamic") in
+    let some : 0 < d.size = subst (λ (x : PlacedSection). 0 < x.size) (sym (ap (λ (l : List PlacedSection). place_of l (codes ".dynamic")) shape ∙ named_dynamic r e)) taken.good.dynamic.some in
     let shown_so : ss ≡ shown (has_data p.settings) (first_load p.settings (end_of t)) (second_load p.settings (end_of t)) (dynamic_segment d) = segments_shown p t (plain_settings r built.plain) (there_is d some) in
     let few_all : length p.symbols + 1 < 2 ^ 32 = few_symbols r ss (end_of t) e built.here.fits taken.good in
     let low : (file_window ss nothing).at ≤ end_of t = subst (λ (l : List Segment). (file_window l nothing).at ≤ end_of t) (sym shown_so) (nothing_low p.settings (end_of t) (has_data p.settings) d) in
@@ -463,7 +463,7 @@ checked_built r bytes t built =
 object_built : (r : Recipe) (bytes : List ℕ) (t : Tables) (built : IsBuilt r bytes t) → dynamic_object bytes (planned_heads (plan_of r) t) (planned_dynamic (plan_of r) (before_dynamic r built.here.shape.extents)) ≡ Ok (planned_object r t (before_dynamic r built.here.shape.extents))
 unfolding planned_heads planned_dynamic planned_object checked
 object_built r bytes t built =
-    let p : Plan = plan_of r in
+    let p : LayoutPlan = plan_of r in
     let e : Extents = built.here.shape.extents in
     let taken : TablesAreTaken r bytes t e = are_taken r bytes t built.plain built.there built.here in
     let ss : List Segment = planned_segments p t in
@@ -480,20 +480,20 @@ object_built r bytes t built =
 parts_built : (r : Recipe) (bytes : List ℕ) (t : Tables) (built : IsBuilt r bytes t) → elf.is_static_file bytes (planned_header (plan_of r) t) ≡ false → parts bytes (planned_heads (plan_of r) t) ≡ Ok (planned_object r t (before_dynamic r built.here.shape.extents))
 unfolding parts planned_heads
 parts_built r bytes t built linked =
-    let p : Plan = plan_of r in
+    let p : LayoutPlan = plan_of r in
     let e : Extents = built.here.shape.extents in
     let taken : TablesAreTaken r bytes t e = are_taken r bytes t built.plain built.there built.here in
     rw (linked, dynamic_ok r bytes t e built.plain built.here.fits built.here.shape.is taken.good (held_by_name r bytes t built.here)) (object_built r bytes t built)
 
 -- ---- the file
 
-rows_within : (p : Plan) (t : Tables) (n : ℕ) → 64 + 56 * length (planned_segments p t) ≤ n → (planned_header p t).phoff + 56 * (planned_header p t).phnum ≤ n
+rows_within : (p : LayoutPlan) (t : Tables) (n : ℕ) → 64 + 56 * length (planned_segments p t) ≤ n → (planned_header p t).phoff + 56 * (planned_header p t).phnum ≤ n
 unfolding planned_header header_of
 rows_within p t n le = le
 
 dynamic_seen : (r : Recipe) (bytes : List ℕ) (t : Tables) → IsPlain r → tables (plan_of r) ≡ Ok t → bytes ≡ file_by (plan_of r) t → IsHeaded (plan_of r) t bytes → elf.has_dynamic bytes (planned_header (plan_of r) t) ≡ true
 dynamic_seen r bytes t plain there is headed =
-    let p : Plan = plan_of r in
+    let p : LayoutPlan = plan_of r in
     let within : 64 + 56 * length (planned_segments p t) ≤ length bytes = subst (λ (l : List ℕ). 64 + 56 * length (planned_segments p t) ≤ length l) (sym is) (heads_within p t) in
     seen bytes (planned_header p t) (rows_within p t (length bytes) within) (ap (list_any is_dynamic) headed.segments ∙ dynamic_planned r t plain there)
 
@@ -504,7 +504,7 @@ linked_file bytes h there = second_false (h.kind == 2) (not (elf.has_dynamic byt
 heads_with : Header → List Segment → List Section → Headers
 heads_with h ss sections = record { header = h; segments = ss; sections = sections }
 
-heads_are : (p : Plan) (t : Tables) (bytes : List ℕ) → IsHeaded p t bytes → headers bytes (planned_header p t) ≡ planned_heads p t
+heads_are : (p : LayoutPlan) (t : Tables) (bytes : List ℕ) → IsHeaded p t bytes → headers bytes (planned_header p t) ≡ planned_heads p t
 unfolding headers planned_heads heads_with
 heads_are p t bytes headed =
     ap (λ (ss : List Segment). heads_with (planned_header p t) ss (sections bytes (planned_header p t))) headed.segments
@@ -519,7 +519,7 @@ reads_by bytes h e = rw e refl
 
 pub plain_accepted : PlainIsAccepted
 plain_accepted r bytes plain m made_so =
-    let p : Plan = plan_of r in
+    let p : LayoutPlan = plan_of r in
     let file = made_is p bytes made_so in
     let t : Tables = file.0 in
     let headed_at = heads_are_read r bytes plain made_so in

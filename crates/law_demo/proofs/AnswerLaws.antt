@@ -14,7 +14,7 @@ use Rattle.pl_base.proofs.AnswerLaws.{bind_ok, ok_same, unless_ok}
 use Rattle.pl_cli.specs.Demo.{is_fast}
 use Rattle.pl_cli.specs.Files.{file_in, of_file, valid_file}
 use Rattle.pl_weave.specs.Given.{first_by, first_of, given_from}
-use Rattle.pl_cli.specs.Load.{choice, given_file, loaded, loading_file}
+use Rattle.pl_cli.specs.Load.{choice, given_file, load_result, loading_file}
 use Rattle.pl_cli.specs.declared.cause.Cause.{Cause}
 use Rattle.pl_cli.specs.declared.cause.Cause.TheVariants as cause
 use Rattle.pl_conflict.specs.Format.{Causes, format}
@@ -42,7 +42,7 @@ use Rattle.pl_object.specs.declared.object.Object.{Object}
 use Rattle.pl_object.specs.declared.refusal.Refusal.{Refusal}
 use Rattle.pl_parts.specs.Forms.{original_of}
 use Rattle.pl_parts.specs.Parts.{new_header}
-use Rattle.pl_parts.specs.declared.parts.Plan.{Plan}
+use Rattle.pl_parts.specs.declared.parts.FormPlan.{FormPlan}
 use Rattle.pl_parts.proofs.FormLaws.{form_header}
 use Rattle.law_loads.specs.Paths.{GivesFrom}
 use Rattle.pl_pie.specs.Pie.{as_program, is_laid_out, is_linked, is_marked, is_pie, pie, pie_by}
@@ -90,7 +90,7 @@ program_of Program other dynamic = refl
 program_of Library other dynamic = absurd (true≢false other)
 program_of Static other dynamic = absurd (true≢false dynamic)
 
-kept_kind : (p : Plan) (o : List ℕ) (undo : ℕ) → (new_header p o undo).kind ≡ (header o).kind
+kept_kind : (p : FormPlan) (o : List ℕ) (undo : ℕ) → (new_header p o undo).kind ≡ (header o).kind
 unfolding new_header
 kept_kind p o undo = refl
 
@@ -177,7 +177,7 @@ program_file causes policy files name m program =
     record { file = p.file; there = p.there; loads = as_it_is policy name p.file (form_kind p.file p.made (nothing_else_is_read p.file p.made p.is) other) }
 
 pub matched_fast : {E : Type 0} → MatchedLoadsAreFast E
-unfolding loaded
+unfolding load_result
 matched_fast causes files policy busy name rule match program free =
     let c : IsClear causes (valid_file files) busy name = record { rule = rule; match = match; program = program; free = free } in
     let m : Matches (format causes) (valid_file files) name = tells_is (format causes) (valid_file files) name match in

@@ -28,20 +28,20 @@ use Rattle.pl_form.specs.declared.file.Marked.{Marked}
 use Rattle.pl_form.proofs.FilesLaws.{nothing_else_is_read}
 use Rattle.pl_form.proofs.PlannedLaws.{undo_named}
 use Rattle.pl_build.specs.declared.layout.Tables.{Tables}
-use Rattle.pl_build.specs.declared.plan.Plan.{Plan}
+use Rattle.pl_build.specs.declared.layout_plan.LayoutPlan.{LayoutPlan}
 use Rattle.pl_build.specs.declared.recipe.Recipe.{Recipe}
-use Rattle.pl_build.specs.declared.roles.Place.{Place}
+use Rattle.pl_build.specs.declared.roles.PlacedSection.{PlacedSection}
 use Rattle.pl_build.specs.declared.roles.Role.{Role}
-use Rattle.pl_build.specs.declared.strings.Strings.{Strings}
+use Rattle.pl_build.specs.declared.string_table.StringTable.{StringTable}
 use Rattle.pl_build.specs.Choices.{chosen}
 use Rattle.pl_build.specs.Dynamic.{needed_tags, tag}
 use Rattle.pl_build.specs.File.{places_of}
 use Rattle.pl_build.specs.Layout.{end_of, tables}
-use Rattle.pl_build.specs.Plan.{plan_of}
+use Rattle.pl_build.specs.LayoutPlan.{plan_of}
 use Rattle.pl_build.specs.Roles.{section_name}
 use Rattle.pl_build.specs.Sections.{row_of, section_rows}
 use Rattle.pl_build.specs.Segments.{data_offset}
-use Rattle.pl_build.specs.Strings.{section_names, text_added, text_at}
+use Rattle.pl_build.specs.StringTable.{section_names, text_added, text_at}
 use Rattle.law_demo.specs.Accepted.{planned_dynamic}
 use Rattle.law_demo.specs.Plain.{IsPlain}
 use Rattle.law_demo.specs.Planned.{planned_header, planned_sections, planned_segments, section_of}
@@ -56,7 +56,7 @@ use Rattle.law_demo.specs.Forms.{PlainFilesAreBare}
 -- ---- no section is named as that of a form
 
 -- the name of a section begins as the name of an undo section does
-abbrev begins_so : Strings → Role → Bool
+abbrev begins_so : StringTable → Role → Bool
 begins_so names role = starts_with nat_eq (drop (text_at names (section_name role)) names.bytes) UNDO_NAME
 
 no_undo_role : (a b c d : Bool) → not (list_any (begins_so (section_names (plain_roles a b c d))) (plain_roles a b c d)) ≡ true
@@ -70,7 +70,7 @@ not_true false e = refl
 no_undo_name : (r : Recipe) → IsPlain r → list_any (begins_so (names_of (plan_of r))) (plan_of r).roles ≡ false
 no_undo_name r plain = subst (λ (l : List Role). list_any (begins_so (section_names l)) l ≡ false) (sym (roles_plain r plain)) (not_true _ (no_undo_role _ _ _ _))
 
-by_roles : (p : Plan) (names : Strings) (places : List Place) → list_any (is_undo_name names.bytes) (map section_of (section_rows p names places)) ≡ list_any (begins_so names) (map role_of places)
+by_roles : (p : LayoutPlan) (names : StringTable) (places : List PlacedSection) → list_any (is_undo_name names.bytes) (map section_of (section_rows p names places)) ≡ list_any (begins_so names) (map role_of places)
 unfolding section_rows row_of section_of
 by_roles p names [] = refl
 by_roles p names (place ∷ places) = ap (λ (b : Bool). begins_so names place.role || b) (by_roles p names places)
@@ -78,8 +78,8 @@ by_roles p names (place ∷ places) = ap (λ (b : Bool). begins_so names place.r
 no_undo_section : (r : Recipe) (t : Tables) → IsPlain r → tables (plan_of r) ≡ Ok t → list_any (is_undo_name (names_of (plan_of r)).bytes) (planned_sections (plan_of r) t) ≡ false
 unfolding planned_sections
 no_undo_section r t plain e =
-    let p : Plan = plan_of r in
-    let places : List Place = places_of p t (data_offset (end_of t)) (length (names_of p).bytes) in
+    let p : LayoutPlan = plan_of r in
+    let places : List PlacedSection = places_of p t (data_offset (end_of t)) (length (names_of p).bytes) in
     by_roles p (names_of p) places ∙ ap (list_any (begins_so (names_of p))) (places_roles r t (data_offset (end_of t)) (length (names_of p).bytes) plain e) ∙ no_undo_name r plain
 
 unnamed : (r : Recipe) (bytes : List ℕ) (t : Tables) → IsPlain r → tables (plan_of r) ≡ Ok t → IsWholeFile r bytes t → has_undo_name bytes ≡ false
@@ -103,7 +103,7 @@ all_both : {X : Type 0} (P : X → Type 0) (xs ys : List X) → AllByRecursion P
 all_both P [] ys all more = more
 all_both P (x ∷ xs) ys all more = (all.0, all_both P xs ys all.1 more)
 
-needed_other : (p : Plan) → AllByRecursion IsOther (needed_tags p)
+needed_other : (p : LayoutPlan) → AllByRecursion IsOther (needed_tags p)
 unfolding needed_tags is_prelink_tag
 needed_other p = each p.needed
   where
@@ -116,11 +116,11 @@ rows_other : (rows : List (Bool × Tag)) → list_any (λ c. is_prelink c.1) row
 rows_other [] none = tt
 rows_other (c ∷ rows) none = let parts = or_parts (is_prelink c.1) (list_any (λ d. is_prelink d.1) rows) none in (λ there. parts.0, rows_other rows parts.1)
 
-numbers_other : (p : Plan) (places : List Place) → list_any (λ c. is_prelink c.1) (planned_rows p places) ≡ false
+numbers_other : (p : LayoutPlan) (places : List PlacedSection) → list_any (λ c. is_prelink c.1) (planned_rows p places) ≡ false
 unfolding is_prelink_tag
 numbers_other p places = refl
 
-planned_other : (p : Plan) (places : List Place) → list_any is_prelink (planned_tags p places) ≡ false
+planned_other : (p : LayoutPlan) (places : List PlacedSection) → list_any is_prelink (planned_tags p places) ≡ false
 planned_other p places =
     none_of_each is_prelink (planned_tags p places)
     (subst (AllByRecursion IsOther) (sym (tags_are p places)) (all_both IsOther (needed_tags p) (chosen (planned_rows p places)) (needed_other p) (all_chosen IsOther (planned_rows p places) (rows_other (planned_rows p places) (numbers_other p places)))))
@@ -147,7 +147,7 @@ table_read bytes ss d e = by (in_file_part ss (dynamic_memory ss)) refl e
 untagged : (r : Recipe) (bytes : List ℕ) (t : Tables) → IsWholeFile r bytes t → has_prelink_tag bytes ≡ false
 unfolding has_prelink_tag planned_dynamic
 untagged r bytes t whole =
-    let p : Plan = plan_of r in
+    let p : LayoutPlan = plan_of r in
     let ss : List Segment = planned_segments p t in
     let read_as : segments bytes (header bytes) ≡ ss = ap (segments bytes) whole.headed.header ∙ whole.headed.segments in
     let same : tags (loaded bytes ss (dynamic_memory ss)) ≡ planned_tags p whole.before = tags_read (loaded bytes ss (dynamic_memory ss)) (planned_dynamic p whole.before) (table_read bytes ss (planned_dynamic p whole.before) whole.dynamic) in

@@ -17,15 +17,15 @@ use Rattle.pl_build.specs.declared.fields.Field.{Field}
 use Rattle.pl_build.specs.declared.fields.Field.TheVariants.{Byte, Half, Word, Xword}
 use Rattle.pl_build.specs.declared.line.DataWord.{DataWord}
 use Rattle.pl_build.specs.declared.layout.Tables.{Tables}
-use Rattle.pl_build.specs.declared.line.Symbol.{Symbol}
-use Rattle.pl_build.specs.declared.plan.Plan.{Plan}
+use Rattle.pl_build.specs.declared.line.SymbolLine.{SymbolLine}
+use Rattle.pl_build.specs.declared.layout_plan.LayoutPlan.{LayoutPlan}
 use Rattle.pl_build.specs.declared.recipe.Recipe.{Recipe}
 use Rattle.pl_build.specs.declared.recipe.Settings.{Settings}
 use Rattle.pl_build.specs.declared.relocations.Rela.{Rela}
-use Rattle.pl_build.specs.declared.roles.Place.{Place}
+use Rattle.pl_build.specs.declared.roles.PlacedSection.{PlacedSection}
 use Rattle.pl_build.specs.declared.roles.Role.{Role}
 use Rattle.pl_build.specs.declared.roles.Role.TheVariants.{Null, Hash, GnuHash, Dynsym, Dynstr, RelaDyn, RelaPlt, Dynamic, Data, Bss, Shstrtab}
-use Rattle.pl_build.specs.declared.strings.Strings.{Strings}
+use Rattle.pl_build.specs.declared.string_table.StringTable.{StringTable}
 use Rattle.pl_build.specs.Choices.{chosen}
 use Rattle.pl_build.specs.Data.{data_bytes, word_put}
 use Rattle.pl_build.specs.Dynamic.{dynamic_table, end_tag, needed_tags, packed_tags, relocation_tags, spare_tags, table_tags, tag_bytes, usual_tags, version_tags}
@@ -33,12 +33,12 @@ use Rattle.pl_build.specs.Fields.{field_bytes, fields}
 use Rattle.pl_build.specs.File.{file_of, front, header_bytes, interp_of, places_of, sections_offset, up_to_data}
 use Rattle.pl_build.specs.HashTables.{gnu_table, gnu_words, sysv_table, sysv_words}
 use Rattle.pl_build.specs.Layout.{aligned, contents, end_of, filled_to, no_tables, role_added, table_added, tables}
-use Rattle.pl_build.specs.Plan.{has_interp, is_jump_slot, is_other, plan_of}
+use Rattle.pl_build.specs.LayoutPlan.{has_interp, is_jump_slot, is_other, plan_of}
 use Rattle.pl_build.specs.Relocations.{jump_slots, others, rela_bytes}
 use Rattle.pl_build.specs.Roles.{section_name}
-use Rattle.pl_build.specs.Sections.{section_bytes, section_rows}
+use Rattle.pl_build.specs.Sections.{section_row_bytes, section_rows}
 use Rattle.pl_build.specs.Segments.{data_offset}
-use Rattle.pl_build.specs.Strings.{has_text, section_names, start, symbol_added, symbols_added, text_added, texts_added}
+use Rattle.pl_build.specs.StringTable.{has_text, section_names, start, symbol_added, symbols_added, text_added, texts_added}
 use Rattle.pl_build.specs.SymbolTable.{entry_bytes, symbol_table}
 use Rattle.law_demo.specs.Modest.{IsModest, IsModestSymbol, IsValidName}
 use Rattle.law_demo.specs.Plain.{IsPlain}
@@ -95,33 +95,33 @@ valid_bytes name valid =
 zero_end : IsBytes (0 ∷ [])
 zero_end = one_more 0 [] (omega arith) is_bytes_nil
 
-added_is : (s : Strings) (text : List ℕ) → IsBytes s.bytes → IsBytes text → IsBytes (text_added s text).bytes
+added_is : (s : StringTable) (text : List ℕ) → IsBytes s.bytes → IsBytes text → IsBytes (text_added s text).bytes
 unfolding text_added
 added_is s text h k = elim (cases_Bool (bytes_eq text [] || list_any (has_text text) s.entries)) [
   | inl old ↦ rw old h
   | inr new ↦ rw new (is_bytes_append (s.bytes ++ text) (0 ∷ []) (is_bytes_append s.bytes text h k) zero_end)
 ]
 
-texts_are : (s : Strings) (texts : List (List ℕ)) → IsBytes s.bytes → AllByRecursion IsValidName texts → IsBytes (texts_added s texts).bytes
+texts_are : (s : StringTable) (texts : List (List ℕ)) → IsBytes s.bytes → AllByRecursion IsValidName texts → IsBytes (texts_added s texts).bytes
 unfolding texts_added
 texts_are s [] h all = h
 texts_are s (text ∷ texts) h all = texts_are (text_added s text) texts (added_is s text h (valid_bytes text all.0)) all.1
 
-abbrev IsNamed : Symbol → Type 0
+abbrev IsNamed : SymbolLine → Type 0
 IsNamed x = is_valid_name x.name ≡ true
 
-symbols_are : (s : Strings) (symbols : List Symbol) → IsBytes s.bytes → AllByRecursion IsNamed symbols → IsBytes (symbols_added s symbols).bytes
+symbols_are : (s : StringTable) (symbols : List SymbolLine) → IsBytes s.bytes → AllByRecursion IsNamed symbols → IsBytes (symbols_added s symbols).bytes
 unfolding symbols_added
 symbols_are s [] h all = h
 symbols_are s (x ∷ symbols) h all = symbols_are (symbol_added s x) symbols (added_is s x.name h (valid_bytes x.name all.0)) all.1
 
-named_all : (s : Settings) (symbols : List Symbol) → AllByRecursion (IsModestSymbol s) symbols → AllByRecursion IsNamed symbols
+named_all : (s : Settings) (symbols : List SymbolLine) → AllByRecursion (IsModestSymbol s) symbols → AllByRecursion IsNamed symbols
 named_all s [] all = tt
 named_all s (x ∷ symbols) all = (all.0.name, named_all s symbols all.1)
 
 strings_are : (r : Recipe) → IsPlain r → IsModest r → IsBytes (plan_of r).strings.bytes
 strings_are r plain modest =
-    subst (λ (s : Strings). IsBytes s.bytes) (sym (plain_strings r plain))
+    subst (λ (s : StringTable). IsBytes s.bytes) (sym (plain_strings r plain))
     (symbols_are (texts_added start r.needs) (plan_of r).symbols (texts_are start r.needs zero_end modest.needs)
     (subst (AllByRecursion IsNamed) (sym (plan_symbols r)) (all_ordered IsNamed r.settings r.symbols (named_all r.settings r.symbols modest.symbols))))
 
@@ -142,15 +142,15 @@ names_are r plain = subst (λ (l : List Role). IsBytes (section_names l).bytes) 
 
 -- ---- tables
 
-sysv_is : (p : Plan) → IsBytes (sysv_table p)
+sysv_is : (p : LayoutPlan) → IsBytes (sysv_table p)
 unfolding sysv_table sysv_words
 sysv_is p = is_bytes_append _ _ (is_bytes_append _ _ (is_bytes_append _ _ (fields_are _) (fields_are _)) (fields_are _)) (fields_are _)
 
-gnu_is : (p : Plan) → IsBytes (gnu_table p)
+gnu_is : (p : LayoutPlan) → IsBytes (gnu_table p)
 unfolding gnu_table gnu_words
 gnu_is p = is_bytes_append _ _ (is_bytes_append _ _ (fields_are _) (fields_are _)) (fields_are _)
 
-entries_are : (p : Plan) → IsBytes (symbol_table p)
+entries_are : (p : LayoutPlan) → IsBytes (symbol_table p)
 unfolding symbol_table entry_bytes
 entries_are p = is_bytes_append _ _ (fields_are _) (flat_bytes entry_bytes _ (λ e. fields_are _))
 
@@ -162,7 +162,7 @@ tags_are : (ts : List Tag) → IsBytes (flat_map tag_bytes ts)
 unfolding tag_bytes
 tags_are ts = flat_bytes tag_bytes ts (λ t. fields_are _)
 
-dynamic_is : (p : Plan) (places : List Place) → IsBytes (dynamic_table p places)
+dynamic_is : (p : LayoutPlan) (places : List PlacedSection) → IsBytes (dynamic_table p places)
 unfolding dynamic_table
 dynamic_is p places =
     let a : List ℕ = flat_map tag_bytes (needed_tags p) in
@@ -176,13 +176,13 @@ dynamic_is p places =
     is_bytes_append (a ++ b ++ c ++ d ++ e ++ f ++ g) h (is_bytes_append (a ++ b ++ c ++ d ++ e ++ f) g (is_bytes_append (a ++ b ++ c ++ d ++ e) f (is_bytes_append (a ++ b ++ c ++ d) e (is_bytes_append (a ++ b ++ c) d (is_bytes_append (a ++ b) c (is_bytes_append (a) b (tags_are (needed_tags p)) (tags_are (table_tags p places))) (tags_are (relocation_tags places))) (tags_are (packed_tags places))) (tags_are (version_tags p places))) (tags_are (usual_tags p))) (tags_are (end_tag ∷ []))) (tags_are (spare_tags p))
 
 -- what a section holds
-abbrev HoldsBytes : Plan → Role → Type 0
-HoldsBytes p role = (places : List Place) → IsBytes (contents p places role)
+abbrev HoldsBytes : LayoutPlan → Role → Type 0
+HoldsBytes p role = (places : List PlacedSection) → IsBytes (contents p places role)
 
 roles_hold : (r : Recipe) → IsPlain r → IsModest r → AllByRecursion (HoldsBytes (plan_of r)) (plan_of r).roles
 unfolding contents others jump_slots
 roles_hold r plain modest =
-    let p : Plan = plan_of r in
+    let p : LayoutPlan = plan_of r in
     let texts = strings_are r plain modest in
     subst (AllByRecursion (HoldsBytes p)) (sym (roles_plain r plain))
     (all_chosen (HoldsBytes p)
@@ -210,7 +210,7 @@ roles_hold r plain modest =
       ),
     ))
 
-step_is : (p : Plan) (t u : Tables) (role : Role) → IsBytes t.bytes → HoldsBytes p role → role_added p t role ≡ Ok u → IsBytes u.bytes
+step_is : (p : LayoutPlan) (t u : Tables) (role : Role) → IsBytes t.bytes → HoldsBytes p role → role_added p t role ≡ Ok u → IsBytes u.bytes
 unfolding role_added table_added aligned
 step_is p t u role h k e = elim (cases_Bool (length (contents p t.places role) == 0)) [
   | inl none ↦ subst (λ (v : Tables). IsBytes v.bytes) (ok_same t u (rw none at e)) h
@@ -218,7 +218,7 @@ step_is p t u role h k e = elim (cases_Bool (length (contents p t.places role) =
       (is_bytes_append (aligned t.bytes) (contents p t.places role) (filled_is _ t.bytes h) (k t.places))
 ]
 
-run_is : (p : Plan) (roles : List Role) (t u : Tables) → IsBytes t.bytes → AllByRecursion (HoldsBytes p) roles → run (role_added p) t roles ≡ Ok u → IsBytes u.bytes
+run_is : (p : LayoutPlan) (roles : List Role) (t u : Tables) → IsBytes t.bytes → AllByRecursion (HoldsBytes p) roles → run (role_added p) t roles ≡ Ok u → IsBytes u.bytes
 unfolding run
 run_is p [] t u h all e = subst (λ (v : Tables). IsBytes v.bytes) (ok_same t u e) h
 run_is p (role ∷ roles) t u h all e =
@@ -252,13 +252,13 @@ data_is : (size : ℕ) (words : List DataWord) → IsBytes (data_bytes size word
 unfolding data_bytes
 data_is size words = words_are words (replicate size 0) (is_bytes_zeros size)
 
-header_is : (p : Plan) (phnum shoff : ℕ) → IsBytes (header_bytes p phnum shoff)
+header_is : (p : LayoutPlan) (phnum shoff : ℕ) → IsBytes (header_bytes p phnum shoff)
 unfolding header_bytes
 header_is p phnum shoff = is_bytes_append _ _ (is_bytes_append _ _ (fields_are _) (fields_are _)) (fields_are _)
 
-rows_are : (p : Plan) (t : Tables) → IsBytes (flat_map section_bytes (section_rows p (names_of p) (places_of p t (data_offset (end_of t)) (length (names_of p).bytes))))
-unfolding section_bytes
-rows_are p t = flat_bytes section_bytes _ (λ s. is_bytes_append _ _ (fields_are _) (fields_are _))
+rows_are : (p : LayoutPlan) (t : Tables) → IsBytes (flat_map section_row_bytes (section_rows p (names_of p) (places_of p t (data_offset (end_of t)) (length (names_of p).bytes))))
+unfolding section_row_bytes
+rows_are p t = flat_bytes section_row_bytes _ (λ s. is_bytes_append _ _ (fields_are _) (fields_are _))
 
 interp_none : (r : Recipe) → IsPlain r → interp_of (plan_of r).settings ≡ []
 unfolding interp_of has_interp plan_of
@@ -276,7 +276,7 @@ data_after_is r t shoff plain h = filled_is _ _ (is_bytes_append _ t.bytes (fill
 file_is : (r : Recipe) (t : Tables) → IsPlain r → IsModest r → tables (plan_of r) ≡ Ok t → IsBytes (file_by (plan_of r) t)
 unfolding file_of
 file_is r t plain modest e =
-    let p : Plan = plan_of r in
+    let p : LayoutPlan = plan_of r in
     let shoff : ℕ = sections_offset p (end_of t) (names_of p) in
     is_bytes_append _ _ (filled_is shoff _ (is_bytes_append _ (names_of p).bytes (is_bytes_append (up_to_data p t (end_of t) shoff) (data_bytes p.settings.data_size p.words) (data_after_is r t shoff plain (tables_are r t plain modest e)) (data_is p.settings.data_size p.words)) (names_are r plain)))
     (rows_are p t)

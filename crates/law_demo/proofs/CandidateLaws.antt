@@ -44,15 +44,15 @@ use Rattle.pl_known.proofs.LinkLaws.{each_read}
 use Rattle.pl_build.specs.declared.kind.FileKind.{FileKind}
 use Rattle.pl_build.specs.declared.kind.FileKind.TheVariants.{Library, Pie, Program, Static}
 use Rattle.pl_build.specs.declared.layout.Tables.{Tables}
-use Rattle.pl_build.specs.declared.plan.Plan.{Plan}
+use Rattle.pl_build.specs.declared.layout_plan.LayoutPlan.{LayoutPlan}
 use Rattle.pl_build.specs.declared.recipe.Recipe.{Recipe}
 use Rattle.pl_build.specs.declared.recipe.Settings.{Settings}
-use Rattle.pl_build.specs.declared.roles.Place.{Place}
+use Rattle.pl_build.specs.declared.roles.PlacedSection.{PlacedSection}
 use Rattle.pl_build.specs.Dynamic.{place_of}
 use Rattle.pl_build.specs.File.{made, type_of}
 use Rattle.pl_build.specs.FileKinds.{is_position_independent}
 use Rattle.pl_build.specs.Layout.{end_of, tables}
-use Rattle.pl_build.specs.Plan.{data_address, plan_of}
+use Rattle.pl_build.specs.LayoutPlan.{data_address, plan_of}
 use Rattle.pl_build.specs.Segments.{dynamic_segment, first_load, readable, second_load}
 use Rattle.law_demo.specs.Accepted.{planned_dynamic, planned_heads, planned_linking, planned_object}
 use Rattle.law_demo.specs.Plain.{ArePlain, IsPlain}
@@ -130,7 +130,7 @@ record IsHeld (files : Files) (r : Recipe) (n : List ℕ) : Type 0 where
   ordinary : object.tls ≡ None
   spare : 4 ≤ object.spare
 
-needs_are : (r : Recipe) (t : Tables) (before : List Place) → (planned_object r t before).needed ≡ r.needs
+needs_are : (r : Recipe) (t : Tables) (before : List PlacedSection) → (planned_object r t before).needed ≡ r.needs
 unfolding planned_object object planned_linking
 needs_are r t before = refl
 
@@ -138,15 +138,15 @@ settings_stay : (r : Recipe) → (plan_of r).settings ≡ r.settings
 unfolding plan_of
 settings_stay r = refl
 
-spare_is : (r : Recipe) (t : Tables) (before : List Place) → (planned_object r t before).spare ≡ r.settings.spare
+spare_is : (r : Recipe) (t : Tables) (before : List PlacedSection) → (planned_object r t before).spare ≡ r.settings.spare
 unfolding planned_object object planned_dynamic
 spare_is r t before = ap (λ (s : Settings). s.spare) (settings_stay r)
 
-no_storage : (s : Settings) (tables_end : ℕ) (d : Place) → tls (shown true (first_load s tables_end) (second_load s tables_end) (dynamic_segment d)) ≡ None
+no_storage : (s : Settings) (tables_end : ℕ) (d : PlacedSection) → tls (shown true (first_load s tables_end) (second_load s tables_end) (dynamic_segment d)) ≡ None
 unfolding tls first_load second_load dynamic_segment readable
 no_storage s tables_end d = refl
 
-tls_is : (r : Recipe) (t : Tables) (before : List Place) → (planned_object r t before).tls ≡ tls (planned_segments (plan_of r) t)
+tls_is : (r : Recipe) (t : Tables) (before : List PlacedSection) → (planned_object r t before).tls ≡ tls (planned_segments (plan_of r) t)
 unfolding planned_object object planned_heads
 tls_is r t before = refl
 
@@ -159,7 +159,7 @@ held : (files : Files) (all : List (List ℕ)) (kind : FileKind) (n : List ℕ) 
 held files all kind n r h =
     let d = h.describing in
     let a = plain_accepted r h.bytes d.plain d.modest h.made in
-    let before : List Place = before_dynamic r a.2.extents in
+    let before : List PlacedSection = before_dynamic r a.2.extents in
     record {
       bytes = h.bytes;
       there = h.there;
@@ -175,14 +175,14 @@ held files all kind n r h =
     }
 
 -- its kind
-kind_library : (r : Recipe) (t : Tables) (before : List Place) → r.settings.kind ≡ Library → (planned_object r t before).kind ≡ kinds.Library
+kind_library : (r : Recipe) (t : Tables) (before : List PlacedSection) → r.settings.kind ≡ Library → (planned_object r t before).kind ≡ kinds.Library
 unfolding planned_object object planned_heads type_of
 kind_library r t before library =
     let e : (planned_header (plan_of r) t).kind ≡ type_of (plan_of r).settings = kind_is (plan_of r) t in
     let s : type_of (plan_of r).settings ≡ 3 = ap type_of (settings_stay r) ∙ ap (λ (k : FileKind). if is_position_independent k then 3 else 2) library in
     ap (λ (k : ℕ). if k == 2 then kinds.Program else kinds.Library) (e ∙ s)
 
-kind_program : (r : Recipe) (t : Tables) (before : List Place) → r.settings.kind ≡ Program → (planned_object r t before).kind ≡ kinds.Program
+kind_program : (r : Recipe) (t : Tables) (before : List PlacedSection) → r.settings.kind ≡ Program → (planned_object r t before).kind ≡ kinds.Program
 unfolding planned_object object planned_heads type_of
 kind_program r t before program =
     let e : (planned_header (plan_of r) t).kind ≡ type_of (plan_of r).settings = kind_is (plan_of r) t in
@@ -199,18 +199,18 @@ held_program files all n r h = let a = plain_accepted r h.bytes h.describing.pla
 
 -- ---- where it lies
 
-low_span : (s : Settings) (tables_end : ℕ) (d : Place) → ArePlain s → span (shown true (first_load s tables_end) (second_load s tables_end) (dynamic_segment d)) ≤ 67108864
+low_span : (s : Settings) (tables_end : ℕ) (d : PlacedSection) → ArePlain s → span (shown true (first_load s tables_end) (second_load s tables_end) (dynamic_segment d)) ≤ 67108864
 unfolding span last_load first_load second_load dynamic_segment readable
 low_span s tables_end d plain =
     let sum : plus s.data_size s.bss ≡ s.data_size + s.bss = plus_small s.data_size s.bss (omega (arith, plain.few_data, plain.few_bss)) in
     let near = round_up-near (data_address s + plus s.data_size s.bss) 4096 (omega arith) in
     omega (arith, sum, near, data_small s, plain.few_data, plain.few_bss)
 
-page_align : (s : Settings) (tables_end : ℕ) (d : Place) → align (shown true (first_load s tables_end) (second_load s tables_end) (dynamic_segment d)) ≡ 4096
+page_align : (s : Settings) (tables_end : ℕ) (d : PlacedSection) → align (shown true (first_load s tables_end) (second_load s tables_end) (dynamic_segment d)) ≡ 4096
 unfolding align first_load second_load dynamic_segment readable
 page_align s tables_end d = refl
 
-low_loads : (s : Settings) (tables_end : ℕ) (d : Place) → ArePlain s → tables_end ≤ 1048576 → AllByRecursion (λ x. x.vaddr + x.memsz ≤ 67108864) (loads (shown true (first_load s tables_end) (second_load s tables_end) (dynamic_segment d)))
+low_loads : (s : Settings) (tables_end : ℕ) (d : PlacedSection) → ArePlain s → tables_end ≤ 1048576 → AllByRecursion (λ x. x.vaddr + x.memsz ≤ 67108864) (loads (shown true (first_load s tables_end) (second_load s tables_end) (dynamic_segment d)))
 unfolding first_load second_load dynamic_segment readable
 low_loads s tables_end d plain le =
     let sum : plus s.data_size s.bss ≡ s.data_size + s.bss = plus_small s.data_size s.bss (omega (arith, plain.few_data, plain.few_bss)) in
@@ -222,11 +222,11 @@ record LiesLow (o : Object) : Type 0 where
   span : o.span ≤ 67108864
   loads : AllByRecursion (λ x. x.vaddr + x.memsz ≤ 67108864) (loads o.segments)
 
-lies_low : (r : Recipe) (t : Tables) (before : List Place) → IsDescribing r → tables (plan_of r) ≡ Ok t → LiesLow (planned_object r t before)
+lies_low : (r : Recipe) (t : Tables) (before : List PlacedSection) → IsDescribing r → tables (plan_of r) ≡ Ok t → LiesLow (planned_object r t before)
 unfolding planned_object object planned_heads
 lies_low r t before is e =
-    let p : Plan = plan_of r in
-    let d : Place = place_of t.places (codes ".dynamic") in
+    let p : LayoutPlan = plan_of r in
+    let d : PlacedSection = place_of t.places (codes ".dynamic") in
     let are = shown_by r t is.plain is.some_data e in
     let plain : ArePlain p.settings = plain_settings r is.plain in
     record {

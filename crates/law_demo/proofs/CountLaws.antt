@@ -18,10 +18,10 @@ use Rattle.pl_build.specs.declared.kind.FileKind.{FileKind}
 use Rattle.pl_build.specs.declared.kind.FileKind.TheVariants.{Library, Program}
 use Rattle.pl_build.specs.declared.layout.Tables.{Tables}
 use Rattle.pl_build.specs.declared.line.Relocation.{Relocation}
-use Rattle.pl_build.specs.declared.plan.Plan.{Plan}
+use Rattle.pl_build.specs.declared.layout_plan.LayoutPlan.{LayoutPlan}
 use Rattle.pl_build.specs.declared.recipe.Recipe.{Recipe}
-use Rattle.pl_build.specs.declared.roles.Place.{Place}
-use Rattle.pl_build.specs.Plan.{is_jump_slot, is_other, plan_of}
+use Rattle.pl_build.specs.declared.roles.PlacedSection.{PlacedSection}
+use Rattle.pl_build.specs.LayoutPlan.{is_jump_slot, is_other, plan_of}
 use Rattle.pl_build.specs.Relocations.{rela_of}
 use Rattle.law_demo.specs.Accepted.{planned_layout, planned_object}
 use Rattle.law_demo.specs.Relocs.{planned_relocs, planned_symbols, read_as}
@@ -51,11 +51,11 @@ filter_short q (x ∷ xs) = let rest = filter_short q xs in elim (cases_Bool (q 
   | inr miss ↦ rw miss (omega (arith, rest))
 ]
 
-read_long : (p : Plan) (rs : List Relocation) → length (read_as p rs) ≡ length rs
+read_long : (p : LayoutPlan) (rs : List Relocation) → length (read_as p rs) ≡ length rs
 unfolding read_as
 read_long p rs = length-map (map (rela_of p) rs) (reloc_of (planned_symbols p)) ∙ length-map rs (rela_of p)
 
-planned_few : (p : Plan) → length (planned_relocs p) ≤ 2 * length p.relocations
+planned_few : (p : LayoutPlan) → length (planned_relocs p) ≤ 2 * length p.relocations
 unfolding planned_relocs
 planned_few p =
     omega (
@@ -67,14 +67,14 @@ planned_few p =
       filter_short is_jump_slot p.relocations,
     )
 
-object_relocs : (r : Recipe) (t : Tables) (before : List Place) → (planned_object r t before).relocations ≡ planned_relocs (plan_of r)
+object_relocs : (r : Recipe) (t : Tables) (before : List PlacedSection) → (planned_object r t before).relocations ≡ planned_relocs (plan_of r)
 unfolding planned_object object planned_layout
 object_relocs r t before = refl
 
 abbrev IsFew : Object → Type 0
 IsFew o = length o.relocations ≤ 1024
 
-described_few : (r : Recipe) (t : Tables) (before : List Place) → length r.relocations ≤ 512 → IsFew (planned_object r t before)
+described_few : (r : Recipe) (t : Tables) (before : List PlacedSection) → length r.relocations ≤ 512 → IsFew (planned_object r t before)
 described_few r t before few = omega (arith, ap (λ (rs : List Reloc). length rs) (object_relocs r t before), planned_few (plan_of r), ap (λ (rs : List Relocation). length rs) (plan_relocations r), few)
 
 -- ---- of files

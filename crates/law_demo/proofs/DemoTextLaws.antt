@@ -15,13 +15,13 @@ use Rattle.pl_base.specs.Files as base
 use Rattle.pl_base.specs.Names.{is_valid_name}
 use Rattle.pl_base.proofs.AnswerLaws.{ok_same}
 use Rattle.pl_batch.specs.Folder.{named}
-use Rattle.pl_build.specs.Plan.{plan_of, is_jump_slot, is_other}
+use Rattle.pl_build.specs.LayoutPlan.{plan_of, is_jump_slot, is_other}
 use Rattle.pl_build.specs.Relocations.{rela_of}
 use Rattle.pl_build.specs.declared.layout.Tables.{Tables}
 use Rattle.pl_build.specs.declared.line.Relocation.{Relocation}
-use Rattle.pl_build.specs.declared.plan.Plan.{Plan}
+use Rattle.pl_build.specs.declared.layout_plan.LayoutPlan.{LayoutPlan}
 use Rattle.pl_build.specs.declared.recipe.Recipe.{Recipe}
-use Rattle.pl_build.specs.declared.roles.Place.{Place}
+use Rattle.pl_build.specs.declared.roles.PlacedSection.{PlacedSection}
 use Rattle.law_demo.specs.Accepted.{planned_layout, planned_object}
 use Rattle.law_demo.specs.Relocs.{planned_relocs, planned_symbols, read_as}
 use Rattle.law_demo.specs.Rows.{reloc_of}
@@ -106,14 +106,14 @@ texts_ordinary number = same_texts (λ name. text_of (load (folder number) name)
 
 -- ---- how many relocations a recipe has
 
-read_long : (p : Plan) (rs : List Relocation) → length (read_as p rs) ≡ length rs
+read_long : (p : LayoutPlan) (rs : List Relocation) → length (read_as p rs) ≡ length rs
 unfolding read_as
 read_long p rs = length-map (map (rela_of p) rs) (reloc_of (planned_symbols p)) ∙ length-map rs (rela_of p)
 
 planned_long : (r : Recipe) → length (planned_relocs (plan_of r)) ≡ length r.relocations
 unfolding planned_relocs plan_of
 planned_long r =
-    let p : Plan = plan_of r in
+    let p : LayoutPlan = plan_of r in
     let long : length (read_as p (filter is_other r.relocations) ++ read_as p (filter is_jump_slot r.relocations)) ≡ length r.relocations = omega (
       arith,
       length-append (read_as p (filter is_other r.relocations)) (read_as p (filter is_jump_slot r.relocations)),
@@ -123,7 +123,7 @@ planned_long r =
     ) in
     long
 
-object_long : (r : Recipe) (t : Tables) (before : List Place) → length (planned_object r t before).relocations ≡ length r.relocations
+object_long : (r : Recipe) (t : Tables) (before : List PlacedSection) → length (planned_object r t before).relocations ≡ length r.relocations
 unfolding planned_object planned_layout object
 object_long r t before = planned_long r
 
@@ -222,7 +222,7 @@ unfolding counts_of
 one_counts number n text r is valid there =
     let bare : IsBare is.bytes = plain_bare r is.bytes is.fine.plain is.fine.modest is.made in
     let k : IsKept number n is.bytes = kept_at number n is.bytes valid there bare.none in
-    let before : List Place = before_dynamic r is.accepted.extents in
+    let before : List PlacedSection = before_dynamic r is.accepted.extents in
     ap (λ (b : Bool). (if b then counts_in (stored (get (folder number) n)) else none).relocations) valid
     ∙ (ap (λ (o : Option (List ℕ)). (counts_in (stored o)).relocations) k.there
     ∙ (counts_by_mark k.file is.bytes (planned_object r is.t before) (marked_in k.file) refl (sym (own_of k.file) ∙ k.own) bare is.accepted.reads is.small

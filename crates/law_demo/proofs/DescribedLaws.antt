@@ -22,16 +22,16 @@ use Rattle.pl_ver.specs.Fields.{index_of as version_index}
 use Rattle.pl_value.specs.Copies.{is_in_load}
 use Rattle.pl_build.specs.declared.layout.Tables.{Tables}
 use Rattle.pl_build.specs.declared.line.Relocation.{Relocation}
-use Rattle.pl_build.specs.declared.line.Symbol.{Symbol}
-use Rattle.pl_build.specs.declared.plan.Plan.{Plan}
+use Rattle.pl_build.specs.declared.line.SymbolLine.{SymbolLine}
+use Rattle.pl_build.specs.declared.layout_plan.LayoutPlan.{LayoutPlan}
 use Rattle.pl_build.specs.declared.recipe.Recipe.{Recipe}
 use Rattle.pl_build.specs.declared.recipe.Settings.{Settings}
-use Rattle.pl_build.specs.declared.roles.Place.{Place}
+use Rattle.pl_build.specs.declared.roles.PlacedSection.{PlacedSection}
 use Rattle.pl_build.specs.declared.roles.Role.{Role}
 use Rattle.pl_build.specs.Choices.{chosen}
 use Rattle.pl_build.specs.Dynamic.{place_of}
 use Rattle.pl_build.specs.Layout.{end_of, tables}
-use Rattle.pl_build.specs.Plan.{data_address, is_jump_slot, is_other, plan_of}
+use Rattle.pl_build.specs.LayoutPlan.{data_address, is_jump_slot, is_other, plan_of}
 use Rattle.pl_build.specs.Relocations.{is_written_as, rela_of}
 use Rattle.pl_build.specs.Roles.{index_of, section_name}
 use Rattle.pl_build.specs.Segments.{dynamic_segment, first_load, has_data, second_load}
@@ -178,7 +178,7 @@ below_from : (a b : ℕ) → nat_lt a b ≡ true → a < b
 below_from a b h = grind (arith, nat_tests)
 
 -- a plan of a plain recipe
-record IsOfPlain (p : Plan) : Type 0 where
+record IsOfPlain (p : LayoutPlan) : Type 0 where
   settings : ArePlain p.settings
   few : length p.roles ≤ 11
   in_data : 0 < index_of p.roles (codes ".data")
@@ -192,7 +192,7 @@ plan_plain r plain = record {
   bss = subst (λ (l : List Role). 0 < index_of l (codes ".bss")) (sym (roles_plain r plain)) (below_from 0 _ (bss_shapes _ _ _ _));
 }
 
-section_placed : (p : Plan) (x : Symbol) → IsOfPlain p → IsOwn p.settings x → (0 < section_of p x) × (section_of p x ≤ 11)
+section_placed : (p : LayoutPlan) (x : SymbolLine) → IsOfPlain p → IsOwn p.settings x → (0 < section_of p x) × (section_of p x ≤ 11)
 unfolding section_of
 section_placed p x plain own =
     let none : (x.kind == 0) ≡ false = elim own.kind [ inl one ↦ ap (λ (k : ℕ). k == 0) one | inr two ↦ ap (λ (k : ℕ). k == 0) two ] in
@@ -201,7 +201,7 @@ section_placed p x plain own =
       | inr second ↦ rw second (plain.bss, omega (arith, index_small p.roles (codes ".bss"), plain.few))
     ])
 
-value_placed : (p : Plan) (x : Symbol) → IsOfPlain p → IsOwn p.settings x → value_of p x ≡ data_address p.settings + x.offset
+value_placed : (p : LayoutPlan) (x : SymbolLine) → IsOfPlain p → IsOwn p.settings x → value_of p x ≡ data_address p.settings + x.offset
 unfolding value_of
 value_placed p x plain own =
     let none : (x.kind == 0) ≡ false = elim own.kind [ inl one ↦ ap (λ (k : ℕ). k == 0) one | inr two ↦ ap (λ (k : ℕ). k == 0) two ] in
@@ -213,7 +213,7 @@ address_some : (s : Settings) → 0 < data_address s
 unfolding data_address
 address_some s = omega arith
 
-own_placed : (p : Plan) (x : Symbol) → IsOfPlain p → x.visibility ≡ 0 → IsOwn p.settings x → IsPlaced (planned_symbol p x)
+own_placed : (p : LayoutPlan) (x : SymbolLine) → IsOfPlain p → x.visibility ≡ 0 → IsOwn p.settings x → IsPlaced (planned_symbol p x)
 unfolding planned_symbol
 own_placed p x plain visible own =
     let section = section_placed p x plain own in
@@ -238,7 +238,7 @@ second_holds s tables_end value size offset plain is within =
     at_most : (a b : ℕ) → a ≤ b → nat_le a b ≡ true
     at_most a b le = grind (arith, nat_tests)
 
-own_loaded : (p : Plan) (t : Tables) (x : Symbol) (d : Place) → IsOfPlain p → x.visibility ≡ 0 → IsOwn p.settings x → planned_segments p t ≡ shown true (first_load p.settings (end_of t)) (second_load p.settings (end_of t)) (dynamic_segment d) → IsLoaded (planned_segments p t) (planned_symbol p x)
+own_loaded : (p : LayoutPlan) (t : Tables) (x : SymbolLine) (d : PlacedSection) → IsOfPlain p → x.visibility ≡ 0 → IsOwn p.settings x → planned_segments p t ≡ shown true (first_load p.settings (end_of t)) (second_load p.settings (end_of t)) (dynamic_segment d) → IsLoaded (planned_segments p t) (planned_symbol p x)
 unfolding planned_symbol
 own_loaded p t x d plain visible own are =
     let placed = own_placed p x plain visible own in
@@ -251,14 +251,14 @@ own_loaded p t x d plain visible own are =
           (or_right (is_in_load (value_of p x) x.size (first_load p.settings (end_of t))) (is_in_load (value_of p x) x.size second || (is_in_load (value_of p x) x.size (dynamic_segment d) || false)) (rw hit refl));
     }
 
-weak_loose : (p : Plan) (x : Symbol) → IsWeakReference x → IsLoose (planned_symbol p x)
+weak_loose : (p : LayoutPlan) (x : SymbolLine) → IsWeakReference x → IsLoose (planned_symbol p x)
 unfolding planned_symbol section_of value_of
 weak_loose p x weak = record { section = rw weak.undefined refl; value = rw weak.unplaced refl }
 
 unversioned_is : version_index 1 ≡ 1
 unversioned_is = refl
 
-symbol_settled : (p : Plan) (t : Tables) (x : Symbol) (d : Place) → IsOfPlain p → planned_segments p t ≡ shown true (first_load p.settings (end_of t)) (second_load p.settings (end_of t)) (dynamic_segment d) → IsModestSymbol p.settings x → IsSettledSymbol (planned_segments p t) (planned_symbol p x)
+symbol_settled : (p : LayoutPlan) (t : Tables) (x : SymbolLine) (d : PlacedSection) → IsOfPlain p → planned_segments p t ≡ shown true (first_load p.settings (end_of t)) (second_load p.settings (end_of t)) (dynamic_segment d) → IsModestSymbol p.settings x → IsSettledSymbol (planned_segments p t) (planned_symbol p x)
 unfolding planned_symbol
 symbol_settled p t x d plain are modest = elim modest.form [
   | inl own ↦ record { ordinary = not_local_storage (planned_symbol p x) own.kind; unversioned = unversioned_is; form = inl (own_loaded p t x d plain modest.visibility own are) }
@@ -300,7 +300,7 @@ IsReloc r o x = ChangesWord o x ⊎ CopiesNamed r o x
 record IsKnown (r : Recipe) (o : Object) : Type 0 where
   few : length (plan_of r).symbols + 1 < 2 ^ 32
   symbols : o.symbols ≡ null_symbol ∷ map (planned_symbol (plan_of r)) (plan_of r).symbols
-  loaded : (x : Symbol) → IsModestSymbol (plan_of r).settings x → IsOwn (plan_of r).settings x → IsLoaded o.segments (planned_symbol (plan_of r) x)
+  loaded : (x : SymbolLine) → IsModestSymbol (plan_of r).settings x → IsOwn (plan_of r).settings x → IsLoaded o.segments (planned_symbol (plan_of r) x)
   modest : AllByRecursion (IsModestSymbol (plan_of r).settings) (plan_of r).symbols
   spelled : AllByRecursion IsSpelled (plan_of r).symbols
 
@@ -330,15 +330,15 @@ word_changes r o x known word = record {
 }
 
 -- the symbol of a copy has bytes, so it is defined
-copied_own : (s : Settings) (x : Symbol) → IsModestSymbol s x → x.size ≡ 8 → IsOwn s x
+copied_own : (s : Settings) (x : SymbolLine) → IsModestSymbol s x → x.size ≡ 8 → IsOwn s x
 copied_own s x modest size = elim modest.form [ inl own ↦ own | inr weak ↦ absurd (omega (arith, size, weak.size)) ]
 
 copy_copies : (r : Recipe) (o : Object) (x : Relocation) → IsPlain r → IsKnown r o → IsCounted r x → CopiesWord r x → CopiesNamed r o (reloc_of (planned_symbols (plan_of r)) (rela_of (plan_of r) x))
 unfolding reloc_of rela_of planned_symbol
 copy_copies r o x plain known counted copy =
-    let p : Plan = plan_of r in
+    let p : LayoutPlan = plan_of r in
     let there : IsThere (is_written_as x.name) p.symbols = copied r x plain copy in
-    let s : Symbol = get_or p.symbols there.index nobody in
+    let s : SymbolLine = get_or p.symbols there.index nobody in
     let modest : IsModestSymbol p.settings s = all_at (IsModestSymbol p.settings) p.symbols there.index nobody there.within known.modest in
     let written : s.written ≡ x.name = (bytes_eq-Decides s.written x.name).0 there.passes in
     let spelled : s.written ≡ s.name = all_at IsSpelled p.symbols there.index nobody there.within known.spelled in
@@ -367,7 +367,7 @@ read_are r o (x ∷ xs) plain known all = (reloc_is r o plain known x all.0, rea
 relocs_are : (r : Recipe) (o : Object) → IsPlain r → IsModest r → IsKnown r o → AllByRecursion (IsReloc r o) (planned_relocs (plan_of r))
 unfolding planned_relocs
 relocs_are r o plain modest known =
-    let p : Plan = plan_of r in
+    let p : LayoutPlan = plan_of r in
     let all = all_counted r modest in
     all_both (IsReloc r o) (read_as p (filter is_other p.relocations)) (read_as p (filter is_jump_slot p.relocations))
     (read_are r o (filter is_other p.relocations) plain known (all_kept (IsCounted r) is_other p.relocations all)) (read_are r o (filter is_jump_slot p.relocations) plain known (all_kept (IsCounted r) is_jump_slot p.relocations all))
@@ -377,9 +377,9 @@ relocs_are r o plain modest known =
 definer_of : (r : Recipe) (o : Object) (name : List ℕ) → IsPlain r → IsKnown r o → list_any (defines_name name) r.symbols ≡ true → HasDefinition o name
 unfolding planned_symbol
 definer_of r o name plain known hit =
-    let p : Plan = plan_of r in
-    let there : IsThere (defines_name name) p.symbols = position_there (defines_name name) p.symbols (subst (λ (ss : List Symbol). list_any (defines_name name) ss ≡ true) (sym (plan_symbols r)) (any_ordered (defines_name name) r.settings r.symbols plain.settings.some_buckets hit)) in
-    let s : Symbol = get_or p.symbols there.index nobody in
+    let p : LayoutPlan = plan_of r in
+    let there : IsThere (defines_name name) p.symbols = position_there (defines_name name) p.symbols (subst (λ (ss : List SymbolLine). list_any (defines_name name) ss ≡ true) (sym (plan_symbols r)) (any_ordered (defines_name name) r.settings r.symbols plain.settings.some_buckets hit)) in
+    let s : SymbolLine = get_or p.symbols there.index nobody in
     let parts = and_parts s.defined (bytes_eq s.name name) there.passes in
     let modest : IsModestSymbol p.settings s = all_at (IsModestSymbol p.settings) p.symbols there.index nobody there.within known.modest in
     let own : IsOwn p.settings s = elim modest.form [ inl is ↦ is | inr weak ↦ absurd (false≢true (sym weak.undefined ∙ parts.0)) ] in
@@ -407,9 +407,9 @@ settings_stay r = refl
 pub shown_by : (r : Recipe) (t : Tables) → IsPlain r → 0 < r.settings.data_size → tables (plan_of r) ≡ Ok t
     → planned_segments (plan_of r) t ≡ shown true (first_load (plan_of r).settings (end_of t)) (second_load (plan_of r).settings (end_of t)) (dynamic_segment (place_of t.places (codes ".dynamic")))
 shown_by r t plain some e =
-    let p : Plan = plan_of r in
+    let p : LayoutPlan = plan_of r in
     let laid = laid_tables p t e in
-    let d : Place = place_of t.places (codes ".dynamic") in
+    let d : PlacedSection = place_of t.places (codes ".dynamic") in
     let there : IsTable (end_of t) d = found_place (IsTable (end_of t)) (codes ".dynamic") t.places laid.1 (dynamic_there r t plain e) in
     segments_shown p t (plain_settings r plain) (there_is d there.some)
     ∙ ap (λ (b : Bool). shown b (first_load p.settings (end_of t)) (second_load p.settings (end_of t)) (dynamic_segment d)) (data_there p.settings (subst (λ (s : Settings). 0 < s.data_size) (sym (settings_stay r)) some))
@@ -417,12 +417,12 @@ shown_by r t plain some e =
 few_all : (r : Recipe) → IsPlain r → length r.symbols ≤ 512 → length (plan_of r).symbols + 1 < 2 ^ 32
 few_all r plain few =
     let same = length_permutation r.symbols (ordered r.settings r.symbols) (ordered_permutes r.settings r.symbols plain.settings.some_buckets) in
-    omega (arith, ap (λ (ss : List Symbol). length ss) (plan_symbols r), same, few)
+    omega (arith, ap (λ (ss : List SymbolLine). length ss) (plan_symbols r), same, few)
 
-known_of : (r : Recipe) (t : Tables) (before : List Place) → IsDescribing r → tables (plan_of r) ≡ Ok t → IsKnown r (planned_object r t before)
+known_of : (r : Recipe) (t : Tables) (before : List PlacedSection) → IsDescribing r → tables (plan_of r) ≡ Ok t → IsKnown r (planned_object r t before)
 unfolding planned_object object planned_heads planned_linking
 known_of r t before is e =
-    let p : Plan = plan_of r in
+    let p : LayoutPlan = plan_of r in
     let own : IsOfPlain p = plan_plain r is.plain in
     record {
       few = few_all r is.plain is.bounded.symbols;
@@ -432,17 +432,17 @@ known_of r t before is e =
       spelled = subst (AllByRecursion IsSpelled) (sym (plan_symbols r)) (all_ordered IsSpelled r.settings r.symbols is.spelled);
     }
 
-symbols_of : (r : Recipe) (t : Tables) (before : List Place) → IsDescribing r → tables (plan_of r) ≡ Ok t → IsKnown r (planned_object r t before) → HasSettledSymbols (planned_object r t before)
+symbols_of : (r : Recipe) (t : Tables) (before : List PlacedSection) → IsDescribing r → tables (plan_of r) ≡ Ok t → IsKnown r (planned_object r t before) → HasSettledSymbols (planned_object r t before)
 unfolding planned_object object planned_heads planned_linking
 symbols_of r t before is e known =
-    let p : Plan = plan_of r in
+    let p : LayoutPlan = plan_of r in
     record {
       null = λ s at. (let here : ◌≡◌ {A = Option read.Symbol} (Some null_symbol) (Some s) = at in let same : null_symbol ≡ s = cc in subst IsNull same (record { ordinary = null_ordinary; nothing = null_nothing }));
       each = λ k s at. all_get (IsSettledSymbol (planned_segments p t)) (map (planned_symbol p) p.symbols) k s
           (all_mapped (IsModestSymbol p.settings) (IsSettledSymbol (planned_segments p t)) (planned_symbol p) (λ x modest. symbol_settled p t x (place_of t.places (codes ".dynamic")) (plan_plain r is.plain) (shown_by r t is.plain is.some_data e) modest) p.symbols known.modest) at;
     }
 
-relocs_of : (r : Recipe) (t : Tables) (before : List Place) → (planned_object r t before).relocations ≡ planned_relocs (plan_of r)
+relocs_of : (r : Recipe) (t : Tables) (before : List PlacedSection) → (planned_object r t before).relocations ≡ planned_relocs (plan_of r)
 unfolding planned_object object planned_layout
 relocs_of r t before = refl
 

@@ -5,14 +5,14 @@ use Rattle.pl_base.proofs.SumLaws.{round_up-near}
 use Rattle.pl_build.specs.declared.layout.Tables.{Tables}
 use Rattle.pl_build.specs.declared.line.Line.{Line}
 use Rattle.pl_build.specs.declared.line.Line.TheVariants.{Empty}
-use Rattle.pl_build.specs.declared.plan.Plan.{Plan}
+use Rattle.pl_build.specs.declared.layout_plan.LayoutPlan.{LayoutPlan}
 use Rattle.pl_build.specs.declared.recipe.Recipe.{Recipe}
 use Rattle.pl_build.specs.declared.recipe.Settings.{Settings}
 use Rattle.pl_build.specs.Build.{build, made_of}
 use Rattle.pl_build.specs.Checks.{first_fault}
 use Rattle.pl_build.specs.File.{made, parts_end, sections_offset}
 use Rattle.pl_build.specs.Layout.{end_of}
-use Rattle.pl_build.specs.Plan.{plan_of}
+use Rattle.pl_build.specs.LayoutPlan.{plan_of}
 use Rattle.pl_build.specs.Segments.{data_offset}
 use Rattle.pl_build.specs.Recipe.{gathered}
 use Rattle.pl_gen.specs.Draws.{at}
@@ -67,7 +67,7 @@ plan_settings r = refl
 file_small : (r : Recipe) (bytes : List ℕ) → IsFine r → r.settings.data_size ≤ 2 ^ 16 → made (plan_of r) ≡ Ok bytes → length bytes ≤ 2 ^ 21
 unfolding sections_offset parts_end
 file_small r bytes fine few e =
-    let p : Plan = plan_of r in
+    let p : LayoutPlan = plan_of r in
     let f = made_is p bytes e in
     let t : Tables = f.0 in
     let ends : end_of t ≤ 1048576 = (laid_tables p t f.1).0 in

@@ -19,20 +19,20 @@ use Rattle.pl_build.specs.declared.checks.Fault.{Fault}
 use Rattle.pl_build.specs.declared.fields.Field.{Field}
 use Rattle.pl_build.specs.declared.layout.Tables.{Tables}
 use Rattle.pl_build.specs.declared.line.DataWord.{DataWord}
-use Rattle.pl_build.specs.declared.plan.Plan.{Plan}
+use Rattle.pl_build.specs.declared.layout_plan.LayoutPlan.{LayoutPlan}
 use Rattle.pl_build.specs.declared.recipe.Settings.{Settings}
 use Rattle.pl_build.specs.declared.sections.SectionRow.{SectionRow}
-use Rattle.pl_build.specs.declared.strings.Strings.{Strings}
+use Rattle.pl_build.specs.declared.string_table.StringTable.{StringTable}
 use Rattle.pl_build.specs.Data.{data_bytes, word_put}
 use Rattle.pl_build.specs.Dynamic.{place_of}
 use Rattle.pl_build.specs.Fields.{field_bytes, fields}
 use Rattle.pl_build.specs.File.{ident, first_header_fields, last_header_fields, header_bytes, interp_of, front, up_to_data, file_of, parts_end, sections_offset, file_end, limited, made}
 use Rattle.pl_build.specs.Layout.{filled_to, end_of, tables, too_large}
-use Rattle.pl_build.specs.Plan.{has_interp}
+use Rattle.pl_build.specs.LayoutPlan.{has_interp}
 use Rattle.pl_build.specs.Roles.{index_of}
-use Rattle.pl_build.specs.Sections.{first_fields, last_fields, section_bytes}
+use Rattle.pl_build.specs.Sections.{first_fields, last_fields, section_row_bytes}
 use Rattle.pl_build.specs.Segments.{segments, data_offset}
-use Rattle.pl_build.specs.Strings.{section_names}
+use Rattle.pl_build.specs.StringTable.{section_names}
 use Rattle.pl_build.proofs.SegmentLaws.{few_segments}
 use Rattle.law_demo.specs.Planned.{header_of, section_of, planned_segments}
 use Rattle.law_demo.specs.Files.{FilesHoldTables}
@@ -42,18 +42,18 @@ use Rattle.law_demo.proofs.BackLaws.{Begins, begins_itself, begins_more, begins_
 
 -- ---- the bytes of rows are those that pl_elf writes
 
-pub header_written_as : (p : Plan) (phnum shoff : ℕ) → header_bytes p phnum shoff ≡ written.header_bytes (header_of p phnum shoff)
+pub header_written_as : (p : LayoutPlan) (phnum shoff : ℕ) → header_bytes p phnum shoff ≡ written.header_bytes (header_of p phnum shoff)
 unfolding header_bytes header_of written.header_bytes fields bytes16 bytes32 bytes64
 header_written_as p phnum shoff =
     let last : List Field = last_header_fields phnum (length p.roles) (index_of p.roles (codes ".shstrtab")) in
     append_assoc (flat_map field_bytes ident) (flat_map field_bytes (first_header_fields p.settings shoff)) (flat_map field_bytes last)
     ∙ ap (λ (l : List ℕ). flat_map field_bytes ident ++ l) (sym (flat_map-append field_bytes (first_header_fields p.settings shoff) last))
 
-pub section_written_as : (s : SectionRow) → section_bytes s ≡ written.section_bytes (section_of s)
-unfolding section_bytes section_of written.section_bytes fields bytes32 bytes64
+pub section_written_as : (s : SectionRow) → section_row_bytes s ≡ written.section_header_bytes (section_of s)
+unfolding section_row_bytes section_of written.section_header_bytes fields bytes32 bytes64
 section_written_as s = sym (flat_map-append field_bytes (first_fields s) (last_fields s))
 
-pub sections_written_as : (rows : List SectionRow) → flat_map section_bytes rows ≡ flat_map written.section_bytes (map section_of rows)
+pub sections_written_as : (rows : List SectionRow) → flat_map section_row_bytes rows ≡ flat_map written.section_header_bytes (map section_of rows)
 sections_written_as [] = refl
 sections_written_as (s ∷ rows) = rw (section_written_as s, sections_written_as rows) refl
 
@@ -85,7 +85,7 @@ pub data_long : (size : ℕ) (words : List DataWord) → length (data_bytes size
 unfolding data_bytes
 data_long size words = words_kept (replicate size 0) words ∙ length-replicate {A = ℕ} size 0
 
-pub header_long : (p : Plan) (phnum shoff : ℕ) → length (header_bytes p phnum shoff) ≡ 64
+pub header_long : (p : LayoutPlan) (phnum shoff : ℕ) → length (header_bytes p phnum shoff) ≡ 64
 unfolding header_bytes fields
 header_long p phnum shoff = refl
 
@@ -99,66 +99,66 @@ interp_small s = elim (cases_Bool (has_interp s)) [
   | inr missing ↦ rw missing (omega arith)
 ]
 
-pub few : (p : Plan) (t : Tables) → length (planned_segments p t) ≤ 7
+pub few : (p : LayoutPlan) (t : Tables) → length (planned_segments p t) ≤ 7
 unfolding planned_segments segments
 few p t = few_segments p.settings (end_of t) (place_of t.places (codes ".dynamic")) _
 
 -- the header and the program header table
-abbrev pub heads : Plan → Tables → ℕ → List ℕ
+abbrev pub heads : LayoutPlan → Tables → ℕ → List ℕ
 heads p t shoff = header_bytes p (length (planned_segments p t)) shoff ++ flat_map written.segment_bytes (planned_segments p t)
 
-heads_small : (p : Plan) (t : Tables) (shoff : ℕ) → length (heads p t shoff) ≤ 512
+heads_small : (p : LayoutPlan) (t : Tables) (shoff : ℕ) → length (heads p t shoff) ≤ 512
 heads_small p t shoff =
     omega (arith, length-append (header_bytes p (length (planned_segments p t)) shoff) (flat_map written.segment_bytes (planned_segments p t)), header_long p (length (planned_segments p t)) shoff, segments_long (planned_segments p t), few p t)
 
-front_small : (p : Plan) (t : Tables) (shoff : ℕ) → length (front p t (end_of t) shoff) ≤ 1024
+front_small : (p : LayoutPlan) (t : Tables) (shoff : ℕ) → length (front p t (end_of t) shoff) ≤ 1024
 unfolding front planned_segments
 front_small p t shoff =
     omega (arith, length-append (filled_to 512 (heads p t shoff)) (interp_of p.settings), filled_long 512 (heads p t shoff) (heads_small p t shoff), interp_small p.settings)
 
 -- what precedes the tables
-abbrev pub before_tables : Plan → Tables → ℕ → List ℕ
+abbrev pub before_tables : LayoutPlan → Tables → ℕ → List ℕ
 before_tables p t shoff = filled_to 1024 (front p t (end_of t) shoff)
 
-pub before_long : (p : Plan) (t : Tables) (shoff : ℕ) → length (before_tables p t shoff) ≡ 1024
+pub before_long : (p : LayoutPlan) (t : Tables) (shoff : ℕ) → length (before_tables p t shoff) ≡ 1024
 before_long p t shoff = filled_long 1024 (front p t (end_of t) shoff) (front_small p t shoff)
 
-pub data_after : (p : Plan) (t : Tables) (shoff : ℕ) → length (up_to_data p t (end_of t) shoff) ≡ data_offset (end_of t)
+pub data_after : (p : LayoutPlan) (t : Tables) (shoff : ℕ) → length (up_to_data p t (end_of t) shoff) ≡ data_offset (end_of t)
 unfolding up_to_data
 data_after p t shoff =
     filled_long (data_offset (end_of t)) (before_tables p t shoff ++ t.bytes) (omega (arith, length-append (before_tables p t shoff) t.bytes, before_long p t shoff, round_up-at_least (end_of t) 4096 (omega arith)))
 
 -- ---- what the file begins with
 
-pub begins_before : (p : Plan) (t : Tables) (shoff : ℕ) → Begins (heads p t shoff) (before_tables p t shoff)
+pub begins_before : (p : LayoutPlan) (t : Tables) (shoff : ℕ) → Begins (heads p t shoff) (before_tables p t shoff)
 unfolding front planned_segments
 begins_before p t shoff =
     begins_filled (heads p t shoff) (front p t (end_of t) shoff) 1024 (begins_more (heads p t shoff) (filled_to 512 (heads p t shoff)) (interp_of p.settings) (begins_filled (heads p t shoff) (heads p t shoff) 512 (begins_itself (heads p t shoff))))
 
-abbrev pub names_of : Plan → Strings
+abbrev pub names_of : LayoutPlan → StringTable
 names_of p = section_names p.roles
 
 -- the file of a plan whose tables are these
-abbrev pub file_by : Plan → Tables → List ℕ
+abbrev pub file_by : LayoutPlan → Tables → List ℕ
 file_by p t = file_of p t (end_of t) (names_of p) (sections_offset p (end_of t) (names_of p))
 
 -- the parts up to the names of the sections
-abbrev pub parts_by : Plan → Tables → ℕ → List ℕ
+abbrev pub parts_by : LayoutPlan → Tables → ℕ → List ℕ
 parts_by p t shoff = up_to_data p t (end_of t) shoff ++ data_bytes p.settings.data_size p.words ++ (names_of p).bytes
 
-pub parts_long : (p : Plan) (t : Tables) (shoff : ℕ) → length (parts_by p t shoff) ≡ parts_end p (end_of t) (names_of p)
+pub parts_long : (p : LayoutPlan) (t : Tables) (shoff : ℕ) → length (parts_by p t shoff) ≡ parts_end p (end_of t) (names_of p)
 unfolding parts_end
 parts_long p t shoff =
     omega (arith, length-append (up_to_data p t (end_of t) shoff ++ data_bytes p.settings.data_size p.words) (names_of p).bytes, length-append (up_to_data p t (end_of t) shoff) (data_bytes p.settings.data_size p.words), data_long p.settings.data_size p.words, data_after p t shoff)
 
-pub begins_parts : (p : Plan) (t : Tables) → Begins (parts_by p t (sections_offset p (end_of t) (names_of p))) (file_by p t)
+pub begins_parts : (p : LayoutPlan) (t : Tables) → Begins (parts_by p t (sections_offset p (end_of t) (names_of p))) (file_by p t)
 unfolding file_of
 begins_parts p t =
     let shoff : ℕ = sections_offset p (end_of t) (names_of p) in
     let parts : List ℕ = parts_by p t shoff in
     begins_more parts (filled_to shoff parts) _ (begins_filled parts parts shoff (begins_itself parts))
 
-pub begins_tables : (p : Plan) (t : Tables) → Begins (before_tables p t (sections_offset p (end_of t) (names_of p)) ++ t.bytes) (file_by p t)
+pub begins_tables : (p : LayoutPlan) (t : Tables) → Begins (before_tables p t (sections_offset p (end_of t) (names_of p)) ++ t.bytes) (file_by p t)
 unfolding up_to_data
 begins_tables p t =
     let shoff : ℕ = sections_offset p (end_of t) (names_of p) in
@@ -169,7 +169,7 @@ begins_tables p t =
     (begins_filled first first (data_offset (end_of t)) (begins_itself first))))
     (begins_parts p t)
 
-pub begins_heads : (p : Plan) (t : Tables) → Begins (heads p t (sections_offset p (end_of t) (names_of p))) (file_by p t)
+pub begins_heads : (p : LayoutPlan) (t : Tables) → Begins (heads p t (sections_offset p (end_of t) (names_of p))) (file_by p t)
 begins_heads p t =
     let shoff : ℕ = sections_offset p (end_of t) (names_of p) in
     begins_through (heads p t shoff) (before_tables p t shoff ++ t.bytes) (file_by p t)
@@ -177,7 +177,7 @@ begins_heads p t =
     (begins_tables p t)
 
 -- the section header table stands last
-pub shoff_long : (p : Plan) (t : Tables) → length (filled_to (sections_offset p (end_of t) (names_of p)) (parts_by p t (sections_offset p (end_of t) (names_of p)))) ≡ sections_offset p (end_of t) (names_of p)
+pub shoff_long : (p : LayoutPlan) (t : Tables) → length (filled_to (sections_offset p (end_of t) (names_of p)) (parts_by p t (sections_offset p (end_of t) (names_of p)))) ≡ sections_offset p (end_of t) (names_of p)
 unfolding sections_offset
 shoff_long p t =
     filled_long (sections_offset p (end_of t) (names_of p)) (parts_by p t (sections_offset p (end_of t) (names_of p)))
@@ -185,14 +185,14 @@ shoff_long p t =
 
 -- ---- what was made
 
-limited_is : (p : Plan) (t : Tables) (bytes : List ℕ) → limited p (names_of p) t ≡ Ok bytes → (bytes ≡ file_by p t) × (file_end p (end_of t) (names_of p) ≤ 16777216)
+limited_is : (p : LayoutPlan) (t : Tables) (bytes : List ℕ) → limited p (names_of p) t ≡ Ok bytes → (bytes ≡ file_by p t) × (file_end p (end_of t) (names_of p) ≤ 16777216)
 unfolding limited
 limited_is p t bytes is = elim (cases_Bool (nat_lt 16777216 (file_end p (end_of t) (names_of p)))) [
   | inl over ↦ let no : ◌≡◌ {A = Result (List ℕ) Fault} (Err too_large) (Ok bytes) = rw over at is in cc
   | inr fits ↦ (sym (ok_same (file_by p t) bytes (rw fits at is)), grind (arith, nat_tests))
 ]
 
-pub made_is : (p : Plan) (bytes : List ℕ) → made p ≡ Ok bytes → (t : Tables) × (tables p ≡ Ok t) × (bytes ≡ file_by p t) × (file_end p (end_of t) (names_of p) ≤ 16777216)
+pub made_is : (p : LayoutPlan) (bytes : List ℕ) → made p ≡ Ok bytes → (t : Tables) × (tables p ≡ Ok t) × (bytes ≡ file_by p t) × (file_end p (end_of t) (names_of p) ≤ 16777216)
 unfolding made
 made_is p bytes e =
     let step = bind_ok (tables p) (limited p (names_of p)) bytes e in

@@ -11,23 +11,23 @@ use Rattle.std.proofs.lemmas.Slice.Eq.{bytes_eq-Decides}
 use Rattle.std.proofs.Math.Nat.{mod-lt}
 use Rattle.pl_base.specs.Pairs.{any_pair}
 use Rattle.pl_build.specs.declared.line.Relocation.{Relocation}
-use Rattle.pl_build.specs.declared.line.Symbol.{Symbol}
+use Rattle.pl_build.specs.declared.line.SymbolLine.{SymbolLine}
 use Rattle.pl_build.specs.declared.recipe.Recipe.{Recipe}
 use Rattle.pl_build.specs.declared.recipe.Settings.{Settings}
-use Rattle.pl_build.specs.Plan.{addend_of}
+use Rattle.pl_build.specs.LayoutPlan.{addend_of}
 use Rattle.pl_build.specs.RelocationLines.{is_no_symbol}
 use Rattle.pl_build.specs.Relocations.{is_written_as}
 use Rattle.pl_gen.specs.Draws.{at}
 use Rattle.pl_gen.specs.Lines.{library_name, function_name, object_name, has, kind_of, known_after}
 use Rattle.pl_gen.specs.Set.{functions, needed}
-use Rattle.pl_gen.specs.declared.kind.Kind.{Kind}
-use Rattle.pl_gen.specs.declared.kind.Kind.TheVariants.{Relative, Abs64, GlobDat, JumpSlot}
+use Rattle.pl_gen.specs.declared.relocation_kind.RelocationKind.{RelocationKind}
+use Rattle.pl_gen.specs.declared.relocation_kind.RelocationKind.TheVariants.{Relative, Abs64, GlobDat, JumpSlot}
 use Rattle.pl_sym.specs.declared.constants.TheConstants.{STT_FUNC}
 use Rattle.law_demo.specs.Modest.{IsModestSymbol, IsModestRelocation, IsValidName, IsWord, is_at_place_of, is_namesake}
 use Rattle.law_demo.specs.Plain.{IsUnversioned}
 use Rattle.law_demo.specs.SetRead.{IsFine}
 use Rattle.law_demo.specs.SetRecipes.{copy_of, library_of, library_words, needed_names, once, own_functions, own_object, program_of, program_words, reference, references, relocation_of, relocations_from}
-use Rattle.law_demo.specs.Spelled.{defined, referred, relocated}
+use Rattle.law_demo.specs.Spelled.{defined, referred, recipe_relocation}
 use Rattle.law_demo.proofs.NameLaws.{function_apart, function_off, function_plain, library_plain, object_apart, object_plain}
 
 -- ---- lists
@@ -105,13 +105,13 @@ abbrev IsSmall : ℕ → Type 0
 IsSmall n = n < 1000
 
 -- a symbol has the name of a function whose number is among numbers
-record IsAmong (among : List ℕ) (x : Symbol) : Type 0 where
+record IsAmong (among : List ℕ) (x : SymbolLine) : Type 0 where
   number : ℕ
   name : x.name ≡ function_name number
   small : number < 1000
   there : has among number ≡ true
 
-among_more : (xs ys : List ℕ) (x : Symbol) → IsAmong xs x → IsAmong (xs ++ ys) x
+among_more : (xs ys : List ℕ) (x : SymbolLine) → IsAmong xs x → IsAmong (xs ++ ys) x
 among_more xs ys x is = record { number = is.number; name = is.name; small = is.small; there = has_front xs ys is.number is.there }
 
 names_apart : (a b : List ℕ) (m n : ℕ) (among : List ℕ) → a ≡ function_name m → b ≡ function_name n → m < 1000 → n < 1000 → has among m ≡ true → has among n ≡ false → bytes_eq a b ≡ false
@@ -125,12 +125,12 @@ names_apart a b m n among ea eb lm ln there missing = rw (ea, eb) (function_apar
     differ false e = refl
 
 -- a symbol more, under the name of a function that is not among those before
-once_avoided : (x y : Symbol) (before : List ℕ) (n : ℕ) → IsAmong before x → n < 1000 → y.name ≡ function_name n → list_any (is_namesake x) (once before n y) ≡ false
+once_avoided : (x y : SymbolLine) (before : List ℕ) (n : ℕ) → IsAmong before x → n < 1000 → y.name ≡ function_name n → list_any (is_namesake x) (once before n y) ≡ false
 once_avoided x y before n is small named = once_none (is_namesake x) before n y (λ miss. names_apart x.name y.name is.number n before is.name named is.small small is.there miss)
 
 -- ---- the functions that a library defines
 
-own_avoided : (x : Symbol) (before : List ℕ) (offset : ℕ) (numbers : List ℕ) → IsAmong before x → AllByRecursion IsSmall numbers → list_any (is_namesake x) (own_functions before offset numbers) ≡ false
+own_avoided : (x : SymbolLine) (before : List ℕ) (offset : ℕ) (numbers : List ℕ) → IsAmong before x → AllByRecursion IsSmall numbers → list_any (is_namesake x) (own_functions before offset numbers) ≡ false
 unfolding own_functions defined
 own_avoided x before offset [] is small = refl
 own_avoided x before offset (n ∷ more) is small =
@@ -141,8 +141,8 @@ own_apart : (before : List ℕ) (offset : ℕ) (numbers : List ℕ) → AllByRec
 unfolding own_functions defined
 own_apart before offset [] small = refl
 own_apart before offset (n ∷ more) small =
-    let y : Symbol = defined (function_name n) STT_FUNC offset in
-    let rest : List Symbol = own_functions (before ++ n ∷ []) (offset + 8) more in
+    let y : SymbolLine = defined (function_name n) STT_FUNC offset in
+    let rest : List SymbolLine = own_functions (before ++ n ∷ []) (offset + 8) more in
     no_pair_both is_namesake (once before n y) rest (once_alone is_namesake before n y) (own_apart (before ++ n ∷ []) (offset + 8) more small.1)
     (once_each (λ x. list_any (is_namesake x) rest ≡ false) before n y (λ miss.
     own_avoided y (before ++ n ∷ []) (offset + 8) more (record { number = n; name = refl; small = small.0; there = has_last before n }) small.1))
@@ -179,8 +179,8 @@ own_short : (before : List ℕ) (offset : ℕ) (numbers : List ℕ) → length (
 unfolding own_functions
 own_short before offset [] = omega arith
 own_short before offset (n ∷ more) =
-    let first : List Symbol = once before n (defined (function_name n) STT_FUNC offset) in
-    let rest : List Symbol = own_functions (before ++ n ∷ []) (offset + 8) more in
+    let first : List SymbolLine = once before n (defined (function_name n) STT_FUNC offset) in
+    let rest : List SymbolLine = own_functions (before ++ n ∷ []) (offset + 8) more in
     omega (arith, length-append first rest, once_short before n (defined (function_name n) STT_FUNC offset), own_short (before ++ n ∷ []) (offset + 8) more)
 
 -- ---- the functions that relocations refer to
@@ -189,21 +189,21 @@ word_small : (word : ℕ) → word % 1000 < 1000
 word_small word = mod-lt word (omega arith)
 
 -- one that a relocation brings
-reference_each : (P : Symbol → Type 0) (known : List ℕ) (kind : Kind) (word : ℕ) → (has known (word % 1000) ≡ false → has (known_after known kind word) (word % 1000) ≡ true → P (referred (function_name (word % 1000)))) → AllByRecursion P (reference known kind word)
+reference_each : (P : SymbolLine → Type 0) (known : List ℕ) (kind : RelocationKind) (word : ℕ) → (has known (word % 1000) ≡ false → has (known_after known kind word) (word % 1000) ≡ true → P (referred (function_name (word % 1000)))) → AllByRecursion P (reference known kind word)
 unfolding reference known_after
 reference_each P known Relative word here = tt
 reference_each P known Abs64 word here = once_each P known (word % 1000) (referred (function_name (word % 1000))) (λ miss. here miss (has_last known (word % 1000)))
 reference_each P known GlobDat word here = once_each P known (word % 1000) (referred (function_name (word % 1000))) (λ miss. here miss (has_last known (word % 1000)))
 reference_each P known JumpSlot word here = once_each P known (word % 1000) (referred (function_name (word % 1000))) (λ miss. here miss (has_last known (word % 1000)))
 
-reference_alone : (p : Symbol → Symbol → Bool) (known : List ℕ) (kind : Kind) (word : ℕ) → any_pair p (reference known kind word) ≡ false
+reference_alone : (p : SymbolLine → SymbolLine → Bool) (known : List ℕ) (kind : RelocationKind) (word : ℕ) → any_pair p (reference known kind word) ≡ false
 unfolding reference
 reference_alone p known Relative word = refl
 reference_alone p known Abs64 word = once_alone p known (word % 1000) (referred (function_name (word % 1000)))
 reference_alone p known GlobDat word = once_alone p known (word % 1000) (referred (function_name (word % 1000)))
 reference_alone p known JumpSlot word = once_alone p known (word % 1000) (referred (function_name (word % 1000)))
 
-reference_short : (known : List ℕ) (kind : Kind) (word : ℕ) → length (reference known kind word) ≤ 1
+reference_short : (known : List ℕ) (kind : RelocationKind) (word : ℕ) → length (reference known kind word) ≤ 1
 unfolding reference
 reference_short known Relative word = omega arith
 reference_short known Abs64 word = once_short known (word % 1000) (referred (function_name (word % 1000)))
@@ -214,20 +214,20 @@ none_of_each : {X : Type 0} (p : X → Bool) (xs : List X) → AllByRecursion (�
 none_of_each p [] all = refl
 none_of_each p (x ∷ xs) all = rw (all.0, none_of_each p xs all.1) refl
 
-among_after : (known : List ℕ) (kind : Kind) (word : ℕ) (x : Symbol) → IsAmong known x → IsAmong (known_after known kind word) x
+among_after : (known : List ℕ) (kind : RelocationKind) (word : ℕ) (x : SymbolLine) → IsAmong known x → IsAmong (known_after known kind word) x
 unfolding known_after
 among_after known Relative word x is = is
 among_after known Abs64 word x is = among_more known (word % 1000 ∷ []) x is
 among_after known GlobDat word x is = among_more known (word % 1000 ∷ []) x is
 among_after known JumpSlot word x is = among_more known (word % 1000 ∷ []) x is
 
-reference_avoided : (x : Symbol) (known : List ℕ) (kind : Kind) (word : ℕ) → IsAmong known x → list_any (is_namesake x) (reference known kind word) ≡ false
+reference_avoided : (x : SymbolLine) (known : List ℕ) (kind : RelocationKind) (word : ℕ) → IsAmong known x → list_any (is_namesake x) (reference known kind word) ≡ false
 unfolding referred
 reference_avoided x known kind word is =
     none_of_each (is_namesake x) (reference known kind word) (reference_each (λ y. is_namesake x y ≡ false) known kind word (λ miss there.
     names_apart x.name (function_name (word % 1000)) is.number (word % 1000) known is.name refl is.small (word_small word) is.there miss))
 
-references_avoided : (x : Symbol) (known words : List ℕ) → IsAmong known x → list_any (is_namesake x) (references known words) ≡ false
+references_avoided : (x : SymbolLine) (known words : List ℕ) → IsAmong known x → list_any (is_namesake x) (references known words) ≡ false
 unfolding references
 references_avoided x known [] is = refl
 references_avoided x known (kind ∷ []) is = refl
@@ -241,12 +241,12 @@ references_apart known [] = refl
 references_apart known (kind ∷ []) = refl
 references_apart known (kind ∷ word ∷ more) =
     let after : List ℕ = known_after known (kind_of kind) word in
-    let rest : List Symbol = references after more in
+    let rest : List SymbolLine = references after more in
     no_pair_both is_namesake (reference known (kind_of kind) word) rest (reference_alone is_namesake known (kind_of kind) word) (references_apart after more)
     (reference_each (λ x. list_any (is_namesake x) rest ≡ false) known (kind_of kind) word (λ miss there.
     references_avoided (referred (function_name (word % 1000))) after more (record { number = word % 1000; name = refl; small = word_small word; there = there })))
 
-references_each : (P : Symbol → Type 0) (known words : List ℕ) → ((n : ℕ) → P (referred (function_name n))) → AllByRecursion P (references known words)
+references_each : (P : SymbolLine → Type 0) (known words : List ℕ) → ((n : ℕ) → P (referred (function_name n))) → AllByRecursion P (references known words)
 unfolding references
 references_each P known [] each = tt
 references_each P known (kind ∷ []) each = tt
@@ -259,8 +259,8 @@ unfolding references
 references_short known [] = omega arith
 references_short known (kind ∷ []) = omega arith
 references_short known (kind ∷ word ∷ more) =
-    let first : List Symbol = reference known (kind_of kind) word in
-    let rest : List Symbol = references (known_after known (kind_of kind) word) more in
+    let first : List SymbolLine = reference known (kind_of kind) word in
+    let rest : List SymbolLine = references (known_after known (kind_of kind) word) more in
     omega (arith, length-append first rest, reference_short known (kind_of kind) word, references_short (known_after known (kind_of kind) word) more)
 
 referred_modest : (s : Settings) (n : ℕ) → IsModestSymbol s (referred (function_name n))
@@ -303,8 +303,8 @@ record IsBetween (from end : ℕ) (x : Relocation) : Type 0 where
   after : from ≤ x.offset
   before : x.offset < end
 
-place_of : (place : ℕ) (kind : Kind) (word : ℕ) → (relocation_of place kind word).offset ≡ place
-unfolding relocation_of relocated
+place_of : (place : ℕ) (kind : RelocationKind) (word : ℕ) → (relocation_of place kind word).offset ≡ place
+unfolding relocation_of recipe_relocation
 place_of place Relative word = refl
 place_of place Abs64 word = refl
 place_of place GlobDat word = refl
@@ -339,8 +339,8 @@ places_apart place (kind ∷ word ∷ more) =
     (all_map (IsBetween (place + 8) (place + 8 + 4 * length more)) (λ y. is_at_place_of x y ≡ false) rest (λ y is. off_place x.offset y.offset (omega (arith, here, is.after))) (relocations_between (place + 8) more)))
     (places_apart (place + 8) more)
 
-relocation_modest : (r : Recipe) (place : ℕ) (kind : Kind) (word : ℕ) → place % 8 ≡ 0 → place + 8 ≤ r.settings.data_size → IsModestRelocation r (relocation_of place kind word)
-unfolding relocation_of relocated addend_of
+relocation_modest : (r : Recipe) (place : ℕ) (kind : RelocationKind) (word : ℕ) → place % 8 ≡ 0 → place + 8 ≤ r.settings.data_size → IsModestRelocation r (relocation_of place kind word)
+unfolding relocation_of recipe_relocation addend_of
 relocation_modest r place Relative word even fits = record { form = inl (record { kind = refl; within = fits }); aligned = even; small = omega arith; plain = λ e. absurd (false≢true e) }
 relocation_modest r place Abs64 word even fits = record { form = inl (record { kind = refl; within = fits }); aligned = even; small = omega arith; plain = λ e. absurd (false≢true e) }
 relocation_modest r place GlobDat word even fits = record { form = inl (record { kind = refl; within = fits }); aligned = even; small = omega arith; plain = λ e. refl }
@@ -376,7 +376,7 @@ functions_few words = omega (arith, length-map (take 64 (drop 2 words)) (λ (wor
 library_apart : (i : ℕ) (fs words : List ℕ) → AllByRecursion IsSmall fs → any_pair is_namesake (own_functions [] 0 fs ++ own_object i ∷ references fs words) ≡ false
 unfolding defined
 library_apart i fs words small =
-    let rest : List Symbol = references fs words in
+    let rest : List SymbolLine = references fs words in
     no_pair_both is_namesake (own_functions [] 0 fs) (own_object i ∷ rest) (own_apart [] 0 fs small) (rw (object_avoids i fs words) (references_apart fs words))
     (all_map (IsAmong fs) (λ x. list_any (is_namesake x) (own_object i ∷ rest) ≡ false) (own_functions [] 0 fs)
     (λ x is. rw (by_object x.name is.number i is.name) (references_avoided x fs words is)) (own_among [] 0 fs small))
@@ -446,7 +446,7 @@ object_known i words =
     ∙ or_right (list_any (is_written_as (object_name i)) (references [] words)) (list_any (is_written_as (object_name i)) (own_object i ∷ [])) (rw ((bytes_eq-Decides (object_name i) (object_name i)).1 refl) refl)
 
 program_fits : (count : ℕ) (words : List ℕ) → AllByRecursion (IsModestRelocation (program_of count words)) (copy_of (at words 0 % count) ∷ [])
-unfolding program_of relocated is_no_symbol defined addend_of
+unfolding program_of recipe_relocation is_no_symbol defined addend_of
 program_fits count words = (
   record {
     form = inr (record {
@@ -466,7 +466,7 @@ program_fits count words = (
 )
 
 program_places : (i : ℕ) (words : List ℕ) → 4 * length words ≤ 2048 → any_pair is_at_place_of (relocations_from 0 words ++ copy_of i ∷ []) ≡ false
-unfolding relocated
+unfolding recipe_relocation
 program_places i words short =
     no_pair_both is_at_place_of (relocations_from 0 words) (copy_of i ∷ []) (places_apart 0 words) refl
     (all_map (IsBetween 0 (0 + 4 * length words)) (λ x. list_any (is_at_place_of x) (copy_of i ∷ []) ≡ false) (relocations_from 0 words) (λ x is. none_one (x.offset == 2048) (off_place x.offset 2048 (omega (arith, is.before, short)))) (relocations_between 0 words))

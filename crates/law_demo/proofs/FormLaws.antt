@@ -16,16 +16,16 @@ use Rattle.pl_object.specs.Reads.{object}
 use Rattle.pl_object.specs.declared.object.Object.{Object}
 use Rattle.pl_form.specs.Faults.{bss_too_large, cut_of, form_fault, in_region, is_later, is_loaded_in, is_torn, is_torn_section, program_fault, region_window, stray_header}
 use Rattle.pl_build.specs.declared.layout.Tables.{Tables}
-use Rattle.pl_build.specs.declared.plan.Plan.{Plan}
+use Rattle.pl_build.specs.declared.layout_plan.LayoutPlan.{LayoutPlan}
 use Rattle.pl_build.specs.declared.recipe.Recipe.{Recipe}
 use Rattle.pl_build.specs.declared.recipe.Settings.{Settings}
-use Rattle.pl_build.specs.declared.roles.Place.{Place}
+use Rattle.pl_build.specs.declared.roles.PlacedSection.{PlacedSection}
 use Rattle.pl_build.specs.declared.roles.Role.TheVariants.{Bss}
-use Rattle.pl_build.specs.declared.strings.Strings.{Strings}
+use Rattle.pl_build.specs.declared.string_table.StringTable.{StringTable}
 use Rattle.pl_build.specs.Dynamic.{place_of}
 use Rattle.pl_build.specs.File.{places_of, sections_offset}
 use Rattle.pl_build.specs.Layout.{end_of, tables}
-use Rattle.pl_build.specs.Plan.{data_address, plan_of}
+use Rattle.pl_build.specs.LayoutPlan.{data_address, plan_of}
 use Rattle.pl_build.specs.Roles.{kind_of}
 use Rattle.pl_build.specs.Sections.{first_places, last_places, row_of, section_rows}
 use Rattle.pl_build.specs.Segments.{data_offset, dynamic_segment, first_load, has_data, readable, second_load}
@@ -86,7 +86,7 @@ no_later load some a b le = rw (not_less a b le) (and_false load some)
     and_false true false = refl
     and_false false y = refl
 
-module _ (s : Settings) (tables_end : ℕ) (d : Place) where
+module _ (s : Settings) (tables_end : ℕ) (d : PlacedSection) where
   abbrev first : Segment
   first = first_load s tables_end
 
@@ -147,10 +147,10 @@ module _ (s : Settings) (tables_end : ℕ) (d : Place) where
 -- ---- sections
 
 -- a section of zeros, one before the cut, or one behind it
-abbrev IsWhole : ℕ → Place → Type 0
+abbrev IsWhole : ℕ → PlacedSection → Type 0
 IsWhole cut place = (place.role ≡ Bss) ⊎ ((place.offset + place.size ≤ cut) ⊎ (cut ≤ place.offset))
 
-row_whole : (p : Plan) (names : Strings) (cut : ℕ) (place : Place) → IsWhole cut place → is_torn_section cut (section_of (row_of p names place)) ≡ false
+row_whole : (p : LayoutPlan) (names : StringTable) (cut : ℕ) (place : PlacedSection) → IsWhole cut place → is_torn_section cut (section_of (row_of p names place)) ≡ false
 unfolding row_of section_of kind_of
 row_whole p names cut place (inl zeros) = let hit : (kind_of place.role == 8) ≡ true = ap (λ (k : ℕ). k == 8) (ap kind_of zeros) in rw hit refl
 row_whole p names cut place (inr held) = rw (torn held) (and_false (not (kind_of place.role == 8)))
@@ -162,12 +162,12 @@ row_whole p names cut place (inr held) = rw (torn held) (and_false (not (kind_of
     and_false true = refl
     and_false false = refl
 
-rows_whole : (p : Plan) (names : Strings) (limit : ℕ) (places : List Place) → AllByRecursion (IsWhole limit) places → AllByRecursion (λ x. is_torn_section limit x ≡ false) (map section_of (section_rows p names places))
+rows_whole : (p : LayoutPlan) (names : StringTable) (limit : ℕ) (places : List PlacedSection) → AllByRecursion (IsWhole limit) places → AllByRecursion (λ x. is_torn_section limit x ≡ false) (map section_of (section_rows p names places))
 unfolding section_rows
 rows_whole p names limit [] all = tt
 rows_whole p names limit (place ∷ places) all = (row_whole p names limit place all.0, rows_whole p names limit places all.1)
 
-tables_whole : (cut : ℕ) (places : List Place) (n : ℕ) → n ≤ cut → AllByRecursion (IsTable n) places → AllByRecursion (IsWhole cut) places
+tables_whole : (cut : ℕ) (places : List PlacedSection) (n : ℕ) → n ≤ cut → AllByRecursion (IsTable n) places → AllByRecursion (IsWhole cut) places
 tables_whole cut [] n le all = tt
 tables_whole cut (place ∷ places) n le all = (inr (inl (omega (arith, le, all.0.within))), tables_whole cut places n le all.1)
 
@@ -175,7 +175,7 @@ places_whole : (r : Recipe) (t : Tables) → IsPlain r → AllByRecursion (IsTab
     → AllByRecursion (IsWhole (round_up (end_of t) 4096 + (plan_of r).settings.data_size)) (places_of (plan_of r) t (data_offset (end_of t)) (length (names_of (plan_of r)).bytes))
 unfolding places_of last_places
 places_whole r t plain all =
-    let p : Plan = plan_of r in
+    let p : LayoutPlan = plan_of r in
     let cut : ℕ = round_up (end_of t) 4096 + p.settings.data_size in
     let near = round_up-at_least (end_of t) 4096 (omega arith) in
     all_append (IsWhole cut) (first_places p ++ t.places) _
@@ -185,16 +185,16 @@ places_whole r t plain all =
 sections_whole : (r : Recipe) (t : Tables) → IsPlain r → tables (plan_of r) ≡ Ok t → AllByRecursion (λ x. is_torn_section (round_up (end_of t) 4096 + (plan_of r).settings.data_size) x ≡ false) (planned_sections (plan_of r) t)
 unfolding planned_sections
 sections_whole r t plain e =
-    let p : Plan = plan_of r in
+    let p : LayoutPlan = plan_of r in
     rows_whole p (names_of p) (round_up (end_of t) 4096 + p.settings.data_size) (places_of p t (data_offset (end_of t)) (length (names_of p).bytes)) (places_whole r t plain (laid_tables p t e).1)
 
 -- ---- the header
 
-rows_before : (p : Plan) (t : Tables) → nat_lt (round_up (end_of t) 4096 + p.settings.data_size) ((planned_header p t).phoff + 56 * (planned_header p t).phnum) ≡ false
+rows_before : (p : LayoutPlan) (t : Tables) → nat_lt (round_up (end_of t) 4096 + p.settings.data_size) ((planned_header p t).phoff + 56 * (planned_header p t).phnum) ≡ false
 unfolding planned_header header_of
 rows_before p t = not_less (round_up (end_of t) 4096 + p.settings.data_size) (64 + 56 * length (planned_segments p t)) (omega (arith, few p t, round_up-at_least (end_of t) 4096 (omega arith)))
 
-table_behind : (p : Plan) (t : Tables) → is_torn (round_up (end_of t) 4096 + p.settings.data_size) (planned_header p t).shoff (64 * (planned_header p t).shnum) ≡ false
+table_behind : (p : LayoutPlan) (t : Tables) → is_torn (round_up (end_of t) 4096 + p.settings.data_size) (planned_header p t).shoff (64 * (planned_header p t).shnum) ≡ false
 unfolding planned_header header_of
 table_behind p t = whole_above (round_up (end_of t) 4096 + p.settings.data_size) (sections_offset p (end_of t) (names_of p)) (64 * length p.roles) (omega (arith, parts_before p t))
 
@@ -238,14 +238,14 @@ off_region ss last region a b = rw (a, b) refl
 pub roomy_objects : RoomyObjectsHaveNoFault
 unfolding planned_object object planned_heads planned_dynamic
 roomy_objects r t before region plain e room above =
-    let p : Plan = plan_of r in
+    let p : LayoutPlan = plan_of r in
     let s : Settings = p.settings in
     let stay = settings_stay r in
     let own : HasRoom s = subst HasRoom (sym stay) room in
     let high : IsAbove s region = subst (λ (x : Settings). IsAbove x region) (sym stay) above in
     let flat : ArePlain s = plain_settings r plain in
     let laid = laid_tables p t e in
-    let d : Place = place_of t.places (codes ".dynamic") in
+    let d : PlacedSection = place_of t.places (codes ".dynamic") in
     let there : IsTable (end_of t) d = found_place (IsTable (end_of t)) (codes ".dynamic") t.places laid.1 (dynamic_there r t plain e) in
     let segments_are : planned_segments p t ≡ three s (end_of t) d = segments_shown p t flat (there_is d there.some) ∙ ap (λ (b : Bool). shown b (first_load s (end_of t)) (second_load s (end_of t)) (dynamic_segment d)) (data_there s own) in
     let whole = sections_whole r t plain e in

@@ -32,16 +32,16 @@ use Rattle.pl_object.specs.FilePart.{loaded}
 use Rattle.pl_object.specs.Reads.{too_large, has_flag, is_pie}
 use Rattle.pl_object.specs.SymbolClauses.{is_above, base_not_zero, hash_table, hash_tables, defines, is_missed, misses_one, is_incomplete, hash_incomplete, is_same_version, is_twin, duplicate_definer}
 use Rattle.pl_object.specs.Tables.{has_tag, section_memory}
-use Rattle.pl_build.specs.declared.line.Symbol.{Symbol}
-use Rattle.pl_build.specs.declared.plan.Plan.{Plan}
+use Rattle.pl_build.specs.declared.line.SymbolLine.{SymbolLine}
+use Rattle.pl_build.specs.declared.layout_plan.LayoutPlan.{LayoutPlan}
 use Rattle.pl_build.specs.declared.recipe.Recipe.{Recipe}
 use Rattle.pl_build.specs.declared.recipe.Settings.{Settings}
-use Rattle.pl_build.specs.declared.roles.Place.{Place}
+use Rattle.pl_build.specs.declared.roles.PlacedSection.{PlacedSection}
 use Rattle.pl_build.specs.Dynamic.{flags_1}
 use Rattle.pl_build.specs.File.{type_of}
 use Rattle.pl_build.specs.FileKinds.{is_position_independent}
 use Rattle.pl_build.specs.HashTables.{is_defined}
-use Rattle.pl_build.specs.Plan.{plan_of, base_of}
+use Rattle.pl_build.specs.LayoutPlan.{plan_of, base_of}
 use Rattle.pl_build.specs.Segments.{readable, first_load, second_load, dynamic_segment}
 use Rattle.pl_build.specs.Symbols.{bucket_of, bucket, is_in, is_undefined, ordered}
 use Rattle.pl_build.specs.SymbolTable.{section_of}
@@ -72,7 +72,7 @@ second_false false b h = refl
 
 -- ---- clause 20
 
-first_is : (b : Bool) (s : Settings) (tables_end : ℕ) (d : Place) → segment_of_kind 1 (shown b (first_load s tables_end) (second_load s tables_end) (dynamic_segment d)) ≡ Some (first_load s tables_end)
+first_is : (b : Bool) (s : Settings) (tables_end : ℕ) (d : PlacedSection) → segment_of_kind 1 (shown b (first_load s tables_end) (second_load s tables_end) (dynamic_segment d)) ≡ Some (first_load s tables_end)
 unfolding first_load second_load dynamic_segment readable
 first_is true s tables_end d = refl
 first_is false s tables_end d = refl
@@ -81,7 +81,7 @@ first_base : (s : Settings) (tables_end : ℕ) → is_above (Some (first_load s 
 unfolding first_load readable
 first_base s tables_end = refl
 
-pub base_in_page : (s : Settings) (b : Bool) (tables_end : ℕ) (d : Place) → base_not_zero (type_of s == 2) (shown b (first_load s tables_end) (second_load s tables_end) (dynamic_segment d)) ≡ false
+pub base_in_page : (s : Settings) (b : Bool) (tables_end : ℕ) (d : PlacedSection) → base_not_zero (type_of s == 2) (shown b (first_load s tables_end) (second_load s tables_end) (dynamic_segment d)) ≡ false
 unfolding base_not_zero type_of base_of
 base_in_page s b tables_end d = elim (cases_Bool (is_position_independent s.kind)) [
   | inl library ↦
@@ -101,18 +101,18 @@ null_defines_not : defines null_symbol ≡ false
 unfolding is_definition is_linkable seen.is_absolute seen.is_in_section
 null_defines_not = refl
 
-undefined_defines_not : (p : Plan) (x : Symbol) → x.defined ≡ false → defines (planned_symbol p x) ≡ false
+undefined_defines_not : (p : LayoutPlan) (x : SymbolLine) → x.defined ≡ false → defines (planned_symbol p x) ≡ false
 unfolding is_definition is_linkable seen.is_absolute seen.is_in_section planned_symbol section_of
 undefined_defines_not p x undefined = rw undefined refl
 
 -- a table that leads to each symbol that is defined
-abbrev Leads : Plan → Table → Type 0
+abbrev Leads : LayoutPlan → Table → Type 0
 Leads p t = (i : ℕ) → i < length p.symbols → (get_or p.symbols i nobody).defined ≡ true → is_chain_symbol t (name_hash t (get_or p.symbols i nobody).name) (i + 1) ≡ true
 
-one_not_missed : (p : Plan) (t : Table) (i : ℕ) → Leads p t → i < length p.symbols → is_missed t (suc i) (Some (planned_symbol p (get_or p.symbols i nobody))) ≡ false
+one_not_missed : (p : LayoutPlan) (t : Table) (i : ℕ) → Leads p t → i < length p.symbols → is_missed t (suc i) (Some (planned_symbol p (get_or p.symbols i nobody))) ≡ false
 unfolding planned_symbol
 one_not_missed p t i leads lt =
-    let x : Symbol = get_or p.symbols i nobody in
+    let x : SymbolLine = get_or p.symbols i nobody in
     elim (cases_Bool x.defined) [
       | inr undefined ↦ rw (undefined_defines_not p x undefined) refl
       | inl defined ↦
@@ -121,16 +121,16 @@ one_not_missed p t i leads lt =
           second_false (defines (planned_symbol p x)) (not (is_chain_symbol t (name_hash t x.name) (suc i))) (ap (λ (b : Bool). not b) there)
     ]
 
-symbol_at : (p : Plan) (i : ℕ) → i < length p.symbols → slice_get (planned_symbols p) (suc i) ≡ Some (planned_symbol p (get_or p.symbols i nobody))
-symbol_at p i lt = slice_get-map (planned_symbol p) p.symbols i ∙ ap (λ (o : Option Symbol). option_map (planned_symbol p) o) (slice_get-get_or p.symbols i nobody lt)
+symbol_at : (p : LayoutPlan) (i : ℕ) → i < length p.symbols → slice_get (planned_symbols p) (suc i) ≡ Some (planned_symbol p (get_or p.symbols i nobody))
+symbol_at p i lt = slice_get-map (planned_symbol p) p.symbols i ∙ ap (λ (o : Option SymbolLine). option_map (planned_symbol p) o) (slice_get-get_or p.symbols i nobody lt)
 
-index_not_missed : (p : Plan) (t : Table) (i : ℕ) → Leads p t → i < length (planned_symbols p) → is_missed t i (slice_get (planned_symbols p) i) ≡ false
+index_not_missed : (p : LayoutPlan) (t : Table) (i : ℕ) → Leads p t → i < length (planned_symbols p) → is_missed t i (slice_get (planned_symbols p) i) ≡ false
 index_not_missed p t zero leads lt = rw null_defines_not refl
 index_not_missed p t (suc i) leads lt =
     let inside : i < length p.symbols = omega (arith, lt, length-map p.symbols (planned_symbol p)) in
     ap (is_missed t (suc i)) (symbol_at p i inside) ∙ one_not_missed p t i leads inside
 
-complete : (p : Plan) (t : Table) → well_formed t ≡ true → Leads p t → is_incomplete (planned_symbols p) t ≡ false
+complete : (p : LayoutPlan) (t : Table) → well_formed t ≡ true → Leads p t → is_incomplete (planned_symbols p) t ≡ false
 unfolding is_incomplete misses_one
 complete p t formed leads =
     let missed : list_any (λ index. is_missed t index (slice_get (planned_symbols p) index)) (range_with_len 0 (length (planned_symbols p))) ≡ false =
@@ -178,7 +178,7 @@ unfolding hash_table with_words
 table_read bytes ss sections tags count number addr gnu true words told held = rw told (ap (λ (l : List ℕ). with_words l gnu count ∷ []) (held refl))
 table_read bytes ss sections tags count number addr gnu false words told held = rw told refl
 
-count_is : (p : Plan) → length (planned_symbols p) ≡ length p.symbols + 1
+count_is : (p : LayoutPlan) → length (planned_symbols p) ≡ length p.symbols + 1
 count_is p = omega (arith, length-map p.symbols (planned_symbol p))
 
 pub hashes_read : (r : Recipe) (bytes : List ℕ) (ss : List Segment) (sections : List Section) (tags : List Tag) (one two : ℕ) → value_of 4 tags ≡ some_if r.settings.hashes.sysv one → value_of 0x6ffffef5 tags ≡ some_if r.settings.hashes.gnu two
@@ -186,7 +186,7 @@ pub hashes_read : (r : Recipe) (bytes : List ℕ) (ss : List Segment) (sections 
     → hash_tables bytes ss sections tags (length (planned_symbols (plan_of r))) ≡ planned_hashes r
 unfolding hash_tables planned_hashes with_words
 hashes_read r bytes ss sections tags one two sysv_told gnu_told sysv_held gnu_held =
-    let p : Plan = plan_of r in
+    let p : LayoutPlan = plan_of r in
     let n : ℕ = length p.symbols + 1 in
     let a : Bool = r.settings.hashes.sysv in
     let b : Bool = r.settings.hashes.gnu in
@@ -196,25 +196,25 @@ hashes_read r bytes ss sections tags one two sysv_told gnu_told sysv_held gnu_he
 
 -- ---- clause 22: the order of the symbols is a permutation
 
-filter_same : (c d : Symbol → Bool) (xs : List Symbol) → ((x : Symbol) → c x ≡ d x) → filter c xs ≡ filter d xs
+filter_same : (c d : SymbolLine → Bool) (xs : List SymbolLine) → ((x : SymbolLine) → c x ≡ d x) → filter c xs ≡ filter d xs
 filter_same c d [] same = refl
 filter_same c d (x ∷ xs) same = elim (cases_Bool (d x)) [
-  | inl hit ↦ rw (same x, hit) (ap (λ (l : List Symbol). x ∷ l) (filter_same c d xs same))
+  | inl hit ↦ rw (same x, hit) (ap (λ (l : List SymbolLine). x ∷ l) (filter_same c d xs same))
   | inr miss ↦ rw (same x, miss) (filter_same c d xs same)
 ]
 
-filter_both : (c d : Symbol → Bool) (xs : List Symbol) → filter d (filter c xs) ≡ filter (λ x. c x && d x) xs
+filter_both : (c d : SymbolLine → Bool) (xs : List SymbolLine) → filter d (filter c xs) ≡ filter (λ x. c x && d x) xs
 filter_both c d [] = refl
 filter_both c d (x ∷ xs) = elim (cases_Bool (c x)) [
   | inl one ↦ elim (cases_Bool (d x)) [
-    | inl two ↦ rw (one, two) (ap (λ (l : List Symbol). x ∷ l) (filter_both c d xs))
+    | inl two ↦ rw (one, two) (ap (λ (l : List SymbolLine). x ∷ l) (filter_both c d xs))
     | inr miss ↦ rw (one, miss) (filter_both c d xs)
   ]
   | inr miss ↦ rw miss (filter_both c d xs)
 ]
 
 -- of the buckets from k on, so many
-in_buckets : Settings → ℕ → ℕ → Symbol → Bool
+in_buckets : Settings → ℕ → ℕ → SymbolLine → Bool
 in_buckets s k n x = x.defined && (nat_le k (bucket s x) && nat_lt (bucket s x) (k + n))
 
 here_test : (d : Bool) (b k n : ℕ) → ((d && (nat_le k b && nat_lt b (k + suc n))) && (d && b == k)) ≡ (d && b == k)
@@ -234,27 +234,27 @@ none_test : (d : Bool) (b k : ℕ) → (d && (nat_le k b && nat_lt b (k + 0))) �
 none_test false b k = refl
 none_test true b k = grind (arith, nat_tests)
 
-filter_none : (c : Symbol → Bool) (xs : List Symbol) → ((x : Symbol) → c x ≡ false) → filter c xs ≡ []
+filter_none : (c : SymbolLine → Bool) (xs : List SymbolLine) → ((x : SymbolLine) → c x ≡ false) → filter c xs ≡ []
 filter_none c [] none = refl
 filter_none c (x ∷ xs) none = rw (none x) (filter_none c xs none)
 
-buckets_permute : (s : Settings) (symbols : List Symbol) (k n : ℕ) → IsPermutation (filter (in_buckets s k n) symbols) (flat_map (λ b. filter (is_in s b) symbols) (range_with_len k n))
+buckets_permute : (s : Settings) (symbols : List SymbolLine) (k n : ℕ) → IsPermutation (filter (in_buckets s k n) symbols) (flat_map (λ b. filter (is_in s b) symbols) (range_with_len k n))
 unfolding in_buckets is_in
-buckets_permute s symbols k zero = subst (λ (l : List Symbol). IsPermutation l []) (sym (filter_none (in_buckets s k 0) symbols (λ x. none_test x.defined (bucket s x) k))) (IsPermutation-refl [])
+buckets_permute s symbols k zero = subst (λ (l : List SymbolLine). IsPermutation l []) (sym (filter_none (in_buckets s k 0) symbols (λ x. none_test x.defined (bucket s x) k))) (IsPermutation-refl [])
 buckets_permute s symbols k (suc n) =
-    let c : Symbol → Bool = in_buckets s k (suc n) in
-    let d : Symbol → Bool = is_in s k in
-    let other : Symbol → Bool = λ x. not (is_in s k x) in
-    let all : List Symbol = filter c symbols in
-    let rest : List Symbol = flat_map (λ b. filter (is_in s b) symbols) (range_with_len (k + 1) n) in
+    let c : SymbolLine → Bool = in_buckets s k (suc n) in
+    let d : SymbolLine → Bool = is_in s k in
+    let other : SymbolLine → Bool = λ x. not (is_in s k x) in
+    let all : List SymbolLine = filter c symbols in
+    let rest : List SymbolLine = flat_map (λ b. filter (is_in s b) symbols) (range_with_len (k + 1) n) in
     let here : filter d all ≡ filter d symbols = filter_both c d symbols ∙ filter_same (λ x. c x && d x) d symbols (λ x. here_test x.defined (bucket s x) k n) in
     let later : filter other all ≡ filter (in_buckets s (k + 1) n) symbols = filter_both c other symbols ∙ filter_same (λ x. c x && other x) (in_buckets s (k + 1) n) symbols (λ x. rest_test x.defined (bucket s x) k n) in
     let parted : IsPermutation all (filter d symbols ++ filter (in_buckets s (k + 1) n) symbols) =
-    subst (λ (l : List Symbol). IsPermutation all (l ++ filter (in_buckets s (k + 1) n) symbols)) here (subst (λ (l : List Symbol). IsPermutation all (filter d all ++ l)) later (IsPermutation-filter_both d other (λ x. refl) all)) in
+    subst (λ (l : List SymbolLine). IsPermutation all (l ++ filter (in_buckets s (k + 1) n) symbols)) here (subst (λ (l : List SymbolLine). IsPermutation all (filter d all ++ l)) later (IsPermutation-filter_both d other (λ x. refl) all)) in
     IsPermutation-trans all (filter d symbols ++ filter (in_buckets s (k + 1) n) symbols) (filter d symbols ++ rest) parted
     (IsPermutation-append_right (filter d symbols) (filter (in_buckets s (k + 1) n) symbols) rest (buckets_permute s symbols (k + 1) n))
 
-bucket_small : (s : Settings) (x : Symbol) → 0 < s.buckets → bucket s x < s.buckets
+bucket_small : (s : Settings) (x : SymbolLine) → 0 < s.buckets → bucket s x < s.buckets
 unfolding bucket bucket_of
 bucket_small s x some = elim (cases_Bool s.hashes.gnu) [
   | inr other ↦ rw other some
@@ -268,19 +268,19 @@ own_test : (d : Bool) (b n : ℕ) → b < n → d ≡ (d && (nat_le 0 b && nat_l
 own_test false b n lt = refl
 own_test true b n lt = sym (rw (at_most 0 b (omega arith), below_true b (0 + n) (omega (arith, lt))) refl)
 
-undefined_flips : (x : Symbol) → is_defined x ≡ not (is_undefined x)
+undefined_flips : (x : SymbolLine) → is_defined x ≡ not (is_undefined x)
 undefined_flips x = elim (cases_Bool x.defined) [
   | inl yes_defined ↦ rw yes_defined refl
   | inr undefined ↦ rw undefined refl
 ]
 
-pub ordered_permutes : (s : Settings) (symbols : List Symbol) → 0 < s.buckets → IsPermutation symbols (ordered s symbols)
+pub ordered_permutes : (s : Settings) (symbols : List SymbolLine) → 0 < s.buckets → IsPermutation symbols (ordered s symbols)
 unfolding ordered in_buckets
 ordered_permutes s symbols some =
-    let others : List Symbol = filter is_undefined symbols in
-    let own : List Symbol = flat_map (λ b. filter (is_in s b) symbols) (range_with_len 0 s.buckets) in
+    let others : List SymbolLine = filter is_undefined symbols in
+    let own : List SymbolLine = flat_map (λ b. filter (is_in s b) symbols) (range_with_len 0 s.buckets) in
     let same : filter is_defined symbols ≡ filter (in_buckets s 0 s.buckets) symbols = filter_same is_defined (in_buckets s 0 s.buckets) symbols (λ x. own_test x.defined (bucket s x) s.buckets (bucket_small s x some)) in
-    let permuted : IsPermutation (filter is_defined symbols) own = subst (λ (l : List Symbol). IsPermutation l own) (sym same) (buckets_permute s symbols 0 s.buckets) in
+    let permuted : IsPermutation (filter is_defined symbols) own = subst (λ (l : List SymbolLine). IsPermutation l own) (sym same) (buckets_permute s symbols 0 s.buckets) in
     IsPermutation-trans symbols (others ++ filter is_defined symbols) (others ++ own) (IsPermutation-filter_both is_undefined is_defined undefined_flips symbols)
     (IsPermutation-append_right others (filter is_defined symbols) own permuted)
 
@@ -306,7 +306,7 @@ names_apart r plain m =
     ∙ sym (any_pair_permuted is_namesake (λ x y. bytes_turned x.name y.name) r.symbols (ordered r.settings r.symbols) (ordered_permutes r.settings r.symbols plain.settings.some_buckets)) ∙ m.names
 
 -- symbols of other names are no twins
-twin_not : (p : Plan) (program : Bool) (x y : Symbol) → is_namesake x y ≡ false → is_twin None program (planned_symbol p x) (planned_symbol p y) ≡ false
+twin_not : (p : LayoutPlan) (program : Bool) (x y : SymbolLine) → is_namesake x y ≡ false → is_twin None program (planned_symbol p x) (planned_symbol p y) ≡ false
 unfolding is_twin planned_symbol
 twin_not p program x y other =
     let s : read.Symbol = planned_symbol p x in
@@ -318,13 +318,13 @@ twin_not p program x y other =
     third true false c d h = refl
     third false b c d h = refl
 
-none_with : (p : Plan) (program : Bool) (x : Symbol) (ys : List Symbol) → list_any (is_namesake x) ys ≡ false → list_any (is_twin None program (planned_symbol p x)) (map (planned_symbol p) ys) ≡ false
+none_with : (p : LayoutPlan) (program : Bool) (x : SymbolLine) (ys : List SymbolLine) → list_any (is_namesake x) ys ≡ false → list_any (is_twin None program (planned_symbol p x)) (map (planned_symbol p) ys) ≡ false
 none_with p program x [] other = refl
 none_with p program x (y ∷ ys) other =
     let parts = or_parts (is_namesake x y) (list_any (is_namesake x) ys) other in
     or_from (is_twin None program (planned_symbol p x) (planned_symbol p y)) (list_any (is_twin None program (planned_symbol p x)) (map (planned_symbol p) ys)) (twin_not p program x y parts.0) (none_with p program x ys parts.1)
 
-no_twins : (p : Plan) (program : Bool) (xs : List Symbol) → any_pair is_namesake xs ≡ false → any_pair (is_twin None program) (map (planned_symbol p) xs) ≡ false
+no_twins : (p : LayoutPlan) (program : Bool) (xs : List SymbolLine) → any_pair is_namesake xs ≡ false → any_pair (is_twin None program) (map (planned_symbol p) xs) ≡ false
 no_twins p program [] other = refl
 no_twins p program (x ∷ xs) other =
     let parts = or_parts (list_any (is_namesake x) xs) (any_pair is_namesake xs) other in
@@ -344,7 +344,7 @@ null_no_twin program (y ∷ ys) = rw (null_not program) (null_no_twin program ys
 pub no_duplicates : (r : Recipe) (program : Bool) → IsPlain r → IsModest r → duplicate_definer None program (planned_symbols (plan_of r)) ≡ false
 unfolding duplicate_definer
 no_duplicates r program plain m =
-    let p : Plan = plan_of r in
+    let p : LayoutPlan = plan_of r in
     or_from (list_any (is_twin None program null_symbol) (map (planned_symbol p) p.symbols)) (any_pair (is_twin None program) (map (planned_symbol p) p.symbols)) (null_no_twin program (map (planned_symbol p) p.symbols)) (no_twins p program p.symbols (names_apart r plain m))
 
 -- ---- clauses 30 and 31
@@ -353,15 +353,15 @@ pub small_enough : (bytes : List ℕ) → length bytes ≤ 16777216 → too_larg
 unfolding too_large
 small_enough bytes le = not_above (length bytes) 67108864 (omega (arith, le))
 
-pub no_flags : (p : Plan) → ArePlain p.settings → flags_1 p.settings ≡ 0
+pub no_flags : (p : LayoutPlan) → ArePlain p.settings → flags_1 p.settings ≡ 0
 unfolding flags_1
 no_flags p plain = rw (plain.bare, plain.fixed) refl
 
-pub no_flag_tag : (p : Plan) (places : List Place) → ArePlain p.settings → value_of 0x6ffffffb (planned_tags p places) ≡ None
+pub no_flag_tag : (p : LayoutPlan) (places : List PlacedSection) → ArePlain p.settings → value_of 0x6ffffffb (planned_tags p places) ≡ None
 no_flag_tag p places plain =
     planned_value 0x6ffffffb p places refl ∙ ap (λ (n : ℕ). if not (n == 0) then Some n else None) (no_flags p plain)
 
-pub no_interp : (b : Bool) (s : Settings) (tables_end : ℕ) (d : Place) → segment_of_kind 3 (shown b (first_load s tables_end) (second_load s tables_end) (dynamic_segment d)) ≡ None
+pub no_interp : (b : Bool) (s : Settings) (tables_end : ℕ) (d : PlacedSection) → segment_of_kind 3 (shown b (first_load s tables_end) (second_load s tables_end) (dynamic_segment d)) ≡ None
 unfolding first_load second_load dynamic_segment readable
 no_interp true s tables_end d = refl
 no_interp false s tables_end d = refl

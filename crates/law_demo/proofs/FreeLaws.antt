@@ -25,7 +25,7 @@ use Rattle.pl_known.specs.Skips.{skip_causes}
 use Rattle.pl_loader.specs.Places.{kept_free, misses}
 use Rattle.pl_object.specs.declared.object.Object.{Object}
 use Rattle.pl_plan.specs.declared.asked.Asked.{Asked}
-use Rattle.pl_plan.specs.declared.planned.Planned.{Planned}
+use Rattle.pl_plan.specs.declared.run_plan.RunPlan.{RunPlan}
 use Rattle.pl_rewrite.specs.Changes.{from_scratch, numbers}
 use Rattle.pl_rewrite.specs.Laws.{AreNames}
 use Rattle.pl_rewrite.proofs.SoundLaws.{next_is_from_scratch}
@@ -59,7 +59,7 @@ within_misses region slot span (r ∷ rs) lies less off =
 
 -- ---- the libraries of a program
 
-module _ (old view : Files) (ns : List (List ℕ)) (a : Asked) (p : Planned) (named_all : AreNames old ns) (plan_is : planned old ns a ≡ Ok p) where
+module _ (old view : Files) (ns : List (List ℕ)) (a : Asked) (p : RunPlan) (named_all : AreNames old ns) (plan_is : planned old ns a ≡ Ok p) where
   clear_each : (taken : List Range) (ms : Walked) (plan_of : sound.Plan) → All (HasObject skip_causes old plan_of) ms → All (HasLibrary skip_causes old plan_of) ms → ((m : List ℕ) → has (names ms) m ≡ true → is_candidate old a.region m ≡ true)
       → ((m : List ℕ) (o : Object) → has (names ms) m ≡ true → objects (format skip_causes) old m ≡ Ok o → is_library o.kind ≡ true → slot_at skip_causes view m ≡ slot_of p.slots m)
       → list_all (misses a.region) taken ≡ true → list_all (is_clear skip_causes view taken) ms ≡ true

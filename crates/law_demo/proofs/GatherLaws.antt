@@ -6,7 +6,7 @@ use Rattle.pl_build.specs.declared.kind.FileKind.TheVariants.{Program, Library}
 use Rattle.pl_build.specs.declared.line.Line.{Line}
 use Rattle.pl_build.specs.declared.line.Line.TheVariants.{Empty, Needs, Data, Bss, Names, Relocates}
 use Rattle.pl_build.specs.declared.line.Relocation.{Relocation}
-use Rattle.pl_build.specs.declared.line.Symbol.{Symbol}
+use Rattle.pl_build.specs.declared.line.SymbolLine.{SymbolLine}
 use Rattle.pl_build.specs.declared.recipe.Recipe.{Recipe}
 use Rattle.pl_build.specs.declared.recipe.Settings.{Settings}
 use Rattle.pl_build.specs.Recipe.{added, empty, gathered}
@@ -17,27 +17,27 @@ use Rattle.law_demo.specs.SetLines.{relocation_lines, all_relocation_lines, libr
 use Rattle.law_demo.specs.SetRecipes.{needed_names, own_functions, own_object, reference, references, relocation_of, relocations_from, copy_of, library_words, program_words, settings_of, library_of, program_of}
 
 -- a recipe without words, versions and packed words
-abbrev recipe_of : Settings → List (List ℕ) → List Symbol → List Relocation → Recipe
+abbrev recipe_of : Settings → List (List ℕ) → List SymbolLine → List Relocation → Recipe
 recipe_of s needs symbols relocations = record { settings = s; needs = needs; words = []; versions = []; symbols = symbols; relocations = relocations; packed = [] }
 
-needs_added : (xs needs : List (List ℕ)) (s : Settings) (symbols : List Symbol) (relocations : List Relocation) → fold added (recipe_of s needs symbols relocations) (map Needs xs) ≡ recipe_of s (needs ++ xs) symbols relocations
+needs_added : (xs needs : List (List ℕ)) (s : Settings) (symbols : List SymbolLine) (relocations : List Relocation) → fold added (recipe_of s needs symbols relocations) (map Needs xs) ≡ recipe_of s (needs ++ xs) symbols relocations
 needs_added [] needs s symbols relocations = ap (λ (l : List (List ℕ)). recipe_of s l symbols relocations) (sym (append-nil needs))
 needs_added (x ∷ xs) needs s symbols relocations =
     needs_added xs (needs ++ x ∷ []) s symbols relocations ∙ ap (λ (l : List (List ℕ)). recipe_of s l symbols relocations) (append_assoc needs (x ∷ []) xs)
 
-names_added : (xs symbols : List Symbol) (s : Settings) (needs : List (List ℕ)) (relocations : List Relocation) → fold added (recipe_of s needs symbols relocations) (map Names xs) ≡ recipe_of s needs (symbols ++ xs) relocations
-names_added [] symbols s needs relocations = ap (λ (l : List Symbol). recipe_of s needs l relocations) (sym (append-nil symbols))
+names_added : (xs symbols : List SymbolLine) (s : Settings) (needs : List (List ℕ)) (relocations : List Relocation) → fold added (recipe_of s needs symbols relocations) (map Names xs) ≡ recipe_of s needs (symbols ++ xs) relocations
+names_added [] symbols s needs relocations = ap (λ (l : List SymbolLine). recipe_of s needs l relocations) (sym (append-nil symbols))
 names_added (x ∷ xs) symbols s needs relocations =
-    names_added xs (symbols ++ x ∷ []) s needs relocations ∙ ap (λ (l : List Symbol). recipe_of s needs l relocations) (append_assoc symbols (x ∷ []) xs)
+    names_added xs (symbols ++ x ∷ []) s needs relocations ∙ ap (λ (l : List SymbolLine). recipe_of s needs l relocations) (append_assoc symbols (x ∷ []) xs)
 
-both_same : (s : Settings) (needs : List (List ℕ)) (a b : List Symbol) (c d : List Relocation) → a ≡ b → c ≡ d → recipe_of s needs a c ≡ recipe_of s needs b d
-both_same s needs a b c d one two = ap (λ (l : List Symbol). recipe_of s needs l c) one ∙ ap (λ (l : List Relocation). recipe_of s needs b l) two
+both_same : (s : Settings) (needs : List (List ℕ)) (a b : List SymbolLine) (c d : List Relocation) → a ≡ b → c ≡ d → recipe_of s needs a c ≡ recipe_of s needs b d
+both_same s needs a b c d one two = ap (λ (l : List SymbolLine). recipe_of s needs l c) one ∙ ap (λ (l : List Relocation). recipe_of s needs b l) two
 
-relocations_added : (known : List ℕ) (place : ℕ) (words : List ℕ) (s : Settings) (needs : List (List ℕ)) (symbols : List Symbol) (relocations : List Relocation)
+relocations_added : (known : List ℕ) (place : ℕ) (words : List ℕ) (s : Settings) (needs : List (List ℕ)) (symbols : List SymbolLine) (relocations : List Relocation)
     → fold added (recipe_of s needs symbols relocations) (all_relocation_lines known place words) ≡ recipe_of s needs (symbols ++ references known words) (relocations ++ relocations_from place words)
 unfolding all_relocation_lines relocation_lines references relocations_from
 relocations_added known place (kind ∷ (word ∷ more)) s needs symbols relocations =
-    let mine : List Symbol = reference known (kind_of kind) word in
+    let mine : List SymbolLine = reference known (kind_of kind) word in
     let next : Relocation = relocation_of place (kind_of kind) word in
     let later : List ℕ = known_after known (kind_of kind) word in
     let rest : List Line = all_relocation_lines later (place + 8) more in
@@ -58,12 +58,12 @@ unfolding library_lines library_of
 library_added count i words =
     let s : Settings = settings_of Library true 0x1000 0 in
     let needs : List (List ℕ) = library_name ((i + 1) % count) ∷ library_name (at words 0 % count) ∷ library_name (at words 1 % count) ∷ [] in
-    let own : List Symbol = own_functions [] 0 (functions words) in
+    let own : List SymbolLine = own_functions [] 0 (functions words) in
     let rest : List Line = Names (own_object i) ∷ all_relocation_lines (functions words) 0x808 (library_words words) in
     fold-append added (recipe_of s needs [] []) (map Names own) rest
     ∙ ap (λ (r : Recipe). fold added r rest) (names_added own [] s needs [])
     ∙ relocations_added (functions words) 0x808 (library_words words) s needs (own ++ own_object i ∷ []) []
-    ∙ ap (λ (l : List Symbol). recipe_of s needs l (relocations_from 0x808 (library_words words))) (append_assoc own (own_object i ∷ []) (references (functions words) (library_words words)))
+    ∙ ap (λ (l : List SymbolLine). recipe_of s needs l (relocations_from 0x808 (library_words words))) (append_assoc own (own_object i ∷ []) (references (functions words) (library_words words)))
 
 library_ends : (count i : ℕ) (words : List ℕ) → added (library_of count i words) Empty ≡ library_of count i words
 unfolding library_of

@@ -23,12 +23,12 @@ use Rattle.pl_hash.specs.Hash.{gnu, gnu_step}
 use Rattle.pl_hash.specs.Table.{has_header, buckets_at, chains_at, first_linked, link_at, bucket, link, bloom_word, has_bit, first_bit, second_bit, admits, matches}
 use Rattle.pl_hash.specs.declared.table.Table.{Table}
 use Rattle.pl_build.specs.declared.fields.Field.TheVariants.{Word, Xword}
-use Rattle.pl_build.specs.declared.line.Symbol.{Symbol}
-use Rattle.pl_build.specs.declared.plan.Plan.{Plan}
+use Rattle.pl_build.specs.declared.line.SymbolLine.{SymbolLine}
+use Rattle.pl_build.specs.declared.layout_plan.LayoutPlan.{LayoutPlan}
 use Rattle.pl_build.specs.declared.recipe.Recipe.{Recipe}
 use Rattle.pl_build.specs.Fields.{field_bytes, fields}
 use Rattle.pl_build.specs.HashTables.{hash_of, gnu_hashes, gnu_buckets, symoffset, bloom_more, bloom, gnu_first, goes_on, gnu_chain, gnu_words, gnu_table}
-use Rattle.pl_build.specs.Plan.{plan_of}
+use Rattle.pl_build.specs.LayoutPlan.{plan_of}
 use Rattle.pl_build.specs.Symbols.{bucket_of}
 use Rattle.law_demo.specs.Gnu.{gnu_of, FitsGnu, GnuIsWhole}
 use Rattle.law_demo.proofs.BackLaws.{begins_itself, rows_back, rows_long}
@@ -68,11 +68,11 @@ gnu_small : (name : List ℕ) → gnu name < 2 ^ 32
 unfolding gnu
 gnu_small name = hashed_small 5381 name (omega arith)
 
-hash_small : (s : Symbol) → hash_of s < 2 ^ 32
+hash_small : (s : SymbolLine) → hash_of s < 2 ^ 32
 unfolding hash_of
 hash_small s = gnu_small s.name
 
-hashes_small : (symbols : List Symbol) (j : ℕ) → get_or (map hash_of symbols) j 0 < 2 ^ 32
+hashes_small : (symbols : List SymbolLine) (j : ℕ) → get_or (map hash_of symbols) j 0 < 2 ^ 32
 hashes_small [] j = omega arith
 hashes_small (s ∷ symbols) zero = hash_small s
 hashes_small (s ∷ symbols) (suc j) = hashes_small symbols j
@@ -604,7 +604,7 @@ with_words : List ℕ → ℕ → Table
 with_words words n = record { words = words; gnu = true; symbols = n }
 
 -- its symbols in order, its hashes and buckets
-pub record IsPlanned (p : Plan) : Type 0 where
+pub record IsPlanned (p : LayoutPlan) : Type 0 where
   pub order : IsOrdered p.settings.buckets p.symbols
   pub some : 0 < p.settings.buckets
   pub count : p.settings.buckets < 2 ^ 32
@@ -614,20 +614,20 @@ is_planned : (r : Recipe) → FitsGnu r → IsPlanned (plan_of r)
 unfolding plan_of
 is_planned r fits = record { order = is_ordered r.settings r.symbols fits.has; some = fits.some; count = fits.count; symbols = fits.symbols }
 
-abbrev first_of : (p : Plan) → IsPlanned p → ℕ
+abbrev first_of : (p : LayoutPlan) → IsPlanned p → ℕ
 first_of p is = length is.order.others + 1
 
-abbrev hashes_of : (p : Plan) → IsPlanned p → List ℕ
+abbrev hashes_of : (p : LayoutPlan) → IsPlanned p → List ℕ
 hashes_of p is = map hash_of is.order.own
 
-offset_is : (p : Plan) (is : IsPlanned p) → symoffset p ≡ first_of p is
+offset_is : (p : LayoutPlan) (is : IsPlanned p) → symoffset p ≡ first_of p is
 unfolding symoffset
 offset_is p is = ap (λ (n : ℕ). n + 1) (others_counted p.settings.buckets p.symbols is.order)
 
-all_symbols : (p : Plan) (is : IsPlanned p) → length p.symbols + 1 ≡ first_of p is + length (hashes_of p is)
-all_symbols p is = omega (arith, ap (λ (l : List Symbol). length l) is.order.parts, length-append is.order.others is.order.own, length-map is.order.own hash_of)
+all_symbols : (p : LayoutPlan) (is : IsPlanned p) → length p.symbols + 1 ≡ first_of p is + length (hashes_of p is)
+all_symbols p is = omega (arith, ap (λ (l : List SymbolLine). length l) is.order.parts, length-append is.order.others is.order.own, length-map is.order.own hash_of)
 
-few_of : (p : Plan) (is : IsPlanned p) → AreFew p.settings.buckets (first_of p is) (hashes_of p is) (buckets_of p.settings.buckets is.order.own)
+few_of : (p : LayoutPlan) (is : IsPlanned p) → AreFew p.settings.buckets (first_of p is) (hashes_of p is) (buckets_of p.settings.buckets is.order.own)
 few_of p is = record {
   some = is.some;
   below = is.count;
@@ -638,10 +638,10 @@ few_of p is = record {
   small = λ j. hashes_small is.order.own j;
 }
 
-abbrev planned_table : (p : Plan) → IsPlanned p → Table
+abbrev planned_table : (p : LayoutPlan) → IsPlanned p → Table
 planned_table p is = table_of p.settings.buckets (first_of p is) (hashes_of p is) (buckets_of p.settings.buckets is.order.own)
 
-same_table : (p : Plan) (is : IsPlanned p) → gnu_of p ≡ planned_table p is
+same_table : (p : LayoutPlan) (is : IsPlanned p) → gnu_of p ≡ planned_table p is
 unfolding gnu_table with_words gnu_buckets
 same_table p is =
     let count : ℕ = p.settings.buckets in
@@ -651,33 +651,33 @@ same_table p is =
     ∙ ap (λ (words : List ℕ). with_words words n) (words_are count (first_of p is) (hashes_of p is) (buckets_of count is.order.own))
     ∙ ap (λ (m : ℕ). with_words (words_of count (first_of p is) (hashes_of p is) (buckets_of count is.order.own)) m) (all_symbols p is)
 
-own_bucket : (count : ℕ) (symbols : List Symbol) (j : ℕ) → 0 < count → j < length symbols → get_or (buckets_of count symbols) j 0 ≡ get_or (map hash_of symbols) j 0 % count
+own_bucket : (count : ℕ) (symbols : List SymbolLine) (j : ℕ) → 0 < count → j < length symbols → get_or (buckets_of count symbols) j 0 ≡ get_or (map hash_of symbols) j 0 % count
 unfolding bucket_of
 own_bucket count [] j some lt = absurd (omega (arith, lt))
 own_bucket count (s ∷ symbols) zero some lt = rw (not_zero count some) refl
 own_bucket count (s ∷ symbols) (suc j) some lt = own_bucket count symbols j some (omega (arith, lt))
 
 -- a defined symbol stands behind the others
-own_index : (p : Plan) (is : IsPlanned p) (i : ℕ) (d : Symbol) → i < length p.symbols → (get_or p.symbols i d).defined ≡ true → length is.order.others ≤ i
+own_index : (p : LayoutPlan) (is : IsPlanned p) (i : ℕ) (d : SymbolLine) → i < length p.symbols → (get_or p.symbols i d).defined ≡ true → length is.order.others ≤ i
 own_index p is i d lt defined = elim (cases_lt i (length is.order.others)) [
   | inr past ↦ past
   | inl before ↦
-      let there : get_or p.symbols i d ≡ get_or is.order.others i d = ap (λ (l : List Symbol). get_or l i d) is.order.parts ∙ get_or_append_left is.order.others is.order.own d i before in
+      let there : get_or p.symbols i d ≡ get_or is.order.others i d = ap (λ (l : List SymbolLine). get_or l i d) is.order.parts ∙ get_or_append_left is.order.others is.order.own d i before in
       let never : (get_or is.order.others i d).defined ≡ false = all_at (λ x. x.defined ≡ false) is.order.others i d before is.order.undefined in
-      absurd (false≢true (sym never ∙ sym (ap (λ (s : Symbol). s.defined) there) ∙ defined))
+      absurd (false≢true (sym never ∙ sym (ap (λ (s : SymbolLine). s.defined) there) ∙ defined))
 ]
 
-plan_leads : (p : Plan) (is : IsPlanned p) (i : ℕ) (d : Symbol) → i < length p.symbols → (get_or p.symbols i d).defined ≡ true → is_chain_symbol (planned_table p is) (gnu (get_or p.symbols i d).name) (i + 1) ≡ true
+plan_leads : (p : LayoutPlan) (is : IsPlanned p) (i : ℕ) (d : SymbolLine) → i < length p.symbols → (get_or p.symbols i d).defined ≡ true → is_chain_symbol (planned_table p is) (gnu (get_or p.symbols i d).name) (i + 1) ≡ true
 unfolding hash_of
 plan_leads p is i d lt defined =
     let count : ℕ = p.settings.buckets in
     let o : IsOrdered count p.symbols = is.order in
     let past : length o.others ≤ i = own_index p is i d lt defined in
     let j : ℕ = i - length o.others in
-    let own : get_or p.symbols i d ≡ get_or o.own j d = ap (λ (l : List Symbol). get_or l i d) o.parts ∙ get_or-append_right o.others o.own (length o.others) i d refl past in
+    let own : get_or p.symbols i d ≡ get_or o.own j d = ap (λ (l : List SymbolLine). get_or l i d) o.parts ∙ get_or-append_right o.others o.own (length o.others) i d refl past in
     let long : length (hashes_of p is) ≡ length o.own = length-map o.own hash_of in
-    let inside : j < length o.own = omega (arith, lt, past, ap (λ (l : List Symbol). length l) o.parts, length-append o.others o.own) in
-    let hashed : get_or (hashes_of p is) j 0 ≡ gnu (get_or p.symbols i d).name = get_or-map hash_of o.own j d 0 inside ∙ sym (ap (λ (s : Symbol). gnu s.name) own) in
+    let inside : j < length o.own = omega (arith, lt, past, ap (λ (l : List SymbolLine). length l) o.parts, length-append o.others o.own) in
+    let hashed : get_or (hashes_of p is) j 0 ≡ gnu (get_or p.symbols i d).name = get_or-map hash_of o.own j d 0 inside ∙ sym (ap (λ (s : SymbolLine). gnu s.name) own) in
     let at : first_of p is + j ≡ i + 1 = omega (arith, past) in
     let bucketed : get_or (buckets_of count o.own) j 0 ≡ gnu (get_or p.symbols i d).name % count = own_bucket count o.own j is.some inside ∙ ap (λ (n : ℕ). n % count) hashed in
     subst (λ (n : ℕ). is_chain_symbol (planned_table p is) (gnu (get_or p.symbols i d).name) n ≡ true) at
@@ -685,7 +685,7 @@ plan_leads p is i d lt defined =
 
 pub gnu_whole : GnuIsWhole
 gnu_whole r fits =
-    let p : Plan = plan_of r in
+    let p : LayoutPlan = plan_of r in
     let is : IsPlanned p = is_planned r fits in
     record {
       formed = subst (λ (t : Table). well_formed t ≡ true) (sym (same_table p is)) (table_formed p.settings.buckets (first_of p is) (hashes_of p is) (buckets_of p.settings.buckets is.order.own) (few_of p is));

@@ -14,25 +14,25 @@ use Rattle.pl_elf.specs.Written as written
 use Rattle.pl_elf.proofs.WrittenLaws.{header_read, segment_read, section_read}
 use Rattle.pl_parts.proofs.HeadLaws.{header_part, segment_part, section_part, length-segment, length-section}
 use Rattle.pl_build.specs.declared.layout.Tables.{Tables}
-use Rattle.pl_build.specs.declared.plan.Plan.{Plan}
+use Rattle.pl_build.specs.declared.layout_plan.LayoutPlan.{LayoutPlan}
 use Rattle.pl_build.specs.declared.recipe.Recipe.{Recipe}
 use Rattle.pl_build.specs.declared.recipe.Settings.{Settings}
-use Rattle.pl_build.specs.declared.roles.Place.{Place}
+use Rattle.pl_build.specs.declared.roles.PlacedSection.{PlacedSection}
 use Rattle.pl_build.specs.declared.roles.Role.{Role}
 use Rattle.pl_build.specs.declared.roles.Role.TheVariants.{Null, Interp, Hash, GnuHash, Dynsym, Dynstr, Versym, Verdef, Verneed, RelaDyn, RelaPlt, RelrDyn, Dynamic, Data, Bss, Shstrtab}
 use Rattle.pl_build.specs.declared.sections.SectionRow.{SectionRow}
-use Rattle.pl_build.specs.declared.strings.Strings.{Strings}
+use Rattle.pl_build.specs.declared.string_table.StringTable.{StringTable}
 use Rattle.pl_build.specs.Choices.{chosen}
 use Rattle.pl_build.specs.Dynamic.{place_of, null_place, is_there, is_at}
 use Rattle.pl_build.specs.Fields.{fields}
 use Rattle.pl_build.specs.File.{ident, type_of, entry_or_base, places_of, sections_offset, file_end, file_of, header_bytes}
 use Rattle.pl_build.specs.Layout.{end_of, filled_to, tables}
 use Rattle.pl_build.specs.Needed.{files_of}
-use Rattle.pl_build.specs.Plan.{plan_of, base_of, data_address, has_interp}
+use Rattle.pl_build.specs.LayoutPlan.{plan_of, base_of, data_address, has_interp}
 use Rattle.pl_build.specs.Roles.{section_name, kind_of, flags_of, align_of, entsize_of, link_of, has_name, index_of}
 use Rattle.pl_build.specs.Sections.{info_of, row_of, first_places, last_places, section_rows}
 use Rattle.pl_build.specs.Segments.{readable, first_load, second_load, dynamic_segment, has_data, with_count, segments, data_offset}
-use Rattle.pl_build.specs.Strings.{start, section_names, role_text_added, text_added}
+use Rattle.pl_build.specs.StringTable.{start, section_names, role_text_added, text_added}
 use Rattle.pl_build.specs.FileKinds.{is_position_independent}
 use Rattle.law_demo.specs.Plain.{ArePlain, IsPlain}
 use Rattle.law_demo.specs.Planned.{is_table, header_of, section_of, planned_segments, planned_header, planned_sections, IsHeaded}
@@ -100,7 +100,7 @@ whole_roles r plain = subst (λ (l : List Role). (Null ∷ filter is_table l) ++
 
 -- ---- numbers that fit their fields
 
-pub record FitsPlace (place : Place) : Type 0 where
+pub record FitsPlace (place : PlacedSection) : Type 0 where
   pub addr : place.addr < 2 ^ 64
   pub offset : place.offset < 2 ^ 64
   pub size : place.size < 2 ^ 64
@@ -127,7 +127,7 @@ pub record FitsSegment (s : Segment) : Type 0 where
   pub memsz : s.memsz < 2 ^ 64
   pub align : s.align < 2 ^ 64
 
-section_back : (s : Section) → FitsSection s → elf.section_at (written.section_bytes s) 0 ≡ s
+section_back : (s : Section) → FitsSection s → elf.section_at (written.section_header_bytes s) 0 ≡ s
 section_back s f = section_read s f.name f.kind f.flags f.addr f.offset f.size f.link f.info f.addralign f.entsize
 
 segment_back : (s : Segment) → FitsSegment s → elf.segment_at (written.segment_bytes s) 0 ≡ s
@@ -156,7 +156,7 @@ role_fits Data = (omega arith, omega arith, omega arith, omega arith)
 role_fits Bss = (omega arith, omega arith, omega arith, omega arith)
 role_fits Shstrtab = (omega arith, omega arith, omega arith, omega arith)
 
-info_fits : (p : Plan) (role : Role) → p.versions ≡ [] → p.files ≡ [] → info_of p role < 2 ^ 32
+info_fits : (p : LayoutPlan) (role : Role) → p.versions ≡ [] → p.files ≡ [] → info_of p role < 2 ^ 32
 unfolding info_of
 info_fits p Null versions files = omega arith
 info_fits p Interp versions files = omega arith
@@ -213,7 +213,7 @@ pub all_append : {X : Type 0} (P : X → Type 0) (xs ys : List X) → AllByRecur
 all_append P [] ys all more = more
 all_append P (x ∷ xs) ys all more = (all.0, all_append P xs ys all.1 more)
 
-standing_fit : (p : Plan) (xs : List ℕ) (from : ℕ) (before places : List Place) → length xs ≤ 1048576 → AreStanding p xs from before places → AllByRecursion FitsPlace places
+standing_fit : (p : LayoutPlan) (xs : List ℕ) (from : ℕ) (before places : List PlacedSection) → length xs ≤ 1048576 → AreStanding p xs from before places → AllByRecursion FitsPlace places
 standing_fit p xs from before [] le h = tt
 standing_fit p xs from before (place ∷ places) le h =
     let s = h.0 in (
@@ -226,7 +226,7 @@ standing_fit p xs from before (place ∷ places) le h =
     )
 
 -- the tables' places end below 1 MiB
-pub laid_fit : (p : Plan) (front : List ℕ) (t : Tables) → length front ≡ 1024 → AreLaid p front t → AllByRecursion FitsPlace t.places
+pub laid_fit : (p : LayoutPlan) (front : List ℕ) (t : Tables) → length front ≡ 1024 → AreLaid p front t → AllByRecursion FitsPlace t.places
 laid_fit p front t size laid = standing_fit p (front ++ t.bytes) 1024 [] t.places (omega (arith, length-append front t.bytes, size, laid.fits)) laid.standing
 
 -- of a plain recipe
@@ -234,7 +234,7 @@ pub plain_first : (r : Recipe) → IsPlain r → first_places (plan_of r) ≡ nu
 unfolding first_places has_interp plan_of
 plain_first r plain = rw plain.settings.bare refl
 
-last_fit : (p : Plan) (t : Tables) (size : ℕ) → ArePlain p.settings → end_of t ≤ 1048576 → size ≤ 256 → AllByRecursion FitsPlace (last_places p (data_offset (end_of t)) size)
+last_fit : (p : LayoutPlan) (t : Tables) (size : ℕ) → ArePlain p.settings → end_of t ≤ 1048576 → size ≤ 256 → AllByRecursion FitsPlace (last_places p (data_offset (end_of t)) size)
 unfolding last_places
 last_fit p t size plain fits small =
     let near : data_offset (end_of t) < end_of t + 4096 = round_up-near (end_of t) 4096 (omega arith) in (
@@ -245,7 +245,7 @@ last_fit p t size plain fits small =
       ),
     )
 
-row_fits : (p : Plan) (names : Strings) (place : Place) → p.versions ≡ [] → p.files ≡ [] → length p.roles ≤ 11 → AreTexts names → length names.bytes ≤ 256 → FitsPlace place → FitsSection (section_of (row_of p names place))
+row_fits : (p : LayoutPlan) (names : StringTable) (place : PlacedSection) → p.versions ≡ [] → p.files ≡ [] → length p.roles ≤ 11 → AreTexts names → length names.bytes ≤ 256 → FitsPlace place → FitsSection (section_of (row_of p names place))
 unfolding row_of section_of
 row_fits p names place versions files few texts small fits =
     let role = role_fits place.role in
@@ -262,7 +262,7 @@ row_fits p names place versions files few texts small fits =
       entsize = role.3;
     }
 
-rows_fit : (p : Plan) (names : Strings) (places : List Place) → p.versions ≡ [] → p.files ≡ [] → length p.roles ≤ 11 → AreTexts names → length names.bytes ≤ 256 → AllByRecursion FitsPlace places → AllByRecursion FitsSection (map section_of (section_rows p names places))
+rows_fit : (p : LayoutPlan) (names : StringTable) (places : List PlacedSection) → p.versions ≡ [] → p.files ≡ [] → length p.roles ≤ 11 → AreTexts names → length names.bytes ≤ 256 → AllByRecursion FitsPlace places → AllByRecursion FitsSection (map section_of (section_rows p names places))
 unfolding section_rows
 rows_fit p names [] versions files few texts small all = tt
 rows_fit p names (place ∷ places) versions files few texts small all = (row_fits p names place versions files few texts small all.0, rows_fit p names places versions files few texts small all.1)
@@ -284,7 +284,7 @@ plain_files : (r : Recipe) → IsPlain r → (plan_of r).files ≡ []
 unfolding plan_of files_of
 plain_files r plain = rw (plain_needs r plain) refl
 
-roles_texts : (s : Strings) (roles : List Role) → AreTexts s → AreTexts (fold role_text_added s roles)
+roles_texts : (s : StringTable) (roles : List Role) → AreTexts s → AreTexts (fold role_text_added s roles)
 roles_texts s [] h = h
 roles_texts s (role ∷ roles) h = roles_texts (text_added s (section_name role)) roles (added_texts s (section_name role) h)
 
@@ -294,7 +294,7 @@ names_texts roles = roles_texts start roles start_texts
 
 -- ---- the program header table
 
-pub plain_segments : (s : Settings) (tables_end : ℕ) (dynamic : Place) → ArePlain s → segments s tables_end dynamic ≡ chosen ((true, first_load s tables_end) ∷ (has_data s, second_load s tables_end) ∷ (is_there dynamic, dynamic_segment dynamic) ∷ [])
+pub plain_segments : (s : Settings) (tables_end : ℕ) (dynamic : PlacedSection) → ArePlain s → segments s tables_end dynamic ≡ chosen ((true, first_load s tables_end) ∷ (has_data s, second_load s tables_end) ∷ (is_there dynamic, dynamic_segment dynamic) ∷ [])
 unfolding segments with_count has_interp chosen
 plain_segments s tables_end dynamic plain = rw (plain.bare, plain.no_tls) refl
 
@@ -324,7 +324,7 @@ second_fits s tables_end plain le = record {
   align = omega arith;
 }
 
-dynamic_fits : (place : Place) → FitsPlace place → FitsSegment (dynamic_segment place)
+dynamic_fits : (place : PlacedSection) → FitsPlace place → FitsSegment (dynamic_segment place)
 unfolding dynamic_segment readable
 dynamic_fits place fits = record {
   kind = omega arith;
@@ -337,7 +337,7 @@ dynamic_fits place fits = record {
   align = omega arith;
 }
 
-pub place_fits : (name : List ℕ) (places : List Place) → AllByRecursion FitsPlace places → FitsPlace (place_of places name)
+pub place_fits : (name : List ℕ) (places : List PlacedSection) → AllByRecursion FitsPlace places → FitsPlace (place_of places name)
 unfolding place_of
 place_fits name [] all = record { addr = omega arith; offset = omega arith; size = omega arith }
 place_fits name (place ∷ places) all = elim (cases_Bool (is_at name place)) [
@@ -345,7 +345,7 @@ place_fits name (place ∷ places) all = elim (cases_Bool (is_at name place)) [
   | inr miss ↦ rw miss (place_fits name places all.1)
 ]
 
-segments_fit : (p : Plan) (t : Tables) → ArePlain p.settings → end_of t ≤ 1048576 → AllByRecursion FitsPlace t.places → AllByRecursion FitsSegment (planned_segments p t)
+segments_fit : (p : LayoutPlan) (t : Tables) → ArePlain p.settings → end_of t ≤ 1048576 → AllByRecursion FitsPlace t.places → AllByRecursion FitsSegment (planned_segments p t)
 unfolding planned_segments
 segments_fit p t plain le all =
     subst (AllByRecursion FitsSegment) (sym (plain_segments p.settings (end_of t) (place_of t.places (codes ".dynamic")) plain)) (all_chosen FitsSegment _ (
@@ -356,7 +356,7 @@ segments_fit p t plain le all =
       ),
     ))
 
-segments_are : (p : Plan) (t : Tables) → ArePlain p.settings → end_of t ≤ 1048576 → AllByRecursion FitsPlace t.places → elf.segments (file_by p t) (planned_header p t) ≡ planned_segments p t
+segments_are : (p : LayoutPlan) (t : Tables) → ArePlain p.settings → end_of t ≤ 1048576 → AllByRecursion FitsPlace t.places → elf.segments (file_by p t) (planned_header p t) ≡ planned_segments p t
 unfolding elf.segments planned_header header_of
 segments_are p t plain le all =
     let shoff : ℕ = sections_offset p (end_of t) (names_of p) in
@@ -369,13 +369,13 @@ ident_long : length (fields ident) ≡ 16
 unfolding fields
 ident_long = refl
 
-header_back : (p : Plan) (phnum shoff : ℕ) → phnum ≤ 7 → shoff ≤ 16777216 → length p.roles ≤ 11 → elf.header (written.header_bytes (header_of p phnum shoff)) ≡ header_of p phnum shoff
+header_back : (p : LayoutPlan) (phnum shoff : ℕ) → phnum ≤ 7 → shoff ≤ 16777216 → length p.roles ≤ 11 → elf.header (written.header_bytes (header_of p phnum shoff)) ≡ header_of p phnum shoff
 unfolding header_of
 header_back p phnum shoff few_rows near few_sections =
     header_read (header_of p phnum shoff) ident_long (type_small p.settings) (omega arith) (omega arith) (entry_small p.settings p.settings.entry) (omega arith) (omega (arith, near)) (omega arith) (omega arith) (omega arith) (omega (arith, few_rows)) (omega arith) (omega (arith, few_sections))
     (omega (arith, few_sections, index_small p.roles (codes ".shstrtab")))
 
-header_is : (p : Plan) (t : Tables) → sections_offset p (end_of t) (names_of p) ≤ 16777216 → length p.roles ≤ 11 → elf.header (file_by p t) ≡ planned_header p t
+header_is : (p : LayoutPlan) (t : Tables) → sections_offset p (end_of t) (names_of p) ≤ 16777216 → length p.roles ≤ 11 → elf.header (file_by p t) ≡ planned_header p t
 unfolding planned_header
 header_is p t near few_sections =
     let shoff : ℕ = sections_offset p (end_of t) (names_of p) in
@@ -391,13 +391,13 @@ pub places_roles : (r : Recipe) (t : Tables) (offset size : ℕ) → IsPlain r �
 unfolding places_of last_places
 places_roles r t offset size plain e =
     map-append role_of (first_places (plan_of r) ++ t.places) (last_places (plan_of r) offset size)
-    ∙ ap (λ (l : List Role). l ++ Data ∷ Bss ∷ Shstrtab ∷ []) (map-append role_of (first_places (plan_of r)) t.places ∙ ap (λ (l : List Place). map role_of l ++ map role_of t.places) (plain_first r plain) ∙ ap (λ (l : List Role). Null ∷ l) (roles_stand r t plain e))
+    ∙ ap (λ (l : List Role). l ++ Data ∷ Bss ∷ Shstrtab ∷ []) (map-append role_of (first_places (plan_of r)) t.places ∙ ap (λ (l : List PlacedSection). map role_of l ++ map role_of t.places) (plain_first r plain) ∙ ap (λ (l : List Role). Null ∷ l) (roles_stand r t plain e))
     ∙ whole_roles r plain
 
 pub sections_count : (r : Recipe) (t : Tables) → IsPlain r → tables (plan_of r) ≡ Ok t → length (planned_sections (plan_of r) t) ≡ length (plan_of r).roles
 unfolding planned_sections section_rows
 sections_count r t plain e =
-    let places : List Place = places_of (plan_of r) t (data_offset (end_of t)) (length (section_names (plan_of r).roles).bytes) in
+    let places : List PlacedSection = places_of (plan_of r) t (data_offset (end_of t)) (length (section_names (plan_of r).roles).bytes) in
     length-map (map (row_of (plan_of r) (section_names (plan_of r).roles)) places) section_of
     ∙ length-map places (row_of (plan_of r) (section_names (plan_of r).roles))
     ∙ sym (length-map places role_of)
@@ -416,7 +416,7 @@ sections_fit r t plain le all =
     rows_fit (plan_of r) (section_names (plan_of r).roles) (places_of (plan_of r) t (data_offset (end_of t)) (length (section_names (plan_of r).roles).bytes))
     (plain_versions r plain) (plain_files r plain) (few_roles r plain) (names_texts (plan_of r).roles) (few_names r plain) (places_fit r t plain le all)
 
-begins_sections : (p : Plan) (t : Tables) → Begins (filled_to (sections_offset p (end_of t) (names_of p)) (parts_by p t (sections_offset p (end_of t) (names_of p))) ++ flat_map written.section_bytes (planned_sections p t)) (file_by p t)
+begins_sections : (p : LayoutPlan) (t : Tables) → Begins (filled_to (sections_offset p (end_of t) (names_of p)) (parts_by p t (sections_offset p (end_of t) (names_of p))) ++ flat_map written.section_header_bytes (planned_sections p t)) (file_by p t)
 unfolding file_of planned_sections
 begins_sections p t =
     let shoff : ℕ = sections_offset p (end_of t) (names_of p) in
@@ -429,16 +429,16 @@ begins_sections p t =
 sections_are : (r : Recipe) (t : Tables) → IsPlain r → tables (plan_of r) ≡ Ok t → end_of t ≤ 1048576 → AllByRecursion FitsPlace t.places → elf.sections (file_by (plan_of r) t) (planned_header (plan_of r) t) ≡ planned_sections (plan_of r) t
 unfolding elf.sections planned_header header_of
 sections_are r t plain e le all =
-    let p : Plan = plan_of r in
+    let p : LayoutPlan = plan_of r in
     let shoff : ℕ = sections_offset p (end_of t) (names_of p) in
     ap (λ (n : ℕ). map (λ i. elf.section_at (file_by p t) (shoff + 64 * i)) (range_with_len 0 n)) (sym (sections_count r t plain e))
-    ∙ rows_back 64 written.section_bytes elf.section_at FitsSection length-section section_back (λ bytes at. section_part at bytes) (file_by p t) (filled_to shoff (parts_by p t shoff)) shoff (planned_sections p t) (begins_sections p t) (shoff_long p t) (sections_fit r t plain le all)
+    ∙ rows_back 64 written.section_header_bytes elf.section_at FitsSection length-section section_back (λ bytes at. section_part at bytes) (file_by p t) (filled_to shoff (parts_by p t shoff)) shoff (planned_sections p t) (begins_sections p t) (shoff_long p t) (sections_fit r t plain le all)
 
 -- ---- all three
 
 pub headed : (r : Recipe) (t : Tables) → IsPlain r → tables (plan_of r) ≡ Ok t → file_end (plan_of r) (end_of t) (names_of (plan_of r)) ≤ 16777216 → IsHeaded (plan_of r) t (file_by (plan_of r) t)
 headed r t plain e fits =
-    let p : Plan = plan_of r in
+    let p : LayoutPlan = plan_of r in
     let shoff : ℕ = sections_offset p (end_of t) (names_of p) in
     let before : List ℕ = before_tables p t shoff in
     let laid : AreLaid p before t = tables_laid p t before (before_long p t shoff) e in

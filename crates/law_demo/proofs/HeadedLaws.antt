@@ -20,14 +20,14 @@ use Rattle.pl_elf.specs.declared.section.Section.{Section}
 use Rattle.pl_elf.specs.declared.segment.Segment.{Segment}
 use Rattle.pl_parts.proofs.HeadLaws.{length-section}
 use Rattle.pl_build.specs.declared.layout.Tables.{Tables}
-use Rattle.pl_build.specs.declared.plan.Plan.{Plan}
+use Rattle.pl_build.specs.declared.layout_plan.LayoutPlan.{LayoutPlan}
 use Rattle.pl_build.specs.declared.recipe.Recipe.{Recipe}
 use Rattle.pl_build.specs.declared.recipe.Settings.{Settings}
-use Rattle.pl_build.specs.declared.roles.Place.{Place}
+use Rattle.pl_build.specs.declared.roles.PlacedSection.{PlacedSection}
 use Rattle.pl_build.specs.declared.roles.Role.{Role}
 use Rattle.pl_build.specs.declared.roles.Role.TheVariants.{Data, Bss, Shstrtab}
 use Rattle.pl_build.specs.declared.sections.SectionRow.{SectionRow}
-use Rattle.pl_build.specs.declared.strings.Strings.{Strings}
+use Rattle.pl_build.specs.declared.string_table.StringTable.{StringTable}
 use Rattle.pl_build.specs.Choices.{chosen}
 use Rattle.pl_build.specs.Data.{data_bytes}
 use Rattle.pl_build.specs.Dynamic.{place_of, is_there, is_at}
@@ -35,9 +35,9 @@ use Rattle.pl_build.specs.Fields.{fields}
 use Rattle.pl_build.specs.File.{ident, type_of, places_of, sections_offset, parts_end, file_of, header_bytes, up_to_data}
 use Rattle.pl_build.specs.FileKinds.{is_position_independent}
 use Rattle.pl_build.specs.Layout.{end_of, filled_to, tables}
-use Rattle.pl_build.specs.Plan.{plan_of, base_of, data_address}
+use Rattle.pl_build.specs.LayoutPlan.{plan_of, base_of, data_address}
 use Rattle.pl_build.specs.Roles.{section_name, kind_of, has_name, index_of}
-use Rattle.pl_build.specs.Sections.{row_of, first_places, last_places, section_rows, section_bytes}
+use Rattle.pl_build.specs.Sections.{row_of, first_places, last_places, section_rows, section_row_bytes}
 use Rattle.pl_build.specs.Segments.{readable, first_load, second_load, dynamic_segment, has_data, data_offset}
 use Rattle.law_demo.specs.Files.{FilesAreHeaded}
 use Rattle.law_demo.specs.Plain.{ArePlain, IsPlain}
@@ -53,7 +53,7 @@ use Rattle.law_demo.proofs.TextLaws.{AreTexts, text_ends}
 
 -- ---- clauses 1 to 3: the first bytes
 
-ident_is : (p : Plan) (t : Tables) (bytes : List ℕ) → elf.header bytes ≡ planned_header p t → part 0 16 bytes ≡ fields ident
+ident_is : (p : LayoutPlan) (t : Tables) (bytes : List ℕ) → elf.header bytes ≡ planned_header p t → part 0 16 bytes ≡ fields ident
 unfolding elf.header planned_header header_of
 ident_is p t bytes h = ap (λ (x : Header). x.ident) h
 
@@ -70,24 +70,24 @@ is_class : (bytes : List ℕ) → part 0 16 bytes ≡ fields ident → other_cla
 unfolding other_class fields
 is_class bytes h = rw (byte_of bytes 4 (omega arith) h, byte_of bytes 5 (omega arith) h, byte_of bytes 6 (omega arith) h) refl
 
-is_machine : (p : Plan) (t : Tables) → other_machine (planned_header p t) ≡ false
+is_machine : (p : LayoutPlan) (t : Tables) → other_machine (planned_header p t) ≡ false
 unfolding planned_header header_of
 is_machine p t = refl
 
 -- ---- where the tables end
 
-pub record IsTable (size : ℕ) (place : Place) : Type 0 where
+pub record IsTable (size : ℕ) (place : PlacedSection) : Type 0 where
   pub some : 0 < place.size
   pub low : 1024 ≤ place.offset
   pub within : place.offset + place.size ≤ size
 
-standing_tables : (p : Plan) (xs : List ℕ) (from : ℕ) (before places : List Place) → 1024 ≤ from → AreStanding p xs from before places → AllByRecursion (IsTable (length xs)) places
+standing_tables : (p : LayoutPlan) (xs : List ℕ) (from : ℕ) (before places : List PlacedSection) → 1024 ≤ from → AreStanding p xs from before places → AllByRecursion (IsTable (length xs)) places
 standing_tables p xs from before [] low h = tt
 standing_tables p xs from before (place ∷ places) low h =
     let s = h.0 in
     (record { some = s.some; low = omega (arith, low, s.after); within = s.within }, standing_tables p xs (place.offset + place.size) (before ++ place ∷ []) places (omega (arith, low, s.after)) h.1)
 
-pub found_place : (P : Place → Type 0) (name : List ℕ) (places : List Place) → AllByRecursion P places → list_any (is_at name) places ≡ true → P (place_of places name)
+pub found_place : (P : PlacedSection → Type 0) (name : List ℕ) (places : List PlacedSection) → AllByRecursion P places → list_any (is_at name) places ≡ true → P (place_of places name)
 unfolding place_of
 found_place P name [] all there = absurd (false≢true there)
 found_place P name (place ∷ places) all there = elim (cases_Bool (is_at name place)) [
@@ -106,7 +106,7 @@ dynamic_there r t plain e =
     ∙ ap (list_any (has_name (codes ".dynamic"))) (roles_stand r t plain e)
     ∙ subst (λ (l : List Role). list_any (has_name (codes ".dynamic")) (filter is_table l) ≡ true) (sym (roles_plain r plain)) (dynamic_shapes _ _ _ _)
 
-pub laid_tables : (p : Plan) (t : Tables) → tables p ≡ Ok t → (end_of t ≤ 1048576) × AllByRecursion (IsTable (end_of t)) t.places
+pub laid_tables : (p : LayoutPlan) (t : Tables) → tables p ≡ Ok t → (end_of t ≤ 1048576) × AllByRecursion (IsTable (end_of t)) t.places
 laid_tables p t e =
     let shoff : ℕ = sections_offset p (end_of t) (names_of p) in
     let before : List ℕ = before_tables p t shoff in
@@ -119,15 +119,15 @@ laid_tables p t e =
 pub file_long : (r : Recipe) (t : Tables) → IsPlain r → tables (plan_of r) ≡ Ok t → length (file_by (plan_of r) t) ≡ sections_offset (plan_of r) (end_of t) (names_of (plan_of r)) + 64 * length (plan_of r).roles
 unfolding file_of planned_sections
 file_long r t plain e =
-    let p : Plan = plan_of r in
+    let p : LayoutPlan = plan_of r in
     let shoff : ℕ = sections_offset p (end_of t) (names_of p) in
     let rows : List SectionRow = section_rows p (names_of p) (places_of p t (data_offset (end_of t)) (length (names_of p).bytes)) in
-    let written_rows : length (flat_map section_bytes rows) ≡ 64 * length (map section_of rows) = ap (λ (l : List ℕ). length l) (sections_written_as rows) ∙ rows_long 64 written.section_bytes length-section (map section_of rows) in
-    length-append (filled_to shoff (parts_by p t shoff)) (flat_map section_bytes rows)
-    ∙ ap (λ (n : ℕ). n + length (flat_map section_bytes rows)) (shoff_long p t)
+    let written_rows : length (flat_map section_row_bytes rows) ≡ 64 * length (map section_of rows) = ap (λ (l : List ℕ). length l) (sections_written_as rows) ∙ rows_long 64 written.section_header_bytes length-section (map section_of rows) in
+    length-append (filled_to shoff (parts_by p t shoff)) (flat_map section_row_bytes rows)
+    ∙ ap (λ (n : ℕ). n + length (flat_map section_row_bytes rows)) (shoff_long p t)
     ∙ ap (λ (n : ℕ). shoff + n) (written_rows ∙ ap (λ (n : ℕ). 64 * n) (sections_count r t plain e))
 
-pub parts_before : (p : Plan) (t : Tables) → data_offset (end_of t) + p.settings.data_size + length (names_of p).bytes ≤ sections_offset p (end_of t) (names_of p)
+pub parts_before : (p : LayoutPlan) (t : Tables) → data_offset (end_of t) + p.settings.data_size + length (names_of p).bytes ≤ sections_offset p (end_of t) (names_of p)
 unfolding sections_offset parts_end
 parts_before p t = round_up-at_least (data_offset (end_of t) + p.settings.data_size + length (names_of p).bytes) 8 (omega arith)
 
@@ -150,7 +150,7 @@ second_good s tables_end plain =
     let sum : plus s.data_size s.bss ≡ s.data_size + s.bss = plus_small s.data_size s.bss (omega (arith, plain.few_data, plain.few_bss)) in
     load_good (second_load s tables_end) refl (omega (arith, sum)) (omega (arith, base_even s)) (round_up-multiple tables_end 4096) (omega (arith, sum, data_small s, plain.few_data, plain.few_bss))
 
-good : (s : Settings) (tables_end : ℕ) (dynamic : Place) → ArePlain s → tables_end ≤ 1048576 → AreGood (first_load s tables_end) (second_load s tables_end) (dynamic_segment dynamic)
+good : (s : Settings) (tables_end : ℕ) (dynamic : PlacedSection) → ArePlain s → tables_end ≤ 1048576 → AreGood (first_load s tables_end) (second_load s tables_end) (dynamic_segment dynamic)
 unfolding first_load second_load dynamic_segment readable data_address
 good s tables_end dynamic plain le = record {
   first_kind = refl;
@@ -167,11 +167,11 @@ unfolding chosen
 chosen_shown true f s d = refl
 chosen_shown false f s d = refl
 
-pub segments_shown : (p : Plan) (t : Tables) → ArePlain p.settings → is_there (place_of t.places (codes ".dynamic")) ≡ true
+pub segments_shown : (p : LayoutPlan) (t : Tables) → ArePlain p.settings → is_there (place_of t.places (codes ".dynamic")) ≡ true
     → planned_segments p t ≡ shown (has_data p.settings) (first_load p.settings (end_of t)) (second_load p.settings (end_of t)) (dynamic_segment (place_of t.places (codes ".dynamic")))
 unfolding planned_segments
 segments_shown p t plain there =
-    let d : Place = place_of t.places (codes ".dynamic") in
+    let d : PlacedSection = place_of t.places (codes ".dynamic") in
     plain_segments p.settings (end_of t) d plain
     ∙ ap (λ (b : Bool). chosen ((true, first_load p.settings (end_of t)) ∷ (has_data p.settings, second_load p.settings (end_of t)) ∷ (b, dynamic_segment d) ∷ [])) there
     ∙ chosen_shown (has_data p.settings) (first_load p.settings (end_of t)) (second_load p.settings (end_of t)) (dynamic_segment d)
@@ -182,18 +182,18 @@ shown_in size false f s d one two three = (one, (three, tt))
 
 -- ---- clause 5
 
-abbrev pub IsPlaceIn : ℕ → Place → Type 0
+abbrev pub IsPlaceIn : ℕ → PlacedSection → Type 0
 IsPlaceIn size place = (place.role ≡ Bss) ⊎ (place.offset + place.size ≤ size)
 
-row_in : (p : Plan) (names : Strings) (size : ℕ) (place : Place) → IsPlaceIn size place → IsHeldIn size (section_of (row_of p names place))
+row_in : (p : LayoutPlan) (names : StringTable) (size : ℕ) (place : PlacedSection) → IsPlaceIn size place → IsHeldIn size (section_of (row_of p names place))
 unfolding row_of section_of kind_of
 row_in p names size place (inl zeros) = inl (ap kind_of zeros)
 row_in p names size place (inr held) = inr held
 
-pub there_is : (place : Place) → 0 < place.size → is_there place ≡ true
+pub there_is : (place : PlacedSection) → 0 < place.size → is_there place ≡ true
 there_is place some = grind (arith, nat_tests)
 
-pub heads_within : (p : Plan) (t : Tables) → 64 + 56 * length (planned_segments p t) ≤ length (file_by p t)
+pub heads_within : (p : LayoutPlan) (t : Tables) → 64 + 56 * length (planned_segments p t) ≤ length (file_by p t)
 heads_within p t =
     let shoff : ℕ = sections_offset p (end_of t) (names_of p) in
     let h : List ℕ = header_bytes p (length (planned_segments p t)) shoff in
@@ -201,27 +201,27 @@ heads_within p t =
     omega (arith, begins_long (heads p t shoff) (file_by p t) (begins_heads p t), length-append h s, header_long p (length (planned_segments p t)) shoff, segments_long (planned_segments p t))
 
 -- fields of the header
-segment_rows_in : (p : Plan) (t : Tables) → (planned_header p t).phoff + 56 * (planned_header p t).phnum ≤ length (file_by p t)
+segment_rows_in : (p : LayoutPlan) (t : Tables) → (planned_header p t).phoff + 56 * (planned_header p t).phnum ≤ length (file_by p t)
 unfolding planned_header header_of
 segment_rows_in p t = heads_within p t
 
-section_rows_in : (p : Plan) (t : Tables) → length (file_by p t) ≡ sections_offset p (end_of t) (names_of p) + 64 * length p.roles → (planned_header p t).shoff + 64 * (planned_header p t).shnum ≤ length (file_by p t)
+section_rows_in : (p : LayoutPlan) (t : Tables) → length (file_by p t) ≡ sections_offset p (end_of t) (names_of p) + 64 * length p.roles → (planned_header p t).shoff + 64 * (planned_header p t).shnum ≤ length (file_by p t)
 unfolding planned_header header_of
 section_rows_in p t long = omega (arith, long)
 
-index_is : (p : Plan) (t : Tables) (n : ℕ) → n + 1 ≡ length p.roles → index_of p.roles (codes ".shstrtab") + 1 ≡ length p.roles → (planned_header p t).shstrndx ≡ n
+index_is : (p : LayoutPlan) (t : Tables) (n : ℕ) → n + 1 ≡ length p.roles → index_of p.roles (codes ".shstrtab") + 1 ≡ length p.roles → (planned_header p t).shstrndx ≡ n
 unfolding planned_header header_of
 index_is p t n count last = omega (arith, count, last)
 
-count_is : (p : Plan) (t : Tables) (n : ℕ) → n + 1 ≡ length p.roles → n < (planned_header p t).shnum
+count_is : (p : LayoutPlan) (t : Tables) (n : ℕ) → n + 1 ≡ length p.roles → n < (planned_header p t).shnum
 unfolding planned_header header_of
 count_is p t n count = omega (arith, count)
 
-table_in : (size : ℕ) (places : List Place) (n : ℕ) → n ≤ size → AllByRecursion (IsTable n) places → AllByRecursion (IsPlaceIn size) places
+table_in : (size : ℕ) (places : List PlacedSection) (n : ℕ) → n ≤ size → AllByRecursion (IsTable n) places → AllByRecursion (IsPlaceIn size) places
 table_in size [] n le all = tt
 table_in size (place ∷ places) n le all = (inr (omega (arith, le, all.0.within)), table_in size places n le all.1)
 
-rows_in : (p : Plan) (names : Strings) (size : ℕ) (places : List Place) → AllByRecursion (IsPlaceIn size) places → AllByRecursion (IsHeldIn size) (map section_of (section_rows p names places))
+rows_in : (p : LayoutPlan) (names : StringTable) (size : ℕ) (places : List PlacedSection) → AllByRecursion (IsPlaceIn size) places → AllByRecursion (IsHeldIn size) (map section_of (section_rows p names places))
 unfolding section_rows
 rows_in p names size [] all = tt
 rows_in p names size (place ∷ places) all = (row_in p names size place all.0, rows_in p names size places all.1)
@@ -230,7 +230,7 @@ places_in : (r : Recipe) (t : Tables) (size : ℕ) → IsPlain r → AllByRecurs
     → AllByRecursion (IsPlaceIn size) (places_of (plan_of r) t (data_offset (end_of t)) (length (names_of (plan_of r)).bytes))
 unfolding places_of last_places
 places_in r t size plain all le =
-    let p : Plan = plan_of r in
+    let p : LayoutPlan = plan_of r in
     let far = parts_before p t in
     let near = round_up-at_least (end_of t) 4096 (omega arith) in
     all_append (IsPlaceIn size) (first_places p ++ t.places) _
@@ -240,13 +240,13 @@ places_in r t size plain all le =
 planned_in : (r : Recipe) (t : Tables) (size : ℕ) → IsPlain r → tables (plan_of r) ≡ Ok t → sections_offset (plan_of r) (end_of t) (names_of (plan_of r)) ≤ size → AllByRecursion (IsHeldIn size) (planned_sections (plan_of r) t)
 unfolding planned_sections
 planned_in r t size plain e le =
-    let p : Plan = plan_of r in
+    let p : LayoutPlan = plan_of r in
     rows_in p (names_of p) size (places_of p t (data_offset (end_of t)) (length (names_of p).bytes)) (places_in r t size plain (laid_tables p t e).1 le)
 
 segments_inside : (r : Recipe) (t : Tables) (size : ℕ) → IsPlain r → tables (plan_of r) ≡ Ok t → sections_offset (plan_of r) (end_of t) (names_of (plan_of r)) ≤ size → AllByRecursion (IsInFile size) (planned_segments (plan_of r) t)
 unfolding first_load second_load dynamic_segment readable
 segments_inside r t size plain e le =
-    let p : Plan = plan_of r in
+    let p : LayoutPlan = plan_of r in
     let laid = laid_tables p t e in
     let d : IsTable (end_of t) (place_of t.places (codes ".dynamic")) = found_place (IsTable (end_of t)) (codes ".dynamic") t.places laid.1 (dynamic_there r t plain e) in
     let far = parts_before p t in
@@ -257,7 +257,7 @@ segments_inside r t size plain e le =
 
 inside : (r : Recipe) (t : Tables) → IsPlain r → tables (plan_of r) ≡ Ok t → IsHeaded (plan_of r) t (file_by (plan_of r) t) → AreInside (file_by (plan_of r) t) (planned_header (plan_of r) t)
 inside r t plain e h =
-    let p : Plan = plan_of r in
+    let p : LayoutPlan = plan_of r in
     let size : ℕ = length (file_by p t) in
     let long = file_long r t plain e in
     let le : sections_offset p (end_of t) (names_of p) ≤ size = omega (arith, long) in
@@ -286,23 +286,23 @@ last_section bytes h xs s e lt =
     sym (at_range (elf.section bytes h) 0 h.shnum (length xs) s lt ∙ ap (elf.section bytes h) here) ∙ ap (λ (l : List Section). get_or l (length xs) s) e ∙ at_last xs s s
 
 -- the section of the names
-abbrev pub names_place : Plan → Tables → Place
+abbrev pub names_place : LayoutPlan → Tables → PlacedSection
 names_place p t = record { role = Shstrtab; addr = 0; offset = data_offset (end_of t) + p.settings.data_size; size = length (names_of p).bytes }
 
 -- the sections before it
-abbrev pub sections_before : Plan → Tables → List Section
+abbrev pub sections_before : LayoutPlan → Tables → List Section
 sections_before p t =
     map section_of (map (row_of p (names_of p)) ((first_places p ++ t.places) ++
     record { role = Data; addr = data_address p.settings; offset = data_offset (end_of t); size = p.settings.data_size }
     ∷ record { role = Bss; addr = plus (data_address p.settings) p.settings.data_size; offset = 0; size = p.settings.bss } ∷ []))
 
-sections_end : (p : Plan) (t : Tables) → planned_sections p t ≡ sections_before p t ++ section_of (row_of p (names_of p) (names_place p t)) ∷ []
+sections_end : (p : LayoutPlan) (t : Tables) → planned_sections p t ≡ sections_before p t ++ section_of (row_of p (names_of p) (names_place p t)) ∷ []
 unfolding planned_sections section_rows places_of last_places
 sections_end p t =
-    let row : Place → SectionRow = row_of p (names_of p) in
-    let front : List Place = first_places p ++ t.places in
-    let two : List Place = record { role = Data; addr = data_address p.settings; offset = data_offset (end_of t); size = p.settings.data_size } ∷ record { role = Bss; addr = plus (data_address p.settings) p.settings.data_size; offset = 0; size = p.settings.bss } ∷ [] in
-    ap (λ (l : List Place). map section_of (map row l)) (sym (append_assoc front two (names_place p t ∷ [])))
+    let row : PlacedSection → SectionRow = row_of p (names_of p) in
+    let front : List PlacedSection = first_places p ++ t.places in
+    let two : List PlacedSection = record { role = Data; addr = data_address p.settings; offset = data_offset (end_of t); size = p.settings.data_size } ∷ record { role = Bss; addr = plus (data_address p.settings) p.settings.data_size; offset = 0; size = p.settings.bss } ∷ [] in
+    ap (λ (l : List PlacedSection). map section_of (map row l)) (sym (append_assoc front two (names_place p t ∷ [])))
     ∙ ap (map section_of) (map-append row (front ++ two) (names_place p t ∷ []))
     ∙ map-append section_of (map row (front ++ two)) (row (names_place p t) ∷ [])
 
@@ -316,7 +316,7 @@ same_number a b h = grind (arith, nat_tests)
 pub names_last : (r : Recipe) → IsPlain r → index_of (plan_of r).roles (codes ".shstrtab") + 1 ≡ length (plan_of r).roles
 names_last r plain = subst (λ (l : List Role). index_of l (codes ".shstrtab") + 1 ≡ length l) (sym (roles_plain r plain)) (same_number _ _ (index_shapes _ _ _ _))
 
-names_data : (p : Plan) (t : Tables) → section_data (file_by p t) (section_of (row_of p (names_of p) (names_place p t))) ≡ (names_of p).bytes
+names_data : (p : LayoutPlan) (t : Tables) → section_data (file_by p t) (section_of (row_of p (names_of p) (names_place p t))) ≡ (names_of p).bytes
 unfolding section_data section_of row_of kind_of
 names_data p t =
     let shoff : ℕ = sections_offset p (end_of t) (names_of p) in
@@ -326,7 +326,7 @@ names_data p t =
 
 pub names_are : (r : Recipe) (t : Tables) → IsPlain r → tables (plan_of r) ≡ Ok t → IsHeaded (plan_of r) t (file_by (plan_of r) t) → names (file_by (plan_of r) t) (planned_header (plan_of r) t) ≡ (names_of (plan_of r)).bytes
 names_are r t plain e h =
-    let p : Plan = plan_of r in
+    let p : LayoutPlan = plan_of r in
     let head : Header = planned_header p t in
     let xs : List Section = sections_before p t in
     let s : Section = section_of (row_of p (names_of p) (names_place p t)) in
@@ -335,7 +335,7 @@ names_are r t plain e h =
     let last : elf.section (file_by p t) head (length xs) ≡ s = last_section (file_by p t) head xs s (h.sections ∙ sections_end p t) (count_is p t (length xs) count) in
     ap (λ (n : ℕ). section_data (file_by p t) (elf.section (file_by p t) head n)) index ∙ ap (section_data (file_by p t)) last ∙ names_data p t
 
-names_end : (p : Plan) (names : Strings) (places : List Place) → AreTexts names → list_any (λ s. not (has_end s.name names.bytes)) (map section_of (section_rows p names places)) ≡ false
+names_end : (p : LayoutPlan) (names : StringTable) (places : List PlacedSection) → AreTexts names → list_any (λ s. not (has_end s.name names.bytes)) (map section_of (section_rows p names places)) ≡ false
 unfolding section_rows row_of section_of
 names_end p names [] texts = refl
 names_end p names (place ∷ places) texts = rw (text_ends names (section_name place.role) texts, names_end p names places texts) refl
@@ -347,14 +347,14 @@ sections_good bytes h ss size few below ends = elim (cases_Bool (h.shnum == 0)) 
   | inr some ↦ rw (some, size, not_above h.shnum 65000 few, not_at_most h.shnum h.shstrndx below, ends) refl
 ]
 
-kind_is : (p : Plan) (t : Tables) → ((planned_header p t).kind ≡ 2) ⊎ ((planned_header p t).kind ≡ 3)
+kind_is : (p : LayoutPlan) (t : Tables) → ((planned_header p t).kind ≡ 2) ⊎ ((planned_header p t).kind ≡ 3)
 unfolding planned_header header_of type_of
 kind_is p t = elim (cases_Bool (is_position_independent p.settings.kind)) [
   | inl there ↦ rw there (inr refl)
   | inr missing ↦ rw missing (inl refl)
 ]
 
-row_sizes : (p : Plan) (t : Tables) → ((planned_header p t).phentsize ≡ 56) × ((planned_header p t).shentsize ≡ 64)
+row_sizes : (p : LayoutPlan) (t : Tables) → ((planned_header p t).phentsize ≡ 56) × ((planned_header p t).shentsize ≡ 64)
 unfolding planned_header header_of
 row_sizes p t = (refl, refl)
 
@@ -362,24 +362,24 @@ counts : (r : Recipe) (t : Tables) → IsPlain r → ((planned_header (plan_of r
 unfolding planned_header header_of
 counts r t plain = (omega (arith, few_roles r plain), omega (arith, names_last r plain))
 
-planned_end : (p : Plan) (t : Tables) → list_any (λ s. not (has_end s.name (names_of p).bytes)) (planned_sections p t) ≡ false
+planned_end : (p : LayoutPlan) (t : Tables) → list_any (λ s. not (has_end s.name (names_of p).bytes)) (planned_sections p t) ≡ false
 unfolding planned_sections
 planned_end p t = names_end p (names_of p) (places_of p t (data_offset (end_of t)) (length (names_of p).bytes)) (names_texts p.roles)
 
 planned_good : (r : Recipe) (t : Tables) (h : Header) → IsPlain r → tables (plan_of r) ≡ Ok t → h.phentsize ≡ 56 → bad_segment h (planned_segments (plan_of r) t) ≡ false
 planned_good r t h plain e size =
-    let p : Plan = plan_of r in
+    let p : LayoutPlan = plan_of r in
     let laid = laid_tables p t e in
-    let place : Place = place_of t.places (codes ".dynamic") in
+    let place : PlacedSection = place_of t.places (codes ".dynamic") in
     let d : IsTable (end_of t) place = found_place (IsTable (end_of t)) (codes ".dynamic") t.places laid.1 (dynamic_there r t plain e) in
     subst (λ (ss : List Segment). bad_segment h ss ≡ false) (sym (segments_shown p t (plain_settings r plain) (there_is place d.some)))
     (segments_good h (has_data p.settings) (first_load p.settings (end_of t)) (second_load p.settings (end_of t)) (dynamic_segment place) size (good p.settings (end_of t) place (plain_settings r plain) laid.0))
 
 pub planned_dynamic : (r : Recipe) (t : Tables) → IsPlain r → tables (plan_of r) ≡ Ok t → list_any is_dynamic (planned_segments (plan_of r) t) ≡ true
 planned_dynamic r t plain e =
-    let p : Plan = plan_of r in
+    let p : LayoutPlan = plan_of r in
     let laid = laid_tables p t e in
-    let place : Place = place_of t.places (codes ".dynamic") in
+    let place : PlacedSection = place_of t.places (codes ".dynamic") in
     let d : IsTable (end_of t) place = found_place (IsTable (end_of t)) (codes ".dynamic") t.places laid.1 (dynamic_there r t plain e) in
     subst (λ (ss : List Segment). list_any is_dynamic ss ≡ true) (sym (segments_shown p t (plain_settings r plain) (there_is place d.some)))
     (dynamic_shown (has_data p.settings) (first_load p.settings (end_of t)) (second_load p.settings (end_of t)) (dynamic_segment place) (good p.settings (end_of t) place (plain_settings r plain) laid.0))
@@ -387,7 +387,7 @@ planned_dynamic r t plain e =
 -- the headers are those that were planned, and they are taken
 pub file_taken : (r : Recipe) (t : Tables) → IsPlain r → tables (plan_of r) ≡ Ok t → IsHeaded (plan_of r) t (file_by (plan_of r) t) → IsTaken (file_by (plan_of r) t) (planned_header (plan_of r) t)
 file_taken r t plain e h =
-    let p : Plan = plan_of r in
+    let p : LayoutPlan = plan_of r in
     let bytes : List ℕ = file_by p t in
     let head : Header = planned_header p t in
     let first = ident_is p t bytes h.header in

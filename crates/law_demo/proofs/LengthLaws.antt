@@ -48,9 +48,9 @@ use Rattle.pl_form.proofs.SomeLastLaws.{some_last}
 use Rattle.pl_tls.specs.declared.module.Module.{Module}
 use Rattle.pl_value.specs.Meanings as value
 use Rattle.pl_value.specs.Meanings.{meaning, meanings, row, rows_from}
-use Rattle.pl_value.specs.Ordinary.{loaded}
+use Rattle.pl_value.specs.Ordinary.{loaded_objects}
 use Rattle.pl_value.specs.declared.meaning.Meaning.{Meaning}
-use Rattle.pl_image.specs.declared.loaded.Loaded.{Loaded}
+use Rattle.pl_image.specs.declared.loaded_object.LoadedObject.{LoadedObject}
 use Rattle.pl_conflict.specs.Conflicts.{ascending, conflicts, inserted, row_of, rows_of}
 
 -- ---- a program's form, by its lists
@@ -162,7 +162,7 @@ fewer : {X Y : Type 0} (h : X → Option Y) (xs : List X) → length (filter_map
 fewer h [] = omega arith
 fewer h (x ∷ xs) = let most = one_or_none h x xs (h x) refl (fewer h xs) in omega (arith, most)
 
-length-rows : (files : List Loaded) (gs : List Meaning) → length (rows_of files gs) ≤ length gs
+length-rows : (files : List LoadedObject) (gs : List Meaning) → length (rows_of files gs) ≤ length gs
 unfolding rows_of
 length-rows files gs = fewer (λ g. row_of files g.member g.start g.word) gs
 
@@ -182,8 +182,8 @@ length-all member (o ∷ os) =
 pub conflicts_most : (objects : List Object) (parts : List (List ℕ)) (places : List ℕ) (modules : List Module) (rs : List ConflictRow) → conflicts objects parts places modules ≡ Ok rs → length rs ≤ relocations_in objects
 unfolding conflicts meanings
 conflicts_most objects parts places modules rs e =
-    let step = bind_ok (meanings objects places modules) (λ gs. Ok (ascending (rows_of (loaded places parts objects) gs))) rs e in
+    let step = bind_ok (meanings objects places modules) (λ gs. Ok (ascending (rows_of (loaded_objects places parts objects) gs))) rs e in
     let gs : List Meaning = step.0 in
-    let same : ascending (rows_of (loaded places parts objects) gs) ≡ rs = ok_same (ascending (rows_of (loaded places parts objects) gs)) rs step.2 in
+    let same : ascending (rows_of (loaded_objects places parts objects) gs) ≡ rs = ok_same (ascending (rows_of (loaded_objects places parts objects) gs)) rs step.2 in
     let count = length-each (meaning objects places modules) (value.rows objects) gs step.1 in
-    omega (arith, ap (λ (l : List ConflictRow). length l) same, length-ascending (rows_of (loaded places parts objects) gs), length-rows (loaded places parts objects) gs, count, length-all 0 objects)
+    omega (arith, ap (λ (l : List ConflictRow). length l) same, length-ascending (rows_of (loaded_objects places parts objects) gs), length-rows (loaded_objects places parts objects) gs, count, length-all 0 objects)

@@ -22,15 +22,15 @@ use Rattle.pl_object.specs.Tables.{symbols_memory, strings_memory}
 use Rattle.pl_object.specs.declared.headers.Headers.{Headers}
 use Rattle.pl_sym.specs.Table as table
 use Rattle.pl_sym.specs.declared.symbol.Symbol as read
-use Rattle.pl_build.specs.declared.line.Symbol.{Symbol}
-use Rattle.pl_build.specs.declared.plan.Plan.{Plan}
+use Rattle.pl_build.specs.declared.line.SymbolLine.{SymbolLine}
+use Rattle.pl_build.specs.declared.layout_plan.LayoutPlan.{LayoutPlan}
 use Rattle.pl_build.specs.declared.recipe.Recipe.{Recipe}
-use Rattle.pl_build.specs.declared.roles.Place.{Place}
-use Rattle.pl_build.specs.declared.strings.Strings.{Strings}
+use Rattle.pl_build.specs.declared.roles.PlacedSection.{PlacedSection}
+use Rattle.pl_build.specs.declared.string_table.StringTable.{StringTable}
 use Rattle.pl_build.specs.Choices.{chosen}
 use Rattle.pl_build.specs.Dynamic.{tag, needed_tags}
-use Rattle.pl_build.specs.Plan.{plan_of}
-use Rattle.pl_build.specs.Strings.{start, text_added, text_at, texts_added, symbol_added, symbols_added}
+use Rattle.pl_build.specs.LayoutPlan.{plan_of}
+use Rattle.pl_build.specs.StringTable.{start, text_added, text_at, texts_added, symbol_added, symbols_added}
 use Rattle.pl_build.specs.SymbolTable.{symbol_table}
 use Rattle.law_demo.specs.Accepted.{planned_linking}
 use Rattle.law_demo.specs.Modest.{IsModestSymbol, IsValidName, IsModest}
@@ -45,7 +45,7 @@ use Rattle.law_demo.proofs.ValueLaws.{planned_rows, tags_are}
 
 -- ---- the tags of needed names
 
-needed_kept : (s : Strings) (names : List (List ℕ)) → filter (has_number 1) (map (λ name. tag 1 (text_at s name)) names) ≡ map (λ name. tag 1 (text_at s name)) names
+needed_kept : (s : StringTable) (names : List (List ℕ)) → filter (has_number 1) (map (λ name. tag 1 (text_at s name)) names) ≡ map (λ name. tag 1 (text_at s name)) names
 needed_kept s [] = refl
 needed_kept s (name ∷ names) = ap (λ (ts : List Tag). tag 1 (text_at s name) ∷ ts) (needed_kept s names)
 
@@ -62,7 +62,7 @@ rows_none (c ∷ cs) none =
       | inr missing ↦ rw missing (rows_none cs parts.1)
     ]
 
-needed_filtered : (p : Plan) (places : List Place) → filter (has_number 1) (planned_tags p places) ≡ needed_tags p
+needed_filtered : (p : LayoutPlan) (places : List PlacedSection) → filter (has_number 1) (planned_tags p places) ≡ needed_tags p
 unfolding needed_tags
 needed_filtered p places =
     ap (filter (has_number 1)) (tags_are p places)
@@ -96,30 +96,30 @@ valid_no_zero name valid =
 
 -- ---- each needed name is in the strings
 
-kept_names : (s : Strings) (names : List (List ℕ)) (text : List ℕ) → is_old s text ≡ true → is_old (texts_added s names) text ≡ true
+kept_names : (s : StringTable) (names : List (List ℕ)) (text : List ℕ) → is_old s text ≡ true → is_old (texts_added s names) text ≡ true
 unfolding texts_added
 kept_names s [] text h = h
 kept_names s (name ∷ names) text h = kept_names (text_added s name) names text (kept_text s name text h)
 
-names_old : (s : Strings) (names : List (List ℕ)) → AllByRecursion (λ name. is_old (texts_added s names) name ≡ true) names
+names_old : (s : StringTable) (names : List (List ℕ)) → AllByRecursion (λ name. is_old (texts_added s names) name ≡ true) names
 unfolding texts_added
 names_old s [] = tt
 names_old s (name ∷ names) = (kept_names (text_added s name) names name (new_text s name), names_old (text_added s name) names)
 
-kept_symbols : (s : Strings) (symbols : List Symbol) (text : List ℕ) → is_old s text ≡ true → is_old (symbols_added s symbols) text ≡ true
+kept_symbols : (s : StringTable) (symbols : List SymbolLine) (text : List ℕ) → is_old s text ≡ true → is_old (symbols_added s symbols) text ≡ true
 unfolding symbols_added
 kept_symbols s [] text h = h
 kept_symbols s (x ∷ symbols) text h = kept_symbols (symbol_added s x) symbols text (kept_text s x.name text h)
 
-all_kept : (s : Strings) (symbols : List Symbol) (names : List (List ℕ)) → AllByRecursion (λ name. is_old s name ≡ true) names → AllByRecursion (λ name. is_old (symbols_added s symbols) name ≡ true) names
+all_kept : (s : StringTable) (symbols : List SymbolLine) (names : List (List ℕ)) → AllByRecursion (λ name. is_old s name ≡ true) names → AllByRecursion (λ name. is_old (symbols_added s symbols) name ≡ true) names
 all_kept s symbols [] all = tt
 all_kept s symbols (name ∷ names) all = (kept_symbols s symbols name all.0, all_kept s symbols names all.1)
 
-name_read : (s : Strings) (name : List ℕ) → AreTexts s → is_valid_name name ≡ true → is_old s name ≡ true → needed_name s.bytes (tag 1 (text_at s name)) ≡ Ok name
+name_read : (s : StringTable) (name : List ℕ) → AreTexts s → is_valid_name name ≡ true → is_old s name ≡ true → needed_name s.bytes (tag 1 (text_at s name)) ≡ Ok name
 unfolding needed_name
 name_read s name texts valid old = rw (text_found s name texts (valid_no_zero name valid) old, valid) refl
 
-names_read : (s : Strings) (names : List (List ℕ)) → AreTexts s → AllByRecursion IsValidName names → AllByRecursion (λ name. is_old s name ≡ true) names → each (needed_name s.bytes) (map (λ name. tag 1 (text_at s name)) names) ≡ Ok names
+names_read : (s : StringTable) (names : List (List ℕ)) → AreTexts s → AllByRecursion IsValidName names → AllByRecursion (λ name. is_old s name ≡ true) names → each (needed_name s.bytes) (map (λ name. tag 1 (text_at s name)) names) ≡ Ok names
 unfolding each
 names_read s [] texts valid old = refl
 names_read s (name ∷ names) texts valid old = rw (name_read s name texts valid.0 old.0, names_read s names texts valid.1 old.1) refl
@@ -128,20 +128,20 @@ plan_needed : (r : Recipe) → (plan_of r).needed ≡ r.needs
 unfolding plan_of
 plan_needed r = refl
 
-needed_read : (r : Recipe) (places : List Place) → IsPlain r → IsModest r → needed (planned_tags (plan_of r) places) (plan_of r).strings.bytes ≡ Ok r.needs
+needed_read : (r : Recipe) (places : List PlacedSection) → IsPlain r → IsModest r → needed (planned_tags (plan_of r) places) (plan_of r).strings.bytes ≡ Ok r.needs
 unfolding needed needed_tags
 needed_read r places plain m =
-    let p : Plan = plan_of r in
-    let s : Strings = p.strings in
+    let p : LayoutPlan = plan_of r in
+    let s : StringTable = p.strings in
     let old : AllByRecursion (λ name. is_old s name ≡ true) r.needs =
-    subst (λ (u : Strings). AllByRecursion (λ name. is_old u name ≡ true) r.needs) (sym (plain_strings r plain)) (all_kept (texts_added start r.needs) p.symbols r.needs (names_old start r.needs)) in
+    subst (λ (u : StringTable). AllByRecursion (λ name. is_old u name ≡ true) r.needs) (sym (plain_strings r plain)) (all_kept (texts_added start r.needs) p.symbols r.needs (names_old start r.needs)) in
     ap (each (needed_name s.bytes)) (needed_filtered p places)
     ∙ ap (λ (names : List (List ℕ)). each (needed_name s.bytes) (map (λ name. tag 1 (text_at s name)) names)) (plan_needed r)
     ∙ names_read s r.needs (plain_texts r plain) m.needs old
 
 -- ---- the symbols
 
-sound_one : (r : Recipe) (x : Symbol) → IsPlain r → IsModestSymbol r.settings x → IsSound x
+sound_one : (r : Recipe) (x : SymbolLine) → IsPlain r → IsModestSymbol r.settings x → IsSound x
 sound_one r x plain m = elim m.form [
   | inl own ↦
       let small : x.kind < 16 = elim own.kind [
@@ -166,7 +166,7 @@ sound_one r x plain m = elim m.form [
   }
 ]
 
-sound_all : (r : Recipe) (symbols : List Symbol) → IsPlain r → AllByRecursion (IsModestSymbol r.settings) symbols → AllByRecursion IsSound symbols
+sound_all : (r : Recipe) (symbols : List SymbolLine) → IsPlain r → AllByRecursion (IsModestSymbol r.settings) symbols → AllByRecursion IsSound symbols
 sound_all r [] plain all = tt
 sound_all r (x ∷ symbols) plain all = (sound_one r x plain all.0, sound_all r symbols plain all.1)
 
@@ -186,7 +186,7 @@ no_versions bytes ss sections tags all words defined needs = rw (defined, needs,
 
 -- ---- all of them
 
-pub linking_read : (r : Recipe) (bytes : List ℕ) (f : Headers) (places : List Place) → IsPlain r → IsModest r → length (plan_of r).strings.bytes < 2 ^ 32
+pub linking_read : (r : Recipe) (bytes : List ℕ) (f : Headers) (places : List PlacedSection) → IsPlain r → IsModest r → length (plan_of r).strings.bytes < 2 ^ 32
     → loaded bytes f.segments (symbols_memory (planned_tags (plan_of r) places) f.sections) ≡ symbol_table (plan_of r)
     → loaded bytes f.segments (strings_memory (planned_tags (plan_of r) places)) ≡ (plan_of r).strings.bytes
     → value_of 0x6ffffff0 (planned_tags (plan_of r) places) ≡ None → value_of 0x6ffffffc (planned_tags (plan_of r) places) ≡ None → value_of 0x6ffffffe (planned_tags (plan_of r) places) ≡ None

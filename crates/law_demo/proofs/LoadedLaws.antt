@@ -9,13 +9,13 @@ use Rattle.pl_elf.specs.declared.segment.Segment.{Segment}
 use Rattle.pl_object.specs.FilePart.{loads_byte, loader, file_window, loaded}
 use Rattle.std.proofs.lemmas.Bool.Decides.{nat_tests}
 use Rattle.pl_build.specs.declared.layout.Tables.{Tables}
-use Rattle.pl_build.specs.declared.plan.Plan.{Plan}
+use Rattle.pl_build.specs.declared.layout_plan.LayoutPlan.{LayoutPlan}
 use Rattle.pl_build.specs.declared.recipe.Settings.{Settings}
-use Rattle.pl_build.specs.declared.roles.Place.{Place}
+use Rattle.pl_build.specs.declared.roles.PlacedSection.{PlacedSection}
 use Rattle.pl_build.specs.Dynamic.{place_of}
 use Rattle.pl_build.specs.File.{sections_offset}
 use Rattle.pl_build.specs.Layout.{end_of}
-use Rattle.pl_build.specs.Plan.{plan_of, base_of}
+use Rattle.pl_build.specs.LayoutPlan.{plan_of, base_of}
 use Rattle.pl_build.specs.Segments.{readable, first_load, second_load, dynamic_segment, has_data}
 use Rattle.law_demo.specs.Loaded.{memory_of, IsLoaded, AreLoaded, TablesAreLoaded}
 use Rattle.law_demo.specs.Standing.{Stands, AreStanding, AreLaid}
@@ -47,7 +47,7 @@ window_first s tables_end offset size b second dynamic some within =
     let long : min size (base_of s + tables_end - (base_of s + offset)) ≡ size = omega (arith, within) in
     rw (found, at, long) refl
 
-one_loaded : (p : Plan) (bytes : List ℕ) (ss : List Segment) (from : ℕ) (before : List Place) (place : Place)
+one_loaded : (p : LayoutPlan) (bytes : List ℕ) (ss : List Segment) (from : ℕ) (before : List PlacedSection) (place : PlacedSection)
     → file_window ss (record { at = base_of p.settings + place.offset; size = place.size }) ≡ record { at = place.offset; size = place.size } → place.offset < 1048576 → Stands p bytes from before place → IsLoaded p bytes ss before place
 unfolding loaded
 one_loaded p bytes ss from before place window low s =
@@ -55,7 +55,7 @@ one_loaded p bytes ss from before place window low s =
     let there : file_window ss (memory_of place) ≡ record { at = place.offset; size = place.size } = ap (λ (n : ℕ). file_window ss (record { at = n; size = place.size })) at ∙ window in
     record { window = there; holds = ap (λ (w : Window). part w.at w.size bytes) there ∙ s.holds }
 
-all_loaded : (p : Plan) (bytes : List ℕ) (b : Bool) (second dynamic : Segment) (tables_end from : ℕ) (before places : List Place) → tables_end ≤ 1048576 → AllByRecursion (IsTable tables_end) places → AreStanding p bytes from before places
+all_loaded : (p : LayoutPlan) (bytes : List ℕ) (b : Bool) (second dynamic : Segment) (tables_end from : ℕ) (before places : List PlacedSection) → tables_end ≤ 1048576 → AllByRecursion (IsTable tables_end) places → AreStanding p bytes from before places
     → AreLoaded p bytes (shown b (first_load p.settings tables_end) second dynamic) before places
 all_loaded p bytes b second dynamic tables_end from before [] fits all h = tt
 all_loaded p bytes b second dynamic tables_end from before (place ∷ places) fits all h =
@@ -66,7 +66,7 @@ all_loaded p bytes b second dynamic tables_end from before (place ∷ places) fi
 
 pub tables_loaded : TablesAreLoaded
 tables_loaded r bytes plain e =
-    let p : Plan = plan_of r in
+    let p : LayoutPlan = plan_of r in
     let m = made_is p bytes e in
     let t : Tables = m.0 in
     let shoff : ℕ = sections_offset p (end_of t) (names_of p) in
@@ -75,7 +75,7 @@ tables_loaded r bytes plain e =
     let b = begins_tables p t in
     let standing : AreStanding p bytes 1024 [] t.places = subst (λ (xs : List ℕ). AreStanding p xs 1024 [] t.places) (sym (m.2 ∙ b.is)) (standing_front p (before ++ t.bytes) b.rest 1024 [] t.places laid.standing) in
     let rows = laid_tables p t m.1 in
-    let place : Place = place_of t.places (codes ".dynamic") in
+    let place : PlacedSection = place_of t.places (codes ".dynamic") in
     let d : IsTable (end_of t) place = found_place (IsTable (end_of t)) (codes ".dynamic") t.places rows.1 (dynamic_there r t plain m.1) in
     let all : AreLoaded p bytes (shown (has_data p.settings) (first_load p.settings (end_of t)) (second_load p.settings (end_of t)) (dynamic_segment place)) [] t.places =
     all_loaded p bytes (has_data p.settings) (second_load p.settings (end_of t)) (dynamic_segment place) (end_of t) 1024 [] t.places rows.0 rows.1 standing in

@@ -7,7 +7,7 @@ use Rattle.std.proofs.lemmas.Bool.Decides.{nat_tests}
 use Rattle.std.proofs.lemmas.List.Elements.{filter-append}
 use Rattle.std.proofs.lemmas.List.Sums.{sum_by-cons}
 use Rattle.pl_hash.specs.Hash.{gnu}
-use Rattle.pl_build.specs.declared.line.Symbol.{Symbol}
+use Rattle.pl_build.specs.declared.line.SymbolLine.{SymbolLine}
 use Rattle.pl_build.specs.declared.recipe.Settings.{Settings}
 use Rattle.pl_build.specs.HashTables.{is_defined, hash_of, gnu_hashes}
 use Rattle.pl_build.specs.Symbols.{bucket_of, bucket, is_in, is_undefined, ordered}
@@ -78,49 +78,49 @@ not_true : (b : Bool) → not b ≡ true → b ≡ false
 not_true true h = sym h
 not_true false h = refl
 
-in_bucket : (s : Settings) (b : ℕ) (x : Symbol) → s.hashes.gnu ≡ true → is_in s b x ≡ true → (x.defined ≡ true) × (bucket_of s.buckets (hash_of x) ≡ b)
+in_bucket : (s : Settings) (b : ℕ) (x : SymbolLine) → s.hashes.gnu ≡ true → is_in s b x ≡ true → (x.defined ≡ true) × (bucket_of s.buckets (hash_of x) ≡ b)
 unfolding is_in bucket hash_of
 in_bucket s b x has h =
     let both = and_parts x.defined (bucket s x == b) h in
     let own : bucket s x ≡ bucket_of s.buckets (gnu x.name) = rw has refl in
     (both.0, sym own ∙ same_from (bucket s x) b both.1)
 
-abbrev pub buckets_of : ℕ → List Symbol → List ℕ
+abbrev pub buckets_of : ℕ → List SymbolLine → List ℕ
 buckets_of count symbols = map (bucket_of count) (map hash_of symbols)
 
-buckets_all : (count b : ℕ) (symbols : List Symbol) → AllByRecursion (λ x. bucket_of count (hash_of x) ≡ b) symbols → AllByRecursion (λ n. n ≡ b) (buckets_of count symbols)
+buckets_all : (count b : ℕ) (symbols : List SymbolLine) → AllByRecursion (λ x. bucket_of count (hash_of x) ≡ b) symbols → AllByRecursion (λ n. n ≡ b) (buckets_of count symbols)
 buckets_all count b [] all = tt
 buckets_all count b (x ∷ symbols) all = (all.0, buckets_all count b symbols all.1)
 
-buckets_append : (count : ℕ) (xs ys : List Symbol) → buckets_of count (xs ++ ys) ≡ buckets_of count xs ++ buckets_of count ys
+buckets_append : (count : ℕ) (xs ys : List SymbolLine) → buckets_of count (xs ++ ys) ≡ buckets_of count xs ++ buckets_of count ys
 buckets_append count [] ys = refl
 buckets_append count (x ∷ xs) ys = ap (λ (l : List ℕ). bucket_of count (hash_of x) ∷ l) (buckets_append count xs ys)
 
 -- ---- the defined symbols by ascending buckets
 
-abbrev by_buckets : Settings → List Symbol → ℕ → ℕ → List Symbol
+abbrev by_buckets : Settings → List SymbolLine → ℕ → ℕ → List SymbolLine
 by_buckets s symbols k n = flat_map (λ b. filter (is_in s b) symbols) (range_with_len k n)
 
-ascending : (s : Settings) (symbols : List Symbol) (k n : ℕ) → s.hashes.gnu ≡ true → Ascends k (buckets_of s.buckets (by_buckets s symbols k n))
+ascending : (s : Settings) (symbols : List SymbolLine) (k n : ℕ) → s.hashes.gnu ≡ true → Ascends k (buckets_of s.buckets (by_buckets s symbols k n))
 ascending s symbols k zero has = tt
 ascending s symbols k (suc n) has =
-    let here : List Symbol = filter (is_in s k) symbols in
-    let rest : List Symbol = by_buckets s symbols (k + 1) n in
+    let here : List SymbolLine = filter (is_in s k) symbols in
+    let rest : List SymbolLine = by_buckets s symbols (k + 1) n in
     let all : AllByRecursion (λ x. bucket_of s.buckets (hash_of x) ≡ k) here = all_passed (λ x. bucket_of s.buckets (hash_of x) ≡ k) (is_in s k) (λ x h. (in_bucket s k x has h).1) symbols in
     let more : Ascends k (buckets_of s.buckets rest) = from_lower k (k + 1) (buckets_of s.buckets rest) (omega arith) (ascending s symbols (k + 1) n has) in
     subst (Ascends k) (sym (buckets_append s.buckets here rest)) (equal_front k (buckets_of s.buckets here) (buckets_of s.buckets rest) (buckets_all s.buckets k here all) more)
 
 -- ---- both parts
 
-pub record IsOrdered (count : ℕ) (symbols : List Symbol) : Type 0 where
-  pub others : List Symbol
-  pub own : List Symbol
+pub record IsOrdered (count : ℕ) (symbols : List SymbolLine) : Type 0 where
+  pub others : List SymbolLine
+  pub own : List SymbolLine
   pub parts : symbols ≡ others ++ own
   pub undefined : AllByRecursion (λ x. x.defined ≡ false) others
   pub defined : AllByRecursion (λ x. x.defined ≡ true) own
   pub ascending : Ascends 0 (buckets_of count own)
 
-pub is_ordered : (s : Settings) (symbols : List Symbol) → s.hashes.gnu ≡ true → IsOrdered s.buckets (ordered s symbols)
+pub is_ordered : (s : Settings) (symbols : List SymbolLine) → s.hashes.gnu ≡ true → IsOrdered s.buckets (ordered s symbols)
 unfolding ordered
 is_ordered s symbols has = record {
   others = filter is_undefined symbols;
@@ -133,30 +133,30 @@ is_ordered s symbols has = record {
 
 -- ---- the hashes of the defined ones, and how many others there are
 
-pub own_hashes : (count : ℕ) (symbols : List Symbol) (o : IsOrdered count symbols) → gnu_hashes symbols ≡ map hash_of o.own
+pub own_hashes : (count : ℕ) (symbols : List SymbolLine) (o : IsOrdered count symbols) → gnu_hashes symbols ≡ map hash_of o.own
 own_hashes count symbols o =
-    ap (λ (l : List Symbol). gnu_hashes l) o.parts
-    ∙ ap (λ (l : List Symbol). map hash_of l) (filter-append is_defined o.others o.own)
-    ∙ ap (λ (l : List Symbol). map hash_of (l ++ filter is_defined o.own)) (filter_no is_defined o.others o.undefined)
-    ∙ ap (λ (l : List Symbol). map hash_of l) (filter_all is_defined o.own o.defined)
+    ap (λ (l : List SymbolLine). gnu_hashes l) o.parts
+    ∙ ap (λ (l : List SymbolLine). map hash_of l) (filter-append is_defined o.others o.own)
+    ∙ ap (λ (l : List SymbolLine). map hash_of (l ++ filter is_defined o.own)) (filter_no is_defined o.others o.undefined)
+    ∙ ap (λ (l : List SymbolLine). map hash_of l) (filter_all is_defined o.own o.defined)
 
-own_not_counted : (x : Symbol) (xs : List Symbol) → x.defined ≡ true → count_by is_undefined (x ∷ xs) ≡ count_by is_undefined xs
+own_not_counted : (x : SymbolLine) (xs : List SymbolLine) → x.defined ≡ true → count_by is_undefined (x ∷ xs) ≡ count_by is_undefined xs
 own_not_counted x xs h =
     let none : ◌≡◌ {A = ℕ} (cond (is_undefined x) 1 0) 0 = rw h refl in
     omega (arith, sum_by-cons (λ y. cond (is_undefined y) 1 0) x xs, none)
 
-other_counted : (x : Symbol) (xs : List Symbol) → x.defined ≡ false → count_by is_undefined (x ∷ xs) ≡ count_by is_undefined xs + 1
+other_counted : (x : SymbolLine) (xs : List SymbolLine) → x.defined ≡ false → count_by is_undefined (x ∷ xs) ≡ count_by is_undefined xs + 1
 other_counted x xs h =
     let one : ◌≡◌ {A = ℕ} (cond (is_undefined x) 1 0) 1 = rw h refl in
     omega (arith, sum_by-cons (λ y. cond (is_undefined y) 1 0) x xs, one)
 
-none_counted : (symbols : List Symbol) → AllByRecursion (λ x. x.defined ≡ true) symbols → count_by is_undefined symbols ≡ 0
+none_counted : (symbols : List SymbolLine) → AllByRecursion (λ x. x.defined ≡ true) symbols → count_by is_undefined symbols ≡ 0
 none_counted [] all = refl
 none_counted (x ∷ symbols) all = own_not_counted x symbols all.0 ∙ none_counted symbols all.1
 
-counted : (others own : List Symbol) → AllByRecursion (λ x. x.defined ≡ false) others → AllByRecursion (λ x. x.defined ≡ true) own → count_by is_undefined (others ++ own) ≡ length others
+counted : (others own : List SymbolLine) → AllByRecursion (λ x. x.defined ≡ false) others → AllByRecursion (λ x. x.defined ≡ true) own → count_by is_undefined (others ++ own) ≡ length others
 counted [] own all defined = none_counted own defined
 counted (x ∷ others) own all defined = omega (arith, other_counted x (others ++ own) all.0, counted others own all.1 defined)
 
-pub others_counted : (count : ℕ) (symbols : List Symbol) (o : IsOrdered count symbols) → count_by is_undefined symbols ≡ length o.others
-others_counted count symbols o = ap (λ (l : List Symbol). count_by is_undefined l) o.parts ∙ counted o.others o.own o.undefined o.defined
+pub others_counted : (count : ℕ) (symbols : List SymbolLine) (o : IsOrdered count symbols) → count_by is_undefined symbols ≡ length o.others
+others_counted count symbols o = ap (λ (l : List SymbolLine). count_by is_undefined l) o.parts ∙ counted o.others o.own o.undefined o.defined

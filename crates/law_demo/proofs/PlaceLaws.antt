@@ -9,7 +9,7 @@ use Rattle.pl_base.specs.Pairs.{any_pair}
 use Rattle.pl_base.specs.Windows.{Window, any_share, share}
 use Rattle.pl_elf.specs.declared.range.Range.{Range}
 use Rattle.pl_loader.specs.Faults.{of_place}
-use Rattle.pl_loader.specs.Places.{all_places, holes_beside, joined, misses, own_place, own_places, own_range, owns_beside, places, range_at, slot_of, taken_first, wants_beside, wants_left, where_free}
+use Rattle.pl_loader.specs.Places.{all_places, holes_beside, joined, misses, slot_place, slot_places, range_at_slot, slot_places_beside, places, range_at, slot_of, taken_first, wants_beside, wants_left, where_free}
 use Rattle.pl_loader.specs.declared.object_file.ObjectFile.{ObjectFile}
 use Rattle.pl_place.specs.Placing.{chosen}
 use Rattle.pl_place.specs.Policy.{Choice}
@@ -54,14 +54,14 @@ module _ (slot : ObjectFile → ℕ) where
   more_taken taken f (g ∷ gs) free apart = (all_append (misses (range g)) taken (range f) free.0 apart.0, more_taken taken f gs free.1 apart.1)
 
   -- each is at its own place
-  own_are : (taken : List Range) (fs : List ObjectFile) → AllByRecursion HasSlot fs → AllByRecursion (IsFree taken) fs → any_share (map window fs) ≡ false → own_places taken fs ≡ map (λ f. Some (slot f)) fs
-  unfolding own_places
+  own_are : (taken : List Range) (fs : List ObjectFile) → AllByRecursion HasSlot fs → AllByRecursion (IsFree taken) fs → any_share (map window fs) ≡ false → slot_places taken fs ≡ map (λ f. Some (slot f)) fs
+  unfolding slot_places
   own_are taken [] have free apart = refl
   own_are taken (f ∷ fs) have free apart =
       let q = or_parts (list_any (share (window f)) (map window fs)) (any_pair share (map window fs)) apart in
-      let here : own_place taken f ≡ Some (slot f) = ap (where_free taken f) have.0.bears ∙ ap (λ (b : Bool). if b then Some (slot f) else None) free.0 in
+      let here : slot_place taken f ≡ Some (slot f) = ap (where_free taken f) have.0.bears ∙ ap (λ (b : Bool). if b then Some (slot f) else None) free.0 in
       let rest = own_are (taken ++ range f ∷ []) fs have.1 (more_taken taken f fs free.1 (one_apart f fs have.1 q.0)) q.1 in
-      ap (λ (o : Option ℕ). o ∷ own_places (taken ++ own_range f o) fs) here ∙ ap (λ (os : List (Option ℕ)). Some (slot f) ∷ os) rest
+      ap (λ (o : Option ℕ). o ∷ slot_places (taken ++ range_at_slot f o) fs) here ∙ ap (λ (os : List (Option ℕ)). Some (slot f) ∷ os) rest
 
   joined_are : (fs : List ObjectFile) → joined (map (λ f. Some (slot f)) fs) [] ≡ map slot fs
   unfolding joined
@@ -82,7 +82,7 @@ module _ (slot : ObjectFile → ℕ) where
       → places choose busy (program ∷ fs) ≡ Ok (0 ∷ map slot fs)
   unfolding places
   slots_are_places choose busy program fs have free apart =
-      let owns : owns_beside busy program fs ≡ map (λ f. Some (slot f)) fs = own_are (taken_first busy program) fs have free apart in
+      let owns : slot_places_beside busy program fs ≡ map (λ f. Some (slot f)) fs = own_are (taken_first busy program) fs have free apart in
       let wants : wants_beside busy program fs ≡ [] = ap (wants_left fs) owns ∙ none_left fs in
       let starts : chosen choose (holes_beside busy program fs) (wants_beside busy program fs) ≡ Ok [] = ap (chosen choose (holes_beside busy program fs)) wants ∙ nothing_chosen choose (holes_beside busy program fs) in
       ap (λ (r : Result (List ℕ) PlaceFault). because of_place r >>= λ starts. Ok (all_places busy program fs starts)) starts

@@ -22,21 +22,21 @@ use Rattle.pl_object.specs.FilePart.{nothing, loader, loaded_by, file_window, in
 use Rattle.pl_object.specs.TableClauses.{lacks_tags, is_misplaced, other_dynsym, any_lost, any_outside, tables_overlap, bad_tables, bad_rela, bad_jmprel, bad_relocation_tables, bad_relr_tags, meets, misplaced_relr, bad_relr_table, bad_packed, check_tables}
 use Rattle.pl_object.specs.Tables.{value, dynamic_memory, tag_memory, strings_memory, rela_memory, jmprel_memory, relr_memory, has_kind, section_size, symbols_memory, begins_at, section_memory, is_lost, tables_memory, header_window, segments_window, sections_window, symtab_windows, main_windows}
 use Rattle.pl_build.specs.declared.layout.Tables.{Tables}
-use Rattle.pl_build.specs.declared.plan.Plan.{Plan}
+use Rattle.pl_build.specs.declared.layout_plan.LayoutPlan.{LayoutPlan}
 use Rattle.pl_build.specs.declared.recipe.Recipe.{Recipe}
 use Rattle.pl_build.specs.declared.recipe.Settings.{Settings}
 use Rattle.pl_build.specs.declared.relocations.Rela.{Rela}
-use Rattle.pl_build.specs.declared.roles.Place.{Place}
+use Rattle.pl_build.specs.declared.roles.PlacedSection.{PlacedSection}
 use Rattle.pl_build.specs.declared.roles.Role.{Role}
 use Rattle.pl_build.specs.declared.roles.Role.TheVariants.{Null, Interp, Hash, GnuHash, Dynsym, Dynstr, Versym, Verdef, Verneed, RelaDyn, RelaPlt, RelrDyn, Dynamic, Data, Bss, Shstrtab}
-use Rattle.pl_build.specs.declared.strings.Strings.{Strings}
+use Rattle.pl_build.specs.declared.string_table.StringTable.{StringTable}
 use Rattle.pl_build.specs.declared.symbol_table.SymbolEntry.{SymbolEntry}
 use Rattle.pl_build.specs.Choices.{chosen}
 use Rattle.pl_build.specs.Dynamic.{null_place, place_of, is_there}
 use Rattle.pl_build.specs.Fields.{fields}
 use Rattle.pl_build.specs.File.{places_of}
 use Rattle.pl_build.specs.Layout.{contents, end_of, tables}
-use Rattle.pl_build.specs.Plan.{plan_of, is_jump_slot, is_other}
+use Rattle.pl_build.specs.LayoutPlan.{plan_of, is_jump_slot, is_other}
 use Rattle.pl_build.specs.Relocations.{rela_bytes, rela_of, others, jump_slots}
 use Rattle.pl_build.specs.Roles.{section_name, kind_of, flags_of}
 use Rattle.pl_build.specs.Sections.{row_of, last_places, section_rows}
@@ -95,33 +95,33 @@ entries_long es = rows_long 24 entry_bytes entry_long es
 pub relas_long : (rs : List Rela) → length (flat_map rela_bytes rs) ≡ 24 * length rs
 relas_long rs = rows_long 24 rela_bytes rela_long rs
 
-even_symbols : (p : Plan) → length (symbol_table p) % 24 ≡ 0
+even_symbols : (p : LayoutPlan) → length (symbol_table p) % 24 ≡ 0
 unfolding symbol_table
 even_symbols p = omega (arith, entries_long (null_entry ∷ map (entry_of p) p.symbols))
 
-even_others : (p : Plan) → length (others p) % 24 ≡ 0
+even_others : (p : LayoutPlan) → length (others p) % 24 ≡ 0
 unfolding others
 even_others p = omega (arith, relas_long (map (rela_of p) (filter is_other p.relocations)))
 
-even_slots : (p : Plan) → length (jump_slots p) % 24 ≡ 0
+even_slots : (p : LayoutPlan) → length (jump_slots p) % 24 ≡ 0
 unfolding jump_slots
 even_slots p = omega (arith, relas_long (map (rela_of p) (filter is_jump_slot p.relocations)))
 
-symbols_even : (p : Plan) (ss : List Segment) (tables_end : ℕ) (e : Extent) → IsGood p ss tables_end (place_in Dynsym e) → e.size % 24 ≡ 0
+symbols_even : (p : LayoutPlan) (ss : List Segment) (tables_end : ℕ) (e : Extent) → IsGood p ss tables_end (place_in Dynsym e) → e.size % 24 ≡ 0
 unfolding contents
 symbols_even p ss tables_end e good = ap (λ (n : ℕ). n % 24) good.long ∙ even_symbols p
 
-others_even : (p : Plan) (ss : List Segment) (tables_end : ℕ) (e : Extent) → IsGood p ss tables_end (place_in RelaDyn e) → e.size % 24 ≡ 0
+others_even : (p : LayoutPlan) (ss : List Segment) (tables_end : ℕ) (e : Extent) → IsGood p ss tables_end (place_in RelaDyn e) → e.size % 24 ≡ 0
 unfolding contents
 others_even p ss tables_end e good = ap (λ (n : ℕ). n % 24) good.long ∙ even_others p
 
-slots_even : (p : Plan) (ss : List Segment) (tables_end : ℕ) (e : Extent) → IsGood p ss tables_end (place_in RelaPlt e) → e.size % 24 ≡ 0
+slots_even : (p : LayoutPlan) (ss : List Segment) (tables_end : ℕ) (e : Extent) → IsGood p ss tables_end (place_in RelaPlt e) → e.size % 24 ≡ 0
 unfolding contents
 slots_even p ss tables_end e good = ap (λ (n : ℕ). n % 24) good.long ∙ even_slots p
 
 -- ---- places by name
 
-abbrev place_if : Bool → Place → Place
+abbrev place_if : Bool → PlacedSection → PlacedSection
 place_if there x = if there then x else null_place
 
 named_hash : (r : Recipe) (e : Extents) → place_of (before_dynamic r e) (codes ".hash") ≡ place_if r.settings.hashes.sysv (place_in Hash e.hash)
@@ -174,15 +174,15 @@ abbrev pub some_if : Bool → ℕ → Option ℕ
 some_if there n = if there then Some n else None
 
 -- what a tag says of a table that may be there
-tells_if : (f : Place → ℕ) (b : Bool) (y : Place) → (b ≡ true → 0 < y.size) → (if is_there (place_if b y) then Some (f (place_if b y)) else None) ≡ some_if b (f y)
+tells_if : (f : PlacedSection → ℕ) (b : Bool) (y : PlacedSection) → (b ≡ true → 0 < y.size) → (if is_there (place_if b y) then Some (f (place_if b y)) else None) ≡ some_if b (f y)
 tells_if f true y some = rw (there_is y (some refl)) refl
 tells_if f false y some = refl
 
-tells : (f : Place → ℕ) (x : Place) (b : Bool) (y : Place) → x ≡ place_if b y → (b ≡ true → 0 < y.size) → (if is_there x then Some (f x) else None) ≡ some_if b (f y)
-tells f x b y e some = ap (λ (z : Place). if is_there z then Some (f z) else None) e ∙ tells_if f b y some
+tells : (f : PlacedSection → ℕ) (x : PlacedSection) (b : Bool) (y : PlacedSection) → x ≡ place_if b y → (b ≡ true → 0 < y.size) → (if is_there x then Some (f x) else None) ≡ some_if b (f y)
+tells f x b y e some = ap (λ (z : PlacedSection). if is_there z then Some (f z) else None) e ∙ tells_if f b y some
 
-tells_none : (f : Place → ℕ) (x : Place) → x ≡ null_place → (if is_there x then Some (f x) else None) ≡ None
-tells_none f x e = ap (λ (z : Place). if is_there z then Some (f z) else None) e
+tells_none : (f : PlacedSection → ℕ) (x : PlacedSection) → x ≡ null_place → (if is_there x then Some (f x) else None) ≡ None
+tells_none f x e = ap (λ (z : PlacedSection). if is_there z then Some (f z) else None) e
 
 abbrev pub tags_of : Recipe → Extents → List Tag
 tags_of r e = planned_tags (plan_of r) (before_dynamic r e)
@@ -214,20 +214,20 @@ pub record AreValues (r : Recipe) (e : Extents) (tags : List Tag) : Type 0 where
   pub verdef : value_of 0x6ffffffc tags ≡ None
   pub verneed : value_of 0x6ffffffe tags ≡ None
 
-abbrev addr_of : Place → ℕ
+abbrev addr_of : PlacedSection → ℕ
 addr_of x = x.addr
 
-abbrev size_of : Place → ℕ
+abbrev size_of : PlacedSection → ℕ
 size_of x = x.size
 
 values_are : (r : Recipe) (e : Extents) → HaveBytes r e → AreValues r e (tags_of r e)
 values_are r e have =
-    let p : Plan = plan_of r in
-    let places : List Place = before_dynamic r e in
+    let p : LayoutPlan = plan_of r in
+    let places : List PlacedSection = before_dynamic r e in
     record {
-      strtab = planned_value 5 p places refl ∙ ap (λ (x : Place). Some x.addr) (named_strings r e);
-      strsz = planned_value 10 p places refl ∙ ap (λ (x : Place). Some x.size) (named_strings r e);
-      symtab = planned_value 6 p places refl ∙ ap (λ (x : Place). Some x.addr) (named_symbols r e);
+      strtab = planned_value 5 p places refl ∙ ap (λ (x : PlacedSection). Some x.addr) (named_strings r e);
+      strsz = planned_value 10 p places refl ∙ ap (λ (x : PlacedSection). Some x.size) (named_strings r e);
+      symtab = planned_value 6 p places refl ∙ ap (λ (x : PlacedSection). Some x.addr) (named_symbols r e);
       syment = planned_value 11 p places refl;
       hash = planned_value 4 p places refl ∙ tells addr_of (place_of places (codes ".hash")) r.settings.hashes.sysv (place_in Hash e.hash) (named_hash r e) have.hash;
       gnu_hash = planned_value 0x6ffffef5 p places refl ∙ tells addr_of (place_of places (codes ".gnu.hash")) r.settings.hashes.gnu (place_in GnuHash e.gnu_hash) (named_gnu r e) have.gnu_hash;
@@ -247,16 +247,16 @@ values_are r e have =
 
 -- ---- the sections
 
-abbrev pub section_in : Plan → Place → Section
+abbrev pub section_in : LayoutPlan → PlacedSection → Section
 section_in p place = section_of (row_of p (names_of p) place)
 
-abbrev pub last_of : Plan → Tables → List Place
+abbrev pub last_of : LayoutPlan → Tables → List PlacedSection
 last_of p t = last_places p (data_offset (end_of t)) (length (names_of p).bytes)
 
-abbrev pub all_places : Recipe → Extents → Tables → List Place
+abbrev pub all_places : Recipe → Extents → Tables → List PlacedSection
 all_places r e t = null_place ∷ (chosen (rows_of r e) ++ last_of (plan_of r) t)
 
-map_twice : (p : Plan) (names : Strings) (places : List Place) → map section_of (section_rows p names places) ≡ map (λ x. section_of (row_of p names x)) places
+map_twice : (p : LayoutPlan) (names : StringTable) (places : List PlacedSection) → map section_of (section_rows p names places) ≡ map (λ x. section_of (row_of p names x)) places
 unfolding section_rows
 map_twice p names [] = refl
 map_twice p names (x ∷ places) = ap (λ (l : List Section). section_of (row_of p names x) ∷ l) (map_twice p names places)
@@ -264,17 +264,17 @@ map_twice p names (x ∷ places) = ap (λ (l : List Section). section_of (row_of
 pub sections_are : (r : Recipe) (t : Tables) (e : Extents) → IsPlain r → t.places ≡ chosen (rows_of r e) → planned_sections (plan_of r) t ≡ map (section_in (plan_of r)) (all_places r e t)
 unfolding planned_sections places_of
 sections_are r t e plain shape =
-    let p : Plan = plan_of r in
+    let p : LayoutPlan = plan_of r in
     map_twice p (names_of p) (places_of p t (data_offset (end_of t)) (length (names_of p).bytes))
-    ∙ ap (λ (l : List Place). map (section_in p) (l ++ t.places ++ last_of p t)) (plain_first r plain)
-    ∙ ap (λ (l : List Place). map (section_in p) ((null_place ∷ []) ++ l ++ last_of p t)) shape
+    ∙ ap (λ (l : List PlacedSection). map (section_in p) (l ++ t.places ++ last_of p t)) (plain_first r plain)
+    ∙ ap (λ (l : List PlacedSection). map (section_in p) ((null_place ∷ []) ++ l ++ last_of p t)) shape
 
 -- the first section that passes a test
-abbrev first_row : (Place → Bool) → List (Bool × Place) → Option Place
+abbrev first_row : (PlacedSection → Bool) → List (Bool × PlacedSection) → Option PlacedSection
 first_row q [] = None
 first_row q (c ∷ cs) = if q c.1 && c.0 then Some c.1 else first_row q cs
 
-row_found : (q : Place → Bool) (cs : List (Bool × Place)) → find q (chosen cs) ≡ first_row q cs
+row_found : (q : PlacedSection → Bool) (cs : List (Bool × PlacedSection)) → find q (chosen cs) ≡ first_row q cs
 unfolding chosen
 row_found q [] = refl
 row_found q (c ∷ cs) = elim (cases_Bool c.0) [
@@ -288,29 +288,29 @@ row_found q (c ∷ cs) = elim (cases_Bool c.0) [
   ]
 ]
 
-found_front : (q : Place → Bool) (xs ys : List Place) (x : Place) → find q xs ≡ Some x → find q (xs ++ ys) ≡ Some x
-found_front q [] ys x e = let no : ◌≡◌ {A = Option Place} None (Some x) = e in absurd cc
+found_front : (q : PlacedSection → Bool) (xs ys : List PlacedSection) (x : PlacedSection) → find q xs ≡ Some x → find q (xs ++ ys) ≡ Some x
+found_front q [] ys x e = let no : ◌≡◌ {A = Option PlacedSection} None (Some x) = e in absurd cc
 found_front q (y ∷ xs) ys x e = elim (cases_Bool (q y)) [
   | inl hit ↦ rw hit (rw hit at e)
   | inr miss ↦ rw miss (found_front q xs ys x (rw miss at e))
 ]
 
-found_section : (f : Place → Section) (q : Section → Bool) (places : List Place) (x : Place) → find (λ y. q (f y)) places ≡ Some x → find q (map f places) ≡ Some (f x)
-found_section f q [] x e = let no : ◌≡◌ {A = Option Place} None (Some x) = e in absurd cc
+found_section : (f : PlacedSection → Section) (q : Section → Bool) (places : List PlacedSection) (x : PlacedSection) → find (λ y. q (f y)) places ≡ Some x → find q (map f places) ≡ Some (f x)
+found_section f q [] x e = let no : ◌≡◌ {A = Option PlacedSection} None (Some x) = e in absurd cc
 found_section f q (y ∷ places) x e = elim (cases_Bool (q (f y))) [
   | inl hit ↦
-      let same : ◌≡◌ {A = Option Place} (Some y) (Some x) = rw hit at e in
+      let same : ◌≡◌ {A = Option PlacedSection} (Some y) (Some x) = rw hit at e in
       let here : y ≡ x = cc in
-      rw hit (ap (λ (z : Place). Some (f z)) here)
+      rw hit (ap (λ (z : PlacedSection). Some (f z)) here)
   | inr miss ↦ rw miss (found_section f q places x (rw miss at e))
 ]
 
 -- a section among all of a recipe's
-section_found : (r : Recipe) (t : Tables) (e : Extents) (q : Section → Bool) (x : Place) → IsPlain r → t.places ≡ chosen (rows_of r e) → q (section_in (plan_of r) null_place) ≡ false → first_row (λ y. q (section_in (plan_of r) y)) (rows_of r e) ≡ Some x
+section_found : (r : Recipe) (t : Tables) (e : Extents) (q : Section → Bool) (x : PlacedSection) → IsPlain r → t.places ≡ chosen (rows_of r e) → q (section_in (plan_of r) null_place) ≡ false → first_row (λ y. q (section_in (plan_of r) y)) (rows_of r e) ≡ Some x
     → find q (planned_sections (plan_of r) t) ≡ Some (section_in (plan_of r) x)
 section_found r t e q x plain shape null_misses found =
-    let p : Plan = plan_of r in
-    let test : Place → Bool = λ y. q (section_in p y) in
+    let p : LayoutPlan = plan_of r in
+    let test : PlacedSection → Bool = λ y. q (section_in p y) in
     let front : find test (chosen (rows_of r e) ++ last_of p t) ≡ Some x = found_front test (chosen (rows_of r e)) (last_of p t) x (row_found test (rows_of r e) ∙ found) in
     let all : find test (all_places r e t) ≡ Some x = rw null_misses front in
     ap (find q) (sections_are r t e plain shape) ∙ found_section (section_in p) q (all_places r e t) x all
@@ -321,11 +321,11 @@ symbols_section : (r : Recipe) (t : Tables) (e : Extents) → IsPlain r → t.pl
 unfolding section_of row_of kind_of
 symbols_section r t e plain shape = section_found r t e (has_kind 11) (place_in Dynsym e.symbols) plain shape refl refl
 
-symbols_size : (p : Plan) (e : Extent) → (section_in p (place_in Dynsym e)).size ≡ e.size
+symbols_size : (p : LayoutPlan) (e : Extent) → (section_in p (place_in Dynsym e)).size ≡ e.size
 unfolding section_of row_of
 symbols_size p e = refl
 
-kinds_counted : (p : Plan) (places : List Place) → count_by (has_kind 11) (map (section_in p) places) ≡ count_by (λ role. kind_of role == 11) (map role_of places)
+kinds_counted : (p : LayoutPlan) (places : List PlacedSection) → count_by (has_kind 11) (map (section_in p) places) ≡ count_by (λ role. kind_of role == 11) (map role_of places)
 unfolding section_of row_of
 kinds_counted p [] = refl
 kinds_counted p (x ∷ places) =
@@ -340,31 +340,31 @@ one_shapes = sixteen (λ a b c d. count_by (λ role. kind_of role == 11) (plain_
 one_dynsym : (r : Recipe) (t : Tables) → IsPlain r → tables (plan_of r) ≡ Ok t → (count_by (has_kind 11) (planned_sections (plan_of r) t) == 1) ≡ true
 unfolding planned_sections
 one_dynsym r t plain e =
-    let p : Plan = plan_of r in
-    let places : List Place = places_of p t (data_offset (end_of t)) (length (names_of p).bytes) in
+    let p : LayoutPlan = plan_of r in
+    let places : List PlacedSection = places_of p t (data_offset (end_of t)) (length (names_of p).bytes) in
     ap (λ (l : List Section). count_by (has_kind 11) l == 1) (map_twice p (names_of p) places)
     ∙ ap (λ (n : ℕ). n == 1) (kinds_counted p places)
     ∙ ap (λ (l : List Role). count_by (λ role. kind_of role == 11) l == 1) (places_roles r t (data_offset (end_of t)) (length (names_of p).bytes) plain e ∙ roles_plain r plain)
     ∙ one_shapes r.settings.hashes.sysv r.settings.hashes.gnu (list_any is_other r.relocations) (list_any is_jump_slot r.relocations)
 
 -- a section of symbols lies there, in whole rows
-abbrev IsRight : ℕ → Place → Type 0
+abbrev IsRight : ℕ → PlacedSection → Type 0
 IsRight address place = ((kind_of place.role == 11) ≡ false) ⊎ ((place.addr ≡ address) × (place.size % 24 ≡ 0))
 
-right_one : (p : Plan) (address : ℕ) (place : Place) → IsRight address place → is_misplaced address (section_in p place) ≡ false
+right_one : (p : LayoutPlan) (address : ℕ) (place : PlacedSection) → IsRight address place → is_misplaced address (section_in p place) ≡ false
 unfolding is_misplaced section_of row_of
 right_one p address place (inl other) = rw other refl
 right_one p address place (inr right) =
     second_false (kind_of place.role == 11) (not (place.addr == address) || not (place.size % 24 == 0)) (rw (equal place.addr address right.0, equal (place.size % 24) 0 right.1) refl)
 
-right_all : (p : Plan) (address : ℕ) (places : List Place) → AllByRecursion (IsRight address) places → list_any (is_misplaced address) (map (section_in p) places) ≡ false
+right_all : (p : LayoutPlan) (address : ℕ) (places : List PlacedSection) → AllByRecursion (IsRight address) places → list_any (is_misplaced address) (map (section_in p) places) ≡ false
 right_all p address [] all = refl
 right_all p address (x ∷ places) all = or_from (is_misplaced address (section_in p x)) (list_any (is_misplaced address) (map (section_in p) places)) (right_one p address x all.0) (right_all p address places all.1)
 
 right_places : (r : Recipe) (t : Tables) (e : Extents) → e.symbols.size % 24 ≡ 0 → AllByRecursion (IsRight e.symbols.addr) (all_places r e t)
 unfolding kind_of last_places
 right_places r t e even =
-    let right : Place → Type 0 = IsRight e.symbols.addr in (
+    let right : PlacedSection → Type 0 = IsRight e.symbols.addr in (
       inl refl,
       all_append right (chosen (rows_of r e)) (last_of (plan_of r) t)
           (all_chosen right (rows_of r e) (λ _. inl refl, (λ _. inl refl, (λ _. inr (refl, even), (λ _. inl refl, (λ _. inl refl, (λ _. inl refl, (λ _. inl refl, tt))))))))
@@ -390,46 +390,46 @@ no_symtab_role Data = refl
 no_symtab_role Bss = refl
 no_symtab_role Shstrtab = refl
 
-pub no_symtabs : (p : Plan) (places : List Place) → symtab_windows (map (section_in p) places) ≡ []
+pub no_symtabs : (p : LayoutPlan) (places : List PlacedSection) → symtab_windows (map (section_in p) places) ≡ []
 unfolding symtab_windows section_of row_of
 no_symtabs p [] = refl
 no_symtabs p (x ∷ places) = rw (no_symtab_role x.role) (no_symtabs p places)
 
 -- ---- sections where tags say
 
-hash_begins : (p : Plan) (e : Extent) → 0 < e.size → begins_at e.addr (section_in p (place_in Hash e)) ≡ true
+hash_begins : (p : LayoutPlan) (e : Extent) → 0 < e.size → begins_at e.addr (section_in p (place_in Hash e)) ≡ true
 unfolding begins_at section_of row_of kind_of flags_of
 hash_begins p e some = rw (below_true 0 e.size some, equal e.addr e.addr refl) refl
 
-gnu_begins : (p : Plan) (e : Extent) → 0 < e.size → begins_at e.addr (section_in p (place_in GnuHash e)) ≡ true
+gnu_begins : (p : LayoutPlan) (e : Extent) → 0 < e.size → begins_at e.addr (section_in p (place_in GnuHash e)) ≡ true
 unfolding begins_at section_of row_of kind_of flags_of
 gnu_begins p e some = rw (below_true 0 e.size some, equal e.addr e.addr refl) refl
 
-null_begins : (p : Plan) (address : ℕ) → begins_at address (section_in p null_place) ≡ false
+null_begins : (p : LayoutPlan) (address : ℕ) → begins_at address (section_in p null_place) ≡ false
 unfolding begins_at section_of row_of kind_of flags_of
 null_begins p address = refl
 
 -- elsewhere
-hash_elsewhere : (p : Plan) (e : Extent) (address : ℕ) → e.addr < address → begins_at address (section_in p (place_in Hash e)) ≡ false
+hash_elsewhere : (p : LayoutPlan) (e : Extent) (address : ℕ) → e.addr < address → begins_at address (section_in p (place_in Hash e)) ≡ false
 unfolding begins_at section_of row_of kind_of flags_of
 hash_elsewhere p e address lt = second_false (nat_lt 0 e.size) (e.addr == address) (unequal e.addr address lt)
 
 hash_section : (r : Recipe) (t : Tables) (e : Extents) → IsPlain r → t.places ≡ chosen (rows_of r e) → r.settings.hashes.sysv ≡ true → 0 < e.hash.size
     → find (begins_at e.hash.addr) (planned_sections (plan_of r) t) ≡ Some (section_in (plan_of r) (place_in Hash e.hash))
 hash_section r t e plain shape there some =
-    let p : Plan = plan_of r in
+    let p : LayoutPlan = plan_of r in
     section_found r t e (begins_at e.hash.addr) (place_in Hash e.hash) plain shape (null_begins p e.hash.addr) (rw (hash_begins p e.hash some, there) refl)
 
 -- the second of two rows, where it is there and the first is not found
-second_row : (q : Place → Bool) (a b : Bool) (x y : Place) (cs : List (Bool × Place)) → (q x && a) ≡ false → q y ≡ true → b ≡ true → first_row q ((a, x) ∷ (b, y) ∷ cs) ≡ Some y
+second_row : (q : PlacedSection → Bool) (a b : Bool) (x y : PlacedSection) (cs : List (Bool × PlacedSection)) → (q x && a) ≡ false → q y ≡ true → b ≡ true → first_row q ((a, x) ∷ (b, y) ∷ cs) ≡ Some y
 second_row q a b x y cs first hit there = rw (first, hit, there) refl
 
 gnu_section : (r : Recipe) (t : Tables) (e : Extents) → IsPlain r → t.places ≡ chosen (rows_of r e) → r.settings.hashes.gnu ≡ true → 0 < e.gnu_hash.size → (r.settings.hashes.sysv ≡ true → e.hash.addr < e.gnu_hash.addr)
     → find (begins_at e.gnu_hash.addr) (planned_sections (plan_of r) t) ≡ Some (section_in (plan_of r) (place_in GnuHash e.gnu_hash))
 gnu_section r t e plain shape there some before =
-    let p : Plan = plan_of r in
-    let test : Place → Bool = λ y. begins_at e.gnu_hash.addr (section_in p y) in
-    let rest : List (Bool × Place) = (true, place_in Dynsym e.symbols) ∷ (true, place_in Dynstr e.strings) ∷ (list_any is_other r.relocations, place_in RelaDyn e.others) ∷ (list_any is_jump_slot r.relocations, place_in RelaPlt e.slots) ∷ (true, place_in Dynamic e.dynamic) ∷ [] in
+    let p : LayoutPlan = plan_of r in
+    let test : PlacedSection → Bool = λ y. begins_at e.gnu_hash.addr (section_in p y) in
+    let rest : List (Bool × PlacedSection) = (true, place_in Dynsym e.symbols) ∷ (true, place_in Dynstr e.strings) ∷ (list_any is_other r.relocations, place_in RelaDyn e.others) ∷ (list_any is_jump_slot r.relocations, place_in RelaPlt e.slots) ∷ (true, place_in Dynamic e.dynamic) ∷ [] in
     let first : (test (place_in Hash e.hash) && r.settings.hashes.sysv) ≡ false = elim (cases_Bool r.settings.hashes.sysv) [
       | inl sysv ↦ rw (hash_elsewhere p e.hash e.gnu_hash.addr (before sysv)) refl
       | inr none ↦ second_false (test (place_in Hash e.hash)) r.settings.hashes.sysv none
@@ -437,11 +437,11 @@ gnu_section r t e plain shape there some before =
     section_found r t e (begins_at e.gnu_hash.addr) (place_in GnuHash e.gnu_hash) plain shape (null_begins p e.gnu_hash.addr)
     (second_row test r.settings.hashes.sysv r.settings.hashes.gnu (place_in Hash e.hash) (place_in GnuHash e.gnu_hash) rest first (gnu_begins p e.gnu_hash some) there)
 
-hash_size : (p : Plan) (e : Extent) → (section_in p (place_in Hash e)).size ≡ e.size
+hash_size : (p : LayoutPlan) (e : Extent) → (section_in p (place_in Hash e)).size ≡ e.size
 unfolding section_of row_of
 hash_size p e = refl
 
-gnu_size : (p : Plan) (e : Extent) → (section_in p (place_in GnuHash e)).size ≡ e.size
+gnu_size : (p : LayoutPlan) (e : Extent) → (section_in p (place_in GnuHash e)).size ≡ e.size
 unfolding section_of row_of
 gnu_size p e = refl
 
@@ -472,7 +472,7 @@ no_section number tags sections x = rw x refl
 tells_places : (r : Recipe) (t : Tables) (e : Extents) → IsPlain r → t.places ≡ chosen (rows_of r e) → HaveBytes r e → (r.settings.hashes.sysv ≡ true → r.settings.hashes.gnu ≡ true → e.hash.addr < e.gnu_hash.addr) → TellsPlaces r e (planned_sections (plan_of r) t) (tags_of r e)
 unfolding symbols_memory window_at
 tells_places r t e plain shape have before =
-    let p : Plan = plan_of r in
+    let p : LayoutPlan = plan_of r in
     let tags : List Tag = tags_of r e in
     let sections : List Section = planned_sections p t in
     let v : AreValues r e tags = values_are r e have in
@@ -511,11 +511,11 @@ nothing_loaded bytes ss = ap (λ (n : ℕ). take n (drop (file_window ss nothing
 abbrev file_at : Extent → Window
 file_at e = record { at = e.offset; size = e.size }
 
-pub good_in : (p : Plan) (ss : List Segment) (tables_end : ℕ) (role : Role) (e : Extent) → IsGood p ss tables_end (place_in role e) → in_file_part ss (memory_at e) ≡ true
+pub good_in : (p : LayoutPlan) (ss : List Segment) (tables_end : ℕ) (role : Role) (e : Extent) → IsGood p ss tables_end (place_in role e) → in_file_part ss (memory_at e) ≡ true
 unfolding in_file_part
 good_in p ss tables_end role e good = ap (λ (w : Window). w.size == e.size) good.window ∙ equal e.size e.size refl
 
-in_if : (p : Plan) (ss : List Segment) (tables_end : ℕ) (role : Role) (b : Bool) (e : Extent) → (b ≡ true → IsGood p ss tables_end (place_in role e)) → in_file_part ss (memory_if b e) ≡ true
+in_if : (p : LayoutPlan) (ss : List Segment) (tables_end : ℕ) (role : Role) (b : Bool) (e : Extent) → (b ≡ true → IsGood p ss tables_end (place_in role e)) → in_file_part ss (memory_if b e) ≡ true
 in_if p ss tables_end role true e good = good_in p ss tables_end role e (good refl)
 in_if p ss tables_end role false e good = nothing_in ss
 
@@ -523,7 +523,7 @@ in_if p ss tables_end role false e good = nothing_in ss
 abbrev IsSpot : Bool → Extent → Window → Type 0
 IsSpot b e w = (w.size ≡ 0) ⊎ ((b ≡ true) × (w ≡ file_at e))
 
-spot_if : (p : Plan) (ss : List Segment) (tables_end : ℕ) (role : Role) (b : Bool) (e : Extent) → (b ≡ true → IsGood p ss tables_end (place_in role e)) → IsSpot b e (file_window ss (memory_if b e))
+spot_if : (p : LayoutPlan) (ss : List Segment) (tables_end : ℕ) (role : Role) (b : Bool) (e : Extent) → (b ≡ true → IsGood p ss tables_end (place_in role e)) → IsSpot b e (file_window ss (memory_if b e))
 spot_if p ss tables_end role true e good = inr (refl, (good refl).window)
 spot_if p ss tables_end role false e good = inl (nothing_small ss)
 
@@ -585,7 +585,7 @@ tags_there r e tags v = rw (v.strtab, v.strsz, v.symtab, v.syment) refl
 symbols_right : (r : Recipe) (t : Tables) (e : Extents) → IsPlain r → tables (plan_of r) ≡ Ok t → t.places ≡ chosen (rows_of r e) → HaveBytes r e → e.symbols.size % 24 ≡ 0 → other_dynsym (tags_of r e) (planned_sections (plan_of r) t) ≡ false
 unfolding other_dynsym
 symbols_right r t e plain there shape have even =
-    let p : Plan = plan_of r in
+    let p : LayoutPlan = plan_of r in
     let v : AreValues r e (tags_of r e) = values_are r e have in
     let one : not (count_by (has_kind 11) (planned_sections p t) == 1) ≡ false = ap (λ (b : Bool). not b) (one_dynsym r t plain there) in
     let right : list_any (is_misplaced (value 6 (tags_of r e))) (planned_sections p t) ≡ false =
@@ -606,7 +606,7 @@ absent_not_lost number tags sections x = rw x refl
 none_lost : (r : Recipe) (t : Tables) (e : Extents) → IsPlain r → t.places ≡ chosen (rows_of r e) → HaveBytes r e → (r.settings.hashes.sysv ≡ true → r.settings.hashes.gnu ≡ true → e.hash.addr < e.gnu_hash.addr) → any_lost (tags_of r e) (planned_sections (plan_of r) t) ≡ false
 unfolding any_lost
 none_lost r t e plain shape have before =
-    let p : Plan = plan_of r in
+    let p : LayoutPlan = plan_of r in
     let tags : List Tag = tags_of r e in
     let sections : List Section = planned_sections p t in
     let v : AreValues r e tags = values_are r e have in
@@ -635,7 +635,7 @@ in_by ss w v e there = ap (λ (u : Window). not (in_file_part ss u)) e ∙ ap (�
 none_outside : (r : Recipe) (ss : List Segment) (tables_end : ℕ) (e : Extents) (sections : List Section) (tags : List Tag) → AreGood r ss tables_end e → AreValues r e tags → TellsPlaces r e sections tags → list_any (λ w. not (in_file_part ss w)) (tables_memory tags sections) ≡ false
 unfolding tables_memory
 none_outside r ss tables_end e sections tags good v told =
-    let p : Plan = plan_of r in
+    let p : LayoutPlan = plan_of r in
     let absent : (number : ℕ) → value_of number tags ≡ None → not (in_file_part ss (section_memory number tags sections)) ≡ false = λ number x. in_by ss (section_memory number tags sections) nothing (no_section number tags sections x) (nothing_in ss) in
     none_any (λ w. not (in_file_part ss w)) (tables_memory tags sections) (
       in_by ss (symbols_memory tags sections) (memory_at e.symbols) told.symbols (good_in p ss tables_end Dynsym e.symbols good.symbols),
@@ -658,19 +658,19 @@ none_outside r ss tables_end e sections tags good v told =
     )
 
 -- the dynamic table in memory
-dynamic_shown : (b : Bool) (s : Settings) (tables_end : ℕ) (d : Place) → dynamic_memory (shown b (first_load s tables_end) (second_load s tables_end) (dynamic_segment d)) ≡ memory_of d
+dynamic_shown : (b : Bool) (s : Settings) (tables_end : ℕ) (d : PlacedSection) → dynamic_memory (shown b (first_load s tables_end) (second_load s tables_end) (dynamic_segment d)) ≡ memory_of d
 unfolding dynamic_memory first_load second_load dynamic_segment readable
 dynamic_shown true s tables_end d = refl
 dynamic_shown false s tables_end d = refl
 
 pub dynamic_is : (r : Recipe) (t : Tables) (e : Extents) → IsPlain r → t.places ≡ chosen (rows_of r e) → 0 < e.dynamic.size → dynamic_memory (planned_segments (plan_of r) t) ≡ memory_at e.dynamic
 dynamic_is r t e plain shape some =
-    let p : Plan = plan_of r in
-    let there : place_of t.places (codes ".dynamic") ≡ place_in Dynamic e.dynamic = ap (λ (l : List Place). place_of l (codes ".dynamic")) shape ∙ named_dynamic r e in
-    let size : 0 < (place_of t.places (codes ".dynamic")).size = subst (λ (x : Place). 0 < x.size) (sym there) some in
+    let p : LayoutPlan = plan_of r in
+    let there : place_of t.places (codes ".dynamic") ≡ place_in Dynamic e.dynamic = ap (λ (l : List PlacedSection). place_of l (codes ".dynamic")) shape ∙ named_dynamic r e in
+    let size : 0 < (place_of t.places (codes ".dynamic")).size = subst (λ (x : PlacedSection). 0 < x.size) (sym there) some in
     ap dynamic_memory (segments_shown p t (plain_settings r plain) (there_is (place_of t.places (codes ".dynamic")) size))
     ∙ dynamic_shown (has_data p.settings) p.settings (end_of t) (place_of t.places (codes ".dynamic"))
-    ∙ ap (λ (x : Place). memory_of x) there
+    ∙ ap (λ (x : PlacedSection). memory_of x) there
 
 -- the order of the tables
 pub record AreInOrder (r : Recipe) (e : Extents) : Type 0 where
@@ -733,11 +733,11 @@ seven_apart r ss tables_end e segments sections d y o s at size far good order d
       ),
     )
 
-pub segments_low : (p : Plan) (t : Tables) → ((segments_window (planned_header p t)).at ≡ 64) × ((segments_window (planned_header p t)).size ≤ 392)
+pub segments_low : (p : LayoutPlan) (t : Tables) → ((segments_window (planned_header p t)).at ≡ 64) × ((segments_window (planned_header p t)).size ≤ 392)
 unfolding planned_header header_of
 segments_low p t = (refl, omega (arith, few p t))
 
-sections_far : (p : Plan) (t : Tables) → end_of t ≤ (sections_window (planned_header p t)).at
+sections_far : (p : LayoutPlan) (t : Tables) → end_of t ≤ (sections_window (planned_header p t)).at
 unfolding planned_header header_of
 sections_far p t = omega (arith, parts_before p t, round_up-at_least (end_of t) 4096 (omega arith))
 
@@ -745,7 +745,7 @@ main_apart : (r : Recipe) (t : Tables) (e : Extents) → IsPlain r → t.places 
     → any_share (main_windows (planned_header (plan_of r) t) (planned_segments (plan_of r) t) (planned_sections (plan_of r) t) (tags_of r e)) ≡ false
 unfolding main_windows
 main_apart r t e plain shape good order told =
-    let p : Plan = plan_of r in
+    let p : LayoutPlan = plan_of r in
     let h : Header = planned_header p t in
     let ss : List Segment = planned_segments p t in
     let sections : List Section = planned_sections p t in
@@ -849,7 +849,7 @@ pub record AreTaken (r : Recipe) (bytes : List ℕ) (t : Tables) (e : Extents) :
 pub are_taken : (r : Recipe) (bytes : List ℕ) (t : Tables) → IsPlain r → tables (plan_of r) ≡ Ok t → (here : IsPlaced r bytes t) → AreTaken r bytes t here.shape.extents
 unfolding bad_tables any_outside tables_overlap bad_relocation_tables bad_packed
 are_taken r bytes t plain there here =
-    let p : Plan = plan_of r in
+    let p : LayoutPlan = plan_of r in
     let e : Extents = here.shape.extents in
     let shape : t.places ≡ chosen (rows_of r e) = here.shape.is in
     let h : Header = planned_header p t in

@@ -22,7 +22,7 @@ use Rattle.law_folder.proofs.SetLemmas.{firm_for}
 use Rattle.pl_known.specs.Plans.{is_candidate, planned}
 use Rattle.pl_known.specs.Skips.{skip_causes}
 use Rattle.pl_object.specs.declared.object.Object.{Object}
-use Rattle.pl_plan.specs.declared.planned.Planned.{Planned}
+use Rattle.pl_plan.specs.declared.run_plan.RunPlan.{RunPlan}
 use Rattle.pl_prelinked.proofs.ProgramLaws.{stored_small}
 use Rattle.pl_rewrite.specs.Changes.{numbers}
 use Rattle.pl_scope.specs.Scope as scope
@@ -34,7 +34,7 @@ use Rattle.law_demo.proofs.LengthLaws.{relocations_in}
 use Rattle.law_demo.proofs.LinkedLaws.{IsMadeOf, program_made}
 
 -- a run over files that are bytes, whose slots share no address
-pub record IsRun (files : base.Files) (p : Prelinking) (cached : Cache) (made : Planned) : Type 0 where
+pub record IsRun (files : base.Files) (p : Prelinking) (cached : Cache) (made : RunPlan) : Type 0 where
   pub bytes : (n file : List ℕ) → get files n ≡ Some file → IsBytes file
   pub asked : IsAsked p
   pub few : are_many (keys files) ≡ false
@@ -43,10 +43,10 @@ pub record IsRun (files : base.Files) (p : Prelinking) (cached : Cache) (made : 
   pub apart : are_apart made.slots ≡ true
 
 -- of a run that gives each library addresses of its own no two slots share one
-pub slots_apart : (files : base.Files) (p : Prelinking) (cached : Cache) (made : Planned) → p.share ≡ false → planned (named files) (valid_names files) (asked_of p cached) ≡ Ok made → are_apart made.slots ≡ true
+pub slots_apart : (files : base.Files) (p : Prelinking) (cached : Cache) (made : RunPlan) → p.share ≡ false → planned (named files) (valid_names files) (asked_of p cached) ≡ Ok made → are_apart made.slots ≡ true
 slots_apart files p cached made alone is_planned = beside.slots_apart files p cached made alone is_planned
 
-module _ (files : base.Files) (p : Prelinking) (cached : Cache) (made : Planned) (run : IsRun files p cached made) where
+module _ (files : base.Files) (p : Prelinking) (cached : Cache) (made : RunPlan) (run : IsRun files p cached made) where
   abbrev old : Files
   old = named files
 

@@ -24,7 +24,7 @@ use Rattle.pl_known.specs.Fits.{fit_in}
 use Rattle.pl_known.specs.Skips.{skip_causes}
 use Rattle.pl_object.specs.Reads.{reads}
 use Rattle.pl_object.specs.declared.object.Object.{Object}
-use Rattle.pl_plan.specs.declared.planned.Planned.{Planned}
+use Rattle.pl_plan.specs.declared.run_plan.RunPlan.{RunPlan}
 use Rattle.pl_rewrite.specs.Changes.{from_scratch, numbers}
 use Rattle.pl_rewrite.proofs.FormLaws.{IsOriginal, original_is}
 use Rattle.pl_scope.specs.Scope as scope
@@ -63,7 +63,7 @@ pub record IsReadyAt (view : Files) (region : Range) (n : List ℕ) : Type 0 whe
   pub program : IsProgram skip_causes view n
   pub off : keeps_off region (file_at view n) ≡ true
 
-pub ready_after : (files : base.Files) (p : Prelinking) (cached : Cache) (made : Planned) → IsRun files p cached made → (view : Files) → ((m : List ℕ) → view m ≡ from_scratch (named files) p.region made m) → (n : List ℕ) (o : Object)
+pub ready_after : (files : base.Files) (p : Prelinking) (cached : Cache) (made : RunPlan) → IsRun files p cached made → (view : Files) → ((m : List ℕ) → view m ≡ from_scratch (named files) p.region made m) → (n : List ℕ) (o : Object)
     → objects (format skip_causes) (named files) n ≡ Ok o → o.kind ≡ Program → is_candidate (format skip_causes) (fit_in p.region) (named files) n ≡ true → length (original_at (format skip_causes) (named files n)) ≤ 2 ^ 24
     → ((ws : Walked) → walk_in (format skip_causes) (named files) n ≡ Ok ws → relocations_in (scope.objects ws) ≤ 2 ^ 20)
     → (low : ℕ) → All (λ s. s.vaddr + s.memsz ≤ low) (loads o.segments) → low + 2 ^ 33 ≤ p.region.start → IsReadyAt view p.region n

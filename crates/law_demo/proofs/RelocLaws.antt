@@ -29,16 +29,16 @@ use Rattle.pl_object.specs.declared.reloc.Reloc.{Reloc}
 use Rattle.pl_build.specs.declared.layout.Tables.{Tables}
 use Rattle.pl_build.specs.declared.line.Addend.{Addend}
 use Rattle.pl_build.specs.declared.line.Relocation.{Relocation}
-use Rattle.pl_build.specs.declared.line.Symbol.{Symbol}
-use Rattle.pl_build.specs.declared.plan.Plan.{Plan}
+use Rattle.pl_build.specs.declared.line.SymbolLine.{SymbolLine}
+use Rattle.pl_build.specs.declared.layout_plan.LayoutPlan.{LayoutPlan}
 use Rattle.pl_build.specs.declared.recipe.Recipe.{Recipe}
 use Rattle.pl_build.specs.declared.recipe.Settings.{Settings}
-use Rattle.pl_build.specs.declared.roles.Place.{Place}
+use Rattle.pl_build.specs.declared.roles.PlacedSection.{PlacedSection}
 use Rattle.pl_build.specs.Dynamic.{place_of}
 use Rattle.pl_build.specs.File.{type_of, sections_offset}
 use Rattle.pl_build.specs.FileKinds.{is_position_independent}
 use Rattle.pl_build.specs.Layout.{end_of}
-use Rattle.pl_build.specs.Plan.{plan_of, base_of, data_address, addend_of, is_jump_slot, is_other}
+use Rattle.pl_build.specs.LayoutPlan.{plan_of, base_of, data_address, addend_of, is_jump_slot, is_other}
 use Rattle.pl_build.specs.RelocationLines.{is_no_symbol}
 use Rattle.pl_build.specs.Relocations.{rela_bytes, is_written_as, number_at, symbol_number, moved_addend, rela_of, others, jump_slots}
 use Rattle.pl_build.specs.Segments.{readable, first_load, second_load, dynamic_segment, has_data, data_offset}
@@ -121,16 +121,16 @@ none_at q (x ∷ xs) d each = rw (each 0 (omega arith), none_at q xs d (λ i lt.
 -- ---- the symbol of a name
 
 -- what stands where a list has nothing
-pub nobody : Symbol
+pub nobody : SymbolLine
 nobody = record { defined = false; written = []; name = []; version = []; default_version = false; file = []; bind = 0; kind = 0; visibility = 0; placed = false; offset = 0; size = 0 }
 
-pub record IsThere (q : Symbol → Bool) (xs : List Symbol) : Type 0 where
+pub record IsThere (q : SymbolLine → Bool) (xs : List SymbolLine) : Type 0 where
   pub index : ℕ
   pub found : position q xs ≡ Some index
   pub within : index < length xs
   pub passes : q (get_or xs index nobody) ≡ true
 
-pub position_there : (q : Symbol → Bool) (xs : List Symbol) → list_any q xs ≡ true → IsThere q xs
+pub position_there : (q : SymbolLine → Bool) (xs : List SymbolLine) → list_any q xs ≡ true → IsThere q xs
 position_there q xs h =
     let k : ℕ = position_or_len q xs in
     elim (cases_lt k (length xs)) [
@@ -139,7 +139,7 @@ position_there q xs h =
     ]
 
 -- where it is found, it is one of the list's
-position_within : (q : Symbol → Bool) (xs : List Symbol) → length xs + 1 < 2 ^ 32 → number_at (position q xs) ≤ length xs
+position_within : (q : SymbolLine → Bool) (xs : List SymbolLine) → length xs + 1 < 2 ^ 32 → number_at (position q xs) ≤ length xs
 position_within q xs few =
     let k : ℕ = position_or_len q xs in
     elim (cases_Bool (nat_lt k (length xs))) [
@@ -158,7 +158,7 @@ any_later : {X : Type 0} (q : X → Bool) (xs ys : List X) → list_any q ys ≡
 any_later q [] ys h = h
 any_later q (x ∷ xs) ys h = or_right (q x) (list_any q (xs ++ ys)) (any_later q xs ys h)
 
-any_kept_at : (q c : Symbol → Bool) (xs : List Symbol) (i : ℕ) → i < length xs → q (get_or xs i nobody) ≡ true → c (get_or xs i nobody) ≡ true → list_any q (filter c xs) ≡ true
+any_kept_at : (q c : SymbolLine → Bool) (xs : List SymbolLine) (i : ℕ) → i < length xs → q (get_or xs i nobody) ≡ true → c (get_or xs i nobody) ≡ true → list_any q (filter c xs) ≡ true
 any_kept_at q c [] i lt hit kept = absurd (omega (arith, lt))
 any_kept_at q c (x ∷ xs) zero lt hit kept = rw (kept, hit) refl
 any_kept_at q c (x ∷ xs) (suc i) lt hit kept = elim (cases_Bool (c x)) [
@@ -166,7 +166,7 @@ any_kept_at q c (x ∷ xs) (suc i) lt hit kept = elim (cases_Bool (c x)) [
   | inr lost ↦ rw lost (any_kept_at q c xs i (omega (arith, lt)) hit kept)
 ]
 
-any_in_range : (q : Symbol → Bool) (f : ℕ → List Symbol) (k n b : ℕ) → k ≤ b → b < k + n → list_any q (f b) ≡ true → list_any q (flat_map f (range_with_len k n)) ≡ true
+any_in_range : (q : SymbolLine → Bool) (f : ℕ → List SymbolLine) (k n b : ℕ) → k ≤ b → b < k + n → list_any q (f b) ≡ true → list_any q (flat_map f (range_with_len k n)) ≡ true
 any_in_range q f k zero b le lt h = absurd (omega (arith, le, lt))
 any_in_range q f k (suc n) b le lt h = elim (cases_lt k b) [
   | inl later ↦ any_later q (f k) (flat_map f (range_with_len (k + 1) n)) (any_in_range q f (k + 1) n b (omega (arith, later)) (omega (arith, lt)) h)
@@ -175,7 +175,7 @@ any_in_range q f k (suc n) b le lt h = elim (cases_lt k b) [
       any_first q (f k) (flat_map f (range_with_len (k + 1) n)) (subst (λ (c : ℕ). list_any q (f c) ≡ true) here h)
 ]
 
-bucket_small : (s : Settings) (x : Symbol) → 0 < s.buckets → bucket s x < s.buckets
+bucket_small : (s : Settings) (x : SymbolLine) → 0 < s.buckets → bucket s x < s.buckets
 unfolding bucket bucket_of
 bucket_small s x some = elim (cases_Bool s.hashes.gnu) [
   | inr other ↦ rw other some
@@ -185,17 +185,17 @@ bucket_small s x some = elim (cases_Bool s.hashes.gnu) [
     not_zero : (n : ℕ) → 0 < n → (n == 0) ≡ false
     not_zero n h = grind (arith, nat_tests)
 
-own_part : (s : Settings) (x : Symbol) → x.defined ≡ true → is_in s (bucket s x) x ≡ true
+own_part : (s : Settings) (x : SymbolLine) → x.defined ≡ true → is_in s (bucket s x) x ≡ true
 unfolding is_in
 own_part s x defined = both_true x.defined (bucket s x == bucket s x) defined (equal (bucket s x) (bucket s x) refl)
 
 -- the order of the symbols loses none
-pub any_ordered : (q : Symbol → Bool) (s : Settings) (symbols : List Symbol) → 0 < s.buckets → list_any q symbols ≡ true → list_any q (ordered s symbols) ≡ true
+pub any_ordered : (q : SymbolLine → Bool) (s : Settings) (symbols : List SymbolLine) → 0 < s.buckets → list_any q symbols ≡ true → list_any q (ordered s symbols) ≡ true
 unfolding ordered
 any_ordered q s symbols some h =
     let there : IsThere q symbols = position_there q symbols h in
-    let x : Symbol = get_or symbols there.index nobody in
-    let own : List Symbol = flat_map (λ b. filter (is_in s b) symbols) (range_with_len 0 s.buckets) in
+    let x : SymbolLine = get_or symbols there.index nobody in
+    let own : List SymbolLine = flat_map (λ b. filter (is_in s b) symbols) (range_with_len 0 s.buckets) in
     elim (cases_Bool x.defined) [
       | inr undefined ↦
           let kept : is_undefined x ≡ true = ap (λ (b : Bool). not b) undefined in
@@ -205,11 +205,11 @@ any_ordered q s symbols some h =
           any_later q (filter is_undefined symbols) own (any_in_range q (λ b. filter (is_in s b) symbols) 0 s.buckets (bucket s x) (omega arith) (omega (arith, bucket_small s x some)) part)
     ]
 
-all_parts : (P : Symbol → Type 0) (f : ℕ → List Symbol) (bs : List ℕ) → ((b : ℕ) → AllByRecursion P (f b)) → AllByRecursion P (flat_map f bs)
+all_parts : (P : SymbolLine → Type 0) (f : ℕ → List SymbolLine) (bs : List ℕ) → ((b : ℕ) → AllByRecursion P (f b)) → AllByRecursion P (flat_map f bs)
 all_parts P f [] each = tt
 all_parts P f (b ∷ bs) each = all_both P (f b) (flat_map f bs) (each b) (all_parts P f bs each)
 
-pub all_ordered : (P : Symbol → Type 0) (s : Settings) (symbols : List Symbol) → AllByRecursion P symbols → AllByRecursion P (ordered s symbols)
+pub all_ordered : (P : SymbolLine → Type 0) (s : Settings) (symbols : List SymbolLine) → AllByRecursion P symbols → AllByRecursion P (ordered s symbols)
 unfolding ordered
 all_ordered P s symbols all =
     all_both P (filter is_undefined symbols) (flat_map (λ b. filter (is_in s b) symbols) (range_with_len 0 s.buckets)) (all_kept P is_undefined symbols all)
@@ -261,7 +261,7 @@ kind_small r x m = elim m.form [
   | inr copy ↦ omega (arith, copy.kind)
 ]
 
-pub number_small : (p : Plan) (name : List ℕ) → length p.symbols + 1 < 2 ^ 32 → symbol_number p name ≤ length p.symbols
+pub number_small : (p : LayoutPlan) (name : List ℕ) → length p.symbols + 1 < 2 ^ 32 → symbol_number p name ≤ length p.symbols
 unfolding symbol_number
 number_small p name few = elim (cases_Bool (is_no_symbol name)) [
   | inl none ↦ rw none (omega arith)
@@ -275,14 +275,14 @@ addend_small a small = elim (cases_Bool a.negative) [
   | inr above ↦ rw above small
 ]
 
-moved_small : (p : Plan) (x : Relocation) → x.addend.magnitude < 2 ^ 64 → moved_addend p x < 2 ^ 64
+moved_small : (p : LayoutPlan) (x : Relocation) → x.addend.magnitude < 2 ^ 64 → moved_addend p x < 2 ^ 64
 unfolding moved_addend
 moved_small p x small = elim (cases_Bool (x.kind == 8)) [
   | inl relative ↦ rw relative (plus_below (data_address p.settings) (addend_of x.addend))
   | inr other ↦ rw other (addend_small x.addend small)
 ]
 
-rela_fits : (r : Recipe) (p : Plan) (x : Relocation) → length p.symbols + 1 < 2 ^ 32 → IsModestRelocation r x → FitsRela (rela_of p x)
+rela_fits : (r : Recipe) (p : LayoutPlan) (x : Relocation) → length p.symbols + 1 < 2 ^ 32 → IsModestRelocation r x → FitsRela (rela_of p x)
 unfolding rela_of
 rela_fits r p x few m = record {
   offset = plus_below (data_address p.settings) x.offset;
@@ -291,7 +291,7 @@ rela_fits r p x few m = record {
   addend = moved_small p x m.small;
 }
 
-relas_fit : (r : Recipe) (p : Plan) (rs : List Relocation) → length p.symbols + 1 < 2 ^ 32 → AllByRecursion (IsModestRelocation r) rs → AllByRecursion FitsRela (map (rela_of p) rs)
+relas_fit : (r : Recipe) (p : LayoutPlan) (rs : List Relocation) → length p.symbols + 1 < 2 ^ 32 → AllByRecursion (IsModestRelocation r) rs → AllByRecursion FitsRela (map (rela_of p) rs)
 relas_fit r p [] few all = tt
 relas_fit r p (x ∷ rs) few all = (rela_fits r p x few all.0, relas_fit r p rs few all.1)
 
@@ -312,14 +312,14 @@ plan_settings r = refl
 pub modest_relocations : (r : Recipe) → IsModest r → AllByRecursion (IsModestRelocation r) (plan_of r).relocations
 modest_relocations r m = subst (AllByRecursion (IsModestRelocation r)) (sym (plan_relocations r)) m.relocations
 
-rows_of_read : (r : Recipe) (p : Plan) (rs : List Relocation) → length p.symbols + 1 < 2 ^ 32 → AllByRecursion (IsModestRelocation r) rs → relocs (planned_symbols p) (flat_map rela_bytes (map (rela_of p) rs)) ≡ read_as p rs
+rows_of_read : (r : Recipe) (p : LayoutPlan) (rs : List Relocation) → length p.symbols + 1 < 2 ^ 32 → AllByRecursion (IsModestRelocation r) rs → relocs (planned_symbols p) (flat_map rela_bytes (map (rela_of p) rs)) ≡ read_as p rs
 unfolding read_as
 rows_of_read r p rs few all = relocs_read (planned_symbols p) (map (rela_of p) rs) (relas_fit r p rs few all)
 
 pub rows_read : PlannedRelocsAreRead
 unfolding others jump_slots
 rows_read r m few =
-    let p : Plan = plan_of r in
+    let p : LayoutPlan = plan_of r in
     record {
       others = rows_of_read r p (filter is_other p.relocations) few (all_kept (IsModestRelocation r) is_other p.relocations (modest_relocations r m));
       slots = rows_of_read r p (filter is_jump_slot p.relocations) few (all_kept (IsModestRelocation r) is_jump_slot p.relocations (modest_relocations r m));
@@ -330,7 +330,7 @@ rows_read r m few =
 pub copied : (r : Recipe) (x : Relocation) → IsPlain r → CopiesWord r x → IsThere (is_written_as x.name) (plan_of r).symbols
 copied r x plain copy =
     position_there (is_written_as x.name) (plan_of r).symbols
-    (subst (λ (l : List Symbol). list_any (is_written_as x.name) l ≡ true) (sym (plan_symbols r)) (any_ordered (is_written_as x.name) r.settings r.symbols plain.settings.some_buckets copy.known))
+    (subst (λ (l : List SymbolLine). list_any (is_written_as x.name) l ≡ true) (sym (plan_symbols r)) (any_ordered (is_written_as x.name) r.settings r.symbols plain.settings.some_buckets copy.known))
 
 pub copied_number : (r : Recipe) (x : Relocation) (there : IsThere (is_written_as x.name) (plan_of r).symbols) → length (plan_of r).symbols + 1 < 2 ^ 32 → is_no_symbol x.name ≡ false → symbol_number (plan_of r) x.name ≡ suc there.index
 unfolding symbol_number
@@ -347,10 +347,10 @@ copied_size r x copy there =
 copy_wide : (r : Recipe) (x : Relocation) → IsPlain r → length (plan_of r).symbols + 1 < 2 ^ 32 → CopiesWord r x → width (planned_symbols (plan_of r)) x.kind (symbol_number (plan_of r) x.name) ≡ 8
 unfolding width planned_symbol
 copy_wide r x plain few copy =
-    let p : Plan = plan_of r in
+    let p : LayoutPlan = plan_of r in
     let there : IsThere (is_written_as x.name) p.symbols = copied r x plain copy in
     let at : slice_get (map (planned_symbol p) p.symbols) there.index ≡ Some (planned_symbol p (get_or p.symbols there.index nobody)) =
-    slice_get-map (planned_symbol p) p.symbols there.index ∙ ap (λ (o : Option Symbol). option_map (planned_symbol p) o) (slice_get-get_or p.symbols there.index nobody there.within) in
+    slice_get-map (planned_symbol p) p.symbols there.index ∙ ap (λ (o : Option SymbolLine). option_map (planned_symbol p) o) (slice_get-get_or p.symbols there.index nobody there.within) in
     rw (copy.kind, copied_number r x there few copy.named, at) (copied_size r x copy there)
 
 -- ---- the place of a relocation: a word, so far behind the beginning of the data
@@ -391,10 +391,10 @@ places_are r (x ∷ rs) plain few all =
 
 -- ---- the segments
 
-abbrev segments_of : Settings → ℕ → Place → List Segment
+abbrev segments_of : Settings → ℕ → PlacedSection → List Segment
 segments_of s tables_end dynamic = shown (has_data s) (first_load s tables_end) (second_load s tables_end) (dynamic_segment dynamic)
 
-abbrev with_data : Settings → ℕ → Place → List Segment
+abbrev with_data : Settings → ℕ → PlacedSection → List Segment
 with_data s tables_end dynamic = first_load s tables_end ∷ second_load s tables_end ∷ dynamic_segment dynamic ∷ []
 
 data_there : (s : Settings) → 0 < s.data_size + s.bss → has_data s ≡ true
@@ -404,7 +404,7 @@ data_there s some = elim (cases_lt 0 s.data_size) [
   | inr none ↦ or_right (nat_lt 0 s.data_size) (nat_lt 0 s.bss) (below_true 0 s.bss (omega (arith, some, none)))
 ]
 
-segments_are : (s : Settings) (tables_end : ℕ) (dynamic : Place) → 0 < s.data_size + s.bss → segments_of s tables_end dynamic ≡ with_data s tables_end dynamic
+segments_are : (s : Settings) (tables_end : ℕ) (dynamic : PlacedSection) → 0 < s.data_size + s.bss → segments_of s tables_end dynamic ≡ with_data s tables_end dynamic
 segments_are s tables_end dynamic some = ap (λ (b : Bool). shown b (first_load s tables_end) (second_load s tables_end) (dynamic_segment dynamic)) (data_there s some)
 
 first_misses : (s : Settings) (tables_end offset : ℕ) → tables_end ≤ 1048576 → loads_byte (data_address s + offset) (first_load s tables_end) ≡ false
@@ -422,11 +422,11 @@ unfolding loads_byte second_load
 second_misses s tables_end offset le =
     rw (at_most (data_address s) (data_address s + offset) (omega arith), not_above (data_address s + s.data_size) (data_address s + offset) (omega (arith, le))) refl
 
-pub dynamic_misses : (dynamic : Place) (address : ℕ) → loads_byte address (dynamic_segment dynamic) ≡ false
+pub dynamic_misses : (dynamic : PlacedSection) (address : ℕ) → loads_byte address (dynamic_segment dynamic) ≡ false
 unfolding loads_byte dynamic_segment readable
 dynamic_misses dynamic address = refl
 
-data_window : (s : Settings) (tables_end offset size : ℕ) (dynamic : Place) → tables_end ≤ 1048576 → offset < s.data_size
+data_window : (s : Settings) (tables_end offset size : ℕ) (dynamic : PlacedSection) → tables_end ≤ 1048576 → offset < s.data_size
     → file_window (with_data s tables_end dynamic) (record { at = data_address s + offset; size = size }) ≡ record { at = data_offset tables_end + offset; size = min size (s.data_size - offset) }
 unfolding file_window second_load window_of
 data_window s tables_end offset size dynamic le lt =
@@ -437,32 +437,32 @@ data_window s tables_end offset size dynamic le lt =
     (ap (λ (n : ℕ). window_of (data_offset tables_end + n) (min size (data_address s + s.data_size - (data_address s + offset)))) at
     ∙ ap (λ (n : ℕ). window_of (data_offset tables_end + offset) (min size n)) left)
 
-no_window : (s : Settings) (tables_end offset size : ℕ) (dynamic : Place) → tables_end ≤ 1048576 → s.data_size ≤ offset → file_window (with_data s tables_end dynamic) (record { at = data_address s + offset; size = size }) ≡ nothing
+no_window : (s : Settings) (tables_end offset size : ℕ) (dynamic : PlacedSection) → tables_end ≤ 1048576 → s.data_size ≤ offset → file_window (with_data s tables_end dynamic) (record { at = data_address s + offset; size = size }) ≡ nothing
 unfolding file_window
 no_window s tables_end offset size dynamic le past =
     let none : loader (with_data s tables_end dynamic) (data_address s + offset) ≡ None = rw (first_misses s tables_end offset le, second_misses s tables_end offset past, dynamic_misses dynamic (data_address s + offset)) refl in
     rw none refl
 
-last_is : (s : Settings) (tables_end : ℕ) (dynamic : Place) → last_load (with_data s tables_end dynamic) ≡ Some (second_load s tables_end)
+last_is : (s : Settings) (tables_end : ℕ) (dynamic : PlacedSection) → last_load (with_data s tables_end dynamic) ≡ Some (second_load s tables_end)
 unfolding last_load first_load second_load dynamic_segment readable
 last_is s tables_end dynamic = refl
 
 -- ---- clause 24
 
-in_file : (s : Settings) (tables_end offset : ℕ) (dynamic : Place) → tables_end ≤ 1048576 → offset + 8 ≤ s.data_size → in_file_part (with_data s tables_end dynamic) (word_at s offset) ≡ true
+in_file : (s : Settings) (tables_end offset : ℕ) (dynamic : PlacedSection) → tables_end ≤ 1048576 → offset + 8 ≤ s.data_size → in_file_part (with_data s tables_end dynamic) (word_at s offset) ≡ true
 unfolding in_file_part
 in_file s tables_end offset dynamic le within =
     let size : min 8 (s.data_size - offset) ≡ 8 = omega (arith, within) in
     ap (λ (w : Window). w.size == 8) (data_window s tables_end offset 8 dynamic le (omega (arith, within))) ∙ ap (λ (n : ℕ). n == 8) size
 
-in_zeros : (s : Settings) (tables_end offset : ℕ) (dynamic : Place) → ArePlain s → offset + 8 ≤ s.data_size + s.bss → is_in_memory (word_at s offset) (last_load (with_data s tables_end dynamic)) ≡ true
+in_zeros : (s : Settings) (tables_end offset : ℕ) (dynamic : PlacedSection) → ArePlain s → offset + 8 ≤ s.data_size + s.bss → is_in_memory (word_at s offset) (last_load (with_data s tables_end dynamic)) ≡ true
 unfolding second_load
 in_zeros s tables_end offset dynamic plain within =
     let sum : plus s.data_size s.bss ≡ s.data_size + s.bss = plus_small s.data_size s.bss (omega (arith, plain.few_data, plain.few_bss)) in
     ap (is_in_memory (word_at s offset)) (last_is s tables_end dynamic)
     ∙ (rw (at_most (data_address s) (data_address s + offset) (omega arith), at_most (data_address s + offset + 8) (data_address s + plus s.data_size s.bss) (omega (arith, within, sum))) refl)
 
-word_held : (s : Settings) (program : Bool) (tables_end offset : ℕ) (dynamic : Place) → ArePlain s → tables_end ≤ 1048576 → (offset + 8 ≤ s.data_size) ⊎ ((program ≡ true) × (offset + 8 ≤ s.data_size + s.bss)) → is_held program (with_data s tables_end dynamic) (word_at s offset) ≡ true
+word_held : (s : Settings) (program : Bool) (tables_end offset : ℕ) (dynamic : PlacedSection) → ArePlain s → tables_end ≤ 1048576 → (offset + 8 ≤ s.data_size) ⊎ ((program ≡ true) × (offset + 8 ≤ s.data_size + s.bss)) → is_held program (with_data s tables_end dynamic) (word_at s offset) ≡ true
 unfolding is_held
 word_held s program tables_end offset dynamic plain le (inl word) = rw (in_file s tables_end offset dynamic le word) refl
 word_held s program tables_end offset dynamic plain le (inr copy) =
@@ -480,7 +480,7 @@ some_data program s offset (inr copy) = omega (arith, copy.1)
 abbrev words_at : Settings → List Relocation → List Window
 words_at s rs = map (λ x. word_at s x.offset) rs
 
-none_outside : (s : Settings) (program : Bool) (tables_end : ℕ) (dynamic : Place) (rs : List Relocation) → ArePlain s → tables_end ≤ 1048576 → AllByRecursion (λ x. IsPlaced program s x.offset) rs
+none_outside : (s : Settings) (program : Bool) (tables_end : ℕ) (dynamic : PlacedSection) (rs : List Relocation) → ArePlain s → tables_end ≤ 1048576 → AllByRecursion (λ x. IsPlaced program s x.offset) rs
     → list_any (λ memory. not (is_held program (segments_of s tables_end dynamic) memory)) (words_at s rs) ≡ false
 none_outside s program tables_end dynamic [] plain le all = refl
 none_outside s program tables_end dynamic (x ∷ rs) plain le all =
@@ -532,7 +532,7 @@ apart_in_order rs other =
 abbrev InData : Settings → ℕ → Window → Type 0
 InData s tables_end w = (w.size ≡ 0) ⊎ ((data_offset tables_end ≤ w.at) × (w.at + w.size ≤ data_offset tables_end + s.data_size))
 
-spot_in : (s : Settings) (tables_end offset : ℕ) (dynamic : Place) → tables_end ≤ 1048576 → InData s tables_end (file_window (with_data s tables_end dynamic) (word_at s offset))
+spot_in : (s : Settings) (tables_end offset : ℕ) (dynamic : PlacedSection) → tables_end ≤ 1048576 → InData s tables_end (file_window (with_data s tables_end dynamic) (word_at s offset))
 spot_in s tables_end offset dynamic le = elim (cases_lt offset s.data_size) [
   | inl inside ↦ subst (InData s tables_end) (sym (data_window s tables_end offset 8 dynamic le inside)) (inr (omega arith, omega (arith, inside)))
   | inr past ↦ subst (InData s tables_end) (sym (no_window s tables_end offset 8 dynamic le past)) (inl refl)
@@ -556,7 +556,7 @@ none_met : (s : Settings) (tables_end : ℕ) (v : Window) (ws : List Window) →
 none_met s tables_end v [] inside all = refl
 none_met s tables_end v (w ∷ ws) inside all = rw (not_shared s tables_end v w inside all.0, none_met s tables_end v ws inside all.1) refl
 
-spots_clear : (s : Settings) (program : Bool) (tables_end : ℕ) (dynamic : Place) (ws : List Window) (rs : List Relocation) → tables_end ≤ 1048576 → AllByRecursion (λ x. IsPlaced program s x.offset) rs → AllByRecursion (OffData s tables_end) ws
+spots_clear : (s : Settings) (program : Bool) (tables_end : ℕ) (dynamic : PlacedSection) (ws : List Window) (rs : List Relocation) → tables_end ≤ 1048576 → AllByRecursion (λ x. IsPlaced program s x.offset) rs → AllByRecursion (OffData s tables_end) ws
     → list_any (meets ws) (map (file_window (segments_of s tables_end dynamic)) (words_at s rs)) ≡ false
 spots_clear s program tables_end dynamic ws [] le placed off = refl
 spots_clear s program tables_end dynamic ws (x ∷ rs) le placed off =
@@ -574,12 +574,12 @@ none_bad : (r : Recipe) (rs : List Relocation) → length (plan_of r).symbols + 
 unfolding first_bad is_bad read_as reloc_of rela_of
 none_bad r [] few all = refl
 none_bad r (x ∷ rs) few all =
-    let p : Plan = plan_of r in
+    let p : LayoutPlan = plan_of r in
     let count : length (planned_symbols p) ≡ length p.symbols + 1 = omega (arith, length-map p.symbols (planned_symbol p)) in
     rw (kind_known r x all.0, not_at_most (length (planned_symbols p)) (symbol_number p x.name) (omega (arith, count, number_small p x.name few)), none_bad r rs few all.1) refl
 
 -- an addend that is 0, where there is to be none
-odd_not : (p : Plan) (x : Relocation) → (has_no_addend x.kind ≡ true → addend_of x.addend ≡ 0) → is_odd (reloc_of (planned_symbols p) (rela_of p x)) ≡ false
+odd_not : (p : LayoutPlan) (x : Relocation) → (has_no_addend x.kind ≡ true → addend_of x.addend ≡ 0) → is_odd (reloc_of (planned_symbols p) (rela_of p x)) ≡ false
 unfolding is_odd reloc_of rela_of moved_addend
 odd_not p x plain = elim (cases_Bool (has_no_addend x.kind)) [
   | inr other ↦ rw other refl
@@ -622,7 +622,7 @@ copies_placed r (x ∷ rs) plain few all = rw (copy_placed r x plain few all.0, 
 
 -- ---- clause 28
 
-no_function : (p : Plan) (s : Settings) (x : Symbol) → IsModestSymbol s x → is_ifunc (planned_symbol p x) ≡ false
+no_function : (p : LayoutPlan) (s : Settings) (x : SymbolLine) → IsModestSymbol s x → is_ifunc (planned_symbol p x) ≡ false
 unfolding is_ifunc planned_symbol
 no_function p s x m =
     let other : (x.kind == 10) ≡ false = elim m.form [
@@ -634,7 +634,7 @@ no_function p s x m =
     ] in
     second_false (not (seen.is_undefined (planned_symbol p x))) (x.kind == 10) other
 
-no_functions : (p : Plan) (s : Settings) (symbols : List Symbol) → AllByRecursion (IsModestSymbol s) symbols → list_any is_ifunc (map (planned_symbol p) symbols) ≡ false
+no_functions : (p : LayoutPlan) (s : Settings) (symbols : List SymbolLine) → AllByRecursion (IsModestSymbol s) symbols → list_any is_ifunc (map (planned_symbol p) symbols) ≡ false
 no_functions p s [] all = refl
 no_functions p s (x ∷ symbols) all = rw (no_function p s x all.0, no_functions p s symbols all.1) refl
 
@@ -658,20 +658,20 @@ all_aligned r (x ∷ rs) all = (all.0.aligned, all_aligned r rs all.1)
 abbrev pub in_order : List Relocation → List Relocation
 in_order rs = filter is_other rs ++ filter is_jump_slot rs
 
-read_append : (p : Plan) (xs ys : List Relocation) → read_as p xs ++ read_as p ys ≡ read_as p (xs ++ ys)
+read_append : (p : LayoutPlan) (xs ys : List Relocation) → read_as p xs ++ read_as p ys ≡ read_as p (xs ++ ys)
 unfolding read_as
 read_append p [] ys = refl
 read_append p (x ∷ xs) ys = ap (λ (l : List Reloc). reloc_of (planned_symbols p) (rela_of p x) ∷ l) (read_append p xs ys)
 
-pub planned_as : (p : Plan) → planned_relocs p ≡ read_as p (in_order p.relocations)
+pub planned_as : (p : LayoutPlan) → planned_relocs p ≡ read_as p (in_order p.relocations)
 unfolding planned_relocs
 planned_as p = read_append p (filter is_other p.relocations) (filter is_jump_slot p.relocations)
 
-pub kind_is : (p : Plan) (t : Tables) → (planned_header p t).kind ≡ type_of p.settings
+pub kind_is : (p : LayoutPlan) (t : Tables) → (planned_header p t).kind ≡ type_of p.settings
 unfolding planned_header header_of
 kind_is p t = refl
 
-shoff_is : (p : Plan) (t : Tables) → (planned_header p t).shoff ≡ sections_offset p (end_of t) (names_of p)
+shoff_is : (p : LayoutPlan) (t : Tables) → (planned_header p t).shoff ≡ sections_offset p (end_of t) (names_of p)
 unfolding planned_header header_of
 shoff_is p t = refl
 
@@ -693,11 +693,11 @@ places_taken program ss ws count rs good outside overlap clear plain =
     rw (good, held, overlap, clear, plain) refl
 
 -- by a plan whose segments these are
-by_places : (r : Recipe) (tables_end : ℕ) (dynamic : Place) (ws : List Window) → IsPlain r → IsModest r → tables_end ≤ 1048576 → length (plan_of r).symbols + 1 < 2 ^ 32 → AllByRecursion (OffData (plan_of r).settings tables_end) ws
+by_places : (r : Recipe) (tables_end : ℕ) (dynamic : PlacedSection) (ws : List Window) → IsPlain r → IsModest r → tables_end ≤ 1048576 → length (plan_of r).symbols + 1 < 2 ^ 32 → AllByRecursion (OffData (plan_of r).settings tables_end) ws
     → check_relocs (type_of (plan_of r).settings == 2) (segments_of (plan_of r).settings tables_end dynamic) ws (length (planned_symbols (plan_of r))) 0 (read_as (plan_of r) (in_order (plan_of r).relocations)) ≡ Ok tt
 unfolding reloc_outside reloc_overlap reloc_in_tables spots
 by_places r tables_end dynamic ws plain m le few off =
-    let p : Plan = plan_of r in
+    let p : LayoutPlan = plan_of r in
     let program : Bool = type_of p.settings == 2 in
     let rs : List Relocation = in_order p.relocations in
     let own = modest_relocations r m in
@@ -715,9 +715,9 @@ by_places r tables_end dynamic ws plain m le few off =
 pub relocs_taken : PlannedRelocsAreTaken
 unfolding has_ifunc is_ifunc seen.is_undefined
 relocs_taken r t windows plain m e few low =
-    let p : Plan = plan_of r in
+    let p : LayoutPlan = plan_of r in
     let rows = laid_tables p t e in
-    let place : Place = place_of t.places (codes ".dynamic") in
+    let place : PlacedSection = place_of t.places (codes ".dynamic") in
     let d : IsTable (end_of t) place = found_place (IsTable (end_of t)) (codes ".dynamic") t.places rows.1 (dynamic_there r t plain e) in
     let shown_so = segments_shown p t (plain_settings r plain) (there_is place d.some) in
     let behind : data_offset (end_of t) + p.settings.data_size ≤ (planned_header p t).shoff = omega (arith, parts_before p t, shoff_is p t) in

@@ -13,23 +13,23 @@ use Rattle.pl_build.specs.declared.fields.Field.TheVariants.{Byte, Half, Word, X
 use Rattle.pl_build.specs.declared.layout.Tables.{Tables}
 use Rattle.pl_build.specs.declared.line.Relocation.{Relocation}
 use Rattle.pl_build.specs.declared.needed.Need.{Need}
-use Rattle.pl_build.specs.declared.line.Symbol.{Symbol}
-use Rattle.pl_build.specs.declared.plan.Plan.{Plan}
+use Rattle.pl_build.specs.declared.line.SymbolLine.{SymbolLine}
+use Rattle.pl_build.specs.declared.layout_plan.LayoutPlan.{LayoutPlan}
 use Rattle.pl_build.specs.declared.recipe.Recipe.{Recipe}
 use Rattle.pl_build.specs.declared.relocations.Rela.{Rela}
-use Rattle.pl_build.specs.declared.roles.Place.{Place}
+use Rattle.pl_build.specs.declared.roles.PlacedSection.{PlacedSection}
 use Rattle.pl_build.specs.declared.roles.Role.{Role}
 use Rattle.pl_build.specs.declared.roles.Role.TheVariants.{Null, Interp, Hash, GnuHash, Dynsym, Dynstr, Versym, Verdef, Verneed, RelaDyn, RelaPlt, RelrDyn, Dynamic, Data, Bss, Shstrtab}
-use Rattle.pl_build.specs.declared.strings.Strings.{Strings}
+use Rattle.pl_build.specs.declared.string_table.StringTable.{StringTable}
 use Rattle.pl_build.specs.Choices.{chosen}
 use Rattle.pl_build.specs.Dynamic.{dynamic_table, tag_bytes, end_tag, needed_tags, table_tags, relocation_tags, packed_tags, version_tags, usual_tags, spare_tags}
 use Rattle.pl_build.specs.Fields.{field_bytes, fields}
 use Rattle.pl_build.specs.HashTables.{sysv_table, sysv_words, gnu_table, gnu_words}
 use Rattle.pl_build.specs.Layout.{contents, role_added, table_added, tables, no_tables, place_at}
 use Rattle.pl_build.specs.Needed.{needs_of, need_added, files_of}
-use Rattle.pl_build.specs.Plan.{plan_of, roles_of, first_roles, next_roles, last_roles, has_interp, has_versions, is_versioned, is_jump_slot, is_other, strings_of}
+use Rattle.pl_build.specs.LayoutPlan.{plan_of, roles_of, first_roles, next_roles, last_roles, has_interp, has_versions, is_versioned, is_jump_slot, is_other, strings_of}
 use Rattle.pl_build.specs.Relocations.{rela_bytes, rela_of, jump_slots, others}
-use Rattle.pl_build.specs.Strings.{start, texts_added, symbols_added, symbol_added, versions_added, files_added}
+use Rattle.pl_build.specs.StringTable.{start, texts_added, symbols_added, symbol_added, versions_added, files_added}
 use Rattle.pl_build.specs.SymbolTable.{symbol_table, entry_bytes}
 use Rattle.law_demo.specs.Plain.{IsPlain, IsUnversioned}
 use Rattle.law_demo.specs.Planned.{is_table}
@@ -56,7 +56,7 @@ plain_roles sysv gnu others slots = chosen (
 
 -- ---- what a plain recipe needs no table for
 
-unneeded : (needs : List Need) (symbols : List Symbol) → AllByRecursion IsUnversioned symbols → fold need_added needs symbols ≡ needs
+unneeded : (needs : List Need) (symbols : List SymbolLine) → AllByRecursion IsUnversioned symbols → fold need_added needs symbols ≡ needs
 unfolding need_added
 unneeded needs [] all = refl
 unneeded needs (s ∷ symbols) all =
@@ -67,7 +67,7 @@ pub plain_needs : (r : Recipe) → IsPlain r → needs_of r.symbols ≡ []
 unfolding needs_of
 plain_needs r plain = unneeded [] r.symbols plain.symbols
 
-unversioned : (symbols : List Symbol) → AllByRecursion IsUnversioned symbols → list_any is_versioned symbols ≡ false
+unversioned : (symbols : List SymbolLine) → AllByRecursion IsUnversioned symbols → list_any is_versioned symbols ≡ false
 unversioned [] all = refl
 unversioned (s ∷ symbols) all = rw all.0.version (unversioned symbols all.1)
 
@@ -104,7 +104,7 @@ roles_plain r plain = ap (roles_of r) (plain_needs r plain) ∙ roles_joined r p
 
 -- ---- its strings
 
-symbols_texts : (s : Strings) (symbols : List Symbol) → AreTexts s → AreTexts (symbols_added s symbols)
+symbols_texts : (s : StringTable) (symbols : List SymbolLine) → AreTexts s → AreTexts (symbols_added s symbols)
 unfolding symbols_added
 symbols_texts s [] h = h
 symbols_texts s (x ∷ symbols) h = symbols_texts (symbol_added s x) symbols (added_texts s x.name h)
@@ -138,15 +138,15 @@ some_fields : (f : Field) (fs : List Field) → 0 < length (fields (f ∷ fs))
 unfolding fields
 some_fields f fs = front_some (field_bytes f) (flat_map field_bytes fs) (some_field f)
 
-some_sysv : (p : Plan) → 0 < length (sysv_table p)
+some_sysv : (p : LayoutPlan) → 0 < length (sysv_table p)
 unfolding sysv_table sysv_words
 some_sysv p = front_some _ _ (front_some _ _ (front_some _ _ (some_fields _ _)))
 
-some_gnu : (p : Plan) → 0 < length (gnu_table p)
+some_gnu : (p : LayoutPlan) → 0 < length (gnu_table p)
 unfolding gnu_table gnu_words
 some_gnu p = front_some _ _ (front_some _ _ (some_fields _ _))
 
-some_symbols : (p : Plan) → 0 < length (symbol_table p)
+some_symbols : (p : LayoutPlan) → 0 < length (symbol_table p)
 unfolding symbol_table entry_bytes
 some_symbols p = front_some _ _ (some_fields _ _)
 
@@ -154,7 +154,7 @@ some_end : 0 < length (flat_map tag_bytes (end_tag ∷ []))
 unfolding tag_bytes
 some_end = front_some (fields (Xword 0 ∷ Xword 0 ∷ [])) [] (some_fields (Xword 0) (Xword 0 ∷ []))
 
-some_dynamic : (p : Plan) (places : List Place) → 0 < length (dynamic_table p places)
+some_dynamic : (p : LayoutPlan) (places : List PlacedSection) → 0 < length (dynamic_table p places)
 unfolding dynamic_table
 some_dynamic p places =
     let before : List ℕ = flat_map tag_bytes (needed_tags p) ++ flat_map tag_bytes (table_tags p places) ++ flat_map tag_bytes (relocation_tags places) ++ flat_map tag_bytes (packed_tags places) ++ flat_map tag_bytes (version_tags p places) ++ flat_map tag_bytes (usual_tags p) in
@@ -164,27 +164,27 @@ some_rela : (r : Rela) → 0 < length (rela_bytes r)
 unfolding rela_bytes
 some_rela r = some_fields _ _
 
-some_relas : (p : Plan) (q : Relocation → Bool) (rs : List Relocation) → list_any q rs ≡ true → 0 < length (flat_map rela_bytes (map (rela_of p) (filter q rs)))
+some_relas : (p : LayoutPlan) (q : Relocation → Bool) (rs : List Relocation) → list_any q rs ≡ true → 0 < length (flat_map rela_bytes (map (rela_of p) (filter q rs)))
 some_relas p q [] h = absurd (false≢true h)
 some_relas p q (r ∷ rs) h = elim (cases_Bool (q r)) [
   | inl hit ↦ rw hit (front_some (rela_bytes (rela_of p r)) (flat_map rela_bytes (map (rela_of p) (filter q rs))) (some_rela (rela_of p r)))
   | inr miss ↦ rw miss (some_relas p q rs (rw miss at h))
 ]
 
-some_others : (p : Plan) → list_any is_other p.relocations ≡ true → 0 < length (others p)
+some_others : (p : LayoutPlan) → list_any is_other p.relocations ≡ true → 0 < length (others p)
 unfolding others
 some_others p h = some_relas p is_other p.relocations h
 
-some_slots : (p : Plan) → list_any is_jump_slot p.relocations ≡ true → 0 < length (jump_slots p)
+some_slots : (p : LayoutPlan) → list_any is_jump_slot p.relocations ≡ true → 0 < length (jump_slots p)
 unfolding jump_slots
 some_slots p h = some_relas p is_jump_slot p.relocations h
 
 -- ---- a section whose table is not empty has a place, and no other
 
-abbrev pub IsTold : Plan → Role → Type 0
-IsTold p role = (places : List Place) → (length (contents p places role) == 0) ≡ not (is_table role)
+abbrev pub IsTold : LayoutPlan → Role → Type 0
+IsTold p role = (places : List PlacedSection) → (length (contents p places role) == 0) ≡ not (is_table role)
 
-plain_told : (p : Plan) (a b : Bool) → 0 < length p.strings.bytes → AllByRecursion (IsTold p) (plain_roles a b (list_any is_other p.relocations) (list_any is_jump_slot p.relocations))
+plain_told : (p : LayoutPlan) (a b : Bool) → 0 < length p.strings.bytes → AllByRecursion (IsTold p) (plain_roles a b (list_any is_other p.relocations) (list_any is_jump_slot p.relocations))
 unfolding contents
 plain_told p a b some = all_chosen (IsTold p) _ (
   λ _ places. refl,
@@ -212,14 +212,14 @@ plain_told p a b some = all_chosen (IsTold p) _ (
   ),
 )
 
-abbrev pub role_of : Place → Role
+abbrev pub role_of : PlacedSection → Role
 role_of place = place.role
 
-added_roles : (p : Plan) (t : Tables) (role : Role) (content : List ℕ) → map role_of (table_added p t role content).places ≡ map role_of t.places ++ role ∷ []
+added_roles : (p : LayoutPlan) (t : Tables) (role : Role) (content : List ℕ) → map role_of (table_added p t role content).places ≡ map role_of t.places ++ role ∷ []
 unfolding table_added place_at
 added_roles p t role content = map-append role_of t.places _
 
-role_step : (p : Plan) (t u : Tables) (role : Role) → IsTold p role → role_added p t role ≡ Ok u → map role_of u.places ≡ map role_of t.places ++ filter is_table (role ∷ [])
+role_step : (p : LayoutPlan) (t u : Tables) (role : Role) → IsTold p role → role_added p t role ≡ Ok u → map role_of u.places ≡ map role_of t.places ++ filter is_table (role ∷ [])
 unfolding role_added
 role_step p t u role told e = elim (cases_Bool (is_table role)) [
   | inl table ↦
@@ -231,7 +231,7 @@ role_step p t u role told e = elim (cases_Bool (is_table role)) [
       rw other (ap (λ (v : Tables). map role_of v.places) (sym (ok_same t u (rw none at e))) ∙ sym (append-nil (map role_of t.places)))
 ]
 
-roles_run : (p : Plan) (roles : List Role) (t u : Tables) → AllByRecursion (IsTold p) roles → run (role_added p) t roles ≡ Ok u → map role_of u.places ≡ map role_of t.places ++ filter is_table roles
+roles_run : (p : LayoutPlan) (roles : List Role) (t u : Tables) → AllByRecursion (IsTold p) roles → run (role_added p) t roles ≡ Ok u → map role_of u.places ≡ map role_of t.places ++ filter is_table roles
 unfolding run
 roles_run p [] t u all e = ap (λ (v : Tables). map role_of v.places) (sym (ok_same t u e)) ∙ sym (append-nil (map role_of t.places))
 roles_run p (role ∷ roles) t u all e =

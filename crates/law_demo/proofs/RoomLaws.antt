@@ -16,7 +16,7 @@ use Rattle.pl_share.specs.Disjoint.{disjoint}
 use Rattle.pl_slots.specs.Holes.{AreHoles, IsLowest, IsPlace, cut, fits_at, hole, lowest, region_holes, spans_in, without}
 use Rattle.pl_slots.specs.Plan.{at_place, kept_holes, kept_row, next, placed, plan, slot_range, slot_at, without_kept}
 use Rattle.pl_slots.specs.declared.fault.PlanFault.{PlanFault}
-use Rattle.pl_slots.specs.declared.planned.Planned.{Planned}
+use Rattle.pl_slots.specs.declared.partial_plan.PartialPlan.{PartialPlan}
 use Rattle.pl_slots.specs.declared.slot.Slot.{Slot}
 use Rattle.pl_slots.specs.declared.slot.Want.{Want}
 use Rattle.pl_slots.proofs.HoleLaws.{region_are_holes, without_are_holes}
@@ -91,11 +91,11 @@ abbrev pub all_take : List Want → ℕ
 all_take [] = 0
 all_take (w ∷ ws) = w.span + w.align + all_take ws
 
-abbrev with_place : Planned → Want → ℕ → Planned
+abbrev with_place : PartialPlan → Want → ℕ → PartialPlan
 with_place planned w start = record { rows = planned.rows ++ slot_at w start ∷ []; holes = without (slot_range (slot_at w start)) planned.holes }
 
-placing : (region : Range) (ws : List Want) (planned : Planned) (m s : ℕ) → AllByRecursion Fits ws → AreHoles planned.holes → fits_at planned.holes m s ≡ true → all_take ws ≤ m
-    → (after : Planned) × (run (next [] region) planned ws ≡ Ok after)
+placing : (region : Range) (ws : List Want) (planned : PartialPlan) (m s : ℕ) → AllByRecursion Fits ws → AreHoles planned.holes → fits_at planned.holes m s ≡ true → all_take ws ≤ m
+    → (after : PartialPlan) × (run (next [] region) planned ws ≡ Ok after)
 unfolding run next kept_row placed
 placing region [] planned m s fits are free room = (planned, refl)
 placing region (w ∷ ws) planned m s fits are free room =
@@ -134,10 +134,10 @@ region_fits region m some room = one_hole region.start region.end m region.start
 pub all_placed : (region : Range) (ws : List Want) → region.start < region.end → region.start + all_take ws ≤ region.end → AllByRecursion Fits ws → (slots : List Slot) × (plan (disjoint [] ws region) ws region ≡ Ok slots)
 unfolding plan
 all_placed region ws some room fits =
-    let begun : Planned = record { rows = []; holes = region_holes region } in
+    let begun : PartialPlan = record { rows = []; holes = region_holes region } in
     let p = placing region ws begun (all_take ws) region.start fits (region_are_holes region) (region_fits region (all_take ws) some room) (omega arith) in (
       p.0.rows,
-      ap (λ (kept : List Slot). run (next kept region) (record { rows = []; holes = kept_holes kept region ws }) ws >>= λ (planned : Planned). Ok planned.rows) (no_rows region ws)
-          ∙ (ap (λ (holes : List Range). run (next [] region) (record { rows = []; holes = holes }) ws >>= λ (planned : Planned). Ok planned.rows) (whole_region region ws)
-          ∙ ap (λ (r : Result Planned PlanFault). r >>= λ (planned : Planned). Ok planned.rows) p.1),
+      ap (λ (kept : List Slot). run (next kept region) (record { rows = []; holes = kept_holes kept region ws }) ws >>= λ (planned : PartialPlan). Ok planned.rows) (no_rows region ws)
+          ∙ (ap (λ (holes : List Range). run (next [] region) (record { rows = []; holes = holes }) ws >>= λ (planned : PartialPlan). Ok planned.rows) (whole_region region ws)
+          ∙ ap (λ (r : Result PartialPlan PlanFault). r >>= λ (planned : PartialPlan). Ok planned.rows) p.1),
     )

@@ -31,7 +31,7 @@ use Rattle.pl_journal.specs.declared.change.Change.{Change}
 use Rattle.pl_known.specs.Fits.{fit_in}
 use Rattle.pl_known.specs.Skips.{skip_causes}
 use Rattle.pl_object.specs.declared.object.Object.{Object}
-use Rattle.pl_plan.specs.declared.planned.Planned.{Planned}
+use Rattle.pl_plan.specs.declared.run_plan.RunPlan.{RunPlan}
 use Rattle.pl_rewrite.specs.Changes.{from_scratch, next, numbers}
 use Rattle.pl_rewrite.proofs.SoundLaws.{names_stay, next_is_from_scratch}
 use Rattle.pl_scope.specs.Members.{IsLinked, has, names, others}
@@ -61,7 +61,7 @@ no_library : (kind : Kind) → kind ≡ Library → is_library kind ≡ false �
 no_library kind is none = true≢false (sym (ap is_library is) ∙ none)
 
 -- files after a run over a folder's old ones
-module _ (old view : Files) (region : Range) (p : Planned) (is : (n : List ℕ) → view n ≡ from_scratch old region p n) where
+module _ (old view : Files) (region : Range) (p : RunPlan) (is : (n : List ℕ) → view n ≡ from_scratch old region p n) where
   abbrev f : Format Skip
   f = format skip_causes
 
@@ -75,7 +75,7 @@ module _ (old view : Files) (region : Range) (p : Planned) (is : (n : List ℕ) 
     made : planned_in f old plan m ≡ Some file
 
   abbrev PlannedAt : (m : List ℕ) → IsMade m → Type 0
-  PlannedAt m at = sound.Planned f old plan m at.file
+  PlannedAt m at = sound.IsPlannedFile f old plan m at.file
 
   made_is : (m : List ℕ) (at : IsMade m) → PlannedAt m at
   made_is m at = planned_is f (format_kept skip_causes) old plan m at.file at.made

@@ -14,13 +14,13 @@ use Rattle.pl_build.specs.Words.{is_digit, digit, is_number, digit_more, value, 
 use Rattle.pl_gen.specs.Draws.{at}
 use Rattle.pl_gen.specs.Lines as gen
 use Rattle.pl_gen.specs.Lines.{library_name, function_name, object_name, has}
-use Rattle.pl_gen.specs.declared.kind.Kind.{Kind}
-use Rattle.pl_gen.specs.declared.kind.Kind.TheVariants.{Relative, Abs64, GlobDat, JumpSlot}
+use Rattle.pl_gen.specs.declared.relocation_kind.RelocationKind.{RelocationKind}
+use Rattle.pl_gen.specs.declared.relocation_kind.RelocationKind.TheVariants.{Relative, Abs64, GlobDat, JumpSlot}
 use Rattle.pl_gen.specs.Set.{functions, needed, library_recipe, program_recipe}
 use Rattle.law_demo.specs.SetLines as set
 use Rattle.law_demo.specs.SetLines.{first_lines, library_lines, program_lines, LibrariesSpell, ProgramsSpell}
 use Rattle.law_demo.specs.SetRecipes.{once, needed_names, own_functions, own_object, reference, relocation_of, copy_of, library_words, program_words}
-use Rattle.law_demo.specs.Spelled.{hexadecimal, defined, referred, relocated, by_function}
+use Rattle.law_demo.specs.Spelled.{hexadecimal, defined, referred, recipe_relocation, by_function}
 use Rattle.law_demo.specs.Split.{split_by}
 use Rattle.law_demo.proofs.NameLaws.{library_plain, function_plain, object_plain, library_line, function_in_line, object_in_line}
 use Rattle.law_demo.proofs.NumberLaws.{hex_all}
@@ -133,13 +133,13 @@ copy_spell i =
     spells_as (codes "rel copy 800 " ++ (name ++ (codes " 0" ++ 10 ∷ []))) ((codes "rel copy 800 " ++ (name ++ codes " 0")) ++ 10 ∷ []) (Relocates (copy_of i) ∷ []) (simp append_assoc)
     (spells_line (codes "rel copy 800 " ++ (name ++ codes " 0")) (Relocates (copy_of i)) (between (codes "rel copy 800 ") name (codes " 0") refl (object_in_line i) refl) (copies_read name (object_plain i)))
 
-relative_spell : (place addend : ℕ) → place < 2 ^ 64 → addend < 2 ^ 64 → Spells (gen.relative_line place addend) (Relocates (relocated (codes "-") 8 place addend) ∷ [])
+relative_spell : (place addend : ℕ) → place < 2 ^ 64 → addend < 2 ^ 64 → Spells (gen.relative_line place addend) (Relocates (recipe_relocation (codes "-") 8 place addend) ∷ [])
 unfolding gen.relative_line
 relative_spell place addend fits small =
     let hex : List ℕ = hexadecimal place in
     let more : List ℕ = hexadecimal addend in
-    spells_as (codes "rel relative " ++ (hex ++ (codes " - " ++ (more ++ 10 ∷ [])))) ((codes "rel relative " ++ (hex ++ (codes " - " ++ more))) ++ 10 ∷ []) (Relocates (relocated (codes "-") 8 place addend) ∷ []) (simp append_assoc)
-    (spells_line (codes "rel relative " ++ (hex ++ (codes " - " ++ more))) (Relocates (relocated (codes "-") 8 place addend))
+    spells_as (codes "rel relative " ++ (hex ++ (codes " - " ++ (more ++ 10 ∷ [])))) ((codes "rel relative " ++ (hex ++ (codes " - " ++ more))) ++ 10 ∷ []) (Relocates (recipe_relocation (codes "-") 8 place addend) ∷ []) (simp append_assoc)
+    (spells_line (codes "rel relative " ++ (hex ++ (codes " - " ++ more))) (Relocates (recipe_relocation (codes "-") 8 place addend))
     (between (codes "rel relative ") hex (codes " - " ++ more) refl (hex_in_line place) (none_append (λ b. b == 10) (codes " - ") more refl (hex_in_line addend)))
     (relatives_read place addend fits small))
 
@@ -176,11 +176,11 @@ all_defs before offset (n ∷ more) fits =
     spells_to _ _ _ (sym (map-append Names (once before n (defined (function_name n) 2 offset)) (own_functions (before ++ n ∷ []) (offset + 8) more)))
     (spells_both (unless_spell Names (defined (function_name n) 2 offset) before n (gen.def_line offset n) (def_spell offset n (omega (arith, fits)))) (all_defs (before ++ n ∷ []) (offset + 8) more (omega (arith, fits))))
 
-by_spell : (known : List ℕ) (kind : List ℕ) (number_of place n : ℕ) → Spells (gen.function_line kind place n) (Relocates (relocated (function_name n) number_of place 0) ∷ [])
-    → Spells (gen.by_function known kind place n) (map Names (once known n (referred (function_name n))) ++ Relocates (relocated (function_name n) number_of place 0) ∷ [])
+by_spell : (known : List ℕ) (kind : List ℕ) (number_of place n : ℕ) → Spells (gen.function_line kind place n) (Relocates (recipe_relocation (function_name n) number_of place 0) ∷ [])
+    → Spells (gen.by_function known kind place n) (map Names (once known n (referred (function_name n))) ++ Relocates (recipe_relocation (function_name n) number_of place 0) ∷ [])
 by_spell known kind number_of place n spells = spells_both (unless_spell Names (referred (function_name n)) known n (gen.ref_line n) (ref_spell n)) spells
 
-one_relocation : (known : List ℕ) (place : ℕ) (kind : Kind) (word : ℕ) → place < 2 ^ 64 → Spells (gen.relocation known place kind word) (set.relocation_lines known place kind word)
+one_relocation : (known : List ℕ) (place : ℕ) (kind : RelocationKind) (word : ℕ) → place < 2 ^ 64 → Spells (gen.relocation known place kind word) (set.relocation_lines known place kind word)
 unfolding gen.relocation set.relocation_lines reference relocation_of
 one_relocation known place Relative word fits = relative_spell place (8 * (word % 64)) fits (omega arith)
 one_relocation known place Abs64 word fits = by_spell known (codes "abs64") 1 place (word % 1000) (function_text (codes "abs64") place (word % 1000) _ refl (absolutes_read (function_name (word % 1000)) place (function_plain (word % 1000)) fits))

@@ -20,7 +20,7 @@ use Rattle.pl_batch.specs.Names.{are_many}
 use Rattle.pl_batch.specs.Restored.{restored, restored_by}
 use Rattle.pl_batch.specs.declared.room.TheConstants.{FILES}
 use Rattle.pl_demo.specs.Made.{made, made_files, no_files, with_file, with_made}
-use Rattle.pl_journal.specs.Names.{is_own, journal}
+use Rattle.pl_journal.specs.Names.{is_journal_name, journal}
 use Rattle.pl_journal.specs.Rows.{rows_in}
 use Rattle.pl_journal.proofs.Done.{row_not_own}
 use Rattle.pl_scope.proofs.NameLaws.{eq_refl}
@@ -99,10 +99,10 @@ no_journal_made set = none_at set journal journal_other
 pub no_cache_made : (set : List (List ℕ × List ℕ)) → get (made_files set) cache ≡ None
 no_cache_made set = none_at set cache cache_other
 
-valid_other : (n : List ℕ) → is_valid_name n ≡ true → is_own n ≡ false
+valid_other : (n : List ℕ) → is_valid_name n ≡ true → is_journal_name n ≡ false
 valid_other n valid = row_not_own n (ap (λ (b : Bool). b || same n cache) valid)
 
-kept_own : (set : List (List ℕ × List ℕ)) (n : List ℕ) (b : Bool) → is_own n ≡ b → cond (not b) (get (made_files set) n) None ≡ get (made_files set) n
+kept_own : (set : List (List ℕ × List ℕ)) (n : List ℕ) (b : Bool) → is_journal_name n ≡ b → cond (not b) (get (made_files set) n) None ≡ get (made_files set) n
 kept_own set n false is = refl
 kept_own set n true is = by_file (get (made_files set) n) refl
   where
@@ -110,8 +110,8 @@ kept_own set n true is = by_file (get (made_files set) n) refl
     by_file None there = refl
     by_file (Some file) there = absurd (false≢true (sym (valid_other n (valid_named set n file there)) ∙ is))
 
-own_tie : (n x : List ℕ) → same n x ≡ true → not (is_own x) ≡ not (is_own n)
-own_tie n x tie = ap (λ (k : List ℕ). not (is_own k)) (sym (same_name n x tie))
+own_tie : (n x : List ℕ) → same n x ≡ true → not (is_journal_name x) ≡ not (is_journal_name n)
+own_tie n x tie = ap (λ (k : List ℕ). not (is_journal_name k)) (sym (same_name n x tie))
 
 -- so they stand for themselves
 pub restored_made : (set : List (List ℕ × List ℕ)) → restored (made_files set) ≡ made_files set
@@ -119,7 +119,7 @@ unfolding restored
 restored_made set =
     ap (λ (o : Option (List ℕ)). restored_by (rows_in o) (made_files set)) (no_journal_made set)
     ∙ equal_files (restored_by (Some []) (made_files set)) (made_files set) (λ n.
-    get-retain_keys (made_files set) (λ x. not (is_own x)) n (λ x tie. own_tie n x (ap is_eq tie)) ∙ kept_own set n (is_own n) refl)
+    get-retain_keys (made_files set) (λ x. not (is_journal_name x)) n (λ x tie. own_tie n x (ap is_eq tie)) ∙ kept_own set n (is_journal_name n) refl)
 
 -- ---- how many there are
 

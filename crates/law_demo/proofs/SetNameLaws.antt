@@ -7,22 +7,22 @@ use Rattle.std.proofs.Math.Nat.{mod-lt}
 use Rattle.std.proofs.lemmas.Bool.{cases_Bool, false≢true, or_cases}
 use Rattle.std.proofs.lemmas.List.Folds.{list_any-append}
 use Rattle.std.proofs.lemmas.Slice.Eq.{bytes_eq-Decides}
-use Rattle.pl_build.specs.declared.line.Symbol.{Symbol}
+use Rattle.pl_build.specs.declared.line.SymbolLine.{SymbolLine}
 use Rattle.pl_gen.specs.Draws.{at}
 use Rattle.pl_gen.specs.Lines.{library_name, object_name, has, kind_of}
 use Rattle.pl_gen.specs.Set.{functions, needed}
-use Rattle.pl_gen.specs.declared.kind.Kind.{Kind}
-use Rattle.pl_gen.specs.declared.kind.Kind.TheVariants.{Relative, Abs64, GlobDat, JumpSlot}
+use Rattle.pl_gen.specs.declared.relocation_kind.RelocationKind.{RelocationKind}
+use Rattle.pl_gen.specs.declared.relocation_kind.RelocationKind.TheVariants.{Relative, Abs64, GlobDat, JumpSlot}
 use Rattle.law_demo.specs.SetNames.{IsSpelled, defines_name, copies_name, is_needed, IsLibraryAmong, RecipesAreNamed, FilesAreNamed}
 use Rattle.law_demo.specs.SetRecipes.{once, needed_names, own_functions, own_object, references, relocation_of, relocations_from, copy_of, library_words, program_words, library_of, program_of}
-use Rattle.law_demo.specs.Spelled.{defined, relocated}
+use Rattle.law_demo.specs.Spelled.{defined, recipe_relocation}
 use Rattle.law_demo.proofs.CoverLaws.{any_second}
 use Rattle.law_demo.proofs.FaultLaws.{IsBare, bare_both, own_bare, references_bare, defined_bare}
 use Rattle.law_demo.proofs.NameLaws.{library_plain, program_plain, library_apart, program_apart, same_name}
 
 -- ---- symbols
 
-all_spelled : (ss : List Symbol) → AllByRecursion IsBare ss → AllByRecursion IsSpelled ss
+all_spelled : (ss : List SymbolLine) → AllByRecursion IsBare ss → AllByRecursion IsSpelled ss
 all_spelled [] all = tt
 all_spelled (s ∷ ss) all = (all.0.same, all_spelled ss all.1)
 
@@ -50,8 +50,8 @@ library_defines count i words =
 
 -- ---- copies
 
-no_copy : (name : List ℕ) (place : ℕ) (kind : Kind) (word : ℕ) → copies_name name (relocation_of place kind word) ≡ false
-unfolding relocation_of relocated
+no_copy : (name : List ℕ) (place : ℕ) (kind : RelocationKind) (word : ℕ) → copies_name name (relocation_of place kind word) ≡ false
+unfolding relocation_of recipe_relocation
 no_copy name place Relative word = refl
 no_copy name place Abs64 word = refl
 no_copy name place GlobDat word = refl
@@ -68,7 +68,7 @@ unfolding library_of
 library_copies count i words name = no_copies name 0x808 (library_words words)
 
 copy_named : (i : ℕ) (name : List ℕ) → list_any (copies_name name) (copy_of i ∷ []) ≡ true → name ≡ object_name i
-unfolding relocated
+unfolding recipe_relocation
 copy_named i name h = sym ((bytes_eq-Decides (object_name i) name).0 (only (bytes_eq (object_name i) name) h))
   where
     only : (b : Bool) → (b || false) ≡ true → b ≡ true

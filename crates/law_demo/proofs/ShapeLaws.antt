@@ -10,15 +10,15 @@ use Rattle.pl_base.proofs.WindowLaws.{length-part}
 use Rattle.pl_elf.specs.declared.segment.Segment.{Segment}
 use Rattle.pl_object.specs.FilePart.{file_window, loaded}
 use Rattle.pl_build.specs.declared.layout.Tables.{Tables}
-use Rattle.pl_build.specs.declared.plan.Plan.{Plan}
+use Rattle.pl_build.specs.declared.layout_plan.LayoutPlan.{LayoutPlan}
 use Rattle.pl_build.specs.declared.recipe.Recipe.{Recipe}
-use Rattle.pl_build.specs.declared.roles.Place.{Place}
+use Rattle.pl_build.specs.declared.roles.PlacedSection.{PlacedSection}
 use Rattle.pl_build.specs.declared.roles.Role.{Role}
 use Rattle.pl_build.specs.declared.roles.Role.TheVariants.{Hash, GnuHash, Dynsym, Dynstr, RelaDyn, RelaPlt, Dynamic}
 use Rattle.pl_build.specs.Choices.{chosen}
 use Rattle.pl_build.specs.File.{made}
 use Rattle.pl_build.specs.Layout.{contents, end_of, tables}
-use Rattle.pl_build.specs.Plan.{plan_of, base_of, is_jump_slot, is_other}
+use Rattle.pl_build.specs.LayoutPlan.{plan_of, base_of, is_jump_slot, is_other}
 use Rattle.law_demo.specs.Loaded.{memory_of, AreLoaded}
 use Rattle.law_demo.specs.Plain.{IsPlain}
 use Rattle.law_demo.specs.Planned.{is_table, planned_segments}
@@ -57,52 +57,52 @@ shapes false false false false = refl
 
 -- ---- places of such roles
 
-abbrev extent_of : Place → Extent
+abbrev extent_of : PlacedSection → Extent
 extent_of x = record { addr = x.addr; offset = x.offset; size = x.size }
 
 no_extent : Extent
 no_extent = record { addr = 0; offset = 0; size = 0 }
 
-as_in : (x : Place) (role : Role) → x.role ≡ role → x ≡ place_in role (extent_of x)
+as_in : (x : PlacedSection) (role : Role) → x.role ≡ role → x ≡ place_in role (extent_of x)
 as_in x role e = ap (λ (r : Role). place_in r (extent_of x)) e
 
-abbrev opt : Bool → Place → List Place → List Place
+abbrev opt : Bool → PlacedSection → List PlacedSection → List PlacedSection
 opt true x xs = x ∷ xs
 opt false x xs = xs
 
-opt_chosen : (b : Bool) (x : Place) (cs : List (Bool × Place)) → opt b x (chosen cs) ≡ chosen ((b, x) ∷ cs)
+opt_chosen : (b : Bool) (x : PlacedSection) (cs : List (Bool × PlacedSection)) → opt b x (chosen cs) ≡ chosen ((b, x) ∷ cs)
 unfolding chosen
 opt_chosen true x cs = refl
 opt_chosen false x cs = refl
 
-record Took (b : Bool) (role : Role) (cs : List (Bool × Role)) (places : List Place) : Type 0 where
+record Took (b : Bool) (role : Role) (cs : List (Bool × Role)) (places : List PlacedSection) : Type 0 where
   pub extent : Extent
-  pub rest : List Place
+  pub rest : List PlacedSection
   pub is : places ≡ opt b (place_in role extent) rest
   pub roles : map role_of rest ≡ chosen cs
 
-takes : (b : Bool) (role : Role) (cs : List (Bool × Role)) (places : List Place) → map role_of places ≡ chosen ((b, role) ∷ cs) → Took b role cs places
+takes : (b : Bool) (role : Role) (cs : List (Bool × Role)) (places : List PlacedSection) → map role_of places ≡ chosen ((b, role) ∷ cs) → Took b role cs places
 unfolding chosen
 takes true role cs [] e = let no : ◌≡◌ {A = List Role} [] (role ∷ chosen cs) = e in absurd cc
 takes true role cs (x ∷ xs) e =
     let same : ◌≡◌ {A = List Role} (x.role ∷ map role_of xs) (role ∷ chosen cs) = e in
     let head : x.role ≡ role = cc in
     let tail : map role_of xs ≡ chosen cs = cc in
-    record { extent = extent_of x; rest = xs; is = ap (λ (y : Place). y ∷ xs) (as_in x role head); roles = tail }
+    record { extent = extent_of x; rest = xs; is = ap (λ (y : PlacedSection). y ∷ xs) (as_in x role head); roles = tail }
 takes false role cs places e = record { extent = no_extent; rest = places; is = refl; roles = e }
 
-none_left : (xs : List Place) → map role_of xs ≡ chosen [] → xs ≡ chosen []
+none_left : (xs : List PlacedSection) → map role_of xs ≡ chosen [] → xs ≡ chosen []
 unfolding chosen
 none_left [] e = refl
 none_left (x ∷ xs) e = let no : ◌≡◌ {A = List Role} (x.role ∷ map role_of xs) [] = e in absurd cc
 
-joins : (b : Bool) (role : Role) (cs : List (Bool × Role)) (places : List Place) (took : Took b role cs places) (ps : List (Bool × Place)) → took.rest ≡ chosen ps → places ≡ chosen ((b, place_in role took.extent) ∷ ps)
+joins : (b : Bool) (role : Role) (cs : List (Bool × Role)) (places : List PlacedSection) (took : Took b role cs places) (ps : List (Bool × PlacedSection)) → took.rest ≡ chosen ps → places ≡ chosen ((b, place_in role took.extent) ∷ ps)
 joins b role cs places took ps e = took.is ∙ ap (opt b (place_in role took.extent)) e ∙ opt_chosen b (place_in role took.extent) ps
 
-abbrev pub rows_of : Recipe → Extents → List (Bool × Place)
+abbrev pub rows_of : Recipe → Extents → List (Bool × PlacedSection)
 rows_of r e = rows_before r e ++ (true, place_in Dynamic e.dynamic) ∷ []
 
-pub record IsShaped (r : Recipe) (places : List Place) : Type 0 where
+pub record IsShaped (r : Recipe) (places : List PlacedSection) : Type 0 where
   pub extents : Extents
   pub is : places ≡ chosen (rows_of r extents)
 
@@ -131,26 +131,26 @@ shaped r t plain e =
       is = joins a Hash _ t.places hash _ two;
     }
 
-one_chosen : (x : Place) → chosen ((true, x) ∷ []) ≡ x ∷ []
+one_chosen : (x : PlacedSection) → chosen ((true, x) ∷ []) ≡ x ∷ []
 unfolding chosen
 one_chosen x = refl
 
 -- the dynamic table stands last
 pub dynamic_last : (r : Recipe) (e : Extents) → chosen (rows_of r e) ≡ before_dynamic r e ++ place_in Dynamic e.dynamic ∷ []
-dynamic_last r e = sym (ap (λ (l : List Place). before_dynamic r e ++ l) (sym (one_chosen (place_in Dynamic e.dynamic))) ∙ chosen_append (rows_before r e) ((true, place_in Dynamic e.dynamic) ∷ []))
+dynamic_last r e = sym (ap (λ (l : List PlacedSection). before_dynamic r e ++ l) (sym (one_chosen (place_in Dynamic e.dynamic))) ∙ chosen_append (rows_before r e) ((true, place_in Dynamic e.dynamic) ∷ []))
 
 -- ---- what is known of each table
 
-pub record IsGood (p : Plan) (ss : List Segment) (tables_end : ℕ) (place : Place) : Type 0 where
+pub record IsGood (p : LayoutPlan) (ss : List Segment) (tables_end : ℕ) (place : PlacedSection) : Type 0 where
   pub some : 0 < place.size
   pub low : 1024 ≤ place.offset
   pub within : place.offset + place.size ≤ tables_end
   pub address : place.addr ≡ base_of p.settings + place.offset
   pub window : file_window ss (memory_of place) ≡ record { at = place.offset; size = place.size }
-  pub before : List Place
+  pub before : List PlacedSection
   pub long : place.size ≡ length (contents p before place.role)
 
-all_good : (p : Plan) (bytes : List ℕ) (ss : List Segment) (tables_end from : ℕ) (before places : List Place) → tables_end ≤ 1048576 → AllByRecursion (IsTable tables_end) places → AreStanding p bytes from before places → AreLoaded p bytes ss before places
+all_good : (p : LayoutPlan) (bytes : List ℕ) (ss : List Segment) (tables_end from : ℕ) (before places : List PlacedSection) → tables_end ≤ 1048576 → AllByRecursion (IsTable tables_end) places → AreStanding p bytes from before places → AreLoaded p bytes ss before places
     → AllByRecursion (IsGood p ss tables_end) places
 all_good p bytes ss tables_end from before [] fits tables standing loaded = tt
 all_good p bytes ss tables_end from before (place ∷ places) fits tables standing loaded =
@@ -168,37 +168,37 @@ all_good p bytes ss tables_end from before (place ∷ places) fits tables standi
     )
 
 -- its bytes are loaded
-pub record IsHeld (p : Plan) (bytes : List ℕ) (ss : List Segment) (place : Place) : Type 0 where
-  pub before : List Place
+pub record IsHeld (p : LayoutPlan) (bytes : List ℕ) (ss : List Segment) (place : PlacedSection) : Type 0 where
+  pub before : List PlacedSection
   pub holds : loaded bytes ss (memory_of place) ≡ contents p before place.role
 
-all_held : (p : Plan) (bytes : List ℕ) (ss : List Segment) (before places : List Place) → AreLoaded p bytes ss before places → AllByRecursion (IsHeld p bytes ss) places
+all_held : (p : LayoutPlan) (bytes : List ℕ) (ss : List Segment) (before places : List PlacedSection) → AreLoaded p bytes ss before places → AllByRecursion (IsHeld p bytes ss) places
 all_held p bytes ss before [] h = tt
 all_held p bytes ss before (place ∷ places) h = (record { before = before; holds = h.0.holds }, all_held p bytes ss (before ++ place ∷ []) places h.1)
 
 -- those of the last one, by the places before it
-last_held : (p : Plan) (bytes : List ℕ) (ss : List Segment) (before places : List Place) (last : Place) → AreLoaded p bytes ss before (places ++ last ∷ []) → loaded bytes ss (memory_of last) ≡ contents p (before ++ places) last.role
-last_held p bytes ss before [] last h = h.0.holds ∙ ap (λ (b : List Place). contents p b last.role) (sym (append-nil before))
+last_held : (p : LayoutPlan) (bytes : List ℕ) (ss : List Segment) (before places : List PlacedSection) (last : PlacedSection) → AreLoaded p bytes ss before (places ++ last ∷ []) → loaded bytes ss (memory_of last) ≡ contents p (before ++ places) last.role
+last_held p bytes ss before [] last h = h.0.holds ∙ ap (λ (b : List PlacedSection). contents p b last.role) (sym (append-nil before))
 last_held p bytes ss before (place ∷ places) last h =
-    last_held p bytes ss (before ++ place ∷ []) places last h.1 ∙ ap (λ (b : List Place). contents p b last.role) (append_assoc before (place ∷ []) places)
+    last_held p bytes ss (before ++ place ∷ []) places last h.1 ∙ ap (λ (b : List PlacedSection). contents p b last.role) (append_assoc before (place ∷ []) places)
 
 -- each stands before the later ones
-abbrev pub Later : List Place → Type 0
+abbrev pub Later : List PlacedSection → Type 0
 Later [] = Unit {0}
 Later (x ∷ xs) = AllByRecursion (λ y. x.offset + x.size ≤ y.offset) xs × Later xs
 
-all_behind : (p : Plan) (bytes : List ℕ) (n from : ℕ) (before places : List Place) → n ≤ from → AreStanding p bytes from before places → AllByRecursion (λ y. n ≤ y.offset) places
+all_behind : (p : LayoutPlan) (bytes : List ℕ) (n from : ℕ) (before places : List PlacedSection) → n ≤ from → AreStanding p bytes from before places → AllByRecursion (λ y. n ≤ y.offset) places
 all_behind p bytes n from before [] le h = tt
 all_behind p bytes n from before (y ∷ places) le h = (omega (arith, le, h.0.after), all_behind p bytes n (y.offset + y.size) (before ++ y ∷ []) places (omega (arith, le, h.0.after)) h.1)
 
-all_later : (p : Plan) (bytes : List ℕ) (from : ℕ) (before places : List Place) → AreStanding p bytes from before places → Later places
+all_later : (p : LayoutPlan) (bytes : List ℕ) (from : ℕ) (before places : List PlacedSection) → AreStanding p bytes from before places → Later places
 all_later p bytes from before [] h = tt
 all_later p bytes from before (x ∷ places) h =
     (all_behind p bytes (x.offset + x.size) (x.offset + x.size) (before ++ x ∷ []) places (omega arith) h.1, all_later p bytes (x.offset + x.size) (before ++ x ∷ []) places h.1)
 
 -- ---- the same of rows that may be there
 
-pub rows_all : (P : Place → Type 0) (cs : List (Bool × Place)) → AllByRecursion P (chosen cs) → AllByRecursion (λ c. c.0 ≡ true → P c.1) cs
+pub rows_all : (P : PlacedSection → Type 0) (cs : List (Bool × PlacedSection)) → AllByRecursion P (chosen cs) → AllByRecursion (λ c. c.0 ≡ true → P c.1) cs
 unfolding chosen
 rows_all P [] all = tt
 rows_all P (c ∷ cs) all = elim (cases_Bool c.0) [
@@ -206,19 +206,19 @@ rows_all P (c ∷ cs) all = elim (cases_Bool c.0) [
   | inr missing ↦ (λ there. absurd (false≢true (sym missing ∙ there)), rows_all P cs (rw missing at all))
 ]
 
-abbrev pub LaterRows : List (Bool × Place) → Type 0
+abbrev pub LaterRows : List (Bool × PlacedSection) → Type 0
 LaterRows [] = Unit {0}
 LaterRows (c ∷ cs) = AllByRecursion (λ d. c.0 ≡ true → d.0 ≡ true → c.1.offset + c.1.size ≤ d.1.offset) cs × LaterRows cs
 
-all_given : (b : Bool) (n : ℕ) (cs : List (Bool × Place)) → AllByRecursion (λ d. d.0 ≡ true → n ≤ d.1.offset) cs → AllByRecursion (λ d. b ≡ true → d.0 ≡ true → n ≤ d.1.offset) cs
+all_given : (b : Bool) (n : ℕ) (cs : List (Bool × PlacedSection)) → AllByRecursion (λ d. d.0 ≡ true → n ≤ d.1.offset) cs → AllByRecursion (λ d. b ≡ true → d.0 ≡ true → n ≤ d.1.offset) cs
 all_given b n [] all = tt
 all_given b n (c ∷ cs) all = (λ _. all.0, all_given b n cs all.1)
 
-all_missing : (b : Bool) (n : ℕ) (cs : List (Bool × Place)) → b ≡ false → AllByRecursion (λ d. b ≡ true → d.0 ≡ true → n ≤ d.1.offset) cs
+all_missing : (b : Bool) (n : ℕ) (cs : List (Bool × PlacedSection)) → b ≡ false → AllByRecursion (λ d. b ≡ true → d.0 ≡ true → n ≤ d.1.offset) cs
 all_missing b n [] missing = tt
 all_missing b n (c ∷ cs) missing = (λ there _. absurd (false≢true (sym missing ∙ there)), all_missing b n cs missing)
 
-pub rows_later : (cs : List (Bool × Place)) → Later (chosen cs) → LaterRows cs
+pub rows_later : (cs : List (Bool × PlacedSection)) → Later (chosen cs) → LaterRows cs
 unfolding chosen
 rows_later [] h = tt
 rows_later (c ∷ cs) h = elim (cases_Bool c.0) [
@@ -240,7 +240,7 @@ pub record IsPlaced (r : Recipe) (bytes : List ℕ) (t : Tables) : Type 0 where
 
 pub placed : (r : Recipe) (bytes : List ℕ) → IsPlain r → made (plan_of r) ≡ Ok bytes → (t : Tables) × (tables (plan_of r) ≡ Ok t) × IsPlaced r bytes t
 placed r bytes plain e =
-    let p : Plan = plan_of r in
+    let p : LayoutPlan = plan_of r in
     let held = files_hold p bytes e in
     let t : Tables = held.0 in
     let ss : List Segment = planned_segments p t in

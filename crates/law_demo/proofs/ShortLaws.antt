@@ -9,8 +9,8 @@ use Rattle.pl_base.specs.Digits.{line_text}
 use Rattle.pl_gen.specs.Draws.{at}
 use Rattle.pl_gen.specs.Lines.{library_name, function_name, object_name, hexadecimal, needs_line, def_line, object_line, ref_line, copy_line, relative_line, function_line, has, unless_there, needs_lines, def_lines, kind_of, by_function, relocation, known_after, relocations}
 use Rattle.pl_gen.specs.Set.{functions, needed, library_recipe, program_recipe}
-use Rattle.pl_gen.specs.declared.kind.Kind.{Kind}
-use Rattle.pl_gen.specs.declared.kind.Kind.TheVariants.{Relative, Abs64, GlobDat, JumpSlot}
+use Rattle.pl_gen.specs.declared.relocation_kind.RelocationKind.{RelocationKind}
+use Rattle.pl_gen.specs.declared.relocation_kind.RelocationKind.TheVariants.{Relative, Abs64, GlobDat, JumpSlot}
 use Rattle.law_demo.specs.SetRecipes.{library_words, program_words}
 use Rattle.law_demo.proofs.NameLaws.{three_few}
 use Rattle.law_demo.proofs.SetLaws.{take_few, functions_few}
@@ -120,7 +120,7 @@ by_short : (known kind : List ℕ) (place n : ℕ) → IsPiece kind → length (
 by_short known kind place n piece =
     omega (arith, length-append (unless_there known n (ref_line n)) (function_line kind place n), unless_short known n (ref_line n) (ref_short n), function_short kind place n piece)
 
-relocation_short : (known : List ℕ) (place : ℕ) (kind : Kind) (word : ℕ) → length (relocation known place kind word) ≤ 1024
+relocation_short : (known : List ℕ) (place : ℕ) (kind : RelocationKind) (word : ℕ) → length (relocation known place kind word) ≤ 1024
 unfolding relocation
 relocation_short known place Relative word = let short = relative_short place (8 * (word % 64)) in omega (arith, short)
 relocation_short known place Abs64 word = by_short known (codes "abs64") place (word % 1000) (fixed (codes "abs64") 5 refl (omega arith))

@@ -52,7 +52,7 @@ use Rattle.pl_plan.specs.Faults.{of_cone, of_plan}
 use Rattle.pl_plan.specs.Wants.{want_of}
 use Rattle.pl_plan.specs.declared.asked.Asked.{Asked}
 use Rattle.pl_plan.specs.declared.fault.PlanningFault.{PlanningFault}
-use Rattle.pl_plan.specs.declared.planned.Planned.{Planned}
+use Rattle.pl_plan.specs.declared.run_plan.RunPlan.{RunPlan}
 use Rattle.pl_rewrite.specs.Rewriting.{rewrite, rewritten}
 use Rattle.pl_rewrite.specs.declared.rewriting.Rewritten.{Rewritten}
 use Rattle.pl_share.specs.Disjoint.{disjoint}
@@ -224,10 +224,10 @@ module _ (files : base.Files) (b : Bounds) (small : (n file : List ℕ) → get 
 
     -- ---- the plan
 
-    abbrev plan_made : List Slot → ℕ → Planned
+    abbrev plan_made : List Slot → ℕ → RunPlan
     plan_made rows stamp = record { standings = standings (named files) p.region ns; slots = rows; stale = stale (named files) p.region rows ns; stamp = stamp }
 
-    is_planned : (made : Planned) × (planned (named files) ns a ≡ Ok made)
+    is_planned : (made : RunPlan) × (planned (named files) ns a ≡ Ok made)
     unfolding planned
     is_planned =
         let s = slots_taken in
@@ -239,7 +239,7 @@ module _ (files : base.Files) (b : Bounds) (small : (n file : List ℕ) → get 
 
     is_rewritten : rewrite (named files) ns a ≡ Ok (rewritten (named files) ns a is_planned.0)
     unfolding rewrite
-    is_rewritten = ap (λ (r : Result Planned PlanningFault). r >>= λ made. Ok (rewritten (named files) ns a made)) is_planned.1
+    is_rewritten = ap (λ (r : Result RunPlan PlanningFault). r >>= λ made. Ok (rewritten (named files) ns a made)) is_planned.1
 
     -- ---- the run
 

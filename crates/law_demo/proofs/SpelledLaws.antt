@@ -10,7 +10,7 @@ use Rattle.pl_build.specs.Grammar.{line, line_of, pair, needs_line, longer}
 use Rattle.pl_build.specs.RelocationLines.{symbol_kind, other_kind, relocation_kind, is_no_symbol, fits, addend, relocation_line, rel_line}
 use Rattle.pl_build.specs.SymbolLines.{bind_of, symbol_type, visibility_of, after_visibility, has_file, named_file, after_file, has_place, place_offset, after_place, is_def, def_named, def_line, has_fitting_version, is_ref, ref_named, ref_line}
 use Rattle.pl_build.specs.Words.{is_digit, digit, is_number, digit_more, value, number, is_negative, magnitude, cut, name_of, has_version, is_doubled, version_of, is_written}
-use Rattle.law_demo.specs.Spelled.{IsPlainName, hexadecimal, defined, referred, relocated, NeedsAreRead, FunctionsAreRead, ObjectsAreRead, RefsAreRead, CopiesAreRead, RelativesAreRead, by_function, AbsolutesAreRead, GlobDatsAreRead, JumpSlotsAreRead}
+use Rattle.law_demo.specs.Spelled.{IsPlainName, hexadecimal, defined, referred, recipe_relocation, NeedsAreRead, FunctionsAreRead, ObjectsAreRead, RefsAreRead, CopiesAreRead, RelativesAreRead, by_function, AbsolutesAreRead, GlobDatsAreRead, JumpSlotsAreRead}
 use Rattle.law_demo.specs.Split.{split_by}
 use Rattle.law_demo.proofs.NumberLaws.{hex_all, numbers_read}
 use Rattle.law_demo.proofs.SplitLaws.{pieces_split, split_ended, split_last}
@@ -140,11 +140,11 @@ copy_words name one = ap (λ (ws : List (List ℕ)). codes "rel" ∷ codes "copy
 
 -- of a kind other than `relative`
 by_name : (kind : List ℕ) (number_of : ℕ) (hex name : List ℕ) (offset : ℕ) → relocation_kind kind ≡ Some number_of → (number_of == 8) ≡ false → number hex ≡ Some offset → IsPlainName name
-    → relocation_line (codes "rel" ∷ kind ∷ hex ∷ name ∷ codes "0" ∷ []) ≡ Relocates (relocated name number_of offset 0)
-unfolding relocation_line fits relocated
+    → relocation_line (codes "rel" ∷ kind ∷ hex ∷ name ∷ codes "0" ∷ []) ≡ Relocates (recipe_relocation name number_of offset 0)
+unfolding relocation_line fits recipe_relocation
 by_name kind number_of hex name offset is other at plain = rw (is, at, no_addend, plain_written name plain, other) (either (is_no_symbol name))
   where
-    either : (b : Bool) → cond (b || true) (Relocates (relocated name number_of offset 0)) Wrong ≡ Relocates (relocated name number_of offset 0)
+    either : (b : Bool) → cond (b || true) (Relocates (recipe_relocation name number_of offset 0)) Wrong ≡ Relocates (recipe_relocation name number_of offset 0)
     either true = refl
     either false = refl
 
@@ -152,7 +152,7 @@ copy_kind : relocation_kind (codes "copy") ≡ Some 5
 unfolding relocation_kind symbol_kind other_kind
 copy_kind = refl
 
-copy_of_words : (name : List ℕ) → IsPlainName name → line_of (codes "rel" ∷ codes "copy" ∷ codes "800" ∷ name ∷ codes "0" ∷ []) ≡ Relocates (relocated name 5 0x800 0)
+copy_of_words : (name : List ℕ) → IsPlainName name → line_of (codes "rel" ∷ codes "copy" ∷ codes "800" ∷ name ∷ codes "0" ∷ []) ≡ Relocates (recipe_relocation name 5 0x800 0)
 unfolding line_of longer rel_line
 copy_of_words name plain = by_name (codes "copy") 5 (codes "800") name 0x800 copy_kind refl half_page plain
 
@@ -173,7 +173,7 @@ absolute_kind : relocation_kind (codes "abs64") ≡ Some 1
 unfolding relocation_kind symbol_kind other_kind
 absolute_kind = refl
 
-absolute_of_words : (hex name : List ℕ) (offset : ℕ) → number hex ≡ Some offset → IsPlainName name → line_of (codes "rel" ∷ codes "abs64" ∷ hex ∷ name ∷ codes "0" ∷ []) ≡ Relocates (relocated name 1 offset 0)
+absolute_of_words : (hex name : List ℕ) (offset : ℕ) → number hex ≡ Some offset → IsPlainName name → line_of (codes "rel" ∷ codes "abs64" ∷ hex ∷ name ∷ codes "0" ∷ []) ≡ Relocates (recipe_relocation name 1 offset 0)
 unfolding line_of longer rel_line
 absolute_of_words hex name offset is plain = by_name (codes "abs64") 1 hex name offset absolute_kind refl is plain
 
@@ -186,7 +186,7 @@ globdat_kind : relocation_kind (codes "globdat") ≡ Some 6
 unfolding relocation_kind symbol_kind other_kind
 globdat_kind = refl
 
-globdat_of_words : (hex name : List ℕ) (offset : ℕ) → number hex ≡ Some offset → IsPlainName name → line_of (codes "rel" ∷ codes "globdat" ∷ hex ∷ name ∷ codes "0" ∷ []) ≡ Relocates (relocated name 6 offset 0)
+globdat_of_words : (hex name : List ℕ) (offset : ℕ) → number hex ≡ Some offset → IsPlainName name → line_of (codes "rel" ∷ codes "globdat" ∷ hex ∷ name ∷ codes "0" ∷ []) ≡ Relocates (recipe_relocation name 6 offset 0)
 unfolding line_of longer rel_line
 globdat_of_words hex name offset is plain = by_name (codes "globdat") 6 hex name offset globdat_kind refl is plain
 
@@ -199,7 +199,7 @@ jumpslot_kind : relocation_kind (codes "jumpslot") ≡ Some 7
 unfolding relocation_kind symbol_kind other_kind
 jumpslot_kind = refl
 
-jumpslot_of_words : (hex name : List ℕ) (offset : ℕ) → number hex ≡ Some offset → IsPlainName name → line_of (codes "rel" ∷ codes "jumpslot" ∷ hex ∷ name ∷ codes "0" ∷ []) ≡ Relocates (relocated name 7 offset 0)
+jumpslot_of_words : (hex name : List ℕ) (offset : ℕ) → number hex ≡ Some offset → IsPlainName name → line_of (codes "rel" ∷ codes "jumpslot" ∷ hex ∷ name ∷ codes "0" ∷ []) ≡ Relocates (recipe_relocation name 7 offset 0)
 unfolding line_of longer rel_line
 jumpslot_of_words hex name offset is plain = by_name (codes "jumpslot") 7 hex name offset jumpslot_kind refl is plain
 
@@ -223,8 +223,8 @@ unfolding fits is_written name_of has_version cut is_no_symbol is_valid_name is_
 no_symbol_fits = refl
 
 relative_of_words : (hex more : List ℕ) (offset amount : ℕ) → number hex ≡ Some offset → addend more ≡ Some (record { negative = false; magnitude = amount })
-    → line_of (codes "rel" ∷ codes "relative" ∷ hex ∷ codes "-" ∷ more ∷ []) ≡ Relocates (relocated (codes "-") 8 offset amount)
-unfolding line_of longer rel_line relocation_line relocated
+    → line_of (codes "rel" ∷ codes "relative" ∷ hex ∷ codes "-" ∷ more ∷ []) ≡ Relocates (recipe_relocation (codes "-") 8 offset amount)
+unfolding line_of longer rel_line relocation_line recipe_relocation
 relative_of_words hex more offset amount at by = rw (relative_kind, at, by, no_symbol_fits) refl
 
 pub relatives_read : RelativesAreRead

@@ -18,8 +18,8 @@ use Rattle.pl_hash.specs.Hash.{sysv}
 use Rattle.pl_hash.specs.Table.{has_header, buckets_at, chains_at, first_linked, link_at, bucket, link, admits, matches}
 use Rattle.pl_hash.specs.declared.table.Table.{Table}
 use Rattle.pl_build.specs.declared.fields.Field.TheVariants.{Word}
-use Rattle.pl_build.specs.declared.line.Symbol.{Symbol}
-use Rattle.pl_build.specs.declared.plan.Plan.{Plan}
+use Rattle.pl_build.specs.declared.line.SymbolLine.{SymbolLine}
+use Rattle.pl_build.specs.declared.layout_plan.LayoutPlan.{LayoutPlan}
 use Rattle.pl_build.specs.Fields.{field_bytes, fields}
 use Rattle.pl_build.specs.HashTables.{sysv_buckets, first_from, next_after, sysv_words, sysv_table}
 use Rattle.pl_build.specs.Symbols.{bucket_of}
@@ -409,34 +409,34 @@ table_leads count buckets hash i few lt same =
 
 -- ---- of a plan
 
-buckets_count : (p : Plan) → length (sysv_buckets p) ≡ length p.symbols
+buckets_count : (p : LayoutPlan) → length (sysv_buckets p) ≡ length p.symbols
 unfolding sysv_buckets
-buckets_count p = length-map p.symbols (λ (s : Symbol). bucket_of p.settings.buckets (sysv s.name))
+buckets_count p = length-map p.symbols (λ (s : SymbolLine). bucket_of p.settings.buckets (sysv s.name))
 
-few_of : (p : Plan) → FitsBuckets p → AreFew p.settings.buckets (sysv_buckets p)
+few_of : (p : LayoutPlan) → FitsBuckets p → AreFew p.settings.buckets (sysv_buckets p)
 unfolding sysv_buckets
-few_of p fits = record { some = fits.some; below = fits.count; symbols = omega (arith, fits.symbols, length-map p.symbols (λ (s : Symbol). bucket_of p.settings.buckets (sysv s.name))) }
+few_of p fits = record { some = fits.some; below = fits.count; symbols = omega (arith, fits.symbols, length-map p.symbols (λ (s : SymbolLine). bucket_of p.settings.buckets (sysv s.name))) }
 
 with_words : List ℕ → ℕ → Table
 with_words words n = record { words = words; gnu = false; symbols = n }
 
-same_table : (p : Plan) → sysv_of p ≡ table_of p.settings.buckets (sysv_buckets p)
+same_table : (p : LayoutPlan) → sysv_of p ≡ table_of p.settings.buckets (sysv_buckets p)
 unfolding sysv_table with_words
 same_table p =
     ap (λ (words : List ℕ). with_words words (length p.symbols + 1)) (words_are p.settings.buckets (sysv_buckets p))
     ∙ ap (λ (n : ℕ). with_words (table_of p.settings.buckets (sysv_buckets p)).words (n + 1)) (sym (buckets_count p))
 
-own_bucket : (p : Plan) (i : ℕ) (d : Symbol) → 0 < p.settings.buckets → i < length p.symbols → (get_or (sysv_buckets p) i 0 == sysv (get_or p.symbols i d).name % p.settings.buckets) ≡ true
+own_bucket : (p : LayoutPlan) (i : ℕ) (d : SymbolLine) → 0 < p.settings.buckets → i < length p.symbols → (get_or (sysv_buckets p) i 0 == sysv (get_or p.symbols i d).name % p.settings.buckets) ≡ true
 unfolding sysv_buckets bucket_of
 own_bucket p i d some lt = own p.symbols i lt
   where
-    bucket_by : Symbol → ℕ
+    bucket_by : SymbolLine → ℕ
     bucket_by s = bucket_of p.settings.buckets (sysv s.name)
 
     not_none : (n : ℕ) → 0 < n → (n == 0) ≡ false
     not_none n h = grind (arith, nat_tests)
 
-    own : (symbols : List Symbol) (i : ℕ) → i < length symbols → (get_or (map (λ s. bucket_of p.settings.buckets (sysv s.name)) symbols) i 0 == sysv (get_or symbols i d).name % p.settings.buckets) ≡ true
+    own : (symbols : List SymbolLine) (i : ℕ) → i < length symbols → (get_or (map (λ s. bucket_of p.settings.buckets (sysv s.name)) symbols) i 0 == sysv (get_or symbols i d).name % p.settings.buckets) ≡ true
     own [] i lt = absurd (omega (arith, lt))
     own (s ∷ symbols) zero lt = rw (not_none p.settings.buckets some) (equal (sysv s.name % p.settings.buckets) (sysv s.name % p.settings.buckets) refl)
     own (s ∷ symbols) (suc i) lt = own symbols i (omega (arith, lt))

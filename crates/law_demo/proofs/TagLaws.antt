@@ -13,11 +13,11 @@ use Rattle.pl_dyn.specs.Read.{has_number, stands_twice, first_unknown, first_twi
 use Rattle.pl_dyn.specs.declared.dynamic.Dynamic.{Dynamic}
 use Rattle.pl_dyn.specs.declared.fault.DynFault.{DynFault}
 use Rattle.pl_dyn.specs.declared.tags.Tag.{Tag}
-use Rattle.pl_build.specs.declared.plan.Plan.{Plan}
-use Rattle.pl_build.specs.declared.roles.Place.{Place}
+use Rattle.pl_build.specs.declared.layout_plan.LayoutPlan.{LayoutPlan}
+use Rattle.pl_build.specs.declared.roles.PlacedSection.{PlacedSection}
 use Rattle.pl_build.specs.Choices.{chosen}
 use Rattle.pl_build.specs.Dynamic.{tag, tag_bytes, end_tag, needed_tags, table_tags, relocation_tags, packed_tags, version_tags, usual_tags, spare_tags, dynamic_table}
-use Rattle.pl_build.specs.Strings.{text_at}
+use Rattle.pl_build.specs.StringTable.{text_at}
 use Rattle.law_demo.specs.Rows.{FitsTag}
 use Rattle.law_demo.specs.Tags.{planned_tags, DynamicIsRead}
 use Rattle.law_demo.proofs.HeadLaws.{all_append}
@@ -105,27 +105,27 @@ chosen_count n (c ∷ cs) =
           ]
     ]
 
-table_count : (n : ℕ) (p : Plan) (places : List Place) → count_by (has_number n) (table_tags p places) ≤ count_by (is_number n) (4 ∷ 0x6ffffef5 ∷ 5 ∷ 6 ∷ 10 ∷ 11 ∷ 16 ∷ [])
+table_count : (n : ℕ) (p : LayoutPlan) (places : List PlacedSection) → count_by (has_number n) (table_tags p places) ≤ count_by (is_number n) (4 ∷ 0x6ffffef5 ∷ 5 ∷ 6 ∷ 10 ∷ 11 ∷ 16 ∷ [])
 unfolding table_tags
 table_count n p places = chosen_count n _
 
-relocation_count : (n : ℕ) (places : List Place) → count_by (has_number n) (relocation_tags places) ≤ count_by (is_number n) (2 ∷ 20 ∷ 23 ∷ 7 ∷ 8 ∷ 9 ∷ [])
+relocation_count : (n : ℕ) (places : List PlacedSection) → count_by (has_number n) (relocation_tags places) ≤ count_by (is_number n) (2 ∷ 20 ∷ 23 ∷ 7 ∷ 8 ∷ 9 ∷ [])
 unfolding relocation_tags
 relocation_count n places = chosen_count n _
 
-packed_count : (n : ℕ) (places : List Place) → count_by (has_number n) (packed_tags places) ≤ count_by (is_number n) (36 ∷ 35 ∷ 37 ∷ [])
+packed_count : (n : ℕ) (places : List PlacedSection) → count_by (has_number n) (packed_tags places) ≤ count_by (is_number n) (36 ∷ 35 ∷ 37 ∷ [])
 unfolding packed_tags
 packed_count n places = chosen_count n _
 
-version_count : (n : ℕ) (p : Plan) (places : List Place) → count_by (has_number n) (version_tags p places) ≤ count_by (is_number n) (0x6ffffff0 ∷ 0x6ffffffc ∷ 0x6ffffffd ∷ 0x6ffffffe ∷ 0x6fffffff ∷ [])
+version_count : (n : ℕ) (p : LayoutPlan) (places : List PlacedSection) → count_by (has_number n) (version_tags p places) ≤ count_by (is_number n) (0x6ffffff0 ∷ 0x6ffffffc ∷ 0x6ffffffd ∷ 0x6ffffffe ∷ 0x6fffffff ∷ [])
 unfolding version_tags
 version_count n p places = chosen_count n _
 
-usual_count : (n : ℕ) (p : Plan) → count_by (has_number n) (usual_tags p) ≤ count_by (is_number n) (21 ∷ 24 ∷ 30 ∷ 0x6ffffffb ∷ [])
+usual_count : (n : ℕ) (p : LayoutPlan) → count_by (has_number n) (usual_tags p) ≤ count_by (is_number n) (21 ∷ 24 ∷ 30 ∷ 0x6ffffffb ∷ [])
 unfolding usual_tags
 usual_count n p = chosen_count n _
 
-needed_count : (n : ℕ) (p : Plan) (names : List (List ℕ)) → (1 == n) ≡ false → count_by (has_number n) (map (λ name. tag 1 (text_at p.strings name)) names) ≡ 0
+needed_count : (n : ℕ) (p : LayoutPlan) (names : List (List ℕ)) → (1 == n) ≡ false → count_by (has_number n) (map (λ name. tag 1 (text_at p.strings name)) names) ≡ 0
 needed_count n p [] other = refl
 needed_count n p (name ∷ names) other = count_no (has_number n) (tag 1 (text_at p.strings name)) (map (λ name. tag 1 (text_at p.strings name)) names) other ∙ needed_count n p names other
 
@@ -148,7 +148,7 @@ once n =
     sums : (a b c d e ab abc abcd all : ℕ) → ab ≡ a + b → abc ≡ ab + c → abcd ≡ abc + d → all ≡ abcd + e → all ≤ 1 → a + b + c + d + e ≤ 1
     sums a b c d e ab abc abcd all one two three four le = omega (arith, one, two, three, four, le)
 
-planned_once : (n : ℕ) (p : Plan) (places : List Place) → (1 == n) ≡ false → count_by (has_number n) (planned_tags p places) ≤ 1
+planned_once : (n : ℕ) (p : LayoutPlan) (places : List PlacedSection) → (1 == n) ≡ false → count_by (has_number n) (planned_tags p places) ≤ 1
 unfolding planned_tags needed_tags
 planned_once n p places other =
     let q : Tag → Bool = has_number n in
@@ -179,32 +179,32 @@ planned_once n p places other =
 abbrev pub IsKnown : Tag → Type 0
 IsKnown t = (is_null t ≡ false) × (is_unknown t.number ≡ false)
 
-needed_known : (p : Plan) (names : List (List ℕ)) → AllByRecursion IsKnown (map (λ name. tag 1 (text_at p.strings name)) names)
+needed_known : (p : LayoutPlan) (names : List (List ℕ)) → AllByRecursion IsKnown (map (λ name. tag 1 (text_at p.strings name)) names)
 unfolding is_unknown is_listed is_address_tag is_value_tag is_prelink_tag
 needed_known p [] = tt
 needed_known p (name ∷ names) = ((refl, refl), needed_known p names)
 
-table_known : (p : Plan) (places : List Place) → AllByRecursion IsKnown (table_tags p places)
+table_known : (p : LayoutPlan) (places : List PlacedSection) → AllByRecursion IsKnown (table_tags p places)
 unfolding table_tags is_unknown is_listed is_address_tag is_value_tag is_prelink_tag
 table_known p places = all_chosen IsKnown _ (λ _. (refl, refl), (λ _. (refl, refl), (λ _. (refl, refl), (λ _. (refl, refl), (λ _. (refl, refl), (λ _. (refl, refl), (λ _. (refl, refl), tt)))))))
 
-relocation_known : (places : List Place) → AllByRecursion IsKnown (relocation_tags places)
+relocation_known : (places : List PlacedSection) → AllByRecursion IsKnown (relocation_tags places)
 unfolding relocation_tags is_unknown is_listed is_address_tag is_value_tag is_prelink_tag
 relocation_known places = all_chosen IsKnown _ (λ _. (refl, refl), (λ _. (refl, refl), (λ _. (refl, refl), (λ _. (refl, refl), (λ _. (refl, refl), (λ _. (refl, refl), tt))))))
 
-packed_known : (places : List Place) → AllByRecursion IsKnown (packed_tags places)
+packed_known : (places : List PlacedSection) → AllByRecursion IsKnown (packed_tags places)
 unfolding packed_tags is_unknown is_listed is_address_tag is_value_tag is_prelink_tag
 packed_known places = all_chosen IsKnown _ (λ _. (refl, refl), (λ _. (refl, refl), (λ _. (refl, refl), tt)))
 
-version_known : (p : Plan) (places : List Place) → AllByRecursion IsKnown (version_tags p places)
+version_known : (p : LayoutPlan) (places : List PlacedSection) → AllByRecursion IsKnown (version_tags p places)
 unfolding version_tags is_unknown is_listed is_address_tag is_value_tag is_prelink_tag
 version_known p places = all_chosen IsKnown _ (λ _. (refl, refl), (λ _. (refl, refl), (λ _. (refl, refl), (λ _. (refl, refl), (λ _. (refl, refl), tt)))))
 
-usual_known : (p : Plan) → AllByRecursion IsKnown (usual_tags p)
+usual_known : (p : LayoutPlan) → AllByRecursion IsKnown (usual_tags p)
 unfolding usual_tags is_unknown is_listed is_address_tag is_value_tag is_prelink_tag
 usual_known p = all_chosen IsKnown _ (λ _. (refl, refl), (λ _. (refl, refl), (λ _. (refl, refl), (λ _. (refl, refl), tt))))
 
-planned_known : (p : Plan) (places : List Place) → AllByRecursion IsKnown (planned_tags p places)
+planned_known : (p : LayoutPlan) (places : List PlacedSection) → AllByRecursion IsKnown (planned_tags p places)
 unfolding planned_tags needed_tags
 planned_known p places =
     let needed : List Tag = needed_tags p in
@@ -248,7 +248,7 @@ no_twice ts once = none_found (λ t. not (t.number == 1) && nat_lt 1 (count_by (
 joined : (xs ys : List Tag) → flat_map tag_bytes xs ++ flat_map tag_bytes ys ≡ flat_map tag_bytes (xs ++ ys)
 joined xs ys = sym (flat_map-append tag_bytes xs ys)
 
-pub table_is : (p : Plan) (places : List Place) → dynamic_table p places ≡ flat_map tag_bytes (planned_tags p places ++ end_tag ∷ spare_tags p)
+pub table_is : (p : LayoutPlan) (places : List PlacedSection) → dynamic_table p places ≡ flat_map tag_bytes (planned_tags p places ++ end_tag ∷ spare_tags p)
 unfolding dynamic_table planned_tags
 table_is p places =
     let bytes : List Tag → List ℕ = λ ts. flat_map tag_bytes ts in

@@ -9,9 +9,9 @@ use Rattle.std.proofs.lemmas.Slice.Eq.{bytes_eq-Decides}
 use Rattle.std.proofs.lemmas.List.{drop-append-le}
 use Rattle.std.proofs.Math.Seq.{take-append_seam, drop-append_seam}
 use Rattle.pl_base.specs.Strings.{is_zero, ended, has_end, string_at}
-use Rattle.pl_build.specs.declared.strings.Entry.{Entry}
-use Rattle.pl_build.specs.declared.strings.Strings.{Strings}
-use Rattle.pl_build.specs.Strings.{start, has_text, text_added, at_of, text_at, texts_added}
+use Rattle.pl_build.specs.declared.string_table.Entry.{Entry}
+use Rattle.pl_build.specs.declared.string_table.StringTable.{StringTable}
+use Rattle.pl_build.specs.StringTable.{start, has_text, text_added, at_of, text_at, texts_added}
 use Rattle.law_demo.specs.Texts.{is_among, TextsAreFound}
 use Rattle.law_demo.proofs.BackLaws.{Begins, begins_itself, begins_more}
 
@@ -21,7 +21,7 @@ pub record IsEntry (bytes : List ℕ) (e : Entry) : Type 0 where
   pub rest : List ℕ
   pub is : drop e.at bytes ≡ e.text ++ 0 ∷ rest
 
-pub record AreTexts (s : Strings) : Type 0 where
+pub record AreTexts (s : StringTable) : Type 0 where
   pub begins : Begins (0 ∷ []) s.bytes
   pub entries : AllByRecursion (IsEntry s.bytes) s.entries
 
@@ -42,10 +42,10 @@ start_texts = record { begins = begins_itself (0 ∷ []); entries = tt }
 new_entry : (xs text : List ℕ) → IsEntry (xs ++ (text ++ 0 ∷ [])) (record { text = text; at = length xs })
 new_entry xs text = record { within = omega (arith, length-append xs (text ++ 0 ∷ [])); rest = []; is = drop-append_seam xs (text ++ 0 ∷ []) }
 
-unfoldable pub is_old : Strings → List ℕ → Bool
+unfoldable pub is_old : StringTable → List ℕ → Bool
 is_old s text = bytes_eq text [] || list_any (has_text text) s.entries
 
-more_texts : (s : Strings) (text : List ℕ) → AreTexts s → AreTexts (record { bytes = s.bytes ++ text ++ 0 ∷ []; entries = s.entries ++ record { text = text; at = length s.bytes } ∷ [] })
+more_texts : (s : StringTable) (text : List ℕ) → AreTexts s → AreTexts (record { bytes = s.bytes ++ text ++ 0 ∷ []; entries = s.entries ++ record { text = text; at = length s.bytes } ∷ [] })
 more_texts s text h =
     let e : Entry = record { text = text; at = length s.bytes } in
     subst (λ (b : List ℕ). AreTexts (record { bytes = b; entries = s.entries ++ e ∷ [] })) (sym (append_assoc s.bytes text (0 ∷ []))) (record {
@@ -53,14 +53,14 @@ more_texts s text h =
       entries = entries_more s.bytes (text ++ 0 ∷ []) s.entries e h.entries (new_entry s.bytes text);
     })
 
-pub added_texts : (s : Strings) (text : List ℕ) → AreTexts s → AreTexts (text_added s text)
+pub added_texts : (s : StringTable) (text : List ℕ) → AreTexts s → AreTexts (text_added s text)
 unfolding text_added is_old
 added_texts s text h = elim (cases_Bool (is_old s text)) [
   | inl old ↦ rw old h
   | inr new ↦ rw new (more_texts s text h)
 ]
 
-pub all_texts : (s : Strings) (texts : List (List ℕ)) → AreTexts s → AreTexts (texts_added s texts)
+pub all_texts : (s : StringTable) (texts : List (List ℕ)) → AreTexts s → AreTexts (texts_added s texts)
 unfolding texts_added
 all_texts s [] h = h
 all_texts s (text ∷ texts) h = all_texts (text_added s text) texts (added_texts s text h)
@@ -81,7 +81,7 @@ any_last p (y ∷ xs) x h = elim (cases_Bool (p y)) [
   | inr miss ↦ rw miss (any_last p xs x h)
 ]
 
-pub kept_text : (s : Strings) (other text : List ℕ) → is_old s text ≡ true → is_old (text_added s other) text ≡ true
+pub kept_text : (s : StringTable) (other text : List ℕ) → is_old s text ≡ true → is_old (text_added s other) text ≡ true
 unfolding text_added is_old
 kept_text s other text h = elim (cases_Bool (is_old s other)) [
   | inl old ↦ rw old h
@@ -91,7 +91,7 @@ kept_text s other text h = elim (cases_Bool (is_old s other)) [
   ]
 ]
 
-pub new_text : (s : Strings) (text : List ℕ) → is_old (text_added s text) text ≡ true
+pub new_text : (s : StringTable) (text : List ℕ) → is_old (text_added s text) text ≡ true
 unfolding text_added is_old
 new_text s text = elim (cases_Bool (is_old s text)) [
   | inl old ↦ rw old old
@@ -104,7 +104,7 @@ new_text s text = elim (cases_Bool (is_old s text)) [
       | inr some ↦ rw some h
     ]
 
-kept_texts : (s : Strings) (texts : List (List ℕ)) (text : List ℕ) → is_old s text ≡ true → is_old (texts_added s texts) text ≡ true
+kept_texts : (s : StringTable) (texts : List (List ℕ)) (text : List ℕ) → is_old s text ≡ true → is_old (texts_added s texts) text ≡ true
 unfolding texts_added
 kept_texts s [] text h = h
 kept_texts s (other ∷ texts) text h = kept_texts (text_added s other) texts text (kept_text s other text h)
@@ -112,11 +112,11 @@ kept_texts s (other ∷ texts) text h = kept_texts (text_added s other) texts te
 same_text : (xs ys : List ℕ) → bytes_eq xs ys ≡ true → xs ≡ ys
 same_text xs ys h = (bytes_eq-Decides xs ys).0 h
 
-old_empty : (s : Strings) (text : List ℕ) → bytes_eq text [] ≡ true → is_old s text ≡ true
+old_empty : (s : StringTable) (text : List ℕ) → bytes_eq text [] ≡ true → is_old s text ≡ true
 unfolding is_old
 old_empty s text h = rw h refl
 
-among_old : (s : Strings) (texts : List (List ℕ)) (text : List ℕ) → is_among text texts ≡ true → is_old (texts_added s texts) text ≡ true
+among_old : (s : StringTable) (texts : List (List ℕ)) (text : List ℕ) → is_among text texts ≡ true → is_old (texts_added s texts) text ≡ true
 unfolding texts_added
 among_old s [] text h = elim (cases_Bool (bytes_eq text [])) [
   | inl empty ↦ old_empty s text empty
@@ -164,7 +164,7 @@ find_none text (e ∷ es) none = elim (cases_Bool (has_text text e)) [
 pub begins_zero : (bytes : List ℕ) → Begins (0 ∷ []) bytes → ended bytes ≡ Some []
 begins_zero bytes b = ap ended b.is ∙ text_ended [] b.rest refl
 
-pub text_found : (s : Strings) (text : List ℕ) → AreTexts s → list_any is_zero text ≡ false → is_old s text ≡ true → string_at (text_at s text) s.bytes ≡ Some text
+pub text_found : (s : StringTable) (text : List ℕ) → AreTexts s → list_any is_zero text ≡ false → is_old s text ≡ true → string_at (text_at s text) s.bytes ≡ Some text
 unfolding text_at string_at is_old
 text_found s text h none old = elim (cases_Bool (list_any (has_text text) s.entries)) [
   | inl there ↦
@@ -183,7 +183,7 @@ text_found s text h none old = elim (cases_Bool (list_any (has_text text) s.entr
     ]
 
 -- where any text begins a string has an end
-pub text_ends : (s : Strings) (text : List ℕ) → AreTexts s → has_end (text_at s text) s.bytes ≡ true
+pub text_ends : (s : StringTable) (text : List ℕ) → AreTexts s → has_end (text_at s text) s.bytes ≡ true
 unfolding text_at has_end
 text_ends s text h = elim (cases_Bool (list_any (has_text text) s.entries)) [
   | inl there ↦
@@ -209,7 +209,7 @@ place_within text bytes (e ∷ es) all = elim (cases_Bool (has_text text e)) [
 ]
 
 -- it begins inside the table
-pub text_within : (s : Strings) (text : List ℕ) → AreTexts s → text_at s text ≤ length s.bytes
+pub text_within : (s : StringTable) (text : List ℕ) → AreTexts s → text_at s text ≤ length s.bytes
 unfolding text_at
 text_within s text h = place_within text s.bytes s.entries h.entries
 

@@ -4,12 +4,12 @@ use Rattle.pl_base.proofs.AnswerLaws.{ok_same}
 use Rattle.pl_elf.specs.Clauses.{names}
 use Rattle.pl_object.specs.Reads.{dynamic}
 use Rattle.pl_build.specs.declared.layout.Tables.{Tables}
-use Rattle.pl_build.specs.declared.plan.Plan.{Plan}
+use Rattle.pl_build.specs.declared.layout_plan.LayoutPlan.{LayoutPlan}
 use Rattle.pl_build.specs.declared.recipe.Recipe.{Recipe}
-use Rattle.pl_build.specs.declared.roles.Place.{Place}
+use Rattle.pl_build.specs.declared.roles.PlacedSection.{PlacedSection}
 use Rattle.pl_build.specs.File.{made}
 use Rattle.pl_build.specs.Layout.{tables}
-use Rattle.pl_build.specs.Plan.{plan_of}
+use Rattle.pl_build.specs.LayoutPlan.{plan_of}
 use Rattle.law_demo.specs.Accepted.{planned_dynamic}
 use Rattle.law_demo.specs.Modest.{IsModest}
 use Rattle.law_demo.specs.Plain.{IsPlain}
@@ -25,12 +25,12 @@ use Rattle.law_demo.proofs.ShapeLaws.{IsPlaced, placed}
 pub record IsWholeFile (r : Recipe) (bytes : List ℕ) (t : Tables) : Type 0 where
   pub headed : IsHeaded (plan_of r) t bytes
   pub names : names bytes (planned_header (plan_of r) t) ≡ (names_of (plan_of r)).bytes
-  pub before : List Place
+  pub before : List PlacedSection
   pub dynamic : dynamic bytes (planned_segments (plan_of r) t) ≡ Ok (planned_dynamic (plan_of r) before)
 
 pub whole_file : (r : Recipe) (bytes : List ℕ) → IsPlain r → IsModest r → made (plan_of r) ≡ Ok bytes → (t : Tables) × (tables (plan_of r) ≡ Ok t) × IsWholeFile r bytes t
 whole_file r bytes plain modest made_so =
-    let p : Plan = plan_of r in
+    let p : LayoutPlan = plan_of r in
     let file = made_is p bytes made_so in
     let t : Tables = file.0 in
     let headed_at = heads_are_read r bytes plain made_so in

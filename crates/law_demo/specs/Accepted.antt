@@ -9,13 +9,13 @@ use Rattle.pl_object.specs.declared.layout.Layout.{Layout}
 use Rattle.pl_object.specs.declared.linking.Linking.{Linking}
 use Rattle.pl_object.specs.declared.object.Object.{Object}
 use Rattle.pl_build.specs.declared.layout.Tables.{Tables}
-use Rattle.pl_build.specs.declared.plan.Plan.{Plan}
+use Rattle.pl_build.specs.declared.layout_plan.LayoutPlan.{LayoutPlan}
 use Rattle.pl_build.specs.declared.recipe.Recipe.{Recipe}
-use Rattle.pl_build.specs.declared.roles.Place.{Place}
+use Rattle.pl_build.specs.declared.roles.PlacedSection.{PlacedSection}
 use Rattle.pl_build.specs.declared.roles.Role.TheVariants.{Dynamic as DynamicTable}
 use Rattle.pl_build.specs.File.{made}
 use Rattle.pl_build.specs.Layout.{tables}
-use Rattle.pl_build.specs.Plan.{plan_of}
+use Rattle.pl_build.specs.LayoutPlan.{plan_of}
 use Rattle.law_demo.specs.Gnu.{gnu_of}
 use Rattle.law_demo.specs.Hashes.{sysv_of}
 use Rattle.law_demo.specs.Modest.{IsModest}
@@ -25,10 +25,10 @@ use Rattle.law_demo.specs.Relocs.{planned_symbols, planned_relocs}
 use Rattle.law_demo.specs.Shape.{Extents, place_in, before_dynamic}
 use Rattle.law_demo.specs.Tags.{planned_tags}
 
-unfoldable pub planned_heads : Plan → Tables → Headers
+unfoldable pub planned_heads : LayoutPlan → Tables → Headers
 planned_heads p t = record { header = planned_header p t; segments = planned_segments p t; sections = planned_sections p t }
 
-unfoldable pub planned_dynamic : Plan → List Place → Dynamic
+unfoldable pub planned_dynamic : LayoutPlan → List PlacedSection → Dynamic
 planned_dynamic p before = record { tags = planned_tags p before; spare = p.settings.spare }
 
 -- the needed names are the recipe's
@@ -38,7 +38,7 @@ planned_linking r = record { needed = r.needs; symbols = planned_symbols (plan_o
 unfoldable pub planned_hashes : Recipe → List Table
 planned_hashes r = (if r.settings.hashes.sysv then sysv_of (plan_of r) ∷ [] else []) ++ (if r.settings.hashes.gnu then gnu_of (plan_of r) ∷ [] else [])
 
-unfoldable pub planned_layout : Recipe → Tables → List Place → Layout
+unfoldable pub planned_layout : Recipe → Tables → List PlacedSection → Layout
 planned_layout r t before = record {
   hashes = planned_hashes r;
   relocations = planned_relocs (plan_of r);
@@ -46,7 +46,7 @@ planned_layout r t before = record {
   windows = link_windows (planned_header (plan_of r) t) (planned_segments (plan_of r) t) (planned_sections (plan_of r) t) (planned_tags (plan_of r) before);
 }
 
-unfoldable pub planned_object : Recipe → Tables → List Place → Object
+unfoldable pub planned_object : Recipe → Tables → List PlacedSection → Object
 planned_object r t before = object (planned_heads (plan_of r) t) (planned_dynamic (plan_of r) before) (planned_linking r) (planned_layout r t before)
 
 pub record IsAccepted (r : Recipe) (bytes : List ℕ) (t : Tables) : Type 0 where

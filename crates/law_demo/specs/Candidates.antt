@@ -13,7 +13,7 @@ use Rattle.pl_build.specs.declared.kind.FileKind.{FileKind}
 use Rattle.pl_build.specs.declared.kind.FileKind.TheVariants.{Library, Pie, Program, Static}
 use Rattle.pl_build.specs.declared.recipe.Recipe.{Recipe}
 use Rattle.pl_build.specs.File.{made}
-use Rattle.pl_build.specs.Plan.{plan_of}
+use Rattle.pl_build.specs.LayoutPlan.{plan_of}
 use Rattle.pl_known.specs.Fits.{fit_in}
 use Rattle.pl_known.specs.Skips.{skip_causes}
 use Rattle.pl_conflict.specs.Format.{format}

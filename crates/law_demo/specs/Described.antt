@@ -8,9 +8,9 @@ use Rattle.pl_sym.specs.Definers.{is_definition}
 use Rattle.pl_sym.specs.declared.symbol.Symbol as read
 use Rattle.pl_build.specs.declared.layout.Tables.{Tables}
 use Rattle.pl_build.specs.declared.recipe.Recipe.{Recipe}
-use Rattle.pl_build.specs.declared.roles.Place.{Place}
+use Rattle.pl_build.specs.declared.roles.PlacedSection.{PlacedSection}
 use Rattle.pl_build.specs.Layout.{tables}
-use Rattle.pl_build.specs.Plan.{plan_of}
+use Rattle.pl_build.specs.LayoutPlan.{plan_of}
 use Rattle.law_demo.specs.Accepted.{planned_object}
 use Rattle.law_demo.specs.Made.{IsBounded}
 use Rattle.law_demo.specs.Modest.{IsModest}
@@ -51,4 +51,4 @@ pub record IsSettledObject (r : Recipe) (o : Object) : Type 0 where
   pub definers : (name : List ℕ) → list_any (defines_name name) r.symbols ≡ true → HasDefinition o name
 
 abbrev pub DescribedObjectsAreSettled : Type 0
-DescribedObjectsAreSettled = (r : Recipe) (t : Tables) (before : List Place) → IsDescribing r → tables (plan_of r) ≡ Ok t → IsSettledObject r (planned_object r t before)
+DescribedObjectsAreSettled = (r : Recipe) (t : Tables) (before : List PlacedSection) → IsDescribing r → tables (plan_of r) ≡ Ok t → IsSettledObject r (planned_object r t before)

@@ -9,7 +9,7 @@ use Rattle.pl_batch.specs.declared.prelinking.Prelinking.{Prelinking}
 use Rattle.pl_batch.specs.declared.run.Run.TheVariants.{All}
 use Rattle.pl_cli.specs.Demo.{is_fast}
 use Rattle.pl_cli.specs.Files.{valid_file}
-use Rattle.pl_cli.specs.Load.{loaded}
+use Rattle.pl_cli.specs.Load.{load_result}
 use Rattle.pl_conflict.specs.Complete.{file_at}
 use Rattle.pl_conflict.specs.Format.{Causes, Rule, RuleAt, format}
 use Rattle.pl_elf.specs.Headers.{loads}
@@ -28,14 +28,14 @@ use Rattle.law_demo.specs.Clear.{IsProgram, has_free_slots, keeps_off}
 abbrev pub MatchedLoadsAreFast : Type 0 → Type 0
 MatchedLoadsAreFast E = (causes : Causes E) (files : Files) (policy : Policy) (busy : Option Range) (name : List ℕ)
     → RuleAt causes (valid_file files) name → matches (format causes) (valid_file files) name ≡ true → IsProgram causes (valid_file files) name
-    → has_free_slots causes (valid_file files) busy name ≡ true → is_fast (loaded policy busy files name) ≡ true
+    → has_free_slots causes (valid_file files) busy name ≡ true → is_fast (load_result policy busy files name) ≡ true
 
 -- so each program that a run which prelinks everything leaves prelinked, of a folder that kept the rule
 abbrev pub PrelinkedLoadsAreFast : Type 0
 PrelinkedLoadsAreFast = (files after : Files) (p : Prelinking) (rows : List Change) (policy : Policy) (busy : Option Range) (name : List ℕ)
     → Rule skip_causes (named files) → changes_of files (All p) ≡ Ok rows → ((n : List ℕ) → get after n ≡ applied rows (get files) n)
     → is_marked (format skip_causes) (valid_file after) name ≡ true → IsProgram skip_causes (valid_file after) name
-    → has_free_slots skip_causes (valid_file after) busy name ≡ true → is_fast (loaded policy busy after name) ≡ true
+    → has_free_slots skip_causes (valid_file after) busy name ≡ true → is_fast (load_result policy busy after name) ≡ true
 
 -- the slots are free where the program's file, as it stands after the run, keeps off the region of the slots
 abbrev pub FilesOffTheRegionAreClear : Type 0

@@ -3,9 +3,9 @@ use Rattle.std.specs.Prelude.{◌≡◌, ℕ, List, [], length, map, filter, Ok}
 use Rattle.pl_elf.specs.Clauses as elf
 use Rattle.pl_build.specs.declared.constants.TheConstants.{TABLES_OFFSET}
 use Rattle.pl_build.specs.declared.layout.Tables.{Tables}
-use Rattle.pl_build.specs.declared.plan.Plan.{Plan}
+use Rattle.pl_build.specs.declared.layout_plan.LayoutPlan.{LayoutPlan}
 use Rattle.pl_build.specs.Layout.{tables}
-use Rattle.pl_build.specs.Plan.{plan_of}
+use Rattle.pl_build.specs.LayoutPlan.{plan_of}
 use Rattle.pl_build.specs.declared.recipe.Recipe.{Recipe}
 use Rattle.law_demo.specs.Plain.{IsPlain}
 use Rattle.law_demo.specs.Planned.{is_table, planned_header, IsHeaded}
@@ -14,11 +14,11 @@ use Rattle.law_demo.specs.Standing.{AreStanding, AreLaid}
 
 -- the tables of every plan stand one after the other, behind whatever bytes precede them
 abbrev pub TablesStand : Type 0
-TablesStand = (p : Plan) (t : Tables) (front : List ℕ) → length front ≡ TABLES_OFFSET → tables p ≡ Ok t → AreLaid p front t
+TablesStand = (p : LayoutPlan) (t : Tables) (front : List ℕ) → length front ≡ TABLES_OFFSET → tables p ≡ Ok t → AreLaid p front t
 
 -- so they do in the file of every plan
 abbrev pub FilesHoldTables : Type 0
-FilesHoldTables = (p : Plan) (bytes : List ℕ) → made p ≡ Ok bytes → (t : Tables) × (tables p ≡ Ok t) × AreStanding p bytes TABLES_OFFSET [] t.places
+FilesHoldTables = (p : LayoutPlan) (bytes : List ℕ) → made p ≡ Ok bytes → (t : Tables) × (tables p ≡ Ok t) × AreStanding p bytes TABLES_OFFSET [] t.places
 
 -- of a plain recipe, a table stands for each section that has one, in the order of the sections
 abbrev pub RolesStand : Type 0

@@ -5,10 +5,10 @@ use Rattle.pl_elf.specs.declared.range.Range.{Range}
 use Rattle.pl_build.specs.declared.layout.Tables.{Tables}
 use Rattle.pl_build.specs.declared.recipe.Recipe.{Recipe}
 use Rattle.pl_build.specs.declared.recipe.Settings.{Settings}
-use Rattle.pl_build.specs.declared.roles.Place.{Place}
+use Rattle.pl_build.specs.declared.roles.PlacedSection.{PlacedSection}
 use Rattle.pl_build.specs.File.{made}
 use Rattle.pl_build.specs.Layout.{tables}
-use Rattle.pl_build.specs.Plan.{data_address, plan_of}
+use Rattle.pl_build.specs.LayoutPlan.{data_address, plan_of}
 use Rattle.pl_form.specs.Faults.{form_fault}
 use Rattle.pl_form.specs.Files.{marked_in}
 use Rattle.pl_form.specs.Marks.{has_mark}
@@ -31,7 +31,7 @@ IsAbove s region = (data_address s + s.data_size + s.bss + REGION_GAP ≤ region
 
 -- the object of a plain recipe with room has no form fault under such a region
 abbrev pub RoomyObjectsHaveNoFault : Type 0
-RoomyObjectsHaveNoFault = (r : Recipe) (t : Tables) (before : List Place) (region : Range) → IsPlain r → tables (plan_of r) ≡ Ok t → HasRoom r.settings → IsAbove r.settings region → form_fault (planned_object r t before) region ≡ Ok tt
+RoomyObjectsHaveNoFault = (r : Recipe) (t : Tables) (before : List PlacedSection) (region : Range) → IsPlain r → tables (plan_of r) ≡ Ok t → HasRoom r.settings → IsAbove r.settings region → form_fault (planned_object r t before) region ≡ Ok tt
 
 -- ---- marks
 

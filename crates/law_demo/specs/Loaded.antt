@@ -4,25 +4,25 @@ use Rattle.pl_base.specs.Windows.{Window}
 use Rattle.pl_elf.specs.declared.segment.Segment.{Segment}
 use Rattle.pl_object.specs.FilePart.{file_window, loaded}
 use Rattle.pl_build.specs.declared.layout.Tables.{Tables}
-use Rattle.pl_build.specs.declared.plan.Plan.{Plan}
+use Rattle.pl_build.specs.declared.layout_plan.LayoutPlan.{LayoutPlan}
 use Rattle.pl_build.specs.declared.recipe.Recipe.{Recipe}
-use Rattle.pl_build.specs.declared.roles.Place.{Place}
+use Rattle.pl_build.specs.declared.roles.PlacedSection.{PlacedSection}
 use Rattle.pl_build.specs.File.{made}
 use Rattle.pl_build.specs.Layout.{contents, tables}
-use Rattle.pl_build.specs.Plan.{plan_of}
+use Rattle.pl_build.specs.LayoutPlan.{plan_of}
 use Rattle.law_demo.specs.Plain.{IsPlain}
 use Rattle.law_demo.specs.Planned.{planned_segments}
 
 -- a table in memory
-abbrev pub memory_of : Place → Window
+abbrev pub memory_of : PlacedSection → Window
 memory_of place = record { at = place.addr; size = place.size }
 
 -- its bytes are loaded at its address from its place in the file
-pub record IsLoaded (p : Plan) (bytes : List ℕ) (ss : List Segment) (before : List Place) (place : Place) : Type 0 where
+pub record IsLoaded (p : LayoutPlan) (bytes : List ℕ) (ss : List Segment) (before : List PlacedSection) (place : PlacedSection) : Type 0 where
   pub window : file_window ss (memory_of place) ≡ record { at = place.offset; size = place.size }
   pub holds : loaded bytes ss (memory_of place) ≡ contents p before place.role
 
-abbrev pub AreLoaded : Plan → List ℕ → List Segment → List Place → List Place → Type 0
+abbrev pub AreLoaded : LayoutPlan → List ℕ → List Segment → List PlacedSection → List PlacedSection → Type 0
 AreLoaded p bytes ss before [] = Unit {0}
 AreLoaded p bytes ss before (place ∷ places) = IsLoaded p bytes ss before place × AreLoaded p bytes ss (before ++ place ∷ []) places
 

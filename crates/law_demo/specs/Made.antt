@@ -1,7 +1,7 @@
 -- Recipes whose files are small enough to be made.
 use Rattle.std.specs.Prelude.{◌≡◌, ◌≤◌, List, ℕ, length, Ok}
 use Rattle.pl_build.specs.File.{made}
-use Rattle.pl_build.specs.Plan.{plan_of}
+use Rattle.pl_build.specs.LayoutPlan.{plan_of}
 use Rattle.pl_build.specs.declared.recipe.Recipe.{Recipe}
 use Rattle.law_demo.specs.Modest.{IsModest}
 use Rattle.law_demo.specs.Plain.{IsPlain}

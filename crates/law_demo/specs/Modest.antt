@@ -7,18 +7,18 @@ use Rattle.pl_base.specs.Pairs.{any_pair}
 use Rattle.pl_elf.specs.declared.constants.TheConstants.{R_X86_64_64, R_X86_64_COPY, R_X86_64_GLOB_DAT, R_X86_64_JUMP_SLOT, R_X86_64_RELATIVE}
 use Rattle.pl_sym.specs.declared.constants.TheConstants.{STB_GLOBAL, STB_WEAK, STT_OBJECT, STT_FUNC, STV_DEFAULT}
 use Rattle.pl_build.specs.declared.line.Relocation.{Relocation}
-use Rattle.pl_build.specs.declared.line.Symbol.{Symbol}
+use Rattle.pl_build.specs.declared.line.SymbolLine.{SymbolLine}
 use Rattle.pl_build.specs.declared.recipe.Recipe.{Recipe}
 use Rattle.pl_build.specs.declared.recipe.Settings.{Settings}
 use Rattle.pl_build.specs.FileKinds.{is_position_independent}
-use Rattle.pl_build.specs.Plan.{addend_of}
+use Rattle.pl_build.specs.LayoutPlan.{addend_of}
 use Rattle.pl_build.specs.RelocationLines.{is_no_symbol}
 use Rattle.pl_build.specs.Relocations.{is_written_as}
 
 -- ---- symbols
 
 -- a function or an object in the data or in the zeros behind it
-pub record IsOwn (s : Settings) (x : Symbol) : Type 0 where
+pub record IsOwn (s : Settings) (x : SymbolLine) : Type 0 where
   pub defined : x.defined ≡ true
   pub placed : x.placed ≡ true
   pub kind : (x.kind ≡ STT_OBJECT) ⊎ (x.kind ≡ STT_FUNC)
@@ -27,7 +27,7 @@ pub record IsOwn (s : Settings) (x : Symbol) : Type 0 where
   pub within : x.offset + x.size ≤ s.data_size + s.bss
 
 -- a reference to a function that may stay without a definer
-pub record IsWeakReference (x : Symbol) : Type 0 where
+pub record IsWeakReference (x : SymbolLine) : Type 0 where
   pub undefined : x.defined ≡ false
   pub unplaced : x.placed ≡ false
   pub kind : x.kind ≡ STT_FUNC
@@ -35,12 +35,12 @@ pub record IsWeakReference (x : Symbol) : Type 0 where
   pub offset : x.offset ≡ 0
   pub size : x.size ≡ 0
 
-pub record IsModestSymbol (s : Settings) (x : Symbol) : Type 0 where
+pub record IsModestSymbol (s : Settings) (x : SymbolLine) : Type 0 where
   pub name : is_valid_name x.name ≡ true
   pub visibility : x.visibility ≡ STV_DEFAULT
   pub form : IsOwn s x ⊎ IsWeakReference x
 
-abbrev pub is_namesake : Symbol → Symbol → Bool
+abbrev pub is_namesake : SymbolLine → SymbolLine → Bool
 is_namesake x y = bytes_eq x.name y.name
 
 -- ---- relocations
@@ -59,7 +59,7 @@ pub record ChangesWord (s : Settings) (x : Relocation) : Type 0 where
   pub within : x.offset + 8 ≤ s.data_size
 
 -- every symbol of a name has eight bytes
-abbrev pub IsWord : List ℕ → Symbol → Type 0
+abbrev pub IsWord : List ℕ → SymbolLine → Type 0
 IsWord name s = is_written_as name s ≡ true → s.size ≡ 8
 
 -- in a program, the bytes of an object that another file defines, into a symbol of eight bytes

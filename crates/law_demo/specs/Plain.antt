@@ -2,7 +2,7 @@
 use Rattle.std.specs.Prelude.{◌≡◌, ◌<◌, ◌≤◌, false, [], None}
 use Rattle.std.specs.List.{AllByRecursion}
 use Rattle.pl_build.specs.declared.constants.TheConstants.{MAX_BUCKETS, MAX_SPARE, MAX_DATA, MAX_BSS}
-use Rattle.pl_build.specs.declared.line.Symbol.{Symbol}
+use Rattle.pl_build.specs.declared.line.SymbolLine.{SymbolLine}
 use Rattle.pl_build.specs.declared.recipe.Settings.{Settings}
 use Rattle.pl_build.specs.declared.recipe.Recipe.{Recipe}
 use Rattle.pl_build.specs.FileKinds.{is_static, is_pie}
@@ -21,7 +21,7 @@ pub record ArePlain (s : Settings) : Type 0 where
   pub few_bss : s.bss ≤ MAX_BSS
 
 -- a symbol without version
-pub record IsUnversioned (s : Symbol) : Type 0 where
+pub record IsUnversioned (s : SymbolLine) : Type 0 where
   pub version : s.version ≡ []
   pub file : s.file ≡ []
 

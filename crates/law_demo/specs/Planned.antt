@@ -6,7 +6,7 @@ use Rattle.pl_elf.specs.declared.section.Section.{Section}
 use Rattle.pl_elf.specs.declared.segment.Segment.{Segment}
 use Rattle.pl_elf.specs.Headers as elf
 use Rattle.pl_build.specs.declared.layout.Tables.{Tables}
-use Rattle.pl_build.specs.declared.plan.Plan.{Plan}
+use Rattle.pl_build.specs.declared.layout_plan.LayoutPlan.{LayoutPlan}
 use Rattle.pl_build.specs.declared.roles.Role.{Role}
 use Rattle.pl_build.specs.declared.roles.Role.TheVariants.{Null, Interp, Hash, GnuHash, Dynsym, Dynstr, Versym, Verdef, Verneed, RelaDyn, RelaPlt, RelrDyn, Dynamic, Data, Bss, Shstrtab}
 use Rattle.pl_build.specs.declared.sections.SectionRow.{SectionRow}
@@ -17,7 +17,7 @@ use Rattle.pl_build.specs.Layout.{end_of}
 use Rattle.pl_build.specs.Roles.{index_of}
 use Rattle.pl_build.specs.Sections.{section_rows}
 use Rattle.pl_build.specs.Segments.{segments, data_offset}
-use Rattle.pl_build.specs.Strings.{section_names}
+use Rattle.pl_build.specs.StringTable.{section_names}
 
 -- a section whose bytes the tables hold
 abbrev pub is_table : Role → Bool
@@ -39,7 +39,7 @@ is_table Bss = false
 is_table Shstrtab = false
 
 -- for so many segments, and a section header table at an offset
-unfoldable pub header_of : Plan → ℕ → ℕ → Header
+unfoldable pub header_of : LayoutPlan → ℕ → ℕ → Header
 header_of p phnum shoff = record {
   ident = fields ident;
   kind = type_of p.settings;
@@ -73,18 +73,18 @@ section_of s = record {
 
 -- ---- of a plan whose tables are these
 
-unfoldable pub planned_segments : Plan → Tables → List Segment
+unfoldable pub planned_segments : LayoutPlan → Tables → List Segment
 planned_segments p t = segments p.settings (end_of t) (place_of t.places (codes ".dynamic"))
 
-unfoldable pub planned_header : Plan → Tables → Header
+unfoldable pub planned_header : LayoutPlan → Tables → Header
 planned_header p t = header_of p (length (planned_segments p t)) (sections_offset p (end_of t) (section_names p.roles))
 
-unfoldable pub planned_sections : Plan → Tables → List Section
+unfoldable pub planned_sections : LayoutPlan → Tables → List Section
 planned_sections p t =
     map section_of (section_rows p (section_names p.roles) (places_of p t (data_offset (end_of t)) (length (section_names p.roles).bytes)))
 
 -- the headers of a file are read so
-pub record IsHeaded (p : Plan) (t : Tables) (bytes : List ℕ) : Type 0 where
+pub record IsHeaded (p : LayoutPlan) (t : Tables) (bytes : List ℕ) : Type 0 where
   pub header : elf.header bytes ≡ planned_header p t
   pub segments : elf.segments bytes (planned_header p t) ≡ planned_segments p t
   pub sections : elf.sections bytes (planned_header p t) ≡ planned_sections p t

@@ -3,7 +3,7 @@ use Rattle.std.specs.Prelude.{◌≡◌, ◌<◌, ℕ, List, length, map, Some, 
 use Rattle.std.specs.List.{range_with_len}
 use Rattle.pl_elf.specs.declared.range.Range.{Range}
 use Rattle.pl_build.specs.File.{made}
-use Rattle.pl_build.specs.Plan.{plan_of}
+use Rattle.pl_build.specs.LayoutPlan.{plan_of}
 use Rattle.law_demo.specs.SetRecipes.{library_of, program_of}
 use Rattle.pl_gen.specs.Lines.{library_name}
 use Rattle.pl_sound.specs.Rule.{Files}

@@ -6,18 +6,18 @@ use Rattle.pl_build.specs.declared.line.Line.{Line}
 use Rattle.pl_build.specs.declared.line.Line.TheVariants.{Empty, First, Hash, Buckets, Needs, Data, Bss, Names, Relocates}
 use Rattle.pl_build.specs.Build.{build, lines}
 use Rattle.pl_build.specs.File.{made}
-use Rattle.pl_build.specs.Plan.{plan_of}
+use Rattle.pl_build.specs.LayoutPlan.{plan_of}
 use Rattle.pl_gen.specs.Draws.{at}
 use Rattle.pl_gen.specs.Lines.{library_name, kind_of, known_after}
 use Rattle.pl_gen.specs.Set.{functions, needed, library_recipe, program_recipe}
-use Rattle.pl_gen.specs.declared.kind.Kind.{Kind}
+use Rattle.pl_gen.specs.declared.relocation_kind.RelocationKind.{RelocationKind}
 use Rattle.law_demo.specs.SetRecipes.{needed_names, own_functions, own_object, reference, relocation_of, copy_of, library_words, program_words, library_of, program_of}
 
 abbrev pub first_lines : FileKind → Bool → List Line
 first_lines kind sysv = First kind ∷ Hash (record { sysv = sysv; gnu = true }) ∷ Buckets 8 ∷ []
 
 -- a relocation, behind the line of its function where that has none yet
-unfoldable pub relocation_lines : List ℕ → ℕ → Kind → ℕ → List Line
+unfoldable pub relocation_lines : List ℕ → ℕ → RelocationKind → ℕ → List Line
 relocation_lines known place kind word = map Names (reference known kind word) ++ Relocates (relocation_of place kind word) ∷ []
 
 -- relocations from a place on, of two words each

@@ -5,18 +5,18 @@ use Rattle.std.specs.Str.{bytes_eq}
 use Rattle.pl_base.specs.Names.{is_valid_name}
 use Rattle.pl_elf.specs.declared.constants.TheConstants.{R_X86_64_COPY}
 use Rattle.pl_build.specs.declared.line.Relocation.{Relocation}
-use Rattle.pl_build.specs.declared.line.Symbol.{Symbol}
+use Rattle.pl_build.specs.declared.line.SymbolLine.{SymbolLine}
 use Rattle.pl_build.specs.declared.recipe.Recipe.{Recipe}
 use Rattle.pl_gen.specs.Draws.{at}
 use Rattle.pl_gen.specs.Lines.{library_name, program_name, object_name}
 use Rattle.law_demo.specs.SetRecipes.{library_of, program_of}
 
 -- a symbol is written as it is named
-abbrev pub IsSpelled : Symbol → Type 0
+abbrev pub IsSpelled : SymbolLine → Type 0
 IsSpelled s = s.written ≡ s.name
 
 -- a symbol defines a name, and a relocation copies the object of a name
-abbrev pub defines_name : List ℕ → Symbol → Bool
+abbrev pub defines_name : List ℕ → SymbolLine → Bool
 defines_name name s = s.defined && bytes_eq s.name name
 
 abbrev pub copies_name : List ℕ → Relocation → Bool

@@ -5,7 +5,7 @@ use Rattle.pl_build.specs.declared.recipe.Recipe.{Recipe}
 use Rattle.pl_build.specs.Build.{build}
 use Rattle.pl_build.specs.File as file
 use Rattle.pl_build.specs.Layout as layout
-use Rattle.pl_build.specs.Plan.{plan_of}
+use Rattle.pl_build.specs.LayoutPlan.{plan_of}
 use Rattle.pl_gen.specs.Set.{library_recipe, program_recipe}
 use Rattle.law_demo.specs.Accepted.{IsAccepted}
 use Rattle.law_demo.specs.Made.{IsBounded}

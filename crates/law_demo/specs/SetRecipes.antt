@@ -6,15 +6,15 @@ use Rattle.pl_build.specs.declared.constants.TheConstants.{SPARE}
 use Rattle.pl_build.specs.declared.kind.FileKind.{FileKind}
 use Rattle.pl_build.specs.declared.kind.FileKind.TheVariants.{Program, Library}
 use Rattle.pl_build.specs.declared.line.Relocation.{Relocation}
-use Rattle.pl_build.specs.declared.line.Symbol.{Symbol}
+use Rattle.pl_build.specs.declared.line.SymbolLine.{SymbolLine}
 use Rattle.pl_build.specs.declared.recipe.Recipe.{Recipe}
 use Rattle.pl_build.specs.declared.recipe.Settings.{Settings}
 use Rattle.pl_gen.specs.Draws.{at}
 use Rattle.pl_gen.specs.Lines.{library_name, function_name, object_name, has, kind_of, known_after}
 use Rattle.pl_gen.specs.Set.{functions, needed}
-use Rattle.pl_gen.specs.declared.kind.Kind.{Kind}
-use Rattle.pl_gen.specs.declared.kind.Kind.TheVariants.{Relative, Abs64, GlobDat, JumpSlot}
-use Rattle.law_demo.specs.Spelled.{defined, referred, relocated}
+use Rattle.pl_gen.specs.declared.relocation_kind.RelocationKind.{RelocationKind}
+use Rattle.pl_gen.specs.declared.relocation_kind.RelocationKind.TheVariants.{Relative, Abs64, GlobDat, JumpSlot}
+use Rattle.law_demo.specs.Spelled.{defined, referred, recipe_relocation}
 
 -- what a number has once: nothing, where the number is among those before
 abbrev pub once : {A : Type 0} → List ℕ → ℕ → A → List A
@@ -28,33 +28,33 @@ needed_names before [] = []
 needed_names before (i ∷ more) = once before i (library_name i) ++ needed_names (before ++ i ∷ []) more
 
 -- the functions that a library defines
-unfoldable pub own_functions : List ℕ → ℕ → List ℕ → List Symbol
+unfoldable pub own_functions : List ℕ → ℕ → List ℕ → List SymbolLine
 own_functions before offset [] = []
 own_functions before offset (number ∷ more) = once before number (defined (function_name number) STT_FUNC offset) ++ own_functions (before ++ number ∷ []) (offset + 8) more
 
 -- the function of a relocation, where it has no symbol yet
-unfoldable pub reference : List ℕ → Kind → ℕ → List Symbol
+unfoldable pub reference : List ℕ → RelocationKind → ℕ → List SymbolLine
 reference known Relative word = []
 reference known Abs64 word = once known (word % 1000) (referred (function_name (word % 1000)))
 reference known GlobDat word = once known (word % 1000) (referred (function_name (word % 1000)))
 reference known JumpSlot word = once known (word % 1000) (referred (function_name (word % 1000)))
 
 -- two words have a relocation
-unfoldable pub references : List ℕ → List ℕ → List Symbol
+unfoldable pub references : List ℕ → List ℕ → List SymbolLine
 references known (kind ∷ word ∷ more) = reference known (kind_of kind) word ++ references (known_after known (kind_of kind) word) more
 references known (kind ∷ []) = []
 references known [] = []
 
-abbrev pub own_object : ℕ → Symbol
+abbrev pub own_object : ℕ → SymbolLine
 own_object i = defined (object_name i) STT_OBJECT 0x800
 
 -- ---- relocations
 
-unfoldable pub relocation_of : ℕ → Kind → ℕ → Relocation
-relocation_of place Relative word = relocated (codes "-") R_X86_64_RELATIVE place (8 * (word % 64))
-relocation_of place Abs64 word = relocated (function_name (word % 1000)) R_X86_64_64 place 0
-relocation_of place GlobDat word = relocated (function_name (word % 1000)) R_X86_64_GLOB_DAT place 0
-relocation_of place JumpSlot word = relocated (function_name (word % 1000)) R_X86_64_JUMP_SLOT place 0
+unfoldable pub relocation_of : ℕ → RelocationKind → ℕ → Relocation
+relocation_of place Relative word = recipe_relocation (codes "-") R_X86_64_RELATIVE place (8 * (word % 64))
+relocation_of place Abs64 word = recipe_relocation (function_name (word % 1000)) R_X86_64_64 place 0
+relocation_of place GlobDat word = recipe_relocation (function_name (word % 1000)) R_X86_64_GLOB_DAT place 0
+relocation_of place JumpSlot word = recipe_relocation (function_name (word % 1000)) R_X86_64_JUMP_SLOT place 0
 
 -- from a place on
 unfoldable pub relocations_from : ℕ → List ℕ → List Relocation
@@ -63,7 +63,7 @@ relocations_from place (kind ∷ []) = []
 relocations_from place [] = []
 
 abbrev pub copy_of : ℕ → Relocation
-copy_of i = relocated (object_name i) R_X86_64_COPY 0x800 0
+copy_of i = recipe_relocation (object_name i) R_X86_64_COPY 0x800 0
 
 -- ---- the recipes
 

@@ -10,13 +10,13 @@ use Rattle.pl_object.specs.TableClauses.{check_tables}
 use Rattle.pl_object.specs.Tables.{symbols_memory, strings_memory, rela_memory, jmprel_memory, section_memory, relr_memory}
 use Rattle.pl_build.specs.declared.layout.Tables.{Tables}
 use Rattle.pl_build.specs.declared.recipe.Recipe.{Recipe}
-use Rattle.pl_build.specs.declared.roles.Place.{Place}
+use Rattle.pl_build.specs.declared.roles.PlacedSection.{PlacedSection}
 use Rattle.pl_build.specs.declared.roles.Role.{Role}
 use Rattle.pl_build.specs.declared.roles.Role.TheVariants.{Hash, GnuHash, Dynsym, Dynstr, RelaDyn, RelaPlt, Dynamic}
 use Rattle.pl_build.specs.Choices.{chosen}
 use Rattle.pl_build.specs.File.{made}
 use Rattle.pl_build.specs.Layout.{tables}
-use Rattle.pl_build.specs.Plan.{plan_of, is_jump_slot, is_other}
+use Rattle.pl_build.specs.LayoutPlan.{plan_of, is_jump_slot, is_other}
 use Rattle.law_demo.specs.Plain.{IsPlain}
 use Rattle.law_demo.specs.Planned.{planned_header, planned_segments, planned_sections}
 use Rattle.law_demo.specs.Tags.{planned_tags}
@@ -27,7 +27,7 @@ pub record Extent : Type 0 where
   pub offset : ℕ
   pub size : ℕ
 
-abbrev pub place_in : Role → Extent → Place
+abbrev pub place_in : Role → Extent → PlacedSection
 place_in role e = record { role = role; addr = e.addr; offset = e.offset; size = e.size }
 
 pub record Extents : Type 0 where
@@ -40,13 +40,13 @@ pub record Extents : Type 0 where
   pub dynamic : Extent
 
 -- the tables before the dynamic one, each with whether it is there
-abbrev pub rows_before : Recipe → Extents → List (Bool × Place)
+abbrev pub rows_before : Recipe → Extents → List (Bool × PlacedSection)
 rows_before r e =
     (r.settings.hashes.sysv, place_in Hash e.hash) ∷ (r.settings.hashes.gnu, place_in GnuHash e.gnu_hash)
     ∷ (true, place_in Dynsym e.symbols) ∷ (true, place_in Dynstr e.strings)
     ∷ (list_any is_other r.relocations, place_in RelaDyn e.others) ∷ (list_any is_jump_slot r.relocations, place_in RelaPlt e.slots) ∷ []
 
-abbrev pub before_dynamic : Recipe → Extents → List Place
+abbrev pub before_dynamic : Recipe → Extents → List PlacedSection
 before_dynamic r e = chosen (rows_before r e)
 
 -- a table in memory, or nothing

@@ -7,7 +7,7 @@ use Rattle.pl_elf.specs.declared.constants.TheConstants.{R_X86_64_64, R_X86_64_C
 use Rattle.pl_sym.specs.declared.constants.TheConstants.{STB_GLOBAL, STB_WEAK, STT_OBJECT, STT_FUNC, STV_DEFAULT}
 use Rattle.pl_build.specs.declared.line.Line.TheVariants.{Needs, Names, Relocates}
 use Rattle.pl_build.specs.declared.line.Relocation.{Relocation}
-use Rattle.pl_build.specs.declared.line.Symbol.{Symbol}
+use Rattle.pl_build.specs.declared.line.SymbolLine.{SymbolLine}
 use Rattle.pl_build.specs.Grammar.{line}
 use Rattle.pl_build.specs.Words.{cut}
 
@@ -21,7 +21,7 @@ abbrev pub hexadecimal : ℕ → List ℕ
 hexadecimal n = digits 16 false n
 
 -- what the lines say
-unfoldable pub defined : List ℕ → ℕ → ℕ → Symbol
+unfoldable pub defined : List ℕ → ℕ → ℕ → SymbolLine
 defined name kind offset = record {
   defined = true;
   written = name;
@@ -37,7 +37,7 @@ defined name kind offset = record {
   size = 8;
 }
 
-unfoldable pub referred : List ℕ → Symbol
+unfoldable pub referred : List ℕ → SymbolLine
 referred name = record {
   defined = false;
   written = name;
@@ -53,8 +53,8 @@ referred name = record {
   size = 0;
 }
 
-unfoldable pub relocated : List ℕ → ℕ → ℕ → ℕ → Relocation
-relocated name kind offset addend = record { kind = kind; offset = offset; name = name; addend = record { negative = false; magnitude = addend } }
+unfoldable pub recipe_relocation : List ℕ → ℕ → ℕ → ℕ → Relocation
+recipe_relocation name kind offset addend = record { kind = kind; offset = offset; name = name; addend = record { negative = false; magnitude = addend } }
 
 -- ---- each line is read as what it spells
 
@@ -72,21 +72,21 @@ abbrev pub RefsAreRead : Type 0
 RefsAreRead = (name : List ℕ) → IsPlainName name → line (codes "ref " ++ (name ++ codes " weak func")) ≡ Names (referred name)
 
 abbrev pub CopiesAreRead : Type 0
-CopiesAreRead = (name : List ℕ) → IsPlainName name → line (codes "rel copy 800 " ++ (name ++ codes " 0")) ≡ Relocates (relocated name R_X86_64_COPY 0x800 0)
+CopiesAreRead = (name : List ℕ) → IsPlainName name → line (codes "rel copy 800 " ++ (name ++ codes " 0")) ≡ Relocates (recipe_relocation name R_X86_64_COPY 0x800 0)
 
 abbrev pub RelativesAreRead : Type 0
 RelativesAreRead = (offset addend : ℕ) → offset < 2 ^ 64 → addend < 2 ^ 64
-    → line (codes "rel relative " ++ (hexadecimal offset ++ (codes " - " ++ hexadecimal addend))) ≡ Relocates (relocated (codes "-") R_X86_64_RELATIVE offset addend)
+    → line (codes "rel relative " ++ (hexadecimal offset ++ (codes " - " ++ hexadecimal addend))) ≡ Relocates (recipe_relocation (codes "-") R_X86_64_RELATIVE offset addend)
 
 -- a relocation by a function, of a kind that is so written
 abbrev pub by_function : List ℕ → ℕ → List ℕ → List ℕ
 by_function kind offset name = codes "rel " ++ (kind ++ (codes " " ++ (hexadecimal offset ++ (codes " " ++ (name ++ codes " 0")))))
 
 abbrev pub AbsolutesAreRead : Type 0
-AbsolutesAreRead = (name : List ℕ) (offset : ℕ) → IsPlainName name → offset < 2 ^ 64 → line (by_function (codes "abs64") offset name) ≡ Relocates (relocated name R_X86_64_64 offset 0)
+AbsolutesAreRead = (name : List ℕ) (offset : ℕ) → IsPlainName name → offset < 2 ^ 64 → line (by_function (codes "abs64") offset name) ≡ Relocates (recipe_relocation name R_X86_64_64 offset 0)
 
 abbrev pub GlobDatsAreRead : Type 0
-GlobDatsAreRead = (name : List ℕ) (offset : ℕ) → IsPlainName name → offset < 2 ^ 64 → line (by_function (codes "globdat") offset name) ≡ Relocates (relocated name R_X86_64_GLOB_DAT offset 0)
+GlobDatsAreRead = (name : List ℕ) (offset : ℕ) → IsPlainName name → offset < 2 ^ 64 → line (by_function (codes "globdat") offset name) ≡ Relocates (recipe_relocation name R_X86_64_GLOB_DAT offset 0)
 
 abbrev pub JumpSlotsAreRead : Type 0
-JumpSlotsAreRead = (name : List ℕ) (offset : ℕ) → IsPlainName name → offset < 2 ^ 64 → line (by_function (codes "jumpslot") offset name) ≡ Relocates (relocated name R_X86_64_JUMP_SLOT offset 0)
+JumpSlotsAreRead = (name : List ℕ) (offset : ℕ) → IsPlainName name → offset < 2 ^ 64 → line (by_function (codes "jumpslot") offset name) ≡ Relocates (recipe_relocation name R_X86_64_JUMP_SLOT offset 0)

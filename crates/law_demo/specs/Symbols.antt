@@ -5,15 +5,15 @@ use Rattle.pl_base.specs.Strings.{is_zero}
 use Rattle.pl_sym.specs.Table as sym
 use Rattle.pl_sym.specs.declared.symbol.Symbol as read
 use Rattle.pl_ver.specs.declared.constants.TheConstants.{VER_NDX_GLOBAL}
-use Rattle.pl_build.specs.declared.line.Symbol.{Symbol}
-use Rattle.pl_build.specs.declared.plan.Plan.{Plan}
+use Rattle.pl_build.specs.declared.line.SymbolLine.{SymbolLine}
+use Rattle.pl_build.specs.declared.layout_plan.LayoutPlan.{LayoutPlan}
 use Rattle.pl_build.specs.declared.recipe.Recipe.{Recipe}
-use Rattle.pl_build.specs.Plan.{plan_of}
+use Rattle.pl_build.specs.LayoutPlan.{plan_of}
 use Rattle.pl_build.specs.SymbolTable.{section_of, value_of, symbol_table}
 use Rattle.law_demo.specs.Plain.{IsPlain}
 
 -- a symbol whose fields fit, and whose name is a string
-pub record IsSound (s : Symbol) : Type 0 where
+pub record IsSound (s : SymbolLine) : Type 0 where
   pub name : list_any is_zero s.name ≡ false
   pub bind : s.bind < 16
   pub kind : s.kind < 16
@@ -21,7 +21,7 @@ pub record IsSound (s : Symbol) : Type 0 where
   pub offset : s.offset < 2 ^ 64
   pub size : s.size < 2 ^ 64
 
-unfoldable pub planned_symbol : Plan → Symbol → read.Symbol
+unfoldable pub planned_symbol : LayoutPlan → SymbolLine → read.Symbol
 planned_symbol p s = record {
   name = s.name;
   value = value_of p s;

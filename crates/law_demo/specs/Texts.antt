@@ -3,7 +3,7 @@ use Rattle.std.specs.Prelude.{◌≡◌, ℕ, Bool, false, true, List, [], Some,
 use Rattle.std.specs.List.{list_any}
 use Rattle.std.specs.Str.{bytes_eq}
 use Rattle.pl_base.specs.Strings.{is_zero, string_at}
-use Rattle.pl_build.specs.Strings.{start, texts_added, text_at}
+use Rattle.pl_build.specs.StringTable.{start, texts_added, text_at}
 
 -- a text is empty or among these
 abbrev pub is_among : List ℕ → List (List ℕ) → Bool

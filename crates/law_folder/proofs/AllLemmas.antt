@@ -24,7 +24,7 @@ use Rattle.pl_journal.specs.declared.change.Change.{Change}
 use Rattle.pl_journal.specs.declared.change.Change.TheVariants.{Put, Drop}
 use Rattle.pl_journal.proofs.NameLemmas.{equal, valid_not_own}
 use Rattle.pl_known.specs.Plans.{planned}
-use Rattle.pl_plan.specs.declared.planned.Planned.{Planned}
+use Rattle.pl_plan.specs.declared.run_plan.RunPlan.{RunPlan}
 use Rattle.pl_rewrite.specs.Changes.{change, changes, is_file, next, next_cache}
 use Rattle.pl_rewrite.specs.Changes as rewriting
 use Rattle.pl_rewrite.specs.Laws.{AreNames, IsMixed}
@@ -55,7 +55,7 @@ pub record IsMade (fs : Files) (p : Prelinking) (rows : List Change) : Type 0 wh
   pub cached : Cache
   pub found : cache_file fs ≡ Ok old
   pub says : cache_in old ≡ Ok cached
-  pub plan : Planned
+  pub plan : RunPlan
   pub planned : planned (folder.named fs) (valid_names fs) (asked_of p cached) ≡ Ok plan
   pub are : rows ≡ put_cache old (cache_bytes (next_cache (folder.named fs) (valid_names fs) p.region cached.last plan)) ++ changes (folder.named fs) (valid_names fs) p.region plan
   pub is_spelled : is_cache (next_cache (folder.named fs) (valid_names fs) p.region cached.last plan) ≡ true
@@ -79,7 +79,7 @@ of_made fs p old c rows found says is =
     let ns = valid_names fs in
     let m = bind_ok (because of_planning (rewrite f ns a) >>= spelled old) (λ m. Ok m.rows) rows is in
     let w = bind_ok (because of_planning (rewrite f ns a)) (spelled old) m.0 m.1 in
-    let r = bind_ok (planned f ns a) (λ (q : Planned). Ok (rewritten f ns a q)) w.0 (because_ok of_planning (rewrite f ns a) w.0 w.1) in
+    let r = bind_ok (planned f ns a) (λ (q : RunPlan). Ok (rewritten f ns a q)) w.0 (because_ok of_planning (rewrite f ns a) w.0 w.1) in
     let same : w.0 ≡ rewritten f ns a r.0 = sym (ok_same (rewritten f ns a r.0) w.0 r.2) in
     let parts = spelled_rows old w.0 rows (view (spelled old w.0) (λ m. m.rows) m.0 rows w.2 m.2) in
     record {
@@ -116,7 +116,7 @@ module _ (P : Change → Type 0) where
   joined_all [] ys all more = more
   joined_all (x ∷ xs) ys all more = (all.0, joined_all xs ys all.1 more)
 
-next_row : (f : sound.Files) (region : Range) (p : Planned) (n : Name) (o : Option (List ℕ)) (rest : List Change) → next f region p n ≡ o → AllByRecursion (IsNext (next f region p)) rest → AllByRecursion (IsNext (next f region p)) (cons_option (rewriting.put (f n) n o) rest)
+next_row : (f : sound.Files) (region : Range) (p : RunPlan) (n : Name) (o : Option (List ℕ)) (rest : List Change) → next f region p n ≡ o → AllByRecursion (IsNext (next f region p)) rest → AllByRecursion (IsNext (next f region p)) (cons_option (rewriting.put (f n) n o) rest)
 next_row f region p n None rest is all = all
 next_row f region p n (Some bytes) rest is all = by (is_file (f n) bytes)
   where
@@ -124,11 +124,11 @@ next_row f region p n (Some bytes) rest is all = by (is_file (f n) bytes)
     by true = all
     by false = (λ valid. is, all)
 
-next_rows : (f : sound.Files) (region : Range) (p : Planned) (ns : List (List ℕ)) → AllByRecursion (IsNext (next f region p)) (filter_map (change f region p) ns)
+next_rows : (f : sound.Files) (region : Range) (p : RunPlan) (ns : List (List ℕ)) → AllByRecursion (IsNext (next f region p)) (filter_map (change f region p) ns)
 next_rows f region p [] = tt
 next_rows f region p (n ∷ ns) = next_row f region p n (next f region p n) (filter_map (change f region p) ns) refl (next_rows f region p ns)
 
-all_next : (f : sound.Files) (ns : List (List ℕ)) (region : Range) (p : Planned) → AllByRecursion (IsNext (next f region p)) (changes f ns region p)
+all_next : (f : sound.Files) (ns : List (List ℕ)) (region : Range) (p : RunPlan) → AllByRecursion (IsNext (next f region p)) (changes f ns region p)
 unfolding changes
 all_next f ns region p = next_rows f region p ns
 
@@ -181,14 +181,14 @@ mixed_next f i (Put name bytes ∷ rows) keep v n valid all = elim (cases_Bool (
 mixed_next f i (Drop name ∷ rows) keep v n valid all = absurd all.0
 
 -- a name that is not valid gets no file
-pub next_none : (f : sound.Files) (region : Range) (p : Planned) (n : Name) → f n ≡ None → next f region p n ≡ None
+pub next_none : (f : sound.Files) (region : Range) (p : RunPlan) (n : Name) → f n ≡ None → next f region p n ≡ None
 next_none f region p n none = none_of (next f region p n) (laws.names_stay f region p n ∙ ap (λ (o : Option (List ℕ)). is_some o) none)
   where
     none_of : (o : Option (List ℕ)) → is_some o ≡ false → o ≡ None
     none_of None is = refl
     none_of (Some x) is = absurd (true≢false is)
 
-is_mixed : (fs : Files) (region : Range) (p : Planned) (rows : List Change) (keep : ℕ → Bool) → AllByRecursion (IsNext (next (folder.named fs) region p)) rows → IsMixed (named (get fs)) region p (named (mixed 0 rows keep (get fs)))
+is_mixed : (fs : Files) (region : Range) (p : RunPlan) (rows : List Change) (keep : ℕ → Bool) → AllByRecursion (IsNext (next (folder.named fs) region p)) rows → IsMixed (named (get fs)) region p (named (mixed 0 rows keep (get fs)))
 is_mixed fs region p rows keep all n = elim (cases_Bool (is_valid_name n)) [
   | inl valid ↦ ⊎_elim
       (λ was. inl (named_valid (mixed 0 rows keep (get fs)) n valid ∙ (was ∙ sym (named_valid (get fs) n valid))))
@@ -204,13 +204,13 @@ all_safe fs p rows is rule keep =
 
 -- ---- originals
 
-next_original : (fs : Files) (region : Range) (p : Planned) (c : Change) → IsNext (next (folder.named fs) region p) c → KeepsOriginal (get fs) c
+next_original : (fs : Files) (region : Range) (p : RunPlan) (c : Change) → IsNext (next (folder.named fs) region p) c → KeepsOriginal (get fs) c
 next_original fs region p (Put name bytes) is = λ valid.
     let a = laws.originals_stay (folder.named fs) region p name bytes (is valid) in
     ap (option_map original_in) (sym (named_valid (get fs) name valid) ∙ a.1) ∙ ap (λ (x : List ℕ). Some x) (sym a.2)
 next_original fs region p (Drop name) is = absurd is
 
-each_original : (fs : Files) (region : Range) (p : Planned) (rows : List Change) → AllByRecursion (IsNext (next (folder.named fs) region p)) rows → AllByRecursion (KeepsOriginal (get fs)) rows
+each_original : (fs : Files) (region : Range) (p : RunPlan) (rows : List Change) → AllByRecursion (IsNext (next (folder.named fs) region p)) rows → AllByRecursion (KeepsOriginal (get fs)) rows
 each_original fs region p [] all = tt
 each_original fs region p (c ∷ rows) all = (next_original fs region p c all.0, each_original fs region p rows all.1)
 

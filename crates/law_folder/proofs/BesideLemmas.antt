@@ -25,7 +25,7 @@ use Rattle.law_folder.proofs.SlotLemmas.{Among, Fits, among_all, want_name, want
 use Rattle.pl_known.specs.Plans.{candidates, is_candidate, planned, slots_of, walks, wants}
 use Rattle.pl_known.specs.Skips.{skip_causes}
 use Rattle.pl_plan.specs.Faults.{of_plan}
-use Rattle.pl_plan.specs.declared.planned.Planned.{Planned}
+use Rattle.pl_plan.specs.declared.run_plan.RunPlan.{RunPlan}
 use Rattle.pl_scope.specs.Members.{has}
 use Rattle.pl_scope.proofs.NameLaws.{eq_refl, has_cons, same_name}
 use Rattle.pl_share.specs.Disjoint.{disjoint}
@@ -103,7 +103,7 @@ pairs (w ∷ ws) (n ∷ ns) (inl among) distinct =
 pairs (w ∷ ws) (n ∷ ns) (inr among) distinct = pairs (w ∷ ws) ns among distinct.1
 
 -- where no two slots may overlap none do
-alone_apart : (old : Files) (ns : List (List ℕ)) (a : Asked) (made : Planned) → IsDistinct bytes_eq ns → a.share ≡ false → planned old ns a ≡ Ok made → are_apart made.slots ≡ true
+alone_apart : (old : Files) (ns : List (List ℕ)) (a : Asked) (made : RunPlan) → IsDistinct bytes_eq ns → a.share ≡ false → planned old ns a ≡ Ok made → are_apart made.slots ≡ true
 unfolding slots_of
 alone_apart old ns a made distinct alone is_planned =
     let chosen = candidates old a.region ns in
@@ -185,7 +185,7 @@ one_passes f g (k ∷ ns) n there is = elim (has_cons k n ns there) [
   | inr later ↦ or_right (f (g k)) (list_any f (map g ns)) (one_passes f g ns n later is)
 ]
 
-module _ (old : Files) (ns : List (List ℕ)) (a : Asked) (made : Planned) (named_all : AreNames old ns) (is_planned : planned old ns a ≡ Ok made) where
+module _ (old : Files) (ns : List (List ℕ)) (a : Asked) (made : RunPlan) (named_all : AreNames old ns) (is_planned : planned old ns a ≡ Ok made) where
   abbrev chosen : List (List ℕ)
   chosen = candidates old a.region ns
 
@@ -248,5 +248,5 @@ module _ (old : Files) (ns : List (List ℕ)) (a : Asked) (made : Planned) (name
 pub valid_distinct : (files : base.Files) → IsDistinct bytes_eq (valid_names files)
 valid_distinct files = distinct_from is_valid_name (keys files) (keys_ascend files)
 
-pub slots_apart : (files : base.Files) (p : Prelinking) (cached : Cache) (made : Planned) → p.share ≡ false → planned (named files) (valid_names files) (asked_of p cached) ≡ Ok made → are_apart made.slots ≡ true
+pub slots_apart : (files : base.Files) (p : Prelinking) (cached : Cache) (made : RunPlan) → p.share ≡ false → planned (named files) (valid_names files) (asked_of p cached) ≡ Ok made → are_apart made.slots ≡ true
 slots_apart files p cached made alone is_planned = alone_apart (named files) (valid_names files) (asked_of p cached) made (valid_distinct files) alone is_planned

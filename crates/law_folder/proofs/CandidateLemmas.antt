@@ -48,7 +48,7 @@ use Rattle.pl_object.specs.declared.object.Object.{Object}
 use Rattle.pl_object.proofs.AcceptedLaws.{accepted}
 use Rattle.pl_parts.proofs.AcceptedIs.{segments_are}
 use Rattle.pl_form.proofs.SomeLastLaws.{some_last}
-use Rattle.pl_plan.specs.declared.planned.Planned.{Planned}
+use Rattle.pl_plan.specs.declared.run_plan.RunPlan.{RunPlan}
 use Rattle.pl_rewrite.specs.Changes.{numbers}
 use Rattle.pl_rewrite.proofs.FormLaws.{IsOriginal, firm_member, firm_nowhere, no_fault, original_bytes, original_is}
 use Rattle.pl_rewrite.proofs.PlanLaws.{plan_stamp}
@@ -96,7 +96,7 @@ last_small c is =
 
 -- ---- the run
 
-module _ (files : base.Files) (p : Prelinking) (made : Planned) (run : HasPlan files p made) where
+module _ (files : base.Files) (p : Prelinking) (made : RunPlan) (run : HasPlan files p made) where
   abbrev old : Files
   old = named files
 
@@ -468,7 +468,7 @@ at_none : (g : Option (List ℕ)) → marked_at g ≡ None → mark_at (format s
 at_none None none = refl
 at_none (Some file) none = marked_none file none
 
-module _ (files : base.Files) (p : Prelinking) (made : Planned) (run : HasPlan files p made) (n : List ℕ) (candidate : is_candidate (named files) p.region n ≡ true) where
+module _ (files : base.Files) (p : Prelinking) (made : RunPlan) (run : HasPlan files p made) (n : List ℕ) (candidate : is_candidate (named files) p.region n ≡ true) where
   -- a current name bears a mark
   current_marked : is_current (format skip_causes) (fit_in p.region) (named files) (slot_of made.slots) n ≡ true → mark_at (format skip_causes) (named files n) ≡ None → ⊥
   current_marked current none =

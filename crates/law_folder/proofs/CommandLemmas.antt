@@ -4,14 +4,14 @@ use Rattle.std.specs.Prelude.{◌∷◌, is_some, length}
 use Rattle.std.specs.FinMap.{get}
 use Rattle.std.proofs.lemmas.Bool.{cond-false, cond-true}
 use Rattle.pl_base.specs.Files.{Files}
-use Rattle.pl_folder.specs.Disk.{Disk, IsImage, State, View, clock, read}
+use Rattle.pl_folder.specs.Disk.{Disk, IsCrashImage, State, View, clock, read}
 use Rattle.pl_folder.specs.Seen.{Ending, IsFolder, Seen}
 use Rattle.pl_folder.specs.Since.{HadImage, Keeps, Since, Within}
 use Rattle.pl_folder.proofs.ImageLaws.{read_image}
 use Rattle.pl_journal.specs.Leaves.{Looks}
 use Rattle.pl_journal.specs.Laws.{IsRecoverable}
 use Rattle.pl_journal.specs.Meaning.{HasNoOwn, Same, StandsBetween, StandsFor, applied, rows_for}
-use Rattle.pl_journal.specs.Names.{is_own, journal}
+use Rattle.pl_journal.specs.Names.{is_journal_name, journal}
 use Rattle.pl_journal.specs.Parts.{journal_of}
 use Rattle.pl_journal.specs.Rows.{all_done, clean, recovered, rows_in, rows_of}
 use Rattle.pl_journal.specs.Spelling.{are_rows}
@@ -103,7 +103,7 @@ none_later (s ∷ past) t v le (inl here) = let lt : t ≤ length past = here.0 
 none_later (s ∷ past) t v le (inr there) = none_later past t v (omega arith) there
 
 -- each image since the start of calls that only look is one of the start's
-pub looked : (a b : Disk) → Looks a b → (v : View) → Since b (clock a) v → IsImage a.now v
+pub looked : (a b : Disk) → Looks a b → (v : View) → Since b (clock a) v → IsCrashImage a.now v
 looked a b looks v had = ⊎_elim
     (λ was. ⊎_elim (λ here. here.1) (λ there. absurd (none_later a.past (length a.past) v (omega arith) there)) was)
     (λ image. image)
@@ -146,11 +146,11 @@ commands_end meant o e a b folder told call = disk_ends meant a.disk b.disk (res
 
 -- files without an own name stand for themselves
 own_none : (v : View) → HasNoOwn v → Same (recovered v) v
-own_none v none n = recovered_by v [] (ap rows_in (none journal refl)) n ∙ by (is_own n) refl
+own_none v none n = recovered_by v [] (ap rows_in (none journal refl)) n ∙ by (is_journal_name n) refl
   where
-    by : (b : Bool) → is_own n ≡ b → clean v n ≡ v n
-    by true own = cond-true (is_own n) None (v n) own ∙ sym (none n own)
-    by false foreign = cond-false (is_own n) None (v n) foreign
+    by : (b : Bool) → is_journal_name n ≡ b → clean v n ≡ v n
+    by true own = cond-true (is_journal_name n) None (v n) own ∙ sym (none n own)
+    by false foreign = cond-false (is_journal_name n) None (v n) foreign
 
 -- a folder whose journal is outside its grammar stands for itself
 bad_itself : (v : View) → rows_in (v journal) ≡ None → Same (recovered v) v

@@ -21,7 +21,7 @@ use Rattle.pl_form.specs.declared.file.File.{File}
 use Rattle.pl_form.specs.declared.file.File.TheVariants.{Marked, Plain}
 use Rattle.pl_journal.specs.declared.change.Change.{Change}
 use Rattle.pl_journal.specs.declared.change.Change.TheVariants.{Drop, Put}
-use Rattle.pl_plan.specs.declared.planned.Planned.{Planned}
+use Rattle.pl_plan.specs.declared.run_plan.RunPlan.{RunPlan}
 use Rattle.pl_rewrite.specs.Changes.{change, changes}
 use Rattle.pl_batch.specs.All.{all_made, made_of_folder, put_cache}
 use Rattle.pl_batch.specs.Changes.{fitting}
@@ -65,7 +65,7 @@ cached_fit files rows bytes few follow =
 
 -- ---- a run that prelinks everything
 
-module _ (files : Files) (p : Prelinking) (plan : Planned) where
+module _ (files : Files) (p : Prelinking) (plan : RunPlan) where
   row_follows : (n : Name) (row : Option Change) (rows : List Change) (ns : List Name) → RowAt files p plan n row → Follow rows ns → Follow (cons_option row rows) (n ∷ ns)
   row_follows n None rows ns at follow = follow_more rows n ns follow
   row_follows n (Some (Put m bytes)) rows ns at follow = inl (at.0, follow)

@@ -9,7 +9,7 @@ use Rattle.pl_lists.specs.declared.conflict_row.ConflictRow.{ConflictRow}
 use Rattle.pl_object.specs.declared.object.Object.{Object}
 use Rattle.pl_form.specs.Program.{program_with}
 use Rattle.pl_value.specs.Meanings.{meanings}
-use Rattle.pl_value.specs.Ordinary.{loaded}
+use Rattle.pl_value.specs.Ordinary.{loaded_objects}
 use Rattle.pl_value.specs.declared.meaning.Meaning.{Meaning}
 use Rattle.pl_conflict.specs.Conflicts.{ascending, conflicts, rows_of}
 use Rattle.pl_conflict.specs.Prelinked as prelinked
@@ -36,7 +36,7 @@ pub record Links (rs : List Firm) : Type 0 where
   pub rows : List ConflictRow
   pub made : conflicts (objects_of rs) (parts_of rs) (slots_of rs) modules ≡ Ok rows
 
-conflicts_are : (objects : List Object) (parts : List (List ℕ)) (places : List ℕ) (modules : List Module) (gs : List Meaning) → meanings objects places modules ≡ Ok gs → conflicts objects parts places modules ≡ Ok (ascending (rows_of (loaded places parts objects) gs))
+conflicts_are : (objects : List Object) (parts : List (List ℕ)) (places : List ℕ) (modules : List Module) (gs : List Meaning) → meanings objects places modules ≡ Ok gs → conflicts objects parts places modules ≡ Ok (ascending (rows_of (loaded_objects places parts objects) gs))
 unfolding conflicts
 conflicts_are objects parts places modules gs e = rw e refl
 
@@ -51,7 +51,7 @@ links_at rs e =
       storage = m.1;
       gives = some.0;
       given = some.1;
-      rows = ascending (rows_of (loaded slots (parts_of rs) (objects_of rs)) some.0);
+      rows = ascending (rows_of (loaded_objects slots (parts_of rs) (objects_of rs)) some.0);
       made = conflicts_are (objects_of rs) (parts_of rs) slots modules some.0 some.1;
     }
 

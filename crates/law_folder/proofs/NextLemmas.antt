@@ -18,7 +18,7 @@ use Rattle.pl_journal.specs.Spelling.{are_rows}
 use Rattle.pl_journal.specs.declared.change.Change.{Change}
 use Rattle.pl_journal.specs.declared.change.Change.TheVariants.{Drop, Put}
 use Rattle.pl_journal.proofs.NameLemmas.{apart}
-use Rattle.pl_plan.specs.declared.planned.Planned.{Planned}
+use Rattle.pl_plan.specs.declared.run_plan.RunPlan.{RunPlan}
 use Rattle.pl_rewrite.specs.Changes.{change, changes, is_file, next, put}
 use Rattle.pl_rewrite.proofs.SoundLaws.{names_stay, next_is_from_scratch}
 use Rattle.pl_scope.specs.Members.{has}
@@ -44,7 +44,7 @@ same_file : (old : Option (List ℕ)) (bytes : List ℕ) → is_file old bytes �
 same_file None bytes e = absurd (false≢true e)
 same_file (Some file) bytes e = ap Some ((bytes_eq-Decides file bytes).0 e)
 
-module _ (files : Files) (p : Prelinking) (plan : Planned) (n : List ℕ) where
+module _ (files : Files) (p : Prelinking) (plan : RunPlan) (n : List ℕ) where
   abbrev old : Option (List ℕ)
   old = named files n
 
@@ -78,7 +78,7 @@ module _ (files : Files) (p : Prelinking) (plan : Planned) (n : List ℕ) where
 
 -- ---- all names
 
-module _ (files : Files) (p : Prelinking) (plan : Planned) (n : List ℕ) (valid : is_valid_name n ≡ true) where
+module _ (files : Files) (p : Prelinking) (plan : RunPlan) (n : List ℕ) (valid : is_valid_name n ≡ true) where
   abbrev change_of : List ℕ → Option Change
   change_of m = change (named files) p.region plan m
 
@@ -130,7 +130,7 @@ module _ (files : Files) (p : Prelinking) (plan : Planned) (n : List ℕ) (valid
 abbrev ValidAt : Name → Option (List ℕ) → Type 0
 ValidAt n file = is_valid_name n ≡ true
 
-module _ (files : Files) (p : Prelinking) (plan : Planned) where
+module _ (files : Files) (p : Prelinking) (plan : RunPlan) where
   valid_row : (n : List ℕ) (row : Option Change) (rows : List Change) → is_valid_name n ≡ true → RowAt files p plan n row → Each ValidAt rows → Each ValidAt (cons_option row rows)
   valid_row n None rows valid is all = all
   valid_row n (Some (Put m bytes)) rows valid is all = (ap is_valid_name is.0 ∙ valid, all)

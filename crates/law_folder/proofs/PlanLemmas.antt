@@ -24,7 +24,7 @@ use Rattle.pl_journal.specs.Names.{is_row_name}
 use Rattle.pl_journal.specs.declared.change.Change.{Change}
 use Rattle.pl_journal.specs.declared.change.Change.TheVariants.{Put}
 use Rattle.pl_known.specs.Plans.{planned}
-use Rattle.pl_plan.specs.declared.planned.Planned.{Planned}
+use Rattle.pl_plan.specs.declared.run_plan.RunPlan.{RunPlan}
 use Rattle.pl_rewrite.specs.Changes.{change, changes, is_file, next, next_cache, put}
 use Rattle.pl_rewrite.specs.Laws.{AreNames}
 use Rattle.pl_rewrite.specs.Reports.{report}
@@ -40,10 +40,10 @@ use Rattle.law_folder.proofs.MixedLemmas.{Each, each_append}
 
 -- ---- what led to the rows
 
-abbrev pub next_of : Files → Prelinking → Cache → Planned → Cache
+abbrev pub next_of : Files → Prelinking → Cache → RunPlan → Cache
 next_of files p cached plan = next_cache (named files) (valid_names files) p.region cached.last plan
 
-abbrev pub changes_by : Files → Prelinking → Planned → List Change
+abbrev pub changes_by : Files → Prelinking → RunPlan → List Change
 changes_by files p plan = changes (named files) (valid_names files) p.region plan
 
 pub record IsPlanned (files : Files) (p : Prelinking) (rows : List Change) : Type 0 where
@@ -51,7 +51,7 @@ pub record IsPlanned (files : Files) (p : Prelinking) (rows : List Change) : Typ
   pub found : cache_file files ≡ Ok old
   pub cached : Cache
   pub says : cache_in old ≡ Ok cached
-  pub plan : Planned
+  pub plan : RunPlan
   pub is_planned : planned (named files) (valid_names files) (asked_of p cached) ≡ Ok plan
   pub are : rows ≡ put_cache old (cache_bytes (next_of files p cached plan)) ++ changes_by files p plan
 
@@ -61,14 +61,14 @@ pub record IsMade (files : Files) (p : Prelinking) (rows : List Change) (told : 
   pub found : cache_file files ≡ Ok old
   pub cached : Cache
   pub says : cache_in old ≡ Ok cached
-  pub plan : Planned
+  pub plan : RunPlan
   pub is_planned : planned (named files) (valid_names files) (asked_of p cached) ≡ Ok plan
   pub are : rows ≡ put_cache old (cache_bytes (next_of files p cached plan)) ++ changes_by files p plan
   pub tells : told ≡ report (named files) (valid_names files) p.region plan
 
 module _ (files : Files) (p : Prelinking) where
   pub rewritten_is : (cached : Cache) (w : Rewritten) → rewrite (named files) (valid_names files) (asked_of p cached) ≡ Ok w
-      → (plan : Planned) × (planned (named files) (valid_names files) (asked_of p cached) ≡ Ok plan) × (rewritten (named files) (valid_names files) (asked_of p cached) plan ≡ w)
+      → (plan : RunPlan) × (planned (named files) (valid_names files) (asked_of p cached) ≡ Ok plan) × (rewritten (named files) (valid_names files) (asked_of p cached) plan ≡ w)
   unfolding rewrite
   rewritten_is cached w e =
       let step = bind_ok (planned (named files) (valid_names files) (asked_of p cached)) (λ plan. Ok (rewritten (named files) (valid_names files) (asked_of p cached) plan)) w e in
@@ -79,7 +79,7 @@ module _ (files : Files) (p : Prelinking) where
   spelled_is old w made e = ok_same (with_cache old w) made (unless_ok (not (is_cache w.cache)) causes.BadCache (Ok (with_cache old w)) made e).1
 
   made_is : (old : List ℕ) (cached : Cache) (made : _) → made_of (named files) (valid_names files) p old cached ≡ Ok made
-      → (plan : Planned) × (planned (named files) (valid_names files) (asked_of p cached) ≡ Ok plan) × (made.rows ≡ put_cache old (cache_bytes (next_of files p cached plan)) ++ changes_by files p plan) × (made.report ≡ report (named files) (valid_names files) p.region plan)
+      → (plan : RunPlan) × (planned (named files) (valid_names files) (asked_of p cached) ≡ Ok plan) × (made.rows ≡ put_cache old (cache_bytes (next_of files p cached plan)) ++ changes_by files p plan) × (made.report ≡ report (named files) (valid_names files) p.region plan)
   unfolding made_of
   made_is old cached made e =
       let step = bind_ok (because of_planning (rewrite (named files) (valid_names files) (asked_of p cached))) (spelled old) made e in
@@ -121,10 +121,10 @@ module _ (files : Files) (p : Prelinking) where
 -- ---- the rows of names
 
 -- a valid name gets the file that is planned
-abbrev pub NextAt : Files → Prelinking → Planned → Name → Option (List ℕ) → Type 0
+abbrev pub NextAt : Files → Prelinking → RunPlan → Name → Option (List ℕ) → Type 0
 NextAt files p plan n file = is_valid_name n ≡ true → file ≡ next (named files) p.region plan n
 
-module _ (files : Files) (p : Prelinking) (plan : Planned) where
+module _ (files : Files) (p : Prelinking) (plan : RunPlan) where
   abbrev At : Name → Option (List ℕ) → Type 0
   At n file = NextAt files p plan n file
 

@@ -5,13 +5,13 @@ use Rattle.std.specs.Prelude.{◌&&◌, ◌==◌, is_some, length, nat_lt, not, 
 use Rattle.std.specs.Result.{is_ok}
 use Rattle.std.proofs.lemmas.Bool.{false≢true}
 use Rattle.std.proofs.lemmas.List.Elements.{All-map}
-use Rattle.pl_base.specs.Answers.{◌>>=◌, Tells, because, unless_found}
+use Rattle.pl_base.specs.Answers.{◌>>=◌, NeverMemory, because, unless_found}
 use Rattle.pl_base.specs.Each.{run}
 use Rattle.pl_base.specs.Files as base
 use Rattle.pl_base.proofs.TellsLaws.{cause_tells, either_tells, err_tells, ok_tells, run_tells, then_tells, unless_tells}
 use Rattle.pl_batch.specs.Folder.{cache, named, valid_names}
 use Rattle.pl_batch.specs.declared.prelinking.Prelinking.{Prelinking}
-use Rattle.pl_cone.specs.Candidates.{all_formed, blocks, fit, formed, kind_of, linked, of_link, resolved, zeros}
+use Rattle.pl_cone.specs.Candidates.{all_formed, blocks, fit, formed, kind_of, check_links, of_link, resolved, zeros}
 use Rattle.pl_cone.specs.Skips.{of_tls, of_walk}
 use Rattle.pl_cone.specs.declared.skip.Skip.{Skip}
 use Rattle.pl_cone.specs.declared.skip.Skip.TheVariants as skips
@@ -38,7 +38,7 @@ use Rattle.pl_object.specs.Reads.{reads}
 use Rattle.pl_object.specs.declared.object.Object.{Object}
 use Rattle.pl_object.specs.declared.refusal.Refusal.{Refusal}
 use Rattle.pl_object.specs.declared.refusal.Refusal.TheVariants as refusals
-use Rattle.pl_plan.specs.declared.planned.Planned.{Planned}
+use Rattle.pl_plan.specs.declared.run_plan.RunPlan.{RunPlan}
 use Rattle.pl_rewrite.specs.Changes.{next}
 use Rattle.pl_rewrite.specs.Reports.{marked_at, report, row_of, state_after, state_by, state_of}
 use Rattle.pl_rewrite.specs.declared.report.Report.{Report}
@@ -97,15 +97,15 @@ module _ (files : Files) (region : Range) where
   original_of m = original_at (format skip_causes) (files m)
 
   -- the originals of a walk link where its objects do
-  walk_links : (n : List ℕ) (ws : Walked) → walk_in (format skip_causes) files n ≡ Ok ws → (fit_in region).links (map original_of (names ws)) ≡ is_ok (linked ws)
+  walk_links : (n : List ℕ) (ws : Walked) → walk_in (format skip_causes) files n ≡ Ok ws → (fit_in region).links (map original_of (names ws)) ≡ is_ok (check_links ws)
   walk_links n ws walks =
       let read = each_read original_of ws (λ i q at. read_at q.0 (files q.0) q.1 (member_file skip_causes.walk (objects (format skip_causes) files) n ws walks i q at)) in
       ap links read ∙ links_is ws
 
-  by_kind : (n : List ℕ) (ws : Walked) (kind : Kind) → kind_of ws ≡ kind → (fit_in region).links (map original_of (names ws)) ≡ is_ok (linked ws)
+  by_kind : (n : List ℕ) (ws : Walked) (kind : Kind) → kind_of ws ≡ kind → (fit_in region).links (map original_of (names ws)) ≡ is_ok (check_links ws)
       → (list_all (has_none (fault_at region files)) (names ws) && links_as (fit_in region) kind (map original_of (names ws))) ≡ is_ok (fit (fault_at region files) n ws)
   unfolding fit
-  by_kind n ws Program is linking = ap (λ (b : Bool). list_all (has_none (fault_at region files)) (names ws) && b) linking ∙ sym (rw is (formed_is (fault_at region files) (names ws) (linked ws)))
+  by_kind n ws Program is linking = ap (λ (b : Bool). list_all (has_none (fault_at region files)) (names ws) && b) linking ∙ sym (rw is (formed_is (fault_at region files) (names ws) (check_links ws)))
   by_kind n ws Library is linking = sym (rw is (formed_is (fault_at region files) (names ws) (Ok tt)))
   by_kind n ws Static is linking = off (list_all (has_none (fault_at region files)) (names ws)) ∙ sym (rw is refl)
 
@@ -143,7 +143,7 @@ refusal_not : (n : List ℕ) (e : Refusal) → is_sixth (of_refusal n e) ≡ fal
 refusal_not n (refusals.Clause number argument) = refl
 refusal_not n refusals.NoMemory = refl
 
-object_not : (n : List ℕ) (file : Option (List ℕ)) → Tells is_sixth (object_at (format skip_causes) n file)
+object_not : (n : List ℕ) (file : Option (List ℕ)) → NeverMemory is_sixth (object_at (format skip_causes) n file)
 unfolding read_original
 object_not n None = err_tells Object is_sixth (skips.NotThere n) refl
 object_not n (Some file) =
@@ -155,7 +155,7 @@ abbrev is_last : FormFault → Bool
 is_last forms.TooLarge = true
 is_last _ = false
 
-program_not : (o : Object) (last : Option Segment) (region : Range) → Tells is_last (program_fault o last region)
+program_not : (o : Object) (last : Option Segment) (region : Range) → NeverMemory is_last (program_fault o last region)
 unfolding program_fault
 program_not o None region = ok_tells is_last tt
 program_not o (Some last) region =
@@ -164,14 +164,14 @@ program_not o (Some last) region =
     (unless_tells is_last (in_region o.segments last region) forms.InRegion _ refl
     (unless_tells is_last (list_any (is_later last) o.segments) forms.LastLoadNotLast (Ok tt) refl (ok_tells is_last tt))))
 
-form_not : (o : Object) (region : Range) → Tells is_last (form_fault o region)
+form_not : (o : Object) (region : Range) → NeverMemory is_last (form_fault o region)
 unfolding form_fault
 form_not o region =
     unless_tells is_last (nat_lt o.spare (wanted_spare o)) forms.NoSpareTags _ refl
     (either_tells is_last (is_library o.kind) (Ok tt) (program_fault o (last_load o.segments) region) (ok_tells is_last tt) (program_not o (last_load o.segments) region))
 
-number_not : (n : List ℕ) (r : Result (Unit {0}) FormFault) → Tells is_last r → (number : ℕ) → fault_number r ≡ Some number → is_six number ≡ false
-unfolding Tells
+number_not : (n : List ℕ) (r : Result (Unit {0}) FormFault) → NeverMemory is_last r → (number : ℕ) → fault_number r ≡ Some number → is_six number ≡ false
+unfolding NeverMemory
 number_not n (Ok u) t number e = absurd cc
 number_not n (Err forms.NoSpareTags) t number e = let is : 1 ≡ number = cc in ap is_six (sym is)
 number_not n (Err forms.BssTooLarge) t number e = let is : 2 ≡ number = cc in ap is_six (sym is)
@@ -203,8 +203,8 @@ link_not ws (link_faults.UndefinedTls member symbol) = refl
 link_not ws (link_faults.TlsMismatch member symbol) = refl
 link_not ws (link_faults.CopyOutside member symbol) = refl
 
-linked_not : (ws : Walked) → Tells is_sixth (linked ws)
-unfolding linked resolved
+linked_not : (ws : Walked) → NeverMemory is_sixth (check_links ws)
+unfolding check_links resolved
 linked_not ws =
     then_tells is_sixth (because of_tls (offsets (blocks ws))) (resolved ws) (cause_tells is_sixth of_tls (offsets (blocks ws)) tls_not)
     (λ modules.
@@ -212,27 +212,27 @@ linked_not ws =
     then_tells is_sixth (because (of_link ws) found) (λ gs. Ok tt) (cause_tells is_sixth (of_link ws) found (link_not ws)) (λ gs. ok_tells is_sixth tt))
 
 module _ (files : Files) (region : Range) where
-  formed_not : (n : List ℕ) → Tells is_sixth (formed (fault_at region files) n)
+  formed_not : (n : List ℕ) → NeverMemory is_sixth (formed (fault_at region files) n)
   formed_not n = by_fault (fault_at region files n) refl
     where
-      by_fault : (fault : Option ℕ) → fault_at region files n ≡ fault → Tells is_sixth (unless_found {X = Unit {0}} fault (skips.Form n) (Ok tt))
+      by_fault : (fault : Option ℕ) → fault_at region files n ≡ fault → NeverMemory is_sixth (unless_found {X = Unit {0}} fault (skips.Form n) (Ok tt))
       by_fault None is = ok_tells is_sixth tt
       by_fault (Some number) is = err_tells (Unit {0}) is_sixth (skips.Form n number) (fault_not n (original_at (format skip_causes) (files n)) region number is)
 
-  fit_not : (n : List ℕ) (ws : Walked) → Tells is_sixth (fit (fault_at region files) n ws)
+  fit_not : (n : List ℕ) (ws : Walked) → NeverMemory is_sixth (fit (fault_at region files) n ws)
   unfolding fit all_formed
   fit_not n ws = unless_tells is_sixth (is_static (kind_of ws)) (skips.Static n) _ refl
-      (then_tells is_sixth (run (λ u m. formed (fault_at region files) m) tt (names ws)) (λ u. if is_program (kind_of ws) then linked ws else Ok tt)
+      (then_tells is_sixth (run (λ u m. formed (fault_at region files) m) tt (names ws)) (λ u. if is_program (kind_of ws) then check_links ws else Ok tt)
       (run_tells is_sixth (λ u m. formed (fault_at region files) m) tt (names ws) (λ u m. formed_not m))
-      (λ u. either_tells is_sixth (is_program (kind_of ws)) (linked ws) (Ok tt) (linked_not ws) (ok_tells is_sixth tt)))
+      (λ u. either_tells is_sixth (is_program (kind_of ws)) (check_links ws) (Ok tt) (linked_not ws) (ok_tells is_sixth tt)))
 
-  skip_not : (n : List ℕ) → Tells is_sixth (skip_of files region n)
+  skip_not : (n : List ℕ) → NeverMemory is_sixth (skip_of files region n)
   unfolding skip_of
   skip_not n = then_tells is_sixth (walking.walk of_walk (objects (format skip_causes) files) n) (fit (fault_at region files) n) (walk_tells of_walk is_sixth (objects (format skip_causes) files) n (λ e t. walk_not e) (λ m. object_not m (files m))) (fit_not n)
 
 -- ---- a row
 
-module _ (files : base.Files) (p : Prelinking) (plan : Planned) (run : HasPlan files p plan) (n : List ℕ) where
+module _ (files : base.Files) (p : Prelinking) (plan : RunPlan) (run : HasPlan files p plan) (n : List ℕ) where
   abbrev old : Files
   old = named files
 
@@ -282,10 +282,10 @@ module _ (files : base.Files) (p : Prelinking) (plan : Planned) (run : HasPlan f
   says_none (states.Skipped cause) m says is = absurd says
 
   sixth_says : (m : List ℕ) → state ≡ states.Skipped (skips.Form m 6) → SaysTooLong old p.region plan (row_of old p.region plan n)
-  unfolding Tells
+  unfolding NeverMemory
   sixth_says m is = by_skip (skip_of old p.region n) refl (skip_not old p.region n)
     where
-      by_skip : (r : Result (Unit {0}) Skip) → skip_of old p.region n ≡ r → Tells is_sixth r → SaysTooLong old p.region plan (row_of old p.region plan n)
+      by_skip : (r : Result (Unit {0}) Skip) → skip_of old p.region n ≡ r → NeverMemory is_sixth r → SaysTooLong old p.region plan (row_of old p.region plan n)
       by_skip (Err cause) skip other = absurd (not_sixth cause m other (sym (state_is (Err cause) after skip refl) ∙ is))
       by_skip (Ok u) skip other = elim (candidate_says (skip_is old p.region n ∙ ap (λ (r : Result (Unit {0}) Skip). is_ok r) skip)) [
         | inl says ↦ absurd (says_none state m says is)

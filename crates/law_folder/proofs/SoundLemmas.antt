@@ -9,7 +9,7 @@ use Rattle.pl_conflict.specs.Format.{Rule, format}
 use Rattle.pl_conflict.proofs.FormatLaws.{format_kept}
 use Rattle.pl_folder.specs.Disk.{Name, View, same}
 use Rattle.pl_journal.specs.Meaning.{Agree, StandsBetween, mixed}
-use Rattle.pl_journal.specs.Names.{cache, is_own, journal}
+use Rattle.pl_journal.specs.Names.{cache, is_journal_name, journal}
 use Rattle.pl_journal.specs.Rows.{all_done, done, done_by, done_from, recovered, rows_in}
 use Rattle.pl_journal.specs.declared.change.Change.{Change}
 use Rattle.pl_journal.specs.declared.row.Row.{Row}
@@ -28,7 +28,7 @@ or_true true = refl
 or_true false = refl
 
 -- a valid name is none of the journal's own
-pub valid_foreign : (n : Name) → is_valid_name n ≡ true → is_own n ≡ false
+pub valid_foreign : (n : Name) → is_valid_name n ≡ true → is_journal_name n ≡ false
 valid_foreign n valid = row_not_own n (ap (λ (b : Bool). b || same n cache) valid ∙ or_true (same n cache))
 
 pub named_valid : (v : View) (n : Name) → is_valid_name n ≡ true → named v n ≡ v n
@@ -54,7 +54,7 @@ unfolding done recovered
 recovered_done v None is n foreign =
     ap (λ (o : Option (List Row)). done_by o (λ _. true) v n) is ∙ sym (ap (λ (o : Option (List Row)). all_done o v n) is)
 recovered_done v (Some rows) is n foreign =
-    done_is (λ _. true) v rows is n ∙ (sym (cond-false (is_own n) None (done_from 0 rows (λ _. true) v n) foreign) ∙ sym (recovered_by v rows is n))
+    done_is (λ _. true) v rows is n ∙ (sym (cond-false (is_journal_name n) None (done_from 0 rows (λ _. true) v n) foreign) ∙ sym (recovered_by v rows is n))
 
 pub recovered_keep : RecoveredKeepTheRule
 recovered_keep v sound = rule_same (done (λ _. true) v) (recovered v) (recovered_done v (rows_in (v journal)) refl) (sound (λ _. true))

@@ -18,7 +18,7 @@ use Rattle.pl_folder.specs.Disk.{Name}
 use Rattle.pl_known.specs.Plans.{candidates, is_candidate, planned, slots, slots_of, stale, stamp_for, standings, walks, wants}
 use Rattle.pl_plan.specs.Faults.{of_plan}
 use Rattle.pl_plan.specs.declared.asked.Asked.{Asked}
-use Rattle.pl_plan.specs.declared.planned.Planned.{Planned}
+use Rattle.pl_plan.specs.declared.run_plan.RunPlan.{RunPlan}
 use Rattle.pl_rewrite.specs.Changes.{is_given, next_cache}
 use Rattle.pl_rewrite.proofs.PlanLaws.{plan_stamp}
 use Rattle.pl_share.specs.Disjoint.{disjoint}
@@ -39,16 +39,16 @@ use Rattle.law_folder.proofs.StampLemmas.{stamp_small}
 
 -- ---- the slots of a plan
 
-abbrev plan_with : sound.Files → List Name → Range → List Slot → ℕ → Planned
+abbrev plan_with : sound.Files → List Name → Range → List Slot → ℕ → RunPlan
 plan_with files ns region rows stamp = record { standings = standings files region ns; slots = rows; stale = stale files region rows ns; stamp = stamp }
 
-slots_are : (files : sound.Files) (ns : List Name) (a : Asked) (p : Planned) → planned files ns a ≡ Ok p → slots files ns a ≡ Ok p.slots
+slots_are : (files : sound.Files) (ns : List Name) (a : Asked) (p : RunPlan) → planned files ns a ≡ Ok p → slots files ns a ≡ Ok p.slots
 unfolding planned
 slots_are files ns a p e =
     let q = bind_ok (slots files ns a) (λ rows. stamp_for files ns a (stale files a.region rows ns) >>= λ stamp. Ok (plan_with files ns a.region rows stamp)) p e in
     let r = bind_ok (stamp_for files ns a (stale files a.region q.0 ns)) (λ stamp. Ok (plan_with files ns a.region q.0 stamp)) p q.2 in
     let same : plan_with files ns a.region q.0 r.0 ≡ p = ok_same (plan_with files ns a.region q.0 r.0) p r.2 in
-    q.1 ∙ ap (λ (x : Planned). Ok x.slots) same
+    q.1 ∙ ap (λ (x : RunPlan). Ok x.slots) same
 
 abbrev wants_of : sound.Files → List Name → Range → List Want
 wants_of files ns region = wants files (candidates files region ns)
@@ -114,7 +114,7 @@ last_small : (b : Bool) (stamp last : ℕ) → stamp < 2 ^ 32 → last < 2 ^ 32 
 last_small true stamp last new old = new
 last_small false stamp last new old = old
 
-pub next_spelled : (files : Files) (p : Prelinking) (cached : Cache) (made : Planned) → p.region.end ≤ ADDRESS_LIMIT → p.moment < 2 ^ 32 → cache.is_cache cached ≡ true → are_many (keys files) ≡ false
+pub next_spelled : (files : Files) (p : Prelinking) (cached : Cache) (made : RunPlan) → p.region.end ≤ ADDRESS_LIMIT → p.moment < 2 ^ 32 → cache.is_cache cached ≡ true → are_many (keys files) ≡ false
     → planned (named files) (valid_names files) (asked_of p cached) ≡ Ok made → cache.is_cache (next_of files p cached made) ≡ true
 unfolding next_cache
 next_spelled files p cached made below moment is few e =

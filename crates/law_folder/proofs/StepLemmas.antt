@@ -25,10 +25,10 @@ use Rattle.pl_journal.specs.declared.change.Change.{Change}
 use Rattle.pl_journal.specs.declared.change.Change.TheVariants.{Put, Drop}
 use Rattle.pl_journal.proofs.NameLemmas.{equal, valid_not_own}
 use Rattle.pl_known.specs.Skips.{skip_causes}
-use Rattle.pl_plan.specs.declared.planned.Planned.{Planned}
+use Rattle.pl_plan.specs.declared.run_plan.RunPlan.{RunPlan}
 use Rattle.pl_rewrite.specs.Changes.{change, changes, is_file, next, next_cache}
 use Rattle.pl_rewrite.specs.Changes as rewriting
-use Rattle.pl_rewrite.specs.History.{Step}
+use Rattle.pl_rewrite.specs.History.{Transition}
 use Rattle.pl_rewrite.proofs.HistoryLaws as history
 use Rattle.pl_scope.proofs.NameLaws.{same_name}
 use Rattle.pl_sound.proofs.Theorems as theorems
@@ -81,7 +81,7 @@ last_kept : (v w : View) (last : ℕ) → w cache ≡ v cache → HasLast v last
 last_kept v w last is has = record { cached = has.cached; says = ap (λ (o : Option (List ℕ)). read (cache_or_none o)) is ∙ has.says; is = has.is }
 
 -- an edit is a step
-edit_step : (rows : List Change) (fs : Files) (last : ℕ) → AllByRecursion IsNamed rows → AllByRecursion IsBare rows → HasLast (get fs) last → (now : ℕ) × HasLast (applied rows (get fs)) now × Step (named (get fs)) (named (applied rows (get fs))) last now
+edit_step : (rows : List Change) (fs : Files) (last : ℕ) → AllByRecursion IsNamed rows → AllByRecursion IsBare rows → HasLast (get fs) last → (now : ℕ) × HasLast (applied rows (get fs)) now × Transition (named (get fs)) (named (applied rows (get fs))) last now
 edit_step rows fs last all bare has = (last, last_kept (get fs) (applied rows (get fs)) last (named_cache 0 rows (get fs) all) has, inr (named_edit rows every (get fs) bare, refl))
 
 undone_named : (fs : Files) → OfUndone IsNamed fs
@@ -107,7 +107,7 @@ behind_cache old new rows v n valid = by (bytes_eq old new)
     by false = cond-false (same n cache) (Some new) (mixed 1 rows every v n) (not_cache n valid) ∙ same_made 1 0 rows v n valid
 
 -- its rows are of valid names
-row_named : (f : Name → Option (List ℕ)) (region : Range) (p : Planned) (n : Name) (o : Option (List ℕ)) (rest : List Change) → is_valid_name n ≡ true → AllByRecursion IsNamed rest → AllByRecursion IsNamed (cons_option (rewriting.put (f n) n o) rest)
+row_named : (f : Name → Option (List ℕ)) (region : Range) (p : RunPlan) (n : Name) (o : Option (List ℕ)) (rest : List Change) → is_valid_name n ≡ true → AllByRecursion IsNamed rest → AllByRecursion IsNamed (cons_option (rewriting.put (f n) n o) rest)
 row_named f region p n None rest valid all = all
 row_named f region p n (Some bytes) rest valid all = by (is_file (f n) bytes)
   where
@@ -115,14 +115,14 @@ row_named f region p n (Some bytes) rest valid all = by (is_file (f n) bytes)
     by true = all
     by false = (valid, all)
 
-rows_named : (f : Name → Option (List ℕ)) (region : Range) (p : Planned) (ns : List (List ℕ)) → AllByRecursion IsNamed (filter_map (change f region p) (filter is_valid_name ns))
+rows_named : (f : Name → Option (List ℕ)) (region : Range) (p : RunPlan) (ns : List (List ℕ)) → AllByRecursion IsNamed (filter_map (change f region p) (filter is_valid_name ns))
 rows_named f region p [] = tt
 rows_named f region p (n ∷ ns) = elim (cases_Bool (is_valid_name n)) [
   | inl valid ↦ rw valid (row_named f region p n (next f region p n) (filter_map (change f region p) (filter is_valid_name ns)) valid (rows_named f region p ns))
   | inr other ↦ rw other (rows_named f region p ns)
 ]
 
-changes_named : (f : Name → Option (List ℕ)) (fs : Files) (region : Range) (p : Planned) → AllByRecursion IsNamed (changes f (valid_names fs) region p)
+changes_named : (f : Name → Option (List ℕ)) (fs : Files) (region : Range) (p : RunPlan) → AllByRecursion IsNamed (changes f (valid_names fs) region p)
 unfolding changes
 changes_named f fs region p = rows_named f region p (keys fs)
 
@@ -171,20 +171,20 @@ module _ (fs : Files) (p : Prelinking) (rows : List Change) (m : IsMade fs p row
       ap (λ (xs : List Change). cache_or_none (applied xs (get fs) cache)) m.are
       ∙ cache_made m.old (cache_bytes new) (changes f (valid_names fs) p.region m.plan) (get fs) (changes_named f fs p.region m.plan) (file_found fs m.old m.found)
 
-  all_made : (last : ℕ) → KeepsTheRule (get fs) → HasLast (get fs) last → (now : ℕ) × HasLast (applied rows (get fs)) now × Step f (named (applied rows (get fs))) last now
+  all_made : (last : ℕ) → KeepsTheRule (get fs) → HasLast (get fs) last → (now : ℕ) × HasLast (applied rows (get fs)) now × Transition f (named (applied rows (get fs))) last now
   all_made last rule has =
       let same : has.cached ≡ m.cached = ok_same has.cached m.cached (sym has.says ∙ (ap read (file_found fs m.old m.found) ∙ said m.old m.cached m.says)) in
       let last_is : m.cached.last ≡ last = ap (λ (c : Cache). c.last) (sym same) ∙ has.is in
       let path : next f p.region m.plan ≡ named (applied rows (get fs)) = λ i n. made_named n i in
-      let step : Step f (next f p.region m.plan) m.cached.last new.last = history.runs_are_steps f (valid_names fs) (asked_of p m.cached) m.plan (names_are fs) m.planned rule in (
+      let step : Transition f (next f p.region m.plan) m.cached.last new.last = history.runs_are_steps f (valid_names fs) (asked_of p m.cached) m.plan (names_are fs) m.planned rule in (
         new.last,
         record { cached = new; says = ap read made_cache ∙ read_again new m.is_spelled; is = refl },
-        subst (λ (l : ℕ). Step f (named (applied rows (get fs))) l new.last) last_is (subst (λ (after : Name → Option (List ℕ)). Step f after m.cached.last new.last) path step),
+        subst (λ (l : ℕ). Transition f (named (applied rows (get fs))) l new.last) last_is (subst (λ (after : Name → Option (List ℕ)). Transition f after m.cached.last new.last) path step),
       )
 
 -- ---- commands
 
-by_run : (asked : Run) (fs : Files) (rows : List Change) (last : ℕ) → KeepsTheRule (get fs) → HasLast (get fs) last → changes_by fs asked ≡ Ok rows → (now : ℕ) × HasLast (applied rows (get fs)) now × Step (named (get fs)) (named (applied rows (get fs))) last now
+by_run : (asked : Run) (fs : Files) (rows : List Change) (last : ℕ) → KeepsTheRule (get fs) → HasLast (get fs) last → changes_by fs asked ≡ Ok rows → (now : ℕ) × HasLast (applied rows (get fs)) now × Transition (named (get fs)) (named (applied rows (get fs))) last now
 by_run (All p) fs rows last rule has is = all_made fs p rows (made fs p rows is) last rule has
 by_run UndoAll fs rows last rule has is = edit_step rows fs last (all_undone_has IsNamed fs (undone_named fs) rows is) (all_undone_has IsBare fs (undone_bare fs) rows is) has
 by_run (Undo names) fs rows last rule has is = edit_step rows fs last (undone_rows_have IsNamed fs (undone_named fs) names rows is) (undone_rows_have IsBare fs (undone_bare fs) names rows is) has

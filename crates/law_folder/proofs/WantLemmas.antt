@@ -21,7 +21,7 @@ use Rattle.pl_object.specs.declared.object.Object.{Object}
 use Rattle.pl_plan.specs.Faults.{of_plan}
 use Rattle.pl_plan.specs.Wants.{want_of}
 use Rattle.pl_plan.specs.declared.asked.Asked.{Asked}
-use Rattle.pl_plan.specs.declared.planned.Planned.{Planned}
+use Rattle.pl_plan.specs.declared.run_plan.RunPlan.{RunPlan}
 use Rattle.pl_rewrite.specs.Laws.{AreNames}
 use Rattle.pl_rewrite.proofs.NamedLaws.{passed_at}
 use Rattle.pl_rewrite.proofs.SoundLaws.{candidate_named}
@@ -147,18 +147,18 @@ all_of (w ∷ ws) [] among = absurd among
 all_of (w ∷ ws) (n ∷ ns) (inl among) = All-cons Fits w ws among.1.0 (all_of ws ns among.1.1)
 all_of (w ∷ ws) (n ∷ ns) (inr among) = all_of (w ∷ ws) ns among
 
-abbrev plan_made : Files → List (List ℕ) → Asked → List Slot → ℕ → Planned
+abbrev plan_made : Files → List (List ℕ) → Asked → List Slot → ℕ → RunPlan
 plan_made old ns a rows stamp = record { standings = standings old a.region ns; slots = rows; stale = stale old a.region rows ns; stamp = stamp }
 
-pub planned_slots : (old : Files) (ns : List (List ℕ)) (a : Asked) (p : Planned) → planned old ns a ≡ Ok p → slots old ns a ≡ Ok p.slots
+pub planned_slots : (old : Files) (ns : List (List ℕ)) (a : Asked) (p : RunPlan) → planned old ns a ≡ Ok p → slots old ns a ≡ Ok p.slots
 unfolding planned
 planned_slots old ns a p e =
     let q = bind_ok (slots old ns a) (λ rows. stamp_for old ns a (stale old a.region rows ns) >>= λ stamp. Ok (plan_made old ns a rows stamp)) p e in
     let r = bind_ok (stamp_for old ns a (stale old a.region q.0 ns)) (λ stamp. Ok (plan_made old ns a q.0 stamp)) p q.2 in
-    q.1 ∙ ap (λ (x : Planned). Ok x.slots) (ok_same (plan_made old ns a q.0 r.0) p r.2)
+    q.1 ∙ ap (λ (x : RunPlan). Ok x.slots) (ok_same (plan_made old ns a q.0 r.0) p r.2)
 
 -- a candidate that is a library has a slot in the region
-pub candidate_slot : (old : Files) (ns : List (List ℕ)) (a : Asked) (p : Planned) (m : List ℕ) (o : Object) → AreNames old ns → planned old ns a ≡ Ok p → is_candidate old a.region m ≡ true → objects (format skip_causes) old m ≡ Ok o → is_library o.kind ≡ true → HasSlot a.region p.slots m o.span o.align
+pub candidate_slot : (old : Files) (ns : List (List ℕ)) (a : Asked) (p : RunPlan) (m : List ℕ) (o : Object) → AreNames old ns → planned old ns a ≡ Ok p → is_candidate old a.region m ≡ true → objects (format skip_causes) old m ≡ Ok o → is_library o.kind ≡ true → HasSlot a.region p.slots m o.span o.align
 candidate_slot old ns a p m o named_all plan_is candidate at library =
     let there : has (candidates old a.region ns) m ≡ true = passed_at (is_candidate old a.region) m ns (candidate_named old ns a.region m named_all candidate) ∙ candidate in
     let fits : All Fits (wants old (candidates old a.region ns)) = all_of (wants old (candidates old a.region ns)) ns (wants_among old (is_candidate old a.region) ns) in

@@ -11,7 +11,7 @@ use Rattle.pl_journal.specs.Meaning.{applied}
 use Rattle.pl_journal.specs.declared.change.Change.{Change}
 use Rattle.pl_known.specs.Plans.{planned}
 use Rattle.pl_known.specs.Skips.{skip_causes}
-use Rattle.pl_plan.specs.declared.planned.Planned.{Planned}
+use Rattle.pl_plan.specs.declared.run_plan.RunPlan.{RunPlan}
 use Rattle.pl_rewrite.specs.Changes.{from_scratch, next, next_cache}
 use Rattle.pl_batch.specs.All.{asked_of}
 use Rattle.pl_batch.specs.Changes.{changes_of}
@@ -30,7 +30,7 @@ pub record HasNext (files : Files) (p : Prelinking) (after : View) : Type 0 wher
   pub found : cache_file files ≡ Ok old
   pub cached : Cache
   pub says : cache_in old ≡ Ok cached
-  pub plan : Planned
+  pub plan : RunPlan
   pub is_planned : planned (named files) (valid_names files) (asked_of p cached) ≡ Ok plan
   pub each : (n : List ℕ) → is_valid_name n ≡ true → after n ≡ next (named files) p.region plan n
   pub keeps : cache_or_none (after cache) ≡ cache_bytes (next_cache (named files) (valid_names files) p.region cached.last plan)

@@ -16,7 +16,7 @@ use Rattle.pl_form.specs.declared.constants.TheConstants.{STORED}
 use Rattle.pl_known.specs.Plans.{is_candidate, planned}
 use Rattle.pl_known.specs.Skips.{skip_causes}
 use Rattle.pl_object.specs.declared.object.Object.{Object}
-use Rattle.pl_plan.specs.declared.planned.Planned.{Planned}
+use Rattle.pl_plan.specs.declared.run_plan.RunPlan.{RunPlan}
 use Rattle.pl_rewrite.specs.Changes.{next, numbers, prelinked}
 use Rattle.pl_rewrite.specs.Reports.{marked_at}
 use Rattle.pl_scope.specs.Members.{names}
@@ -27,7 +27,7 @@ use Rattle.pl_sound.specs.Rule.{Member, objects, walk_in}
 use Rattle.law_folder.specs.Causes.{IsAsked}
 
 -- a run plans this over files that are bytes, by a cache that has a spelling; slots may be shared or not
-pub record HasPlan (files : Files) (p : Prelinking) (plan : Planned) : Type 0 where
+pub record HasPlan (files : Files) (p : Prelinking) (plan : RunPlan) : Type 0 where
   pub bytes : (n file : List ℕ) → get files n ≡ Some file → IsBytes file
   pub asked : IsAsked p
   pub cached : Cache
@@ -35,11 +35,11 @@ pub record HasPlan (files : Files) (p : Prelinking) (plan : Planned) : Type 0 wh
   pub is : planned (named files) (valid_names files) (asked_of p cached) ≡ Ok plan
 
 -- the members of a walk, each with its original, and with the slot and stamp that are planned for it
-abbrev pub members_by : sound.Files → Range → Planned → Walked → List Member
+abbrev pub members_by : sound.Files → Range → RunPlan → Walked → List Member
 members_by files region plan walked = map (planned_member (format skip_causes) files (numbers files region plan)) (names walked)
 
 -- A name is a program's, each step of the definition of its file has a value, and the file is longer than a folder stores.
-pub record IsTooLong (files : sound.Files) (region : Range) (plan : Planned) (n : List ℕ) : Type 0 where
+pub record IsTooLong (files : sound.Files) (region : Range) (plan : RunPlan) (n : List ℕ) : Type 0 where
   pub object : Object
   pub at : objects (format skip_causes) files n ≡ Ok object
   pub program : object.kind ≡ Program
@@ -55,9 +55,9 @@ pub record IsTooLong (files : sound.Files) (region : Range) (plan : Planned) (n 
 -- only such a candidate has no prelinked file,
 abbrev pub CandidatesArePrelinked : Type 0
 CandidatesArePrelinked =
-    (files : Files) (p : Prelinking) (plan : Planned) → HasPlan files p plan → (n : List ℕ) → is_candidate (named files) p.region n ≡ true → prelinked (named files) p.region plan n ≡ None → IsTooLong (named files) p.region plan n
+    (files : Files) (p : Prelinking) (plan : RunPlan) → HasPlan files p plan → (n : List ℕ) → is_candidate (named files) p.region n ≡ true → prelinked (named files) p.region plan n ≡ None → IsTooLong (named files) p.region plan n
 
 -- and after the run every other candidate's file bears a mark
 abbrev pub CandidatesAreMarked : Type 0
 CandidatesAreMarked =
-    (files : Files) (p : Prelinking) (plan : Planned) → HasPlan files p plan → (n : List ℕ) → is_candidate (named files) p.region n ≡ true → marked_at (next (named files) p.region plan n) ≡ None → IsTooLong (named files) p.region plan n
+    (files : Files) (p : Prelinking) (plan : RunPlan) → HasPlan files p plan → (n : List ℕ) → is_candidate (named files) p.region n ≡ true → marked_at (next (named files) p.region plan n) ≡ None → IsTooLong (named files) p.region plan n

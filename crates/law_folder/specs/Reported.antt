@@ -10,7 +10,7 @@ use Rattle.pl_batch.specs.declared.prelinking.Prelinking.{Prelinking}
 use Rattle.pl_cone.specs.declared.skip.Skip.TheVariants.{Form}
 use Rattle.pl_elf.specs.declared.range.Range.{Range}
 use Rattle.pl_known.specs.Plans.{is_candidate}
-use Rattle.pl_plan.specs.declared.planned.Planned.{Planned}
+use Rattle.pl_plan.specs.declared.run_plan.RunPlan.{RunPlan}
 use Rattle.pl_rewrite.specs.declared.report.Report.{Report}
 use Rattle.pl_rewrite.specs.declared.report.ReportRow.{ReportRow}
 use Rattle.pl_rewrite.specs.declared.report.RowState.{RowState}
@@ -26,18 +26,18 @@ SaysPrelinked (Program current conflicts) = ⊤
 SaysPrelinked (Skipped cause) = ⊥
 
 -- the name is skipped as the program whose file is too long that it is
-pub record SaysTooLong (files : sound.Files) (region : Range) (plan : Planned) (row : ReportRow) : Type 0 where
+pub record SaysTooLong (files : sound.Files) (region : Range) (plan : RunPlan) (row : ReportRow) : Type 0 where
   pub says : row.state ≡ Skipped (Form row.name 6)
   pub is : IsTooLong files region plan row.name
 
 -- a name that may be prelinked is said to be prelinked, or too long; and of no other name is the sixth form fault said
-pub record TellsName (files : sound.Files) (region : Range) (plan : Planned) (row : ReportRow) : Type 0 where
+pub record TellsName (files : sound.Files) (region : Range) (plan : RunPlan) (row : ReportRow) : Type 0 where
   pub candidate : is_candidate files region row.name ≡ true → SaysPrelinked row.state ⊎ SaysTooLong files region plan row
   pub sixth : (m : List ℕ) → row.state ≡ Skipped (Form m 6) → SaysTooLong files region plan row
 
 -- by the plan of the run
 pub record TellsNames (files : Files) (p : Prelinking) (report : Report) : Type 0 where
-  pub plan : Planned
+  pub plan : RunPlan
   pub planned : HasPlan files p plan
   pub each : All (TellsName (named files) p.region plan) report.rows
 

@@ -10,7 +10,7 @@ use Rattle.pl_folder.specs.Disk.{View}
 use Rattle.pl_journal.specs.Meaning.{applied}
 use Rattle.pl_journal.specs.declared.change.Change.{Change}
 use Rattle.pl_known.specs.Skips.{skip_causes}
-use Rattle.pl_rewrite.specs.History.{Step}
+use Rattle.pl_rewrite.specs.History.{Transition}
 use Rattle.pl_sound.specs.Plan.{IsBounded}
 use Rattle.pl_batch.specs.Changes.{removal_meant, run_meant}
 use Rattle.pl_batch.specs.Commands.{Meaning}
@@ -35,7 +35,7 @@ pub record HasLast (v : View) (last : ℕ) : Type 0 where
 -- what a command makes of a folder that keeps the rule and has this last stamp: a step to files whose cache has the last stamp of the step
 abbrev pub MakesStep : {C : Type 0} → Meaning C → Type 0
 MakesStep meant =
-    (before : Files) (rows : List Change) (last : ℕ) → KeepsTheRule (get before) → HasLast (get before) last → meant before ≡ Ok rows → (now : ℕ) × HasLast (applied rows (get before)) now × Step (named (get before)) (named (applied rows (get before))) last now
+    (before : Files) (rows : List Change) (last : ℕ) → KeepsTheRule (get before) → HasLast (get before) last → meant before ≡ Ok rows → (now : ℕ) × HasLast (applied rows (get before)) now × Transition (named (get before)) (named (applied rows (get before))) last now
 
 abbrev pub RunsMakeSteps : Type 0
 RunsMakeSteps = (asked : Run) → MakesStep (run_meant asked)

@@ -35,7 +35,7 @@ use Rattle.pl_loader.specs.declared.fault.LoadFault.{LoadFault}
 use Rattle.pl_weave.specs.Given.{first_by, first_of, given_from, given_of}
 use Rattle.pl_cli.specs.Answer.{done, refuses, load_answer}
 use Rattle.pl_cli.specs.Files.{valid_file, of_file, file_in}
-use Rattle.pl_cli.specs.Load.{choice, loaded, loading_file}
+use Rattle.pl_cli.specs.Load.{choice, load_result, loading_file}
 use Rattle.pl_cli.specs.LoadText.{head_text, load_text}
 use Rattle.pl_cli.specs.declared.cause.Cause.{Cause}
 use Rattle.pl_cli.specs.declared.cause.Cause.TheVariants as cause
@@ -199,7 +199,7 @@ unfolding loading_file
 loads_given policy files name = gives_given (choice policy) (valid_file files) cause.Load (file_in files) name (gives files)
 
 pub answers_are_ordinary : {F : Type 0} → AnswersAreOrdinary F
-unfolding loaded ordinary
+unfolding load_result ordinary
 answers_are_ordinary causes files input name busy policy rule =
     by (not (is_valid_name name))
     (loads_are_ordinary causes (loading_folder (choice policy) (valid_file files) name) (choice policy) busy cause.Load (loading_file policy files name) name (loads_given policy files name) (rule_given causes (choice policy) (valid_file files) name rule))

@@ -17,7 +17,7 @@ use Rattle.pl_sound.specs.Rule as sound
 use Rattle.pl_sound.specs.Rule.{Files, Row, mark_at, original_at, slot_of, stamp_of, row_at, row_eq, is_marked, tells_walk, matches, walk_in}
 use Rattle.pl_conflict.specs.Format as format
 use Rattle.pl_conflict.specs.Format.{Causes, mark_in, row_of, slot_at, others_in, libraries}
-use Rattle.pl_loader.specs.Fast.{is_row_of, tells_one, are_rows_of, tells, is_slot_of, is_at_slot, are_at_slots, is_fast_by, is_fast}
+use Rattle.pl_loader.specs.Fast.{is_row_of, tells_one, are_rows_of, lists_libraries, is_slot_of, is_at_slot, are_at_slots, is_fast_by, is_fast}
 use Rattle.pl_loader.specs.Loading.{IsLibrary}
 use Rattle.pl_loader.specs.declared.object_file.Mark.{Mark}
 use Rattle.pl_loader.specs.declared.object_file.ObjectFile.{ObjectFile}
@@ -116,9 +116,9 @@ one_is causes folder name f row t library =
 
 -- the folder's test of a list and the names of libraries
 abbrev tells_names : {F : Type 0} → Causes F → Files → List ListRow → List ObjectFile → Bool
-tells_names causes folder list fs = sound.tells (format.format causes) folder (map row_of list) (names (walk_of fs))
+tells_names causes folder list fs = sound.lists_members (format.format causes) folder (map row_of list) (names (walk_of fs))
 
-tells_same : {F : Type 0} (causes : Causes F) (folder : Files) (name : List ℕ) (list : List ListRow) (fs : List ObjectFile) → All (IsTaken causes folder name) fs → All IsLibrary fs → tells list fs ≡ tells_names causes folder list fs
+tells_same : {F : Type 0} (causes : Causes F) (folder : Files) (name : List ℕ) (list : List ListRow) (fs : List ObjectFile) → All (IsTaken causes folder name) fs → All IsLibrary fs → lists_libraries list fs ≡ tells_names causes folder list fs
 unfolding are_rows_of
 tells_same causes folder name [] [] taken kinds = refl
 tells_same causes folder name [] (f ∷ fs) taken kinds = ap (λ (b : Bool). b && true) (none_more (length fs)) ∙ no_more (list_all (is_marked (format.format causes) folder) (names (walk_of (f ∷ fs))))

@@ -10,7 +10,7 @@ use Rattle.pl_place.specs.declared.fault.PlaceFault.TheVariants.{NoPlace}
 use Rattle.pl_slots.specs.Holes.{without}
 use Rattle.pl_slots.specs.declared.slot.Want.{Want}
 use Rattle.pl_loader.specs.Faults.{of_place}
-use Rattle.pl_loader.specs.Places.{own_place, own_range, own_places, wants_left, joined, taken_first, holes_beside, wants_beside, all_places, places}
+use Rattle.pl_loader.specs.Places.{slot_place, range_at_slot, slot_places, wants_left, joined, taken_first, holes_beside, wants_beside, all_places, places}
 use Rattle.pl_loader.specs.declared.object_file.ObjectFile.{ObjectFile}
 use Rattle.law_loads.specs.Paths.{AreAt}
 use Rattle.law_loads.specs.Loads.{PlacesAreAt}
@@ -26,13 +26,13 @@ chosen_size choose holes (want ∷ wants) starts is =
     ap length (sym (ok_same (p.0 ∷ q.0) starts q.2)) ∙ ap suc rest
 
 -- a library's own place, or one of those
-joined_size : (taken : List Range) (fs : List ObjectFile) (starts : List ℕ) → length starts ≡ length (wants_left fs (own_places taken fs)) → length (joined (own_places taken fs) starts) ≡ length fs
-unfolding own_places wants_left joined
+joined_size : (taken : List Range) (fs : List ObjectFile) (starts : List ℕ) → length starts ≡ length (wants_left fs (slot_places taken fs)) → length (joined (slot_places taken fs) starts) ≡ length fs
+unfolding slot_places wants_left joined
 joined_size taken [] starts size = refl
-joined_size taken (f ∷ fs) starts size = by (own_place taken f) starts (λ own more few. joined_size (taken ++ own_range f own) fs more few) size
+joined_size taken (f ∷ fs) starts size = by (slot_place taken f) starts (λ own more few. joined_size (taken ++ range_at_slot f own) fs more few) size
   where
-    by : (own : Option ℕ) (starts : List ℕ) → ((own : Option ℕ) (more : List ℕ) → length more ≡ length (wants_left fs (own_places (taken ++ own_range f own) fs)) → length (joined (own_places (taken ++ own_range f own) fs) more) ≡ length fs)
-        → length starts ≡ length (wants_left (f ∷ fs) (own ∷ own_places (taken ++ own_range f own) fs)) → length (joined (own ∷ own_places (taken ++ own_range f own) fs) starts) ≡ suc (length fs)
+    by : (own : Option ℕ) (starts : List ℕ) → ((own : Option ℕ) (more : List ℕ) → length more ≡ length (wants_left fs (slot_places (taken ++ range_at_slot f own) fs)) → length (joined (slot_places (taken ++ range_at_slot f own) fs) more) ≡ length fs)
+        → length starts ≡ length (wants_left (f ∷ fs) (own ∷ slot_places (taken ++ range_at_slot f own) fs)) → length (joined (own ∷ slot_places (taken ++ range_at_slot f own) fs) starts) ≡ suc (length fs)
     by (Some slot) starts rest size = ap suc (rest (Some slot) starts size)
     by None [] rest size = absurd (omega (arith, size))
     by None (start ∷ starts) rest size = ap suc (rest None starts (omega (arith, size)))

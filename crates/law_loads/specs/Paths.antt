@@ -10,7 +10,7 @@ use Rattle.pl_scope.specs.Scope.{objects}
 use Rattle.pl_scope.specs.Walk.{Walked}
 use Rattle.pl_sound.specs.Rule.{Files, walk_in}
 use Rattle.pl_tls.specs.declared.module.Module.{Module}
-use Rattle.pl_value.specs.Ordinary.{loaded}
+use Rattle.pl_value.specs.Ordinary.{loaded_objects}
 use Rattle.pl_conflict.specs.Complete.{file_at, files_in, originals_in, rows_of}
 use Rattle.pl_conflict.specs.Format.{Causes, format}
 use Rattle.pl_conflict.specs.Standing.{standing_image}
@@ -86,7 +86,7 @@ linked_start fast all places modules memory = record {
   modules = map (tls_module all) modules;
   entry = entry_of all;
   memory = memory;
-  extents = extents_of (loaded places (parts_of all) (objects_of all));
+  extents = extents_of (loaded_objects places (parts_of all) (objects_of all));
 }
 
 -- the originals are linked at any places; the word is what a test of the places says

@@ -31,7 +31,7 @@ use Rattle.pl_folder.specs.declared.fault.FolderFault.TheVariants as folder_faul
 use Rattle.pl_folder.specs.declared.TheConstants.{STORED}
 use Rattle.pl_journal.specs.Meaning.{HasNoOwn}
 use Rattle.pl_journal.proofs.RecoverParts.{looking}
-use Rattle.pl_journal.specs.Names.{is_own}
+use Rattle.pl_journal.specs.Names.{is_journal_name}
 use Rattle.pl_journal.proofs.Done.{row_not_own}
 use Rattle.pl_batch.specs.Answers.{Finds, BatchMeansAlone}
 use Rattle.pl_batch.specs.Copied.{IsCopy, are_bulky, cache_entry, cache_there, copied, copied_by, kept}
@@ -240,7 +240,7 @@ all_valid (k ∷ ks) = by (is_valid_name k) refl (all_valid ks)
     by false is rest = rest
 
 -- a valid name is none of the journal's own, nor is the cache's
-valid_other : (k : List ℕ) → is_valid_name k ≡ true → is_own k ≡ false
+valid_other : (k : List ℕ) → is_valid_name k ≡ true → is_journal_name k ≡ false
 valid_other k valid = row_not_own k (ap (λ (b : Bool). b || same k cache) valid)
 
 cache_not_valid : false ≡ is_valid_name cache
@@ -289,26 +289,26 @@ module _ (found : Option (List ℕ)) where
   named_copies (c ∷ cs) valid = and_from (has_name_length (name c)) (list_all (λ (e : List ℕ × List ℕ). has_name_length e.0) (map file_entry cs ++ cache_entry found)) (has_length (name c) valid.0) (named_copies cs valid.1)
 
   -- none of the files has a name of the journal's own
-  apart_from : (q : List ℕ) (ks : List (List ℕ)) → is_own q ≡ true → AreValid ks → AllByRecursion (λ k. same q k ≡ false) ks
+  apart_from : (q : List ℕ) (ks : List (List ℕ)) → is_journal_name q ≡ true → AreValid ks → AllByRecursion (λ k. same q k ≡ false) ks
   apart_from q [] own valid = tt
   apart_from q (k ∷ ks) own valid = (
     elim (cases_Bool (same q k)) [
-      | inl hit ↦ absurd (false≢true (sym (valid_other k valid.0) ∙ ap is_own (sym (same_name q k hit)) ∙ own))
+      | inl hit ↦ absurd (false≢true (sym (valid_other k valid.0) ∙ ap is_journal_name (sym (same_name q k hit)) ∙ own))
       | inr miss ↦ miss
     ],
     apart_from q ks own valid.1,
   )
 
-  cache_not_own : false ≡ is_own cache
+  cache_not_own : false ≡ is_journal_name cache
   cache_not_own = refl
 
-  own_not_cache : (q : List ℕ) → is_own q ≡ true → same q cache ≡ false
+  own_not_cache : (q : List ℕ) → is_journal_name q ≡ true → same q cache ≡ false
   own_not_cache q own = elim (cases_Bool (same q cache)) [
-    | inl hit ↦ absurd (false≢true (cache_not_own ∙ ap is_own (sym (same_name q cache hit)) ∙ own))
+    | inl hit ↦ absurd (false≢true (cache_not_own ∙ ap is_journal_name (sym (same_name q cache hit)) ∙ own))
     | inr miss ↦ miss
   ]
 
-  no_own_at : (q : List ℕ) (copies : List File) → is_own q ≡ true → AreValid (names_of copies) → at q (map file_entry copies ++ cache_entry found) ≡ None
+  no_own_at : (q : List ℕ) (copies : List File) → is_journal_name q ≡ true → AreValid (names_of copies) → at q (map file_entry copies ++ cache_entry found) ≡ None
   no_own_at q copies own valid = at_rest q copies (apart_from q (names_of copies) own valid) ∙ no_cache_at q (own_not_cache q own)
 
 abbrev AreSmall : List (List ℕ × List ℕ) → Type 0

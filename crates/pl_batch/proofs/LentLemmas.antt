@@ -40,7 +40,7 @@ pub returned : {e : Ending} {P : Effect} (m n : ℕ) {a b : Seen} → Calls e P 
 returned m n {a = a} {b = b} call = record {
   tells = call.tells;
   records = call.records;
-  place = sym (second_of m a.place n b.place (sym call.place));
+  referent = sym (second_of m a.referent n b.referent (sym call.referent));
   files = call.files;
   disk = call.disk;
   count = call.count;

@@ -5,7 +5,7 @@ use Rattle.std.specs.FinMap.{get}
 use Rattle.pl_base.specs.Answers.{◌>>=◌}
 use Rattle.pl_base.specs.Files.{Files}
 use Rattle.pl_folder.specs.Calls.{Calls}
-use Rattle.pl_folder.specs.Disk.{Disk, IsImage, State, View, read}
+use Rattle.pl_folder.specs.Disk.{Disk, IsCrashImage, State, View, read}
 use Rattle.pl_folder.specs.Seen.{Seen, Ending, Done, Broken, Undone, IsFolder}
 use Rattle.pl_folder.specs.Since.{Keeps}
 use Rattle.pl_journal.specs.Faults.{IsNotBad, journal_ending}
@@ -99,7 +99,7 @@ module _ (first next : Meaning Cause) where
                 let at = below told before is in
                 record {
                   means = meant_found before (Err cause) at (one.1 before is) (found.means (start.tells ∙ law.tells told));
-                  only = λ w image n. is n ∙ one.0.1.settled.only w (subst (λ (s : State). IsImage s w) two.now image) n;
+                  only = λ w image n. is n ∙ one.0.1.settled.only w (subst (λ (s : State). IsCrashImage s w) two.now image) n;
                   on_the_way = joined a.disk b.disk c.disk (StandsFor (read a.disk.now)) one.0.0 (looks_keep b.disk c.disk (StandsFor (read a.disk.now)) one.0.0.now two);
                   quiet = quiet_looks a.disk b.disk c.disk two one.2;
                 },

@@ -1,6 +1,6 @@
 -- Settles, and calls that only read.
 use Rattle.std.proofs.Common.{◌≡◌, inl, inr, ⊎_elim, true, refl, sym, ◌∙◌, ap, subst, arith}
-use Rattle.pl_folder.specs.Disk.{View, IsImage, Disk, Shows, State, after, kept, read}
+use Rattle.pl_folder.specs.Disk.{View, IsCrashImage, Disk, Shows, State, after, kept, read}
 use Rattle.pl_folder.specs.Seen.{Seen, IsFolder}
 use Rattle.pl_folder.specs.States.{settled}
 use Rattle.pl_folder.proofs.ImageLaws.{read_image, settled_within}
@@ -10,14 +10,14 @@ use Rattle.pl_journal.specs.Parts.{IsQuiet, IsRested}
 use Rattle.pl_batch.specs.Quiet.{OnlySettles, WritesNothing}
 
 -- an image of a settled state is one of the state
-settled_was : (s : State) (v : View) → IsImage (settled s) v → IsImage s v
+settled_was : (s : State) (v : View) → IsCrashImage (settled s) v → IsCrashImage s v
 settled_was s v image =
     let same = settled_within s (Same (read s)) (λ n. refl) v image in
     let was = read_image s in
     record { keep = was.keep; shows = λ n. subst (Shows s.files (kept was.keep s.changes s.base n)) (same n) (was.shows n) }
 
-was_settled : (s t : State) (v : View) → t ≡ settled s → IsImage t v → IsImage s v
-was_settled s t v is image = settled_was s v (subst (λ (x : State). IsImage x v) is image)
+was_settled : (s t : State) (v : View) → t ≡ settled s → IsCrashImage t v → IsCrashImage s v
+was_settled s t v is image = settled_was s v (subst (λ (x : State). IsCrashImage x v) is image)
 
 -- a settle, and one call that reads
 two_calls : (d : Disk) → OnlySettles d (after (settled d.now) (after (settled d.now) d))

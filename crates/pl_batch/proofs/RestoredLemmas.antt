@@ -5,7 +5,7 @@ use Rattle.std.specs.FinMap.{get, get-insert, get-remove, get-retain_keys, nat_c
 use Rattle.std.specs.Cmp.Lexicographic.{nat_list_cmp_total}
 use Rattle.pl_base.specs.Files.{Files}
 use Rattle.pl_folder.specs.Disk.{Name, same}
-use Rattle.pl_journal.specs.Names.{beside, is_own, journal}
+use Rattle.pl_journal.specs.Names.{beside, is_journal_name, journal}
 use Rattle.pl_journal.specs.Rows.{all_done, clean, done_from, recovered, rows_in}
 use Rattle.pl_journal.specs.declared.row.Row.{Row}
 use Rattle.pl_journal.specs.declared.row.Row.TheVariants.{Put, Drop}
@@ -37,12 +37,12 @@ turned : (b : Bool) (x : Option (List ℕ)) → cond (not b) x None ≡ cond b N
 turned true x = refl
 turned false x = refl
 
-cleaned_files : (m : Files) (n : Name) → get (retain_keys m (λ n. not (is_own n))) n ≡ clean (get m) n
-cleaned_files m n = get-retain_keys m (λ n. not (is_own n)) n (λ x tie. ap (λ (y : Name). not (is_own y)) (sym (slice_cmp-IsAntisymmetric nat_cmp-IsAntisymmetric n x tie))) ∙ turned (is_own n) (get m n)
+cleaned_files : (m : Files) (n : Name) → get (retain_keys m (λ n. not (is_journal_name n))) n ≡ clean (get m) n
+cleaned_files m n = get-retain_keys m (λ n. not (is_journal_name n)) n (λ x tie. ap (λ (y : Name). not (is_journal_name y)) (sym (slice_cmp-IsAntisymmetric nat_cmp-IsAntisymmetric n x tie))) ∙ turned (is_journal_name n) (get m n)
 
 by_rows : (o : Option (List Row)) (files : Files) (n : Name) → get (restored_by o files) n ≡ all_done o (get files) n
 by_rows None files n = refl
-by_rows (Some rows) files n = cleaned_files (with_done 0 rows files) n ∙ ap (λ (x : Option (List ℕ)). cond (is_own n) None x) (all_rows 0 rows files n)
+by_rows (Some rows) files n = cleaned_files (with_done 0 rows files) n ∙ ap (λ (x : Option (List ℕ)). cond (is_journal_name n) None x) (all_rows 0 rows files n)
 
 pub restored_before : RestoredIsBefore
 unfolding restored recovered

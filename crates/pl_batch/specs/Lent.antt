@@ -8,4 +8,4 @@ both a b = (a + b) * (a + b) + a
 
 -- the folder, and where the reference points
 abbrev pub lent : ℕ → Seen → Seen
-lent name seen = record { tells = seen.tells; records = seen.records; files = seen.files; disk = seen.disk; faults = seen.faults; place = both name seen.place }
+lent name seen = record { tells = seen.tells; records = seen.records; files = seen.files; disk = seen.disk; faults = seen.faults; referent = both name seen.referent }

@@ -3,7 +3,7 @@ use Rattle.std.specs.Prelude.{◌≡◌, ℕ, ◌+◌, not, List, [], ◌∷◌,
 use Rattle.std.specs.FinMap.{get, insert, remove, retain_keys}
 use Rattle.pl_base.specs.Files.{Files}
 use Rattle.pl_folder.specs.Disk.{Name}
-use Rattle.pl_journal.specs.Names.{beside, is_own, journal}
+use Rattle.pl_journal.specs.Names.{beside, is_journal_name, journal}
 use Rattle.pl_journal.specs.Rows.{rows_in}
 use Rattle.pl_journal.specs.declared.row.Row.{Row}
 use Rattle.pl_journal.specs.declared.row.Row.TheVariants.{Put, Drop}
@@ -22,7 +22,7 @@ with_done i (Drop name ∷ rows) files = remove (with_done (i + 1) rows files) n
 
 abbrev pub restored_by : Option (List Row) → Files → Files
 restored_by None files = files
-restored_by (Some rows) files = retain_keys (with_done 0 rows files) (λ n. not (is_own n))
+restored_by (Some rows) files = retain_keys (with_done 0 rows files) (λ n. not (is_journal_name n))
 
 unfoldable pub restored : Files → Files
 restored files = restored_by (rows_in (get files journal)) files

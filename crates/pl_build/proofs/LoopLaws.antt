@@ -3,7 +3,7 @@ use Rattle.std.proofs.Common.{◌≡◌, ℕ, ◌+◌, ◌≤◌, ◌<◌, List,
 use Rattle.std.proofs.lemmas.Bool.{cases_Bool}
 use Rattle.pl_base.specs.Each.{run}
 use Rattle.pl_base.proofs.RunLaws.{run_fails}
-use Rattle.pl_build.specs.declared.line.Symbol.{Symbol}
+use Rattle.pl_build.specs.declared.line.SymbolLine.{SymbolLine}
 use Rattle.pl_build.specs.Symbols.{kept}
 use Rattle.std.specs.Prelude.{cond, IfSome, Option, Some, None, Result, Err}
 use Rattle.std.specs.List.{fold, filter, flat_map, range_with_len}
@@ -74,12 +74,12 @@ filter_less {X = X} p out xs i x whole lt is miss so_far =
     sym (ap (λ (u : List X). out ++ u) one) ∙ so_far
 
 -- a row that is kept where it passes
-pub kept_more : (p : Symbol → Bool) (out new : List Symbol) (xs : List Symbol) (i : ℕ) (x : Symbol) (whole : List Symbol) → i < length xs → x ≡ get_or xs i x → new ≡ kept (p x) x out
+pub kept_more : (p : SymbolLine → Bool) (out new : List SymbolLine) (xs : List SymbolLine) (i : ℕ) (x : SymbolLine) (whole : List SymbolLine) → i < length xs → x ≡ get_or xs i x → new ≡ kept (p x) x out
     → out ++ filter p (drop i xs) ≡ whole → new ++ filter p (drop (i + 1) xs) ≡ whole
 kept_more p out new xs i x whole lt is step so_far =
     elim (cases_Bool (p x)) [
-      | inl passes ↦ ap (λ (u : List Symbol). u ++ filter p (drop (i + 1) xs)) (step ∙ ap (λ (b : Bool). kept b x out) passes) ∙ filter_more p out xs i x whole lt is passes so_far
-      | inr miss ↦ ap (λ (u : List Symbol). u ++ filter p (drop (i + 1) xs)) (step ∙ ap (λ (b : Bool). kept b x out) miss) ∙ filter_less p out xs i x whole lt is miss so_far
+      | inl passes ↦ ap (λ (u : List SymbolLine). u ++ filter p (drop (i + 1) xs)) (step ∙ ap (λ (b : Bool). kept b x out) passes) ∙ filter_more p out xs i x whole lt is passes so_far
+      | inr miss ↦ ap (λ (u : List SymbolLine). u ++ filter p (drop (i + 1) xs)) (step ∙ ap (λ (b : Bool). kept b x out) miss) ∙ filter_less p out xs i x whole lt is miss so_far
     ]
 
 pub filter_done : {X : Type 0} (p : X → Bool) (out : List X) (xs : List X) (i : ℕ) (whole : List X) → length xs ≤ i → out ++ filter p (drop i xs) ≡ whole → out ≡ whole

@@ -9,7 +9,7 @@ use Rattle.pl_build.specs.Words.{lines_of}
 use Rattle.pl_build.specs.Grammar.{line}
 use Rattle.pl_build.specs.Checks.{first_fault}
 use Rattle.pl_build.specs.Recipe.{gathered}
-use Rattle.pl_build.specs.Plan.{plan_of}
+use Rattle.pl_build.specs.LayoutPlan.{plan_of}
 use Rattle.pl_build.specs.File.{made}
 
 -- the fault of a recipe that an answer tells; a want of memory tells none

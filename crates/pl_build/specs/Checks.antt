@@ -10,7 +10,7 @@ use Rattle.pl_build.specs.declared.line.Line.{Line}
 use Rattle.pl_build.specs.declared.line.Line.TheVariants.{Wrong, Empty, First, Usual, Hash, Buckets, Spare, Symbolic, Entry, Data, Bss, Put, Tls, Version, Names, Relocates, Packs}
 use Rattle.pl_build.specs.declared.line.Addend.{Addend}
 use Rattle.pl_build.specs.declared.line.PackedWord.{PackedWord}
-use Rattle.pl_build.specs.declared.line.Symbol.{Symbol}
+use Rattle.pl_build.specs.declared.line.SymbolLine.{SymbolLine}
 use Rattle.pl_build.specs.RelocationLines.{is_no_symbol}
 
 -- ---- kind 1: the first line says what the file is, and no other does. A static program has no more than data and an entry
@@ -76,7 +76,7 @@ defines name (Version v) = bytes_eq v name
 defines name _ = false
 
 -- a symbol with a version that the recipe is to define
-unfoldable pub wants_version : Symbol → Bool
+unfoldable pub wants_version : SymbolLine → Bool
 wants_version s = not (length s.version == 0) && length s.file == 0
 
 -- a relocation by a symbol that no line names, or a symbol with a version that no line defines

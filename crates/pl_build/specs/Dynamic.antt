@@ -8,14 +8,14 @@ use Rattle.pl_sym.specs.declared.constants.TheConstants.{SYMBOL_SIZE}
 use Rattle.pl_elf.specs.declared.constants.TheConstants.{RELA_SIZE, RELR_SIZE}
 use Rattle.pl_build.specs.declared.fields.Field.TheVariants.{Xword}
 use Rattle.pl_build.specs.declared.roles.Role.TheVariants.{Null}
-use Rattle.pl_build.specs.declared.roles.Place.{Place}
-use Rattle.pl_build.specs.declared.plan.Plan.{Plan}
+use Rattle.pl_build.specs.declared.roles.PlacedSection.{PlacedSection}
+use Rattle.pl_build.specs.declared.layout_plan.LayoutPlan.{LayoutPlan}
 use Rattle.pl_build.specs.declared.recipe.Settings.{Settings}
 use Rattle.pl_build.specs.Choices.{chosen}
 use Rattle.pl_build.specs.Fields.{fields}
 use Rattle.pl_build.specs.FileKinds.{is_program, is_pie}
 use Rattle.pl_build.specs.Roles.{has_name}
-use Rattle.pl_build.specs.Strings.{text_at}
+use Rattle.pl_build.specs.StringTable.{text_at}
 
 unfoldable pub tag_bytes : Tag → List ℕ
 tag_bytes tag = fields (Xword tag.number ∷ Xword tag.value ∷ [])
@@ -25,26 +25,26 @@ tag number value = record { number = number; value = value }
 
 -- ---- where a section stands
 
-abbrev pub is_at : List ℕ → Place → Bool
+abbrev pub is_at : List ℕ → PlacedSection → Bool
 is_at name place = has_name name place.role
 
 -- the null section's place, of no bytes
-abbrev pub null_place : Place
+abbrev pub null_place : PlacedSection
 null_place = record { role = Null; addr = 0; offset = 0; size = 0 }
 
 -- a section of no bytes is not there
-unfoldable pub place_of : List Place → List ℕ → Place
+unfoldable pub place_of : List PlacedSection → List ℕ → PlacedSection
 place_of places name = unwrap_or (find (is_at name) places) null_place
 
-abbrev pub is_there : Place → Bool
+abbrev pub is_there : PlacedSection → Bool
 is_there place = not (place.size == 0)
 
 -- ---- the tags
 
-unfoldable pub needed_tags : Plan → List Tag
+unfoldable pub needed_tags : LayoutPlan → List Tag
 needed_tags p = map (λ name. tag DT_NEEDED (text_at p.strings name)) p.needed
 
-unfoldable pub table_tags : Plan → List Place → List Tag
+unfoldable pub table_tags : LayoutPlan → List PlacedSection → List Tag
 table_tags p places =
     let hash = place_of places (codes ".hash") in
     let gnu_hash = place_of places (codes ".gnu.hash") in
@@ -55,7 +55,7 @@ table_tags p places =
     ∷ (true, tag DT_STRTAB strings.addr) ∷ (true, tag DT_SYMTAB symbols.addr) ∷ (true, tag DT_STRSZ strings.size)
     ∷ (true, tag DT_SYMENT SYMBOL_SIZE) ∷ (p.settings.symbolic, tag DT_SYMBOLIC 0) ∷ [])
 
-unfoldable pub relocation_tags : List Place → List Tag
+unfoldable pub relocation_tags : List PlacedSection → List Tag
 relocation_tags places =
     let slots = place_of places (codes ".rela.plt") in
     let others = place_of places (codes ".rela.dyn") in
@@ -63,14 +63,14 @@ relocation_tags places =
     (is_there slots, tag DT_PLTRELSZ slots.size) ∷ (is_there slots, tag DT_PLTREL DT_RELA) ∷ (is_there slots, tag DT_JMPREL slots.addr)
     ∷ (is_there others, tag DT_RELA others.addr) ∷ (is_there others, tag DT_RELASZ others.size) ∷ (is_there others, tag DT_RELAENT RELA_SIZE) ∷ [])
 
-unfoldable pub packed_tags : List Place → List Tag
+unfoldable pub packed_tags : List PlacedSection → List Tag
 packed_tags places =
     let packed = place_of places (codes ".relr.dyn") in
     chosen (
     (is_there packed, tag DT_RELR packed.addr) ∷ (is_there packed, tag DT_RELRSZ packed.size) ∷ (is_there packed, tag DT_RELRENT RELR_SIZE) ∷ [])
 
 -- the base counts among the versions that are defined
-unfoldable pub version_tags : Plan → List Place → List Tag
+unfoldable pub version_tags : LayoutPlan → List PlacedSection → List Tag
 version_tags p places =
     let words = place_of places (codes ".gnu.version") in
     let defined = place_of places (codes ".gnu.version_d") in
@@ -84,7 +84,7 @@ version_tags p places =
 unfoldable pub flags_1 : Settings → ℕ
 flags_1 s = (if s.usual then DF_1_NOW else 0) + (if is_pie s.kind then DF_1_PIE else 0)
 
-unfoldable pub usual_tags : Plan → List Tag
+unfoldable pub usual_tags : LayoutPlan → List Tag
 usual_tags p =
     let usual = p.settings.usual in
     chosen (
@@ -95,10 +95,10 @@ usual_tags p =
 abbrev pub end_tag : Tag
 end_tag = tag DT_NULL 0
 
-unfoldable pub spare_tags : Plan → List Tag
+unfoldable pub spare_tags : LayoutPlan → List Tag
 spare_tags p = map (λ k. end_tag) (range_with_len 0 p.settings.spare)
 
-unfoldable pub dynamic_table : Plan → List Place → List ℕ
+unfoldable pub dynamic_table : LayoutPlan → List PlacedSection → List ℕ
 dynamic_table p places =
     flat_map tag_bytes (needed_tags p)
     ++ flat_map tag_bytes (table_tags p places)

@@ -6,8 +6,8 @@ use Rattle.pl_hash.specs.Hash.{sysv, gnu}
 use Rattle.pl_hash.specs.Table.{first_bit, second_bit}
 use Rattle.pl_build.specs.declared.constants.TheConstants.{BLOOM_COUNT, BLOOM_SHIFT_BITS}
 use Rattle.pl_build.specs.declared.fields.Field.TheVariants.{Word, Xword}
-use Rattle.pl_build.specs.declared.line.Symbol.{Symbol}
-use Rattle.pl_build.specs.declared.plan.Plan.{Plan}
+use Rattle.pl_build.specs.declared.line.SymbolLine.{SymbolLine}
+use Rattle.pl_build.specs.declared.layout_plan.LayoutPlan.{LayoutPlan}
 use Rattle.pl_build.specs.Fields.{fields}
 use Rattle.pl_build.specs.Symbols.{bucket_of, is_undefined}
 
@@ -20,7 +20,7 @@ found buckets from b = position_of (drop from buckets) b
 
 -- ---- System V: all symbols but the null one. Symbol number 1 is the first of the list
 
-unfoldable pub sysv_buckets : Plan → List ℕ
+unfoldable pub sysv_buckets : LayoutPlan → List ℕ
 sysv_buckets p = map (λ s. bucket_of p.settings.buckets (sysv s.name)) p.symbols
 
 abbrev pub number_or_none : ℕ → Option ℕ → ℕ
@@ -42,25 +42,25 @@ sysv_words count buckets =
     ++ fields (Word 0 ∷ [])
     ++ fields (map (λ k. Word (next_after buckets k)) (range_with_len 0 (length buckets)))
 
-unfoldable pub sysv_table : Plan → List ℕ
+unfoldable pub sysv_table : LayoutPlan → List ℕ
 sysv_table p = sysv_words p.settings.buckets (sysv_buckets p)
 
 -- ---- GNU: the defined symbols, which stand last
 
-abbrev pub is_defined : Symbol → Bool
+abbrev pub is_defined : SymbolLine → Bool
 is_defined s = s.defined
 
-unfoldable pub hash_of : Symbol → ℕ
+unfoldable pub hash_of : SymbolLine → ℕ
 hash_of s = gnu s.name
 
-abbrev pub gnu_hashes : List Symbol → List ℕ
+abbrev pub gnu_hashes : List SymbolLine → List ℕ
 gnu_hashes symbols = map hash_of (filter is_defined symbols)
 
 unfoldable pub gnu_buckets : ℕ → List ℕ → List ℕ
 gnu_buckets count hashes = map (bucket_of count) hashes
 
 -- the number of the first defined symbol
-unfoldable pub symoffset : Plan → ℕ
+unfoldable pub symoffset : LayoutPlan → ℕ
 symoffset p = count_by is_undefined p.symbols + 1
 
 -- the two bits of a hash in the one bloom word
@@ -91,5 +91,5 @@ gnu_words count first hashes buckets =
     ++ fields (map (λ b. Word (gnu_first first buckets b)) (range_with_len 0 count))
     ++ fields (map (λ k. Word (gnu_chain hashes buckets k)) (range_with_len 0 (length hashes)))
 
-unfoldable pub gnu_table : Plan → List ℕ
+unfoldable pub gnu_table : LayoutPlan → List ℕ
 gnu_table p = gnu_words p.settings.buckets (symoffset p) (gnu_hashes p.symbols) (gnu_buckets p.settings.buckets (gnu_hashes p.symbols))

@@ -6,10 +6,10 @@ use Rattle.pl_build.specs.declared.constants.TheConstants.{TABLES_OFFSET, TABLE_
 use Rattle.pl_build.specs.declared.checks.Fault.{Fault}
 use Rattle.pl_build.specs.declared.roles.Role.{Role}
 use Rattle.pl_build.specs.declared.roles.Role.TheVariants.{Hash, GnuHash, Dynsym, Dynstr, Versym, Verdef, Verneed, RelaDyn, RelaPlt, RelrDyn, Dynamic}
-use Rattle.pl_build.specs.declared.roles.Place.{Place}
-use Rattle.pl_build.specs.declared.plan.Plan.{Plan}
+use Rattle.pl_build.specs.declared.roles.PlacedSection.{PlacedSection}
+use Rattle.pl_build.specs.declared.layout_plan.LayoutPlan.{LayoutPlan}
 use Rattle.pl_build.specs.declared.layout.Tables.{Tables}
-use Rattle.pl_build.specs.Plan.{base_of}
+use Rattle.pl_build.specs.LayoutPlan.{base_of}
 use Rattle.pl_build.specs.SymbolTable.{symbol_table}
 use Rattle.pl_build.specs.Versions.{version_words, verdefs, verneeds}
 use Rattle.pl_build.specs.HashTables.{sysv_table, gnu_table}
@@ -22,7 +22,7 @@ abbrev pub too_large : Fault
 too_large = record { line = 0; kind = 5 }
 
 -- a table's bytes. The dynamic table is the last, and names the places of those before it
-unfoldable pub contents : Plan → List Place → Role → List ℕ
+unfoldable pub contents : LayoutPlan → List PlacedSection → Role → List ℕ
 contents p places Hash = sysv_table p
 contents p places GnuHash = gnu_table p
 contents p places Dynsym = symbol_table p
@@ -47,11 +47,11 @@ filled_to offset bytes = bytes ++ replicate (offset - length bytes) 0
 unfoldable pub aligned : List ℕ → List ℕ
 aligned bytes = filled_to (round_up (length bytes) TABLE_ALIGN) bytes
 
-unfoldable pub place_at : Plan → Role → ℕ → ℕ → Place
+unfoldable pub place_at : LayoutPlan → Role → ℕ → ℕ → PlacedSection
 place_at p role offset size = record { role = role; addr = plus (base_of p.settings) offset; offset = offset; size = size }
 
 -- one table more
-unfoldable pub table_added : Plan → Tables → Role → List ℕ → Tables
+unfoldable pub table_added : LayoutPlan → Tables → Role → List ℕ → Tables
 table_added p t role content = record {
   bytes = aligned t.bytes ++ content;
   places = t.places ++ place_at p role (TABLES_OFFSET + length (aligned t.bytes)) (length content) ∷ [];
@@ -65,10 +65,10 @@ abbrev pub in_limit : Tables → Result Tables Fault
 in_limit t = if nat_lt MAX_TABLES (end_of t) then Err too_large else Ok t
 
 -- a section of no contents is no table
-unfoldable pub role_added : Plan → Tables → Role → Result Tables Fault
+unfoldable pub role_added : LayoutPlan → Tables → Role → Result Tables Fault
 role_added p t role =
     let content = contents p t.places role in
     if length content == 0 then Ok t else in_limit (table_added p t role content)
 
-unfoldable pub tables : Plan → Result Tables Fault
+unfoldable pub tables : LayoutPlan → Result Tables Fault
 tables p = run (role_added p) no_tables p.roles

@@ -11,8 +11,8 @@ pub mod Fields
 pub mod Roles
 pub mod Symbols
 pub mod Needed
-pub mod Strings
-pub mod Plan
+pub mod StringTable
+pub mod LayoutPlan
 pub mod SymbolTable
 pub mod Versions
 pub mod HashTables

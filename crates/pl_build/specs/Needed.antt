@@ -2,18 +2,18 @@
 use Rattle.std.specs.Prelude.{ℕ, Bool, ◌&&◌, ◌||◌, ◌==◌, List, [], ◌∷◌, ◌++◌, length, fold, if◌then◌else◌}
 use Rattle.std.specs.List.{list_any}
 use Rattle.std.specs.Str.{bytes_eq}
-use Rattle.pl_build.specs.declared.line.Symbol.{Symbol}
+use Rattle.pl_build.specs.declared.line.SymbolLine.{SymbolLine}
 use Rattle.pl_build.specs.declared.needed.Need.{Need}
 
 -- whether a symbol has the version
-abbrev pub is_need_of : Symbol → Need → Bool
+abbrev pub is_need_of : SymbolLine → Need → Bool
 is_need_of s need = bytes_eq need.file s.file && bytes_eq need.version s.version
 
-unfoldable pub need_added : List Need → Symbol → List Need
+unfoldable pub need_added : List Need → SymbolLine → List Need
 need_added needs s =
     if length s.file == 0 || list_any (is_need_of s) needs then needs else needs ++ (record { file = s.file; version = s.version }) ∷ []
 
-unfoldable pub needs_of : List Symbol → List Need
+unfoldable pub needs_of : List SymbolLine → List Need
 needs_of symbols = fold need_added [] symbols
 
 unfoldable pub file_added : List (List ℕ) → Need → List (List ℕ)

@@ -6,18 +6,18 @@ use Rattle.pl_base.specs.Sums.{plus}
 use Rattle.pl_elf.specs.declared.constants.TheConstants.{R_X86_64_RELATIVE}
 use Rattle.pl_build.specs.declared.fields.Field.TheVariants.{Word, Xword}
 use Rattle.pl_build.specs.declared.line.Relocation.{Relocation}
-use Rattle.pl_build.specs.declared.line.Symbol.{Symbol}
-use Rattle.pl_build.specs.declared.plan.Plan.{Plan}
+use Rattle.pl_build.specs.declared.line.SymbolLine.{SymbolLine}
+use Rattle.pl_build.specs.declared.layout_plan.LayoutPlan.{LayoutPlan}
 use Rattle.pl_build.specs.declared.relocations.Rela.{Rela}
 use Rattle.pl_build.specs.Fields.{fields}
-use Rattle.pl_build.specs.Plan.{addend_of, data_address, is_jump_slot, is_other}
+use Rattle.pl_build.specs.LayoutPlan.{addend_of, data_address, is_jump_slot, is_other}
 use Rattle.pl_build.specs.RelocationLines.{is_no_symbol}
 
 -- offset, info (the type in its low 32 bits, the symbol in the high ones), addend
 unfoldable pub rela_bytes : Rela → List ℕ
 rela_bytes r = fields (Xword r.offset ∷ Word r.kind ∷ Word r.symbol ∷ Xword r.addend ∷ [])
 
-abbrev pub is_written_as : List ℕ → Symbol → Bool
+abbrev pub is_written_as : List ℕ → SymbolLine → Bool
 is_written_as name s = bytes_eq s.written name
 
 abbrev pub number_at : Option ℕ → ℕ
@@ -25,13 +25,13 @@ number_at None = 0
 number_at (Some index) = plus index 1
 
 -- the number of the symbol of a written name, 0 for `-`
-unfoldable pub symbol_number : Plan → List ℕ → ℕ
+unfoldable pub symbol_number : LayoutPlan → List ℕ → ℕ
 symbol_number p name = if is_no_symbol name then 0 else number_at (position (is_written_as name) p.symbols)
 
-unfoldable pub moved_addend : Plan → Relocation → ℕ
+unfoldable pub moved_addend : LayoutPlan → Relocation → ℕ
 moved_addend p r = if r.kind == R_X86_64_RELATIVE then plus (data_address p.settings) (addend_of r.addend) else addend_of r.addend
 
-unfoldable pub rela_of : Plan → Relocation → Rela
+unfoldable pub rela_of : LayoutPlan → Relocation → Rela
 rela_of p r = record {
   offset = plus (data_address p.settings) r.offset;
   kind = r.kind;
@@ -40,8 +40,8 @@ rela_of p r = record {
 }
 
 -- the relocations of jump slots, and all others
-unfoldable pub jump_slots : Plan → List ℕ
+unfoldable pub jump_slots : LayoutPlan → List ℕ
 jump_slots p = flat_map rela_bytes (map (rela_of p) (filter is_jump_slot p.relocations))
 
-unfoldable pub others : Plan → List ℕ
+unfoldable pub others : LayoutPlan → List ℕ
 others p = flat_map rela_bytes (map (rela_of p) (filter is_other p.relocations))

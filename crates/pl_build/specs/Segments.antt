@@ -7,10 +7,10 @@ use Rattle.pl_elf.specs.declared.segment.Segment.{Segment}
 use Rattle.pl_build.specs.declared.constants.TheConstants.{INTERP_OFFSET, TABLE_ALIGN, STACK_ALIGN}
 use Rattle.pl_build.specs.declared.line.TlsBlock.{TlsBlock}
 use Rattle.pl_build.specs.declared.recipe.Settings.{Settings}
-use Rattle.pl_build.specs.declared.roles.Place.{Place}
+use Rattle.pl_build.specs.declared.roles.PlacedSection.{PlacedSection}
 use Rattle.pl_build.specs.Choices.{chosen}
 use Rattle.pl_build.specs.Dynamic.{is_there}
-use Rattle.pl_build.specs.Plan.{base_of, data_address, has_interp}
+use Rattle.pl_build.specs.LayoutPlan.{base_of, data_address, has_interp}
 
 -- the path of the interpreter of x86-64 programs, ended by a 0 byte
 abbrev pub interp_bytes : List ℕ
@@ -86,7 +86,7 @@ table_segment s count = readable PT_PHDR HEADER_SIZE (base_of s + HEADER_SIZE) (
 unfoldable pub interp_segment : Settings → Segment
 interp_segment s = readable PT_INTERP INTERP_OFFSET (base_of s + INTERP_OFFSET) (length interp_bytes) 1
 
-unfoldable pub dynamic_segment : Place → Segment
+unfoldable pub dynamic_segment : PlacedSection → Segment
 dynamic_segment place = readable PT_DYNAMIC place.offset place.addr place.size TABLE_ALIGN
 
 -- ---- which there are
@@ -95,11 +95,11 @@ unfoldable pub has_data : Settings → Bool
 has_data s = nat_lt 0 s.data_size || nat_lt 0 s.bss
 
 -- where the table itself says how many segments there are
-unfoldable pub with_count : Settings → ℕ → Place → ℕ → List Segment
+unfoldable pub with_count : Settings → ℕ → PlacedSection → ℕ → List Segment
 with_count s tables_end dynamic count = chosen (
     (has_interp s, table_segment s count) ∷ (has_interp s, interp_segment s) ∷ (true, first_load s tables_end)
     ∷ (has_data s, second_load s tables_end) ∷ (is_there dynamic, dynamic_segment dynamic)
     ∷ (is_some s.tls, tls_segment s tables_end) ∷ (s.usual, stack_segment) ∷ [])
 
-unfoldable pub segments : Settings → ℕ → Place → List Segment
+unfoldable pub segments : Settings → ℕ → PlacedSection → List Segment
 segments s tables_end dynamic = with_count s tables_end dynamic (length (with_count s tables_end dynamic 0))

@@ -7,7 +7,7 @@ ghost use Rattle.pl_build.specs.Checks as spec;
 
 use crate::constants::{MAX_ADDEND, MAX_BSS, MAX_BUCKETS, MAX_DATA, MAX_SPARE};
 use crate::kind::FileKind;
-use crate::line::{Addend, Line, PackedWord, Symbol};
+use crate::line::{Addend, Line, PackedWord, SymbolLine};
 use crate::names::is;
 use crate::relocation_lines::is_no_symbol;
 use pl_base::end;
@@ -148,7 +148,7 @@ fn is_defined_in(lines: &[Line], name: &[u8]) -> bool
 }
 
 #[tactic(auto, unfolding(crate::specs::Checks::wants_version))]
-fn wants_version(symbol: &Symbol) -> bool
+fn wants_version(symbol: &SymbolLine) -> bool
     ensures { result ≡ spec.wants_version symbol.now }
 {
     symbol.version.len() != 0 && symbol.file.len() == 0

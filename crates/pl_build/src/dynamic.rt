@@ -4,11 +4,11 @@ ghost use Rattle.pl_build.specs.Dynamic as spec;
 
 use crate::choices::chosen;
 use crate::fields::{Field, Row, push_fields, push_rows};
+use crate::layout_plan::LayoutPlan;
 use crate::names::is;
-use crate::plan::Plan;
 use crate::recipe::Settings;
-use crate::roles::{Place, Role, section_name};
-use crate::strings::text_at;
+use crate::roles::{PlacedSection, Role, section_name};
+use crate::string_table::text_at;
 use pl_dyn::Tag;
 use pl_dyn::constants::{
     DF_1_NOW, DF_1_PIE, DF_BIND_NOW, DT_BIND_NOW, DT_DEBUG, DT_FLAGS, DT_FLAGS_1, DT_GNU_HASH,
@@ -35,23 +35,23 @@ fn tag(number: u64, value: u64) -> Tag
     Tag { number, value }
 }
 
-fn is_at(name: &[u8], place: Place) -> bool
+fn is_at(name: &[u8], place: PlacedSection) -> bool
     ensures { result ≡ spec.is_at name.now place }
 {
     is(section_name(place.role), name)
 }
 
-fn find_place(places: &[Place], name: &[u8]) -> Option<Place>
+fn find_place(places: &[PlacedSection], name: &[u8]) -> Option<PlacedSection>
     ensures { result ≡ find (spec.is_at name.now) places.now }
 {
     places.iter().copied().find(|place| is_at(name, *place))
 }
 
 /// The place of the null section.
-pub fn null_place() -> Place
+pub fn null_place() -> PlacedSection
     ensures { result ≡ spec.null_place }
 {
-    Place {
+    PlacedSection {
         role: Role::Null,
         addr: 0,
         offset: 0,
@@ -61,21 +61,21 @@ pub fn null_place() -> Place
 
 /// Where the section of a name stands. One that is not there has no bytes.
 #[tactic(auto, unfolding(crate::specs::Dynamic::place_of))]
-pub fn place_of(places: &[Place], name: &[u8]) -> Place
+pub fn place_of(places: &[PlacedSection], name: &[u8]) -> PlacedSection
     ensures { result ≡ spec.place_of places.now name.now }
 {
     find_place(places, name).unwrap_or(null_place())
 }
 
 /// Whether a section is there.
-pub fn is_there(place: &Place) -> bool
+pub fn is_there(place: &PlacedSection) -> bool
     ensures { result ≡ spec.is_there place.now }
 {
     place.size != 0
 }
 
 #[tactic(auto, unfolding(crate::specs::Dynamic::needed_tags))]
-fn needed_tags(alloc: Global, plan: &Plan) -> Result<Vec<Tag>, AllocError>
+fn needed_tags(alloc: Global, plan: &LayoutPlan) -> Result<Vec<Tag>, AllocError>
     ensures { IfOk result (λ v. v.items ≡ spec.needed_tags plan.now) }
 {
     plan.needed
@@ -86,7 +86,11 @@ fn needed_tags(alloc: Global, plan: &Plan) -> Result<Vec<Tag>, AllocError>
 }
 
 #[tactic(auto, unfolding(crate::specs::Dynamic::table_tags))]
-fn table_tags(alloc: Global, plan: &Plan, places: &[Place]) -> Result<Vec<Tag>, AllocError>
+fn table_tags(
+    alloc: Global,
+    plan: &LayoutPlan,
+    places: &[PlacedSection],
+) -> Result<Vec<Tag>, AllocError>
     ensures { IfOk result (λ v. v.items ≡ spec.table_tags plan.now places.now) }
 {
     let hash = place_of(places, b".hash");
@@ -108,7 +112,7 @@ fn table_tags(alloc: Global, plan: &Plan, places: &[Place]) -> Result<Vec<Tag>, 
 }
 
 #[tactic(auto, unfolding(crate::specs::Dynamic::relocation_tags))]
-fn relocation_tags(alloc: Global, places: &[Place]) -> Result<Vec<Tag>, AllocError>
+fn relocation_tags(alloc: Global, places: &[PlacedSection]) -> Result<Vec<Tag>, AllocError>
     ensures { IfOk result (λ v. v.items ≡ spec.relocation_tags places.now) }
 {
     let slots = place_of(places, b".rela.plt");
@@ -127,7 +131,7 @@ fn relocation_tags(alloc: Global, places: &[Place]) -> Result<Vec<Tag>, AllocErr
 }
 
 #[tactic(auto, unfolding(crate::specs::Dynamic::packed_tags))]
-fn packed_tags(alloc: Global, places: &[Place]) -> Result<Vec<Tag>, AllocError>
+fn packed_tags(alloc: Global, places: &[PlacedSection]) -> Result<Vec<Tag>, AllocError>
     ensures { IfOk result (λ v. v.items ≡ spec.packed_tags places.now) }
 {
     let packed = place_of(places, b".relr.dyn");
@@ -142,7 +146,11 @@ fn packed_tags(alloc: Global, places: &[Place]) -> Result<Vec<Tag>, AllocError>
 }
 
 #[tactic(auto, unfolding(crate::specs::Dynamic::version_tags))]
-fn version_tags(alloc: Global, plan: &Plan, places: &[Place]) -> Result<Vec<Tag>, AllocError>
+fn version_tags(
+    alloc: Global,
+    plan: &LayoutPlan,
+    places: &[PlacedSection],
+) -> Result<Vec<Tag>, AllocError>
     ensures { IfOk result (λ v. v.items ≡ spec.version_tags plan.now places.now) }
 {
     let words = place_of(places, b".gnu.version");
@@ -172,7 +180,7 @@ fn flags_1(settings: &Settings) -> u64
 }
 
 #[tactic(auto, unfolding(crate::specs::Dynamic::usual_tags))]
-fn usual_tags(alloc: Global, plan: &Plan) -> Result<Vec<Tag>, AllocError>
+fn usual_tags(alloc: Global, plan: &LayoutPlan) -> Result<Vec<Tag>, AllocError>
     ensures { IfOk result (λ v. v.items ≡ spec.usual_tags plan.now) }
 {
     let usual = plan.settings.usual;
@@ -189,7 +197,7 @@ fn usual_tags(alloc: Global, plan: &Plan) -> Result<Vec<Tag>, AllocError>
 }
 
 #[tactic(auto, unfolding(crate::specs::Dynamic::spare_tags))]
-fn spare_tags(alloc: Global, plan: &Plan) -> Result<Vec<Tag>, AllocError>
+fn spare_tags(alloc: Global, plan: &LayoutPlan) -> Result<Vec<Tag>, AllocError>
     ensures { IfOk result (λ v. v.items ≡ spec.spare_tags plan.now) }
 {
     (0..plan.settings.spare)
@@ -199,7 +207,11 @@ fn spare_tags(alloc: Global, plan: &Plan) -> Result<Vec<Tag>, AllocError>
 
 /// The bytes of the dynamic table, for tables that stand at places.
 #[tactic(auto, unfolding(crate::specs::Dynamic::dynamic_table))]
-pub fn dynamic_table(alloc: Global, plan: &Plan, places: &[Place]) -> Result<Vec<u8>, AllocError>
+pub fn dynamic_table(
+    alloc: Global,
+    plan: &LayoutPlan,
+    places: &[PlacedSection],
+) -> Result<Vec<u8>, AllocError>
     ensures { IfOk result (λ v. v.items ≡ spec.dynamic_table plan.now places.now) }
 {
     let mut out = Vec::new(alloc);

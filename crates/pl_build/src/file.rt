@@ -10,12 +10,12 @@ use crate::dynamic::place_of;
 use crate::fault::RecipeFault;
 use crate::fields::{Field, push_fields, push_rows};
 use crate::layout::{Tables, end_of, fill_to, lay_out};
-use crate::plan::{Plan, base_of, data_address, has_interp};
+use crate::layout_plan::{LayoutPlan, base_of, data_address, has_interp};
 use crate::recipe::Settings;
-use crate::roles::{Place, index_of};
+use crate::roles::{PlacedSection, index_of};
 use crate::sections::{first_places, last_places, section_rows};
 use crate::segments::{data_offset, interp_bytes, segments};
-use crate::strings::{Strings, section_names};
+use crate::string_table::{StringTable, section_names};
 use pl_base::{Rows, round_up_wide};
 use pl_elf::constants::{
     ELFCLASS64, ELFDATA2LSB, ELFMAG0, ELFMAG1, ELFMAG2, ELFMAG3, EM_X86_64, ET_DYN, ET_EXEC,
@@ -88,7 +88,12 @@ fn last_header_fields(phnum: usize, shnum: usize, shstrndx: usize) -> [Field; 7]
 }
 
 #[tactic(auto, unfolding(crate::specs::File::header_bytes))]
-fn push_header(out: &mut Vec<u8>, plan: &Plan, phnum: usize, shoff: u64) -> Result<(), AllocError>
+fn push_header(
+    out: &mut Vec<u8>,
+    plan: &LayoutPlan,
+    phnum: usize,
+    shoff: u64,
+) -> Result<(), AllocError>
     ensures { OnOk result (out.new.items ≡ out.old.items
         ++ spec.header_bytes plan.now phnum shoff) }
 {
@@ -113,7 +118,7 @@ fn interp_of(settings: &Settings) -> &'static [u8]
 #[tactic(auto, unfolding(crate::specs::File::front))]
 fn front(
     alloc: Global,
-    plan: &Plan,
+    plan: &LayoutPlan,
     tables: &Tables,
     tables_end: u64,
     shoff: u64,
@@ -134,11 +139,11 @@ fn front(
 #[tactic(auto, unfolding(crate::specs::File::places_of))]
 fn places_of(
     alloc: Global,
-    plan: &Plan,
+    plan: &LayoutPlan,
     tables: &Tables,
     offset: u64,
     names_size: u64,
-) -> Result<Vec<Place>, AllocError>
+) -> Result<Vec<PlacedSection>, AllocError>
     requires { offset + plan.now.settings.data_size < 2 ^ 64 }
     ensures { IfOk result (λ v. v.items ≡ spec.places_of plan.now tables.now offset names_size) }
 {
@@ -151,7 +156,7 @@ fn places_of(
 #[tactic(auto, unfolding(crate::specs::File::up_to_data))]
 fn up_to_data(
     alloc: Global,
-    plan: &Plan,
+    plan: &LayoutPlan,
     tables: &Tables,
     tables_end: u64,
     shoff: u64,
@@ -169,10 +174,10 @@ fn up_to_data(
 #[tactic(auto, unfolding(crate::specs::File::file_of))]
 fn file_of(
     alloc: Global,
-    plan: &Plan,
+    plan: &LayoutPlan,
     tables: &Tables,
     tables_end: u64,
-    names: &Strings,
+    names: &StringTable,
     shoff: u64,
 ) -> Result<Vec<u8>, AllocError>
     requires tables { tables_end < 2 ^ 32 }
@@ -194,7 +199,7 @@ fn file_of(
 }
 
 #[tactic(auto, unfolding(crate::specs::File::parts_end))]
-fn parts_end(plan: &Plan, tables_end: u64, names: &Strings) -> u128
+fn parts_end(plan: &LayoutPlan, tables_end: u64, names: &StringTable) -> u128
     requires { tables_end < 2 ^ 32 }
     ensures value { result ≡ spec.parts_end plan.now tables_end names.now }
     ensures holds_data { plan.now.settings.data_size ≤ result }
@@ -206,7 +211,7 @@ fn parts_end(plan: &Plan, tables_end: u64, names: &Strings) -> u128
 }
 
 #[tactic(auto, unfolding(crate::specs::File::sections_offset, pl_base::specs::Sums::round_up))]
-fn sections_offset(plan: &Plan, tables_end: u64, names: &Strings) -> u128
+fn sections_offset(plan: &LayoutPlan, tables_end: u64, names: &StringTable) -> u128
     requires { tables_end < 2 ^ 32 }
     ensures value { result ≡ spec.sections_offset plan.now tables_end names.now }
     ensures holds_data { plan.now.settings.data_size ≤ result }
@@ -215,7 +220,7 @@ fn sections_offset(plan: &Plan, tables_end: u64, names: &Strings) -> u128
     round_up_wide(parts_end(plan, tables_end, names), TABLE_ALIGN)
 }
 
-fn file_end(plan: &Plan, tables_end: u64, names: &Strings) -> u128
+fn file_end(plan: &LayoutPlan, tables_end: u64, names: &StringTable) -> u128
     requires { tables_end < 2 ^ 32 }
     ensures { result ≡ spec.file_end plan.now tables_end names.now }
 {
@@ -225,8 +230,8 @@ fn file_end(plan: &Plan, tables_end: u64, names: &Strings) -> u128
 #[tactic(auto, unfolding(crate::specs::File::limited))]
 fn limited(
     alloc: Global,
-    plan: &Plan,
-    names: &Strings,
+    plan: &LayoutPlan,
+    names: &StringTable,
     tables: &Tables,
 ) -> Result<Rows<u8>, RecipeFault>
     requires { layout.end_of tables.now ≤ MAX_TABLES }
@@ -243,7 +248,7 @@ fn limited(
 
 /// The file of a plan. Fault 5 where its tables or the file would be too large.
 #[tactic(auto, unfolding(crate::specs::File::made))]
-pub fn made(alloc: Global, plan: &Plan) -> Result<Rows<u8>, RecipeFault>
+pub fn made(alloc: Global, plan: &LayoutPlan) -> Result<Rows<u8>, RecipeFault>
     ensures { Builds result (spec.made plan.now) }
 {
     let tables = lay_out(alloc, plan)?;

@@ -6,8 +6,8 @@ ghost use Rattle.pl_build.specs.HashTables as spec;
 
 use crate::constants::{BLOOM_COUNT, BLOOM_SHIFT_BITS};
 use crate::fields::{Field, push_fields};
-use crate::line::Symbol;
-use crate::plan::Plan;
+use crate::layout_plan::LayoutPlan;
+use crate::line::SymbolLine;
 use crate::symbols::bucket_of;
 use pl_hash::{BLOOM_WORD_BITS, gnu_hash, sysv_hash};
 use std::alloc::{AllocError, Global};
@@ -26,7 +26,7 @@ fn found(buckets: &[u64], from: usize, bucket: u64) -> Option<usize>
 }
 
 #[tactic(auto, unfolding(crate::specs::HashTables::sysv_buckets))]
-fn sysv_buckets(alloc: Global, plan: &Plan) -> Result<Vec<u64>, AllocError>
+fn sysv_buckets(alloc: Global, plan: &LayoutPlan) -> Result<Vec<u64>, AllocError>
     ensures { IfOk result (λ v. v.items ≡ spec.sysv_buckets plan.now) }
 {
     let buckets = plan.settings.buckets;
@@ -91,27 +91,27 @@ fn sysv_words(alloc: Global, count: u64, buckets: &[u64]) -> Result<Vec<u8>, All
 
 /// The bytes of `.hash`. It lists all symbols but the null one.
 #[tactic(auto, unfolding(crate::specs::HashTables::sysv_table))]
-pub fn sysv_table(alloc: Global, plan: &Plan) -> Result<Vec<u8>, AllocError>
+pub fn sysv_table(alloc: Global, plan: &LayoutPlan) -> Result<Vec<u8>, AllocError>
     ensures { IfOk result (λ v. v.items ≡ spec.sysv_table plan.now) }
 {
     let buckets = sysv_buckets(alloc, plan)?;
     sysv_words(alloc, plan.settings.buckets, buckets.as_slice())
 }
 
-fn is_defined(symbol: &Symbol) -> bool
+fn is_defined(symbol: &SymbolLine) -> bool
     ensures { result ≡ spec.is_defined symbol.now }
 {
     symbol.defined
 }
 
 #[tactic(auto, unfolding(crate::specs::HashTables::hash_of))]
-fn hash_of(symbol: &Symbol) -> u32
+fn hash_of(symbol: &SymbolLine) -> u32
     ensures { result ≡ spec.hash_of symbol.now }
 {
     gnu_hash(symbol.name.as_slice())
 }
 
-fn gnu_hashes(alloc: Global, symbols: &[Symbol]) -> Result<Vec<u32>, AllocError>
+fn gnu_hashes(alloc: Global, symbols: &[SymbolLine]) -> Result<Vec<u32>, AllocError>
     ensures { IfOk result (λ v. v.items ≡ spec.gnu_hashes symbols.now) }
 {
     symbols
@@ -131,7 +131,7 @@ fn gnu_buckets(alloc: Global, count: u64, hashes: &[u32]) -> Result<Vec<u64>, Al
         .collect(alloc)
 }
 
-fn undefined_count(symbols: &[Symbol]) -> usize
+fn undefined_count(symbols: &[SymbolLine]) -> usize
     ensures value { result ≡ count_by is_undefined symbols.now }
     ensures within { result ≤ length symbols.now }
 {
@@ -139,7 +139,7 @@ fn undefined_count(symbols: &[Symbol]) -> usize
 }
 
 #[tactic(auto, unfolding(crate::specs::HashTables::symoffset))]
-fn symoffset(plan: &Plan) -> usize
+fn symoffset(plan: &LayoutPlan) -> usize
     ensures { result ≡ spec.symoffset plan.now }
 {
     undefined_count(plan.symbols.as_slice()) + 1
@@ -250,7 +250,7 @@ fn gnu_words(
 
 /// The bytes of `.gnu.hash`. It lists the defined symbols, which stand last.
 #[tactic(auto, unfolding(crate::specs::HashTables::gnu_table))]
-pub fn gnu_table(alloc: Global, plan: &Plan) -> Result<Vec<u8>, AllocError>
+pub fn gnu_table(alloc: Global, plan: &LayoutPlan) -> Result<Vec<u8>, AllocError>
     ensures { IfOk result (λ v. v.items ≡ spec.gnu_table plan.now) }
 {
     let count = plan.settings.buckets;

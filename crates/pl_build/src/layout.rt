@@ -8,10 +8,10 @@ use crate::constants::{MAX_TABLES, TABLE_ALIGN, TABLES_OFFSET};
 use crate::dynamic::dynamic_table;
 use crate::fault::RecipeFault;
 use crate::hash_tables::{gnu_table, sysv_table};
+use crate::layout_plan::{LayoutPlan, base_of};
 use crate::packed::packed_table;
-use crate::plan::{Plan, base_of};
 use crate::relocations::{jump_slots, others};
-use crate::roles::{Place, Role};
+use crate::roles::{PlacedSection, Role};
 use crate::symbol_table::symbol_table;
 use crate::versions::{verdefs, verneeds, version_words};
 use pl_base::{Rows, end, round_up};
@@ -21,7 +21,7 @@ use std::alloc::{AllocError, Global};
 #[derive(Drop)]
 pub struct Tables {
     pub bytes: Rows<u8>,
-    pub places: Rows<Place>,
+    pub places: Rows<PlacedSection>,
 }
 
 fn no_tables(alloc: Global) -> Tables
@@ -35,7 +35,12 @@ fn no_tables(alloc: Global) -> Tables
 
 /// The bytes of a table, for tables before it that stand at places. Other sections have none.
 #[tactic(auto, unfolding(crate::specs::Layout::contents))]
-fn contents(alloc: Global, plan: &Plan, places: &[Place], role: Role) -> Result<Vec<u8>, AllocError>
+fn contents(
+    alloc: Global,
+    plan: &LayoutPlan,
+    places: &[PlacedSection],
+    role: Role,
+) -> Result<Vec<u8>, AllocError>
     ensures { IfOk result (λ v. v.items ≡ spec.contents plan.now places.now role) }
 {
     match role {
@@ -56,10 +61,10 @@ fn contents(alloc: Global, plan: &Plan, places: &[Place], role: Role) -> Result<
 
 /// The place of a section at an offset of the file.
 #[tactic(auto, unfolding(crate::specs::Layout::place_at))]
-pub fn place_at(plan: &Plan, role: Role, offset: u64, size: u64) -> Place
+pub fn place_at(plan: &LayoutPlan, role: Role, offset: u64, size: u64) -> PlacedSection
     ensures { result ≡ spec.place_at plan.now role offset size }
 {
-    Place {
+    PlacedSection {
         role,
         addr: base_of(&plan.settings).wrapping_add(offset),
         offset,
@@ -88,7 +93,12 @@ fn align(bytes: &mut Vec<u8>) -> Result<(), AllocError>
 }
 
 #[tactic(auto, unfolding(crate::specs::Layout::table_added))]
-fn add_table(plan: &Plan, tables: Tables, role: Role, content: &[u8]) -> Result<Tables, AllocError>
+fn add_table(
+    plan: &LayoutPlan,
+    tables: Tables,
+    role: Role,
+    content: &[u8],
+) -> Result<Tables, AllocError>
     requires { spec.end_of tables ≤ MAX_TABLES }
     ensures { IfOk result (λ t. t ≡ spec.table_added plan.now tables role content.now) }
 {
@@ -124,7 +134,12 @@ fn in_limit(tables: Tables) -> Result<Tables, RecipeFault>
 }
 
 #[tactic(auto, unfolding(crate::specs::Layout::role_added))]
-fn add_role(alloc: Global, plan: &Plan, tables: Tables, role: Role) -> Result<Tables, RecipeFault>
+fn add_role(
+    alloc: Global,
+    plan: &LayoutPlan,
+    tables: Tables,
+    role: Role,
+) -> Result<Tables, RecipeFault>
     requires { spec.end_of tables ≤ MAX_TABLES }
     ensures answer { Builds result (spec.role_added plan.now tables role) }
     ensures small { IfOk result (λ t. spec.end_of t ≤ MAX_TABLES) }
@@ -137,7 +152,7 @@ fn add_role(alloc: Global, plan: &Plan, tables: Tables, role: Role) -> Result<Ta
     in_limit(tables)
 }
 
-fn add_roles(alloc: Global, plan: &Plan, roles: &[Role]) -> Result<Tables, RecipeFault>
+fn add_roles(alloc: Global, plan: &LayoutPlan, roles: &[Role]) -> Result<Tables, RecipeFault>
     ensures answer { Builds result (run (spec.role_added plan.now) spec.no_tables roles.now) }
     ensures small { IfOk result (λ t. spec.end_of t ≤ MAX_TABLES) }
 {
@@ -150,7 +165,7 @@ fn add_roles(alloc: Global, plan: &Plan, roles: &[Role]) -> Result<Tables, Recip
 
 /// All tables. Fault 5 where they would end past their limit.
 #[tactic(auto, unfolding(crate::specs::Layout::tables))]
-pub fn lay_out(alloc: Global, plan: &Plan) -> Result<Tables, RecipeFault>
+pub fn lay_out(alloc: Global, plan: &LayoutPlan) -> Result<Tables, RecipeFault>
     ensures answer { Builds result (spec.tables plan.now) }
     ensures small { IfOk result (λ t. spec.end_of t ≤ MAX_TABLES) }
 {

@@ -26,7 +26,7 @@ pub struct TlsBlock {
 
 /// A line `def` or `ref`.
 #[derive(Drop)]
-pub struct Symbol {
+pub struct SymbolLine {
     /// Whether it is a `def`.
     pub defined: bool,
 
@@ -110,7 +110,7 @@ pub enum Line {
     Put(DataWord),
     Tls(TlsBlock),
     Version(Rows<u8>),
-    Names(Symbol),
+    Names(SymbolLine),
     Relocates(Relocation),
     Packs(PackedWord),
 }

@@ -4,7 +4,7 @@ ghost use Rattle.std.specs.List.{list_any};
 ghost use Rattle.std.specs.Str.{bytes_eq};
 ghost use Rattle.pl_build.specs.Needed as spec;
 
-use crate::line::Symbol;
+use crate::line::SymbolLine;
 use crate::names::is;
 use crate::words::copy_of;
 use pl_base::Rows;
@@ -18,7 +18,7 @@ pub struct Need {
 }
 
 /// Whether a symbol has the version.
-pub fn is_need_of(symbol: &Symbol, need: &Need) -> bool
+pub fn is_need_of(symbol: &SymbolLine, need: &Need) -> bool
     ensures { result ≡ spec.is_need_of symbol.now need.now }
 {
     is(need.file.as_slice(), symbol.file.as_slice())
@@ -32,14 +32,14 @@ pub fn is_of(file: &[u8], need: &Need) -> bool
     is(need.file.as_slice(), file)
 }
 
-fn has_need(needs: &[Need], symbol: &Symbol) -> bool
+fn has_need(needs: &[Need], symbol: &SymbolLine) -> bool
     ensures { result ≡ list_any (spec.is_need_of symbol.now) needs.now }
 {
     needs.iter().any(|need| is_need_of(symbol, need))
 }
 
 #[tactic(auto, unfolding(crate::specs::Needed::need_added))]
-fn add_need(alloc: Global, needs: Rows<Need>, symbol: &Symbol) -> Result<Rows<Need>, AllocError>
+fn add_need(alloc: Global, needs: Rows<Need>, symbol: &SymbolLine) -> Result<Rows<Need>, AllocError>
     ensures { IfOk result (λ v. v ≡ spec.need_added needs symbol.now) }
 {
     if symbol.file.len() == 0 || has_need(needs.as_slice(), symbol) {
@@ -55,7 +55,7 @@ fn add_need(alloc: Global, needs: Rows<Need>, symbol: &Symbol) -> Result<Rows<Ne
 
 /// The versions that symbols need of other files, each once, in the order of their first use.
 #[tactic(auto, unfolding(crate::specs::Needed::needs_of))]
-pub fn needs_of(alloc: Global, symbols: &[Symbol]) -> Result<Rows<Need>, AllocError>
+pub fn needs_of(alloc: Global, symbols: &[SymbolLine]) -> Result<Rows<Need>, AllocError>
     ensures { IfOk result (λ v. v ≡ spec.needs_of symbols.now) }
 {
     let mut needs = Rows::new(alloc);

@@ -1,19 +1,19 @@
 // Words that the packed table relocates.
 ghost use Rattle.std.specs.Prelude.{◌≡◌, ◌≤◌, IfOk, length, map};
 ghost use Rattle.pl_build.specs.Packed as spec;
-ghost use Rattle.pl_build.specs.Plan as plan;
+ghost use Rattle.pl_build.specs.LayoutPlan as plan;
 ghost use Rattle.std.specs.List.{prefix_len};
 ghost use Rattle.pl_build.specs.Recipe.{inserted, is_up_to};
 
+use crate::layout_plan::{LayoutPlan, data_address};
 use crate::line::{Addend, DataWord, PackedWord};
-use crate::plan::{Plan, data_address};
 use crate::recipe::{Recipe, Settings};
 use pl_base::Rows;
 use pl_relr::{is_packable, pack};
 use std::alloc::{AllocError, Global};
 
 /// An addend as a number of 64 bits.
-#[tactic(auto, unfolding(crate::specs::Plan::addend_of))]
+#[tactic(auto, unfolding(crate::specs::LayoutPlan::addend_of))]
 pub fn addend_of(addend: Addend) -> u64
     ensures { result ≡ plan.addend_of addend }
 {
@@ -47,7 +47,7 @@ pub fn insert(words: Rows<PackedWord>, word: PackedWord) -> Result<Rows<PackedWo
 }
 
 /// What the data holds at a packed word: an address.
-#[tactic(auto, unfolding(crate::specs::Plan::data_word))]
+#[tactic(auto, unfolding(crate::specs::LayoutPlan::data_word))]
 fn data_word(settings: &Settings, word: PackedWord) -> DataWord
     ensures { result ≡ plan.data_word settings.now word }
 {
@@ -69,7 +69,7 @@ fn packed_words(alloc: Global, recipe: &Recipe) -> Result<Vec<DataWord>, AllocEr
 }
 
 /// All words of the data: those of the lines `word`, then the packed ones.
-#[tactic(auto, unfolding(crate::specs::Plan::data_words))]
+#[tactic(auto, unfolding(crate::specs::LayoutPlan::data_words))]
 pub fn data_words(alloc: Global, recipe: &Recipe) -> Result<Rows<DataWord>, AllocError>
     ensures { IfOk result (λ words. words ≡ plan.data_words recipe.now) }
 {
@@ -78,7 +78,7 @@ pub fn data_words(alloc: Global, recipe: &Recipe) -> Result<Rows<DataWord>, Allo
     Ok(Rows::from_vec(words))
 }
 
-fn packed_places(alloc: Global, plan: &Plan) -> Result<Vec<u64>, AllocError>
+fn packed_places(alloc: Global, plan: &LayoutPlan) -> Result<Vec<u64>, AllocError>
     ensures { IfOk result (λ v. v.items ≡ map (spec.place_of plan.now.settings) plan.now.packed) }
 {
     let packed = plan.packed.as_slice();
@@ -90,7 +90,7 @@ fn packed_places(alloc: Global, plan: &Plan) -> Result<Vec<u64>, AllocError>
 
 /// The bytes of `.relr.dyn`: the table of the packed places.
 #[tactic(auto, unfolding(crate::specs::Packed::packed_table))]
-pub fn packed_table(alloc: Global, plan: &Plan) -> Result<Vec<u8>, AllocError>
+pub fn packed_table(alloc: Global, plan: &LayoutPlan) -> Result<Vec<u8>, AllocError>
     ensures { IfOk result (λ v. v.items ≡ spec.packed_table plan.now) }
 {
     let places = packed_places(alloc, plan)?;

@@ -3,7 +3,7 @@ ghost use Rattle.pl_build.specs.Recipe as spec;
 
 use crate::constants::{BUCKETS, SPARE};
 use crate::kind::FileKind;
-use crate::line::{DataWord, Hashes, Line, PackedWord, Relocation, Symbol, TlsBlock};
+use crate::line::{DataWord, Hashes, Line, PackedWord, Relocation, SymbolLine, TlsBlock};
 use crate::packed::insert;
 use crate::symbols::copy_symbol;
 use crate::words::copy_of;
@@ -32,7 +32,7 @@ pub struct Recipe {
     pub needs: Rows<Rows<u8>>,
     pub words: Rows<DataWord>,
     pub versions: Rows<Rows<u8>>,
-    pub symbols: Rows<Symbol>,
+    pub symbols: Rows<SymbolLine>,
     pub relocations: Rows<Relocation>,
 
     /// In the order of their offsets.

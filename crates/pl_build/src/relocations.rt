@@ -1,13 +1,13 @@
 // The tables of relocations.
 ghost use Rattle.std.specs.Prelude.{◌≡◌, IfOk, map, filter, position};
-ghost use Rattle.pl_build.specs.Plan.{is_jump_slot, is_other};
+ghost use Rattle.pl_build.specs.LayoutPlan.{is_jump_slot, is_other};
 ghost use Rattle.pl_build.specs.Relocations as spec;
 
 use crate::fields::{Field, Row, push_fields, push_rows};
-use crate::line::{Relocation, Symbol};
+use crate::layout_plan::{LayoutPlan, data_address, is_jump_slot};
+use crate::line::{Relocation, SymbolLine};
 use crate::names::is;
 use crate::packed::addend_of;
-use crate::plan::{Plan, data_address, is_jump_slot};
 use crate::relocation_lines::is_no_symbol;
 use pl_elf::constants::R_X86_64_RELATIVE;
 use std::alloc::{AllocError, Global};
@@ -43,7 +43,7 @@ impl Row for Rela {
     }
 }
 
-fn position_of(symbols: &[Symbol], name: &[u8]) -> Option<usize>
+fn position_of(symbols: &[SymbolLine], name: &[u8]) -> Option<usize>
     ensures { result ≡ position (spec.is_written_as name.now) symbols.now }
 {
     symbols
@@ -52,7 +52,7 @@ fn position_of(symbols: &[Symbol], name: &[u8]) -> Option<usize>
 }
 
 #[tactic(auto, unfolding(crate::specs::Relocations::symbol_number))]
-fn symbol_number(plan: &Plan, name: &[u8]) -> u64
+fn symbol_number(plan: &LayoutPlan, name: &[u8]) -> u64
     ensures { result ≡ spec.symbol_number plan.now name.now }
 {
     if is_no_symbol(name) {
@@ -65,7 +65,7 @@ fn symbol_number(plan: &Plan, name: &[u8]) -> u64
 }
 
 #[tactic(auto, unfolding(crate::specs::Relocations::moved_addend))]
-fn moved_addend(plan: &Plan, relocation: &Relocation) -> u64
+fn moved_addend(plan: &LayoutPlan, relocation: &Relocation) -> u64
     ensures { result ≡ spec.moved_addend plan.now relocation.now }
 {
     if relocation.kind == R_X86_64_RELATIVE {
@@ -76,7 +76,7 @@ fn moved_addend(plan: &Plan, relocation: &Relocation) -> u64
 }
 
 #[tactic(auto, unfolding(crate::specs::Relocations::rela_of))]
-fn rela_of(plan: &Plan, relocation: &Relocation) -> Rela
+fn rela_of(plan: &LayoutPlan, relocation: &Relocation) -> Rela
     ensures { result ≡ spec.rela_of plan.now relocation.now }
 {
     Rela {
@@ -87,7 +87,7 @@ fn rela_of(plan: &Plan, relocation: &Relocation) -> Rela
     }
 }
 
-fn jump_slot_rows(alloc: Global, plan: &Plan) -> Result<Vec<Rela>, AllocError>
+fn jump_slot_rows(alloc: Global, plan: &LayoutPlan) -> Result<Vec<Rela>, AllocError>
     ensures { IfOk result (λ v. v.items ≡ map (spec.rela_of plan.now)
         (filter is_jump_slot plan.now.relocations)) }
 {
@@ -99,7 +99,7 @@ fn jump_slot_rows(alloc: Global, plan: &Plan) -> Result<Vec<Rela>, AllocError>
         .collect(alloc)
 }
 
-fn other_rows(alloc: Global, plan: &Plan) -> Result<Vec<Rela>, AllocError>
+fn other_rows(alloc: Global, plan: &LayoutPlan) -> Result<Vec<Rela>, AllocError>
     ensures { IfOk result (λ v. v.items ≡ map (spec.rela_of plan.now)
         (filter is_other plan.now.relocations)) }
 {
@@ -113,7 +113,7 @@ fn other_rows(alloc: Global, plan: &Plan) -> Result<Vec<Rela>, AllocError>
 
 /// The bytes of `.rela.plt`: the relocations of jump slots.
 #[tactic(auto, unfolding(crate::specs::Relocations::jump_slots))]
-pub fn jump_slots(alloc: Global, plan: &Plan) -> Result<Vec<u8>, AllocError>
+pub fn jump_slots(alloc: Global, plan: &LayoutPlan) -> Result<Vec<u8>, AllocError>
     ensures { IfOk result (λ v. v.items ≡ spec.jump_slots plan.now) }
 {
     let mut out = Vec::new(alloc);
@@ -123,7 +123,7 @@ pub fn jump_slots(alloc: Global, plan: &Plan) -> Result<Vec<u8>, AllocError>
 
 /// The bytes of `.rela.dyn`: all other relocations.
 #[tactic(auto, unfolding(crate::specs::Relocations::others))]
-pub fn others(alloc: Global, plan: &Plan) -> Result<Vec<u8>, AllocError>
+pub fn others(alloc: Global, plan: &LayoutPlan) -> Result<Vec<u8>, AllocError>
     ensures { IfOk result (λ v. v.items ≡ spec.others plan.now) }
 {
     let mut out = Vec::new(alloc);

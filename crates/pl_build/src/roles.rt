@@ -37,7 +37,7 @@ pub enum Role {
 
 /// Where a section stands in memory and in the file.
 #[derive(Clone, Copy)]
-pub struct Place {
+pub struct PlacedSection {
     pub role: Role,
     pub addr: u64,
     pub offset: u64,

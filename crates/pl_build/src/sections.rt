@@ -6,12 +6,12 @@ use crate::constants::INTERP_OFFSET;
 use crate::dynamic::null_place;
 use crate::fields::{Field, Row, push_fields};
 use crate::layout::place_at;
-use crate::plan::{Plan, data_address, has_interp};
+use crate::layout_plan::{LayoutPlan, data_address, has_interp};
 use crate::roles::{
-    Place, Role, align_of, entsize_of, flags_of, index_of, kind_of, link_of, section_name,
+    PlacedSection, Role, align_of, entsize_of, flags_of, index_of, kind_of, link_of, section_name,
 };
 use crate::segments::interp_bytes;
-use crate::strings::{Strings, text_at};
+use crate::string_table::{StringTable, text_at};
 use std::alloc::{AllocError, Global};
 
 /// A section header (System V gABI chapter 4, "Sections").
@@ -57,9 +57,9 @@ fn last_fields(row: &SectionRow) -> [Field; 4]
 }
 
 impl Row for SectionRow {
-    ghost bytes = { spec.section_bytes };
+    ghost bytes = { spec.section_row_bytes };
 
-    #[tactic(auto, unfolding(crate::specs::Sections::section_bytes))]
+    #[tactic(auto, unfolding(crate::specs::Sections::section_row_bytes))]
     fn push_to(&self, out: &mut Vec<u8>) -> Result<(), AllocError> {
         push_fields(out, &first_fields(self))?;
         push_fields(out, &last_fields(self))
@@ -67,7 +67,7 @@ impl Row for SectionRow {
 }
 
 #[tactic(auto, unfolding(crate::specs::Sections::info_of))]
-fn info_of(plan: &Plan, role: Role) -> u64
+fn info_of(plan: &LayoutPlan, role: Role) -> u64
     ensures { result ≡ spec.info_of plan.now role }
 {
     match role {
@@ -79,7 +79,7 @@ fn info_of(plan: &Plan, role: Role) -> u64
 }
 
 #[tactic(auto, unfolding(crate::specs::Sections::row_of))]
-fn row_of(plan: &Plan, names: &Strings, place: &Place) -> SectionRow
+fn row_of(plan: &LayoutPlan, names: &StringTable, place: &PlacedSection) -> SectionRow
     ensures { result ≡ spec.row_of plan.now names.now place.now }
 {
     let role = place.role;
@@ -99,7 +99,7 @@ fn row_of(plan: &Plan, names: &Strings, place: &Place) -> SectionRow
 
 /// Where the null section and that of the interpreter's path stand.
 #[tactic(auto, unfolding(crate::specs::Sections::first_places))]
-pub fn first_places(alloc: Global, plan: &Plan) -> Result<Vec<Place>, AllocError>
+pub fn first_places(alloc: Global, plan: &LayoutPlan) -> Result<Vec<PlacedSection>, AllocError>
     ensures { IfOk result (λ v. v.items ≡ spec.first_places plan.now) }
 {
     let null = null_place();
@@ -113,26 +113,26 @@ pub fn first_places(alloc: Global, plan: &Plan) -> Result<Vec<Place>, AllocError
 
 /// Where the data, the zeros behind it and the names of the sections stand, where the data stands at an offset of the file.
 #[tactic(auto, unfolding(crate::specs::Sections::last_places))]
-pub fn last_places(plan: &Plan, offset: u64, names_size: u64) -> [Place; 3]
+pub fn last_places(plan: &LayoutPlan, offset: u64, names_size: u64) -> [PlacedSection; 3]
     requires { offset + plan.now.settings.data_size < 2 ^ 64 }
     ensures { result ≡ spec.last_places plan.now offset names_size }
 {
     let address = data_address(&plan.settings);
     let size = plan.settings.data_size;
     [
-        Place {
+        PlacedSection {
             role: Role::Data,
             addr: address,
             offset,
             size,
         },
-        Place {
+        PlacedSection {
             role: Role::Bss,
             addr: address.wrapping_add(size),
             offset: 0,
             size: plan.settings.bss,
         },
-        Place {
+        PlacedSection {
             role: Role::Shstrtab,
             addr: 0,
             offset: offset + size,
@@ -145,9 +145,9 @@ pub fn last_places(plan: &Plan, offset: u64, names_size: u64) -> [Place; 3]
 #[tactic(auto, unfolding(crate::specs::Sections::section_rows))]
 pub fn section_rows(
     alloc: Global,
-    plan: &Plan,
-    names: &Strings,
-    places: &[Place],
+    plan: &LayoutPlan,
+    names: &StringTable,
+    places: &[PlacedSection],
 ) -> Result<Vec<SectionRow>, AllocError>
     ensures { IfOk result (λ v. v.items ≡ spec.section_rows plan.now names.now places.now) }
 {

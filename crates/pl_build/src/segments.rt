@@ -7,10 +7,10 @@ use crate::choices::chosen;
 use crate::constants::{INTERP_OFFSET, STACK_ALIGN, TABLE_ALIGN};
 use crate::dynamic::is_there;
 use crate::fields::{Field, Row, push_fields};
+use crate::layout_plan::{base_of, data_address, has_interp};
 use crate::line::TlsBlock;
-use crate::plan::{base_of, data_address, has_interp};
 use crate::recipe::Settings;
-use crate::roles::Place;
+use crate::roles::PlacedSection;
 use pl_base::round_up;
 use pl_elf::Segment;
 use pl_elf::constants::{
@@ -169,7 +169,7 @@ fn interp_segment(settings: &Settings) -> Segment
 }
 
 #[tactic(auto, unfolding(crate::specs::Segments::dynamic_segment))]
-fn dynamic_segment(place: &Place) -> Segment
+fn dynamic_segment(place: &PlacedSection) -> Segment
     ensures { result ≡ spec.dynamic_segment place.now }
 {
     readable(
@@ -193,7 +193,7 @@ fn with_count(
     alloc: Global,
     settings: &Settings,
     tables_end: u64,
-    dynamic: &Place,
+    dynamic: &PlacedSection,
     count: u64,
 ) -> Result<Vec<Segment>, AllocError>
     requires tables { tables_end < 2 ^ 32 }
@@ -221,7 +221,7 @@ pub fn segments(
     alloc: Global,
     settings: &Settings,
     tables_end: u64,
-    dynamic: &Place,
+    dynamic: &PlacedSection,
 ) -> Result<Vec<Segment>, AllocError>
     requires { tables_end < 2 ^ 32 }
     ensures { IfOk result (λ v. v.items ≡ spec.segments settings.now tables_end dynamic.now) }

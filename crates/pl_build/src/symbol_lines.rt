@@ -2,7 +2,7 @@
 ghost use Rattle.std.specs.Prelude.{◌≡◌, IfOk};
 ghost use Rattle.pl_build.specs.SymbolLines as spec;
 
-use crate::line::{Line, Symbol};
+use crate::line::{Line, SymbolLine};
 use crate::names::is;
 use crate::words::{
     copy_of, has_version, is_doubled, is_written, name_of, number, rest, version_of, word,
@@ -150,7 +150,7 @@ fn def_named(
     if !is_def(text, after_visibility(words)) {
         return Ok(Line::Wrong);
     }
-    Ok(Line::Names(Symbol {
+    Ok(Line::Names(SymbolLine {
         defined: true,
         written: copy_of(alloc, text)?,
         name: copy_of(alloc, name_of(text))?,
@@ -229,7 +229,7 @@ fn ref_named(
     if !is_ref(text, words) {
         return Ok(Line::Wrong);
     }
-    Ok(Line::Names(Symbol {
+    Ok(Line::Names(SymbolLine {
         defined: false,
         written: copy_of(alloc, text)?,
         name: copy_of(alloc, name_of(text))?,

@@ -3,10 +3,10 @@ ghost use Rattle.std.specs.Prelude.{◌≡◌, IfOk, map};
 ghost use Rattle.pl_build.specs.SymbolTable as spec;
 
 use crate::fields::{Field, Row, push_fields, push_rows};
-use crate::line::Symbol;
-use crate::plan::{Plan, data_address};
+use crate::layout_plan::{LayoutPlan, data_address};
+use crate::line::SymbolLine;
 use crate::roles::index_of;
-use crate::strings::text_at;
+use crate::string_table::text_at;
 use pl_sym::constants::{SHN_ABS, SHN_UNDEF, STT_NOTYPE, STT_TLS};
 use std::alloc::{AllocError, Global};
 
@@ -52,14 +52,14 @@ const NULL_ENTRY: SymbolEntry = SymbolEntry {
     size: 0,
 };
 
-fn has_no_address(symbol: &Symbol) -> bool
+fn has_no_address(symbol: &SymbolLine) -> bool
     ensures { result ≡ spec.has_no_address symbol.now }
 {
     symbol.defined && (symbol.kind == STT_NOTYPE || symbol.kind == STT_TLS)
 }
 
 #[tactic(auto, unfolding(crate::specs::SymbolTable::section_of))]
-fn section_of(plan: &Plan, symbol: &Symbol) -> u64
+fn section_of(plan: &LayoutPlan, symbol: &SymbolLine) -> u64
     ensures { result ≡ spec.section_of plan.now symbol.now }
 {
     if !symbol.defined {
@@ -74,7 +74,7 @@ fn section_of(plan: &Plan, symbol: &Symbol) -> u64
 }
 
 #[tactic(auto, unfolding(crate::specs::SymbolTable::value_of))]
-fn value_of(plan: &Plan, symbol: &Symbol) -> u64
+fn value_of(plan: &LayoutPlan, symbol: &SymbolLine) -> u64
     ensures { result ≡ spec.value_of plan.now symbol.now }
 {
     if !symbol.placed {
@@ -87,7 +87,7 @@ fn value_of(plan: &Plan, symbol: &Symbol) -> u64
 }
 
 #[tactic(auto, unfolding(crate::specs::SymbolTable::entry_of))]
-fn entry_of(plan: &Plan, symbol: &Symbol) -> SymbolEntry
+fn entry_of(plan: &LayoutPlan, symbol: &SymbolLine) -> SymbolEntry
     ensures { result ≡ spec.entry_of plan.now symbol.now }
 {
     SymbolEntry {
@@ -101,7 +101,7 @@ fn entry_of(plan: &Plan, symbol: &Symbol) -> SymbolEntry
     }
 }
 
-fn entries(alloc: Global, plan: &Plan) -> Result<Vec<SymbolEntry>, AllocError>
+fn entries(alloc: Global, plan: &LayoutPlan) -> Result<Vec<SymbolEntry>, AllocError>
     ensures { IfOk result (λ v. v.items ≡ map (spec.entry_of plan.now) plan.now.symbols) }
 {
     plan.symbols
@@ -113,7 +113,7 @@ fn entries(alloc: Global, plan: &Plan) -> Result<Vec<SymbolEntry>, AllocError>
 
 /// The bytes of the symbol table: the null symbol, then all others.
 #[tactic(auto, unfolding(crate::specs::SymbolTable::symbol_table))]
-pub fn symbol_table(alloc: Global, plan: &Plan) -> Result<Vec<u8>, AllocError>
+pub fn symbol_table(alloc: Global, plan: &LayoutPlan) -> Result<Vec<u8>, AllocError>
     ensures { IfOk result (λ v. v.items ≡ spec.symbol_table plan.now) }
 {
     let mut out = Vec::new(alloc);

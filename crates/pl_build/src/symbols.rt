@@ -2,7 +2,7 @@
 ghost use Rattle.std.specs.Prelude.{◌≡◌, ◌++◌, IfOk, filter};
 ghost use Rattle.pl_build.specs.Symbols as spec;
 
-use crate::line::Symbol;
+use crate::line::SymbolLine;
 use crate::recipe::Settings;
 use crate::words::copy_of;
 use pl_base::Rows;
@@ -22,7 +22,7 @@ pub fn bucket_of(buckets: u64, hash: u32) -> u64
 }
 
 #[tactic(auto, unfolding(crate::specs::Symbols::bucket))]
-fn bucket(settings: &Settings, symbol: &Symbol) -> u64
+fn bucket(settings: &Settings, symbol: &SymbolLine) -> u64
     ensures { result ≡ spec.bucket settings.now symbol.now }
 {
     if settings.hashes.gnu {
@@ -33,17 +33,17 @@ fn bucket(settings: &Settings, symbol: &Symbol) -> u64
 }
 
 #[tactic(auto, unfolding(crate::specs::Symbols::is_in))]
-fn is_in(settings: &Settings, number: u64, symbol: &Symbol) -> bool
+fn is_in(settings: &Settings, number: u64, symbol: &SymbolLine) -> bool
     ensures { result ≡ spec.is_in settings.now number symbol.now }
 {
     symbol.defined && bucket(settings, symbol) == number
 }
 
 /// A copy of a symbol.
-pub fn copy_symbol(alloc: Global, symbol: &Symbol) -> Result<Symbol, AllocError>
+pub fn copy_symbol(alloc: Global, symbol: &SymbolLine) -> Result<SymbolLine, AllocError>
     ensures { IfOk result (λ s. s ≡ symbol.now) }
 {
-    Ok(Symbol {
+    Ok(SymbolLine {
         defined: symbol.defined,
         written: copy_of(alloc, symbol.written.as_slice())?,
         name: copy_of(alloc, symbol.name.as_slice())?,
@@ -61,9 +61,9 @@ pub fn copy_symbol(alloc: Global, symbol: &Symbol) -> Result<Symbol, AllocError>
 
 fn keep_undefined(
     alloc: Global,
-    to: Rows<Symbol>,
-    symbol: &Symbol,
-) -> Result<Rows<Symbol>, AllocError>
+    to: Rows<SymbolLine>,
+    symbol: &SymbolLine,
+) -> Result<Rows<SymbolLine>, AllocError>
     ensures { IfOk result (λ v. v ≡ spec.kept (spec.is_undefined symbol.now) symbol.now to) }
 {
     if symbol.defined {
@@ -74,7 +74,7 @@ fn keep_undefined(
     Ok(to)
 }
 
-fn undefined(alloc: Global, symbols: &[Symbol]) -> Result<Rows<Symbol>, AllocError>
+fn undefined(alloc: Global, symbols: &[SymbolLine]) -> Result<Rows<SymbolLine>, AllocError>
     ensures { IfOk result (λ v. v ≡ filter spec.is_undefined symbols.now) }
 {
     let mut to = Rows::new(alloc);
@@ -86,11 +86,11 @@ fn undefined(alloc: Global, symbols: &[Symbol]) -> Result<Rows<Symbol>, AllocErr
 
 fn keep_in(
     alloc: Global,
-    to: Rows<Symbol>,
+    to: Rows<SymbolLine>,
     settings: &Settings,
     number: u64,
-    symbol: &Symbol,
-) -> Result<Rows<Symbol>, AllocError>
+    symbol: &SymbolLine,
+) -> Result<Rows<SymbolLine>, AllocError>
     ensures { IfOk result (λ v. v ≡ spec.kept (spec.is_in settings.now number symbol.now) symbol.now
         to) }
 {
@@ -104,11 +104,11 @@ fn keep_in(
 
 fn with_bucket(
     alloc: Global,
-    to: Rows<Symbol>,
+    to: Rows<SymbolLine>,
     settings: &Settings,
     number: u64,
-    symbols: &[Symbol],
-) -> Result<Rows<Symbol>, AllocError>
+    symbols: &[SymbolLine],
+) -> Result<Rows<SymbolLine>, AllocError>
     ensures { IfOk result (λ v. v ≡ to ++ filter (spec.is_in settings.now number) symbols.now) }
 {
     let mut to = to;
@@ -123,8 +123,8 @@ fn with_bucket(
 pub fn ordered(
     alloc: Global,
     settings: &Settings,
-    symbols: &[Symbol],
-) -> Result<Rows<Symbol>, AllocError>
+    symbols: &[SymbolLine],
+) -> Result<Rows<SymbolLine>, AllocError>
     ensures { IfOk result (λ v. v ≡ spec.ordered settings.now symbols.now) }
 {
     let mut to = undefined(alloc, symbols)?;

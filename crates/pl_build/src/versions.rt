@@ -6,11 +6,11 @@ ghost use Rattle.pl_build.specs.Needed.{is_of, is_need_of};
 ghost use Rattle.pl_build.specs.Versions as spec;
 
 use crate::fields::{Field, push_fields};
-use crate::line::Symbol;
+use crate::layout_plan::LayoutPlan;
+use crate::line::SymbolLine;
 use crate::names::is;
 use crate::needed::{Need, is_need_of, is_of};
-use crate::plan::Plan;
-use crate::strings::text_at;
+use crate::string_table::text_at;
 use crate::words::word;
 use pl_base::Rows;
 use pl_hash::sysv_hash;
@@ -23,34 +23,34 @@ use std::alloc::{AllocError, Global};
 const FIRST_DEFINED: usize = VER_NDX_GLOBAL as usize + 1;
 
 #[tactic(auto, unfolding(crate::specs::Versions::first_needed))]
-fn first_needed(plan: &Plan) -> usize
+fn first_needed(plan: &LayoutPlan) -> usize
     ensures { result ≡ spec.first_needed plan.now }
 {
     FIRST_DEFINED + plan.versions.as_slice().len()
 }
 
-fn position_of_version(versions: &[Rows<u8>], symbol: &Symbol) -> Option<usize>
+fn position_of_version(versions: &[Rows<u8>], symbol: &SymbolLine) -> Option<usize>
     ensures { result ≡ position (λ v. bytes_eq v symbol.now.version) versions.now }
 {
     versions.iter().position(|version| is(version.as_slice(), symbol.version.as_slice()))
 }
 
 #[tactic(auto, unfolding(crate::specs::Versions::defined_index))]
-fn defined_index(plan: &Plan, symbol: &Symbol) -> usize
+fn defined_index(plan: &LayoutPlan, symbol: &SymbolLine) -> usize
     ensures { result ≡ spec.defined_index plan.now symbol.now }
 {
     let index = position_of_version(plan.versions.as_slice(), symbol).unwrap_or(0);
     FIRST_DEFINED.wrapping_add(index)
 }
 
-fn position_of_need(needs: &[Need], symbol: &Symbol) -> Option<usize>
+fn position_of_need(needs: &[Need], symbol: &SymbolLine) -> Option<usize>
     ensures { result ≡ position (is_need_of symbol.now) needs.now }
 {
     needs.iter().position(|need| is_need_of(symbol, need))
 }
 
 #[tactic(auto, unfolding(crate::specs::Versions::needed_index))]
-fn needed_index(plan: &Plan, symbol: &Symbol) -> usize
+fn needed_index(plan: &LayoutPlan, symbol: &SymbolLine) -> usize
     ensures { result ≡ spec.needed_index plan.now symbol.now }
 {
     let index = position_of_need(plan.needs.as_slice(), symbol).unwrap_or(0);
@@ -58,7 +58,7 @@ fn needed_index(plan: &Plan, symbol: &Symbol) -> usize
 }
 
 #[tactic(auto, unfolding(crate::specs::Versions::version_word))]
-fn version_word(plan: &Plan, symbol: &Symbol) -> u64
+fn version_word(plan: &LayoutPlan, symbol: &SymbolLine) -> u64
     ensures { result ≡ spec.version_word plan.now symbol.now }
 {
     if symbol.version.len() == 0 {
@@ -72,7 +72,7 @@ fn version_word(plan: &Plan, symbol: &Symbol) -> u64
     }
 }
 
-fn word_fields(alloc: Global, plan: &Plan) -> Result<Vec<Field>, AllocError>
+fn word_fields(alloc: Global, plan: &LayoutPlan) -> Result<Vec<Field>, AllocError>
     ensures { IfOk result (λ v. v.items ≡ map (λ s. Field.Half (spec.version_word plan.now s))
         plan.now.symbols) }
 {
@@ -85,7 +85,7 @@ fn word_fields(alloc: Global, plan: &Plan) -> Result<Vec<Field>, AllocError>
 
 /// The bytes of `.gnu.version`: the version word of each symbol.
 #[tactic(auto, unfolding(crate::specs::Versions::version_words))]
-pub fn version_words(alloc: Global, plan: &Plan) -> Result<Vec<u8>, AllocError>
+pub fn version_words(alloc: Global, plan: &LayoutPlan) -> Result<Vec<u8>, AllocError>
     ensures { IfOk result (λ v. v.items ≡ spec.version_words plan.now) }
 {
     let mut out = Vec::new(alloc);
@@ -97,7 +97,7 @@ pub fn version_words(alloc: Global, plan: &Plan) -> Result<Vec<u8>, AllocError>
 #[tactic(auto, unfolding(crate::specs::Versions::verdef_bytes))]
 fn push_verdef(
     out: &mut Vec<u8>,
-    plan: &Plan,
+    plan: &LayoutPlan,
     flags: u64,
     index: u64,
     name: &[u8],
@@ -123,7 +123,7 @@ fn push_verdef(
 }
 
 #[tactic(auto, unfolding(crate::specs::Versions::next_verdef))]
-fn next_verdef(plan: &Plan, index: usize) -> u64
+fn next_verdef(plan: &LayoutPlan, index: usize) -> u64
     requires { index < length plan.now.versions }
     ensures { result ≡ spec.next_verdef plan.now index }
 {
@@ -136,7 +136,7 @@ fn next_verdef(plan: &Plan, index: usize) -> u64
 }
 
 #[tactic(auto, unfolding(crate::specs::Versions::verdef_at))]
-fn push_verdef_at(out: &mut Vec<u8>, plan: &Plan, index: usize) -> Result<(), AllocError>
+fn push_verdef_at(out: &mut Vec<u8>, plan: &LayoutPlan, index: usize) -> Result<(), AllocError>
     requires { index < length plan.now.versions }
     ensures { OnOk result (out.new.items ≡ out.old.items ++ spec.verdef_at plan.now index) }
 {
@@ -145,7 +145,7 @@ fn push_verdef_at(out: &mut Vec<u8>, plan: &Plan, index: usize) -> Result<(), Al
     push_verdef(out, plan, 0, (FIRST_DEFINED + index) as u64, name, next)
 }
 
-fn push_verdefs(out: &mut Vec<u8>, plan: &Plan) -> Result<(), AllocError>
+fn push_verdefs(out: &mut Vec<u8>, plan: &LayoutPlan) -> Result<(), AllocError>
     ensures { OnOk result (out.new.items ≡ out.old.items
         ++ flat_map (spec.verdef_at plan.now) (range_with_len 0 (length plan.now.versions))) }
 {
@@ -158,7 +158,7 @@ fn push_verdefs(out: &mut Vec<u8>, plan: &Plan) -> Result<(), AllocError>
 
 /// The bytes of `.gnu.version_d`: the versions that are defined.
 #[tactic(auto, unfolding(crate::specs::Versions::verdefs))]
-pub fn verdefs(alloc: Global, plan: &Plan) -> Result<Vec<u8>, AllocError>
+pub fn verdefs(alloc: Global, plan: &LayoutPlan) -> Result<Vec<u8>, AllocError>
     ensures { IfOk result (λ v. v.items ≡ spec.verdefs plan.now) }
 {
     let mut out = Vec::new(alloc);
@@ -192,7 +192,12 @@ fn next_vernaux(later: &[Need], need: &Need) -> u64
 }
 
 #[tactic(auto, unfolding(crate::specs::Versions::vernaux_bytes))]
-fn push_vernaux(out: &mut Vec<u8>, plan: &Plan, index: usize, need: &Need) -> Result<(), AllocError>
+fn push_vernaux(
+    out: &mut Vec<u8>,
+    plan: &LayoutPlan,
+    index: usize,
+    need: &Need,
+) -> Result<(), AllocError>
     requires { index < length plan.now.needs }
     ensures { OnOk result (out.new.items ≡ out.old.items
         ++ spec.vernaux_bytes plan.now index need.now) }
@@ -214,7 +219,7 @@ fn push_vernaux(out: &mut Vec<u8>, plan: &Plan, index: usize, need: &Need) -> Re
 #[tactic(auto, using(crate::proofs::LoopLaws::with_none), unfolding(crate::specs::Versions::vernaux_of))]
 fn push_vernaux_of(
     out: &mut Vec<u8>,
-    plan: &Plan,
+    plan: &LayoutPlan,
     file: &[u8],
     index: usize,
     need: &Need,
@@ -232,7 +237,7 @@ fn push_vernaux_of(
 #[tactic(auto, using(crate::proofs::LoopLaws::with_none), unfolding(crate::specs::Versions::vernaux_at))]
 fn push_vernaux_at(
     out: &mut Vec<u8>,
-    plan: &Plan,
+    plan: &LayoutPlan,
     file: &[u8],
     index: usize,
 ) -> Result<(), AllocError>
@@ -246,7 +251,7 @@ fn push_vernaux_at(
     }
 }
 
-fn push_vernauxes(out: &mut Vec<u8>, plan: &Plan, file: &[u8]) -> Result<(), AllocError>
+fn push_vernauxes(out: &mut Vec<u8>, plan: &LayoutPlan, file: &[u8]) -> Result<(), AllocError>
     ensures { OnOk result (out.new.items ≡ out.old.items
         ++ flat_map (spec.vernaux_at plan.now file.now)
         (range_with_len 0 (length plan.now.needs))) }
@@ -259,7 +264,7 @@ fn push_vernauxes(out: &mut Vec<u8>, plan: &Plan, file: &[u8]) -> Result<(), All
 }
 
 #[tactic(auto, unfolding(crate::specs::Versions::count_of))]
-fn count_of(plan: &Plan, file: &[u8]) -> usize
+fn count_of(plan: &LayoutPlan, file: &[u8]) -> usize
     ensures value { result ≡ spec.count_of plan.now file.now }
     ensures within { result ≤ length plan.now.needs }
 {
@@ -280,7 +285,7 @@ fn rows_end(count: u64) -> u64
 }
 
 #[tactic(auto, unfolding(crate::specs::Versions::next_verneed))]
-fn next_verneed(plan: &Plan, index: usize) -> u64
+fn next_verneed(plan: &LayoutPlan, index: usize) -> u64
     requires { index < length plan.now.files }
     ensures { result ≡ spec.next_verneed plan.now index }
 {
@@ -294,7 +299,7 @@ fn next_verneed(plan: &Plan, index: usize) -> u64
 }
 
 #[tactic(auto, unfolding(crate::specs::Versions::verneed_bytes))]
-fn push_verneed(out: &mut Vec<u8>, plan: &Plan, index: usize) -> Result<(), AllocError>
+fn push_verneed(out: &mut Vec<u8>, plan: &LayoutPlan, index: usize) -> Result<(), AllocError>
     requires { index < length plan.now.files }
     ensures { OnOk result (out.new.items ≡ out.old.items ++ spec.verneed_bytes plan.now index) }
 {
@@ -312,7 +317,7 @@ fn push_verneed(out: &mut Vec<u8>, plan: &Plan, index: usize) -> Result<(), Allo
 }
 
 #[tactic(auto, unfolding(crate::specs::Versions::verneed_at))]
-fn push_verneed_at(out: &mut Vec<u8>, plan: &Plan, index: usize) -> Result<(), AllocError>
+fn push_verneed_at(out: &mut Vec<u8>, plan: &LayoutPlan, index: usize) -> Result<(), AllocError>
     requires { index < length plan.now.files }
     ensures { OnOk result (out.new.items ≡ out.old.items ++ spec.verneed_at plan.now index) }
 {
@@ -320,7 +325,7 @@ fn push_verneed_at(out: &mut Vec<u8>, plan: &Plan, index: usize) -> Result<(), A
     push_vernauxes(out, plan, word(plan.files.as_slice(), index))
 }
 
-fn push_verneeds(out: &mut Vec<u8>, plan: &Plan) -> Result<(), AllocError>
+fn push_verneeds(out: &mut Vec<u8>, plan: &LayoutPlan) -> Result<(), AllocError>
     ensures { OnOk result (out.new.items ≡ out.old.items
         ++ flat_map (spec.verneed_at plan.now) (range_with_len 0 (length plan.now.files))) }
 {
@@ -333,7 +338,7 @@ fn push_verneeds(out: &mut Vec<u8>, plan: &Plan) -> Result<(), AllocError>
 
 /// The bytes of `.gnu.version_r`: the versions that are needed.
 #[tactic(auto, unfolding(crate::specs::Versions::verneeds))]
-pub fn verneeds(alloc: Global, plan: &Plan) -> Result<Vec<u8>, AllocError>
+pub fn verneeds(alloc: Global, plan: &LayoutPlan) -> Result<Vec<u8>, AllocError>
     ensures { IfOk result (λ v. v.items ≡ spec.verneeds plan.now) }
 {
     let mut out = Vec::new(alloc);

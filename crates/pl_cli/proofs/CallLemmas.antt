@@ -13,7 +13,7 @@ pub no_calls : {P : Effect} (e : Ending) (a : Seen) → is_broken e ≡ false �
 no_calls e a unbroken files disk = record {
   tells = refl;
   records = refl;
-  place = refl;
+  referent = refl;
   files = λ _. files;
   disk = λ _. disk;
   count = record { later = omega arith; rose = λ broken. absurd (false≢true (sym unbroken ∙ broken)); quiet = λ _. refl };
@@ -26,7 +26,7 @@ pub as_calls : {M P : Effect} (e f : Ending) {a b : Seen} → is_broken e ≡ is
 as_calls e f {a = a} {b = b} alike call files disk = record {
   tells = call.tells;
   records = call.records;
-  place = call.place;
+  referent = call.referent;
   files = λ told. files told (call.files told);
   disk = λ told. disk told (call.disk told);
   count = subst (λ (broken : Bool). Counted broken a.faults b.faults) alike call.count;
@@ -39,7 +39,7 @@ pub then_calls : {M N P : Effect} (e f : Ending) {a b c : Seen} → is_broken e 
 then_calls e f {a = a} {b = b} {c = c} alike first second files disk = record {
   tells = second.tells ∙ first.tells;
   records = second.records ∙ first.records;
-  place = second.place ∙ first.place;
+  referent = second.referent ∙ first.referent;
   files = λ told. files told (first.files told) (second.files (first.tells ∙ told));
   disk = λ told. disk told (first.disk told) (second.disk (first.records ∙ told));
   count = subst (λ (broken : Bool). Counted broken a.faults c.faults) alike (counted_then (is_broken e) a.faults b.faults c.faults first.count second.count);

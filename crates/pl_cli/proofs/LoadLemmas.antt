@@ -29,7 +29,7 @@ use Rattle.pl_cli.specs.declared.stop.Stop.TheVariants as stops
 use Rattle.pl_cli.specs.Came.{HasGiven, HasLoaded}
 use Rattle.pl_cli.specs.Files.{file_in}
 use Rattle.pl_weave.specs.Given.{given_from}
-use Rattle.pl_cli.specs.Load.{choice, given_file, loaded, loaded_files, loaded_object, loading_file}
+use Rattle.pl_cli.specs.Load.{choice, given_file, load_result, loaded_files, loaded_object, loading_file}
 use Rattle.pl_cli.specs.Looks.{stepped, takes}
 use Rattle.pl_cli.specs.Stops.{of_load_fault}
 use Rattle.pl_cli.proofs.CallLemmas.{asked_all}
@@ -76,8 +76,8 @@ then_unless : {X Y : Type 0} (test : Bool) (fault : Cause) (r : Result X Cause) 
 then_unless true fault r f = refl
 then_unless false fault r f = refl
 
-pub loaded_is : (policy : Policy) (busy : Option Range) (fs : Files) (name : List ℕ) → loaded policy busy fs name ≡ (loaded_files policy fs name >>= λ all. because causes.Load (start.started (choice policy) busy all))
-unfolding loaded loaded_files start.load
+pub loaded_is : (policy : Policy) (busy : Option Range) (fs : Files) (name : List ℕ) → load_result policy busy fs name ≡ (loaded_files policy fs name >>= λ all. because causes.Load (start.started (choice policy) busy all))
+unfolding load_result loaded_files start.load
 loaded_is policy busy fs name = then_unless (not (is_valid_name name)) causes.BadName (files causes.Load (loading_file policy fs name) name) (λ all. because causes.Load (start.started (choice policy) busy all))
 
 -- ---- the files of the walk

@@ -1,6 +1,6 @@
 -- No cause of a command is a want of memory.
 use Rattle.std.proofs.Common.{◌≡◌, Bool, true, false, refl, ℕ, List, Option, Some, None}
-use Rattle.pl_base.specs.Answers.{Tells, because}
+use Rattle.pl_base.specs.Answers.{NeverMemory, because}
 use Rattle.pl_base.specs.Files.{Files}
 use Rattle.std.specs.FinMap.{get}
 use Rattle.pl_base.proofs.TellsLaws.{ok_tells, err_tells, unless_tells, then_tells, cause_tells, because_tells, each_tells}
@@ -25,7 +25,7 @@ use Rattle.pl_cli.specs.declared.print.TheConstants.{CACHE}
 use Rattle.pl_cli.specs.Print.{bad_cache, cache_in, cache_of, no_cache, print_text, printed}
 use Rattle.pl_cli.specs.declared.command.Detail.{Detail}
 use Rattle.pl_cli.specs.Files.{valid_file, of_file, file_in}
-use Rattle.pl_cli.specs.Load.{choice, is_memory, loaded, loading_file}
+use Rattle.pl_cli.specs.Load.{choice, is_memory, load_result, loading_file}
 use Rattle.pl_loader.specs.Faults as memory
 use Rattle.pl_place.specs.Policy.{Choice}
 use Rattle.pl_weave.specs.Given.{first_by, first_of, given_from}
@@ -60,31 +60,31 @@ use Rattle.pl_batch.specs.declared.run.Run.TheVariants as runs
 
 -- ---- `--load`
 
-looked_up_tells : (name : List ℕ) (file : Option (List ℕ)) → Tells is_memory (of_file name file)
+looked_up_tells : (name : List ℕ) (file : Option (List ℕ)) → NeverMemory is_memory (of_file name file)
 looked_up_tells name None = err_tells _ is_memory _ refl
 looked_up_tells name (Some bytes) = unless_tells is_memory _ _ _ refl (ok_tells is_memory bytes)
 
-file_tells : (files : Files) (name : List ℕ) → Tells is_memory (file_in files name)
+file_tells : (files : Files) (name : List ℕ) → NeverMemory is_memory (file_in files name)
 unfolding file_in
 file_tells files name = looked_up_tells name (valid_file files name)
 
-first_tells : (name bytes : List ℕ) (p : Placing) → Tells memory.is_memory (first_by name bytes p)
+first_tells : (name bytes : List ℕ) (p : Placing) → NeverMemory memory.is_memory (first_by name bytes p)
 first_tells name bytes placings.NotPie = ok_tells memory.is_memory bytes
 first_tells name bytes placings.NoPlace = err_tells _ memory.is_memory _ refl
 first_tells name bytes (placings.Fixed at file) = ok_tells memory.is_memory file
 
-given_tells : (choose : Choice) (name bytes : List ℕ) (b : Bool) → Tells memory.is_memory (if b then first_of choose name bytes else Ok bytes)
+given_tells : (choose : Choice) (name bytes : List ℕ) (b : Bool) → NeverMemory memory.is_memory (if b then first_of choose name bytes else Ok bytes)
 unfolding first_of
 given_tells choose name bytes true = first_tells name bytes (placed choose bytes)
 given_tells choose name bytes false = ok_tells memory.is_memory bytes
 
-loading_tells : (policy : Policy) (files : Files) (name n : List ℕ) → Tells is_memory (loading_file policy files name n)
+loading_tells : (policy : Policy) (files : Files) (name n : List ℕ) → NeverMemory is_memory (loading_file policy files name n)
 unfolding loading_file given_from
 loading_tells policy files name n =
     then_tells is_memory (file_in files n) _ (file_tells files n) (λ bytes. because_tells memory.is_memory is_memory causes.Load _ (λ f t. t) (given_tells (choice policy) name bytes (bytes_eq n name)))
 
-pub loaded_tells : (policy : Policy) (busy : Option Range) (files : Files) (name : List ℕ) → Tells is_memory (loaded policy busy files name)
-unfolding loaded
+pub loaded_tells : (policy : Policy) (busy : Option Range) (files : Files) (name : List ℕ) → NeverMemory is_memory (load_result policy busy files name)
+unfolding load_result
 loaded_tells policy busy files name = unless_tells is_memory _ _ _ refl (load_tells (choice policy) busy causes.Load is_memory (loading_file policy files name) name (λ f t. t) (loading_tells policy files name))
 
 -- ---- `--order`
@@ -95,32 +95,32 @@ walk_fault_tells (walk_faults.TooMany name) t = refl
 walk_fault_tells (walk_faults.NotThere name) t = refl
 walk_fault_tells walk_faults.NoMemory t = t
 
-original_tells : (bytes : List ℕ) → Tells form.is_memory (original bytes)
+original_tells : (bytes : List ℕ) → NeverMemory form.is_memory (original bytes)
 unfolding original
 original_tells bytes = then_tells form.is_memory _ _ (file_in_tells bytes) (λ file. ok_tells form.is_memory _)
 
-object_tells : (files : Files) (name : List ℕ) → Tells is_memory (object_in files name)
+object_tells : (files : Files) (name : List ℕ) → NeverMemory is_memory (object_in files name)
 unfolding object_in
 object_tells files name = then_tells is_memory _ _ (file_tells files name) (λ bytes. because_tells form.is_memory is_memory (refused name) _ (of_file_tells name) (original_tells bytes))
 
-walked_tells : (files : Files) (name : List ℕ) → Tells is_memory (walked files name)
+walked_tells : (files : Files) (name : List ℕ) → NeverMemory is_memory (walked files name)
 unfolding walked
 walked_tells files name = unless_tells is_memory _ _ _ refl (walk_tells (walk_fault causes.Load) is_memory (object_in files) name walk_fault_tells (object_tells files))
 
-pub ordered_tells : (detail : Detail) (files : Files) (name : List ℕ) → Tells is_memory (ordered detail files name)
+pub ordered_tells : (detail : Detail) (files : Files) (name : List ℕ) → NeverMemory is_memory (ordered detail files name)
 unfolding ordered
 ordered_tells detail files name = then_tells is_memory (walked files name) _ (walked_tells files name) (λ members. ok_tells is_memory (order_text detail members))
 
 -- ---- `-p`
 
-cache_tells : (file : Result (List ℕ) FolderFault) → Tells is_memory (cache_of file)
+cache_tells : (file : Result (List ℕ) FolderFault) → NeverMemory is_memory (cache_of file)
 cache_tells (Ok bytes) = cause_tells is_memory bad_cache (read bytes) (λ e. refl)
 cache_tells (Err folder_faults.NotThere) = ok_tells is_memory no_cache
 cache_tells (Err folder_faults.TooLarge) = err_tells _ is_memory _ refl
 cache_tells (Err folder_faults.Failed) = err_tells _ is_memory _ refl
 cache_tells (Err folder_faults.NoMemory) = err_tells _ is_memory _ refl
 
-pub printed_tells : (files : Files) → Tells is_memory (printed files)
+pub printed_tells : (files : Files) → NeverMemory is_memory (printed files)
 unfolding printed cache_in
 printed_tells files = then_tells is_memory (cache_in files) _ (cache_tells (taken files CACHE.now)) (λ cache. ok_tells is_memory (print_text cache))
 
@@ -144,48 +144,48 @@ batch_cause (batch_causes.NotPie name) = refl
 batch_cause (batch_causes.NoPlace name) = refl
 batch_cause (batch_causes.NotFixed name) = refl
 
-batch_tells : {X : Type 0} (r : Result X batch.Cause) → Tells is_memory (because of_batch r)
+batch_tells : {X : Type 0} (r : Result X batch.Cause) → NeverMemory is_memory (because of_batch r)
 batch_tells r = cause_tells is_memory of_batch r batch_cause
 
-pub undone_tells : (run : Run) (files : Files) → Tells is_memory (undoes run files)
+pub undone_tells : (run : Run) (files : Files) → NeverMemory is_memory (undoes run files)
 undone_tells run files = batch_tells (run_meant run files)
 
-pub removed_tells : (name : List ℕ) (files : Files) → Tells is_memory (removes name files)
+pub removed_tells : (name : List ℕ) (files : Files) → NeverMemory is_memory (removes name files)
 removed_tells name files = batch_tells (removal_meant name files)
 
-pub fixed_tells : (policy : Policy) (name : List ℕ) (files : Files) → Tells is_memory (fixed_line policy name files)
+pub fixed_tells : (policy : Policy) (name : List ℕ) (files : Files) → NeverMemory is_memory (fixed_line policy name files)
 unfolding fixed_line
 fixed_tells policy name files = then_tells is_memory (fixes policy name files) _ (batch_tells (fixing_meant (choice policy) name files)) (λ rows.
     then_tells is_memory (because of_batch (address_of (choice policy) files name)) _ (batch_tells (address_of (choice policy) files name)) (λ at. ok_tells is_memory (fixed_text name at)))
 
-pub unfixed_tells : (name : List ℕ) (files : Files) → Tells is_memory (loosens name files)
+pub unfixed_tells : (name : List ℕ) (files : Files) → NeverMemory is_memory (loosens name files)
 unfixed_tells name files = batch_tells (loosening_meant name files)
 
-file_by_tells : (kind : Content) (input : List ℕ) → Tells is_memory (file_by kind input)
+file_by_tells : (kind : Content) (input : List ℕ) → NeverMemory is_memory (file_by kind input)
 file_by_tells File input = ok_tells is_memory input
 file_by_tells Recipe input = cause_tells is_memory recipe_cause (build input) (λ e. refl)
 
-content_tells : (kind : Content) (input : List ℕ) → Tells is_memory (content kind input)
+content_tells : (kind : Content) (input : List ℕ) → NeverMemory is_memory (content kind input)
 unfolding content
 content_tells kind input = unless_tells is_memory _ _ _ refl (then_tells is_memory (file_by kind input) _ (file_by_tells kind input) (λ file. unless_tells is_memory _ _ _ refl (ok_tells is_memory file)))
 
-pub stored_tells : (name : List ℕ) (kind : Content) (input : List ℕ) (files : Files) → Tells is_memory (stores name kind input files)
+pub stored_tells : (name : List ℕ) (kind : Content) (input : List ℕ) (files : Files) → NeverMemory is_memory (stores name kind input files)
 stored_tells name kind input files = then_tells is_memory (because of_batch (ready_for name files)) _ (batch_tells (ready_for name files)) (λ none.
     then_tells is_memory (content kind input) _ (content_tells kind input) (λ file. batch_tells (changes_of files (runs.Install name file))))
 
 -- ---- a run over all files
 
-pub previewed_tells : (detail : Detail) (asked : Prelinking) (files : Files) → Tells is_memory (previewed detail asked files)
+pub previewed_tells : (detail : Detail) (asked : Prelinking) (files : Files) → NeverMemory is_memory (previewed detail asked files)
 unfolding previewed
 previewed_tells detail asked files = then_tells is_memory (because of_batch (all_reported files asked)) _ (batch_tells (all_reported files asked)) (λ report. ok_tells is_memory (report_text detail report))
 
-pub reported_tells : (detail : Detail) (asked : Prelinking) (files : Files) → Tells is_memory (reported detail asked files)
+pub reported_tells : (detail : Detail) (asked : Prelinking) (files : Files) → NeverMemory is_memory (reported detail asked files)
 unfolding reported
 reported_tells detail asked files = then_tells is_memory (prelinks asked files) _ (batch_tells (run_meant (runs.All asked) files)) (λ rows. previewed_tells detail asked files)
 
 -- ---- `-y`
 
-pub verified_tells : (name : List ℕ) (files : Files) → Tells is_memory (verifies name files)
+pub verified_tells : (name : List ℕ) (files : Files) → NeverMemory is_memory (verifies name files)
 unfolding verifies
 verified_tells name files = batch_tells (verified files name)
 
@@ -195,21 +195,21 @@ script_cause : (fault : ScriptFault) → is_memory (of_script fault) ≡ false
 script_cause (script_faults.Wrong line) = refl
 script_cause script_faults.NoMemory = refl
 
-script_tells : (input : List ℕ) → Tells is_memory (script_in input)
+script_tells : (input : List ℕ) → NeverMemory is_memory (script_in input)
 unfolding script_in
 script_tells input = unless_tells is_memory _ _ _ refl (cause_tells is_memory of_script (script input) script_cause)
 
-start_tells : (name : List ℕ) (file : Option (List ℕ)) → Tells is_memory (start_file name file)
+start_tells : (name : List ℕ) (file : Option (List ℕ)) → NeverMemory is_memory (start_file name file)
 start_tells name None = err_tells _ is_memory _ refl
 start_tells name (Some bytes) = ok_tells is_memory bytes
 
-run_tells_of : (files : Files) (asked : RunLine) → Tells is_memory (run_of files asked)
+run_tells_of : (files : Files) (asked : RunLine) → NeverMemory is_memory (run_of files asked)
 run_tells_of files (lines.Prelink now) = ok_tells is_memory _
 run_tells_of files lines.UndoAll = ok_tells is_memory _
 run_tells_of files (lines.Undo names) = ok_tells is_memory _
 run_tells_of files (lines.Install name from) = then_tells is_memory (start_file from (get files from)) _ (start_tells from (get files from)) (λ bytes. ok_tells is_memory _)
 
-pub woven_tells : (input : List ℕ) (files : Files) → Tells is_memory (weaves input files)
+pub woven_tells : (input : List ℕ) (files : Files) → NeverMemory is_memory (weaves input files)
 unfolding weaves
 woven_tells input files = then_tells is_memory (script_in input) _ (script_tells input) (λ s.
     then_tells is_memory (because of_batch (copied files)) _ (batch_tells (copied files)) (λ copy.

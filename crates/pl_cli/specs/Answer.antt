@@ -17,7 +17,7 @@ use Rattle.pl_cli.specs.declared.command.Command.TheVariants.{Load, All, Preview
 use Rattle.pl_cli.specs.declared.command.Content.{Content}
 use Rattle.pl_cli.specs.declared.command.Content.TheVariants.{File, Recipe}
 use Rattle.pl_cli.specs.Demo.{demo_text}
-use Rattle.pl_cli.specs.Load.{loaded, choice}
+use Rattle.pl_cli.specs.Load.{load_result, choice}
 use Rattle.pl_cli.specs.LoadText.{load_text}
 use Rattle.pl_cli.specs.Order.{ordered}
 use Rattle.pl_cli.specs.Print.{printed}
@@ -99,7 +99,7 @@ fixed_line policy name files = fixes policy name files >>= λ rows. because of_b
 
 abbrev pub answer : Option Command → Files → List ℕ → Answer
 answer None files input = record { status = statuses.Usage; text = usage }
-answer (Some (Load name busy policy)) files input = load_answer (loaded policy busy files name)
+answer (Some (Load name busy policy)) files input = load_answer (load_result policy busy files name)
 answer (Some (All asked detail)) files input = text_answer (reported detail asked (restored files))
 answer (Some (Preview asked detail)) files input = text_answer (previewed detail asked files)
 answer (Some UndoAll) files input = write_answer (λ rows. undone_text (length rows)) (undoes runs.UndoAll (restored files))

@@ -10,7 +10,7 @@ use Rattle.pl_demo.specs.Demo as demo
 use Rattle.pl_demo.specs.declared.counting.Counts.{Counts}
 use Rattle.pl_loader.specs.Started.{Start}
 use Rattle.pl_words.specs.declared.command.Policy.TheVariants.{Lowest}
-use Rattle.pl_cli.specs.Load.{loaded}
+use Rattle.pl_cli.specs.Load.{load_result}
 use Rattle.pl_cli.specs.LoadText.{load_text}
 use Rattle.pl_cli.specs.Refusals.{refusal}
 use Rattle.pl_cli.specs.declared.cause.Cause.{Cause}
@@ -19,7 +19,7 @@ use Rattle.pl_cli.specs.declared.cause.Cause.{Cause}
 
 -- what `--load` of a name comes to
 abbrev pub load : Files → List ℕ → Result Start Cause
-load files name = loaded Lowest None files name
+load files name = load_result Lowest None files name
 
 -- its text: that of the start, or the line of the cause why there is none
 abbrev pub text_of : Result Start Cause → List ℕ

@@ -45,8 +45,8 @@ loaded_object policy files name = walk.object_of causes.Load (loading_file polic
 unfoldable pub loaded_files : Policy → Files → List ℕ → Result (List ObjectFile) Cause
 loaded_files policy files name = unless (not (is_valid_name name)) causes.BadName (walk.files causes.Load (loading_file policy files name) name)
 
-unfoldable pub loaded : Policy → Option Range → Files → List ℕ → Result Start Cause
-loaded policy busy files name = unless (not (is_valid_name name)) causes.BadName (load (choice policy) busy causes.Load (loading_file policy files name) name)
+unfoldable pub load_result : Policy → Option Range → Files → List ℕ → Result Start Cause
+load_result policy busy files name = unless (not (is_valid_name name)) causes.BadName (load (choice policy) busy causes.Load (loading_file policy files name) name)
 
 -- what the files of a load start from by a choice, or the first cause why they do not
 abbrev pub start_by : {F : Type 0} → Choice → loading.Load F → Result Start Cause

@@ -9,10 +9,10 @@ use Rattle.std.proofs.lemmas.Option.{none-some, same_Some, slice_get_read}
 use Rattle.pl_elf.specs.Kinds.{is_program}
 use Rattle.pl_elf.specs.declared.kind.Kind.{Kind}
 use Rattle.pl_elf.specs.declared.kind.Kind.TheVariants.{Program, Library, Static}
-use Rattle.pl_links.specs.Closed.{IsFlag, IsClosedBy, GivesOneWord}
+use Rattle.pl_links.specs.OneWord.{IsFlag, GivesOneWordBy, GivesOneWord}
 use Rattle.pl_links.specs.Definers.{HasDefiner, HasHashes}
 use Rattle.pl_links.specs.Folder.{IsMadeOf, IsMember, IsWithin}
-use Rattle.pl_links.proofs.ClosedLaws.{closed}
+use Rattle.pl_links.proofs.OneWordLaws.{one_word}
 use Rattle.pl_links.proofs.FolderLaws.{object_at, member_has}
 use Rattle.pl_object.specs.declared.object.Object.{Object}
 use Rattle.pl_object.specs.declared.reloc.Reloc.{Reloc}
@@ -136,17 +136,17 @@ value_there os places modules m r word e = (given places (row m r) word, rw e re
 
 -- a flag of a library is right in a program's walk
 module _ (files : List Known) (n : List ℕ) (ws : Walked) (h : walk_in files n ≡ Ok ws) (linked : (o : Object) → object_of files n ≡ Ok o → IsLinked o.kind) where
-  flag_right : (l : Link) → IsLink files l → (m : ℕ) (o : Object) (modules : List Module) → slice_get ws m ≡ Some (l.name, o) → (i : ℕ) (d : Reloc) → slice_get l.closed i ≡ Some true → HasValue (objects ws) (zeros ws) modules m (get_or o.relocations i d)
+  flag_right : (l : Link) → IsLink files l → (m : ℕ) (o : Object) (modules : List Module) → slice_get ws m ≡ Some (l.name, o) → (i : ℕ) (d : Reloc) → slice_get l.one_word i ≡ Some true → HasValue (objects ws) (zeros ws) modules m (get_or o.relocations i d)
   flag_right l is m o modules at i d set =
       let own = is.own in
       let first : IsMember own 0 l.name = first_member files l.name own is.walks in
       let same : first.object ≡ o = same_Some first.object o (sym (walk_made files l.name own is.walks 0 l.name first.object first.at) ∙ walk_made files n ws h m l.name o at) in
       let relocs : relocations_in (slice_get (objects own) 0) ≡ o.relocations = ap relocations_in (object_at own 0 l.name first.object first.at) ∙ ap (λ (p : Object). p.relocations) same in
       let r : Reloc = get_or o.relocations i d in
-      let flags : AllZip (IsFlag is.definers (objects own)) o.relocations l.closed = subst (λ (rs : List Reloc). AllZip (IsFlag is.definers (objects own)) rs l.closed) relocs is.flags in
-      let known : IsClosedBy is.definers (objects own) r = zip_at (IsFlag is.definers (objects own)) o.relocations l.closed i d true flags set refl in
+      let flags : AllZip (IsFlag is.definers (objects own)) o.relocations l.one_word = subst (λ (rs : List Reloc). AllZip (IsFlag is.definers (objects own)) rs l.one_word) relocs is.flags in
+      let known : GivesOneWordBy is.definers (objects own) r = zip_at (IsFlag is.definers (objects own)) o.relocations l.one_word i d true flags set refl in
       let whole : GivesOneWord (folder files) l.name own r =
-      closed (folder files) is.definers l.name own r (record { hashes = is.hashes; made = walk_made files l.name own is.walks; first = first }) known in
+      one_word (folder files) is.definers l.name own r (record { hashes = is.hashes; made = walk_made files l.name own is.walks; first = first }) known in
       let named : IsMember ws m l.name = record { object = o; at = at } in
       let word = whole (λ _. 0) in
       value_there (objects ws) (zeros ws) modules m r word.0 (word.1 ws m (zeros ws) modules (record {

@@ -4,20 +4,20 @@ use Rattle.std.specs.Prelude.{◌≢◌, ◌&&◌, map}
 use Rattle.std.proofs.lemmas.List.{at_drop_more, at_drop_all}
 use Rattle.pl_lists.specs.declared.list_row.ListRow.{ListRow}
 use Rattle.pl_scope.specs.declared.member.Member.{Member}
-use Rattle.pl_cone.specs.Current.{is_row, tells}
+use Rattle.pl_cone.specs.Current.{is_row, lists_members}
 use Rattle.pl_cone.specs.Known.{mark_of}
 use Rattle.pl_cone.specs.declared.known.Known.{Known}
 
 -- what is left of both
 abbrev pub tells_from : List Known → List ListRow → List Member → ℕ → Bool
-tells_from files rs ms i = tells files (drop i rs) (map (λ m. m.name) (drop i ms))
+tells_from files rs ms i = lists_members files (drop i rs) (map (λ m. m.name) (drop i ms))
 
 tells_step : (files : List Known) (rs : List ListRow) (ms : List Member) (i : ℕ) (r : ListRow) (m : Member) → i < length rs → i < length ms → r ≡ get_or rs i r → m ≡ get_or ms i m
     → tells_from files rs ms i ≡ (is_row m.name (mark_of files m.name) r && tells_from files rs ms (i + 1))
-unfolding tells
+unfolding lists_members
 tells_step files rs ms i r m in_rows in_members row member =
-    at_drop_more (λ (zs : List ListRow). tells files zs (map (λ (x : Member). x.name) (drop i ms))) rs i r in_rows
-    ∙ (at_drop_more (λ (ys : List Member). tells files (get_or rs i r ∷ drop (i + 1) rs) (map (λ (x : Member). x.name) ys)) ms i m in_members
+    at_drop_more (λ (zs : List ListRow). lists_members files zs (map (λ (x : Member). x.name) (drop i ms))) rs i r in_rows
+    ∙ (at_drop_more (λ (ys : List Member). lists_members files (get_or rs i r ∷ drop (i + 1) rs) (map (λ (x : Member). x.name) ys)) ms i m in_members
     ∙ rw (← row, ← member) refl)
 
 -- a row that tells its member
@@ -34,14 +34,14 @@ tells_fails files rs ms i r m whole in_rows in_members row member fails so_far =
 
 -- behind the last row
 pub tells_done : (files : List Known) (rs : List ListRow) (ms : List Member) (i : ℕ) (whole : Bool) → length rs ≤ i → length ms ≤ i → tells_from files rs ms i ≡ whole → whole ≡ true
-unfolding tells
+unfolding lists_members
 tells_done files rs ms i whole past_rows past_members so_far =
-    sym so_far ∙ (at_drop_all (λ (zs : List ListRow). tells files zs (map (λ (x : Member). x.name) (drop i ms))) rs i past_rows
-    ∙ at_drop_all (λ (ys : List Member). tells files [] (map (λ (x : Member). x.name) ys)) ms i past_members)
+    sym so_far ∙ (at_drop_all (λ (zs : List ListRow). lists_members files zs (map (λ (x : Member). x.name) (drop i ms))) rs i past_rows
+    ∙ at_drop_all (λ (ys : List Member). lists_members files [] (map (λ (x : Member). x.name) ys)) ms i past_members)
 
 -- more or fewer rows than members
-pub tells_none : (files : List Known) (rs : List ListRow) (ms : List Member) → length rs ≢ length ms → tells files rs (map (λ m. m.name) ms) ≡ false
-unfolding tells
+pub tells_none : (files : List Known) (rs : List ListRow) (ms : List Member) → length rs ≢ length ms → lists_members files rs (map (λ m. m.name) ms) ≡ false
+unfolding lists_members
 tells_none files [] [] differs = absurd (differs refl)
 tells_none files [] (m ∷ ms) differs = refl
 tells_none files (r ∷ rs) [] differs = refl

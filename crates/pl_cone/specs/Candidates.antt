@@ -88,8 +88,8 @@ abbrev pub AnswersResolved : Walked → List Module → Result (Unit {0}) Skip �
 AnswersResolved walked modules answer = Answers is_memory answer (resolved walked modules)
 
 -- the members link
-unfoldable pub linked : Walked → Result (Unit {0}) Skip
-linked walked = because of_tls (offsets (blocks walked)) >>= λ modules. resolved walked modules
+unfoldable pub check_links : Walked → Result (Unit {0}) Skip
+check_links walked = because of_tls (offsets (blocks walked)) >>= λ modules. resolved walked modules
 
 -- ---- the whole
 
@@ -97,7 +97,7 @@ linked walked = because of_tls (offsets (blocks walked)) >>= λ modules. resolve
 unfoldable pub fit : (List ℕ → Option ℕ) → List ℕ → Walked → Result (Unit {0}) Skip
 fit faults n walked =
     unless (is_static (kind_of walked)) (skips.Static n)
-    (all_formed faults (names walked) >>= λ _. if is_program (kind_of walked) then linked walked else Ok tt)
+    (all_formed faults (names walked) >>= λ _. if is_program (kind_of walked) then check_links walked else Ok tt)
 
 -- that a name may be prelinked, or the first cause why it may not, by the objects and the form faults of names
 abbrev pub prelinkable_by : (List ℕ → Result Object Skip) → (List ℕ → Option ℕ) → List ℕ → Result (Unit {0}) Skip

@@ -22,11 +22,11 @@ is_row n None r = false
 is_row n (Some k) r = bytes_eq r.name n && (r.stamp == k.stamp && r.checksum == k.checksum)
 
 -- a list has a row for each of these members in their order, and each of them is prelinked
-unfoldable pub tells : List Known → List ListRow → List (List ℕ) → Bool
-tells files [] [] = true
-tells files [] (n ∷ ns) = false
-tells files (r ∷ rs) [] = false
-tells files (r ∷ rs) (n ∷ ns) = is_row n (mark_of files n) r && tells files rs ns
+unfoldable pub lists_members : List Known → List ListRow → List (List ℕ) → Bool
+lists_members files [] [] = true
+lists_members files [] (n ∷ ns) = false
+lists_members files (r ∷ rs) [] = false
+lists_members files (r ∷ rs) (n ∷ ns) = is_row n (mark_of files n) r && lists_members files rs ns
 
 -- ---- slots
 
@@ -46,7 +46,7 @@ at_slot slots n k walked = not (is_library (kind_of walked)) || k.slot == slot_o
 
 abbrev pub holds_mark : List Known → List Slot → List ℕ → Option Mark → Walked → Bool
 holds_mark files slots n None walked = false
-holds_mark files slots n (Some k) walked = k.version == VERSION && (at_slot slots n k walked && tells files k.list.now (others walked))
+holds_mark files slots n (Some k) walked = k.version == VERSION && (at_slot slots n k walked && lists_members files k.list.now (others walked))
 
 abbrev pub holds_in : List Known → List Slot → List ℕ → Result Walked Skip → Bool
 holds_in files slots n (Ok walked) = holds_mark files slots n (mark_of files n) walked

@@ -6,7 +6,7 @@ use Rattle.std.specs.Str.{bytes_eq}
 use Rattle.pl_base.specs.Answers.{◌>>=◌}
 use Rattle.pl_base.specs.Each.{each}
 use Rattle.pl_elf.specs.Kinds.{is_library}
-use Rattle.pl_links.specs.Closed.{IsFlag}
+use Rattle.pl_links.specs.OneWord.{IsFlag}
 use Rattle.pl_links.specs.Definers.{HasHashes}
 use Rattle.pl_object.specs.declared.object.Object.{Object}
 use Rattle.pl_object.specs.declared.reloc.Reloc.{Reloc}
@@ -58,7 +58,7 @@ pub record IsLink (files : List Known) (l : Link) : Type 0 where
   pub hashes : HasHashes (folder files) definers
   pub own : Walked
   pub walks : walk_in files l.name ≡ Ok own
-  pub flags : AllZip (IsFlag definers (objects own)) (relocations_in (slice_get (objects own) 0)) l.closed
+  pub flags : AllZip (IsFlag definers (objects own)) (relocations_in (slice_get (objects own) 0)) l.one_word
 
 -- ---- in one scope
 
@@ -81,7 +81,7 @@ HasValue os places modules member r = (g : Meaning) × (meaning os places module
 -- the flag of an index is set
 abbrev pub IsFlagged : Option Link → ℕ → Type 0
 IsFlagged None index = ⊥
-IsFlagged (Some l) index = slice_get l.closed index ≡ Some true
+IsFlagged (Some l) index = slice_get l.one_word index ≡ Some true
 
 -- the relocations of a member whose flags are set have values
 abbrev pub TellsOf : List Object → List ℕ → List Module → ℕ → List Reloc → Option Link → Type 0

@@ -9,7 +9,7 @@ ghost use Rattle.pl_cone.specs.Links.{HaveValuesAtZero, IsLink};
 ghost use Rattle.pl_cone.specs.Skips.{is_memory};
 
 use crate::forms::all_formed;
-use crate::linking::linked;
+use crate::linking::check_links;
 use crate::walks::walk_in;
 use crate::{Known, Link, Skip};
 use pl_base::Text;
@@ -45,7 +45,7 @@ fn fit(
     }
     all_formed(alloc, files, scope.members())?;
     if kind.is_program() {
-        linked(alloc, scope, links)?;
+        check_links(alloc, scope, links)?;
     }
     Ok(())
 }

@@ -8,7 +8,7 @@ ghost use Rattle.pl_cone.specs.Candidates as candidates;
 ghost use Rattle.pl_cone.specs.Current as spec;
 ghost use Rattle.pl_cone.specs.Known.{AreAccepted};
 
-use crate::lists::tells;
+use crate::lists::lists_members;
 use crate::names::mark_of;
 use crate::slots::at_slot;
 use crate::walks::walk_in;
@@ -45,7 +45,7 @@ fn holds_mark(
     };
     mark.version == VERSION
         && at_slot(slots, name, mark, scope)
-        && tells(files, mark.list, others(scope))
+        && lists_members(files, mark.list, others(scope))
 }
 
 /// Whether a name holds.

@@ -157,7 +157,7 @@ fn is_flagged(link: Option<&Link>, index: usize) -> bool
     let Some(link) = link else {
         return false;
     };
-    let flags = link.closed.as_slice();
+    let flags = link.one_word.as_slice();
     index < flags.len() && flags[index]
 }
 
@@ -256,24 +256,27 @@ fn resolved_by(
 }
 
 /// How many relocations of a member no flag tells of.
-fn open_in(relocs: &[Reloc], known: Option<&Link>) -> u64 {
-    let mut open: u64 = 0;
+fn remaining_in(relocs: &[Reloc], known: Option<&Link>) -> u64 {
+    let mut remaining: u64 = 0;
     for index in 0..relocs.len() {
         if !is_flagged(known, index) {
-            open = open.saturating_add(1);
+            remaining = remaining.saturating_add(1);
         }
     }
-    open
+    remaining
 }
 
 /// How many of all members.
-fn open_among(members: &[Member<'_>], known: &[Link]) -> u64 {
-    let mut open: u64 = 0;
+fn remaining_among(members: &[Member<'_>], known: &[Link]) -> u64 {
+    let mut remaining: u64 = 0;
     for member in members {
         let link = link_of(known, member.name.as_str());
-        open = open.saturating_add(open_in(member.object.relocations.as_slice(), link));
+        remaining = remaining.saturating_add(remaining_in(
+            member.object.relocations.as_slice(),
+            link,
+        ));
     }
-    open
+    remaining
 }
 
 /// How many symbols the members have.
@@ -291,7 +294,7 @@ fn is_index_cheaper(members: &[Member<'_>], known: &[Link]) -> bool {
         return true;
     };
     let each = first.object.symbols.as_slice().len() as u64;
-    let one_by_one = open_among(members, known).saturating_mul(each);
+    let one_by_one = remaining_among(members, known).saturating_mul(each);
     one_by_one > symbols_among(members).saturating_mul(8)
 }
 
@@ -312,10 +315,10 @@ fn resolved(
 }
 
 /// Whether the members link: an offset of thread-local storage may be too great, or a relocation may have no value. Those of which `known` tells that they have one are not looked up.
-#[tactic(auto, unfolding(crate::specs::Candidates::linked))]
-pub fn linked(alloc: Global, scope: &Scope<'_>, known: &[Link]) -> Result<(), Skip>
+#[tactic(auto, unfolding(crate::specs::Candidates::check_links))]
+pub fn check_links(alloc: Global, scope: &Scope<'_>, known: &[Link]) -> Result<(), Skip>
     requires { links.HaveValuesAtZero scope.now known.now }
-    ensures { Answers is_memory result (spec.linked scope.now) }
+    ensures { Answers is_memory result (spec.check_links scope.now) }
 {
     let modules = modules(alloc, scope)?;
     resolved(alloc, scope, modules.as_slice(), known)

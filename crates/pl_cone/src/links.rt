@@ -11,7 +11,7 @@ use crate::walks::walk_in;
 use crate::{Entry, Known, Skip};
 use pl_base::{Rows, Text};
 use pl_io::NoMemory;
-use pl_links::{Definers, closed_of};
+use pl_links::{Definers, one_word_of};
 use pl_scope::{Member, Scope};
 use std::alloc::{AllocError, Global};
 
@@ -22,7 +22,7 @@ pub struct Link {
     pub name: Text,
 
     /// For each of its relocations, in their order, whether it is known.
-    pub closed: Rows<bool>,
+    pub one_word: Rows<bool>,
 }
 
 /// A file's name with its object, if it has one.
@@ -81,9 +81,9 @@ fn link_by(
     requires walk { candidates.walk_in files.now name.now ≡ Ok own.now }
     ensures { IfOk result (spec.IsLink files.now) }
 {
-    let closed = closed_of(alloc, definers, own)?;
+    let one_word = one_word_of(alloc, definers, own)?;
     let name = Text::copy_of(alloc, name)?;
-    Ok(Link { name, closed })
+    Ok(Link { name, one_word })
 }
 
 /// What is known of a name with a walk; None where that is refused.

@@ -23,9 +23,9 @@ fn is_row(name: &str, mark: Option<&Mark<'_>>, row: &ListRow) -> bool
 }
 
 /// Whether a list tells members in their order.
-#[tactic(auto, unfolding(crate::specs::Current::tells))]
-pub fn tells(files: &[Known<'_>], list: &[ListRow], members: &[Member<'_>]) -> bool
-    ensures { result ≡ spec.tells files.now list.now (names (walked members.now)) }
+#[tactic(auto, unfolding(crate::specs::Current::lists_members))]
+pub fn lists_members(files: &[Known<'_>], list: &[ListRow], members: &[Member<'_>]) -> bool
+    ensures { result ≡ spec.lists_members files.now list.now (names (walked members.now)) }
 {
     if list.len() != members.len() {
         return false;

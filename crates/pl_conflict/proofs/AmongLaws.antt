@@ -13,7 +13,7 @@ use Rattle.pl_base.specs.Sums.{plus}
 use Rattle.pl_base.specs.Windows.{Window}
 use Rattle.pl_base.proofs.AnswerLaws.{ok_same}
 use Rattle.pl_base.proofs.EachLaws.{front_nothing, each_more, each_done, each_stops}
-use Rattle.pl_image.specs.declared.loaded.Loaded.{Loaded}
+use Rattle.pl_image.specs.declared.loaded_object.LoadedObject.{LoadedObject}
 use Rattle.pl_object.specs.declared.object.Object.{Object}
 use Rattle.pl_object.specs.declared.reloc.Reloc.{Reloc}
 use Rattle.pl_tls.specs.declared.module.Module.{Module}
@@ -26,8 +26,8 @@ use Rattle.pl_value.specs.declared.fault.OrdinaryFault.TheVariants.{Link, NoMemo
 use Rattle.pl_value.specs.declared.meaning.Meaning.{Meaning}
 use Rattle.pl_value.specs.declared.word.Word.{Word}
 use Rattle.pl_value.proofs.CollectingLaws.{linked_err, member_more, member_stops, members_done}
-use Rattle.pl_conflict.specs.Among.{Without, FlagOf, ValuesOf, IsQuiet, AreStill, IsFar, IsPassedOf, Adds, IsPassed, IsAmong, IsHeld, AreHeld}
-use Rattle.pl_conflict.specs.declared.among.Still.{Still}
+use Rattle.pl_conflict.specs.Among.{Without, FlagOf, ValuesOf, IsQuiet, AreConflictFree, IsFar, IsPassedOf, Adds, IsPassed, IsAmong, IsHeld, AreHeld}
+use Rattle.pl_conflict.specs.declared.among.ConflictFree.{ConflictFree}
 
 -- ---- lists
 
@@ -132,20 +132,20 @@ pub some_of : (rs : List Reloc) (i : ℕ) → i < length rs → Reloc
 some_of [] i lt = absurd (omega (arith, lt))
 some_of (r ∷ rs) i lt = r
 
-abbrev pub Loop : List Object → List ℕ → List Module → ℕ → List Reloc → Option Still → List Window → ℕ → List Meaning → List Meaning → Type 0
-Loop os places tls m rs still windows i before after = SoFar (IsPassedOf os places tls m rs still windows) (meaning os places tls) (map (row m) rs) i before after
+abbrev pub Loop : List Object → List ℕ → List Module → ℕ → List Reloc → Option ConflictFree → List Window → ℕ → List Meaning → List Meaning → Type 0
+Loop os places tls m rs conflict_free windows i before after = SoFar (IsPassedOf os places tls m rs conflict_free windows) (meaning os places tls) (map (row m) rs) i before after
 
-module _ (os : List Object) (places : List ℕ) (tls : List Module) (m : ℕ) (rs : List Reloc) (still : Option Still) (windows : List Window) where
-  pub loop_begin : (before : List Meaning) → Loop os places tls m rs still windows 0 before before
-  loop_begin before = begin (IsPassedOf os places tls m rs still windows) (meaning os places tls) (map (row m) rs) before
+module _ (os : List Object) (places : List ℕ) (tls : List Module) (m : ℕ) (rs : List Reloc) (conflict_free : Option ConflictFree) (windows : List Window) where
+  pub loop_begin : (before : List Meaning) → Loop os places tls m rs conflict_free windows 0 before before
+  loop_begin before = begin (IsPassedOf os places tls m rs conflict_free windows) (meaning os places tls) (map (row m) rs) before
 
   row_at : (i : ℕ) (d : Reloc) (y : Result Meaning LinkFault) → i < length rs → meaning os places tls (row m (get_or rs i d)) ≡ y → meaning os places tls (get_or (map (row m) rs) i (row m d)) ≡ y
   row_at i d y lt h = ap (meaning os places tls) (get_or-map (row m) rs i d (row m d) lt) ∙ h
 
-  pub loop_past : (i : ℕ) (d : Reloc) (start : ℕ) (before after : List Meaning) → i < length rs → ValuesOf os places tls m rs still → FlagOf still i → start ≡ plus (base_of places m) (get_or rs i d).address → IsFar windows start → Loop os places tls m rs still windows i before after → Loop os places tls m rs still windows (i + 1) before after
+  pub loop_past : (i : ℕ) (d : Reloc) (start : ℕ) (before after : List Meaning) → i < length rs → ValuesOf os places tls m rs conflict_free → FlagOf conflict_free i → start ≡ plus (base_of places m) (get_or rs i d).address → IsFar windows start → Loop os places tls m rs conflict_free windows i before after → Loop os places tls m rs conflict_free windows (i + 1) before after
   loop_past i d start before after lt known set place far s =
       let v = known i d lt set in
-      past (IsPassedOf os places tls m rs still windows) (meaning os places tls) (map (row m) rs) i (row m d) v.0 before after (omega (arith, lt, length-map rs (row m))) (row_at i d (Ok v.0) lt v.1) (record {
+      past (IsPassedOf os places tls m rs conflict_free windows) (meaning os places tls) (map (row m) rs) i (row m d) v.0 before after (omega (arith, lt, length-map rs (row m))) (row_at i d (Ok v.0) lt v.1) (record {
         index = i;
         within = lt;
         set = set;
@@ -153,15 +153,15 @@ module _ (os : List Object) (places : List ℕ) (tls : List Module) (m : ℕ) (r
         far = subst (IsFar windows) (place ∙ sym (start_is os places tls m (get_or rs i d) v.0 v.1)) far;
       }) s
 
-  pub loop_more : (i : ℕ) (d : Reloc) (y : Meaning) (before after new : List Meaning) → i < length rs → Ok y ≡ meaning os places tls (row m (get_or rs i d)) → new ≡ after ++ y ∷ [] → Loop os places tls m rs still windows i before after → Loop os places tls m rs still windows (i + 1) before new
+  pub loop_more : (i : ℕ) (d : Reloc) (y : Meaning) (before after new : List Meaning) → i < length rs → Ok y ≡ meaning os places tls (row m (get_or rs i d)) → new ≡ after ++ y ∷ [] → Loop os places tls m rs conflict_free windows i before after → Loop os places tls m rs conflict_free windows (i + 1) before new
   loop_more i d y before after new lt h is s =
-      more (IsPassedOf os places tls m rs still windows) (meaning os places tls) (map (row m) rs) i (row m d) y before after new (omega (arith, lt, length-map rs (row m))) (row_at i d (Ok y) lt (sym h)) is s
+      more (IsPassedOf os places tls m rs conflict_free windows) (meaning os places tls) (map (row m) rs) i (row m d) y before after new (omega (arith, lt, length-map rs (row m))) (row_at i d (Ok y) lt (sym h)) is s
 
-  pub loop_stops : (i : ℕ) (d : Reloc) (e : LinkFault) (before after : List Meaning) → i < length rs → Err e ≡ meaning os places tls (row m (get_or rs i d)) → Loop os places tls m rs still windows i before after → each (meaning os places tls) (map (row m) rs) ≡ Err e
+  pub loop_stops : (i : ℕ) (d : Reloc) (e : LinkFault) (before after : List Meaning) → i < length rs → Err e ≡ meaning os places tls (row m (get_or rs i d)) → Loop os places tls m rs conflict_free windows i before after → each (meaning os places tls) (map (row m) rs) ≡ Err e
   loop_stops i d e before after lt h s =
       each_stops (meaning os places tls) (map (row m) rs) i (row m d) s.front e (each (meaning os places tls) (map (row m) rs)) (omega (arith, lt, length-map rs (row m))) (row_at i d (Err e) lt (sym h)) s.rest
 
-  pub loop_done : (i : ℕ) (before after : List Meaning) → length rs ≤ i → Loop os places tls m rs still windows i before after → Adds os places tls m rs still windows before after
+  pub loop_done : (i : ℕ) (before after : List Meaning) → length rs ≤ i → Loop os places tls m rs conflict_free windows i before after → Adds os places tls m rs conflict_free windows before after
   loop_done i before after le s = record {
     all = s.front;
     given = each_done (meaning os places tls) (map (row m) rs) i s.front (each (meaning os places tls) (map (row m) rs)) (omega (arith, le, length-map rs (row m))) s.rest;
@@ -172,28 +172,28 @@ module _ (os : List Object) (places : List ℕ) (tls : List Module) (m : ℕ) (r
 
 -- ---- one member after the other
 
-pub record Gathered (os : List Object) (places : List ℕ) (tls : List Module) (still : List Still) (windows : List Window) (i : ℕ) (gs : List Meaning) : Type 0 where
+pub record Gathered (os : List Object) (places : List ℕ) (tls : List Module) (conflict_free : List ConflictFree) (windows : List Window) (i : ℕ) (gs : List Meaning) : Type 0 where
   pub front : List Meaning
   pub rest : with_front front (each (meaning os places tls) (rows_from i (drop i os))) ≡ each (meaning os places tls) (rows os)
-  pub without : Without (IsPassed os places tls still windows) front gs
+  pub without : Without (IsPassed os places tls conflict_free windows) front gs
 
 pub front_err : (front : List Meaning) (r : Result (List Meaning) LinkFault) (e : OrdinaryFault) → MatchBool (is_memory e) ⊤ (because Link r ≡ Err e) → MatchBool (is_memory e) ⊤ (because Link (with_front front r) ≡ Err e)
 front_err front r NoMemory stop = tt
 front_err front r (Link fault) stop = ap (λ (s : Result (List Meaning) LinkFault). because Link (with_front front s)) (linked_err r fault stop)
 
-module _ (os : List Object) (places : List ℕ) (tls : List Module) (still : List Still) (windows : List Window) where
-  pub gather_begin : (gs : List Meaning) → gs ≡ [] → Gathered os places tls still windows 0 gs
+module _ (os : List Object) (places : List ℕ) (tls : List Module) (conflict_free : List ConflictFree) (windows : List Window) where
+  pub gather_begin : (gs : List Meaning) → gs ≡ [] → Gathered os places tls conflict_free windows 0 gs
   gather_begin gs none = record {
     front = [];
     rest = front_nothing (each (meaning os places tls) (rows os));
-    without = subst (Without (IsPassed os places tls still windows) []) (sym none) (without_nothing (IsPassed os places tls still windows));
+    without = subst (Without (IsPassed os places tls conflict_free windows) []) (sym none) (without_nothing (IsPassed os places tls conflict_free windows));
   }
 
-  pub gather_more : (i : ℕ) (o : Object) (gs new : List Meaning) → slice_get os i ≡ Some o → Adds os places tls i o.relocations (slice_get still i) windows gs new → Gathered os places tls still windows i gs → Gathered os places tls still windows (i + 1) new
+  pub gather_more : (i : ℕ) (o : Object) (gs new : List Meaning) → slice_get os i ≡ Some o → Adds os places tls i o.relocations (slice_get conflict_free i) windows gs new → Gathered os places tls conflict_free windows i gs → Gathered os places tls conflict_free windows (i + 1) new
   gather_more i o gs new at adds s =
       let f = meaning os places tls in
-      let P = IsPassed os places tls still windows in
-      let Q = IsPassedOf os places tls i o.relocations (slice_get still i) windows in
+      let P = IsPassed os places tls conflict_free windows in
+      let Q = IsPassedOf os places tls i o.relocations (slice_get conflict_free i) windows in
       record {
         front = s.front ++ adds.all;
         rest = member_more f os i o s.front (s.front ++ adds.all) (each f (rows os)) at (ap (with_front s.front) adds.given) s.rest;
@@ -201,14 +201,14 @@ module _ (os : List Object) (places : List ℕ) (tls : List Module) (still : Lis
             (without_append P s.front gs adds.all adds.kept s.without (without_weaker Q P adds.all adds.kept (λ g passed. record { member = i; object = o; at = at; passed = passed }) adds.without));
       }
 
-  pub gather_stops : (i : ℕ) (o : Object) (gs : List Meaning) (e : OrdinaryFault) → slice_get os i ≡ Some o → MatchBool (is_memory e) ⊤ (because Link (each (meaning os places tls) (map (row i) o.relocations)) ≡ Err e) → Gathered os places tls still windows i gs
+  pub gather_stops : (i : ℕ) (o : Object) (gs : List Meaning) (e : OrdinaryFault) → slice_get os i ≡ Some o → MatchBool (is_memory e) ⊤ (because Link (each (meaning os places tls) (map (row i) o.relocations)) ≡ Err e) → Gathered os places tls conflict_free windows i gs
       → MatchBool (is_memory e) ⊤ (because Link (meanings os places tls) ≡ Err e)
   unfolding meanings
   gather_stops i o gs e at stop s =
       let f = meaning os places tls in
       member_stops f os i o s.front e (each f (rows os)) at (front_err s.front (each f (map (row i) o.relocations)) e stop) s.rest
 
-  pub gather_done : (i : ℕ) (gs : List Meaning) → length os ≤ i → Gathered os places tls still windows i gs → IsAmong os places tls still windows gs
+  pub gather_done : (i : ℕ) (gs : List Meaning) → length os ≤ i → Gathered os places tls conflict_free windows i gs → IsAmong os places tls conflict_free windows gs
   unfolding meanings
   gather_done i gs le s = record {
     all = s.front;
@@ -218,8 +218,8 @@ module _ (os : List Object) (places : List ℕ) (tls : List Module) (still : Lis
 
 -- ---- what is passed by matters nowhere
 
-pub passed_quiet : (os : List Object) (places : List ℕ) (tls : List Module) (files : List Loaded) (still : List Still) (windows : List Window) (g : Meaning) → AreStill os places files still → IsPassed os places tls still windows g → IsQuiet files g
-passed_quiet os places tls files still windows g are p =
+pub passed_quiet : (os : List Object) (places : List ℕ) (tls : List Module) (files : List LoadedObject) (conflict_free : List ConflictFree) (windows : List Window) (g : Meaning) → AreConflictFree os places files conflict_free → IsPassed os places tls conflict_free windows g → IsQuiet files g
+passed_quiet os places tls files conflict_free windows g are p =
     let d = some_of p.object.relocations p.passed.index p.passed.within in
     let q = are p.member p.passed.index p.object d p.at p.passed.within p.passed.set tls in
     subst (IsQuiet files) (ok_same q.0 g (sym q.1.0 ∙ p.passed.gives d)) q.1.1
@@ -237,26 +237,26 @@ one_more (x ∷ xs) b y (suc i) e = elim (one_more xs b y i e) [
 ]
 
 -- the flags of the relocations below an index
-pub record HeldBelow (objects : List Object) (places : List ℕ) (file : List Loaded) (closed : List Bool) (rs : List Reloc) (index : ℕ) (flags : List Bool) : Type 0 where
+pub record HeldBelow (objects : List Object) (places : List ℕ) (file : List LoadedObject) (one_word : List Bool) (rs : List Reloc) (index : ℕ) (flags : List Bool) : Type 0 where
   pub count : length flags ≡ index
-  pub held : AreHeld objects places file closed rs flags
+  pub held : AreHeld objects places file one_word rs flags
 
-pub held_none : (os : List Object) (places : List ℕ) (file : List Loaded) (closed : List Bool) (rs : List Reloc) (flags : List Bool) → flags ≡ [] → HeldBelow os places file closed rs 0 flags
-held_none os places file closed rs flags is = record {
+pub held_none : (os : List Object) (places : List ℕ) (file : List LoadedObject) (one_word : List Bool) (rs : List Reloc) (flags : List Bool) → flags ≡ [] → HeldBelow os places file one_word rs 0 flags
+held_none os places file one_word rs flags is = record {
   count = ap length is;
   held = λ i d lt set. absurd (none-some true (sym (ap (λ (fs : List Bool). slice_get fs i) is) ∙ set));
 }
 
-pub held_more : (os : List Object) (places : List ℕ) (file : List Loaded) (closed : List Bool) (rs : List Reloc) (index : ℕ) (e : Reloc) (flags new : List Bool) (flag : Bool) → HeldBelow os places file closed rs index flags → new ≡ flags ++ flag ∷ []
-    → OnTrue flag ((slice_get closed index ≡ Some true) × IsHeld os places file (get_or rs index e)) → HeldBelow os places file closed rs (index + 1) new
-held_more os places file closed rs index e flags new flag so_far is one = record {
+pub held_more : (os : List Object) (places : List ℕ) (file : List LoadedObject) (one_word : List Bool) (rs : List Reloc) (index : ℕ) (e : Reloc) (flags new : List Bool) (flag : Bool) → HeldBelow os places file one_word rs index flags → new ≡ flags ++ flag ∷ []
+    → OnTrue flag ((slice_get one_word index ≡ Some true) × IsHeld os places file (get_or rs index e)) → HeldBelow os places file one_word rs (index + 1) new
+held_more os places file one_word rs index e flags new flag so_far is one = record {
   count = ap length is ∙ length-append flags (flag ∷ []) ∙ ap (λ (n : ℕ). n + 1) so_far.count;
   held = λ i d lt set. elim (one_more flags flag true i (sym (ap (λ (fs : List Bool). slice_get fs i) is) ∙ set)) [
     | inl before ↦ so_far.held i d lt before
     | inr last ↦
         let at : index ≡ i = sym so_far.count ∙ sym last.0 in
         let both = OnTrue_at last.1 one in (
-          ap (slice_get closed) (sym at) ∙ both.0,
+          ap (slice_get one_word) (sym at) ∙ both.0,
           subst (IsHeld os places file) (ap (λ (n : ℕ). get_or rs n e) at ∙ get_or_default rs i e d lt) both.1,
         )
   ];

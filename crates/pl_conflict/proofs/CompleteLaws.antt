@@ -15,13 +15,13 @@ use Rattle.pl_base.proofs.MemoryLaws.{IsLike, same_domain, read_byte, within_tru
 use Rattle.pl_object.specs.declared.object.Object.{Object}
 use Rattle.pl_image.specs.Image.{all_pieces, any_masked, byte_of}
 use Rattle.pl_image.specs.Loads.{pieces_at, loaded_at, is_masked, IsPlaced}
-use Rattle.pl_image.specs.declared.loaded.Loaded.{Loaded}
+use Rattle.pl_image.specs.declared.loaded_object.LoadedObject.{LoadedObject}
 use Rattle.pl_lists.specs.declared.conflict_row.ConflictRow.{ConflictRow}
 use Rattle.pl_tls.specs.declared.module.Module.{Module}
 use Rattle.pl_value.specs.Laws.{Fits, AllFit, AreRead}
 use Rattle.pl_value.specs.Linked.{under}
 use Rattle.pl_value.specs.Meanings.{Row, row, rows, rows_from, meanings}
-use Rattle.pl_value.specs.Ordinary.{part_of, loaded_from, loaded, ArePlaced}
+use Rattle.pl_value.specs.Ordinary.{part_of, loaded_from, loaded_objects, ArePlaced}
 use Rattle.pl_value.specs.Targets.{base_of}
 use Rattle.pl_value.specs.declared.fault.LinkFault.{LinkFault}
 use Rattle.pl_value.specs.declared.meaning.Meaning.{Meaning}
@@ -87,7 +87,7 @@ layered_here (p ∷ ps) a any =
     ]
 
 -- and so one of all pieces has it
-any_of_all : (test : Piece → Bool) (ls : List Loaded) (m : ℕ) → list_any test (pieces_in (slice_get ls m)) ≡ true → list_any test (all_pieces ls) ≡ true
+any_of_all : (test : Piece → Bool) (ls : List LoadedObject) (m : ℕ) → list_any test (pieces_in (slice_get ls m)) ≡ true → list_any test (all_pieces ls) ≡ true
 any_of_all test [] m some = absurd (false≢true some)
 any_of_all test (l ∷ ls) zero some = list_any-append test l.pieces (all_pieces ls) ∙ either_first (list_any test l.pieces) (list_any test (all_pieces ls)) some
 any_of_all test (l ∷ ls) (suc m) some = list_any-append test l.pieces (all_pieces ls) ∙ either_second (list_any test l.pieces) (list_any test (all_pieces ls)) (any_of_all test ls m some)
@@ -100,18 +100,18 @@ holds_of qs a n some =
     (f.0, f.1, f.2, f.3, (p.0, ap (λ (k : ℕ). Some k) (eqb-true (byte_at a f.1) n p.1)))
 
 -- members after the first are the same in lists that differ in the first alone
-later_same : (xs ys : List Loaded) (m : ℕ) → drop 1 xs ≡ drop 1 ys → slice_get xs (suc m) ≡ slice_get ys (suc m)
+later_same : (xs ys : List LoadedObject) (m : ℕ) → drop 1 xs ≡ drop 1 ys → slice_get xs (suc m) ≡ slice_get ys (suc m)
 later_same [] [] m e = refl
-later_same [] (y ∷ ys) m e = ap (λ (zs : List Loaded). slice_get zs m) e
-later_same (x ∷ xs) [] m e = ap (λ (zs : List Loaded). slice_get zs m) e
-later_same (x ∷ xs) (y ∷ ys) m e = ap (λ (zs : List Loaded). slice_get zs m) e
+later_same [] (y ∷ ys) m e = ap (λ (zs : List LoadedObject). slice_get zs m) e
+later_same (x ∷ xs) [] m e = ap (λ (zs : List LoadedObject). slice_get zs m) e
+later_same (x ∷ xs) (y ∷ ys) m e = ap (λ (zs : List LoadedObject). slice_get zs m) e
 
-pub library_same : (xs ys : List Loaded) (m : ℕ) → drop 1 xs ≡ drop 1 ys → is_library m ≡ true → slice_get xs m ≡ slice_get ys m
+pub library_same : (xs ys : List LoadedObject) (m : ℕ) → drop 1 xs ≡ drop 1 ys → is_library m ≡ true → slice_get xs m ≡ slice_get ys m
 library_same xs ys zero e is = absurd (false≢true is)
 library_same xs ys (suc m) e is = later_same xs ys m e
 
 -- the byte that a library's file holds at an address of a place is in a piece
-held_there : (members stood : List Loaded) (m start size a : ℕ) → drop 1 members ≡ drop 1 stood → is_library m ≡ true → size ≡ 8 → start ≤ a → a < start + size → list_any (lies a) (pieces_in (slice_get members m)) ≡ true
+held_there : (members stood : List LoadedObject) (m start size a : ℕ) → drop 1 members ≡ drop 1 stood → is_library m ≡ true → size ≡ 8 → start ≤ a → a < start + size → list_any (lies a) (pieces_in (slice_get members m)) ≡ true
     → Holds (all_pieces stood) a (Some (slice_index (held members m start) (a - start)))
 unfolding held
 held_there members stood m start size a same library eight from to some =
@@ -120,18 +120,18 @@ held_there members stood m start size a same library eight from to some =
     let byte : slice_index (read (layered here) start 8) (a - start) ≡ n =
     read_byte (layered here) start 8 (a - start) (omega (arith, eight, from, to)) ∙ ap (λ (x : ℕ). unwrap_or (layered here x) 0) (omega (arith, from)) in
     let there : list_any (is_byte a n) (pieces_in (slice_get stood m)) ≡ true =
-    subst (λ (o : Option Loaded). list_any (is_byte a n) (pieces_in o) ≡ true) (library_same members stood m same library) (layered_here here a some) in
+    subst (λ (o : Option LoadedObject). list_any (is_byte a n) (pieces_in o) ≡ true) (library_same members stood m same library) (layered_here here a some) in
     subst (λ (k : ℕ). Holds (all_pieces stood) a (Some k)) (sym byte) (holds_of (all_pieces stood) a n (any_of_all (is_byte a n) stood m there))
 
 -- ---- places lie in the pieces of their members
 
-IsCovered : List ℕ → List Loaded → Row → Type 0
+IsCovered : List ℕ → List LoadedObject → Row → Type 0
 IsCovered places members x = (a : ℕ) → reloc_over (base_of places x.member) a x.reloc ≡ true → list_any (lies a) (pieces_in (slice_get members x.member)) ≡ true
 
 AtPlaces : List ℕ → ℕ → List Object → Type 0
 AtPlaces places member os = (k : ℕ) (d : Object) → k < length os → IsPlaced (base_of places (member + k)) (get_or os k d)
 
-covered_from : (places : List ℕ) (originals files : List (List ℕ)) (members : List Loaded) (member : ℕ) (os : List Object) → ((k : ℕ) → slice_get members (member + k) ≡ slice_get (loaded_from places files member os) k)
+covered_from : (places : List ℕ) (originals files : List (List ℕ)) (members : List LoadedObject) (member : ℕ) (os : List Object) → ((k : ℕ) → slice_get members (member + k) ≡ slice_get (loaded_from places files member os) k)
     → AreRead originals os → AtPlaces places member os → All (IsCovered places members) (rows_from member os)
 unfolding rows_from loaded_from IsCovered AtPlaces
 covered_from places [] files members member [] same read placed = All-nil (IsCovered places members)
@@ -146,7 +146,7 @@ covered_from places (original ∷ originals) files members member (o ∷ os) sam
     let later : (k : ℕ) → slice_get members (member + 1 + k) ≡ slice_get (loaded_from places files (member + 1) os) k = λ k. ap (slice_get members) (omega arith) ∙ same (suc k) in
     let all : All (IsHeld base (pieces_at base bytes o)) o.relocations = relocs_held base bytes original o first read.0 in
     All-append (IsCovered places members) (map (row member) o.relocations) (rows_from (member + 1) os)
-    (All-map (IsCovered places members) (row member) o.relocations (λ k d lt a over. subst (λ (l : Option Loaded). list_any (lies a) (pieces_in l) ≡ true) (sym at) ((all k d lt).piece a over)))
+    (All-map (IsCovered places members) (row member) o.relocations (λ k d lt a over. subst (λ (l : Option LoadedObject). list_any (lies a) (pieces_in l) ≡ true) (sym at) ((all k d lt).piece a over)))
     (covered_from places originals files members (member + 1) os later read.1 next)
 
 -- ---- one meaning
@@ -160,13 +160,13 @@ under_over : (objects : List Object) (places : List ℕ) (modules : List Module)
 under_over objects places modules x g a given hit = ap (under a) given.is ∙ hit
 
 -- a meaning whose place lies in its member's pieces
-IsIn : List Loaded → Meaning → Type 0
+IsIn : List LoadedObject → Meaning → Type 0
 IsIn members g = (a : ℕ) → under a g ≡ true → list_any (lies a) (pieces_in (slice_get members g.member)) ≡ true
 
-all_in : (objects : List Object) (originals files : List (List ℕ)) (places : List ℕ) (modules : List Module) (gs : List Meaning) → AreRead originals objects → ArePlaced places originals objects → meanings objects places modules ≡ Ok gs → All (IsIn (loaded places files objects)) gs
+all_in : (objects : List Object) (originals files : List (List ℕ)) (places : List ℕ) (modules : List Module) (gs : List Meaning) → AreRead originals objects → ArePlaced places originals objects → meanings objects places modules ≡ Ok gs → All (IsIn (loaded_objects places files objects)) gs
 unfolding IsIn IsCovered AtPlaces
 all_in objects originals files places modules gs read placed is =
-    let members = loaded places files objects in
+    let members = loaded_objects places files objects in
     zip_all (IsGiven objects places modules) (IsCovered places members) (IsIn members) (rows objects) gs
     (λ x g given covered a hit. subst (λ (m : ℕ). list_any (lies a) (pieces_in (slice_get members m)) ≡ true) (ap (λ (h : Meaning). h.member) given.is) (covered a (under_over objects places modules x g a given hit)))
     (meanings_given objects places modules gs is)
@@ -183,12 +183,12 @@ all_fit objects originals places modules gs read scope is =
     let fit = words_fit originals objects places modules gs read is in
     λ k d lt. subst (λ (b : Bool). Fits b (get_or gs k d).size (get_or gs k d).word) (scope (get_or gs k d).member (within k d lt)) (fit k d lt)
 
-rows_perm : (objects : List Object) (files : List (List ℕ)) (places : List ℕ) (modules : List Module) (gs : List Meaning) (rows : List ConflictRow) → meanings objects places modules ≡ Ok gs → conflicts objects files places modules ≡ Ok rows → IsPermutation (rows_of (loaded places files objects) gs) rows
+rows_perm : (objects : List Object) (files : List (List ℕ)) (places : List ℕ) (modules : List Module) (gs : List Meaning) (rows : List ConflictRow) → meanings objects places modules ≡ Ok gs → conflicts objects files places modules ≡ Ok rows → IsPermutation (rows_of (loaded_objects places files objects) gs) rows
 unfolding conflicts
 rows_perm objects files places modules gs rows is made =
-    let all : List ConflictRow = rows_of (loaded places files objects) gs in
+    let all : List ConflictRow = rows_of (loaded_objects places files objects) gs in
     let same : ascending all ≡ rows =
-    ok_same (ascending all) rows (sym (ap (λ (r : Result (List Meaning) LinkFault). r >>= λ ms. Ok (ascending (rows_of (loaded places files objects) ms))) is) ∙ made) in
+    ok_same (ascending all) rows (sym (ap (λ (r : Result (List Meaning) LinkFault). r >>= λ ms. Ok (ascending (rows_of (loaded_objects places files objects) ms))) is) ∙ made) in
     subst (λ (rs : List ConflictRow). IsPermutation all rs) same (ascending_perm all)
 
 -- ---- the whole
@@ -196,8 +196,8 @@ rows_perm objects files places modules gs rows is made =
 pub conflicts_complete : ConflictsAreComplete
 unfolding byte_of IsIn
 conflicts_complete objects originals files places modules gs rows read scope placed is made stand a =
-    let before = loaded places originals objects in
-    let members = loaded places files objects in
+    let before = loaded_objects places originals objects in
+    let members = loaded_objects places files objects in
     let after = standing places files objects in
     let lone : AtMostOne lies (all_pieces after) =
     lone_most lies (all_pieces after) (lone_zip lies lies (all_pieces before) (all_pieces after) (alike (all_pieces before) (all_pieces after) stand.extents) (most_lone lies (all_pieces before) placed.apart)) in

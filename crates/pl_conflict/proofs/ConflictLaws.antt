@@ -20,14 +20,14 @@ use Rattle.pl_elf.specs.Headers.{loads}
 use Rattle.pl_object.specs.declared.object.Object.{Object}
 use Rattle.pl_image.specs.Image.{all_pieces}
 use Rattle.pl_image.specs.Loads.{loaded_pieces, pieces_at}
-use Rattle.pl_image.specs.declared.loaded.Loaded.{Loaded}
+use Rattle.pl_image.specs.declared.loaded_object.LoadedObject.{LoadedObject}
 use Rattle.pl_lists.specs.Conflicts.{ascend}
 use Rattle.pl_lists.specs.declared.conflict_row.ConflictRow.{ConflictRow}
 use Rattle.pl_scope.specs.Scope.{IsAccepted}
 use Rattle.pl_value.specs.Laws.{AreRead, Fits, AllFit, is_shared_at}
 use Rattle.pl_value.specs.Linked.{under}
 use Rattle.pl_value.specs.Meanings.{Row, rows, meanings, is_memory}
-use Rattle.pl_value.specs.Ordinary.{loaded, loaded_from, part_of, ArePlaced}
+use Rattle.pl_value.specs.Ordinary.{loaded_objects, loaded_from, part_of, ArePlaced}
 use Rattle.pl_value.specs.Targets.{base_of}
 use Rattle.pl_value.specs.declared.fault.LinkFault.{LinkFault}
 use Rattle.pl_value.specs.declared.fault.OrdinaryFault.{OrdinaryFault}
@@ -47,7 +47,7 @@ use Rattle.pl_conflict.proofs.OrderLaws.{same_address, sorted_ascending, ascendi
 -- ---- the addresses of rows
 
 -- a row begins where its place does
-row_under : (files : List Loaded) (member start size : ℕ) (library : Bool) (word : Word) → Fits library size word → IfSome (row_of files member start word) (λ r. is_within start size r.address ≡ true)
+row_under : (files : List LoadedObject) (member start size : ℕ) (library : Bool) (word : Word) → Fits library size word → IfSome (row_of files member start word) (λ r. is_within start size r.address ≡ true)
 row_under files member start size library (Put w) fit =
     let eight : size ≡ 8 = fit in
     let here : is_within start size start ≡ true = within_is start size start (omega arith) (omega (arith, eight)) in
@@ -70,7 +70,7 @@ not_same start size r s away here = elim (cases_Bool (same_address r s)) [
     equal a b h = grind (arith, nat_tests)
 
 -- a row whose address is under no place differs from all rows
-row_differs : (files : List Loaded) (library : ℕ → Bool) (r : ConflictRow) (gs : List Meaning) → AllFit library gs → list_any (under r.address) gs ≡ false → AllByRecursion (λ s. same_address r s ≡ false) (filter_map (λ g. row_of files g.member g.start g.word) gs)
+row_differs : (files : List LoadedObject) (library : ℕ → Bool) (r : ConflictRow) (gs : List Meaning) → AllFit library gs → list_any (under r.address) gs ≡ false → AllByRecursion (λ s. same_address r s ≡ false) (filter_map (λ g. row_of files g.member g.start g.word) gs)
 row_differs files library r [] fit none = tt
 row_differs files library r (g ∷ gs) fit none =
     let parts = or_parts (under r.address g) (list_any (under r.address) gs) none in
@@ -81,7 +81,7 @@ row_differs files library r (g ∷ gs) fit none =
       | Some s ↦ λ here. (not_same g.start g.size r s parts.0 here, rest)
     ] (row_under files g.member g.start g.size (library g.member) g.word (All-head (λ g. Fits (library g.member) g.size g.word) g gs fit))
 
-rows_differ : (files : List Loaded) (library : ℕ → Bool) (gs : List Meaning) → AllFit library gs → Lone under gs → IsDistinct same_address (rows_of files gs)
+rows_differ : (files : List LoadedObject) (library : ℕ → Bool) (gs : List Meaning) → AllFit library gs → Lone under gs → IsDistinct same_address (rows_of files gs)
 unfolding rows_of IsDistinct
 rows_differ files library [] fit lone = tt
 rows_differ files library (g ∷ gs) fit lone =
@@ -128,16 +128,16 @@ alike_from places parts others member (o ∷ os) =
 pub placed_again : (objects : List Object) (places : List ℕ) (parts others : List (List ℕ)) → ArePlaced places parts objects → ArePlaced places others objects
 placed_again objects places parts others are = record {
   placed = are.placed;
-  apart = lone_most lies (all_pieces (loaded places others objects))
-      (lone_zip lies lies (all_pieces (loaded places parts objects)) (all_pieces (loaded places others objects)) (alike_from places parts others 0 objects) (most_lone lies (all_pieces (loaded places parts objects)) are.apart));
+  apart = lone_most lies (all_pieces (loaded_objects places others objects))
+      (lone_zip lies lies (all_pieces (loaded_objects places parts objects)) (all_pieces (loaded_objects places others objects)) (alike_from places parts others 0 objects) (most_lone lies (all_pieces (loaded_objects places parts objects)) are.apart));
 }
 
 -- ---- the rows
 
-pub differ : (objects : List Object) (parts : List (List ℕ)) (places : List ℕ) (modules : List Module) (gs : List Meaning) → All IsAccepted objects → ArePlaced places parts objects → meanings objects places modules ≡ Ok gs → IsDistinct same_address (rows_of (loaded places parts objects) gs)
+pub differ : (objects : List Object) (parts : List (List ℕ)) (places : List ℕ) (modules : List Module) (gs : List Meaning) → All IsAccepted objects → ArePlaced places parts objects → meanings objects places modules ≡ Ok gs → IsDistinct same_address (rows_of (loaded_objects places parts objects) gs)
 differ objects parts places modules gs accepted placed is =
     let read = originals_of objects accepted in
-    rows_differ (loaded places parts objects) (is_shared_at objects) gs (words_fit read.0 objects places modules gs read.1 is)
+    rows_differ (loaded_objects places parts objects) (is_shared_at objects) gs (words_fit read.0 objects places modules gs read.1 is)
     (most_lone under gs (places_are_apart read.0 objects places modules gs read.1 (placed_again objects places parts read.0 placed) is))
 
 -- each meaning is of a member
@@ -146,36 +146,36 @@ unfolding loaded_from
 length_loaded places parts member [] = refl
 length_loaded places parts member (o ∷ os) = ap suc (length_loaded places parts (member + 1) os)
 
-pub members_within : (objects : List Object) (parts : List (List ℕ)) (places : List ℕ) (modules : List Module) (gs : List Meaning) → All IsAccepted objects → meanings objects places modules ≡ Ok gs → All (λ g. g.member < length (loaded places parts objects)) gs
+pub members_within : (objects : List Object) (parts : List (List ℕ)) (places : List ℕ) (modules : List Module) (gs : List Meaning) → All IsAccepted objects → meanings objects places modules ≡ Ok gs → All (λ g. g.member < length (loaded_objects places parts objects)) gs
 members_within objects parts places modules gs accepted is =
     let read = originals_of objects accepted in
-    zip_all (IsGiven objects places modules) (IsKnown objects) (λ g. g.member < length (loaded places parts objects)) (rows objects) gs
+    zip_all (IsGiven objects places modules) (IsKnown objects) (λ g. g.member < length (loaded_objects places parts objects)) (rows objects) gs
     (λ x g is_given known. within x g (ap (λ (h : Meaning). h.member) is_given.is) (slice_get_within objects x.member known.object known.at)) (meanings_given objects places modules gs is) (rows_known read.0 objects read.1)
   where
-    within : (x : Row) (g : Meaning) → x.member ≡ g.member → x.member < length objects → g.member < length (loaded places parts objects)
+    within : (x : Row) (g : Meaning) → x.member ≡ g.member → x.member < length objects → g.member < length (loaded_objects places parts objects)
     within x g same lt = omega (arith, same, lt, length_loaded places parts 0 objects)
 
 -- the same of members and of what they load
-pub loaded_within : (objects : List Object) (parts : List (List ℕ)) (places : List ℕ) (gs : List Meaning) → All (λ g. g.member < length objects) gs → All (λ g. g.member < length (loaded places parts objects)) gs
+pub loaded_within : (objects : List Object) (parts : List (List ℕ)) (places : List ℕ) (gs : List Meaning) → All (λ g. g.member < length objects) gs → All (λ g. g.member < length (loaded_objects places parts objects)) gs
 loaded_within objects parts places gs all = λ k d lt.
     let one : (get_or gs k d).member < length objects = all k d lt in
     omega (arith, one, length_loaded places parts 0 objects)
 
 pub objects_within : (objects : List Object) (places : List ℕ) (modules : List Module) (gs : List Meaning) → All IsAccepted objects → meanings objects places modules ≡ Ok gs → All (λ g. g.member < length objects) gs
 objects_within objects places modules gs accepted is = λ k d lt.
-    let one : (get_or gs k d).member < length (loaded places [] objects) = members_within objects [] places modules gs accepted is k d lt in
+    let one : (get_or gs k d).member < length (loaded_objects places [] objects) = members_within objects [] places modules gs accepted is k d lt in
     omega (arith, one, length_loaded places [] 0 objects)
 
 -- sorted rows are the conflicts
 pub conflicts_ok : (objects : List Object) (parts : List (List ℕ)) (places : List ℕ) (modules : List Module) (gs : List Meaning) (found sorted : List ConflictRow) → All IsAccepted objects → ArePlaced places parts objects → because Link (meanings objects places modules) ≡ Ok gs
-    → found ≡ rows_of (loaded places parts objects) gs → IsPermutation found sorted → IsNonDecreasingBy (λ r. r.address) sorted → (because Link (conflicts objects parts places modules) ≡ Ok sorted) × (ascend sorted ≡ true)
+    → found ≡ rows_of (loaded_objects places parts objects) gs → IsPermutation found sorted → IsNonDecreasingBy (λ r. r.address) sorted → (because Link (conflicts objects parts places modules) ≡ Ok sorted) × (ascend sorted ≡ true)
 unfolding conflicts
 conflicts_ok objects parts places modules gs found sorted accepted placed is made perm up =
     let ok = because_ok Link (meanings objects places modules) gs is in
     let apart = differ objects parts places modules gs accepted placed ok in
-    let same : ascending (rows_of (loaded places parts objects) gs) ≡ sorted =
-    sorted_ascending (rows_of (loaded places parts objects) gs) sorted apart (subst (λ (rs : List ConflictRow). IsPermutation rs sorted) made perm) up in
-    (ap (λ (r : Result (List Meaning) LinkFault). because Link (r >>= λ ms. Ok (ascending (rows_of (loaded places parts objects) ms)))) ok ∙ ap (λ (rs : List ConflictRow). Ok rs) same, subst (λ (rs : List ConflictRow). ascend rs ≡ true) same (ascending_ascend (rows_of (loaded places parts objects) gs) apart))
+    let same : ascending (rows_of (loaded_objects places parts objects) gs) ≡ sorted =
+    sorted_ascending (rows_of (loaded_objects places parts objects) gs) sorted apart (subst (λ (rs : List ConflictRow). IsPermutation rs sorted) made perm) up in
+    (ap (λ (r : Result (List Meaning) LinkFault). because Link (r >>= λ ms. Ok (ascending (rows_of (loaded_objects places parts objects) ms)))) ok ∙ ap (λ (rs : List ConflictRow). Ok rs) same, subst (λ (rs : List ConflictRow). ascend rs ≡ true) same (ascending_ascend (rows_of (loaded_objects places parts objects) gs) apart))
 
 -- a refusal of a meaning is that of the conflicts
 pub conflicts_err : (objects : List Object) (parts : List (List ℕ)) (places : List ℕ) (modules : List Module) (e : OrdinaryFault) → MatchBool (is_memory e) ⊤ (because Link (meanings objects places modules) ≡ Err e) → MatchBool (is_memory e) ⊤ (because Link (conflicts objects parts places modules) ≡ Err e)

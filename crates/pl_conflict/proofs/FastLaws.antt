@@ -13,7 +13,7 @@ use Rattle.pl_base.specs.Bytes.{bytes64}
 use Rattle.pl_base.specs.Memory.{Memory, Fill, is_within, covers, fill_byte, filled, AtMostOne}
 use Rattle.pl_base.proofs.MemoryLaws.{settled, All-filter_map, any-filter_map, is_some_and, lone_same, read_length, within_less, within_none}
 use Rattle.pl_base.proofs.WordLaws.{length_bytes64}
-use Rattle.pl_image.specs.declared.loaded.Loaded.{Loaded}
+use Rattle.pl_image.specs.declared.loaded_object.LoadedObject.{LoadedObject}
 use Rattle.pl_lists.specs.declared.conflict_row.ConflictRow.{ConflictRow}
 use Rattle.pl_value.specs.Laws.{Fits, AllFit}
 use Rattle.pl_value.specs.Linked.{under, put_of, copy_of, words, copies, worded, relocated}
@@ -85,7 +85,7 @@ copy_inside m a start size library Nothing fit miss = tt
 abbrev pub patched : Option ConflictRow → Option Fill
 patched o = option_map patch_of o
 
-row_inside : (files : List Loaded) (a member start size : ℕ) (library : Bool) (word : Word) → Fits library size word → is_within start size a ≡ false → IfSome (patched (row_of files member start word)) (λ f. covers a f ≡ false)
+row_inside : (files : List LoadedObject) (a member start size : ℕ) (library : Bool) (word : Word) → Fits library size word → is_within start size a ≡ false → IfSome (patched (row_of files member start word)) (λ f. covers a f ≡ false)
 row_inside files a member start size library (Put w) fit miss =
     elim (member == 0 || bytes_eq (held files member start) (bytes64 w)) as (λ b. IfSome (patched (cond b None (Some (record { address = start; word = w })))) (λ f. covers a f ≡ false)) [
       | true ↦ tt
@@ -100,7 +100,7 @@ make_word g = put_of g.start g.word
 abbrev make_copy : Memory → Meaning → Option Fill
 make_copy m g = copy_of m g.start g.word
 
-abbrev make_row : List Loaded → Meaning → Option Fill
+abbrev make_row : List LoadedObject → Meaning → Option Fill
 make_row files g = patched (row_of files g.member g.start g.word)
 
 words_inside : (gs : List Meaning) (a : ℕ) → AllFit is_library gs → All (Inside make_word a) gs
@@ -109,11 +109,11 @@ words_inside gs a fit = λ k d lt miss. let g = get_or gs k d in put_inside a g.
 copies_inside : (m : Memory) (gs : List Meaning) (a : ℕ) → AllFit is_library gs → All (Inside (make_copy m) a) gs
 copies_inside m gs a fit = λ k d lt miss. let g = get_or gs k d in copy_inside m a g.start g.size (is_library g.member) g.word (fit k d lt) miss
 
-rows_inside : (files : List Loaded) (gs : List Meaning) (a : ℕ) → AllFit is_library gs → All (Inside (make_row files) a) gs
+rows_inside : (files : List LoadedObject) (gs : List Meaning) (a : ℕ) → AllFit is_library gs → All (Inside (make_row files) a) gs
 rows_inside files gs a fit = λ k d lt miss. let g = get_or gs k d in row_inside files a g.member g.start g.size (is_library g.member) g.word (fit k d lt) miss
 
 -- the patches of rows, as fills made of meanings
-patches_made : (files : List Loaded) (gs : List Meaning) → patches (rows_of files gs) ≡ filter_map (make_row files) gs
+patches_made : (files : List LoadedObject) (gs : List Meaning) → patches (rows_of files gs) ≡ filter_map (make_row files) gs
 unfolding rows_of
 patches_made files gs = map_made (λ g. row_of files g.member g.start g.word) gs
   where
@@ -160,7 +160,7 @@ put_there library start size a Nothing is fit hit = absurd (false≢true (sym (w
 abbrev differing : List ℕ → ℕ → ℕ → Option Fill
 differing bytes start w = cond (bytes_eq bytes (bytes64 w)) None (Some (word_fill start w))
 
-row_is : (files : List Loaded) (member start : ℕ) (word : Word) (w : ℕ) → is_library member ≡ true → word ≡ Put w → patched (row_of files member start word) ≡ differing (held files member start) start w
+row_is : (files : List LoadedObject) (member start : ℕ) (word : Word) (w : ℕ) → is_library member ≡ true → word ≡ Put w → patched (row_of files member start word) ≡ differing (held files member start) start w
 row_is files member start word w library is =
     let first : (member == 0) ≡ false = not-true (member == 0) library in
     rw (is, first) (elim (bytes_eq (held files member start) (bytes64 w)) as (λ b. patched (cond b None (Some (record { address = start; word = w }))) ≡ cond b None (Some (word_fill start w))) [
@@ -169,7 +169,7 @@ row_is files member start word w library is =
     ])
 
 -- none of the program
-row_none : (files : List Loaded) (member start : ℕ) (word : Word) (X : Fill → Type 0) → is_library member ≡ false → IfSome (patched (row_of files member start word)) X
+row_none : (files : List LoadedObject) (member start : ℕ) (word : Word) (X : Fill → Type 0) → is_library member ≡ false → IfSome (patched (row_of files member start word)) X
 row_none files member start (Put w) X program = let first : (member == 0) ≡ true = not-false (member == 0) program in rw first tt
 row_none files member start (Copy from at n) X program = tt
 row_none files member start Nothing X program = tt
@@ -191,13 +191,13 @@ row_or_file files bytes a start size w fit hit is = elim (cases_Bool (bytes_eq b
 -- ---- the theorem, of memories
 
 -- what stands in the files at an address
-pub record IsFile (base files : Memory) (members : List Loaded) (gs : List Meaning) (a : ℕ) : Type 0 where
+pub record IsFile (base files : Memory) (members : List LoadedObject) (gs : List Meaning) (a : ℕ) : Type 0 where
   pub away : list_any (under a) gs ≡ false → files a ≡ base a
   pub program : All (λ g. under a g ≡ true → is_library g.member ≡ false → files a ≡ relocated base gs a) gs
   pub library : All (λ g. under a g ≡ true → is_library g.member ≡ true → files a ≡ Some (get_or (held members g.member g.start) (a - g.start) 0)) gs
 
 -- under the place at i, of a library
-fast_library : (base files : Memory) (members : List Loaded) (gs : List Meaning) (rows : List Fill) (a i : ℕ) (d : Meaning) (w : ℕ) → AllFit is_library gs → AtMostOne under gs → IsPermutation (filter_map (make_row members) gs) rows
+fast_library : (base files : Memory) (members : List LoadedObject) (gs : List Meaning) (rows : List Fill) (a i : ℕ) (d : Meaning) (w : ℕ) → AllFit is_library gs → AtMostOne under gs → IsPermutation (filter_map (make_row members) gs) rows
     → files a ≡ Some (get_or (held members (get_or gs i d).member (get_or gs i d).start) (a - (get_or gs i d).start) 0)
     → i < length gs → under a (get_or gs i d) ≡ true → is_library (get_or gs i d).member ≡ true → (get_or gs i d).word ≡ Put w → filled files rows a ≡ relocated base gs a
 fast_library base files members gs rows a i d w fit lone perm there lt hit library is =
@@ -215,7 +215,7 @@ fast_library base files members gs rows a i d w fit lone perm there lt hit libra
     sized library size word w is fit = rw is at fit
 
 -- under the place at i
-fast_at : (base files : Memory) (members : List Loaded) (gs : List Meaning) (rows : List Fill) (a i : ℕ) (d : Meaning) → AllFit is_library gs → AtMostOne under gs → IsPermutation (filter_map (make_row members) gs) rows → IsFile base files members gs a
+fast_at : (base files : Memory) (members : List LoadedObject) (gs : List Meaning) (rows : List Fill) (a i : ℕ) (d : Meaning) → AllFit is_library gs → AtMostOne under gs → IsPermutation (filter_map (make_row members) gs) rows → IsFile base files members gs a
     → i < length gs → under a (get_or gs i d) ≡ true → filled files rows a ≡ relocated base gs a
 fast_at base files members gs rows a i d fit lone perm file lt hit =
     let g = get_or gs i d in
@@ -228,7 +228,7 @@ fast_at base files members gs rows a i d fit lone perm file lt hit =
           fast_library base files members gs rows a i d put.0 fit lone perm (file.library i d lt hit library) lt hit library put.1
     ]
 
-pub fast_is_relocated : (base files : Memory) (members : List Loaded) (gs : List Meaning) (rows : List ConflictRow) (a : ℕ) → AllFit is_library gs → AtMostOne under gs → IsPermutation (rows_of members gs) rows → IsFile base files members gs a → filled files (patches rows) a ≡ relocated base gs a
+pub fast_is_relocated : (base files : Memory) (members : List LoadedObject) (gs : List Meaning) (rows : List ConflictRow) (a : ℕ) → AllFit is_library gs → AtMostOne under gs → IsPermutation (rows_of members gs) rows → IsFile base files members gs a → filled files (patches rows) a ≡ relocated base gs a
 fast_is_relocated base files members gs rows a fit lone rows_perm file =
     let perm : IsPermutation (filter_map (make_row members) gs) (patches rows) =
     subst (λ (fs : List Fill). IsPermutation fs (patches rows)) (patches_made members gs) (IsPermutation-map patch_of (rows_of members gs) rows rows_perm) in

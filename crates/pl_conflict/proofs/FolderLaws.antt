@@ -40,7 +40,7 @@ use Rattle.pl_sound.proofs.RuleLaws.{linked, other_is, first_is}
 use Rattle.pl_tls.specs.Layout.{offsets}
 use Rattle.pl_tls.specs.declared.module.Module.{Module}
 use Rattle.pl_value.specs.Meanings.{meanings}
-use Rattle.pl_value.specs.Ordinary.{loaded, ordinary, shown_linked}
+use Rattle.pl_value.specs.Ordinary.{loaded_objects, ordinary, shown_linked}
 use Rattle.pl_value.specs.declared.fault.LinkFault.{LinkFault}
 use Rattle.pl_value.specs.declared.meaning.Meaning.{Meaning}
 use Rattle.pl_conflict.specs.Complete.{StandFor, bytes_of, file_at, files_in, originals_in, slots_in, rows_of, IsProgramWalk, FilesStand, FastImagesAreOrdinary}
@@ -394,8 +394,8 @@ set_image : (r : Firm) (rs : List Firm) (file : List ℕ) (g : Firm → List ℕ
     → IsImage (objects_of (r ∷ rs)) (originals_of (r ∷ rs)) (file ∷ map g rs) (slots_of (r ∷ rs)) modules h.made.rows
 unfolding ordinary
 set_image r rs file g modules h given = record {
-  memory = shown_linked (loaded (slots_of (r ∷ rs)) (originals_of (r ∷ rs)) (objects_of (r ∷ rs))) h.made.gs;
-  ordinary = ap (λ (m : Result (List Meaning) LinkFault). m >>= λ gs. Ok (shown_linked (loaded (slots_of (r ∷ rs)) (originals_of (r ∷ rs)) (objects_of (r ∷ rs))) gs)) given;
+  memory = shown_linked (loaded_objects (slots_of (r ∷ rs)) (originals_of (r ∷ rs)) (objects_of (r ∷ rs))) h.made.gs;
+  ordinary = ap (λ (m : Result (List Meaning) LinkFault). m >>= λ gs. Ok (shown_linked (loaded_objects (slots_of (r ∷ rs)) (originals_of (r ∷ rs)) (objects_of (r ∷ rs))) gs)) given;
   same = set_fast r rs file g h;
 }
 

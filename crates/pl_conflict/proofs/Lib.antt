@@ -4,7 +4,7 @@ pub mod OrderLaws
 pub mod OwnLaws
 pub mod HeldLaws
 pub mod AmongLaws
-pub mod OpenLaws
+pub mod RemainingLaws
 pub mod ConflictLaws
 pub mod CompleteLaws
 pub mod MemberLaws

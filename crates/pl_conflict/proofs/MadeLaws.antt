@@ -42,7 +42,7 @@ use Rattle.pl_tls.specs.declared.fault.TlsFault.{TlsFault}
 use Rattle.pl_tls.specs.declared.module.Module.{Module}
 use Rattle.pl_value.specs.Linked.{relocated}
 use Rattle.pl_value.specs.Meanings.{meanings}
-use Rattle.pl_value.specs.Ordinary.{loaded, loaded_from, part_of}
+use Rattle.pl_value.specs.Ordinary.{loaded_objects, loaded_from, part_of}
 use Rattle.pl_value.specs.Targets.{base_of}
 use Rattle.pl_value.specs.declared.fault.LinkFault.{LinkFault}
 use Rattle.pl_value.specs.declared.meaning.Meaning.{Meaning}
@@ -173,7 +173,7 @@ originals_bytes (r ∷ rs) all (suc k) = originals_bytes rs (All-tail HasOwn r r
 
 -- the memory that its scope makes
 unfoldable pub scope_memory : List Firm → List Meaning → Memory
-scope_memory rs gs = relocated (layered (all_pieces (loaded (slots_of rs) (originals_of rs) (objects_of rs)))) gs
+scope_memory rs gs = relocated (layered (all_pieces (loaded_objects (slots_of rs) (originals_of rs) (objects_of rs)))) gs
 
 -- the bytes for each place
 unfoldable pub given_of : List Firm → List Meaning → List (List ℕ)
@@ -187,7 +187,7 @@ given_are_bytes : (rs : List Firm) (gs : List Meaning) → All HasOwn rs → IsB
 unfolding given_of scope_memory
 given_are_bytes rs gs all =
     given_bytes (scope_memory rs gs) (filter is_program_place gs)
-    (relocated_bytes (all_pieces (loaded (slots_of rs) (originals_of rs) (objects_of rs))) gs (loaded_bytes (slots_of rs) (originals_of rs) 0 (objects_of rs) (originals_bytes rs all)))
+    (relocated_bytes (all_pieces (loaded_objects (slots_of rs) (originals_of rs) (objects_of rs))) gs (loaded_bytes (slots_of rs) (originals_of rs) 0 (objects_of rs) (originals_bytes rs all)))
 
 -- ---- its conflict rows can be written
 
@@ -203,10 +203,10 @@ all_symbols (r ∷ rs) all =
     let own : HasOwn r = All-head HasOwn r rs all in
     All-cons HasSymbols r.object (objects_of rs) (symbols_below r.member.original r.object own.firm.bytes own.firm.accepted) (all_symbols rs (All-tail HasOwn r rs all))
 
-conflicts_are : (objects : List Object) (parts : List (List ℕ)) (places : List ℕ) (modules : List Module) (gs : List Meaning) (rows : List ConflictRow) → meanings objects places modules ≡ Ok gs → conflicts objects parts places modules ≡ Ok rows → ascending (rows_of (loaded places parts objects) gs) ≡ rows
+conflicts_are : (objects : List Object) (parts : List (List ℕ)) (places : List ℕ) (modules : List Module) (gs : List Meaning) (rows : List ConflictRow) → meanings objects places modules ≡ Ok gs → conflicts objects parts places modules ≡ Ok rows → ascending (rows_of (loaded_objects places parts objects) gs) ≡ rows
 unfolding conflicts
 conflicts_are objects parts places modules gs rows given made =
-    ok_same (ascending (rows_of (loaded places parts objects) gs)) rows (sym (ap (λ (m : Result (List Meaning) LinkFault). m >>= λ ms. Ok (ascending (rows_of (loaded places parts objects) ms))) given) ∙ made)
+    ok_same (ascending (rows_of (loaded_objects places parts objects) gs)) rows (sym (ap (λ (m : Result (List Meaning) LinkFault). m >>= λ ms. Ok (ascending (rows_of (loaded_objects places parts objects) ms))) given) ∙ made)
 
 all_few : (r : Firm) (rs : List Firm) (file : List ℕ) (p : IsProgramOf r rs file) → HasOwn r → length file ≤ STORED → 1 + length (map (λ o. o.tls) (objects_of (r ∷ rs))) ≤ 2 ^ 64
 all_few r rs file p own small =
@@ -218,7 +218,7 @@ rows_spelled r rs file p all set small =
     let objects = objects_of (r ∷ rs) in
     let places = slots_of (r ∷ rs) in
     let parts = parts_of (r ∷ rs) in
-    let files = loaded places parts objects in
+    let files = loaded_objects places parts objects in
     let numbers = and_from (has_numbers r) (list_all has_numbers rs) set.first set.numbers in
     let placed = placed_again objects places (originals_of (r ∷ rs)) parts (set_placed (r ∷ rs) all numbers set.apart) in
     let up : ascend (ascending (rows_of files p.gs)) ≡ true = ascending_ascend (rows_of files p.gs) (differ objects parts places p.modules p.gs (all_accepted (r ∷ rs) all) placed p.given) in

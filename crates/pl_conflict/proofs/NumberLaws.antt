@@ -26,7 +26,7 @@ use Rattle.pl_form.specs.declared.fault.FormFault.{FormFault}
 use Rattle.pl_form.specs.declared.fault.FormFault.TheVariants as faults
 use Rattle.pl_form.specs.declared.version.Version.{Version}
 use Rattle.pl_form.proofs.FillLaws.{lists_too_long}
-use Rattle.pl_image.specs.declared.loaded.Loaded.{Loaded}
+use Rattle.pl_image.specs.declared.loaded_object.LoadedObject.{LoadedObject}
 use Rattle.pl_lists.specs.Conflicts.{is_conflict, ascend, are_conflicts}
 use Rattle.pl_lists.specs.Lists.{after, row_bytes, list_bytes}
 use Rattle.pl_lists.specs.declared.conflict_row.ConflictRow.{ConflictRow}
@@ -265,7 +265,7 @@ given_low objects places modules (x ∷ xs) (g ∷ gs) all numbers zip =
     } in
     All-cons IsLow g gs first (given_low objects places modules xs gs all numbers zip.1)
 
-row_low : (files : List Loaded) (member start : ℕ) (word : Word) → start < 2 ^ 64 → ((w : ℕ) → word ≡ Put w → w < 2 ^ 64) → IfSome (row_of files member start word) (λ r. is_conflict r ≡ true)
+row_low : (files : List LoadedObject) (member start : ℕ) (word : Word) → start < 2 ^ 64 → ((w : ℕ) → word ≡ Put w → w < 2 ^ 64) → IfSome (row_of files member start word) (λ r. is_conflict r ≡ true)
 unfolding is_conflict
 row_low files member start (Put w) at below =
     let both : (nat_lt start (2 ^ 64) && nat_lt w (2 ^ 64)) ≡ true = and_from (nat_lt start (2 ^ 64)) (nat_lt w (2 ^ 64)) (lt-ltb start (2 ^ 64) at) (lt-ltb w (2 ^ 64) (below w refl)) in
@@ -276,7 +276,7 @@ row_low files member start (Put w) at below =
 row_low files member start (Copy from at n) low below = tt
 row_low files member start Nothing low below = tt
 
-rows_low : (files : List Loaded) (gs : List Meaning) → All IsLow gs → All (λ r. is_conflict r ≡ true) (rows_of files gs)
+rows_low : (files : List LoadedObject) (gs : List Meaning) → All IsLow gs → All (λ r. is_conflict r ≡ true) (rows_of files gs)
 unfolding rows_of
 rows_low files gs low = All-filter_map (λ r. is_conflict r ≡ true) (λ g. row_of files g.member g.start g.word) gs (λ k d lt. row_low files (get_or gs k d).member (get_or gs k d).start (get_or gs k d).word (low k d lt).start (low k d lt).word)
 
@@ -285,7 +285,7 @@ all_true p [] all = refl
 all_true p (x ∷ xs) all = and_from (p x) (list_all p xs) (All-head (λ y. p y ≡ true) x xs all) (all_true p xs (All-tail (λ y. p y ≡ true) x xs all))
 
 -- the rows of a scope in their order
-pub rows_written : (objects : List Object) (places : List ℕ) (modules : List Module) (gs : List Meaning) (files : List Loaded) → All HasSymbols objects → All HasNumber modules → meanings objects places modules ≡ Ok gs → ascend (ascending (rows_of files gs)) ≡ true → are_conflicts (ascending (rows_of files gs)) ≡ true
+pub rows_written : (objects : List Object) (places : List ℕ) (modules : List Module) (gs : List Meaning) (files : List LoadedObject) → All HasSymbols objects → All HasNumber modules → meanings objects places modules ≡ Ok gs → ascend (ascending (rows_of files gs)) ≡ true → are_conflicts (ascending (rows_of files gs)) ≡ true
 rows_written objects places modules gs files all numbers is up =
     let low = given_low objects places modules (rows objects) gs all numbers (meanings_given objects places modules gs is) in
     let each : All (λ r. is_conflict r ≡ true) (ascending (rows_of files gs)) = All-permutation (λ r. is_conflict r ≡ true) (rows_of files gs) (ascending (rows_of files gs)) (ascending_perm (rows_of files gs)) (rows_low files gs low) in

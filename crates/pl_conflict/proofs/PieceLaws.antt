@@ -4,7 +4,7 @@ use Rattle.std.specs.List.{list_any, AllZip}
 use Rattle.std.proofs.lemmas.Bool.{cases_Bool}
 use Rattle.pl_base.specs.Memory.{AtMostOne, Piece, lies, layered}
 use Rattle.pl_base.proofs.MemoryLaws.{layered_one, shown_same}
-use Rattle.pl_image.specs.declared.loaded.Loaded.{Loaded}
+use Rattle.pl_image.specs.declared.loaded_object.LoadedObject.{LoadedObject}
 use Rattle.pl_value.specs.Linked.{under, relocated}
 use Rattle.pl_value.specs.declared.meaning.Meaning.{Meaning}
 use Rattle.pl_base.specs.Memory.{filled}
@@ -25,7 +25,7 @@ forms_away gs a (p ∷ ps) (q ∷ qs) like none =
       | inr miss ↦ rw (same, miss) rest
     ]
 
-forms_are_files : (originals files : List Piece) (members : List Loaded) (gs : List Meaning) (a : ℕ) → AtMostOne lies files → AreForms originals files members gs a → IsFile (layered originals) (layered files) members gs a
+forms_are_files : (originals files : List Piece) (members : List LoadedObject) (gs : List Meaning) (a : ℕ) → AtMostOne lies files → AreForms originals files members gs a → IsFile (layered originals) (layered files) members gs a
 forms_are_files originals files members gs a apart are = record {
   away = λ none. forms_away gs a originals files are.forms none;
   program = λ k d lt hit mine. layered_one files a _ apart (are.program k d lt hit mine);

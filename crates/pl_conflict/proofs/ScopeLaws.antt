@@ -18,13 +18,13 @@ use Rattle.pl_elf.specs.declared.segment.Segment.{Segment}
 use Rattle.pl_elf.proofs.AcceptedLaws.{LoadFits, loads_fit}
 use Rattle.pl_image.specs.Image.{all_pieces}
 use Rattle.pl_image.specs.Loads.{loaded_piece, loaded_pieces, pieces_at, loaded_at, IsPlaced}
-use Rattle.pl_image.specs.declared.loaded.Loaded.{Loaded}
+use Rattle.pl_image.specs.declared.loaded_object.LoadedObject.{LoadedObject}
 use Rattle.pl_object.specs.declared.object.Object.{Object}
 use Rattle.pl_object.proofs.AcceptedLaws.{accepted}
 use Rattle.pl_object.proofs.SpanLaws.{Ends, span_ends}
 use Rattle.pl_scope.proofs.NameLaws.{or_cases}
 use Rattle.pl_value.specs.Laws.{AreRead}
-use Rattle.pl_value.specs.Ordinary.{part_of, loaded_from, loaded, ArePlaced}
+use Rattle.pl_value.specs.Ordinary.{part_of, loaded_from, loaded_objects, ArePlaced}
 use Rattle.pl_value.specs.Targets.{base_of}
 use Rattle.pl_value.proofs.LoneLaws.{Lone, lone_most, lone_join}
 use Rattle.pl_conflict.specs.Prelinked.{Firm, objects_of, slots_of, originals_of, has_numbers, load_window, windows_of}
@@ -149,15 +149,15 @@ unfolding loaded_from
 loaded_rest p b places parts member [] = refl
 loaded_rest p b places parts member (o ∷ os) =
     let next : suc member + 1 ≡ suc (member + 1) = omega arith in
-    ap (λ (ls : List Loaded). loaded_at (base_of places member) (part_of parts member) o ∷ ls) (ap (λ (n : ℕ). loaded_from (p ∷ places) (b ∷ parts) n os) next ∙ loaded_rest p b places parts (member + 1) os)
+    ap (λ (ls : List LoadedObject). loaded_at (base_of places member) (part_of parts member) o ∷ ls) (ap (λ (n : ℕ). loaded_from (p ∷ places) (b ∷ parts) n os) next ∙ loaded_rest p b places parts (member + 1) os)
 
 -- what a set loads at its slots
-abbrev pub set_loaded : List Firm → List Loaded
-set_loaded rs = loaded (slots_of rs) (originals_of rs) (objects_of rs)
+abbrev pub set_loaded : List Firm → List LoadedObject
+set_loaded rs = loaded_objects (slots_of rs) (originals_of rs) (objects_of rs)
 
 set_next : (r : Firm) (rs : List Firm) → set_loaded (r ∷ rs) ≡ loaded_at r.member.slot r.member.original r.object ∷ set_loaded rs
 unfolding loaded_from
-set_next r rs = ap (λ (ls : List Loaded). loaded_at r.member.slot r.member.original r.object ∷ ls) (loaded_rest r.member.slot r.member.original (slots_of rs) (originals_of rs) 0 (objects_of rs))
+set_next r rs = ap (λ (ls : List LoadedObject). loaded_at r.member.slot r.member.original r.object ∷ ls) (loaded_rest r.member.slot r.member.original (slots_of rs) (originals_of rs) 0 (objects_of rs))
 
 record IsApartSet (rs : List Firm) : Type 0 where
   lone : Lone lies (all_pieces (set_loaded rs))
@@ -180,8 +180,8 @@ set_apart (r ∷ rs) all numbers none =
     let inside : (a : ℕ) → list_any (lies a) (first ++ all_pieces (set_loaded rs)) ≡ true → list_any (holds a) (flat_map windows_of (r ∷ rs)) ≡ true =
     λ a some. list_any-append (holds a) (windows_of r) (flat_map windows_of rs) ∙ either a first (all_pieces (set_loaded rs)) (windows_of r) (flat_map windows_of rs) (here a) (rest.inside a) (sym (list_any-append (lies a) first (all_pieces (set_loaded rs))) ∙ some) in
     record {
-      lone = subst (λ (ls : List Loaded). Lone lies (all_pieces ls)) (sym (set_next r rs)) lone;
-      inside = subst (λ (ls : List Loaded). (a : ℕ) → list_any (lies a) (all_pieces ls) ≡ true → list_any (holds a) (flat_map windows_of (r ∷ rs)) ≡ true) (sym (set_next r rs)) inside;
+      lone = subst (λ (ls : List LoadedObject). Lone lies (all_pieces ls)) (sym (set_next r rs)) lone;
+      inside = subst (λ (ls : List LoadedObject). (a : ℕ) → list_any (lies a) (all_pieces ls) ≡ true → list_any (holds a) (flat_map windows_of (r ∷ rs)) ≡ true) (sym (set_next r rs)) inside;
     }
   where
     either : (a : ℕ) (ps qs : List Piece) (ws vs : List Window) → (list_any (lies a) ps ≡ true → list_any (holds a) ws ≡ true) → (list_any (lies a) qs ≡ true → list_any (holds a) vs ≡ true) → (list_any (lies a) ps || list_any (lies a) qs) ≡ true → (list_any (holds a) ws || list_any (holds a) vs) ≡ true

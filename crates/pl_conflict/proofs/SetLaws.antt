@@ -19,7 +19,7 @@ use Rattle.pl_form.proofs.AlignLaws.{align_even, slot_even}
 use Rattle.pl_form.proofs.FirmLaws.{library_three, program_two}
 use Rattle.pl_image.specs.Image.{byte_of}
 use Rattle.pl_image.specs.Loads.{loaded_at}
-use Rattle.pl_image.specs.declared.loaded.Loaded.{Loaded}
+use Rattle.pl_image.specs.declared.loaded_object.LoadedObject.{LoadedObject}
 use Rattle.pl_lists.specs.declared.conflict_row.ConflictRow.{ConflictRow}
 use Rattle.pl_object.specs.Accepted.{is_exec}
 use Rattle.pl_object.specs.declared.object.Object.{Object}
@@ -27,7 +27,7 @@ use Rattle.pl_object.proofs.AcceptedLaws.{accepted}
 use Rattle.pl_tls.specs.declared.module.Module.{Module}
 use Rattle.pl_value.specs.Laws.{is_shared}
 use Rattle.pl_value.specs.Meanings.{meanings}
-use Rattle.pl_value.specs.Ordinary.{part_of, loaded_from, loaded, shown_linked}
+use Rattle.pl_value.specs.Ordinary.{part_of, loaded_from, loaded_objects, shown_linked}
 use Rattle.pl_value.specs.Targets.{base_of}
 use Rattle.pl_value.specs.declared.fault.LinkFault.{LinkFault}
 use Rattle.pl_value.specs.declared.meaning.Meaning.{Meaning}
@@ -92,34 +92,34 @@ later_from p q ps places member (o ∷ os) =
     let next : suc member + 1 ≡ suc (member + 1) = omega arith in
     let rest : loaded_from places (p ∷ ps) (suc member + 1) os ≡ loaded_from places (q ∷ ps) (suc member + 1) os =
     subst (λ (n : ℕ). loaded_from places (p ∷ ps) n os ≡ loaded_from places (q ∷ ps) n os) (sym next) (later_from p q ps places (member + 1) os) in
-    ap (λ (ls : List Loaded). loaded_at (base_of places (suc member)) (part_of ps member) o ∷ ls) rest
+    ap (λ (ls : List LoadedObject). loaded_at (base_of places (suc member)) (part_of ps member) o ∷ ls) rest
 
-later_loaded : (p q : List ℕ) (ps : List (List ℕ)) (places : List ℕ) (os : List Object) → drop 1 (loaded places (p ∷ ps) os) ≡ drop 1 (loaded places (q ∷ ps) os)
+later_loaded : (p q : List ℕ) (ps : List (List ℕ)) (places : List ℕ) (os : List Object) → drop 1 (loaded_objects places (p ∷ ps) os) ≡ drop 1 (loaded_objects places (q ∷ ps) os)
 unfolding loaded_from
 later_loaded p q ps places [] = refl
 later_loaded p q ps places (o ∷ os) = later_from p q ps places 0 os
 
-row_same : (xs ys : List Loaded) (member start : ℕ) (word : Word) → drop 1 xs ≡ drop 1 ys → row_of xs member start word ≡ row_of ys member start word
+row_same : (xs ys : List LoadedObject) (member start : ℕ) (word : Word) → drop 1 xs ≡ drop 1 ys → row_of xs member start word ≡ row_of ys member start word
 unfolding held
 row_same xs ys member start (Put word) same = elim (cases_Bool (member == 0)) [
   | inl first ↦ rw first refl
-  | inr other ↦ rw other (ap (λ (o : Option Loaded). row_held o start word) (library_same xs ys member same (ap not other)))
+  | inr other ↦ rw other (ap (λ (o : Option LoadedObject). row_held o start word) (library_same xs ys member same (ap not other)))
 ]
   where
-    row_held : Option Loaded → ℕ → ℕ → Option ConflictRow
+    row_held : Option LoadedObject → ℕ → ℕ → Option ConflictRow
     row_held o start word = if bytes_eq (read (layered (pieces_in o)) start 8) (bytes64 word) then None else Some (record { address = start; word = word })
 row_same xs ys member start (Copy from at bytes) same = refl
 row_same xs ys member start Nothing same = refl
 
-rows_same : (xs ys : List Loaded) (gs : List Meaning) → drop 1 xs ≡ drop 1 ys → rows_of xs gs ≡ rows_of ys gs
+rows_same : (xs ys : List LoadedObject) (gs : List Meaning) → drop 1 xs ≡ drop 1 ys → rows_of xs gs ≡ rows_of ys gs
 unfolding rows_of
 rows_same xs ys [] same = refl
 rows_same xs ys (g ∷ gs) same = rw (row_same xs ys g.member g.start g.word same, rows_same xs ys gs same) refl
 
 conflicts_by : (objects : List Object) (p q : List ℕ) (ps : List (List ℕ)) (places : List ℕ) (r : Result (List Meaning) LinkFault)
-    → (r >>= λ gs. Ok (ascending (rows_of (loaded places (p ∷ ps) objects) gs))) ≡ (r >>= λ gs. Ok (ascending (rows_of (loaded places (q ∷ ps) objects) gs)))
+    → (r >>= λ gs. Ok (ascending (rows_of (loaded_objects places (p ∷ ps) objects) gs))) ≡ (r >>= λ gs. Ok (ascending (rows_of (loaded_objects places (q ∷ ps) objects) gs)))
 conflicts_by objects p q ps places (Err e) = refl
-conflicts_by objects p q ps places (Ok gs) = ap (λ (rows : List ConflictRow). Ok (ascending rows)) (rows_same (loaded places (p ∷ ps) objects) (loaded places (q ∷ ps) objects) gs (later_loaded p q ps places objects))
+conflicts_by objects p q ps places (Ok gs) = ap (λ (rows : List ConflictRow). Ok (ascending rows)) (rows_same (loaded_objects places (p ∷ ps) objects) (loaded_objects places (q ∷ ps) objects) gs (later_loaded p q ps places objects))
 
 pub conflicts_later : (objects : List Object) (p q : List ℕ) (ps : List (List ℕ)) (places : List ℕ) (modules : List Module) → conflicts objects (p ∷ ps) places modules ≡ conflicts objects (q ∷ ps) places modules
 unfolding conflicts
@@ -198,7 +198,7 @@ set_conflicts r rs file g h =
     ∙ h.made.conflicts
 
 pub set_fast : (r : Firm) (rs : List Firm) (file : List ℕ) (g : Firm → List ℕ) (h : HasFiles r rs file g) → (a : ℕ)
-    → byte_of (standing_image (slots_of (r ∷ rs)) (file ∷ map g rs) (objects_of (r ∷ rs)) h.made.rows) a ≡ shown_linked (loaded (slots_of (r ∷ rs)) (originals_of (r ∷ rs)) (objects_of (r ∷ rs))) h.made.gs a
+    → byte_of (standing_image (slots_of (r ∷ rs)) (file ∷ map g rs) (objects_of (r ∷ rs)) h.made.rows) a ≡ shown_linked (loaded_objects (slots_of (r ∷ rs)) (originals_of (r ∷ rs)) (objects_of (r ∷ rs))) h.made.gs a
 set_fast r rs file g h a =
     conflicts_complete (objects_of (r ∷ rs)) (originals_of (r ∷ rs)) (file ∷ map g rs) (slots_of (r ∷ rs)) h.made.modules h.made.gs h.made.rows (read_all (r ∷ rs) h.own) (program_scope r rs h.own h.other h.libraries)
     (set_placed (r ∷ rs) h.own (all_numbers r rs h.set) h.set.apart) h.made.given (set_conflicts r rs file g h) (set_stands r rs file g h) a

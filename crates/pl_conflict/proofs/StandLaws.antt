@@ -23,7 +23,7 @@ use Rattle.pl_form.specs.declared.version.Version.{Version}
 use Rattle.pl_form.proofs.PieceLaws.{library_stands, program_stands, library_moved}
 use Rattle.pl_image.specs.Image.{all_pieces, any_masked}
 use Rattle.pl_image.specs.Loads.{loaded_piece, loaded_pieces, pieces_at, load_at, mask_at, loads_table, is_masked, IsPlaced}
-use Rattle.pl_image.specs.declared.loaded.Loaded.{Loaded}
+use Rattle.pl_image.specs.declared.loaded_object.LoadedObject.{LoadedObject}
 use Rattle.pl_image.specs.declared.mask.Load.{Load}
 use Rattle.pl_image.specs.declared.mask.Mask.{Mask}
 use Rattle.pl_lists.specs.declared.conflict_row.ConflictRow.{ConflictRow}
@@ -38,7 +38,7 @@ use Rattle.pl_tls.specs.declared.module.Module.{Module}
 use Rattle.pl_value.specs.Laws.{AreRead}
 use Rattle.pl_value.specs.Linked.{under, words, copies, worded, relocated}
 use Rattle.pl_value.specs.Meanings.{Row, row, rows, rows_from, given, meanings}
-use Rattle.pl_value.specs.Ordinary.{part_of, loaded_from, loaded, ArePlaced}
+use Rattle.pl_value.specs.Ordinary.{part_of, loaded_from, loaded_objects, ArePlaced}
 use Rattle.pl_value.specs.Targets.{base_of}
 use Rattle.pl_value.specs.declared.meaning.Meaning.{Meaning}
 use Rattle.pl_value.proofs.MeaningLaws.{IsGiven, meanings_given, zip_weaker}
@@ -334,7 +334,7 @@ own_holds objects places modules x original file memory gs a zip own = λ w e lt
 first_of_all : (test : Piece → Bool) (ps qs : List Piece) → list_any test ps ≡ true → list_any test (ps ++ qs) ≡ true
 first_of_all test ps qs some = list_any-append test ps qs ∙ either_first (list_any test ps) (list_any test qs) some
 
-loaded_with : List Piece → Mask → Loaded
+loaded_with : List Piece → Mask → LoadedObject
 loaded_with pieces mask = record { pieces = pieces; mask = mask }
 
 same_from : (places : List ℕ) (files : List (List ℕ)) (member : ℕ) (os : List Object) → ((k : ℕ) (d : Object) → k < length os → before places files (member + k) (get_or os k d) ≡ after places files (member + k) (get_or os k d)) → loaded_from places files member os ≡ standing_from places files member os
@@ -345,33 +345,33 @@ same_from places files member (o ∷ os) each =
     let first : Both member o = subst (λ (n : ℕ). Both n o) (omega arith) (each zero o (omega arith)) in
     let next : (k : ℕ) (d : Object) → k < length os → Both (member + 1 + k) (get_or os k d) = λ k d lt. subst (λ (n : ℕ). Both n (get_or os k d)) (omega arith) (each (suc k) d (omega (arith, lt))) in
     ap (λ (ps : List Piece). loaded_with ps (mask_at (base_of places member) o) ∷ loaded_from places files (member + 1) os) first
-    ∙ ap (λ (ls : List Loaded). loaded_with (after places files member o) (mask_at (base_of places member) o) ∷ ls) (same_from places files (member + 1) os next)
+    ∙ ap (λ (ls : List LoadedObject). loaded_with (after places files member o) (mask_at (base_of places member) o) ∷ ls) (same_from places files (member + 1) os next)
 
 -- a program, whose places have the bytes that its scope gives, and libraries, each at its slot
 pub record AreFiles (x : Object) (os : List Object) (originals files : List (List ℕ)) (places : List ℕ) (gs : List Meaning) : Type 0 where
   pub zero : base_of places 0 ≡ 0
-  pub program : IsProgramFile (part_of files 0) (part_of originals 0) x (map (fill (relocated (layered (all_pieces (loaded places originals (x ∷ os)))) gs)) (filter is_program_place gs))
+  pub program : IsProgramFile (part_of files 0) (part_of originals 0) x (map (fill (relocated (layered (all_pieces (loaded_objects places originals (x ∷ os)))) gs)) (filter is_program_place gs))
   pub libraries : (k : ℕ) (d : Object) → k < length os → IsLibraryFile (base_of places (suc k)) (part_of files (suc k)) (part_of originals (suc k)) (get_or os k d)
 
 each_there : (x : Object) (os : List Object) (originals files : List (List ℕ)) (places : List ℕ) (gs : List Meaning) (a : ℕ) → AreFiles x os originals files places gs
     → (k : ℕ) (d : Object) → k < length (x ∷ os) → StandsThere (part_of files k) (part_of originals k) (get_or (x ∷ os) k d) (base_of places k) a
 each_there x os originals files places gs a are zero d lt =
-    let memory = relocated (layered (all_pieces (loaded places originals (x ∷ os)))) gs in
+    let memory = relocated (layered (all_pieces (loaded_objects places originals (x ∷ os)))) gs in
     record { given = map (fill memory) (filter is_program_place gs); stands = program_there (base_of places 0) (part_of files 0) (part_of originals 0) x (map (fill memory) (filter is_program_place gs)) a are.zero are.program }
 each_there x os originals files places gs a are (suc k) d lt = library_there (base_of places (suc k)) (part_of files (suc k)) (part_of originals (suc k)) (get_or os k d) a (are.libraries k d (omega (arith, lt)))
 
-stood_extents : (x : Object) (os : List Object) (originals files : List (List ℕ)) (places : List ℕ) (gs : List Meaning) → AreFiles x os originals files places gs → AllZip Stands (all_pieces (loaded places originals (x ∷ os))) (all_pieces (standing places files (x ∷ os)))
+stood_extents : (x : Object) (os : List Object) (originals files : List (List ℕ)) (places : List ℕ) (gs : List Meaning) → AreFiles x os originals files places gs → AllZip Stands (all_pieces (loaded_objects places originals (x ∷ os))) (all_pieces (standing places files (x ∷ os)))
 stood_extents x os originals files places gs are =
     zip_from Stands places originals files 0 (x ∷ os) (λ k d lt. subst (λ (n : ℕ). AllZip Stands (before places originals n (get_or (x ∷ os) k d)) (after places files n (get_or (x ∷ os) k d))) (sym (zero-add k))
     (let t = each_there x os originals files places gs 0 are k d lt in extents (part_of files k) (part_of originals k) (get_or (x ∷ os) k d) t.given (base_of places k) 0 t.stands))
 
-stood_libraries : (x : Object) (os : List Object) (originals files : List (List ℕ)) (places : List ℕ) (gs : List Meaning) → AreFiles x os originals files places gs → LibrariesStand (loaded places files (x ∷ os)) (standing places files (x ∷ os))
+stood_libraries : (x : Object) (os : List Object) (originals files : List (List ℕ)) (places : List ℕ) (gs : List Meaning) → AreFiles x os originals files places gs → LibrariesStand (loaded_objects places files (x ∷ os)) (standing places files (x ∷ os))
 unfolding loaded_from standing_from
 stood_libraries x os originals files places gs are =
     same_from places files 1 os (λ k d lt. subst (λ (n : ℕ). before places files n (get_or os k d) ≡ after places files n (get_or os k d)) (omega arith) (library_loads (base_of places (suc k)) (part_of files (suc k)) (part_of originals (suc k)) (get_or os k d) (are.libraries k d lt)))
 
 stood_forms : (x : Object) (os : List Object) (originals files : List (List ℕ)) (places : List ℕ) (modules : List Module) (gs : List Meaning) (a : ℕ) → ArePlaced places originals (x ∷ os) → meanings (x ∷ os) places modules ≡ Ok gs → AreFiles x os originals files places gs
-    → any_masked (loaded places originals (x ∷ os)) a ≡ false → AllZip (IsForm gs a) (all_pieces (loaded places originals (x ∷ os))) (all_pieces (standing places files (x ∷ os)))
+    → any_masked (loaded_objects places originals (x ∷ os)) a ≡ false → AllZip (IsForm gs a) (all_pieces (loaded_objects places originals (x ∷ os))) (all_pieces (standing places files (x ∷ os)))
 stood_forms x os originals files places modules gs a placed is are seen =
     let same : list_any (under a) gs ≡ list_any (row_over places a) (rows (x ∷ os)) = under_rows (x ∷ os) places modules a (rows (x ∷ os)) gs (meanings_given (x ∷ os) places modules gs is) in
     zip_from (IsForm gs a) places originals files 0 (x ∷ os) (λ k d lt. subst (λ (n : ℕ). AllZip (IsForm gs a) (before places originals n (get_or (x ∷ os) k d)) (after places files n (get_or (x ∷ os) k d))) (sym (zero-add k))
@@ -381,11 +381,11 @@ stood_forms x os originals files places modules gs a placed is are seen =
     (λ none. subst (λ (n : ℕ). list_any (reloc_over (base_of places n) a) (get_or (x ∷ os) k d).relocations ≡ false) (zero-add k) (rows_none places a 0 (x ∷ os) (sym same ∙ none) k d lt))))
 
 stood_holds : (x : Object) (os : List Object) (original : List ℕ) (originals files : List (List ℕ)) (places : List ℕ) (modules : List Module) (gs : List Meaning) (a : ℕ) → AreRead (original ∷ originals) (x ∷ os) → ArePlaced places (original ∷ originals) (x ∷ os) → meanings (x ∷ os) places modules ≡ Ok gs → AreFiles x os (original ∷ originals) files places gs
-    → All (λ g. under a g ≡ true → is_library g.member ≡ false → Holds (all_pieces (standing places files (x ∷ os))) a (relocated (layered (all_pieces (loaded places (original ∷ originals) (x ∷ os)))) gs a)) gs
+    → All (λ g. under a g ≡ true → is_library g.member ≡ false → Holds (all_pieces (standing places files (x ∷ os))) a (relocated (layered (all_pieces (loaded_objects places (original ∷ originals) (x ∷ os)))) gs a)) gs
 unfolding loaded_from standing_from
 stood_holds x os original originals files places modules gs a read placed is are =
     let place = base_of places 0 in
-    let all = all_pieces (loaded places (original ∷ originals) (x ∷ os)) in
+    let all = all_pieces (loaded_objects places (original ∷ originals) (x ∷ os)) in
     let memory : Memory = relocated (layered all) gs in
     let ps = pieces_at place original x in
     let rest = all_pieces (loaded_from places (original ∷ originals) 1 os) in

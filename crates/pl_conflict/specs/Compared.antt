@@ -6,7 +6,7 @@ use Rattle.pl_object.specs.declared.object.Object.{Object}
 use Rattle.pl_scope.specs.Scope.{IsAccepted}
 use Rattle.pl_tls.specs.declared.module.Module.{Module}
 use Rattle.pl_value.specs.Meanings.{meanings}
-use Rattle.pl_value.specs.Ordinary.{ArePlaced, loaded}
+use Rattle.pl_value.specs.Ordinary.{ArePlaced, loaded_objects}
 use Rattle.pl_value.specs.declared.meaning.Meaning.{Meaning}
 use Rattle.pl_conflict.specs.Conflicts.{conflicts, rows_of}
 
@@ -19,7 +19,7 @@ pub record AreCompared (objects : List Object) (places : List ℕ) (parts : List
 
 -- the same conflict rows are made of some meanings as of all
 abbrev pub MakeRows : List Object → List (List ℕ) → List ℕ → List Meaning → List Meaning → Type 0
-MakeRows objects parts places all gs = rows_of (loaded places parts objects) all ≡ rows_of (loaded places parts objects) gs
+MakeRows objects parts places all gs = rows_of (loaded_objects places parts objects) all ≡ rows_of (loaded_objects places parts objects) gs
 
 -- meanings of members that are enough for the rows: with some modules of thread-local storage, the same are made of all
 pub record AreEnough (objects : List Object) (parts : List (List ℕ)) (places : List ℕ) (gs : List Meaning) : Type 0 where

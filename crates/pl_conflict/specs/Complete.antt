@@ -7,7 +7,7 @@ use Rattle.pl_tls.specs.declared.module.Module.{Module}
 use Rattle.pl_elf.specs.Kinds.{is_program}
 use Rattle.pl_object.specs.declared.object.Object.{Object}
 use Rattle.pl_image.specs.Image.{all_pieces, any_masked, byte_of}
-use Rattle.pl_image.specs.declared.loaded.Loaded.{Loaded}
+use Rattle.pl_image.specs.declared.loaded_object.LoadedObject.{LoadedObject}
 use Rattle.pl_lists.specs.declared.conflict_row.ConflictRow.{ConflictRow}
 use Rattle.pl_scope.specs.Members.{names}
 use Rattle.pl_scope.specs.Scope.{objects}
@@ -18,7 +18,7 @@ use Rattle.pl_form.specs.declared.file.Marked.{Marked}
 use Rattle.pl_value.specs.Laws.{AreRead, is_shared_at}
 use Rattle.pl_value.specs.Linked.{under, relocated}
 use Rattle.pl_value.specs.Meanings.{meanings}
-use Rattle.pl_value.specs.Ordinary.{loaded, ordinary, shown_linked, ArePlaced}
+use Rattle.pl_value.specs.Ordinary.{loaded_objects, ordinary, shown_linked, ArePlaced}
 use Rattle.pl_value.specs.declared.meaning.Meaning.{Meaning}
 use Rattle.pl_conflict.specs.Conflicts.{conflicts}
 use Rattle.pl_conflict.specs.Fast.{IsForm, Holds, is_library}
@@ -37,7 +37,7 @@ pub record Stands (original file : Piece) : Type 0 where
   pub size : file.size ≡ original.size
 
 -- each library's file loads by its own program headers what it loads by its original's
-abbrev pub LibrariesStand : List Loaded → List Loaded → Type 0
+abbrev pub LibrariesStand : List LoadedObject → List LoadedObject → Type 0
 LibrariesStand members files = drop 1 members ≡ drop 1 files
 
 -- at an address: the originals' bytes where no place is, and under a place of the program the byte of the relocated originals
@@ -47,16 +47,16 @@ pub record AreFormsOf (originals files : List Piece) (gs : List Meaning) (a : �
 
 -- files that stand for originals, at addresses that no link table has
 pub record StandFor (originals files : List (List ℕ)) (objects : List Object) (places : List ℕ) (gs : List Meaning) : Type 0 where
-  pub extents : AllZip Stands (all_pieces (loaded places originals objects)) (all_pieces (standing places files objects))
-  pub libraries : LibrariesStand (loaded places files objects) (standing places files objects)
-  pub forms : (a : ℕ) → any_masked (loaded places originals objects) a ≡ false → AreFormsOf (all_pieces (loaded places originals objects)) (all_pieces (standing places files objects)) gs a
+  pub extents : AllZip Stands (all_pieces (loaded_objects places originals objects)) (all_pieces (standing places files objects))
+  pub libraries : LibrariesStand (loaded_objects places files objects) (standing places files objects)
+  pub forms : (a : ℕ) → any_masked (loaded_objects places originals objects) a ≡ false → AreFormsOf (all_pieces (loaded_objects places originals objects)) (all_pieces (standing places files objects)) gs a
 
 -- with the conflict rows as patches over files that stand for originals, the image is that of the originals, relocated
 abbrev pub ConflictsAreComplete : Type 0
 ConflictsAreComplete = (objects : List Object) (originals files : List (List ℕ)) (places : List ℕ) (modules : List Module) (gs : List Meaning) (rows : List ConflictRow)
     → AreRead originals objects → IsProgramScope objects → ArePlaced places originals objects
     → meanings objects places modules ≡ Ok gs → conflicts objects files places modules ≡ Ok rows → StandFor originals files objects places gs
-    → (a : ℕ) → byte_of (standing_image places files objects rows) a ≡ shown_linked (loaded places originals objects) gs a
+    → (a : ℕ) → byte_of (standing_image places files objects rows) a ≡ shown_linked (loaded_objects places originals objects) gs a
 
 -- ---- over a folder that keeps the rule at the program's name
 

@@ -7,10 +7,10 @@ use Rattle.pl_base.specs.Bytes.{bytes64}
 use Rattle.pl_base.specs.Memory.{Piece, layered, read}
 use Rattle.pl_tls.specs.declared.module.Module.{Module}
 use Rattle.pl_object.specs.declared.object.Object.{Object}
-use Rattle.pl_image.specs.declared.loaded.Loaded.{Loaded}
+use Rattle.pl_image.specs.declared.loaded_object.LoadedObject.{LoadedObject}
 use Rattle.pl_lists.specs.declared.conflict_row.ConflictRow.{ConflictRow}
 use Rattle.pl_value.specs.Meanings.{meanings}
-use Rattle.pl_value.specs.Ordinary.{loaded}
+use Rattle.pl_value.specs.Ordinary.{loaded_objects}
 use Rattle.pl_value.specs.declared.fault.LinkFault.{LinkFault}
 use Rattle.pl_value.specs.declared.meaning.Meaning.{Meaning}
 use Rattle.pl_value.specs.declared.word.Word.{Word}
@@ -18,24 +18,24 @@ use Rattle.pl_value.specs.declared.word.Word.TheVariants.{Put, Copy, Nothing}
 
 -- ---- what files load
 
-abbrev pub pieces_in : Option Loaded → List Piece
+abbrev pub pieces_in : Option LoadedObject → List Piece
 pieces_in None = []
 pieces_in (Some l) = l.pieces
 
 -- the eight bytes that a member's file loads from an address on
-unfoldable pub held : List Loaded → ℕ → ℕ → List ℕ
+unfoldable pub held : List LoadedObject → ℕ → ℕ → List ℕ
 held files member start = read (layered (pieces_in (slice_get files member))) start 8
 
 -- ---- rows
 
 -- the row of a word for a place, unless the place is the program's, which is the first member, or holds the word
-abbrev pub row_of : List Loaded → ℕ → ℕ → Word → Option ConflictRow
+abbrev pub row_of : List LoadedObject → ℕ → ℕ → Word → Option ConflictRow
 row_of files member start (Put word) =
     if member == 0 || bytes_eq (held files member start) (bytes64 word) then None else Some (record { address = start; word = word })
 row_of files member start (Copy from at bytes) = None
 row_of files member start Nothing = None
 
-unfoldable pub rows_of : List Loaded → List Meaning → List ConflictRow
+unfoldable pub rows_of : List LoadedObject → List Meaning → List ConflictRow
 rows_of files gs = filter_map (λ g. row_of files g.member g.start g.word) gs
 
 -- ---- their order
@@ -54,4 +54,4 @@ ascending (row ∷ rows) = inserted row (ascending rows)
 
 -- the conflict rows of a program's scope whose libraries' files are these parts, or the first link refusal
 unfoldable pub conflicts : List Object → List (List ℕ) → List ℕ → List Module → Result (List ConflictRow) LinkFault
-conflicts objects parts places modules = meanings objects places modules >>= λ gs. Ok (ascending (rows_of (loaded places parts objects) gs))
+conflicts objects parts places modules = meanings objects places modules >>= λ gs. Ok (ascending (rows_of (loaded_objects places parts objects) gs))

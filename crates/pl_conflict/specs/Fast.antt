@@ -4,7 +4,7 @@ use Rattle.std.specs.List.{list_any, Any, AllZip}
 use Rattle.std.specs.List.Sorted.{IsPermutation}
 use Rattle.pl_base.specs.Bytes.{bytes64}
 use Rattle.pl_base.specs.Memory.{Memory, Piece, Fill, filled, AtMostOne, lies, byte_at, layered, shown}
-use Rattle.pl_image.specs.declared.loaded.Loaded.{Loaded}
+use Rattle.pl_image.specs.declared.loaded_object.LoadedObject.{LoadedObject}
 use Rattle.pl_lists.specs.declared.conflict_row.ConflictRow.{ConflictRow}
 use Rattle.pl_value.specs.Laws.{AllFit}
 use Rattle.pl_value.specs.Linked.{under, relocated}
@@ -37,7 +37,7 @@ abbrev pub Holds : List Piece → ℕ → Option ℕ → Type 0
 Holds files a v = Any (λ q. (lies a q ≡ true) × (Some (byte_at a q) ≡ v)) files
 
 -- under a place of the program stands the byte of the relocated originals; under one of a library the byte that its file holds
-pub record AreForms (originals files : List Piece) (members : List Loaded) (gs : List Meaning) (a : ℕ) : Type 0 where
+pub record AreForms (originals files : List Piece) (members : List LoadedObject) (gs : List Meaning) (a : ℕ) : Type 0 where
   pub forms : AllZip (IsForm gs a) originals files
   pub program : All (λ g. under a g ≡ true → is_library g.member ≡ false → Holds files a (relocated (layered originals) gs a)) gs
   pub library : All (λ g. under a g ≡ true → is_library g.member ≡ true → Holds files a (Some (slice_index (held members g.member g.start) (a - g.start)))) gs
@@ -54,7 +54,7 @@ fast_image originals files masked rows = shown (layered originals) masked (fille
 
 -- the two are one at every address, in whatever order the rows stand
 abbrev pub FastIsOrdinary : Type 0
-FastIsOrdinary = (originals files : List Piece) (masked : ℕ → Bool) (members : List Loaded) (gs : List Meaning) (rows : List ConflictRow)
+FastIsOrdinary = (originals files : List Piece) (masked : ℕ → Bool) (members : List LoadedObject) (gs : List Meaning) (rows : List ConflictRow)
     → AllFit is_library gs → AtMostOne under gs → AtMostOne lies files → IsPermutation (rows_of members gs) rows
     → ((a : ℕ) → masked a ≡ false → AreForms originals files members gs a)
     → (a : ℕ) → fast_image originals files masked rows a ≡ ordinary_image originals masked gs a

@@ -29,7 +29,7 @@ use Rattle.pl_tls.specs.Layout.{offsets}
 use Rattle.pl_tls.specs.declared.module.Module.{Module}
 use Rattle.pl_value.specs.Linked.{relocated}
 use Rattle.pl_value.specs.Meanings.{meanings}
-use Rattle.pl_value.specs.Ordinary.{loaded}
+use Rattle.pl_value.specs.Ordinary.{loaded_objects}
 use Rattle.pl_value.specs.declared.meaning.Meaning.{Meaning}
 use Rattle.pl_conflict.specs.Own.{own_words}
 use Rattle.pl_conflict.specs.Conflicts.{conflicts}
@@ -138,7 +138,7 @@ parts_of rs = map (part_of rs) rs
 
 -- the bytes of a place of the program in the memory that its scope makes
 abbrev pub fill_of : List Firm → List Meaning → Meaning → List ℕ
-fill_of rs gs g = read (relocated (layered (all_pieces (loaded (slots_of rs) (originals_of rs) (objects_of rs)))) gs) g.start g.size
+fill_of rs gs g = read (relocated (layered (all_pieces (loaded_objects (slots_of rs) (originals_of rs) (objects_of rs)))) gs) g.start g.size
 
 abbrev pub is_program_place : Meaning → Bool
 is_program_place g = g.member == 0

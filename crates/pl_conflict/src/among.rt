@@ -22,7 +22,7 @@ use std::alloc::Global;
 
 /// What is known of the relocations of a member, for each in their order; of those behind the last it is not known.
 #[derive(Clone, Copy)]
-pub struct Still<'a> {
+pub struct ConflictFree<'a> {
     /// Whether it matters nowhere.
     pub flags: &'a [bool],
 
@@ -75,13 +75,13 @@ pub fn meaning_of(
 }
 
 /// Whether a flag is set.
-pub fn is_flagged(still: Option<&Still<'_>>, index: usize) -> bool
-    ensures { OnTrue result (spec.FlagOf (option_map (λ s. s.now) still.entry) index) }
+pub fn is_flagged(conflict_free: Option<&ConflictFree<'_>>, index: usize) -> bool
+    ensures { OnTrue result (spec.FlagOf (option_map (λ s. s.now) conflict_free.entry) index) }
 {
-    let Some(still) = still else {
+    let Some(conflict_free) = conflict_free else {
         return false;
     };
-    let flags = still.flags;
+    let flags = conflict_free.flags;
     index < flags.len() && flags[index]
 }
 
@@ -94,21 +94,26 @@ fn is_near(windows: &[Window], start: u64) -> bool
 }
 
 /// Whether a relocation of an index is passed by.
-fn is_passed(still: Option<&Still<'_>>, index: usize, windows: &[Window], start: u64) -> bool
-    ensures { OnTrue result (spec.FlagOf (option_map (λ s. s.now) still.entry) index
+fn is_passed(
+    conflict_free: Option<&ConflictFree<'_>>,
+    index: usize,
+    windows: &[Window],
+    start: u64,
+) -> bool
+    ensures { OnTrue result (spec.FlagOf (option_map (λ s. s.now) conflict_free.entry) index
         × spec.IsFar windows.now start) }
 {
-    is_flagged(still, index) && !is_near(windows, start)
+    is_flagged(conflict_free, index) && !is_near(windows, start)
 }
 
 /// Adds what relocations of a member give, in their order, but for those whose flags are set and that are far from windows.
-fn add_open(
+fn add_remaining(
     scope: &Scope<'_>,
     places: &Places,
     tls: &[Module],
     member: u32,
     relocs: &[Reloc],
-    still: Option<&Still<'_>>,
+    conflict_free: Option<&ConflictFree<'_>>,
     windows: &[Window],
     meanings: &mut Rows<Meaning>,
 ) -> Result<(), OrdinaryFault>
@@ -116,15 +121,20 @@ fn add_open(
     requires member { member < length places.now }
     requires references { AreReferences scope.now member relocs.now }
     requires known { spec.ValuesOf (objects scope.now) places.now tls.now member relocs.now
-        (option_map (λ s. s.now) still) }
+        (option_map (λ s. s.now) conflict_free) }
     ensures added { OnOk result (spec.Adds (objects scope.now) places.now tls.now member relocs.now
-        (option_map (λ s. s.now) still.entry) windows.now meanings.old meanings.new) }
+        (option_map (λ s. s.now) conflict_free.entry) windows.now meanings.old meanings.new) }
     ensures refused { IfErr result (spec.RefusesOne (objects scope.now) places.now tls.now member
         relocs.now) }
 {
     for index in 0..relocs.len() {
         let reloc = &relocs[index];
-        if !is_passed(still, index, windows, place_of(places, member, reloc)) {
+        if !is_passed(
+            conflict_free,
+            index,
+            windows,
+            place_of(places, member, reloc),
+        ) {
             let meaning = meaning_of(scope, places, tls, member, reloc)?;
             meanings.push(meaning)?;
         }
@@ -133,16 +143,19 @@ fn add_open(
 }
 
 /// The flags of a member.
-pub fn flags_at<'s, 'a>(still: &'s [Still<'a>], member: u32) -> Option<&'s Still<'a>>
-    ensures { option_map (λ s. s.now) result ≡ slice_get still.now member }
+pub fn flags_at<'s, 'a>(
+    conflict_free: &'s [ConflictFree<'a>],
+    member: u32,
+) -> Option<&'s ConflictFree<'a>>
+    ensures { option_map (λ s. s.now) result ≡ slice_get conflict_free.now member }
 {
-    match still.get(member as usize) {
+    match conflict_free.get(member as usize) {
         None => None,
         Some(flags) => Some(flags),
     }
 }
 
-/// What all relocations of a scope give, in their order, as `meanings` of pl_value has it, but for those whose flags in `still` are set and whose words lie far from windows: there is one row of flags for each member. Each other one is looked up by itself. Else the first of all that has no value, or NoMemory.
+/// What all relocations of a scope give, in their order, as `meanings` of pl_value has it, but for those whose flags in `conflict_free` are set and whose words lie far from windows: there is one row of flags for each member. Each other one is looked up by itself. Else the first of all that has no value, or NoMemory.
 ///
 /// Relocations whose flags are set have values.
 pub fn meanings_among(
@@ -150,12 +163,13 @@ pub fn meanings_among(
     scope: &Scope<'_>,
     places: &Places,
     tls: &[Module],
-    still: &[Still<'_>],
+    conflict_free: &[ConflictFree<'_>],
     windows: &[Window],
 ) -> Result<Rows<Meaning>, OrdinaryFault>
     requires one_each { length places.now ≡ length scope.now }
-    requires known { spec.HaveValues (objects scope.now) places.now tls.now still.now }
-    ensures among { IfOk result (spec.IsAmong (objects scope.now) places.now tls.now still.now
+    requires known { spec.HaveValues (objects scope.now) places.now tls.now conflict_free.now }
+    ensures among { IfOk result (spec.IsAmong (objects scope.now) places.now tls.now
+        conflict_free.now
         windows.now) }
     ensures refused { IfErr result (λ fault. Answers value.is_memory (Err fault)
         (because Link (value.meanings (objects scope.now) places.now tls.now))) }
@@ -163,8 +177,8 @@ pub fn meanings_among(
     let mut meanings = Rows::new(alloc);
     for member in 0..scope.count() {
         let relocs = scope.object(member).relocations.as_slice();
-        let flags = flags_at(still, member);
-        add_open(
+        let flags = flags_at(conflict_free, member);
+        add_remaining(
             scope,
             places,
             tls,

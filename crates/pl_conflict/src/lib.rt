@@ -2,18 +2,18 @@
 #![tactic(auto)]
 
 mod among;
+mod conflict_free;
 mod law;
-mod open;
 mod own;
+mod remaining;
 mod rows;
-mod still;
 
-pub use among::{Still, meaning_of, meanings_among};
+pub use among::{ConflictFree, meaning_of, meanings_among};
+pub use conflict_free::{conflict_free_of, words_held};
 pub use law::{
     conflicts_are_complete, fast_images_are_ordinary, fast_is_ordinary, format_is_kept,
     prelinked_are_forms,
 };
-pub use open::conflicts_among;
 pub use own::own_words;
+pub use remaining::conflicts_among;
 pub use rows::{conflicts, conflicts_by};
-pub use still::{still_of, words_held};

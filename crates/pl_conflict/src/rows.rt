@@ -15,7 +15,7 @@ ghost use Rattle.pl_conflict.specs.Compared as compared;
 ghost use Rattle.pl_conflict.specs.Conflicts as spec;
 
 use pl_base::Rows;
-use pl_image::{Loaded, Parts};
+use pl_image::{LoadedObject, Parts};
 use pl_io::NoMemory;
 use pl_lists::ConflictRow;
 use pl_scope::Scope;
@@ -27,7 +27,7 @@ use std::alloc::{AllocError, Global};
 #[tactic(auto, unfolding(crate::specs::Conflicts::held))]
 pub fn held(
     alloc: Global,
-    files: &[Loaded<'_>],
+    files: &[LoadedObject<'_>],
     member: u32,
     start: u64,
 ) -> Result<Vec<u8>, AllocError>
@@ -50,7 +50,7 @@ pub fn is_word(bytes: &[u8], word: u64) -> bool
 /// The row of a relocation, if there is one.
 fn row_of(
     alloc: Global,
-    files: &[Loaded<'_>],
+    files: &[LoadedObject<'_>],
     meaning: &Meaning,
 ) -> Result<Option<ConflictRow>, AllocError>
     requires files { AreLoaded files.now }
@@ -78,7 +78,7 @@ fn row_of(
 #[tactic(auto, unfolding(crate::specs::Conflicts::rows_of))]
 fn rows_of(
     alloc: Global,
-    files: &[Loaded<'_>],
+    files: &[LoadedObject<'_>],
     meanings: &[Meaning],
 ) -> Result<Vec<ConflictRow>, AllocError>
     requires files { AreLoaded files.now }

@@ -10,7 +10,7 @@ use Rattle.pl_elf.specs.declared.header.Header.{Header}
 use Rattle.pl_elf.specs.declared.segment.Segment.{Segment}
 use Rattle.pl_elf.specs.declared.section.Section.{Section}
 use Rattle.pl_elf.specs.Headers.{header, segment_at, section_at}
-use Rattle.pl_elf.specs.Written.{header_bytes, segment_bytes, section_bytes}
+use Rattle.pl_elf.specs.Written.{header_bytes, segment_bytes, section_header_bytes}
 
 -- fields put one after the other from an offset on
 abbrev put_fields : ℕ → List (List ℕ) → List ℕ → List ℕ
@@ -62,8 +62,8 @@ unfolding bytes32 bytes64 segment_bytes
 segment_written s into size = put_fields-whole (bytes32 s.kind ∷ bytes32 s.flags ∷ bytes64 s.offset ∷ bytes64 s.vaddr ∷ bytes64 s.paddr ∷ bytes64 s.filesz ∷ bytes64 s.memsz ∷ bytes64 s.align ∷ []) into size
 
 pub section_written : (s : Section) (into : List ℕ) → length into ≡ 64
-    → put 56 (bytes64 s.entsize) (put 48 (bytes64 s.addralign) (put 44 (bytes32 s.info) (put 40 (bytes32 s.link) (put 32 (bytes64 s.size) (put 24 (bytes64 s.offset) (put 16 (bytes64 s.addr) (put 8 (bytes64 s.flags) (put 4 (bytes32 s.kind) (put 0 (bytes32 s.name) into))))))))) ≡ section_bytes s
-unfolding bytes32 bytes64 section_bytes
+    → put 56 (bytes64 s.entsize) (put 48 (bytes64 s.addralign) (put 44 (bytes32 s.info) (put 40 (bytes32 s.link) (put 32 (bytes64 s.size) (put 24 (bytes64 s.offset) (put 16 (bytes64 s.addr) (put 8 (bytes64 s.flags) (put 4 (bytes32 s.kind) (put 0 (bytes32 s.name) into))))))))) ≡ section_header_bytes s
+unfolding bytes32 bytes64 section_header_bytes
 section_written s into size = put_fields-whole (bytes32 s.name ∷ bytes32 s.kind ∷ bytes64 s.flags ∷ bytes64 s.addr ∷ bytes64 s.offset ∷ bytes64 s.size ∷ bytes32 s.link ∷ bytes32 s.info ∷ bytes64 s.addralign ∷ bytes64 s.entsize ∷ []) into size
 
 -- ---- read back
@@ -85,8 +85,8 @@ segment_read s kind flags offset vaddr paddr filesz memsz align =
     refl
 
 pub section_read : (s : Section) → s.name < 2 ^ 32 → s.kind < 2 ^ 32 → s.flags < 2 ^ 64 → s.addr < 2 ^ 64 → s.offset < 2 ^ 64 → s.size < 2 ^ 64 → s.link < 2 ^ 32 → s.info < 2 ^ 32 → s.addralign < 2 ^ 64 → s.entsize < 2 ^ 64
-    → section_at (section_bytes s) 0 ≡ s
-unfolding bytes32 bytes64 word32 word64 section_bytes section_at
+    → section_at (section_header_bytes s) 0 ≡ s
+unfolding bytes32 bytes64 word32 word64 section_header_bytes section_at
 section_read s name kind flags addr offset size link info addralign entsize =
     rw (
       little_number-reads_back 4 s.name (concat (bytes32 s.kind ∷ bytes64 s.flags ∷ bytes64 s.addr ∷ bytes64 s.offset ∷ bytes64 s.size ∷ bytes32 s.link ∷ bytes32 s.info ∷ bytes64 s.addralign ∷ bytes64 s.entsize ∷ [])) name,

@@ -17,7 +17,7 @@ segment_bytes s = concat (
     bytes32 s.kind ∷ bytes32 s.flags ∷ bytes64 s.offset ∷ bytes64 s.vaddr ∷ bytes64 s.paddr ∷ bytes64 s.filesz
     ∷ bytes64 s.memsz ∷ bytes64 s.align ∷ [])
 
-unfoldable pub section_bytes : Section → List ℕ
-section_bytes s = concat (
+unfoldable pub section_header_bytes : Section → List ℕ
+section_header_bytes s = concat (
     bytes32 s.name ∷ bytes32 s.kind ∷ bytes64 s.flags ∷ bytes64 s.addr ∷ bytes64 s.offset ∷ bytes64 s.size
     ∷ bytes32 s.link ∷ bytes32 s.info ∷ bytes64 s.addralign ∷ bytes64 s.entsize ∷ [])

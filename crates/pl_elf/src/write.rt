@@ -79,7 +79,7 @@ pub fn write_segment(segment: &Segment, into: &mut [u8])
 #[tactic(auto, using(crate::proofs::WrittenLaws::section_written, crate::proofs::WrittenLaws::section_read))]
 pub fn write_section(section: &Section, into: &mut [u8])
     requires { length into.old ≡ SECTION_SIZE }
-    ensures bytes { into.new ≡ spec.section_bytes section.now }
+    ensures bytes { into.new ≡ spec.section_header_bytes section.now }
     ensures back { fields.section_at into.new 0 ≡ section.now }
 {
     put32(into, 0, section.name);

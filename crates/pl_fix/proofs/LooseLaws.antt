@@ -54,7 +54,7 @@ use Rattle.pl_parts.specs.Law.{FormsLibrary, FormsProgram}
 use Rattle.pl_parts.specs.Parts.{Original, form, front_part, library_dynamic, library_plan, moved_segment, new_header, program_plan, with_entries}
 use Rattle.pl_parts.specs.declared.parts.Extension.{Extension}
 use Rattle.pl_parts.specs.declared.parts.Listed.{Listed}
-use Rattle.pl_parts.specs.declared.parts.Plan.{Plan}
+use Rattle.pl_parts.specs.declared.parts.FormPlan.{FormPlan}
 use Rattle.pl_parts.proofs.AcceptedIs.{segments_are}
 use Rattle.pl_parts.proofs.FinalTheorem.{library_conditions, program_conditions}
 use Rattle.pl_parts.proofs.FormLaws.{form_header, form_split, front_size, rest_of}
@@ -174,7 +174,7 @@ module _ (o : List ℕ) (x : Object) (slot stamp checksum : ℕ) (l : Listed) (f
   abbrev a : Original
   a = original_of o
 
-  abbrev p : Plan
+  abbrev p : FormPlan
   p = library_plan a slot stamp checksum l
 
   abbrev undo : List ℕ

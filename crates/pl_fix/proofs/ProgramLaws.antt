@@ -34,7 +34,7 @@ use Rattle.pl_parts.specs.Found.{d_of, ss_of, tags_of}
 use Rattle.pl_parts.specs.Law.{FormsProgram}
 use Rattle.pl_parts.specs.Parts.{Original, conflicts_at, entry_bytes, extended_segment, extension, extension_at, program_dynamic, program_plan, program_segments, rows_at, shifted_segment, whole_extension, with_entries, with_tag}
 use Rattle.pl_parts.specs.declared.parts.Extension.{Extension}
-use Rattle.pl_parts.specs.declared.parts.Plan.{Plan}
+use Rattle.pl_parts.specs.declared.parts.FormPlan.{FormPlan}
 use Rattle.pl_parts.proofs.AcceptedIs.{segments_are}
 use Rattle.pl_parts.proofs.FinalTheorem.{inside, program_conditions}
 use Rattle.pl_parts.proofs.KindLaws.{grown_segment, other_segment, program_kept, segment_count}
@@ -117,7 +117,7 @@ module _ (o : List ℕ) (x : Object) (index : ℕ) (last : Segment) (e : Extensi
   abbrev a : Original
   a = original_of o
 
-  abbrev p : Plan
+  abbrev p : FormPlan
   p = program_plan a index last flat e
 
   abbrev undo : List ℕ

@@ -14,7 +14,7 @@ use Rattle.pl_elf.proofs.AcceptedLaws.{load_fits}
 use Rattle.pl_object.specs.FilePart.{file_window, in_file_part, loaded_by, loader, loads_byte}
 use Rattle.pl_parts.specs.Fits.{Fits}
 use Rattle.pl_parts.specs.Parts.{Original, form, front_part}
-use Rattle.pl_parts.specs.declared.parts.Plan.{Plan}
+use Rattle.pl_parts.specs.declared.parts.FormPlan.{FormPlan}
 use Rattle.pl_parts.proofs.FormLaws.{form_split, front_size, rest_of}
 use Rattle.pl_parts.proofs.LoadLaws.{IsKept, kept_part}
 use Rattle.pl_parts.proofs.LoadTheorem.{IsGrown}
@@ -48,13 +48,13 @@ is_held ss m s found whole =
 -- ---- a segment, as a form bears it
 
 -- at a slot: what it loads of the original's file bytes is in the form what stands in its front part
-pub record Bears (p : Plan) (o : Original) (flat undo : List ℕ) (slot : ℕ) (s borne : Segment) : Type 0 where
+pub record Bears (p : FormPlan) (o : Original) (flat undo : List ℕ) (slot : ℕ) (s borne : Segment) : Type 0 where
   pub load : is_load borne ≡ is_load s
   pub start : borne.vaddr ≡ slot + s.vaddr
   pub size : s.filesz ≤ borne.filesz
   pub same : (k n : ℕ) → k + n ≤ s.filesz → part (borne.offset + k) n (form p o flat undo) ≡ part (s.offset + k) n (front_part p o flat (length undo))
 
-pub kept_bears : (p : Plan) (o : Original) (flat undo : List ℕ) (slot : ℕ) (s borne : Segment) → Fits p o flat (length undo) → s.offset + s.filesz ≤ length o.bytes → IsKept p.cut (length p.more) s borne
+pub kept_bears : (p : FormPlan) (o : Original) (flat undo : List ℕ) (slot : ℕ) (s borne : Segment) → Fits p o flat (length undo) → s.offset + s.filesz ≤ length o.bytes → IsKept p.cut (length p.more) s borne
     → is_load borne ≡ is_load s → borne.vaddr ≡ slot + s.vaddr → Bears p o flat undo slot s borne
 kept_bears p o flat undo slot s borne fits inside kept load start = record {
   load = load;
@@ -66,7 +66,7 @@ kept_bears p o flat undo slot s borne fits inside kept load start = record {
       ∙ part_part s.offset s.filesz k n (front_part p o flat (length undo)) le;
 }
 
-pub grown_bears : (p : Plan) (o : Original) (flat undo : List ℕ) (slot : ℕ) (s borne : Segment) → Fits p o flat (length undo) → IsGrown p o flat s borne
+pub grown_bears : (p : FormPlan) (o : Original) (flat undo : List ℕ) (slot : ℕ) (s borne : Segment) → Fits p o flat (length undo) → IsGrown p o flat s borne
     → is_load borne ≡ is_load s → borne.vaddr ≡ slot + s.vaddr → Bears p o flat undo slot s borne
 grown_bears p o flat undo slot s borne fits grown load start = record {
   load = load;
@@ -85,7 +85,7 @@ right_test true bad e h = h
 right_test false bad e h = absurd (true≢false (sym e))
 
 -- a window of memory, at the slot, has in the form the bytes of the front part
-pub window_there : (p : Plan) (o : Original) (flat undo : List ℕ) (slot : ℕ) (ss bs : List Segment) (m w : Window) (s t : Segment) (i : ℕ) (d : Segment)
+pub window_there : (p : FormPlan) (o : Original) (flat undo : List ℕ) (slot : ℕ) (ss bs : List Segment) (m w : Window) (s t : Segment) (i : ℕ) (d : Segment)
     → IsHeld ss m s → IsHeld bs w t → loader bs w.at ≡ Some t → AreLoads (loads bs) → i < length bs → Bears p o flat undo slot s (get_or bs i d) → w.at ≡ slot + m.at → w.size ≡ m.size
     → within (file_window bs w) (form p o flat undo) ≡ within (file_window ss m) (front_part p o flat (length undo))
 window_there p o flat undo slot ss bs m w s t i d old new found are lt bears at size =

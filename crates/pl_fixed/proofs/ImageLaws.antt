@@ -12,7 +12,7 @@ use Rattle.pl_base.specs.Memory.{Fill, Memory, Piece, byte_at, covers, filled, i
 use Rattle.pl_fixed.specs.Fixed.{IsFixedFile, KeepsBytes, fixed, fixed_segment, is_relative_at}
 use Rattle.pl_image.specs.Loads.{IsPlaced, is_masked, load_at, loaded_at, loaded_piece, loads_table, mask_at, pieces_at}
 use Rattle.pl_image.specs.declared.mask.Load.{Load}
-use Rattle.pl_image.specs.declared.loaded.Loaded.{Loaded}
+use Rattle.pl_image.specs.declared.loaded_object.LoadedObject.{LoadedObject}
 use Rattle.pl_object.specs.declared.object.Object.{Object}
 use Rattle.pl_elf.specs.declared.range.Range.{Range}
 use Rattle.pl_elf.specs.declared.segment.Segment.{Segment}
@@ -231,5 +231,5 @@ pub rest_kept : (at : ℕ) (ps : List ℕ) (bytes file : List ℕ) (parts : List
 unfolding loaded_from
 rest_kept at ps bytes file parts m [] le = refl
 rest_kept at ps bytes file parts m (p ∷ os) le =
-    ap (λ (l : Loaded). l ∷ loaded_from (0 ∷ ps) (file ∷ parts) (m + 1) os) (rest_step at ps bytes file parts m p le)
-    ∙ ap (λ (ls : List Loaded). loaded_at (base_of (at ∷ ps) m) (part_of (bytes ∷ parts) m) p ∷ ls) (rest_kept at ps bytes file parts (m + 1) os (omega (arith, le)))
+    ap (λ (l : LoadedObject). l ∷ loaded_from (0 ∷ ps) (file ∷ parts) (m + 1) os) (rest_step at ps bytes file parts m p le)
+    ∙ ap (λ (ls : List LoadedObject). loaded_at (base_of (at ∷ ps) m) (part_of (bytes ∷ parts) m) p ∷ ls) (rest_kept at ps bytes file parts (m + 1) os (omega (arith, le)))

@@ -13,7 +13,7 @@ use Rattle.pl_fixed.specs.Laws.{FixedIsOrdinary, SameImage}
 use Rattle.pl_fixed.specs.Fixed.{IsFixedFile, fixed, is_relative_at}
 use Rattle.pl_image.specs.Loads.{IsPlaced, is_masked, loaded_at, loaded_piece, mask_at, pieces_at}
 use Rattle.pl_value.specs.declared.fault.LinkFault.{LinkFault}
-use Rattle.pl_image.specs.declared.loaded.Loaded.{Loaded}
+use Rattle.pl_image.specs.declared.loaded_object.LoadedObject.{LoadedObject}
 use Rattle.pl_image.specs.declared.mask.Mask.{Mask}
 use Rattle.pl_value.specs.declared.meaning.Meaning.{Meaning}
 use Rattle.pl_tls.specs.declared.module.Module.{Module}
@@ -22,7 +22,7 @@ use Rattle.pl_elf.specs.declared.segment.Segment.{Segment}
 use Rattle.pl_value.specs.declared.word.Word.{Word}
 use Rattle.pl_image.specs.Image.{all_pieces}
 use Rattle.pl_value.specs.Linked.{copies, copy_of, relocated, worded, words}
-use Rattle.pl_value.specs.Ordinary.{ArePlaced, loaded, loaded_from, ordinary, shown_linked}
+use Rattle.pl_value.specs.Ordinary.{ArePlaced, loaded_objects, loaded_from, ordinary, shown_linked}
 use Rattle.pl_elf.specs.Headers.{loads}
 use Rattle.pl_value.specs.Meanings.{meaning, meanings, rows, rows_from}
 use Rattle.pl_base.specs.Answers.{◌>>=◌}
@@ -114,10 +114,10 @@ relocated_same at o os ps modules bytes file rest gs hs a s gives from same seen
 -- ---- the image
 
 -- the first member and the others
-abbrev split : Loaded → List Loaded → List Piece
+abbrev split : LoadedObject → List LoadedObject → List Piece
 split first rest = first.pieces ++ all_pieces rest
 
-shown_same : (at : ℕ) (o : Object) (os : List Object) (ps : List ℕ) (modules : List Module) (bytes file : List ℕ) (others : List Loaded) (gs hs : List Meaning) (a : ℕ) → Setting at o bytes file (all_pieces others) → Gives (o ∷ os) (at ∷ ps) modules (rows (o ∷ os)) gs
+shown_same : (at : ℕ) (o : Object) (os : List Object) (ps : List ℕ) (modules : List Module) (bytes file : List ℕ) (others : List LoadedObject) (gs hs : List Meaning) (a : ℕ) → Setting at o bytes file (all_pieces others) → Gives (o ∷ os) (at ∷ ps) modules (rows (o ∷ os)) gs
     → Each (λ g. Sourced (all_pieces others) g.word) gs → AllZip SameRow gs hs → shown_linked (loaded_at 0 file (fixed at o) ∷ others) hs a ≡ shown_linked (loaded_at at bytes o ∷ others) gs a
 unfolding before after
 shown_same at o os ps modules bytes file others gs hs a s gives from same =
@@ -149,15 +149,15 @@ unfolding ordinary loaded_from meanings
 fixed_is_ordinary at o os bytes file parts ps modules movable is are =
     of_results (meanings (o ∷ os) (at ∷ ps) modules) (meanings (fixed at o ∷ os) (0 ∷ ps) modules) refl (meanings_same at o os ps modules movable)
   where
-    rest : List Loaded
+    rest : List LoadedObject
     rest = loaded_from (at ∷ ps) (bytes ∷ parts) 1 os
 
     of_results : (r t : Result (List Meaning) LinkFault) → meanings (o ∷ os) (at ∷ ps) modules ≡ r → SameAll r t
-        → SameImage (r >>= λ gs. Ok (shown_linked (loaded (at ∷ ps) (bytes ∷ parts) (o ∷ os)) gs)) (t >>= λ hs. Ok (shown_linked (loaded (0 ∷ ps) (file ∷ parts) (fixed at o ∷ os)) hs))
+        → SameImage (r >>= λ gs. Ok (shown_linked (loaded_objects (at ∷ ps) (bytes ∷ parts) (o ∷ os)) gs)) (t >>= λ hs. Ok (shown_linked (loaded_objects (0 ∷ ps) (file ∷ parts) (fixed at o ∷ os)) hs))
     of_results (Ok gs) (Ok hs) e same = λ a.
         let gives : Gives (o ∷ os) (at ∷ ps) modules (rows (o ∷ os)) gs = each_given (meaning (o ∷ os) (at ∷ ps) modules) (rows (o ∷ os)) gs e in
         let s : Setting at o bytes file (all_pieces (loaded_from (at ∷ ps) (bytes ∷ parts) 1 os)) = record { placed = first_placed at o os bytes parts ps are; is = is; apart = are.apart } in
-        ap (λ (ls : List Loaded). shown_linked (loaded_at 0 file (fixed at o) ∷ ls) hs a) (rest_kept at ps bytes file parts 1 os (omega arith))
+        ap (λ (ls : List LoadedObject). shown_linked (loaded_at 0 file (fixed at o) ∷ ls) hs a) (rest_kept at ps bytes file parts 1 os (omega arith))
         ∙ shown_same at o os ps modules bytes file (loaded_from (at ∷ ps) (bytes ∷ parts) 1 os) gs hs a s gives (copies_sourced at o os ps (bytes ∷ parts) modules gs movable (others_placed at o os bytes parts ps are) gives) same
     of_results (Ok gs) (Err f) e same = same
     of_results (Err e) (Ok hs) is_err same = same

@@ -1,6 +1,6 @@
 -- The image that a number chooses is one that a crash may leave.
 use Rattle.std.proofs.Common.{◌≡◌, ◌||◌, ℕ, Bool, true, cond, List, [], Option, Some, None, refl, ap}
-use Rattle.pl_folder.specs.Disk.{Content, State, Shows, IsImage, bytes_of, kept, read}
+use Rattle.pl_folder.specs.Disk.{Content, State, Shows, IsCrashImage, bytes_of, kept, read}
 use Rattle.pl_folder.specs.Chosen.{ChosenIsImage, chosen, has_bit, image_of, kept_changes, loose_before, shown}
 
 -- a firm file is shown as it is

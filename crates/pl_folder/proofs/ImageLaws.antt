@@ -3,7 +3,7 @@ use Rattle.std.proofs.Common.{◌≡◌, ◌⊎◌, inl, inr, ⊎_elim, ℕ, ◌
 use Rattle.std.proofs.lemmas.Bool.{both_ways, cases_Bool, cond-true, cond-false, ne_eqb}
 use Rattle.std.specs.Cmp.{eq_by_cmp_equiv}
 use Rattle.std.specs.Cmp.Lexicographic.{nat_list_cmp_total}
-use Rattle.pl_folder.specs.Disk.{Name, Names, View, Content, NameChange, Bind, Move, Unbind, State, IsImage, Shows, IsBelow, IsWhole, same, kept, all_kept, names_of, bytes_of, read}
+use Rattle.pl_folder.specs.Disk.{Name, Names, View, Content, NameChange, Bind, Move, Unbind, State, IsCrashImage, Shows, IsBelow, IsWhole, same, kept, all_kept, names_of, bytes_of, read}
 use Rattle.pl_folder.specs.States.{with_file, created, firmed, firmed_at, settled, renamed, moved, removed}
 use Rattle.pl_folder.specs.Since.{Within}
 
@@ -26,7 +26,7 @@ every_kept (Move from to f ∷ changes) base n = ap (λ r. cond (same n to) (Som
 every_kept (Unbind k ∷ changes) base n = ap (λ r. cond (same n k) None r) (every_kept changes base n)
 
 -- a folder as it reads is one of its images
-pub read_image : (s : State) → IsImage s (read s)
+pub read_image : (s : State) → IsCrashImage s (read s)
 read_image s = record {
   keep = every s.changes;
   shows = λ n. subst (λ at. Shows s.files at (bytes_of s.files (names_of s n))) (sym (every_kept s.changes s.base n)) (whole_file s.files (names_of s n));
@@ -48,7 +48,7 @@ pub settled_reads : (s : State) (n : Name) → read (settled s) n ≡ read s n
 settled_reads s n = bytes_settled s (names_of s n)
 
 -- after a settle the only image is what a read gave
-pub settled_image : (s : State) (v : View) → IsImage (settled s) v → v ≡ read s
+pub settled_image : (s : State) (v : View) → IsCrashImage (settled s) v → v ≡ read s
 settled_image s v image = λ i n. (firm_shows (settled s).files (λ f. refl) _ (v n) (image.shows n) ∙ ap (bytes_of (settled s).files) (no_changes image.keep (names_of s) n) ∙ settled_reads s n) i
 
 pub settled_within : (s : State) (P : View → Type 0) → P (read s) → Within (settled s) P
@@ -74,12 +74,12 @@ firm_less files f (Some g) content shows = λ firm. ⊎_elim
     shows (ap (λ x. x.is_firm) path ∙ firm) ∙ ap (λ x. Some x.bytes) path)
     (cases_Bool (g == f))
 
-firmed_image_at : (at : Option ℕ) (s : State) (v : View) → IsImage (firmed_at at s) v → IsImage s v
+firmed_image_at : (at : Option ℕ) (s : State) (v : View) → IsCrashImage (firmed_at at s) v → IsCrashImage s v
 firmed_image_at None s v image = image
 firmed_image_at (Some f) s v image = record { keep = image.keep; shows = λ n. firm_less s.files f _ (v n) (image.shows n) }
 
 -- making a file firm takes images away
-pub firmed_image : (name : Name) (s : State) (v : View) → IsImage (firmed name s) v → IsImage s v
+pub firmed_image : (name : Name) (s : State) (v : View) → IsCrashImage (firmed name s) v → IsCrashImage s v
 firmed_image name s = firmed_image_at (names_of s name) s
 
 bytes_firmed : (files : ℕ → Content) (f : ℕ) (at : Option ℕ) → bytes_of (with_file f (record { bytes = (files f).bytes; is_firm = true }) files) at ≡ bytes_of files at
@@ -121,7 +121,7 @@ module _ (name : Name) (s : State) where
   abbrev pub Cut : View → View → Type 0
   Cut u v = (n : Name) → v n ≡ cond (same n name) None (u n)
 
-  cut_image : (v : View) (ks : List Bool) → ((n : Name) → Shows s.files (cond (same n name) None (kept ks s.changes s.base n)) (v n)) → (u : View) × IsImage s u × Cut u v
+  cut_image : (v : View) (ks : List Bool) → ((n : Name) → Shows s.files (cond (same n name) None (kept ks s.changes s.base n)) (v n)) → (u : View) × IsCrashImage s u × Cut u v
   cut_image v ks shows = (u, record { keep = ks; shows = λ n. shown n (same n name) refl }, λ n. cut n (same n name) refl)
     where
       u : View
@@ -135,10 +135,10 @@ module _ (name : Name) (s : State) where
       cut n true is = subst (λ at. Shows s.files at (v n)) (cond-true (same n name) _ _ is) (shows n) ∙ sym (cond-true (same n name) _ _ is)
       cut n false is = sym (cond-false (same n name) _ _ is ∙ cond-false (same n name) _ _ is)
 
-  pub removed_image : (v : View) → IsImage (removed name s) v → IsImage s v ⊎ ((u : View) × IsImage s u × Cut u v)
+  pub removed_image : (v : View) → IsCrashImage (removed name s) v → IsCrashImage s v ⊎ ((u : View) × IsCrashImage s u × Cut u v)
   removed_image v image = at image.keep image.shows
     where
-      at : (ks : List Bool) → ((n : Name) → Shows s.files (kept ks (Unbind name ∷ s.changes) s.base n) (v n)) → IsImage s v ⊎ ((u : View) × IsImage s u × Cut u v)
+      at : (ks : List Bool) → ((n : Name) → Shows s.files (kept ks (Unbind name ∷ s.changes) s.base n) (v n)) → IsCrashImage s v ⊎ ((u : View) × IsCrashImage s u × Cut u v)
       at [] shows = inl (record { keep = []; shows = shows })
       at (false ∷ ks) shows = inl (record { keep = ks; shows = shows })
       at (true ∷ ks) shows = inr (cut_image v ks shows)
@@ -172,11 +172,11 @@ module _ (from to : Name) (s : State) (firm : AllFirm s) where
   bytes_move files false true f at = refl
   bytes_move files false false f at = refl
 
-  moved_image : (found : Option ℕ) → names_of s from ≡ found → (v : View) → IsImage (moved found from to s) v → IsImage s v ⊎ ((u : View) × IsImage s u × Shifted u v)
+  moved_image : (found : Option ℕ) → names_of s from ≡ found → (v : View) → IsCrashImage (moved found from to s) v → IsCrashImage s v ⊎ ((u : View) × IsCrashImage s u × Shifted u v)
   moved_image None is v image = inl image
   moved_image (Some f) is v image = at image.keep image.shows
     where
-      at : (ks : List Bool) → ((n : Name) → Shows s.files (kept ks (Move from to f ∷ s.changes) s.base n) (v n)) → IsImage s v ⊎ ((u : View) × IsImage s u × Shifted u v)
+      at : (ks : List Bool) → ((n : Name) → Shows s.files (kept ks (Move from to f ∷ s.changes) s.base n) (v n)) → IsCrashImage s v ⊎ ((u : View) × IsCrashImage s u × Shifted u v)
       at [] shows = inl (record { keep = []; shows = shows })
       at (false ∷ ks) shows = inl (record { keep = ks; shows = shows })
       at (true ∷ ks) shows = inr (
@@ -185,7 +185,7 @@ module _ (from to : Name) (s : State) (firm : AllFirm s) where
         λ n. firm_shows s.files firm _ (v n) (shows n) ∙ bytes_move s.files (same n to) (same n from) f (kept ks s.changes s.base n) ∙ ap (λ x. cond (same n to) (bytes_of s.files x) (cond (same n from) None (bytes_of s.files (kept ks s.changes s.base n)))) (sym is),
       )
 
-  pub renamed_image : (v : View) → IsImage (renamed from to s) v → IsImage s v ⊎ ((u : View) × IsImage s u × Shifted u v)
+  pub renamed_image : (v : View) → IsCrashImage (renamed from to s) v → IsCrashImage s v ⊎ ((u : View) × IsCrashImage s u × Shifted u v)
   renamed_image = moved_image (names_of s from) refl
 
   moved_reads : (found : Option ℕ) → names_of s from ≡ found → is_some (read s from) ≡ true → Shifted (read s) (read (moved found from to s))
@@ -230,7 +230,7 @@ module _ (name : Name) where
     pub owned : (ks : List Bool) (n : Name) → same n name ≡ false → kept ks s.changes s.base n ≡ Some f → ⊥
     pub named : names_of s name ≡ Some f
 
-  apart_image : (s : State) (v : View) (ks : List Bool) → ((n : Name) → same n name ≡ false → Shows s.files (kept ks s.changes s.base n) (v n)) → (u : View) × IsImage s u × Apart u v
+  apart_image : (s : State) (v : View) (ks : List Bool) → ((n : Name) → same n name ≡ false → Shows s.files (kept ks s.changes s.base n) (v n)) → (u : View) × IsCrashImage s u × Apart u v
   apart_image s v ks shows = (
     λ n. cond (same n name) (bytes_of s.files (kept ks s.changes s.base n)) (v n),
     record { keep = ks; shows = λ n. shown n (same n name) refl },
@@ -259,13 +259,13 @@ module _ (name : Name) where
   passed (false ∷ ks) s n missed below is = not_last s.count _ (below ks n) is
   passed (true ∷ ks) s n missed below is = not_last s.count _ (below ks n) (sym (cond-false (same n name) _ _ missed) ∙ is)
 
-  pub created_image : (s : State) → IsWhole s → (v : View) → IsImage (created name s) v → (u : View) × IsImage s u × Apart u v
+  pub created_image : (s : State) → IsWhole s → (v : View) → IsCrashImage (created name s) v → (u : View) × IsCrashImage s u × Apart u v
   created_image s whole v image = at image.keep image.shows
     where
       file : Content
       file = record { bytes = []; is_firm = false }
 
-      at : (ks : List Bool) → ((n : Name) → Shows (created name s).files (kept ks (created name s).changes s.base n) (v n)) → (u : View) × IsImage s u × Apart u v
+      at : (ks : List Bool) → ((n : Name) → Shows (created name s).files (kept ks (created name s).changes s.base n) (v n)) → (u : View) × IsCrashImage s u × Apart u v
       at [] shows = apart_image s v [] (λ n missed. other_file s.files file s.count _ (v n) (not_last s.count _ (whole.below [] n)) (shows n))
       at (false ∷ ks) shows = apart_image s v ks (λ n missed. other_file s.files file s.count _ (v n) (not_last s.count _ (whole.below ks n)) (shows n))
       at (true ∷ ks) shows = apart_image s v ks (λ n missed. other_file s.files file s.count _ (v n) (not_last s.count _ (whole.below ks n)) (subst (λ a. Shows (created name s).files a (v n)) (cond-false (same n name) _ _ missed) (shows n)))
@@ -303,7 +303,7 @@ module _ (name : Name) where
     abbrev after_it : State
     after_it = record s { files = with_file f file s.files }
 
-    pub file_image : (v : View) → IsImage after_it v → (u : View) × IsImage s u × Apart u v
+    pub file_image : (v : View) → IsCrashImage after_it v → (u : View) × IsCrashImage s u × Apart u v
     file_image v image = apart_image s v image.keep (λ n missed. other_file s.files file f _ (v n) (writing.owned image.keep n missed) (image.shows n))
 
     pub file_writing : IsWriting f after_it

@@ -20,8 +20,8 @@ use Rattle.pl_folder.specs.Replay.{contents_from, names_from, started}
 use Rattle.pl_folder.specs.Replaying.{Adds, Stands, any_binds, bound_after, bound_by, bound_name, changes_of, change_of, chosen_changes, content_at, content_of, contents_of, is_name, settled_view, shown_files}
 use Rattle.pl_folder.specs.States as state
 use Rattle.pl_folder.specs.States.{with_file}
-use Rattle.pl_folder.specs.declared.change.Change.{Change}
-use Rattle.pl_folder.specs.declared.replay.Loaded.{Loaded}
+use Rattle.pl_folder.specs.declared.directory_change.DirectoryChange.{DirectoryChange}
+use Rattle.pl_folder.specs.declared.replay.FileContent.{FileContent}
 use Rattle.pl_folder.specs.declared.replay.Replay.{Replay}
 use Rattle.pl_folder.proofs.ImageLaws.{names_below}
 use Rattle.pl_folder.proofs.StartedLemmas.{Entry, found}
@@ -85,7 +85,7 @@ length-whole_files : (es : List Entry) → length (whole_files es) ≡ length es
 length-whole_files [] = refl
 length-whole_files (e ∷ es) = ap suc (length-whole_files es)
 
-pub length-contents : (files : List Loaded) → length (contents_of files) ≡ length files
+pub length-contents : (files : List FileContent) → length (contents_of files) ≡ length files
 length-contents [] = refl
 length-contents (f ∷ files) = ap suc (length-contents files)
 
@@ -135,7 +135,7 @@ chosen_onto keeps (c ∷ changes) onto base n =
 
 -- ---- files that are written
 
-pub content_set : (files : List Loaded) (i : ℕ) (x : Loaded) (file : ℕ) → i < length files → content_at (contents_of (set files i x)) file ≡ cond (file == i) (content_of x) (content_at (contents_of files) file)
+pub content_set : (files : List FileContent) (i : ℕ) (x : FileContent) (file : ℕ) → i < length files → content_at (contents_of (set files i x)) file ≡ cond (file == i) (content_of x) (content_at (contents_of files) file)
 content_set [] i x file within = absurd (omega (arith, within))
 content_set (f ∷ files) zero x zero within = refl
 content_set (f ∷ files) zero x (suc file) within = sym (cond-false (suc file == 0) _ _ (ne_eqb (suc file) 0 (λ e. omega (arith, e))))
@@ -146,7 +146,7 @@ content_set (f ∷ files) (suc i) x (suc file) within = content_set files i x fi
     same_test a b = grind (arith, nat_tests)
 
 -- the file of a number that there is
-content_here : (files : List Loaded) (i : ℕ) (d : Loaded) → i < length files → content_at (contents_of files) i ≡ content_of (get_or files i d)
+content_here : (files : List FileContent) (i : ℕ) (d : FileContent) → i < length files → content_at (contents_of files) i ≡ content_of (get_or files i d)
 content_here [] i d within = absurd (omega (arith, within))
 content_here (f ∷ files) zero d within = refl
 content_here (f ∷ files) (suc i) d within = content_here files i d (omega (arith, within))
@@ -180,7 +180,7 @@ module _ (replay : Replay) (n : Name) (o : Option ℕ) (at : o ≡ bound_by (cha
   past_files file some past s whole is = absurd (omega (arith, past, within_files replay s n file whole is (names_at s is ∙ some)))
 
   -- a file gets this content
-  module _ (file : ℕ) (some : o ≡ Some file) (x : Loaded) where
+  module _ (file : ℕ) (some : o ≡ Some file) (x : FileContent) where
     abbrev pub put : Replay
     put = record { settled = replay.settled; changes = replay.changes; files = with_item replay.files file x }
 
@@ -192,13 +192,13 @@ module _ (replay : Replay) (n : Name) (o : Option ℕ) (at : o ≡ bound_by (cha
       count = is.count ∙ sym (length-set replay.files.items file x);
     }
 
-    pub appended_stands : (more : List ℕ) (d : Loaded) → x.bytes.items ≡ (get_or replay.files.items file d).bytes.items ++ more → x.is_firm ≡ false → file < length replay.files.items → (s : State) → Stands replay s → Stands put (state.appended n more s)
+    pub appended_stands : (more : List ℕ) (d : FileContent) → x.bytes.items ≡ (get_or replay.files.items file d).bytes.items ++ more → x.is_firm ≡ false → file < length replay.files.items → (s : State) → Stands replay s → Stands put (state.appended n more s)
     appended_stands more d bytes loose within s is = subst (λ f. Stands put (state.appended_to f more s)) (sym (names_at s is ∙ some))
         (put_stands s (record { bytes = (s.files file).bytes ++ more; is_firm = false })
         (λ i. record { bytes = (bytes ∙ ap (λ (c : Content). c.bytes ++ more) (sym (is.files file ∙ content_here replay.files.items file d within))) i; is_firm = loose i })
         within is)
 
-    pub firmed_stands : (d : Loaded) → x.bytes.items ≡ (get_or replay.files.items file d).bytes.items → x.is_firm ≡ true → file < length replay.files.items → (s : State) → Stands replay s → Stands put (state.firmed n s)
+    pub firmed_stands : (d : FileContent) → x.bytes.items ≡ (get_or replay.files.items file d).bytes.items → x.is_firm ≡ true → file < length replay.files.items → (s : State) → Stands replay s → Stands put (state.firmed n s)
     firmed_stands d bytes firm within s is = subst (λ f. Stands put (state.firmed_at f s)) (sym (names_at s is ∙ some))
         (put_stands s (record { bytes = (s.files file).bytes; is_firm = true })
         (λ i. record { bytes = (bytes ∙ ap (λ (c : Content). c.bytes) (sym (is.files file ∙ content_here replay.files.items file d within))) i; is_firm = firm i })
@@ -208,10 +208,10 @@ module _ (replay : Replay) (n : Name) (o : Option ℕ) (at : o ≡ bound_by (cha
 pub renamed_stands : (old new : Replay) (from to : Name) (file : ℕ) (o : Option ℕ) → o ≡ bound_by (changes_of old.changes.items) from (bound_by (changes_of old.settled.items) from None) → o ≡ Some file
     → new.settled ≡ old.settled → changes_of new.changes.items ≡ changes_of old.changes.items ++ Move from to file ∷ [] → new.files ≡ old.files → (s : State) → Stands old s → Stands new (state.renamed from to s)
 renamed_stands old new from to file o at some settled changes files s is = subst (λ f. Stands new (state.moved f from to s)) (sym (named_by old s is from ∙ sym at ∙ some)) (record {
-  base = λ n. is.base n ∙ ap (λ (v : Vec Change Global). bound_by (changes_of v.items) n None) (sym settled);
+  base = λ n. is.base n ∙ ap (λ (v : Vec DirectoryChange Global). bound_by (changes_of v.items) n None) (sym settled);
   changes = ap (λ cs. Move from to file ∷ cs) is.changes ∙ sym (reverse-snoc (changes_of old.changes.items) (Move from to file)) ∙ ap reverse (sym changes);
-  files = λ f. is.files f ∙ ap (λ (v : Vec Loaded Global). content_at (contents_of v.items) f) (sym files);
-  count = is.count ∙ ap (λ (v : Vec Loaded Global). length v.items) (sym files);
+  files = λ f. is.files f ∙ ap (λ (v : Vec FileContent Global). content_at (contents_of v.items) f) (sym files);
+  count = is.count ∙ ap (λ (v : Vec FileContent Global). length v.items) (sym files);
 })
 
 -- ---- after a crash
@@ -408,5 +408,5 @@ left_none (x ∷ xs) zero all = absurd (omega (arith, all))
 left_none (x ∷ xs) (suc i) all = left_none xs i (omega (arith, all))
 
 -- the first changes, and one more
-pub changes_more : (changes : List Change) (i : ℕ) (d : Change) → i < length changes → changes_of (take (i + 1) changes) ≡ changes_of (take i changes) ++ change_of (get_or changes i d) ∷ []
+pub changes_more : (changes : List DirectoryChange) (i : ℕ) (d : DirectoryChange) → i < length changes → changes_of (take (i + 1) changes) ≡ changes_of (take i changes) ++ change_of (get_or changes i d) ∷ []
 changes_more changes i d within = ap changes_of (take_more changes i d within) ∙ map-append change_of (take i changes) (get_or changes i d ∷ [])

@@ -15,7 +15,7 @@ use Rattle.pl_folder.specs.declared.fault.FolderFault.TheVariants.{Failed, NotTh
 pub record Calls (ending : Ending) (effect : Effect) (old new : Seen) : Type 0 where
   pub tells : new.tells ≡ old.tells
   pub records : new.records ≡ old.records
-  pub place : new.place ≡ old.place
+  pub referent : new.referent ≡ old.referent
   pub files : old.tells ≡ true → effect.files ending old.files new.files
   pub disk : old.records ≡ true → effect.disk ending old.disk new.disk
   pub count : Counted (is_broken ending) old.faults new.faults

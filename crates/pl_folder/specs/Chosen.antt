@@ -1,6 +1,6 @@
 -- One image of a state, by a number: bit i modulo 64 says whether the i-th change of names is kept, and whether the i-th file that is not firm is whole or empty.
 use Rattle.std.specs.Prelude.{◌≡◌, ℕ, zero, suc, ◌+◌, ◌/◌, ◌%◌, ◌^◌, ◌==◌, ◌||◌, Bool, true, false, cond, List, [], ◌∷◌, length}
-use Rattle.pl_folder.specs.Disk.{Content, NameChange, State, Disk, IsImage, kept, read}
+use Rattle.pl_folder.specs.Disk.{Content, NameChange, State, Disk, IsCrashImage, kept, read}
 
 -- bit i modulo 64 of a number
 abbrev pub has_bit : ℕ → ℕ → Bool
@@ -34,7 +34,7 @@ image_of choice s = image_by (has_bit choice) s
 
 -- it reads as one of the images that a crash may leave
 abbrev pub ChosenIsImage : Type 0
-ChosenIsImage = (choice : ℕ) (s : State) → IsImage s (read (image_of choice s))
+ChosenIsImage = (choice : ℕ) (s : State) → IsCrashImage s (read (image_of choice s))
 
 -- settled, with no call yet
 pub record IsStart (d : Disk) : Type 0 where

@@ -77,7 +77,7 @@ Shows files None content = content ≡ None
 Shows files (Some file) content = (files file).is_firm ≡ true → content ≡ Some (files file).bytes
 
 -- A crash may leave this: the settled names with any of the changes since, in their order.
-pub record IsImage (s : State) (image : View) : Type 0 where
+pub record IsCrashImage (s : State) (image : View) : Type 0 where
   pub keep : List Bool
   pub shows : (n : Name) → Shows s.files (kept keep s.changes s.base n) (image n)
 

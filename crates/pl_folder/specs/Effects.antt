@@ -23,26 +23,26 @@ abbrev pub renamed : Files → List ℕ → List ℕ → Files
 renamed files from to = insert (remove files from) to (bytes_at files from)
 
 -- a change, of the files as they read and of the state of the disk
-pub record Step : Type 0 where
+pub record Update : Type 0 where
   pub files : Files → Files
   pub state : State → State
 
-abbrev pub creates : List ℕ → Step
+abbrev pub creates : List ℕ → Update
 creates name = record { files = λ files. created files name; state = state.created name }
 
-abbrev pub appends : List ℕ → List ℕ → Step
+abbrev pub appends : List ℕ → List ℕ → Update
 appends name bytes = record { files = λ files. appended files name bytes; state = state.appended name bytes }
 
-abbrev pub firms : List ℕ → Step
+abbrev pub firms : List ℕ → Update
 firms name = record { files = λ files. files; state = state.firmed name }
 
-abbrev pub renames : List ℕ → List ℕ → Step
+abbrev pub renames : List ℕ → List ℕ → Update
 renames from to = record { files = λ files. renamed files from to; state = state.renamed from to }
 
-abbrev pub removes : List ℕ → Step
+abbrev pub removes : List ℕ → Update
 removes name = record { files = λ files. remove files name; state = state.removed name }
 
-abbrev pub settles : Step
+abbrev pub settles : Update
 settles = record { files = λ files. files; state = state.settled }
 
 pub record Effect : Type 1 where
@@ -77,7 +77,7 @@ StepsDisk step Broken old new = Waited old new ⊎ (new ≡ after (step old.now)
 StepsDisk step Undone old new = new ≡ old
 
 -- a step; where the folder failed the step is done or not
-abbrev pub Does : Step → Effect
+abbrev pub Does : Update → Effect
 Does step = record { files = StepsFiles step.files; disk = StepsDisk step.state }
 
 abbrev pub StepsDiskOrNot : (State → State) → Ending → Disk → Disk → Type 0
@@ -86,7 +86,7 @@ StepsDiskOrNot step Broken old new = Waited old new
 StepsDiskOrNot step Undone old new = new ≡ old
 
 -- a step that changes nothing that a read gives; where the folder failed it is not done
-abbrev pub DoesOrNot : Step → Effect
+abbrev pub DoesOrNot : Update → Effect
 DoesOrNot step = record { files = SameFiles; disk = StepsDiskOrNot step.state }
 
 abbrev pub GrowsFiles : List ℕ → List ℕ → Ending → Files → Files → Type 0

@@ -32,7 +32,7 @@ folder_disk folder = replay folder.past.items (started_with folder.first)
 
 -- what contracts see of it
 abbrev pub folder_seen : MemoryFolder → Seen
-folder_seen folder = record { tells = true; records = true; files = folder_files folder; disk = folder_disk folder; faults = (folder_script folder).faults; place = 0 }
+folder_seen folder = record { tells = true; records = true; files = folder_files folder; disk = folder_disk folder; faults = (folder_script folder).faults; referent = 0 }
 
 -- whether the next call fails: its number is listed, or there were as many calls as the folder answers
 abbrev pub call_fails : MemoryFolder → Bool
@@ -61,7 +61,7 @@ pub record IsFresh (old new : MemoryFolder) : Type 0 where
 
 -- what contracts see of a folder that tells its files alone
 abbrev pub quiet : Files → Seen
-quiet files = record { tells = true; records = false; files = files; disk = started []; faults = 0; place = 0 }
+quiet files = record { tells = true; records = false; files = files; disk = started []; faults = 0; referent = 0 }
 
 abbrev pub quiet_files : QuietFolder → Files
 quiet_files folder = table_files folder.files

@@ -2,22 +2,22 @@
 use Rattle.std.specs.Prelude.{◌≡◌, ℕ, ◌+◌, ◌||◌, Bool, true, false, cond, List, [], ◌∷◌, ◌++◌, length, map, reverse, slice_index_or, is_some, Option, Some, None}
 use Rattle.std.specs.FinMap.{get}
 use Rattle.pl_base.specs.Files.{Files}
-use Rattle.pl_folder.specs.declared.change.Change.{Change}
-use Rattle.pl_folder.specs.declared.change.Change.TheVariants as changes
+use Rattle.pl_folder.specs.declared.directory_change.DirectoryChange.{DirectoryChange}
+use Rattle.pl_folder.specs.declared.directory_change.DirectoryChange.TheVariants as changes
 use Rattle.pl_folder.specs.declared.choice.Choice.{Choice}
 use Rattle.pl_folder.specs.declared.choice.Choice.TheVariants.{All, Bits}
-use Rattle.pl_folder.specs.declared.replay.Loaded.{Loaded}
+use Rattle.pl_folder.specs.declared.replay.FileContent.{FileContent}
 use Rattle.pl_folder.specs.declared.replay.Replay.{Replay}
 use Rattle.pl_folder.specs.Chosen.{has_bit, shown}
 use Rattle.pl_folder.specs.Disk.{Name, Content, NameChange, Bind, Move, Unbind, State, bytes_of, changed, same}
 use Rattle.pl_folder.specs.Entries.{name_bytes}
 
-abbrev pub change_of : Change → NameChange
+abbrev pub change_of : DirectoryChange → NameChange
 change_of (changes.Bind name file) = Bind (name_bytes name) file
 change_of (changes.Move from to file) = Move (name_bytes from) (name_bytes to) file
 change_of (changes.Unbind name) = Unbind (name_bytes name)
 
-abbrev pub changes_of : List Change → List NameChange
+abbrev pub changes_of : List DirectoryChange → List NameChange
 changes_of all = map change_of all
 
 -- the file of a name after a change, and after several, the oldest first
@@ -52,10 +52,10 @@ abbrev pub keeps : Choice → ℕ → Bool
 keeps All i = true
 keeps (Bits bits) i = has_bit bits i
 
-abbrev pub content_of : Loaded → Content
+abbrev pub content_of : FileContent → Content
 content_of file = record { bytes = file.bytes.items; is_firm = file.is_firm }
 
-abbrev pub contents_of : List Loaded → List Content
+abbrev pub contents_of : List FileContent → List Content
 contents_of files = map content_of files
 
 -- a file by its number; past the last one there is nothing

@@ -14,7 +14,7 @@ pub record Seen : Type 0 where
   pub files : Files
   pub disk : Disk
   pub faults : ℕ
-  pub place : ℕ
+  pub referent : ℕ
 
 -- What holds of every folder: one that tells its disk tells its files, which are what the disk reads; and no name was ever bound to a file that is yet to come.
 pub record IsFolder (seen : Seen) : Type 0 where

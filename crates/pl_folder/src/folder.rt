@@ -70,7 +70,7 @@ pub trait Folder {
 }
 
 impl<D: Folder> Folder for &mut D {
-    ghost seen = { λ folder. record (D.seen folder.now) { place = folder.ghost_name } };
+    ghost seen = { λ folder. record (D.seen folder.now) { referent = folder.ghost_name } };
 
     ghost is_folder = { λ folder. record { tells = (D.is_folder folder.now).tells; reads = (D.is_folder folder.now).reads; whole = (D.is_folder folder.now).whole } };
 

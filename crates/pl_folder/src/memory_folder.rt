@@ -58,7 +58,7 @@ impl MemoryFolder {
               files = files_of files.now;
               disk = started (map file_entry files.now);
               faults = 0;
-              place = 0;
+              referent = 0;
             }) }
         ensures fail_at { IfOk result (λ folder. (folder_script folder).fail_at.items
             ≡ fail_at.items) }
@@ -110,7 +110,7 @@ impl MemoryFolder {
               files = table_files files;
               disk = started_with files;
               faults = 0;
-              place = 0;
+              referent = 0;
             }) }
         ensures fail_at { IfOk result (λ folder. (folder_script folder).fail_at.items
             ≡ fail_at.items) }

@@ -10,15 +10,15 @@ ghost use Rattle.pl_folder.specs.States as state;
 ghost use Rattle.pl_folder.specs.Tables.{started_with, table_files};
 
 use crate::call::Call;
-use crate::change::Change;
 use crate::choice::Choice;
+use crate::directory_change::DirectoryChange;
 use crate::file_table::FileTable;
 use crate::name::Name;
 use std::alloc::{AllocError, Global};
 
 /// A file, and whether its bytes outlast a crash.
 #[derive(Drop)]
-pub(crate) struct Loaded {
+pub(crate) struct FileContent {
     bytes: Vec<u8>,
     is_firm: bool,
 }
@@ -26,9 +26,9 @@ pub(crate) struct Loaded {
 /// A disk, while the calls of a folder are replayed: the changes of names up to the last settle and those since, the oldest first, and the files by their numbers.
 #[derive(Drop)]
 pub(crate) struct Replay {
-    settled: Vec<Change>,
-    changes: Vec<Change>,
-    files: Vec<Loaded>,
+    settled: Vec<DirectoryChange>,
+    changes: Vec<DirectoryChange>,
+    files: Vec<FileContent>,
 }
 
 impl Replay {
@@ -39,11 +39,11 @@ impl Replay {
         let mut settled = Vec::new(alloc);
         let mut files = Vec::new(alloc);
         for (i, file) in first.files().iter().enumerate() {
-            settled.push(Change::Bind {
+            settled.push(DirectoryChange::Bind {
                 name: file.name.copy(),
                 file: i,
             })?;
-            files.push(Loaded {
+            files.push(FileContent {
                 bytes: Vec::from_slice(alloc, file.bytes.as_slice())?,
                 is_firm: true,
             })?;
@@ -87,11 +87,11 @@ impl Replay {
             → Stands self.new (state.created (name_bytes name.now) s)) }
     {
         let file = self.files.len();
-        self.changes.push(Change::Bind {
+        self.changes.push(DirectoryChange::Bind {
             name: name.copy(),
             file,
         })?;
-        self.files.push(Loaded {
+        self.files.push(FileContent {
             bytes: Vec::new(alloc),
             is_firm: false,
         })?;
@@ -132,7 +132,7 @@ impl Replay {
         let Some(file) = self.file_of(from) else {
             return Ok(());
         };
-        self.changes.push(Change::Move {
+        self.changes.push(DirectoryChange::Move {
             from: from.copy(),
             to: to.copy(),
             file,
@@ -144,7 +144,8 @@ impl Replay {
         ensures { OnOk result ((s : State) → Stands self.old s
             → Stands self.new (state.removed (name_bytes name.now) s)) }
     {
-        self.changes.push(Change::Unbind { name: name.copy() })?;
+        self.changes
+            .push(DirectoryChange::Unbind { name: name.copy() })?;
         Ok(())
     }
 
@@ -199,7 +200,7 @@ impl Replay {
 }
 
 // The file of a name after some changes, by what it was before.
-fn bound(changes: &[Change], name: &Name, before: Option<usize>) -> Option<usize>
+fn bound(changes: &[DirectoryChange], name: &Name, before: Option<usize>) -> Option<usize>
     ensures { result ≡ bound_by (changes_of changes.now) (name_bytes name.now) before }
 {
     let mut file = before;
@@ -210,7 +211,11 @@ fn bound(changes: &[Change], name: &Name, before: Option<usize>) -> Option<usize
 }
 
 // Adds the changes that are chosen to those that are settled.
-fn keep(settled: &mut Vec<Change>, changes: &[Change], choice: Choice) -> Result<(), AllocError>
+fn keep(
+    settled: &mut Vec<DirectoryChange>,
+    changes: &[DirectoryChange],
+    choice: Choice,
+) -> Result<(), AllocError>
     ensures { OnOk result (changes_of settled.new.items ≡ changes_of settled.old.items
         ++ chosen_changes (keeps choice) 0 (changes_of changes.now)) }
 {
@@ -223,7 +228,11 @@ fn keep(settled: &mut Vec<Change>, changes: &[Change], choice: Choice) -> Result
 }
 
 // The files after a crash that left those which are chosen, of the ones that are not firm.
-fn shown(alloc: Global, files: &[Loaded], choice: Choice) -> Result<Vec<Loaded>, AllocError>
+fn shown(
+    alloc: Global,
+    files: &[FileContent],
+    choice: Choice,
+) -> Result<Vec<FileContent>, AllocError>
     ensures { IfOk result (λ shown. contents_of shown.items
         ≡ shown_files (keeps choice) 0 (contents_of files.now)) }
 {
@@ -237,7 +246,7 @@ fn shown(alloc: Global, files: &[Loaded], choice: Choice) -> Result<Vec<Loaded>,
         if !file.is_firm {
             loose += 1;
         }
-        shown.push(Loaded {
+        shown.push(FileContent {
             bytes,
             is_firm: true,
         })?;

@@ -13,7 +13,7 @@ use Rattle.pl_base.specs.Windows.{Window, within, Put, put_all, on, ◌⊕◌}
 use Rattle.pl_base.proofs.WordLaws.{is_bytes_nil, is_bytes_take, is_bytes_drop, is_bytes_part, is_bytes_append, is_bytes_put, is_bytes_zeros, is_bytes_⊕, is_bytes_bytes16, is_bytes_bytes32, is_bytes_bytes64}
 use Rattle.pl_elf.specs.Clauses.{section_data}
 use Rattle.pl_elf.specs.Headers.{header, section}
-use Rattle.pl_elf.specs.Written.{header_bytes, segment_bytes, section_bytes}
+use Rattle.pl_elf.specs.Written.{header_bytes, segment_bytes, section_header_bytes}
 use Rattle.pl_elf.specs.declared.header.Header.{Header}
 use Rattle.pl_elf.specs.declared.section.Section.{Section}
 use Rattle.pl_elf.specs.declared.segment.Segment.{Segment}
@@ -32,7 +32,7 @@ use Rattle.pl_parts.specs.Found.{ss_of}
 use Rattle.pl_parts.specs.Parts.{Original, conflicts_at, entry_bytes, extension, extension_at, form, front_part, hidden, joined, library_dynamic, library_entries, library_plan, lists_part, moved_part, names_part, new_header, old_names, program_dynamic, program_plan, rows_at, table_part, tags_moved, under_header, under_segments, whole_extension, with_entries, with_tag, zeros_part}
 use Rattle.pl_parts.specs.declared.constants.TheConstants.{CONFLICT_NAME, LIBLIST_NAME, LIBSTR_NAME, NAMES_NAME, UNDO_NAME}
 use Rattle.pl_parts.specs.declared.parts.Extension.{Extension}
-use Rattle.pl_parts.specs.declared.parts.Plan.{Plan}
+use Rattle.pl_parts.specs.declared.parts.FormPlan.{FormPlan}
 use Rattle.pl_parts.specs.declared.parts.Spot.{Spot}
 use Rattle.pl_undo.specs.Section.{digest_bytes, magic, undo_bytes}
 use Rattle.pl_undo.specs.declared.constants.TheConstants.{UNDO_MAGIC, UNDO_MAGIC_2}
@@ -157,8 +157,8 @@ segment_is_bytes s =
       ),
     )
 
-section_is_bytes : (s : Section) → IsBytes (section_bytes s)
-unfolding section_bytes
+section_is_bytes : (s : Section) → IsBytes (section_header_bytes s)
+unfolding section_header_bytes
 section_is_bytes s =
     concat_bytes (
     bytes32 s.name ∷ bytes32 s.kind ∷ bytes64 s.flags ∷ bytes64 s.addr ∷ bytes64 s.offset ∷ bytes64 s.size
@@ -185,7 +185,7 @@ section_is_bytes s =
       ),
     )
 
-ident_bytes : (p : Plan) (o : List ℕ) (undo : ℕ) → IsBytes o → IsBytes (new_header p o undo).ident
+ident_bytes : (p : FormPlan) (o : List ℕ) (undo : ℕ) → IsBytes o → IsBytes (new_header p o undo).ident
 unfolding new_header header
 ident_bytes p o undo h = is_bytes_part 0 16 o h
 
@@ -237,7 +237,7 @@ hidden_bytes : (ps : List Spot) (flat : List ℕ) → IsBytes flat → AllPuts (
 hidden_bytes [] flat h = tt
 hidden_bytes (p ∷ ps) flat h = (is_bytes_take p.hidden (drop p.size flat) (is_bytes_drop p.size flat h), hidden_bytes ps (drop p.hidden (drop p.size flat)) (rest_bytes p flat h))
 
-front_bytes : (p : Plan) (o : Original) (flat : List ℕ) (undo : ℕ) → IsBytes o.bytes → IsBytes flat → IsBytes p.dynamic → IsBytes (front_part p o flat undo)
+front_bytes : (p : FormPlan) (o : Original) (flat : List ℕ) (undo : ℕ) → IsBytes o.bytes → IsBytes flat → IsBytes p.dynamic → IsBytes (front_part p o flat undo)
 unfolding front_part moved_part
 front_bytes p o flat undo h f d =
     let placed = puts_bytes (visible o.spots flat) (all_moved p.slot o.tables o.bytes) (visible_bytes o.spots flat f) (all_moved_bytes p.slot o.tables o.bytes h) in
@@ -281,7 +281,7 @@ memory_bytes (p ∷ ps) xs h =
     is_bytes_append (part p.at p.size xs) (replicate p.hidden 0 ++ memory_of ps xs) (is_bytes_part p.at p.size xs h)
     (is_bytes_append (replicate p.hidden 0) (memory_of ps xs) (is_bytes_zeros p.hidden) (memory_bytes ps xs h))
 
-undo_is_bytes : (p : Plan) (o : Original) (digest : Option (List ℕ)) → IsBytes o.bytes → DigestBytes digest → IsBytes (undo_part p o digest)
+undo_is_bytes : (p : FormPlan) (o : Original) (digest : Option (List ℕ)) → IsBytes o.bytes → DigestBytes digest → IsBytes (undo_part p o digest)
 undo_is_bytes p o digest h d =
     section_undone (undo_of p.slot p.cut (length p.more) o.dynamic o.spots o.bytes digest) d (windows_bytes (head_windows (header o.bytes)) o.bytes h)
     (is_bytes_append (within o.dynamic o.bytes) (memory_of o.spots o.bytes) (is_bytes_part o.dynamic.at o.dynamic.size o.bytes h) (memory_bytes o.spots o.bytes h))
@@ -323,7 +323,7 @@ ends_bytes : IsBytes (UNDO_NAME ++ NAMES_NAME)
 unfolding are_bytes
 ends_bytes = is_bytes_append UNDO_NAME NAMES_NAME (are_is UNDO_NAME refl) (are_is NAMES_NAME refl)
 
-names_bytes : (p : Plan) (o : List ℕ) → IsBytes o → IsBytes p.names → IsBytes (names_part p o)
+names_bytes : (p : FormPlan) (o : List ℕ) → IsBytes o → IsBytes p.names → IsBytes (names_part p o)
 names_bytes p o h n =
     is_bytes_append (old_names o) (p.names ++ (UNDO_NAME ++ NAMES_NAME)) (data_bytes o (section o (header o) (header o).shstrndx) h)
     (is_bytes_append p.names (UNDO_NAME ++ NAMES_NAME) n ends_bytes)
@@ -338,20 +338,20 @@ program_names = is_bytes_append LIBSTR_NAME (LIBLIST_NAME ++ CONFLICT_NAME) (are
 
 -- ---- a form by its plan
 
-record PlanBytes (p : Plan) : Type 0 where
+record PlanBytes (p : FormPlan) : Type 0 where
   more : IsBytes p.more
   dynamic : IsBytes p.dynamic
   parts : AllBytes p.parts
   names : IsBytes p.names
 
-form_bytes : (p : Plan) (o : Original) (flat undo : List ℕ) → IsBytes o.bytes → IsBytes flat → IsBytes undo → PlanBytes p → IsBytes (form p o flat undo)
+form_bytes : (p : FormPlan) (o : Original) (flat undo : List ℕ) → IsBytes o.bytes → IsBytes flat → IsBytes undo → PlanBytes p → IsBytes (form p o flat undo)
 unfolding form
 form_bytes p o flat undo h f u is =
     joined_bytes (inserted p.cut p.more (front_part p o flat (length undo))) (p.parts ++ undo ∷ names_part p o.bytes ∷ table_part p o.bytes (length undo) ∷ [])
     (inserted_bytes p.cut p.more (front_part p o flat (length undo)) is.more (front_bytes p o flat (length undo) h f is.dynamic))
-    (all_append p.parts (undo ∷ names_part p o.bytes ∷ table_part p o.bytes (length undo) ∷ []) is.parts (u, (names_bytes p o.bytes h is.names, (mapped_bytes section_bytes _ section_is_bytes, tt))))
+    (all_append p.parts (undo ∷ names_part p o.bytes ∷ table_part p o.bytes (length undo) ∷ []) is.parts (u, (names_bytes p o.bytes h is.names, (mapped_bytes section_header_bytes _ section_is_bytes, tt))))
 
-planned_bytes : (p : Plan) (o : Original) (flat : List ℕ) (digest : Option (List ℕ)) → IsBytes o.bytes → IsBytes flat → DigestBytes digest → PlanBytes p → IsBytes (planned p o flat digest)
+planned_bytes : (p : FormPlan) (o : Original) (flat : List ℕ) (digest : Option (List ℕ)) → IsBytes o.bytes → IsBytes flat → DigestBytes digest → PlanBytes p → IsBytes (planned p o flat digest)
 unfolding planned
 planned_bytes p o flat digest h f d is = form_bytes p o flat (undo_part p o digest) h f (undo_is_bytes p o digest h d) is
 

@@ -33,7 +33,7 @@ use Rattle.pl_form.specs.Faults.{IsFirm}
 use Rattle.pl_form.specs.Library.{library_with}
 use Rattle.pl_form.specs.Marks.{has_mark, form_with, IsFormOf, IsLibraryMark, IsProgramMark, FormsAreUndone, NoFormOfTwo}
 use Rattle.pl_form.specs.Program.{last_index, extended}
-use Rattle.pl_form.specs.Reading.{firm_object, section_bytes, lists_in, candidate, version_in, stamp_in, is_placed, is_form, checked, marked_by, marked_of, places_in}
+use Rattle.pl_form.specs.Reading.{firm_object, section_from_end, lists_in, candidate, version_in, stamp_in, is_placed, is_form, checked, marked_by, marked_of, places_in}
 use Rattle.pl_form.specs.Words.{listed, strings_of, extension_of, checksum_of, digest_in}
 use Rattle.pl_form.specs.declared.constants.TheConstants.{STORED}
 use Rattle.pl_form.specs.declared.file.Marked.{Marked}
@@ -124,8 +124,8 @@ library_made m u front is slot digest stamp =
 library_reads : (file : List ℕ) (m : Marked) (flat : List ℕ) → IsLibraryMark m → is_list m.list ≡ true → length file < 2 ^ 32 → ReadsLibrary file m.original m.slot m.stamp (listed m.list) flat (digest_in m.version m.original) → IsReadAs file m flat
 unfolding lists_in
 library_reads file m flat is spelled small r =
-    let size : length (section_bytes 4 file) < 2 ^ 32 = omega (arith, small, part_most (section file (header file) ((header file).shnum - 4)) file) in
-    let list : list_of (section_bytes 3 file) (section_bytes 4 file) ≡ Ok m.list = listed_found (0 ∷ []) (section_bytes 3 file) (section_bytes 4 file) m.list r.strings r.rows size spelled in
+    let size : length (section_from_end 4 file) < 2 ^ 32 = omega (arith, small, part_most (section file (header file) ((header file).shnum - 4)) file) in
+    let list : list_of (section_from_end 3 file) (section_from_end 4 file) ≡ Ok m.list = listed_found (0 ∷ []) (section_from_end 3 file) (section_from_end 4 file) m.list r.strings r.rows size spelled in
     let none : m.conflicts ≡ [] = is.conflicts in
     record {
       undo = r.undo;
@@ -177,9 +177,9 @@ program_made m u front is slot digest =
 program_reads : (file : List ℕ) (m : Marked) (flat : List ℕ) → IsProgramMark m → is_list m.list ≡ true → length file < 2 ^ 32 → ReadsProgram file m.original (extension_of m.original m.list m.conflicts) flat (digest_in m.version m.original) → IsReadAs file m flat
 unfolding lists_in
 program_reads file m flat is spelled small r =
-    let size : length (section_bytes 5 file) < 2 ^ 32 = omega (arith, small, part_most (section file (header file) ((header file).shnum - 5)) file) in
-    let list : list_of (section_bytes 4 file) (section_bytes 5 file) ≡ Ok m.list = listed_found (strings_of m.original) (section_bytes 4 file) (section_bytes 5 file) m.list r.strings r.rows size spelled in
-    let conflicts : conflicts_of (section_bytes 3 file) ≡ Ok m.conflicts = conflicts_read (section_bytes 3 file) m.conflicts (record { in_table = r.conflicts; is_spelled = is.conflicts }) in
+    let size : length (section_from_end 5 file) < 2 ^ 32 = omega (arith, small, part_most (section file (header file) ((header file).shnum - 5)) file) in
+    let list : list_of (section_from_end 4 file) (section_from_end 5 file) ≡ Ok m.list = listed_found (strings_of m.original) (section_from_end 4 file) (section_from_end 5 file) m.list r.strings r.rows size spelled in
+    let conflicts : conflicts_of (section_from_end 3 file) ≡ Ok m.conflicts = conflicts_read (section_from_end 3 file) m.conflicts (record { in_table = r.conflicts; is_spelled = is.conflicts }) in
     record {
       undo = r.undo;
       found = r.found;

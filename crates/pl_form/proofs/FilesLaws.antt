@@ -25,7 +25,7 @@ use Rattle.pl_parts.proofs.FinalTheorem.{reads_ok}
 use Rattle.pl_undo.specs.declared.undo.Undo.{Undo}
 use Rattle.pl_form.specs.Files.{is_byte, are_bytes, of_bytes, marked_in, original_by, original_in, file_in, FormsAreRead, NothingElseIsRead, OriginalsAreBare, FormsAreTold, BadAreTold, PlainAreTold}
 use Rattle.pl_form.specs.Marks.{has_mark, IsFormOf, IsNoForm}
-use Rattle.pl_form.specs.Reading.{marked_of, marked_by, firm_object, firm_if, is_firm, IsOwn, lists_in, section_bytes, spelled, with_conflicts, AreSpelled, checked, candidate, is_form, places_in, standing, zeros_behind}
+use Rattle.pl_form.specs.Reading.{marked_of, marked_by, firm_object, firm_if, is_firm, IsOwn, lists_in, section_from_end, spelled, with_conflicts, AreSpelled, checked, candidate, is_form, places_in, standing, zeros_behind}
 use Rattle.pl_form.specs.declared.constants.TheConstants.{STORED}
 use Rattle.pl_form.specs.declared.file.Marked.{Marked}
 use Rattle.pl_form.specs.declared.read.Lists.{Lists}
@@ -101,24 +101,24 @@ firm_own o x bytes e =
     let s = when_some (nat_lt (length o) (2 ^ 32)) (firm_if o (reads o)) x e in
     firm_by o x (reads o) refl bytes (ltb-true (length o) (2 ^ 32) s.0) s.1
 
-section_most : (back : ℕ) (file : List ℕ) → length (section_bytes back file) ≤ length file
+section_most : (back : ℕ) (file : List ℕ) → length (section_from_end back file) ≤ length file
 section_most back file = part_most (section file (header file) ((header file).shnum - back)) file
 
-section_is_bytes : (back : ℕ) (file : List ℕ) → IsBytes file → IsBytes (section_bytes back file)
+section_is_bytes : (back : ℕ) (file : List ℕ) → IsBytes file → IsBytes (section_from_end back file)
 section_is_bytes back file h = let s = section file (header file) ((header file).shnum - back) in is_bytes_part s.offset s.size file h
 
 lists_spelled : (library : Bool) (file : List ℕ) (l : Lists) → IsBytes file → lists_in library file ≡ Some l → AreSpelled library file l
 unfolding lists_in
 lists_spelled true file l bytes e =
-    let t = section_bytes 3 file in
-    let s = section_bytes 4 file in
+    let t = section_from_end 3 file in
+    let s = section_from_end 4 file in
     let r = of_some (spelled (list_of t s)) (λ list. Some (with_conflicts list [])) l e in
     let of = list_spelled t s r.0 (is_found t s r.0 (section_is_bytes 3 file bytes) (spelled_ok (list_of t s) r.0 r.1)) in
     subst (AreSpelled true file) (same_lists (with_conflicts r.0 []) l r.2) (library_spelled file (length s) (Some r.0) r.0 [] of refl (section_most 4 file) refl)
 lists_spelled false file l bytes e =
-    let t = section_bytes 4 file in
-    let s = section_bytes 5 file in
-    let c = section_bytes 3 file in
+    let t = section_from_end 4 file in
+    let s = section_from_end 5 file in
+    let c = section_from_end 3 file in
     let r = of_some (spelled (list_of t s)) (λ list. spelled (conflicts_of c) >>= λ conflicts. Some (with_conflicts list conflicts)) l e in
     let q = of_some (spelled (conflicts_of c)) (λ conflicts. Some (with_conflicts r.0 conflicts)) l r.2 in
     let of = list_spelled t s r.0 (is_found t s r.0 (section_is_bytes 4 file bytes) (spelled_ok (list_of t s) r.0 r.1)) in

@@ -15,7 +15,7 @@ use Rattle.pl_parts.specs.Back.{head_windows, section_part, inserted}
 use Rattle.pl_parts.specs.Fits.{Fits}
 use Rattle.pl_parts.specs.Parts.{Original, up, joined, joined_size, plain, with_rows, old_names, names_part, table_part, table_at, entry_bytes, library_entries, list_sections, moved_section, library_sections, library_plan, new_header, moved_part, under_segments, under_header, front_part, form}
 use Rattle.pl_parts.specs.declared.parts.Listed.{Listed}
-use Rattle.pl_parts.specs.declared.parts.Plan.{Plan}
+use Rattle.pl_parts.specs.declared.parts.FormPlan.{FormPlan}
 use Rattle.pl_parts.proofs.FormLaws.{new_length, front_size, length-moved_part, length-under_header, segments_room, segments_length}
 use Rattle.pl_parts.proofs.PartsLaws.{part_next, length-inserted}
 use Rattle.pl_form.proofs.FoundLaws.{SectionFits, section_before}
@@ -23,7 +23,7 @@ use Rattle.pl_form.proofs.FoundLaws.{SectionFits, section_before}
 -- ---- the dynamic table
 
 -- the new dynamic table stands in the front part
-pub dynamic_there : (p : Plan) (o : Original) (flat : List ℕ) (undo : ℕ) → Fits p o flat undo
+pub dynamic_there : (p : FormPlan) (o : Original) (flat : List ℕ) (undo : ℕ) → Fits p o flat undo
     → 64 ≤ o.dynamic.at → (o.dynamic.at + o.dynamic.size ≤ (header o.bytes).phoff) ⊎ ((header o.bytes).phoff + 56 * (header o.bytes).phnum ≤ o.dynamic.at)
     → within o.dynamic (front_part p o flat undo) ≡ p.dynamic
 unfolding front_part

@@ -19,7 +19,7 @@ use Rattle.pl_parts.specs.declared.parts.Listed.{Listed}
 use Rattle.pl_undo.specs.declared.undo.Undo.{Undo}
 use Rattle.pl_parts.proofs.FinalTheorem.{library_conditions}
 use Rattle.pl_parts.proofs.WholeTheorem.{library_is}
-use Rattle.pl_form.specs.Reading.{section_bytes, places_in, stamp_in, zeros_behind}
+use Rattle.pl_form.specs.Reading.{section_from_end, places_in, stamp_in, zeros_behind}
 use Rattle.pl_form.proofs.FoundLaws.{undo_by, undo_found, front_is}
 use Rattle.pl_form.proofs.LibraryLaws.{dynamic_there, stamp_of, strings_there, rows_there}
 use Rattle.pl_form.proofs.OriginalLaws.{dynamic_beside, spots_apart, library_shown}
@@ -45,8 +45,8 @@ pub record ReadsLibrary (file o : List ℕ) (slot stamp : ℕ) (l : Listed) (fla
   pub found : find_undo file ≡ Some undo
   pub slot_is : undo.slot ≡ slot
   pub digest_is : undo.digest ≡ digest
-  pub strings : section_bytes 4 file ≡ l.strings
-  pub rows : section_bytes 3 file ≡ l.rows
+  pub strings : section_from_end 4 file ≡ l.strings
+  pub rows : section_from_end 3 file ≡ l.rows
   pub stamp_is : stamp_in o (front_of undo file) ≡ stamp
   pub places : places_in o (front_of undo file) file ≡ flat
 

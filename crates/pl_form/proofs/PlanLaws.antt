@@ -14,7 +14,7 @@ use Rattle.pl_parts.specs.Parts as parts
 use Rattle.pl_parts.specs.Parts.{old_names, extension, whole_extension, program_plan, program_sections, program_segments, program_dynamic, with_entries}
 use Rattle.pl_parts.specs.declared.constants.TheConstants.{LIBSTR_NAME, LIBLIST_NAME, CONFLICT_NAME}
 use Rattle.pl_parts.specs.declared.parts.Extension.{Extension}
-use Rattle.pl_parts.specs.declared.parts.Plan.{Plan}
+use Rattle.pl_parts.specs.declared.parts.FormPlan.{FormPlan}
 use Rattle.pl_form.specs.Extending as extending
 use Rattle.pl_form.specs.Extending.{IsShort, AreShort, IsExtended, split_segments, all_sections, new_sections, program_table}
 use Rattle.pl_form.specs.Faults.{cut_of}
@@ -50,7 +50,7 @@ segments_whole bytes x l last cut size more head is room =
     ∙ ap (program_segments cut size more last.index) (sym same)
 
 -- what a plan is made of
-abbrev pub planned_of : ℕ → List ℕ → List Segment → List ℕ → List (List ℕ) → List Section → List ℕ → Plan
+abbrev pub planned_of : ℕ → List ℕ → List Segment → List ℕ → List (List ℕ) → List Section → List ℕ → FormPlan
 planned_of cut more segments dynamic parts sections names = record { slot = 0; cut = cut; more = more; segments = segments; dynamic = dynamic; parts = parts; sections = sections; names = names }
 
 same_plan : (cut : ℕ) (m n d e s t : List ℕ) (ps : List (List ℕ)) (ss ts : List Segment) (xs ys : List Section) → m ≡ n → ss ≡ ts → d ≡ e → ps ≡ [] → xs ≡ ys → s ≡ t → planned_of cut m ss d ps xs s ≡ planned_of cut n ts e [] ys t

@@ -10,7 +10,7 @@ use Rattle.std.proofs.lemmas.List.FromFn.{get_or-map-range_with_len}
 use Rattle.pl_base.specs.Bytes.{part}
 use Rattle.pl_elf.specs.Clauses.{names, section_data}
 use Rattle.pl_elf.specs.Headers.{header, is_load, is_moved_kind, loads, section, section_at, sections}
-use Rattle.pl_elf.specs.Written.{section_bytes}
+use Rattle.pl_elf.specs.Written.{section_header_bytes}
 use Rattle.pl_elf.specs.declared.header.Header.{Header}
 use Rattle.pl_elf.specs.declared.section.Section.{Section}
 use Rattle.pl_elf.specs.declared.segment.Segment.{Segment}
@@ -27,7 +27,7 @@ use Rattle.pl_parts.specs.Found.{ss_of, secs_of}
 use Rattle.pl_parts.specs.Law.{HasTable}
 use Rattle.pl_parts.specs.Parts.{Original, old_names, names_part, table_at, table_rows, undo_row, names_row, new_header, form, moved_segment, extended_segment, shifted_segment, program_segments, extension, library_plan, program_plan}
 use Rattle.pl_parts.specs.declared.constants.TheConstants.{UNDO_NAME, NAMES_NAME}
-use Rattle.pl_parts.specs.declared.parts.Plan.{Plan}
+use Rattle.pl_parts.specs.declared.parts.FormPlan.{FormPlan}
 use Rattle.pl_parts.proofs.AcceptedIs.{segments_are}
 use Rattle.pl_parts.proofs.FinalTheorem.{library_conditions, program_conditions}
 use Rattle.pl_parts.proofs.FormLaws.{form_header, names_there, row_there, undo_section_is}
@@ -47,17 +47,17 @@ use Rattle.pl_form.proofs.CompleteLaws.{library_file, library_forms, program_fil
 
 -- ---- the section of section names
 
-names_row_is : (p : Plan) (o : Original) (undo : ℕ) (d : Section) → get_or (table_rows p o.bytes undo) (length p.sections + 1) d ≡ names_row p o.bytes undo
+names_row_is : (p : FormPlan) (o : Original) (undo : ℕ) (d : Section) → get_or (table_rows p o.bytes undo) (length p.sections + 1) d ≡ names_row p o.bytes undo
 names_row_is p o undo d = get_or-append-add p.sections (undo_row p o.bytes undo ∷ names_row p o.bytes undo ∷ []) 1 d
 
-names_section : (p : Plan) (o : Original) (flat undo : List ℕ) → Fits p o flat (length undo) → section (form p o flat undo) (header (form p o flat undo)) (header (form p o flat undo)).shstrndx ≡ names_row p o.bytes (length undo)
+names_section : (p : FormPlan) (o : Original) (flat undo : List ℕ) → Fits p o flat (length undo) → section (form p o flat undo) (header (form p o flat undo)) (header (form p o flat undo)).shstrndx ≡ names_row p o.bytes (length undo)
 unfolding new_header
 names_section p o flat undo fits =
     let u = length undo in
     let file = form p o flat undo in
     let row = names_row p o.bytes u in
     let lt : length p.sections + 1 < length (table_rows p o.bytes u) = omega (arith, length-append p.sections (undo_row p o.bytes u ∷ row ∷ [])) in
-    let there : part (table_at p o.bytes u + 64 * (length p.sections + 1)) 64 file ≡ section_bytes row = row_there p o flat undo fits (length p.sections + 1) row lt ∙ ap section_bytes (names_row_is p o u row) in
+    let there : part (table_at p o.bytes u + 64 * (length p.sections + 1)) 64 file ≡ section_header_bytes row = row_there p o flat undo fits (length p.sections + 1) row lt ∙ ap section_header_bytes (names_row_is p o u row) in
     let old = length (old_names o.bytes) in
     let n : length (names_part p o.bytes) ≡ old + (length p.names + 28) = length-append (old_names o.bytes) _ ∙ ap (λ (k : ℕ). old + k) (length-append p.names _) in
     ap (λ (h : Header). section file h h.shstrndx) (form_header p o flat undo fits)
@@ -65,21 +65,21 @@ names_section p o flat undo fits =
     ∙ ap (λ (xs : List ℕ). section_at xs 0) there
     ∙ section_read row (omega (arith, n, fits.small)) (omega arith) (omega arith) (omega arith) (omega (arith, fits.small)) (omega (arith, n, fits.small)) (omega arith) (omega arith) (omega arith) (omega arith)
 
-names_are : (p : Plan) (o : Original) (flat undo : List ℕ) → Fits p o flat (length undo) → names (form p o flat undo) (header (form p o flat undo)) ≡ names_part p o.bytes
+names_are : (p : FormPlan) (o : Original) (flat undo : List ℕ) → Fits p o flat (length undo) → names (form p o flat undo) (header (form p o flat undo)) ≡ names_part p o.bytes
 unfolding section_data
 names_are p o flat undo fits = ap (λ (s : Section). section_data (form p o flat undo) s) (names_section p o flat undo fits) ∙ names_there p o flat undo fits
 
 -- the undo section has its name
-name_there : (p : Plan) (o : Original) → drop (length (old_names o.bytes) + length p.names) (names_part p o.bytes) ≡ UNDO_NAME ++ NAMES_NAME
+name_there : (p : FormPlan) (o : Original) → drop (length (old_names o.bytes) + length p.names) (names_part p o.bytes) ≡ UNDO_NAME ++ NAMES_NAME
 name_there p o =
     let front : List ℕ = old_names o.bytes ++ p.names in
     ap (drop (length (old_names o.bytes) + length p.names)) (sym (append_assoc (old_names o.bytes) p.names (UNDO_NAME ++ NAMES_NAME)))
     ∙ drop_at front (UNDO_NAME ++ NAMES_NAME) (length (old_names o.bytes) + length p.names) (length-append (old_names o.bytes) p.names)
 
-row_named : (p : Plan) (o : Original) (undo : ℕ) → is_undo_name (names_part p o.bytes) (undo_row p o.bytes undo) ≡ true
+row_named : (p : FormPlan) (o : Original) (undo : ℕ) → is_undo_name (names_part p o.bytes) (undo_row p o.bytes undo) ≡ true
 row_named p o undo = ap (λ (xs : List ℕ). starts_with nat_eq xs UNDO_NAME) (name_there p o)
 
-plan_named : (p : Plan) (o : Original) (flat undo : List ℕ) → Fits p o flat (length undo) → has_undo_name (form p o flat undo) ≡ true
+plan_named : (p : FormPlan) (o : Original) (flat undo : List ℕ) → Fits p o flat (length undo) → has_undo_name (form p o flat undo) ≡ true
 unfolding has_undo_name sections new_header
 plan_named p o flat undo fits =
     let file = form p o flat undo in
@@ -158,7 +158,7 @@ extended_borne cut shift more (suc index) (s ∷ ss) d lt fits grows = (one_shif
 -- ---- a form by its plan
 
 pub record IsPlanned (file : List ℕ) (m : Marked) : Type 0 where
-  pub plan : Plan
+  pub plan : FormPlan
   pub flat : List ℕ
   pub undo : List ℕ
   pub fits : Fits plan (original_of m.original) flat (length undo)

@@ -14,7 +14,7 @@ use Rattle.pl_parts.specs.Fits.{Fits}
 use Rattle.pl_parts.specs.Loads.{hidden_windows}
 use Rattle.pl_parts.specs.Parts.{Original, up, with_rows, old_names, names_part, table_at, joined_size, zeros_part, extension_at, lists_part, extension, whole_extension, rows_at, conflicts_at, loaded_section, program_section, program_sections, program_plan, front_part, form}
 use Rattle.pl_parts.specs.declared.parts.Extension.{Extension}
-use Rattle.pl_parts.specs.declared.parts.Plan.{Plan}
+use Rattle.pl_parts.specs.declared.parts.FormPlan.{FormPlan}
 use Rattle.pl_parts.proofs.FormLaws.{form_split, rest_of, front_size}
 use Rattle.pl_parts.proofs.FormTheorem.{all_small}
 use Rattle.pl_parts.proofs.LoadTheorem.{zeros_agree}
@@ -120,7 +120,7 @@ unfolding program_plan
 plan_more o index last flat e = refl
 
 -- a part of the inserted bytes
-more_there : (p : Plan) (o : Original) (flat undo : List ℕ) (i n : ℕ) → Fits p o flat (length undo) → i + n ≤ length p.more → part (p.cut + i) n (form p o flat undo) ≡ part i n p.more
+more_there : (p : FormPlan) (o : Original) (flat undo : List ℕ) (i n : ℕ) → Fits p o flat (length undo) → i + n ≤ length p.more → part (p.cut + i) n (form p o flat undo) ≡ part i n p.more
 more_there p o flat undo i n fits le =
     ap (part (p.cut + i) n) (form_split p o flat undo)
     ∙ part_inserted i n p.cut p.more (front_part p o flat (length undo)) (rest_of p o flat undo) le (omega (arith, fits.cut, front_size p o flat (length undo) fits))

@@ -25,7 +25,7 @@ use Rattle.pl_parts.proofs.KindLaws.{segment_count}
 use Rattle.pl_parts.proofs.OverlapLaws.{zeros_apart}
 use Rattle.pl_parts.proofs.PlaceLaws.{is_own, hidden_in, none_of_loads, not_any_at}
 use Rattle.pl_parts.proofs.WholeTheorem.{program_is}
-use Rattle.pl_form.specs.Reading.{section_bytes, places_in, standing, zeros_behind}
+use Rattle.pl_form.specs.Reading.{section_from_end, places_in, standing, zeros_behind}
 use Rattle.pl_form.proofs.FoundLaws.{undo_by, undo_found, front_is}
 use Rattle.pl_form.proofs.OriginalLaws.{alone, spots_apart}
 use Rattle.pl_form.proofs.ProgramListLaws.{IsEnd, zeros_there, strings_there, rows_there, conflicts_there}
@@ -37,9 +37,9 @@ pub record ReadsProgram (file o : List ℕ) (e : Extension) (flat : List ℕ) (d
   pub found : find_undo file ≡ Some undo
   pub slot_is : undo.slot ≡ 0
   pub digest_is : undo.digest ≡ digest
-  pub strings : section_bytes 5 file ≡ e.strings
-  pub rows : section_bytes 4 file ≡ e.rows
-  pub conflicts : section_bytes 3 file ≡ e.conflicts
+  pub strings : section_from_end 5 file ≡ e.strings
+  pub rows : section_from_end 4 file ≡ e.rows
+  pub conflicts : section_from_end 3 file ≡ e.conflicts
   pub places : places_in o (front_of undo file) file ≡ flat
 
 plan_slot : (o : Original) (index : ℕ) (last : Segment) (flat : List ℕ) (e : Extension) → (program_plan o index last flat e).slot ≡ 0

@@ -15,7 +15,7 @@ use Rattle.pl_parts.specs.Back.{◌>>=◌, has_undo_section, find_undo, restored
 use Rattle.pl_parts.specs.Found.{reader, ps_of}
 use Rattle.pl_undo.specs.declared.undo.Undo.{Undo}
 use Rattle.pl_form.specs.Marks.{form_with}
-use Rattle.pl_form.specs.Reading.{is_firm, firm_object, section_bytes, spelled, with_conflicts, library_lists, program_lists, fits, is_form, marked_by, marked_of}
+use Rattle.pl_form.specs.Reading.{is_firm, firm_object, section_from_end, spelled, with_conflicts, library_lists, program_lists, fits, is_form, marked_by, marked_of}
 use Rattle.pl_form.specs.declared.constants.TheConstants.{STORED}
 use Rattle.pl_form.specs.declared.file.Marked.{Marked}
 use Rattle.pl_form.specs.declared.read.Lists.{Lists}
@@ -52,26 +52,26 @@ row_in file rows two le =
 
 -- ---- lists
 
-pub library_found : (file : List ℕ) (list : List ListRow) → Some list ≡ spelled (list_of (section_bytes 3 file) (section_bytes 4 file)) → Some (with_conflicts list []) ≡ library_lists file
+pub library_found : (file : List ℕ) (list : List ListRow) → Some list ≡ spelled (list_of (section_from_end 3 file) (section_from_end 4 file)) → Some (with_conflicts list []) ≡ library_lists file
 library_found file list e = ap (λ (o : Option (List ListRow)). o >>= λ l. Some (with_conflicts l [])) e
 
-pub library_none : (file : List ℕ) → None ≡ spelled (list_of (section_bytes 3 file) (section_bytes 4 file)) → None ≡ library_lists file
+pub library_none : (file : List ℕ) → None ≡ spelled (list_of (section_from_end 3 file) (section_from_end 4 file)) → None ≡ library_lists file
 library_none file e = ap (λ (o : Option (List ListRow)). o >>= λ l. Some (with_conflicts l [])) e
 
 abbrev then_conflicts : Option (List ConflictRow) → List ListRow → Option Lists
 then_conflicts c list = c >>= λ conflicts. Some (with_conflicts list conflicts)
 
-pub program_none : (file : List ℕ) → None ≡ spelled (list_of (section_bytes 4 file) (section_bytes 5 file)) → None ≡ program_lists file
-program_none file e = ap (λ (o : Option (List ListRow)). o >>= then_conflicts (spelled (conflicts_of (section_bytes 3 file)))) e
+pub program_none : (file : List ℕ) → None ≡ spelled (list_of (section_from_end 4 file) (section_from_end 5 file)) → None ≡ program_lists file
+program_none file e = ap (λ (o : Option (List ListRow)). o >>= then_conflicts (spelled (conflicts_of (section_from_end 3 file)))) e
 
-pub program_unspelled : (file : List ℕ) (list : List ListRow) → Some list ≡ spelled (list_of (section_bytes 4 file) (section_bytes 5 file)) → None ≡ spelled (conflicts_of (section_bytes 3 file)) → None ≡ program_lists file
+pub program_unspelled : (file : List ℕ) (list : List ListRow) → Some list ≡ spelled (list_of (section_from_end 4 file) (section_from_end 5 file)) → None ≡ spelled (conflicts_of (section_from_end 3 file)) → None ≡ program_lists file
 program_unspelled file list e f =
-    ap (λ (c : Option (List ConflictRow)). then_conflicts c list) f ∙ ap (λ (o : Option (List ListRow)). o >>= then_conflicts (spelled (conflicts_of (section_bytes 3 file)))) e
+    ap (λ (c : Option (List ConflictRow)). then_conflicts c list) f ∙ ap (λ (o : Option (List ListRow)). o >>= then_conflicts (spelled (conflicts_of (section_from_end 3 file)))) e
 
-pub program_found : (file : List ℕ) (list : List ListRow) (conflicts : List ConflictRow) → Some list ≡ spelled (list_of (section_bytes 4 file) (section_bytes 5 file)) → Some conflicts ≡ spelled (conflicts_of (section_bytes 3 file))
+pub program_found : (file : List ℕ) (list : List ListRow) (conflicts : List ConflictRow) → Some list ≡ spelled (list_of (section_from_end 4 file) (section_from_end 5 file)) → Some conflicts ≡ spelled (conflicts_of (section_from_end 3 file))
     → Some (with_conflicts list conflicts) ≡ program_lists file
 program_found file list conflicts e f =
-    ap (λ (c : Option (List ConflictRow)). then_conflicts c list) f ∙ ap (λ (o : Option (List ListRow)). o >>= then_conflicts (spelled (conflicts_of (section_bytes 3 file)))) e
+    ap (λ (c : Option (List ConflictRow)). then_conflicts c list) f ∙ ap (λ (o : Option (List ListRow)). o >>= then_conflicts (spelled (conflicts_of (section_from_end 3 file)))) e
 
 -- ---- the form
 

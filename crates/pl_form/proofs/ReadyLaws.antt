@@ -50,7 +50,7 @@ use Rattle.pl_parts.specs.Loads.{hidden_windows}
 use Rattle.pl_parts.specs.Parts.{Original, form, library_plan, program_plan}
 use Rattle.pl_parts.specs.declared.parts.Extension.{Extension}
 use Rattle.pl_parts.specs.declared.parts.Listed.{Listed}
-use Rattle.pl_parts.specs.declared.parts.Plan.{Plan}
+use Rattle.pl_parts.specs.declared.parts.FormPlan.{FormPlan}
 use Rattle.pl_parts.specs.declared.parts.Spot.{Spot}
 use Rattle.pl_form.specs.Extending.{IsShort, HasNames, IsExtended}
 use Rattle.pl_form.specs.Faults.{IsFirm}
@@ -177,7 +177,7 @@ digest_ready Two digest n = n
 
 -- ---- a library
 
-pub library_fit : (o : List ℕ) (x : Object) (l : Layout) (slot stamp checksum : ℕ) (listed : Listed) (p : Plan) (flat undo : List ℕ) (digest : Option (List ℕ)) → IsFirm o x → is_library x.kind ≡ true → original o l ≡ original_of o
+pub library_fit : (o : List ℕ) (x : Object) (l : Layout) (slot stamp checksum : ℕ) (listed : Listed) (p : FormPlan) (flat undo : List ℕ) (digest : Option (List ℕ)) → IsFirm o x → is_library x.kind ≡ true → original o l ≡ original_of o
     → p ≡ library_plan (original o l) slot stamp checksum listed → undo ≡ undo_part p (original o l) digest → length flat ≡ wanted (ps_of o) → IsDigest digest → slot < 2 ^ 64 → slot % 2 ≡ 0 → length listed.strings ≤ 2 ^ 30 → length listed.rows ≤ 2 ^ 30
     → Fits p (original o l) flat (length undo)
 library_fit o x l slot stamp checksum listed p flat undo digest firm library same plan written filled size below even strings rows =
@@ -187,16 +187,16 @@ library_fit o x l slot stamp checksum listed p flat undo digest firm library sam
     let is = library_conditions o x slot stamp checksum listed flat digest f in
     let base : Fits q a flat (length (undo_part q a digest)) = library_fits a slot stamp checksum listed flat (length (undo_part q a digest)) (taken o is.accepted is.few) is.spare is.flat_size is.small in
     let p_is : p ≡ q = plan ∙ ap (λ (b : Original). library_plan b slot stamp checksum listed) same in
-    let u_is : undo ≡ undo_part q a digest = written ∙ ap (λ (r : Plan). undo_part r (original o l) digest) p_is ∙ ap (λ (b : Original). undo_part q b digest) same in
-    subst (λ (r : Plan). Fits r (original o l) flat (length undo)) (sym p_is) (subst (λ (b : Original). Fits q b flat (length undo)) (sym same) (subst (λ (u : List ℕ). Fits q a flat (length u)) (sym u_is) base))
+    let u_is : undo ≡ undo_part q a digest = written ∙ ap (λ (r : FormPlan). undo_part r (original o l) digest) p_is ∙ ap (λ (b : Original). undo_part q b digest) same in
+    subst (λ (r : FormPlan). Fits r (original o l) flat (length undo)) (sym p_is) (subst (λ (b : Original). Fits q b flat (length undo)) (sym same) (subst (λ (u : List ℕ). Fits q a flat (length u)) (sym u_is) base))
 
 -- the form, by the plan and the undo section that the code makes
-pub library_whole : (o : List ℕ) (l : Layout) (slot stamp checksum : ℕ) (listed : Listed) (p : Plan) (flat undo : List ℕ) (digest : Option (List ℕ)) → original o l ≡ original_of o
+pub library_whole : (o : List ℕ) (l : Layout) (slot stamp checksum : ℕ) (listed : Listed) (p : FormPlan) (flat undo : List ℕ) (digest : Option (List ℕ)) → original o l ≡ original_of o
     → p ≡ library_plan (original o l) slot stamp checksum listed → undo ≡ undo_part p (original o l) digest → form p (original o l) flat undo ≡ forms.library_form (original_of o) slot stamp checksum listed flat digest
 unfolding planned
 library_whole o l slot stamp checksum listed p flat undo digest same plan written =
     ap (form p (original o l) flat) written
-    ∙ ap (λ (r : Plan). form r (original o l) flat (undo_part r (original o l) digest)) plan
+    ∙ ap (λ (r : FormPlan). form r (original o l) flat (undo_part r (original o l) digest)) plan
     ∙ ap (λ (b : Original). form (library_plan b slot stamp checksum listed) b flat (undo_part (library_plan b slot stamp checksum listed) b digest)) same
 
 -- ---- a program
@@ -265,7 +265,7 @@ extended_ready o x l last firm program same is =
       hidden = subst (λ (spots : List Spot). AllIn (last.segment.memsz - last.segment.filesz) (hidden_windows spots)) (sym ps) (hidden_inside o x last.segment firm is.at short.bytes);
     }
 
-pub program_fit : (o : List ℕ) (x : Object) (l : Layout) (last : Last) (e : Extension) (p : Plan) (flat undo : List ℕ) (digest : Option (List ℕ)) → IsFirm o x → is_program x.kind ≡ true → original o l ≡ original_of o → IsLastOf o last
+pub program_fit : (o : List ℕ) (x : Object) (l : Layout) (last : Last) (e : Extension) (p : FormPlan) (flat undo : List ℕ) (digest : Option (List ℕ)) → IsFirm o x → is_program x.kind ≡ true → original o l ≡ original_of o → IsLastOf o last
     → p ≡ program_plan (original o l) last.index last.segment flat e → undo ≡ undo_part p (original o l) digest → length flat ≡ wanted (ps_of o) → IsDigest digest → length e.strings + (length e.rows + length e.conflicts) ≤ 2 ^ 30
     → Fits p (original o l) flat (length undo)
 program_fit o x l last e p flat undo digest firm program same at plan written filled size lists =
@@ -276,16 +276,16 @@ program_fit o x l last e p flat undo digest firm program same at plan written fi
     let is = program_conditions o x i last.segment e flat digest f in
     let base : Fits q a flat (length (undo_part q a digest)) = program_fits a i last.segment e flat (length (undo_part q a digest)) (taken o is.accepted is.few) is.program is.spare is.flat_size is.small in
     let p_is : p ≡ q = plan ∙ ap (λ (b : Original). program_plan b last.index last.segment flat e) same ∙ ap (λ (n : ℕ). program_plan a n last.segment flat e) at.index in
-    let u_is : undo ≡ undo_part q a digest = written ∙ ap (λ (r : Plan). undo_part r (original o l) digest) p_is ∙ ap (λ (b : Original). undo_part q b digest) same in
-    subst (λ (r : Plan). Fits r (original o l) flat (length undo)) (sym p_is) (subst (λ (b : Original). Fits q b flat (length undo)) (sym same) (subst (λ (u : List ℕ). Fits q a flat (length u)) (sym u_is) base))
+    let u_is : undo ≡ undo_part q a digest = written ∙ ap (λ (r : FormPlan). undo_part r (original o l) digest) p_is ∙ ap (λ (b : Original). undo_part q b digest) same in
+    subst (λ (r : FormPlan). Fits r (original o l) flat (length undo)) (sym p_is) (subst (λ (b : Original). Fits q b flat (length undo)) (sym same) (subst (λ (u : List ℕ). Fits q a flat (length u)) (sym u_is) base))
 
-pub program_whole : (o : List ℕ) (l : Layout) (last : Last) (e : Extension) (p : Plan) (flat undo : List ℕ) (digest : Option (List ℕ)) → original o l ≡ original_of o → IsLastOf o last
+pub program_whole : (o : List ℕ) (l : Layout) (last : Last) (e : Extension) (p : FormPlan) (flat undo : List ℕ) (digest : Option (List ℕ)) → original o l ≡ original_of o → IsLastOf o last
     → p ≡ program_plan (original o l) last.index last.segment flat e → undo ≡ undo_part p (original o l) digest
     → form p (original o l) flat undo ≡ forms.program_form (original_of o) (last_index (ss_of o)) last.segment e flat digest
 unfolding planned
 program_whole o l last e p flat undo digest same at plan written =
     ap (form p (original o l) flat) written
-    ∙ ap (λ (r : Plan). form r (original o l) flat (undo_part r (original o l) digest)) plan
+    ∙ ap (λ (r : FormPlan). form r (original o l) flat (undo_part r (original o l) digest)) plan
     ∙ ap (λ (b : Original). form (program_plan b last.index last.segment flat e) b flat (undo_part (program_plan b last.index last.segment flat e) b digest)) same
     ∙ ap (λ (n : ℕ). form (program_plan (original_of o) n last.segment flat e) (original_of o) flat (undo_part (program_plan (original_of o) n last.segment flat e) (original_of o) digest)) at.index
 

@@ -13,7 +13,7 @@ use Rattle.pl_move.specs.Moves.{table_window, row_size, rows, row_moved, moved, 
 use Rattle.pl_move.specs.declared.table.Table.{Table}
 use Rattle.pl_parts.specs.Back.{visible, inserted}
 use Rattle.pl_parts.specs.Parts.{Original, up, joined_size, names_part, table_part, table_at, new_header, moved_part, front_part, form}
-use Rattle.pl_parts.specs.declared.parts.Plan.{Plan}
+use Rattle.pl_parts.specs.declared.parts.FormPlan.{FormPlan}
 use Rattle.pl_parts.proofs.PartsLaws.{length-joined}
 
 -- ---- what is put over bytes makes them no shorter
@@ -35,7 +35,7 @@ moved_least more (t ∷ ts) xs =
     let new = rows (row_size t.kind) (row_moved more t.kind) t.count (within (table_window t) xs) in
     omega (arith, put_least t.at new xs, moved_least more ts (put t.at new xs))
 
-front_least : (p : Plan) (o : Original) (flat : List ℕ) (undo : ℕ) → length o.bytes ≤ length (front_part p o flat undo)
+front_least : (p : FormPlan) (o : Original) (flat : List ℕ) (undo : ℕ) → length o.bytes ≤ length (front_part p o flat undo)
 unfolding front_part moved_part
 front_least p o flat undo =
     let a = all_moved p.slot o.tables o.bytes in
@@ -69,7 +69,7 @@ unfolding joined_size
 joined_more n [] qs = refl
 joined_more n (p ∷ ps) qs = joined_more (up n + length p) ps qs
 
-pub table_below : (p : Plan) (o : Original) (flat undo : List ℕ) → table_at p o.bytes (length undo) ≤ length (form p o flat undo)
+pub table_below : (p : FormPlan) (o : Original) (flat undo : List ℕ) → table_at p o.bytes (length undo) ≤ length (form p o flat undo)
 unfolding form joined_size
 table_below p o flat undo =
     let u = length undo in

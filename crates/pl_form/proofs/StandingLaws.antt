@@ -12,7 +12,7 @@ use Rattle.pl_parts.specs.Back.{header_window, segments_window, spot_windows, wa
 use Rattle.pl_parts.specs.Fits.{Fits}
 use Rattle.pl_parts.specs.Loads.{hidden_windows}
 use Rattle.pl_parts.specs.Parts.{Original, moved_part, front_part, hidden, zeros_part}
-use Rattle.pl_parts.specs.declared.parts.Plan.{Plan}
+use Rattle.pl_parts.specs.declared.parts.FormPlan.{FormPlan}
 use Rattle.pl_parts.specs.declared.parts.Spot.{Spot}
 use Rattle.pl_parts.proofs.FillLaws.{Apart}
 use Rattle.pl_parts.proofs.FormLaws.{windows_visible, length-moved_part, front_moved}
@@ -86,7 +86,7 @@ spot_in size (p ∷ ps) (suc i) e h lt = spot_in size ps i e h.1 (omega (arith, 
 abbrev no_spot : Spot
 no_spot = record { at = 0; size = 0; hidden = 0; behind = 0 }
 
-front_visible : (p : Plan) (o : Original) (flat : List ℕ) (undo : ℕ) → Fits p o flat undo → Apart o → Visible o.spots flat (front_part p o flat undo)
+front_visible : (p : FormPlan) (o : Original) (flat : List ℕ) (undo : ℕ) → Fits p o flat undo → Apart o → Visible o.spots flat (front_part p o flat undo)
 unfolding moved_part
 front_visible p o flat undo fits apart i d lt =
     let s = get_or o.spots i no_spot in
@@ -125,12 +125,12 @@ none_hidden (p ∷ ps) flat zeros shown (suc i) d lt = none_hidden ps (drop p.hi
 
 -- ---- both kinds
 
-pub shown_stand : (p : Plan) (o : Original) (flat zeros : List ℕ) (undo : ℕ) → Fits p o flat undo → Apart o → AreShown o.spots → standing o.spots (front_part p o flat undo) zeros ≡ flat
+pub shown_stand : (p : FormPlan) (o : Original) (flat zeros : List ℕ) (undo : ℕ) → Fits p o flat undo → Apart o → AreShown o.spots → standing o.spots (front_part p o flat undo) zeros ≡ flat
 shown_stand p o flat zeros undo fits apart shown =
     standing_stands o.spots flat (front_part p o flat undo) zeros fits.fills
     (stand_by o.spots flat (front_part p o flat undo) zeros fits.fills (front_visible p o flat undo fits apart) (none_hidden o.spots flat zeros shown))
 
-pub all_stand : (p : Plan) (o : Original) (last : Segment) (flat : List ℕ) (undo : ℕ) → Fits p o flat undo → Apart o → AreAllApart (hidden_windows o.spots) → AllIn (last.memsz - last.filesz) (hidden_windows o.spots)
+pub all_stand : (p : FormPlan) (o : Original) (last : Segment) (flat : List ℕ) (undo : ℕ) → Fits p o flat undo → Apart o → AreAllApart (hidden_windows o.spots) → AllIn (last.memsz - last.filesz) (hidden_windows o.spots)
     → standing o.spots (front_part p o flat undo) (zeros_part last o.spots flat) ≡ flat
 all_stand p o last flat undo fits apart zeros_apart inside =
     standing_stands o.spots flat (front_part p o flat undo) (zeros_part last o.spots flat) fits.fills

@@ -6,7 +6,7 @@ use Rattle.pl_base.specs.Bytes.{put}
 use Rattle.pl_base.specs.Windows.{gap, ◌⊕◌}
 use Rattle.pl_base.proofs.WindowLaws.{length-put, length-⊕, all_in}
 use Rattle.pl_elf.specs.Headers.{header}
-use Rattle.pl_elf.specs.Written.{header_bytes, section_bytes, segment_bytes}
+use Rattle.pl_elf.specs.Written.{header_bytes, section_header_bytes, segment_bytes}
 use Rattle.pl_elf.specs.declared.header.Header.{Header}
 use Rattle.pl_elf.specs.declared.section.Section.{Section}
 use Rattle.pl_elf.specs.declared.segment.Segment.{Segment}
@@ -14,7 +14,7 @@ use Rattle.pl_move.specs.Moves.{table_windows}
 use Rattle.pl_parts.specs.Back.{head_windows, spot_windows, inserted}
 use Rattle.pl_parts.specs.Fits.{Fits}
 use Rattle.pl_parts.specs.Parts.{Original, up, joined, joined_size, old_names, all_names, names_part, names_at, table_at, table_rows, table_part, new_header, under_header, front_part, form}
-use Rattle.pl_parts.specs.declared.parts.Plan.{Plan}
+use Rattle.pl_parts.specs.declared.parts.FormPlan.{FormPlan}
 use Rattle.pl_parts.proofs.FormLaws.{new_length, length-under_header}
 use Rattle.pl_parts.proofs.HeadLaws.{length-segment, length-rows_of}
 use Rattle.pl_parts.proofs.PartsLaws.{length-joined, joined-append, length-inserted}
@@ -26,7 +26,7 @@ pub length-segments : (ss : List Segment) → length (concat (map segment_bytes 
 length-segments ss = length-rows_of 56 segment_bytes ss length-segment
 
 -- what a plan is written over lies in the original
-pub lies_in : (p : Plan) (bytes flat : List ℕ) (l : Layout) (undo : ℕ) → Fits p (original bytes l) flat undo → LiesIn bytes l p flat
+pub lies_in : (p : FormPlan) (bytes flat : List ℕ) (l : Layout) (undo : ℕ) → Fits p (original bytes l) flat undo → LiesIn bytes l p flat
 lies_in p bytes flat l undo fits =
     let ins = all_in (length bytes) (head_windows (header bytes) ++ l.dynamic ∷ []) fits.heads_in in
     record {
@@ -77,17 +77,17 @@ put_inserted new cut more xs le fits =
 
 -- ---- the parts before the undo section
 
-abbrev pub body : Plan → Original → List ℕ → List ℕ
+abbrev pub body : FormPlan → Original → List ℕ → List ℕ
 body p o flat = joined (inserted p.cut p.more (under_header p o flat)) p.parts
 
-pub length-body : (p : Plan) (o : Original) (flat : List ℕ) (undo : ℕ) → Fits p o flat undo → length (body p o flat) ≡ joined_size (length o.bytes + length p.more) p.parts
+pub length-body : (p : FormPlan) (o : Original) (flat : List ℕ) (undo : ℕ) → Fits p o flat undo → length (body p o flat) ≡ joined_size (length o.bytes + length p.more) p.parts
 length-body p o flat undo fits =
     let size = length-under_header p o flat undo fits in
     length-joined (inserted p.cut p.more (under_header p o flat)) p.parts
     ∙ ap (λ (n : ℕ). joined_size n p.parts) (length-inserted p.cut p.more (under_header p o flat) (omega (arith, fits.cut, size)) ∙ ap (λ (n : ℕ). n + length p.more) size)
 
 -- the last parts end below 2^32
-pub ends_small : (p : Plan) (o : Original) (flat undo file : List ℕ) → Fits p o flat (length undo) → file ≡ body p o flat → names_end (length file) (old_names o.bytes) p (length undo) < 2 ^ 32
+pub ends_small : (p : FormPlan) (o : Original) (flat undo file : List ℕ) → Fits p o flat (length undo) → file ≡ body p o flat → names_end (length file) (old_names o.bytes) p (length undo) < 2 ^ 32
 ends_small p o flat undo file fits is =
     let n : length file ≡ joined_size (length o.bytes + length p.more) p.parts = ap length is ∙ length-body p o flat (length undo) fits in
     let e : names_end (length file) (old_names o.bytes) p (length undo) ≡ names_at p o.bytes (length undo) + length (names_part p o.bytes) = ap (λ (k : ℕ). names_end k (old_names o.bytes) p (length undo)) n in
@@ -113,7 +113,7 @@ unfolding joined_size
 least n [] = omega arith
 least n (x ∷ xs) = omega (arith, least (up n + length x) xs)
 
-pub long_enough : (p : Plan) (o : Original) (flat undo file names ended table whole : List ℕ) → Fits p o flat (length undo) → file ≡ body p o flat → ended ≡ joined file (undo ∷ names ∷ []) → whole ≡ ended ⊕ table → 64 ≤ length whole
+pub long_enough : (p : FormPlan) (o : Original) (flat undo file names ended table whole : List ℕ) → Fits p o flat (length undo) → file ≡ body p o flat → ended ≡ joined file (undo ∷ names ∷ []) → whole ≡ ended ⊕ table → 64 ≤ length whole
 long_enough p o flat undo file names ended table whole fits is last all =
     let ins = all_in (length o.bytes) (head_windows (header o.bytes) ++ o.dynamic ∷ []) fits.heads_in in
     omega (
@@ -128,13 +128,13 @@ long_enough p o flat undo file names ended table whole fits is last all =
       length-⊕ ended table,
     )
 
-new_header_is : (p : Plan) (o : Original) (undo table : ℕ) → table ≡ table_at p o.bytes undo → header_with (header o.bytes) p table ≡ new_header p o.bytes undo
+new_header_is : (p : FormPlan) (o : Original) (undo table : ℕ) → table ≡ table_at p o.bytes undo → header_with (header o.bytes) p table ≡ new_header p o.bytes undo
 unfolding new_header
 new_header_is p o undo table is = ap (λ (n : ℕ). header_with (header o.bytes) p n) is
 
-pub written : (p : Plan) (o : Original) (flat undo file ended : List ℕ) (rows : List Section) (h : Header) → Fits p o flat (length undo) → file ≡ body p o flat
+pub written : (p : FormPlan) (o : Original) (flat undo file ended : List ℕ) (rows : List Section) (h : Header) → Fits p o flat (length undo) → file ≡ body p o flat
     → ended ≡ joined file (undo ∷ all_names (old_names o.bytes) p ∷ []) → rows ≡ ended_rows (length file) (old_names o.bytes) p (length undo) → h ≡ header_with (header o.bytes) p (up (length ended))
-    → put 0 (header_bytes h) (ended ⊕ concat (map section_bytes rows)) ≡ form p o flat undo
+    → put 0 (header_bytes h) (ended ⊕ concat (map section_header_bytes rows)) ≡ form p o flat undo
 unfolding form front_part
 written p o flat undo file ended rows h fits is last told head =
     let u = length undo in
@@ -156,8 +156,8 @@ written p o flat undo file ended rows h fits is last told head =
     ap (λ (xs : List ℕ). xs ⊕ table) last ∙ two_parts file undo names table ∙ ap (λ (xs : List ℕ). joined xs (undo ∷ names ∷ table ∷ [])) is
     ∙ sym (joined-append (inserted p.cut p.more under) p.parts (undo ∷ names ∷ table ∷ [])) in
     let long : length hb ≤ length (inserted p.cut p.more under) = omega (arith, low, cut_in, length-inserted p.cut p.more under cut_in) in
-    ap (λ (x : Header). put 0 (header_bytes x) (ended ⊕ concat (map section_bytes rows))) h_is
-    ∙ ap (λ (rs : List Section). put 0 hb (ended ⊕ concat (map section_bytes rs))) rows_are
+    ap (λ (x : Header). put 0 (header_bytes x) (ended ⊕ concat (map section_header_bytes rows))) h_is
+    ∙ ap (λ (rs : List Section). put 0 hb (ended ⊕ concat (map section_header_bytes rs))) rows_are
     ∙ ap (put 0 hb) all
     ∙ put_joined hb (inserted p.cut p.more under) parts long
     ∙ ap (λ (xs : List ℕ). joined xs parts) (put_inserted hb p.cut p.more under low cut_in)

@@ -3,23 +3,23 @@ use Rattle.std.specs.Prelude.{ℕ, ◌+◌, List, [], ◌∷◌, ◌++◌, lengt
 use Rattle.pl_elf.specs.declared.header.Header.{Header}
 use Rattle.pl_elf.specs.declared.section.Section.{Section}
 use Rattle.pl_parts.specs.Parts.{plain, up, all_names, moved_entry}
-use Rattle.pl_parts.specs.declared.parts.Plan.{Plan}
+use Rattle.pl_parts.specs.declared.parts.FormPlan.{FormPlan}
 
 -- where the names begin, and where they end
 abbrev pub names_from : ℕ → ℕ → ℕ
 names_from file undo = up (up file + undo)
 
-abbrev pub names_end : ℕ → List ℕ → Plan → ℕ → ℕ
+abbrev pub names_end : ℕ → List ℕ → FormPlan → ℕ → ℕ
 names_end file old p undo = names_from file undo + length (all_names old p)
 
 -- the section header table
-abbrev pub ended_rows : ℕ → List ℕ → Plan → ℕ → List Section
+abbrev pub ended_rows : ℕ → List ℕ → FormPlan → ℕ → List Section
 ended_rows file old p undo =
     p.sections ++ plain (length old + length p.names) 1 (up file) undo
     ∷ plain (length old + length p.names + 18) 3 (names_from file undo) (length (all_names old p)) ∷ []
 
 -- the header, with the table at an offset
-abbrev pub header_with : Header → Plan → ℕ → Header
+abbrev pub header_with : Header → FormPlan → ℕ → Header
 header_with h p table = record h {
   entry = moved_entry p.slot h.entry;
   shoff = table;

@@ -5,14 +5,14 @@ use Rattle.pl_elf.specs.Headers.{header}
 use Rattle.pl_move.specs.Moves.{table_windows}
 use Rattle.pl_parts.specs.Back.{spot_windows, wanted}
 use Rattle.pl_parts.specs.Parts.{Original}
-use Rattle.pl_parts.specs.declared.parts.Plan.{Plan}
+use Rattle.pl_parts.specs.declared.parts.FormPlan.{FormPlan}
 use Rattle.pl_form.specs.declared.layout.Layout.{Layout}
 
 abbrev pub original : List ℕ → Layout → Original
 original bytes l = record { bytes = bytes; dynamic = l.dynamic; tables = l.tables; spots = l.spots; tags = l.tags }
 
 -- what a plan is written over lies in the original, and there is a byte for each byte of a place
-pub record LiesIn (bytes : List ℕ) (l : Layout) (p : Plan) (flat : List ℕ) : Type 0 where
+pub record LiesIn (bytes : List ℕ) (l : Layout) (p : FormPlan) (flat : List ℕ) : Type 0 where
   pub long : 64 ≤ length bytes
   pub tables : AllIn (length bytes) (table_windows l.tables)
   pub spots : AllIn (length bytes) (spot_windows l.spots)

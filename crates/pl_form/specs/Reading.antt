@@ -62,8 +62,8 @@ OwnIfAny o (Some x) = IsOwn o x
 -- ---- the lists
 
 -- the bytes of the section so many rows before the end of the table
-abbrev pub section_bytes : ℕ → List ℕ → List ℕ
-section_bytes back file = section_part (section file (header file) ((header file).shnum - back)) file
+abbrev pub section_from_end : ℕ → List ℕ → List ℕ
+section_from_end back file = section_part (section file (header file) ((header file).shnum - back)) file
 
 abbrev pub spelled : {X : Type 0} → Result X ListFault → Option X
 spelled (Ok x) = Some x
@@ -73,12 +73,12 @@ abbrev pub with_conflicts : List ListRow → List ConflictRow → Lists
 with_conflicts list conflicts = record { list = list; conflicts = conflicts }
 
 abbrev pub library_lists : List ℕ → Option Lists
-library_lists file = spelled (list_of (section_bytes 3 file) (section_bytes 4 file)) >>= λ list. Some (with_conflicts list [])
+library_lists file = spelled (list_of (section_from_end 3 file) (section_from_end 4 file)) >>= λ list. Some (with_conflicts list [])
 
 abbrev pub program_lists : List ℕ → Option Lists
 program_lists file =
-    spelled (list_of (section_bytes 4 file) (section_bytes 5 file)) >>= λ list.
-    spelled (conflicts_of (section_bytes 3 file)) >>= λ conflicts. Some (with_conflicts list conflicts)
+    spelled (list_of (section_from_end 4 file) (section_from_end 5 file)) >>= λ list.
+    spelled (conflicts_of (section_from_end 3 file)) >>= λ conflicts. Some (with_conflicts list conflicts)
 
 unfoldable pub lists_in : Bool → List ℕ → Option Lists
 lists_in library file = if library then library_lists file else program_lists file

@@ -3,7 +3,7 @@ ghost use Rattle.std.specs.Prelude.{◌≡◌, ◌+◌, ◌*◌, ◌++◌, ◌<�
 ghost use Rattle.std.specs.List.{concat};
 ghost use Rattle.pl_base.specs.Bytes.{put};
 ghost use Rattle.pl_base.specs.Windows.{◌⊕◌};
-ghost use Rattle.pl_elf.specs.Written.{section_bytes, segment_bytes};
+ghost use Rattle.pl_elf.specs.Written.{section_header_bytes, segment_bytes};
 ghost use Rattle.pl_parts.specs.Parts as parts;
 
 use pl_base::push64;
@@ -32,7 +32,7 @@ pub fn segment_table(alloc: Global, segments: &[Segment]) -> Result<Vec<u8>, All
 }
 
 fn push_section(table: &mut Vec<u8>, section: &Section) -> Result<(), AllocError>
-    ensures { OnOk result (table.new.items ≡ table.old.items ++ section_bytes section.now) }
+    ensures { OnOk result (table.new.items ≡ table.old.items ++ section_header_bytes section.now) }
 {
     let mut row = [0; SECTION_SIZE];
     write_section(section, &mut row);
@@ -41,7 +41,7 @@ fn push_section(table: &mut Vec<u8>, section: &Section) -> Result<(), AllocError
 
 /// A section header table.
 pub fn section_table(alloc: Global, sections: &[Section]) -> Result<Vec<u8>, AllocError>
-    ensures { IfOk result (λ table. table.items ≡ concat (map section_bytes sections.now)) }
+    ensures { IfOk result (λ table. table.items ≡ concat (map section_header_bytes sections.now)) }
 {
     let mut table = Vec::new(alloc);
     for section in sections {

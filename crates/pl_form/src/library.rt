@@ -19,7 +19,7 @@ use pl_elf::{Section, Segment, is_moved_kind};
 use pl_move::{RowKind, move_rows};
 use pl_object::Object;
 use pl_parts::constants::{LIBLIST_NAME, LIBSTR_NAME};
-use pl_parts::{Listed, Plan};
+use pl_parts::{FormPlan, Listed};
 use std::alloc::{AllocError, Global};
 
 fn moved_segment(slot: u64, segment: &Segment) -> Segment
@@ -175,7 +175,7 @@ pub fn library_plan(
     layout: &Layout,
     mark: &Mark,
     listed: Listed,
-) -> Result<Plan, AllocError>
+) -> Result<FormPlan, AllocError>
     requires head { HasHead bytes.now object.now }
     requires library { IsMovable bytes.now object.now layout.now }
     requires strings { length listed.strings < 2 ^ 32 }
@@ -188,7 +188,7 @@ pub fn library_plan(
     let dynamic = library_table(alloc, mark, layout.tags as usize, table)?;
     let names = library_names(alloc)?;
     let Listed { strings, rows } = listed;
-    Ok(Plan {
+    Ok(FormPlan {
         slot: mark.slot,
         cut: bytes.len(),
         more: Rows::new(alloc),

@@ -30,7 +30,7 @@ use pl_elf::{Section, Segment};
 use pl_lists::{CONFLICT_SIZE, LIST_ROW_SIZE};
 use pl_object::Object;
 use pl_parts::constants::{CONFLICT_NAME, LIBLIST_NAME, LIBSTR_NAME};
-use pl_parts::{Extension, Plan};
+use pl_parts::{Extension, FormPlan};
 use std::alloc::{AllocError, Global};
 
 /// What the bytes from an offset of the file on move by.
@@ -304,7 +304,7 @@ pub fn program_plan(
     last: &Last,
     flat: &[u8],
     lists: &Extension,
-) -> Result<Plan, AllocError>
+) -> Result<FormPlan, AllocError>
     requires head { HasHead bytes.now object.now }
     requires few { length bytes.now + 100 < 2 ^ 32 }
     requires program { IsExtended bytes.now object.now layout.now last.now }
@@ -333,7 +333,7 @@ pub fn program_plan(
     let sections = program_sections(alloc, old, names, segment, shift, lists)?;
     let table = part(bytes, layout.dynamic.at(), layout.dynamic.size());
     let dynamic = program_table(alloc, segment, lists, layout.tags as usize, table)?;
-    Ok(Plan {
+    Ok(FormPlan {
         slot: 0,
         cut: cut as usize,
         more: Rows::from_vec(more),

@@ -74,10 +74,10 @@ fn firm_object(alloc: Global, bytes: &[u8]) -> Result<Option<Object>, AllocError
 }
 
 /// The bytes of the section so many rows before the end of the section header table.
-fn section_bytes(file: &[u8], rows: u16) -> &[u8]
+fn section_from_end(file: &[u8], rows: u16) -> &[u8]
     requires undo { has_undo_section file.now ≡ true }
     requires rows { 2 ≤ rows }
-    ensures bytes { result.now ≡ spec.section_bytes rows file.now }
+    ensures bytes { result.now ≡ spec.section_from_end rows file.now }
     ensures within { length result.now ≤ length file.now }
 {
     let header = header_fields(file);
@@ -112,7 +112,7 @@ fn library_lists(alloc: Global, file: &[u8]) -> Result<Option<Lists>, AllocError
     ensures exact { IfOk result (λ o. o ≡ spec.library_lists file.now) }
     ensures spelled { IfOk result (spec.SpelledIfAny true file.now) }
 {
-    let Some(list) = list_in(alloc, section_bytes(file, 3), section_bytes(file, 4))? else {
+    let Some(list) = list_in(alloc, section_from_end(file, 3), section_from_end(file, 4))? else {
         return Ok(None);
     };
     Ok(Some(Lists {
@@ -126,10 +126,10 @@ fn program_lists(alloc: Global, file: &[u8]) -> Result<Option<Lists>, AllocError
     ensures exact { IfOk result (λ o. o ≡ spec.program_lists file.now) }
     ensures spelled { IfOk result (spec.SpelledIfAny false file.now) }
 {
-    let Some(list) = list_in(alloc, section_bytes(file, 4), section_bytes(file, 5))? else {
+    let Some(list) = list_in(alloc, section_from_end(file, 4), section_from_end(file, 5))? else {
         return Ok(None);
     };
-    let Some(conflicts) = conflicts_in(alloc, section_bytes(file, 3))? else {
+    let Some(conflicts) = conflicts_in(alloc, section_from_end(file, 3))? else {
         return Ok(None);
     };
     Ok(Some(Lists { list, conflicts }))

@@ -14,7 +14,7 @@ use pl_elf::constants::{HEADER_SIZE, SECTION_SIZE, SEGMENT_SIZE};
 use pl_elf::{Header, header_fields};
 use pl_io::NoMemory;
 use pl_object::Window;
-use pl_parts::Plan;
+use pl_parts::FormPlan;
 use pl_undo::{DIGEST_SIZE, Undo, write_undo};
 use std::alloc::{AllocError, Global};
 
@@ -58,7 +58,7 @@ pub fn undo_part(
     alloc: Global,
     bytes: &[u8],
     layout: &Layout,
-    plan: &Plan,
+    plan: &FormPlan,
     digest: Option<[u8; DIGEST_SIZE]>,
 ) -> Result<Vec<u8>, NoMemory>
     requires { 64 ≤ length bytes.now }

@@ -17,12 +17,12 @@ use pl_base::Rows;
 use pl_elf::constants::{HEADER_SIZE, SECTION_SIZE, SHT_PROGBITS, SHT_STRTAB};
 use pl_elf::{Header, Section, header_fields, read_section, section_data, write_header};
 use pl_move::move_tables;
-use pl_parts::Plan;
+use pl_parts::FormPlan;
 use pl_parts::constants::{NAMES_NAME, UNDO_NAME};
 use std::alloc::{AllocError, Global};
 
 /// How many bytes there may be of a form, so that room is made for them at once. Nothing but memory and time depends on it.
-fn room_for(bytes: &[u8], plan: &Plan, undo: &[u8]) -> usize {
+fn room_for(bytes: &[u8], plan: &FormPlan, undo: &[u8]) -> usize {
     // The names of sections, and the 0 bytes between parts.
     let mut room: usize = 1024;
     room = room.saturating_add(bytes.len());
@@ -51,7 +51,7 @@ fn under_header(
     alloc: Global,
     bytes: &[u8],
     layout: &Layout,
-    plan: &Plan,
+    plan: &FormPlan,
     flat: &[u8],
     room: usize,
 ) -> Result<Vec<u8>, AllocError>
@@ -130,7 +130,7 @@ pub fn old_names<'a>(bytes: &'a [u8]) -> &'a [u8]
 }
 
 /// The names of the sections of a form: the original's, then the new ones.
-fn names_part(alloc: Global, old: &[u8], plan: &Plan) -> Result<Vec<u8>, AllocError>
+fn names_part(alloc: Global, old: &[u8], plan: &FormPlan) -> Result<Vec<u8>, AllocError>
     ensures { IfOk result (λ v. v.items ≡ old.now
         ++ (plan.now.names ++ (UNDO_NAME ++ NAMES_NAME))) }
 {
@@ -146,7 +146,7 @@ fn body(
     alloc: Global,
     bytes: &[u8],
     layout: &Layout,
-    plan: &Plan,
+    plan: &FormPlan,
     flat: &[u8],
     room: usize,
 ) -> Result<Vec<u8>, AllocError>
@@ -166,7 +166,7 @@ fn push_ends(
     alloc: Global,
     file: &mut Vec<u8>,
     old: &[u8],
-    plan: &Plan,
+    plan: &FormPlan,
     undo: &[u8],
 ) -> Result<Vec<Section>, AllocError>
     requires { ends.names_end (length file.old.items) old.now plan.now (length undo.now) < 2 ^ 32 }
@@ -191,7 +191,7 @@ fn push_ends(
 }
 
 /// The header of a form whose section header table of so many rows stands at an offset.
-fn new_header(old: &Header, plan: &Plan, table: usize) -> Header
+fn new_header(old: &Header, plan: &FormPlan, table: usize) -> Header
     requires { length plan.now.sections + 2 < 2 ^ 16 }
     ensures { result ≡ ends.header_with old.now plan.now table }
 {
@@ -225,7 +225,7 @@ pub fn write_form(
     alloc: Global,
     bytes: &[u8],
     layout: &Layout,
-    plan: &Plan,
+    plan: &FormPlan,
     flat: &[u8],
     undo: &[u8],
 ) -> Result<Vec<u8>, AllocError>

@@ -1,7 +1,7 @@
 -- Lines that are added in turn.
 use Rattle.std.proofs.Common.{◌≡◌, ℕ, zero, suc, ◌+◌, ◌-◌, ◌*◌, ◌/◌, ◌<◌, ◌≤◌, List, [], ◌∷◌, ◌++◌, length, get_or, take, drop, refl, sym, ap, subst, ◌∙◌, append_assoc, arith, drop-cons, length-drop, add-one}
 use Rattle.std.proofs.lemmas.List.{append-nil, take_more}
-use Rattle.pl_gen.specs.declared.kind.Kind.{Kind}
+use Rattle.pl_gen.specs.declared.relocation_kind.RelocationKind.{RelocationKind}
 use Rattle.pl_gen.specs.Lines.{unless_there, needs_line, needs_lines, def_line, def_lines, kind_of, relocation, known_after, relocations}
 
 -- the items from a place on
@@ -60,7 +60,7 @@ needs_all xs before turn so_far whole past all =
 
 -- ---- relocations, of two words each
 
-pub relocations_more : (xs : List ℕ) (turn place : ℕ) (known known' so_far after whole : List ℕ) (kind : Kind) → turn < length xs / 2 → kind ≡ kind_of (get_or xs (2 * turn) 0)
+pub relocations_more : (xs : List ℕ) (turn place : ℕ) (known known' so_far after whole : List ℕ) (kind : RelocationKind) → turn < length xs / 2 → kind ≡ kind_of (get_or xs (2 * turn) 0)
     → after ≡ so_far ++ relocation known (place + 8 * turn) kind (get_or xs (2 * turn + 1) 0)
     → known' ≡ known_after known kind (get_or xs (2 * turn + 1) 0)
     → so_far ++ relocations known (place + 8 * turn) (drop (2 * turn) xs) ≡ whole
@@ -70,8 +70,8 @@ relocations_more xs turn place known known' so_far after whole kind lt drawn pus
     let first : ℕ = get_or xs (2 * turn) 0 in
     let second : ℕ = get_or xs (2 * turn + 1) 0 in
     let text : List ℕ = relocation known (place + 8 * turn) (kind_of (get_or xs (2 * turn) 0)) (get_or xs (2 * turn + 1) 0) in
-    let pushed : after ≡ so_far ++ text = pushed_by ∙ ap (λ (k : Kind). so_far ++ relocation known (place + 8 * turn) k (get_or xs (2 * turn + 1) 0)) drawn in
-    let names : known' ≡ known_after known (kind_of (get_or xs (2 * turn) 0)) (get_or xs (2 * turn + 1) 0) = names_by ∙ ap (λ (k : Kind). known_after known k (get_or xs (2 * turn + 1) 0)) drawn in
+    let pushed : after ≡ so_far ++ text = pushed_by ∙ ap (λ (k : RelocationKind). so_far ++ relocation known (place + 8 * turn) k (get_or xs (2 * turn + 1) 0)) drawn in
+    let names : known' ≡ known_after known (kind_of (get_or xs (2 * turn) 0)) (get_or xs (2 * turn + 1) 0) = names_by ∙ ap (λ (k : RelocationKind). known_after known k (get_or xs (2 * turn + 1) 0)) drawn in
     let rest : List ℕ = drop (2 * (turn + 1)) xs in
     let behind : 2 * turn + 1 + 1 ≡ 2 * (turn + 1) = omega arith in
     let two : drop (2 * turn) xs ≡ first ∷ second ∷ rest =

@@ -3,8 +3,8 @@ use Rattle.std.specs.Prelude.{ℕ, ◌+◌, ◌*◌, ◌-◌, ◌%◌, ◌==◌,
 use Rattle.std.specs.List.{list_any}
 use Rattle.std.specs.Fmt.{decimal, digits}
 use Rattle.pl_base.specs.Digits.{line_text}
-use Rattle.pl_gen.specs.declared.kind.Kind.{Kind}
-use Rattle.pl_gen.specs.declared.kind.Kind.TheVariants.{Relative, Abs64, GlobDat, JumpSlot}
+use Rattle.pl_gen.specs.declared.relocation_kind.RelocationKind.{RelocationKind}
+use Rattle.pl_gen.specs.declared.relocation_kind.RelocationKind.TheVariants.{Relative, Abs64, GlobDat, JumpSlot}
 
 -- ---- names
 
@@ -73,7 +73,7 @@ def_lines before offset [] = []
 def_lines before offset (number ∷ more) = unless_there before number (def_line offset number) ++ def_lines (before ++ number ∷ []) (offset + 8) more
 
 -- the kind of relocation that a word draws
-unfoldable pub kind_of : ℕ → Kind
+unfoldable pub kind_of : ℕ → RelocationKind
 kind_of word = if word % 4 == 0 then Relative else if word % 4 == 1 then Abs64 else if word % 4 == 2 then GlobDat else JumpSlot
 
 -- a relocation by a function, behind the line of the function's symbol where that has none yet
@@ -81,14 +81,14 @@ abbrev pub by_function : List ℕ → List ℕ → ℕ → ℕ → List ℕ
 by_function known kind place number = unless_there known number (ref_line number) ++ function_line kind place number
 
 -- a relocation, by its kind and the word behind that of its kind
-unfoldable pub relocation : List ℕ → ℕ → Kind → ℕ → List ℕ
+unfoldable pub relocation : List ℕ → ℕ → RelocationKind → ℕ → List ℕ
 relocation known place Relative word = relative_line place (8 * (word % 64))
 relocation known place Abs64 word = by_function known (codes "abs64") place (word % 1000)
 relocation known place GlobDat word = by_function known (codes "globdat") place (word % 1000)
 relocation known place JumpSlot word = by_function known (codes "jumpslot") place (word % 1000)
 
 -- the functions that have a symbol after it
-unfoldable pub known_after : List ℕ → Kind → ℕ → List ℕ
+unfoldable pub known_after : List ℕ → RelocationKind → ℕ → List ℕ
 known_after known Relative word = known
 known_after known Abs64 word = known ++ word % 1000 ∷ []
 known_after known GlobDat word = known ++ word % 1000 ∷ []

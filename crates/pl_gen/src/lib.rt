@@ -2,9 +2,9 @@
 #![tactic(auto)]
 
 mod draws;
-mod kind;
 mod lines;
 mod recipes;
+mod relocation_kind;
 mod relocations;
 mod set;
 #[cfg(test)]

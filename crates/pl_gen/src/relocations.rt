@@ -2,8 +2,8 @@
 ghost use Rattle.std.specs.Prelude.{◌≡◌, ◌+◌, ◌*◌, ◌≤◌, ◌^◌, ◌++◌, ◌∷◌, [], length, string_bytes, OnOk};
 ghost use Rattle.pl_gen.specs.Lines as spec;
 
-use crate::kind::{Kind, kind_of};
 use crate::lines::{function_line, ref_line, relative_line};
+use crate::relocation_kind::{RelocationKind, kind_of};
 use std::alloc::{AllocError, Global};
 
 /// Adds the line of a function's symbol, where it has none yet.
@@ -43,7 +43,7 @@ fn push_relocation(
     out: &mut String,
     known: &mut Vec<u64>,
     place: u64,
-    kind: Kind,
+    kind: RelocationKind,
     word: u64,
 ) -> Result<(), AllocError>
     ensures text { OnOk result (string_bytes out.new ≡ string_bytes out.old
@@ -52,10 +52,14 @@ fn push_relocation(
 {
     let number = word % 1000;
     match kind {
-        Kind::Relative => out.push_str(relative_line(alloc, place, 8 * (word % 64))?.as_str()),
-        Kind::Abs64 => push_by_function(alloc, out, known, "abs64", place, number),
-        Kind::GlobDat => push_by_function(alloc, out, known, "globdat", place, number),
-        Kind::JumpSlot => push_by_function(alloc, out, known, "jumpslot", place, number),
+        RelocationKind::Relative => out.push_str(relative_line(
+            alloc,
+            place,
+            8 * (word % 64),
+        )?.as_str()),
+        RelocationKind::Abs64 => push_by_function(alloc, out, known, "abs64", place, number),
+        RelocationKind::GlobDat => push_by_function(alloc, out, known, "globdat", place, number),
+        RelocationKind::JumpSlot => push_by_function(alloc, out, known, "jumpslot", place, number),
     }
 }
 

@@ -15,7 +15,7 @@ use Rattle.pl_hash.specs.Table.{bucket_count, admits, matches}
 use Rattle.pl_hash.specs.Chain.{chain, chain_from, following, head, is_linked, well_formed, IsWellFormed}
 use Rattle.pl_hash.specs.ChainSymbols.{matching, chain_symbols, is_chain_symbol}
 use Rattle.pl_hash.specs.Lengths.{EndsAfter, IsKnown, AreLengths, HasLengths}
-use Rattle.pl_hash.specs.Jumps.{next, reach, jump, AreJumps, advanced, is_at, is_own}
+use Rattle.pl_hash.specs.Jumps.{next, reach, jump, AreJumps, advanced, is_at, is_reached}
 use Rattle.pl_hash.specs.Queries.{nowhere, query_at, place_at, IsQuery, AreQueries, AreAnswered, all_done}
 use Rattle.pl_hash.proofs.ChainLaws.{chain_from-none}
 use Rattle.pl_hash.proofs.ChainSymbolLaws.{has, opens, follows, chain_value, IsLinked-from}
@@ -304,7 +304,7 @@ linked_in t start i ends there =
     (follows t t.symbols start v.0 i (omega arith) v.1 (rw v.1 at there)).0
 
 own_by : (t : Table) (hash i : ℕ) (at : Option ℕ) → IsWellFormed t → IsSome (chain t (head t (hash % bucket_count t))) → is_at i at ≡ has i (chain_of t (head t (hash % bucket_count t)))
-    → is_own t hash i at ≡ is_chain_symbol t hash i
+    → is_reached t hash i at ≡ is_chain_symbol t hash i
 own_by t hash i None formed ends is = ap (λ (b : Bool). b && ((true && matches t hash i) && admits t hash)) is ∙ chain_symbol_is t hash i
 own_by t hash i (Some x) formed ends is = elim (eqb_tells x i) [
   | inl e ↦
@@ -318,7 +318,7 @@ own_by t hash i (Some x) formed ends is = elim (eqb_tells x i) [
 
 -- the answers of the queries are the symbols to which hashes lead
 pub own_answers : (t : Table) (hashes : List ℕ) (first qs : List Query) (i : ℕ) → IsWellFormed t → AreQueries t hashes (length hashes) first → AreAnswered t first qs → i < length hashes
-    → is_own t (slice_index hashes i) i (place_at qs i) ≡ is_chain_symbol t (slice_index hashes i) i
+    → is_reached t (slice_index hashes i) i (place_at qs i) ≡ is_chain_symbol t (slice_index hashes i) i
 own_answers t hashes first qs i formed asked answered lt =
     let hash : ℕ = slice_index hashes i in
     let k : ℕ = hash % bucket_count t in
@@ -420,9 +420,9 @@ asked_more t hashes n qs q are is small = (
 
 -- the answers of the first queries
 abbrev pub AreOwn : Table → List ℕ → List Query → ℕ → List Bool → Type 0
-AreOwn t hashes qs n own = (length own ≡ n) × ((i : ℕ) → i < n → get_or own i false ≡ is_own t (slice_index hashes i) i (place_at qs i))
+AreOwn t hashes qs n own = (length own ≡ n) × ((i : ℕ) → i < n → get_or own i false ≡ is_reached t (slice_index hashes i) i (place_at qs i))
 
-pub own_more : (t : Table) (hashes : List ℕ) (qs : List Query) (n : ℕ) (own : List Bool) (b : Bool) → AreOwn t hashes qs n own → b ≡ is_own t (slice_index hashes n) n (place_at qs n) → AreOwn t hashes qs (n + 1) (own ++ b ∷ [])
+pub own_more : (t : Table) (hashes : List ℕ) (qs : List Query) (n : ℕ) (own : List Bool) (b : Bool) → AreOwn t hashes qs n own → b ≡ is_reached t (slice_index hashes n) n (place_at qs n) → AreOwn t hashes qs (n + 1) (own ++ b ∷ [])
 own_more t hashes qs n own b are is = (
   length-append own (b ∷ []) ∙ omega (arith, are.0),
   λ i lt. elim (less_or_last i n lt) [

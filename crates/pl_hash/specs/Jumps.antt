@@ -34,6 +34,6 @@ is_at index None = false
 is_at index (Some at) = at == index
 
 -- it is one that a hash leads to
-abbrev pub is_own : Table → ℕ → ℕ → Option ℕ → Bool
-is_own table hash index None = false
-is_own table hash index (Some at) = at == index && is_linked table at && matches table hash at && admits table hash
+abbrev pub is_reached : Table → ℕ → ℕ → Option ℕ → Bool
+is_reached table hash index None = false
+is_reached table hash index (Some at) = at == index && is_linked table at && matches table hash at && admits table hash

@@ -158,9 +158,9 @@ fn all_queries(
     Ok(queries)
 }
 
-fn is_own(table: &Table, hash: u32, index: usize, at: Option<u32>) -> bool
+fn is_reached(table: &Table, hash: u32, index: usize, at: Option<u32>) -> bool
     requires { IsWellFormed table.now }
-    ensures { result ≡ spec.is_own table.now hash index at }
+    ensures { result ≡ spec.is_reached table.now hash index at }
 {
     match at {
         None => false,
@@ -173,7 +173,7 @@ fn is_own(table: &Table, hash: u32, index: usize, at: Option<u32>) -> bool
     }
 }
 
-fn all_own(
+fn all_reached(
     alloc: Global,
     table: &Table,
     hashes: &[u32],
@@ -183,12 +183,13 @@ fn all_own(
     requires len { length queries.now ≡ length hashes.now }
     ensures len { IfOk result (λ v. length v.items ≡ length hashes.now) }
     ensures exact { IfOk result (λ v. (index : ℕ) → index < length hashes.now
-        → slice_index_or v.items index false ≡ spec.is_own table.now (slice_index hashes.now index)
+        → slice_index_or v.items index false ≡ spec.is_reached table.now
+        (slice_index hashes.now index)
         index (asked.place_at queries.now index)) }
 {
     let mut own = Vec::new(alloc);
     for index in 0..hashes.len() {
-        own.push(is_own(table, hashes[index], index, queries[index].at))?;
+        own.push(is_reached(table, hashes[index], index, queries[index].at))?;
     }
     Ok(own)
 }
@@ -215,5 +216,5 @@ pub fn found(alloc: Global, table: &Table, hashes: &[u32]) -> Result<Vec<bool>, 
     let lengths = all_lengths(alloc, table)?;
     let first = all_queries(alloc, table, &lengths, hashes)?;
     let queries = answered(alloc, table, first)?;
-    all_own(alloc, table, hashes, &queries)
+    all_reached(alloc, table, hashes, &queries)
 }

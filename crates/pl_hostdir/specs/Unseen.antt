@@ -5,4 +5,4 @@ use Rattle.pl_folder.specs.Replay.{started}
 use Rattle.pl_folder.specs.Seen.{Seen}
 
 abbrev pub unseen : ℕ → Seen
-unseen faults = record { tells = false; records = false; files = files_of []; disk = started []; faults = faults; place = 0 }
+unseen faults = record { tells = false; records = false; files = files_of []; disk = started []; faults = faults; referent = 0 }

@@ -78,7 +78,7 @@ where
 pub(crate) fn remove_name(rt: &impl Files, folder: &str, name: &str) -> Result<(), Reason> {
     let entry = Entry::new(folder, name)?;
     match entry.look(rt)? {
-        Some(there) if there.is_file() || entry.is_own() => entry.clear(rt),
+        Some(there) if there.is_file() || entry.has_own_name() => entry.clear(rt),
         _ => Ok(()),
     }
 }

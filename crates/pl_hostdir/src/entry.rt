@@ -99,14 +99,14 @@ impl Entry {
     }
 
     /// Whether the name is one of the program's own.
-    pub(crate) fn is_own(&self) -> bool {
+    pub(crate) fn has_own_name(&self) -> bool {
         is_own_name(self.name().as_bytes())
     }
 
     /// What has the name, if anything. An own name of a file that is `Foreign` is an error.
     pub(crate) fn look(&self, rt: &impl Files) -> Result<Option<Metadata>, Reason> {
         let there = look_at(rt, self.path())?;
-        if self.is_own() {
+        if self.has_own_name() {
             if let Some(metadata) = &there {
                 require_trusted(rt, self.folder(), metadata)?;
             }

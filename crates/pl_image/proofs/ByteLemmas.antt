@@ -7,7 +7,7 @@ use Rattle.std.proofs.lemmas.List.{get_or_append_left, get_or-append-add, length
 use Rattle.std.proofs.lemmas.List.Folds.{Any-from_list_any, list_any_none}
 use Rattle.pl_base.proofs.FindLaws.{any_found, any_missed, any_map}
 use Rattle.pl_base.specs.Memory.{Memory, Piece, Fill, AtMostOne, lies, byte_at, covers, over, layered, filled}
-use Rattle.pl_image.specs.declared.loaded.Loaded.{Loaded}
+use Rattle.pl_image.specs.declared.loaded_object.LoadedObject.{LoadedObject}
 use Rattle.pl_image.specs.declared.touched.Touch.{Touch}
 use Rattle.pl_image.specs.Lines.{byte_in, only, IsClear}
 use Rattle.pl_elf.specs.Ranges.{has}
@@ -42,11 +42,11 @@ layered_append (p ∷ ps) qs a = elim (cases_Bool (lies a p)) [
 
 -- ---- objects one after the other
 
-module _ (objects : List Loaded) (k : ℕ) (item : Loaded) (ps : List Piece) (a : ℕ) (lt : k < length objects) (is : item ≡ get_or objects k item) (pieces : ps ≡ item.pieces) where
+module _ (objects : List LoadedObject) (k : ℕ) (item : LoadedObject) (ps : List Piece) (a : ℕ) (lt : k < length objects) (is : item ≡ get_or objects k item) (pieces : ps ≡ item.pieces) where
   object_step : layered (all_pieces (drop k objects)) a ≡ cond (list_any (lies a) ps) (layered ps a) (layered (all_pieces (drop (k + 1) objects)) a)
   object_step =
-      let there : (get_or objects k item).pieces ≡ ps = ap (λ (o : Loaded). o.pieces) (sym is) ∙ sym pieces in
-      ap (λ (os : List Loaded). layered (all_pieces os) a) (drop_more objects k item lt)
+      let there : (get_or objects k item).pieces ≡ ps = ap (λ (o : LoadedObject). o.pieces) (sym is) ∙ sym pieces in
+      ap (λ (os : List LoadedObject). layered (all_pieces os) a) (drop_more objects k item lt)
       ∙ ap (λ (qs : List Piece). layered (qs ++ all_pieces (drop (k + 1) objects)) a) there
       ∙ layered_append ps (all_pieces (drop (k + 1) objects)) a
 
@@ -56,9 +56,9 @@ module _ (objects : List Loaded) (k : ℕ) (item : Loaded) (ps : List Piece) (a 
   pub object_miss : find (lies a) ps ≡ None → layered (all_pieces (drop k objects)) a ≡ layered (all_pieces (drop (k + 1) objects)) a
   object_miss missed = object_step ∙ rw (any_missed (lies a) ps missed) refl
 
-pub objects_past : (objects : List Loaded) (k a : ℕ) → length objects ≤ k → layered (all_pieces (drop k objects)) a ≡ None
+pub objects_past : (objects : List LoadedObject) (k a : ℕ) → length objects ≤ k → layered (all_pieces (drop k objects)) a ≡ None
 unfolding layered
-objects_past objects k a le = ap (λ (os : List Loaded). layered (all_pieces os) a) (drop_all k objects le)
+objects_past objects k a le = ap (λ (os : List LoadedObject). layered (all_pieces os) a) (drop_all k objects le)
 
 -- ---- patches
 
@@ -104,27 +104,27 @@ lone_front xs ys a lone some =
     let at_k = get_or-append-add xs ys k d in
     rw (← at_k) (lone one.0 (length xs + k) a d (let lt = one.2 in omega arith) there hit))
 
-own_same : (objects : List Loaded) (k a : ℕ) (d : Loaded) → AtMostOne lies (all_pieces objects) → k < length objects → list_any (lies a) (get_or objects k d).pieces ≡ true
+own_same : (objects : List LoadedObject) (k a : ℕ) (d : LoadedObject) → AtMostOne lies (all_pieces objects) → k < length objects → list_any (lies a) (get_or objects k d).pieces ≡ true
     → layered (all_pieces objects) a ≡ layered (get_or objects k d).pieces a
 own_same [] k a d lone lt some = absurd (omega arith)
 own_same (o ∷ os) zero a d lone lt some = layered_append o.pieces (all_pieces os) a ∙ rw some refl
 own_same (o ∷ os) (suc k) a d lone lt some =
-    let later = any_in_flat (lies a) (λ (x : Loaded). x.pieces) os k d (omega arith) some in
+    let later = any_in_flat (lies a) (λ (x : LoadedObject). x.pieces) os k d (omega arith) some in
     elim (cases_Bool (list_any (lies a) o.pieces)) [
       | inl here ↦ absurd (false≢true (sym (lone_front o.pieces (all_pieces os) a lone here) ∙ later))
       | inr miss ↦ layered_append o.pieces (all_pieces os) a ∙ rw miss (own_same os k a d (lone_rest o.pieces (all_pieces os) lone) (omega arith) some)
     ]
 
-own_pieces : (i : Image) (k : ℕ) (d : Loaded) → AreLoaded i.objects → k < length i.objects → AreOwn i (get_or i.objects k d).pieces
+own_pieces : (i : Image) (k : ℕ) (d : LoadedObject) → AreLoaded i.objects → k < length i.objects → AreOwn i (get_or i.objects k d).pieces
 own_pieces i k d are lt = record { ascend = are.ascend k d lt; same = λ a some. own_same i.objects k a d are.apart lt some }
 
 -- the pieces of one of the objects, as a loop over them reads them
-pub item_pieces : (i : Image) (objects : List Loaded) (k : ℕ) (item : Loaded) (ps : List Piece) → objects ≡ i.objects → item ≡ get_or objects k item → ps ≡ item.pieces → ps ≡ (get_or i.objects k item).pieces
-item_pieces i objects k item ps same is pieces = pieces ∙ ap (λ (o : Loaded). o.pieces) (is ∙ ap (λ (os : List Loaded). get_or os k item) same)
+pub item_pieces : (i : Image) (objects : List LoadedObject) (k : ℕ) (item : LoadedObject) (ps : List Piece) → objects ≡ i.objects → item ≡ get_or objects k item → ps ≡ item.pieces → ps ≡ (get_or i.objects k item).pieces
+item_pieces i objects k item ps same is pieces = pieces ∙ ap (λ (o : LoadedObject). o.pieces) (is ∙ ap (λ (os : List LoadedObject). get_or os k item) same)
 
-pub item_own : (i : Image) (objects : List Loaded) (k : ℕ) (item : Loaded) (ps : List Piece) → AreLoaded i.objects → k < length objects → objects ≡ i.objects → item ≡ get_or objects k item → ps ≡ item.pieces → AreOwn i ps
+pub item_own : (i : Image) (objects : List LoadedObject) (k : ℕ) (item : LoadedObject) (ps : List Piece) → AreLoaded i.objects → k < length objects → objects ≡ i.objects → item ≡ get_or objects k item → ps ≡ item.pieces → AreOwn i ps
 item_own i objects k item ps are lt same is pieces =
-    let within : k < length i.objects = subst (λ (os : List Loaded). k < length os) same lt in
+    let within : k < length i.objects = subst (λ (os : List LoadedObject). k < length os) same lt in
     subst (AreOwn i) (sym (item_pieces i objects k item ps same is pieces)) (own_pieces i k item are within)
 
 extents_have : (ps : List Piece) (a : ℕ) → list_any (has a) (map extent_of ps) ≡ list_any (lies a) ps

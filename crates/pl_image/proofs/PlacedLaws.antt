@@ -14,7 +14,7 @@ use Rattle.pl_elf.proofs.AcceptedLaws.{LoadFits, load_fits, loads_fit}
 use Rattle.pl_elf.specs.Headers.{loads}
 use Rattle.pl_object.specs.declared.object.Object.{Object}
 use Rattle.pl_image.specs.declared.mask.Load.{Load}
-use Rattle.pl_image.specs.declared.loaded.Loaded.{Loaded}
+use Rattle.pl_image.specs.declared.loaded_object.LoadedObject.{LoadedObject}
 use Rattle.pl_image.specs.Loads.{loaded_pieces, pieces_at, load_at, mask_at, IsPlaced}
 use Rattle.pl_image.specs.Image.{ascends, AreLoaded}
 use Rattle.pl_image.proofs.PieceLemmas.{ascend_apart}
@@ -57,9 +57,9 @@ mask_fits place o is = fits_from place (loads o.segments) is.accepted.fit is.end
 
 -- ---- one object alone
 
-pub alone : (o : Loaded) → ascends 0 o.pieces ≡ true → All (λ l. l.start + l.size ≤ ADDRESS_LIMIT) o.mask.loads → AreLoaded (o ∷ [])
+pub alone : (o : LoadedObject) → ascends 0 o.pieces ≡ true → All (λ l. l.start + l.size ≤ ADDRESS_LIMIT) o.mask.loads → AreLoaded (o ∷ [])
 alone o ascend fit = record {
-  ascend = All-cons (λ (x : Loaded). ascends 0 x.pieces ≡ true) o [] ascend (All-nil (λ (x : Loaded). ascends 0 x.pieces ≡ true));
-  fit = All-cons (λ (x : Loaded). All (λ (l : Load). l.start + l.size ≤ ADDRESS_LIMIT) x.mask.loads) o [] fit (All-nil (λ (x : Loaded). All (λ (l : Load). l.start + l.size ≤ ADDRESS_LIMIT) x.mask.loads));
+  ascend = All-cons (λ (x : LoadedObject). ascends 0 x.pieces ≡ true) o [] ascend (All-nil (λ (x : LoadedObject). ascends 0 x.pieces ≡ true));
+  fit = All-cons (λ (x : LoadedObject). All (λ (l : Load). l.start + l.size ≤ ADDRESS_LIMIT) x.mask.loads) o [] fit (All-nil (λ (x : LoadedObject). All (λ (l : Load). l.start + l.size ≤ ADDRESS_LIMIT) x.mask.loads));
   apart = subst (AtMostOne lies) (sym (append-nil o.pieces)) (ascend_apart o.pieces ascend);
 }

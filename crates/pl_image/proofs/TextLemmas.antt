@@ -8,7 +8,7 @@ use Rattle.std.proofs.lemmas.Grind.{flat_map-append}
 use Rattle.pl_base.specs.Memory.{Memory, Piece}
 use Rattle.pl_base.specs.Streams.{got_after, GotPrefix}
 use Rattle.pl_base.proofs.StreamLaws.{GotPrefix-more, got_after-got_after}
-use Rattle.pl_image.specs.declared.loaded.Loaded.{Loaded}
+use Rattle.pl_image.specs.declared.loaded_object.LoadedObject.{LoadedObject}
 use Rattle.pl_image.specs.Lines.{word_in, unless_zero, word_line, lines_from, word_lines, only, text, IsClear, Passes}
 use Rattle.pl_image.specs.Image.{Image, extent_of, own_memory, byte_of, text_of}
 use Rattle.pl_image.proofs.LineLemmas.{lines_none, lines_next, lines_skip, lines_part}
@@ -48,34 +48,34 @@ words_done m old new before after number le clear p = subst (Passes old new befo
 -- ---- all objects
 
 -- the lines of one of an image's objects
-abbrev pub object_lines : Image → Loaded → List ℕ
+abbrev pub object_lines : Image → LoadedObject → List ℕ
 object_lines i o = word_lines (own_memory i o.pieces)
 
 pub text_is : (i : Image) → text_of i ≡ flat_map (object_lines i) i.objects
 unfolding text_of text
-text_is i = flat_map-map (λ extents. word_lines (only extents (byte_of i))) (λ (o : Loaded). map extent_of o.pieces) i.objects
+text_is i = flat_map-map (λ extents. word_lines (only extents (byte_of i))) (λ (o : LoadedObject). map extent_of o.pieces) i.objects
 
 -- one object more
-flat_more : (f : Loaded → List ℕ) (xs : List Loaded) (k : ℕ) (d : Loaded) → k < length xs → flat_map f (take (k + 1) xs) ≡ flat_map f (take k xs) ++ f (get_or xs k d)
+flat_more : (f : LoadedObject → List ℕ) (xs : List LoadedObject) (k : ℕ) (d : LoadedObject) → k < length xs → flat_map f (take (k + 1) xs) ≡ flat_map f (take k xs) ++ f (get_or xs k d)
 flat_more f xs k d lt = ap (flat_map f) (take_more xs k d lt) ∙ flat_map-append f (take k xs) (get_or xs k d ∷ []) ∙ ap (λ (zs : List ℕ). flat_map f (take k xs) ++ zs) (append-nil (f (get_or xs k d)))
 
 -- and those after it
-flat_rest : (f : Loaded → List ℕ) (xs : List Loaded) (k : ℕ) (d : Loaded) → k < length xs → flat_map f xs ≡ flat_map f (take k xs) ++ (f (get_or xs k d) ++ flat_map f (drop (k + 1) xs))
+flat_rest : (f : LoadedObject → List ℕ) (xs : List LoadedObject) (k : ℕ) (d : LoadedObject) → k < length xs → flat_map f xs ≡ flat_map f (take k xs) ++ (f (get_or xs k d) ++ flat_map f (drop (k + 1) xs))
 flat_rest f xs k d lt =
-    ap (flat_map f) (sym (take-append-drop k xs)) ∙ flat_map-append f (take k xs) (drop k xs) ∙ ap (λ (ys : List Loaded). flat_map f (take k xs) ++ flat_map f ys) (drop_more xs k d lt)
+    ap (flat_map f) (sym (take-append-drop k xs)) ∙ flat_map-append f (take k xs) (drop k xs) ∙ ap (λ (ys : List LoadedObject). flat_map f (take k xs) ++ flat_map f ys) (drop_more xs k d lt)
 
 module _ (i : Image) (old mid new : Option (List ℕ)) (before between after : List ℕ) (k : ℕ) where
   pub objects_begin : Passes old old before before (flat_map (object_lines i) (take 0 i.objects))
   objects_begin = passes_none old before
 
-  pub objects_more : (d : Loaded) (ps : List Piece) → k < length i.objects → ps ≡ (get_or i.objects k d).pieces → Passes old mid before between (flat_map (object_lines i) (take k i.objects))
+  pub objects_more : (d : LoadedObject) (ps : List Piece) → k < length i.objects → ps ≡ (get_or i.objects k d).pieces → Passes old mid before between (flat_map (object_lines i) (take k i.objects))
       → Passes mid new between after (word_lines (own_memory i ps)) → Passes old new before after (flat_map (object_lines i) (take (k + 1) i.objects))
   objects_more d ps lt is p q =
       let one : Passes mid new between after (object_lines i (get_or i.objects k d)) = subst (λ (xs : List Piece). Passes mid new between after (word_lines (own_memory i xs))) is q in
       subst (Passes old new before after) (sym (flat_more (object_lines i) i.objects k d lt))
       (passes_more old mid new before between after (flat_map (object_lines i) (take k i.objects)) (object_lines i (get_or i.objects k d)) p one)
 
-  pub objects_stopped : (d : Loaded) (ps : List Piece) → k < length i.objects → ps ≡ (get_or i.objects k d).pieces → Passes old mid before between (flat_map (object_lines i) (take k i.objects))
+  pub objects_stopped : (d : LoadedObject) (ps : List Piece) → k < length i.objects → ps ≡ (get_or i.objects k d).pieces → Passes old mid before between (flat_map (object_lines i) (take k i.objects))
       → GotPrefix mid new (between ++ word_lines (own_memory i ps)) → GotPrefix old new (before ++ text_of i)
   objects_stopped d ps lt is p q =
       let front = flat_map (object_lines i) (take k i.objects) in

@@ -5,22 +5,22 @@ use Rattle.pl_base.specs.Memory.{Memory, Piece, Fill, AtMostOne, is_within, lies
 use Rattle.pl_elf.specs.declared.constants.TheConstants.{ADDRESS_LIMIT}
 use Rattle.pl_elf.specs.Ranges.{range_from}
 use Rattle.pl_elf.specs.declared.range.Range.{Range}
-use Rattle.pl_image.specs.declared.loaded.Loaded.{Loaded}
+use Rattle.pl_image.specs.declared.loaded_object.LoadedObject.{LoadedObject}
 use Rattle.pl_image.specs.Loads.{is_masked}
 use Rattle.pl_image.specs.Lines.{only, text, word_in}
 
 pub record Image : Type 0 where
-  pub objects : List Loaded
+  pub objects : List LoadedObject
   pub patches : List Fill
 
 -- ---- bytes
 
 -- the pieces of all objects
-abbrev pub all_pieces : List Loaded → List Piece
+abbrev pub all_pieces : List LoadedObject → List Piece
 all_pieces objects = flat_map (λ o. o.pieces) objects
 
 -- a byte of a link table of one of the objects is loaded at the address
-abbrev pub any_masked : List Loaded → ℕ → Bool
+abbrev pub any_masked : List LoadedObject → ℕ → Bool
 any_masked objects address = list_any (λ o. is_masked o.mask address) objects
 
 -- the map from addresses to bytes; a later patch wins
@@ -33,7 +33,7 @@ abbrev pub extent_of : Piece → Range
 extent_of piece = range_from piece.start piece.size
 
 -- the addresses that each object loads
-abbrev pub extents_of : List Loaded → List (List Range)
+abbrev pub extents_of : List LoadedObject → List (List Range)
 extents_of objects = map (λ o. map extent_of o.pieces) objects
 
 unfoldable pub text_of : Image → List ℕ
@@ -47,7 +47,7 @@ ascends from [] = true
 ascends from (piece ∷ pieces) =
     nat_le from piece.start && nat_le (piece.start + piece.size) ADDRESS_LIMIT && ascends (piece.start + piece.size) pieces
 
-pub record AreLoaded (objects : List Loaded) : Type 0 where
+pub record AreLoaded (objects : List LoadedObject) : Type 0 where
   -- the pieces of each object ascend
   pub ascend : All (λ o. ascends 0 o.pieces ≡ true) objects
   -- what the masks speak of ends within the limit of addresses

@@ -4,7 +4,7 @@ use Rattle.std.specs.List.{list_any, All}
 use Rattle.std.specs.List.Sorted.{IsNonDecreasingBy}
 use Rattle.pl_base.specs.Memory.{Fill, covers, fill_byte}
 use Rattle.pl_elf.specs.declared.range.Range.{Range}
-use Rattle.pl_image.specs.declared.loaded.Loaded.{Loaded}
+use Rattle.pl_image.specs.declared.loaded_object.LoadedObject.{LoadedObject}
 use Rattle.pl_image.specs.declared.touched.Touch.{Touch}
 use Rattle.pl_image.specs.Image.{any_masked, AreLoaded}
 use Rattle.pl_elf.specs.Ranges.{has}
@@ -83,7 +83,7 @@ merged end (range ∷ ranges) =
 -- ---- an image
 
 -- objects and patches, with the words that the patches touch and the masked addresses
-pub record IsIndexedImage (objects : List Loaded) (patches : List Fill) (touched : List Touch) (masked : List Range) : Type 0 where
+pub record IsIndexedImage (objects : List LoadedObject) (patches : List Fill) (touched : List Touch) (masked : List Range) : Type 0 where
   pub loaded : AreLoaded objects
   pub index : IsIndex patches touched
   pub rising : rises 0 masked ≡ true

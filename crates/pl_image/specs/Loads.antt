@@ -12,7 +12,7 @@ use Rattle.pl_elf.specs.declared.range.Range.{Range}
 use Rattle.pl_object.specs.declared.object.Object.{Object}
 use Rattle.pl_image.specs.declared.mask.Load.{Load}
 use Rattle.pl_image.specs.declared.mask.Mask.{Mask}
-use Rattle.pl_image.specs.declared.loaded.Loaded.{Loaded}
+use Rattle.pl_image.specs.declared.loaded_object.LoadedObject.{LoadedObject}
 
 -- ---- memory
 
@@ -49,7 +49,7 @@ is_masked mask address = list_any (λ load. list_any (loads_table address load) 
 
 -- ---- the whole
 
-abbrev pub loaded_at : ℕ → List ℕ → Object → Loaded
+abbrev pub loaded_at : ℕ → List ℕ → Object → LoadedObject
 loaded_at place bytes o = record { pieces = pieces_at place bytes o; mask = mask_at place o }
 
 -- the PT_LOADs are accepted ones, and each ends at the place at or below the limit of addresses

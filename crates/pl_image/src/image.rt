@@ -16,7 +16,7 @@ use crate::piece::{
 };
 use crate::ranges::{any_has, end_at, near};
 use crate::touched::{Touch, index_patches, next_touched, patched, touching};
-use crate::{Loaded, Patch, Piece};
+use crate::{LoadedObject, Patch, Piece};
 use pl_base::word64;
 use pl_elf::Range;
 use pl_io::{Failed, Sink};
@@ -28,7 +28,7 @@ use std::marker::Model;
 /// Contracts see it as the objects and the patches, and `byte_of` of these as a map from addresses to bytes.
 #[derive(Drop)]
 pub struct Image<'a> {
-    objects: Vec<Loaded<'a>>,
+    objects: Vec<LoadedObject<'a>>,
     patches: Vec<Patch>,
 
     /// The words that patches touch.
@@ -53,7 +53,7 @@ impl<'a> Image<'a> {
     /// The image of objects in scope order, and of patches over them, one after the other. It fails only for want of memory.
     pub fn new(
         alloc: Global,
-        objects: Vec<Loaded<'a>>,
+        objects: Vec<LoadedObject<'a>>,
         patches: Vec<Patch>,
     ) -> Result<Image<'a>, AllocError>
         requires { spec.AreLoaded objects.items }
@@ -282,7 +282,7 @@ impl<'a> Image<'a> {
 }
 
 /// The byte that objects load at an address, also of a link table; None where none of them loads one. Of several over it the first counts.
-pub fn loaded_byte(objects: &[Loaded<'_>], address: u64) -> Option<u8>
+pub fn loaded_byte(objects: &[LoadedObject<'_>], address: u64) -> Option<u8>
     requires { spec.AreLoaded objects.now }
     ensures { result ≡ layered (spec.all_pieces objects.now) address }
 {

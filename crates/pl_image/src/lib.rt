@@ -4,7 +4,7 @@
 mod image;
 mod image_text;
 mod lines;
-mod loaded;
+mod loaded_object;
 mod loading;
 mod mask;
 mod masked;
@@ -15,7 +15,7 @@ mod ranges;
 mod touched;
 
 pub use image::{Image, loaded_byte};
-pub use loaded::Loaded;
+pub use loaded_object::LoadedObject;
 pub use loading::{load_mask, load_object, load_pieces};
 pub use mask::{Load, Mask};
 pub use parts::Parts;

@@ -5,7 +5,7 @@ ghost use Rattle.pl_elf.specs.declared.constants.TheConstants.{ADDRESS_LIMIT};
 ghost use Rattle.pl_image.specs.Image.{ascends};
 ghost use Rattle.pl_image.specs.Loads as spec;
 
-use crate::{Load, Loaded, Mask, Piece};
+use crate::{Load, LoadedObject, Mask, Piece};
 use pl_base::{Rows, part};
 use pl_elf::{Range, Segment, loads};
 use pl_object::Object;
@@ -104,7 +104,7 @@ pub fn load_object<'a>(
     object: &Object,
     bytes: &'a [u8],
     place: u64,
-) -> Result<Loaded<'a>, AllocError>
+) -> Result<LoadedObject<'a>, AllocError>
     requires { spec.IsPlaced place object.now }
     ensures value { IfOk result (λ loaded. loaded ≡ spec.loaded_at place bytes.now object.now) }
     ensures ascends { IfOk result (λ loaded. ascends 0 loaded.pieces ≡ true) }
@@ -113,5 +113,5 @@ pub fn load_object<'a>(
 {
     let pieces = load_pieces(alloc, object, bytes, place)?;
     let mask = load_mask(alloc, object, place)?;
-    Ok(Loaded { pieces, mask })
+    Ok(LoadedObject { pieces, mask })
 }

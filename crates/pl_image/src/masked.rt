@@ -8,7 +8,7 @@ ghost use Rattle.pl_image.specs.Index.{rises};
 ghost use Rattle.pl_image.specs.Loads as spec;
 
 use crate::ranges::{apart, near};
-use crate::{Load, Loaded, Mask};
+use crate::{Load, LoadedObject, Mask};
 use pl_elf::Range;
 use std::alloc::{AllocError, Global};
 
@@ -71,7 +71,7 @@ fn add_mask(alloc: Global, ranges: &mut Vec<Range>, mask: &Mask) -> Result<(), A
 }
 
 /// The masked addresses of objects, in any order.
-fn all_masked(alloc: Global, objects: &[Loaded<'_>]) -> Result<Vec<Range>, AllocError>
+fn all_masked(alloc: Global, objects: &[LoadedObject<'_>]) -> Result<Vec<Range>, AllocError>
     requires { All (λ o. All (λ l. l.start + l.size ≤ ADDRESS_LIMIT) o.mask.loads) objects.now }
     ensures { IfOk result (λ v. (a : ℕ) → list_any (has a) v.items ≡ any_masked objects.now a) }
 {
@@ -83,7 +83,7 @@ fn all_masked(alloc: Global, objects: &[Loaded<'_>]) -> Result<Vec<Range>, Alloc
 }
 
 /// The masked addresses of objects, in ranges that ascend and do not overlap.
-pub fn masked_ranges(alloc: Global, objects: &[Loaded<'_>]) -> Result<Vec<Range>, AllocError>
+pub fn masked_ranges(alloc: Global, objects: &[LoadedObject<'_>]) -> Result<Vec<Range>, AllocError>
     requires { All (λ o. All (λ l. l.start + l.size ≤ ADDRESS_LIMIT) o.mask.loads) objects.now }
     ensures rises { IfOk result (λ v. rises 0 v.items ≡ true) }
     ensures masked { IfOk result (λ v. (a : ℕ) → list_any (has a) v.items

@@ -3,7 +3,7 @@ pub mod ChainLaws
 pub mod RightLaws
 pub mod FoundLaws
 pub mod LawfulLaws
-pub mod MarkLaws
+pub mod FlagLaws
 pub mod GraphLaws
 pub mod TableLaws
 pub mod RowLaws

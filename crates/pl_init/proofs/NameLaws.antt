@@ -15,7 +15,7 @@ use Rattle.pl_scope.specs.declared.constants.TheConstants.{MAX_MEMBERS}
 use Rattle.pl_scope.proofs.NameLaws.{eq_flip}
 use Rattle.pl_object.specs.declared.object.Object.{Object}
 use Rattle.pl_init.specs.Graph.{number, graph}
-use Rattle.pl_init.specs.Marks.{IsGraph}
+use Rattle.pl_init.specs.Flags.{IsGraph}
 
 -- ---- places of what is seen by a view
 

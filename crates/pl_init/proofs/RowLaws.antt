@@ -1,4 +1,4 @@
--- One row more of the rows of a member, and what is marked then.
+-- One row more of the rows of a member, and what is flaged then.
 use Rattle.std.proofs.Common.{◌≡◌, ◌≢◌, ℕ, suc, ◌+◌, ◌<◌, ◌≤◌, Bool, true, false, ◌&&◌, ◌||◌, cond, List, [], ◌∷◌, ◌++◌, length, get_or, take, drop, refl, sym, ap, subst, ◌∙◌, arith}
 use Rattle.std.specs.Prelude.{◌==◌, nat_lt, slice_index_or}
 use Rattle.std.specs.List.{list_all}
@@ -11,8 +11,8 @@ use Rattle.pl_init.specs.declared.relation.ReachRow.{ReachRow}
 use Rattle.pl_init.specs.Graph.{needs}
 use Rattle.pl_init.specs.Found.{is_seen}
 use Rattle.pl_init.specs.Right.{is_numbered, rows_of, is_step, are_steps, holds_needs, is_closed}
-use Rattle.pl_init.specs.Marks.{AreMarks, IsGraph}
-use Rattle.pl_init.proofs.MarkLaws.{seen_marked}
+use Rattle.pl_init.specs.Flags.{AreFlags, IsGraph}
+use Rattle.pl_init.proofs.FlagLaws.{seen_flaged}
 
 -- what a read gives past the end
 abbrev pub no_row : ReachRow
@@ -42,30 +42,30 @@ other_back rows m i lt ne =
 
 -- an answer tells of each list of rows before whether the row is a step
 abbrev pub TellsStep : List (List ℕ) → List Bool → ReachRow → Bool → Type 0
-TellsStep graph seen r answer = (before : List ReachRow) → AreMarks seen (is_seen r.from before) → answer ≡ is_step graph r.from before r
+TellsStep graph seen r answer = (before : List ReachRow) → AreFlags seen (is_seen r.from before) → answer ≡ is_step graph r.from before r
 
-step_told : (graph : List (List ℕ)) (seen : List Bool) (m : ℕ) (before : List ReachRow) (r : ReachRow) (answer : Bool) → r.from ≡ m → AreMarks seen (is_seen m before) → TellsStep graph seen r answer → answer ≡ is_step graph m before r
-step_told graph seen m before r answer is marks tells =
-    tells before (subst (λ (z : ℕ). AreMarks seen (is_seen z before)) (sym is) marks) ∙ ap (λ (z : ℕ). is_step graph z before r) is
+step_told : (graph : List (List ℕ)) (seen : List Bool) (m : ℕ) (before : List ReachRow) (r : ReachRow) (answer : Bool) → r.from ≡ m → AreFlags seen (is_seen m before) → TellsStep graph seen r answer → answer ≡ is_step graph m before r
+step_told graph seen m before r answer is flags tells =
+    tells before (subst (λ (z : ℕ). AreFlags seen (is_seen z before)) (sym is) flags) ∙ ap (λ (z : ℕ). is_step graph z before r) is
 
 steps_head : (graph : List (List ℕ)) (m : ℕ) (before : List ReachRow) (r : ReachRow) (rows : List ReachRow) → are_steps graph m before (r ∷ rows) ≡ (is_step graph m before r && are_steps graph m (before ++ r ∷ []) rows)
 unfolding are_steps
 steps_head graph m before r rows = refl
 
-pub steps_stop : (graph : List (List ℕ)) (m i : ℕ) (rows : List ReachRow) (seen : List Bool) (answer whole : Bool) → i < length rows → (row_at rows i).from ≡ m → TellsStep graph seen (row_at rows i) answer → AreMarks seen (is_seen m (rows_of (take i rows) m)) → answer ≡ false
+pub steps_stop : (graph : List (List ℕ)) (m i : ℕ) (rows : List ReachRow) (seen : List Bool) (answer whole : Bool) → i < length rows → (row_at rows i).from ≡ m → TellsStep graph seen (row_at rows i) answer → AreFlags seen (is_seen m (rows_of (take i rows) m)) → answer ≡ false
     → are_steps graph m (rows_of (take i rows) m) (rows_of (drop i rows) m) ≡ whole → false ≡ whole
-steps_stop graph m i rows seen answer whole lt is tells marks no' so_far =
+steps_stop graph m i rows seen answer whole lt is tells flags no' so_far =
     let before : List ReachRow = rows_of (take i rows) m in
-    let step : is_step graph m before (row_at rows i) ≡ false = sym (step_told graph seen m before (row_at rows i) answer is marks tells) ∙ no' in
+    let step : is_step graph m before (row_at rows i) ≡ false = sym (step_told graph seen m before (row_at rows i) answer is flags tells) ∙ no' in
     sym (and_left (is_step graph m before (row_at rows i)) (are_steps graph m (before ++ row_at rows i ∷ []) (rows_of (drop (i + 1) rows) m)) step)
     ∙ (sym (steps_head graph m before (row_at rows i) (rows_of (drop (i + 1) rows) m)) ∙ (ap (are_steps graph m before) (sym (own_back rows m i lt is)) ∙ so_far))
 
-pub steps_own : (graph : List (List ℕ)) (m i : ℕ) (rows : List ReachRow) (seen : List Bool) (answer whole : Bool) → i < length rows → (row_at rows i).from ≡ m → TellsStep graph seen (row_at rows i) answer → AreMarks seen (is_seen m (rows_of (take i rows) m)) → answer ≡ true
+pub steps_own : (graph : List (List ℕ)) (m i : ℕ) (rows : List ReachRow) (seen : List Bool) (answer whole : Bool) → i < length rows → (row_at rows i).from ≡ m → TellsStep graph seen (row_at rows i) answer → AreFlags seen (is_seen m (rows_of (take i rows) m)) → answer ≡ true
     → are_steps graph m (rows_of (take i rows) m) (rows_of (drop i rows) m) ≡ whole → are_steps graph m (rows_of (take (i + 1) rows) m) (rows_of (drop (i + 1) rows) m) ≡ whole
-steps_own graph m i rows seen answer whole lt is tells marks yes' so_far =
+steps_own graph m i rows seen answer whole lt is tells flags yes' so_far =
     let before : List ReachRow = rows_of (take i rows) m in
     let rest : List ReachRow = rows_of (drop (i + 1) rows) m in
-    let step : is_step graph m before (row_at rows i) ≡ true = sym (step_told graph seen m before (row_at rows i) answer is marks tells) ∙ yes' in
+    let step : is_step graph m before (row_at rows i) ≡ true = sym (step_told graph seen m before (row_at rows i) answer is flags tells) ∙ yes' in
     ap (λ (z : List ReachRow). are_steps graph m z rest) (own_front rows m i lt is)
     ∙ (ap (λ (b : Bool). b && are_steps graph m (before ++ row_at rows i ∷ []) rest) (sym step)
     ∙ (sym (steps_head graph m before (row_at rows i) rest) ∙ (ap (are_steps graph m before) (sym (own_back rows m i lt is)) ∙ so_far)))
@@ -79,21 +79,21 @@ pub steps_all : (graph : List (List ℕ)) (m i : ℕ) (rows : List ReachRow) (wh
 unfolding are_steps
 steps_all graph m i rows whole past so_far = sym (ap (λ (z : List ReachRow). are_steps graph m (rows_of (take i rows) m) (rows_of z m)) (drop_all i rows past)) ∙ so_far
 
-pub seen_own : (m i : ℕ) (rows : List ReachRow) (marks : List Bool) → i < length rows → (row_at rows i).from ≡ m → AreMarks marks (λ k. k == (row_at rows i).to || is_seen m (rows_of (take i rows) m) k) → AreMarks marks (is_seen m (rows_of (take (i + 1) rows) m))
-seen_own m i rows marks lt is a = seen_marked marks m (rows_of (take i rows) m) (rows_of (take (i + 1) rows) m) (row_at rows i) (own_front rows m i lt is) a
+pub seen_own : (m i : ℕ) (rows : List ReachRow) (flags : List Bool) → i < length rows → (row_at rows i).from ≡ m → AreFlags flags (λ k. k == (row_at rows i).to || is_seen m (rows_of (take i rows) m) k) → AreFlags flags (is_seen m (rows_of (take (i + 1) rows) m))
+seen_own m i rows flags lt is a = seen_flaged flags m (rows_of (take i rows) m) (rows_of (take (i + 1) rows) m) (row_at rows i) (own_front rows m i lt is) a
 
-pub seen_other : (m i : ℕ) (rows : List ReachRow) (marks : List Bool) → i < length rows → (row_at rows i).from ≢ m → AreMarks marks (is_seen m (rows_of (take i rows) m)) → AreMarks marks (is_seen m (rows_of (take (i + 1) rows) m))
-seen_other m i rows marks lt ne a = subst (λ (z : List ReachRow). AreMarks marks (is_seen m z)) (sym (other_front rows m i lt ne)) a
+pub seen_other : (m i : ℕ) (rows : List ReachRow) (flags : List Bool) → i < length rows → (row_at rows i).from ≢ m → AreFlags flags (is_seen m (rows_of (take i rows) m)) → AreFlags flags (is_seen m (rows_of (take (i + 1) rows) m))
+seen_other m i rows flags lt ne a = subst (λ (z : List ReachRow). AreFlags flags (is_seen m z)) (sym (other_front rows m i lt ne)) a
 
--- ---- needs that are marked
+-- ---- needs that are flaged
 
 agree : (p q : ℕ → Bool) (xs : List ℕ) → ((i : ℕ) → i < length xs → p (get_or xs i 0) ≡ q (get_or xs i 0)) → list_all p xs ≡ list_all q xs
 agree p q [] same = refl
 agree p q (x ∷ xs) same = let rest : list_all p xs ≡ list_all q xs = agree p q xs (λ i lt. same (suc i) (omega arith)) in rw (same 0 (omega arith), rest) refl
 
-pub holds_told : (graph : List (List ℕ)) (m k : ℕ) (rows : List ReachRow) (seen : List Bool) → IsGraph graph → k < length graph → AreMarks seen (is_seen m rows) → list_all (λ j. slice_index_or seen j false) (needs graph k) ≡ holds_needs graph m rows k
-holds_told graph m k rows seen g small marks =
-    agree (λ j. slice_index_or seen j false) (is_seen m rows) (needs graph k) (λ i lt. marks.each (get_or (needs graph k) i 0) (below (g.numbers k [] small i 0 lt)))
+pub holds_told : (graph : List (List ℕ)) (m k : ℕ) (rows : List ReachRow) (seen : List Bool) → IsGraph graph → k < length graph → AreFlags seen (is_seen m rows) → list_all (λ j. slice_index_or seen j false) (needs graph k) ≡ holds_needs graph m rows k
+holds_told graph m k rows seen g small flags =
+    agree (λ j. slice_index_or seen j false) (is_seen m rows) (needs graph k) (λ i lt. flags.each (get_or (needs graph k) i 0) (below (g.numbers k [] small i 0 lt)))
   where
     below : {j : ℕ} → j < length graph → j < MAX_MEMBERS
     below lt = omega (arith, g.few)
@@ -115,23 +115,23 @@ numbered_at count i rows all lt = numbered_is count (row_at rows i) (pass_at row
     pass_at : (rows : List ReachRow) (i : ℕ) → list_all (is_numbered count) rows ≡ true → i < length rows → is_numbered count (row_at rows i) ≡ true
     pass_at rows i all lt = AllPass-from_list_all (is_numbered count) rows all i no_row lt
 
-pub closed_self : (graph : List (List ℕ)) (m : ℕ) (rows : List ReachRow) (seen : List Bool) (answer : Bool) → IsGraph graph → m < length graph → AreMarks seen (is_seen m rows) → answer ≡ list_all (λ j. slice_index_or seen j false) (needs graph m) → answer ≡ false → false ≡ is_closed graph m rows
+pub closed_self : (graph : List (List ℕ)) (m : ℕ) (rows : List ReachRow) (seen : List Bool) (answer : Bool) → IsGraph graph → m < length graph → AreFlags seen (is_seen m rows) → answer ≡ list_all (λ j. slice_index_or seen j false) (needs graph m) → answer ≡ false → false ≡ is_closed graph m rows
 unfolding is_closed
-closed_self graph m rows seen answer g small marks tells no' =
-    sym (and_left (holds_needs graph m rows m) (list_all (λ (r : ReachRow). holds_needs graph m rows r.to) rows) (sym (holds_told graph m m rows seen g small marks) ∙ (sym tells ∙ no')))
+closed_self graph m rows seen answer g small flags tells no' =
+    sym (and_left (holds_needs graph m rows m) (list_all (λ (r : ReachRow). holds_needs graph m rows r.to) rows) (sym (holds_told graph m m rows seen g small flags) ∙ (sym tells ∙ no')))
 
 -- the rows of a member that are left hold what those need to which they lead
 abbrev pub left_holds : List (List ℕ) → ℕ → List ReachRow → List ReachRow → Bool
 left_holds graph m rows left = list_all (λ (r : ReachRow). holds_needs graph m rows r.to) left
 
-pub closed_stop : (graph : List (List ℕ)) (m i : ℕ) (all : List ReachRow) (seen : List Bool) (first answer : Bool) → IsGraph graph → m < length graph → list_all (is_numbered (length graph)) all ≡ true → AreMarks seen (is_seen m (rows_of all m)) → i < length all → (row_at all i).from ≡ m
+pub closed_stop : (graph : List (List ℕ)) (m i : ℕ) (all : List ReachRow) (seen : List Bool) (first answer : Bool) → IsGraph graph → m < length graph → list_all (is_numbered (length graph)) all ≡ true → AreFlags seen (is_seen m (rows_of all m)) → i < length all → (row_at all i).from ≡ m
     → answer ≡ list_all (λ j. slice_index_or seen j false) (needs graph (row_at all i).to) → answer ≡ false
     → left_holds graph m (rows_of all m) (rows_of (drop i all) m) ≡ left_holds graph m (rows_of all m) (rows_of all m) → false ≡ is_closed graph m (rows_of all m)
 unfolding is_closed
-closed_stop graph m i all seen first answer g small numbered marks lt is tells no' so_far =
+closed_stop graph m i all seen first answer g small numbered flags lt is tells no' so_far =
     let rows : List ReachRow = rows_of all m in
     let to : (row_at all i).to < length graph = (numbered_at (length graph) i all numbered lt).to in
-    let miss : holds_needs graph m rows (row_at all i).to ≡ false = sym (holds_told graph m (row_at all i).to rows seen g to marks) ∙ (sym tells ∙ no') in
+    let miss : holds_needs graph m rows (row_at all i).to ≡ false = sym (holds_told graph m (row_at all i).to rows seen g to flags) ∙ (sym tells ∙ no') in
     let none : left_holds graph m rows (rows_of (drop i all) m) ≡ false = ap (left_holds graph m rows) (own_back all m i lt is) ∙ and_left (holds_needs graph m rows (row_at all i).to) (left_holds graph m rows (rows_of (drop (i + 1) all) m)) miss in
     sym (both (holds_needs graph m rows m) (left_holds graph m rows rows) (sym so_far ∙ none))
   where
@@ -139,23 +139,23 @@ closed_stop graph m i all seen first answer g small numbered marks lt is tells n
     both true b h = h
     both false b h = refl
 
-pub closed_own : (graph : List (List ℕ)) (m i : ℕ) (all : List ReachRow) (seen : List Bool) (answer : Bool) → IsGraph graph → list_all (is_numbered (length graph)) all ≡ true → AreMarks seen (is_seen m (rows_of all m)) → i < length all → (row_at all i).from ≡ m
+pub closed_own : (graph : List (List ℕ)) (m i : ℕ) (all : List ReachRow) (seen : List Bool) (answer : Bool) → IsGraph graph → list_all (is_numbered (length graph)) all ≡ true → AreFlags seen (is_seen m (rows_of all m)) → i < length all → (row_at all i).from ≡ m
     → answer ≡ list_all (λ j. slice_index_or seen j false) (needs graph (row_at all i).to) → answer ≡ true
     → left_holds graph m (rows_of all m) (rows_of (drop i all) m) ≡ left_holds graph m (rows_of all m) (rows_of all m) → left_holds graph m (rows_of all m) (rows_of (drop (i + 1) all) m) ≡ left_holds graph m (rows_of all m) (rows_of all m)
-closed_own graph m i all seen answer g numbered marks lt is tells yes' so_far =
+closed_own graph m i all seen answer g numbered flags lt is tells yes' so_far =
     let rows : List ReachRow = rows_of all m in
     let to : (row_at all i).to < length graph = (numbered_at (length graph) i all numbered lt).to in
-    let hit : holds_needs graph m rows (row_at all i).to ≡ true = sym (holds_told graph m (row_at all i).to rows seen g to marks) ∙ (sym tells ∙ yes') in
+    let hit : holds_needs graph m rows (row_at all i).to ≡ true = sym (holds_told graph m (row_at all i).to rows seen g to flags) ∙ (sym tells ∙ yes') in
     ap (λ (b : Bool). b && left_holds graph m rows (rows_of (drop (i + 1) all) m)) (sym hit) ∙ (ap (left_holds graph m rows) (sym (own_back all m i lt is)) ∙ so_far)
 
 pub closed_other : (graph : List (List ℕ)) (m i : ℕ) (all : List ReachRow) → i < length all → (row_at all i).from ≢ m
     → left_holds graph m (rows_of all m) (rows_of (drop i all) m) ≡ left_holds graph m (rows_of all m) (rows_of all m) → left_holds graph m (rows_of all m) (rows_of (drop (i + 1) all) m) ≡ left_holds graph m (rows_of all m) (rows_of all m)
 closed_other graph m i all lt ne so_far = ap (left_holds graph m (rows_of all m)) (sym (other_back all m i lt ne)) ∙ so_far
 
-pub closed_all : (graph : List (List ℕ)) (m i : ℕ) (all : List ReachRow) (seen : List Bool) (answer : Bool) → IsGraph graph → m < length graph → AreMarks seen (is_seen m (rows_of all m)) → answer ≡ list_all (λ j. slice_index_or seen j false) (needs graph m) → answer ≡ true → length all ≤ i
+pub closed_all : (graph : List (List ℕ)) (m i : ℕ) (all : List ReachRow) (seen : List Bool) (answer : Bool) → IsGraph graph → m < length graph → AreFlags seen (is_seen m (rows_of all m)) → answer ≡ list_all (λ j. slice_index_or seen j false) (needs graph m) → answer ≡ true → length all ≤ i
     → left_holds graph m (rows_of all m) (rows_of (drop i all) m) ≡ left_holds graph m (rows_of all m) (rows_of all m) → true ≡ is_closed graph m (rows_of all m)
 unfolding is_closed
-closed_all graph m i all seen answer g small marks tells yes' past so_far =
+closed_all graph m i all seen answer g small flags tells yes' past so_far =
     let rows : List ReachRow = rows_of all m in
     let none : left_holds graph m rows (rows_of (drop i all) m) ≡ true = ap (λ (z : List ReachRow). left_holds graph m rows (rows_of z m)) (drop_all i all past) in
-    sym (and_from (holds_needs graph m rows m) (left_holds graph m rows rows) (sym (holds_told graph m m rows seen g small marks) ∙ (sym tells ∙ yes')) (sym so_far ∙ none))
+    sym (and_from (holds_needs graph m rows m) (left_holds graph m rows rows) (sym (holds_told graph m m rows seen g small flags) ∙ (sym tells ∙ yes')) (sym so_far ∙ none))

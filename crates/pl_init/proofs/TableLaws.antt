@@ -8,7 +8,7 @@ use Rattle.pl_scope.specs.declared.constants.TheConstants.{MAX_MEMBERS}
 use Rattle.pl_init.specs.declared.relation.ReachRow.{ReachRow}
 use Rattle.pl_init.specs.Right.{reaches}
 use Rattle.pl_scope.proofs.WalkedLaws.{limit_is}
-use Rattle.pl_init.specs.Marks.{IsTable}
+use Rattle.pl_init.specs.Flags.{IsTable}
 
 -- a row of a square, and a place in it
 cell_small : (i j n : ℕ) → n ≡ 256 → i < n → j < n → i * n + j < n * n

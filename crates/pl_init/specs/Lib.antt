@@ -3,6 +3,6 @@ pub mod Leads
 pub mod Found
 pub mod Right
 pub mod Lawful
-pub mod Marks
+pub mod Flags
 pub mod OrderText
 pub mod Laws

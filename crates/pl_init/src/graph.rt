@@ -3,7 +3,7 @@ ghost use Rattle.std.specs.Prelude.{◌≡◌, ◌<◌, length, IfOk};
 ghost use Rattle.std.specs.List.{All};
 ghost use Rattle.pl_scope.specs.Scope.{walked};
 ghost use Rattle.pl_scope.specs.Members.{IsClosed};
-ghost use Rattle.pl_init.specs.Marks.{IsGraph};
+ghost use Rattle.pl_init.specs.Flags.{IsGraph};
 ghost use Rattle.pl_init.specs.Graph as spec;
 
 use crate::names::{names_of, numbers_of};

@@ -2,9 +2,9 @@
 #![tactic(auto)]
 
 mod certificate;
+mod flags;
 mod graph;
 mod laws;
-mod marks;
 mod names;
 mod ordering;
 mod orders;

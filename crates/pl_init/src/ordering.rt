@@ -1,10 +1,10 @@
 // Orders of the members, by a table of rows.
 ghost use Rattle.std.specs.Prelude.{◌≡◌, ◌<◌, ◌≤◌, [], ℕ, List, length, find, IfOk, IfSome};
 ghost use Rattle.std.specs.List.{range_with_len};
-ghost use Rattle.pl_init.specs.Marks.{AreMarks, is_marked_ready, is_marked_next};
+ghost use Rattle.pl_init.specs.Flags.{AreFlags, is_flaged_ready, is_flaged_next};
 ghost use Rattle.pl_init.specs.Lawful as spec;
 
-use crate::marks::{mark, no_marks};
+use crate::flags::{flag, no_flags};
 use crate::table::Table;
 use pl_scope::MAX_MEMBERS;
 use std::alloc::{AllocError, Global};
@@ -13,7 +13,7 @@ fn is_ready(table: &Table<'_>, count: u32, stands: &[bool], member: u32) -> bool
     requires few { count ≤ MAX_MEMBERS }
     requires small { member < count }
     requires long { length stands.now ≡ MAX_MEMBERS }
-    ensures { result ≡ is_marked_ready table.now.rows.now count stands.now member }
+    ensures { result ≡ is_flaged_ready table.now.rows.now count stands.now member }
 {
     (0..count).all(|other| stands[other as usize] || !table.precedes(other, member))
 }
@@ -22,7 +22,7 @@ fn is_next(table: &Table<'_>, count: u32, stands: &[bool], member: u32) -> bool
     requires few { count ≤ MAX_MEMBERS }
     requires small { member < count }
     requires long { length stands.now ≡ MAX_MEMBERS }
-    ensures { result ≡ is_marked_next table.now.rows.now count stands.now member }
+    ensures { result ≡ is_flaged_next table.now.rows.now count stands.now member }
 {
     !stands[member as usize] && is_ready(table, count, stands, member)
 }
@@ -31,7 +31,7 @@ fn is_next(table: &Table<'_>, count: u32, stands: &[bool], member: u32) -> bool
 fn next_of(table: &Table<'_>, count: u32, stands: &[bool]) -> Option<u32>
     requires few { count ≤ MAX_MEMBERS }
     requires long { length stands.now ≡ MAX_MEMBERS }
-    ensures value { result ≡ find (is_marked_next table.now.rows.now count stands.now)
+    ensures value { result ≡ find (is_flaged_next table.now.rows.now count stands.now)
         (range_with_len 0 count) }
     ensures small { IfSome result (λ member. member < count) }
 {
@@ -43,14 +43,14 @@ pub fn ordered(alloc: Global, table: &Table<'_>, count: u32) -> Result<Vec<u32>,
     requires few { count ≤ MAX_MEMBERS }
     ensures { IfOk result (λ order. order.items ≡ spec.ordered table.now.rows.now count count []) }
 {
-    let mut stands = no_marks();
+    let mut stands = no_flags();
     let mut order = Vec::new(alloc);
     for _turn in 0..count {
         let Some(next) = next_of(table, count, &stands) else {
             return Ok(order);
         };
         order.push(next)?;
-        mark(&mut stands, next);
+        flag(&mut stands, next);
     }
     Ok(order)
 }
@@ -59,12 +59,12 @@ fn are_next(table: &Table<'_>, count: u32, order: &[u32]) -> bool
     requires few { count ≤ MAX_MEMBERS }
     ensures { result ≡ spec.are_next table.now.rows.now count [] order.now }
 {
-    let mut stands = no_marks();
+    let mut stands = no_flags();
     for member in order {
         if *member >= count || !is_next(table, count, &stands, *member) {
             return false;
         }
-        mark(&mut stands, *member);
+        flag(&mut stands, *member);
     }
     true
 }

@@ -1,12 +1,12 @@
 // The members that a member reaches, found in breadth-first order.
 ghost use Rattle.std.specs.Prelude.{◌≡◌, ◌<◌, ◌∷◌, ◌++◌, [], length, slice_get, IfOk, OnOk};
 ghost use Rattle.std.specs.List.{All};
-ghost use Rattle.pl_init.specs.Marks.{AreMarks, IsGraph};
+ghost use Rattle.pl_init.specs.Flags.{AreFlags, IsGraph};
 ghost use Rattle.pl_init.specs.Found as spec;
 
 use crate::ReachRow;
+use crate::flags::{flag, no_flags};
 use crate::graph::needs_of;
-use crate::marks::{mark, no_marks};
 use pl_base::Rows;
 use pl_scope::MAX_MEMBERS;
 use std::alloc::{AllocError, Global};
@@ -15,15 +15,15 @@ use std::alloc::{AllocError, Global};
 #[tactic(auto, unfolding(crate::specs::Found::found))]
 fn add(rows: &mut Rows<ReachRow>, seen: &mut [bool], row: ReachRow) -> Result<(), AllocError>
     requires small { row.to < MAX_MEMBERS }
-    requires seen { AreMarks seen.old (spec.is_seen row.from rows.old) }
+    requires seen { AreFlags seen.old (spec.is_seen row.from rows.old) }
     ensures rows { OnOk result (rows.new ≡ spec.found row.from row.via rows.old row.to) }
-    ensures seen { OnOk result (AreMarks seen.new (spec.is_seen row.from rows.new)) }
+    ensures seen { OnOk result (AreFlags seen.new (spec.is_seen row.from rows.new)) }
 {
     if seen[row.to as usize] {
         return Ok(());
     }
     rows.push(row)?;
-    mark(seen, row.to);
+    flag(seen, row.to);
     Ok(())
 }
 
@@ -37,10 +37,10 @@ fn add_needed(
 ) -> Result<(), AllocError>
     requires graph { IsGraph graph.now }
     requires within { via < length graph.now }
-    requires seen { AreMarks seen.old (spec.is_seen from rows.old) }
+    requires seen { AreFlags seen.old (spec.is_seen from rows.old) }
     requires rows { All (λ r. r.to < length graph.now) rows.old }
     ensures rows { OnOk result (rows.new ≡ spec.found_by graph.now from rows.old via) }
-    ensures seen { OnOk result (AreMarks seen.new (spec.is_seen from rows.new)) }
+    ensures seen { OnOk result (AreFlags seen.new (spec.is_seen from rows.new)) }
     ensures within { OnOk result (All (λ r. r.to < length graph.now) rows.new) }
 {
     for to in needs_of(graph, via) {
@@ -61,8 +61,8 @@ pub fn reached(alloc: Global, graph: &[Rows<u32>], from: u32) -> Result<Rows<Rea
     requires within { from < length graph.now }
     ensures { IfOk result (λ rows. rows ≡ spec.reached graph.now from) }
 {
-    let mut seen = no_marks();
-    mark(&mut seen, from);
+    let mut seen = no_flags();
+    flag(&mut seen, from);
     let mut rows = Rows::new(alloc);
     add_needed(graph, &mut rows, &mut seen, from, from)?;
     for next in 0..graph.len() {

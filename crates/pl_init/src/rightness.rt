@@ -4,13 +4,13 @@ ghost use Rattle.std.specs.Bool.{OnTrue};
 ghost use Rattle.std.specs.List.{list_all, range_with_len};
 ghost use Rattle.pl_init.specs.Graph.{needs, has_number};
 ghost use Rattle.pl_init.specs.declared.relation.ReachRow.{ReachRow as Row};
-ghost use Rattle.pl_init.specs.Marks.{AreMarks, IsGraph};
+ghost use Rattle.pl_init.specs.Flags.{AreFlags, IsGraph};
 ghost use Rattle.pl_init.specs.Found.{is_seen};
 ghost use Rattle.pl_init.specs.Right as spec;
 
 use crate::ReachRow;
+use crate::flags::{flag, no_flags};
 use crate::graph::needs_of;
-use crate::marks::{mark, no_marks};
 use pl_base::Rows;
 use pl_scope::MAX_MEMBERS;
 
@@ -48,25 +48,25 @@ fn is_needed(graph: &[Rows<u32>], member: u32, needed: u32) -> bool
     needs_of(graph, member).iter().any(|to| *to == needed)
 }
 
-/// Whether a row is a step after those whose members are marked.
+/// Whether a row is a step after those whose members are flaged.
 #[tactic(auto, unfolding(crate::specs::Right::is_step))]
 fn is_step(graph: &[Rows<u32>], seen: &[bool], row: &ReachRow) -> bool
     requires graph { IsGraph graph.now }
     requires numbered { spec.is_numbered (length graph.now) row.now ≡ true }
     requires long { length seen.now ≡ MAX_MEMBERS }
-    ensures { (before : List Row) → AreMarks seen.now (is_seen row.now.from before) → result
+    ensures { (before : List Row) → AreFlags seen.now (is_seen row.now.from before) → result
         ≡ spec.is_step graph.now row.now.from before row.now }
 {
     !seen[row.to as usize] && seen[row.via as usize] && is_needed(graph, row.via, row.to)
 }
 
-/// Whether the rows of a member are steps, each after those before it. If so, the members to which they lead are marked.
+/// Whether the rows of a member are steps, each after those before it. If so, the members to which they lead are flaged.
 fn are_steps(graph: &[Rows<u32>], seen: &mut [bool], member: u32, rows: &[ReachRow]) -> bool
     requires graph { IsGraph graph.now }
     requires numbered { spec.are_numbered (length graph.now) rows.now ≡ true }
-    requires seen { AreMarks seen.old (is_seen member []) }
+    requires seen { AreFlags seen.old (is_seen member []) }
     ensures value { result ≡ spec.are_steps graph.now member [] (spec.rows_of rows.now member) }
-    ensures seen { OnTrue result (AreMarks seen.new
+    ensures seen { OnTrue result (AreFlags seen.new
         (is_seen member (spec.rows_of rows.now member))) }
 {
     for row in rows {
@@ -74,13 +74,13 @@ fn are_steps(graph: &[Rows<u32>], seen: &mut [bool], member: u32, rows: &[ReachR
             if !is_step(graph, seen, row) {
                 return false;
             }
-            mark(seen, row.to);
+            flag(seen, row.to);
         }
     }
     true
 }
 
-/// Whether all that a member needs is marked.
+/// Whether all that a member needs is flaged.
 fn holds_needs(graph: &[Rows<u32>], seen: &[bool], member: u32) -> bool
     requires graph { IsGraph graph.now }
     requires within { member < length graph.now }
@@ -90,12 +90,12 @@ fn holds_needs(graph: &[Rows<u32>], seen: &[bool], member: u32) -> bool
     needs_of(graph, member).iter().all(|to| seen[*to as usize])
 }
 
-/// Whether all that a member needs, and all that those need to which its rows lead, is marked.
+/// Whether all that a member needs, and all that those need to which its rows lead, is flaged.
 fn is_closed(graph: &[Rows<u32>], seen: &[bool], member: u32, rows: &[ReachRow]) -> bool
     requires graph { IsGraph graph.now }
     requires within { member < length graph.now }
     requires numbered { spec.are_numbered (length graph.now) rows.now ≡ true }
-    requires seen { AreMarks seen.now (is_seen member (spec.rows_of rows.now member)) }
+    requires seen { AreFlags seen.now (is_seen member (spec.rows_of rows.now member)) }
     ensures { result ≡ spec.is_closed graph.now member (spec.rows_of rows.now member) }
 {
     if !holds_needs(graph, seen, member) {
@@ -115,8 +115,8 @@ fn is_right_at(graph: &[Rows<u32>], rows: &[ReachRow], member: u32) -> bool
     requires numbered { spec.are_numbered (length graph.now) rows.now ≡ true }
     ensures { result ≡ spec.is_right_at graph.now rows.now member }
 {
-    let mut seen = no_marks();
-    mark(&mut seen, member);
+    let mut seen = no_flags();
+    flag(&mut seen, member);
     are_steps(graph, &mut seen, member, rows) && is_closed(graph, &seen, member, rows)
 }
 

@@ -1,7 +1,7 @@
 // Which member reaches which, by a table.
 ghost use Rattle.std.specs.Prelude.{◌≡◌, ◌<◌, ◌≤◌, ◌*◌, ◌+◌, List, length, true};
 ghost use Rattle.std.specs.List.{list_all};
-ghost use Rattle.pl_init.specs.Marks.{IsTable};
+ghost use Rattle.pl_init.specs.Flags.{IsTable};
 ghost use Rattle.pl_init.specs.Right.{is_numbered};
 ghost use Rattle.pl_init.specs.Lawful.{precedes};
 
@@ -11,7 +11,7 @@ use pl_scope::MAX_MEMBERS;
 /// How many pairs of members there are.
 pub const PAIRS: usize = MAX_MEMBERS * MAX_MEMBERS;
 
-/// Rows with a mark for each pair of which a row leads from the first to the second.
+/// Rows with a flag for each pair of which a row leads from the first to the second.
 #[derive(Drop)]
 pub struct Table<'a> {
     /// The rows.
@@ -31,7 +31,7 @@ fn cell(from: u32, to: u32) -> usize
     from as usize * MAX_MEMBERS + to as usize
 }
 
-/// The marks of rows.
+/// The flags of rows.
 #[tactic(auto, using(crate::proofs::TableLaws::no_cells))]
 fn cells_of(count: usize, rows: &[ReachRow]) -> [bool; PAIRS]
     requires few { count ≤ MAX_MEMBERS }

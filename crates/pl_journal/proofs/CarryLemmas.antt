@@ -5,7 +5,7 @@ use Rattle.std.proofs.lemmas.Bool.Decides.{nat_tests}
 use Rattle.std.proofs.lemmas.Bool.{cases_Bool, cond-true, cond-false}
 use Rattle.pl_folder.specs.Disk.{Name, View, State, IsWhole, bytes_of, same, read}
 use Rattle.pl_folder.specs.Since.{Within}
-use Rattle.pl_journal.specs.Names.{beside, is_own, journal, journal_new}
+use Rattle.pl_journal.specs.Names.{beside, is_journal_name, journal, journal_new}
 use Rattle.pl_journal.specs.Rows.{done_from, rows_in, rows_of}
 use Rattle.pl_journal.specs.Spelling.{are_rows}
 use Rattle.pl_journal.specs.declared.row.Row.{Row}
@@ -124,7 +124,7 @@ module _ (before : View) (no_own : HasNoOwn before) (edits : List Edit) (bytes :
   committing_between w = ⊎_elim (untouched_between w) (midway_between w)
 
   -- what is staged is only under own names
-  staged_agree : (i : ℕ) (more : List Edit) (n : Name) → is_own n ≡ false → staged i more before n ≡ before n
+  staged_agree : (i : ℕ) (more : List Edit) (n : Name) → is_journal_name n ≡ false → staged i more before n ≡ before n
   staged_agree i [] n valid = refl
   staged_agree i (Write name some ∷ more) n valid = cond-false (same n (beside i)) _ _ (valid_not n (beside i) valid refl) ∙ staged_agree (i + 1) more n valid
   staged_agree i (Erase name ∷ more) n valid = staged_agree (i + 1) more n valid

@@ -11,21 +11,21 @@ use Rattle.pl_folder.specs.Disk.{Name, View, same}
 use Rattle.pl_journal.specs.declared.constants.TheConstants.{MAX_ROWS}
 use Rattle.pl_journal.specs.declared.names.TheConstants.{BESIDE}
 use Rattle.pl_journal.proofs.NameLemmas.{append_left, apart, begins_so, equal, valid_not_own}
-use Rattle.pl_journal.specs.Names.{is_own, is_row_name, beside, cache, journal, journal_new}
+use Rattle.pl_journal.specs.Names.{is_journal_name, is_row_name, beside, cache, journal, journal_new}
 use Rattle.pl_journal.specs.Rows.{rows_in, done_from, done_by, done, clean, all_done, recovered}
 use Rattle.pl_journal.specs.Spelling.{are_named, are_rows, differ, name_of, misses}
 use Rattle.pl_journal.specs.declared.row.Row.{Row}
 use Rattle.pl_journal.specs.declared.row.Row.TheVariants.{Put, Drop}
 use Rattle.pl_folder.proofs.ImageLaws.{itself}
 
-pub not_beside : (n : Name) (i : ℕ) → is_own n ≡ false → same n (beside i) ≡ false
-not_beside n i valid = apart n (beside i) (λ e. both_ways (is_own n) valid (ap is_own e))
+pub not_beside : (n : Name) (i : ℕ) → is_journal_name n ≡ false → same n (beside i) ≡ false
+not_beside n i valid = apart n (beside i) (λ e. both_ways (is_journal_name n) valid (ap is_journal_name e))
 
-pub own_not : (q name : Name) → is_own q ≡ true → is_own name ≡ false → same q name ≡ false
-own_not q name own valid = apart q name (λ e. both_ways (is_own name) valid (sym (ap is_own e) ∙ own))
+pub own_not : (q name : Name) → is_journal_name q ≡ true → is_journal_name name ≡ false → same q name ≡ false
+own_not q name own valid = apart q name (λ e. both_ways (is_journal_name name) valid (sym (ap is_journal_name e) ∙ own))
 
-pub valid_not : (n name : Name) → is_own n ≡ false → is_own name ≡ true → same n name ≡ false
-valid_not n name valid own = apart n name (λ e. both_ways (is_own n) valid (ap is_own e ∙ own))
+pub valid_not : (n name : Name) → is_journal_name n ≡ false → is_journal_name name ≡ true → same n name ≡ false
+valid_not n name valid own = apart n name (λ e. both_ways (is_journal_name n) valid (ap is_journal_name e ∙ own))
 
 pub beside_apart : (i j : ℕ) → i < 2 ^ 64 → j < 2 ^ 64 → (i ≡ j → ⊥) → same (beside i) (beside j) ≡ false
 beside_apart i j fits fits_too differ = apart (beside i) (beside j) (λ e. differ (decimal_injective i j fits fits_too (append_left BESIDE.now (decimal i) (decimal j) e)))
@@ -37,11 +37,11 @@ beside_length i fits =
     let all : length (beside i) ≡ 13 + length (decimal i) = length-append BESIDE.now (decimal i) in
     (omega (arith, all), omega (arith, all, most))
 
-pub beside_own : (i : ℕ) → is_own (beside i) ≡ true
+pub beside_own : (i : ℕ) → is_journal_name (beside i) ≡ true
 beside_own i = refl
 
 -- a name of the journal's own is one of the program's own
-own_begins : (n : Name) → is_own n ≡ true → is_own_name n ≡ true
+own_begins : (n : Name) → is_journal_name n ≡ true → is_own_name n ≡ true
 unfolding is_own_name
 own_begins n own = ⊎_elim
     (λ hit. ap is_own_name (equal n journal hit))
@@ -52,10 +52,10 @@ own_begins n own = ⊎_elim
     (cases_Bool (same n journal))
 
 -- a name that a row may have is not the journal's own
-pub row_not_own : (n : Name) → is_row_name n ≡ true → is_own n ≡ false
+pub row_not_own : (n : Name) → is_row_name n ≡ true → is_journal_name n ≡ false
 row_not_own n fine = ⊎_elim
-    (λ valid. false_from_ne_true (is_own n) (λ own. both_ways (is_own_name n) (valid_not_own n valid) (own_begins n own)))
-    (λ missed. ap is_own (equal n cache (sym (ap (λ b. b || same n cache) missed) ∙ fine)))
+    (λ valid. false_from_ne_true (is_journal_name n) (λ own. both_ways (is_own_name n) (valid_not_own n valid) (own_begins n own)))
+    (λ missed. ap is_journal_name (equal n cache (sym (ap (λ b. b || same n cache) missed) ∙ fine)))
     (cases_Bool (is_valid_name n))
 
 -- the tests as facts
@@ -66,7 +66,7 @@ Misses n (row ∷ rows) = (same n (name_of row) ≡ false) × Misses n rows
 -- the rows from row i on: their names are not the journal's own and differ, and their numbers fit 64 bits
 abbrev pub AreDistinct : ℕ → List Row → Type 0
 AreDistinct i [] = Unit {0}
-AreDistinct i (row ∷ rows) = (is_own (name_of row) ≡ false) × Misses (name_of row) rows × (i < 2 ^ 64) × AreDistinct (i + 1) rows
+AreDistinct i (row ∷ rows) = (is_journal_name (name_of row) ≡ false) × Misses (name_of row) rows × (i < 2 ^ 64) × AreDistinct (i + 1) rows
 
 not_so : (b : Bool) → not b ≡ true → b ≡ false
 not_so true e = sym e
@@ -112,7 +112,7 @@ none_done i [] v n = refl
 none_done i (Put name ∷ rows) v n = none_done (i + 1) rows v n
 none_done i (Drop name ∷ rows) v n = none_done (i + 1) rows v n
 
-skip : (i : ℕ) (rows : List Row) (keep : ℕ → Bool) (v : View) (n : Name) → is_own n ≡ false → Misses n rows → done_from i rows keep v n ≡ v n
+skip : (i : ℕ) (rows : List Row) (keep : ℕ → Bool) (v : View) (n : Name) → is_journal_name n ≡ false → Misses n rows → done_from i rows keep v n ≡ v n
 skip i [] keep v n valid misses = refl
 skip i (Put name ∷ rows) keep v n valid misses =
     cond-false (keep i && same n (beside i)) _ _ (and_right (keep i) _ (not_beside n i valid))
@@ -124,7 +124,7 @@ skip i (Drop name ∷ rows) keep v n valid misses = cond-false (keep i && same n
 abbrev NotBeside : Name → Type 0
 NotBeside q = (i : ℕ) → same q (beside i) ≡ false
 
-pub own_stays : (q : Name) → is_own q ≡ true → NotBeside q → (i : ℕ) (rows : List Row) (keep : ℕ → Bool) (v : View) → AreDistinct i rows → done_from i rows keep v q ≡ v q
+pub own_stays : (q : Name) → is_journal_name q ≡ true → NotBeside q → (i : ℕ) (rows : List Row) (keep : ℕ → Bool) (v : View) → AreDistinct i rows → done_from i rows keep v q ≡ v q
 own_stays q own other i [] keep v distinct = refl
 own_stays q own other i (Put name ∷ rows) keep v distinct =
     cond-false (keep i && same q (beside i)) _ _ (and_right (keep i) _ (other i))
@@ -201,7 +201,7 @@ dropped false s r is = refl
 
 -- doing more rows of a folder with some done is doing both of the folder, at each name that is not the journal's own
 module _ (keep s u : ℕ → Bool) (either : (j : ℕ) → u j ≡ (keep j || s j)) (v w : View) where
-  pub more_done : (i : ℕ) (rows : List Row) → AreDistinct i rows → Sees i rows keep v w → (n : Name) → is_own n ≡ false → w n ≡ done_from i rows keep v n → done_from i rows s w n ≡ done_from i rows u v n
+  pub more_done : (i : ℕ) (rows : List Row) → AreDistinct i rows → Sees i rows keep v w → (n : Name) → is_journal_name n ≡ false → w n ≡ done_from i rows keep v n → done_from i rows s w n ≡ done_from i rows u v n
   more_done i [] distinct seen n valid is = is
   more_done i (Put name ∷ rows) distinct seen n valid is =
       let no : same n (beside i) ≡ false = not_beside n i valid in
@@ -236,11 +236,11 @@ module _ (keep s u : ℕ → Bool) (either : (j : ℕ) → u j ≡ (keep j || s 
       ∙ sym (cond-false (u i && same n name) _ _ (and_right (u i) _ missed)))
       (cases_Bool (same n name))
 
-pub cleaned : (v w : View) (n : Name) → (is_own n ≡ false → v n ≡ w n) → clean v n ≡ clean w n
+pub cleaned : (v w : View) (n : Name) → (is_journal_name n ≡ false → v n ≡ w n) → clean v n ≡ clean w n
 cleaned v w n agree = ⊎_elim
-    (λ own. cond-true (is_own n) _ _ own ∙ sym (cond-true (is_own n) _ _ own))
-    (λ valid. cond-false (is_own n) _ _ valid ∙ agree valid ∙ sym (cond-false (is_own n) _ _ valid))
-    (cases_Bool (is_own n))
+    (λ own. cond-true (is_journal_name n) _ _ own ∙ sym (cond-true (is_journal_name n) _ _ own))
+    (λ valid. cond-false (is_journal_name n) _ _ valid ∙ agree valid ∙ sym (cond-false (is_journal_name n) _ _ valid))
+    (cases_Bool (is_journal_name n))
 
 pub recovered_by : (v : View) (rows : List Row) → rows_in (v journal) ≡ Some rows → (n : Name) → recovered v n ≡ clean (done_from 0 rows (λ _. true) v) n
 unfolding recovered

@@ -103,7 +103,7 @@ pub then_told : {M N P : Effect} {e : Ending} {a b c : Seen} → Calls Done M a 
 then_told {e = e} {a = a} {b = b} {c = c} first second both together = record {
   tells = second.tells ∙ first.tells;
   records = second.records ∙ first.records;
-  place = second.place ∙ first.place;
+  referent = second.referent ∙ first.referent;
   files = λ told. both told (first.files told) (second.files (first.tells ∙ told));
   disk = λ told. together told (first.disk told) (second.disk (first.records ∙ told));
   count = counted_then (is_broken e) a.faults b.faults c.faults first.count second.count;
@@ -114,7 +114,7 @@ pub makes_told : {M P : Effect} {e f : Ending} {a b : Seen} → is_broken e ≡ 
 makes_told {a = a} {b = b} same_end call other along = record {
   tells = call.tells;
   records = call.records;
-  place = call.place;
+  referent = call.referent;
   files = λ told. other told (call.files told);
   disk = λ told. along told (call.disk told);
   count = subst (λ broken. Counted broken a.faults b.faults) same_end call.count;
@@ -128,7 +128,7 @@ pub no_calls : {P : Effect} (e : Ending) (a : Seen) → is_broken e ≡ false �
 no_calls e a quiet same_files same_disk = record {
   tells = refl;
   records = refl;
-  place = refl;
+  referent = refl;
   files = same_files;
   disk = same_disk;
   count = subst (λ broken. Counted broken a.faults a.faults) (sym quiet) (no_faults a.faults);

@@ -2,7 +2,7 @@
 use Rattle.std.proofs.Common.{◌≡◌, ◌⊎◌, inl, inr, ⊎_elim, ℕ, ◌+◌, ◌≤◌, ◌<◌, ◌^◌, ◌&&◌, ◌||◌, Bool, true, false, cond, List, [], ◌∷◌, Option, Some, None, is_some, refl, sym, ◌∙◌, ap, subst, arith}
 use Rattle.std.proofs.lemmas.Bool.{both_ways, cases_Bool, and_left, and_right, cond-true, cond-false}
 use Rattle.pl_folder.specs.Disk.{Name, View, same}
-use Rattle.pl_journal.specs.Names.{is_own, beside, journal, journal_new}
+use Rattle.pl_journal.specs.Names.{is_journal_name, beside, journal, journal_new}
 use Rattle.pl_journal.specs.Rows.{all_done, rows_in, rows_of, done_from, done, clean, recovered}
 use Rattle.pl_journal.specs.Spelling.{are_rows}
 use Rattle.pl_journal.specs.declared.row.Row.{Row}
@@ -68,7 +68,7 @@ module _ (files : View) (no_own : HasNoOwn files) where
   nothing_done s n = done_is s files [] (ap rows_in (no_own journal refl)) n
 
   pub clean_is : Same (clean files) files
-  clean_is n = ⊎_elim (λ own. cond-true (is_own n) _ _ own ∙ sym (no_own n own)) (λ valid. cond-false (is_own n) _ _ valid) (cases_Bool (is_own n))
+  clean_is n = ⊎_elim (λ own. cond-true (is_journal_name n) _ _ own ∙ sym (no_own n own)) (λ valid. cond-false (is_journal_name n) _ _ valid) (cases_Bool (is_journal_name n))
 
   pub nothing_recovered : Same (recovered files) files
   nothing_recovered n = recovered_by files [] (ap rows_in (no_own journal refl)) n ∙ clean_is n
@@ -81,7 +81,7 @@ module _ (files : View) (no_own : HasNoOwn files) where
 
 -- what a folder stands for has no own name
 pub recovered_no_own : (v : View) (rows : List Row) → rows_in (v journal) ≡ Some rows → HasNoOwn (recovered v)
-recovered_no_own v rows is n own = recovered_by v rows is n ∙ cond-true (is_own n) _ _ own
+recovered_no_own v rows is n own = recovered_by v rows is n ∙ cond-true (is_journal_name n) _ _ own
 
 -- what stands for the recovered folder stands for the folder
 pub stands_recovered : (v : View) (rows : List Row) → rows_in (v journal) ≡ Some rows → (w : View) → StandsFor (recovered v) w → StandsFor v w
@@ -91,7 +91,7 @@ stands_recovered v rows is w stands = record {
     λ n valid. (stands.any s).1 n valid
         ∙ nothing_done (recovered v) no_own (stands.any s).0 n
         ∙ recovered_by v rows is n
-        ∙ cond-false (is_own n) _ _ valid
+        ∙ cond-false (is_journal_name n) _ _ valid
         ∙ sym (done_is (λ _. true) v rows is n),
   );
   all = λ n. stands.all n ∙ nothing_recovered (recovered v) no_own n;
@@ -118,7 +118,7 @@ and_true : (b : Bool) → (b && true) ≡ b
 and_true true = refl
 and_true false = refl
 
-mixed_is : (before : View) (i : ℕ) (edits : List Edit) (keep : ℕ → Bool) (w : View) → Holds i edits w → (n : Name) → is_own n ≡ false → w n ≡ before n → done_from i (rows_for edits) keep w n ≡ mixed i edits keep before n
+mixed_is : (before : View) (i : ℕ) (edits : List Edit) (keep : ℕ → Bool) (w : View) → Holds i edits w → (n : Name) → is_journal_name n ≡ false → w n ≡ before n → done_from i (rows_for edits) keep w n ≡ mixed i edits keep before n
 mixed_is before i [] keep w held n valid is = is
 mixed_is before i (Write name bytes ∷ edits) keep w held n valid is =
     cond-false (keep i && same n (beside i)) _ _ (and_right (keep i) _ (not_beside n i valid))
@@ -126,7 +126,7 @@ mixed_is before i (Write name bytes ∷ edits) keep w held n valid is =
     ∙ ap (λ b. cond (keep i && b) (Some bytes) (mixed (i + 1) edits keep before n)) (and_true (same n name))
 mixed_is before i (Erase name ∷ edits) keep w held n valid is = ap (λ r. cond (keep i && same n name) None r) (mixed_is before (i + 1) edits keep w held n valid is)
 
-staged_valid : (i : ℕ) (edits : List Edit) (v : View) (n : Name) → is_own n ≡ false → staged i edits v n ≡ v n
+staged_valid : (i : ℕ) (edits : List Edit) (v : View) (n : Name) → is_journal_name n ≡ false → staged i edits v n ≡ v n
 staged_valid i [] v n valid = refl
 staged_valid i (Write name bytes ∷ edits) v n valid = cond-false (same n (beside i)) _ _ (not_beside n i valid) ∙ staged_valid (i + 1) edits v n valid
 staged_valid i (Erase name ∷ edits) v n valid = staged_valid (i + 1) edits v n valid
@@ -137,7 +137,7 @@ staged_other q other i (Write name bytes ∷ edits) v = cond-false (same q (besi
 staged_other q other i (Erase name ∷ edits) v = staged_other q other (i + 1) edits v
 
 -- of own names, all rows leave none
-own_gone : (before : View) → HasNoOwn before → (i : ℕ) (edits : List Edit) (w : View) → AreDistinct i (rows_for edits) → (n : Name) → is_own n ≡ true → w n ≡ staged i edits before n → done_from i (rows_for edits) (λ _. true) w n ≡ None
+own_gone : (before : View) → HasNoOwn before → (i : ℕ) (edits : List Edit) (w : View) → AreDistinct i (rows_for edits) → (n : Name) → is_journal_name n ≡ true → w n ≡ staged i edits before n → done_from i (rows_for edits) (λ _. true) w n ≡ None
 own_gone before no_own i [] w distinct n own is = is ∙ no_own n own
 own_gone before no_own i (Write name bytes ∷ edits) w distinct n own is = ⊎_elim
     (λ hit. cond-true (same n (beside i)) _ _ hit)
@@ -149,7 +149,7 @@ own_gone before no_own i (Write name bytes ∷ edits) w distinct n own is = ⊎_
 own_gone before no_own i (Erase name ∷ edits) w distinct n own is =
     cond-false (same n name) _ _ (own_not n name own distinct.0) ∙ own_gone before no_own (i + 1) edits w distinct.3 n own is
 
-mixed_own : (i : ℕ) (edits : List Edit) (keep : ℕ → Bool) (v : View) → AreDistinct i (rows_for edits) → (n : Name) → is_own n ≡ true → mixed i edits keep v n ≡ v n
+mixed_own : (i : ℕ) (edits : List Edit) (keep : ℕ → Bool) (v : View) → AreDistinct i (rows_for edits) → (n : Name) → is_journal_name n ≡ true → mixed i edits keep v n ≡ v n
 mixed_own i [] keep v distinct n own = refl
 mixed_own i (Write name bytes ∷ edits) keep v distinct n own = cond-false (keep i && same n name) _ _ (and_right (keep i) _ (own_not n name own distinct.0)) ∙ mixed_own (i + 1) edits keep v distinct.3 n own
 mixed_own i (Erase name ∷ edits) keep v distinct n own = cond-false (keep i && same n name) _ _ (and_right (keep i) _ (own_not n name own distinct.0)) ∙ mixed_own (i + 1) edits keep v distinct.3 n own
@@ -167,14 +167,14 @@ module _ (before : View) (no_own : HasNoOwn before) (edits : List Edit) (bytes :
   pub committed_journal : rows_in (committed journal) ≡ Some (rows_for edits)
   committed_journal = spelled
 
-  committed_valid : (n : Name) → is_own n ≡ false → committed n ≡ before n
+  committed_valid : (n : Name) → is_journal_name n ≡ false → committed n ≡ before n
   committed_valid n valid =
       cond-false (same n journal) _ _ (valid_not n journal valid refl)
       ∙ cond-false (same n journal_new) _ _ (valid_not n journal_new valid refl)
       ∙ cond-false (same n journal_new) _ _ (valid_not n journal_new valid refl)
       ∙ staged_valid 0 edits before n valid
 
-  committed_own : (n : Name) → is_own n ≡ true → same n journal ≡ false → committed n ≡ staged 0 edits before n
+  committed_own : (n : Name) → is_journal_name n ≡ true → same n journal ≡ false → committed n ≡ staged 0 edits before n
   committed_own n own other = cond-false (same n journal) _ _ other ∙ ⊎_elim
       (λ hit. cond-true (same n journal_new) _ _ hit ∙ sym (no_own n own) ∙ sym (staged_other n (λ i. apart n (beside i) (λ e. both_ways (same n journal_new) (subst (λ q. same q journal_new ≡ false) (sym e) refl) hit)) 0 edits before))
       (λ missed. cond-false (same n journal_new) _ _ missed ∙ cond-false (same n journal_new) _ _ missed)
@@ -195,16 +195,16 @@ module _ (before : View) (no_own : HasNoOwn before) (edits : List Edit) (bytes :
       (cases_Bool (same n journal))
       ∙ sym (mixed_own 0 edits (λ _. true) before distinct n own ∙ no_own n own))
       (λ valid. cond-false (same n journal) _ _ (valid_not n journal valid refl) ∙ committed_mixed (λ _. true) n valid)
-      (cases_Bool (is_own n))
+      (cases_Bool (is_journal_name n))
 
   pub applied_no_own : HasNoOwn (applied edits before)
   applied_no_own n own = mixed_own 0 edits (λ _. true) before distinct n own ∙ no_own n own
 
   recovered_applied : Same (recovered committed) (applied edits before)
   recovered_applied n = recovered_by committed (rows_for edits) committed_journal n ∙ ⊎_elim
-      (λ own. cond-true (is_own n) _ _ own ∙ sym (applied_no_own n own))
-      (λ valid. cond-false (is_own n) _ _ valid ∙ committed_mixed (λ _. true) n valid)
-      (cases_Bool (is_own n))
+      (λ own. cond-true (is_journal_name n) _ _ own ∙ sym (applied_no_own n own))
+      (λ valid. cond-false (is_journal_name n) _ _ valid ∙ committed_mixed (λ _. true) n valid)
+      (cases_Bool (is_journal_name n))
 
   -- what stands for the committed folder is between before and after
   pub committed_between : (w : View) → StandsFor committed w → StandsBetween before edits w

@@ -1,6 +1,6 @@
 -- How a run of calls goes on.
 use Rattle.std.proofs.Common.{◌≡◌, inl, inr, ⊎_elim, ℕ, ◌≤◌, List, [], ◌∷◌, length, ◌⊎◌, ◌<◌, sym, subst, arith, take}
-use Rattle.pl_folder.specs.Disk.{Name, View, State, Disk, IsImage, after, clock}
+use Rattle.pl_folder.specs.Disk.{Name, View, State, Disk, IsCrashImage, after, clock}
 use Rattle.pl_folder.specs.Effects.{GrowsDisk, StepsDisk, StepsDiskOrNot, Waited}
 use Rattle.pl_folder.specs.Seen.{Ending, Done, Broken, Undone}
 use Rattle.pl_folder.specs.States.{appended}
@@ -69,7 +69,7 @@ none_later (s ∷ past) t v le (inl here) = let lt : t ≤ length past = here.0 
 none_later (s ∷ past) t v le (inr there) = none_later past t v (omega arith) there
 
 -- each image since the start is one of the start's, or has P; and only at the start's own moment
-pub since_start : (old new : Disk) (P : View → Type 0) → Keeps old new P → (v : View) → Since new (clock old) v → IsImage old.now v ⊎ P v
+pub since_start : (old new : Disk) (P : View → Type 0) → Keeps old new P → (v : View) → Since new (clock old) v → IsCrashImage old.now v ⊎ P v
 since_start old new P keeps v had = ⊎_elim
     (λ was. ⊎_elim (λ here. inl here.1) (λ there. absurd (none_later old.past (length old.past) v (omega arith) there)) was)
     inr (keeps.each (clock old) v had)

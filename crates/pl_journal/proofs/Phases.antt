@@ -12,7 +12,7 @@ use Rattle.pl_folder.specs.States.{with_file, created, appended, appended_to, fi
 use Rattle.pl_journal.specs.FileNames.{name_text}
 use Rattle.pl_journal.specs.declared.file_name.FileName.{FileName}
 use Rattle.pl_folder.specs.Since.{Within, Keeps}
-use Rattle.pl_journal.specs.Names.{is_own, beside, journal, journal_new}
+use Rattle.pl_journal.specs.Names.{is_journal_name, beside, journal, journal_new}
 use Rattle.pl_journal.specs.Rows.{done_from}
 use Rattle.pl_journal.specs.Spelling.{are_rows}
 use Rattle.pl_journal.specs.declared.row.Row.{Row}
@@ -33,7 +33,7 @@ other_firm files new f at other firm = ⊎_elim
     (cases_Bool (at == f))
 
 -- a file is written under an own name
-module _ (before : View) (name : Name) (own : is_own name ≡ true) (other : same journal name ≡ false) where
+module _ (before : View) (name : Name) (own : is_journal_name name ≡ true) (other : same journal name ≡ false) where
   still : (u v : View) → Untouched before u → Apart name u v → Untouched before v
   still u v old apart = record {
     agree = λ n valid. apart n (valid_not n name valid own) ∙ old.agree n valid;
@@ -43,7 +43,7 @@ module _ (before : View) (name : Name) (own : is_own name ≡ true) (other : sam
   -- while it is written: what its file has so far
   pub record Putting (r : View) (f : ℕ) (bytes : List ℕ) (s : State) : Type 0 where
     pub writing : IsWriting name f s
-    pub others : (n : Name) → is_own n ≡ true → same n name ≡ false → (at : ℕ) → names_of s n ≡ Some at → (s.files at).is_firm ≡ true
+    pub others : (n : Name) → is_journal_name n ≡ true → same n name ≡ false → (at : ℕ) → names_of s n ≡ Some at → (s.files at).is_firm ≡ true
     pub within : Within s (Untouched before)
     pub reads : Apart name r (read s)
     pub has : (s.files f).bytes ≡ bytes
@@ -286,7 +286,7 @@ module _ (v : View) (rows : List Row) (distinct : AreDistinct 0 rows) where
       none false x e = e
   gone_cut i (Drop m ∷ rows) name u w is gone = gone_cut (i + 1) rows name u w is gone
 
-  pub clearing_cut : (name : Name) → is_own name ≡ true → (u w : View) → ((n : Name) → w n ≡ cond (same n name) None (u n)) → Clearing v rows u → Clearing v rows w
+  pub clearing_cut : (name : Name) → is_journal_name name ≡ true → (u w : View) → ((n : Name) → w n ≡ cond (same n name) None (u n)) → Clearing v rows u → Clearing v rows w
   clearing_cut name own u w is old = record {
     agree = λ n valid. is n ∙ cond-false (same n name) _ _ (valid_not n name valid own) ∙ old.agree n valid;
     gone = gone_cut 0 rows name u w is old.gone;
@@ -303,7 +303,7 @@ module _ (v : View) (rows : List Row) (distinct : AreDistinct 0 rows) where
     within = settled_within s (Clearing v rows) (all_clearing (read s) (all_read v rows s doing));
   }
 
-  pub removed_clearing : (name : Name) → is_own name ≡ true → (s : State) → IsClearing v rows s → IsClearing v rows (removed name s)
+  pub removed_clearing : (name : Name) → is_journal_name name ≡ true → (s : State) → IsClearing v rows s → IsClearing v rows (removed name s)
   removed_clearing name own s clearing = record {
     whole = removed_whole name s clearing.whole;
     within = λ w image. ⊎_elim (clearing.within w) (λ new. clearing_cut name own new.0 w new.2 (clearing.within new.0 new.1)) (removed_image name s w image);
@@ -328,10 +328,10 @@ module _ (v : View) (rows : List Row) (distinct : are_rows rows ≡ true) where
     at_settle_rows d1 is = subst (λ e. IsClearing v rows e.now × Same (read e.now) (done_from 0 rows (λ _. true) v)) (sym is) (settled_clearing v rows (distinct_test rows distinct) d.now doing, λ n. settled_reads d.now n ∙ all_read v rows d.now doing n)
 
   module _ (d : Disk) (clearing : IsClearing v rows d.now) where
-    pub keeps_remove : (name : Name) → is_own name ≡ true → (e : Ending) (d1 : Disk) → StepsDisk (removed name) e d d1 → Keeps d d1 (Clearing v rows)
+    pub keeps_remove : (name : Name) → is_journal_name name ≡ true → (e : Ending) (d1 : Disk) → StepsDisk (removed name) e d d1 → Keeps d d1 (Clearing v rows)
     keeps_remove name own e d1 = does d d1 (Clearing v rows) clearing.within e (removed name) (removed_clearing v rows (distinct_test rows distinct) name own d.now clearing).within
 
-    pub at_remove : (name : Name) → is_own name ≡ true → (d1 : Disk) → d1 ≡ after (removed name d.now) d → IsClearing v rows d1.now
+    pub at_remove : (name : Name) → is_journal_name name ≡ true → (d1 : Disk) → d1 ≡ after (removed name d.now) d → IsClearing v rows d1.now
     at_remove name own d1 is = subst (λ e. IsClearing v rows e.now) (sym is) (removed_clearing v rows (distinct_test rows distinct) name own d.now clearing)
 
     pub keeps_settle_clear : (e : Ending) (d1 : Disk) → StepsDiskOrNot settled e d d1 → Keeps d d1 (Clearing v rows)

@@ -3,13 +3,13 @@ use Rattle.std.proofs.Common.{◌≡◌, inl, inr, ⊎_elim, ℕ, ◌+◌, ◌<�
 use Rattle.std.specs.declared.alloc.Global.{Global}
 use Rattle.std.proofs.lemmas.Bool.{both_ways, cases_Bool, and_left, and_right, and_parts, eqb-true, eq-eqb, false_from_ne_true, cond-true, cond-false}
 use Rattle.std.proofs.lemmas.Bool.Decides.{nat_tests}
-use Rattle.pl_folder.specs.Disk.{Name, View, State, Disk, IsImage, IsWhole, same, read, after, waited}
+use Rattle.pl_folder.specs.Disk.{Name, View, State, Disk, IsCrashImage, IsWhole, same, read, after, waited}
 use Rattle.pl_folder.specs.Since.{Within, Keeps}
 use Rattle.pl_folder.specs.Effects.{StepsDiskOrNot, Waits}
 use Rattle.pl_folder.specs.Seen.{Ending, Done, Broken, Undone}
 use Rattle.pl_folder.specs.States.{removed, settled}
 use Rattle.pl_journal.specs.Lists.{IsListOf, any_own, is_listed, texts}
-use Rattle.pl_journal.specs.Names.{is_own, beside, journal}
+use Rattle.pl_journal.specs.Names.{is_journal_name, beside, journal}
 use Rattle.pl_journal.specs.Rows.{rows_in, done_from, recovered}
 use Rattle.pl_journal.specs.Spelling.{are_rows}
 use Rattle.pl_journal.specs.declared.row.Row.{Row}
@@ -44,7 +44,7 @@ looks_on a b c first second = record {
   waits = (second.waits.0 + first.waits.0, second.waits.1 ∙ ap (waited second.waits.0) first.waits.1 ∙ waited_more second.waits.0 first.waits.0 a);
   now = second.now ∙ first.now;
   later = omega (arith, first.later, second.later);
-  each = λ t v had. ⊎_elim (first.each t v) (λ image. inr (subst (λ s. IsImage s v) first.now image)) (second.each t v had);
+  each = λ t v had. ⊎_elim (first.each t v) (λ image. inr (subst (λ s. IsCrashImage s v) first.now image)) (second.each t v had);
 }
 
 pub no_look : (d new : Disk) → new ≡ d → Looks d new
@@ -93,7 +93,7 @@ pub calm_clearing : (v : View) (s : State) → IsCalm v s → IsClearing v [] s
 calm_clearing v s calm = record { whole = calm.whole; within = λ w image. all_clearing v [] tt w (λ n. sym (calm.only w image n)) }
 
 -- own names are no more than they were
-pub own_done : (i : ℕ) (rows : List Row) (keep : ℕ → Bool) (v : View) → AreDistinct i rows → (n : Name) → is_own n ≡ true → is_some (done_from i rows keep v n) ≡ true → is_some (v n) ≡ true
+pub own_done : (i : ℕ) (rows : List Row) (keep : ℕ → Bool) (v : View) → AreDistinct i rows → (n : Name) → is_journal_name n ≡ true → is_some (done_from i rows keep v n) ≡ true → is_some (v n) ≡ true
 own_done i [] keep v distinct n own some = some
 own_done i (Put name ∷ rows) keep v distinct n own some = ⊎_elim
     (λ hit. absurd (both_ways false refl (sym (ap is_some (cond-true (keep i && same n (beside i)) _ _ hit)) ∙ some)))
@@ -131,7 +131,7 @@ removed_listed name names s all n own some =
     let parts = cut_some (same n name) (read s n) (sym (ap is_some (removed_reads name s n)) ∙ some) in
     or_left (same n name) (is_listed n names) parts.0 (all n own parts.1)
 
-pub passed_listed : (name : Name) (names : List Name) (s : State) → is_own name ≡ false → OwnAreIn (name ∷ names) s → OwnAreIn names s
+pub passed_listed : (name : Name) (names : List Name) (s : State) → is_journal_name name ≡ false → OwnAreIn (name ∷ names) s → OwnAreIn names s
 passed_listed name names s valid all n own some = or_left (same n name) (is_listed n names) (own_not n name own valid) (all n own some)
 
 -- no own name is left
@@ -144,21 +144,21 @@ ends_recovered v rows s spelled clearing none = record {
   settled = record {
     whole = settled_whole s clearing.whole;
     only = settled_within s (Same (recovered v)) (λ n. recovered_by v rows spelled n ∙ ⊎_elim
-        (λ own. cond-true (is_own n) _ _ own ∙ sym (none_some (read s n) (λ some. both_ways false refl (none n own some))))
-        (λ valid. cond-false (is_own n) _ _ valid ∙ sym ((clearing.within (read s) (read_image s)).agree n valid))
-        (cases_Bool (is_own n)));
-    no_own = λ n own. recovered_by v rows spelled n ∙ cond-true (is_own n) _ _ own;
+        (λ own. cond-true (is_journal_name n) _ _ own ∙ sym (none_some (read s n) (λ some. both_ways false refl (none n own some))))
+        (λ valid. cond-false (is_journal_name n) _ _ valid ∙ sym ((clearing.within (read s) (read_image s)).agree n valid))
+        (cases_Bool (is_journal_name n)));
+    no_own = λ n own. recovered_by v rows spelled n ∙ cond-true (is_journal_name n) _ _ own;
   };
   rows = rows;
   spelled = spelled;
 }
 
 -- nothing to recover
-any_own_listed : (names : List Name) (n : Name) → is_own n ≡ true → is_listed n names ≡ true → any_own names ≡ true
+any_own_listed : (names : List Name) (n : Name) → is_journal_name n ≡ true → is_listed n names ≡ true → any_own names ≡ true
 any_own_listed [] n own listed = absurd (both_ways false refl listed)
 any_own_listed (x ∷ names) n own listed = ⊎_elim
-    (λ hit. ap (λ b. b || any_own names) (ap is_own (sym (equal n x hit)) ∙ own))
-    (λ missed. or_right (is_own x) (any_own names) (any_own_listed names n own (or_left (same n x) (is_listed n names) missed listed)))
+    (λ hit. ap (λ b. b || any_own names) (ap is_journal_name (sym (equal n x hit)) ∙ own))
+    (λ missed. or_right (is_journal_name x) (any_own names) (any_own_listed names n own (or_left (same n x) (is_listed n names) missed listed)))
     (cases_Bool (same n x))
   where
     or_right : (a b : Bool) → b ≡ true → (a || b) ≡ true
@@ -174,10 +174,10 @@ has_own_some v names listed no_own = at names (λ n own some. both_ways false re
     or_false : (a b : Bool) → a ≡ false → b ≡ false → (a || b) ≡ false
     or_false a b p q = ap (λ x. x || b) p ∙ q
 
-    at : (names : List Name) → ((n : Name) → is_own n ≡ true → is_listed n names ≡ true → ⊥) → any_own names ≡ false
+    at : (names : List Name) → ((n : Name) → is_journal_name n ≡ true → is_listed n names ≡ true → ⊥) → any_own names ≡ false
     at [] none = refl
-    at (x ∷ names) none = or_false (is_own x) (any_own names)
-        (Rattle.std.proofs.lemmas.Bool.false_from_ne_true (is_own x) (λ own. none x own (ap (λ b. b || is_listed x names) (itself x))))
+    at (x ∷ names) none = or_false (is_journal_name x) (any_own names)
+        (Rattle.std.proofs.lemmas.Bool.false_from_ne_true (is_journal_name x) (λ own. none x own (ap (λ b. b || is_listed x names) (itself x))))
         (at names (λ n own is. none n own (or_after (same n x) (is_listed n names) is)))
       where
         or_after : (a b : Bool) → b ≡ true → (a || b) ≡ true
@@ -189,7 +189,7 @@ calm_recovered v s calm no_own = record {
   settled = record {
     whole = calm.whole;
     only = λ w image n. recovered_by v [] (ap rows_in (no_own journal refl)) n ∙ clean_is v no_own n ∙ calm.only w image n;
-    no_own = λ n own. recovered_by v [] (ap rows_in (no_own journal refl)) n ∙ cond-true (is_own n) _ _ own;
+    no_own = λ n own. recovered_by v [] (ap rows_in (no_own journal refl)) n ∙ cond-true (is_journal_name n) _ _ own;
   };
   rows = [];
   spelled = ap rows_in (no_own journal refl);

@@ -20,7 +20,7 @@ use Rattle.pl_journal.specs.Faults.{journal_ending, of_folder, part_ending}
 use Rattle.pl_journal.specs.Leaves.{IsCalm, Looks, OwnAreIn, RecoversDisk, fault_of}
 use Rattle.pl_journal.specs.Lists.{IsListOf, any_own, is_listed, texts}
 use Rattle.pl_journal.specs.Meaning.{Same, StandsFor}
-use Rattle.pl_journal.specs.Names.{is_own, journal}
+use Rattle.pl_journal.specs.Names.{is_journal_name, journal}
 use Rattle.pl_journal.specs.Parts.{AreNames, AtDone, AtEnd, DoRows, DoesJournal, DoesJournalOf, DoesRows, CanDo, IsAtRest, IsRested, Looking, Recovers, RecoversSettled, RemovesIfOwn, RemovesOwn, RemovesTo, StepsSpelled, StillClears, without_own, without_owns}
 use Rattle.pl_journal.specs.Phases.{AreSteps, Clearing, IsClearing, IsDoing, Midway}
 use Rattle.pl_journal.specs.Reading.{rows_spelled}
@@ -210,12 +210,12 @@ module _ (names : List Name) (a : Seen) (law : IsFolder a) (are : AreNames a nam
 
 -- ---- own names go
 
-pub passes_name : (name : List ℕ) → is_own name ≡ false → (a : Seen) → Calls Done (RemovesIfOwn name) a a
+pub passes_name : (name : List ℕ) → is_journal_name name ≡ false → (a : Seen) → Calls Done (RemovesIfOwn name) a a
 passes_name name valid a = no_calls Done a refl
-    (λ told. ((λ n. sym (cond-false (is_own name && same n name) None (get a.files n) (ap (λ b. b && same n name) valid))), λ v rows fine clearing. clearing))
+    (λ told. ((λ n. sym (cond-false (is_journal_name name && same n name) None (get a.files n) (ap (λ b. b && same n name) valid))), λ v rows fine clearing. clearing))
     (λ told. ((λ v rows fine clearing. (starts a.disk (Clearing v rows) clearing.within, clearing)), λ names all. passed_listed name names a.disk.now valid all))
 
-still_clears : (e : Ending) (name : List ℕ) → is_own name ≡ true → (x y : Files) → StepsFiles (λ files. finite.remove files name) e x y → StillClears x y
+still_clears : (e : Ending) (name : List ℕ) → is_journal_name name ≡ true → (x y : Files) → StepsFiles (λ files. finite.remove files name) e x y → StillClears x y
 still_clears e name own x y step v rows fine clearing = by_ending e step
   where
     as_before : y ≡ x → Clearing v rows (get y)
@@ -230,7 +230,7 @@ still_clears e name own x y step v rows fine clearing = by_ending e step
     by_ending Broken (inr is) = gone is
     by_ending Undone is = as_before is
 
-pub removes_name : {e : Ending} {a b : Seen} (name : List ℕ) → is_own name ≡ true → Calls e (Does (removes name)) a b → Calls e (RemovesIfOwn name) a b
+pub removes_name : {e : Ending} {a b : Seen} (name : List ℕ) → is_journal_name name ≡ true → Calls e (Does (removes name)) a b → Calls e (RemovesIfOwn name) a b
 removes_name {e = e} {a = a} {b = b} name own call = makes_told refl call
     (λ told files. (
       when_done e (λ done n.
@@ -249,15 +249,15 @@ none_removed names a = no_calls Done a refl (λ told. ((λ n. refl), λ v rows f
 one_more_name : (name : Name) (rest : List Name) (v : View) (n : Name) → without_owns rest (without_own name v) n ≡ without_owns (name ∷ rest) v n
 one_more_name name rest v n = ⊎_elim
     (λ hit.
-    let both : is_own n ≡ is_own name = ap is_own (equal n name hit) in
-    ap (λ s. cond (is_own n && is_listed n rest) None (cond (is_own name && s) None (v n))) hit
-    ∙ ap (λ o. cond (is_own n && is_listed n rest) None (cond (o && true) None (v n))) (sym both)
-    ∙ dropped (is_own n) (is_listed n rest) (v n)
-    ∙ sym (ap (λ s. cond (is_own n && (s || is_listed n rest)) None (v n)) hit))
+    let both : is_journal_name n ≡ is_journal_name name = ap is_journal_name (equal n name hit) in
+    ap (λ s. cond (is_journal_name n && is_listed n rest) None (cond (is_journal_name name && s) None (v n))) hit
+    ∙ ap (λ o. cond (is_journal_name n && is_listed n rest) None (cond (o && true) None (v n))) (sym both)
+    ∙ dropped (is_journal_name n) (is_listed n rest) (v n)
+    ∙ sym (ap (λ s. cond (is_journal_name n && (s || is_listed n rest)) None (v n)) hit))
     (λ missed.
-    ap (λ s. cond (is_own n && is_listed n rest) None (cond (is_own name && s) None (v n))) missed
-    ∙ kept (is_own name) (is_own n && is_listed n rest) (v n)
-    ∙ sym (ap (λ s. cond (is_own n && (s || is_listed n rest)) None (v n)) missed))
+    ap (λ s. cond (is_journal_name n && is_listed n rest) None (cond (is_journal_name name && s) None (v n))) missed
+    ∙ kept (is_journal_name name) (is_journal_name n && is_listed n rest) (v n)
+    ∙ sym (ap (λ s. cond (is_journal_name n && (s || is_listed n rest)) None (v n)) missed))
     (cases_Bool (same n name))
   where
     dropped : (o l : Bool) (x : Option (List ℕ)) → cond (o && l) None (cond (o && true) None x) ≡ cond (o && true) None x
@@ -291,15 +291,15 @@ cleared_clean names v rows fine are n = ⊎_elim
     (λ own.
     ap (λ o. cond (o && is_listed n names) None (done_from 0 rows (λ _. true) v n)) own
     ∙ by_listed own (is_listed n names) (are n)
-    ∙ sym (cond-true (is_own n) _ _ own))
-    (λ valid. ap (λ o. cond (o && is_listed n names) None (done_from 0 rows (λ _. true) v n)) valid ∙ sym (cond-false (is_own n) _ _ valid))
-    (cases_Bool (is_own n))
+    ∙ sym (cond-true (is_journal_name n) _ _ own))
+    (λ valid. ap (λ o. cond (o && is_listed n names) None (done_from 0 rows (λ _. true) v n)) valid ∙ sym (cond-false (is_journal_name n) _ _ valid))
+    (cases_Bool (is_journal_name n))
   where
     none_of : (o : Option (List ℕ)) → (is_some o ≡ true → ⊥) → o ≡ None
     none_of None never = refl
     none_of (Some x) never = absurd (never refl)
 
-    by_listed : is_own n ≡ true → (b : Bool) → b ≡ is_some (v n) → cond b None (done_from 0 rows (λ _. true) v n) ≡ None
+    by_listed : is_journal_name n ≡ true → (b : Bool) → b ≡ is_some (v n) → cond b None (done_from 0 rows (λ _. true) v n) ≡ None
     by_listed own true is = refl
     by_listed own false is = none_of (done_from 0 rows (λ _. true) v n) (λ some. both_ways (is_some (v n)) (sym is) (own_done 0 rows (λ _. true) v (distinct_test rows fine) n own some))
 
@@ -345,7 +345,7 @@ module _ (names : List Name) (a : Seen) (law : IsFolder a) (are : AreNames a nam
       })
     where
       emptied : a.tells ≡ true → AtDone e (Same (without_owns [] (get c.files)) (without_owns names (get b.files))) → AtDone e (Same (get c.files) (without_owns names (get b.files)))
-      emptied told reads = at_done e (λ is n. sym (cond-false (is_own n && false) None (get c.files n) (Rattle.std.proofs.lemmas.Bool.and_right (is_own n) false refl)) ∙ is n) reads
+      emptied told reads = at_done e (λ is n. sym (cond-false (is_journal_name n && false) None (get c.files n) (Rattle.std.proofs.lemmas.Bool.and_right (is_journal_name n) false refl)) ∙ is n) reads
 
   pub gone_failed : {b : Seen} → Calls Broken OwnGone a b → Calls Broken (RecoversSettled (Some Failed)) a b
   gone_failed call = makes_told refl call (λ told files. files.3) (λ told disk v calm. (disk v calm (names_so names a law are told v calm)).keeps)

@@ -11,7 +11,7 @@ use Rattle.pl_folder.specs.Effects.{Appends, Does, DoesOrNot, Effect, GrowsDisk,
 use Rattle.pl_folder.specs.Seen.{Seen, Ending, Done, Broken, Undone}
 use Rattle.pl_folder.specs.Since.{Keeps}
 use Rattle.pl_journal.specs.Meaning.{Edit, Same, rows_for}
-use Rattle.pl_journal.specs.Names.{beside, is_own, journal, journal_new}
+use Rattle.pl_journal.specs.Names.{beside, is_journal_name, journal, journal_new}
 use Rattle.pl_journal.specs.Parts.{AtDone, PutsOwn, ReadsStaged, Stages, StagesFiles, StagesOne, StagesTo, WritesOwn, put_beside, journal_of}
 use Rattle.pl_journal.specs.Phases.{IsStaging, Untouched, staged, with_bytes}
 use Rattle.pl_journal.specs.Spelling.{are_rows}
@@ -36,7 +36,7 @@ writes_then x y z first second = (λ n valid. second.0 n valid ∙ first.0 n val
 
 -- ---- one file
 
-module _ (name bytes : List ℕ) (own : is_own name ≡ true) (other : same journal name ≡ false) where
+module _ (name bytes : List ℕ) (own : is_journal_name name ≡ true) (other : same journal name ≡ false) where
   abbrev WroteDisk : Ending → Disk → Disk → Type 0
   WroteDisk e old new = (before r : View) → IsStaging before r old.now → Keeps old new (Untouched before) × AtDone e (Putting before name own other r old.now.count bytes new.now)
 
@@ -96,7 +96,7 @@ pub created_there : {a b : Seen} (name : List ℕ) → Calls Done (Does (creates
 created_there {a = a} {b = b} name call told =
     ap (λ (f : Files). contains_key f name) (call.files (sym call.tells ∙ told)) ∙ ap (λ o. Rattle.std.proofs.Common.is_some o) (get-inserted a.files name [])
 
-pub wrote_there : {a b : Seen} (name bytes : List ℕ) (own : is_own name ≡ true) (other : same journal name ≡ false) → Calls Done (Wrote name bytes own other) a b → b.tells ≡ true → contains_key b.files name ≡ true
+pub wrote_there : {a b : Seen} (name bytes : List ℕ) (own : is_journal_name name ≡ true) (other : same journal name ≡ false) → Calls Done (Wrote name bytes own other) a b → b.tells ≡ true → contains_key b.files name ≡ true
 wrote_there {a = a} {b = b} name bytes own other call told =
     ap (λ o. Rattle.std.proofs.Common.is_some o) ((call.files (sym call.tells ∙ told)).0 name ∙ Rattle.std.proofs.lemmas.Bool.cond-true (same name name) _ _ (Rattle.pl_folder.proofs.ImageLaws.itself name))
 

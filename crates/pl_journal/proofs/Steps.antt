@@ -5,7 +5,7 @@ use Rattle.std.proofs.lemmas.Bool.Decides.{nat_tests}
 use Rattle.pl_folder.specs.Disk.{Name, View, State, IsWhole, same, read}
 use Rattle.pl_folder.specs.States.{renamed, removed, firmed, settled}
 use Rattle.pl_folder.specs.Since.{Within}
-use Rattle.pl_journal.specs.Names.{is_own, beside}
+use Rattle.pl_journal.specs.Names.{is_journal_name, beside}
 use Rattle.pl_journal.specs.Rows.{done_from}
 use Rattle.pl_journal.specs.Spelling.{name_of}
 use Rattle.pl_journal.specs.declared.row.Row.{Row}
@@ -39,9 +39,9 @@ misses_at i [] k row n misses at = absurd at
 misses_at i (r ∷ rows) k row n misses (inl here) = subst (λ q. same n (name_of q) ≡ false) here.1 misses.0
 misses_at i (r ∷ rows) k row n misses (inr there) = misses_at (i + 1) rows k row n misses.1 there
 
-valid_at : (i : ℕ) (rows : List Row) (k : ℕ) (row : Row) → AreDistinct i rows → RowAt i rows k row → is_own (name_of row) ≡ false
+valid_at : (i : ℕ) (rows : List Row) (k : ℕ) (row : Row) → AreDistinct i rows → RowAt i rows k row → is_journal_name (name_of row) ≡ false
 valid_at i [] k row distinct at = absurd at
-valid_at i (r ∷ rows) k row distinct (inl here) = subst (λ q. is_own (name_of q) ≡ false) here.1 distinct.0
+valid_at i (r ∷ rows) k row distinct (inl here) = subst (λ q. is_journal_name (name_of q) ≡ false) here.1 distinct.0
 valid_at i (r ∷ rows) k row distinct (inr there) = valid_at (i + 1) rows k row distinct.3 there
 
 -- an earlier row at other names may be done before or after
@@ -55,7 +55,7 @@ and_true true = refl
 and_true false = refl
 
 module _ (v : View) (keep : ℕ → Bool) (n : Name) where
-  head_put : (i : ℕ) (rows : List Row) (name : Name) → is_own name ≡ false → is_some (v (beside i)) ≡ true → keep i ≡ false → done_from i (Put name ∷ rows) (plus i keep) v n ≡ cond (same n name) (v (beside i)) (cond (same n (beside i)) None (done_from i (Put name ∷ rows) keep v n))
+  head_put : (i : ℕ) (rows : List Row) (name : Name) → is_journal_name name ≡ false → is_some (v (beside i)) ≡ true → keep i ≡ false → done_from i (Put name ∷ rows) (plus i keep) v n ≡ cond (same n name) (v (beside i)) (cond (same n (beside i)) None (done_from i (Put name ∷ rows) keep v n))
   head_put i rows name valid there not_yet =
       let now : plus i keep i ≡ true = cond-true (i == i) _ _ (eq-eqb i i refl) in
       let rest : done_from (i + 1) rows (plus i keep) v n ≡ done_from (i + 1) rows keep v n = done_agree (i + 1) rows (plus i keep) keep v n (λ j le. plus_other i keep j (λ e. omega arith)) in
@@ -66,7 +66,7 @@ module _ (v : View) (keep : ℕ → Bool) (n : Name) where
       left
       ∙ ⊎_elim
       (λ hit.
-      let apart_here : same n (beside i) ≡ false = not_beside n i (subst (λ m. is_own m ≡ false) (sym (equal n name hit)) valid) in
+      let apart_here : same n (beside i) ≡ false = not_beside n i (subst (λ m. is_journal_name m ≡ false) (sym (equal n name hit)) valid) in
       cond-false (same n (beside i)) _ _ apart_here ∙ cond-true (same n name) _ _ hit ∙ sym (cond-true (same n name) _ _ hit))
       (λ missed. ap (λ r. cond (same n (beside i)) None r) (cond-false (same n name) _ _ missed) ∙ ap (λ r. cond (same n (beside i)) None r) (sym right) ∙ sym (cond-false (same n name) _ _ missed))
       (cases_Bool (same n name))
@@ -74,14 +74,14 @@ module _ (v : View) (keep : ℕ → Bool) (n : Name) where
   pub put_more : (i : ℕ) (rows : List Row) (k : ℕ) (name : Name) → RowAt i rows k (Put name) → AreDistinct i rows → is_some (v (beside k)) ≡ true → keep k ≡ false → done_from i rows (plus k keep) v n ≡ cond (same n name) (v (beside k)) (cond (same n (beside k)) None (done_from i rows keep v n))
   put_more i [] k name at distinct there not_yet = absurd at
   put_more i (r ∷ rows) k name (inl here) distinct there not_yet =
-      let valid : is_own name ≡ false = subst (λ q. is_own (name_of q) ≡ false) here.1 distinct.0 in
+      let valid : is_journal_name name ≡ false = subst (λ q. is_journal_name (name_of q) ≡ false) here.1 distinct.0 in
       let at_i = head_put i rows name valid (subst (λ j. is_some (v (beside j)) ≡ true) (sym here.0) there) (subst (λ j. keep j ≡ false) (sym here.0) not_yet) in
       let at_k : done_from i (Put name ∷ rows) (plus k keep) v n ≡ cond (same n name) (v (beside k)) (cond (same n (beside k)) None (done_from i (Put name ∷ rows) keep v n)) =
       subst (λ j. done_from i (Put name ∷ rows) (plus j keep) v n ≡ cond (same n name) (v (beside j)) (cond (same n (beside j)) None (done_from i (Put name ∷ rows) keep v n))) here.0 at_i in
       subst (λ q. done_from i (q ∷ rows) (plus k keep) v n ≡ cond (same n name) (v (beside k)) (cond (same n (beside k)) None (done_from i (q ∷ rows) keep v n))) (sym here.1) at_k
   put_more i (Put m ∷ rows) k name (inr later) distinct there not_yet =
       let lt : i + 1 ≤ k = row_after (i + 1) rows k (Put name) later in
-      let valid : is_own name ≡ false = valid_at (i + 1) rows k (Put name) distinct.3 later in
+      let valid : is_journal_name name ≡ false = valid_at (i + 1) rows k (Put name) distinct.3 later in
       let same_keep : plus k keep i ≡ keep i = plus_other k keep i (λ e. omega arith) in
       let rest = put_more (i + 1) rows k name later distinct.3 there not_yet in
       (λ t. cond (same_keep t && same n (beside i)) None (cond (same_keep t && (same n m && is_some (v (beside i)))) (v (beside i)) (rest t)))
@@ -119,7 +119,7 @@ module _ (v : View) (keep : ℕ → Bool) (n : Name) where
       subst (λ q. done_from i (q ∷ rows) (plus k keep) v n ≡ cond (same n name) None (done_from i (q ∷ rows) keep v n)) (sym here.1) at_k
   drop_more i (Put m ∷ rows) k name (inr later) distinct not_yet =
       let lt : i + 1 ≤ k = row_after (i + 1) rows k (Drop name) later in
-      let valid : is_own name ≡ false = valid_at (i + 1) rows k (Drop name) distinct.3 later in
+      let valid : is_journal_name name ≡ false = valid_at (i + 1) rows k (Drop name) distinct.3 later in
       let same_keep : plus k keep i ≡ keep i = plus_other k keep i (λ e. omega arith) in
       let rest = drop_more (i + 1) rows k name later distinct.3 not_yet in
       (λ t. cond (same_keep t && same n (beside i)) None (cond (same_keep t && (same n m && is_some (v (beside i)))) (v (beside i)) (rest t)))

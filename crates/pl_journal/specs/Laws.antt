@@ -2,7 +2,7 @@
 use Rattle.std.specs.Prelude.{◌≡◌, ◌⊎◌, ℕ, ◌<◌, true, List, Some, get_or, is_some, length}
 use Rattle.std.specs.FinMap.{get}
 use Rattle.pl_folder.specs.Calls.{Calls}
-use Rattle.pl_folder.specs.Disk.{View, Disk, IsImage, clock}
+use Rattle.pl_folder.specs.Disk.{View, Disk, IsCrashImage, clock}
 use Rattle.pl_folder.specs.Seen.{Seen, Undone}
 use Rattle.pl_folder.specs.Since.{Since, Keeps}
 use Rattle.pl_journal.specs.Meaning.{Edit, HasNoOwn, Same, StandsBetween, StandsFor, applied, rows_for}
@@ -19,7 +19,7 @@ use Rattle.pl_journal.specs.declared.step.Step.TheVariants.{Skip}
 
 -- each image since the start is one of the start's, or has P
 abbrev pub SinceTheStart : (View → Type 0) → Type 0
-SinceTheStart P = (old new : Disk) → Keeps old new P → (v : View) → Since new (clock old) v → IsImage old.now v ⊎ P v
+SinceTheStart P = (old new : Disk) → Keeps old new P → (v : View) → Since new (clock old) v → IsCrashImage old.now v ⊎ P v
 
 -- after the first moment it has P
 abbrev pub AfterTheStart : (View → Type 0) → Type 0

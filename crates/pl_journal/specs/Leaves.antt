@@ -1,10 +1,10 @@
 -- What each part of a writing command leaves of the disk.
 use Rattle.std.specs.Prelude.{◌≡◌, ◌⊎◌, ℕ, ◌≤◌, ◌+◌, true, List, [], ◌∷◌, Option, Some, None, is_some, Result, Ok, Err}
-use Rattle.pl_folder.specs.Disk.{Name, View, State, IsImage, IsWhole, Disk, clock, read, waited}
+use Rattle.pl_folder.specs.Disk.{Name, View, State, IsCrashImage, IsWhole, Disk, clock, read, waited}
 use Rattle.pl_folder.specs.Since.{Since, Within, Keeps}
 use Rattle.pl_journal.specs.Lists.{is_listed}
 use Rattle.pl_journal.specs.FileNames.{name_text}
-use Rattle.pl_journal.specs.Names.{is_own, beside, journal}
+use Rattle.pl_journal.specs.Names.{is_journal_name, beside, journal}
 use Rattle.pl_journal.specs.Rows.{rows_in, recovered}
 use Rattle.pl_journal.specs.declared.row.Row.{Row}
 use Rattle.pl_journal.specs.Meaning.{Edit, Same, StandsFor, IsSettled}
@@ -19,11 +19,11 @@ pub record Looks (old new : Disk) : Type 0 where
   pub waits : (k : ℕ) × (new ≡ waited k old)
   pub now : new.now ≡ old.now
   pub later : clock old ≤ clock new
-  pub each : (t : ℕ) (v : View) → Since new t v → Since old t v ⊎ IsImage old.now v
+  pub each : (t : ℕ) (v : View) → Since new t v → Since old t v ⊎ IsCrashImage old.now v
 
 -- an own name that is there is one of these
 abbrev pub OwnAreIn : List Name → State → Type 0
-OwnAreIn names s = (n : Name) → is_own n ≡ true → is_some (read s n) ≡ true → is_listed n names ≡ true
+OwnAreIn names s = (n : Name) → is_journal_name n ≡ true → is_some (read s n) ≡ true → is_listed n names ≡ true
 
 -- settled, and so all is firm and the only image is this
 pub record IsCalm (v : View) (s : State) : Type 0 where

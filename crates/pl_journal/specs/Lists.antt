@@ -3,7 +3,7 @@ use Rattle.std.specs.Prelude.{◌≡◌, Bool, List, map, is_some, String, strin
 use Rattle.std.specs.List.{list_any}
 use Rattle.std.specs.declared.alloc.Global.{Global}
 use Rattle.pl_folder.specs.Disk.{Name, View, same}
-use Rattle.pl_journal.specs.Names.{is_own}
+use Rattle.pl_journal.specs.Names.{is_journal_name}
 
 abbrev pub texts : List (String Global) → List Name
 texts names = map string_bytes names
@@ -13,7 +13,7 @@ is_listed n names = list_any (same n) names
 
 -- whether one of them is one of the journal's own
 abbrev pub any_own : List Name → Bool
-any_own names = list_any is_own names
+any_own names = list_any is_journal_name names
 
 -- which names there are
 abbrev pub IsListOf : List Name → View → Type 0

@@ -2,7 +2,7 @@
 use Rattle.std.specs.Prelude.{◌≡◌, ◌⊎◌, ℕ, ◌+◌, ◌&&◌, Bool, true, false, cond, List, [], ◌∷◌, map, Some, None}
 use Rattle.pl_folder.specs.Disk.{Name, View, State, same, IsWhole}
 use Rattle.pl_folder.specs.Since.{Within}
-use Rattle.pl_journal.specs.Names.{is_own}
+use Rattle.pl_journal.specs.Names.{is_journal_name}
 use Rattle.pl_journal.specs.Rows.{done, recovered}
 use Rattle.pl_journal.specs.declared.row.Row.{Row}
 use Rattle.pl_journal.specs.declared.row.Row.TheVariants.{Put, Drop}
@@ -31,7 +31,7 @@ applied edits v = mixed 0 edits (λ _. true) v
 
 -- the same, the journal's own names aside
 abbrev pub Agree : View → View → Type 0
-Agree v w = (n : Name) → is_own n ≡ false → v n ≡ w n
+Agree v w = (n : Name) → is_journal_name n ≡ false → v n ≡ w n
 
 abbrev pub Same : View → View → Type 0
 Same v w = (n : Name) → v n ≡ w n
@@ -50,7 +50,7 @@ pub record StandsBetween (before : View) (edits : List Edit) (v : View) : Type 0
 
 -- none of the journal's own names is there
 abbrev pub HasNoOwn : View → Type 0
-HasNoOwn v = (n : Name) → is_own n ≡ true → v n ≡ None
+HasNoOwn v = (n : Name) → is_journal_name n ≡ true → v n ≡ None
 
 -- The only image is what a read gives: these files, none under an own name.
 pub record IsSettled (files : View) (s : State) : Type 0 where

@@ -21,8 +21,8 @@ abbrev pub beside : ℕ → Name
 beside i = BESIDE.now ++ decimal i
 
 -- the journal, the one that is written, and the names beside
-abbrev pub is_own : Name → Bool
-is_own n = same n journal || (same n journal_new || starts_with nat_eq n BESIDE.now)
+abbrev pub is_journal_name : Name → Bool
+is_journal_name n = same n journal || (same n journal_new || starts_with nat_eq n BESIDE.now)
 
 -- the names that a row may have
 abbrev pub is_row_name : Name → Bool

@@ -10,7 +10,7 @@ use Rattle.pl_folder.specs.Since.{Keeps, Within}
 use Rattle.pl_folder.specs.States as state
 use Rattle.pl_journal.specs.Meaning.{Agree, Edit, HasNoOwn, IsSettled, Same, StandsBetween, StandsFor, applied, rows_for}
 use Rattle.pl_journal.specs.FileNames.{name_text}
-use Rattle.pl_journal.specs.Names.{beside, is_own, journal, journal_new}
+use Rattle.pl_journal.specs.Names.{beside, is_journal_name, journal, journal_new}
 use Rattle.pl_journal.specs.Phases.{AreSteps, Clearing, Committing, Finishing, IsClearing, IsDoing, IsStaging, IsStep, Midway, RowAt, Untouched, all_staged, finished, shifted, staged, with_bytes}
 use Rattle.pl_journal.specs.Reading.{rows_spelled}
 use Rattle.pl_journal.specs.Rows.{done_from, recovered, rows_in}
@@ -284,7 +284,7 @@ StillClears old new = (v : View) (rows : List Row) → are_rows rows ≡ true �
 
 -- an own name is dropped
 abbrev pub without_own : Name → View → View
-without_own name v n = cond (is_own name && same n name) None (v n)
+without_own name v n = cond (is_journal_name name && same n name) None (v n)
 
 abbrev pub RemovesIfOwnDisk : Name → Ending → Disk → Disk → Type 0
 RemovesIfOwnDisk name e old new =
@@ -296,7 +296,7 @@ RemovesIfOwn name = record { files = λ e old new. Reads (without_own name) e ol
 
 -- of these names the own ones are dropped
 abbrev pub without_owns : List Name → View → View
-without_owns names v n = cond (is_own n && is_listed n names) None (v n)
+without_owns names v n = cond (is_journal_name n && is_listed n names) None (v n)
 
 -- these names are left to be walked over
 abbrev pub RemovesToFiles : List Name → List Name → Ending → Files → Files → Type 0

@@ -2,7 +2,7 @@
 use Rattle.std.specs.Prelude.{◌≡◌, ◌⊎◌, ℕ, ◌+◌, ◌≤◌, ltb, Bool, true, false, cond, List, [], ◌∷◌, Some, None, is_some}
 use Rattle.pl_folder.specs.Disk.{Name, View, State, same, names_of, read, IsWhole}
 use Rattle.pl_folder.specs.Since.{Within}
-use Rattle.pl_journal.specs.Names.{beside, is_own, journal, journal_new}
+use Rattle.pl_journal.specs.Names.{beside, is_journal_name, journal, journal_new}
 use Rattle.pl_journal.specs.Rows.{done_from}
 use Rattle.pl_journal.specs.declared.row.Row.{Row}
 use Rattle.pl_journal.specs.declared.row.Row.TheVariants.{Put, Drop}
@@ -83,7 +83,7 @@ pub record Clearing (v : View) (rows : List Row) (w : View) : Type 0 where
 
 -- each file under an own name is firm
 abbrev pub OwnAreFirm : State → Type 0
-OwnAreFirm s = (n : Name) → is_own n ≡ true → (file : ℕ) → names_of s n ≡ Some file → (s.files file).is_firm ≡ true
+OwnAreFirm s = (n : Name) → is_journal_name n ≡ true → (file : ℕ) → names_of s n ≡ Some file → (s.files file).is_firm ≡ true
 
 -- between two files: what is staged is firm
 pub record IsStaging (before : View) (r : View) (s : State) : Type 0 where

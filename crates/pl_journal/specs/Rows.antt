@@ -2,7 +2,7 @@
 use Rattle.std.specs.Prelude.{ℕ, ◌+◌, ltb, length, ◌&&◌, Bool, true, cond, List, [], ◌∷◌, Option, Some, None, is_some}
 use Rattle.pl_folder.specs.Disk.{View, same}
 use Rattle.pl_folder.specs.declared.TheConstants.{STORED}
-use Rattle.pl_journal.specs.Names.{beside, is_own, journal}
+use Rattle.pl_journal.specs.Names.{beside, is_journal_name, journal}
 use Rattle.pl_journal.specs.Reading.{rows_spelled}
 use Rattle.pl_journal.specs.declared.row.Row.{Row}
 use Rattle.pl_journal.specs.declared.row.Row.TheVariants.{Put, Drop}
@@ -33,7 +33,7 @@ done keep v = done_by (rows_in (v journal)) keep v
 
 -- without the journal's own names
 abbrev pub clean : View → View
-clean v n = cond (is_own n) None (v n)
+clean v n = cond (is_journal_name n) None (v n)
 
 abbrev pub all_done : Option (List Row) → View → View
 all_done None v = v

@@ -51,8 +51,8 @@ pub(crate) fn is(name: &str, other: &str) -> bool
 }
 
 /// Whether a name is one of the journal's own: its name, the one while it is written, or one beside of a row.
-pub(crate) fn is_own(name: &str) -> bool
-    ensures { result ≡ spec.is_own name.now }
+pub(crate) fn is_journal_name(name: &str) -> bool
+    ensures { result ≡ spec.is_journal_name name.now }
 {
     is(name, JOURNAL) || is(name, JOURNAL_NEW) || name.as_bytes().starts_with(BESIDE.as_bytes())
 }

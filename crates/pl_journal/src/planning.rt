@@ -10,7 +10,7 @@ ghost use Rattle.pl_journal.specs.Names as own;
 ghost use Rattle.pl_journal.specs.Phases.{AreSteps, IsStep};
 ghost use Rattle.pl_journal.specs.Spelling.{are_rows, name_of};
 
-use crate::names::{beside, is, is_own};
+use crate::names::{beside, is, is_journal_name};
 use crate::{Change, FileName, Row, Step};
 use pl_base::Rows;
 use pl_io::NoMemory;
@@ -30,9 +30,9 @@ pub(crate) fn is_in(names: &[String], name: &str) -> bool
 }
 
 fn has_own_name(names: &[String]) -> bool
-    ensures { result ≡ list_any (λ name. own.is_own (string_bytes name)) names.now }
+    ensures { result ≡ list_any (λ name. own.is_journal_name (string_bytes name)) names.now }
 {
-    names.iter().any(|name| is_own(name.as_str()))
+    names.iter().any(|name| is_journal_name(name.as_str()))
 }
 
 /// Whether one of the names is one of the journal's own.

@@ -15,7 +15,7 @@ ghost use Rattle.pl_journal.specs.Rows.{rows_in};
 ghost use Rattle.pl_journal.specs.declared.fault.JournalFault.TheVariants as faults;
 
 use crate::doing::do_rows;
-use crate::names::{JOURNAL, is_own};
+use crate::names::{JOURNAL, is_journal_name};
 use crate::planning::{has_own, is_in, plan_rows};
 use crate::{JournalFault, Step, read_journal};
 use pl_base::Rows;
@@ -88,7 +88,7 @@ fn remove_if_own<D: Folder>(held: &mut Held<D>, name: &str) -> Result<(), Failed
         (D.seen held.new.folder) }
     ensures real { StaysFirm D.seen held.old held.new }
 {
-    if !is_own(name) {
+    if !is_journal_name(name) {
         return Ok(());
     }
     held.folder.remove(name)

@@ -26,7 +26,7 @@ fn put_own<D: Folder>(
     bytes: &[u8],
 ) -> Result<(), JournalFault>
     requires length { IsNameLength name.now }
-    requires own { names.is_own name.now ≡ true }
+    requires own { names.is_journal_name name.now ≡ true }
     requires other { same names.journal name.now ≡ false }
     ensures calls { Calls (part_ending result) (PutsOwn name.now bytes.now) (D.seen held.old.folder)
         (D.seen held.new.folder) }

@@ -15,7 +15,7 @@ pub trait Takes {
     ghost seen: { Self → Seen };
 
     /// Where its loan points.
-    ghost place: { Self → ℕ };
+    ghost referent: { Self → ℕ };
 
     /// The rows that it holds, and how many of them are done.
     ghost rows: { Self → List Step × ℕ };
@@ -24,14 +24,14 @@ pub trait Takes {
     fn take_now(&mut self, alloc: Global, name: &str) -> Result<Vec<u8>, FolderFault>
         requires { IsNameLength name.now }
         ensures takes { calls.Takes name.now result (seen self.old) (seen self.new) }
-        ensures place { place self.new ≡ place self.old }
+        ensures referent { referent self.new ≡ referent self.old }
         ensures rows { rows self.new ≡ rows self.old };
 }
 
 impl<'a, D: Folder> Takes for Settled<'a, D> {
     ghost seen = { λ state. D.seen state.held.now.folder };
 
-    ghost place = { λ state. state.held.ghost_name };
+    ghost referent = { λ state. state.held.ghost_name };
 
     ghost rows = { λ state. ([], 0) };
 
@@ -43,7 +43,7 @@ impl<'a, D: Folder> Takes for Settled<'a, D> {
 impl<'a, D: Folder> Takes for Committed<'a, D> {
     ghost seen = { λ state. D.seen state.held.now.folder };
 
-    ghost place = { λ state. state.held.ghost_name };
+    ghost referent = { λ state. state.held.ghost_name };
 
     ghost rows = { λ state. (state.steps, state.done) };
 
@@ -56,7 +56,7 @@ impl<'a, D: Folder> Takes for Committed<'a, D> {
 impl<D: Folder> Takes for Held<D> {
     ghost seen = { λ held. D.seen held.folder };
 
-    ghost place = { λ held. (D.seen held.folder).place };
+    ghost referent = { λ held. (D.seen held.folder).referent };
 
     ghost rows = { λ held. ([], 0) };
 

@@ -5,7 +5,7 @@ use Rattle.std.specs.Option.{option_map, option_and_then}
 use Rattle.std.proofs.lemmas.Bool.{false≢true, true≢false}
 use Rattle.std.proofs.lemmas.Bool.Decides.{nat_tests}
 use Rattle.std.proofs.lemmas.Option.{same_Some}
-use Rattle.pl_base.specs.Answers.{Tells, unless}
+use Rattle.pl_base.specs.Answers.{NeverMemory, unless}
 use Rattle.pl_base.proofs.AnswerLaws.{ok_same}
 use Rattle.pl_cone.specs.Known.{object_in, IsAcceptedEntry}
 use Rattle.pl_cone.specs.Known as cone
@@ -174,8 +174,8 @@ refused_same n number argument a b is also = cc
 
 -- no file is refused for want of memory
 never : (bytes : List ℕ) → reads bytes ≡ Err NoMemory → ⊥
-unfolding Tells
-never bytes is = true≢false (subst (λ (r : Result Object Refusal). Tells is_memory r) is (reads_tells bytes))
+unfolding NeverMemory
+never bytes is = true≢false (subst (λ (r : Result Object Refusal). NeverMemory is_memory r) is (reads_tells bytes))
 
 bad_fault : (region : Range) (bytes : List ℕ) → marked_in bytes ≡ None → has_mark bytes ≡ true → fault_in region (original_in bytes) ≡ None
 unfolding fault_in

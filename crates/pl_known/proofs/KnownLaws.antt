@@ -6,7 +6,7 @@ use Rattle.std.specs.Option.{option_map}
 use Rattle.std.specs.Result.{is_ok}
 use Rattle.std.specs.Str.{bytes_eq}
 use Rattle.std.proofs.lemmas.List.Elements.{All-nil, All-cons, All-head, All-tail}
-use Rattle.pl_cone.specs.Candidates.{walk_in, linked}
+use Rattle.pl_cone.specs.Candidates.{walk_in, check_links}
 use Rattle.pl_cone.specs.Known.{entry_of, object_in, object_of, mark_of, fault_of, AreAccepted, IsAcceptedEntry}
 use Rattle.pl_cone.specs.Skips.{of_walk}
 use Rattle.pl_cone.specs.declared.known.Entry.{Entry}
@@ -103,7 +103,7 @@ read_at n None x is = absurd cc
 read_at n (Some file) x is = read_is skip_causes n (original_in file) x is
 
 links_at : (files : Files) (ks : List Known) (n : List ℕ) (walked : Walked) → ((m : List ℕ) → object_of ks m ≡ objects (format skip_causes) files m) → walk_in ks n ≡ Ok walked
-    → (region : Range) → (fit_in region).links (map (λ m. original_at (format skip_causes) (files m)) (scope.names walked)) ≡ is_ok (linked walked)
+    → (region : Range) → (fit_in region).links (map (λ m. original_at (format skip_causes) (files m)) (scope.names walked)) ≡ is_ok (check_links walked)
 unfolding walk_in
 links_at files ks n walked same walks region =
     ap links (each_read (λ (m : List ℕ). original_at (format skip_causes) (files m)) walked (λ i p at. read_at p.0 (files p.0) p.1 (sym (same p.0) ∙ member_file of_walk (object_of ks) n walked walks i p at)))

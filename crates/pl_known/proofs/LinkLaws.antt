@@ -4,7 +4,7 @@ use Rattle.std.specs.Prelude.{map, replicate, slice_get}
 use Rattle.std.specs.Result.{is_ok}
 use Rattle.pl_base.specs.Answers.{◌>>=◌, because}
 use Rattle.pl_base.specs.Each.{each}
-use Rattle.pl_cone.specs.Candidates.{blocks, linked, of_link, resolved, zeros}
+use Rattle.pl_cone.specs.Candidates.{blocks, check_links, of_link, resolved, zeros}
 use Rattle.pl_cone.specs.Skips.{of_tls}
 use Rattle.pl_object.specs.Reads.{reads}
 use Rattle.pl_object.specs.declared.object.Object.{Object}
@@ -39,6 +39,6 @@ by_modules : (ws : Walked) (r : Result (List Module) TlsFault) → resolves (obj
 by_modules ws (Ok modules) = resolves_is ws modules
 by_modules ws (Err e) = refl
 
-pub links_is : (ws : Walked) → links {E = Refusal} (Ok (objects ws)) ≡ is_ok (linked ws)
-unfolding linked
+pub links_is : (ws : Walked) → links {E = Refusal} (Ok (objects ws)) ≡ is_ok (check_links ws)
+unfolding check_links
 links_is ws = by_modules ws (offsets (blocks ws))

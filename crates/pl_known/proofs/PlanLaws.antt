@@ -23,12 +23,12 @@ use Rattle.pl_conflict.specs.Format.{format}
 use Rattle.pl_elf.specs.declared.range.Range.{Range}
 use Rattle.pl_plan.specs.Faults.{of_cone, of_plan}
 use Rattle.pl_plan.specs.Laws.{row_of, seen}
-use Rattle.pl_plan.specs.Planned as plan
+use Rattle.pl_plan.specs.RunPlan as plan
 use Rattle.pl_plan.specs.Wants as wants
 use Rattle.pl_plan.specs.Wants.{name_without_cause, cause_of, position_of, want_of, names_in}
 use Rattle.pl_plan.specs.declared.asked.Asked.{Asked}
 use Rattle.pl_plan.specs.declared.fault.PlanningFault.{PlanningFault}
-use Rattle.pl_plan.specs.declared.planned.Planned.{Planned}
+use Rattle.pl_plan.specs.declared.run_plan.RunPlan.{RunPlan}
 use Rattle.pl_plan.specs.declared.standing.Standing.{Standing}
 use Rattle.pl_plan.proofs.AgreeLaws.{candidates_agree}
 use Rattle.pl_plan.proofs.CurrentLaws.{current_names_agree}
@@ -157,7 +157,7 @@ greatest_same region files known k distinct last =
 
 -- ---- the whole
 
-abbrev whole : List Standing → List Slot → List (List ℕ) → ℕ → Planned
+abbrev whole : List Standing → List Slot → List (List ℕ) → ℕ → RunPlan
 whole standings rows stale stamp = record { standings = standings; slots = rows; stale = stale; stamp = stamp }
 
 -- a stamp that is given, and the names with it

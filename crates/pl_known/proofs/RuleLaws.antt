@@ -17,7 +17,7 @@ use Rattle.pl_plan.proofs.AgreeLaws.{all_same}
 use Rattle.pl_scope.specs.Members.{names, others, has}
 use Rattle.pl_scope.specs.Walk.{Walked}
 use Rattle.pl_scope.proofs.StepLaws.{err_ok, walk_local}
-use Rattle.pl_sound.specs.Rule.{Row, Mark, Files, object_at, mark_at, member_at, row_at, row_eq, objects, is_marked, tells, tells_walk, walk_in, names_of, of_walk, members, matches, prelinked_in}
+use Rattle.pl_sound.specs.Rule.{Row, Mark, Files, object_at, mark_at, member_at, row_at, row_eq, objects, is_marked, lists_members, tells_walk, walk_in, names_of, of_walk, members, matches, prelinked_in}
 use Rattle.pl_known.specs.Laws.{RuleIsOne}
 use Rattle.pl_known.proofs.ListLaws.{map_same}
 
@@ -67,7 +67,7 @@ row_same : {E F : Type 0} (c : Causes E) (d : Causes F) (n : List ℕ) (file : O
 row_same c d n None = refl
 row_same c d n (Some file) = refl
 
-tells_same : {E F : Type 0} (c : Causes E) (d : Causes F) (files : Files) (list : List Row) (ns : List (List ℕ)) → tells (format c) files list ns ≡ tells (format d) files list ns
+tells_same : {E F : Type 0} (c : Causes E) (d : Causes F) (files : Files) (list : List Row) (ns : List (List ℕ)) → lists_members (format c) files list ns ≡ lists_members (format d) files list ns
 tells_same c d files list ns =
     ap (λ (b : Bool). b && pointwise row_eq list (map (λ m. row_at (format c) m (files m)) ns)) (all_same (is_marked (format c) files) (is_marked (format d) files) (λ n. ap is_some (mark_same c d (files n))) ns)
     ∙ ap (λ (rows : List Row). list_all (is_marked (format d) files) ns && pointwise row_eq list rows)
@@ -75,7 +75,7 @@ tells_same c d files list ns =
 
 by_walk : {E F : Type 0} (c : Causes E) (d : Causes F) (files : Files) (k : Option Mark) (r : Result Walked E) (s : Result Walked F) → Alike r s → tells_walk (format c) files k r ≡ tells_walk (format d) files k s
 by_walk c d files None r s same = refl
-by_walk c d files (Some k) (Ok a) (Ok b) same = tells_same c d files k.list (others a) ∙ ap (λ (ws : Walked). tells (format d) files k.list (others ws)) same
+by_walk c d files (Some k) (Ok a) (Ok b) same = tells_same c d files k.list (others a) ∙ ap (λ (ws : Walked). lists_members (format d) files k.list (others ws)) same
 by_walk c d files (Some k) (Ok a) (Err f) same = absurd same
 by_walk c d files (Some k) (Err e) (Ok b) same = absurd same
 by_walk c d files (Some k) (Err e) (Err f) same = refl

@@ -3,7 +3,7 @@ use Rattle.std.proofs.Common.{◌≡◌, ℕ, List, [], ◌∷◌, Option, Some,
 use Rattle.std.specs.Prelude.{if◌then◌else◌}
 use Rattle.pl_base.specs.Answers.{◌>>=◌, unless, unless_found}
 use Rattle.pl_base.specs.Each.{run}
-use Rattle.pl_cone.specs.Candidates.{walk_in, kind_of, formed, all_formed, linked, fit, prelinkable}
+use Rattle.pl_cone.specs.Candidates.{walk_in, kind_of, formed, all_formed, check_links, fit, prelinkable}
 use Rattle.pl_cone.specs.Known.{object_of, fault_of}
 use Rattle.pl_cone.specs.Skips.{of_walk}
 use Rattle.pl_cone.specs.declared.known.Known.{Known}
@@ -40,7 +40,7 @@ formed_same faults others same (n ∷ ns) =
 fit_same : (faults others : List ℕ → Option ℕ) → ((n : List ℕ) → faults n ≡ others n) → (n : List ℕ) (ws : Walked) → fit faults n ws ≡ fit others n ws
 unfolding fit
 fit_same faults others same n ws =
-    ap (λ (r : Result (Unit {0}) Skip). unless (is_static (kind_of ws)) (skips.Static n) (r >>= λ _. if is_program (kind_of ws) then linked ws else Ok tt)) (formed_same faults others same (names ws))
+    ap (λ (r : Result (Unit {0}) Skip). unless (is_static (kind_of ws)) (skips.Static n) (r >>= λ _. if is_program (kind_of ws) then check_links ws else Ok tt)) (formed_same faults others same (names ws))
 
 -- the walk of a name
 pub walks_agree : (region : Range) (files : Files) (known : List Known) → Knows region files known → (n : List ℕ) → walk_in known n ≡ sound.walk_in (format skip_causes) files n

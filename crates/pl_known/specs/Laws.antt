@@ -7,8 +7,8 @@ use Rattle.pl_cone.specs.Known.{AreAccepted, fault_of}
 use Rattle.pl_cone.specs.declared.known.Known.{Known}
 use Rattle.pl_conflict.specs.Format.{Causes, Rule, format}
 use Rattle.pl_elf.specs.declared.range.Range.{Range}
-use Rattle.pl_plan.specs.Laws.{Tells}
-use Rattle.pl_plan.specs.Planned as plan
+use Rattle.pl_plan.specs.Laws.{Describes}
+use Rattle.pl_plan.specs.RunPlan as plan
 use Rattle.pl_plan.specs.declared.asked.Asked.{Asked}
 use Rattle.pl_sound.specs.Rule.{Files}
 use Rattle.pl_known.specs.Fits.{fit_in}
@@ -24,7 +24,7 @@ names known = map (λ k. k.name.now) known
 pub record Knows (region : Range) (files : Files) (known : List Known) : Type 0 where
   pub accepted : AreAccepted known
   pub faults : (n : List ℕ) → fault_of known n ≡ fault_at region files n
-  pub tells : Tells (format skip_causes) (fit_in region) files known
+  pub tells : Describes (format skip_causes) (fit_in region) files known
 
 -- so it is of files that were taken under any region
 abbrev pub KnowsTaken : List Taken → List Known → Type 0

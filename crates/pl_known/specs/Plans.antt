@@ -10,7 +10,7 @@ use Rattle.pl_plan.specs.Faults.{of_cone, of_plan}
 use Rattle.pl_plan.specs.Wants.{cause_of, position_of, want_of}
 use Rattle.pl_plan.specs.declared.asked.Asked.{Asked}
 use Rattle.pl_plan.specs.declared.fault.PlanningFault.{PlanningFault}
-use Rattle.pl_plan.specs.declared.planned.Planned.{Planned}
+use Rattle.pl_plan.specs.declared.run_plan.RunPlan.{RunPlan}
 use Rattle.pl_plan.specs.declared.standing.Standing.{Standing}
 use Rattle.pl_share.specs.Disjoint.{disjoint}
 use Rattle.pl_share.specs.Shared.{plan_shared}
@@ -90,7 +90,7 @@ stamp_for files ns a stale =
 -- ---- the whole
 
 -- what a run plans for the names of a folder, or its first cause
-unfoldable pub planned : Files → List (List ℕ) → Asked → Result Planned PlanningFault
+unfoldable pub planned : Files → List (List ℕ) → Asked → Result RunPlan PlanningFault
 planned files ns a =
     slots files ns a >>= λ rows.
     stamp_for files ns a (stale files a.region rows ns) >>= λ stamp.

@@ -12,7 +12,7 @@ use crate::Taken;
 use crate::knowing::known_files;
 use pl_base::Rows;
 use pl_cone::{Known, Link, links_of};
-use pl_plan::{Asked, Planned, PlanningFault, plan_run};
+use pl_plan::{Asked, PlanningFault, RunPlan, plan_run};
 use std::alloc::Global;
 
 /// What a run plans, and what it goes by.
@@ -25,7 +25,7 @@ pub struct FilesPlan<'a> {
     pub links: Rows<Link>,
 
     /// What is planned.
-    pub planned: Planned,
+    pub planned: RunPlan,
 }
 
 /// What a run plans for the files of a folder, ascending by name:

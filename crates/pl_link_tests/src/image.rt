@@ -6,7 +6,7 @@ ghost use Rattle.pl_image.specs.Image.{ascends};
 ghost use Rattle.pl_image.specs.Loads.{IsPlaced};
 
 use crate::samples::file_of;
-use pl_image::{Image, Loaded, Patch, load_object};
+use pl_image::{Image, LoadedObject, Patch, load_object};
 use pl_io::MemorySink;
 use pl_object::{ORIGINAL, Object, accept};
 use std::alloc::{AllocError, Global};
@@ -52,7 +52,7 @@ fn check(
 #[tactic(auto, using(pl_image::proofs::PlacedLaws::alone))]
 fn image_of_one(
     alloc: Global,
-    object: Loaded<'_>,
+    object: LoadedObject<'_>,
     patches: Vec<Patch>,
 ) -> Result<Image<'_>, AllocError>
     requires ascends { ascends 0 object.pieces ≡ true }

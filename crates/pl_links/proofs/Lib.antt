@@ -1,5 +1,5 @@
 pub mod FolderLaws
 pub mod SingleLaws
 pub mod OneSymbolLaws
-pub mod ClosedLaws
+pub mod OneWordLaws
 pub mod StepLaws

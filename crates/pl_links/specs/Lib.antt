@@ -1,4 +1,4 @@
 pub mod Folder
 pub mod Definers
 pub mod OneSymbol
-pub mod Closed
+pub mod OneWord

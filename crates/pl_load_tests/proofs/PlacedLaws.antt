@@ -22,7 +22,7 @@ use Rattle.pl_image.specs.Loads.{loaded_piece, loaded_pieces, pieces_at, IsPlace
 use Rattle.pl_image.proofs.PieceLemmas.{ascend_apart}
 use Rattle.pl_image.proofs.PlacedLaws.{pieces_ascend}
 use Rattle.pl_value.specs.Targets.{base_of}
-use Rattle.pl_value.specs.Ordinary.{part_of, loaded_from, loaded, ArePlaced}
+use Rattle.pl_value.specs.Ordinary.{part_of, loaded_from, loaded_objects, ArePlaced}
 use Rattle.pl_value.proofs.LoneLaws.{Lone, Cross, lone_most, most_lone, lone_join}
 
 -- what objects load stands from the place on
@@ -149,5 +149,5 @@ placed places os ss starts spans apart low read parts =
     let have : Have places 0 os ss = have_all places 0 os ss (λ i lt. ap (base_of places) (zero-add i) ∙ ap (λ (xs : List ℕ). get_or xs i 0) (sym starts)) spans low read in
     record {
       placed = λ member d lt. subst (λ (m : ℕ). IsPlaced (base_of places m) (get_or os member d)) (zero-add member) (placed_at places 0 member os ss d have lt);
-      apart = lone_most lies (all_pieces (loaded places parts os)) (lone_all places parts 0 os ss have apart);
+      apart = lone_most lies (all_pieces (loaded_objects places parts os)) (lone_all places parts 0 os ss have apart);
     }

@@ -19,9 +19,9 @@ use Rattle.pl_elf.specs.Ranges.{has, range_from}
 use Rattle.pl_place.specs.Placing.{want_range, MissesAll, AllFree, WantsAreApart}
 use Rattle.pl_image.specs.Image.{all_pieces}
 use Rattle.pl_image.specs.Loads.{loaded_piece, loaded_pieces, pieces_at, loaded_at, IsPlaced}
-use Rattle.pl_image.specs.declared.loaded.Loaded.{Loaded}
+use Rattle.pl_image.specs.declared.loaded_object.LoadedObject.{LoadedObject}
 use Rattle.pl_value.specs.Targets.{base_of}
-use Rattle.pl_value.specs.Ordinary.{part_of, loaded_from, loaded, ArePlaced}
+use Rattle.pl_value.specs.Ordinary.{part_of, loaded_from, loaded_objects, ArePlaced}
 use Rattle.pl_loader.specs.Loading.{objects_of, parts_of}
 use Rattle.pl_loader.specs.Places.{load_range, want_of, IsAt}
 use Rattle.pl_loader.specs.declared.object_file.ObjectFile.{ObjectFile}
@@ -89,7 +89,7 @@ alone_own place low bytes (s ∷ ss) ascend =
 -- ---- the pieces of all objects
 
 -- files as loaded at places
-abbrev pub loaded_each : List ObjectFile → List ℕ → List Loaded
+abbrev pub loaded_each : List ObjectFile → List ℕ → List LoadedObject
 loaded_each [] places = []
 loaded_each (f ∷ fs) [] = []
 loaded_each (f ∷ fs) (place ∷ places) = loaded_at place f.bytes f.object ∷ loaded_each fs places
@@ -220,7 +220,7 @@ loaded_is (f ∷ fs) (place ∷ places) ps qs member size bases parts =
 from_zero : (n : ℕ) → 0 + n ≡ n
 from_zero n = zero-add n
 
-pub loaded_all : (fs : List ObjectFile) (places : List ℕ) → length fs ≡ length places → loaded places (parts_of fs) (objects_of fs) ≡ loaded_each fs places
+pub loaded_all : (fs : List ObjectFile) (places : List ℕ) → length fs ≡ length places → loaded_objects places (parts_of fs) (objects_of fs) ≡ loaded_each fs places
 loaded_all fs places size =
     loaded_is fs places places (parts_of fs) 0 size (λ i lt. ap (base_of places) (from_zero i)) (λ i lt. ap (part_of (parts_of fs)) (from_zero i))
 
@@ -234,10 +234,10 @@ placed_by (f ∷ fs) (place ∷ places) at all (suc member) d lt = placed_by fs 
 pub are_placed : (region : Range) (program : ObjectFile) (fs : List ObjectFile) (places : List ℕ) → length fs ≡ length places → AllZip IsAt (program ∷ fs) (0 ∷ places) → IsSpannedFile program → All IsSpannedFile fs
     → AllFree region (linked_at program) (map want_of fs) places → WantsAreApart (map want_of fs) places → ArePlaced (0 ∷ places) (parts_of (program ∷ fs)) (objects_of (program ∷ fs))
 are_placed region program fs places size at spanned all free apart =
-    let same : loaded (0 ∷ places) (parts_of (program ∷ fs)) (objects_of (program ∷ fs)) ≡ loaded_each (program ∷ fs) (0 ∷ places) = loaded_all (program ∷ fs) (0 ∷ places) (omega (arith, size)) in
+    let same : loaded_objects (0 ∷ places) (parts_of (program ∷ fs)) (objects_of (program ∷ fs)) ≡ loaded_each (program ∷ fs) (0 ∷ places) = loaded_all (program ∷ fs) (0 ∷ places) (omega (arith, size)) in
     record {
       placed = placed_by (program ∷ fs) (0 ∷ places) at (All-cons IsSpannedFile program fs spanned all);
-      apart = subst (λ (os : List Loaded). AtMostOne lies (all_pieces os)) (sym same) (alone_one (pieces_of (program ∷ fs) (0 ∷ places)) (alone_all region program fs places spanned all free apart));
+      apart = subst (λ (os : List LoadedObject). AtMostOne lies (all_pieces os)) (sym same) (alone_one (pieces_of (program ∷ fs) (0 ∷ places)) (alone_all region program fs places spanned all free apart));
     }
 
 -- no objects

@@ -14,7 +14,7 @@ use Rattle.pl_place.specs.Placing.{want_range, AllFree, WantsAreApart, MissesAll
 use Rattle.pl_slots.specs.Holes.{is_free}
 use Rattle.pl_slots.specs.declared.slot.Want.{Want}
 use Rattle.pl_loader.specs.Loading.{IsRead, IsLibrary, IsForm, IsFormIfMarked, made_of}
-use Rattle.pl_loader.specs.Places.{region, everywhere, want_of, range_at, misses, where_free, slot_by, own_place, own_range, own_places, own_ranges, wants_left, joined, IsFree}
+use Rattle.pl_loader.specs.Places.{region, everywhere, want_of, range_at, misses, where_free, slot_by, slot_place, range_at_slot, slot_places, ranges_at_slots, wants_left, joined, IsFree}
 use Rattle.pl_loader.specs.declared.object_file.Mark.{Mark}
 use Rattle.pl_loader.specs.declared.object_file.ObjectFile.{ObjectFile}
 
@@ -61,7 +61,7 @@ abbrev AreOwn : List Range → List ObjectFile → List (Option ℕ) → Type 0
 AreOwn taken [] [] = Unit {0}
 AreOwn taken [] (own ∷ owns) = ⊥
 AreOwn taken (f ∷ fs) [] = ⊥
-AreOwn taken (f ∷ fs) (own ∷ owns) = IsOwn taken f own × AreOwn (taken ++ own_range f own) fs owns
+AreOwn taken (f ∷ fs) (own ∷ owns) = IsOwn taken f own × AreOwn (taken ++ range_at_slot f own) fs owns
 
 is_own : (taken : List Range) (f : ObjectFile) (m : Option Mark) → IsRead f → IsLibrary f → f.mark ≡ m → IsOwn taken f (where_free taken f (slot_by m))
 is_own taken f None read library is = tt
@@ -71,12 +71,12 @@ is_own taken f (Some k) read library is =
       | inr other ↦ rw other tt
     ]
 
-owns_are : (taken : List Range) (fs : List ObjectFile) → All IsRead fs → All IsLibrary fs → AreOwn taken fs (own_places taken fs)
-unfolding own_places
+owns_are : (taken : List Range) (fs : List ObjectFile) → All IsRead fs → All IsLibrary fs → AreOwn taken fs (slot_places taken fs)
+unfolding slot_places
 owns_are taken [] read libraries = tt
 owns_are taken (f ∷ fs) read libraries = (
   is_own taken f f.mark (All-head IsRead f fs read) (All-head IsLibrary f fs libraries) refl,
-  owns_are (taken ++ own_range f (own_place taken f)) fs (All-tail IsRead f fs read) (All-tail IsLibrary f fs libraries),
+  owns_are (taken ++ range_at_slot f (slot_place taken f)) fs (All-tail IsRead f fs read) (All-tail IsLibrary f fs libraries),
 )
 
 -- ---- addresses
@@ -123,27 +123,27 @@ joined_size taken [] (o ∷ owns) starts own size = absurd own
 joined_size taken (f ∷ fs) [] starts own size = absurd own
 joined_size taken (f ∷ fs) (None ∷ owns) [] own size = absurd (omega (arith, size))
 joined_size taken (f ∷ fs) (None ∷ owns) (start ∷ starts) own size =
-    let rest = joined_size (taken ++ own_range f None) fs owns starts own.1 (omega (arith, size)) in
+    let rest = joined_size (taken ++ range_at_slot f None) fs owns starts own.1 (omega (arith, size)) in
     omega (arith, rest)
 joined_size taken (f ∷ fs) (Some slot ∷ owns) starts own size =
-    let rest = joined_size (taken ++ own_range f (Some slot)) fs owns starts own.1 size in
+    let rest = joined_size (taken ++ range_at_slot f (Some slot)) fs owns starts own.1 size in
     omega (arith, rest)
 
-regroup : (taken mine : List Range) (fs : List ObjectFile) (owns : List (Option ℕ)) (starts : List ℕ) → AllFree region (taken ++ (mine ++ own_ranges fs owns)) (wants_left fs owns) starts → AllFree region ((taken ++ mine) ++ own_ranges fs owns) (wants_left fs owns) starts
-regroup taken mine fs owns starts free = subst (λ (busy : List Range). AllFree region busy (wants_left fs owns) starts) (sym (append_assoc taken mine (own_ranges fs owns))) free
+regroup : (taken mine : List Range) (fs : List ObjectFile) (owns : List (Option ℕ)) (starts : List ℕ) → AllFree region (taken ++ (mine ++ ranges_at_slots fs owns)) (wants_left fs owns) starts → AllFree region ((taken ++ mine) ++ ranges_at_slots fs owns) (wants_left fs owns) starts
+regroup taken mine fs owns starts free = subst (λ (busy : List Range). AllFree region busy (wants_left fs owns) starts) (sym (append_assoc taken mine (ranges_at_slots fs owns))) free
 
 in_region : (a : ℕ) → has a region ≡ true → a < ADDRESS_LIMIT
 in_region a here = let end = (below_end a region here).1 in omega (arith, end)
 
-free_all : (taken : List Range) (fs : List ObjectFile) (owns : List (Option ℕ)) (starts : List ℕ) → AreOwn taken fs owns → AllFree region (taken ++ own_ranges fs owns) (wants_left fs owns) starts → AllFree everywhere taken (map want_of fs) (joined owns starts)
-unfolding joined wants_left own_ranges
+free_all : (taken : List Range) (fs : List ObjectFile) (owns : List (Option ℕ)) (starts : List ℕ) → AreOwn taken fs owns → AllFree region (taken ++ ranges_at_slots fs owns) (wants_left fs owns) starts → AllFree everywhere taken (map want_of fs) (joined owns starts)
+unfolding joined wants_left ranges_at_slots
 free_all taken [] owns starts own free = tt
 free_all taken (f ∷ fs) [] starts own free = absurd own
 free_all taken (f ∷ fs) (None ∷ owns) [] own free = tt
 free_all taken (f ∷ fs) (None ∷ owns) (start ∷ starts) own free = (
   λ a here.
-      let parts = and_parts (has a region) (not (is_free a (taken ++ own_ranges fs owns))) (free.0 a here) in
-      shown taken a (in_region a parts.0) (free_left a taken (own_ranges fs owns) (not-true _ parts.1)).0,
+      let parts = and_parts (has a region) (not (is_free a (taken ++ ranges_at_slots fs owns))) (free.0 a here) in
+      shown taken a (in_region a parts.0) (free_left a taken (ranges_at_slots fs owns) (not-true _ parts.1)).0,
   fewer everywhere taken [] (map want_of fs) (joined owns starts) (free_all (taken ++ []) fs owns starts own.1 (regroup taken [] fs owns starts free.1)),
 )
 free_all taken (f ∷ fs) (Some slot ∷ owns) starts own free = (
@@ -163,25 +163,25 @@ misses_free r taken (want ∷ wants) (place ∷ places) free = (
   misses_free r taken wants places free.1,
 )
 
-misses_joined : (r : Range) (fs : List ObjectFile) (owns : List (Option ℕ)) (starts : List ℕ) → ((a : ℕ) → has a r ≡ true → is_free a (own_ranges fs owns) ≡ false) → MissesAll r (wants_left fs owns) starts → MissesAll r (map want_of fs) (joined owns starts)
-unfolding joined wants_left own_ranges
+misses_joined : (r : Range) (fs : List ObjectFile) (owns : List (Option ℕ)) (starts : List ℕ) → ((a : ℕ) → has a r ≡ true → is_free a (ranges_at_slots fs owns) ≡ false) → MissesAll r (wants_left fs owns) starts → MissesAll r (map want_of fs) (joined owns starts)
+unfolding joined wants_left ranges_at_slots
 misses_joined r [] owns starts none misses = tt
 misses_joined r (f ∷ fs) [] starts none misses = tt
 misses_joined r (f ∷ fs) (None ∷ owns) [] none misses = tt
 misses_joined r (f ∷ fs) (None ∷ owns) (start ∷ starts) none misses = (misses.0, misses_joined r fs owns starts none misses.1)
 misses_joined r (f ∷ fs) (Some slot ∷ owns) starts none misses = (
-  λ a here. (or_parts (has a (range_at f slot)) (is_free a (own_ranges fs owns)) (none a here)).0,
-  misses_joined r fs owns starts (λ a here. (or_parts (has a (range_at f slot)) (is_free a (own_ranges fs owns)) (none a here)).1) misses,
+  λ a here. (or_parts (has a (range_at f slot)) (is_free a (ranges_at_slots fs owns)) (none a here)).0,
+  misses_joined r fs owns starts (λ a here. (or_parts (has a (range_at f slot)) (is_free a (ranges_at_slots fs owns)) (none a here)).1) misses,
 )
 
-apart_all : (taken : List Range) (fs : List ObjectFile) (owns : List (Option ℕ)) (starts : List ℕ) → AreOwn taken fs owns → AllFree region (taken ++ own_ranges fs owns) (wants_left fs owns) starts → WantsAreApart (wants_left fs owns) starts → WantsAreApart (map want_of fs) (joined owns starts)
-unfolding joined wants_left own_ranges
+apart_all : (taken : List Range) (fs : List ObjectFile) (owns : List (Option ℕ)) (starts : List ℕ) → AreOwn taken fs owns → AllFree region (taken ++ ranges_at_slots fs owns) (wants_left fs owns) starts → WantsAreApart (wants_left fs owns) starts → WantsAreApart (map want_of fs) (joined owns starts)
+unfolding joined wants_left ranges_at_slots
 apart_all taken [] owns starts own free apart = tt
 apart_all taken (f ∷ fs) [] starts own free apart = absurd own
 apart_all taken (f ∷ fs) (None ∷ owns) [] own free apart = tt
 apart_all taken (f ∷ fs) (None ∷ owns) (start ∷ starts) own free apart = (
   misses_joined (range_at f start) fs owns starts
-      (λ a here. (free_left a taken (own_ranges fs owns) (not-true _ (and_parts (has a region) (not (is_free a (taken ++ own_ranges fs owns))) (free.0 a here)).1)).1) apart.0,
+      (λ a here. (free_left a taken (ranges_at_slots fs owns) (not-true _ (and_parts (has a region) (not (is_free a (taken ++ ranges_at_slots fs owns))) (free.0 a here)).1)).1) apart.0,
   apart_all (taken ++ []) fs owns starts own.1 (regroup taken [] fs owns starts free.1) apart.1,
 )
 apart_all taken (f ∷ fs) (Some slot ∷ owns) starts own free apart =
@@ -190,10 +190,10 @@ apart_all taken (f ∷ fs) (Some slot ∷ owns) starts own free apart =
       apart_all (taken ++ range_at f slot ∷ []) fs owns starts own.1 later apart,
     )
 
-pub all_free : (taken : List Range) (fs : List ObjectFile) (starts : List ℕ) → All IsRead fs → All IsLibrary fs → IsFree region (taken ++ own_ranges fs (own_places taken fs)) (wants_left fs (own_places taken fs)) starts
-    → IsFree everywhere taken (map want_of fs) (joined (own_places taken fs) starts)
+pub all_free : (taken : List Range) (fs : List ObjectFile) (starts : List ℕ) → All IsRead fs → All IsLibrary fs → IsFree region (taken ++ ranges_at_slots fs (slot_places taken fs)) (wants_left fs (slot_places taken fs)) starts
+    → IsFree everywhere taken (map want_of fs) (joined (slot_places taken fs) starts)
 all_free taken fs starts read libraries is =
-    let owns : List (Option ℕ) = own_places taken fs in
+    let owns : List (Option ℕ) = slot_places taken fs in
     let own : AreOwn taken fs owns = owns_are taken fs read libraries in
     record {
       one_each = joined_size taken fs owns starts own is.one_each;
@@ -202,14 +202,14 @@ all_free taken fs starts read libraries is =
     }
 
 -- the same, step by step
-pub beside_free : (first taken after : List Range) (fs : List ObjectFile) (owns : List (Option ℕ)) (wants : List Want) (starts places : List ℕ) → All IsRead fs → All IsLibrary fs → taken ≡ first → owns ≡ own_places taken fs → wants ≡ wants_left fs (own_places taken fs)
-    → after ≡ taken ++ own_ranges fs (own_places taken fs) → IsFree region after wants starts → places ≡ joined owns starts → IsFree everywhere first (map want_of fs) places
+pub beside_free : (first taken after : List Range) (fs : List ObjectFile) (owns : List (Option ℕ)) (wants : List Want) (starts places : List ℕ) → All IsRead fs → All IsLibrary fs → taken ≡ first → owns ≡ slot_places taken fs → wants ≡ wants_left fs (slot_places taken fs)
+    → after ≡ taken ++ ranges_at_slots fs (slot_places taken fs) → IsFree region after wants starts → places ≡ joined owns starts → IsFree everywhere first (map want_of fs) places
 beside_free first taken after fs owns wants starts places read libraries is owns_is wants_is after_is free places_is =
-    let policy : IsFree region (taken ++ own_ranges fs (own_places taken fs)) (wants_left fs (own_places taken fs)) starts =
-    subst (λ (ws : List Want). IsFree region (taken ++ own_ranges fs (own_places taken fs)) ws starts) wants_is (subst (λ (rs : List Range). IsFree region rs wants starts) after_is free) in
-    let joins : places ≡ joined (own_places taken fs) starts = places_is ∙ ap (λ (os : List (Option ℕ)). joined os starts) owns_is in
+    let policy : IsFree region (taken ++ ranges_at_slots fs (slot_places taken fs)) (wants_left fs (slot_places taken fs)) starts =
+    subst (λ (ws : List Want). IsFree region (taken ++ ranges_at_slots fs (slot_places taken fs)) ws starts) wants_is (subst (λ (rs : List Range). IsFree region rs wants starts) after_is free) in
+    let joins : places ≡ joined (slot_places taken fs) starts = places_is ∙ ap (λ (os : List (Option ℕ)). joined os starts) owns_is in
     subst (λ (ps : List ℕ). IsFree everywhere first (map want_of fs) ps) (sym joins)
-    (subst (λ (rs : List Range). IsFree everywhere rs (map want_of fs) (joined (own_places taken fs) starts)) is (all_free taken fs starts read libraries policy))
+    (subst (λ (rs : List Range). IsFree everywhere rs (map want_of fs) (joined (slot_places taken fs) starts)) is (all_free taken fs starts read libraries policy))
 
 -- what the others want may be asked
 pub wants_are : (fs : List ObjectFile) (owns : List (Option ℕ)) → All IsWant (map want_of fs) → All IsWant (wants_left fs owns)

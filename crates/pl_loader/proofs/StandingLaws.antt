@@ -16,13 +16,13 @@ use Rattle.pl_form.specs.Files.{IsBorne}
 use Rattle.pl_image.specs.Image.{all_pieces, extent_of, extents_of, ascends, AreLoaded}
 use Rattle.pl_image.specs.Loads.{loaded_piece, loaded_pieces, mask_at, IsPlaced}
 use Rattle.pl_image.specs.declared.mask.Mask.{Mask}
-use Rattle.pl_image.specs.declared.loaded.Loaded.{Loaded}
+use Rattle.pl_image.specs.declared.loaded_object.LoadedObject.{LoadedObject}
 use Rattle.pl_object.specs.declared.object.Object.{Object}
 use Rattle.pl_parts.specs.Loads.{pieces_of, stands}
-use Rattle.pl_value.specs.Ordinary.{part_of, loaded, ArePlaced}
+use Rattle.pl_value.specs.Ordinary.{part_of, loaded_objects, ArePlaced}
 use Rattle.pl_value.specs.Targets.{base_of}
 use Rattle.pl_conflict.specs.Standing.{standing_at, standing_from, standing}
-use Rattle.pl_loader.specs.Fast.{stored_by, stored, is_slot_of, is_at_slot, are_at_slots, is_fast, is_fast_by, tells, IsMarked}
+use Rattle.pl_loader.specs.Fast.{stored_by, stored, is_slot_of, is_at_slot, are_at_slots, is_fast, is_fast_by, lists_libraries, IsMarked}
 use Rattle.pl_loader.specs.Loading.{objects_of, parts_of, IsRead, AreFiles}
 use Rattle.pl_loader.specs.declared.object_file.Mark.{Mark}
 use Rattle.pl_loader.specs.declared.object_file.ObjectFile.{ObjectFile}
@@ -151,12 +151,12 @@ standing_whole f place pieces mask is masks = rw (is, masks) refl
 -- ---- all files
 
 -- files as they stand at places
-abbrev standing_each : List ObjectFile → List ℕ → List Loaded
+abbrev standing_each : List ObjectFile → List ℕ → List LoadedObject
 standing_each [] places = []
 standing_each (f ∷ fs) [] = []
 standing_each (f ∷ fs) (place ∷ places) = standing_at place (stored f) f.object ∷ standing_each fs places
 
-abbrev pub standing_of : ObjectFile × ℕ → Loaded
+abbrev pub standing_of : ObjectFile × ℕ → LoadedObject
 standing_of at = standing_at at.1 (stored at.0) at.0.object
 
 -- by the members' indexes
@@ -187,18 +187,18 @@ standing_all fs places size =
 each_zipped : (fs : List ObjectFile) (places : List ℕ) → standing_each fs places ≡ map standing_of (zip fs places)
 each_zipped [] places = refl
 each_zipped (f ∷ fs) [] = refl
-each_zipped (f ∷ fs) (place ∷ places) = ap (λ (ls : List Loaded). standing_at place (stored f) f.object ∷ ls) (each_zipped fs places)
+each_zipped (f ∷ fs) (place ∷ places) = ap (λ (ls : List LoadedObject). standing_at place (stored f) f.object ∷ ls) (each_zipped fs places)
 
 -- one file more, and all
-pub standing_more : (fs : List ObjectFile) (ps : List ℕ) (n : ℕ) (f : ObjectFile) (p : ℕ) (before after : List Loaded) (l : Loaded) → n < length fs → n < length ps → f ≡ get_or fs n f → p ≡ get_or ps n p
+pub standing_more : (fs : List ObjectFile) (ps : List ℕ) (n : ℕ) (f : ObjectFile) (p : ℕ) (before after : List LoadedObject) (l : LoadedObject) → n < length fs → n < length ps → f ≡ get_or fs n f → p ≡ get_or ps n p
     → l ≡ standing_at p (stored f) f.object → before ≡ map standing_of (take n (zip fs ps)) → after ≡ before ++ l ∷ [] → after ≡ map standing_of (take (n + 1) (zip fs ps))
 standing_more fs ps n f p before after l lt_fs lt_ps file place is so_far more =
     let within : n < length (zip fs ps) = omega (arith, length-zip fs ps) in
     let at : get_or (zip fs ps) n (f, p) ≡ (f, p) = get_or-zip fs ps n (f, p) lt_fs lt_ps ∙ sym (ap (λ (g : ObjectFile). (g, get_or ps n p)) file) ∙ ap (λ (q : ℕ). (f, q)) (sym place) in
     let front : take (n + 1) (zip fs ps) ≡ take n (zip fs ps) ++ (f, p) ∷ [] = take_more (zip fs ps) n (f, p) within ∙ ap (λ (x : ObjectFile × ℕ). take n (zip fs ps) ++ x ∷ []) at in
-    more ∙ ap (λ (x : Loaded). before ++ x ∷ []) is ∙ ap (λ (xs : List Loaded). xs ++ standing_at p (stored f) f.object ∷ []) so_far ∙ sym (map_push standing_of (take n (zip fs ps)) (f, p)) ∙ ap (map standing_of) (sym front)
+    more ∙ ap (λ (x : LoadedObject). before ++ x ∷ []) is ∙ ap (λ (xs : List LoadedObject). xs ++ standing_at p (stored f) f.object ∷ []) so_far ∙ sym (map_push standing_of (take n (zip fs ps)) (f, p)) ∙ ap (map standing_of) (sym front)
 
-pub standing_done : (fs : List ObjectFile) (ps : List ℕ) (n : ℕ) (all : List Loaded) → length fs ≡ length ps → n ≡ min (length fs) (length ps) → all ≡ map standing_of (take n (zip fs ps)) → all ≡ standing ps (map stored fs) (objects_of fs)
+pub standing_done : (fs : List ObjectFile) (ps : List ℕ) (n : ℕ) (all : List LoadedObject) → length fs ≡ length ps → n ≡ min (length fs) (length ps) → all ≡ map standing_of (take n (zip fs ps)) → all ≡ standing ps (map stored fs) (objects_of fs)
 standing_done fs ps n all size count so_far =
     let le : length (zip fs ps) ≤ n = omega (arith, length-zip fs ps, count) in
     so_far ∙ ap (map standing_of) (take_all n (zip fs ps) le) ∙ sym (each_zipped fs ps) ∙ sym (standing_all fs ps size)
@@ -221,15 +221,15 @@ standing_extents (f ∷ fs) (place ∷ places) read marked =
     let rest = standing_extents fs places (All-tail IsRead f fs read) (All-tail IsMarked f fs marked) in
     ap (λ (r : List Range). r ∷ extents_of (standing_each fs places)) here ∙ ap (λ (rs : List (List Range)). map extent_of (loaded_pieces place f.bytes (loads f.object.segments)) ∷ rs) rest
 
-pub same_extents : (fs : List ObjectFile) (places : List ℕ) → AreFiles fs → All IsMarked fs → length places ≡ length fs → extents_of (standing places (map stored fs) (objects_of fs)) ≡ extents_of (loaded places (parts_of fs) (objects_of fs))
+pub same_extents : (fs : List ObjectFile) (places : List ℕ) → AreFiles fs → All IsMarked fs → length places ≡ length fs → extents_of (standing places (map stored fs) (objects_of fs)) ≡ extents_of (loaded_objects places (parts_of fs) (objects_of fs))
 same_extents fs places are marked size =
     ap extents_of (standing_all fs places (sym size)) ∙ standing_extents fs places are.read marked ∙ ap extents_of (sym (loaded_all fs places (sym size)))
 
 -- objects that load the same addresses have the same ones in common
-flat_extents : (ls ms : List Loaded) → extents_of ls ≡ extents_of ms → map extent_of (all_pieces ls) ≡ map extent_of (all_pieces ms)
+flat_extents : (ls ms : List LoadedObject) → extents_of ls ≡ extents_of ms → map extent_of (all_pieces ls) ≡ map extent_of (all_pieces ms)
 flat_extents [] [] same = refl
-flat_extents [] (m ∷ ms) same = absurd (let size : 0 ≡ suc (length ms) = ap length same ∙ ap suc (length-map ms (λ (o : Loaded). map extent_of o.pieces)) in omega (arith, size))
-flat_extents (l ∷ ls) [] same = absurd (let size : suc (length ls) ≡ 0 = sym (ap suc (length-map ls (λ (o : Loaded). map extent_of o.pieces))) ∙ ap length same in omega (arith, size))
+flat_extents [] (m ∷ ms) same = absurd (let size : 0 ≡ suc (length ms) = ap length same ∙ ap suc (length-map ms (λ (o : LoadedObject). map extent_of o.pieces)) in omega (arith, size))
+flat_extents (l ∷ ls) [] same = absurd (let size : suc (length ls) ≡ 0 = sym (ap suc (length-map ls (λ (o : LoadedObject). map extent_of o.pieces))) ∙ ap length same in omega (arith, size))
 flat_extents (l ∷ ls) (m ∷ ms) same =
     let first : map extent_of l.pieces ≡ map extent_of m.pieces = cc in
     let rest : extents_of ls ≡ extents_of ms = cc in
@@ -263,7 +263,7 @@ marked_libraries (f ∷ fs) (p ∷ ps) size at =
 fast_by : (m : Option Mark) (fs : List ObjectFile) (ps : List ℕ) → length ps ≡ length fs → is_fast_by m fs ps ≡ true → IsSome m × All IsMarked fs
 unfolding are_at_slots
 fast_by None fs ps size fast = absurd (false≢true fast)
-fast_by (Some k) fs ps size fast = (refl, marked_libraries fs ps size (and_parts (tells k.list fs) (list_all is_at_slot (zip fs ps)) fast).1)
+fast_by (Some k) fs ps size fast = (refl, marked_libraries fs ps size (and_parts (lists_libraries k.list fs) (list_all is_at_slot (zip fs ps)) fast).1)
 
 pub fast_marked : (fs : List ObjectFile) (places : List ℕ) → length places ≡ length fs → is_fast fs places ≡ true → All IsMarked fs
 unfolding is_fast

@@ -7,7 +7,7 @@ use Rattle.pl_elf.specs.declared.range.Range.{Range}
 use Rattle.pl_place.specs.Policy.{Answering, Choice, Follows}
 use Rattle.pl_tls.specs.declared.module.Module.{Module}
 use Rattle.pl_image.specs.Image.{Image, byte_of, extents_of}
-use Rattle.pl_value.specs.Ordinary.{loaded, ordinary, IsOrdinary}
+use Rattle.pl_value.specs.Ordinary.{loaded_objects, ordinary, IsOrdinary}
 use Rattle.pl_value.specs.declared.fault.LinkFault.{LinkFault}
 use Rattle.pl_loader.specs.Faults.{is_memory}
 use Rattle.pl_loader.specs.Fast.{is_fast, fast_image}
@@ -19,11 +19,11 @@ use Rattle.pl_loader.specs.declared.started.Started as code
 use Rattle.pl_loader.specs.declared.fault.LoadFault.{LoadFault}
 use Rattle.pl_loader.proofs.PlaceLaws.{places_chosen, unplaced_chosen}
 
-image_of : (fs : List ObjectFile) (at : List ℕ) (image : Image) (r : Result Memory LinkFault) → IsOrdinary (Ok image) r → image.objects ≡ loaded at (parts_of fs) (objects_of fs) → IsLinked image fs at (because (of_link fs) r)
+image_of : (fs : List ObjectFile) (at : List ℕ) (image : Image) (r : Result Memory LinkFault) → IsOrdinary (Ok image) r → image.objects ≡ loaded_objects at (parts_of fs) (objects_of fs) → IsLinked image fs at (because (of_link fs) r)
 image_of fs at image (Ok memory) bytes objects = (memory, refl, record { bytes = bytes; extents = ap extents_of objects })
 image_of fs at image (Err fault) never objects = absurd never
 
-pub linked_is : (fs : List ObjectFile) (at : List ℕ) (modules : List Module) (image : Image) → IsOrdinary (Ok image) (ordinary (objects_of fs) (parts_of fs) at modules) → image.objects ≡ loaded at (parts_of fs) (objects_of fs) → IsLinked image fs at (linked fs at modules)
+pub linked_is : (fs : List ObjectFile) (at : List ℕ) (modules : List Module) (image : Image) → IsOrdinary (Ok image) (ordinary (objects_of fs) (parts_of fs) at modules) → image.objects ≡ loaded_objects at (parts_of fs) (objects_of fs) → IsLinked image fs at (linked fs at modules)
 unfolding linked
 linked_is fs at modules image ordinary_is objects = image_of fs at image (ordinary (objects_of fs) (parts_of fs) at modules) ordinary_is objects
 
@@ -37,7 +37,7 @@ unfolding imaged
 slow_fails fs at modules f slow is = rw slow is
 
 -- on the fast path
-pub fast_is : (fs : List ObjectFile) (at : List ℕ) (modules : List Module) (image : Image) → is_fast fs at ≡ true → image ≡ fast_image fs at → extents_of (fast_image fs at).objects ≡ extents_of (loaded at (parts_of fs) (objects_of fs))
+pub fast_is : (fs : List ObjectFile) (at : List ℕ) (modules : List Module) (image : Image) → is_fast fs at ≡ true → image ≡ fast_image fs at → extents_of (fast_image fs at).objects ≡ extents_of (loaded_objects at (parts_of fs) (objects_of fs))
     → IsLinked image fs at (imaged fs at modules)
 unfolding imaged
 fast_is fs at modules image fast is same =

@@ -25,8 +25,8 @@ unfoldable pub are_rows_of : List ListRow → List ObjectFile → Bool
 are_rows_of list libraries = list_all tells_one (zip list libraries)
 
 -- the rows are those of libraries, each a prelinked file, in order
-abbrev pub tells : List ListRow → List ObjectFile → Bool
-tells list libraries = length list == length libraries && are_rows_of list libraries
+abbrev pub lists_libraries : List ListRow → List ObjectFile → Bool
+lists_libraries list libraries = length list == length libraries && are_rows_of list libraries
 
 -- ---- places
 
@@ -45,7 +45,7 @@ are_at_slots libraries places = list_all is_at_slot (zip libraries places)
 
 abbrev pub is_fast_by : Option Mark → List ObjectFile → List ℕ → Bool
 is_fast_by None libraries places = false
-is_fast_by (Some k) libraries places = tells k.list libraries && are_at_slots libraries places
+is_fast_by (Some k) libraries places = lists_libraries k.list libraries && are_at_slots libraries places
 
 -- the program, which stands first, is a prelinked file, its list tells the libraries of its walk, and each of them is placed at its slot
 unfoldable pub is_fast : List ObjectFile → List ℕ → Bool

@@ -74,28 +74,28 @@ where_free taken f None = None
 where_free taken f (Some slot) = if list_all (misses (range_at f slot)) taken then Some slot else None
 
 -- the slot of a library, where it is free of what is taken
-abbrev pub own_place : List Range → ObjectFile → Option ℕ
-own_place taken f = where_free taken f (slot_of f)
+abbrev pub slot_place : List Range → ObjectFile → Option ℕ
+slot_place taken f = where_free taken f (slot_of f)
 
--- a library ends at its own place at or below the limit of addresses
+-- a library ends at its slot at or below the limit of addresses
 abbrev pub Fits : ObjectFile → Option ℕ → Type 0
 Fits f None = Unit {0}
 Fits f (Some slot) = slot + f.object.span ≤ ADDRESS_LIMIT
 
-abbrev pub own_range : ObjectFile → Option ℕ → List Range
-own_range f None = []
-own_range f (Some slot) = range_at f slot ∷ []
+abbrev pub range_at_slot : ObjectFile → Option ℕ → List Range
+range_at_slot f None = []
+range_at_slot f (Some slot) = range_at f slot ∷ []
 
--- the own places of libraries, each free of what is taken and of the ones before it
-unfoldable pub own_places : List Range → List ObjectFile → List (Option ℕ)
-own_places taken [] = []
-own_places taken (f ∷ fs) = own_place taken f ∷ own_places (taken ++ own_range f (own_place taken f)) fs
+-- the slots of libraries as their places, each where it is free of what is taken and of the ones before it
+unfoldable pub slot_places : List Range → List ObjectFile → List (Option ℕ)
+slot_places taken [] = []
+slot_places taken (f ∷ fs) = slot_place taken f ∷ slot_places (taken ++ range_at_slot f (slot_place taken f)) fs
 
--- what libraries take at their own places
-unfoldable pub own_ranges : List ObjectFile → List (Option ℕ) → List Range
-own_ranges [] owns = []
-own_ranges (f ∷ fs) [] = []
-own_ranges (f ∷ fs) (own ∷ owns) = own_range f own ++ own_ranges fs owns
+-- what libraries take at their slots
+unfoldable pub ranges_at_slots : List ObjectFile → List (Option ℕ) → List Range
+ranges_at_slots [] owns = []
+ranges_at_slots (f ∷ fs) [] = []
+ranges_at_slots (f ∷ fs) (own ∷ owns) = range_at_slot f own ++ ranges_at_slots fs owns
 
 abbrev pub want_if : ObjectFile → Option ℕ → List Want
 want_if f None = want_of f ∷ []
@@ -107,7 +107,7 @@ wants_left [] owns = []
 wants_left (f ∷ fs) [] = []
 wants_left (f ∷ fs) (own ∷ owns) = want_if f own ++ wants_left fs owns
 
--- the own places, and the others' places where there is none
+-- the slots, and the others' places where there is none
 unfoldable pub joined : List (Option ℕ) → List ℕ → List ℕ
 joined [] starts = []
 joined (Some slot ∷ owns) starts = slot ∷ joined owns starts
@@ -120,20 +120,20 @@ joined (None ∷ owns) (start ∷ starts) = start ∷ joined owns starts
 abbrev pub taken_first : Option Range → ObjectFile → List Range
 taken_first busy program = taken program ++ kept_free busy
 
--- the own places of the libraries beside a program
-abbrev pub owns_beside : Option Range → ObjectFile → List ObjectFile → List (Option ℕ)
-owns_beside busy program libraries = own_places (taken_first busy program) libraries
+-- the slots of the libraries beside a program
+abbrev pub slot_places_beside : Option Range → ObjectFile → List ObjectFile → List (Option ℕ)
+slot_places_beside busy program libraries = slot_places (taken_first busy program) libraries
 
 -- the holes in which the others are placed
 abbrev pub holes_beside : Option Range → ObjectFile → List ObjectFile → List Range
-holes_beside busy program libraries = left region (taken_first busy program ++ own_ranges libraries (owns_beside busy program libraries))
+holes_beside busy program libraries = left region (taken_first busy program ++ ranges_at_slots libraries (slot_places_beside busy program libraries))
 
 -- what the others want
 abbrev pub wants_beside : Option Range → ObjectFile → List ObjectFile → List Want
-wants_beside busy program libraries = wants_left libraries (owns_beside busy program libraries)
+wants_beside busy program libraries = wants_left libraries (slot_places_beside busy program libraries)
 
 abbrev pub all_places : Option Range → ObjectFile → List ObjectFile → List ℕ → List ℕ
-all_places busy program libraries starts = 0 ∷ joined (owns_beside busy program libraries) starts
+all_places busy program libraries starts = 0 ∷ joined (slot_places_beside busy program libraries) starts
 
 -- by a policy that is a function: each other library in turn is where it says, or the first for which nothing fits
 unfoldable pub places : Choice → Option Range → List ObjectFile → Result (List ℕ) LoadFault

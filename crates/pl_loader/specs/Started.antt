@@ -1,7 +1,7 @@
 -- What a load starts from: the objects at their addresses, the modules of thread-local storage, the entry and the memory (System V gABI, chapter 5; Drepper, "ELF Handling for Thread-Local Storage").
 use Rattle.std.specs.Prelude.{◌≡◌, ℕ, ◌+◌, List, [], ◌∷◌, map, fold, min, max, Option, Some, None, Bool, Result, Ok, Err, ◌⊎◌, true, slice_get, ◌==◌, if◌then◌else◌}
 use Rattle.std.specs.List.{zip}
-use Rattle.pl_base.specs.Answers.{◌>>=◌, Answers, Tells, because}
+use Rattle.pl_base.specs.Answers.{◌>>=◌, Answers, NeverMemory, because}
 use Rattle.pl_base.specs.Memory.{Memory}
 use Rattle.pl_base.specs.Sums.{round_up, round_down}
 use Rattle.pl_elf.specs.Headers.{loads}
@@ -13,7 +13,7 @@ use Rattle.pl_tls.specs.Layout.{offsets}
 use Rattle.pl_tls.specs.declared.block.Block.{Block}
 use Rattle.pl_tls.specs.declared.module.Module.{Module}
 use Rattle.pl_image.specs.Image.{Image, byte_of, extents_of}
-use Rattle.pl_value.specs.Ordinary.{loaded, ordinary}
+use Rattle.pl_value.specs.Ordinary.{loaded_objects, ordinary}
 use Rattle.pl_value.specs.declared.fault.LinkFault.{LinkFault}
 use Rattle.pl_value.specs.declared.fault.LinkFault.TheVariants as link
 use Rattle.pl_loader.specs.Faults.{is_memory, of_tls}
@@ -119,7 +119,7 @@ start files places modules memory = record {
   modules = map (tls_module files) modules;
   entry = entry_of files;
   memory = memory;
-  extents = extents_of (loaded places (parts_of files) (objects_of files));
+  extents = extents_of (loaded_objects places (parts_of files) (objects_of files));
 }
 
 -- the memory of objects at places, or the first link refusal
@@ -155,7 +155,7 @@ load choose busy fault file name = files fault file name >>= λ all. because fau
 -- an image: the same memory, byte by byte, of objects that load the same addresses at these places
 pub record IsImageOf (image : Image) (files : List ObjectFile) (places : List ℕ) (memory : Memory) : Type 0 where
   pub bytes : (address : ℕ) → byte_of image address ≡ memory address
-  pub extents : extents_of image.objects ≡ extents_of (loaded places (parts_of files) (objects_of files))
+  pub extents : extents_of image.objects ≡ extents_of (loaded_objects places (parts_of files) (objects_of files))
 
 abbrev pub IsLinked : Image → List ObjectFile → List ℕ → Result Memory LoadFault → Type 0
 IsLinked image files places meant = (memory : Memory) × (meant ≡ Ok memory) × IsImageOf image files places memory
@@ -237,4 +237,4 @@ EndsEveryLoad l file fault =
 -- whatever folder tells of no want of memory, the whole load of this name tells of none
 abbrev pub LoadsWithoutMemoryFault : Option Range → List ℕ → Type 0
 LoadsWithoutMemoryFault busy name =
-    (choose : Choice) (files : List ℕ → Result (List ℕ) LoadFault) → ((n : List ℕ) → Tells is_memory (files n)) → Tells is_memory (load choose busy itself files name)
+    (choose : Choice) (files : List ℕ → Result (List ℕ) LoadFault) → ((n : List ℕ) → NeverMemory is_memory (files n)) → NeverMemory is_memory (load choose busy itself files name)

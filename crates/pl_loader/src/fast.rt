@@ -30,8 +30,8 @@ fn are_rows_of(list: &[ListRow], libraries: &[ObjectFile]) -> bool
 }
 
 /// Whether rows are those of libraries, each a prelinked file, in order.
-fn tells(list: &[ListRow], libraries: &[ObjectFile]) -> bool
-    ensures { result ≡ spec.tells list.now libraries.now }
+fn lists_libraries(list: &[ListRow], libraries: &[ObjectFile]) -> bool
+    ensures { result ≡ spec.lists_libraries list.now libraries.now }
 {
     list.len() == libraries.len() && are_rows_of(list, libraries)
 }
@@ -63,7 +63,8 @@ fn is_fast_by(mark: &Option<Mark>, libraries: &[ObjectFile], places: &[u64]) -> 
 {
     match mark {
         None => false,
-        Some(mark) => tells(mark.list.as_slice(), libraries) && are_at_slots(libraries, places),
+        Some(mark) => lists_libraries(mark.list.as_slice(), libraries)
+            && are_at_slots(libraries, places),
     }
 }
 

@@ -9,7 +9,7 @@ ghost use Rattle.pl_value.specs.Ordinary.{ArePlaced};
 ghost use Rattle.pl_loader.specs.Loading.{AreFiles, IsRead, objects_of, parts_of};
 ghost use Rattle.pl_loader.specs.Places as spec;
 
-use crate::own_places::{joined, own_places};
+use crate::slot_places::{joined, slot_places};
 use crate::{LoadFault, ObjectFile, REGION_END, REGION_START};
 use pl_base::Rows;
 use pl_elf::{Range, Segment, header_fields, loads, read_segments};
@@ -119,7 +119,7 @@ fn library_places<F: Fn(&Holes, u64, u64) -> Option<u64>>(
         (program.now ∷ libraries.now)) }
 {
     let mut taken = taken_first(alloc, busy, program)?;
-    let own = own_places(alloc, &mut taken, libraries)?;
+    let own = slot_places(alloc, &mut taken, libraries)?;
     let starts = policy_places(alloc, placer, own.wants.as_slice(), &taken)?;
     Ok(joined(alloc, own.places.as_slice(), &starts)?)
 }

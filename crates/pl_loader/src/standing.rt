@@ -15,7 +15,7 @@ ghost use Rattle.pl_loader.specs.declared.fault.LoadFault.TheVariants as faults;
 use crate::{LoadFault, ObjectFile};
 use pl_base::{Rows, part};
 use pl_elf::{Segment, header_fields, read_segments};
-use pl_image::{Image, Loaded, Patch, Piece, load_mask};
+use pl_image::{Image, LoadedObject, Patch, Piece, load_mask};
 use pl_lists::ConflictRow;
 use std::alloc::{AllocError, Global};
 
@@ -85,7 +85,7 @@ fn standing_file<'a>(
     alloc: Global,
     file: &'a ObjectFile,
     place: u64,
-) -> Result<Loaded<'a>, AllocError>
+) -> Result<LoadedObject<'a>, AllocError>
     requires read { IsRead file.now }
     requires marked { spec.IsMarked file.now }
     requires placed { IsPlaced place file.now.object }
@@ -105,7 +105,7 @@ fn standing_file<'a>(
         place,
     )?;
     let mask = load_mask(alloc, &file.object, place)?;
-    Ok(Loaded { pieces, mask })
+    Ok(LoadedObject { pieces, mask })
 }
 
 /// All files as they are loaded at their places where they stand.
@@ -113,7 +113,7 @@ fn standing_files<'a>(
     alloc: Global,
     files: &'a [ObjectFile],
     places: &[u64],
-) -> Result<Vec<Loaded<'a>>, AllocError>
+) -> Result<Vec<LoadedObject<'a>>, AllocError>
     requires files { AreFiles files.now }
     requires marked { All spec.IsMarked files.now }
     requires one_each { length places.now ≡ length files.now }

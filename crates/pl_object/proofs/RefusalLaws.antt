@@ -1,6 +1,6 @@
 -- What refuses a file is always an acceptance clause: the definition of an object means a want of memory of no file.
 use Rattle.std.proofs.Common.{◌≡◌, refl, rules, ℕ, false, List, Option, Some, None}
-use Rattle.pl_base.specs.Answers.{Tells}
+use Rattle.pl_base.specs.Answers.{NeverMemory}
 use Rattle.pl_base.proofs.TellsLaws.{ok_tells, err_tells, unless_tells, found_tells, either_tells, then_tells, because_tells, cause_tells, each_tells}
 use Rattle.pl_elf.specs.Clauses as elf
 use Rattle.pl_elf.specs.declared.segment.Segment.{Segment}
@@ -56,43 +56,43 @@ of_versions_tells ver_fault.BadChain t = refl
 of_versions_tells ver_fault.BadIndex t = refl
 of_versions_tells ver_fault.NoMemory t = t
 
-dynamic_tells : (bytes : List ℕ) (ss : List Segment) → Tells dyn.is_memory (dynamic bytes ss)
+dynamic_tells : (bytes : List ℕ) (ss : List Segment) → NeverMemory dyn.is_memory (dynamic bytes ss)
 unfolding dynamic dyn.read
 dynamic_tells bytes ss = search (rules, unless_tells, found_tells, either_tells, ok_tells, err_tells)
 
-named_tells : (table : List ℕ) (at : ℕ) (name : Option (List ℕ)) → Tells sym.is_memory (sym.named table at name)
+named_tells : (table : List ℕ) (at : ℕ) (name : Option (List ℕ)) → NeverMemory sym.is_memory (sym.named table at name)
 named_tells table at None = err_tells _ sym.is_memory _ refl
 named_tells table at (Some name) = ok_tells sym.is_memory _
 
-symbols_tells : (table strings : List ℕ) → Tells sym.is_memory (sym.symbols table strings)
+symbols_tells : (table strings : List ℕ) → NeverMemory sym.is_memory (sym.symbols table strings)
 unfolding sym.symbols sym.symbol_at
 symbols_tells table strings = each_tells sym.is_memory _ _ (λ index. named_tells table _ _)
 
-versions_tells : (versym verdef verneed strings : List ℕ) (defs needs : ℕ) → Tells ver.is_memory (ver.versions versym verdef defs verneed needs strings)
+versions_tells : (versym verdef verneed strings : List ℕ) (defs needs : ℕ) → NeverMemory ver.is_memory (ver.versions versym verdef defs verneed needs strings)
 unfolding ver.versions ver.checked
 versions_tells versym verdef verneed strings defs needs = search (rules, unless_tells, ok_tells)
 
 -- ---- the names of an object
 
-checked_name_tells : (name : Option (List ℕ)) → Tells is_memory (names.checked_name name)
+checked_name_tells : (name : Option (List ℕ)) → NeverMemory is_memory (names.checked_name name)
 checked_name_tells None = err_tells _ is_memory _ refl
 checked_name_tells (Some name) = either_tells is_memory _ _ _ (ok_tells is_memory name) (err_tells _ is_memory _ refl)
 
-needed_tells : (tags : List Tag) (strings : List ℕ) → Tells is_memory (names.needed tags strings)
+needed_tells : (tags : List Tag) (strings : List ℕ) → NeverMemory is_memory (names.needed tags strings)
 unfolding names.needed names.needed_name
 needed_tells tags strings = each_tells is_memory _ _ (λ tag. checked_name_tells _)
 
-bare_tells : (bytes : List ℕ) (ss : List Segment) (sections : List Section) (tags : List Tag) → Tells is_memory (names.symbols bytes ss sections tags)
+bare_tells : (bytes : List ℕ) (ss : List Segment) (sections : List Section) (tags : List Tag) → NeverMemory is_memory (names.symbols bytes ss sections tags)
 unfolding names.symbols
 bare_tells bytes ss sections tags = because_tells sym.is_memory is_memory of_symbols _ of_symbols_tells (symbols_tells _ _)
 
-known_tells : (bytes : List ℕ) (ss : List Segment) (sections : List Section) (tags : List Tag) (symbols : List Symbol) → Tells is_memory (names.versions bytes ss sections tags symbols)
+known_tells : (bytes : List ℕ) (ss : List Segment) (sections : List Section) (tags : List Tag) (symbols : List Symbol) → NeverMemory is_memory (names.versions bytes ss sections tags symbols)
 unfolding names.versions names.known_versions names.table_versions names.counted
 known_tells bytes ss sections tags symbols = unless_tells is_memory _ _ _ refl (either_tells is_memory _ _ _
     (then_tells is_memory _ _ (because_tells ver.is_memory is_memory of_versions _ of_versions_tells (versions_tells _ _ _ _ _ _)) (λ known. unless_tells is_memory _ _ _ refl (ok_tells is_memory _)))
     (ok_tells is_memory _))
 
-linking_tells : (bytes : List ℕ) (f : Headers) (tags : List Tag) → Tells is_memory (linking bytes f tags)
+linking_tells : (bytes : List ℕ) (f : Headers) (tags : List Tag) → NeverMemory is_memory (linking bytes f tags)
 unfolding linking
 linking_tells bytes f tags =
     then_tells is_memory _ _ (needed_tells tags _) (λ found. then_tells is_memory _ _ (bare_tells bytes f.segments f.sections tags)
@@ -100,25 +100,25 @@ linking_tells bytes f tags =
 
 -- ---- the clauses from 9 on
 
-tables_tell : (bytes : List ℕ) (f : Headers) (tags : List Tag) → Tells is_memory (check_tables bytes f.header f.segments f.sections tags)
+tables_tell : (bytes : List ℕ) (f : Headers) (tags : List Tag) → NeverMemory is_memory (check_tables bytes f.header f.segments f.sections tags)
 unfolding check_tables
 tables_tell bytes f tags = search (rules, unless_tells, ok_tells)
 
-check_tells : (bytes : List ℕ) (f : Headers) (tags : List Tag) (l : Linking) (places : Layout) → Tells is_memory (check bytes f tags l places)
+check_tells : (bytes : List ℕ) (f : Headers) (tags : List Tag) (l : Linking) (places : Layout) → NeverMemory is_memory (check bytes f tags l places)
 unfolding check check_symbols check_relocs check_places check_rest
 check_tells bytes f tags l places = search (rules, unless_tells, found_tells, either_tells, ok_tells, err_tells, then_tells)
 
-dynamic_object_tells : (bytes : List ℕ) (f : Headers) (d : Dynamic) → Tells is_memory (dynamic_object bytes f d)
+dynamic_object_tells : (bytes : List ℕ) (f : Headers) (d : Dynamic) → NeverMemory is_memory (dynamic_object bytes f d)
 unfolding dynamic_object checked
 dynamic_object_tells bytes f d =
     then_tells is_memory _ _ (tables_tell bytes f d.tags) (λ u. then_tells is_memory _ _ (linking_tells bytes f d.tags)
     (λ l. then_tells is_memory _ _ (check_tells bytes f d.tags l (layout bytes f d.tags l)) (λ v. ok_tells is_memory _)))
 
-parts_tell : (bytes : List ℕ) (f : Headers) → Tells is_memory (parts bytes f)
+parts_tell : (bytes : List ℕ) (f : Headers) → NeverMemory is_memory (parts bytes f)
 unfolding parts static_program
 parts_tell bytes f = either_tells is_memory (elf.is_static_file bytes f.header) _ _ (unless_tells is_memory _ _ _ refl (ok_tells is_memory _))
     (then_tells is_memory _ _ (because_tells dyn.is_memory is_memory of_dynamic _ of_dynamic_tells (dynamic_tells bytes f.segments)) (λ d. dynamic_object_tells bytes f d))
 
-pub reads_tells : (bytes : List ℕ) → Tells is_memory (reads bytes)
+pub reads_tells : (bytes : List ℕ) → NeverMemory is_memory (reads bytes)
 unfolding reads
 reads_tells bytes = then_tells is_memory _ _ (cause_tells is_memory of_header (elf.read bytes) of_header_tells) (λ h. parts_tell bytes (headers bytes h))

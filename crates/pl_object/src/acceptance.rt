@@ -1,6 +1,6 @@
 ghost use Rattle.std.specs.Prelude.{◌≡◌, ◌<◌, ◌≤◌, ◌^◌, ◌∷◌, length, false, IfOk};
 ghost use Rattle.std.specs.List.{All};
-ghost use Rattle.pl_base.specs.Answers.{Answers, Tells};
+ghost use Rattle.pl_base.specs.Answers.{Answers, NeverMemory};
 ghost use Rattle.pl_base.specs.Windows.{end_of};
 ghost use Rattle.pl_elf.specs.Headers.{HasSections, HasSegments, loads};
 ghost use Rattle.pl_elf.specs.Clauses.{AreLoads};
@@ -397,7 +397,7 @@ pub fn accept(alloc: Global, bytes: &[u8]) -> Result<Object, Refusal>
     ensures exact { Answers is_memory result (spec.reads bytes.now) }
     ensures facts { IfOk result (λ o. Accepted bytes.now o) }
     // a law over definitions: no file means a want of memory
-    ensures never_memory { Tells is_memory (spec.reads bytes.now) }
+    ensures never_memory { NeverMemory is_memory (spec.reads bytes.now) }
 {
     read_object(alloc, bytes)
 }

@@ -12,40 +12,48 @@ use std::alloc::{AllocError, Global};
 
 /// A table or a spot.
 #[derive(Clone, Copy, Debug)]
-pub struct Mark {
+pub struct TaggedWindow {
     pub window: Window,
     pub is_table: bool,
 }
 
-fn marks_of(alloc: Global, windows: &[Window], is_table: bool) -> Result<Vec<Mark>, AllocError>
-    ensures { IfOk result (λ v. v.items ≡ map (spec.mark is_table) windows.now) }
+fn tagged_of(
+    alloc: Global,
+    windows: &[Window],
+    is_table: bool,
+) -> Result<Vec<TaggedWindow>, AllocError>
+    ensures { IfOk result (λ v. v.items ≡ map (spec.tagged is_table) windows.now) }
 {
     windows
         .iter()
-        .map(|window| Mark {
+        .map(|window| TaggedWindow {
             window: *window,
             is_table,
         })
         .collect(alloc)
 }
 
-fn marks(alloc: Global, tables: &[Window], spots: &[Window]) -> Result<Vec<Mark>, AllocError>
-    ensures { IfOk result (λ v. v.items ≡ map (spec.mark true) tables.now
-        ++ map (spec.mark false) spots.now) }
+fn tagged_windows(
+    alloc: Global,
+    tables: &[Window],
+    spots: &[Window],
+) -> Result<Vec<TaggedWindow>, AllocError>
+    ensures { IfOk result (λ v. v.items ≡ map (spec.tagged true) tables.now
+        ++ map (spec.tagged false) spots.now) }
 {
-    let mut marks = marks_of(alloc, tables, true)?;
-    let more = marks_of(alloc, spots, false)?;
-    marks.extend_from_slice(&more)?;
-    Ok(marks)
+    let mut tagged_windows = tagged_of(alloc, tables, true)?;
+    let more = tagged_of(alloc, spots, false)?;
+    tagged_windows.extend_from_slice(&more)?;
+    Ok(tagged_windows)
 }
 
-/// Puts marks into the order of where they begin.
-fn sort_marks(marks: &mut [Mark])
-    ensures same { IsPermutation marks.old marks.new }
-    ensures len { length marks.new ≡ length marks.old }
-    ensures rising { IsNonDecreasingBy (λ m. m.window.at) marks.new }
+/// Puts tagged windows into the order of where they begin.
+fn sort_tagged(tagged_windows: &mut [TaggedWindow])
+    ensures same { IsPermutation tagged_windows.old tagged_windows.new }
+    ensures len { length tagged_windows.new ≡ length tagged_windows.old }
+    ensures rising { IsNonDecreasingBy (λ m. m.window.at) tagged_windows.new }
 {
-    marks.sort_unstable_by_key(|mark| mark.window.at());
+    tagged_windows.sort_unstable_by_key(|tagged| tagged.window.at());
 }
 
 /// Whether a window ends after another.
@@ -82,45 +90,45 @@ fn is_met(last: Window, window: &Window) -> bool
         && (window.at() < last.at() || window.at() - last.at() < u128::from(last.size()))
 }
 
-fn other(table: Window, spot: Window, mark: &Mark) -> Window
-    ensures { result ≡ spec.other table spot mark.now }
+fn other(table: Window, spot: Window, tagged: &TaggedWindow) -> Window
+    ensures { result ≡ spec.other table spot tagged.now }
 {
-    if mark.is_table { spot } else { table }
+    if tagged.is_table { spot } else { table }
 }
 
-fn table_after(table: Window, mark: &Mark) -> Window
-    ensures { result ≡ spec.table_after table mark.now }
+fn table_after(table: Window, tagged: &TaggedWindow) -> Window
+    ensures { result ≡ spec.table_after table tagged.now }
 {
-    if mark.is_table {
-        further(table, &mark.window)
+    if tagged.is_table {
+        further(table, &tagged.window)
     } else {
         table
     }
 }
 
-fn spot_after(spot: Window, mark: &Mark) -> Window
-    ensures { result ≡ spec.spot_after spot mark.now }
+fn spot_after(spot: Window, tagged: &TaggedWindow) -> Window
+    ensures { result ≡ spec.spot_after spot tagged.now }
 {
-    if mark.is_table {
+    if tagged.is_table {
         spot
     } else {
-        further(spot, &mark.window)
+        further(spot, &tagged.window)
     }
 }
 
-/// Whether a table and a spot share a byte, of marks in the order of where they begin.
+/// Whether a table and a spot share a byte, of tagged windows in the order of where they begin.
 #[tactic(auto, using(crate::proofs::CrossingLaws::cross_done))]
-fn cross(marks: &[Mark]) -> bool
-    ensures { result ≡ spec.cross nothing nothing marks.now }
+fn cross(tagged_windows: &[TaggedWindow]) -> bool
+    ensures { result ≡ spec.cross nothing nothing tagged_windows.now }
 {
     let mut table = Window::new(0, 0);
     let mut spot = Window::new(0, 0);
-    for mark in marks {
-        if is_met(other(table, spot, mark), &mark.window) {
+    for tagged in tagged_windows {
+        if is_met(other(table, spot, tagged), &tagged.window) {
             return true;
         }
-        table = table_after(table, mark);
-        spot = spot_after(spot, mark);
+        table = table_after(table, tagged);
+        spot = spot_after(spot, tagged);
     }
     false
 }
@@ -129,7 +137,7 @@ fn cross(marks: &[Mark]) -> bool
 pub fn any_meets(alloc: Global, tables: &[Window], spots: &[Window]) -> Result<bool, AllocError>
     ensures { IfOk result (λ b. b ≡ list_any (meets tables.now) spots.now) }
 {
-    let mut sorted = marks(alloc, tables, spots)?;
-    sort_marks(&mut sorted);
+    let mut sorted = tagged_windows(alloc, tables, spots)?;
+    sort_tagged(&mut sorted);
     Ok(cross(&sorted))
 }

@@ -10,7 +10,7 @@ use Rattle.pl_move.specs.Moves.{table_windows, all_moved}
 use Rattle.pl_parts.specs.Back.{header_window, segments_window, spot_windows, wanted, visible}
 use Rattle.pl_parts.specs.declared.parts.Spot.{Spot}
 use Rattle.pl_parts.specs.Parts.{Original, moved_part, front_part, hidden, zeros_part}
-use Rattle.pl_parts.specs.declared.parts.Plan.{Plan}
+use Rattle.pl_parts.specs.declared.parts.FormPlan.{FormPlan}
 use Rattle.pl_parts.specs.Loads.{fills, hidden_windows}
 use Rattle.pl_move.proofs.MoveLaws.{length-all_moved}
 use Rattle.pl_parts.proofs.FormLaws.{windows_visible, length-moved_part, front_moved}
@@ -52,7 +52,7 @@ pub record Apart (o : Original) : Type 0 where
   pub spots : AreAllApart (spot_windows o.spots)
   pub heads : (i : ℕ) (e : Spot) → i < length o.spots → IsApart (record { at = (get_or o.spots i e).at; size = (get_or o.spots i e).size }) (header_window ∷ segments_window (header o.bytes) ∷ o.dynamic ∷ [])
 
-moved_fill : (p : Plan) (o : Original) (flat : List ℕ) (undo i : ℕ) (d : Put) → Fits p o flat undo → Apart o → i < length (visible o.spots flat)
+moved_fill : (p : FormPlan) (o : Original) (flat : List ℕ) (undo i : ℕ) (d : Put) → Fits p o flat undo → Apart o → i < length (visible o.spots flat)
     → within (put_window (get_or (visible o.spots flat) i d)) (moved_part p o flat) ≡ (get_or (visible o.spots flat) i d).bytes
 unfolding moved_part
 moved_fill p o flat undo i d fits apart lt =
@@ -61,7 +61,7 @@ moved_fill p o flat undo i d fits apart lt =
     put_all_at (visible o.spots flat) (all_moved p.slot o.tables o.bytes) (rw ws apart.spots) (rw (size, ws) (all_in (length o.bytes) (spot_windows o.spots) fits.spots_in)) i d lt
 
 -- a byte of a place that lies in file bytes
-pub front_fill : (p : Plan) (o : Original) (flat : List ℕ) (undo i j : ℕ) (e : Spot) (n : List ℕ) → Fits p o flat undo → Apart o → i < length o.spots → j < (get_or o.spots i e).size
+pub front_fill : (p : FormPlan) (o : Original) (flat : List ℕ) (undo i j : ℕ) (e : Spot) (n : List ℕ) → Fits p o flat undo → Apart o → i < length o.spots → j < (get_or o.spots i e).size
     → get_or (front_part p o flat undo) ((get_or o.spots i e).at + j) 0 ≡ get_or (get_or (fills o.spots flat) i n) j 0
 front_fill p o flat undo i j e n fits apart lt small =
     let s = get_or o.spots i e in

@@ -10,7 +10,7 @@ use Rattle.pl_base.specs.Windows.{Window, Put, put_window, windows, holds, AllIn
 use Rattle.pl_base.proofs.WordLaws.{word16_below, word32_below, word64_below}
 use Rattle.pl_base.proofs.WindowLaws.{length-put, length-part, within_put, agree_itself, agree_edit, agree_edits, agree_wider, all_in, part_part, part_apart}
 use Rattle.pl_elf.specs.Headers.{header, section, section_at, section_offset}
-use Rattle.pl_elf.specs.Written.{header_bytes, segment_bytes, section_bytes}
+use Rattle.pl_elf.specs.Written.{header_bytes, segment_bytes, section_header_bytes}
 use Rattle.pl_elf.specs.declared.header.Header.{Header}
 use Rattle.pl_elf.specs.declared.section.Section.{Section}
 use Rattle.pl_elf.proofs.WrittenLaws.{header_read, section_read}
@@ -19,7 +19,7 @@ use Rattle.pl_parts.specs.Back.{header_window, segments_window, sections_window,
 use Rattle.pl_parts.specs.declared.parts.Spot.{Spot}
 use Rattle.pl_parts.specs.Parts.{up, joined, joined_size, Original, plain, old_names, names_part, undo_at, names_at, table_at, undo_row, names_row, table_rows, table_part, moved_entry, new_header, moved_part, under_segments, under_header, front_part, form}
 use Rattle.pl_parts.specs.Fits.{Fits}
-use Rattle.pl_parts.specs.declared.parts.Plan.{Plan}
+use Rattle.pl_parts.specs.declared.parts.FormPlan.{FormPlan}
 use Rattle.pl_move.proofs.MoveLaws.{length-all_moved}
 use Rattle.pl_parts.proofs.HeadLaws.{header_part, section_part as section_by_part, length-header, length-segment, length-section, length-rows_of, row_of}
 use Rattle.pl_parts.proofs.FrontLaws.{IsReadable}
@@ -41,14 +41,14 @@ windows_visible (p ∷ ps) flat n =
 abbrev pub written : Original → List Window
 written o = header_window ∷ segments_window (header o.bytes) ∷ o.dynamic ∷ spot_windows o.spots
 
-pub segments_length : (p : Plan) (o : Original) (flat : List ℕ) (undo : ℕ) → Fits p o flat undo → length (concat (map segment_bytes p.segments)) ≡ 56 * (header o.bytes).phnum
+pub segments_length : (p : FormPlan) (o : Original) (flat : List ℕ) (undo : ℕ) → Fits p o flat undo → length (concat (map segment_bytes p.segments)) ≡ 56 * (header o.bytes).phnum
 segments_length p o flat undo fits = length-rows_of 56 segment_bytes p.segments length-segment ∙ ap (λ (n : ℕ). 56 * n) fits.segments
 
 ident_length : (xs : List ℕ) → 64 ≤ length xs → length (header xs).ident ≡ 16
 unfolding header
 ident_length xs long = length-part 0 16 xs (omega (arith, long))
 
-pub new_length : (p : Plan) (o : Original) (undo : ℕ) → 64 ≤ length o.bytes → length (header_bytes (new_header p o.bytes undo)) ≡ 64
+pub new_length : (p : FormPlan) (o : Original) (undo : ℕ) → 64 ≤ length o.bytes → length (header_bytes (new_header p o.bytes undo)) ≡ 64
 unfolding new_header
 new_length p o undo long = length-header _ (ident_length o.bytes long)
 
@@ -62,7 +62,7 @@ three ws a b c xs ys h fits =
     let two = agree_edit (put_window c ∷ ws) b.at b.bytes (put c.at c.bytes xs) ys one (rw size_c fits.1.0) in
     agree_edit (put_window b ∷ put_window c ∷ ws) a.at a.bytes (put b.at b.bytes (put c.at c.bytes xs)) ys two (rw size_b fits.0)
 
-moved_agrees : (p : Plan) (o : Original) (flat : List ℕ) (undo : ℕ) → Fits p o flat undo → Agree (spot_windows o.spots) (moved_part p o flat) (all_moved p.slot o.tables o.bytes)
+moved_agrees : (p : FormPlan) (o : Original) (flat : List ℕ) (undo : ℕ) → Fits p o flat undo → Agree (spot_windows o.spots) (moved_part p o flat) (all_moved p.slot o.tables o.bytes)
 unfolding moved_part
 moved_agrees p o flat undo fits =
     let size : length (all_moved p.slot o.tables o.bytes) ≡ length o.bytes = length-all_moved p.slot o.tables o.bytes (all_in (length o.bytes) (table_windows o.tables) fits.tables_in) in
@@ -73,7 +73,7 @@ moved_agrees p o flat undo fits =
     subst (λ (vs : List Window). Agree vs (moved_part p o flat) (all_moved p.slot o.tables o.bytes)) (append-nil (windows (visible o.spots flat)) ∙ ws) whole
 
 -- outside of what is written, the front part is the moved original
-pub front_agrees : (p : Plan) (o : Original) (flat : List ℕ) (undo : ℕ) → Fits p o flat undo → Agree (written o) (front_part p o flat undo) (all_moved p.slot o.tables o.bytes)
+pub front_agrees : (p : FormPlan) (o : Original) (flat : List ℕ) (undo : ℕ) → Fits p o flat undo → Agree (written o) (front_part p o flat undo) (all_moved p.slot o.tables o.bytes)
 unfolding front_part
 front_agrees p o flat undo fits =
     let h = header o.bytes in
@@ -89,17 +89,17 @@ front_agrees p o flat undo fits =
     (moved_part p o flat) (all_moved p.slot o.tables o.bytes) before room in
     rw (n1, n2, fits.dynamic) at all
 
-pub length-moved_part : (p : Plan) (o : Original) (flat : List ℕ) (undo : ℕ) → Fits p o flat undo → length (moved_part p o flat) ≡ length o.bytes
+pub length-moved_part : (p : FormPlan) (o : Original) (flat : List ℕ) (undo : ℕ) → Fits p o flat undo → length (moved_part p o flat) ≡ length o.bytes
 length-moved_part p o flat undo fits = (moved_agrees p o flat undo fits).size ∙ length-all_moved p.slot o.tables o.bytes (all_in (length o.bytes) (table_windows o.tables) fits.tables_in)
 
-heads_room : (p : Plan) (o : Original) (flat : List ℕ) (undo : ℕ) → Fits p o flat undo
+heads_room : (p : FormPlan) (o : Original) (flat : List ℕ) (undo : ℕ) → Fits p o flat undo
     → AllIn (length (moved_part p o flat)) (record { at = 0; size = length (header_bytes (new_header p o.bytes undo)) } ∷ record { at = (header o.bytes).phoff; size = length (concat (map segment_bytes p.segments)) } ∷ record { at = o.dynamic.at; size = length p.dynamic } ∷ [])
 heads_room p o flat undo fits =
     let ins = all_in (length o.bytes) (head_windows (header o.bytes) ++ o.dynamic ∷ []) fits.heads_in in
     rw (length-moved_part p o flat undo fits, new_length p o undo ins.0, segments_length p o flat undo fits, fits.dynamic) (ins.0, (ins.1.0, (ins.1.1.1.0, tt)))
 
 -- and outside of the header, the program headers and the dynamic table it is the moved part
-pub front_moved : (p : Plan) (o : Original) (flat : List ℕ) (undo : ℕ) → Fits p o flat undo → Agree (header_window ∷ segments_window (header o.bytes) ∷ o.dynamic ∷ []) (front_part p o flat undo) (moved_part p o flat)
+pub front_moved : (p : FormPlan) (o : Original) (flat : List ℕ) (undo : ℕ) → Fits p o flat undo → Agree (header_window ∷ segments_window (header o.bytes) ∷ o.dynamic ∷ []) (front_part p o flat undo) (moved_part p o flat)
 unfolding front_part
 front_moved p o flat undo fits =
     let h = header o.bytes in
@@ -116,27 +116,27 @@ sections_too h s t d ps k out =
     let c = or_parts (holds k t) (holds k d || list_any (holds k) ps) b.1 in
     rw (a.0, b.0) c.1
 
-pub front_size : (p : Plan) (o : Original) (flat : List ℕ) (undo : ℕ) → Fits p o flat undo → length (front_part p o flat undo) ≡ length o.bytes
+pub front_size : (p : FormPlan) (o : Original) (flat : List ℕ) (undo : ℕ) → Fits p o flat undo → length (front_part p o flat undo) ≡ length o.bytes
 front_size p o flat undo fits = (front_agrees p o flat undo fits).size ∙ length-all_moved p.slot o.tables o.bytes (all_in (length o.bytes) (table_windows o.tables) fits.tables_in)
 
-pub length-under_segments : (p : Plan) (o : Original) (flat : List ℕ) (undo : ℕ) → Fits p o flat undo → length (under_segments p o flat) ≡ length o.bytes
+pub length-under_segments : (p : FormPlan) (o : Original) (flat : List ℕ) (undo : ℕ) → Fits p o flat undo → length (under_segments p o flat) ≡ length o.bytes
 length-under_segments p o flat undo fits =
     let ins = all_in (length o.bytes) (head_windows (header o.bytes) ++ o.dynamic ∷ []) fits.heads_in in
     let moved_size : length (all_moved p.slot o.tables o.bytes) ≡ length o.bytes = length-all_moved p.slot o.tables o.bytes (all_in (length o.bytes) (table_windows o.tables) fits.tables_in) in
     let size : length (moved_part p o flat) ≡ length o.bytes = (moved_agrees p o flat undo fits).size ∙ moved_size in
     length-put o.dynamic.at p.dynamic (moved_part p o flat) (omega (arith, ins.1.1.1.0, fits.dynamic, size)) ∙ size
 
-pub segments_room : (p : Plan) (o : Original) (flat : List ℕ) (undo : ℕ) → Fits p o flat undo → (header o.bytes).phoff + length (concat (map segment_bytes p.segments)) ≤ length (under_segments p o flat)
+pub segments_room : (p : FormPlan) (o : Original) (flat : List ℕ) (undo : ℕ) → Fits p o flat undo → (header o.bytes).phoff + length (concat (map segment_bytes p.segments)) ≤ length (under_segments p o flat)
 segments_room p o flat undo fits =
     let ins = all_in (length o.bytes) (head_windows (header o.bytes) ++ o.dynamic ∷ []) fits.heads_in in
     omega (arith, ins.1.0, segments_length p o flat undo fits, length-under_segments p o flat undo fits)
 
-pub length-under_header : (p : Plan) (o : Original) (flat : List ℕ) (undo : ℕ) → Fits p o flat undo → length (under_header p o flat) ≡ length o.bytes
+pub length-under_header : (p : FormPlan) (o : Original) (flat : List ℕ) (undo : ℕ) → Fits p o flat undo → length (under_header p o flat) ≡ length o.bytes
 length-under_header p o flat undo fits =
     length-put (header o.bytes).phoff (concat (map segment_bytes p.segments)) (under_segments p o flat) (segments_room p o flat undo fits) ∙ length-under_segments p o flat undo fits
 
 -- the program headers in the front part
-pub segments_first : (p : Plan) (o : Original) (flat : List ℕ) (undo : ℕ) → Fits p o flat undo → part (header o.bytes).phoff (length (concat (map segment_bytes p.segments))) (front_part p o flat undo) ≡ concat (map segment_bytes p.segments)
+pub segments_first : (p : FormPlan) (o : Original) (flat : List ℕ) (undo : ℕ) → Fits p o flat undo → part (header o.bytes).phoff (length (concat (map segment_bytes p.segments))) (front_part p o flat undo) ≡ concat (map segment_bytes p.segments)
 unfolding front_part
 segments_first p o flat undo fits =
     let ins = all_in (length o.bytes) (head_windows (header o.bytes) ++ o.dynamic ∷ []) fits.heads_in in
@@ -153,7 +153,7 @@ entry_small slot entry = elim (cases_Bool (entry == 0)) [
   | inr some ↦ rw some (omega arith)
 ]
 
-new_read : (p : Plan) (o : Original) (flat : List ℕ) (undo : ℕ) → Fits p o flat undo → header (header_bytes (new_header p o.bytes undo)) ≡ new_header p o.bytes undo
+new_read : (p : FormPlan) (o : Original) (flat : List ℕ) (undo : ℕ) → Fits p o flat undo → header (header_bytes (new_header p o.bytes undo)) ≡ new_header p o.bytes undo
 unfolding new_header header
 new_read p o flat undo fits =
     let xs = o.bytes in
@@ -162,7 +162,7 @@ new_read p o flat undo fits =
     header_read (new_header p xs undo) (ident_length xs ins.0) (word16_below 16 xs b) (word16_below 18 xs b) (word32_below 20 xs b) (entry_small p.slot (word64 24 xs)) (word64_below 32 xs b)
     (omega (arith, fits.small)) (word32_below 48 xs b) (word16_below 52 xs b) (word16_below 54 xs b) (word16_below 56 xs b) (word16_below 58 xs b) fits.few (omega (arith, fits.few))
 
-header_first : (p : Plan) (o : Original) (flat : List ℕ) (undo : ℕ) → Fits p o flat undo → part 0 64 (front_part p o flat undo) ≡ header_bytes (new_header p o.bytes undo)
+header_first : (p : FormPlan) (o : Original) (flat : List ℕ) (undo : ℕ) → Fits p o flat undo → part 0 64 (front_part p o flat undo) ≡ header_bytes (new_header p o.bytes undo)
 unfolding front_part
 header_first p o flat undo fits =
     let ins = all_in (length o.bytes) (head_windows (header o.bytes) ++ o.dynamic ∷ []) fits.heads_in in
@@ -172,27 +172,27 @@ header_first p o flat undo fits =
 
 -- ---- the whole
 
-abbrev body : Plan → Original → List ℕ → ℕ → List ℕ
+abbrev body : FormPlan → Original → List ℕ → ℕ → List ℕ
 body p o flat undo = inserted p.cut p.more (front_part p o flat undo)
 
-abbrev parts : Plan → Original → List ℕ → List (List ℕ)
+abbrev parts : FormPlan → Original → List ℕ → List (List ℕ)
 parts p o undo = p.parts ++ undo ∷ names_part p o.bytes ∷ table_part p o.bytes (length undo) ∷ []
 
 -- the whole is its front with what was inserted, and the rest
-pub rest_of : Plan → Original → List ℕ → List ℕ → List ℕ
+pub rest_of : FormPlan → Original → List ℕ → List ℕ → List ℕ
 rest_of p o flat undo = tail_of (body p o flat (length undo)) (parts p o undo)
 
-pub form_split : (p : Plan) (o : Original) (flat undo : List ℕ) → form p o flat undo ≡ inserted p.cut p.more (front_part p o flat (length undo)) ++ rest_of p o flat undo
+pub form_split : (p : FormPlan) (o : Original) (flat undo : List ℕ) → form p o flat undo ≡ inserted p.cut p.more (front_part p o flat (length undo)) ++ rest_of p o flat undo
 unfolding form rest_of
 form_split p o flat undo = joined_tail (body p o flat (length undo)) (parts p o undo)
 
-body_size : (p : Plan) (o : Original) (flat : List ℕ) (undo : ℕ) → Fits p o flat undo → length (body p o flat undo) ≡ length o.bytes + length p.more
+body_size : (p : FormPlan) (o : Original) (flat : List ℕ) (undo : ℕ) → Fits p o flat undo → length (body p o flat undo) ≡ length o.bytes + length p.more
 body_size p o flat undo fits =
     let n = front_size p o flat undo fits in
     length-inserted p.cut p.more (front_part p o flat undo) (omega (arith, n, fits.cut)) ∙ omega (arith, n)
 
 -- the header of the file
-pub form_header : (p : Plan) (o : Original) (flat undo : List ℕ) → Fits p o flat (length undo) → header (form p o flat undo) ≡ new_header p o.bytes (length undo)
+pub form_header : (p : FormPlan) (o : Original) (flat undo : List ℕ) → Fits p o flat (length undo) → header (form p o flat undo) ≡ new_header p o.bytes (length undo)
 unfolding form
 form_header p o flat undo fits =
     let u = length undo in
@@ -204,7 +204,7 @@ form_header p o flat undo fits =
     sym (header_part (form p o flat undo)) ∙ ap header first ∙ new_read p o flat u fits
 
 -- a part in the file: where the parts in front of it end
-part_there : (p : Plan) (o : Original) (flat undo : List ℕ) → Fits p o flat (length undo) → (before : List (List ℕ)) (next : List ℕ) (rest : List (List ℕ)) → parts p o undo ≡ before ++ next ∷ rest
+part_there : (p : FormPlan) (o : Original) (flat undo : List ℕ) → Fits p o flat (length undo) → (before : List (List ℕ)) (next : List ℕ) (rest : List (List ℕ)) → parts p o undo ≡ before ++ next ∷ rest
     → part (up (joined_size (length o.bytes + length p.more) before)) (length next) (form p o flat undo) ≡ next
 unfolding form
 part_there p o flat undo fits before next rest is =
@@ -218,10 +218,10 @@ unfolding joined_size
 joined_size-append n [] qs = refl
 joined_size-append n (p ∷ ps) qs = joined_size-append (up n + length p) ps qs
 
-pub undo_there : (p : Plan) (o : Original) (flat undo : List ℕ) → Fits p o flat (length undo) → part (undo_at p o.bytes) (length undo) (form p o flat undo) ≡ undo
+pub undo_there : (p : FormPlan) (o : Original) (flat undo : List ℕ) → Fits p o flat (length undo) → part (undo_at p o.bytes) (length undo) (form p o flat undo) ≡ undo
 undo_there p o flat undo fits = part_there p o flat undo fits p.parts undo (names_part p o.bytes ∷ table_part p o.bytes (length undo) ∷ []) refl
 
-pub names_there : (p : Plan) (o : Original) (flat undo : List ℕ) → Fits p o flat (length undo) → part (names_at p o.bytes (length undo)) (length (names_part p o.bytes)) (form p o flat undo) ≡ names_part p o.bytes
+pub names_there : (p : FormPlan) (o : Original) (flat undo : List ℕ) → Fits p o flat (length undo) → part (names_at p o.bytes (length undo)) (length (names_part p o.bytes)) (form p o flat undo) ≡ names_part p o.bytes
 unfolding joined_size
 names_there p o flat undo fits =
     let n = length o.bytes + length p.more in
@@ -229,7 +229,7 @@ names_there p o flat undo fits =
     let there = part_there p o flat undo fits (p.parts ++ undo ∷ []) (names_part p o.bytes) (table_part p o.bytes (length undo) ∷ []) (sym (append_assoc p.parts (undo ∷ []) (names_part p o.bytes ∷ table_part p o.bytes (length undo) ∷ []))) in
     rw place at there
 
-pub table_there : (p : Plan) (o : Original) (flat undo : List ℕ) → Fits p o flat (length undo) → part (table_at p o.bytes (length undo)) (length (table_part p o.bytes (length undo))) (form p o flat undo) ≡ table_part p o.bytes (length undo)
+pub table_there : (p : FormPlan) (o : Original) (flat undo : List ℕ) → Fits p o flat (length undo) → part (table_at p o.bytes (length undo)) (length (table_part p o.bytes (length undo))) (form p o flat undo) ≡ table_part p o.bytes (length undo)
 unfolding joined_size
 table_there p o flat undo fits =
     let n = length o.bytes + length p.more in
@@ -238,40 +238,40 @@ table_there p o flat undo fits =
     rw place at there
 
 -- how long the form is
-pub form_length : (p : Plan) (o : Original) (flat undo : List ℕ) → Fits p o flat (length undo) → length (form p o flat undo) ≡ table_at p o.bytes (length undo) + 64 * (length p.sections + 2)
+pub form_length : (p : FormPlan) (o : Original) (flat undo : List ℕ) → Fits p o flat (length undo) → length (form p o flat undo) ≡ table_at p o.bytes (length undo) + 64 * (length p.sections + 2)
 unfolding form joined_size
 form_length p o flat undo fits =
     let u = length undo in
     let n = length o.bytes + length p.more in
     let table = table_part p o.bytes u in
-    let size : length table ≡ 64 * (length p.sections + 2) = length-rows_of 64 section_bytes (table_rows p o.bytes u) length-section ∙ ap (λ (k : ℕ). 64 * k) (length-append p.sections (undo_row p o.bytes u ∷ names_row p o.bytes u ∷ [])) in
+    let size : length table ≡ 64 * (length p.sections + 2) = length-rows_of 64 section_header_bytes (table_rows p o.bytes u) length-section ∙ ap (λ (k : ℕ). 64 * k) (length-append p.sections (undo_row p o.bytes u ∷ names_row p o.bytes u ∷ [])) in
     length-joined (body p o flat u) (parts p o undo) ∙ ap (λ (k : ℕ). joined_size k (parts p o undo)) (body_size p o flat u fits)
     ∙ joined_size-append n p.parts (undo ∷ names_part p o.bytes ∷ table ∷ []) ∙ ap (λ (k : ℕ). table_at p o.bytes u + k) size
 
 -- ---- the sections of the form
 
 -- any row of the new table is read from the file
-pub row_there : (p : Plan) (o : Original) (flat undo : List ℕ) → Fits p o flat (length undo) → (i : ℕ) (d : Section) → i < length (table_rows p o.bytes (length undo))
-    → part (table_at p o.bytes (length undo) + 64 * i) 64 (form p o flat undo) ≡ section_bytes (get_or (table_rows p o.bytes (length undo)) i d)
+pub row_there : (p : FormPlan) (o : Original) (flat undo : List ℕ) → Fits p o flat (length undo) → (i : ℕ) (d : Section) → i < length (table_rows p o.bytes (length undo))
+    → part (table_at p o.bytes (length undo) + 64 * i) 64 (form p o flat undo) ≡ section_header_bytes (get_or (table_rows p o.bytes (length undo)) i d)
 row_there p o flat undo fits i d lt =
     let rows = table_rows p o.bytes (length undo) in
-    let size : length (table_part p o.bytes (length undo)) ≡ 64 * length rows = length-rows_of 64 section_bytes rows length-section in
+    let size : length (table_part p o.bytes (length undo)) ≡ 64 * length rows = length-rows_of 64 section_header_bytes rows length-section in
     sym (part_part (table_at p o.bytes (length undo)) (length (table_part p o.bytes (length undo))) (64 * i) 64 (form p o flat undo) (omega (arith, size, lt)))
-    ∙ ap (part (64 * i) 64) (table_there p o flat undo fits) ∙ row_of 64 section_bytes rows i d length-section lt
+    ∙ ap (part (64 * i) 64) (table_there p o flat undo fits) ∙ row_of 64 section_header_bytes rows i d length-section lt
 
-plain_read : (name kind at size : ℕ) → name < 2 ^ 32 → kind < 2 ^ 32 → at < 2 ^ 64 → size < 2 ^ 64 → section_at (section_bytes (plain name kind at size)) 0 ≡ plain name kind at size
+plain_read : (name kind at size : ℕ) → name < 2 ^ 32 → kind < 2 ^ 32 → at < 2 ^ 64 → size < 2 ^ 64 → section_at (section_header_bytes (plain name kind at size)) 0 ≡ plain name kind at size
 plain_read name kind at size a b c d = section_read (plain name kind at size) a b (omega arith) (omega arith) c d (omega arith) (omega arith) (omega arith) (omega arith)
 
-section_count : (p : Plan) (o : Original) (undo : ℕ) → length (table_rows p o.bytes undo) ≡ length p.sections + 2
+section_count : (p : FormPlan) (o : Original) (undo : ℕ) → length (table_rows p o.bytes undo) ≡ length p.sections + 2
 section_count p o undo = length-append p.sections (undo_row p o.bytes undo ∷ names_row p o.bytes undo ∷ [])
 
-undo_row_is : (p : Plan) (o : Original) (undo : ℕ) (d : Section) → get_or (table_rows p o.bytes undo) (length p.sections) d ≡ undo_row p o.bytes undo
+undo_row_is : (p : FormPlan) (o : Original) (undo : ℕ) (d : Section) → get_or (table_rows p o.bytes undo) (length p.sections) d ≡ undo_row p o.bytes undo
 undo_row_is p o undo d =
     let here : length p.sections ≡ length p.sections + 0 = omega arith in
     ap (λ (n : ℕ). get_or (table_rows p o.bytes undo) n d) here ∙ get_or-append-add p.sections (undo_row p o.bytes undo ∷ names_row p o.bytes undo ∷ []) 0 d
 
 -- the section two before the end is the undo section
-pub undo_section_is : (p : Plan) (o : Original) (flat undo : List ℕ) → Fits p o flat (length undo) → undo_section (form p o flat undo) ≡ undo_row p o.bytes (length undo)
+pub undo_section_is : (p : FormPlan) (o : Original) (flat undo : List ℕ) → Fits p o flat (length undo) → undo_section (form p o flat undo) ≡ undo_row p o.bytes (length undo)
 unfolding new_header
 undo_section_is p o flat undo fits =
     let u = length undo in
@@ -279,7 +279,7 @@ undo_section_is p o flat undo fits =
     let row = undo_row p o.bytes u in
     let last : length p.sections + 2 - 2 ≡ length p.sections = omega arith in
     let lt : length p.sections < length (table_rows p o.bytes u) = omega (arith, section_count p o u) in
-    let there : part (table_at p o.bytes u + 64 * length p.sections) 64 file ≡ section_bytes row = row_there p o flat undo fits (length p.sections) row lt ∙ ap section_bytes (undo_row_is p o u row) in
+    let there : part (table_at p o.bytes u + 64 * length p.sections) 64 file ≡ section_header_bytes row = row_there p o flat undo fits (length p.sections) row lt ∙ ap section_header_bytes (undo_row_is p o u row) in
     let old = length (old_names o.bytes) in
     let small : (old + length p.names < 2 ^ 32) × (undo_at p o.bytes < 2 ^ 64) × (u < 2 ^ 64) =
     let n : length (names_part p o.bytes) ≡ old + (length p.names + 28) = length-append (old_names o.bytes) _ ∙ ap (λ (k : ℕ). old + k) (length-append p.names _) in
@@ -298,7 +298,7 @@ one_true a b c e f g = rw (e, f, g) refl
 below_true : (m n : ℕ) → m ≤ n → nat_le m n ≡ true
 below_true m n h = grind (arith, nat_tests)
 
-undo_section_in : (p : Plan) (o : Original) (flat undo : List ℕ) → Fits p o flat (length undo) → has_undo_section (form p o flat undo) ≡ true
+undo_section_in : (p : FormPlan) (o : Original) (flat undo : List ℕ) → Fits p o flat (length undo) → has_undo_section (form p o flat undo) ≡ true
 unfolding new_header
 undo_section_in p o flat undo fits =
     let file = form p o flat undo in
@@ -314,7 +314,7 @@ undo_section_in p o flat undo fits =
     let t3 : nat_le ((undo_section file).offset + (undo_section file).size) (length file) ≡ true = subst (λ (x : Section). nat_le (x.offset + x.size) (length file) ≡ true) (sym s) (below_true (undo_at p o.bytes + u) (length file) bytes) in
     one_true (nat_le 2 (header file).shnum) (nat_le (section_offset (header file) ((header file).shnum - 2) + 64) (length file)) (nat_le ((undo_section file).offset + (undo_section file).size) (length file)) t1 t2 t3
 
-pub plan_undone : (r : Reader) (p : Plan) (o : Original) (flat undo : List ℕ) (rs : List Window) (digest : Option (List ℕ)) → Fits p o flat (length undo) → IsReadable r o.bytes o.dynamic o.tables rs o.spots → IsSlot p.slot
+pub plan_undone : (r : Reader) (p : FormPlan) (o : Original) (flat undo : List ℕ) (rs : List Window) (digest : Option (List ℕ)) → Fits p o flat (length undo) → IsReadable r o.bytes o.dynamic o.tables rs o.spots → IsSlot p.slot
     → r.undo undo ≡ Some (undo_of p.slot p.cut (length p.more) o.dynamic o.spots o.bytes digest)
     → IsForm r (form p o flat undo) o.bytes p.slot p.cut (length p.more)
 unfolding form

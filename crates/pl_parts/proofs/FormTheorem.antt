@@ -19,7 +19,7 @@ use Rattle.pl_parts.specs.Back.{head_windows, memory_of, Reader, back, undo_in, 
 use Rattle.pl_parts.specs.declared.parts.Spot.{Spot}
 use Rattle.pl_elf.specs.Headers.{is_moved_kind}
 use Rattle.pl_parts.specs.Parts.{Original, up, joined_size, form, moved_segment, shifted_segment, extended_segment, program_segments, library_plan, program_plan, front_part, zeros_part, extension, whole_extension}
-use Rattle.pl_parts.specs.declared.parts.Plan.{Plan}
+use Rattle.pl_parts.specs.declared.parts.FormPlan.{FormPlan}
 use Rattle.pl_parts.specs.declared.parts.Listed.{Listed}
 use Rattle.pl_parts.specs.declared.parts.Extension.{Extension}
 use Rattle.pl_parts.specs.Loads.{stands, spot_of, spots_of, is_under, hidden_windows, fills}
@@ -39,7 +39,7 @@ use Rattle.pl_parts.proofs.FillLaws.{Apart, front_fill, zeros_fill}
 -- ---- Back
 
 -- what is asked of an original and the plan of its form
-pub record IsUndoable (r : Reader) (p : Plan) (o : Original) (flat : List ℕ) (digest : Option (List ℕ)) : Type 0 where
+pub record IsUndoable (r : Reader) (p : FormPlan) (o : Original) (flat : List ℕ) (digest : Option (List ℕ)) : Type 0 where
   pub rs : List Window
   pub reads : (bytes : List ℕ) → r.undo bytes ≡ undo_in bytes
   pub readable : IsReadable r o.bytes o.dynamic o.tables rs o.spots
@@ -51,7 +51,7 @@ pub record IsUndoable (r : Reader) (p : Plan) (o : Original) (flat : List ℕ) (
   pub even : p.slot % 2 ≡ 0
 
 -- Back of a form is its original
-pub planned_undone : (r : Reader) (p : Plan) (o : Original) (flat : List ℕ) (digest : Option (List ℕ)) → IsUndoable r p o flat digest → back r (planned p o flat digest) ≡ Some o.bytes
+pub planned_undone : (r : Reader) (p : FormPlan) (o : Original) (flat : List ℕ) (digest : Option (List ℕ)) → IsUndoable r p o flat digest → back r (planned p o flat digest) ≡ Some o.bytes
 unfolding planned
 planned_undone r p o flat digest is =
     let u = undo_of p.slot p.cut (length p.more) o.dynamic o.spots o.bytes digest in
@@ -61,7 +61,7 @@ planned_undone r p o flat digest is =
     (plan_undone r p o flat (undo_part p o digest) is.rs digest is.fits is.readable (omega (arith, is.stored.slot_in), is.even) read)
 
 -- so no file is a form of two originals, whatever their kinds, versions, lists and words
-pub one_planned : (r : Reader) (p q : Plan) (o o' : Original) (flat flat' : List ℕ) (digest digest' : Option (List ℕ)) → IsUndoable r p o flat digest → IsUndoable r q o' flat' digest' → planned p o flat digest ≡ planned q o' flat' digest' → o.bytes ≡ o'.bytes
+pub one_planned : (r : Reader) (p q : FormPlan) (o o' : Original) (flat flat' : List ℕ) (digest digest' : Option (List ℕ)) → IsUndoable r p o flat digest → IsUndoable r q o' flat' digest' → planned p o flat digest ≡ planned q o' flat' digest' → o.bytes ≡ o'.bytes
 one_planned r p q o o' flat flat' digest digest' a b same =
     one_original r (planned p o flat digest) o.bytes o'.bytes (planned_undone r p o flat digest a) (subst (λ (file : List ℕ). back r file ≡ Some o'.bytes) (sym same) (planned_undone r q o' flat' digest' b))
 
@@ -176,7 +176,7 @@ unfolding joined_size
 least n [] = omega arith
 least n (p ∷ ps) = omega (arith, least (up n + length p) ps)
 
-pub all_small : (p : Plan) (o : Original) (flat : List ℕ) (undo : ℕ) → Fits p o flat undo → length o.bytes + length p.more < 2 ^ 32
+pub all_small : (p : FormPlan) (o : Original) (flat : List ℕ) (undo : ℕ) → Fits p o flat undo → length o.bytes + length p.more < 2 ^ 32
 all_small p o flat undo fits = omega (arith, fits.small, least (length o.bytes + length p.more) p.parts)
 
 pub program_segment_fits : (o : Original) (index : ℕ) (last : Segment) (e : Extension) (flat : List ℕ) (undo i : ℕ) (d : Segment) → IsTaken o → IsProgram o index last → Fits (program_plan o index last flat e) o flat undo
@@ -241,7 +241,7 @@ program_loads o e flat digest places links index i k d last fits h is =
 -- ---- places
 
 -- where a file byte of a segment stands: in the front part
-borne_front : (p : Plan) (o : Original) (flat undo : List ℕ) (s borne : Segment) (k : ℕ) → Fits p o flat (length undo) → s.offset + s.filesz ≤ length o.bytes → (IsKept p.cut (length p.more) s borne ⊎ IsGrown p o flat s borne) → k < s.filesz
+borne_front : (p : FormPlan) (o : Original) (flat undo : List ℕ) (s borne : Segment) (k : ℕ) → Fits p o flat (length undo) → s.offset + s.filesz ≤ length o.bytes → (IsKept p.cut (length p.more) s borne ⊎ IsGrown p o flat s borne) → k < s.filesz
     → get_or (part borne.offset borne.filesz (form p o flat undo)) k 0 ≡ get_or (front_part p o flat (length undo)) (s.offset + k) 0
 borne_front p o flat undo s borne k fits inside (inl kept) lt =
     ap (λ (xs : List ℕ). get_or xs k 0) (kept_part p o flat undo fits s borne inside kept) ∙ part_byte s.offset s.filesz (front_part p o flat (length undo)) k lt
@@ -254,7 +254,7 @@ spot_is : (ss : List Segment) (start a : ℕ) (places : List Window) (e : Spot) 
 spot_is ss start a places e w lt = get_or-map (spot_of ss start) places a w e lt
 
 -- a byte of a place that a segment loads from file bytes of the original
-pub visible_fill : (p : Plan) (o : Original) (flat undo : List ℕ) (places links : List Window) (start a i j k : ℕ) (d borne : Segment) (w : Window) → Fits p o flat (length undo) → Apart o → Loads o places links start → AreLoads (loads (segments o.bytes (header o.bytes)))
+pub visible_fill : (p : FormPlan) (o : Original) (flat undo : List ℕ) (places links : List Window) (start a i j k : ℕ) (d borne : Segment) (w : Window) → Fits p o flat (length undo) → Apart o → Loads o places links start → AreLoads (loads (segments o.bytes (header o.bytes)))
     → a < length places → i < (header o.bytes).phnum → is_load (get_or (segments o.bytes (header o.bytes)) i d) ≡ true → (get_or (segments o.bytes (header o.bytes)) i d).offset + (get_or (segments o.bytes (header o.bytes)) i d).filesz ≤ length o.bytes
     → (IsKept p.cut (length p.more) (get_or (segments o.bytes (header o.bytes)) i d) borne ⊎ IsGrown p o flat (get_or (segments o.bytes (header o.bytes)) i d) borne)
     → (get_or (segments o.bytes (header o.bytes)) i d).vaddr + k ≡ (get_or places a w).at + j → k < (get_or (segments o.bytes (header o.bytes)) i d).memsz → j < (spot_of (segments o.bytes (header o.bytes)) start (get_or places a w)).size
@@ -273,7 +273,7 @@ visible_fill p o flat undo places links start a i j k d borne w fits apart l are
     ∙ subst (λ (s : Spot). get_or (front_part p o flat (length undo)) (s.at + j) 0 ≡ get_or (get_or (fills o.spots flat) a []) j 0) s_is filled
 
 -- a byte of a place in the zeros of the last PT_LOAD
-pub hidden_fill : (p : Plan) (o : Original) (flat undo : List ℕ) (places links : List Window) (a index j : ℕ) (d borne last : Segment) (w : Window) → Fits p o flat (length undo) → AreAllApart (hidden_windows o.spots) → Loads o places links (last.vaddr + last.filesz)
+pub hidden_fill : (p : FormPlan) (o : Original) (flat undo : List ℕ) (places links : List Window) (a index j : ℕ) (d borne last : Segment) (w : Window) → Fits p o flat (length undo) → AreAllApart (hidden_windows o.spots) → Loads o places links (last.vaddr + last.filesz)
     → IsHeldProgram o places index last → a < length places → IsHeld (segments o.bytes (header o.bytes)) last (get_or places a w) → IsGrown p o flat last borne
     → (spot_of (segments o.bytes (header o.bytes)) (last.vaddr + last.filesz) (get_or places a w)).size ≤ j → j < (get_or places a w).size
     → get_or (part borne.offset borne.filesz (form p o flat undo)) ((get_or places a w).at + j - last.vaddr) 0 ≡ get_or (get_or (fills o.spots flat) a []) j 0

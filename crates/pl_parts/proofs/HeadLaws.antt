@@ -8,7 +8,7 @@ use Rattle.pl_base.specs.Windows.{within}
 use Rattle.pl_base.proofs.WindowLaws.{part_part, part_behind, length-part}
 use Rattle.pl_base.proofs.WordLaws.{word16_part, word32_part, word64_part}
 use Rattle.pl_elf.specs.Headers.{header, segment_at, section_at}
-use Rattle.pl_elf.specs.Written.{header_bytes, segment_bytes, section_bytes}
+use Rattle.pl_elf.specs.Written.{header_bytes, segment_bytes, section_header_bytes}
 use Rattle.pl_elf.specs.declared.header.Header.{Header}
 use Rattle.pl_elf.specs.declared.segment.Segment.{Segment}
 use Rattle.pl_elf.specs.declared.section.Section.{Section}
@@ -90,8 +90,8 @@ pub length-segment : (s : Segment) → length (segment_bytes s) ≡ 56
 unfolding segment_bytes bytes32 bytes64
 length-segment s = refl
 
-pub length-section : (s : Section) → length (section_bytes s) ≡ 64
-unfolding section_bytes bytes32 bytes64
+pub length-section : (s : Section) → length (section_header_bytes s) ≡ 64
+unfolding section_header_bytes bytes32 bytes64
 length-section s = refl
 
 -- ---- rows of one size

@@ -17,7 +17,7 @@ use Rattle.pl_move.specs.Moves.{table_window, table_windows, moved, all_moved}
 use Rattle.pl_move.specs.declared.table.Table.{Table}
 use Rattle.pl_parts.specs.Back.{inserted}
 use Rattle.pl_parts.specs.Parts.{Original, new_header, front_part, form}
-use Rattle.pl_parts.specs.declared.parts.Plan.{Plan}
+use Rattle.pl_parts.specs.declared.parts.FormPlan.{FormPlan}
 use Rattle.pl_move.proofs.MoveLaws.{length-moved, moved_agrees}
 use Rattle.pl_parts.proofs.HeadLaws.{segment_part, length-segment, length-rows_of, row_of}
 use Rattle.pl_parts.proofs.PartsLaws.{part_before, part_after}
@@ -36,7 +36,7 @@ outside_moved w (t ∷ ts) xs k fits out =
     outside_moved w ts (moved w t xs) k (rw same_size fits.1) p.1 ∙ one
 
 -- a byte of the original that is in no link table and under no place
-pub front_stays : (p : Plan) (o : Original) (flat : List ℕ) (undo k : ℕ) → Fits p o flat undo → list_any (holds k) (written o) ≡ false → list_any (holds k) (table_windows o.tables) ≡ false
+pub front_stays : (p : FormPlan) (o : Original) (flat : List ℕ) (undo k : ℕ) → Fits p o flat undo → list_any (holds k) (written o) ≡ false → list_any (holds k) (table_windows o.tables) ≡ false
     → get_or (front_part p o flat undo) k 0 ≡ get_or o.bytes k 0
 front_stays p o flat undo k fits out tables =
     (front_agrees p o flat undo fits).bytes k out ∙ outside_moved p.slot o.tables o.bytes k (all_in (length o.bytes) (table_windows o.tables) fits.tables_in) tables
@@ -57,11 +57,11 @@ pub segment_fits : (xs : List ℕ) (at : ℕ) → IsBytes xs → SegmentFits (se
 unfolding segment_at
 segment_fits xs at b = record { kind = word32_below at xs b; flags = word32_below (at + 4) xs b; offset = word64_below (at + 8) xs b; vaddr = word64_below (at + 16) xs b; paddr = word64_below (at + 24) xs b; filesz = word64_below (at + 32) xs b; memsz = word64_below (at + 40) xs b; align = word64_below (at + 48) xs b }
 
-table_length : (p : Plan) → length (concat (map segment_bytes p.segments)) ≡ 56 * length p.segments
+table_length : (p : FormPlan) → length (concat (map segment_bytes p.segments)) ≡ 56 * length p.segments
 table_length p = length-rows_of 56 segment_bytes p.segments length-segment
 
 -- the segment of each index
-pub segment_there : (p : Plan) (o : Original) (flat undo : List ℕ) → Fits p o flat (length undo) → (i : ℕ) (d : Segment) → i < length p.segments → SegmentFits (get_or p.segments i d)
+pub segment_there : (p : FormPlan) (o : Original) (flat undo : List ℕ) → Fits p o flat (length undo) → (i : ℕ) (d : Segment) → i < length p.segments → SegmentFits (get_or p.segments i d)
     → segment (form p o flat undo) (header (form p o flat undo)) i ≡ get_or p.segments i d
 unfolding new_header
 segment_there p o flat undo fits i d lt small =
@@ -94,7 +94,7 @@ kept_by at n cut more front tail place fits le (inl is) = ap (λ (k : ℕ). part
 kept_by at n cut more front tail place fits le (inr (inl is)) = ap (λ (k : ℕ). part k n (inserted cut more front ++ tail)) is.0 ∙ part_after at n cut more front tail is.1 fits
 kept_by at n cut more front tail place fits le (inr (inr none)) = rw none refl
 
-pub kept_part : (p : Plan) (o : Original) (flat undo : List ℕ) → Fits p o flat (length undo) → (s borne : Segment) → s.offset + s.filesz ≤ length o.bytes → IsKept p.cut (length p.more) s borne
+pub kept_part : (p : FormPlan) (o : Original) (flat undo : List ℕ) → Fits p o flat (length undo) → (s borne : Segment) → s.offset + s.filesz ≤ length o.bytes → IsKept p.cut (length p.more) s borne
     → part borne.offset borne.filesz (form p o flat undo) ≡ part s.offset s.filesz (front_part p o flat (length undo))
 kept_part p o flat undo fits s borne inside kept =
     let n = front_size p o flat (length undo) fits in

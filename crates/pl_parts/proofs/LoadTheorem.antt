@@ -14,7 +14,7 @@ use Rattle.pl_move.specs.Moves.{table_windows}
 use Rattle.pl_parts.specs.Back.{header_window, segments_window, spot_windows, wanted}
 use Rattle.pl_parts.specs.declared.parts.Spot.{Spot}
 use Rattle.pl_parts.specs.Parts.{Original, front_part, form, hidden, zeros_part}
-use Rattle.pl_parts.specs.declared.parts.Plan.{Plan}
+use Rattle.pl_parts.specs.declared.parts.FormPlan.{FormPlan}
 use Rattle.pl_parts.specs.Loads.{spots_of, is_under, hidden_windows}
 use Rattle.pl_parts.proofs.PartsLaws.{part_before, part_inserted}
 use Rattle.pl_parts.proofs.FormLaws.{front_size, rest_of, form_split}
@@ -37,7 +37,7 @@ pub record IsPlain (o : Original) (places links : List Window) (s : Segment) (k 
   pub away : is_under places (s.vaddr + k) ≡ false
 
 -- a file byte there is the same in the front part
-front_plain : (p : Plan) (o : Original) (flat : List ℕ) (undo : ℕ) (places links : List Window) (start i k : ℕ) (d : Segment) → Fits p o flat undo → Loads o places links start
+front_plain : (p : FormPlan) (o : Original) (flat : List ℕ) (undo : ℕ) (places links : List Window) (start i k : ℕ) (d : Segment) → Fits p o flat undo → Loads o places links start
     → i < length (segments o.bytes (header o.bytes)) → is_load (get_or (segments o.bytes (header o.bytes)) i d) ≡ true → IsPlain o places links (get_or (segments o.bytes (header o.bytes)) i d) k → k < (get_or (segments o.bytes (header o.bytes)) i d).filesz
     → get_or (front_part p o flat undo) ((get_or (segments o.bytes (header o.bytes)) i d).offset + k) 0 ≡ get_or o.bytes ((get_or (segments o.bytes (header o.bytes)) i d).offset + k) 0
 front_plain p o flat undo places links start i k d fits l lt is plain inside =
@@ -51,7 +51,7 @@ front_plain p o flat undo places links start i k d fits l lt is plain inside =
     front_stays p o flat undo x fits (rw (t0.0, t1.0, t2.0) spots) t2.1
 
 -- a segment whose file bytes stay or go behind what was inserted loads the same
-pub kept_loads : (p : Plan) (o : Original) (flat undo : List ℕ) (places links : List Window) (start i k : ℕ) (d borne : Segment) → Fits p o flat (length undo) → Loads o places links start
+pub kept_loads : (p : FormPlan) (o : Original) (flat undo : List ℕ) (places links : List Window) (start i k : ℕ) (d borne : Segment) → Fits p o flat (length undo) → Loads o places links start
     → i < length (segments o.bytes (header o.bytes)) → is_load (get_or (segments o.bytes (header o.bytes)) i d) ≡ true → (get_or (segments o.bytes (header o.bytes)) i d).offset + (get_or (segments o.bytes (header o.bytes)) i d).filesz ≤ length o.bytes
     → IsKept p.cut (length p.more) (get_or (segments o.bytes (header o.bytes)) i d) borne → IsPlain o places links (get_or (segments o.bytes (header o.bytes)) i d) k
     → get_or (part borne.offset borne.filesz (form p o flat undo)) k 0 ≡ get_or (part (get_or (segments o.bytes (header o.bytes)) i d).offset (get_or (segments o.bytes (header o.bytes)) i d).filesz o.bytes) k 0
@@ -65,7 +65,7 @@ kept_loads p o flat undo places links start i k d borne fits l lt is inside kept
 byte_alone : (x : ℕ) (xs : List ℕ) → get_or xs x 0 ≡ get_or (part x 1 xs) 0 0
 byte_alone x xs = let here : x + 0 ≡ x = omega arith in sym (part_byte x 1 xs 0 (omega arith) ∙ ap (λ (n : ℕ). get_or xs n 0) here)
 
-pub byte_before : (p : Plan) (o : Original) (flat undo : List ℕ) → Fits p o flat (length undo) → (x : ℕ) → x < p.cut → get_or (form p o flat undo) x 0 ≡ get_or (front_part p o flat (length undo)) x 0
+pub byte_before : (p : FormPlan) (o : Original) (flat undo : List ℕ) → Fits p o flat (length undo) → (x : ℕ) → x < p.cut → get_or (form p o flat undo) x 0 ≡ get_or (front_part p o flat (length undo)) x 0
 byte_before p o flat undo fits x lt =
     let front = front_part p o flat (length undo) in
     byte_alone x (form p o flat undo)
@@ -73,7 +73,7 @@ byte_before p o flat undo fits x lt =
     ∙ ap (λ (xs : List ℕ). get_or xs 0 0) (part_before x 1 p.cut p.more front (rest_of p o flat undo) (omega (arith, lt)) (omega (arith, fits.cut, front_size p o flat (length undo) fits)))
     ∙ sym (byte_alone x front)
 
-pub byte_inserted : (p : Plan) (o : Original) (flat undo : List ℕ) → Fits p o flat (length undo) → (j : ℕ) → j < length p.more → get_or (form p o flat undo) (p.cut + j) 0 ≡ get_or p.more j 0
+pub byte_inserted : (p : FormPlan) (o : Original) (flat undo : List ℕ) → Fits p o flat (length undo) → (j : ℕ) → j < length p.more → get_or (form p o flat undo) (p.cut + j) 0 ≡ get_or p.more j 0
 byte_inserted p o flat undo fits j lt =
     let front = front_part p o flat (length undo) in
     byte_alone (p.cut + j) (form p o flat undo)
@@ -82,7 +82,7 @@ byte_inserted p o flat undo fits j lt =
     ∙ sym (byte_alone j p.more)
 
 -- the segment that grows: its file bytes end at cut, and what is inserted there begins with its zeros, in which the places have their bytes
-pub record IsGrown (p : Plan) (o : Original) (flat : List ℕ) (s borne : Segment) : Type 0 where
+pub record IsGrown (p : FormPlan) (o : Original) (flat : List ℕ) (s borne : Segment) : Type 0 where
   pub rest : List ℕ
   pub offset : borne.offset ≡ s.offset
   pub cut : s.offset + s.filesz ≡ p.cut
@@ -116,7 +116,7 @@ zeros_agree s ps flat n fits =
     subst (λ (vs : List Window). Agree vs (zeros_part s ps flat) zs) (append-nil (windows (hidden ps flat)) ∙ ws) (agree_edits (hidden ps flat) [] zs zs (agree_itself [] zs) inside)
 
 -- under no place it loads the original's file bytes, then zeros
-pub grown_loads : (p : Plan) (o : Original) (flat undo : List ℕ) (places links : List Window) (start i k : ℕ) (d borne : Segment) → Fits p o flat (length undo) → Loads o places links start
+pub grown_loads : (p : FormPlan) (o : Original) (flat undo : List ℕ) (places links : List Window) (start i k : ℕ) (d borne : Segment) → Fits p o flat (length undo) → Loads o places links start
     → i < length (segments o.bytes (header o.bytes)) → is_load (get_or (segments o.bytes (header o.bytes)) i d) ≡ true → IsGrown p o flat (get_or (segments o.bytes (header o.bytes)) i d) borne
     → IsPlain o places links (get_or (segments o.bytes (header o.bytes)) i d) k → k < (get_or (segments o.bytes (header o.bytes)) i d).memsz
     → ((get_or (segments o.bytes (header o.bytes)) i d).filesz ≤ k → list_any (holds (k - (get_or (segments o.bytes (header o.bytes)) i d).filesz)) (hidden_windows o.spots) ≡ false)

@@ -11,7 +11,7 @@ use Rattle.pl_parts.specs.Fits.{Fits}
 use Rattle.pl_parts.specs.Forms.{undo_part, planned, original_of}
 use Rattle.pl_parts.specs.Law.{HasTable, LibrariesAreMoved, ProgramsAreExtended}
 use Rattle.pl_parts.specs.Parts.{Original, moved_segment, new_header, front_part, form, library_plan, program_plan}
-use Rattle.pl_parts.specs.declared.parts.Plan.{Plan}
+use Rattle.pl_parts.specs.declared.parts.FormPlan.{FormPlan}
 use Rattle.pl_parts.proofs.FinalTheorem.{library_conditions, program_conditions, inside}
 use Rattle.pl_parts.proofs.FormLaws.{form_header, front_size, form_split, rest_of}
 use Rattle.pl_parts.proofs.FormTheorem.{own_fits, moved_fits, program_segment_fits}
@@ -21,7 +21,7 @@ use Rattle.pl_parts.proofs.PartsLaws.{length-inserted}
 use Rattle.pl_parts.proofs.WholeTheorem.{taken, library_is, program_is}
 
 -- a form is no shorter than its original
-pub no_shorter : (p : Plan) (o : Original) (flat undo : List ℕ) → Fits p o flat (length undo) → length o.bytes ≤ length (form p o flat undo)
+pub no_shorter : (p : FormPlan) (o : Original) (flat undo : List ℕ) → Fits p o flat (length undo) → length o.bytes ≤ length (form p o flat undo)
 no_shorter p o flat undo fits =
     let front = front_part p o flat (length undo) in
     let size = front_size p o flat (length undo) fits in
@@ -30,7 +30,7 @@ no_shorter p o flat undo fits =
     omega (arith, whole, size, length-inserted p.cut p.more front (omega (arith, size, fits.cut)))
 
 -- the table of a plan, as it stands
-pub table_is : (p : Plan) (o : Original) (flat undo : List ℕ) → Fits p o flat (length undo) → ((i : ℕ) (d : Segment) → i < length p.segments → SegmentFits (get_or p.segments i d)) → HasTable (form p o flat undo) p.segments
+pub table_is : (p : FormPlan) (o : Original) (flat undo : List ℕ) → Fits p o flat (length undo) → ((i : ℕ) (d : Segment) → i < length p.segments → SegmentFits (get_or p.segments i d)) → HasTable (form p o flat undo) p.segments
 unfolding new_header segments
 table_is p o flat undo fits small =
     let file = form p o flat undo in

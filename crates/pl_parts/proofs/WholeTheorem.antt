@@ -12,7 +12,7 @@ use Rattle.pl_object.specs.FilePart.{in_file_part}
 use Rattle.pl_object.specs.Tables.{main_windows, dynamic_memory}
 use Rattle.pl_parts.specs.Back.{header_window, segments_window, back, wanted, undo_of}
 use Rattle.pl_parts.specs.Parts.{Original, table_at, library_plan, program_plan}
-use Rattle.pl_parts.specs.declared.parts.Plan.{Plan}
+use Rattle.pl_parts.specs.declared.parts.FormPlan.{FormPlan}
 use Rattle.pl_parts.specs.declared.parts.Listed.{Listed}
 use Rattle.pl_parts.specs.declared.parts.Extension.{Extension}
 use Rattle.pl_parts.specs.Found.{reader, ss_of, secs_of, d_of, tags_of, rs_of, ps_of}
@@ -46,7 +46,7 @@ taken o is few =
     let apart = none_share (main_windows (header o) (ss_of o) (secs_of o) (tags_of o)) is.overlap in
     record { bytes = is.bytes; heads_in = r.heads_in; tables_in = r.tables_in; spots_in = r.spots_in; apart = begins (header o) some apart.0.0; few = few }
 
-undoable : (p : Plan) (o flat : List ℕ) (digest : Option (List ℕ)) → IsAccepted o → Fits p (original_of o) flat (length (undo_part p (original_of o) digest)) → IsStored o p.slot p.cut (length p.more) → IsDigest digest → p.slot % 2 ≡ 0
+undoable : (p : FormPlan) (o flat : List ℕ) (digest : Option (List ℕ)) → IsAccepted o → Fits p (original_of o) flat (length (undo_part p (original_of o) digest)) → IsStored o p.slot p.cut (length p.more) → IsDigest digest → p.slot % 2 ≡ 0
     → IsUndoable reader p (original_of o) flat digest
 undoable p o flat digest is fits stored is_digest even = record {
   rs = rs_of o;
@@ -59,7 +59,7 @@ undoable p o flat digest is fits stored is_digest even = record {
   even = even;
 }
 
-all_below : (p : Plan) (o : Original) (flat : List ℕ) (undo : ℕ) → Fits p o flat undo → (length o.bytes < 2 ^ 64) × (length p.more < 2 ^ 64)
+all_below : (p : FormPlan) (o : Original) (flat : List ℕ) (undo : ℕ) → Fits p o flat undo → (length o.bytes < 2 ^ 64) × (length p.more < 2 ^ 64)
 all_below p o flat undo fits = let n = all_small p o flat undo fits in (omega (arith, n), omega (arith, n))
 
 slot_even : (o : Original) (index : ℕ) (last : Segment) (e : Extension) (flat : List ℕ) → (program_plan o index last flat e).slot % 2 ≡ 0

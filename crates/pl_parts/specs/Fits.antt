@@ -4,11 +4,11 @@ use Rattle.pl_base.specs.Bytes.{IsBytes}
 use Rattle.pl_base.specs.Windows.{are_in}
 use Rattle.pl_elf.specs.Headers.{header}
 use Rattle.pl_move.specs.Moves.{table_windows}
-use Rattle.pl_parts.specs.declared.parts.Plan.{Plan}
+use Rattle.pl_parts.specs.declared.parts.FormPlan.{FormPlan}
 use Rattle.pl_parts.specs.Back.{head_windows, spot_windows, wanted}
 use Rattle.pl_parts.specs.Parts.{Original, table_at}
 
-pub record Fits (p : Plan) (o : Original) (flat : List ℕ) (undo : ℕ) : Type 0 where
+pub record Fits (p : FormPlan) (o : Original) (flat : List ℕ) (undo : ℕ) : Type 0 where
   pub bytes : IsBytes o.bytes
   pub fills : length flat ≡ wanted o.spots
   pub dynamic : length p.dynamic ≡ o.dynamic.size

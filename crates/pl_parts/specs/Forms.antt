@@ -4,16 +4,16 @@ use Rattle.pl_elf.specs.declared.segment.Segment.{Segment}
 use Rattle.pl_undo.specs.Section.{undo_bytes}
 use Rattle.pl_parts.specs.Back.{undo_of}
 use Rattle.pl_parts.specs.Parts.{Original, library_plan, program_plan, form}
-use Rattle.pl_parts.specs.declared.parts.Plan.{Plan}
+use Rattle.pl_parts.specs.declared.parts.FormPlan.{FormPlan}
 use Rattle.pl_parts.specs.declared.parts.Listed.{Listed}
 use Rattle.pl_parts.specs.declared.parts.Extension.{Extension}
 use Rattle.pl_parts.specs.Found.{moved_tables, ss_of, secs_of, d_of, tags_of, ps_of}
 
-abbrev pub undo_part : Plan → Original → Option (List ℕ) → List ℕ
+abbrev pub undo_part : FormPlan → Original → Option (List ℕ) → List ℕ
 undo_part p o digest = undo_bytes (undo_of p.slot p.cut (length p.more) o.dynamic o.spots o.bytes digest)
 
 -- the form by a plan, with the bytes for the places
-unfoldable pub planned : Plan → Original → List ℕ → Option (List ℕ) → List ℕ
+unfoldable pub planned : FormPlan → Original → List ℕ → Option (List ℕ) → List ℕ
 planned p o flat digest = form p o flat (undo_part p o digest)
 
 abbrev pub library_form : Original → ℕ → ℕ → ℕ → Listed → List ℕ → Option (List ℕ) → List ℕ

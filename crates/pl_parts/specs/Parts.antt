@@ -6,7 +6,7 @@ use Rattle.pl_base.specs.Sums.{plus, round_up}
 use Rattle.pl_base.specs.Windows.{Window, within, Put, put_all, ◌⊕◌}
 use Rattle.pl_elf.specs.Headers.{header, segments, sections}
 use Rattle.pl_elf.specs.Clauses.{names}
-use Rattle.pl_elf.specs.Written.{header_bytes, segment_bytes, section_bytes}
+use Rattle.pl_elf.specs.Written.{header_bytes, segment_bytes, section_header_bytes}
 use Rattle.pl_elf.specs.declared.header.Header.{Header}
 use Rattle.pl_elf.specs.declared.segment.Segment.{Segment}
 use Rattle.pl_elf.specs.declared.section.Section.{Section}
@@ -17,7 +17,7 @@ use Rattle.pl_elf.specs.Headers.{is_moved_kind}
 use Rattle.pl_move.specs.Moves.{rows, row_moved, all_moved}
 use Rattle.pl_parts.specs.declared.parts.Extension.{Extension}
 use Rattle.pl_parts.specs.declared.parts.Listed.{Listed}
-use Rattle.pl_parts.specs.declared.parts.Plan.{Plan}
+use Rattle.pl_parts.specs.declared.parts.FormPlan.{FormPlan}
 use Rattle.pl_parts.specs.declared.parts.Spot.{Spot}
 use Rattle.pl_parts.specs.Back.{visible, inserted}
 
@@ -54,40 +54,40 @@ abbrev pub old_names : List ℕ → List ℕ
 old_names o = names o (header o)
 
 -- the names of all sections: the original's, then the new ones
-abbrev pub all_names : List ℕ → Plan → List ℕ
+abbrev pub all_names : List ℕ → FormPlan → List ℕ
 all_names old p = old ++ (p.names ++ (UNDO_NAME ++ NAMES_NAME))
 
-abbrev pub names_part : Plan → List ℕ → List ℕ
+abbrev pub names_part : FormPlan → List ℕ → List ℕ
 names_part p o = all_names (old_names o) p
 
 -- where the undo section, the names and the table begin
-abbrev pub undo_at : Plan → List ℕ → ℕ
+abbrev pub undo_at : FormPlan → List ℕ → ℕ
 undo_at p o = up (joined_size (length o + length p.more) p.parts)
 
-abbrev pub names_at : Plan → List ℕ → ℕ → ℕ
+abbrev pub names_at : FormPlan → List ℕ → ℕ → ℕ
 names_at p o undo = up (undo_at p o + undo)
 
-abbrev pub table_at : Plan → List ℕ → ℕ → ℕ
+abbrev pub table_at : FormPlan → List ℕ → ℕ → ℕ
 table_at p o undo = up (names_at p o undo + length (names_part p o))
 
-abbrev pub undo_row : Plan → List ℕ → ℕ → Section
+abbrev pub undo_row : FormPlan → List ℕ → ℕ → Section
 undo_row p o undo = plain (length (old_names o) + length p.names) 1 (undo_at p o) undo
 
-abbrev pub names_row : Plan → List ℕ → ℕ → Section
+abbrev pub names_row : FormPlan → List ℕ → ℕ → Section
 names_row p o undo = plain (length (old_names o) + length p.names + 18) 3 (names_at p o undo) (length (names_part p o))
 
-abbrev pub table_rows : Plan → List ℕ → ℕ → List Section
+abbrev pub table_rows : FormPlan → List ℕ → ℕ → List Section
 table_rows p o undo = p.sections ++ undo_row p o undo ∷ names_row p o undo ∷ []
 
-abbrev pub table_part : Plan → List ℕ → ℕ → List ℕ
-table_part p o undo = concat (map section_bytes (table_rows p o undo))
+abbrev pub table_part : FormPlan → List ℕ → ℕ → List ℕ
+table_part p o undo = concat (map section_header_bytes (table_rows p o undo))
 
 -- ---- the bytes of the original, changed
 
 abbrev pub moved_entry : ℕ → ℕ → ℕ
 moved_entry slot entry = if entry == 0 then 0 else plus entry slot
 
-unfoldable pub new_header : Plan → List ℕ → ℕ → Header
+unfoldable pub new_header : FormPlan → List ℕ → ℕ → Header
 new_header p o undo = record (header o) {
   entry = moved_entry p.slot (header o).entry;
   shoff = table_at p o undo;
@@ -96,23 +96,23 @@ new_header p o undo = record (header o) {
 }
 
 -- the tables moved, and the bytes at the places, as far as these are in the file
-unfoldable pub moved_part : Plan → Original → List ℕ → List ℕ
+unfoldable pub moved_part : FormPlan → Original → List ℕ → List ℕ
 moved_part p o flat = put_all (visible o.spots flat) (all_moved p.slot o.tables o.bytes)
 
 -- with the new dynamic table, and with the new program headers
-abbrev pub under_segments : Plan → Original → List ℕ → List ℕ
+abbrev pub under_segments : FormPlan → Original → List ℕ → List ℕ
 under_segments p o flat = put o.dynamic.at p.dynamic (moved_part p o flat)
 
-abbrev pub under_header : Plan → Original → List ℕ → List ℕ
+abbrev pub under_header : FormPlan → Original → List ℕ → List ℕ
 under_header p o flat = put (header o.bytes).phoff (concat (map segment_bytes p.segments)) (under_segments p o flat)
 
 -- and with the new header
-unfoldable pub front_part : Plan → Original → List ℕ → ℕ → List ℕ
+unfoldable pub front_part : FormPlan → Original → List ℕ → ℕ → List ℕ
 front_part p o flat undo = put 0 (header_bytes (new_header p o.bytes undo)) (under_header p o flat)
 
 -- ---- the whole, with the bytes of the undo section
 
-unfoldable pub form : Plan → Original → List ℕ → List ℕ → List ℕ
+unfoldable pub form : FormPlan → Original → List ℕ → List ℕ → List ℕ
 form p o flat undo =
     joined (inserted p.cut p.more (front_part p o flat (length undo)))
     (p.parts ++ undo ∷ names_part p o.bytes ∷ table_part p o.bytes (length undo) ∷ [])
@@ -161,7 +161,7 @@ library_sections o slot l =
     let old = map (moved_section slot) (sections o.bytes (header o.bytes)) in
     old ++ list_sections l (length o.bytes) (length old) (length (old_names o.bytes))
 
-unfoldable pub library_plan : Original → ℕ → ℕ → ℕ → Listed → Plan
+unfoldable pub library_plan : Original → ℕ → ℕ → ℕ → Listed → FormPlan
 library_plan o slot stamp checksum l = record {
   slot = slot;
   cut = length o.bytes;
@@ -251,7 +251,7 @@ program_dynamic o last e =
     (rows 16 (λ row. with_tag 10 (length e.strings) (with_tag 5 (extension_at last) row)) o.tags (within o.dynamic o.bytes))
 
 -- the last PT_LOAD is the segment of this index
-unfoldable pub program_plan : Original → ℕ → Segment → List ℕ → Extension → Plan
+unfoldable pub program_plan : Original → ℕ → Segment → List ℕ → Extension → FormPlan
 program_plan o index last flat e =
     let cut = last.offset + last.filesz in
     let block = extension last o.spots flat e in

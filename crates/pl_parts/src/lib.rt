@@ -6,4 +6,4 @@ mod law;
 mod parts;
 
 pub use law::{forms_are_undone, forms_bear_segments, forms_hold_fills, forms_load_alike};
-pub use parts::{Extension, Listed, Plan, Spot};
+pub use parts::{Extension, FormPlan, Listed, Spot};

@@ -19,7 +19,7 @@ pub struct Spot {
 
 /// What the kind of the original decides of its form.
 #[derive(Drop)]
-pub struct Plan {
+pub struct FormPlan {
     /// By how much the original is moved.
     pub slot: u64,
 

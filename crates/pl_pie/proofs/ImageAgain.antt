@@ -19,12 +19,12 @@ use Rattle.pl_scope.specs.Matching.{counts, defines, has_version, matching, unve
 use Rattle.pl_scope.specs.declared.found.Found.{Found}
 use Rattle.pl_scope.specs.declared.reference.Reference.{Reference}
 use Rattle.pl_image.specs.Loads.{is_masked, loaded_at, mask_at}
-use Rattle.pl_image.specs.declared.loaded.Loaded.{Loaded}
+use Rattle.pl_image.specs.declared.loaded_object.LoadedObject.{LoadedObject}
 use Rattle.pl_image.proofs.MaskLemmas.{masked_is}
 use Rattle.pl_value.specs.Copies.{copied, copy, copy_from}
 use Rattle.pl_value.specs.Definers.{Definer, definer, in_object, is_weak, is_weak_symbol, of_found, with_symbol}
 use Rattle.pl_value.specs.Meanings.{Row, given, meaning, meanings, rows, rows_from}
-use Rattle.pl_value.specs.Ordinary.{loaded, loaded_from, ordinary, shown_linked}
+use Rattle.pl_value.specs.Ordinary.{loaded_objects, loaded_from, ordinary, shown_linked}
 use Rattle.pl_value.specs.Targets.{address, target, target_from}
 use Rattle.pl_value.specs.Tls.{has_block, variable, variable_from}
 use Rattle.pl_value.specs.Values.{reference, value_of}
@@ -182,17 +182,17 @@ module _ (p : Object) (T : List Range) (os : List Object) (like : AllZip IsSameR
   unfolding is_masked
   masked_same place a = masked_is a (mask_at place p) T (λ k. all_have k T p.tables like)
 
-  shown_same : (place : ℕ) (file : List ℕ) (others : List Loaded) (gs : List Meaning) (a : ℕ) → shown_linked (loaded_at place file told ∷ others) gs a ≡ shown_linked (loaded_at place file p ∷ others) gs a
+  shown_same : (place : ℕ) (file : List ℕ) (others : List LoadedObject) (gs : List Meaning) (a : ℕ) → shown_linked (loaded_at place file told ∷ others) gs a ≡ shown_linked (loaded_at place file p ∷ others) gs a
   shown_same place file others gs a = rw (masked_same place a) refl
 
   image_same : (parts : List (List ℕ)) (file : List ℕ) (places : List ℕ) (modules : List Module) → SameImage (ordinary (p ∷ os) (file ∷ parts) (0 ∷ places) modules) (ordinary (told ∷ os) (file ∷ parts) (0 ∷ places) modules)
   unfolding ordinary loaded_from
   image_same parts file places modules =
-      subst (λ (r : Result (List Meaning) LinkFault). SameImage (meanings (p ∷ os) (0 ∷ places) modules >>= λ gs. Ok (shown_linked (loaded (0 ∷ places) (file ∷ parts) (p ∷ os)) gs)) (r >>= λ gs. Ok (shown_linked (loaded (0 ∷ places) (file ∷ parts) (told ∷ os)) gs)))
+      subst (λ (r : Result (List Meaning) LinkFault). SameImage (meanings (p ∷ os) (0 ∷ places) modules >>= λ gs. Ok (shown_linked (loaded_objects (0 ∷ places) (file ∷ parts) (p ∷ os)) gs)) (r >>= λ gs. Ok (shown_linked (loaded_objects (0 ∷ places) (file ∷ parts) (told ∷ os)) gs)))
       (sym (meanings_same p T os (0 ∷ places) modules)) (of_meanings (meanings (p ∷ os) (0 ∷ places) modules))
     where
       of_meanings : (r : Result (List Meaning) LinkFault)
-          → SameImage (r >>= λ gs. Ok (shown_linked (loaded (0 ∷ places) (file ∷ parts) (p ∷ os)) gs)) (r >>= λ gs. Ok (shown_linked (loaded (0 ∷ places) (file ∷ parts) (told ∷ os)) gs))
+          → SameImage (r >>= λ gs. Ok (shown_linked (loaded_objects (0 ∷ places) (file ∷ parts) (p ∷ os)) gs)) (r >>= λ gs. Ok (shown_linked (loaded_objects (0 ∷ places) (file ∷ parts) (told ∷ os)) gs))
       of_meanings (Err e) = refl
       of_meanings (Ok gs) = λ a. shown_same 0 file (loaded_from (0 ∷ places) (file ∷ parts) 1 os) gs a
 

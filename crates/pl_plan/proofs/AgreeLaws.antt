@@ -14,7 +14,7 @@ use Rattle.pl_scope.proofs.ClosureLaws.{WalkTells, walk_is}
 use Rattle.pl_sound.specs.Plan.{Fit, fits, links_as}
 use Rattle.pl_sound.specs.Rule as rule
 use Rattle.pl_sound.specs.Rule.{Format, Files, original_at, objects}
-use Rattle.pl_cone.specs.Candidates.{walk_in, kind_of, formed, all_formed, linked, fit, prelinkable}
+use Rattle.pl_cone.specs.Candidates.{walk_in, kind_of, formed, all_formed, check_links, fit, prelinkable}
 use Rattle.pl_cone.specs.Known.{object_of, fault_of}
 use Rattle.pl_plan.specs.Laws.{CandidatesAgree}
 use Rattle.pl_cone.specs.Skips.{of_walk}
@@ -45,11 +45,11 @@ off true = refl
 off false = refl
 
 -- by the kind of the first object
-by_kind : (fitting : Fit) (faults : List ℕ → Option ℕ) (n : List ℕ) (walked : Walked) (originals : List (List ℕ)) (kind : Kind) → kind_of walked ≡ kind → fitting.links originals ≡ is_ok (linked walked)
+by_kind : (fitting : Fit) (faults : List ℕ → Option ℕ) (n : List ℕ) (walked : Walked) (originals : List (List ℕ)) (kind : Kind) → kind_of walked ≡ kind → fitting.links originals ≡ is_ok (check_links walked)
     → (list_all (has_none faults) (names walked) && links_as fitting kind originals) ≡ is_ok (fit faults n walked)
 unfolding fit
 by_kind fitting faults n walked originals Program is links =
-    ap (λ (b : Bool). list_all (has_none faults) (names walked) && b) links ∙ sym (rw is (formed_is faults (names walked) (linked walked)))
+    ap (λ (b : Bool). list_all (has_none faults) (names walked) && b) links ∙ sym (rw is (formed_is faults (names walked) (check_links walked)))
 by_kind fitting faults n walked originals Library is links = sym (rw is (formed_is faults (names walked) (Ok tt)))
 by_kind fitting faults n walked originals Static is links = off (list_all (has_none faults) (names walked)) ∙ sym (rw is refl)
 

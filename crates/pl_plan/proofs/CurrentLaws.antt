@@ -21,14 +21,14 @@ use Rattle.pl_sound.specs.Rule as rule
 use Rattle.pl_sound.specs.Rule.{Format, Files, mark_at, original_at, objects, row_at, row_eq, is_marked, tells_walk, version_of, stamp_of}
 use Rattle.pl_sound.proofs.RuleLaws.{other_is, other_library}
 use Rattle.pl_cone.specs.Candidates.{walk_in, kind_of, is_candidate}
-use Rattle.pl_cone.specs.Current.{is_row, tells, slot_of, at_slot, holds_mark, holds_in, is_held, all_held}
+use Rattle.pl_cone.specs.Current.{is_row, lists_members, slot_of, at_slot, holds_mark, holds_in, is_held, all_held}
 use Rattle.pl_cone.specs.Known.{object_of, mark_of}
 use Rattle.pl_cone.specs.Skips.{of_walk}
 use Rattle.pl_cone.specs.declared.known.Known.{Known}
 use Rattle.pl_cone.specs.declared.known.Mark.{Mark}
 use Rattle.pl_cone.specs.declared.known.TheConstants.{VERSION}
 use Rattle.pl_cone.specs.declared.skip.Skip.{Skip}
-use Rattle.pl_plan.specs.Laws.{row_of, seen, Tells, CurrentNamesAgree}
+use Rattle.pl_plan.specs.Laws.{row_of, seen, Describes, CurrentNamesAgree}
 use Rattle.pl_plan.proofs.AgreeLaws.{off, all_same, candidates_agree}
 use Rattle.pl_plan.proofs.SameLaws.{walk_same}
 
@@ -67,7 +67,7 @@ others_are known n m ws walks t =
     let o : (o : Object) × (object_of known m ≡ Ok o) = walk_there of_walk (object_of known) n ws walks m (other_is (object_of known) n m ws i t) in
     record { object = o.0; file = o.1; kind = other_library (object_of known) n m ws o.0 i t o.1 }
 
-row_agrees : (f : Format Skip) (fit : Fit) (files : Files) (known : List Known) → Tells f fit files known → (r : ListRow) (m : List ℕ) → IsLibraryAt known m
+row_agrees : (f : Format Skip) (fit : Fit) (files : Files) (known : List Known) → Describes f fit files known → (r : ListRow) (m : List ℕ) → IsLibraryAt known m
     → (is_marked f files m && row_eq (row_of r) (row_at f m (files m))) ≡ is_row m (mark_of known m) r
 row_agrees f fit files known t r m library = of_mark (mark_of known m) refl
   where
@@ -80,15 +80,15 @@ row_agrees f fit files known t r m library = of_mark (mark_of known m) refl
         ap (λ (j : Option rule.Mark). test j (f.checksum (original_at f (files m)))) (t.marks m ∙ ap (option_map seen) is)
         ∙ ap (test (Some (seen k))) (t.checksums m k library.object is library.file library.kind)
 
-lists_agree : (f : Format Skip) (fit : Fit) (files : Files) (known : List Known) → Tells f fit files known → (rs : List ListRow) (ns : List (List ℕ)) → ((m : List ℕ) → has ns m ≡ true → IsLibraryAt known m)
-    → rule.tells f files (map row_of rs) ns ≡ tells known rs ns
-unfolding tells
+lists_agree : (f : Format Skip) (fit : Fit) (files : Files) (known : List Known) → Describes f fit files known → (rs : List ListRow) (ns : List (List ℕ)) → ((m : List ℕ) → has ns m ≡ true → IsLibraryAt known m)
+    → rule.lists_members f files (map row_of rs) ns ≡ lists_members known rs ns
+unfolding lists_members
 lists_agree f fit files known t [] [] libraries = refl
 lists_agree f fit files known t (r ∷ rs) [] libraries = refl
 lists_agree f fit files known t [] (n ∷ ns) libraries = off (is_marked f files n && list_all (is_marked f files) ns)
 lists_agree f fit files known t (r ∷ rs) (n ∷ ns) libraries =
     swapped (is_marked f files n) (list_all (is_marked f files) ns) (row_eq (row_of r) (row_at f n (files n))) (pointwise rule.row_eq (map row_of rs) (map (λ m. row_at f m (files m)) ns))
-    ∙ (ap (λ (b : Bool). b && rule.tells f files (map row_of rs) ns) (row_agrees f fit files known t r n (libraries n (has_head n ns)))
+    ∙ (ap (λ (b : Bool). b && rule.lists_members f files (map row_of rs) ns) (row_agrees f fit files known t r n (libraries n (has_head n ns)))
     ∙ ap (λ (b : Bool). is_row n (mark_of known n) r && b) (lists_agree f fit files known t rs ns (λ m h. libraries m (has_tail n m ns h))))
 
 -- ---- names that hold
@@ -101,7 +101,7 @@ holds_same : (known : List Known) (slots : List Slot) (n : List ℕ) (r : Result
 holds_same known slots n (Ok ws) = refl
 holds_same known slots n (Err e) = refl
 
-held_agrees : (f : Format Skip) (fit : Fit) (files : Files) (known : List Known) → Tells f fit files known → (slots : List Slot) (n : List ℕ) → sound.is_held f files (slot_of slots) n ≡ is_held known slots n
+held_agrees : (f : Format Skip) (fit : Fit) (files : Files) (known : List Known) → Describes f fit files known → (slots : List Slot) (n : List ℕ) → sound.is_held f files (slot_of slots) n ≡ is_held known slots n
 unfolding walk_in
 held_agrees f fit files known t slots n =
     let walks : rule.walk_in f files n ≡ walk_in known n = walk_known in
@@ -131,9 +131,9 @@ held_agrees f fit files known t slots n =
     of_walk_in (Some k) (Err e) is = refl
     of_walk_in (Some k) (Ok ws) is =
         ap (λ (b : Bool). b && (nat_eq k.version f.version && (not (is_library_at (object_of known n)) || nat_eq k.slot (slot_of slots n)))) (lists_agree f fit files known t k.list.now (others ws) (λ m h. others_are known n m ws is h))
-        ∙ (by_version (tells known k.list.now (others ws)) (not (is_library_at (object_of known n)) || nat_eq k.slot (slot_of slots n)) k
-        ∙ (ap (λ (b : Bool). tells known k.list.now (others ws) && (nat_eq k.version VERSION && (not b || nat_eq k.slot (slot_of slots n)))) (first ws is)
-        ∙ turned (tells known k.list.now (others ws)) (nat_eq k.version VERSION) (at_slot slots n k ws)))
+        ∙ (by_version (lists_members known k.list.now (others ws)) (not (is_library_at (object_of known n)) || nat_eq k.slot (slot_of slots n)) k
+        ∙ (ap (λ (b : Bool). lists_members known k.list.now (others ws) && (nat_eq k.version VERSION && (not b || nat_eq k.slot (slot_of slots n)))) (first ws is)
+        ∙ turned (lists_members known k.list.now (others ws)) (nat_eq k.version VERSION) (at_slot slots n k ws)))
 
 -- ---- current names
 

@@ -1,4 +1,4 @@
 pub mod Faults
 pub mod Wants
-pub mod Planned
+pub mod RunPlan
 pub mod Laws

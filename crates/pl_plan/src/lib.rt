@@ -6,8 +6,8 @@
 mod agreement;
 mod asked;
 mod fault;
-mod planned;
 mod pushing;
+mod run_plan;
 mod slots;
 mod standing;
 mod walks;
@@ -16,5 +16,5 @@ mod wants;
 pub use agreement::{candidates_agree, current_names_agree};
 pub use asked::Asked;
 pub use fault::PlanningFault;
-pub use planned::{Planned, plan_run};
+pub use run_plan::{RunPlan, plan_run};
 pub use standing::{Standing, standings};

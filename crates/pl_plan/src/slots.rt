@@ -6,7 +6,7 @@ ghost use Rattle.pl_share.specs.Disjoint as share;
 ghost use Rattle.pl_share.specs.Shared.{plan_shared};
 ghost use Rattle.pl_slots.specs.Plan.{plan};
 ghost use Rattle.pl_plan.specs.Faults.{is_memory, of_plan};
-ghost use Rattle.pl_plan.specs.Planned as spec;
+ghost use Rattle.pl_plan.specs.RunPlan as spec;
 ghost use Rattle.pl_plan.specs.Wants.{walks};
 
 use crate::walks::walks_of;
@@ -51,7 +51,7 @@ fn shared_slots(
 }
 
 /// The slots of all wants, in their order.
-#[tactic(auto, unfolding(crate::specs::Planned::slots))]
+#[tactic(auto, unfolding(crate::specs::RunPlan::slots))]
 pub fn slots_of(
     alloc: Global,
     files: &[Known<'_>],

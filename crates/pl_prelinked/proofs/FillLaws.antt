@@ -14,7 +14,7 @@ use Rattle.pl_elf.specs.declared.constants.TheConstants.{R_X86_64_NONE}
 use Rattle.pl_form.specs.Words.{AreFills, flat_of, has_place, fill_window}
 use Rattle.pl_form.specs.declared.file.Fill.{Fill}
 use Rattle.pl_image.specs.Image.{all_pieces}
-use Rattle.pl_image.specs.declared.loaded.Loaded.{Loaded}
+use Rattle.pl_image.specs.declared.loaded_object.LoadedObject.{LoadedObject}
 use Rattle.pl_object.specs.Relocations.{places, width}
 use Rattle.pl_object.specs.declared.object.Object.{Object}
 use Rattle.pl_object.specs.declared.reloc.Reloc.{Reloc}
@@ -28,7 +28,7 @@ use Rattle.pl_prelinked.specs.Fills.{fill_at, fills, patched, patches}
 
 -- ---- words and copies as patches
 
-pub patched_is : (loaded : List Loaded) (gs : List Meaning) → patched loaded (patches loaded gs) ≡ relocated (layered (all_pieces loaded)) gs
+pub patched_is : (loaded : List LoadedObject) (gs : List Meaning) → patched loaded (patches loaded gs) ≡ relocated (layered (all_pieces loaded)) gs
 unfolding relocated
 patched_is loaded gs =
     let base = layered (all_pieces loaded) in

@@ -40,7 +40,7 @@ use Rattle.pl_tls.specs.declared.fault.TlsFault.{TlsFault}
 use Rattle.pl_tls.specs.declared.module.Module.{Module}
 use Rattle.pl_scope.proofs.WalkedLaws.{limit_is}
 use Rattle.pl_value.specs.Meanings.{meanings}
-use Rattle.pl_value.specs.Ordinary.{ArePlaced, loaded}
+use Rattle.pl_value.specs.Ordinary.{ArePlaced, loaded_objects}
 use Rattle.pl_value.specs.declared.meaning.Meaning.{Meaning}
 use Rattle.pl_value.proofs.PlaceLaws.{relocs_held}
 use Rattle.pl_prelinked.specs.Fills.{fills, fills_of, memory_of}
@@ -155,7 +155,7 @@ refused_next (Ok x) f is = absurd (none-some x is)
 -- where a relocation has no value there are no conflict rows
 pub no_conflicts : (rs : List Firm) (modules : List Module) → None ≡ result_ok (meanings (objects_of rs) (slots_of rs) modules) → None ≡ conflicts_with rs modules
 unfolding conflicts
-no_conflicts rs modules is = refused_next (meanings (objects_of rs) (slots_of rs) modules) (λ gs. Ok (ascending (rows_of (loaded (slots_of rs) (parts_of rs) (objects_of rs)) gs))) is
+no_conflicts rs modules is = refused_next (meanings (objects_of rs) (slots_of rs) modules) (λ gs. Ok (ascending (rows_of (loaded_objects (slots_of rs) (parts_of rs) (objects_of rs)) gs))) is
 
 pub made_with : (rs : List Firm) (modules : List Module) (gs : List Meaning) (rows : List ConflictRow) → AreSources rs → IsProgramSet rs → meanings (objects_of rs) (slots_of rs) modules ≡ Ok gs → conflicts (objects_of rs) (parts_of rs) (slots_of rs) modules ≡ Ok rows
     → prelinked.stored (form_of rs (fills_of rs (memory_of rs gs)) rows) ≡ prelinked.stored (of_program rs modules)

@@ -10,30 +10,30 @@ use Rattle.pl_base.specs.Memory.{Memory, Fill, is_within, over, read, filled, la
 use Rattle.pl_base.specs.Windows.{Window, holds}
 use Rattle.pl_base.proofs.MemoryLaws.{read_length, read_byte}
 use Rattle.pl_base.proofs.WordLaws.{length_bytes64}
-use Rattle.pl_conflict.specs.Among.{Without, AreStill, HaveValues, IsFar, IsPassed, IsAmong, word_window}
+use Rattle.pl_conflict.specs.Among.{Without, AreConflictFree, HaveValues, IsFar, IsPassed, IsAmong, word_window}
 use Rattle.pl_conflict.specs.Conflicts.{row_of, rows_of}
 use Rattle.pl_conflict.specs.Prelinked.{Firm, objects_of, originals_of, parts_of, slots_of}
-use Rattle.pl_conflict.specs.declared.among.Still.{Still}
+use Rattle.pl_conflict.specs.declared.among.ConflictFree.{ConflictFree}
 use Rattle.pl_conflict.proofs.AmongLaws.{without_all, without_map, without_weaker, passed_quiet}
 use Rattle.pl_conflict.proofs.ConflictLaws.{objects_within}
 use Rattle.pl_conflict.proofs.ScopeLaws.{none_holds}
 use Rattle.pl_form.specs.Words.{has_place}
 use Rattle.pl_form.specs.declared.file.Fill as form
 use Rattle.pl_image.specs.Image.{all_pieces}
-use Rattle.pl_image.specs.declared.loaded.Loaded.{Loaded}
+use Rattle.pl_image.specs.declared.loaded_object.LoadedObject.{LoadedObject}
 use Rattle.pl_object.specs.declared.object.Object.{Object}
 use Rattle.pl_object.specs.declared.reloc.Reloc.{Reloc}
 use Rattle.pl_scope.proofs.NameLaws.{or_cases}
 use Rattle.pl_tls.specs.declared.module.Module.{Module}
 use Rattle.pl_value.specs.Linked.{put_of, copy_of, words, copies, worded, relocated}
 use Rattle.pl_value.specs.Meanings.{meanings}
-use Rattle.pl_value.specs.Ordinary.{loaded}
+use Rattle.pl_value.specs.Ordinary.{loaded_objects}
 use Rattle.pl_value.specs.declared.meaning.Meaning.{Meaning}
 use Rattle.pl_value.specs.declared.word.Word.{Word}
 use Rattle.pl_value.specs.declared.word.Word.TheVariants.{Put, Copy, Nothing}
 use Rattle.pl_value.proofs.ReadLaws.{reads}
 use Rattle.pl_prelinked.specs.Fills.{fill_at, fills, fills_of, memory_of}
-use Rattle.pl_prelinked.specs.Lent.{AreStillIn}
+use Rattle.pl_prelinked.specs.Lent.{AreConflictFreeIn}
 use Rattle.pl_prelinked.specs.Programs.{IsEnough, IsEnoughFor, Suffices, first_relocs, result_ok}
 use Rattle.pl_prelinked.specs.Sources.{AreSources}
 use Rattle.pl_prelinked.specs.Watched.{contains_bytes, is_watched, is_source_watched, are_watched}
@@ -163,32 +163,32 @@ first_same : (rs : List Firm) (ws : List Window) (all gs : List Meaning) → Wit
 first_same [] ws all gs without e = refl
 first_same (r ∷ rs) ws all gs without e =
     let p = and_parts (list_all (λ (s : Reloc). is_watched ws s.address s.width) r.object.relocations) (list_all (λ (g : Meaning). is_source_watched ws g.word) gs) e in
-    fills_same ws (layered (all_pieces (loaded (slots_of (r ∷ rs)) (originals_of (r ∷ rs)) (objects_of (r ∷ rs))))) all gs without p.1 r.object.relocations p.0
+    fills_same ws (layered (all_pieces (loaded_objects (slots_of (r ∷ rs)) (originals_of (r ∷ rs)) (objects_of (r ∷ rs))))) all gs without p.1 r.object.relocations p.0
 
 -- ---- meanings that are enough
 
-abbrev files_in : List Firm → List Loaded
-files_in rs = loaded (slots_of rs) (parts_of rs) (objects_of rs)
+abbrev files_in : List Firm → List LoadedObject
+files_in rs = loaded_objects (slots_of rs) (parts_of rs) (objects_of rs)
 
-rows_same : (rs : List Firm) (tls : List Module) (still : List Still) (ws : List Window) (all gs : List Meaning) → AreStillIn rs still → Without (IsPassed (objects_of rs) (slots_of rs) tls still ws) all gs → rows_of (files_in rs) all ≡ rows_of (files_in rs) gs
+rows_same : (rs : List Firm) (tls : List Module) (conflict_free : List ConflictFree) (ws : List Window) (all gs : List Meaning) → AreConflictFreeIn rs conflict_free → Without (IsPassed (objects_of rs) (slots_of rs) tls conflict_free ws) all gs → rows_of (files_in rs) all ≡ rows_of (files_in rs) gs
 unfolding rows_of
-rows_same rs tls still ws all gs are without =
-    without_map (IsPassed (objects_of rs) (slots_of rs) tls still ws) (λ (g : Meaning). row_of (files_in rs) g.member g.start g.word) all gs
-    (λ g p. (passed_quiet (objects_of rs) (slots_of rs) tls (files_in rs) still ws g are p).no_row) without
+rows_same rs tls conflict_free ws all gs are without =
+    without_map (IsPassed (objects_of rs) (slots_of rs) tls conflict_free ws) (λ (g : Meaning). row_of (files_in rs) g.member g.start g.word) all gs
+    (λ g p. (passed_quiet (objects_of rs) (slots_of rs) tls (files_in rs) conflict_free ws g are p).no_row) without
 
 within_all : (rs : List Firm) (tls : List Module) (all : List Meaning) → AreSources rs → meanings (objects_of rs) (slots_of rs) tls ≡ Ok all → All (λ g. g.member < length (objects_of rs)) all
 within_all rs tls all are given = objects_within (objects_of rs) (slots_of rs) tls all (accepted_all rs (own_all rs are)) given
 
-pub among_suffices : (rs : List Firm) (tls : List Module) (still : List Still) (ws : List Window) (gs : List Meaning) → AreSources rs → AreStillIn rs still → IsAmong (objects_of rs) (slots_of rs) tls still ws gs → are_watched ws (first_relocs rs) gs ≡ true → Suffices rs tls gs
-among_suffices rs tls still ws gs are quiet among watched = record {
+pub among_suffices : (rs : List Firm) (tls : List Module) (conflict_free : List ConflictFree) (ws : List Window) (gs : List Meaning) → AreSources rs → AreConflictFreeIn rs conflict_free → IsAmong (objects_of rs) (slots_of rs) tls conflict_free ws gs → are_watched ws (first_relocs rs) gs ≡ true → Suffices rs tls gs
+among_suffices rs tls conflict_free ws gs are quiet among watched = record {
   all = among.all;
   given = among.given;
-  within = without_all (IsPassed (objects_of rs) (slots_of rs) tls still ws) (λ (g : Meaning). g.member < length (objects_of rs)) among.all gs (within_all rs tls among.all are among.given) among.without;
+  within = without_all (IsPassed (objects_of rs) (slots_of rs) tls conflict_free ws) (λ (g : Meaning). g.member < length (objects_of rs)) among.all gs (within_all rs tls among.all are among.given) among.without;
   same = record {
-    rows = rows_same rs tls still ws among.all gs quiet among.without;
+    rows = rows_same rs tls conflict_free ws among.all gs quiet among.without;
     fills = first_same rs ws among.all gs
-        (without_weaker (IsPassed (objects_of rs) (slots_of rs) tls still ws) (IsOut ws) among.all gs
-        (λ g p. record { far = p.passed.far; no_copy = (passed_quiet (objects_of rs) (slots_of rs) tls (files_in rs) still ws g quiet p).no_copy }) among.without) watched;
+        (without_weaker (IsPassed (objects_of rs) (slots_of rs) tls conflict_free ws) (IsOut ws) among.all gs
+        (λ g p. record { far = p.passed.far; no_copy = (passed_quiet (objects_of rs) (slots_of rs) tls (files_in rs) conflict_free ws g quiet p).no_copy }) among.without) watched;
   };
 }
 
@@ -199,8 +199,8 @@ pub all_enough : (rs : List Firm) (tls : List Module) (o : Option (List Meaning)
 all_enough rs tls None are is = is
 all_enough rs tls (Some gs) are is = all_suffice rs tls gs are (ok_of (meanings (objects_of rs) (slots_of rs) tls) gs is)
 
-pub have_values : (os : List Object) (places : List ℕ) (tls : List Module) (files : List Loaded) (still : List Still) → AreStill os places files still → HaveValues os places tls still
-have_values os places tls files still are = λ m o at i d lt set.
+pub have_values : (os : List Object) (places : List ℕ) (tls : List Module) (files : List LoadedObject) (conflict_free : List ConflictFree) → AreConflictFree os places files conflict_free → HaveValues os places tls conflict_free
+have_values os places tls files conflict_free are = λ m o at i d lt set.
     let q = are m i o d at lt set tls in
     (q.0, q.1.0)
 

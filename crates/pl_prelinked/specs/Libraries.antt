@@ -32,8 +32,8 @@ BeginsWith all r = (rs : List Firm) × (all ≡ r ∷ rs)
 
 -- flags tell of the relocations of a library, the first of members, that its file holds their words at its slot
 abbrev pub AreHeldIn : List Firm → List ℕ → List Bool → List Bool → Type 0
-AreHeldIn [] file closed flags = flags ≡ []
-AreHeldIn (r ∷ rs) file closed flags = AreHeld (objects_of (r ∷ rs)) (slots_of (r ∷ rs)) (loaded_at r.member.slot file r.object ∷ []) closed r.object.relocations flags
+AreHeldIn [] file one_word flags = flags ≡ []
+AreHeldIn (r ∷ rs) file one_word flags = AreHeld (objects_of (r ∷ rs)) (slots_of (r ∷ rs)) (loaded_at r.member.slot file r.object ∷ []) one_word r.object.relocations flags
 
 -- words of the relocations of a library, the first of members, that its file holds at their places, where it is loaded at its slot
 abbrev pub AreWordsIn : List Firm → List ℕ → List ℕ → Type 0

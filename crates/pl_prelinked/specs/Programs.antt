@@ -6,7 +6,7 @@ use Rattle.pl_conflict.specs.Among.{IsAmong}
 use Rattle.pl_conflict.specs.Conflicts.{conflicts}
 use Rattle.pl_conflict.specs.Compared.{AreEnough, MakeRows}
 use Rattle.pl_conflict.specs.Prelinked.{Firm, are_set, list_of, named, objects_of, parts_of, slots_of, version_of}
-use Rattle.pl_conflict.specs.declared.among.Still.{Still}
+use Rattle.pl_conflict.specs.declared.among.ConflictFree.{ConflictFree}
 use Rattle.pl_elf.specs.Kinds.{is_library}
 use Rattle.pl_form.specs.Program.{program_form}
 use Rattle.pl_form.specs.Words.{AreFills}
@@ -70,9 +70,9 @@ abbrev pub IsEnoughFor : List Firm → List Meaning → Type 0
 IsEnoughFor rs gs = AreEnough (objects_of rs) (parts_of rs) (slots_of rs) gs
 
 -- the same of meanings without those that are passed by
-abbrev pub IsAmongOf : List Firm → List Module → List Still → List Window → Option (List Meaning) → Type 0
-IsAmongOf rs tls still windows None = None ≡ result_ok (meanings (objects_of rs) (slots_of rs) tls)
-IsAmongOf rs tls still windows (Some gs) = IsAmong (objects_of rs) (slots_of rs) tls still windows gs
+abbrev pub IsAmongOf : List Firm → List Module → List ConflictFree → List Window → Option (List Meaning) → Type 0
+IsAmongOf rs tls conflict_free windows None = None ≡ result_ok (meanings (objects_of rs) (slots_of rs) tls)
+IsAmongOf rs tls conflict_free windows (Some gs) = IsAmong (objects_of rs) (slots_of rs) tls conflict_free windows gs
 
 -- the relocations of the first
 abbrev pub first_relocs : List Firm → List Reloc

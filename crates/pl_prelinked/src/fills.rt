@@ -8,7 +8,7 @@ ghost use Rattle.pl_prelinked.specs.Fills as spec;
 use pl_base::Rows;
 use pl_elf::constants::R_X86_64_NONE;
 use pl_form::Fill;
-use pl_image::{Loaded, Patch};
+use pl_image::{LoadedObject, Patch};
 use pl_object::Reloc;
 use pl_value::{Meaning, Word, read};
 use std::alloc::{AllocError, Global};
@@ -44,7 +44,7 @@ fn words(alloc: Global, meanings: &[Meaning]) -> Result<Vec<Patch>, AllocError>
 /// The bytes for the place of a copy, where there are any, as they stand after the words.
 fn copy_of(
     alloc: Global,
-    loaded: &[Loaded<'_>],
+    loaded: &[LoadedObject<'_>],
     words: &[Patch],
     meaning: &Meaning,
 ) -> Result<Option<Patch>, AllocError>
@@ -65,7 +65,7 @@ fn copy_of(
 #[tactic(auto, unfolding(pl_value::specs::Linked::copies))]
 fn copies(
     alloc: Global,
-    loaded: &[Loaded<'_>],
+    loaded: &[LoadedObject<'_>],
     words: &[Patch],
     meanings: &[Meaning],
 ) -> Result<Vec<Patch>, AllocError>
@@ -85,7 +85,7 @@ fn copies(
 /// What relocations write over loaded objects: their words, then their copies.
 fn patches(
     alloc: Global,
-    loaded: &[Loaded<'_>],
+    loaded: &[LoadedObject<'_>],
     meanings: &[Meaning],
 ) -> Result<Vec<Patch>, AllocError>
     requires { AreLoaded loaded.now }
@@ -100,7 +100,7 @@ fn patches(
 /// The bytes at the place of a relocation of a program, after patches.
 fn fill_at(
     alloc: Global,
-    loaded: &[Loaded<'_>],
+    loaded: &[LoadedObject<'_>],
     patches: &[Patch],
     reloc: &Reloc,
 ) -> Result<Fill, AllocError>
@@ -120,7 +120,7 @@ fn fill_at(
 fn push_fill(
     alloc: Global,
     fills: &mut Vec<Fill>,
-    loaded: &[Loaded<'_>],
+    loaded: &[LoadedObject<'_>],
     patches: &[Patch],
     reloc: &Reloc,
 ) -> Result<(), AllocError>
@@ -140,7 +140,7 @@ fn push_fill(
 #[tactic(auto, unfolding(crate::specs::Fills::fills))]
 fn fills_at(
     alloc: Global,
-    loaded: &[Loaded<'_>],
+    loaded: &[LoadedObject<'_>],
     patches: &[Patch],
     relocs: &[Reloc],
 ) -> Result<Vec<Fill>, AllocError>
@@ -158,7 +158,7 @@ fn fills_at(
 /// The bytes at the places of a program, which is loaded at 0, after all words and copies of the relocations of its scope: a fill for each of its own relocations that is not NONE, in their order.
 pub fn fills(
     alloc: Global,
-    loaded: &[Loaded<'_>],
+    loaded: &[LoadedObject<'_>],
     meanings: &[Meaning],
     relocs: &[Reloc],
 ) -> Result<Vec<Fill>, AllocError>

@@ -1,4 +1,4 @@
-use pl_conflict::Still;
+use pl_conflict::ConflictFree;
 use pl_lists::ListRow;
 
 /// What a caller has of the members of a walk already.
@@ -8,7 +8,7 @@ pub struct Lent<'a> {
     pub list: &'a [ListRow],
 
     /// Where the first is a program, which relocations of each member are known to make no conflict row and to copy nothing, and what the prelinked file of each library by its own walk holds at the places of its relocations. None where the caller does not know it.
-    pub still: Option<&'a [Still<'a>]>,
+    pub conflict_free: Option<&'a [ConflictFree<'a>]>,
 
     /// The SHA-256 of the first's original. None where the caller does not have it.
     pub digest: Option<&'a [u8; 32]>,

@@ -1,6 +1,7 @@
 //! The prelinked file that the members of a walk give its first name, in either version of the undo section, and where they give none (Jelínek, "Prelink").
 #![tactic(auto)]
 
+mod conflict_free;
 mod fills;
 mod lent;
 mod library;
@@ -11,13 +12,12 @@ mod program;
 mod scopes;
 mod set;
 mod source;
-mod still;
 mod watched;
 mod windows;
 
+pub use conflict_free::{conflict_free_words, held_words};
 pub use lent::Lent;
 pub use library::{library_words, prelink_library};
 pub use lists::checksum_of;
 pub use prelinking::{prelink, prelink_with};
 pub use source::Source;
-pub use still::{held_words, still_words};

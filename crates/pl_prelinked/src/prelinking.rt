@@ -101,7 +101,7 @@ pub fn prelink(alloc: Global, sources: &[Source<'_>]) -> Result<Option<Vec<u8>>,
     let list = list_after(alloc, sources)?;
     let lent = Lent {
         list: list.as_slice(),
-        still: None,
+        conflict_free: None,
         digest: None,
     };
     prelink_with(alloc, sources, &lent)

@@ -9,7 +9,7 @@ ghost use Rattle.pl_prelinked.specs.Fills.{fills_of, memory_of};
 ghost use Rattle.pl_prelinked.specs.Programs.{AreFirstFills, BeginsWithProgram, IsAmongOf, IsEnough, IsEnoughFor, IsFound, IsProgramSet, Suffices, conflicts_with, form_of, result_ok};
 ghost use Rattle.pl_prelinked.specs.Programs as spec_of;
 ghost use Rattle.pl_form.specs.Words.{AreFills};
-ghost use Rattle.pl_prelinked.specs.Lent.{AreLent, AreStillIn, TellHeldIn, list_after};
+ghost use Rattle.pl_prelinked.specs.Lent.{AreLent, AreConflictFreeIn, TellHeldIn, list_after};
 ghost use Rattle.pl_image.specs.Image.{AreLoaded};
 ghost use Rattle.pl_prelinked.specs.Sources.{AreSources};
 ghost use Rattle.pl_scope.specs.Scope.{objects};
@@ -24,9 +24,9 @@ use crate::scopes::{own_walk, places_of, scope_of};
 use crate::watched::{are_watched, windows_of};
 use crate::{Lent, Source};
 use pl_base::Rows;
-use pl_conflict::{Still, conflicts_among, conflicts_by, meanings_among};
+use pl_conflict::{ConflictFree, conflicts_among, conflicts_by, meanings_among};
 use pl_form::{Fill, FormFault, form_program};
-use pl_image::{Loaded, Parts};
+use pl_image::{LoadedObject, Parts};
 use pl_io::NoMemory;
 use pl_lists::{ConflictRow, ListRow};
 use pl_object::{Reloc, Window};
@@ -165,16 +165,16 @@ fn among_of(
     alloc: Global,
     sources: &[Source<'_>],
     modules: &[Module],
-    still: &[Still<'_>],
+    conflict_free: &[ConflictFree<'_>],
     windows: &[Window],
 ) -> Result<Option<Rows<Meaning>>, NoMemory>
     requires sources { AreSources sources.now }
-    requires still { AreStillIn sources.now still.now }
-    ensures { IfOk result (IsAmongOf sources.now modules.now still.now windows.now) }
+    requires conflict_free { AreConflictFreeIn sources.now conflict_free.now }
+    ensures { IfOk result (IsAmongOf sources.now modules.now conflict_free.now windows.now) }
 {
     let scope = scope_of(alloc, sources)?;
     let places = places_of(alloc, sources)?;
-    match meanings_among(alloc, &scope, &places, modules, still, windows) {
+    match meanings_among(alloc, &scope, &places, modules, conflict_free, windows) {
         Ok(meanings) => Ok(Some(meanings)),
         Err(OrdinaryFault::Link(_)) => Ok(None),
         Err(OrdinaryFault::NoMemory) => Err(NoMemory),
@@ -204,18 +204,18 @@ fn file_windows(alloc: Global, sources: &[Source<'_>]) -> Result<Vec<Window>, Al
 }
 
 /// Meanings of the members' scope that are enough for the program's file, where flags tell of some that they matter nowhere.
-fn open_of(
+fn remaining_of(
     alloc: Global,
     sources: &[Source<'_>],
     modules: &[Module],
-    still: &[Still<'_>],
+    conflict_free: &[ConflictFree<'_>],
 ) -> Result<Option<Rows<Meaning>>, NoMemory>
     requires sources { AreSources sources.now }
-    requires still { AreStillIn sources.now still.now }
+    requires conflict_free { AreConflictFreeIn sources.now conflict_free.now }
     ensures { IfOk result (IsEnough sources.now modules.now) }
 {
     let windows = file_windows(alloc, sources)?;
-    let Some(found) = among_of(alloc, sources, modules, still, &windows)? else {
+    let Some(found) = among_of(alloc, sources, modules, conflict_free, &windows)? else {
         return Ok(None);
     };
     let watched = are_watched(&windows, first_relocs(sources), found.as_slice());
@@ -236,9 +236,9 @@ fn enough_of(
     requires lent { AreLent sources.now lent.now }
     ensures { IfOk result (IsEnough sources.now modules.now) }
 {
-    match lent.still {
+    match lent.conflict_free {
         None => all_of(alloc, sources, modules),
-        Some(still) => open_of(alloc, sources, modules, still),
+        Some(conflict_free) => remaining_of(alloc, sources, modules, conflict_free),
     }
 }
 
@@ -283,17 +283,17 @@ fn rows_among(
     alloc: Global,
     sources: &[Source<'_>],
     modules: &[Module],
-    still: &[Still<'_>],
+    conflict_free: &[ConflictFree<'_>],
 ) -> Result<Option<Rows<ConflictRow>>, NoMemory>
     requires sources { AreSources sources.now }
     requires set { IsProgramSet sources.now }
-    requires still { AreStillIn sources.now still.now }
-    requires held { TellHeldIn sources.now still.now }
+    requires conflict_free { AreConflictFreeIn sources.now conflict_free.now }
+    requires held { TellHeldIn sources.now conflict_free.now }
     ensures { IfOk result (λ rows. rows ≡ conflicts_with sources.now modules.now) }
 {
     let scope = scope_of(alloc, sources)?;
     let places = places_of(alloc, sources)?;
-    match conflicts_among(alloc, &scope, &places, modules, still) {
+    match conflicts_among(alloc, &scope, &places, modules, conflict_free) {
         Ok(rows) => Ok(Some(rows)),
         Err(OrdinaryFault::Link(_)) => Ok(None),
         Err(OrdinaryFault::NoMemory) => Err(NoMemory),
@@ -314,17 +314,17 @@ fn rows_of(
     requires lent { AreLent sources.now lent.now }
     ensures { IfOk result (λ rows. rows ≡ conflicts_with sources.now modules.now) }
 {
-    match lent.still {
+    match lent.conflict_free {
         None => Ok(Some(rows_made(alloc, sources, all)?)),
-        Some(still) => rows_among(alloc, sources, modules, still),
+        Some(conflict_free) => rows_among(alloc, sources, modules, conflict_free),
     }
 }
 
 /// The objects of members as loaded, from their originals at their slots.
-fn loaded_of<'a>(alloc: Global, sources: &[Source<'a>]) -> Result<Vec<Loaded<'a>>, NoMemory>
+fn loaded_of<'a>(alloc: Global, sources: &[Source<'a>]) -> Result<Vec<LoadedObject<'a>>, NoMemory>
     requires sources { AreSources sources.now }
     requires set { IsProgramSet sources.now }
-    ensures value { IfOk result (λ v. v.items ≡ ordinary.loaded (spec.slots_of sources.now)
+    ensures value { IfOk result (λ v. v.items ≡ ordinary.loaded_objects (spec.slots_of sources.now)
         (spec.originals_of sources.now) (spec.objects_of sources.now)) }
     ensures loaded { IfOk result (λ v. AreLoaded v.items) }
 {

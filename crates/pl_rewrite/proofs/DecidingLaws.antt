@@ -29,7 +29,7 @@ use Rattle.pl_object.specs.declared.object.Object.{Object}
 use Rattle.pl_object.specs.declared.refusal.Refusal.{Refusal}
 use Rattle.pl_object.specs.declared.refusal.Refusal.TheVariants as refusals
 use Rattle.pl_plan.specs.declared.asked.Asked.{Asked}
-use Rattle.pl_plan.specs.declared.planned.Planned.{Planned}
+use Rattle.pl_plan.specs.declared.run_plan.RunPlan.{RunPlan}
 use Rattle.pl_prelinked.specs.Libraries.{HasFormWith, file_with}
 use Rattle.pl_prelinked.specs.Sources.{firm}
 use Rattle.pl_scope.proofs.NameLaws.{same_name}
@@ -178,6 +178,6 @@ pub file_is : (run : Run) (t : Taken) (file : Vec ℕ Global) → IsRun run → 
 file_is run t file is there stale new = record { may = new_small run t.name file.items new; meant = new_is run t file.items is there stale new }
 
 -- of all files
-pub all_are : {E : Type 0} (ts : List Taken) (a : Asked) (p : Planned) (r : Result (Vec Decided Global) E) → AreTaken a.region ts → IfOk r (λ v. AllZip (IsDecidedIn (files_in ts) a.region p) ts v.items) → IfOk r (λ v. AreDecided ts a p v.items)
+pub all_are : {E : Type 0} (ts : List Taken) (a : Asked) (p : RunPlan) (r : Result (Vec Decided Global) E) → AreTaken a.region ts → IfOk r (λ v. AllZip (IsDecidedIn (files_in ts) a.region p) ts v.items) → IfOk r (λ v. AreDecided ts a p v.items)
 all_are ts a p (Ok v) taken each = record { taken = taken; each = each }
 all_are ts a p (Err e) taken each = tt

@@ -23,7 +23,7 @@ use Rattle.pl_lists.specs.declared.list_row.ListRow.{ListRow}
 use Rattle.pl_object.specs.Reads.{reads}
 use Rattle.pl_object.specs.declared.object.Object.{Object}
 use Rattle.pl_object.specs.declared.refusal.Refusal.{Refusal}
-use Rattle.pl_plan.specs.declared.planned.Planned.{Planned}
+use Rattle.pl_plan.specs.declared.run_plan.RunPlan.{RunPlan}
 use Rattle.pl_prelinked.specs.Libraries.{HasFormWith, file_with}
 use Rattle.pl_prelinked.specs.Sources.{firm}
 use Rattle.pl_rewrite.specs.Deciding.{IsDecidedIn}
@@ -122,13 +122,13 @@ more_left ds rest i left =
 pub some_left : (R : Taken → Decided → Type 0) (ts : List Taken) (ds : List Decided) (i n : ℕ) → AllZip R ts ds → i < length (map bare_of ts) → n + i ≡ length ds → n ≡ 0 → ⊥
 some_left R ts ds i n all lt sum none = absurd (omega (arith, lt, length-map ts bare_of, AllZip-long R ts ds all))
 
-abbrev pub Decides : List Taken → Range → Planned → Taken → Decided → Type 0
+abbrev pub Decides : List Taken → Range → RunPlan → Taken → Decided → Type 0
 Decides ts region p t d = IsDecidedIn (files_in ts) region p t d
 
-pub may_be : (ts : List Taken) (ds : List Decided) (region : Range) (p : Planned) (i : ℕ) (b : Bare) (d : Decided) (rest : List Decided) → IsNext (Decides ts region p) ts ds i b d rest → MayBeLast b d
+pub may_be : (ts : List Taken) (ds : List Decided) (region : Range) (p : RunPlan) (i : ℕ) (b : Bare) (d : Decided) (rest : List Decided) → IsNext (Decides ts region p) ts ds i b d rest → MayBeLast b d
 may_be ts ds region p i b d rest n = subst (λ (x : Bare). MayBeLast x d) (sym n.bare) n.decided.may
 
-pub made_next : (ts : List Taken) (ds : List Decided) (region : Range) (p : Planned) (i : ℕ) (b : Bare) (d : Decided) (rest : List Decided) (all after : AllMade) (made : Made) (name : List ℕ) → IsNext (Decides ts region p) ts ds i b d rest
+pub made_next : (ts : List Taken) (ds : List Decided) (region : Range) (p : RunPlan) (i : ℕ) (b : Bare) (d : Decided) (rest : List Decided) (all after : AllMade) (made : Made) (name : List ℕ) → IsNext (Decides ts region p) ts ds i b d rest
     → all ≡ all_made (files_in ts) (names_of (take i ts)) region p → made ≡ made_last b d → name ≡ b.name → after ≡ with_made all name made → after ≡ all_made (files_in ts) (names_of (take (i + 1) ts)) region p
 made_next ts ds region p i b d rest all after made name n so_far one named more =
     let last : made ≡ made_last (bare_of n.taken) d = one ∙ ap (λ (x : Bare). made_last x d) n.bare in

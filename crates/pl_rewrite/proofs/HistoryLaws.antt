@@ -27,7 +27,7 @@ use Rattle.pl_journal.specs.declared.change.Change.TheVariants.{Put}
 use Rattle.pl_known.specs.Fits.{fit_in}
 use Rattle.pl_known.specs.Plans.{greatest, greatest_of, is_candidate, is_current, is_stale, stale}
 use Rattle.pl_known.specs.Skips.{skip_causes}
-use Rattle.pl_plan.specs.declared.planned.Planned.{Planned}
+use Rattle.pl_plan.specs.declared.run_plan.RunPlan.{RunPlan}
 use Rattle.pl_scope.specs.Members.{has}
 use Rattle.pl_scope.proofs.NameLaws.{has_cons, has_head, has_tail, same_name}
 use Rattle.pl_sound.specs.Rule.{Files, mark_at}
@@ -43,7 +43,7 @@ use Rattle.pl_rewrite.proofs.VerifyLaws.{mark_read, original_read}
 -- ---- the rows of a run
 
 -- what a row makes of a name
-row_at : (files : Files) (region : Range) (p : Planned) (m : List ℕ) (row : Change) → change files region p m ≡ Some row → (file : List ℕ) × (next files region p m ≡ Some file) × (row ≡ Put m file)
+row_at : (files : Files) (region : Range) (p : RunPlan) (m : List ℕ) (row : Change) → change files region p m ≡ Some row → (file : List ℕ) × (next files region p m ≡ Some file) × (row ≡ Put m file)
 row_at files region p m row e = by_next (next files region p m) refl e
   where
     by_test : (file : List ℕ) (b : Bool) → (if b then None else Some (Put m file)) ≡ Some row → row ≡ Put m file
@@ -55,7 +55,7 @@ row_at files region p m row e = by_next (next files region p m) refl e
     by_next (Some file) is h = (file, is, by_test file (is_file (files m) file) h)
 
 -- where a name has no row its file stays
-no_row : (files : Files) (region : Range) (p : Planned) (m : List ℕ) → change files region p m ≡ None → next files region p m ≡ files m
+no_row : (files : Files) (region : Range) (p : RunPlan) (m : List ℕ) → change files region p m ≡ None → next files region p m ≡ files m
 no_row files region p m e = by_next (next files region p m) refl e
   where
     same_file : (old : Option (List ℕ)) (file : List ℕ) → is_file old file ≡ true → Some file ≡ old
@@ -75,7 +75,7 @@ no_row files region p m e = by_next (next files region p m) refl e
     by_next (Some file) is h = is ∙ by_test file (is_file (files m) file) refl h
 
 -- the rows of these names, where the first of them has this row or none
-abbrev rows_from : Files → Range → Planned → List (List ℕ) → Option Change → List Change
+abbrev rows_from : Files → Range → RunPlan → List (List ℕ) → Option Change → List Change
 rows_from files region p ns row = cons_option row (filter_map (change files region p) ns)
 
 abbrev is_same : List ℕ → List ℕ → Bool
@@ -86,10 +86,10 @@ put_on : (files : Files) (rows : List Change) (m file : List ℕ) (i : ℕ) (kee
 put_on files rows m file i keep n b is = ap (λ (c : Bool). cond c (Some file) (mixed (i + 1) rows keep files n)) is
 
 -- with any of them made a name has its old file or the run's
-abbrev IsEither : Files → Range → Planned → List ℕ → Option (List ℕ) → Type 0
+abbrev IsEither : Files → Range → RunPlan → List ℕ → Option (List ℕ) → Type 0
 IsEither files region p n file = (file ≡ files n) ⊎ (file ≡ next files region p n)
 
-rows_mix : (files : Files) (region : Range) (p : Planned) (ns : List (List ℕ)) (i : ℕ) (keep : ℕ → Bool) (n : List ℕ) → IsEither files region p n (mixed i (filter_map (change files region p) ns) keep files n)
+rows_mix : (files : Files) (region : Range) (p : RunPlan) (ns : List (List ℕ)) (i : ℕ) (keep : ℕ → Bool) (n : List ℕ) → IsEither files region p n (mixed i (filter_map (change files region p) ns) keep files n)
 rows_mix files region p [] i keep n = inl refl
 rows_mix files region p (m ∷ ns) i keep n = by_row (λ j. rows_mix files region p ns j keep n) (change files region p m) refl
   where
@@ -112,7 +112,7 @@ rows_mix files region p (m ∷ ns) i keep n = by_row (λ j. rows_mix files regio
         subst (λ (x : Change). IsEither files region p n (mixed i (x ∷ rows) keep files n)) (sym r.2) (by_test later r.0 r.1 (keep i && is_same n m) refl)
 
 -- with all of them made a name that is there has the run's
-rows_made : (files : Files) (region : Range) (p : Planned) (ns : List (List ℕ)) (i : ℕ) (n : List ℕ) → has ns n ≡ true → mixed i (filter_map (change files region p) ns) (λ _. true) files n ≡ next files region p n
+rows_made : (files : Files) (region : Range) (p : RunPlan) (ns : List (List ℕ)) (i : ℕ) (n : List ℕ) → has ns n ≡ true → mixed i (filter_map (change files region p) ns) (λ _. true) files n ≡ next files region p n
 rows_made files region p [] i n there = absurd (false≢true there)
 rows_made files region p (m ∷ ns) i n there = by_row (λ j rest. rows_made files region p ns j n rest) (change files region p m) refl
   where
@@ -139,7 +139,7 @@ rows_made files region p (m ∷ ns) i n there = by_row (λ j rest. rows_made fil
         subst (λ (x : Change). mixed i (x ∷ rows) (λ _. true) files n ≡ next files region p n) (sym r.2) (by_test later r.0 r.1 (is_same n m) refl)
 
 -- a name that is not there has no file, before the run and after it
-no_next : (files : Files) (region : Range) (p : Planned) (n : List ℕ) → files n ≡ None → next files region p n ≡ None
+no_next : (files : Files) (region : Range) (p : RunPlan) (n : List ℕ) → files n ≡ None → next files region p n ≡ None
 no_next files region p n none = by_next (next files region p n) refl
   where
     by_next : (o : Option (List ℕ)) → next files region p n ≡ o → next files region p n ≡ None
@@ -168,7 +168,7 @@ verified_keep_the_rule files each = theorems.verified (format skip_causes) files
 -- ---- steps
 
 -- no name gets the stamp of a run without a stale name
-none_given : (files : Files) (region : Range) (p : Planned) (ns : List (List ℕ)) → (length (stale files region p.slots ns) == 0) ≡ true → list_any (is_given files region p) ns ≡ false
+none_given : (files : Files) (region : Range) (p : RunPlan) (ns : List (List ℕ)) → (length (stale files region p.slots ns) == 0) ≡ true → list_any (is_given files region p) ns ≡ false
 none_given files region p ns none = each_off ns (λ n there. and_left (is_stale files region p.slots n) (is_some (prelinked files region p n)) (sym (passed_at (is_stale files region p.slots) n ns there) ∙ empty (stale files region p.slots ns) n none))
   where
     each_off : (ms : List (List ℕ)) → ((n : List ℕ) → has ms n ≡ true → is_given files region p n ≡ false) → list_any (is_given files region p) ms ≡ false
@@ -177,7 +177,7 @@ none_given files region p ns none = each_off ns (λ n there. and_left (is_stale 
         or_from (is_given files region p m) (list_any (is_given files region p) ms) (each m (has_head m ms)) (each_off ms (λ n there. each n (has_tail m n ms there)))
 
 -- where no name got it, none that is stale was prelinked
-not_given : (files : Files) (ns : List (List ℕ)) (region : Range) (p : Planned) → AreNames files ns → list_any (is_given files region p) ns ≡ false
+not_given : (files : Files) (ns : List (List ℕ)) (region : Range) (p : RunPlan) → AreNames files ns → list_any (is_given files region p) ns ≡ false
     → (n : List ℕ) → is_candidate files region n ≡ true → is_current files region p.slots n ≡ false → prelinked files region p n ≡ None
 not_given files ns region p names none n candidate old =
     let stale_is : is_stale files region p.slots n ≡ true = and_from (is_candidate files region n) (not (is_current files region p.slots n)) candidate (ap not old) in
@@ -195,7 +195,7 @@ not_given files ns region p names none n candidate old =
         elim (has_cons m n ms there) [ inl same ↦ subst (λ (x : List ℕ). q x ≡ false) same p.0 | inr rest ↦ any_off q n ms p.1 rest ]
 
 -- the last stamp after a run
-last_is : (files : Files) (ns : List (List ℕ)) (region : Range) (last : ℕ) (p : Planned) (b : Bool) → list_any (is_given files region p) ns ≡ b → (next_cache files ns region last p).last ≡ (if b then p.stamp else last)
+last_is : (files : Files) (ns : List (List ℕ)) (region : Range) (last : ℕ) (p : RunPlan) (b : Bool) → list_any (is_given files region p) ns ≡ b → (next_cache files ns region last p).last ≡ (if b then p.stamp else last)
 unfolding next_cache
 last_is files ns region last p b is = ap (λ (c : Bool). if c then p.stamp else last) is
 

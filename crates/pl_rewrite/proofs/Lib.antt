@@ -4,7 +4,7 @@ pub mod FormLaws
 pub mod WalkLaws
 pub mod MadeLaws
 pub mod OnceLaws
-pub mod StillLaws
+pub mod ConflictFreeLaws
 pub mod PartLaws
 pub mod NewLaws
 pub mod PlanLaws

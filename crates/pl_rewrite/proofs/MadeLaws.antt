@@ -29,7 +29,7 @@ use Rattle.pl_known.specs.declared.taken.Taken.{Taken}
 use Rattle.pl_object.specs.declared.object.Object.{Object}
 use Rattle.pl_plan.proofs.AgreeLaws.{candidates_agree}
 use Rattle.pl_plan.specs.Wants.{cause_of}
-use Rattle.pl_plan.specs.declared.planned.Planned.{Planned}
+use Rattle.pl_plan.specs.declared.run_plan.RunPlan.{RunPlan}
 use Rattle.pl_plan.specs.declared.standing.Standing.{Standing}
 use Rattle.pl_prelinked.specs.Sources.{firm}
 use Rattle.pl_scope.specs.Members.{has, names}
@@ -158,15 +158,15 @@ member_there run n o member none = no_object (sym (ap (λ (found : Option Taken)
 
 -- ---- the file of a name after the run
 
-pub next_on : (files : Files) (region : Range) (p : Planned) (n : List ℕ) → is_current files region p.slots n ≡ true → next files region p n ≡ files n
+pub next_on : (files : Files) (region : Range) (p : RunPlan) (n : List ℕ) → is_current files region p.slots n ≡ true → next files region p n ≡ files n
 unfolding next
 next_on files region p n on = ap (λ (b : Bool). if b then files n else from_scratch files region p n) on
 
-pub next_off : (files : Files) (region : Range) (p : Planned) (n : List ℕ) → is_current files region p.slots n ≡ false → next files region p n ≡ from_scratch files region p n
+pub next_off : (files : Files) (region : Range) (p : RunPlan) (n : List ℕ) → is_current files region p.slots n ≡ false → next files region p n ≡ from_scratch files region p n
 unfolding next
 next_off files region p n off = ap (λ (b : Bool). if b then files n else from_scratch files region p n) off
 
-pub scratch_by : (files : Files) (region : Range) (p : Planned) (n : List ℕ) (b : Bool) → is_candidate files region n ≡ b
+pub scratch_by : (files : Files) (region : Range) (p : RunPlan) (n : List ℕ) (b : Bool) → is_candidate files region n ≡ b
     → from_scratch files region p n ≡ option_or (if b then changes.prelinked files region p n else None) (option_map original_in (files n))
 unfolding changes.prelinked
 scratch_by files region p n b is = ap (λ (c : Bool). option_or (if c then planned_in (format skip_causes) files (changes.numbers files region p) n else None) (option_map original_in (files n))) is
@@ -182,17 +182,17 @@ made_by run n change state given c s g =
     ap (λ (x : Option Change). make x (reports.state_after (files_of run) run.region (plan_of run) n) (changes.is_given (files_of run) run.region (plan_of run) n)) c
     ∙ (ap (λ (x : RowState). make change x (changes.is_given (files_of run) run.region (plan_of run) n)) s ∙ ap (make change state) g)
 
-change_by : (files : Files) (region : Range) (p : Planned) (n : List ℕ) (old new : Option (List ℕ)) → files n ≡ old → next files region p n ≡ new → changes.change files region p n ≡ put old n new
+change_by : (files : Files) (region : Range) (p : RunPlan) (n : List ℕ) (old new : Option (List ℕ)) → files n ≡ old → next files region p n ≡ new → changes.change files region p n ≡ put old n new
 change_by files region p n old new before after = ap (λ (o : Option (List ℕ)). put o n (next files region p n)) before ∙ ap (put old n) after
 
-state_of : (files : Files) (region : Range) (p : Planned) (n : List ℕ) (b : Bool) (r : Result (Unit {0}) Skip) (new : Option (List ℕ)) → is_current files region p.slots n ≡ b → skip_of files region n ≡ r → next files region p n ≡ new
+state_of : (files : Files) (region : Range) (p : RunPlan) (n : List ℕ) (b : Bool) (r : Result (Unit {0}) Skip) (new : Option (List ℕ)) → is_current files region p.slots n ≡ b → skip_of files region n ≡ r → next files region p n ≡ new
     → reports.state_after files region p n ≡ state_by n b r (marked_at new)
 unfolding reports.state_after
 state_of files region p n b r new current skip after =
     ap (λ (c : Bool). state_by n c (skip_of files region n) (marked_at (next files region p n))) current
     ∙ (ap (λ (s : Result (Unit {0}) Skip). state_by n b s (marked_at (next files region p n))) skip ∙ ap (λ (o : Option (List ℕ)). state_by n b r (marked_at o)) after)
 
-given_by : (files : Files) (region : Range) (p : Planned) (n : List ℕ) (b : Bool) (new : Option (List ℕ)) → is_stale files region p.slots n ≡ b → changes.prelinked files region p n ≡ new → changes.is_given files region p n ≡ (b && is_some new)
+given_by : (files : Files) (region : Range) (p : RunPlan) (n : List ℕ) (b : Bool) (new : Option (List ℕ)) → is_stale files region p.slots n ≡ b → changes.prelinked files region p n ≡ new → changes.is_given files region p n ≡ (b && is_some new)
 given_by files region p n b new stale file = ap (λ (c : Bool). c && is_some (changes.prelinked files region p n)) stale ∙ ap (λ (o : Option (List ℕ)). b && is_some o) file
 
 -- ---- what is made

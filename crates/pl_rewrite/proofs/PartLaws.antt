@@ -186,20 +186,20 @@ has_parts run n r list words parts first these form file =
 -- ---- what is known of it
 
 pub library_is : (run : Run) (l : Link) (x : Library) (rs : List Firm) (r : Firm) (rest : List Firm) (words : List (Option ℕ)) (file : List ℕ) → IsRun run → IsOwnWalk run l x.name.now rs → rs ≡ r ∷ rest → Some words ≡ words_in rs
-    → Some file ≡ stored (Some (file_with r (list_after rs) words)) → AreHeldIn rs file l.closed x.flags → AreWordsIn rs file x.parts.held → HasThese r (list_after rs) words x.parts → IsRunLibrary run x
+    → Some file ≡ stored (Some (file_with r (list_after rs) words)) → AreHeldIn rs file l.one_word x.flags → AreWordsIn rs file x.parts.held → HasThese r (list_after rs) words x.parts → IsRunLibrary run x
 library_is run l x rs r rest words file is own begins told made held holds these =
     let n : List ℕ = x.name.now in
     let walk : own.walk ≡ own.link.is.own = ok_same own.walk own.link.is.own (sym own.walks ∙ (ap (walk_in run.known.now) (sym own.link.named) ∙ own.link.is.walks)) in
     let same : rs ≡ planned_firms run own.link.is.own = own.members ∙ ap (planned_firms run) walk in
     let planned : stored (Some (file_with r (list_after rs) words)) ≡ prelinked run n = own_file run l n rs r rest words is own begins told in
     record {
-      still = record {
+      conflict_free = record {
         link = l;
         known_by = own.link;
         library = subst (λ (w : Walked). is_library (kind_of w) ≡ true) walk own.library;
         file = file;
         made = sym (made ∙ planned);
-        held = subst (λ (all : List Firm). AreHeldIn all file l.closed x.flags) same held;
+        held = subst (λ (all : List Firm). AreHeldIn all file l.one_word x.flags) same held;
       };
       words = subst (λ (all : List Firm). AreWordsIn all file x.parts.held) same holds;
       parts = has_parts run n r (list_after rs) words x.parts (first_is run l n rs r rest is own begins) these (own_form run l n rs r rest words is own begins told) planned;

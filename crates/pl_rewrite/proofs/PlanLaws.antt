@@ -12,7 +12,7 @@ use Rattle.pl_known.specs.Taken.{names_of}
 use Rattle.pl_known.specs.declared.taken.Taken.{Taken}
 use Rattle.pl_plan.specs.declared.asked.Asked.{Asked}
 use Rattle.pl_plan.specs.declared.fault.PlanningFault.{PlanningFault}
-use Rattle.pl_plan.specs.declared.planned.Planned.{Planned}
+use Rattle.pl_plan.specs.declared.run_plan.RunPlan.{RunPlan}
 use Rattle.pl_slots.specs.declared.slot.Slot.{Slot}
 use Rattle.pl_sound.specs.Rule.{Files}
 use Rattle.pl_rewrite.specs.Changes.{change, changes, is_given, next_cache}
@@ -24,14 +24,14 @@ use Rattle.pl_rewrite.specs.declared.report.ReportRow.{ReportRow}
 
 -- ---- what a plan says of its names
 
-pub record HasNames (files : Files) (ns : List (List ℕ)) (region : Range) (p : Planned) : Type 0 where
+pub record HasNames (files : Files) (ns : List (List ℕ)) (region : Range) (p : RunPlan) : Type 0 where
   pub standings : p.standings ≡ standings files region ns
   pub stale : p.stale ≡ stale files region p.slots ns
 
-abbrev plan_with : Files → List (List ℕ) → Range → List Slot → ℕ → Planned
+abbrev plan_with : Files → List (List ℕ) → Range → List Slot → ℕ → RunPlan
 plan_with files ns region rows stamp = record { standings = standings files region ns; slots = rows; stale = stale files region rows ns; stamp = stamp }
 
-pub plan_names : (files : Files) (ns : List (List ℕ)) (a : Asked) (p : Planned) → planned files ns a ≡ Ok p → HasNames files ns a.region p
+pub plan_names : (files : Files) (ns : List (List ℕ)) (a : Asked) (p : RunPlan) → planned files ns a ≡ Ok p → HasNames files ns a.region p
 unfolding planned
 plan_names files ns a p e =
     let q = bind_ok (slots files ns a) (λ rows. stamp_for files ns a (stale files a.region rows ns) >>= λ stamp. Ok (plan_with files ns a.region rows stamp)) p e in
@@ -40,13 +40,13 @@ plan_names files ns a p e =
     subst (HasNames files ns a.region) same (record { standings = refl; stale = refl })
 
 -- and of its stamp
-pub plan_stamp : (files : Files) (ns : List (List ℕ)) (a : Asked) (p : Planned) → planned files ns a ≡ Ok p → stamp_for files ns a (stale files a.region p.slots ns) ≡ Ok p.stamp
+pub plan_stamp : (files : Files) (ns : List (List ℕ)) (a : Asked) (p : RunPlan) → planned files ns a ≡ Ok p → stamp_for files ns a (stale files a.region p.slots ns) ≡ Ok p.stamp
 unfolding planned
 plan_stamp files ns a p e =
     let q = bind_ok (slots files ns a) (λ rows. stamp_for files ns a (stale files a.region rows ns) >>= λ stamp. Ok (plan_with files ns a.region rows stamp)) p e in
     let r = bind_ok (stamp_for files ns a (stale files a.region q.0 ns)) (λ stamp. Ok (plan_with files ns a.region q.0 stamp)) p q.2 in
     let same : plan_with files ns a.region q.0 r.0 ≡ p = ok_same (plan_with files ns a.region q.0 r.0) p r.2 in
-    subst (λ (x : Planned). stamp_for files ns a (stale files a.region x.slots ns) ≡ Ok x.stamp) same r.1
+    subst (λ (x : RunPlan). stamp_for files ns a (stale files a.region x.slots ns) ≡ Ok x.stamp) same r.1
 
 -- ---- one name more
 
@@ -75,13 +75,13 @@ any_append q (y ∷ xs) x = ap (λ (b : Bool). q y || b) (any_append q xs x) ∙
     by_first false = refl
 
 -- what is made of a name
-abbrev made_at : Files → Range → Planned → List ℕ → Made
+abbrev made_at : Files → Range → RunPlan → List ℕ → Made
 made_at files region p n = record { change = change files region p n; state = state_after files region p n; given = is_given files region p n }
 
 abbrev make : List Change → List ReportRow → Bool → AllMade
 make rows states given = record { rows = rows; states = states; given = given }
 
-made_append : (files : Files) (region : Range) (p : Planned) (ns : List (List ℕ)) (n : List ℕ) → with_made (all_made files ns region p) n (made_at files region p n) ≡ all_made files (ns ++ n ∷ []) region p
+made_append : (files : Files) (region : Range) (p : RunPlan) (ns : List (List ℕ)) (n : List ℕ) → with_made (all_made files ns region p) n (made_at files region p n) ≡ all_made files (ns ++ n ∷ []) region p
 unfolding changes
 made_append files region p ns n =
     let rows = filter_map (change files region p) ns ++ cons_option (change files region p n) [] in
@@ -94,7 +94,7 @@ made_append files region p ns n =
 names_append : (ts : List Taken) (t : Taken) → names_of (ts ++ t ∷ []) ≡ names_of ts ++ t.name ∷ []
 names_append ts t = map_append (λ (u : Taken). u.name) ts t
 
-pub made_more : (files : Files) (region : Range) (p : Planned) (ts : List Taken) (i : ℕ) (t : Taken) (all after : AllMade) (made : Made) → i < length ts → t ≡ get_or ts i t → all ≡ all_made files (names_of (take i ts)) region p
+pub made_more : (files : Files) (region : Range) (p : RunPlan) (ts : List Taken) (i : ℕ) (t : Taken) (all after : AllMade) (made : Made) → i < length ts → t ≡ get_or ts i t → all ≡ all_made files (names_of (take i ts)) region p
     → made ≡ record { change = change files region p t.name; state = state_after files region p t.name; given = is_given files region p t.name } → after ≡ with_made all t.name made → after ≡ all_made files (names_of (take (i + 1) ts)) region p
 made_more files region p ts i t all after made lt at so_far one more =
     let longer : take (i + 1) ts ≡ take i ts ++ t ∷ [] = take_more ts i t lt ∙ ap (λ (u : Taken). take i ts ++ u ∷ []) (sym at) in
@@ -104,21 +104,21 @@ made_more files region p ts i t all after made lt at so_far one more =
     ∙ (made_append files region p (names_of (take i ts)) t.name
     ∙ ap (λ (ns : List (List ℕ)). all_made files ns region p) (sym (ap names_of longer ∙ names_append (take i ts) t)))))
 
-pub made_done : (files : Files) (region : Range) (p : Planned) (ts : List Taken) (i : ℕ) (all : AllMade) → length ts ≤ i → all ≡ all_made files (names_of (take i ts)) region p → all ≡ all_made files (names_of ts) region p
+pub made_done : (files : Files) (region : Range) (p : RunPlan) (ts : List Taken) (i : ℕ) (all : AllMade) → length ts ≤ i → all ≡ all_made files (names_of (take i ts)) region p → all ≡ all_made files (names_of ts) region p
 made_done files region p ts i all le so_far = so_far ∙ ap (λ (us : List Taken). all_made files (names_of us) region p) (take_all i ts le)
 
-pub made_none : (files : Files) (region : Range) (p : Planned) (rows : List Change) (states : List ReportRow) → rows ≡ [] → states ≡ [] → ◌≡◌ {A = AllMade} (record { rows = rows; states = states; given = false }) (all_made files [] region p)
+pub made_none : (files : Files) (region : Range) (p : RunPlan) (rows : List Change) (states : List ReportRow) → rows ≡ [] → states ≡ [] → ◌≡◌ {A = AllMade} (record { rows = rows; states = states; given = false }) (all_made files [] region p)
 unfolding changes
 made_none files region p rows states none also = ap (λ (x : List Change). make x states false) none ∙ ap (λ (x : List ReportRow). make [] x false) also
 
 -- ---- the whole
 
 -- with what is made of all files
-pub rewritten_is : (files : Files) (ns : List (List ℕ)) (a : Asked) (p : Planned) (made : AllMade) → made ≡ all_made files ns a.region p → rewritten_with a p made ≡ rewritten files ns a p
+pub rewritten_is : (files : Files) (ns : List (List ℕ)) (a : Asked) (p : RunPlan) (made : AllMade) → made ≡ all_made files ns a.region p → rewritten_with a p made ≡ rewritten files ns a p
 unfolding next_cache report
 rewritten_is files ns a p made is = ap (rewritten_with a p) is
 
 -- by a plan
-pub rewrite_is : (files : Files) (ns : List (List ℕ)) (a : Asked) (p : Planned) → planned files ns a ≡ Ok p → rewrite files ns a ≡ Ok (rewritten files ns a p)
+pub rewrite_is : (files : Files) (ns : List (List ℕ)) (a : Asked) (p : RunPlan) → planned files ns a ≡ Ok p → rewrite files ns a ≡ Ok (rewritten files ns a p)
 unfolding rewrite
-rewrite_is files ns a p plan = ap (λ (r : Result Planned PlanningFault). r >>= λ q. Ok (rewritten files ns a q)) plan
+rewrite_is files ns a p plan = ap (λ (r : Result RunPlan PlanningFault). r >>= λ q. Ok (rewritten files ns a q)) plan

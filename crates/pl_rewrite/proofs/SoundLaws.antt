@@ -23,7 +23,7 @@ use Rattle.pl_known.specs.Plans.{greatest, greatest_of, is_candidate, is_current
 use Rattle.pl_known.specs.Skips.{skip_causes}
 use Rattle.pl_plan.specs.Faults.{of_cone}
 use Rattle.pl_plan.specs.declared.asked.Asked.{Asked}
-use Rattle.pl_plan.specs.declared.planned.Planned.{Planned}
+use Rattle.pl_plan.specs.declared.run_plan.RunPlan.{RunPlan}
 use Rattle.pl_scope.specs.Members.{has}
 use Rattle.pl_scope.proofs.NameLaws.{same_name}
 use Rattle.pl_sound.specs.History.{IsEdit}
@@ -140,7 +140,7 @@ candidate_named files ns region n names candidate = elim (cases_Bool (has ns n))
 ]
 
 -- it takes marks away at most
-pub only_edits : (files : Files) (ns : List (List ℕ)) (region : Range) (p : Planned) (mixed : Files) → AreNames files ns → (length (stale files region p.slots ns) == 0) ≡ true → IsMixed files region p mixed → IsEdit (format skip_causes) files mixed
+pub only_edits : (files : Files) (ns : List (List ℕ)) (region : Range) (p : RunPlan) (mixed : Files) → AreNames files ns → (length (stale files region p.slots ns) == 0) ≡ true → IsMixed files region p mixed → IsEdit (format skip_causes) files mixed
 only_edits files ns region p mixed names none each n file there = by_mark (mark_in file) refl
   where
     by_mark : (o : Option Mark) → mark_in file ≡ o → (files n ≡ Some file) ⊎ (mark_in file ≡ None)
@@ -172,7 +172,7 @@ either (Some file) second there = refl
 no_candidate : (files : Files) (region : Range) (n : List ℕ) → files n ≡ None → is_candidate files region n ≡ false
 no_candidate files region n none = ap (λ (o : Option (List ℕ)). fits (format skip_causes) (fit_in region) files (object_at (format skip_causes) n o) (sound.walk_in (format skip_causes) files n)) none
 
-scratch_stays : (files : Files) (region : Range) (p : Planned) (n : List ℕ) (b : Bool) (file : Option (List ℕ)) → is_candidate files region n ≡ b → files n ≡ file → is_some (from_scratch files region p n) ≡ is_some (files n)
+scratch_stays : (files : Files) (region : Range) (p : RunPlan) (n : List ℕ) (b : Bool) (file : Option (List ℕ)) → is_candidate files region n ≡ b → files n ≡ file → is_some (from_scratch files region p n) ≡ is_some (files n)
 scratch_stays files region p n false file off at =
     ap (λ (o : Option (List ℕ)). is_some o) (scratch_by files region p n false off) ∙ mapped (files n)
 scratch_stays files region p n true None on at = absurd (true≢false (sym on ∙ no_candidate files region n at))

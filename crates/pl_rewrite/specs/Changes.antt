@@ -11,26 +11,26 @@ use Rattle.pl_journal.specs.declared.change.Change.TheVariants.{Put}
 use Rattle.pl_known.specs.Fits.{fit_in}
 use Rattle.pl_known.specs.Plans.{is_current, is_stale}
 use Rattle.pl_known.specs.Skips.{skip_causes}
-use Rattle.pl_plan.specs.declared.planned.Planned.{Planned}
+use Rattle.pl_plan.specs.declared.run_plan.RunPlan.{RunPlan}
 use Rattle.pl_sound.specs.Plan.{Plan, all, plan_of, planned_in}
 use Rattle.pl_sound.specs.Rule.{Files}
 
 -- ---- the files
 
 -- the planned slots, with the old stamps of current names and the run's stamp for the others
-abbrev pub numbers : Files → Range → Planned → Plan
+abbrev pub numbers : Files → Range → RunPlan → Plan
 numbers files region p = plan_of (format skip_causes) (fit_in region) files (slot_of p.slots) p.stamp
 
 -- a name's file, prelinked with these
-unfoldable pub prelinked : Files → Range → Planned → List ℕ → Option (List ℕ)
+unfoldable pub prelinked : Files → Range → RunPlan → List ℕ → Option (List ℕ)
 prelinked files region p n = planned_in (format skip_causes) files (numbers files region p) n
 
 -- all files from scratch: a candidate's is prelinked where that is possible, and any other is its original
-abbrev pub from_scratch : Files → Range → Planned → Files
+abbrev pub from_scratch : Files → Range → RunPlan → Files
 from_scratch files region p = all (format skip_causes) (fit_in region) files (slot_of p.slots) p.stamp
 
 -- a name's file after the run: a current one stays, and any other is made from scratch
-unfoldable pub next : Files → Range → Planned → List ℕ → Option (List ℕ)
+unfoldable pub next : Files → Range → RunPlan → List ℕ → Option (List ℕ)
 next files region p n = if is_current files region p.slots n then files n else from_scratch files region p n
 
 -- ---- the rows
@@ -45,19 +45,19 @@ abbrev pub put : Option (List ℕ) → List ℕ → Option (List ℕ) → Option
 put old n None = None
 put old n (Some bytes) = if is_file old bytes then None else Some (Put n bytes)
 
-abbrev pub change : Files → Range → Planned → List ℕ → Option Change
+abbrev pub change : Files → Range → RunPlan → List ℕ → Option Change
 change files region p n = put (files n) n (next files region p n)
 
 -- a row for each of these names whose file changes, in their order
-unfoldable pub changes : Files → List (List ℕ) → Range → Planned → List Change
+unfoldable pub changes : Files → List (List ℕ) → Range → RunPlan → List Change
 changes files ns region p = filter_map (change files region p) ns
 
 -- ---- the cache
 
 -- a stale name gets the run's stamp where it can be prelinked
-abbrev pub is_given : Files → Range → Planned → List ℕ → Bool
+abbrev pub is_given : Files → Range → RunPlan → List ℕ → Bool
 is_given files region p n = is_stale files region p.slots n && is_some (prelinked files region p n)
 
 -- the planned slots; the last stamp is the run's where a name gets it, and else stays
-unfoldable pub next_cache : Files → List (List ℕ) → Range → ℕ → Planned → Cache
+unfoldable pub next_cache : Files → List (List ℕ) → Range → ℕ → RunPlan → Cache
 next_cache files ns region last p = record { last = if list_any (is_given files region p) ns then p.stamp else last; rows = p.slots }

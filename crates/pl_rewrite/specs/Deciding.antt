@@ -3,7 +3,7 @@ use Rattle.std.specs.Prelude.{◌≡◌, ⊤, ℕ, List, Option, Some, None}
 use Rattle.std.specs.List.{All}
 use Rattle.pl_elf.specs.declared.range.Range.{Range}
 use Rattle.pl_known.specs.declared.taken.Taken.{Taken}
-use Rattle.pl_plan.specs.declared.planned.Planned.{Planned}
+use Rattle.pl_plan.specs.declared.run_plan.RunPlan.{RunPlan}
 use Rattle.pl_sound.specs.Rule.{Files}
 use Rattle.pl_rewrite.specs.Finishing.{MayBeLast, bare_of, made_last}
 use Rattle.pl_rewrite.specs.Members.{HasParts, IsRunLibrary, IsPrelinked, files_of, made_in, plan_of}
@@ -13,7 +13,7 @@ use Rattle.pl_rewrite.specs.declared.running.FileParts.{FileParts}
 use Rattle.pl_rewrite.specs.declared.running.Run.{Run}
 
 -- what is made by it is what a run makes of the file
-pub record IsDecidedIn (files : Files) (region : Range) (p : Planned) (t : Taken) (d : Decided) : Type 0 where
+pub record IsDecidedIn (files : Files) (region : Range) (p : RunPlan) (t : Taken) (d : Decided) : Type 0 where
   pub may : MayBeLast (bare_of t) d
   pub meant : made_last (bare_of t) d ≡ made_in files region p t.name
 

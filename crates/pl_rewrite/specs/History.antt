@@ -10,7 +10,7 @@ use Rattle.pl_journal.specs.Meaning.{applied, mixed}
 use Rattle.pl_known.specs.Plans.{planned}
 use Rattle.pl_known.specs.Skips.{skip_causes}
 use Rattle.pl_plan.specs.declared.asked.Asked.{Asked}
-use Rattle.pl_plan.specs.declared.planned.Planned.{Planned}
+use Rattle.pl_plan.specs.declared.run_plan.RunPlan.{RunPlan}
 use Rattle.pl_scope.specs.Members.{has}
 use Rattle.pl_sound.specs.History as sound
 use Rattle.pl_sound.specs.History.{IsEdit, Held}
@@ -24,11 +24,11 @@ use Rattle.pl_rewrite.specs.Verify.{is_verified}
 
 -- with all of them made each name has the run's file
 abbrev pub RowsMakeTheFiles : Type 0
-RowsMakeTheFiles = (files : Files) (ns : List (List ℕ)) (region : Range) (p : Planned) → AreNames files ns → (n : List ℕ) → applied (changes files ns region p) files n ≡ next files region p n
+RowsMakeTheFiles = (files : Files) (ns : List (List ℕ)) (region : Range) (p : RunPlan) → AreNames files ns → (n : List ℕ) → applied (changes files ns region p) files n ≡ next files region p n
 
 -- a folder that keeps the rule keeps it with any of them made, as a crash may leave it
 abbrev pub RowsKeepTheRule : Type 0
-RowsKeepTheRule = (files : Files) (ns : List (List ℕ)) (a : Asked) (p : Planned) (keep : ℕ → Bool) → AreNames files ns → planned files ns a ≡ Ok p → Rule skip_causes files → Rule skip_causes (mixed 0 (changes files ns a.region p) keep files)
+RowsKeepTheRule = (files : Files) (ns : List (List ℕ)) (a : Asked) (p : RunPlan) (keep : ℕ → Bool) → AreNames files ns → planned files ns a ≡ Ok p → Rule skip_causes files → Rule skip_causes (mixed 0 (changes files ns a.region p) keep files)
 
 -- ---- folders whoever wrote them
 
@@ -39,8 +39,8 @@ VerifiedKeepTheRule = (files : Files) → ((n m : List ℕ) → matches (format 
 -- ---- histories
 
 -- a step is a run that prelinks everything, or an edit: files are taken away, or put there without a mark. The last stamp is the cache's
-abbrev pub Step : Files → Files → ℕ → ℕ → Type 0
-Step before after last now = sound.Step (format skip_causes) before after last now
+abbrev pub Transition : Files → Files → ℕ → ℕ → Type 0
+Transition before after last now = sound.Transition (format skip_causes) before after last now
 
 -- the folder now, the folders before it, the newest first, and the last stamp
 abbrev pub Happened : Files → List Files → ℕ → Type 0
@@ -48,7 +48,7 @@ Happened now past last = sound.Happened (format skip_causes) now past last
 
 -- what a run makes of a folder that keeps the rule is a step
 abbrev pub RunsAreSteps : Type 0
-RunsAreSteps = (files : Files) (ns : List (List ℕ)) (a : Asked) (p : Planned) → AreNames files ns → planned files ns a ≡ Ok p → Rule skip_causes files → Step files (next files a.region p) a.last (next_cache files ns a.region a.last p).last
+RunsAreSteps = (files : Files) (ns : List (List ℕ)) (a : Asked) (p : RunPlan) → AreNames files ns → planned files ns a ≡ Ok p → Rule skip_causes files → Transition files (next files a.region p) a.last (next_cache files ns a.region a.last p).last
 
 -- where names get back their originals, be their files of the first version or of the second, that is an edit
 abbrev pub UndoingIsEditing : Type 0

@@ -11,7 +11,7 @@ use Rattle.pl_cone.specs.Links.{IsLink}
 use Rattle.pl_cone.specs.declared.known.Known.{Known}
 use Rattle.pl_cone.specs.declared.links.Link.{Link}
 use Rattle.pl_cone.specs.declared.skip.Skip.{Skip}
-use Rattle.pl_conflict.specs.declared.among.Still.{Still}
+use Rattle.pl_conflict.specs.declared.among.ConflictFree.{ConflictFree}
 use Rattle.pl_form.specs.Files.{marked_in, original_in}
 use Rattle.pl_form.specs.declared.file.Entry.{Entry}
 use Rattle.pl_form.specs.declared.file.Entry.TheVariants.{There, BadMark, Refused}
@@ -27,7 +27,7 @@ use Rattle.pl_known.specs.Skips.{skip_causes}
 use Rattle.pl_known.specs.Taken.{AreTaken, entry_in, files_in, names_of}
 use Rattle.pl_known.specs.declared.taken.Taken.{Taken}
 use Rattle.pl_object.specs.declared.object.Object.{Object}
-use Rattle.pl_plan.specs.declared.planned.Planned.{Planned}
+use Rattle.pl_plan.specs.declared.run_plan.RunPlan.{RunPlan}
 use Rattle.pl_plan.specs.declared.standing.Standing.{Standing}
 use Rattle.pl_prelinked.specs.Libraries.{AreHeldIn, AreWordsIn, HasFormWith, file_with}
 use Rattle.pl_prelinked.specs.Sources.{firm}
@@ -55,7 +55,7 @@ use Rattle.sha2.specs.Sha256.{sha256}
 abbrev pub files_of : Run → Files
 files_of run = files_in run.files.now
 
-abbrev pub plan_of : Run → Planned
+abbrev pub plan_of : Run → RunPlan
 plan_of run = run.planned.now
 
 -- the slots and stamps that names get
@@ -94,16 +94,16 @@ pub record IsLinkOf (known : List Known) (n : List ℕ) (l : Link) : Type 0 wher
   pub named : l.name ≡ n
 
 -- each flag of a library is one of those, and its prelinked file holds at the relocation's place what it gives
-pub record IsStillBy (known : List Known) (files : List ℕ → Option (List ℕ)) (firms : Walked → List Firm) (s : Library) : Type 0 where
+pub record IsConflictFreeBy (known : List Known) (files : List ℕ → Option (List ℕ)) (firms : Walked → List Firm) (s : Library) : Type 0 where
   pub link : Link
   pub known_by : IsLinkOf known s.name.now link
   pub library : is_library (kind_of known_by.is.own) ≡ true
   pub file : List ℕ
   pub made : files s.name.now ≡ Some file
-  pub held : AreHeldIn (firms known_by.is.own) file link.closed s.flags
+  pub held : AreHeldIn (firms known_by.is.own) file link.one_word s.flags
 
 -- a name's prelinked file is the one that is made of its original with these
-pub record HasParts (files : Files) (region : Range) (p : Planned) (n : List ℕ) (parts : FileParts) : Type 0 where
+pub record HasParts (files : Files) (region : Range) (p : RunPlan) (n : List ℕ) (parts : FileParts) : Type 0 where
   pub object : Object
   pub there : objects (format skip_causes) files n ≡ Ok object
   pub slot : parts.slot ≡ (changes.numbers files region p).slot n
@@ -114,8 +114,8 @@ pub record HasParts (files : Files) (region : Range) (p : Planned) (n : List ℕ
 
 -- a library's flags, the words that its prelinked file holds at the places of its relocations, and what that is made of
 pub record IsLibraryBy (known : List Known) (files : List ℕ → Option (List ℕ)) (firms : Walked → List Firm) (has : List ℕ → FileParts → Type 0) (l : Library) : Type 0 where
-  pub still : IsStillBy known files firms l
-  pub words : AreWordsIn (firms still.known_by.is.own) still.file l.parts.held
+  pub conflict_free : IsConflictFreeBy known files firms l
+  pub words : AreWordsIn (firms conflict_free.known_by.is.own) conflict_free.file l.parts.held
   pub parts : has l.name.now l.parts
 
 abbrev pub IsRunLibrary : Run → Library → Type 0
@@ -225,7 +225,7 @@ pub record IsOwnWalk (run : Run) (l : Link) (n : List ℕ) (rs : List Firm) : Ty
   pub members : rs ≡ planned_firms run walk
 
 -- what is known of a member's relocations is what was found of the library of its name
-pub record IsStillFor (run : Run) (r : Firm) (s : Still) : Type 0 where
+pub record IsConflictFreeFor (run : Run) (r : Firm) (s : ConflictFree) : Type 0 where
   pub found : Library
   pub is : IsRunLibrary run found
   pub named : found.name.now ≡ r.member.name
@@ -233,14 +233,14 @@ pub record IsStillFor (run : Run) (r : Firm) (s : Still) : Type 0 where
   pub held : s.held.now ≡ found.parts.held
 
 -- nothing is known of the first
-abbrev pub AreStillFor : Run → List Firm → List Still → Type 0
-AreStillFor run [] all = all ≡ []
-AreStillFor run (r ∷ rs) [] = ⊥
-AreStillFor run (r ∷ rs) (s ∷ all) = (s.flags.now ≡ []) × AllZip (IsStillFor run) rs all
+abbrev pub AreConflictFreeFor : Run → List Firm → List ConflictFree → Type 0
+AreConflictFreeFor run [] all = all ≡ []
+AreConflictFreeFor run (r ∷ rs) [] = ⊥
+AreConflictFreeFor run (r ∷ rs) (s ∷ all) = (s.flags.now ≡ []) × AllZip (IsConflictFreeFor run) rs all
 
 -- ---- what a run makes of a name
 
-abbrev pub made_in : Files → Range → Planned → List ℕ → Made
+abbrev pub made_in : Files → Range → RunPlan → List ℕ → Made
 made_in files region p n = record {
   change = changes.change files region p n;
   state = reports.state_after files region p n;

@@ -12,7 +12,7 @@ use Rattle.pl_form.specs.declared.file.File.TheVariants.{Plain}
 use Rattle.pl_form.specs.declared.file.Marked.{Marked}
 use Rattle.pl_known.specs.Plans.{is_current}
 use Rattle.pl_known.specs.Skips.{skip_of}
-use Rattle.pl_plan.specs.declared.planned.Planned.{Planned}
+use Rattle.pl_plan.specs.declared.run_plan.RunPlan.{RunPlan}
 use Rattle.pl_sound.specs.Rule.{Files}
 use Rattle.pl_rewrite.specs.Changes.{next}
 use Rattle.pl_rewrite.specs.declared.report.Report.{Report}
@@ -45,12 +45,12 @@ abbrev pub state_by : List ℕ → Bool → Result (Unit {0}) Skip → Option Ma
 state_by n current (Err cause) after = Skipped cause
 state_by n current (Ok u) after = state_in n current after
 
-unfoldable pub state_after : Files → Range → Planned → List ℕ → RowState
+unfoldable pub state_after : Files → Range → RunPlan → List ℕ → RowState
 state_after files region p n = state_by n (is_current files region p.slots n) (skip_of files region n) (marked_at (next files region p n))
 
-abbrev pub row_of : Files → Range → Planned → List ℕ → ReportRow
+abbrev pub row_of : Files → Range → RunPlan → List ℕ → ReportRow
 row_of files region p n = record { name = n; state = state_after files region p n }
 
 -- one row for each of these names, in their order
-unfoldable pub report : Files → List (List ℕ) → Range → Planned → Report
+unfoldable pub report : Files → List (List ℕ) → Range → RunPlan → Report
 report files ns region p = record { rows = map (row_of files region p) ns }

@@ -7,7 +7,7 @@ use Rattle.pl_known.specs.Taken.{AreTaken, files_in}
 use Rattle.pl_known.specs.declared.taken.Taken.{Taken}
 use Rattle.pl_plan.specs.declared.asked.Asked.{Asked}
 use Rattle.pl_plan.specs.declared.fault.PlanningFault.{PlanningFault}
-use Rattle.pl_plan.specs.declared.planned.Planned.{Planned}
+use Rattle.pl_plan.specs.declared.run_plan.RunPlan.{RunPlan}
 use Rattle.pl_sound.specs.Rule.{Files}
 use Rattle.pl_elf.specs.declared.range.Range.{Range}
 use Rattle.pl_rewrite.specs.Changes.{changes, is_given, next_cache}
@@ -18,7 +18,7 @@ use Rattle.pl_rewrite.specs.declared.making.AllMade.{AllMade}
 use Rattle.pl_rewrite.specs.declared.making.Made.{Made}
 use Rattle.pl_rewrite.specs.declared.rewriting.Rewritten.{Rewritten}
 
-abbrev pub rewritten : Files → List (List ℕ) → Asked → Planned → Rewritten
+abbrev pub rewritten : Files → List (List ℕ) → Asked → RunPlan → Rewritten
 rewritten files ns a p = record {
   rows = changes files ns a.region p;
   cache = next_cache files ns a.region a.last p;
@@ -26,7 +26,7 @@ rewritten files ns a p = record {
 }
 
 -- with what is made of all files, and the cache that is left
-abbrev pub rewritten_with : Asked → Planned → AllMade → Rewritten
+abbrev pub rewritten_with : Asked → RunPlan → AllMade → Rewritten
 rewritten_with a p all = record {
   rows = all.rows;
   cache = record { last = if all.given then p.stamp else a.last; rows = p.slots };
@@ -38,7 +38,7 @@ unfoldable pub rewrite : Files → List (List ℕ) → Asked → Result Rewritte
 rewrite files ns a = planned files ns a >>= λ p. Ok (rewritten files ns a p)
 
 -- what a run makes of all files, beside its cache
-abbrev pub all_made : Files → List (List ℕ) → Range → Planned → AllMade
+abbrev pub all_made : Files → List (List ℕ) → Range → RunPlan → AllMade
 all_made files ns region p = record {
   rows = changes files ns region p;
   states = map (row_of files region p) ns;
@@ -54,6 +54,6 @@ with_made all n made = record {
 }
 
 -- what is made of each of these files by what was decided of it is what the run makes of it
-pub record AreDecided (ts : List Taken) (a : Asked) (p : Planned) (ds : List Decided) : Type 0 where
+pub record AreDecided (ts : List Taken) (a : Asked) (p : RunPlan) (ds : List Decided) : Type 0 where
   pub taken : AreTaken a.region ts
   pub each : AllZip (IsDecidedIn (files_in ts) a.region p) ts ds

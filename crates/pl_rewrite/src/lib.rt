@@ -1,6 +1,7 @@
 //! What a run that prelinks everything makes of the files of a folder: the rows of a journal, the cache that it leaves and its report, as a function of the files that were taken (Jelínek, "Prelink").
 #![tactic(auto)]
 
+mod conflict_free;
 mod deciding;
 mod finishing;
 mod laws;
@@ -15,7 +16,6 @@ mod rewriting;
 mod running;
 mod sources;
 mod states;
-mod still;
 mod verifying;
 
 pub use laws::{

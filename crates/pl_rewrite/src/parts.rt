@@ -17,7 +17,7 @@ use pl_base::Rows;
 use pl_cone::Link;
 use pl_io::NoMemory;
 use pl_known::Taken;
-use pl_prelinked::{Source, held_words, library_words, prelink_library, still_words};
+use pl_prelinked::{Source, conflict_free_words, held_words, library_words, prelink_library};
 use pl_scope::Scope;
 use std::alloc::{AllocError, Global};
 
@@ -128,7 +128,7 @@ fn library_among<'a>(
     let Some(own) = own_flags(alloc, word_rows, held.as_slice())? else {
         return Ok(None);
     };
-    let flags = still_words(alloc, sources, &file, link.closed.as_slice())?;
+    let flags = conflict_free_words(alloc, sources, &file, link.one_word.as_slice())?;
     Ok(Some(Library {
         name,
         flags,

@@ -5,24 +5,26 @@ ghost use Rattle.pl_cone.specs.Candidates as cone;
 ghost use Rattle.pl_cone.specs.Known.{AreAccepted};
 ghost use Rattle.pl_rewrite.specs.Members as spec;
 
+use crate::conflict_free::conflict_free_of;
 use crate::lists::{first_digest, list_after};
 use crate::running::Run;
 use crate::sources::sources_of;
-use crate::still::still_of;
 use pl_cone::{Known, Skip, walk_in};
-use pl_conflict::Still;
+use pl_conflict::ConflictFree;
 use pl_io::NoMemory;
 use pl_prelinked::{Lent, prelink_with};
 use pl_scope::Scope;
 use std::alloc::Global;
 
 /// Rows that may be there, lent.
-fn lent_still<'s, 'a>(still: &'s Option<Vec<Still<'a>>>) -> Option<&'s [Still<'a>]>
-    ensures { option_map (λ s. s.now) result ≡ option_map (λ v. v.items) still.now }
+fn lent_conflict_free<'s, 'a>(
+    conflict_free: &'s Option<Vec<ConflictFree<'a>>>,
+) -> Option<&'s [ConflictFree<'a>]>
+    ensures { option_map (λ s. s.now) result ≡ option_map (λ v. v.items) conflict_free.now }
 {
-    match still {
+    match conflict_free {
         None => None,
-        Some(still) => Some(still.as_slice()),
+        Some(conflict_free) => Some(conflict_free.as_slice()),
     }
 }
 
@@ -41,10 +43,10 @@ fn prelinked_by<'a>(
     let sources = sources_of(alloc, run, scope.members())?;
     let members = sources.as_slice();
     let list = list_after(alloc, run, members)?;
-    let still = still_of(alloc, run, members)?;
+    let conflict_free = conflict_free_of(alloc, run, members)?;
     let lent = Lent {
         list: list.as_slice(),
-        still: lent_still(&still),
+        conflict_free: lent_conflict_free(&conflict_free),
         digest: first_digest(run, members),
     };
     prelink_with(alloc, members, &lent)

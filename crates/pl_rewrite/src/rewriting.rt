@@ -23,7 +23,7 @@ use pl_cache::Cache;
 use pl_io::NoMemory;
 use pl_journal::Change;
 use pl_known::{FilesPlan, Taken, plan_files};
-use pl_plan::{Asked, Planned, PlanningFault};
+use pl_plan::{Asked, PlanningFault, RunPlan};
 use std::alloc::Global;
 
 /// What a run changes, what it leaves in the cache, and what it reports.
@@ -130,7 +130,7 @@ fn decided_by(
 /// What is planned of files, and decided of each.
 #[derive(Drop)]
 struct Choice {
-    planned: Planned,
+    planned: RunPlan,
     decided: Vec<Decided>,
 }
 
@@ -148,7 +148,7 @@ fn choice_of(alloc: Global, files: &[Taken], asked: &Asked<'_>) -> Result<Choice
 }
 
 /// The stamp of the cache after a run.
-fn last_of(asked: &Asked<'_>, planned: &Planned, made: &AllMade) -> u32
+fn last_of(asked: &Asked<'_>, planned: &RunPlan, made: &AllMade) -> u32
     ensures { result ≡ (if made.now.given then planned.now.stamp else asked.now.last) }
 {
     if made.given {
@@ -159,12 +159,12 @@ fn last_of(asked: &Asked<'_>, planned: &Planned, made: &AllMade) -> u32
 }
 
 /// What a run makes, with the cache that it leaves.
-fn with_cache(asked: &Asked<'_>, planned: Planned, made: AllMade) -> Rewritten
+fn with_cache(asked: &Asked<'_>, planned: RunPlan, made: AllMade) -> Rewritten
     ensures { result ≡ spec.rewritten_with asked.now planned made }
 {
     let last = last_of(asked, &planned, &made);
     let AllMade { rows, states, .. } = made;
-    let Planned { slots, .. } = planned;
+    let RunPlan { slots, .. } = planned;
     Rewritten {
         rows,
         cache: Cache { last, rows: slots },

@@ -10,7 +10,7 @@ use pl_cone::{Known, Link};
 use pl_elf::Range;
 use pl_known::Taken;
 use pl_lists::ListRow;
-use pl_plan::{Planned, Standing};
+use pl_plan::{RunPlan, Standing};
 
 /// The SHA-256 of a name's original.
 #[derive(Clone, Copy)]
@@ -74,7 +74,7 @@ pub struct Run<'a> {
     pub region: Range,
 
     /// How the names stand, the slots, the stale names, and the stamp that these get.
-    pub planned: &'a Planned,
+    pub planned: &'a RunPlan,
 
     /// Which relocations of the files' libraries are known to give the same in every walk.
     pub links: &'a [Link],

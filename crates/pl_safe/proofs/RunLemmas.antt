@@ -4,7 +4,7 @@ use Rattle.std.specs.Prelude.{◌⊎◌}
 use Rattle.std.specs.FinMap.{get}
 use Rattle.std.proofs.lemmas.Bool.{false≢true, true≢false}
 use Rattle.pl_base.specs.Files.{Files}
-use Rattle.pl_folder.specs.Disk.{Disk, IsImage, Name, View, clock, read}
+use Rattle.pl_folder.specs.Disk.{Disk, IsCrashImage, Name, View, clock, read}
 use Rattle.pl_folder.specs.Calls.{Calls}
 use Rattle.pl_folder.specs.Effects.{Effect, WaitsFor}
 use Rattle.pl_folder.specs.Seen.{Broken, Done, Ending, IsFolder, Seen, Undone}
@@ -113,7 +113,7 @@ module _ (effect : Effect) (e : Ending) (a b : Seen) (calls : Calls e effect a b
   read_as meant o safe call = commands_read meant o e (unrecorded a) (unrecorded b) safe told sound (record {
     tells = calls.tells;
     records = refl;
-    place = calls.place;
+    referent = calls.referent;
     files = λ _. call;
     disk = λ recorded. absurd (false≢true recorded);
     count = calls.count;
@@ -258,7 +258,7 @@ every_safe asked w v status folder told start ran image had =
 pub runs_sound : RunsEndSound
 runs_sound asked w v status folder told start ran image is =
     let l = runs_leave asked w v status folder told (start_sound w.folder folder told start) ran in
-    ⊎_elim (λ looks. start image (subst (λ s. IsImage s image) looks.now is)) (λ keeps. (keeps.now image is).sound) l.2
+    ⊎_elim (λ looks. start image (subst (λ s. IsCrashImage s image) looks.now is)) (λ keeps. (keeps.now image is).sound) l.2
 
 -- ---- on a real disk
 

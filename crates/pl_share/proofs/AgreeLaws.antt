@@ -12,7 +12,7 @@ use Rattle.pl_base.proofs.FindLaws.{any_found, any_missed}
 use Rattle.pl_elf.specs.declared.range.Range.{Range}
 use Rattle.pl_slots.specs.declared.slot.Want.{Want}
 use Rattle.pl_slots.specs.declared.slot.Slot.{Slot}
-use Rattle.pl_slots.specs.declared.planned.Planned.{Planned}
+use Rattle.pl_slots.specs.declared.partial_plan.PartialPlan.{PartialPlan}
 use Rattle.pl_slots.specs.declared.fault.PlanFault.{PlanFault}
 use Rattle.pl_slots.specs.Apart.{is_beside}
 use Rattle.pl_slots.specs.Holes.{region_holes, without, lowest}
@@ -221,13 +221,13 @@ has_none given i is = of_found (find (λ (g : Given). g.want == i) given) refl i
     of_found (Some g) e none = absurd (let some : Some g.slot ≡ None = none in cc)
 
 -- how far the plan has come
-abbrev state : Range → List Given → ℕ → Planned
+abbrev state : Range → List Given → ℕ → PartialPlan
 state region given i = record { rows = slots_of given i; holes = left region given }
 
 abbrev shared_from : List (List ℕ) → Range → ℕ → List Given → ℕ → List Want → Result (List Slot) PlanFault
 shared_from walks region count given i wants = all_placed walks region given i wants >>= λ more. Ok (slots_of more count)
 
-abbrev apart_from : List Slot → Range → Planned → List Want → Result (List Slot) PlanFault
+abbrev apart_from : List Slot → Range → PartialPlan → List Want → Result (List Slot) PlanFault
 apart_from rows region planned wants = run (apart.next rows region) planned wants >>= λ planned. Ok planned.rows
 
 state_some : (region : Range) (given : List Given) (i : ℕ) (slot : Slot) → slot_of given i ≡ Some slot → apart.with_row (state region given i) slot ≡ state region given (i + 1)
@@ -235,7 +235,7 @@ state_some region given i slot is =
     ap (λ (rows : List Slot). record { rows = rows; holes = left region given }) (sym (slots_more given i ∙ ap (λ (found : Option Slot). slots_of given i ++ cons_option found []) is))
 
 state_push : (region : Range) (given : List Given) (i : ℕ) (slot : Slot) → slot_of given i ≡ None
-    → ◌≡◌ {A = Planned} (record { rows = slots_of given i ++ slot ∷ []; holes = without (slot_range slot) (left region given) }) (state region (given ++ given_to i slot ∷ []) (i + 1))
+    → ◌≡◌ {A = PartialPlan} (record { rows = slots_of given i ++ slot ∷ []; holes = without (slot_range slot) (left region given) }) (state region (given ++ given_to i slot ∷ []) (i + 1))
 state_push region given i slot none =
     let rows : slots_of (given ++ given_to i slot ∷ []) (i + 1) ≡ slots_of given i ++ slot ∷ [] =
     slots_more (given ++ given_to i slot ∷ []) i
@@ -251,14 +251,14 @@ step_some : (rows : List Slot) (walks : List (List ℕ)) (region : Range) (count
     → shared_from walks region count given i (want ∷ wants) ≡ apart_from rows region (state region given i) (want ∷ wants)
 unfolding all_placed placed run apart.next
 step_some rows walks region count want wants given i slot is keep rest =
-    rw (has_some given i slot is, keep) (rest ∙ ap (λ (planned : Planned). apart_from rows region planned wants) (sym (state_some region given i slot is)))
+    rw (has_some given i slot is, keep) (rest ∙ ap (λ (planned : PartialPlan). apart_from rows region planned wants) (sym (state_some region given i slot is)))
 
 step_at : (rows : List Slot) (walks : List (List ℕ)) (region : Range) (count : ℕ) (want : Want) (wants : List Want) (given : List Given) (i : ℕ) (found : Option ℕ) → slot_of given i ≡ None
     → ((slot : Slot) → shared_from walks region count (given ++ given_to i slot ∷ []) (i + 1) wants ≡ apart_from rows region (state region (given ++ given_to i slot ∷ []) (i + 1)) wants)
     → (at_place given i want (left region given) found >>= λ more. shared_from walks region count more (i + 1) wants) ≡ (apart.at_place (state region given i) want found >>= λ planned. apart_from rows region planned wants)
 step_at rows walks region count want wants given i None none rest = refl
 step_at rows walks region count want wants given i (Some start) none rest =
-    rest (slot_at want start) ∙ ap (λ (planned : Planned). apart_from rows region planned wants) (sym (state_push region given i (slot_at want start) none))
+    rest (slot_at want start) ∙ ap (λ (planned : PartialPlan). apart_from rows region planned wants) (sym (state_push region given i (slot_at want start) none))
 
 bind_twice : {A B C E : Type 0} (r : Result A E) (f : A → Result B E) (g : B → Result C E) → ((r >>= f) >>= g) ≡ (r >>= λ x. f x >>= g)
 bind_twice (Ok x) f g = refl

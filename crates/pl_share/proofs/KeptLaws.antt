@@ -11,7 +11,7 @@ use Rattle.pl_base.proofs.FindLaws.{find_passes}
 use Rattle.pl_elf.specs.declared.range.Range.{Range}
 use Rattle.pl_slots.specs.declared.slot.Want.{Want}
 use Rattle.pl_slots.specs.declared.slot.Slot.{Slot}
-use Rattle.pl_slots.specs.declared.planned.Planned.{Planned}
+use Rattle.pl_slots.specs.declared.partial_plan.PartialPlan.{PartialPlan}
 use Rattle.pl_slots.specs.declared.fault.PlanFault.{PlanFault}
 use Rattle.pl_slots.specs.Apart.{is_beside, are_apart}
 use Rattle.pl_slots.specs.Holes.{region_holes}
@@ -126,7 +126,7 @@ pub bind_same : {A B E : Type 0} (r : Result A E) (f g : A → Result B E) → (
 bind_same (Ok x) f g same = same x
 bind_same (Err e) f g same = refl
 
-run_same : (one two : List Slot) (region : Range) (wants : List Want) (owns : List (Option Slot)) (planned : Planned) → Keep one region wants owns → Keep two region wants owns → run (next one region) planned wants ≡ run (next two region) planned wants
+run_same : (one two : List Slot) (region : Range) (wants : List Want) (owns : List (Option Slot)) (planned : PartialPlan) → Keep one region wants owns → Keep two region wants owns → run (next one region) planned wants ≡ run (next two region) planned wants
 unfolding run next
 run_same one two region [] [] planned k l = refl
 run_same one two region (want ∷ wants) (own ∷ owns) planned k l =
@@ -139,7 +139,7 @@ plan_same : (one two : List Slot) (region : Range) (wants : List Want) (owns : L
 unfolding plan kept_holes
 plan_same one two region wants owns k l =
     ap (λ (holes : List Range). run (next one region) (record { rows = []; holes = holes }) wants >>= λ planned. Ok planned.rows) (holes_same one two region wants owns (region_holes region) k l)
-    ∙ ap (λ (r : Result Planned PlanFault). r >>= λ planned. Ok planned.rows) (run_same one two region wants owns (record { rows = []; holes = kept_holes two region wants }) k l)
+    ∙ ap (λ (r : Result PartialPlan PlanFault). r >>= λ planned. Ok planned.rows) (run_same one two region wants owns (record { rows = []; holes = kept_holes two region wants }) k l)
 
 -- ---- the rows that are kept apart
 

@@ -1,6 +1,6 @@
 pub mod SoundLaws
 pub mod StepLaws
 pub mod DisjointLaws
-pub mod MarkLaws
+pub mod FlagLaws
 pub mod KeptLaws
 pub mod AgreeLaws

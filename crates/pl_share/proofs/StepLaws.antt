@@ -1,4 +1,4 @@
--- One step of a plan, by marks and in loops.
+-- One step of a plan, by flags and in loops.
 use Rattle.std.proofs.Common.{◌≡◌, ℕ, zero, suc, ◌+◌, ◌^◌, ◌<◌, ◌≤◌, Bool, true, false, ◌||◌, not, List, [], ◌∷◌, ◌++◌, length, get_or, drop, Option, Some, None, Result, Ok, Err, refl, sym, ap, ◌∙◌, arith}
 use Rattle.std.specs.Prelude.{fold, slice_index_or, if◌then◌else◌, MatchBool, ⊤}
 use Rattle.std.specs.List.{All, list_all, filter_map, cons_option, range_with_len}
@@ -14,10 +14,10 @@ use Rattle.pl_slots.specs.Apart.{is_beside}
 use Rattle.pl_slots.specs.Holes.{region_holes, without, lowest}
 use Rattle.pl_slots.specs.Plan.{slot_range}
 use Rattle.pl_share.specs.declared.given.Given.{Given}
-use Rattle.pl_share.specs.Together.{are_together, AreMarks}
-use Rattle.pl_share.specs.Shared.{given_to, AreGiven, is_clear, kept, all_kept, holes_for, marked_holes, with_row, has_slot, at_place, placed, all_placed, slot_of, slots_of, plan_shared}
+use Rattle.pl_share.specs.Together.{are_together, AreFlags}
+use Rattle.pl_share.specs.Shared.{given_to, AreGiven, is_clear, kept, all_kept, holes_for, flaged_holes, with_row, has_slot, at_place, placed, all_placed, slot_of, slots_of, plan_shared}
 
--- ---- marks
+-- ---- flags
 
 -- of two steps that agree at each slot
 same_all : (p q : Given → Bool) (given : List Given) → ((k : ℕ) (d : Given) → k < length given → p (get_or given k d) ≡ q (get_or given k d)) → list_all p given ≡ list_all q given
@@ -26,10 +26,10 @@ same_all p q (g ∷ given) same =
     let rest : list_all p given ≡ list_all q given = same_all p q given (λ k d lt. same (suc k) d (omega arith)) in
     rw (same zero g (omega arith), rest) refl
 
-pub clear_by_marks : (walks : List (List ℕ)) (given : List Given) (i count : ℕ) (marks : List Bool) (row : Slot) → AreMarks marks walks i count → All (λ g. g.want < count) given
-    → list_all (λ g. not (slice_index_or marks g.want false) || is_beside row g.slot) given ≡ is_clear walks given i row
-clear_by_marks walks given i count marks row m within =
-    same_all (λ g. not (slice_index_or marks g.want false) || is_beside row g.slot) (λ g. not (are_together walks i g.want) || is_beside row g.slot) given
+pub clear_by_flags : (walks : List (List ℕ)) (given : List Given) (i count : ℕ) (flags : List Bool) (row : Slot) → AreFlags flags walks i count → All (λ g. g.want < count) given
+    → list_all (λ g. not (slice_index_or flags g.want false) || is_beside row g.slot) given ≡ is_clear walks given i row
+clear_by_flags walks given i count flags row m within =
+    same_all (λ g. not (slice_index_or flags g.want false) || is_beside row g.slot) (λ g. not (are_together walks i g.want) || is_beside row g.slot) given
     (λ k d lt. ap (λ (b : Bool). not b || is_beside row (get_or given k d).slot) (m.each (get_or given k d).want (within k d lt)))
 
 same_fold : (p q : Given → Bool) (given : List Given) (holes : List Range) → ((k : ℕ) (d : Given) → k < length given → p (get_or given k d) ≡ q (get_or given k d))
@@ -39,10 +39,10 @@ same_fold p q (g ∷ given) holes same =
     ap (λ (b : Bool). fold (λ hs x. if p x then without (slot_range x.slot) hs else hs) (if b then without (slot_range g.slot) holes else holes) given) (same zero g (omega arith))
     ∙ same_fold p q given (if q g then without (slot_range g.slot) holes else holes) (λ k d lt. same (suc k) d (omega arith))
 
-pub holes_by_marks : (walks : List (List ℕ)) (region : Range) (given : List Given) (i count : ℕ) (marks : List Bool) → AreMarks marks walks i count → All (λ g. g.want < count) given → marked_holes marks region given ≡ holes_for walks region given i
+pub holes_by_flags : (walks : List (List ℕ)) (region : Range) (given : List Given) (i count : ℕ) (flags : List Bool) → AreFlags flags walks i count → All (λ g. g.want < count) given → flaged_holes flags region given ≡ holes_for walks region given i
 unfolding holes_for
-holes_by_marks walks region given i count marks m within =
-    same_fold (λ g. slice_index_or marks g.want false) (λ g. are_together walks i g.want) given (region_holes region) (λ k d lt. m.each (get_or given k d).want (within k d lt))
+holes_by_flags walks region given i count flags m within =
+    same_fold (λ g. slice_index_or flags g.want false) (λ g. are_together walks i g.want) given (region_holes region) (λ k d lt. m.each (get_or given k d).want (within k d lt))
 
 -- ---- one slot more
 
@@ -108,17 +108,17 @@ slots_more given n = ap (filter_map (slot_of given)) (range_push n 0) ∙ (map_p
 -- ---- one want
 
 -- a row that is not kept
-pub row_left : (walks : List (List ℕ)) (given : List Given) (i count : ℕ) (marks : List Bool) (row : Slot) (clear : Bool) → AreMarks marks walks i count → All (λ g. g.want < count) given → clear ≡ list_all (λ g. not (slice_index_or marks g.want false) || is_beside row g.slot) given → clear ≡ false
+pub row_left : (walks : List (List ℕ)) (given : List Given) (i count : ℕ) (flags : List Bool) (row : Slot) (clear : Bool) → AreFlags flags walks i count → All (λ g. g.want < count) given → clear ≡ list_all (λ g. not (slice_index_or flags g.want false) || is_beside row g.slot) given → clear ≡ false
     → given ≡ with_row walks given i (Some row)
-row_left walks given i count marks row clear m within is meets_one =
-    let meets : is_clear walks given i row ≡ false = sym (is ∙ clear_by_marks walks given i count marks row m within) ∙ meets_one in
+row_left walks given i count flags row clear m within is meets_one =
+    let meets : is_clear walks given i row ≡ false = sym (is ∙ clear_by_flags walks given i count flags row m within) ∙ meets_one in
     rw meets refl
 
 -- a row that is kept
-pub row_kept : (walks : List (List ℕ)) (given after : List Given) (i count : ℕ) (marks : List Bool) (row slot : Slot) (clear : Bool) → AreMarks marks walks i count → All (λ g. g.want < count) given → clear ≡ list_all (λ g. not (slice_index_or marks g.want false) || is_beside row g.slot) given → clear ≡ true
+pub row_kept : (walks : List (List ℕ)) (given after : List Given) (i count : ℕ) (flags : List Bool) (row slot : Slot) (clear : Bool) → AreFlags flags walks i count → All (λ g. g.want < count) given → clear ≡ list_all (λ g. not (slice_index_or flags g.want false) || is_beside row g.slot) given → clear ≡ true
     → slot ≡ row → after ≡ given ++ given_to i slot ∷ [] → after ≡ with_row walks given i (Some row)
-row_kept walks given after i count marks row slot clear m within is meets_none same push =
-    let beside_all : is_clear walks given i row ≡ true = sym (is ∙ clear_by_marks walks given i count marks row m within) ∙ meets_none in
+row_kept walks given after i count flags row slot clear m within is meets_none same push =
+    let beside_all : is_clear walks given i row ≡ true = sym (is ∙ clear_by_flags walks given i count flags row m within) ∙ meets_none in
     push ∙ (ap (λ (s : Slot). given ++ given_to i s ∷ []) same ∙ rw beside_all refl)
 
 -- a want that has a slot

@@ -10,7 +10,7 @@ walk_has walk i = list_any (λ k. k == i) walk
 unfoldable pub are_together : List (List ℕ) → ℕ → ℕ → Bool
 are_together walks i j = list_any (λ walk. walk_has walk i && walk_has walk j) walks
 
--- a mark for each want that some walk holds together with one
-pub record AreMarks (marks : List Bool) (walks : List (List ℕ)) (i count : ℕ) : Type 0 where
-  pub long : length marks ≡ count
-  pub each : (j : ℕ) → j < count → slice_index_or marks j false ≡ are_together walks i j
+-- a flag for each want that some walk holds together with one
+pub record AreFlags (flags : List Bool) (walks : List (List ℕ)) (i count : ℕ) : Type 0 where
+  pub long : length flags ≡ count
+  pub each : (j : ℕ) → j < count → slice_index_or flags j false ≡ are_together walks i j

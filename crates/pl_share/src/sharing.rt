@@ -12,7 +12,7 @@ ghost use Rattle.pl_share.specs.Shared as spec;
 use crate::Walks;
 use crate::asked::Asked;
 use crate::given::Given;
-use crate::together::marks_of;
+use crate::together::flags_of;
 use pl_base::{Rows, Text};
 use pl_elf::Range;
 use pl_slots::{
@@ -20,30 +20,30 @@ use pl_slots::{
 };
 use std::alloc::{AllocError, Global};
 
-/// Whether a row meets no slot of a marked want.
-fn is_clear(given: &[Given], marks: &[bool], row: &Slot) -> bool
-    requires { All (λ g. g.want < length marks.now) given.now }
-    ensures { result ≡ list_all (λ g. not (slice_index_or marks.now g.want false) || is_beside
+/// Whether a row meets no slot of a flaged want.
+fn is_clear(given: &[Given], flags: &[bool], row: &Slot) -> bool
+    requires { All (λ g. g.want < length flags.now) given.now }
+    ensures { result ≡ list_all (λ g. not (slice_index_or flags.now g.want false) || is_beside
         row.now g.slot) given.now }
 {
     given
         .iter()
-        .all(|g| !marks[g.want] || is_beside(row, &g.slot))
+        .all(|g| !flags[g.want] || is_beside(row, &g.slot))
 }
 
-/// The holes that the slots of marked wants leave.
+/// The holes that the slots of flaged wants leave.
 fn holes_beside(
     alloc: Global,
     given: &[Given],
-    marks: &[bool],
+    flags: &[bool],
     region: Range,
 ) -> Result<Vec<Range>, AllocError>
-    requires given { AreGiven given.now (length marks.now) }
-    ensures { IfOk result (λ holes. holes.items ≡ spec.marked_holes marks.now region given.now) }
+    requires given { AreGiven given.now (length flags.now) }
+    ensures { IfOk result (λ holes. holes.items ≡ spec.flaged_holes flags.now region given.now) }
 {
     let mut holes = region_holes(alloc, region)?;
     for g in given {
-        if marks[g.want] {
+        if flags[g.want] {
             holes = without(alloc, &holes, g.slot.range())?;
         }
     }
@@ -72,8 +72,8 @@ fn keep_row(
         (Some row.now)) }
     ensures given { OnOk result (AreGiven given.new count) }
 {
-    let marks = marks_of(alloc, asked.walks, count, position)?;
-    if !is_clear(given.as_slice(), &marks, row) {
+    let flags = flags_of(alloc, asked.walks, count, position)?;
+    if !is_clear(given.as_slice(), &flags, row) {
         return Ok(());
     }
     let slot = row.copy(alloc)?;
@@ -175,8 +175,8 @@ fn place(
     if has_slot(given.as_slice(), position) {
         return Ok(());
     }
-    let marks = marks_of(alloc, asked.walks, count, position)?;
-    let holes = holes_beside(alloc, given.as_slice(), &marks, asked.region)?;
+    let flags = flags_of(alloc, asked.walks, count, position)?;
+    let holes = holes_beside(alloc, given.as_slice(), &flags, asked.region)?;
     place_in(alloc, count, given, position, want, &holes)
 }
 

@@ -11,52 +11,52 @@ fn has(walk: &[u32], want: usize) -> bool
     walk.iter().any(|other| *other as usize == want)
 }
 
-/// Marks the wants that a walk holds.
-fn mark_all(marks: &mut [bool], walk: &[u32])
-    ensures long { length marks.new ≡ length marks.old }
-    ensures each { (j : ℕ) → j < length marks.old → slice_index_or marks.new j false
-        ≡ (slice_index_or marks.old j false || spec.walk_has walk.now j) }
+/// Flags the wants that a walk holds.
+fn flag_all(flags: &mut [bool], walk: &[u32])
+    ensures long { length flags.new ≡ length flags.old }
+    ensures each { (j : ℕ) → j < length flags.old → slice_index_or flags.new j false
+        ≡ (slice_index_or flags.old j false || spec.walk_has walk.now j) }
 {
     for want in walk {
-        if (*want as usize) < marks.len() {
-            marks[*want as usize] = true;
+        if (*want as usize) < flags.len() {
+            flags[*want as usize] = true;
         }
     }
 }
 
-/// Marks the wants that a walk holds, where it holds this one.
-fn mark_with(marks: &mut [bool], walk: &[u32], want: usize)
-    ensures long { length marks.new ≡ length marks.old }
-    ensures each { (j : ℕ) → j < length marks.old → slice_index_or marks.new j false
-        ≡ (slice_index_or marks.old j false ||
+/// Flags the wants that a walk holds, where it holds this one.
+fn flag_with(flags: &mut [bool], walk: &[u32], want: usize)
+    ensures long { length flags.new ≡ length flags.old }
+    ensures each { (j : ℕ) → j < length flags.old → slice_index_or flags.new j false
+        ≡ (slice_index_or flags.old j false ||
         (spec.walk_has walk.now want && spec.walk_has walk.now j)) }
 {
     if has(walk, want) {
-        mark_all(marks, walk);
+        flag_all(flags, walk);
     }
 }
 
-/// Marks the wants that some walk holds together with one.
-fn mark_together(marks: &mut [bool], walks: &[Rows<u32>], want: usize)
-    ensures long { length marks.new ≡ length marks.old }
-    ensures each { (j : ℕ) → j < length marks.old → slice_index_or marks.new j false
-        ≡ (slice_index_or marks.old j false || spec.are_together walks.now want j) }
+/// Flags the wants that some walk holds together with one.
+fn flag_together(flags: &mut [bool], walks: &[Rows<u32>], want: usize)
+    ensures long { length flags.new ≡ length flags.old }
+    ensures each { (j : ℕ) → j < length flags.old → slice_index_or flags.new j false
+        ≡ (slice_index_or flags.old j false || spec.are_together walks.now want j) }
 {
     for walk in walks {
-        mark_with(marks, walk.as_slice(), want);
+        flag_with(flags, walk.as_slice(), want);
     }
 }
 
-/// The marks of the wants that some walk holds together with one.
-pub fn marks_of(
+/// The flags of the wants that some walk holds together with one.
+pub fn flags_of(
     alloc: Global,
     walks: &[Rows<u32>],
     count: usize,
     want: usize,
 ) -> Result<Vec<bool>, AllocError>
-    ensures { IfOk result (λ marks. spec.AreMarks marks.items walks.now want count) }
+    ensures { IfOk result (λ flags. spec.AreFlags flags.items walks.now want count) }
 {
-    let mut marks = vec![in alloc; false; count]?;
-    mark_together(&mut marks, walks, want);
-    Ok(marks)
+    let mut flags = vec![in alloc; false; count]?;
+    flag_together(&mut flags, walks, want);
+    Ok(flags)
 }

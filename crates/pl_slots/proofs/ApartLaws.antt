@@ -11,7 +11,7 @@ use Rattle.pl_base.proofs.AnswerLaws.{bind_ok, ok_same}
 use Rattle.pl_elf.specs.declared.range.Range.{Range}
 use Rattle.pl_slots.specs.declared.slot.Want.{Want}
 use Rattle.pl_slots.specs.declared.slot.Slot.{Slot}
-use Rattle.pl_slots.specs.declared.planned.Planned.{Planned}
+use Rattle.pl_slots.specs.declared.partial_plan.PartialPlan.{PartialPlan}
 use Rattle.pl_slots.specs.Apart.{is_beside, are_apart}
 use Rattle.pl_slots.specs.Holes.{without, lowest, is_free, fits_at}
 use Rattle.pl_elf.specs.Ranges.{has}
@@ -187,18 +187,18 @@ kept_outside kept region (want ∷ wants) holes some =
 -- ---- all steps
 
 -- the rows so far, and those that wants to come keep, are apart and outside of the holes
-pub record AreWell (kept : List Slot) (region : Range) (planned : Planned) (wants : List Want) : Type 0 where
+pub record AreWell (kept : List Slot) (region : Range) (planned : PartialPlan) (wants : List Want) : Type 0 where
   pub apart : are_apart (planned.rows ++ kept_rows kept region wants) ≡ true
   pub outside : Outside planned.holes (planned.rows ++ kept_rows kept region wants)
 
-kept_well : (kept : List Slot) (region : Range) (before : Planned) (want : Want) (wants : List Want) (row : Slot) → Some row ≡ kept_row kept region want
+kept_well : (kept : List Slot) (region : Range) (before : PartialPlan) (want : Want) (wants : List Want) (row : Slot) → Some row ≡ kept_row kept region want
     → AreWell kept region before (want ∷ wants) → AreWell kept region (with_row before row) wants
 kept_well kept region before want wants row is well =
     let same : before.rows ++ with_kept (kept_row kept region want) (kept_rows kept region wants) ≡ (before.rows ++ row ∷ []) ++ kept_rows kept region wants =
     ap (λ (found : Option Slot). before.rows ++ with_kept found (kept_rows kept region wants)) (sym is) ∙ sym (append_assoc before.rows (row ∷ []) (kept_rows kept region wants)) in
     record { apart = subst (λ (rows : List Slot). are_apart rows ≡ true) same well.apart; outside = subst (Outside before.holes) same well.outside }
 
-placed_well : (kept : List Slot) (region : Range) (before after : Planned) (want : Want) (wants : List Want) (found : Option ℕ) → None ≡ kept_row kept region want → 0 < want.align → 0 < want.span
+placed_well : (kept : List Slot) (region : Range) (before after : PartialPlan) (want : Want) (wants : List Want) (found : Option ℕ) → None ≡ kept_row kept region want → 0 < want.align → 0 < want.span
     → found ≡ lowest want.span want.align before.holes → at_place before want found ≡ Ok after → AreWell kept region before (want ∷ wants) → AreWell kept region after wants
 placed_well kept region before after want wants None none aligns some is ok well = absurd cc
 placed_well kept region before after want wants (Some start) none aligns some is ok well =
@@ -211,28 +211,28 @@ placed_well kept region before after want wants (Some start) none aligns some is
     let same : before.rows ++ slot ∷ later ≡ (before.rows ++ slot ∷ []) ++ later = sym (append_assoc before.rows (slot ∷ []) later) in
     let fewer : Outside (without taken before.holes) (before.rows ++ later) = outside_fewer before.holes (without taken before.holes) (before.rows ++ later) (still_free taken before.holes) outside in
     let whole : record { rows = before.rows ++ slot ∷ []; holes = without taken before.holes } ≡ after = ok_same _ after ok in
-    subst (λ (planned : Planned). AreWell kept region planned wants) whole
+    subst (λ (planned : PartialPlan). AreWell kept region planned wants) whole
     (record {
       apart = subst (λ (rows : List Slot). are_apart rows ≡ true) same (apart_with before.rows later slot apart (all_beside before.holes slot (before.rows ++ later) some place.1 outside));
       outside = subst (Outside (without taken before.holes)) same (outside_with (without taken before.holes) before.rows later slot fewer some (taken_not_free taken before.holes));
     })
 
-step_well_by : (kept : List Slot) (region : Range) (before after : Planned) (want : Want) (wants : List Want) (row : Option Slot) → row ≡ kept_row kept region want → 0 < want.align → 0 < want.span
+step_well_by : (kept : List Slot) (region : Range) (before after : PartialPlan) (want : Want) (wants : List Want) (row : Option Slot) → row ≡ kept_row kept region want → 0 < want.align → 0 < want.span
     → kept_or_placed before want row ≡ Ok after → AreWell kept region before (want ∷ wants) → AreWell kept region after wants
 unfolding placed
 step_well_by kept region before after want wants (Some row) is aligns some ok well =
-    subst (λ (planned : Planned). AreWell kept region planned wants) (ok_same (with_row before row) after ok) (kept_well kept region before want wants row is well)
+    subst (λ (planned : PartialPlan). AreWell kept region planned wants) (ok_same (with_row before row) after ok) (kept_well kept region before want wants row is well)
 step_well_by kept region before after want wants None is aligns some ok well = placed_well kept region before after want wants (lowest want.span want.align before.holes) is aligns some refl ok well
 
-step_well : (kept : List Slot) (region : Range) (before after : Planned) (want : Want) (wants : List Want) → 0 < want.align → 0 < want.span → next kept region before want ≡ Ok after
+step_well : (kept : List Slot) (region : Range) (before after : PartialPlan) (want : Want) (wants : List Want) → 0 < want.align → 0 < want.span → next kept region before want ≡ Ok after
     → AreWell kept region before (want ∷ wants) → AreWell kept region after wants
 unfolding next
 step_well kept region before after want wants aligns some ok well = step_well_by kept region before after want wants (kept_row kept region want) refl aligns some ok well
 
-pub all_apart : (kept : List Slot) (region : Range) (wants : List Want) (before after : Planned) → AreSome wants → run (next kept region) before wants ≡ Ok after → AreWell kept region before wants → are_apart after.rows ≡ true
+pub all_apart : (kept : List Slot) (region : Range) (wants : List Want) (before after : PartialPlan) → AreSome wants → run (next kept region) before wants ≡ Ok after → AreWell kept region before wants → are_apart after.rows ≡ true
 unfolding run
 all_apart kept region [] before after some ok well =
-    subst (λ (rows : List Slot). are_apart rows ≡ true) (append-nil before.rows ∙ ap (λ (p : Planned). p.rows) (ok_same before after ok)) well.apart
+    subst (λ (rows : List Slot). are_apart rows ≡ true) (append-nil before.rows ∙ ap (λ (p : PartialPlan). p.rows) (ok_same before after ok)) well.apart
 all_apart kept region (want ∷ wants) before after some ok well =
     let split = bind_ok (next kept region before want) (λ t. run (next kept region) t wants) after ok in
     all_apart kept region wants split.0 after some.2 split.2 (step_well kept region before split.0 want wants some.0 some.1 split.1 well)

@@ -7,7 +7,7 @@ use Rattle.pl_base.proofs.AnswerLaws.{bind_ok, ok_same}
 use Rattle.pl_elf.specs.declared.range.Range.{Range}
 use Rattle.pl_slots.specs.declared.slot.Want.{Want}
 use Rattle.pl_slots.specs.declared.slot.Slot.{Slot}
-use Rattle.pl_slots.specs.declared.planned.Planned.{Planned}
+use Rattle.pl_slots.specs.declared.partial_plan.PartialPlan.{PartialPlan}
 use Rattle.pl_slots.specs.declared.fault.PlanFault.{PlanFault}
 use Rattle.pl_slots.specs.Apart.{are_apart}
 use Rattle.pl_slots.specs.Holes.{region_holes}
@@ -15,7 +15,7 @@ use Rattle.pl_slots.specs.Plan.{plan, next, kept_holes, is_memory, AllServe}
 use Rattle.pl_slots.proofs.ServeLaws.{AreSome, are_some, all_serve, holes_in_region}
 use Rattle.pl_slots.proofs.ApartLaws.{differ, kept_apart, kept_outside, all_apart}
 
-abbrev start : List Slot → List Want → Range → Planned
+abbrev start : List Slot → List Want → Range → PartialPlan
 start kept wants region = record { rows = []; holes = kept_holes kept region wants }
 
 serves : (kept : List Slot) (wants : List Want) (region : Range) (rows : List Slot) → AreSome wants → plan kept wants region ≡ Ok rows → AllServe kept region wants rows

@@ -14,7 +14,7 @@ use Rattle.pl_base.proofs.FindLaws.{find_passes}
 use Rattle.pl_elf.specs.declared.range.Range.{Range}
 use Rattle.pl_slots.specs.declared.slot.Want.{Want}
 use Rattle.pl_slots.specs.declared.slot.Slot.{Slot}
-use Rattle.pl_slots.specs.declared.planned.Planned.{Planned}
+use Rattle.pl_slots.specs.declared.partial_plan.PartialPlan.{PartialPlan}
 use Rattle.pl_slots.specs.Holes.{region_holes, without, lowest, fits_in, is_free, spans_in, fits_at, IsPlace}
 use Rattle.pl_elf.specs.Ranges.{has}
 use Rattle.pl_slots.specs.Plan.{next, placed, slot_at, at_place, with_row, kept_or_placed, kept_row, kept_holes, keeps, lies_in, slot_range, without_kept, Gets, Serves, AllServe}
@@ -112,7 +112,7 @@ lies_where_free region holes slot inside some fits =
 -- ---- one step of a plan
 
 -- the state after a want: one row more, and perhaps fewer holes
-pub record IsStep (kept : List Slot) (region : Range) (before : Planned) (want : Want) (after : Planned) : Type 0 where
+pub record IsStep (kept : List Slot) (region : Range) (before : PartialPlan) (want : Want) (after : PartialPlan) : Type 0 where
   pub slot : Slot
   pub rows : after.rows ≡ before.rows ++ slot ∷ []
   pub serves : Serves kept region want slot
@@ -123,13 +123,13 @@ kept_serves kept region want row is =
     let k = is_kept kept region want row is in
     record { gets = subst (λ (o : Option Slot). Gets o want row) is refl; name = k.name; large = k.large; aligned = k.aligned; within = k.within }
 
-place_serves : (kept : List Slot) (region : Range) (before : Planned) (want : Want) (start : ℕ) → None ≡ kept_row kept region want → 0 < want.align → 0 < want.span → InRegion region before.holes
+place_serves : (kept : List Slot) (region : Range) (before : PartialPlan) (want : Want) (start : ℕ) → None ≡ kept_row kept region want → 0 < want.align → 0 < want.span → InRegion region before.holes
     → Some start ≡ lowest want.span want.align before.holes → Serves kept region want (slot_at want start)
 place_serves kept region before want start none aligns some inside is =
     let place = lowest_fits want.span want.align start before.holes aligns is in
     record { gets = subst (λ (o : Option Slot). Gets o want (slot_at want start)) none refl; name = refl; large = omega arith; aligned = place.0; within = lies_where_free region before.holes (slot_at want start) inside some place.1 }
 
-placed_is_step : (kept : List Slot) (region : Range) (before after : Planned) (want : Want) (found : Option ℕ) → None ≡ kept_row kept region want → 0 < want.align → 0 < want.span → InRegion region before.holes
+placed_is_step : (kept : List Slot) (region : Range) (before after : PartialPlan) (want : Want) (found : Option ℕ) → None ≡ kept_row kept region want → 0 < want.align → 0 < want.span → InRegion region before.holes
     → found ≡ lowest want.span want.align before.holes → at_place before want found ≡ Ok after → IsStep kept region before want after
 placed_is_step kept region before after want (Some start) none aligns some inside is ok =
     let whole : record { rows = before.rows ++ slot_at want start ∷ []; holes = without (slot_range (slot_at want start)) before.holes } ≡ after = ok_same _ after ok in
@@ -137,29 +137,29 @@ placed_is_step kept region before after want (Some start) none aligns some insid
     (record { slot = slot_at want start; rows = refl; serves = place_serves kept region before want start none aligns some inside is; fewer = still_free (slot_range (slot_at want start)) before.holes })
 placed_is_step kept region before after want None none aligns some inside is ok = absurd cc
 
-is_step_by : (kept : List Slot) (region : Range) (before after : Planned) (want : Want) (row : Option Slot) → row ≡ kept_row kept region want → 0 < want.align → 0 < want.span → InRegion region before.holes
+is_step_by : (kept : List Slot) (region : Range) (before after : PartialPlan) (want : Want) (row : Option Slot) → row ≡ kept_row kept region want → 0 < want.align → 0 < want.span → InRegion region before.holes
     → kept_or_placed before want row ≡ Ok after → IsStep kept region before want after
 unfolding placed
 is_step_by kept region before after want (Some row) is aligns some inside ok =
     subst (IsStep kept region before want) (ok_same (with_row before row) after ok) (record { slot = row; rows = refl; serves = kept_serves kept region want row is; fewer = λ address free. free })
 is_step_by kept region before after want None is aligns some inside ok = placed_is_step kept region before after want (lowest want.span want.align before.holes) is aligns some inside refl ok
 
-is_step : (kept : List Slot) (region : Range) (before after : Planned) (want : Want) → 0 < want.align → 0 < want.span → InRegion region before.holes → next kept region before want ≡ Ok after → IsStep kept region before want after
+is_step : (kept : List Slot) (region : Range) (before after : PartialPlan) (want : Want) → 0 < want.align → 0 < want.span → InRegion region before.holes → next kept region before want ≡ Ok after → IsStep kept region before want after
 unfolding next
 is_step kept region before after want aligns some inside ok = is_step_by kept region before after want (kept_row kept region want) refl aligns some inside ok
 
 -- ---- all steps
 
-pub record AllServed (kept : List Slot) (region : Range) (before : Planned) (wants : List Want) (after : Planned) : Type 0 where
+pub record AllServed (kept : List Slot) (region : Range) (before : PartialPlan) (wants : List Want) (after : PartialPlan) : Type 0 where
   pub rows : List Slot
   pub all : after.rows ≡ before.rows ++ rows
   pub serve : AllServe kept region wants rows
 
-pub all_serve : (kept : List Slot) (region : Range) (wants : List Want) (before after : Planned) → AreSome wants → InRegion region before.holes
+pub all_serve : (kept : List Slot) (region : Range) (wants : List Want) (before after : PartialPlan) → AreSome wants → InRegion region before.holes
     → run (next kept region) before wants ≡ Ok after → AllServed kept region before wants after
 unfolding run
 all_serve kept region [] before after some inside ok =
-    record { rows = []; all = sym (append-nil after.rows) ∙ ap (λ (p : Planned). p.rows ++ []) (sym (ok_same before after ok)); serve = tt }
+    record { rows = []; all = sym (append-nil after.rows) ∙ ap (λ (p : PartialPlan). p.rows ++ []) (sym (ok_same before after ok)); serve = tt }
 all_serve kept region (want ∷ wants) before after some inside ok =
     let split = bind_ok (next kept region before want) (λ t. run (next kept region) t wants) after ok in
     let step = is_step kept region before split.0 want some.0 some.1 inside split.1 in

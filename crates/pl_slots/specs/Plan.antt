@@ -9,7 +9,7 @@ use Rattle.pl_elf.specs.Ranges.{range_from}
 use Rattle.pl_elf.specs.declared.range.Range.{Range}
 use Rattle.pl_slots.specs.declared.slot.Want.{Want}
 use Rattle.pl_slots.specs.declared.slot.Slot.{Slot}
-use Rattle.pl_slots.specs.declared.planned.Planned.{Planned}
+use Rattle.pl_slots.specs.declared.partial_plan.PartialPlan.{PartialPlan}
 use Rattle.pl_slots.specs.declared.fault.PlanFault.{PlanFault}
 use Rattle.pl_slots.specs.declared.fault.PlanFault.TheVariants.{NoSlot, NoMemory}
 use Rattle.pl_slots.specs.Holes.{region_holes, without, spans_in, lowest, greatest}
@@ -48,23 +48,23 @@ abbrev pub slot_at : Want → ℕ → Slot
 slot_at want start = record { name = want.name; start = start; span = want.span }
 
 -- one row more
-abbrev pub with_row : Planned → Slot → Planned
+abbrev pub with_row : PartialPlan → Slot → PartialPlan
 with_row planned slot = record { rows = planned.rows ++ slot ∷ []; holes = planned.holes }
 
 -- a want at an address, which is taken from now on
-abbrev pub at_place : Planned → Want → Option ℕ → Result Planned PlanFault
+abbrev pub at_place : PartialPlan → Want → Option ℕ → Result PartialPlan PlanFault
 at_place planned want (Some start) = Ok (record { rows = planned.rows ++ slot_at want start ∷ []; holes = without (slot_range (slot_at want start)) planned.holes })
 at_place planned want None = Err (NoSlot want.name want.span (greatest planned.holes))
 
 -- a want that keeps no row takes the least aligned address of a hole
-unfoldable pub placed : Planned → Want → Result Planned PlanFault
+unfoldable pub placed : PartialPlan → Want → Result PartialPlan PlanFault
 placed planned want = at_place planned want (lowest want.span want.align planned.holes)
 
-abbrev pub kept_or_placed : Planned → Want → Option Slot → Result Planned PlanFault
+abbrev pub kept_or_placed : PartialPlan → Want → Option Slot → Result PartialPlan PlanFault
 kept_or_placed planned want (Some slot) = Ok (with_row planned slot)
 kept_or_placed planned want None = placed planned want
 
-unfoldable pub next : List Slot → Range → Planned → Want → Result Planned PlanFault
+unfoldable pub next : List Slot → Range → PartialPlan → Want → Result PartialPlan PlanFault
 next kept region planned want = kept_or_placed planned want (kept_row kept region want)
 
 -- the slots of all wants, in their order

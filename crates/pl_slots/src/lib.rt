@@ -4,7 +4,7 @@
 mod apart;
 mod fault;
 mod holes;
-mod planned;
+mod partial_plan;
 mod planning;
 mod slot;
 

@@ -5,7 +5,7 @@ ghost use Rattle.pl_slots.specs.Apart.{are_apart};
 ghost use Rattle.pl_slots.specs.Plan as spec;
 
 use crate::holes::{greatest, lowest_place, region_holes, without};
-use crate::planned::Planned;
+use crate::partial_plan::PartialPlan;
 use crate::{PlanFault, Slot, Want};
 use pl_base::{Rows, Text, end, is_aligned};
 use pl_elf::Range;
@@ -68,11 +68,11 @@ fn kept_holes(
 
 /// Gives a want that keeps no row the least aligned address of a hole.
 #[tactic(auto, unfolding(crate::specs::Plan::placed))]
-fn placed(alloc: Global, planned: Planned, want: &Want) -> Result<Planned, PlanFault>
+fn placed(alloc: Global, planned: PartialPlan, want: &Want) -> Result<PartialPlan, PlanFault>
     requires { 0 < want.now.align }
     ensures { Answers spec.is_memory result (spec.placed planned want.now) }
 {
-    let Planned { mut rows, holes } = planned;
+    let PartialPlan { mut rows, holes } = planned;
     let name = Text::copy_of(alloc, want.name.as_str())?;
     match lowest_place(holes.as_slice(), want.span, want.align) {
         None => Err(PlanFault::NoSlot {
@@ -88,7 +88,7 @@ fn placed(alloc: Global, planned: Planned, want: &Want) -> Result<Planned, PlanF
                 start,
                 span: want.span,
             })?;
-            Ok(Planned {
+            Ok(PartialPlan {
                 rows,
                 holes: Rows::from_vec(left),
             })
@@ -102,18 +102,18 @@ fn next(
     alloc: Global,
     kept: &[Slot],
     region: Range,
-    planned: Planned,
+    planned: PartialPlan,
     want: &Want,
-) -> Result<Planned, PlanFault>
+) -> Result<PartialPlan, PlanFault>
     requires { 0 < want.now.align }
     ensures { Answers spec.is_memory result (spec.next kept.now region planned want.now) }
 {
     match kept_row(kept, region, want) {
         None => placed(alloc, planned, want),
         Some(row) => {
-            let Planned { mut rows, holes } = planned;
+            let PartialPlan { mut rows, holes } = planned;
             rows.push(row.copy(alloc)?)?;
-            Ok(Planned { rows, holes })
+            Ok(PartialPlan { rows, holes })
         }
     }
 }
@@ -129,14 +129,14 @@ fn all_placed(
     ensures { Answers spec.is_memory result (spec.plan kept.now wants.now region) }
 {
     let holes = Rows::from_vec(kept_holes(alloc, kept, region, wants)?);
-    let mut planned = Planned {
+    let mut planned = PartialPlan {
         rows: Rows::new(alloc),
         holes,
     };
     for want in wants {
         planned = next(alloc, kept, region, planned, want)?;
     }
-    let Planned { rows, holes: _ } = planned;
+    let PartialPlan { rows, holes: _ } = planned;
     Ok(rows)
 }
 

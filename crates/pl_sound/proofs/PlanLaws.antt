@@ -31,7 +31,7 @@ member_of n original version slot stamp = record { name = n; original = original
 
 -- ---- a file that is prelinked by a plan
 
-pub record Planned {E : Type 0} (f : Format E) (files : Files) (plan : Plan) (n file : List ℕ) : Type 0 where
+pub record IsPlannedFile {E : Type 0} (f : Format E) (files : Files) (plan : Plan) (n file : List ℕ) : Type 0 where
   pub walked : Walked
   pub walks : walk_in f files n ≡ Ok walked
   pub original : f.original file ≡ original_at f (files n)
@@ -41,10 +41,10 @@ map_map : {A B C : Type 0} (g : B → C) (h : A → B) (xs : List A) → map g (
 map_map g h [] = refl
 map_map {C = C} g h (x ∷ xs) = ap (λ (z : List C). g (h x) ∷ z) (map_map g h xs)
 
-pub planned_is : {E : Type 0} (f : Format E) → IsFormat f → (files : Files) (plan : Plan) (n file : List ℕ) → planned_in f files plan n ≡ Some file → Planned f files plan n file
+pub planned_is : {E : Type 0} (f : Format E) → IsFormat f → (files : Files) (plan : Plan) (n file : List ℕ) → planned_in f files plan n ≡ Some file → IsPlannedFile f files plan n file
 planned_is {E = E} f laws files plan n file h = of_result (walk_in f files n) refl h
   where
-    of_result : (r : Result Walked E) → walk_in f files n ≡ r → of_walk f (planned_member f files plan) r ≡ Some file → Planned f files plan n file
+    of_result : (r : Result Walked E) → walk_in f files n ≡ r → of_walk f (planned_member f files plan) r ≡ Some file → IsPlannedFile f files plan n file
     of_result (Err e) is h = absurd (none_some file h)
     of_result (Ok ws) is h =
         let i : WalkTells (objects f files) n ws = walk_is f.walks (objects f files) n ws is in
@@ -64,13 +64,13 @@ object_there f n None o h = absurd (err_ok (f.absent n) o h)
 object_there f n (Some g) o h = h
 
 -- it has the same object as before
-pub planned_object : {E : Type 0} (f : Format E) (files view : Files) (plan : Plan) (n file : List ℕ) → Planned f files plan n file → view n ≡ Some file → objects f files n ≡ objects f view n
+pub planned_object : {E : Type 0} (f : Format E) (files view : Files) (plan : Plan) (n file : List ℕ) → IsPlannedFile f files plan n file → view n ≡ Some file → objects f files n ≡ objects f view n
 planned_object f files view plan n file p there =
     let i : WalkTells (objects f files) n p.walked = walk_is f.walks (objects f files) n p.walked p.walks in
     i.file ∙ sym (ap (object_at f n) there ∙ (ap (f.reads n) p.original ∙ object_there f n (files n) i.object i.file))
 
 -- it bears what was planned
-pub planned_bears : {E : Type 0} (f : Format E) (files view : Files) (plan : Plan) (n file : List ℕ) → Planned f files plan n file → view n ≡ Some file → member_at f n (view n) ≡ planned_member f files plan n
+pub planned_bears : {E : Type 0} (f : Format E) (files view : Files) (plan : Plan) (n file : List ℕ) → IsPlannedFile f files plan n file → view n ≡ Some file → member_at f n (view n) ≡ planned_member f files plan n
 planned_bears f files view plan n file p there =
     ap (member_at f n) there ∙ same_member n (f.original file) (original_at f (files n)) f.version (f.mark file) (for_library (objects f files n) (plan.slot n)) (for_library (objects f files n) (plan.stamp n)) (map (λ m. row_of f (planned_member f files plan m)) (others p.walked)) p.original p.mark
   where
@@ -95,7 +95,7 @@ rule_planned f laws files view plan made n h m t =
       | inr o ↦ let g : (g : List ℕ) × (k' : Mark) × (view k ≡ Some g) × (f.mark g ≡ Some k') = marked_at f (view k) (h.each k o) in
           record { file = g.0; there = g.2; made = made k g.0 g.1 g.2 g.3 }
     ] in
-    let plan_of : (k : List ℕ) (s : has (names w.walked) k ≡ true) → Planned f files plan k (each k (w.subset k s)).file = λ k s. planned_is f laws files plan k (each k (w.subset k s)).file (each k (w.subset k s)).made in
+    let plan_of : (k : List ℕ) (s : has (names w.walked) k ≡ true) → IsPlannedFile f files plan k (each k (w.subset k s)).file = λ k s. planned_is f laws files plan k (each k (w.subset k s)).file (each k (w.subset k s)).made in
     let walks : walk_in f files m ≡ Ok w.walked = walk_local f.walks f.walks (objects f view) (objects f files) m w.walked w.walks (λ k o s is. planned_object f files view plan k (each k (w.subset k s)).file (plan_of k s) (each k (w.subset k s)).there ∙ is) in
     let bears : map (λ k. member_at f k (view k)) (names w.walked) ≡ map (planned_member f files plan) (names w.walked) =
     map_same (λ k. member_at f k (view k)) (planned_member f files plan) (names w.walked) (λ k s. planned_bears f files view plan k (each k (w.subset k s)).file (plan_of k s) (each k (w.subset k s)).there) in

@@ -20,7 +20,7 @@ use Rattle.pl_scope.proofs.StepLaws.{walk_there}
 use Rattle.pl_scope.proofs.ClosureLaws.{WalkTells, walk_is}
 use Rattle.pl_sound.proofs.RuleLaws.{is_other, other_is, other_library, AgreeOn, rule_from}
 use Rattle.pl_sound.proofs.BookLaws.{marked_at, found_same, meant_itself, meant_other, rule_from_book, own_good, own_has}
-use Rattle.pl_sound.proofs.PlanLaws.{Planned, planned_is, planned_object, rule_planned, IsCurrent, current_is, current_stamp, new_stamp, all_planned, all_current}
+use Rattle.pl_sound.proofs.PlanLaws.{IsPlannedFile, planned_is, planned_object, rule_planned, IsCurrent, current_is, current_stamp, new_stamp, all_planned, all_current}
 
 some_same : {X : Type 0} (x y : X) → Some x ≡ Some y → x ≡ y
 some_same x y h = cc
@@ -109,7 +109,7 @@ rows_below row stamp (n ∷ ns) le = All-cons (λ (r : Row). r.stamp ≤ stamp) 
 
 -- a file after the run, with its mark
 record Bears {E : Type 0} (f : Format E) (before : Files) (plan : Plan) (n file : List ℕ) (k : Mark) : Type 0 where
-  planned : Planned f before plan n file
+  planned : IsPlannedFile f before plan n file
   is : k ≡ record { version = f.version; slot = for_library (objects f before n) (plan.slot n); stamp = for_library (objects f before n) (plan.stamp n); list = map (λ m. row_of f (planned_member f before plan m)) (others planned.walked) }
 
 pub keeps_run : {E : Type 0} (f : Format E) → IsFormat f → (seen : List ℕ → List ℕ → Type 0) (book : Book) (last stamp : ℕ) (fit : Fit) (slots : List ℕ → ℕ) (before after : Files) → Keeps f seen book last → IsFrom seen before → last < stamp → ((n : List ℕ) → after n ≡ all f fit before slots stamp n)
@@ -130,7 +130,7 @@ keeps_run f laws seen book last stamp fit slots before after keeps from past is_
       | inr p ↦ omega (arith, p)
     ] in
     let mark_of : (n file : List ℕ) (k : Mark) (there : after n ≡ Some file) (marked : f.mark file ≡ Some k) → Bears f before plan n file k = λ n file k there marked.
-    let p : Planned f before plan n file = planned_is f laws before plan n file (planned n file k there marked) in
+    let p : IsPlannedFile f before plan n file = planned_is f laws before plan n file (planned n file k there marked) in
     record { planned = p; is = some_same k (record { version = f.version; slot = for_library (objects f before n) (plan.slot n); stamp = for_library (objects f before n) (plan.stamp n); list = map (λ m. row_of f (planned_member f before plan m)) (others p.walked) }) (sym marked ∙ p.mark) } in
     let new_agrees : (n file : List ℕ) (k : Mark) → after n ≡ Some file → Bears f before plan n file k → (h : Matches f (meant f new n file) n) → AgreeOn (meant f new n file) after (names h.walked) = λ n file k there b h m t.
     let view : Files = meant f new n file in

@@ -10,7 +10,7 @@ use Rattle.pl_object.specs.declared.object.Object.{Object}
 use Rattle.pl_scope.specs.Members.{names, others, has}
 use Rattle.pl_sound.specs.Rule.{Row, Mark, Format, IsFormat, Files, object_at, original_at, row_at, objects, is_marked, is_same, prelinked_in}
 use Rattle.pl_sound.specs.Plan.{Fit, is_candidate, is_current, plan_of, planned_in, all}
-use Rattle.pl_sound.specs.History.{IsEdit, Happened, Held, Change, done}
+use Rattle.pl_sound.specs.History.{IsEdit, Happened, Held, FileChange, done}
 use Rattle.pl_sound.specs.Laws.{CurrentIsFromScratch, RunsAreSound, RunsKeepOriginals, MixturesAreSound, RowsAreSound, EditsAreSound, OthersAreSound, NoFilesAreSound, VerifiedAreSound, HistoriesAreSound, StampsNameFiles}
 use Rattle.pl_scope.proofs.NameLaws.{has_cons, same_name}
 use Rattle.pl_scope.proofs.StepLaws.{err_ok}
@@ -19,7 +19,7 @@ use Rattle.pl_sound.proofs.Matching.{RuleAt, and_both, tells_back, members_are, 
 use Rattle.pl_sound.proofs.RuleLaws.{is_other, AgreeOn, rule_from}
 use Rattle.pl_sound.proofs.Books.{Book, own, joined, Keeps, IsFrom}
 use Rattle.pl_sound.proofs.BookLaws.{marked_at, rule_from_book}
-use Rattle.pl_sound.proofs.PlanLaws.{Planned, planned_is, IsCurrent, current_is, current_back, current_within, all_planned, all_current, rule_planned}
+use Rattle.pl_sound.proofs.PlanLaws.{IsPlannedFile, planned_is, IsCurrent, current_is, current_back, current_within, all_planned, all_current, rule_planned}
 use Rattle.pl_sound.proofs.RunLaws.{keeps_start, keeps_edit, keeps_run}
 
 some_same : {X : Type 0} (x y : X) → Some x ≡ Some y → x ≡ y
@@ -55,7 +55,7 @@ originals f laws bare fit old slots stamp n file h = of_parts (is_candidate f fi
   where
     of_parts : (b : Bool) (planned : Option (List ℕ)) → planned_in f old (plan_of f fit old slots stamp) n ≡ planned → option_or (if b then planned else None) (option_map f.original (old n)) ≡ Some file → HasOriginal f (old n) file
     of_parts true (Some p) is h =
-        let made : Planned f old (plan_of f fit old slots stamp) n file = planned_is f laws old (plan_of f fit old slots stamp) n file (is ∙ h) in
+        let made : IsPlannedFile f old (plan_of f fit old slots stamp) n file = planned_is f laws old (plan_of f fit old slots stamp) n file (is ∙ h) in
         let i : WalkTells (objects f old) n made.walked = walk_is f.walks (objects f old) n made.walked made.walks in
         of_walked f n file i.object (old n) i.file made.original
     of_parts true None is h = of_original f laws bare file (old n) h
@@ -79,12 +79,12 @@ mixtures f laws fit old mixed slots last stamp rule bounded past each =
     let keeps : Keeps f (λ n file. (after n ≡ Some file) ⊎ (old n ≡ Some file)) (joined stamp (own f old) (own f after)) stamp = keeps_run f laws (λ n file. old n ≡ Some file) (own f old) last stamp fit slots old after start (λ n file t. t) past (λ n. refl) in
     rule_in f mixed (rule_from_book f laws (λ n file. (after n ≡ Some file) ⊎ (old n ≡ Some file)) (joined stamp (own f old) (own f after)) stamp mixed keeps (λ n file t. elim (each n) [ inl e ↦ inr (sym e ∙ t) | inr e ↦ inl (sym e ∙ t) ]))
 
-done_each : (old after mixed : Files) (changes : List Change) → ((n : List ℕ) → (mixed n ≡ old n) ⊎ (mixed n ≡ after n)) → All (λ c. c.file ≡ after c.name) changes → (n : List ℕ) → (done mixed changes n ≡ old n) ⊎ (done mixed changes n ≡ after n)
+done_each : (old after mixed : Files) (changes : List FileChange) → ((n : List ℕ) → (mixed n ≡ old n) ⊎ (mixed n ≡ after n)) → All (λ c. c.file ≡ after c.name) changes → (n : List ℕ) → (done mixed changes n ≡ old n) ⊎ (done mixed changes n ≡ after n)
 done_each old after mixed [] each all n = each n
 done_each old after mixed (c ∷ changes) each all n =
     elim (cases_Bool (bytes_eq c.name n)) [
-      | inl t ↦ inr (rw t (All-head (λ (x : Change). x.file ≡ after x.name) c changes all ∙ ap after (same_name c.name n t)))
-      | inr t ↦ rw t (done_each old after mixed changes each (All-tail (λ (x : Change). x.file ≡ after x.name) c changes all) n)
+      | inl t ↦ inr (rw t (All-head (λ (x : FileChange). x.file ≡ after x.name) c changes all ∙ ap after (same_name c.name n t)))
+      | inr t ↦ rw t (done_each old after mixed changes each (All-tail (λ (x : FileChange). x.file ≡ after x.name) c changes all) n)
     ]
 
 pub rows : {E : Type 0} → RowsAreSound E

@@ -19,13 +19,13 @@ abbrev pub IsEdit : {E : Type 0} → Format E → Files → Files → Type 0
 IsEdit f before after = (n file : List ℕ) → after n ≡ Some file → (before n ≡ Some file) ⊎ (f.mark file ≡ None)
 
 -- a step, with the last stamp before and after it
-abbrev pub Step : {E : Type 0} → Format E → Files → Files → ℕ → ℕ → Type 0
-Step f before after last now = (IsRun f before after last now) ⊎ ((IsEdit f before after) × (last ≡ now))
+abbrev pub Transition : {E : Type 0} → Format E → Files → Files → ℕ → ℕ → Type 0
+Transition f before after last now = (IsRun f before after last now) ⊎ ((IsEdit f before after) × (last ≡ now))
 
 -- the folder now, the folders before it, the newest first, and the last stamp
 abbrev pub Happened : {E : Type 0} → Format E → Files → List Files → ℕ → Type 0
 Happened f now [] last = Rule f now × IsBounded f now last
-Happened f now (before ∷ past) last = (old : ℕ) × Happened f before past old × Step f before now old last
+Happened f now (before ∷ past) last = (old : ℕ) × Happened f before past old × Transition f before now old last
 
 -- a file that the folder held at some moment
 abbrev pub Held : Files → List Files → List ℕ → List ℕ → Type 0
@@ -35,11 +35,11 @@ Held now (before ∷ past) n file = (now n ≡ Some file) ⊎ Held before past n
 -- ---- changes of which some were made
 
 -- a name's new file, or that it has none
-pub record Change : Type 0 where
+pub record FileChange : Type 0 where
   pub name : List ℕ
   pub file : Option (List ℕ)
 
-abbrev pub done : Files → List Change → Files
+abbrev pub done : Files → List FileChange → Files
 done files [] n = files n
 done files (c ∷ cs) n = if bytes_eq c.name n then c.file else done files cs n
 

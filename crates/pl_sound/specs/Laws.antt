@@ -7,7 +7,7 @@ use Rattle.pl_scope.specs.declared.fault.WalkFault.{WalkFault}
 use Rattle.pl_scope.specs.Members.{has}
 use Rattle.pl_sound.specs.Rule.{Mark, Format, IsFormat, Files, members, matches, is_verified, Rule}
 use Rattle.pl_sound.specs.Plan.{Fit, is_current, IsBounded, all}
-use Rattle.pl_sound.specs.History.{IsEdit, Happened, Held, Change, done, IsAllowed}
+use Rattle.pl_sound.specs.History.{IsEdit, Happened, Held, FileChange, done, IsAllowed}
 
 -- a current name keeps its file, as a run makes it from scratch; and each member of its walk is current
 abbrev pub CurrentIsFromScratch : Type 0 → Type 0
@@ -31,7 +31,7 @@ MixturesAreSound E = (f : Format E) → IsFormat f → (fit : Fit) (old mixed : 
 
 -- so does a mixture in which any rows of the journal are done
 abbrev pub RowsAreSound : Type 0 → Type 0
-RowsAreSound E = (f : Format E) → IsFormat f → (fit : Fit) (old mixed : Files) (slots : List ℕ → ℕ) (last stamp : ℕ) (rows : List Change)
+RowsAreSound E = (f : Format E) → IsFormat f → (fit : Fit) (old mixed : Files) (slots : List ℕ → ℕ) (last stamp : ℕ) (rows : List FileChange)
     → Rule f old → IsBounded f old last → last < stamp
     → ((n : List ℕ) → (mixed n ≡ old n) ⊎ (mixed n ≡ all f fit old slots stamp n))
     → All (λ c. c.file ≡ all f fit old slots stamp c.name) rows → Rule f (done mixed rows)

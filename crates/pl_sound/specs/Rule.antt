@@ -115,12 +115,12 @@ abbrev pub is_marked : {E : Type 0} → Format E → Files → List ℕ → Bool
 is_marked f files n = is_some (mark_at f (files n))
 
 -- a list tells these other members as the folder holds them, and each is marked
-abbrev pub tells : {E : Type 0} → Format E → Files → List Row → List (List ℕ) → Bool
-tells f files list ns = list_all (is_marked f files) ns && pointwise row_eq list (map (λ m. row_at f m (files m)) ns)
+abbrev pub lists_members : {E : Type 0} → Format E → Files → List Row → List (List ℕ) → Bool
+lists_members f files list ns = list_all (is_marked f files) ns && pointwise row_eq list (map (λ m. row_at f m (files m)) ns)
 
 abbrev pub tells_walk : {E : Type 0} → Format E → Files → Option Mark → Result Walked E → Bool
 tells_walk f files None walked = false
-tells_walk f files (Some k) (Ok walked) = tells f files k.list (others walked)
+tells_walk f files (Some k) (Ok walked) = lists_members f files k.list (others walked)
 tells_walk f files (Some k) (Err e) = false
 
 -- a name's file is marked, and its list tells the other members of its walk

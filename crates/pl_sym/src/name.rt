@@ -11,7 +11,7 @@ const SHORT: usize = 23;
 
 /// Where the bytes of a name stand.
 #[derive(Drop)]
-enum Place {
+enum NameBytes {
     /// In the symbol: so many of these.
     Here { size: u8, bytes: [u8; SHORT] },
 
@@ -22,7 +22,7 @@ enum Place {
 /// The bytes of a symbol's name. Contracts see it as their list. Most names are short, and take no memory besides the symbol's.
 #[derive(Drop)]
 pub struct Name {
-    place: Place,
+    place: NameBytes,
 }
 
 impl Model for Name {
@@ -47,25 +47,25 @@ fn first(bytes: &[u8; SHORT], size: usize) -> &[u8]
 }
 
 /// So few bytes that they stand in the symbol.
-fn here(bytes: &[u8]) -> Place
+fn here(bytes: &[u8]) -> NameBytes
     requires { length bytes.now ≤ SHORT }
     ensures { spec.bytes_at result ≡ bytes.now }
 {
     let mut room = [0; SHORT];
     room[..bytes.len()].copy_from_slice(bytes);
-    Place::Here {
+    NameBytes::Here {
         size: bytes.len() as u8,
         bytes: room,
     }
 }
 
-fn place_of(alloc: Global, bytes: &[u8]) -> Result<Place, AllocError>
+fn place_of(alloc: Global, bytes: &[u8]) -> Result<NameBytes, AllocError>
     ensures { IfOk result (λ p. spec.bytes_at p ≡ bytes.now) }
 {
     if bytes.len() <= SHORT {
         return Ok(here(bytes));
     }
-    Ok(Place::There(Vec::from_slice(alloc, bytes)?))
+    Ok(NameBytes::There(Vec::from_slice(alloc, bytes)?))
 }
 
 impl Name {
@@ -82,8 +82,8 @@ impl Name {
         ensures { result.now ≡ self.now }
     {
         match &self.place {
-            Place::Here { size, bytes } => first(bytes, usize::from(*size)),
-            Place::There(bytes) => bytes.as_slice(),
+            NameBytes::Here { size, bytes } => first(bytes, usize::from(*size)),
+            NameBytes::There(bytes) => bytes.as_slice(),
         }
     }
 }

@@ -5,7 +5,7 @@ use Rattle.std.proofs.Math.Seq.{drop-length}
 use Rattle.std.proofs.lemmas.List.{append-nil, drop_more}
 use Rattle.std.proofs.lemmas.List.Folds.{list_any-append}
 use Rattle.std.proofs.lemmas.Bool.{lt-ltb, le-ltb}
-use Rattle.pl_base.specs.Answers.{Tells}
+use Rattle.pl_base.specs.Answers.{NeverMemory}
 use Rattle.pl_base.proofs.TellsLaws.{ok_tells, unless_tells}
 use Rattle.pl_tls.specs.declared.TheConstants.{OFFSET_LIMIT}
 use Rattle.pl_tls.specs.declared.block.Block.{Block}
@@ -69,6 +69,6 @@ are_all blocks index number reached modules e so_far =
     rw (all, so_far.near) refl
 
 -- the offsets of any blocks: a value, or a fault that is no want of memory
-pub offsets_tell : (blocks : List (Option Block)) → Tells is_memory (offsets blocks)
+pub offsets_tell : (blocks : List (Option Block)) → NeverMemory is_memory (offsets blocks)
 unfolding offsets
 offsets_tell blocks = unless_tells is_memory _ _ _ refl (ok_tells is_memory _)

@@ -20,7 +20,7 @@ use Rattle.pl_image.specs.Loads.{pieces_at, IsPlaced}
 use Rattle.pl_value.specs.Targets.{base_of}
 use Rattle.pl_value.specs.Meanings.{Row, row, rows, rows_from}
 use Rattle.pl_value.specs.Linked.{under}
-use Rattle.pl_value.specs.Ordinary.{part_of, loaded_from, loaded}
+use Rattle.pl_value.specs.Ordinary.{part_of, loaded_from, loaded_objects}
 use Rattle.pl_value.specs.Laws.{AreRead, PlacesAreApart}
 use Rattle.pl_value.proofs.LoneLaws.{Lone, lone_most, most_lone, lone_rest, lone_cross, lone_join, lone_zip}
 use Rattle.pl_value.proofs.MeaningLaws.{IsGiven, meanings_given, zip_weaker}
@@ -138,7 +138,7 @@ scope_apart places parts member (file ∷ files) (o ∷ os) read placed pieces =
 -- at most one place is over an address
 pub places_are_apart : PlacesAreApart
 places_are_apart parts objects places modules gs read placed is =
-    let pieces : Lone lies (all_pieces (loaded places parts objects)) = most_lone lies (all_pieces (loaded places parts objects)) placed.apart in
+    let pieces : Lone lies (all_pieces (loaded_objects places parts objects)) = most_lone lies (all_pieces (loaded_objects places parts objects)) placed.apart in
     let first : PlacedFrom places 0 objects = λ k d lt. subst (λ (n : ℕ). IsPlaced (base_of places n) (get_or objects k d)) (omega arith) (placed.placed k d lt) in
     let apart = scope_apart places parts 0 parts objects read first pieces in
     let same : AllZip (λ x g. (a : ℕ) → under a g ≡ row_over places a x) (rows objects) gs =

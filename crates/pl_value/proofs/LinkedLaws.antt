@@ -10,12 +10,12 @@ use Rattle.pl_base.proofs.AnswerLaws.{because_ok}
 use Rattle.pl_base.specs.Memory.{Memory, Fill, filled, layered, shown}
 use Rattle.pl_base.proofs.MemoryLaws.{filled-append}
 use Rattle.pl_image.specs.Image.{Image, all_pieces, any_masked, byte_of}
-use Rattle.pl_image.specs.declared.loaded.Loaded.{Loaded}
+use Rattle.pl_image.specs.declared.loaded_object.LoadedObject.{LoadedObject}
 use Rattle.pl_value.specs.Linked.{put_of, copy_of, words, copies, worded, relocated}
 use Rattle.pl_tls.specs.declared.module.Module.{Module}
 use Rattle.pl_object.specs.declared.object.Object.{Object}
 use Rattle.pl_value.specs.Meanings.{meanings, is_memory}
-use Rattle.pl_value.specs.Ordinary.{loaded, shown_linked, ordinary, IsOrdinary}
+use Rattle.pl_value.specs.Ordinary.{loaded_objects, shown_linked, ordinary, IsOrdinary}
 use Rattle.pl_value.specs.declared.fault.OrdinaryFault.{OrdinaryFault}
 use Rattle.pl_value.specs.declared.fault.OrdinaryFault.TheVariants.{Link, NoMemory}
 use Rattle.pl_value.specs.declared.meaning.Meaning.{Meaning}
@@ -52,22 +52,22 @@ image_linked i gs a is =
     ap (λ (m : Memory). shown base (any_masked i.objects) m a) same
 
 -- the patches of an image, where the words were given as patches for the copies
-pub patches_linked : (i : Image) (ls ks : List Loaded) (gs ms ns : List Meaning) (all ps qs cs : List Fill) → i ≡ record { objects = ls; patches = all } → all ≡ ps ++ cs → ps ≡ words ms → cs ≡ copies (filled (layered (all_pieces ks)) qs) ns
+pub patches_linked : (i : Image) (ls ks : List LoadedObject) (gs ms ns : List Meaning) (all ps qs cs : List Fill) → i ≡ record { objects = ls; patches = all } → all ≡ ps ++ cs → ps ≡ words ms → cs ≡ copies (filled (layered (all_pieces ks)) qs) ns
     → ks ≡ ls → qs ≡ ps → ms ≡ gs → ns ≡ gs → i.patches ≡ words gs ++ copies (worded (layered (all_pieces i.objects)) gs) gs
 patches_linked i ls ks gs ms ns all ps qs cs is joined put copied same_objects same_words first second =
-    let base : List Loaded → Memory = λ (zs : List Loaded). layered (all_pieces zs) in
+    let base : List LoadedObject → Memory = λ (zs : List LoadedObject). layered (all_pieces zs) in
     let objects : i.objects ≡ ls = ap (λ (j : Image). j.objects) is in
     let front : ps ≡ words gs = put ∙ ap words first in
-    let memory : filled (base ks) qs ≡ worded (base i.objects) gs = ap (λ (zs : List Loaded). filled (base zs) qs) (same_objects ∙ sym objects) ∙ ap (filled (base i.objects)) (same_words ∙ front) in
+    let memory : filled (base ks) qs ≡ worded (base i.objects) gs = ap (λ (zs : List LoadedObject). filled (base zs) qs) (same_objects ∙ sym objects) ∙ ap (filled (base i.objects)) (same_words ∙ front) in
     let back : cs ≡ copies (worded (base i.objects) gs) gs = copied ∙ ap (λ (m : Memory). copies m ns) memory ∙ ap (copies (worded (base i.objects) gs)) second in
     ap (λ (j : Image). j.patches) is ∙ joined ∙ ap (λ (fs : List Fill). fs ++ cs) front ∙ ap (λ (fs : List Fill). words gs ++ fs) back
 
 -- an image of the loaded objects with these patches is the ordinary one
-pub image_ordinary : (objects : List Object) (parts : List (List ℕ)) (places : List ℕ) (modules : List Module) (gs : List Meaning) (i : Image) → because Link (meanings objects places modules) ≡ Ok gs → i.objects ≡ loaded places parts objects
+pub image_ordinary : (objects : List Object) (parts : List (List ℕ)) (places : List ℕ) (modules : List Module) (gs : List Meaning) (i : Image) → because Link (meanings objects places modules) ≡ Ok gs → i.objects ≡ loaded_objects places parts objects
     → i.patches ≡ words gs ++ copies (worded (layered (all_pieces i.objects)) gs) gs → IsOrdinary (Ok i) (ordinary objects parts places modules)
 unfolding ordinary
 image_ordinary objects parts places modules gs i is same patches =
-    rw (because_ok Link (meanings objects places modules) gs is) (λ a. image_linked i gs a patches ∙ ap (λ (ls : List Loaded). shown_linked ls gs a) same)
+    rw (because_ok Link (meanings objects places modules) gs is) (λ a. image_linked i gs a patches ∙ ap (λ (ls : List LoadedObject). shown_linked ls gs a) same)
 
 -- a refusal of a meaning is that of the image
 pub refused_ordinary : (objects : List Object) (parts : List (List ℕ)) (places : List ℕ) (modules : List Module) (e : OrdinaryFault) → MatchBool (is_memory e) ⊤ (because Link (meanings objects places modules) ≡ Err e) → IsOrdinary (Err e) (ordinary objects parts places modules)

@@ -10,7 +10,7 @@ use crate::collecting::meanings;
 use crate::reading::read;
 use crate::targets::base_of;
 use crate::{Meaning, OrdinaryFault, Places, Word};
-use pl_image::{Image, Loaded, Parts, Patch, load_object};
+use pl_image::{Image, LoadedObject, Parts, Patch, load_object};
 use pl_scope::Scope;
 use pl_tls::Module;
 use std::alloc::{AllocError, Global};
@@ -21,11 +21,11 @@ pub fn load<'a>(
     scope: &Scope<'a>,
     parts: &Parts<'a>,
     places: &Places,
-) -> Result<Vec<Loaded<'a>>, AllocError>
+) -> Result<Vec<LoadedObject<'a>>, AllocError>
     requires one_each { length places.now ≡ length scope.now }
     requires parts { length parts.now ≡ length scope.now }
     requires placed { spec.ArePlaced places.now parts.now (objects scope.now) }
-    ensures value { IfOk result (λ v. v.items ≡ spec.loaded places.now parts.now
+    ensures value { IfOk result (λ v. v.items ≡ spec.loaded_objects places.now parts.now
         (objects scope.now)) }
     ensures loaded { IfOk result (λ v. AreLoaded v.items) }
 {
@@ -70,7 +70,7 @@ fn words(alloc: Global, meanings: &[Meaning]) -> Result<Vec<Patch>, AllocError>
 /// The bytes for the place of a copy, where there are any, as they stand after the words.
 fn copy_of(
     alloc: Global,
-    loaded: &[Loaded<'_>],
+    loaded: &[LoadedObject<'_>],
     words: &[Patch],
     meaning: &Meaning,
 ) -> Result<Option<Patch>, AllocError>
@@ -91,7 +91,7 @@ fn copy_of(
 #[tactic(auto, unfolding(crate::specs::Linked::copies))]
 fn copies(
     alloc: Global,
-    loaded: &[Loaded<'_>],
+    loaded: &[LoadedObject<'_>],
     words: &[Patch],
     meanings: &[Meaning],
 ) -> Result<Vec<Patch>, AllocError>
@@ -124,7 +124,7 @@ pub fn ordinary<'a>(
     ensures exact { spec.IsOrdinary result (spec.ordinary (objects scope.now) parts.now places.now
         tls.now) }
     ensures objects { IfOk result (λ image. image.objects
-        ≡ spec.loaded places.now parts.now (objects scope.now)) }
+        ≡ spec.loaded_objects places.now parts.now (objects scope.now)) }
 {
     let meanings = meanings(alloc, scope, places, tls)?;
     let loaded = load(alloc, scope, parts, places)?;

@@ -6,12 +6,12 @@ ghost use Rattle.pl_base.specs.Memory as spec;
 ghost use Rattle.pl_image.specs.Image.{all_pieces, AreLoaded};
 
 use pl_base::end;
-use pl_image::{Loaded, Patch, loaded_byte};
+use pl_image::{LoadedObject, Patch, loaded_byte};
 use std::alloc::{AllocError, Global};
 
 /// The byte that objects load at so many addresses after one, 0 where there is none.
 #[tactic(auto, using(crate::proofs::LoadedLaws::none_above))]
-fn byte_after(loaded: &[Loaded<'_>], from: u64, distance: u64) -> u8
+fn byte_after(loaded: &[LoadedObject<'_>], from: u64, distance: u64) -> u8
     requires { AreLoaded loaded.now }
     ensures { result ≡ unwrap_or (spec.layered (all_pieces loaded.now) (from + distance)) 0 }
 {
@@ -25,7 +25,7 @@ fn byte_after(loaded: &[Loaded<'_>], from: u64, distance: u64) -> u8
 #[tactic(auto, unfolding(pl_base::specs::Memory::read))]
 fn read_loaded(
     alloc: Global,
-    loaded: &[Loaded<'_>],
+    loaded: &[LoadedObject<'_>],
     from: u64,
     size: u64,
 ) -> Result<Vec<u8>, AllocError>
@@ -78,7 +78,7 @@ fn lay(patch: &Patch, from: u64, bytes: &mut [u8])
 /// The bytes from an address on of the memory that objects load, with patches over it, one after the other; 0 where there is none. The time grows as the number of patches, and as the number of the bytes times that of the pieces.
 pub fn read(
     alloc: Global,
-    loaded: &[Loaded<'_>],
+    loaded: &[LoadedObject<'_>],
     patches: &[Patch],
     from: u64,
     size: u64,

@@ -14,7 +14,7 @@ use Rattle.pl_folder.specs.declared.TheConstants.{STORED}
 use Rattle.pl_journal.specs.FileNames.{name_text}
 use Rattle.pl_journal.specs.Leaves.{DoEdit, DoEdits}
 use Rattle.pl_journal.specs.Meaning.{Agree, HasNoOwn, Same, row_of, rows_for}
-use Rattle.pl_journal.specs.Names.{beside, is_own, journal, journal_new}
+use Rattle.pl_journal.specs.Names.{beside, is_journal_name, journal, journal_new}
 use Rattle.pl_journal.specs.Parts.{IsReady, ReadsDone, committed, journal_of, stepped, without_journal}
 use Rattle.pl_journal.specs.Phases.{all_staged, shifted}
 use Rattle.pl_journal.specs.Spelling.{are_rows, name_of}
@@ -75,11 +75,11 @@ beside_at i (suc k) (Put m more ∷ edits) w name bytes left holds is = subst (�
 beside_at i (suc k) (Drop m ∷ edits) w name bytes left holds is = subst (λ (j : ℕ). w (beside j) ≡ Some bytes) (omega arith) (beside_at (i + 1) k edits w name bytes left holds is)
 
 -- its name is not one of the journal's own
-name_at : (i k : ℕ) (edits : List Change) (row : Change) (left : List Change) → AreDistinct i (rows_for edits) → row ∷ left ≡ drop k edits → is_own (name_of (row_of row)) ≡ false
+name_at : (i k : ℕ) (edits : List Change) (row : Change) (left : List Change) → AreDistinct i (rows_for edits) → row ∷ left ≡ drop k edits → is_journal_name (name_of (row_of row)) ≡ false
 name_at i zero [] row left distinct is = let no : ⊥ = cc in absurd no
 name_at i zero (edit ∷ edits) row left distinct is =
     let same_row : edit ≡ row = cc in
-    subst (λ (e : Change). is_own (name_of (row_of e)) ≡ false) same_row distinct.0
+    subst (λ (e : Change). is_journal_name (name_of (row_of e)) ≡ false) same_row distinct.0
 name_at i (suc k) [] row left distinct is = let no : ⊥ = cc in absurd no
 name_at i (suc k) (edit ∷ edits) row left distinct is = name_at (i + 1) k edits row left distinct.3 is
 
@@ -106,7 +106,7 @@ row_agree files held new k (Drop name) (PutStep from to) does there is agree = a
 row_agree files held new k (Drop name) (DropStep gone) does there is agree = drop_agree files held new k name gone does is agree
 row_agree files held new k (Drop name) Skip does there is agree = absurd does
 
-row_no_own : (files : Files) (row : Change) → is_own (name_of (row_of row)) ≡ false → HasNoOwn (get files) → HasNoOwn (get (with_row files row))
+row_no_own : (files : Files) (row : Change) → is_journal_name (name_of (row_of row)) ≡ false → HasNoOwn (get files) → HasNoOwn (get (with_row files row))
 row_no_own files (Put name bytes) valid none n own = get-insert nat_list_cmp_total files name bytes n ∙ (λ t. cond (own_not n name own valid t) (Some bytes) (get files n)) ∙ none n own
 row_no_own files (Drop name) valid none n own = get-remove nat_list_cmp_total files name n ∙ (λ t. cond (own_not n name own valid t) None (get files n)) ∙ none n own
 
@@ -200,7 +200,7 @@ row_done {steps = steps} {k = k} {files = files} {held = held} {new = new} row l
     }
 
 pub rows_end : {steps : List Step} {k : ℕ} {files held : Files} (new : Files) → IsUnderWay steps k [] files held → Same (get new) (without_journal (get held)) → HasNoOwn (get new) → new ≡ files
-rows_end {files = files} {held = held} new u is none = equal_files new files (λ n. elim (cases_Bool (is_own n)) [
+rows_end {files = files} {held = held} new u is none = equal_files new files (λ n. elim (cases_Bool (is_journal_name n)) [
   | inl own ↦ none n own ∙ sym (u.no_own n own)
   | inr valid ↦ is n ∙ (λ t. cond (valid_not n journal valid refl t) None (get held n)) ∙ u.agree n valid
 ])

@@ -18,7 +18,7 @@ use Rattle.pl_folder.specs.declared.TheConstants.{STORED}
 use Rattle.pl_folder.specs.declared.fault.FolderFault.TheVariants as folder
 use Rattle.pl_folder.specs.declared.quiet_folder.QuietFolder.{QuietFolder}
 use Rattle.pl_journal.specs.Meaning.{Agree}
-use Rattle.pl_journal.specs.Names.{cache, is_own}
+use Rattle.pl_journal.specs.Names.{cache, is_journal_name}
 use Rattle.pl_journal.proofs.Done.{row_not_own}
 use Rattle.pl_journal.specs.declared.change.Change.{Change}
 use Rattle.pl_loader.specs.Loading.{Loading}
@@ -40,7 +40,7 @@ use Rattle.pl_weave.specs.declared.running.Running.{Running}
 use Rattle.pl_weave.specs.declared.seen.Seen.{Seen}
 
 -- a valid name is not one of the journal's own
-valid_other : (n : List ℕ) → is_valid_name n ≡ true → is_own n ≡ false
+valid_other : (n : List ℕ) → is_valid_name n ≡ true → is_journal_name n ≡ false
 valid_other n valid = row_not_own n (ap (λ (b : Bool). b || same n cache) valid)
 
 -- the file of a name is one and the same in files that agree but for the journal's own

@@ -121,7 +121,7 @@ impl<'p, F: Fn(&Holes, u64, u64) -> Option<u64>> Opening<'p, F> {
         ensures opens { spec.Opens F.post result self.old self.new (T.seen held.old) }
         ensures calls { Calls (ending result) (Asks (spec.asks self.old))
             (T.seen held.old) (T.seen held.new) }
-        ensures place { T.place held.new ≡ T.place held.old }
+        ensures referent { T.referent held.new ≡ T.referent held.old }
         ensures rows { T.rows held.new ≡ T.rows held.old }
         ensures unchanged { OnErr result (self.new ≡ self.old) }
     {

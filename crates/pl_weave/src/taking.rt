@@ -18,7 +18,7 @@ pub fn take<T: Takes>(
     ensures taken { HasTaken name.now result (T.seen held.old) (T.seen held.new) }
     ensures untaken { IfErr result (λ fault. Untaken name.now fault (T.seen held.old)) }
     ensures size { IfOk result (λ file. ForSome file (λ bytes. length bytes.items < 2 ^ 32)) }
-    ensures place { T.place held.new ≡ T.place held.old }
+    ensures referent { T.referent held.new ≡ T.referent held.old }
     ensures rows { T.rows held.new ≡ T.rows held.old }
 {
     if !is_valid_name(name.as_bytes()) {

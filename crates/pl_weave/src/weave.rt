@@ -69,7 +69,7 @@ impl<'p, F: Fn(&Holes, u64, u64) -> Option<u64>> Weave<'p, F> {
         ensures opens { spec.OpensAt F.post result loader self.old self.new (T.seen held.old) }
         ensures calls { Calls (ending result) (Asks (spec.asks_at self.old loader))
             (T.seen held.old) (T.seen held.new) }
-        ensures place { T.place held.new ≡ T.place held.old }
+        ensures referent { T.referent held.new ≡ T.referent held.old }
         ensures rows { T.rows held.new ≡ T.rows held.old }
         ensures unchanged { OnErr result (self.new ≡ self.old) }
     {

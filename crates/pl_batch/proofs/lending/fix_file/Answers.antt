@@ -11,7 +11,7 @@ use Rattle.pl_batch.proofs.lending.fix_file.Goals as goal
 pub returns-clause-fixes : goal.returns-clause-fixes
 returns-clause-fixes g c = then_holds c.fix_held.ensures.fixes (λ choose fixes.
     let call = fixes.calls in
-    let same = first_of _ _ _ _ call.place in
+    let same = first_of _ _ _ _ call.referent in
     let end : g.D.Folder.seen c.fix_held.new.held.folder.folder.now ≡ g.D.Folder.seen c.folder-1.given.0 = search rules in
     record {
       calls = subst (λ (s : Seen). Calls (ending c.fix_held.result) (Commands (fixing_meant choose c.args.name.now) (outcome c.fix_held.result)) (g.D.Folder.seen c.args.folder.now) s) end (returned _ _ call);

@@ -3,7 +3,7 @@ use Rattle.std.specs.List.{concat}
 use Rattle.pl_base.specs.Bytes.{put}
 use Rattle.pl_base.specs.Windows.{◌⊕◌}
 use Rattle.pl_elf.specs.Headers.{header}
-use Rattle.pl_elf.specs.Written.{header_bytes, section_bytes}
+use Rattle.pl_elf.specs.Written.{header_bytes, section_header_bytes}
 use Rattle.pl_elf.specs.declared.header.Header.{Header}
 use Rattle.pl_elf.specs.declared.section.Section.{Section}
 use Rattle.pl_parts.specs.Parts.{up, joined, all_names}
@@ -30,7 +30,7 @@ returns c =
     let length_is : c.len.result ≡ length c.push_ends.new.file.items = omega (arith, c.len.ensures) in
     c.put_header.ensures
     ∙ ap (put 0 (header_bytes c.new_header-header.result))
-    (c.in_ok-push_part.ensures ∙ ap (λ (xs : List ℕ). c.push_ends.new.file.items ⊕ xs) (c.deref-2.ensures.value ∙ c.in_ok-table.ensures ∙ ap (λ (rs : List Section). concat (map section_bytes rs)) c.deref.ensures.value))
+    (c.in_ok-push_part.ensures ∙ ap (λ (xs : List ℕ). c.push_ends.new.file.items ⊕ xs) (c.deref-2.ensures.value ∙ c.in_ok-table.ensures ∙ ap (λ (rs : List Section). concat (map section_header_bytes rs)) c.deref.ensures.value))
     ∙ written c.args.plan.now (original c.args.bytes.now c.args.layout.now) c.args.flat.now c.args.undo.now c.in_ok-file.file.items c.push_ends.new.file.items c.in_ok-rows.rows.items c.new_header-header.result c.requires.fits c.in_ok-file.ensures
     (c.in_ok-rows.ensures.file ∙ ap (λ (xs : List ℕ). joined c.in_ok-file.file.items (c.args.undo.now ∷ all_names xs c.args.plan.now ∷ [])) c.old_names-names.ensures)
     (c.in_ok-rows.ensures.rows ∙ ap (λ (xs : List ℕ). ended_rows (length c.in_ok-file.file.items) xs c.args.plan.now (length c.args.undo.now)) c.old_names-names.ensures)

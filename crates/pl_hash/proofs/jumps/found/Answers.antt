@@ -7,4 +7,4 @@ returns-clause-exact c =
     let t = c.args.table.now in
     let hashes = c.args.hashes.now in
     let qs = c.in_ok-queries.queries.items in
-    if_ok_so _ _ (λ v own i lt. own i lt ∙ own_answers t hashes c.in_ok-first.first.items qs i c.requires c.in_ok-first.ensures c.in_ok-queries.ensures lt) c.all_own.result (rw c.deref-2.ensures.value at c.all_own.ensures.exact)
+    if_ok_so _ _ (λ v own i lt. own i lt ∙ own_answers t hashes c.in_ok-first.first.items qs i c.requires c.in_ok-first.ensures c.in_ok-queries.ensures lt) c.all_reached.result (rw c.deref-2.ensures.value at c.all_reached.ensures.exact)

@@ -3,7 +3,7 @@ use Rattle.pl_init.proofs.GraphLaws.{spread_more, spread_none, spread_all}
 use Rattle.pl_init.proofs.reaching.reached.Goals as goal
 
 pub add_needed-requires-clause-seen : goal.add_needed-requires-clause-seen
-add_needed-requires-clause-seen c = rw c.new-rows.ensures (c.mark.ensures _ c.no_marks-seen.ensures)
+add_needed-requires-clause-seen c = rw c.new-rows.ensures (c.flag.ensures _ c.no_flags-seen.ensures)
 
 pub returns-in_default : goal.returns-in_default
 returns-in_default c = spread_none c.args.graph.now c.args.from _ c.loop-next.next c.loop-next.rows c.loop-next-test.true (sym c.row_at.ensures ∙ c.in_default.is) _ c.loop-next.invariant.so_far

@@ -1,7 +1,7 @@
 use Rattle.pl_init.proofs.RowLaws.{steps_stop, steps_own, steps_other, steps_all, seen_own, seen_other}
 use Rattle.pl_init.proofs.rightness.are_steps.Goals as goal
 use Rattle.pl_init.proofs.rightness.are_steps.Goals.{then-row-member+else-not-is_step, else-row-member}
-use Rattle.pl_init.specs.Marks.{AreMarks}
+use Rattle.pl_init.specs.Flags.{AreFlags}
 use Rattle.pl_init.specs.Found.{is_seen}
 use Rattle.pl_init.specs.Right.{rows_of}
 use Rattle.std.proofs.Common.{Bool, List, take, ◌+◌, subst, sym, arith}
@@ -14,12 +14,12 @@ loop-row-preserved c =
     elim c.if-row-member.branch [
       | then-row-member+else-not-is_step w ↦ record {
         so_far = steps_own c.args.graph.now c.args.member c.loop-row.row-index c.args.rows.now c.loop-row.seen w.is_step.result _ c.loop-row-test.true w.if-row-member.true w.is_step.ensures c.loop-row.invariant.seen w.if-not-is_step.false c.loop-row.invariant.so_far;
-        seen = subst (λ (z : List Bool). AreMarks z (is_seen c.args.member (rows_of (take (c.loop-row.row-index + 1) c.args.rows.now) c.args.member))) (sym w.seen-is)
-            (seen_own c.args.member c.loop-row.row-index c.args.rows.now w.mark.new.marks c.loop-row-test.true w.if-row-member.true (w.mark.ensures (is_seen c.args.member (rows_of (take c.loop-row.row-index c.args.rows.now) c.args.member)) c.loop-row.invariant.seen));
+        seen = subst (λ (z : List Bool). AreFlags z (is_seen c.args.member (rows_of (take (c.loop-row.row-index + 1) c.args.rows.now) c.args.member))) (sym w.seen-is)
+            (seen_own c.args.member c.loop-row.row-index c.args.rows.now w.flag.new.flags c.loop-row-test.true w.if-row-member.true (w.flag.ensures (is_seen c.args.member (rows_of (take c.loop-row.row-index c.args.rows.now) c.args.member)) c.loop-row.invariant.seen));
       }
       | else-row-member w ↦ record {
         so_far = steps_other c.args.graph.now c.args.member c.loop-row.row-index c.args.rows.now _ c.loop-row-test.true w.if-row-member.false c.loop-row.invariant.so_far;
-        seen = subst (λ (z : List Bool). AreMarks z (is_seen c.args.member (rows_of (take (c.loop-row.row-index + 1) c.args.rows.now) c.args.member))) (sym w.seen-is)
+        seen = subst (λ (z : List Bool). AreFlags z (is_seen c.args.member (rows_of (take (c.loop-row.row-index + 1) c.args.rows.now) c.args.member))) (sym w.seen-is)
             (seen_other c.args.member c.loop-row.row-index c.args.rows.now c.loop-row.seen c.loop-row-test.true w.if-row-member.false c.loop-row.invariant.seen);
       }
     ]

@@ -1,5 +1,5 @@
 use Rattle.std.proofs.Common.{take}
-use Rattle.pl_init.specs.Marks.{IsTable}
+use Rattle.pl_init.specs.Flags.{IsTable}
 use Rattle.pl_init.proofs.table.cells_of.Given as goal
 
 abbrev pub invariant-loop-row : goal.invariant-loop-row

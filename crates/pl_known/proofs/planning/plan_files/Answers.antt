@@ -3,9 +3,9 @@ use Rattle.std.proofs.lemmas.Result.{err_from_is_err_and}
 use Rattle.pl_base.specs.Answers.{Answers, AnswersAs}
 use Rattle.pl_cone.specs.declared.known.Known.{Known}
 use Rattle.pl_plan.specs.Faults.{is_memory}
-use Rattle.pl_plan.specs.Planned as plan
+use Rattle.pl_plan.specs.RunPlan as plan
 use Rattle.pl_plan.specs.declared.fault.PlanningFault.{PlanningFault}
-use Rattle.pl_plan.specs.declared.planned.Planned.{Planned}
+use Rattle.pl_plan.specs.declared.run_plan.RunPlan.{RunPlan}
 use Rattle.pl_known.specs.declared.planning.FilesPlan.{FilesPlan}
 use Rattle.pl_known.proofs.PlanLaws.{plan_taken}
 use Rattle.pl_known.proofs.planning.plan_files.Goals as goal
@@ -19,8 +19,8 @@ plan_run-requires-clause-accepted c = rw c.as_slice-2.ensures (c.in_ok-known.ens
 pub plan_run-requires-clause-links : goal.plan_run-requires-clause-links
 plan_run-requires-clause-links c = rw (c.as_slice-2.ensures, c.as_slice-3.ensures) (rw c.as_slice.ensures at c.in_ok-links.ensures)
 
-told : (e : PlanningFault) (a b : Result Planned PlanningFault) → a ≡ b → Answers is_memory (Err e) a → AnswersAs (λ (p : FilesPlan). p.planned) is_memory (Err e) b
-told e a b same h = subst (λ (r : Result Planned PlanningFault). Answers {X = Planned} is_memory (Err e) r) same h
+told : (e : PlanningFault) (a b : Result RunPlan PlanningFault) → a ≡ b → Answers is_memory (Err e) a → AnswersAs (λ (p : FilesPlan). p.planned) is_memory (Err e) b
+told e a b same h = subst (λ (r : Result RunPlan PlanningFault). Answers {X = RunPlan} is_memory (Err e) r) same h
 
 pub returns-in_err-planned-clause-planned : goal.returns-in_err-planned-clause-planned
 returns-in_err-planned-clause-planned c =

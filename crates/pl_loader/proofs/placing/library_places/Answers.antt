@@ -8,8 +8,8 @@ use Rattle.pl_loader.proofs.BesideLaws.{beside_free, wants_are}
 use Rattle.pl_loader.proofs.FileLaws.{wants_asked}
 use Rattle.pl_loader.proofs.placing.library_places.Goals as goal
 
-pub own_places-requires-clause-read : goal.own_places-requires-clause-read
-own_places-requires-clause-read g c = All-tail IsRead c.args.program.now c.args.libraries.now c.requires.files.read
+pub slot_places-requires-clause-read : goal.slot_places-requires-clause-read
+slot_places-requires-clause-read g c = All-tail IsRead c.args.program.now c.args.libraries.now c.requires.files.read
 
 pub policy_places-requires-clause-wants : goal.policy_places-requires-clause-wants
 policy_places-requires-clause-wants g c =
@@ -17,6 +17,6 @@ policy_places-requires-clause-wants g c =
 
 pub returns-clause-free : goal.returns-clause-free
 returns-clause-free g c =
-    beside_free _ c.in_ok-taken.taken.items c.own_places.new.taken.items c.args.libraries.now c.in_ok-own.own.places c.in_ok-own.own.wants c.in_ok-starts.starts.items _
+    beside_free _ c.in_ok-taken.taken.items c.slot_places.new.taken.items c.args.libraries.now c.in_ok-own.own.places c.in_ok-own.own.wants c.in_ok-starts.starts.items _
     (All-tail IsRead c.args.program.now c.args.libraries.now c.requires.files.read) c.requires.files.libraries c.in_ok-taken.ensures c.in_ok-own.ensures.places c.in_ok-own.ensures.wants c.in_ok-own.ensures.taken
     (rw (c.deref.ensures.value, c.as_slice.ensures) at c.in_ok-starts.ensures.free) (rw (c.as_slice-2.ensures, c.deref-2.ensures.value) at c.in_ok-joined.ensures)

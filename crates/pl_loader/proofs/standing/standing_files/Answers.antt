@@ -6,17 +6,17 @@ use Rattle.std.proofs.lemmas.Slice.Zip.{zip_turn, zip_end}
 use Rattle.pl_base.specs.Memory.{AtMostOne, lies}
 use Rattle.pl_elf.specs.declared.constants.TheConstants.{ADDRESS_LIMIT}
 use Rattle.pl_image.specs.Image.{all_pieces, ascends}
-use Rattle.pl_image.specs.declared.loaded.Loaded.{Loaded}
+use Rattle.pl_image.specs.declared.loaded_object.LoadedObject.{LoadedObject}
 use Rattle.pl_loader.specs.Fast.{IsMarked}
 use Rattle.pl_loader.specs.Loading.{IsRead}
 use Rattle.pl_loader.specs.declared.object_file.ObjectFile.{ObjectFile}
 use Rattle.pl_loader.proofs.StandingLaws.{standing_more, standing_done, placed_turn, standing_apart}
 use Rattle.pl_loader.proofs.standing.standing_files.Goals as goal
 
-abbrev Ascends : Loaded → Type 0
+abbrev Ascends : LoadedObject → Type 0
 Ascends o = ascends 0 o.pieces ≡ true
 
-abbrev Fits : Loaded → Type 0
+abbrev Fits : LoadedObject → Type 0
 Fits o = All (λ l. l.start + l.size ≤ ADDRESS_LIMIT) o.mask.loads
 
 pub standing_file-requires-clause-read : goal.standing_file-requires-clause-read
@@ -56,5 +56,5 @@ returns-clause-loaded c =
     record {
       ascend = c.loop-file.invariant.ascend;
       fit = c.loop-file.invariant.fit;
-      apart = subst (λ (ls : List Loaded). AtMostOne lies (all_pieces ls)) (sym whole) (standing_apart c.args.files.now c.args.places.now c.requires.files c.requires.marked c.requires.one_each c.requires.placed);
+      apart = subst (λ (ls : List LoadedObject). AtMostOne lies (all_pieces ls)) (sym whole) (standing_apart c.args.files.now c.args.places.now c.requires.files c.requires.marked c.requires.one_each c.requires.placed);
     }

@@ -1,6 +1,6 @@
 use Rattle.pl_value.specs.declared.fault.OrdinaryFault.TheVariants.{Link}
 use Rattle.pl_conflict.specs.Prelinked.{objects_of, parts_of, slots_of}
-use Rattle.pl_value.specs.Ordinary.{loaded}
+use Rattle.pl_value.specs.Ordinary.{loaded_objects}
 use Rattle.pl_prelinked.proofs.FirmLaws.{one_each, objects_walked}
 use Rattle.pl_prelinked.proofs.ProgramLaws.{link_none}
 use Rattle.pl_prelinked.proofs.WatchedLaws.{have_values}
@@ -12,7 +12,7 @@ meanings_among-requires-clause-one_each c = rw (c.in_ok-places.ensures, c.in_ok-
 pub meanings_among-requires-clause-known : goal.meanings_among-requires-clause-known
 meanings_among-requires-clause-known c =
     let rs = c.args.sources.now in
-    rw (c.in_ok-places.ensures, c.in_ok-scope.ensures, objects_walked rs) (have_values (objects_of rs) (slots_of rs) c.args.modules.now (loaded (slots_of rs) (parts_of rs) (objects_of rs)) c.args.still.now c.requires.still)
+    rw (c.in_ok-places.ensures, c.in_ok-scope.ensures, objects_walked rs) (have_values (objects_of rs) (slots_of rs) c.args.modules.now (loaded_objects (slots_of rs) (parts_of rs) (objects_of rs)) c.args.conflict_free.now c.requires.conflict_free)
 
 pub returns-in-Ok : goal.returns-in-Ok
 returns-in-Ok c = rw (c.in_ok-places.ensures, c.in_ok-scope.ensures, objects_walked c.args.sources.now) at c.in-Ok.ensures.among

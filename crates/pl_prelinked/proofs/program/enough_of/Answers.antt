@@ -1,4 +1,4 @@
 use Rattle.pl_prelinked.proofs.program.enough_of.Goals as goal
 
-pub open_of-requires-clause-still : goal.open_of-requires-clause-still
-open_of-requires-clause-still c = rw c.in-Some.is at c.requires.lent.still
+pub remaining_of-requires-clause-conflict_free : goal.remaining_of-requires-clause-conflict_free
+remaining_of-requires-clause-conflict_free c = rw c.in-Some.is at c.requires.lent.conflict_free

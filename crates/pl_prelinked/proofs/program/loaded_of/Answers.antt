@@ -1,7 +1,7 @@
 use Rattle.std.proofs.Common.{List, ap, ◌∙◌}
 use Rattle.pl_conflict.specs.Prelinked.{originals_of, slots_of}
 use Rattle.pl_object.specs.declared.object.Object.{Object}
-use Rattle.pl_value.specs.Ordinary.{loaded}
+use Rattle.pl_value.specs.Ordinary.{loaded_objects}
 use Rattle.pl_prelinked.proofs.FirmLaws.{one_each, objects_walked, originals_each}
 use Rattle.pl_prelinked.proofs.ProgramLaws.{originals_placed}
 use Rattle.pl_prelinked.proofs.program.loaded_of.Goals as goal
@@ -17,5 +17,5 @@ load-requires-clause-placed c = rw (c.in_ok-parts.ensures, c.in_ok-places.ensure
 
 pub returns-clause-value : goal.returns-clause-value
 returns-clause-value c =
-    let made = rw (c.in_ok-parts.ensures, c.in_ok-places.ensures, c.in_ok-scope.ensures) at c.in_ok-loaded.ensures.value in
-    made ∙ ap (λ (os : List Object). loaded (slots_of c.args.sources.now) (originals_of c.args.sources.now) os) (objects_walked c.args.sources.now)
+    let made = rw (c.in_ok-parts.ensures, c.in_ok-places.ensures, c.in_ok-scope.ensures) at c.in_ok-loaded_objects.ensures.value in
+    made ∙ ap (λ (os : List Object). loaded_objects (slots_of c.args.sources.now) (originals_of c.args.sources.now) os) (objects_walked c.args.sources.now)

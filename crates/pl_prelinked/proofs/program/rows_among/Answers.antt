@@ -1,7 +1,7 @@
 use Rattle.std.proofs.Common.{ap, sym}
 use Rattle.pl_value.specs.declared.fault.OrdinaryFault.TheVariants.{Link}
 use Rattle.pl_conflict.specs.Prelinked.{objects_of, parts_of, slots_of}
-use Rattle.pl_value.specs.Ordinary.{loaded}
+use Rattle.pl_value.specs.Ordinary.{loaded_objects}
 use Rattle.pl_prelinked.specs.Programs.{result_ok}
 use Rattle.pl_prelinked.proofs.FirmLaws.{one_each, objects_walked}
 use Rattle.pl_prelinked.proofs.ProgramLaws.{are_compared, link_none, no_conflicts}
@@ -14,13 +14,13 @@ conflicts_among-requires-clause-one_each c = rw (c.in_ok-places.ensures, c.in_ok
 pub conflicts_among-requires-clause-known : goal.conflicts_among-requires-clause-known
 conflicts_among-requires-clause-known c =
     let rs = c.args.sources.now in
-    rw (c.in_ok-places.ensures, c.in_ok-scope.ensures, objects_walked rs) (have_values (objects_of rs) (slots_of rs) c.args.modules.now (loaded (slots_of rs) (parts_of rs) (objects_of rs)) c.args.still.now c.requires.still)
+    rw (c.in_ok-places.ensures, c.in_ok-scope.ensures, objects_walked rs) (have_values (objects_of rs) (slots_of rs) c.args.modules.now (loaded_objects (slots_of rs) (parts_of rs) (objects_of rs)) c.args.conflict_free.now c.requires.conflict_free)
 
 pub returns-in-Ok : goal.returns-in-Ok
 returns-in-Ok c =
     let rs = c.args.sources.now in
     let rowed = rw (c.in_ok-places.ensures, c.in_ok-scope.ensures, objects_walked rs) at c.in-Ok.ensures.exact in
-    sym (ap result_ok (rowed (parts_of rs) (are_compared rs c.requires.sources c.requires.set) c.requires.still c.requires.held))
+    sym (ap result_ok (rowed (parts_of rs) (are_compared rs c.requires.sources c.requires.set) c.requires.conflict_free c.requires.held))
 
 pub returns-in-Err-Link : goal.returns-in-Err-Link
 returns-in-Err-Link c =

@@ -11,8 +11,8 @@ returns-in_ok-rows_made-in-None c =
     let given = c.requires.given in
     sym (ap result_ok (c.in_ok-rows_made-in-None.ensures c.args.modules.now given.all given.given given.same.rows))
 
-pub rows_among-requires-clause-still : goal.rows_among-requires-clause-still
-rows_among-requires-clause-still c = rw c.in-Some.is at c.requires.lent.still
+pub rows_among-requires-clause-conflict_free : goal.rows_among-requires-clause-conflict_free
+rows_among-requires-clause-conflict_free c = rw c.in-Some.is at c.requires.lent.conflict_free
 
 pub rows_among-requires-clause-held : goal.rows_among-requires-clause-held
 rows_among-requires-clause-held c = rw c.in-Some.is at c.requires.lent.held

@@ -36,18 +36,18 @@ held_words-requires-clause-sources c = own_sources c.args.run.now c.args.link.no
 pub held_words-requires-clause-set : goal.held_words-requires-clause-set
 held_words-requires-clause-set c = set_told c.args.sources.now c.in-Some.words (sym c.in-Some.is ∙ c.in_ok-words.ensures)
 
-pub still_words-requires-clause-sources : goal.still_words-requires-clause-sources
-still_words-requires-clause-sources c = own_sources c.args.run.now c.args.link.now c.args.name.now c.args.sources.now c.requires.run c.requires.own
+pub conflict_free_words-requires-clause-sources : goal.conflict_free_words-requires-clause-sources
+conflict_free_words-requires-clause-sources c = own_sources c.args.run.now c.args.link.now c.args.name.now c.args.sources.now c.requires.run c.requires.own
 
-pub still_words-requires-clause-set : goal.still_words-requires-clause-set
-still_words-requires-clause-set c = set_told c.args.sources.now c.in-Some.words (sym c.in-Some.is ∙ c.in_ok-words.ensures)
+pub conflict_free_words-requires-clause-set : goal.conflict_free_words-requires-clause-set
+conflict_free_words-requires-clause-set c = set_told c.args.sources.now c.in-Some.words (sym c.in-Some.is ∙ c.in_ok-words.ensures)
 
 pub returns : goal.returns
 returns c =
     let rs : List Firm = c.args.sources.now in
     let r : Firm = c.library-item.result in
     let file : List ℕ = c.in-Some-2.file.items in
-    let closed : List Bool = c.args.link.now.closed in
+    let one_word : List Bool = c.args.link.now.one_word in
     let parts : FileParts = record { slot = c.library.inside.slot; stamp = c.library.inside.stamp; digest = c.digest_for-digest.result; list = c.in_ok-list.list; held = c.in_ok-held.held; own = c.in-Some-3.own } in
     let found : Library = record { name = c.args.name; flags = c.in_ok-flags.flags; parts = parts } in
     let rows : c.as_slice-list_rows.result.now ≡ list_after rs = c.as_slice-list_rows.ensures ∙ c.in_ok-list.ensures in
@@ -56,8 +56,8 @@ returns c =
     sym (ap (λ (o : Option (Vec ℕ Global)). option_map (λ (v : Vec ℕ Global). v.items) o) c.in-Some-2.is) ∙ c.in_ok-file.ensures
     ∙ ap (λ (ls : List ListRow). stored (Some (file_with r ls c.as_slice-word_rows.result.now))) rows
     ∙ ap (λ (ws : List (Option ℕ)). stored (Some (file_with r (list_after rs) ws))) c.as_slice-word_rows.ensures in
-    let held : AreHeldIn rs file closed found.flags =
-    subst (λ (bytes : List ℕ). AreHeldIn rs bytes closed found.flags) c.deref-2.ensures.value
+    let held : AreHeldIn rs file one_word found.flags =
+    subst (λ (bytes : List ℕ). AreHeldIn rs bytes one_word found.flags) c.deref-2.ensures.value
     (subst (λ (flags : List Bool). AreHeldIn rs c.deref-2.result.now flags found.flags) c.as_slice-2.ensures c.in_ok-flags.ensures) in
     let holds : AreWordsIn rs file parts.held = subst (λ (bytes : List ℕ). AreWordsIn rs bytes parts.held) c.deref.ensures.value c.in_ok-held.ensures in
     let by : words_by c.as_slice.result.now c.in-Some-3.own ≡ c.as_slice-word_rows.result.now =

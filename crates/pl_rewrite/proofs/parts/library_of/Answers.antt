@@ -1,5 +1,5 @@
 use Rattle.std.proofs.Common.{sym}
-use Rattle.pl_rewrite.proofs.StillLaws.{link_found}
+use Rattle.pl_rewrite.proofs.ConflictFreeLaws.{link_found}
 use Rattle.pl_rewrite.proofs.parts.library_of.Goals as goal
 
 pub library_with-requires-clause-link : goal.library_with-requires-clause-link

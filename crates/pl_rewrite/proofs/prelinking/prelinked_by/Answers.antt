@@ -7,9 +7,9 @@ use Rattle.std.proofs.lemmas.Option.{IfSome_then}
 use Rattle.pl_conflict.specs.Prelinked as form
 use Rattle.pl_conflict.specs.Prelinked.{Firm}
 use Rattle.pl_prelinked.specs.Sources.{AreSources, members}
-use Rattle.pl_rewrite.specs.Members.{AreStillFor, HasOriginal, IsPrelinkable, planned_firms}
+use Rattle.pl_rewrite.specs.Members.{AreConflictFreeFor, HasOriginal, IsPrelinkable, planned_firms}
 use Rattle.pl_rewrite.proofs.OnceLaws.{have_originals}
-use Rattle.pl_rewrite.proofs.StillLaws.{lent_some, still_are, told_are}
+use Rattle.pl_rewrite.proofs.ConflictFreeLaws.{lent_some, conflict_free_are, told_are}
 use Rattle.pl_rewrite.proofs.WalkLaws.{members_are, members_each, sources_are, sources_walked, walk_prelinked}
 use Rattle.pl_rewrite.proofs.prelinking.prelinked_by.Goals as goal
 
@@ -39,11 +39,11 @@ pub prelink_with-requires-clause-lent : goal.prelink_with-requires-clause-lent
 prelink_with-requires-clause-lent c =
     let same : c.as_slice-members.result.now ≡ planned_firms c.args.run.now c.args.scope.now =
     c.as_slice-members.ensures.value ∙ (c.in_ok-sources.ensures ∙ (sources_walked c.args.run.now c.members.result.now ∙ ap (planned_firms c.args.run.now) c.members.ensures.members)) in
-    let known = lent_some _ _ (AreStillFor c.args.run.now c.as_slice-members.result.now) c.lent_still.result c.in_ok-still.still c.lent_still.ensures c.in_ok-still.ensures in
+    let known = lent_some _ _ (AreConflictFreeFor c.args.run.now c.as_slice-members.result.now) c.lent_conflict_free.result c.in_ok-conflict_free.conflict_free c.lent_conflict_free.ensures c.in_ok-conflict_free.ensures in
     record {
       list = c.as_slice.ensures ∙ c.in_ok-list.ensures;
-      still = IfSome_then c.lent_still.result known (λ s are. rw same (still_are c.args.run.now c.args.name.now c.args.scope.now c.requires.run c.requires.candidate c.requires.walk s.now (rw same at are)));
-      held = IfSome_then c.lent_still.result known (λ s are. rw same (told_are c.args.run.now c.args.name.now c.args.scope.now c.requires.run c.requires.candidate c.requires.walk s.now (rw same at are)));
+      conflict_free = IfSome_then c.lent_conflict_free.result known (λ s are. rw same (conflict_free_are c.args.run.now c.args.name.now c.args.scope.now c.requires.run c.requires.candidate c.requires.walk s.now (rw same at are)));
+      held = IfSome_then c.lent_conflict_free.result known (λ s are. rw same (told_are c.args.run.now c.args.name.now c.args.scope.now c.requires.run c.requires.candidate c.requires.walk s.now (rw same at are)));
       digest = c.first_digest.ensures;
     }
 

@@ -3,7 +3,7 @@ use Rattle.std.proofs.lemmas.Result.{err_from_is_err_and}
 use Rattle.pl_base.specs.Each.{run}
 use Rattle.pl_base.specs.Answers.{◌>>=◌}
 use Rattle.pl_base.proofs.RunLaws.{run_more, run_fails, run_done}
-use Rattle.pl_slots.specs.declared.planned.Planned.{Planned}
+use Rattle.pl_slots.specs.declared.partial_plan.PartialPlan.{PartialPlan}
 use Rattle.pl_slots.specs.declared.fault.PlanFault.{PlanFault}
 use Rattle.pl_slots.specs.Plan.{plan, next, kept_holes, is_memory}
 use Rattle.pl_slots.proofs.PlanLaws.{then_fails}
@@ -25,4 +25,4 @@ loop-want-preserved c =
 pub returns : goal.returns
 unfolding plan
 returns c =
-    ap (λ (r : Result Planned PlanFault). r >>= λ planned. Ok planned.rows) (run_done (next c.args.kept.now c.args.region) c.loop-want.planned c.args.wants.now c.loop-want.want-index _ c.loop-want-test.false c.loop-want.invariant)
+    ap (λ (r : Result PartialPlan PlanFault). r >>= λ planned. Ok planned.rows) (run_done (next c.args.kept.now c.args.region) c.loop-want.planned c.args.wants.now c.loop-want.want-index _ c.loop-want-test.false c.loop-want.invariant)

@@ -6,7 +6,7 @@ use Rattle.pl_base.specs.Memory.{AtMostOne, lies}
 use Rattle.pl_elf.specs.declared.constants.TheConstants.{ADDRESS_LIMIT}
 use Rattle.pl_image.specs.Image.{all_pieces, ascends}
 use Rattle.pl_image.specs.Loads.{loaded_at}
-use Rattle.pl_image.specs.declared.loaded.Loaded.{Loaded}
+use Rattle.pl_image.specs.declared.loaded_object.LoadedObject.{LoadedObject}
 use Rattle.pl_object.specs.declared.object.Object.{Object}
 use Rattle.pl_scope.specs.Scope.{objects}
 use Rattle.pl_scope.proofs.MemberLaws.{length_objects}
@@ -14,14 +14,14 @@ use Rattle.pl_value.specs.Ordinary.{part_of}
 use Rattle.pl_value.proofs.OrdinaryLaws.{placed_at, loaded_step, loaded_whole}
 use Rattle.pl_value.proofs.images.load.Goals as goal
 
-abbrev Ascends : Loaded → Type 0
+abbrev Ascends : LoadedObject → Type 0
 Ascends o = ascends 0 o.pieces ≡ true
 
-abbrev Fits : Loaded → Type 0
+abbrev Fits : LoadedObject → Type 0
 Fits o = All (λ l. l.start + l.size ≤ ADDRESS_LIMIT) o.mask.loads
 
 -- the file of a member is its part
-loads_is : (parts : List (List ℕ)) (files : List (Bor (List ℕ))) (i : ℕ) (d : Bor (List ℕ)) (place base : ℕ) (o : Object) (x : Loaded) → i < length parts → map (λ (b : Bor (List ℕ)). b.now) files ≡ parts → place ≡ base → x ≡ loaded_at place (get_or files i d).now o → x ≡ loaded_at base (part_of parts i) o
+loads_is : (parts : List (List ℕ)) (files : List (Bor (List ℕ))) (i : ℕ) (d : Bor (List ℕ)) (place base : ℕ) (o : Object) (x : LoadedObject) → i < length parts → map (λ (b : Bor (List ℕ)). b.now) files ≡ parts → place ≡ base → x ≡ loaded_at place (get_or files i d).now o → x ≡ loaded_at base (part_of parts i) o
 loads_is parts files i d place base o x lt same at is =
     let now : Bor (List ℕ) → List ℕ = λ (b : Bor (List ℕ)). b.now in
     let few : i < length files = omega (arith, lt, ap length same, length-map files now) in
@@ -51,5 +51,5 @@ returns-clause-loaded c =
     record {
       ascend = c.loop-member.invariant.ascend;
       fit = c.loop-member.invariant.fit;
-      apart = subst (λ (ls : List Loaded). AtMostOne lies (all_pieces ls)) (sym whole) c.requires.placed.apart;
+      apart = subst (λ (ls : List LoadedObject). AtMostOne lies (all_pieces ls)) (sym whole) c.requires.placed.apart;
     }

@@ -23,7 +23,7 @@ recorded : (folder : MemoryFolder) (moment : ℕ) → moment ≤ clock (folder_d
 recorded folder moment within = omega (arith, within, clock_after folder.past.items (started_with folder.first))
 
 abbrev seen_of : FileTable → Seen
-seen_of files = record { tells = true; records = true; files = table_files files; disk = started_with files; faults = 0; place = 0 }
+seen_of files = record { tells = true; records = true; files = table_files files; disk = started_with files; faults = 0; referent = 0 }
 
 pub slice_bounds-call-items-end : goal.slice_bounds-call-items-end
 slice_bounds-call-items-end c =

@@ -17,7 +17,7 @@ pub returns-in_err-call-clause-calls : goal.returns-in_err-call-clause-calls
 returns-in_err-call-clause-calls c = passed c.from_residual.result Failed c.from_residual.ensures.1 (record {
   tells = refl;
   records = refl;
-  place = refl;
+  referent = refl;
   files = λ told. (0, omega arith, ap table_files c.call.ensures.same.0 ∙ sym (none_more (folder_files c.args.self.now) c.args.name.now c.args.bytes.now c.requires.there));
   disk = λ told. inl c.in_err-call.ensures.waited;
   count = c.in_err-call.ensures.count;
@@ -35,7 +35,7 @@ pub returns-clause-calls : goal.returns-clause-calls
 returns-clause-calls c = record {
   tells = refl;
   records = refl;
-  place = refl;
+  referent = refl;
   files = λ told. c.in_ok-append.ensures.ok ∙ ap (λ t. appended (table_files t) c.args.name.now c.args.bytes.now) c.in_ok-call.ensures.same.0;
   disk = λ told.
       disk_after c.args.self.now c.call.new.self (Append c.new-name.result c.in_ok-more.more) c.record.new.past.items c.record.ensures.items c.in_ok-call.ensures.open.0 c.in_ok-call.ensures.same.1

@@ -20,7 +20,7 @@ pub returns-clause-calls : goal.returns-clause-calls
 returns-clause-calls c = record {
   tells = refl;
   records = refl;
-  place = refl;
+  referent = refl;
   files = λ told. c.in_ok-create.ensures.ok ∙ ap (λ t. created (table_files t) c.args.name.now) c.in_ok-call.ensures.same.0;
   disk = λ told.
       disk_after c.args.self.now c.call.new.self (Create c.new-name.result) c.record.new.past.items c.record.ensures.items c.in_ok-call.ensures.open.0 c.in_ok-call.ensures.same.1

@@ -19,7 +19,7 @@ pub returns-clause-calls : goal.returns-clause-calls
 returns-clause-calls c = record {
   tells = refl;
   records = refl;
-  place = refl;
+  referent = refl;
   files = λ told. ap table_files c.in_ok-call.ensures.same.0;
   disk = λ told.
       disk_after c.args.self.now c.call.new.self (Firm c.new-name.result) c.record.new.past.items c.record.ensures.items c.in_ok-call.ensures.open.0 c.in_ok-call.ensures.same.1

@@ -20,7 +20,7 @@ pub returns-clause-calls : goal.returns-clause-calls
 returns-clause-calls c = record {
   tells = refl;
   records = refl;
-  place = refl;
+  referent = refl;
   files = λ told. c.remove.ensures ∙ ap (λ t. remove (table_files t) c.args.name.now) c.in_ok-call.ensures.same.0;
   disk = λ told.
       disk_after c.args.self.now c.call.new.self (Remove c.new-name.result) c.record.new.past.items c.record.ensures.items c.in_ok-call.ensures.open.0 c.in_ok-call.ensures.same.1

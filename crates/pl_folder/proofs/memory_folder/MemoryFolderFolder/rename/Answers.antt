@@ -23,7 +23,7 @@ pub returns-clause-calls : goal.returns-clause-calls
 returns-clause-calls c = record {
   tells = refl;
   records = refl;
-  place = refl;
+  referent = refl;
   files = λ told. c.rename.ensures ∙ ap (λ t. renamed (table_files t) c.args.from.now c.args.to.now) c.in_ok-call.ensures.same.0;
   disk = λ told.
       disk_after c.args.self.now c.call.new.self (Rename c.new-from.result c.new-to.result) c.record.new.past.items c.record.ensures.items c.in_ok-call.ensures.open.0 c.in_ok-call.ensures.same.1

@@ -1,7 +1,0 @@
-use Rattle.std.proofs.Common.{◌≡◌, drop}
-use Rattle.std.specs.List.{fold}
-use Rattle.pl_build.specs.Strings.{symbol_added, symbols_added}
-use Rattle.pl_build.proofs.strings.add_symbols.Given as goal
-
-abbrev pub invariant-loop-symbol : goal.invariant-loop-symbol
-invariant-loop-symbol l = fold symbol_added l.strings (drop l.symbol-index l.symbols) ≡ symbols_added l.fn.strings l.symbols

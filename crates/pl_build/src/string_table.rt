@@ -1,0 +1,203 @@
+// A table of strings.
+ghost use Rattle.std.specs.Prelude.{◌≡◌, IfOk, find};
+ghost use Rattle.std.specs.List.{list_any};
+ghost use Rattle.std.specs.Option.{option_copied};
+ghost use Rattle.pl_build.specs.StringTable as spec;
+
+use crate::line::SymbolLine;
+use crate::names::is;
+use crate::needed::{Need, is_of};
+use crate::roles::{Role, section_name};
+use crate::words::copy_of;
+use pl_base::Rows;
+use std::alloc::{AllocError, Global};
+
+/// A text of the table, and where it begins.
+#[derive(Drop)]
+pub struct Entry {
+    pub text: Rows<u8>,
+    pub at: u64,
+}
+
+/// The table: its bytes, and its texts in their order.
+#[derive(Drop)]
+pub struct StringTable {
+    pub bytes: Rows<u8>,
+    pub entries: Rows<Entry>,
+}
+
+/// The table of no text.
+pub fn start(alloc: Global) -> Result<StringTable, AllocError>
+    ensures { IfOk result (λ s. s ≡ spec.start) }
+{
+    Ok(StringTable {
+        bytes: copy_of(alloc, b"\0")?,
+        entries: Rows::new(alloc),
+    })
+}
+
+fn has_text(entry: &Entry, text: &[u8]) -> bool
+    ensures { result ≡ spec.has_text text.now entry.now }
+{
+    is(entry.text.as_slice(), text)
+}
+
+fn has(entries: &[Entry], text: &[u8]) -> bool
+    ensures { result ≡ list_any (spec.has_text text.now) entries.now }
+{
+    entries.iter().any(|entry| has_text(entry, text))
+}
+
+fn with_text(bytes: Rows<u8>, text: &[u8]) -> Result<Rows<u8>, AllocError>
+    ensures { IfOk result (λ v. v ≡ spec.ended bytes text.now) }
+{
+    let mut bytes = bytes.into_vec();
+    bytes.extend_from_slice(text)?;
+    bytes.push(0)?;
+    Ok(Rows::from_vec(bytes))
+}
+
+/// One text more, unless it is empty or there already.
+#[tactic(auto, unfolding(crate::specs::StringTable::text_added))]
+pub fn add_text(alloc: Global, strings: StringTable, text: &[u8]) -> Result<StringTable, AllocError>
+    ensures { IfOk result (λ s. s ≡ spec.text_added strings text.now) }
+{
+    if text.is_empty() || has(strings.entries.as_slice(), text) {
+        return Ok(strings);
+    }
+    let StringTable { bytes, entries } = strings;
+    let mut entries = entries;
+    entries.push(Entry {
+        text: copy_of(alloc, text)?,
+        at: bytes.len() as u64,
+    })?;
+    Ok(StringTable {
+        bytes: with_text(bytes, text)?,
+        entries,
+    })
+}
+
+fn find_text<'a>(entries: &'a [Entry], text: &[u8]) -> Option<&'a Entry>
+    ensures { option_copied result ≡ find (spec.has_text text.now) entries.now }
+{
+    entries.iter().find(|entry| has_text(entry, text))
+}
+
+/// Where a text begins. The empty one begins at 0.
+#[tactic(auto, unfolding(crate::specs::StringTable::text_at))]
+pub fn text_at(strings: &StringTable, text: &[u8]) -> u64
+    ensures { result ≡ spec.text_at strings.now text.now }
+{
+    match find_text(strings.entries.as_slice(), text) {
+        Some(entry) => entry.at,
+        None => 0,
+    }
+}
+
+/// Texts more.
+#[tactic(auto, unfolding(crate::specs::StringTable::texts_added))]
+pub fn add_texts(
+    alloc: Global,
+    strings: StringTable,
+    texts: &[Rows<u8>],
+) -> Result<StringTable, AllocError>
+    ensures { IfOk result (λ s. s ≡ spec.texts_added strings texts.now) }
+{
+    let mut strings = strings;
+    for text in texts {
+        strings = add_text(alloc, strings, text.as_slice())?;
+    }
+    Ok(strings)
+}
+
+/// The names of symbols.
+#[tactic(auto, unfolding(crate::specs::StringTable::symbols_added))]
+pub fn add_symbols(
+    alloc: Global,
+    strings: StringTable,
+    symbols: &[SymbolLine],
+) -> Result<StringTable, AllocError>
+    ensures { IfOk result (λ s. s ≡ spec.symbols_added strings symbols.now) }
+{
+    let mut strings = strings;
+    for symbol in symbols {
+        strings = add_text(alloc, strings, symbol.name.as_slice())?;
+    }
+    Ok(strings)
+}
+
+/// The versions of a recipe, behind the name of their base.
+#[tactic(auto, unfolding(crate::specs::StringTable::versions_added))]
+pub fn add_versions(
+    alloc: Global,
+    strings: StringTable,
+    versions: &[Rows<u8>],
+) -> Result<StringTable, AllocError>
+    ensures { IfOk result (λ s. s ≡ spec.versions_added strings versions.now) }
+{
+    if versions.len() == 0 {
+        return Ok(strings);
+    }
+    let strings = add_text(alloc, strings, b"base")?;
+    add_texts(alloc, strings, versions)
+}
+
+fn add_need(
+    alloc: Global,
+    strings: StringTable,
+    file: &[u8],
+    need: &Need,
+) -> Result<StringTable, AllocError>
+    ensures { IfOk result (λ s. s ≡ spec.need_text_added file.now strings need.now) }
+{
+    if is_of(file, need) {
+        add_text(alloc, strings, need.version.as_slice())
+    } else {
+        Ok(strings)
+    }
+}
+
+#[tactic(auto, unfolding(crate::specs::StringTable::file_texts_added))]
+fn add_file(
+    alloc: Global,
+    strings: StringTable,
+    needs: &[Need],
+    file: &[u8],
+) -> Result<StringTable, AllocError>
+    ensures { IfOk result (λ s. s ≡ spec.file_texts_added needs.now strings file.now) }
+{
+    let mut strings = add_text(alloc, strings, file)?;
+    for need in needs {
+        strings = add_need(alloc, strings, file, need)?;
+    }
+    Ok(strings)
+}
+
+/// The names of files, each before the versions that are needed of it.
+#[tactic(auto, unfolding(crate::specs::StringTable::files_added))]
+pub fn add_files(
+    alloc: Global,
+    strings: StringTable,
+    needs: &[Need],
+    files: &[Rows<u8>],
+) -> Result<StringTable, AllocError>
+    ensures { IfOk result (λ s. s ≡ spec.files_added needs.now strings files.now) }
+{
+    let mut strings = strings;
+    for file in files {
+        strings = add_file(alloc, strings, needs, file.as_slice())?;
+    }
+    Ok(strings)
+}
+
+/// The names of sections.
+#[tactic(auto, unfolding(crate::specs::StringTable::section_names))]
+pub fn section_names(alloc: Global, roles: &[Role]) -> Result<StringTable, AllocError>
+    ensures { IfOk result (λ s. s ≡ spec.section_names roles.now) }
+{
+    let mut strings = start(alloc)?;
+    for role in roles {
+        strings = add_text(alloc, strings, section_name(*role))?;
+    }
+    Ok(strings)
+}
