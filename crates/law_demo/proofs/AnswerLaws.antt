@@ -25,7 +25,7 @@ use Rattle.pl_elf.specs.declared.constants.TheConstants.{ET_DYN, PT_INTERP}
 use Rattle.pl_elf.specs.declared.header.Header.{Header}
 use Rattle.pl_elf.specs.declared.kind.Kind.{Kind}
 use Rattle.pl_elf.specs.declared.kind.Kind.TheVariants.{Library, Program, Static}
-use Rattle.pl_fix.specs.Fixing.{placed, placed_by}
+use Rattle.pl_pie.specs.Placed.{placed, placed_by}
 use Rattle.pl_folder.specs.declared.TheConstants as folders
 use Rattle.pl_form.specs.Marks.{IsFormOf}
 use Rattle.pl_form.specs.declared.constants.TheConstants as forms
@@ -40,16 +40,16 @@ use Rattle.pl_object.specs.Reads.{has_flag}
 use Rattle.pl_object.specs.Tables.{has_tag}
 use Rattle.pl_object.specs.declared.object.Object.{Object}
 use Rattle.pl_object.specs.declared.refusal.Refusal.{Refusal}
-use Rattle.pl_parts.specs.Forms.{original_of}
-use Rattle.pl_parts.specs.Parts.{new_header}
-use Rattle.pl_parts.specs.declared.parts.FormPlan.{FormPlan}
-use Rattle.pl_parts.proofs.FormLaws.{form_header}
+use Rattle.pl_form.specs.Forms.{original_of}
+use Rattle.pl_form.specs.Parts.{new_header}
+use Rattle.pl_form.specs.declared.parts.FormPlan.{FormPlan}
+use Rattle.pl_form.proofs.FormLaws.{form_header}
 use Rattle.law_loads.specs.Paths.{GivesFrom}
 use Rattle.pl_pie.specs.Pie.{as_program, is_laid_out, is_linked, is_marked, is_pie, pie, pie_by}
 use Rattle.pl_scope.proofs.ClosureLaws.{walk_is}
 use Rattle.pl_scope.proofs.NameLaws.{same_name}
-use Rattle.pl_sound.specs.Rule.{Mark, mark_at, objects}
-use Rattle.pl_sound.proofs.Matching.{Matches, tells_is}
+use Rattle.law_sound.specs.Rule.{Mark, mark_at, objects}
+use Rattle.law_sound.proofs.Matching.{Matches, tells_is}
 use Rattle.pl_words.specs.declared.command.Policy.{Policy}
 use Rattle.law_demo.specs.Clear.{IsProgram}
 use Rattle.law_demo.specs.Fast.{MatchedLoadsAreFast}

@@ -20,8 +20,8 @@ use Rattle.pl_elf.specs.declared.segment.Segment.{Segment}
 use Rattle.pl_object.specs.FilePart.{in_file_part, loaded}
 use Rattle.pl_object.specs.Reads.{dynamic}
 use Rattle.pl_object.specs.Tables.{dynamic_memory}
-use Rattle.pl_parts.specs.Found.{has_dynamic_table}
-use Rattle.pl_parts.specs.declared.constants.TheConstants.{UNDO_NAME}
+use Rattle.pl_form.specs.Found.{has_dynamic_table}
+use Rattle.pl_form.specs.declared.section_names.TheConstants.{UNDO_NAME}
 use Rattle.pl_form.specs.Files.{marked_in}
 use Rattle.pl_form.specs.Marks.{has_mark, has_prelink_tag, has_undo_name, is_prelink, is_undo_name}
 use Rattle.pl_form.specs.declared.file.Marked.{Marked}

@@ -33,14 +33,14 @@ use Rattle.pl_scope.specs.Walk.{Walked}
 use Rattle.pl_scope.proofs.ClosureLaws.{WalkTells, walk_is}
 use Rattle.pl_scope.proofs.NameLaws.{has_at, has_cons, has_head, has_step, has_tail}
 use Rattle.pl_scope.proofs.WalkedLaws.{member_file}
-use Rattle.pl_sound.specs.Plan.{fits, is_candidate, links_as}
-use Rattle.pl_sound.specs.Rule.{Files, Format, object_at, objects, original_at, walk_in}
+use Rattle.law_sound.specs.Plan.{fits, is_candidate, links_as}
+use Rattle.law_sound.specs.Rule.{Files, Format, object_at, objects, original_at, walk_in}
 use Rattle.pl_conflict.specs.Format.{format, read_original}
 use Rattle.pl_cone.specs.declared.skip.Skip.{Skip}
-use Rattle.pl_known.specs.Faults.{fault_in}
-use Rattle.pl_known.specs.Fits.{fit_in, links, resolves}
-use Rattle.pl_known.specs.Skips.{skip_causes}
-use Rattle.pl_known.proofs.LinkLaws.{each_read}
+use Rattle.pl_rewrite.specs.Faults.{fault_in}
+use Rattle.pl_rewrite.specs.Fits.{fit_in, links, resolves}
+use Rattle.pl_rewrite.specs.Skips.{skip_causes}
+use Rattle.pl_rewrite.proofs.LinkLaws.{each_read}
 use Rattle.pl_build.specs.declared.kind.FileKind.{FileKind}
 use Rattle.pl_build.specs.declared.kind.FileKind.TheVariants.{Library, Pie, Program, Static}
 use Rattle.pl_build.specs.declared.layout.Tables.{Tables}

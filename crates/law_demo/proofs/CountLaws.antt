@@ -10,7 +10,7 @@ use Rattle.pl_base.proofs.AnswerLaws.{ok_same}
 use Rattle.pl_cone.specs.declared.skip.Skip.{Skip}
 use Rattle.pl_conflict.specs.Format.{format}
 use Rattle.pl_elf.specs.declared.range.Range.{Range}
-use Rattle.pl_known.specs.Skips.{skip_causes}
+use Rattle.pl_rewrite.specs.Skips.{skip_causes}
 use Rattle.pl_object.specs.Reads.{object, reads}
 use Rattle.pl_object.specs.declared.object.Object.{Object}
 use Rattle.pl_object.specs.declared.reloc.Reloc.{Reloc}
@@ -39,7 +39,7 @@ use Rattle.pl_scope.specs.Walk.{Walked}
 use Rattle.pl_scope.proofs.NameLaws.{has_head, has_tail}
 use Rattle.pl_scope.proofs.StepLaws.{walk_short}
 use Rattle.pl_scope.proofs.WalkedLaws.{limit_is, member_file}
-use Rattle.pl_sound.specs.Rule.{Files, Format, objects, walk_in}
+use Rattle.law_sound.specs.Rule.{Files, Format, objects, walk_in}
 use Rattle.law_demo.proofs.LengthLaws.{relocations_in}
 
 -- ---- of a recipe

@@ -45,13 +45,13 @@ use Rattle.pl_gen.specs.Lines.{program_name}
 use Rattle.pl_gen.specs.Set as drawn
 use Rattle.pl_journal.specs.Meaning.{applied}
 use Rattle.pl_journal.specs.declared.change.Change.{Change}
-use Rattle.pl_known.specs.Skips.{skip_causes}
+use Rattle.pl_rewrite.specs.Skips.{skip_causes}
 use Rattle.pl_rewrite.specs.Changes.{from_scratch}
 use Rattle.pl_rewrite.proofs.SoundLaws.{next_is_from_scratch}
 use Rattle.pl_scope.specs.Members.{has}
 use Rattle.pl_scope.proofs.NameLaws.{has_cons, has_head, has_tail}
-use Rattle.pl_sound.specs.Rule.{Files, Mark, original_at}
-use Rattle.pl_sound.proofs.Matching.{Matches, rule_in}
+use Rattle.law_sound.specs.Rule.{Files, Mark, original_at}
+use Rattle.law_sound.proofs.Matching.{Matches, rule_in}
 use Rattle.pl_words.specs.declared.command.Policy.TheVariants.{Lowest}
 use Rattle.law_demo.specs.Candidates.{IsKnownFile, IsProgramFile}
 use Rattle.law_demo.specs.SetFiles.{library_names}

@@ -47,10 +47,10 @@ use Rattle.pl_scope.specs.Members.{has, names, others}
 use Rattle.pl_scope.specs.Walk.{Walked}
 use Rattle.pl_scope.proofs.ClosureLaws.{walk_is}
 use Rattle.pl_scope.proofs.NameLaws.{has_head, has_tail}
-use Rattle.pl_sound.specs.Rule as sound
-use Rattle.pl_sound.specs.Rule.{Files, Member, is_marked, mark_at, matches, member_at, object_at, objects, of_walk, prelinked_in, walk_in}
-use Rattle.pl_sound.proofs.Matching.{Matches, members_are, tells_is}
-use Rattle.pl_sound.proofs.RuleLaws.{first_is, is_other}
+use Rattle.law_sound.specs.Rule as sound
+use Rattle.law_sound.specs.Rule.{Files, Member, is_marked, mark_at, matches, member_at, object_at, objects, of_walk, prelinked_in, walk_in}
+use Rattle.law_sound.proofs.Matching.{Matches, members_are, tells_is}
+use Rattle.law_sound.proofs.RuleLaws.{first_is, is_other}
 use Rattle.pl_tls.specs.Layout.{offsets}
 use Rattle.pl_tls.specs.declared.block.Block.{Block}
 use Rattle.pl_tls.specs.declared.module.Module.{Module}

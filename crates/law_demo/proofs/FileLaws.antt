@@ -14,7 +14,7 @@ use Rattle.pl_base.proofs.WindowLaws.{length-put}
 use Rattle.pl_base.proofs.WordLaws.{length_bytes64}
 use Rattle.pl_elf.specs.declared.segment.Segment.{Segment}
 use Rattle.pl_elf.specs.Written as written
-use Rattle.pl_parts.proofs.HeadLaws.{length-segment}
+use Rattle.pl_form.proofs.HeadLaws.{length-segment}
 use Rattle.pl_build.specs.declared.checks.Fault.{Fault}
 use Rattle.pl_build.specs.declared.fields.Field.{Field}
 use Rattle.pl_build.specs.declared.layout.Tables.{Tables}

@@ -20,12 +20,12 @@ use Rattle.law_folder.proofs.NextLemmas.{gives_next}
 use Rattle.law_folder.proofs.PlanLemmas.{are_names}
 use Rattle.law_folder.proofs.WantLemmas.{candidate_slot, slot_start}
 use Rattle.pl_journal.specs.Meaning.{applied}
-use Rattle.pl_known.specs.Plans.{is_candidate, planned}
-use Rattle.pl_known.specs.Skips.{skip_causes}
+use Rattle.pl_rewrite.specs.Plans.{is_candidate, planned}
+use Rattle.pl_rewrite.specs.Skips.{skip_causes}
 use Rattle.pl_loader.specs.Places.{kept_free, misses}
 use Rattle.pl_object.specs.declared.object.Object.{Object}
-use Rattle.pl_plan.specs.declared.asked.Asked.{Asked}
-use Rattle.pl_plan.specs.declared.run_plan.RunPlan.{RunPlan}
+use Rattle.pl_cone.specs.declared.asked.Asked.{Asked}
+use Rattle.pl_cone.specs.declared.run_plan.RunPlan.{RunPlan}
 use Rattle.pl_rewrite.specs.Changes.{from_scratch, numbers}
 use Rattle.pl_rewrite.specs.Laws.{AreNames}
 use Rattle.pl_rewrite.proofs.SoundLaws.{next_is_from_scratch}
@@ -34,8 +34,8 @@ use Rattle.pl_scope.specs.Walk.{Walked}
 use Rattle.pl_scope.proofs.NameLaws.{has_head, has_tail}
 use Rattle.pl_slots.specs.Plan.{lies_in}
 use Rattle.pl_slots.specs.declared.slot.Slot.{Slot}
-use Rattle.pl_sound.specs.Plan as sound
-use Rattle.pl_sound.specs.Rule.{Files, objects}
+use Rattle.law_sound.specs.Plan as sound
+use Rattle.law_sound.specs.Rule.{Files, objects}
 use Rattle.law_demo.specs.Clear.{are_clear, has_free_slots, is_clear, loaded_by}
 use Rattle.law_demo.specs.Fast.{FilesOffTheRegionAreClear}
 use Rattle.law_demo.proofs.RunLaws.{IsWalkAfter, after_next, walk_after}

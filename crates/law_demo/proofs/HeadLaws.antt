@@ -12,7 +12,7 @@ use Rattle.pl_elf.specs.declared.segment.Segment.{Segment}
 use Rattle.pl_elf.specs.Headers as elf
 use Rattle.pl_elf.specs.Written as written
 use Rattle.pl_elf.proofs.WrittenLaws.{header_read, segment_read, section_read}
-use Rattle.pl_parts.proofs.HeadLaws.{header_part, segment_part, section_part, length-segment, length-section}
+use Rattle.pl_form.proofs.HeadLaws.{header_part, segment_part, section_part, length-segment, length-section}
 use Rattle.pl_build.specs.declared.layout.Tables.{Tables}
 use Rattle.pl_build.specs.declared.layout_plan.LayoutPlan.{LayoutPlan}
 use Rattle.pl_build.specs.declared.recipe.Recipe.{Recipe}

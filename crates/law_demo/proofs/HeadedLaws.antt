@@ -18,7 +18,7 @@ use Rattle.pl_elf.specs.Written as written
 use Rattle.pl_elf.specs.declared.header.Header.{Header}
 use Rattle.pl_elf.specs.declared.section.Section.{Section}
 use Rattle.pl_elf.specs.declared.segment.Segment.{Segment}
-use Rattle.pl_parts.proofs.HeadLaws.{length-section}
+use Rattle.pl_form.proofs.HeadLaws.{length-section}
 use Rattle.pl_build.specs.declared.layout.Tables.{Tables}
 use Rattle.pl_build.specs.declared.layout_plan.LayoutPlan.{LayoutPlan}
 use Rattle.pl_build.specs.declared.recipe.Recipe.{Recipe}

@@ -20,19 +20,19 @@ use Rattle.pl_object.specs.FilePart.{file_window}
 use Rattle.pl_object.specs.PlaceClauses.{last_load}
 use Rattle.pl_object.specs.Tables.{strings_memory}
 use Rattle.pl_object.specs.declared.object.Object.{Object}
-use Rattle.pl_parts.proofs.FinalTheorem.{program_conditions}
-use Rattle.pl_parts.proofs.FormLaws.{form_length}
-use Rattle.pl_parts.proofs.KindLaws.{program_fits, section_count}
-use Rattle.pl_parts.proofs.ReaderLaws.{readable}
-use Rattle.pl_parts.proofs.WholeTheorem.{taken}
-use Rattle.pl_parts.specs.Back.{head_windows, wanted}
-use Rattle.pl_parts.specs.Fits.{Fits}
-use Rattle.pl_parts.specs.Forms as forms
-use Rattle.pl_parts.specs.Forms.{original_of, planned, undo_part}
-use Rattle.pl_parts.specs.Found.{d_of, ps_of, ss_of, tags_of}
-use Rattle.pl_parts.specs.Law.{IsDigest}
-use Rattle.pl_parts.specs.Parts.{extension, joined_size, names_part, old_names, program_plan, program_section, program_sections}
-use Rattle.pl_parts.specs.declared.parts.Extension.{Extension}
+use Rattle.pl_form.proofs.FinalTheorem.{program_conditions}
+use Rattle.pl_form.proofs.FormLaws.{form_length}
+use Rattle.pl_form.proofs.KindLaws.{program_fits, section_count}
+use Rattle.pl_form.proofs.ReaderLaws.{readable}
+use Rattle.pl_form.proofs.WholeTheorem.{taken}
+use Rattle.pl_form.specs.Back.{head_windows, wanted}
+use Rattle.pl_form.specs.Fits.{Fits}
+use Rattle.pl_form.specs.Forms as forms
+use Rattle.pl_form.specs.Forms.{original_of, planned, undo_part}
+use Rattle.pl_form.specs.Found.{d_of, ps_of, ss_of, tags_of}
+use Rattle.pl_form.specs.PartLaws.{IsDigest}
+use Rattle.pl_form.specs.Parts.{extension, joined_size, names_part, old_names, program_plan, program_section, program_sections}
+use Rattle.pl_form.specs.declared.parts.Extension.{Extension}
 use Rattle.sha2.proofs.Facts256.{length-sha256}
 use Rattle.sha2.specs.Sha256.{sha256}
 use Rattle.pl_form.specs.Extending.{IsShort}

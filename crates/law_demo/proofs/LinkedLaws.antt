@@ -13,8 +13,8 @@ use Rattle.pl_tls.specs.declared.module.Module.{Module}
 use Rattle.pl_lists.specs.Lists.{ended_name, is_row, list_strings}
 use Rattle.pl_lists.specs.declared.list_row.ListRow.{ListRow}
 use Rattle.pl_object.proofs.AcceptedLaws.{accepted}
-use Rattle.pl_parts.specs.Back.{wanted}
-use Rattle.pl_parts.specs.Found.{ps_of}
+use Rattle.pl_form.specs.Back.{wanted}
+use Rattle.pl_form.specs.Found.{ps_of}
 use Rattle.pl_form.specs.Program.{program_with}
 use Rattle.pl_form.specs.Words.{flat_of}
 use Rattle.pl_form.proofs.FillLaws.{fills_wanted}
@@ -26,14 +26,14 @@ use Rattle.pl_conflict.specs.Prelinked as prelinked
 use Rattle.pl_conflict.specs.Prelinked.{Firm, is_program_place, list_of, list_row, objects_of, parts_of, program_file, slots_of, version_of}
 use Rattle.pl_conflict.proofs.GivenLaws.{own_meanings}
 use Rattle.pl_conflict.proofs.MemberLaws.{HasOwn, IsSet, program_numbers, set_is}
-use Rattle.pl_prelinked.specs.Fills.{fills, memory_of}
-use Rattle.pl_prelinked.specs.Programs.{IsProgramSet}
-use Rattle.pl_prelinked.specs.Sources.{AreSources}
-use Rattle.pl_prelinked.proofs.FillLaws.{are_fills, flat_same}
-use Rattle.pl_prelinked.proofs.FirmLaws.{own_all}
-use Rattle.pl_prelinked.proofs.ProgramLaws.{originals_placed, firm_program}
+use Rattle.pl_rewrite.specs.Fills.{fills, memory_of}
+use Rattle.pl_rewrite.specs.Programs.{IsProgramSet}
+use Rattle.pl_rewrite.specs.Sources.{AreSources}
+use Rattle.pl_rewrite.proofs.FillLaws.{are_fills, flat_same}
+use Rattle.pl_rewrite.proofs.FirmLaws.{own_all}
+use Rattle.pl_rewrite.proofs.ProgramLaws.{originals_placed, firm_program}
 use Rattle.pl_scope.proofs.WalkedLaws.{limit_is}
-use Rattle.pl_known.specs.Fits.{resolves}
+use Rattle.pl_rewrite.specs.Fits.{resolves}
 use Rattle.law_folder.proofs.LinkLemmas.{Links, file_is, links_at}
 use Rattle.law_demo.proofs.LengthLaws.{conflicts_most, program_most, relocations_in}
 

@@ -17,18 +17,18 @@ use Rattle.pl_loader.specs.Places.{load_range, misses}
 use Rattle.pl_object.specs.PlaceClauses.{last_load}
 use Rattle.pl_object.proofs.AcceptedLaws.{accepted}
 use Rattle.pl_object.proofs.SpanLaws.{Ends}
-use Rattle.pl_parts.specs.Forms.{original_of, undo_part}
-use Rattle.pl_parts.specs.Found.{ss_of}
-use Rattle.pl_parts.specs.Law.{HasTable}
-use Rattle.pl_parts.specs.Parts.{extended_segment, extension, program_plan, program_segments, shifted_segment}
-use Rattle.pl_parts.proofs.AcceptedIs.{segments_are}
-use Rattle.pl_parts.proofs.FinalTheorem.{program_conditions}
-use Rattle.pl_parts.proofs.FormTheorem.{all_small}
-use Rattle.pl_parts.proofs.KindLaws.{grown_segment, segment_count}
-use Rattle.pl_parts.proofs.LoadFacts.{last_is}
-use Rattle.pl_parts.proofs.StandLaws.{program_grows}
-use Rattle.pl_parts.proofs.TableLaws.{programs_are_extended}
-use Rattle.pl_parts.proofs.WholeTheorem.{program_is}
+use Rattle.pl_form.specs.Forms.{original_of, undo_part}
+use Rattle.pl_form.specs.Found.{ss_of}
+use Rattle.pl_form.specs.PartLaws.{HasTable}
+use Rattle.pl_form.specs.Parts.{extended_segment, extension, program_plan, program_segments, shifted_segment}
+use Rattle.pl_form.proofs.AcceptedIs.{segments_are}
+use Rattle.pl_form.proofs.FinalTheorem.{program_conditions}
+use Rattle.pl_form.proofs.FormTheorem.{all_small}
+use Rattle.pl_form.proofs.KindLaws.{grown_segment, segment_count}
+use Rattle.pl_form.proofs.LoadFacts.{last_is}
+use Rattle.pl_form.proofs.StandLaws.{program_grows}
+use Rattle.pl_form.proofs.TableLaws.{programs_are_extended}
+use Rattle.pl_form.proofs.WholeTheorem.{program_is}
 use Rattle.law_demo.specs.Fast.{LowProgramsKeepOff}
 
 -- a PT_LOAD ends at or below an address

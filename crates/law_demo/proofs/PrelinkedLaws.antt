@@ -19,17 +19,17 @@ use Rattle.law_folder.proofs.BesideLemmas as beside
 use Rattle.law_folder.proofs.CandidateLemmas.{IsProgramWalk, program_stored, program_walk}
 use Rattle.law_folder.proofs.ProgramLemmas.{firms_of}
 use Rattle.law_folder.proofs.SetLemmas.{firm_for}
-use Rattle.pl_known.specs.Plans.{is_candidate, planned}
-use Rattle.pl_known.specs.Skips.{skip_causes}
+use Rattle.pl_rewrite.specs.Plans.{is_candidate, planned}
+use Rattle.pl_rewrite.specs.Skips.{skip_causes}
 use Rattle.pl_object.specs.declared.object.Object.{Object}
-use Rattle.pl_plan.specs.declared.run_plan.RunPlan.{RunPlan}
-use Rattle.pl_prelinked.proofs.ProgramLaws.{stored_small}
+use Rattle.pl_cone.specs.declared.run_plan.RunPlan.{RunPlan}
+use Rattle.pl_rewrite.proofs.ProgramLaws.{stored_small}
 use Rattle.pl_rewrite.specs.Changes.{numbers}
 use Rattle.pl_scope.specs.Scope as scope
 use Rattle.pl_scope.specs.Walk.{Walked}
 use Rattle.pl_slots.specs.Apart.{are_apart}
-use Rattle.pl_sound.specs.Plan.{Plan, planned_in}
-use Rattle.pl_sound.specs.Rule.{Files, objects, original_at, walk_in}
+use Rattle.law_sound.specs.Plan.{Plan, planned_in}
+use Rattle.law_sound.specs.Rule.{Files, objects, original_at, walk_in}
 use Rattle.law_demo.proofs.LengthLaws.{relocations_in}
 use Rattle.law_demo.proofs.LinkedLaws.{IsMadeOf, program_made}
 

@@ -20,18 +20,18 @@ use Rattle.pl_form.specs.Files.{marked_in, original_by, original_in}
 use Rattle.pl_form.specs.Marks.{IsFormOf}
 use Rattle.pl_form.specs.declared.file.Marked.{Marked}
 use Rattle.pl_form.proofs.FilesLaws.{nothing_else_is_read}
-use Rattle.pl_known.specs.Fits.{fit_in}
-use Rattle.pl_known.specs.Skips.{skip_causes}
+use Rattle.pl_rewrite.specs.Fits.{fit_in}
+use Rattle.pl_rewrite.specs.Skips.{skip_causes}
 use Rattle.pl_object.specs.Reads.{reads}
 use Rattle.pl_object.specs.declared.object.Object.{Object}
-use Rattle.pl_plan.specs.declared.run_plan.RunPlan.{RunPlan}
+use Rattle.pl_cone.specs.declared.run_plan.RunPlan.{RunPlan}
 use Rattle.pl_rewrite.specs.Changes.{from_scratch, numbers}
 use Rattle.pl_rewrite.proofs.FormLaws.{IsOriginal, original_is}
 use Rattle.pl_scope.specs.Scope as scope
 use Rattle.pl_scope.specs.Walk.{Walked}
-use Rattle.pl_sound.specs.Plan.{Plan, is_candidate, planned_in}
-use Rattle.pl_sound.specs.Rule.{Files, Format, Mark, is_marked, mark_at, object_at, objects, original_at, walk_in}
-use Rattle.pl_sound.proofs.PlanLaws.{planned_is, planned_object}
+use Rattle.law_sound.specs.Plan.{Plan, is_candidate, planned_in}
+use Rattle.law_sound.specs.Rule.{Files, Format, Mark, is_marked, mark_at, object_at, objects, original_at, walk_in}
+use Rattle.law_sound.proofs.PlanLaws.{planned_is, planned_object}
 use Rattle.law_demo.specs.Clear.{IsProgram, keeps_off}
 use Rattle.law_demo.proofs.PrelinkedLaws.{IsRun, program_planned}
 use Rattle.law_demo.proofs.LengthLaws.{relocations_in}

@@ -28,10 +28,10 @@ use Rattle.law_folder.specs.All.{HasNext}
 use Rattle.law_folder.proofs.NextLemmas.{gives_next}
 use Rattle.pl_journal.specs.Meaning.{applied}
 use Rattle.pl_journal.specs.declared.change.Change.{Change}
-use Rattle.pl_known.specs.Fits.{fit_in}
-use Rattle.pl_known.specs.Skips.{skip_causes}
+use Rattle.pl_rewrite.specs.Fits.{fit_in}
+use Rattle.pl_rewrite.specs.Skips.{skip_causes}
 use Rattle.pl_object.specs.declared.object.Object.{Object}
-use Rattle.pl_plan.specs.declared.run_plan.RunPlan.{RunPlan}
+use Rattle.pl_cone.specs.declared.run_plan.RunPlan.{RunPlan}
 use Rattle.pl_rewrite.specs.Changes.{from_scratch, next, numbers}
 use Rattle.pl_rewrite.proofs.SoundLaws.{names_stay, next_is_from_scratch}
 use Rattle.pl_scope.specs.Members.{IsLinked, has, names, others}
@@ -41,14 +41,14 @@ use Rattle.pl_scope.proofs.ClosureLaws.{WalkTells, member_walk, walk_is}
 use Rattle.pl_scope.proofs.NameLaws.{has_head, has_tail}
 use Rattle.pl_scope.proofs.StepLaws.{walk_local, walk_short, walk_there}
 use Rattle.pl_scope.proofs.WalkedLaws.{member_file, walk_distinct}
-use Rattle.pl_sound.specs.Plan.{Plan, for_library, is_candidate, planned_in}
-use Rattle.pl_sound.specs.Rule as rule
-use Rattle.pl_sound.specs.Rule.{Files, Format, Mark, is_marked, mark_at, matches, objects, of_walk, row_at, row_of, walk_in}
-use Rattle.pl_sound.proofs.BookLaws.{marked_at}
-use Rattle.pl_sound.proofs.Matching.{Matches, rule_in, tells_back}
-use Rattle.pl_sound.proofs.PlanLaws as sound
-use Rattle.pl_sound.proofs.PlanLaws.{all_planned, candidate_member, planned_bears, planned_is, planned_object, rule_planned}
-use Rattle.pl_sound.proofs.RuleLaws.{is_other, linked, map_same, other_is, other_library}
+use Rattle.law_sound.specs.Plan.{Plan, for_library, is_candidate, planned_in}
+use Rattle.law_sound.specs.Rule as rule
+use Rattle.law_sound.specs.Rule.{Files, Format, Mark, is_marked, mark_at, matches, objects, of_walk, row_at, row_of, walk_in}
+use Rattle.law_sound.proofs.BookLaws.{marked_at}
+use Rattle.law_sound.proofs.Matching.{Matches, rule_in, tells_back}
+use Rattle.law_sound.proofs.PlanLaws as sound
+use Rattle.law_sound.proofs.PlanLaws.{all_planned, candidate_member, planned_bears, planned_is, planned_object, rule_planned}
+use Rattle.law_sound.proofs.RuleLaws.{is_other, linked, map_same, other_is, other_library}
 use Rattle.law_demo.specs.Clear.{IsProgram}
 use Rattle.law_demo.specs.Fast.{PrelinkedLoadsAreFast}
 use Rattle.law_demo.proofs.AnswerLaws.{matched_fast}

@@ -17,7 +17,7 @@ use Rattle.pl_gen.specs.Lines.{library_name}
 use Rattle.pl_scope.specs.Members.{has}
 use Rattle.pl_scope.proofs.NameLaws.{has_cons, has_head, has_tail}
 use Rattle.pl_scope.proofs.WalkedLaws.{limit_is}
-use Rattle.pl_sound.specs.Rule.{Files}
+use Rattle.law_sound.specs.Rule.{Files}
 use Rattle.law_demo.specs.Candidates.{HasFile, IsLibraryFile}
 use Rattle.law_demo.specs.Described.{IsDescribing}
 use Rattle.law_demo.specs.Forms.{HasRoom}

@@ -44,15 +44,15 @@ use Rattle.pl_form.specs.Files.{marked_in, original_by, original_in}
 use Rattle.pl_journal.specs.Names.{journal}
 use Rattle.pl_journal.specs.Rows.{rows_in}
 use Rattle.pl_journal.specs.declared.change.Change.{Change}
-use Rattle.pl_known.specs.Plans.{candidates, greatest, greatest_of, is_candidate, planned, slots, slots_of, stale, stamp_for, standings, walks, wants}
-use Rattle.pl_known.specs.Skips.{skip_causes}
+use Rattle.pl_rewrite.specs.Plans.{candidates, greatest, greatest_of, is_candidate, planned, slots, slots_of, stale, stamp_for, standings, walks, wants}
+use Rattle.pl_rewrite.specs.Skips.{skip_causes}
 use Rattle.pl_object.specs.Reads.{reads}
 use Rattle.pl_object.specs.declared.object.Object.{Object}
-use Rattle.pl_plan.specs.Faults.{of_cone, of_plan}
-use Rattle.pl_plan.specs.Wants.{want_of}
-use Rattle.pl_plan.specs.declared.asked.Asked.{Asked}
-use Rattle.pl_plan.specs.declared.fault.PlanningFault.{PlanningFault}
-use Rattle.pl_plan.specs.declared.run_plan.RunPlan.{RunPlan}
+use Rattle.pl_cone.specs.Faults.{of_cone, of_plan}
+use Rattle.pl_cone.specs.Wants.{want_of}
+use Rattle.pl_cone.specs.declared.asked.Asked.{Asked}
+use Rattle.pl_cone.specs.declared.fault.PlanningFault.{PlanningFault}
+use Rattle.pl_cone.specs.declared.run_plan.RunPlan.{RunPlan}
 use Rattle.pl_rewrite.specs.Rewriting.{rewrite, rewritten}
 use Rattle.pl_rewrite.specs.declared.rewriting.Rewritten.{Rewritten}
 use Rattle.pl_share.specs.Disjoint.{disjoint}
@@ -60,7 +60,7 @@ use Rattle.pl_share.specs.Shared.{plan_shared}
 use Rattle.pl_slots.specs.Plan.{plan}
 use Rattle.pl_slots.specs.declared.slot.Slot.{Slot}
 use Rattle.pl_slots.specs.declared.slot.Want.{Want}
-use Rattle.pl_sound.specs.Rule.{Mark, mark_at, object_at, objects}
+use Rattle.law_sound.specs.Rule.{Mark, mark_at, object_at, objects}
 use Rattle.law_demo.specs.Small.{Bounds, HasRoom, IsSmall, SmallFoldersAreTaken}
 use Rattle.law_demo.proofs.RoomLaws.{all_placed, all_take}
 

@@ -31,7 +31,7 @@ use Rattle.pl_scope.specs.Walk.{Walked}
 use Rattle.pl_scope.specs.Walk as walk
 use Rattle.pl_scope.proofs.NameLaws.{has_head, has_tail, same_name}
 use Rattle.pl_scope.proofs.StepLaws.{walk_local, walk_there}
-use Rattle.pl_sound.specs.Rule.{Files, mark_at, object_at, objects, walk_in}
+use Rattle.law_sound.specs.Rule.{Files, mark_at, object_at, objects, walk_in}
 use Rattle.law_demo.specs.Clear.{IsProgram}
 
 -- ---- prelinked files

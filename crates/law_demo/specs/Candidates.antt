@@ -14,13 +14,13 @@ use Rattle.pl_build.specs.declared.kind.FileKind.TheVariants.{Library, Pie, Prog
 use Rattle.pl_build.specs.declared.recipe.Recipe.{Recipe}
 use Rattle.pl_build.specs.File.{made}
 use Rattle.pl_build.specs.LayoutPlan.{plan_of}
-use Rattle.pl_known.specs.Fits.{fit_in}
-use Rattle.pl_known.specs.Skips.{skip_causes}
+use Rattle.pl_rewrite.specs.Fits.{fit_in}
+use Rattle.pl_rewrite.specs.Skips.{skip_causes}
 use Rattle.pl_conflict.specs.Format.{format}
 use Rattle.pl_scope.specs.Members.{has}
 use Rattle.pl_scope.specs.declared.constants.TheConstants.{MAX_MEMBERS}
-use Rattle.pl_sound.specs.Plan.{is_candidate}
-use Rattle.pl_sound.specs.Rule.{Files, objects}
+use Rattle.law_sound.specs.Plan.{is_candidate}
+use Rattle.law_sound.specs.Rule.{Files, objects}
 use Rattle.law_demo.specs.SetNames.{copies_name, defines_name}
 use Rattle.law_demo.specs.Described.{IsDescribing}
 use Rattle.law_demo.specs.Forms.{HasRoom, IsAbove, IsBare}

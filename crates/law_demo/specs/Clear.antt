@@ -10,7 +10,7 @@ use Rattle.pl_elf.specs.declared.range.Range.{Range}
 use Rattle.pl_loader.specs.Places.{kept_free, load_range, misses}
 use Rattle.pl_object.specs.declared.object.Object.{Object}
 use Rattle.pl_scope.specs.Walk.{Walked}
-use Rattle.pl_sound.specs.Rule.{Files, objects, walk_in}
+use Rattle.law_sound.specs.Rule.{Files, objects, walk_in}
 
 -- a name is a program's
 abbrev pub IsProgram : {E : Type 0} → Causes E → Files → List ℕ → Type 0

@@ -7,9 +7,9 @@ use Rattle.pl_conflict.specs.Format.{format}
 use Rattle.pl_demo.specs.Demo.{folder, programs}
 use Rattle.pl_demo.specs.declared.prelinking.TheConstants.{ASKED}
 use Rattle.pl_gen.specs.Set as drawn
-use Rattle.pl_known.specs.Skips.{skip_causes}
+use Rattle.pl_rewrite.specs.Skips.{skip_causes}
 use Rattle.pl_scope.specs.Members.{has}
-use Rattle.pl_sound.specs.Rule.{is_marked}
+use Rattle.law_sound.specs.Rule.{is_marked}
 use Rattle.law_demo.specs.Clear.{IsProgram, keeps_off}
 
 -- a program of a set, prelinked, whose file keeps off the region of the slots

@@ -13,11 +13,11 @@ use Rattle.pl_gen.specs.Draws.{after, seeded, words}
 use Rattle.pl_gen.specs.Lines.{library_name, program_name}
 use Rattle.pl_gen.specs.Set as drawn
 use Rattle.pl_journal.specs.declared.change.Change.{Change}
-use Rattle.pl_known.specs.Fits.{fit_in}
-use Rattle.pl_known.specs.Skips.{skip_causes}
+use Rattle.pl_rewrite.specs.Fits.{fit_in}
+use Rattle.pl_rewrite.specs.Skips.{skip_causes}
 use Rattle.law_demo.specs.SetFiles.{HasLibraries, HasProgram}
-use Rattle.pl_sound.specs.Plan.{is_candidate}
-use Rattle.pl_sound.specs.Rule.{Files}
+use Rattle.law_sound.specs.Plan.{is_candidate}
+use Rattle.law_sound.specs.Rule.{Files}
 
 -- the files of a set as they are made
 abbrev pub made : ℕ → base.Files

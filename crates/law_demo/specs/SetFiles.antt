@@ -6,7 +6,7 @@ use Rattle.pl_build.specs.File.{made}
 use Rattle.pl_build.specs.LayoutPlan.{plan_of}
 use Rattle.law_demo.specs.SetRecipes.{library_of, program_of}
 use Rattle.pl_gen.specs.Lines.{library_name}
-use Rattle.pl_sound.specs.Rule.{Files}
+use Rattle.law_sound.specs.Rule.{Files}
 use Rattle.law_demo.specs.Candidates.{AreLibraries, IsProgramFile}
 use Rattle.law_demo.specs.Forms.{IsAbove}
 

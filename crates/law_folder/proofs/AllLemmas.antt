@@ -23,8 +23,8 @@ use Rattle.pl_journal.specs.Meaning.{mixed}
 use Rattle.pl_journal.specs.declared.change.Change.{Change}
 use Rattle.pl_journal.specs.declared.change.Change.TheVariants.{Put, Drop}
 use Rattle.pl_journal.proofs.NameLemmas.{equal, valid_not_own}
-use Rattle.pl_known.specs.Plans.{planned}
-use Rattle.pl_plan.specs.declared.run_plan.RunPlan.{RunPlan}
+use Rattle.pl_rewrite.specs.Plans.{planned}
+use Rattle.pl_cone.specs.declared.run_plan.RunPlan.{RunPlan}
 use Rattle.pl_rewrite.specs.Changes.{change, changes, is_file, next, next_cache}
 use Rattle.pl_rewrite.specs.Changes as rewriting
 use Rattle.pl_rewrite.specs.Laws.{AreNames, IsMixed}
@@ -33,8 +33,8 @@ use Rattle.pl_rewrite.specs.declared.rewriting.Rewritten.{Rewritten}
 use Rattle.pl_rewrite.proofs.NamedLaws.{passed_at}
 use Rattle.pl_rewrite.proofs.SoundLaws as laws
 use Rattle.pl_scope.specs.Members.{has}
-use Rattle.pl_sound.specs.Rule as sound
-use Rattle.pl_sound.proofs.Matching.{and_both}
+use Rattle.law_sound.specs.Rule as sound
+use Rattle.law_sound.proofs.Matching.{and_both}
 use Rattle.pl_batch.specs.All.{all_changes, all_made, asked_of, made_of_folder, made_of, made_with_cache, of_planning, put_cache, spelled, with_cache}
 use Rattle.pl_batch.specs.Folder as folder
 use Rattle.pl_batch.specs.Folder.{all_files, are_large, cache, cache_file, cache_in, valid_names}

@@ -38,17 +38,17 @@ use Rattle.law_folder.proofs.StampLemmas.{stamp_small}
 use Rattle.pl_form.specs.Files.{marked_in, original_in}
 use Rattle.pl_form.specs.declared.file.Marked.{Marked}
 use Rattle.pl_form.proofs.FilesLaws.{nothing_else_is_read}
-use Rattle.pl_known.specs.Fits.{fit_in, links, resolves}
-use Rattle.pl_known.specs.Plans.{is_candidate, stale, walks}
-use Rattle.pl_known.specs.Skips.{skip_causes}
-use Rattle.pl_known.proofs.LinkLaws.{each_read}
+use Rattle.pl_rewrite.specs.Fits.{fit_in, links, resolves}
+use Rattle.pl_rewrite.specs.Plans.{is_candidate, stale, walks}
+use Rattle.pl_rewrite.specs.Skips.{skip_causes}
+use Rattle.pl_rewrite.proofs.LinkLaws.{each_read}
 use Rattle.pl_object.specs.PlaceClauses.{last_load}
 use Rattle.pl_object.specs.Reads.{reads}
 use Rattle.pl_object.specs.declared.object.Object.{Object}
 use Rattle.pl_object.proofs.AcceptedLaws.{accepted}
-use Rattle.pl_parts.proofs.AcceptedIs.{segments_are}
+use Rattle.pl_form.proofs.AcceptedIs.{segments_are}
 use Rattle.pl_form.proofs.SomeLastLaws.{some_last}
-use Rattle.pl_plan.specs.declared.run_plan.RunPlan.{RunPlan}
+use Rattle.pl_cone.specs.declared.run_plan.RunPlan.{RunPlan}
 use Rattle.pl_rewrite.specs.Changes.{numbers}
 use Rattle.pl_rewrite.proofs.FormLaws.{IsOriginal, firm_member, firm_nowhere, no_fault, original_bytes, original_is}
 use Rattle.pl_rewrite.proofs.PlanLaws.{plan_stamp}
@@ -63,22 +63,22 @@ use Rattle.pl_scope.proofs.StepLaws.{walk_short}
 use Rattle.pl_scope.proofs.WalkedLaws.{member_file, walk_distinct}
 use Rattle.pl_slots.specs.Plan.{lies_in}
 use Rattle.pl_slots.specs.declared.slot.Slot.{Slot}
-use Rattle.pl_sound.specs.Plan.{Plan, fits, for_library, is_current, links_as, planned_in, planned_member}
-use Rattle.pl_sound.specs.Rule.{Files, Member, mark_at, object_at, objects, of_walk, original_at, stamp_of, walk_in}
-use Rattle.pl_sound.proofs.PlanLaws.{candidate_member}
+use Rattle.law_sound.specs.Plan.{Plan, fits, for_library, is_current, links_as, planned_in, planned_member}
+use Rattle.law_sound.specs.Rule.{Files, Member, mark_at, object_at, objects, of_walk, original_at, stamp_of, walk_in}
+use Rattle.law_sound.proofs.PlanLaws.{candidate_member}
 use Rattle.pl_tls.specs.Layout.{offsets}
 use Rattle.pl_conflict.specs.Prelinked.{all_firm, stored}
 use Rattle.pl_conflict.proofs.FormatLaws.{format_kept}
 use Rattle.pl_elf.specs.declared.kind.Kind.TheVariants.{Static}
 use Rattle.pl_form.specs.declared.constants.TheConstants.{STORED}
-use Rattle.pl_parts.specs.Back.{when}
+use Rattle.pl_form.specs.Back.{when}
 use Rattle.pl_rewrite.specs.Changes as changes
 use Rattle.pl_rewrite.specs.Changes.{next}
 use Rattle.pl_rewrite.specs.Reports.{marked_at}
 use Rattle.pl_rewrite.proofs.MadeLaws.{next_off, next_on, scratch_by}
-use Rattle.pl_sound.specs.Plan.{is_held}
-use Rattle.pl_sound.specs.Rule.{Mark, matches, members, names_of, tells_walk}
-use Rattle.pl_sound.proofs.PlanLaws.{planned_is}
+use Rattle.law_sound.specs.Plan.{is_held}
+use Rattle.law_sound.specs.Rule.{Mark, matches, members, names_of, tells_walk}
+use Rattle.law_sound.proofs.PlanLaws.{planned_is}
 use Rattle.std.specs.Option.{option_or}
 use Rattle.law_folder.specs.Candidates.{CandidatesAreMarked, CandidatesArePrelinked, HasPlan, IsTooLong}
 use Rattle.law_folder.proofs.ApartLemmas.{LiesIn, program_apart}

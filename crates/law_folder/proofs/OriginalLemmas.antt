@@ -18,7 +18,7 @@ use Rattle.pl_journal.specs.declared.change.Change.{Change}
 use Rattle.pl_journal.specs.declared.change.Change.TheVariants.{Put, Drop}
 use Rattle.pl_journal.proofs.NameLemmas.{equal}
 use Rattle.pl_scope.proofs.NameLaws.{same_name}
-use Rattle.pl_sound.proofs.Matching.{and_both}
+use Rattle.law_sound.proofs.Matching.{and_both}
 use Rattle.pl_batch.specs.Store.{is_file, put}
 use Rattle.law_folder.specs.Laws.{ImagesKeepOriginals}
 use Rattle.law_folder.specs.Originals.{HasOriginal, SameOriginals, originals}

@@ -12,20 +12,20 @@ use Rattle.pl_conflict.specs.Prelinked as prelinked
 use Rattle.pl_conflict.specs.Prelinked.{Firm, all_firm, are_set, firm_of, flat_of, has_numbers, list_of, load_window, objects_of, program_file, stored, version_of, windows_of}
 use Rattle.pl_elf.specs.Headers.{loads}
 use Rattle.pl_elf.specs.Kinds.{is_library}
-use Rattle.pl_known.specs.Fits.{resolves}
+use Rattle.pl_rewrite.specs.Fits.{resolves}
 use Rattle.pl_object.specs.declared.object.Object.{Object}
-use Rattle.pl_prelinked.specs.Programs.{IsProgramSet}
-use Rattle.pl_prelinked.specs.Sources.{AreSources}
-use Rattle.pl_prelinked.proofs.ListLaws.{set_tests}
-use Rattle.pl_prelinked.proofs.WholeLaws.{file_program, prelinked_set}
+use Rattle.pl_rewrite.specs.Programs.{IsProgramSet}
+use Rattle.pl_rewrite.specs.Sources.{AreSources}
+use Rattle.pl_rewrite.proofs.ListLaws.{set_tests}
+use Rattle.pl_rewrite.proofs.WholeLaws.{file_program, prelinked_set}
 use Rattle.pl_scope.specs.Members.{names}
 use Rattle.pl_scope.specs.Walk.{Walked}
 use Rattle.pl_scope.specs.declared.constants.TheConstants.{MAX_MEMBERS}
-use Rattle.pl_sound.specs.Plan.{Plan}
-use Rattle.pl_sound.specs.Rule.{Files}
+use Rattle.law_sound.specs.Plan.{Plan}
+use Rattle.law_sound.specs.Rule.{Files}
 use Rattle.pl_tls.specs.Layout.{offsets}
 use Rattle.pl_form.specs.Program.{program_with}
-use Rattle.pl_prelinked.proofs.FirmLaws.{firm_all}
+use Rattle.pl_rewrite.proofs.FirmLaws.{firm_all}
 use Rattle.law_folder.proofs.LinkLemmas.{Links, file_is, links_at}
 use Rattle.law_folder.proofs.SetLemmas.{IsFine, fine_firms, fine_numbers, fine_valid, fine_windows, firm_for, firm_members, firm_names, planned, window_for}
 

@@ -8,11 +8,11 @@ use Rattle.pl_base.specs.Files.{Files}
 use Rattle.pl_base.specs.Names.{is_valid_name}
 use Rattle.pl_base.proofs.AnswerLaws.{bind_ok, ok_same, refuse_ok}
 use Rattle.pl_conflict.specs.Format.{mark_in, mark_of}
-use Rattle.pl_fix.specs.Fixing.{placed}
-use Rattle.pl_fix.specs.declared.placing.Placing.{Placing}
-use Rattle.pl_fix.specs.declared.placing.Placing.TheVariants as placings
-use Rattle.pl_fix.proofs.BareLaws.{fixed_bare}
-use Rattle.pl_fix.proofs.LooseLaws.{unfixed_bare}
+use Rattle.pl_pie.specs.Placed.{placed}
+use Rattle.pl_pie.specs.declared.placing.Placing.{Placing}
+use Rattle.pl_pie.specs.declared.placing.Placing.TheVariants as placings
+use Rattle.pl_pie.proofs.BareLaws.{fixed_bare}
+use Rattle.pl_pie.proofs.LooseLaws.{unfixed_bare}
 use Rattle.pl_pie.specs.Fix.{unfixed}
 use Rattle.pl_form.specs.Files.{file_in, marked_in, original_in}
 use Rattle.pl_form.specs.declared.file.Marked.{Marked}

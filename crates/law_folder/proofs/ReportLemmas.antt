@@ -28,17 +28,17 @@ use Rattle.pl_form.specs.declared.constants.TheConstants.{STORED}
 use Rattle.pl_form.specs.declared.file.Marked.{Marked}
 use Rattle.pl_form.specs.declared.fault.FormFault.{FormFault}
 use Rattle.pl_form.specs.declared.fault.FormFault.TheVariants as forms
-use Rattle.pl_known.specs.Faults.{fault_by, fault_in, fault_number}
-use Rattle.pl_known.specs.Fits.{fit_in, links}
-use Rattle.pl_known.specs.Plans.{is_candidate, is_current}
-use Rattle.pl_known.specs.Skips.{fault_at, of_refusal, skip_causes, skip_of}
-use Rattle.pl_known.proofs.LinkLaws.{each_read, links_is}
+use Rattle.pl_rewrite.specs.Faults.{fault_by, fault_in, fault_number}
+use Rattle.pl_rewrite.specs.Fits.{fit_in, links}
+use Rattle.pl_rewrite.specs.Plans.{is_candidate, is_current}
+use Rattle.pl_rewrite.specs.Skips.{fault_at, of_refusal, skip_causes, skip_of}
+use Rattle.pl_rewrite.proofs.LinkLaws.{each_read, links_is}
 use Rattle.pl_object.specs.PlaceClauses.{last_load}
 use Rattle.pl_object.specs.Reads.{reads}
 use Rattle.pl_object.specs.declared.object.Object.{Object}
 use Rattle.pl_object.specs.declared.refusal.Refusal.{Refusal}
 use Rattle.pl_object.specs.declared.refusal.Refusal.TheVariants as refusals
-use Rattle.pl_plan.specs.declared.run_plan.RunPlan.{RunPlan}
+use Rattle.pl_cone.specs.declared.run_plan.RunPlan.{RunPlan}
 use Rattle.pl_rewrite.specs.Changes.{next}
 use Rattle.pl_rewrite.specs.Reports.{marked_at, report, row_of, state_after, state_by, state_of}
 use Rattle.pl_rewrite.specs.declared.report.Report.{Report}
@@ -54,8 +54,8 @@ use Rattle.pl_scope.specs.declared.fault.WalkFault.TheVariants as walk_faults
 use Rattle.pl_scope.proofs.ClosureLaws.{walk_is}
 use Rattle.pl_scope.proofs.TellsLaws.{walk_tells}
 use Rattle.pl_scope.proofs.WalkedLaws.{member_file}
-use Rattle.pl_sound.specs.Plan.{fits, links_as}
-use Rattle.pl_sound.specs.Rule.{Files, object_at, objects, original_at, walk_in}
+use Rattle.law_sound.specs.Plan.{fits, links_as}
+use Rattle.law_sound.specs.Rule.{Files, object_at, objects, original_at, walk_in}
 use Rattle.pl_tls.specs.Layout.{offsets}
 use Rattle.pl_tls.specs.declared.fault.TlsFault.{TlsFault}
 use Rattle.pl_tls.specs.declared.fault.TlsFault.TheVariants as tls_faults

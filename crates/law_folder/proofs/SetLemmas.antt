@@ -33,19 +33,19 @@ use Rattle.pl_lists.specs.Lists.{after, is_row, list_bytes, list_strings, row_by
 use Rattle.pl_lists.specs.declared.list_row.ListRow.{ListRow}
 use Rattle.pl_object.specs.Reads.{reads}
 use Rattle.pl_object.specs.declared.object.Object.{Object}
-use Rattle.pl_parts.specs.Back.{when}
-use Rattle.pl_prelinked.specs.Libraries.{has_valid_name}
-use Rattle.pl_prelinked.specs.Sources.{AreSources, members, names_of}
-use Rattle.pl_prelinked.proofs.ListLaws.{set_tests}
-use Rattle.pl_prelinked.proofs.ProgramLaws.{stored_small}
-use Rattle.pl_prelinked.proofs.WholeLaws.{file_library, prelinked_set}
+use Rattle.pl_form.specs.Back.{when}
+use Rattle.pl_rewrite.specs.Libraries.{has_valid_name}
+use Rattle.pl_rewrite.specs.Sources.{AreSources, members, names_of}
+use Rattle.pl_rewrite.proofs.ListLaws.{set_tests}
+use Rattle.pl_rewrite.proofs.ProgramLaws.{stored_small}
+use Rattle.pl_rewrite.proofs.WholeLaws.{file_library, prelinked_set}
 use Rattle.pl_scope.specs.Members.{has, names}
 use Rattle.pl_scope.specs.Walk.{Walked}
 use Rattle.pl_scope.specs.declared.constants.TheConstants.{MAX_MEMBERS}
 use Rattle.pl_scope.proofs.NameLaws.{eq_refl, has_cons}
 use Rattle.pl_scope.proofs.WalkedLaws.{limit_is}
-use Rattle.pl_sound.specs.Plan.{Plan, planned_member}
-use Rattle.pl_sound.specs.Rule.{Files, Member, object_at, objects, original_at}
+use Rattle.law_sound.specs.Plan.{Plan, planned_member}
+use Rattle.law_sound.specs.Rule.{Files, Member, object_at, objects, original_at}
 
 -- of the pairs of some more windows none meets
 pub tail_apart : (xs ys : List Window) → any_share (xs ++ ys) ≡ false → any_share ys ≡ false

@@ -23,10 +23,10 @@ use Rattle.pl_folder.specs.Disk.{Name}
 use Rattle.pl_form.specs.Files.{original_in}
 use Rattle.pl_form.specs.Marks.{has_mark}
 use Rattle.pl_form.specs.declared.constants.TheConstants.{STORED}
-use Rattle.pl_known.specs.Skips.{skip_causes}
+use Rattle.pl_rewrite.specs.Skips.{skip_causes}
 use Rattle.pl_object.specs.Reads.{reads}
 use Rattle.pl_object.specs.declared.object.Object.{Object}
-use Rattle.pl_plan.specs.Wants.{want_of}
+use Rattle.pl_cone.specs.Wants.{want_of}
 use Rattle.pl_share.specs.Disjoint as disjoint
 use Rattle.pl_share.specs.Shared as shared
 use Rattle.pl_share.specs.Shared.{IsSlotFor}
@@ -39,7 +39,7 @@ use Rattle.pl_slots.specs.Plan as apart
 use Rattle.pl_slots.specs.declared.slot.Slot.{Slot}
 use Rattle.pl_slots.specs.declared.slot.Want.{Want}
 use Rattle.pl_slots.proofs.PlannedLaws.{rows_serve}
-use Rattle.pl_sound.specs.Rule.{Files, object_at, objects}
+use Rattle.law_sound.specs.Rule.{Files, object_at, objects}
 use Rattle.law_folder.proofs.PageLemmas.{aligned_page, paged}
 
 -- ---- what libraries want

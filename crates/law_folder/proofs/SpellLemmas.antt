@@ -15,10 +15,10 @@ use Rattle.pl_cache.specs.declared.constants.TheConstants.{MAX_ROWS}
 use Rattle.pl_elf.specs.declared.constants.TheConstants.{ADDRESS_LIMIT, PAGE}
 use Rattle.pl_elf.specs.declared.range.Range.{Range}
 use Rattle.pl_folder.specs.Disk.{Name}
-use Rattle.pl_known.specs.Plans.{candidates, is_candidate, planned, slots, slots_of, stale, stamp_for, standings, walks, wants}
-use Rattle.pl_plan.specs.Faults.{of_plan}
-use Rattle.pl_plan.specs.declared.asked.Asked.{Asked}
-use Rattle.pl_plan.specs.declared.run_plan.RunPlan.{RunPlan}
+use Rattle.pl_rewrite.specs.Plans.{candidates, is_candidate, planned, slots, slots_of, stale, stamp_for, standings, walks, wants}
+use Rattle.pl_cone.specs.Faults.{of_plan}
+use Rattle.pl_cone.specs.declared.asked.Asked.{Asked}
+use Rattle.pl_cone.specs.declared.run_plan.RunPlan.{RunPlan}
 use Rattle.pl_rewrite.specs.Changes.{is_given, next_cache}
 use Rattle.pl_rewrite.proofs.PlanLaws.{plan_stamp}
 use Rattle.pl_share.specs.Disjoint.{disjoint}
@@ -26,7 +26,7 @@ use Rattle.pl_share.specs.Shared.{plan_shared}
 use Rattle.pl_slots.specs.Plan.{plan}
 use Rattle.pl_slots.specs.declared.slot.Slot.{Slot}
 use Rattle.pl_slots.specs.declared.slot.Want.{Want}
-use Rattle.pl_sound.specs.Rule as sound
+use Rattle.law_sound.specs.Rule as sound
 use Rattle.pl_batch.specs.All.{asked_of}
 use Rattle.pl_batch.specs.Folder.{named, valid_names}
 use Rattle.pl_batch.specs.Names.{are_many}

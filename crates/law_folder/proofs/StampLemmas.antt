@@ -15,13 +15,13 @@ use Rattle.pl_form.specs.Files.{marked_in}
 use Rattle.pl_form.specs.declared.file.Marked.{Marked}
 use Rattle.pl_form.specs.Marks.{IsMark}
 use Rattle.pl_form.proofs.FilesLaws.{nothing_else_is_read}
-use Rattle.pl_known.specs.Plans.{greatest, greatest_of, stamp_for}
-use Rattle.pl_known.specs.Skips.{skip_causes}
+use Rattle.pl_rewrite.specs.Plans.{greatest, greatest_of, stamp_for}
+use Rattle.pl_rewrite.specs.Skips.{skip_causes}
 use Rattle.pl_lists.specs.Lists.{are_distinct, is_row}
 use Rattle.pl_lists.specs.declared.list_row.ListRow.{ListRow}
-use Rattle.pl_plan.specs.Faults.{of_cone}
-use Rattle.pl_plan.specs.declared.asked.Asked.{Asked}
-use Rattle.pl_sound.specs.Rule.{Files, Row, mark_at}
+use Rattle.pl_cone.specs.Faults.{of_cone}
+use Rattle.pl_cone.specs.declared.asked.Asked.{Asked}
+use Rattle.law_sound.specs.Rule.{Files, Row, mark_at}
 
 abbrev IsSmall : ℕ → Type 0
 IsSmall n = n < 2 ^ 32

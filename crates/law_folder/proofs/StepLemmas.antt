@@ -24,14 +24,14 @@ use Rattle.pl_journal.specs.Meaning.{applied, mixed}
 use Rattle.pl_journal.specs.declared.change.Change.{Change}
 use Rattle.pl_journal.specs.declared.change.Change.TheVariants.{Put, Drop}
 use Rattle.pl_journal.proofs.NameLemmas.{equal, valid_not_own}
-use Rattle.pl_known.specs.Skips.{skip_causes}
-use Rattle.pl_plan.specs.declared.run_plan.RunPlan.{RunPlan}
+use Rattle.pl_rewrite.specs.Skips.{skip_causes}
+use Rattle.pl_cone.specs.declared.run_plan.RunPlan.{RunPlan}
 use Rattle.pl_rewrite.specs.Changes.{change, changes, is_file, next, next_cache}
 use Rattle.pl_rewrite.specs.Changes as rewriting
 use Rattle.pl_rewrite.specs.History.{Transition}
 use Rattle.pl_rewrite.proofs.HistoryLaws as history
 use Rattle.pl_scope.proofs.NameLaws.{same_name}
-use Rattle.pl_sound.proofs.Theorems as theorems
+use Rattle.law_sound.proofs.Theorems as theorems
 use Rattle.pl_batch.specs.All.{asked_of, put_cache}
 use Rattle.pl_batch.specs.Changes.{changes_by}
 use Rattle.pl_batch.specs.Folder.{bad_cache, cache, cache_by, cache_file, cache_in, no_cache, valid_names}

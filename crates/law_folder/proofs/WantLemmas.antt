@@ -15,13 +15,13 @@ use Rattle.pl_conflict.specs.Format.{format}
 use Rattle.pl_elf.specs.Kinds.{is_library}
 use Rattle.pl_elf.specs.declared.range.Range.{Range}
 use Rattle.law_folder.proofs.SlotLemmas.{Among, Fits, want_name, wants_among}
-use Rattle.pl_known.specs.Plans.{candidates, is_candidate, planned, slots, slots_of, stale, stamp_for, standings, walks, wants}
-use Rattle.pl_known.specs.Skips.{skip_causes}
+use Rattle.pl_rewrite.specs.Plans.{candidates, is_candidate, planned, slots, slots_of, stale, stamp_for, standings, walks, wants}
+use Rattle.pl_rewrite.specs.Skips.{skip_causes}
 use Rattle.pl_object.specs.declared.object.Object.{Object}
-use Rattle.pl_plan.specs.Faults.{of_plan}
-use Rattle.pl_plan.specs.Wants.{want_of}
-use Rattle.pl_plan.specs.declared.asked.Asked.{Asked}
-use Rattle.pl_plan.specs.declared.run_plan.RunPlan.{RunPlan}
+use Rattle.pl_cone.specs.Faults.{of_plan}
+use Rattle.pl_cone.specs.Wants.{want_of}
+use Rattle.pl_cone.specs.declared.asked.Asked.{Asked}
+use Rattle.pl_cone.specs.declared.run_plan.RunPlan.{RunPlan}
 use Rattle.pl_rewrite.specs.Laws.{AreNames}
 use Rattle.pl_rewrite.proofs.NamedLaws.{passed_at}
 use Rattle.pl_rewrite.proofs.SoundLaws.{candidate_named}
@@ -36,7 +36,7 @@ use Rattle.pl_slots.specs.Plan.{lies_in, plan}
 use Rattle.pl_slots.specs.declared.slot.Slot.{Slot}
 use Rattle.pl_slots.specs.declared.slot.Want.{Want}
 use Rattle.pl_slots.proofs.PlannedLaws.{rows_serve}
-use Rattle.pl_sound.specs.Rule.{Files, objects}
+use Rattle.law_sound.specs.Rule.{Files, objects}
 
 -- ---- each want has a slot in the region
 

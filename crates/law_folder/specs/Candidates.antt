@@ -13,17 +13,17 @@ use Rattle.pl_conflict.specs.Prelinked.{Firm, all_firm, are_set, program_file}
 use Rattle.pl_elf.specs.declared.kind.Kind.TheVariants.{Program}
 use Rattle.pl_elf.specs.declared.range.Range.{Range}
 use Rattle.pl_form.specs.declared.constants.TheConstants.{STORED}
-use Rattle.pl_known.specs.Plans.{is_candidate, planned}
-use Rattle.pl_known.specs.Skips.{skip_causes}
+use Rattle.pl_rewrite.specs.Plans.{is_candidate, planned}
+use Rattle.pl_rewrite.specs.Skips.{skip_causes}
 use Rattle.pl_object.specs.declared.object.Object.{Object}
-use Rattle.pl_plan.specs.declared.run_plan.RunPlan.{RunPlan}
+use Rattle.pl_cone.specs.declared.run_plan.RunPlan.{RunPlan}
 use Rattle.pl_rewrite.specs.Changes.{next, numbers, prelinked}
 use Rattle.pl_rewrite.specs.Reports.{marked_at}
 use Rattle.pl_scope.specs.Members.{names}
 use Rattle.pl_scope.specs.Walk.{Walked}
-use Rattle.pl_sound.specs.Plan.{planned_member}
-use Rattle.pl_sound.specs.Rule as sound
-use Rattle.pl_sound.specs.Rule.{Member, objects, walk_in}
+use Rattle.law_sound.specs.Plan.{planned_member}
+use Rattle.law_sound.specs.Rule as sound
+use Rattle.law_sound.specs.Rule.{Member, objects, walk_in}
 use Rattle.law_folder.specs.Causes.{IsAsked}
 
 -- a run plans this over files that are bytes, by a cache that has a spelling; slots may be shared or not

@@ -12,11 +12,11 @@ use Rattle.pl_journal.specs.Meaning.{IsSettled, StandsBetween, StandsFor, applie
 use Rattle.pl_journal.specs.Names.{journal}
 use Rattle.pl_journal.specs.Rows.{recovered}
 use Rattle.pl_journal.specs.declared.change.Change.{Change}
-use Rattle.pl_known.specs.Skips.{skip_causes}
+use Rattle.pl_rewrite.specs.Skips.{skip_causes}
 use Rattle.pl_place.specs.Policy.{Choice}
 use Rattle.pl_scope.specs.Members.{has}
-use Rattle.pl_sound.specs.History.{IsAllowed}
-use Rattle.pl_sound.specs.Rule.{is_verified, matches, members}
+use Rattle.law_sound.specs.History.{IsAllowed}
+use Rattle.law_sound.specs.Rule.{is_verified, matches, members}
 use Rattle.pl_batch.specs.Changes.{removal_meant, run_meant}
 use Rattle.pl_batch.specs.Commands.{Commands, IsBefore, Meaning, Outcome}
 use Rattle.pl_batch.specs.Replace.{fixed_as, loosened_of, replacing_meant}

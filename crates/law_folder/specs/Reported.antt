@@ -9,13 +9,13 @@ use Rattle.pl_batch.specs.Folder.{named}
 use Rattle.pl_batch.specs.declared.prelinking.Prelinking.{Prelinking}
 use Rattle.pl_cone.specs.declared.skip.Skip.TheVariants.{Form}
 use Rattle.pl_elf.specs.declared.range.Range.{Range}
-use Rattle.pl_known.specs.Plans.{is_candidate}
-use Rattle.pl_plan.specs.declared.run_plan.RunPlan.{RunPlan}
+use Rattle.pl_rewrite.specs.Plans.{is_candidate}
+use Rattle.pl_cone.specs.declared.run_plan.RunPlan.{RunPlan}
 use Rattle.pl_rewrite.specs.declared.report.Report.{Report}
 use Rattle.pl_rewrite.specs.declared.report.ReportRow.{ReportRow}
 use Rattle.pl_rewrite.specs.declared.report.RowState.{RowState}
 use Rattle.pl_rewrite.specs.declared.report.RowState.TheVariants.{Library, Program, Skipped}
-use Rattle.pl_sound.specs.Rule as sound
+use Rattle.law_sound.specs.Rule as sound
 use Rattle.law_folder.specs.Candidates.{HasPlan, IsTooLong}
 use Rattle.law_folder.specs.Causes.{IsAsked}
 

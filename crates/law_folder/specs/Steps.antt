@@ -9,9 +9,9 @@ use Rattle.pl_conflict.specs.Format.{format}
 use Rattle.pl_folder.specs.Disk.{View}
 use Rattle.pl_journal.specs.Meaning.{applied}
 use Rattle.pl_journal.specs.declared.change.Change.{Change}
-use Rattle.pl_known.specs.Skips.{skip_causes}
+use Rattle.pl_rewrite.specs.Skips.{skip_causes}
 use Rattle.pl_rewrite.specs.History.{Transition}
-use Rattle.pl_sound.specs.Plan.{IsBounded}
+use Rattle.law_sound.specs.Plan.{IsBounded}
 use Rattle.pl_batch.specs.Changes.{removal_meant, run_meant}
 use Rattle.pl_batch.specs.Commands.{Meaning}
 use Rattle.pl_batch.specs.Folder.{cache, no_cache}

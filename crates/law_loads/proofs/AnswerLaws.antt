@@ -20,15 +20,15 @@ use Rattle.pl_image.specs.Lines.{word_in, unless_zero, word_line, lines_from, wo
 use Rattle.pl_value.proofs.ReadLaws.{read_same}
 use Rattle.pl_conflict.specs.Format as format
 use Rattle.pl_conflict.specs.Format.{Causes, RuleAt, mark_in, mark_of}
-use Rattle.pl_fix.specs.Fixing.{placed}
-use Rattle.pl_fix.specs.declared.placing.Placing.{Placing}
-use Rattle.pl_fix.specs.declared.placing.Placing.TheVariants as placings
-use Rattle.pl_fix.proofs.BareLaws.{fixed_bare}
+use Rattle.pl_pie.specs.Placed.{placed}
+use Rattle.pl_pie.specs.declared.placing.Placing.{Placing}
+use Rattle.pl_pie.specs.declared.placing.Placing.TheVariants as placings
+use Rattle.pl_pie.proofs.BareLaws.{fixed_bare}
 use Rattle.pl_form.specs.Files.{marked_in}
 use Rattle.pl_form.specs.declared.file.Marked.{Marked}
 use Rattle.pl_place.specs.Policy.{Choice}
-use Rattle.pl_sound.specs.Rule as sound
-use Rattle.pl_sound.specs.Rule.{Mark, mark_at, matches, tells_walk, walk_in}
+use Rattle.law_sound.specs.Rule as sound
+use Rattle.law_sound.specs.Rule.{Mark, mark_at, matches, tells_walk, walk_in}
 use Rattle.pl_words.specs.declared.command.Policy.{Policy}
 use Rattle.pl_loader.specs.Started.{Start, load}
 use Rattle.pl_loader.specs.declared.fault.LoadFault.{LoadFault}

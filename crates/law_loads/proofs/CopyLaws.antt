@@ -14,11 +14,11 @@ use Rattle.pl_batch.specs.declared.cause.Cause.TheVariants.{FolderTooLarge, TooM
 use Rattle.pl_conflict.specs.Format.{Rule, format}
 use Rattle.law_folder.specs.Sound.{named}
 use Rattle.law_folder.specs.Steps.{cache_or_none}
-use Rattle.pl_known.specs.Skips.{skip_causes}
+use Rattle.pl_rewrite.specs.Skips.{skip_causes}
 use Rattle.pl_cache.specs.Reading.{read}
 use Rattle.pl_cache.specs.declared.cache.Cache.{Cache}
-use Rattle.pl_sound.specs.Plan.{IsBounded}
-use Rattle.pl_sound.specs.Rule as sound
+use Rattle.law_sound.specs.Plan.{IsBounded}
+use Rattle.law_sound.specs.Rule as sound
 use Rattle.law_loads.specs.Weaves.{CopiesKeep}
 
 -- a copy is the files that are kept

@@ -13,8 +13,8 @@ use Rattle.pl_form.specs.Words.{checksum_of}
 use Rattle.pl_lists.specs.declared.list_row.ListRow.{ListRow}
 use Rattle.pl_scope.specs.Members.{names}
 use Rattle.pl_scope.specs.Walk.{Walked}
-use Rattle.pl_sound.specs.Rule as sound
-use Rattle.pl_sound.specs.Rule.{Files, Row, mark_at, original_at, slot_of, stamp_of, row_at, row_eq, is_marked, tells_walk, matches, walk_in}
+use Rattle.law_sound.specs.Rule as sound
+use Rattle.law_sound.specs.Rule.{Files, Row, mark_at, original_at, slot_of, stamp_of, row_at, row_eq, is_marked, tells_walk, matches, walk_in}
 use Rattle.pl_conflict.specs.Format as format
 use Rattle.pl_conflict.specs.Format.{Causes, mark_in, row_of, slot_at, others_in, libraries}
 use Rattle.pl_loader.specs.Fast.{is_row_of, tells_one, are_rows_of, lists_libraries, is_slot_of, is_at_slot, are_at_slots, is_fast_by, is_fast}

@@ -21,7 +21,7 @@ use Rattle.pl_form.proofs.LengthLaws.{accepted_small}
 use Rattle.pl_object.specs.Reads.{reads}
 use Rattle.pl_object.specs.declared.object.Object.{Object}
 use Rattle.pl_object.specs.declared.refusal.Refusal.{Refusal}
-use Rattle.pl_sound.specs.Rule as sound
+use Rattle.law_sound.specs.Rule as sound
 use Rattle.pl_conflict.specs.Complete.{rows_of}
 use Rattle.pl_conflict.specs.Format.{Causes, number_of, row_of, mark_of, mark_in, read_original}
 use Rattle.pl_loader.specs.Faults.{of_file}

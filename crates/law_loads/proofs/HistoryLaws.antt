@@ -3,9 +3,9 @@ use Rattle.std.proofs.Common.{ℕ, List}
 use Rattle.pl_conflict.specs.Format as format
 use Rattle.pl_conflict.specs.Format.{Causes}
 use Rattle.pl_conflict.proofs.FormatLaws.{format_kept}
-use Rattle.pl_sound.specs.History.{Happened}
-use Rattle.pl_sound.specs.Rule.{Files, Rule}
-use Rattle.pl_sound.proofs.Theorems.{histories}
+use Rattle.law_sound.specs.History.{Happened}
+use Rattle.law_sound.specs.Rule.{Files, Rule}
+use Rattle.law_sound.proofs.Theorems.{histories}
 use Rattle.law_loads.specs.Loads.{AreHeld, LoadsOverHistories}
 use Rattle.law_loads.proofs.ImageLaws.{loads_are_ordinary}
 

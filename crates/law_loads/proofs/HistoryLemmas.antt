@@ -17,14 +17,14 @@ use Rattle.pl_folder.specs.Disk.{View}
 use Rattle.pl_journal.specs.Meaning.{rows_for}
 use Rattle.pl_journal.specs.Spelling.{differ, name_of}
 use Rattle.pl_journal.specs.declared.change.Change.{Change}
-use Rattle.pl_known.specs.Skips.{skip_causes}
+use Rattle.pl_rewrite.specs.Skips.{skip_causes}
 use Rattle.pl_place.specs.Policy.{Choice}
 use Rattle.pl_rewrite.specs.History.{Happened}
 use Rattle.pl_script.specs.declared.script.Event.{Event}
 use Rattle.pl_script.specs.declared.script.Event.TheVariants.{Open, Rename}
-use Rattle.pl_sound.specs.History.{Held}
-use Rattle.pl_sound.specs.Rule as sound
-use Rattle.pl_sound.proofs.Theorems.{histories}
+use Rattle.law_sound.specs.History.{Held}
+use Rattle.law_sound.specs.Rule as sound
+use Rattle.law_sound.proofs.Theorems.{histories}
 use Rattle.pl_weave.specs.Opening.{Opened, led_to, opened, seen_of, taken_as, wanted}
 use Rattle.pl_weave.specs.Runs.{Runs, begun, begun_by, renamed, renamed_by, run_rows, with_row}
 use Rattle.pl_weave.specs.declared.progress.Progress.{Progress}

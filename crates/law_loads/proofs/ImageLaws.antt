@@ -18,8 +18,8 @@ use Rattle.pl_object.specs.declared.object.Object.{Object}
 use Rattle.pl_place.specs.Policy.{Choice}
 use Rattle.pl_scope.specs.Scope as scopes
 use Rattle.pl_scope.proofs.NameLaws.{eq_refl}
-use Rattle.pl_sound.specs.Rule.{Files, matches}
-use Rattle.pl_sound.proofs.Matching.{tells_is}
+use Rattle.law_sound.specs.Rule.{Files, matches}
+use Rattle.law_sound.proofs.Matching.{tells_is}
 use Rattle.pl_tls.specs.Layout.{offsets}
 use Rattle.pl_tls.specs.declared.block.Block.{Block}
 use Rattle.pl_tls.specs.declared.module.Module.{Module}

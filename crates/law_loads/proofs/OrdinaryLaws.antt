@@ -1,7 +1,7 @@
 -- The answers of a weave's loaders.
 use Rattle.std.proofs.Common.{subst}
 use Rattle.pl_conflict.specs.Format.{is_fast}
-use Rattle.pl_known.specs.Skips.{skip_causes}
+use Rattle.pl_rewrite.specs.Skips.{skip_causes}
 use Rattle.law_loads.specs.Answers.{loading_folder}
 use Rattle.law_loads.specs.Paths.{SameAnswer, ordinary_load}
 use Rattle.law_loads.proofs.AnswerLaws.{gives_given, rule_given}

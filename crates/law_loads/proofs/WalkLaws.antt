@@ -18,7 +18,7 @@ use Rattle.pl_scope.proofs.ClosureLaws.{WalkTells, walk_is}
 use Rattle.pl_scope.proofs.NameLaws.{has_head, has_tail}
 use Rattle.pl_scope.proofs.StepLaws.{walk_local}
 use Rattle.pl_scope.proofs.WalkedLaws.{member_file}
-use Rattle.pl_sound.specs.Rule.{Files, object_at, original_at, objects, walk_in}
+use Rattle.law_sound.specs.Rule.{Files, object_at, original_at, objects, walk_in}
 use Rattle.pl_conflict.specs.Complete.{bytes_of, file_at, files_in, originals_in, rows_of}
 use Rattle.pl_conflict.specs.Format.{Causes, format}
 use Rattle.pl_loader.specs.Fast.{stored, conflicts_of}

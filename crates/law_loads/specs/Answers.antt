@@ -7,12 +7,12 @@ use Rattle.pl_base.specs.Files.{Files}
 use Rattle.pl_base.specs.Names.{is_valid_name}
 use Rattle.pl_elf.specs.declared.range.Range.{Range}
 use Rattle.pl_place.specs.Policy.{Choice}
-use Rattle.pl_sound.specs.Rule as sound
+use Rattle.law_sound.specs.Rule as sound
 use Rattle.pl_words.specs.declared.command.Policy.{Policy}
 use Rattle.pl_conflict.specs.Format.{Causes, is_fast}
-use Rattle.pl_fix.specs.Fixing.{placed}
-use Rattle.pl_fix.specs.declared.placing.Placing.{Placing}
-use Rattle.pl_fix.specs.declared.placing.Placing.TheVariants.{NotPie, NoPlace, Fixed}
+use Rattle.pl_pie.specs.Placed.{placed}
+use Rattle.pl_pie.specs.declared.placing.Placing.{Placing}
+use Rattle.pl_pie.specs.declared.placing.Placing.TheVariants.{NotPie, NoPlace, Fixed}
 use Rattle.pl_loader.specs.Started.{Start}
 use Rattle.pl_cli.specs.Answer.{Answer, load_answer}
 use Rattle.pl_cli.specs.Files.{valid_file}

@@ -3,8 +3,8 @@ use Rattle.std.specs.Prelude.{◌≡◌, ℕ, List, length, Option, Some, Result
 use Rattle.pl_base.specs.Files.{Files as FileMap}
 use Rattle.pl_elf.specs.declared.range.Range.{Range}
 use Rattle.pl_place.specs.Policy.{Choice}
-use Rattle.pl_sound.specs.History.{Happened, Held}
-use Rattle.pl_sound.specs.Rule.{Files}
+use Rattle.law_sound.specs.History.{Happened, Held}
+use Rattle.law_sound.specs.Rule.{Files}
 use Rattle.pl_tls.specs.declared.module.Module.{Module}
 use Rattle.pl_conflict.specs.Format as format
 use Rattle.pl_conflict.specs.Format.{Causes, RuleAt}

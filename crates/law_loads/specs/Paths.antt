@@ -8,7 +8,7 @@ use Rattle.pl_image.specs.Image.{Image, byte_of, extents_of}
 use Rattle.pl_place.specs.Policy.{Choice}
 use Rattle.pl_scope.specs.Scope.{objects}
 use Rattle.pl_scope.specs.Walk.{Walked}
-use Rattle.pl_sound.specs.Rule.{Files, walk_in}
+use Rattle.law_sound.specs.Rule.{Files, walk_in}
 use Rattle.pl_tls.specs.declared.module.Module.{Module}
 use Rattle.pl_value.specs.Ordinary.{loaded_objects}
 use Rattle.pl_conflict.specs.Complete.{file_at, files_in, originals_in, rows_of}

@@ -8,15 +8,15 @@ use Rattle.pl_base.specs.Answers.{because}
 use Rattle.pl_conflict.specs.Format.{is_fast}
 use Rattle.law_folder.specs.Sound.{KeepsTheRule}
 use Rattle.law_folder.specs.Steps.{IsPastAll}
-use Rattle.pl_known.specs.Skips.{skip_causes}
+use Rattle.pl_rewrite.specs.Skips.{skip_causes}
 use Rattle.pl_loader.specs.declared.fault.LoadFault.{LoadFault}
 use Rattle.law_loads.specs.Answers.{loading_folder}
 use Rattle.law_loads.specs.Paths.{GivesFrom, SameAnswer, ordinary_load}
 use Rattle.pl_place.specs.Policy.{Choice}
 use Rattle.pl_rewrite.specs.History.{Happened}
 use Rattle.pl_script.specs.declared.script.Event.{Event}
-use Rattle.pl_sound.specs.History.{Held}
-use Rattle.pl_sound.specs.Rule as sound
+use Rattle.law_sound.specs.History.{Held}
+use Rattle.law_sound.specs.Rule as sound
 use Rattle.pl_weave.specs.Given.{given_from}
 use Rattle.pl_weave.specs.Opening.{HasSeen, Opened, ended, wanted}
 use Rattle.pl_weave.specs.Weaving.{Weaving, woven}

@@ -16,17 +16,17 @@ use Rattle.pl_folder.specs.Calls.{Calls}
 use Rattle.pl_folder.specs.Seen.{Seen, Done}
 use Rattle.pl_folder.specs.Taken.{taken}
 use Rattle.pl_journal.specs.declared.change.Change.{Change}
-use Rattle.pl_known.specs.Plans.{planned, slots_of, stamp_for}
+use Rattle.pl_rewrite.specs.Plans.{planned, slots_of, stamp_for}
 use Rattle.pl_elf.specs.declared.range.Range.{Range}
-use Rattle.pl_known.specs.Taken.{AreTaken, IsTaken, files_in, names_of, taken_of}
-use Rattle.pl_known.specs.declared.taken.Taken.{Taken}
-use Rattle.pl_plan.specs.Faults.{is_memory}
-use Rattle.pl_plan.specs.declared.fault.PlanningFault.{PlanningFault}
-use Rattle.pl_plan.specs.declared.fault.PlanningFault.TheVariants as planning
+use Rattle.pl_rewrite.specs.Taken.{AreTaken, IsTaken, files_in, names_of, taken_of}
+use Rattle.pl_rewrite.specs.declared.taken.Taken.{Taken}
+use Rattle.pl_cone.specs.Faults.{is_memory}
+use Rattle.pl_cone.specs.declared.fault.PlanningFault.{PlanningFault}
+use Rattle.pl_cone.specs.declared.fault.PlanningFault.TheVariants as planning
 use Rattle.pl_rewrite.specs.Rewriting.{rewrite}
 use Rattle.pl_rewrite.specs.declared.rewriting.Rewritten.{Rewritten}
 use Rattle.pl_slots.specs.declared.slot.Slot.{Slot}
-use Rattle.pl_sound.specs.Rule as sound
+use Rattle.law_sound.specs.Rule as sound
 use Rattle.pl_rewrite.specs.declared.report.Report.{Report}
 use Rattle.pl_batch.specs.All.{Reports, all_changes, all_made, all_reported, asked_of, made_of_folder, made_of, made_with_cache, of_planning, spelled}
 use Rattle.pl_batch.specs.Answers.{Finds, BatchMeansAlone, of_plan}

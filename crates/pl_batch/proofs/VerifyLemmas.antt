@@ -15,7 +15,7 @@ use Rattle.pl_base.specs.Each.{run}
 use Rattle.pl_base.specs.Files.{Files}
 use Rattle.pl_base.specs.Names.{is_valid_name}
 use Rattle.pl_base.proofs.AnswerLaws.{ok_same, unless_ok}
-use Rattle.pl_conflict.specs.Format.{format, read_original}
+use Rattle.pl_rewrite.specs.Format.{format, read_original}
 use Rattle.pl_folder.specs.Calls.{Calls}
 use Rattle.pl_folder.specs.Seen.{Seen, Done}
 use Rattle.pl_folder.specs.declared.TheConstants as folder
@@ -26,10 +26,10 @@ use Rattle.pl_form.specs.declared.constants.TheConstants.{STORED}
 use Rattle.pl_form.specs.declared.fault.FileFault.TheVariants as unread
 use Rattle.pl_form.specs.declared.file.Marked.{Marked}
 use Rattle.pl_journal.specs.Parts.{Looking}
-use Rattle.pl_known.specs.Skips.{skip_causes}
-use Rattle.pl_known.specs.Taken.{AreTaken, IsTaken, entry_by, entry_in, files_in, names_of, taken_of}
-use Rattle.pl_known.specs.declared.taken.Taken.{Taken}
-use Rattle.pl_known.proofs.RuleLaws.{prelinked_same}
+use Rattle.pl_rewrite.specs.Skips.{skip_causes}
+use Rattle.pl_rewrite.specs.Taken.{AreTaken, IsTaken, entry_by, entry_in, files_in, names_of, taken_of}
+use Rattle.pl_rewrite.specs.declared.taken.Taken.{Taken}
+use Rattle.pl_rewrite.proofs.RuleLaws.{prelinked_same}
 use Rattle.pl_object.specs.Reads.{reads}
 use Rattle.pl_object.specs.declared.object.Object.{Object}
 use Rattle.pl_object.specs.declared.refusal.Refusal.{Refusal}
@@ -48,9 +48,9 @@ use Rattle.pl_scope.proofs.ClosureLaws.{at_end, at_next, walk_is}
 use Rattle.pl_scope.proofs.NameLaws.{eq_laws, eq_refl, has_flip, same_name}
 use Rattle.pl_scope.proofs.StepLaws.{Entered, Grown, added_cases, bind_ok, entered_is, grown, same_ok}
 use Rattle.pl_scope.proofs.WalkLaws.{give_given, walk_begins, walk_ends, walk_goes_on, walk_lacks, walk_stops}
-use Rattle.pl_sound.specs.Rule as sound
-use Rattle.pl_sound.specs.Rule.{is_marked, is_same, mark_at, object_at, objects, original_at, prelinked_in}
-use Rattle.pl_sound.proofs.RuleLaws.{AgreeOn, first_is, prelinked_agree}
+use Rattle.law_sound.specs.Rule as sound
+use Rattle.law_sound.specs.Rule.{is_marked, is_same, mark_at, object_at, objects, original_at, prelinked_in}
+use Rattle.law_sound.proofs.RuleLaws.{AgreeOn, first_is, prelinked_agree}
 use Rattle.pl_batch.specs.Answers.{Finds, BatchStopsAlone}
 use Rattle.pl_batch.specs.Folder.{named}
 use Rattle.pl_batch.specs.Names.{file_of, of_file}

@@ -9,13 +9,13 @@ use Rattle.pl_cache.specs.declared.cache.Cache.{Cache}
 use Rattle.pl_folder.specs.Seen.{Seen}
 use Rattle.pl_journal.specs.declared.change.Change.{Change}
 use Rattle.pl_journal.specs.declared.change.Change.TheVariants.{Put}
-use Rattle.pl_plan.specs.declared.asked.Asked.{Asked}
-use Rattle.pl_plan.specs.declared.fault.PlanningFault.{PlanningFault}
-use Rattle.pl_plan.specs.declared.fault.PlanningFault.TheVariants as plan
+use Rattle.pl_cone.specs.declared.asked.Asked.{Asked}
+use Rattle.pl_cone.specs.declared.fault.PlanningFault.{PlanningFault}
+use Rattle.pl_cone.specs.declared.fault.PlanningFault.TheVariants as plan
 use Rattle.pl_rewrite.specs.Rewriting.{rewrite}
 use Rattle.pl_rewrite.specs.declared.report.Report.{Report}
 use Rattle.pl_rewrite.specs.declared.rewriting.Rewritten.{Rewritten}
-use Rattle.pl_sound.specs.Rule as sound
+use Rattle.law_sound.specs.Rule as sound
 use Rattle.pl_batch.specs.Commands.{IsBefore}
 use Rattle.pl_batch.specs.Folder.{all_files, are_large, cache, cache_file, cache_in, named, valid_names}
 use Rattle.pl_batch.specs.Names.{are_many}

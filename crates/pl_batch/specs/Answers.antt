@@ -7,8 +7,8 @@ use Rattle.pl_folder.specs.Seen.{Seen, Ending, Done, Broken, Undone}
 use Rattle.pl_journal.specs.Parts.{Looking}
 use Rattle.pl_journal.specs.declared.fault.JournalFault.{JournalFault}
 use Rattle.pl_journal.specs.declared.fault.JournalFault.TheVariants as journal_faults
-use Rattle.pl_plan.specs.declared.fault.PlanningFault.{PlanningFault}
-use Rattle.pl_plan.specs.declared.fault.PlanningFault.TheVariants as planning
+use Rattle.pl_cone.specs.declared.fault.PlanningFault.{PlanningFault}
+use Rattle.pl_cone.specs.declared.fault.PlanningFault.TheVariants as planning
 use Rattle.pl_batch.specs.declared.cause.Cause.{Cause}
 use Rattle.pl_batch.specs.declared.cause.Cause.TheVariants as causes
 use Rattle.pl_batch.specs.declared.fault.BatchFault.{BatchFault}

@@ -4,12 +4,12 @@ use Rattle.std.specs.List.{All}
 use Rattle.pl_base.specs.Answers.{◌>>=◌, unless}
 use Rattle.pl_base.specs.Files.{Files}
 use Rattle.pl_base.specs.Names.{is_valid_name}
-use Rattle.pl_conflict.specs.Format.{Causes, format}
+use Rattle.pl_rewrite.specs.Format.{Causes, format}
 use Rattle.pl_elf.specs.declared.range.Range.{Range}
 use Rattle.pl_form.specs.declared.file.Entry.{Entry}
 use Rattle.pl_form.specs.declared.file.Entry.TheVariants as entries
-use Rattle.pl_known.specs.Taken.{object_of}
-use Rattle.pl_known.specs.declared.taken.Taken.{Taken}
+use Rattle.pl_rewrite.specs.Taken.{object_of}
+use Rattle.pl_rewrite.specs.declared.taken.Taken.{Taken}
 use Rattle.pl_object.specs.declared.object.Object.{Object}
 use Rattle.pl_object.specs.declared.refusal.Refusal.{Refusal}
 use Rattle.pl_object.specs.declared.refusal.Refusal.TheVariants as refusals
@@ -17,8 +17,8 @@ use Rattle.pl_scope.specs.Members.{names}
 use Rattle.pl_scope.specs.Walk.{Walked}
 use Rattle.pl_scope.specs.declared.fault.WalkFault.{WalkFault}
 use Rattle.pl_scope.specs.declared.fault.WalkFault.TheVariants as walks
-use Rattle.pl_sound.specs.Rule as sound
-use Rattle.pl_sound.specs.Rule.{is_verified, original_at, walk_in}
+use Rattle.law_sound.specs.Rule as sound
+use Rattle.law_sound.specs.Rule.{is_verified, original_at, walk_in}
 use Rattle.pl_batch.specs.Folder.{named}
 use Rattle.pl_batch.specs.Names.{file_of}
 use Rattle.pl_batch.specs.declared.cause.Cause.{Cause}

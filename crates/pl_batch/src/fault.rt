@@ -2,10 +2,10 @@ ghost use Rattle.std.specs.Prelude.{◌≡◌};
 ghost use Rattle.pl_batch.specs.declared.fault.BatchFault.TheVariants as faults;
 
 use crate::Cause;
+use pl_cone::PlanningFault;
 use pl_folder::FolderFault;
 use pl_io::NoMemory;
 use pl_journal::JournalFault;
-use pl_plan::PlanningFault;
 use pl_scope::WalkFault;
 use std::alloc::{AllocError, AllocFailed};
 use std::fmt;

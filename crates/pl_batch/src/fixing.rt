@@ -1,7 +1,7 @@
 //! What fixing a position-independent program changes, and loosening a fixed one.
 ghost use Rattle.std.specs.Prelude.{◌≡◌, ◌<◌, ◌^◌, IfErr, IfOk, length, true};
 ghost use Rattle.pl_base.specs.Names.{IsNameLength, is_valid_name};
-ghost use Rattle.pl_fix.specs.Fixing.{HoldsBy};
+ghost use Rattle.pl_pie.specs.Placed.{HoldsBy};
 ghost use Rattle.pl_folder.specs.Calls.{Calls};
 ghost use Rattle.pl_journal.specs.Meaning.{rows_for};
 ghost use Rattle.pl_journal.specs.Parts.{Looking};
@@ -15,10 +15,9 @@ use crate::storing::{put, stored_as};
 use crate::taking::take;
 use crate::{BatchFault, Cause};
 use pl_base::{Rows, Text, is_valid_name};
-use pl_fix::{Placing, fix_placed};
 use pl_folder::Folder;
 use pl_journal::Change;
-use pl_pie::unfix;
+use pl_pie::{Placing, fix_placed, unfix};
 use pl_place::{Holes, Placer};
 use std::alloc::Global;
 

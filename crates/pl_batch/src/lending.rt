@@ -1,7 +1,7 @@
 //! The writing commands.
 ghost use Rattle.std.specs.Fn.{FnOnceReturnsAt};
 ghost use Rattle.std.specs.Prelude.{IfOk, Ok};
-ghost use Rattle.pl_fix.specs.Fixing.{HoldsBy};
+ghost use Rattle.pl_pie.specs.Placed.{HoldsBy};
 ghost use Rattle.pl_folder.specs.Calls.{Calls};
 ghost use Rattle.pl_place.specs.Policy as policy;
 ghost use Rattle.pl_batch.specs.All.{Reports};

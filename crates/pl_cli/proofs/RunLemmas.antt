@@ -24,8 +24,8 @@ use Rattle.pl_cli.specs.declared.cause.Cause.TheVariants as causes
 use Rattle.pl_cli.specs.declared.command.Command.{Command}
 use Rattle.pl_cli.specs.declared.command.Command.TheVariants.{Load, All, Preview, UndoAll, Undo, Verify, Store, Remove, Fix, Unfix, Print, Order, Demo, Weave}
 use Rattle.pl_cli.specs.declared.command.Detail.{Detail}
-use Rattle.pl_cli.specs.declared.status.Status.{Status}
-use Rattle.pl_cli.specs.declared.status.Status.TheVariants as statuses
+use Rattle.pl_words.specs.declared.status.Status.{Status}
+use Rattle.pl_words.specs.declared.status.Status.TheVariants as statuses
 use Rattle.pl_cli.specs.declared.stop.Stop.{Stop}
 use Rattle.pl_cli.specs.declared.stop.Stop.TheVariants as stops
 use Rattle.pl_cli.specs.Answer.{Answer, IsTold, answer, compare_answer, compared, done, load_answer, text_answer, refuses, usage, differs_text}

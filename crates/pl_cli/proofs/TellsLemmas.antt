@@ -29,9 +29,9 @@ use Rattle.pl_cli.specs.Load.{choice, is_memory, load_result, loading_file}
 use Rattle.pl_loader.specs.Faults as memory
 use Rattle.pl_place.specs.Policy.{Choice}
 use Rattle.pl_weave.specs.Given.{first_by, first_of, given_from}
-use Rattle.pl_fix.specs.Fixing.{placed}
-use Rattle.pl_fix.specs.declared.placing.Placing.{Placing}
-use Rattle.pl_fix.specs.declared.placing.Placing.TheVariants as placings
+use Rattle.pl_pie.specs.Placed.{placed}
+use Rattle.pl_pie.specs.declared.placing.Placing.{Placing}
+use Rattle.pl_pie.specs.declared.placing.Placing.TheVariants as placings
 use Rattle.pl_cli.specs.Order.{object_in, order_text, ordered, original, refused, walked}
 use Rattle.pl_cli.specs.declared.command.Content.{Content}
 use Rattle.pl_cli.specs.declared.command.Content.TheVariants.{File, Recipe}

@@ -9,8 +9,8 @@ use Rattle.pl_loader.specs.Started.{Start}
 use Rattle.pl_batch.specs.Replace.{address_of}
 use Rattle.pl_batch.specs.Restored.{restored}
 use Rattle.pl_batch.specs.declared.run.Run.TheVariants as runs
-use Rattle.pl_cli.specs.declared.status.Status.{Status}
-use Rattle.pl_cli.specs.declared.status.Status.TheVariants as statuses
+use Rattle.pl_words.specs.declared.status.Status.{Status}
+use Rattle.pl_words.specs.declared.status.Status.TheVariants as statuses
 use Rattle.pl_cli.specs.declared.cause.Cause.{Cause}
 use Rattle.pl_cli.specs.declared.command.Command.{Command}
 use Rattle.pl_cli.specs.declared.command.Command.TheVariants.{Load, All, Preview, UndoAll, Undo, Verify, Store, Remove, Fix, Unfix, Print, Order, Demo, Weave}

@@ -26,7 +26,7 @@ use Rattle.pl_cli.specs.declared.command.Command.TheVariants.{Load, All, Preview
 use Rattle.pl_cli.specs.declared.command.Content.{Content}
 use Rattle.pl_cli.specs.declared.command.Detail.{Detail}
 use Rattle.pl_cli.specs.declared.named_object.NamedObject.{NamedObject}
-use Rattle.pl_cli.specs.declared.status.Status.{Status}
+use Rattle.pl_words.specs.declared.status.Status.{Status}
 use Rattle.pl_cli.specs.declared.stop.Stop.{Stop}
 use Rattle.pl_cli.specs.declared.stop.Stop.TheVariants as stops
 use Rattle.pl_cli.specs.Answer.{Answer, IsTold, answer, done, refuses, removed_text, stored_text, fixed_line, fixed_text, unfixed_text}

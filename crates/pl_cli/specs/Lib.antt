@@ -1,4 +1,3 @@
-pub mod Statuses
 pub mod Words
 pub mod Writes
 pub mod Files

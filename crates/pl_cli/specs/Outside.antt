@@ -6,8 +6,8 @@ use Rattle.pl_io.specs.Seen.{Input, Output}
 use Rattle.pl_folder.specs.Seen.{Seen, Ending, Done, Broken, Undone}
 use Rattle.pl_cli.specs.declared.command.Command.{Command}
 use Rattle.pl_cli.specs.declared.command.Command.TheVariants.{Load, All, Preview, UndoAll, Undo, Verify, Store, Remove, Fix, Unfix, Print, Order, Demo, Weave}
-use Rattle.pl_cli.specs.declared.status.Status.{Status}
-use Rattle.pl_cli.specs.declared.status.Status.TheVariants as statuses
+use Rattle.pl_words.specs.declared.status.Status.{Status}
+use Rattle.pl_words.specs.declared.status.Status.TheVariants as statuses
 use Rattle.pl_script.specs.declared.TheConstants.{SCRIPT}
 use Rattle.pl_cli.specs.Words.{asks_folder, reads_input}
 use Rattle.pl_cli.specs.Writes.{most_bytes}

@@ -5,7 +5,6 @@ ghost use Rattle.sha2.specs.Sha256.{sha256};
 ghost use Rattle.pl_cli.specs.Came.{HasDemo};
 ghost use Rattle.pl_cli.specs.Demo as spec;
 
-use crate::Status;
 use crate::stop::Stop;
 use crate::text_sink::TextSink;
 use crate::top::load_and_write;
@@ -13,7 +12,7 @@ use pl_base::Text;
 use pl_demo::{Counts, DemoFolder, demo_folder};
 use pl_folder::QuietFolder;
 use pl_io::NoMemory;
-use pl_words::Policy;
+use pl_words::{Policy, Status};
 use sha2::{Digest, Sha256};
 use std::alloc::{AllocError, Global};
 

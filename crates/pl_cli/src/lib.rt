@@ -19,7 +19,6 @@ mod print;
 mod refusals;
 mod report;
 mod script;
-mod status;
 mod stop;
 mod store;
 mod symbol_text;
@@ -37,5 +36,5 @@ mod write;
 mod write_stop;
 
 pub use laws::{causes_tell, replacements_tell, reports_tell};
-pub use status::Status;
+pub use pl_words::Status;
 pub use top::run;

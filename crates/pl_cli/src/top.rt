@@ -14,7 +14,6 @@ ghost use Rattle.pl_cli.specs.Outside.{is_write_fault, outside};
 ghost use Rattle.pl_cli.specs.Ran.{Finishes, Ran, RanLoad, Refuses, Writes};
 ghost use Rattle.pl_cli.specs.Words.{asks_folder, command, reads_input};
 
-use crate::Status;
 use crate::all::{prelink, preview};
 use crate::change::{remove, undo};
 use crate::chosen::chosen;
@@ -41,7 +40,7 @@ use pl_folder::Folder;
 use pl_io::{Sink, Source, write_all};
 use pl_loader::Loader;
 use pl_place::{Holes, Placer};
-use pl_words::{Policy, WordsFault};
+use pl_words::{Policy, Status, WordsFault};
 use std::alloc::Global;
 
 /// Writes a whole text and ends so, or with a fault of the output.

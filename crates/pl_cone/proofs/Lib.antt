@@ -1,3 +1,8 @@
+pub mod FolderLaws
+pub mod SingleLaws
+pub mod OneSymbolLaws
+pub mod OneWordLaws
+pub mod StepLaws
 pub mod SkipLaws
 pub mod KnownLaws
 pub mod MemberLaws
@@ -5,3 +10,8 @@ pub mod LoopLaws
 pub mod ListLaws
 pub mod LinkLaws
 pub mod ValueLaws
+pub mod GivenLaws
+pub mod AlignLaws
+pub mod SameLaws
+pub mod AgreeLaws
+pub mod CurrentLaws

@@ -9,11 +9,11 @@ use Rattle.std.proofs.lemmas.Option.{none-some, same_Some, slice_get_read}
 use Rattle.pl_elf.specs.Kinds.{is_program}
 use Rattle.pl_elf.specs.declared.kind.Kind.{Kind}
 use Rattle.pl_elf.specs.declared.kind.Kind.TheVariants.{Program, Library, Static}
-use Rattle.pl_links.specs.OneWord.{IsFlag, GivesOneWordBy, GivesOneWord}
-use Rattle.pl_links.specs.Definers.{HasDefiner, HasHashes}
-use Rattle.pl_links.specs.Folder.{IsMadeOf, IsMember, IsWithin}
-use Rattle.pl_links.proofs.OneWordLaws.{one_word}
-use Rattle.pl_links.proofs.FolderLaws.{object_at, member_has}
+use Rattle.pl_cone.specs.OneWord.{IsFlag, GivesOneWordBy, GivesOneWord}
+use Rattle.pl_cone.specs.Definers.{HasDefiner, HasHashes}
+use Rattle.pl_cone.specs.Folder.{IsMadeOf, IsMember, IsWithin}
+use Rattle.pl_cone.proofs.OneWordLaws.{one_word}
+use Rattle.pl_cone.proofs.FolderLaws.{object_at, member_has}
 use Rattle.pl_object.specs.declared.object.Object.{Object}
 use Rattle.pl_object.specs.declared.reloc.Reloc.{Reloc}
 use Rattle.pl_scope.specs.Members.{names, has, told, IsLinked}

@@ -4,7 +4,7 @@ use Rattle.std.specs.Prelude.{slice_get}
 use Rattle.std.proofs.lemmas.List.{at_drop_more, at_drop_all, get_or-map, length-map}
 use Rattle.pl_base.specs.Each.{each, with_front}
 use Rattle.pl_base.proofs.EachLaws.{front_nothing, front_more, front_stops}
-use Rattle.pl_links.proofs.StepLaws.{step_past}
+use Rattle.pl_cone.proofs.StepLaws.{step_past}
 use Rattle.pl_object.specs.declared.object.Object.{Object}
 use Rattle.pl_object.specs.declared.reloc.Reloc.{Reloc}
 use Rattle.pl_value.specs.Meanings.{Row, row, rows_from}

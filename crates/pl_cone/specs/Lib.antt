@@ -1,6 +1,14 @@
+pub mod Folder
+pub mod Definers
+pub mod OneSymbol
+pub mod OneWord
 pub mod Skips
 pub mod Known
 pub mod Candidates
 pub mod Links
 pub mod Current
 pub mod Cone
+pub mod Faults
+pub mod Wants
+pub mod RunPlan
+pub mod Agreement

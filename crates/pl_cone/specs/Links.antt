@@ -6,8 +6,8 @@ use Rattle.std.specs.Str.{bytes_eq}
 use Rattle.pl_base.specs.Answers.{◌>>=◌}
 use Rattle.pl_base.specs.Each.{each}
 use Rattle.pl_elf.specs.Kinds.{is_library}
-use Rattle.pl_links.specs.OneWord.{IsFlag}
-use Rattle.pl_links.specs.Definers.{HasHashes}
+use Rattle.pl_cone.specs.OneWord.{IsFlag}
+use Rattle.pl_cone.specs.Definers.{HasHashes}
 use Rattle.pl_object.specs.declared.object.Object.{Object}
 use Rattle.pl_object.specs.declared.reloc.Reloc.{Reloc}
 use Rattle.pl_scope.specs.Scope.{objects}

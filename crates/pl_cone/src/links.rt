@@ -1,17 +1,16 @@
 // Which relocations of libraries are known to give the same in every walk.
 ghost use Rattle.std.specs.Prelude.{◌≡◌, ◌<◌, ◌++◌, length, IfOk, IfSome, OnOk, Ok};
 ghost use Rattle.std.specs.List.{All, cons_option};
-ghost use Rattle.pl_links.specs.Definers.{HasHashes};
+ghost use Rattle.pl_cone.specs.Definers.{HasHashes};
 ghost use Rattle.pl_scope.specs.Scope.{walked};
 ghost use Rattle.pl_cone.specs.Candidates as candidates;
 ghost use Rattle.pl_cone.specs.Known.{AreAccepted};
 ghost use Rattle.pl_cone.specs.Links as spec;
 
 use crate::walks::walk_in;
-use crate::{Entry, Known, Skip};
+use crate::{Definers, Entry, Known, Skip, one_word_of};
 use pl_base::{Rows, Text};
 use pl_io::NoMemory;
-use pl_links::{Definers, one_word_of};
 use pl_scope::{Member, Scope};
 use std::alloc::{AllocError, Global};
 

@@ -34,9 +34,9 @@ use Rattle.pl_scope.proofs.ClosureLaws.{WalkTells, walk_is, member_told, member_
 use Rattle.pl_scope.proofs.NameLaws.{same_name, eq_refl, has_cons, has_head, has_tail}
 use Rattle.pl_scope.proofs.StepLaws.{walk_there}
 use Rattle.pl_scope.proofs.WalkedLaws.{member_file}
-use Rattle.pl_sound.specs.Rule.{Files, Member, object_at, mark_at, original_at, member_at, objects, walk_in, of_walk, prelinked_in, matches}
-use Rattle.pl_sound.proofs.Matching.{tells_is, members_are}
-use Rattle.pl_sound.proofs.RuleLaws.{linked, other_is, first_is}
+use Rattle.law_sound.specs.Rule.{Files, Member, object_at, mark_at, original_at, member_at, objects, walk_in, of_walk, prelinked_in, matches}
+use Rattle.law_sound.proofs.Matching.{tells_is, members_are}
+use Rattle.law_sound.proofs.RuleLaws.{linked, other_is, first_is}
 use Rattle.pl_tls.specs.Layout.{offsets}
 use Rattle.pl_tls.specs.declared.module.Module.{Module}
 use Rattle.pl_value.specs.Meanings.{meanings}

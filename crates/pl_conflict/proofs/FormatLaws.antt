@@ -15,7 +15,7 @@ use Rattle.pl_form.specs.declared.file.Marked.{Marked}
 use Rattle.pl_form.proofs.FilesLaws.{forms_are_read, nothing_else_is_read, originals_are_bare}
 use Rattle.pl_object.specs.Reads.{reads}
 use Rattle.pl_object.specs.declared.object.Object.{Object}
-use Rattle.pl_sound.specs.Rule.{Mark}
+use Rattle.law_sound.specs.Rule.{Mark}
 use Rattle.pl_conflict.specs.Format.{Causes, mark_of, mark_in, read_original, FormatIsKept}
 use Rattle.pl_conflict.proofs.MadeLaws.{prelinked_forms}
 

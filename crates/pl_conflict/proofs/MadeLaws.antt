@@ -32,11 +32,11 @@ use Rattle.pl_lists.specs.Conflicts.{are_conflicts, ascend}
 use Rattle.pl_lists.specs.Lists.{is_list}
 use Rattle.pl_lists.specs.declared.conflict_row.ConflictRow.{ConflictRow}
 use Rattle.pl_object.specs.declared.object.Object.{Object}
-use Rattle.pl_parts.specs.Back.{wanted}
-use Rattle.pl_parts.specs.Found.{ps_of}
-use Rattle.pl_parts.specs.declared.parts.Spot.{Spot}
+use Rattle.pl_form.specs.Back.{wanted}
+use Rattle.pl_form.specs.Found.{ps_of}
+use Rattle.pl_form.specs.declared.parts.Spot.{Spot}
 use Rattle.pl_scope.specs.Scope.{IsAccepted}
-use Rattle.pl_sound.specs.Rule.{Member, Mark, Row}
+use Rattle.law_sound.specs.Rule.{Member, Mark, Row}
 use Rattle.pl_tls.specs.Layout.{offsets}
 use Rattle.pl_tls.specs.declared.fault.TlsFault.{TlsFault}
 use Rattle.pl_tls.specs.declared.module.Module.{Module}

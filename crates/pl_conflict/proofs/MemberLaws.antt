@@ -17,8 +17,8 @@ use Rattle.pl_lists.specs.Lists.{is_list}
 use Rattle.pl_object.specs.Reads.{reads}
 use Rattle.pl_object.specs.declared.object.Object.{Object}
 use Rattle.pl_object.specs.declared.refusal.Refusal.{Refusal}
-use Rattle.pl_parts.specs.Back.{when}
-use Rattle.pl_sound.specs.Rule.{Member}
+use Rattle.pl_form.specs.Back.{when}
+use Rattle.law_sound.specs.Rule.{Member}
 use Rattle.pl_conflict.specs.Format.{number_of}
 use Rattle.pl_conflict.specs.Prelinked.{Firm, with_object, firm_of, joined, all_firm, version_of, is_version, has_numbers, windows_of, list_of, are_set}
 

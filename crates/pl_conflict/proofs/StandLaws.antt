@@ -30,10 +30,10 @@ use Rattle.pl_lists.specs.declared.conflict_row.ConflictRow.{ConflictRow}
 use Rattle.pl_lists.specs.declared.list_row.ListRow.{ListRow}
 use Rattle.pl_object.specs.declared.object.Object.{Object}
 use Rattle.pl_object.specs.declared.reloc.Reloc.{Reloc}
-use Rattle.pl_parts.specs.Back.{wanted}
-use Rattle.pl_parts.specs.Found.{ss_of, ps_of}
-use Rattle.pl_parts.specs.Loads.{stands, pieces_of, fills}
-use Rattle.pl_parts.specs.Parts.{moved_segment}
+use Rattle.pl_form.specs.Back.{wanted}
+use Rattle.pl_form.specs.Found.{ss_of, ps_of}
+use Rattle.pl_form.specs.Loads.{stands, pieces_of, fills}
+use Rattle.pl_form.specs.Parts.{moved_segment}
 use Rattle.pl_tls.specs.declared.module.Module.{Module}
 use Rattle.pl_value.specs.Laws.{AreRead}
 use Rattle.pl_value.specs.Linked.{under, words, copies, worded, relocated}

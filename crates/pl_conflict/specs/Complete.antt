@@ -12,7 +12,7 @@ use Rattle.pl_lists.specs.declared.conflict_row.ConflictRow.{ConflictRow}
 use Rattle.pl_scope.specs.Members.{names}
 use Rattle.pl_scope.specs.Scope.{objects}
 use Rattle.pl_scope.specs.Walk.{Walked}
-use Rattle.pl_sound.specs.Rule.{Files, original_at, matches, walk_in}
+use Rattle.law_sound.specs.Rule.{Files, original_at, matches, walk_in}
 use Rattle.pl_form.specs.Files.{marked_in}
 use Rattle.pl_form.specs.declared.file.Marked.{Marked}
 use Rattle.pl_value.specs.Laws.{AreRead, is_shared_at}

@@ -18,8 +18,8 @@ use Rattle.pl_object.specs.declared.refusal.Refusal.{Refusal}
 use Rattle.pl_scope.specs.Members.{others, has}
 use Rattle.pl_scope.specs.Walk.{Walked}
 use Rattle.pl_scope.specs.declared.fault.WalkFault.{WalkFault}
-use Rattle.pl_sound.specs.Rule as sound
-use Rattle.pl_sound.specs.Rule.{Format, IsFormat, Files, Mark, Member, Row, slot_of, mark_at, matches, members, prelinked_in, walk_in}
+use Rattle.law_sound.specs.Rule as sound
+use Rattle.law_sound.specs.Rule.{Format, IsFormat, Files, Mark, Member, Row, slot_of, mark_at, matches, members, prelinked_in, walk_in}
 use Rattle.pl_conflict.specs.Prelinked.{prelinked}
 
 -- ---- marks

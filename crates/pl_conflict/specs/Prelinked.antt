@@ -21,10 +21,10 @@ use Rattle.pl_lists.specs.Lists.{is_list}
 use Rattle.pl_lists.specs.declared.conflict_row.ConflictRow.{ConflictRow}
 use Rattle.pl_lists.specs.declared.list_row.ListRow.{ListRow}
 use Rattle.pl_object.specs.declared.object.Object.{Object}
-use Rattle.pl_parts.specs.Back.{when}
+use Rattle.pl_form.specs.Back.{when}
 use Rattle.pl_scope.specs.Members.{names, told}
 use Rattle.pl_scope.specs.Walk.{Walked, walk_over}
-use Rattle.pl_sound.specs.Rule.{Member}
+use Rattle.law_sound.specs.Rule.{Member}
 use Rattle.pl_tls.specs.Layout.{offsets}
 use Rattle.pl_tls.specs.declared.module.Module.{Module}
 use Rattle.pl_value.specs.Linked.{relocated}

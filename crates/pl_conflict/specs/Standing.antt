@@ -6,7 +6,7 @@ use Rattle.pl_image.specs.Loads.{mask_at}
 use Rattle.pl_image.specs.declared.loaded_object.LoadedObject.{LoadedObject}
 use Rattle.pl_lists.specs.declared.conflict_row.ConflictRow.{ConflictRow}
 use Rattle.pl_object.specs.declared.object.Object.{Object}
-use Rattle.pl_parts.specs.Loads.{pieces_of}
+use Rattle.pl_form.specs.Loads.{pieces_of}
 use Rattle.pl_value.specs.Ordinary.{part_of}
 use Rattle.pl_value.specs.Targets.{base_of}
 use Rattle.pl_conflict.specs.Fast.{patches}

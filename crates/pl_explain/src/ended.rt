@@ -1,5 +1,5 @@
-use pl_cli::Status;
 use pl_hostdir::FirstFault;
+use pl_words::Status;
 use std::io;
 
 /// How a run ended, and what was seen of the outside.

@@ -7,7 +7,7 @@ use crate::refusal::tell_refusal;
 use crate::words::wrong;
 use crate::wrong::tell_wrong;
 use crate::{Ended, faults};
-use pl_cli::Status;
+use pl_words::Status;
 use std::io::{self, Write};
 
 /// Writes which word is wrong, and the list of the commands.

@@ -1,9 +1,9 @@
 use crate::table::row;
 use crate::{Ended, KeptReader, KeptWriter, LastLine, causes, clauses, explain, forms, recipes};
 use arrayvec::ArrayString;
-use pl_cli::Status;
 use pl_hostdir::{Call, FirstFault, Reason};
 use pl_io::{MemorySink, Sink, Source, StdSink, StdSource, write_all};
+use pl_words::Status;
 use std::alloc::{AllocError, Global};
 use std::io::{self, Read, Write};
 use std::process::Abort;

@@ -7,15 +7,15 @@ use Rattle.pl_lists.specs.declared.conflict_row.ConflictRow.{ConflictRow}
 use Rattle.pl_lists.specs.declared.list_row.ListRow.{ListRow}
 use Rattle.pl_object.specs.PlaceClauses.{last_load}
 use Rattle.pl_object.specs.declared.object.Object.{Object}
-use Rattle.pl_parts.proofs.AlikeTheorem.{libraries_load_alike, programs_load_alike}
-use Rattle.pl_parts.specs.Back.{wanted}
-use Rattle.pl_parts.specs.Forms as forms
-use Rattle.pl_parts.specs.Forms.{original_of, undo_part, planned}
-use Rattle.pl_parts.specs.Found.{ss_of, ps_of}
-use Rattle.pl_parts.specs.Law.{IsFree}
-use Rattle.pl_parts.specs.Parts.{Original, table_at, library_plan, program_plan}
-use Rattle.pl_parts.specs.declared.parts.Extension.{Extension}
-use Rattle.pl_parts.specs.declared.parts.Listed.{Listed}
+use Rattle.pl_form.proofs.AlikeTheorem.{libraries_load_alike, programs_load_alike}
+use Rattle.pl_form.specs.Back.{wanted}
+use Rattle.pl_form.specs.Forms as forms
+use Rattle.pl_form.specs.Forms.{original_of, undo_part, planned}
+use Rattle.pl_form.specs.Found.{ss_of, ps_of}
+use Rattle.pl_form.specs.PartLaws.{IsFree}
+use Rattle.pl_form.specs.Parts.{Original, table_at, library_plan, program_plan}
+use Rattle.pl_form.specs.declared.parts.Extension.{Extension}
+use Rattle.pl_form.specs.declared.parts.Listed.{Listed}
 use Rattle.sha2.proofs.Facts256.{length-sha256}
 use Rattle.sha2.specs.Sha256.{sha256}
 use Rattle.pl_form.specs.Alike.{LoadsAlike, LibrariesLoadAlike, ProgramsLoadAlike}

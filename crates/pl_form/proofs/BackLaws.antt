@@ -9,9 +9,9 @@ use Rattle.pl_elf.specs.declared.header.Header.{Header}
 use Rattle.pl_elf.specs.declared.section.Section.{Section}
 use Rattle.pl_move.specs.Moves.{table_windows}
 use Rattle.pl_move.specs.declared.table.Table.{Table}
-use Rattle.pl_parts.specs.Back.{◌>>=◌, when, head_windows, spot_windows, wanted, section_part, undo_section, has_undo_section, find_undo, front_of, restored, with_places, with_tables, from_front}
-use Rattle.pl_parts.specs.Found.{reader, stored_segments, stored_sections, dynamic_in, has_dynamic_table, has_tables, moved_tables, find_dynamic, find_tables, find_rows, find_spots}
-use Rattle.pl_parts.specs.declared.parts.Spot.{Spot}
+use Rattle.pl_form.specs.Back.{◌>>=◌, when, head_windows, spot_windows, wanted, section_part, undo_section, has_undo_section, find_undo, front_of, restored, with_places, with_tables, from_front}
+use Rattle.pl_form.specs.Found.{reader, stored_segments, stored_sections, dynamic_in, has_dynamic_table, has_tables, moved_tables, find_dynamic, find_tables, find_rows, find_spots}
+use Rattle.pl_form.specs.declared.parts.Spot.{Spot}
 use Rattle.pl_undo.specs.Reading.{undo_of}
 use Rattle.pl_undo.specs.declared.fault.UndoFault.{UndoFault}
 use Rattle.pl_undo.specs.declared.undo.Undo.{Undo}

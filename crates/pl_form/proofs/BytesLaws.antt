@@ -26,14 +26,14 @@ use Rattle.pl_move.specs.declared.kind.RowKind.{RowKind}
 use Rattle.pl_move.specs.declared.kind.RowKind.TheVariants.{TagValue}
 use Rattle.pl_move.specs.declared.table.Table.{Table}
 use Rattle.pl_object.specs.PlaceClauses.{last_load}
-use Rattle.pl_parts.specs.Back.{all_within, head_windows, inserted, memory_of, undo_of, visible}
-use Rattle.pl_parts.specs.Forms.{original_of, planned, undo_part}
-use Rattle.pl_parts.specs.Found.{ss_of}
-use Rattle.pl_parts.specs.Parts.{Original, conflicts_at, entry_bytes, extension, extension_at, form, front_part, hidden, joined, library_dynamic, library_entries, library_plan, lists_part, moved_part, names_part, new_header, old_names, program_dynamic, program_plan, rows_at, table_part, tags_moved, under_header, under_segments, whole_extension, with_entries, with_tag, zeros_part}
-use Rattle.pl_parts.specs.declared.constants.TheConstants.{CONFLICT_NAME, LIBLIST_NAME, LIBSTR_NAME, NAMES_NAME, UNDO_NAME}
-use Rattle.pl_parts.specs.declared.parts.Extension.{Extension}
-use Rattle.pl_parts.specs.declared.parts.FormPlan.{FormPlan}
-use Rattle.pl_parts.specs.declared.parts.Spot.{Spot}
+use Rattle.pl_form.specs.Back.{all_within, head_windows, inserted, memory_of, undo_of, visible}
+use Rattle.pl_form.specs.Forms.{original_of, planned, undo_part}
+use Rattle.pl_form.specs.Found.{ss_of}
+use Rattle.pl_form.specs.Parts.{Original, conflicts_at, entry_bytes, extension, extension_at, form, front_part, hidden, joined, library_dynamic, library_entries, library_plan, lists_part, moved_part, names_part, new_header, old_names, program_dynamic, program_plan, rows_at, table_part, tags_moved, under_header, under_segments, whole_extension, with_entries, with_tag, zeros_part}
+use Rattle.pl_form.specs.declared.section_names.TheConstants.{CONFLICT_NAME, LIBLIST_NAME, LIBSTR_NAME, NAMES_NAME, UNDO_NAME}
+use Rattle.pl_form.specs.declared.parts.Extension.{Extension}
+use Rattle.pl_form.specs.declared.parts.FormPlan.{FormPlan}
+use Rattle.pl_form.specs.declared.parts.Spot.{Spot}
 use Rattle.pl_undo.specs.Section.{digest_bytes, magic, undo_bytes}
 use Rattle.pl_undo.specs.declared.constants.TheConstants.{UNDO_MAGIC, UNDO_MAGIC_2}
 use Rattle.pl_undo.specs.declared.undo.Undo.{Undo}

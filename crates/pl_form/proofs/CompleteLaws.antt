@@ -17,16 +17,16 @@ use Rattle.pl_lists.proofs.ListLaws.{is_read}
 use Rattle.pl_lists.proofs.WriteLaws.{is_list_of}
 use Rattle.pl_object.specs.PlaceClauses.{last_load}
 use Rattle.pl_object.specs.declared.object.Object.{Object}
-use Rattle.pl_parts.specs.Back.{section_part, find_undo, front_of, restored, back}
-use Rattle.pl_parts.specs.Forms as forms
-use Rattle.pl_parts.specs.Forms.{original_of, undo_part, planned}
-use Rattle.pl_parts.specs.Found.{reader, ss_of}
-use Rattle.pl_parts.specs.Law.{FormsLibrary, FormsProgram, IsDigest}
-use Rattle.pl_parts.specs.Parts.{Original, table_at, library_plan, program_plan}
-use Rattle.pl_parts.specs.declared.parts.Extension.{Extension}
-use Rattle.pl_parts.specs.declared.parts.Listed.{Listed}
-use Rattle.pl_parts.proofs.FinalTheorem.{library_conditions, program_conditions}
-use Rattle.pl_parts.proofs.WholeTheorem.{library_undone, program_undone}
+use Rattle.pl_form.specs.Back.{section_part, find_undo, front_of, restored, back}
+use Rattle.pl_form.specs.Forms as forms
+use Rattle.pl_form.specs.Forms.{original_of, undo_part, planned}
+use Rattle.pl_form.specs.Found.{reader, ss_of}
+use Rattle.pl_form.specs.PartLaws.{FormsLibrary, FormsProgram, IsDigest}
+use Rattle.pl_form.specs.Parts.{Original, table_at, library_plan, program_plan}
+use Rattle.pl_form.specs.declared.parts.Extension.{Extension}
+use Rattle.pl_form.specs.declared.parts.Listed.{Listed}
+use Rattle.pl_form.proofs.FinalTheorem.{library_conditions, program_conditions}
+use Rattle.pl_form.proofs.WholeTheorem.{library_undone, program_undone}
 use Rattle.pl_undo.specs.declared.undo.Undo.{Undo}
 use Rattle.sha2.proofs.Facts256.{length-sha256}
 use Rattle.pl_form.specs.Faults.{IsFirm}

@@ -7,14 +7,14 @@ use Rattle.pl_base.specs.Bytes.{bytes64, part, put, word64}
 use Rattle.pl_base.specs.Windows.{within, IsIn}
 use Rattle.pl_base.proofs.WindowLaws.{length-within}
 use Rattle.pl_elf.specs.declared.segment.Segment.{Segment}
-use Rattle.pl_parts.specs.declared.parts.Extension.{Extension}
+use Rattle.pl_form.specs.declared.parts.Extension.{Extension}
 use Rattle.pl_form.specs.Extending.{with_strings, program_entries}
 use Rattle.pl_form.specs.declared.layout.Layout.{Layout}
 use Rattle.pl_base.proofs.WordLaws.{length_bytes64}
 use Rattle.pl_move.specs.Moves.{rows, row_moved}
 use Rattle.pl_move.specs.declared.kind.RowKind.TheVariants.{TagValue}
 use Rattle.pl_move.proofs.MoveLaws.{length-rows, length-row_moved}
-use Rattle.pl_parts.specs.Parts.{entry_bytes, library_entries, with_tag, rows_at, conflicts_at}
+use Rattle.pl_form.specs.Parts.{entry_bytes, library_entries, with_tag, rows_at, conflicts_at}
 
 pub length-entry : (tag value : ℕ) → length (entry_bytes tag value) ≡ 16
 length-entry tag value = length-append (bytes64 tag) (bytes64 value) ∙ omega (arith, length_bytes64 tag, length_bytes64 value)

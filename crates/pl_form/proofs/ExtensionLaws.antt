@@ -5,11 +5,11 @@ use Rattle.pl_base.specs.Bytes.{put}
 use Rattle.pl_base.specs.Sums.{round_up}
 use Rattle.pl_base.specs.Windows.{AllIn, put_all}
 use Rattle.pl_base.proofs.WindowLaws.{length-put}
-use Rattle.pl_parts.specs.Loads.{hidden_windows}
+use Rattle.pl_form.specs.Loads.{hidden_windows}
 use Rattle.pl_elf.specs.declared.segment.Segment.{Segment}
-use Rattle.pl_parts.specs.Parts.{hidden, up, extension_at, rows_at, conflicts_at}
-use Rattle.pl_parts.specs.declared.parts.Extension.{Extension}
-use Rattle.pl_parts.specs.declared.parts.Spot.{Spot}
+use Rattle.pl_form.specs.Parts.{hidden, up, extension_at, rows_at, conflicts_at}
+use Rattle.pl_form.specs.declared.parts.Extension.{Extension}
+use Rattle.pl_form.specs.declared.parts.Spot.{Spot}
 use Rattle.pl_form.specs.Extending.{IsShort, AreShort}
 use Rattle.pl_form.proofs.PlaceLaws.{rest_is, rest_none}
 

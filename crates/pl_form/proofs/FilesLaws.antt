@@ -18,10 +18,10 @@ use Rattle.pl_object.specs.PlaceClauses.{last_load}
 use Rattle.pl_object.specs.Reads.{reads}
 use Rattle.pl_object.specs.declared.object.Object.{Object}
 use Rattle.pl_object.specs.declared.refusal.Refusal.{Refusal}
-use Rattle.pl_parts.specs.Back.{◌>>=◌, when, find_undo, restored, front_of}
-use Rattle.pl_parts.specs.Found.{reader, ss_of, ps_of}
-use Rattle.pl_parts.specs.declared.parts.Spot.{Spot}
-use Rattle.pl_parts.proofs.FinalTheorem.{reads_ok}
+use Rattle.pl_form.specs.Back.{◌>>=◌, when, find_undo, restored, front_of}
+use Rattle.pl_form.specs.Found.{reader, ss_of, ps_of}
+use Rattle.pl_form.specs.declared.parts.Spot.{Spot}
+use Rattle.pl_form.proofs.FinalTheorem.{reads_ok}
 use Rattle.pl_undo.specs.declared.undo.Undo.{Undo}
 use Rattle.pl_form.specs.Files.{is_byte, are_bytes, of_bytes, marked_in, original_by, original_in, file_in, FormsAreRead, NothingElseIsRead, OriginalsAreBare, FormsAreTold, BadAreTold, PlainAreTold}
 use Rattle.pl_form.specs.Marks.{has_mark, IsFormOf, IsNoForm}

@@ -19,14 +19,14 @@ use Rattle.pl_object.specs.declared.object.Object.{Object}
 use Rattle.pl_object.specs.declared.reloc.Reloc.{Reloc}
 use Rattle.pl_object.proofs.AcceptedLaws.{accepted}
 use Rattle.pl_sym.specs.declared.symbol.Symbol.{Symbol}
-use Rattle.pl_parts.proofs.SizeLaws.{total}
-use Rattle.pl_parts.specs.Back.{wanted}
-use Rattle.pl_parts.specs.Forms as forms
-use Rattle.pl_parts.specs.Forms.{original_of, undo_part, planned}
-use Rattle.pl_parts.specs.Found.{ss_of, ps_of, places_of, zeros_from}
-use Rattle.pl_parts.specs.Loads.{spot_of, spots_of}
-use Rattle.pl_parts.specs.Parts.{Original, joined_size, program_plan, zeros_part, extension_at, lists_part, extension, whole_extension}
-use Rattle.pl_parts.specs.declared.parts.Extension.{Extension}
+use Rattle.pl_form.proofs.SizeLaws.{total}
+use Rattle.pl_form.specs.Back.{wanted}
+use Rattle.pl_form.specs.Forms as forms
+use Rattle.pl_form.specs.Forms.{original_of, undo_part, planned}
+use Rattle.pl_form.specs.Found.{ss_of, ps_of, places_of, zeros_from}
+use Rattle.pl_form.specs.Loads.{spot_of, spots_of}
+use Rattle.pl_form.specs.Parts.{Original, joined_size, program_plan, zeros_part, extension_at, lists_part, extension, whole_extension}
+use Rattle.pl_form.specs.declared.parts.Extension.{Extension}
 use Rattle.pl_form.specs.Faults.{IsFirm}
 use Rattle.pl_form.specs.Program.{extended, last_index, program_with, stored}
 use Rattle.pl_form.specs.Words.{AreFills, flat_of, fill_window, has_place, strings_of, extension_of, digest_in}

@@ -11,9 +11,9 @@ use Rattle.pl_elf.specs.declared.header.Header.{Header}
 use Rattle.pl_elf.specs.declared.section.Section.{Section}
 use Rattle.pl_move.specs.declared.table.Table.{Table}
 use Rattle.pl_object.specs.Tables.{symtab_windows, has_kind}
-use Rattle.pl_parts.specs.Back.{all_within, stored}
-use Rattle.pl_parts.specs.Found.{symtab_tables}
-use Rattle.pl_parts.proofs.SizeLaws.{kept_length}
+use Rattle.pl_form.specs.Back.{all_within, stored}
+use Rattle.pl_form.specs.Found.{symtab_tables}
+use Rattle.pl_form.proofs.SizeLaws.{kept_length}
 use Rattle.pl_undo.specs.Section.{headers_size, fits_kind, are_words, is_digest, has_headers, IsUndoOf}
 use Rattle.pl_undo.specs.declared.undo.Undo.{Undo}
 use Rattle.pl_form.specs.Stored.{IsWhole}

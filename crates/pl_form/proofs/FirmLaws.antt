@@ -26,9 +26,9 @@ use Rattle.pl_object.specs.Reads.{reads, kind_of, object, static_object, headers
 use Rattle.pl_object.specs.Tables.{dynamic_memory}
 use Rattle.pl_object.specs.declared.object.Object.{Object}
 use Rattle.pl_object.proofs.AcceptedLaws.{read_holds, accepted}
-use Rattle.pl_parts.specs.Found.{ss_of, d_of, tags_of}
-use Rattle.pl_parts.specs.Law.{IsOriginal, is_stray}
-use Rattle.pl_parts.proofs.AcceptedIs.{segments_are}
+use Rattle.pl_form.specs.Found.{ss_of, d_of, tags_of}
+use Rattle.pl_form.specs.PartLaws.{IsOriginal, is_stray}
+use Rattle.pl_form.proofs.AcceptedIs.{segments_are}
 use Rattle.pl_dyn.specs.Entries.{tags}
 use Rattle.pl_form.specs.Faults as faults
 use Rattle.pl_form.specs.Faults.{IsFirm, form_fault, program_fault, stray_header, no_region, cut_of}

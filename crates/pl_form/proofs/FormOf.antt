@@ -5,14 +5,14 @@ use Rattle.pl_elf.specs.Kinds.{is_library, is_program}
 use Rattle.pl_elf.specs.declared.segment.Segment.{Segment}
 use Rattle.pl_object.specs.PlaceClauses.{last_load}
 use Rattle.pl_object.specs.declared.object.Object.{Object}
-use Rattle.pl_parts.proofs.KindLaws.{segment_count}
-use Rattle.pl_parts.specs.Back.{wanted}
-use Rattle.pl_parts.specs.Forms.{undo_part, original_of}
-use Rattle.pl_parts.specs.Found.{ss_of, ps_of}
-use Rattle.pl_parts.specs.Law.{FormsLibrary, FormsProgram, IsDigest}
-use Rattle.pl_parts.specs.Parts.{table_at, library_plan, program_plan}
-use Rattle.pl_parts.specs.declared.parts.Extension.{Extension}
-use Rattle.pl_parts.specs.declared.parts.Listed.{Listed}
+use Rattle.pl_form.proofs.KindLaws.{segment_count}
+use Rattle.pl_form.specs.Back.{wanted}
+use Rattle.pl_form.specs.Forms.{undo_part, original_of}
+use Rattle.pl_form.specs.Found.{ss_of, ps_of}
+use Rattle.pl_form.specs.PartLaws.{FormsLibrary, FormsProgram, IsDigest}
+use Rattle.pl_form.specs.Parts.{table_at, library_plan, program_plan}
+use Rattle.pl_form.specs.declared.parts.Extension.{Extension}
+use Rattle.pl_form.specs.declared.parts.Listed.{Listed}
 use Rattle.pl_form.specs.Faults.{IsFirm}
 use Rattle.pl_form.specs.Program.{last_index}
 use Rattle.pl_form.proofs.FirmLaws.{original_is, library_three, program_two, library_spare, program_spare, last_found, program_untorn}

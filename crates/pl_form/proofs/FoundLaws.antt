@@ -9,17 +9,17 @@ use Rattle.pl_elf.specs.declared.header.Header.{Header}
 use Rattle.pl_elf.specs.declared.section.Section.{Section}
 use Rattle.pl_elf.proofs.WrittenLaws.{section_read}
 use Rattle.pl_undo.specs.declared.undo.Undo.{Undo}
-use Rattle.pl_parts.specs.Back.{head_windows, has_undo_section, undo_section, section_part, find_undo, undo_in, front_of, undo_of}
-use Rattle.pl_parts.specs.Fits.{Fits}
-use Rattle.pl_parts.specs.Forms.{undo_part, planned}
-use Rattle.pl_parts.specs.Found.{reader}
-use Rattle.pl_parts.specs.Parts.{Original, table_at, table_rows, undo_row, names_row, new_header, front_part, form}
-use Rattle.pl_parts.specs.declared.parts.FormPlan.{FormPlan}
-use Rattle.pl_parts.proofs.FormLaws.{form_split, rest_of, form_header, front_size, row_there, undo_section_is, undo_there, plan_undone}
-use Rattle.pl_parts.proofs.FormTheorem.{IsUndoable}
-use Rattle.pl_parts.proofs.HeadLaws.{section_part as section_by_part}
-use Rattle.pl_parts.proofs.PartsLaws.{inserted_back}
-use Rattle.pl_parts.proofs.UndoLaws.{undo_read}
+use Rattle.pl_form.specs.Back.{head_windows, has_undo_section, undo_section, section_part, find_undo, undo_in, front_of, undo_of}
+use Rattle.pl_form.specs.Fits.{Fits}
+use Rattle.pl_form.specs.Forms.{undo_part, planned}
+use Rattle.pl_form.specs.Found.{reader}
+use Rattle.pl_form.specs.Parts.{Original, table_at, table_rows, undo_row, names_row, new_header, front_part, form}
+use Rattle.pl_form.specs.declared.parts.FormPlan.{FormPlan}
+use Rattle.pl_form.proofs.FormLaws.{form_split, rest_of, form_header, front_size, row_there, undo_section_is, undo_there, plan_undone}
+use Rattle.pl_form.proofs.FormTheorem.{IsUndoable}
+use Rattle.pl_form.proofs.HeadLaws.{section_part as section_by_part}
+use Rattle.pl_form.proofs.PartsLaws.{inserted_back}
+use Rattle.pl_form.proofs.UndoLaws.{undo_read}
 
 -- what the undo section of a planned form says
 abbrev pub undo_by : FormPlan → Original → Option (List ℕ) → Undo

@@ -12,22 +12,22 @@ use Rattle.pl_lists.specs.declared.list_row.ListRow.{ListRow}
 use Rattle.pl_object.specs.Tables.{main_windows}
 use Rattle.pl_object.specs.declared.object.Object.{Object}
 use Rattle.pl_object.proofs.AcceptedLaws.{accepted}
-use Rattle.pl_parts.proofs.FinalTheorem.{library_conditions}
-use Rattle.pl_parts.proofs.FrontLaws.{AllAway}
-use Rattle.pl_parts.proofs.KindLaws.{library_fits}
-use Rattle.pl_parts.proofs.WholeTheorem.{taken}
-use Rattle.pl_parts.proofs.LoadFacts.{apart_of}
-use Rattle.pl_parts.proofs.ReaderLaws.{all_clear, readable}
-use Rattle.pl_parts.proofs.SizeLaws.{undo_most, library_most}
-use Rattle.pl_parts.specs.Back.{head_windows, spot_windows, undo_of, wanted}
-use Rattle.pl_parts.specs.Fits.{Fits}
-use Rattle.pl_parts.specs.Forms as forms
-use Rattle.pl_parts.specs.Forms.{original_of, undo_part, planned}
-use Rattle.pl_parts.specs.Found.{ss_of, secs_of, d_of, ps_of, tags_of, places_of, packed_in, zeros_from}
-use Rattle.pl_parts.specs.Law.{IsDigest, FormsLibrary}
-use Rattle.pl_parts.specs.Parts.{library_plan}
-use Rattle.pl_parts.specs.declared.parts.Listed.{Listed}
-use Rattle.pl_parts.specs.declared.parts.Spot.{Spot}
+use Rattle.pl_form.proofs.FinalTheorem.{library_conditions}
+use Rattle.pl_form.proofs.FrontLaws.{AllAway}
+use Rattle.pl_form.proofs.KindLaws.{library_fits}
+use Rattle.pl_form.proofs.WholeTheorem.{taken}
+use Rattle.pl_form.proofs.LoadFacts.{apart_of}
+use Rattle.pl_form.proofs.ReaderLaws.{all_clear, readable}
+use Rattle.pl_form.proofs.SizeLaws.{undo_most, library_most}
+use Rattle.pl_form.specs.Back.{head_windows, spot_windows, undo_of, wanted}
+use Rattle.pl_form.specs.Fits.{Fits}
+use Rattle.pl_form.specs.Forms as forms
+use Rattle.pl_form.specs.Forms.{original_of, undo_part, planned}
+use Rattle.pl_form.specs.Found.{ss_of, secs_of, d_of, ps_of, tags_of, places_of, packed_in, zeros_from}
+use Rattle.pl_form.specs.PartLaws.{IsDigest, FormsLibrary}
+use Rattle.pl_form.specs.Parts.{library_plan}
+use Rattle.pl_form.specs.declared.parts.Listed.{Listed}
+use Rattle.pl_form.specs.declared.parts.Spot.{Spot}
 use Rattle.pl_object.specs.PlaceClauses.{last_load}
 use Rattle.pl_undo.specs.Section.{undo_bytes}
 use Rattle.sha2.proofs.Facts256.{length-sha256}

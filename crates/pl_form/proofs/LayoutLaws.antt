@@ -16,11 +16,11 @@ use Rattle.pl_object.specs.Accepted.{HasHead}
 use Rattle.pl_object.specs.PlaceClauses.{last_load}
 use Rattle.pl_object.specs.declared.object.Object.{Object}
 use Rattle.pl_move.specs.declared.table.Table.{Table}
-use Rattle.pl_parts.specs.Back.{all_within, spot_windows, wanted}
-use Rattle.pl_parts.specs.Found.{dynamic_in, moved_tables, row_windows, places_by, zeros_from, ss_of, secs_of, d_of, tags_of, rs_of, ps_of}
-use Rattle.pl_parts.specs.Forms.{original_of}
-use Rattle.pl_parts.specs.Loads.{spots_of}
-use Rattle.pl_parts.specs.declared.parts.Spot.{Spot}
+use Rattle.pl_form.specs.Back.{all_within, spot_windows, wanted}
+use Rattle.pl_form.specs.Found.{dynamic_in, moved_tables, row_windows, places_by, zeros_from, ss_of, secs_of, d_of, tags_of, rs_of, ps_of}
+use Rattle.pl_form.specs.Forms.{original_of}
+use Rattle.pl_form.specs.Loads.{spots_of}
+use Rattle.pl_form.specs.declared.parts.Spot.{Spot}
 use Rattle.pl_form.specs.Words.{filled, all_filled, word_at}
 use Rattle.pl_form.specs.Originals.{original}
 use Rattle.pl_form.specs.declared.layout.Layout.{Layout}

@@ -30,19 +30,19 @@ use Rattle.pl_object.specs.declared.refusal.Refusal.TheVariants.{Clause}
 use Rattle.pl_object.specs.declared.reloc.Reloc.{Reloc}
 use Rattle.pl_object.proofs.AcceptedLaws.{read_holds, accepted}
 use Rattle.pl_undo.specs.Section.{undo_bytes, headers_size}
-use Rattle.pl_parts.proofs.AcceptedIs.{segments_are, places_are, named_of, reads_accepted}
-use Rattle.pl_parts.proofs.FrontLaws.{length-memory_of}
-use Rattle.pl_parts.proofs.LoadFacts.{apart_of}
-use Rattle.pl_parts.proofs.ReaderLaws.{IsAccepted, readable}
-use Rattle.pl_parts.proofs.SizeLaws.{total, apart_fit, undo_length}
-use Rattle.pl_parts.proofs.UndoLaws.{length-headers}
-use Rattle.pl_parts.specs.Back.{head_windows, spot_windows, memory_of, wanted, undo_of}
-use Rattle.pl_parts.specs.Forms.{original_of, undo_part}
-use Rattle.pl_parts.specs.Found.{ss_of, d_of, ps_of, places_of, zeros_from}
-use Rattle.pl_parts.specs.Law.{IsDigest}
-use Rattle.pl_parts.specs.Loads.{spot_of, spots_of}
-use Rattle.pl_parts.specs.Parts.{joined_size, old_names, names_part, table_at, library_plan}
-use Rattle.pl_parts.specs.declared.parts.Listed.{Listed}
+use Rattle.pl_form.proofs.AcceptedIs.{segments_are, places_are, named_of, reads_accepted}
+use Rattle.pl_form.proofs.FrontLaws.{length-memory_of}
+use Rattle.pl_form.proofs.LoadFacts.{apart_of}
+use Rattle.pl_form.proofs.ReaderLaws.{IsAccepted, readable}
+use Rattle.pl_form.proofs.SizeLaws.{total, apart_fit, undo_length}
+use Rattle.pl_form.proofs.UndoLaws.{length-headers}
+use Rattle.pl_form.specs.Back.{head_windows, spot_windows, memory_of, wanted, undo_of}
+use Rattle.pl_form.specs.Forms.{original_of, undo_part}
+use Rattle.pl_form.specs.Found.{ss_of, d_of, ps_of, places_of, zeros_from}
+use Rattle.pl_form.specs.PartLaws.{IsDigest}
+use Rattle.pl_form.specs.Loads.{spot_of, spots_of}
+use Rattle.pl_form.specs.Parts.{joined_size, old_names, names_part, table_at, library_plan}
+use Rattle.pl_form.specs.declared.parts.Listed.{Listed}
 use Rattle.pl_form.specs.Faults.{IsFirm}
 use Rattle.pl_form.proofs.FirmLaws.{library_three}
 

@@ -11,13 +11,13 @@ use Rattle.pl_elf.specs.Headers.{header, section, sections}
 use Rattle.pl_elf.specs.Written.{header_bytes, segment_bytes}
 use Rattle.pl_elf.specs.declared.section.Section.{Section}
 use Rattle.pl_move.specs.Moves.{rows}
-use Rattle.pl_parts.specs.Back.{head_windows, section_part, inserted}
-use Rattle.pl_parts.specs.Fits.{Fits}
-use Rattle.pl_parts.specs.Parts.{Original, up, joined, joined_size, plain, with_rows, old_names, names_part, table_part, table_at, entry_bytes, library_entries, list_sections, moved_section, library_sections, library_plan, new_header, moved_part, under_segments, under_header, front_part, form}
-use Rattle.pl_parts.specs.declared.parts.Listed.{Listed}
-use Rattle.pl_parts.specs.declared.parts.FormPlan.{FormPlan}
-use Rattle.pl_parts.proofs.FormLaws.{new_length, front_size, length-moved_part, length-under_header, segments_room, segments_length}
-use Rattle.pl_parts.proofs.PartsLaws.{part_next, length-inserted}
+use Rattle.pl_form.specs.Back.{head_windows, section_part, inserted}
+use Rattle.pl_form.specs.Fits.{Fits}
+use Rattle.pl_form.specs.Parts.{Original, up, joined, joined_size, plain, with_rows, old_names, names_part, table_part, table_at, entry_bytes, library_entries, list_sections, moved_section, library_sections, library_plan, new_header, moved_part, under_segments, under_header, front_part, form}
+use Rattle.pl_form.specs.declared.parts.Listed.{Listed}
+use Rattle.pl_form.specs.declared.parts.FormPlan.{FormPlan}
+use Rattle.pl_form.proofs.FormLaws.{new_length, front_size, length-moved_part, length-under_header, segments_room, segments_length}
+use Rattle.pl_form.proofs.PartsLaws.{part_next, length-inserted}
 use Rattle.pl_form.proofs.FoundLaws.{SectionFits, section_before}
 
 -- ---- the dynamic table

@@ -10,15 +10,15 @@ use Rattle.pl_move.specs.declared.kind.RowKind.TheVariants.{TagValue}
 use Rattle.pl_move.proofs.MoveLaws.{length-rows, length-row_moved}
 use Rattle.pl_object.specs.PlaceClauses.{last_load}
 use Rattle.pl_object.specs.declared.object.Object.{Object}
-use Rattle.pl_parts.specs.Back.{head_windows, find_undo, front_of}
-use Rattle.pl_parts.specs.Forms.{original_of, undo_part, planned, library_form}
-use Rattle.pl_parts.specs.Found.{ss_of, d_of, tags_of}
-use Rattle.pl_parts.specs.Law.{FormsLibrary}
-use Rattle.pl_parts.specs.Parts.{Original, library_entries, library_dynamic, library_plan, with_entries, tags_moved, front_part}
-use Rattle.pl_parts.specs.declared.parts.Listed.{Listed}
+use Rattle.pl_form.specs.Back.{head_windows, find_undo, front_of}
+use Rattle.pl_form.specs.Forms.{original_of, undo_part, planned, library_form}
+use Rattle.pl_form.specs.Found.{ss_of, d_of, tags_of}
+use Rattle.pl_form.specs.PartLaws.{FormsLibrary}
+use Rattle.pl_form.specs.Parts.{Original, library_entries, library_dynamic, library_plan, with_entries, tags_moved, front_part}
+use Rattle.pl_form.specs.declared.parts.Listed.{Listed}
 use Rattle.pl_undo.specs.declared.undo.Undo.{Undo}
-use Rattle.pl_parts.proofs.FinalTheorem.{library_conditions}
-use Rattle.pl_parts.proofs.WholeTheorem.{library_is}
+use Rattle.pl_form.proofs.FinalTheorem.{library_conditions}
+use Rattle.pl_form.proofs.WholeTheorem.{library_is}
 use Rattle.pl_form.specs.Reading.{section_from_end, places_in, stamp_in, zeros_behind}
 use Rattle.pl_form.proofs.FoundLaws.{undo_by, undo_found, front_is}
 use Rattle.pl_form.proofs.LibraryLaws.{dynamic_there, stamp_of, strings_there, rows_there}

@@ -9,12 +9,12 @@ use Rattle.pl_object.specs.PlaceClauses.{last_load}
 use Rattle.pl_object.specs.Reads.{reads}
 use Rattle.pl_object.specs.declared.object.Object.{Object}
 use Rattle.pl_object.proofs.AcceptedLaws.{accepted}
-use Rattle.pl_parts.specs.Back.{front_of}
-use Rattle.pl_parts.specs.Forms.{original_of}
-use Rattle.pl_parts.specs.Found.{ss_of, ps_of}
-use Rattle.pl_parts.specs.Parts.{Original}
-use Rattle.pl_parts.specs.declared.parts.Spot.{Spot}
-use Rattle.pl_parts.proofs.AcceptedIs.{segments_are}
+use Rattle.pl_form.specs.Back.{front_of}
+use Rattle.pl_form.specs.Forms.{original_of}
+use Rattle.pl_form.specs.Found.{ss_of, ps_of}
+use Rattle.pl_form.specs.Parts.{Original}
+use Rattle.pl_form.specs.declared.parts.Spot.{Spot}
+use Rattle.pl_form.proofs.AcceptedIs.{segments_are}
 use Rattle.pl_undo.specs.declared.undo.Undo.{Undo}
 use Rattle.pl_form.specs.Originals.{original}
 use Rattle.pl_lists.specs.Conflicts.{ascend, are_conflicts}

@@ -16,16 +16,16 @@ use Rattle.pl_object.specs.Relocations.{places}
 use Rattle.pl_object.specs.Tables.{main_windows, dynamic_memory}
 use Rattle.pl_object.specs.declared.object.Object.{Object}
 use Rattle.pl_object.proofs.AcceptedLaws.{accepted}
-use Rattle.pl_parts.specs.Back.{header_window, segments_window}
-use Rattle.pl_parts.specs.Forms.{original_of}
-use Rattle.pl_parts.specs.Found.{ss_of, secs_of, d_of, tags_of, places_of, ps_of}
-use Rattle.pl_parts.specs.Law.{IsOriginal}
-use Rattle.pl_parts.specs.Loads.{spot_of, spots_of}
-use Rattle.pl_parts.proofs.AcceptedIs.{segments_are, places_are, named_of}
-use Rattle.pl_parts.proofs.FillLaws.{Apart}
-use Rattle.pl_parts.proofs.KindLaws.{segment_count}
-use Rattle.pl_parts.proofs.LoadFacts.{apart_of}
-use Rattle.pl_parts.proofs.ReaderLaws.{IsAccepted}
+use Rattle.pl_form.specs.Back.{header_window, segments_window}
+use Rattle.pl_form.specs.Forms.{original_of}
+use Rattle.pl_form.specs.Found.{ss_of, secs_of, d_of, tags_of, places_of, ps_of}
+use Rattle.pl_form.specs.PartLaws.{IsOriginal}
+use Rattle.pl_form.specs.Loads.{spot_of, spots_of}
+use Rattle.pl_form.proofs.AcceptedIs.{segments_are, places_are, named_of}
+use Rattle.pl_form.proofs.HeldLaws.{Apart}
+use Rattle.pl_form.proofs.KindLaws.{segment_count}
+use Rattle.pl_form.proofs.LoadFacts.{apart_of}
+use Rattle.pl_form.proofs.ReaderLaws.{IsAccepted}
 use Rattle.pl_form.proofs.StandingLaws.{AreShown}
 
 -- ---- the dynamic table is apart from the header and the program headers

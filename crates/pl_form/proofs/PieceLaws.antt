@@ -21,21 +21,21 @@ use Rattle.pl_object.specs.Relocations.{places}
 use Rattle.pl_object.specs.Tables.{link_windows, window_range}
 use Rattle.pl_object.specs.declared.object.Object.{Object}
 use Rattle.pl_object.specs.declared.reloc.Reloc.{Reloc}
-use Rattle.pl_parts.specs.Back.{wanted}
-use Rattle.pl_parts.specs.Forms as forms
-use Rattle.pl_parts.specs.Forms.{original_of, undo_part, planned}
-use Rattle.pl_parts.specs.Found.{ss_of, secs_of, tags_of, places_of, ps_of}
-use Rattle.pl_parts.specs.Law.{IsFoundIn, IsFree, IsUnder, IsAsLong, FormsLibrary, FormsProgram, segment_of, stands_at, original_at}
-use Rattle.pl_parts.specs.Loads.{stands, pieces_of, fills}
-use Rattle.pl_parts.specs.Parts.{moved_segment}
-use Rattle.pl_parts.specs.declared.parts.Extension.{Extension}
-use Rattle.pl_parts.proofs.AlikeTheorem.{libraries_load_alike, programs_load_alike}
-use Rattle.pl_parts.proofs.FinalTheorem.{program_conditions}
-use Rattle.pl_parts.proofs.KindLaws.{segment_count}
-use Rattle.pl_parts.proofs.ShownLaws.{zip_pieces}
-use Rattle.pl_parts.proofs.StandLaws.{parts_found, fills_told, libraries_hold_fills, programs_hold_fills}
-use Rattle.pl_parts.proofs.TableLaws.{libraries_are_moved, programs_are_extended}
-use Rattle.pl_parts.proofs.WholeTheorem.{program_is}
+use Rattle.pl_form.specs.Back.{wanted}
+use Rattle.pl_form.specs.Forms as forms
+use Rattle.pl_form.specs.Forms.{original_of, undo_part, planned}
+use Rattle.pl_form.specs.Found.{ss_of, secs_of, tags_of, places_of, ps_of}
+use Rattle.pl_form.specs.PartLaws.{IsFoundIn, IsFree, IsUnder, IsAsLong, FormsLibrary, FormsProgram, segment_of, stands_at, original_at}
+use Rattle.pl_form.specs.Loads.{stands, pieces_of, fills}
+use Rattle.pl_form.specs.Parts.{moved_segment}
+use Rattle.pl_form.specs.declared.parts.Extension.{Extension}
+use Rattle.pl_form.proofs.AlikeTheorem.{libraries_load_alike, programs_load_alike}
+use Rattle.pl_form.proofs.FinalTheorem.{program_conditions}
+use Rattle.pl_form.proofs.KindLaws.{segment_count}
+use Rattle.pl_form.proofs.ShownLaws.{zip_pieces}
+use Rattle.pl_form.proofs.StandLaws.{parts_found, fills_told, libraries_hold_fills, programs_hold_fills}
+use Rattle.pl_form.proofs.TableLaws.{libraries_are_moved, programs_are_extended}
+use Rattle.pl_form.proofs.WholeTheorem.{program_is}
 use Rattle.sha2.proofs.Facts256.{length-sha256}
 use Rattle.sha2.specs.Sha256.{sha256}
 use Rattle.pl_form.specs.Faults.{IsFirm}

@@ -4,9 +4,9 @@ use Rattle.std.proofs.lemmas.List.{length-take, drop_all, append-nil}
 use Rattle.pl_base.specs.Bytes.{part, put}
 use Rattle.pl_base.specs.Windows.{AllIn, put_all, ◌⊕◌}
 use Rattle.pl_base.proofs.WindowLaws.{length-put}
-use Rattle.pl_parts.specs.Back.{spot_windows, visible, memory_of}
-use Rattle.pl_parts.specs.Parts.{joined}
-use Rattle.pl_parts.specs.declared.parts.Spot.{Spot}
+use Rattle.pl_form.specs.Back.{spot_windows, visible, memory_of}
+use Rattle.pl_form.specs.Parts.{joined}
+use Rattle.pl_form.specs.declared.parts.Spot.{Spot}
 
 -- the rest of a list begins with the element that a loop reads
 pub rest_is : {X : Type 0} (xs : List X) (i : ℕ) (d : X) → i < length xs → drop i xs ≡ get_or xs i d ∷ drop (i + 1) xs

@@ -9,12 +9,12 @@ use Rattle.pl_elf.specs.declared.section.Section.{Section}
 use Rattle.pl_elf.specs.declared.segment.Segment.{Segment}
 use Rattle.pl_object.specs.Accepted.{HasHead}
 use Rattle.pl_object.specs.declared.object.Object.{Object}
-use Rattle.pl_parts.specs.Back.{wanted}
-use Rattle.pl_parts.specs.Parts as parts
-use Rattle.pl_parts.specs.Parts.{old_names, extension, whole_extension, program_plan, program_sections, program_segments, program_dynamic, with_entries}
-use Rattle.pl_parts.specs.declared.constants.TheConstants.{LIBSTR_NAME, LIBLIST_NAME, CONFLICT_NAME}
-use Rattle.pl_parts.specs.declared.parts.Extension.{Extension}
-use Rattle.pl_parts.specs.declared.parts.FormPlan.{FormPlan}
+use Rattle.pl_form.specs.Back.{wanted}
+use Rattle.pl_form.specs.Parts as parts
+use Rattle.pl_form.specs.Parts.{old_names, extension, whole_extension, program_plan, program_sections, program_segments, program_dynamic, with_entries}
+use Rattle.pl_form.specs.declared.section_names.TheConstants.{LIBSTR_NAME, LIBLIST_NAME, CONFLICT_NAME}
+use Rattle.pl_form.specs.declared.parts.Extension.{Extension}
+use Rattle.pl_form.specs.declared.parts.FormPlan.{FormPlan}
 use Rattle.pl_form.specs.Extending as extending
 use Rattle.pl_form.specs.Extending.{IsShort, AreShort, IsExtended, split_segments, all_sections, new_sections, program_table}
 use Rattle.pl_form.specs.Faults.{cut_of}

@@ -20,24 +20,24 @@ use Rattle.pl_object.specs.PlaceClauses.{last_load}
 use Rattle.pl_object.specs.Reads.{span}
 use Rattle.pl_object.proofs.AcceptedLaws.{accepted}
 use Rattle.pl_object.proofs.SpanLaws.{Ends, span_ends}
-use Rattle.pl_parts.specs.Back.{undo_section}
-use Rattle.pl_parts.specs.Fits.{Fits}
-use Rattle.pl_parts.specs.Forms.{undo_part, planned, original_of}
-use Rattle.pl_parts.specs.Found.{ss_of, secs_of}
-use Rattle.pl_parts.specs.Law.{HasTable}
-use Rattle.pl_parts.specs.Parts.{Original, old_names, names_part, table_at, table_rows, undo_row, names_row, new_header, form, moved_segment, extended_segment, shifted_segment, program_segments, extension, library_plan, program_plan}
-use Rattle.pl_parts.specs.declared.constants.TheConstants.{UNDO_NAME, NAMES_NAME}
-use Rattle.pl_parts.specs.declared.parts.FormPlan.{FormPlan}
-use Rattle.pl_parts.proofs.AcceptedIs.{segments_are}
-use Rattle.pl_parts.proofs.FinalTheorem.{library_conditions, program_conditions}
-use Rattle.pl_parts.proofs.FormLaws.{form_header, names_there, row_there, undo_section_is}
-use Rattle.pl_parts.proofs.FormTheorem.{all_small}
-use Rattle.pl_parts.proofs.HeadLaws.{section_part as section_by_part}
-use Rattle.pl_parts.proofs.KindLaws.{grown_segment, section_count, segment_count}
-use Rattle.pl_parts.proofs.LoadFacts.{last_is}
-use Rattle.pl_parts.proofs.StandLaws.{program_grows}
-use Rattle.pl_parts.proofs.TableLaws.{libraries_are_moved, programs_are_extended}
-use Rattle.pl_parts.proofs.WholeTheorem.{library_is, program_is}
+use Rattle.pl_form.specs.Back.{undo_section}
+use Rattle.pl_form.specs.Fits.{Fits}
+use Rattle.pl_form.specs.Forms.{undo_part, planned, original_of}
+use Rattle.pl_form.specs.Found.{ss_of, secs_of}
+use Rattle.pl_form.specs.PartLaws.{HasTable}
+use Rattle.pl_form.specs.Parts.{Original, old_names, names_part, table_at, table_rows, undo_row, names_row, new_header, form, moved_segment, extended_segment, shifted_segment, program_segments, extension, library_plan, program_plan}
+use Rattle.pl_form.specs.declared.section_names.TheConstants.{UNDO_NAME, NAMES_NAME}
+use Rattle.pl_form.specs.declared.parts.FormPlan.{FormPlan}
+use Rattle.pl_form.proofs.AcceptedIs.{segments_are}
+use Rattle.pl_form.proofs.FinalTheorem.{library_conditions, program_conditions}
+use Rattle.pl_form.proofs.FormLaws.{form_header, names_there, row_there, undo_section_is}
+use Rattle.pl_form.proofs.FormTheorem.{all_small}
+use Rattle.pl_form.proofs.HeadLaws.{section_part as section_by_part}
+use Rattle.pl_form.proofs.KindLaws.{grown_segment, section_count, segment_count}
+use Rattle.pl_form.proofs.LoadFacts.{last_is}
+use Rattle.pl_form.proofs.StandLaws.{program_grows}
+use Rattle.pl_form.proofs.TableLaws.{libraries_are_moved, programs_are_extended}
+use Rattle.pl_form.proofs.WholeTheorem.{library_is, program_is}
 use Rattle.pl_form.specs.Files.{IsBorne, BearsSegments}
 use Rattle.pl_form.specs.Marks.{has_undo_name, is_undo_name, IsFormOf, IsLibraryMark, IsProgramMark}
 use Rattle.pl_form.specs.Program.{last_index}

@@ -8,8 +8,8 @@ use Rattle.pl_elf.specs.Clauses as elf
 use Rattle.pl_elf.specs.Clauses.{segment_passes, section_passes}
 use Rattle.pl_elf.specs.declared.segment.Segment.{Segment}
 use Rattle.pl_elf.specs.declared.section.Section.{Section}
-use Rattle.pl_parts.specs.Parts as parts
-use Rattle.pl_parts.specs.Parts.{program_segments, extended_segment, is_grown}
+use Rattle.pl_form.specs.Parts as parts
+use Rattle.pl_form.specs.Parts.{program_segments, extended_segment, is_grown}
 use Rattle.pl_form.specs.Extending as extending
 use Rattle.pl_form.specs.Extending.{split_segments}
 use Rattle.pl_form.specs.declared.program.Last.{Last}

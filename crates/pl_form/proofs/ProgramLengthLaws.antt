@@ -14,20 +14,20 @@ use Rattle.pl_object.specs.PlaceClauses.{is_held, last_load, reloc_outside}
 use Rattle.pl_object.specs.Relocations.{places}
 use Rattle.pl_object.specs.declared.object.Object.{Object}
 use Rattle.pl_object.proofs.AcceptedLaws.{accepted}
-use Rattle.pl_parts.proofs.AcceptedIs.{segments_are}
-use Rattle.pl_parts.proofs.LoadFacts.{all_held, last_is}
-use Rattle.pl_parts.proofs.LoadTheorem.{zeros_agree}
-use Rattle.pl_parts.proofs.OverlapLaws.{zeros_apart}
-use Rattle.pl_parts.proofs.PlaceLaws.{IsHeld, IsOwn, is_own, hidden_in}
-use Rattle.pl_parts.proofs.SizeLaws.{total, apart_fit}
-use Rattle.pl_parts.specs.Back.{spot_windows, wanted}
-use Rattle.pl_parts.specs.Forms.{original_of, undo_part}
-use Rattle.pl_parts.specs.Found.{ss_of, ps_of, places_of, zeros_from}
-use Rattle.pl_parts.specs.Law.{IsDigest}
-use Rattle.pl_parts.specs.Loads.{spots_of, hidden_windows}
-use Rattle.pl_parts.specs.Parts.{joined_size, old_names, names_part, table_at, program_plan, zeros_part, extension_at, lists_part, extension, whole_extension}
-use Rattle.pl_parts.specs.declared.parts.Extension.{Extension}
-use Rattle.pl_parts.specs.declared.parts.Spot.{Spot}
+use Rattle.pl_form.proofs.AcceptedIs.{segments_are}
+use Rattle.pl_form.proofs.LoadFacts.{all_held, last_is}
+use Rattle.pl_form.proofs.LoadTheorem.{zeros_agree}
+use Rattle.pl_form.proofs.OverlapLaws.{zeros_apart}
+use Rattle.pl_form.proofs.PlaceByteLaws.{IsHeld, IsOwn, is_own, hidden_in}
+use Rattle.pl_form.proofs.SizeLaws.{total, apart_fit}
+use Rattle.pl_form.specs.Back.{spot_windows, wanted}
+use Rattle.pl_form.specs.Forms.{original_of, undo_part}
+use Rattle.pl_form.specs.Found.{ss_of, ps_of, places_of, zeros_from}
+use Rattle.pl_form.specs.PartLaws.{IsDigest}
+use Rattle.pl_form.specs.Loads.{spots_of, hidden_windows}
+use Rattle.pl_form.specs.Parts.{joined_size, old_names, names_part, table_at, program_plan, zeros_part, extension_at, lists_part, extension, whole_extension}
+use Rattle.pl_form.specs.declared.parts.Extension.{Extension}
+use Rattle.pl_form.specs.declared.parts.Spot.{Spot}
 use Rattle.pl_form.specs.Extending.{IsShort}
 use Rattle.pl_form.specs.Faults.{IsFirm}
 use Rattle.pl_form.specs.Program.{last_index}

@@ -9,16 +9,16 @@ use Rattle.pl_base.proofs.WindowLaws.{length-⊕, part_front, part_behind, part_
 use Rattle.pl_elf.specs.Headers.{header, section, sections}
 use Rattle.pl_elf.specs.declared.section.Section.{Section}
 use Rattle.pl_elf.specs.declared.segment.Segment.{Segment}
-use Rattle.pl_parts.specs.Back.{section_part, wanted}
-use Rattle.pl_parts.specs.Fits.{Fits}
-use Rattle.pl_parts.specs.Loads.{hidden_windows}
-use Rattle.pl_parts.specs.Parts.{Original, up, with_rows, old_names, names_part, table_at, joined_size, zeros_part, extension_at, lists_part, extension, whole_extension, rows_at, conflicts_at, loaded_section, program_section, program_sections, program_plan, front_part, form}
-use Rattle.pl_parts.specs.declared.parts.Extension.{Extension}
-use Rattle.pl_parts.specs.declared.parts.FormPlan.{FormPlan}
-use Rattle.pl_parts.proofs.FormLaws.{form_split, rest_of, front_size}
-use Rattle.pl_parts.proofs.FormTheorem.{all_small}
-use Rattle.pl_parts.proofs.LoadTheorem.{zeros_agree}
-use Rattle.pl_parts.proofs.PartsLaws.{part_inserted}
+use Rattle.pl_form.specs.Back.{section_part, wanted}
+use Rattle.pl_form.specs.Fits.{Fits}
+use Rattle.pl_form.specs.Loads.{hidden_windows}
+use Rattle.pl_form.specs.Parts.{Original, up, with_rows, old_names, names_part, table_at, joined_size, zeros_part, extension_at, lists_part, extension, whole_extension, rows_at, conflicts_at, loaded_section, program_section, program_sections, program_plan, front_part, form}
+use Rattle.pl_form.specs.declared.parts.Extension.{Extension}
+use Rattle.pl_form.specs.declared.parts.FormPlan.{FormPlan}
+use Rattle.pl_form.proofs.FormLaws.{form_split, rest_of, front_size}
+use Rattle.pl_form.proofs.FormTheorem.{all_small}
+use Rattle.pl_form.proofs.LoadTheorem.{zeros_agree}
+use Rattle.pl_form.proofs.PartsLaws.{part_inserted}
 use Rattle.pl_form.proofs.FoundLaws.{SectionFits, section_before}
 
 -- what is asked of the last PT_LOAD

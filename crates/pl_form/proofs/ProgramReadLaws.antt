@@ -11,20 +11,20 @@ use Rattle.pl_elf.specs.declared.segment.Segment.{Segment}
 use Rattle.pl_elf.proofs.AcceptedLaws.{load_fits}
 use Rattle.pl_object.specs.PlaceClauses.{last_load}
 use Rattle.pl_object.specs.declared.object.Object.{Object}
-use Rattle.pl_parts.specs.Back.{find_undo, front_of}
-use Rattle.pl_parts.specs.Forms.{original_of, undo_part, planned, program_form}
-use Rattle.pl_parts.specs.Found.{zeros_from, ss_of, places_of, ps_of}
-use Rattle.pl_parts.specs.Law.{FormsProgram}
-use Rattle.pl_parts.specs.Loads.{spots_of, hidden_windows}
-use Rattle.pl_parts.specs.Parts.{Original, program_plan, zeros_part, front_part}
-use Rattle.pl_parts.specs.declared.parts.Extension.{Extension}
+use Rattle.pl_form.specs.Back.{find_undo, front_of}
+use Rattle.pl_form.specs.Forms.{original_of, undo_part, planned, program_form}
+use Rattle.pl_form.specs.Found.{zeros_from, ss_of, places_of, ps_of}
+use Rattle.pl_form.specs.PartLaws.{FormsProgram}
+use Rattle.pl_form.specs.Loads.{spots_of, hidden_windows}
+use Rattle.pl_form.specs.Parts.{Original, program_plan, zeros_part, front_part}
+use Rattle.pl_form.specs.declared.parts.Extension.{Extension}
 use Rattle.pl_undo.specs.declared.undo.Undo.{Undo}
-use Rattle.pl_parts.proofs.AlikeTheorem.{held_program}
-use Rattle.pl_parts.proofs.FinalTheorem.{program_conditions}
-use Rattle.pl_parts.proofs.KindLaws.{segment_count}
-use Rattle.pl_parts.proofs.OverlapLaws.{zeros_apart}
-use Rattle.pl_parts.proofs.PlaceLaws.{is_own, hidden_in, none_of_loads, not_any_at}
-use Rattle.pl_parts.proofs.WholeTheorem.{program_is}
+use Rattle.pl_form.proofs.AlikeTheorem.{held_program}
+use Rattle.pl_form.proofs.FinalTheorem.{program_conditions}
+use Rattle.pl_form.proofs.KindLaws.{segment_count}
+use Rattle.pl_form.proofs.OverlapLaws.{zeros_apart}
+use Rattle.pl_form.proofs.PlaceByteLaws.{is_own, hidden_in, none_of_loads, not_any_at}
+use Rattle.pl_form.proofs.WholeTheorem.{program_is}
 use Rattle.pl_form.specs.Reading.{section_from_end, places_in, standing, zeros_behind}
 use Rattle.pl_form.proofs.FoundLaws.{undo_by, undo_found, front_is}
 use Rattle.pl_form.proofs.OriginalLaws.{alone, spots_apart}

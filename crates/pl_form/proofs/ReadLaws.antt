@@ -11,8 +11,8 @@ use Rattle.pl_lists.specs.declared.list_row.ListRow.{ListRow}
 use Rattle.pl_object.specs.Reads.{reads}
 use Rattle.pl_object.specs.declared.object.Object.{Object}
 use Rattle.pl_object.specs.declared.refusal.Refusal.{Refusal}
-use Rattle.pl_parts.specs.Back.{◌>>=◌, has_undo_section, find_undo, restored}
-use Rattle.pl_parts.specs.Found.{reader, ps_of}
+use Rattle.pl_form.specs.Back.{◌>>=◌, has_undo_section, find_undo, restored}
+use Rattle.pl_form.specs.Found.{reader, ps_of}
 use Rattle.pl_undo.specs.declared.undo.Undo.{Undo}
 use Rattle.pl_form.specs.Marks.{form_with}
 use Rattle.pl_form.specs.Reading.{is_firm, firm_object, section_from_end, spelled, with_conflicts, library_lists, program_lists, fits, is_form, marked_by, marked_of}

@@ -33,25 +33,25 @@ use Rattle.pl_object.specs.PlaceClauses.{last_load}
 use Rattle.pl_object.specs.Reads.{reads}
 use Rattle.pl_object.specs.declared.object.Object.{Object}
 use Rattle.pl_object.proofs.AcceptedLaws.{read_holds, accepted}
-use Rattle.pl_parts.proofs.AcceptedIs.{segments_are}
-use Rattle.pl_parts.proofs.FinalTheorem.{inside, library_conditions, program_conditions}
-use Rattle.pl_parts.proofs.KindLaws.{segment_count, section_count, library_fits, program_fits}
-use Rattle.pl_parts.proofs.LoadFacts.{last_is}
-use Rattle.pl_parts.proofs.PlaceLaws.{none_of_loads, not_any_at}
-use Rattle.pl_parts.proofs.ReaderLaws.{readable}
-use Rattle.pl_parts.proofs.WholeTheorem.{taken}
-use Rattle.pl_parts.specs.Back.{head_windows, wanted}
-use Rattle.pl_parts.specs.Fits.{Fits}
-use Rattle.pl_parts.specs.Forms as forms
-use Rattle.pl_parts.specs.Forms.{original_of, undo_part, planned}
-use Rattle.pl_parts.specs.Found.{ss_of, d_of, ps_of, tags_of}
-use Rattle.pl_parts.specs.Law.{IsDigest}
-use Rattle.pl_parts.specs.Loads.{hidden_windows}
-use Rattle.pl_parts.specs.Parts.{Original, form, library_plan, program_plan}
-use Rattle.pl_parts.specs.declared.parts.Extension.{Extension}
-use Rattle.pl_parts.specs.declared.parts.Listed.{Listed}
-use Rattle.pl_parts.specs.declared.parts.FormPlan.{FormPlan}
-use Rattle.pl_parts.specs.declared.parts.Spot.{Spot}
+use Rattle.pl_form.proofs.AcceptedIs.{segments_are}
+use Rattle.pl_form.proofs.FinalTheorem.{inside, library_conditions, program_conditions}
+use Rattle.pl_form.proofs.KindLaws.{segment_count, section_count, library_fits, program_fits}
+use Rattle.pl_form.proofs.LoadFacts.{last_is}
+use Rattle.pl_form.proofs.PlaceByteLaws.{none_of_loads, not_any_at}
+use Rattle.pl_form.proofs.ReaderLaws.{readable}
+use Rattle.pl_form.proofs.WholeTheorem.{taken}
+use Rattle.pl_form.specs.Back.{head_windows, wanted}
+use Rattle.pl_form.specs.Fits.{Fits}
+use Rattle.pl_form.specs.Forms as forms
+use Rattle.pl_form.specs.Forms.{original_of, undo_part, planned}
+use Rattle.pl_form.specs.Found.{ss_of, d_of, ps_of, tags_of}
+use Rattle.pl_form.specs.PartLaws.{IsDigest}
+use Rattle.pl_form.specs.Loads.{hidden_windows}
+use Rattle.pl_form.specs.Parts.{Original, form, library_plan, program_plan}
+use Rattle.pl_form.specs.declared.parts.Extension.{Extension}
+use Rattle.pl_form.specs.declared.parts.Listed.{Listed}
+use Rattle.pl_form.specs.declared.parts.FormPlan.{FormPlan}
+use Rattle.pl_form.specs.declared.parts.Spot.{Spot}
 use Rattle.pl_form.specs.Extending.{IsShort, HasNames, IsExtended}
 use Rattle.pl_form.specs.Faults.{IsFirm}
 use Rattle.pl_form.specs.Library.{IsMovable, library_with}

@@ -11,10 +11,10 @@ use Rattle.pl_elf.specs.Headers.{header}
 use Rattle.pl_elf.specs.Written.{header_bytes, segment_bytes}
 use Rattle.pl_move.specs.Moves.{table_window, row_size, rows, row_moved, moved, all_moved}
 use Rattle.pl_move.specs.declared.table.Table.{Table}
-use Rattle.pl_parts.specs.Back.{visible, inserted}
-use Rattle.pl_parts.specs.Parts.{Original, up, joined_size, names_part, table_part, table_at, new_header, moved_part, front_part, form}
-use Rattle.pl_parts.specs.declared.parts.FormPlan.{FormPlan}
-use Rattle.pl_parts.proofs.PartsLaws.{length-joined}
+use Rattle.pl_form.specs.Back.{visible, inserted}
+use Rattle.pl_form.specs.Parts.{Original, up, joined_size, names_part, table_part, table_at, new_header, moved_part, front_part, form}
+use Rattle.pl_form.specs.declared.parts.FormPlan.{FormPlan}
+use Rattle.pl_form.proofs.PartsLaws.{length-joined}
 
 -- ---- what is put over bytes makes them no shorter
 

@@ -15,7 +15,7 @@ use Rattle.pl_object.specs.PlaceClauses.{last_load}
 use Rattle.pl_object.specs.Reads.{reads}
 use Rattle.pl_object.specs.declared.object.Object.{Object}
 use Rattle.pl_object.proofs.AcceptedLaws.{read_holds}
-use Rattle.pl_parts.specs.Found.{ss_of}
+use Rattle.pl_form.specs.Found.{ss_of}
 
 abbrev tests : List ℕ → List (Bool × HeaderFault)
 tests bytes = (

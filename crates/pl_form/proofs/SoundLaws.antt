@@ -14,8 +14,8 @@ use Rattle.pl_lists.specs.Lists.{IsListOf, list_strings}
 use Rattle.pl_lists.specs.declared.list_row.ListRow.{ListRow}
 use Rattle.pl_object.specs.Reads.{reads}
 use Rattle.pl_object.specs.declared.object.Object.{Object}
-use Rattle.pl_parts.specs.Back.{wanted}
-use Rattle.pl_parts.specs.Found.{d_of, tags_of, ps_of}
+use Rattle.pl_form.specs.Back.{wanted}
+use Rattle.pl_form.specs.Found.{d_of, tags_of, ps_of}
 use Rattle.pl_undo.specs.declared.undo.Undo.{Undo}
 use Rattle.pl_form.specs.Faults.{form_fault, no_region}
 use Rattle.pl_form.specs.Marks.{has_mark, form_with, IsFormOf, IsMark}

@@ -8,15 +8,15 @@ use Rattle.pl_elf.specs.Headers.{header}
 use Rattle.pl_elf.specs.declared.segment.Segment.{Segment}
 use Rattle.pl_move.specs.Moves.{table_windows, all_moved}
 use Rattle.pl_move.proofs.MoveLaws.{length-all_moved}
-use Rattle.pl_parts.specs.Back.{header_window, segments_window, spot_windows, wanted, visible}
-use Rattle.pl_parts.specs.Fits.{Fits}
-use Rattle.pl_parts.specs.Loads.{hidden_windows}
-use Rattle.pl_parts.specs.Parts.{Original, moved_part, front_part, hidden, zeros_part}
-use Rattle.pl_parts.specs.declared.parts.FormPlan.{FormPlan}
-use Rattle.pl_parts.specs.declared.parts.Spot.{Spot}
-use Rattle.pl_parts.proofs.FillLaws.{Apart}
-use Rattle.pl_parts.proofs.FormLaws.{windows_visible, length-moved_part, front_moved}
-use Rattle.pl_parts.proofs.LoadTheorem.{windows_hidden}
+use Rattle.pl_form.specs.Back.{header_window, segments_window, spot_windows, wanted, visible}
+use Rattle.pl_form.specs.Fits.{Fits}
+use Rattle.pl_form.specs.Loads.{hidden_windows}
+use Rattle.pl_form.specs.Parts.{Original, moved_part, front_part, hidden, zeros_part}
+use Rattle.pl_form.specs.declared.parts.FormPlan.{FormPlan}
+use Rattle.pl_form.specs.declared.parts.Spot.{Spot}
+use Rattle.pl_form.proofs.HeldLaws.{Apart}
+use Rattle.pl_form.proofs.FormLaws.{windows_visible, length-moved_part, front_moved}
+use Rattle.pl_form.proofs.LoadTheorem.{windows_hidden}
 use Rattle.pl_form.specs.Reading.{standing}
 
 -- the bytes that were given stand at the places

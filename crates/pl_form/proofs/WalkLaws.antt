@@ -7,8 +7,8 @@ use Rattle.pl_base.specs.Bytes.{part}
 use Rattle.pl_base.specs.Windows.{are_in, end_of}
 use Rattle.pl_move.specs.Moves.{table_window, table_windows}
 use Rattle.pl_move.specs.declared.table.Table.{Table}
-use Rattle.pl_parts.specs.Back.{spot_windows, wanted}
-use Rattle.pl_parts.specs.declared.parts.Spot.{Spot}
+use Rattle.pl_form.specs.Back.{spot_windows, wanted}
+use Rattle.pl_form.specs.declared.parts.Spot.{Spot}
 use Rattle.pl_form.proofs.PlaceLaws.{rest_is, rest_none}
 use Rattle.pl_form.specs.Reading.{standing}
 

@@ -11,13 +11,13 @@ use Rattle.pl_elf.specs.declared.header.Header.{Header}
 use Rattle.pl_elf.specs.declared.section.Section.{Section}
 use Rattle.pl_elf.specs.declared.segment.Segment.{Segment}
 use Rattle.pl_move.specs.Moves.{table_windows}
-use Rattle.pl_parts.specs.Back.{head_windows, spot_windows, inserted}
-use Rattle.pl_parts.specs.Fits.{Fits}
-use Rattle.pl_parts.specs.Parts.{Original, up, joined, joined_size, old_names, all_names, names_part, names_at, table_at, table_rows, table_part, new_header, under_header, front_part, form}
-use Rattle.pl_parts.specs.declared.parts.FormPlan.{FormPlan}
-use Rattle.pl_parts.proofs.FormLaws.{new_length, length-under_header}
-use Rattle.pl_parts.proofs.HeadLaws.{length-segment, length-rows_of}
-use Rattle.pl_parts.proofs.PartsLaws.{length-joined, joined-append, length-inserted}
+use Rattle.pl_form.specs.Back.{head_windows, spot_windows, inserted}
+use Rattle.pl_form.specs.Fits.{Fits}
+use Rattle.pl_form.specs.Parts.{Original, up, joined, joined_size, old_names, all_names, names_part, names_at, table_at, table_rows, table_part, new_header, under_header, front_part, form}
+use Rattle.pl_form.specs.declared.parts.FormPlan.{FormPlan}
+use Rattle.pl_form.proofs.FormLaws.{new_length, length-under_header}
+use Rattle.pl_form.proofs.HeadLaws.{length-segment, length-rows_of}
+use Rattle.pl_form.proofs.PartsLaws.{length-joined, joined-append, length-inserted}
 use Rattle.pl_form.specs.Ends.{names_end, ended_rows, header_with}
 use Rattle.pl_form.specs.Originals.{original, LiesIn}
 use Rattle.pl_form.specs.declared.layout.Layout.{Layout}

@@ -4,9 +4,9 @@ use Rattle.pl_elf.specs.declared.segment.Segment.{Segment}
 use Rattle.pl_lists.specs.declared.conflict_row.ConflictRow.{ConflictRow}
 use Rattle.pl_lists.specs.declared.list_row.ListRow.{ListRow}
 use Rattle.pl_object.specs.declared.object.Object.{Object}
-use Rattle.pl_parts.specs.Back.{wanted}
-use Rattle.pl_parts.specs.Found.{ps_of}
-use Rattle.pl_parts.specs.Law.{IsFree, segment_of, stands_at, original_at}
+use Rattle.pl_form.specs.Back.{wanted}
+use Rattle.pl_form.specs.Found.{ps_of}
+use Rattle.pl_form.specs.PartLaws.{IsFree, segment_of, stands_at, original_at}
 use Rattle.pl_form.specs.Library.{IsFirmLibrary, IsEven, library_with}
 use Rattle.pl_form.specs.Program.{IsFirmProgram, program_with}
 use Rattle.pl_form.specs.declared.constants.TheConstants.{STORED}

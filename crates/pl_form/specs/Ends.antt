@@ -2,8 +2,8 @@
 use Rattle.std.specs.Prelude.{ℕ, ◌+◌, List, [], ◌∷◌, ◌++◌, length}
 use Rattle.pl_elf.specs.declared.header.Header.{Header}
 use Rattle.pl_elf.specs.declared.section.Section.{Section}
-use Rattle.pl_parts.specs.Parts.{plain, up, all_names, moved_entry}
-use Rattle.pl_parts.specs.declared.parts.FormPlan.{FormPlan}
+use Rattle.pl_form.specs.Parts.{plain, up, all_names, moved_entry}
+use Rattle.pl_form.specs.declared.parts.FormPlan.{FormPlan}
 
 -- where the names begin, and where they end
 abbrev pub names_from : ℕ → ℕ → ℕ

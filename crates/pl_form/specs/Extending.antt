@@ -10,9 +10,9 @@ use Rattle.pl_elf.specs.declared.section.Section.{Section}
 use Rattle.pl_elf.specs.declared.segment.Segment.{Segment}
 use Rattle.pl_move.specs.Moves.{rows}
 use Rattle.pl_object.specs.declared.object.Object.{Object}
-use Rattle.pl_parts.specs.Loads.{hidden_windows}
-use Rattle.pl_parts.specs.Parts.{is_grown, extended_segment, loaded_section, with_rows, with_tag, extension_at, rows_at, conflicts_at, entry_bytes}
-use Rattle.pl_parts.specs.declared.parts.Extension.{Extension}
+use Rattle.pl_form.specs.Loads.{hidden_windows}
+use Rattle.pl_form.specs.Parts.{is_grown, extended_segment, loaded_section, with_rows, with_tag, extension_at, rows_at, conflicts_at, entry_bytes}
+use Rattle.pl_form.specs.declared.parts.Extension.{Extension}
 use Rattle.pl_form.specs.declared.layout.Layout.{Layout}
 use Rattle.pl_form.specs.declared.program.Last.{Last}
 use Rattle.pl_form.specs.declared.program.Shift.{Shift}

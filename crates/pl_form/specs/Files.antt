@@ -6,7 +6,7 @@ use Rattle.pl_base.specs.Bytes.{IsBytes}
 use Rattle.pl_elf.specs.Headers.{HasSegments, header, is_load, segments}
 use Rattle.pl_elf.specs.declared.segment.Segment.{Segment}
 use Rattle.pl_object.specs.Reads.{reads}
-use Rattle.pl_parts.specs.Back.{◌>>=◌, when}
+use Rattle.pl_form.specs.Back.{◌>>=◌, when}
 use Rattle.pl_form.specs.Marks.{has_mark, as_file, IsFormOf, IsBadMark, IsPlain}
 use Rattle.pl_form.specs.Reading.{marked_of}
 use Rattle.pl_form.specs.declared.fault.FileFault.{FileFault}

@@ -1,3 +1,10 @@
+pub mod Back
+pub mod Parts
+pub mod Fits
+pub mod Loads
+pub mod Forms
+pub mod Found
+pub mod PartLaws
 pub mod Originals
 pub mod Faults
 pub mod Words

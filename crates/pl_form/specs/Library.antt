@@ -6,10 +6,10 @@ use Rattle.pl_elf.specs.Kinds.{is_library}
 use Rattle.pl_lists.specs.Lists.{is_list, list_strings}
 use Rattle.pl_lists.specs.declared.list_row.ListRow.{ListRow}
 use Rattle.pl_object.specs.declared.object.Object.{Object}
-use Rattle.pl_parts.specs.Forms as forms
-use Rattle.pl_parts.specs.Forms.{original_of}
-use Rattle.pl_parts.specs.Found.{ps_of}
-use Rattle.pl_parts.specs.declared.parts.Listed.{Listed}
+use Rattle.pl_form.specs.Forms as forms
+use Rattle.pl_form.specs.Forms.{original_of}
+use Rattle.pl_form.specs.Found.{ps_of}
+use Rattle.pl_form.specs.declared.parts.Listed.{Listed}
 use Rattle.pl_form.specs.Extending.{HasNames}
 use Rattle.pl_form.specs.Faults.{IsFirm}
 use Rattle.pl_form.specs.Words.{listed, all_filled, checksum_of, digest_in}

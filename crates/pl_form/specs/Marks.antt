@@ -18,9 +18,9 @@ use Rattle.pl_object.specs.Tables.{dynamic_memory}
 use Rattle.pl_object.specs.declared.object.Object.{Object}
 use Rattle.pl_object.specs.declared.refusal.Refusal.{Refusal}
 use Rattle.pl_object.specs.declared.refusal.Refusal.TheVariants as refusals
-use Rattle.pl_parts.specs.Back.{back, wanted}
-use Rattle.pl_parts.specs.Found.{has_dynamic_table, ps_of, reader, secs_of, ss_of}
-use Rattle.pl_parts.specs.declared.constants.TheConstants.{UNDO_NAME}
+use Rattle.pl_form.specs.Back.{back, wanted}
+use Rattle.pl_form.specs.Found.{has_dynamic_table, ps_of, reader, secs_of, ss_of}
+use Rattle.pl_form.specs.declared.section_names.TheConstants.{UNDO_NAME}
 use Rattle.pl_form.specs.Faults.{IsFirm}
 use Rattle.pl_form.specs.Library.{library_with}
 use Rattle.pl_form.specs.Program.{program_with}

@@ -3,9 +3,9 @@ use Rattle.std.specs.Prelude.{◌≡◌, ◌≤◌, ℕ, ◌+◌, ◌*◌, List,
 use Rattle.pl_base.specs.Windows.{AllIn}
 use Rattle.pl_elf.specs.Headers.{header}
 use Rattle.pl_move.specs.Moves.{table_windows}
-use Rattle.pl_parts.specs.Back.{spot_windows, wanted}
-use Rattle.pl_parts.specs.Parts.{Original}
-use Rattle.pl_parts.specs.declared.parts.FormPlan.{FormPlan}
+use Rattle.pl_form.specs.Back.{spot_windows, wanted}
+use Rattle.pl_form.specs.Parts.{Original}
+use Rattle.pl_form.specs.declared.parts.FormPlan.{FormPlan}
 use Rattle.pl_form.specs.declared.layout.Layout.{Layout}
 
 abbrev pub original : List ℕ → Layout → Original

@@ -8,10 +8,10 @@ use Rattle.pl_lists.specs.declared.conflict_row.ConflictRow.{ConflictRow}
 use Rattle.pl_lists.specs.declared.list_row.ListRow.{ListRow}
 use Rattle.pl_object.specs.declared.object.Object.{Object}
 use Rattle.pl_object.specs.declared.reloc.Reloc.{Reloc}
-use Rattle.pl_parts.specs.Back.{wanted}
-use Rattle.pl_parts.specs.Found.{ss_of, ps_of}
-use Rattle.pl_parts.specs.Loads.{pieces_of, fills}
-use Rattle.pl_parts.specs.Parts.{moved_segment}
+use Rattle.pl_form.specs.Back.{wanted}
+use Rattle.pl_form.specs.Found.{ss_of, ps_of}
+use Rattle.pl_form.specs.Loads.{pieces_of, fills}
+use Rattle.pl_form.specs.Parts.{moved_segment}
 use Rattle.pl_form.specs.Faults.{IsFirm}
 use Rattle.pl_form.specs.Library.{IsFirmLibrary, IsEven, library_with}
 use Rattle.pl_form.specs.Program.{IsFirmProgram, program_with}

@@ -9,10 +9,10 @@ use Rattle.pl_lists.specs.declared.conflict_row.ConflictRow.{ConflictRow}
 use Rattle.pl_lists.specs.declared.list_row.ListRow.{ListRow}
 use Rattle.pl_object.specs.PlaceClauses.{last_load}
 use Rattle.pl_object.specs.declared.object.Object.{Object}
-use Rattle.pl_parts.specs.Forms as forms
-use Rattle.pl_parts.specs.Forms.{original_of}
-use Rattle.pl_parts.specs.Found.{ss_of}
-use Rattle.pl_parts.specs.declared.parts.Extension.{Extension}
+use Rattle.pl_form.specs.Forms as forms
+use Rattle.pl_form.specs.Forms.{original_of}
+use Rattle.pl_form.specs.Found.{ss_of}
+use Rattle.pl_form.specs.declared.parts.Extension.{Extension}
 use Rattle.pl_form.specs.Faults.{IsFirm}
 use Rattle.pl_form.specs.Words.{extension_of, flat_of, digest_in}
 use Rattle.pl_form.specs.declared.constants.TheConstants.{STORED}

@@ -18,9 +18,9 @@ use Rattle.pl_object.specs.PlaceClauses.{last_load}
 use Rattle.pl_object.specs.Reads.{reads}
 use Rattle.pl_object.specs.declared.object.Object.{Object}
 use Rattle.pl_object.specs.declared.refusal.Refusal.{Refusal}
-use Rattle.pl_parts.specs.Back.{◌>>=◌, when, section_part, find_undo, front_of, restored, wanted}
-use Rattle.pl_parts.specs.Found.{reader, ss_of, d_of, tags_of, ps_of}
-use Rattle.pl_parts.specs.declared.parts.Spot.{Spot}
+use Rattle.pl_form.specs.Back.{◌>>=◌, when, section_part, find_undo, front_of, restored, wanted}
+use Rattle.pl_form.specs.Found.{reader, ss_of, d_of, tags_of, ps_of}
+use Rattle.pl_form.specs.declared.parts.Spot.{Spot}
 use Rattle.pl_undo.specs.declared.undo.Undo.{Undo}
 use Rattle.pl_form.specs.Faults.{form_fault, no_region, IsFirm}
 use Rattle.pl_form.specs.Marks.{has_mark, form_with, IsFormOf}

@@ -7,10 +7,10 @@ use Rattle.pl_elf.specs.Headers.{header, section_offset, HasSegments, HasSection
 use Rattle.pl_elf.specs.declared.header.Header.{Header}
 use Rattle.pl_move.specs.Moves.{table_windows, all_back}
 use Rattle.pl_move.specs.declared.table.Table.{Table}
-use Rattle.pl_parts.specs.Back.{when, all_within, head_windows, spot_windows, stored, visible, wanted}
-use Rattle.pl_parts.specs.Found.{stored_segments, stored_sections, dynamic_in, has_dynamic_table, has_tables, moved_tables, row_windows, places_by, zeros_from}
-use Rattle.pl_parts.specs.Loads.{spots_of}
-use Rattle.pl_parts.specs.declared.parts.Spot.{Spot}
+use Rattle.pl_form.specs.Back.{when, all_within, head_windows, spot_windows, stored, visible, wanted}
+use Rattle.pl_form.specs.Found.{stored_segments, stored_sections, dynamic_in, has_dynamic_table, has_tables, moved_tables, row_windows, places_by, zeros_from}
+use Rattle.pl_form.specs.Loads.{spots_of}
+use Rattle.pl_form.specs.declared.parts.Spot.{Spot}
 use Rattle.pl_object.specs.PlaceClauses.{last_load}
 use Rattle.pl_undo.specs.Section.{headers_size}
 use Rattle.pl_undo.specs.declared.undo.Undo.{Undo}

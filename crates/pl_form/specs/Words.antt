@@ -12,10 +12,10 @@ use Rattle.pl_object.specs.FilePart.{file_window}
 use Rattle.pl_object.specs.Relocations.{places}
 use Rattle.pl_object.specs.Tables.{strings_memory}
 use Rattle.pl_object.specs.declared.reloc.Reloc.{Reloc}
-use Rattle.pl_parts.specs.Found.{ss_of, tags_of}
-use Rattle.pl_parts.specs.declared.parts.Extension.{Extension}
-use Rattle.pl_parts.specs.declared.parts.Listed.{Listed}
-use Rattle.pl_parts.specs.declared.parts.Spot.{Spot}
+use Rattle.pl_form.specs.Found.{ss_of, tags_of}
+use Rattle.pl_form.specs.declared.parts.Extension.{Extension}
+use Rattle.pl_form.specs.declared.parts.Listed.{Listed}
+use Rattle.pl_form.specs.declared.parts.Spot.{Spot}
 use Rattle.sha2.specs.Sha256.{sha256}
 use Rattle.pl_form.specs.declared.file.Fill.{Fill}
 use Rattle.pl_form.specs.declared.version.Version.{Version}

@@ -3,12 +3,13 @@ ghost use Rattle.std.specs.Prelude.{◌≡◌, ◌+◌, ◌-◌, ◌*◌, ◌^�
 ghost use Rattle.pl_base.specs.Windows as windows;
 ghost use Rattle.pl_elf.specs.Headers as headers;
 ghost use Rattle.pl_move.specs.Moves.{all_back, table_window, table_windows};
-ghost use Rattle.pl_parts.specs.Back as back;
-ghost use Rattle.pl_parts.specs.Found as found;
+ghost use Rattle.pl_form.specs.Back as back;
+ghost use Rattle.pl_form.specs.Found as found;
 ghost use Rattle.pl_undo.specs.Section.{headers_size};
 ghost use Rattle.pl_form.specs.Stored as spec;
 ghost use Rattle.pl_form.specs.Stored.{IsWhole, WholeIfAny};
 
+use crate::Spot;
 use crate::bytes::put_bytes;
 use crate::found::{
     dynamic_in, find_spots, has_dynamic_table, has_tables, moved_tables, row_windows,
@@ -22,7 +23,6 @@ use pl_elf::constants::{HEADER_SIZE, SECTION_SIZE, SEGMENT_SIZE};
 use pl_elf::{Header, Section, Segment, header_fields, read_section, read_sections, read_segments};
 use pl_move::{Table, move_tables_back};
 use pl_object::Window;
-use pl_parts::Spot;
 use pl_undo::{Undo, UndoFault, read_undo};
 use std::alloc::{AllocError, Global};
 
@@ -93,7 +93,7 @@ struct StoredHeaders {
 }
 
 /// The stored headers: the header, then the program header table, then the section header table.
-#[tactic(auto, unfolding(pl_parts::specs::Found::stored_segments, pl_parts::specs::Found::stored_sections, pl_undo::specs::Section::headers_size))]
+#[tactic(auto, unfolding(crate::specs::Found::stored_segments, crate::specs::Found::stored_sections, pl_undo::specs::Section::headers_size))]
 fn stored_headers(alloc: Global, bytes: &[u8]) -> Result<StoredHeaders, AllocError>
     requires { length bytes.now ≡ headers_size (headers.header bytes.now) }
     ensures { IfOk result (λ s. s ≡ spec.stored_headers bytes.now) }

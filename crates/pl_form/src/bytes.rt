@@ -4,7 +4,7 @@ ghost use Rattle.std.specs.List.{concat};
 ghost use Rattle.pl_base.specs.Bytes.{put};
 ghost use Rattle.pl_base.specs.Windows.{◌⊕◌};
 ghost use Rattle.pl_elf.specs.Written.{section_header_bytes, segment_bytes};
-ghost use Rattle.pl_parts.specs.Parts as parts;
+ghost use Rattle.pl_form.specs.Parts as parts;
 
 use pl_base::push64;
 use pl_elf::constants::{SECTION_SIZE, SEGMENT_SIZE};

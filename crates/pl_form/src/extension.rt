@@ -2,15 +2,15 @@
 ghost use Rattle.std.specs.Prelude.{◌≡◌, ◌+◌, ◌-◌, ◌≤◌, ◌^◌, drop, length, take, IfOk};
 ghost use Rattle.pl_base.specs.Bytes.{put};
 ghost use Rattle.pl_base.specs.Windows.{AllIn, put_all};
-ghost use Rattle.pl_parts.specs.Loads.{hidden_windows};
-ghost use Rattle.pl_parts.specs.Parts as parts;
+ghost use Rattle.pl_form.specs.Loads.{hidden_windows};
+ghost use Rattle.pl_form.specs.Parts as parts;
 ghost use Rattle.pl_form.specs.Extending.{IsShort, AreShort};
 
 use crate::bytes::{push_part, put_bytes, split, up};
 use crate::places::push_zeros;
+use crate::{Extension, Spot};
 use pl_base::round_up;
 use pl_elf::Segment;
-use pl_parts::{Extension, Spot};
 use std::alloc::{AllocError, Global};
 
 /// By how many bytes the extension is aligned.
@@ -47,7 +47,7 @@ fn zeros_of(last: &Segment) -> u64
 }
 
 /// The zeros of the last PT_LOAD, with the bytes of the places there.
-#[tactic(auto, unfolding(pl_parts::specs::Parts::zeros_part))]
+#[tactic(auto, unfolding(crate::specs::Parts::zeros_part))]
 fn zeros_part(
     alloc: Global,
     last: &Segment,
@@ -103,7 +103,7 @@ fn lists_part(alloc: Global, lists: &Extension) -> Result<Vec<u8>, AllocError>
 }
 
 /// What the last PT_LOAD of a form has behind the original's file bytes.
-#[tactic(auto, unfolding(pl_parts::specs::Parts::extension))]
+#[tactic(auto, unfolding(crate::specs::Parts::extension))]
 pub fn extension(
     alloc: Global,
     last: &Segment,
@@ -123,7 +123,7 @@ pub fn extension(
 }
 
 /// A block with zeros up to a multiple of 16 bytes, so that what follows in the file keeps its alignment.
-#[tactic(auto, unfolding(pl_parts::specs::Parts::whole_extension))]
+#[tactic(auto, unfolding(crate::specs::Parts::whole_extension))]
 pub fn whole_extension(alloc: Global, block: &[u8]) -> Result<Vec<u8>, AllocError>
     ensures { IfOk result (λ v. v.items ≡ parts.whole_extension block.now) }
 {

@@ -31,7 +31,7 @@ pub enum FormFault {
     #[error("the last segment in memory is not the last in the file")]
     LastLoadNotLast,
 
-    /// The form has more than `pl_form::STORED` bytes.
+    /// The form has more than `crate::STORED` bytes.
     #[error("the form is too large")]
     TooLarge,
 

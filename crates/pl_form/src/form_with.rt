@@ -1,8 +1,8 @@
 // A form by all that it is made of.
 ghost use Rattle.std.specs.Prelude.{◌≡◌, ◌%◌, length, true, false, IfOk};
 ghost use Rattle.pl_elf.specs.Kinds.{is_library};
-ghost use Rattle.pl_parts.specs.Back.{wanted};
-ghost use Rattle.pl_parts.specs.Found.{ps_of};
+ghost use Rattle.pl_form.specs.Back.{wanted};
+ghost use Rattle.pl_form.specs.Found.{ps_of};
 ghost use Rattle.pl_form.specs.Reading.{FormWithIfAny, IsMade};
 ghost use Rattle.sha2.specs.Sha256.{sha256};
 

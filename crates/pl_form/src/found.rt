@@ -4,9 +4,10 @@ ghost use Rattle.pl_base.specs.Bytes as bytes;
 ghost use Rattle.pl_object.specs.PlaceClauses as clauses;
 ghost use Rattle.pl_object.specs.Relocations as relocations;
 ghost use Rattle.pl_object.specs.Tables as tables;
-ghost use Rattle.pl_parts.specs.Found as spec;
-ghost use Rattle.pl_parts.specs.Loads as loads;
+ghost use Rattle.pl_form.specs.Found as spec;
+ghost use Rattle.pl_form.specs.Loads as loads;
 
+use crate::Spot;
 use crate::bytes::split;
 use pl_base::{Rows, end, part, word32, word64};
 use pl_dyn::Tag;
@@ -20,7 +21,6 @@ use pl_object::tags::{
     dynamic_memory, has_tag, jmprel_memory, rela_memory, relr_memory, symbols_memory,
 };
 use pl_object::{Window, file_window, in_file_part, last_load};
-use pl_parts::Spot;
 use pl_relr::{RelrFault, unpack};
 use pl_sym::constants::SYMBOL_SIZE;
 use std::alloc::{AllocError, Global};
@@ -170,7 +170,7 @@ fn raw_place(symbols: &[u8], table: &[u8], index: usize) -> Window
 }
 
 /// The places of all whole rows of a table.
-#[tactic(auto, unfolding(pl_parts::specs::Found::raw_places))]
+#[tactic(auto, unfolding(crate::specs::Found::raw_places))]
 fn raw_places(alloc: Global, symbols: &[u8], table: &[u8]) -> Result<Vec<Window>, AllocError>
     ensures { IfOk result (λ v. v.items ≡ spec.raw_places symbols.now table.now) }
 {
@@ -189,7 +189,7 @@ fn word_windows(alloc: Global, addresses: &[u64]) -> Result<Vec<Window>, AllocEr
 }
 
 /// Where a place stands: its file bytes, and how many bytes follow in the zeros from an address on.
-#[tactic(auto, unfolding(pl_parts::specs::Loads::spot_of))]
+#[tactic(auto, unfolding(crate::specs::Loads::spot_of))]
 fn spot_of(segments: &[Segment], start: u128, place: Window) -> Spot
     ensures { result ≡ loads.spot_of segments.now start place }
 {
@@ -230,7 +230,7 @@ fn spots_of(alloc: Global, segments: &[Segment], places: &[Window]) -> Result<Ve
 }
 
 /// The places that a packed table names; none where its words name none.
-#[tactic(auto, unfolding(pl_parts::specs::Found::packed_places))]
+#[tactic(auto, unfolding(crate::specs::Found::packed_places))]
 fn packed_places(alloc: Global, table: &[u8]) -> Result<Vec<Window>, AllocError>
     ensures { IfOk result (λ v. v.items ≡ spec.packed_places table.now) }
 {
@@ -242,7 +242,7 @@ fn packed_places(alloc: Global, table: &[u8]) -> Result<Vec<Window>, AllocError>
 }
 
 /// The places of all relocations, by the bytes of the tables one after the other, of these sizes, and the symbols behind them.
-#[tactic(auto, unfolding(pl_parts::specs::Found::all_places))]
+#[tactic(auto, unfolding(crate::specs::Found::all_places))]
 fn all_places(
     alloc: Global,
     rela: u64,

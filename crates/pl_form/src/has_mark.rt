@@ -7,11 +7,11 @@ ghost use Rattle.pl_form.specs.Marks as spec;
 ghost use Rattle.pl_form.specs.Stored.{LieIn};
 
 use crate::found::{dynamic_in, has_dynamic_table};
+use crate::section_names::UNDO_NAME;
 use crate::write::old_names;
 use pl_base::part;
 use pl_dyn::{Tag, is_ended, is_prelink_tag, read_tags};
 use pl_elf::{Section, header_fields, read_header, read_sections, read_segments};
-use pl_parts::constants::UNDO_NAME;
 use std::alloc::{AllocError, Global};
 
 /// Whether a section has the name of the undo section.

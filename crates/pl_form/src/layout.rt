@@ -1,7 +1,7 @@
+use crate::Spot;
 use pl_base::Rows;
 use pl_move::Table;
 use pl_object::Window;
-use pl_parts::Spot;
 
 /// Where a form changes an original.
 #[derive(Drop)]

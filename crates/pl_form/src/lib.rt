@@ -1,4 +1,4 @@
-//! The form that prelinking gives an accepted library or program, and the file that comes back from it.
+//! The form that prelinking gives an accepted library or program: its parts, as definitions with their laws, the file that is made of them, what a file is by its mark, and the original that comes back from a form.
 #![tactic(auto)]
 
 mod alike;
@@ -17,11 +17,14 @@ mod layout;
 mod library;
 mod library_form;
 mod mark;
+mod part_laws;
+mod parts;
 mod places;
 mod program;
 mod program_form;
 mod read;
 mod reading;
+pub mod section_names;
 mod undo_part;
 mod undoing;
 mod version;
@@ -37,6 +40,8 @@ pub use law::{files_are_told, forms_have_one_original};
 use layout::Layout;
 pub use library_form::{digest_of, form_library, form_library_with};
 use mark::Mark;
+pub use part_laws::{forms_are_undone, forms_bear_segments, forms_hold_fills, forms_load_alike};
+pub use parts::{Extension, FormPlan, Listed, Spot};
 pub use program_form::form_program;
 pub use reading::read_file;
 pub use undoing::undo;

@@ -3,23 +3,22 @@ ghost use Rattle.std.specs.Prelude.{◌≡◌, ◌+◌, ◌*◌, ◌<◌, ◌≤
 ghost use Rattle.pl_base.specs.Bytes.{put};
 ghost use Rattle.pl_move.specs.Moves.{row_moved, rows};
 ghost use Rattle.pl_move.specs.declared.kind.RowKind.TheVariants.{TagValue};
-ghost use Rattle.pl_parts.specs.Parts as parts;
+ghost use Rattle.pl_form.specs.Parts as parts;
 ghost use Rattle.pl_object.specs.Accepted.{HasHead};
 ghost use Rattle.pl_form.specs.Extending.{HasNames};
 ghost use Rattle.pl_form.specs.Library.{IsMovable};
 ghost use Rattle.pl_form.specs.Originals.{original};
 
 use crate::bytes::{plain, push_entry, put_bytes, up};
+use crate::section_names::{LIBLIST_NAME, LIBSTR_NAME};
 use crate::write::old_names;
-use crate::{Layout, Mark};
+use crate::{FormPlan, Layout, Listed, Mark};
 use pl_base::{Rows, part};
 use pl_dyn::constants::{DT_CHECKSUM, DT_GNU_PRELINKED};
 use pl_elf::constants::{SHF_ALLOC, SHT_GNU_LIBLIST, SHT_STRTAB};
 use pl_elf::{Section, Segment, is_moved_kind};
 use pl_move::{RowKind, move_rows};
 use pl_object::Object;
-use pl_parts::constants::{LIBLIST_NAME, LIBSTR_NAME};
-use pl_parts::{FormPlan, Listed};
 use std::alloc::{AllocError, Global};
 
 fn moved_segment(slot: u64, segment: &Segment) -> Segment
@@ -167,7 +166,7 @@ fn library_names(alloc: Global) -> Result<Vec<u8>, AllocError>
 }
 
 /// The plan of a library's form.
-#[tactic(auto, unfolding(pl_parts::specs::Parts::library_plan, pl_parts::specs::Parts::library_dynamic, pl_parts::specs::Parts::library_sections, pl_parts::specs::Parts::with_entries))]
+#[tactic(auto, unfolding(crate::specs::Parts::library_plan, crate::specs::Parts::library_dynamic, crate::specs::Parts::library_sections, crate::specs::Parts::with_entries))]
 pub fn library_plan(
     alloc: Global,
     bytes: &[u8],

@@ -2,11 +2,11 @@
 ghost use Rattle.std.specs.Prelude.{◌≡◌, ◌+◌, ◌++◌, ◌≤◌, drop, length, replicate, take, IfOk, OnOk};
 ghost use Rattle.pl_base.specs.Bytes.{part, put};
 ghost use Rattle.pl_base.specs.Windows.{AllIn, put_all};
-ghost use Rattle.pl_parts.specs.Back as back;
+ghost use Rattle.pl_form.specs.Back as back;
 
+use crate::Spot;
 use crate::bytes::{put_bytes, split};
 use pl_base::part;
-use pl_parts::Spot;
 use std::alloc::{AllocError, Global};
 
 /// Puts the first bytes at a place, as far as it is in the file, and answers those for the places behind it.

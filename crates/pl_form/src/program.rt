@@ -5,19 +5,20 @@ ghost use Rattle.pl_elf.specs.Clauses.{section_passes};
 ghost use Rattle.pl_elf.specs.Headers as headers;
 ghost use Rattle.pl_move.specs.Moves.{rows};
 ghost use Rattle.pl_object.specs.Accepted.{HasHead};
-ghost use Rattle.pl_parts.specs.Back as back;
-ghost use Rattle.pl_parts.specs.Loads.{hidden_windows};
-ghost use Rattle.pl_parts.specs.Parts as parts;
+ghost use Rattle.pl_form.specs.Back as back;
+ghost use Rattle.pl_form.specs.Loads.{hidden_windows};
+ghost use Rattle.pl_form.specs.Parts as parts;
 ghost use Rattle.pl_base.specs.Bytes.{put};
 ghost use Rattle.pl_base.specs.Windows.{AllIn, IsIn};
 ghost use Rattle.pl_form.specs.Extending as spec;
 ghost use Rattle.pl_form.specs.Extending.{IsShort, AreShort, HasNames, IsExtended};
 ghost use Rattle.pl_form.specs.Originals.{original};
 
-use crate::Layout;
 use crate::bytes::{plain, push_entry, put_bytes};
 use crate::extension::{conflicts_at, extension, extension_at, rows_at, whole_extension};
+use crate::section_names::{CONFLICT_NAME, LIBLIST_NAME, LIBSTR_NAME};
 use crate::write::old_names;
+use crate::{Extension, FormPlan, Layout};
 use pl_base::{Rows, end, part, put64, word64};
 use pl_dyn::constants::{
     DT_GNU_CONFLICT, DT_GNU_CONFLICTSZ, DT_GNU_LIBLIST, DT_GNU_LIBLISTSZ, DT_STRSZ, DT_STRTAB,
@@ -29,8 +30,6 @@ use pl_elf::constants::{
 use pl_elf::{Section, Segment};
 use pl_lists::{CONFLICT_SIZE, LIST_ROW_SIZE};
 use pl_object::Object;
-use pl_parts::constants::{CONFLICT_NAME, LIBLIST_NAME, LIBSTR_NAME};
-use pl_parts::{Extension, FormPlan};
 use std::alloc::{AllocError, Global};
 
 /// What the bytes from an offset of the file on move by.

@@ -2,8 +2,8 @@
 ghost use Rattle.std.specs.Prelude.{◌≡◌, ◌+◌, ◌≤◌, ◌<◌, ◌^◌, ◌++◌, length, nat_lt, IfOk, OnOk};
 ghost use Rattle.pl_base.specs.Answers.{Answers, AnswersAs};
 ghost use Rattle.pl_lists.specs.Lists.{list_strings};
-ghost use Rattle.pl_parts.specs.Back.{wanted};
-ghost use Rattle.pl_parts.specs.Found.{ps_of};
+ghost use Rattle.pl_form.specs.Back.{wanted};
+ghost use Rattle.pl_form.specs.Found.{ps_of};
 ghost use Rattle.pl_form.specs.Faults as fault_spec;
 ghost use Rattle.pl_form.specs.Program as spec;
 ghost use Rattle.pl_form.specs.Words as words;
@@ -15,13 +15,12 @@ use crate::library_form::{digest_of, kept_digest, layout_of};
 use crate::program::{Last, program_plan};
 use crate::undo_part::undo_part;
 use crate::write::write_form;
-use crate::{Fill, FormFault, Version};
+use crate::{Extension, Fill, FormFault, Version};
 use pl_base::{Rows, part};
 use pl_elf::Segment;
 use pl_io::NoMemory;
 use pl_lists::{ConflictRow, ListRow, write_conflicts, write_list};
 use pl_object::{Object, strings_of};
-use pl_parts::Extension;
 use std::alloc::{AllocError, Global};
 
 /// Whether the names of a list have more bytes than a form.

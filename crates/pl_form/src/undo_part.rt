@@ -2,19 +2,18 @@
 ghost use Rattle.std.specs.Prelude.{◌≡◌, ◌≤◌, ◌++◌, length, IfOk};
 ghost use Rattle.pl_base.specs.Windows.{within};
 ghost use Rattle.pl_elf.specs.Headers.{header};
-ghost use Rattle.pl_parts.specs.Back as back;
-ghost use Rattle.pl_parts.specs.Forms as forms;
+ghost use Rattle.pl_form.specs.Back as back;
+ghost use Rattle.pl_form.specs.Forms as forms;
 ghost use Rattle.pl_form.specs.Originals.{original};
 
-use crate::Layout;
 use crate::places::push_all_memory;
 use crate::windows::all_bytes;
+use crate::{FormPlan, Layout};
 use pl_base::{Rows, part};
 use pl_elf::constants::{HEADER_SIZE, SECTION_SIZE, SEGMENT_SIZE};
 use pl_elf::{Header, header_fields};
 use pl_io::NoMemory;
 use pl_object::Window;
-use pl_parts::FormPlan;
 use pl_undo::{DIGEST_SIZE, Undo, write_undo};
 use std::alloc::{AllocError, Global};
 

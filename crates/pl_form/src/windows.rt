@@ -1,7 +1,7 @@
 // Windows that are tested before a byte of them is read.
 ghost use Rattle.std.specs.Prelude.{◌≡◌, ◌++◌, nat_le, IfOk, OnOk};
 ghost use Rattle.pl_base.specs.Windows as spec;
-ghost use Rattle.pl_parts.specs.Back.{all_within};
+ghost use Rattle.pl_form.specs.Back.{all_within};
 
 use pl_base::part;
 use pl_object::Window;

@@ -2,23 +2,22 @@
 ghost use Rattle.std.specs.Prelude.{◌≡◌, ◌+◌, ◌++◌, ◌<◌, ◌≤◌, ◌^◌, ◌∷◌, [], length, IfOk, OnOk};
 ghost use Rattle.pl_elf.specs.Headers as headers;
 ghost use Rattle.pl_elf.specs.Clauses.{names};
-ghost use Rattle.pl_parts.specs.Back.{inserted};
-ghost use Rattle.pl_parts.specs.Fits.{Fits};
-ghost use Rattle.pl_parts.specs.Parts as parts;
+ghost use Rattle.pl_form.specs.Back.{inserted};
+ghost use Rattle.pl_form.specs.Fits.{Fits};
+ghost use Rattle.pl_form.specs.Parts as parts;
 ghost use Rattle.pl_form.specs.Ends as ends;
 ghost use Rattle.pl_form.specs.Originals.{LiesIn, original};
 ghost use Rattle.pl_base.specs.Bytes.{put};
 ghost use Rattle.pl_elf.specs.Written.{header_bytes};
 
-use crate::Layout;
 use crate::bytes::{plain, push_part, put_bytes, section_table, segment_table, up};
 use crate::places::put_visible;
+use crate::section_names::{NAMES_NAME, UNDO_NAME};
+use crate::{FormPlan, Layout};
 use pl_base::Rows;
 use pl_elf::constants::{HEADER_SIZE, SECTION_SIZE, SHT_PROGBITS, SHT_STRTAB};
 use pl_elf::{Header, Section, header_fields, read_section, section_data, write_header};
 use pl_move::move_tables;
-use pl_parts::FormPlan;
-use pl_parts::constants::{NAMES_NAME, UNDO_NAME};
 use std::alloc::{AllocError, Global};
 
 /// How many bytes there may be of a form, so that room is made for them at once. Nothing but memory and time depends on it.
@@ -46,7 +45,7 @@ fn copy_with(alloc: Global, bytes: &[u8], room: usize) -> Result<Vec<u8>, AllocE
 }
 
 /// The original's bytes moved, with bytes at the places, and the new dynamic table and program headers.
-#[tactic(auto, unfolding(pl_parts::specs::Parts::moved_part))]
+#[tactic(auto, unfolding(crate::specs::Parts::moved_part))]
 fn under_header(
     alloc: Global,
     bytes: &[u8],

@@ -17,7 +17,7 @@ use Rattle.pl_form.specs.declared.constants.TheConstants.{STORED}
 use Rattle.pl_form.specs.declared.file.Marked.{Marked}
 use Rattle.pl_form.proofs.CompleteLaws.{complete}
 use Rattle.pl_form.proofs.ReadLaws.{row_in}
-use Rattle.pl_parts.specs.Back.{has_undo_section, find_undo}
+use Rattle.pl_form.specs.Back.{has_undo_section, find_undo}
 use Rattle.pl_object.proofs.SpanLaws.{Ends}
 use Rattle.pl_slots.specs.Holes.{is_free}
 use Rattle.pl_loader.specs.Loading.{IsRead, IsForm, IsFormIfMarked}

@@ -18,7 +18,7 @@ use Rattle.pl_image.specs.Loads.{loaded_piece, loaded_pieces, mask_at, IsPlaced}
 use Rattle.pl_image.specs.declared.mask.Mask.{Mask}
 use Rattle.pl_image.specs.declared.loaded_object.LoadedObject.{LoadedObject}
 use Rattle.pl_object.specs.declared.object.Object.{Object}
-use Rattle.pl_parts.specs.Loads.{pieces_of, stands}
+use Rattle.pl_form.specs.Loads.{pieces_of, stands}
 use Rattle.pl_value.specs.Ordinary.{part_of, loaded_objects, ArePlaced}
 use Rattle.pl_value.specs.Targets.{base_of}
 use Rattle.pl_conflict.specs.Standing.{standing_at, standing_from, standing}

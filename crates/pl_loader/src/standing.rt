@@ -5,7 +5,7 @@ ghost use Rattle.pl_elf.specs.Headers.{is_load};
 ghost use Rattle.pl_elf.specs.declared.constants.TheConstants.{ADDRESS_LIMIT};
 ghost use Rattle.pl_image.specs.Image.{ascends, AreLoaded};
 ghost use Rattle.pl_image.specs.Loads.{EndsInLimit, IsPlaced};
-ghost use Rattle.pl_parts.specs.Loads as parts;
+ghost use Rattle.pl_form.specs.Loads as parts;
 ghost use Rattle.pl_conflict.specs.Fast as patch_spec;
 ghost use Rattle.pl_conflict.specs.Standing.{standing, standing_at};
 ghost use Rattle.pl_loader.specs.Fast as spec;

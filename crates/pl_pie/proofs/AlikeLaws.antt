@@ -15,8 +15,8 @@ use Rattle.pl_object.specs.FilePart.{nothing, file_window, in_file_part}
 use Rattle.pl_object.specs.TableClauses.{meets}
 use Rattle.pl_object.specs.Tables.{dynamic_memory, has_kind, has_tag, header_window, jmprel_memory, link_windows, main_windows, rela_memory, relr_memory, section_memory, section_window, segments_window, strings_memory, symbols_memory, symtab_windows, tables_memory, tag_memory, value}
 use Rattle.pl_object.specs.declared.object.Object.{Object}
-use Rattle.pl_fixed.specs.Fixed.{fixed_header, fixed_section, fixed_segment}
-use Rattle.pl_fixed.specs.Stays.{moved_window, Stands}
+use Rattle.law_fixed.specs.Fixed.{fixed_header, fixed_section, fixed_segment}
+use Rattle.law_fixed.specs.Stays.{moved_window, Stands}
 use Rattle.pl_pie.proofs.AtLaws.{IsAt, new_tags, old_tags}
 use Rattle.pl_pie.proofs.MemoryLaws.{Alike, dynamic_memory_moves, held_stays, nothing_alike, nothing_held, section_memory_is, symbols_memory_moves, tag_memory_is, window_stays}
 

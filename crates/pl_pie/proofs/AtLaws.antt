@@ -27,7 +27,7 @@ use Rattle.pl_object.specs.declared.linking.Linking.{Linking}
 use Rattle.pl_object.specs.declared.object.Object.{Object}
 use Rattle.pl_object.proofs.AcceptedLaws.{IsDynamic, read_holds}
 use Rattle.pl_object.proofs.TabledLaws.{table_is}
-use Rattle.pl_fixed.specs.Stays.{Stands}
+use Rattle.law_fixed.specs.Stays.{Stands}
 use Rattle.pl_pie.specs.Pie.{as_program, pie}
 use Rattle.pl_pie.proofs.AlignLaws.{align_even, slot_even}
 use Rattle.pl_pie.proofs.MemoryLaws.{are_standing}

@@ -41,11 +41,11 @@ use Rattle.pl_move.specs.Objects.{main_tables, rows_of, symbol_rows, tables_of}
 use Rattle.pl_move.specs.declared.kind.RowKind.{RowKind}
 use Rattle.pl_move.specs.declared.kind.RowKind.TheVariants.{Entry, TagValue, SymbolValue, RelocationPlace, RelativeAddend, PackedAddress}
 use Rattle.pl_move.specs.declared.table.Table.{Table}
-use Rattle.pl_fixed.specs.Fixed.{KeepsItsKind, fixed, fixed_entry, fixed_header, fixed_reloc, fixed_section, fixed_segment, fixed_symbol, moves, with_value}
-use Rattle.pl_fixed.specs.Stays.{Stands, moved_window}
-use Rattle.pl_fixed.proofs.ImageLaws.{load_moves}
-use Rattle.pl_fixed.proofs.LookupLaws.{fixed_is}
-use Rattle.pl_fixed.proofs.StayLaws.{moves_stay}
+use Rattle.law_fixed.specs.Fixed.{KeepsItsKind, fixed, fixed_entry, fixed_header, fixed_reloc, fixed_section, fixed_segment, fixed_symbol, moves, with_value}
+use Rattle.law_fixed.specs.Stays.{Stands, moved_window}
+use Rattle.law_fixed.proofs.ImageLaws.{load_moves}
+use Rattle.law_fixed.proofs.LookupLaws.{fixed_is}
+use Rattle.law_fixed.proofs.StayLaws.{moves_stay}
 use Rattle.pl_pie.specs.Fix.{page_of, start_of}
 use Rattle.pl_pie.specs.Laws.{IsFixed, IsSameRange}
 use Rattle.pl_pie.specs.Pie.{as_program, begins_low, has_high, has_loaded_symbols, is_high, is_laid_out, is_linked, lacks_value, loads_sections, refers_badly, writes_kept}

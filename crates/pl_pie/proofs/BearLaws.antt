@@ -7,7 +7,7 @@ use Rattle.pl_elf.specs.declared.header.Header.{Header}
 use Rattle.pl_object.specs.Reads.{reads, headers, static_object, object}
 use Rattle.pl_object.specs.declared.object.Object.{Object}
 use Rattle.pl_object.proofs.AcceptedLaws.{read_holds}
-use Rattle.pl_fixed.specs.Fixed.{fixed_header, fixed}
+use Rattle.law_fixed.specs.Fixed.{fixed_header, fixed}
 use Rattle.pl_pie.specs.Pie.{as_program}
 use Rattle.pl_pie.specs.Fix.{fixed_bytes}
 use Rattle.pl_pie.specs.Laws.{FixedFileBears}

@@ -25,7 +25,7 @@ use Rattle.pl_object.specs.declared.refusal.Refusal.{Refusal}
 use Rattle.pl_object.specs.declared.refusal.Refusal.TheVariants.{Clause}
 use Rattle.pl_object.proofs.TabledLaws.{windows_back}
 use Rattle.pl_sym.specs.declared.symbol.Symbol.{Symbol}
-use Rattle.pl_fixed.specs.Fixed.{KeepsItsKind, fixed, fixed_header, fixed_reloc, fixed_section, fixed_segment, fixed_symbol}
+use Rattle.law_fixed.specs.Fixed.{KeepsItsKind, fixed, fixed_header, fixed_reloc, fixed_section, fixed_segment, fixed_symbol}
 use Rattle.pl_pie.specs.Pie.{as_program}
 use Rattle.pl_pie.proofs.AlikeLaws.{AllAlike, links_alike}
 use Rattle.pl_pie.proofs.AtLaws.{IsAt, file_at, headers_of, layout_of, linking_of, new_tags, old_tags}

@@ -18,8 +18,8 @@ use Rattle.pl_move.specs.Moves.{row_moved}
 use Rattle.pl_move.specs.declared.kind.RowKind.TheVariants.{TagValue}
 use Rattle.pl_move.proofs.MoveLaws.{length-row_moved}
 use Rattle.pl_move.proofs.ObjectLaws.{window_in}
-use Rattle.pl_fixed.specs.Fixed.{fixed_segment}
-use Rattle.pl_fixed.specs.Stays.{Stands}
+use Rattle.law_fixed.specs.Fixed.{fixed_segment}
+use Rattle.law_fixed.specs.Stays.{Stands}
 use Rattle.pl_pie.proofs.ContentLaws.{row_at}
 use Rattle.pl_pie.proofs.OwnLaws.{are_sized}
 use Rattle.pl_pie.proofs.RowOfLaws.{moved_tag, entries_moved}

@@ -34,9 +34,9 @@ use Rattle.pl_move.specs.Moves.{all_moved}
 use Rattle.pl_move.specs.Objects.{tables_of, LieIn}
 use Rattle.pl_move.proofs.MoveLaws.{length-all_moved}
 use Rattle.pl_move.proofs.ObjectLaws.{tables_in}
-use Rattle.pl_fixed.specs.Fixed.{is_relative_at, IsFixedFile, fixed}
-use Rattle.pl_fixed.specs.Laws.{SameImage}
-use Rattle.pl_fixed.proofs.Theorem.{fixed_is_ordinary}
+use Rattle.law_fixed.specs.Fixed.{is_relative_at, IsFixedFile, fixed}
+use Rattle.law_fixed.specs.Laws.{SameImage}
+use Rattle.law_fixed.proofs.Theorem.{fixed_is_ordinary}
 use Rattle.pl_pie.specs.Words.{passes, is_address, section_words, undefined_words, packed_words, other_words}
 use Rattle.pl_pie.specs.Pie.{as_program, loads_window, begins_low, has_loaded_symbols, loads_sections, writes_kept, is_laid_out, pie}
 use Rattle.pl_pie.specs.Fix.{MayBeFixed, word_windows, fixed_bytes}

@@ -4,8 +4,8 @@ use Rattle.std.specs.List.{AllZip}
 use Rattle.pl_base.proofs.AnswerLaws.{ok_same}
 use Rattle.pl_object.specs.declared.object.Object.{Object}
 use Rattle.pl_value.specs.Ordinary.{ordinary}
-use Rattle.pl_fixed.specs.Fixed.{fixed}
-use Rattle.pl_fixed.specs.Laws.{SameImage}
+use Rattle.law_fixed.specs.Fixed.{fixed}
+use Rattle.law_fixed.specs.Laws.{SameImage}
 use Rattle.pl_pie.specs.Fix.{fixed_bytes}
 use Rattle.pl_pie.specs.Laws.{FixedFileIsOrdinary, IsFixed, IsSameRange}
 use Rattle.pl_pie.specs.Pie.{as_program}

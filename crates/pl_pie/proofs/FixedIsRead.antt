@@ -8,7 +8,7 @@ use Rattle.pl_object.specs.declared.layout.Layout.{Layout}
 use Rattle.pl_object.specs.declared.linking.Linking.{Linking}
 use Rattle.pl_object.specs.declared.object.Object.{Object}
 use Rattle.pl_object.specs.declared.refusal.Refusal.{Refusal}
-use Rattle.pl_fixed.specs.Fixed.{fixed}
+use Rattle.law_fixed.specs.Fixed.{fixed}
 use Rattle.pl_pie.specs.Fix.{MayBeFixed, fixed_bytes}
 use Rattle.pl_pie.specs.Laws.{FixedFileIsRead}
 use Rattle.pl_pie.specs.Pie.{pie}

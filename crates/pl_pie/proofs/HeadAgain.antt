@@ -29,7 +29,7 @@ use Rattle.pl_object.specs.declared.object.Object.{Object}
 use Rattle.pl_object.proofs.AcceptedLaws.{read_holds}
 use Rattle.pl_object.proofs.ExtentLaws.{header_read}
 use Rattle.pl_object.proofs.SpanLaws.{Ends, span_ends}
-use Rattle.pl_fixed.specs.Fixed.{fixed, fixed_header, fixed_section, fixed_segment}
+use Rattle.law_fixed.specs.Fixed.{fixed, fixed_header, fixed_section, fixed_segment}
 use Rattle.pl_pie.specs.Fix.{fixed_bytes}
 use Rattle.pl_pie.specs.Pie.{as_program, kept_windows, named_windows, pie, window_if}
 use Rattle.pl_object.specs.Named.{strings_of}

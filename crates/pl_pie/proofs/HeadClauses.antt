@@ -22,9 +22,9 @@ use Rattle.pl_elf.specs.declared.header.Header.{Header}
 use Rattle.pl_elf.specs.declared.section.Section.{Section}
 use Rattle.pl_elf.specs.declared.segment.Segment.{Segment}
 use Rattle.pl_object.proofs.ExtentLaws.{header_read}
-use Rattle.pl_fixed.specs.Fixed.{fixed_header, fixed_segment, fixed_section}
-use Rattle.pl_fixed.proofs.ImageLaws.{load_moves, loads_all}
-use Rattle.pl_fixed.proofs.LookupLaws.{count_kept}
+use Rattle.law_fixed.specs.Fixed.{fixed_header, fixed_segment, fixed_section}
+use Rattle.law_fixed.proofs.ImageLaws.{load_moves, loads_all}
+use Rattle.law_fixed.proofs.LookupLaws.{count_kept}
 use Rattle.pl_pie.proofs.PowerLaws.{remainder_kept}
 use Rattle.pl_pie.proofs.RowOfLaws.{range_same}
 

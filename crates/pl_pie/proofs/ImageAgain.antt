@@ -31,7 +31,7 @@ use Rattle.pl_value.specs.Values.{reference, value_of}
 use Rattle.pl_value.specs.declared.fault.LinkFault.{LinkFault}
 use Rattle.pl_value.specs.declared.meaning.Meaning.{Meaning}
 use Rattle.pl_value.specs.declared.word.Word.{Word}
-use Rattle.pl_fixed.specs.Laws.{SameImage}
+use Rattle.law_fixed.specs.Laws.{SameImage}
 use Rattle.pl_pie.specs.Laws.{IsSameRange}
 
 -- ---- one object with other link tables

@@ -26,7 +26,7 @@ use Rattle.pl_object.specs.declared.object.Object.{Object}
 use Rattle.pl_object.specs.declared.reloc.Reloc.{Reloc}
 use Rattle.pl_object.proofs.TabledLaws.{packed_is, tables_pass}
 use Rattle.pl_relr.specs.Places as relr
-use Rattle.pl_fixed.specs.Fixed.{fixed, fixed_reloc, fixed_section, fixed_segment, fixed_symbol, moved_addend}
+use Rattle.law_fixed.specs.Fixed.{fixed, fixed_reloc, fixed_section, fixed_segment, fixed_symbol, moved_addend}
 use Rattle.pl_pie.specs.Pie.{as_program}
 use Rattle.pl_pie.proofs.AlikeLaws.{jmprel_alike, rela_alike}
 use Rattle.pl_pie.proofs.AtLaws.{IsAt, file_at, headers_of, layout_of, linking_of, new_tags, old_tags}

@@ -43,3 +43,13 @@ pub mod FixedIsRead
 pub mod BackAgain
 pub mod ImageAgain
 pub mod FixedImage
+pub mod HoldLaws
+pub mod StandingLaws
+pub mod EntriesLaws
+pub mod ProgramLaws
+pub mod FixedLaws
+pub mod FindLaws
+pub mod TagsLaws
+pub mod LooseLaws
+pub mod PlaceLaws
+pub mod BareLaws

@@ -29,7 +29,7 @@ use Rattle.pl_elf.specs.declared.range.Range.{Range}
 use Rattle.pl_sym.specs.Table as table
 use Rattle.pl_sym.specs.declared.symbol.Symbol.{Symbol}
 use Rattle.pl_ver.specs.declared.versions.Versions.{Versions}
-use Rattle.pl_fixed.specs.Fixed.{fixed, fixed_section, fixed_segment, fixed_symbol}
+use Rattle.law_fixed.specs.Fixed.{fixed, fixed_section, fixed_segment, fixed_symbol}
 use Rattle.pl_pie.specs.Pie.{as_program, kept_windows, named_windows, window_if}
 use Rattle.pl_pie.proofs.AlikeLaws.{section_alike, strings_alike, symbols_stay}
 use Rattle.pl_pie.proofs.AtLaws.{IsAt, file_at, headers_of, linking_of, new_tags, old_tags}

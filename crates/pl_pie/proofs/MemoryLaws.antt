@@ -22,10 +22,10 @@ use Rattle.pl_object.specs.Reads.{span}
 use Rattle.pl_object.specs.Tables.{has_tag, value, memory_of, dynamic_memory, tag_memory, symbols_memory, has_kind, section_size, begins_at, section_memory}
 use Rattle.pl_object.proofs.SpanLaws.{Ends, span_ends}
 use Rattle.pl_elf.proofs.AcceptedLaws.{LoadFits, loads_fit}
-use Rattle.pl_fixed.specs.Fixed.{fixed_segment, fixed_section}
-use Rattle.pl_fixed.specs.Stays.{moved_window, Stands}
-use Rattle.pl_fixed.proofs.ImageLaws.{loads_all}
-use Rattle.pl_fixed.proofs.StayLaws.{windows_stay}
+use Rattle.law_fixed.specs.Fixed.{fixed_segment, fixed_section}
+use Rattle.law_fixed.specs.Stays.{moved_window, Stands}
+use Rattle.law_fixed.proofs.ImageLaws.{loads_all}
+use Rattle.law_fixed.proofs.StayLaws.{windows_stay}
 use Rattle.pl_pie.proofs.RowOfLaws.{moved_tag}
 use Rattle.pl_pie.proofs.TagLaws.{find_kept, has_moved, value_stays, value_moves}
 

@@ -13,7 +13,7 @@ use Rattle.pl_object.specs.declared.object.Object.{Object}
 use Rattle.pl_object.specs.declared.reloc.Reloc.{Reloc}
 use Rattle.pl_scope.specs.Finds.{binds_itself}
 use Rattle.pl_value.proofs.LoneLaws.{none_at}
-use Rattle.pl_fixed.specs.Fixed.{KeepsItsKind, RefersWell, IsMovable}
+use Rattle.law_fixed.specs.Fixed.{KeepsItsKind, RefersWell, IsMovable}
 use Rattle.pl_pie.specs.Pie.{has_high, is_high, lacks_value, refers_apart, copies_itself, refers_badly, is_linked}
 use Rattle.pl_pie.proofs.PieLaws.{IsPie, and_both, not_true}
 

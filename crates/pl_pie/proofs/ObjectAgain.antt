@@ -22,9 +22,9 @@ use Rattle.pl_object.specs.PlaceClauses.{last_load}
 use Rattle.pl_object.specs.Reads.{align, block_of, end_in_memory, is_symbolic, kind_of, object, span, tls}
 use Rattle.pl_object.specs.Tables.{link_windows, window_range}
 use Rattle.pl_object.specs.declared.object.Object.{Object}
-use Rattle.pl_fixed.specs.Fixed.{fixed, fixed_entry, fixed_header, fixed_reloc, fixed_section, fixed_segment, fixed_symbol}
-use Rattle.pl_fixed.specs.Stays.{Stands}
-use Rattle.pl_fixed.proofs.ImageLaws.{load_moves}
+use Rattle.law_fixed.specs.Fixed.{fixed, fixed_entry, fixed_header, fixed_reloc, fixed_section, fixed_segment, fixed_symbol}
+use Rattle.law_fixed.specs.Stays.{Stands}
+use Rattle.law_fixed.proofs.ImageLaws.{load_moves}
 use Rattle.pl_pie.specs.Laws.{IsFixed, IsSameRange}
 use Rattle.pl_pie.specs.Pie.{as_program}
 use Rattle.pl_pie.proofs.AlignLaws.{align_page, align_power, page_power, span_some}

@@ -18,7 +18,7 @@ use Rattle.pl_object.specs.TableClauses.{bad_packed, bad_relr_table, bad_relr_ta
 use Rattle.pl_object.specs.Tables.{relr_memory}
 use Rattle.pl_object.specs.declared.object.Object.{Object}
 use Rattle.pl_object.proofs.TabledLaws.{ArePassed, packed_is, tables_pass}
-use Rattle.pl_fixed.specs.Fixed.{fixed_segment}
+use Rattle.law_fixed.specs.Fixed.{fixed_segment}
 use Rattle.pl_pie.specs.Pie.{as_program}
 use Rattle.pl_pie.proofs.AlikeLaws.{packed_alike}
 use Rattle.pl_pie.proofs.AtLaws.{IsAt, file_at, new_tags, old_tags}

@@ -15,7 +15,7 @@ use Rattle.pl_object.specs.Reads.{dynamic, dynamic_object, headers, parts, reads
 use Rattle.pl_object.specs.Refusals.{of_dynamic, of_header}
 use Rattle.pl_object.specs.declared.headers.Headers.{Headers}
 use Rattle.pl_object.specs.declared.object.Object.{Object}
-use Rattle.pl_fixed.specs.Fixed.{fixed, fixed_header, fixed_section, fixed_segment}
+use Rattle.law_fixed.specs.Fixed.{fixed, fixed_header, fixed_section, fixed_segment}
 use Rattle.pl_pie.specs.Pie.{as_program, pie}
 use Rattle.pl_pie.proofs.AtLaws.{IsAt, dynamic_of, file_at, headers_of, new_tags, old_tags}
 use Rattle.pl_pie.proofs.DynamicLaws.{dynamic_read}

@@ -22,10 +22,10 @@ use Rattle.pl_object.specs.TableClauses.{meets}
 use Rattle.pl_object.specs.declared.reloc.Reloc.{Reloc}
 use Rattle.pl_object.specs.declared.refusal.Refusal.TheVariants.{Clause}
 use Rattle.pl_object.proofs.FilePartLaws.{loads_parts}
-use Rattle.pl_parts.proofs.OverlapLaws.{found_at}
-use Rattle.pl_fixed.specs.Fixed.{fixed_reloc, fixed_segment}
-use Rattle.pl_fixed.specs.Stays.{Stands, moved_window}
-use Rattle.pl_fixed.proofs.ImageLaws.{load_moves}
+use Rattle.pl_form.proofs.OverlapLaws.{found_at}
+use Rattle.law_fixed.specs.Fixed.{fixed_reloc, fixed_segment}
+use Rattle.law_fixed.specs.Stays.{Stands, moved_window}
+use Rattle.law_fixed.proofs.ImageLaws.{load_moves}
 use Rattle.pl_pie.proofs.AlikeLaws.{AllAlike, meets_alike, meets_first}
 use Rattle.pl_pie.proofs.MemoryLaws.{Alike, held_stays, window_stays}
 use Rattle.pl_pie.proofs.SymbolsAgain.{any_all, any_pair_all}

@@ -23,8 +23,8 @@ use Rattle.pl_move.specs.Objects.{main_tables, tables_of, LieIn}
 use Rattle.pl_move.specs.declared.kind.RowKind.TheVariants.{Entry, SegmentAddress, PhysicalAddress, TagValue, SymbolValue, RelocationPlace, RelativeAddend, PackedAddress}
 use Rattle.pl_move.proofs.MoveLaws.{length-row_moved, length-rows, length-all_moved}
 use Rattle.pl_move.proofs.ObjectLaws.{tables_in, window_in}
-use Rattle.pl_parts.proofs.HeadLaws.{header_part, segment_part, section_part}
-use Rattle.pl_fixed.specs.Fixed.{fixed_entry, fixed_header, fixed_section, fixed_segment}
+use Rattle.pl_form.proofs.HeadLaws.{header_part, segment_part, section_part}
+use Rattle.law_fixed.specs.Fixed.{fixed_entry, fixed_header, fixed_section, fixed_segment}
 use Rattle.pl_pie.specs.Words.{passes, is_address, section_words, undefined_words, packed_words, other_words}
 use Rattle.pl_pie.specs.Fix.{added, word_windows}
 use Rattle.pl_pie.proofs.WordLaws.{length-added}

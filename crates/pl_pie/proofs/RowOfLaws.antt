@@ -24,8 +24,8 @@ use Rattle.pl_sym.specs.Symbol.{is_undefined, is_tls, is_in_section}
 use Rattle.pl_sym.specs.Definers.{is_canonical}
 use Rattle.pl_sym.specs.declared.symbol.Symbol.{Symbol}
 use Rattle.pl_ver.specs.declared.constants.TheConstants.{VER_NDX_GLOBAL}
-use Rattle.pl_fixed.specs.Fixed.{fixed_entry, fixed_header, fixed_segment, fixed_section, fixed_reloc, with_value, fixed_symbol}
-use Rattle.pl_fixed.specs.Fixed.{moves as moves_symbol}
+use Rattle.law_fixed.specs.Fixed.{fixed_entry, fixed_header, fixed_segment, fixed_section, fixed_reloc, with_value, fixed_symbol}
+use Rattle.law_fixed.specs.Fixed.{moves as moves_symbol}
 use Rattle.pl_pie.specs.Words.{is_address}
 
 -- ---- numbers beside the word that was added to

@@ -20,8 +20,8 @@ use Rattle.pl_move.specs.Moves.{row_moved}
 use Rattle.pl_move.specs.declared.kind.RowKind.TheVariants.{RelocationPlace, RelativeAddend}
 use Rattle.pl_object.specs.Names.{with_version, with_versions, versioned}
 use Rattle.pl_object.specs.Relocations.{size_of, width, reloc_at, reloc, relocs}
-use Rattle.pl_fixed.specs.Fixed.{moves, fixed_symbol, fixed_reloc}
-use Rattle.pl_fixed.proofs.LookupLaws.{size_kept}
+use Rattle.law_fixed.specs.Fixed.{moves, fixed_symbol, fixed_reloc}
+use Rattle.law_fixed.proofs.LookupLaws.{size_kept}
 use Rattle.pl_pie.specs.Words.{passes, is_address}
 use Rattle.pl_pie.proofs.RowOfLaws.{of_row, symbol_row, symbol_moved, symbol_name, reloc_moved, range_same, range_mapped}
 

@@ -28,8 +28,8 @@ use Rattle.pl_sym.specs.Symbol.{is_undefined}
 use Rattle.pl_sym.specs.declared.class.Class.TheVariants.{Jump, Other}
 use Rattle.pl_sym.specs.declared.symbol.Symbol.{Symbol}
 use Rattle.pl_ver.specs.declared.versions.Versions.{Versions}
-use Rattle.pl_fixed.specs.Fixed.{KeepsItsKind, fixed_section, fixed_segment, fixed_symbol}
-use Rattle.pl_fixed.proofs.LookupLaws.{definer_kept, fixed_is, name_kept, version_kept}
+use Rattle.law_fixed.specs.Fixed.{KeepsItsKind, fixed_section, fixed_segment, fixed_symbol}
+use Rattle.law_fixed.proofs.LookupLaws.{definer_kept, fixed_is, name_kept, version_kept}
 use Rattle.pl_pie.specs.Pie.{as_program}
 use Rattle.pl_pie.proofs.AtLaws.{IsAt, file_at, new_tags, old_tags}
 use Rattle.pl_pie.proofs.LinkingAgain.{gnu_hash_read, hash_read}

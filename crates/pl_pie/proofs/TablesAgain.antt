@@ -19,8 +19,8 @@ use Rattle.pl_object.specs.TableClauses.{any_lost, any_outside, bad_jmprel, bad_
 use Rattle.pl_object.specs.Tables.{begins_at, has_kind, has_tag, is_allocated, is_lost, main_windows, relr_memory, tables_memory, value}
 use Rattle.pl_object.specs.declared.object.Object.{Object}
 use Rattle.pl_object.proofs.TabledLaws.{ArePassed}
-use Rattle.pl_fixed.specs.Fixed.{fixed_header, fixed_section, fixed_segment}
-use Rattle.pl_fixed.proofs.LookupLaws.{count_kept}
+use Rattle.law_fixed.specs.Fixed.{fixed_header, fixed_section, fixed_segment}
+use Rattle.law_fixed.proofs.LookupLaws.{count_kept}
 use Rattle.pl_pie.specs.Pie.{as_program, begins_low, has_loaded_symbols, is_laid_out, loads_sections, writes_kept}
 use Rattle.pl_pie.proofs.AlikeLaws.{all_held, any_share_alike, goes_held, main_alike, meets_alike, meets_first, packed_alike, packed_go, tables_go}
 use Rattle.pl_pie.proofs.AtLaws.{IsAt, file_at, new_tags, old_tags}

@@ -19,7 +19,7 @@ use Rattle.pl_relr.specs.Moved as relr
 use Rattle.pl_sym.specs.Table.{symbols}
 use Rattle.pl_sym.specs.declared.symbol.Symbol.{Symbol}
 use Rattle.pl_ver.specs.declared.versions.Versions.{Versions}
-use Rattle.pl_fixed.specs.Fixed.{fixed_symbol, fixed_reloc}
+use Rattle.law_fixed.specs.Fixed.{fixed_symbol, fixed_reloc}
 use Rattle.pl_pie.specs.Words.{passes, is_address}
 use Rattle.pl_pie.proofs.InsideLaws.{symbols_size}
 use Rattle.pl_pie.proofs.ContentLaws.{row_at}

@@ -18,7 +18,7 @@ use Rattle.pl_dyn.specs.declared.fault.DynFault.{DynFault}
 use Rattle.pl_dyn.specs.declared.fault.DynFault.TheVariants.{NoEnd, UnknownTag, Twice}
 use Rattle.pl_dyn.specs.declared.tags.Tag.{Tag}
 use Rattle.pl_object.specs.Tables.{has_tag, value}
-use Rattle.pl_fixed.proofs.LookupLaws.{count_kept}
+use Rattle.law_fixed.proofs.LookupLaws.{count_kept}
 use Rattle.pl_pie.proofs.RowOfLaws.{moved_tag, number_kept, nulls_moved, tags_moved}
 
 -- ---- lists that are mapped

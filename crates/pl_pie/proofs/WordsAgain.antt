@@ -26,11 +26,11 @@ use Rattle.pl_move.specs.Objects.{main_tables, tables_of, LieIn}
 use Rattle.pl_move.specs.declared.kind.RowKind.TheVariants.{TagValue, SymbolValue, RelocationPlace, RelativeAddend, PackedAddress}
 use Rattle.pl_move.proofs.MoveLaws.{length-all_moved}
 use Rattle.pl_move.proofs.ObjectLaws.{tables_in, all_in_parts}
-use Rattle.pl_parts.specs.Back.{spot_windows}
-use Rattle.pl_parts.specs.Loads.{spot_of, spots_of}
-use Rattle.pl_parts.proofs.OverlapLaws.{spots_apart}
-use Rattle.pl_fixed.specs.Fixed.{fixed_segment}
-use Rattle.pl_fixed.specs.Stays.{Stands}
+use Rattle.pl_form.specs.Back.{spot_windows}
+use Rattle.pl_form.specs.Loads.{spot_of, spots_of}
+use Rattle.pl_form.proofs.OverlapLaws.{spots_apart}
+use Rattle.law_fixed.specs.Fixed.{fixed_segment}
+use Rattle.law_fixed.specs.Stays.{Stands}
 use Rattle.pl_pie.specs.Words.{word_window, section_words, undefined_words, packed_words, other_words}
 use Rattle.pl_pie.specs.Fix.{added, word_windows}
 use Rattle.pl_pie.proofs.WordLaws.{word_in, length-added}

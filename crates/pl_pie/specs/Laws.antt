@@ -9,8 +9,8 @@ use Rattle.pl_object.specs.Accepted.{HasHead}
 use Rattle.pl_object.specs.Reads.{reads}
 use Rattle.pl_object.specs.declared.object.Object.{Object}
 use Rattle.pl_value.specs.Ordinary.{ArePlaced, ordinary}
-use Rattle.pl_fixed.specs.Fixed.{fixed}
-use Rattle.pl_fixed.specs.Laws.{SameImage}
+use Rattle.law_fixed.specs.Fixed.{fixed}
+use Rattle.law_fixed.specs.Laws.{SameImage}
 use Rattle.pl_pie.specs.Pie.{as_program, pie}
 use Rattle.pl_pie.specs.Fix.{MayBeFixed, fixed_bytes, fits, unfixed}
 

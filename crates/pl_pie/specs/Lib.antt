@@ -2,3 +2,4 @@ pub mod Words
 pub mod Pie
 pub mod Fix
 pub mod Laws
+pub mod Placed

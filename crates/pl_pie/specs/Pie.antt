@@ -22,7 +22,7 @@ use Rattle.pl_object.specs.declared.object.Object.{Object}
 use Rattle.pl_object.specs.declared.refusal.Refusal.{Refusal}
 use Rattle.pl_object.specs.declared.reloc.Reloc.{Reloc}
 use Rattle.pl_scope.specs.Finds.{binds_itself}
-use Rattle.pl_fixed.specs.Fixed.{moves}
+use Rattle.law_fixed.specs.Fixed.{moves}
 use Rattle.pl_pie.specs.Words.{passes, type_window, tables_meet, others_meet}
 use Rattle.pl_pie.specs.declared.constants.TheConstants.{TYPE_AT, HASH_TABLE, HASH_AND_VERSION_TABLES}
 

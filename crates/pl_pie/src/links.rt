@@ -3,7 +3,7 @@ ghost use Rattle.std.specs.Prelude.{◌≡◌, ◌&&◌, slice_get};
 ghost use Rattle.std.specs.List.{list_any};
 ghost use Rattle.pl_sym.specs.Definers as definers;
 ghost use Rattle.pl_scope.specs.Finds as finds;
-ghost use Rattle.pl_fixed.specs.Fixed as fixed;
+ghost use Rattle.law_fixed.specs.Fixed as fixed;
 ghost use Rattle.pl_pie.specs.Words as words;
 ghost use Rattle.pl_pie.specs.Pie as spec;
 
@@ -17,7 +17,7 @@ use pl_sym::constants::{
 
 // ---- one symbol
 
-#[tactic(auto, unfolding(pl_fixed::specs::Fixed::moves, pl_sym::specs::Definers::is_canonical))]
+#[tactic(auto, unfolding(law_fixed::specs::Fixed::moves, pl_sym::specs::Definers::is_canonical))]
 fn moves(symbol: &Symbol) -> bool
     ensures { result ≡ fixed.moves symbol.now }
 {

@@ -25,22 +25,22 @@ use Rattle.pl_conflict.specs.declared.among.ConflictFree.{ConflictFree}
 use Rattle.pl_elf.specs.Kinds.{is_library}
 use Rattle.pl_image.specs.Loads.{loaded_at}
 use Rattle.pl_image.specs.declared.loaded_object.LoadedObject.{LoadedObject}
-use Rattle.pl_known.proofs.FindLaws.{zip_more}
-use Rattle.pl_known.specs.Skips.{skip_causes}
-use Rattle.pl_links.specs.OneWord.{GivesOneWord, GivesOneWordBy, IsFlag}
-use Rattle.pl_links.specs.Folder.{IsMember as IsNamedMember}
-use Rattle.pl_links.proofs.OneWordLaws.{one_word}
-use Rattle.pl_links.proofs.FolderLaws.{object_at, member_of, member_has}
+use Rattle.pl_rewrite.proofs.FindLaws.{zip_more}
+use Rattle.pl_rewrite.specs.Skips.{skip_causes}
+use Rattle.pl_cone.specs.OneWord.{GivesOneWord, GivesOneWordBy, IsFlag}
+use Rattle.pl_cone.specs.Folder.{IsMember as IsNamedMember}
+use Rattle.pl_cone.proofs.OneWordLaws.{one_word}
+use Rattle.pl_cone.proofs.FolderLaws.{object_at, member_of, member_has}
 use Rattle.pl_object.specs.declared.object.Object.{Object}
 use Rattle.pl_object.specs.declared.reloc.Reloc.{Reloc}
-use Rattle.pl_prelinked.specs.Lent.{AreConflictFreeIn, TellHeldIn}
-use Rattle.pl_prelinked.specs.Libraries.{AreHeldIn, AreWordsIn}
+use Rattle.pl_rewrite.specs.Lent.{AreConflictFreeIn, TellHeldIn}
+use Rattle.pl_rewrite.specs.Libraries.{AreHeldIn, AreWordsIn}
 use Rattle.pl_scope.specs.Members.{IsLinked}
 use Rattle.pl_scope.specs.Scope.{objects}
 use Rattle.pl_scope.specs.Walk.{Walked}
 use Rattle.pl_scope.proofs.NameLaws.{eq_refl, same_name}
-use Rattle.pl_sound.specs.Plan.{planned_member}
-use Rattle.pl_sound.specs.Rule as sound
+use Rattle.law_sound.specs.Plan.{planned_member}
+use Rattle.law_sound.specs.Rule as sound
 use Rattle.pl_tls.specs.declared.module.Module.{Module}
 use Rattle.pl_value.specs.Linked.{copy_of}
 use Rattle.pl_value.specs.Meanings.{given, meaning, row}

@@ -21,19 +21,19 @@ use Rattle.pl_form.specs.declared.file.File.TheVariants.{Plain}
 use Rattle.pl_form.specs.declared.file.Marked.{Marked}
 use Rattle.pl_form.specs.declared.version.Version.TheVariants.{Two}
 use Rattle.pl_form.proofs.FilesLaws.{nothing_else_is_read}
-use Rattle.pl_known.specs.Skips.{skip_causes}
-use Rattle.pl_known.specs.Taken.{AreTaken, entry_by, entry_in, files_in, object_of}
-use Rattle.pl_known.specs.declared.taken.Taken.{Taken}
+use Rattle.pl_rewrite.specs.Skips.{skip_causes}
+use Rattle.pl_rewrite.specs.Taken.{AreTaken, entry_by, entry_in, files_in, object_of}
+use Rattle.pl_rewrite.specs.declared.taken.Taken.{Taken}
 use Rattle.pl_object.specs.Reads.{reads}
 use Rattle.pl_object.specs.declared.object.Object.{Object}
 use Rattle.pl_object.specs.declared.refusal.Refusal.{Refusal}
 use Rattle.pl_object.specs.declared.refusal.Refusal.TheVariants as refusals
-use Rattle.pl_plan.specs.declared.asked.Asked.{Asked}
-use Rattle.pl_plan.specs.declared.run_plan.RunPlan.{RunPlan}
-use Rattle.pl_prelinked.specs.Libraries.{HasFormWith, file_with}
-use Rattle.pl_prelinked.specs.Sources.{firm}
+use Rattle.pl_cone.specs.declared.asked.Asked.{Asked}
+use Rattle.pl_cone.specs.declared.run_plan.RunPlan.{RunPlan}
+use Rattle.pl_rewrite.specs.Libraries.{HasFormWith, file_with}
+use Rattle.pl_rewrite.specs.Sources.{firm}
 use Rattle.pl_scope.proofs.NameLaws.{same_name}
-use Rattle.pl_sound.specs.Rule.{object_at, original_at}
+use Rattle.law_sound.specs.Rule.{object_at, original_at}
 use Rattle.pl_rewrite.specs.Changes.{put}
 use Rattle.pl_rewrite.specs.Deciding.{HasPartsIfAny, IsDecided, IsDecidedIn}
 use Rattle.pl_rewrite.specs.Finishing.{HasForm, HasFormBy, bare_of, storable_library, library_firm, made_by, made_with}

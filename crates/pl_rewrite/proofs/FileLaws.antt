@@ -13,8 +13,8 @@ use Rattle.pl_form.specs.declared.file.Marked.{Marked}
 use Rattle.pl_form.specs.declared.fault.FileFault.TheVariants as unread
 use Rattle.pl_base.specs.Answers.{unless}
 use Rattle.std.specs.Prelude.{Result, Ok, Err}
-use Rattle.pl_known.specs.Taken.{IsTaken, AreTaken, entry_by, entry_in, files_in, names_of, taken_of}
-use Rattle.pl_known.specs.declared.taken.Taken.{Taken}
+use Rattle.pl_rewrite.specs.Taken.{IsTaken, AreTaken, entry_by, entry_in, files_in, names_of, taken_of}
+use Rattle.pl_rewrite.specs.declared.taken.Taken.{Taken}
 use Rattle.pl_object.specs.Reads.{reads}
 use Rattle.pl_object.specs.declared.object.Object.{Object}
 use Rattle.pl_object.specs.declared.refusal.Refusal.{Refusal}

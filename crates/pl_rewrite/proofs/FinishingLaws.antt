@@ -17,15 +17,15 @@ use Rattle.pl_form.specs.declared.file.File.TheVariants as files
 use Rattle.pl_form.specs.declared.file.File.TheVariants.{Plain}
 use Rattle.pl_form.specs.declared.file.Marked.{Marked}
 use Rattle.pl_form.specs.declared.version.Version.TheVariants.{Two}
-use Rattle.pl_known.specs.Taken.{files_in, names_of}
-use Rattle.pl_known.specs.declared.taken.Taken.{Taken}
+use Rattle.pl_rewrite.specs.Taken.{files_in, names_of}
+use Rattle.pl_rewrite.specs.declared.taken.Taken.{Taken}
 use Rattle.pl_lists.specs.declared.list_row.ListRow.{ListRow}
 use Rattle.pl_object.specs.Reads.{reads}
 use Rattle.pl_object.specs.declared.object.Object.{Object}
 use Rattle.pl_object.specs.declared.refusal.Refusal.{Refusal}
-use Rattle.pl_plan.specs.declared.run_plan.RunPlan.{RunPlan}
-use Rattle.pl_prelinked.specs.Libraries.{HasFormWith, file_with}
-use Rattle.pl_prelinked.specs.Sources.{firm}
+use Rattle.pl_cone.specs.declared.run_plan.RunPlan.{RunPlan}
+use Rattle.pl_rewrite.specs.Libraries.{HasFormWith, file_with}
+use Rattle.pl_rewrite.specs.Sources.{firm}
 use Rattle.pl_rewrite.specs.Deciding.{IsDecidedIn}
 use Rattle.pl_rewrite.specs.Finishing.{HasForm, HasFormBy, MayBeLast, MayBeLeft, bare_of, storable_library, made_by, made_last, made_left, made_with}
 use Rattle.pl_rewrite.specs.Rewriting.{all_made, with_made}

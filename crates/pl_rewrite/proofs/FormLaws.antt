@@ -24,12 +24,12 @@ use Rattle.pl_form.specs.declared.fault.FormFault.TheVariants.{NoSpareTags, BssT
 use Rattle.pl_form.specs.declared.file.Marked.{Marked}
 use Rattle.pl_form.proofs.FilesLaws.{bytes_are, nothing_else_is_read}
 use Rattle.pl_form.proofs.ReadLaws.{firm_is}
-use Rattle.pl_known.specs.Faults.{fault_in, fault_number}
-use Rattle.pl_known.specs.Skips.{skip_causes}
+use Rattle.pl_rewrite.specs.Faults.{fault_in, fault_number}
+use Rattle.pl_rewrite.specs.Skips.{skip_causes}
 use Rattle.pl_object.specs.PlaceClauses.{last_load}
 use Rattle.pl_object.specs.Reads.{reads}
 use Rattle.pl_object.specs.declared.object.Object.{Object}
-use Rattle.pl_sound.specs.Rule.{Member}
+use Rattle.law_sound.specs.Rule.{Member}
 
 -- ---- what is read of an original
 

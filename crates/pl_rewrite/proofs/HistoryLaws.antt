@@ -24,14 +24,14 @@ use Rattle.pl_form.proofs.LengthLaws.{accepted_small}
 use Rattle.pl_journal.specs.Meaning.{mixed}
 use Rattle.pl_journal.specs.declared.change.Change.{Change}
 use Rattle.pl_journal.specs.declared.change.Change.TheVariants.{Put}
-use Rattle.pl_known.specs.Fits.{fit_in}
-use Rattle.pl_known.specs.Plans.{greatest, greatest_of, is_candidate, is_current, is_stale, stale}
-use Rattle.pl_known.specs.Skips.{skip_causes}
-use Rattle.pl_plan.specs.declared.run_plan.RunPlan.{RunPlan}
+use Rattle.pl_rewrite.specs.Fits.{fit_in}
+use Rattle.pl_rewrite.specs.Plans.{greatest, greatest_of, is_candidate, is_current, is_stale, stale}
+use Rattle.pl_rewrite.specs.Skips.{skip_causes}
+use Rattle.pl_cone.specs.declared.run_plan.RunPlan.{RunPlan}
 use Rattle.pl_scope.specs.Members.{has}
 use Rattle.pl_scope.proofs.NameLaws.{has_cons, has_head, has_tail, same_name}
-use Rattle.pl_sound.specs.Rule.{Files, mark_at}
-use Rattle.pl_sound.proofs.Theorems as theorems
+use Rattle.law_sound.specs.Rule.{Files, mark_at}
+use Rattle.law_sound.proofs.Theorems as theorems
 use Rattle.pl_rewrite.specs.Changes.{change, changes, is_file, is_given, next, next_cache, prelinked, put}
 use Rattle.pl_rewrite.specs.History.{HistoriesKeepTheRule, RowsKeepTheRule, RowsMakeTheFiles, RunsAreSteps, StampsNameFiles, UndoingIsEditing, VerifiedKeepTheRule}
 use Rattle.pl_rewrite.specs.Laws.{AreNames}

@@ -20,26 +20,26 @@ use Rattle.pl_form.specs.declared.constants.TheConstants.{STORED}
 use Rattle.pl_form.specs.declared.version.Version.TheVariants.{Two}
 use Rattle.pl_form.proofs.FilesLaws.{originals_are_bare}
 use Rattle.pl_journal.specs.declared.change.Change.{Change}
-use Rattle.pl_known.proofs.StandLaws.{standings_agree}
-use Rattle.pl_known.specs.Fits.{fit_in}
-use Rattle.pl_known.specs.Plans.{is_candidate, is_current, is_stale, standings}
-use Rattle.pl_known.specs.Skips.{skip_causes, skip_of}
-use Rattle.pl_known.specs.Taken.{files_in, names_of}
-use Rattle.pl_known.specs.declared.taken.Taken.{Taken}
+use Rattle.pl_rewrite.proofs.StandLaws.{standings_agree}
+use Rattle.pl_rewrite.specs.Fits.{fit_in}
+use Rattle.pl_rewrite.specs.Plans.{is_candidate, is_current, is_stale, standings}
+use Rattle.pl_rewrite.specs.Skips.{skip_causes, skip_of}
+use Rattle.pl_rewrite.specs.Taken.{files_in, names_of}
+use Rattle.pl_rewrite.specs.declared.taken.Taken.{Taken}
 use Rattle.pl_object.specs.declared.object.Object.{Object}
-use Rattle.pl_plan.proofs.AgreeLaws.{candidates_agree}
-use Rattle.pl_plan.specs.Wants.{cause_of}
-use Rattle.pl_plan.specs.declared.run_plan.RunPlan.{RunPlan}
-use Rattle.pl_plan.specs.declared.standing.Standing.{Standing}
-use Rattle.pl_prelinked.specs.Sources.{firm}
+use Rattle.pl_cone.proofs.AgreeLaws.{candidates_agree}
+use Rattle.pl_cone.specs.Wants.{cause_of}
+use Rattle.pl_cone.specs.declared.run_plan.RunPlan.{RunPlan}
+use Rattle.pl_cone.specs.declared.standing.Standing.{Standing}
+use Rattle.pl_rewrite.specs.Sources.{firm}
 use Rattle.pl_scope.specs.Members.{has, names}
 use Rattle.pl_scope.specs.Walk.{Walked}
 use Rattle.pl_scope.proofs.NameLaws.{eq_refl}
-use Rattle.pl_sound.specs.Plan.{for_library, planned_in, planned_member}
-use Rattle.pl_sound.specs.Rule as sound
-use Rattle.pl_sound.specs.Rule.{Files, Member, mark_at, original_at, objects, object_at, of_walk, stamp_of}
-use Rattle.pl_sound.proofs.Matching.{and_both}
-use Rattle.pl_sound.proofs.PlanLaws.{current_stamp, new_stamp}
+use Rattle.law_sound.specs.Plan.{for_library, planned_in, planned_member}
+use Rattle.law_sound.specs.Rule as sound
+use Rattle.law_sound.specs.Rule.{Files, Member, mark_at, original_at, objects, object_at, of_walk, stamp_of}
+use Rattle.law_sound.proofs.Matching.{and_both}
+use Rattle.law_sound.proofs.PlanLaws.{current_stamp, new_stamp}
 use Rattle.pl_rewrite.specs.Changes as changes
 use Rattle.pl_rewrite.specs.Changes.{from_scratch, next, put, is_file}
 use Rattle.pl_rewrite.specs.Members.{IsRun, IsRead, IsCandidate, HasCause, IsStale, IsPrelinkable, IsFound, files_of, plan_of, numbers_of, numbers_for, found, is_skipped, planned_firm, prelinked, made, made_of_taken, made_original, made_current}

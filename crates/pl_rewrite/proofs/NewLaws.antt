@@ -15,9 +15,9 @@ use Rattle.pl_form.specs.Marks.{has_mark, as_file}
 use Rattle.pl_form.specs.declared.fault.FileFault.TheVariants as unread
 use Rattle.pl_form.specs.declared.file.Marked.{Marked}
 use Rattle.pl_form.proofs.FilesLaws.{forms_are_read, nothing_else_is_read}
-use Rattle.pl_known.specs.Skips.{skip_causes}
-use Rattle.pl_known.specs.Taken.{entry_by, entry_in}
-use Rattle.pl_known.specs.declared.taken.Taken.{Taken}
+use Rattle.pl_rewrite.specs.Skips.{skip_causes}
+use Rattle.pl_rewrite.specs.Taken.{entry_by, entry_in}
+use Rattle.pl_rewrite.specs.declared.taken.Taken.{Taken}
 use Rattle.pl_object.specs.Reads.{reads}
 use Rattle.pl_object.specs.declared.object.Object.{Object}
 use Rattle.pl_object.specs.declared.refusal.Refusal.{Refusal}
@@ -25,9 +25,9 @@ use Rattle.pl_object.specs.declared.refusal.Refusal.TheVariants as refusals
 use Rattle.pl_scope.specs.Members.{names}
 use Rattle.pl_scope.specs.Walk.{Walked}
 use Rattle.pl_scope.proofs.ClosureLaws.{walk_is}
-use Rattle.pl_sound.specs.Plan.{Plan, for_library, planned_member}
-use Rattle.pl_sound.specs.Rule as sound
-use Rattle.pl_sound.specs.Rule.{Member, Mark, objects, object_at, of_walk}
+use Rattle.law_sound.specs.Plan.{Plan, for_library, planned_member}
+use Rattle.law_sound.specs.Rule as sound
+use Rattle.law_sound.specs.Rule.{Member, Mark, objects, object_at, of_walk}
 use Rattle.pl_rewrite.specs.Changes as changes
 use Rattle.pl_rewrite.specs.Members.{IsFound, IsRun, files_of, is_library_entry, new_library, numbers_of, prelinked}
 use Rattle.pl_rewrite.specs.Reports as reports

@@ -18,20 +18,20 @@ use Rattle.pl_elf.specs.declared.kind.Kind.{Kind}
 use Rattle.pl_elf.specs.declared.kind.Kind.TheVariants.{Program, Library, Static}
 use Rattle.pl_form.specs.Files.{original_in}
 use Rattle.pl_form.specs.declared.constants.TheConstants.{STORED}
-use Rattle.pl_known.proofs.StandLaws.{walks_agree}
-use Rattle.pl_known.specs.Skips.{skip_causes}
-use Rattle.pl_known.specs.declared.taken.Taken.{Taken}
+use Rattle.pl_rewrite.proofs.StandLaws.{walks_agree}
+use Rattle.pl_rewrite.specs.Skips.{skip_causes}
+use Rattle.pl_rewrite.specs.declared.taken.Taken.{Taken}
 use Rattle.pl_object.specs.declared.object.Object.{Object}
-use Rattle.pl_prelinked.specs.Sources.{AreSources, members}
-use Rattle.pl_prelinked.proofs.FirmLaws.{firm_all}
-use Rattle.pl_prelinked.proofs.WholeLaws.{file_library}
+use Rattle.pl_rewrite.specs.Sources.{AreSources, members}
+use Rattle.pl_rewrite.proofs.FirmLaws.{firm_all}
+use Rattle.pl_rewrite.proofs.WholeLaws.{file_library}
 use Rattle.pl_scope.specs.Members.{IsLinked, has, names, told}
 use Rattle.pl_scope.specs.Walk.{Walked, walk_over}
 use Rattle.pl_scope.specs.declared.fault.WalkFault.{WalkFault}
 use Rattle.pl_scope.proofs.ClosureLaws.{walk_is, member_told, member_walk}
 use Rattle.pl_scope.proofs.NameLaws.{has_at, same_name}
 use Rattle.pl_scope.proofs.WalkedLaws.{member_file}
-use Rattle.pl_sound.specs.Rule.{objects, original_at}
+use Rattle.law_sound.specs.Rule.{objects, original_at}
 use Rattle.pl_rewrite.specs.Members.{HasOriginal, IsRunDigest, IsPrelinked, IsRun, IsCandidate, IsFound, IsPrelinkable, IsPart, files_of, planned_firm, planned_firms, prelinked}
 use Rattle.pl_rewrite.specs.declared.running.Digest.{Digest}
 use Rattle.pl_rewrite.specs.declared.running.MadeFile.{MadeFile}

@@ -16,17 +16,17 @@ use Rattle.pl_conflict.specs.Prelinked.{Firm, are_set, objects_of, slots_of, sto
 use Rattle.pl_conflict.proofs.MemberLaws.{when_some}
 use Rattle.pl_elf.specs.Kinds.{is_library}
 use Rattle.pl_form.specs.declared.version.Version.TheVariants.{Two}
-use Rattle.pl_known.specs.Skips.{skip_causes}
+use Rattle.pl_rewrite.specs.Skips.{skip_causes}
 use Rattle.pl_lists.specs.declared.list_row.ListRow.{ListRow}
 use Rattle.pl_object.specs.declared.object.Object.{Object}
-use Rattle.pl_prelinked.specs.Lent.{list_after}
-use Rattle.pl_prelinked.specs.Libraries.{AreHeldIn, AreWordsIn, HasFormWith, file_with, words_in}
-use Rattle.pl_prelinked.specs.Sources.{AreSources, firm, members}
-use Rattle.pl_prelinked.proofs.WholeLaws.{library_has_form, library_made}
+use Rattle.pl_rewrite.specs.Lent.{list_after}
+use Rattle.pl_rewrite.specs.Libraries.{AreHeldIn, AreWordsIn, HasFormWith, file_with, words_in}
+use Rattle.pl_rewrite.specs.Sources.{AreSources, firm, members}
+use Rattle.pl_rewrite.proofs.WholeLaws.{library_has_form, library_made}
 use Rattle.pl_scope.specs.Walk.{Walked}
 use Rattle.pl_scope.proofs.ClosureLaws.{walk_is}
-use Rattle.pl_sound.specs.Plan.{for_library}
-use Rattle.pl_sound.specs.Rule.{objects, original_at}
+use Rattle.law_sound.specs.Plan.{for_library}
+use Rattle.law_sound.specs.Rule.{objects, original_at}
 use Rattle.pl_rewrite.specs.Members.{HasOriginal, HasParts, IsRunLibrary, IsOwnWalk, IsRun, files_of, numbers_of, plan_of, planned_firm, planned_firms, prelinked}
 use Rattle.pl_rewrite.specs.Words.{word_by, words_by, own_words_of}
 use Rattle.pl_rewrite.specs.declared.running.FileParts.{FileParts}

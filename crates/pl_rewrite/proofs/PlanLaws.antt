@@ -7,14 +7,14 @@ use Rattle.pl_base.specs.Answers.{◌>>=◌}
 use Rattle.pl_base.proofs.AnswerLaws.{bind_ok, ok_same}
 use Rattle.pl_elf.specs.declared.range.Range.{Range}
 use Rattle.pl_journal.specs.declared.change.Change.{Change}
-use Rattle.pl_known.specs.Plans.{planned, slots, stale, stamp_for, standings}
-use Rattle.pl_known.specs.Taken.{names_of}
-use Rattle.pl_known.specs.declared.taken.Taken.{Taken}
-use Rattle.pl_plan.specs.declared.asked.Asked.{Asked}
-use Rattle.pl_plan.specs.declared.fault.PlanningFault.{PlanningFault}
-use Rattle.pl_plan.specs.declared.run_plan.RunPlan.{RunPlan}
+use Rattle.pl_rewrite.specs.Plans.{planned, slots, stale, stamp_for, standings}
+use Rattle.pl_rewrite.specs.Taken.{names_of}
+use Rattle.pl_rewrite.specs.declared.taken.Taken.{Taken}
+use Rattle.pl_cone.specs.declared.asked.Asked.{Asked}
+use Rattle.pl_cone.specs.declared.fault.PlanningFault.{PlanningFault}
+use Rattle.pl_cone.specs.declared.run_plan.RunPlan.{RunPlan}
 use Rattle.pl_slots.specs.declared.slot.Slot.{Slot}
-use Rattle.pl_sound.specs.Rule.{Files}
+use Rattle.law_sound.specs.Rule.{Files}
 use Rattle.pl_rewrite.specs.Changes.{change, changes, is_given, next_cache}
 use Rattle.pl_rewrite.specs.Reports.{report, row_of, state_after}
 use Rattle.pl_rewrite.specs.Rewriting.{all_made, rewrite, rewritten, rewritten_with, with_made}

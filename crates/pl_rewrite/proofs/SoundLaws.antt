@@ -1,4 +1,4 @@
--- The laws of pl_sound at what a run makes.
+-- The laws of law_sound at what a run makes.
 use Rattle.std.proofs.Common.{◌≡◌, ℕ, ◌+◌, ◌<◌, ◌≤◌, Bool, true, false, List, [], ◌∷◌, length, Option, Some, None, Ok, refl, sym, ap, subst, ◌∙◌, arith, inl, inr}
 use Rattle.std.specs.Prelude.{◌⊎◌, is_some, not, max, ◌==◌}
 use Rattle.std.specs.List.{All, fold}
@@ -18,20 +18,20 @@ use Rattle.pl_conflict.proofs.FormatLaws.{format_kept}
 use Rattle.pl_elf.specs.declared.range.Range.{Range}
 use Rattle.pl_form.specs.Files.{marked_in, original_by, original_in}
 use Rattle.pl_form.specs.declared.file.Marked.{Marked}
-use Rattle.pl_known.specs.Fits.{fit_in}
-use Rattle.pl_known.specs.Plans.{greatest, greatest_of, is_candidate, is_current, is_stale, stale, stamp_for}
-use Rattle.pl_known.specs.Skips.{skip_causes}
-use Rattle.pl_plan.specs.Faults.{of_cone}
-use Rattle.pl_plan.specs.declared.asked.Asked.{Asked}
-use Rattle.pl_plan.specs.declared.run_plan.RunPlan.{RunPlan}
+use Rattle.pl_rewrite.specs.Fits.{fit_in}
+use Rattle.pl_rewrite.specs.Plans.{greatest, greatest_of, is_candidate, is_current, is_stale, stale, stamp_for}
+use Rattle.pl_rewrite.specs.Skips.{skip_causes}
+use Rattle.pl_cone.specs.Faults.{of_cone}
+use Rattle.pl_cone.specs.declared.asked.Asked.{Asked}
+use Rattle.pl_cone.specs.declared.run_plan.RunPlan.{RunPlan}
 use Rattle.pl_scope.specs.Members.{has}
 use Rattle.pl_scope.proofs.NameLaws.{same_name}
-use Rattle.pl_sound.specs.History.{IsEdit}
-use Rattle.pl_sound.specs.Plan.{IsBounded, fits}
-use Rattle.pl_sound.specs.Rule as sound
-use Rattle.pl_sound.specs.Rule.{Files, Mark, Row, mark_at, object_at}
-use Rattle.pl_sound.proofs.PlanLaws.{all_planned}
-use Rattle.pl_sound.proofs.Theorems as theorems
+use Rattle.law_sound.specs.History.{IsEdit}
+use Rattle.law_sound.specs.Plan.{IsBounded, fits}
+use Rattle.law_sound.specs.Rule as sound
+use Rattle.law_sound.specs.Rule.{Files, Mark, Row, mark_at, object_at}
+use Rattle.law_sound.proofs.PlanLaws.{all_planned}
+use Rattle.law_sound.proofs.Theorems as theorems
 use Rattle.pl_rewrite.specs.Changes.{from_scratch, prelinked}
 use Rattle.pl_rewrite.specs.Laws.{AreNames, IsMixed, NamesStay, NextIsFromScratch, OriginalsStay, MixturesKeepTheRule}
 use Rattle.pl_rewrite.proofs.MadeLaws.{next_on, next_off, scratch_by}

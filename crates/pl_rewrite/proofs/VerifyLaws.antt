@@ -24,14 +24,14 @@ use Rattle.pl_form.specs.Files.{marked_in, original_by, original_in}
 use Rattle.pl_form.specs.Marks.{IsFormOf}
 use Rattle.pl_form.specs.declared.file.Marked.{Marked}
 use Rattle.pl_form.proofs.FilesLaws.{nothing_else_is_read}
-use Rattle.pl_known.specs.Skips.{skip_causes}
-use Rattle.pl_known.specs.Taken.{AreTaken, files_in}
-use Rattle.pl_known.specs.declared.taken.Taken.{Taken}
-use Rattle.pl_known.proofs.StandLaws.{walks_agree}
+use Rattle.pl_rewrite.specs.Skips.{skip_causes}
+use Rattle.pl_rewrite.specs.Taken.{AreTaken, files_in}
+use Rattle.pl_rewrite.specs.declared.taken.Taken.{Taken}
+use Rattle.pl_rewrite.proofs.StandLaws.{walks_agree}
 use Rattle.pl_lists.specs.Lists.{is_list}
 use Rattle.pl_object.specs.declared.object.Object.{Object}
-use Rattle.pl_parts.specs.Back.{when}
-use Rattle.pl_prelinked.specs.Sources.{AreSources, firm, members, names_of}
+use Rattle.pl_form.specs.Back.{when}
+use Rattle.pl_rewrite.specs.Sources.{AreSources, firm, members, names_of}
 use Rattle.pl_scope.specs.Members.{names}
 use Rattle.pl_scope.specs.Scope.{walked}
 use Rattle.pl_scope.specs.Walk.{Walked}
@@ -39,8 +39,8 @@ use Rattle.pl_scope.specs.declared.constants.TheConstants.{MAX_MEMBERS}
 use Rattle.pl_scope.specs.declared.member.Member as scope
 use Rattle.pl_scope.proofs.StepLaws.{walk_short}
 use Rattle.pl_scope.proofs.WalkedLaws.{member_file, walk_distinct}
-use Rattle.pl_sound.specs.Rule as sound
-use Rattle.pl_sound.specs.Rule.{Files, Mark, Member, is_marked, is_same, mark_at, member_at, object_at, objects, of_walk, original_at, slot_of, stamp_of, version_of}
+use Rattle.law_sound.specs.Rule as sound
+use Rattle.law_sound.specs.Rule.{Files, Mark, Member, is_marked, is_same, mark_at, member_at, object_at, objects, of_walk, original_at, slot_of, stamp_of, version_of}
 use Rattle.pl_rewrite.specs.Members.{IsRead, found, marked_by, walk_told}
 use Rattle.pl_rewrite.specs.Verify.{IsView, all_borne, borne, files_of, is_verified, prelinked_in, source, source_by, source_of, sources, verified_original}
 use Rattle.pl_rewrite.specs.declared.verifying.View.{View}

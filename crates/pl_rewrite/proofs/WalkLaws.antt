@@ -18,13 +18,13 @@ use Rattle.pl_elf.specs.declared.kind.Kind.{Kind}
 use Rattle.pl_elf.specs.declared.kind.Kind.TheVariants.{Program, Library, Static}
 use Rattle.pl_elf.specs.declared.range.Range.{Range}
 use Rattle.pl_form.specs.Files.{original_in}
-use Rattle.pl_known.proofs.StandLaws.{walks_agree}
-use Rattle.pl_known.specs.Faults.{fault_in}
-use Rattle.pl_known.specs.Fits.{fit_in}
-use Rattle.pl_known.specs.Plans.{is_candidate}
-use Rattle.pl_known.specs.Skips.{skip_causes}
+use Rattle.pl_rewrite.proofs.StandLaws.{walks_agree}
+use Rattle.pl_rewrite.specs.Faults.{fault_in}
+use Rattle.pl_rewrite.specs.Fits.{fit_in}
+use Rattle.pl_rewrite.specs.Plans.{is_candidate}
+use Rattle.pl_rewrite.specs.Skips.{skip_causes}
 use Rattle.pl_object.specs.declared.object.Object.{Object}
-use Rattle.pl_prelinked.specs.Sources.{AreSources, members, names_of}
+use Rattle.pl_rewrite.specs.Sources.{AreSources, members, names_of}
 use Rattle.pl_scope.specs.Members.{names}
 use Rattle.pl_scope.specs.Scope.{walked}
 use Rattle.pl_scope.specs.Walk.{Walked}
@@ -34,12 +34,12 @@ use Rattle.pl_scope.proofs.ClosureLaws.{walk_is}
 use Rattle.pl_scope.proofs.NameLaws.{has_at}
 use Rattle.pl_scope.proofs.StepLaws.{walk_short}
 use Rattle.pl_scope.proofs.WalkedLaws.{member_file, walk_distinct}
-use Rattle.pl_sound.specs.Plan.{fits, links_as, planned_member}
-use Rattle.pl_sound.specs.Rule as sound
-use Rattle.pl_sound.specs.Rule.{Files, Member, object_at, objects, of_walk, original_at}
-use Rattle.pl_sound.proofs.Matching.{and_both, each_all}
-use Rattle.pl_sound.proofs.PlanLaws.{candidate_member}
-use Rattle.pl_sound.proofs.RuleLaws.{first_is}
+use Rattle.law_sound.specs.Plan.{fits, links_as, planned_member}
+use Rattle.law_sound.specs.Rule as sound
+use Rattle.law_sound.specs.Rule.{Files, Member, object_at, objects, of_walk, original_at}
+use Rattle.law_sound.proofs.Matching.{and_both, each_all}
+use Rattle.law_sound.proofs.PlanLaws.{candidate_member}
+use Rattle.law_sound.proofs.RuleLaws.{first_is}
 use Rattle.pl_rewrite.specs.Changes as changes
 use Rattle.pl_rewrite.specs.Members.{ArePrelinkable, IsRun, IsCandidate, IsPrelinkable, files_of, numbers_of, planned_firm, planned_firms, prelinked, source, walk_told}
 use Rattle.pl_rewrite.specs.declared.running.Run.{Run}

@@ -8,12 +8,12 @@ use Rattle.pl_conflict.specs.Format.{format}
 use Rattle.pl_elf.specs.declared.range.Range.{Range}
 use Rattle.pl_journal.specs.declared.change.Change.{Change}
 use Rattle.pl_journal.specs.declared.change.Change.TheVariants.{Put}
-use Rattle.pl_known.specs.Fits.{fit_in}
-use Rattle.pl_known.specs.Plans.{is_current, is_stale}
-use Rattle.pl_known.specs.Skips.{skip_causes}
-use Rattle.pl_plan.specs.declared.run_plan.RunPlan.{RunPlan}
-use Rattle.pl_sound.specs.Plan.{Plan, all, plan_of, planned_in}
-use Rattle.pl_sound.specs.Rule.{Files}
+use Rattle.pl_rewrite.specs.Fits.{fit_in}
+use Rattle.pl_rewrite.specs.Plans.{is_current, is_stale}
+use Rattle.pl_rewrite.specs.Skips.{skip_causes}
+use Rattle.pl_cone.specs.declared.run_plan.RunPlan.{RunPlan}
+use Rattle.law_sound.specs.Plan.{Plan, all, plan_of, planned_in}
+use Rattle.law_sound.specs.Rule.{Files}
 
 -- ---- the files
 

@@ -2,9 +2,9 @@
 use Rattle.std.specs.Prelude.{◌≡◌, ⊤, ℕ, List, Option, Some, None}
 use Rattle.std.specs.List.{All}
 use Rattle.pl_elf.specs.declared.range.Range.{Range}
-use Rattle.pl_known.specs.declared.taken.Taken.{Taken}
-use Rattle.pl_plan.specs.declared.run_plan.RunPlan.{RunPlan}
-use Rattle.pl_sound.specs.Rule.{Files}
+use Rattle.pl_rewrite.specs.declared.taken.Taken.{Taken}
+use Rattle.pl_cone.specs.declared.run_plan.RunPlan.{RunPlan}
+use Rattle.law_sound.specs.Rule.{Files}
 use Rattle.pl_rewrite.specs.Finishing.{MayBeLast, bare_of, made_last}
 use Rattle.pl_rewrite.specs.Members.{HasParts, IsRunLibrary, IsPrelinked, files_of, made_in, plan_of}
 use Rattle.pl_rewrite.specs.declared.deciding.Decided.{Decided}

@@ -8,10 +8,10 @@ use Rattle.pl_form.specs.declared.file.File.{File}
 use Rattle.pl_form.specs.declared.file.File.TheVariants as files
 use Rattle.pl_form.specs.declared.file.File.TheVariants.{Plain}
 use Rattle.pl_form.specs.declared.version.Version.TheVariants.{Two}
-use Rattle.pl_known.specs.declared.taken.Taken.{Taken}
+use Rattle.pl_rewrite.specs.declared.taken.Taken.{Taken}
 use Rattle.pl_object.specs.declared.object.Object.{Object}
-use Rattle.pl_prelinked.specs.Libraries.{HasFormWith, file_with}
-use Rattle.pl_prelinked.specs.Sources.{firm}
+use Rattle.pl_rewrite.specs.Libraries.{HasFormWith, file_with}
+use Rattle.pl_rewrite.specs.Sources.{firm}
 use Rattle.pl_rewrite.specs.Changes as changes
 use Rattle.pl_rewrite.specs.Reports as reports
 use Rattle.pl_rewrite.specs.Words.{own_words_of}

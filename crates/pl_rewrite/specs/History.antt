@@ -7,15 +7,15 @@ use Rattle.pl_elf.specs.declared.range.Range.{Range}
 use Rattle.pl_form.specs.Files.{marked_in, original_in}
 use Rattle.pl_form.specs.declared.file.Marked.{Marked}
 use Rattle.pl_journal.specs.Meaning.{applied, mixed}
-use Rattle.pl_known.specs.Plans.{planned}
-use Rattle.pl_known.specs.Skips.{skip_causes}
-use Rattle.pl_plan.specs.declared.asked.Asked.{Asked}
-use Rattle.pl_plan.specs.declared.run_plan.RunPlan.{RunPlan}
+use Rattle.pl_rewrite.specs.Plans.{planned}
+use Rattle.pl_rewrite.specs.Skips.{skip_causes}
+use Rattle.pl_cone.specs.declared.asked.Asked.{Asked}
+use Rattle.pl_cone.specs.declared.run_plan.RunPlan.{RunPlan}
 use Rattle.pl_scope.specs.Members.{has}
-use Rattle.pl_sound.specs.History as sound
-use Rattle.pl_sound.specs.History.{IsEdit, Held}
-use Rattle.pl_sound.specs.Plan.{IsBounded}
-use Rattle.pl_sound.specs.Rule.{Files, matches, members}
+use Rattle.law_sound.specs.History as sound
+use Rattle.law_sound.specs.History.{IsEdit, Held}
+use Rattle.law_sound.specs.Plan.{IsBounded}
+use Rattle.law_sound.specs.Rule.{Files, matches, members}
 use Rattle.pl_rewrite.specs.Changes.{changes, next, next_cache}
 use Rattle.pl_rewrite.specs.Laws.{AreNames}
 use Rattle.pl_rewrite.specs.Verify.{is_verified}

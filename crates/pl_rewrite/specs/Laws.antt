@@ -1,14 +1,14 @@
--- Why a folder stays sound: the laws of pl_sound at the format of prelinked files and at what a run makes.
+-- Why a folder stays sound: the laws of law_sound at the format of prelinked files and at what a run makes.
 use Rattle.std.specs.Prelude.{◌≡◌, ◌⊎◌, ℕ, false, List, Some, None, Ok, is_some}
 use Rattle.pl_conflict.specs.Format.{Rule}
 use Rattle.pl_elf.specs.declared.range.Range.{Range}
 use Rattle.pl_form.specs.Files.{original_in}
-use Rattle.pl_known.specs.Plans.{planned}
-use Rattle.pl_known.specs.Skips.{skip_causes}
-use Rattle.pl_plan.specs.declared.asked.Asked.{Asked}
-use Rattle.pl_plan.specs.declared.run_plan.RunPlan.{RunPlan}
+use Rattle.pl_rewrite.specs.Plans.{planned}
+use Rattle.pl_rewrite.specs.Skips.{skip_causes}
+use Rattle.pl_cone.specs.declared.asked.Asked.{Asked}
+use Rattle.pl_cone.specs.declared.run_plan.RunPlan.{RunPlan}
 use Rattle.pl_scope.specs.Members.{has}
-use Rattle.pl_sound.specs.Rule.{Files}
+use Rattle.law_sound.specs.Rule.{Files}
 use Rattle.pl_rewrite.specs.Changes.{from_scratch, next}
 
 -- in a folder that keeps the rule a run's files are those from scratch, of current names too

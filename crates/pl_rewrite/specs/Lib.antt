@@ -1,3 +1,16 @@
+pub mod Faults
+pub mod Taken
+pub mod Known
+pub mod Skips
+pub mod Fits
+pub mod Plans
+pub mod Agreement
+pub mod Sources
+pub mod Lent
+pub mod Fills
+pub mod Watched
+pub mod Libraries
+pub mod Programs
 pub mod Changes
 pub mod Reports
 pub mod Rewriting
@@ -8,3 +21,5 @@ pub mod Deciding
 pub mod Laws
 pub mod Verify
 pub mod History
+-- the format of prelinked files, by which what is here is said
+pub use Rattle.pl_conflict.specs.Format

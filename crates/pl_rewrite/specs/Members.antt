@@ -21,20 +21,20 @@ use Rattle.pl_form.specs.declared.file.Marked.{Marked}
 use Rattle.pl_form.specs.declared.version.Version.TheVariants.{Two}
 use Rattle.pl_elf.specs.declared.range.Range.{Range}
 use Rattle.pl_elf.specs.Kinds.{is_library}
-use Rattle.pl_known.specs.Laws.{Knows}
-use Rattle.pl_known.specs.Plans.{is_candidate, is_stale, stale, standings}
-use Rattle.pl_known.specs.Skips.{skip_causes}
-use Rattle.pl_known.specs.Taken.{AreTaken, entry_in, files_in, names_of}
-use Rattle.pl_known.specs.declared.taken.Taken.{Taken}
+use Rattle.pl_rewrite.specs.Agreement.{Knows}
+use Rattle.pl_rewrite.specs.Plans.{is_candidate, is_stale, stale, standings}
+use Rattle.pl_rewrite.specs.Skips.{skip_causes}
+use Rattle.pl_rewrite.specs.Taken.{AreTaken, entry_in, files_in, names_of}
+use Rattle.pl_rewrite.specs.declared.taken.Taken.{Taken}
 use Rattle.pl_object.specs.declared.object.Object.{Object}
-use Rattle.pl_plan.specs.declared.run_plan.RunPlan.{RunPlan}
-use Rattle.pl_plan.specs.declared.standing.Standing.{Standing}
-use Rattle.pl_prelinked.specs.Libraries.{AreHeldIn, AreWordsIn, HasFormWith, file_with}
-use Rattle.pl_prelinked.specs.Sources.{firm}
+use Rattle.pl_cone.specs.declared.run_plan.RunPlan.{RunPlan}
+use Rattle.pl_cone.specs.declared.standing.Standing.{Standing}
+use Rattle.pl_rewrite.specs.Libraries.{AreHeldIn, AreWordsIn, HasFormWith, file_with}
+use Rattle.pl_rewrite.specs.Sources.{firm}
 use Rattle.pl_scope.specs.Walk.{Walked}
 use Rattle.pl_scope.specs.declared.member.Member.{Member}
-use Rattle.pl_sound.specs.Plan.{Plan, planned_member}
-use Rattle.pl_sound.specs.Rule.{Files, objects, original_at}
+use Rattle.law_sound.specs.Plan.{Plan, planned_member}
+use Rattle.law_sound.specs.Rule.{Files, objects, original_at}
 use Rattle.pl_rewrite.specs.Changes as changes
 use Rattle.pl_rewrite.specs.Reports as reports
 use Rattle.pl_rewrite.specs.Words.{own_words_of}

@@ -5,16 +5,16 @@ use Rattle.pl_conflict.specs.Format.{format}
 use Rattle.pl_conflict.specs.Prelinked.{Firm, joined}
 use Rattle.pl_elf.specs.declared.range.Range.{Range}
 use Rattle.pl_form.specs.declared.file.Marked.{Marked}
-use Rattle.pl_known.specs.Laws.{Knows}
-use Rattle.pl_known.specs.Skips.{skip_causes}
-use Rattle.pl_known.specs.Taken.{AreTaken, files_in}
-use Rattle.pl_known.specs.declared.taken.Taken.{Taken}
+use Rattle.pl_rewrite.specs.Agreement.{Knows}
+use Rattle.pl_rewrite.specs.Skips.{skip_causes}
+use Rattle.pl_rewrite.specs.Taken.{AreTaken, files_in}
+use Rattle.pl_rewrite.specs.declared.taken.Taken.{Taken}
 use Rattle.pl_object.specs.declared.object.Object.{Object}
-use Rattle.pl_prelinked.specs.Sources.{firm}
+use Rattle.pl_rewrite.specs.Sources.{firm}
 use Rattle.pl_scope.specs.Walk.{Walked}
 use Rattle.pl_scope.specs.declared.member.Member.{Member}
-use Rattle.pl_sound.specs.Rule as sound
-use Rattle.pl_sound.specs.Rule.{Files, member_at, original_at}
+use Rattle.law_sound.specs.Rule as sound
+use Rattle.law_sound.specs.Rule.{Files, member_at, original_at}
 use Rattle.pl_rewrite.specs.Members.{found, marked_by}
 use Rattle.pl_rewrite.specs.declared.verifying.View.{View}
 

@@ -1,65 +1,83 @@
-// What is known of the relocations of the members of a walk.
-ghost use Rattle.std.specs.Prelude.{◌≡◌, IfOk, IfSome};
-ghost use Rattle.std.specs.List as lists;
-ghost use Rattle.std.specs.Option.{option_map};
-ghost use Rattle.std.specs.Str.{bytes_eq};
-ghost use Rattle.pl_rewrite.specs.Members as spec;
+// Which relocations of a library are known to matter nowhere else.
+ghost use Rattle.std.specs.Prelude.{◌≡◌, true, IfOk};
+ghost use Rattle.pl_conflict.specs.Prelinked.{are_set};
+ghost use Rattle.pl_rewrite.specs.Libraries.{AreHeldIn, AreWordsIn, BeginsWith};
+ghost use Rattle.pl_rewrite.specs.Sources.{AreSources};
 
-use crate::running::{Library, Run};
-use pl_conflict::ConflictFree;
-use pl_prelinked::Source;
-use std::alloc::{AllocError, Global};
+use crate::Source;
+use crate::scopes::{places_of, scope_of};
+use pl_base::Rows;
+use pl_conflict::{conflict_free_of, words_held};
+use pl_image::load_object;
+use pl_io::NoMemory;
+use std::alloc::Global;
 
-fn is_of(library: &Library<'_>, name: &str) -> bool
-    ensures { result ≡ bytes_eq library.now.name.now name.now }
-{
-    library.name == name
-}
-
-fn found<'f, 'a>(libraries: &'f [Library<'a>], name: &str) -> Option<&'f Library<'a>>
-    ensures { option_map (λ l. l.now) result
-        ≡ lists.find (λ l. bytes_eq l.name.now name.now) libraries.now }
-{
-    libraries.iter().find(|library| is_of(library, name))
-}
-
-/// What is known of the relocations of a member; None where nothing was found of it.
-fn conflict_free_for<'a>(run: &Run<'a>, source: &Source<'_>) -> Option<ConflictFree<'a>>
-    requires { spec.IsRun run.now }
-    ensures { IfSome result (spec.IsConflictFreeFor run.now source.now) }
-{
-    match found(run.libraries, source.name) {
-        None => None,
-        Some(library) => Some(ConflictFree {
-            flags: library.flags.as_slice(),
-            held: library.parts.held.as_slice(),
-        }),
-    }
-}
-
-/// What is known of the relocations of all members, in their order, where nothing is known of the first, which is the walk's program. None where another has nothing.
-pub fn conflict_free_of<'a>(
+/// The flags by the file of the first of members.
+fn conflict_free_first(
     alloc: Global,
-    run: &Run<'a>,
     sources: &[Source<'_>],
-) -> Result<Option<Vec<ConflictFree<'a>>>, AllocError>
-    requires { spec.IsRun run.now }
-    ensures { IfOk result (λ all. IfSome all (λ v. spec.AreConflictFreeFor run.now sources.now
-        v.items)) }
+    library: &Source<'_>,
+    file: &[u8],
+    one_word: &[bool],
+) -> Result<Rows<bool>, NoMemory>
+    requires sources { AreSources sources.now }
+    requires set { are_set sources.now ≡ true }
+    requires first { BeginsWith sources.now library.now }
+    ensures { IfOk result (AreHeldIn sources.now file.now one_word.now) }
 {
-    let mut all = Vec::new(alloc);
-    let [_, others @ ..] = sources else {
-        return Ok(Some(all));
+    let scope = scope_of(alloc, sources)?;
+    let places = places_of(alloc, sources)?;
+    let loaded = load_object(alloc, library.object, file, library.slot)?;
+    conflict_free_of(alloc, &scope, &places, &[loaded], one_word)
+}
+
+/// For each relocation of the first of members, a library, in their order, whether its flag in `one_word` is set and it gives a word that the library's file holds at its slot, or nothing.
+///
+/// The members can be prelinked together: `prelink` gives the first a file. It fails only for want of memory.
+pub fn conflict_free_words(
+    alloc: Global,
+    sources: &[Source<'_>],
+    file: &[u8],
+    one_word: &[bool],
+) -> Result<Rows<bool>, NoMemory>
+    requires sources { AreSources sources.now }
+    requires set { are_set sources.now ≡ true }
+    ensures { IfOk result (AreHeldIn sources.now file.now one_word.now) }
+{
+    let [library, ..] = sources else {
+        return Ok(Rows::new(alloc));
     };
-    all.push(ConflictFree {
-        flags: &[],
-        held: &[],
-    })?;
-    for source in others {
-        let Some(conflict_free) = conflict_free_for(run, source) else {
-            return Ok(None);
-        };
-        all.push(conflict_free)?;
-    }
-    Ok(Some(all))
+    conflict_free_first(alloc, sources, library, file, one_word)
+}
+
+/// The words by the file of the first of members.
+fn words_first(
+    alloc: Global,
+    sources: &[Source<'_>],
+    library: &Source<'_>,
+    file: &[u8],
+) -> Result<Rows<u64>, NoMemory>
+    requires sources { AreSources sources.now }
+    requires set { are_set sources.now ≡ true }
+    requires first { BeginsWith sources.now library.now }
+    ensures { IfOk result (AreWordsIn sources.now file.now) }
+{
+    let loaded = load_object(alloc, library.object, file, library.slot)?;
+    let relocs = library.object.relocations.as_slice();
+    let words = words_held(alloc, &[loaded], library.slot, relocs)?;
+    Ok(words)
+}
+
+/// For each relocation of the first of members, a library, in their order, the word that the library's file holds at its place, where it is loaded at its slot.
+///
+/// The members can be prelinked together: `prelink` gives the first a file. It fails only for want of memory.
+pub fn held_words(alloc: Global, sources: &[Source<'_>], file: &[u8]) -> Result<Rows<u64>, NoMemory>
+    requires sources { AreSources sources.now }
+    requires set { are_set sources.now ≡ true }
+    ensures { IfOk result (AreWordsIn sources.now file.now) }
+{
+    let [library, ..] = sources else {
+        return Ok(Rows::new(alloc));
+    };
+    words_first(alloc, sources, library, file)
 }

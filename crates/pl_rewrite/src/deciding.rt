@@ -6,12 +6,12 @@ ghost use Rattle.pl_rewrite.specs.Deciding as spec;
 ghost use Rattle.pl_rewrite.specs.Members as members;
 ghost use Rattle.pl_rewrite.specs.declared.deciding.Decided.TheVariants as decided;
 
+use crate::Taken;
 use crate::made::prelinked;
 use crate::making::{Made, made_large, made_of};
 use crate::running::{FileParts, Library, MadeFile, Run, is_among};
 use crate::sources::is_library;
 use pl_io::NoMemory;
-use pl_known::Taken;
 use std::alloc::Global;
 
 /// What is decided of one file, with all files at hand.

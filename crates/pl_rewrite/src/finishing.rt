@@ -5,18 +5,16 @@ ghost use Rattle.pl_form.specs.Files.{file_in, marked_in, original_in};
 ghost use Rattle.pl_rewrite.specs.Changes as changes;
 ghost use Rattle.pl_rewrite.specs.Finishing as spec;
 
-use crate::RowState;
 use crate::deciding::Decided;
 use crate::making::{Made, put};
 use crate::parts::own_words_of;
 use crate::running::FileParts;
 use crate::states::{state_by_form, too_large};
+use crate::{RowState, Source, Taken, prelink_library};
 use pl_base::{Rows, Text};
 use pl_form::{File, FileFault, Version, read_file};
 use pl_io::NoMemory;
-use pl_known::Taken;
 use pl_object::{Object, Refusal};
-use pl_prelinked::{Source, prelink_library};
 use std::alloc::{AllocError, Global};
 
 /// A file by its name and its bytes alone.

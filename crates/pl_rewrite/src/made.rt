@@ -4,7 +4,7 @@ ghost use Rattle.std.specs.List.{All};
 ghost use Rattle.std.specs.Str.{bytes_eq};
 ghost use Rattle.pl_rewrite.specs.Members as spec;
 
-use crate::prelinking::made_prelinked;
+use crate::candidates::made_prelinked;
 use crate::running::{MadeFile, Run};
 use pl_io::NoMemory;
 use std::alloc::Global;

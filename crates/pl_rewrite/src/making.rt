@@ -4,7 +4,7 @@ ghost use Rattle.std.specs.List.{cons_option};
 ghost use Rattle.pl_cone.specs.Candidates as cone;
 ghost use Rattle.pl_cone.specs.declared.skip.Skip.TheVariants as skips;
 ghost use Rattle.pl_form.specs.Files.{original_in};
-ghost use Rattle.pl_plan.specs.Wants as wants;
+ghost use Rattle.pl_cone.specs.Wants as wants;
 ghost use Rattle.pl_scope.specs.Members.{has};
 ghost use Rattle.pl_rewrite.specs.Changes as changes;
 ghost use Rattle.pl_rewrite.specs.Members as spec;
@@ -13,12 +13,11 @@ ghost use Rattle.pl_rewrite.specs.Rewriting as whole;
 use crate::running::{Run, is_skipped};
 use crate::sources::original_of;
 use crate::states::{state_of_current, too_large};
-use crate::{ReportRow, RowState};
+use crate::{ReportRow, RowState, Taken};
 use pl_base::{Rows, Text};
 use pl_cone::{Skip, prelinkable};
 use pl_io::NoMemory;
 use pl_journal::Change;
-use pl_known::Taken;
 use std::alloc::{AllocError, Global};
 
 /// What a run makes of one file.

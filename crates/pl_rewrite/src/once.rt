@@ -3,12 +3,12 @@ ghost use Rattle.std.specs.Prelude.{◌≡◌, IfOk, IfSome};
 ghost use Rattle.std.specs.List.{All};
 ghost use Rattle.pl_rewrite.specs.Members as spec;
 
-use crate::prelinking::made_prelinked;
+use crate::Taken;
+use crate::candidates::made_prelinked;
 use crate::running::{Digest, MadeFile, Run, is_among};
 use crate::sources::{is_library, original_of};
 use pl_form::digest_of;
 use pl_io::NoMemory;
-use pl_known::Taken;
 use std::alloc::{AllocError, Global};
 
 /// The SHA-256 of a file's original.

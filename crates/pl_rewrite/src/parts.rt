@@ -9,15 +9,14 @@ ghost use Rattle.pl_elf.specs.Kinds.{is_library};
 ghost use Rattle.pl_rewrite.specs.Members as spec;
 ghost use Rattle.pl_rewrite.specs.Words as words;
 
-use crate::lists::{digest_for, list_after};
-use crate::prelinking::walk_of;
+use crate::candidates::walk_of;
+use crate::digests::{digest_for, list_after};
 use crate::running::{FileParts, Library, Run, is_skipped};
 use crate::sources::{is_library, sources_of};
+use crate::{Source, Taken, conflict_free_words, held_words, library_words, prelink_library};
 use pl_base::Rows;
 use pl_cone::Link;
 use pl_io::NoMemory;
-use pl_known::Taken;
-use pl_prelinked::{Source, conflict_free_words, held_words, library_words, prelink_library};
 use pl_scope::Scope;
 use std::alloc::{AllocError, Global};
 

@@ -3,27 +3,26 @@ ghost use Rattle.std.specs.Prelude.{◌≡◌, Ok, IfOk, if◌then◌else◌};
 ghost use Rattle.std.specs.List.{All, AllZip};
 ghost use Rattle.pl_base.specs.Answers.{Answers, AnswersAs};
 ghost use Rattle.pl_cone.specs.Links.{IsLink};
-ghost use Rattle.pl_known.specs.Laws.{KnowsTaken};
-ghost use Rattle.pl_known.specs.Plans as plans;
-ghost use Rattle.pl_known.specs.Taken.{AreTaken, files_in, names_of};
-ghost use Rattle.pl_plan.specs.Faults.{is_memory};
+ghost use Rattle.pl_rewrite.specs.Agreement.{KnowsTaken};
+ghost use Rattle.pl_rewrite.specs.Plans as plans;
+ghost use Rattle.pl_rewrite.specs.Taken.{AreTaken, files_in, names_of};
+ghost use Rattle.pl_cone.specs.Faults.{is_memory};
 ghost use Rattle.pl_rewrite.specs.Deciding.{IsDecided};
 ghost use Rattle.pl_rewrite.specs.Members.{IsRunLibrary, IsPrelinked, IsRun};
 ghost use Rattle.pl_rewrite.specs.Rewriting as spec;
 
-use crate::Report;
 use crate::deciding::{Decided, Left, all_decided};
 use crate::finishing::{all_bare, made_last};
 use crate::making::{AllMade, add_made};
 use crate::once::{digests_of, programs_of};
 use crate::parts::libraries_of;
 use crate::running::{Library, MadeFile, Run};
+use crate::{FilesPlan, Report, Taken, plan_files};
 use pl_base::Rows;
 use pl_cache::Cache;
+use pl_cone::{Asked, PlanningFault, RunPlan};
 use pl_io::NoMemory;
 use pl_journal::Change;
-use pl_known::{FilesPlan, Taken, plan_files};
-use pl_plan::{Asked, PlanningFault, RunPlan};
 use std::alloc::Global;
 
 /// What a run changes, what it leaves in the cache, and what it reports.
@@ -205,7 +204,7 @@ fn finished(
 /// - The cache has the planned slots; its stamp is the run's where a name got it, and else stays.
 /// - The report has a row for each name.
 ///
-/// `take_file` of pl_known gave the files under the region that is asked for, and no name stands twice. The rows of the cache have no limit here.
+/// `take_file` gave the files under the region that is asked for, and no name stands twice. The rows of the cache have no limit here.
 ///
 /// The files are taken over. What is known of them is let go once everything is decided. Then the files of libraries are made, and each original is let go once its file is there.
 #[tactic(auto, unfolding(crate::specs::Rewriting::rewrite))]

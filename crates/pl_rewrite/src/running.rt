@@ -5,12 +5,11 @@ ghost use Rattle.std.specs.Str.{bytes_eq};
 ghost use Rattle.pl_scope.specs.Members.{has};
 ghost use Rattle.pl_rewrite.specs.Members as spec;
 
+use crate::Taken;
 use pl_base::{Rows, Text};
-use pl_cone::{Known, Link};
+use pl_cone::{Known, Link, RunPlan, Standing};
 use pl_elf::Range;
-use pl_known::Taken;
 use pl_lists::ListRow;
-use pl_plan::{RunPlan, Standing};
 
 /// The SHA-256 of a name's original.
 #[derive(Clone, Copy)]

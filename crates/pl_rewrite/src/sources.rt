@@ -6,14 +6,13 @@ ghost use Rattle.std.specs.Str.{bytes_eq};
 ghost use Rattle.pl_cone.specs.Current as cone;
 ghost use Rattle.pl_conflict.specs.Format.{mark_in};
 ghost use Rattle.pl_form.specs.Files.{marked_in, original_in};
-ghost use Rattle.pl_sound.specs.Rule as rule;
+ghost use Rattle.law_sound.specs.Rule as rule;
 ghost use Rattle.pl_rewrite.specs.Members as spec;
 
 use crate::running::{Run, find, is_among};
+use crate::{Source, Taken};
 use pl_form::{Entry, File, Marked, Version};
-use pl_known::Taken;
 use pl_object::Object;
-use pl_prelinked::Source;
 use pl_scope::Member;
 use pl_slots::Slot;
 use std::alloc::{AllocError, Global};

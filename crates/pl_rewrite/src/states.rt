@@ -6,13 +6,12 @@ ghost use Rattle.pl_rewrite.specs.Members as members;
 ghost use Rattle.pl_rewrite.specs.Reports as spec;
 ghost use Rattle.pl_rewrite.specs.declared.report.RowState.TheVariants as states;
 
-use crate::RowState;
 use crate::sources::marked_of;
+use crate::{RowState, Taken};
 use pl_base::Text;
 use pl_cone::Skip;
 use pl_form::{File, FileFault, Marked, read_file};
 use pl_io::NoMemory;
-use pl_known::Taken;
 use pl_object::Refusal;
 use std::alloc::{AllocError, Global};
 

@@ -3,20 +3,19 @@ ghost use Rattle.std.specs.Prelude.{◌≡◌, Ok, IfOk, Some};
 ghost use Rattle.std.specs.Option.{option_map};
 ghost use Rattle.pl_cone.specs.Candidates as cone;
 ghost use Rattle.pl_cone.specs.Known.{AreAccepted};
-ghost use Rattle.pl_known.specs.Taken.{files_in};
-ghost use Rattle.pl_sound.specs.Rule as rule;
+ghost use Rattle.pl_rewrite.specs.Taken.{files_in};
+ghost use Rattle.law_sound.specs.Rule as rule;
 ghost use Rattle.pl_rewrite.specs.Members as members;
 ghost use Rattle.pl_rewrite.specs.Verify as spec;
 
-use crate::prelinking::walk_of;
+use crate::candidates::walk_of;
 use crate::running::find;
 use crate::sources::{marked_in, original_of};
+use crate::{Source, Taken, known_files, prelink};
 use pl_cone::Known;
 use pl_form::Marked;
 use pl_io::NoMemory;
-use pl_known::{Taken, known_files};
 use pl_object::Object;
-use pl_prelinked::{Source, prelink};
 use pl_scope::{Member, Scope};
 use std::alloc::{AllocError, Global};
 
@@ -150,7 +149,7 @@ fn is_verified_file(alloc: Global, files: &[Taken], taken: &Taken) -> Result<boo
 
 /// Whether the file of a name is prelinked, and is byte for byte the file that the originals of its walk give, with the versions, slots and stamps that their files bear. It fails only for want of memory.
 ///
-/// `take_file` of pl_known gave the files, and no name stands twice.
+/// `take_file` gave the files, and no name stands twice.
 pub fn is_verified(alloc: Global, files: &[Taken], name: &str) -> Result<bool, NoMemory>
     requires { spec.WereTaken files.now }
     ensures { IfOk result (λ verified. verified
@@ -181,7 +180,7 @@ fn original_if_verified<'a>(
 
 /// The original of the file of a name, where `is_verified` holds of the name; None where it does not.
 ///
-/// `take_file` of pl_known gave the files, and no name stands twice.
+/// `take_file` gave the files, and no name stands twice.
 pub fn verified_original<'a>(
     alloc: Global,
     files: &'a [Taken],

@@ -32,8 +32,8 @@ use Rattle.pl_cli.specs.Writes.{AreBytes, WritesDisk, WritesFiles}
 use Rattle.pl_cli.specs.declared.cause.Cause.{Cause}
 use Rattle.pl_cli.specs.declared.command.Command.{Command}
 use Rattle.pl_cli.specs.declared.command.Command.TheVariants.{Load, All, Preview, UndoAll, Undo, Verify, Store, Remove, Fix, Unfix, Print, Order, Demo, Weave}
-use Rattle.pl_cli.specs.declared.status.Status.{Status}
-use Rattle.pl_cli.specs.declared.status.Status.TheVariants as statuses
+use Rattle.pl_words.specs.declared.status.Status.{Status}
+use Rattle.pl_words.specs.declared.status.Status.TheVariants as statuses
 use Rattle.law_folder.specs.Safe.{IsSafe, IsSafeImage, after}
 use Rattle.law_folder.specs.Sound.{IsSound}
 use Rattle.law_folder.specs.Steps.{MakesStep}

@@ -11,8 +11,8 @@ use Rattle.pl_cli.specs.Words.{bytes_of}
 use Rattle.pl_cli.specs.declared.command.Command.{Command}
 use Rattle.pl_cli.specs.declared.command.Command.TheVariants.{All}
 use Rattle.pl_cli.specs.declared.command.Detail.{Detail}
-use Rattle.pl_cli.specs.declared.status.Status.{Status}
-use Rattle.pl_cli.specs.declared.status.Status.TheVariants as statuses
+use Rattle.pl_words.specs.declared.status.Status.{Status}
+use Rattle.pl_words.specs.declared.status.Status.TheVariants as statuses
 use Rattle.law_folder.specs.Sound.{IsSound}
 use Rattle.pl_safe.specs.Safe.{ReadsSafe, StaysSafe}
 use Rattle.pl_safe.proofs.LoadLemmas.{loads_ordinary, weaves_ordinary}

@@ -20,8 +20,8 @@ use Rattle.pl_cli.specs.Ran.{Ran}
 use Rattle.pl_cli.specs.Writes.{WritesFiles}
 use Rattle.pl_cli.specs.declared.cause.Cause.{Cause}
 use Rattle.pl_cli.specs.declared.command.Command.{Command}
-use Rattle.pl_cli.specs.declared.status.Status.{Status}
-use Rattle.pl_cli.specs.declared.status.Status.TheVariants as statuses
+use Rattle.pl_words.specs.declared.status.Status.{Status}
+use Rattle.pl_words.specs.declared.status.Status.TheVariants as statuses
 use Rattle.law_folder.specs.Safe.{IsSafeImage, after, changed}
 use Rattle.law_folder.specs.Sound.{IsSound, KeepsTheRule}
 use Rattle.law_folder.specs.Steps.{IsPastAll, MakesStep}

@@ -8,11 +8,11 @@ use Rattle.pl_base.specs.Names.{is_valid_name}
 use Rattle.pl_base.proofs.AnswerLaws.{bind_ok, because_ok, ok_same, unless_ok}
 use Rattle.pl_conflict.specs.Format.{Rule, format}
 use Rattle.pl_folder.specs.Disk.{Name}
-use Rattle.pl_known.specs.Skips.{skip_causes}
-use Rattle.pl_known.proofs.RuleLaws.{matches_same, members_same, rule_is_one}
+use Rattle.pl_rewrite.specs.Skips.{skip_causes}
+use Rattle.pl_rewrite.proofs.RuleLaws.{matches_same, members_same, rule_is_one}
 use Rattle.pl_scope.specs.Members.{has}
-use Rattle.pl_sound.specs.Rule.{is_verified, original_at, walk_in}
-use Rattle.pl_sound.proofs.Theorems as theorems
+use Rattle.law_sound.specs.Rule.{is_verified, original_at, walk_in}
+use Rattle.law_sound.proofs.Theorems as theorems
 use Rattle.pl_batch.specs.Folder as folder
 use Rattle.pl_batch.specs.Verify.{causes, original_if_verified, verified}
 use Rattle.pl_batch.specs.declared.cause.Cause.TheVariants as batch_causes
@@ -21,7 +21,7 @@ use Rattle.pl_cli.specs.Verified.{verifies}
 use Rattle.pl_cli.specs.Writes.{of_batch}
 use Rattle.pl_cli.specs.declared.cause.Cause.{Cause}
 use Rattle.pl_cli.specs.declared.command.Command.TheVariants.{Verify}
-use Rattle.pl_cli.specs.declared.status.Status.TheVariants as statuses
+use Rattle.pl_words.specs.declared.status.Status.TheVariants as statuses
 use Rattle.law_folder.specs.Sound.{named}
 use Rattle.law_folder.proofs.SoundLemmas.{rule_enough}
 use Rattle.pl_safe.specs.Laws.{VerifiedAreSound}

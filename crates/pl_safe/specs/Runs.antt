@@ -11,8 +11,8 @@ use Rattle.pl_cli.specs.Writes.{fixes, loosens, prelinks, removes, stores, undoe
 use Rattle.pl_cli.specs.declared.cause.Cause.{Cause}
 use Rattle.pl_cli.specs.declared.command.Command.{Command}
 use Rattle.pl_cli.specs.declared.command.Command.TheVariants.{All, UndoAll, Undo, Store, Remove, Fix, Unfix}
-use Rattle.pl_cli.specs.declared.status.Status.{Status}
-use Rattle.pl_cli.specs.declared.status.Status.TheVariants as statuses
+use Rattle.pl_words.specs.declared.status.Status.{Status}
+use Rattle.pl_words.specs.declared.status.Status.TheVariants as statuses
 use Rattle.law_folder.specs.Originals.{SameOriginals, originals}
 use Rattle.law_folder.specs.Safe.{IsSafeImage}
 use Rattle.law_folder.specs.Steps.{IsPastAll}

@@ -5,9 +5,9 @@ use Rattle.std.specs.Str.{bytes_eq}
 use Rattle.std.specs.declared.alloc.Global.{Global}
 use Rattle.pl_base.specs.Answers.{◌>>=◌, AnswersAs, because}
 use Rattle.pl_elf.specs.declared.range.Range.{Range}
-use Rattle.pl_fix.specs.Fixing.{placed}
-use Rattle.pl_fix.specs.declared.placing.Placing.{Placing}
-use Rattle.pl_fix.specs.declared.placing.Placing.TheVariants.{NotPie, NoPlace, Fixed}
+use Rattle.pl_pie.specs.Placed.{placed}
+use Rattle.pl_pie.specs.declared.placing.Placing.{Placing}
+use Rattle.pl_pie.specs.declared.placing.Placing.TheVariants.{NotPie, NoPlace, Fixed}
 use Rattle.pl_loader.specs.Faults.{is_memory}
 use Rattle.pl_loader.specs.declared.fault.LoadFault.{LoadFault}
 use Rattle.pl_loader.specs.declared.fault.LoadFault.TheVariants as faults

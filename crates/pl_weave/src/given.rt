@@ -7,8 +7,8 @@ ghost use Rattle.pl_place.specs.Policy as policy;
 ghost use Rattle.pl_weave.specs.Given as spec;
 
 use pl_base::Text;
-use pl_fix::{Placing, fix_placed};
 use pl_loader::LoadFault;
+use pl_pie::{Placing, fix_placed};
 use pl_place::{Holes, Placer};
 use std::alloc::Global;
 

@@ -3,3 +3,4 @@ pub mod Found
 pub mod Numbers
 pub mod Values
 pub mod Table
+pub mod Statuses

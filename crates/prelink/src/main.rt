@@ -6,16 +6,16 @@ ghost use Rattle.std.specs.IoError.{error_kind};
 ghost use Rattle.std.specs.Process.{exit_status};
 ghost use Rattle.std.specs.Vec.Iter.{into_iter_items};
 ghost use Rattle.std.specs.declared.io.ErrorKind.TheVariants.{OutOfMemory};
-ghost use Rattle.pl_cli.specs.Statuses.{code_of};
+ghost use Rattle.pl_words.specs.Statuses.{code_of};
 ghost use Rattle.prelink.specs.Words.{after_first};
 ghost use Rattle.prelink.specs.declared.TheConstants.{LINE};
 
 use arrayvec::ArrayVec;
-use pl_cli::Status;
 use pl_explain::{Ended, KeptReader, KeptWriter, LastLine, explain};
 use pl_hostdir::{AfterProgress, HostFolder, Progress};
 use pl_io::{StdSink, StdSource};
 use pl_safe::run;
+use pl_words::Status;
 use std::alloc::{AllocError, Global};
 use std::env::{self, Args};
 use std::io;

@@ -1,9 +1,9 @@
 use Rattle.std.proofs.Common.{sym, ◌∙◌, subst}
 use Rattle.std.specs.Prelude.{Result, Err}
 use Rattle.pl_base.specs.Answers.{Answers}
-use Rattle.pl_known.specs.Taken.{files_in, names_of}
-use Rattle.pl_plan.specs.Faults.{is_memory}
-use Rattle.pl_plan.specs.declared.fault.PlanningFault.{PlanningFault}
+use Rattle.pl_rewrite.specs.Taken.{files_in, names_of}
+use Rattle.pl_cone.specs.Faults.{is_memory}
+use Rattle.pl_cone.specs.declared.fault.PlanningFault.{PlanningFault}
 use Rattle.pl_rewrite.specs.declared.rewriting.Rewritten.{Rewritten}
 use Rattle.pl_batch.specs.All.{made_of}
 use Rattle.pl_batch.specs.Answers.{BatchMeansAlone, of_plan}

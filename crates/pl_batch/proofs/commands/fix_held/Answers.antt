@@ -1,5 +1,5 @@
 use Rattle.std.proofs.Common.{◌≡◌, List, true, sym, ◌∙◌, subst}
-use Rattle.pl_fix.proofs.HoldLaws.{then_holds, unasked}
+use Rattle.pl_pie.proofs.HoldLaws.{then_holds, unasked}
 use Rattle.pl_folder.specs.Calls.{Calls}
 use Rattle.pl_folder.specs.Seen.{Done}
 use Rattle.pl_journal.specs.Faults.{journal_ending}

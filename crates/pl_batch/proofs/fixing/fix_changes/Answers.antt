@@ -1,7 +1,7 @@
 use Rattle.std.proofs.Common.{◌≡◌, ◌<◌, ◌^◌, ℕ, List, length, sym, subst}
 use Rattle.std.specs.Prelude.{Err, Ok}
 use Rattle.pl_base.proofs.NameLaws.{valid_length}
-use Rattle.pl_fix.proofs.HoldLaws.{then_holds, unasked}
+use Rattle.pl_pie.proofs.HoldLaws.{then_holds, unasked}
 use Rattle.pl_folder.specs.Calls.{Calls}
 use Rattle.pl_journal.specs.Parts.{Looking}
 use Rattle.pl_batch.specs.Answers.{BatchMeansAlone, ending}

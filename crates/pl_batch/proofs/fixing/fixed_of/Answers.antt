@@ -1,8 +1,8 @@
 use Rattle.std.proofs.Common.{◌≡◌, ℕ, List, sym, ap, ◌∙◌}
 use Rattle.std.specs.Prelude.{Err, Result}
-use Rattle.pl_fix.specs.Fixing.{placed}
-use Rattle.pl_fix.specs.declared.placing.Placing.TheVariants as placings
-use Rattle.pl_fix.proofs.HoldLaws.{then_holds, unasked}
+use Rattle.pl_pie.specs.Placed.{placed}
+use Rattle.pl_pie.specs.declared.placing.Placing.TheVariants as placings
+use Rattle.pl_pie.proofs.HoldLaws.{then_holds, unasked}
 use Rattle.pl_batch.specs.Answers.{BatchMeansAlone}
 use Rattle.pl_batch.specs.Replace.{fixed_by, fixed_of}
 use Rattle.pl_batch.specs.declared.cause.Cause.{Cause}

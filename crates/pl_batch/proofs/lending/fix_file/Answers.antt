@@ -1,5 +1,5 @@
 use Rattle.std.proofs.Common.{◌≡◌, rules, subst}
-use Rattle.pl_fix.proofs.HoldLaws.{then_holds}
+use Rattle.pl_pie.proofs.HoldLaws.{then_holds}
 use Rattle.pl_folder.specs.Calls.{Calls}
 use Rattle.pl_folder.specs.Seen.{Seen}
 use Rattle.pl_batch.specs.Answers.{ending}

@@ -1,5 +1,5 @@
 use Rattle.std.proofs.Common.{rules}
-use Rattle.pl_fix.proofs.HoldLaws.{by_function}
+use Rattle.pl_pie.proofs.HoldLaws.{by_function}
 use Rattle.pl_cli.specs.Came.{HasFixed}
 use Rattle.pl_cli.specs.Load.{choice}
 use Rattle.pl_cli.specs.Stops.{of_batch_fault}

@@ -1,5 +1,5 @@
 use Rattle.std.proofs.Common.{◌≡◌, ◌+◌, drop}
-use Rattle.pl_parts.specs.Back.{wanted}
+use Rattle.pl_form.specs.Back.{wanted}
 use Rattle.pl_form.proofs.back.are_filled.Given as goal
 
 abbrev pub invariant-loop-spot : goal.invariant-loop-spot

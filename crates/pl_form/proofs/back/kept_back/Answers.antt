@@ -1,6 +1,6 @@
 use Rattle.std.proofs.Common.{◌≡◌, ℕ, length, subst, rules}
 use Rattle.pl_base.specs.Windows.{AllIn}
-use Rattle.pl_parts.specs.Back.{spot_windows}
+use Rattle.pl_form.specs.Back.{spot_windows}
 use Rattle.pl_form.proofs.BackLaws.{places_fit}
 use Rattle.pl_form.proofs.back.kept_back.Goals as goal
 

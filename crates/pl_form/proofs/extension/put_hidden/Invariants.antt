@@ -1,5 +1,5 @@
 use Rattle.pl_base.specs.Windows.{put_all}
-use Rattle.pl_parts.specs.Parts.{hidden}
+use Rattle.pl_form.specs.Parts.{hidden}
 use Rattle.pl_form.proofs.ExtensionLaws.{IsHiding}
 use Rattle.pl_form.proofs.extension.put_hidden.Given as goal
 

@@ -1,6 +1,6 @@
 use Rattle.std.proofs.Common.{◌≡◌, ◌++◌, drop}
 use Rattle.pl_object.specs.Tables.{symtab_windows}
-use Rattle.pl_parts.specs.Found.{symtab_tables}
+use Rattle.pl_form.specs.Found.{symtab_tables}
 use Rattle.pl_form.proofs.found.push_symtabs.Given as goal
 
 abbrev pub invariant-loop-section : goal.invariant-loop-section

@@ -1,10 +1,10 @@
 use Rattle.std.proofs.Common.{◌≡◌, ℕ, List, length, subst, sym, ap, ◌∙◌}
 use Rattle.pl_base.specs.Windows.{AllIn}
 use Rattle.pl_object.proofs.AcceptedLaws.{accepted}
-use Rattle.pl_parts.specs.Back.{spot_windows}
-use Rattle.pl_parts.specs.Found.{ps_of}
-use Rattle.pl_parts.specs.Parts.{Original}
-use Rattle.pl_parts.specs.declared.parts.Spot.{Spot}
+use Rattle.pl_form.specs.Back.{spot_windows}
+use Rattle.pl_form.specs.Found.{ps_of}
+use Rattle.pl_form.specs.Parts.{Original}
+use Rattle.pl_form.specs.declared.parts.Spot.{Spot}
 use Rattle.pl_form.specs.Library.{library_with}
 use Rattle.pl_form.specs.Words.{all_filled}
 use Rattle.pl_form.proofs.LayoutLaws.{length-all_filled}

@@ -1,5 +1,5 @@
 use Rattle.std.proofs.Common.{◌≤◌, ℕ, List, length, subst, sym, ◌∙◌, arith}
-use Rattle.pl_parts.specs.declared.parts.Listed.{Listed}
+use Rattle.pl_form.specs.declared.parts.Listed.{Listed}
 use Rattle.pl_form.specs.Library.{most_bytes, IsShortList}
 use Rattle.pl_form.proofs.KeptLaws.{library_most_with}
 use Rattle.pl_form.proofs.ReadyLaws.{library_with_is}

@@ -1,5 +1,5 @@
 use Rattle.std.proofs.Common.{◌≡◌, ◌++◌, drop}
-use Rattle.pl_parts.specs.Back.{memory_of}
+use Rattle.pl_form.specs.Back.{memory_of}
 use Rattle.pl_form.proofs.places.push_all_memory.Given as goal
 
 abbrev pub invariant-loop-spot : goal.invariant-loop-spot

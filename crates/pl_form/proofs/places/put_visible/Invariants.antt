@@ -1,5 +1,5 @@
 use Rattle.pl_base.specs.Windows.{put_all}
-use Rattle.pl_parts.specs.Back.{visible}
+use Rattle.pl_form.specs.Back.{visible}
 use Rattle.pl_form.proofs.PlaceLaws.{IsPutting}
 use Rattle.pl_form.proofs.places.put_visible.Given as goal
 

@@ -1,8 +1,8 @@
 use Rattle.std.proofs.Common.{List, length, ap, ◌∙◌, arith}
 use Rattle.pl_elf.specs.declared.section.Section.{Section}
 use Rattle.pl_elf.specs.declared.segment.Segment.{Segment}
-use Rattle.pl_parts.specs.Parts.{extension, whole_extension}
-use Rattle.pl_parts.specs.declared.parts.Spot.{Spot}
+use Rattle.pl_form.specs.Parts.{extension, whole_extension}
+use Rattle.pl_form.specs.declared.parts.Spot.{Spot}
 use Rattle.pl_form.specs.Extending.{all_sections, split_segments}
 use Rattle.pl_form.specs.Faults.{cut_of}
 use Rattle.pl_form.proofs.LengthLaws.{names_most}

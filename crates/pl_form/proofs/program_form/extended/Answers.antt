@@ -1,7 +1,7 @@
 use Rattle.std.proofs.Common.{sym, ap, ◌∙◌, arith}
 use Rattle.pl_object.proofs.AcceptedLaws.{accepted}
-use Rattle.pl_parts.specs.Forms.{program_form, original_of}
-use Rattle.pl_parts.specs.Found.{ss_of}
+use Rattle.pl_form.specs.Forms.{program_form, original_of}
+use Rattle.pl_form.specs.Found.{ss_of}
 use Rattle.pl_form.specs.Program.{find_last, last_index}
 use Rattle.pl_form.specs.Words.{kept_digest}
 use Rattle.pl_form.proofs.ReadyLaws.{names_ready, ready, last_ready, extended_ready, program_fit, program_whole, extended_none, extended_some}

@@ -1,7 +1,7 @@
 use Rattle.std.proofs.Common.{length, sym}
 use Rattle.std.specs.Prelude.{◌==◌}
 use Rattle.std.proofs.lemmas.Bool.{and_parts}
-use Rattle.pl_parts.specs.Back.{wanted}
+use Rattle.pl_form.specs.Back.{wanted}
 use Rattle.pl_form.specs.Reading.{is_placed}
 use Rattle.pl_form.proofs.MarkedLaws.{made_align}
 use Rattle.pl_form.proofs.SoundLaws.{placed_even}

@@ -1,8 +1,8 @@
 use Rattle.std.proofs.Common.{◌≡◌, ℕ, List, Some, true, false, sym, ap, subst, ◌∙◌, rules}
 use Rattle.pl_elf.specs.Kinds.{is_library}
 use Rattle.pl_object.specs.PlaceClauses.{last_load}
-use Rattle.pl_parts.specs.Back.{front_of}
-use Rattle.pl_parts.specs.Found.{ps_of}
+use Rattle.pl_form.specs.Back.{front_of}
+use Rattle.pl_form.specs.Found.{ps_of}
 use Rattle.pl_form.specs.Reading.{firm_object, lists_in, standing, zeros_behind, is_form, IsMade}
 use Rattle.pl_form.proofs.MarkedLaws.{own_here, head_here, spelled_here, candidate_original, layout_here, flat_is, marked_found, marked_missed}
 use Rattle.pl_form.proofs.SoundLaws.{made_of}

@@ -1,5 +1,5 @@
 use Rattle.std.proofs.Common.{◌≡◌, ◌++◌, drop}
-use Rattle.pl_parts.specs.Back.{all_within}
+use Rattle.pl_form.specs.Back.{all_within}
 use Rattle.pl_form.proofs.windows.all_bytes.Given as goal
 
 abbrev pub invariant-loop-window : goal.invariant-loop-window

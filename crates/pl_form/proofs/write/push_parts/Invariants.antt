@@ -1,5 +1,5 @@
 use Rattle.std.proofs.Common.{◌≡◌, drop}
-use Rattle.pl_parts.specs.Parts.{joined}
+use Rattle.pl_form.specs.Parts.{joined}
 use Rattle.pl_form.proofs.write.push_parts.Given as goal
 
 abbrev pub invariant-loop-part : goal.invariant-loop-part

@@ -1,7 +1,7 @@
 use Rattle.std.proofs.Common.{◌≡◌, ◌++◌, ℕ, List, [], ◌∷◌, length, take, drop, sym, ap, ◌∙◌, arith}
 use Rattle.std.proofs.lemmas.Bool.{eqb-true}
 use Rattle.std.proofs.lemmas.List.{append-nil, take-append-drop}
-use Rattle.pl_parts.specs.Back.{inserted}
+use Rattle.pl_form.specs.Back.{inserted}
 use Rattle.pl_form.proofs.write.with_inserted.Goals as goal
 
 none_inserted : (cut : ℕ) (more bytes : List ℕ) → length more ≡ 0 → bytes ≡ inserted cut more bytes

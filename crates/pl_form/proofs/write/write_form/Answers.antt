@@ -6,7 +6,7 @@ use Rattle.pl_elf.specs.Headers.{header}
 use Rattle.pl_elf.specs.Written.{header_bytes, section_header_bytes}
 use Rattle.pl_elf.specs.declared.header.Header.{Header}
 use Rattle.pl_elf.specs.declared.section.Section.{Section}
-use Rattle.pl_parts.specs.Parts.{up, joined, all_names}
+use Rattle.pl_form.specs.Parts.{up, joined, all_names}
 use Rattle.pl_form.specs.Ends.{names_end, ended_rows, header_with}
 use Rattle.pl_form.specs.Originals.{original}
 use Rattle.pl_form.proofs.WriteLaws.{lies_in, ends_small, long_enough, written}

@@ -1,5 +1,5 @@
 use Rattle.std.proofs.Common.{◌≡◌, ◌++◌, drop, length}
-use Rattle.pl_parts.specs.Loads.{pieces_of}
+use Rattle.pl_form.specs.Loads.{pieces_of}
 use Rattle.pl_loader.proofs.standing.pieces.Given as goal
 
 abbrev pub invariant-loop-segment : goal.invariant-loop-segment

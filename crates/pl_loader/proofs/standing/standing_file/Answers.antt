@@ -3,7 +3,7 @@ use Rattle.pl_base.specs.Memory.{Piece}
 use Rattle.pl_elf.specs.Headers.{header, segments}
 use Rattle.pl_image.specs.Image.{ascends}
 use Rattle.pl_image.proofs.PlacedLaws.{pieces_ascend}
-use Rattle.pl_parts.specs.Loads.{pieces_of}
+use Rattle.pl_form.specs.Loads.{pieces_of}
 use Rattle.pl_loader.specs.Fast.{stored}
 use Rattle.pl_loader.proofs.StandingLaws.{stored_header, stored_segments, low_if, standing_ascends, standing_whole}
 use Rattle.pl_loader.proofs.standing.standing_file.Goals as goal

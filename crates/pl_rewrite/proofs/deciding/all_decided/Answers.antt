@@ -1,7 +1,7 @@
 use Rattle.std.proofs.Common.{◌≡◌, List, [], Some, sym, subst}
 use Rattle.std.specs.List.{AllZip}
-use Rattle.pl_known.proofs.FindLaws.{zip_more}
-use Rattle.pl_known.specs.declared.taken.Taken.{Taken}
+use Rattle.pl_rewrite.proofs.FindLaws.{zip_more}
+use Rattle.pl_rewrite.specs.declared.taken.Taken.{Taken}
 use Rattle.pl_rewrite.specs.Deciding.{IsDecided}
 use Rattle.pl_rewrite.specs.Members.{found}
 use Rattle.pl_rewrite.specs.declared.deciding.Decided.{Decided}

@@ -1,6 +1,6 @@
 use Rattle.std.proofs.Common.{◌≡◌, ℕ, List, Some, None, sym, ap, ◌∙◌}
 use Rattle.pl_cone.specs.Candidates.{prelinkable}
-use Rattle.pl_plan.specs.Wants.{cause_of}
+use Rattle.pl_cone.specs.Wants.{cause_of}
 use Rattle.pl_rewrite.proofs.MadeLaws.{cause_none, cause_some, run_read}
 use Rattle.pl_rewrite.proofs.making.made_skipped.Goals as goal
 

@@ -1,7 +1,7 @@
 use Rattle.std.proofs.Common.{◌≡◌, Some, sym, subst}
 use Rattle.std.specs.List.{All}
 use Rattle.std.proofs.lemmas.List.Elements.{All-nil, All-push}
-use Rattle.pl_known.specs.declared.taken.Taken.{Taken}
+use Rattle.pl_rewrite.specs.declared.taken.Taken.{Taken}
 use Rattle.pl_rewrite.specs.Members.{IsRunDigest, found}
 use Rattle.pl_rewrite.proofs.FileLaws.{found_at}
 use Rattle.pl_rewrite.proofs.once.digests_of.Goals as goal

@@ -3,8 +3,8 @@ use Rattle.std.specs.Prelude.{IfSome}
 use Rattle.std.specs.List.{All, IsDistinct}
 use Rattle.std.specs.Str.{bytes_eq}
 use Rattle.std.proofs.lemmas.List.Elements.{All-nil, All-push}
-use Rattle.pl_known.specs.Taken.{names_of}
-use Rattle.pl_known.specs.declared.taken.Taken.{Taken}
+use Rattle.pl_rewrite.specs.Taken.{names_of}
+use Rattle.pl_rewrite.specs.declared.taken.Taken.{Taken}
 use Rattle.pl_rewrite.specs.Members.{IsPrelinked, found}
 use Rattle.pl_rewrite.specs.declared.running.MadeFile.{MadeFile}
 use Rattle.pl_rewrite.proofs.FileLaws.{found_at}

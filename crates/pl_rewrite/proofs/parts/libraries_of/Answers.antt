@@ -2,7 +2,7 @@ use Rattle.std.proofs.Common.{◌≡◌, Option, Some, Vec, Global, ap, sym, sub
 use Rattle.std.specs.Prelude.{IfSome}
 use Rattle.std.specs.List.{All}
 use Rattle.std.proofs.lemmas.List.Elements.{All-nil, All-push}
-use Rattle.pl_known.specs.declared.taken.Taken.{Taken}
+use Rattle.pl_rewrite.specs.declared.taken.Taken.{Taken}
 use Rattle.pl_rewrite.specs.Members.{IsRunLibrary, found}
 use Rattle.pl_rewrite.specs.declared.running.Library.{Library}
 use Rattle.pl_rewrite.proofs.FileLaws.{found_at}

@@ -3,9 +3,9 @@ use Rattle.std.specs.Prelude.{IfSome}
 use Rattle.std.specs.Option.{option_map}
 use Rattle.pl_conflict.specs.Prelinked.{Firm, stored}
 use Rattle.pl_lists.specs.declared.list_row.ListRow.{ListRow}
-use Rattle.pl_prelinked.specs.Lent.{list_after}
-use Rattle.pl_prelinked.specs.Libraries.{AreHeldIn, AreWordsIn, HasFormWith, file_with, words_in}
-use Rattle.pl_prelinked.proofs.FirmLaws.{parts_are}
+use Rattle.pl_rewrite.specs.Lent.{list_after}
+use Rattle.pl_rewrite.specs.Libraries.{AreHeldIn, AreWordsIn, HasFormWith, file_with, words_in}
+use Rattle.pl_rewrite.proofs.FirmLaws.{parts_are}
 use Rattle.pl_rewrite.specs.Words.{words_by}
 use Rattle.pl_rewrite.specs.declared.running.FileParts.{FileParts}
 use Rattle.pl_rewrite.specs.declared.running.Library.{Library}

@@ -1,7 +1,7 @@
 use Rattle.std.proofs.Common.{◌≡◌, ℕ, List, sym, ap, ◌∙◌}
 use Rattle.std.proofs.lemmas.Bool.{not-false}
-use Rattle.pl_known.specs.Plans.{is_candidate}
-use Rattle.pl_plan.specs.declared.standing.Standing.{Standing}
+use Rattle.pl_rewrite.specs.Plans.{is_candidate}
+use Rattle.pl_cone.specs.declared.standing.Standing.{Standing}
 use Rattle.pl_rewrite.specs.Members.{files_of, is_skipped}
 use Rattle.pl_rewrite.proofs.MadeLaws.{skipped_is}
 use Rattle.pl_rewrite.proofs.parts.library_in.Goals as goal

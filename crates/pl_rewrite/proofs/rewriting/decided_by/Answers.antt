@@ -1,8 +1,8 @@
 use Rattle.std.proofs.Common.{List, length, sym, ap, subst, arith}
 use Rattle.std.proofs.lemmas.List.Elements.{All-nil}
 use Rattle.pl_cone.specs.declared.known.Known.{Known}
-use Rattle.pl_known.specs.Laws.{Knows}
-use Rattle.pl_known.specs.Taken.{files_in, names_of}
+use Rattle.pl_rewrite.specs.Agreement.{Knows}
+use Rattle.pl_rewrite.specs.Taken.{files_in, names_of}
 use Rattle.pl_rewrite.specs.declared.running.Library.{Library}
 use Rattle.pl_rewrite.specs.declared.running.MadeFile.{MadeFile}
 use Rattle.pl_rewrite.proofs.DecidingLaws.{all_are}

@@ -3,7 +3,7 @@ use Rattle.std.specs.Vec.Iter.{into_iter_items, into_iter_len}
 use Rattle.std.proofs.lemmas.Iterator.Adapters.{YieldsList-from_vec}
 use Rattle.std.proofs.lemmas.Iterator.Consumers.{YieldsList-end, YieldsList-turn}
 use Rattle.std.proofs.lemmas.List.{length-map, length_push}
-use Rattle.pl_known.specs.Taken.{files_in, names_of}
+use Rattle.pl_rewrite.specs.Taken.{files_in, names_of}
 use Rattle.pl_rewrite.specs.Finishing.{bare_of}
 use Rattle.pl_rewrite.proofs.FinishingLaws.{Decides, made_next, may_be, more_left, next_is, some_left}
 use Rattle.pl_rewrite.proofs.PlanLaws.{made_done, made_none, rewritten_is}

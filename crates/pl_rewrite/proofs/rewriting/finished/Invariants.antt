@@ -1,7 +1,7 @@
 use Rattle.std.proofs.Common.{◌≡◌, ◌+◌, length, drop}
 use Rattle.std.specs.Prelude.{take}
 use Rattle.std.specs.Vec.Iter.{into_iter_items, into_iter_len}
-use Rattle.pl_known.specs.Taken.{files_in, names_of}
+use Rattle.pl_rewrite.specs.Taken.{files_in, names_of}
 use Rattle.pl_rewrite.specs.Rewriting as whole
 use Rattle.pl_rewrite.proofs.rewriting.finished.Given as goal
 

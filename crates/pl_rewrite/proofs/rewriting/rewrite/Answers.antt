@@ -1,7 +1,7 @@
 use Rattle.std.proofs.Common.{◌≡◌, List, Ok, sym, ap, subst, ◌∙◌}
-use Rattle.pl_known.specs.Plans.{planned}
-use Rattle.pl_known.specs.Taken.{AreTaken, files_in, names_of}
-use Rattle.pl_known.specs.declared.taken.Taken.{Taken}
+use Rattle.pl_rewrite.specs.Plans.{planned}
+use Rattle.pl_rewrite.specs.Taken.{AreTaken, files_in, names_of}
+use Rattle.pl_rewrite.specs.declared.taken.Taken.{Taken}
 use Rattle.pl_rewrite.specs.Rewriting.{AreDecided, rewritten}
 use Rattle.pl_rewrite.specs.declared.rewriting.Rewritten.{Rewritten}
 use Rattle.pl_rewrite.proofs.PlanLaws.{rewrite_is}

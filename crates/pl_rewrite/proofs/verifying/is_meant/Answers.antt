@@ -1,7 +1,7 @@
 use Rattle.std.proofs.Common.{List, sym, subst}
 use Rattle.pl_cone.specs.declared.known.Known.{Known}
-use Rattle.pl_known.specs.Laws.{Knows}
-use Rattle.pl_known.specs.Taken.{files_in}
+use Rattle.pl_rewrite.specs.Agreement.{Knows}
+use Rattle.pl_rewrite.specs.Taken.{files_in}
 use Rattle.pl_rewrite.proofs.verifying.is_meant.Goals as goal
 
 pub meant-requires : goal.meant-requires

@@ -1,6 +1,6 @@
 use Rattle.std.proofs.Common.{◌≡◌, ℕ, Bool, List, sym, subst}
 use Rattle.std.specs.Prelude.{IfOk}
-use Rattle.pl_known.specs.Taken.{files_in}
+use Rattle.pl_rewrite.specs.Taken.{files_in}
 use Rattle.pl_rewrite.specs.Verify.{is_verified}
 use Rattle.pl_rewrite.proofs.FileLaws.{found_name, found_own}
 use Rattle.pl_rewrite.proofs.VerifyLaws.{no_file}

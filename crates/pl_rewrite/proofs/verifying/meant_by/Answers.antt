@@ -4,7 +4,7 @@ use Rattle.std.specs.Option.{option_map}
 use Rattle.std.specs.declared.alloc.Global.{Global}
 use Rattle.pl_conflict.specs.Prelinked as form
 use Rattle.pl_conflict.specs.Prelinked.{Firm}
-use Rattle.pl_prelinked.specs.Sources.{AreSources, members}
+use Rattle.pl_rewrite.specs.Sources.{AreSources, members}
 use Rattle.pl_scope.specs.Walk.{Walked}
 use Rattle.pl_rewrite.proofs.VerifyLaws.{none_meant, sources_fit, sources_meant}
 use Rattle.pl_rewrite.proofs.verifying.meant_by.Goals as goal

@@ -2,7 +2,7 @@ use Rattle.std.proofs.Common.{◌≡◌, ℕ, List, Option, sym, subst}
 use Rattle.std.specs.Borrow.{Bor}
 use Rattle.std.specs.Prelude.{IfOk}
 use Rattle.std.specs.Option.{option_map}
-use Rattle.pl_known.specs.Taken.{files_in}
+use Rattle.pl_rewrite.specs.Taken.{files_in}
 use Rattle.pl_rewrite.specs.Verify.{verified_original}
 use Rattle.pl_rewrite.proofs.FileLaws.{found_name, found_own}
 use Rattle.pl_rewrite.proofs.VerifyLaws.{no_original}

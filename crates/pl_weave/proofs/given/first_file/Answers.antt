@@ -1,7 +1,7 @@
 use Rattle.std.proofs.Common.{◌≡◌, ◌∙◌, ℕ, List, Ok, Err, ap, sym}
-use Rattle.pl_fix.specs.Fixing.{placed}
-use Rattle.pl_fix.specs.declared.placing.Placing.TheVariants as placings
-use Rattle.pl_fix.proofs.HoldLaws.{by_function}
+use Rattle.pl_pie.specs.Placed.{placed}
+use Rattle.pl_pie.specs.declared.placing.Placing.TheVariants as placings
+use Rattle.pl_pie.proofs.HoldLaws.{by_function}
 use Rattle.pl_loader.specs.declared.fault.LoadFault.TheVariants as faults
 use Rattle.pl_weave.specs.Given.{first_by, first_of}
 use Rattle.pl_weave.proofs.given.first_file.Goals as goal

@@ -1,5 +1,0 @@
-use Rattle.pl_fixed.proofs.Theorem.{fixed_is_ordinary}
-use Rattle.pl_fixed.proofs.law.fixed_is_ordinary.Goals as goal
-
-pub returns : goal.returns
-returns c = fixed_is_ordinary

@@ -1,5 +1,0 @@
-pub mod FolderLaws
-pub mod SingleLaws
-pub mod OneSymbolLaws
-pub mod OneWordLaws
-pub mod StepLaws

@@ -1,4 +1,0 @@
-pub mod Folder
-pub mod Definers
-pub mod OneSymbol
-pub mod OneWord

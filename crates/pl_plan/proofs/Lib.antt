@@ -1,5 +1,0 @@
-pub mod LoopLaws
-pub mod AlignLaws
-pub mod SameLaws
-pub mod AgreeLaws
-pub mod CurrentLaws

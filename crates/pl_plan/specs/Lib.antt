@@ -1,4 +1,0 @@
-pub mod Faults
-pub mod Wants
-pub mod RunPlan
-pub mod Laws

@@ -1,0 +1,29 @@
+use Rattle.std.proofs.Common.{ap, sym}
+use Rattle.pl_value.specs.declared.fault.OrdinaryFault.TheVariants.{Link}
+use Rattle.pl_conflict.specs.Prelinked.{objects_of, parts_of, slots_of}
+use Rattle.pl_value.specs.Ordinary.{loaded_objects}
+use Rattle.pl_rewrite.specs.Programs.{result_ok}
+use Rattle.pl_rewrite.proofs.FirmLaws.{one_each, objects_walked}
+use Rattle.pl_rewrite.proofs.ProgramLaws.{are_compared, link_none, no_conflicts}
+use Rattle.pl_rewrite.proofs.WatchedLaws.{have_values}
+use Rattle.pl_rewrite.proofs.program.rows_among.Goals as goal
+
+pub conflicts_among-requires-clause-one_each : goal.conflicts_among-requires-clause-one_each
+conflicts_among-requires-clause-one_each c = rw (c.in_ok-places.ensures, c.in_ok-scope.ensures) (one_each c.args.sources.now)
+
+pub conflicts_among-requires-clause-known : goal.conflicts_among-requires-clause-known
+conflicts_among-requires-clause-known c =
+    let rs = c.args.sources.now in
+    rw (c.in_ok-places.ensures, c.in_ok-scope.ensures, objects_walked rs) (have_values (objects_of rs) (slots_of rs) c.args.modules.now (loaded_objects (slots_of rs) (parts_of rs) (objects_of rs)) c.args.conflict_free.now c.requires.conflict_free)
+
+pub returns-in-Ok : goal.returns-in-Ok
+returns-in-Ok c =
+    let rs = c.args.sources.now in
+    let rowed = rw (c.in_ok-places.ensures, c.in_ok-scope.ensures, objects_walked rs) at c.in-Ok.ensures.exact in
+    sym (ap result_ok (rowed (parts_of rs) (are_compared rs c.requires.sources c.requires.set) c.requires.conflict_free c.requires.held))
+
+pub returns-in-Err-Link : goal.returns-in-Err-Link
+returns-in-Err-Link c =
+    let rs = c.args.sources.now in
+    let refused = rw (c.in_ok-places.ensures, c.in_ok-scope.ensures, objects_walked rs) at c.in-Err-Link.ensures.refused in
+    no_conflicts rs c.args.modules.now (link_none Link _ _ (rw c.in-Err-Link.field-0-is at refused))

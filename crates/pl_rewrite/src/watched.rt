@@ -1,0 +1,133 @@
+// The addresses on which the file of a program depends.
+ghost use Rattle.std.specs.Prelude.{◌≡◌, ◌<◌, length};
+ghost use Rattle.std.specs.List.{All, list_all};
+ghost use Rattle.pl_scope.specs.Scope.{objects, IsSymbol};
+ghost use Rattle.pl_rewrite.specs.Watched as spec;
+
+use pl_base::end;
+use pl_conflict::meaning_of;
+use pl_elf::constants::R_X86_64_COPY;
+use pl_object::{Reloc, Window};
+use pl_scope::Scope;
+use pl_value::{Meaning, Places, Word};
+use std::alloc::{AllocError, Global};
+
+/// One window over the places of relocations, from the least address to the greatest end.
+fn hull(relocs: &[Reloc]) -> Window {
+    let mut first: u64 = u64::MAX;
+    let mut last: u64 = 0;
+    for reloc in relocs {
+        first = first.min(reloc.address);
+        last = last.max(reloc.address.saturating_add(reloc.width));
+    }
+    Window::new(u128::from(first), last.saturating_sub(first))
+}
+
+/// From where a relocation of the first member copies.
+fn source_of(scope: &Scope<'_>, places: &Places, reloc: &Reloc) -> Option<Window>
+    requires one_each { length places.now ≡ length scope.now }
+    requires first { 0 < length places.now }
+    requires reference { IsSymbol (objects scope.now) 0 reloc.now.symbol }
+{
+    if reloc.kind != R_X86_64_COPY {
+        return None;
+    }
+    match meaning_of(scope, places, &[], 0, reloc) {
+        Ok(
+            Meaning {
+                word: Word::Copy { from, bytes, .. },
+                ..
+            },
+        ) => Some(Window::new(u128::from(from), bytes)),
+        _ => None,
+    }
+}
+
+/// A window over places of relocations of the first member, and the windows from which they copy.
+fn windows_by(
+    alloc: Global,
+    scope: &Scope<'_>,
+    places: &Places,
+    relocs: &[Reloc],
+) -> Result<Vec<Window>, AllocError>
+    requires one_each { length places.now ≡ length scope.now }
+    requires first { 0 < length places.now }
+    requires references { All (λ r. IsSymbol (objects scope.now) 0 r.symbol) relocs.now }
+{
+    let mut windows = Vec::new(alloc);
+    windows.push(hull(relocs))?;
+    for reloc in relocs {
+        if let Some(window) = source_of(scope, places, reloc) {
+            windows.push(window)?;
+        }
+    }
+    Ok(windows)
+}
+
+/// A window over all places of the relocations of the first member, and the windows from which they copy. What the windows have is looked at again by `are_watched`.
+pub fn windows_of(
+    alloc: Global,
+    scope: &Scope<'_>,
+    places: &Places,
+) -> Result<Vec<Window>, AllocError>
+    requires one_each { length places.now ≡ length scope.now }
+    requires first { 0 < length scope.now }
+{
+    let relocs = scope.object(0).relocations.as_slice();
+    windows_by(alloc, scope, places, relocs)
+}
+
+/// Whether a window has so many addresses from one on.
+fn contains_bytes(window: &Window, from: u64, size: u64) -> bool
+    ensures { result ≡ spec.contains_bytes from size window.now }
+{
+    window.at() <= u128::from(from) && end(from, size) - window.at() <= u128::from(window.size())
+}
+
+/// Whether one of the windows has.
+fn is_watched(windows: &[Window], from: u64, size: u64) -> bool
+    ensures { result ≡ spec.is_watched windows.now from size }
+{
+    windows
+        .iter()
+        .any(|window| contains_bytes(window, from, size))
+}
+
+fn is_place_watched(windows: &[Window], reloc: &Reloc) -> bool
+    ensures { result ≡ spec.is_watched windows.now reloc.now.address reloc.now.width }
+{
+    is_watched(windows, reloc.address, reloc.width)
+}
+
+fn is_source_watched(windows: &[Window], meaning: &Meaning) -> bool
+    ensures { result ≡ spec.is_source_watched windows.now meaning.now.word }
+{
+    match meaning.word {
+        Word::Put(_) => true,
+        Word::Copy { from, bytes, .. } => is_watched(windows, from, bytes),
+        Word::Nothing => true,
+    }
+}
+
+/// Whether windows have all places of a program, which is loaded at 0.
+fn are_places_watched(windows: &[Window], relocs: &[Reloc]) -> bool
+    ensures { result ≡ spec.are_places_watched windows.now relocs.now }
+{
+    relocs.iter().all(|reloc| is_place_watched(windows, reloc))
+}
+
+/// Whether they have all from which is copied.
+fn are_sources_watched(windows: &[Window], meanings: &[Meaning]) -> bool
+    ensures { result ≡ spec.are_sources_watched windows.now meanings.now }
+{
+    meanings
+        .iter()
+        .all(|meaning| is_source_watched(windows, meaning))
+}
+
+/// Whether windows have all places of a program, which is loaded at 0, and all from which is copied.
+pub fn are_watched(windows: &[Window], relocs: &[Reloc], meanings: &[Meaning]) -> bool
+    ensures { result ≡ spec.are_watched windows.now relocs.now meanings.now }
+{
+    are_places_watched(windows, relocs) && are_sources_watched(windows, meanings)
+}

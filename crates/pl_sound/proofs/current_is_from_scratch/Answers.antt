@@ -1,5 +1,0 @@
-use Rattle.pl_sound.proofs.Theorems.{from_scratch}
-use Rattle.pl_sound.proofs.current_is_from_scratch.Goals as goal
-
-pub returns : goal.returns
-returns g c = from_scratch

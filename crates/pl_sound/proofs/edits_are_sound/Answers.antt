@@ -1,5 +1,0 @@
-use Rattle.pl_sound.proofs.Theorems.{edits}
-use Rattle.pl_sound.proofs.edits_are_sound.Goals as goal
-
-pub returns : goal.returns
-returns g c = edits

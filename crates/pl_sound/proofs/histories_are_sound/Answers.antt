@@ -1,5 +1,0 @@
-use Rattle.pl_sound.proofs.Theorems.{histories}
-use Rattle.pl_sound.proofs.histories_are_sound.Goals as goal
-
-pub returns : goal.returns
-returns g c = histories

@@ -1,5 +1,0 @@
-use Rattle.pl_sound.proofs.Theorems.{mixtures}
-use Rattle.pl_sound.proofs.mixtures_are_sound.Goals as goal
-
-pub returns : goal.returns
-returns g c = mixtures

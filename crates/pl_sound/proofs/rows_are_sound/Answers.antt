@@ -1,5 +1,0 @@
-use Rattle.pl_sound.proofs.Theorems.{rows}
-use Rattle.pl_sound.proofs.rows_are_sound.Goals as goal
-
-pub returns : goal.returns
-returns g c = rows

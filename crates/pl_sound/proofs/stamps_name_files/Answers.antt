@@ -1,5 +1,0 @@
-use Rattle.pl_sound.proofs.Theorems.{one_file}
-use Rattle.pl_sound.proofs.stamps_name_files.Goals as goal
-
-pub returns : goal.returns
-returns g c = one_file

@@ -1,5 +1,0 @@
-use Rattle.pl_sound.proofs.Theorems.{verified}
-use Rattle.pl_sound.proofs.verified_are_sound.Goals as goal
-
-pub returns : goal.returns
-returns g c = verified
