@@ -20,10 +20,10 @@ use Rattle.pl_journal.proofs.RecoverLemmas.{waited_now}
 -- ---- runs
 
 -- of the states of both disks, from a start
-abbrev Both : Type 1
+abbrev pub Both : Type 1
 Both = State → State → State → Type 0
 
-Any : Both
+abbrev pub Any : Both
 Any start s r = Unit {0}
 
 disk_then : (settle : State → State) (first second : List DiskCall) (d : Disk) → disk_by settle (first ++ second) d ≡ disk_by settle second (disk_by settle first d)
@@ -31,10 +31,10 @@ disk_then settle [] second d = refl
 disk_then settle (call ∷ first) second d = disk_then settle first second (after (step_by settle call d.now) d)
 
 -- a run that both disks make, from what has P to what has Q
-record Runs (P Q : Both) (old new : Disk) : Type 0 where
-  calls : List DiskCall
-  made : new ≡ disk_by settled calls old
-  both : (start : State) (real : Disk) → StaysAlike start old real → P start old.now real.now → StaysAlike start new (real_by calls real) × Q start new.now (real_by calls real).now
+pub record Runs (P Q : Both) (old new : Disk) : Type 0 where
+  pub calls : List DiskCall
+  pub made : new ≡ disk_by settled calls old
+  pub both : (start : State) (real : Disk) → StaysAlike start old real → P start old.now real.now → StaysAlike start new (real_by calls real) × Q start new.now (real_by calls real).now
 
 run_then : {P Q R : Both} {x y z : Disk} → Runs P Q x y → Runs Q R y z → Runs P R x z
 run_then {R = R} {x = x} {z = z} one two = record {
@@ -65,12 +65,12 @@ one_run {Q = Q} call {x = x} {y = y} step is = record {
       subst (λ (d : Disk). StaysAlike start d (after (step_by names_settled call real.now) real) × Q start d.now (step_by names_settled call real.now)) (sym is) ((new.0, alike), new.1);
 }
 
-waits_still : {P : Both} → Steps Wait P P
-waits_still start s r alike p = (alike, p)
+waits_still : (P : Both) → Steps Wait P P
+waits_still P start s r alike p = (alike, p)
 
 waited_run : {P : Both} {x y : Disk} → Waited x y → Runs P P x y
 waited_run (inl is) = no_run is
-waited_run (inr is) = one_run Wait waits_still is
+waited_run {P = P} (inr is) = one_run Wait (waits_still P) is
 
 module _ {P Q R : Both} (call : DiskCall) {x y : Disk} (step : Steps call P Q) (before : (start s r : State) → P start s r → R start s r) (then : (start s r : State) → Q start s r → R start s r) where
   does : (e : Ending) → StepsDisk (step_by settled call) e x y → Runs P R x y
@@ -84,19 +84,16 @@ module _ {P Q R : Both} (call : DiskCall) {x y : Disk} (step : Steps call P Q) (
   does_or_not Broken is = run_to before (waited_run is)
   does_or_not Undone is = run_to before (no_run is)
 
-itself : {P : Both} (start s r : State) → P start s r → P start s r
-itself start s r p = p
-
-anyway : {P : Both} (start s r : State) → P start s r → Any start s r
-anyway start s r p = tt
+itself : (P : Both) (start s r : State) → P start s r → P start s r
+itself P start s r p = p
 
 -- ---- the calls
 
 settles_both : Steps Settle ButLeft ButLeft
-settles_both start s r alike firm = (alike_settled start alike firm, settled_left start {s = s} {r = r} firm)
+settles_both start s r alike firm = (alike_settled start alike firm, settled_left start s r firm)
 
 removes_both : (name : Name) → Steps (Remove name) ButLeft ButLeft
-removes_both name start s r alike firm = (alike_removed start name alike, removed_left start name {s = s} {r = r} firm)
+removes_both name start s r alike firm = (alike_removed start name alike, removed_left start name s r firm)
 
 firms_both : (name : Name) → Steps (Firm name) ButLeft (λ start s r. FirmAt start name s r)
 firms_both name start s r alike firm = (alike_firmed start name alike, firmed_left start name alike firm)
@@ -155,7 +152,7 @@ on_any e run = record { calls = run.calls; made = run.made; alike = run.alike; f
 -- calls that only read
 looked_run : {P : Both} (k : ℕ) (d : Disk) → Runs P P d (waited k d)
 looked_run zero d = no_run refl
-looked_run (suc k) d = run_then (looked_run k d) (one_run Wait waits_still (ap (λ (s : State). after s (waited k d)) (sym (waited_now k d))))
+looked_run {P = P} (suc k) d = run_then (looked_run k d) (one_run Wait (waits_still P) (ap (λ (s : State). after s (waited k d)) (sym (waited_now k d))))
 
 pub on_looks : (e : Ending) {x y : Disk} → Looks x y → RunsFirmlyOn e x y
 on_looks e {x = x} {y = y} looks = on_any e (on_runs (subst (Runs ButLeft ButLeft x) (sym looks.waits.1) (looked_run looks.waits.0 x)))
@@ -170,10 +167,10 @@ firmly_then first second = record {
 }
 
 pub firmly_settled : {e : Ending} {a b : Seen} → Calls e (DoesOrNot settles) a b → RunsFirmly Done a b
-firmly_settled {e = e} call = of_runs call.records (λ told. does_or_not Settle settles_both itself itself e (call.disk told))
+firmly_settled {e = e} call = of_runs call.records (λ told. does_or_not Settle settles_both (itself ButLeft) (itself ButLeft) e (call.disk told))
 
 pub firmly_removed : {e : Ending} {a b : Seen} (name : Name) → Calls e (Does (removes name)) a b → RunsFirmly Done a b
-firmly_removed {e = e} name call = of_runs call.records (λ told. does (Remove name) (removes_both name) itself itself e (call.disk told))
+firmly_removed {e = e} name call = of_runs call.records (λ told. does (Remove name) (removes_both name) (itself ButLeft) (itself ButLeft) e (call.disk told))
 
 waits_run : (e : Ending) {x y : Disk} → Waits e x y → Runs ButLeft ButLeft x y
 waits_run Done is = waited_run (inr is)
@@ -185,7 +182,7 @@ firmly_idle {e = e} call = of_runs call.records (λ told. waits_run e (call.disk
 
 module _ (from to : Name) {x y : Disk} where
   then_renamed : (e : Ending) → StepsDisk (renamed from to) e (is_firm from x) y → Runs ButLeft ButLeft x y
-  then_renamed e is = run_then (one_run (Firm from) (firms_both from) refl) (does (Rename from to) (renames_both from to) (λ start s r firm. firm.0) itself e is)
+  then_renamed e is = run_then (one_run (Firm from) (firms_both from) refl) (does (Rename from to) (renames_both from to) (λ start s r firm. firm.0) (itself ButLeft) e is)
 
   named_run : (e : Ending) → NamesDisk from to e x y → Runs ButLeft ButLeft x y
   named_run Done is = then_renamed Done is
@@ -213,13 +210,13 @@ grows name bytes Broken (inr some) = one_run (Append name (take some.0 bytes)) (
 grows name bytes Undone is = no_run is
 
 pub created_alike : {e : Ending} {a b : Seen} (name : Name) → Calls e (Does (creates name)) a b → Alike a b
-created_alike {e = e} name call = record { records = call.records; alike = λ told. does (Create name) (creates_any name) itself itself e (call.disk told) }
+created_alike {e = e} name call = record { records = call.records; alike = λ told. does (Create name) (creates_any name) (itself Any) (itself Any) e (call.disk told) }
 
 pub appended_alike : {e : Ending} {a b : Seen} (name : Name) (bytes : List ℕ) → Calls e (Appends name bytes) a b → Alike a b
 appended_alike {e = e} name bytes call = record { records = call.records; alike = λ told. grows name bytes e (call.disk told) }
 
 pub firmed_alike : {e : Ending} {a b : Seen} (name : Name) → Calls e (DoesOrNot (firms name)) a b → Alike a b
-firmed_alike {e = e} name call = record { records = call.records; alike = λ told. does_or_not (Firm name) (firms_any name) itself itself e (call.disk told) }
+firmed_alike {e = e} name call = record { records = call.records; alike = λ told. does_or_not (Firm name) (firms_any name) (itself Any) (itself Any) e (call.disk told) }
 
 on_stopped : (e : Ending) {x y : Disk} → Rattle.pl_journal.proofs.Endings.Stops e → Runs Any Any x y → RunsFirmlyOn e x y
 on_stopped e stops run = record { calls = run.calls; made = run.made; alike = λ start real beside. (run.both start real beside.alike tt).0; firm = stopped _ e stops }
@@ -267,7 +264,7 @@ module _ (start : State) (firm : AllFirm start) where
 pub firm_same : FirmDisksStaySame
 firm_same e old new run firm = (
   same_disk old.now firm new (real_by run.calls old) (run_beside e old new run).0,
-  at_done e (λ beside. subst (λ (d : Disk). AllFirm d.now) (sym (same_disk old.now firm new (real_by run.calls old) beside.alike)) (left_firm old.now firm {s = new.now} {r = (real_by run.calls old).now} beside.firm)) (run_beside e old new run).1,
+  at_done e (λ beside. subst (λ (d : Disk). AllFirm d.now) (sym (same_disk old.now firm new (real_by run.calls old) beside.alike)) (left_firm old.now firm new.now (real_by run.calls old).now beside.firm)) (run_beside e old new run).1,
 )
 
 module _ (start : State) where

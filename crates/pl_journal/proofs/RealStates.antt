@@ -3,7 +3,7 @@ use Rattle.std.proofs.Common.{◌≡◌, ◌⊎◌, inl, inr, ⊎_elim, ℕ, ◌
 use Rattle.std.proofs.lemmas.Bool.{both_ways, cases_Bool, cases_lt, cases_order, cond-true, cond-false, eq-eqb, eqb-true}
 use Rattle.pl_folder.specs.Disk.{Name, Names, View, Content, NameChange, Bind, Move, Unbind, State, IsImage, Shows, all_kept, bytes_of, kept, names_of, read, same}
 use Rattle.pl_folder.specs.States.{appended, appended_to, created, firmed, firmed_at, moved, removed, renamed, settled, with_file}
-use Rattle.pl_folder.proofs.ImageLaws.{itself, no_changes, read_image}
+use Rattle.pl_folder.proofs.ImageLaws.{itself}
 use Rattle.pl_journal.specs.RealDisk.{IsAlike, IsLeftLoose, IsLooseName, IsLooseThere, IsNotMade, LosesLoose, names_settled}
 
 -- a file is another one
@@ -17,6 +17,14 @@ same_some e = cc
 bound_here : {X : Type 0} (b : Bool) (x y z : X) → cond b x y ≡ z → (x ≡ z) ⊎ (y ≡ z)
 bound_here true x y z is = inl is
 bound_here false x y z is = inr is
+
+no_changes : (keep : List Bool) (base : Names) (n : Name) → kept keep [] base n ≡ base n
+no_changes [] base n = refl
+no_changes (k ∷ keep) base n = refl
+
+whole_file : (files : ℕ → Content) (at : Option ℕ) → Shows files at (bytes_of files at)
+whole_file files None = refl
+whole_file files (Some f) = λ firm. refl
 
 module _ (start : State) where
   -- the real disk's files are firm, but for those that were left loose
@@ -214,11 +222,11 @@ module _ (start : State) where
 
   -- ---- which files are firm after it
 
-  pub settled_left : {s r : State} → ButLeft s r → ButLeft (settled s) (names_settled r)
-  settled_left {s = s} firm file = ⊎_elim inl (λ left. inr (left_settled s file left)) (firm file)
+  pub settled_left : (s r : State) → ButLeft s r → ButLeft (settled s) (names_settled r)
+  settled_left s r firm file = ⊎_elim inl (λ left. inr (left_settled s file left)) (firm file)
 
-  pub removed_left : (name : Name) {s r : State} → ButLeft s r → ButLeft (removed name s) (removed name r)
-  removed_left name {s = s} firm file = ⊎_elim inl (λ left. inr (left_removed name s file left)) (firm file)
+  pub removed_left : (name : Name) (s r : State) → ButLeft s r → ButLeft (removed name s) (removed name r)
+  removed_left name s r firm file = ⊎_elim inl (λ left. inr (left_removed name s file left)) (firm file)
 
   module _ (name : Name) {s r : State} (alike : IsAlike start s r) where
     bound : names_of r name ≡ names_of s name
@@ -271,7 +279,7 @@ module _ (start : State) where
 
   module _ (from to : Name) {s r : State} (alike : IsAlike start s r) where
     moved_left : (o : Option ℕ) → ((file : ℕ) → o ≡ Some file → (r.files file).is_firm ≡ true) → ButLeft s r → ButLeft (moved o from to s) (moved o from to r)
-    moved_left None firm left = left
+    moved_left None firm left file = left file
     moved_left (Some f) firm left file = ⊎_elim
         (λ hit. inl (firm file (ap (λ (k : ℕ). Some k) (sym (eqb-true file f hit)))))
         (λ missed. ⊎_elim inl (λ it. inr (left_moved from to f s file missed it)) (left file))
@@ -283,7 +291,7 @@ module _ (start : State) where
   -- ---- images
 
   -- what may stand under a name: what a firm file has, or else what is seen
-  picked : (ℕ → Content) → Option ℕ → Option (List ℕ) → Option (List ℕ)
+  abbrev picked : (ℕ → Content) → Option ℕ → Option (List ℕ) → Option (List ℕ)
   picked files None seen = seen
   picked files (Some f) seen = cond (files f).is_firm (Some (files f).bytes) seen
 
@@ -326,8 +334,8 @@ module _ (start : State) where
         same_file : (file : ℕ) → s.files file ≡ r.files file
         same_file file = ⊎_elim sym (λ loose. absurd (both_ways (start.files file).is_firm loose.left.loose (firm file))) (alike.files file)
 
-    pub left_firm : {s r : State} → ButLeft s r → (file : ℕ) → (r.files file).is_firm ≡ true
-    left_firm left file = ⊎_elim (λ is. is) (λ it. absurd (both_ways (start.files file).is_firm it.loose (firm file))) (left file)
+    pub left_firm : (s r : State) → ButLeft s r → (file : ℕ) → (r.files file).is_firm ≡ true
+    left_firm s r left file = ⊎_elim (λ is. is) (λ it. absurd (both_ways (start.files file).is_firm it.loose (firm file))) (left file)
 
   -- ---- the start
 
@@ -340,15 +348,15 @@ module _ (start : State) where
   -- ---- what is lost
 
   module _ (image v : View) (loses : LosesLoose start image v) where
-    Loses : Name → Type 0
+    abbrev Loses : Name → Type 0
     Loses n = (v n ≡ image n) ⊎ (IsLooseName start n × (image n ≡ read start n))
 
-    had : (n : Name) → Loses n → Option (List ℕ)
+    abbrev had : (n : Name) → Loses n → Option (List ℕ)
     had n it = ⊎_elim (λ same_bytes. read start n) (λ lost. v n) it
 
     had_shows : (n : Name) (it : Loses n) → Shows start.files (names_of start n) (had n it)
-    had_shows n (inl same_bytes) = (read_image (names_settled start)).shows n
-    had_shows n (inr lost) = subst (λ (o : Option ℕ). Shows start.files o (v n)) (sym lost.0.2.0) (λ firm. absurd (both_ways (start.files lost.0.0).is_firm lost.0.2.1 firm))
+    had_shows n (inl same_bytes) = whole_file start.files (names_of start n)
+    had_shows n (inr lost) = subst (λ (o : Option ℕ). Shows start.files o (v n)) (sym lost.0.1) (λ firm. absurd (both_ways (start.files lost.0.0).is_firm lost.0.2 firm))
 
     had_each : (n : Name) (it : Loses n) → (v n ≡ image n) ⊎ ((image n ≡ read start n) × (v n ≡ had n it))
     had_each n (inl same_bytes) = inl same_bytes
