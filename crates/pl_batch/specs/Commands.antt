@@ -124,7 +124,7 @@ CommandsOn meant (Refused cause) old new = (before : Files) → IsBefore (read o
 CommandsOn meant Failed old new = FailsDisk meant old new
 CommandsOn meant Lacked old new = Looks old new ⊎ Keeps old new (StandsFor (read old.now))
 
--- and it is the same on a disk whose settle makes names last and no file's bytes, from one all of whose files are firm
+-- and it goes on alike on a disk whose settle makes names last and no file's bytes, but for the firmness of files that were loose at its start
 abbrev pub CommandsDisk : {C : Type 0} → Meaning C → Outcome C → Ending → Disk → Disk → Type 0
 CommandsDisk meant o e old new = CommandsOn meant o old new × RunsFirmlyOn e old new
 

@@ -25,7 +25,7 @@ use std::alloc::{AllocError, Global};
 /// - of `All`, `UndoAll` and `Undo`: BadJournal, then those of `changes_of`;
 /// - of `Install`: BadName, BadJournal, then those of `changes_of`.
 ///
-/// After a cause the folder is recovered and nothing else changes. `DiskFailed` comes only where the folder failed: recovered, it then has all changes or none. `NoMemory` comes before any change is committed. Each image that a crash on the way may leave stands for the files before or for those after; that of a moment before the first `settle` that is done may be one of the folder's images at the start. From a disk all of whose files are firm it is the same, moment for moment, on one whose `settle` makes names last and no file's bytes.
+/// After a cause the folder is recovered and nothing else changes. `DiskFailed` comes only where the folder failed: recovered, it then has all changes or none. `NoMemory` comes before any change is committed. Each image that a crash on the way may leave stands for the files before or for those after; that of a moment before the first `settle` that is done may be one of the folder's images at the start. On a disk whose `settle` makes names last and no file's bytes, as real ones are, it goes on alike, moment for moment, but for the firmness of files that were loose, that is not firm, at its start and that it left alone.
 pub fn do_run<D: Folder>(alloc: Global, folder: &mut D, run: &Run) -> Result<usize, BatchFault>
     requires { IsRun run.now }
     ensures calls { Calls (ending result) (Commands (run_meant run.now) (outcome result))

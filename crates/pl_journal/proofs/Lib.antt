@@ -18,4 +18,5 @@ pub mod InPlace
 pub mod StateLemmas
 pub mod RecoverLemmas
 pub mod RecoverParts
+pub mod RealStates
 pub mod RealLemmas

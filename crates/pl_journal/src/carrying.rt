@@ -31,7 +31,7 @@ pub(crate) fn put_in_place<D: Folder>(held: &mut Held<D>, steps: &[Step]) -> Res
 
 /// Makes all the changes or, after a crash or a fault and a recovery, all or none. The folder is one that `recover` settled.
 ///
-/// Afterwards none of the journal's own names is there. `NoMemory` comes before anything is committed: the recovered folder is the one before. After `Failed` it is the one before or the one after. `BadJournal` does not come. No changes are no call. From a disk all of whose files are firm it is the same on one whose `settle` makes names last and no file's bytes.
+/// Afterwards none of the journal's own names is there. `NoMemory` comes before anything is committed: the recovered folder is the one before. After `Failed` it is the one before or the one after. `BadJournal` does not come. No changes are no call. On a disk whose `settle` makes names last and no file's bytes it is the same, but that files which were loose at its start may stay so.
 pub fn carry_out<D: Folder>(
     held: &mut Held<D>,
     alloc: Global,

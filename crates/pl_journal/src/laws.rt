@@ -2,7 +2,7 @@ ghost use Rattle.std.specs.Prelude.{List};
 ghost use Rattle.pl_folder.specs.Disk.{View};
 ghost use Rattle.pl_journal.specs.Laws.{AfterTheStart, CommitStands, FinishStands, RecoveriesEnd, RecoveriesLeave, RowsStand, RunsEnd, RunsLeave, SinceTheStart, StagingStands, StepsDoRows};
 ghost use Rattle.pl_journal.specs.Meaning.{Edit, StandsBetween, StandsFor};
-ghost use Rattle.pl_journal.specs.RealDisk.{OnRealDisk};
+ghost use Rattle.pl_journal.specs.RealDisk.{FirmDisksStaySame, LostWithoutARun, OnRealDisk, RealImages, RunsBeside};
 
 /// Each image since the start of a recovery is one of the start's, or stands for the folder; since the start of a run it is one of the start's, or stands for the files before or for those after.
 pub fn since_the_start()
@@ -33,8 +33,16 @@ pub fn never_a_bad_journal()
     ensures end { RecoveriesEnd }
 {}
 
-/// On a disk whose settle makes names last and no file's bytes, as real ones are: where a run is the same on it, what a crash after the first moment leaves stands for the folder, and in a run of changes for the files before or for those after.
+/// On a disk whose settle makes names last and no file's bytes, as real ones are: from the same start a run stays alike, moment for moment, but for the firmness of files that were loose at the start and that it left alone, and where it is done each file that it made is firm; from a start all of whose files are firm the two disks are the same.
+pub fn runs_beside_a_real_disk()
+    ensures beside { RunsBeside }
+    ensures same { FirmDisksStaySame }
+{}
+
+/// What a crash of such a disk leaves is an image of the other, but for names that were loose at the start and have in it what they had then: these may have what a crash at the start could leave. So after the first moment that image stands for the folder, and in a run of changes for the files before or for those after.
 pub fn on_a_real_disk()
     ensures recovery { (before : View) → OnRealDisk (StandsFor before) }
     ensures run { (before : View) (edits : List Edit) → OnRealDisk (StandsBetween before edits) }
+    ensures images { RealImages }
+    ensures lost { LostWithoutARun }
 {}

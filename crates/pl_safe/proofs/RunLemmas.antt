@@ -1,10 +1,10 @@
 -- What a run leaves of the disk.
-use Rattle.std.proofs.Common.{◌∙◌, ◌≡◌, ℕ, true, false, List, Option, Some, None, Result, Ok, Err, refl, sym, subst, inl, inr, ⊎_elim}
+use Rattle.std.proofs.Common.{◌∙◌, ◌≡◌, ℕ, suc, ◌≤◌, true, false, List, [], ◌∷◌, length, Option, Some, None, Result, Ok, Err, refl, sym, ap, subst, inl, inr, ⊎_elim, arith}
 use Rattle.std.specs.Prelude.{◌⊎◌}
 use Rattle.std.specs.FinMap.{get}
 use Rattle.std.proofs.lemmas.Bool.{false≢true, true≢false}
 use Rattle.pl_base.specs.Files.{Files}
-use Rattle.pl_folder.specs.Disk.{Disk, IsCrashImage, Name, View, clock, read}
+use Rattle.pl_folder.specs.Disk.{Disk, IsCrashImage, Name, State, View, clock, read}
 use Rattle.pl_folder.specs.Calls.{Calls}
 use Rattle.pl_folder.specs.Effects.{Effect, WaitsFor}
 use Rattle.pl_folder.specs.Seen.{Broken, Done, Ending, IsFolder, Seen, Undone}
@@ -13,9 +13,9 @@ use Rattle.pl_folder.proofs.ImageLaws.{read_image}
 use Rattle.pl_journal.specs.Leaves.{Looks}
 use Rattle.pl_journal.specs.Meaning.{Same}
 use Rattle.pl_journal.specs.declared.change.Change.{Change}
-use Rattle.pl_journal.specs.RealDisk.{RunsFirmlyOn}
-use Rattle.pl_journal.proofs.Moments.{since_start, weaker}
-use Rattle.pl_journal.proofs.RealLemmas.{on_looks}
+use Rattle.pl_journal.specs.RealDisk.{AreAlike, LosesLoose, RunsFirmlyOn, real_by}
+use Rattle.pl_journal.proofs.Moments.{after_start, since_start, starts, weaker}
+use Rattle.pl_journal.proofs.RealLemmas.{firm_same, on_looks, real_images, run_beside}
 use Rattle.pl_journal.proofs.RecoverLemmas.{waited_look}
 use Rattle.pl_batch.specs.Commands.{CommandsFiles, Failed, IsBefore, Lacked, Made, Meaning, Outcome, Refused}
 use Rattle.pl_batch.specs.Restored.{restored}
@@ -38,8 +38,8 @@ use Rattle.law_folder.specs.Safe.{IsSafe, IsSafeImage, after}
 use Rattle.law_folder.specs.Sound.{IsSound}
 use Rattle.law_folder.specs.Steps.{MakesStep}
 use Rattle.law_folder.proofs.CommandLemmas.{commands_read, disk_ends, disk_leaves, is_before, looked, reads_path, reads_sound}
-use Rattle.pl_safe.specs.Laws.{EveryRunIsSafe, ImagesOfRealDisks, ReadersLook, OthersKeepOriginals, RunsLeave, RunsEndSound, RunsOnRealDisks, RunsRead, WritersEnd}
-use Rattle.pl_safe.specs.Runs.{KeepsOriginals, LeavesSound, changed_name, is_whole, meaning, nothing, writes}
+use Rattle.pl_safe.specs.Laws.{EveryRunIsSafe, FirmDisksStaySound, ImagesOfRealDisks, ReadersLook, RealImagesStand, RealWritersEnd, OthersKeepOriginals, RunsLeave, RunsEndSound, RunsOnRealDisks, RunsRead, WritersEnd}
+use Rattle.pl_safe.specs.Runs.{KeepsOriginals, LeavesSound, RealKeeps, changed_name, is_whole, meaning, nothing, now_by, writes}
 use Rattle.pl_safe.proofs.MeaningLemmas.{fix_keeps, fix_safe, fix_steps, loosen_keeps, loosen_safe, loosen_steps, prelink_keeps, prelink_safe, prelink_steps, remove_keeps, remove_safe, remove_steps, store_keeps, store_safe, store_steps, undo_all_keeps, undo_keeps, undo_safe, undo_steps}
 
 -- ---- calls that change nothing
@@ -266,9 +266,58 @@ pub runs_on_real : RunsOnRealDisks
 runs_on_real asked w v status told ran = firmly_by asked w v status told ran (kind asked)
 
 pub images_of_real : ImagesOfRealDisks
-images_of_real asked w v status folder told start firm ran =
-    let run = (runs_on_real asked w v status told ran).alike firm in
-    (run, λ image had. every_safe asked w v status folder told start ran image (subst (λ (d : Disk). Since d (clock w.folder.disk) image) (sym run.alike) had))
+images_of_real asked w v status folder told start ran =
+    let run = runs_on_real asked w v status told ran in (
+      run,
+      λ image had.
+          let it = real_images (ending_of status) w.folder.disk v.folder.disk run (clock w.folder.disk) image had in
+          (it.0, every_safe asked w v status folder told start ran it.0 it.1, it.1, it.2),
+    )
+
+real_keeps : (e : Ending) (old new : Disk) (run : RunsFirmlyOn e old new) (P : View → Type 0) → Keeps old new P → RealKeeps run.calls old P
+real_keeps e old new run P keeps t image lt had = let it = real_images e old new run t image had in (it.0, after_start old new P keeps t it.0 lt it.1, it.2)
+
+pub real_images_stand : RealImagesStand
+real_images_stand asked w v status folder told sound ran =
+    let run = runs_on_real asked w v status told ran in
+    let l = runs_leave asked w v status folder told sound ran in
+    (run, l.0, l.1, ⊎_elim inl (λ keeps. inr (real_keeps (ending_of status) w.folder.disk v.folder.disk run (IsSafeImage (meaning asked l.0) (restored w.folder.files)) keeps)) l.2)
+
+-- two disks that stay alike have the same clock
+as_long : (start : State) (states reals : List State) → AreAlike start states reals → length states ≡ length reals
+as_long start [] [] alike = refl
+as_long start [] (r ∷ reals) alike = absurd alike
+as_long start (s ∷ states) [] alike = absurd alike
+as_long start (s ∷ states) (r ∷ reals) alike = ap suc (as_long start states reals alike.1)
+
+-- an image of such a disk now is one of the other now, but for names that were loose at the start
+real_now : (e : Ending) (old new : Disk) (run : RunsFirmlyOn e old new) (v : View) → IsCrashImage (now_by run.calls old) v → (image : View) × IsCrashImage new.now image × LosesLoose old.now image v
+real_now e old new run v is =
+    let real : Disk = real_by run.calls old in
+    let long : clock new ≡ clock real = as_long old.now new.past real.past (run_beside e old new run).0.1 in
+    let it = real_images e old new run (clock new) v (inl (subst (λ (t : ℕ). t ≤ clock real) (sym long) (omega arith), is)) in
+    (it.0, ⊎_elim (λ image. image) (λ image. image) (since_start new new (IsCrashImage new.now) (starts new (IsCrashImage new.now) (λ w image. image)) it.0 it.1), it.2)
+
+pub real_writers_end : RealWritersEnd
+real_writers_end asked w v status folder told one whole ran =
+    let run = runs_on_real asked w v status told ran in
+    let m = writers_end asked w v status folder told one whole ran in (
+      run,
+      m.0,
+      m.1,
+      λ image is.
+          let it = real_now (ending_of status) w.folder.disk v.folder.disk run image is in
+          loses_same w.folder.disk.now (after (meaning asked m.0) (restored w.folder.files)) it.0 image (m.2 it.0 it.1) it.2,
+    )
+  where
+    loses_same : (start : State) (files other image : View) → Same files other → LosesLoose start other image → LosesLoose start files image
+    loses_same start files other image same loses n = ⊎_elim (λ is. inl (is ∙ sym (same n))) (λ lost. inr (lost.0, same n ∙ lost.1)) (loses n)
+
+pub firm_disks_sound : FirmDisksStaySound
+firm_disks_sound asked w v status folder told start firm ran =
+    let run = runs_on_real asked w v status told ran in
+    let both = firm_same (ending_of status) w.folder.disk v.folder.disk run firm in
+    (run, both.0, both.1, λ image had. every_safe asked w v status folder told start ran image (subst (λ (d : Disk). Since d (clock w.folder.disk) image) (sym both.0) had))
 
 -- ---- originals
 

@@ -1,5 +1,5 @@
 -- Why every run leaves a sound folder, wherever it is stopped, and why loads of one are ordinary.
-use Rattle.std.specs.Prelude.{◌≡◌, ℕ, true, false, List, [], Option, Some, None}
+use Rattle.std.specs.Prelude.{◌≡◌, ◌⊎◌, ℕ, true, false, List, [], Option, Some, None}
 use Rattle.std.specs.FinMap.{get}
 use Rattle.pl_base.specs.Files.{Files}
 use Rattle.pl_elf.specs.declared.range.Range.{Range}
@@ -8,7 +8,8 @@ use Rattle.pl_folder.specs.Seen.{IsFolder}
 use Rattle.pl_folder.specs.Since.{Since, Within}
 use Rattle.pl_journal.specs.Leaves.{Looks}
 use Rattle.pl_journal.specs.Meaning.{Same}
-use Rattle.pl_journal.specs.RealDisk.{AllFirm, RunsAlike, RunsFirmlyOn, disk_by, names_settled}
+use Rattle.pl_journal.specs.Parts.{AtDone}
+use Rattle.pl_journal.specs.RealDisk.{AllFirm, LosesLoose, RunsFirmlyOn, real_by}
 use Rattle.pl_batch.specs.Restored.{restored}
 use Rattle.pl_batch.specs.declared.prelinking.Prelinking.{Prelinking}
 use Rattle.law_folder.specs.Safe.{IsSafeImage, after}
@@ -31,7 +32,7 @@ use Rattle.pl_words.specs.declared.status.Status.{Status}
 use Rattle.pl_words.specs.declared.status.Status.TheVariants as statuses
 use Rattle.law_loads.specs.Answers.{ordinary_answer}
 use Rattle.law_loads.specs.Texts.{linked_from, weaves_from}
-use Rattle.pl_safe.specs.Runs.{IsFromScratch, KeepsOriginals, LeavesPastAll, LeavesSound, StandsPastAll, changed_name, is_whole, meaning, writes}
+use Rattle.pl_safe.specs.Runs.{IsFromScratch, KeepsOriginals, LeavesPastAll, LeavesSound, RealKeeps, StandsPastAll, changed_name, is_whole, meaning, now_by, writes}
 
 -- ---- every run
 
@@ -57,15 +58,37 @@ abbrev pub WritersEnd : Type 0
 WritersEnd =
     (asked : Option Command) (w v : Outside) (status : Status) → IsFolder w.folder → w.folder.records ≡ true → writes asked ≡ true → is_whole status ≡ true → Ran asked w v status → (bytes : List ℕ) × AreBytes w.input.left bytes × Within v.folder.disk.now (Same (after (meaning asked bytes) (restored w.folder.files)))
 
--- From a disk all of whose files are firm a run is the same on one whose settle makes names last and no file's bytes; and where it is done all files are firm.
+-- On a disk whose settle makes names last and no file's bytes a run from the same start goes on alike, but for the firmness of files that were loose at the start and that it left alone; and where it is done each file that it made is firm.
 abbrev pub RunsOnRealDisks : Type 0
 RunsOnRealDisks = (asked : Option Command) (w v : Outside) (status : Status) → w.folder.records ≡ true → Ran asked w v status → RunsFirmlyOn (ending_of status) w.folder.disk v.folder.disk
 
--- so each image of such a disk since the start is sound, where each one at the start was
+-- So each image of such a disk since the start is one of the other, sound where each one at the start was, but for names that were loose at the start and have in it what they had then.
 abbrev pub ImagesOfRealDisks : Type 0
 ImagesOfRealDisks =
+    (asked : Option Command) (w v : Outside) (status : Status) → IsFolder w.folder → w.folder.records ≡ true → Within w.folder.disk.now IsSound → Ran asked w v status
+    → (run : RunsFirmlyOn (ending_of status) w.folder.disk v.folder.disk)
+    × ((image : View) → Since (real_by run.calls w.folder.disk) (clock w.folder.disk) image → (sound : View) × IsSound sound × Since v.folder.disk (clock w.folder.disk) sound × LosesLoose w.folder.disk.now sound image)
+
+-- Where it reads as a sound one, the run only looked, or each image of such a disk of a moment after the start is sound and stands for the files before it or for those after it, but for such names.
+abbrev pub RealImagesStand : Type 0
+RealImagesStand =
+    (asked : Option Command) (w v : Outside) (status : Status) → IsFolder w.folder → w.folder.records ≡ true → IsSound (get w.folder.files) → Ran asked w v status
+    → (run : RunsFirmlyOn (ending_of status) w.folder.disk v.folder.disk) × (bytes : List ℕ) × AreBytes w.input.left bytes
+    × (Looks w.folder.disk v.folder.disk ⊎ RealKeeps run.calls w.folder.disk (IsSafeImage (meaning asked bytes) (restored w.folder.files)))
+
+-- After a command that writes, is done or refused, the files after it are the only image of such a disk, but for such names.
+abbrev pub RealWritersEnd : Type 0
+RealWritersEnd =
+    (asked : Option Command) (w v : Outside) (status : Status) → IsFolder w.folder → w.folder.records ≡ true → writes asked ≡ true → is_whole status ≡ true → Ran asked w v status
+    → (run : RunsFirmlyOn (ending_of status) w.folder.disk v.folder.disk) × (bytes : List ℕ) × AreBytes w.input.left bytes
+    × Within (now_by run.calls w.folder.disk) (LosesLoose w.folder.disk.now (after (meaning asked bytes) (restored w.folder.files)))
+
+-- From a start all of whose files are firm such a disk is the same as the other, and so each image of it since then is sound where each one at the start was; and where the run is done all files are firm.
+abbrev pub FirmDisksStaySound : Type 0
+FirmDisksStaySound =
     (asked : Option Command) (w v : Outside) (status : Status) → IsFolder w.folder → w.folder.records ≡ true → Within w.folder.disk.now IsSound → AllFirm w.folder.disk.now → Ran asked w v status
-    → (run : RunsAlike w.folder.disk v.folder.disk) × ((image : View) → Since (disk_by names_settled run.calls w.folder.disk) (clock w.folder.disk) image → IsSound image)
+    → (run : RunsFirmlyOn (ending_of status) w.folder.disk v.folder.disk) × (v.folder.disk ≡ real_by run.calls w.folder.disk) × AtDone (ending_of status) (AllFirm v.folder.disk.now)
+    × ((image : View) → Since (real_by run.calls w.folder.disk) (clock w.folder.disk) image → IsSound image)
 
 -- what is read after a run over a folder that tells its files alone is sound, and stands for the files before or after
 abbrev pub RunsRead : Type 0

@@ -1,5 +1,5 @@
 -- What the commands of a run mean of a folder, and what a run leaves of a sound one.
-use Rattle.std.specs.Prelude.{◌≡◌, ◌⊎◌, ℕ, Bool, true, false, List, [], Option, Some, None, Ok}
+use Rattle.std.specs.Prelude.{◌≡◌, ◌⊎◌, ℕ, ◌<◌, Bool, true, false, List, [], Option, Some, None, Ok}
 use Rattle.pl_base.specs.Files.{Files}
 use Rattle.pl_base.specs.Names.{is_valid_name}
 use Rattle.pl_batch.specs.Commands.{Meaning}
@@ -17,10 +17,11 @@ use Rattle.law_folder.specs.Originals.{SameOriginals, originals}
 use Rattle.law_folder.specs.Safe.{IsSafeImage}
 use Rattle.law_folder.specs.Steps.{IsPastAll}
 use Rattle.law_folder.specs.All.{HasNext}
-use Rattle.pl_folder.specs.Disk.{Name, View, same}
+use Rattle.pl_folder.specs.Disk.{Disk, Name, State, View, clock, same}
 use Rattle.pl_folder.specs.Seen.{Seen}
-use Rattle.pl_folder.specs.Since.{Keeps}
+use Rattle.pl_folder.specs.Since.{Keeps, Since}
 use Rattle.pl_journal.specs.Leaves.{Looks}
+use Rattle.pl_journal.specs.RealDisk.{DiskCall, LosesLoose, real_by}
 use Rattle.pl_journal.specs.Rows.{recovered}
 use Rattle.pl_rewrite.specs.Changes.{from_scratch}
 
@@ -76,6 +77,16 @@ is_whole _ = false
 -- It only looked, and its images are those of the start; or each image of a moment after the start is sound, and stands for the files before it or for those after it.
 abbrev pub LeavesSound : Meaning Cause → Seen → Seen → Type 0
 LeavesSound meant a b = Looks a.disk b.disk ⊎ Keeps a.disk b.disk (IsSafeImage meant (restored a.files))
+
+-- ---- on a disk whose settle makes names last and no file's bytes
+
+-- what such a disk is after these calls
+abbrev pub now_by : List DiskCall → Disk → State
+now_by calls old = (real_by calls old).now
+
+-- each image of such a disk of a moment after the start is one that has P, but for names that were loose at the start
+abbrev pub RealKeeps : List DiskCall → Disk → (View → Type 0) → Type 0
+RealKeeps calls old P = (t : ℕ) (image : View) → clock old < t → Since (real_by calls old) t image → (other : View) × P other × LosesLoose old.now other image
 
 -- ---- what prelinking everything gives
 

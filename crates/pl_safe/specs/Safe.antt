@@ -66,5 +66,5 @@ pub record IsSafeRun (asked : Option Command) (w v : Outside) (status : Status) 
 pub record StaysSafe (asked : Option Command) (w v : Outside) (status : Status) : Type 0 where
   pub files : w.folder.tells ≡ true → IsSound (get w.folder.files) → ReadsSafe asked w v status
   pub images : w.folder.records ≡ true → Within w.folder.disk.now IsSound → IsSafeRun asked w v status
-  -- from a disk all of whose files are firm, the same run on one whose settle makes names last and no file's bytes
+  -- the same run on a disk whose settle makes names last and no file's bytes goes on alike, but for the firmness of files that were loose at its start
   pub real : w.folder.records ≡ true → RunsFirmlyOn (ending_of status) w.folder.disk v.folder.disk

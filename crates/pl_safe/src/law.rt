@@ -1,5 +1,5 @@
 // Laws of whole runs.
-ghost use Rattle.pl_safe.specs.Laws.{EveryImageStandsPastAll, EveryRunIsSafe, FilesAreFromScratch, FilesStandPastAll, ImagesAreFromScratch, ImagesOfRealDisks, SoundLoadsAreOrdinary, SoundWeavesAreOrdinary, ReadersLook, OthersKeepOriginals, RunsLeave, RunsLeavePastAll, RunsEndSound, RunsOnRealDisks, RunsRead, VerifiedAreSound, WritersEnd, WritersEndPastAll, WrittenArePastAll};
+ghost use Rattle.pl_safe.specs.Laws.{EveryImageStandsPastAll, EveryRunIsSafe, FilesAreFromScratch, FilesStandPastAll, FirmDisksStaySound, ImagesAreFromScratch, ImagesOfRealDisks, SoundLoadsAreOrdinary, SoundWeavesAreOrdinary, ReadersLook, RealImagesStand, RealWritersEnd, OthersKeepOriginals, RunsLeave, RunsLeavePastAll, RunsEndSound, RunsOnRealDisks, RunsRead, VerifiedAreSound, WritersEnd, WritersEndPastAll, WrittenArePastAll};
 
 /// What a run leaves of a folder that reads as a sound one, whatever its words ask for and however it ends: it only looked, or each image of a moment after its start is sound, and stands for the files before it or for those after it. Where each image at the start was sound, each one since then is. A command that only reads changes nothing; after one that writes, is done or refused, and whether or not its text could be written, the files after it are the only image.
 pub fn every_run_is_safe()
@@ -10,10 +10,13 @@ pub fn every_run_is_safe()
     ensures writers { WritersEnd }
 {}
 
-/// From a disk all of whose files are firm, every run is the same, moment for moment, on a disk whose settle makes names last and no file's bytes, as real ones are; and where it is done or refused all files are firm, so the next run starts so. What is proved of the images of the one holds of those of the other: each one since the start is sound, where each one at the start was.
+/// On a disk whose settle makes names last and no file's bytes, as real ones are, every run from the same start goes on alike, moment for moment, but for the firmness of files that were loose, that is not firm, at the start and that it left alone; where it is done or refused each file that it made is firm. So each image of such a disk since the start is a sound one of the other, where each one at the start was, but for names that were loose at the start and have in that one what they had then: these may have what a crash at the start could leave. But for them each image of a moment after the start stands for the files before or for those after, unless the run only looked; and after a command that writes, is done or refused, the files after it are the only image. From a start all of whose files are firm no name is lost so: the two disks are the same, and where the run is done or refused all files are firm, so the next one starts so.
 pub fn runs_on_real_disks()
     ensures runs { RunsOnRealDisks }
     ensures images { ImagesOfRealDisks }
+    ensures stands { RealImagesStand }
+    ensures writers { RealWritersEnd }
+    ensures firm { FirmDisksStaySound }
 {}
 
 /// What is read of a folder that tells its files alone, after a run over one that reads as a sound one, however the run ends: it is sound, and stands for the files before the run or for those after it.

@@ -16,7 +16,7 @@ use std::alloc::Global;
 ///
 /// Of a folder that tells its disk, and each image of which is sound at the start: each image since then is sound, and each one of a moment after the start stands for the files before the run or for those after it, unless the run only looked. After a command that writes, is done or refused, the files after it are the only image; after `-a` those from scratch. No image stands for files with a stamp past the last one of their cache, where none did at the start.
 ///
-/// From a disk all of whose files are firm the run is the same, moment for moment, on a disk whose `settle` makes names last and no file's bytes, as real ones are; where it is done or refused all files are firm after it.
+/// On a disk whose `settle` makes names last and no file's bytes, as real ones are, the run from the same start goes on alike, moment for moment, but for the firmness of files that were loose, that is not firm, at the start and that it left alone; where it is done or refused each file that it made is firm.
 pub fn run<D: Folder, S: Source, K: Sink>(
     alloc: Global,
     words: &[String],
