@@ -65,7 +65,7 @@ section_bytes_few o last cut shift e =
     length-append old _ ∙ ap (λ (k : ℕ). k + 3) (length-map (sections o (header o)) (program_section cut shift last) ∙ section_count o (header o))
 
 form_most : (o : List ℕ) (x : Object) (last : Segment) (e : Extension) (flat : List ℕ) (digest : Option (List ℕ)) → IsFirm o x → is_program x.kind ≡ true → last_load (ss_of o) ≡ Some last → length flat ≡ wanted (ps_of o) → IsDigest digest → size_of e ≤ 2 ^ 30
-    → length (forms.program_form (original_of o) (last_index (ss_of o)) last e flat digest) ≤ 7 * length o + 2 * (last.memsz - last.filesz) + size_of e + 600
+    → length (forms.form_of_program (original_of o) (last_index (ss_of o)) last e flat digest) ≤ 7 * length o + 2 * (last.memsz - last.filesz) + size_of e + 600
 unfolding planned program_plan joined_size
 form_most o x last e flat digest firm program at filled size lists =
     let a = original_of o in
@@ -135,7 +135,7 @@ program_most o x list flat rs version firm program filled few =
     let short : IsShort last = short_ready o x last firm program found.1 in
     let lists = extension_size o list rs in
     let most = form_most o x last e flat (digest_in version o) firm program found.1 filled size (omega (arith, lists, few, accepted_small o x firm.accepted)) in
-    let same : forms.program_form (original_of o) (last_index (ss_of o)) last e flat (digest_in version o) ≡ program_with o list flat rs version =
+    let same : forms.form_of_program (original_of o) (last_index (ss_of o)) last e flat (digest_in version o) ≡ program_with o list flat rs version =
     extended_some o (record { index = last_index (ss_of o); segment = last }) e flat version (record { at = found.1; index = refl }) in
     omega (arith, ap (λ (l : List ℕ). length l) same, most, lists, short.zeros)
 

@@ -29,12 +29,12 @@ use Rattle.pl_form.proofs.ReadyLaws.{digest_ready, extended_some}
 use Rattle.pl_form.proofs.SmallLaws.{table_below}
 use Rattle.pl_form.proofs.SomeLastLaws.{some_last}
 
-pub below_library : (o : Original) (slot stamp checksum : ℕ) (l : Listed) (flat : List ℕ) (digest : Option (List ℕ)) → length (forms.library_form o slot stamp checksum l flat digest) ≤ STORED
+pub below_library : (o : Original) (slot stamp checksum : ℕ) (l : Listed) (flat : List ℕ) (digest : Option (List ℕ)) → length (forms.form_of_library o slot stamp checksum l flat digest) ≤ STORED
     → table_at (library_plan o slot stamp checksum l) o.bytes (length (undo_part (library_plan o slot stamp checksum l) o digest)) < 2 ^ 32
 unfolding planned
 below_library o slot stamp checksum l flat digest short = omega (arith, short, table_below (library_plan o slot stamp checksum l) o flat (undo_part (library_plan o slot stamp checksum l) o digest))
 
-pub below_program : (o : Original) (index : ℕ) (last : Segment) (e : Extension) (flat : List ℕ) (digest : Option (List ℕ)) → length (forms.program_form o index last e flat digest) ≤ STORED
+pub below_program : (o : Original) (index : ℕ) (last : Segment) (e : Extension) (flat : List ℕ) (digest : Option (List ℕ)) → length (forms.form_of_program o index last e flat digest) ≤ STORED
     → table_at (program_plan o index last flat e) o.bytes (length (undo_part (program_plan o index last flat e) o digest)) < 2 ^ 32
 unfolding planned
 below_program o index last e flat digest short = omega (arith, short, table_below (program_plan o index last flat e) o flat (undo_part (program_plan o index last flat e) o digest))
@@ -54,8 +54,8 @@ program_at o x list flat conflicts version i k d (Some last) at some is filled s
     let digest = digest_in version o in
     let e = extension_of o list conflicts in
     let index = last_index (ss_of o) in
-    let same : forms.program_form (original_of o) index last e flat digest ≡ program_with o list flat conflicts version = extended_some o (record { index = index; segment = last }) e flat version (record { at = at; index = refl }) in
-    let small : length (forms.program_form (original_of o) index last e flat digest) ≤ STORED = subst (λ (xs : List ℕ). length xs ≤ STORED) (sym same) short in
+    let same : forms.form_of_program (original_of o) index last e flat digest ≡ program_with o list flat conflicts version = extended_some o (record { index = index; segment = last }) e flat version (record { at = at; index = refl }) in
+    let small : length (forms.form_of_program (original_of o) index last e flat digest) ≤ STORED = subst (λ (xs : List ℕ). length xs ≤ STORED) (sym same) short in
     let f = forms_program o x last e flat digest is.firm is.program at filled (digest_ready version (sha256 o) (length-sha256 o)) (below_program (original_of o) index last e flat digest small) in
     subst (λ (xs : List ℕ). LoadsAlike 0 xs o i k d) same (programs_load_alike o x index last e flat digest i k d f free)
 

@@ -15,7 +15,7 @@ use Rattle.pl_object.proofs.AcceptedLaws.{accepted}
 use Rattle.pl_form.specs.declared.parts.Extension.{Extension}
 use Rattle.pl_form.specs.Found.{ss_of, secs_of, tags_of, places_of, zeros_from}
 use Rattle.pl_form.specs.Forms.{original_of}
-use Rattle.pl_form.specs.PartLaws.{IsOriginal, FormsProgram, IsFree, LibrariesLoadAlike, ProgramsLoadAlike}
+use Rattle.pl_form.specs.PartLaws.{IsOriginal, FormsProgram, IsFree, LibraryFormsLoadAlike, ProgramFormsLoadAlike}
 use Rattle.pl_form.proofs.AcceptedIs.{segments_are, places_are, named_of}
 use Rattle.pl_form.proofs.FinalTheorem.{library_conditions, program_conditions, inside}
 use Rattle.pl_form.proofs.FormTheorem.{IsLoaded, IsHeldProgram, library_loads, program_loads}
@@ -37,7 +37,7 @@ free o x i k d is acc few f = record {
   below = f.below;
 }
 
-pub libraries_load_alike : LibrariesLoadAlike
+pub libraries_load_alike : LibraryFormsLoadAlike
 libraries_load_alike o x slot stamp checksum l flat digest i k d f is =
     let c = library_conditions o x slot stamp checksum l flat digest f in
     library_loads (original_of o) slot stamp checksum l flat digest (places_of o) (link_windows (header o) (ss_of o) (secs_of o) (tags_of o)) (zeros_from (last_load (ss_of o))) i k d
@@ -60,7 +60,7 @@ held_program o x index last e flat digest f =
     let c = program_conditions o x index last e flat digest f in
     record { program = c.program; is_load = (last_is (ss_of o) last f.latest).load; are = loads_are o x f.original; held = held_of o x last f.original f.latest }
 
-pub programs_load_alike : ProgramsLoadAlike
+pub programs_load_alike : ProgramFormsLoadAlike
 programs_load_alike o x index last e flat digest i k d f is =
     let c = program_conditions o x index last e flat digest f in
     let links = link_windows (header o) (ss_of o) (secs_of o) (tags_of o) in

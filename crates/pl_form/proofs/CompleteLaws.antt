@@ -135,11 +135,11 @@ library_reads file m flat is spelled small r =
       places = r.places;
     }
 
-pub library_file : (file : List ℕ) (m : Marked) (f : IsFormOf file m) → IsLibraryMark m → file ≡ forms.library_form (original_of m.original) m.slot m.stamp (checksum_of m.original) (listed m.list) f.flat (digest_in m.version m.original)
+pub library_file : (file : List ℕ) (m : Marked) (f : IsFormOf file m) → IsLibraryMark m → file ≡ forms.form_of_library (original_of m.original) m.slot m.stamp (checksum_of m.original) (listed m.list) f.flat (digest_in m.version m.original)
 unfolding form_with library_with
 library_file file m f is = rw is.library at f.is
 
-library_small : (o : Original) (slot stamp checksum : ℕ) (l : Listed) (flat : List ℕ) (digest : Option (List ℕ)) → length (forms.library_form o slot stamp checksum l flat digest) ≤ STORED
+library_small : (o : Original) (slot stamp checksum : ℕ) (l : Listed) (flat : List ℕ) (digest : Option (List ℕ)) → length (forms.form_of_library o slot stamp checksum l flat digest) ≤ STORED
     → table_at (library_plan o slot stamp checksum l) o.bytes (length (undo_part (library_plan o slot stamp checksum l) o digest)) < 2 ^ 32
 unfolding planned
 library_small o slot stamp checksum l flat digest small = omega (arith, small, table_below (library_plan o slot stamp checksum l) o flat (undo_part (library_plan o slot stamp checksum l) o digest))
@@ -147,7 +147,7 @@ library_small o slot stamp checksum l flat digest small = omega (arith, small, t
 pub library_forms : (file : List ℕ) (m : Marked) (f : IsFormOf file m) → IsLibraryMark m → FormsLibrary m.original m.object m.slot m.stamp (checksum_of m.original) (listed m.list) f.flat (digest_in m.version m.original)
 library_forms file m f is =
     let same = library_file file m f is in
-    let short : length (forms.library_form (original_of m.original) m.slot m.stamp (checksum_of m.original) (listed m.list) f.flat (digest_in m.version m.original)) ≤ STORED = subst (λ (xs : List ℕ). length xs ≤ STORED) same f.small in
+    let short : length (forms.form_of_library (original_of m.original) m.slot m.stamp (checksum_of m.original) (listed m.list) f.flat (digest_in m.version m.original)) ≤ STORED = subst (λ (xs : List ℕ). length xs ≤ STORED) same f.small in
     forms_library m.original m.object m.slot m.stamp (checksum_of m.original) (listed m.list) f.flat (digest_in m.version m.original) f.firm is.library f.filled (digest_size m.version m.original) (omega (arith, is.below))
     (slot_even m.slot m.object.align (align_even m.original m.object f.firm.accepted) is.aligned)
     (library_small (original_of m.original) m.slot m.stamp (checksum_of m.original) (listed m.list) f.flat (digest_in m.version m.original) short)
@@ -189,11 +189,11 @@ program_reads file m flat is spelled small r =
     }
 
 pub program_file : (file : List ℕ) (m : Marked) (f : IsFormOf file m) (last : Segment) → IsProgramMark m → last_load (ss_of m.original) ≡ Some last
-    → file ≡ forms.program_form (original_of m.original) (last_index (ss_of m.original)) last (extension_of m.original m.list m.conflicts) f.flat (digest_in m.version m.original)
+    → file ≡ forms.form_of_program (original_of m.original) (last_index (ss_of m.original)) last (extension_of m.original m.list m.conflicts) f.flat (digest_in m.version m.original)
 unfolding form_with extended
 program_file file m f last is at = rw (is.program, at) at f.is
 
-program_small : (o : Original) (index : ℕ) (last : Segment) (e : Extension) (flat : List ℕ) (digest : Option (List ℕ)) → length (forms.program_form o index last e flat digest) ≤ STORED
+program_small : (o : Original) (index : ℕ) (last : Segment) (e : Extension) (flat : List ℕ) (digest : Option (List ℕ)) → length (forms.form_of_program o index last e flat digest) ≤ STORED
     → table_at (program_plan o index last flat e) o.bytes (length (undo_part (program_plan o index last flat e) o digest)) < 2 ^ 32
 unfolding planned
 program_small o index last e flat digest small = omega (arith, small, table_below (program_plan o index last flat e) o flat (undo_part (program_plan o index last flat e) o digest))
@@ -204,7 +204,7 @@ program_forms file m f last is at =
     let o = m.original in
     let e = extension_of o m.list m.conflicts in
     let same = program_file file m f last is at in
-    let short : length (forms.program_form (original_of o) (last_index (ss_of o)) last e f.flat (digest_in m.version o)) ≤ STORED = subst (λ (xs : List ℕ). length xs ≤ STORED) same f.small in
+    let short : length (forms.form_of_program (original_of o) (last_index (ss_of o)) last e f.flat (digest_in m.version o)) ≤ STORED = subst (λ (xs : List ℕ). length xs ≤ STORED) same f.small in
     forms_program o m.object last e f.flat (digest_in m.version o) f.firm (no_library m.object.kind is.program f.firm.dynamic) at f.filled (digest_size m.version o)
     (program_small (original_of o) (last_index (ss_of o)) last e f.flat (digest_in m.version o) short)
 

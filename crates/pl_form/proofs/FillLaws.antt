@@ -54,7 +54,7 @@ whole_long : (bytes : List ℕ) → length bytes ≤ length (whole_extension byt
 unfolding whole_extension
 whole_long bytes = omega (arith, length-append bytes (replicate {A = ℕ} (round_up (length bytes) 16 - length bytes) 0))
 
-program_long : (o : Original) (index : ℕ) (last : Segment) (e : Extension) (flat : List ℕ) (digest : Option (List ℕ)) → length e.strings + (length e.rows + length e.conflicts) ≤ length (forms.program_form o index last e flat digest)
+program_long : (o : Original) (index : ℕ) (last : Segment) (e : Extension) (flat : List ℕ) (digest : Option (List ℕ)) → length e.strings + (length e.rows + length e.conflicts) ≤ length (forms.form_of_program o index last e flat digest)
 unfolding planned program_plan joined_size
 program_long o index last e flat digest =
     let p = program_plan o index last flat e in
@@ -63,7 +63,7 @@ program_long o index last e flat digest =
 extended_by : (o : List ℕ) (e : Extension) (flat : List ℕ) (version : Version) (found : Option Segment) → last_load (ss_of o) ≡ found → is_some found ≡ true → length e.strings + (length e.rows + length e.conflicts) ≤ length (extended o e flat version)
 extended_by o e flat version None at some = absurd (true≢false (sym some))
 extended_by o e flat version (Some last) at some =
-    let same : forms.program_form (original_of o) (last_index (ss_of o)) last e flat (digest_in version o) ≡ extended o e flat version = extended_some o (record { index = last_index (ss_of o); segment = last }) e flat version (record { at = at; index = refl }) in
+    let same : forms.form_of_program (original_of o) (last_index (ss_of o)) last e flat (digest_in version o) ≡ extended o e flat version = extended_some o (record { index = last_index (ss_of o); segment = last }) e flat version (record { at = at; index = refl }) in
     omega (arith, ap length same, program_long (original_of o) (last_index (ss_of o)) last e flat (digest_in version o))
 
 extended_long : (o : List ℕ) (x : Object) (e : Extension) (flat : List ℕ) (version : Version) → IsFirm o x → length e.strings + (length e.rows + length e.conflicts) ≤ length (extended o e flat version)

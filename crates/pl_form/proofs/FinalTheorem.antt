@@ -15,7 +15,7 @@ use Rattle.pl_object.specs.Reads.{reads}
 use Rattle.pl_object.specs.declared.object.Object.{Object}
 use Rattle.pl_object.proofs.AcceptedLaws.{read_holds}
 use Rattle.std.proofs.Common.{get_or}
-use Rattle.pl_form.specs.PartLaws.{FormsLibrary, FormsProgram, is_stray, FormsAreUndone, NoFormOfTwo}
+use Rattle.pl_form.specs.PartLaws.{FormsLibrary, FormsProgram, is_stray, FormsGiveOriginals, NoFormOfTwoOriginals}
 use Rattle.pl_form.specs.declared.parts.Extension.{Extension}
 use Rattle.pl_form.specs.declared.parts.Listed.{Listed}
 use Rattle.pl_form.specs.Back.{back}
@@ -134,11 +134,11 @@ program_conditions o x index last e flat digest f =
 
 -- ---- both kinds
 
-pub forms_undone : FormsAreUndone
+pub forms_undone : FormsGiveOriginals
 forms_undone file o (inl f) =
     ap (back reader) f.is ∙ library_undone o f.slot f.stamp f.checksum f.list f.flat f.digest (library_conditions o f.x f.slot f.stamp f.checksum f.list f.flat f.digest f.forms)
 forms_undone file o (inr f) =
     ap (back reader) f.is ∙ program_undone o f.index f.last f.lists f.flat f.digest (program_conditions o f.x f.index f.last f.lists f.flat f.digest f.forms)
 
-pub no_form_of_two : NoFormOfTwo
+pub no_form_of_two : NoFormOfTwoOriginals
 no_form_of_two file o p a b = one_original reader file o p (forms_undone file o a) (forms_undone file p b)

@@ -11,7 +11,7 @@ use Rattle.pl_elf.specs.declared.header.Header.{Header}
 use Rattle.pl_elf.specs.declared.section.Section.{Section}
 use Rattle.pl_move.specs.declared.table.Table.{Table}
 use Rattle.pl_object.specs.Tables.{symtab_windows, has_kind}
-use Rattle.pl_form.specs.Back.{all_within, stored}
+use Rattle.pl_form.specs.Back.{all_within, stored_puts}
 use Rattle.pl_form.specs.Found.{symtab_tables}
 use Rattle.pl_form.proofs.SizeLaws.{kept_length}
 use Rattle.pl_undo.specs.Section.{headers_size, fits_kind, are_words, is_digest, has_headers, IsUndoOf}
@@ -97,7 +97,7 @@ part_short at size xs = omega (arith, length-take size (drop at xs))
 
 pub stored_put : (u : Undo) (d : Window) (h : Header) (front one two three four : List ℕ) → h ≡ header u.headers
     → one ≡ put 0 (part 0 64 u.headers) front → two ≡ put h.phoff (part 64 (56 * h.phnum) u.headers) one → three ≡ put h.shoff (part (64 + 56 * h.phnum) (64 * h.shnum) u.headers) two
-    → four ≡ put d.at (part 0 d.size u.kept) three → four ≡ put_all (stored u d) front
+    → four ≡ put d.at (part 0 d.size u.kept) three → four ≡ put_all (stored_puts u d) front
 unfolding put_all
 stored_put u d h front one two three four is a b c e =
     let third : part (64 + 56 * h.phnum) (64 * h.shnum) u.headers ≡ take (64 * h.shnum) (drop (56 * h.phnum) (drop 64 u.headers)) = ap (λ (xs : List ℕ). take (64 * h.shnum) xs) (sym (drop-drop (56 * h.phnum) 64 u.headers)) in

@@ -24,7 +24,7 @@ use Rattle.pl_form.specs.declared.parts.Listed.{Listed}
 use Rattle.pl_form.specs.declared.parts.Extension.{Extension}
 use Rattle.pl_form.specs.Loads.{stands, spot_of, spots_of, is_under, hidden_windows, fills}
 use Rattle.pl_form.specs.PartLaws.{IsDigest}
-use Rattle.pl_form.specs.Forms.{undo_part, planned, library_form, program_form}
+use Rattle.pl_form.specs.Forms.{undo_part, planned, form_of_library, form_of_program}
 use Rattle.pl_form.proofs.FrontLaws.{IsReadable}
 use Rattle.pl_form.proofs.FormLaws.{plan_undone}
 use Rattle.pl_form.specs.Fits.{Fits}
@@ -118,14 +118,14 @@ byte_by place k s borne file o same = let at : place + s.vaddr + k - (place + s.
 
 pub library_loads : (o : Original) (slot stamp checksum : ℕ) (l : Listed) (flat : List ℕ) (digest : Option (List ℕ)) (places links : List Window) (start i k : ℕ) (d : Segment)
     → Fits (library_plan o slot stamp checksum l) o flat (length (undo_part (library_plan o slot stamp checksum l) o digest)) → IsLoaded o places links start i k d
-    → byte_at (slot + (get_or (segments o.bytes (header o.bytes)) i d).vaddr + k) (stands slot (library_form o slot stamp checksum l flat digest) (get_or (segments o.bytes (header o.bytes)) i d) (segment (library_form o slot stamp checksum l flat digest) (header (library_form o slot stamp checksum l flat digest)) i))
+    → byte_at (slot + (get_or (segments o.bytes (header o.bytes)) i d).vaddr + k) (stands slot (form_of_library o slot stamp checksum l flat digest) (get_or (segments o.bytes (header o.bytes)) i d) (segment (form_of_library o slot stamp checksum l flat digest) (header (form_of_library o slot stamp checksum l flat digest)) i))
     ≡ byte_at (slot + (get_or (segments o.bytes (header o.bytes)) i d).vaddr + k) (stands slot o.bytes (get_or (segments o.bytes (header o.bytes)) i d) (get_or (segments o.bytes (header o.bytes)) i d))
 unfolding planned library_plan
 library_loads o slot stamp checksum l flat digest places links start i k d fits is =
     let ss = segments o.bytes (header o.bytes) in
     let p = library_plan o slot stamp checksum l in
     let undo = undo_part p o digest in
-    let file = library_form o slot stamp checksum l flat digest in
+    let file = form_of_library o slot stamp checksum l flat digest in
     let lt : i < length ss = omega (arith, is.lt, segment_count o.bytes (header o.bytes)) in
     let at : get_or (map (moved_segment slot) ss) i d ≡ moved_segment slot (get_or ss i d) = get_or-map (moved_segment slot) ss i d d lt in
     let small : SegmentFits (get_or (map (moved_segment slot) ss) i d) = subst SegmentFits (sym at) (moved_fits slot (get_or ss i d) (own_fits o i d is.taken is.lt)) in
@@ -153,7 +153,7 @@ program_hidden o places links index last h l =
 -- its last PT_LOAD: zeros are still zeros, also where they are file bytes now
 program_last : (o : Original) (e : Extension) (flat : List ℕ) (digest : Option (List ℕ)) (places links : List Window) (index k : ℕ) (d last : Segment)
     → Fits (program_plan o index last flat e) o flat (length (undo_part (program_plan o index last flat e) o digest)) → IsHeldProgram o places index last → IsLoaded o places links (last.vaddr + last.filesz) index k d
-    → get_or (part (get_or (program_plan o index last flat e).segments index d).offset (get_or (program_plan o index last flat e).segments index d).filesz (program_form o index last e flat digest)) k 0
+    → get_or (part (get_or (program_plan o index last flat e).segments index d).offset (get_or (program_plan o index last flat e).segments index d).filesz (form_of_program o index last e flat digest)) k 0
     ≡ get_or (part (get_or (segments o.bytes (header o.bytes)) index d).offset (get_or (segments o.bytes (header o.bytes)) index d).filesz o.bytes) k 0
 unfolding planned
 program_last o e flat digest places links index k d last fits h is =
@@ -205,25 +205,25 @@ program_segment_fits o index last e flat undo i d taken is fits lt inside =
 
 last_by : (o : Original) (e : Extension) (flat : List ℕ) (digest : Option (List ℕ)) (places links : List Window) (index i k : ℕ) (d last : Segment)
     → Fits (program_plan o index last flat e) o flat (length (undo_part (program_plan o index last flat e) o digest)) → IsHeldProgram o places index last → IsLoaded o places links (last.vaddr + last.filesz) i k d → i ≡ index
-    → get_or (part (get_or (program_plan o index last flat e).segments i d).offset (get_or (program_plan o index last flat e).segments i d).filesz (program_form o index last e flat digest)) k 0
+    → get_or (part (get_or (program_plan o index last flat e).segments i d).offset (get_or (program_plan o index last flat e).segments i d).filesz (form_of_program o index last e flat digest)) k 0
     ≡ get_or (part (get_or (segments o.bytes (header o.bytes)) i d).offset (get_or (segments o.bytes (header o.bytes)) i d).filesz o.bytes) k 0
 last_by o e flat digest places links index i k d last fits h is same =
     subst (λ (x : ℕ). IsLoaded o places links (last.vaddr + last.filesz) x k d
-    → get_or (part (get_or (program_plan o index last flat e).segments x d).offset (get_or (program_plan o index last flat e).segments x d).filesz (program_form o index last e flat digest)) k 0
+    → get_or (part (get_or (program_plan o index last flat e).segments x d).offset (get_or (program_plan o index last flat e).segments x d).filesz (form_of_program o index last e flat digest)) k 0
     ≡ get_or (part (get_or (segments o.bytes (header o.bytes)) x d).offset (get_or (segments o.bytes (header o.bytes)) x d).filesz o.bytes) k 0)
     (sym same) (λ here. program_last o e flat digest places links index k d last fits h here) is
 
 -- any segment of a program, as it stands in the form, loads the same there
 pub program_loads : (o : Original) (e : Extension) (flat : List ℕ) (digest : Option (List ℕ)) (places links : List Window) (index i k : ℕ) (d last : Segment)
     → Fits (program_plan o index last flat e) o flat (length (undo_part (program_plan o index last flat e) o digest)) → IsHeldProgram o places index last → IsLoaded o places links (last.vaddr + last.filesz) i k d
-    → byte_at (0 + (get_or (segments o.bytes (header o.bytes)) i d).vaddr + k) (stands 0 (program_form o index last e flat digest) (get_or (segments o.bytes (header o.bytes)) i d) (segment (program_form o index last e flat digest) (header (program_form o index last e flat digest)) i))
+    → byte_at (0 + (get_or (segments o.bytes (header o.bytes)) i d).vaddr + k) (stands 0 (form_of_program o index last e flat digest) (get_or (segments o.bytes (header o.bytes)) i d) (segment (form_of_program o index last e flat digest) (header (form_of_program o index last e flat digest)) i))
     ≡ byte_at (0 + (get_or (segments o.bytes (header o.bytes)) i d).vaddr + k) (stands 0 o.bytes (get_or (segments o.bytes (header o.bytes)) i d) (get_or (segments o.bytes (header o.bytes)) i d))
 unfolding planned
 program_loads o e flat digest places links index i k d last fits h is =
     let ss = segments o.bytes (header o.bytes) in
     let p = program_plan o index last flat e in
     let undo = undo_part p o digest in
-    let file = program_form o index last e flat digest in
+    let file = form_of_program o index last e flat digest in
     let lt : i < length ss = omega (arith, is.lt, segment_count o.bytes (header o.bytes)) in
     let there : segment file (header file) i ≡ get_or p.segments i d =
     segment_there p o flat undo fits i d (omega (arith, is.lt, fits.segments)) (program_segment_fits o index last e flat (length undo) i d is.taken h.program fits is.lt is.inside) in

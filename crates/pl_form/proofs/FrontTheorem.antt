@@ -11,7 +11,7 @@ use Rattle.pl_undo.specs.declared.undo.Undo.{Undo}
 use Rattle.pl_move.specs.Moves.{table_windows, IsSlot, all_moved, all_back}
 use Rattle.pl_move.specs.declared.table.Table.{Table}
 use Rattle.pl_move.proofs.MoveLaws.{length-all_moved, agree_all_back}
-use Rattle.pl_form.specs.Back.{all_within, segments_window, sections_window, head_windows, headers_of, cut_at, spot_windows, memory_of, wanted, visible, Reader, stored, with_places, with_tables, from_front, undo_of}
+use Rattle.pl_form.specs.Back.{all_within, segments_window, sections_window, head_windows, headers_of, cut_at, spot_windows, memory_of, wanted, visible, Reader, stored_puts, with_places, with_tables, from_front, undo_of}
 use Rattle.pl_form.specs.declared.parts.Spot.{Spot}
 use Rattle.pl_form.proofs.FrontLaws.{own_moved, within_same, cut_own, visible_own, length-memory_of, IsReadable}
 use Rattle.pl_form.proofs.HeadLaws.{headers_begin}
@@ -24,7 +24,7 @@ unfolding with_places
 with_places_is r u d rs bytes ps e f g = rw (e, f, g) refl
 
 with_tables_is : (r : Reader) (u : Undo) (d : Window) (ts : List Table) (rs : List Window) (front : List ℕ) → r.relocations u.headers (take d.size u.kept) ≡ Some rs → are_in (length front) (head_windows (header u.headers) ++ d ∷ []) ≡ true → are_in (length front) (table_windows ts) ≡ true
-    → with_tables r u d ts front ≡ with_places r u d rs (all_back u.slot ts (put_all (stored u d) front))
+    → with_tables r u d ts front ≡ with_places r u d rs (all_back u.slot ts (put_all (stored_puts u d) front))
 unfolding with_tables
 with_tables_is r u d ts rs front e f g = rw (e, f, g) refl
 
@@ -49,7 +49,7 @@ heads_part size o d h = (h.0, (h.1.0, (h.1.1.0, tt)))
 dynamic_part : (size : ℕ) (o : List ℕ) (d : Window) → AllIn size (head_windows (header o) ++ d ∷ []) → IsIn size d
 dynamic_part size o d h = h.1.1.1.0
 
-stored_is : (slot cut shift : ℕ) (o : List ℕ) (d : Window) (ps : List Spot) (digest : Option (List ℕ)) → AllIn (length o) (head_windows (header o) ++ d ∷ []) → stored (undo_of slot cut shift d ps o digest) d ≡ own (head_windows (header o) ++ d ∷ []) o
+stored_is : (slot cut shift : ℕ) (o : List ℕ) (d : Window) (ps : List Spot) (digest : Option (List ℕ)) → AllIn (length o) (head_windows (header o) ++ d ∷ []) → stored_puts (undo_of slot cut shift d ps o digest) d ≡ own (head_windows (header o) ++ d ∷ []) o
 stored_is slot cut shift o d ps digest fits =
     let e1 = header_again o (heads_part (length o) o d fits) in
     let e2 = cut_own (head_windows (header o)) o [] (heads_part (length o) o d fits) in
@@ -76,10 +76,10 @@ front_undone r o front d ts rs ps slot cut shift digest ok le h =
     let front_length : length front ≡ length o = h.size ∙ moved_length in
     let e1 : header (headers_of o) ≡ header o = header_again o (heads_part (length o) o d hs_in) in
     let e3 : take d.size u.kept ≡ within d o = dynamic_again d ps o d_in in
-    let puts : own hs (all_moved slot ts o) ≡ stored u d = own_moved slot ts hs o ts_in hs_in ok.heads_apart ∙ sym (stored_is slot cut shift o d ps digest hs_in) in
+    let puts : own hs (all_moved slot ts o) ≡ stored_puts u d = own_moved slot ts hs o ts_in hs_in ok.heads_apart ∙ sym (stored_is slot cut shift o d ps digest hs_in) in
     let after_puts : Agree (spot_windows ps) (put_all (own hs (all_moved slot ts o)) front) (all_moved slot ts o) = agree_own hs (spot_windows ps) front (all_moved slot ts o) h (rw moved_length hs_in) in
-    let b : List ℕ = all_back slot ts (put_all (stored u d) front) in
-    let after_back : Agree (spot_windows ps) b o = agree_all_back (spot_windows ps) slot ts (put_all (stored u d) front) o (rw puts at after_puts) ts_in ok.tables_apart ok.bytes le in
+    let b : List ℕ = all_back slot ts (put_all (stored_puts u d) front) in
+    let after_back : Agree (spot_windows ps) b o = agree_all_back (spot_windows ps) slot ts (put_all (stored_puts u d) front) o (rw puts at after_puts) ts_in ok.tables_apart ok.bytes le in
     let rows : all_within rs b ≡ all_within rs o = within_same rs (spot_windows ps) b o after_back ok.relocations_in ok.relocations_apart in
     let e5 : drop d.size u.kept ≡ memory_of ps o = places_again d ps o d_in in
     let whole : Agree (spot_windows ps ++ []) b o = rw (append-nil (spot_windows ps)) after_back in

@@ -82,7 +82,7 @@ library_undo_most o x digest slot cut shift firm library size =
 
 pub form_most : (o : List ℕ) (x : Object) (slot stamp checksum : ℕ) (l : Listed) (flat : List ℕ) (digest : Option (List ℕ)) → IsFirm o x → is_library x.kind ≡ true → IsDigest digest → FormsLibrary o x slot stamp checksum l flat digest
     → Fits (library_plan (original_of o) slot stamp checksum l) (original_of o) flat (length (undo_part (library_plan (original_of o) slot stamp checksum l) (original_of o) digest))
-    → length (forms.library_form (original_of o) slot stamp checksum l flat digest) ≤ 3 * length o + (length l.strings + length l.rows) + 4160456
+    → length (forms.form_of_library (original_of o) slot stamp checksum l flat digest) ≤ 3 * length o + (length l.strings + length l.rows) + 4160456
 unfolding planned
 form_most o x slot stamp checksum l flat digest firm library size f fits =
     let p = library_plan (original_of o) slot stamp checksum l in

@@ -11,7 +11,7 @@ use Rattle.pl_move.proofs.MoveLaws.{length-rows, length-row_moved}
 use Rattle.pl_object.specs.PlaceClauses.{last_load}
 use Rattle.pl_object.specs.declared.object.Object.{Object}
 use Rattle.pl_form.specs.Back.{head_windows, find_undo, front_of}
-use Rattle.pl_form.specs.Forms.{original_of, undo_part, planned, library_form}
+use Rattle.pl_form.specs.Forms.{original_of, undo_part, planned, form_of_library}
 use Rattle.pl_form.specs.Found.{ss_of, d_of, tags_of}
 use Rattle.pl_form.specs.PartLaws.{FormsLibrary}
 use Rattle.pl_form.specs.Parts.{Original, library_entries, library_dynamic, library_plan, with_entries, tags_moved, front_part}
@@ -55,7 +55,7 @@ unfolding library_plan
 plan_slot o slot stamp checksum l = refl
 
 pub library_read : (o : List ℕ) (x : Object) (slot stamp checksum : ℕ) (l : Listed) (flat : List ℕ) (digest : Option (List ℕ)) → FormsLibrary o x slot stamp checksum l flat digest → stamp < 2 ^ 32
-    → ReadsLibrary (library_form (original_of o) slot stamp checksum l flat digest) o slot stamp l flat digest
+    → ReadsLibrary (form_of_library (original_of o) slot stamp checksum l flat digest) o slot stamp l flat digest
 unfolding planned
 library_read o x slot stamp checksum l flat digest f small =
     let c = library_conditions o x slot stamp checksum l flat digest f in
@@ -64,7 +64,7 @@ library_read o x slot stamp checksum l flat digest f small =
     let is = library_is o slot stamp checksum l flat digest c in
     let undo = undo_part p a digest in
     let u = undo_by p a digest in
-    let file = library_form a slot stamp checksum l flat digest in
+    let file = form_of_library a slot stamp checksum l flat digest in
     let front = front_part p a flat (length undo) in
     let ins = all_in (length o) (head_windows (header o) ++ d_of o ∷ []) is.fits.heads_in in
     let some : 0 < (d_of o).size = omega (arith, c.spare) in

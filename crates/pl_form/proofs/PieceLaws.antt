@@ -202,7 +202,7 @@ long_places o x given firm zip = subst (AllZip IsAsLong given) (parts_found o x 
 pub given_wanted : GivenAreWanted
 given_wanted o x given firm zip = (fills_told o given (long_places o x given firm zip)).size
 
-program_count : (o : List ℕ) (x : Object) (index : ℕ) (last : Segment) (e : Extension) (flat : List ℕ) (digest : Option (List ℕ)) → FormsProgram o x index last e flat digest → length (ss_of (forms.program_form (original_of o) index last e flat digest)) ≡ length (ss_of o)
+program_count : (o : List ℕ) (x : Object) (index : ℕ) (last : Segment) (e : Extension) (flat : List ℕ) (digest : Option (List ℕ)) → FormsProgram o x index last e flat digest → length (ss_of (forms.form_of_program (original_of o) index last e flat digest)) ≡ length (ss_of o)
 program_count o x index last e flat digest f =
     let c = program_conditions o x index last e flat digest f in
     ap length (programs_are_extended o x index last e flat digest f).are ∙ (program_is o index last e flat digest c).fits.segments ∙ sym (segment_count o (header o))
@@ -216,7 +216,7 @@ program_at o x list given conflicts version address (Some last) at some is zip s
     let digest = digest_in version o in
     let e = extension_of o list conflicts in
     let index = last_index (ss_of o) in
-    let form = forms.program_form (original_of o) index last e flat digest in
+    let form = forms.form_of_program (original_of o) index last e flat digest in
     let same : form ≡ program_with o list flat conflicts version = extended_some o (record { index = index; segment = last }) e flat version (record { at = at; index = refl }) in
     let small : length form ≤ STORED = subst (λ (xs : List ℕ). length xs ≤ STORED) (sym same) short in
     let f = forms_program o x last e flat digest is.firm is.program at told.size (digest_ready version (sha256 o) (length-sha256 o)) (below_program (original_of o) index last e flat digest small) in

@@ -33,7 +33,7 @@ sections_whole : (bytes : List ℕ) (x : Object) (l : Layout) (last : Last) (cut
     → all_sections (length (old_names bytes)) x.sections last.segment (record { cut = cut; size = size }) e ≡ program_sections (original bytes l) last.segment cut size e
 unfolding program_sections
 sections_whole bytes x l last cut size e head low room =
-    let f = map (extending.program_section (record { cut = cut; size = size }) last.segment) in
+    let f = map (extending.section_shifted_by (record { cut = cut; size = size }) last.segment) in
     let g = map (parts.program_section cut size last.segment) in
     let names : ℕ = length (old_names bytes) in
     let same : sections bytes (header bytes) ≡ x.sections = ap (sections bytes) head.header ∙ head.sections in

@@ -28,7 +28,7 @@ passes_end size at end b e = elim (cases_Bool (nat_lt size end)) [
 plus_small : (x y : ℕ) → x + y < 2 ^ 64 → plus x y ≡ x + y
 plus_small x y lt = omega (arith, lt)
 
-shift_one : (cut size most : ℕ) (s : Segment) → s.offset ≤ most → most + size < 2 ^ 64 → extending.shifted_segment (record { cut = cut; size = size }) s ≡ parts.shifted_segment cut size s
+shift_one : (cut size most : ℕ) (s : Segment) → s.offset ≤ most → most + size < 2 ^ 64 → extending.segment_shifted_by (record { cut = cut; size = size }) s ≡ parts.shifted_segment cut size s
 shift_one cut size most s low room = ap (λ (n : ℕ). if nat_lt 0 s.filesz && nat_le cut s.offset then record s { offset = n } else s) (plus_small s.offset size (omega (arith, low, room)))
 
 -- the offsets of segments, and those of sections other than NOBITS, are small
@@ -46,10 +46,10 @@ low_drop most zero ss low = low
 low_drop most (suc n) [] low = tt
 low_drop most (suc n) (s ∷ ss) low = low_drop most n ss low.1
 
-shift_all : (cut size most : ℕ) (ss : List Segment) → AreLow most ss → most + size < 2 ^ 64 → map (extending.shifted_segment (record { cut = cut; size = size })) ss ≡ map (parts.shifted_segment cut size) ss
+shift_all : (cut size most : ℕ) (ss : List Segment) → AreLow most ss → most + size < 2 ^ 64 → map (extending.segment_shifted_by (record { cut = cut; size = size })) ss ≡ map (parts.shifted_segment cut size) ss
 shift_all cut size most [] low room = refl
 shift_all cut size most (s ∷ ss) low room =
-    ap (λ (x : Segment). x ∷ map (extending.shifted_segment (record { cut = cut; size = size })) ss) (shift_one cut size most s low.0 room)
+    ap (λ (x : Segment). x ∷ map (extending.segment_shifted_by (record { cut = cut; size = size })) ss) (shift_one cut size most s low.0 room)
     ∙ ap (λ (xs : List Segment). parts.shifted_segment cut size s ∷ xs) (shift_all cut size most ss low.1 room)
 
 split_is : (cut size more index : ℕ) (last : Segment) (ss : List Segment) → index < length ss → ((d : Segment) → get_or ss index d ≡ last) → program_segments cut size more index ss
@@ -62,7 +62,7 @@ pub segments_are : (cut size more most : ℕ) (last : Last) (ss : List Segment) 
     → split_segments (record { cut = cut; size = size }) more last ss ≡ program_segments cut size more last.index ss
 segments_are cut size more most last ss lt is low room =
     let shift : Shift = record { cut = cut; size = size } in
-    let f = map (extending.shifted_segment shift) in
+    let f = map (extending.segment_shifted_by shift) in
     let g = map (parts.shifted_segment cut size) in
     ap (λ (n : ℕ). f (take last.index ss) ++ extended_segment more last.segment ∷ f (drop n ss)) (add-one last.index)
     ∙ ap (λ (xs : List Segment). xs ++ extended_segment more last.segment ∷ f (drop (suc last.index) ss)) (shift_all cut size most (take last.index ss) (low_take most last.index ss low) room)
@@ -84,7 +84,7 @@ AreLowSections most [] = Unit {0}
 AreLowSections most (s ∷ ss) = (((s.kind == 8) ≡ false) → s.offset ≤ most) × AreLowSections most ss
 
 section_one : (cut size most : ℕ) (last : Segment) (s : Section) → (((s.kind == 8) ≡ false) → s.offset ≤ most) → most + size < 2 ^ 64
-    → extending.program_section (record { cut = cut; size = size }) last s ≡ parts.program_section cut size last s
+    → extending.section_shifted_by (record { cut = cut; size = size }) last s ≡ parts.program_section cut size last s
 section_one cut size most last s low room = elim (cases_Bool (is_grown last s)) [
   | inl grown ↦ rw grown refl
   | inr kept ↦ elim (cases_Bool (s.kind == 8)) [
@@ -94,10 +94,10 @@ section_one cut size most last s low room = elim (cases_Bool (is_grown last s)) 
 ]
 
 pub sections_are : (cut size most : ℕ) (last : Segment) (ss : List Section) → AreLowSections most ss → most + size < 2 ^ 64
-    → map (extending.program_section (record { cut = cut; size = size }) last) ss ≡ map (parts.program_section cut size last) ss
+    → map (extending.section_shifted_by (record { cut = cut; size = size }) last) ss ≡ map (parts.program_section cut size last) ss
 sections_are cut size most last [] low room = refl
 sections_are cut size most last (s ∷ ss) low room =
-    ap (λ (x : Section). x ∷ map (extending.program_section (record { cut = cut; size = size }) last) ss) (section_one cut size most last s low.0 room)
+    ap (λ (x : Section). x ∷ map (extending.section_shifted_by (record { cut = cut; size = size }) last) ss) (section_one cut size most last s low.0 room)
     ∙ ap (λ (xs : List Section). parts.program_section cut size last s ∷ xs) (sections_are cut size most last ss low.1 room)
 
 pub low_sections : (bytes : List ℕ) (ss : List Section) → list_any (section_passes bytes) ss ≡ false → AreLowSections (length bytes) ss

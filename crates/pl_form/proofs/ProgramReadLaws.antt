@@ -12,7 +12,7 @@ use Rattle.pl_elf.proofs.AcceptedLaws.{load_fits}
 use Rattle.pl_object.specs.PlaceClauses.{last_load}
 use Rattle.pl_object.specs.declared.object.Object.{Object}
 use Rattle.pl_form.specs.Back.{find_undo, front_of}
-use Rattle.pl_form.specs.Forms.{original_of, undo_part, planned, program_form}
+use Rattle.pl_form.specs.Forms.{original_of, undo_part, planned, form_of_program}
 use Rattle.pl_form.specs.Found.{zeros_from, ss_of, places_of, ps_of}
 use Rattle.pl_form.specs.PartLaws.{FormsProgram}
 use Rattle.pl_form.specs.Loads.{spots_of, hidden_windows}
@@ -81,7 +81,7 @@ hidden_of o x index last e flat digest f =
     }
 
 pub program_read : (o : List ℕ) (x : Object) (index : ℕ) (last : Segment) (e : Extension) (flat : List ℕ) (digest : Option (List ℕ)) → FormsProgram o x index last e flat digest
-    → ReadsProgram (program_form (original_of o) index last e flat digest) o e flat digest
+    → ReadsProgram (form_of_program (original_of o) index last e flat digest) o e flat digest
 unfolding planned
 program_read o x index last e flat digest f =
     let c = program_conditions o x index last e flat digest f in
@@ -90,7 +90,7 @@ program_read o x index last e flat digest f =
     let is = program_is o index last e flat digest c in
     let undo = undo_part p a digest in
     let u = undo_by p a digest in
-    let file = program_form a index last e flat digest in
+    let file = form_of_program a index last e flat digest in
     let front = front_part p a flat (length undo) in
     let hid = hidden_of o x index last e flat digest f in
     let front_same : front_of u file ≡ front = front_is p a flat undo digest is.fits in

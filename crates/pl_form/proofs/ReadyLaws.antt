@@ -192,7 +192,7 @@ library_fit o x l slot stamp checksum listed p flat undo digest firm library sam
 
 -- the form, by the plan and the undo section that the code makes
 pub library_whole : (o : List ℕ) (l : Layout) (slot stamp checksum : ℕ) (listed : Listed) (p : FormPlan) (flat undo : List ℕ) (digest : Option (List ℕ)) → original o l ≡ original_of o
-    → p ≡ library_plan (original o l) slot stamp checksum listed → undo ≡ undo_part p (original o l) digest → form p (original o l) flat undo ≡ forms.library_form (original_of o) slot stamp checksum listed flat digest
+    → p ≡ library_plan (original o l) slot stamp checksum listed → undo ≡ undo_part p (original o l) digest → form p (original o l) flat undo ≡ forms.form_of_library (original_of o) slot stamp checksum listed flat digest
 unfolding planned
 library_whole o l slot stamp checksum listed p flat undo digest same plan written =
     ap (form p (original o l) flat) written
@@ -281,7 +281,7 @@ program_fit o x l last e p flat undo digest firm program same at plan written fi
 
 pub program_whole : (o : List ℕ) (l : Layout) (last : Last) (e : Extension) (p : FormPlan) (flat undo : List ℕ) (digest : Option (List ℕ)) → original o l ≡ original_of o → IsLastOf o last
     → p ≡ program_plan (original o l) last.index last.segment flat e → undo ≡ undo_part p (original o l) digest
-    → form p (original o l) flat undo ≡ forms.program_form (original_of o) (last_index (ss_of o)) last.segment e flat digest
+    → form p (original o l) flat undo ≡ forms.form_of_program (original_of o) (last_index (ss_of o)) last.segment e flat digest
 unfolding planned
 program_whole o l last e p flat undo digest same at plan written =
     ap (form p (original o l) flat) written
@@ -303,21 +303,21 @@ extended_none o x e flat version firm none =
     ap (λ (found : Option Segment). extended_at o found e flat version) at
 
 pub extended_some : (o : List ℕ) (last : Last) (e : Extension) (flat : List ℕ) (version : Version) → IsLastOf o last
-    → forms.program_form (original_of o) (last_index (ss_of o)) last.segment e flat (digest_in version o) ≡ extended o e flat version
+    → forms.form_of_program (original_of o) (last_index (ss_of o)) last.segment e flat (digest_in version o) ≡ extended o e flat version
 unfolding extended
 extended_some o last e flat version is = sym (ap (λ (found : Option Segment). extended_at o found e flat version) is.at)
 
 -- ---- what the code of a library answers
 
 pub library_with_is : (o : List ℕ) (slot stamp checksum : ℕ) (l : Listed) (list : List ListRow) (flat digest : List ℕ) (version : Version) (kept : Option (List ℕ)) → digest ≡ sha256 o → checksum ≡ word32 0 digest → l ≡ listed list → kept ≡ kept_digest version digest
-    → forms.library_form (original_of o) slot stamp checksum l flat kept ≡ library_with o slot stamp list flat version
+    → forms.form_of_library (original_of o) slot stamp checksum l flat kept ≡ library_with o slot stamp list flat version
 unfolding library_with
 library_with_is o slot stamp checksum l list flat digest version kept a b e k =
     let sum : checksum ≡ checksum_of o = b ∙ ap (word32 0) a in
     let rest : kept ≡ digest_in version o = k ∙ ap (kept_digest version) a in
-    ap (λ (n : ℕ). forms.library_form (original_of o) slot stamp n l flat kept) sum
-    ∙ ap (λ (m : Listed). forms.library_form (original_of o) slot stamp (checksum_of o) m flat kept) e
-    ∙ ap (forms.library_form (original_of o) slot stamp (checksum_of o) (listed list) flat) rest
+    ap (λ (n : ℕ). forms.form_of_library (original_of o) slot stamp n l flat kept) sum
+    ∙ ap (λ (m : Listed). forms.form_of_library (original_of o) slot stamp (checksum_of o) m flat kept) e
+    ∙ ap (forms.form_of_library (original_of o) slot stamp (checksum_of o) (listed list) flat) rest
 
 -- ---- the strings of a program
 

@@ -22,7 +22,7 @@ use Rattle.pl_object.specs.Tables.{window_range, link_windows}
 use Rattle.pl_object.specs.declared.object.Object.{Object}
 use Rattle.pl_object.proofs.AcceptedLaws.{accepted}
 use Rattle.pl_form.specs.Back.{wanted}
-use Rattle.pl_form.specs.Forms.{undo_part, planned, library_form, program_form, original_of}
+use Rattle.pl_form.specs.Forms.{undo_part, planned, form_of_library, form_of_program, original_of}
 use Rattle.pl_form.specs.Found.{ss_of, secs_of, tags_of, places_of, ps_of, zeros_from}
 use Rattle.pl_form.specs.PartLaws.{IsOriginal, PartsAreFound, FormsProgram, LibrariesHoldFills, ProgramsHoldFills, IsAsLong, FillsAreTold, place_of, segment_of}
 use Rattle.pl_form.specs.Loads.{stands, spot_of, spots_of, hidden_windows, fills}
@@ -139,7 +139,7 @@ libraries_hold_fills o x slot stamp checksum l flat digest i k a j d w f u =
     let ss = ss_of o in
     let p = library_plan org slot stamp checksum l in
     let undo = undo_part p org digest in
-    let file = library_form org slot stamp checksum l flat digest in
+    let file = form_of_library org slot stamp checksum l flat digest in
     let fits = (library_is o slot stamp checksum l flat digest c).fits in
     let acc = accepted o x f.original.accepted in
     let start = zeros_from (last_load ss) in
@@ -201,7 +201,7 @@ programs_hold_fills o x index last e flat digest i k a j d w f u =
     let ss = ss_of o in
     let p = program_plan org index last flat e in
     let undo = undo_part p org digest in
-    let file = program_form org index last e flat digest in
+    let file = form_of_program org index last e flat digest in
     let fits = (program_is o index last e flat digest c).fits in
     let acc = accepted o x f.original.accepted in
     let start : ℕ = last.vaddr + last.filesz in

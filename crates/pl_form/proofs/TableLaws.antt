@@ -9,7 +9,7 @@ use Rattle.pl_elf.specs.declared.segment.Segment.{Segment}
 use Rattle.pl_form.specs.Back.{inserted}
 use Rattle.pl_form.specs.Fits.{Fits}
 use Rattle.pl_form.specs.Forms.{undo_part, planned, original_of}
-use Rattle.pl_form.specs.PartLaws.{HasTable, LibrariesAreMoved, ProgramsAreExtended}
+use Rattle.pl_form.specs.PartLaws.{HasTable, LibraryFormsAreMoved, ProgramsAreExtended}
 use Rattle.pl_form.specs.Parts.{Original, moved_segment, new_header, front_part, form, library_plan, program_plan}
 use Rattle.pl_form.specs.declared.parts.FormPlan.{FormPlan}
 use Rattle.pl_form.proofs.FinalTheorem.{library_conditions, program_conditions, inside}
@@ -50,7 +50,7 @@ moved_small o slot i d is lt =
     let n : i < length ss = omega (arith, lt, length-map ss (moved_segment slot)) in
     subst SegmentFits (sym (get_or-map (moved_segment slot) ss i d d n)) (moved_fits slot (get_or ss i d) (own_fits o i d is (omega (arith, n, segment_count o.bytes (header o.bytes)))))
 
-pub libraries_are_moved : LibrariesAreMoved
+pub libraries_are_moved : LibraryFormsAreMoved
 unfolding planned library_plan
 libraries_are_moved o x slot stamp checksum l flat digest f =
     let c = library_conditions o x slot stamp checksum l flat digest f in

@@ -16,7 +16,7 @@ use Rattle.pl_form.specs.declared.parts.FormPlan.{FormPlan}
 use Rattle.pl_form.specs.declared.parts.Listed.{Listed}
 use Rattle.pl_form.specs.declared.parts.Extension.{Extension}
 use Rattle.pl_form.specs.Found.{reader, ss_of, secs_of, d_of, tags_of, rs_of, ps_of}
-use Rattle.pl_form.specs.Forms.{undo_part, library_form, program_form, original_of}
+use Rattle.pl_form.specs.Forms.{undo_part, form_of_library, form_of_program, original_of}
 use Rattle.pl_form.specs.Fits.{Fits}
 use Rattle.pl_form.proofs.KindLaws.{IsTaken, IsProgram, library_fits, program_fits, segment_count}
 use Rattle.pl_form.proofs.UndoLaws.{IsStored}
@@ -90,7 +90,7 @@ library_is o slot stamp checksum l flat digest is =
     undoable p o flat digest is.accepted fits (library_stored a slot stamp checksum l is.kind is.slot_small (all_below p a flat (length (undo_part p a digest)) fits).0) is.digest_size is.even
 
 pub library_undone : (o : List ℕ) (slot stamp checksum : ℕ) (l : Listed) (flat : List ℕ) (digest : Option (List ℕ)) → IsLibrary o slot stamp checksum l flat digest
-    → back reader (library_form (original_of o) slot stamp checksum l flat digest) ≡ Some o
+    → back reader (form_of_library (original_of o) slot stamp checksum l flat digest) ≡ Some o
 library_undone o slot stamp checksum l flat digest is = planned_undone reader _ (original_of o) flat digest (library_is o slot stamp checksum l flat digest is)
 
 pub record IsProgramForm (o : List ℕ) (index : ℕ) (last : Segment) (e : Extension) (flat : List ℕ) (digest : Option (List ℕ)) : Type 0 where
@@ -113,12 +113,12 @@ program_is o index last e flat digest is =
     undoable p o flat digest is.accepted fits (program_stored a index last e flat is.kind is.program.cut below.1 below.0) is.digest_size (slot_even a index last e flat)
 
 pub program_undone : (o : List ℕ) (index : ℕ) (last : Segment) (e : Extension) (flat : List ℕ) (digest : Option (List ℕ)) → IsProgramForm o index last e flat digest
-    → back reader (program_form (original_of o) index last e flat digest) ≡ Some o
+    → back reader (form_of_program (original_of o) index last e flat digest) ≡ Some o
 program_undone o index last e flat digest is = planned_undone reader _ (original_of o) flat digest (program_is o index last e flat digest is)
 
 -- a library's form is no program's
 pub kinds_apart : (o o' : List ℕ) (slot stamp checksum : ℕ) (l : Listed) (flat flat' : List ℕ) (digest digest' : Option (List ℕ)) (index : ℕ) (last : Segment) (e : Extension)
-    → IsLibrary o slot stamp checksum l flat digest → IsProgramForm o' index last e flat' digest' → library_form (original_of o) slot stamp checksum l flat digest ≡ program_form (original_of o') index last e flat' digest' → ⊥
+    → IsLibrary o slot stamp checksum l flat digest → IsProgramForm o' index last e flat' digest' → form_of_library (original_of o) slot stamp checksum l flat digest ≡ form_of_program (original_of o') index last e flat' digest' → ⊥
 kinds_apart o o' slot stamp checksum l flat flat' digest digest' index last e a b same =
     let one : o ≡ o' = one_planned reader _ _ (original_of o) (original_of o') flat flat' digest digest' (library_is o slot stamp checksum l flat digest a) (program_is o' index last e flat' digest' b) same in
     let kinds : (header o).kind ≡ (header o').kind = ap (λ (xs : List ℕ). (header xs).kind) one in

@@ -85,8 +85,8 @@ undo_in bytes = found (reading.undo_of bytes)
 
 -- ---- back
 
-abbrev pub stored : Undo → Window → List Put
-stored u d = cut_at (head_windows (header u.headers)) u.headers ++ record { at = d.at; bytes = take d.size u.kept } ∷ []
+abbrev pub stored_puts : Undo → Window → List Put
+stored_puts u d = cut_at (head_windows (header u.headers)) u.headers ++ record { at = d.at; bytes = take d.size u.kept } ∷ []
 
 unfoldable pub with_places : Reader → Undo → Window → List Window → List ℕ → Option (List ℕ)
 with_places r u d rs bytes = do
@@ -96,7 +96,7 @@ with_places r u d rs bytes = do
 unfoldable pub with_tables : Reader → Undo → Window → List Table → List ℕ → Option (List ℕ)
 with_tables r u d ts front = do
   rs ← r.relocations u.headers (take d.size u.kept)
-  when (are_in (length front) (head_windows (header u.headers) ++ d ∷ []) && are_in (length front) (table_windows ts)) (with_places r u d rs (all_back u.slot ts (put_all (stored u d) front)))
+  when (are_in (length front) (head_windows (header u.headers) ++ d ∷ []) && are_in (length front) (table_windows ts)) (with_places r u d rs (all_back u.slot ts (put_all (stored_puts u d) front)))
 
 -- the original, from the bytes that stand where its bytes stood
 unfoldable pub from_front : Reader → Undo → List ℕ → Option (List ℕ)

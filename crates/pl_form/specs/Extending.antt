@@ -35,15 +35,15 @@ pub record HasNames (bytes : List ℕ) : Type 0 where
 
 -- ---- segments and sections
 
-abbrev pub shifted_segment : Shift → Segment → Segment
-shifted_segment shift s = if nat_lt 0 s.filesz && nat_le shift.cut s.offset then record s { offset = plus s.offset shift.size } else s
+abbrev pub segment_shifted_by : Shift → Segment → Segment
+segment_shifted_by shift s = if nat_lt 0 s.filesz && nat_le shift.cut s.offset then record s { offset = plus s.offset shift.size } else s
 
 abbrev pub split_segments : Shift → ℕ → Last → List Segment → List Segment
 split_segments shift more last ss =
-    map (shifted_segment shift) (take last.index ss) ++ extended_segment more last.segment ∷ map (shifted_segment shift) (drop (last.index + 1) ss)
+    map (segment_shifted_by shift) (take last.index ss) ++ extended_segment more last.segment ∷ map (segment_shifted_by shift) (drop (last.index + 1) ss)
 
-abbrev pub program_section : Shift → Segment → Section → Section
-program_section shift last s =
+abbrev pub section_shifted_by : Shift → Segment → Section → Section
+section_shifted_by shift last s =
     if is_grown last s then record s { kind = 1; offset = last.offset + (s.addr - last.vaddr) }
     else (if not (s.kind == 8) && nat_le shift.cut s.offset then record s { offset = plus s.offset shift.size } else s)
 
@@ -55,7 +55,7 @@ new_sections last e rows names =
 
 -- behind names of so many bytes
 abbrev pub all_sections : ℕ → List Section → Segment → Shift → Extension → List Section
-all_sections names old last shift e = map (program_section shift last) old ++ new_sections last e (length old) names
+all_sections names old last shift e = map (section_shifted_by shift last) old ++ new_sections last e (length old) names
 
 -- ---- the dynamic table
 

@@ -16,11 +16,11 @@ undo_part p o digest = undo_bytes (undo_of p.slot p.cut (length p.more) o.dynami
 unfoldable pub planned : FormPlan → Original → List ℕ → Option (List ℕ) → List ℕ
 planned p o flat digest = form p o flat (undo_part p o digest)
 
-abbrev pub library_form : Original → ℕ → ℕ → ℕ → Listed → List ℕ → Option (List ℕ) → List ℕ
-library_form o slot stamp checksum l flat digest = planned (library_plan o slot stamp checksum l) o flat digest
+abbrev pub form_of_library : Original → ℕ → ℕ → ℕ → Listed → List ℕ → Option (List ℕ) → List ℕ
+form_of_library o slot stamp checksum l flat digest = planned (library_plan o slot stamp checksum l) o flat digest
 
-abbrev pub program_form : Original → ℕ → Segment → Extension → List ℕ → Option (List ℕ) → List ℕ
-program_form o index last e flat digest = planned (program_plan o index last flat e) o flat digest
+abbrev pub form_of_program : Original → ℕ → Segment → Extension → List ℕ → Option (List ℕ) → List ℕ
+form_of_program o index last e flat digest = planned (program_plan o index last flat e) o flat digest
 
 -- an original, with all that is found in it by its own header, tables and rows
 abbrev pub original_of : List ℕ → Original

@@ -19,7 +19,7 @@ use Rattle.pl_form.specs.declared.version.Version.{Version}
 -- by the bytes at all places
 unfoldable pub library_with : List ℕ → ℕ → ℕ → List ListRow → List ℕ → Version → List ℕ
 library_with o slot stamp list flat version =
-    forms.library_form (original_of o) slot stamp (checksum_of o) (listed list) flat (digest_in version o)
+    forms.form_of_library (original_of o) slot stamp (checksum_of o) (listed list) flat (digest_in version o)
 
 -- by the words at the places
 abbrev pub library_form : List ℕ → ℕ → ℕ → List ListRow → List (Option ℕ) → Version → List ℕ

@@ -17,7 +17,7 @@ use Rattle.pl_form.specs.declared.parts.Listed.{Listed}
 use Rattle.pl_form.specs.Back.{back, wanted}
 use Rattle.pl_form.specs.Parts.{table_at, moved_segment, library_plan, program_plan}
 use Rattle.pl_form.specs.Found.{reader, ss_of, secs_of, d_of, tags_of, places_of, ps_of}
-use Rattle.pl_form.specs.Forms.{undo_part, library_form, program_form, original_of}
+use Rattle.pl_form.specs.Forms.{undo_part, form_of_library, form_of_program, original_of}
 use Rattle.pl_form.specs.Loads.{stands, is_under, fills}
 
 -- a digest has 32 bytes
@@ -74,7 +74,7 @@ pub record IsLibraryFormOf (file o : List ℕ) : Type 0 where
   pub flat : List ℕ
   pub digest : Option (List ℕ)
   pub forms : FormsLibrary o x slot stamp checksum list flat digest
-  pub is : file ≡ library_form (original_of o) slot stamp checksum list flat digest
+  pub is : file ≡ form_of_library (original_of o) slot stamp checksum list flat digest
 
 pub record IsProgramFormOf (file o : List ℕ) : Type 0 where
   pub x : Object
@@ -84,18 +84,18 @@ pub record IsProgramFormOf (file o : List ℕ) : Type 0 where
   pub flat : List ℕ
   pub digest : Option (List ℕ)
   pub forms : FormsProgram o x index last lists flat digest
-  pub is : file ≡ program_form (original_of o) index last lists flat digest
+  pub is : file ≡ form_of_program (original_of o) index last lists flat digest
 
-abbrev pub IsFormOf : List ℕ → List ℕ → Type 0
-IsFormOf file o = IsLibraryFormOf file o ⊎ IsProgramFormOf file o
+abbrev pub IsFormOfOriginal : List ℕ → List ℕ → Type 0
+IsFormOfOriginal file o = IsLibraryFormOf file o ⊎ IsProgramFormOf file o
 
 -- Back of a form is its original, whatever its version, its list and the bytes at its places
-abbrev pub FormsAreUndone : Type 0
-FormsAreUndone = (file o : List ℕ) → IsFormOf file o → back reader file ≡ Some o
+abbrev pub FormsGiveOriginals : Type 0
+FormsGiveOriginals = (file o : List ℕ) → IsFormOfOriginal file o → back reader file ≡ Some o
 
 -- so no file is a form of two originals
-abbrev pub NoFormOfTwo : Type 0
-NoFormOfTwo = (file o p : List ℕ) → IsFormOf file o → IsFormOf file p → o ≡ p
+abbrev pub NoFormOfTwoOriginals : Type 0
+NoFormOfTwoOriginals = (file o p : List ℕ) → IsFormOfOriginal file o → IsFormOfOriginal file p → o ≡ p
 
 -- ---- what the segments of a form load
 
@@ -118,13 +118,13 @@ abbrev pub original_at : ℕ → List ℕ → Segment → ℕ → ℕ
 original_at place o s k = byte_at (place + s.vaddr + k) (stands place o s s)
 
 -- such a byte is the original's in the form, which its own program headers load
-abbrev pub LibrariesLoadAlike : Type 0
-LibrariesLoadAlike = (o : List ℕ) (x : Object) (slot stamp checksum : ℕ) (l : Listed) (flat : List ℕ) (digest : Option (List ℕ)) (i k : ℕ) (d : Segment) → FormsLibrary o x slot stamp checksum l flat digest → IsFree o i k d
-    → stands_at slot (library_form (original_of o) slot stamp checksum l flat digest) (segment_of o i d) i k ≡ original_at slot o (segment_of o i d) k
+abbrev pub LibraryFormsLoadAlike : Type 0
+LibraryFormsLoadAlike = (o : List ℕ) (x : Object) (slot stamp checksum : ℕ) (l : Listed) (flat : List ℕ) (digest : Option (List ℕ)) (i k : ℕ) (d : Segment) → FormsLibrary o x slot stamp checksum l flat digest → IsFree o i k d
+    → stands_at slot (form_of_library (original_of o) slot stamp checksum l flat digest) (segment_of o i d) i k ≡ original_at slot o (segment_of o i d) k
 
-abbrev pub ProgramsLoadAlike : Type 0
-ProgramsLoadAlike = (o : List ℕ) (x : Object) (index : ℕ) (last : Segment) (e : Extension) (flat : List ℕ) (digest : Option (List ℕ)) (i k : ℕ) (d : Segment) → FormsProgram o x index last e flat digest → IsFree o i k d
-    → stands_at 0 (program_form (original_of o) index last e flat digest) (segment_of o i d) i k ≡ original_at 0 o (segment_of o i d) k
+abbrev pub ProgramFormsLoadAlike : Type 0
+ProgramFormsLoadAlike = (o : List ℕ) (x : Object) (index : ℕ) (last : Segment) (e : Extension) (flat : List ℕ) (digest : Option (List ℕ)) (i k : ℕ) (d : Segment) → FormsProgram o x index last e flat digest → IsFree o i k d
+    → stands_at 0 (form_of_program (original_of o) index last e flat digest) (segment_of o i d) i k ≡ original_at 0 o (segment_of o i d) k
 
 -- ---- the program headers of a form
 
@@ -134,14 +134,14 @@ pub record HasTable (file : List ℕ) (ss : List Segment) : Type 0 where
   pub are : ss_of file ≡ ss
 
 -- those of a library's form are its original's, moved: each keeps its offset and its size in the file
-abbrev pub LibrariesAreMoved : Type 0
-LibrariesAreMoved = (o : List ℕ) (x : Object) (slot stamp checksum : ℕ) (l : Listed) (flat : List ℕ) (digest : Option (List ℕ)) → FormsLibrary o x slot stamp checksum l flat digest
-    → HasTable (library_form (original_of o) slot stamp checksum l flat digest) (map (moved_segment slot) (ss_of o))
+abbrev pub LibraryFormsAreMoved : Type 0
+LibraryFormsAreMoved = (o : List ℕ) (x : Object) (slot stamp checksum : ℕ) (l : Listed) (flat : List ℕ) (digest : Option (List ℕ)) → FormsLibrary o x slot stamp checksum l flat digest
+    → HasTable (form_of_library (original_of o) slot stamp checksum l flat digest) (map (moved_segment slot) (ss_of o))
 
 -- those of a program's form are those of its plan: the last PT_LOAD grown, and the others where the inserted bytes leave them
 abbrev pub ProgramsAreExtended : Type 0
 ProgramsAreExtended = (o : List ℕ) (x : Object) (index : ℕ) (last : Segment) (e : Extension) (flat : List ℕ) (digest : Option (List ℕ)) → FormsProgram o x index last e flat digest
-    → HasTable (program_form (original_of o) index last e flat digest) (program_plan (original_of o) index last flat e).segments
+    → HasTable (form_of_program (original_of o) index last e flat digest) (program_plan (original_of o) index last flat e).segments
 
 -- ---- what stands at a place
 
@@ -174,20 +174,20 @@ fill_at o flat a j = slice_index (slice_index_or (fills (ps_of o) flat) a []) j
 -- such a byte of a form is the one that was given for the place
 abbrev pub LibrariesHoldFills : Type 0
 LibrariesHoldFills = (o : List ℕ) (x : Object) (slot stamp checksum : ℕ) (l : Listed) (flat : List ℕ) (digest : Option (List ℕ)) (i k a j : ℕ) (d : Segment) (w : Window) → FormsLibrary o x slot stamp checksum l flat digest → IsUnder o i k a j d w
-    → stands_at slot (library_form (original_of o) slot stamp checksum l flat digest) (segment_of o i d) i k ≡ fill_at o flat a j
+    → stands_at slot (form_of_library (original_of o) slot stamp checksum l flat digest) (segment_of o i d) i k ≡ fill_at o flat a j
 
 abbrev pub ProgramsHoldFills : Type 0
 ProgramsHoldFills = (o : List ℕ) (x : Object) (index : ℕ) (last : Segment) (e : Extension) (flat : List ℕ) (digest : Option (List ℕ)) (i k a j : ℕ) (d : Segment) (w : Window) → FormsProgram o x index last e flat digest → IsUnder o i k a j d w
-    → stands_at 0 (program_form (original_of o) index last e flat digest) (segment_of o i d) i k ≡ fill_at o flat a j
+    → stands_at 0 (form_of_program (original_of o) index last e flat digest) (segment_of o i d) i k ≡ fill_at o flat a j
 
 -- there are as many bytes as a place has
 abbrev pub IsAsLong : List ℕ → Window → Type 0
 IsAsLong bytes place = length bytes ≡ place.size
 
 -- bytes for each place, put one after the other, are as many as wanted, and are told apart again
-pub record AreFills (o : List ℕ) (given : List (List ℕ)) : Type 0 where
+pub record AreBytesOfPlaces (o : List ℕ) (given : List (List ℕ)) : Type 0 where
   pub size : length (concat given) ≡ wanted (ps_of o)
   pub same : fills (ps_of o) (concat given) ≡ given
 
 abbrev pub FillsAreTold : Type 0
-FillsAreTold = (o : List ℕ) (given : List (List ℕ)) → AllZip IsAsLong given (places_of o) → AreFills o given
+FillsAreTold = (o : List ℕ) (given : List (List ℕ)) → AllZip IsAsLong given (places_of o) → AreBytesOfPlaces o given

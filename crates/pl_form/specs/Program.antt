@@ -37,7 +37,7 @@ find_last ss = with_index ss (last_load ss)
 abbrev pub extended_at : List ℕ → Option Segment → Extension → List ℕ → Version → List ℕ
 extended_at o None lists flat version = []
 extended_at o (Some last) lists flat version =
-    forms.program_form (original_of o) (last_index (ss_of o)) last lists flat (digest_in version o)
+    forms.form_of_program (original_of o) (last_index (ss_of o)) last lists flat (digest_in version o)
 
 -- an accepted program has a last PT_LOAD
 unfoldable pub extended : List ℕ → Extension → List ℕ → Version → List ℕ

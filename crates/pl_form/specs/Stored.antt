@@ -7,7 +7,7 @@ use Rattle.pl_elf.specs.Headers.{header, section_offset, HasSegments, HasSection
 use Rattle.pl_elf.specs.declared.header.Header.{Header}
 use Rattle.pl_move.specs.Moves.{table_windows, all_back}
 use Rattle.pl_move.specs.declared.table.Table.{Table}
-use Rattle.pl_form.specs.Back.{when, all_within, head_windows, spot_windows, stored, visible, wanted}
+use Rattle.pl_form.specs.Back.{when, all_within, head_windows, spot_windows, stored_puts, visible, wanted}
 use Rattle.pl_form.specs.Found.{stored_segments, stored_sections, dynamic_in, has_dynamic_table, has_tables, moved_tables, row_windows, places_by, zeros_from}
 use Rattle.pl_form.specs.Loads.{spots_of}
 use Rattle.pl_form.specs.declared.parts.Spot.{Spot}
@@ -24,8 +24,8 @@ pub record LieIn (bytes : List ℕ) : Type 0 where
   pub names : section_offset (header bytes) (header bytes).shstrndx + 64 ≤ length bytes
 
 -- where the section header of the undo section stands
-abbrev pub undo_row : Header → Window
-undo_row h = record { at = section_offset h (h.shnum - 2); size = 64 }
+abbrev pub undo_header_window : Header → Window
+undo_header_window h = record { at = section_offset h (h.shnum - 2); size = 64 }
 
 abbrev pub stored_headers : List ℕ → StoredHeaders
 stored_headers bytes = record { header = header bytes; segments = stored_segments bytes; sections = stored_sections bytes }
@@ -62,7 +62,7 @@ unfoldable pub tables_back : Undo → StoredHeaders → List Tag → List ℕ �
 tables_back u s ts front =
     let moved = moved_tables s.segments s.sections ts in
     let d = dynamic_in s.segments in
-    when (fits_tables (length front) s.header d moved) (places_back u s ts (all_back u.slot moved (put_all (stored u d) front)))
+    when (fits_tables (length front) s.header d moved) (places_back u s ts (all_back u.slot moved (put_all (stored_puts u d) front)))
 
 -- there is a dynamic table, and each table whose words move is in the file part
 abbrev pub has_all_tables : StoredHeaders → List Tag → Bool

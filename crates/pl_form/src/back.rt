@@ -28,7 +28,7 @@ use std::alloc::{AllocError, Global};
 
 /// Where the section header of a file's undo section is, two before the end of the table.
 fn undo_row(header: &Header) -> Window
-    ensures { result ≡ spec.undo_row header.now }
+    ensures { result ≡ spec.undo_header_window header.now }
 {
     let index = u64::from(header.shnum.saturating_sub(2));
     Window::new(
@@ -117,7 +117,7 @@ fn put_stored(front: &mut [u8], undo: &Undo, header: &Header, dynamic: &Window)
     requires whole { IsWhole undo.now }
     requires room { windows.AllIn (length front.old) (back.head_windows header.now ++ dynamic.now
         ∷ []) }
-    ensures { front.new ≡ windows.put_all (back.stored undo.now dynamic.now) front.old }
+    ensures { front.new ≡ windows.put_all (back.stored_puts undo.now dynamic.now) front.old }
 {
     let headers = undo.headers.as_slice();
     let segments = SEGMENT_SIZE as u64 * u64::from(header.phnum);
@@ -247,7 +247,7 @@ fn put_back(front: &mut [u8], undo: &Undo, header: &Header, dynamic: &Window, ta
         ∷ []) }
     requires tables { windows.AllIn (length front.old) (table_windows tables.now) }
     ensures { front.new ≡ all_back undo.now.slot tables.now
-        (windows.put_all (back.stored undo.now dynamic.now) front.old) }
+        (windows.put_all (back.stored_puts undo.now dynamic.now) front.old) }
 {
     put_stored(front, undo, header, dynamic);
     move_tables_back(front, tables, undo.slot);

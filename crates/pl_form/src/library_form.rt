@@ -181,7 +181,7 @@ fn moved(
     requires list { spec.IsShortList listed }
     requires flat { length flat.now ≡ back.wanted (ps_of original.now) }
     requires digest { IsDigest digest }
-    ensures { IfOk result (λ v. v.items ≡ forms.library_form (original_of original.now)
+    ensures { IfOk result (λ v. v.items ≡ forms.form_of_library (original_of original.now)
         mark.now.slot mark.now.stamp mark.now.checksum listed flat.now digest) }
 {
     let layout = layout_of(alloc, original, object)?;

@@ -1,20 +1,20 @@
-ghost use Rattle.pl_form.specs.PartLaws.{FillsAreTold, FormsAreUndone, LibrariesAreMoved, LibrariesHoldFills, LibrariesLoadAlike, NoFormOfTwo, PartsAreFound, ProgramsAreExtended, ProgramsHoldFills, ProgramsLoadAlike};
+ghost use Rattle.pl_form.specs.PartLaws.{FillsAreTold, FormsGiveOriginals, LibraryFormsAreMoved, LibrariesHoldFills, LibraryFormsLoadAlike, NoFormOfTwoOriginals, PartsAreFound, ProgramsAreExtended, ProgramsHoldFills, ProgramFormsLoadAlike};
 
 /// A law: from the bytes of a form alone its original comes back, of a library and of a program, in both versions of the undo section, whatever the list, the conflicts and the bytes at the places are. So no file is a form of two originals.
 pub fn forms_are_undone()
-    ensures undone { FormsAreUndone }
-    ensures one { NoFormOfTwo }
+    ensures undone { FormsGiveOriginals }
+    ensures one { NoFormOfTwoOriginals }
 {}
 
 /// A law: a form that is loaded by its own program headers has, at each address of a PT_LOAD of the original that is in no link table and under no place, the byte that the original has there.
 pub fn forms_load_alike()
-    ensures libraries { LibrariesLoadAlike }
-    ensures programs { ProgramsLoadAlike }
+    ensures libraries { LibraryFormsLoadAlike }
+    ensures programs { ProgramFormsLoadAlike }
 {}
 
 /// A law: the program header table of a form lies in it. A library's has the original's segments moved by the slot, each with its offset and its size in the file. A program's has them with the last PT_LOAD grown, and with the offsets of the others where the inserted bytes leave them.
 pub fn forms_bear_segments()
-    ensures libraries { LibrariesAreMoved }
+    ensures libraries { LibraryFormsAreMoved }
     ensures programs { ProgramsAreExtended }
 {}
 

@@ -44,7 +44,7 @@ pub struct Shift {
 
 /// A segment other than the last PT_LOAD: what follows cut in the file moves.
 fn shifted_segment(shift: Shift, segment: &Segment) -> Segment
-    ensures { result ≡ spec.shifted_segment shift segment.now }
+    ensures { result ≡ spec.segment_shifted_by shift segment.now }
 {
     let mut shifted = *segment;
     if segment.filesz > 0 && shift.cut <= segment.offset {
@@ -58,7 +58,7 @@ fn shifted_segments(
     shift: Shift,
     segments: &[Segment],
 ) -> Result<Vec<Segment>, AllocError>
-    ensures { IfOk result (λ v. v.items ≡ map (spec.shifted_segment shift) segments.now) }
+    ensures { IfOk result (λ v. v.items ≡ map (spec.segment_shifted_by shift) segments.now) }
 {
     segments
         .iter()
@@ -112,7 +112,7 @@ fn is_grown(last: &Segment, section: &Section) -> bool
 /// A section: zeros of the last PT_LOAD become its bytes, and what follows cut in the file moves.
 fn program_section(shift: Shift, last: &Segment, section: &Section) -> Section
     requires { IsShort last.now }
-    ensures { result ≡ spec.program_section shift last.now section.now }
+    ensures { result ≡ spec.section_shifted_by shift last.now section.now }
 {
     let mut new = *section;
     if is_grown(last, section) {
@@ -131,7 +131,8 @@ fn old_sections(
     sections: &[Section],
 ) -> Result<Vec<Section>, AllocError>
     requires { IsShort last.now }
-    ensures { IfOk result (λ v. v.items ≡ map (spec.program_section shift last.now) sections.now) }
+    ensures { IfOk result (λ v. v.items ≡ map (spec.section_shifted_by shift last.now)
+        sections.now) }
 {
     sections
         .iter()

@@ -26,7 +26,7 @@ use Rattle.pl_object.specs.Reads.{dynamic}
 use Rattle.pl_object.specs.Tables.{dynamic_memory}
 use Rattle.pl_object.specs.declared.object.Object.{Object}
 use Rattle.pl_object.proofs.TabledLaws.{IsTable, table_is}
-use Rattle.pl_form.specs.Forms.{library_form, original_of, planned, undo_part}
+use Rattle.pl_form.specs.Forms.{form_of_library, original_of, planned, undo_part}
 use Rattle.pl_form.specs.Found.{ss_of}
 use Rattle.pl_form.specs.PartLaws.{FormsLibrary}
 use Rattle.pl_form.specs.Parts.{library_plan, new_header}
@@ -49,7 +49,7 @@ use Rattle.pl_pie.proofs.StandingLaws.{is_held, right_test}
 
 -- ---- the type
 
-pub library_type : (o : List ℕ) (x : Object) (slot stamp checksum : ℕ) (l : Listed) (flat : List ℕ) (digest : Option (List ℕ)) → FormsLibrary o x slot stamp checksum l flat digest → (header (library_form (original_of o) slot stamp checksum l flat digest)).kind ≡ 3
+pub library_type : (o : List ℕ) (x : Object) (slot stamp checksum : ℕ) (l : Listed) (flat : List ℕ) (digest : Option (List ℕ)) → FormsLibrary o x slot stamp checksum l flat digest → (header (form_of_library (original_of o) slot stamp checksum l flat digest)).kind ≡ 3
 unfolding planned new_header
 library_type o x slot stamp checksum l flat digest f =
     let a = original_of o in

@@ -48,7 +48,7 @@ use Rattle.pl_object.proofs.AcceptedLaws.{accepted}
 use Rattle.pl_object.proofs.TabledLaws.{IsTable, table_is}
 use Rattle.pl_form.specs.Back.{head_windows}
 use Rattle.pl_form.specs.Fits.{Fits}
-use Rattle.pl_form.specs.Forms.{library_form, original_of, planned, program_form, undo_part}
+use Rattle.pl_form.specs.Forms.{form_of_library, original_of, planned, form_of_program, undo_part}
 use Rattle.pl_form.specs.Found.{d_of, ss_of, tags_of}
 use Rattle.pl_form.specs.PartLaws.{FormsLibrary, FormsProgram}
 use Rattle.pl_form.specs.Parts.{Original, form, front_part, library_dynamic, library_plan, moved_segment, new_header, program_plan, with_entries}
@@ -181,7 +181,7 @@ module _ (o : List ℕ) (x : Object) (slot stamp checksum : ℕ) (l : Listed) (f
   undo = undo_part p a digest
 
   abbrev file : List ℕ
-  file = library_form a slot stamp checksum l flat digest
+  file = form_of_library a slot stamp checksum l flat digest
 
   c : IsLibrary o slot stamp checksum l flat digest
   c = library_conditions o x slot stamp checksum l flat digest f
@@ -281,7 +281,7 @@ module _ (o : List ℕ) (x : Object) (slot stamp checksum : ℕ) (l : Listed) (f
 
 -- ---- a program's form
 
-program_type : (o : List ℕ) (x : Object) (index : ℕ) (last : Segment) (e : Extension) (flat : List ℕ) (digest : Option (List ℕ)) → FormsProgram o x index last e flat digest → (header (program_form (original_of o) index last e flat digest)).kind ≡ 2
+program_type : (o : List ℕ) (x : Object) (index : ℕ) (last : Segment) (e : Extension) (flat : List ℕ) (digest : Option (List ℕ)) → FormsProgram o x index last e flat digest → (header (form_of_program (original_of o) index last e flat digest)).kind ≡ 2
 unfolding planned new_header
 program_type o x index last e flat digest f =
     let a = original_of o in

@@ -29,7 +29,7 @@ use Rattle.pl_object.proofs.AcceptedLaws.{accepted}
 use Rattle.pl_object.proofs.TabledLaws.{IsTable, table_is}
 use Rattle.pl_form.specs.Back.{head_windows}
 use Rattle.pl_form.specs.Fits.{Fits}
-use Rattle.pl_form.specs.Forms.{original_of, planned, program_form, undo_part}
+use Rattle.pl_form.specs.Forms.{original_of, planned, form_of_program, undo_part}
 use Rattle.pl_form.specs.Found.{d_of, ss_of, tags_of}
 use Rattle.pl_form.specs.PartLaws.{FormsProgram}
 use Rattle.pl_form.specs.Parts.{Original, conflicts_at, entry_bytes, extended_segment, extension, extension_at, program_dynamic, program_plan, program_segments, rows_at, shifted_segment, whole_extension, with_entries, with_tag}
@@ -124,7 +124,7 @@ module _ (o : List ℕ) (x : Object) (index : ℕ) (last : Segment) (e : Extensi
   undo = undo_part p a digest
 
   abbrev file : List ℕ
-  file = program_form a index last e flat digest
+  file = form_of_program a index last e flat digest
 
   c : IsProgramForm o index last e flat digest
   c = program_conditions o x index last e flat digest f

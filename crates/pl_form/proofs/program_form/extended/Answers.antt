@@ -1,6 +1,6 @@
 use Rattle.std.proofs.Common.{sym, ap, ◌∙◌, arith}
 use Rattle.pl_object.proofs.AcceptedLaws.{accepted}
-use Rattle.pl_form.specs.Forms.{program_form, original_of}
+use Rattle.pl_form.specs.Forms.{form_of_program, original_of}
 use Rattle.pl_form.specs.Found.{ss_of}
 use Rattle.pl_form.specs.Program.{find_last, last_index}
 use Rattle.pl_form.specs.Words.{kept_digest}
@@ -44,6 +44,6 @@ returns c =
     ∙ program_whole c.args.original.now c.in_ok-layout.layout c.in-Some.last c.args.lists.now c.in_ok-plan.plan c.args.flat.now c.deref.result.now c.kept_digest-kept.result c.in_ok-layout.ensures
     (last_ready c.args.original.now c.args.object.now c.in-Some.last c.requires.firm.firm (ap find_last (sym c.as_slice.ensures) ∙ sym c.find_last.ensures ∙ c.in-Some.is))
     c.in_ok-plan.ensures (c.deref.ensures.value ∙ c.in_ok-undo.ensures)
-    ∙ ap (program_form (original_of c.args.original.now) (last_index (ss_of c.args.original.now)) c.in-Some.last.segment c.args.lists.now c.args.flat.now) (c.kept_digest-kept.ensures.value ∙ ap (kept_digest c.args.version) c.requires.digest)
+    ∙ ap (form_of_program (original_of c.args.original.now) (last_index (ss_of c.args.original.now)) c.in-Some.last.segment c.args.lists.now c.args.flat.now) (c.kept_digest-kept.ensures.value ∙ ap (kept_digest c.args.version) c.requires.digest)
     ∙ extended_some c.args.original.now c.in-Some.last c.args.lists.now c.args.flat.now c.args.version
     (last_ready c.args.original.now c.args.object.now c.in-Some.last c.requires.firm.firm (ap find_last (sym c.as_slice.ensures) ∙ sym c.find_last.ensures ∙ c.in-Some.is))
