@@ -23,7 +23,7 @@ use Rattle.pl_object.specs.declared.reloc.Reloc.{Reloc}
 use Rattle.pl_tls.specs.Layout.{modules_from, offsets}
 use Rattle.pl_tls.specs.declared.block.Block.{Block}
 use Rattle.pl_form.specs.Faults.{form_fault}
-use Rattle.pl_form.specs.Files.{original_by, original_in}
+use Rattle.pl_form.specs.Files.{original_or_file, original_in}
 use Rattle.pl_form.specs.Marks.{has_mark}
 use Rattle.pl_form.specs.declared.constants.TheConstants.{STORED}
 use Rattle.pl_form.specs.declared.file.Marked.{Marked}
@@ -258,7 +258,7 @@ program_fault files all region n is =
 
 original_is : (files : Files) (r : Recipe) (n : List ℕ) (h : IsHeld files r n) → original_at f (files n) ≡ h.bytes
 unfolding original_in
-original_is files r n h = ap (original_at f) h.there ∙ ap (λ (m : Option Marked). original_by h.bytes m) h.bare.none
+original_is files r n h = ap (original_at f) h.there ∙ ap (λ (m : Option Marked). original_or_file h.bytes m) h.bare.none
 
 read_by : (n bytes : List ℕ) (o : Object) → length bytes ≤ STORED → has_mark bytes ≡ false → reads bytes ≡ Ok o → read_original skip_causes n bytes ≡ Ok o
 unfolding read_original

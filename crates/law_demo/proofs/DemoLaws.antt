@@ -40,7 +40,7 @@ use Rattle.pl_elf.specs.declared.kind.Kind.TheVariants as elf
 use Rattle.pl_elf.specs.declared.segment.Segment.{Segment}
 use Rattle.law_folder.specs.All.{HasNext}
 use Rattle.law_folder.proofs.NextLemmas.{gives_next}
-use Rattle.pl_form.specs.Files.{marked_in, original_by, original_in}
+use Rattle.pl_form.specs.Files.{marked_in, original_or_file, original_in}
 use Rattle.pl_gen.specs.Lines.{program_name}
 use Rattle.pl_gen.specs.Set as drawn
 use Rattle.pl_journal.specs.Meaning.{applied}
@@ -138,7 +138,7 @@ ends_of (s ∷ ss) low = All-cons (λ (x : Segment). x.vaddr + x.memsz ≤ 2 ^ 2
 
 own_original : (view : Files) (n bytes : List ℕ) → view n ≡ Some bytes → marked_in bytes ≡ None → original_at (format skip_causes) (view n) ≡ bytes
 unfolding original_in
-own_original view n bytes there bare = ap (original_at (format skip_causes)) there ∙ ap (original_by bytes) bare
+own_original view n bytes there bare = ap (original_at (format skip_causes)) there ∙ ap (original_or_file bytes) bare
 
 program_ready : (number j : ℕ) → j < drawn.programs number → IsReady number (program_name j)
 program_ready number j lt =

@@ -48,7 +48,7 @@ use Rattle.law_folder.proofs.NextLemmas.{gives_next}
 use Rattle.pl_folder.specs.Taken.{stored}
 use Rattle.pl_folder.specs.declared.TheConstants as folders
 use Rattle.pl_folder.specs.declared.fault.FolderFault.TheVariants.{TooLarge}
-use Rattle.pl_form.specs.Files.{file_by, file_in, marked_in, original_by, original_in}
+use Rattle.pl_form.specs.Files.{file_by, file_in, marked_in, original_or_file, original_in}
 use Rattle.pl_form.specs.Marks.{IsFormOf, as_file}
 use Rattle.pl_form.specs.declared.constants.TheConstants as forms
 use Rattle.pl_form.specs.declared.fault.FileFault.{FileFault}
@@ -162,7 +162,7 @@ told : (file : List ℕ) → file_in file ≡ file_by file (marked_in file)
 unfolding file_in
 told file = refl
 
-own_of : (file : List ℕ) → original_in file ≡ original_by file (marked_in file)
+own_of : (file : List ℕ) → original_in file ≡ original_or_file file (marked_in file)
 unfolding original_in
 own_of file = refl
 
@@ -170,7 +170,7 @@ stored_is : (file : List ℕ) → length file ≤ folders.STORED → counts_in (
 stored_is file small = ap (λ (b : Bool). counts_in (if b then Ok file else Err TooLarge)) (le-leb (length file) folders.STORED small)
 
 -- a file that is stored, whether or not it is prelinked, has the relocations of its original
-counts_by_mark : (file bytes : List ℕ) (x : Object) (o : Option Marked) → marked_in file ≡ o → original_by file o ≡ bytes → IsBare bytes → reads bytes ≡ Ok x → length bytes ≤ 2 ^ 21 → (counts_in (stored (Some file))).relocations ≡ length x.relocations
+counts_by_mark : (file bytes : List ℕ) (x : Object) (o : Option Marked) → marked_in file ≡ o → original_or_file file o ≡ bytes → IsBare bytes → reads bytes ≡ Ok x → length bytes ≤ 2 ^ 21 → (counts_in (stored (Some file))).relocations ≡ length x.relocations
 counts_by_mark file bytes x None none same bare read short =
     let plain : file_by bytes None ≡ Ok (Plain x) = ap (λ (b : Bool). unless b BadMark (as_file (reads bytes))) bare.unmarked ∙ ap as_file read in
     let is : file_in file ≡ Ok (Plain x) = told file ∙ (ap (λ (o : Option Marked). file_by file o) none ∙ (ap (λ (z : List ℕ). file_by z None) same ∙ plain)) in
@@ -214,7 +214,7 @@ kept_at number n bytes valid there bare = by (next (named (made number)) ASKED.r
         record {
           file = file;
           there = sym (ap (λ (b : Bool). if b then get (folder number) n else None) valid) ∙ (to ∙ is);
-          own = stays.2 ∙ (ap original_in before ∙ (own_of bytes ∙ ap (λ (o : Option Marked). original_by bytes o) bare));
+          own = stays.2 ∙ (ap original_in before ∙ (own_of bytes ∙ ap (λ (o : Option Marked). original_or_file bytes o) bare));
         }
 
 one_counts : (number : ℕ) (n text : List ℕ) (r : Recipe) (is : IsRead text r) → is_valid_name n ≡ true → files_of number n ≡ Some is.bytes → (counts_of (folder number) n).relocations ≡ length r.relocations
@@ -231,7 +231,7 @@ one_counts number n text r is valid there =
 library_counts : (number i : ℕ) → i < drawn.libraries number → (counts_of (folder number) (library_name i)).relocations ≡ 128
 library_counts number i lt =
     let l : ℕ = drawn.libraries number in
-    let ws : List ℕ = demo.library_words number i in
+    let ws : List ℕ = demo.drawn_library_words number i in
     let has_it : HasLibrary (files_of number) l i ws = (run_of number).demo.folder.libraries i lt in
     let is : IsRead (drawn.library_recipe l i ws) (library_of l i ws) = set_read.libraries l i ws in
     let same : has_it.bytes ≡ is.bytes = ok_same has_it.bytes is.bytes (sym has_it.made ∙ is.made) in
@@ -241,7 +241,7 @@ library_counts number i lt =
 program_counts : (number j : ℕ) → j < drawn.programs number → (counts_of (folder number) (program_name j)).relocations ≡ 65
 program_counts number j lt =
     let l : ℕ = drawn.libraries number in
-    let ws : List ℕ = demo.program_words number j in
+    let ws : List ℕ = demo.drawn_program_words number j in
     let has_it : HasProgram (files_of number) l (program_name j) ws = (run_of number).demo.folder.programs j lt in
     let is : IsRead (drawn.program_recipe l ws) (program_of l ws) = set_read.programs l ws in
     let same : has_it.bytes ≡ is.bytes = ok_same has_it.bytes is.bytes (sym has_it.made ∙ is.made) in

@@ -38,7 +38,7 @@ use Rattle.pl_build.specs.Segments.{dynamic_segment, first_load, has_data, secon
 use Rattle.pl_build.specs.SymbolTable.{section_of, value_of}
 use Rattle.pl_build.specs.Symbols.{ordered}
 use Rattle.law_demo.specs.Accepted.{planned_heads, planned_layout, planned_linking, planned_object}
-use Rattle.law_demo.specs.Modest.{ChangesWord as ChangesWordOf, CopiesWord, IsModest, IsModestRelocation, IsModestSymbol, IsOwn, IsWeakReference, is_word_kind}
+use Rattle.law_demo.specs.Modest.{WritesDataWord as ChangesWordOf, CopiesWord, IsModest, IsModestRelocation, IsModestSymbol, IsOwn, IsWeakReference, is_word_kind}
 use Rattle.law_demo.specs.Plain.{ArePlain, IsPlain}
 use Rattle.law_demo.specs.Planned.{planned_segments}
 use Rattle.law_demo.specs.Relocs.{planned_relocs, planned_symbols, read_as}

@@ -34,7 +34,7 @@ use Rattle.pl_demo.specs.Made.{made_files}
 use Rattle.pl_demo.specs.declared.prelinking.TheConstants.{ASKED}
 use Rattle.pl_demo.proofs.LawLemmas.{File, libraries_in, programs_in}
 use Rattle.law_folder.specs.Causes.{IsAsked}
-use Rattle.law_demo.specs.Small.{HasRoom as HasRoomFor, IsSmall, IsSmallFolder}
+use Rattle.law_demo.specs.Small.{HasRoomForFiles as HasRoomFor, IsSmall, IsSmallFolder}
 use Rattle.law_demo.proofs.SetMadeLaws.{Makes, all_made, each_made, no_cache_made, no_journal_made, restored_made}
 use Rattle.law_demo.proofs.SmallLaws.{small_taken}
 use Rattle.pl_form.specs.Files.{marked_in}
@@ -53,7 +53,7 @@ use Rattle.law_demo.specs.SetFiles.{HasLibrary, HasProgram, library_names}
 use Rattle.law_demo.proofs.BytesLaws.{plain_bytes}
 use Rattle.law_demo.proofs.CandidateLaws.{files_known, libraries_ready, programs_ready}
 use Rattle.law_demo.proofs.SetFilesLaws.{set_libraries, set_programs}
-use Rattle.law_demo.specs.Folder.{DemosAreReady, IsDemoFolder, bounds, files_of, library_words, made, program_words}
+use Rattle.law_demo.specs.Folder.{DemosAreReady, IsDemoFolder, bounds, files_of, drawn_library_words, made, drawn_program_words}
 
 -- ---- lists
 
@@ -245,7 +245,7 @@ has_made number = subst (λ (files : Files). AllByRecursion (λ f. get files f.0
 named_is : (number : ℕ) (n bytes : List ℕ) → is_valid_name n ≡ true → get (made number) n ≡ Some bytes → files_of number n ≡ Some bytes
 named_is number n bytes valid there = ap (λ (b : Bool). if b then get (made number) n else None) valid ∙ there
 
-library_there : (number i : ℕ) → i < drawn.libraries number → HasLibrary (files_of number) (drawn.libraries number) i (library_words number i)
+library_there : (number i : ℕ) → i < drawn.libraries number → HasLibrary (files_of number) (drawn.libraries number) i (drawn_library_words number i)
 library_there number i lt =
     let l : ℕ = drawn.libraries number in
     let g : Lcg = after 2 (seeded number) in
@@ -255,7 +255,7 @@ library_there number i lt =
     let at_name : get (made number) (library_name i) ≡ spec.made (library_recipe l i ws) = at_ranged (λ f. get (made number) f.0 ≡ spec.made f.1) (drawn.library l g) l 0 i (omega arith) (omega (arith, lt)) all in
     record { bytes = is.bytes; made = is.made; there = named_is number (library_name i) is.bytes (files_named.libraries i) (at_name ∙ text_made (library_recipe l i ws) (library_of l i ws) is) }
 
-program_there : (number j : ℕ) → j < drawn.programs number → HasProgram (files_of number) (drawn.libraries number) (program_name j) (program_words number j)
+program_there : (number j : ℕ) → j < drawn.programs number → HasProgram (files_of number) (drawn.libraries number) (program_name j) (drawn_program_words number j)
 program_there number j lt =
     let l : ℕ = drawn.libraries number in
     let g : Lcg = after (322 * l) (after 2 (seeded number)) in
@@ -351,13 +351,13 @@ unfolding program_of
 above_is count ws = inl (omega (arith, data_small (program_of count ws).settings))
 
 pub demo_libraries : (number : ℕ) → AreLibraries (files_of number) (library_names (drawn.libraries number))
-demo_libraries number = set_libraries (files_of number) (drawn.libraries number) (library_words number) (omega arith) (omega (arith, libraries_few number)) (demo_folder number).libraries
+demo_libraries number = set_libraries (files_of number) (drawn.libraries number) (drawn_library_words number) (omega arith) (omega (arith, libraries_few number)) (demo_folder number).libraries
 
 pub demo_program : (number j : ℕ) → j < drawn.programs number → IsProgramFile (files_of number) (library_names (drawn.libraries number)) ASKED.region (program_name j)
 demo_program number j lt =
     let l : ℕ = drawn.libraries number in
-    let own : List ℕ = program_words number j in
-    set_programs (files_of number) l (library_words number) ASKED.region (program_name j) own (omega arith) (demo_folder number).libraries ((demo_folder number).programs j lt) (above_is l own)
+    let own : List ℕ = drawn_program_words number j in
+    set_programs (files_of number) l (drawn_library_words number) ASKED.region (program_name j) own (omega arith) (demo_folder number).libraries ((demo_folder number).programs j lt) (above_is l own)
 
 pub demo_ready : DemosAreReady
 demo_ready number =

@@ -17,7 +17,7 @@ use Rattle.pl_build.specs.File.{sections_offset}
 use Rattle.pl_build.specs.Layout.{end_of}
 use Rattle.pl_build.specs.LayoutPlan.{plan_of, base_of}
 use Rattle.pl_build.specs.Segments.{readable, first_load, second_load, dynamic_segment, has_data}
-use Rattle.law_demo.specs.Loaded.{memory_of, IsLoaded, AreLoaded, TablesAreLoaded}
+use Rattle.law_demo.specs.Loaded.{memory_of, IsLoadedSection, AreLoaded, TablesAreLoaded}
 use Rattle.law_demo.specs.Standing.{Stands, AreStanding, AreLaid}
 use Rattle.law_demo.proofs.ClauseLaws.{at_most, shown}
 use Rattle.law_demo.proofs.FileLaws.{names_of, before_tables, before_long, begins_tables, made_is}
@@ -48,7 +48,7 @@ window_first s tables_end offset size b second dynamic some within =
     rw (found, at, long) refl
 
 one_loaded : (p : LayoutPlan) (bytes : List ℕ) (ss : List Segment) (from : ℕ) (before : List PlacedSection) (place : PlacedSection)
-    → file_window ss (record { at = base_of p.settings + place.offset; size = place.size }) ≡ record { at = place.offset; size = place.size } → place.offset < 1048576 → Stands p bytes from before place → IsLoaded p bytes ss before place
+    → file_window ss (record { at = base_of p.settings + place.offset; size = place.size }) ≡ record { at = place.offset; size = place.size } → place.offset < 1048576 → Stands p bytes from before place → IsLoadedSection p bytes ss before place
 unfolding loaded
 one_loaded p bytes ss from before place window low s =
     let at : place.addr ≡ base_of p.settings + place.offset = s.address ∙ plus_small (base_of p.settings) place.offset (omega (arith, low, base_small p.settings)) in

@@ -16,7 +16,7 @@ use Rattle.pl_elf.specs.Headers.{loads}
 use Rattle.pl_elf.specs.Kinds.{is_library}
 use Rattle.pl_elf.specs.declared.kind.Kind.TheVariants.{Program}
 use Rattle.pl_elf.specs.declared.range.Range.{Range}
-use Rattle.pl_form.specs.Files.{marked_in, original_by, original_in}
+use Rattle.pl_form.specs.Files.{marked_in, original_or_file, original_in}
 use Rattle.pl_form.specs.Marks.{IsFormOf}
 use Rattle.pl_form.specs.declared.file.Marked.{Marked}
 use Rattle.pl_form.proofs.FilesLaws.{nothing_else_is_read}
@@ -42,7 +42,7 @@ made_by candidate planned old file on is = rw (on, is) refl
 
 original_is_of : (file : List ℕ) (m : Marked) → marked_in file ≡ Some m → original_in file ≡ m.original
 unfolding original_in
-original_is_of file m e = ap (original_by file) e
+original_is_of file m e = ap (original_or_file file) e
 
 -- a marked file whose original's object lies low keeps off a region that lies high
 off_by : (region : Range) (low : ℕ) (file : List ℕ) (o : Object) (k : Mark) (found : Option Marked) → marked_in file ≡ found → option_map mark_of found ≡ Some k → reads (original_in file) ≡ Ok o → is_library o.kind ≡ false

@@ -40,7 +40,7 @@ use Rattle.law_folder.proofs.SpellLemmas.{next_spelled}
 use Rattle.pl_folder.specs.Disk.{same}
 use Rattle.pl_folder.specs.declared.TheConstants.{STORED}
 use Rattle.pl_folder.proofs.ImageLaws.{itself}
-use Rattle.pl_form.specs.Files.{marked_in, original_by, original_in}
+use Rattle.pl_form.specs.Files.{marked_in, original_or_file, original_in}
 use Rattle.pl_journal.specs.Names.{journal}
 use Rattle.pl_journal.specs.Rows.{rows_in}
 use Rattle.pl_journal.specs.declared.change.Change.{Change}
@@ -61,14 +61,14 @@ use Rattle.pl_slots.specs.Plan.{plan}
 use Rattle.pl_slots.specs.declared.slot.Slot.{Slot}
 use Rattle.pl_slots.specs.declared.slot.Want.{Want}
 use Rattle.law_sound.specs.Rule.{Mark, mark_at, object_at, objects}
-use Rattle.law_demo.specs.Small.{Bounds, HasRoom, IsSmall, SmallFoldersAreTaken}
+use Rattle.law_demo.specs.Small.{Bounds, HasRoomForFiles, IsSmall, SmallFoldersAreTaken}
 use Rattle.law_demo.proofs.RoomLaws.{all_placed, all_take}
 
 -- ---- files
 
 original_is : (file : List ℕ) → marked_in file ≡ None → original_in file ≡ file
 unfolding original_in
-original_is file plain = ap (original_by file) plain
+original_is file plain = ap (original_or_file file) plain
 
 not_below : (a b : ℕ) → b ≤ a → nat_lt a b ≡ false
 not_below a b h = grind (arith, nat_tests)
@@ -193,7 +193,7 @@ module _ (files : base.Files) (b : Bounds) (small : (n file : List ℕ) → get 
       by_want None is rest = rest
       by_want (Some w) is rest = more_taken b.addresses (length (wants (named files) ns)) (w.span + w.align) (all_take (wants (named files) ns)) (want_small n (objects (format skip_causes) (named files) n) w refl is) rest
 
-  module _ (p : Prelinking) (room : HasRoom b p) (short : count_by is_valid_name (keys files) ≤ b.files) where
+  module _ (p : Prelinking) (room : HasRoomForFiles b p) (short : count_by is_valid_name (keys files) ≤ b.files) where
     few : are_many (keys files) ≡ false
     unfolding are_many
     few = not_below FILES (count_by is_valid_name (keys files)) (omega (arith, short, room.few))

@@ -11,7 +11,7 @@ use Rattle.pl_conflict.specs.Format.{Causes, format, mark_in, mark_of, read_orig
 use Rattle.pl_conflict.proofs.FormatLaws.{read_is}
 use Rattle.pl_elf.specs.Kinds.{is_library}
 use Rattle.pl_form.specs.Files as form
-use Rattle.pl_form.specs.Files.{marked_in, original_by, original_in, file_by}
+use Rattle.pl_form.specs.Files.{marked_in, original_or_file, original_in, file_by}
 use Rattle.pl_form.specs.Marks.{IsFormOf}
 use Rattle.pl_form.specs.declared.file.File.{File}
 use Rattle.pl_form.specs.declared.file.File.TheVariants as files
@@ -60,7 +60,7 @@ marked_there causes folder m some = by_file (folder m) refl some
 
 original_is : (file : List ℕ) (made : Marked) → marked_in file ≡ Some made → original_in file ≡ made.original
 unfolding original_in
-original_is file made is = ap (original_by file) is
+original_is file made is = ap (original_or_file file) is
 
 -- its object is the one that the format reads
 pub made_object : {E : Type 0} (causes : Causes E) (folder : Files) (m : List ℕ) (o : Object) (p : IsPrelinkedAt folder m) → objects (format causes) folder m ≡ Ok o → p.made.object ≡ o

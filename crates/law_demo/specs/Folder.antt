@@ -28,11 +28,11 @@ abbrev pub files_of : ℕ → Files
 files_of number = named (made number)
 
 -- the words that a library of a number draws, and those of a program
-abbrev pub library_words : ℕ → ℕ → List ℕ
-library_words number i = words 322 (after (322 * i) (after 2 (seeded number)))
+abbrev pub drawn_library_words : ℕ → ℕ → List ℕ
+drawn_library_words number i = words 322 (after (322 * i) (after 2 (seeded number)))
 
-abbrev pub program_words : ℕ → ℕ → List ℕ
-program_words number j = words 131 (after (131 * j) (after (322 * drawn.libraries number) (after 2 (seeded number))))
+abbrev pub drawn_program_words : ℕ → ℕ → List ℕ
+drawn_program_words number j = words 131 (after (131 * j) (after (322 * drawn.libraries number) (after 2 (seeded number))))
 
 -- at most 128 files of 2 MiB, with 128 MiB of addresses each
 abbrev pub bounds : Bounds
@@ -40,8 +40,8 @@ bounds = record { files = 128; bytes = 2 ^ 21; addresses = 2 ^ 27 }
 
 -- each name has the file that its recipe describes, by the words that it draws, and they are small
 pub record IsDemoFolder (number : ℕ) : Type 0 where
-  pub libraries : HasLibraries (files_of number) (drawn.libraries number) (library_words number)
-  pub programs : (j : ℕ) → j < drawn.programs number → HasProgram (files_of number) (drawn.libraries number) (program_name j) (program_words number j)
+  pub libraries : HasLibraries (files_of number) (drawn.libraries number) (drawn_library_words number)
+  pub programs : (j : ℕ) → j < drawn.programs number → HasProgram (files_of number) (drawn.libraries number) (program_name j) (drawn_program_words number j)
   pub small : IsSmallFolder bounds (made number)
 
 -- the run of `--demo` is not refused, and can prelink each name

@@ -18,13 +18,13 @@ abbrev pub memory_of : PlacedSection → Window
 memory_of place = record { at = place.addr; size = place.size }
 
 -- its bytes are loaded at its address from its place in the file
-pub record IsLoaded (p : LayoutPlan) (bytes : List ℕ) (ss : List Segment) (before : List PlacedSection) (place : PlacedSection) : Type 0 where
+pub record IsLoadedSection (p : LayoutPlan) (bytes : List ℕ) (ss : List Segment) (before : List PlacedSection) (place : PlacedSection) : Type 0 where
   pub window : file_window ss (memory_of place) ≡ record { at = place.offset; size = place.size }
   pub holds : loaded bytes ss (memory_of place) ≡ contents p before place.role
 
 abbrev pub AreLoaded : LayoutPlan → List ℕ → List Segment → List PlacedSection → List PlacedSection → Type 0
 AreLoaded p bytes ss before [] = Unit {0}
-AreLoaded p bytes ss before (place ∷ places) = IsLoaded p bytes ss before place × AreLoaded p bytes ss (before ++ place ∷ []) places
+AreLoaded p bytes ss before (place ∷ places) = IsLoadedSection p bytes ss before place × AreLoaded p bytes ss (before ++ place ∷ []) places
 
 -- each table of a plain recipe's file is
 abbrev pub TablesAreLoaded : Type 0

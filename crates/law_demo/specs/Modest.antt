@@ -54,7 +54,7 @@ abbrev pub has_no_addend : ℕ → Bool
 has_no_addend kind = kind == R_X86_64_GLOB_DAT || kind == R_X86_64_JUMP_SLOT || kind == R_X86_64_COPY
 
 -- a word of the data
-pub record ChangesWord (s : Settings) (x : Relocation) : Type 0 where
+pub record WritesDataWord (s : Settings) (x : Relocation) : Type 0 where
   pub kind : is_word_kind x.kind ≡ true
   pub within : x.offset + 8 ≤ s.data_size
 
@@ -72,7 +72,7 @@ pub record CopiesWord (r : Recipe) (x : Relocation) : Type 0 where
   pub sizes : AllByRecursion (IsWord x.name) r.symbols
 
 pub record IsModestRelocation (r : Recipe) (x : Relocation) : Type 0 where
-  pub form : ChangesWord r.settings x ⊎ CopiesWord r x
+  pub form : WritesDataWord r.settings x ⊎ CopiesWord r x
   pub aligned : x.offset % 8 ≡ 0
   pub small : x.addend.magnitude < 2 ^ 64
   pub plain : has_no_addend x.kind ≡ true → addend_of x.addend ≡ 0

@@ -37,7 +37,7 @@ pub record IsSmallFolder (b : Bounds) (files : Files) : Type 0 where
   pub each : (n file : List ℕ) → get files n ≡ Some file → IsSmall b file
 
 -- a run takes as much, and its region has as many addresses, of which each library gets its own
-pub record HasRoom (b : Bounds) (p : Prelinking) : Type 0 where
+pub record HasRoomForFiles (b : Bounds) (p : Prelinking) : Type 0 where
   pub few : b.files ≤ FILES
   pub stored : b.bytes ≤ STORED
   pub together : b.files * b.bytes ≤ FOLDER
@@ -47,4 +47,4 @@ pub record HasRoom (b : Bounds) (p : Prelinking) : Type 0 where
 
 -- such a run is not refused
 abbrev pub SmallFoldersAreTaken : Type 0
-SmallFoldersAreTaken = (files : Files) (p : Prelinking) (b : Bounds) → IsSmallFolder b files → IsAsked p → HasRoom b p → (rows : List Change) × (run_meant (All p) files ≡ Ok rows)
+SmallFoldersAreTaken = (files : Files) (p : Prelinking) (b : Bounds) → IsSmallFolder b files → IsAsked p → HasRoomForFiles b p → (rows : List Change) × (run_meant (All p) files ≡ Ok rows)

@@ -12,7 +12,7 @@ use Rattle.pl_base.proofs.AnswerLaws.{bind_ok, ok_same, refuse_ok, unless_ok}
 use Rattle.pl_conflict.specs.Format.{mark_in, mark_of}
 use Rattle.pl_conflict.proofs.FormatLaws.{format_kept}
 use Rattle.pl_folder.specs.declared.TheConstants.{STORED}
-use Rattle.pl_form.specs.Files.{file_by, file_in, marked_in, original_by, original_in}
+use Rattle.pl_form.specs.Files.{file_by, file_in, marked_in, original_or_file, original_in}
 use Rattle.pl_form.specs.Marks.{as_file, has_mark}
 use Rattle.pl_form.specs.declared.fault.FileFault.{FileFault}
 use Rattle.pl_form.specs.declared.fault.FileFault.TheVariants as file_faults
@@ -53,13 +53,13 @@ marked_by bytes (Some k) m is = ap (λ (x : Marked). Some x) (marked_same k m is
 -- a file that is read as a prelinked one has its original
 pub marked_original : (bytes : List ℕ) (m : Marked) → file_in bytes ≡ Ok (files.Marked m) → original_in bytes ≡ m.original
 unfolding file_in original_in
-marked_original bytes m is = ap (original_by bytes) (marked_by bytes (marked_in bytes) m is)
+marked_original bytes m is = ap (original_or_file bytes) (marked_by bytes (marked_in bytes) m is)
 
 -- an original has no mark, and is its own original
 pub original_bare : (bytes : List ℕ) → mark_in (original_in bytes) ≡ None
 original_bare bytes = (format_kept skip_causes).bare bytes
 
-unmarked_by : (bytes : List ℕ) (o : Option Marked) → ((m : Marked) → file_by bytes o ≡ Ok (files.Marked m) → ⊥) → original_by bytes o ≡ bytes
+unmarked_by : (bytes : List ℕ) (o : Option Marked) → ((m : Marked) → file_by bytes o ≡ Ok (files.Marked m) → ⊥) → original_or_file bytes o ≡ bytes
 unmarked_by bytes None none = refl
 unmarked_by bytes (Some m) none = absurd (none m refl)
 
@@ -68,7 +68,7 @@ unmarked : (bytes : List ℕ) → ((m : Marked) → file_in bytes ≡ Ok (files.
 unfolding file_in original_in
 unmarked bytes none = unmarked_by bytes (marked_in bytes) none
 
-bare_by : (bytes : List ℕ) (o : Option Marked) → marked_in bytes ≡ o → mark_in bytes ≡ None → original_by bytes o ≡ bytes
+bare_by : (bytes : List ℕ) (o : Option Marked) → marked_in bytes ≡ o → mark_in bytes ≡ None → original_or_file bytes o ≡ bytes
 unfolding mark_in
 bare_by bytes None is bare = refl
 bare_by bytes (Some m) is bare = absurd (differ m (sym (ap (option_map mark_of) is) ∙ bare))

@@ -35,7 +35,7 @@ use Rattle.pl_object.specs.Reads.{reads}
 use Rattle.pl_object.specs.declared.object.Object.{Object}
 use Rattle.pl_form.specs.Back.{when}
 use Rattle.pl_rewrite.specs.Libraries.{has_valid_name}
-use Rattle.pl_rewrite.specs.Sources.{AreSources, members, names_of}
+use Rattle.pl_rewrite.specs.Sources.{AreSources, members, member_names}
 use Rattle.pl_rewrite.proofs.ListLaws.{set_tests}
 use Rattle.pl_rewrite.proofs.ProgramLaws.{stored_small}
 use Rattle.pl_rewrite.proofs.WholeLaws.{file_library, prelinked_set}
@@ -253,7 +253,7 @@ module _ {E : Type 0} (causes : Causes E) (old : Files) (plan : Plan) where
   fine_firms [] fine = All-nil (λ (r : Firm). firm_of r.member ≡ Some r)
   fine_firms (m ∷ ms) fine = All-cons (λ (r : Firm). firm_of r.member ≡ Some r) (firm_for m) (map firm_for ms) fine.0.firm (fine_firms ms fine.1)
 
-  pub firm_names : (ms : Walked) → names_of (map firm_for ms) ≡ names ms
+  pub firm_names : (ms : Walked) → member_names (map firm_for ms) ≡ names ms
   firm_names [] = refl
   firm_names (m ∷ ms) = ap (λ (ns : List (List ℕ)). m.0 ∷ ns) (firm_names ms)
 

@@ -10,7 +10,7 @@ use Rattle.pl_base.proofs.AnswerLaws.{because_ok, ok_same, unless_ok}
 use Rattle.pl_cone.specs.Cone.{stamp_after}
 use Rattle.pl_cone.specs.declared.cone.TheConstants.{LAST_STAMP}
 use Rattle.pl_cone.specs.declared.skip.ConeFault.TheVariants.{StampsSpent}
-use Rattle.pl_conflict.specs.Format.{format, mark_in, mark_of, row_of}
+use Rattle.pl_conflict.specs.Format.{format, mark_in, mark_of, row_of_list}
 use Rattle.pl_form.specs.Files.{marked_in}
 use Rattle.pl_form.specs.declared.file.Marked.{Marked}
 use Rattle.pl_form.specs.Marks.{IsMark}
@@ -42,14 +42,14 @@ row_small r is =
     let first = and_parts (is_valid_name r.name && nat_lt r.stamp (2 ^ 32)) (nat_lt r.checksum (2 ^ 32)) is in
     ltb-true r.stamp (2 ^ 32) (and_parts (is_valid_name r.name) (nat_lt r.stamp (2 ^ 32)) first.0).1
 
-rows_small : (rs : List ListRow) → list_all is_row rs ≡ true → AllByRecursion (λ r. IsSmall r.stamp) (map row_of rs)
+rows_small : (rs : List ListRow) → list_all is_row rs ≡ true → AllByRecursion (λ r. IsSmall r.stamp) (map row_of_list rs)
 rows_small [] all = tt
 rows_small (r ∷ rs) all = let parts = and_parts (is_row r) (list_all is_row rs) all in (row_small r parts.0, rows_small rs parts.1)
 
 marked_small : (file : List ℕ) (m : Marked) → marked_in file ≡ Some m → IsSmall (greatest_of (Some (mark_of m)))
 marked_small file m is =
     let form = nothing_else_is_read file m is in
-    below (λ (r : Row). r.stamp) (map row_of m.list) m.stamp (mark_small m form.mark) (rows_small m.list (and_parts (list_all is_row m.list) (are_distinct m.list) form.list).0)
+    below (λ (r : Row). r.stamp) (map row_of_list m.list) m.stamp (mark_small m form.mark) (rows_small m.list (and_parts (list_all is_row m.list) (are_distinct m.list) form.list).0)
 
 by_mark : (file : List ℕ) (o : Option Marked) → marked_in file ≡ o → IsSmall (greatest_of (option_map mark_of o))
 by_mark file None is = omega arith

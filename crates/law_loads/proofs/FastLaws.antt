@@ -16,7 +16,7 @@ use Rattle.pl_scope.specs.Walk.{Walked}
 use Rattle.law_sound.specs.Rule as sound
 use Rattle.law_sound.specs.Rule.{Files, Row, mark_at, original_at, slot_of, stamp_of, row_at, row_eq, is_marked, tells_walk, matches, walk_in}
 use Rattle.pl_conflict.specs.Format as format
-use Rattle.pl_conflict.specs.Format.{Causes, mark_in, row_of, slot_at, others_in, libraries}
+use Rattle.pl_conflict.specs.Format.{Causes, mark_in, row_of_list, slot_at, others_in, libraries}
 use Rattle.pl_loader.specs.Fast.{is_row_of, tells_one, are_rows_of, lists_libraries, is_slot_of, is_at_slot, are_at_slots, is_fast_by, is_fast}
 use Rattle.pl_loader.specs.Loading.{IsLibrary}
 use Rattle.pl_loader.specs.declared.object_file.Mark.{Mark}
@@ -78,7 +78,7 @@ number_flip a b = grind (arith, nat_tests)
 
 -- a row is a library's by the loader's test, and by the folder's
 one_by : (row : ListRow) (n original : List ℕ) (version : ℕ) (mark : Option Mark) → Sums original true mark
-    → is_row_of row n mark ≡ (is_some (mark_by version mark) && row_eq (row_of row) (record { name = n; stamp = stamp_of (mark_by version mark); checksum = checksum_of original }))
+    → is_row_of row n mark ≡ (is_some (mark_by version mark) && row_eq (row_of_list row) (record { name = n; stamp = stamp_of (mark_by version mark); checksum = checksum_of original }))
 one_by row n original version None sums = refl
 one_by row n original version (Some k) sums =
     ap (λ (c : ℕ). bytes_eq row.name n && nat_eq row.stamp k.stamp && nat_eq row.checksum c) (sums refl)
@@ -104,19 +104,19 @@ abbrev row_made : List ℕ → ℕ → ℕ → Row
 row_made n stamp checksum = record { name = n; stamp = stamp; checksum = checksum }
 
 one_is : {F : Type 0} (causes : Causes F) (folder : Files) (name : List ℕ) (f : ObjectFile) (row : ListRow) → IsTaken causes folder name f → IsLibrary f
-    → tells_one (row, f) ≡ (is_marked (format.format causes) folder f.name && row_eq (row_of row) (row_at (format.format causes) f.name (folder f.name)))
+    → tells_one (row, f) ≡ (is_marked (format.format causes) folder f.name && row_eq (row_of_list row) (row_at (format.format causes) f.name (folder f.name)))
 one_is causes folder name f row t library =
     let d = told causes folder name f t in
     let sums : Sums f.bytes true f.mark = library_sums f.bytes (is_library f.object.kind) f.mark library t.is.sums in
     one_by row f.name f.bytes d.version f.mark sums
-    ∙ sym (ap (λ (k : Option sound.Mark). is_some k && row_eq (row_of row) (row_made f.name (stamp_of k) (checksum_of (original_at (format.format causes) (folder f.name))))) d.mark
-    ∙ ap (λ (o : List ℕ). is_some (mark_by d.version f.mark) && row_eq (row_of row) (row_made f.name (stamp_of (mark_by d.version f.mark)) (checksum_of o))) d.original)
+    ∙ sym (ap (λ (k : Option sound.Mark). is_some k && row_eq (row_of_list row) (row_made f.name (stamp_of k) (checksum_of (original_at (format.format causes) (folder f.name))))) d.mark
+    ∙ ap (λ (o : List ℕ). is_some (mark_by d.version f.mark) && row_eq (row_of_list row) (row_made f.name (stamp_of (mark_by d.version f.mark)) (checksum_of o))) d.original)
 
 -- ---- all libraries
 
 -- the folder's test of a list and the names of libraries
 abbrev tells_names : {F : Type 0} → Causes F → Files → List ListRow → List ObjectFile → Bool
-tells_names causes folder list fs = sound.lists_members (format.format causes) folder (map row_of list) (names (walk_of fs))
+tells_names causes folder list fs = sound.lists_members (format.format causes) folder (map row_of_list list) (names (walk_of fs))
 
 tells_same : {F : Type 0} (causes : Causes F) (folder : Files) (name : List ℕ) (list : List ListRow) (fs : List ObjectFile) → All (IsTaken causes folder name) fs → All IsLibrary fs → lists_libraries list fs ≡ tells_names causes folder list fs
 unfolding are_rows_of
@@ -129,8 +129,8 @@ tells_same causes folder name (row ∷ list) (f ∷ fs) taken kinds =
     ap (λ (b : Bool). b && (tells_one (row, f) && list_all tells_one (zip list fs))) (one_more (length list) (length fs))
     ∙ ap (λ (b : Bool). (length list == length fs) && (b && list_all tells_one (zip list fs))) one
     ∙ in_front (length list == length fs) (list_all tells_one (zip list fs)) (list_all (is_marked (format.format causes) folder) (names (walk_of fs)))
-    (pointwise row_eq (map row_of list) (map (λ m. row_at (format.format causes) m (folder m)) (names (walk_of fs)))) (is_marked (format.format causes) folder f.name)
-    (row_eq (row_of row) (row_at (format.format causes) f.name (folder f.name))) rest
+    (pointwise row_eq (map row_of_list list) (map (λ m. row_at (format.format causes) m (folder m)) (names (walk_of fs)))) (is_marked (format.format causes) folder f.name)
+    (row_eq (row_of_list row) (row_at (format.format causes) f.name (folder f.name))) rest
 
 -- ---- places
 
@@ -171,7 +171,7 @@ by_mark causes folder name program fs at version (Some k) taken kinds size =
     ap (λ (b : Bool). b && are_at_slots fs at) same
     ∙ where_so (tells_names causes folder k.list fs) (are_at_slots fs at) (pointwise nat_eq at (map (slot_at causes folder) (names (walk_of fs))))
     (λ holds. slots_same causes folder name fs at taken size
-    (both_true (list_all (is_marked (format.format causes) folder) (names (walk_of fs))) (pointwise row_eq (map row_of k.list) (map (λ m. row_at (format.format causes) m (folder m)) (names (walk_of fs)))) holds).0)
+    (both_true (list_all (is_marked (format.format causes) folder) (names (walk_of fs))) (pointwise row_eq (map row_of_list k.list) (map (λ m. row_at (format.format causes) m (folder m)) (names (walk_of fs)))) holds).0)
 
 folder_fast : {F : Type 0} (causes : Causes F) (folder : Files) (name : List ℕ) (all : List ObjectFile) (at : List ℕ) (mark : Option sound.Mark) → mark_at (format.format causes) (folder name) ≡ mark → walk_in (format.format causes) folder name ≡ Ok (walk_of all)
     → format.is_fast causes folder name at ≡ fast_by causes folder mark all (drop 1 at)

@@ -8,7 +8,7 @@ use Rattle.std.proofs.lemmas.Bool.Decides.{nat_tests}
 use Rattle.pl_base.specs.Answers.{◌>>=◌, because}
 use Rattle.pl_base.proofs.AnswerLaws.{bind_ok, because_ok, ok_same, unless_ok}
 use Rattle.pl_elf.specs.Kinds.{is_library}
-use Rattle.pl_form.specs.Files.{marked_in, original_in, original_by, file_in, file_by}
+use Rattle.pl_form.specs.Files.{marked_in, original_in, original_or_file, file_in, file_by}
 use Rattle.pl_form.specs.Marks.{has_mark, as_file, IsFormOf}
 use Rattle.pl_form.specs.Words.{checksum_of}
 use Rattle.pl_form.specs.declared.constants.TheConstants.{STORED}
@@ -22,8 +22,8 @@ use Rattle.pl_object.specs.Reads.{reads}
 use Rattle.pl_object.specs.declared.object.Object.{Object}
 use Rattle.pl_object.specs.declared.refusal.Refusal.{Refusal}
 use Rattle.law_sound.specs.Rule as sound
-use Rattle.pl_conflict.specs.Complete.{rows_of}
-use Rattle.pl_conflict.specs.Format.{Causes, number_of, row_of, mark_of, mark_in, read_original}
+use Rattle.pl_conflict.specs.Complete.{marked_conflicts}
+use Rattle.pl_conflict.specs.Format.{Causes, number_of, row_of_list, mark_of, mark_in, read_original}
 use Rattle.pl_loader.specs.Faults.{of_file}
 use Rattle.pl_loader.specs.Fast.{stored, rows_by}
 use Rattle.pl_loader.specs.Loading.{IsLoadable}
@@ -36,7 +36,7 @@ use Rattle.pl_loader.proofs.GiveLaws.{read_named}
 -- a mark as the format tells it, which tells the version besides
 abbrev pub mark_by : ℕ → Option Mark → Option sound.Mark
 mark_by version None = None
-mark_by version (Some k) = Some (record { version = version; slot = k.slot; stamp = k.stamp; list = map row_of k.list })
+mark_by version (Some k) = Some (record { version = version; slot = k.slot; stamp = k.stamp; list = map row_of_list k.list })
 
 -- a library's mark has the checksum of its original
 abbrev pub Sums : List ℕ → Bool → Option Mark → Type 0
@@ -51,7 +51,7 @@ pub record IsFileOf {F : Type 0} (causes : Causes F) (n bytes : List ℕ) (f : O
   pub mark : mark_in bytes ≡ mark_by version f.mark
   pub sums : Sums f.bytes (is_library f.object.kind) f.mark
   pub stored : bytes ≡ stored f
-  pub rows : rows_of (marked_in bytes) ≡ rows_by f.mark
+  pub rows : marked_conflicts (marked_in bytes) ≡ rows_by f.mark
 
 -- ---- an accepted original
 
@@ -75,7 +75,7 @@ marked_file : {F : Type 0} (causes : Causes F) (n bytes : List ℕ) (m : form.Ma
 unfolding original_in mark_in
 marked_file causes n bytes m is =
     let of : IsFormOf bytes m = nothing_else_is_read bytes m is in
-    let original : original_in bytes ≡ m.original = ap (original_by bytes) is in
+    let original : original_in bytes ≡ m.original = ap (original_or_file bytes) is in
     record {
       original = original;
       object = ap (read_original causes n) original ∙ read_back causes n m.original m.object of.plain of.firm.accepted;
@@ -83,13 +83,13 @@ marked_file causes n bytes m is =
       mark = ap (option_map mark_of) is;
       sums = λ library. elim of.mark [ inl mark ↦ mark.checksum | inr program ↦ absurd (false≢true (sym program.program ∙ library)) ];
       stored = refl;
-      rows = ap rows_of is;
+      rows = ap marked_conflicts is;
     }
 
 plain_file : {F : Type 0} (causes : Causes F) (n bytes : List ℕ) (x : Object) → marked_in bytes ≡ None → has_mark bytes ≡ false → reads bytes ≡ Ok x → IsFileOf causes n bytes (with_mark n bytes (Plain x))
 unfolding original_in mark_in
 plain_file causes n bytes x none plain is =
-    let original : original_in bytes ≡ bytes = ap (original_by bytes) none in
+    let original : original_in bytes ≡ bytes = ap (original_or_file bytes) none in
     record {
       original = original;
       object = ap (read_original causes n) original ∙ read_back causes n bytes x plain is;
@@ -97,7 +97,7 @@ plain_file causes n bytes x none plain is =
       mark = ap (option_map mark_of) none;
       sums = tt;
       stored = refl;
-      rows = ap rows_of none;
+      rows = ap marked_conflicts none;
     }
 
 plain_is : (r : Result Object Refusal) (file : File) → as_file r ≡ Ok file → (x : Object) × (r ≡ Ok x) × (Plain x ≡ file)

@@ -25,7 +25,7 @@ use Rattle.pl_tls.specs.declared.block.Block.{Block}
 use Rattle.pl_tls.specs.declared.module.Module.{Module}
 use Rattle.pl_value.specs.Ordinary.{ordinary}
 use Rattle.pl_lists.specs.declared.conflict_row.ConflictRow.{ConflictRow}
-use Rattle.pl_conflict.specs.Complete.{file_at, files_in, rows_of, IsProgramWalk}
+use Rattle.pl_conflict.specs.Complete.{file_at, files_in, marked_conflicts, IsProgramWalk}
 use Rattle.pl_conflict.specs.Format as format
 use Rattle.pl_conflict.specs.Format.{Causes, mark_in, RuleAt}
 use Rattle.pl_conflict.specs.Standing.{standing_image}
@@ -50,7 +50,7 @@ use Rattle.law_loads.proofs.PlaceLaws.{chosen_are_at}
 -- ---- the image of the fast path
 
 abbrev rows_in : Files → List ℕ → List ConflictRow
-rows_in folder name = rows_of (marked_in (file_at folder name))
+rows_in folder name = marked_conflicts (marked_in (file_at folder name))
 
 image_same : {F : Type 0} (causes : Causes F) (folder : Files) (name : List ℕ) (all : List ObjectFile) (at : List ℕ) → IsWalkOf causes folder name all → fast_image all at ≡ folder_image folder name (walk_of all) at
 image_same causes folder name all at w =

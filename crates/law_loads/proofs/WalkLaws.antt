@@ -19,7 +19,7 @@ use Rattle.pl_scope.proofs.NameLaws.{has_head, has_tail}
 use Rattle.pl_scope.proofs.StepLaws.{walk_local}
 use Rattle.pl_scope.proofs.WalkedLaws.{member_file}
 use Rattle.law_sound.specs.Rule.{Files, object_at, original_at, objects, walk_in}
-use Rattle.pl_conflict.specs.Complete.{bytes_of, file_at, files_in, originals_in, rows_of}
+use Rattle.pl_conflict.specs.Complete.{bytes_of, file_at, files_in, originals_in, marked_conflicts}
 use Rattle.pl_conflict.specs.Format.{Causes, format}
 use Rattle.pl_loader.specs.Fast.{stored, conflicts_of}
 use Rattle.pl_loader.specs.Loading.{objects_of, parts_of, IsLibrary, IsLoadable}
@@ -206,12 +206,12 @@ files_same causes folder name (f ∷ all) taken =
     let rest = files_same causes folder name all (All-tail (IsTaken causes folder name) f all taken) in
     ap (λ (o : List ℕ). o ∷ files_in folder (walk_of all)) here ∙ ap (λ (os : List (List ℕ)). stored f ∷ os) rest
 
-rows_same : {F : Type 0} (causes : Causes F) (folder : Files) (name : List ℕ) (all : List ObjectFile) → Begins causes folder name all → rows_of (marked_in (file_at folder name)) ≡ conflicts_of all
+rows_same : {F : Type 0} (causes : Causes F) (folder : Files) (name : List ℕ) (all : List ObjectFile) → Begins causes folder name all → marked_conflicts (marked_in (file_at folder name)) ≡ conflicts_of all
 unfolding conflicts_of
 rows_same causes folder name all b =
     let t = b.first in
     let file : file_at folder name ≡ t.bytes = ap (file_at folder) (sym b.named) ∙ ap bytes_of t.there in
-    ap (λ (xs : List ℕ). rows_of (marked_in xs)) file ∙ t.is.rows ∙ sym (ap conflicts_of b.is)
+    ap (λ (xs : List ℕ). marked_conflicts (marked_in xs)) file ∙ t.is.rows ∙ sym (ap conflicts_of b.is)
 
 pub walks_are_one : {E F : Type 0} → WalksAreOne E F
 walks_are_one causes folder fault file name all is =

@@ -11,7 +11,7 @@ use Rattle.pl_scope.specs.Walk.{Walked}
 use Rattle.law_sound.specs.Rule.{Files, walk_in}
 use Rattle.pl_tls.specs.declared.module.Module.{Module}
 use Rattle.pl_value.specs.Ordinary.{loaded_objects}
-use Rattle.pl_conflict.specs.Complete.{file_at, files_in, originals_in, rows_of}
+use Rattle.pl_conflict.specs.Complete.{file_at, files_in, originals_in, marked_conflicts}
 use Rattle.pl_conflict.specs.Format.{Causes, format}
 use Rattle.pl_conflict.specs.Standing.{standing_image}
 use Rattle.pl_loader.specs.Fast.{stored, conflicts_of}
@@ -44,11 +44,11 @@ pub record IsWalkOf {E : Type 0} (causes : Causes E) (folder : Files) (name : Li
   pub objects : objects (walk_of all) ≡ objects_of all
   pub originals : originals_in causes folder (walk_of all) ≡ parts_of all
   pub files : files_in folder (walk_of all) ≡ map stored all
-  pub rows : rows_of (marked_in (file_at folder name)) ≡ conflicts_of all
+  pub rows : marked_conflicts (marked_in (file_at folder name)) ≡ conflicts_of all
 
 -- the image of the fast path by the folder's files
 abbrev pub folder_image : Files → List ℕ → Walked → List ℕ → Image
-folder_image folder name walked places = standing_image places (files_in folder walked) (objects walked) (rows_of (marked_in (file_at folder name)))
+folder_image folder name walked places = standing_image places (files_in folder walked) (objects walked) (marked_conflicts (marked_in (file_at folder name)))
 
 -- one place for each file, the first's at 0
 pub record AreAt (all : List ObjectFile) (places : List ℕ) : Type 0 where

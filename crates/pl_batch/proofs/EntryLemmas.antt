@@ -2,7 +2,7 @@
 use Rattle.std.proofs.Common.{◌≡◌, ℕ, List, Bool, true, false, Option, Some, None, refl, ◌∙◌, ap}
 use Rattle.std.specs.Prelude.{Result, Ok, Err, length}
 use Rattle.pl_base.specs.Answers.{unless}
-use Rattle.pl_form.specs.Files.{file_by, file_in, marked_in, original_by, original_in}
+use Rattle.pl_form.specs.Files.{file_by, file_in, marked_in, original_or_file, original_in}
 use Rattle.pl_form.specs.Marks.{as_file, has_mark}
 use Rattle.pl_form.specs.declared.fault.FileFault.TheVariants as unread
 use Rattle.pl_form.specs.declared.file.Entry.{Entry}
@@ -23,7 +23,7 @@ of_bare : (size : ℕ) (r : Result Object Refusal) (mark : Bool) → size_by siz
 of_bare size r true = refl
 of_bare size r false = of_read size r
 
-of_form : (file : List ℕ) (m : Option form.Marked) → size_by (length file) (entry_by (file_by file m)) ≡ length (original_by file m)
+of_form : (file : List ℕ) (m : Option form.Marked) → size_by (length file) (entry_by (file_by file m)) ≡ length (original_or_file file m)
 of_form file None = of_bare (length file) (reads file) (has_mark file)
 of_form file (Some m) = refl
 

@@ -19,7 +19,7 @@ use Rattle.pl_rewrite.specs.Format.{format, read_original}
 use Rattle.pl_folder.specs.Calls.{Calls}
 use Rattle.pl_folder.specs.Seen.{Seen, Done}
 use Rattle.pl_folder.specs.declared.TheConstants as folder
-use Rattle.pl_form.specs.Files.{file_by, file_in, marked_in, original_by, original_in}
+use Rattle.pl_form.specs.Files.{file_by, file_in, marked_in, original_or_file, original_in}
 use Rattle.pl_form.specs.Marks.{IsFormOf, as_file, has_mark}
 use Rattle.pl_form.specs.Reading.{marked_of}
 use Rattle.pl_form.specs.declared.constants.TheConstants.{STORED}
@@ -82,7 +82,7 @@ long_plain bytes long =
 
 own_original : (bytes : List ℕ) → marked_in bytes ≡ None → original_in bytes ≡ bytes
 unfolding original_in
-own_original bytes none = ap (original_by bytes) none
+own_original bytes none = ap (original_or_file bytes) none
 
 -- ---- the object of one file
 

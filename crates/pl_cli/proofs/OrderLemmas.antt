@@ -43,7 +43,7 @@ use Rattle.pl_cli.specs.declared.stop.Stop.TheVariants as stops
 use Rattle.pl_cli.specs.Came.{HasObject, HasOrdered, HasTaken, HasWalked}
 use Rattle.pl_cli.specs.Files.{file_in}
 use Rattle.pl_cli.specs.Looks.{stepped, takes}
-use Rattle.pl_cli.specs.Order.{member, members_of, object_by, object_in, order_text, ordered, original, refused, walked}
+use Rattle.pl_cli.specs.Order.{member, members_of, object_by, object_in, order_text, ordered, original, refused_file, walked}
 use Rattle.pl_cli.specs.Stops.{StopsAlone, of_load_fault}
 use Rattle.pl_cli.proofs.CallLemmas.{asked_all}
 use Rattle.pl_cli.proofs.LookLemmas.{AllBut, left_from, step_given, step_lacks}
@@ -62,19 +62,19 @@ pub original_is : (bytes : List ℕ) (file : File) → forms.file_in bytes ≡ O
 unfolding original
 original_is bytes file is = ap (λ (r : Result File FileFault). r >>= λ f. Ok (object_by f)) is
 
-pub original_refused : (name bytes : List ℕ) (fault : FileFault) → Answers marks.is_memory (Err fault) (forms.file_in bytes) → StopsAlone (because (refused name) (original bytes)) (of_load_fault (of_file name fault))
+pub original_refused : (name bytes : List ℕ) (fault : FileFault) → Answers marks.is_memory (Err fault) (forms.file_in bytes) → StopsAlone (because (refused_file name) (original bytes)) (of_load_fault (of_file name fault))
 unfolding original
-original_refused name bytes faults.BadMark is = ap (λ (r : Result File FileFault). because (refused name) (r >>= λ f. Ok (object_by f))) is
-original_refused name bytes (faults.Refused (refusals.Clause number argument)) is = ap (λ (r : Result File FileFault). because (refused name) (r >>= λ f. Ok (object_by f))) is
+original_refused name bytes faults.BadMark is = ap (λ (r : Result File FileFault). because (refused_file name) (r >>= λ f. Ok (object_by f))) is
+original_refused name bytes (faults.Refused (refusals.Clause number argument)) is = ap (λ (r : Result File FileFault). because (refused_file name) (r >>= λ f. Ok (object_by f))) is
 original_refused name bytes (faults.Refused refusals.NoMemory) is = tt
 
 lacks_object : (files : Files) (n : List ℕ) (cause : Cause) → file_in files n ≡ Err cause → object_in files n ≡ Err cause
 unfolding object_in
-lacks_object files n cause lacks = ap (λ (r : Result (List ℕ) Cause). r >>= λ bytes. because (refused n) (original bytes)) lacks
+lacks_object files n cause lacks = ap (λ (r : Result (List ℕ) Cause). r >>= λ bytes. because (refused_file n) (original bytes)) lacks
 
-reads_object : (files : Files) (n bytes : List ℕ) → file_in files n ≡ Ok bytes → object_in files n ≡ because (refused n) (original bytes)
+reads_object : (files : Files) (n bytes : List ℕ) → file_in files n ≡ Ok bytes → object_in files n ≡ because (refused_file n) (original bytes)
 unfolding object_in
-reads_object files n bytes there = ap (λ (r : Result (List ℕ) Cause). r >>= λ b. because (refused n) (original b)) there
+reads_object files n bytes there = ap (λ (r : Result (List ℕ) Cause). r >>= λ b. because (refused_file n) (original b)) there
 
 module _ (n : List ℕ) {a b : Seen} where
   -- the file was not taken
@@ -83,14 +83,14 @@ module _ (n : List ℕ) {a b : Seen} where
 
   module _ (bytes : Vec ℕ Global) (took : HasTaken n (Ok bytes) a b) where
     -- it is refused, or memory lacked
-    pub object_stopped : (stop : Stop) → StopsAlone (because (refused n) (original bytes.items)) stop → HasObject n (Err stop) a b
+    pub object_stopped : (stop : Stop) → StopsAlone (because (refused_file n) (original bytes.items)) stop → HasObject n (Err stop) a b
     object_stopped (stops.Cause cause) is = record { means = λ told. reads_object a.files n bytes.items (took.means told) ∙ is; reads = refl; fails = λ e. absurd (false≢true e); calls = took.calls }
     object_stopped stops.Failed is = absurd is
     object_stopped stops.InputFailed is = absurd is
     object_stopped stops.NoMemory is = record { means = tt; reads = refl; fails = λ e. absurd (false≢true e); calls = asked_all _ took.calls }
 
     pub object_read : (m : NamedObject) → original bytes.items ≡ Ok m.object → HasObject n (Ok m) a b
-    object_read m is = record { means = λ told. reads_object a.files n bytes.items (took.means told) ∙ ap (because (refused n)) is; reads = refl; fails = λ e. absurd (false≢true e); calls = took.calls }
+    object_read m is = record { means = λ told. reads_object a.files n bytes.items (took.means told) ∙ ap (because (refused_file n)) is; reads = refl; fails = λ e. absurd (false≢true e); calls = took.calls }
 
 -- ---- the walk
 

@@ -32,7 +32,7 @@ use Rattle.pl_weave.specs.Given.{first_by, first_of, given_from}
 use Rattle.pl_pie.specs.Placed.{placed}
 use Rattle.pl_pie.specs.declared.placing.Placing.{Placing}
 use Rattle.pl_pie.specs.declared.placing.Placing.TheVariants as placings
-use Rattle.pl_cli.specs.Order.{object_in, order_text, ordered, original, refused, walked}
+use Rattle.pl_cli.specs.Order.{object_in, order_text, ordered, original, refused_file, walked}
 use Rattle.pl_cli.specs.declared.command.Content.{Content}
 use Rattle.pl_cli.specs.declared.command.Content.TheVariants.{File, Recipe}
 use Rattle.pl_cli.specs.Reports.{previewed, report_text, reported}
@@ -101,7 +101,7 @@ original_tells bytes = then_tells form.is_memory _ _ (file_in_tells bytes) (λ f
 
 object_tells : (files : Files) (name : List ℕ) → NeverMemory is_memory (object_in files name)
 unfolding object_in
-object_tells files name = then_tells is_memory _ _ (file_tells files name) (λ bytes. because_tells form.is_memory is_memory (refused name) _ (of_file_tells name) (original_tells bytes))
+object_tells files name = then_tells is_memory _ _ (file_tells files name) (λ bytes. because_tells form.is_memory is_memory (refused_file name) _ (of_file_tells name) (original_tells bytes))
 
 walked_tells : (files : Files) (name : List ℕ) → NeverMemory is_memory (walked files name)
 unfolding walked

@@ -36,12 +36,12 @@ unfoldable pub original : List ℕ → Result Object FileFault
 original bytes = forms.file_in bytes >>= λ file. Ok (object_by file)
 
 -- a refusal of the file of a name
-abbrev pub refused : List ℕ → FileFault → Cause
-refused name fault = causes.Load (of_file name fault)
+abbrev pub refused_file : List ℕ → FileFault → Cause
+refused_file name fault = causes.Load (of_file name fault)
 
 -- the object of a name of the walk
 unfoldable pub object_in : Files → ObjectOf
-object_in files name = file_in files name >>= λ bytes. because (refused name) (original bytes)
+object_in files name = file_in files name >>= λ bytes. because (refused_file name) (original bytes)
 
 -- the names of the walk with their objects, or the first cause why there is none
 unfoldable pub walked : Files → List ℕ → Result Walked Cause

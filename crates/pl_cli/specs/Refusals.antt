@@ -66,27 +66,27 @@ form_text name number = codes "Form " ++ name ++ codes " " ++ decimal number
 -- ---- texts of causes
 
 -- a fault of a load. No load means a want of memory, so the text of NoMemory is never printed
-unfoldable pub load_text : LoadFault → List ℕ
-load_text (NotThere name) = named (codes "NotThere") name
-load_text (BadMark name) = named (codes "BadMark") name
-load_text (Refused name number argument) = refused name number argument
-load_text (NotProgram name) = named (codes "NotProgram") name
-load_text (NeededIsProgram name) = named (codes "NeededIsProgram") name
-load_text (TooMany name) = named (codes "TooMany") name
-load_text TlsTooLarge = codes "TlsTooLarge"
-load_text (NoPlace name) = named (codes "NoPlace") name
-load_text (Undefined object symbol) = link_text (codes "Undefined") object symbol
-load_text (UndefinedTls object symbol) = link_text (codes "UndefinedTls") object symbol
-load_text (TlsMismatch object symbol) = link_text (codes "TlsMismatch") object symbol
-load_text (CopyOutside object symbol) = link_text (codes "CopyOutside") object symbol
-load_text NoMemory = codes "NoMemory"
+unfoldable pub load_fault_text : LoadFault → List ℕ
+load_fault_text (NotThere name) = named (codes "NotThere") name
+load_fault_text (BadMark name) = named (codes "BadMark") name
+load_fault_text (Refused name number argument) = refused name number argument
+load_fault_text (NotProgram name) = named (codes "NotProgram") name
+load_fault_text (NeededIsProgram name) = named (codes "NeededIsProgram") name
+load_fault_text (TooMany name) = named (codes "TooMany") name
+load_fault_text TlsTooLarge = codes "TlsTooLarge"
+load_fault_text (NoPlace name) = named (codes "NoPlace") name
+load_fault_text (Undefined object symbol) = link_text (codes "Undefined") object symbol
+load_fault_text (UndefinedTls object symbol) = link_text (codes "UndefinedTls") object symbol
+load_fault_text (TlsMismatch object symbol) = link_text (codes "TlsMismatch") object symbol
+load_fault_text (CopyOutside object symbol) = link_text (codes "CopyOutside") object symbol
+load_fault_text NoMemory = codes "NoMemory"
 
 -- why a command is refused
 unfoldable pub cause_text : Cause → List ℕ
 cause_text BadName = codes "BadName"
 cause_text BadJournal = codes "BadJournal"
 cause_text (FileTooLarge name) = named (codes "FileTooLarge") name
-cause_text (Load fault) = load_text fault
+cause_text (Load fault) = load_fault_text fault
 cause_text InputTooLarge = codes "InputTooLarge"
 cause_text (Recipe number kind) = recipe_text number kind
 cause_text (Script line) = numbered (codes "Script") line

@@ -99,9 +99,9 @@ fn form_text(alloc: Global, name: &Text, number: u32) -> Result<Vec<u8>, AllocEr
 }
 
 /// The text of a fault of a load. No load means a want of memory, so the text of `NoMemory` is never printed.
-#[tactic(auto, unfolding(crate::specs::Refusals::load_text))]
+#[tactic(auto, unfolding(crate::specs::Refusals::load_fault_text))]
 fn load_text(alloc: Global, fault: &LoadFault) -> Result<Vec<u8>, AllocError>
-    ensures { IfOk result (λ text. text.items ≡ spec.load_text fault.now) }
+    ensures { IfOk result (λ text. text.items ≡ spec.load_fault_text fault.now) }
 {
     match fault {
         LoadFault::NotThere(name) => named(alloc, "NotThere", name),

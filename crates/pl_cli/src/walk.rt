@@ -53,7 +53,7 @@ fn object_of(alloc: Global, name: &str, bytes: &[u8]) -> Result<Object, Stop>
     requires { length bytes.now < 2 ^ 32 }
     ensures ok { IfOk result (λ o. spec.original bytes.now ≡ Ok o) }
     ensures accepted { IfOk result IsAccepted }
-    ensures stop { IfErr result (StopsAlone (because (spec.refused name.now)
+    ensures stop { IfErr result (StopsAlone (because (spec.refused_file name.now)
         (spec.original bytes.now))) }
 {
     match read_file(alloc, bytes) {

@@ -43,7 +43,7 @@ use Rattle.pl_value.specs.Meanings.{meanings}
 use Rattle.pl_value.specs.Ordinary.{loaded_objects, ordinary, shown_linked}
 use Rattle.pl_value.specs.declared.fault.LinkFault.{LinkFault}
 use Rattle.pl_value.specs.declared.meaning.Meaning.{Meaning}
-use Rattle.pl_conflict.specs.Complete.{StandFor, bytes_of, file_at, files_in, originals_in, slots_in, rows_of, IsProgramWalk, FilesStand, FastImagesAreOrdinary}
+use Rattle.pl_conflict.specs.Complete.{StandFor, bytes_of, file_at, files_in, originals_in, slots_in, marked_conflicts, IsProgramWalk, FilesStand, FastImagesAreOrdinary}
 use Rattle.pl_conflict.specs.Format.{Causes, format, slot_at, others_in, libraries, is_fast, RuleAt}
 use Rattle.pl_conflict.specs.Prelinked as prelinked
 use Rattle.pl_conflict.specs.Prelinked.{Firm, firm_of, objects_of, slots_of, originals_of, walked_of, has_numbers, library_file, named, names_in, own_walk}
@@ -399,11 +399,11 @@ set_image r rs file g modules h given = record {
   same = set_fast r rs file g h;
 }
 
-rows_are : (r : Firm) (rs : List Firm) (file : List ℕ) (g : Firm → List ℕ) (h : HasFiles r rs file g) → rows_of (marked_in file) ≡ h.made.rows
+rows_are : (r : Firm) (rs : List Firm) (file : List ℕ) (g : Firm → List ℕ) (h : HasFiles r rs file g) → marked_conflicts (marked_in file) ≡ h.made.rows
 unfolding program_made
 rows_are r rs file g h =
     let form : IsFormOf file (program_made r rs h.made.rows) = program_is_form r rs file h.made h.own h.other h.set h.small in
-    ap rows_of (forms_are_read file (program_made r rs h.made.rows) (forms_are_bytes file (program_made r rs h.made.rows) form) form)
+    ap marked_conflicts (forms_are_read file (program_made r rs h.made.rows) (forms_are_bytes file (program_made r rs h.made.rows) form) form)
 
 pub fast_images : {E : Type 0} → FastImagesAreOrdinary E
 fast_images causes files n walked modules places rule w first one_each fast =
@@ -416,8 +416,8 @@ fast_images causes files n walked modules places rule w first one_each fast =
     let placed : places ≡ slots_in causes files walked = places_are causes files n walked places begins slot first one_each p.1 in
     let image : IsImage (objects_of all) (originals_of all) (s.file ∷ map (λ t. file_at files t.member.name) s.rs) (slots_of all) modules s.held.made.rows =
     set_image s.r s.rs s.file (λ t. file_at files t.member.name) modules s.held (set_given causes files n walked modules s w) in
-    let rows : s.held.made.rows ≡ rows_of (marked_in (file_at files n)) = sym (ap (λ (xs : List ℕ). rows_of (marked_in xs)) s.there ∙ rows_are s.r s.rs s.file (λ t. file_at files t.member.name) s.held) in
-    let whole : IsImage (scopes.objects walked) (originals_in causes files walked) (files_in files walked) places modules (rows_of (marked_in (file_at files n))) =
+    let rows : s.held.made.rows ≡ marked_conflicts (marked_in (file_at files n)) = sym (ap (λ (xs : List ℕ). marked_conflicts (marked_in xs)) s.there ∙ rows_are s.r s.rs s.file (λ t. file_at files t.member.name) s.held) in
+    let whole : IsImage (scopes.objects walked) (originals_in causes files walked) (files_in files walked) places modules (marked_conflicts (marked_in (file_at files n))) =
     subst (λ (cs : List ConflictRow). IsImage (scopes.objects walked) (originals_in causes files walked) (files_in files walked) places modules cs) rows
     (subst (λ (ss : List ℕ). IsImage (scopes.objects walked) (originals_in causes files walked) (files_in files walked) ss modules s.held.made.rows) (s.scope.slots ∙ sym placed)
     (subst (λ (os : List Object). IsImage os (originals_in causes files walked) (files_in files walked) (slots_of all) modules s.held.made.rows) s.scope.objects

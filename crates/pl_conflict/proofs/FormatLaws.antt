@@ -8,7 +8,7 @@ use Rattle.pl_base.proofs.AnswerLaws.{because_ok, ok_same, unless_ok}
 use Rattle.pl_elf.specs.Kinds.{is_library, is_static}
 use Rattle.pl_elf.specs.declared.kind.Kind.{Kind}
 use Rattle.pl_elf.specs.declared.kind.Kind.TheVariants.{Program, Library, Static}
-use Rattle.pl_form.specs.Files.{marked_in, original_in, original_by}
+use Rattle.pl_form.specs.Files.{marked_in, original_in, original_or_file}
 use Rattle.pl_form.specs.Marks.{has_mark, IsFormOf, IsMark}
 use Rattle.pl_form.specs.declared.constants.TheConstants.{STORED}
 use Rattle.pl_form.specs.declared.file.Marked.{Marked}
@@ -33,7 +33,7 @@ some_mark (Some m) k e = (m, refl, same m k e)
 
 original_is : (file : List ℕ) (m : Marked) → marked_in file ≡ Some m → original_in file ≡ m.original
 unfolding original_in
-original_is file m is = ap (original_by file) is
+original_is file m is = ap (original_or_file file) is
 
 mark_is : (file : List ℕ) (m : Marked) → marked_in file ≡ Some m → mark_in file ≡ Some (mark_of m)
 unfolding mark_in

@@ -47,7 +47,7 @@ use Rattle.pl_value.specs.Targets.{base_of}
 use Rattle.pl_value.specs.declared.fault.LinkFault.{LinkFault}
 use Rattle.pl_value.specs.declared.meaning.Meaning.{Meaning}
 use Rattle.pl_conflict.specs.Conflicts.{rows_of, ascending, conflicts}
-use Rattle.pl_conflict.specs.Format.{mark_of, mark_for, row_of, row_for, number_of, PrelinkedAreForms}
+use Rattle.pl_conflict.specs.Format.{mark_of, mark_for, row_of_list, row_for, number_of, PrelinkedAreForms}
 use Rattle.pl_conflict.specs.Own.{own_words}
 use Rattle.pl_conflict.specs.Prelinked as prelinked
 use Rattle.pl_conflict.specs.Prelinked.{Firm, firm_of, all_firm, objects_of, slots_of, originals_of, version_of, has_numbers, list_row, list_of, are_set, library_file, parts_of, fill_of, is_program_place, flat_of, program_by, with_rows, with_modules, program_file, file_of, stored, of_firm}
@@ -246,12 +246,12 @@ program_is_form r rs file p all other set small =
 
 -- ---- the mark
 
-rows_same : (ms : List Member) (rs : List Firm) → AllZip IsFirmOf ms rs → map row_of (list_of rs) ≡ map row_for ms
+rows_same : (ms : List Member) (rs : List Firm) → AllZip IsFirmOf ms rs → map row_of_list (list_of rs) ≡ map row_for ms
 rows_same [] [] zip = refl
 rows_same [] (r ∷ rs) zip = absurd zip
 rows_same (m ∷ ms) [] zip = absurd zip
 rows_same (m ∷ ms) (r ∷ rs) zip =
-    ap (λ (n : Member). row_for n ∷ map row_of (list_of rs)) zip.0.is ∙ ap (λ (xs : List Row). row_for m ∷ xs) (rows_same ms rs zip.1)
+    ap (λ (n : Member). row_for n ∷ map row_of_list (list_of rs)) zip.0.is ∙ ap (λ (xs : List Row). row_for m ∷ xs) (rows_same ms rs zip.1)
 
 mark_made : ℕ → ℕ → ℕ → List Row → Mark
 mark_made version slot stamp list = record { version = version; slot = slot; stamp = stamp; list = list }

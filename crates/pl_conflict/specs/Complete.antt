@@ -80,9 +80,9 @@ abbrev pub slots_in : {E : Type 0} → Causes E → Files → Walked → List �
 slots_in causes files walked = map (slot_at causes files) (names walked)
 
 -- the conflict rows of a file
-abbrev pub rows_of : Option Marked → List ConflictRow
-rows_of None = []
-rows_of (Some m) = m.conflicts
+abbrev pub marked_conflicts : Option Marked → List ConflictRow
+marked_conflicts None = []
+marked_conflicts (Some m) = m.conflicts
 
 -- a program's walk, with the modules of its members
 pub record IsProgramWalk {E : Type 0} (causes : Causes E) (files : Files) (n : List ℕ) (walked : Walked) (modules : List Module) : Type 0 where
@@ -104,4 +104,4 @@ FastImagesAreOrdinary E = (causes : Causes E) (files : Files) (n : List ℕ) (wa
     → slice_index_or places 0 0 ≡ 0 → length places ≡ length walked → is_fast causes files n places ≡ true
     → (memory : Memory)
     × (ordinary (objects walked) (originals_in causes files walked) places modules ≡ Ok memory)
-    × ((a : ℕ) → byte_of (standing_image places (files_in files walked) (objects walked) (rows_of (marked_in (file_at files n)))) a ≡ memory a)
+    × ((a : ℕ) → byte_of (standing_image places (files_in files walked) (objects walked) (marked_conflicts (marked_in (file_at files n)))) a ≡ memory a)

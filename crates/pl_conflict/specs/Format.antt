@@ -28,11 +28,11 @@ abbrev pub number_of : Version → ℕ
 number_of One = 1
 number_of Two = 2
 
-abbrev pub row_of : ListRow → Row
-row_of row = record { name = row.name; stamp = row.stamp; checksum = row.checksum }
+abbrev pub row_of_list : ListRow → Row
+row_of_list row = record { name = row.name; stamp = row.stamp; checksum = row.checksum }
 
 abbrev pub mark_of : Marked → Mark
-mark_of m = record { version = number_of m.version; slot = m.slot; stamp = m.stamp; list = map row_of m.list }
+mark_of m = record { version = number_of m.version; slot = m.slot; stamp = m.stamp; list = map row_of_list m.list }
 
 -- what a prelinked file tells of itself
 unfoldable pub mark_in : List ℕ → Option Mark

@@ -23,7 +23,7 @@ use Rattle.pl_form.specs.Found.{reader, ss_of, ps_of}
 use Rattle.pl_form.specs.declared.parts.Spot.{Spot}
 use Rattle.pl_form.proofs.FinalTheorem.{reads_ok}
 use Rattle.pl_undo.specs.declared.undo.Undo.{Undo}
-use Rattle.pl_form.specs.Files.{is_byte, are_bytes, of_bytes, marked_in, original_by, original_in, file_in, FormsAreRead, NothingElseIsRead, OriginalsAreBare, FormsAreTold, BadAreTold, PlainAreTold}
+use Rattle.pl_form.specs.Files.{is_byte, are_bytes, of_bytes, marked_in, original_or_file, original_in, file_in, FormsAreRead, NothingElseIsRead, OriginalsAreBare, FormsAreTold, BadAreTold, PlainAreTold}
 use Rattle.pl_form.specs.Marks.{has_mark, IsFormOf, IsNoForm}
 use Rattle.pl_form.specs.Reading.{marked_of, marked_by, firm_object, firm_if, is_firm, IsOwn, lists_in, section_from_end, spelled, with_conflicts, AreSpelled, checked, candidate, is_form, places_in, standing, zeros_behind}
 use Rattle.pl_form.specs.declared.constants.TheConstants.{STORED}
@@ -175,7 +175,7 @@ bare_object : (o : List ℕ) (x : Object) (found : Option Marked) → reads o �
 bare_object o x None e plain is = refl
 bare_object o x (Some n) e plain is = absurd (true≢false (sym (marks o n (nothing_else_is_read o n is) (reads_ok o x e)) ∙ plain))
 
-bare_by : (file : List ℕ) (found : Option Marked) → marked_in file ≡ found → marked_in (original_by file found) ≡ None
+bare_by : (file : List ℕ) (found : Option Marked) → marked_in file ≡ found → marked_in (original_or_file file found) ≡ None
 bare_by file None e = e
 bare_by file (Some m) e =
     let form = nothing_else_is_read file m e in

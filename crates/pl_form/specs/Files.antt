@@ -31,13 +31,13 @@ of_bytes file m = when (are_bytes file && are_bytes m.original) (Some m)
 unfoldable pub marked_in : List ℕ → Option Marked
 marked_in file = marked_of file >>= of_bytes file
 
-abbrev pub original_by : List ℕ → Option Marked → List ℕ
-original_by file None = file
-original_by file (Some m) = m.original
+abbrev pub original_or_file : List ℕ → Option Marked → List ℕ
+original_or_file file None = file
+original_or_file file (Some m) = m.original
 
 -- the original of a form; any other file is its own original
 unfoldable pub original_in : List ℕ → List ℕ
-original_in file = original_by file (marked_in file)
+original_in file = original_or_file file (marked_in file)
 
 -- ---- the whole
 

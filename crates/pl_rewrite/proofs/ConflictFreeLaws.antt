@@ -50,7 +50,7 @@ use Rattle.pl_value.specs.Values.{relocations_in, value_of}
 use Rattle.pl_value.specs.declared.meaning.Meaning.{Meaning}
 use Rattle.pl_value.specs.declared.word.Word.{Word}
 use Rattle.pl_value.specs.declared.word.Word.TheVariants.{Put, Copy, Nothing}
-use Rattle.pl_rewrite.specs.Members.{AreConflictFreeFor, IsCandidate, IsRunLibrary, IsLinkOf, IsPrelinkable, IsPart, IsRun, IsConflictFreeBy, IsConflictFreeFor, files_of, numbers_of, planned_firm, planned_firms, prelinked}
+use Rattle.pl_rewrite.specs.Members.{AreConflictFreeFor, IsCandidate, IsRunLibrary, IsLinkOf, IsPrelinkable, IsPart, IsRun, IsConflictFreeBy, IsConflictFreeFor, files_of, numbers_of, planned_firm, planned_firms, prelinked_by_plan}
 use Rattle.pl_rewrite.specs.declared.running.Library.{Library}
 use Rattle.pl_rewrite.specs.declared.running.Run.{Run}
 use Rattle.pl_rewrite.proofs.OnceLaws.{linked_kind, part_is}
@@ -60,7 +60,7 @@ use Rattle.pl_rewrite.proofs.WalkLaws.{members_are, sound_is}
 
 -- what is known of a library by its flags
 abbrev IsConflictFree : Run → Library → Type 0
-IsConflictFree run s = IsConflictFreeBy run.known.now (prelinked run) (planned_firms run) s
+IsConflictFree run s = IsConflictFreeBy run.known.now (prelinked_by_plan run) (planned_firms run) s
 
 -- a library of a name
 pub record IsOf (run : Run) (n : List ℕ) (l : Library) : Type 0 where
@@ -209,7 +209,7 @@ module _ (run : Run) (n : List ℕ) (ws : Walked) (is : IsRun run) (candidate : 
         let rs = planned_firms run ws in
         let named : IsNamedMember ws m name = record { object = x; at = at } in
         let member : IsPrelinkable run (name, x) = member_at run ws m (name, x) (members_are run n ws is candidate walk) at in
-        let made : prelinked run name ≡ Some k.file = ap (prelinked run) k.known_by.named ∙ k.made in
+        let made : prelinked_by_plan run name ≡ Some k.file = ap (prelinked_by_plan run) k.known_by.named ∙ k.made in
         let part : IsPart run (planned_firm run (name, x)) k.file = rw library made in
         let bytes : part_of (parts_of rs) m ≡ k.file = part_at run (form.part_of rs) ws m (name, x) at ∙ part_is run n ws is candidate walk (name, x) k.file (member_has ws m name named) member part in
         let object : slice_get (objects_of rs) m ≡ Some x = ap (λ (os : List Object). slice_get os m) (objects_planned run ws) ∙ object_at ws m name x at in

@@ -10,7 +10,7 @@ use Rattle.pl_base.specs.Answers.{unless}
 use Rattle.pl_base.proofs.AnswerLaws.{ok_same}
 use Rattle.pl_conflict.specs.Format.{format}
 use Rattle.pl_conflict.specs.Prelinked.{Firm, stored}
-use Rattle.pl_form.specs.Files.{marked_in, original_in, original_by, file_in, file_by}
+use Rattle.pl_form.specs.Files.{marked_in, original_in, original_or_file, file_in, file_by}
 use Rattle.pl_form.specs.Marks.{has_mark, as_file}
 use Rattle.pl_form.specs.declared.constants.TheConstants.{STORED}
 use Rattle.pl_form.specs.declared.fault.FileFault.{FileFault}
@@ -37,7 +37,7 @@ use Rattle.law_sound.specs.Rule.{object_at, original_at}
 use Rattle.pl_rewrite.specs.Changes.{put}
 use Rattle.pl_rewrite.specs.Deciding.{HasPartsIfAny, IsDecided, IsDecidedIn}
 use Rattle.pl_rewrite.specs.Finishing.{HasForm, HasFormBy, bare_of, storable_library, library_firm, made_by, made_with}
-use Rattle.pl_rewrite.specs.Members.{HasParts, IsFound, IsRunLibrary, IsRun, IsStale, files_of, is_library_entry, made, numbers_of, plan_of, prelinked}
+use Rattle.pl_rewrite.specs.Members.{HasParts, IsFileOfName, IsRunLibrary, IsRun, IsStale, files_of, is_library_entry, made, numbers_of, plan_of, prelinked_by_plan}
 use Rattle.pl_rewrite.specs.Reports as reports
 use Rattle.pl_rewrite.specs.Rewriting.{AreDecided}
 use Rattle.pl_rewrite.specs.Words.{own_words_of}
@@ -83,7 +83,7 @@ object_read bytes f is = by_mark (marked_in bytes) refl is
     by_test true e = absurd cc
     by_test false e = by_object (reads bytes) e
 
-    by_mark : (m : Option Marked) → marked_in bytes ≡ m → file_by bytes m ≡ Ok f → reads (original_by bytes m) ≡ Ok (object_of f)
+    by_mark : (m : Option Marked) → marked_in bytes ≡ m → file_by bytes m ≡ Ok f → reads (original_or_file bytes m) ≡ Ok (object_of f)
     by_mark None at e = by_test (has_mark bytes) e
     by_mark (Some m) at e = (nothing_else_is_read bytes m at).firm.accepted ∙ ap (λ (g : File). Ok (object_of g)) (ok_same (files.Marked m) f e)
 
@@ -103,25 +103,25 @@ abbrev HasPartsOf : Run → Taken → FileParts → Type 0
 HasPartsOf run t parts = HasParts (files_of run) run.region (plan_of run) t.name parts
 
 -- the object that is read of a name's file is the name's
-object_same : (run : Run) (t : Taken) (f : File) (parts : FileParts) → IsFound run t → (p : HasPartsOf run t parts) → file_in t.bytes ≡ Ok f → p.object ≡ object_of f
+object_same : (run : Run) (t : Taken) (f : File) (parts : FileParts) → IsFileOfName run t → (p : HasPartsOf run t parts) → file_in t.bytes ≡ Ok f → p.object ≡ object_of f
 object_same run t f parts there p is =
     let given : object_at (format skip_causes) t.name (Some t.bytes) ≡ Ok p.object = sym (ap (object_at (format skip_causes) t.name) (file_at t.name run.files.now t there)) ∙ p.there in
     let own : reads (original_in t.bytes) ≡ Ok p.object = (original_is t.name (original_in t.bytes) p.object given).reads in
     ok_same p.object (object_of f) (sym own ∙ object_read t.bytes f is)
 
-firm_same : (run : Run) (t : Taken) (f : File) (parts : FileParts) → IsFound run t → (p : HasPartsOf run t parts) → file_in t.bytes ≡ Ok f
+firm_same : (run : Run) (t : Taken) (f : File) (parts : FileParts) → IsFileOfName run t → (p : HasPartsOf run t parts) → file_in t.bytes ≡ Ok f
     → firm t.name (original_at (format skip_causes) (files_of run t.name)) p.object Two parts.slot parts.stamp ≡ library_firm t.name (original_in t.bytes) (object_of f) parts
 firm_same run t f parts there p is =
     ap (λ (x : List ℕ). firm t.name x p.object Two parts.slot parts.stamp) (ap (original_at (format skip_causes)) (file_at t.name run.files.now t there))
     ∙ ap (λ (x : Object). firm t.name (original_in t.bytes) x Two parts.slot parts.stamp) (object_same run t f parts there p is)
 
-form_left : (run : Run) (t : Taken) (f : File) (parts : FileParts) → IsFound run t → HasPartsOf run t parts → file_in t.bytes ≡ Ok f → HasForm t.name (original_in t.bytes) (object_of f) parts
+form_left : (run : Run) (t : Taken) (f : File) (parts : FileParts) → IsFileOfName run t → HasPartsOf run t parts → file_in t.bytes ≡ Ok f → HasForm t.name (original_in t.bytes) (object_of f) parts
 form_left run t f parts there p is = record {
   digest = p.digest ∙ ap (λ (file : Option (List ℕ)). sha256 (original_at (format skip_causes) file)) (file_at t.name run.files.now t there);
   form = subst (λ (r : Firm). HasFormWith r parts.list (own_words_of parts)) (firm_same run t f parts there p is) p.form;
 }
 
-file_left : (run : Run) (t : Taken) (f : File) (parts : FileParts) → IsFound run t → HasPartsOf run t parts → file_in t.bytes ≡ Ok f → storable_library t.name (original_in t.bytes) (object_of f) parts ≡ prelinked run t.name
+file_left : (run : Run) (t : Taken) (f : File) (parts : FileParts) → IsFileOfName run t → HasPartsOf run t parts → file_in t.bytes ≡ Ok f → storable_library t.name (original_in t.bytes) (object_of f) parts ≡ prelinked_by_plan run t.name
 file_left run t f parts there p is =
     sym (ap (λ (r : Firm). stored (Some (file_with r parts.list (own_words_of parts)))) (firm_same run t f parts there p is)) ∙ p.file
 
@@ -130,51 +130,51 @@ file_left run t f parts there p is =
 abbrev made_state : Taken → List ℕ → RowState → Made
 made_state t file state = record { change = put (Some t.bytes) t.name (Some file); state = state; given = true }
 
-made_is : (run : Run) (t : Taken) (parts : FileParts) → IsRun run → IsFound run t → IsStale run t.name → is_library_entry t.entry ≡ true → HasPartsOf run t parts
-    → (file : Option (List ℕ)) → prelinked run t.name ≡ file → made_with (bare_of t) parts file ≡ made run t.name
+made_is : (run : Run) (t : Taken) (parts : FileParts) → IsRun run → IsFileOfName run t → IsStale run t.name → is_library_entry t.entry ≡ true → HasPartsOf run t parts
+    → (file : Option (List ℕ)) → prelinked_by_plan run t.name ≡ file → made_with (bare_of t) parts file ≡ made run t.name
 made_is run t parts is there stale library p None at = large_is run t is there stale (sym at)
 made_is run t parts is there stale library p (Some file) at =
     let state : states.Library false parts.slot parts.stamp ≡ reports.state_in t.name false (marked_in file) =
     ap (λ (k : ℕ). states.Library false k parts.stamp) p.slot ∙ (ap (λ (k : ℕ). states.Library false ((numbers_of run).slot t.name) k) p.stamp ∙ library_state run t file is there library (sym at)) in
     ap (made_state t file) state ∙ new_is run t file is there stale (sym at)
 
-form_by : (run : Run) (t : Taken) (parts : FileParts) → IsFound run t → HasPartsOf run t parts → (r : Result File FileFault) → file_in t.bytes ≡ r → HasFormBy (bare_of t) parts r
+form_by : (run : Run) (t : Taken) (parts : FileParts) → IsFileOfName run t → HasPartsOf run t parts → (r : Result File FileFault) → file_in t.bytes ≡ r → HasFormBy (bare_of t) parts r
 form_by run t parts there p (Ok (Plain x)) at = form_left run t (Plain x) parts there p at
 form_by run t parts there p (Ok (files.Marked m)) at = form_left run t (files.Marked m) parts there p at
 form_by run t parts there p (Err fault) at = tt
 
-meant_by : (run : Run) (t : Taken) (parts : FileParts) → IsRun run → IsFound run t → IsStale run t.name → is_library_entry t.entry ≡ true → HasPartsOf run t parts
+meant_by : (run : Run) (t : Taken) (parts : FileParts) → IsRun run → IsFileOfName run t → IsStale run t.name → is_library_entry t.entry ≡ true → HasPartsOf run t parts
     → (r : Result File FileFault) → file_in t.bytes ≡ r → made_by (bare_of t) parts r ≡ made run t.name
 meant_by run t parts is there stale library p (Ok (Plain x)) at =
-    ap (made_with (bare_of t) parts) (file_left run t (Plain x) parts there p at) ∙ made_is run t parts is there stale library p (prelinked run t.name) refl
+    ap (made_with (bare_of t) parts) (file_left run t (Plain x) parts there p at) ∙ made_is run t parts is there stale library p (prelinked_by_plan run t.name) refl
 meant_by run t parts is there stale library p (Ok (files.Marked m)) at =
-    ap (made_with (bare_of t) parts) (file_left run t (files.Marked m) parts there p at) ∙ made_is run t parts is there stale library p (prelinked run t.name) refl
+    ap (made_with (bare_of t) parts) (file_left run t (files.Marked m) parts there p at) ∙ made_is run t parts is there stale library p (prelinked_by_plan run t.name) refl
 meant_by run t parts is there stale library p (Err fault) at = absurd (library_read t.bytes fault at (sym (ap is_library_entry (run_read run t is there)) ∙ library))
 
 stored_is : STORED ≡ 268435456
 stored_is = refl
 
 -- the file of a run is no more than can be read
-taken_small : (run : Run) (t : Taken) → IsRun run → IsFound run t → length t.bytes < 2 ^ 32
+taken_small : (run : Run) (t : Taken) → IsRun run → IsFileOfName run t → length t.bytes < 2 ^ 32
 taken_small run t is there =
     let one = taken_at run.region t.name run.files.now t is.taken there in
     omega (arith, one.small, stored_is)
 
 -- ---- what is decided
 
-left_is : (run : Run) (t : Taken) (parts : FileParts) → IsRun run → IsFound run t → IsStale run t.name → is_library_entry t.entry ≡ true → HasPartsOf run t parts → IsDecided run t (decided.Library parts)
+left_is : (run : Run) (t : Taken) (parts : FileParts) → IsRun run → IsFileOfName run t → IsStale run t.name → is_library_entry t.entry ≡ true → HasPartsOf run t parts → IsDecided run t (decided.Library parts)
 left_is run t parts is there stale library p = record {
   may = record { small = taken_small run t is there; form = form_by run t parts there p (file_in t.bytes) refl };
   meant = meant_by run t parts is there stale library p (file_in t.bytes) refl;
 }
 
 -- of a library of which something is known
-pub left_if : (run : Run) (t : Taken) (parts : Option FileParts) → IsRun run → IsFound run t → IsStale run t.name → is_library_entry t.entry ≡ true → HasPartsIfAny run t.name parts → IfSome parts (λ p. IsDecided run t (decided.Library p))
+pub left_if : (run : Run) (t : Taken) (parts : Option FileParts) → IsRun run → IsFileOfName run t → IsStale run t.name → is_library_entry t.entry ≡ true → HasPartsIfAny run t.name parts → IfSome parts (λ p. IsDecided run t (decided.Library p))
 left_if run t None is there stale library has = tt
 left_if run t (Some parts) is there stale library has = left_is run t parts is there stale library has
 
 -- of a file that is made at once
-pub file_is : (run : Run) (t : Taken) (file : Vec ℕ Global) → IsRun run → IsFound run t → IsStale run t.name → Some file.items ≡ prelinked run t.name → IsDecided run t (decided.File file)
+pub file_is : (run : Run) (t : Taken) (file : Vec ℕ Global) → IsRun run → IsFileOfName run t → IsStale run t.name → Some file.items ≡ prelinked_by_plan run t.name → IsDecided run t (decided.File file)
 file_is run t file is there stale new = record { may = new_small run t.name file.items new; meant = new_is run t file.items is there stale new }
 
 -- of all files

@@ -20,7 +20,7 @@ use Rattle.pl_conflict.specs.Format.{mark_in, read_original}
 use Rattle.pl_elf.specs.Kinds.{is_library}
 use Rattle.pl_elf.specs.declared.kind.Kind.TheVariants.{Library}
 use Rattle.pl_elf.specs.declared.range.Range.{Range}
-use Rattle.pl_form.specs.Files.{marked_in, original_in, original_by, file_in, file_by}
+use Rattle.pl_form.specs.Files.{marked_in, original_in, original_or_file, file_in, file_by}
 use Rattle.pl_form.specs.Marks.{has_mark, as_file, IsFormOf}
 use Rattle.pl_form.specs.Words.{checksum_of}
 use Rattle.pl_form.specs.declared.constants.TheConstants.{STORED}
@@ -102,7 +102,7 @@ form_is : (region : Range) (n bytes : List ℕ) (m : Marked) (o : Original) → 
 unfolding original_in mark_in
 form_is region n bytes m o is fault own =
     let of : IsFormOf bytes m = nothing_else_is_read bytes m is in
-    let original : original_in bytes ≡ m.original = ap (original_by bytes) is in
+    let original : original_in bytes ≡ m.original = ap (original_or_file bytes) is in
     let p : (k : Mark) × (o.mark ≡ Some k) × IsMark m k = some_mark m o.mark own.mark in
     let accepted : IsAccepted m.object = record { bytes = m.original; size = of.firm.few; read = of.firm.accepted } in
     record {
@@ -129,7 +129,7 @@ form_told region n bytes m (Refused number argument) fault is faulty own = absur
 -- it is its own original
 own_original : (bytes : List ℕ) → marked_in bytes ≡ None → original_in bytes ≡ bytes
 unfolding original_in
-own_original bytes none = ap (original_by bytes) none
+own_original bytes none = ap (original_or_file bytes) none
 
 no_mark : (bytes : List ℕ) → marked_in bytes ≡ None → mark_in bytes ≡ None
 unfolding mark_in

@@ -4,7 +4,7 @@ use Rattle.std.specs.Prelude.{if◌then◌else◌}
 use Rattle.pl_base.specs.Answers.{unless}
 use Rattle.pl_elf.specs.Clauses.{not_elf, read}
 use Rattle.pl_elf.specs.declared.range.Range.{Range}
-use Rattle.pl_form.specs.Files.{marked_in, original_in, original_by, file_in, file_by}
+use Rattle.pl_form.specs.Files.{marked_in, original_in, original_or_file, file_in, file_by}
 use Rattle.pl_form.specs.Marks.{has_mark, as_file, IsFormOf}
 use Rattle.pl_form.specs.declared.fault.FileFault.TheVariants as unread
 use Rattle.pl_form.specs.declared.file.Marked.{Marked}
@@ -32,7 +32,7 @@ own_fault_is : (region : Range) (bytes : List ℕ) → fault_of_entry region (en
 unfolding fault_in
 own_fault_is region bytes = plain_fault region (has_mark bytes) (reads bytes)
 
-by_mark : (region : Range) (bytes : List ℕ) (found : Option Marked) → marked_in bytes ≡ found → fault_of_entry region (entry_by (file_by bytes found)) ≡ fault_in region (original_by bytes found)
+by_mark : (region : Range) (bytes : List ℕ) (found : Option Marked) → marked_in bytes ≡ found → fault_of_entry region (entry_by (file_by bytes found)) ≡ fault_in region (original_or_file bytes found)
 by_mark region bytes None is = own_fault_is region bytes
 by_mark region bytes (Some m) is = form_fault_is region bytes m (nothing_else_is_read bytes m is)
 

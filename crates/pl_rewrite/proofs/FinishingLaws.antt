@@ -8,7 +8,7 @@ use Rattle.pl_base.specs.Answers.{unless}
 use Rattle.pl_base.proofs.AnswerLaws.{ok_same}
 use Rattle.pl_conflict.specs.Prelinked.{stored}
 use Rattle.pl_elf.specs.declared.range.Range.{Range}
-use Rattle.pl_form.specs.Files.{marked_in, original_in, original_by, file_in, file_by}
+use Rattle.pl_form.specs.Files.{marked_in, original_in, original_or_file, file_in, file_by}
 use Rattle.pl_form.specs.Marks.{has_mark, as_file}
 use Rattle.pl_form.specs.declared.fault.FileFault.{FileFault}
 use Rattle.pl_form.specs.declared.fault.FileFault.TheVariants as unread
@@ -53,7 +53,7 @@ pub refused_own : (bytes : List ℕ) (fault : FileFault) → file_in bytes ≡ E
 unfolding file_in original_in
 refused_own bytes fault is = by_mark (marked_in bytes) is
   where
-    by_mark : (m : Option Marked) → file_by bytes m ≡ Err fault → bytes ≡ original_by bytes m
+    by_mark : (m : Option Marked) → file_by bytes m ≡ Err fault → bytes ≡ original_or_file bytes m
     by_mark None e = refl
     by_mark (Some m) e = absurd cc
 
@@ -74,7 +74,7 @@ read_own bytes f is = by_mark (marked_in bytes) is
     by_test true e = absurd cc
     by_test false e = by_object (reads bytes) e
 
-    by_mark : (m : Option Marked) → file_by bytes m ≡ Ok f → own_original bytes f ≡ original_by bytes m
+    by_mark : (m : Option Marked) → file_by bytes m ≡ Ok f → own_original bytes f ≡ original_or_file bytes m
     by_mark None e = by_test (has_mark bytes) e
     by_mark (Some m) e = ap (own_original bytes) (sym (ok_same (files.Marked m) f e))
 

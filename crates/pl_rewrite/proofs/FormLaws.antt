@@ -15,7 +15,7 @@ use Rattle.pl_elf.specs.Kinds.{is_library, is_static}
 use Rattle.pl_elf.specs.declared.range.Range.{Range}
 use Rattle.pl_elf.specs.declared.segment.Segment.{Segment}
 use Rattle.pl_form.specs.Faults.{form_fault, program_fault, in_region, is_loaded_in, region_window, no_region, wanted_spare, bss_too_large, stray_header, cut_of, is_later}
-use Rattle.pl_form.specs.Files.{marked_in, original_in, original_by}
+use Rattle.pl_form.specs.Files.{marked_in, original_in, original_or_file}
 use Rattle.pl_form.specs.Marks.{has_mark}
 use Rattle.pl_form.specs.Reading.{is_firm, firm_object}
 use Rattle.pl_form.specs.declared.constants.TheConstants.{STORED, REGION_GAP}
@@ -50,7 +50,7 @@ pub original_bytes : (file : List ℕ) → IsBytes file → IsBytes (original_in
 unfolding original_in
 original_bytes file bytes = by_mark (marked_in file) refl
   where
-    by_mark : (o : Option Marked) → marked_in file ≡ o → IsBytes (original_by file o)
+    by_mark : (o : Option Marked) → marked_in file ≡ o → IsBytes (original_or_file file o)
     by_mark None is = bytes
     by_mark (Some m) is = (nothing_else_is_read file m is).firm.bytes
 

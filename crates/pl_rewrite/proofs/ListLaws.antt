@@ -23,7 +23,7 @@ use Rattle.pl_lists.specs.Lists.{are_distinct, is_list, is_row, list_strings}
 use Rattle.pl_lists.specs.declared.list_row.ListRow.{ListRow}
 use Rattle.pl_rewrite.specs.Lent.{list_after}
 use Rattle.pl_rewrite.specs.Libraries.{HasNumbers, has_valid_name}
-use Rattle.pl_rewrite.specs.Sources.{AreSources, names_of}
+use Rattle.pl_rewrite.specs.Sources.{AreSources, member_names}
 use Rattle.pl_scope.proofs.WalkedLaws.{limit_is}
 use Rattle.sha2.specs.Sha256.{sha256, digest_bytes as hash_bytes}
 use Rattle.pl_rewrite.proofs.FirmLaws.{true_all}
@@ -91,17 +91,17 @@ rows_are (r ∷ rs) numbers =
     ap (λ (b : Bool). b && list_all is_row (list_of rs)) (row_is r (All-head HasNumbers r rs numbers))
     ∙ ap (λ (b : Bool). has_valid_name r && b) (rows_are rs (All-tail HasNumbers r rs numbers))
 
-none_same : (n : List ℕ) (rs : List Firm) → AllByRecursion (λ m. bytes_eq n m ≡ false) (names_of rs) → list_any (λ later. bytes_eq n later.name) (list_of rs) ≡ false
+none_same : (n : List ℕ) (rs : List Firm) → AllByRecursion (λ m. bytes_eq n m ≡ false) (member_names rs) → list_any (λ later. bytes_eq n later.name) (list_of rs) ≡ false
 none_same n [] all = refl
 none_same n (r ∷ rs) all = or_from (bytes_eq n r.member.name) (list_any (λ (later : ListRow). bytes_eq n later.name) (list_of rs)) all.0 (none_same n rs all.1)
 
-rows_distinct : (rs : List Firm) → IsDistinct bytes_eq (names_of rs) → are_distinct (list_of rs) ≡ true
+rows_distinct : (rs : List Firm) → IsDistinct bytes_eq (member_names rs) → are_distinct (list_of rs) ≡ true
 unfolding IsDistinct are_distinct
 rows_distinct [] distinct = refl
 rows_distinct (r ∷ rs) distinct =
     and_from (not (list_any (λ (later : ListRow). bytes_eq r.member.name later.name) (list_of rs))) (are_distinct (list_of rs)) (ap not (none_same r.member.name rs distinct.0)) (rows_distinct rs distinct.1)
 
-list_is : (rs : List Firm) → All HasNumbers rs → IsDistinct bytes_eq (names_of rs) → is_list (list_of rs) ≡ list_all has_valid_name rs
+list_is : (rs : List Firm) → All HasNumbers rs → IsDistinct bytes_eq (member_names rs) → is_list (list_of rs) ≡ list_all has_valid_name rs
 list_is rs numbers distinct =
     ap (λ (b : Bool). list_all is_row (list_of rs) && b) (rows_distinct rs distinct) ∙ last (list_all is_row (list_of rs)) ∙ rows_are rs numbers
   where
@@ -110,7 +110,7 @@ list_is rs numbers distinct =
     last false = refl
 
 -- the names of others, where no two of all are one
-pub later_distinct : (r : Firm) (rs : List Firm) → AreSources (r ∷ rs) → IsDistinct bytes_eq (names_of rs)
+pub later_distinct : (r : Firm) (rs : List Firm) → AreSources (r ∷ rs) → IsDistinct bytes_eq (member_names rs)
 unfolding IsDistinct
 later_distinct r rs are = are.distinct.1
 

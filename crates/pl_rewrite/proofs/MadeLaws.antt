@@ -42,7 +42,7 @@ use Rattle.law_sound.proofs.Matching.{and_both}
 use Rattle.law_sound.proofs.PlanLaws.{current_stamp, new_stamp}
 use Rattle.pl_rewrite.specs.Changes as changes
 use Rattle.pl_rewrite.specs.Changes.{from_scratch, next, put, is_file}
-use Rattle.pl_rewrite.specs.Members.{IsRun, IsRead, IsCandidate, HasCause, IsStale, IsPrelinkable, IsFound, files_of, plan_of, numbers_of, numbers_for, found, is_skipped, planned_firm, prelinked, made, made_of_taken, made_original, made_current}
+use Rattle.pl_rewrite.specs.Members.{IsRun, IsRead, IsCandidate, HasCause, IsStale, IsPrelinkable, IsFileOfName, files_of, plan_of, numbers_of, numbers_for, found, is_skipped, planned_firm, prelinked_by_plan, made, made_of_taken, made_original, made_current}
 use Rattle.pl_rewrite.specs.Reports as reports
 use Rattle.pl_rewrite.specs.Reports.{state_by, marked_at}
 use Rattle.pl_rewrite.specs.declared.making.Made.{Made}
@@ -70,7 +70,7 @@ skip_none run n is candidate = ok_unit (skip_of (files_of run) run.region n) (sy
 pub skip_known : (run : Run) (n : List ℕ) (r : Result (Unit {0}) Skip) → IsRun run → prelinkable run.known.now n ≡ r → skip_of (files_of run) run.region n ≡ r
 skip_known run n r is known = sym (standings_agree run.region (files_of run) run.known.now is.knows n) ∙ known
 
-pub stale_is : (run : Run) (t : Taken) → IsRun run → IsFound run t → has run.planned.now.stale t.name ≡ is_stale (files_of run) run.region run.planned.now.slots t.name
+pub stale_is : (run : Run) (t : Taken) → IsRun run → IsFileOfName run t → has run.planned.now.stale t.name ≡ is_stale (files_of run) run.region run.planned.now.slots t.name
 stale_is run t is there =
     ap (λ (ns : List (List ℕ)). has ns t.name) is.stale
     ∙ passed_at (is_stale (files_of run) run.region run.planned.now.slots) t.name (names_of run.files.now) (found_has t.name run.files.now t there)
@@ -83,7 +83,7 @@ causes_of : (files : Files) (region : Range) (n : List ℕ) (ns : List (List ℕ
 causes_of files region n [] = refl
 causes_of files region n (m ∷ ns) = rw (causes_of files region n ns) refl
 
-pub skipped_is : (run : Run) (t : Taken) → IsRun run → IsFound run t → is_skipped run.planned.now.standings t.name ≡ not (is_candidate (files_of run) run.region t.name)
+pub skipped_is : (run : Run) (t : Taken) → IsRun run → IsFileOfName run t → is_skipped run.planned.now.standings t.name ≡ not (is_candidate (files_of run) run.region t.name)
 skipped_is run t is there =
     ap (λ (rows : List Standing). is_skipped rows t.name) is.standings
     ∙ (causes_of (files_of run) run.region t.name (names_of run.files.now)
@@ -92,7 +92,7 @@ skipped_is run t is there =
 
 -- ---- numbers
 
-pub stamp_new : (run : Run) (t : Taken) → IsRun run → IsFound run t → has run.planned.now.stale t.name ≡ true → run.planned.now.stamp ≡ (numbers_of run).stamp t.name
+pub stamp_new : (run : Run) (t : Taken) → IsRun run → IsFileOfName run t → has run.planned.now.stale t.name ≡ true → run.planned.now.stamp ≡ (numbers_of run).stamp t.name
 stamp_new run t is there stale =
     let p = and_both (is_candidate (files_of run) run.region t.name) (not (is_current (files_of run) run.region run.planned.now.slots t.name)) (sym (stale_is run t is there) ∙ stale) in
     sym (new_stamp (format skip_causes) (fit_in run.region) (files_of run) (numbers_of run).slot run.planned.now.stamp t.name (not-true (is_current (files_of run) run.region run.planned.now.slots t.name) p.1))
@@ -102,10 +102,10 @@ kept : (candidate current : Bool) → candidate ≡ true → (candidate && not c
 kept candidate true on off = refl
 kept candidate false on off = absurd (false≢true (sym off ∙ rw on refl))
 
-current_is : (run : Run) (t : Taken) → IsRun run → IsFound run t → IsCandidate run t.name → has run.planned.now.stale t.name ≡ false → is_current (files_of run) run.region run.planned.now.slots t.name ≡ true
+current_is : (run : Run) (t : Taken) → IsRun run → IsFileOfName run t → IsCandidate run t.name → has run.planned.now.stale t.name ≡ false → is_current (files_of run) run.region run.planned.now.slots t.name ≡ true
 current_is run t is there candidate fresh = kept (is_candidate (files_of run) run.region t.name) (is_current (files_of run) run.region run.planned.now.slots t.name) candidate (sym (stale_is run t is there) ∙ fresh)
 
-pub stamp_old : (run : Run) (t : Taken) → IsRun run → IsFound run t → IsCandidate run t.name → has run.planned.now.stale t.name ≡ false → stamp_of (mark_in t.bytes) ≡ (numbers_of run).stamp t.name
+pub stamp_old : (run : Run) (t : Taken) → IsRun run → IsFileOfName run t → IsCandidate run t.name → has run.planned.now.stale t.name ≡ false → stamp_of (mark_in t.bytes) ≡ (numbers_of run).stamp t.name
 stamp_old run t is there candidate fresh =
     ap (λ (file : Option (List ℕ)). stamp_of (mark_at (format skip_causes) file)) (sym (file_at t.name run.files.now t there))
     ∙ sym (current_stamp (format skip_causes) (fit_in run.region) (files_of run) (numbers_of run).slot run.planned.now.stamp t.name (current_is run t is there candidate fresh))
@@ -125,7 +125,7 @@ pair_second false x y = refl
 abbrev made_firm : List ℕ → List ℕ → Object → ℕ → ℕ → Firm
 made_firm n original o slot stamp = record { member = record { name = n; original = original; version = 2; slot = slot; stamp = stamp }; object = o }
 
-pub source_is : (run : Run) (t : Taken) (o : Object) (original : List ℕ) (slot stamp : ℕ) → IsFound run t → IsPrelinkable run (t.name, o) → original ≡ original_in t.bytes → slot ≡ (numbers_for run t.name o).0 → stamp ≡ (numbers_for run t.name o).1
+pub source_is : (run : Run) (t : Taken) (o : Object) (original : List ℕ) (slot stamp : ℕ) → IsFileOfName run t → IsPrelinkable run (t.name, o) → original ≡ original_in t.bytes → slot ≡ (numbers_for run t.name o).0 → stamp ≡ (numbers_for run t.name o).1
     → firm t.name original o Two slot stamp ≡ planned_firm run (t.name, o)
 source_is run t o original slot stamp there member own first second =
     let numbers = numbers_of run in
@@ -139,12 +139,12 @@ source_is run t o original slot stamp there member own first second =
     ∙ ap (λ (x : ℕ). made_firm t.name (original_at (format skip_causes) (files_of run t.name)) o (for_library (objects (format skip_causes) (files_of run) t.name) (numbers.slot t.name)) x) b)
 
 -- the same, where the name is given
-pub source_named : (run : Run) (t : Taken) (o : Object) (name original : List ℕ) (slot stamp : ℕ) → name ≡ t.name → IsFound run t → IsPrelinkable run (t.name, o) → original ≡ original_in t.bytes → slot ≡ (numbers_for run t.name o).0 → stamp ≡ (numbers_for run t.name o).1
+pub source_named : (run : Run) (t : Taken) (o : Object) (name original : List ℕ) (slot stamp : ℕ) → name ≡ t.name → IsFileOfName run t → IsPrelinkable run (t.name, o) → original ≡ original_in t.bytes → slot ≡ (numbers_for run t.name o).0 → stamp ≡ (numbers_for run t.name o).1
     → firm name original o Two slot stamp ≡ planned_firm run (t.name, o)
 source_named run t o name original slot stamp named there member own first second = ap (λ (n : List ℕ). firm n original o Two slot stamp) named ∙ source_is run t o original slot stamp there member own first second
 
 -- a file of a run is as it was read
-pub run_read : (run : Run) (t : Taken) → IsRun run → IsFound run t → IsRead t
+pub run_read : (run : Run) (t : Taken) → IsRun run → IsFileOfName run t → IsRead t
 run_read run t is there = is_read run.region t (taken_at run.region t.name run.files.now t is.taken there)
 
 -- ---- a member by its name
@@ -207,10 +207,10 @@ stale_parts run n stale =
     let p = and_both (is_candidate (files_of run) run.region n) (not (is_current (files_of run) run.region run.planned.now.slots n)) stale in
     record { candidate = p.0; current = not-true (is_current (files_of run) run.region run.planned.now.slots n) p.1 }
 
-pub stale_candidate : (run : Run) (t : Taken) → IsRun run → IsFound run t → has run.planned.now.stale t.name ≡ true → IsCandidate run t.name
+pub stale_candidate : (run : Run) (t : Taken) → IsRun run → IsFileOfName run t → has run.planned.now.stale t.name ≡ true → IsCandidate run t.name
 stale_candidate run t is there stale = (stale_parts run t.name (sym (stale_is run t is there) ∙ stale)).candidate
 
-pub new_is : (run : Run) (t : Taken) (file : List ℕ) → IsRun run → IsFound run t → IsStale run t.name → Some file ≡ prelinked run t.name → made_of_taken t file ≡ made run t.name
+pub new_is : (run : Run) (t : Taken) (file : List ℕ) → IsRun run → IsFileOfName run t → IsStale run t.name → Some file ≡ prelinked_by_plan run t.name → made_of_taken t file ≡ made run t.name
 new_is run t file is there stale new =
     let n = t.name in
     let p = stale_parts run n stale in
@@ -223,7 +223,7 @@ new_is run t file is there stale new =
     (state_of (files_of run) run.region (plan_of run) n false (Ok tt) (Some file) p.current (skip_none run n is p.candidate) after)
     (given_by (files_of run) run.region (plan_of run) n true (Some file) stale (sym new)))
 
-pub large_is : (run : Run) (t : Taken) → IsRun run → IsFound run t → IsStale run t.name → None ≡ prelinked run t.name → made_original t (skips.Form t.name 6) ≡ made run t.name
+pub large_is : (run : Run) (t : Taken) → IsRun run → IsFileOfName run t → IsStale run t.name → None ≡ prelinked_by_plan run t.name → made_original t (skips.Form t.name 6) ≡ made run t.name
 large_is run t is there stale none =
     let n = t.name in
     let p = stale_parts run n stale in
@@ -237,7 +237,7 @@ large_is run t is there stale none =
     (state_of (files_of run) run.region (plan_of run) n false (Ok tt) (Some (original_in t.bytes)) p.current (skip_none run n is p.candidate) after ∙ ap (reports.state_in n false) (originals_are_bare t.bytes))
     (given_by (files_of run) run.region (plan_of run) n true None stale (sym none)))
 
-pub skipped_made : (run : Run) (t : Taken) (cause : Skip) → IsRun run → IsFound run t → HasCause run t.name → prelinkable run.known.now t.name ≡ Err cause → made_original t cause ≡ made run t.name
+pub skipped_made : (run : Run) (t : Taken) (cause : Skip) → IsRun run → IsFileOfName run t → HasCause run t.name → prelinkable run.known.now t.name ≡ Err cause → made_original t cause ≡ made run t.name
 skipped_made run t cause is there none known =
     let n = t.name in
     let at : files_of run n ≡ Some t.bytes = file_at n run.files.now t there in
@@ -264,13 +264,13 @@ no_cause : (r : Result (Unit {0}) Skip) → None ≡ cause_of r → r ≡ Ok tt
 no_cause (Ok u) e = refl
 no_cause (Err cause) e = absurd (none-some cause e)
 
-pub cause_some : (run : Run) (t : Taken) (cause : Skip) → IsRun run → IsFound run t → HasCause run t.name → Some cause ≡ cause_of (prelinkable run.known.now t.name) → made_original t cause ≡ made run t.name
+pub cause_some : (run : Run) (t : Taken) (cause : Skip) → IsRun run → IsFileOfName run t → HasCause run t.name → Some cause ≡ cause_of (prelinkable run.known.now t.name) → made_original t cause ≡ made run t.name
 cause_some run t cause is there none told = skipped_made run t cause is there none (by_cause (prelinkable run.known.now t.name) cause told)
 
 pub cause_none : (run : Run) (n : List ℕ) → IsRun run → HasCause run n → None ≡ cause_of (prelinkable run.known.now n) → ⊥
 cause_none run n is none told = cause_told run n tt is none (no_cause (prelinkable run.known.now n) told)
 
-pub current_made : (run : Run) (t : Taken) → IsRun run → IsFound run t → has run.planned.now.stale t.name ≡ false → is_skipped run.planned.now.standings t.name ≡ false → made_current t ≡ made run t.name
+pub current_made : (run : Run) (t : Taken) → IsRun run → IsFileOfName run t → has run.planned.now.stale t.name ≡ false → is_skipped run.planned.now.standings t.name ≡ false → made_current t ≡ made run t.name
 current_made run t is there fresh well =
     let n = t.name in
     let at : files_of run n ≡ Some t.bytes = file_at n run.files.now t there in
@@ -302,7 +302,7 @@ members_small ms file e = firm_small (all_firm ms) file e
 stored_is : STORED ≡ 268435456
 stored_is = refl
 
-pub new_small : (run : Run) (n file : List ℕ) → Some file ≡ prelinked run n → length file < 2 ^ 32
+pub new_small : (run : Run) (n file : List ℕ) → Some file ≡ prelinked_by_plan run n → length file < 2 ^ 32
 unfolding changes.prelinked
 new_small run n file e = by_walk (sound.walk_in (format skip_causes) (files_of run) n) (sym e)
   where

@@ -27,7 +27,7 @@ use Rattle.pl_scope.proofs.StepLaws.{walk_there, walk_short, err_ok}
 use Rattle.pl_scope.proofs.WalkedLaws.{walk_distinct}
 use Rattle.pl_rewrite.specs.Libraries.{HasNumbers, IsLibraryWalk, has_valid_name}
 use Rattle.pl_rewrite.specs.Programs.{IsFound, IsProgramSet}
-use Rattle.pl_rewrite.specs.Sources.{AreSources, names_of}
+use Rattle.pl_rewrite.specs.Sources.{AreSources, member_names}
 use Rattle.pl_rewrite.proofs.FirmLaws.{accepted_own, own_all, all_true, true_all, walked_count}
 use Rattle.pl_rewrite.proofs.ListLaws.{valid_of}
 
@@ -50,7 +50,7 @@ named_holds P (r ∷ rs) k t all e = elim (cases_Bool (bytes_eq r.member.name k)
 ]
 
 -- where no two have one name, each is that of its name
-pub found : (rs : List Firm) → IsDistinct bytes_eq (names_of rs) → (i : ℕ) (d : Firm) → i < length rs → IsFound rs (get_or rs i d)
+pub found : (rs : List Firm) → IsDistinct bytes_eq (member_names rs) → (i : ℕ) (d : Firm) → i < length rs → IsFound rs (get_or rs i d)
 unfolding IsDistinct
 found [] distinct i d lt = absurd (omega (arith, lt))
 found (r ∷ rs) distinct zero d lt = rw (eq_refl r.member.name) refl
@@ -58,7 +58,7 @@ found (r ∷ rs) distinct (suc i) d lt =
     let miss : bytes_eq r.member.name (get_or rs i d).member.name ≡ false = apart r.member.name rs i d (omega (arith, lt)) distinct.0 in
     rw miss (found rs distinct.1 i d (omega (arith, lt)))
   where
-    apart : (n : List ℕ) (rs : List Firm) (i : ℕ) (d : Firm) → i < length rs → AllByRecursion (λ m. bytes_eq n m ≡ false) (names_of rs) → bytes_eq n (get_or rs i d).member.name ≡ false
+    apart : (n : List ℕ) (rs : List Firm) (i : ℕ) (d : Firm) → i < length rs → AllByRecursion (λ m. bytes_eq n m ≡ false) (member_names rs) → bytes_eq n (get_or rs i d).member.name ≡ false
     apart n [] i d lt all = absurd (omega (arith, lt))
     apart n (r ∷ rs) zero d lt all = all.0
     apart n (r ∷ rs) (suc i) d lt all = apart n rs i d (omega (arith, lt)) all.1
@@ -122,13 +122,13 @@ there_of rs k x e = from (named rs k) refl
     from None is = absurd (err_ok (NotThere k) x (sym (told_none rs k is) ∙ e))
     from (Some r) is = record { r = r; is = is }
 
-chosen_have : (rs : List Firm) (ks : List (List ℕ)) → ((k : List ℕ) → has ks k ≡ true → IsThere rs k) → names_of (filter_map (named rs) ks) ≡ ks
+chosen_have : (rs : List Firm) (ks : List (List ℕ)) → ((k : List ℕ) → has ks k ≡ true → IsThere rs k) → member_names (filter_map (named rs) ks) ≡ ks
 chosen_have rs [] each = refl
 chosen_have rs (k ∷ ks) each =
     let one = each k (has_head k ks) in
     let rest = chosen_have rs ks (λ m there. each m (has_tail k m ks there)) in
-    ap (λ (o : Option Firm). names_of (cons_option o (filter_map (named rs) ks))) one.is
-    ∙ ap (λ (n : List ℕ). n ∷ names_of (filter_map (named rs) ks)) (named_name rs k one.r one.is)
+    ap (λ (o : Option Firm). member_names (cons_option o (filter_map (named rs) ks))) one.is
+    ∙ ap (λ (n : List ℕ). n ∷ member_names (filter_map (named rs) ks)) (named_name rs k one.r one.is)
     ∙ ap (λ (ns : List (List ℕ)). k ∷ ns) rest
 
 -- ---- the walk of a name
@@ -151,7 +151,7 @@ walk_refused rs n e is = sym (walk_none rs n e is)
 own_some : (rs : List Firm) (n : List ℕ) (ws : Walked) → AreSources rs → walk_over (told (walked_of rs)) n ≡ Ok ws → AreSources (filter_map (named rs) (names ws))
 own_some rs n ws are is =
     let files = object_of (told (walked_of rs)) in
-    let have : names_of (filter_map (named rs) (names ws)) ≡ names ws =
+    let have : member_names (filter_map (named rs) (names ws)) ≡ names ws =
     chosen_have rs (names ws) (λ k there. let f = walk_there itself files n ws is k there in there_of rs k f.0 f.1) in
     let short : length (names ws) ≤ MAX_MEMBERS = walk_short itself files n ws is in
     record {

@@ -10,7 +10,7 @@ use Rattle.pl_conflict.specs.Format.{IsPrelinkedForm, format}
 use Rattle.pl_conflict.specs.Prelinked as form
 use Rattle.pl_conflict.proofs.MadeLaws.{prelinked_forms}
 use Rattle.pl_elf.specs.Kinds.{is_library}
-use Rattle.pl_form.specs.Files.{marked_in, original_in, original_by, file_in, file_by}
+use Rattle.pl_form.specs.Files.{marked_in, original_in, original_or_file, file_in, file_by}
 use Rattle.pl_form.specs.Marks.{has_mark, as_file}
 use Rattle.pl_form.specs.declared.fault.FileFault.TheVariants as unread
 use Rattle.pl_form.specs.declared.file.Marked.{Marked}
@@ -29,7 +29,7 @@ use Rattle.law_sound.specs.Plan.{Plan, for_library, planned_member}
 use Rattle.law_sound.specs.Rule as sound
 use Rattle.law_sound.specs.Rule.{Member, Mark, objects, object_at, of_walk}
 use Rattle.pl_rewrite.specs.Changes as changes
-use Rattle.pl_rewrite.specs.Members.{IsFound, IsRun, files_of, is_library_entry, new_library, numbers_of, prelinked}
+use Rattle.pl_rewrite.specs.Members.{IsFileOfName, IsRun, files_of, is_library_entry, new_library, numbers_of, prelinked_by_plan}
 use Rattle.pl_rewrite.specs.Reports as reports
 use Rattle.pl_rewrite.specs.declared.report.RowState.TheVariants.{Library, Program}
 use Rattle.pl_rewrite.specs.declared.running.Run.{Run}
@@ -53,7 +53,7 @@ library_kind bytes x is library = by_mark (marked_in bytes) refl is library
     by_test true e l = absurd (false≢true l)
     by_test false e l = by_object (reads bytes) e l
 
-    by_mark : (o : Option Marked) → marked_in bytes ≡ o → reads (original_by bytes o) ≡ Ok x → is_library_entry (entry_by (file_by bytes o)) ≡ true → is_library x.kind ≡ true
+    by_mark : (o : Option Marked) → marked_in bytes ≡ o → reads (original_or_file bytes o) ≡ Ok x → is_library_entry (entry_by (file_by bytes o)) ≡ true → is_library x.kind ≡ true
     by_mark None at e l = by_test (has_mark bytes) e l
     by_mark (Some m) at e l = ap (λ (o : Object). is_library o.kind) (sym (ok_same m.object x (sym (nothing_else_is_read bytes m at).firm.accepted ∙ e))) ∙ l
 
@@ -66,7 +66,7 @@ state_is m slot stamp library first second =
     ∙ (ap (λ (s : ℕ). Library false s m.stamp) first ∙ ap (λ (s : ℕ). Library false slot s) second)
 
 -- what the members of a walk prelink is reported by the numbers of its first name
-pub library_state : (run : Run) (t : Taken) (file : List ℕ) → IsRun run → IsFound run t → is_library_entry t.entry ≡ true → Some file ≡ prelinked run t.name → new_library run t.name ≡ reports.state_in t.name false (marked_in file)
+pub library_state : (run : Run) (t : Taken) (file : List ℕ) → IsRun run → IsFileOfName run t → is_library_entry t.entry ≡ true → Some file ≡ prelinked_by_plan run t.name → new_library run t.name ≡ reports.state_in t.name false (marked_in file)
 unfolding changes.prelinked
 library_state run t file is there library new = by_walk (sound.walk_in (format skip_causes) (files_of run) t.name) refl (sym new)
   where

@@ -32,7 +32,7 @@ use Rattle.pl_scope.proofs.ClosureLaws.{walk_is, member_told, member_walk}
 use Rattle.pl_scope.proofs.NameLaws.{has_at, same_name}
 use Rattle.pl_scope.proofs.WalkedLaws.{member_file}
 use Rattle.law_sound.specs.Rule.{objects, original_at}
-use Rattle.pl_rewrite.specs.Members.{HasOriginal, IsRunDigest, IsPrelinked, IsRun, IsCandidate, IsFound, IsPrelinkable, IsPart, files_of, planned_firm, planned_firms, prelinked}
+use Rattle.pl_rewrite.specs.Members.{HasOriginal, IsRunDigest, IsPrelinked, IsRun, IsCandidate, IsFileOfName, IsPrelinkable, IsPart, files_of, planned_firm, planned_firms, prelinked_by_plan}
 use Rattle.pl_rewrite.specs.declared.running.Digest.{Digest}
 use Rattle.pl_rewrite.specs.declared.running.MadeFile.{MadeFile}
 use Rattle.pl_rewrite.specs.declared.running.Run.{Run}
@@ -42,7 +42,7 @@ use Rattle.sha2.specs.Sha256.{sha256}
 
 -- ---- digests
 
-pub digest_is : (run : Run) (t : Taken) (name original bytes : List ℕ) → name ≡ t.name → IsFound run t → original ≡ original_in t.bytes → bytes ≡ sha256 original → bytes ≡ sha256 (original_at (format skip_causes) (files_of run name))
+pub digest_is : (run : Run) (t : Taken) (name original bytes : List ℕ) → name ≡ t.name → IsFileOfName run t → original ≡ original_in t.bytes → bytes ≡ sha256 original → bytes ≡ sha256 (original_at (format skip_causes) (files_of run name))
 digest_is run t name original bytes named there own is =
     is ∙ ap sha256 (own ∙ sym (ap (original_at (format skip_causes)) (ap (files_of run) named ∙ file_at t.name run.files.now t there)))
 
@@ -64,10 +64,10 @@ have_originals run (w ∷ ws) = All-cons (HasOriginal run) (planned_firm run w) 
 -- ---- files that are taken out
 
 -- the one at an index at which the name stands is the name's
-pub file_there : (run : Run) (ms : List MadeFile) (n : List ℕ) (i : ℕ) (m : MadeFile) → All (IsPrelinked run) ms → position (λ x. bytes_eq x.name.now n) ms ≡ Some i → prelinked run n ≡ Some (get_or ms i m).file.items
+pub file_there : (run : Run) (ms : List MadeFile) (n : List ℕ) (i : ℕ) (m : MadeFile) → All (IsPrelinked run) ms → position (λ x. bytes_eq x.name.now n) ms ≡ Some i → prelinked_by_plan run n ≡ Some (get_or ms i m).file.items
 file_there run ms n i m all at =
     let h = position-Some (λ (x : MadeFile). bytes_eq x.name.now n) ms i m at in
-    ap (prelinked run) (sym (same_name (get_or ms i m).name.now n h.1)) ∙ all i m h.0
+    ap (prelinked_by_plan run) (sym (same_name (get_or ms i m).name.now n h.1)) ∙ all i m h.0
 
 -- the others stay
 pub files_without : (run : Run) (ms : List MadeFile) (i : ℕ) → All (IsPrelinked run) ms → All (IsPrelinked run) (remove ms i)
@@ -166,7 +166,7 @@ pub part_is : (run : Run) (n : List ℕ) (ws : Walked) → IsRun run → IsCandi
 unfolding form.part_of
 part_is run n ws is candidate known p part there member given = elim (cases_Bool (is_library p.1.kind)) [
   | inl library ↦
-      let file : prelinked run p.0 ≡ Some part = rw library at given in
+      let file : prelinked_by_plan run p.0 ≡ Some part = rw library at given in
       let own = own_is run n ws is candidate known p.0 there in
       let made : form.prelinked (members (planned_firms run own.inner)) ≡ Some part = walk_prelinked run p.0 own.inner is own.known ∙ file in
       let sources : AreSources (planned_firms run own.inner) = sources_are run p.0 own.inner is member.candidate own.known in

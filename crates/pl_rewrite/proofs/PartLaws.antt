@@ -27,7 +27,7 @@ use Rattle.pl_scope.specs.Walk.{Walked}
 use Rattle.pl_scope.proofs.ClosureLaws.{walk_is}
 use Rattle.law_sound.specs.Plan.{for_library}
 use Rattle.law_sound.specs.Rule.{objects, original_at}
-use Rattle.pl_rewrite.specs.Members.{HasOriginal, HasParts, IsRunLibrary, IsOwnWalk, IsRun, files_of, numbers_of, plan_of, planned_firm, planned_firms, prelinked}
+use Rattle.pl_rewrite.specs.Members.{HasOriginal, HasParts, IsRunLibrary, IsOwnWalk, IsRun, files_of, numbers_of, plan_of, planned_firm, planned_firms, prelinked_by_plan}
 use Rattle.pl_rewrite.specs.Words.{word_by, words_by, own_words_of}
 use Rattle.pl_rewrite.specs.declared.running.FileParts.{FileParts}
 use Rattle.pl_rewrite.specs.declared.running.Library.{Library}
@@ -140,7 +140,7 @@ own_form run l n rs r rest words is own begins told =
     subst (HasFormWith r (list_after rs)) (words_told rs words told)
     (subst (λ (all : List Firm). HasFormWith r (list_after all) (own_words (objects_of all) (slots_of all))) (sym begins) made)
 
-own_file : (run : Run) (l : Link) (n : List ℕ) (rs : List Firm) (r : Firm) (rest : List Firm) (words : List (Option ℕ)) → IsRun run → IsOwnWalk run l n rs → rs ≡ r ∷ rest → Some words ≡ words_in rs → stored (Some (file_with r (list_after rs) words)) ≡ prelinked run n
+own_file : (run : Run) (l : Link) (n : List ℕ) (rs : List Firm) (r : Firm) (rest : List Firm) (words : List (Option ℕ)) → IsRun run → IsOwnWalk run l n rs → rs ≡ r ∷ rest → Some words ≡ words_in rs → stored (Some (file_with r (list_after rs) words)) ≡ prelinked_by_plan run n
 own_file run l n rs r rest words is own begins told =
     let made = library_made r rest (subst AreSources begins (own_sources run l n rs is own)) (kind_is run n r (first_is run l n rs r rest is own begins)) (ap are_set (sym begins) ∙ set_told rs words told) in
     let whole : stored (Some (file_with r (list_after rs) words)) ≡ form.prelinked (members rs) =
@@ -161,7 +161,7 @@ pub record HasThese (r : Firm) (rows : List ListRow) (wanted : List (Option ℕ)
 number_is : (run : Run) (n : List ℕ) (o : Object) (number : ℕ) → objects (format skip_causes) (files_of run) n ≡ Ok o → is_library o.kind ≡ true → for_library (objects (format skip_causes) (files_of run) n) number ≡ number
 number_is run n o number there library = rw there (rw library refl)
 
-has_parts : (run : Run) (n : List ℕ) (r : Firm) (list : List ListRow) (words : List (Option ℕ)) (parts : FileParts) → IsFirst run n r → HasThese r list words parts → HasFormWith r list words → stored (Some (file_with r list words)) ≡ prelinked run n
+has_parts : (run : Run) (n : List ℕ) (r : Firm) (list : List ListRow) (words : List (Option ℕ)) (parts : FileParts) → IsFirst run n r → HasThese r list words parts → HasFormWith r list words → stored (Some (file_with r list words)) ≡ prelinked_by_plan run n
     → HasParts (files_of run) run.region (plan_of run) n parts
 has_parts run n r list words parts first these form file =
     let original : List ℕ = original_at (format skip_causes) (files_of run n) in
@@ -191,7 +191,7 @@ library_is run l x rs r rest words file is own begins told made held holds these
     let n : List ℕ = x.name.now in
     let walk : own.walk ≡ own.link.is.own = ok_same own.walk own.link.is.own (sym own.walks ∙ (ap (walk_in run.known.now) (sym own.link.named) ∙ own.link.is.walks)) in
     let same : rs ≡ planned_firms run own.link.is.own = own.members ∙ ap (planned_firms run) walk in
-    let planned : stored (Some (file_with r (list_after rs) words)) ≡ prelinked run n = own_file run l n rs r rest words is own begins told in
+    let planned : stored (Some (file_with r (list_after rs) words)) ≡ prelinked_by_plan run n = own_file run l n rs r rest words is own begins told in
     record {
       conflict_free = record {
         link = l;

@@ -16,7 +16,7 @@ use Rattle.pl_cone.specs.declared.skip.ConeFault.TheVariants.{StampsSpent}
 use Rattle.pl_conflict.specs.Format.{format, mark_in, mark_of}
 use Rattle.pl_conflict.proofs.FormatLaws.{format_kept}
 use Rattle.pl_elf.specs.declared.range.Range.{Range}
-use Rattle.pl_form.specs.Files.{marked_in, original_by, original_in}
+use Rattle.pl_form.specs.Files.{marked_in, original_or_file, original_in}
 use Rattle.pl_form.specs.declared.file.Marked.{Marked}
 use Rattle.pl_rewrite.specs.Fits.{fit_in}
 use Rattle.pl_rewrite.specs.Plans.{greatest, greatest_of, is_candidate, is_current, is_stale, stale, stamp_for}
@@ -53,7 +53,7 @@ bare : (file : List ℕ) → mark_in file ≡ None → original_in file ≡ file
 unfolding mark_in original_in
 bare file none = by_mark (marked_in file) none
   where
-    by_mark : (o : Option Marked) → option_map mark_of o ≡ None → original_by file o ≡ file
+    by_mark : (o : Option Marked) → option_map mark_of o ≡ None → original_or_file file o ≡ file
     by_mark None e = refl
     by_mark (Some m) e = absurd (none-some (mark_of m) (sym e))
 

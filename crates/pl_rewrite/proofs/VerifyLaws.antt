@@ -20,7 +20,7 @@ use Rattle.pl_conflict.proofs.MemberLaws.{IsFirmOf, firms_are, firms_zip}
 use Rattle.pl_elf.specs.Kinds.{is_static}
 use Rattle.pl_elf.specs.declared.range.Range.{Range}
 use Rattle.pl_form.specs.Faults.{form_fault, no_region}
-use Rattle.pl_form.specs.Files.{marked_in, original_by, original_in}
+use Rattle.pl_form.specs.Files.{marked_in, original_or_file, original_in}
 use Rattle.pl_form.specs.Marks.{IsFormOf}
 use Rattle.pl_form.specs.declared.file.Marked.{Marked}
 use Rattle.pl_form.proofs.FilesLaws.{nothing_else_is_read}
@@ -31,7 +31,7 @@ use Rattle.pl_rewrite.proofs.StandLaws.{walks_agree}
 use Rattle.pl_lists.specs.Lists.{is_list}
 use Rattle.pl_object.specs.declared.object.Object.{Object}
 use Rattle.pl_form.specs.Back.{when}
-use Rattle.pl_rewrite.specs.Sources.{AreSources, firm, members, names_of}
+use Rattle.pl_rewrite.specs.Sources.{AreSources, firm, members, member_names}
 use Rattle.pl_scope.specs.Members.{names}
 use Rattle.pl_scope.specs.Scope.{walked}
 use Rattle.pl_scope.specs.Walk.{Walked}
@@ -42,7 +42,7 @@ use Rattle.pl_scope.proofs.WalkedLaws.{member_file, walk_distinct}
 use Rattle.law_sound.specs.Rule as sound
 use Rattle.law_sound.specs.Rule.{Files, Mark, Member, is_marked, is_same, mark_at, member_at, object_at, objects, of_walk, original_at, slot_of, stamp_of, version_of}
 use Rattle.pl_rewrite.specs.Members.{IsRead, found, marked_by, walk_told}
-use Rattle.pl_rewrite.specs.Verify.{IsView, all_borne, borne, files_of, is_verified, prelinked_in, source, source_by, source_of, sources, verified_original}
+use Rattle.pl_rewrite.specs.Verify.{IsView, all_borne, borne, viewed_files, is_verified, prelinked_in, source, source_by, source_of, sources, verified_original}
 use Rattle.pl_rewrite.specs.declared.verifying.View.{View}
 use Rattle.pl_rewrite.proofs.FileLaws.{file_at, found_name, is_read, marked_read, taken_at}
 use Rattle.pl_rewrite.proofs.FormLaws.{IsOriginal, firm_member, original_is}
@@ -55,7 +55,7 @@ mark_read file o is = ap (option_map mark_of) is
 
 pub original_read : (file : List ℕ) (m : Marked) → marked_in file ≡ Some m → original_in file ≡ m.original
 unfolding original_in
-original_read file m is = ap (original_by file) is
+original_read file m is = ap (original_or_file file) is
 
 -- ---- one member
 
@@ -220,7 +220,7 @@ none_prelinked ms none = by_firms (all_firm ms) refl
 
 -- ---- the file that is meant
 
-borne_named : (files : Files) (ws : Walked) → names_of (all_borne files ws) ≡ names ws
+borne_named : (files : Files) (ws : Walked) → member_names (all_borne files ws) ≡ names ws
 borne_named files [] = refl
 borne_named files (w ∷ ws) = ap (λ (ns : List (List ℕ)). w.0 ∷ ns) (borne_named files ws)
 
@@ -228,43 +228,43 @@ borne_members : (files : Files) (ws : Walked) → members (all_borne files ws) �
 borne_members files [] = refl
 borne_members files (w ∷ ws) = ap (λ (ms : List Member). member_at (format skip_causes) w.0 (files w.0) ∷ ms) (borne_members files ws)
 
-walk_of : (view : View) (n : List ℕ) (r : Result Walked Skip) → IsView view → walk_in view.known.now n ≡ r → sound.walk_in (format skip_causes) (files_of view) n ≡ r
-walk_of view n r is walks = sym (walks_agree is.region (files_of view) view.known.now is.knows n) ∙ walks
+walk_of : (view : View) (n : List ℕ) (r : Result Walked Skip) → IsView view → walk_in view.known.now n ≡ r → sound.walk_in (format skip_causes) (viewed_files view) n ≡ r
+walk_of view n r is walks = sym (walks_agree is.region (viewed_files view) view.known.now is.knows n) ∙ walks
 
-meant_as : (view : View) (n : List ℕ) (r : Result Walked Skip) → IsView view → walk_in view.known.now n ≡ r → prelinked_in (files_of view) n ≡ of_walk (format skip_causes) (λ (m : List ℕ). member_at (format skip_causes) m (files_of view m)) r
-meant_as view n r is walks = ap (of_walk (format skip_causes) (λ (m : List ℕ). member_at (format skip_causes) m (files_of view m))) (walk_of view n r is walks)
+meant_as : (view : View) (n : List ℕ) (r : Result Walked Skip) → IsView view → walk_in view.known.now n ≡ r → prelinked_in (viewed_files view) n ≡ of_walk (format skip_causes) (λ (m : List ℕ). member_at (format skip_causes) m (viewed_files view m)) r
+meant_as view n r is walks = ap (of_walk (format skip_causes) (λ (m : List ℕ). member_at (format skip_causes) m (viewed_files view m))) (walk_of view n r is walks)
 
-borne_meant : (view : View) (n : List ℕ) (ws : Walked) → IsView view → walk_in view.known.now n ≡ Ok ws → form.prelinked (members (all_borne (files_of view) ws)) ≡ prelinked_in (files_of view) n
-borne_meant view n ws is walks = ap form.prelinked (borne_members (files_of view) ws) ∙ sym (meant_as view n (Ok ws) is walks)
+borne_meant : (view : View) (n : List ℕ) (ws : Walked) → IsView view → walk_in view.known.now n ≡ Ok ws → form.prelinked (members (all_borne (viewed_files view) ws)) ≡ prelinked_in (viewed_files view) n
+borne_meant view n ws is walks = ap form.prelinked (borne_members (viewed_files view) ws) ∙ sym (meant_as view n (Ok ws) is walks)
 
-pub sources_meant : (view : View) (n : List ℕ) (ms : List scope.Member) (rs : List Firm) → IsView view → walk_in view.known.now n ≡ Ok (walked ms) → sources view.files.now ms ≡ Some rs → form.prelinked (members rs) ≡ prelinked_in (files_of view) n
+pub sources_meant : (view : View) (n : List ℕ) (ms : List scope.Member) (rs : List Firm) → IsView view → walk_in view.known.now n ≡ Ok (walked ms) → sources view.files.now ms ≡ Some rs → form.prelinked (members rs) ≡ prelinked_in (viewed_files view) n
 sources_meant view n ms rs is walks e =
     ap (λ (x : List Firm). form.prelinked (members x)) (sources_borne is.region view.files.now ms rs is.taken e) ∙ borne_meant view n (walked ms) is walks
 
-pub none_meant : (view : View) (n : List ℕ) (ms : List scope.Member) → IsView view → walk_in view.known.now n ≡ Ok (walked ms) → sources view.files.now ms ≡ None → None ≡ prelinked_in (files_of view) n
+pub none_meant : (view : View) (n : List ℕ) (ms : List scope.Member) → IsView view → walk_in view.known.now n ≡ Ok (walked ms) → sources view.files.now ms ≡ None → None ≡ prelinked_in (viewed_files view) n
 none_meant view n ms is walks e =
-    sym (none_prelinked (members (all_borne (files_of view) (walked ms))) (sources_none is.region view.files.now ms is.taken e)) ∙ borne_meant view n (walked ms) is walks
+    sym (none_prelinked (members (all_borne (viewed_files view) (walked ms))) (sources_none is.region view.files.now ms is.taken e)) ∙ borne_meant view n (walked ms) is walks
 
 pub sources_fit : (view : View) (n : List ℕ) (ms : List scope.Member) (rs : List Firm) → IsView view → walk_in view.known.now n ≡ Ok (walked ms) → sources view.files.now ms ≡ Some rs → AreSources rs
 sources_fit view n ms rs is walks e =
     let ws = walked ms in
-    let walk : sound.walk_in (format skip_causes) (files_of view) n ≡ Ok ws = walk_of view n (Ok ws) is walks in
-    let short : length (names ws) ≤ MAX_MEMBERS = walk_short skip_causes.walk (objects (format skip_causes) (files_of view)) n ws walk in
-    let same : rs ≡ all_borne (files_of view) ws = sources_borne is.region view.files.now ms rs is.taken e in
+    let walk : sound.walk_in (format skip_causes) (viewed_files view) n ≡ Ok ws = walk_of view n (Ok ws) is walks in
+    let short : length (names ws) ≤ MAX_MEMBERS = walk_short skip_causes.walk (objects (format skip_causes) (viewed_files view)) n ws walk in
+    let same : rs ≡ all_borne (viewed_files view) ws = sources_borne is.region view.files.now ms rs is.taken e in
     record {
-      few = omega (arith, short, ap (λ (x : List Firm). length x) same, length-map ws (borne (files_of view)), length-map ws (λ (p : List ℕ × Object). p.0));
+      few = omega (arith, short, ap (λ (x : List Firm). length x) same, length-map ws (borne (viewed_files view)), length-map ws (λ (p : List ℕ × Object). p.0));
       firm = sources_firm is.region view.files.now ms rs is.taken (there walk) e;
-      distinct = subst (IsDistinct bytes_eq) (sym (ap names_of same ∙ borne_named (files_of view) ws)) (walk_distinct skip_causes.walk (objects (format skip_causes) (files_of view)) n ws walk);
+      distinct = subst (IsDistinct bytes_eq) (sym (ap member_names same ∙ borne_named (viewed_files view) ws)) (walk_distinct skip_causes.walk (objects (format skip_causes) (viewed_files view)) n ws walk);
     }
   where
-    there : sound.walk_in (format skip_causes) (files_of view) n ≡ Ok (walked ms) → All (HasObject view.files.now) (walked ms)
-    there walk = λ k d lt. member_file skip_causes.walk (objects (format skip_causes) (files_of view)) n (walked ms) walk k (get_or (walked ms) k d) (slice_get-get_or (walked ms) k d lt)
+    there : sound.walk_in (format skip_causes) (viewed_files view) n ≡ Ok (walked ms) → All (HasObject view.files.now) (walked ms)
+    there walk = λ k d lt. member_file skip_causes.walk (objects (format skip_causes) (viewed_files view)) n (walked ms) walk k (get_or (walked ms) k d) (slice_get-get_or (walked ms) k d lt)
 
 -- a walk that is refused
-pub refused_meant : (view : View) (n : List ℕ) → IsView view → None ≡ walk_told (walk_in view.known.now n) → None ≡ prelinked_in (files_of view) n
+pub refused_meant : (view : View) (n : List ℕ) → IsView view → None ≡ walk_told (walk_in view.known.now n) → None ≡ prelinked_in (viewed_files view) n
 refused_meant view n is none = by_told (walk_in view.known.now n) refl none
   where
-    by_told : (r : Result Walked Skip) → walk_in view.known.now n ≡ r → None ≡ walk_told r → None ≡ prelinked_in (files_of view) n
+    by_told : (r : Result Walked Skip) → walk_in view.known.now n ≡ r → None ≡ walk_told r → None ≡ prelinked_in (viewed_files view) n
     by_told (Ok ws) at h = absurd (none-some ws h)
     by_told (Err fault) at h = sym (meant_as view n (Err fault) is at)
 

@@ -24,7 +24,7 @@ use Rattle.pl_rewrite.specs.Fits.{fit_in}
 use Rattle.pl_rewrite.specs.Plans.{is_candidate}
 use Rattle.pl_rewrite.specs.Skips.{skip_causes}
 use Rattle.pl_object.specs.declared.object.Object.{Object}
-use Rattle.pl_rewrite.specs.Sources.{AreSources, members, names_of}
+use Rattle.pl_rewrite.specs.Sources.{AreSources, members, member_names}
 use Rattle.pl_scope.specs.Members.{names}
 use Rattle.pl_scope.specs.Scope.{walked}
 use Rattle.pl_scope.specs.Walk.{Walked}
@@ -41,7 +41,7 @@ use Rattle.law_sound.proofs.Matching.{and_both, each_all}
 use Rattle.law_sound.proofs.PlanLaws.{candidate_member}
 use Rattle.law_sound.proofs.RuleLaws.{first_is}
 use Rattle.pl_rewrite.specs.Changes as changes
-use Rattle.pl_rewrite.specs.Members.{ArePrelinkable, IsRun, IsCandidate, IsPrelinkable, files_of, numbers_of, planned_firm, planned_firms, prelinked, source, walk_told}
+use Rattle.pl_rewrite.specs.Members.{ArePrelinkable, IsRun, IsCandidate, IsPrelinkable, files_of, numbers_of, planned_firm, planned_firms, prelinked_by_plan, planned_source, walk_told}
 use Rattle.pl_rewrite.specs.declared.running.Run.{Run}
 use Rattle.pl_rewrite.proofs.FileLaws.{file_taken, taken_at}
 use Rattle.pl_rewrite.proofs.FormLaws.{IsOriginal, original_is, original_bytes, firm_nowhere, no_fault, firm_member}
@@ -122,7 +122,7 @@ members_are run n ws is candidate known =
       candidate = candidate_member (format skip_causes) (fit_in run.region) (files_of run) n (get_or ws k d).0 ws candidate walks (has_at (names ws) k (get_or ws k d).0 (name_at ws k (get_or ws k d) at));
     }
 
-firms_named : (run : Run) (ws : Walked) → names_of (planned_firms run ws) ≡ names ws
+firms_named : (run : Run) (ws : Walked) → member_names (planned_firms run ws) ≡ names ws
 firms_named run [] = refl
 firms_named run (w ∷ ws) = ap (λ (ns : List (List ℕ)). w.0 ∷ ns) (firms_named run ws)
 
@@ -141,14 +141,14 @@ sources_are run n ws is candidate known =
     }
 
 -- what they prelink is the file that is planned
-pub walk_prelinked : (run : Run) (n : List ℕ) (ws : Walked) → IsRun run → walk_in run.known.now n ≡ Ok ws → form.prelinked (members (planned_firms run ws)) ≡ prelinked run n
+pub walk_prelinked : (run : Run) (n : List ℕ) (ws : Walked) → IsRun run → walk_in run.known.now n ≡ Ok ws → form.prelinked (members (planned_firms run ws)) ≡ prelinked_by_plan run n
 unfolding changes.prelinked
 walk_prelinked run n ws is known =
     ap form.prelinked (firms_planned run ws)
     ∙ sym (ap (of_walk (format skip_causes) (planned_member (format skip_causes) (files_of run) (numbers_of run))) (walk_of run n (Ok ws) is known))
 
 -- a walk that is refused has none
-pub walk_refused : (run : Run) (n : List ℕ) (e : Skip) → IsRun run → walk_in run.known.now n ≡ Err e → None ≡ prelinked run n
+pub walk_refused : (run : Run) (n : List ℕ) (e : Skip) → IsRun run → walk_in run.known.now n ≡ Err e → None ≡ prelinked_by_plan run n
 unfolding changes.prelinked
 walk_refused run n e is known = sym (ap (of_walk (format skip_causes) (planned_member (format skip_causes) (files_of run) (numbers_of run))) (walk_of run n (Err e) is known))
 
@@ -160,16 +160,16 @@ walk_some run n ws e = by_told (walk_in run.known.now n) e
     by_told (Ok x) h = ap (λ (y : Walked). Ok y) (sym (same_Some ws x h))
     by_told (Err fault) h = absurd (none-some ws (sym h))
 
-pub walk_none : (run : Run) (n : List ℕ) → IsRun run → None ≡ walk_told (walk_in run.known.now n) → None ≡ prelinked run n
+pub walk_none : (run : Run) (n : List ℕ) → IsRun run → None ≡ walk_told (walk_in run.known.now n) → None ≡ prelinked_by_plan run n
 walk_none run n is none = by_told (walk_in run.known.now n) refl none
   where
-    by_told : (r : Result Walked Skip) → walk_in run.known.now n ≡ r → None ≡ walk_told r → None ≡ prelinked run n
+    by_told : (r : Result Walked Skip) → walk_in run.known.now n ≡ r → None ≡ walk_told r → None ≡ prelinked_by_plan run n
     by_told (Ok ws) at h = absurd (none-some ws h)
     by_told (Err fault) at h = walk_refused run n fault is at
 
 -- ---- members of a scope
 
-pub sources_walked : (run : Run) (ms : List scope.Member) → map (source run) ms ≡ planned_firms run (walked ms)
+pub sources_walked : (run : Run) (ms : List scope.Member) → map (planned_source run) ms ≡ planned_firms run (walked ms)
 sources_walked run [] = refl
 sources_walked run (m ∷ ms) = ap (λ (rs : List Firm). planned_firm run (m.name, m.object.now) ∷ rs) (sources_walked run ms)
 

@@ -63,12 +63,12 @@ abbrev pub numbers_of : Run → Plan
 numbers_of run = changes.numbers (files_of run) run.region (plan_of run)
 
 -- a candidate's file, prelinked by the plan
-abbrev pub prelinked : Run → List ℕ → Option (List ℕ)
-prelinked run n = changes.prelinked (files_of run) run.region (plan_of run) n
+abbrev pub prelinked_by_plan : Run → List ℕ → Option (List ℕ)
+prelinked_by_plan run n = changes.prelinked (files_of run) run.region (plan_of run) n
 
 -- a name's prelinked file, where it has one
 abbrev pub IsPrelinkedOf : Run → List ℕ → Option (Vec ℕ Global) → Type 0
-IsPrelinkedOf run n file = option_map (λ v. v.items) file ≡ prelinked run n
+IsPrelinkedOf run n file = option_map (λ v. v.items) file ≡ prelinked_by_plan run n
 
 -- ---- what is made once
 
@@ -78,7 +78,7 @@ IsRunDigest run d = d.bytes ≡ sha256 (original_at (format skip_causes) (files_
 
 -- a name's prelinked file
 abbrev pub IsPrelinked : Run → MadeFile → Type 0
-IsPrelinked run m = prelinked run m.name.now ≡ Some m.file.items
+IsPrelinked run m = prelinked_by_plan run m.name.now ≡ Some m.file.items
 
 -- a member with what it has or gets
 abbrev pub planned_firm : Run → (List ℕ × Object) → Firm
@@ -119,7 +119,7 @@ pub record IsLibraryBy (known : List Known) (files : List ℕ → Option (List �
   pub parts : has l.name.now l.parts
 
 abbrev pub IsRunLibrary : Run → Library → Type 0
-IsRunLibrary run l = IsLibraryBy run.known.now (prelinked run) (planned_firms run) (HasParts (files_of run) run.region (plan_of run)) l
+IsRunLibrary run l = IsLibraryBy run.known.now (prelinked_by_plan run) (planned_firms run) (HasParts (files_of run) run.region (plan_of run)) l
 
 -- such a library, where there is one
 abbrev pub IsLibraryIfAny : Run → Option Library → Type 0
@@ -153,8 +153,8 @@ abbrev pub found : List Taken → List ℕ → Option Taken
 found files n = find (λ t. bytes_eq t.name n) files
 
 -- it is the file of its name
-abbrev pub IsFound : Run → Taken → Type 0
-IsFound run t = found run.files.now t.name ≡ Some t
+abbrev pub IsFileOfName : Run → Taken → Type 0
+IsFileOfName run t = found run.files.now t.name ≡ Some t
 
 -- what is told of it is what its bytes are
 abbrev pub IsRead : Taken → Type 0
@@ -198,8 +198,8 @@ abbrev pub numbers_for : Run → List ℕ → Object → ℕ × ℕ
 numbers_for run n o = if is_library o.kind then ((numbers_of run).slot n, (numbers_of run).stamp n) else (0, 0)
 
 -- the same of a member of a scope
-abbrev pub source : Run → Member → Firm
-source run m = planned_firm run (m.name, m.object.now)
+abbrev pub planned_source : Run → Member → Firm
+planned_source run m = planned_firm run (m.name, m.object.now)
 
 abbrev pub ArePrelinkable : Run → List Member → Type 0
 ArePrelinkable run ms = All (λ m. IsPrelinkable run (m.name, m.object.now)) ms
@@ -210,7 +210,7 @@ HasOriginal run r = r.member.original ≡ original_at (format skip_causes) (file
 
 -- the file with which conflicts of a member are compared, if there is one: a library's prelinked file, a program's original
 abbrev pub part_of : Run → Firm → Option (List ℕ)
-part_of run r = if is_library r.object.kind then prelinked run r.member.name else Some r.member.original
+part_of run r = if is_library r.object.kind then prelinked_by_plan run r.member.name else Some r.member.original
 
 abbrev pub IsPart : Run → Firm → List ℕ → Type 0
 IsPart run r part = part_of run r ≡ Some part

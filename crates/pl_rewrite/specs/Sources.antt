@@ -18,11 +18,11 @@ firm name original object version slot stamp = record {
 abbrev pub members : List Firm → List Member
 members rs = map (λ r. r.member) rs
 
-abbrev pub names_of : List Firm → List (List ℕ)
-names_of rs = map (λ r. r.member.name) rs
+abbrev pub member_names : List Firm → List (List ℕ)
+member_names rs = map (λ r. r.member.name) rs
 
 -- each is a member whose original has a form, with its object; no two have one name, and there are no more than a walk has
 pub record AreSources (rs : List Firm) : Type 0 where
   pub few : length rs ≤ MAX_MEMBERS
   pub firm : All (λ r. firm_of r.member ≡ Some r) rs
-  pub distinct : IsDistinct bytes_eq (names_of rs)
+  pub distinct : IsDistinct bytes_eq (member_names rs)

@@ -36,14 +36,14 @@ verified_original files n = if is_verified files n then Some (original_at (forma
 abbrev pub WereTaken : List Taken → Type 0
 WereTaken ts = (region : Range) × AreTaken region ts
 
-abbrev pub files_of : View → Files
-files_of view = files_in view.files.now
+abbrev pub viewed_files : View → Files
+viewed_files view = files_in view.files.now
 
 -- what is known of them is theirs
 pub record IsView (view : View) : Type 0 where
   pub region : Range
   pub taken : AreTaken region view.files.now
-  pub knows : Knows region (files_of view) view.known.now
+  pub knows : Knows region (viewed_files view) view.known.now
 
 -- ---- the members of a walk, as their files bear them
 

@@ -74,7 +74,7 @@ fn file_for(
 ) -> Result<Decided, NoMemory>
     requires run { members.IsRun run.now }
     requires programs { All (members.IsPrelinked run.now) programs.old.items }
-    requires found { members.IsFound run.now taken.now }
+    requires found { members.IsFileOfName run.now taken.now }
     requires stale { members.IsStale run.now taken.now.name }
     ensures decided { IfOk result (spec.IsDecided run.now taken.now) }
     ensures rest { All (members.IsPrelinked run.now) programs.new.items }
@@ -89,7 +89,7 @@ fn file_for(
 fn library_left(libraries: &mut Vec<Library<'_>>, run: &Run<'_>, taken: &Taken) -> Option<FileParts>
     requires run { members.IsRun run.now }
     requires libraries { All (members.IsRunLibrary run.now) libraries.old.items }
-    requires found { members.IsFound run.now taken.now }
+    requires found { members.IsFileOfName run.now taken.now }
     requires stale { members.IsStale run.now taken.now.name }
     ensures decided { IfSome result (λ parts. spec.IsDecided run.now taken.now
         (decided.Library parts)) }
@@ -110,7 +110,7 @@ fn decided_stale(
 ) -> Result<Decided, NoMemory>
     requires run { members.IsRun run.now }
     requires left { spec.IsLeft run.now left.old }
-    requires found { members.IsFound run.now taken.now }
+    requires found { members.IsFileOfName run.now taken.now }
     requires stale { members.IsStale run.now taken.now.name }
     ensures decided { IfOk result (spec.IsDecided run.now taken.now) }
     ensures rest { spec.IsLeft run.now left.new }
@@ -130,7 +130,7 @@ fn decided_of(
 ) -> Result<Decided, NoMemory>
     requires run { members.IsRun run.now }
     requires left { spec.IsLeft run.now left.old }
-    requires found { members.IsFound run.now taken.now }
+    requires found { members.IsFileOfName run.now taken.now }
     ensures decided { IfOk result (spec.IsDecided run.now taken.now) }
     ensures rest { spec.IsLeft run.now left.new }
 {

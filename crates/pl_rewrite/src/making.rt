@@ -125,7 +125,7 @@ fn cause_of(alloc: Global, run: &Run<'_>, name: &str) -> Result<Option<Skip>, No
 /// A file whose name has a cause why it is not prelinked.
 fn made_skipped(alloc: Global, run: &Run<'_>, taken: &Taken) -> Result<Made, NoMemory>
     requires run { spec.IsRun run.now }
-    requires found { spec.IsFound run.now taken.now }
+    requires found { spec.IsFileOfName run.now taken.now }
     requires skipped { spec.HasCause run.now taken.now.name }
     ensures { IfOk result (λ made. made ≡ spec.made run.now taken.now.name) }
 {
@@ -138,7 +138,7 @@ fn made_skipped(alloc: Global, run: &Run<'_>, taken: &Taken) -> Result<Made, NoM
 /// What a run makes of a file whose name is not stale.
 pub fn made_of(alloc: Global, run: &Run<'_>, taken: &Taken) -> Result<Made, NoMemory>
     requires run { spec.IsRun run.now }
-    requires found { spec.IsFound run.now taken.now }
+    requires found { spec.IsFileOfName run.now taken.now }
     requires fresh { has run.now.planned.now.stale taken.now.name ≡ false }
     ensures { IfOk result (λ made. made ≡ spec.made run.now taken.now.name) }
 {

@@ -14,7 +14,7 @@ use std::alloc::{AllocError, Global};
 /// The SHA-256 of a file's original.
 fn digest_in<'a>(run: &Run<'a>, taken: &'a Taken) -> Digest<'a>
     requires run { spec.IsRun run.now }
-    requires found { spec.IsFound run.now taken.now }
+    requires found { spec.IsFileOfName run.now taken.now }
     ensures { spec.IsRunDigest run.now result }
 {
     Digest {
@@ -71,7 +71,7 @@ fn program_in<'a>(
     taken: &'a Taken,
 ) -> Result<Option<MadeFile<'a>>, NoMemory>
     requires run { spec.IsRun run.now }
-    requires found { spec.IsFound run.now taken.now }
+    requires found { spec.IsFileOfName run.now taken.now }
     ensures { IfOk result (λ made. IfSome made (spec.IsPrelinked run.now)) }
 {
     if is_library(&taken.entry) {

@@ -205,7 +205,7 @@ fn library_in<'a>(
     taken: &'a Taken,
 ) -> Result<Option<Library<'a>>, NoMemory>
     requires run { spec.IsRun run.now }
-    requires found { spec.IsFound run.now taken.now }
+    requires found { spec.IsFileOfName run.now taken.now }
     ensures { IfOk result (spec.IsLibraryIfAny run.now) }
 {
     let skipped = is_skipped(run.planned.standings.as_slice(), taken.name.as_str());

@@ -100,7 +100,7 @@ fn old_stamp(taken: &Taken) -> u32
 /// The stamp of a library that may be prelinked: its old one where it is current, else the run's.
 fn next_stamp(run: &Run<'_>, taken: &Taken) -> u32
     requires run { spec.IsRun run.now }
-    requires found { spec.IsFound run.now taken.now }
+    requires found { spec.IsFileOfName run.now taken.now }
     requires candidate { spec.IsCandidate run.now taken.now.name }
     ensures { result ≡ (spec.numbers_of run.now).stamp taken.now.name }
 {
@@ -113,7 +113,7 @@ fn next_stamp(run: &Run<'_>, taken: &Taken) -> u32
 /// The slot and the stamp of a member; a program has none.
 fn numbers_of(run: &Run<'_>, taken: &Taken, object: &Object) -> (u64, u32)
     requires run { spec.IsRun run.now }
-    requires found { spec.IsFound run.now taken.now }
+    requires found { spec.IsFileOfName run.now taken.now }
     requires candidate { spec.IsCandidate run.now taken.now.name }
     ensures { result ≡ spec.numbers_for run.now taken.now.name object.now }
 {
@@ -127,7 +127,7 @@ fn numbers_of(run: &Run<'_>, taken: &Taken, object: &Object) -> (u64, u32)
 /// A member of a candidate's walk, with what it has or gets.
 fn source_of<'a>(run: &Run<'a>, taken: &'a Taken, object: &'a Object) -> Source<'a>
     requires run { spec.IsRun run.now }
-    requires found { spec.IsFound run.now taken.now }
+    requires found { spec.IsFileOfName run.now taken.now }
     requires member { spec.IsPrelinkable run.now (taken.now.name, object.now) }
     ensures { result ≡ spec.planned_firm run.now (taken.now.name, object.now) }
 {
@@ -146,7 +146,7 @@ fn source_of<'a>(run: &Run<'a>, taken: &'a Taken, object: &'a Object) -> Source<
 fn member_source<'a>(run: &Run<'a>, member: &Member<'a>) -> Option<Source<'a>>
     requires run { spec.IsRun run.now }
     requires member { spec.IsPrelinkable run.now (member.now.name, member.now.object.now) }
-    ensures { result ≡ Some (spec.source run.now member.now) }
+    ensures { result ≡ Some (spec.planned_source run.now member.now) }
 {
     match find(run.files, member.name.as_str()) {
         None => None,
@@ -162,7 +162,7 @@ pub fn sources_of<'a>(
 ) -> Result<Vec<Source<'a>>, AllocError>
     requires run { spec.IsRun run.now }
     requires members { spec.ArePrelinkable run.now members.now }
-    ensures { IfOk result (λ v. v.items ≡ map (spec.source run.now) members.now) }
+    ensures { IfOk result (λ v. v.items ≡ map (spec.planned_source run.now) members.now) }
 {
     let mut sources = Vec::new(alloc);
     for member in members {

@@ -89,7 +89,7 @@ fn meant_by<'a>(
     requires view { spec.IsView view.now }
     requires walk { cone.walk_in view.now.known.now name.now ≡ Ok scope.now }
     ensures { IfOk result (λ file. option_map (λ v. v.items) file
-        ≡ spec.prelinked_in (spec.files_of view.now) name.now) }
+        ≡ spec.prelinked_in (spec.viewed_files view.now) name.now) }
 {
     match sources_of(alloc, view.files, scope.members())? {
         None => Ok(None),
@@ -101,7 +101,7 @@ fn meant_by<'a>(
 fn meant(alloc: Global, view: &View<'_>, name: &str) -> Result<Option<Vec<u8>>, NoMemory>
     requires { spec.IsView view.now }
     ensures { IfOk result (λ file. option_map (λ v. v.items) file
-        ≡ spec.prelinked_in (spec.files_of view.now) name.now) }
+        ≡ spec.prelinked_in (spec.viewed_files view.now) name.now) }
 {
     match walk_of(alloc, view.known, name)? {
         None => Ok(None),

@@ -2,7 +2,7 @@ use Rattle.std.proofs.Common.{◌≡◌, ℕ, List, subst}
 use Rattle.std.specs.Prelude.{Ok}
 use Rattle.pl_base.specs.Answers.{because}
 use Rattle.pl_cli.specs.Came.{HasObject}
-use Rattle.pl_cli.specs.Order.{original, refused}
+use Rattle.pl_cli.specs.Order.{original, refused_file}
 use Rattle.pl_cli.specs.Stops.{StopsAlone}
 use Rattle.pl_cli.proofs.OrderLemmas.{object_read, object_stopped, object_untaken}
 use Rattle.pl_cli.proofs.StopLemmas.{at_err}
@@ -18,7 +18,7 @@ pub returns-in_err-object-clause-object : goal.returns-in_err-object-clause-obje
 returns-in_err-object-clause-object g c =
     let seen = g.D.Folder.seen in
     let stop = c.in_err-object.field-0.0 in
-    let stops = subst (λ (bytes : List ℕ). StopsAlone (because (refused c.args.name.now) (original bytes)) stop) c.deref.ensures.value c.in_err-object.ensures.stop in
+    let stops = subst (λ (bytes : List ℕ). StopsAlone (because (refused_file c.args.name.now) (original bytes)) stop) c.deref.ensures.value c.in_err-object.ensures.stop in
     at_err (λ r. HasObject c.args.name.now r (seen c.args.folder.now) (seen c.take.new.folder)) c.from_residual-in_err-object.result stop c.from_residual-in_err-object.ensures.1
     (object_stopped c.args.name.now c.in_ok-bytes.bytes c.in_ok-bytes.ensures.taken stop stops)
 

@@ -2,7 +2,7 @@ use Rattle.std.proofs.Common.{ap, sym, subst, ◌∙◌}
 use Rattle.std.specs.Prelude.{Ok}
 use Rattle.pl_base.specs.Answers.{because}
 use Rattle.pl_scope.specs.Scope.{IsAccepted}
-use Rattle.pl_cli.specs.Order.{original, refused}
+use Rattle.pl_cli.specs.Order.{original, refused_file}
 use Rattle.pl_cli.specs.Stops.{StopsAlone}
 use Rattle.pl_cli.proofs.OrderLemmas.{accepted_by, original_is, original_refused}
 use Rattle.pl_cli.proofs.walk.object_of.Goals as goal
@@ -15,4 +15,4 @@ returns-in-Ok-clause-accepted c = subst IsAccepted (sym c.object_by.ensures) (ac
 
 pub returns-in_ok-refused-in-Err-clause-stop : goal.returns-in_ok-refused-in-Err-clause-stop
 returns-in_ok-refused-in-Err-clause-stop c =
-    subst (StopsAlone (because (refused c.args.name.now) (original c.args.bytes.now))) (sym c.in_ok-refused-in-Err.ensures) (original_refused c.args.name.now c.args.bytes.now c.in-Err.fault c.in-Err.ensures.exact)
+    subst (StopsAlone (because (refused_file c.args.name.now) (original c.args.bytes.now))) (sym c.in_ok-refused-in-Err.ensures) (original_refused c.args.name.now c.args.bytes.now c.in-Err.fault c.in-Err.ensures.exact)
