@@ -9,11 +9,11 @@ use Rattle.pl_journal.specs.Parts.{RecoversSettled}
 use Rattle.pl_journal.specs.RealDisk.{RunsFirmly}
 use Rattle.pl_journal.specs.declared.fault.JournalFault.{JournalFault}
 
--- From a disk all of whose files are firm it is the same on one whose settle makes names last and no file's bytes, and all files are firm afterwards, however it ended.
+-- It goes on alike on a disk whose settle makes names last and no file's bytes, and afterwards, however it ended, each file that it made is firm there.
 abbrev pub StaysFirm : {D : Type 0} → (D → Seen) → Held D → Held D → Type 0
 StaysFirm seen old new = RunsFirmly Done (seen old.folder) (seen new.folder)
 
--- From a disk all of whose files are firm it is the same on one whose settle makes names last and no file's bytes, and all files are firm afterwards where this answer is Ok.
+-- It goes on alike on a disk whose settle makes names last and no file's bytes, and where this answer is Ok each file that it made is firm there.
 abbrev pub EndsFirmly : {X D : Type 0} → (D → Seen) → Result X JournalFault → Held D → Held D → Type 0
 EndsFirmly seen result old new = RunsFirmly (part_ending result) (seen old.folder) (seen new.folder)
 
