@@ -27,7 +27,8 @@ use Rattle.pl_batch.specs.Changes.{changes_of, fitting}
 use Rattle.pl_batch.specs.Folder.{cache, cache_by, cache_file, named, valid_names}
 use Rattle.pl_batch.specs.declared.cause.Cause.TheVariants as causes
 use Rattle.pl_batch.specs.declared.prelinking.Prelinking.{Prelinking}
-use Rattle.law_folder.specs.All.{AllGivesNext, NextIsFromScratch, cache_or_none}
+use Rattle.law_folder.specs.All.{AllGivesNext, NextIsFromScratch}
+use Rattle.law_folder.specs.Steps.{cache_or_none}
 use Rattle.law_folder.proofs.PlanLemmas.{NextAt, all_planned, are_names, cache_own, changes_by, next_of, rows_are}
 use Rattle.law_folder.proofs.MixedLemmas.{Each, old_or_new}
 

@@ -15,14 +15,10 @@ use Rattle.pl_cone.specs.declared.run_plan.RunPlan.{RunPlan}
 use Rattle.pl_rewrite.specs.Changes.{from_scratch, next, next_cache}
 use Rattle.pl_batch.specs.All.{asked_of}
 use Rattle.pl_batch.specs.Changes.{changes_of}
-use Rattle.pl_batch.specs.Folder.{cache, cache_file, cache_in, named, no_cache, valid_names}
+use Rattle.pl_batch.specs.Folder.{cache, cache_file, cache_in, named, valid_names}
 use Rattle.pl_batch.specs.declared.prelinking.Prelinking.{Prelinking}
 use Rattle.pl_batch.specs.declared.run.Run.TheVariants as runs
-
--- the bytes of a cache; where there is no file those of an empty one
-abbrev pub cache_or_none : Option (List ℕ) → List ℕ
-cache_or_none None = cache_bytes no_cache
-cache_or_none (Some bytes) = bytes
+use Rattle.law_folder.specs.Steps.{cache_or_none}
 
 -- by the cache there is a plan of the valid names; each of these has the file that is planned, and the cache is the planned one
 pub record HasNext (files : Files) (p : Prelinking) (after : View) : Type 0 where

@@ -1,12 +1,12 @@
 -- Runs on a disk whose settle makes names last, and no file's bytes.
-use Rattle.std.proofs.Common.{◌≡◌, ◌⊎◌, inl, inr, ⊎_elim, ℕ, zero, suc, ◌<◌, ◌≤◌, List, [], ◌∷◌, ◌++◌, length, take, true, refl, sym, ◌∙◌, ap, subst, Result, Ok, Err}
+use Rattle.std.proofs.Common.{◌≡◌, inl, inr, ℕ, zero, suc, ◌≤◌, List, [], ◌∷◌, ◌++◌, length, take, true, refl, sym, ◌∙◌, ap, subst, Result, Ok, Err}
 use Rattle.std.specs.Prelude.{IsErrAnd}
 use Rattle.pl_folder.specs.Calls.{Calls}
-use Rattle.pl_folder.specs.Disk.{Name, View, State, Disk, IsCrashImage, after, clock, waited}
+use Rattle.pl_folder.specs.Disk.{Name, View, State, Disk, after, waited}
 use Rattle.pl_folder.specs.Effects.{Appends, Does, DoesOrNot, GrowsDisk, Idles, StepsDisk, StepsDiskOrNot, Waited, Waits, creates, firms, removes, settles}
 use Rattle.pl_folder.specs.Seen.{Ending, Done, Broken, Undone, Seen}
-use Rattle.pl_folder.specs.Since.{HadImage, Keeps, Since}
-use Rattle.pl_folder.specs.States.{firmed, renamed, settled}
+use Rattle.pl_folder.specs.Since.{HadImage}
+use Rattle.pl_folder.specs.States.{renamed, settled}
 use Rattle.pl_journal.specs.Faults.{journal_ending, part_ending}
 use Rattle.pl_journal.specs.Leaves.{Looks}
 use Rattle.pl_journal.specs.Parts.{NamesFile, NamesDisk, is_firm}

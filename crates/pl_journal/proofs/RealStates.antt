@@ -1,10 +1,10 @@
 -- What each call makes of the states of two disks, of which one has a settle that makes names last and no file's bytes.
-use Rattle.std.proofs.Common.{◌≡◌, ◌⊎◌, inl, inr, ⊎_elim, ℕ, ◌+◌, ◌==◌, ◌<◌, ◌≤◌, Bool, true, false, cond, List, [], ◌∷◌, ◌++◌, Option, Some, None, refl, sym, ◌∙◌, ap, subst, arith}
+use Rattle.std.proofs.Common.{◌≡◌, ◌⊎◌, inl, inr, ⊎_elim, ℕ, ◌+◌, ◌==◌, Bool, true, false, cond, List, [], ◌∷◌, ◌++◌, Option, Some, None, refl, sym, ◌∙◌, ap, subst, arith}
 use Rattle.std.proofs.lemmas.Bool.{both_ways, cases_Bool, cases_lt, cases_order, cond-true, cond-false, eq-eqb, eqb-true}
 use Rattle.pl_folder.specs.Disk.{Name, Names, View, Content, NameChange, Bind, Move, Unbind, State, IsCrashImage, Shows, all_kept, bytes_of, kept, names_of, read, same}
 use Rattle.pl_folder.specs.States.{appended, appended_to, created, firmed, firmed_at, moved, removed, renamed, settled, with_file}
 use Rattle.pl_folder.proofs.ImageLaws.{itself}
-use Rattle.pl_journal.specs.RealDisk.{IsAlike, IsLeftLoose, IsLooseName, IsLooseThere, IsNotMade, LosesLoose, names_settled}
+use Rattle.pl_journal.specs.RealDisk.{IsAlike, IsLeftLoose, IsLooseName, IsLooseThere, LosesLoose, names_settled}
 
 -- a file is another one
 apart_from : (file k : ℕ) → (file == k) ≡ false → file ≡ k → ⊥
