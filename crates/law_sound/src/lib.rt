@@ -1,6 +1,6 @@
-//! Why a folder of prelinked files stays sound: what a run over it, a crash on the way, an edit and other writers leave keeps the rule that a file whose list matches, and each library of its walk, is what prelinking their originals at these slots and stamps gives.
+//! Why a folder of prelinked files stays sound: what a run over it, a crash on the way, an edit and other writers leave keeps the rule that a file whose list matches, and each library of its walk, is what prelinking their originals at the slots and stamps of the files gives.
 //!
-//! Nothing here knows of ELF: the laws hold for every `Format` that keeps `IsFormat`, over the walks of pl_scope. Each is a clause of a function that does nothing, with the type of a format's faults as its parameter.
+//! The laws ask nothing of how prelinked files are made: they hold for every `Format` that keeps `IsFormat`, over the objects and walks of pl_scope. Each is a clause of a function that does nothing, with the type of a format's faults as its parameter, but for `marks_do_not_bound`, which has an object.
 #![tactic(auto)]
 
 ghost use Rattle.law_sound.specs.Laws.{CurrentIsFromScratch, RunsAreSound, RunsKeepOriginals, MixturesAreSound, RowsAreSound, EditsAreSound, OthersAreSound, NoFilesAreSound, VerifiedAreSound, HistoriesAreSound, StampsNameFiles, MarksDoNotBound};

@@ -1,8 +1,8 @@
 //! What a run that prelinks everything plans, by what is known of the files of a folder: which names may be prelinked, or why not, the slots of the libraries among them, which names are stale, and the stamp that these get (Jelínek, "Prelink").
 //!
-//! A name may be prelinked where its walk has no refusal, each member has a form, and a program's members link; it is current where it and each library of its walk are prelinked as they are planned, with lists that tell their walks. The laws say that what is planned is what law_sound means of the folder that has the files.
+//! A name may be prelinked where its walk has no refusal, each member has a form, and a program's members link; it is current where it and each library of its walk are prelinked as they are planned, with lists that tell their walks. The laws say that the names that may be prelinked, and the current ones, are those that law_sound defines of the folder that has the files.
 //!
-//! Which relocations of a library give the same in every walk of the folder is found once: where one object of the folder at most defines the name to which a relocation refers, every walk that holds both objects finds the same symbol (System V gABI chapter 5, "Shared Object Dependencies"). So programs that share libraries need not look such relocations up again.
+//! Which relocations of a library give the same in every walk of the folder is found once: where at most one object of the folder defines the name to which a relocation refers, every walk that holds both objects finds the same symbol (System V gABI chapter 5, "Shared Object Dependencies"). So programs that share libraries need not look such relocations up again.
 #![tactic(auto)]
 
 mod agreement;

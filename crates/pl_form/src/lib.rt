@@ -1,4 +1,4 @@
-//! The form that prelinking gives an accepted library or program: its parts, as definitions with their laws, the file that is made of them, what a file is by its mark, and the original that comes back from a form.
+//! The form that prelinking gives an accepted library or program: which originals have one, its parts and the file that is made of them, what a file is by its mark, and the original that comes back from a form. The laws say that it comes back from the bytes of the form alone, that no file is a form of two originals, and what a form has of its original.
 #![tactic(auto)]
 
 mod alike;

@@ -1,6 +1,6 @@
-//! What a run that prelinks everything makes of the files of a folder, as a function of the files that were taken (Jelínek, "Prelink"): what is known of each file, the plan by that, the prelinked file that the members of a walk give its first name, in either version of the undo section, or where they give none; and of these the rows of a journal, the cache that the run leaves and its report.
+//! What a run that prelinks everything makes of the files of a folder, as a function of the files that were taken (Jelínek, "Prelink"): what is known of each file; the plan by that; the prelinked file that the members of a walk give its first name, in either version of the undo section, or that they give none; from these the rows of the journal, the cache that the run leaves and its report; and whether a file is the prelinked one of given originals.
 //!
-//! The laws say that a plan by what is known of files is the one of their folder, and why a folder stays sound.
+//! The laws say that the plan by what is known of the files is the one that law_sound defines of their folder, and why a folder stays sound over runs and edits.
 #![tactic(auto)]
 
 mod agreement;

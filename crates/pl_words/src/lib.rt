@@ -1,4 +1,4 @@
-//! The words of a command line, the command that they are, and the exit code with which one ends.
+//! The words of a command line, the command that they ask for, and how a command ends, with its exit code.
 #![tactic(auto)]
 
 mod command;
