@@ -8,6 +8,9 @@ use Rattle.pl_folder.specs.Calls.{Calls}
 use Rattle.pl_folder.specs.Effects.{Asks, Effect}
 use Rattle.pl_folder.specs.Seen.{Seen, is_broken}
 use Rattle.pl_loader.specs.Loading as loading
+use Rattle.pl_loader.specs.Started.{Starts, started}
+use Rattle.pl_loader.specs.declared.started.Started.{Started}
+use Rattle.pl_place.specs.Policy.{Answering, Choice, Follows}
 use Rattle.pl_script.specs.declared.TheConstants.{SCRIPT}
 use Rattle.pl_script.specs.declared.script.Script.{Script}
 use Rattle.pl_journal.specs.Parts.{Looking}
@@ -30,12 +33,12 @@ use Rattle.pl_cli.specs.Answer.{Answer, IsTold, answer, done, refuses, removed_t
 use Rattle.pl_cli.specs.Demo.{demo_text}
 use Rattle.pl_cli.specs.Files.{file_in}
 use Rattle.pl_cli.specs.Looks.{takes}
-use Rattle.pl_cli.specs.Load.{loaded_files, loaded_object, loading_file}
+use Rattle.pl_cli.specs.Load.{loaded_files, loaded_object, loading_file, start_by}
 use Rattle.pl_cli.specs.Order.{members_of, object_in, ordered, walked}
 use Rattle.pl_cli.specs.Print.{printed}
 use Rattle.pl_cli.specs.Reports.{previewed}
 use Rattle.pl_cli.specs.Outside.{Consumes, ending_of, is_read_fault, may_end, most_read}
-use Rattle.pl_cli.specs.Stops.{Means, status_of}
+use Rattle.pl_cli.specs.Stops.{Means, StopsAlone, status_of}
 use Rattle.pl_cli.specs.Verified.{verifies}
 use Rattle.pl_cli.specs.Weave.{script_in, weaves}
 use Rattle.pl_cli.specs.Words.{bytes_of, reads_input}
@@ -84,6 +87,14 @@ HasObject name result old new = Finds (is_valid_name name) (Asks (count_by is_va
 -- the files of a load, or the objects of a walk
 abbrev pub HasLoaded : {F : Type 0} → Policy → List ℕ → Result (loading.Load F) Stop → Seen → Seen → Type 0
 HasLoaded policy name result old new = Finds (is_valid_name name) (Asks (takes (loaded_object policy old.files name) name)) (loaded_files policy old.files name) (λ l. l.walk.files) result old new
+
+-- the start is that of the load's files, whichever function its policy follows
+abbrev pub IsStarted : {F : Type 0} → Answering → loading.Load F → Started → Type 0
+IsStarted post l s = (choose : Choice) → Follows post choose → Starts s (started choose l.busy l.walk.files)
+
+-- the load has no start for this cause, whichever function its policy follows, or memory lacked
+abbrev pub IsNotStarted : {F : Type 0} → Answering → loading.Load F → Stop → Type 0
+IsNotStarted post l stop = (choose : Choice) → Follows post choose → StopsAlone (start_by choose l) stop
 
 abbrev pub HasWalked : List ℕ → Result (Vec NamedObject Global) Stop → Seen → Seen → Type 0
 HasWalked name result old new = Finds (is_valid_name name) (Asks (takes (object_in old.files) name)) (walked old.files name) (λ members. members_of members.items) result old new

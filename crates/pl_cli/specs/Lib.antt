@@ -13,6 +13,7 @@ pub mod Reports
 pub mod Weave
 pub mod Verified
 pub mod Answer
+pub mod Tells
 pub mod Stops
 pub mod Outside
 pub mod Came

@@ -1,5 +1,5 @@
 -- The text of loads that open their files during runs, as a script says, in a copy of a folder; or the first cause why there is none.
-use Rattle.std.specs.Prelude.{ℕ, ◌+◌, ◌==◌, false, nat_lt, List, [], ◌∷◌, ◌++◌, codes, length, Option, Some, None, String, Vec, Result, Ok, Err, if◌then◌else◌}
+use Rattle.std.specs.Prelude.{◌≡◌, ℕ, ◌+◌, ◌==◌, false, nat_lt, List, [], ◌∷◌, ◌++◌, codes, length, Option, Some, None, String, Vec, Result, Ok, Err, if◌then◌else◌}
 use Rattle.std.specs.declared.alloc.Global.{Global}
 use Rattle.std.specs.FinMap.{get}
 use Rattle.std.specs.Fmt.{decimal}
@@ -13,7 +13,7 @@ use Rattle.pl_batch.specs.declared.run.Run.{Run}
 use Rattle.pl_batch.specs.declared.run.Run.TheVariants as runs
 use Rattle.pl_loader.specs.Started.{Start}
 use Rattle.pl_loader.specs.declared.fault.LoadFault.TheVariants.{NotThere}
-use Rattle.pl_place.specs.Policy.{Choice}
+use Rattle.pl_place.specs.Policy.{Answering, Choice, Follows}
 use Rattle.pl_place.specs.Policies.{lowest}
 use Rattle.pl_script.specs.Script.{IsScript, script}
 use Rattle.pl_script.specs.declared.TheConstants.{SCRIPT}
@@ -23,7 +23,7 @@ use Rattle.pl_script.specs.declared.line.RunLine.{RunLine}
 use Rattle.pl_script.specs.declared.line.RunLine.TheVariants.{Prelink, UndoAll, Undo, Install}
 use Rattle.pl_script.specs.declared.script.Script.{Script}
 use Rattle.pl_weave.specs.Opening.{Opened, ended, wanted}
-use Rattle.pl_weave.specs.Running.{AreRuns}
+use Rattle.pl_weave.specs.Running.{AreRuns, HavePolicy}
 use Rattle.pl_weave.specs.Runs.{progress}
 use Rattle.pl_weave.specs.Weaving.{Weaving, woven}
 use Rattle.pl_weave.specs.declared.progress.Progress.{Progress}
@@ -120,6 +120,10 @@ end_line = line (codes "weave end" ∷ [])
 -- what a weave came to
 abbrev pub woven_text : {F : Type 0} → Choice → List (Opened F) → List Progress → List ℕ
 woven_text choose loaders told = loaders_text choose 0 loaders ++ (runs_text 0 told ++ end_line)
+
+-- the text is that of a weave's loaders and of how its runs went, whichever function the policy of the loaders follows
+abbrev pub IsWovenText : {F : Type 0} → (F → Answering) → List (Opened F) → List Progress → Vec ℕ Global → Type 0
+IsWovenText {F = F} post loaders told text = (p : F) (choose : Choice) → HavePolicy p loaders → Follows (post p) choose → text.items ≡ woven_text choose loaders told
 
 -- ---- the whole
 

@@ -1,12 +1,9 @@
 // The load of a folder's program by its name.
 ghost use Rattle.std.specs.Prelude.{◌≡◌, None, IfErr, IfOk};
 ghost use Rattle.pl_scope.specs.Walking.{wants};
-ghost use Rattle.pl_loader.specs.Started as meant;
-ghost use Rattle.pl_place.specs.Policy as policy;
-ghost use Rattle.pl_cli.specs.Came.{HasLoaded};
+ghost use Rattle.pl_cli.specs.Came.{HasLoaded, IsNotStarted, IsStarted};
 ghost use Rattle.pl_cli.specs.Files.{Unasked};
-ghost use Rattle.pl_cli.specs.Load.{MayStart, start_by};
-ghost use Rattle.pl_cli.specs.Stops.{StopsAlone};
+ghost use Rattle.pl_cli.specs.Load.{MayStart};
 
 use crate::cause::Cause;
 use crate::given::given;
@@ -51,12 +48,8 @@ pub fn start<'l, F: Fn(&Holes, u64, u64) -> Option<u64>>(
     loader: &'l Loader<'_, F>,
 ) -> Result<Started<'l>, Stop>
     requires { MayStart F.pre F.post loader.now }
-    ensures ok { IfOk result (λ s. (choose : policy.Choice) →
-        policy.Follows (F.post loader.now.policy) choose →
-        meant.Starts s (meant.started choose loader.now.busy loader.now.walk.files)) }
-    ensures stop { IfErr result (λ stop. (choose : policy.Choice) →
-        policy.Follows (F.post loader.now.policy) choose →
-        StopsAlone (start_by choose loader.now) stop) }
+    ensures ok { IfOk result (IsStarted (F.post loader.now.policy) loader.now) }
+    ensures stop { IfErr result (IsNotStarted (F.post loader.now.policy) loader.now) }
 {
     Ok(loader.start(alloc)?)
 }

@@ -223,9 +223,7 @@ pub fn woven_text<F: Fn(&Holes, u64, u64) -> Option<u64>>(
 ) -> Result<Vec<u8>, NoMemory>
     requires count { length woven.weave ≡ count }
     requires chosen { AreChosen F.pre F.post woven.weave }
-    ensures { IfOk result (λ text. (p : F) (choose : policy.Choice) →
-        HavePolicy p woven.entry.weave → policy.Follows (F.post p) choose →
-        text.items ≡ spec.woven_text choose woven.entry.weave woven.entry.runs) }
+    ensures { IfOk result (spec.IsWovenText F.post woven.entry.weave woven.entry.runs) }
 {
     let Woven { weave, runs } = woven;
     let mut out = TextSink::new(alloc);

@@ -1,7 +1,7 @@
 -- The names that a run prelinks: programs and libraries whose walk has no refusal, no member of which has a form fault, and, for a program, which link.
 use Rattle.std.specs.Prelude.{ℕ, Bool, ◌==◌, List, [], ◌∷◌, map, length, replicate, slice_get, Option, Some, None, Result, Ok, if◌then◌else◌}
 use Rattle.std.specs.Result.{is_ok}
-use Rattle.pl_base.specs.Answers.{◌>>=◌, because, unless, unless_found}
+use Rattle.pl_base.specs.Answers.{◌>>=◌, Answers, because, unless, unless_found}
 use Rattle.pl_base.specs.Each.{run}
 use Rattle.pl_elf.specs.Kinds.{is_program, is_static}
 use Rattle.pl_elf.specs.declared.kind.Kind.{Kind}
@@ -18,7 +18,7 @@ use Rattle.pl_value.specs.Meanings.{meanings}
 use Rattle.pl_value.specs.declared.fault.LinkFault.{LinkFault}
 use Rattle.pl_value.specs.declared.fault.LinkFault.TheVariants as link
 use Rattle.pl_cone.specs.Known.{object_of, fault_of}
-use Rattle.pl_cone.specs.Skips.{of_walk, of_tls}
+use Rattle.pl_cone.specs.Skips.{is_memory, of_walk, of_tls}
 use Rattle.pl_cone.specs.declared.known.Known.{Known}
 use Rattle.pl_cone.specs.declared.skip.Skip.{Skip}
 use Rattle.pl_cone.specs.declared.skip.Skip.TheVariants as skips
@@ -82,6 +82,10 @@ zeros walked = replicate (length walked) 0
 -- each relocation has a value, or the first link refusal
 unfoldable pub resolved : Walked → List Module → Result (Unit {0}) Skip
 resolved walked modules = because (of_link walked) (meanings (objects walked) (zeros walked) modules) >>= λ gs. Ok tt
+
+-- the answer says that, or memory lacked
+abbrev pub AnswersResolved : Walked → List Module → Result (Unit {0}) Skip → Type 0
+AnswersResolved walked modules answer = Answers is_memory answer (resolved walked modules)
 
 -- the members link
 unfoldable pub linked : Walked → Result (Unit {0}) Skip

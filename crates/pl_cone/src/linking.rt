@@ -1,11 +1,10 @@
 // Whether the members of a program's walk link.
 ghost use Rattle.std.specs.Prelude.{◌≡◌, ◌<◌, ◌^◌, find, length, map, slice_get, IfOk};
 ghost use Rattle.std.specs.Bool.{OnTrue};
-ghost use Rattle.std.specs.List.{All};
 ghost use Rattle.std.specs.Option.{option_map};
 ghost use Rattle.std.specs.Str.{bytes_eq};
 ghost use Rattle.pl_base.specs.Answers.{Answers, because};
-ghost use Rattle.pl_scope.specs.Scope.{objects, walked, IsSymbol};
+ghost use Rattle.pl_scope.specs.Scope.{objects, walked, AreReferences, IsReference, IsSymbol};
 ghost use Rattle.pl_tls.specs.Layout.{offsets};
 ghost use Rattle.pl_value.specs.Definers.{IsSought};
 ghost use Rattle.pl_value.specs.Meanings as value;
@@ -128,7 +127,7 @@ fn places(alloc: Global, scope: &Scope<'_>) -> Result<Places, AllocError>
 /// The first relocation without a value, where each is looked up.
 #[tactic(auto, unfolding(crate::specs::Candidates::resolved))]
 fn all_resolved(alloc: Global, scope: &Scope<'_>, modules: &[Module]) -> Result<(), Skip>
-    ensures { Answers is_memory result (spec.resolved scope.now modules.now) }
+    ensures { spec.AnswersResolved scope.now modules.now result }
 {
     let places = places(alloc, scope)?;
     match meanings(alloc, scope, &places, modules) {
@@ -164,7 +163,7 @@ fn is_flagged(link: Option<&Link>, index: usize) -> bool
 
 /// What the symbol of a reference finds. Symbol 0 is no reference.
 fn sought(scope: &Scope<'_>, reference: Reference) -> Option<Found>
-    requires { IsSymbol (objects scope.now) reference.member reference.symbol }
+    requires { IsReference scope.now reference }
     ensures { IsSought (objects scope.now) reference result }
 {
     if reference.symbol == 0 {
@@ -202,7 +201,7 @@ fn member_links(
     known: Option<&Link>,
 ) -> Result<(), LinkFault>
     requires one_each { length places.now ≡ length scope.now }
-    requires references { All (λ r. IsSymbol (objects scope.now) member r.symbol) relocs.now }
+    requires references { AreReferences scope.now member relocs.now }
     requires known { links.TellsOf (objects scope.now) places.now modules.now member relocs.now
         (option_map (λ l. l.now) known) }
     ensures { result ≡ links.rows_have (objects scope.now) places.now modules.now
@@ -247,7 +246,7 @@ fn resolved_by(
     known: &[Link],
 ) -> Result<(), Skip>
     requires { links.HaveValues scope.now known.now }
-    ensures { Answers is_memory result (spec.resolved scope.now modules.now) }
+    ensures { spec.AnswersResolved scope.now modules.now result }
 {
     let places = places(alloc, scope)?;
     match members_link(scope, &places, modules, known) {
@@ -304,7 +303,7 @@ fn resolved(
     known: &[Link],
 ) -> Result<(), Skip>
     requires { links.HaveValues scope.now known.now }
-    ensures { Answers is_memory result (spec.resolved scope.now modules.now) }
+    ensures { spec.AnswersResolved scope.now modules.now result }
 {
     if known.is_empty() || is_index_cheaper(scope.members(), known) {
         return all_resolved(alloc, scope, modules);

@@ -1,12 +1,12 @@
 // The meanings of a scope without those that are known to matter nowhere.
 ghost use Rattle.std.specs.Prelude.{◌≡◌, ◌<◌, length, slice_get, Err, IfOk, IfErr, OnOk};
 ghost use Rattle.std.specs.Bool.{OnTrue};
-ghost use Rattle.std.specs.List.{All, list_any};
+ghost use Rattle.std.specs.List.{list_any};
 ghost use Rattle.std.specs.Option.{option_map};
 ghost use Rattle.pl_base.specs.Answers.{Answers, because};
 ghost use Rattle.pl_base.specs.Sums.{plus};
 ghost use Rattle.pl_base.specs.Windows.{share};
-ghost use Rattle.pl_scope.specs.Scope.{objects, IsSymbol};
+ghost use Rattle.pl_scope.specs.Scope.{objects, AreReferences, IsReference, IsSymbol};
 ghost use Rattle.pl_value.specs.Definers.{IsSought};
 ghost use Rattle.pl_value.specs.Meanings as value;
 ghost use Rattle.pl_value.specs.Targets.{base_of};
@@ -32,7 +32,7 @@ pub struct Still<'a> {
 
 /// What the symbol of a reference finds. Symbol 0 is no reference.
 pub fn sought(scope: &Scope<'_>, reference: Reference) -> Option<Found>
-    requires { IsSymbol (objects scope.now) reference.member reference.symbol }
+    requires { IsReference scope.now reference }
     ensures { IsSought (objects scope.now) reference result }
 {
     if reference.symbol == 0 {
@@ -114,7 +114,7 @@ fn add_open(
 ) -> Result<(), OrdinaryFault>
     requires one_each { length places.now ≡ length scope.now }
     requires member { member < length places.now }
-    requires references { All (λ r. IsSymbol (objects scope.now) member r.symbol) relocs.now }
+    requires references { AreReferences scope.now member relocs.now }
     requires known { spec.ValuesOf (objects scope.now) places.now tls.now member relocs.now
         (option_map (λ s. s.now) still) }
     ensures added { OnOk result (spec.Adds (objects scope.now) places.now tls.now member relocs.now

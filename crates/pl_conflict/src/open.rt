@@ -1,11 +1,10 @@
 // The conflict rows of a program by what is known of its libraries' relocations.
 ghost use Rattle.std.specs.Prelude.{◌≡◌, ◌<◌, length, Err, IfOk, IfErr, OnOk};
-ghost use Rattle.std.specs.List.{All};
 ghost use Rattle.std.specs.Option.{option_map};
 ghost use Rattle.std.specs.Str.{bytes_eq};
 ghost use Rattle.pl_base.specs.Answers.{Answers, because};
 ghost use Rattle.pl_base.specs.Bytes.{bytes64};
-ghost use Rattle.pl_scope.specs.Scope.{objects, IsSymbol};
+ghost use Rattle.pl_scope.specs.Scope.{objects, AreReferences};
 ghost use Rattle.pl_value.specs.Meanings as value;
 ghost use Rattle.pl_value.specs.declared.fault.OrdinaryFault.TheVariants.{Link};
 ghost use Rattle.pl_conflict.specs.Among as spec;
@@ -69,7 +68,7 @@ fn add_rows(
 ) -> Result<(), OrdinaryFault>
     requires one_each { length places.now ≡ length scope.now }
     requires member { member < length places.now }
-    requires references { All (λ r. IsSymbol (objects scope.now) member r.symbol) relocs.now }
+    requires references { AreReferences scope.now member relocs.now }
     requires known { spec.ValuesOf (objects scope.now) places.now tls.now member relocs.now
         (option_map (λ s. s.now) still) }
     ensures added { OnOk result (spec.AddsRows (objects scope.now) places.now tls.now member

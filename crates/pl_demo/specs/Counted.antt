@@ -1,15 +1,21 @@
 -- How many relocations and conflict rows files have.
-use Rattle.std.specs.Prelude.{ℕ, ◌+◌, List, length, fold, Result, Ok, Err, string_bytes, if◌then◌else◌}
+use Rattle.std.specs.Prelude.{◌≡◌, ℕ, ◌+◌, List, length, fold, Result, Ok, Err, string_bytes, if◌then◌else◌}
 use Rattle.pl_base.specs.Files.{Files}
 use Rattle.pl_base.specs.Names.{is_valid_name}
+use Rattle.pl_folder.specs.InMemory.{quiet_files}
 use Rattle.pl_folder.specs.Taken.{taken}
 use Rattle.pl_folder.specs.declared.fault.FolderFault.{FolderFault}
+use Rattle.pl_folder.specs.declared.quiet_folder.QuietFolder.{QuietFolder}
 use Rattle.pl_form.specs.Files.{file_in}
 use Rattle.pl_form.specs.declared.fault.FileFault.{FileFault}
 use Rattle.pl_form.specs.declared.file.File.{File}
 use Rattle.pl_form.specs.declared.file.File.TheVariants.{Plain, Marked}
 use Rattle.pl_gen.specs.declared.set.DemoFile.{DemoFile}
 use Rattle.pl_demo.specs.declared.counting.Counts.{Counts}
+
+-- a folder has the files that it had
+abbrev pub HasSameFiles : QuietFolder → QuietFolder → Type 0
+HasSameFiles old new = quiet_files new ≡ quiet_files old
 
 -- ---- one file
 

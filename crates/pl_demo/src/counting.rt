@@ -86,7 +86,7 @@ fn counts_at(alloc: Global, folder: &mut QuietFolder, name: &str) -> Result<Coun
     requires { IsNameLength name.now }
     ensures counts { IfOk result (λ counts.
         counts ≡ spec.counts_in (taken (quiet_files folder.old) name.now)) }
-    ensures same { OnOk result (quiet_files folder.new ≡ quiet_files folder.old) }
+    ensures same { OnOk result (spec.HasSameFiles folder.old folder.new) }
 {
     match folder.take(alloc, name) {
         Ok(bytes) => counts_in(alloc, &bytes),
@@ -101,7 +101,7 @@ fn counts_at(alloc: Global, folder: &mut QuietFolder, name: &str) -> Result<Coun
 fn counts_of(alloc: Global, folder: &mut QuietFolder, name: &str) -> Result<Counts, NoMemory>
     ensures counts { IfOk result (λ counts.
         counts ≡ spec.counts_of (quiet_files folder.old) name.now) }
-    ensures same { OnOk result (quiet_files folder.new ≡ quiet_files folder.old) }
+    ensures same { OnOk result (spec.HasSameFiles folder.old folder.new) }
 {
     if !is_valid_name(name.as_bytes()) {
         return Ok(Counts::none());
@@ -117,7 +117,7 @@ pub fn all_counts(
 ) -> Result<Counts, NoMemory>
     ensures counts { IfOk result (λ total.
         total ≡ fold (spec.with_counts (quiet_files folder.old)) spec.none set.now) }
-    ensures same { OnOk result (quiet_files folder.new ≡ quiet_files folder.old) }
+    ensures same { OnOk result (spec.HasSameFiles folder.old folder.new) }
 {
     let mut total = Counts::none();
     for file in set {

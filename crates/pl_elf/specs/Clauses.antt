@@ -107,6 +107,10 @@ load_windows ss = map load_window ss
 unfoldable pub overlap_in_file : List Segment → Bool
 overlap_in_file ss = any_share (load_windows (loads ss))
 
+-- two PT_LOADs of a file have a byte of it in common
+abbrev pub loads_overlap : List ℕ → Header → Bool
+loads_overlap bytes h = overlap_in_file (segments bytes h)
+
 -- a PT_TLS that is refused by itself
 abbrev pub bad_tls : Segment → Bool
 bad_tls s = is_of_kind PT_TLS s && bad_align s.align

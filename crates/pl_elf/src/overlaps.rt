@@ -51,7 +51,7 @@ fn shares_later(bytes: &[u8], header: &Header, first: &Extent, index: u16) -> bo
 #[tactic(auto, using(crate::proofs::TableLaws::pair_more, crate::proofs::TableLaws::pair_done), unfolding(crate::specs::Clauses::overlap_in_file))]
 fn any_pair_shares(bytes: &[u8], header: &Header) -> bool
     requires { HasSegments bytes.now header.now }
-    ensures { result ≡ spec.overlap_in_file (segments bytes.now header.now) }
+    ensures { result ≡ spec.loads_overlap bytes.now header.now }
 {
     for index in 0..header.phnum {
         let first = read_segment(bytes, header, index);
@@ -118,7 +118,7 @@ fn sweep(extents: &[Extent]) -> bool
 fn any_sorted_shares(bytes: &[u8], header: &Header) -> bool
     requires segments { HasSegments bytes.now header.now }
     requires room { header.now.phnum ≤ MOST }
-    ensures { result ≡ spec.overlap_in_file (segments bytes.now header.now) }
+    ensures { result ≡ spec.loads_overlap bytes.now header.now }
 {
     let mut table = [Extent::new(0, 0); MOST];
     let count = fill(bytes, header, &mut table);
@@ -130,7 +130,7 @@ fn any_sorted_shares(bytes: &[u8], header: &Header) -> bool
 /// Whether two PT_LOADs have a byte of the file in common. It takes no memory: few are compared in pairs, and many are sorted in a table of 1 MiB on the stack.
 pub fn overlap_in_file(bytes: &[u8], header: &Header) -> bool
     requires { HasSegments bytes.now header.now }
-    ensures { result ≡ spec.overlap_in_file (segments bytes.now header.now) }
+    ensures { result ≡ spec.loads_overlap bytes.now header.now }
 {
     if header.phnum <= FEW {
         any_pair_shares(bytes, header)

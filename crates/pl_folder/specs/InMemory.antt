@@ -9,7 +9,7 @@ use Rattle.pl_folder.specs.declared.memory_folder.MemoryFolder.{MemoryFolder}
 use Rattle.pl_folder.specs.declared.quiet_folder.QuietFolder.{QuietFolder}
 use Rattle.pl_folder.specs.Disk.{Disk}
 use Rattle.pl_folder.specs.Replay.{replay, started}
-use Rattle.pl_folder.specs.Seen.{Seen}
+use Rattle.pl_folder.specs.Seen.{Ending, Seen, is_broken}
 use Rattle.pl_folder.specs.Tables.{started_with, table_files}
 use Rattle.pl_folder.specs.Taken.{taken}
 
@@ -23,6 +23,10 @@ most_calls folder = folder.calls
 abbrev pub folder_files : MemoryFolder → Files
 folder_files folder = table_files folder.files
 
+-- a folder has the files that it had
+abbrev pub HasSameFiles : MemoryFolder → MemoryFolder → Type 0
+HasSameFiles old new = folder_files new ≡ folder_files old
+
 abbrev pub folder_disk : MemoryFolder → Disk
 folder_disk folder = replay folder.past.items (started_with folder.first)
 
@@ -33,6 +37,10 @@ folder_seen folder = record { tells = true; records = true; files = folder_files
 -- whether the next call fails: its number is listed, or there were as many calls as the folder answers
 abbrev pub call_fails : MemoryFolder → Bool
 call_fails folder = fails_next (folder_script folder) || nat_le (most_calls folder) (folder_script folder).calls
+
+-- where a call of the folder failed, it had to
+abbrev pub FailsAsScripted : MemoryFolder → Ending → Type 0
+FailsAsScripted folder how = is_broken how ≡ true → call_fails folder ≡ true
 
 -- what a `take` gives
 abbrev pub taken_next : MemoryFolder → List ℕ → Result (List ℕ) FolderFault

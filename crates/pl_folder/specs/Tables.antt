@@ -1,5 +1,5 @@
 -- The files that a table holds, and a disk that begins with them.
-use Rattle.std.specs.Prelude.{◌<◌, vec_len, vec_capacity}
+use Rattle.std.specs.Prelude.{◌≡◌, ◌<◌, vec_len, vec_capacity}
 use Rattle.std.specs.FinMap.{from_entries}
 use Rattle.pl_base.specs.Files.{Files}
 use Rattle.pl_folder.specs.declared.file_table.FileTable.{FileTable}
@@ -9,6 +9,10 @@ use Rattle.pl_folder.specs.Replay.{started}
 
 abbrev pub table_files : FileTable → Files
 table_files table = from_entries (entries_of table.files.items)
+
+-- a table has the files that it had
+abbrev pub HasSameFiles : FileTable → FileTable → Type 0
+HasSameFiles old new = table_files new ≡ table_files old
 
 -- one file more takes no memory
 abbrev pub HasRoom : FileTable → Type 0

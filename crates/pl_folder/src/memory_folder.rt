@@ -11,7 +11,7 @@ ghost use Rattle.pl_folder.specs.Effects.{Appends, Does, DoesOrNot, Waited, crea
 ghost use Rattle.pl_folder.specs.FileLists.{are_files};
 ghost use Rattle.pl_folder.specs.Kept.{IsKept, kept_prop};
 ghost use Rattle.pl_folder.specs.Replay.{replay, started};
-ghost use Rattle.pl_folder.specs.Seen.{ending, ends, is_broken};
+ghost use Rattle.pl_folder.specs.Seen.{ending, ends};
 ghost use Rattle.pl_folder.specs.Tables.{started_with, table_files};
 ghost use Rattle.pl_folder.specs.Taken.{Explains};
 
@@ -174,7 +174,7 @@ fn record(past: &mut Vec<Call>, call: Call)
 
 /// Each call fails exactly where the script says so, or there were as many calls as the folder answers, and then changes nothing. At every other answer the count of faults stands still.
 impl Folder for MemoryFolder {
-    ghost use Rattle.pl_folder.specs.InMemory.{IsCounted, call_fails, folder_files, folder_seen, taken_next};
+    ghost use Rattle.pl_folder.specs.InMemory.{FailsAsScripted, HasSameFiles, IsCounted, call_fails, folder_files, folder_seen, taken_next};
 
     ghost seen = { folder_seen };
 
@@ -183,7 +183,7 @@ impl Folder for MemoryFolder {
     fn names(&mut self, alloc: Global) -> Result<Vec<String>, FolderFault>
         ensures names { GivesNames result (folder_seen self.old) (folder_seen self.new) }
         ensures scripted_ok { OnOk result (call_fails self.old ≡ false) }
-        ensures scripted { (is_broken (ending result) ≡ true → call_fails self.old ≡ true) }
+        ensures scripted { FailsAsScripted self.old (ending result) }
         ensures call { IsCounted self.old self.new }
     {
         self.call()?;
@@ -196,7 +196,7 @@ impl Folder for MemoryFolder {
         ensures takes { Takes name.now result (folder_seen self.old) (folder_seen self.new) }
         ensures scripted_ok { IfOk result (λ bytes. taken_next self.old name.now ≡ Ok bytes.items) }
         ensures scripted { IfErr result (Explains true (taken_next self.old name.now)) }
-        ensures fails { is_broken (ending result) ≡ true → call_fails self.old ≡ true }
+        ensures fails { FailsAsScripted self.old (ending result) }
         ensures call { IsCounted self.old self.new }
     {
         self.call()?;
@@ -212,9 +212,9 @@ impl Folder for MemoryFolder {
         ensures calls { Calls (ending result) (Does (creates name.now)) (folder_seen self.old)
             (folder_seen self.new) }
         ensures plain { IfErr result IsPlain }
-        ensures same { OnErr result (folder_files self.new ≡ folder_files self.old) }
+        ensures same { OnErr result (HasSameFiles self.old self.new) }
         ensures scripted_ok { OnOk result (call_fails self.old ≡ false) }
-        ensures scripted { (is_broken (ending result) ≡ true → call_fails self.old ≡ true) }
+        ensures scripted { FailsAsScripted self.old (ending result) }
         ensures call { IsCounted self.old self.new }
     {
         self.call()?;
@@ -230,9 +230,9 @@ impl Folder for MemoryFolder {
         ensures calls { Calls (ending result) (Appends name.now bytes.now) (folder_seen self.old)
             (folder_seen self.new) }
         ensures plain { IfErr result IsPlain }
-        ensures same { OnErr result (folder_files self.new ≡ folder_files self.old) }
+        ensures same { OnErr result (HasSameFiles self.old self.new) }
         ensures scripted_ok { OnOk result (call_fails self.old ≡ false) }
-        ensures scripted { (is_broken (ending result) ≡ true → call_fails self.old ≡ true) }
+        ensures scripted { FailsAsScripted self.old (ending result) }
         ensures call { IsCounted self.old self.new }
     {
         self.call()?;
@@ -262,7 +262,7 @@ impl Folder for MemoryFolder {
         requires there { contains_key (folder_files self.old) from.now ≡ true }
         ensures calls { Calls (ends result) (Does (renames from.now to.now)) (folder_seen self.old)
             (folder_seen self.new) }
-        ensures same { OnErr result (folder_files self.new ≡ folder_files self.old) }
+        ensures same { OnErr result (HasSameFiles self.old self.new) }
         ensures scripted { is_ok result ≡ not (call_fails self.old) }
         ensures call { IsCounted self.old self.new }
     {
@@ -278,7 +278,7 @@ impl Folder for MemoryFolder {
         requires { IsNameLength name.now }
         ensures calls { Calls (ends result) (Does (removes name.now)) (folder_seen self.old)
             (folder_seen self.new) }
-        ensures same { OnErr result (folder_files self.new ≡ folder_files self.old) }
+        ensures same { OnErr result (HasSameFiles self.old self.new) }
         ensures scripted { is_ok result ≡ not (call_fails self.old) }
         ensures call { IsCounted self.old self.new }
     {

@@ -1,5 +1,6 @@
 -- The form of a library.
-use Rattle.std.specs.Prelude.{◌≡◌, ◌≤◌, ◌<◌, ◌+◌, ◌*◌, ◌%◌, ◌^◌, true, ℕ, List, Option, length}
+use Rattle.std.specs.Prelude.{◌≡◌, ◌≤◌, ◌<◌, ◌+◌, ◌*◌, ◌%◌, ◌^◌, true, ℕ, List, Option, Vec, length}
+use Rattle.std.specs.declared.alloc.Global.{Global}
 use Rattle.pl_base.specs.Windows.{IsIn}
 use Rattle.pl_elf.specs.Kinds.{is_library}
 use Rattle.pl_lists.specs.Lists.{is_list, list_strings}
@@ -58,3 +59,7 @@ pub record IsEven (slot : ℕ) : Type 0 where
 -- how long the form is at most: three times the original, the list, and less than 4 MiB
 abbrev pub most_bytes : List ℕ → List ListRow → ℕ
 most_bytes o list = 3 * length o + (length (list_strings list) + 20 * length list) + 4160457
+
+-- a form is no longer than that
+abbrev pub IsShortForm : List ℕ → List ListRow → Vec ℕ Global → Type 0
+IsShortForm o list form = length form.items ≤ most_bytes o list

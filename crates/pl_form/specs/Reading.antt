@@ -202,6 +202,10 @@ abbrev pub StoredIfAny : List ℕ → Option (Vec ℕ Global) → Type 0
 StoredIfAny form None = STORED < length form
 StoredIfAny form (Some v) = v.items ≡ form
 
+-- that of all that a file is made of, with these bytes at the places
+abbrev pub FormWithIfAny : Marked → List ℕ → Option (Vec ℕ Global) → Type 0
+FormWithIfAny m flat form = StoredIfAny (form_with m flat) form
+
 abbrev pub FormIfAny : List ℕ → Option Marked → Type 0
 FormIfAny file None = Unit {0}
 FormIfAny file (Some m) = IsFormOf file m

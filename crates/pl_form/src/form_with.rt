@@ -3,8 +3,7 @@ ghost use Rattle.std.specs.Prelude.{◌≡◌, ◌%◌, length, true, false, IfO
 ghost use Rattle.pl_elf.specs.Kinds.{is_library};
 ghost use Rattle.pl_parts.specs.Back.{wanted};
 ghost use Rattle.pl_parts.specs.Found.{ps_of};
-ghost use Rattle.pl_form.specs.Marks as spec;
-ghost use Rattle.pl_form.specs.Reading.{IsMade, StoredIfAny};
+ghost use Rattle.pl_form.specs.Reading.{FormWithIfAny, IsMade};
 ghost use Rattle.sha2.specs.Sha256.{sha256};
 
 use crate::library_form::library_with;
@@ -25,7 +24,7 @@ fn of_library(
     requires library { is_library marked.now.object.kind ≡ true }
     requires even { marked.now.slot % 2 ≡ 0 }
     requires filled { length flat.now ≡ wanted (ps_of marked.now.original) }
-    ensures { IfOk result (StoredIfAny (spec.form_with marked.now flat.now)) }
+    ensures { IfOk result (FormWithIfAny marked.now flat.now) }
 {
     let Ok(form) = library_with(
         alloc,
@@ -58,7 +57,7 @@ fn of_program(
     requires digest { digest.now ≡ sha256 marked.now.original }
     requires program { is_library marked.now.object.kind ≡ false }
     requires filled { length flat.now ≡ wanted (ps_of marked.now.original) }
-    ensures { IfOk result (StoredIfAny (spec.form_with marked.now flat.now)) }
+    ensures { IfOk result (FormWithIfAny marked.now flat.now) }
 {
     match program_with(
         alloc,
@@ -87,7 +86,7 @@ pub fn form_with(
     requires digest { digest.now ≡ sha256 marked.now.original }
     requires even { is_library marked.now.object.kind ≡ true → marked.now.slot % 2 ≡ 0 }
     requires filled { length flat.now ≡ wanted (ps_of marked.now.original) }
-    ensures { IfOk result (StoredIfAny (spec.form_with marked.now flat.now)) }
+    ensures { IfOk result (FormWithIfAny marked.now flat.now) }
 {
     if marked.object.kind.is_library() {
         of_library(alloc, marked, flat, digest)

@@ -211,7 +211,7 @@ pub fn library_with(
     requires digest { digest.now ≡ sha256 original.now }
     ensures form { IfOk result (λ v. v.items ≡ spec.library_with original.now slot stamp list.now
         flat.now version) }
-    ensures size { IfOk result (λ v. length v.items ≤ spec.most_bytes original.now list.now) }
+    ensures size { IfOk result (spec.IsShortForm original.now list.now) }
 {
     let checksum = word32(digest, 0);
     let mark = Mark {
@@ -245,7 +245,7 @@ pub fn form_library_with(
     requires digest { digest.now ≡ sha256 original.now }
     ensures form { IfOk result (λ v. v.items ≡ spec.library_form original.now slot stamp list.now
         words.now version) }
-    ensures size { IfOk result (λ v. length v.items ≤ spec.most_bytes original.now list.now) }
+    ensures size { IfOk result (spec.IsShortForm original.now list.now) }
 {
     let layout = layout_of(alloc, original, object)?;
     let flat = all_filled(alloc, original, layout.spots.as_slice(), words)?;
@@ -274,7 +274,7 @@ pub fn form_library(
     requires words { length words.now ≡ length object.now.relocations }
     ensures form { IfOk result (λ v. v.items ≡ spec.library_form original.now slot stamp list.now
         words.now version) }
-    ensures size { IfOk result (λ v. length v.items ≤ spec.most_bytes original.now list.now) }
+    ensures size { IfOk result (spec.IsShortForm original.now list.now) }
 {
     let digest = digest_of(original);
     form_library_with(

@@ -9,7 +9,7 @@ ghost use Rattle.pl_io.specs.Scripts.{one_more};
 ghost use Rattle.std.specs.IoError.{error_kind};
 ghost use Rattle.pl_hostdir.specs.Errors as spec;
 ghost use Rattle.pl_hostdir.specs.Errors.{calling_fault};
-ghost use Rattle.pl_hostdir.specs.Listing.{is_listed};
+ghost use Rattle.pl_hostdir.specs.Listing.{AreListed, HaveNameLengths};
 ghost use Rattle.pl_hostdir.specs.Unseen.{unseen};
 ghost use Rattle.std.proofs.lemmas.Bool.{false≢true};
 
@@ -204,10 +204,8 @@ where
 
     // `names`. In a folder that is locked, what has own names and is no file is cleared away.
     fn list(&self) -> Result<Vec<String>, FirstFault>
-        ensures listed { IfOk result (λ names. All (λ name. is_listed (string_bytes name) ≡ true)
-            names.items) }
-        ensures lengths { IfOk result (λ names. All (λ name. IsNameLength (string_bytes name))
-            names.items) }
+        ensures listed { IfOk result (λ names. AreListed names.items) }
+        ensures lengths { IfOk result (λ names. HaveNameLengths names.items) }
         ensures ascend { IfOk result (λ names. IsSorted string_cmp names.items) }
     {
         let names = list_names(&self.rt, &self.path)?;
@@ -243,8 +241,7 @@ where
     fn names(&mut self, _alloc: Global) -> Result<Vec<String>, FolderFault>
         ensures names { GivesNames result (unseen self.old.faults) (unseen self.new.faults) }
         // It lists no other names, ascending.
-        ensures listed { IfOk result (λ names. All (λ name. is_listed (string_bytes name) ≡ true)
-            names.items) }
+        ensures listed { IfOk result (λ names. AreListed names.items) }
         ensures ascend { IfOk result (λ names. IsSorted string_cmp names.items) }
     {
         match self.list() {

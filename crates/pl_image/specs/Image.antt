@@ -7,7 +7,7 @@ use Rattle.pl_elf.specs.Ranges.{range_from}
 use Rattle.pl_elf.specs.declared.range.Range.{Range}
 use Rattle.pl_image.specs.declared.loaded.Loaded.{Loaded}
 use Rattle.pl_image.specs.Loads.{is_masked}
-use Rattle.pl_image.specs.Lines.{only, text}
+use Rattle.pl_image.specs.Lines.{only, text, word_in}
 
 pub record Image : Type 0 where
   pub objects : List Loaded
@@ -65,6 +65,10 @@ pub record AreOwn (i : Image) (pieces : List Piece) : Type 0 where
 -- the image at the addresses of these pieces alone
 abbrev pub own_memory : Image → List Piece → Memory
 own_memory i pieces = only (map extent_of pieces) (byte_of i)
+
+-- a number is the word of this number of the image at these addresses alone
+abbrev pub IsOwnWord : Image → List Piece → ℕ → ℕ → Type 0
+IsOwnWord i pieces number word = word ≡ word_in (own_memory i pieces) (8 * number)
 
 -- how many bytes of a file are loaded
 abbrev pub stored : Piece → ℕ

@@ -16,6 +16,10 @@ use Rattle.pl_image.specs.declared.loaded.Loaded.{Loaded}
 
 -- ---- memory
 
+-- a segment that is loaded at a place ends within the limit of addresses
+abbrev pub EndsInLimit : ℕ → Segment → Type 0
+EndsInLimit place s = place + (s.vaddr + s.memsz) ≤ ADDRESS_LIMIT
+
 -- what a segment loads: its file bytes from its address on, then zeros
 abbrev pub loaded_piece : ℕ → List ℕ → Segment → Piece
 loaded_piece place bytes s = record { start = place + s.vaddr; size = s.memsz; bytes = part s.offset s.filesz bytes }

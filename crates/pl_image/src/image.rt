@@ -2,6 +2,7 @@ ghost use Rattle.std.specs.Prelude.{◌≡◌, ℕ, ◌+◌, ◌*◌, ◌/◌, �
 ghost use Rattle.std.specs.List.{All, list_any};
 ghost use Rattle.pl_base.specs.Memory.{layered};
 ghost use Rattle.pl_image.specs.Image as spec;
+ghost use Rattle.pl_image.specs.Image.{IsOwnWord};
 ghost use Rattle.pl_image.specs.Index.{AreTouching, is_touched, laid};
 ghost use Rattle.pl_image.specs.Lines.{HasPassed, IsClear, byte_in, word_in, word_lines};
 ghost use Rattle.pl_io.specs.Seen.{HasWrittenAll};
@@ -126,8 +127,7 @@ impl<'a> Image<'a> {
         requires own { spec.AreOwn self.now pieces.now }
         requires touching { AreTouching self.now.patches touching.now number }
         requires limit { number < WORDS }
-        ensures { IfSome result (λ word. word ≡ word_in (spec.own_memory self.now pieces.now)
-            (8 * number)) }
+        ensures { IfSome result (IsOwnWord self.now pieces.now number) }
     {
         if touching.len() > 0 || !self.is_shown(number) {
             return None;
@@ -144,8 +144,7 @@ impl<'a> Image<'a> {
         requires touching { AreTouching self.now.patches touching.now number }
         requires only { All (λ touch. touch.number ≡ number) touching.now }
         requires limit { number < WORDS }
-        ensures { IfSome result (λ word. word ≡ word_in (spec.own_memory self.now pieces.now)
-            (8 * number)) }
+        ensures { IfSome result (IsOwnWord self.now pieces.now number) }
     {
         if touching.len() == 0 || !self.is_shown(number) {
             return None;
@@ -165,8 +164,7 @@ impl<'a> Image<'a> {
         requires touching { AreTouching self.now.patches touching.now number }
         requires only { All (λ touch. touch.number ≡ number) touching.now }
         requires limit { number < WORDS }
-        ensures { IfSome result (λ word. word ≡ word_in (spec.own_memory self.now pieces.now)
-            (8 * number)) }
+        ensures { IfSome result (IsOwnWord self.now pieces.now number) }
     {
         if touching.len() == 0 {
             self.plain_word(pieces, touching, number)

@@ -12,7 +12,7 @@ use pl_object::Object;
 use std::alloc::{AllocError, Global};
 
 fn loaded_piece<'a>(bytes: &'a [u8], segment: &Segment, place: u64) -> Piece<'a>
-    requires { place + (segment.now.vaddr + segment.now.memsz) ≤ ADDRESS_LIMIT }
+    requires { spec.EndsInLimit place segment.now }
     ensures { result ≡ spec.loaded_piece place bytes.now segment.now }
 {
     Piece {
@@ -56,7 +56,7 @@ pub fn load_pieces<'a>(
 }
 
 fn load_at(segment: &Segment, place: u64) -> Load
-    requires { place + (segment.now.vaddr + segment.now.memsz) ≤ ADDRESS_LIMIT }
+    requires { spec.EndsInLimit place segment.now }
     ensures { result ≡ spec.load_at place segment.now }
 {
     Load {

@@ -16,6 +16,10 @@ ascends last (r ∷ rows) = nat_le last r.from && ascends r.from rows
 abbrev pub is_numbered : ℕ → ReachRow → Bool
 is_numbered count r = nat_lt r.from count && nat_lt r.to count && nat_lt r.via count
 
+-- the numbers of all rows are numbers of members
+abbrev pub are_numbered : ℕ → List ReachRow → Bool
+are_numbered count rows = list_all (is_numbered count) rows
+
 -- the rows of one member
 abbrev pub rows_of : List ReachRow → ℕ → List ReachRow
 rows_of rows m = filter (λ r. r.from == m) rows

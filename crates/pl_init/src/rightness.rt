@@ -35,7 +35,7 @@ fn is_numbered(count: usize, row: &ReachRow) -> bool
 }
 
 fn are_numbered(count: usize, rows: &[ReachRow]) -> bool
-    ensures { result ≡ list_all (spec.is_numbered count) rows.now }
+    ensures { result ≡ spec.are_numbered count rows.now }
 {
     rows.iter().all(|row| is_numbered(count, row))
 }
@@ -63,7 +63,7 @@ fn is_step(graph: &[Rows<u32>], seen: &[bool], row: &ReachRow) -> bool
 /// Whether the rows of a member are steps, each after those before it. If so, the members to which they lead are marked.
 fn are_steps(graph: &[Rows<u32>], seen: &mut [bool], member: u32, rows: &[ReachRow]) -> bool
     requires graph { IsGraph graph.now }
-    requires numbered { list_all (spec.is_numbered (length graph.now)) rows.now ≡ true }
+    requires numbered { spec.are_numbered (length graph.now) rows.now ≡ true }
     requires seen { AreMarks seen.old (is_seen member []) }
     ensures value { result ≡ spec.are_steps graph.now member [] (spec.rows_of rows.now member) }
     ensures seen { OnTrue result (AreMarks seen.new
@@ -94,7 +94,7 @@ fn holds_needs(graph: &[Rows<u32>], seen: &[bool], member: u32) -> bool
 fn is_closed(graph: &[Rows<u32>], seen: &[bool], member: u32, rows: &[ReachRow]) -> bool
     requires graph { IsGraph graph.now }
     requires within { member < length graph.now }
-    requires numbered { list_all (spec.is_numbered (length graph.now)) rows.now ≡ true }
+    requires numbered { spec.are_numbered (length graph.now) rows.now ≡ true }
     requires seen { AreMarks seen.now (is_seen member (spec.rows_of rows.now member)) }
     ensures { result ≡ spec.is_closed graph.now member (spec.rows_of rows.now member) }
 {
@@ -112,7 +112,7 @@ fn is_closed(graph: &[Rows<u32>], seen: &[bool], member: u32, rows: &[ReachRow])
 fn is_right_at(graph: &[Rows<u32>], rows: &[ReachRow], member: u32) -> bool
     requires graph { IsGraph graph.now }
     requires within { member < length graph.now }
-    requires numbered { list_all (spec.is_numbered (length graph.now)) rows.now ≡ true }
+    requires numbered { spec.are_numbered (length graph.now) rows.now ≡ true }
     ensures { result ≡ spec.is_right_at graph.now rows.now member }
 {
     let mut seen = no_marks();
@@ -122,7 +122,7 @@ fn is_right_at(graph: &[Rows<u32>], rows: &[ReachRow], member: u32) -> bool
 
 fn are_right(graph: &[Rows<u32>], rows: &[ReachRow]) -> bool
     requires graph { IsGraph graph.now }
-    requires numbered { list_all (spec.is_numbered (length graph.now)) rows.now ≡ true }
+    requires numbered { spec.are_numbered (length graph.now) rows.now ≡ true }
     ensures { result ≡ list_all (spec.is_right_at graph.now rows.now)
         (range_with_len 0 (length graph.now)) }
 {

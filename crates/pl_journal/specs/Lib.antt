@@ -11,3 +11,4 @@ pub mod Leaves
 pub mod Parts
 pub mod Laws
 pub mod RealDisk
+pub mod HeldFolder

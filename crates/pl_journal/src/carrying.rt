@@ -1,10 +1,10 @@
 ghost use Rattle.std.specs.Prelude.{◌≡◌, [], true, IfErr, OnOk};
 ghost use Rattle.pl_folder.specs.Calls.{Calls};
-ghost use Rattle.pl_folder.specs.Seen.{Done, ends};
+ghost use Rattle.pl_folder.specs.Seen.{ends};
 ghost use Rattle.pl_journal.specs.Faults.{IsNotBad, part_ending};
 ghost use Rattle.pl_journal.specs.Meaning.{rows_for};
 ghost use Rattle.pl_journal.specs.Parts.{CanPut, CarriesOut, IsRested, PutsInPlace};
-ghost use Rattle.pl_journal.specs.RealDisk.{RunsFirmly};
+ghost use Rattle.pl_journal.specs.HeldFolder.{EndsFirmly, StaysFirm};
 ghost use Rattle.pl_journal.specs.Spelling.{are_rows};
 
 use crate::committing::commit;
@@ -22,8 +22,7 @@ pub(crate) fn put_in_place<D: Folder>(held: &mut Held<D>, steps: &[Step]) -> Res
     requires { CanPut (D.seen held.old.folder) steps.now }
     ensures calls { Calls (ends result) (PutsInPlace steps.now) (D.seen held.old.folder)
         (D.seen held.new.folder) }
-    ensures real { RunsFirmly Done (D.seen held.old.folder)
-        (D.seen held.new.folder) }
+    ensures real { StaysFirm D.seen held.old held.new }
 {
     commit(held)?;
     do_rows(held, steps)?;
@@ -45,8 +44,7 @@ pub fn carry_out<D: Folder>(
     ensures plain { IfErr result IsNotBad }
     ensures ends { OnOk result (IsRested (D.seen held.new.folder)) }
     ensures nothing { changes.now ≡ [] → D.seen held.new.folder ≡ D.seen held.old.folder }
-    ensures real { RunsFirmly (part_ending result) (D.seen held.old.folder)
-        (D.seen held.new.folder) }
+    ensures real { EndsFirmly D.seen result held.old held.new }
 {
     if changes.is_empty() {
         return Ok(());

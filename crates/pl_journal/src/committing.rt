@@ -1,9 +1,9 @@
 ghost use Rattle.std.specs.Prelude.{OnOk};
 ghost use Rattle.pl_folder.specs.Calls.{Calls, IsThere};
-ghost use Rattle.pl_folder.specs.Seen.{Done, ends};
+ghost use Rattle.pl_folder.specs.Seen.{ends};
 ghost use Rattle.pl_journal.specs.Names as names;
 ghost use Rattle.pl_journal.specs.Parts.{CanGoOn, CanPut, Commits};
-ghost use Rattle.pl_journal.specs.RealDisk.{RunsFirmly};
+ghost use Rattle.pl_journal.specs.HeldFolder.{StaysFirm};
 
 use crate::Step;
 use crate::names::{JOURNAL, JOURNAL_NEW};
@@ -16,8 +16,7 @@ use pl_stage::Held;
 pub(crate) fn commit<D: Folder>(held: &mut Held<D>) -> Result<(), Failed>
     requires { IsThere (D.seen held.old.folder) names.journal_new }
     ensures calls { Calls (ends result) Commits (D.seen held.old.folder) (D.seen held.new.folder) }
-    ensures real { RunsFirmly Done (D.seen held.old.folder)
-        (D.seen held.new.folder) }
+    ensures real { StaysFirm D.seen held.old held.new }
 {
     held.folder.settle()?;
     name_firm(held, JOURNAL_NEW, JOURNAL)?;
@@ -29,8 +28,7 @@ pub fn commit_steps<D: Folder>(held: &mut Held<D>, steps: &[Step]) -> Result<(),
     requires { CanPut (D.seen held.old.folder) steps.now }
     ensures calls { Calls (ends result) Commits (D.seen held.old.folder) (D.seen held.new.folder) }
     ensures can { OnOk result (CanGoOn (D.seen held.new.folder) steps.now 0) }
-    ensures real { RunsFirmly Done (D.seen held.old.folder)
-        (D.seen held.new.folder) }
+    ensures real { StaysFirm D.seen held.old held.new }
 {
     commit(held)
 }

@@ -1,10 +1,10 @@
 ghost use Rattle.std.specs.Prelude.{◌≡◌, ◌+◌, nat_lt, length, IfOk, if◌then◌else◌};
 ghost use Rattle.pl_folder.specs.Calls.{Calls, IsThere};
-ghost use Rattle.pl_folder.specs.Seen.{Done, ends};
+ghost use Rattle.pl_folder.specs.Seen.{ends};
 ghost use Rattle.pl_journal.specs.FileNames.{name_text};
 ghost use Rattle.pl_journal.specs.declared.step.Step.TheVariants as steps;
 ghost use Rattle.pl_journal.specs.Parts.{CanDo, CanGoOn, CanStep, DoesRows, NextOn, StepsOn};
-ghost use Rattle.pl_journal.specs.RealDisk.{RunsFirmly};
+ghost use Rattle.pl_journal.specs.HeldFolder.{StaysFirm};
 
 use crate::naming::name_firm;
 use crate::{FileName, Step};
@@ -18,8 +18,7 @@ fn put_file<D: Folder>(held: &mut Held<D>, from: &FileName, to: &FileName) -> Re
     ensures calls { Calls (ends result) (StepsOn (steps.Put from.now to.now))
         (D.seen held.old.folder)
         (D.seen held.new.folder) }
-    ensures real { RunsFirmly Done (D.seen held.old.folder)
-        (D.seen held.new.folder) }
+    ensures real { StaysFirm D.seen held.old held.new }
 {
     name_firm(held, from.as_str(), to.as_str())
 }
@@ -28,8 +27,7 @@ fn put_file<D: Folder>(held: &mut Held<D>, from: &FileName, to: &FileName) -> Re
 fn drop_file<D: Folder>(held: &mut Held<D>, name: &FileName) -> Result<(), Failed>
     ensures calls { Calls (ends result) (StepsOn (steps.Drop name.now)) (D.seen held.old.folder)
         (D.seen held.new.folder) }
-    ensures real { RunsFirmly Done (D.seen held.old.folder)
-        (D.seen held.new.folder) }
+    ensures real { StaysFirm D.seen held.old held.new }
 {
     held.folder.remove(name.as_str())
 }
@@ -39,8 +37,7 @@ pub(crate) fn do_step<D: Folder>(held: &mut Held<D>, step: &Step) -> Result<(), 
     requires { CanStep (D.seen held.old.folder) step.now }
     ensures calls { Calls (ends result) (StepsOn step.now) (D.seen held.old.folder)
         (D.seen held.new.folder) }
-    ensures real { RunsFirmly Done (D.seen held.old.folder)
-        (D.seen held.new.folder) }
+    ensures real { StaysFirm D.seen held.old held.new }
 {
     match step {
         Step::Put { from, to } => put_file(held, from, to),
@@ -54,8 +51,7 @@ pub(crate) fn do_rows<D: Folder>(held: &mut Held<D>, steps: &[Step]) -> Result<(
     requires { CanDo (D.seen held.old.folder) steps.now }
     ensures calls { Calls (ends result) (DoesRows steps.now) (D.seen held.old.folder)
         (D.seen held.new.folder) }
-    ensures real { RunsFirmly Done (D.seen held.old.folder)
-        (D.seen held.new.folder) }
+    ensures real { StaysFirm D.seen held.old held.new }
 {
     for step in steps {
         do_step(held, step)?;
@@ -71,8 +67,7 @@ pub fn do_next<D: Folder>(held: &mut Held<D>, steps: &[Step], done: usize) -> Re
     ensures left { IfOk result (λ more. more ≡ nat_lt done (length steps.now)) }
     ensures can { IfOk result (λ more. CanGoOn (D.seen held.new.folder) steps.now
         (if more then done + 1 else done)) }
-    ensures real { RunsFirmly Done (D.seen held.old.folder)
-        (D.seen held.new.folder) }
+    ensures real { StaysFirm D.seen held.old held.new }
 {
     if done >= steps.len() {
         return Ok(false);

@@ -1,8 +1,8 @@
 ghost use Rattle.std.specs.Prelude.{◌≤◌, length, OnOk};
 ghost use Rattle.pl_folder.specs.Calls.{Calls};
-ghost use Rattle.pl_folder.specs.Seen.{Done, ends};
+ghost use Rattle.pl_folder.specs.Seen.{ends};
 ghost use Rattle.pl_journal.specs.Parts.{CanGoOn, Finishes, IsAtRest, IsStill};
-ghost use Rattle.pl_journal.specs.RealDisk.{RunsFirmly};
+ghost use Rattle.pl_journal.specs.HeldFolder.{StaysFirm};
 
 use crate::Step;
 use crate::names::JOURNAL;
@@ -14,8 +14,7 @@ use pl_stage::Held;
 pub(crate) fn finish<D: Folder>(held: &mut Held<D>) -> Result<(), Failed>
     ensures calls { Calls (ends result) Finishes (D.seen held.old.folder) (D.seen held.new.folder) }
     ensures settled { OnOk result (IsStill (D.seen held.new.folder)) }
-    ensures real { RunsFirmly Done (D.seen held.old.folder)
-        (D.seen held.new.folder) }
+    ensures real { StaysFirm D.seen held.old held.new }
 {
     held.folder.settle()?;
     held.folder.remove(JOURNAL)?;
@@ -32,8 +31,7 @@ pub fn finish_steps<D: Folder>(
     requires can { CanGoOn (D.seen held.old.folder) steps.now done }
     ensures calls { Calls (ends result) Finishes (D.seen held.old.folder) (D.seen held.new.folder) }
     ensures rested { OnOk result (IsAtRest (D.seen held.new.folder)) }
-    ensures real { RunsFirmly Done (D.seen held.old.folder)
-        (D.seen held.new.folder) }
+    ensures real { StaysFirm D.seen held.old held.new }
 {
     finish(held)
 }

@@ -3,13 +3,13 @@ ghost use Rattle.std.specs.FinMap.{get};
 ghost use Rattle.pl_base.specs.Names.{IsNameLength};
 ghost use Rattle.pl_folder.specs.Calls.{Calls};
 ghost use Rattle.pl_folder.specs.Disk.{after};
-ghost use Rattle.pl_folder.specs.Seen.{Done, ends};
+ghost use Rattle.pl_folder.specs.Seen.{ends};
 ghost use Rattle.pl_journal.specs.Faults.{part_ending};
 ghost use Rattle.pl_journal.specs.Leaves.{fault_of};
 ghost use Rattle.pl_journal.specs.Lists.{IsListOf, texts};
 ghost use Rattle.pl_journal.specs.Names.{journal};
-ghost use Rattle.pl_journal.specs.Parts.{AreNames, DoesJournal, DoesJournalOf, IsAtRest, IsQuiet, IsRested, Looking, Recovers, RecoversSettled, RemovesIfOwn, RemovesOwn, StepsSpelled};
-ghost use Rattle.pl_journal.specs.RealDisk.{RunsFirmly};
+ghost use Rattle.pl_journal.specs.Parts.{AreNames, DoesJournal, DoesJournalOf, IsAtRest, IsQuiet, IsRested, Looking, Recovers, RemovesIfOwn, RemovesOwn, StepsSpelled};
+ghost use Rattle.pl_journal.specs.HeldFolder.{RecoversHeld, StaysFirm};
 ghost use Rattle.pl_journal.specs.Reading.{rows_spelled};
 ghost use Rattle.pl_journal.specs.Rows.{rows_in};
 ghost use Rattle.pl_journal.specs.declared.fault.JournalFault.TheVariants as faults;
@@ -50,8 +50,7 @@ fn read_steps<D: Folder>(
         (get (D.seen held.old.folder).files)) }
     ensures bad { IfErr result (λ fault. fault ≡ faults.BadJournal → (D.seen held.old.folder).tells
         ≡ true → rows_in (get (D.seen held.old.folder).files journal) ≡ None) }
-    ensures real { RunsFirmly Done (D.seen held.old.folder)
-        (D.seen held.new.folder) }
+    ensures real { StaysFirm D.seen held.old held.new }
 {
     match held.folder.take(alloc, JOURNAL) {
         Ok(bytes) => steps_of(alloc, bytes.as_slice(), names),
@@ -71,8 +70,7 @@ fn do_journal<D: Folder>(
     requires { AreNames (D.seen held.old.folder) (texts names.now) }
     ensures calls { Calls (part_ending result) (DoesJournal (texts names.now) (fault_of result))
         (D.seen held.old.folder) (D.seen held.new.folder) }
-    ensures real { RunsFirmly Done (D.seen held.old.folder)
-        (D.seen held.new.folder) }
+    ensures real { StaysFirm D.seen held.old held.new }
 {
     if !is_in(names, JOURNAL) {
         return Ok(());
@@ -88,8 +86,7 @@ fn remove_if_own<D: Folder>(held: &mut Held<D>, name: &str) -> Result<(), Failed
     requires { IsNameLength name.now }
     ensures calls { Calls (ends result) (RemovesIfOwn name.now) (D.seen held.old.folder)
         (D.seen held.new.folder) }
-    ensures real { RunsFirmly Done (D.seen held.old.folder)
-        (D.seen held.new.folder) }
+    ensures real { StaysFirm D.seen held.old held.new }
 {
     if !is_own(name) {
         return Ok(());
@@ -102,8 +99,7 @@ fn remove_own<D: Folder>(held: &mut Held<D>, names: &[String]) -> Result<(), Fai
     requires { All (λ name. IsNameLength (string_bytes name)) names.now }
     ensures calls { Calls (ends result) (RemovesOwn (texts names.now)) (D.seen held.old.folder)
         (D.seen held.new.folder) }
-    ensures real { RunsFirmly Done (D.seen held.old.folder)
-        (D.seen held.new.folder) }
+    ensures real { StaysFirm D.seen held.old held.new }
 {
     for name in names {
         remove_if_own(held, name.as_str())?;
@@ -119,10 +115,8 @@ fn recover_named<D: Folder>(
 ) -> Result<(), JournalFault>
     requires names { AreNames (D.seen held.old.folder) (texts names.now) }
     requires lengths { All (λ name. IsNameLength (string_bytes name)) names.now }
-    ensures calls { Calls (part_ending result) (RecoversSettled (fault_of result))
-        (D.seen held.old.folder) (D.seen held.new.folder) }
-    ensures real { RunsFirmly Done (D.seen held.old.folder)
-        (D.seen held.new.folder) }
+    ensures calls { RecoversHeld D.seen result held.old held.new }
+    ensures real { StaysFirm D.seen held.old held.new }
 {
     do_journal(held, alloc, names)?;
     remove_own(held, names)?;
@@ -138,12 +132,10 @@ fn recover_listed<D: Folder>(
 ) -> Result<(), JournalFault>
     requires names { AreNames (D.seen held.old.folder) (texts names.now) }
     requires lengths { All (λ name. IsNameLength (string_bytes name)) names.now }
-    ensures calls { Calls (part_ending result) (RecoversSettled (fault_of result))
-        (D.seen held.old.folder) (D.seen held.new.folder) }
+    ensures calls { RecoversHeld D.seen result held.old held.new }
     ensures quiet { IsRested (D.seen held.old.folder) → (D.seen held.old.folder).tells ≡ true →
         D.seen held.new.folder ≡ D.seen held.old.folder }
-    ensures real { RunsFirmly Done (D.seen held.old.folder)
-        (D.seen held.new.folder) }
+    ensures real { StaysFirm D.seen held.old held.new }
 {
     if !has_own(names) {
         return Ok(());
@@ -153,13 +145,11 @@ fn recover_listed<D: Folder>(
 
 /// Recovers a settled folder. Where none of the journal's own names is there it asks for the names alone.
 fn recover_settled<D: Folder>(held: &mut Held<D>, alloc: Global) -> Result<(), JournalFault>
-    ensures calls { Calls (part_ending result) (RecoversSettled (fault_of result))
-        (D.seen held.old.folder) (D.seen held.new.folder) }
+    ensures calls { RecoversHeld D.seen result held.old held.new }
     ensures quiet { OnOk result (IsRested (D.seen held.old.folder) →
         (D.seen held.old.folder).records ≡ true → (D.seen held.new.folder).disk ≡ after
         (D.seen held.old.folder).disk.now (D.seen held.old.folder).disk) }
-    ensures real { RunsFirmly Done (D.seen held.old.folder)
-        (D.seen held.new.folder) }
+    ensures real { StaysFirm D.seen held.old held.new }
 {
     let names = held.folder.names(alloc)?;
     recover_listed(held, alloc, names.as_slice())
@@ -173,8 +163,7 @@ pub fn recover_lent<D: Folder>(held: &mut Held<D>, alloc: Global) -> Result<(), 
         (D.seen held.new.folder) }
     ensures rested { OnOk result (IsAtRest (D.seen held.new.folder)) }
     ensures quiet { OnOk result (IsQuiet (D.seen held.old.folder) (D.seen held.new.folder)) }
-    ensures real { RunsFirmly Done (D.seen held.old.folder)
-        (D.seen held.new.folder) }
+    ensures real { StaysFirm D.seen held.old held.new }
 {
     held.folder.settle()?;
     recover_settled(held, alloc)

@@ -7,7 +7,7 @@ ghost use Rattle.pl_journal.specs.Leaves.{DoEdits};
 ghost use Rattle.pl_journal.specs.Meaning.{rows_for};
 ghost use Rattle.pl_journal.specs.Names as names;
 ghost use Rattle.pl_journal.specs.Parts.{CanPut, IsRested, PutsOwn, Stages, StagesFiles, StagesOne};
-ghost use Rattle.pl_journal.specs.RealDisk.{RunsFirmly};
+ghost use Rattle.pl_journal.specs.HeldFolder.{EndsFirmly};
 ghost use Rattle.pl_journal.specs.Spelling.{are_rows};
 
 use crate::names::{JOURNAL_NEW, beside};
@@ -31,8 +31,7 @@ fn put_own<D: Folder>(
     ensures calls { Calls (part_ending result) (PutsOwn name.now bytes.now) (D.seen held.old.folder)
         (D.seen held.new.folder) }
     ensures plain { IfErr result IsNotBad }
-    ensures real { RunsFirmly (part_ending result) (D.seen held.old.folder)
-        (D.seen held.new.folder) }
+    ensures real { EndsFirmly D.seen result held.old held.new }
 {
     held.folder.create(alloc, name)?;
     held.folder.append(alloc, name, bytes)?;
@@ -50,8 +49,7 @@ fn put_beside<D: Folder>(
     ensures calls { Calls (part_ending result) (PutsOwn (names.beside number) bytes.now)
         (D.seen held.old.folder) (D.seen held.new.folder) }
     ensures plain { IfErr result IsNotBad }
-    ensures real { RunsFirmly (part_ending result) (D.seen held.old.folder)
-        (D.seen held.new.folder) }
+    ensures real { EndsFirmly D.seen result held.old held.new }
 {
     let name = beside(alloc, number)?;
     put_own(held, alloc, name.as_str(), bytes)
@@ -67,8 +65,7 @@ fn stage_one<D: Folder>(
     ensures calls { Calls (part_ending result) (StagesOne number change.now)
         (D.seen held.old.folder) (D.seen held.new.folder) }
     ensures plain { IfErr result IsNotBad }
-    ensures real { RunsFirmly (part_ending result) (D.seen held.old.folder)
-        (D.seen held.new.folder) }
+    ensures real { EndsFirmly D.seen result held.old held.new }
 {
     match change {
         Change::Put { name: _, bytes } => put_beside(held, alloc, number, bytes.as_slice()),
@@ -86,8 +83,7 @@ fn stage_files<D: Folder>(
     ensures calls { Calls (part_ending result) (StagesFiles changes.now) (D.seen held.old.folder)
         (D.seen held.new.folder) }
     ensures plain { IfErr result IsNotBad }
-    ensures real { RunsFirmly (part_ending result) (D.seen held.old.folder)
-        (D.seen held.new.folder) }
+    ensures real { EndsFirmly D.seen result held.old held.new }
 {
     for number in 0..changes.len() {
         stage_one(held, alloc, number, &changes[number])?;
@@ -108,8 +104,7 @@ pub fn stage_changes<D: Folder>(
     ensures plain { IfErr result IsNotBad }
     ensures steps { IfOk result (DoEdits 0 changes.now) }
     ensures can { IfOk result (CanPut (D.seen held.new.folder)) }
-    ensures real { RunsFirmly (part_ending result) (D.seen held.old.folder)
-        (D.seen held.new.folder) }
+    ensures real { EndsFirmly D.seen result held.old held.new }
 {
     let bytes = write_journal(alloc, changes)?;
     let steps = plan_changes(alloc, changes)?;

@@ -3,6 +3,7 @@ ghost use Rattle.std.specs.Prelude.{◌≡◌, ◌≤◌, true, IfErr, IfOk, OnO
 ghost use Rattle.std.specs.Borrow.{sem, RestsIfErr};
 ghost use Rattle.pl_folder.specs.Calls.{Calls};
 ghost use Rattle.pl_folder.specs.Seen.{Done, ends};
+ghost use Rattle.pl_stage.specs.Loans.{HoldsLoan};
 ghost use Rattle.pl_stage.specs.contracts.held.Held.{the_row};
 ghost use Rattle.pl_journal.specs.Faults.{IsNotBad, part_ending};
 ghost use Rattle.pl_journal.specs.Leaves.{DoEdits, fault_of};
@@ -31,7 +32,7 @@ pub fn recover<'a, D: Folder>(
     ensures* rests { sem 𝓛 (RestsIfErr (the_row D.row) held.entry (λ it. it.held.ghost_name) result
         (λ n. Calls (part_ending result) (Recovers (fault_of result)) (D.seen held.old.folder)
         (D.seen n.folder))) }
-    ensures same_reference { IfOk result (λ it. it.held.ghost_name ≡ held.entry.ghost_name) }
+    ensures same_reference { HoldsLoan result (λ it. it.held) held.entry }
     ensures calls { IfOk result (λ it. Calls Done (Recovers None) (D.seen held.old.folder)
         (D.seen it.held.now.folder)) }
     ensures rested { IfOk result (λ it. IsAtRest (D.seen it.held.now.folder)) }
@@ -60,8 +61,7 @@ impl<'a, D: Folder> Settled<'a, D> {
             (λ it. it.held.ghost_name) result
             (λ n. Calls (part_ending result) (Stages changes.now)
             (D.seen self.entry.held.now.folder) (D.seen n.folder))) }
-        ensures same_reference { IfOk result
-            (λ it. it.held.ghost_name ≡ self.entry.held.ghost_name) }
+        ensures same_reference { HoldsLoan result (λ it. it.held) self.entry.held }
         ensures calls { IfOk result (λ it. Calls Done (Stages changes.now)
             (D.seen self.entry.held.now.folder) (D.seen it.held.now.folder)) }
         ensures plain { IfErr result IsNotBad }
@@ -82,8 +82,7 @@ impl<'a, D: Folder> Staged<'a, D> {
             (λ it. it.held.ghost_name) result
             (λ n. Calls (ends result) Commits (D.seen self.entry.held.now.folder)
             (D.seen n.folder))) }
-        ensures same_reference { IfOk result
-            (λ it. it.held.ghost_name ≡ self.entry.held.ghost_name) }
+        ensures same_reference { HoldsLoan result (λ it. it.held) self.entry.held }
         ensures calls { IfOk result (λ it. Calls Done Commits (D.seen self.entry.held.now.folder)
             (D.seen it.held.now.folder)) }
         ensures begins { IfOk result (λ it. (it.steps ≡ self.entry.steps) × (it.done ≡ 0) × CanGoOn
@@ -144,8 +143,7 @@ impl<'a, D: Folder> Committed<'a, D> {
             (λ it. it.held.ghost_name) result
             (λ n. Calls (ends result) Finishes (D.seen self.entry.held.now.folder)
             (D.seen n.folder))) }
-        ensures same_reference { IfOk result
-            (λ it. it.held.ghost_name ≡ self.entry.held.ghost_name) }
+        ensures same_reference { HoldsLoan result (λ it. it.held) self.entry.held }
         ensures calls { IfOk result (λ it. Calls Done Finishes (D.seen self.entry.held.now.folder)
             (D.seen it.held.now.folder)) }
         ensures rested { IfOk result (λ it. IsAtRest (D.seen it.held.now.folder)) }

@@ -11,6 +11,7 @@ use Rattle.pl_object.specs.declared.object.Object.{Object}
 use Rattle.pl_elf.specs.Kinds.{is_library}
 use Rattle.pl_elf.specs.declared.range.Range.{Range}
 use Rattle.pl_scope.specs.Walking.{Walking, IsWalking}
+use Rattle.pl_value.specs.Ordinary.{ArePlaced}
 use Rattle.pl_loader.specs.declared.object_file.Mark.{Mark}
 use Rattle.pl_loader.specs.declared.object_file.ObjectFile.{ObjectFile}
 
@@ -26,6 +27,10 @@ objects_of files = map (λ f. f.object) files
 -- the originals
 abbrev pub parts_of : List ObjectFile → List (List ℕ)
 parts_of files = map (λ f. f.bytes) files
+
+-- the originals of files may be loaded at these places
+abbrev pub ArePlacedFiles : List ℕ → List ObjectFile → Type 0
+ArePlacedFiles places files = ArePlaced places (parts_of files) (objects_of files)
 
 -- all that a prelinked file is made of, in a version
 abbrev pub made_of : ObjectFile → Mark → Version → Marked

@@ -1,7 +1,7 @@
 -- What a load starts from: the objects at their addresses, the modules of thread-local storage, the entry and the memory (System V gABI, chapter 5; Drepper, "ELF Handling for Thread-Local Storage").
 use Rattle.std.specs.Prelude.{◌≡◌, ℕ, ◌+◌, List, [], ◌∷◌, map, fold, min, max, Option, Some, None, Bool, Result, Ok, Err, ◌⊎◌, true, slice_get, ◌==◌, if◌then◌else◌}
 use Rattle.std.specs.List.{zip}
-use Rattle.pl_base.specs.Answers.{◌>>=◌, because}
+use Rattle.pl_base.specs.Answers.{◌>>=◌, Answers, Tells, because}
 use Rattle.pl_base.specs.Memory.{Memory}
 use Rattle.pl_base.specs.Sums.{round_up, round_down}
 use Rattle.pl_elf.specs.Headers.{loads}
@@ -18,10 +18,12 @@ use Rattle.pl_value.specs.declared.fault.LinkFault.{LinkFault}
 use Rattle.pl_value.specs.declared.fault.LinkFault.TheVariants as link
 use Rattle.pl_loader.specs.Faults.{is_memory, of_tls}
 use Rattle.pl_loader.specs.Fast.{is_fast, fast_image}
-use Rattle.pl_loader.specs.Loading.{objects_of, parts_of}
-use Rattle.pl_place.specs.Policy.{Answering, Choice}
+use Rattle.pl_loader.specs.Loading.{Loading, objects_of, parts_of}
+use Rattle.pl_place.specs.Policy.{Answering, Choice, Follows}
 use Rattle.pl_loader.specs.Places.{places, IsPlaced, IsUnplaced}
-use Rattle.pl_loader.specs.Walk.{files}
+use Rattle.pl_loader.specs.Walk.{IsFile, IsUnderWay, files}
+use Rattle.pl_scope.specs.Walk.{itself}
+use Rattle.pl_scope.specs.Walking.{wants}
 use Rattle.pl_loader.specs.declared.object_file.ObjectFile.{ObjectFile}
 use Rattle.pl_loader.specs.declared.placed.Placed.{Placed}
 use Rattle.pl_loader.specs.declared.tls_module.TlsModule.{TlsModule}
@@ -203,3 +205,36 @@ pub record IsRefusedBy (post : Answering) (busy : Option Range) (files : List Ob
 abbrev pub FailsBy : Answering → Option Range → List ObjectFile → LoadFault → Type 0
 FailsBy post busy files fault =
     (is_memory fault ≡ true) ⊎ ((modules_of files ≡ Err fault) ⊎ (IsUnplacedBy post busy files fault ⊎ IsRefusedBy post busy files fault))
+
+-- ---- by any policy that is a function
+
+-- whatever function the policy follows, the start is what these files start from
+abbrev pub StartsByChoice : Answering → Option Range → List ObjectFile → code.Started → Type 0
+StartsByChoice post busy files s = (choose : Choice) → Follows post choose → Starts s (started choose busy files)
+
+-- whatever function the policy follows, the fault is why these files do not start, or a want of memory
+abbrev pub FailsByChoice : Answering → Option Range → List ObjectFile → LoadFault → Type 0
+FailsByChoice post busy files fault = (choose : Choice) → Follows post choose → Answers is_memory (Err fault) (started choose busy files)
+
+-- whatever folder holds these files, the start is what its whole load starts from
+abbrev pub StartsEveryLoad : Answering → Option Range → Loading → code.Started → Type 0
+StartsEveryLoad post busy l s =
+    (choose : Choice) (files : List ℕ → Result (List ℕ) LoadFault) (name : List ℕ) → Follows post choose → IsUnderWay itself files name l
+    → Starts s (load choose busy itself files name)
+
+-- whatever folder holds these files, its whole load ends with this fault, or this is a want of memory
+abbrev pub FailsEveryLoad : Answering → Option Range → Loading → LoadFault → Type 0
+FailsEveryLoad post busy l fault =
+    (choose : Choice) (files : List ℕ → Result (List ℕ) LoadFault) (name : List ℕ) → Follows post choose → IsUnderWay itself files name l
+    → Answers is_memory (Err fault) (load choose busy itself files name)
+
+-- whatever folder holds the wanted name's file as it is given, its whole load ends with this fault, or this is a want of memory
+abbrev pub EndsEveryLoad : Loading → Option (List ℕ) → LoadFault → Type 0
+EndsEveryLoad l file fault =
+    (choose : Choice) (busy : Option Range) (files : List ℕ → Result (List ℕ) LoadFault) (name wanted : List ℕ) → wants l.order ≡ Some wanted
+    → IsFile itself files wanted file → IsUnderWay itself files name l → Answers is_memory (Err fault) (load choose busy itself files name)
+
+-- whatever folder tells of no want of memory, the whole load of this name tells of none
+abbrev pub LoadsWithoutMemoryFault : Option Range → List ℕ → Type 0
+LoadsWithoutMemoryFault busy name =
+    (choose : Choice) (files : List ℕ → Result (List ℕ) LoadFault) → ((n : List ℕ) → Tells is_memory (files n)) → Tells is_memory (load choose busy itself files name)

@@ -11,7 +11,7 @@ use Rattle.pl_form.specs.declared.file.Marked as form
 use Rattle.pl_object.specs.declared.object.Object.{Object}
 use Rattle.pl_elf.specs.Kinds.{is_library}
 use Rattle.pl_scope.specs.Walking.{Walking, IsWalking, wants}
-use Rattle.pl_scope.specs.Walk.{Walked}
+use Rattle.pl_scope.specs.Walk.{Walked, itself}
 use Rattle.pl_scope.specs.Walk as walk
 use Rattle.pl_scope.specs.declared.fault.WalkFault.{WalkFault}
 use Rattle.pl_loader.specs.Faults.{of_file, of_walk}
@@ -111,3 +111,13 @@ pub record IsUnderWay {E : Type 0} (fault : LoadFault → E) (file : List ℕ �
 abbrev pub IsFile : {E : Type 0} → (LoadFault → E) → (List ℕ → Result (List ℕ) E) → List ℕ → Option (List ℕ) → Type 0
 IsFile fault file n (Some bytes) = file n ≡ Ok bytes
 IsFile fault file n None = file n ≡ Err (fault (NotThere n))
+
+-- whatever folder holds the files, the whole load of this name is still to come
+abbrev pub BeginsEveryLoad : List ℕ → Loading → Type 0
+BeginsEveryLoad name l = (files : List ℕ → Result (List ℕ) LoadFault) → IsUnderWay itself files name l
+
+-- whatever folder holds the wanted name's file as it is given, the load goes on with one file more
+abbrev pub ContinuesEveryLoad : Loading → Option (List ℕ) → Loading → Type 0
+ContinuesEveryLoad l file next =
+    (files : List ℕ → Result (List ℕ) LoadFault) (name wanted : List ℕ) → wants l.order ≡ Some wanted → IsFile itself files wanted file
+    → IsUnderWay itself files name l → IsUnderWay itself files name next

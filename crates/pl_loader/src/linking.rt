@@ -3,9 +3,8 @@ ghost use Rattle.std.specs.Prelude.{◌≡◌, ◌≤◌, length, map, slice_get
 ghost use Rattle.pl_base.specs.Answers.{Answers};
 ghost use Rattle.pl_scope.specs.Scope.{objects};
 ghost use Rattle.pl_scope.specs.declared.constants.TheConstants.{MAX_MEMBERS};
-ghost use Rattle.pl_value.specs.Ordinary.{ArePlaced};
 ghost use Rattle.pl_loader.specs.Faults.{is_memory};
-ghost use Rattle.pl_loader.specs.Loading.{AreFiles, objects_of, parts_of};
+ghost use Rattle.pl_loader.specs.Loading.{AreFiles, ArePlacedFiles, objects_of, parts_of};
 ghost use Rattle.pl_loader.specs.Started as spec;
 ghost use Rattle.pl_loader.specs.Walk.{member};
 
@@ -116,7 +115,7 @@ pub fn linked<'a>(
     requires files { AreFiles files.now }
     requires few { length files.now ≤ MAX_MEMBERS }
     requires one_each { length places.now ≡ length files.now }
-    requires placed { ArePlaced places.now (parts_of files.now) (objects_of files.now) }
+    requires placed { ArePlacedFiles places.now files.now }
     ensures ok { IfOk result (λ image. spec.IsLinked image files.now places.now
         (spec.linked files.now places.now modules.now)) }
     ensures err { IfErr result (λ fault. Answers is_memory (Err fault)

@@ -1,11 +1,8 @@
-ghost use Rattle.std.specs.Prelude.{◌≡◌, ◌<◌, ◌^◌, ℕ, List, Option, length, Some, None, Result, Ok, Err, IsSome, IfOk, IfErr, OnOk, OnErr};
+ghost use Rattle.std.specs.Prelude.{◌≡◌, ◌<◌, ◌^◌, length, None, Ok, Err, IsSome, IfOk, IfErr, OnOk, OnErr};
 ghost use Rattle.std.specs.Option.{option_map, ForSome};
-ghost use Rattle.pl_base.specs.Answers.{Answers, Tells};
-ghost use Rattle.pl_elf.specs.declared.range.Range as range;
+ghost use Rattle.pl_base.specs.Answers.{Answers};
 ghost use Rattle.pl_place.specs.Policy as policy;
-ghost use Rattle.pl_scope.specs.Walk.{itself};
 ghost use Rattle.pl_scope.specs.Walking.{wants};
-ghost use Rattle.pl_loader.specs.declared.fault.LoadFault as faults;
 ghost use Rattle.pl_loader.specs.Faults.{is_memory};
 ghost use Rattle.pl_loader.specs.Loading.{IsLoading};
 ghost use Rattle.pl_loader.specs.Started as start;
@@ -47,14 +44,10 @@ impl<'p, F> Loader<'p, F> {
         ensures begun { IfOk result (λ loader. loader
             ≡ record { walk = spec.begun name.now; busy = busy; policy = placer.entry.now }) }
         // all files of the walk of the name are still to come
-        ensures begins { IfOk result (λ loader. (file : List ℕ → Result (List ℕ) faults.LoadFault)
-            → spec.IsUnderWay itself file name.now loader.walk) }
+        ensures begins { IfOk result (λ loader. spec.BeginsEveryLoad name.now loader.walk) }
         // a law over definitions: the whole load means no want of memory where what is told of its
         // files does not
-        ensures never_memory { (choose : policy.Choice)
-            (file : List ℕ → Result (List ℕ) faults.LoadFault)
-            → ((n : List ℕ) → Tells is_memory (file n))
-            → Tells is_memory (start.load choose busy itself file name.now) }
+        ensures never_memory { start.LoadsWithoutMemoryFault busy name.now }
     {
         Ok(Loader {
             walk: WalkFiles::new(alloc, name)?,
@@ -84,18 +77,11 @@ impl<'p, F> Loader<'p, F> {
         ensures same { self.new ≡ record self.old { walk = self.new.walk } }
         ensures unchanged { OnErr result (self.new ≡ self.old) }
         // where the file is the one that the name has, the load goes on with one file more,
-        ensures goes_on { OnOk result ((files : List ℕ → Result (List ℕ) faults.LoadFault)
-            (name wanted : List ℕ) → wants self.old.walk.order ≡ Some wanted
-            → spec.IsFile itself files wanted (option_map (λ bytes. bytes.items) file)
-            → spec.IsUnderWay itself files name self.old.walk
-            → spec.IsUnderWay itself files name self.new.walk) }
+        ensures goes_on { OnOk result (spec.ContinuesEveryLoad self.old.walk
+            (option_map (λ bytes. bytes.items) file) self.new.walk) }
         // or the fault is what the whole load means
-        ensures stops { IfErr result (λ fault. (choose : policy.Choice) (busy : Option range.Range)
-            (files : List ℕ → Result (List ℕ) faults.LoadFault) (name wanted : List ℕ)
-            → wants self.old.walk.order ≡ Some wanted
-            → spec.IsFile itself files wanted (option_map (λ bytes. bytes.items) file)
-            → spec.IsUnderWay itself files name self.old.walk
-            → Answers is_memory (Err fault) (start.load choose busy itself files name)) }
+        ensures stops { IfErr result (start.EndsEveryLoad self.old.walk
+            (option_map (λ bytes. bytes.items) file)) }
     {
         self.walk.give(alloc, file)
     }
@@ -139,24 +125,15 @@ impl<'p, F: Fn(&Holes, u64, u64) -> Option<u64>> Loader<'p, F> {
         ensures err { IfErr result (start.FailsBy (F.post self.now.policy) self.now.busy
             self.now.walk.files) }
         // where the policy is a function, this is what the files start from,
-        ensures exact { IfOk result (λ s. (choose : policy.Choice)
-            → policy.Follows (F.post self.now.policy) choose
-            → start.Starts s (start.started choose self.now.busy self.now.walk.files)) }
-        ensures exact_fault { IfErr result (λ fault. (choose : policy.Choice)
-            → policy.Follows (F.post self.now.policy) choose
-            → Answers is_memory (Err fault) (start.started choose self.now.busy
-            self.now.walk.files)) }
+        ensures exact { IfOk result (start.StartsByChoice (F.post self.now.policy) self.now.busy
+            self.now.walk.files) }
+        ensures exact_fault { IfErr result (start.FailsByChoice (F.post self.now.policy)
+            self.now.busy self.now.walk.files) }
         // and where all files are those that the names have, this is what the name starts from
-        ensures whole { IfOk result (λ s. (choose : policy.Choice)
-            (files : List ℕ → Result (List ℕ) faults.LoadFault) (name : List ℕ)
-            → policy.Follows (F.post self.now.policy) choose
-            → spec.IsUnderWay itself files name self.now.walk
-            → start.Starts s (start.load choose self.now.busy itself files name)) }
-        ensures fails { IfErr result (λ fault. (choose : policy.Choice)
-            (files : List ℕ → Result (List ℕ) faults.LoadFault) (name : List ℕ)
-            → policy.Follows (F.post self.now.policy) choose
-            → spec.IsUnderWay itself files name self.now.walk
-            → Answers is_memory (Err fault) (start.load choose self.now.busy itself files name)) }
+        ensures whole { IfOk result (start.StartsEveryLoad (F.post self.now.policy) self.now.busy
+            self.now.walk) }
+        ensures fails { IfErr result (start.FailsEveryLoad (F.post self.now.policy) self.now.busy
+            self.now.walk) }
     {
         started(alloc, self.placer(), self.busy(), self.files())
     }

@@ -4,13 +4,12 @@ ghost use Rattle.std.specs.List.{All};
 ghost use Rattle.pl_elf.specs.Headers.{is_load};
 ghost use Rattle.pl_elf.specs.declared.constants.TheConstants.{ADDRESS_LIMIT};
 ghost use Rattle.pl_image.specs.Image.{ascends, AreLoaded};
-ghost use Rattle.pl_image.specs.Loads.{IsPlaced};
+ghost use Rattle.pl_image.specs.Loads.{EndsInLimit, IsPlaced};
 ghost use Rattle.pl_parts.specs.Loads as parts;
-ghost use Rattle.pl_value.specs.Ordinary.{ArePlaced};
 ghost use Rattle.pl_conflict.specs.Fast as patch_spec;
 ghost use Rattle.pl_conflict.specs.Standing.{standing, standing_at};
 ghost use Rattle.pl_loader.specs.Fast as spec;
-ghost use Rattle.pl_loader.specs.Loading.{AreFiles, IsRead, objects_of, parts_of};
+ghost use Rattle.pl_loader.specs.Loading.{AreFiles, ArePlacedFiles, IsRead, objects_of};
 ghost use Rattle.pl_loader.specs.declared.fault.LoadFault.TheVariants as faults;
 
 use crate::{LoadFault, ObjectFile};
@@ -32,7 +31,7 @@ fn stored(file: &ObjectFile) -> &[u8]
 
 /// A segment as a file bears it, at the address and of the size of the original's.
 fn piece<'a>(bytes: &'a [u8], segment: &Segment, borne: &Segment, place: u64) -> Piece<'a>
-    requires { place + (segment.now.vaddr + segment.now.memsz) ≤ ADDRESS_LIMIT }
+    requires { EndsInLimit place segment.now }
     ensures { result ≡ parts.stands place bytes.now segment.now borne.now }
 {
     Piece {
@@ -50,8 +49,7 @@ fn add_piece<'a>(
     borne: &Segment,
     place: u64,
 ) -> Result<(), AllocError>
-    requires { is_load segment.now ≡ true → place + (segment.now.vaddr + segment.now.memsz) ≤
-        ADDRESS_LIMIT }
+    requires { is_load segment.now ≡ true → EndsInLimit place segment.now }
     ensures { OnOk result (pieces.new ≡ pieces.old
         ++ (if is_load segment.now then parts.stands place bytes.now segment.now borne.now
         ∷ [] else [])) }
@@ -119,7 +117,7 @@ fn standing_files<'a>(
     requires files { AreFiles files.now }
     requires marked { All spec.IsMarked files.now }
     requires one_each { length places.now ≡ length files.now }
-    requires placed { ArePlaced places.now (parts_of files.now) (objects_of files.now) }
+    requires placed { ArePlacedFiles places.now files.now }
     ensures value { IfOk result (λ v. v.items ≡ standing places.now (map spec.stored files.now)
         (objects_of files.now)) }
     ensures loaded { IfOk result (λ v. AreLoaded v.items) }
@@ -176,7 +174,7 @@ pub fn standing<'a>(
     requires files { AreFiles files.now }
     requires fast { spec.is_fast files.now places.now ≡ true }
     requires one_each { length places.now ≡ length files.now }
-    requires placed { ArePlaced places.now (parts_of files.now) (objects_of files.now) }
+    requires placed { ArePlacedFiles places.now files.now }
     ensures exact { IfOk result (λ image. image ≡ spec.fast_image files.now places.now) }
     ensures err { IfErr result (λ fault. fault ≡ faults.NoMemory) }
 {

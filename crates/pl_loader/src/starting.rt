@@ -3,10 +3,9 @@ ghost use Rattle.std.specs.Prelude.{◌≡◌, ◌≤◌, length, true, Err, IfO
 ghost use Rattle.pl_base.specs.Answers.{Answers};
 ghost use Rattle.pl_place.specs.Policy as policy;
 ghost use Rattle.pl_scope.specs.declared.constants.TheConstants.{MAX_MEMBERS};
-ghost use Rattle.pl_value.specs.Ordinary.{ArePlaced};
 ghost use Rattle.pl_loader.specs.Fast.{fast_image, is_fast as is_fast_spec};
 ghost use Rattle.pl_loader.specs.Faults.{is_memory};
-ghost use Rattle.pl_loader.specs.Loading.{AreFiles, objects_of, parts_of};
+ghost use Rattle.pl_loader.specs.Loading.{AreFiles, ArePlacedFiles};
 ghost use Rattle.pl_loader.specs.Started as spec;
 
 use crate::bounds::all_placed;
@@ -44,7 +43,7 @@ fn imaged<'a>(
     requires files { AreFiles files.now }
     requires few { length files.now ≤ MAX_MEMBERS }
     requires one_each { length places.now ≡ length files.now }
-    requires placed { ArePlaced places.now (parts_of files.now) (objects_of files.now) }
+    requires placed { ArePlacedFiles places.now files.now }
     ensures ok { IfOk result (λ image. spec.IsLinked image files.now places.now
         (spec.imaged files.now places.now modules.now)) }
     ensures stands { IfOk result (λ image. is_fast_spec files.now places.now ≡ true → image

@@ -1,14 +1,15 @@
 -- The places of wants in turn.
-use Rattle.std.specs.Prelude.{◌≡◌, ℕ, ◌⊎◌, Bool, true, false, not, ◌&&◌, List, [], ◌∷◌, Option, Some, None, Result, Ok}
+use Rattle.std.specs.Prelude.{◌≡◌, ℕ, ◌⊎◌, Bool, true, false, not, ◌&&◌, List, [], ◌∷◌, Option, Some, None, Result, Ok, Vec}
+use Rattle.std.specs.declared.alloc.Global.{Global}
 use Rattle.std.specs.Option.{ok_or}
-use Rattle.pl_base.specs.Answers.{◌>>=◌}
+use Rattle.pl_base.specs.Answers.{◌>>=◌, AnswersAs}
 use Rattle.pl_elf.specs.declared.range.Range.{Range}
 use Rattle.pl_slots.specs.Holes.{without, is_free, IsPlace}
 use Rattle.pl_elf.specs.Ranges.{has, range_from}
 use Rattle.pl_slots.specs.declared.slot.Want.{Want}
 use Rattle.pl_place.specs.declared.fault.PlaceFault.{PlaceFault}
 use Rattle.pl_place.specs.declared.fault.PlaceFault.TheVariants.{NoPlace, NoMemory}
-use Rattle.pl_place.specs.Policy.{Answering, Answered, Choice, MayAnswer, IsAsked}
+use Rattle.pl_place.specs.Policy.{Answering, Answered, Choice, Follows, MayAnswer, IsAsked}
 
 -- the policy answered so for a want in these holes, as it may
 abbrev pub Chose : Answering → List Range → Want → Option ℕ → Type 0
@@ -90,3 +91,7 @@ chosen choose holes (want ∷ wants) = do
   start ← ok_or (choose holes want.span want.align) (NoPlace want.name)
   starts ← chosen choose (without (range_of want start) holes) wants
   Ok (start ∷ starts)
+
+-- where the policy follows a function, the answer is that function's places or its fault, or a want of memory
+abbrev pub AnswersByChoice : Answering → List Range → List Want → Result (Vec ℕ Global) PlaceFault → Type 0
+AnswersByChoice post holes wants answer = (choose : Choice) → Follows post choose → AnswersAs (λ starts. starts.items) is_memory answer (chosen choose holes wants)

@@ -3,12 +3,12 @@ use Rattle.std.specs.Prelude.{◌≡◌, ℕ, ◌<◌, ◌≤◌, ◌^◌, true,
 use Rattle.std.specs.Borrow.{Bor}
 use Rattle.std.specs.Int.{is_power_of_two}
 use Rattle.pl_elf.specs.declared.range.Range.{Range}
-use Rattle.pl_slots.specs.Holes.{AreHoles, IsPlace}
+use Rattle.pl_slots.specs.Holes.{AreHoles, HasNoPlace, IsPlace}
 
 -- an aligned address at which the span lies whole in one of the holes, and none only where there is no such address
 abbrev pub MayAnswer : List Range → ℕ → ℕ → Option ℕ → Type 0
 MayAnswer holes span align (Some start) = IsPlace holes span align start
-MayAnswer holes span align None = (start : ℕ) → IsPlace holes span align start → ⊥
+MayAnswer holes span align None = HasNoPlace holes span align
 
 -- the greatest of these addresses
 abbrev pub IsHighest : List Range → ℕ → ℕ → ℕ → Type 0

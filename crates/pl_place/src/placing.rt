@@ -1,6 +1,5 @@
 // The places of wants in turn.
 ghost use Rattle.std.specs.Prelude.{◌≡◌, ◌<◌, IfOk, IfErr, IfSome, IfNone, Some, None, All};
-ghost use Rattle.pl_base.specs.Answers.{AnswersAs};
 ghost use Rattle.pl_place.specs.Left.{left};
 ghost use Rattle.pl_place.specs.Policy as policy;
 ghost use Rattle.pl_place.specs.Placing as spec;
@@ -89,9 +88,8 @@ pub fn place_all<F: Fn(&Holes, u64, u64) -> Option<u64>>(
     ensures fault { IfErr result (spec.IsFault (F.post placer.now) (left region busy.now)
         wants.now) }
     // Where the policy follows a function, they are that function's.
-    ensures exact { (choose : policy.Choice) → policy.Follows (F.post placer.now) choose
-        → AnswersAs (λ starts. starts.items) spec.is_memory result
-        (spec.chosen choose (left region busy.now) wants.now) }
+    ensures exact { spec.AnswersByChoice (F.post placer.now) (left region busy.now) wants.now
+        result }
 {
     placed(alloc, placer, wants, left(alloc, region, busy)?)
 }

@@ -1,7 +1,9 @@
 -- What a run goes by, and the members of a walk as it prelinks them.
-use Rattle.std.specs.Prelude.{◌≡◌, ℕ, Bool, true, false, ◌&&◌, List, [], ◌∷◌, find, map, Option, Some, None, Result, Ok, Err, is_some, if◌then◌else◌}
+use Rattle.std.specs.Prelude.{◌≡◌, ℕ, Bool, true, false, ◌&&◌, List, [], ◌∷◌, find, map, Option, Some, None, Result, Ok, Err, Vec, IfSome, is_some, if◌then◌else◌}
 use Rattle.std.specs.List.{All, AllZip, list_any}
+use Rattle.std.specs.Option.{option_map}
 use Rattle.std.specs.Str.{bytes_eq}
+use Rattle.std.specs.declared.alloc.Global.{Global}
 use Rattle.pl_conflict.specs.Format.{format}
 use Rattle.pl_conflict.specs.Prelinked.{Firm, stored}
 use Rattle.pl_cone.specs.Candidates.{kind_of, walk_in}
@@ -64,6 +66,10 @@ numbers_of run = changes.numbers (files_of run) run.region (plan_of run)
 abbrev pub prelinked : Run → List ℕ → Option (List ℕ)
 prelinked run n = changes.prelinked (files_of run) run.region (plan_of run) n
 
+-- a name's prelinked file, where it has one
+abbrev pub IsPrelinkedOf : Run → List ℕ → Option (Vec ℕ Global) → Type 0
+IsPrelinkedOf run n file = option_map (λ v. v.items) file ≡ prelinked run n
+
 -- ---- what is made once
 
 -- the SHA-256 of a name's original
@@ -114,6 +120,10 @@ pub record IsLibraryBy (known : List Known) (files : List ℕ → Option (List �
 
 abbrev pub IsLibrary : Run → Library → Type 0
 IsLibrary run l = IsLibraryBy run.known.now (prelinked run) (planned_firms run) (HasParts (files_of run) run.region (plan_of run)) l
+
+-- such a library, where there is one
+abbrev pub IsLibraryIfAny : Run → Option Library → Type 0
+IsLibraryIfAny run library = IfSome library (IsLibrary run)
 
 -- ---- the whole
 

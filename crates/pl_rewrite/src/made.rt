@@ -1,7 +1,6 @@
 // The prelinked files that were made already, each of which is taken out once.
 ghost use Rattle.std.specs.Prelude.{◌≡◌, IfOk, position};
 ghost use Rattle.std.specs.List.{All};
-ghost use Rattle.std.specs.Option.{option_map};
 ghost use Rattle.std.specs.Str.{bytes_eq};
 ghost use Rattle.pl_rewrite.specs.Members as spec;
 
@@ -33,8 +32,7 @@ pub fn prelinked(
     requires run { spec.IsRun run.now }
     requires made { All (spec.IsPrelinked run.now) made.old.items }
     requires candidate { spec.IsCandidate run.now name.now }
-    ensures file { IfOk result (λ file. option_map (λ v. v.items) file
-        ≡ spec.prelinked run.now name.now) }
+    ensures file { IfOk result (spec.IsPrelinkedOf run.now name.now) }
     ensures rest { All (spec.IsPrelinked run.now) made.new.items }
 {
     match index_of(made.as_slice(), name) {

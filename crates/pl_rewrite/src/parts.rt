@@ -110,7 +110,7 @@ fn library_among<'a>(
 ) -> Result<Option<Library<'a>>, NoMemory>
     requires run { spec.IsRun run.now }
     requires own { spec.IsOwnWalk run.now link.now name.now sources.now }
-    ensures { IfOk result (λ library. IfSome library (spec.IsLibrary run.now)) }
+    ensures { IfOk result (spec.IsLibraryIfAny run.now) }
 {
     let [library, ..] = sources else {
         return Ok(None);
@@ -156,7 +156,7 @@ fn library_by<'a>(
     requires link { spec.IsLinkOf run.now.known.now name.now link.now }
     requires walk { cone.walk_in run.now.known.now name.now ≡ Ok scope.now }
     requires library { is_library (cone.kind_of scope.now) ≡ true }
-    ensures { IfOk result (λ library. IfSome library (spec.IsLibrary run.now)) }
+    ensures { IfOk result (spec.IsLibraryIfAny run.now) }
 {
     let sources = sources_of(alloc, run, scope.members())?;
     library_among(alloc, run, link, name, sources.as_slice())
@@ -172,7 +172,7 @@ fn library_with<'a>(
     requires run { spec.IsRun run.now }
     requires candidate { spec.IsCandidate run.now name.now }
     requires link { spec.IsLinkOf run.now.known.now name.now link.now }
-    ensures { IfOk result (λ library. IfSome library (spec.IsLibrary run.now)) }
+    ensures { IfOk result (spec.IsLibraryIfAny run.now) }
 {
     let Some(scope) = walk_of(alloc, run.known, name)? else {
         return Ok(None);
@@ -191,7 +191,7 @@ fn library_of<'a>(
 ) -> Result<Option<Library<'a>>, NoMemory>
     requires run { spec.IsRun run.now }
     requires candidate { spec.IsCandidate run.now name.now }
-    ensures { IfOk result (λ library. IfSome library (spec.IsLibrary run.now)) }
+    ensures { IfOk result (spec.IsLibraryIfAny run.now) }
 {
     match link_of(run.links, name) {
         None => Ok(None),
@@ -207,7 +207,7 @@ fn library_in<'a>(
 ) -> Result<Option<Library<'a>>, NoMemory>
     requires run { spec.IsRun run.now }
     requires found { spec.IsFound run.now taken.now }
-    ensures { IfOk result (λ library. IfSome library (spec.IsLibrary run.now)) }
+    ensures { IfOk result (spec.IsLibraryIfAny run.now) }
 {
     let skipped = is_skipped(run.planned.standings.as_slice(), taken.name.as_str());
     if skipped {

@@ -36,8 +36,7 @@ fn prelinked_by<'a>(
     requires run { spec.IsRun run.now }
     requires candidate { spec.IsCandidate run.now name.now }
     requires walk { cone.walk_in run.now.known.now name.now ≡ Ok scope.now }
-    ensures { IfOk result (λ file. option_map (λ v. v.items) file
-        ≡ spec.prelinked run.now name.now) }
+    ensures { IfOk result (spec.IsPrelinkedOf run.now name.now) }
 {
     let sources = sources_of(alloc, run, scope.members())?;
     let members = sources.as_slice();
@@ -71,8 +70,7 @@ pub fn walk_of<'a>(
 pub fn made_prelinked(alloc: Global, run: &Run<'_>, name: &str) -> Result<Option<Vec<u8>>, NoMemory>
     requires run { spec.IsRun run.now }
     requires candidate { spec.IsCandidate run.now name.now }
-    ensures { IfOk result (λ file. option_map (λ v. v.items) file
-        ≡ spec.prelinked run.now name.now) }
+    ensures { IfOk result (spec.IsPrelinkedOf run.now name.now) }
 {
     match walk_of(alloc, run.known, name)? {
         None => Ok(None),

@@ -1,6 +1,6 @@
 -- Which symbol a reference finds in a scope (gABI chapter 5, "Shared Object Dependencies" and DT_SYMBOLIC; chapter 4, "Symbol Table"; x86-64 psABI, "Relocation" on R_X86_64_COPY).
 use Rattle.std.specs.Prelude.{ℕ, ◌-◌, Bool, not, ◌&&◌, ◌||◌, ◌==◌, nat_lt, List, [], ◌∷◌, length, Option, Some, None, slice_get, if◌then◌else◌}
-use Rattle.std.specs.Option.{option_or, option_and_then}
+use Rattle.std.specs.Option.{option_map, option_or, option_and_then}
 use Rattle.std.specs.List.{range_with_len}
 use Rattle.pl_sym.specs.Symbol.{is_undefined, is_local}
 use Rattle.pl_sym.specs.declared.constants.TheConstants.{STV_DEFAULT}
@@ -14,7 +14,10 @@ use Rattle.pl_elf.specs.declared.constants.TheConstants.{R_X86_64_COPY, R_X86_64
 use Rattle.pl_object.specs.declared.object.Object.{Object}
 use Rattle.pl_scope.specs.Matching.{matching}
 use Rattle.pl_scope.specs.declared.reference.Reference.{Reference}
+use Rattle.pl_scope.specs.Scope.{objects}
+use Rattle.pl_scope.specs.Walk.{Walked}
 use Rattle.pl_scope.specs.declared.found.Found.{Found}
+use Rattle.pl_scope.specs.declared.wanted.Wanted.{Wanted}
 
 -- ---- the search
 
@@ -62,6 +65,11 @@ abbrev pub searched : Object → Reference → ℕ → List ℕ
 searched o r count =
     if r.kind == R_X86_64_COPY then from_member 1 count
     else (if o.symbolic then r.member ∷ from_member 0 count else from_member 0 count)
+
+-- the matching definer of the first member from one on that has one
+abbrev pub first_match : Walked → Wanted → ℕ → Option Found
+first_match members wanted start =
+    first_in (objects members) wanted.name.now wanted.class (option_map (λ x. x.now) wanted.version) (from_member start (length members))
 
 unfoldable pub found_for : List Object → Reference → Object → Symbol → Option Found
 found_for objects r o s =

@@ -5,9 +5,11 @@ use Rattle.pl_object.specs.PlaceClauses.{is_bad}
 use Rattle.pl_object.specs.Reads.{reads}
 use Rattle.pl_object.specs.SymbolClauses.{hash_incomplete}
 use Rattle.pl_object.specs.declared.object.Object.{Object}
+use Rattle.pl_object.specs.declared.reloc.Reloc.{Reloc}
 use Rattle.pl_scope.specs.Walk.{Walked}
 use Rattle.pl_scope.specs.declared.constants.TheConstants.{MAX_MEMBERS}
 use Rattle.pl_scope.specs.declared.member.Member.{Member}
+use Rattle.pl_scope.specs.declared.reference.Reference.{Reference}
 
 -- the members' names with their objects, in order
 abbrev pub walked : List Member → Walked
@@ -46,3 +48,11 @@ pub record IsScope (objects : List Object) : Type 0 where
 pub record IsSymbol (objects : List Object) (m s : ℕ) : Type 0 where
   pub member : m < length objects
   pub symbol : (o : Object) → slice_get objects m ≡ Some o → s < length o.symbols
+
+-- a reference is by a symbol of its member
+abbrev pub IsReference : Walked → Reference → Type 0
+IsReference members r = IsSymbol (objects members) r.member r.symbol
+
+-- the relocations of a member are by its symbols
+abbrev pub AreReferences : Walked → ℕ → List Reloc → Type 0
+AreReferences members m relocs = All (λ r. IsSymbol (objects members) m r.symbol) relocs

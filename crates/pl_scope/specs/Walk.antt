@@ -1,5 +1,5 @@
 -- The walk of a name: a list that begins with it, to which each object in turn appends the names that it needs, each name once (gABI chapter 5, "Shared Object Dependencies"). That nothing needs a program, and the limit, are this project's profile.
-use Rattle.std.specs.Prelude.{◌≡◌, ℕ, zero, suc, ◌+◌, ◌-◌, Bool, true, false, not, ◌&&◌, ◌||◌, nat_lt, nat_le, List, [], ◌∷◌, ◌++◌, length, find, Option, Some, None, Result, Ok, slice_get, if◌then◌else◌}
+use Rattle.std.specs.Prelude.{◌≡◌, ◌≤◌, ℕ, zero, suc, ◌+◌, ◌-◌, Bool, true, false, not, ◌&&◌, ◌||◌, nat_lt, nat_le, List, [], ◌∷◌, ◌++◌, length, find, Option, Some, None, Result, Ok, slice_get, if◌then◌else◌}
 use Rattle.std.specs.List.{list_any}
 use Rattle.std.specs.Option.{ok_or}
 use Rattle.std.specs.Str.{bytes_eq}
@@ -29,6 +29,10 @@ unfoldable pub added : List (List ℕ) → List ℕ → Result (List (List ℕ))
 added names n =
     if list_any (λ m. bytes_eq m n) names then Ok names
     else unless (nat_le MAX_MEMBERS (length names)) (TooMany n) (Ok (names ++ n ∷ []))
+
+-- names that were no more than a walk may have are still no more
+abbrev pub StayFew : List (List ℕ) → List (List ℕ) → Type 0
+StayFew old new = length old ≤ MAX_MEMBERS → length new ≤ MAX_MEMBERS
 
 -- the first name, where it is a program's
 abbrev pub program_name : Walking → Option (List ℕ)
@@ -93,6 +97,20 @@ IsUnderWay fault files name walked w = with_front walked (remaining fault files 
 -- a fault stands for itself
 abbrev pub itself : {E : Type 0} → E → E
 itself fault = fault
+
+-- whatever objects the names have, the whole walk of this name is still to come
+abbrev pub BeginsEveryWalk : List ℕ → Walking → Type 0
+BeginsEveryWalk name w = (files : List ℕ → Result Object WalkFault) → IsUnderWay itself files name [] w
+
+-- whatever objects the names have, what was walked so far is the whole walk
+abbrev pub EndsEveryWalk : Walking → Type 0
+EndsEveryWalk w = (files : List ℕ → Result Object WalkFault) (name : List ℕ) (walked : Walked) → IsUnderWay itself files name walked w → walk itself files name ≡ Ok walked
+
+-- whatever objects the names have, this one the wanted name, the walk goes on with one member more
+abbrev pub ContinuesEveryWalk : Walking → Object → Walking → Type 0
+ContinuesEveryWalk w o next =
+    (files : List ℕ → Result Object WalkFault) (name : List ℕ) (walked : Walked) (wanted : List ℕ) → wants w ≡ Some wanted → files wanted ≡ Ok o
+    → IsUnderWay itself files name walked w → IsUnderWay itself files name (walked ++ (wanted, o) ∷ []) next
 
 -- the object of a name, or that there is none
 abbrev pub object_of : (List ℕ → Option Object) → List ℕ → Result Object WalkFault

@@ -1,6 +1,6 @@
 // Look-ups whose answers are kept.
 ghost use Rattle.std.specs.Prelude.{◌≡◌, map, IfOk, IfSome};
-ghost use Rattle.pl_scope.specs.Scope.{objects, IsSymbol};
+ghost use Rattle.pl_scope.specs.Scope.{objects, IsReference, IsSymbol};
 ghost use Rattle.pl_scope.specs.Finds.{finds};
 ghost use Rattle.pl_scope.specs.Kept as spec;
 
@@ -58,7 +58,7 @@ fn unasked_rows(alloc: Global, scope: &Scope<'_>) -> Result<Vec<Vec<Answers>>, A
 /// Keeps what a reference finds.
 fn keep(scope: &Scope<'_>, rows: &mut [Vec<Answers>], reference: Reference, found: Option<Found>)
     requires kept { spec.IsKept (objects scope.now) (map (λ row. row.items) rows.old) }
-    requires reference { IsSymbol (objects scope.now) reference.member reference.symbol }
+    requires reference { IsReference scope.now reference }
     requires found { found ≡ finds (objects scope.now) reference }
     ensures { spec.IsKept (objects scope.now) (map (λ row. row.items) rows.new) }
 {
@@ -85,7 +85,7 @@ impl<'s, 'a> Kept<'s, 'a> {
 
     /// The symbol that a reference finds in the scope, as `find` gives it: the answer that is kept for its symbol and class, else that of a look-up, which is kept. None exactly where there is no definer. No memory is taken.
     pub fn find(&mut self, reference: Reference) -> Option<Found>
-        requires { IsSymbol (objects self.old) reference.member reference.symbol }
+        requires { IsReference self.old reference }
         ensures exact { result ≡ finds (objects self.old) reference }
         ensures within { IfSome result (λ found. IsSymbol (objects self.old) found.member
             found.symbol) }

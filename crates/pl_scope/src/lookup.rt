@@ -3,7 +3,7 @@ ghost use Rattle.std.specs.Prelude.{◌≡◌, ◌<◌, ◌==◌, ◌&&◌, leng
 ghost use Rattle.std.specs.List.{list_any};
 ghost use Rattle.std.specs.Option.{option_map};
 ghost use Rattle.pl_sym.specs.Symbol.{is_undefined};
-ghost use Rattle.pl_scope.specs.Scope.{objects, IsFit, IsSymbol};
+ghost use Rattle.pl_scope.specs.Scope.{objects, IsFit, IsReference, IsSymbol};
 ghost use Rattle.pl_scope.specs.Matching.{matching};
 ghost use Rattle.pl_scope.specs.Probing as probing;
 ghost use Rattle.pl_scope.specs.Index as index;
@@ -136,8 +136,7 @@ fn in_member(scope: &Scope<'_>, wanted: &Wanted<'_>, member: u32, way: Way<'_>) 
 #[tactic(auto, using(crate::proofs::SearchLaws::first_more, crate::proofs::SearchLaws::first_done))]
 fn first_in_order(scope: &Scope<'_>, wanted: &Wanted<'_>, start: u32, way: Way<'_>) -> Option<Found>
     requires { probing.IsWanted wanted.now }
-    ensures { result ≡ spec.first_in (objects scope.now) wanted.now.name.now wanted.now.class
-        (option_map (λ x. x.now) wanted.now.version) (spec.from_member start (length scope.now)) }
+    ensures { result ≡ spec.first_match scope.now wanted.now start }
 {
     let count = scope.count();
     for member in start..count {
@@ -188,8 +187,7 @@ fn first_indexed(
 ) -> Option<Found>
     requires wanted { probing.IsWanted wanted.now }
     requires index { index.IsIndex (objects scope.now) entries.now }
-    ensures { result ≡ spec.first_in (objects scope.now) wanted.now.name.now wanted.now.class
-        (option_map (λ x. x.now) wanted.now.version) (spec.from_member start (length scope.now)) }
+    ensures { result ≡ spec.first_match scope.now wanted.now start }
 {
     let mut best = None;
     for entry in under(entries, wanted.gnu) {
@@ -202,8 +200,7 @@ fn first_indexed(
 fn first_from(scope: &Scope<'_>, wanted: &Wanted<'_>, start: u32, way: Way<'_>) -> Option<Found>
     requires wanted { probing.IsWanted wanted.now }
     requires way { index.IsWay (objects scope.now) way }
-    ensures { result ≡ spec.first_in (objects scope.now) wanted.now.name.now wanted.now.class
-        (option_map (λ x. x.now) wanted.now.version) (spec.from_member start (length scope.now)) }
+    ensures { result ≡ spec.first_match scope.now wanted.now start }
 {
     match way {
         Way::Indexed(entries) => first_indexed(scope, wanted, start, entries),
@@ -257,7 +254,7 @@ fn found_for(
 
 /// A reference's own symbol.
 pub fn own_symbol<'a>(scope: &Scope<'a>, reference: Reference) -> &'a Symbol
-    requires { IsSymbol (objects scope.now) reference.member reference.symbol }
+    requires { IsReference scope.now reference }
     ensures { spec.own_symbol (objects scope.now) reference ≡ Some result.now }
 {
     let object = scope.object(reference.member);
@@ -267,7 +264,7 @@ pub fn own_symbol<'a>(scope: &Scope<'a>, reference: Reference) -> &'a Symbol
 /// The symbol that a reference finds, by a way to search the members.
 #[tactic(auto, unfolding(crate::specs::Finds::finds))]
 pub fn find_by(scope: &Scope<'_>, reference: Reference, way: Way<'_>) -> Option<Found>
-    requires reference { IsSymbol (objects scope.now) reference.member reference.symbol }
+    requires reference { IsReference scope.now reference }
     requires way { index.IsWay (objects scope.now) way }
     ensures { result ≡ spec.finds (objects scope.now) reference }
 {
@@ -290,7 +287,7 @@ pub fn find_by(scope: &Scope<'_>, reference: Reference, way: Way<'_>) -> Option<
 ///
 /// Each object is asked by the hash of the name in one of its tables, the GNU table where it has one; for other references than jump slots, a program's symbols besides, one by one, since no table need lead to a canonical address. No memory is taken.
 pub fn find(scope: &Scope<'_>, reference: Reference) -> Option<Found>
-    requires { IsSymbol (objects scope.now) reference.member reference.symbol }
+    requires { IsReference scope.now reference }
     ensures exact { result ≡ spec.finds (objects scope.now) reference }
     ensures within { IfSome result (λ found. IsSymbol (objects scope.now) found.member
         found.symbol) }
@@ -300,7 +297,7 @@ pub fn find(scope: &Scope<'_>, reference: Reference) -> Option<Found>
 
 /// The symbol that a reference finds in a scope, as `find` gives it, by a search through all symbols of each object. For tests: it takes as many steps as the objects have symbols.
 pub fn find_in_lists(scope: &Scope<'_>, reference: Reference) -> Option<Found>
-    requires { IsSymbol (objects scope.now) reference.member reference.symbol }
+    requires { IsReference scope.now reference }
     ensures { result ≡ spec.finds (objects scope.now) reference }
 {
     find_by(scope, reference, Way::InLists)

@@ -1,12 +1,9 @@
-ghost use Rattle.std.specs.Prelude.{◌≡◌, ◌+◌, ◌≤◌, ◌∷◌, ◌++◌, [], ℕ, List, length, take, find, slice_get, Some, None, Result, Ok, Err, IsSome, IfOk, IfErr, IfNone, OnOk, OnErr};
+ghost use Rattle.std.specs.Prelude.{◌≡◌, ◌+◌, ◌≤◌, length, take, find, slice_get, None, Ok, Err, IsSome, IfOk, IfErr, IfNone, OnOk, OnErr};
 ghost use Rattle.std.specs.List.{list_any};
 ghost use Rattle.std.specs.Option.{option_map};
 ghost use Rattle.std.specs.Str.{bytes_eq};
 ghost use Rattle.pl_base.specs.Answers.{Answers};
 ghost use Rattle.pl_base.specs.Each.{run};
-ghost use Rattle.pl_object.specs.declared.object.Object as declared;
-ghost use Rattle.pl_scope.specs.declared.constants.TheConstants.{MAX_MEMBERS};
-ghost use Rattle.pl_scope.specs.declared.fault.WalkFault as fault;
 ghost use Rattle.pl_scope.specs.Walking.{wants, IsWalking};
 ghost use Rattle.pl_scope.specs.Walk as spec;
 
@@ -76,7 +73,7 @@ fn add(alloc: Global, names: &mut Vec<Text>, name: &Text) -> Result<(), WalkFaul
     ensures err { IfErr result (λ fault. Answers spec.is_memory (Err fault)
         (spec.added names.old.items name.now)) }
     ensures front { take (length names.old.items) names.new.items ≡ names.old.items }
-    ensures few { length names.old.items ≤ MAX_MEMBERS → length names.new.items ≤ MAX_MEMBERS }
+    ensures few { spec.StayFew names.old.items names.new.items }
 {
     if is_among(names, name.as_str()) {
         return Ok(());
@@ -95,7 +92,7 @@ fn add_each(alloc: Global, names: &mut Vec<Text>, needed: &[Text]) -> Result<(),
     ensures err { IfErr result (λ fault. Answers spec.is_memory (Err fault)
         (run spec.added names.old.items needed.now)) }
     ensures front { take (length names.old.items) names.new.items ≡ names.old.items }
-    ensures few { length names.old.items ≤ MAX_MEMBERS → length names.new.items ≤ MAX_MEMBERS }
+    ensures few { spec.StayFew names.old.items names.new.items }
 {
     for name in needed {
         add(alloc, names, name)?;
@@ -110,7 +107,7 @@ fn append(alloc: Global, names: &mut Vec<Text>, needed: &[Text]) -> Result<(), W
         (run spec.added names.old.items needed.now)) }
     ensures unchanged { OnErr result (names.new.items ≡ names.old.items) }
     ensures more { length names.old.items ≤ length names.new.items }
-    ensures few { length names.old.items ≤ MAX_MEMBERS → length names.new.items ≤ MAX_MEMBERS }
+    ensures few { spec.StayFew names.old.items names.new.items }
 {
     let before = names.len();
     match add_each(alloc, names, needed) {
@@ -127,9 +124,7 @@ impl Order {
     pub fn new(alloc: Global, name: &str) -> Result<Order, NoMemory>
         ensures begun { IfOk result (λ order. order ≡ spec.begun name.now) }
         // the walk of the name is still to come
-        ensures begins { IfOk result (λ order.
-            (files : List ℕ → Result declared.Object fault.WalkFault)
-            → spec.IsUnderWay spec.itself files name.now [] order) }
+        ensures begins { IfOk result (spec.BeginsEveryWalk name.now) }
     {
         let mut names = Vec::new(alloc);
         names.push(Text::copy_of(alloc, name)?)?;
@@ -146,10 +141,7 @@ impl Order {
         ensures all { IfNone result (self.now.given ≡ length self.now.names) }
         ensures walking { IsWalking self.now }
         // what was walked so far is then the whole walk
-        ensures ends { IfNone result ((files : List ℕ → Result declared.Object fault.WalkFault)
-            (name : List ℕ) (walked : spec.Walked)
-            → spec.IsUnderWay spec.itself files name walked self.now
-            → spec.walk spec.itself files name ≡ Ok walked) }
+        ensures ends { IfNone result (spec.EndsEveryWalk self.now) }
     {
         match name_at(self.names.as_slice(), self.given) {
             None => None,
@@ -217,11 +209,7 @@ impl Order {
             (spec.give self.old object.now)) }
         ensures unchanged { OnErr result (self.new ≡ self.old) }
         // where the object is the file's of that name, the walk goes on with one member more
-        ensures goes_on { OnOk result ((files : List ℕ → Result declared.Object fault.WalkFault)
-            (name : List ℕ) (walked : spec.Walked) (wanted : List ℕ) → wants self.old ≡ Some wanted
-            → files wanted ≡ Ok object.now → spec.IsUnderWay spec.itself files name walked self.old
-            → spec.IsUnderWay spec.itself files name (walked ++ (wanted, object.now) ∷ [])
-            self.new) }
+        ensures goes_on { OnOk result (spec.ContinuesEveryWalk self.old object.now self.new) }
     {
         self.enter(alloc, object)
     }

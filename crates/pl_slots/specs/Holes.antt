@@ -63,3 +63,7 @@ IsPlace holes span align start = (is_aligned start align ≡ true) × (fits_at h
 -- the least of them
 abbrev pub IsLowest : List Range → ℕ → ℕ → ℕ → Type 0
 IsLowest holes span align start = IsPlace holes span align start × ((other : ℕ) → IsPlace holes span align other → start ≤ other)
+
+-- no aligned address has room for the span
+abbrev pub HasNoPlace : List Range → ℕ → ℕ → Type 0
+HasNoPlace holes span align = (start : ℕ) → IsPlace holes span align start → ⊥

@@ -113,7 +113,7 @@ pub fn lowest_place(holes: &[Range], span: u64, align: u64) -> Option<u64>
     ensures value { result ≡ spec.lowest span align holes.now }
     ensures within { IfSome result (λ start. start + span < 2 ^ 64) }
     ensures lowest { spec.AreHoles holes.now → IfSome result (spec.IsLowest holes.now span align) }
-    ensures none { IfNone result ((start : ℕ) → spec.IsPlace holes.now span align start → ⊥) }
+    ensures none { IfNone result (spec.HasNoPlace holes.now span align) }
 {
     first_place(holes, span, align)
 }

@@ -5,6 +5,7 @@ ghost use Rattle.pl_folder.specs.Calls.{Calls, IsPlain};
 ghost use Rattle.pl_folder.specs.Effects.{Appends, Does, DoesOrNot, creates, firms, renames};
 ghost use Rattle.pl_folder.specs.Seen.{Done, ending, ends};
 ghost use Rattle.pl_stage.specs.Files.{Has, HasFirm, IsFile, IsFirmFile};
+ghost use Rattle.pl_stage.specs.Loans.{HoldsLoan};
 ghost use Rattle.pl_stage.specs.contracts.held.Held.{the_row};
 
 use crate::states::{Firm, Fresh};
@@ -24,7 +25,7 @@ pub fn fresh<'a, D: Folder, N: Named + Copy>(
     ensures* rests { sem 𝓛 (RestsIfErr (the_row D.row) held.entry (λ it. it.held.ghost_name) result
         (λ n. Calls (ending result) (Does (creates (N.text name))) (D.seen held.old.folder)
         (D.seen n.folder))) }
-    ensures same_reference { IfOk result (λ it. it.held.ghost_name ≡ held.entry.ghost_name) }
+    ensures same_reference { HoldsLoan result (λ it. it.held) held.entry }
     ensures calls { IfOk result (λ it. Calls Done (Does (creates (N.text name)))
         (D.seen held.old.folder) (D.seen it.held.now.folder)) }
     ensures file { IfOk result (λ it. Has (D.seen it.held.now.folder) (N.text name)
@@ -45,7 +46,7 @@ pub fn firm_there<'a, D: Folder, N: Named + Copy>(
     ensures* rests { sem 𝓛 (RestsIfErr (the_row D.row) held.entry (λ it. it.held.ghost_name) result
         (λ n. Calls (ends result) (DoesOrNot (firms (N.text name))) (D.seen held.old.folder)
         (D.seen n.folder))) }
-    ensures same_reference { IfOk result (λ it. it.held.ghost_name ≡ held.entry.ghost_name) }
+    ensures same_reference { HoldsLoan result (λ it. it.held) held.entry }
     ensures calls { IfOk result (λ it. Calls Done (DoesOrNot (firms (N.text name)))
         (D.seen held.old.folder) (D.seen it.held.now.folder)) }
     ensures firm { IfOk result (λ it. HasFirm (D.seen it.held.now.folder) (N.text name)
@@ -65,8 +66,7 @@ impl<'a, D: Folder, N: Named + Copy> Fresh<'a, D, N> {
             (λ it. it.held.ghost_name) result
             (λ n. Calls (ending result) (Appends (N.text self.entry.name) bytes.now)
             (D.seen self.entry.held.now.folder) (D.seen n.folder))) }
-        ensures same_reference { IfOk result
-            (λ it. it.held.ghost_name ≡ self.entry.held.ghost_name) }
+        ensures same_reference { HoldsLoan result (λ it. it.held) self.entry.held }
         ensures calls { IfOk result (λ it. Calls Done (Appends (N.text self.entry.name) bytes.now)
             (D.seen self.entry.held.now.folder) (D.seen it.held.now.folder)) }
         ensures file { IfOk result (λ it. Has (D.seen it.held.now.folder) (N.text self.entry.name)
@@ -86,8 +86,7 @@ impl<'a, D: Folder, N: Named + Copy> Fresh<'a, D, N> {
             (λ it. it.held.ghost_name) result
             (λ n. Calls (ends result) (DoesOrNot (firms (N.text self.entry.name)))
             (D.seen self.entry.held.now.folder) (D.seen n.folder))) }
-        ensures same_reference { IfOk result
-            (λ it. it.held.ghost_name ≡ self.entry.held.ghost_name) }
+        ensures same_reference { HoldsLoan result (λ it. it.held) self.entry.held }
         ensures calls { IfOk result (λ it. Calls Done (DoesOrNot (firms (N.text self.entry.name)))
             (D.seen self.entry.held.now.folder) (D.seen it.held.now.folder)) }
         ensures firm { IfOk result (λ it. HasFirm (D.seen it.held.now.folder)

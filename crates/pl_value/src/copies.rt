@@ -1,7 +1,7 @@
 // What a COPY gives.
 ghost use Rattle.std.specs.Prelude.{◌≡◌, ◌<◌, length};
 ghost use Rattle.std.specs.List.{list_any};
-ghost use Rattle.pl_scope.specs.Scope.{objects, IsSymbol};
+ghost use Rattle.pl_scope.specs.Scope.{objects, IsReference};
 ghost use Rattle.pl_value.specs.Definers.{seen, IsSought};
 ghost use Rattle.pl_value.specs.Copies as spec;
 
@@ -70,7 +70,7 @@ pub fn copy(
     found: Option<Found>,
 ) -> Result<Word, LinkFault>
     requires one_each { length places.now ≡ length scope.now }
-    requires reference { IsSymbol (objects scope.now) reference.member reference.symbol }
+    requires reference { IsReference scope.now reference }
     requires found { IsSought (objects scope.now) reference found }
     ensures { result ≡ spec.copy (objects scope.now) places.now reference }
 {

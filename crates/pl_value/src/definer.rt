@@ -1,7 +1,7 @@
 // The symbol that a reference finds, with its object.
 ghost use Rattle.std.specs.Prelude.{◌≡◌, ◌<◌, length, IfSome};
 ghost use Rattle.std.specs.Option.{option_map};
-ghost use Rattle.pl_scope.specs.Scope.{objects, IsSymbol};
+ghost use Rattle.pl_scope.specs.Scope.{objects, IsReference};
 ghost use Rattle.pl_scope.specs.Finds.{finds};
 ghost use Rattle.pl_value.specs.Definers as spec;
 
@@ -45,7 +45,7 @@ pub fn definer_of<'a>(
 /// Whether a reference's own symbol is weak, so that it may stay without a definer.
 #[tactic(auto, unfolding(crate::specs::Definers::is_weak))]
 pub fn is_weak(scope: &Scope<'_>, reference: Reference) -> bool
-    requires { IsSymbol (objects scope.now) reference.member reference.symbol }
+    requires { IsReference scope.now reference }
     ensures { result ≡ spec.is_weak (objects scope.now) reference }
 {
     own_symbol(scope, reference).bind == STB_WEAK

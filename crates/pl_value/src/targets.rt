@@ -1,6 +1,6 @@
 // The address that a symbol stands for.
 ghost use Rattle.std.specs.Prelude.{◌≡◌, ◌<◌, length};
-ghost use Rattle.pl_scope.specs.Scope.{objects, IsSymbol};
+ghost use Rattle.pl_scope.specs.Scope.{objects, IsReference};
 ghost use Rattle.pl_value.specs.Definers.{seen, IsSought};
 ghost use Rattle.pl_value.specs.Targets as spec;
 
@@ -44,7 +44,7 @@ pub fn target(
     found: Option<Found>,
 ) -> Result<u64, LinkFault>
     requires one_each { length places.now ≡ length scope.now }
-    requires reference { IsSymbol (objects scope.now) reference.member reference.symbol }
+    requires reference { IsReference scope.now reference }
     requires found { IsSought (objects scope.now) reference found }
     ensures { result ≡ spec.target (objects scope.now) places.now reference }
 {

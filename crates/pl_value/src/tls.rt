@@ -1,6 +1,6 @@
 // Words of thread-local storage.
 ghost use Rattle.std.specs.Prelude.{◌≡◌, slice_get};
-ghost use Rattle.pl_scope.specs.Scope.{objects, IsSymbol};
+ghost use Rattle.pl_scope.specs.Scope.{objects, IsReference};
 ghost use Rattle.pl_value.specs.Definers.{IsSought};
 ghost use Rattle.pl_value.specs.Tls as spec;
 
@@ -15,7 +15,7 @@ use pl_tls::Module;
 
 /// The begin of the object's own block.
 fn own(scope: &Scope<'_>, reference: Reference) -> Result<TlsIndex, LinkFault>
-    requires { IsSymbol (objects scope.now) reference.member reference.symbol }
+    requires { IsReference scope.now reference }
     ensures { result ≡ spec.own reference (spec.has_block
         (slice_get (objects scope.now) reference.member)) }
 {
@@ -36,7 +36,7 @@ pub fn variable(
     reference: Reference,
     found: Option<Found>,
 ) -> Result<TlsIndex, LinkFault>
-    requires reference { IsSymbol (objects scope.now) reference.member reference.symbol }
+    requires reference { IsReference scope.now reference }
     requires found { IsSought (objects scope.now) reference found }
     ensures { result ≡ spec.variable (objects scope.now) reference }
 {

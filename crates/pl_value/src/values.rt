@@ -1,6 +1,6 @@
 // What a relocation gives.
 ghost use Rattle.std.specs.Prelude.{◌≡◌, Some, length};
-ghost use Rattle.pl_scope.specs.Scope.{objects, IsSymbol};
+ghost use Rattle.pl_scope.specs.Scope.{objects, IsReference, IsSymbol};
 ghost use Rattle.pl_value.specs.Definers.{IsSought};
 ghost use Rattle.pl_value.specs.Linkable.{IsReloc, IsFoundFor};
 ghost use Rattle.pl_value.specs.Values as spec;
@@ -94,7 +94,7 @@ pub fn value_of(
 
 /// What the symbol of a reference finds. Symbol 0 is no reference.
 fn sought(scope: &Scope<'_>, reference: Reference) -> Option<Found>
-    requires { IsSymbol (objects scope.now) reference.member reference.symbol }
+    requires { IsReference scope.now reference }
     ensures { IsSought (objects scope.now) reference result }
 {
     if reference.symbol == 0 {

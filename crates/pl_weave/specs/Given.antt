@@ -1,15 +1,17 @@
 -- What is loaded of the files of a program's walk: of its own file, where that is a position-independent program, the program that it becomes where a policy places it; each other file is loaded as it is.
-use Rattle.std.specs.Prelude.{ℕ, List, Option, Some, None, Result, Ok, Err, if◌then◌else◌}
+use Rattle.std.specs.Prelude.{ℕ, List, Option, Some, None, Result, Ok, Err, Vec, if◌then◌else◌}
 use Rattle.std.specs.Borrow.{Bor}
 use Rattle.std.specs.Str.{bytes_eq}
-use Rattle.pl_base.specs.Answers.{◌>>=◌, because}
+use Rattle.std.specs.declared.alloc.Global.{Global}
+use Rattle.pl_base.specs.Answers.{◌>>=◌, AnswersAs, because}
 use Rattle.pl_elf.specs.declared.range.Range.{Range}
 use Rattle.pl_fix.specs.Fixing.{placed}
 use Rattle.pl_fix.specs.declared.placing.Placing.{Placing}
 use Rattle.pl_fix.specs.declared.placing.Placing.TheVariants.{NotPie, NoPlace, Fixed}
+use Rattle.pl_loader.specs.Faults.{is_memory}
 use Rattle.pl_loader.specs.declared.fault.LoadFault.{LoadFault}
 use Rattle.pl_loader.specs.declared.fault.LoadFault.TheVariants as faults
-use Rattle.pl_place.specs.Policy.{Choice, Chooses, MayChoose}
+use Rattle.pl_place.specs.Policy.{Answering, Choice, Chooses, Follows, MayChoose}
 
 abbrev pub first_by : List ℕ → List ℕ → Placing → Result (List ℕ) LoadFault
 first_by name bytes NotPie = Ok bytes
@@ -23,6 +25,10 @@ first_of choose name bytes = first_by name bytes (placed choose bytes)
 -- those of the file of n, a name of the walk of `name`
 abbrev pub given_of : Choice → List ℕ → List ℕ → List ℕ → Result (List ℕ) LoadFault
 given_of choose name n bytes = if bytes_eq n name then first_of choose name bytes else Ok bytes
+
+-- the result is the file that is loaded of n, whichever function the policy follows, or want of memory
+abbrev pub GivesFile : Answering → List ℕ → List ℕ → List ℕ → Result (Vec ℕ Global) LoadFault → Type 0
+GivesFile post name n bytes result = (choose : Choice) → Follows post choose → AnswersAs (λ file. file.items) is_memory result (given_of choose name n bytes)
 
 -- that file, where there is one
 abbrev pub given : Choice → List ℕ → List ℕ → Option (List ℕ) → Result (Option (List ℕ)) LoadFault

@@ -1,12 +1,14 @@
 -- A loader of a weave, by the files that it saw.
 use Rattle.std.specs.Prelude.{◌≡◌, ◌≢◌, ℕ, ◌-◌, true, List, [], ◌∷◌, ◌++◌, length, slice_get, take, Option, Some, None, Result, Ok, Err}
-use Rattle.pl_base.specs.Answers.{◌>>=◌}
+use Rattle.pl_base.specs.Answers.{◌>>=◌, Answers}
 use Rattle.pl_folder.specs.Seen as folder
+use Rattle.pl_loader.specs.Faults.{is_memory}
 use Rattle.pl_loader.specs.Loading.{Load, Loading}
-use Rattle.pl_loader.specs.Started.{Start, started}
+use Rattle.pl_loader.specs.Started.{Start, Starts, started}
 use Rattle.pl_loader.specs.Walk.{IsFile, begun, taken}
 use Rattle.pl_loader.specs.declared.fault.LoadFault.{LoadFault}
 use Rattle.pl_loader.specs.declared.object_file.ObjectFile.{ObjectFile}
+use Rattle.pl_loader.specs.declared.started.Started.{Started}
 use Rattle.pl_place.specs.Policy.{Answering, Choice, Follows}
 use Rattle.pl_scope.specs.Walking.{wants}
 use Rattle.pl_weave.specs.Given.{given}
@@ -95,6 +97,10 @@ came_to (Some fault) walk = Err fault
 abbrev pub IsLed : {F : Type 0} → Choice → List ℕ → Opened F → Type 0
 IsLed choose name o = Leads choose (begun name) o.seen (came_to o.fault o.load.walk)
 
+-- so it is whatever function the policy follows
+abbrev pub IsAlwaysLed : {F : Type 0} → List ℕ → Opened F → Type 0
+IsAlwaysLed name o = (choose : Choice) → IsLed choose name o
+
 -- ---- the end
 
 abbrev pub files_by : Option LoadFault → Loading → Result (List ObjectFile) LoadFault
@@ -108,6 +114,14 @@ seen_files o = files_by o.fault o.load.walk
 -- what they start from, by a policy that is a function, or the first cause why they do not
 abbrev pub ended : {F : Type 0} → Choice → Opened F → Result Start LoadFault
 ended choose o = seen_files o >>= started choose o.load.busy
+
+-- the start is that of the files that it saw, whichever function the policy follows
+abbrev pub EndsStarted : {F : Type 0} → Answering → Opened F → Started → Type 0
+EndsStarted post o s = (choose : Choice) → Follows post choose → Starts s (ended choose o)
+
+-- the fault is the first cause why they do not start, whichever function the policy follows, or want of memory
+abbrev pub EndsRefused : {F : Type 0} → Answering → Opened F → LoadFault → Type 0
+EndsRefused post o fault = (choose : Choice) → Follows post choose → Answers is_memory (Err fault) (ended choose o)
 
 -- what is told of names is what was seen of them
 abbrev pub HasSeen : {E : Type 0} → (LoadFault → E) → (List ℕ → Result (List ℕ) E) → List Seen → Type 0

@@ -49,9 +49,7 @@ pub fn given_file<F: Fn(&Holes, u64, u64) -> Option<u64>>(
     requires policy { spec.MayPlace F.pre F.post placer.now }
     requires few { length bytes.items < 2 ^ 32 }
     // Where the policy follows a function, the file is given as that says.
-    ensures means { (choose : policy.Choice) → policy.Follows (F.post placer.now) choose →
-        AnswersAs (λ file. file.items) is_memory result
-        (spec.given_of choose loaded.now name.now bytes.items) }
+    ensures means { spec.GivesFile (F.post placer.now) loaded.now name.now bytes.items result }
     ensures few { IfOk result (λ file. length file.items < 2 ^ 32) }
 {
     if name == loaded {

@@ -1,11 +1,9 @@
 // A loader of a weave.
-ghost use Rattle.std.specs.Prelude.{◌≡◌, ◌<◌, ◌^◌, false, None, Some, Err, IfErr, IfOk, OnErr, OnOk, length};
+ghost use Rattle.std.specs.Prelude.{◌≡◌, ◌<◌, ◌^◌, false, None, Some, IfErr, IfOk, OnErr, OnOk, length};
 ghost use Rattle.std.specs.Option.{ForSome, option_map};
-ghost use Rattle.pl_base.specs.Answers.{Answers};
 ghost use Rattle.pl_folder.specs.Calls.{Calls};
 ghost use Rattle.pl_folder.specs.Effects.{Asks};
 ghost use Rattle.pl_loader.specs.Faults.{is_memory};
-ghost use Rattle.pl_loader.specs.Started as start;
 ghost use Rattle.pl_place.specs.Policy as policy;
 ghost use Rattle.pl_weave.specs.Given.{MayPlace};
 ghost use Rattle.pl_weave.specs.Opening as spec;
@@ -47,7 +45,7 @@ impl<'p, F> Opening<'p, F> {
     /// The load of a name that saw no file yet. The placer says where libraries go that are not at their slots. It fails only for want of memory.
     pub fn new(alloc: Global, name: &str, placer: &'p Placer<F>) -> Result<Opening<'p, F>, NoMemory>
         ensures opened { IfOk result (λ o. o ≡ spec.opened placer.entry.now name.now) }
-        ensures led { IfOk result (λ o. (choose : policy.Choice) → spec.IsLed choose name.now o) }
+        ensures led { IfOk result (spec.IsAlwaysLed name.now) }
     {
         let loader = Loader::new(alloc, name, None, placer)?;
         Ok(Opening {
@@ -140,12 +138,8 @@ impl<'p, F: Fn(&Holes, u64, u64) -> Option<u64>> Opening<'p, F> {
         requires may { policy.MayChoose (F.pre self.now.load.policy) }
         requires chooses { policy.Chooses (F.post self.now.load.policy) }
         requires finished { spec.wanted self.now ≡ None }
-        ensures ok { IfOk result (λ s. (choose : policy.Choice) →
-            policy.Follows (F.post self.now.load.policy) choose →
-            start.Starts s (spec.ended choose self.now)) }
-        ensures err { IfErr result (λ fault. (choose : policy.Choice) →
-            policy.Follows (F.post self.now.load.policy) choose →
-            Answers is_memory (Err fault) (spec.ended choose self.now)) }
+        ensures ok { IfOk result (spec.EndsStarted (F.post self.now.load.policy) self.now) }
+        ensures err { IfErr result (spec.EndsRefused (F.post self.now.load.policy) self.now) }
     {
         match &self.fault {
             Some(fault) => Err(copy_fault(alloc, fault)?),
