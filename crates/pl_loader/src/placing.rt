@@ -3,7 +3,7 @@ ghost use Rattle.std.specs.Prelude.{◌≡◌, ◌+◌, ◌^◌, ◌<◌, ◌∷
 ghost use Rattle.std.specs.List.{All, AllZip};
 ghost use Rattle.pl_elf.specs.Headers.{loads as loads_spec};
 ghost use Rattle.pl_place.specs.Left.{left};
-ghost use Rattle.pl_place.specs.Placing.{ArePlacedInTurn, IsWant};
+ghost use Rattle.pl_place.specs.Placing.{ArePlacedInTurn as PolicyPlaced, IsWant};
 ghost use Rattle.pl_place.specs.Policy as policy;
 ghost use Rattle.pl_value.specs.Ordinary.{ArePlaced};
 ghost use Rattle.pl_loader.specs.Loading.{AreFiles, IsRead, objects_of, parts_of};
@@ -90,7 +90,7 @@ fn policy_places<F: Fn(&Holes, u64, u64) -> Option<u64>>(
     requires may { policy.MayChoose (F.pre placer.now) }
     requires chooses { policy.Chooses (F.post placer.now) }
     requires wants { All IsWant wants.now }
-    ensures placed { IfOk result (λ starts. ArePlacedInTurn (F.post placer.now)
+    ensures placed { IfOk result (λ starts. PolicyPlaced (F.post placer.now)
         (left spec.region taken.now) wants.now starts.items) }
     ensures free { IfOk result (λ starts. spec.IsFree spec.region taken.now wants.now
         starts.items) }

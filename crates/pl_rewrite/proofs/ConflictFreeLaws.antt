@@ -28,7 +28,7 @@ use Rattle.pl_image.specs.declared.loaded_object.LoadedObject.{LoadedObject}
 use Rattle.pl_rewrite.proofs.FindLaws.{zip_more}
 use Rattle.pl_rewrite.specs.Skips.{skip_causes}
 use Rattle.pl_cone.specs.OneWord.{GivesOneWord, GivesOneWordBy, IsFlag}
-use Rattle.pl_cone.specs.Folder.{IsMember}
+use Rattle.pl_cone.specs.Folder.{IsMember as IsNamedMember}
 use Rattle.pl_cone.proofs.OneWordLaws.{one_word}
 use Rattle.pl_cone.proofs.FolderLaws.{object_at, member_of, member_has}
 use Rattle.pl_object.specs.declared.object.Object.{Object}
@@ -207,7 +207,7 @@ module _ (run : Run) (n : List ℕ) (ws : Walked) (is : IsRun run) (candidate : 
     file_own x library at =
         let name : List ℕ = k.link.name in
         let rs = planned_firms run ws in
-        let named : IsMember ws m name = record { object = x; at = at } in
+        let named : IsNamedMember ws m name = record { object = x; at = at } in
         let member : IsPrelinkable run (name, x) = member_at run ws m (name, x) (members_are run n ws is candidate walk) at in
         let made : prelinked run name ≡ Some k.file = ap (prelinked run) k.known_by.named ∙ k.made in
         let part : IsPart run (planned_firm run (name, x)) k.file = rw library made in
@@ -245,8 +245,8 @@ module _ (run : Run) (n : List ℕ) (ws : Walked) (is : IsRun run) (candidate : 
         let holding : AreHeldIn (planned_firms run inner) k.file k.link.one_word s.flags = subst (λ (w : Walked). AreHeldIn (planned_firms run w) k.file k.link.one_word s.flags) begins k.held in
         let h = holding i d lt set in
         let one_word_by : GivesOneWordBy k.known_by.is.definers (objects inner) r = zip_at (IsFlag k.known_by.is.definers (objects inner)) x.relocations k.link.one_word i d true flags h.0 refl in
-        let first : IsMember inner 0 name = record { object = x; at = refl } in
-        let named : IsMember ws m name = record { object = x; at = at } in
+        let first : IsNamedMember inner 0 name = record { object = x; at = refl } in
+        let named : IsNamedMember ws m name = record { object = x; at = at } in
         let whole : GivesOneWord (folder known) name inner r = one_word (folder known) k.known_by.is.definers name inner r (record { hashes = k.known_by.is.hashes; made = walk_made known name inner walks; first = first }) one_word_by in
         let word = whole (slot_for run) in
         let own_slots = slots_of (planned_firms run inner) in
