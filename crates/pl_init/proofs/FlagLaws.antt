@@ -10,11 +10,11 @@ use Rattle.pl_init.specs.Found.{among, is_seen}
 use Rattle.pl_init.specs.Flags.{AreFlags}
 use Rattle.pl_init.proofs.ListLaws.{number_laws}
 
-pub none_flaged : AreFlags (replicate MAX_MEMBERS false) (λ _. false)
-none_flaged = record { long = length-replicate MAX_MEMBERS false; each = λ k lt. get_or-replicate MAX_MEMBERS k false false lt }
+pub none_flagged : AreFlags (replicate MAX_MEMBERS false) (λ _. false)
+none_flagged = record { long = length-replicate MAX_MEMBERS false; each = λ k lt. get_or-replicate MAX_MEMBERS k false false lt }
 
-pub one_flaged : (flags : List Bool) (test : ℕ → Bool) (m : ℕ) → AreFlags flags test → m < MAX_MEMBERS → AreFlags (set flags m true) (λ k. k == m || test k)
-one_flaged flags test m a small = record {
+pub one_flagged : (flags : List Bool) (test : ℕ → Bool) (m : ℕ) → AreFlags flags test → m < MAX_MEMBERS → AreFlags (set flags m true) (λ k. k == m || test k)
+one_flagged flags test m a small = record {
   long = length-set flags m true ∙ a.long;
   each = λ k lt. elim (cases_Bool (k == m)) [
     | inl t ↦ here k (eqb-true k m t) ∙ sym (or_left (k == m) (test k) t)
@@ -35,8 +35,8 @@ pub same_flags : (flags : List Bool) (f g : ℕ → Bool) → ((k : ℕ) → f k
 same_flags flags f g same a = record { long = a.long; each = λ k lt. a.each k lt ∙ same k }
 
 -- one row more, and the flag of the member to which it leads
-pub seen_flaged : (flags : List Bool) (m : ℕ) (rows after : List ReachRow) (r : ReachRow) → after ≡ rows ++ r ∷ [] → AreFlags flags (λ k. k == r.to || is_seen m rows k) → AreFlags flags (is_seen m after)
-seen_flaged flags m rows after r is a = same_flags flags (λ k. k == r.to || is_seen m rows k) (is_seen m after) (λ k. pushed k ∙ ap (λ (z : List ReachRow). is_seen m z k) (sym is)) a
+pub seen_flagged : (flags : List Bool) (m : ℕ) (rows after : List ReachRow) (r : ReachRow) → after ≡ rows ++ r ∷ [] → AreFlags flags (λ k. k == r.to || is_seen m rows k) → AreFlags flags (is_seen m after)
+seen_flagged flags m rows after r is a = same_flags flags (λ k. k == r.to || is_seen m rows k) (is_seen m after) (λ k. pushed k ∙ ap (λ (z : List ReachRow). is_seen m z k) (sym is)) a
   where
     turn : (a b c d : Bool) → a ≡ d → (a || (b || c)) ≡ (b || (c || (d || false)))
     turn true true c d e = refl

@@ -1,4 +1,4 @@
--- One member more of an order, and what is flaged then.
+-- One member more of an order, and what is flagged then.
 use Rattle.std.proofs.Common.{◌≡◌, ℕ, zero, suc, ◌+◌, ◌-◌, ◌<◌, ◌≤◌, Bool, true, false, ◌&&◌, ◌||◌, not, List, [], ◌∷◌, ◌++◌, length, get_or, take, drop, Option, Some, None, refl, sym, ap, ◌∙◌, arith}
 use Rattle.std.specs.Prelude.{◌==◌, nat_lt, slice_index_or, find}
 use Rattle.std.specs.List.{list_all, range_with_len}
@@ -9,14 +9,14 @@ use Rattle.pl_scope.specs.declared.constants.TheConstants.{MAX_MEMBERS}
 use Rattle.pl_init.specs.declared.relation.ReachRow.{ReachRow}
 use Rattle.pl_init.specs.Graph.{has_number}
 use Rattle.pl_init.specs.Lawful.{precedes, is_ready, is_next, are_next, with_next, ordered}
-use Rattle.pl_init.specs.Flags.{AreFlags, is_flaged_ready, is_flaged_next}
+use Rattle.pl_init.specs.Flags.{AreFlags, is_flagged_ready, is_flagged_next}
 use Rattle.pl_init.proofs.ListLaws.{number_laws}
 use Rattle.pl_init.proofs.FlagLaws.{same_flags}
 
 -- ---- flags of an order's members
 
-pub has_flaged : (flags : List Bool) (front after : List ℕ) (m : ℕ) → after ≡ front ++ m ∷ [] → AreFlags flags (λ k. k == m || has_number front k) → AreFlags flags (has_number after)
-has_flaged flags front after m is a = same_flags flags (λ k. k == m || has_number front k) (has_number after) (λ k. pushed k ∙ ap (λ (z : List ℕ). has_number z k) (sym is)) a
+pub has_flagged : (flags : List Bool) (front after : List ℕ) (m : ℕ) → after ≡ front ++ m ∷ [] → AreFlags flags (λ k. k == m || has_number front k) → AreFlags flags (has_number after)
+has_flagged flags front after m is a = same_flags flags (λ k. k == m || has_number front k) (has_number after) (λ k. pushed k ∙ ap (λ (z : List ℕ). has_number z k) (sym is)) a
   where
     turn : (a b c : Bool) → a ≡ c → (a || b) ≡ (b || (c || false))
     turn true true c e = refl
@@ -37,10 +37,10 @@ same_find : (p q : ℕ → Bool) (n a : ℕ) → ((k : ℕ) → k < a + n → p 
 same_find p q zero a same = refl
 same_find p q (suc n) a same = let rest : find p (range_with_len (a + 1) n) ≡ find q (range_with_len (a + 1) n) = same_find p q n (a + 1) (λ k lt. same k (omega arith)) in rw (same a (omega arith), rest) refl
 
-pub flaged_next : (rows : List ReachRow) (count m : ℕ) (flags : List Bool) (front : List ℕ) → count ≤ MAX_MEMBERS → m < count → AreFlags flags (has_number front) → is_flaged_next rows count flags m ≡ is_next rows count front m
+pub flagged_next : (rows : List ReachRow) (count m : ℕ) (flags : List Bool) (front : List ℕ) → count ≤ MAX_MEMBERS → m < count → AreFlags flags (has_number front) → is_flagged_next rows count flags m ≡ is_next rows count front m
 unfolding is_next
-flaged_next rows count m flags front few small a =
-    let all : is_flaged_ready rows count flags m ≡ is_ready rows count front m =
+flagged_next rows count m flags front few small a =
+    let all : is_flagged_ready rows count flags m ≡ is_ready rows count front m =
     same_all (λ k. slice_index_or flags k false || not (precedes rows k m)) (λ k. has_number front k || not (precedes rows k m)) count 0 (λ k lt. ap (λ (b : Bool). b || not (precedes rows k m)) (a.each k (below lt))) in
     let own : slice_index_or flags m false ≡ has_number front m = a.each m (omega arith) in
     rw (own, all) refl
@@ -48,8 +48,8 @@ flaged_next rows count m flags front few small a =
     below : {k : ℕ} → k < 0 + count → k < MAX_MEMBERS
     below lt = omega (arith, few)
 
-find_next : (rows : List ReachRow) (count : ℕ) (flags : List Bool) (front : List ℕ) → count ≤ MAX_MEMBERS → AreFlags flags (has_number front) → find (is_flaged_next rows count flags) (range_with_len 0 count) ≡ find (is_next rows count front) (range_with_len 0 count)
-find_next rows count flags front few a = same_find (is_flaged_next rows count flags) (is_next rows count front) count 0 (λ k lt. flaged_next rows count k flags front few (below lt) a)
+find_next : (rows : List ReachRow) (count : ℕ) (flags : List Bool) (front : List ℕ) → count ≤ MAX_MEMBERS → AreFlags flags (has_number front) → find (is_flagged_next rows count flags) (range_with_len 0 count) ≡ find (is_next rows count front) (range_with_len 0 count)
+find_next rows count flags front few a = same_find (is_flagged_next rows count flags) (is_next rows count front) count 0 (λ k lt. flagged_next rows count k flags front few (below lt) a)
   where
     below : {k : ℕ} → k < 0 + count → k < count
     below lt = omega arith
@@ -63,12 +63,12 @@ one_turn : (rows : List ReachRow) (count most : ℕ) (front : List ℕ) (next : 
 unfolding ordered
 one_turn rows count most front next is = ap (λ (o : Option ℕ). with_next o front (λ m. ordered rows count most (front ++ m ∷ []))) is
 
-pub ordered_none : (rows : List ReachRow) (count turn : ℕ) (front whole : List ℕ) (flags : List Bool) → count ≤ MAX_MEMBERS → turn < count → AreFlags flags (has_number front) → find (is_flaged_next rows count flags) (range_with_len 0 count) ≡ None
+pub ordered_none : (rows : List ReachRow) (count turn : ℕ) (front whole : List ℕ) (flags : List Bool) → count ≤ MAX_MEMBERS → turn < count → AreFlags flags (has_number front) → find (is_flagged_next rows count flags) (range_with_len 0 count) ≡ None
     → ordered rows count (count - turn) front ≡ whole → front ≡ whole
 ordered_none rows count turn front whole flags few small a none so_far =
     sym (one_turn rows count (count - (turn + 1)) front None (sym (find_next rows count flags front few a) ∙ none)) ∙ (ap (λ (k : ℕ). ordered rows count k front) (left count turn small) ∙ so_far)
 
-pub ordered_more : (rows : List ReachRow) (count turn m : ℕ) (front after whole : List ℕ) (flags : List Bool) → count ≤ MAX_MEMBERS → turn < count → AreFlags flags (has_number front) → find (is_flaged_next rows count flags) (range_with_len 0 count) ≡ Some m → after ≡ front ++ m ∷ []
+pub ordered_more : (rows : List ReachRow) (count turn m : ℕ) (front after whole : List ℕ) (flags : List Bool) → count ≤ MAX_MEMBERS → turn < count → AreFlags flags (has_number front) → find (is_flagged_next rows count flags) (range_with_len 0 count) ≡ Some m → after ≡ front ++ m ∷ []
     → ordered rows count (count - turn) front ≡ whole → ordered rows count (count - (turn + 1)) after ≡ whole
 ordered_more rows count turn m front after whole flags few small a some is so_far =
     ap (λ (z : List ℕ). ordered rows count (count - (turn + 1)) z) is
@@ -107,20 +107,20 @@ next_past rows count i order whole lt past so_far =
     off : (a b c : Bool) → a ≡ false → (a && b && c) ≡ false
     off a b c h = rw h refl
 
-pub next_stop : (rows : List ReachRow) (count i : ℕ) (order : List ℕ) (flags : List Bool) (answer whole : Bool) → count ≤ MAX_MEMBERS → i < length order → get_or order i 0 < count → AreFlags flags (has_number (take i order)) → answer ≡ is_flaged_next rows count flags (get_or order i 0) → answer ≡ false
+pub next_stop : (rows : List ReachRow) (count i : ℕ) (order : List ℕ) (flags : List Bool) (answer whole : Bool) → count ≤ MAX_MEMBERS → i < length order → get_or order i 0 < count → AreFlags flags (has_number (take i order)) → answer ≡ is_flagged_next rows count flags (get_or order i 0) → answer ≡ false
     → are_next rows count (take i order) (drop i order) ≡ whole → false ≡ whole
 next_stop rows count i order flags answer whole few lt small a tells no' so_far =
-    let off : is_next rows count (take i order) (get_or order i 0) ≡ false = sym (flaged_next rows count (get_or order i 0) flags (take i order) few small a) ∙ (sym tells ∙ no') in
+    let off : is_next rows count (take i order) (get_or order i 0) ≡ false = sym (flagged_next rows count (get_or order i 0) flags (take i order) few small a) ∙ (sym tells ∙ no') in
     sym (miss (nat_lt (get_or order i 0) count) (is_next rows count (take i order) (get_or order i 0)) (are_next rows count (take (i + 1) order) (drop (i + 1) order)) off) ∙ (sym (at_next rows count i order lt) ∙ so_far)
   where
     miss : (a b c : Bool) → b ≡ false → (a && b && c) ≡ false
     miss true b c h = rw h refl
     miss false b c h = refl
 
-pub next_more : (rows : List ReachRow) (count i : ℕ) (order : List ℕ) (flags : List Bool) (answer whole : Bool) → count ≤ MAX_MEMBERS → i < length order → get_or order i 0 < count → AreFlags flags (has_number (take i order)) → answer ≡ is_flaged_next rows count flags (get_or order i 0) → answer ≡ true
+pub next_more : (rows : List ReachRow) (count i : ℕ) (order : List ℕ) (flags : List Bool) (answer whole : Bool) → count ≤ MAX_MEMBERS → i < length order → get_or order i 0 < count → AreFlags flags (has_number (take i order)) → answer ≡ is_flagged_next rows count flags (get_or order i 0) → answer ≡ true
     → are_next rows count (take i order) (drop i order) ≡ whole → are_next rows count (take (i + 1) order) (drop (i + 1) order) ≡ whole
 next_more rows count i order flags answer whole few lt small a tells yes' so_far =
-    let on : is_next rows count (take i order) (get_or order i 0) ≡ true = sym (flaged_next rows count (get_or order i 0) flags (take i order) few small a) ∙ (sym tells ∙ yes') in
+    let on : is_next rows count (take i order) (get_or order i 0) ≡ true = sym (flagged_next rows count (get_or order i 0) flags (take i order) few small a) ∙ (sym tells ∙ yes') in
     sym (hit (nat_lt (get_or order i 0) count) (is_next rows count (take i order) (get_or order i 0)) (are_next rows count (take (i + 1) order) (drop (i + 1) order)) (lt-ltb (get_or order i 0) count small) on) ∙ (sym (at_next rows count i order lt) ∙ so_far)
   where
     hit : (a b c : Bool) → a ≡ true → b ≡ true → (a && b && c) ≡ c

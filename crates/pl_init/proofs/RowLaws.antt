@@ -1,4 +1,4 @@
--- One row more of the rows of a member, and what is flaged then.
+-- One row more of the rows of a member, and what is flagged then.
 use Rattle.std.proofs.Common.{◌≡◌, ◌≢◌, ℕ, suc, ◌+◌, ◌<◌, ◌≤◌, Bool, true, false, ◌&&◌, ◌||◌, cond, List, [], ◌∷◌, ◌++◌, length, get_or, take, drop, refl, sym, ap, subst, ◌∙◌, arith}
 use Rattle.std.specs.Prelude.{◌==◌, nat_lt, slice_index_or}
 use Rattle.std.specs.List.{list_all}
@@ -12,7 +12,7 @@ use Rattle.pl_init.specs.Graph.{needs}
 use Rattle.pl_init.specs.Found.{is_seen}
 use Rattle.pl_init.specs.Right.{is_numbered, rows_of, is_step, are_steps, holds_needs, is_closed}
 use Rattle.pl_init.specs.Flags.{AreFlags, IsGraph}
-use Rattle.pl_init.proofs.FlagLaws.{seen_flaged}
+use Rattle.pl_init.proofs.FlagLaws.{seen_flagged}
 
 -- what a read gives past the end
 abbrev pub no_row : ReachRow
@@ -80,12 +80,12 @@ unfolding are_steps
 steps_all graph m i rows whole past so_far = sym (ap (λ (z : List ReachRow). are_steps graph m (rows_of (take i rows) m) (rows_of z m)) (drop_all i rows past)) ∙ so_far
 
 pub seen_own : (m i : ℕ) (rows : List ReachRow) (flags : List Bool) → i < length rows → (row_at rows i).from ≡ m → AreFlags flags (λ k. k == (row_at rows i).to || is_seen m (rows_of (take i rows) m) k) → AreFlags flags (is_seen m (rows_of (take (i + 1) rows) m))
-seen_own m i rows flags lt is a = seen_flaged flags m (rows_of (take i rows) m) (rows_of (take (i + 1) rows) m) (row_at rows i) (own_front rows m i lt is) a
+seen_own m i rows flags lt is a = seen_flagged flags m (rows_of (take i rows) m) (rows_of (take (i + 1) rows) m) (row_at rows i) (own_front rows m i lt is) a
 
 pub seen_other : (m i : ℕ) (rows : List ReachRow) (flags : List Bool) → i < length rows → (row_at rows i).from ≢ m → AreFlags flags (is_seen m (rows_of (take i rows) m)) → AreFlags flags (is_seen m (rows_of (take (i + 1) rows) m))
 seen_other m i rows flags lt ne a = subst (λ (z : List ReachRow). AreFlags flags (is_seen m z)) (sym (other_front rows m i lt ne)) a
 
--- ---- needs that are flaged
+-- ---- needs that are flagged
 
 agree : (p q : ℕ → Bool) (xs : List ℕ) → ((i : ℕ) → i < length xs → p (get_or xs i 0) ≡ q (get_or xs i 0)) → list_all p xs ≡ list_all q xs
 agree p q [] same = refl

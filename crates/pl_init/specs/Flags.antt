@@ -21,10 +21,10 @@ pub record IsGraph (graph : List (List ℕ)) : Type 0 where
   pub few : length graph ≤ MAX_MEMBERS
   pub numbers : All (λ needs. All (λ k. k < length graph) needs) graph
 
--- all of the members, so many, that have to come before one are flaged
-abbrev pub is_flaged_ready : List ReachRow → ℕ → List Bool → ℕ → Bool
-is_flaged_ready rows count flags m = list_all (λ k. slice_index_or flags k false || not (precedes rows k m)) (range_with_len 0 count)
+-- all of the members, so many, that have to come before one are flagged
+abbrev pub is_flagged_ready : List ReachRow → ℕ → List Bool → ℕ → Bool
+is_flagged_ready rows count flags m = list_all (λ k. slice_index_or flags k false || not (precedes rows k m)) (range_with_len 0 count)
 
--- a member that is not flaged is ready
-abbrev pub is_flaged_next : List ReachRow → ℕ → List Bool → ℕ → Bool
-is_flaged_next rows count flags m = not (slice_index_or flags m false) && is_flaged_ready rows count flags m
+-- a member that is not flagged is ready
+abbrev pub is_flagged_next : List ReachRow → ℕ → List Bool → ℕ → Bool
+is_flagged_next rows count flags m = not (slice_index_or flags m false) && is_flagged_ready rows count flags m

@@ -5,7 +5,7 @@ ghost use Rattle.pl_init.specs.Flags.{AreFlags};
 use pl_scope::MAX_MEMBERS;
 
 /// No flags.
-#[tactic(auto, using(crate::proofs::FlagLaws::none_flaged))]
+#[tactic(auto, using(crate::proofs::FlagLaws::none_flagged))]
 pub fn no_flags() -> [bool; MAX_MEMBERS]
     ensures { AreFlags result (λ _. false) }
 {

@@ -1,7 +1,7 @@
 // Orders of the members, by a table of rows.
 ghost use Rattle.std.specs.Prelude.{◌≡◌, ◌<◌, ◌≤◌, [], ℕ, List, length, find, IfOk, IfSome};
 ghost use Rattle.std.specs.List.{range_with_len};
-ghost use Rattle.pl_init.specs.Flags.{AreFlags, is_flaged_ready, is_flaged_next};
+ghost use Rattle.pl_init.specs.Flags.{AreFlags, is_flagged_ready, is_flagged_next};
 ghost use Rattle.pl_init.specs.Lawful as spec;
 
 use crate::flags::{flag, no_flags};
@@ -13,7 +13,7 @@ fn is_ready(table: &Table<'_>, count: u32, stands: &[bool], member: u32) -> bool
     requires few { count ≤ MAX_MEMBERS }
     requires small { member < count }
     requires long { length stands.now ≡ MAX_MEMBERS }
-    ensures { result ≡ is_flaged_ready table.now.rows.now count stands.now member }
+    ensures { result ≡ is_flagged_ready table.now.rows.now count stands.now member }
 {
     (0..count).all(|other| stands[other as usize] || !table.precedes(other, member))
 }
@@ -22,7 +22,7 @@ fn is_next(table: &Table<'_>, count: u32, stands: &[bool], member: u32) -> bool
     requires few { count ≤ MAX_MEMBERS }
     requires small { member < count }
     requires long { length stands.now ≡ MAX_MEMBERS }
-    ensures { result ≡ is_flaged_next table.now.rows.now count stands.now member }
+    ensures { result ≡ is_flagged_next table.now.rows.now count stands.now member }
 {
     !stands[member as usize] && is_ready(table, count, stands, member)
 }
@@ -31,7 +31,7 @@ fn is_next(table: &Table<'_>, count: u32, stands: &[bool], member: u32) -> bool
 fn next_of(table: &Table<'_>, count: u32, stands: &[bool]) -> Option<u32>
     requires few { count ≤ MAX_MEMBERS }
     requires long { length stands.now ≡ MAX_MEMBERS }
-    ensures value { result ≡ find (is_flaged_next table.now.rows.now count stands.now)
+    ensures value { result ≡ find (is_flagged_next table.now.rows.now count stands.now)
         (range_with_len 0 count) }
     ensures small { IfSome result (λ member. member < count) }
 {

@@ -48,7 +48,7 @@ fn is_needed(graph: &[Rows<u32>], member: u32, needed: u32) -> bool
     needs_of(graph, member).iter().any(|to| *to == needed)
 }
 
-/// Whether a row is a step after those whose members are flaged.
+/// Whether a row is a step after those whose members are flagged.
 #[tactic(auto, unfolding(crate::specs::Right::is_step))]
 fn is_step(graph: &[Rows<u32>], seen: &[bool], row: &ReachRow) -> bool
     requires graph { IsGraph graph.now }
@@ -60,7 +60,7 @@ fn is_step(graph: &[Rows<u32>], seen: &[bool], row: &ReachRow) -> bool
     !seen[row.to as usize] && seen[row.via as usize] && is_needed(graph, row.via, row.to)
 }
 
-/// Whether the rows of a member are steps, each after those before it. If so, the members to which they lead are flaged.
+/// Whether the rows of a member are steps, each after those before it. If so, the members to which they lead are flagged.
 fn are_steps(graph: &[Rows<u32>], seen: &mut [bool], member: u32, rows: &[ReachRow]) -> bool
     requires graph { IsGraph graph.now }
     requires numbered { spec.are_numbered (length graph.now) rows.now ≡ true }
@@ -80,7 +80,7 @@ fn are_steps(graph: &[Rows<u32>], seen: &mut [bool], member: u32, rows: &[ReachR
     true
 }
 
-/// Whether all that a member needs is flaged.
+/// Whether all that a member needs is flagged.
 fn holds_needs(graph: &[Rows<u32>], seen: &[bool], member: u32) -> bool
     requires graph { IsGraph graph.now }
     requires within { member < length graph.now }
@@ -90,7 +90,7 @@ fn holds_needs(graph: &[Rows<u32>], seen: &[bool], member: u32) -> bool
     needs_of(graph, member).iter().all(|to| seen[*to as usize])
 }
 
-/// Whether all that a member needs, and all that those need to which its rows lead, is flaged.
+/// Whether all that a member needs, and all that those need to which its rows lead, is flagged.
 fn is_closed(graph: &[Rows<u32>], seen: &[bool], member: u32, rows: &[ReachRow]) -> bool
     requires graph { IsGraph graph.now }
     requires within { member < length graph.now }

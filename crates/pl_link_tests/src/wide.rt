@@ -20,17 +20,24 @@ const SYMBOLS: u32 = 0x4000;
 
 const LIBRARIES: u32 = 255;
 
-fn program(alloc: Global) -> Result<String, AllocError> {
-    let mut recipe = String::from_str(alloc, "program\nhash gnu\ndata 20000\n")?;
+fn needs(alloc: Global, recipe: &mut String) -> Result<(), AllocError> {
     for library in 0..LIBRARIES {
         recipe.push_str(format!(in alloc; "needs lib{library}\n")?.as_str())?;
     }
+    Ok(())
+}
+
+// A weak reference, and the relocation of its word.
+fn reference(alloc: Global, symbol: u32) -> Result<String, AllocError> {
+    let place = symbol.wrapping_mul(8);
+    format!(in alloc; "ref r{symbol:04x} weak func\nrel globdat {place:x} r{symbol:04x} 0\n")
+}
+
+fn program(alloc: Global) -> Result<String, AllocError> {
+    let mut recipe = String::from_str(alloc, "program\nhash gnu\ndata 20000\n")?;
+    needs(alloc, &mut recipe)?;
     for symbol in 0..SYMBOLS {
-        let place = 8 * symbol;
-        let line = format!(in alloc;
-            "ref r{symbol:04x} weak func\nrel globdat {place:x} r{symbol:04x} 0\n"
-        )?;
-        recipe.push_str(line.as_str())?;
+        recipe.push_str(reference(alloc, symbol)?.as_str())?;
     }
     Ok(recipe)
 }
@@ -57,16 +64,10 @@ fn expect_zeros(rt: &impl Abort, started: &Started<'_>) {
     assert_eq!(rt; started.image.byte(0x51_ffff), Some(0));
 }
 
-// Gives the name that is wanted its file, the program's where it is the first.
-fn give<F>(
-    alloc: Global,
-    loader: &mut Loader<'_, F>,
-    first: bool,
-    files: &[Vec<u8>; 2],
-) -> Result<(), Fail>
+// Gives the name that is wanted its file.
+fn give<F>(alloc: Global, loader: &mut Loader<'_, F>, file: &[u8]) -> Result<(), Fail>
     requires { IsSome (wants loader.old.walk.order) }
 {
-    let file = if first { &files[0] } else { &files[1] };
     if file.len() > 0x10_0000 {
         return Err("a short file".into());
     }
@@ -76,17 +77,19 @@ fn give<F>(
 #[test]
 fn wide(rt: HostRuntime) -> Result<(), Fail> {
     let alloc: Global = rt.alloc();
-    let files = [
-        file(alloc, program(alloc)?.as_str())?,
-        file(alloc, library(alloc)?.as_str())?,
-    ];
+    let program = file(alloc, program(alloc)?.as_str())?;
+    let library = file(alloc, library(alloc)?.as_str())?;
     let placer = Placer::new(|holes: &Holes, span: u64, align: u64| lowest(holes, span, align));
     let mut loader = Loader::new(alloc, "p", None, &placer)?;
     for index in 0..MAX_MEMBERS {
         if loader.wants().is_none() {
             return Err("fewer members".into());
         }
-        give(alloc, &mut loader, index == 0, &files)?;
+        give(
+            alloc,
+            &mut loader,
+            if index == 0 { &program } else { &library },
+        )?;
     }
     if loader.wants().is_some() {
         return Err("more members".into());

@@ -26,8 +26,8 @@ first_flags b want j = sym (ap (λ (c : Bool). b || c) (no_walk want j) ∙ or_f
 pub walk_more : (walks : List (List ℕ)) (k want j : ℕ) (walk item : List ℕ) (before b after : Bool) → k < length walks → walk ≡ item → item ≡ get_or walks k item → b ≡ (before || are_together (take k walks) want j) → after ≡ (b || (walk_has walk want && walk_has walk j))
     → after ≡ (before || are_together (take (k + 1) walks) want j)
 unfolding are_together
-walk_more walks k want j walk item before b after lt same is so_far flaged =
-    flaged ∙ (ap (λ (z : Bool). z || (walk_has walk want && walk_has walk j)) so_far
+walk_more walks k want j walk item before b after lt same is so_far flagged =
+    flagged ∙ (ap (λ (z : Bool). z || (walk_has walk want && walk_has walk j)) so_far
     ∙ (or_assoc before (list_any (λ w. walk_has w want && walk_has w j) (take k walks)) (walk_has walk want && walk_has walk j)
     ∙ ap (λ (z : Bool). before || z) (ap (λ (w : List ℕ). list_any (λ v. walk_has v want && walk_has v j) (take k walks) || (walk_has w want && walk_has w j)) (same ∙ is) ∙ sym (list_any_more (λ w. walk_has w want && walk_has w j) walks k item lt))))
 

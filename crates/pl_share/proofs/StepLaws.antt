@@ -15,7 +15,7 @@ use Rattle.pl_slots.specs.Holes.{region_holes, without, lowest}
 use Rattle.pl_slots.specs.Plan.{slot_range}
 use Rattle.pl_share.specs.declared.given.Given.{Given}
 use Rattle.pl_share.specs.Together.{are_together, AreFlags}
-use Rattle.pl_share.specs.Shared.{given_to, AreGiven, is_clear, kept, all_kept, holes_for, flaged_holes, with_row, has_slot, at_place, placed, all_placed, slot_of, slots_of, plan_shared}
+use Rattle.pl_share.specs.Shared.{given_to, AreGiven, is_clear, kept, all_kept, holes_for, flagged_holes, with_row, has_slot, at_place, placed, all_placed, slot_of, slots_of, plan_shared}
 
 -- ---- flags
 
@@ -39,7 +39,7 @@ same_fold p q (g ∷ given) holes same =
     ap (λ (b : Bool). fold (λ hs x. if p x then without (slot_range x.slot) hs else hs) (if b then without (slot_range g.slot) holes else holes) given) (same zero g (omega arith))
     ∙ same_fold p q given (if q g then without (slot_range g.slot) holes else holes) (λ k d lt. same (suc k) d (omega arith))
 
-pub holes_by_flags : (walks : List (List ℕ)) (region : Range) (given : List Given) (i count : ℕ) (flags : List Bool) → AreFlags flags walks i count → All (λ g. g.want < count) given → flaged_holes flags region given ≡ holes_for walks region given i
+pub holes_by_flags : (walks : List (List ℕ)) (region : Range) (given : List Given) (i count : ℕ) (flags : List Bool) → AreFlags flags walks i count → All (λ g. g.want < count) given → flagged_holes flags region given ≡ holes_for walks region given i
 unfolding holes_for
 holes_by_flags walks region given i count flags m within =
     same_fold (λ g. slice_index_or flags g.want false) (λ g. are_together walks i g.want) given (region_holes region) (λ k d lt. m.each (get_or given k d).want (within k d lt))

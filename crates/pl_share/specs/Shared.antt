@@ -23,9 +23,9 @@ pub record AreGiven (given : List Given) (count : ℕ) : Type 0 where
   pub within : All (λ g. g.want < count) given
   pub ends : All (λ g. g.slot.start + g.slot.span < 2 ^ 64) given
 
--- the holes that slots of flaged wants leave
-abbrev pub flaged_holes : List Bool → Range → List Given → List Range
-flaged_holes flags region given = fold (λ holes g. if slice_index_or flags g.want false then without (slot_range g.slot) holes else holes) (region_holes region) given
+-- the holes that slots of flagged wants leave
+abbrev pub flagged_holes : List Bool → Range → List Given → List Range
+flagged_holes flags region given = fold (λ holes g. if slice_index_or flags g.want false then without (slot_range g.slot) holes else holes) (region_holes region) given
 
 -- ---- kept rows
 

@@ -20,7 +20,7 @@ use pl_slots::{
 };
 use std::alloc::{AllocError, Global};
 
-/// Whether a row meets no slot of a flaged want.
+/// Whether a row meets no slot of a flagged want.
 fn is_clear(given: &[Given], flags: &[bool], row: &Slot) -> bool
     requires { All (λ g. g.want < length flags.now) given.now }
     ensures { result ≡ list_all (λ g. not (slice_index_or flags.now g.want false) || is_beside
@@ -31,7 +31,7 @@ fn is_clear(given: &[Given], flags: &[bool], row: &Slot) -> bool
         .all(|g| !flags[g.want] || is_beside(row, &g.slot))
 }
 
-/// The holes that the slots of flaged wants leave.
+/// The holes that the slots of flagged wants leave.
 fn holes_beside(
     alloc: Global,
     given: &[Given],
@@ -39,7 +39,7 @@ fn holes_beside(
     region: Range,
 ) -> Result<Vec<Range>, AllocError>
     requires given { AreGiven given.now (length flags.now) }
-    ensures { IfOk result (λ holes. holes.items ≡ spec.flaged_holes flags.now region given.now) }
+    ensures { IfOk result (λ holes. holes.items ≡ spec.flagged_holes flags.now region given.now) }
 {
     let mut holes = region_holes(alloc, region)?;
     for g in given {

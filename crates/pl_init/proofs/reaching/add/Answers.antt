@@ -1,5 +1,5 @@
-use Rattle.pl_init.proofs.FlagLaws.{seen_flaged}
+use Rattle.pl_init.proofs.FlagLaws.{seen_flagged}
 use Rattle.pl_init.proofs.reaching.add.Goals as goal
 
 pub returns-clause-seen : goal.returns-clause-seen
-returns-clause-seen c = seen_flaged _ _ _ _ c.args.row c.in_ok-push.ensures.ok (c.flag.ensures _ c.requires.seen)
+returns-clause-seen c = seen_flagged _ _ _ _ c.args.row c.in_ok-push.ensures.ok (c.flag.ensures _ c.requires.seen)
