@@ -59,7 +59,7 @@ pub(crate) fn do_rows<D: Folder>(held: &mut Held<D>, steps: &[Step]) -> Result<(
     Ok(())
 }
 
-/// Does the next row of a journal, where one is left, after so many: then `true`, else `false` without a call. It takes no memory.
+/// Does the next row of a journal, where one is left, after so many: then `true`, else `false`, and the folder is as it was. It takes no memory.
 pub fn do_next<D: Folder>(held: &mut Held<D>, steps: &[Step], done: usize) -> Result<bool, Failed>
     requires { CanGoOn (D.seen held.old.folder) steps.now done }
     ensures calls { NextOn (ends result) steps.now done (D.seen held.old.folder)

@@ -26,7 +26,7 @@ pub fn each_part_stands()
     ensures end { RunsEnd }
 {}
 
-/// What a crash of a run or of a recovery leaves has no journal, or one in its grammar, and then no recovery ends by `BadJournal`.
+/// What a crash of a run, or of a recovery of a folder without a journal or with one in its grammar, leaves has none, or one in its grammar; and of a folder that tells its files no recovery ends by `BadJournal` then.
 pub fn never_a_bad_journal()
     ensures run { RunsLeave }
     ensures recovery { RecoveriesLeave }

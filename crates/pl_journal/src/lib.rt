@@ -32,7 +32,8 @@ pub use fault::JournalFault;
 pub use file_name::FileName;
 pub use finishing::finish_steps;
 pub use laws::{
-    after_the_start, each_part_stands, never_a_bad_journal, on_a_real_disk, since_the_start,
+    after_the_start, each_part_stands, never_a_bad_journal, on_a_real_disk,
+    runs_beside_a_real_disk, since_the_start,
 };
 pub use reading::read_journal;
 pub use recovering::recover_lent;

@@ -157,7 +157,7 @@ fn recover_settled<D: Folder>(held: &mut Held<D>, alloc: Global) -> Result<(), J
 
 /// Recovers a folder, as `recover`, and lets it go.
 ///
-/// Where none of the journal's own names is there its only calls are a `settle` and a `names`. On a disk whose `settle` makes names last and no file's bytes it is the same, but that files which were loose at its start may stay so.
+/// Where none of the journal's own names is there, Ok comes after a `settle` and a call that changed nothing. On a disk whose `settle` makes names last and no file's bytes it is the same, but that files which were loose at its start may stay so.
 pub fn recover_lent<D: Folder>(held: &mut Held<D>, alloc: Global) -> Result<(), JournalFault>
     ensures calls { Calls (part_ending result) (Recovers (fault_of result)) (D.seen held.old.folder)
         (D.seen held.new.folder) }

@@ -103,7 +103,7 @@ impl<'a, D: Folder> Staged<'a, D> {
         }
     }
 
-    /// Stops before the commit, without a call. What is staged is left to a recovery, which removes it.
+    /// Stops before the commit; the folder is as it was. What is staged is left to a recovery, which removes it.
     pub fn stop(self) -> Stopped<'a, D>
         ensures same_reference { result.held.ghost_name ≡ self.entry.held.ghost_name }
         ensures same { result.held.now ≡ self.entry.held.now }
@@ -115,7 +115,7 @@ impl<'a, D: Folder> Staged<'a, D> {
 }
 
 impl<'a, D: Folder> Committed<'a, D> {
-    /// Does the next row, where one is left: then `true`, else `false` without a call. A fault comes only where a row is left and the folder failed at it; then as many rows count as done as before, and the loan serves a recovery alone.
+    /// Does the next row, where one is left: then `true`, else `false`, and the folder is as it was. A fault comes only where a row is left and the folder failed at it; then as many rows count as done as before, and the loan serves a recovery alone.
     pub fn rename_next(&mut self) -> Result<bool, Failed>
         requires { CanGoOn (D.seen self.old.held.now.folder) self.old.steps self.old.done }
         ensures same_reference { self.new.held.ghost_name ≡ self.old.held.ghost_name }
@@ -157,7 +157,7 @@ impl<'a, D: Folder> Committed<'a, D> {
         }
     }
 
-    /// Stops, without a call. Rows that are not done are left to a recovery.
+    /// Stops; the folder is as it was. Rows that are not done are left to a recovery.
     pub fn stop(self) -> Stopped<'a, D>
         ensures same_reference { result.held.ghost_name ≡ self.entry.held.ghost_name }
         ensures same { result.held.now ≡ self.entry.held.now }
