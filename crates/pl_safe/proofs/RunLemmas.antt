@@ -314,10 +314,10 @@ real_writers_end asked w v status folder told one whole ran =
     loses_same start files other image same loses n = ⊎_elim (λ is. inl (is ∙ sym (same n))) (λ lost. inr (lost.0, same n ∙ lost.1)) (loses n)
 
 pub firm_disks_sound : FirmDisksStaySound
-firm_disks_sound asked w v status folder told start firm ran =
+firm_disks_sound asked w v status folder told firm ran =
     let run = runs_on_real asked w v status told ran in
     let both = firm_same (ending_of status) w.folder.disk v.folder.disk run firm in
-    (run, both.0, both.1, λ image had. every_safe asked w v status folder told start ran image (subst (λ (d : Disk). Since d (clock w.folder.disk) image) (sym both.0) had))
+    (run, both.0, both.1, λ start image had. every_safe asked w v status folder told start ran image (subst (λ (d : Disk). Since d (clock w.folder.disk) image) (sym both.0) had))
 
 -- ---- originals
 

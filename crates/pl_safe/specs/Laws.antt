@@ -83,12 +83,12 @@ RealWritersEnd =
     → (run : RunsFirmlyOn (ending_of status) w.folder.disk v.folder.disk) × (bytes : List ℕ) × AreBytes w.input.left bytes
     × Within (now_by run.calls w.folder.disk) (LosesLoose w.folder.disk.now (after (meaning asked bytes) (restored w.folder.files)))
 
--- From a start all of whose files are firm such a disk is the same as the other, and so each image of it since then is sound where each one at the start was; and where the run is done all files are firm.
+-- From a start all of whose files are firm such a disk is the same as the other; where the run is done all files are firm; and each image of it since the start is sound where each one at the start was.
 abbrev pub FirmDisksStaySound : Type 0
 FirmDisksStaySound =
-    (asked : Option Command) (w v : Outside) (status : Status) → IsFolder w.folder → w.folder.records ≡ true → Within w.folder.disk.now IsSound → AllFirm w.folder.disk.now → Ran asked w v status
+    (asked : Option Command) (w v : Outside) (status : Status) → IsFolder w.folder → w.folder.records ≡ true → AllFirm w.folder.disk.now → Ran asked w v status
     → (run : RunsFirmlyOn (ending_of status) w.folder.disk v.folder.disk) × (v.folder.disk ≡ real_by run.calls w.folder.disk) × AtDone (ending_of status) (AllFirm v.folder.disk.now)
-    × ((image : View) → Since (real_by run.calls w.folder.disk) (clock w.folder.disk) image → IsSound image)
+    × (Within w.folder.disk.now IsSound → (image : View) → Since (real_by run.calls w.folder.disk) (clock w.folder.disk) image → IsSound image)
 
 -- what is read after a run over a folder that tells its files alone is sound, and stands for the files before or after
 abbrev pub RunsRead : Type 0

@@ -10,7 +10,7 @@ pub fn every_run_is_safe()
     ensures writers { WritersEnd }
 {}
 
-/// On a disk whose settle makes names last and no file's bytes, as real ones are, every run from the same start goes on alike, moment for moment, but for the firmness of files that were loose, that is not firm, at the start and that it left alone; where it is done or refused each file that it made is firm. So each image of such a disk since the start is a sound one of the other, where each one at the start was, but for names that were loose at the start and have in that one what they had then: these may have what a crash at the start could leave. But for them each image of a moment after the start stands for the files before or for those after, unless the run only looked; and after a command that writes, is done or refused, the files after it are the only image. From a start all of whose files are firm no name is lost so: the two disks are the same, and where the run is done or refused all files are firm, so the next one starts so.
+/// On a disk whose settle makes names last and no file's bytes, as real ones are, every run from the same start goes on alike, moment for moment, but for the firmness of files that were loose, that is not firm, at the start and that it left alone; where it is done or refused each file that it made is firm. So each image of such a disk since the start is a sound one of the other, where each one at the start was, but for names that were loose at the start and have in that one what they had then: these may have what a crash at the start could leave. But for them, over a folder that reads as a sound one, each image of a moment after the start is sound and stands for the files before or for those after, unless the run only looked; and after a command that writes, is done or refused, the files after it are the only image. From a start all of whose files are firm no name is lost so: the two disks are the same, and where the run is done or refused all files are firm, so the next one starts so.
 pub fn runs_on_real_disks()
     ensures runs { RunsOnRealDisks }
     ensures images { ImagesOfRealDisks }
@@ -30,7 +30,7 @@ pub fn runs_prelink_from_scratch()
     ensures files { FilesAreFromScratch }
 {}
 
-/// Every command keeps it that no stamp of a file or of a list is past the last one of the cache: in the files that each image since the start stands for, where it was so of each image at the start; of each moment after the start, where it was so of the files that were read; and in the images themselves after a command that writes, is done or refused. So it is of the files that are read, where the folder tells these alone.
+/// Over a folder that reads as a sound one every command keeps it that no stamp of a file or of a list is past the last one of the cache: in the files that each image since the start stands for, where it was so of each image at the start; of each moment after the start, where it was so of the files that were read; and in the images themselves after a command that writes, is done or refused. So it is of the files that are read, where the folder tells these alone.
 pub fn runs_keep_stamps_past()
     ensures every { EveryImageStandsPastAll }
     ensures leaves { RunsLeavePastAll }
