@@ -18,7 +18,7 @@ fn to(end: u64) -> Range {
 
 /// The holes of a region beside a range that is taken.
 fn left(alloc: Global, region: Range, taken: Range) -> Result<Holes, AllocError> {
-    Holes::new(region_holes(alloc, region)?).beside(alloc, taken)
+    Holes::new(region_holes(alloc, region)?).without_busy(alloc, taken)
 }
 
 /// The answers of the three policies, the last one for a number.
