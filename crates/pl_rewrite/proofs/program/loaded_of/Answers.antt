@@ -17,5 +17,5 @@ load-requires-clause-placed c = rw (c.in_ok-parts.ensures, c.in_ok-places.ensure
 
 pub returns-clause-value : goal.returns-clause-value
 returns-clause-value c =
-    let made = rw (c.in_ok-parts.ensures, c.in_ok-places.ensures, c.in_ok-scope.ensures) at c.in_ok-loaded_objects.ensures.value in
+    let made = rw (c.in_ok-parts.ensures, c.in_ok-places.ensures, c.in_ok-scope.ensures) at c.in_ok-loaded.ensures.value in
     made ∙ ap (λ (os : List Object). loaded_objects (slots_of c.args.sources.now) (originals_of c.args.sources.now) os) (objects_walked c.args.sources.now)
