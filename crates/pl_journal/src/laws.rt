@@ -21,6 +21,7 @@ pub fn each_part_stands()
     ensures staging { StagingStands }
     ensures commit { CommitStands }
     ensures steps { StepsDoRows }
+    // what a crash between two rows leaves (`Midway`), recovered, is the files before or those after
     ensures rows { RowsStand }
     ensures finish { FinishStands }
     ensures end { RunsEnd }
