@@ -43,11 +43,11 @@ abbrev pub greatest_of : Option Original → ℕ
 greatest_of None = 0
 greatest_of (Some o) = greatest_of_mark o.mark
 
--- the greatest of a first stamp and those of all marks and of their lists
+-- the greatest so far: of the cache's last stamp, those of all marks and those in their lists
 unfoldable pub greatest : ℕ → List Known → ℕ
 greatest last files = fold (λ most k. max most (greatest_of (original_in (Some k.entry)))) last files
 
--- the stamp of a run at a moment: past the greatest so far
+-- the stamp of a run at a moment: the moment, or one past the greatest so far where that is more; none where that greatest is the last that there is
 unfoldable pub stamp_after : ℕ → ℕ → Result ℕ ConeFault
 stamp_after greatest now = unless (greatest == LAST_STAMP) (StampsSpent greatest) (Ok (max now (greatest + 1)))
 

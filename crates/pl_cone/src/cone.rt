@@ -77,7 +77,7 @@ fn stale(
     stale_among(alloc, files, candidates, slots)
 }
 
-/// The stamp of a run at a moment, past the greatest so far.
+/// The stamp of a run at a moment: the moment, or one past the greatest so far where that is more.
 #[tactic(auto, unfolding(crate::specs::Cone::stamp_after))]
 fn stamp_after(greatest: u32, now: u32) -> Result<u32, ConeFault>
     ensures { result ≡ spec.stamp_after greatest now }

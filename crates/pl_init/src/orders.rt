@@ -33,7 +33,7 @@ pub fn check(scope: &Scope<'_>, order: &[u32], reach: &Reach) -> bool
     lawful(&table, scope.count(), order)
 }
 
-/// The order in which the members of a walk are initialised: at each step, of the members before which nothing has to come that does not stand yet, the one that is earliest in the walk. It fails only for want of memory.
+/// The order in which the members of a walk are initialised: at each step the earliest member that is ready. It fails only for want of memory.
 pub fn order(alloc: Global, scope: &Scope<'_>, reach: &Reach) -> Result<Vec<u32>, NoMemory>
     requires walk { IsWalk scope.now }
     requires right { is_right (graph scope.now) reach.now.rows ≡ true }
