@@ -18,7 +18,7 @@ use Rattle.pl_value.specs.Meanings.{meanings}
 use Rattle.pl_value.specs.declared.fault.LinkFault.{LinkFault}
 use Rattle.pl_value.specs.declared.fault.LinkFault.TheVariants as link
 use Rattle.pl_cone.specs.Known.{object_of, fault_of}
-use Rattle.pl_cone.specs.Skips.{is_memory, of_walk, of_tls}
+use Rattle.pl_cone.specs.Skips.{skip_is_memory, of_walk, of_tls}
 use Rattle.pl_cone.specs.declared.known.Known.{Known}
 use Rattle.pl_cone.specs.declared.skip.Skip.{Skip}
 use Rattle.pl_cone.specs.declared.skip.Skip.TheVariants as skips
@@ -85,7 +85,7 @@ resolved walked modules = because (of_link walked) (meanings (objects walked) (z
 
 -- the answer says that, or memory lacked
 abbrev pub AnswersResolved : Walked → List Module → Result (Unit {0}) Skip → Type 0
-AnswersResolved walked modules answer = Answers is_memory answer (resolved walked modules)
+AnswersResolved walked modules answer = Answers skip_is_memory answer (resolved walked modules)
 
 -- the members link
 unfoldable pub check_links : Walked → Result (Unit {0}) Skip

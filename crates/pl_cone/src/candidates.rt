@@ -6,7 +6,7 @@ ghost use Rattle.pl_elf.specs.Kinds.{is_program};
 ghost use Rattle.pl_cone.specs.Candidates as spec;
 ghost use Rattle.pl_cone.specs.Known.{AreAccepted, fault_of};
 ghost use Rattle.pl_cone.specs.Links.{HaveValuesAtZero, IsLink};
-ghost use Rattle.pl_cone.specs.Skips.{is_memory};
+ghost use Rattle.pl_cone.specs.Skips.{skip_is_memory};
 
 use crate::forms::all_formed;
 use crate::linking::check_links;
@@ -37,7 +37,7 @@ fn fit(
     scope: &Scope<'_>,
 ) -> Result<(), Skip>
     requires { is_program (spec.kind_of scope.now) ≡ true → HaveValuesAtZero scope.now links.now }
-    ensures { Answers is_memory result (spec.fit (fault_of files.now) name.now scope.now) }
+    ensures { Answers skip_is_memory result (spec.fit (fault_of files.now) name.now scope.now) }
 {
     let kind = kind_of(scope);
     if kind.is_static() {
@@ -60,7 +60,7 @@ pub fn prelinkable_with(
 ) -> Result<(), Skip>
     requires accepted { AreAccepted files.now }
     requires links { All (IsLink files.now) links.now }
-    ensures { Answers is_memory result (spec.prelinkable files.now name.now) }
+    ensures { Answers skip_is_memory result (spec.prelinkable files.now name.now) }
 {
     let scope = walk_in(alloc, files, name)?;
     fit(alloc, files, links, name, &scope)
@@ -71,7 +71,7 @@ pub fn prelinkable_with(
 /// No name stands twice in `files`, and each object is one that `accept` gave.
 pub fn prelinkable(alloc: Global, files: &[Known<'_>], name: &str) -> Result<(), Skip>
     requires { AreAccepted files.now }
-    ensures { Answers is_memory result (spec.prelinkable files.now name.now) }
+    ensures { Answers skip_is_memory result (spec.prelinkable files.now name.now) }
 {
     prelinkable_with(alloc, files, &[], name)
 }

@@ -10,7 +10,7 @@ ghost use Rattle.pl_value.specs.Definers.{IsSought};
 ghost use Rattle.pl_value.specs.Meanings as value;
 ghost use Rattle.pl_cone.specs.Candidates as spec;
 ghost use Rattle.pl_cone.specs.Links as links;
-ghost use Rattle.pl_cone.specs.Skips.{is_memory, of_tls};
+ghost use Rattle.pl_cone.specs.Skips.{skip_is_memory, of_tls};
 
 use crate::{Link, Skip};
 use pl_base::{Rows, Text};
@@ -41,7 +41,7 @@ fn blocks(alloc: Global, scope: &Scope<'_>) -> Result<Vec<Option<Block>>, AllocE
 
 /// The modules of thread-local storage of the members.
 fn modules(alloc: Global, scope: &Scope<'_>) -> Result<Rows<Module>, Skip>
-    ensures { Answers is_memory result (because of_tls (offsets (spec.blocks scope.now))) }
+    ensures { Answers skip_is_memory result (because of_tls (offsets (spec.blocks scope.now))) }
 {
     let blocks = blocks(alloc, scope)?;
     Ok(offsets(alloc, &blocks)?)
@@ -318,7 +318,7 @@ fn resolved(
 #[tactic(auto, unfolding(crate::specs::Candidates::check_links))]
 pub fn check_links(alloc: Global, scope: &Scope<'_>, known: &[Link]) -> Result<(), Skip>
     requires { links.HaveValuesAtZero scope.now known.now }
-    ensures { Answers is_memory result (spec.check_links scope.now) }
+    ensures { Answers skip_is_memory result (spec.check_links scope.now) }
 {
     let modules = modules(alloc, scope)?;
     resolved(alloc, scope, modules.as_slice(), known)

@@ -4,7 +4,7 @@ ghost use Rattle.pl_base.specs.Answers.{Answers};
 ghost use Rattle.pl_scope.specs.Scope.{IsAccepted};
 ghost use Rattle.pl_cone.specs.Candidates.{walk_in};
 ghost use Rattle.pl_cone.specs.Known as spec;
-ghost use Rattle.pl_cone.specs.Skips.{is_memory};
+ghost use Rattle.pl_cone.specs.Skips.{skip_is_memory};
 
 use crate::names::entry_of;
 use crate::{Entry, Known, Skip};
@@ -17,7 +17,7 @@ use std::alloc::Global;
 fn object_of<'a>(alloc: Global, files: &[Known<'a>], name: &str) -> Result<&'a Object, Skip>
     requires { spec.AreAccepted files.now }
     ensures ok { IfOk result (λ object. spec.object_of files.now name.now ≡ Ok object.now) }
-    ensures err { IfErr result (λ skip. Answers is_memory (Err skip)
+    ensures err { IfErr result (λ skip. Answers skip_is_memory (Err skip)
         (spec.object_of files.now name.now)) }
     ensures accepted { IfOk result (λ object. IsAccepted object.now) }
 {
@@ -36,7 +36,7 @@ fn object_of<'a>(alloc: Global, files: &[Known<'a>], name: &str) -> Result<&'a O
 fn member_of<'a>(alloc: Global, files: &[Known<'a>], name: &str) -> Result<Member<'a>, Skip>
     requires { spec.AreAccepted files.now }
     ensures ok { IfOk result (λ m. spec.object_of files.now name.now ≡ Ok m.object.now) }
-    ensures err { IfErr result (λ skip. Answers is_memory (Err skip)
+    ensures err { IfErr result (λ skip. Answers skip_is_memory (Err skip)
         (spec.object_of files.now name.now)) }
     ensures name { IfOk result (λ m. m.name ≡ name.now) }
     ensures accepted { IfOk result (λ m. IsAccepted m.object.now) }
@@ -54,7 +54,8 @@ fn member_of<'a>(alloc: Global, files: &[Known<'a>], name: &str) -> Result<Membe
 pub fn walk_in<'a>(alloc: Global, files: &[Known<'a>], name: &str) -> Result<Scope<'a>, Skip>
     requires { spec.AreAccepted files.now }
     ensures ok { IfOk result (λ scope. walk_in files.now name.now ≡ Ok scope) }
-    ensures err { IfErr result (λ skip. Answers is_memory (Err skip) (walk_in files.now name.now)) }
+    ensures err { IfErr result (λ skip. Answers skip_is_memory (Err skip)
+        (walk_in files.now name.now)) }
 {
     let mut order = Order::new(alloc, name)?;
     let mut members = Vec::new(alloc);

@@ -15,7 +15,7 @@ use Rattle.pl_hash.specs.Table.{bucket_count, admits, matches}
 use Rattle.pl_hash.specs.Chain.{chain, chain_from, following, head, is_linked, well_formed, IsWellFormed}
 use Rattle.pl_hash.specs.ChainSymbols.{matching, chain_symbols, is_chain_symbol}
 use Rattle.pl_hash.specs.Lengths.{EndsAfter, IsKnown, AreLengths, HasLengths}
-use Rattle.pl_hash.specs.Jumps.{next, reach, jump, AreJumps, advanced, is_at, is_reached}
+use Rattle.pl_hash.specs.Jumps.{next_in_chain, reach, jump, AreJumps, advanced, is_at, is_reached}
 use Rattle.pl_hash.specs.Queries.{nowhere, query_at, place_at, IsQuery, AreQueries, AreAnswered, all_done}
 use Rattle.pl_hash.proofs.ChainLaws.{chain_from-none}
 use Rattle.pl_hash.proofs.ChainSymbolLaws.{has, opens, follows, chain_value, IsLinked-from}
@@ -82,10 +82,10 @@ reach_more t zero n at = ap (λ (k : ℕ). reach t k at) (omega arith)
 reach_more t (suc m) n None = reach_none t (suc m + n) ∙ sym (reach_none t n)
 reach_more t (suc m) n (Some index) =
     let e : suc m + n ≡ suc (m + n) = omega arith in
-    ap (λ (k : ℕ). reach t k (Some index)) e ∙ reach_more t m n (next t index)
+    ap (λ (k : ℕ). reach t k (Some index)) e ∙ reach_more t m n (next_in_chain t index)
 
-unlinked : (t : Table) (index : ℕ) → t.symbols ≤ index → next t index ≡ None
-unfolding next
+unlinked : (t : Table) (index : ℕ) → t.symbols ≤ index → next_in_chain t index ≡ None
+unfolding next_in_chain
 unlinked t index le = elim (cases_Bool (is_linked t index)) [
   | inl hit ↦ absurd (let l = IsLinked-from t index hit in omega (arith, l.below, le))
   | inr miss ↦ rw miss refl
@@ -102,12 +102,12 @@ past_range f from (suc n) zero le = absurd (omega (arith, le))
 past_range f from (suc n) (suc i) le = past_range f (from + 1) n i (omega (arith, le))
 
 -- the jumps of one step
-pub one_step : (t : Table) (jumps : List (Option ℕ)) → jumps ≡ map (next t) (range_with_len 0 t.symbols) → AreJumps t 1 jumps
+pub one_step : (t : Table) (jumps : List (Option ℕ)) → jumps ≡ map (next_in_chain t) (range_with_len 0 t.symbols) → AreJumps t 1 jumps
 unfolding reach
 one_step t jumps is None = refl
 one_step t jumps is (Some index) = elim (cases_Bool (nat_lt index t.symbols)) [
-  | inl hit ↦ rw is (at_range (next t) 0 t.symbols index (below index t.symbols hit) ∙ ap (next t) (omega arith))
-  | inr miss ↦ rw is (past_range (next t) 0 t.symbols index (above index t.symbols miss) ∙ sym (unlinked t index (above index t.symbols miss)))
+  | inl hit ↦ rw is (at_range (next_in_chain t) 0 t.symbols index (below index t.symbols hit) ∙ ap (next_in_chain t) (omega arith))
+  | inr miss ↦ rw is (past_range (next_in_chain t) 0 t.symbols index (above index t.symbols miss) ∙ sym (unlinked t index (above index t.symbols miss)))
 ]
   where
     below : (i n : ℕ) → nat_lt i n ≡ true → i < n
@@ -155,8 +155,8 @@ advances t n jumps q are =
 
 -- ---- where the steps of a query lead
 
-next_linked : (t : Table) (index : ℕ) → is_linked t index ≡ true → next t index ≡ following t index
-unfolding next
+next_linked : (t : Table) (index : ℕ) → is_linked t index ≡ true → next_in_chain t index ≡ following t index
+unfolding next_in_chain
 next_linked t index e = rw e refl
 
 none_length : (t : Table) (n : ℕ) → EndsAfter t None n → n ≡ 0
@@ -339,7 +339,7 @@ at_advanced jumps [] i lt = absurd (omega (arith, lt))
 at_advanced jumps (q ∷ qs) zero lt = refl
 at_advanced jumps (q ∷ qs) (suc i) lt = at_advanced jumps qs i (omega (arith, lt))
 
-pub begin_rounds : (t : Table) (first : List Query) (jumps : List (Option ℕ)) → jumps ≡ map (next t) (range_with_len 0 t.symbols) → ((i : ℕ) → i < length first → (query_at first i).left < 2 ^ 32)
+pub begin_rounds : (t : Table) (first : List Query) (jumps : List (Option ℕ)) → jumps ≡ map (next_in_chain t) (range_with_len 0 t.symbols) → ((i : ℕ) → i < length first → (query_at first i).left < 2 ^ 32)
     → AreOn t first first jumps 1 (2 ^ 32 - 1)
 begin_rounds t first jumps is few = record {
   size = refl;

@@ -6,14 +6,14 @@ use Rattle.pl_hash.specs.Table.{admits, matches}
 use Rattle.pl_hash.specs.Chain.{is_linked, following}
 
 -- the symbol after one that has a link
-unfoldable pub next : Table → ℕ → Option ℕ
-next table index = if is_linked table index then following table index else None
+unfoldable pub next_in_chain : Table → ℕ → Option ℕ
+next_in_chain table index = if is_linked table index then following table index else None
 
 -- the symbol so many steps after one
 unfoldable pub reach : Table → ℕ → Option ℕ → Option ℕ
 reach table zero at = at
 reach table (suc n) None = None
-reach table (suc n) (Some index) = reach table n (next table index)
+reach table (suc n) (Some index) = reach table n (next_in_chain table index)
 
 -- the symbol that a list of jumps, one for each symbol, leads to
 abbrev pub jump : List (Option ℕ) → Option ℕ → Option ℕ

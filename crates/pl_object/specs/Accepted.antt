@@ -133,7 +133,7 @@ pub record Accepted (bytes : List ℕ) (o : Object) : Type 0 where
   pub held : reloc_outside (is_exec o) o.segments o.relocations ≡ false
   -- those of the packed relocations, which stand last, are in the file part
   pub packed_few : o.packed ≤ length o.relocations
-  pub packed_held : reloc_outside false o.segments (clauses.packed_of o.packed o.relocations) ≡ false
+  pub packed_held : reloc_outside false o.segments (clauses.last_packed o.packed o.relocations) ≡ false
   -- no two places share a byte
   pub apart : reloc_overlap o.relocations ≡ false
   -- no place shares a byte with a table

@@ -6,7 +6,7 @@ ghost use Rattle.pl_cone.specs.Known.{AreAccepted};
 ghost use Rattle.pl_rewrite.specs.Members as spec;
 
 use crate::conflict_free_members::conflict_free_of;
-use crate::digests::{first_digest, list_after};
+use crate::digests::{first_digest, list_by_digests};
 use crate::running::Run;
 use crate::sources::sources_of;
 use crate::{Lent, prelink_with};
@@ -42,7 +42,7 @@ fn prelinked_by<'a>(
 {
     let sources = sources_of(alloc, run, scope.members())?;
     let members = sources.as_slice();
-    let list = list_after(alloc, run, members)?;
+    let list = list_by_digests(alloc, run, members)?;
     let conflict_free = conflict_free_of(alloc, run, members)?;
     let lent = Lent {
         list: list.as_slice(),

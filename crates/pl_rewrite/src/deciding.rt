@@ -8,7 +8,7 @@ ghost use Rattle.pl_rewrite.specs.declared.deciding.Decided.TheVariants as decid
 
 use crate::Taken;
 use crate::made::prelinked;
-use crate::making::{Made, made_large, made_of};
+use crate::making::{Made, made_of, made_without_form};
 use crate::running::{FileParts, Library, MadeFile, Run, is_among};
 use crate::sources::is_library;
 use pl_io::NoMemory;
@@ -81,7 +81,7 @@ fn file_for(
 {
     match prelinked(alloc, run, programs, taken.name.as_str())? {
         Some(file) => Ok(Decided::File(file)),
-        None => Ok(Decided::Made(made_large(alloc, taken)?)),
+        None => Ok(Decided::Made(made_without_form(alloc, taken)?)),
     }
 }
 

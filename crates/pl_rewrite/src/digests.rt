@@ -107,8 +107,8 @@ fn list_of(
     Ok(rows)
 }
 
-/// The rows of the members after the first.
-pub fn list_after(
+/// The rows of the members after the first, by the SHA-256 that the run made of their originals.
+pub fn list_by_digests(
     alloc: Global,
     run: &Run<'_>,
     sources: &[Source<'_>],

@@ -33,7 +33,7 @@ fn first_own_words(alloc: Global, sources: &[Source<'_>]) -> Result<Rows<Option<
 }
 
 /// The SHA-256 of an original, which may be there already.
-fn digest_for(original: &[u8], lent: Option<&[u8; 32]>) -> [u8; 32]
+fn digest_with(original: &[u8], lent: Option<&[u8; 32]>) -> [u8; 32]
     requires { IfSome lent (λ d. d.now ≡ sha256 original.now) }
     ensures { result ≡ sha256 original.now }
 {
@@ -85,7 +85,7 @@ pub fn library_file(
         return Ok(Vec::new(alloc));
     };
     let words = first_own_words(alloc, sources)?;
-    let digest = digest_for(library.original, digest);
+    let digest = digest_with(library.original, digest);
     form_of(alloc, library, list, words.as_slice(), &digest)
 }
 

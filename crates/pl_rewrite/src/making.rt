@@ -100,7 +100,7 @@ fn made_current(alloc: Global, taken: &Taken) -> Result<Made, AllocError>
 }
 
 /// A file whose form would be too large.
-pub fn made_large(alloc: Global, taken: &Taken) -> Result<Made, AllocError>
+pub fn made_without_form(alloc: Global, taken: &Taken) -> Result<Made, AllocError>
     requires { spec.IsRead taken.now }
     ensures { IfOk result (λ made. made
         ≡ spec.made_original taken.now (skips.Form taken.now.name 6)) }

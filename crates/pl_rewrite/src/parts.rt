@@ -10,7 +10,7 @@ ghost use Rattle.pl_rewrite.specs.Members as spec;
 ghost use Rattle.pl_rewrite.specs.Words as words;
 
 use crate::candidates::walk_of;
-use crate::digests::{digest_for, list_after};
+use crate::digests::{digest_for, list_by_digests};
 use crate::running::{FileParts, Library, Run, is_skipped};
 use crate::sources::{is_library, sources_of};
 use crate::{Source, Taken, conflict_free_words, held_words, library_words, prelink_library};
@@ -117,7 +117,7 @@ fn library_among<'a>(
     let Some(words) = library_words(alloc, sources)? else {
         return Ok(None);
     };
-    let list = list_after(alloc, run, sources)?;
+    let list = list_by_digests(alloc, run, sources)?;
     let digest = digest_for(run, library);
     let (list_rows, word_rows) = (list.as_slice(), words.as_slice());
     let Some(file) = prelink_library(alloc, library, list_rows, word_rows, &digest)? else {

@@ -21,7 +21,7 @@ use crate::fills::fills;
 use crate::library::library_file;
 use crate::scopes::{own_walk, places_of, scope_of};
 use crate::source_lists::list_after;
-use crate::watched::{are_watched, windows_of};
+use crate::watched::{are_watched, watched_windows};
 use crate::{Lent, Source};
 use pl_base::Rows;
 use pl_conflict::{ConflictFree, conflicts_among, conflicts_by, meanings_among};
@@ -200,7 +200,7 @@ fn file_windows(alloc: Global, sources: &[Source<'_>]) -> Result<Vec<Window>, Al
     }
     let scope = scope_of(alloc, sources)?;
     let places = places_of(alloc, sources)?;
-    windows_of(alloc, &scope, &places)
+    watched_windows(alloc, &scope, &places)
 }
 
 /// Meanings of the members' scope that are enough for the program's file, where flags tell of some that they matter nowhere.

@@ -51,7 +51,7 @@ fn source_in<'a>(taken: &'a Taken, object: &'a Object) -> Option<Source<'a>>
 }
 
 /// A member of a walk, as its prelinked file bears it, by its name, if its file is prelinked.
-fn source_of<'a>(files: &'a [Taken], member: &Member<'a>) -> Option<Source<'a>>
+fn marked_source<'a>(files: &'a [Taken], member: &Member<'a>) -> Option<Source<'a>>
     ensures { result ≡ spec.source files.now member.now }
 {
     match find(files, member.name.as_str()) {
@@ -61,7 +61,7 @@ fn source_of<'a>(files: &'a [Taken], member: &Member<'a>) -> Option<Source<'a>>
 }
 
 /// All members, where each file is prelinked.
-fn sources_of<'a>(
+fn marked_sources<'a>(
     alloc: Global,
     files: &'a [Taken],
     members: &[Member<'a>],
@@ -71,7 +71,7 @@ fn sources_of<'a>(
 {
     let mut sources = Vec::new(alloc);
     for member in members {
-        let Some(source) = source_of(files, member) else {
+        let Some(source) = marked_source(files, member) else {
             return Ok(None);
         };
         sources.push(source)?;
@@ -91,7 +91,7 @@ fn meant_by<'a>(
     ensures { IfOk result (λ file. option_map (λ v. v.items) file
         ≡ spec.prelinked_in (spec.viewed_files view.now) name.now) }
 {
-    match sources_of(alloc, view.files, scope.members())? {
+    match marked_sources(alloc, view.files, scope.members())? {
         None => Ok(None),
         Some(sources) => prelink(alloc, &sources),
     }

@@ -65,7 +65,7 @@ fn windows_by(
 }
 
 /// A window over all places of the relocations of the first member, and the windows from which they copy. What the windows have is looked at again by `are_watched`.
-pub fn windows_of(
+pub fn watched_windows(
     alloc: Global,
     scope: &Scope<'_>,
     places: &Places,

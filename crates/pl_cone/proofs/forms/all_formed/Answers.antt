@@ -7,7 +7,7 @@ use Rattle.pl_scope.specs.Scope.{walked}
 use Rattle.pl_scope.specs.declared.member.Member.{Member}
 use Rattle.pl_cone.specs.Candidates.{formed, all_formed}
 use Rattle.pl_cone.specs.Known.{fault_of}
-use Rattle.pl_cone.specs.Skips.{is_memory}
+use Rattle.pl_cone.specs.Skips.{skip_is_memory}
 use Rattle.pl_cone.specs.declared.known.Known.{Known}
 use Rattle.pl_cone.specs.declared.skip.Skip.{Skip}
 use Rattle.pl_cone.proofs.LoopLaws.{run_of_map}
@@ -30,7 +30,7 @@ loop-member-preserved c = run_more (step c.args.files.now) tt _ _ _ c.member-ite
 pub returns-in_err-formed : goal.returns-in_err-formed
 returns-in_err-formed c =
     let p = err_from_is_err_and c.from_residual.result c.from_residual.ensures.1 in
-    rw (p.1, p.2) (run_fails is_memory (step c.args.files.now) tt _ _ c.member-item.result _ _ c.loop-member-test.true c.member-item.is (rw c.as_str.ensures at c.in_err-formed.ensures) c.loop-member.invariant)
+    rw (p.1, p.2) (run_fails skip_is_memory (step c.args.files.now) tt _ _ c.member-item.result _ _ c.loop-member-test.true c.member-item.is (rw c.as_str.ensures at c.in_err-formed.ensures) c.loop-member.invariant)
 
 pub returns : goal.returns
 returns c = run_done (step c.args.files.now) tt _ _ _ c.loop-member-test.false c.loop-member.invariant

@@ -11,7 +11,7 @@ use Rattle.pl_scope.proofs.WalkLaws.{give_given, walk_begins, walk_goes_on, walk
 use Rattle.pl_scope.proofs.MemberLaws.{walked_push}
 use Rattle.pl_cone.specs.Candidates.{walk_in}
 use Rattle.pl_cone.specs.Known.{object_of}
-use Rattle.pl_cone.specs.Skips.{is_memory, of_walk}
+use Rattle.pl_cone.specs.Skips.{skip_is_memory, of_walk}
 use Rattle.pl_cone.proofs.SkipLaws.{stops_as}
 use Rattle.pl_cone.proofs.walks.walk_in.Goals as goal
 
@@ -25,7 +25,7 @@ unfolding walk_in
 returns-in_err-member-clause-err c =
     let p = err_from_is_err_and c.from_residual-in_err-member.result c.from_residual-in_err-member.ensures.1 in
     let lt : c.loop-count.order.given < MAX_MEMBERS = omega arith in
-    rw (p.1, p.2) (walk_lacks_or is_memory of_walk (object_of c.args.files.now) c.args.name.now (walked c.loop-count.members.items) c.loop-count.order _ _ lt (sym c.in-Some.ensures.name) c.in_err-member.ensures.err c.loop-count.invariant.under_way)
+    rw (p.1, p.2) (walk_lacks_or skip_is_memory of_walk (object_of c.args.files.now) c.args.name.now (walked c.loop-count.members.items) c.loop-count.order _ _ lt (sym c.in-Some.ensures.name) c.in_err-member.ensures.err c.loop-count.invariant.under_way)
 
 pub returns-in_err-give-clause-err : goal.returns-in_err-give-clause-err
 unfolding walk_in

@@ -17,8 +17,8 @@ pub sources_of-requires-clause-members : goal.sources_of-requires-clause-members
 sources_of-requires-clause-members c =
     members_each c.args.run.now c.members.result.now (subst (All (IsPrelinkable c.args.run.now)) (sym c.members.ensures.members) (members_are c.args.run.now c.args.name.now c.args.scope.now c.requires.run c.requires.candidate c.requires.walk))
 
-pub list_after-requires-clause-own : goal.list_after-requires-clause-own
-list_after-requires-clause-own c =
+pub list_by_digests-requires-clause-own : goal.list_by_digests-requires-clause-own
+list_by_digests-requires-clause-own c =
     let same : c.as_slice-members.result.now ≡ planned_firms c.args.run.now c.args.scope.now =
     c.as_slice-members.ensures.value ∙ (c.in_ok-sources.ensures ∙ (sources_walked c.args.run.now c.members.result.now ∙ ap (planned_firms c.args.run.now) c.members.ensures.members)) in
     subst (All (HasOriginal c.args.run.now)) (sym same) (have_originals c.args.run.now c.args.scope.now)

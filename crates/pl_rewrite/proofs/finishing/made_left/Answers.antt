@@ -2,7 +2,7 @@ use Rattle.std.proofs.Common.{◌≡◌, Ok, Err, sym, ap, subst, ◌∙◌}
 use Rattle.std.specs.Prelude.{IfOk}
 use Rattle.pl_base.specs.Answers.{Answers}
 use Rattle.pl_form.specs.Files.{file_in, original_in}
-use Rattle.pl_form.specs.Marks.{is_memory}
+use Rattle.pl_form.specs.Marks.{file_fault_is_memory}
 use Rattle.pl_form.specs.declared.fault.FileFault.{FileFault}
 use Rattle.pl_form.specs.declared.fault.FileFault.TheVariants as unread
 use Rattle.pl_form.specs.declared.file.File.{File}
@@ -50,11 +50,11 @@ made_large-requires c =
     let bytes = c.as_slice-bytes.result.now in
     let fault = unread.Refused (refusals.Clause c.in-Err-Refused-Clause.field-0-0-0 c.in-Err-Refused-Clause.field-0-0-1) in
     let same : c.in-Err-Refused-Clause.field-0 ≡ fault = c.in-Err-Refused-Clause.field-0-is ∙ ap (λ (r : Refusal). unread.Refused r) c.in-Err-Refused-Clause.field-0-0-is in
-    let e : file_in bytes ≡ Err fault = subst (λ (f : FileFault). Answers {X = File} is_memory (Err f) (file_in bytes)) same c.in-Err-Refused-Clause.ensures.exact in
+    let e : file_in bytes ≡ Err fault = subst (λ (f : FileFault). Answers {X = File} file_fault_is_memory (Err f) (file_in bytes)) same c.in-Err-Refused-Clause.ensures.exact in
     refused_own bytes fault e ∙ ap original_in c.as_slice-bytes.ensures
 
 pub made_large-requires-in-Err-BadMark : goal.made_large-requires-in-Err-BadMark
 made_large-requires-in-Err-BadMark c =
     let bytes = c.as_slice-bytes.result.now in
-    let e : file_in bytes ≡ Err unread.BadMark = subst (λ (f : FileFault). Answers {X = File} is_memory (Err f) (file_in bytes)) c.in-Err-BadMark.field-0-is c.in-Err-BadMark.ensures.exact in
+    let e : file_in bytes ≡ Err unread.BadMark = subst (λ (f : FileFault). Answers {X = File} file_fault_is_memory (Err f) (file_in bytes)) c.in-Err-BadMark.field-0-is c.in-Err-BadMark.ensures.exact in
     refused_own bytes unread.BadMark e ∙ ap original_in c.as_slice-bytes.ensures

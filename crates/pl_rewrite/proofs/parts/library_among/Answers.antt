@@ -15,8 +15,8 @@ use Rattle.pl_rewrite.proofs.parts.library_among.Goals as goal
 pub library_words-requires : goal.library_words-requires
 library_words-requires c = own_sources c.args.run.now c.args.link.now c.args.name.now c.args.sources.now c.requires.run c.requires.own
 
-pub list_after-requires-clause-own : goal.list_after-requires-clause-own
-list_after-requires-clause-own c = own_originals c.args.run.now c.args.link.now c.args.name.now c.args.sources.now c.requires.own
+pub list_by_digests-requires-clause-own : goal.list_by_digests-requires-clause-own
+list_by_digests-requires-clause-own c = own_originals c.args.run.now c.args.link.now c.args.name.now c.args.sources.now c.requires.own
 
 pub digest_for-digest-requires-clause-own : goal.digest_for-digest-requires-clause-own
 digest_for-digest-requires-clause-own c =

@@ -1,6 +1,6 @@
 use Rattle.std.proofs.Common.{Some, sym, ap, ◌∙◌}
 use Rattle.pl_rewrite.proofs.VerifyLaws.{sources_done, sources_more, sources_stop}
-use Rattle.pl_rewrite.proofs.verifying.sources_of.Goals as goal
+use Rattle.pl_rewrite.proofs.verifying.marked_sources.Goals as goal
 
 pub loop-member-init : goal.loop-member-init
 loop-member-init c = ap Some (sym c.new-sources.ensures.items)
@@ -14,4 +14,4 @@ returns c = sym (sources_done c.args.files.now c.args.members.now c.loop-member.
 
 pub returns-in_default : goal.returns-in_default
 returns-in_default c =
-    sym (sources_stop c.args.files.now c.args.members.now c.loop-member.member-index c.member-item.result c.loop-member-test.true c.member-item.is (sym c.source_of.ensures ∙ c.in_default.is))
+    sym (sources_stop c.args.files.now c.args.members.now c.loop-member.member-index c.member-item.result c.loop-member-test.true c.member-item.is (sym c.marked_source.ensures ∙ c.in_default.is))

@@ -7,7 +7,7 @@ use Rattle.pl_rewrite.specs.Lent.{list_after}
 use Rattle.pl_rewrite.proofs.FirmLaws.{split}
 use Rattle.pl_rewrite.proofs.ListLaws.{list_none}
 use Rattle.pl_rewrite.specs.Members.{HasOriginal}
-use Rattle.pl_rewrite.proofs.digests.list_after.Goals as goal
+use Rattle.pl_rewrite.proofs.digests.list_by_digests.Goals as goal
 
 pub returns-in_default : goal.returns-in_default
 returns-in_default c = c.new.ensures ∙ list_none c.args.sources.now c.in_default.len_below
