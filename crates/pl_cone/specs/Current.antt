@@ -52,7 +52,7 @@ abbrev pub holds_in : List Known → List Slot → List ℕ → Result Walked Sk
 holds_in files slots n (Ok walked) = holds_mark files slots n (mark_of files n) walked
 holds_in files slots n (Err cause) = false
 
--- a name's file has a mark as they are made now, stands at its planned slot if it is a library, and its list tells the other members of its walk
+-- a file with a mark as they are made now, at its planned slot if it is a library, whose list tells name, stamp and original's checksum of each other member of its walk
 abbrev pub is_held : List Known → List Slot → List ℕ → Bool
 is_held files slots n = holds_in files slots n (walk_in files n)
 

@@ -39,7 +39,7 @@ pub fn order(alloc: Global, scope: &Scope<'_>, reach: &Reach) -> Result<Vec<u32>
     requires right { is_right (graph scope.now) reach.now.rows ≡ true }
     ensures printed { IfOk result (λ order. IsPrinted scope.now order.items) }
     ensures lawful { IfOk result (λ order. IsLawful scope.now order.items) }
-    // the same, as it is computed from the rows
+    // and as computed from the rows
     ensures rows { IfOk result (λ order. order.items
         ≡ ordered reach.now.rows (length scope.now) (length scope.now) []) }
 {

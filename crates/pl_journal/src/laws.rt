@@ -16,7 +16,7 @@ pub fn after_the_start()
     ensures run { (before : View) (edits : List Edit) → AfterTheStart (StandsBetween before edits) }
 {}
 
-/// What a crash of each part of a run leaves, and what the steps and the end do.
+/// What a crash of each part of a run leaves.
 pub fn each_part_stands()
     // Of staging: it stands for the files before.
     ensures staging { StagingStands }
@@ -24,7 +24,7 @@ pub fn each_part_stands()
     ensures commit { CommitStands }
     // Each step does its row.
     ensures steps { StepsDoRows }
-    // Between two rows (`Midway`): recovered it is the files before or those after.
+    // Between two rows (`Midway`): recovered it is the files before or those after, as in every part from the commit on.
     ensures rows { RowsStand }
     // Of the end: it stands for the files before or for those after.
     ensures finish { FinishStands }

@@ -154,7 +154,7 @@ fn place_in(
     Ok(())
 }
 
-/// Gives a want that keeps no row its place, beside the slots of all that some walk holds with it: those are flagged.
+/// Gives a want its place beside the slots of all that some walk holds with it: those are flagged. One that keeps a row has it beside these already (`keep_row`).
 fn place(
     alloc: Global,
     asked: &Asked<'_>,
