@@ -24,7 +24,8 @@ pub fn each_part_stands()
     ensures commit { CommitStands }
     // Each step does its row.
     ensures steps { StepsDoRows }
-    // Between two rows (`Midway`): recovered it is the files before or those after, as in every part from the commit on.
+    // Between two rows (`Midway`): recovered it is the files before or those after,
+    // as in every part from the commit on.
     ensures rows { RowsStand }
     // Of the end: it stands for the files before or for those after.
     ensures finish { FinishStands }
