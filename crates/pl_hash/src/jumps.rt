@@ -39,7 +39,7 @@ fn steps(alloc: Global, table: &Table) -> Result<Vec<Option<u32>>, AllocError>
     ensures { IfOk result (λ v. v.items ≡ map (spec.next_in_chain table.now)
         (range_with_len 0 table.now.symbols)) }
 {
-    (0..table.symbols)
+    (0..table.symbols())
         .map(|index| next_in_chain(table, index))
         .collect(alloc)
 }
@@ -199,7 +199,7 @@ fn all_lengths(alloc: Global, table: &Table) -> Result<Vec<u32>, AllocError>
     requires { IsWellFormed table.now }
     ensures { IfOk result (λ v. HasLengths table.now v.items) }
 {
-    let mut lengths = Vec::from_elem(alloc, 0, table.symbols as usize)?;
+    let mut lengths = Vec::from_elem(alloc, 0, table.symbols() as usize)?;
     let _ends = note_all(table, &mut lengths);
     Ok(lengths)
 }

@@ -28,7 +28,7 @@ use Rattle.pl_sym.specs.Table as table
 use Rattle.pl_sym.specs.declared.constants.TheConstants.{SYMBOL_SIZE}
 use Rattle.pl_sym.specs.declared.symbol.Symbol.{Symbol}
 use Rattle.pl_hash.specs.Chain.{well_formed, IsWellFormed}
-use Rattle.pl_hash.specs.declared.table.Table.{Table}
+use Rattle.pl_hash.specs.Table.{HashTable}
 use Rattle.pl_hash.proofs.WholeLaws.{IsWellFormed-from}
 use Rattle.pl_ver.specs.declared.versions.Versions.{Versions}
 use Rattle.pl_object.specs.FilePart.{file_window, in_file_part, loaded}
@@ -177,28 +177,28 @@ symbol_width bytes f tags l k kind symbol lt =
 table_counted : (bytes : List ℕ) (ss : List Segment) (secs : List Section) (tags : List Tag) (count : ℕ) (gnu : Bool) (number : ℕ) → All (λ table. table.symbols ≡ count) (hash_table bytes ss secs tags count gnu number)
 unfolding hash_table
 table_counted bytes ss secs tags count gnu number =
-    elim (has_tag number tags) as (λ b. All (λ (t : Table). t.symbols ≡ count) (if b then record { words = loaded bytes ss (section_memory number tags secs); gnu = gnu; symbols = count } ∷ [] else [])) [
-      | true ↦ All-cons (λ (t : Table). t.symbols ≡ count) _ [] refl (All-nil (λ (t : Table). t.symbols ≡ count))
-      | false ↦ All-nil (λ (t : Table). t.symbols ≡ count)
+    elim (has_tag number tags) as (λ b. All (λ (t : HashTable). t.symbols ≡ count) (if b then record { words = loaded bytes ss (section_memory number tags secs); gnu = gnu; symbols = count } ∷ [] else [])) [
+      | true ↦ All-cons (λ (t : HashTable). t.symbols ≡ count) _ [] refl (All-nil (λ (t : HashTable). t.symbols ≡ count))
+      | false ↦ All-nil (λ (t : HashTable). t.symbols ≡ count)
     ]
 
 tables_counted : (bytes : List ℕ) (ss : List Segment) (secs : List Section) (tags : List Tag) (count : ℕ) → All (λ table. table.symbols ≡ count) (hash_tables bytes ss secs tags count)
 unfolding hash_tables
 tables_counted bytes ss secs tags count =
-    All-append (λ (t : Table). t.symbols ≡ count) (hash_table bytes ss secs tags count false DT_HASH) (hash_table bytes ss secs tags count true DT_GNU_HASH)
+    All-append (λ (t : HashTable). t.symbols ≡ count) (hash_table bytes ss secs tags count false DT_HASH) (hash_table bytes ss secs tags count true DT_GNU_HASH)
     (table_counted bytes ss secs tags count false DT_HASH) (table_counted bytes ss secs tags count true DT_GNU_HASH)
 
-one_formed : (symbols : List Symbol) (t : Table) → is_incomplete symbols t ≡ false → IsWellFormed t
+one_formed : (symbols : List Symbol) (t : HashTable) → is_incomplete symbols t ≡ false → IsWellFormed t
 unfolding is_incomplete
 one_formed symbols t e = IsWellFormed-from t (not-false _ (or_parts (not (well_formed t)) (misses_one symbols t) e).0)
 
-tables_formed : (tables : List Table) (symbols : List Symbol) → hash_incomplete tables symbols ≡ false → All IsWellFormed tables
+tables_formed : (tables : List HashTable) (symbols : List Symbol) → hash_incomplete tables symbols ≡ false → All IsWellFormed tables
 unfolding hash_incomplete
 tables_formed tables symbols e =
     let p = or_parts (length tables == 0 && list_any defines symbols) (list_any (is_incomplete symbols) tables) e in
     λ k d lt. one_formed symbols (get_or tables k d) (none_at (is_incomplete symbols) tables k d lt p.1)
 
-symbols_pass : (program : Bool) (ss : List Segment) (tables : List Table) (known : Option Versions) (symbols : List Symbol) (u : Unit {0}) → check_symbols program ss tables known symbols ≡ Ok u → hash_incomplete tables symbols ≡ false
+symbols_pass : (program : Bool) (ss : List Segment) (tables : List HashTable) (known : Option Versions) (symbols : List Symbol) (u : Unit {0}) → check_symbols program ss tables known symbols ≡ Ok u → hash_incomplete tables symbols ≡ false
 unfolding check_symbols
 symbols_pass program ss tables known symbols u e =
     let none = refuse_none ((base_not_zero program ss, Clause 20 0) ∷ (hash_incomplete tables symbols, Clause 21 0) ∷ (duplicate_definer known program symbols, Clause 22 0) ∷ []) (Ok tt) (ap (λ (r : Result (Unit {0}) Refusal). is_ok r) e) in
@@ -278,7 +278,7 @@ accepted_static bytes h is = record {
   tabled = λ other. absurd (true≢false other);
   few = omega arith;
   formed = All-nil IsWellFormed;
-  counted = All-nil (λ (t : Table). t.symbols ≡ 0);
+  counted = All-nil (λ (t : HashTable). t.symbols ≡ 0);
   hashed = refl;
   relocs = refl;
   widths = All-nil (HasWidth []);

@@ -12,6 +12,9 @@ use pl_scope::Scope;
 use pl_value::{Meaning, Places, Word};
 use std::alloc::{AllocError, Global};
 
+/// So many bytes may lie between windows that are joined.
+const GAP: u128 = 4096;
+
 /// One window over the places of relocations, from the least address to the greatest end.
 fn hull(relocs: &[Reloc]) -> Window {
     let mut first: u64 = u64::MAX;
@@ -43,7 +46,41 @@ fn source_of(scope: &Scope<'_>, places: &Places, reloc: &Reloc) -> Option<Window
     }
 }
 
-/// A window over places of relocations of the first member, and the windows from which they copy.
+/// Where a window ends.
+fn end_of(window: &Window) -> u128 {
+    window.at().saturating_add(u128::from(window.size()))
+}
+
+/// A window over two, of which the second does not begin before the first.
+fn spanned(first: &Window, second: &Window) -> Window {
+    let end = end_of(first).max(end_of(second));
+    let size = end.saturating_sub(first.at()).min(u128::from(u64::MAX));
+    Window::new(first.at(), size as u64)
+}
+
+/// Adds a window behind others, to the last of them where little lies between.
+fn join(joined: &mut Vec<Window>, window: Window) -> Result<(), AllocError> {
+    let count = joined.len();
+    if count > 0 && window.at() <= end_of(&joined[count - 1]).saturating_add(GAP) {
+        joined[count - 1] = spanned(&joined[count - 1], &window);
+        return Ok(());
+    }
+    joined.push(window)?;
+    Ok(())
+}
+
+/// Windows joined where little lies between them, so that many that are close are few.
+fn joined(alloc: Global, windows: Vec<Window>) -> Result<Vec<Window>, AllocError> {
+    let mut windows = windows;
+    windows.sort_unstable_by_key(|window| window.at());
+    let mut joined = Vec::new(alloc);
+    for window in &windows {
+        join(&mut joined, *window)?;
+    }
+    Ok(joined)
+}
+
+/// A window over places of relocations of the first member, and windows over those from which they copy.
 fn windows_by(
     alloc: Global,
     scope: &Scope<'_>,
@@ -55,16 +92,17 @@ fn windows_by(
     requires references { All (λ r. IsSymbol (objects scope.now) 0 r.symbol) relocs.now }
 {
     let mut windows = Vec::new(alloc);
-    windows.push(hull(relocs))?;
     for reloc in relocs {
         if let Some(window) = source_of(scope, places, reloc) {
             windows.push(window)?;
         }
     }
+    let mut windows = joined(alloc, windows)?;
+    windows.push(hull(relocs))?;
     Ok(windows)
 }
 
-/// A window over all places of the relocations of the first member, and the windows from which they copy. What the windows have is looked at again by `are_watched`.
+/// A window over all places of the relocations of the first member, and windows over those from which they copy, joined where they are close. What the windows have is looked at again by `are_watched`.
 pub fn watched_windows(
     alloc: Global,
     scope: &Scope<'_>,

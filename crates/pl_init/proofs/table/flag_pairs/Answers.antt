@@ -2,7 +2,7 @@ use Rattle.std.proofs.Common.{arith}
 use Rattle.std.proofs.lemmas.List.{get_or_default}
 use Rattle.pl_init.proofs.TableLaws.{one_cell}
 use Rattle.pl_init.proofs.RowLaws.{Numbered, numbered_at, no_row, row_at}
-use Rattle.pl_init.proofs.table.cells_of.Goals as goal
+use Rattle.pl_init.proofs.table.flag_pairs.Goals as goal
 
 pub loop-row-preserved : goal.loop-row-preserved
 loop-row-preserved c =
