@@ -1,4 +1,4 @@
-use Rattle.std.proofs.Common.{ap, subst, ◌∙◌}
+use Rattle.std.proofs.Common.{◌≡◌, ap, subst, ◌∙◌}
 use Rattle.std.specs.Prelude.{IfOk}
 use Rattle.pl_base.specs.Memory.{Memory, filled, layered}
 use Rattle.pl_image.specs.Image.{all_pieces, patched}
