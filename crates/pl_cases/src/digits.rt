@@ -21,7 +21,7 @@ pub fn numbers(alloc: Global, text: &str) -> Result<Vec<u64>, Fail> {
     Ok(numbers)
 }
 
-/// The same of numbers of at most 32 bits, where others fail.
+/// The numbers of at most 32 bits of a text, parted by blanks. It fails where one is no such number, or where memory is lacking.
 pub fn numbers32(alloc: Global, text: &str) -> Result<Vec<u32>, Fail> {
     let mut numbers = Vec::new(alloc);
     for digits in text.split_whitespace() {
