@@ -69,6 +69,20 @@ name_of_symbol (Some s) = Some s.name
 unfoldable pub symbol_name : Walked → ℕ → ℕ → Option (List ℕ)
 symbol_name walked member symbol = if symbol == 0 then None else name_of_symbol (slice_get (symbols_in (slice_get walked member)) symbol)
 
+-- the index of the member of a link refusal
+abbrev pub member_of : LinkFault → ℕ
+member_of (link.Undefined member symbol) = member
+member_of (link.UndefinedTls member symbol) = member
+member_of (link.TlsMismatch member symbol) = member
+member_of (link.CopyOutside member symbol) = member
+
+-- the index of its symbol, 0 for none
+abbrev pub symbol_of : LinkFault → ℕ
+symbol_of (link.Undefined member symbol) = symbol
+symbol_of (link.UndefinedTls member symbol) = symbol
+symbol_of (link.TlsMismatch member symbol) = symbol
+symbol_of (link.CopyOutside member symbol) = symbol
+
 abbrev pub of_link : Walked → LinkFault → Skip
 of_link walked (link.Undefined member symbol) = skips.Undefined (name_at walked member) (symbol_name walked member symbol)
 of_link walked (link.UndefinedTls member symbol) = skips.UndefinedTls (name_at walked member) (symbol_name walked member symbol)
