@@ -28,6 +28,7 @@ fn is_first(line: &Line) -> bool
     matches!(line, Line::First(_))
 }
 
+/// Whether a line is the first one of the recipe of a static program.
 fn is_static_first(line: &Line) -> bool
     ensures { result ≡ spec.is_static_first (Some line.now) }
 {
