@@ -65,8 +65,8 @@ use Rattle.pl_rewrite.specs.Skips.{skip_causes}
 use Rattle.pl_loader.specs.Started.{Start}
 use Rattle.pl_object.specs.Reads.{object, reads}
 use Rattle.pl_object.specs.declared.object.Object.{Object}
-use Rattle.law_loads.specs.Answers.{ordinary}
-use Rattle.law_loads.proofs.AnswerLaws.{answers_are_ordinary}
+use Rattle.pl_safe.specs.Ordinary.{ordinary}
+use Rattle.pl_safe.proofs.AnswerLaws.{answers_are_ordinary}
 use Rattle.law_demo.specs.Forms.{IsBare}
 use Rattle.law_demo.specs.SetFiles.{HasLibrary, HasProgram}
 use Rattle.law_demo.proofs.BareLaws.{plain_bare}

@@ -22,8 +22,8 @@ use Rattle.pl_cli.specs.declared.command.Command.TheVariants.{All, Load, Weave}
 use Rattle.pl_cli.specs.declared.command.Detail.{Detail}
 use Rattle.pl_words.specs.declared.status.Status.{Status}
 use Rattle.pl_words.specs.declared.status.Status.TheVariants as statuses
-use Rattle.law_loads.specs.Answers.{ordinary_answer}
-use Rattle.law_loads.specs.Texts.{linked_from, weaves_from}
+use Rattle.pl_safe.specs.Ordinary.{ordinary_answer}
+use Rattle.pl_safe.specs.Texts.{linked_from, weaves_from}
 use Rattle.pl_safe.specs.Runs.{IsFromScratch, KeepsOriginals, LeavesPastAll, LeavesSound, StandsPastAll, changed_name, is_whole, meaning, writes}
 
 -- A run of what words ask for, with w outside before it and v after it: what it answers, and what is read of the folder after it.

@@ -1,8 +1,7 @@
 -- The text of a weave whose loaders end with what the files that they saw give, and such texts by two ways to start from these files.
-use Rattle.std.specs.Prelude.{◌≡◌, ℕ, ◌+◌, List, [], ◌∷◌, ◌++◌, Option, Some, None, Result, Ok, if◌then◌else◌}
+use Rattle.std.specs.Prelude.{◌≡◌, ℕ, ◌+◌, List, [], ◌∷◌, ◌++◌, Option, Some, None, Result, Ok}
 use Rattle.std.specs.FinMap.{get}
 use Rattle.std.specs.Option.{ok_or}
-use Rattle.std.specs.Str.{bytes_eq}
 use Rattle.pl_base.specs.Answers.{◌>>=◌, because}
 use Rattle.pl_base.specs.Files.{Files}
 use Rattle.pl_batch.specs.Copied.{copied}
@@ -14,29 +13,23 @@ use Rattle.pl_conflict.specs.Format.{is_fast}
 use Rattle.law_folder.specs.Sound.{KeepsTheRule}
 use Rattle.law_folder.specs.Steps.{IsPastAll}
 use Rattle.pl_rewrite.specs.Skips.{skip_causes}
-use Rattle.pl_loader.specs.Started.{Start, load}
-use Rattle.pl_loader.specs.declared.fault.LoadFault.TheVariants.{NotThere}
-use Rattle.law_loads.specs.Answers.{loading_folder}
+use Rattle.law_loads.specs.Started.{Start, load}
+use Rattle.law_loads.specs.LoadFault.TheVariants.{NotThere}
+use Rattle.law_loads.specs.LoadingFolder.{loading_folder}
+use Rattle.law_loads.specs.Weaves.{file_seen}
 use Rattle.law_loads.specs.Paths.{ordinary_load}
 use Rattle.pl_place.specs.Policies.{lowest}
-use Rattle.pl_weave.specs.Given.{given_from}
-use Rattle.pl_weave.specs.Opening.{Opened, wanted}
-use Rattle.pl_weave.specs.Runs.{progress}
-use Rattle.pl_weave.specs.Weaving.{Weaving, woven}
-use Rattle.pl_weave.specs.declared.seen.Seen.{Seen}
+use Rattle.law_loads.specs.Given.{given_from}
+use Rattle.law_loads.specs.Opening.{Opened, wanted}
+use Rattle.law_loads.specs.Runs.{progress}
+use Rattle.law_loads.specs.Weaving.{Weaving, woven}
+use Rattle.law_loads.specs.Seen.{Seen}
 
--- ---- the files that a loader saw, as the files of a folder
+-- ---- what a program of a name starts from, by the files that a loader saw
 
--- the file that was seen under a name, where one was
-abbrev pub file_seen : List Seen → List ℕ → Option (List ℕ)
-file_seen [] n = None
-file_seen (s ∷ seen) n = if bytes_eq n s.name then s.file else file_seen seen n
-
--- or that it is not there
+-- the file that was seen under a name, or that it is not there
 abbrev pub seen_file : List Seen → List ℕ → Result (List ℕ) Cause
 seen_file seen n = ok_or (file_seen seen n) (causes.Load (NotThere n))
-
--- ---- what a program of a name starts from, by the files that were seen
 
 abbrev pub Starting : Type 0
 Starting = List ℕ → List Seen → Result Start Cause
