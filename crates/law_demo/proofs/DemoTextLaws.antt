@@ -33,7 +33,7 @@ use Rattle.law_demo.proofs.SetNameLaws.{files_named}
 use Rattle.pl_cli.specs.Answer.{Answer, load_answer}
 use Rattle.pl_cli.specs.Demo.{demo_text, fast_loads, lines, load, load_texts, text_of}
 use Rattle.pl_cli.specs.Files.{valid_file}
-use Rattle.pl_cli.specs.declared.cause.Cause.{Cause}
+use Rattle.pl_cli.specs.Cause.{Cause}
 use Rattle.pl_conflict.specs.Format.{Rule}
 use Rattle.pl_demo.specs.Counted.{all_counts, counts_if, counts_in, counts_of, none, plus}
 use Rattle.pl_demo.specs.Demo.{counts, folder, programs}

@@ -26,12 +26,13 @@ use Rattle.pl_batch.specs.declared.fault.BatchFault.{BatchFault}
 use Rattle.pl_batch.specs.declared.fault.BatchFault.TheVariants as batch_faults
 use Rattle.pl_batch.proofs.RestoredLemmas.{restored_before}
 use Rattle.pl_batch.proofs.StartLemmas.{invalid_ready}
-use Rattle.pl_cli.specs.declared.cause.Cause.{Cause}
-use Rattle.pl_cli.specs.declared.cause.Cause.TheVariants as causes
+use Rattle.pl_texts.specs.declared.cause.Cause.{Cause}
+use Rattle.pl_texts.specs.declared.cause.Cause.TheVariants as causes
 use Rattle.pl_cli.specs.declared.command.Command.TheVariants as commands
 use Rattle.pl_cli.specs.declared.stop.Stop.{Stop}
 use Rattle.pl_cli.specs.declared.stop.Stop.TheVariants as stops
-use Rattle.pl_cli.specs.Answer.{done, fixed_line, fixed_text, refuses, text_answer, unfixed_text, write_answer}
+use Rattle.pl_cli.specs.Answer.{done, fixed_line, refuses, text_answer, write_answer}
+use Rattle.pl_texts.specs.DoneText.{fixed_text, unfixed_text}
 use Rattle.pl_cli.specs.Came.{Came, HasFixed, HasUnfixed, Named, as_is}
 use Rattle.pl_cli.specs.Load.{choice}
 use Rattle.pl_cli.specs.Stops.{of_batch_fault}

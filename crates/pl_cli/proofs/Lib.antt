@@ -1,5 +1,4 @@
 pub mod StopLemmas
-pub mod PartLemmas
 pub mod CallLemmas
 pub mod AllLemmas
 pub mod VerifyLemmas
@@ -13,7 +12,6 @@ pub mod WriteLemmas
 pub mod FixLemmas
 pub mod GivenLemmas
 pub mod ContentLemmas
-pub mod DecimalLemmas
 pub mod PrintLemmas
 pub mod RunLemmas
 pub mod TellsLemmas

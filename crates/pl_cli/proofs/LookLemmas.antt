@@ -13,8 +13,8 @@ use Rattle.pl_scope.specs.Walk as walk
 use Rattle.pl_scope.specs.Walking.{Walking, wants}
 use Rattle.pl_scope.specs.declared.constants.TheConstants.{MAX_MEMBERS}
 use Rattle.pl_loader.specs.Walk.{walk_fault}
-use Rattle.pl_cli.specs.declared.cause.Cause.{Cause}
-use Rattle.pl_cli.specs.declared.cause.Cause.TheVariants as causes
+use Rattle.pl_texts.specs.declared.cause.Cause.{Cause}
+use Rattle.pl_texts.specs.declared.cause.Cause.TheVariants as causes
 use Rattle.pl_cli.specs.Looks.{ObjectOf, looks, looks_from, names_from, stepped, takes, unless_refused}
 use Rattle.pl_cli.proofs.CallLemmas.{as_calls, no_calls, then_calls}
 

@@ -34,9 +34,9 @@ use Rattle.pl_scope.proofs.WalkLaws.{give_given, walk_ends, walk_goes_on, walk_l
 use Rattle.pl_loader.specs.Faults.{of_file, of_walk}
 use Rattle.pl_loader.specs.Walk.{walk_fault}
 use Rattle.pl_loader.specs.declared.fault.LoadFault.TheVariants.{NotThere}
-use Rattle.pl_cli.specs.declared.cause.Cause.{Cause}
-use Rattle.pl_cli.specs.declared.cause.Cause.TheVariants as causes
-use Rattle.pl_cli.specs.declared.command.Detail.{Detail}
+use Rattle.pl_texts.specs.declared.cause.Cause.{Cause}
+use Rattle.pl_texts.specs.declared.cause.Cause.TheVariants as causes
+use Rattle.pl_texts.specs.declared.detail.Detail.{Detail}
 use Rattle.pl_cli.specs.declared.named_object.NamedObject.{NamedObject}
 use Rattle.pl_cli.specs.declared.stop.Stop.{Stop}
 use Rattle.pl_cli.specs.declared.stop.Stop.TheVariants as stops

@@ -1,49 +1,26 @@
 -- What `-p` finds.
-use Rattle.std.proofs.Common.{◌≡◌, ◌∙◌, ◌<◌, ◌≤◌, ◌+◌, ◌^◌, ℕ, List, [], ◌∷◌, true, refl, sym, ap, subst, arith, leb-true}
+use Rattle.std.proofs.Common.{◌≡◌, ◌∙◌, ℕ, List, refl, sym, ap, subst}
 use Rattle.std.specs.Prelude.{Result, Ok, Err, Vec, MatchBool, ⊤}
 use Rattle.std.specs.declared.alloc.Global.{Global}
-use Rattle.std.specs.List.{All, list_all}
-use Rattle.std.proofs.lemmas.Bool.{and_parts}
-use Rattle.std.proofs.lemmas.List.Elements.{All-nil, All-cons}
 use Rattle.pl_base.specs.Answers.{◌>>=◌, because}
 use Rattle.pl_base.specs.Files.{Files}
 use Rattle.pl_cache.specs.Reading.{read, is_memory}
-use Rattle.pl_cache.specs.Spelling.{is_cache, is_row}
 use Rattle.pl_cache.specs.declared.cache.Cache.{Cache}
 use Rattle.pl_cache.specs.declared.fault.CacheFault.{CacheFault}
 use Rattle.pl_cache.specs.declared.fault.CacheFault.TheVariants as cache_faults
-use Rattle.pl_elf.specs.declared.constants.TheConstants.{ADDRESS_LIMIT}
 use Rattle.pl_folder.specs.Calls.{Takes}
 use Rattle.pl_folder.specs.Seen.{Seen}
 use Rattle.pl_folder.specs.Taken.{taken}
 use Rattle.pl_folder.specs.declared.fault.FolderFault.{FolderFault}
 use Rattle.pl_folder.specs.declared.fault.FolderFault.TheVariants as folder_faults
-use Rattle.pl_slots.specs.declared.slot.Slot.{Slot}
-use Rattle.pl_cli.specs.declared.cause.Cause.TheVariants as causes
+use Rattle.pl_texts.specs.declared.cause.Cause.TheVariants as causes
 use Rattle.pl_cli.specs.declared.print.TheConstants.{CACHE}
 use Rattle.pl_cli.specs.declared.stop.Stop.TheVariants as stops
 use Rattle.pl_cli.specs.Came.{HasPrinted}
-use Rattle.pl_cli.specs.Print.{bad_cache, cache_in, cache_of, no_cache, print_text, printed}
+use Rattle.pl_cli.specs.Print.{bad_cache, cache_in, cache_of, printed}
+use Rattle.pl_texts.specs.CacheText.{no_cache, print_text}
 use Rattle.pl_cli.specs.Stops.{of_cache_fault}
 use Rattle.pl_cli.proofs.TakeLemmas.{failed_once, lacked, lacked_once, once}
-
--- ---- the slots of a cache end where their ends have 64 bits
-
-row_ends : (slot : Slot) → is_row slot ≡ true → slot.start + slot.span < 2 ^ 64
-unfolding is_row
-row_ends slot is =
-    let at : slot.start + slot.span ≤ ADDRESS_LIMIT = leb-true (slot.start + slot.span) ADDRESS_LIMIT (and_parts _ _ is).1 in
-    omega (arith, at)
-
-rows_end : (slots : List Slot) → list_all is_row slots ≡ true → All (λ slot. slot.start + slot.span < 2 ^ 64) slots
-rows_end [] is = All-nil (λ (slot : Slot). slot.start + slot.span < 2 ^ 64)
-rows_end (slot ∷ slots) is =
-    let parts = and_parts (is_row slot) (list_all is_row slots) is in
-    All-cons (λ (s : Slot). s.start + s.span < 2 ^ 64) slot slots (row_ends slot parts.0) (rows_end slots parts.1)
-
-pub ends_fit : (cache : Cache) → is_cache cache ≡ true → All (λ slot. slot.start + slot.span < 2 ^ 64) cache.rows
-unfolding is_cache
-ends_fit cache is = rows_end cache.rows (and_parts _ _ (and_parts _ _ is).0).1
 
 -- ---- the text
 

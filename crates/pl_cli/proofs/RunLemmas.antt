@@ -19,16 +19,17 @@ use Rattle.pl_loader.specs.Loading as loading
 use Rattle.pl_words.specs.declared.command.Policy.{Policy}
 use Rattle.pl_loader.specs.Started.{Start, started}
 use Rattle.pl_loader.specs.declared.object_file.ObjectFile.{ObjectFile}
-use Rattle.pl_cli.specs.declared.cause.Cause.{Cause}
-use Rattle.pl_cli.specs.declared.cause.Cause.TheVariants as causes
+use Rattle.pl_texts.specs.declared.cause.Cause.{Cause}
+use Rattle.pl_texts.specs.declared.cause.Cause.TheVariants as causes
 use Rattle.pl_cli.specs.declared.command.Command.{Command}
 use Rattle.pl_cli.specs.declared.command.Command.TheVariants.{Load, All, Preview, UndoAll, Undo, Verify, Store, Remove, Fix, Unfix, Print, Order, Demo, Weave}
-use Rattle.pl_cli.specs.declared.command.Detail.{Detail}
+use Rattle.pl_texts.specs.declared.detail.Detail.{Detail}
 use Rattle.pl_words.specs.declared.status.Status.{Status}
 use Rattle.pl_words.specs.declared.status.Status.TheVariants as statuses
 use Rattle.pl_cli.specs.declared.stop.Stop.{Stop}
 use Rattle.pl_cli.specs.declared.stop.Stop.TheVariants as stops
-use Rattle.pl_cli.specs.Answer.{Answer, IsTold, answer, compare_answer, compared, done, load_answer, text_answer, refuses, usage, differs_text}
+use Rattle.pl_cli.specs.Answer.{Answer, IsTold, answer, compare_answer, compared, done, load_answer, text_answer, refuses}
+use Rattle.pl_texts.specs.DoneText.{usage, differs_text}
 use Rattle.pl_cli.specs.Came.{Came, HasDemo, HasLoaded, HasOrdered, HasPreviewed, HasPrinted, HasVerified, Makes, as_is, HasWoven}
 use Rattle.pl_cli.specs.Load.{choice, loaded_files}
 use Rattle.pl_cli.specs.Outside.{Consumes, most_read, outside}

@@ -2,7 +2,7 @@
 use Rattle.std.proofs.Common.{◌≡◌, ℕ, ◌+◌, List, [], length, Bool, true, false, Option, Some, None, refl, sym, ap, subst, ◌∙◌, inl, arith}
 use Rattle.std.specs.Prelude.{Result, Ok, Err, Vec, is_some}
 use Rattle.std.specs.declared.alloc.Global.{Global}
-use Rattle.pl_rewrite.specs.declared.report.Report.{Report}
+use Rattle.pl_texts.specs.Report.{Report}
 use Rattle.std.specs.FinMap.{get}
 use Rattle.std.proofs.lemmas.Bool.{true≢false}
 use Rattle.pl_base.specs.Answers.{because, ◌>>=◌}
@@ -31,17 +31,19 @@ use Rattle.pl_batch.specs.declared.run.Run.TheVariants as runs
 use Rattle.pl_batch.proofs.AgainLemmas.{commands_on, lacked_after, meant_by, recaused, refused_after, stops_first}
 use Rattle.pl_batch.proofs.RestoredLemmas.{restored_before}
 use Rattle.pl_batch.proofs.StartLemmas.{invalid_ready}
-use Rattle.pl_cli.specs.declared.cause.Cause.{Cause}
-use Rattle.pl_cli.specs.declared.cause.Cause.TheVariants as causes
+use Rattle.pl_texts.specs.declared.cause.Cause.{Cause}
+use Rattle.pl_texts.specs.declared.cause.Cause.TheVariants as causes
 use Rattle.pl_cli.specs.declared.command.Command.TheVariants as commands
-use Rattle.pl_cli.specs.declared.command.Content.{Content}
-use Rattle.pl_cli.specs.declared.command.Detail.{Detail}
+use Rattle.pl_texts.specs.declared.content.Content.{Content}
+use Rattle.pl_texts.specs.declared.detail.Detail.{Detail}
 use Rattle.pl_cli.specs.declared.stop.Stop.{Stop}
 use Rattle.pl_cli.specs.declared.stop.Stop.TheVariants as stops
-use Rattle.pl_cli.specs.Answer.{IsTold, done, refuses, removed_text, stored_text, text_answer, undone_text, write_answer}
+use Rattle.pl_cli.specs.Answer.{IsTold, done, refuses, text_answer, write_answer}
+use Rattle.pl_texts.specs.DoneText.{removed_text, stored_text, undone_text}
 use Rattle.pl_cli.specs.Came.{Came, HasContent, HasPrelinked, HasRemoved, HasStored, HasUndone, as_is}
 use Rattle.pl_cli.specs.Outside.{Consumes, ending_of}
-use Rattle.pl_cli.specs.Reports.{previewed, report_text, reported}
+use Rattle.pl_cli.specs.Reports.{previewed, reported}
+use Rattle.pl_texts.specs.Reports.{report_text}
 use Rattle.pl_cli.specs.Stops.{of_batch_fault, status_of, stop_status}
 use Rattle.pl_cli.specs.Words.{bytes_of}
 use Rattle.pl_cli.specs.Writes.{AreBytes, WritesFolder, Written, content, most_bytes, of_batch, prelinks, removes, stores, undoes}

@@ -19,17 +19,18 @@ use Rattle.pl_batch.specs.Restored.{restored}
 use Rattle.pl_batch.specs.declared.prelinking.Prelinking.{Prelinking}
 use Rattle.pl_batch.specs.declared.run.Run.{Run}
 use Rattle.pl_batch.specs.declared.run.Run.TheVariants as runs
-use Rattle.pl_cli.specs.declared.cause.Cause.{Cause}
-use Rattle.pl_cli.specs.declared.cause.Cause.TheVariants.{BadName}
+use Rattle.pl_texts.specs.declared.cause.Cause.{Cause}
+use Rattle.pl_texts.specs.declared.cause.Cause.TheVariants.{BadName}
 use Rattle.pl_cli.specs.declared.command.Command.{Command}
 use Rattle.pl_cli.specs.declared.command.Command.TheVariants.{Load, All, Preview, UndoAll, Undo, Verify, Store, Remove, Fix, Unfix, Print, Order, Demo, Weave}
-use Rattle.pl_cli.specs.declared.command.Content.{Content}
-use Rattle.pl_cli.specs.declared.command.Detail.{Detail}
+use Rattle.pl_texts.specs.declared.content.Content.{Content}
+use Rattle.pl_texts.specs.declared.detail.Detail.{Detail}
 use Rattle.pl_cli.specs.declared.named_object.NamedObject.{NamedObject}
 use Rattle.pl_words.specs.declared.status.Status.{Status}
 use Rattle.pl_cli.specs.declared.stop.Stop.{Stop}
 use Rattle.pl_cli.specs.declared.stop.Stop.TheVariants as stops
-use Rattle.pl_cli.specs.Answer.{Answer, IsTold, answer, done, refuses, removed_text, stored_text, fixed_line, fixed_text, unfixed_text}
+use Rattle.pl_cli.specs.Answer.{Answer, IsTold, answer, done, refuses, fixed_line}
+use Rattle.pl_texts.specs.DoneText.{removed_text, stored_text, fixed_text, unfixed_text}
 use Rattle.pl_cli.specs.Demo.{demo_text}
 use Rattle.pl_cli.specs.Files.{file_in}
 use Rattle.pl_cli.specs.Looks.{takes}

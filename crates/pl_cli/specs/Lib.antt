@@ -3,10 +3,8 @@ pub mod Writes
 pub mod Files
 pub mod Looks
 pub mod Load
-pub mod LoadText
 pub mod Print
 pub mod Order
-pub mod Refusals
 pub mod Demo
 pub mod Reports
 pub mod Weave
@@ -17,5 +15,9 @@ pub mod Stops
 pub mod Outside
 pub mod Came
 pub mod Ran
-pub mod Written
-pub mod TextSink
+-- the causes and texts of pl_texts, by which what is here is said
+pub use Rattle.pl_texts.specs.LoadText
+pub use Rattle.pl_texts.specs.WeaveText
+pub use Rattle.pl_texts.specs.declared.cause.Cause
+pub use Rattle.pl_texts.specs.declared.content.Content
+pub use Rattle.pl_texts.specs.declared.detail.Detail

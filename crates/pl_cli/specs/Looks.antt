@@ -7,8 +7,8 @@ use Rattle.pl_scope.specs.Walk as walk
 use Rattle.pl_scope.specs.Walking.{Walking, wants}
 use Rattle.pl_scope.specs.declared.constants.TheConstants.{MAX_MEMBERS}
 use Rattle.pl_loader.specs.Walk.{walk_fault}
-use Rattle.pl_cli.specs.declared.cause.Cause.{Cause}
-use Rattle.pl_cli.specs.declared.cause.Cause.TheVariants as causes
+use Rattle.pl_texts.specs.declared.cause.Cause.{Cause}
+use Rattle.pl_texts.specs.declared.cause.Cause.TheVariants as causes
 
 -- the object of a name, or why it has none
 abbrev pub ObjectOf : Type 0

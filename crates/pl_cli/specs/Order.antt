@@ -18,10 +18,10 @@ use Rattle.pl_loader.specs.Faults.{of_file}
 use Rattle.pl_loader.specs.Walk.{walk_fault}
 use Rattle.pl_cli.specs.Files.{file_in}
 use Rattle.pl_cli.specs.Looks.{ObjectOf}
-use Rattle.pl_cli.specs.declared.cause.Cause.{Cause}
-use Rattle.pl_cli.specs.declared.cause.Cause.TheVariants as causes
-use Rattle.pl_cli.specs.declared.command.Detail.{Detail}
-use Rattle.pl_cli.specs.declared.command.Detail.TheVariants.{Short, Full}
+use Rattle.pl_texts.specs.declared.cause.Cause.{Cause}
+use Rattle.pl_texts.specs.declared.cause.Cause.TheVariants as causes
+use Rattle.pl_texts.specs.declared.detail.Detail.{Detail}
+use Rattle.pl_texts.specs.declared.detail.Detail.TheVariants.{Short, Full}
 use Rattle.pl_cli.specs.declared.named_object.NamedObject.{NamedObject}
 
 -- ---- the walk

@@ -5,7 +5,6 @@ ghost use Rattle.pl_cli.specs.Came.{HasLoaded, IsNotStarted, IsStarted};
 ghost use Rattle.pl_cli.specs.Files.{Unasked};
 ghost use Rattle.pl_cli.specs.Load.{MayStart};
 
-use crate::cause::Cause;
 use crate::given::given;
 use crate::stop::Stop;
 use pl_base::is_valid_name;
@@ -13,6 +12,7 @@ use pl_elf::Range;
 use pl_folder::Folder;
 use pl_loader::{Loader, Started};
 use pl_place::{Holes, Placer};
+use pl_texts::Cause;
 use pl_words::Policy;
 use std::alloc::Global;
 

@@ -4,7 +4,6 @@ ghost use Rattle.pl_cli.specs.Came.{HasOrdered};
 ghost use Rattle.pl_cli.specs.Files.{Unasked};
 ghost use Rattle.pl_cli.specs.Order as spec;
 
-use crate::command::Detail;
 use crate::named_object::NamedObject;
 use crate::stop::Stop;
 use crate::walk::walk;
@@ -13,6 +12,7 @@ use pl_folder::Folder;
 use pl_init::{full_text, short_text};
 use pl_io::NoMemory;
 use pl_scope::{Member, Scope};
+use pl_texts::Detail;
 use std::alloc::{AllocError, Global};
 
 /// The scope of a walk's members.

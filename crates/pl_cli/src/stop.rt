@@ -2,7 +2,6 @@ ghost use Rattle.std.specs.Prelude.{◌≡◌};
 ghost use Rattle.pl_cli.specs.declared.stop.Stop.TheVariants as stops;
 ghost use Rattle.pl_cli.specs.Writes.{of_batch};
 
-use crate::cause::Cause;
 use pl_batch::BatchFault;
 use pl_build::RecipeFault;
 use pl_cache::CacheFault;
@@ -10,6 +9,7 @@ use pl_io::{NoMemory, ReadFault};
 use pl_loader::LoadFault;
 use pl_scope::WalkFault;
 use pl_script::ScriptFault;
+use pl_texts::Cause;
 use std::alloc::{AllocError, AllocFailed};
 
 /// Why a command stopped.

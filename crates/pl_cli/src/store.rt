@@ -7,15 +7,13 @@ ghost use Rattle.pl_cli.specs.Stops.{MeansAlone};
 ghost use Rattle.pl_cli.specs.Writes as spec;
 ghost use Rattle.pl_batch.specs.declared.run.Run.TheVariants.{Install};
 
-use crate::cause::Cause;
-use crate::command::Content;
 use crate::stop::Stop;
-use crate::text::stored_text;
 use pl_base::{Rows, Text};
 use pl_batch::{Run, do_run, recover_for};
 use pl_build::build;
 use pl_folder::{Folder, STORED};
 use pl_io::{Source, read_all};
+use pl_texts::{Cause, Content, stored_text};
 use std::alloc::{AllocError, Global};
 
 /// The most bytes of a recipe: 1 MiB.

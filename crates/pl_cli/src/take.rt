@@ -3,11 +3,11 @@ ghost use Rattle.std.specs.Prelude.{◌≡◌, ◌≢◌, ◌<◌, ◌^◌, IfOk
 ghost use Rattle.pl_cli.specs.Came.{HasTaken};
 ghost use Rattle.pl_cli.specs.Stops.{of_take};
 
-use crate::cause::Cause;
 use crate::stop::Stop;
 use pl_base::{Text, is_valid_name};
 use pl_folder::{Folder, FolderFault};
 use pl_loader::LoadFault;
+use pl_texts::Cause;
 use std::alloc::{AllocError, Global};
 
 /// Why the file of a name was not taken. A fault of the folder takes no memory.

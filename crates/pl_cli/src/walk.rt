@@ -9,7 +9,6 @@ ghost use Rattle.pl_cli.specs.Order as spec;
 ghost use Rattle.pl_cli.specs.Order.{AreMembers};
 ghost use Rattle.pl_cli.specs.Stops.{StopsAlone, of_load_fault};
 
-use crate::cause::Cause;
 use crate::named_object::NamedObject;
 use crate::stop::Stop;
 use crate::take::take;
@@ -19,6 +18,7 @@ use pl_form::{File, FileFault, read_file};
 use pl_loader::LoadFault;
 use pl_object::{Object, Refusal};
 use pl_scope::Order;
+use pl_texts::Cause;
 use std::alloc::{AllocError, Global};
 
 /// The object of a file: a prelinked one has that of its original.

@@ -14,8 +14,8 @@ use Rattle.pl_cli.specs.Answer.{done, refuses, load_answer}
 use Rattle.pl_cli.specs.Files.{valid_file, of_file, file_in}
 use Rattle.pl_cli.specs.Load.{choice, load_result, loading_file}
 use Rattle.pl_cli.specs.LoadText.{head_text, load_text}
-use Rattle.pl_cli.specs.declared.cause.Cause.{Cause}
-use Rattle.pl_cli.specs.declared.cause.Cause.TheVariants as cause
+use Rattle.pl_cli.specs.Cause.{Cause}
+use Rattle.pl_cli.specs.Cause.TheVariants as cause
 use Rattle.law_loads.specs.LoadingFolder.{loading_folder}
 use Rattle.pl_safe.specs.Ordinary.{AnswersAreOrdinary, ordinary}
 use Rattle.law_loads.specs.Paths.{GivesFrom, ordinary_load, IsSameStart, SameAnswer}

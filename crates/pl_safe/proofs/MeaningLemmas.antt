@@ -18,8 +18,8 @@ use Rattle.pl_batch.specs.declared.run.Run.TheVariants as runs
 use Rattle.pl_cli.specs.Load.{choice}
 use Rattle.pl_cli.specs.Writes.{content, fixes, loosens, of_batch, prelinks, removes, stores, undoes}
 use Rattle.pl_words.specs.declared.command.Policy.{Policy}
-use Rattle.pl_cli.specs.declared.cause.Cause.{Cause}
-use Rattle.pl_cli.specs.declared.command.Content.{Content}
+use Rattle.pl_cli.specs.Cause.{Cause}
+use Rattle.pl_cli.specs.Content.{Content}
 use Rattle.law_folder.specs.Originals.{HasOriginal, SameOriginals, originals}
 use Rattle.law_folder.specs.Safe.{IsSafe, after, changed}
 use Rattle.law_folder.specs.Steps.{MakesStep}

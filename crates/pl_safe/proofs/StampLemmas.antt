@@ -18,7 +18,7 @@ use Rattle.pl_batch.proofs.RestoredLemmas.{restored_before}
 use Rattle.pl_cli.specs.Outside.{Outside, ending_of}
 use Rattle.pl_cli.specs.Ran.{Ran}
 use Rattle.pl_cli.specs.Writes.{WritesFiles}
-use Rattle.pl_cli.specs.declared.cause.Cause.{Cause}
+use Rattle.pl_cli.specs.Cause.{Cause}
 use Rattle.pl_cli.specs.declared.command.Command.{Command}
 use Rattle.pl_words.specs.declared.status.Status.{Status}
 use Rattle.pl_words.specs.declared.status.Status.TheVariants as statuses

@@ -19,7 +19,7 @@ use Rattle.pl_batch.specs.declared.cause.Cause.TheVariants as batch_causes
 use Rattle.pl_cli.specs.Answer.{answer, compare_answer}
 use Rattle.pl_cli.specs.Verified.{verifies}
 use Rattle.pl_cli.specs.Writes.{of_batch}
-use Rattle.pl_cli.specs.declared.cause.Cause.{Cause}
+use Rattle.pl_cli.specs.Cause.{Cause}
 use Rattle.pl_cli.specs.declared.command.Command.TheVariants.{Verify}
 use Rattle.pl_words.specs.declared.status.Status.TheVariants as statuses
 use Rattle.law_folder.specs.Sound.{named}

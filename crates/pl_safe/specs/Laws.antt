@@ -27,7 +27,7 @@ use Rattle.pl_cli.specs.Ran.{Ran}
 use Rattle.pl_cli.specs.Writes.{AreBytes}
 use Rattle.pl_cli.specs.declared.command.Command.{Command}
 use Rattle.pl_cli.specs.declared.command.Command.TheVariants.{All, Load, Verify, Weave}
-use Rattle.pl_cli.specs.declared.command.Detail.{Detail}
+use Rattle.pl_cli.specs.Detail.{Detail}
 use Rattle.pl_words.specs.declared.status.Status.{Status}
 use Rattle.pl_words.specs.declared.status.Status.TheVariants as statuses
 use Rattle.pl_safe.specs.Ordinary.{ordinary_answer}

@@ -12,8 +12,8 @@ use Rattle.law_loads.specs.Started.{Start}
 use Rattle.pl_cli.specs.Answer.{Answer, answer, load_answer}
 use Rattle.pl_cli.specs.Files.{valid_file}
 use Rattle.pl_cli.specs.Load.{choice, loading_file}
-use Rattle.pl_cli.specs.declared.cause.Cause.{Cause}
-use Rattle.pl_cli.specs.declared.cause.Cause.TheVariants as cause
+use Rattle.pl_cli.specs.Cause.{Cause}
+use Rattle.pl_cli.specs.Cause.TheVariants as cause
 use Rattle.pl_cli.specs.declared.command.Command.TheVariants.{Load}
 
 -- what a program of a folder's files starts from where the originals are linked, or the first cause why it does not. The path is the fast one where these files allow it at these places

@@ -5,10 +5,11 @@ use Rattle.std.specs.Option.{ok_or}
 use Rattle.pl_base.specs.Answers.{◌>>=◌, because}
 use Rattle.pl_base.specs.Files.{Files}
 use Rattle.pl_batch.specs.Copied.{copied}
-use Rattle.pl_cli.specs.Weave.{end_line, loader_line, runs_of, runs_text, script_in, start_text, wants_line, weaves}
+use Rattle.pl_cli.specs.Weave.{runs_of, runs_text, script_in, weaves}
+use Rattle.pl_cli.specs.WeaveText.{end_line, loader_line, start_text, wants_line}
 use Rattle.pl_cli.specs.Writes.{of_batch}
-use Rattle.pl_cli.specs.declared.cause.Cause.{Cause}
-use Rattle.pl_cli.specs.declared.cause.Cause.TheVariants as causes
+use Rattle.pl_cli.specs.Cause.{Cause}
+use Rattle.pl_cli.specs.Cause.TheVariants as causes
 use Rattle.pl_conflict.specs.Format.{is_fast}
 use Rattle.law_folder.specs.Sound.{KeepsTheRule}
 use Rattle.law_folder.specs.Steps.{IsPastAll}

@@ -1,6 +1,6 @@
 use Rattle.std.proofs.Common.{ap, ◌∙◌}
 use Rattle.pl_cli.specs.Came.{HasPrelinked}
-use Rattle.pl_cli.specs.Reports.{report_text}
+use Rattle.pl_texts.specs.Reports.{report_text}
 use Rattle.pl_cli.specs.Stops.{of_batch_fault}
 use Rattle.pl_cli.proofs.StopLemmas.{at_err}
 use Rattle.pl_cli.proofs.WriteLemmas.{prelinking_stopped, was_prelinked}

@@ -6,7 +6,7 @@ use Rattle.pl_loader.specs.Loading.{Load, Loading}
 use Rattle.pl_loader.specs.Walk.{IsUnderWay}
 use Rattle.pl_loader.proofs.LoadLaws.{load_begins, load_goes_on, give_more, wanted_below}
 use Rattle.pl_cli.specs.Came.{HasLoaded}
-use Rattle.pl_cli.specs.declared.cause.Cause.TheVariants as causes
+use Rattle.pl_texts.specs.declared.cause.Cause.TheVariants as causes
 use Rattle.pl_cli.specs.declared.stop.Stop.TheVariants as stops
 use Rattle.pl_cli.specs.Load.{loaded_object, loading_file}
 use Rattle.pl_cli.specs.Looks.{takes}

@@ -4,7 +4,7 @@ use Rattle.pl_base.specs.Answers.{because}
 use Rattle.pl_build.specs.Build.{build, Builds}
 use Rattle.pl_cli.specs.Stops.{MeansAlone, of_recipe_fault}
 use Rattle.pl_cli.specs.Writes.{file_by, recipe_cause}
-use Rattle.pl_cli.specs.declared.command.Content.{Content}
+use Rattle.pl_texts.specs.declared.content.Content.{Content}
 use Rattle.pl_cli.proofs.ContentLemmas.{unbuilt}
 use Rattle.pl_cli.proofs.StopLemmas.{at_err}
 use Rattle.pl_cli.proofs.store.file_by.Goals as goal

@@ -13,7 +13,7 @@ use Rattle.pl_cli.specs.Came.{HasWalked}
 use Rattle.pl_cli.specs.Looks.{takes}
 use Rattle.pl_cli.specs.Order.{members_of, object_in}
 use Rattle.pl_cli.specs.Stops.{of_load_fault}
-use Rattle.pl_cli.specs.declared.cause.Cause.TheVariants as causes
+use Rattle.pl_texts.specs.declared.cause.Cause.TheVariants as causes
 use Rattle.pl_cli.specs.declared.named_object.NamedObject.{NamedObject}
 use Rattle.pl_cli.specs.declared.stop.Stop.TheVariants as stops
 use Rattle.pl_cli.proofs.LookLemmas.{all_taken, left_all, left_from, left_none, none_yet}
