@@ -5,7 +5,7 @@ use Rattle.std.specs.Option.{ok_or}
 use Rattle.std.specs.Str.{bytes_eq}
 use Rattle.pl_base.specs.Answers.{◌>>=◌, because}
 use Rattle.pl_base.specs.Files.{Files}
-use Rattle.pl_batch.specs.Copied.{copied}
+use Rattle.pl_change.specs.Copied.{copied}
 use Rattle.pl_cli.specs.Weave.{end_line, loader_line, runs_of, runs_text, script_in, start_text, wants_line, weaves}
 use Rattle.pl_cli.specs.Writes.{of_batch}
 use Rattle.pl_cli.specs.declared.cause.Cause.{Cause}

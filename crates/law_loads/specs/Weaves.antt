@@ -2,7 +2,7 @@
 use Rattle.std.specs.Prelude.{◌≡◌, ◌⊎◌, ℕ, List, [], ◌∷◌, Some, slice_get, None, Result}
 use Rattle.std.specs.FinMap.{get}
 use Rattle.pl_base.specs.Files.{Files}
-use Rattle.pl_batch.specs.Copied.{kept}
+use Rattle.pl_change.specs.Copied.{kept}
 use Rattle.pl_batch.specs.declared.run.Run.{Run}
 use Rattle.pl_base.specs.Answers.{because}
 use Rattle.pl_conflict.specs.Format.{is_fast}
