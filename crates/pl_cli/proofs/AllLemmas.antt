@@ -7,10 +7,10 @@ use Rattle.pl_base.specs.Files.{Files}
 use Rattle.pl_folder.specs.Seen.{Seen}
 use Rattle.pl_texts.specs.Report.{Report}
 use Rattle.pl_batch.specs.All.{all_reported}
-use Rattle.pl_batch.specs.Answers as batch
-use Rattle.pl_batch.specs.declared.cause.Cause as causes
-use Rattle.pl_batch.specs.declared.fault.BatchFault.{BatchFault}
-use Rattle.pl_batch.specs.declared.fault.BatchFault.TheVariants as batch_faults
+use Rattle.pl_change.specs.Answers as batch
+use Rattle.pl_change.specs.declared.cause.Cause as causes
+use Rattle.pl_change.specs.declared.fault.BatchFault.{BatchFault}
+use Rattle.pl_change.specs.declared.fault.BatchFault.TheVariants as batch_faults
 use Rattle.pl_batch.specs.declared.prelinking.Prelinking.{Prelinking}
 use Rattle.pl_texts.specs.declared.detail.Detail.{Detail}
 use Rattle.pl_cli.specs.declared.stop.Stop.TheVariants as stops

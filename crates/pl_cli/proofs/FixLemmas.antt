@@ -16,16 +16,16 @@ use Rattle.pl_journal.proofs.Meanings.{stands_self}
 use Rattle.pl_journal.proofs.RealLemmas.{on_looks}
 use Rattle.pl_journal.proofs.RecoverLemmas.{no_look}
 use Rattle.pl_words.specs.declared.command.Policy.{Policy}
-use Rattle.pl_batch.specs.Answers.{fault_ending}
-use Rattle.pl_batch.specs.Commands.{Commands, Made, stopped}
-use Rattle.pl_batch.specs.Replace.{TellsAddress, address_of, fixed_as, fixing_meant, loosened_of, loosening_meant, replacement_of}
-use Rattle.pl_batch.specs.Restored.{restored}
-use Rattle.pl_batch.specs.Starts as starts
-use Rattle.pl_batch.specs.declared.cause.Cause as batch
-use Rattle.pl_batch.specs.declared.fault.BatchFault.{BatchFault}
-use Rattle.pl_batch.specs.declared.fault.BatchFault.TheVariants as batch_faults
-use Rattle.pl_batch.proofs.RestoredLemmas.{restored_before}
-use Rattle.pl_batch.proofs.StartLemmas.{invalid_ready}
+use Rattle.pl_change.specs.Answers.{fault_ending}
+use Rattle.pl_change.specs.Commands.{Commands, Made, stopped}
+use Rattle.pl_change.specs.Replace.{TellsAddress, address_of, fixed_as, fixing_meant, loosened_of, loosening_meant, replacement_of}
+use Rattle.pl_change.specs.Restored.{restored}
+use Rattle.pl_change.specs.Starts as starts
+use Rattle.pl_change.specs.declared.cause.Cause as batch
+use Rattle.pl_change.specs.declared.fault.BatchFault.{BatchFault}
+use Rattle.pl_change.specs.declared.fault.BatchFault.TheVariants as batch_faults
+use Rattle.pl_change.proofs.RestoredLemmas.{restored_before}
+use Rattle.pl_change.proofs.StartLemmas.{invalid_ready}
 use Rattle.pl_texts.specs.declared.cause.Cause.{Cause}
 use Rattle.pl_texts.specs.declared.cause.Cause.TheVariants as causes
 use Rattle.pl_cli.specs.declared.command.Command.TheVariants as commands

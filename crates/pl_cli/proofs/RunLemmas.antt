@@ -11,10 +11,10 @@ use Rattle.pl_io.specs.Seen.{Input, Output}
 use Rattle.pl_folder.specs.Calls.{Calls}
 use Rattle.pl_folder.specs.Seen.{Seen, Done, Undone, IsFolder}
 use Rattle.pl_elf.specs.declared.range.Range.{Range}
-use Rattle.pl_batch.specs.Commands.{Meaning}
+use Rattle.pl_change.specs.Commands.{Meaning}
 use Rattle.pl_batch.specs.declared.prelinking.Prelinking.{Prelinking}
 use Rattle.pl_batch.specs.declared.run.Run.TheVariants as runs
-use Rattle.pl_batch.proofs.AgainLemmas.{refused_disk, refused_files}
+use Rattle.pl_change.proofs.AgainLemmas.{refused_disk, refused_files}
 use Rattle.pl_loader.specs.Loading as loading
 use Rattle.pl_words.specs.declared.command.Policy.{Policy}
 use Rattle.pl_loader.specs.Started.{Start, started}

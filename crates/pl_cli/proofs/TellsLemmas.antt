@@ -42,15 +42,16 @@ use Rattle.pl_cli.specs.Verified.{verifies}
 use Rattle.pl_cli.specs.Writes.{content, file_by, of_batch, prelinks, recipe_cause, removes, stores, undoes, fixes, loosens}
 use Rattle.pl_cli.specs.Answer.{fixed_line}
 use Rattle.pl_texts.specs.DoneText.{fixed_text}
-use Rattle.pl_batch.specs.Replace.{address_of, fixing_meant, loosening_meant}
+use Rattle.pl_change.specs.Replace.{address_of, fixing_meant, loosening_meant}
 use Rattle.pl_journal.specs.declared.change.Change.{Change}
 use Rattle.pl_batch.specs.All.{all_reported}
 use Rattle.pl_batch.specs.Verify.{verified}
-use Rattle.pl_batch.specs.Changes.{changes_of, removal_meant, run_meant}
-use Rattle.pl_batch.specs.Commands.{ready_for}
-use Rattle.pl_batch.specs.declared.cause.Cause as batch
-use Rattle.pl_batch.specs.declared.cause.Cause.TheVariants as batch_causes
-use Rattle.pl_batch.specs.Copied.{copied}
+use Rattle.pl_batch.specs.Changes.{changes_of, run_meant}
+use Rattle.pl_change.specs.Changes.{removal_meant}
+use Rattle.pl_change.specs.Commands.{ready_for}
+use Rattle.pl_change.specs.declared.cause.Cause as batch
+use Rattle.pl_change.specs.declared.cause.Cause.TheVariants as batch_causes
+use Rattle.pl_change.specs.Copied.{copied}
 use Rattle.pl_batch.specs.declared.prelinking.Prelinking.{Prelinking}
 use Rattle.pl_script.specs.Script.{script}
 use Rattle.pl_script.specs.declared.fault.ScriptFault.{ScriptFault}

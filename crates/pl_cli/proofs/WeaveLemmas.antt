@@ -15,10 +15,10 @@ use Rattle.pl_base.specs.Each.{each, with_front}
 use Rattle.pl_base.specs.Files.{Files, file_entry, files_of}
 use Rattle.pl_base.proofs.EachLaws.{each_stops}
 use Rattle.pl_base.proofs.FilesLaws.{same, same_name}
-use Rattle.pl_batch.specs.Answers as batch
-use Rattle.pl_batch.specs.Copied.{copied}
-use Rattle.pl_batch.specs.declared.fault.BatchFault.{BatchFault}
-use Rattle.pl_batch.specs.declared.fault.BatchFault.TheVariants as batch_faults
+use Rattle.pl_change.specs.Answers as batch
+use Rattle.pl_change.specs.Copied.{copied}
+use Rattle.pl_change.specs.declared.fault.BatchFault.{BatchFault}
+use Rattle.pl_change.specs.declared.fault.BatchFault.TheVariants as batch_faults
 use Rattle.pl_batch.specs.Changes.{IsRun}
 use Rattle.pl_batch.specs.declared.run.Run.{Run}
 use Rattle.pl_folder.specs.Calls.{Calls}

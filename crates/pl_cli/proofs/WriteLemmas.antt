@@ -13,24 +13,25 @@ use Rattle.pl_io.specs.Seen.{Input}
 use Rattle.pl_folder.specs.Calls.{Calls}
 use Rattle.pl_folder.specs.Seen.{Seen, Done, Broken, Undone, IsFolder}
 use Rattle.pl_journal.specs.declared.change.Change.{Change}
-use Rattle.pl_batch.specs.Answers.{fault_ending}
-use Rattle.pl_batch.specs.Changes.{changes_of, removal_meant, removal_of, run_meant}
+use Rattle.pl_change.specs.Answers.{fault_ending}
+use Rattle.pl_batch.specs.Changes.{changes_of, run_meant}
+use Rattle.pl_change.specs.Changes.{removal_meant, removal_of}
 use Rattle.pl_journal.proofs.Meanings.{stands_self}
 use Rattle.pl_journal.proofs.RealLemmas.{on_looks}
 use Rattle.pl_journal.proofs.RecoverLemmas.{no_look}
-use Rattle.pl_batch.specs.Commands.{Commands, CommandsFiles, Counts, Failed, Lacked, Made, Meaning, Refused, ready_for, stopped}
-use Rattle.pl_batch.specs.Restored.{restored}
-use Rattle.pl_batch.specs.Starts as starts
+use Rattle.pl_change.specs.Commands.{Commands, CommandsFiles, Counts, Failed, Lacked, Made, Meaning, Refused, ready_for, stopped}
+use Rattle.pl_change.specs.Restored.{restored}
+use Rattle.pl_change.specs.Starts as starts
 use Rattle.pl_batch.specs.All.{Reports, all_reported}
 use Rattle.pl_batch.specs.declared.prelinking.Prelinking.{Prelinking}
-use Rattle.pl_batch.specs.declared.cause.Cause as batch
-use Rattle.pl_batch.specs.declared.fault.BatchFault.{BatchFault}
-use Rattle.pl_batch.specs.declared.fault.BatchFault.TheVariants as batch_faults
+use Rattle.pl_change.specs.declared.cause.Cause as batch
+use Rattle.pl_change.specs.declared.fault.BatchFault.{BatchFault}
+use Rattle.pl_change.specs.declared.fault.BatchFault.TheVariants as batch_faults
 use Rattle.pl_batch.specs.declared.run.Run.{Run}
 use Rattle.pl_batch.specs.declared.run.Run.TheVariants as runs
-use Rattle.pl_batch.proofs.AgainLemmas.{commands_on, lacked_after, meant_by, recaused, refused_after, stops_first}
-use Rattle.pl_batch.proofs.RestoredLemmas.{restored_before}
-use Rattle.pl_batch.proofs.StartLemmas.{invalid_ready}
+use Rattle.pl_change.proofs.AgainLemmas.{commands_on, lacked_after, meant_by, recaused, refused_after, stops_first}
+use Rattle.pl_change.proofs.RestoredLemmas.{restored_before}
+use Rattle.pl_change.proofs.StartLemmas.{invalid_ready}
 use Rattle.pl_texts.specs.declared.cause.Cause.{Cause}
 use Rattle.pl_texts.specs.declared.cause.Cause.TheVariants as causes
 use Rattle.pl_cli.specs.declared.command.Command.TheVariants as commands

@@ -4,8 +4,8 @@ use Rattle.pl_base.specs.Answers.{◌>>=◌, because}
 use Rattle.pl_base.specs.Files.{Files}
 use Rattle.pl_journal.specs.declared.change.Change.{Change}
 use Rattle.pl_loader.specs.Started.{Start}
-use Rattle.pl_batch.specs.Replace.{address_of}
-use Rattle.pl_batch.specs.Restored.{restored}
+use Rattle.pl_change.specs.Replace.{address_of}
+use Rattle.pl_change.specs.Restored.{restored}
 use Rattle.pl_batch.specs.declared.run.Run.TheVariants as runs
 use Rattle.pl_words.specs.declared.status.Status.{Status}
 use Rattle.pl_words.specs.declared.status.Status.TheVariants as statuses

@@ -14,8 +14,8 @@ use Rattle.pl_place.specs.Policy.{Answering, Choice, Follows}
 use Rattle.pl_script.specs.declared.TheConstants.{SCRIPT}
 use Rattle.pl_script.specs.declared.script.Script.{Script}
 use Rattle.pl_journal.specs.Parts.{Looking}
-use Rattle.pl_batch.specs.Commands.{Counts}
-use Rattle.pl_batch.specs.Restored.{restored}
+use Rattle.pl_change.specs.Commands.{Counts}
+use Rattle.pl_change.specs.Restored.{restored}
 use Rattle.pl_batch.specs.declared.prelinking.Prelinking.{Prelinking}
 use Rattle.pl_batch.specs.declared.run.Run.{Run}
 use Rattle.pl_batch.specs.declared.run.Run.TheVariants as runs

@@ -10,9 +10,9 @@ use Rattle.pl_loader.specs.declared.fault.LoadFault.{LoadFault}
 use Rattle.pl_loader.specs.declared.fault.LoadFault.TheVariants.{NotThere}
 use Rattle.pl_cache.specs.declared.fault.CacheFault.{CacheFault}
 use Rattle.pl_cache.specs.declared.fault.CacheFault.TheVariants as cache_faults
-use Rattle.pl_batch.specs.declared.fault.BatchFault.{BatchFault}
-use Rattle.pl_batch.specs.declared.fault.BatchFault.TheVariants.{DiskFailed}
-use Rattle.pl_batch.specs.declared.fault.BatchFault.TheVariants as batch_faults
+use Rattle.pl_change.specs.declared.fault.BatchFault.{BatchFault}
+use Rattle.pl_change.specs.declared.fault.BatchFault.TheVariants.{DiskFailed}
+use Rattle.pl_change.specs.declared.fault.BatchFault.TheVariants as batch_faults
 use Rattle.pl_script.specs.declared.fault.ScriptFault.{ScriptFault}
 use Rattle.pl_script.specs.declared.fault.ScriptFault.TheVariants as script_faults
 use Rattle.pl_build.specs.declared.fault.RecipeFault.{RecipeFault}

@@ -5,7 +5,7 @@ use Rattle.std.specs.FinMap.{get}
 use Rattle.pl_base.specs.Answers.{◌>>=◌, because, unless}
 use Rattle.pl_base.specs.Each.{each}
 use Rattle.pl_base.specs.Files.{Files}
-use Rattle.pl_batch.specs.Copied.{IsCopy, copied}
+use Rattle.pl_change.specs.Copied.{IsCopy, copied}
 use Rattle.pl_batch.specs.declared.prelinking.Prelinking.{Prelinking}
 use Rattle.pl_batch.specs.declared.run.Run.{Run}
 use Rattle.pl_batch.specs.declared.run.Run.TheVariants as runs

@@ -9,13 +9,14 @@ use Rattle.pl_folder.specs.declared.TheConstants.{STORED}
 use Rattle.pl_build.specs.Build.{build}
 use Rattle.pl_build.specs.declared.checks.Fault.{Fault}
 use Rattle.pl_loader.specs.declared.fault.LoadFault.TheVariants.{BadMark, NeededIsProgram, NoPlace, NotThere, Refused, TooMany}
-use Rattle.pl_batch.specs.Changes.{changes_of, removal_meant, run_meant}
-use Rattle.pl_batch.specs.Commands.{Commands, CommandsDisk, CommandsFiles, Failed, Lacked, Made, Meaning, ready_for}
-use Rattle.pl_batch.specs.Commands as outcomes
-use Rattle.pl_batch.specs.Replace.{fixing_meant, loosening_meant}
+use Rattle.pl_batch.specs.Changes.{changes_of, run_meant}
+use Rattle.pl_change.specs.Changes.{removal_meant}
+use Rattle.pl_change.specs.Commands.{Commands, CommandsDisk, CommandsFiles, Failed, Lacked, Made, Meaning, ready_for}
+use Rattle.pl_change.specs.Commands as outcomes
+use Rattle.pl_change.specs.Replace.{fixing_meant, loosening_meant}
 use Rattle.pl_batch.specs.declared.prelinking.Prelinking.{Prelinking}
-use Rattle.pl_batch.specs.declared.cause.Cause as batch
-use Rattle.pl_batch.specs.declared.cause.Cause.TheVariants as batch_causes
+use Rattle.pl_change.specs.declared.cause.Cause as batch
+use Rattle.pl_change.specs.declared.cause.Cause.TheVariants as batch_causes
 use Rattle.pl_batch.specs.declared.run.Run.{Run}
 use Rattle.pl_batch.specs.declared.run.Run.TheVariants as runs
 use Rattle.pl_texts.specs.declared.cause.Cause.{Cause}

@@ -21,6 +21,6 @@ pub fn remove<D: Folder>(alloc: Global, folder: &mut D, name: &str) -> Result<Ve
     ensures { HasRemoved name.now result (D.seen folder.old) (D.seen folder.new) }
 {
     let line = removed_text(alloc, name)?;
-    pl_batch::remove(alloc, folder, name)?;
+    pl_change::remove(alloc, folder, name)?;
     Ok(line.into_bytes())
 }

@@ -3,7 +3,7 @@ ghost use Rattle.pl_cli.specs.Came.{HasFixed, HasUnfixed};
 
 use crate::chosen::chosen;
 use crate::stop::Stop;
-use pl_batch::{fix_file, unfix_file};
+use pl_change::{fix_file, unfix_file};
 use pl_folder::Folder;
 use pl_place::{Holes, Placer};
 use pl_texts::unfixed_text;

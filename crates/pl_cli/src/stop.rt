@@ -2,9 +2,9 @@ ghost use Rattle.std.specs.Prelude.{◌≡◌};
 ghost use Rattle.pl_cli.specs.declared.stop.Stop.TheVariants as stops;
 ghost use Rattle.pl_cli.specs.Writes.{of_batch};
 
-use pl_batch::BatchFault;
 use pl_build::RecipeFault;
 use pl_cache::CacheFault;
+use pl_change::BatchFault;
 use pl_io::{NoMemory, ReadFault};
 use pl_loader::LoadFault;
 use pl_scope::WalkFault;
@@ -74,21 +74,21 @@ impl From<WalkFault> for Stop {
 }
 
 /// A cause of a command that changes files.
-pub fn batch_cause(cause: pl_batch::Cause) -> Cause
+pub fn batch_cause(cause: pl_change::Cause) -> Cause
     ensures { result ≡ of_batch cause }
 {
     match cause {
-        pl_batch::Cause::BadName => Cause::BadName,
-        pl_batch::Cause::BadJournal => Cause::BadJournal,
-        pl_batch::Cause::TooManyFiles => Cause::TooManyFiles,
-        pl_batch::Cause::NotThere(name) => Cause::Load(LoadFault::NotThere(name)),
-        pl_batch::Cause::FileTooLarge(name) => Cause::FileTooLarge(name),
-        pl_batch::Cause::BadMark(name) => Cause::Load(LoadFault::BadMark(name)),
-        pl_batch::Cause::BadCache => Cause::BadCache,
-        pl_batch::Cause::FolderTooLarge => Cause::FolderTooLarge,
-        pl_batch::Cause::NoSlot { name, span, hole } => Cause::NoSlot { name, span, hole },
-        pl_batch::Cause::StampsSpent(stamp) => Cause::StampsSpent(stamp),
-        pl_batch::Cause::Refused {
+        pl_change::Cause::BadName => Cause::BadName,
+        pl_change::Cause::BadJournal => Cause::BadJournal,
+        pl_change::Cause::TooManyFiles => Cause::TooManyFiles,
+        pl_change::Cause::NotThere(name) => Cause::Load(LoadFault::NotThere(name)),
+        pl_change::Cause::FileTooLarge(name) => Cause::FileTooLarge(name),
+        pl_change::Cause::BadMark(name) => Cause::Load(LoadFault::BadMark(name)),
+        pl_change::Cause::BadCache => Cause::BadCache,
+        pl_change::Cause::FolderTooLarge => Cause::FolderTooLarge,
+        pl_change::Cause::NoSlot { name, span, hole } => Cause::NoSlot { name, span, hole },
+        pl_change::Cause::StampsSpent(stamp) => Cause::StampsSpent(stamp),
+        pl_change::Cause::Refused {
             name,
             number,
             argument,
@@ -97,11 +97,11 @@ pub fn batch_cause(cause: pl_batch::Cause) -> Cause
             number,
             argument,
         }),
-        pl_batch::Cause::NeededIsProgram(name) => Cause::Load(LoadFault::NeededIsProgram(name)),
-        pl_batch::Cause::TooMany(name) => Cause::Load(LoadFault::TooMany(name)),
-        pl_batch::Cause::NotPie(name) => Cause::NotPie(name),
-        pl_batch::Cause::NoPlace(name) => Cause::Load(LoadFault::NoPlace(name)),
-        pl_batch::Cause::NotFixed(name) => Cause::NotFixed(name),
+        pl_change::Cause::NeededIsProgram(name) => Cause::Load(LoadFault::NeededIsProgram(name)),
+        pl_change::Cause::TooMany(name) => Cause::Load(LoadFault::TooMany(name)),
+        pl_change::Cause::NotPie(name) => Cause::NotPie(name),
+        pl_change::Cause::NoPlace(name) => Cause::Load(LoadFault::NoPlace(name)),
+        pl_change::Cause::NotFixed(name) => Cause::NotFixed(name),
     }
 }
 

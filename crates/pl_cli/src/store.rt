@@ -9,8 +9,9 @@ ghost use Rattle.pl_batch.specs.declared.run.Run.TheVariants.{Install};
 
 use crate::stop::Stop;
 use pl_base::{Rows, Text};
-use pl_batch::{Run, do_run, recover_for};
+use pl_batch::{Run, do_run};
 use pl_build::build;
+use pl_change::recover_for;
 use pl_folder::{Folder, STORED};
 use pl_io::{Source, read_all};
 use pl_texts::{Cause, Content, stored_text};

@@ -9,9 +9,10 @@ use Rattle.pl_folder.specs.Disk.{Name, View, same}
 use Rattle.pl_form.specs.Files.{original_in}
 use Rattle.pl_journal.specs.Meaning.{applied}
 use Rattle.pl_journal.specs.declared.change.Change.{Change}
-use Rattle.pl_batch.specs.Changes.{changes_of, removal_meant, run_meant}
-use Rattle.pl_batch.specs.Commands.{Meaning, ready_for}
-use Rattle.pl_batch.specs.Replace.{fixed_as, loosened_of, replacing_meant}
+use Rattle.pl_batch.specs.Changes.{changes_of, run_meant}
+use Rattle.pl_change.specs.Changes.{removal_meant}
+use Rattle.pl_change.specs.Commands.{Meaning, ready_for}
+use Rattle.pl_change.specs.Replace.{fixed_as, loosened_of, replacing_meant}
 use Rattle.pl_batch.specs.declared.prelinking.Prelinking.{Prelinking}
 use Rattle.pl_batch.specs.declared.run.Run.{Run}
 use Rattle.pl_batch.specs.declared.run.Run.TheVariants as runs

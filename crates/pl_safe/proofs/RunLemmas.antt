@@ -17,10 +17,10 @@ use Rattle.pl_journal.specs.RealDisk.{AreAlike, LosesLoose, RunsFirmlyOn, real_b
 use Rattle.pl_journal.proofs.Moments.{after_start, since_start, starts, weaker}
 use Rattle.pl_journal.proofs.RealLemmas.{firm_same, on_looks, real_images, run_beside}
 use Rattle.pl_journal.proofs.RecoverLemmas.{waited_look}
-use Rattle.pl_batch.specs.Commands.{CommandsFiles, Failed, IsBefore, Lacked, Made, Meaning, Outcome, Refused}
-use Rattle.pl_batch.specs.Restored.{restored}
+use Rattle.pl_change.specs.Commands.{CommandsFiles, Failed, IsBefore, Lacked, Made, Meaning, Outcome, Refused}
+use Rattle.pl_change.specs.Restored.{restored}
 use Rattle.pl_batch.specs.declared.run.Run.TheVariants as runs
-use Rattle.pl_batch.proofs.RestoredLemmas.{restored_before}
+use Rattle.pl_change.proofs.RestoredLemmas.{restored_before}
 use Rattle.pl_cli.specs.Came.{Makes}
 use Rattle.pl_cli.specs.Ran.{Ran}
 use Rattle.pl_cli.specs.Load.{loaded_object}

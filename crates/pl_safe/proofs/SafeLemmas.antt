@@ -2,7 +2,7 @@
 use Rattle.std.proofs.Common.{◌≡◌, Option, Some, true, ap, subst, ◌∙◌}
 use Rattle.std.specs.FinMap.{get}
 use Rattle.pl_folder.specs.Seen.{IsFolder}
-use Rattle.pl_batch.specs.Restored.{restored}
+use Rattle.pl_change.specs.Restored.{restored}
 use Rattle.pl_batch.specs.declared.prelinking.Prelinking.{Prelinking}
 use Rattle.pl_cli.specs.Answer.{answer}
 use Rattle.pl_cli.specs.Outside.{Outside}

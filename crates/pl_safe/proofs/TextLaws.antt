@@ -4,8 +4,8 @@ use Rattle.std.specs.Prelude.{slice_get}
 use Rattle.std.specs.FinMap.{get}
 use Rattle.pl_base.specs.Answers.{◌>>=◌, because}
 use Rattle.pl_base.specs.Files.{Files}
-use Rattle.pl_batch.specs.Copied.{copied, kept}
-use Rattle.pl_batch.specs.declared.cause.Cause as batch
+use Rattle.pl_change.specs.Copied.{copied, kept}
+use Rattle.pl_change.specs.declared.cause.Cause as batch
 use Rattle.pl_batch.specs.declared.run.Run.{Run}
 use Rattle.pl_cli.specs.Weave.{loader_text, loaders_text, runs_of, runs_text, script_in, state_by, text_by, weaves}
 use Rattle.pl_cli.specs.WeaveText.{end_line, loader_line, start_text}

@@ -15,7 +15,7 @@ use Rattle.law_sound.specs.Rule.{is_verified, original_at, walk_in}
 use Rattle.law_sound.proofs.Theorems as theorems
 use Rattle.pl_batch.specs.Folder as folder
 use Rattle.pl_batch.specs.Verify.{causes, original_if_verified, verified}
-use Rattle.pl_batch.specs.declared.cause.Cause.TheVariants as batch_causes
+use Rattle.pl_change.specs.declared.cause.Cause.TheVariants as batch_causes
 use Rattle.pl_cli.specs.Answer.{answer, compare_answer}
 use Rattle.pl_cli.specs.Verified.{verifies}
 use Rattle.pl_cli.specs.Writes.{of_batch}

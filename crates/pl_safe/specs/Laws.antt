@@ -10,7 +10,7 @@ use Rattle.pl_journal.specs.Leaves.{Looks}
 use Rattle.pl_journal.specs.Meaning.{Same}
 use Rattle.pl_journal.specs.Parts.{AtDone}
 use Rattle.pl_journal.specs.RealDisk.{AllFirm, LosesLoose, RunsFirmlyOn, real_by}
-use Rattle.pl_batch.specs.Restored.{restored}
+use Rattle.pl_change.specs.Restored.{restored}
 use Rattle.pl_batch.specs.declared.prelinking.Prelinking.{Prelinking}
 use Rattle.law_folder.specs.Safe.{IsSafeImage, after}
 use Rattle.law_folder.specs.Sound.{IsSound, named}

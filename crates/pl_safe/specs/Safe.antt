@@ -6,7 +6,7 @@ use Rattle.pl_folder.specs.Disk.{View, clock}
 use Rattle.pl_folder.specs.Since.{Since, Within}
 use Rattle.pl_journal.specs.Meaning.{Same}
 use Rattle.pl_journal.specs.RealDisk.{RunsFirmlyOn}
-use Rattle.pl_batch.specs.Restored.{restored}
+use Rattle.pl_change.specs.Restored.{restored}
 use Rattle.pl_batch.specs.declared.prelinking.Prelinking.{Prelinking}
 use Rattle.law_folder.specs.Safe.{IsSafeImage, after}
 use Rattle.law_folder.specs.Sound.{IsSound}

@@ -4,7 +4,7 @@ use Rattle.std.specs.FinMap.{get}
 use Rattle.std.specs.Option.{ok_or}
 use Rattle.pl_base.specs.Answers.{◌>>=◌, because}
 use Rattle.pl_base.specs.Files.{Files}
-use Rattle.pl_batch.specs.Copied.{copied}
+use Rattle.pl_change.specs.Copied.{copied}
 use Rattle.pl_cli.specs.Weave.{runs_of, runs_text, script_in, weaves}
 use Rattle.pl_cli.specs.WeaveText.{end_line, loader_line, start_text, wants_line}
 use Rattle.pl_cli.specs.Writes.{of_batch}
