@@ -29,16 +29,17 @@ use Rattle.pl_change.proofs.StartLemmas.{invalid_ready}
 use Rattle.pl_texts.specs.declared.cause.Cause.{Cause}
 use Rattle.pl_texts.specs.declared.cause.Cause.TheVariants as causes
 use Rattle.pl_cli.specs.declared.command.Command.TheVariants as commands
-use Rattle.pl_cli.specs.declared.stop.Stop.{Stop}
-use Rattle.pl_cli.specs.declared.stop.Stop.TheVariants as stops
+use Rattle.pl_texts.specs.declared.stop.Stop.{Stop}
+use Rattle.pl_texts.specs.declared.stop.Stop.TheVariants as stops
 use Rattle.pl_cli.specs.Answer.{done, fixed_line, refuses, text_answer, write_answer}
 use Rattle.pl_texts.specs.DoneText.{fixed_text, unfixed_text}
 use Rattle.pl_cli.specs.Came.{Came, HasFixed, HasUnfixed, Named, as_is}
 use Rattle.pl_cli.specs.Load.{choice}
-use Rattle.pl_cli.specs.Stops.{of_batch_fault}
+use Rattle.pl_texts.specs.Stops.{of_batch_fault}
 use Rattle.pl_cli.specs.Words.{bytes_of}
-use Rattle.pl_cli.specs.Writes.{fixes, loosens, of_batch}
-use Rattle.pl_cli.proofs.CallLemmas.{no_calls}
+use Rattle.pl_cli.specs.Writes.{fixes, loosens}
+use Rattle.pl_texts.specs.Stops.{of_batch}
+use Rattle.pl_texts.proofs.CallLemmas.{no_calls}
 use Rattle.pl_cli.proofs.WriteLemmas.{by_name, gives_cause, gives_made, unread, writes, written_done, written_fault}
 
 -- ---- the line of `--fix`

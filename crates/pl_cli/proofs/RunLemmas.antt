@@ -26,18 +26,19 @@ use Rattle.pl_cli.specs.declared.command.Command.TheVariants.{Load, All, Preview
 use Rattle.pl_texts.specs.declared.detail.Detail.{Detail}
 use Rattle.pl_words.specs.declared.status.Status.{Status}
 use Rattle.pl_words.specs.declared.status.Status.TheVariants as statuses
-use Rattle.pl_cli.specs.declared.stop.Stop.{Stop}
-use Rattle.pl_cli.specs.declared.stop.Stop.TheVariants as stops
+use Rattle.pl_texts.specs.declared.stop.Stop.{Stop}
+use Rattle.pl_texts.specs.declared.stop.Stop.TheVariants as stops
 use Rattle.pl_cli.specs.Answer.{Answer, IsTold, answer, compare_answer, compared, done, load_answer, text_answer, refuses}
 use Rattle.pl_texts.specs.DoneText.{usage, differs_text}
-use Rattle.pl_cli.specs.Came.{Came, HasDemo, HasLoaded, HasOrdered, HasPreviewed, HasPrinted, HasVerified, Makes, as_is, HasWoven}
+use Rattle.pl_cli.specs.Came.{Came, HasDemo, HasLoaded, HasPreviewed, HasVerified, Makes, as_is, HasWoven}
+use Rattle.pl_texts.specs.Finds.{HasOrdered, HasPrinted}
 use Rattle.pl_cli.specs.Load.{choice, loaded_files}
 use Rattle.pl_cli.specs.Outside.{Consumes, most_read, outside}
 use Rattle.pl_cli.specs.Ran.{Finishes, Ran, Refuses, Writes}
 use Rattle.pl_cli.specs.Weave.{weaves}
 use Rattle.pl_cli.specs.Words.{bytes_of, reads_input}
 use Rattle.pl_cli.specs.Writes.{WritesFolder, fixes, loosens, prelinks, removes, stores, undoes, AreBytes}
-use Rattle.pl_cli.proofs.CallLemmas.{as_calls, asked_all, looked_all, no_calls}
+use Rattle.pl_texts.proofs.CallLemmas.{as_calls, asked_all, looked_all, no_calls}
 use Rattle.pl_cli.proofs.LoadLemmas.{loaded_is}
 use Rattle.pl_cli.proofs.WriteLemmas.{unread}
 use Rattle.pl_journal.proofs.Meanings.{stands_self}

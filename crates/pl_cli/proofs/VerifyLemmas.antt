@@ -14,9 +14,9 @@ use Rattle.pl_change.specs.declared.cause.Cause.TheVariants.{BadName}
 use Rattle.pl_change.specs.declared.fault.BatchFault.{BatchFault}
 use Rattle.pl_change.specs.declared.fault.BatchFault.TheVariants as batch_faults
 use Rattle.pl_cli.specs.Came.{HasVerified}
-use Rattle.pl_cli.specs.Stops.{of_batch_fault}
+use Rattle.pl_texts.specs.Stops.{of_batch_fault}
 use Rattle.pl_cli.specs.Verified.{verifies}
-use Rattle.pl_cli.specs.Writes.{of_batch}
+use Rattle.pl_texts.specs.Stops.{of_batch}
 
 abbrev pub Verifying : Type 0
 Verifying = Result (Option (Vec ℕ Global)) BatchFault

@@ -44,15 +44,16 @@ use Rattle.pl_weave.specs.Weaving.{Weaving}
 use Rattle.pl_weave.specs.declared.progress.Progress.{Progress}
 use Rattle.pl_texts.specs.declared.cause.Cause.{Cause}
 use Rattle.pl_texts.specs.declared.cause.Cause.TheVariants.{InputTooLarge}
-use Rattle.pl_cli.specs.declared.stop.Stop.{Stop}
-use Rattle.pl_cli.specs.declared.stop.Stop.TheVariants as stops
+use Rattle.pl_texts.specs.declared.stop.Stop.{Stop}
+use Rattle.pl_texts.specs.declared.stop.Stop.TheVariants as stops
 use Rattle.pl_cli.specs.Came.{HasScript, HasWoven}
-use Rattle.pl_cli.specs.Stops.{MeansAlone, StopsAlone, items_of, of_batch_fault, of_read_fault, of_script_fault}
+use Rattle.pl_texts.specs.Stops.{MeansAlone, StopsAlone, items_of, of_batch_fault, of_read_fault, of_script_fault}
 use Rattle.pl_cli.specs.Weave.{loader_text, loaders_text, of_script, run_line, run_of, runs_of, runs_text, script_in, start_file, weave_text, weaves, weaves_by, woven_text}
 use Rattle.pl_texts.specs.WeaveText.{end_line, loader_line}
 use Rattle.pl_cli.specs.Words.{bytes_of}
-use Rattle.pl_cli.specs.Writes.{AreBytes, of_batch}
-use Rattle.pl_cli.proofs.CallLemmas.{as_calls, looked_all, no_calls}
+use Rattle.pl_cli.specs.Writes.{AreBytes}
+use Rattle.pl_texts.specs.Stops.{of_batch}
+use Rattle.pl_texts.proofs.CallLemmas.{as_calls, looked_all, no_calls}
 
 -- ---- the script
 

@@ -37,18 +37,20 @@ use Rattle.pl_texts.specs.declared.cause.Cause.TheVariants as causes
 use Rattle.pl_cli.specs.declared.command.Command.TheVariants as commands
 use Rattle.pl_texts.specs.declared.content.Content.{Content}
 use Rattle.pl_texts.specs.declared.detail.Detail.{Detail}
-use Rattle.pl_cli.specs.declared.stop.Stop.{Stop}
-use Rattle.pl_cli.specs.declared.stop.Stop.TheVariants as stops
+use Rattle.pl_texts.specs.declared.stop.Stop.{Stop}
+use Rattle.pl_texts.specs.declared.stop.Stop.TheVariants as stops
 use Rattle.pl_cli.specs.Answer.{IsTold, done, refuses, text_answer, write_answer}
 use Rattle.pl_texts.specs.DoneText.{removed_text, stored_text, undone_text}
 use Rattle.pl_cli.specs.Came.{Came, HasContent, HasPrelinked, HasRemoved, HasStored, HasUndone, as_is}
-use Rattle.pl_cli.specs.Outside.{Consumes, ending_of}
+use Rattle.pl_cli.specs.Outside.{Consumes}
+use Rattle.pl_texts.specs.Endings.{ending_of}
 use Rattle.pl_cli.specs.Reports.{previewed, reported}
 use Rattle.pl_texts.specs.Reports.{report_text}
-use Rattle.pl_cli.specs.Stops.{of_batch_fault, status_of, stop_status}
+use Rattle.pl_texts.specs.Stops.{of_batch_fault, status_of, stop_status}
 use Rattle.pl_cli.specs.Words.{bytes_of}
-use Rattle.pl_cli.specs.Writes.{AreBytes, WritesFolder, Written, content, most_bytes, of_batch, prelinks, removes, stores, undoes}
-use Rattle.pl_cli.proofs.CallLemmas.{as_calls, no_calls}
+use Rattle.pl_cli.specs.Writes.{AreBytes, WritesFolder, Written, content, most_bytes, prelinks, removes, stores, undoes}
+use Rattle.pl_texts.specs.Stops.{of_batch}
+use Rattle.pl_texts.proofs.CallLemmas.{as_calls, no_calls}
 
 -- ---- a fault of pl_batch as a stop
 

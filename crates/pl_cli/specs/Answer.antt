@@ -16,14 +16,15 @@ use Rattle.pl_cli.specs.Demo.{demo_text}
 use Rattle.pl_cli.specs.Load.{load_result, choice}
 use Rattle.pl_texts.specs.LoadText.{load_text}
 use Rattle.pl_texts.specs.DoneText.{undone_text, stored_text, removed_text, fixed_text, unfixed_text, usage, differs_text}
-use Rattle.pl_cli.specs.Order.{ordered}
-use Rattle.pl_cli.specs.Print.{printed}
+use Rattle.pl_texts.specs.Order.{ordered}
+use Rattle.pl_texts.specs.Print.{printed}
 use Rattle.pl_texts.specs.Refusals.{refusal}
 use Rattle.pl_cli.specs.Reports.{previewed, reported}
 use Rattle.pl_cli.specs.Verified.{verifies}
 use Rattle.pl_cli.specs.Weave.{weaves}
 use Rattle.pl_cli.specs.Words.{reads_input, rests_on_files}
-use Rattle.pl_cli.specs.Writes.{fixes, loosens, of_batch, removes, stores, undoes}
+use Rattle.pl_cli.specs.Writes.{fixes, loosens, removes, stores, undoes}
+use Rattle.pl_texts.specs.Stops.{of_batch}
 use Rattle.pl_words.specs.declared.command.Policy.{Policy}
 
 -- ---- answers

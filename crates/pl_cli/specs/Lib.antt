@@ -1,22 +1,22 @@
 pub mod Words
 pub mod Writes
-pub mod Files
-pub mod Looks
 pub mod Load
-pub mod Print
-pub mod Order
 pub mod Demo
 pub mod Reports
 pub mod Weave
 pub mod Verified
 pub mod Answer
 pub mod Tells
-pub mod Stops
 pub mod Outside
 pub mod Came
 pub mod Ran
 -- the causes and texts of pl_texts, by which what is here is said
+pub use Rattle.pl_texts.specs.Endings
+pub use Rattle.pl_texts.specs.Files
 pub use Rattle.pl_texts.specs.LoadText
+pub use Rattle.pl_texts.specs.Looks
+pub use Rattle.pl_texts.specs.Order
+pub use Rattle.pl_texts.specs.Stops
 pub use Rattle.pl_texts.specs.WeaveText
 pub use Rattle.pl_texts.specs.declared.cause.Cause
 pub use Rattle.pl_texts.specs.declared.content.Content

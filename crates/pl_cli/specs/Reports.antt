@@ -6,7 +6,8 @@ use Rattle.pl_batch.specs.All.{all_reported}
 use Rattle.pl_batch.specs.declared.prelinking.Prelinking.{Prelinking}
 use Rattle.pl_texts.specs.declared.cause.Cause.{Cause}
 use Rattle.pl_texts.specs.declared.detail.Detail.{Detail}
-use Rattle.pl_cli.specs.Writes.{of_batch, prelinks}
+use Rattle.pl_texts.specs.Stops.{of_batch}
+use Rattle.pl_cli.specs.Writes.{prelinks}
 use Rattle.pl_texts.specs.Reports.{report_text}
 
 -- `-a -n`: of the files as they stand

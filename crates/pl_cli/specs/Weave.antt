@@ -27,7 +27,7 @@ use Rattle.pl_weave.specs.declared.progress.Progress.{Progress}
 use Rattle.pl_weave.specs.declared.progress.Progress.TheVariants.{Waits, Refused, Does}
 use Rattle.pl_words.specs.declared.values.TheConstants.{REGION}
 use Rattle.pl_texts.specs.WeaveText.{loader_line, wants_line, start_text, waits_line, refused_line, done_line, renames_line, end_line}
-use Rattle.pl_cli.specs.Writes.{of_batch}
+use Rattle.pl_texts.specs.Stops.{of_batch}
 use Rattle.pl_texts.specs.declared.cause.Cause.{Cause}
 use Rattle.pl_texts.specs.declared.cause.Cause.TheVariants as causes
 

@@ -2,10 +2,9 @@
 ghost use Rattle.pl_batch.specs.Changes.{IsRun};
 ghost use Rattle.pl_cli.specs.Came.{HasRemoved, HasUndone};
 
-use crate::stop::Stop;
 use pl_batch::{Run, do_run};
 use pl_folder::Folder;
-use pl_texts::removed_text;
+use pl_texts::{Stop, removed_text};
 use std::alloc::Global;
 
 /// Gives prelinked files their originals; so many, or why it stopped.

@@ -4,13 +4,12 @@ ghost use Rattle.pl_folder.specs.InMemory.{quiet_files};
 ghost use Rattle.pl_cli.specs.Came.{HasDemo};
 ghost use Rattle.pl_cli.specs.Demo as spec;
 
-use crate::stop::Stop;
 use crate::top::load_and_write;
 use pl_base::Text;
 use pl_demo::{Counts, DemoFolder, demo_folder};
 use pl_folder::QuietFolder;
 use pl_io::NoMemory;
-use pl_texts::{TextSink, digest_line, push_count};
+use pl_texts::{Stop, TextSink, digest_line, push_count};
 use pl_words::{Policy, Status};
 use std::alloc::{AllocError, Global};
 

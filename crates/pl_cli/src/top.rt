@@ -9,7 +9,7 @@ ghost use Rattle.pl_base.specs.Names.{IsNameLength};
 ghost use Rattle.pl_cli.specs.Answer.{compared, done, load_answer};
 ghost use Rattle.pl_texts.specs.DoneText.{fixed_text, undone_text};
 ghost use Rattle.pl_cli.specs.Came.{Came, HasVerified, as_is};
-ghost use Rattle.pl_cli.specs.Files.{Unasked};
+ghost use Rattle.pl_texts.specs.Files.{Unasked};
 ghost use Rattle.pl_cli.specs.Load.{MayStart, choice, start_by};
 ghost use Rattle.pl_cli.specs.Outside.{is_write_fault, outside};
 ghost use Rattle.pl_cli.specs.Ran.{Finishes, Ran, RanLoad, Refuses, Writes};
@@ -22,9 +22,6 @@ use crate::command::Command;
 use crate::demo::demo;
 use crate::fix::{fix, unfix};
 use crate::load::{load, start};
-use crate::order::order;
-use crate::print::print;
-use crate::stop::Stop;
 use crate::store::store;
 use crate::verify::verify;
 use crate::weave::weave;
@@ -35,7 +32,9 @@ use pl_folder::Folder;
 use pl_io::{Sink, Source, write_all};
 use pl_loader::Loader;
 use pl_place::{Holes, Placer};
-use pl_texts::{DIFFERS, USAGE, WriteStop, fixed_line, refusal, undone_line, write_start};
+use pl_texts::{
+    DIFFERS, Stop, USAGE, WriteStop, fixed_line, order, print, refusal, undone_line, write_start,
+};
 use pl_words::{Policy, Status, WordsFault};
 use std::alloc::Global;
 

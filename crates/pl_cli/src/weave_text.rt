@@ -6,12 +6,11 @@ ghost use Rattle.pl_weave.specs.Running.{AreChosen, HavePolicy};
 ghost use Rattle.pl_weave.specs.declared.progress.Progress.TheVariants.{Does};
 ghost use Rattle.pl_cli.specs.Weave as spec;
 
-use crate::stop::batch_cause;
 use pl_io::NoMemory;
 use pl_place::Holes;
 use pl_texts::{
-    TextSink, add_refusal, add_refused, add_start, done_line, loader_line, renames_line,
-    waits_line, wants_line,
+    TextSink, add_refusal, add_refused, add_start, batch_cause, done_line, loader_line,
+    renames_line, waits_line, wants_line,
 };
 use pl_weave::{Opening, Progress, Weave, Woven};
 use std::alloc::{AllocError, Global};

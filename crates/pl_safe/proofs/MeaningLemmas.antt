@@ -17,7 +17,8 @@ use Rattle.pl_batch.specs.declared.prelinking.Prelinking.{Prelinking}
 use Rattle.pl_batch.specs.declared.run.Run.{Run}
 use Rattle.pl_batch.specs.declared.run.Run.TheVariants as runs
 use Rattle.pl_cli.specs.Load.{choice}
-use Rattle.pl_cli.specs.Writes.{content, fixes, loosens, of_batch, prelinks, removes, stores, undoes}
+use Rattle.pl_cli.specs.Writes.{content, fixes, loosens, prelinks, removes, stores, undoes}
+use Rattle.pl_cli.specs.Stops.{of_batch}
 use Rattle.pl_words.specs.declared.command.Policy.{Policy}
 use Rattle.pl_cli.specs.Cause.{Cause}
 use Rattle.pl_cli.specs.Content.{Content}

@@ -26,7 +26,8 @@ use Rattle.pl_cli.specs.Ran.{Ran}
 use Rattle.pl_cli.specs.Load.{loaded_object}
 use Rattle.pl_cli.specs.Looks.{takes}
 use Rattle.pl_cli.specs.Order.{object_in}
-use Rattle.pl_cli.specs.Outside.{Outside, ending_of}
+use Rattle.pl_cli.specs.Outside.{Outside}
+use Rattle.pl_cli.specs.Endings.{ending_of}
 use Rattle.pl_cli.specs.Words.{bytes_of}
 use Rattle.pl_cli.specs.Writes.{AreBytes, WritesDisk, WritesFiles}
 use Rattle.pl_cli.specs.Cause.{Cause}

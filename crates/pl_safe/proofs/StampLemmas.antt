@@ -15,7 +15,8 @@ use Rattle.pl_journal.proofs.Moments.{since_start, weaker}
 use Rattle.pl_change.specs.Commands.{CommandsFiles, LeavesFiles, Made, MakesFiles, Meaning, Refused}
 use Rattle.pl_change.specs.Restored.{restored}
 use Rattle.pl_change.proofs.RestoredLemmas.{restored_before}
-use Rattle.pl_cli.specs.Outside.{Outside, ending_of}
+use Rattle.pl_cli.specs.Outside.{Outside}
+use Rattle.pl_cli.specs.Endings.{ending_of}
 use Rattle.pl_cli.specs.Ran.{Ran}
 use Rattle.pl_cli.specs.Writes.{WritesFiles}
 use Rattle.pl_cli.specs.Cause.{Cause}

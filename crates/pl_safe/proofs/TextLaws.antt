@@ -9,7 +9,7 @@ use Rattle.pl_change.specs.declared.cause.Cause as batch
 use Rattle.pl_batch.specs.declared.run.Run.{Run}
 use Rattle.pl_cli.specs.Weave.{loader_text, loaders_text, runs_of, runs_text, script_in, state_by, text_by, weaves}
 use Rattle.pl_cli.specs.WeaveText.{end_line, loader_line, start_text}
-use Rattle.pl_cli.specs.Writes.{of_batch}
+use Rattle.pl_cli.specs.Stops.{of_batch}
 use Rattle.pl_cli.specs.Cause.{Cause}
 use Rattle.pl_cli.specs.Cause.TheVariants as causes
 use Rattle.law_folder.specs.Sound.{KeepsTheRule}

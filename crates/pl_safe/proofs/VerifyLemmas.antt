@@ -18,7 +18,7 @@ use Rattle.pl_batch.specs.Verify.{causes, original_if_verified, verified}
 use Rattle.pl_change.specs.declared.cause.Cause.TheVariants as batch_causes
 use Rattle.pl_cli.specs.Answer.{answer, compare_answer}
 use Rattle.pl_cli.specs.Verified.{verifies}
-use Rattle.pl_cli.specs.Writes.{of_batch}
+use Rattle.pl_cli.specs.Stops.{of_batch}
 use Rattle.pl_cli.specs.Cause.{Cause}
 use Rattle.pl_cli.specs.declared.command.Command.TheVariants.{Verify}
 use Rattle.pl_words.specs.declared.status.Status.TheVariants as statuses

@@ -22,7 +22,8 @@ use Rattle.law_sound.specs.Rule.{matches, members}
 use Rattle.pl_journal.specs.Names.{journal}
 use Rattle.pl_words.specs.declared.command.Policy.{Policy}
 use Rattle.pl_cli.specs.Answer.{answer, text_answer}
-use Rattle.pl_cli.specs.Outside.{Outside, ending_of}
+use Rattle.pl_cli.specs.Outside.{Outside}
+use Rattle.pl_cli.specs.Endings.{ending_of}
 use Rattle.pl_cli.specs.Ran.{Ran}
 use Rattle.pl_cli.specs.Writes.{AreBytes}
 use Rattle.pl_cli.specs.declared.command.Command.{Command}

@@ -7,7 +7,7 @@ use Rattle.pl_base.specs.Files.{Files}
 use Rattle.pl_change.specs.Copied.{copied}
 use Rattle.pl_cli.specs.Weave.{runs_of, runs_text, script_in, weaves}
 use Rattle.pl_cli.specs.WeaveText.{end_line, loader_line, start_text, wants_line}
-use Rattle.pl_cli.specs.Writes.{of_batch}
+use Rattle.pl_cli.specs.Stops.{of_batch}
 use Rattle.pl_cli.specs.Cause.{Cause}
 use Rattle.pl_cli.specs.Cause.TheVariants as causes
 use Rattle.pl_conflict.specs.Format.{is_fast}
