@@ -1,6 +1,6 @@
-//! The texts that commands print: why a command is refused, the report of a run, what a load starts from, the cache, and the lines of the commands that write, of weaves and of `--demo`.
+//! The texts that commands print: why a command is refused, the report of a run, what a load starts from, the cache, and the lines of the commands that write, of weaves and of `--demo`. Each text is a definition, which the function beside it gives; it fails only for want of memory, unless its comment says otherwise.
 //!
-//! Each text is a definition, which the function beside it gives; it fails only for want of memory, unless its comment says otherwise.
+//! And what needs no run: why a command stops, one file of a folder, and the texts of `--order` and `-p`.
 #![tactic(auto)]
 
 mod cache_text;
@@ -34,7 +34,7 @@ pub use detail::Detail;
 pub use fixed::fixed_line;
 pub use ordering::order;
 pub use pl_rewrite::Report;
-pub use printing::{CACHE, print};
+pub use printing::print;
 pub use refusals::refusal;
 pub use report::report_text;
 pub use stop::{Stop, batch_cause};
