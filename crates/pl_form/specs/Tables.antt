@@ -10,7 +10,7 @@ use Rattle.pl_form.specs.declared.parts.Extension.{Extension}
 use Rattle.pl_form.specs.declared.parts.FormPlan.{FormPlan}
 use Rattle.pl_form.specs.declared.parts.FormTables.{FormTables}
 use Rattle.pl_form.specs.declared.parts.Spot.{Spot}
-use Rattle.pl_form.specs.declared.program.Inserted.{Inserted}
+use Rattle.pl_form.specs.declared.program.Insertion.{Insertion}
 use Rattle.pl_form.specs.declared.program.Last.{Last}
 use Rattle.pl_form.specs.declared.program.Shift.{Shift}
 use Rattle.pl_form.specs.declared.section_names.TheConstants.{LIBSTR_NAME, LIBLIST_NAME, CONFLICT_NAME}
@@ -35,14 +35,14 @@ tables_of p = record { segments = p.segments; dynamic = p.dynamic; sections = p.
 -- ---- a program
 
 -- what is inserted behind the file bytes of the last PT_LOAD
-abbrev pub inserted : Segment → List Spot → List ℕ → Extension → Inserted
+abbrev pub inserted : Segment → List Spot → List ℕ → Extension → Insertion
 inserted last ps flat e = record { bytes = whole_extension (extension last ps flat e); grown = length (extension last ps flat e) }
 
 -- by it, what follows in the file moves
-abbrev pub shift_of : Segment → Inserted → Shift
+abbrev pub shift_of : Segment → Insertion → Shift
 shift_of last more = record { cut = last.offset + last.filesz; size = length more.bytes }
 
-abbrev pub program_tables : List ℕ → Object → Layout → Last → Inserted → Extension → FormTables
+abbrev pub program_tables : List ℕ → Object → Layout → Last → Insertion → Extension → FormTables
 program_tables bytes x l last more e = record {
   segments = split_segments (shift_of last.segment more) more.grown last x.segments;
   dynamic = program_table last.segment e l.tags (within l.dynamic bytes);

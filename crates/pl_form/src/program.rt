@@ -298,7 +298,7 @@ fn program_names(alloc: Global) -> Result<Vec<u8>, AllocError>
 
 /// What is inserted behind the file bytes of the last PT_LOAD.
 #[derive(Drop)]
-pub struct Inserted {
+pub struct Insertion {
     /// Its bytes.
     pub bytes: Rows<u8>,
 
@@ -313,14 +313,14 @@ fn inserted(
     spots: &[Spot],
     flat: &[u8],
     lists: &Extension,
-) -> Result<Inserted, AllocError>
+) -> Result<Insertion, AllocError>
     requires last { IsShort last.now }
     requires spots { AllIn (last.now.memsz - last.now.filesz) (hidden_windows spots.now) }
     ensures { IfOk result (λ more. more ≡ tables.inserted last.now spots.now flat.now lists.now) }
 {
     let block = extension(alloc, last, spots, flat, lists)?;
     let bytes = whole_extension(alloc, &block)?;
-    Ok(Inserted {
+    Ok(Insertion {
         bytes: Rows::from_vec(bytes),
         grown: block.len() as u64,
     })
@@ -333,7 +333,7 @@ fn program_tables(
     object: &Object,
     layout: &Layout,
     last: &Last,
-    more: &Inserted,
+    more: &Insertion,
     lists: &Extension,
 ) -> Result<FormTables, AllocError>
     requires few { length bytes.now + 100 < 2 ^ 32 }

@@ -3,7 +3,7 @@ use Rattle.pl_base.specs.Windows.{within}
 use Rattle.pl_form.specs.Parts.{extension, old_names}
 use Rattle.pl_form.specs.declared.parts.FormTables.{FormTables}
 use Rattle.pl_form.specs.declared.parts.Spot.{Spot}
-use Rattle.pl_form.specs.declared.program.Inserted.{Inserted}
+use Rattle.pl_form.specs.declared.program.Insertion.{Insertion}
 use Rattle.pl_form.proofs.PlanLaws.{plan_is, block_small}
 use Rattle.pl_form.proofs.program.program_plan.Goals as goal
 
@@ -14,7 +14,7 @@ program_tables-requires-clause-room c =
     let is : block ≡ extension last.segment c.args.layout.now.spots c.args.flat.now c.args.lists.now = ap (λ (s : List Spot). extension last.segment s c.args.flat.now c.args.lists.now) c.as_slice.ensures in
     omega (
       arith,
-      ap (λ (i : Inserted). i.grown) c.in_ok-more.ensures,
+      ap (λ (i : Insertion). i.grown) c.in_ok-more.ensures,
       block_small c.args.bytes.now c.args.object.now c.args.layout.now last c.args.flat.now block c.args.lists.now c.requires.program c.requires.flat c.requires.lists is,
     )
 
@@ -31,9 +31,9 @@ returns c =
     ∙ plan_is bytes c.args.object.now l last c.args.flat.now block more.bytes (within l.dynamic bytes) t.dynamic t.names c.new.result t.segments t.sections c.args.lists.now
     (length more.bytes) more.grown (length (old_names bytes)) c.requires.head c.requires.few c.requires.program c.requires.flat c.requires.lists
     is
-    (ap (λ (i : Inserted). i.bytes) c.in_ok-more.ensures)
+    (ap (λ (i : Insertion). i.bytes) c.in_ok-more.ensures)
     refl
-    (ap (λ (i : Inserted). i.grown) c.in_ok-more.ensures)
+    (ap (λ (i : Insertion). i.grown) c.in_ok-more.ensures)
     refl
     (ap (λ (u : FormTables). u.segments) c.in_ok-tables.ensures)
     (ap (λ (u : FormTables). u.sections) c.in_ok-tables.ensures)
