@@ -1,4 +1,4 @@
-//! Tests of the crates below pl_object, of scripts and generated sets, and of the real folder, one module for each crate.
+//! Tests of the crates below pl_object, of scripts and generated sets, of the real folder and of the lines for people, one module for each crate.
 #![tactic(auto)]
 
 #[cfg(test)]
@@ -9,6 +9,8 @@ mod cache;
 mod dynamic;
 #[cfg(test)]
 mod elf;
+#[cfg(test)]
+mod explain;
 #[cfg(test)]
 mod folder;
 #[cfg(test)]
