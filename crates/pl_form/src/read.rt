@@ -438,7 +438,15 @@ fn marked_with(
     } = parts;
     let digest = digest_of(original.as_slice());
     let layout = &standing.layout;
-    let marked = candidate(undo, original, object, layout, lists, &standing.front, &digest);
+    let marked = candidate(
+        undo,
+        original,
+        object,
+        layout,
+        lists,
+        &standing.front,
+        &digest,
+    );
     if_form(alloc, file, marked, &standing, &digest)
 }
 

@@ -164,6 +164,30 @@ fn body(
     Ok(file)
 }
 
+/// The section header table of a form: that of the plan, then the sections of the undo section and of the names, of so many bytes each, behind a file of so many bytes and other names of so many.
+fn ended_rows(
+    alloc: Global,
+    plan: &FormPlan,
+    file: usize,
+    old: usize,
+    undo: usize,
+    names: usize,
+) -> Result<Vec<Section>, AllocError>
+    requires end { ends.names_from file undo + names < 2 ^ 32 }
+    requires name { old + length plan.now.names + 18 < 2 ^ 32 }
+    ensures { IfOk result (λ v. v.items ≡ ends.rows_behind plan.now file old undo names) }
+{
+    let mut rows = Vec::from_slice(alloc, plan.sections.as_slice())?;
+    let name = old + plan.names.len();
+    let at = up(file);
+    let new = [
+        plain(name, SHT_PROGBITS, at, undo),
+        plain(name + UNDO_NAME.len(), SHT_STRTAB, up(at + undo), names),
+    ];
+    rows.extend_from_slice(&new)?;
+    Ok(rows)
+}
+
 /// Adds the undo section and the names, and answers the section header table that follows them.
 fn push_ends(
     alloc: Global,
@@ -178,18 +202,11 @@ fn push_ends(
     ensures rows { IfOk result (λ v. v.items ≡ ends.ended_rows (length file.old.items) old.now
         plan.now (length undo.now)) }
 {
-    let name = old.len() + plan.names.len();
     let names = names_part(alloc, old, plan)?;
-    let mut rows = Vec::from_slice(alloc, plan.sections.as_slice())?;
-    rows.push(plain(name, SHT_PROGBITS, up(file.len()), undo.len()))?;
+    let before = file.len();
     push_part(file, undo)?;
-    rows.push(plain(
-        name + UNDO_NAME.len(),
-        SHT_STRTAB,
-        up(file.len()),
-        names.len(),
-    ))?;
     push_part(file, &names)?;
+    let rows = ended_rows(alloc, plan, before, old.len(), undo.len(), names.len())?;
     Ok(rows)
 }
 
