@@ -3,6 +3,7 @@ ghost use Rattle.std.specs.Prelude.{◌≡◌, ◌+◌, ◌++◌, ◌<◌, ◌�
 ghost use Rattle.pl_elf.specs.Headers as headers;
 ghost use Rattle.pl_elf.specs.Clauses.{names};
 ghost use Rattle.pl_form.specs.Back.{inserted};
+ghost use Rattle.pl_form.specs.Extending.{HasNames};
 ghost use Rattle.pl_form.specs.Fits.{Fits};
 ghost use Rattle.pl_form.specs.Forms.{undo_part};
 ghost use Rattle.pl_form.specs.Parts as parts;
@@ -123,9 +124,7 @@ fn push_parts(file: &mut Vec<u8>, next: &[Rows<u8>]) -> Result<(), AllocError>
 
 /// The bytes of the section of section names.
 pub fn old_names<'a>(bytes: &'a [u8]) -> &'a [u8]
-    requires row { headers.section_offset (headers.header bytes.now)
-        (headers.header bytes.now).shstrndx + 64 ≤ length bytes.now }
-    requires long { 64 ≤ length bytes.now }
+    requires { HasNames bytes.now }
     ensures { result.now ≡ names bytes.now (headers.header bytes.now) }
 {
     let header = header_fields(bytes);
@@ -250,8 +249,7 @@ fn write_form(
     undo: &[u8],
 ) -> Result<Vec<u8>, AllocError>
     requires fits { Fits plan.now (original bytes.now layout.now) flat.now (length undo.now) }
-    requires names { headers.section_offset (headers.header bytes.now)
-        (headers.header bytes.now).shstrndx + 64 ≤ length bytes.now }
+    requires names { HasNames bytes.now }
     ensures { IfOk result (λ v. v.items ≡ parts.form plan.now (original bytes.now layout.now)
         flat.now undo.now) }
 {
@@ -277,11 +275,9 @@ pub fn write_planned(
     flat: &[u8],
     digest: Option<[u8; DIGEST_SIZE]>,
 ) -> Result<Vec<u8>, NoMemory>
-    requires long { 64 ≤ length bytes.now }
     requires fits { Fits plan.now (original bytes.now layout.now) flat.now
         (length (undo_part plan.now (original bytes.now layout.now) digest)) }
-    requires names { headers.section_offset (headers.header bytes.now)
-        (headers.header bytes.now).shstrndx + 64 ≤ length bytes.now }
+    requires names { HasNames bytes.now }
     ensures { IfOk result (λ v. v.items ≡ parts.form plan.now (original bytes.now layout.now)
         flat.now (undo_part plan.now (original bytes.now layout.now) digest)) }
 {
