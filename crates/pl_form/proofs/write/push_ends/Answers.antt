@@ -1,4 +1,4 @@
-use Rattle.std.proofs.Common.{List, ℕ, length, ap, ◌∙◌, arith}
+use Rattle.std.proofs.Common.{◌≡◌, List, ℕ, length, ap, ◌∙◌, arith}
 use Rattle.pl_base.specs.Windows.{◌⊕◌}
 use Rattle.pl_form.specs.Ends.{rows_behind}
 use Rattle.pl_form.proofs.WriteLaws.{two_joined}
@@ -14,6 +14,8 @@ returns-clause-file c =
 
 pub returns-clause-rows : goal.returns-clause-rows
 returns-clause-rows c =
+    let before : c.len-before.result ≡ length c.args.file.now.items = omega (arith, c.len-before.ensures) in
+    let size : c.len.result ≡ length c.in_ok-names.names.items = omega (arith, c.len.ensures) in
     c.in_ok-rows.ensures
-    ∙ ap (λ (n : ℕ). rows_behind c.args.plan.now n (length c.args.old.now) (length c.args.undo.now) c.len.result) c.len-before.ensures
-    ∙ ap (rows_behind c.args.plan.now (length c.args.file.now.items) (length c.args.old.now) (length c.args.undo.now)) (c.len.ensures ∙ ap length c.in_ok-names.ensures)
+    ∙ ap (λ (n : ℕ). rows_behind c.args.plan.now n (length c.args.old.now) (length c.args.undo.now) c.len.result) before
+    ∙ ap (rows_behind c.args.plan.now (length c.args.file.now.items) (length c.args.old.now) (length c.args.undo.now)) (size ∙ ap length c.in_ok-names.ensures)

@@ -37,5 +37,5 @@ returns c =
     (c.new_header-header.ensures ∙ ap (λ (h : Header). header_with h c.args.plan.now c.up-at.result) c.header_fields-old.ensures
     ∙ ap (header_with (header c.args.bytes.now) c.args.plan.now) (c.up-at.ensures ∙ ap up length_is))
 
-pub old_names-requires : goal.old_names-requires
-old_names-requires c = c.requires.names
+pub old_names-names-requires : goal.old_names-names-requires
+old_names-names-requires c = c.requires.names
