@@ -192,12 +192,20 @@ impl From<TlsFault> for Skip {
 #[derive(Clone, Copy, Debug, PartialEq, Eq, Error)]
 pub enum ConeFault {
     /// The greatest stamp is the last that there is, 2^32 - 1, and a name would get a later one.
-    #[error("no stamp is left")]
     StampsSpent(u32),
 
     /// There was no memory for the answer.
-    #[error("out of memory")]
     NoMemory,
+}
+
+impl fmt::Display for ConeFault {
+    fn fmt<W: fmt::Write>(&self, f: &mut fmt::Formatter<W>) -> fmt::Result {
+        let cause = match self {
+            ConeFault::StampsSpent(_) => "no stamp is left",
+            ConeFault::NoMemory => "out of memory",
+        };
+        f.write_str(cause)
+    }
 }
 
 impl From<NoMemory> for ConeFault {

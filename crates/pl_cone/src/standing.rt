@@ -49,9 +49,9 @@ fn standing_of(
     requires links { All (IsLink files.now) links.now }
     ensures { IfOk result (λ standing. standing ≡ spec.standing files.now name.now) }
 {
+    let copy = Text::copy_of(alloc, name)?;
     let cause = cause_of(alloc, files, links, name)?;
-    let name = Text::copy_of(alloc, name)?;
-    Ok(Standing { name, cause })
+    Ok(Standing { name: copy, cause })
 }
 
 /// How each name of the files stands, in their order: whether it may be prelinked, or the first cause why not, as `prelinkable` has it. What `links` tells of is not looked up. It fails only for want of memory.
