@@ -86,7 +86,7 @@ fn placed_among(
     Ok(Placed { slots, cone })
 }
 
-/// The same by how each name stands.
+/// Slots for the libraries that may be prelinked, and what is stale by them, by how each name stands.
 fn placed_by(
     alloc: Global,
     files: &[Known<'_>],
