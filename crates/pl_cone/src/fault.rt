@@ -52,7 +52,7 @@ impl Debug for PlanningFault {
                 name.as_str()
             ),
             PlanningFault::StampsSpent(stamp) => write!(out, "StampsSpent {stamp}"),
-            PlanningFault::NoMemory => write!(out, "NoMemory"),
+            PlanningFault::NoMemory => out.write_str("NoMemory"),
         }
     }
 }

@@ -7,6 +7,7 @@ ghost use Rattle.pl_cone.specs.Candidates as candidates;
 ghost use Rattle.pl_cone.specs.Known.{AreAccepted};
 ghost use Rattle.pl_cone.specs.Links as spec;
 
+use crate::pushing::push_some;
 use crate::walks::walk_unless_refused;
 use crate::{Definers, Entry, Known, one_word_of};
 use pl_base::{Rows, Text};
@@ -119,9 +120,7 @@ fn add_link(
     if !is_library(known) {
         return Ok(());
     }
-    if let Some(link) = link_of(alloc, files, definers, known.name)? {
-        links.push(link)?;
-    }
+    push_some(links, link_of(alloc, files, definers, known.name)?)?;
     Ok(())
 }
 

@@ -1,5 +1,6 @@
 // Why a name is not prelinked, and why a run has no stamp.
 ghost use Rattle.std.specs.Prelude.{◌≡◌};
+ghost use Rattle.pl_cone.specs.Skips.{skip_is_memory};
 ghost use Rattle.pl_cone.specs.declared.skip.ConeFault.TheVariants as stops;
 ghost use Rattle.pl_cone.specs.declared.skip.Skip.TheVariants as skips;
 
@@ -134,6 +135,13 @@ impl fmt::Debug for Skip {
         f.write_str(cause)?;
         f.write_str(name)
     }
+}
+
+/// Whether a cause is a want of memory.
+pub fn is_memory(skip: &Skip) -> bool
+    ensures { result ≡ skip_is_memory skip.now }
+{
+    matches!(skip, Skip::NoMemory)
 }
 
 impl From<NoMemory> for Skip {

@@ -7,6 +7,7 @@ ghost use Rattle.pl_cone.specs.Links.{IsLink};
 ghost use Rattle.pl_cone.specs.Wants as spec;
 
 use crate::pushing::push_some;
+use crate::skip::is_memory;
 use crate::{Known, Link, Skip, prelinkable_with};
 use pl_base::{Rows, Text};
 use pl_io::NoMemory;
@@ -34,8 +35,13 @@ fn cause_of(
 {
     match prelinkable_with(alloc, files, links, name) {
         Ok(()) => Ok(None),
-        Err(Skip::NoMemory) => Err(NoMemory),
-        Err(skip) => Ok(Some(skip)),
+        Err(skip) => {
+            if is_memory(&skip) {
+                Err(NoMemory)
+            } else {
+                Ok(Some(skip))
+            }
+        }
     }
 }
 

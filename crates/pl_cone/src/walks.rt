@@ -8,6 +8,7 @@ ghost use Rattle.pl_cone.specs.Known as spec;
 ghost use Rattle.pl_cone.specs.Skips.{skip_is_memory};
 
 use crate::names::entry_of;
+use crate::skip::is_memory;
 use crate::{Entry, Known, Skip};
 use pl_base::Text;
 use pl_io::NoMemory;
@@ -84,7 +85,12 @@ pub fn walk_unless_refused<'a>(
 {
     match walk_in(alloc, files, name) {
         Ok(scope) => Ok(Some(scope)),
-        Err(Skip::NoMemory) => Err(NoMemory),
-        Err(_) => Ok(None),
+        Err(skip) => {
+            if is_memory(&skip) {
+                Err(NoMemory)
+            } else {
+                Ok(None)
+            }
+        }
     }
 }
