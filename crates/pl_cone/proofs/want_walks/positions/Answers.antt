@@ -9,8 +9,8 @@ pub returns-in-None : goal.returns-in-None
 unfolding positions
 returns-in-None c = rw (refused_names (walk_in c.args.files.now c.args.name.now) (sym c.in-None.is ∙ c.in_ok-walk.ensures)) c.new.ensures
 
-pub returns-in-Some : goal.returns-in-Some
+pub returns-in_ok-positions_in-in-Some : goal.returns-in_ok-positions_in-in-Some
 unfolding positions
-returns-in-Some c =
+returns-in_ok-positions_in-in-Some c =
     let is : walk_in c.args.files.now c.args.name.now ≡ Ok c.in-Some.scope = walked_is _ _ (sym c.in-Some.is ∙ c.in_ok-walk.ensures) in
-    rw (is, ← c.members.ensures.members) c.in_ok-positions_in.ensures
+    rw (is, ← c.members.ensures.members) c.in_ok-positions_in-in-Some.ensures
