@@ -1,16 +1,16 @@
 ghost use Rattle.std.specs.Prelude.{◌≡◌, ◌<◌, ◌≤◌, ◌^◌, ◌∷◌, length, map, false, IfOk};
 ghost use Rattle.std.specs.List.{All};
-ghost use Rattle.pl_base.specs.Answers.{Answers, NeverMemory};
+ghost use Rattle.pl_base.specs.Answers.{Answers, NeverMemory, because};
 ghost use Rattle.pl_base.specs.Windows.{end_of};
 ghost use Rattle.pl_elf.specs.Headers.{HasSections, HasSegments, loads};
 ghost use Rattle.pl_elf.specs.Clauses.{AreLoads};
 ghost use Rattle.pl_elf.specs.Clauses as elf;
-ghost use Rattle.pl_dyn.specs.Read as dyn;
 ghost use Rattle.pl_object.specs.Accepted.{Accepted};
 ghost use Rattle.pl_object.specs.Tables as tables;
-ghost use Rattle.pl_object.specs.Refusals.{is_memory};
+ghost use Rattle.pl_object.specs.Refusals.{is_memory, of_dynamic};
 ghost use Rattle.pl_object.specs.Reads as spec;
 
+use crate::contents::Contents;
 use crate::file_part::{in_file_part, loaded};
 use crate::headers::Headers;
 use crate::layout::Layout;
@@ -27,7 +27,7 @@ use crate::tables::{link_windows, sections_window, static_windows};
 use crate::tags::{dynamic_memory, jmprel_memory, rela_memory};
 use crate::{Object, Refusal, Reloc, Window};
 use pl_base::Rows;
-use pl_dyn::{DynFault, Dynamic, Tag, read_dynamic};
+use pl_dyn::{Dynamic, Tag, read_dynamic};
 use pl_elf::constants::{ET_EXEC, RELR_SIZE};
 use pl_elf::{
     Header, Kind, Range, Segment, is_static_file, read_header, read_sections, read_segments,
@@ -38,15 +38,16 @@ use std::alloc::{AllocError, Global};
 
 /// The dynamic table: clauses 9 to 11.
 #[tactic(auto, unfolding(crate::specs::Reads::dynamic))]
-fn dynamic(alloc: Global, bytes: &[u8], segments: &[Segment]) -> Result<Dynamic, DynFault>
+fn dynamic(alloc: Global, bytes: &[u8], segments: &[Segment]) -> Result<Dynamic, Refusal>
     requires { length bytes.now < 2 ^ 32 }
-    ensures { Answers dyn.is_memory result (spec.dynamic bytes.now segments.now) }
+    ensures { Answers is_memory result (because of_dynamic (spec.dynamic bytes.now segments.now)) }
 {
     let memory = dynamic_memory(segments);
     if !in_file_part(segments, memory) {
-        return Err(DynFault::NoEnd);
+        return Err(Refusal::clause(9));
     }
-    read_dynamic(alloc, loaded(bytes, segments, memory))
+    let dynamic = read_dynamic(alloc, loaded(bytes, segments, memory))?;
+    Ok(dynamic)
 }
 
 /// The names: clauses 15 to 18.
@@ -243,21 +244,6 @@ fn object_of(
     }
 }
 
-fn object(
-    alloc: Global,
-    headers: Headers,
-    dynamic: &Dynamic,
-    linking: Linking,
-    layout: Layout,
-) -> Result<Object, AllocError>
-    requires loads { AreLoads (loads headers.segments) }
-    requires windows { All (λ w. end_of w < 2 ^ 64) layout.windows }
-    ensures { IfOk result (λ o. o ≡ spec.object headers dynamic.now linking layout) }
-{
-    let ranges = ranges_of(alloc, layout.windows.as_slice())?;
-    Ok(object_of(headers, dynamic, linking, layout, ranges))
-}
-
 /// A static program by what was read of its headers, and where its link tables stand.
 #[tactic(auto, unfolding(crate::specs::Reads::static_object))]
 fn static_object_of(alloc: Global, headers: Headers, ranges: Rows<Range>) -> Object
@@ -290,33 +276,46 @@ fn static_object_of(alloc: Global, headers: Headers, ranges: Rows<Range>) -> Obj
     }
 }
 
-fn static_object(alloc: Global, headers: Headers) -> Result<Object, AllocError>
-    requires loads { AreLoads (loads headers.segments) }
-    requires windows { All (λ w. end_of w < 2 ^ 64)
-        (tables.static_windows headers.header headers.sections) }
-    ensures { IfOk result (λ o. o ≡ spec.static_object headers) }
+/// Where the link tables of a static program stand in the file.
+fn static_ranges(alloc: Global, headers: &Headers) -> Result<Rows<Range>, AllocError>
+    requires { All (λ w. end_of w < 2 ^ 64)
+        (tables.static_windows headers.now.header headers.now.sections) }
+    ensures { IfOk result (λ ranges. ranges ≡ map tables.window_range
+        (tables.static_windows headers.now.header headers.now.sections)) }
 {
     let windows = static_windows(alloc, &headers.header, headers.sections.as_slice())?;
-    let ranges = ranges_of(alloc, &windows)?;
-    Ok(static_object_of(alloc, headers, ranges))
+    ranges_of(alloc, &windows)
 }
 
 #[tactic(auto, unfolding(crate::specs::Reads::checked))]
 fn checked(
     alloc: Global,
     bytes: &[u8],
-    headers: Headers,
+    contents: Contents,
     dynamic: &Dynamic,
-    linking: Linking,
-    layout: Layout,
 ) -> Result<Object, Refusal>
-    requires few { length linking.symbols < 2 ^ 32 }
-    requires loads { AreLoads (loads headers.segments) }
-    requires windows { All (λ w. end_of w < 2 ^ 64) layout.windows }
-    ensures { Answers is_memory result (spec.checked bytes.now headers dynamic.now linking layout) }
+    requires few { length contents.linking.symbols < 2 ^ 32 }
+    requires loads { AreLoads (loads contents.headers.segments) }
+    requires windows { All (λ w. end_of w < 2 ^ 64) contents.layout.windows }
+    ensures { Answers is_memory result (spec.checked bytes.now contents.headers dynamic.now
+        contents.linking contents.layout) }
 {
-    check(alloc, bytes, &headers, dynamic, &linking, &layout)?;
-    Ok(object(alloc, headers, dynamic, linking, layout)?)
+    check(
+        alloc,
+        bytes,
+        &contents.headers,
+        dynamic,
+        &contents.linking,
+        &contents.layout,
+    )?;
+    let ranges = ranges_of(alloc, contents.layout.windows.as_slice())?;
+    Ok(object_of(
+        contents.headers,
+        dynamic,
+        contents.linking,
+        contents.layout,
+        ranges,
+    ))
 }
 
 /// A program or library by its dynamic table: clauses 12 to 31.
@@ -342,7 +341,12 @@ fn dynamic_object(
     )?;
     let linking = linking(alloc, bytes, &headers, dynamic)?;
     let layout = layout(alloc, bytes, &headers, dynamic.tags.as_slice(), &linking)?;
-    checked(alloc, bytes, headers, dynamic, linking, layout)
+    let contents = Contents {
+        headers,
+        linking,
+        layout,
+    };
+    checked(alloc, bytes, contents, dynamic)
 }
 
 /// A static program: of the clauses after 8 the 30th alone.
@@ -355,7 +359,20 @@ fn static_program(alloc: Global, bytes: &[u8], headers: Headers) -> Result<Objec
     if too_large(bytes) {
         return Err(Refusal::clause(30));
     }
-    Ok(static_object(alloc, headers)?)
+    let ranges = static_ranges(alloc, &headers)?;
+    Ok(static_object_of(alloc, headers, ranges))
+}
+
+/// Clauses 9 to 31 for a file that is no static program.
+#[tactic(auto, unfolding(crate::specs::Reads::parts))]
+fn dynamic_parts(alloc: Global, bytes: &[u8], headers: Headers) -> Result<Object, Refusal>
+    requires few { length bytes.now < 2 ^ 32 }
+    requires read { spec.IsRead bytes.now headers }
+    requires dynamic { elf.is_static_file bytes.now headers.header ≡ false }
+    ensures { Answers is_memory result (spec.parts bytes.now headers) }
+{
+    let dynamic = dynamic(alloc, bytes, headers.segments.as_slice())?;
+    dynamic_object(alloc, bytes, headers, &dynamic)
 }
 
 /// Clauses 9 to 31.
@@ -366,10 +383,10 @@ fn parts(alloc: Global, bytes: &[u8], headers: Headers) -> Result<Object, Refusa
     ensures { Answers is_memory result (spec.parts bytes.now headers) }
 {
     if is_static_file(bytes, &headers.header) {
-        return static_program(alloc, bytes, headers);
+        static_program(alloc, bytes, headers)
+    } else {
+        dynamic_parts(alloc, bytes, headers)
     }
-    let dynamic = dynamic(alloc, bytes, headers.segments.as_slice())?;
-    dynamic_object(alloc, bytes, headers, &dynamic)
 }
 
 #[tactic(auto, unfolding(crate::specs::Reads::headers))]
