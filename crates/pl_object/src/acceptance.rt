@@ -1,4 +1,4 @@
-ghost use Rattle.std.specs.Prelude.{◌≡◌, ◌<◌, ◌≤◌, ◌^◌, ◌∷◌, length, map, false, IfOk};
+ghost use Rattle.std.specs.Prelude.{◌≡◌, ◌<◌, ◌≤◌, ◌^◌, ◌∷◌, ◌++◌, length, map, false, IfOk};
 ghost use Rattle.std.specs.List.{All};
 ghost use Rattle.pl_base.specs.Answers.{Answers, NeverMemory, because};
 ghost use Rattle.pl_base.specs.Windows.{end_of};
@@ -6,6 +6,8 @@ ghost use Rattle.pl_elf.specs.Headers.{HasSections, HasSegments, loads};
 ghost use Rattle.pl_elf.specs.Clauses.{AreLoads};
 ghost use Rattle.pl_elf.specs.Clauses as elf;
 ghost use Rattle.pl_object.specs.Accepted.{Accepted};
+ghost use Rattle.pl_object.specs.FilePart as file;
+ghost use Rattle.pl_object.specs.Relocations as rows;
 ghost use Rattle.pl_object.specs.Tables as tables;
 ghost use Rattle.pl_object.specs.Refusals.{is_memory, of_dynamic};
 ghost use Rattle.pl_object.specs.Reads as spec;
@@ -95,6 +97,40 @@ fn packed_places(
     }
 }
 
+/// The relocations of both tables of rows.
+fn table_relocs(
+    alloc: Global,
+    bytes: &[u8],
+    segments: &[Segment],
+    tags: &[Tag],
+    symbols: &[Symbol],
+) -> Result<Vec<Reloc>, AllocError>
+    ensures { IfOk result (λ v. v.items
+        ≡ rows.relocs symbols.now (file.loaded bytes.now segments.now (tables.rela_memory tags.now))
+        ++ rows.relocs symbols.now
+        (file.loaded bytes.now segments.now (tables.jmprel_memory tags.now))) }
+{
+    let mut all = relocs(alloc, symbols, loaded(bytes, segments, rela_memory(tags)))?;
+    let slots = relocs(alloc, symbols, loaded(bytes, segments, jmprel_memory(tags)))?;
+    all.extend_from_slice(&slots)?;
+    Ok(all)
+}
+
+/// The relocations of packed places.
+fn place_relocs(
+    alloc: Global,
+    bytes: &[u8],
+    segments: &[Segment],
+    packed: &[u64],
+) -> Result<Vec<Reloc>, AllocError>
+    requires { AreLoads (loads segments.now) }
+    ensures { IfOk result (λ v. v.items
+        ≡ rows.packed_relocs bytes.now segments.now packed.now) }
+{
+    let loads = Loads::new(alloc, segments)?;
+    packed_relocs(alloc, bytes, &loads, packed)
+}
+
 /// The relocations of both tables of rows, then those of the packed places.
 #[tactic(auto, unfolding(crate::specs::Reads::relocations))]
 fn relocations(
@@ -110,11 +146,9 @@ fn relocations(
     ensures { IfOk result (λ v. v.items ≡ spec.relocations bytes.now segments.now tags.now
         symbols.now) }
 {
-    let mut all = relocs(alloc, symbols, loaded(bytes, segments, rela_memory(tags)))?;
-    let slots = relocs(alloc, symbols, loaded(bytes, segments, jmprel_memory(tags)))?;
-    all.extend_from_slice(&slots)?;
-    let loads = Loads::new(alloc, segments)?;
-    all.extend_from_slice(&packed_relocs(alloc, bytes, &loads, packed)?)?;
+    let mut all = table_relocs(alloc, bytes, segments, tags, symbols)?;
+    let packed = place_relocs(alloc, bytes, segments, packed)?;
+    all.extend_from_slice(&packed)?;
     Ok(all)
 }
 
@@ -244,6 +278,20 @@ fn object_of(
     }
 }
 
+fn contents_object(contents: Contents, dynamic: &Dynamic, ranges: Rows<Range>) -> Object
+    requires loads { AreLoads (loads contents.headers.segments) }
+    requires ranges { ranges ≡ map tables.window_range contents.layout.windows }
+    ensures { result ≡ spec.object contents.headers dynamic.now contents.linking contents.layout }
+{
+    object_of(
+        contents.headers,
+        dynamic,
+        contents.linking,
+        contents.layout,
+        ranges,
+    )
+}
+
 /// A static program by what was read of its headers, and where its link tables stand.
 #[tactic(auto, unfolding(crate::specs::Reads::static_object))]
 fn static_object_of(alloc: Global, headers: Headers, ranges: Rows<Range>) -> Object
@@ -309,13 +357,7 @@ fn checked(
         &contents.layout,
     )?;
     let ranges = ranges_of(alloc, contents.layout.windows.as_slice())?;
-    Ok(object_of(
-        contents.headers,
-        dynamic,
-        contents.linking,
-        contents.layout,
-        ranges,
-    ))
+    Ok(contents_object(contents, dynamic, ranges))
 }
 
 /// A program or library by its dynamic table: clauses 12 to 31.

@@ -44,9 +44,7 @@ fn first_bad(count: u32, relocs: &[Reloc]) -> Option<Reloc>
 pub fn last_load(segments: &[Segment]) -> Option<Segment>
     ensures { result ≡ spec.last_load segments.now }
 {
-    segments
-        .iter()
-        .fold(None, later_load)
+    segments.iter().fold(None, later_load)
 }
 
 fn later_load(found: Option<Segment>, segment: &Segment) -> Option<Segment>
