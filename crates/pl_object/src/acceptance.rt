@@ -1,6 +1,6 @@
 ghost use Rattle.std.specs.Prelude.{◌≡◌, ◌<◌, ◌≤◌, ◌^◌, ◌∷◌, ◌++◌, length, map, false, IfOk};
 ghost use Rattle.std.specs.List.{All};
-ghost use Rattle.pl_base.specs.Answers.{Answers, NeverMemory, because};
+ghost use Rattle.pl_base.specs.Answers.{Answers, AnswersAs, NeverMemory, because};
 ghost use Rattle.pl_base.specs.Windows.{end_of};
 ghost use Rattle.pl_elf.specs.Headers.{HasSections, HasSegments, loads};
 ghost use Rattle.pl_elf.specs.Clauses.{AreLoads};
@@ -278,18 +278,17 @@ fn object_of(
     }
 }
 
-fn contents_object(contents: Contents, dynamic: &Dynamic, ranges: Rows<Range>) -> Object
-    requires loads { AreLoads (loads contents.headers.segments) }
+fn contents_object(
+    headers: Headers,
+    dynamic: &Dynamic,
+    contents: Contents,
+    ranges: Rows<Range>,
+) -> Object
+    requires loads { AreLoads (loads headers.segments) }
     requires ranges { ranges ≡ map tables.window_range contents.layout.windows }
-    ensures { result ≡ spec.object contents.headers dynamic.now contents.linking contents.layout }
+    ensures { result ≡ spec.object headers dynamic.now contents.linking contents.layout }
 {
-    object_of(
-        contents.headers,
-        dynamic,
-        contents.linking,
-        contents.layout,
-        ranges,
-    )
+    object_of(headers, dynamic, contents.linking, contents.layout, ranges)
 }
 
 /// A static program by what was read of its headers, and where its link tables stand.
@@ -335,29 +334,70 @@ fn static_ranges(alloc: Global, headers: &Headers) -> Result<Rows<Range>, AllocE
     ranges_of(alloc, &windows)
 }
 
-#[tactic(auto, unfolding(crate::specs::Reads::checked))]
-fn checked(
+/// The names and the tables of a file: clauses 15 to 18.
+fn contents(
     alloc: Global,
     bytes: &[u8],
-    contents: Contents,
+    headers: &Headers,
     dynamic: &Dynamic,
-) -> Result<Object, Refusal>
-    requires few { length contents.linking.symbols < 2 ^ 32 }
-    requires loads { AreLoads (loads contents.headers.segments) }
-    requires windows { All (λ w. end_of w < 2 ^ 64) contents.layout.windows }
-    ensures { Answers is_memory result (spec.checked bytes.now contents.headers dynamic.now
-        contents.linking contents.layout) }
+) -> Result<Contents, Refusal>
+    requires few { length bytes.now < 2 ^ 32 }
+    requires loads { AreLoads (loads headers.now.segments) }
+    ensures linking { AnswersAs (λ c. c.linking) is_memory result
+        (spec.linking bytes.now headers.now dynamic.now.tags) }
+    ensures layout { IfOk result (λ c. c.layout
+        ≡ spec.layout bytes.now headers.now dynamic.now.tags c.linking) }
+    ensures few { IfOk result (λ c. length c.linking.symbols ≤ length bytes.now) }
+{
+    let linking = linking(alloc, bytes, headers, dynamic)?;
+    let layout = layout(alloc, bytes, headers, dynamic.tags.as_slice(), &linking)?;
+    Ok(Contents { linking, layout })
+}
+
+/// Where the link tables stand in the file, where none of clauses 20 to 31 refuses it.
+fn checked_ranges(
+    alloc: Global,
+    bytes: &[u8],
+    headers: &Headers,
+    dynamic: &Dynamic,
+    contents: &Contents,
+) -> Result<Rows<Range>, Refusal>
+    requires few { length contents.now.linking.symbols < 2 ^ 32 }
+    requires loads { AreLoads (loads headers.now.segments) }
+    requires windows { All (λ w. end_of w < 2 ^ 64) contents.now.layout.windows }
+    ensures check { AnswersAs (λ _. tt) is_memory result (spec.check bytes.now headers.now
+        dynamic.now.tags contents.now.linking contents.now.layout) }
+    ensures ranges { IfOk result (λ ranges. ranges
+        ≡ map tables.window_range contents.now.layout.windows) }
 {
     check(
         alloc,
         bytes,
-        &contents.headers,
+        headers,
         dynamic,
         &contents.linking,
         &contents.layout,
     )?;
     let ranges = ranges_of(alloc, contents.layout.windows.as_slice())?;
-    Ok(contents_object(contents, dynamic, ranges))
+    Ok(ranges)
+}
+
+#[tactic(auto, unfolding(crate::specs::Reads::checked))]
+fn checked(
+    alloc: Global,
+    bytes: &[u8],
+    headers: Headers,
+    dynamic: &Dynamic,
+    contents: Contents,
+) -> Result<Object, Refusal>
+    requires few { length contents.linking.symbols < 2 ^ 32 }
+    requires loads { AreLoads (loads headers.segments) }
+    requires windows { All (λ w. end_of w < 2 ^ 64) contents.layout.windows }
+    ensures { Answers is_memory result (spec.checked bytes.now headers dynamic.now contents.linking
+        contents.layout) }
+{
+    let ranges = checked_ranges(alloc, bytes, &headers, dynamic, &contents)?;
+    Ok(contents_object(headers, dynamic, contents, ranges))
 }
 
 /// A program or library by its dynamic table: clauses 12 to 31.
@@ -381,14 +421,8 @@ fn dynamic_object(
         headers.sections.as_slice(),
         dynamic.tags.as_slice(),
     )?;
-    let linking = linking(alloc, bytes, &headers, dynamic)?;
-    let layout = layout(alloc, bytes, &headers, dynamic.tags.as_slice(), &linking)?;
-    let contents = Contents {
-        headers,
-        linking,
-        layout,
-    };
-    checked(alloc, bytes, contents, dynamic)
+    let contents = contents(alloc, bytes, &headers, dynamic)?;
+    checked(alloc, bytes, headers, dynamic, contents)
 }
 
 /// A static program: of the clauses after 8 the 30th alone.
