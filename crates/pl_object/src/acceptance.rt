@@ -278,6 +278,7 @@ fn object_of(
     }
 }
 
+/// An object of what was read of a file, its names and tables as one value.
 fn contents_object(
     headers: Headers,
     dynamic: &Dynamic,
@@ -382,6 +383,7 @@ fn checked_ranges(
     Ok(ranges)
 }
 
+/// The object, where none of clauses 20 to 31 refuses the file.
 #[tactic(auto, unfolding(crate::specs::Reads::checked))]
 fn checked(
     alloc: Global,
