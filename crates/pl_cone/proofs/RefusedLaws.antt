@@ -1,5 +1,5 @@
 -- A walk that is refused, and one that is not.
-use Rattle.std.proofs.Common.{◌≡◌, ℕ, Bool, false, List, [], Option, Some, None, Result, Ok, Err, refl, sym, ap}
+use Rattle.std.proofs.Common.{◌≡◌, ℕ, false, List, [], Some, None, Result, Ok, Err, refl, sym, ap}
 use Rattle.std.specs.Prelude.{MatchBool, ⊤, IfOk, IfErr}
 use Rattle.std.specs.Result.{result_ok}
 use Rattle.pl_scope.specs.Walk.{Walked}
