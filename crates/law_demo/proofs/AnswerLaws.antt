@@ -15,8 +15,8 @@ use Rattle.pl_cli.specs.Demo.{is_fast}
 use Rattle.pl_cli.specs.Files.{file_in, of_file, valid_file}
 use Rattle.pl_weave.specs.Given.{first_by, first_of, given_from}
 use Rattle.pl_cli.specs.Load.{choice, given_file, load_result, loading_file}
-use Rattle.pl_cli.specs.declared.cause.Cause.{Cause}
-use Rattle.pl_cli.specs.declared.cause.Cause.TheVariants as cause
+use Rattle.pl_cli.specs.Cause.{Cause}
+use Rattle.pl_cli.specs.Cause.TheVariants as cause
 use Rattle.pl_conflict.specs.Format.{Causes, format}
 use Rattle.pl_dyn.specs.declared.constants.TheConstants.{DF_1_PIE, DT_FLAGS_1, DT_SONAME}
 use Rattle.pl_elf.specs.Headers.{header, segment_of_kind}

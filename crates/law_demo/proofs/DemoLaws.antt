@@ -14,13 +14,14 @@ use Rattle.pl_base.specs.Files as base
 use Rattle.pl_base.specs.Names.{is_valid_name}
 use Rattle.pl_base.proofs.AnswerLaws.{because_ok, bind_ok, ok_same}
 use Rattle.pl_batch.specs.Changes.{changes_of, run_meant}
-use Rattle.pl_batch.specs.Commands.{ready}
-use Rattle.pl_batch.specs.Folder.{bad_cache, cache, cache_by, cache_file, cache_in, named, no_cache}
-use Rattle.pl_batch.specs.Names.{are_many}
-use Rattle.pl_batch.specs.declared.cause.Cause.{Cause}
-use Rattle.pl_batch.specs.declared.room.TheConstants.{FILES}
+use Rattle.pl_change.specs.Commands.{ready}
+use Rattle.pl_change.specs.Folder.{bad_cache, cache, cache_by, cache_file, cache_in, no_cache}
+use Rattle.pl_batch.specs.Folder.{named}
+use Rattle.pl_change.specs.Names.{are_many}
+use Rattle.pl_change.specs.declared.cause.Cause.{Cause}
+use Rattle.pl_change.specs.declared.room.TheConstants.{FILES}
 use Rattle.pl_batch.specs.declared.run.Run.TheVariants.{All}
-use Rattle.pl_batch.proofs.CacheLemmas.{empty_spelled}
+use Rattle.pl_change.proofs.CacheLemmas.{empty_spelled}
 use Rattle.pl_build.specs.declared.kind.FileKind.TheVariants as kinds
 use Rattle.pl_cache.specs.Reading.{read}
 use Rattle.pl_cache.specs.Spelling.{cache_bytes, is_cache}

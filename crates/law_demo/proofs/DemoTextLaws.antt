@@ -33,7 +33,7 @@ use Rattle.law_demo.proofs.SetNameLaws.{files_named}
 use Rattle.pl_cli.specs.Answer.{Answer, load_answer}
 use Rattle.pl_cli.specs.Demo.{demo_text, fast_loads, lines, load, load_texts, text_of}
 use Rattle.pl_cli.specs.Files.{valid_file}
-use Rattle.pl_cli.specs.declared.cause.Cause.{Cause}
+use Rattle.pl_cli.specs.Cause.{Cause}
 use Rattle.pl_conflict.specs.Format.{Rule}
 use Rattle.pl_demo.specs.Counted.{all_counts, counts_if, counts_in, counts_of, none, plus}
 use Rattle.pl_demo.specs.Demo.{counts, folder, programs}
@@ -65,8 +65,8 @@ use Rattle.pl_rewrite.specs.Skips.{skip_causes}
 use Rattle.pl_loader.specs.Started.{Start}
 use Rattle.pl_object.specs.Reads.{object, reads}
 use Rattle.pl_object.specs.declared.object.Object.{Object}
-use Rattle.law_loads.specs.Answers.{ordinary}
-use Rattle.law_loads.proofs.AnswerLaws.{answers_are_ordinary}
+use Rattle.pl_safe.specs.Ordinary.{ordinary}
+use Rattle.pl_safe.proofs.AnswerLaws.{answers_are_ordinary}
 use Rattle.law_demo.specs.Forms.{IsBare}
 use Rattle.law_demo.specs.SetFiles.{HasLibrary, HasProgram}
 use Rattle.law_demo.proofs.BareLaws.{plain_bare}

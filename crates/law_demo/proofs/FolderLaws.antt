@@ -16,7 +16,7 @@ use Rattle.pl_base.specs.Bytes.{IsBytes}
 use Rattle.pl_base.specs.Files.{Files}
 use Rattle.pl_base.specs.Names.{is_valid_name}
 use Rattle.pl_base.proofs.AnswerLaws.{ok_same}
-use Rattle.pl_batch.specs.Folder.{cache}
+use Rattle.pl_change.specs.Folder.{cache}
 use Rattle.pl_journal.specs.Names.{journal}
 use Rattle.pl_object.specs.Reads.{reads}
 use Rattle.pl_object.specs.declared.object.Object.{Object}

@@ -7,7 +7,8 @@ use Rattle.std.proofs.lemmas.Bool.{and_from, and_parts, leb-true}
 use Rattle.std.proofs.lemmas.Bool.Decides.{nat_tests}
 use Rattle.std.proofs.lemmas.List.Elements.{All-head, All-tail}
 use Rattle.pl_batch.specs.All.{asked_of}
-use Rattle.pl_batch.specs.Folder.{named, valid_names}
+use Rattle.pl_batch.specs.Folder.{named}
+use Rattle.pl_change.specs.Folder.{valid_names}
 use Rattle.pl_cli.specs.Files.{valid_file}
 use Rattle.pl_cone.specs.Current.{slot_of}
 use Rattle.pl_conflict.specs.Complete.{file_at}

@@ -5,8 +5,9 @@ use Rattle.std.proofs.lemmas.Option.{same_Some}
 use Rattle.pl_base.specs.Bytes.{IsBytes}
 use Rattle.pl_base.specs.Files as base
 use Rattle.pl_batch.specs.All.{asked_of}
-use Rattle.pl_batch.specs.Folder.{named, valid_names}
-use Rattle.pl_batch.specs.Names.{are_many}
+use Rattle.pl_batch.specs.Folder.{named}
+use Rattle.pl_change.specs.Folder.{valid_names}
+use Rattle.pl_change.specs.Names.{are_many}
 use Rattle.pl_batch.specs.declared.prelinking.Prelinking.{Prelinking}
 use Rattle.pl_cache.specs.Spelling.{is_cache}
 use Rattle.pl_cache.specs.declared.cache.Cache.{Cache}

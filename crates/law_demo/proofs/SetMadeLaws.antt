@@ -15,10 +15,10 @@ use Rattle.pl_base.specs.Files.{Files}
 use Rattle.pl_base.specs.Names.{is_name_byte, is_own_name, is_valid_name}
 use Rattle.pl_base.proofs.FilesLaws.{equal_files, get-inserted, same, same_name}
 use Rattle.pl_base.proofs.TestLaws.{bytes_flip}
-use Rattle.pl_batch.specs.Folder.{cache}
-use Rattle.pl_batch.specs.Names.{are_many}
-use Rattle.pl_batch.specs.Restored.{restored, restored_by}
-use Rattle.pl_batch.specs.declared.room.TheConstants.{FILES}
+use Rattle.pl_change.specs.Folder.{cache}
+use Rattle.pl_change.specs.Names.{are_many}
+use Rattle.pl_change.specs.Restored.{restored, restored_by}
+use Rattle.pl_change.specs.declared.room.TheConstants.{FILES}
 use Rattle.pl_demo.specs.Made.{made, made_files, no_files, with_file, with_made}
 use Rattle.pl_journal.specs.Names.{is_journal_name, journal}
 use Rattle.pl_journal.specs.Rows.{rows_in}

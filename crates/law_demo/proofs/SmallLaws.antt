@@ -14,17 +14,18 @@ use Rattle.pl_base.specs.Each.{each}
 use Rattle.pl_base.specs.Files as base
 use Rattle.pl_base.specs.Names.{is_valid_name}
 use Rattle.pl_batch.specs.All.{all_changes, all_made, asked_of, made_of_folder, made_of, made_with_cache, of_planning, spelled, with_cache}
-use Rattle.pl_batch.specs.Changes.{changes_of, fitting, run_meant}
-use Rattle.pl_batch.specs.Commands.{ready}
-use Rattle.pl_batch.specs.Folder.{all_files, are_large, bad_cache, cache, cache_by, cache_file, cache_in, named, no_cache, valid_names}
-use Rattle.pl_batch.specs.Names.{are_many, file_of, of_file}
-use Rattle.pl_batch.specs.declared.cause.Cause.{Cause}
-use Rattle.pl_batch.specs.declared.cause.Cause.TheVariants as causes
+use Rattle.pl_batch.specs.Changes.{changes_of, run_meant}
+use Rattle.pl_change.specs.Changes.{fitting}
+use Rattle.pl_change.specs.Commands.{ready}
+use Rattle.pl_change.specs.Folder.{all_files, bad_cache, cache, cache_by, cache_file, cache_in, no_cache, valid_names}
+use Rattle.pl_batch.specs.Folder.{are_large, named}
+use Rattle.pl_change.specs.Names.{are_many, file_of, of_file}
+use Rattle.pl_change.specs.declared.cause.Cause.{Cause}
+use Rattle.pl_change.specs.declared.cause.Cause.TheVariants as causes
 use Rattle.pl_batch.specs.declared.prelinking.Prelinking.{Prelinking}
-use Rattle.pl_batch.specs.declared.reading.TheConstants.{FOLDER}
-use Rattle.pl_batch.specs.declared.room.TheConstants.{FILES}
+use Rattle.pl_change.specs.declared.room.TheConstants.{FOLDER, FILES}
 use Rattle.pl_batch.specs.declared.run.Run.TheVariants.{All}
-use Rattle.pl_batch.proofs.CacheLemmas.{empty_spelled}
+use Rattle.pl_change.proofs.CacheLemmas.{empty_spelled}
 use Rattle.pl_cache.specs.Spelling.{cache_bytes, is_cache}
 use Rattle.pl_cache.specs.declared.cache.Cache.{Cache}
 use Rattle.pl_cache.proofs.CacheLaws.{read_again}

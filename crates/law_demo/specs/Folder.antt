@@ -3,7 +3,7 @@ use Rattle.std.specs.Prelude.{◌≡◌, ◌<◌, ◌*◌, ◌^◌, ℕ, true, L
 use Rattle.pl_base.specs.Files as base
 use Rattle.pl_batch.specs.Changes.{run_meant}
 use Rattle.pl_batch.specs.Folder.{named}
-use Rattle.pl_batch.specs.Restored.{restored}
+use Rattle.pl_change.specs.Restored.{restored}
 use Rattle.pl_batch.specs.declared.run.Run.TheVariants.{All}
 use Rattle.pl_conflict.specs.Format.{format}
 use Rattle.pl_demo.specs.Made.{made_files}

@@ -4,10 +4,9 @@ use Rattle.std.specs.FinMap.{get, keys}
 use Rattle.pl_base.specs.Files.{Files}
 use Rattle.pl_base.specs.Names.{is_valid_name}
 use Rattle.pl_batch.specs.Changes.{run_meant}
-use Rattle.pl_batch.specs.Folder.{cache}
+use Rattle.pl_change.specs.Folder.{cache}
 use Rattle.pl_batch.specs.declared.prelinking.Prelinking.{Prelinking}
-use Rattle.pl_batch.specs.declared.reading.TheConstants.{FOLDER}
-use Rattle.pl_batch.specs.declared.room.TheConstants.{FILES}
+use Rattle.pl_change.specs.declared.room.TheConstants.{FOLDER, FILES}
 use Rattle.pl_batch.specs.declared.run.Run.TheVariants.{All}
 use Rattle.law_folder.specs.Causes.{IsAsked}
 use Rattle.pl_folder.specs.declared.TheConstants.{STORED}

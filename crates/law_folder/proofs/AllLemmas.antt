@@ -37,9 +37,10 @@ use Rattle.law_sound.specs.Rule as sound
 use Rattle.law_sound.proofs.Matching.{and_both}
 use Rattle.pl_batch.specs.All.{all_changes, all_made, asked_of, made_of_folder, made_of, made_with_cache, of_planning, put_cache, spelled, with_cache}
 use Rattle.pl_batch.specs.Folder as folder
-use Rattle.pl_batch.specs.Folder.{all_files, are_large, cache, cache_file, cache_in, valid_names}
-use Rattle.pl_batch.specs.Names.{are_many}
-use Rattle.pl_batch.specs.declared.cause.Cause.TheVariants as causes
+use Rattle.pl_change.specs.Folder.{all_files, cache, cache_file, cache_in, valid_names}
+use Rattle.pl_batch.specs.Folder.{are_large}
+use Rattle.pl_change.specs.Names.{are_many}
+use Rattle.pl_change.specs.declared.cause.Cause.TheVariants as causes
 use Rattle.pl_batch.specs.declared.prelinking.Prelinking.{Prelinking}
 use Rattle.law_folder.specs.Originals.{SameOriginals}
 use Rattle.law_folder.specs.Safe.{AreSafe}

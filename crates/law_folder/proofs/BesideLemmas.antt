@@ -15,9 +15,10 @@ use Rattle.pl_base.specs.Windows.{share}
 use Rattle.pl_base.specs.Answers.{because}
 use Rattle.pl_base.proofs.AnswerLaws.{because_ok}
 use Rattle.pl_batch.specs.All.{asked_of}
-use Rattle.pl_batch.specs.Folder.{named, valid_names}
+use Rattle.pl_batch.specs.Folder.{named}
+use Rattle.pl_change.specs.Folder.{valid_names}
 use Rattle.pl_batch.specs.declared.prelinking.Prelinking.{Prelinking}
-use Rattle.pl_batch.proofs.OrderLemmas.{distinct_from, keys_ascend}
+use Rattle.pl_change.proofs.OrderLemmas.{distinct_from, keys_ascend}
 use Rattle.pl_cache.specs.declared.cache.Cache.{Cache}
 use Rattle.pl_conflict.specs.Format.{format}
 use Rattle.pl_elf.specs.declared.range.Range.{Range}

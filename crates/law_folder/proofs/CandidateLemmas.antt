@@ -18,7 +18,8 @@ use Rattle.pl_base.specs.Sums.{is_aligned}
 use Rattle.pl_base.specs.Windows.{Window, any_share, share}
 use Rattle.pl_base.proofs.AnswerLaws.{ok_same}
 use Rattle.pl_batch.specs.All.{asked_of}
-use Rattle.pl_batch.specs.Folder.{named, valid_names}
+use Rattle.pl_batch.specs.Folder.{named}
+use Rattle.pl_change.specs.Folder.{valid_names}
 use Rattle.pl_batch.specs.declared.prelinking.Prelinking.{Prelinking}
 use Rattle.pl_cache.specs.Spelling.{ascend, is_cache, is_row}
 use Rattle.pl_cache.specs.declared.constants.TheConstants.{MAX_ROWS}

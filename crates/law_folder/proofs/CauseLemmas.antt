@@ -18,12 +18,13 @@ use Rattle.pl_cone.specs.declared.fault.PlanningFault.TheVariants as plan
 use Rattle.pl_rewrite.specs.Rewriting.{rewrite}
 use Rattle.pl_rewrite.specs.declared.rewriting.Rewritten.{Rewritten}
 use Rattle.pl_batch.specs.All.{all_changes, all_made, asked_of, made_of_folder, made_of, made_with_cache, of_planning, spelled, with_cache}
-use Rattle.pl_batch.specs.Folder.{all_files, are_large, bad_cache, cache, cache_by, cache_file, cache_in, named, no_cache, valid_names}
-use Rattle.pl_batch.specs.Names.{are_many, file_of, of_file}
-use Rattle.pl_batch.specs.declared.cause.Cause.{Cause}
-use Rattle.pl_batch.specs.declared.cause.Cause.TheVariants as causes
+use Rattle.pl_change.specs.Folder.{all_files, bad_cache, cache, cache_by, cache_file, cache_in, no_cache, valid_names}
+use Rattle.pl_batch.specs.Folder.{are_large, named}
+use Rattle.pl_change.specs.Names.{are_many, file_of, of_file}
+use Rattle.pl_change.specs.declared.cause.Cause.{Cause}
+use Rattle.pl_change.specs.declared.cause.Cause.TheVariants as causes
 use Rattle.pl_batch.specs.declared.prelinking.Prelinking.{Prelinking}
-use Rattle.pl_batch.proofs.CacheLemmas.{empty_spelled}
+use Rattle.pl_change.proofs.CacheLemmas.{empty_spelled}
 use Rattle.law_folder.specs.Causes.{BadCacheIsOfTheCache, HasBytes, IsAsked}
 use Rattle.law_folder.proofs.PlanLemmas.{rewritten_is}
 use Rattle.law_folder.proofs.SpellLemmas.{next_spelled}

@@ -21,9 +21,9 @@ use Rattle.pl_journal.proofs.Done.{distinct_test, recovered_by}
 use Rattle.pl_journal.proofs.GrammarLaws.{written_rows}
 use Rattle.pl_journal.proofs.Meanings.{applied_no_own, recovered_no_own}
 use Rattle.pl_journal.proofs.Moments.{since_start, weaker}
-use Rattle.pl_batch.specs.Commands.{CommandsDisk, CommandsFiles, CommandsOn, Failed, FailsFiles, IsBefore, Lacked, LeavesFiles, Made, MakesFiles, Meaning, OnTheWay, Outcome, Refused}
-use Rattle.pl_batch.specs.Restored.{restored}
-use Rattle.pl_batch.proofs.RestoredLemmas.{restored_before}
+use Rattle.pl_change.specs.Commands.{CommandsDisk, CommandsFiles, CommandsOn, Failed, FailsFiles, IsBefore, Lacked, LeavesFiles, Made, MakesFiles, Meaning, OnTheWay, Outcome, Refused}
+use Rattle.pl_change.specs.Restored.{restored}
+use Rattle.pl_change.proofs.RestoredLemmas.{restored_before}
 use Rattle.law_folder.specs.Laws.{CommandsEnd, CommandsLeave, CommandsRead, EveryImageIsSound}
 use Rattle.law_folder.specs.Safe.{Ends, IsSafe, IsSafeImage, Leaves, after, changed}
 use Rattle.law_folder.specs.Sound.{IsSound, KeepsTheRule}

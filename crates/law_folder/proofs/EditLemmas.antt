@@ -22,10 +22,11 @@ use Rattle.pl_journal.specs.declared.change.Change.TheVariants.{Put, Drop}
 use Rattle.pl_rewrite.specs.Skips.{skip_causes}
 use Rattle.law_sound.specs.History.{IsEdit}
 use Rattle.law_sound.proofs.Theorems as theorems
-use Rattle.pl_batch.specs.Changes.{changes_by, changes_of, ready_by, removal_meant, removal_of, run_meant}
-use Rattle.pl_batch.specs.Commands.{ready, ready_for}
-use Rattle.pl_batch.specs.Store.{is_file, put, removed}
-use Rattle.pl_batch.specs.declared.cause.Cause.TheVariants as causes
+use Rattle.pl_batch.specs.Changes.{changes_by, changes_of, ready_by, run_meant}
+use Rattle.pl_change.specs.Changes.{removal_meant, removal_of}
+use Rattle.pl_change.specs.Commands.{ready, ready_for}
+use Rattle.pl_change.specs.Store.{is_file, put, removed}
+use Rattle.pl_change.specs.declared.cause.Cause.TheVariants as causes
 use Rattle.pl_batch.specs.declared.run.Run.{Run}
 use Rattle.pl_batch.specs.declared.run.Run.TheVariants.{All, UndoAll, Undo, Install}
 use Rattle.law_folder.specs.Safe.{AreSafe}

@@ -24,17 +24,18 @@ use Rattle.pl_journal.specs.declared.change.Change.TheVariants.{Drop, Put}
 use Rattle.pl_cone.specs.declared.run_plan.RunPlan.{RunPlan}
 use Rattle.pl_rewrite.specs.Changes.{change, changes}
 use Rattle.pl_batch.specs.All.{all_made, made_of_folder, put_cache}
-use Rattle.pl_batch.specs.Changes.{fitting}
-use Rattle.pl_batch.specs.Folder.{cache, named, valid_names}
-use Rattle.pl_batch.specs.Names.{are_many, file_of, has_name, is_full}
-use Rattle.pl_batch.specs.Store.{installed, is_file, put, removed, stored_as}
-use Rattle.pl_batch.specs.Undo.{added, all_pass, all_undone, asked_row, form_row, if_asked, if_valid, rows_of, undo_any, undo_asked, undone, with_row}
-use Rattle.pl_batch.specs.declared.cause.Cause.{Cause}
-use Rattle.pl_batch.specs.declared.cause.Cause.TheVariants.{BadName, NotThere, TooManyFiles}
+use Rattle.pl_change.specs.Changes.{fitting}
+use Rattle.pl_change.specs.Folder.{cache, valid_names}
+use Rattle.pl_batch.specs.Folder.{named}
+use Rattle.pl_change.specs.Names.{are_many, file_of, has_name, is_full}
+use Rattle.pl_change.specs.Store.{installed, is_file, put, removed, stored_as}
+use Rattle.pl_change.specs.Undo.{added, all_pass, all_undone, asked_row, form_row, if_asked, if_valid, rows_of, undo_any, undo_asked, undone, with_row}
+use Rattle.pl_change.specs.declared.cause.Cause.{Cause}
+use Rattle.pl_change.specs.declared.cause.Cause.TheVariants.{BadName, NotThere, TooManyFiles}
 use Rattle.pl_batch.specs.declared.prelinking.Prelinking.{Prelinking}
 use Rattle.pl_batch.specs.declared.run.Run.TheVariants.{All, Install, Undo, UndoAll}
 use Rattle.pl_batch.specs.All.{all_changes}
-use Rattle.pl_batch.proofs.OrderLemmas.{distinct_from, keys_ascend}
+use Rattle.pl_change.proofs.OrderLemmas.{distinct_from, keys_ascend}
 use Rattle.law_folder.specs.Fits.{RemovalsFit, ReplacementsFit, RunsFit}
 use Rattle.law_folder.proofs.NextLemmas.{RowAt, row_at}
 use Rattle.law_folder.proofs.FollowLemmas.{Follow, follow_fits, follow_more, name_in, none_is, row_name, valid_names_are}

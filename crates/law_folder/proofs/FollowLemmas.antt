@@ -14,8 +14,8 @@ use Rattle.pl_journal.specs.Spelling.{are_named, are_rows, differ, misses, name_
 use Rattle.pl_journal.specs.declared.change.Change.{Change}
 use Rattle.pl_journal.specs.declared.constants.TheConstants.{MAX_ROWS}
 use Rattle.pl_journal.proofs.GrammarLaws.{named_changes}
-use Rattle.pl_batch.specs.Changes.{fitting}
-use Rattle.pl_batch.specs.declared.cause.Cause.TheVariants.{TooManyFiles}
+use Rattle.pl_change.specs.Changes.{fitting}
+use Rattle.pl_change.specs.declared.cause.Cause.TheVariants.{TooManyFiles}
 use Rattle.pl_base.specs.Answers.{unless}
 
 abbrev pub name_in : Change → Name

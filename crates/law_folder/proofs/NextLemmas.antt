@@ -23,9 +23,11 @@ use Rattle.pl_rewrite.specs.Changes.{change, changes, is_file, next, put}
 use Rattle.pl_rewrite.proofs.SoundLaws.{names_stay, next_is_from_scratch}
 use Rattle.pl_scope.specs.Members.{has}
 use Rattle.pl_batch.specs.All.{all_changes, put_cache}
-use Rattle.pl_batch.specs.Changes.{changes_of, fitting}
-use Rattle.pl_batch.specs.Folder.{cache, cache_by, cache_file, named, valid_names}
-use Rattle.pl_batch.specs.declared.cause.Cause.TheVariants as causes
+use Rattle.pl_batch.specs.Changes.{changes_of}
+use Rattle.pl_change.specs.Changes.{fitting}
+use Rattle.pl_change.specs.Folder.{cache, cache_by, cache_file, valid_names}
+use Rattle.pl_batch.specs.Folder.{named}
+use Rattle.pl_change.specs.declared.cause.Cause.TheVariants as causes
 use Rattle.pl_batch.specs.declared.prelinking.Prelinking.{Prelinking}
 use Rattle.law_folder.specs.All.{AllGivesNext, NextIsFromScratch}
 use Rattle.law_folder.specs.Steps.{cache_or_none}

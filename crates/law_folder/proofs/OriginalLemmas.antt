@@ -19,7 +19,7 @@ use Rattle.pl_journal.specs.declared.change.Change.TheVariants.{Put, Drop}
 use Rattle.pl_journal.proofs.NameLemmas.{equal}
 use Rattle.pl_scope.proofs.NameLaws.{same_name}
 use Rattle.law_sound.proofs.Matching.{and_both}
-use Rattle.pl_batch.specs.Store.{is_file, put}
+use Rattle.pl_change.specs.Store.{is_file, put}
 use Rattle.law_folder.specs.Laws.{ImagesKeepOriginals}
 use Rattle.law_folder.specs.Originals.{HasOriginal, SameOriginals, originals}
 use Rattle.law_folder.specs.Safe.{after}

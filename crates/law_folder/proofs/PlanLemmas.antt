@@ -32,9 +32,10 @@ use Rattle.pl_rewrite.specs.declared.report.Report.{Report}
 use Rattle.pl_rewrite.specs.Rewriting.{rewrite, rewritten}
 use Rattle.pl_rewrite.specs.declared.rewriting.Rewritten.{Rewritten}
 use Rattle.pl_batch.specs.All.{all_changes, all_made, all_reported, asked_of, made_of_folder, made_of, made_with_cache, of_planning, put_cache, spelled, with_cache}
-use Rattle.pl_batch.specs.Folder.{all_files, are_large, cache, cache_file, cache_in, named, valid_names}
-use Rattle.pl_batch.specs.Names.{are_many}
-use Rattle.pl_batch.specs.declared.cause.Cause.TheVariants as causes
+use Rattle.pl_change.specs.Folder.{all_files, cache, cache_file, cache_in, valid_names}
+use Rattle.pl_batch.specs.Folder.{are_large, named}
+use Rattle.pl_change.specs.Names.{are_many}
+use Rattle.pl_change.specs.declared.cause.Cause.TheVariants as causes
 use Rattle.pl_batch.specs.declared.prelinking.Prelinking.{Prelinking}
 use Rattle.law_folder.proofs.MixedLemmas.{Each, each_append}
 

@@ -21,12 +21,12 @@ use Rattle.pl_journal.specs.Meaning.{applied, rows_for}
 use Rattle.pl_journal.specs.Spelling.{are_rows}
 use Rattle.pl_journal.specs.declared.change.Change.{Change}
 use Rattle.pl_place.specs.Policy.{Choice}
-use Rattle.pl_batch.specs.Commands.{ready_for}
-use Rattle.pl_batch.specs.Names.{file_of}
-use Rattle.pl_batch.specs.Replace.{fixed_as, fixed_by, fixed_of, loosened_by, loosened_of, original_of, put_fitting, replacement_of, replacing_meant}
-use Rattle.pl_batch.specs.Store.{put, stored_as}
-use Rattle.pl_batch.specs.declared.cause.Cause.{Cause}
-use Rattle.pl_batch.specs.declared.cause.Cause.TheVariants as causes
+use Rattle.pl_change.specs.Commands.{ready_for}
+use Rattle.pl_change.specs.Names.{file_of}
+use Rattle.pl_change.specs.Replace.{fixed_as, fixed_by, fixed_of, loosened_by, loosened_of, original_of, put_fitting, replacement_of, replacing_meant}
+use Rattle.pl_change.specs.Store.{put, stored_as}
+use Rattle.pl_change.specs.declared.cause.Cause.{Cause}
+use Rattle.pl_change.specs.declared.cause.Cause.TheVariants as causes
 use Rattle.law_folder.specs.Laws.{FixingMakesBare, LooseningMakesBare, MakesBare, ReplacementsAreSafe, ReplacementsKeepOriginals}
 use Rattle.law_folder.proofs.EditLemmas.{IsBare, bare_safe, put_bare, recoverable_for}
 use Rattle.law_folder.proofs.OriginalLemmas.{installed_original}

@@ -9,7 +9,8 @@ use Rattle.pl_base.specs.Answers.{◌>>=◌, NeverMemory, because, unless_found}
 use Rattle.pl_base.specs.Each.{run}
 use Rattle.pl_base.specs.Files as base
 use Rattle.pl_base.proofs.TellsLaws.{cause_tells, either_tells, err_tells, ok_tells, run_tells, then_tells, unless_tells}
-use Rattle.pl_batch.specs.Folder.{cache, named, valid_names}
+use Rattle.pl_change.specs.Folder.{cache, valid_names}
+use Rattle.pl_batch.specs.Folder.{named}
 use Rattle.pl_batch.specs.declared.prelinking.Prelinking.{Prelinking}
 use Rattle.pl_cone.specs.Candidates.{all_formed, blocks, fit, formed, kind_of, check_links, of_link, resolved, zeros}
 use Rattle.pl_cone.specs.Skips.{of_tls, of_walk}

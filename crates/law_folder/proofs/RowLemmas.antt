@@ -27,12 +27,12 @@ use Rattle.pl_journal.specs.declared.change.Change.TheVariants.{Put, Drop}
 use Rattle.pl_object.specs.Reads.{reads}
 use Rattle.pl_object.specs.declared.object.Object.{Object}
 use Rattle.pl_object.specs.declared.refusal.Refusal.{Refusal}
-use Rattle.pl_batch.specs.Changes.{fitting}
-use Rattle.pl_batch.specs.Names.{are_many, file_of, has_name, is_full, of_file}
-use Rattle.pl_batch.specs.Store.{installed, put, removed, stored_as}
-use Rattle.pl_batch.specs.Undo.{added, all_pass, all_undone, asked_row, form_row, if_asked, if_valid, rows_of, undo_any, undo_asked, undone, with_row}
-use Rattle.pl_batch.specs.declared.cause.Cause.{Cause}
-use Rattle.pl_batch.specs.declared.cause.Cause.TheVariants as causes
+use Rattle.pl_change.specs.Changes.{fitting}
+use Rattle.pl_change.specs.Names.{are_many, file_of, has_name, is_full, of_file}
+use Rattle.pl_change.specs.Store.{installed, put, removed, stored_as}
+use Rattle.pl_change.specs.Undo.{added, all_pass, all_undone, asked_row, form_row, if_asked, if_valid, rows_of, undo_any, undo_asked, undone, with_row}
+use Rattle.pl_change.specs.declared.cause.Cause.{Cause}
+use Rattle.pl_change.specs.declared.cause.Cause.TheVariants as causes
 use Rattle.pl_rewrite.specs.Skips.{skip_causes}
 use Rattle.law_sound.specs.Rule.{Mark}
 

@@ -11,8 +11,8 @@ use Rattle.std.specs.declared.cmp.Ordering.{Ordering}
 use Rattle.std.specs.declared.cmp.Ordering.TheVariants.{Less, Equal, Greater}
 use Rattle.pl_base.specs.Files.{Files}
 use Rattle.pl_base.specs.Names.{is_valid_name}
-use Rattle.pl_batch.specs.Folder.{ascend, valid_names}
-use Rattle.pl_batch.proofs.OrderLemmas.{keys_ascend}
+use Rattle.pl_change.specs.Folder.{ascend, valid_names}
+use Rattle.pl_change.proofs.OrderLemmas.{keys_ascend}
 use Rattle.law_folder.proofs.SlotLemmas.{by_bytes}
 
 less_of : (o : Ordering) → is_lt o ≡ true → o ≡ Less

@@ -16,7 +16,7 @@ use Rattle.pl_journal.specs.declared.row.Row.{Row}
 use Rattle.pl_journal.proofs.Done.{done_is, none_done, recovered_by, row_not_own}
 use Rattle.pl_rewrite.specs.Skips.{skip_causes}
 use Rattle.law_sound.proofs.Theorems.{no_files, others_write, verified}
-use Rattle.pl_batch.specs.Commands.{IsBefore, Meaning}
+use Rattle.pl_change.specs.Commands.{IsBefore, Meaning}
 use Rattle.law_folder.specs.Laws.{EmptyIsSound, OthersStaySound, RecoveredKeepTheRule, RecoveriesStaySound, RuleIsEnough, RunsStaySound, SettledAreSound, SoundKeepTheRule, VerifiedAreSound}
 use Rattle.law_folder.specs.Safe.{AreSafe, IsSafe}
 use Rattle.law_folder.specs.Sound.{IsSound, KeepsTheRule, named}

@@ -28,8 +28,9 @@ use Rattle.pl_slots.specs.declared.slot.Slot.{Slot}
 use Rattle.pl_slots.specs.declared.slot.Want.{Want}
 use Rattle.law_sound.specs.Rule as sound
 use Rattle.pl_batch.specs.All.{asked_of}
-use Rattle.pl_batch.specs.Folder.{named, valid_names}
-use Rattle.pl_batch.specs.Names.{are_many}
+use Rattle.pl_batch.specs.Folder.{named}
+use Rattle.pl_change.specs.Folder.{valid_names}
+use Rattle.pl_change.specs.Names.{are_many}
 use Rattle.pl_batch.specs.declared.prelinking.Prelinking.{Prelinking}
 use Rattle.law_folder.proofs.FitLemmas.{few_names}
 use Rattle.law_folder.proofs.PlanLemmas.{next_of}

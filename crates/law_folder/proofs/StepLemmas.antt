@@ -34,11 +34,11 @@ use Rattle.pl_scope.proofs.NameLaws.{same_name}
 use Rattle.law_sound.proofs.Theorems as theorems
 use Rattle.pl_batch.specs.All.{asked_of, put_cache}
 use Rattle.pl_batch.specs.Changes.{changes_by}
-use Rattle.pl_batch.specs.Folder.{bad_cache, cache, cache_by, cache_file, cache_in, no_cache, valid_names}
-use Rattle.pl_batch.specs.Store as store
+use Rattle.pl_change.specs.Folder.{bad_cache, cache, cache_by, cache_file, cache_in, no_cache, valid_names}
+use Rattle.pl_change.specs.Store as store
 use Rattle.pl_folder.specs.Taken.{taken}
-use Rattle.pl_batch.specs.declared.cause.Cause.{Cause}
-use Rattle.pl_batch.specs.declared.cause.Cause.TheVariants as causes
+use Rattle.pl_change.specs.declared.cause.Cause.{Cause}
+use Rattle.pl_change.specs.declared.cause.Cause.TheVariants as causes
 use Rattle.pl_batch.specs.declared.prelinking.Prelinking.{Prelinking}
 use Rattle.pl_batch.specs.declared.run.Run.{Run}
 use Rattle.pl_batch.specs.declared.run.Run.TheVariants.{All, UndoAll, Undo, Install}

@@ -15,7 +15,8 @@ use Rattle.pl_cone.specs.declared.run_plan.RunPlan.{RunPlan}
 use Rattle.pl_rewrite.specs.Changes.{from_scratch, next, next_cache}
 use Rattle.pl_batch.specs.All.{asked_of}
 use Rattle.pl_batch.specs.Changes.{changes_of}
-use Rattle.pl_batch.specs.Folder.{cache, cache_file, cache_in, named, valid_names}
+use Rattle.pl_change.specs.Folder.{cache, cache_file, cache_in, valid_names}
+use Rattle.pl_batch.specs.Folder.{named}
 use Rattle.pl_batch.specs.declared.prelinking.Prelinking.{Prelinking}
 use Rattle.pl_batch.specs.declared.run.Run.TheVariants as runs
 use Rattle.law_folder.specs.Steps.{cache_or_none}

@@ -4,7 +4,8 @@ use Rattle.std.specs.FinMap.{get}
 use Rattle.pl_base.specs.Bytes.{IsBytes}
 use Rattle.pl_base.specs.Files.{Files}
 use Rattle.pl_batch.specs.All.{asked_of}
-use Rattle.pl_batch.specs.Folder.{named, valid_names}
+use Rattle.pl_batch.specs.Folder.{named}
+use Rattle.pl_change.specs.Folder.{valid_names}
 use Rattle.pl_batch.specs.declared.prelinking.Prelinking.{Prelinking}
 use Rattle.pl_cache.specs.Spelling.{is_cache}
 use Rattle.pl_cache.specs.declared.cache.Cache.{Cache}

@@ -6,8 +6,8 @@ use Rattle.pl_base.specs.Bytes.{IsBytes}
 use Rattle.pl_base.specs.Files.{Files}
 use Rattle.pl_elf.specs.declared.constants.TheConstants.{ADDRESS_LIMIT}
 use Rattle.pl_batch.specs.All.{all_changes}
-use Rattle.pl_batch.specs.Folder.{cache, cache_file, cache_in}
-use Rattle.pl_batch.specs.declared.cause.Cause.TheVariants.{BadCache}
+use Rattle.pl_change.specs.Folder.{cache, cache_file, cache_in}
+use Rattle.pl_change.specs.declared.cause.Cause.TheVariants.{BadCache}
 use Rattle.pl_batch.specs.declared.prelinking.Prelinking.{Prelinking}
 
 -- slots end at or below 2^47, and a moment has 32 bits

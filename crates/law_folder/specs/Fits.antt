@@ -3,9 +3,10 @@ use Rattle.std.specs.Prelude.{◌≡◌, ℕ, true, List, Ok}
 use Rattle.pl_base.specs.Files.{Files}
 use Rattle.pl_base.specs.Names.{is_valid_name}
 use Rattle.pl_journal.specs.declared.change.Change.{Change}
-use Rattle.pl_batch.specs.Changes.{changes_by, fitting}
-use Rattle.pl_batch.specs.Replace.{put_fitting}
-use Rattle.pl_batch.specs.Store.{put, removed}
+use Rattle.pl_batch.specs.Changes.{changes_by}
+use Rattle.pl_change.specs.Changes.{fitting}
+use Rattle.pl_change.specs.Replace.{put_fitting}
+use Rattle.pl_change.specs.Store.{put, removed}
 use Rattle.pl_batch.specs.declared.run.Run.{Run}
 
 -- no run is refused because its rows would not,

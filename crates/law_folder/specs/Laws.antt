@@ -17,11 +17,12 @@ use Rattle.pl_place.specs.Policy.{Choice}
 use Rattle.pl_scope.specs.Members.{has}
 use Rattle.law_sound.specs.History.{IsAllowed}
 use Rattle.law_sound.specs.Rule.{is_verified, matches, members}
-use Rattle.pl_batch.specs.Changes.{removal_meant, run_meant}
-use Rattle.pl_batch.specs.Commands.{Commands, IsBefore, Meaning, Outcome}
-use Rattle.pl_batch.specs.Replace.{fixed_as, loosened_of, replacing_meant}
-use Rattle.pl_batch.specs.Restored.{restored}
-use Rattle.pl_batch.specs.declared.cause.Cause.{Cause}
+use Rattle.pl_change.specs.Changes.{removal_meant}
+use Rattle.pl_batch.specs.Changes.{run_meant}
+use Rattle.pl_change.specs.Commands.{Commands, IsBefore, Meaning, Outcome}
+use Rattle.pl_change.specs.Replace.{fixed_as, loosened_of, replacing_meant}
+use Rattle.pl_change.specs.Restored.{restored}
+use Rattle.pl_change.specs.declared.cause.Cause.{Cause}
 use Rattle.pl_batch.specs.declared.run.Run.{Run}
 use Rattle.law_folder.specs.Originals.{HasOriginal, HasOriginals, SameOriginals}
 use Rattle.law_folder.specs.Safe.{Ends, IsSafe, IsSafeImage, Leaves, after}

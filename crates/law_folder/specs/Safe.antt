@@ -10,7 +10,7 @@ use Rattle.pl_journal.specs.Meaning.{Same, applied, mixed, rows_for}
 use Rattle.pl_journal.specs.Rows.{recovered}
 use Rattle.pl_journal.specs.Spelling.{are_rows}
 use Rattle.pl_journal.specs.declared.change.Change.{Change}
-use Rattle.pl_batch.specs.Commands.{Meaning, Outcome, Made, Refused, Failed, Lacked}
+use Rattle.pl_change.specs.Commands.{Meaning, Outcome, Made, Refused, Failed, Lacked}
 use Rattle.law_folder.specs.Sound.{IsSound, KeepsTheRule}
 
 -- ---- commands

@@ -12,11 +12,12 @@ use Rattle.pl_journal.specs.declared.change.Change.{Change}
 use Rattle.pl_rewrite.specs.Skips.{skip_causes}
 use Rattle.pl_rewrite.specs.History.{Transition}
 use Rattle.law_sound.specs.Plan.{IsBounded}
-use Rattle.pl_batch.specs.Changes.{removal_meant, run_meant}
-use Rattle.pl_batch.specs.Commands.{Meaning}
-use Rattle.pl_batch.specs.Folder.{cache, no_cache}
-use Rattle.pl_batch.specs.Replace.{replacing_meant}
-use Rattle.pl_batch.specs.declared.cause.Cause.{Cause}
+use Rattle.pl_change.specs.Changes.{removal_meant}
+use Rattle.pl_batch.specs.Changes.{run_meant}
+use Rattle.pl_change.specs.Commands.{Meaning}
+use Rattle.pl_change.specs.Folder.{cache, no_cache}
+use Rattle.pl_change.specs.Replace.{replacing_meant}
+use Rattle.pl_change.specs.declared.cause.Cause.{Cause}
 use Rattle.pl_batch.specs.declared.run.Run.{Run}
 use Rattle.law_folder.specs.Laws.{MakesBare}
 use Rattle.law_folder.specs.Sound.{KeepsTheRule, named}

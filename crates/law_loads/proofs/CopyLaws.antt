@@ -7,10 +7,10 @@ use Rattle.pl_base.specs.Answers.{◌>>=◌, unless}
 use Rattle.pl_base.specs.Files.{Files}
 use Rattle.pl_base.specs.Names.{is_valid_name}
 use Rattle.pl_base.proofs.AnswerLaws.{bind_ok, ok_same, unless_ok}
-use Rattle.pl_batch.specs.Copied.{are_bulky, cache_there, copied, copied_by, is_copied, kept}
-use Rattle.pl_batch.specs.Folder.{all_files, cache, valid_names}
-use Rattle.pl_batch.specs.Names.{are_many}
-use Rattle.pl_batch.specs.declared.cause.Cause.TheVariants.{FolderTooLarge, TooManyFiles}
+use Rattle.pl_change.specs.Copied.{are_bulky, cache_there, copied, copied_by, is_copied, kept}
+use Rattle.pl_change.specs.Folder.{all_files, cache, valid_names}
+use Rattle.pl_change.specs.Names.{are_many}
+use Rattle.pl_change.specs.declared.cause.Cause.TheVariants.{FolderTooLarge, TooManyFiles}
 use Rattle.pl_conflict.specs.Format.{Rule, format}
 use Rattle.law_folder.specs.Sound.{named}
 use Rattle.law_folder.specs.Steps.{cache_or_none}

@@ -5,7 +5,7 @@ use Rattle.std.specs.FinMap.{get}
 use Rattle.pl_base.specs.Files.{Files}
 use Rattle.pl_base.specs.Names.{is_valid_name}
 use Rattle.pl_batch.specs.Changes.{run_meant}
-use Rattle.pl_batch.specs.declared.cause.Cause.{Cause}
+use Rattle.pl_change.specs.declared.cause.Cause.{Cause}
 use Rattle.pl_batch.specs.declared.run.Run.{Run}
 use Rattle.pl_conflict.specs.Format.{format}
 use Rattle.pl_conflict.proofs.FormatLaws.{format_kept}

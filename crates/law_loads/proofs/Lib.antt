@@ -4,10 +4,11 @@ pub mod FastLaws
 pub mod PlaceLaws
 pub mod ImageLaws
 pub mod HistoryLaws
-pub mod AnswerLaws
+pub mod SameTextLaws
+pub mod LoadingFolderLaws
 pub mod RowLemmas
 pub mod HistoryLemmas
 pub mod OrdinaryLaws
 pub mod CopyLaws
 pub mod SeenLemmas
-pub mod TextLaws
+pub mod FinishedLaws

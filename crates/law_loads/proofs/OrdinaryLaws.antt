@@ -2,9 +2,9 @@
 use Rattle.std.proofs.Common.{subst}
 use Rattle.pl_conflict.specs.Format.{is_fast}
 use Rattle.pl_rewrite.specs.Skips.{skip_causes}
-use Rattle.law_loads.specs.Answers.{loading_folder}
+use Rattle.law_loads.specs.LoadingFolder.{loading_folder}
 use Rattle.law_loads.specs.Paths.{SameAnswer, ordinary_load}
-use Rattle.law_loads.proofs.AnswerLaws.{gives_given, rule_given}
+use Rattle.law_loads.proofs.LoadingFolderLaws.{gives_given, rule_given}
 use Rattle.law_loads.proofs.HistoryLaws.{rule_held}
 use Rattle.law_loads.proofs.ImageLaws.{loads_are_ordinary}
 use Rattle.pl_weave.specs.Given.{given_from}

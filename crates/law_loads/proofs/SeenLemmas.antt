@@ -1,5 +1,5 @@
 -- A loader sees each name once.
-use Rattle.std.proofs.Common.{◌≡◌, ◌∙◌, ℕ, zero, suc, ◌+◌, ◌<◌, Bool, true, false, List, [], ◌∷◌, ◌++◌, length, get_or, Option, Some, None, Result, Ok, Err, refl, sym, ap, subst, arith, inl, inr}
+use Rattle.std.proofs.Common.{◌≡◌, ◌∙◌, ℕ, zero, suc, ◌+◌, ◌<◌, Bool, true, false, List, [], ◌∷◌, ◌++◌, get_or, Option, Some, None, Result, Ok, Err, refl, sym, ap, subst, arith, inl, inr}
 use Rattle.std.specs.Prelude.{slice_get, if◌then◌else◌}
 use Rattle.std.specs.List.{IsDistinct}
 use Rattle.std.specs.Option.{ok_or}
@@ -7,11 +7,9 @@ use Rattle.std.specs.Str.{bytes_eq}
 use Rattle.std.proofs.lemmas.Bool.{cases_Bool}
 use Rattle.std.proofs.lemmas.Map.Keys.{IsDistinct-push, apart_from_distinct}
 use Rattle.std.proofs.lemmas.Option.{get_or_from_slice_get, slice_get_within}
-use Rattle.pl_base.specs.Answers.{◌>>=◌, because}
+use Rattle.pl_base.specs.Answers.{because}
 use Rattle.pl_base.specs.Each.{run}
 use Rattle.pl_base.proofs.AnswerLaws.{because_ok, bind_ok, ok_same}
-use Rattle.pl_cli.specs.declared.cause.Cause.{Cause}
-use Rattle.pl_cli.specs.declared.cause.Cause.TheVariants as causes
 use Rattle.pl_loader.specs.Faults.{of_walk}
 use Rattle.pl_loader.specs.Loading.{Loading}
 use Rattle.pl_loader.specs.Walk.{IsFile, begun, entered, read_in, taken, with_file}
@@ -23,14 +21,12 @@ use Rattle.pl_scope.specs.Members.{has}
 use Rattle.pl_scope.specs.Walk.{added}
 use Rattle.pl_scope.specs.Walk as scope
 use Rattle.pl_scope.specs.Walking.{Walking, wants}
-use Rattle.pl_scope.specs.declared.fault.WalkFault.{WalkFault}
 use Rattle.pl_scope.proofs.NameLaws.{eq_flip, eq_laws, eq_refl, has_flip, same_name}
 use Rattle.pl_scope.proofs.StepLaws.{added_cases, entered_is, grown}
 use Rattle.pl_weave.specs.Given.{given}
 use Rattle.pl_weave.specs.Opening.{HasSeen, Leads, LeadsOn, taken_as}
 use Rattle.pl_weave.specs.declared.seen.Seen.{Seen}
-use Rattle.law_loads.specs.Weaves.{AreSeen, SawFile}
-use Rattle.law_loads.specs.Texts.{file_seen, seen_file}
+use Rattle.law_loads.specs.Weaves.{AreSeen, SawFile, file_seen}
 
 -- ---- the names of a walk stay apart
 
@@ -143,18 +139,22 @@ owns_all choose walk (s ∷ seen) came led apart =
         (further next t more, unlike choose next seen came walk.order.given s.name more (t.apart apart) (omega (arith, t.given)) there)
     on further (Err fault) went more = subst (λ (l : List Seen). Owns l l × Unlike s.name l) (sym more.0) (tt, tt)
 
-is_file : (all : List Seen) (n : List ℕ) (file : Option (List ℕ)) → file_seen all n ≡ file → IsFile causes.Load (seen_file all) n file
-is_file all n None is = ap (λ (o : Option (List ℕ)). ok_or o (causes.Load (NotThere n))) is
-is_file all n (Some bytes) is = ap (λ (o : Option (List ℕ)). ok_or o (causes.Load (NotThere n))) is
+-- these are the files that were seen, and no other one is there
+abbrev pub TellsSeen : {E : Type 0} → (LoadFault → E) → (List ℕ → Result (List ℕ) E) → List Seen → Type 0
+TellsSeen fault file seen = (n : List ℕ) → file n ≡ ok_or (file_seen seen n) (fault (NotThere n))
 
-tells_each : (all seen : List Seen) → Owns all seen → HasSeen causes.Load (seen_file all) seen
-tells_each all [] owns = tt
-tells_each all (s ∷ seen) owns = (is_file all s.name s.file owns.0, tells_each all seen owns.1)
+is_file : {E : Type 0} (fault : LoadFault → E) (file : List ℕ → Result (List ℕ) E) (all : List Seen) (n : List ℕ) (found : Option (List ℕ)) → TellsSeen fault file all → file_seen all n ≡ found → IsFile fault file n found
+is_file fault file all n None tells is = tells n ∙ ap (λ (o : Option (List ℕ)). ok_or o (fault (NotThere n))) is
+is_file fault file all n (Some bytes) tells is = tells n ∙ ap (λ (o : Option (List ℕ)). ok_or o (fault (NotThere n))) is
+
+tells_each : {E : Type 0} (fault : LoadFault → E) (file : List ℕ → Result (List ℕ) E) (all seen : List Seen) → TellsSeen fault file all → Owns all seen → HasSeen fault file seen
+tells_each fault file all [] tells owns = tt
+tells_each fault file all (s ∷ seen) tells owns = (is_file fault file all s.name s.file tells owns.0, tells_each fault file all seen tells owns.1)
 
 -- what was seen is what is told of the names
-pub has_seen : (choose : Choice) (name : List ℕ) (seen : List Seen) (came : Result Loading LoadFault) → Leads choose (begun name) seen came → HasSeen causes.Load (seen_file seen) seen
+pub has_seen : {E : Type 0} (fault : LoadFault → E) (file : List ℕ → Result (List ℕ) E) (choose : Choice) (name : List ℕ) (seen : List Seen) (came : Result Loading LoadFault) → TellsSeen fault file seen → Leads choose (begun name) seen came → HasSeen fault file seen
 unfolding IsDistinct
-has_seen choose name seen came led = tells_each seen seen (owns_all choose (begun name) seen came led (tt, tt))
+has_seen fault file choose name seen came tells led = tells_each fault file seen seen tells (owns_all choose (begun name) seen came led (tt, tt))
 
 -- ---- each file that is told was seen
 
@@ -166,9 +166,9 @@ are_seen (s ∷ seen) n bytes is = by (are_seen seen n bytes) (bytes_eq n s.name
     by further true hit told = inl (sym (same_name n s.name hit), told)
     by further false miss told = inr (further told)
 
-pub gives_seen : (seen : List Seen) → GivesFrom (file_seen seen) (seen_file seen)
-gives_seen seen n bytes is = by (file_seen seen n) is
+pub gives_seen : {E : Type 0} (fault : LoadFault → E) (file : List ℕ → Result (List ℕ) E) (seen : List Seen) → TellsSeen fault file seen → GivesFrom (file_seen seen) file
+gives_seen {E = E} fault file seen tells n bytes is = by (file_seen seen n) (sym (tells n) ∙ is)
   where
-    by : (o : Option (List ℕ)) → ok_or o (causes.Load (NotThere n)) ≡ Ok bytes → o ≡ Some bytes
+    by : (o : Option (List ℕ)) → ◌≡◌ {A = Result (List ℕ) E} (ok_or o (fault (NotThere n))) (Ok bytes) → o ≡ Some bytes
     by None e = let no : ⊥ = cc in absurd no
     by (Some found) e = ap (λ (xs : List ℕ). Some xs) (ok_same found bytes e)

@@ -1,6 +1,5 @@
 -- What is proved of the two paths of a load.
 use Rattle.std.specs.Prelude.{◌≡◌, ℕ, List, length, Option, Some, Result, Ok}
-use Rattle.pl_base.specs.Files.{Files as FileMap}
 use Rattle.pl_elf.specs.declared.range.Range.{Range}
 use Rattle.pl_place.specs.Policy.{Choice}
 use Rattle.law_sound.specs.History.{Happened, Held}
@@ -13,11 +12,6 @@ use Rattle.pl_loader.specs.Started.{imaged, linked, load, modules_of, start_at, 
 use Rattle.pl_loader.specs.declared.object_file.ObjectFile.{ObjectFile}
 use Rattle.pl_loader.specs.declared.started.Started.{Started}
 use Rattle.pl_loader.specs.declared.fault.LoadFault.{LoadFault}
-use Rattle.pl_words.specs.declared.command.Policy.{Policy}
-use Rattle.pl_cli.specs.Answer.{answer}
-use Rattle.pl_cli.specs.Files.{valid_file}
-use Rattle.pl_cli.specs.declared.command.Command.TheVariants.{Load}
-use Rattle.law_loads.specs.Answers.{ordinary_answer}
 use Rattle.law_loads.specs.Paths.{GivesFrom, AreTaken, walk_of, IsWalkOf, folder_image, AreAt, AreChosen, SameMemory, IsOrdinaryStart, ordinary_load, SameAnswer}
 
 -- ---- the fast path of a loader is that of the folder's files
@@ -67,8 +61,3 @@ abbrev pub LoadsOverHistories : Type 0 → Type 0 → Type 0
 LoadsOverHistories E F = (causes : Causes F) (now : Files) (past : List Files) (last : ℕ) (taken : Files) (choose : Choice) (busy : Option Range) (fault : LoadFault → E) (file : List ℕ → Result (List ℕ) E) (name : List ℕ)
     → Happened (format.format causes) now past last → AreHeld now past taken → GivesFrom taken file
     → SameAnswer (load choose busy fault file name) (ordinary_load (format.is_fast causes taken name) choose busy fault file name)
-
--- and `--load` answers by status and text as where the originals are linked
-abbrev pub AnswersAreOrdinary : Type 0 → Type 0
-AnswersAreOrdinary F = (causes : Causes F) (files : FileMap) (input name : List ℕ) (busy : Option Range) (policy : Policy)
-    → RuleAt causes (valid_file files) name → answer (Some (Load name busy policy)) files input ≡ ordinary_answer causes policy busy files name

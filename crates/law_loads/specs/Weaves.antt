@@ -1,8 +1,9 @@
 -- The history of a weave's folder, and the files that its loaders saw.
-use Rattle.std.specs.Prelude.{◌≡◌, ◌⊎◌, ℕ, List, [], ◌∷◌, Some, slice_get, None, Result}
+use Rattle.std.specs.Prelude.{◌≡◌, ◌⊎◌, ℕ, List, [], ◌∷◌, Option, Some, slice_get, None, Result, if◌then◌else◌}
 use Rattle.std.specs.FinMap.{get}
+use Rattle.std.specs.Str.{bytes_eq}
 use Rattle.pl_base.specs.Files.{Files}
-use Rattle.pl_batch.specs.Copied.{kept}
+use Rattle.pl_change.specs.Copied.{kept}
 use Rattle.pl_batch.specs.declared.run.Run.{Run}
 use Rattle.pl_base.specs.Answers.{because}
 use Rattle.pl_conflict.specs.Format.{is_fast}
@@ -10,7 +11,7 @@ use Rattle.law_folder.specs.Sound.{KeepsTheRule}
 use Rattle.law_folder.specs.Steps.{IsPastAll}
 use Rattle.pl_rewrite.specs.Skips.{skip_causes}
 use Rattle.pl_loader.specs.declared.fault.LoadFault.{LoadFault}
-use Rattle.law_loads.specs.Answers.{loading_folder}
+use Rattle.law_loads.specs.LoadingFolder.{loading_folder}
 use Rattle.law_loads.specs.Paths.{GivesFrom, SameAnswer, ordinary_load}
 use Rattle.pl_place.specs.Policy.{Choice}
 use Rattle.pl_rewrite.specs.History.{Happened}
@@ -21,6 +22,11 @@ use Rattle.pl_weave.specs.Given.{given_from}
 use Rattle.pl_weave.specs.Opening.{HasSeen, Opened, ended, wanted}
 use Rattle.pl_weave.specs.Weaving.{Weaving, woven}
 use Rattle.pl_weave.specs.declared.seen.Seen.{Seen}
+
+-- the file that was seen under a name, where one was: so the files that a loader saw are those of a folder
+abbrev pub file_seen : List Seen → List ℕ → Option (List ℕ)
+file_seen [] n = None
+file_seen (s ∷ seen) n = if bytes_eq n s.name then s.file else file_seen seen n
 
 -- these bytes were seen under this name
 abbrev pub SawFile : List Seen → List ℕ → List ℕ → Type 0

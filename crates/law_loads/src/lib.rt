@@ -6,9 +6,5 @@
 mod paths;
 mod weaves;
 
-pub use paths::{
-    answers_are_ordinary, loads_are_ordinary, loads_over_histories_are_ordinary, paths_are_one,
-};
-pub use weaves::{
-    copies_keep, weaves_are_ordinary, weaves_print_ordinary_loads, woven_have_a_history,
-};
+pub use paths::{loads_are_ordinary, loads_over_histories_are_ordinary, paths_are_one};
+pub use weaves::{copies_keep, weaves_are_ordinary, woven_have_a_history};

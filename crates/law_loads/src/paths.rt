@@ -1,5 +1,5 @@
 // Laws of the two paths of a load.
-ghost use Rattle.law_loads.specs.Loads.{WalksAreOne, PathsAreOne, FastImagesAreOne, ImagesAreOrdinary, StartsAreOrdinary, PlacesAreAt, LoadsAreOrdinary, LoadsOverHistories, AnswersAreOrdinary};
+ghost use Rattle.law_loads.specs.Loads.{WalksAreOne, PathsAreOne, FastImagesAreOne, ImagesAreOrdinary, StartsAreOrdinary, PlacesAreAt, LoadsAreOrdinary, LoadsOverHistories};
 
 /// The fast path of a loader is the one of the folder's files, whether or not the folder keeps a rule. The files that a load takes of a folder are those of the folder's walk of the name, with their originals and the program's conflict rows. The loader's test of its files at places, one for each, is the folder's: the program's list tells the other files of the walk, each a prelinked one, and each is placed at the slot that it bears. Its image is made of the folder's files as they stand and of the program's conflict rows.
 pub fn paths_are_one<E, F>()
@@ -19,9 +19,4 @@ pub fn loads_are_ordinary<E, F>()
 /// A load that takes each of its files at a moment of its own, while runs and edits change the folder, answers as one that links the originals of the files that it took, whatever is chosen and whatever is busy: where the folder kept the rule at the start, its last stamp was no less than all stamps and rows of lists, and each run has a stamp past the last one. Its path is the fast one exactly where the files that it took allow it at these places.
 pub fn loads_over_histories_are_ordinary<E, F>()
     ensures { LoadsOverHistories E F }
-{}
-
-/// So `--load` of a name at which the files of its folder keep the rule answers, by its status and byte for byte of its text, as a command that links the originals at the same places and tells the path by the prelinked files.
-pub fn answers_are_ordinary<F>()
-    ensures { AnswersAreOrdinary F }
 {}

@@ -1,6 +1,5 @@
 // The history of a weave.
 ghost use Rattle.law_loads.specs.Weaves.{CopiesKeep, WeavesAreOrdinary, WovenHaveAHistory};
-ghost use Rattle.law_loads.specs.Texts.{WeavesPrintLoads, WeavesPrintOrdinary};
 
 /// From files that keep the rule of prelinked files, and whose cache's last stamp is no less than all stamps and rows of lists, there is, whatever the events of a weave are, one history of runs and edits in which each file that a loader saw was held at some moment.
 pub fn woven_have_a_history()
@@ -15,10 +14,4 @@ pub fn weaves_are_ordinary<E>()
 /// And these files may be those that a weave copies of a folder: the copy of one that keeps the rule, with such a cache, keeps the rule and has such a cache.
 pub fn copies_keep()
     ensures { CopiesKeep }
-{}
-
-/// The text of `--weave`, over every folder and input: each loader that has finished prints what `--load` prints of the files that it saw, or why they do not load. Where the folder keeps the rule of prelinked files, and its cache's last stamp is no less than all stamps and rows of lists, that is what linking the originals of these files gives, at the same places, with the path that these files allow.
-pub fn weaves_print_ordinary_loads()
-    ensures loads { WeavesPrintLoads }
-    ensures ordinary { WeavesPrintOrdinary }
 {}

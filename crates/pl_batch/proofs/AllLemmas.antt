@@ -29,25 +29,28 @@ use Rattle.pl_slots.specs.declared.slot.Slot.{Slot}
 use Rattle.law_sound.specs.Rule as sound
 use Rattle.pl_rewrite.specs.declared.report.Report.{Report}
 use Rattle.pl_batch.specs.All.{Reports, all_changes, all_made, all_reported, asked_of, made_of_folder, made_of, made_with_cache, of_planning, spelled}
-use Rattle.pl_batch.specs.Answers.{Finds, BatchMeansAlone, of_plan}
-use Rattle.pl_batch.specs.Changes.{changes_of, fitting}
-use Rattle.pl_batch.specs.Commands.{Made, ready}
-use Rattle.pl_batch.specs.Folder.{IsRead, all_files, are_large, ascend, cache_file, cache_in, named, valid_names}
-use Rattle.pl_batch.specs.Names.{are_many}
-use Rattle.pl_batch.specs.Starts.{Starts}
+use Rattle.pl_change.specs.Answers.{Finds, BatchMeansAlone}
+use Rattle.pl_batch.specs.All.{of_plan}
+use Rattle.pl_batch.specs.Changes.{changes_of}
+use Rattle.pl_change.specs.Changes.{fitting}
+use Rattle.pl_change.specs.Commands.{Made, ready}
+use Rattle.pl_batch.specs.Folder.{IsRead, are_large, named}
+use Rattle.pl_change.specs.Folder.{all_files, ascend, cache_file, cache_in, valid_names}
+use Rattle.pl_change.specs.Names.{are_many}
+use Rattle.pl_change.specs.Starts.{Starts}
 use Rattle.pl_batch.specs.declared.all.AllMade.{AllMade}
-use Rattle.pl_batch.specs.declared.cause.Cause.{Cause}
-use Rattle.pl_batch.specs.declared.cause.Cause.TheVariants as causes
-use Rattle.pl_batch.specs.declared.fault.BatchFault.{BatchFault}
-use Rattle.pl_batch.specs.declared.fault.BatchFault.TheVariants.{DiskFailed, NoMemory}
-use Rattle.pl_batch.specs.declared.fault.BatchFault.TheVariants as faults
+use Rattle.pl_change.specs.declared.cause.Cause.{Cause}
+use Rattle.pl_change.specs.declared.cause.Cause.TheVariants as causes
+use Rattle.pl_change.specs.declared.fault.BatchFault.{BatchFault}
+use Rattle.pl_change.specs.declared.fault.BatchFault.TheVariants.{DiskFailed, NoMemory}
+use Rattle.pl_change.specs.declared.fault.BatchFault.TheVariants as faults
 use Rattle.pl_batch.specs.declared.prelinking.Prelinking.{Prelinking}
 use Rattle.pl_batch.specs.declared.run.Run.TheVariants as runs
-use Rattle.pl_batch.proofs.FindLemmas.{alone_finds, alone_stops, other_means, passed, refused, same_found, stops_finds, then_alone, then_finds}
+use Rattle.pl_change.proofs.FindLemmas.{alone_finds, alone_stops, other_means, passed, refused, same_found, stops_finds, then_alone, then_finds}
 use Rattle.pl_batch.proofs.FolderLemmas.{bytes_of, files_taken}
-use Rattle.pl_batch.proofs.OrderLemmas.{distinct_from, keys_ascend}
-use Rattle.pl_batch.proofs.StartLemmas.{before_is}
-use Rattle.pl_batch.proofs.UndoLemmas.{items, rows, texts}
+use Rattle.pl_change.proofs.OrderLemmas.{distinct_from, keys_ascend}
+use Rattle.pl_change.proofs.StartLemmas.{before_is}
+use Rattle.pl_change.proofs.UndoLemmas.{items, rows, texts}
 
 abbrev pub it : AllMade → AllMade
 it made = made

@@ -16,16 +16,16 @@ use Rattle.pl_journal.specs.Parts.{Looking}
 use Rattle.pl_elf.specs.declared.range.Range.{Range}
 use Rattle.pl_rewrite.specs.Taken.{IsTaken, names_of, taken_of}
 use Rattle.pl_rewrite.specs.declared.taken.Taken.{Taken}
-use Rattle.pl_batch.specs.Answers.{Finds}
-use Rattle.pl_batch.specs.Folder.{all_files}
-use Rattle.pl_batch.specs.Names.{file_of}
-use Rattle.pl_batch.specs.declared.cause.Cause.{Cause}
-use Rattle.pl_batch.specs.declared.fault.BatchFault.{BatchFault}
-use Rattle.pl_batch.specs.declared.fault.BatchFault.TheVariants.{DiskFailed, NoMemory}
-use Rattle.pl_batch.specs.declared.fault.BatchFault.TheVariants as faults
-use Rattle.pl_batch.proofs.FindLemmas.{lacks, lacks_finds, no_asking, reads_on}
+use Rattle.pl_change.specs.Answers.{Finds}
+use Rattle.pl_change.specs.Folder.{all_files}
+use Rattle.pl_change.specs.Names.{file_of}
+use Rattle.pl_change.specs.declared.cause.Cause.{Cause}
+use Rattle.pl_change.specs.declared.fault.BatchFault.{BatchFault}
+use Rattle.pl_change.specs.declared.fault.BatchFault.TheVariants.{DiskFailed, NoMemory}
+use Rattle.pl_change.specs.declared.fault.BatchFault.TheVariants as faults
+use Rattle.pl_change.proofs.FindLemmas.{lacks, lacks_finds, no_asking, reads_on}
 use Rattle.pl_batch.proofs.FolderLemmas.{bytes_of}
-use Rattle.pl_batch.proofs.UndoLemmas.{items}
+use Rattle.pl_change.proofs.UndoLemmas.{items}
 
 abbrev pub valid_of : List (List ℕ) → List (List ℕ)
 valid_of ns = filter is_valid_name ns

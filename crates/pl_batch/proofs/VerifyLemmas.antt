@@ -51,15 +51,15 @@ use Rattle.pl_scope.proofs.WalkLaws.{give_given, walk_begins, walk_ends, walk_go
 use Rattle.law_sound.specs.Rule as sound
 use Rattle.law_sound.specs.Rule.{is_marked, is_same, mark_at, object_at, objects, original_at, prelinked_in}
 use Rattle.law_sound.proofs.RuleLaws.{AgreeOn, first_is, prelinked_agree}
-use Rattle.pl_batch.specs.Answers.{Finds, BatchStopsAlone}
+use Rattle.pl_change.specs.Answers.{Finds, BatchStopsAlone, of_walk_fault}
 use Rattle.pl_batch.specs.Folder.{named}
-use Rattle.pl_batch.specs.Names.{file_of, of_file}
-use Rattle.pl_batch.specs.Verify.{AreIn, causes, nowhere, object_by, of_walk, of_walk_fault, original_if_verified, verified, walked, walked_names, wanted_file}
-use Rattle.pl_batch.specs.declared.cause.Cause.{Cause}
-use Rattle.pl_batch.specs.declared.cause.Cause.TheVariants.{BadName, FileTooLarge, NotThere}
-use Rattle.pl_batch.specs.declared.fault.BatchFault.{BatchFault}
-use Rattle.pl_batch.specs.declared.fault.BatchFault.TheVariants as faults
-use Rattle.pl_batch.proofs.FindLemmas.{lacks, no_asking, passed, reads_on, refused}
+use Rattle.pl_change.specs.Names.{file_of, of_file}
+use Rattle.pl_batch.specs.Verify.{AreIn, causes, nowhere, object_by, of_walk, original_if_verified, verified, walked, walked_names, wanted_file}
+use Rattle.pl_change.specs.declared.cause.Cause.{Cause}
+use Rattle.pl_change.specs.declared.cause.Cause.TheVariants.{BadName, FileTooLarge, NotThere}
+use Rattle.pl_change.specs.declared.fault.BatchFault.{BatchFault}
+use Rattle.pl_change.specs.declared.fault.BatchFault.TheVariants as faults
+use Rattle.pl_change.proofs.FindLemmas.{lacks, no_asking, passed, reads_on, refused}
 
 -- ---- sizes
 

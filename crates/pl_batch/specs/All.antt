@@ -16,12 +16,15 @@ use Rattle.pl_rewrite.specs.Rewriting.{rewrite}
 use Rattle.pl_rewrite.specs.declared.report.Report.{Report}
 use Rattle.pl_rewrite.specs.declared.rewriting.Rewritten.{Rewritten}
 use Rattle.law_sound.specs.Rule as sound
-use Rattle.pl_batch.specs.Commands.{IsBefore}
-use Rattle.pl_batch.specs.Folder.{all_files, are_large, cache, cache_file, cache_in, named, valid_names}
-use Rattle.pl_batch.specs.Names.{are_many}
+use Rattle.pl_change.specs.Commands.{IsBefore}
+use Rattle.pl_change.specs.Folder.{all_files, cache, cache_file, cache_in, valid_names}
+use Rattle.pl_batch.specs.Folder.{are_large, named}
+use Rattle.pl_change.specs.Names.{are_many}
 use Rattle.pl_batch.specs.declared.all.AllMade.{AllMade}
-use Rattle.pl_batch.specs.declared.cause.Cause.{Cause}
-use Rattle.pl_batch.specs.declared.cause.Cause.TheVariants.{TooManyFiles, BadCache, FolderTooLarge, NoSlot, StampsSpent}
+use Rattle.pl_change.specs.declared.cause.Cause.{Cause}
+use Rattle.pl_change.specs.declared.cause.Cause.TheVariants.{TooManyFiles, BadCache, FolderTooLarge, NoSlot, StampsSpent}
+use Rattle.pl_change.specs.declared.fault.BatchFault.{BatchFault}
+use Rattle.pl_change.specs.declared.fault.BatchFault.TheVariants as faults
 use Rattle.pl_batch.specs.declared.prelinking.Prelinking.{Prelinking}
 
 -- what a plan is asked, by the cache; it goes by the rows alone, wherever they lie
@@ -33,6 +36,12 @@ abbrev pub of_planning : PlanningFault → Cause
 of_planning (plan.NoSlot name span hole) = NoSlot name span hole
 of_planning (plan.StampsSpent stamp) = StampsSpent stamp
 of_planning plan.NoMemory = TooManyFiles
+
+-- the same, as the fault of a command
+abbrev pub of_plan : PlanningFault → BatchFault
+of_plan (plan.NoSlot name span hole) = faults.Cause (NoSlot name span hole)
+of_plan (plan.StampsSpent stamp) = faults.Cause (StampsSpent stamp)
+of_plan plan.NoMemory = faults.NoMemory
 
 -- the row of the cache; none where its bytes would not change
 abbrev pub put_cache : List ℕ → List ℕ → List Change

@@ -1,23 +1,16 @@
--- What a command changes, as the rows of a journal.
-use Rattle.std.specs.Prelude.{◌≤◌, ℕ, ⊤, not, List, length, Result, Ok}
-use Rattle.pl_base.specs.Answers.{◌>>=◌, unless}
+-- What a run changes, as the rows of a journal.
+use Rattle.std.specs.Prelude.{◌≤◌, ⊤, List, length, Result}
+use Rattle.pl_base.specs.Answers.{◌>>=◌}
 use Rattle.pl_base.specs.Files.{Files}
 use Rattle.pl_folder.specs.declared.TheConstants.{STORED}
-use Rattle.pl_journal.specs.Meaning.{rows_for}
-use Rattle.pl_journal.specs.Spelling.{are_rows}
 use Rattle.pl_journal.specs.declared.change.Change.{Change}
 use Rattle.pl_batch.specs.All.{all_changes}
-use Rattle.pl_batch.specs.Commands.{Meaning, and_then, ready, ready_for}
-use Rattle.pl_batch.specs.Store.{installed, removed}
-use Rattle.pl_batch.specs.Undo.{all_undone, undone}
-use Rattle.pl_batch.specs.declared.cause.Cause.{Cause}
-use Rattle.pl_batch.specs.declared.cause.Cause.TheVariants.{TooManyFiles}
+use Rattle.pl_change.specs.Commands.{Meaning, and_then, ready, ready_for}
+use Rattle.pl_change.specs.Store.{installed}
+use Rattle.pl_change.specs.Undo.{all_undone, undone}
+use Rattle.pl_change.specs.declared.cause.Cause.{Cause}
 use Rattle.pl_batch.specs.declared.run.Run.{Run}
 use Rattle.pl_batch.specs.declared.run.Run.TheVariants.{All, UndoAll, Undo, Install}
-
--- a journal can have these rows
-abbrev pub fitting : List Change → Result (List Change) Cause
-fitting rows = unless (not (are_rows (rows_for rows))) TooManyFiles (Ok rows)
 
 abbrev pub changes_by : Files → Run → Result (List Change) Cause
 changes_by files (All asked) = all_changes files asked
@@ -29,9 +22,6 @@ changes_by files (Install name bytes) = installed files name bytes
 unfoldable pub changes_of : Files → Run → Result (List Change) Cause
 changes_of files asked = changes_by files asked >>= fitting
 
-unfoldable pub removal_of : Files → List ℕ → Result (List Change) Cause
-removal_of files name = removed files name >>= fitting
-
 -- what comes before the files are looked at
 abbrev pub ready_by : Run → Meaning Cause
 ready_by (All asked) = ready
@@ -42,9 +32,6 @@ ready_by (Install name bytes) = ready_for name
 -- a whole command
 abbrev pub run_meant : Run → Meaning Cause
 run_meant asked = and_then (ready_by asked) (λ files. changes_of files asked)
-
-abbrev pub removal_meant : List ℕ → Meaning Cause
-removal_meant name = and_then (ready_for name) (λ files. removal_of files name)
 
 -- what is asked of a command: bytes are no more than a folder stores
 abbrev pub IsRun : Run → Type 0

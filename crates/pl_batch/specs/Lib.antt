@@ -1,16 +1,4 @@
-pub mod Answers
-pub mod Names
-pub mod Undo
-pub mod Store
-pub mod Quiet
-pub mod Commands
 pub mod Folder
 pub mod All
 pub mod Changes
-pub mod Replace
-pub mod Starts
-pub mod Restored
-pub mod Lent
-pub mod Again
 pub mod Verify
-pub mod Copied

@@ -20,11 +20,11 @@ use Rattle.pl_scope.specs.declared.fault.WalkFault.TheVariants as walks
 use Rattle.law_sound.specs.Rule as sound
 use Rattle.law_sound.specs.Rule.{is_verified, original_at, walk_in}
 use Rattle.pl_batch.specs.Folder.{named}
-use Rattle.pl_batch.specs.Names.{file_of}
-use Rattle.pl_batch.specs.declared.cause.Cause.{Cause}
-use Rattle.pl_batch.specs.declared.cause.Cause.TheVariants.{BadName, BadMark, FileTooLarge, NeededIsProgram, NotThere, Refused, TooMany}
-use Rattle.pl_batch.specs.declared.fault.BatchFault.{BatchFault}
-use Rattle.pl_batch.specs.declared.fault.BatchFault.TheVariants as faults
+use Rattle.pl_change.specs.Names.{file_of}
+use Rattle.pl_change.specs.declared.cause.Cause.{Cause}
+use Rattle.pl_change.specs.declared.cause.Cause.TheVariants.{BadName, BadMark, FileTooLarge, NeededIsProgram, NotThere, Refused, TooMany}
+use Rattle.pl_change.specs.declared.fault.BatchFault.{BatchFault}
+use Rattle.pl_change.specs.declared.fault.BatchFault.TheVariants as faults
 
 -- ---- the walk
 
@@ -39,12 +39,6 @@ of_walk (walks.NeededIsProgram n) = NeededIsProgram n
 of_walk (walks.TooMany n) = TooMany n
 of_walk (walks.NotThere n) = NotThere n
 of_walk walks.NoMemory = BadName
-
-abbrev pub of_walk_fault : WalkFault → BatchFault
-of_walk_fault (walks.NeededIsProgram n) = faults.Cause (NeededIsProgram n)
-of_walk_fault (walks.TooMany n) = faults.Cause (TooMany n)
-of_walk_fault (walks.NotThere n) = faults.Cause (NotThere n)
-of_walk_fault walks.NoMemory = faults.NoMemory
 
 -- why a name of a walk has no object, and what refuses a walk
 abbrev pub causes : Causes Cause

@@ -6,21 +6,18 @@ ghost use Rattle.pl_journal.specs.Meaning.{rows_for};
 ghost use Rattle.pl_journal.specs.Spelling.{are_rows};
 ghost use Rattle.pl_journal.specs.declared.change.Change.TheVariants.{Put};
 ghost use Rattle.pl_rewrite.specs.Taken.{AreTaken, files_in, names_of};
+ghost use Rattle.pl_change.specs.Answers.{Finds, BatchMeansAlone};
+ghost use Rattle.pl_change.specs.Folder as reading;
 ghost use Rattle.pl_batch.specs.All as spec;
-ghost use Rattle.pl_batch.specs.Answers.{Finds, BatchMeansAlone};
 ghost use Rattle.pl_batch.specs.Changes.{changes_of};
-ghost use Rattle.pl_batch.specs.Folder as reading;
 ghost use Rattle.pl_batch.specs.declared.run.Run.TheVariants as runs;
 
-use crate::changes::fitting;
-use crate::order::ascend;
-use crate::reading::{CACHE, are_large, cache_file, cache_in, take_valid};
-use crate::room::are_many;
-use crate::taking::list;
-use crate::{BatchFault, Cause, Prelinking};
+use crate::Prelinking;
+use crate::reading::{are_large, take_valid};
 use pl_base::{Rows, Text};
 use pl_cache::{Cache, is_cache, write_cache};
-use pl_cone::Asked;
+use pl_change::{BatchFault, CACHE, Cause, are_many, ascend, cache_file, cache_in, fitting, list};
+use pl_cone::{Asked, PlanningFault};
 use pl_folder::Folder;
 use pl_journal::Change;
 use pl_rewrite::{Report, Rewritten, Taken, rewrite};
@@ -88,6 +85,19 @@ fn spelled(alloc: Global, old: &[u8], rewritten: Rewritten) -> Result<AllMade, B
     Ok(AllMade { rows, report })
 }
 
+/// Why a run that has no plan is not done.
+fn unplanned(fault: PlanningFault) -> BatchFault
+    ensures { result ≡ spec.of_plan fault }
+{
+    match fault {
+        PlanningFault::NoSlot { name, span, hole } => {
+            BatchFault::Cause(Cause::NoSlot { name, span, hole })
+        }
+        PlanningFault::StampsSpent(stamp) => BatchFault::Cause(Cause::StampsSpent(stamp)),
+        PlanningFault::NoMemory => BatchFault::NoMemory,
+    }
+}
+
 /// What a run makes of files that were taken, by the bytes of the cache and what they say.
 fn made_of(
     alloc: Global,
@@ -107,8 +117,10 @@ fn made_of(
         share: asked.share,
         moment: asked.moment,
     };
-    let rewritten = rewrite(alloc, files, &run)?;
-    spelled(alloc, old, rewritten)
+    match rewrite(alloc, files, &run) {
+        Ok(rewritten) => spelled(alloc, old, rewritten),
+        Err(fault) => Err(unplanned(fault)),
+    }
 }
 
 /// What a run makes of the files of a folder with these names, ascending.

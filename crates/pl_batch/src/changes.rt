@@ -1,29 +1,17 @@
-// The rows of a command.
+//! The rows of a run.
 ghost use Rattle.std.specs.Prelude.{◌≡◌, IfOk, true};
 ghost use Rattle.pl_journal.specs.Meaning.{rows_for};
 ghost use Rattle.pl_journal.specs.Spelling.{are_rows};
-ghost use Rattle.pl_batch.specs.Answers.{Finds, BatchMeansAlone};
+ghost use Rattle.pl_change.specs.Answers.{Finds};
 ghost use Rattle.pl_batch.specs.Changes as spec;
 
+use crate::Run;
 use crate::all::all_changes;
-use crate::storing::{installed, removed};
-use crate::undoing::{all_undone, undone};
-use crate::{BatchFault, Cause, Run};
 use pl_base::Rows;
+use pl_change::{BatchFault, all_undone, fitting, installed, undone};
 use pl_folder::Folder;
-use pl_journal::{Change, are_changes};
+use pl_journal::Change;
 use std::alloc::Global;
-
-/// The rows, where a journal can have them.
-pub(crate) fn fitting(rows: Rows<Change>) -> Result<Rows<Change>, BatchFault>
-    ensures means { BatchMeansAlone (spec.fitting rows) result }
-    ensures fits { IfOk result (λ rows. are_rows (rows_for rows) ≡ true) }
-{
-    if !are_changes(rows.as_slice()) {
-        return Err(BatchFault::Cause(Cause::TooManyFiles));
-    }
-    Ok(rows)
-}
 
 fn changes_by<D: Folder>(
     alloc: Global,
@@ -60,19 +48,5 @@ pub fn changes_of<D: Folder>(
     ensures fits { IfOk result (λ rows. are_rows (rows_for rows) ≡ true) }
 {
     let rows = changes_by(alloc, folder, run)?;
-    fitting(rows)
-}
-
-/// The row of the journal of `--remove`, or the first cause: BadName, NotThere.
-pub(crate) fn removal_of<D: Folder>(
-    alloc: Global,
-    folder: &mut D,
-    name: &str,
-) -> Result<Rows<Change>, BatchFault>
-    ensures found { Finds (spec.removal_of (D.seen folder.old).files name.now) (λ rows. rows) result
-        (D.seen folder.old) (D.seen folder.new) }
-    ensures fits { IfOk result (λ rows. are_rows (rows_for rows) ≡ true) }
-{
-    let rows = removed(alloc, folder, name)?;
     fitting(rows)
 }

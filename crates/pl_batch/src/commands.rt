@@ -1,26 +1,21 @@
-//! The writing commands, over a folder that is held.
+//! The writing commands that prelink, undo or store files, over a folder that is held.
 ghost use Rattle.std.specs.Fn.{FnOnceReturnsAt};
 ghost use Rattle.std.specs.Prelude.{IfOk, Ok, OnOk};
-ghost use Rattle.pl_pie.specs.Placed.{HoldsBy};
 ghost use Rattle.pl_folder.specs.Calls.{Calls};
 ghost use Rattle.pl_journal.specs.Parts.{IsRested};
-ghost use Rattle.pl_place.specs.Policy as policy;
+ghost use Rattle.pl_change.specs.Answers.{ending};
+ghost use Rattle.pl_change.specs.Commands.{Commands, Counts, outcome};
+ghost use Rattle.pl_change.specs.Starts.{Starts};
 ghost use Rattle.pl_batch.specs.All.{Reports};
-ghost use Rattle.pl_batch.specs.Answers.{ending};
-ghost use Rattle.pl_batch.specs.Changes.{IsRun, ready_by, removal_meant, run_meant};
-ghost use Rattle.pl_batch.specs.Commands.{Commands, Counts, outcome, ready_for};
-ghost use Rattle.pl_batch.specs.Replace.{Fixes, loosening_meant};
-ghost use Rattle.pl_batch.specs.Starts.{Named, Starts};
+ghost use Rattle.pl_batch.specs.Changes.{IsRun, ready_by, run_meant};
 ghost use Rattle.pl_batch.specs.declared.run.Run.TheVariants as runs;
 
 use crate::all::all_fitting;
-use crate::changes::{changes_of, removal_of};
-use crate::fixing::{fix_changes, unfix_changes};
-use crate::starting::{start, start_for};
-use crate::{BatchFault, Prelinking, Run};
+use crate::changes::changes_of;
+use crate::{Prelinking, Run};
+use pl_change::{BatchFault, start, start_for};
 use pl_folder::Folder;
 use pl_journal::carry_out;
-use pl_place::{Holes, Placer};
 use pl_rewrite::Report;
 use pl_stage::Held;
 use std::alloc::{AllocError, Global};
@@ -76,68 +71,4 @@ pub(crate) fn prelink_held<D: Folder, F: FnOnce(&Report) -> Result<Vec<u8>, Allo
     let text = tell(&made.report)?;
     carry_out(held, alloc, made.rows.as_slice())?;
     Ok(text)
-}
-
-/// `remove`, over a folder that is held.
-pub(crate) fn remove_held<D: Folder>(
-    held: &mut Held<D>,
-    alloc: Global,
-    name: &str,
-) -> Result<(), BatchFault>
-    ensures calls { Calls (ending result) (Commands (removal_meant name.now) (outcome result))
-        (D.seen held.old.folder) (D.seen held.new.folder) }
-    ensures named { Named name.now result }
-{
-    start_for(held, alloc, name)?;
-    let rows = removal_of(alloc, &mut held.folder, name)?;
-    carry_out(held, alloc, rows.as_slice())?;
-    Ok(())
-}
-
-/// `fix_file`, over a folder that is held.
-pub(crate) fn fix_held<D: Folder, F: Fn(&Holes, u64, u64) -> Option<u64>>(
-    held: &mut Held<D>,
-    alloc: Global,
-    name: &str,
-    placer: &Placer<F>,
-) -> Result<u64, BatchFault>
-    requires may { policy.MayChoose (F.pre placer.now) }
-    requires chooses { policy.Chooses (F.post placer.now) }
-    ensures fixes { HoldsBy (F.post placer.now)
-        (λ choose. Fixes choose name.now result (D.seen held.old.folder) (D.seen held.new.folder)) }
-    ensures named { Named name.now result }
-{
-    start_for(held, alloc, name)?;
-    let made = fix_changes(alloc, &mut held.folder, name, placer)?;
-    carry_out(held, alloc, made.rows.as_slice())?;
-    Ok(made.address)
-}
-
-/// `unfix_file`, over a folder that is held.
-pub(crate) fn unfix_held<D: Folder>(
-    held: &mut Held<D>,
-    alloc: Global,
-    name: &str,
-) -> Result<(), BatchFault>
-    ensures calls { Calls (ending result) (Commands (loosening_meant name.now) (outcome result))
-        (D.seen held.old.folder) (D.seen held.new.folder) }
-    ensures named { Named name.now result }
-{
-    start_for(held, alloc, name)?;
-    let rows = unfix_changes(alloc, &mut held.folder, name)?;
-    carry_out(held, alloc, rows.as_slice())?;
-    Ok(())
-}
-
-/// `recover_for`, over a folder that is held.
-pub(crate) fn recover_held<D: Folder>(
-    held: &mut Held<D>,
-    alloc: Global,
-    name: &str,
-) -> Result<(), BatchFault>
-    ensures calls { Calls (ending result) (Commands (ready_for name.now) (outcome result))
-        (D.seen held.old.folder) (D.seen held.new.folder) }
-    ensures named { Named name.now result }
-{
-    start_for(held, alloc, name)
 }

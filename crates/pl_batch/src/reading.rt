@@ -1,70 +1,20 @@
-//! What a run that prelinks everything reads of a folder.
+//! The files of a folder that a run prelinks or verifies.
 ghost use Rattle.std.specs.Prelude.{◌≡◌, All, IfOk, filter, length, map, string_bytes};
 ghost use Rattle.pl_base.specs.Names.{IsNameLength, is_valid_name};
-ghost use Rattle.pl_cache.specs.Spelling.{cache_bytes};
 ghost use Rattle.pl_form.specs.Files.{original_in};
 ghost use Rattle.pl_rewrite.specs.Taken.{IsTaken, names_of};
-ghost use Rattle.pl_batch.specs.Answers.{Finds, BatchMeansAlone};
+ghost use Rattle.pl_change.specs.Answers.{Finds};
+ghost use Rattle.pl_change.specs.Folder.{all_files};
+ghost use Rattle.pl_change.specs.Names.{file_of};
 ghost use Rattle.pl_batch.specs.Folder as spec;
-ghost use Rattle.pl_batch.specs.Names.{file_of};
 
-use crate::taking::take;
-use crate::{BatchFault, Cause};
 use pl_base::{Rows, Text, is_valid_name};
-use pl_cache::{Cache, CacheFault, read_cache, write_cache};
+use pl_change::{BatchFault, FOLDER, take};
 use pl_elf::Range;
-use pl_folder::{Folder, FolderFault};
+use pl_folder::Folder;
 use pl_form::{Entry, File};
-use pl_io::NoMemory;
 use pl_rewrite::{Taken, take_file};
 use std::alloc::Global;
-
-/// How many bytes the originals of a folder have together at most, for a run that prelinks everything: 1 GiB.
-pub const FOLDER: usize = 1_073_741_824;
-
-/// The name of the cache.
-pub const CACHE: &str = ".prelink.cache";
-
-// ---- the cache
-
-/// The bytes of a cache without slots, whose last stamp is 0.
-fn no_cache(alloc: Global) -> Result<Vec<u8>, NoMemory>
-    ensures { IfOk result (λ bytes. bytes.items ≡ cache_bytes spec.no_cache) }
-{
-    let cache = Cache {
-        last: 0,
-        rows: Rows::new(alloc),
-    };
-    write_cache(alloc, &cache)
-}
-
-/// The bytes of the folder's cache, which is empty where there is no file.
-pub(crate) fn cache_file<D: Folder>(alloc: Global, folder: &mut D) -> Result<Vec<u8>, BatchFault>
-    ensures { Finds (spec.cache_file (D.seen folder.old).files) (λ bytes. bytes.items) result
-        (D.seen folder.old) (D.seen folder.new) }
-{
-    match folder.take(alloc, CACHE) {
-        Ok(bytes) => Ok(bytes),
-        Err(FolderFault::NotThere) => Ok(no_cache(alloc)?),
-        Err(FolderFault::TooLarge) => Err(BatchFault::Cause(Cause::BadCache)),
-        Err(FolderFault::Failed) => Err(BatchFault::DiskFailed),
-        Err(FolderFault::NoMemory) => Err(BatchFault::NoMemory),
-    }
-}
-
-/// What bytes say as a cache.
-#[tactic(auto, unfolding(crate::specs::Folder::cache_in))]
-pub(crate) fn cache_in(alloc: Global, bytes: &[u8]) -> Result<Cache, BatchFault>
-    ensures { BatchMeansAlone (spec.cache_in bytes.now) result }
-{
-    match read_cache(alloc, bytes) {
-        Ok(cache) => Ok(cache),
-        Err(CacheFault::BadCache) => Err(BatchFault::Cause(Cause::BadCache)),
-        Err(CacheFault::NoMemory) => Err(BatchFault::NoMemory),
-    }
-}
-
-// ---- the files
 
 /// The file of a name, with what it is; its original's form fault is that under a region of slots.
 pub(crate) fn take_one<D: Folder>(
@@ -92,7 +42,7 @@ pub(crate) fn take_valid<D: Folder>(
     region: Range,
 ) -> Result<Rows<Taken>, BatchFault>
     requires { All (λ name. IsNameLength (string_bytes name)) names.now }
-    ensures found { Finds (spec.all_files (D.seen folder.old).files
+    ensures found { Finds (all_files (D.seen folder.old).files
         (filter is_valid_name (map string_bytes names.now)))
         (map (λ taken. taken.bytes)) result
         (D.seen folder.old) (D.seen folder.new) }

@@ -5,12 +5,12 @@ ghost use Rattle.pl_base.specs.Names.{is_valid_name};
 ghost use Rattle.pl_rewrite.specs.Taken.{AreTaken, IsTaken, files_in, names_of};
 ghost use Rattle.pl_rewrite.specs.Verify as rewrite;
 ghost use Rattle.pl_scope.specs.Walking.{wants};
-ghost use Rattle.pl_batch.specs.Answers.{Finds, BatchStopsAlone};
+ghost use Rattle.pl_change.specs.Answers.{Finds, BatchStopsAlone};
 ghost use Rattle.pl_batch.specs.Verify as spec;
 
 use crate::reading::take_one;
-use crate::{BatchFault, Cause};
 use pl_base::{Rows, Text, is_valid_name};
+use pl_change::{BatchFault, Cause};
 use pl_elf::Range;
 use pl_folder::Folder;
 use pl_form::{Entry, File};

@@ -5,20 +5,21 @@ use Rattle.std.specs.declared.alloc.Global.{Global}
 use Rattle.pl_base.specs.Answers.{because, ◌>>=◌}
 use Rattle.pl_base.specs.Files.{Files}
 use Rattle.pl_folder.specs.Seen.{Seen}
-use Rattle.pl_rewrite.specs.declared.report.Report.{Report}
+use Rattle.pl_texts.specs.Report.{Report}
 use Rattle.pl_batch.specs.All.{all_reported}
-use Rattle.pl_batch.specs.Answers as batch
-use Rattle.pl_batch.specs.declared.cause.Cause as causes
-use Rattle.pl_batch.specs.declared.fault.BatchFault.{BatchFault}
-use Rattle.pl_batch.specs.declared.fault.BatchFault.TheVariants as batch_faults
+use Rattle.pl_change.specs.Answers as batch
+use Rattle.pl_change.specs.declared.cause.Cause as causes
+use Rattle.pl_change.specs.declared.fault.BatchFault.{BatchFault}
+use Rattle.pl_change.specs.declared.fault.BatchFault.TheVariants as batch_faults
 use Rattle.pl_batch.specs.declared.prelinking.Prelinking.{Prelinking}
-use Rattle.pl_cli.specs.declared.command.Detail.{Detail}
-use Rattle.pl_cli.specs.declared.stop.Stop.TheVariants as stops
+use Rattle.pl_texts.specs.declared.detail.Detail.{Detail}
+use Rattle.pl_texts.specs.declared.stop.Stop.TheVariants as stops
 use Rattle.pl_cli.specs.Came.{HasPreviewed}
-use Rattle.pl_cli.specs.Reports.{previewed, report_text}
-use Rattle.pl_cli.specs.Stops.{of_batch_fault}
-use Rattle.pl_cli.specs.Writes.{of_batch}
-use Rattle.pl_cli.proofs.CallLemmas.{looked_all}
+use Rattle.pl_cli.specs.Reports.{previewed}
+use Rattle.pl_texts.specs.Reports.{report_text}
+use Rattle.pl_texts.specs.Stops.{of_batch_fault}
+use Rattle.pl_texts.specs.Stops.{of_batch}
+use Rattle.pl_texts.proofs.CallLemmas.{looked_all}
 
 -- what is found, as a text or a cause
 previewed_by : (asked : Prelinking) (detail : Detail) (files : Files) (found : Result Report causes.Cause) → all_reported files asked ≡ found → previewed detail asked files ≡ (because of_batch found >>= λ report. Ok (report_text detail report))

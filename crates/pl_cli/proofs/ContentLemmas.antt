@@ -14,13 +14,13 @@ use Rattle.pl_folder.specs.declared.TheConstants.{STORED}
 use Rattle.pl_build.specs.Build.{build, Builds}
 use Rattle.pl_build.specs.declared.fault.RecipeFault.{RecipeFault}
 use Rattle.pl_build.specs.declared.fault.RecipeFault.TheVariants as recipe_faults
-use Rattle.pl_cli.specs.declared.cause.Cause.{Cause}
-use Rattle.pl_cli.specs.declared.cause.Cause.TheVariants.{InputTooLarge}
-use Rattle.pl_cli.specs.declared.command.Content.{Content}
-use Rattle.pl_cli.specs.declared.stop.Stop.{Stop}
-use Rattle.pl_cli.specs.declared.stop.Stop.TheVariants as stops
+use Rattle.pl_texts.specs.declared.cause.Cause.{Cause}
+use Rattle.pl_texts.specs.declared.cause.Cause.TheVariants.{InputTooLarge}
+use Rattle.pl_texts.specs.declared.content.Content.{Content}
+use Rattle.pl_texts.specs.declared.stop.Stop.{Stop}
+use Rattle.pl_texts.specs.declared.stop.Stop.TheVariants as stops
 use Rattle.pl_cli.specs.Came.{HasContent}
-use Rattle.pl_cli.specs.Stops.{MeansAlone, StopsAlone, of_read_fault, of_recipe_fault}
+use Rattle.pl_texts.specs.Stops.{MeansAlone, StopsAlone, of_read_fault, of_recipe_fault}
 use Rattle.pl_cli.specs.Words.{bytes_of}
 use Rattle.pl_cli.specs.Writes.{AreBytes, content, file_by, most_bytes, recipe_cause}
 

@@ -10,13 +10,13 @@ use Rattle.pl_loader.specs.Started.{Start}
 use Rattle.pl_loader.specs.declared.placed.Placed.{Placed}
 use Rattle.pl_loader.specs.declared.tls_module.TlsModule.{TlsModule}
 use Rattle.pl_words.specs.declared.command.Policy.TheVariants.{Lowest}
-use Rattle.pl_cli.specs.declared.cause.Cause.{Cause}
+use Rattle.pl_texts.specs.declared.cause.Cause.{Cause}
 use Rattle.pl_cli.specs.declared.command.Command.TheVariants.{Load}
 use Rattle.pl_words.specs.declared.status.Status.{Status}
 use Rattle.pl_cli.specs.Answer.{IsTold, answer, load_answer}
 use Rattle.pl_cli.specs.Demo.{begins_fast, demo_text, fast_loads, is_fast, lines, load, load_texts, text_of}
-use Rattle.pl_cli.specs.LoadText.{head_text, load_text, path_line}
-use Rattle.pl_cli.specs.Refusals.{refusal}
+use Rattle.pl_texts.specs.LoadText.{head_text, load_text, path_line}
+use Rattle.pl_texts.specs.Refusals.{refusal}
 
 -- ---- the first line
 

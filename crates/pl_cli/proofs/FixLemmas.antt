@@ -16,28 +16,30 @@ use Rattle.pl_journal.proofs.Meanings.{stands_self}
 use Rattle.pl_journal.proofs.RealLemmas.{on_looks}
 use Rattle.pl_journal.proofs.RecoverLemmas.{no_look}
 use Rattle.pl_words.specs.declared.command.Policy.{Policy}
-use Rattle.pl_batch.specs.Answers.{fault_ending}
-use Rattle.pl_batch.specs.Commands.{Commands, Made, stopped}
-use Rattle.pl_batch.specs.Replace.{TellsAddress, address_of, fixed_as, fixing_meant, loosened_of, loosening_meant, replacement_of}
-use Rattle.pl_batch.specs.Restored.{restored}
-use Rattle.pl_batch.specs.Starts as starts
-use Rattle.pl_batch.specs.declared.cause.Cause as batch
-use Rattle.pl_batch.specs.declared.fault.BatchFault.{BatchFault}
-use Rattle.pl_batch.specs.declared.fault.BatchFault.TheVariants as batch_faults
-use Rattle.pl_batch.proofs.RestoredLemmas.{restored_before}
-use Rattle.pl_batch.proofs.StartLemmas.{invalid_ready}
-use Rattle.pl_cli.specs.declared.cause.Cause.{Cause}
-use Rattle.pl_cli.specs.declared.cause.Cause.TheVariants as causes
+use Rattle.pl_change.specs.Answers.{fault_ending}
+use Rattle.pl_change.specs.Commands.{Commands, Made, stopped}
+use Rattle.pl_change.specs.Replace.{TellsAddress, address_of, fixed_as, fixing_meant, loosened_of, loosening_meant, replacement_of}
+use Rattle.pl_change.specs.Restored.{restored}
+use Rattle.pl_change.specs.Starts as starts
+use Rattle.pl_change.specs.declared.cause.Cause as batch
+use Rattle.pl_change.specs.declared.fault.BatchFault.{BatchFault}
+use Rattle.pl_change.specs.declared.fault.BatchFault.TheVariants as batch_faults
+use Rattle.pl_change.proofs.RestoredLemmas.{restored_before}
+use Rattle.pl_change.proofs.StartLemmas.{invalid_ready}
+use Rattle.pl_texts.specs.declared.cause.Cause.{Cause}
+use Rattle.pl_texts.specs.declared.cause.Cause.TheVariants as causes
 use Rattle.pl_cli.specs.declared.command.Command.TheVariants as commands
-use Rattle.pl_cli.specs.declared.stop.Stop.{Stop}
-use Rattle.pl_cli.specs.declared.stop.Stop.TheVariants as stops
-use Rattle.pl_cli.specs.Answer.{done, fixed_line, fixed_text, refuses, text_answer, unfixed_text, write_answer}
+use Rattle.pl_texts.specs.declared.stop.Stop.{Stop}
+use Rattle.pl_texts.specs.declared.stop.Stop.TheVariants as stops
+use Rattle.pl_cli.specs.Answer.{done, fixed_line, refuses, text_answer, write_answer}
+use Rattle.pl_texts.specs.DoneText.{fixed_text, unfixed_text}
 use Rattle.pl_cli.specs.Came.{Came, HasFixed, HasUnfixed, Named, as_is}
 use Rattle.pl_cli.specs.Load.{choice}
-use Rattle.pl_cli.specs.Stops.{of_batch_fault}
+use Rattle.pl_texts.specs.Stops.{of_batch_fault}
 use Rattle.pl_cli.specs.Words.{bytes_of}
-use Rattle.pl_cli.specs.Writes.{fixes, loosens, of_batch}
-use Rattle.pl_cli.proofs.CallLemmas.{no_calls}
+use Rattle.pl_cli.specs.Writes.{fixes, loosens}
+use Rattle.pl_texts.specs.Stops.{of_batch}
+use Rattle.pl_texts.proofs.CallLemmas.{no_calls}
 use Rattle.pl_cli.proofs.WriteLemmas.{by_name, gives_cause, gives_made, unread, writes, written_done, written_fault}
 
 -- ---- the line of `--fix`

@@ -9,18 +9,19 @@ use Rattle.pl_folder.specs.Seen.{Seen}
 use Rattle.pl_words.specs.declared.command.Policy.{Policy}
 use Rattle.pl_loader.specs.Faults as memory
 use Rattle.pl_loader.specs.declared.fault.LoadFault.{LoadFault}
-use Rattle.pl_cli.specs.declared.cause.Cause.{Cause}
-use Rattle.pl_cli.specs.declared.cause.Cause.TheVariants as causes
-use Rattle.pl_cli.specs.declared.stop.Stop.{Stop}
-use Rattle.pl_cli.specs.declared.stop.Stop.TheVariants as stops
-use Rattle.pl_cli.specs.Came.{HasGiven, HasTaken}
-use Rattle.pl_cli.specs.Files.{file_in}
+use Rattle.pl_texts.specs.declared.cause.Cause.{Cause}
+use Rattle.pl_texts.specs.declared.cause.Cause.TheVariants as causes
+use Rattle.pl_texts.specs.declared.stop.Stop.{Stop}
+use Rattle.pl_texts.specs.declared.stop.Stop.TheVariants as stops
+use Rattle.pl_cli.specs.Came.{HasGiven}
+use Rattle.pl_texts.specs.Finds.{HasTaken}
+use Rattle.pl_texts.specs.Files.{file_in}
 use Rattle.pl_weave.specs.Given.{given_from}
 use Rattle.pl_cli.specs.Load.{given_file, loading_file}
-use Rattle.pl_cli.specs.Stops.{MeansAlone, StopsAlone, items_of, of_load_fault}
-use Rattle.pl_cli.proofs.CallLemmas.{asked_all}
+use Rattle.pl_texts.specs.Stops.{MeansAlone, StopsAlone, items_of, of_load_fault}
+use Rattle.pl_texts.proofs.CallLemmas.{asked_all}
 use Rattle.pl_cli.proofs.LoadLemmas.{lacks_file}
-use Rattle.pl_cli.proofs.StopLemmas.{stops_as}
+use Rattle.pl_texts.proofs.StopLemmas.{stops_as}
 
 -- a fault of a load that is meant, or a want of memory
 pub stops_load : (meant : Result (List ℕ) LoadFault) (e : LoadFault) → MatchBool (memory.is_memory e) ⊤ (meant ≡ Err e) → StopsAlone (because causes.Load meant) (of_load_fault e)

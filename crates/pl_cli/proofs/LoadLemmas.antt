@@ -22,21 +22,21 @@ use Rattle.pl_loader.specs.declared.fault.LoadFault.{LoadFault}
 use Rattle.pl_loader.specs.declared.fault.LoadFault.TheVariants.{NotThere}
 use Rattle.pl_loader.proofs.LoadLaws.{load_ends, load_lacks, load_stops}
 use Rattle.pl_words.specs.declared.command.Policy.{Policy}
-use Rattle.pl_cli.specs.declared.cause.Cause.{Cause}
-use Rattle.pl_cli.specs.declared.cause.Cause.TheVariants as causes
-use Rattle.pl_cli.specs.declared.stop.Stop.{Stop}
-use Rattle.pl_cli.specs.declared.stop.Stop.TheVariants as stops
+use Rattle.pl_texts.specs.declared.cause.Cause.{Cause}
+use Rattle.pl_texts.specs.declared.cause.Cause.TheVariants as causes
+use Rattle.pl_texts.specs.declared.stop.Stop.{Stop}
+use Rattle.pl_texts.specs.declared.stop.Stop.TheVariants as stops
 use Rattle.pl_cli.specs.Came.{HasGiven, HasLoaded}
-use Rattle.pl_cli.specs.Files.{file_in}
+use Rattle.pl_texts.specs.Files.{file_in}
 use Rattle.pl_weave.specs.Given.{given_from}
 use Rattle.pl_cli.specs.Load.{choice, given_file, load_result, loaded_files, loaded_object, loading_file}
-use Rattle.pl_cli.specs.Looks.{stepped, takes}
-use Rattle.pl_cli.specs.Stops.{of_load_fault}
-use Rattle.pl_cli.proofs.CallLemmas.{asked_all}
-use Rattle.pl_cli.proofs.LookLemmas.{AllBut, left_from, step_lacks}
-use Rattle.pl_cli.proofs.StopLemmas.{stops_as}
-use Rattle.pl_cli.proofs.TakeLemmas.{invalid_file}
-use Rattle.pl_cli.proofs.WalkLemmas.{goes_on, not_begun, refused_name, stopped_here}
+use Rattle.pl_texts.specs.Looks.{stepped, takes}
+use Rattle.pl_texts.specs.Stops.{of_load_fault}
+use Rattle.pl_texts.proofs.CallLemmas.{asked_all}
+use Rattle.pl_texts.proofs.LookLemmas.{AllBut, left_from, step_lacks}
+use Rattle.pl_texts.proofs.StopLemmas.{stops_as}
+use Rattle.pl_texts.proofs.TakeLemmas.{invalid_file}
+use Rattle.pl_texts.proofs.WalkLemmas.{goes_on, not_begun, refused_name, stopped_here}
 
 -- ---- the step of the walk, as the load makes it
 

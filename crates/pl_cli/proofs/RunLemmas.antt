@@ -11,32 +11,34 @@ use Rattle.pl_io.specs.Seen.{Input, Output}
 use Rattle.pl_folder.specs.Calls.{Calls}
 use Rattle.pl_folder.specs.Seen.{Seen, Done, Undone, IsFolder}
 use Rattle.pl_elf.specs.declared.range.Range.{Range}
-use Rattle.pl_batch.specs.Commands.{Meaning}
+use Rattle.pl_change.specs.Commands.{Meaning}
 use Rattle.pl_batch.specs.declared.prelinking.Prelinking.{Prelinking}
 use Rattle.pl_batch.specs.declared.run.Run.TheVariants as runs
-use Rattle.pl_batch.proofs.AgainLemmas.{refused_disk, refused_files}
+use Rattle.pl_change.proofs.AgainLemmas.{refused_disk, refused_files}
 use Rattle.pl_loader.specs.Loading as loading
 use Rattle.pl_words.specs.declared.command.Policy.{Policy}
 use Rattle.pl_loader.specs.Started.{Start, started}
 use Rattle.pl_loader.specs.declared.object_file.ObjectFile.{ObjectFile}
-use Rattle.pl_cli.specs.declared.cause.Cause.{Cause}
-use Rattle.pl_cli.specs.declared.cause.Cause.TheVariants as causes
+use Rattle.pl_texts.specs.declared.cause.Cause.{Cause}
+use Rattle.pl_texts.specs.declared.cause.Cause.TheVariants as causes
 use Rattle.pl_cli.specs.declared.command.Command.{Command}
 use Rattle.pl_cli.specs.declared.command.Command.TheVariants.{Load, All, Preview, UndoAll, Undo, Verify, Store, Remove, Fix, Unfix, Print, Order, Demo, Weave}
-use Rattle.pl_cli.specs.declared.command.Detail.{Detail}
+use Rattle.pl_texts.specs.declared.detail.Detail.{Detail}
 use Rattle.pl_words.specs.declared.status.Status.{Status}
 use Rattle.pl_words.specs.declared.status.Status.TheVariants as statuses
-use Rattle.pl_cli.specs.declared.stop.Stop.{Stop}
-use Rattle.pl_cli.specs.declared.stop.Stop.TheVariants as stops
-use Rattle.pl_cli.specs.Answer.{Answer, IsTold, answer, compare_answer, compared, done, load_answer, text_answer, refuses, usage, differs_text}
-use Rattle.pl_cli.specs.Came.{Came, HasDemo, HasLoaded, HasOrdered, HasPreviewed, HasPrinted, HasVerified, Makes, as_is, HasWoven}
+use Rattle.pl_texts.specs.declared.stop.Stop.{Stop}
+use Rattle.pl_texts.specs.declared.stop.Stop.TheVariants as stops
+use Rattle.pl_cli.specs.Answer.{Answer, IsTold, answer, compare_answer, compared, done, load_answer, text_answer, refuses}
+use Rattle.pl_texts.specs.DoneText.{usage, differs_text}
+use Rattle.pl_cli.specs.Came.{Came, HasDemo, HasLoaded, HasPreviewed, HasVerified, Makes, as_is, HasWoven}
+use Rattle.pl_texts.specs.Finds.{HasOrdered, HasPrinted}
 use Rattle.pl_cli.specs.Load.{choice, loaded_files}
 use Rattle.pl_cli.specs.Outside.{Consumes, most_read, outside}
 use Rattle.pl_cli.specs.Ran.{Finishes, Ran, Refuses, Writes}
 use Rattle.pl_cli.specs.Weave.{weaves}
 use Rattle.pl_cli.specs.Words.{bytes_of, reads_input}
 use Rattle.pl_cli.specs.Writes.{WritesFolder, fixes, loosens, prelinks, removes, stores, undoes, AreBytes}
-use Rattle.pl_cli.proofs.CallLemmas.{as_calls, asked_all, looked_all, no_calls}
+use Rattle.pl_texts.proofs.CallLemmas.{as_calls, asked_all, looked_all, no_calls}
 use Rattle.pl_cli.proofs.LoadLemmas.{loaded_is}
 use Rattle.pl_cli.proofs.WriteLemmas.{unread}
 use Rattle.pl_journal.proofs.Meanings.{stands_self}

@@ -12,7 +12,7 @@ use Rattle.pl_scope.specs.declared.fault.WalkFault.TheVariants as walk_faults
 use Rattle.pl_scope.proofs.TellsLaws.{walk_tells}
 use Rattle.pl_loader.specs.Walk.{walk_fault}
 use Rattle.pl_loader.proofs.TellsLaws.{file_in_tells, load_tells, of_file_tells}
-use Rattle.pl_cli.specs.declared.cause.Cause.TheVariants as causes
+use Rattle.pl_texts.specs.declared.cause.Cause.TheVariants as causes
 use Rattle.std.specs.Prelude.{Result, Ok, Err, if◌then◌else◌}
 use Rattle.std.specs.Str.{bytes_eq}
 use Rattle.pl_folder.specs.Taken.{taken}
@@ -21,10 +21,11 @@ use Rattle.pl_folder.specs.declared.fault.FolderFault.TheVariants as folder_faul
 use Rattle.pl_cache.specs.Reading.{read}
 use Rattle.pl_elf.specs.declared.range.Range.{Range}
 use Rattle.pl_words.specs.declared.command.Policy.{Policy}
-use Rattle.pl_cli.specs.declared.print.TheConstants.{CACHE}
-use Rattle.pl_cli.specs.Print.{bad_cache, cache_in, cache_of, no_cache, print_text, printed}
-use Rattle.pl_cli.specs.declared.command.Detail.{Detail}
-use Rattle.pl_cli.specs.Files.{valid_file, of_file, file_in}
+use Rattle.pl_texts.specs.declared.printing.TheConstants.{CACHE}
+use Rattle.pl_texts.specs.Print.{bad_cache, cache_in, cache_of, printed}
+use Rattle.pl_texts.specs.CacheText.{no_cache, print_text}
+use Rattle.pl_texts.specs.declared.detail.Detail.{Detail}
+use Rattle.pl_texts.specs.Files.{valid_file, of_file, file_in}
 use Rattle.pl_cli.specs.Load.{choice, is_memory, load_result, loading_file}
 use Rattle.pl_loader.specs.Faults as memory
 use Rattle.pl_place.specs.Policy.{Choice}
@@ -32,22 +33,26 @@ use Rattle.pl_weave.specs.Given.{first_by, first_of, given_from}
 use Rattle.pl_pie.specs.Placed.{placed}
 use Rattle.pl_pie.specs.declared.placing.Placing.{Placing}
 use Rattle.pl_pie.specs.declared.placing.Placing.TheVariants as placings
-use Rattle.pl_cli.specs.Order.{object_in, order_text, ordered, original, refused_file, walked}
-use Rattle.pl_cli.specs.declared.command.Content.{Content}
-use Rattle.pl_cli.specs.declared.command.Content.TheVariants.{File, Recipe}
-use Rattle.pl_cli.specs.Reports.{previewed, report_text, reported}
+use Rattle.pl_texts.specs.Order.{object_in, order_text, ordered, original, refused_file, walked}
+use Rattle.pl_texts.specs.declared.content.Content.{Content}
+use Rattle.pl_texts.specs.declared.content.Content.TheVariants.{File, Recipe}
+use Rattle.pl_cli.specs.Reports.{previewed, reported}
+use Rattle.pl_texts.specs.Reports.{report_text}
 use Rattle.pl_cli.specs.Verified.{verifies}
-use Rattle.pl_cli.specs.Writes.{content, file_by, of_batch, prelinks, recipe_cause, removes, stores, undoes, fixes, loosens}
-use Rattle.pl_cli.specs.Answer.{fixed_line, fixed_text}
-use Rattle.pl_batch.specs.Replace.{address_of, fixing_meant, loosening_meant}
+use Rattle.pl_cli.specs.Writes.{content, file_by, prelinks, recipe_cause, removes, stores, undoes, fixes, loosens}
+use Rattle.pl_texts.specs.Stops.{of_batch}
+use Rattle.pl_cli.specs.Answer.{fixed_line}
+use Rattle.pl_texts.specs.DoneText.{fixed_text}
+use Rattle.pl_change.specs.Replace.{address_of, fixing_meant, loosening_meant}
 use Rattle.pl_journal.specs.declared.change.Change.{Change}
 use Rattle.pl_batch.specs.All.{all_reported}
 use Rattle.pl_batch.specs.Verify.{verified}
-use Rattle.pl_batch.specs.Changes.{changes_of, removal_meant, run_meant}
-use Rattle.pl_batch.specs.Commands.{ready_for}
-use Rattle.pl_batch.specs.declared.cause.Cause as batch
-use Rattle.pl_batch.specs.declared.cause.Cause.TheVariants as batch_causes
-use Rattle.pl_batch.specs.Copied.{copied}
+use Rattle.pl_batch.specs.Changes.{changes_of, run_meant}
+use Rattle.pl_change.specs.Changes.{removal_meant}
+use Rattle.pl_change.specs.Commands.{ready_for}
+use Rattle.pl_change.specs.declared.cause.Cause as batch
+use Rattle.pl_change.specs.declared.cause.Cause.TheVariants as batch_causes
+use Rattle.pl_change.specs.Copied.{copied}
 use Rattle.pl_batch.specs.declared.prelinking.Prelinking.{Prelinking}
 use Rattle.pl_script.specs.Script.{script}
 use Rattle.pl_script.specs.declared.fault.ScriptFault.{ScriptFault}

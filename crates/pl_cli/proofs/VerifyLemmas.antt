@@ -6,17 +6,17 @@ use Rattle.pl_base.specs.Answers.{because, unless, ◌>>=◌}
 use Rattle.pl_base.specs.Files.{Files}
 use Rattle.pl_base.specs.Names.{is_valid_name}
 use Rattle.pl_folder.specs.Seen.{Seen}
-use Rattle.pl_batch.specs.Answers as batch
+use Rattle.pl_change.specs.Answers as batch
 use Rattle.pl_batch.specs.Folder.{named}
 use Rattle.pl_batch.specs.Verify.{original_if_verified, verified, walked}
-use Rattle.pl_batch.specs.declared.cause.Cause as causes
-use Rattle.pl_batch.specs.declared.cause.Cause.TheVariants.{BadName}
-use Rattle.pl_batch.specs.declared.fault.BatchFault.{BatchFault}
-use Rattle.pl_batch.specs.declared.fault.BatchFault.TheVariants as batch_faults
+use Rattle.pl_change.specs.declared.cause.Cause as causes
+use Rattle.pl_change.specs.declared.cause.Cause.TheVariants.{BadName}
+use Rattle.pl_change.specs.declared.fault.BatchFault.{BatchFault}
+use Rattle.pl_change.specs.declared.fault.BatchFault.TheVariants as batch_faults
 use Rattle.pl_cli.specs.Came.{HasVerified}
-use Rattle.pl_cli.specs.Stops.{of_batch_fault}
+use Rattle.pl_texts.specs.Stops.{of_batch_fault}
 use Rattle.pl_cli.specs.Verified.{verifies}
-use Rattle.pl_cli.specs.Writes.{of_batch}
+use Rattle.pl_texts.specs.Stops.{of_batch}
 
 abbrev pub Verifying : Type 0
 Verifying = Result (Option (Vec ℕ Global)) BatchFault

@@ -15,10 +15,10 @@ use Rattle.pl_base.specs.Each.{each, with_front}
 use Rattle.pl_base.specs.Files.{Files, file_entry, files_of}
 use Rattle.pl_base.proofs.EachLaws.{each_stops}
 use Rattle.pl_base.proofs.FilesLaws.{same, same_name}
-use Rattle.pl_batch.specs.Answers as batch
-use Rattle.pl_batch.specs.Copied.{copied}
-use Rattle.pl_batch.specs.declared.fault.BatchFault.{BatchFault}
-use Rattle.pl_batch.specs.declared.fault.BatchFault.TheVariants as batch_faults
+use Rattle.pl_change.specs.Answers as batch
+use Rattle.pl_change.specs.Copied.{copied}
+use Rattle.pl_change.specs.declared.fault.BatchFault.{BatchFault}
+use Rattle.pl_change.specs.declared.fault.BatchFault.TheVariants as batch_faults
 use Rattle.pl_batch.specs.Changes.{IsRun}
 use Rattle.pl_batch.specs.declared.run.Run.{Run}
 use Rattle.pl_folder.specs.Calls.{Calls}
@@ -42,16 +42,18 @@ use Rattle.pl_weave.specs.Running.{AreRuns, plain}
 use Rattle.pl_weave.specs.Runs.{progress}
 use Rattle.pl_weave.specs.Weaving.{Weaving}
 use Rattle.pl_weave.specs.declared.progress.Progress.{Progress}
-use Rattle.pl_cli.specs.declared.cause.Cause.{Cause}
-use Rattle.pl_cli.specs.declared.cause.Cause.TheVariants.{InputTooLarge}
-use Rattle.pl_cli.specs.declared.stop.Stop.{Stop}
-use Rattle.pl_cli.specs.declared.stop.Stop.TheVariants as stops
+use Rattle.pl_texts.specs.declared.cause.Cause.{Cause}
+use Rattle.pl_texts.specs.declared.cause.Cause.TheVariants.{InputTooLarge}
+use Rattle.pl_texts.specs.declared.stop.Stop.{Stop}
+use Rattle.pl_texts.specs.declared.stop.Stop.TheVariants as stops
 use Rattle.pl_cli.specs.Came.{HasScript, HasWoven}
-use Rattle.pl_cli.specs.Stops.{MeansAlone, StopsAlone, items_of, of_batch_fault, of_read_fault, of_script_fault}
-use Rattle.pl_cli.specs.Weave.{end_line, loader_line, loader_text, loaders_text, of_script, run_line, run_of, runs_of, runs_text, script_in, start_file, weave_text, weaves, weaves_by, woven_text}
+use Rattle.pl_texts.specs.Stops.{MeansAlone, StopsAlone, items_of, of_batch_fault, of_read_fault, of_script_fault}
+use Rattle.pl_cli.specs.Weave.{loader_text, loaders_text, of_script, run_line, run_of, runs_of, runs_text, script_in, start_file, weave_text, weaves, weaves_by, woven_text}
+use Rattle.pl_texts.specs.WeaveText.{end_line, loader_line}
 use Rattle.pl_cli.specs.Words.{bytes_of}
-use Rattle.pl_cli.specs.Writes.{AreBytes, of_batch}
-use Rattle.pl_cli.proofs.CallLemmas.{as_calls, looked_all, no_calls}
+use Rattle.pl_cli.specs.Writes.{AreBytes}
+use Rattle.pl_texts.specs.Stops.{of_batch}
+use Rattle.pl_texts.proofs.CallLemmas.{as_calls, looked_all, no_calls}
 
 -- ---- the script
 

@@ -1,10 +1,9 @@
 -- What is added to the text of a weave.
-use Rattle.std.proofs.Common.{◌≡◌, ◌∙◌, ◌<◌, ◌≤◌, ◌+◌, ◌++◌, ◌∷◌, [], ℕ, List, length, take, zero, suc, Option, Some, None, refl, sym, append_assoc, ap, subst, arith, true, false}
-use Rattle.std.specs.Prelude.{Result, Ok, Err, slice_get, MatchBool, ⊤}
+use Rattle.std.proofs.Common.{◌≡◌, ◌∙◌, ◌<◌, ◌+◌, ◌++◌, ◌∷◌, [], ℕ, List, length, take, zero, suc, Some, None, refl, sym, append_assoc, ap, subst, arith, false}
+use Rattle.std.specs.Prelude.{Result, Err, slice_get, MatchBool, ⊤}
 use Rattle.std.proofs.lemmas.List.{length-take-le, take_more}
 use Rattle.std.proofs.lemmas.Option.{get_or_from_slice_get}
 use Rattle.pl_base.specs.Answers.{Answers, because}
-use Rattle.pl_base.specs.Streams.{got_after}
 use Rattle.pl_loader.specs.Faults.{is_memory}
 use Rattle.pl_loader.specs.Started.{IsStart, Start, Starts}
 use Rattle.pl_loader.specs.declared.fault.LoadFault.{LoadFault}
@@ -13,17 +12,14 @@ use Rattle.pl_place.specs.Policy.{Choice}
 use Rattle.pl_weave.specs.Opening.{Opened, ended, wanted}
 use Rattle.pl_weave.specs.Running.{HavePolicy}
 use Rattle.pl_weave.specs.declared.progress.Progress.{Progress}
-use Rattle.pl_cli.specs.LoadText.{load_text, start_of}
-use Rattle.pl_cli.specs.Refusals.{refusal}
-use Rattle.pl_cli.specs.Weave.{loader_line, loader_text, loaders_text, run_line, runs_text, start_text, state_by, wants_line}
-use Rattle.pl_cli.specs.declared.cause.Cause.TheVariants as causes
+use Rattle.pl_texts.specs.LoadText.{load_text, start_of}
+use Rattle.pl_texts.specs.Refusals.{refusal}
+use Rattle.pl_cli.specs.Weave.{loader_text, loaders_text, run_line, runs_text, state_by}
+use Rattle.pl_texts.specs.WeaveText.{loader_line, start_text, wants_line}
+use Rattle.pl_texts.specs.declared.cause.Cause.TheVariants as causes
 use Rattle.pl_cli.proofs.WeaveLemmas.{loaders_push, runs_push}
 
 -- ---- one loader
-
--- a sink that keeps all has got all
-pub kept_all : (before after text : List ℕ) → ◌≡◌ {A = Option (List ℕ)} (Some after) (got_after (Some before) text) → after ≡ before ++ text
-kept_all before after text e = cc
 
 same_start : (s : Started) (whole : Start) → IsStart s whole → start_of s ≡ whole
 same_start s whole is = λ i. record {

@@ -2,7 +2,7 @@
 use Rattle.std.proofs.Common.{◌≡◌, ℕ, ◌+◌, List, [], length, Bool, true, false, Option, Some, None, refl, sym, ap, subst, ◌∙◌, inl, arith}
 use Rattle.std.specs.Prelude.{Result, Ok, Err, Vec, is_some}
 use Rattle.std.specs.declared.alloc.Global.{Global}
-use Rattle.pl_rewrite.specs.declared.report.Report.{Report}
+use Rattle.pl_texts.specs.Report.{Report}
 use Rattle.std.specs.FinMap.{get}
 use Rattle.std.proofs.lemmas.Bool.{true≢false}
 use Rattle.pl_base.specs.Answers.{because, ◌>>=◌}
@@ -13,39 +13,44 @@ use Rattle.pl_io.specs.Seen.{Input}
 use Rattle.pl_folder.specs.Calls.{Calls}
 use Rattle.pl_folder.specs.Seen.{Seen, Done, Broken, Undone, IsFolder}
 use Rattle.pl_journal.specs.declared.change.Change.{Change}
-use Rattle.pl_batch.specs.Answers.{fault_ending}
-use Rattle.pl_batch.specs.Changes.{changes_of, removal_meant, removal_of, run_meant}
+use Rattle.pl_change.specs.Answers.{fault_ending}
+use Rattle.pl_batch.specs.Changes.{changes_of, run_meant}
+use Rattle.pl_change.specs.Changes.{removal_meant, removal_of}
 use Rattle.pl_journal.proofs.Meanings.{stands_self}
 use Rattle.pl_journal.proofs.RealLemmas.{on_looks}
 use Rattle.pl_journal.proofs.RecoverLemmas.{no_look}
-use Rattle.pl_batch.specs.Commands.{Commands, CommandsFiles, Counts, Failed, Lacked, Made, Meaning, Refused, ready_for, stopped}
-use Rattle.pl_batch.specs.Restored.{restored}
-use Rattle.pl_batch.specs.Starts as starts
+use Rattle.pl_change.specs.Commands.{Commands, CommandsFiles, Counts, Failed, Lacked, Made, Meaning, Refused, ready_for, stopped}
+use Rattle.pl_change.specs.Restored.{restored}
+use Rattle.pl_change.specs.Starts as starts
 use Rattle.pl_batch.specs.All.{Reports, all_reported}
 use Rattle.pl_batch.specs.declared.prelinking.Prelinking.{Prelinking}
-use Rattle.pl_batch.specs.declared.cause.Cause as batch
-use Rattle.pl_batch.specs.declared.fault.BatchFault.{BatchFault}
-use Rattle.pl_batch.specs.declared.fault.BatchFault.TheVariants as batch_faults
+use Rattle.pl_change.specs.declared.cause.Cause as batch
+use Rattle.pl_change.specs.declared.fault.BatchFault.{BatchFault}
+use Rattle.pl_change.specs.declared.fault.BatchFault.TheVariants as batch_faults
 use Rattle.pl_batch.specs.declared.run.Run.{Run}
 use Rattle.pl_batch.specs.declared.run.Run.TheVariants as runs
-use Rattle.pl_batch.proofs.AgainLemmas.{commands_on, lacked_after, meant_by, recaused, refused_after, stops_first}
-use Rattle.pl_batch.proofs.RestoredLemmas.{restored_before}
-use Rattle.pl_batch.proofs.StartLemmas.{invalid_ready}
-use Rattle.pl_cli.specs.declared.cause.Cause.{Cause}
-use Rattle.pl_cli.specs.declared.cause.Cause.TheVariants as causes
+use Rattle.pl_change.proofs.AgainLemmas.{commands_on, lacked_after, meant_by, recaused, refused_after, stops_first}
+use Rattle.pl_change.proofs.RestoredLemmas.{restored_before}
+use Rattle.pl_change.proofs.StartLemmas.{invalid_ready}
+use Rattle.pl_texts.specs.declared.cause.Cause.{Cause}
+use Rattle.pl_texts.specs.declared.cause.Cause.TheVariants as causes
 use Rattle.pl_cli.specs.declared.command.Command.TheVariants as commands
-use Rattle.pl_cli.specs.declared.command.Content.{Content}
-use Rattle.pl_cli.specs.declared.command.Detail.{Detail}
-use Rattle.pl_cli.specs.declared.stop.Stop.{Stop}
-use Rattle.pl_cli.specs.declared.stop.Stop.TheVariants as stops
-use Rattle.pl_cli.specs.Answer.{IsTold, done, refuses, removed_text, stored_text, text_answer, undone_text, write_answer}
+use Rattle.pl_texts.specs.declared.content.Content.{Content}
+use Rattle.pl_texts.specs.declared.detail.Detail.{Detail}
+use Rattle.pl_texts.specs.declared.stop.Stop.{Stop}
+use Rattle.pl_texts.specs.declared.stop.Stop.TheVariants as stops
+use Rattle.pl_cli.specs.Answer.{IsTold, done, refuses, text_answer, write_answer}
+use Rattle.pl_texts.specs.DoneText.{removed_text, stored_text, undone_text}
 use Rattle.pl_cli.specs.Came.{Came, HasContent, HasPrelinked, HasRemoved, HasStored, HasUndone, as_is}
-use Rattle.pl_cli.specs.Outside.{Consumes, ending_of}
-use Rattle.pl_cli.specs.Reports.{previewed, report_text, reported}
-use Rattle.pl_cli.specs.Stops.{of_batch_fault, status_of, stop_status}
+use Rattle.pl_cli.specs.Outside.{Consumes}
+use Rattle.pl_texts.specs.Endings.{ending_of}
+use Rattle.pl_cli.specs.Reports.{previewed, reported}
+use Rattle.pl_texts.specs.Reports.{report_text}
+use Rattle.pl_texts.specs.Stops.{of_batch_fault, status_of, stop_status}
 use Rattle.pl_cli.specs.Words.{bytes_of}
-use Rattle.pl_cli.specs.Writes.{AreBytes, WritesFolder, Written, content, most_bytes, of_batch, prelinks, removes, stores, undoes}
-use Rattle.pl_cli.proofs.CallLemmas.{as_calls, no_calls}
+use Rattle.pl_cli.specs.Writes.{AreBytes, WritesFolder, Written, content, most_bytes, prelinks, removes, stores, undoes}
+use Rattle.pl_texts.specs.Stops.{of_batch}
+use Rattle.pl_texts.proofs.CallLemmas.{as_calls, no_calls}
 
 -- ---- a fault of pl_batch as a stop
 

@@ -1,61 +1,31 @@
 -- What a run answers to what its words ask for, for the files of its folder and the bytes of its input.
-use Rattle.std.specs.Prelude.{◌≡◌, ℕ, Bool, true, List, [], ◌∷◌, codes, length, Option, Some, None, Result, Ok, Err}
-use Rattle.std.specs.Fmt.{decimal}
+use Rattle.std.specs.Prelude.{◌≡◌, ℕ, Bool, true, List, length, Option, Some, None, Result, Ok, Err}
 use Rattle.pl_base.specs.Answers.{◌>>=◌, because}
-use Rattle.pl_base.specs.Digits.{hex16, line_text}
 use Rattle.pl_base.specs.Files.{Files}
 use Rattle.pl_journal.specs.declared.change.Change.{Change}
 use Rattle.pl_loader.specs.Started.{Start}
-use Rattle.pl_batch.specs.Replace.{address_of}
-use Rattle.pl_batch.specs.Restored.{restored}
+use Rattle.pl_change.specs.Replace.{address_of}
+use Rattle.pl_change.specs.Restored.{restored}
 use Rattle.pl_batch.specs.declared.run.Run.TheVariants as runs
 use Rattle.pl_words.specs.declared.status.Status.{Status}
 use Rattle.pl_words.specs.declared.status.Status.TheVariants as statuses
-use Rattle.pl_cli.specs.declared.cause.Cause.{Cause}
+use Rattle.pl_texts.specs.declared.cause.Cause.{Cause}
 use Rattle.pl_cli.specs.declared.command.Command.{Command}
 use Rattle.pl_cli.specs.declared.command.Command.TheVariants.{Load, All, Preview, UndoAll, Undo, Verify, Store, Remove, Fix, Unfix, Print, Order, Demo, Weave}
-use Rattle.pl_cli.specs.declared.command.Content.{Content}
-use Rattle.pl_cli.specs.declared.command.Content.TheVariants.{File, Recipe}
 use Rattle.pl_cli.specs.Demo.{demo_text}
 use Rattle.pl_cli.specs.Load.{load_result, choice}
-use Rattle.pl_cli.specs.LoadText.{load_text}
-use Rattle.pl_cli.specs.Order.{ordered}
-use Rattle.pl_cli.specs.Print.{printed}
-use Rattle.pl_cli.specs.Refusals.{refusal}
+use Rattle.pl_texts.specs.LoadText.{load_text}
+use Rattle.pl_texts.specs.DoneText.{undone_text, stored_text, removed_text, fixed_text, unfixed_text, usage, differs_text}
+use Rattle.pl_texts.specs.Order.{ordered}
+use Rattle.pl_texts.specs.Print.{printed}
+use Rattle.pl_texts.specs.Refusals.{refusal}
 use Rattle.pl_cli.specs.Reports.{previewed, reported}
 use Rattle.pl_cli.specs.Verified.{verifies}
 use Rattle.pl_cli.specs.Weave.{weaves}
 use Rattle.pl_cli.specs.Words.{reads_input, rests_on_files}
-use Rattle.pl_cli.specs.Writes.{fixes, loosens, of_batch, removes, stores, undoes}
+use Rattle.pl_cli.specs.Writes.{fixes, loosens, removes, stores, undoes}
+use Rattle.pl_texts.specs.Stops.{of_batch}
 use Rattle.pl_words.specs.declared.command.Policy.{Policy}
-
--- ---- texts
-
--- how many files were prelinked
-unfoldable pub undone_text : ℕ → List ℕ
-undone_text count = line_text (codes "undone " ∷ decimal count ∷ [])
-
-abbrev pub stored_word : Content → List ℕ
-stored_word File = codes "installed "
-stored_word Recipe = codes "made "
-
-unfoldable pub stored_text : Content → List ℕ → List ℕ
-stored_text kind name = line_text (stored_word kind ∷ name ∷ [])
-
-unfoldable pub removed_text : List ℕ → List ℕ
-removed_text name = line_text (codes "removed " ∷ name ∷ [])
-
-unfoldable pub fixed_text : List ℕ → ℕ → List ℕ
-fixed_text name address = line_text (codes "fixed " ∷ name ∷ codes " " ∷ hex16 address ∷ [])
-
-unfoldable pub unfixed_text : List ℕ → List ℕ
-unfixed_text name = line_text (codes "unfixed " ∷ name ∷ [])
-
-abbrev pub usage : List ℕ
-usage = line_text (codes "usage: prelink MODE [OPTIONS] [NAME..]" ∷ [])
-
-abbrev pub differs_text : List ℕ
-differs_text = line_text (codes "differs" ∷ [])
 
 -- ---- answers
 

@@ -1,5 +1,5 @@
 -- What a command came to: what it gives to be written, or why it stopped, and what it makes of the folder and of the input.
-use Rattle.std.specs.Prelude.{◌≡◌, ℕ, Bool, true, false, List, Option, Some, None, is_some, Result, Ok, Err, IfOk, ⊤, Vec, count_by, option_map, [], ◌∷◌}
+use Rattle.std.specs.Prelude.{◌≡◌, ℕ, true, false, List, Option, Some, None, is_some, Result, Ok, Err, IfOk, ⊤, Vec, count_by, option_map, [], ◌∷◌}
 use Rattle.std.specs.declared.alloc.Global.{Global}
 use Rattle.pl_base.specs.Files.{Files}
 use Rattle.pl_base.specs.Names.{is_valid_name}
@@ -14,31 +14,30 @@ use Rattle.pl_place.specs.Policy.{Answering, Choice, Follows}
 use Rattle.pl_script.specs.declared.TheConstants.{SCRIPT}
 use Rattle.pl_script.specs.declared.script.Script.{Script}
 use Rattle.pl_journal.specs.Parts.{Looking}
-use Rattle.pl_batch.specs.Commands.{Counts}
-use Rattle.pl_batch.specs.Restored.{restored}
+use Rattle.pl_change.specs.Commands.{Counts}
+use Rattle.pl_change.specs.Restored.{restored}
 use Rattle.pl_batch.specs.declared.prelinking.Prelinking.{Prelinking}
 use Rattle.pl_batch.specs.declared.run.Run.{Run}
 use Rattle.pl_batch.specs.declared.run.Run.TheVariants as runs
-use Rattle.pl_cli.specs.declared.cause.Cause.{Cause}
-use Rattle.pl_cli.specs.declared.cause.Cause.TheVariants.{BadName}
+use Rattle.pl_texts.specs.declared.cause.Cause.{Cause}
+use Rattle.pl_texts.specs.declared.cause.Cause.TheVariants.{BadName}
 use Rattle.pl_cli.specs.declared.command.Command.{Command}
 use Rattle.pl_cli.specs.declared.command.Command.TheVariants.{Load, All, Preview, UndoAll, Undo, Verify, Store, Remove, Fix, Unfix, Print, Order, Demo, Weave}
-use Rattle.pl_cli.specs.declared.command.Content.{Content}
-use Rattle.pl_cli.specs.declared.command.Detail.{Detail}
-use Rattle.pl_cli.specs.declared.named_object.NamedObject.{NamedObject}
+use Rattle.pl_texts.specs.declared.content.Content.{Content}
+use Rattle.pl_texts.specs.declared.detail.Detail.{Detail}
 use Rattle.pl_words.specs.declared.status.Status.{Status}
-use Rattle.pl_cli.specs.declared.stop.Stop.{Stop}
-use Rattle.pl_cli.specs.declared.stop.Stop.TheVariants as stops
-use Rattle.pl_cli.specs.Answer.{Answer, IsTold, answer, done, refuses, removed_text, stored_text, fixed_line, fixed_text, unfixed_text}
+use Rattle.pl_texts.specs.declared.stop.Stop.{Stop}
+use Rattle.pl_texts.specs.declared.stop.Stop.TheVariants as stops
+use Rattle.pl_cli.specs.Answer.{Answer, IsTold, answer, done, refuses, fixed_line}
+use Rattle.pl_texts.specs.DoneText.{removed_text, stored_text, fixed_text, unfixed_text}
 use Rattle.pl_cli.specs.Demo.{demo_text}
-use Rattle.pl_cli.specs.Files.{file_in}
-use Rattle.pl_cli.specs.Looks.{takes}
+use Rattle.pl_texts.specs.Looks.{takes}
 use Rattle.pl_cli.specs.Load.{loaded_files, loaded_object, loading_file, start_by}
-use Rattle.pl_cli.specs.Order.{members_of, object_in, ordered, walked}
-use Rattle.pl_cli.specs.Print.{printed}
+use Rattle.pl_texts.specs.Order.{object_in}
 use Rattle.pl_cli.specs.Reports.{previewed}
-use Rattle.pl_cli.specs.Outside.{Consumes, ending_of, is_read_fault, may_end, most_read}
-use Rattle.pl_cli.specs.Stops.{Means, StopsAlone, status_of}
+use Rattle.pl_cli.specs.Outside.{Consumes, may_end, most_read}
+use Rattle.pl_texts.specs.Endings.{ending_of, is_read_fault}
+use Rattle.pl_texts.specs.Stops.{Means, StopsAlone, status_of}
 use Rattle.pl_cli.specs.Verified.{verifies}
 use Rattle.pl_cli.specs.Weave.{script_in, weaves}
 use Rattle.pl_cli.specs.Words.{bytes_of, reads_input}
@@ -66,25 +65,11 @@ Makes (Some (Demo number)) files input status = Asks 0
 
 -- ---- what is found in the folder
 
--- A value, seen by a view, or a cause is what is meant, where the folder is asked and tells its files; its calls have this effect; and it fails only where it is asked.
-pub record Finds {X Y : Type 0} (asks : Bool) (effect : Effect) (meant : Result X Cause) (view : Y → X) (result : Result Y Stop) (old new : Seen) : Type 0 where
-  pub means : Means (asks ≡ true → old.tells ≡ true) meant view result
-  pub reads : is_read_fault (status_of result) ≡ false
-  pub fails : is_broken (ending_of (status_of result)) ≡ true → asks ≡ true
-  pub calls : Calls (ending_of (status_of result)) effect old new
-
--- the file of a name, or the object that it is. Only a valid name has one
-abbrev pub HasTaken : List ℕ → Result (Vec ℕ Global) Stop → Seen → Seen → Type 0
-HasTaken name result old new = Finds (is_valid_name name) (Asks (count_by is_valid_name (name ∷ []))) (file_in old.files name) (λ bytes. bytes.items) result old new
-
--- the same of a name of the walk of a name that is loaded
+-- the file of a name of the walk of a name that is loaded
 abbrev pub HasGiven : Policy → List ℕ → List ℕ → Result (Vec ℕ Global) Stop → Seen → Seen → Type 0
 HasGiven policy name n result old new = Finds (is_valid_name n) (Asks (count_by is_valid_name (n ∷ []))) (loading_file policy old.files name n) (λ bytes. bytes.items) result old new
 
-abbrev pub HasObject : List ℕ → Result NamedObject Stop → Seen → Seen → Type 0
-HasObject name result old new = Finds (is_valid_name name) (Asks (count_by is_valid_name (name ∷ []))) (object_in old.files name) (λ m. m.object) result old new
-
--- the files of a load, or the objects of a walk
+-- the files of a load
 abbrev pub HasLoaded : {F : Type 0} → Policy → List ℕ → Result (loading.Load F) Stop → Seen → Seen → Type 0
 HasLoaded policy name result old new = Finds (is_valid_name name) (Asks (takes (loaded_object policy old.files name) name)) (loaded_files policy old.files name) (λ l. l.walk.files) result old new
 
@@ -95,16 +80,6 @@ IsStarted post l s = (choose : Choice) → Follows post choose → Starts s (sta
 -- the load has no start for this cause, whichever function its policy follows, or memory lacked
 abbrev pub IsNotStarted : {F : Type 0} → Answering → loading.Load F → Stop → Type 0
 IsNotStarted post l stop = (choose : Choice) → Follows post choose → StopsAlone (start_by choose l) stop
-
-abbrev pub HasWalked : List ℕ → Result (Vec NamedObject Global) Stop → Seen → Seen → Type 0
-HasWalked name result old new = Finds (is_valid_name name) (Asks (takes (object_in old.files) name)) (walked old.files name) (λ members. members_of members.items) result old new
-
--- the text of an order, or of the cache
-abbrev pub HasOrdered : List ℕ → Detail → Result (Vec ℕ Global) Stop → Seen → Seen → Type 0
-HasOrdered name detail result old new = Finds (is_valid_name name) (Asks (takes (object_in old.files) name)) (ordered detail old.files name) (λ text. text.items) result old new
-
-abbrev pub HasPrinted : Result (Vec ℕ Global) Stop → Seen → Seen → Type 0
-HasPrinted result old new = Finds true (Asks 1) (printed old.files) (λ text. text.items) result old new
 
 -- the text of what a run over all files would do. Its calls only read
 abbrev pub HasPreviewed : Prelinking → Detail → Result (Vec ℕ Global) Stop → Seen → Seen → Type 0

@@ -1,19 +1,17 @@
 -- What `--demo` prints: what the set of a number has, prelinked in a folder of its own, and what the loads of its programs come to.
-use Rattle.std.specs.Prelude.{ℕ, Bool, false, List, [], ◌∷◌, ◌++◌, codes, count_by, nat_eq, None, Result, Ok, Err}
-use Rattle.std.specs.Fmt.{decimal}
+use Rattle.std.specs.Prelude.{ℕ, Bool, false, List, ◌++◌, codes, count_by, nat_eq, None, Result, Ok, Err}
 use Rattle.std.specs.List.{flat_map, starts_with}
-use Rattle.hex.specs.Hex.{encode_lower}
 use Rattle.sha2.specs.Sha256.{sha256}
-use Rattle.pl_base.specs.Digits.{line_text}
 use Rattle.pl_base.specs.Files.{Files}
 use Rattle.pl_demo.specs.Demo as demo
 use Rattle.pl_demo.specs.declared.counting.Counts.{Counts}
 use Rattle.pl_loader.specs.Started.{Start}
 use Rattle.pl_words.specs.declared.command.Policy.TheVariants.{Lowest}
 use Rattle.pl_cli.specs.Load.{load_result}
-use Rattle.pl_cli.specs.LoadText.{load_text}
-use Rattle.pl_cli.specs.Refusals.{refusal}
-use Rattle.pl_cli.specs.declared.cause.Cause.{Cause}
+use Rattle.pl_texts.specs.LoadText.{load_text}
+use Rattle.pl_texts.specs.DemoText.{count_line, digest_line}
+use Rattle.pl_texts.specs.Refusals.{refusal}
+use Rattle.pl_texts.specs.declared.cause.Cause.{Cause}
 
 -- ---- loads
 
@@ -40,13 +38,6 @@ unfoldable pub fast_loads : Files → List (List ℕ) → ℕ
 fast_loads files names = count_by (λ name. is_fast (load files name)) names
 
 -- ---- lines
-
-unfoldable pub count_line : List ℕ → ℕ → List ℕ
-count_line word count = line_text (word ∷ codes " " ∷ decimal count ∷ [])
-
--- two hexadecimal digits for each byte
-unfoldable pub digest_line : List ℕ → List ℕ
-digest_line digest = line_text (codes "digest " ∷ encode_lower digest ∷ [])
 
 -- the five lines; the digest is the SHA-256 of the texts
 unfoldable pub lines : ℕ → Counts → ℕ → List ℕ → List ℕ

@@ -3,7 +3,7 @@ use Rattle.std.specs.Prelude.{◌≡◌, ◌+◌, ℕ, Bool, true, false, not, O
 use Rattle.pl_base.specs.Counts.{Counted}
 use Rattle.pl_io.specs.Reads.{TookAtMost}
 use Rattle.pl_io.specs.Seen.{Input, Output}
-use Rattle.pl_folder.specs.Seen.{Seen, Ending, Done, Broken, Undone}
+use Rattle.pl_folder.specs.Seen.{Seen, Done}
 use Rattle.pl_cli.specs.declared.command.Command.{Command}
 use Rattle.pl_cli.specs.declared.command.Command.TheVariants.{Load, All, Preview, UndoAll, Undo, Verify, Store, Remove, Fix, Unfix, Print, Order, Demo, Weave}
 use Rattle.pl_words.specs.declared.status.Status.{Status}
@@ -21,16 +21,6 @@ abbrev pub outside : Seen → Input → Output → Outside
 outside folder input output = record { folder = folder; input = input; output = output }
 
 -- ---- statuses
-
-abbrev pub is_read_fault : Status → Bool
-is_read_fault statuses.Done = false
-is_read_fault statuses.Differs = false
-is_read_fault statuses.Usage = false
-is_read_fault statuses.Refused = false
-is_read_fault statuses.ReadFault = true
-is_read_fault statuses.WriteFault = false
-is_read_fault statuses.DiskFault = false
-is_read_fault statuses.NoMemory = false
 
 abbrev pub is_write_fault : Status → Bool
 is_write_fault statuses.Done = false
@@ -57,17 +47,6 @@ may_end asked statuses.ReadFault = reads_input asked
 may_end asked statuses.WriteFault = true
 may_end asked statuses.DiskFault = asks_folder asked
 may_end asked statuses.NoMemory = true
-
--- how a run ended for the folder: it failed, or memory lacked, or neither
-abbrev pub ending_of : Status → Ending
-ending_of statuses.Done = Done
-ending_of statuses.Differs = Done
-ending_of statuses.Usage = Done
-ending_of statuses.Refused = Done
-ending_of statuses.ReadFault = Done
-ending_of statuses.WriteFault = Done
-ending_of statuses.DiskFault = Broken
-ending_of statuses.NoMemory = Undone
 
 -- ---- the input
 

@@ -11,11 +11,12 @@ use Rattle.pl_cli.specs.declared.command.Command.{Command}
 use Rattle.pl_cli.specs.declared.command.Command.TheVariants.{Load}
 use Rattle.pl_words.specs.declared.status.Status.{Status}
 use Rattle.pl_words.specs.declared.status.Status.TheVariants as statuses
-use Rattle.pl_cli.specs.declared.stop.Stop.{Stop}
-use Rattle.pl_cli.specs.declared.stop.Stop.TheVariants as stops
+use Rattle.pl_texts.specs.declared.stop.Stop.{Stop}
+use Rattle.pl_texts.specs.declared.stop.Stop.TheVariants as stops
 use Rattle.pl_cli.specs.Answer.{Answer, IsTold, answer, refuses}
 use Rattle.pl_cli.specs.Came.{Makes}
-use Rattle.pl_cli.specs.Outside.{Consumes, Outside, outside, ending_of, is_read_fault, is_write_fault, may_end, most_read}
+use Rattle.pl_cli.specs.Outside.{Consumes, Outside, outside, is_write_fault, may_end, most_read}
+use Rattle.pl_texts.specs.Endings.{ending_of, is_read_fault}
 use Rattle.pl_cli.specs.Words.{bytes_of, reads_input}
 
 -- ---- what is written

@@ -8,14 +8,14 @@ use Rattle.pl_elf.specs.declared.range.Range.{Range}
 use Rattle.pl_words.specs.declared.command.Policy.{Policy}
 use Rattle.pl_cli.specs.Answer.{fixed_line}
 use Rattle.pl_cli.specs.Load.{is_memory, load_result}
-use Rattle.pl_cli.specs.Order.{ordered}
-use Rattle.pl_cli.specs.Print.{printed}
+use Rattle.pl_texts.specs.Order.{ordered}
+use Rattle.pl_texts.specs.Print.{printed}
 use Rattle.pl_cli.specs.Reports.{previewed, reported}
 use Rattle.pl_cli.specs.Verified.{verifies}
 use Rattle.pl_cli.specs.Weave.{weaves}
 use Rattle.pl_cli.specs.Writes.{loosens, removes, stores, undoes}
-use Rattle.pl_cli.specs.declared.command.Content.{Content}
-use Rattle.pl_cli.specs.declared.command.Detail.{Detail}
+use Rattle.pl_texts.specs.declared.content.Content.{Content}
+use Rattle.pl_texts.specs.declared.detail.Detail.{Detail}
 
 -- what a load means is no want of memory
 abbrev pub LoadsTell : Type 0

@@ -1,17 +1,14 @@
 -- The text of loads that open their files during runs, as a script says, in a copy of a folder; or the first cause why there is none.
-use Rattle.std.specs.Prelude.{◌≡◌, ℕ, ◌+◌, ◌==◌, false, nat_lt, List, [], ◌∷◌, ◌++◌, codes, length, Option, Some, None, String, Vec, Result, Ok, Err, if◌then◌else◌}
+use Rattle.std.specs.Prelude.{◌≡◌, ℕ, ◌+◌, ◌==◌, false, nat_lt, List, [], ◌∷◌, ◌++◌, length, Option, Some, None, String, Vec, Result, Ok, Err, if◌then◌else◌}
 use Rattle.std.specs.declared.alloc.Global.{Global}
 use Rattle.std.specs.FinMap.{get}
-use Rattle.std.specs.Fmt.{decimal}
 use Rattle.pl_base.specs.Answers.{◌>>=◌, because, unless}
-use Rattle.pl_base.specs.Digits.{line_text}
 use Rattle.pl_base.specs.Each.{each}
-use Rattle.pl_base.specs.Files.{Files, files_of}
-use Rattle.pl_batch.specs.Copied.{IsCopy, copied}
+use Rattle.pl_base.specs.Files.{Files}
+use Rattle.pl_change.specs.Copied.{IsCopy, copied}
 use Rattle.pl_batch.specs.declared.prelinking.Prelinking.{Prelinking}
 use Rattle.pl_batch.specs.declared.run.Run.{Run}
 use Rattle.pl_batch.specs.declared.run.Run.TheVariants as runs
-use Rattle.pl_loader.specs.Started.{Start}
 use Rattle.pl_loader.specs.declared.fault.LoadFault.TheVariants.{NotThere}
 use Rattle.pl_place.specs.Policy.{Answering, Choice, Follows}
 use Rattle.pl_place.specs.Policies.{lowest}
@@ -29,11 +26,10 @@ use Rattle.pl_weave.specs.Weaving.{Weaving, woven}
 use Rattle.pl_weave.specs.declared.progress.Progress.{Progress}
 use Rattle.pl_weave.specs.declared.progress.Progress.TheVariants.{Waits, Refused, Does}
 use Rattle.pl_words.specs.declared.values.TheConstants.{REGION}
-use Rattle.pl_cli.specs.LoadText.{load_text}
-use Rattle.pl_cli.specs.Refusals.{cause_text, refusal}
-use Rattle.pl_cli.specs.Writes.{of_batch}
-use Rattle.pl_cli.specs.declared.cause.Cause.{Cause}
-use Rattle.pl_cli.specs.declared.cause.Cause.TheVariants as causes
+use Rattle.pl_texts.specs.WeaveText.{loader_line, wants_line, start_text, waits_line, refused_line, done_line, renames_line, end_line}
+use Rattle.pl_texts.specs.Stops.{of_batch}
+use Rattle.pl_texts.specs.declared.cause.Cause.{Cause}
+use Rattle.pl_texts.specs.declared.cause.Cause.TheVariants as causes
 
 -- ---- the script
 
@@ -68,17 +64,6 @@ runs_of files asked = each (run_of files) asked
 
 -- ---- the text
 
-unfoldable pub loader_line : ℕ → List ℕ
-loader_line number = line_text (codes "loader " ∷ decimal number ∷ [])
-
-unfoldable pub wants_line : List ℕ → List ℕ
-wants_line name = line_text (codes "wants " ∷ name ∷ [])
-
--- what a load starts from, or why it does not
-abbrev pub start_text : Result Start Cause → List ℕ
-start_text (Ok start) = load_text start
-start_text (Err cause) = refusal cause
-
 abbrev pub state_by : {F : Type 0} → Choice → Opened F → Option (List ℕ) → List ℕ
 state_by choose o (Some name) = wants_line name
 state_by choose o None = start_text (because causes.Load (ended choose o))
@@ -92,18 +77,6 @@ abbrev pub loaders_text : {F : Type 0} → Choice → ℕ → List (Opened F) �
 loaders_text choose number [] = []
 loaders_text choose number (o ∷ os) = loader_line number ++ (loader_text choose o ++ loaders_text choose (number + 1) os)
 
-unfoldable pub waits_line : ℕ → List ℕ
-waits_line number = line_text (codes "run " ∷ decimal number ∷ codes " waits" ∷ [])
-
-unfoldable pub refused_line : ℕ → Cause → List ℕ
-refused_line number cause = line_text (codes "run " ∷ decimal number ∷ codes " refused " ∷ cause_text cause ∷ [])
-
-unfoldable pub done_line : ℕ → ℕ → List ℕ
-done_line number rows = line_text (codes "run " ∷ decimal number ∷ codes " done " ∷ decimal rows ∷ [])
-
-unfoldable pub renames_line : ℕ → ℕ → ℕ → List ℕ
-renames_line number done rows = line_text (codes "run " ∷ decimal number ∷ codes " renames " ∷ decimal done ∷ codes " of " ∷ decimal rows ∷ [])
-
 -- how far a run came
 abbrev pub run_line : ℕ → Progress → List ℕ
 run_line number Waits = waits_line number
@@ -113,9 +86,6 @@ run_line number (Does done rows) = if done == rows then done_line number rows el
 abbrev pub runs_text : ℕ → List Progress → List ℕ
 runs_text number [] = []
 runs_text number (p ∷ ps) = run_line number p ++ runs_text (number + 1) ps
-
-abbrev pub end_line : List ℕ
-end_line = line_text (codes "weave end" ∷ [])
 
 -- what a weave came to
 abbrev pub woven_text : {F : Type 0} → Choice → List (Opened F) → List Progress → List ℕ

@@ -10,9 +10,9 @@ use Rattle.pl_words.specs.declared.fault.WordsFault.{WordsFault}
 use Rattle.pl_words.specs.declared.fault.WordsFault.TheVariants.{Usage, NoMemory}
 use Rattle.pl_cli.specs.declared.command.Command.{Command}
 use Rattle.pl_cli.specs.declared.command.Command.TheVariants.{Load, All, Preview, UndoAll, Undo, Verify, Store, Remove, Fix, Unfix, Print, Order, Demo, Weave}
-use Rattle.pl_cli.specs.declared.command.Content.TheVariants.{File, Recipe}
-use Rattle.pl_cli.specs.declared.command.Detail.{Detail}
-use Rattle.pl_cli.specs.declared.command.Detail.TheVariants.{Short, Full}
+use Rattle.pl_texts.specs.declared.content.Content.TheVariants.{File, Recipe}
+use Rattle.pl_texts.specs.declared.detail.Detail.{Detail}
+use Rattle.pl_texts.specs.declared.detail.Detail.TheVariants.{Short, Full}
 
 abbrev pub detail_of : Bool → Detail
 detail_of verbose = if verbose then Full else Short

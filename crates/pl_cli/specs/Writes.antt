@@ -8,48 +8,29 @@ use Rattle.pl_folder.specs.Seen.{Ending}
 use Rattle.pl_folder.specs.declared.TheConstants.{STORED}
 use Rattle.pl_build.specs.Build.{build}
 use Rattle.pl_build.specs.declared.checks.Fault.{Fault}
-use Rattle.pl_loader.specs.declared.fault.LoadFault.TheVariants.{BadMark, NeededIsProgram, NoPlace, NotThere, Refused, TooMany}
-use Rattle.pl_batch.specs.Changes.{changes_of, removal_meant, run_meant}
-use Rattle.pl_batch.specs.Commands.{Commands, CommandsDisk, CommandsFiles, Failed, Lacked, Made, Meaning, ready_for}
-use Rattle.pl_batch.specs.Commands as outcomes
-use Rattle.pl_batch.specs.Replace.{fixing_meant, loosening_meant}
+use Rattle.pl_loader.specs.declared.fault.LoadFault.TheVariants.{Refused}
+use Rattle.pl_batch.specs.Changes.{changes_of, run_meant}
+use Rattle.pl_change.specs.Changes.{removal_meant}
+use Rattle.pl_change.specs.Commands.{Commands, CommandsDisk, CommandsFiles, Failed, Lacked, Made, Meaning, ready_for}
+use Rattle.pl_change.specs.Commands as outcomes
+use Rattle.pl_change.specs.Replace.{fixing_meant, loosening_meant}
 use Rattle.pl_batch.specs.declared.prelinking.Prelinking.{Prelinking}
-use Rattle.pl_batch.specs.declared.cause.Cause as batch
-use Rattle.pl_batch.specs.declared.cause.Cause.TheVariants as batch_causes
 use Rattle.pl_batch.specs.declared.run.Run.{Run}
 use Rattle.pl_batch.specs.declared.run.Run.TheVariants as runs
-use Rattle.pl_cli.specs.declared.cause.Cause.{Cause}
-use Rattle.pl_cli.specs.declared.cause.Cause.TheVariants as causes
-use Rattle.pl_cli.specs.declared.command.Content.{Content}
-use Rattle.pl_cli.specs.declared.command.Content.TheVariants.{File, Recipe}
+use Rattle.pl_texts.specs.declared.cause.Cause.{Cause}
+use Rattle.pl_texts.specs.declared.cause.Cause.TheVariants as causes
+use Rattle.pl_texts.specs.declared.content.Content.{Content}
+use Rattle.pl_texts.specs.declared.content.Content.TheVariants.{File, Recipe}
 use Rattle.pl_words.specs.declared.status.Status.{Status}
 use Rattle.pl_words.specs.declared.status.Status.TheVariants as statuses
-use Rattle.pl_cli.specs.declared.stop.Stop.{Stop}
-use Rattle.pl_cli.specs.declared.stop.Stop.TheVariants as stops
+use Rattle.pl_texts.specs.declared.stop.Stop.{Stop}
+use Rattle.pl_texts.specs.declared.stop.Stop.TheVariants as stops
 use Rattle.pl_cli.specs.declared.store.TheConstants.{RECIPE}
 use Rattle.pl_cli.specs.Load.{choice}
 use Rattle.pl_cli.specs.Words.{bytes_of}
 use Rattle.pl_words.specs.declared.command.Policy.{Policy}
 
 -- ---- meanings
-
-abbrev pub of_batch : batch.Cause → Cause
-of_batch batch_causes.BadName = causes.BadName
-of_batch batch_causes.BadJournal = causes.BadJournal
-of_batch batch_causes.TooManyFiles = causes.TooManyFiles
-of_batch (batch_causes.NotThere name) = causes.Load (NotThere name)
-of_batch (batch_causes.FileTooLarge name) = causes.FileTooLarge name
-of_batch (batch_causes.BadMark name) = causes.Load (BadMark name)
-of_batch batch_causes.BadCache = causes.BadCache
-of_batch batch_causes.FolderTooLarge = causes.FolderTooLarge
-of_batch (batch_causes.NoSlot name span hole) = causes.NoSlot name span hole
-of_batch (batch_causes.StampsSpent stamp) = causes.StampsSpent stamp
-of_batch (batch_causes.Refused name number argument) = causes.Load (Refused name number argument)
-of_batch (batch_causes.NeededIsProgram name) = causes.Load (NeededIsProgram name)
-of_batch (batch_causes.TooMany name) = causes.Load (TooMany name)
-of_batch (batch_causes.NotPie name) = causes.NotPie name
-of_batch (batch_causes.NoPlace name) = causes.Load (NoPlace name)
-of_batch (batch_causes.NotFixed name) = causes.NotFixed name
 
 -- `-u`: the journal is in its grammar, and then the rows of what is undone
 abbrev pub undoes : Run → Meaning Cause

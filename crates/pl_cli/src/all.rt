@@ -1,14 +1,11 @@
 // The commands over all files: to prelink them, or to say what that would do.
 ghost use Rattle.std.specs.Prelude.{◌≡◌, IfOk};
 ghost use Rattle.pl_cli.specs.Came.{HasPrelinked, HasPreviewed};
-ghost use Rattle.pl_cli.specs.Reports as spec;
+ghost use Rattle.pl_texts.specs.Reports as spec;
 
-use crate::command::Detail;
-use crate::report::report_text;
-use crate::stop::Stop;
 use pl_batch::{Prelinking, prelink_all, preview_all};
 use pl_folder::Folder;
-use pl_rewrite::Report;
+use pl_texts::{Detail, Report, Stop, report_text};
 use std::alloc::{AllocError, Global};
 
 /// Prelinks every file that may be prelinked, and gives the text of what became of each name; or why it stopped. The text is there before a change is committed, so that no want of memory comes after that.

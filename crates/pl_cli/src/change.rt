@@ -2,10 +2,9 @@
 ghost use Rattle.pl_batch.specs.Changes.{IsRun};
 ghost use Rattle.pl_cli.specs.Came.{HasRemoved, HasUndone};
 
-use crate::stop::Stop;
-use crate::text::removed_text;
 use pl_batch::{Run, do_run};
 use pl_folder::Folder;
+use pl_texts::{Stop, removed_text};
 use std::alloc::Global;
 
 /// Gives prelinked files their originals; so many, or why it stopped.
@@ -21,6 +20,6 @@ pub fn remove<D: Folder>(alloc: Global, folder: &mut D, name: &str) -> Result<Ve
     ensures { HasRemoved name.now result (D.seen folder.old) (D.seen folder.new) }
 {
     let line = removed_text(alloc, name)?;
-    pl_batch::remove(alloc, folder, name)?;
+    pl_change::remove(alloc, folder, name)?;
     Ok(line.into_bytes())
 }

@@ -1,27 +1,8 @@
 use pl_base::{Rows, Text};
 use pl_batch::Prelinking;
 use pl_elf::Range;
+use pl_texts::{Content, Detail};
 use pl_words::Policy;
-
-/// How much is printed.
-#[derive(Clone, Copy, Debug, PartialEq, Eq)]
-pub enum Detail {
-    /// Of an order the objects; of a run over all files how many there are of each kind.
-    Short,
-
-    /// Of an order which object reaches which, too; of a run over all files a line for each name, too.
-    Full,
-}
-
-/// What an input is, of which a file is stored.
-#[derive(Clone, Copy, Debug, PartialEq, Eq)]
-pub enum Content {
-    /// The file.
-    File,
-
-    /// The file's recipe.
-    Recipe,
-}
 
 /// What words ask for, of what is there.
 #[derive(Drop)]

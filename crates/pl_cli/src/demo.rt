@@ -1,19 +1,16 @@
 // The set of a number, prelinked in a folder of its own, and the loads of its programs.
-ghost use Rattle.std.specs.Prelude.{◌≡◌, ◌++◌, IfOk, OnOk, string_bytes};
+ghost use Rattle.std.specs.Prelude.{◌≡◌, IfOk, OnOk};
 ghost use Rattle.pl_folder.specs.InMemory.{quiet_files};
-ghost use Rattle.sha2.specs.Sha256.{sha256};
 ghost use Rattle.pl_cli.specs.Came.{HasDemo};
 ghost use Rattle.pl_cli.specs.Demo as spec;
 
-use crate::stop::Stop;
-use crate::text_sink::TextSink;
 use crate::top::load_and_write;
 use pl_base::Text;
 use pl_demo::{Counts, DemoFolder, demo_folder};
 use pl_folder::QuietFolder;
 use pl_io::NoMemory;
+use pl_texts::{Stop, TextSink, digest_line, push_count};
 use pl_words::{Policy, Status};
-use sha2::{Digest, Sha256};
 use std::alloc::{AllocError, Global};
 
 /// What the load of a program comes to.
@@ -93,35 +90,6 @@ fn loads_of(alloc: Global, folder: &mut QuietFolder, names: &[Text]) -> Result<L
         }
     }
     Ok(Loads { texts, fast })
-}
-
-/// Adds the line of a count.
-#[tactic(auto, unfolding(crate::specs::Demo::count_line))]
-fn push_count(alloc: Global, out: &mut Vec<u8>, word: &str, count: usize) -> Result<(), AllocError>
-    ensures { OnOk result (out.new.items ≡ out.old.items ++ spec.count_line word.now count) }
-{
-    let line = format!(in alloc; "{word} {count}\n")?;
-    out.extend_from_slice(line.as_bytes())?;
-    Ok(())
-}
-
-/// The SHA-256 of a text.
-fn digest_of(text: &[u8]) -> [u8; 32]
-    ensures { result ≡ sha256 text.now }
-{
-    let mut hasher = Sha256::new();
-    hasher.update(text);
-    hasher.finalize()
-}
-
-/// The line of the digest of a text.
-#[tactic(auto, unfolding(crate::specs::Demo::digest_line))]
-fn digest_line(alloc: Global, text: &[u8]) -> Result<String, AllocError>
-    ensures { IfOk result (λ line. string_bytes line ≡ spec.digest_line (sha256 text.now)) }
-{
-    let digest = digest_of(text);
-    let digits = hex::encode(alloc, digest.as_slice())?;
-    format!(in alloc; "digest {digits}\n")
 }
 
 /// The five lines.

@@ -2,11 +2,10 @@
 ghost use Rattle.pl_cli.specs.Came.{HasFixed, HasUnfixed};
 
 use crate::chosen::chosen;
-use crate::stop::Stop;
-use crate::text::unfixed_text;
-use pl_batch::{fix_file, unfix_file};
+use pl_change::{fix_file, unfix_file};
 use pl_folder::Folder;
 use pl_place::{Holes, Placer};
+use pl_texts::{Stop, unfixed_text};
 use pl_words::Policy;
 use std::alloc::Global;
 

@@ -2,13 +2,12 @@
 ghost use Rattle.std.specs.Prelude.{◌<◌, ◌^◌, IfOk, length};
 ghost use Rattle.pl_cli.specs.Came.{HasGiven};
 ghost use Rattle.pl_cli.specs.Load as spec;
-ghost use Rattle.pl_cli.specs.Stops.{MeansAlone, items_of};
+ghost use Rattle.pl_texts.specs.Stops.{MeansAlone, items_of};
 
 use crate::chosen::chosen;
-use crate::stop::Stop;
-use crate::take::take;
 use pl_folder::Folder;
 use pl_place::{Holes, Placer};
+use pl_texts::{Stop, take};
 use pl_weave::given_file;
 use pl_words::Policy;
 use std::alloc::Global;

@@ -2,17 +2,16 @@
 ghost use Rattle.std.specs.Prelude.{◌≡◌, None, IfErr, IfOk};
 ghost use Rattle.pl_scope.specs.Walking.{wants};
 ghost use Rattle.pl_cli.specs.Came.{HasLoaded, IsNotStarted, IsStarted};
-ghost use Rattle.pl_cli.specs.Files.{Unasked};
+ghost use Rattle.pl_texts.specs.Files.{Unasked};
 ghost use Rattle.pl_cli.specs.Load.{MayStart};
 
-use crate::cause::Cause;
 use crate::given::given;
-use crate::stop::Stop;
 use pl_base::is_valid_name;
 use pl_elf::Range;
 use pl_folder::Folder;
 use pl_loader::{Loader, Started};
 use pl_place::{Holes, Placer};
+use pl_texts::{Cause, Stop};
 use pl_words::Policy;
 use std::alloc::Global;
 

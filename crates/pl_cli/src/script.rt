@@ -3,9 +3,9 @@ ghost use Rattle.std.specs.Prelude.{IfOk};
 ghost use Rattle.pl_script.specs.Script.{IsScript};
 ghost use Rattle.pl_cli.specs.Came.{HasScript};
 
-use crate::stop::Stop;
 use pl_io::{Source, read_all};
 use pl_script::{SCRIPT, Script, read_script};
+use pl_texts::Stop;
 use std::alloc::Global;
 
 /// The script that an input is, or the first cause why it is none.

@@ -3,19 +3,17 @@ ghost use Rattle.std.specs.Prelude.{◌≡◌, ◌≤◌, IfOk, false, length};
 ghost use Rattle.pl_base.specs.Names.{is_valid_name};
 ghost use Rattle.pl_folder.specs.declared.TheConstants.{STORED};
 ghost use Rattle.pl_cli.specs.Came.{HasContent, HasStored};
-ghost use Rattle.pl_cli.specs.Stops.{MeansAlone};
+ghost use Rattle.pl_texts.specs.Stops.{MeansAlone};
 ghost use Rattle.pl_cli.specs.Writes as spec;
 ghost use Rattle.pl_batch.specs.declared.run.Run.TheVariants.{Install};
 
-use crate::cause::Cause;
-use crate::command::Content;
-use crate::stop::Stop;
-use crate::text::stored_text;
 use pl_base::{Rows, Text};
-use pl_batch::{Run, do_run, recover_for};
+use pl_batch::{Run, do_run};
 use pl_build::build;
+use pl_change::recover_for;
 use pl_folder::{Folder, STORED};
 use pl_io::{Source, read_all};
+use pl_texts::{Cause, Content, Stop, stored_text};
 use std::alloc::{AllocError, Global};
 
 /// The most bytes of a recipe: 1 MiB.

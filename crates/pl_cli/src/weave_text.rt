@@ -1,66 +1,21 @@
 // The text of a weave.
-ghost use Rattle.std.specs.Prelude.{◌≡◌, ◌++◌, IfOk, None, OnOk, false, length, string_bytes};
-ghost use Rattle.pl_loader.specs.Faults.{is_memory};
+ghost use Rattle.std.specs.Prelude.{◌≡◌, ◌++◌, IfOk, None, OnOk, length};
 ghost use Rattle.pl_place.specs.Policy as policy;
 ghost use Rattle.pl_weave.specs.Opening as loaders;
 ghost use Rattle.pl_weave.specs.Running.{AreChosen, HavePolicy};
 ghost use Rattle.pl_weave.specs.declared.progress.Progress.TheVariants.{Does};
-ghost use Rattle.pl_cli.specs.LoadText.{load_text, start_of};
-ghost use Rattle.pl_cli.specs.Refusals as refusals;
 ghost use Rattle.pl_cli.specs.Weave as spec;
-ghost use Rattle.pl_cli.specs.declared.cause.Cause.TheVariants as causes;
 
-use crate::cause::Cause;
-use crate::refusals::{cause_text, refusal};
-use crate::stop::batch_cause;
-use crate::text_sink::TextSink;
-use crate::write::write_start;
 use pl_io::NoMemory;
-use pl_loader::{LoadFault, Started};
 use pl_place::Holes;
+use pl_texts::{
+    TextSink, add_refusal, add_refused, add_start, batch_cause, done_line, loader_line,
+    renames_line, waits_line, wants_line,
+};
 use pl_weave::{Opening, Progress, Weave, Woven};
 use std::alloc::{AllocError, Global};
 
 // ---- loaders
-
-#[tactic(auto, unfolding(crate::specs::Weave::loader_line))]
-fn loader_line(alloc: Global, number: u32) -> Result<String, AllocError>
-    ensures { IfOk result (λ text. string_bytes text ≡ spec.loader_line number) }
-{
-    format!(in alloc; "loader {number}\n")
-}
-
-#[tactic(auto, unfolding(crate::specs::Weave::wants_line))]
-fn wants_line(alloc: Global, name: &str) -> Result<String, AllocError>
-    ensures { IfOk result (λ text. string_bytes text ≡ spec.wants_line name.now) }
-{
-    format!(in alloc; "wants {name}\n")
-}
-
-/// Adds the text of a start. It fails only for want of memory.
-fn add_start(alloc: Global, started: &Started<'_>, out: &mut TextSink) -> Result<(), NoMemory>
-    ensures { OnOk result (out.new.text.items ≡
-        out.old.text.items ++ load_text (start_of started.now)) }
-{
-    match write_start(alloc, started, out) {
-        Ok(()) => Ok(()),
-        Err(_) => Err(NoMemory),
-    }
-}
-
-/// Adds the line of why a load did not start. A want of memory has none.
-fn add_refusal(alloc: Global, fault: LoadFault, out: &mut TextSink) -> Result<(), NoMemory>
-    ensures lacks { OnOk result (is_memory fault ≡ false) }
-    ensures line { OnOk result (out.new.text.items ≡
-        out.old.text.items ++ refusals.refusal (causes.Load fault)) }
-{
-    if let LoadFault::NoMemory = fault {
-        return Err(NoMemory);
-    }
-    let line = refusal(alloc, &Cause::Load(fault))?;
-    out.text.extend_from_slice(&line)?;
-    Ok(())
-}
 
 /// Adds what a loader that has finished started from, or why it did not start.
 fn add_end<F: Fn(&Holes, u64, u64) -> Option<u64>>(
@@ -125,49 +80,6 @@ fn add_loaders<F: Fn(&Holes, u64, u64) -> Option<u64>>(
 }
 
 // ---- runs
-
-#[tactic(auto, unfolding(crate::specs::Weave::waits_line))]
-fn waits_line(alloc: Global, number: usize) -> Result<String, AllocError>
-    ensures { IfOk result (λ text. string_bytes text ≡ spec.waits_line number) }
-{
-    format!(in alloc; "run {number} waits\n")
-}
-
-#[tactic(auto, unfolding(crate::specs::Weave::done_line))]
-fn done_line(alloc: Global, number: usize, rows: usize) -> Result<String, AllocError>
-    ensures { IfOk result (λ text. string_bytes text ≡ spec.done_line number rows) }
-{
-    format!(in alloc; "run {number} done {rows}\n")
-}
-
-#[tactic(auto, unfolding(crate::specs::Weave::renames_line))]
-fn renames_line(
-    alloc: Global,
-    number: usize,
-    done: usize,
-    rows: usize,
-) -> Result<String, AllocError>
-    ensures { IfOk result (λ text. string_bytes text ≡ spec.renames_line number done rows) }
-{
-    format!(in alloc; "run {number} renames {done} of {rows}\n")
-}
-
-/// Adds the line of a run that was refused.
-#[tactic(auto, unfolding(crate::specs::Weave::refused_line))]
-fn add_refused(
-    alloc: Global,
-    number: usize,
-    cause: &Cause,
-    out: &mut Vec<u8>,
-) -> Result<(), AllocError>
-    ensures { OnOk result (out.new.items ≡ out.old.items ++ spec.refused_line number cause.now) }
-{
-    let start = format!(in alloc; "run {number} refused ")?;
-    let text = cause_text(alloc, cause)?;
-    out.extend_from_slice(start.as_bytes())?;
-    out.extend_from_slice(&text)?;
-    out.extend_from_slice(b"\n")
-}
 
 /// Adds the line of a run some of whose rows are done, or all.
 fn add_rows(

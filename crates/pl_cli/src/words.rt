@@ -1,8 +1,9 @@
 ghost use Rattle.std.specs.Prelude.{◌≡◌, map, string_bytes};
 ghost use Rattle.pl_cli.specs.Words as spec;
 
-use crate::command::{Command, Content, Detail};
+use crate::command::Command;
 use pl_batch::Prelinking;
+use pl_texts::{Content, Detail};
 use pl_words::{AllOptions, WordsFault};
 use std::alloc::Global;
 

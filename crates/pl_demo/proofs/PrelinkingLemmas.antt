@@ -11,15 +11,15 @@ use Rattle.pl_folder.specs.Seen.{Done}
 use Rattle.pl_journal.specs.Meaning.{mixed}
 use Rattle.pl_journal.specs.declared.change.Change.{Change}
 use Rattle.pl_journal.specs.declared.change.Change.TheVariants.{Put, Drop}
-use Rattle.pl_batch.specs.Answers.{fault_ending}
+use Rattle.pl_change.specs.Answers.{fault_ending}
 use Rattle.pl_batch.specs.Changes.{run_meant}
-use Rattle.pl_batch.specs.Commands.{CommandsFiles, Made, Meaning, Refused, stopped}
-use Rattle.pl_batch.specs.Restored.{restored}
-use Rattle.pl_batch.specs.declared.cause.Cause.{Cause}
-use Rattle.pl_batch.specs.declared.fault.BatchFault.{BatchFault}
-use Rattle.pl_batch.specs.declared.fault.BatchFault.TheVariants as batch_faults
+use Rattle.pl_change.specs.Commands.{CommandsFiles, Made, Meaning, Refused, stopped}
+use Rattle.pl_change.specs.Restored.{restored}
+use Rattle.pl_change.specs.declared.cause.Cause.{Cause}
+use Rattle.pl_change.specs.declared.fault.BatchFault.{BatchFault}
+use Rattle.pl_change.specs.declared.fault.BatchFault.TheVariants as batch_faults
 use Rattle.pl_batch.specs.declared.run.Run.TheVariants as runs
-use Rattle.pl_batch.proofs.RestoredLemmas.{restored_before}
+use Rattle.pl_change.proofs.RestoredLemmas.{restored_before}
 use Rattle.pl_demo.specs.Prelinked.{after, is_refused, prelinked, with_rows}
 use Rattle.pl_demo.proofs.AnswerLemmas.{on_ok}
 use Rattle.pl_demo.specs.declared.prelinking.TheConstants.{ASKED}

@@ -2,9 +2,9 @@
 use Rattle.std.proofs.Common.{◌≡◌, Bool, true, refl, arith, subst, ⊎_elim}
 use Rattle.std.specs.Prelude.{◌≢◌}
 use Rattle.pl_base.specs.Counts.{Counted}
-use Rattle.pl_batch.specs.Answers.{fault_ending}
-use Rattle.pl_batch.specs.declared.fault.BatchFault.{BatchFault}
-use Rattle.pl_batch.specs.declared.fault.BatchFault.TheVariants.{DiskFailed}
+use Rattle.pl_change.specs.Answers.{fault_ending}
+use Rattle.pl_change.specs.declared.fault.BatchFault.{BatchFault}
+use Rattle.pl_change.specs.declared.fault.BatchFault.TheVariants.{DiskFailed}
 use Rattle.pl_folder.specs.Calls.{Calls}
 use Rattle.pl_folder.specs.Effects.{Effect}
 use Rattle.pl_folder.specs.InMemory.{quiet_seen}

@@ -3,7 +3,8 @@ ghost use Rattle.std.specs.Prelude.{◌≡◌, ◌≢◌, OnOk, true};
 ghost use Rattle.pl_folder.specs.InMemory.{quiet_files};
 ghost use Rattle.pl_demo.specs.Prelinked as spec;
 
-use pl_batch::{BatchFault, Prelinking, Run, do_run};
+use pl_batch::{Prelinking, Run, do_run};
+use pl_change::BatchFault;
 use pl_elf::Range;
 use pl_folder::QuietFolder;
 use pl_io::NoMemory;

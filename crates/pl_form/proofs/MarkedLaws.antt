@@ -1,5 +1,5 @@
 -- How what a file is made of is told, step by step.
-use Rattle.std.proofs.Common.{◌≡◌, ℕ, ◌<◌, ◌≤◌, Bool, true, false, List, [], length, Option, Some, None, Ok, refl, sym, ap, subst, ◌∙◌, arith}
+use Rattle.std.proofs.Common.{◌≡◌, ℕ, ◌<◌, ◌≤◌, Bool, true, List, [], length, Option, Some, Ok, refl, sym, ap, subst, ◌∙◌, arith}
 use Rattle.std.specs.Prelude.{if◌then◌else◌}
 use Rattle.pl_base.specs.Bytes.{word32}
 use Rattle.pl_elf.specs.Kinds.{is_library}
@@ -9,7 +9,7 @@ use Rattle.pl_object.specs.PlaceClauses.{last_load}
 use Rattle.pl_object.specs.Reads.{reads}
 use Rattle.pl_object.specs.declared.object.Object.{Object}
 use Rattle.pl_object.proofs.AcceptedLaws.{accepted}
-use Rattle.pl_form.specs.Back.{front_of}
+use Rattle.pl_form.specs.Back.{front_of, when}
 use Rattle.pl_form.specs.Forms.{original_of}
 use Rattle.pl_form.specs.Found.{ss_of, ps_of}
 use Rattle.pl_form.specs.Parts.{Original}
@@ -41,7 +41,7 @@ flat_is file o u x spots front flat r s f e =
     ∙ ap (λ (xs : List ℕ). standing spots xs (zeros_behind (last_load (ss_of o)) file)) f
     ∙ ap (λ (ps : List Spot). standing ps (front_of u file) (zeros_behind (last_load (ss_of o)) file)) s
 
-steps : (file o : List ℕ) (u : Undo) (x : Object) (l : Lists) → Some x ≡ firm_object o → Some l ≡ lists_in (is_library x.kind) file → marked_by file u o ≡ checked file u (candidate (front_of u file) u o x l)
+pub steps : (file o : List ℕ) (u : Undo) (x : Object) (l : Lists) → Some x ≡ firm_object o → Some l ≡ lists_in (is_library x.kind) file → marked_by file u o ≡ checked file u (candidate (front_of u file) u o x l)
 unfolding marked_by
 steps file o u x l e f = rw (sym e, sym f) refl
 
@@ -53,33 +53,14 @@ made_here file o u x l m front flat f is places =
     ∙ ap (λ (n : Marked). is_form file n (places_in o (front_of u file) file)) (sym is)
     ∙ ap (is_form file m) (sym places)
 
-same_made : (file o : List ℕ) (u : Undo) (x : Object) (l : Lists) (m : Marked) (front : List ℕ) → front ≡ front_of u file → m ≡ candidate front u o x l → candidate (front_of u file) u o x l ≡ m
-same_made file o u x l m front f is = ap (λ (xs : List ℕ). candidate xs u o x l) (sym f) ∙ sym is
-
-pub marked_found : (file o : List ℕ) (u : Undo) (x : Object) (l : Lists) (m : Marked) (front flat : List ℕ) → Some x ≡ firm_object o → Some l ≡ lists_in (is_library x.kind) file → front ≡ front_of u file → m ≡ candidate front u o x l
-    → flat ≡ places_in o (front_of u file) file → true ≡ is_form file m flat → Some m ≡ marked_by file u o
-marked_found file o u x l m front flat e g f is places form =
+pub same_checked : (file o : List ℕ) (u : Undo) (x : Object) (l : Lists) (m : Marked) (front flat : List ℕ) → front ≡ front_of u file → m ≡ candidate front u o x l
+    → flat ≡ places_in o (front_of u file) file → when (is_form file m flat) (Some m) ≡ checked file u (candidate (front_of u file) u o x l)
+same_checked file o u x l m front flat f is places =
     let n = candidate (front_of u file) u o x l in
-    let test : is_form file n (places_in n.original (front_of u file) file) ≡ true = made_here file o u x l m front flat f is places ∙ sym form in
-    let found : checked file u n ≡ Some n = rw test refl in
-    sym (steps file o u x l e g ∙ found ∙ ap (λ (y : Marked). Some y) (same_made file o u x l m front f is))
-
-pub marked_missed : (file o : List ℕ) (u : Undo) (x : Object) (l : Lists) (m : Marked) (front flat : List ℕ) → Some x ≡ firm_object o → Some l ≡ lists_in (is_library x.kind) file → front ≡ front_of u file → m ≡ candidate front u o x l
-    → flat ≡ places_in o (front_of u file) file → false ≡ is_form file m flat → None ≡ marked_by file u o
-marked_missed file o u x l m front flat e g f is places form =
-    let n = candidate (front_of u file) u o x l in
-    let test : is_form file n (places_in n.original (front_of u file) file) ≡ false = made_here file o u x l m front flat f is places ∙ sym form in
-    let none : checked file u n ≡ None = rw test refl in
-    sym (steps file o u x l e g ∙ none)
-
--- an original that is none
-pub no_object : (file o : List ℕ) (u : Undo) → None ≡ firm_object o → None ≡ marked_by file u o
-unfolding marked_by
-no_object file o u e = rw (sym e) refl
-
-pub no_lists : (file o : List ℕ) (u : Undo) (x : Object) → Some x ≡ firm_object o → None ≡ lists_in (is_library x.kind) file → None ≡ marked_by file u o
-unfolding marked_by
-no_lists file o u x e f = rw (sym e, sym f) refl
+    let same : n ≡ m = ap (λ (xs : List ℕ). candidate xs u o x l) (sym f) ∙ sym is in
+    let test : is_form file n (places_in n.original (front_of u file) file) ≡ is_form file m flat = made_here file o u x l m front flat f is places in
+    ap (λ (b : Bool). when b (Some m)) (sym test)
+    ∙ ap (λ (k : Marked). when (is_form file n (places_in n.original (front_of u file) file)) (Some k)) (sym same)
 
 -- ---- what the parts say
 
@@ -88,9 +69,6 @@ own_here o s found x own is same = let here : IsOwn s x = subst (OwnIfAny s) is 
 
 pub head_here : (o : List ℕ) (x : Object) → IsOwn o x → HasHead o x
 head_here o x own = (accepted o x own.firm.accepted).head
-
-pub layout_here : (o s : List ℕ) (l : Layout) → original s l ≡ original_of s → s ≡ o → IsLayoutOf o l
-layout_here o s l e same = subst (λ (ys : List ℕ). IsLayoutOf ys l) same (layout_is s l e)
 
 pub spelled_here : (library : Bool) (file : List ℕ) (found : Option Lists) (l : Lists) → SpelledIfAny library file found → found ≡ Some l → AreSpelled library file l
 spelled_here library file found l spelled is = subst (SpelledIfAny library file) is spelled

@@ -1,5 +1,5 @@
 -- The plan of a program's form, from its parts.
-use Rattle.std.proofs.Common.{◌≡◌, ℕ, ◌+◌, ◌^◌, ◌<◌, false, List, [], ◌++◌, length, map, refl, sym, ap, ◌∙◌, arith}
+use Rattle.std.proofs.Common.{◌≡◌, ℕ, ◌+◌, ◌^◌, ◌<◌, false, List, [], ◌∷◌, ◌++◌, length, map, refl, sym, ap, ◌∙◌, arith}
 use Rattle.std.specs.List.{list_any}
 use Rattle.std.proofs.lemmas.List.{length-map}
 use Rattle.pl_base.specs.Windows.{within}
@@ -11,7 +11,7 @@ use Rattle.pl_object.specs.Accepted.{HasHead}
 use Rattle.pl_object.specs.declared.object.Object.{Object}
 use Rattle.pl_form.specs.Back.{wanted}
 use Rattle.pl_form.specs.Parts as parts
-use Rattle.pl_form.specs.Parts.{old_names, extension, whole_extension, program_plan, program_sections, program_segments, program_dynamic, with_entries}
+use Rattle.pl_form.specs.Parts.{Original, old_names, extension, whole_extension, library_plan, program_plan, program_sections, program_segments, program_dynamic, with_entries}
 use Rattle.pl_form.specs.declared.section_names.TheConstants.{LIBSTR_NAME, LIBLIST_NAME, CONFLICT_NAME}
 use Rattle.pl_form.specs.declared.parts.Extension.{Extension}
 use Rattle.pl_form.specs.declared.parts.FormPlan.{FormPlan}
@@ -19,6 +19,9 @@ use Rattle.pl_form.specs.Extending as extending
 use Rattle.pl_form.specs.Extending.{IsShort, AreShort, IsExtended, split_segments, all_sections, new_sections, program_table}
 use Rattle.pl_form.specs.Faults.{cut_of}
 use Rattle.pl_form.specs.Originals.{original}
+use Rattle.pl_form.specs.Tables.{plan_of, tables_of}
+use Rattle.pl_form.specs.declared.parts.FormTables.{FormTables}
+use Rattle.pl_form.specs.declared.parts.Listed.{Listed}
 use Rattle.pl_form.specs.declared.layout.Layout.{Layout}
 use Rattle.pl_form.specs.declared.program.Last.{Last}
 use Rattle.pl_form.proofs.ProgramLaws.{segments_are, sections_are, low_files, low_sections}
@@ -85,3 +88,20 @@ plan_is bytes x l last flat block more table dynamic names ps ss xs e size count
     (secs ∙ ap (λ (n : ℕ). all_sections n x.sections last.segment (record { cut = cut; size = size }) e) toldness
     ∙ sections_whole bytes x l last cut size e head is.sections room ∙ ap (λ (n : ℕ). program_sections (original bytes l) last.segment cut n e) size_is)
     named
+
+-- ---- the same by its tables
+
+abbrev pub tables_with : List Segment → List ℕ → List Section → List ℕ → FormTables
+tables_with ss dynamic sections names = record { segments = ss; dynamic = dynamic; sections = sections; names = names }
+
+pub same_tables : (ss ts : List Segment) (d e : List ℕ) (xs ys : List Section) (s t : List ℕ) → ss ≡ ts → d ≡ e → xs ≡ ys → s ≡ t → tables_with ss d xs s ≡ tables_with ts e ys t
+same_tables ss ts d e xs ys s t a b k g = rw (a, b, k, g) refl
+
+pub library_plan_is : (o : Original) (slot stamp checksum cut : ℕ) (l : Listed) (more : List ℕ) (t : FormTables) (ps : List (List ℕ)) → cut ≡ length o.bytes → more ≡ [] → t ≡ tables_of (library_plan o slot stamp checksum l) → ps ≡ l.strings ∷ l.rows ∷ []
+    → plan_of slot cut more t ps ≡ library_plan o slot stamp checksum l
+unfolding library_plan
+library_plan_is o slot stamp checksum cut l more t ps a b d e =
+    ap (λ (n : ℕ). plan_of slot n more t ps) a
+    ∙ ap (λ (m : List ℕ). plan_of slot (length o.bytes) m t ps) b
+    ∙ ap (λ (u : FormTables). plan_of slot (length o.bytes) [] u ps) d
+    ∙ ap (plan_of slot (length o.bytes) [] (tables_of (library_plan o slot stamp checksum l))) e

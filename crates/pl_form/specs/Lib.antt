@@ -18,3 +18,4 @@ pub mod Reading
 pub mod Alike
 pub mod Files
 pub mod Pieces
+pub mod Tables

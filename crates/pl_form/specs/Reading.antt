@@ -28,6 +28,7 @@ use Rattle.pl_form.specs.Words.{checksum_of}
 use Rattle.pl_form.specs.declared.constants.TheConstants.{STORED}
 use Rattle.pl_form.specs.declared.file.Marked.{Marked}
 use Rattle.pl_form.specs.declared.layout.Layout.{Layout}
+use Rattle.pl_form.specs.declared.read.FileParts.{FileParts}
 use Rattle.pl_form.specs.declared.read.Lists.{Lists}
 use Rattle.pl_form.specs.declared.version.Version.{Version}
 use Rattle.pl_form.specs.declared.version.Version.TheVariants.{One, Two}
@@ -209,3 +210,16 @@ FormWithIfAny m flat form = StoredIfAny (form_with m flat) form
 abbrev pub FormIfAny : List ℕ → Option Marked → Type 0
 FormIfAny file None = Unit {0}
 FormIfAny file (Some m) = IsFormOf file m
+
+-- what is read of a file for an original, by which it is told whether the file is a form of it
+pub record ArePartsOf (file : List ℕ) (u : Undo) (o : List ℕ) (p : FileParts) : Type 0 where
+  pub own : IsOwn o p.object
+  pub lists : AreSpelled (is_library p.object.kind) file p.lists
+  pub layout : IsLayoutOf o p.standing.layout
+  pub front : p.standing.front.items ≡ front_of u file
+  pub flat : p.standing.flat.items ≡ places_in o (front_of u file) file
+  pub by : marked_by file u o ≡ checked file u (candidate (front_of u file) u o p.object p.lists)
+
+abbrev pub PartsIfAny : List ℕ → Undo → List ℕ → Option FileParts → Type 0
+PartsIfAny file u o None = None ≡ marked_by file u o
+PartsIfAny file u o (Some p) = ArePartsOf file u o p

@@ -8,11 +8,12 @@ ghost use Rattle.pl_object.specs.Accepted.{HasHead};
 ghost use Rattle.pl_form.specs.Extending.{HasNames};
 ghost use Rattle.pl_form.specs.Library.{IsMovable};
 ghost use Rattle.pl_form.specs.Originals.{original};
+ghost use Rattle.pl_form.specs.Tables.{tables_of};
 
 use crate::bytes::{plain, push_entry, put_bytes, up};
 use crate::section_names::{LIBLIST_NAME, LIBSTR_NAME};
 use crate::write::old_names;
-use crate::{FormPlan, Layout, Listed, Mark};
+use crate::{FormPlan, FormTables, Layout, Listed, Mark, plan_of};
 use pl_base::{Rows, part};
 use pl_dyn::constants::{DT_CHECKSUM, DT_GNU_PRELINKED};
 use pl_elf::constants::{SHF_ALLOC, SHT_GNU_LIBLIST, SHT_STRTAB};
@@ -165,8 +166,45 @@ fn library_names(alloc: Global) -> Result<Vec<u8>, AllocError>
     Ok(names)
 }
 
-/// The plan of a library's form.
+/// The new tables of a library's form.
 #[tactic(auto, unfolding(crate::specs::Parts::library_plan, crate::specs::Parts::library_dynamic, crate::specs::Parts::library_sections, crate::specs::Parts::with_entries))]
+fn library_tables(
+    alloc: Global,
+    bytes: &[u8],
+    object: &Object,
+    layout: &Layout,
+    mark: &Mark,
+    listed: &Listed,
+) -> Result<FormTables, AllocError>
+    requires head { HasHead bytes.now object.now }
+    requires library { IsMovable bytes.now object.now layout.now }
+    requires strings { length listed.now.strings < 2 ^ 32 }
+    ensures { IfOk result (λ t. t ≡ tables_of (parts.library_plan (original bytes.now layout.now)
+        mark.now.slot mark.now.stamp mark.now.checksum listed.now)) }
+{
+    let table = part(bytes, layout.dynamic.at(), layout.dynamic.size());
+    let sections = library_sections(alloc, bytes, object, mark.slot, listed)?;
+    let segments = moved_segments(alloc, mark.slot, object.segments.as_slice())?;
+    let dynamic = library_table(alloc, mark, layout.tags as usize, table)?;
+    let names = library_names(alloc)?;
+    Ok(FormTables {
+        segments: Rows::from_vec(segments),
+        dynamic: Rows::from_vec(dynamic),
+        sections: Rows::from_vec(sections),
+        names: Rows::from_vec(names),
+    })
+}
+
+/// The parts of a library's list.
+fn list_parts(alloc: Global, listed: Listed) -> Result<Rows<Rows<u8>>, AllocError>
+    ensures { IfOk result (λ all. all ≡ listed.strings ∷ listed.rows ∷ []) }
+{
+    let Listed { strings, rows } = listed;
+    let all = Vec::from_array(alloc, [strings, rows])?;
+    Ok(Rows::from_vec(all))
+}
+
+/// The plan of a library's form.
 pub fn library_plan(
     alloc: Global,
     bytes: &[u8],
@@ -181,20 +219,8 @@ pub fn library_plan(
     ensures { IfOk result (λ plan. plan ≡ parts.library_plan (original bytes.now layout.now)
         mark.now.slot mark.now.stamp mark.now.checksum listed) }
 {
-    let table = part(bytes, layout.dynamic.at(), layout.dynamic.size());
-    let sections = library_sections(alloc, bytes, object, mark.slot, &listed)?;
-    let segments = moved_segments(alloc, mark.slot, object.segments.as_slice())?;
-    let dynamic = library_table(alloc, mark, layout.tags as usize, table)?;
-    let names = library_names(alloc)?;
-    let Listed { strings, rows } = listed;
-    Ok(FormPlan {
-        slot: mark.slot,
-        cut: bytes.len(),
-        more: Rows::new(alloc),
-        segments: Rows::from_vec(segments),
-        dynamic: Rows::from_vec(dynamic),
-        parts: Rows::from_vec(Vec::from_array(alloc, [strings, rows])?),
-        sections: Rows::from_vec(sections),
-        names: Rows::from_vec(names),
-    })
+    let tables = library_tables(alloc, bytes, object, layout, mark, &listed)?;
+    let parts = list_parts(alloc, listed)?;
+    let cut = bytes.len();
+    Ok(plan_of(mark.slot, cut, Rows::new(alloc), tables, parts))
 }

@@ -21,9 +21,8 @@ use crate::bytes::split;
 use crate::found::{dynamic_in, find_spots, moved_tables, row_windows};
 use crate::library::library_plan;
 use crate::places::{push_memory, push_zeros};
-use crate::undo_part::undo_part;
 use crate::windows::all_bytes;
-use crate::write::write_form;
+use crate::write::write_planned;
 use crate::{Layout, Listed, Mark, Spot, Version};
 use pl_base::{Rows, part, word32};
 use pl_dyn::read_tags;
@@ -186,9 +185,7 @@ fn moved(
 {
     let layout = layout_of(alloc, original, object)?;
     let plan = library_plan(alloc, original, object, &layout, mark, listed)?;
-    let undo = undo_part(alloc, original, &layout, &plan, digest)?;
-    let form = write_form(alloc, original, &layout, &plan, flat, &undo)?;
-    Ok(form)
+    write_planned(alloc, original, &layout, &plan, flat, digest)
 }
 
 /// The form of an accepted library of this SHA-256 with these bytes at its places, one place after the other in the order of the relocations.
@@ -225,6 +222,21 @@ pub fn library_with(
     Ok(form)
 }
 
+/// The bytes at the places of an accepted library, by a word for each of the first of them.
+fn filled_places(
+    alloc: Global,
+    original: &[u8],
+    object: &Object,
+    words: &[Option<u64>],
+) -> Result<Vec<u8>, AllocError>
+    requires { spec.IsFirmLibrary original.now object.now }
+    ensures { IfOk result (λ v. v.items ≡ words_spec.all_filled original.now (ps_of original.now)
+        words.now) }
+{
+    let layout = layout_of(alloc, original, object)?;
+    all_filled(alloc, original, layout.spots.as_slice(), words)
+}
+
 /// The form that `form_library` gives, where the caller has the SHA-256 of the original.
 pub fn form_library_with(
     alloc: Global,
@@ -246,12 +258,10 @@ pub fn form_library_with(
         words.now version) }
     ensures size { IfOk result (spec.IsShortForm original.now list.now) }
 {
-    let layout = layout_of(alloc, original, object)?;
-    let flat = all_filled(alloc, original, layout.spots.as_slice(), words)?;
-    let form = library_with(
+    let flat = filled_places(alloc, original, object, words)?;
+    library_with(
         alloc, original, object, slot, stamp, list, &flat, version, digest,
-    )?;
-    Ok(form)
+    )
 }
 
 /// The form of an accepted library: its bytes moved by a slot, with a word or the original's bytes at each place, its stamp and its checksum in the dynamic table, and behind them the library list, the undo section, the section names and the section headers.

@@ -1,3 +1,7 @@
+// The parts of a form, and its plan.
+ghost use Rattle.std.specs.Prelude.{◌≡◌};
+ghost use Rattle.pl_form.specs.Tables.{plan_of};
+
 use pl_base::Rows;
 use pl_elf::{Section, Segment};
 
@@ -43,6 +47,50 @@ pub struct FormPlan {
 
     /// The names of the sections that are new in it, each with a 0.
     pub names: Rows<u8>,
+}
+
+/// The tables of a form, and the names of the sections that are new in it.
+#[derive(Drop)]
+pub struct FormTables {
+    /// The new program header table.
+    pub segments: Rows<Segment>,
+
+    /// The new dynamic table.
+    pub dynamic: Rows<u8>,
+
+    /// The new section header table up to the section of the list or of the conflicts.
+    pub sections: Rows<Section>,
+
+    /// The names of the sections that are new in it, each with a 0.
+    pub names: Rows<u8>,
+}
+
+/// A plan by its tables.
+pub fn plan_of(
+    slot: u64,
+    cut: usize,
+    more: Rows<u8>,
+    tables: FormTables,
+    parts: Rows<Rows<u8>>,
+) -> FormPlan
+    ensures { result ≡ plan_of slot cut more tables parts }
+{
+    let FormTables {
+        segments,
+        dynamic,
+        sections,
+        names,
+    } = tables;
+    FormPlan {
+        slot,
+        cut,
+        more,
+        segments,
+        dynamic,
+        parts,
+        sections,
+        names,
+    }
 }
 
 /// What is written of a library list.

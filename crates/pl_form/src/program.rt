@@ -1,5 +1,5 @@
 // The plan of a program's form.
-ghost use Rattle.std.specs.Prelude.{◌≡◌, ◌+◌, ◌*◌, ◌<◌, ◌≤◌, ◌^◌, ◌++◌, ◌∷◌, [], false, length, map, IfOk};
+ghost use Rattle.std.specs.Prelude.{◌≡◌, ◌+◌, ◌*◌, ◌<◌, ◌≤◌, ◌^◌, ◌++◌, ◌∷◌, [], ◌-◌, false, length, map, IfOk};
 ghost use Rattle.std.specs.List.{list_any};
 ghost use Rattle.pl_elf.specs.Clauses.{section_passes};
 ghost use Rattle.pl_elf.specs.Headers as headers;
@@ -13,12 +13,13 @@ ghost use Rattle.pl_base.specs.Windows.{AllIn, IsIn};
 ghost use Rattle.pl_form.specs.Extending as spec;
 ghost use Rattle.pl_form.specs.Extending.{IsShort, AreShort, HasNames, IsExtended};
 ghost use Rattle.pl_form.specs.Originals.{original};
+ghost use Rattle.pl_form.specs.Tables as tables;
 
 use crate::bytes::{plain, push_entry, put_bytes};
 use crate::extension::{conflicts_at, extension, extension_at, rows_at, whole_extension};
 use crate::section_names::{CONFLICT_NAME, LIBLIST_NAME, LIBSTR_NAME};
 use crate::write::old_names;
-use crate::{Extension, FormPlan, Layout};
+use crate::{Extension, FormPlan, FormTables, Layout, Spot, plan_of};
 use pl_base::{Rows, end, part, put64, word64};
 use pl_dyn::constants::{
     DT_GNU_CONFLICT, DT_GNU_CONFLICTSZ, DT_GNU_LIBLIST, DT_GNU_LIBLISTSZ, DT_STRSZ, DT_STRTAB,
@@ -295,6 +296,73 @@ fn program_names(alloc: Global) -> Result<Vec<u8>, AllocError>
     Ok(names)
 }
 
+/// What is inserted behind the file bytes of the last PT_LOAD.
+#[derive(Drop)]
+pub struct Insertion {
+    /// Its bytes.
+    pub bytes: Rows<u8>,
+
+    /// How many of them belong to the last PT_LOAD.
+    pub grown: u64,
+}
+
+/// What is inserted behind the file bytes of the last PT_LOAD.
+fn inserted(
+    alloc: Global,
+    last: &Segment,
+    spots: &[Spot],
+    flat: &[u8],
+    lists: &Extension,
+) -> Result<Insertion, AllocError>
+    requires last { IsShort last.now }
+    requires spots { AllIn (last.now.memsz - last.now.filesz) (hidden_windows spots.now) }
+    ensures { IfOk result (λ more. more ≡ tables.inserted last.now spots.now flat.now lists.now) }
+{
+    let block = extension(alloc, last, spots, flat, lists)?;
+    let bytes = whole_extension(alloc, &block)?;
+    Ok(Insertion {
+        bytes: Rows::from_vec(bytes),
+        grown: block.len() as u64,
+    })
+}
+
+/// The new tables of a program's form.
+fn program_tables(
+    alloc: Global,
+    bytes: &[u8],
+    object: &Object,
+    layout: &Layout,
+    last: &Last,
+    more: &Insertion,
+    lists: &Extension,
+) -> Result<FormTables, AllocError>
+    requires few { length bytes.now + 100 < 2 ^ 32 }
+    requires program { IsExtended bytes.now object.now layout.now last.now }
+    requires room { more.now.grown < 2 ^ 32 }
+    requires lists { AreShort lists.now }
+    ensures { IfOk result (λ t. t ≡ tables.program_tables bytes.now object.now layout.now last.now
+        more.now lists.now) }
+{
+    let segment = &last.segment;
+    let shift = Shift {
+        cut: segment.offset + segment.filesz,
+        size: more.bytes.len() as u64,
+    };
+    let segments = program_segments(alloc, shift, more.grown, last, object.segments.as_slice())?;
+    let names = old_names(bytes).len();
+    let old = object.sections.as_slice();
+    let sections = program_sections(alloc, old, names, segment, shift, lists)?;
+    let table = part(bytes, layout.dynamic.at(), layout.dynamic.size());
+    let dynamic = program_table(alloc, segment, lists, layout.tags as usize, table)?;
+    let new = program_names(alloc)?;
+    Ok(FormTables {
+        segments: Rows::from_vec(segments),
+        dynamic: Rows::from_vec(dynamic),
+        sections: Rows::from_vec(sections),
+        names: Rows::from_vec(new),
+    })
+}
+
 /// The plan of a program's form.
 pub fn program_plan(
     alloc: Global,
@@ -314,33 +382,8 @@ pub fn program_plan(
         last.now.index last.now.segment flat.now lists.now) }
 {
     let segment = &last.segment;
-    let cut = segment.offset + segment.filesz;
-    let block = extension(alloc, segment, layout.spots.as_slice(), flat, lists)?;
-    let more = whole_extension(alloc, &block)?;
-    let shift = Shift {
-        cut,
-        size: more.len() as u64,
-    };
-    let segments = program_segments(
-        alloc,
-        shift,
-        block.len() as u64,
-        last,
-        object.segments.as_slice(),
-    )?;
-    let names = old_names(bytes).len();
-    let old = object.sections.as_slice();
-    let sections = program_sections(alloc, old, names, segment, shift, lists)?;
-    let table = part(bytes, layout.dynamic.at(), layout.dynamic.size());
-    let dynamic = program_table(alloc, segment, lists, layout.tags as usize, table)?;
-    Ok(FormPlan {
-        slot: 0,
-        cut: cut as usize,
-        more: Rows::from_vec(more),
-        segments: Rows::from_vec(segments),
-        dynamic: Rows::from_vec(dynamic),
-        parts: Rows::new(alloc),
-        sections: Rows::from_vec(sections),
-        names: Rows::from_vec(program_names(alloc)?),
-    })
+    let more = inserted(alloc, segment, layout.spots.as_slice(), flat, lists)?;
+    let tables = program_tables(alloc, bytes, object, layout, last, &more, lists)?;
+    let cut = (segment.offset + segment.filesz) as usize;
+    Ok(plan_of(0, cut, more.bytes, tables, Rows::new(alloc)))
 }

@@ -13,8 +13,7 @@ ghost use Rattle.sha2.specs.Sha256.{sha256};
 use crate::constants::STORED;
 use crate::library_form::{digest_of, kept_digest, layout_of};
 use crate::program::{Last, program_plan};
-use crate::undo_part::undo_part;
-use crate::write::write_form;
+use crate::write::write_planned;
 use crate::{Extension, Fill, FormFault, Version};
 use pl_base::{Rows, part};
 use pl_elf::Segment;
@@ -111,9 +110,7 @@ fn extended(
     let layout = layout_of(alloc, original, object)?;
     let plan = program_plan(alloc, original, object, &layout, &last, flat, lists)?;
     let kept = kept_digest(version, *digest);
-    let undo = undo_part(alloc, original, &layout, &plan, kept)?;
-    let form = write_form(alloc, original, &layout, &plan, flat, &undo)?;
-    Ok(form)
+    write_planned(alloc, original, &layout, &plan, flat, kept)
 }
 
 /// The form of an accepted program of this SHA-256 with these bytes at its places, one place after the other in the order of the relocations.

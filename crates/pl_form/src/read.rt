@@ -1,10 +1,10 @@
 // What is read of a file that may be a form.
-ghost use Rattle.std.specs.Prelude.{◌≡◌, ◌+◌, ◌++◌, ◌*◌, ◌%◌, ◌^◌, ◌<◌, ◌≤◌, length, true, false, IfOk, OnOk, if◌then◌else◌};
+ghost use Rattle.std.specs.Prelude.{◌≡◌, ◌+◌, ◌++◌, ◌*◌, ◌%◌, ◌^◌, ◌<◌, ◌≤◌, length, true, false, Some, IfOk, OnOk, if◌then◌else◌};
 ghost use Rattle.pl_base.specs.Bytes.{part, word32};
 ghost use Rattle.pl_elf.specs.Kinds.{is_library};
 ghost use Rattle.pl_lists.specs.Reading.{list_of, conflicts_of};
 ghost use Rattle.pl_object.specs.PlaceClauses.{last_load};
-ghost use Rattle.pl_form.specs.Back.{has_undo_section};
+ghost use Rattle.pl_form.specs.Back.{front_of, has_undo_section, when};
 ghost use Rattle.pl_form.specs.Found.{ps_of};
 ghost use Rattle.pl_form.specs.Marks.{IsFormOf};
 ghost use Rattle.pl_form.specs.Reading as spec;
@@ -328,8 +328,129 @@ fn makes_file(
     is_form(alloc, file, marked, spots, flat, digest)
 }
 
-/// What a file is made of, if it is a form of this original.
+/// Where a form changes its original, the original's bytes as they stand in the form, and those at the places.
+#[derive(Drop)]
+struct StandingBytes {
+    layout: Layout,
+    front: Vec<u8>,
+    flat: Vec<u8>,
+}
+
+/// What stands in a file of an original.
+fn standing_in(
+    alloc: Global,
+    file: &[u8],
+    undo: &Undo,
+    original: &[u8],
+    object: &Object,
+) -> Result<StandingBytes, AllocError>
+    requires { spec.IsOwn original.now object.now }
+    ensures layout { IfOk result (λ s. spec.IsLayoutOf original.now s.layout) }
+    ensures front { IfOk result (λ s. s.front.items ≡ front_of undo.now file.now) }
+    ensures flat { IfOk result (λ s. s.flat.items ≡ spec.places_in original.now
+        (front_of undo.now file.now) file.now) }
+{
+    let layout = layout_of(alloc, original, object)?;
+    let front = front_of(alloc, undo, file)?;
+    let zeros = zeros_behind(object, file);
+    let flat = standing(alloc, layout.spots.as_slice(), &front, zeros)?;
+    Ok(StandingBytes {
+        layout,
+        front,
+        flat,
+    })
+}
+
+/// What is read of a file by which it is told whether it is a form of an original.
+#[derive(Drop)]
+struct FileParts {
+    object: Object,
+    lists: Lists,
+    standing: StandingBytes,
+}
+
+/// What is read of a file for an original; None where the original or the file's lists are none of a form.
 #[tactic(auto, unfolding(crate::specs::Reading::marked_by))]
+fn parts_in(
+    alloc: Global,
+    file: &[u8],
+    undo: &Undo,
+    original: &[u8],
+) -> Result<Option<FileParts>, AllocError>
+    requires { has_undo_section file.now ≡ true }
+    ensures { IfOk result (spec.PartsIfAny file.now undo.now original.now) }
+{
+    let Some(object) = firm_object(alloc, original)? else {
+        return Ok(None);
+    };
+    let Some(lists) = lists_in(alloc, &object, file)? else {
+        return Ok(None);
+    };
+    let standing = standing_in(alloc, file, undo, original, &object)?;
+    Ok(Some(FileParts {
+        object,
+        lists,
+        standing,
+    }))
+}
+
+/// All that a file is made of, if it is the form of it with the bytes that stand at the places.
+fn if_form(
+    alloc: Global,
+    file: &[u8],
+    marked: Marked,
+    standing: &StandingBytes,
+    digest: &[u8; 32],
+) -> Result<Option<Marked>, AllocError>
+    requires file { length file.now ≤ STORED }
+    requires made { spec.IsMade marked }
+    requires digest { digest.now ≡ sha256 marked.original }
+    requires spots { standing.now.layout.spots ≡ ps_of marked.original }
+    ensures exact { IfOk result (λ o. o ≡ when
+        (spec.is_form file.now marked standing.now.flat.items) (Some marked)) }
+    ensures form { IfOk result (spec.FormIfAny file.now) }
+{
+    let spots = standing.layout.spots.as_slice();
+    if makes_file(alloc, file, &marked, spots, &standing.flat, digest)? {
+        Ok(Some(marked))
+    } else {
+        Ok(None)
+    }
+}
+
+/// What a file is made of, if it is a form of this original, of which this is read.
+fn marked_with(
+    alloc: Global,
+    file: &[u8],
+    undo: &Undo,
+    original: Rows<u8>,
+    parts: FileParts,
+) -> Result<Option<Marked>, AllocError>
+    requires file { length file.now ≤ STORED }
+    requires parts { spec.ArePartsOf file.now undo.now original parts }
+    ensures exact { IfOk result (λ o. o ≡ spec.marked_by file.now undo.now original) }
+    ensures form { IfOk result (spec.FormIfAny file.now) }
+{
+    let FileParts {
+        object,
+        lists,
+        standing,
+    } = parts;
+    let digest = digest_of(original.as_slice());
+    let layout = &standing.layout;
+    let marked = candidate(
+        undo,
+        original,
+        object,
+        layout,
+        lists,
+        &standing.front,
+        &digest,
+    );
+    if_form(alloc, file, marked, &standing, &digest)
+}
+
+/// What a file is made of, if it is a form of this original.
 fn marked_by(
     alloc: Global,
     file: &[u8],
@@ -341,24 +462,10 @@ fn marked_by(
     ensures exact { IfOk result (λ o. o ≡ spec.marked_by file.now undo.now original) }
     ensures form { IfOk result (spec.FormIfAny file.now) }
 {
-    let Some(object) = firm_object(alloc, original.as_slice())? else {
+    let Some(parts) = parts_in(alloc, file, undo, original.as_slice())? else {
         return Ok(None);
     };
-    let Some(lists) = lists_in(alloc, &object, file)? else {
-        return Ok(None);
-    };
-    let layout = layout_of(alloc, original.as_slice(), &object)?;
-    let front = front_of(alloc, undo, file)?;
-    let zeros = zeros_behind(&object, file);
-    let flat = standing(alloc, layout.spots.as_slice(), &front, zeros)?;
-    let bytes = original.as_slice();
-    let digest = digest_of(bytes);
-    let marked = candidate(undo, original, object, &layout, lists, &front, &digest);
-    let spots = layout.spots.as_slice();
-    if !makes_file(alloc, file, &marked, spots, &flat, &digest)? {
-        return Ok(None);
-    }
-    Ok(Some(marked))
+    marked_with(alloc, file, undo, original, parts)
 }
 
 /// What a file is made of, if it is a form.

@@ -4,6 +4,7 @@ ghost use Rattle.pl_elf.specs.Headers as headers;
 ghost use Rattle.pl_elf.specs.Clauses.{names};
 ghost use Rattle.pl_form.specs.Back.{inserted};
 ghost use Rattle.pl_form.specs.Fits.{Fits};
+ghost use Rattle.pl_form.specs.Forms.{undo_part};
 ghost use Rattle.pl_form.specs.Parts as parts;
 ghost use Rattle.pl_form.specs.Ends as ends;
 ghost use Rattle.pl_form.specs.Originals.{LiesIn, original};
@@ -13,11 +14,14 @@ ghost use Rattle.pl_elf.specs.Written.{header_bytes};
 use crate::bytes::{plain, push_part, put_bytes, section_table, segment_table, up};
 use crate::places::put_visible;
 use crate::section_names::{NAMES_NAME, UNDO_NAME};
+use crate::undo_part::undo_part;
 use crate::{FormPlan, Layout};
 use pl_base::Rows;
 use pl_elf::constants::{HEADER_SIZE, SECTION_SIZE, SHT_PROGBITS, SHT_STRTAB};
 use pl_elf::{Header, Section, header_fields, read_section, section_data, write_header};
+use pl_io::NoMemory;
 use pl_move::move_tables;
+use pl_undo::DIGEST_SIZE;
 use std::alloc::{AllocError, Global};
 
 /// How many bytes there may be of a form, so that room is made for them at once. Nothing but memory and time depends on it.
@@ -220,7 +224,7 @@ fn put_header(file: &mut Vec<u8>, header: &Header)
 }
 
 /// The form of an original by a plan, with the bytes for all places and those of the undo section.
-pub fn write_form(
+fn write_form(
     alloc: Global,
     bytes: &[u8],
     layout: &Layout,
@@ -245,4 +249,26 @@ pub fn write_form(
     push_part(&mut file, &table)?;
     put_header(&mut file, &header);
     Ok(file)
+}
+
+/// The form of an original by a plan, with the bytes for all places and its undo section: version 2 where there is a digest, else version 1.
+pub fn write_planned(
+    alloc: Global,
+    bytes: &[u8],
+    layout: &Layout,
+    plan: &FormPlan,
+    flat: &[u8],
+    digest: Option<[u8; DIGEST_SIZE]>,
+) -> Result<Vec<u8>, NoMemory>
+    requires long { 64 ≤ length bytes.now }
+    requires fits { Fits plan.now (original bytes.now layout.now) flat.now
+        (length (undo_part plan.now (original bytes.now layout.now) digest)) }
+    requires names { headers.section_offset (headers.header bytes.now)
+        (headers.header bytes.now).shstrndx + 64 ≤ length bytes.now }
+    ensures { IfOk result (λ v. v.items ≡ parts.form plan.now (original bytes.now layout.now)
+        flat.now (undo_part plan.now (original bytes.now layout.now) digest)) }
+{
+    let undo = undo_part(alloc, bytes, layout, plan, digest)?;
+    let form = write_form(alloc, bytes, layout, plan, flat, &undo)?;
+    Ok(form)
 }

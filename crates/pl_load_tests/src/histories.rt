@@ -3,12 +3,11 @@ use crate::firm::file_of;
 use crate::marked::{LIBA, marked_library};
 use crate::running::ran_over;
 use pl_base::{Rows, Text, has_name_length};
-use pl_batch::{
-    BatchFault, Cause, Prelinking, Run, changes_of, do_run, preview_all, remove, verify,
-};
+use pl_batch::{Prelinking, Run, changes_of, do_run, preview_all, verify};
 use pl_build::build;
 use pl_build::recipes::{EXAMPLES, Example};
 use pl_cases::{number, parts};
+use pl_change::{BatchFault, Cause, remove};
 use pl_cli::Status;
 use pl_cone::Skip;
 use pl_elf::Range;

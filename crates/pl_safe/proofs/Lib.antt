@@ -2,6 +2,8 @@ pub mod MeaningLemmas
 pub mod RunLemmas
 pub mod ScratchLemmas
 pub mod StampLemmas
+pub mod AnswerLaws
+pub mod TextLaws
 pub mod LoadLemmas
 pub mod VerifyLemmas
 pub mod SafeLemmas

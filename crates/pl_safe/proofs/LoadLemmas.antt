@@ -3,9 +3,9 @@ use Rattle.std.proofs.Common.{ap}
 use Rattle.std.specs.FinMap.{get}
 use Rattle.pl_rewrite.specs.Skips.{skip_causes}
 use Rattle.pl_cli.specs.Answer.{text_answer}
-use Rattle.law_loads.proofs.AnswerLaws.{answers_are_ordinary}
+use Rattle.pl_safe.proofs.AnswerLaws.{answers_are_ordinary}
 use Rattle.law_folder.proofs.SoundLemmas.{sound_keep}
-use Rattle.law_loads.proofs.TextLaws.{weaves_print_ordinary}
+use Rattle.pl_safe.proofs.TextLaws.{weaves_print_ordinary}
 use Rattle.pl_safe.specs.Laws.{SoundLoadsAreOrdinary, SoundWeavesAreOrdinary}
 
 pub loads_ordinary : SoundLoadsAreOrdinary

@@ -9,17 +9,19 @@ use Rattle.pl_folder.specs.Disk.{Name, View, same}
 use Rattle.pl_form.specs.Files.{original_in}
 use Rattle.pl_journal.specs.Meaning.{applied}
 use Rattle.pl_journal.specs.declared.change.Change.{Change}
-use Rattle.pl_batch.specs.Changes.{changes_of, removal_meant, run_meant}
-use Rattle.pl_batch.specs.Commands.{Meaning, ready_for}
-use Rattle.pl_batch.specs.Replace.{fixed_as, loosened_of, replacing_meant}
+use Rattle.pl_batch.specs.Changes.{changes_of, run_meant}
+use Rattle.pl_change.specs.Changes.{removal_meant}
+use Rattle.pl_change.specs.Commands.{Meaning, ready_for}
+use Rattle.pl_change.specs.Replace.{fixed_as, loosened_of, replacing_meant}
 use Rattle.pl_batch.specs.declared.prelinking.Prelinking.{Prelinking}
 use Rattle.pl_batch.specs.declared.run.Run.{Run}
 use Rattle.pl_batch.specs.declared.run.Run.TheVariants as runs
 use Rattle.pl_cli.specs.Load.{choice}
-use Rattle.pl_cli.specs.Writes.{content, fixes, loosens, of_batch, prelinks, removes, stores, undoes}
+use Rattle.pl_cli.specs.Writes.{content, fixes, loosens, prelinks, removes, stores, undoes}
+use Rattle.pl_cli.specs.Stops.{of_batch}
 use Rattle.pl_words.specs.declared.command.Policy.{Policy}
-use Rattle.pl_cli.specs.declared.cause.Cause.{Cause}
-use Rattle.pl_cli.specs.declared.command.Content.{Content}
+use Rattle.pl_cli.specs.Cause.{Cause}
+use Rattle.pl_cli.specs.Content.{Content}
 use Rattle.law_folder.specs.Originals.{HasOriginal, SameOriginals, originals}
 use Rattle.law_folder.specs.Safe.{IsSafe, after, changed}
 use Rattle.law_folder.specs.Steps.{MakesStep}

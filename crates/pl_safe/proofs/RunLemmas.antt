@@ -17,19 +17,20 @@ use Rattle.pl_journal.specs.RealDisk.{AreAlike, LosesLoose, RunsFirmlyOn, real_b
 use Rattle.pl_journal.proofs.Moments.{after_start, since_start, starts, weaker}
 use Rattle.pl_journal.proofs.RealLemmas.{firm_same, on_looks, real_images, run_beside}
 use Rattle.pl_journal.proofs.RecoverLemmas.{waited_look}
-use Rattle.pl_batch.specs.Commands.{CommandsFiles, Failed, IsBefore, Lacked, Made, Meaning, Outcome, Refused}
-use Rattle.pl_batch.specs.Restored.{restored}
+use Rattle.pl_change.specs.Commands.{CommandsFiles, Failed, IsBefore, Lacked, Made, Meaning, Outcome, Refused}
+use Rattle.pl_change.specs.Restored.{restored}
 use Rattle.pl_batch.specs.declared.run.Run.TheVariants as runs
-use Rattle.pl_batch.proofs.RestoredLemmas.{restored_before}
+use Rattle.pl_change.proofs.RestoredLemmas.{restored_before}
 use Rattle.pl_cli.specs.Came.{Makes}
 use Rattle.pl_cli.specs.Ran.{Ran}
 use Rattle.pl_cli.specs.Load.{loaded_object}
 use Rattle.pl_cli.specs.Looks.{takes}
 use Rattle.pl_cli.specs.Order.{object_in}
-use Rattle.pl_cli.specs.Outside.{Outside, ending_of}
+use Rattle.pl_cli.specs.Outside.{Outside}
+use Rattle.pl_cli.specs.Endings.{ending_of}
 use Rattle.pl_cli.specs.Words.{bytes_of}
 use Rattle.pl_cli.specs.Writes.{AreBytes, WritesDisk, WritesFiles}
-use Rattle.pl_cli.specs.declared.cause.Cause.{Cause}
+use Rattle.pl_cli.specs.Cause.{Cause}
 use Rattle.pl_cli.specs.declared.command.Command.{Command}
 use Rattle.pl_cli.specs.declared.command.Command.TheVariants.{Load, All, Preview, UndoAll, Undo, Verify, Store, Remove, Fix, Unfix, Print, Order, Demo, Weave}
 use Rattle.pl_words.specs.declared.status.Status.{Status}

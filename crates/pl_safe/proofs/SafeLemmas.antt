@@ -2,7 +2,7 @@
 use Rattle.std.proofs.Common.{◌≡◌, Option, Some, true, ap, subst, ◌∙◌}
 use Rattle.std.specs.FinMap.{get}
 use Rattle.pl_folder.specs.Seen.{IsFolder}
-use Rattle.pl_batch.specs.Restored.{restored}
+use Rattle.pl_change.specs.Restored.{restored}
 use Rattle.pl_batch.specs.declared.prelinking.Prelinking.{Prelinking}
 use Rattle.pl_cli.specs.Answer.{answer}
 use Rattle.pl_cli.specs.Outside.{Outside}
@@ -10,7 +10,7 @@ use Rattle.pl_cli.specs.Ran.{Ran}
 use Rattle.pl_cli.specs.Words.{bytes_of}
 use Rattle.pl_cli.specs.declared.command.Command.{Command}
 use Rattle.pl_cli.specs.declared.command.Command.TheVariants.{All}
-use Rattle.pl_cli.specs.declared.command.Detail.{Detail}
+use Rattle.pl_cli.specs.Detail.{Detail}
 use Rattle.pl_words.specs.declared.status.Status.{Status}
 use Rattle.pl_words.specs.declared.status.Status.TheVariants as statuses
 use Rattle.law_folder.specs.Sound.{IsSound}

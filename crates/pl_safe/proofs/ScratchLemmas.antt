@@ -7,11 +7,11 @@ use Rattle.pl_folder.specs.Disk.{View}
 use Rattle.pl_journal.specs.Meaning.{applied}
 use Rattle.pl_journal.specs.declared.change.Change.{Change}
 use Rattle.pl_batch.specs.Changes.{changes_of}
-use Rattle.pl_batch.specs.Commands.{ready}
-use Rattle.pl_batch.specs.Restored.{restored}
+use Rattle.pl_change.specs.Commands.{ready}
+use Rattle.pl_change.specs.Restored.{restored}
 use Rattle.pl_batch.specs.declared.prelinking.Prelinking.{Prelinking}
 use Rattle.pl_batch.specs.declared.run.Run.TheVariants as runs
-use Rattle.pl_batch.proofs.RestoredLemmas.{restored_before}
+use Rattle.pl_change.proofs.RestoredLemmas.{restored_before}
 use Rattle.pl_cli.specs.Writes.{prelinks}
 use Rattle.law_folder.specs.Sound.{KeepsTheRule}
 use Rattle.law_folder.proofs.CommandLemmas.{is_before}

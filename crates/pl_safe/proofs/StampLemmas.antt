@@ -12,13 +12,14 @@ use Rattle.pl_journal.specs.Meaning.{Same, applied}
 use Rattle.pl_journal.specs.Rows.{recovered}
 use Rattle.pl_journal.specs.declared.change.Change.{Change}
 use Rattle.pl_journal.proofs.Moments.{since_start, weaker}
-use Rattle.pl_batch.specs.Commands.{CommandsFiles, LeavesFiles, Made, MakesFiles, Meaning, Refused}
-use Rattle.pl_batch.specs.Restored.{restored}
-use Rattle.pl_batch.proofs.RestoredLemmas.{restored_before}
-use Rattle.pl_cli.specs.Outside.{Outside, ending_of}
+use Rattle.pl_change.specs.Commands.{CommandsFiles, LeavesFiles, Made, MakesFiles, Meaning, Refused}
+use Rattle.pl_change.specs.Restored.{restored}
+use Rattle.pl_change.proofs.RestoredLemmas.{restored_before}
+use Rattle.pl_cli.specs.Outside.{Outside}
+use Rattle.pl_cli.specs.Endings.{ending_of}
 use Rattle.pl_cli.specs.Ran.{Ran}
 use Rattle.pl_cli.specs.Writes.{WritesFiles}
-use Rattle.pl_cli.specs.declared.cause.Cause.{Cause}
+use Rattle.pl_cli.specs.Cause.{Cause}
 use Rattle.pl_cli.specs.declared.command.Command.{Command}
 use Rattle.pl_words.specs.declared.status.Status.{Status}
 use Rattle.pl_words.specs.declared.status.Status.TheVariants as statuses

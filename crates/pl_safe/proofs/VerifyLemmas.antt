@@ -15,11 +15,11 @@ use Rattle.law_sound.specs.Rule.{is_verified, original_at, walk_in}
 use Rattle.law_sound.proofs.Theorems as theorems
 use Rattle.pl_batch.specs.Folder as folder
 use Rattle.pl_batch.specs.Verify.{causes, original_if_verified, verified}
-use Rattle.pl_batch.specs.declared.cause.Cause.TheVariants as batch_causes
+use Rattle.pl_change.specs.declared.cause.Cause.TheVariants as batch_causes
 use Rattle.pl_cli.specs.Answer.{answer, compare_answer}
 use Rattle.pl_cli.specs.Verified.{verifies}
-use Rattle.pl_cli.specs.Writes.{of_batch}
-use Rattle.pl_cli.specs.declared.cause.Cause.{Cause}
+use Rattle.pl_cli.specs.Stops.{of_batch}
+use Rattle.pl_cli.specs.Cause.{Cause}
 use Rattle.pl_cli.specs.declared.command.Command.TheVariants.{Verify}
 use Rattle.pl_words.specs.declared.status.Status.TheVariants as statuses
 use Rattle.law_folder.specs.Sound.{named}

@@ -10,7 +10,7 @@ use Rattle.pl_journal.specs.Leaves.{Looks}
 use Rattle.pl_journal.specs.Meaning.{Same}
 use Rattle.pl_journal.specs.Parts.{AtDone}
 use Rattle.pl_journal.specs.RealDisk.{AllFirm, LosesLoose, RunsFirmlyOn, real_by}
-use Rattle.pl_batch.specs.Restored.{restored}
+use Rattle.pl_change.specs.Restored.{restored}
 use Rattle.pl_batch.specs.declared.prelinking.Prelinking.{Prelinking}
 use Rattle.law_folder.specs.Safe.{IsSafeImage, after}
 use Rattle.law_folder.specs.Sound.{IsSound, named}
@@ -22,16 +22,17 @@ use Rattle.law_sound.specs.Rule.{matches, members}
 use Rattle.pl_journal.specs.Names.{journal}
 use Rattle.pl_words.specs.declared.command.Policy.{Policy}
 use Rattle.pl_cli.specs.Answer.{answer, text_answer}
-use Rattle.pl_cli.specs.Outside.{Outside, ending_of}
+use Rattle.pl_cli.specs.Outside.{Outside}
+use Rattle.pl_cli.specs.Endings.{ending_of}
 use Rattle.pl_cli.specs.Ran.{Ran}
 use Rattle.pl_cli.specs.Writes.{AreBytes}
 use Rattle.pl_cli.specs.declared.command.Command.{Command}
 use Rattle.pl_cli.specs.declared.command.Command.TheVariants.{All, Load, Verify, Weave}
-use Rattle.pl_cli.specs.declared.command.Detail.{Detail}
+use Rattle.pl_cli.specs.Detail.{Detail}
 use Rattle.pl_words.specs.declared.status.Status.{Status}
 use Rattle.pl_words.specs.declared.status.Status.TheVariants as statuses
-use Rattle.law_loads.specs.Answers.{ordinary_answer}
-use Rattle.law_loads.specs.Texts.{linked_from, weaves_from}
+use Rattle.pl_safe.specs.Ordinary.{ordinary_answer}
+use Rattle.pl_safe.specs.Texts.{linked_from, weaves_from}
 use Rattle.pl_safe.specs.Runs.{IsFromScratch, KeepsOriginals, LeavesPastAll, LeavesSound, RealKeeps, StandsPastAll, changed_name, is_whole, meaning, now_by, writes}
 
 -- ---- every run

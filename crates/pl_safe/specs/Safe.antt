@@ -6,7 +6,7 @@ use Rattle.pl_folder.specs.Disk.{View, clock}
 use Rattle.pl_folder.specs.Since.{Since, Within}
 use Rattle.pl_journal.specs.Meaning.{Same}
 use Rattle.pl_journal.specs.RealDisk.{RunsFirmlyOn}
-use Rattle.pl_batch.specs.Restored.{restored}
+use Rattle.pl_change.specs.Restored.{restored}
 use Rattle.pl_batch.specs.declared.prelinking.Prelinking.{Prelinking}
 use Rattle.law_folder.specs.Safe.{IsSafeImage, after}
 use Rattle.law_folder.specs.Sound.{IsSound}
@@ -14,16 +14,17 @@ use Rattle.law_folder.specs.Steps.{IsPastAll}
 use Rattle.pl_rewrite.specs.Skips.{skip_causes}
 use Rattle.pl_words.specs.declared.command.Policy.{Policy}
 use Rattle.pl_cli.specs.Answer.{answer, text_answer}
-use Rattle.pl_cli.specs.Outside.{Outside, ending_of}
+use Rattle.pl_cli.specs.Outside.{Outside}
+use Rattle.pl_cli.specs.Endings.{ending_of}
 use Rattle.pl_cli.specs.Words.{bytes_of}
 use Rattle.pl_cli.specs.Writes.{AreBytes}
 use Rattle.pl_cli.specs.declared.command.Command.{Command}
 use Rattle.pl_cli.specs.declared.command.Command.TheVariants.{All, Load, Weave}
-use Rattle.pl_cli.specs.declared.command.Detail.{Detail}
+use Rattle.pl_cli.specs.Detail.{Detail}
 use Rattle.pl_words.specs.declared.status.Status.{Status}
 use Rattle.pl_words.specs.declared.status.Status.TheVariants as statuses
-use Rattle.law_loads.specs.Answers.{ordinary_answer}
-use Rattle.law_loads.specs.Texts.{linked_from, weaves_from}
+use Rattle.pl_safe.specs.Ordinary.{ordinary_answer}
+use Rattle.pl_safe.specs.Texts.{linked_from, weaves_from}
 use Rattle.pl_safe.specs.Runs.{IsFromScratch, KeepsOriginals, LeavesPastAll, LeavesSound, StandsPastAll, changed_name, is_whole, meaning, writes}
 
 -- A run of what words ask for, with w outside before it and v after it: what it answers, and what is read of the folder after it.

@@ -1,4 +1,6 @@
 // Laws of whole runs.
+ghost use Rattle.pl_safe.specs.Ordinary.{AnswersAreOrdinary};
+ghost use Rattle.pl_safe.specs.Texts.{WeavesPrintLoads, WeavesPrintOrdinary};
 ghost use Rattle.pl_safe.specs.Laws.{EveryImageStandsPastAll, EveryRunIsSafe, FilesAreFromScratch, FilesStandPastAll, FirmDisksStaySound, ImagesAreFromScratch, ImagesOfRealDisks, SoundLoadsAreOrdinary, SoundWeavesAreOrdinary, ReadersLook, RealImagesStand, RealWritersEnd, OthersKeepOriginals, RunsLeave, RunsLeavePastAll, RunsEndSound, RunsOnRealDisks, RunsRead, VerifiedAreSound, WritersEnd, WritersEndPastAll, WrittenArePastAll};
 
 /// What a run leaves of a folder that reads as a sound one, whatever its words ask for and however it ends: it only looked, or each image of a moment after its start is sound, and stands for the files before it or for those after it. Where each image at the start was sound, each one since then is. A command that only reads changes nothing; after one that writes, is done or refused, and whether or not its text could be written, the files after it are the only image.
@@ -49,9 +51,20 @@ pub fn verified_are_sound()
     ensures { VerifiedAreSound }
 {}
 
-/// Over a sound folder, recovered or not, `--load` answers by status and text as if it linked the originals at the same places.
+/// `--load` of a name at which the files of its folder keep the rule of prelinked files answers, by its status and byte for byte of its text, as a command that links the originals at the same places and tells the path by the prelinked files.
+pub fn answers_are_ordinary<F>()
+    ensures { AnswersAreOrdinary F }
+{}
+
+/// So over a sound folder, recovered or not, `--load` answers by status and text as if it linked the originals at the same places.
 pub fn sound_loads_are_ordinary()
     ensures { SoundLoadsAreOrdinary }
+{}
+
+/// The text of `--weave`, over every folder and input: each loader that has finished prints what `--load` prints of the files that it saw, or why they do not load. Where the folder keeps the rule of prelinked files, and its cache's last stamp is no less than all stamps and rows of lists, that is what linking the originals of these files gives, at the same places, with the path that these files allow.
+pub fn weaves_print_ordinary_loads()
+    ensures loads { WeavesPrintLoads }
+    ensures ordinary { WeavesPrintOrdinary }
 {}
 
 /// So each loader of `--weave` that has finished prints what linking the originals of the files that it saw gives, where the folder is sound and no stamp or row of a list in it is past the last stamp of its cache.

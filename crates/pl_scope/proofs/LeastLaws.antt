@@ -9,7 +9,7 @@ use Rattle.pl_sym.specs.declared.class.Class.TheVariants.{Jump}
 use Rattle.pl_hash.specs.ChainSymbols.{name_hash, is_chain_symbol}
 use Rattle.pl_object.specs.declared.object.Object.{Object}
 use Rattle.pl_scope.specs.Matching.{defines, counts, only}
-use Rattle.pl_scope.specs.Probing.{picked, passes, passes_at, IsProbe, led_to, picks, lesser, least_from, another}
+use Rattle.pl_scope.specs.Probing.{taken, picked, passes, passes_at, IsProbe, led_to, picks, lesser, least_from, another}
 use Rattle.pl_scope.specs.declared.probe.Pick.{Pick}
 use Rattle.pl_scope.specs.declared.probe.Pick.TheVariants.{Version, Plain, Index, Each, Shown}
 use Rattle.pl_scope.specs.declared.probe.Probe.{Probe}
@@ -17,6 +17,14 @@ use Rattle.pl_scope.proofs.PlaceLaws.{located, at_found, only_one, only_many}
 
 abbrev pub has : ℕ → List ℕ → Bool
 has index xs = list_any (λ x. x == index) xs
+
+-- what a step takes of the definers for jump slots
+pub taken_is : (o : Object) (name : List ℕ) (pick : Pick) (s : Symbol) → taken o name Jump pick s ≡ picked o name pick s
+taken_is o name (Version version) s = refl
+taken_is o name Plain s = refl
+taken_is o name (Index index) s = refl
+taken_is o name Each s = refl
+taken_is o name Shown s = refl
 
 -- nothing before an index passes
 abbrev NoneBefore : (ℕ → Bool) → ℕ → Type 0

@@ -21,7 +21,15 @@ use Rattle.pl_scope.specs.declared.wanted.Wanted.{Wanted}
 
 -- ---- one step of the search
 
--- which of the definers of a name a step takes
+-- which of the definers of a name for references of a class a step takes
+abbrev pub taken : Object → List ℕ → Class → Pick → Symbol → Bool
+taken o name class (Version version) s = defines o name class s && has_version o version.now s
+taken o name class Plain s = defines o name class s && s.version == VER_NDX_GLOBAL
+taken o name class (Index index) s = defines o name class s && index_of s.version == index
+taken o name class Each s = counts o name class true s
+taken o name class Shown s = counts o name class false s
+
+-- the same for jump slots
 abbrev pub picked : Object → List ℕ → Pick → Symbol → Bool
 picked o name (Version version) s = defines o name Jump s && has_version o version.now s
 picked o name Plain s = defines o name Jump s && s.version == VER_NDX_GLOBAL

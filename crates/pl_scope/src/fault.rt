@@ -11,26 +11,40 @@ use thiserror::Error;
 #[derive(Drop, Error)]
 pub enum WalkFault {
     /// A member after the first is no library, and this is its name; or a member after the first needs the first, which is a program of this name.
-    #[error("a program is needed by another object")]
     NeededIsProgram(Text),
     /// This name would be member number `MAX_MEMBERS` + 1.
-    #[error("the walk has too many members")]
     TooMany(Text),
     /// There is no object of this name.
-    #[error("a needed object is not there")]
     NotThere(Text),
     /// There was no memory for the answer.
-    #[error("out of memory")]
     NoMemory,
+}
+
+impl fmt::Display for WalkFault {
+    fn fmt<W: fmt::Write>(&self, f: &mut fmt::Formatter<W>) -> fmt::Result {
+        let cause = match self {
+            WalkFault::NeededIsProgram(_) => "a program is needed by another object",
+            WalkFault::TooMany(_) => "the walk has too many members",
+            WalkFault::NotThere(_) => "a needed object is not there",
+            WalkFault::NoMemory => "out of memory",
+        };
+        f.write_str(cause)
+    }
 }
 
 impl fmt::Debug for WalkFault {
     fn fmt<W: fmt::Write>(&self, f: &mut fmt::Formatter<W>) -> fmt::Result {
-        let (cause, name) = match self {
-            WalkFault::NeededIsProgram(name) => ("NeededIsProgram", name.as_str()),
-            WalkFault::TooMany(name) => ("TooMany", name.as_str()),
-            WalkFault::NotThere(name) => ("NotThere", name.as_str()),
-            WalkFault::NoMemory => ("NoMemory", ""),
+        let cause = match self {
+            WalkFault::NeededIsProgram(_) => "NeededIsProgram",
+            WalkFault::TooMany(_) => "TooMany",
+            WalkFault::NotThere(_) => "NotThere",
+            WalkFault::NoMemory => "NoMemory",
+        };
+        let name = match self {
+            WalkFault::NeededIsProgram(name)
+            | WalkFault::TooMany(name)
+            | WalkFault::NotThere(name) => name.as_str(),
+            WalkFault::NoMemory => "",
         };
         f.write_str(cause)?;
         f.write_str(" ")?;

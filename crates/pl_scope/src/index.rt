@@ -12,7 +12,7 @@ use pl_sym::{Class, Symbol, is_definer};
 use std::alloc::{AllocError, Global};
 
 /// A member has a definer under a hash.
-#[derive(Clone, Copy, Debug)]
+#[derive(Clone, Copy)]
 pub struct Entry {
     /// The hash of the definer's name in a GNU table.
     pub hash: u32,

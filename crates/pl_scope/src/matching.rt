@@ -5,8 +5,10 @@ ghost use Rattle.std.specs.Str.{bytes_eq};
 ghost use Rattle.pl_ver.specs.Fields.{index_of};
 ghost use Rattle.pl_ver.specs.declared.constants.TheConstants.{VER_NDX_GLOBAL};
 ghost use Rattle.pl_scope.specs.Matching as spec;
+ghost use Rattle.pl_scope.specs.Probing as probing;
 
 use crate::constants::FIRST_VERSION;
+use crate::probe::Pick;
 use pl_object::{Object, version_name};
 use pl_sym::{Class, Symbol, is_definer};
 use pl_ver::constants::{VER_NDX_GLOBAL, VER_NDX_LOCAL, VERSYM_HIDDEN};
@@ -35,7 +37,7 @@ fn has_version(object: &Object, version: &[u8], symbol: &Symbol) -> bool
     }
 }
 
-pub fn is_of_version(
+fn is_of_version(
     object: &Object,
     name: &[u8],
     class: Class,
@@ -48,56 +50,57 @@ pub fn is_of_version(
     defines(object, name, class, symbol) && has_version(object, version, symbol)
 }
 
-fn of_version(object: &Object, name: &[u8], class: Class, version: &[u8]) -> Option<usize>
-    ensures value { result ≡ position (λ s. spec.defines object.now name.now class s &&
-        spec.has_version object.now version.now s) object.now.symbols }
-    ensures within { IfSome result (λ i. i < length object.now.symbols) }
-{
-    object.symbols.as_slice().iter().position(|symbol| is_of_version(
-        object, name, class, version, symbol,
-    ))
-}
-
-pub fn is_of_no_version(object: &Object, name: &[u8], class: Class, symbol: &Symbol) -> bool
+fn is_of_no_version(object: &Object, name: &[u8], class: Class, symbol: &Symbol) -> bool
     ensures { result ≡ (spec.defines object.now name.now class symbol.now && symbol.now.version ==
         VER_NDX_GLOBAL) }
 {
     defines(object, name, class, symbol) && symbol.version == VER_NDX_GLOBAL
 }
 
-fn of_no_version(object: &Object, name: &[u8], class: Class) -> Option<usize>
-    ensures value { result ≡ position (λ s. spec.defines object.now name.now class s && s.version ==
-        VER_NDX_GLOBAL) object.now.symbols }
-    ensures within { IfSome result (λ i. i < length object.now.symbols) }
+fn is_at_index(object: &Object, name: &[u8], class: Class, index: u16, symbol: &Symbol) -> bool
+    ensures { result ≡ (spec.defines object.now name.now class symbol.now && index_of
+        symbol.now.version == index) }
 {
-    object
-        .symbols
-        .as_slice()
-        .iter()
-        .position(|symbol| is_of_no_version(object, name, class, symbol))
+    defines(object, name, class, symbol) && index_of(symbol.version) == index
 }
 
 /// Whether a symbol defines the name and, unless hidden ones count too, is not hidden.
 #[tactic(auto, unfolding(crate::specs::Matching::counts))]
-pub fn counts(object: &Object, name: &[u8], class: Class, hidden: bool, symbol: &Symbol) -> bool
+fn counts(object: &Object, name: &[u8], class: Class, hidden: bool, symbol: &Symbol) -> bool
     ensures { result ≡ spec.counts object.now name.now class hidden symbol.now }
 {
     defines(object, name, class, symbol) && (hidden || symbol.version < VERSYM_HIDDEN)
 }
 
-fn count_definers(object: &Object, name: &[u8], class: Class, hidden: bool) -> usize
-    ensures { result ≡ count_by (spec.counts object.now name.now class hidden) object.now.symbols }
+/// Whether a step of the search takes a symbol.
+pub fn is_taken(object: &Object, name: &[u8], class: Class, pick: Pick<'_>, symbol: &Symbol) -> bool
+    ensures { result ≡ probing.taken object.now name.now class pick.entry symbol.now }
+{
+    match pick {
+        Pick::Version(version) => is_of_version(object, name, class, version, symbol),
+        Pick::Plain => is_of_no_version(object, name, class, symbol),
+        Pick::Index(index) => is_at_index(object, name, class, index, symbol),
+        Pick::Each => counts(object, name, class, true, symbol),
+        Pick::Shown => counts(object, name, class, false, symbol),
+    }
+}
+
+/// How many symbols a step takes.
+fn count_taken(object: &Object, name: &[u8], class: Class, pick: Pick<'_>) -> usize
+    ensures { result ≡ count_by (probing.taken object.now name.now class pick.entry)
+        object.now.symbols }
 {
     object
         .symbols
         .as_slice()
         .iter()
-        .filter(|symbol| counts(object, name, class, hidden, symbol))
+        .filter(|symbol| is_taken(object, name, class, pick, symbol))
         .count()
 }
 
-fn first_definer(object: &Object, name: &[u8], class: Class, hidden: bool) -> Option<usize>
-    ensures value { result ≡ position (spec.counts object.now name.now class hidden)
+/// The index of the first symbol that a step takes.
+fn first_taken(object: &Object, name: &[u8], class: Class, pick: Pick<'_>) -> Option<usize>
+    ensures value { result ≡ position (probing.taken object.now name.now class pick.entry)
         object.now.symbols }
     ensures within { IfSome result (λ i. i < length object.now.symbols) }
 {
@@ -105,17 +108,17 @@ fn first_definer(object: &Object, name: &[u8], class: Class, hidden: bool) -> Op
         .symbols
         .as_slice()
         .iter()
-        .position(|symbol| counts(object, name, class, hidden, symbol))
+        .position(|symbol| is_taken(object, name, class, pick, symbol))
 }
 
-/// The index of the only definer, of all or of those that are not hidden.
-fn only_definer(object: &Object, name: &[u8], class: Class, hidden: bool) -> Option<usize>
-    ensures value { result ≡ spec.only (spec.counts object.now name.now class hidden)
+/// The index of the only symbol that a step takes.
+fn only_taken(object: &Object, name: &[u8], class: Class, pick: Pick<'_>) -> Option<usize>
+    ensures value { result ≡ spec.only (probing.taken object.now name.now class pick.entry)
         object.now.symbols }
     ensures within { IfSome result (λ i. i < length object.now.symbols) }
 {
-    if count_definers(object, name, class, hidden) == 1 {
-        first_definer(object, name, class, hidden)
+    if count_taken(object, name, class, pick) == 1 {
+        first_taken(object, name, class, pick)
     } else {
         None
     }
@@ -127,35 +130,17 @@ fn versioned(object: &Object, name: &[u8], class: Class, version: &[u8]) -> Opti
     ensures value { result ≡ spec.versioned object.now name.now class version.now }
     ensures within { IfSome result (λ i. i < length object.now.symbols) }
 {
-    if let Some(index) = of_version(object, name, class, version) {
+    if let Some(index) = first_taken(object, name, class, Pick::Version(version)) {
         return Some(index);
     }
-    if let Some(index) = of_no_version(object, name, class) {
+    if let Some(index) = first_taken(object, name, class, Pick::Plain) {
         return Some(index);
     }
     if object.versions.is_some() {
         None
     } else {
-        only_definer(object, name, class, true)
+        only_taken(object, name, class, Pick::Each)
     }
-}
-
-pub fn is_at_index(object: &Object, name: &[u8], class: Class, index: u16, symbol: &Symbol) -> bool
-    ensures { result ≡ (spec.defines object.now name.now class symbol.now && index_of
-        symbol.now.version == index) }
-{
-    defines(object, name, class, symbol) && index_of(symbol.version) == index
-}
-
-fn at_index(object: &Object, name: &[u8], class: Class, index: u16) -> Option<usize>
-    ensures value { result ≡ spec.at_index object.now name.now class index }
-    ensures within { IfSome result (λ i. i < length object.now.symbols) }
-{
-    object
-        .symbols
-        .as_slice()
-        .iter()
-        .position(|symbol| is_at_index(object, name, class, index, symbol))
 }
 
 #[tactic(auto, unfolding(crate::specs::Matching::unversioned))]
@@ -163,16 +148,16 @@ fn unversioned(object: &Object, name: &[u8], class: Class) -> Option<usize>
     ensures value { result ≡ spec.unversioned object.now name.now class }
     ensures within { IfSome result (λ i. i < length object.now.symbols) }
 {
-    if let Some(index) = at_index(object, name, class, VER_NDX_LOCAL) {
+    if let Some(index) = first_taken(object, name, class, Pick::Index(VER_NDX_LOCAL)) {
         return Some(index);
     }
-    if let Some(index) = at_index(object, name, class, VER_NDX_GLOBAL) {
+    if let Some(index) = first_taken(object, name, class, Pick::Index(VER_NDX_GLOBAL)) {
         return Some(index);
     }
-    if let Some(index) = at_index(object, name, class, FIRST_VERSION) {
+    if let Some(index) = first_taken(object, name, class, Pick::Index(FIRST_VERSION)) {
         return Some(index);
     }
-    only_definer(object, name, class, false)
+    only_taken(object, name, class, Pick::Shown)
 }
 
 /// The index of an object's symbol that matches a name, for references of a class, with or without a version.

@@ -66,14 +66,13 @@ fn needed_program<'a>(program: Option<&str>, needed: &'a [Text]) -> Option<&'a T
     }
 }
 
-/// Adds a name at the end, where it is new.
+/// Adds a name at the end, where it is new. After a fault the names are as before.
 #[tactic(auto, unfolding(crate::specs::Walk::added))]
 fn add(alloc: Global, names: &mut Vec<Text>, name: &Text) -> Result<(), WalkFault>
     ensures ok { OnOk result (spec.added names.old.items name.now ≡ Ok names.new.items) }
     ensures err { IfErr result (λ fault. Answers spec.is_memory (Err fault)
         (spec.added names.old.items name.now)) }
-    ensures front { take (length names.old.items) names.new.items ≡ names.old.items }
-    ensures few { spec.StayFew names.old.items names.new.items }
+    ensures unchanged { OnErr result (names.new.items ≡ names.old.items) }
 {
     if is_among(names, name.as_str()) {
         return Ok(());

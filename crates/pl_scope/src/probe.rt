@@ -7,11 +7,11 @@ ghost use Rattle.pl_scope.specs.Matching as matching;
 ghost use Rattle.pl_scope.specs.Probing as spec;
 
 use crate::constants::FIRST_VERSION;
-use crate::matching::{counts, is_at_index, is_of_no_version, is_of_version};
+use crate::matching::is_taken;
 use crate::wanted::{Wanted, hash_in};
 use pl_hash::{Table, first, next};
 use pl_object::Object;
-use pl_sym::{Class, Symbol};
+use pl_sym::Class;
 use pl_ver::constants::{VER_NDX_GLOBAL, VER_NDX_LOCAL};
 
 /// Which of the definers of a name a step of the search takes.
@@ -34,7 +34,7 @@ pub enum Pick<'a> {
 }
 
 /// The symbols of an object to which the hash of a name leads.
-#[derive(Drop)]
+#[derive(Clone, Copy)]
 pub struct Probe<'a> {
     pub object: &'a Object,
 
@@ -47,25 +47,14 @@ pub struct Probe<'a> {
     pub hash: u32,
 }
 
-fn is_picked(object: &Object, name: &[u8], pick: Pick<'_>, symbol: &Symbol) -> bool
-    ensures { result ≡ spec.picked object.now name.now pick.entry symbol.now }
-{
-    match pick {
-        Pick::Version(version) => is_of_version(object, name, Class::Jump, version, symbol),
-        Pick::Plain => is_of_no_version(object, name, Class::Jump, symbol),
-        Pick::Index(index) => is_at_index(object, name, Class::Jump, index, symbol),
-        Pick::Each => counts(object, name, Class::Jump, true, symbol),
-        Pick::Shown => counts(object, name, Class::Jump, false, symbol),
-    }
-}
-
 /// Whether a step takes the symbol of an index.
+#[tactic(auto, using(crate::proofs::LeastLaws::taken_is))]
 fn picks(probe: &Probe<'_>, pick: Pick<'_>, index: u32) -> bool
     ensures { result ≡ spec.picks probe.now pick.entry index }
 {
     match probe.object.symbols.as_slice().get(index as usize) {
         None => false,
-        Some(symbol) => is_picked(probe.object, probe.name, pick, symbol),
+        Some(symbol) => is_taken(probe.object, probe.name, Class::Jump, pick, symbol),
     }
 }
 

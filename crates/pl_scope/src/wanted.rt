@@ -13,7 +13,7 @@ use pl_ver::constants::VER_NDX_GLOBAL;
 use pl_ver::index_of;
 
 /// What a reference asks of each object: a definer of a name, for a class of relocations and with or without a version. The name's hash in GNU tables, which most objects have, is made once.
-#[derive(Drop)]
+#[derive(Clone, Copy)]
 pub struct Wanted<'a> {
     pub name: &'a [u8],
 

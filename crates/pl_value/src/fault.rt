@@ -4,23 +4,34 @@ ghost use Rattle.pl_value.specs.declared.fault.LinkFault.TheVariants as faults;
 use pl_io::NoMemory;
 use pl_scope::Reference;
 use std::alloc::{AllocError, AllocFailed};
+use std::fmt;
 use thiserror::Error;
 
 /// Why a relocation has no value. Each has the index of its object among the members of the scope, and the index of its symbol there, 0 for none.
 #[derive(Clone, Copy, Debug, PartialEq, Eq, Error)]
 pub enum LinkFault {
     /// A symbol that is not weak has no definer.
-    #[error("a symbol has no definer")]
     Undefined { member: u32, symbol: u32 },
     /// A symbol of thread-local storage has no definer, weak or not.
-    #[error("a thread-local symbol has no definer")]
     UndefinedTls { member: u32, symbol: u32 },
     /// One of relocation and definer is of thread-local storage and the other is not; or the object that would have the block has no PT_TLS.
-    #[error("a symbol is not of the kind that its relocation needs")]
     TlsMismatch { member: u32, symbol: u32 },
     /// The bytes that would be copied are not in the memory of one PT_LOAD.
-    #[error("bytes to be copied are not there")]
     CopyOutside { member: u32, symbol: u32 },
+}
+
+impl fmt::Display for LinkFault {
+    fn fmt<W: fmt::Write>(&self, f: &mut fmt::Formatter<W>) -> fmt::Result {
+        let cause = match self {
+            LinkFault::Undefined { .. } => "a symbol has no definer",
+            LinkFault::UndefinedTls { .. } => "a thread-local symbol has no definer",
+            LinkFault::TlsMismatch { .. } => {
+                "a symbol is not of the kind that its relocation needs"
+            }
+            LinkFault::CopyOutside { .. } => "bytes to be copied are not there",
+        };
+        f.write_str(cause)
+    }
 }
 
 impl LinkFault {
@@ -69,11 +80,19 @@ impl LinkFault {
 #[derive(Clone, Copy, Debug, PartialEq, Eq, Error)]
 pub enum OrdinaryFault {
     /// The first relocation without a value.
-    #[error("a relocation has no value")]
     Link(LinkFault),
     /// There was no memory for the answer.
-    #[error("out of memory")]
     NoMemory,
+}
+
+impl fmt::Display for OrdinaryFault {
+    fn fmt<W: fmt::Write>(&self, f: &mut fmt::Formatter<W>) -> fmt::Result {
+        let cause = match self {
+            OrdinaryFault::Link(_) => "a relocation has no value",
+            OrdinaryFault::NoMemory => "out of memory",
+        };
+        f.write_str(cause)
+    }
 }
 
 impl From<LinkFault> for OrdinaryFault {

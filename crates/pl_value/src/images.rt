@@ -1,6 +1,7 @@
 // The ordinary image of a scope.
-ghost use Rattle.std.specs.Prelude.{◌≡◌, ◌<◌, length, IfOk};
+ghost use Rattle.std.specs.Prelude.{◌≡◌, ◌<◌, ◌++◌, length, IfOk, OnOk};
 ghost use Rattle.std.specs.List.{list_any};
+ghost use Rattle.std.specs.Option.{option_to_list};
 ghost use Rattle.pl_base.specs.Memory.{layered};
 ghost use Rattle.pl_image.specs.Image.{all_pieces, patched, AreLoaded};
 ghost use Rattle.pl_scope.specs.Scope.{objects};
@@ -53,6 +54,19 @@ fn word_patch(alloc: Global, meaning: &Meaning) -> Result<Option<Patch>, AllocEr
     }
 }
 
+/// Adds a patch at the end, if there is one.
+fn push_some(patches: &mut Vec<Patch>, patch: Option<Patch>) -> Result<(), AllocError>
+    ensures { OnOk result (patches.new.items ≡ patches.old.items ++ option_to_list patch) }
+{
+    match patch {
+        None => Ok(()),
+        Some(patch) => {
+            patches.push(patch)?;
+            Ok(())
+        }
+    }
+}
+
 /// The words for their places, in the order of the relocations.
 #[tactic(auto, unfolding(crate::specs::Linked::words))]
 fn words(alloc: Global, meanings: &[Meaning]) -> Result<Vec<Patch>, AllocError>
@@ -60,9 +74,7 @@ fn words(alloc: Global, meanings: &[Meaning]) -> Result<Vec<Patch>, AllocError>
 {
     let mut patches = Vec::new(alloc);
     for meaning in meanings {
-        if let Some(patch) = word_patch(alloc, meaning)? {
-            patches.push(patch)?;
-        }
+        push_some(&mut patches, word_patch(alloc, meaning)?)?;
     }
     Ok(patches)
 }
@@ -96,9 +108,7 @@ fn copies(
 {
     let mut patches = Vec::new(alloc);
     for meaning in meanings {
-        if let Some(patch) = copy_of(alloc, worded, meaning)? {
-            patches.push(patch)?;
-        }
+        push_some(&mut patches, copy_of(alloc, worded, meaning)?)?;
     }
     Ok(patches)
 }
@@ -137,6 +147,27 @@ pub fn patches(
     Ok(patches)
 }
 
+/// The objects of a scope at their places, with what these relocations write over them.
+fn image_by<'a>(
+    alloc: Global,
+    scope: &Scope<'a>,
+    parts: &Parts<'a>,
+    places: &Places,
+    meanings: &[Meaning],
+) -> Result<Image<'a>, AllocError>
+    requires one_each { length places.now ≡ length scope.now }
+    requires parts { length parts.now ≡ length scope.now }
+    requires placed { spec.ArePlaced places.now parts.now (objects scope.now) }
+    ensures objects { IfOk result (λ image. image.objects
+        ≡ spec.loaded_objects places.now parts.now (objects scope.now)) }
+    ensures patches { IfOk result (λ image. image.patches
+        ≡ linked.written (layered (all_pieces image.objects)) meanings.now) }
+{
+    let loaded = load(alloc, scope, parts, places)?;
+    let patches = patches(alloc, &loaded, meanings)?;
+    Ok(Image::new(alloc, loaded, patches)?)
+}
+
 /// The image from which a program starts: its objects at their places, then each relocation's word, then each copy from the bytes as they stand after all words; a byte of a link table is shown as 0 (System V gABI chapter 5, "Program Loading"; x86-64 psABI, "Relocation"). `parts` are the files of the members. Else the first link refusal in scope order, in an object those of DT_RELA before those of DT_JMPREL, or NoMemory.
 ///
 /// The conditions are those of `value` for every relocation, one part a member, and that the PT_LOADs have no address in common at the places and end there within the limit of addresses. The time grows as `n log n`, and as what is copied.
@@ -156,7 +187,5 @@ pub fn ordinary<'a>(
         ≡ spec.loaded_objects places.now parts.now (objects scope.now)) }
 {
     let meanings = meanings(alloc, scope, places, tls)?;
-    let loaded = load(alloc, scope, parts, places)?;
-    let patches = patches(alloc, &loaded, meanings.as_slice())?;
-    Ok(Image::new(alloc, loaded, patches)?)
+    Ok(image_by(alloc, scope, parts, places, meanings.as_slice())?)
 }

@@ -8,15 +8,15 @@ use Rattle.pl_base.specs.Answers.{◌>>=◌, unless}
 use Rattle.pl_base.specs.Counts.{Counted}
 use Rattle.pl_base.specs.Files.{Files}
 use Rattle.pl_base.specs.Names.{is_valid_name}
-use Rattle.pl_batch.specs.Answers.{Finds, BatchMeans, ending}
+use Rattle.pl_change.specs.Answers.{Finds, BatchMeans, ending}
 use Rattle.pl_batch.specs.Changes.{changes_of, run_meant}
-use Rattle.pl_batch.specs.Commands.{ready, ready_for}
-use Rattle.pl_batch.specs.Store.{installed}
-use Rattle.pl_batch.specs.declared.cause.Cause.{Cause}
-use Rattle.pl_batch.specs.declared.cause.Cause.TheVariants.{BadJournal, BadName, FolderTooLarge}
-use Rattle.pl_batch.specs.declared.fault.BatchFault.{BatchFault}
-use Rattle.pl_batch.specs.declared.fault.BatchFault.TheVariants.{DiskFailed}
-use Rattle.pl_batch.specs.declared.fault.BatchFault.TheVariants as faults
+use Rattle.pl_change.specs.Commands.{ready, ready_for}
+use Rattle.pl_change.specs.Store.{installed}
+use Rattle.pl_change.specs.declared.cause.Cause.{Cause}
+use Rattle.pl_change.specs.declared.cause.Cause.TheVariants.{BadJournal, BadName, FolderTooLarge}
+use Rattle.pl_change.specs.declared.fault.BatchFault.{BatchFault}
+use Rattle.pl_change.specs.declared.fault.BatchFault.TheVariants.{DiskFailed}
+use Rattle.pl_change.specs.declared.fault.BatchFault.TheVariants as faults
 use Rattle.pl_batch.specs.declared.run.Run.{Run}
 use Rattle.pl_batch.specs.declared.run.Run.TheVariants.{All, UndoAll, Undo, Install}
 use Rattle.pl_folder.specs.Calls.{Calls}

@@ -6,7 +6,7 @@ use Rattle.std.specs.FinMap.{get}
 use Rattle.std.proofs.lemmas.Bool.{lt-ltb, le-ltb}
 use Rattle.std.proofs.lemmas.List.{append-nil}
 use Rattle.pl_base.specs.Files.{Files}
-use Rattle.pl_batch.specs.declared.cause.Cause.{Cause}
+use Rattle.pl_change.specs.declared.cause.Cause.{Cause}
 use Rattle.pl_batch.specs.declared.run.Run.{Run}
 use Rattle.pl_journal.specs.Parts.{ReadsDone}
 use Rattle.pl_journal.specs.declared.change.Change.{Change}

@@ -6,7 +6,7 @@ use Rattle.std.specs.List.{list_any}
 use Rattle.pl_base.specs.Files.{Files}
 use Rattle.pl_base.specs.Names.{is_valid_name}
 use Rattle.pl_batch.specs.Changes.{IsRun}
-use Rattle.pl_batch.specs.declared.cause.Cause.{Cause}
+use Rattle.pl_change.specs.declared.cause.Cause.{Cause}
 use Rattle.pl_batch.specs.declared.run.Run.{Run}
 use Rattle.pl_elf.specs.declared.range.Range.{Range}
 use Rattle.pl_folder.specs.InMemory.{quiet_files}

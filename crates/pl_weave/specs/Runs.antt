@@ -5,8 +5,8 @@ use Rattle.std.specs.List.{list_any}
 use Rattle.pl_base.specs.Answers.{◌>>=◌, unless}
 use Rattle.pl_base.specs.Files.{Files}
 use Rattle.pl_batch.specs.Changes.{run_meant}
-use Rattle.pl_batch.specs.declared.cause.Cause.{Cause}
-use Rattle.pl_batch.specs.declared.cause.Cause.TheVariants.{FolderTooLarge}
+use Rattle.pl_change.specs.declared.cause.Cause.{Cause}
+use Rattle.pl_change.specs.declared.cause.Cause.TheVariants.{FolderTooLarge}
 use Rattle.pl_batch.specs.declared.run.Run.{Run}
 use Rattle.pl_folder.specs.declared.TheConstants.{STORED}
 use Rattle.pl_journal.specs.declared.change.Change.{Change}

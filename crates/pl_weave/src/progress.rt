@@ -1,4 +1,4 @@
-use pl_batch::Cause;
+use pl_change::Cause;
 
 /// How far a run of a weave came.
 #[derive(Drop)]

@@ -17,7 +17,8 @@ ghost use Rattle.pl_weave.specs.Runs as runs;
 
 use crate::storable::storable;
 use pl_base::Rows;
-use pl_batch::{BatchFault, Cause, Run, changes_of};
+use pl_batch::{Run, changes_of};
+use pl_change::{BatchFault, Cause};
 use pl_folder::QuietFolder;
 use pl_io::{Failed, NoMemory};
 use pl_journal::{Change, JournalFault, Step, commit_steps, do_next, finish_steps, stage_changes};

@@ -4,7 +4,7 @@ ghost use Rattle.std.specs.List.{list_any};
 ghost use Rattle.pl_weave.specs.Runs as spec;
 
 use pl_base::Rows;
-use pl_batch::Cause;
+use pl_change::Cause;
 use pl_folder::STORED;
 use pl_journal::Change;
 

@@ -3,7 +3,7 @@ ghost use Rattle.std.specs.Prelude.{◌≡◌, ◌<◌, true, length, map, IfOk,
 ghost use Rattle.std.specs.FinMap.{get};
 ghost use Rattle.std.specs.List.{list_all};
 ghost use Rattle.pl_base.specs.Files.{Files, files_of};
-ghost use Rattle.pl_batch.specs.Copied.{IsCopy};
+ghost use Rattle.pl_change.specs.Copied.{IsCopy};
 ghost use Rattle.pl_journal.specs.Meaning.{Agree};
 ghost use Rattle.pl_place.specs.Policy as policy;
 ghost use Rattle.pl_script.specs.Script.{is_of};

@@ -1,8 +1,8 @@
 use Rattle.pl_batch.specs.All.{all_changes}
-use Rattle.pl_batch.specs.Answers.{Finds}
+use Rattle.pl_change.specs.Answers.{Finds}
 use Rattle.pl_batch.proofs.AllLemmas.{changed, unchanged}
-use Rattle.pl_batch.proofs.FindLemmas.{at_err}
-use Rattle.pl_batch.proofs.UndoLemmas.{rows}
+use Rattle.pl_change.proofs.FindLemmas.{at_err}
+use Rattle.pl_change.proofs.UndoLemmas.{rows}
 use Rattle.pl_batch.proofs.all.all_changes.Goals as goal
 
 pub returns-in_err-made : goal.returns-in_err-made

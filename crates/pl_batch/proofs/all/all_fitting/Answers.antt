@@ -1,10 +1,10 @@
 use Rattle.std.specs.Prelude.{Ok, Err}
-use Rattle.pl_batch.specs.Answers.{Finds}
+use Rattle.pl_change.specs.Answers.{Finds}
 use Rattle.pl_batch.specs.Changes.{changes_of}
 use Rattle.pl_batch.specs.declared.all.AllMade.{AllMade}
 use Rattle.pl_batch.specs.declared.run.Run.TheVariants.{All}
 use Rattle.pl_batch.proofs.AllLemmas.{by_rows, by_rows_err, fits, reported, unfit}
-use Rattle.pl_batch.proofs.FindLemmas.{at_err}
+use Rattle.pl_change.proofs.FindLemmas.{at_err}
 use Rattle.pl_batch.proofs.all.all_fitting.Goals as goal
 
 pub returns-in_err-made-clause-found : goal.returns-in_err-made-clause-found

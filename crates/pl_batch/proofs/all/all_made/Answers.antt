@@ -2,11 +2,11 @@ use Rattle.std.proofs.Common.{List, map, sym, ◌∙◌, ap}
 use Rattle.std.specs.Prelude.{string_bytes, String}
 use Rattle.std.specs.declared.alloc.Global.{Global}
 use Rattle.pl_batch.specs.All.{all_made}
-use Rattle.pl_batch.specs.Answers.{Finds}
-use Rattle.pl_batch.specs.Folder.{ascend}
-use Rattle.pl_batch.specs.Names.{are_many}
+use Rattle.pl_change.specs.Answers.{Finds}
+use Rattle.pl_change.specs.Folder.{ascend}
+use Rattle.pl_change.specs.Names.{are_many}
 use Rattle.pl_batch.proofs.AllLemmas.{all_few, all_many, all_mixed, all_unlisted, it, names_listed}
-use Rattle.pl_batch.proofs.FindLemmas.{at_err}
+use Rattle.pl_change.proofs.FindLemmas.{at_err}
 use Rattle.pl_batch.proofs.all.all_made.Goals as goal
 
 pub returns-in_err-names : goal.returns-in_err-names

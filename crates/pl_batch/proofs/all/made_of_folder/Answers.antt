@@ -4,10 +4,11 @@ use Rattle.std.specs.Prelude.{string_bytes, Ok, Err}
 use Rattle.pl_rewrite.specs.Taken.{IsTaken, files_in, names_of}
 use Rattle.pl_rewrite.specs.declared.taken.Taken.{Taken}
 use Rattle.pl_batch.specs.All.{made_of_folder, made_of}
-use Rattle.pl_batch.specs.Answers.{Finds, BatchMeansAlone}
-use Rattle.pl_batch.specs.Folder.{are_large, cache_in}
+use Rattle.pl_change.specs.Answers.{Finds, BatchMeansAlone}
+use Rattle.pl_batch.specs.Folder.{are_large}
+use Rattle.pl_change.specs.Folder.{cache_in}
 use Rattle.pl_batch.proofs.AllLemmas.{are_read, are_taken, it, large, misspelled, small, uncached, untaken}
-use Rattle.pl_batch.proofs.FindLemmas.{at_err}
+use Rattle.pl_change.proofs.FindLemmas.{at_err}
 use Rattle.pl_batch.proofs.FolderLemmas.{bytes_of}
 use Rattle.pl_batch.proofs.all.made_of_folder.Goals as goal
 

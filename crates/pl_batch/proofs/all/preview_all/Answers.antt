@@ -1,7 +1,7 @@
 use Rattle.pl_batch.specs.All.{all_reported}
-use Rattle.pl_batch.specs.Answers.{Finds}
+use Rattle.pl_change.specs.Answers.{Finds}
 use Rattle.pl_batch.proofs.AllLemmas.{as_it_is, reported, unreported}
-use Rattle.pl_batch.proofs.FindLemmas.{at_err}
+use Rattle.pl_change.proofs.FindLemmas.{at_err}
 use Rattle.pl_batch.proofs.all.preview_all.Goals as goal
 
 pub returns-in_err-made : goal.returns-in_err-made

@@ -1,8 +1,9 @@
 use Rattle.pl_base.specs.Answers.{◌>>=◌}
-use Rattle.pl_batch.specs.Answers.{Finds}
-use Rattle.pl_batch.specs.Changes.{changes_by, changes_of, fitting}
-use Rattle.pl_batch.proofs.FindLemmas.{at_err, stops_finds, then_alone}
-use Rattle.pl_batch.proofs.UndoLemmas.{rows}
+use Rattle.pl_change.specs.Answers.{Finds}
+use Rattle.pl_batch.specs.Changes.{changes_by, changes_of}
+use Rattle.pl_change.specs.Changes.{fitting}
+use Rattle.pl_change.proofs.FindLemmas.{at_err, stops_finds, then_alone}
+use Rattle.pl_change.proofs.UndoLemmas.{rows}
 use Rattle.pl_batch.proofs.changes.changes_of.Goals as goal
 
 pub returns-in_err-rows-clause-found : goal.returns-in_err-rows-clause-found

@@ -8,15 +8,15 @@ use Rattle.pl_journal.specs.Meaning.{rows_for}
 use Rattle.pl_journal.specs.Parts.{CarriesOut}
 use Rattle.pl_journal.specs.Spelling.{are_rows}
 use Rattle.pl_journal.specs.declared.change.Change.{Change}
-use Rattle.pl_batch.specs.Answers.{ending, of_journal}
+use Rattle.pl_change.specs.Answers.{ending, of_journal}
 use Rattle.pl_batch.specs.Changes.{changes_of, run_meant}
-use Rattle.pl_batch.specs.Commands.{Commands, outcome, ready}
-use Rattle.pl_batch.specs.declared.fault.BatchFault.TheVariants.{NoMemory}
+use Rattle.pl_change.specs.Commands.{Commands, outcome, ready}
+use Rattle.pl_change.specs.declared.fault.BatchFault.TheVariants.{NoMemory}
 use Rattle.pl_batch.specs.declared.run.Run.TheVariants.{All}
 use Rattle.pl_batch.proofs.AllLemmas.{of_rows, of_rows_err, reports}
-use Rattle.pl_batch.proofs.FindLemmas.{at_err, lacks_finds}
-use Rattle.pl_batch.proofs.MakeLemmas.{made, rested_on, stops_early, stops_finding, stops_making}
-use Rattle.pl_batch.proofs.UndoLemmas.{rows}
+use Rattle.pl_change.proofs.FindLemmas.{at_err, lacks_finds}
+use Rattle.pl_change.proofs.MakeLemmas.{made, rested_on, stops_early, stops_finding, stops_making}
+use Rattle.pl_change.proofs.UndoLemmas.{rows}
 use Rattle.pl_batch.proofs.commands.prelink_held.Goals as goal
 
 pub returns-in_err-start-clause-calls : goal.returns-in_err-start-clause-calls

@@ -6,11 +6,11 @@ use Rattle.pl_journal.specs.Meaning.{rows_for}
 use Rattle.pl_journal.specs.Parts.{CarriesOut}
 use Rattle.pl_journal.specs.Spelling.{are_rows}
 use Rattle.pl_journal.specs.declared.change.Change.{Change}
-use Rattle.pl_batch.specs.Answers.{ending, of_journal}
+use Rattle.pl_change.specs.Answers.{ending, of_journal}
 use Rattle.pl_batch.specs.Changes.{changes_of, ready_by, run_meant}
-use Rattle.pl_batch.specs.Commands.{Commands, outcome}
-use Rattle.pl_batch.proofs.FindLemmas.{at_err}
-use Rattle.pl_batch.proofs.MakeLemmas.{counted, made, rested_on, stops_early, stops_finding, stops_making}
+use Rattle.pl_change.specs.Commands.{Commands, outcome}
+use Rattle.pl_change.proofs.FindLemmas.{at_err}
+use Rattle.pl_change.proofs.MakeLemmas.{counted, made, rested_on, stops_early, stops_finding, stops_making}
 use Rattle.pl_batch.proofs.commands.run_held.Goals as goal
 
 pub returns-in_err-start_run-clause-calls : goal.returns-in_err-start_run-clause-calls

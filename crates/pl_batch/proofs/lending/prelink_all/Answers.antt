@@ -1,5 +1,5 @@
 use Rattle.std.proofs.Common.{rules}
-use Rattle.pl_batch.proofs.LentLemmas.{first_of, second_of}
+use Rattle.pl_change.proofs.LentLemmas.{first_of, second_of}
 use Rattle.pl_batch.proofs.lending.prelink_all.Goals as goal
 
 pub returns-clause-calls : goal.returns-clause-calls

@@ -2,10 +2,10 @@ use Rattle.std.proofs.Common.{◌≡◌, Some, None, sym, arith}
 use Rattle.pl_rewrite.specs.Taken.{names_of}
 use Rattle.pl_scope.specs.Walking.{wants}
 use Rattle.pl_scope.proofs.WalkLaws.{give_given}
-use Rattle.pl_batch.specs.Answers.{Finds}
-use Rattle.pl_batch.specs.Verify.{of_walk_fault, walked_names}
-use Rattle.pl_batch.specs.declared.fault.BatchFault.TheVariants.{NoMemory}
-use Rattle.pl_batch.proofs.FindLemmas.{at_err, lacks_finds, no_asking}
+use Rattle.pl_change.specs.Answers.{Finds, of_walk_fault}
+use Rattle.pl_batch.specs.Verify.{walked_names}
+use Rattle.pl_change.specs.declared.fault.BatchFault.TheVariants.{NoMemory}
+use Rattle.pl_change.proofs.FindLemmas.{at_err, lacks_finds, no_asking}
 use Rattle.pl_batch.proofs.VerifyLemmas.{begins, ends, goes_on, lacked, no_object, not_given, untaken, wanted_below, were_taken}
 use Rattle.pl_batch.proofs.verifying.take_walk.Goals as goal
 

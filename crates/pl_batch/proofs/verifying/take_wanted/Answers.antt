@@ -2,11 +2,11 @@ use Rattle.std.proofs.Common.{◌≡◌, ℕ, List, true, false, Err, rules, sym
 use Rattle.pl_base.specs.Names.{is_valid_name}
 use Rattle.pl_base.proofs.NameLaws.{valid_length}
 use Rattle.pl_rewrite.specs.declared.taken.Taken.{Taken}
-use Rattle.pl_batch.specs.Answers.{Finds}
+use Rattle.pl_change.specs.Answers.{Finds}
 use Rattle.pl_batch.specs.Verify.{wanted_file}
-use Rattle.pl_batch.specs.declared.cause.Cause.TheVariants.{NotThere}
-use Rattle.pl_batch.specs.declared.fault.BatchFault.TheVariants.{Cause, NoMemory}
-use Rattle.pl_batch.proofs.FindLemmas.{at_err}
+use Rattle.pl_change.specs.declared.cause.Cause.TheVariants.{NotThere}
+use Rattle.pl_change.specs.declared.fault.BatchFault.TheVariants.{Cause, NoMemory}
+use Rattle.pl_change.proofs.FindLemmas.{at_err}
 use Rattle.pl_batch.proofs.VerifyLemmas.{wanted_invalid, wanted_lacks, wanted_valid}
 use Rattle.pl_batch.proofs.verifying.take_wanted.Goals as goal
 

@@ -6,10 +6,10 @@ use Rattle.pl_base.specs.Names.{is_valid_name}
 use Rattle.pl_rewrite.specs.Taken.{AreTaken, files_in}
 use Rattle.pl_rewrite.specs.declared.taken.Taken.{Taken}
 use Rattle.pl_rewrite.specs.Verify.{verified_original}
-use Rattle.pl_batch.specs.Answers.{Finds}
+use Rattle.pl_change.specs.Answers.{Finds}
 use Rattle.pl_batch.specs.Verify.{nowhere, verified}
-use Rattle.pl_batch.specs.declared.fault.BatchFault.TheVariants.{NoMemory}
-use Rattle.pl_batch.proofs.FindLemmas.{at_err}
+use Rattle.pl_change.specs.declared.fault.BatchFault.TheVariants.{NoMemory}
+use Rattle.pl_change.proofs.FindLemmas.{at_err}
 use Rattle.pl_batch.proofs.VerifyLemmas.{bad_name, is_told, no_walk}
 use Rattle.pl_batch.proofs.verifying.verify.Goals as goal
 

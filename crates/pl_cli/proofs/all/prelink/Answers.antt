@@ -1,8 +1,8 @@
 use Rattle.std.proofs.Common.{ap, ◌∙◌}
 use Rattle.pl_cli.specs.Came.{HasPrelinked}
-use Rattle.pl_cli.specs.Reports.{report_text}
-use Rattle.pl_cli.specs.Stops.{of_batch_fault}
-use Rattle.pl_cli.proofs.StopLemmas.{at_err}
+use Rattle.pl_texts.specs.Reports.{report_text}
+use Rattle.pl_texts.specs.Stops.{of_batch_fault}
+use Rattle.pl_texts.proofs.StopLemmas.{at_err}
 use Rattle.pl_cli.proofs.WriteLemmas.{prelinking_stopped, was_prelinked}
 use Rattle.pl_cli.proofs.all.prelink.Goals as goal
 

@@ -1,7 +1,7 @@
 use Rattle.pl_cli.specs.Came.{HasPreviewed}
-use Rattle.pl_cli.specs.Stops.{of_batch_fault}
-use Rattle.pl_cli.specs.declared.stop.Stop.TheVariants as stops
-use Rattle.pl_cli.proofs.StopLemmas.{at_err}
+use Rattle.pl_texts.specs.Stops.{of_batch_fault}
+use Rattle.pl_texts.specs.declared.stop.Stop.TheVariants as stops
+use Rattle.pl_texts.proofs.StopLemmas.{at_err}
 use Rattle.pl_cli.proofs.AllLemmas.{preview_lacks, preview_stopped, was_previewed}
 use Rattle.pl_cli.proofs.all.preview.Goals as goal
 

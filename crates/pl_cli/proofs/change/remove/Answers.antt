@@ -2,9 +2,9 @@ use Rattle.std.proofs.Common.{ℕ, ap, ◌∙◌}
 use Rattle.std.specs.Prelude.{Vec}
 use Rattle.std.specs.declared.alloc.Global.{Global}
 use Rattle.pl_cli.specs.Came.{HasRemoved}
-use Rattle.pl_cli.specs.Stops.{of_batch_fault}
-use Rattle.pl_cli.specs.declared.stop.Stop.TheVariants as stops
-use Rattle.pl_cli.proofs.StopLemmas.{at_err}
+use Rattle.pl_texts.specs.Stops.{of_batch_fault}
+use Rattle.pl_texts.specs.declared.stop.Stop.TheVariants as stops
+use Rattle.pl_texts.proofs.StopLemmas.{at_err}
 use Rattle.pl_cli.proofs.WriteLemmas.{removal_stopped, unsaid, was_removed}
 use Rattle.pl_cli.proofs.change.remove.Goals as goal
 

@@ -1,6 +1,6 @@
 use Rattle.pl_cli.specs.Came.{HasUndone}
-use Rattle.pl_cli.specs.Stops.{of_batch_fault}
-use Rattle.pl_cli.proofs.StopLemmas.{at_err}
+use Rattle.pl_texts.specs.Stops.{of_batch_fault}
+use Rattle.pl_texts.proofs.StopLemmas.{at_err}
 use Rattle.pl_cli.proofs.WriteLemmas.{undo_stopped, undo_was_done}
 use Rattle.pl_cli.proofs.change.undo.Goals as goal
 

@@ -1,8 +1,8 @@
 use Rattle.pl_folder.specs.InMemory.{quiet_files}
 use Rattle.pl_cli.specs.Came.{HasDemo}
-use Rattle.pl_cli.specs.declared.stop.Stop.TheVariants as stops
+use Rattle.pl_texts.specs.declared.stop.Stop.TheVariants as stops
 use Rattle.pl_cli.proofs.DemoLemmas.{demo_by}
-use Rattle.pl_cli.proofs.StopLemmas.{at_err}
+use Rattle.pl_texts.proofs.StopLemmas.{at_err}
 use Rattle.pl_cli.proofs.demo.demo.Goals as goal
 
 pub returns-in_err-made : goal.returns-in_err-made

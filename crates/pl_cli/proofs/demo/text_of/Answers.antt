@@ -2,7 +2,7 @@ use Rattle.std.proofs.Common.{None, refl, ap}
 use Rattle.std.proofs.lemmas.Bool.{false≢true}
 use Rattle.pl_folder.specs.InMemory.{quiet_files}
 use Rattle.pl_io.specs.Seen.{Input, Output}
-use Rattle.pl_cli.specs.TextSink.{sink_seen}
+use Rattle.pl_texts.specs.TextSink.{sink_seen}
 use Rattle.pl_words.specs.declared.status.Status.TheVariants.{Done, Refused}
 use Rattle.pl_demo.proofs.QuietLemmas.{never_broken}
 use Rattle.pl_cli.proofs.DemoLemmas.{was_loaded}

@@ -2,9 +2,9 @@ use Rattle.std.proofs.Common.{rules}
 use Rattle.pl_pie.proofs.HoldLaws.{by_function}
 use Rattle.pl_cli.specs.Came.{HasFixed}
 use Rattle.pl_cli.specs.Load.{choice}
-use Rattle.pl_cli.specs.Stops.{of_batch_fault}
+use Rattle.pl_texts.specs.Stops.{of_batch_fault}
 use Rattle.pl_cli.proofs.FixLemmas.{fixing_stopped, was_fixed}
-use Rattle.pl_cli.proofs.StopLemmas.{at_err}
+use Rattle.pl_texts.proofs.StopLemmas.{at_err}
 use Rattle.pl_cli.proofs.fix.fix.Goals as goal
 
 pub returns-in_err-fix_file : goal.returns-in_err-fix_file

@@ -1,6 +1,6 @@
 use Rattle.pl_cli.specs.Came.{HasGiven}
 use Rattle.pl_cli.proofs.GivenLemmas.{given_so, not_taken}
-use Rattle.pl_cli.proofs.StopLemmas.{at_err}
+use Rattle.pl_texts.proofs.StopLemmas.{at_err}
 use Rattle.pl_cli.proofs.given.given.Goals as goal
 
 pub returns-in_err-bytes-clause-given : goal.returns-in_err-bytes-clause-given

@@ -1,10 +1,10 @@
 use Rattle.std.proofs.Common.{ap, rules}
 use Rattle.pl_base.specs.Answers.{because}
 use Rattle.pl_cli.specs.Load.{choice, given_file}
-use Rattle.pl_cli.specs.Stops.{MeansAlone, items_of, of_load_fault}
-use Rattle.pl_cli.specs.declared.cause.Cause.TheVariants as causes
+use Rattle.pl_texts.specs.Stops.{MeansAlone, items_of, of_load_fault}
+use Rattle.pl_texts.specs.declared.cause.Cause.TheVariants as causes
 use Rattle.pl_cli.proofs.GivenLemmas.{stops_load}
-use Rattle.pl_cli.proofs.StopLemmas.{at_err}
+use Rattle.pl_texts.proofs.StopLemmas.{at_err}
 use Rattle.pl_cli.proofs.given.given_at.Goals as goal
 
 -- the placer that is made here follows the policy

@@ -6,14 +6,14 @@ use Rattle.pl_loader.specs.Loading.{Load, Loading}
 use Rattle.pl_loader.specs.Walk.{IsUnderWay}
 use Rattle.pl_loader.proofs.LoadLaws.{load_begins, load_goes_on, give_more, wanted_below}
 use Rattle.pl_cli.specs.Came.{HasLoaded}
-use Rattle.pl_cli.specs.declared.cause.Cause.TheVariants as causes
-use Rattle.pl_cli.specs.declared.stop.Stop.TheVariants as stops
+use Rattle.pl_texts.specs.declared.cause.Cause.TheVariants as causes
+use Rattle.pl_texts.specs.declared.stop.Stop.TheVariants as stops
 use Rattle.pl_cli.specs.Load.{loaded_object, loading_file}
-use Rattle.pl_cli.specs.Looks.{takes}
-use Rattle.pl_cli.specs.Stops.{of_load_fault}
+use Rattle.pl_texts.specs.Looks.{takes}
+use Rattle.pl_texts.specs.Stops.{of_load_fault}
 use Rattle.pl_cli.proofs.LoadLemmas.{bad_name, load_goes, loaded_ends, not_begun_load, stopped_at_file, stopped_in_folder}
-use Rattle.pl_cli.proofs.LookLemmas.{all_taken, left_all, left_from, left_none, none_yet}
-use Rattle.pl_cli.proofs.StopLemmas.{at_err}
+use Rattle.pl_texts.proofs.LookLemmas.{all_taken, left_all, left_from, left_none, none_yet}
+use Rattle.pl_texts.proofs.StopLemmas.{at_err}
 use Rattle.pl_cli.proofs.load.load.Goals as goal
 
 pub returns-then-not-is_valid_name-clause-loaded : goal.returns-then-not-is_valid_name-clause-loaded

@@ -3,10 +3,10 @@ use Rattle.pl_folder.specs.Calls.{Calls}
 use Rattle.pl_folder.specs.Seen.{Done}
 use Rattle.pl_scope.specs.declared.constants.TheConstants.{MAX_MEMBERS}
 use Rattle.pl_loader.specs.Walk.{IsUnderWay}
-use Rattle.pl_cli.specs.declared.cause.Cause.TheVariants as causes
+use Rattle.pl_texts.specs.declared.cause.Cause.TheVariants as causes
 use Rattle.pl_cli.specs.Load.{loaded_object, loading_file}
-use Rattle.pl_cli.specs.Looks.{takes}
-use Rattle.pl_cli.proofs.LookLemmas.{AllBut, left_from}
+use Rattle.pl_texts.specs.Looks.{takes}
+use Rattle.pl_texts.proofs.LookLemmas.{AllBut, left_from}
 use Rattle.pl_cli.proofs.load.load.Given as goal
 
 abbrev pub invariant-loop-wanted : goal.invariant-loop-wanted

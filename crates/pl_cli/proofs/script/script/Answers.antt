@@ -4,8 +4,8 @@ use Rattle.pl_base.specs.Answers.{Answers}
 use Rattle.pl_script.specs.Script.{is_memory, script}
 use Rattle.pl_script.specs.declared.script.Script.{Script}
 use Rattle.pl_cli.specs.Came.{HasScript}
-use Rattle.pl_cli.specs.Stops.{of_read_fault, of_script_fault}
-use Rattle.pl_cli.proofs.StopLemmas.{at_err}
+use Rattle.pl_texts.specs.Stops.{of_read_fault, of_script_fault}
+use Rattle.pl_texts.proofs.StopLemmas.{at_err}
 use Rattle.pl_cli.proofs.WeaveLemmas.{unread, was_read, was_wrong}
 use Rattle.pl_cli.proofs.script.script.Goals as goal
 

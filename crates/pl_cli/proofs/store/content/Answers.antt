@@ -2,9 +2,9 @@ use Rattle.std.proofs.Common.{ℕ, subst}
 use Rattle.std.specs.Prelude.{Err, Ok}
 use Rattle.pl_io.specs.Seen.{HasReadAll}
 use Rattle.pl_cli.specs.Came.{HasContent}
-use Rattle.pl_cli.specs.Stops.{of_read_fault}
+use Rattle.pl_texts.specs.Stops.{of_read_fault}
 use Rattle.pl_cli.proofs.ContentLemmas.{unread, was_read}
-use Rattle.pl_cli.proofs.StopLemmas.{at_err}
+use Rattle.pl_texts.proofs.StopLemmas.{at_err}
 use Rattle.pl_cli.proofs.store.content.Goals as goal
 
 pub returns-in_err-bytes-clause-content : goal.returns-in_err-bytes-clause-content

@@ -2,11 +2,11 @@ use Rattle.std.proofs.Common.{ℕ, List, subst, sym}
 use Rattle.std.specs.Prelude.{Err}
 use Rattle.pl_base.specs.Answers.{because}
 use Rattle.pl_build.specs.Build.{build, Builds}
-use Rattle.pl_cli.specs.Stops.{MeansAlone, of_recipe_fault}
+use Rattle.pl_texts.specs.Stops.{MeansAlone, of_recipe_fault}
 use Rattle.pl_cli.specs.Writes.{file_by, recipe_cause}
-use Rattle.pl_cli.specs.declared.command.Content.{Content}
+use Rattle.pl_texts.specs.declared.content.Content.{Content}
 use Rattle.pl_cli.proofs.ContentLemmas.{unbuilt}
-use Rattle.pl_cli.proofs.StopLemmas.{at_err}
+use Rattle.pl_texts.proofs.StopLemmas.{at_err}
 use Rattle.pl_cli.proofs.store.file_by.Goals as goal
 
 pub returns-in_err-build-in-Recipe : goal.returns-in_err-build-in-Recipe

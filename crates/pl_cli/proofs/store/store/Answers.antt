@@ -3,14 +3,14 @@ use Rattle.std.specs.Prelude.{Vec}
 use Rattle.std.specs.declared.alloc.Global.{Global}
 use Rattle.pl_folder.specs.Calls.{Calls}
 use Rattle.pl_folder.specs.Seen.{Done}
-use Rattle.pl_batch.specs.Answers.{fault_ending}
+use Rattle.pl_change.specs.Answers.{fault_ending}
 use Rattle.pl_batch.specs.Changes.{IsRun, run_meant}
-use Rattle.pl_batch.specs.Commands.{Commands, Made, stopped}
+use Rattle.pl_change.specs.Commands.{Commands, Made, stopped}
 use Rattle.pl_batch.specs.declared.run.Run.{Run}
 use Rattle.pl_cli.specs.Came.{HasStored}
-use Rattle.pl_cli.specs.Stops.{of_batch_fault}
-use Rattle.pl_cli.specs.declared.stop.Stop.TheVariants as stops
-use Rattle.pl_cli.proofs.StopLemmas.{at_err}
+use Rattle.pl_texts.specs.Stops.{of_batch_fault}
+use Rattle.pl_texts.specs.declared.stop.Stop.TheVariants as stops
+use Rattle.pl_texts.proofs.StopLemmas.{at_err}
 use Rattle.pl_cli.proofs.WriteLemmas.{lacking, no_content, unready, unstored, was_stored}
 use Rattle.pl_cli.proofs.store.store.Goals as goal
 

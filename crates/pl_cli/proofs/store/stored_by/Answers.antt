@@ -1,9 +1,9 @@
-use Rattle.pl_cli.specs.Stops.{MeansAlone}
+use Rattle.pl_texts.specs.Stops.{MeansAlone}
 use Rattle.pl_cli.specs.Writes.{content}
 use Rattle.std.proofs.Common.{arith, ◌<◌, ◌≤◌, length}
 use Rattle.pl_folder.specs.declared.TheConstants.{STORED}
 use Rattle.pl_cli.proofs.ContentLemmas.{is_stored, no_file, not_stored}
-use Rattle.pl_cli.proofs.StopLemmas.{at_err}
+use Rattle.pl_texts.proofs.StopLemmas.{at_err}
 use Rattle.pl_cli.proofs.store.stored_by.Goals as goal
 
 pub returns-in_err-file-clause-means : goal.returns-in_err-file-clause-means

@@ -1,4 +1,4 @@
-use Rattle.pl_cli.specs.Answer.{fixed_text}
+use Rattle.pl_texts.specs.DoneText.{fixed_text}
 use Rattle.pl_cli.proofs.RunLemmas.{ran_done, ran_stopped}
 use Rattle.pl_cli.proofs.top.end_fixed.Goals as goal
 

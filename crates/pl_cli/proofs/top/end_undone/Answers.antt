@@ -1,4 +1,4 @@
-use Rattle.pl_cli.specs.Answer.{undone_text}
+use Rattle.pl_texts.specs.DoneText.{undone_text}
 use Rattle.pl_cli.proofs.RunLemmas.{ran_done, ran_stopped}
 use Rattle.pl_cli.proofs.top.end_undone.Goals as goal
 

@@ -6,8 +6,8 @@ use Rattle.pl_loader.specs.Started.{Start, IsStart, Starts}
 use Rattle.pl_loader.specs.declared.fault.LoadFault.{LoadFault}
 use Rattle.pl_loader.specs.declared.started.Started.{Started}
 use Rattle.pl_cli.specs.Answer.{load_answer}
-use Rattle.pl_cli.specs.declared.cause.Cause.TheVariants as causes
-use Rattle.pl_cli.specs.LoadText.{load_text, start_of}
+use Rattle.pl_texts.specs.declared.cause.Cause.TheVariants as causes
+use Rattle.pl_texts.specs.LoadText.{load_text, start_of}
 use Rattle.pl_cli.proofs.top.start_and_write.Goals as goal
 
 same_start : (s : Started) (whole : Start) → IsStart s whole → start_of s ≡ whole

@@ -1,7 +1,7 @@
 use Rattle.pl_cli.specs.Came.{HasVerified}
-use Rattle.pl_cli.specs.Stops.{of_batch_fault}
+use Rattle.pl_texts.specs.Stops.{of_batch_fault}
 use Rattle.pl_cli.proofs.VerifyLemmas.{verify_stopped, was_verified}
-use Rattle.pl_cli.proofs.StopLemmas.{at_err}
+use Rattle.pl_texts.proofs.StopLemmas.{at_err}
 use Rattle.pl_cli.proofs.verify.verify.Goals as goal
 
 pub returns-in_err-verify-clause-verified : goal.returns-in_err-verify-clause-verified

@@ -2,10 +2,10 @@ use Rattle.std.proofs.Common.{◌≡◌, ◌∙◌, ℕ, List, Ok, ap, sym, subs
 use Rattle.std.specs.Prelude.{string_bytes}
 use Rattle.std.specs.FinMap.{get}
 use Rattle.pl_base.specs.Files.{files_of}
-use Rattle.pl_cli.specs.Stops.{StopsAlone, of_load_fault}
+use Rattle.pl_texts.specs.Stops.{StopsAlone, of_load_fault}
 use Rattle.pl_cli.specs.Weave.{start_file}
 use Rattle.pl_loader.specs.declared.fault.LoadFault.TheVariants.{NotThere}
-use Rattle.pl_cli.specs.declared.stop.Stop.{Stop}
+use Rattle.pl_texts.specs.declared.stop.Stop.{Stop}
 use Rattle.pl_cli.proofs.WeaveLemmas.{found_file, missing_file, other_file}
 use Rattle.pl_cli.proofs.weave.file_of.Goals as goal
 

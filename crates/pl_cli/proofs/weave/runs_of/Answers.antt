@@ -1,9 +1,9 @@
 use Rattle.std.proofs.Common.{◌∙◌, ap, sym}
 use Rattle.pl_base.specs.Files.{files_of}
 use Rattle.pl_base.proofs.EachLaws.{each_done, each_more, front_nothing}
-use Rattle.pl_cli.specs.Stops.{MeansAlone}
+use Rattle.pl_texts.specs.Stops.{MeansAlone}
 use Rattle.pl_cli.specs.Weave.{run_of, runs_of}
-use Rattle.pl_cli.proofs.StopLemmas.{at_err}
+use Rattle.pl_texts.proofs.StopLemmas.{at_err}
 use Rattle.pl_cli.proofs.WeaveLemmas.{more_runs, runs_stop}
 use Rattle.pl_cli.proofs.weave.runs_of.Goals as goal
 

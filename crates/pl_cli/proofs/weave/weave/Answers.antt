@@ -1,9 +1,9 @@
 use Rattle.std.proofs.Common.{List, subst}
 use Rattle.pl_base.specs.Files.{files_of}
 use Rattle.pl_cli.specs.Came.{HasWoven}
-use Rattle.pl_cli.specs.Stops.{MeansAlone, items_of, of_batch_fault}
+use Rattle.pl_texts.specs.Stops.{MeansAlone, items_of, of_batch_fault}
 use Rattle.pl_cli.specs.Weave.{weaves_by}
-use Rattle.pl_cli.proofs.StopLemmas.{at_err}
+use Rattle.pl_texts.proofs.StopLemmas.{at_err}
 use Rattle.pl_cli.proofs.WeaveLemmas.{File, no_script, not_copied, woven_so}
 use Rattle.pl_cli.proofs.weave.weave.Goals as goal
 

@@ -1,7 +1,8 @@
 use Rattle.std.proofs.Common.{◌≡◌, ◌∙◌, ◌++◌, ℕ, List, ap, sym, subst, arith, rules}
 use Rattle.std.proofs.lemmas.List.{append-nil, take_all}
 use Rattle.pl_place.specs.Policy.{Chooses, Follows, MayChoose}
-use Rattle.pl_cli.specs.Weave.{loader_line, loaders_text}
+use Rattle.pl_cli.specs.Weave.{loaders_text}
+use Rattle.pl_texts.specs.WeaveText.{loader_line}
 use Rattle.pl_cli.proofs.WeaveTextLemmas.{loaders_added, policy_of}
 use Rattle.pl_cli.proofs.weave_text.add_loaders.Goals as goal
 

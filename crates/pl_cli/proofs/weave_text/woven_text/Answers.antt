@@ -1,5 +1,6 @@
 use Rattle.std.proofs.Common.{◌≡◌, ◌∙◌, ◌++◌, ℕ, List, [], rules}
-use Rattle.pl_cli.specs.Weave.{end_line, loaders_text, runs_text}
+use Rattle.pl_cli.specs.Weave.{loaders_text, runs_text}
+use Rattle.pl_texts.specs.WeaveText.{end_line}
 use Rattle.pl_cli.proofs.WeaveTextLemmas.{text_added}
 use Rattle.pl_cli.proofs.weave_text.woven_text.Goals as goal
 

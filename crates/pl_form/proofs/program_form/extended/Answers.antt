@@ -1,6 +1,8 @@
-use Rattle.std.proofs.Common.{sym, ap, ◌∙◌, arith}
+use Rattle.std.proofs.Common.{◌≡◌, List, ℕ, refl, subst, sym, ap, ◌∙◌, arith}
+use Rattle.std.specs.Prelude.{IfOk}
 use Rattle.pl_object.proofs.AcceptedLaws.{accepted}
-use Rattle.pl_form.specs.Forms.{form_of_program, original_of}
+use Rattle.pl_form.specs.Forms.{form_of_program, original_of, undo_part}
+use Rattle.pl_form.specs.Originals.{original}
 use Rattle.pl_form.specs.Found.{ss_of}
 use Rattle.pl_form.specs.Program.{find_last, last_index}
 use Rattle.pl_form.specs.Words.{kept_digest}
@@ -25,25 +27,26 @@ program_plan-requires-clause-program c =
     extended_ready c.args.original.now c.args.object.now c.in_ok-layout.layout c.in-Some.last c.requires.firm.firm c.requires.firm.program c.in_ok-layout.ensures
     (last_ready c.args.original.now c.args.object.now c.in-Some.last c.requires.firm.firm (ap find_last (sym c.as_slice.ensures) ∙ sym c.find_last.ensures ∙ c.in-Some.is))
 
-pub undo_part-requires : goal.undo_part-requires
-undo_part-requires c = (accepted c.args.original.now c.args.object.now c.requires.firm.firm.accepted).head.long
+pub write_planned-requires-clause-long : goal.write_planned-requires-clause-long
+write_planned-requires-clause-long c = (accepted c.args.original.now c.args.object.now c.requires.firm.firm.accepted).head.long
 
-pub write_form-requires-clause-fits : goal.write_form-requires-clause-fits
-write_form-requires-clause-fits c =
-    program_fit c.args.original.now c.args.object.now c.in_ok-layout.layout c.in-Some.last c.args.lists.now c.in_ok-plan.plan c.args.flat.now c.deref.result.now c.kept_digest-kept.result c.requires.firm.firm c.requires.firm.program c.in_ok-layout.ensures
+pub write_planned-requires-clause-fits : goal.write_planned-requires-clause-fits
+write_planned-requires-clause-fits c =
+    program_fit c.args.original.now c.args.object.now c.in_ok-layout.layout c.in-Some.last c.args.lists.now c.in_ok-plan.plan c.args.flat.now
+    (undo_part c.in_ok-plan.plan (original c.args.original.now c.in_ok-layout.layout) c.kept_digest-kept.result) c.kept_digest-kept.result c.requires.firm.firm c.requires.firm.program c.in_ok-layout.ensures
     (last_ready c.args.original.now c.args.object.now c.in-Some.last c.requires.firm.firm (ap find_last (sym c.as_slice.ensures) ∙ sym c.find_last.ensures ∙ c.in-Some.is))
-    c.in_ok-plan.ensures (c.deref.ensures.value ∙ c.in_ok-undo.ensures) c.requires.flat
+    c.in_ok-plan.ensures refl c.requires.flat
     c.kept_digest-kept.ensures.size (omega (arith, c.requires.lists))
 
-pub write_form-requires-clause-names : goal.write_form-requires-clause-names
-write_form-requires-clause-names c = (names_ready c.args.original.now c.args.object.now c.requires.firm.firm.accepted).row
+pub write_planned-requires-clause-names : goal.write_planned-requires-clause-names
+write_planned-requires-clause-names c = (names_ready c.args.original.now c.args.object.now c.requires.firm.firm.accepted).row
 
 pub returns : goal.returns
 returns c =
-    c.in_ok-form.ensures
-    ∙ program_whole c.args.original.now c.in_ok-layout.layout c.in-Some.last c.args.lists.now c.in_ok-plan.plan c.args.flat.now c.deref.result.now c.kept_digest-kept.result c.in_ok-layout.ensures
-    (last_ready c.args.original.now c.args.object.now c.in-Some.last c.requires.firm.firm (ap find_last (sym c.as_slice.ensures) ∙ sym c.find_last.ensures ∙ c.in-Some.is))
-    c.in_ok-plan.ensures (c.deref.ensures.value ∙ c.in_ok-undo.ensures)
+    let at = last_ready c.args.original.now c.args.object.now c.in-Some.last c.requires.firm.firm (ap find_last (sym c.as_slice.ensures) ∙ sym c.find_last.ensures ∙ c.in-Some.is) in
+    subst (λ (xs : List ℕ). IfOk c.write_planned.result (λ v. v.items ≡ xs))
+    (program_whole c.args.original.now c.in_ok-layout.layout c.in-Some.last c.args.lists.now c.in_ok-plan.plan c.args.flat.now
+    (undo_part c.in_ok-plan.plan (original c.args.original.now c.in_ok-layout.layout) c.kept_digest-kept.result) c.kept_digest-kept.result c.in_ok-layout.ensures at c.in_ok-plan.ensures refl
     ∙ ap (form_of_program (original_of c.args.original.now) (last_index (ss_of c.args.original.now)) c.in-Some.last.segment c.args.lists.now c.args.flat.now) (c.kept_digest-kept.ensures.value ∙ ap (kept_digest c.args.version) c.requires.digest)
-    ∙ extended_some c.args.original.now c.in-Some.last c.args.lists.now c.args.flat.now c.args.version
-    (last_ready c.args.original.now c.args.object.now c.in-Some.last c.requires.firm.firm (ap find_last (sym c.as_slice.ensures) ∙ sym c.find_last.ensures ∙ c.in-Some.is))
+    ∙ extended_some c.args.original.now c.in-Some.last c.args.lists.now c.args.flat.now c.args.version at)
+    c.write_planned.ensures

@@ -1,6 +1,6 @@
 use Rattle.std.proofs.Common.{◌≡◌, ◌∙◌, Ok, Err, List, Result, refl, ap, sym, subst}
 use Rattle.pl_base.specs.Files.{Files}
-use Rattle.pl_batch.specs.declared.cause.Cause.{Cause}
+use Rattle.pl_change.specs.declared.cause.Cause.{Cause}
 use Rattle.pl_journal.specs.declared.change.Change.{Change}
 use Rattle.pl_weave.specs.Running.{Begins, Idles, files_in}
 use Rattle.pl_weave.specs.Runs.{run_rows}

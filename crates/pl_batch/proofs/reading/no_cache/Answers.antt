@@ -1,5 +1,0 @@
-use Rattle.pl_batch.proofs.CacheLemmas.{empty_spelled}
-use Rattle.pl_batch.proofs.reading.no_cache.Goals as goal
-
-pub write_cache-requires : goal.write_cache-requires
-write_cache-requires c = empty_spelled c.new.result c.new.ensures

@@ -1,0 +1,17 @@
+pub mod RoomLemmas
+pub mod FindLemmas
+pub mod RowLemmas
+pub mod UndoLemmas
+pub mod AskedLemmas
+pub mod StoreLemmas
+pub mod QuietLemmas
+pub mod StartLemmas
+pub mod MakeLemmas
+pub mod RestoredLemmas
+pub mod LentLemmas
+pub mod AgainLemmas
+pub mod OrderLemmas
+pub mod CacheLemmas
+pub mod ReplaceLemmas
+pub mod CopyLemmas
+pub mod CopiedLemmas

@@ -1,7 +1,0 @@
-use Rattle.std.proofs.Common.{◌≡◌, take}
-use Rattle.std.specs.List.{count_by}
-use Rattle.pl_cli.specs.Reports.{is_skipped}
-use Rattle.pl_cli.proofs.report.count_skipped.Given as goal
-
-abbrev pub invariant-loop-row : goal.invariant-loop-row
-invariant-loop-row l = l.count ≡ count_by is_skipped (take l.row-index l.rows)

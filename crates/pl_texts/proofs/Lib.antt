@@ -1,0 +1,11 @@
+pub mod PartLemmas
+pub mod DecimalLemmas
+pub mod CacheLemmas
+pub mod StopLemmas
+pub mod CallLemmas
+pub mod LookLemmas
+pub mod TakeLemmas
+pub mod WalkLemmas
+pub mod MemberLemmas
+pub mod OrderLemmas
+pub mod PrintLemmas
