@@ -5,6 +5,7 @@ use Rattle.pl_base.specs.Files.{Files}
 use Rattle.pl_folder.specs.declared.TheConstants.{STORED}
 use Rattle.pl_journal.specs.declared.change.Change.{Change}
 use Rattle.pl_batch.specs.All.{all_changes}
+use Rattle.pl_change.specs.Changes.{fitting}
 use Rattle.pl_change.specs.Commands.{Meaning, and_then, ready, ready_for}
 use Rattle.pl_change.specs.Store.{installed}
 use Rattle.pl_change.specs.Undo.{all_undone, undone}

@@ -31,6 +31,7 @@ use Rattle.pl_texts.specs.declared.stop.Stop.TheVariants as stops
 use Rattle.pl_cli.specs.Answer.{Answer, IsTold, answer, done, refuses, fixed_line}
 use Rattle.pl_texts.specs.DoneText.{removed_text, stored_text, fixed_text, unfixed_text}
 use Rattle.pl_cli.specs.Demo.{demo_text}
+use Rattle.pl_texts.specs.Finds.{Finds}
 use Rattle.pl_texts.specs.Looks.{takes}
 use Rattle.pl_cli.specs.Load.{loaded_files, loaded_object, loading_file, start_by}
 use Rattle.pl_texts.specs.Order.{object_in}

@@ -8,7 +8,6 @@ use Rattle.pl_folder.specs.Seen.{Ending}
 use Rattle.pl_folder.specs.declared.TheConstants.{STORED}
 use Rattle.pl_build.specs.Build.{build}
 use Rattle.pl_build.specs.declared.checks.Fault.{Fault}
-use Rattle.pl_loader.specs.declared.fault.LoadFault.TheVariants.{Refused}
 use Rattle.pl_batch.specs.Changes.{changes_of, run_meant}
 use Rattle.pl_change.specs.Changes.{removal_meant}
 use Rattle.pl_change.specs.Commands.{Commands, CommandsDisk, CommandsFiles, Failed, Lacked, Made, Meaning, ready_for}
@@ -27,6 +26,7 @@ use Rattle.pl_texts.specs.declared.stop.Stop.{Stop}
 use Rattle.pl_texts.specs.declared.stop.Stop.TheVariants as stops
 use Rattle.pl_cli.specs.declared.store.TheConstants.{RECIPE}
 use Rattle.pl_cli.specs.Load.{choice}
+use Rattle.pl_texts.specs.Stops.{of_batch}
 use Rattle.pl_cli.specs.Words.{bytes_of}
 use Rattle.pl_words.specs.declared.command.Policy.{Policy}
 

@@ -15,3 +15,5 @@ pub mod AlignLaws
 pub mod SameLaws
 pub mod AgreeLaws
 pub mod CurrentLaws
+pub mod RefusedLaws
+pub mod PlanLaws

@@ -1,5 +1,5 @@
 -- The names that a run prelinks: programs and libraries whose walk has no refusal, no member of which has a form fault, and, for a program, which link.
-use Rattle.std.specs.Prelude.{ℕ, Bool, ◌==◌, List, [], ◌∷◌, map, length, replicate, slice_get, Option, Some, None, Result, Ok, if◌then◌else◌}
+use Rattle.std.specs.Prelude.{ℕ, Bool, ◌==◌, List, [], ◌∷◌, map, length, replicate, slice_get, Option, Some, None, Result, Ok, Err, if◌then◌else◌}
 use Rattle.std.specs.Result.{is_ok}
 use Rattle.pl_base.specs.Answers.{◌>>=◌, Answers, because, unless, unless_found}
 use Rattle.pl_base.specs.Each.{run}
@@ -28,6 +28,11 @@ use Rattle.pl_cone.specs.declared.skip.Skip.TheVariants as skips
 -- the walk of a name over the originals, or the first refusal
 unfoldable pub walk_in : List Known → List ℕ → Result Walked Skip
 walk_in files n = walk of_walk (object_of files) n
+
+-- none where it is refused
+abbrev pub unless_refused : Result Walked Skip → Option Walked
+unless_refused (Ok walked) = Some walked
+unless_refused (Err cause) = None
 
 -- what the first object of a walk is
 abbrev pub kind_of : Walked → Kind

@@ -51,6 +51,10 @@ greatest last files = fold (λ most k. max most (greatest_of (original_in (Some 
 unfoldable pub stamp_after : ℕ → ℕ → Result ℕ ConeFault
 stamp_after greatest now = unless (greatest == LAST_STAMP) (StampsSpent greatest) (Ok (max now (greatest + 1)))
 
+-- the stamp of a run that rewrites these names, the last one so far where there are none
+abbrev pub stamp_of : List (List ℕ) → List Known → ℕ → ℕ → Result ℕ ConeFault
+stamp_of names files last now = if length names == 0 then Ok last else stamp_after (greatest last files) now
+
 -- ---- the whole
 
 abbrev pub with_stamp : List (List ℕ) → ℕ → Cone

@@ -8,6 +8,8 @@ use Rattle.pl_cone.specs.Wants.{standings, names_without_cause, wants, walks}
 use Rattle.pl_cone.specs.declared.asked.Asked.{Asked}
 use Rattle.pl_cone.specs.declared.fault.PlanningFault.{PlanningFault}
 use Rattle.pl_cone.specs.declared.run_plan.RunPlan.{RunPlan}
+use Rattle.pl_cone.specs.declared.run_plan.Placed.{Placed}
+use Rattle.pl_cone.specs.declared.standing.Standing.{Standing}
 use Rattle.pl_share.specs.Disjoint.{disjoint}
 use Rattle.pl_share.specs.Shared.{plan_shared}
 use Rattle.pl_slots.specs.Plan.{plan}
@@ -22,6 +24,16 @@ slots files a ns ws = because of_plan (
 
 abbrev pub slots_by : List Known → Asked → List (List ℕ) → Result (List Slot) PlanningFault
 slots_by files a ns = slots files a ns (wants files ns)
+
+-- the slots by these names, and what is stale by them
+abbrev pub placed : List Known → Asked → List (List ℕ) → Result Placed PlanningFault
+placed files a ns =
+    slots_by files a ns >>= λ slots.
+    because of_cone (cone files slots a.last a.moment) >>= λ c. Ok (record { slots = slots; cone = c })
+
+-- a plan of these parts
+abbrev pub plan_of : List Standing → Placed → RunPlan
+plan_of rows p = record { standings = rows; slots = p.slots; stale = p.cone.stale; stamp = p.cone.stamp }
 
 -- the slots, the stale names and the stamp, or the first cause
 unfoldable pub planned : List Known → Asked → Result RunPlan PlanningFault

@@ -88,12 +88,22 @@ fn stamp_after(greatest: u32, now: u32) -> Result<u32, ConeFault>
     Ok(now.max(greatest + 1))
 }
 
+/// The stamp of a run at a moment that rewrites these names: the last one so far where there are none.
+fn stamp_of(names: &[Text], files: &[Known<'_>], last: u32, now: u32) -> Result<u32, ConeFault>
+    ensures { result ≡ spec.stamp_of names.now files.now last now }
+{
+    if names.is_empty() {
+        return Ok(last);
+    }
+    stamp_after(greatest(last, files), now)
+}
+
 /// What a run at a moment rewrites: the names that may be prelinked and are not current, and the stamp that they get. A name is current where it and each library of its walk are prelinked in the version of now, at their planned slots, with lists that tell the names, stamps and checksums of the other members of their walks.
 ///
 /// `candidates` are the names that may be prelinked, in the order of the files, as `prelinkable` tells. `slots` are the planned ones, `last` is the stamp of the last run that gave one. The stamp is the greater of `now` and one more than the greatest of `last`, the stamps of all marks and those in their lists; it is `last` where no name is stale. `StampsSpent` comes exactly where a name is stale and that greatest stamp is the last that there is.
 ///
 /// No name stands twice in `files`, and each object is one that `accept` gave.
-#[tactic(auto, unfolding(crate::specs::Cone::cone))]
+#[tactic(auto, using(crate::proofs::PlanLaws::cone_is))]
 pub fn cone_of(
     alloc: Global,
     files: &[Known<'_>],
@@ -107,9 +117,6 @@ pub fn cone_of(
     ensures { Answers stops_memory result (spec.cone files.now slots.now last now) }
 {
     let stale = stale(alloc, files, candidates, slots)?;
-    if stale.as_slice().is_empty() {
-        return Ok(Cone { stale, stamp: last });
-    }
-    let stamp = stamp_after(greatest(last, files), now)?;
+    let stamp = stamp_of(stale.as_slice(), files, last, now)?;
     Ok(Cone { stale, stamp })
 }

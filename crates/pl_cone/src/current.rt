@@ -11,8 +11,8 @@ ghost use Rattle.pl_cone.specs.Known.{AreAccepted};
 use crate::lists::lists_members;
 use crate::names::mark_of;
 use crate::slots::at_slot;
-use crate::walks::walk_in;
-use crate::{Known, Mark, Skip, VERSION};
+use crate::walks::walk_unless_refused;
+use crate::{Known, Mark, VERSION};
 use pl_io::NoMemory;
 use pl_scope::{Member, Scope};
 use pl_slots::Slot;
@@ -53,10 +53,10 @@ fn is_held(alloc: Global, files: &[Known<'_>], slots: &[Slot], name: &str) -> Re
     requires { AreAccepted files.now }
     ensures { IfOk result (λ held. held ≡ spec.is_held files.now slots.now name.now) }
 {
-    match walk_in(alloc, files, name) {
-        Ok(scope) => Ok(holds_mark(files, slots, name, mark_of(files, name), &scope)),
-        Err(Skip::NoMemory) => Err(NoMemory),
-        Err(_) => Ok(false),
+    let walk = walk_unless_refused(alloc, files, name)?;
+    match walk {
+        None => Ok(false),
+        Some(scope) => Ok(holds_mark(files, slots, name, mark_of(files, name), &scope)),
     }
 }
 
@@ -90,9 +90,9 @@ pub fn is_whole(
     ensures { IfOk result (λ held. held ≡ spec.all_held files.now slots.now
         (candidates.walk_in files.now name.now)) }
 {
-    match walk_in(alloc, files, name) {
-        Ok(scope) => all_held(alloc, files, slots, scope.members()),
-        Err(Skip::NoMemory) => Err(NoMemory),
-        Err(_) => Ok(false),
+    let walk = walk_unless_refused(alloc, files, name)?;
+    match walk {
+        None => Ok(false),
+        Some(scope) => all_held(alloc, files, slots, scope.members()),
     }
 }

@@ -14,7 +14,6 @@ use thiserror::Error;
 #[derive(Drop, Error)]
 pub enum PlanningFault {
     /// No hole of the region that is left holds a library at an address that it wants.
-    #[error("no slot")]
     NoSlot {
         /// The name of the library's file.
         name: Text,
@@ -27,12 +26,21 @@ pub enum PlanningFault {
     },
 
     /// A file is stale, and the greatest stamp, which this is, is the last that there is.
-    #[error("no stamp is left")]
     StampsSpent(u32),
 
     /// There was no memory for the answer.
-    #[error("out of memory")]
     NoMemory,
+}
+
+impl fmt::Display for PlanningFault {
+    fn fmt<W: Write>(&self, out: &mut Formatter<W>) -> fmt::Result {
+        let cause = match self {
+            PlanningFault::NoSlot { .. } => "no slot",
+            PlanningFault::StampsSpent(_) => "no stamp is left",
+            PlanningFault::NoMemory => "out of memory",
+        };
+        out.write_str(cause)
+    }
 }
 
 impl Debug for PlanningFault {
@@ -44,7 +52,7 @@ impl Debug for PlanningFault {
                 name.as_str()
             ),
             PlanningFault::StampsSpent(stamp) => write!(out, "StampsSpent {stamp}"),
-            PlanningFault::NoMemory => write!(out, "NoMemory"),
+            PlanningFault::NoMemory => out.write_str("NoMemory"),
         }
     }
 }

@@ -7,8 +7,9 @@ ghost use Rattle.pl_cone.specs.Candidates as candidates;
 ghost use Rattle.pl_cone.specs.Known.{AreAccepted};
 ghost use Rattle.pl_cone.specs.Links as spec;
 
-use crate::walks::walk_in;
-use crate::{Definers, Entry, Known, Skip, one_word_of};
+use crate::pushing::push_some;
+use crate::walks::walk_unless_refused;
+use crate::{Definers, Entry, Known, one_word_of};
 use pl_base::{Rows, Text};
 use pl_io::NoMemory;
 use pl_scope::{Member, Scope};
@@ -96,10 +97,10 @@ fn link_of(
     requires hashes { HasHashes (spec.folder files.now) definers.now }
     ensures { IfOk result (λ link. IfSome link (spec.IsLink files.now)) }
 {
-    match walk_in(alloc, files, name) {
-        Ok(own) => Ok(Some(link_by(alloc, files, definers, name, &own)?)),
-        Err(Skip::NoMemory) => Err(NoMemory),
-        Err(_) => Ok(None),
+    let walk = walk_unless_refused(alloc, files, name)?;
+    match walk {
+        None => Ok(None),
+        Some(own) => Ok(Some(link_by(alloc, files, definers, name, &own)?)),
     }
 }
 
@@ -119,9 +120,7 @@ fn add_link(
     if !is_library(known) {
         return Ok(());
     }
-    if let Some(link) = link_of(alloc, files, definers, known.name)? {
-        links.push(link)?;
-    }
+    push_some(links, link_of(alloc, files, definers, known.name)?)?;
     Ok(())
 }
 

@@ -7,6 +7,7 @@ ghost use Rattle.pl_cone.specs.Known.{AreAccepted};
 ghost use Rattle.pl_cone.specs.Links.{IsLink};
 ghost use Rattle.pl_cone.specs.Faults.{is_memory, of_cone};
 ghost use Rattle.pl_cone.specs.RunPlan as spec;
+ghost use Rattle.pl_cone.specs.Wants as wants;
 
 use crate::planned_slots::slots_of;
 use crate::standing::{Standing, names_without_cause, standings};
@@ -62,6 +63,59 @@ fn cone_by(
     Ok(cone_of(alloc, files, names, slots, asked.last, asked.moment)?)
 }
 
+/// The slots of a run, and what it rewrites by them.
+#[derive(Drop)]
+struct Placed {
+    slots: Rows<Slot>,
+    cone: Cone,
+}
+
+/// The slots of the libraries among names, and what is stale by them; the names are those that may be prelinked.
+fn placed_among(
+    alloc: Global,
+    files: &[Known<'_>],
+    asked: &Asked<'_>,
+    names: &[Text],
+) -> Result<Placed, PlanningFault>
+    requires accepted { AreAccepted files.now }
+    requires names { names.now ≡ cone.candidates files.now }
+    ensures { Answers is_memory result (spec.placed files.now asked.now names.now) }
+{
+    let slots = planned_slots(alloc, files, asked, names)?;
+    let cone = cone_by(alloc, files, asked, names, slots.as_slice())?;
+    Ok(Placed { slots, cone })
+}
+
+/// Slots for the libraries that may be prelinked, and what is stale by them, by how each name stands.
+fn placed_by(
+    alloc: Global,
+    files: &[Known<'_>],
+    asked: &Asked<'_>,
+    standings: &[Standing],
+) -> Result<Placed, PlanningFault>
+    requires accepted { AreAccepted files.now }
+    requires standings { standings.now ≡ wants.standings files.now }
+    ensures { Answers is_memory result (spec.placed files.now asked.now
+        (wants.names_without_cause standings.now)) }
+{
+    let names = names_without_cause(alloc, standings)?;
+    placed_among(alloc, files, asked, names.as_slice())
+}
+
+/// A plan of these parts.
+fn plan_of(standings: Rows<Standing>, placed: Placed) -> RunPlan
+    ensures { result ≡ spec.plan_of standings placed }
+{
+    let Placed { slots, cone } = placed;
+    let Cone { stale, stamp } = cone;
+    RunPlan {
+        standings,
+        slots,
+        stale,
+        stamp,
+    }
+}
+
 /// What a run plans, by what is known of the files of a folder, ascending by name.
 ///
 /// - How each name stands: that it may be prelinked, or the first cause why not, as `prelinkable` has it.
@@ -71,7 +125,7 @@ fn cone_by(
 /// The first cause counts: NoSlot exactly where no hole holds a library, then StampsSpent exactly where a name is stale and no stamp is left.
 ///
 /// No name stands twice in `files`, and each object is one that `accept` gave; `links_of` gave the links of these files.
-#[tactic(auto, unfolding(crate::specs::RunPlan::planned))]
+#[tactic(auto, using(crate::proofs::PlanLaws::planned_is))]
 pub fn plan_run(
     alloc: Global,
     files: &[Known<'_>],
@@ -83,13 +137,6 @@ pub fn plan_run(
     ensures { Answers is_memory result (spec.planned files.now asked.now) }
 {
     let standings = standings(alloc, files, links)?;
-    let names = names_without_cause(alloc, standings.as_slice())?;
-    let slots = planned_slots(alloc, files, asked, names.as_slice())?;
-    let Cone { stale, stamp } = cone_by(alloc, files, asked, names.as_slice(), slots.as_slice())?;
-    Ok(RunPlan {
-        standings,
-        slots,
-        stale,
-        stamp,
-    })
+    let placed = placed_by(alloc, files, asked, standings.as_slice())?;
+    Ok(plan_of(standings, placed))
 }

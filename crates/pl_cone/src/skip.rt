@@ -1,5 +1,6 @@
 // Why a name is not prelinked, and why a run has no stamp.
 ghost use Rattle.std.specs.Prelude.{◌≡◌};
+ghost use Rattle.pl_cone.specs.Skips.{skip_is_memory};
 ghost use Rattle.pl_cone.specs.declared.skip.ConeFault.TheVariants as stops;
 ghost use Rattle.pl_cone.specs.declared.skip.Skip.TheVariants as skips;
 
@@ -136,6 +137,13 @@ impl fmt::Debug for Skip {
     }
 }
 
+/// Whether a cause is a want of memory.
+pub fn is_memory(skip: &Skip) -> bool
+    ensures { result ≡ skip_is_memory skip.now }
+{
+    matches!(skip, Skip::NoMemory)
+}
+
 impl From<NoMemory> for Skip {
     ghost from_gives = { λ _ skip. skip ≡ skips.NoMemory };
 
@@ -192,12 +200,20 @@ impl From<TlsFault> for Skip {
 #[derive(Clone, Copy, Debug, PartialEq, Eq, Error)]
 pub enum ConeFault {
     /// The greatest stamp is the last that there is, 2^32 - 1, and a name would get a later one.
-    #[error("no stamp is left")]
     StampsSpent(u32),
 
     /// There was no memory for the answer.
-    #[error("out of memory")]
     NoMemory,
+}
+
+impl fmt::Display for ConeFault {
+    fn fmt<W: fmt::Write>(&self, f: &mut fmt::Formatter<W>) -> fmt::Result {
+        let cause = match self {
+            ConeFault::StampsSpent(_) => "no stamp is left",
+            ConeFault::NoMemory => "out of memory",
+        };
+        f.write_str(cause)
+    }
 }
 
 impl From<NoMemory> for ConeFault {

@@ -7,6 +7,7 @@ ghost use Rattle.pl_cone.specs.Links.{IsLink};
 ghost use Rattle.pl_cone.specs.Wants as spec;
 
 use crate::pushing::push_some;
+use crate::skip::is_memory;
 use crate::{Known, Link, Skip, prelinkable_with};
 use pl_base::{Rows, Text};
 use pl_io::NoMemory;
@@ -34,8 +35,13 @@ fn cause_of(
 {
     match prelinkable_with(alloc, files, links, name) {
         Ok(()) => Ok(None),
-        Err(Skip::NoMemory) => Err(NoMemory),
-        Err(skip) => Ok(Some(skip)),
+        Err(skip) => {
+            if is_memory(&skip) {
+                Err(NoMemory)
+            } else {
+                Ok(Some(skip))
+            }
+        }
     }
 }
 
@@ -49,9 +55,9 @@ fn standing_of(
     requires links { All (IsLink files.now) links.now }
     ensures { IfOk result (λ standing. standing ≡ spec.standing files.now name.now) }
 {
+    let copy = Text::copy_of(alloc, name)?;
     let cause = cause_of(alloc, files, links, name)?;
-    let name = Text::copy_of(alloc, name)?;
-    Ok(Standing { name, cause })
+    Ok(Standing { name: copy, cause })
 }
 
 /// How each name of the files stands, in their order: whether it may be prelinked, or the first cause why not, as `prelinkable` has it. What `links` tells of is not looked up. It fails only for want of memory.

@@ -1,32 +1,39 @@
 // Walks over what is known of files.
-ghost use Rattle.std.specs.Prelude.{◌≡◌, Ok, Err, IfOk, IfErr};
+ghost use Rattle.std.specs.Prelude.{◌≡◌, Ok, Err, IfOk, IfErr, IfSome};
+ghost use Rattle.std.specs.Option.{option_map};
 ghost use Rattle.pl_base.specs.Answers.{Answers};
 ghost use Rattle.pl_scope.specs.Scope.{IsAccepted};
-ghost use Rattle.pl_cone.specs.Candidates.{walk_in};
+ghost use Rattle.pl_cone.specs.Candidates.{walk_in, unless_refused};
 ghost use Rattle.pl_cone.specs.Known as spec;
 ghost use Rattle.pl_cone.specs.Skips.{skip_is_memory};
 
 use crate::names::entry_of;
+use crate::skip::is_memory;
 use crate::{Entry, Known, Skip};
 use pl_base::Text;
-use pl_object::Object;
+use pl_io::NoMemory;
 use pl_scope::{MAX_MEMBERS, Member, Order, Scope};
 use std::alloc::Global;
 
-/// The object of a name's original, or why it has none.
-fn object_of<'a>(alloc: Global, files: &[Known<'a>], name: &str) -> Result<&'a Object, Skip>
-    requires { spec.AreAccepted files.now }
-    ensures ok { IfOk result (λ object. spec.object_of files.now name.now ≡ Ok object.now) }
+/// The member of a name by what its file is, or why it is none.
+fn member_in<'a>(entry: Option<&Entry<'a>>, name: Text) -> Result<Member<'a>, Skip>
+    requires { IfSome entry (λ e. spec.IsAcceptedEntry e.now) }
+    ensures ok { IfOk result (λ m. spec.object_in name (option_map (λ e. e.now) entry.entry)
+        ≡ Ok m.object.now) }
     ensures err { IfErr result (λ skip. Answers skip_is_memory (Err skip)
-        (spec.object_of files.now name.now)) }
-    ensures accepted { IfOk result (λ object. IsAccepted object.now) }
+        (spec.object_in name (option_map (λ e. e.now) entry.entry))) }
+    ensures name { IfOk result (λ m. m.name ≡ name) }
+    ensures accepted { IfOk result (λ m. IsAccepted m.object.now) }
 {
-    match entry_of(files, name) {
-        None => Err(Skip::NotThere(Text::copy_of(alloc, name)?)),
-        Some(Entry::There(original)) => Ok(original.object),
-        Some(Entry::BadMark) => Err(Skip::BadMark(Text::copy_of(alloc, name)?)),
+    match entry {
+        None => Err(Skip::NotThere(name)),
+        Some(Entry::There(original)) => Ok(Member {
+            name,
+            object: original.object,
+        }),
+        Some(Entry::BadMark) => Err(Skip::BadMark(name)),
         Some(Entry::Refused { number, argument }) => Err(Skip::Refused {
-            name: Text::copy_of(alloc, name)?,
+            name,
             number: *number,
             argument: *argument,
         }),
@@ -41,11 +48,8 @@ fn member_of<'a>(alloc: Global, files: &[Known<'a>], name: &str) -> Result<Membe
     ensures name { IfOk result (λ m. m.name ≡ name.now) }
     ensures accepted { IfOk result (λ m. IsAccepted m.object.now) }
 {
-    let object = object_of(alloc, files, name)?;
-    Ok(Member {
-        name: Text::copy_of(alloc, name)?,
-        object,
-    })
+    let copy = Text::copy_of(alloc, name)?;
+    member_in(entry_of(files, name), copy)
 }
 
 /// The walk of a name over the originals, or the first refusal.
@@ -68,4 +72,25 @@ pub fn walk_in<'a>(alloc: Global, files: &[Known<'a>], name: &str) -> Result<Sco
         members.push(member)?;
     }
     Ok(Scope::new(members))
+}
+
+/// The walk of a name over the originals; None where it is refused.
+pub fn walk_unless_refused<'a>(
+    alloc: Global,
+    files: &[Known<'a>],
+    name: &str,
+) -> Result<Option<Scope<'a>>, NoMemory>
+    requires { spec.AreAccepted files.now }
+    ensures { IfOk result (λ walk. walk ≡ unless_refused (walk_in files.now name.now)) }
+{
+    match walk_in(alloc, files, name) {
+        Ok(scope) => Ok(Some(scope)),
+        Err(skip) => {
+            if is_memory(&skip) {
+                Err(NoMemory)
+            } else {
+                Ok(None)
+            }
+        }
+    }
 }

@@ -7,8 +7,9 @@ ghost use Rattle.pl_scope.specs.Members.{names};
 ghost use Rattle.pl_scope.specs.Scope.{walked};
 ghost use Rattle.pl_cone.specs.Wants as spec;
 
+use crate::Known;
 use crate::pushing::push_some;
-use crate::{Known, Skip, walk_in};
+use crate::walks::walk_unless_refused;
 use pl_base::{Rows, Text};
 use pl_io::NoMemory;
 use pl_scope::Member;
@@ -69,10 +70,10 @@ fn positions(
     requires few { length wants.now < 2 ^ 32 }
     ensures { IfOk result (λ row. row ≡ spec.positions files.now wants.now name.now) }
 {
-    match walk_in(alloc, files, name) {
-        Ok(scope) => Ok(positions_in(alloc, wants, scope.members())?),
-        Err(Skip::NoMemory) => Err(NoMemory),
-        Err(_) => Ok(Rows::new(alloc)),
+    let walk = walk_unless_refused(alloc, files, name)?;
+    match walk {
+        None => Ok(Rows::new(alloc)),
+        Some(scope) => Ok(positions_in(alloc, wants, scope.members())?),
     }
 }
 

@@ -17,8 +17,6 @@ mod outside;
 mod recipes;
 mod refusal;
 mod table;
-#[cfg(test)]
-mod tests;
 mod words;
 mod wrong;
 

@@ -1,6 +1,7 @@
 -- How what a file is made of is told, step by step.
-use Rattle.std.proofs.Common.{◌≡◌, ℕ, ◌<◌, ◌≤◌, Bool, true, List, [], length, Option, Some, Ok, refl, sym, ap, subst, ◌∙◌, arith}
+use Rattle.std.proofs.Common.{◌≡◌, ℕ, ◌<◌, ◌≤◌, Bool, true, false, List, [], length, Option, Some, None, Ok, refl, sym, ap, subst, ◌∙◌, arith}
 use Rattle.std.specs.Prelude.{if◌then◌else◌}
+use Rattle.std.specs.Bool.{then_some}
 use Rattle.pl_base.specs.Bytes.{word32}
 use Rattle.pl_elf.specs.Kinds.{is_library}
 use Rattle.pl_elf.specs.declared.segment.Segment.{Segment}
@@ -11,6 +12,7 @@ use Rattle.pl_object.specs.declared.object.Object.{Object}
 use Rattle.pl_object.proofs.AcceptedLaws.{accepted}
 use Rattle.pl_form.specs.Back.{front_of, when}
 use Rattle.pl_form.specs.Forms.{original_of}
+use Rattle.pl_form.specs.Marks.{IsFormOf}
 use Rattle.pl_form.specs.Found.{ss_of, ps_of}
 use Rattle.pl_form.specs.Parts.{Original}
 use Rattle.pl_form.specs.declared.parts.Spot.{Spot}
@@ -20,7 +22,7 @@ use Rattle.pl_form.specs.Originals.{original}
 use Rattle.pl_lists.specs.Conflicts.{ascend, are_conflicts}
 use Rattle.pl_lists.specs.declared.conflict_row.ConflictRow.{ConflictRow}
 use Rattle.pl_lists.specs.declared.list_row.ListRow.{ListRow}
-use Rattle.pl_form.specs.Reading.{IsOwn, OwnIfAny, IsSpelledList, ListIfAny, AreSpelled, SpelledIfAny, with_conflicts, firm_object, lists_in, candidate, stamp_behind, version_in, standing, zeros_behind, places_in, is_form, checked, marked_by, IsMade, IsLayoutOf}
+use Rattle.pl_form.specs.Reading.{IsOwn, OwnIfAny, IsSpelledList, ListIfAny, AreSpelled, SpelledIfAny, with_conflicts, firm_object, lists_in, candidate, stamp_behind, version_in, standing, zeros_behind, places_in, is_form, checked, marked_by, IsMade, IsLayoutOf, FormIfAny}
 use Rattle.pl_form.specs.declared.file.Marked.{Marked}
 use Rattle.pl_form.specs.declared.layout.Layout.{Layout}
 use Rattle.pl_form.specs.declared.read.Lists.{Lists}
@@ -61,6 +63,21 @@ same_checked file o u x l m front flat f is places =
     let test : is_form file n (places_in n.original (front_of u file) file) ≡ is_form file m flat = made_here file o u x l m front flat f is places in
     ap (λ (b : Bool). when b (Some m)) (sym test)
     ∙ ap (λ (k : Marked). when (is_form file n (places_in n.original (front_of u file) file)) (Some k)) (sym same)
+
+-- an original that is one, of a file without lists
+pub no_lists : (file o : List ℕ) (u : Undo) (x : Object) → Some x ≡ firm_object o → None ≡ lists_in (is_library x.kind) file → None ≡ marked_by file u o
+unfolding marked_by
+no_lists file o u x e f = rw (sym e, sym f) refl
+
+-- ---- what a test says
+
+pub some_when : (b : Bool) (m : Marked) → then_some b m ≡ when b (Some m)
+some_when true m = refl
+some_when false m = refl
+
+pub form_if : (file : List ℕ) (b : Bool) (m : Marked) (found : Option Marked) → found ≡ then_some b m → (b ≡ true → IsFormOf file m) → FormIfAny file found
+form_if file true m found is form = subst (FormIfAny file) (sym is) (form refl)
+form_if file false m found is form = subst (FormIfAny file) (sym is) tt
 
 -- ---- what the parts say
 

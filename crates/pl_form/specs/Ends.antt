@@ -12,6 +12,11 @@ names_from file undo = up (up file + undo)
 abbrev pub names_end : ℕ → List ℕ → FormPlan → ℕ → ℕ
 names_end file old p undo = names_from file undo + length (all_names old p)
 
+-- the section header table, behind other names of so many bytes and with names of so many
+abbrev pub rows_behind : FormPlan → ℕ → ℕ → ℕ → ℕ → List Section
+rows_behind p file old undo names =
+    p.sections ++ plain (old + length p.names) 1 (up file) undo ∷ plain (old + length p.names + 18) 3 (names_from file undo) names ∷ []
+
 -- the section header table
 abbrev pub ended_rows : ℕ → List ℕ → FormPlan → ℕ → List Section
 ended_rows file old p undo =

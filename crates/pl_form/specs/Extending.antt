@@ -14,6 +14,7 @@ use Rattle.pl_form.specs.Loads.{hidden_windows}
 use Rattle.pl_form.specs.Parts.{is_grown, extended_segment, loaded_section, with_rows, with_tag, extension_at, rows_at, conflicts_at, entry_bytes}
 use Rattle.pl_form.specs.declared.parts.Extension.{Extension}
 use Rattle.pl_form.specs.declared.layout.Layout.{Layout}
+use Rattle.pl_form.specs.declared.parts.Spot.{Spot}
 use Rattle.pl_form.specs.declared.program.Last.{Last}
 use Rattle.pl_form.specs.declared.program.Shift.{Shift}
 
@@ -27,6 +28,10 @@ pub record IsShort (last : Segment) : Type 0 where
 -- lists of at most 1 GiB
 abbrev pub AreShort : Extension → Type 0
 AreShort e = length e.strings + (length e.rows + length e.conflicts) ≤ 2 ^ 30
+
+-- the bytes that places have behind the file lie in the zeros of the last PT_LOAD
+abbrev pub LieInZeros : Segment → List Spot → Type 0
+LieInZeros last ps = AllIn (last.memsz - last.filesz) (hidden_windows ps)
 
 -- the section of section names has a row in the file
 pub record HasNames (bytes : List ℕ) : Type 0 where
@@ -84,4 +89,4 @@ pub record IsExtended (bytes : List ℕ) (x : Object) (l : Layout) (last : Last)
   pub names : HasNames bytes
   pub dynamic : IsIn (length bytes) l.dynamic
   pub spare : 16 * l.tags + 64 ≤ l.dynamic.size
-  pub hidden : AllIn (last.segment.memsz - last.segment.filesz) (hidden_windows l.spots)
+  pub hidden : LieInZeros last.segment l.spots

@@ -114,6 +114,10 @@ zeros_from (Some s) = s.vaddr + s.filesz
 abbrev pub places_by : List Segment → List Tag → List ℕ → List Window
 places_by ss ts rows = all_places (rela_in ss ts).size (jmprel_in ss ts).size (packed_in ss ts).size rows
 
+-- where these stand, by their rows in these bytes
+abbrev pub spots_in : List Segment → List Section → List Tag → List ℕ → List Spot
+spots_in ss secs ts bytes = spots_of ss (zeros_from (last_load ss)) (places_by ss ts (all_within (row_windows ss secs ts) bytes))
+
 unfoldable pub find_spots : List ℕ → List ℕ → List ℕ → Option (List Spot)
 find_spots headers dynamic rows =
     let ss = stored_segments headers in

@@ -28,6 +28,7 @@ use Rattle.pl_form.specs.Words.{checksum_of}
 use Rattle.pl_form.specs.declared.constants.TheConstants.{STORED}
 use Rattle.pl_form.specs.declared.file.Marked.{Marked}
 use Rattle.pl_form.specs.declared.layout.Layout.{Layout}
+use Rattle.pl_form.specs.declared.read.Contents.{Contents}
 use Rattle.pl_form.specs.declared.read.FileParts.{FileParts}
 use Rattle.pl_form.specs.declared.read.Lists.{Lists}
 use Rattle.pl_form.specs.declared.version.Version.{Version}
@@ -211,14 +212,23 @@ abbrev pub FormIfAny : List ℕ → Option Marked → Type 0
 FormIfAny file None = Unit {0}
 FormIfAny file (Some m) = IsFormOf file m
 
--- what is read of a file for an original, by which it is told whether the file is a form of it
-pub record ArePartsOf (file : List ℕ) (u : Undo) (o : List ℕ) (p : FileParts) : Type 0 where
-  pub own : IsOwn o p.object
-  pub lists : AreSpelled (is_library p.object.kind) file p.lists
+-- what is read of a file for the object of an original
+pub record AreContentsOf (file : List ℕ) (u : Undo) (o : List ℕ) (x : Object) (p : Contents) : Type 0 where
+  pub lists : AreSpelled (is_library x.kind) file p.lists
   pub layout : IsLayoutOf o p.standing.layout
   pub front : p.standing.front.items ≡ front_of u file
   pub flat : p.standing.flat.items ≡ places_in o (front_of u file) file
-  pub by : marked_by file u o ≡ checked file u (candidate (front_of u file) u o p.object p.lists)
+  pub found : Some p.lists ≡ lists_in (is_library x.kind) file
+
+abbrev pub ContentsIfAny : List ℕ → Undo → List ℕ → Object → Option Contents → Type 0
+ContentsIfAny file u o x None = None ≡ lists_in (is_library x.kind) file
+ContentsIfAny file u o x (Some p) = AreContentsOf file u o x p
+
+-- what is read of a file for an original, by which it is told whether the file is a form of it
+pub record ArePartsOf (file : List ℕ) (u : Undo) (o : List ℕ) (p : FileParts) : Type 0 where
+  pub own : IsOwn o p.object
+  pub contents : AreContentsOf file u o p.object p.contents
+  pub by : marked_by file u o ≡ checked file u (candidate (front_of u file) u o p.object p.contents.lists)
 
 abbrev pub PartsIfAny : List ℕ → Undo → List ℕ → Option FileParts → Type 0
 PartsIfAny file u o None = None ≡ marked_by file u o

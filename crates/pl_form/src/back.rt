@@ -11,12 +11,10 @@ ghost use Rattle.pl_form.specs.Stored.{IsWhole, WholeIfAny};
 
 use crate::Spot;
 use crate::bytes::put_bytes;
-use crate::found::{
-    dynamic_in, find_spots, has_dynamic_table, has_tables, moved_tables, row_windows,
-};
+use crate::found::{dynamic_in, has_dynamic_table, has_tables, moved_tables, spots_in};
 use crate::places::put_visible;
 use crate::undo_part::head_windows;
-use crate::windows::{all_bytes, are_in};
+use crate::windows::are_in;
 use pl_base::{Rows, end, part};
 use pl_dyn::{Tag, read_tags};
 use pl_elf::constants::{HEADER_SIZE, SECTION_SIZE, SEGMENT_SIZE};
@@ -224,9 +222,8 @@ fn places_back(
     ensures { IfOk result (λ o. o ≡ spec.places_back undo.now stored.now tags.now bytes.items) }
 {
     let segments = stored.segments.as_slice();
-    let windows = row_windows(segments, stored.sections.as_slice(), tags);
-    let rows = all_bytes(alloc, &windows, &bytes)?;
-    let spots = find_spots(alloc, segments, tags, &rows)?;
+    let sections = stored.sections.as_slice();
+    let spots = spots_in(alloc, segments, sections, tags, &bytes)?;
     let dynamic = dynamic_in(segments).size();
     Ok(kept_back(undo, dynamic, spots.as_slice(), bytes))
 }

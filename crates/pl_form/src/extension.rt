@@ -4,7 +4,7 @@ ghost use Rattle.pl_base.specs.Bytes.{put};
 ghost use Rattle.pl_base.specs.Windows.{AllIn, put_all};
 ghost use Rattle.pl_form.specs.Loads.{hidden_windows};
 ghost use Rattle.pl_form.specs.Parts as parts;
-ghost use Rattle.pl_form.specs.Extending.{IsShort, AreShort};
+ghost use Rattle.pl_form.specs.Extending.{IsShort, AreShort, LieInZeros};
 
 use crate::bytes::{push_part, put_bytes, split, up};
 use crate::places::push_zeros;
@@ -54,7 +54,7 @@ fn zeros_part(
     spots: &[Spot],
     flat: &[u8],
 ) -> Result<Vec<u8>, AllocError>
-    requires spots { AllIn (last.now.memsz - last.now.filesz) (hidden_windows spots.now) }
+    requires spots { LieInZeros last.now spots.now }
     ensures { IfOk result (λ v. v.items ≡ parts.zeros_part last.now spots.now flat.now) }
 {
     let mut zeros = Vec::new(alloc);
@@ -112,7 +112,7 @@ pub fn extension(
     lists: &Extension,
 ) -> Result<Vec<u8>, AllocError>
     requires last { IsShort last.now }
-    requires spots { AllIn (last.now.memsz - last.now.filesz) (hidden_windows spots.now) }
+    requires spots { LieInZeros last.now spots.now }
     ensures { IfOk result (λ v. v.items ≡ parts.extension last.now spots.now flat.now lists.now) }
 {
     let mut block = zeros_part(alloc, last, spots, flat)?;

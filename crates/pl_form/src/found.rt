@@ -9,6 +9,7 @@ ghost use Rattle.pl_form.specs.Loads as loads;
 
 use crate::Spot;
 use crate::bytes::split;
+use crate::windows::all_bytes;
 use pl_base::{Rows, end, part, word32, word64};
 use pl_dyn::Tag;
 use pl_dyn::constants::DT_SYMTAB;
@@ -44,7 +45,7 @@ pub fn has_dynamic_table(segments: &[Segment]) -> bool
 }
 
 /// The windows of the rows of relocations: those of DT_RELA, of DT_JMPREL, the packed ones, and the symbols.
-pub fn row_windows(segments: &[Segment], sections: &[Section], tags: &[Tag]) -> [Window; 4]
+fn row_windows(segments: &[Segment], sections: &[Section], tags: &[Tag]) -> [Window; 4]
     ensures { result ≡ spec.row_windows segments.now sections.now tags.now }
 {
     [
@@ -241,6 +242,21 @@ fn packed_places(alloc: Global, table: &[u8]) -> Result<Vec<Window>, AllocError>
     }
 }
 
+/// Adds the places of all whole rows of a table, and those that a packed table names.
+fn push_places(
+    alloc: Global,
+    places: &mut Vec<Window>,
+    symbols: &[u8],
+    jmprel: &[u8],
+    packed: &[u8],
+) -> Result<(), AllocError>
+    ensures { OnOk result (places.new.items ≡ places.old.items
+        ++ (spec.raw_places symbols.now jmprel.now ++ spec.packed_places packed.now)) }
+{
+    places.extend_from_slice(&raw_places(alloc, symbols, jmprel)?)?;
+    places.extend_from_slice(&packed_places(alloc, packed)?)
+}
+
 /// The places of all relocations, by the bytes of the tables one after the other, of these sizes, and the symbols behind them.
 #[tactic(auto, unfolding(crate::specs::Found::all_places))]
 fn all_places(
@@ -256,13 +272,12 @@ fn all_places(
     let (jmprel, words) = split(slots, jmprel);
     let (packed, symbols) = split(words, packed);
     let mut places = raw_places(alloc, symbols, rela)?;
-    places.extend_from_slice(&raw_places(alloc, symbols, jmprel)?)?;
-    places.extend_from_slice(&packed_places(alloc, packed)?)?;
+    push_places(alloc, &mut places, symbols, jmprel, packed)?;
     Ok(places)
 }
 
 /// Where the places of all relocations stand, by their rows: the bytes of the row windows, one after the other.
-pub fn find_spots(
+fn find_spots(
     alloc: Global,
     segments: &[Segment],
     tags: &[Tag],
@@ -280,4 +295,19 @@ pub fn find_spots(
         rows,
     )?;
     Ok(Rows::from_vec(spots_of(alloc, segments, &places)?))
+}
+
+/// Where the places of all relocations stand, by their rows in these bytes.
+pub fn spots_in(
+    alloc: Global,
+    segments: &[Segment],
+    sections: &[Section],
+    tags: &[Tag],
+    bytes: &[u8],
+) -> Result<Rows<Spot>, AllocError>
+    ensures { IfOk result (λ spots. spots ≡ spec.spots_in segments.now sections.now tags.now
+        bytes.now) }
+{
+    let rows = all_bytes(alloc, &row_windows(segments, sections, tags), bytes)?;
+    find_spots(alloc, segments, tags, &rows)
 }

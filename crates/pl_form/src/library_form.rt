@@ -18,10 +18,9 @@ ghost use Rattle.pl_form.specs.Originals.{original};
 ghost use Rattle.sha2.specs.Sha256.{sha256};
 
 use crate::bytes::split;
-use crate::found::{dynamic_in, find_spots, moved_tables, row_windows};
+use crate::found::{dynamic_in, moved_tables, spots_in};
 use crate::library::library_plan;
 use crate::places::{push_memory, push_zeros};
-use crate::windows::all_bytes;
 use crate::write::write_planned;
 use crate::{Layout, Listed, Mark, Spot, Version};
 use pl_base::{Rows, part, word32};
@@ -42,11 +41,12 @@ pub fn layout_of(alloc: Global, bytes: &[u8], object: &Object) -> Result<Layout,
     let sections = object.sections.as_slice();
     let dynamic = dynamic_in(segments);
     let tags = read_tags(alloc, part(bytes, dynamic.at(), dynamic.size()))?;
-    let rows = all_bytes(alloc, &row_windows(segments, sections, &tags), bytes)?;
+    let spots = spots_in(alloc, segments, sections, &tags, bytes)?;
+    let tables = moved_tables(alloc, segments, sections, &tags)?;
     Ok(Layout {
         dynamic,
-        tables: moved_tables(alloc, segments, sections, &tags)?,
-        spots: find_spots(alloc, segments, &tags, &rows)?,
+        tables,
+        spots,
         tags: tags.len() as u64,
     })
 }

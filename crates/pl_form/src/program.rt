@@ -1,5 +1,5 @@
 // The plan of a program's form.
-ghost use Rattle.std.specs.Prelude.{◌≡◌, ◌+◌, ◌*◌, ◌<◌, ◌≤◌, ◌^◌, ◌++◌, ◌∷◌, [], ◌-◌, false, length, map, IfOk};
+ghost use Rattle.std.specs.Prelude.{◌≡◌, ◌+◌, ◌*◌, ◌<◌, ◌≤◌, ◌^◌, ◌++◌, ◌∷◌, [], false, length, map, IfOk};
 ghost use Rattle.std.specs.List.{list_any};
 ghost use Rattle.pl_elf.specs.Clauses.{section_passes};
 ghost use Rattle.pl_elf.specs.Headers as headers;
@@ -11,7 +11,7 @@ ghost use Rattle.pl_form.specs.Parts as parts;
 ghost use Rattle.pl_base.specs.Bytes.{put};
 ghost use Rattle.pl_base.specs.Windows.{AllIn, IsIn};
 ghost use Rattle.pl_form.specs.Extending as spec;
-ghost use Rattle.pl_form.specs.Extending.{IsShort, AreShort, HasNames, IsExtended};
+ghost use Rattle.pl_form.specs.Extending.{IsShort, AreShort, LieInZeros, HasNames, IsExtended};
 ghost use Rattle.pl_form.specs.Originals.{original};
 ghost use Rattle.pl_form.specs.Tables as tables;
 
@@ -315,7 +315,7 @@ fn inserted(
     lists: &Extension,
 ) -> Result<Insertion, AllocError>
     requires last { IsShort last.now }
-    requires spots { AllIn (last.now.memsz - last.now.filesz) (hidden_windows spots.now) }
+    requires spots { LieInZeros last.now spots.now }
     ensures { IfOk result (λ more. more ≡ tables.inserted last.now spots.now flat.now lists.now) }
 {
     let block = extension(alloc, last, spots, flat, lists)?;

@@ -361,12 +361,37 @@ fn standing_in(
     })
 }
 
+/// What is read of a file for the object of an original.
+#[derive(Drop)]
+struct Contents {
+    lists: Lists,
+    standing: StandingBytes,
+}
+
+/// What is read of a file for the object of an original; None where the file's lists are none of a form.
+fn contents_in(
+    alloc: Global,
+    file: &[u8],
+    undo: &Undo,
+    original: &[u8],
+    object: &Object,
+) -> Result<Option<Contents>, AllocError>
+    requires undo { has_undo_section file.now ≡ true }
+    requires own { spec.IsOwn original.now object.now }
+    ensures { IfOk result (spec.ContentsIfAny file.now undo.now original.now object.now) }
+{
+    let Some(lists) = lists_in(alloc, object, file)? else {
+        return Ok(None);
+    };
+    let standing = standing_in(alloc, file, undo, original, object)?;
+    Ok(Some(Contents { lists, standing }))
+}
+
 /// What is read of a file by which it is told whether it is a form of an original.
 #[derive(Drop)]
 struct FileParts {
     object: Object,
-    lists: Lists,
-    standing: StandingBytes,
+    contents: Contents,
 }
 
 /// What is read of a file for an original; None where the original or the file's lists are none of a form.
@@ -383,15 +408,10 @@ fn parts_in(
     let Some(object) = firm_object(alloc, original)? else {
         return Ok(None);
     };
-    let Some(lists) = lists_in(alloc, &object, file)? else {
+    let Some(contents) = contents_in(alloc, file, undo, original, &object)? else {
         return Ok(None);
     };
-    let standing = standing_in(alloc, file, undo, original, &object)?;
-    Ok(Some(FileParts {
-        object,
-        lists,
-        standing,
-    }))
+    Ok(Some(FileParts { object, contents }))
 }
 
 /// All that a file is made of, if it is the form of it with the bytes that stand at the places.
@@ -411,11 +431,8 @@ fn if_form(
     ensures form { IfOk result (spec.FormIfAny file.now) }
 {
     let spots = standing.layout.spots.as_slice();
-    if makes_file(alloc, file, &marked, spots, &standing.flat, digest)? {
-        Ok(Some(marked))
-    } else {
-        Ok(None)
-    }
+    let form = makes_file(alloc, file, &marked, spots, &standing.flat, digest)?;
+    Ok(form.then_some(marked))
 }
 
 /// What a file is made of, if it is a form of this original, of which this is read.
@@ -431,11 +448,8 @@ fn marked_with(
     ensures exact { IfOk result (λ o. o ≡ spec.marked_by file.now undo.now original) }
     ensures form { IfOk result (spec.FormIfAny file.now) }
 {
-    let FileParts {
-        object,
-        lists,
-        standing,
-    } = parts;
+    let FileParts { object, contents } = parts;
+    let Contents { lists, standing } = contents;
     let digest = digest_of(original.as_slice());
     let layout = &standing.layout;
     let marked = candidate(

@@ -3,6 +3,7 @@ ghost use Rattle.std.specs.Prelude.{◌≡◌, ◌+◌, ◌++◌, ◌<◌, ◌�
 ghost use Rattle.pl_elf.specs.Headers as headers;
 ghost use Rattle.pl_elf.specs.Clauses.{names};
 ghost use Rattle.pl_form.specs.Back.{inserted};
+ghost use Rattle.pl_form.specs.Extending.{HasNames};
 ghost use Rattle.pl_form.specs.Fits.{Fits};
 ghost use Rattle.pl_form.specs.Forms.{undo_part};
 ghost use Rattle.pl_form.specs.Parts as parts;
@@ -123,9 +124,7 @@ fn push_parts(file: &mut Vec<u8>, next: &[Rows<u8>]) -> Result<(), AllocError>
 
 /// The bytes of the section of section names.
 pub fn old_names<'a>(bytes: &'a [u8]) -> &'a [u8]
-    requires row { headers.section_offset (headers.header bytes.now)
-        (headers.header bytes.now).shstrndx + 64 ≤ length bytes.now }
-    requires long { 64 ≤ length bytes.now }
+    requires { HasNames bytes.now }
     ensures { result.now ≡ names bytes.now (headers.header bytes.now) }
 {
     let header = header_fields(bytes);
@@ -164,6 +163,30 @@ fn body(
     Ok(file)
 }
 
+/// The section header table of a form: that of the plan, then the sections of the undo section and of the names, of so many bytes each, behind a file of so many bytes and other names of so many.
+fn ended_rows(
+    alloc: Global,
+    plan: &FormPlan,
+    file: usize,
+    old: usize,
+    undo: usize,
+    names: usize,
+) -> Result<Vec<Section>, AllocError>
+    requires end { ends.names_from file undo + names < 2 ^ 32 }
+    requires name { old + length plan.now.names + 18 < 2 ^ 32 }
+    ensures { IfOk result (λ v. v.items ≡ ends.rows_behind plan.now file old undo names) }
+{
+    let mut rows = Vec::from_slice(alloc, plan.sections.as_slice())?;
+    let name = old + plan.names.len();
+    let at = up(file);
+    let new = [
+        plain(name, SHT_PROGBITS, at, undo),
+        plain(name + UNDO_NAME.len(), SHT_STRTAB, up(at + undo), names),
+    ];
+    rows.extend_from_slice(&new)?;
+    Ok(rows)
+}
+
 /// Adds the undo section and the names, and answers the section header table that follows them.
 fn push_ends(
     alloc: Global,
@@ -178,18 +201,11 @@ fn push_ends(
     ensures rows { IfOk result (λ v. v.items ≡ ends.ended_rows (length file.old.items) old.now
         plan.now (length undo.now)) }
 {
-    let name = old.len() + plan.names.len();
     let names = names_part(alloc, old, plan)?;
-    let mut rows = Vec::from_slice(alloc, plan.sections.as_slice())?;
-    rows.push(plain(name, SHT_PROGBITS, up(file.len()), undo.len()))?;
+    let before = file.len();
     push_part(file, undo)?;
-    rows.push(plain(
-        name + UNDO_NAME.len(),
-        SHT_STRTAB,
-        up(file.len()),
-        names.len(),
-    ))?;
     push_part(file, &names)?;
+    let rows = ended_rows(alloc, plan, before, old.len(), undo.len(), names.len())?;
     Ok(rows)
 }
 
@@ -233,8 +249,7 @@ fn write_form(
     undo: &[u8],
 ) -> Result<Vec<u8>, AllocError>
     requires fits { Fits plan.now (original bytes.now layout.now) flat.now (length undo.now) }
-    requires names { headers.section_offset (headers.header bytes.now)
-        (headers.header bytes.now).shstrndx + 64 ≤ length bytes.now }
+    requires names { HasNames bytes.now }
     ensures { IfOk result (λ v. v.items ≡ parts.form plan.now (original bytes.now layout.now)
         flat.now undo.now) }
 {
@@ -260,11 +275,9 @@ pub fn write_planned(
     flat: &[u8],
     digest: Option<[u8; DIGEST_SIZE]>,
 ) -> Result<Vec<u8>, NoMemory>
-    requires long { 64 ≤ length bytes.now }
     requires fits { Fits plan.now (original bytes.now layout.now) flat.now
         (length (undo_part plan.now (original bytes.now layout.now) digest)) }
-    requires names { headers.section_offset (headers.header bytes.now)
-        (headers.header bytes.now).shstrndx + 64 ≤ length bytes.now }
+    requires names { HasNames bytes.now }
     ensures { IfOk result (λ v. v.items ≡ parts.form plan.now (original bytes.now layout.now)
         flat.now (undo_part plan.now (original bytes.now layout.now) digest)) }
 {

@@ -1,4 +1,4 @@
-//! Tests of the crates below pl_object, one module for each crate.
+//! Tests of the crates below pl_object, of scripts and generated sets, of the real folder and of the lines for people, one module for each crate.
 #![tactic(auto)]
 
 #[cfg(test)]
@@ -9,6 +9,8 @@ mod cache;
 mod dynamic;
 #[cfg(test)]
 mod elf;
+#[cfg(test)]
+mod explain;
 #[cfg(test)]
 mod folder;
 #[cfg(test)]
@@ -22,7 +24,13 @@ mod lists;
 #[cfg(test)]
 mod place;
 #[cfg(test)]
+mod real_folder;
+#[cfg(test)]
 mod relr;
+#[cfg(test)]
+mod scripts;
+#[cfg(test)]
+mod sets;
 #[cfg(test)]
 mod share;
 #[cfg(test)]

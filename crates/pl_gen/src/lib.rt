@@ -7,7 +7,5 @@ mod recipes;
 mod relocation_kind;
 mod relocations;
 mod set;
-#[cfg(test)]
-mod tests;
 
 pub use set::{DemoFile, demo_set};

@@ -8,8 +8,6 @@ mod line;
 mod lines;
 mod number;
 mod script;
-#[cfg(test)]
-mod tests;
 
 pub use fault::ScriptFault;
 pub use line::RunLine;

@@ -21,9 +21,6 @@ library_plan-requires-clause-library c = movable_ready c.args.original.now c.arg
 pub library_plan-requires-clause-strings : goal.library_plan-requires-clause-strings
 library_plan-requires-clause-strings c = omega (arith, c.requires.list.strings)
 
-pub write_planned-requires-clause-long : goal.write_planned-requires-clause-long
-write_planned-requires-clause-long c = (accepted c.args.original.now c.args.object.now c.requires.firm.firm.accepted).head.long
-
 pub write_planned-requires-clause-fits : goal.write_planned-requires-clause-fits
 write_planned-requires-clause-fits c =
     library_fit c.args.original.now c.args.object.now c.in_ok-layout.layout c.args.mark.now.slot c.args.mark.now.stamp c.args.mark.now.checksum c.args.listed c.in_ok-plan.plan c.args.flat.now
@@ -31,7 +28,7 @@ write_planned-requires-clause-fits c =
     c.requires.firm.library c.in_ok-layout.ensures c.in_ok-plan.ensures refl c.requires.flat c.requires.digest c.requires.slot.below c.requires.slot.even c.requires.list.strings c.requires.list.rows
 
 pub write_planned-requires-clause-names : goal.write_planned-requires-clause-names
-write_planned-requires-clause-names c = (names_ready c.args.original.now c.args.object.now c.requires.firm.firm.accepted).row
+write_planned-requires-clause-names c = names_ready c.args.original.now c.args.object.now c.requires.firm.firm.accepted
 
 pub returns : goal.returns
 returns c =

@@ -38,3 +38,6 @@ returns c =
     ∙ ap (λ (n : ℕ). all_sections told x.sections last.segment (record { cut = cut_of last.segment; size = n }) e) c.len.ensures
     ∙ ap (λ (ns : List ℕ). all_sections (length ns) x.sections last.segment (record { cut = cut_of last.segment; size = length c.args.more.now.bytes }) e) c.old_names-names.ensures)
     (c.from_vec-4.ensures ∙ c.in_ok-new.ensures)
+
+pub old_names-names-requires : goal.old_names-names-requires
+old_names-names-requires c = c.requires.program.names

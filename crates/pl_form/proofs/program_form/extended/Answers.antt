@@ -27,9 +27,6 @@ program_plan-requires-clause-program c =
     extended_ready c.args.original.now c.args.object.now c.in_ok-layout.layout c.in-Some.last c.requires.firm.firm c.requires.firm.program c.in_ok-layout.ensures
     (last_ready c.args.original.now c.args.object.now c.in-Some.last c.requires.firm.firm (ap find_last (sym c.as_slice.ensures) ∙ sym c.find_last.ensures ∙ c.in-Some.is))
 
-pub write_planned-requires-clause-long : goal.write_planned-requires-clause-long
-write_planned-requires-clause-long c = (accepted c.args.original.now c.args.object.now c.requires.firm.firm.accepted).head.long
-
 pub write_planned-requires-clause-fits : goal.write_planned-requires-clause-fits
 write_planned-requires-clause-fits c =
     program_fit c.args.original.now c.args.object.now c.in_ok-layout.layout c.in-Some.last c.args.lists.now c.in_ok-plan.plan c.args.flat.now
@@ -39,7 +36,7 @@ write_planned-requires-clause-fits c =
     c.kept_digest-kept.ensures.size (omega (arith, c.requires.lists))
 
 pub write_planned-requires-clause-names : goal.write_planned-requires-clause-names
-write_planned-requires-clause-names c = (names_ready c.args.original.now c.args.object.now c.requires.firm.firm.accepted).row
+write_planned-requires-clause-names c = names_ready c.args.original.now c.args.object.now c.requires.firm.firm.accepted
 
 pub returns : goal.returns
 returns c =

@@ -36,3 +36,6 @@ returns c =
     (c.in_ok-rows.ensures.rows ∙ ap (λ (xs : List ℕ). ended_rows (length c.in_ok-file.file.items) xs c.args.plan.now (length c.args.undo.now)) c.old_names-names.ensures)
     (c.new_header-header.ensures ∙ ap (λ (h : Header). header_with h c.args.plan.now c.up-at.result) c.header_fields-old.ensures
     ∙ ap (header_with (header c.args.bytes.now) c.args.plan.now) (c.up-at.ensures ∙ ap up length_is))
+
+pub old_names-names-requires : goal.old_names-names-requires
+old_names-names-requires c = c.requires.names

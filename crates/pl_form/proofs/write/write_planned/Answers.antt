@@ -4,6 +4,9 @@ use Rattle.pl_form.specs.Originals.{original}
 use Rattle.pl_form.specs.Parts.{form}
 use Rattle.pl_form.proofs.write.write_planned.Goals as goal
 
+pub undo_part-requires : goal.undo_part-requires
+undo_part-requires c = c.requires.names.long
+
 pub write_form-requires-clause-fits : goal.write_form-requires-clause-fits
 write_form-requires-clause-fits c =
     subst (λ (u : List ℕ). Fits c.args.plan.now (original c.args.bytes.now c.args.layout.now) c.args.flat.now (length u)) (sym (c.deref.ensures.value ∙ c.in_ok-undo.ensures)) c.requires.fits
