@@ -12,7 +12,6 @@ use Rattle.pl_cone.specs.declared.cone.Cone.{Cone}
 use Rattle.pl_cone.specs.declared.fault.PlanningFault.{PlanningFault}
 use Rattle.pl_cone.specs.declared.known.Known.{Known}
 use Rattle.pl_cone.specs.declared.run_plan.Placed.{Placed}
-use Rattle.pl_cone.specs.declared.run_plan.RunPlan.{RunPlan}
 use Rattle.pl_cone.specs.declared.skip.ConeFault.{ConeFault}
 use Rattle.pl_cone.specs.declared.standing.Standing.{Standing}
 

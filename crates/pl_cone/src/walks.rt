@@ -1,5 +1,5 @@
 // Walks over what is known of files.
-ghost use Rattle.std.specs.Prelude.{◌≡◌, Ok, Err, IfOk, IfErr, IfSome};
+ghost use Rattle.std.specs.Prelude.{◌≡◌, false, Ok, Err, IfOk, IfErr, IfSome};
 ghost use Rattle.std.specs.Option.{option_map};
 ghost use Rattle.pl_base.specs.Answers.{Answers};
 ghost use Rattle.pl_scope.specs.Scope.{IsAccepted};
@@ -74,6 +74,17 @@ pub fn walk_in<'a>(alloc: Global, files: &[Known<'a>], name: &str) -> Result<Sco
     Ok(Scope::new(members))
 }
 
+/// Whether there was no memory for a walk.
+fn lacks_memory(walk: &Result<Scope<'_>, Skip>) -> bool
+    ensures ok { IfOk walk.now (λ scope. result ≡ false) }
+    ensures err { IfErr walk.now (λ skip. result ≡ skip_is_memory skip) }
+{
+    match walk {
+        Ok(_) => false,
+        Err(skip) => is_memory(skip),
+    }
+}
+
 /// The walk of a name over the originals; None where it is refused.
 pub fn walk_unless_refused<'a>(
     alloc: Global,
@@ -83,14 +94,9 @@ pub fn walk_unless_refused<'a>(
     requires { spec.AreAccepted files.now }
     ensures { IfOk result (λ walk. walk ≡ unless_refused (walk_in files.now name.now)) }
 {
-    match walk_in(alloc, files, name) {
-        Ok(scope) => Ok(Some(scope)),
-        Err(skip) => {
-            if is_memory(&skip) {
-                Err(NoMemory)
-            } else {
-                Ok(None)
-            }
-        }
+    let walk = walk_in(alloc, files, name);
+    if lacks_memory(&walk) {
+        return Err(NoMemory);
     }
+    Ok(walk.ok())
 }

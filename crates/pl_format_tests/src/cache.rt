@@ -11,51 +11,72 @@ const ONE_ROW: [u8; 37] = [
     0x61, 0, 0, 0, 0, 0x30, 0, 0, 0, 0, 0x10, 0x10, 0, 0, 0, 0, 0,
 ];
 
+/// Whether these bytes are written of a cache.
+fn is_written(alloc: Global, cache: &Cache, bytes: &[u8]) -> bool {
+    is_cache(cache) && write_cache(alloc, cache).as_deref() == Ok(bytes)
+}
+
+/// Whether the one row is what a cache has.
+fn has_one_row(cache: &Cache) -> bool {
+    match cache.rows.as_slice() {
+        [row] => {
+            let named = row.name.as_str() == "liba" && cache.last == 1000;
+            named && row.start == 0x30_0000_0000 && row.span == 0x10_1000
+        }
+        _ => false,
+    }
+}
+
+/// Whether the one row is read and written.
+fn one_row_goes_both_ways(alloc: Global) -> Result<bool, CacheFault> {
+    let cache = read_cache(alloc, &ONE_ROW)?;
+    Ok(has_one_row(&cache) && is_written(alloc, &cache, &ONE_ROW))
+}
+
 #[test]
 fn both_ways(rt: HostRuntime) -> Result<(), CacheFault> {
-    let alloc = rt.alloc();
-    let cache = read_cache(alloc, &ONE_ROW)?;
-    assert!(rt; cache.last == 1000);
-    assert!(rt; cache.rows.len() == 1);
-    for row in cache.rows.as_slice() {
-        assert!(rt; row.name.as_str() == "liba");
-        assert!(rt; row.start == 0x30_0000_0000 && row.span == 0x10_1000);
-    }
-    assert!(rt; is_cache(&cache));
-    assert!(rt; write_cache(alloc, &cache).as_deref() == Ok(ONE_ROW.as_slice()));
+    assert!(rt; one_row_goes_both_ways(rt.alloc())?);
     Ok(())
+}
+
+/// Whether a cache without rows is written.
+fn is_written_without_rows(alloc: Global) -> bool {
+    let cache = Cache {
+        last: 900,
+        rows: Rows::new(alloc),
+    };
+    is_written(alloc, &cache, b"PLCACHE1\x84\x03\0\0\0\0\0\0")
 }
 
 #[test]
 fn writes_no_rows(rt: HostRuntime) {
-    let cache = Cache {
-        last: 900,
-        rows: Rows::new(rt.alloc()),
-    };
-    assert!(rt; is_cache(&cache));
-    let bytes = b"PLCACHE1\x84\x03\0\0\0\0\0\0".as_slice();
-    assert!(rt; write_cache(rt.alloc(), &cache).as_deref() == Ok(bytes));
+    assert!(rt; is_written_without_rows(rt.alloc()));
 }
 
-/// Bytes that are no cache, in hexadecimal: none, three, the second magic without rows, and a byte behind the rows.
+/// Bytes that are no cache, in hexadecimal: none, three, the second magic without rows, a byte behind the rows, and the one row without its last byte.
 const BAD: &str = "\n\
 61 62 63\n\
 50 4c 43 41 43 48 45 32 84 03 0 0 0 0 0 0\n\
-50 4c 43 41 43 48 45 31 84 03 0 0 0 0 0 0 0";
+50 4c 43 41 43 48 45 31 84 03 0 0 0 0 0 0 0\n\
+50 4c 43 41 43 48 45 31 e8 3 0 0 1 0 0 0 4 6c 69 62 61 0 0 0 0 30 0 0 0 0 10 10 0 0 0 0";
+
+/// Whether bytes are read as a cache, or why they are not.
+fn answer(alloc: Global, bytes: &[u8]) -> Result<(), CacheFault> {
+    read_cache(alloc, bytes)?;
+    Ok(())
+}
 
 fn is_refused(alloc: Global, bytes: &[u8]) -> bool {
-    matches!(read_cache(alloc, bytes), Err(CacheFault::BadCache))
+    matches!(answer(alloc, bytes), Err(CacheFault::BadCache))
 }
 
 #[test]
 fn refuses_what_is_no_cache(rt: HostRuntime) -> Result<(), Fail> {
-    let alloc = rt.alloc();
     for line in BAD.lines() {
-        if !is_refused(alloc, &bytes_of(alloc, line)?) {
+        if !is_refused(rt.alloc(), &bytes_of(rt.alloc(), line)?) {
             return Err(line.into());
         }
     }
-    assert!(rt; is_refused(alloc, &ONE_ROW[..36]));
     Ok(())
 }
 
@@ -72,14 +93,15 @@ fn cache_of(alloc: Global, count: u16) -> Result<Vec<u8>, AllocError> {
     Ok(bytes)
 }
 
+/// Whether a cache of so many slots is read, or why it is not.
+fn answer_of(alloc: Global, count: u16) -> Result<(), CacheFault> {
+    answer(alloc, &cache_of(alloc, count)?)
+}
+
 #[test]
-fn reads_the_most_rows(rt: HostRuntime) -> Result<(), Fail> {
-    let alloc = rt.alloc();
-    let bytes = cache_of(alloc, 1024)?;
-    assert!(rt; read_cache(alloc, &bytes).is_ok());
-    let bytes = cache_of(alloc, 1025)?;
-    assert!(rt; is_refused(alloc, &bytes));
-    Ok(())
+fn reads_the_most_rows(rt: HostRuntime) {
+    assert!(rt; answer_of(rt.alloc(), 1024).is_ok());
+    assert!(rt; matches!(answer_of(rt.alloc(), 1025), Err(CacheFault::BadCache)));
 }
 
 /// Two slots of one page, `a` and `b`, with one address and so with the second magic.
@@ -89,20 +111,26 @@ const SHARED: [u8; 52] = [
     0, 0, 0,
 ];
 
+/// Whether the two slots are read and written.
+fn shared_go_both_ways(alloc: Global) -> Result<bool, CacheFault> {
+    let cache = read_cache(alloc, &SHARED)?;
+    Ok(cache.rows.len() == 2 && is_written(alloc, &cache, &SHARED))
+}
+
+/// Two slots, with the last byte of the magic, and the second byte of the address of the second one.
+fn slots(magic: u8, start: u8) -> [u8; 52] {
+    let mut bytes = SHARED;
+    bytes[7] = magic;
+    bytes[37] = start;
+    bytes
+}
+
 #[test]
 fn tells_shared_addresses_by_the_magic(rt: HostRuntime) -> Result<(), Fail> {
     let alloc = rt.alloc();
-    let cache = read_cache(alloc, &SHARED)?;
-    assert!(rt; cache.rows.len() == 2);
-    assert!(rt; is_cache(&cache));
-    assert!(rt; write_cache(alloc, &cache).as_deref() == Ok(SHARED.as_slice()));
-    let mut other = SHARED;
-    other[7] = b'1';
-    assert!(rt; is_refused(alloc, &other));
-    other = SHARED;
-    other[37] = 0x10;
-    assert!(rt; is_refused(alloc, &other));
-    other[7] = b'1';
-    assert!(rt; read_cache(alloc, &other).is_ok());
+    assert!(rt; shared_go_both_ways(alloc)?);
+    assert!(rt; is_refused(alloc, &slots(b'1', 0)));
+    assert!(rt; is_refused(alloc, &slots(b'2', 0x10)));
+    assert!(rt; answer(alloc, &slots(b'1', 0x10)).is_ok());
     Ok(())
 }

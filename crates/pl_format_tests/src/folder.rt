@@ -1,4 +1,5 @@
 // Tests of pl_folder. Files are spelled as text: each name with its bytes, parted by blanks.
+use pl_base::has_name_length;
 use pl_cases::{number, numbers, parts};
 use pl_folder::{Folder, FolderFault, MemoryFolder, QuietFolder, STORED, are_files};
 use std::alloc::{AllocError, Global};
@@ -32,15 +33,18 @@ fn is_told(alloc: Global, line: &str) -> Result<bool, Fail> {
 
 #[test]
 fn knows_files(rt: HostRuntime) -> Result<(), Fail> {
-    let alloc = rt.alloc();
     for line in LISTS.lines() {
-        if !is_told(alloc, line)? {
+        if !is_told(rt.alloc(), line)? {
             return Err(line.into());
         }
     }
-    // The clauses name the limit, so its number stands here once more.
-    assert!(rt; STORED == 268_435_456);
     Ok(())
+}
+
+// The clauses name the limit, so its number stands here once more.
+#[test]
+fn knows_the_most_bytes(rt: HostRuntime) {
+    assert!(rt; STORED == 268_435_456);
 }
 
 /// Whether a name of so many bytes is told to be a folder's.
@@ -107,25 +111,51 @@ pub(crate) fn has(
     Ok(text_of(alloc, folder)?.as_slice() == files.as_bytes())
 }
 
-/// Calls of `take`, and the answers of a folder whose call 1 fails and that answers 5 calls.
-const TAKES: [(u32, &str, Result<&[u8], FolderFault>); 6] = [
-    (0, "q", Ok(b"old")),
-    (1, "q", Err(FolderFault::Failed)),
-    (2, "libb", Err(FolderFault::NotThere)),
-    (3, NEW_FILE, Ok(b"old")),
-    (4, "q", Ok(b"old")),
-    (5, "q", Err(FolderFault::Failed)),
-];
+/// How the cases spell a fault.
+pub(crate) fn word_of(fault: FolderFault) -> &'static str {
+    match fault {
+        FolderFault::Failed => "Failed",
+        FolderFault::NotThere => "NotThere",
+        FolderFault::TooLarge => "TooLarge",
+        FolderFault::NoMemory => "NoMemory",
+    }
+}
 
-#[test]
-fn takes_files_by_its_script(rt: HostRuntime) -> Result<(), FolderFault> {
-    let alloc = rt.alloc();
-    let mut folder = folder(alloc, 1, 5)?;
-    for (call, name, answer) in &TAKES {
-        let taken = folder.take(alloc, name);
-        assert!(rt; taken.as_deref() == answer.as_deref(), "call {call}");
+/// Whether `take` gives the bytes of a text, or the fault that it spells.
+pub(crate) fn takes<D: Folder>(alloc: Global, folder: &mut D, name: &str, text: &str) -> bool {
+    if !has_name_length(name.as_bytes()) {
+        return false;
+    }
+    match folder.take(alloc, name) {
+        Ok(bytes) => bytes.as_slice() == text.as_bytes(),
+        Err(fault) => word_of(fault) == text,
+    }
+}
+
+/// Names that are taken one after the other, and the answers of a folder whose call 1 fails and that answers 5 calls.
+const TAKES: &str = "\
+q: old\n\
+q: Failed\n\
+libb: NotThere\n\
+.prelink.new.0: old\n\
+q: old\n\
+q: Failed";
+
+/// Takes the files of lines. It fails at the first line with another answer.
+fn take_each(alloc: Global, folder: &mut MemoryFolder, lines: &str) -> Result<(), Fail> {
+    for line in lines.lines() {
+        let (name, answer) = parts(line)?;
+        if !takes(alloc, folder, name, answer) {
+            return Err(line.into());
+        }
     }
     Ok(())
+}
+
+#[test]
+fn takes_files_by_its_script(rt: HostRuntime) -> Result<(), Fail> {
+    let mut folder = folder(rt.alloc(), 1, 5)?;
+    take_each(rt.alloc(), &mut folder, TAKES)
 }
 
 /// Writes a file in two pieces.
@@ -177,8 +207,8 @@ const READS: &str = "\
 5: .prelink.new.0=old q=abc\n\
 6: q=abc";
 
-/// What a read gives after all of them.
-const READ: &str = "q=abc";
+/// What it gives after all of them.
+const READ: &str = "7: q=abc";
 
 /// Moments and choices, in hexadecimal, and what a crash then leaves: bit 0 keeps the creation of `a` and the bytes of its file while it is not firm, bit 1 keeps the rename, bit 2 the removal.
 const IMAGES: &str = "\
@@ -230,20 +260,25 @@ fn leaves(
     has(alloc, &mut image, files)
 }
 
-/// Whether a crash leaves what a line says.
-fn leaves_image(alloc: Global, folder: &MemoryFolder, line: &str) -> Result<bool, Fail> {
-    let (chosen, files) = parts(line)?;
-    let chosen = numbers(alloc, chosen)?;
-    let [moment, choice] = chosen.as_slice() else {
-        return Err("two numbers".into());
-    };
-    Ok(leaves(alloc, folder, *moment, *choice, files)?)
+/// A moment and a choice. With a moment alone nothing is lost.
+fn chosen(alloc: Global, text: &str) -> Result<(u64, u64), Fail> {
+    match numbers(alloc, text)?.as_slice() {
+        [moment] => Ok((*moment, u64::MAX)),
+        [moment, choice] => Ok((*moment, *choice)),
+        _ => Err("one or two numbers".into()),
+    }
 }
 
-/// Whether a crash that loses nothing leaves what a read gives.
-fn leaves_read(alloc: Global, folder: &MemoryFolder, line: &str) -> Result<bool, Fail> {
-    let (moment, files) = parts(line)?;
-    Ok(leaves(alloc, folder, number(moment)?, u64::MAX, files)?)
+/// Fails at the first line whose crash leaves other files than it says.
+fn leaves_each(alloc: Global, folder: &MemoryFolder, lines: &str) -> Result<(), Fail> {
+    for line in lines.lines() {
+        let (text, files) = parts(line)?;
+        let (moment, choice) = chosen(alloc, text)?;
+        if !leaves(alloc, folder, moment, choice, files)? {
+            return Err(line.into());
+        }
+    }
+    Ok(())
 }
 
 /// A folder of two files after the seven calls.
@@ -255,27 +290,25 @@ fn changed(alloc: Global) -> Result<MemoryFolder, FolderFault> {
 
 #[test]
 fn leaves_what_is_chosen(rt: HostRuntime) -> Result<(), Fail> {
-    let alloc = rt.alloc();
-    let folder = changed(alloc)?;
-    for line in IMAGES.lines() {
-        if !leaves_image(alloc, &folder, line)? {
-            return Err(line.into());
-        }
-    }
-    Ok(())
+    let folder = changed(rt.alloc())?;
+    leaves_each(rt.alloc(), &folder, IMAGES)
 }
 
 #[test]
 fn leaves_what_a_read_gives(rt: HostRuntime) -> Result<(), Fail> {
-    let alloc = rt.alloc();
-    let folder = changed(alloc)?;
-    assert!(rt; folder.moments() == 7);
-    for line in READS.lines() {
-        if !leaves_read(alloc, &folder, line)? {
-            return Err(line.into());
-        }
-    }
-    assert!(rt; leaves(alloc, &folder, 7, u64::MAX, READ)?);
+    let folder = changed(rt.alloc())?;
+    leaves_each(rt.alloc(), &folder, READS)?;
+    leaves_each(rt.alloc(), &folder, READ)
+}
+
+/// How many moments the seven calls are.
+fn count_moments(alloc: Global) -> Result<u64, FolderFault> {
+    Ok(changed(alloc)?.moments())
+}
+
+#[test]
+fn counts_its_calls(rt: HostRuntime) -> Result<(), FolderFault> {
+    assert!(rt; count_moments(rt.alloc())? == 7);
     Ok(())
 }
 

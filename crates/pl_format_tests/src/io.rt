@@ -1,29 +1,45 @@
 // Tests of pl_io.
+use pl_cases::parts;
 use pl_io::{
     Failed, MemorySink, MemorySource, NoMemory, ReadFault, Sink, Source, StdSink, StdSource,
     read_all, write_all,
 };
-use std::alloc::{AllocError, Global};
+use std::alloc::Global;
 use std::test::Fail;
 
-/// Reads of a source of five bytes, whose second call fails: what each gives, and what the buffer holds then.
-const READS: [(u32, Result<usize, Failed>, &[u8]); 4] = [
-    (0, Ok(3), b"hel"),
-    (1, Err(Failed), b"hel"),
-    (2, Ok(2), b"lol"),
-    (3, Ok(0), b"lol"),
-];
+/// Reads of a source of five bytes, whose second call fails: how many bytes each gives, or that it fails, and what the buffer holds then.
+const READS: &str = "\
+3: hel\n\
+failed: hel\n\
+2: lol\n\
+0: lol";
 
-#[test]
-fn reads_to_the_end(rt: HostRuntime) -> Result<(), AllocError> {
-    let alloc = rt.alloc();
-    let mut source = MemorySource::new(b"hello".to_vec(alloc)?, vec![in alloc; 1u64]?);
+/// Whether a read gives what a line says.
+fn is_read(source: &mut MemorySource, into: &mut [u8], line: &str) -> Result<bool, Fail> {
+    let (answer, holds) = parts(line)?;
+    let answer = match answer {
+        "failed" => Err(Failed),
+        digits => Ok(digits.parse::<usize>()?),
+    };
+    Ok(source.read(into) == answer && *into == *holds.as_bytes())
+}
+
+/// Reads from a source, line by line. It fails at the first line that says something else.
+fn read_each(source: &mut MemorySource, lines: &str) -> Result<(), Fail> {
     let mut into = [0u8; 3];
-    for (call, answer, holds) in &READS {
-        assert!(rt; source.read(&mut into) == *answer, "call {call}");
-        assert!(rt; into.as_slice() == *holds, "call {call}");
+    for line in lines.lines() {
+        if !is_read(source, &mut into, line)? {
+            return Err(line.into());
+        }
     }
     Ok(())
+}
+
+#[test]
+fn reads_to_the_end(rt: HostRuntime) -> Result<(), Fail> {
+    let alloc = rt.alloc();
+    let mut source = MemorySource::new(b"hello".to_vec(alloc)?, vec![in alloc; 1u64]?);
+    read_each(&mut source, READS)
 }
 
 /// Bytes of a source, the call that fails, the most bytes that may come, and how many come.

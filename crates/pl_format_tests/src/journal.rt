@@ -10,7 +10,7 @@ use pl_journal::{
     recover_lent, write_journal,
 };
 use pl_stage::Held;
-use std::alloc::Global;
+use std::alloc::{AllocError, Global};
 use std::test::Fail;
 
 /// The files before the run, and those after it.
@@ -19,11 +19,7 @@ const BEFORE: &str = "a=old b=gone c=kept";
 const AFTER: &str = "a=new c=kept d=added";
 
 /// The changes of the run: bytes for a name, or none where it is dropped.
-const CHANGES: [(&str, Option<&[u8]>); 3] = [
-    ("a", Some(b"new")),
-    ("b", None),
-    ("d", Some(b"added")),
-];
+const CHANGES: &str = "a=new b d=added";
 
 /// What a crash leaves: each change of names or none, each file whole or none, or every second of them.
 const CHOICES: [u64; 4] = [
@@ -38,17 +34,25 @@ fn folder_before(alloc: Global, fails: Vec<u64>) -> Result<MemoryFolder, FolderF
     folder_of(alloc, BEFORE, fails, 100)
 }
 
+/// The change that bytes for a name spell, or a name alone.
+fn change_of(alloc: Global, text: &str) -> Result<Change, AllocError> {
+    match text.split_once('=') {
+        Some((name, bytes)) => {
+            let bytes = Rows::from_vec(bytes.as_bytes().to_vec(alloc)?);
+            let name = Text::copy_of(alloc, name)?;
+            Ok(Change::Put { name, bytes })
+        }
+        None => {
+            let name = Text::copy_of(alloc, text)?;
+            Ok(Change::Drop { name })
+        }
+    }
+}
+
 fn changes(alloc: Global) -> Result<Vec<Change>, JournalFault> {
     let mut changes = Vec::new(alloc);
-    for (name, bytes) in &CHANGES {
-        let name = Text::copy_of(alloc, name)?;
-        changes.push(match bytes {
-            Some(bytes) => Change::Put {
-                name,
-                bytes: Rows::from_vec(bytes.to_vec(alloc)?),
-            },
-            None => Change::Drop { name },
-        })?;
+    for text in CHANGES.split(' ') {
+        changes.push(change_of(alloc, text)?)?;
     }
     Ok(changes)
 }

@@ -1,6 +1,7 @@
 // Tests of pl_hostdir, in directories of the system. A script is followed there: lines of calls, each with its answer.
 ghost use Rattle.pl_base.specs.Names.{IsNameLength};
 
+use crate::folder::{takes, word_of};
 use pl_base::has_name_length;
 use pl_cases::parts;
 use pl_folder::{Folder, FolderFault};
@@ -91,17 +92,7 @@ fn is_done(rt: HostRuntime, directory: &str, step: Step<'_>) -> Result<bool, Fai
 /// The folder of a directory.
 type Real<'r> = HostFolder<'r, &'r HostRuntime>;
 
-/// How the scripts spell a fault.
-fn word_of(fault: FolderFault) -> &'static str {
-    match fault {
-        FolderFault::Failed => "Failed",
-        FolderFault::NotThere => "NotThere",
-        FolderFault::TooLarge => "TooLarge",
-        FolderFault::NoMemory => "NoMemory",
-    }
-}
-
-/// How they spell the answer of a call that changes files.
+/// How the scripts spell the answer of a call that changes files.
 fn word_of_change(answer: Result<(), FolderFault>) -> &'static str {
     match answer {
         Ok(()) => "done",
@@ -124,17 +115,6 @@ fn are_names(names: &[String], text: &str) -> bool {
 fn lists(alloc: Global, folder: &mut Real<'_>, text: &str) -> bool {
     match folder.names(alloc) {
         Ok(names) => are_names(&names, text),
-        Err(fault) => word_of(fault) == text,
-    }
-}
-
-/// Whether `take` gives the bytes of a text, or its fault.
-fn takes(alloc: Global, folder: &mut Real<'_>, name: &str, text: &str) -> bool {
-    if !has_name_length(name.as_bytes()) {
-        return false;
-    }
-    match folder.take(alloc, name) {
-        Ok(bytes) => bytes.as_slice() == text.as_bytes(),
         Err(fault) => word_of(fault) == text,
     }
 }

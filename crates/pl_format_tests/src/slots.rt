@@ -2,6 +2,7 @@
 ghost use Rattle.std.specs.Prelude.{◌<◌, IfOk};
 
 use pl_base::{Rows, Text};
+use pl_cases::{number, numbers, parts};
 use pl_elf::Range;
 use pl_slots::{
     PlanFault, Slot, Want, are_apart, greatest, lowest_place, plan, region_holes, without,
@@ -47,19 +48,26 @@ fn two_libraries(alloc: Global, end: u64) -> Result<Rows<Slot>, PlanFault> {
     plan(alloc, &kept, &wants, region(end))
 }
 
-const PLANNED: [(&str, u64, u64); 2] = [
-    ("liba", 0x30_0020_2000, 0x20_2000),
-    ("libb", 0x30_0010_1000, 0x10_1000),
-];
+/// Whether a slot is this one.
+fn is_slot(slot: &Slot, name: &str, start: u64, span: u64) -> bool {
+    slot.name.as_str() == name && slot.start == start && slot.span == span
+}
+
+/// Whether slots are those around the row of `libb`.
+fn are_planned(slots: &[Slot]) -> bool {
+    match slots {
+        [first, second] => {
+            is_slot(first, "liba", 0x30_0020_2000, 0x20_2000)
+                && is_slot(second, "libb", 0x30_0010_1000, 0x10_1000)
+        }
+        _ => false,
+    }
+}
 
 #[test]
 fn plans_around_a_kept_row(rt: HostRuntime) -> Result<(), PlanFault> {
-    let rows = two_libraries(rt.alloc(), 0x30_0050_5000)?;
-    assert!(rt; rows.len() == 2);
-    for (row, (name, start, span)) in rows.as_slice().iter().zip(&PLANNED) {
-        assert!(rt; row.name.as_str() == *name);
-        assert!(rt; row.start == *start && row.span == *span, "{name}");
-    }
+    let slots = two_libraries(rt.alloc(), 0x30_0050_5000)?;
+    assert!(rt; are_planned(slots.as_slice()));
     Ok(())
 }
 
@@ -115,28 +123,58 @@ fn cuts_holes(rt: HostRuntime) -> Result<(), AllocError> {
     Ok(())
 }
 
-/// Holes, a span, an alignment, and the lowest place.
-const PLACES: [(&[Range], u64, u64, Option<u64>); 7] = [
-    (&TWO_HOLES, 0x30_0000, 0x1000, Some(0x30_0000_0000)),
-    (&TWO_HOLES, 0x30_0001, 0x1000, None),
-    (&TWO_HOLES, 0x10_0000, 0x80_0000, Some(0x30_0000_0000)),
-    (&TWO_HOLES, 0x1000, 0x40_0000, Some(0x30_0000_0000)),
-    (&LESS, 0xf_f000, 0x1000, Some(0x30_0020_1000)),
-    (&LESS, 0x1000, 0x20_0000, Some(0x30_0040_0000)),
-    (&[], 0x1000, 0x1000, None),
-];
+/// Holes, and in hexadecimal a span, an alignment, and the lowest place, if there is one.
+const PLACES: &str = "\
+two 300000 1000: 3000000000\n\
+two 300001 1000:\n\
+two 100000 800000: 3000000000\n\
+two 1000 400000: 3000000000\n\
+less ff000 1000: 3000201000\n\
+less 1000 200000: 3000400000\n\
+none 1000 1000:";
+
+/// The holes of a word.
+fn holes_of(word: &str) -> &'static [Range] {
+    match word {
+        "two" => &TWO_HOLES,
+        "less" => &LESS,
+        _ => &[],
+    }
+}
+
+/// The place that a text spells, if any.
+fn place_of(text: &str) -> Result<Option<u64>, Fail> {
+    if text.is_empty() {
+        return Ok(None);
+    }
+    Ok(Some(number(text)?))
+}
+
+/// Whether the lowest place is that of a line.
+fn is_lowest(alloc: Global, line: &str) -> Result<bool, Fail> {
+    let (asked, place) = parts(line)?;
+    let (word, asked) = asked.split_once(' ').ok_or("a blank")?;
+    let place = place_of(place)?;
+    match numbers(alloc, asked)?.as_slice() {
+        [span, align] => Ok(lowest_place(holes_of(word), *span, (*align).max(1)) == place),
+        _ => Err("two numbers".into()),
+    }
+}
 
 #[test]
 fn finds_places(rt: HostRuntime) -> Result<(), Fail> {
-    for (holes, span, align, start) in &PLACES {
-        let place = lowest_place(holes, *span, (*align).max(1));
-        if place != *start {
-            return Err((*span).into());
+    for line in PLACES.lines() {
+        if !is_lowest(rt.alloc(), line)? {
+            return Err(line.into());
         }
     }
+    Ok(())
+}
+
+#[test]
+fn finds_the_greatest_hole(rt: HostRuntime) {
     assert!(rt; greatest(&TWO_HOLES) == 0x30_0000);
     assert!(rt; greatest(&[]) == 0);
-    Ok(())
 }
 
 #[test]

@@ -221,29 +221,38 @@ fn knows_definers(rt: HostRuntime) -> Result<(), Fail> {
     expect_answers(rt.alloc(), &CANONICAL, [false, false, false, true])
 }
 
-/// Sections; whether a symbol there is undefined, absolute, in a section.
-const SECTIONS: [(u16, [bool; 3]); 6] = [
-    (0, [true, false, false]),
-    (1, [false, false, true]),
-    (0xfeff, [false, false, true]),
-    (0xff00, [false, false, false]),
-    (0xfff1, [false, true, false]),
-    (0xffff, [false, false, false]),
-];
+/// Sections, in hexadecimal, and where a symbol is that has one: undefined, absolute, in a section, or none of these.
+const SECTIONS: &str = "\
+0: undefined\n\
+1: in a section\n\
+feff: in a section\n\
+ff00:\n\
+fff1: absolute\n\
+ffff:";
+
+/// Whether a local symbol for thread-local storage is where the text says, and nowhere else.
+fn is_where(symbol: &Symbol, text: &str) -> bool {
+    symbol.is_undefined() == (text == "undefined")
+        && symbol.is_absolute() == (text == "absolute")
+        && symbol.is_in_section() == (text == "in a section")
+        && symbol.is_local()
+        && symbol.is_tls()
+}
+
+/// Whether a symbol with the section of a line is where it says.
+fn is_told(alloc: Global, line: &str) -> Result<bool, Fail> {
+    let (section, text) = parts(line)?;
+    let section = u16::from_str_radix(section, 16)?;
+    let symbol = symbol(alloc, (0, STB_LOCAL, STT_TLS, STV_DEFAULT, section))?;
+    Ok(is_where(&symbol, text))
+}
 
 #[test]
 fn knows_sections(rt: HostRuntime) -> Result<(), Fail> {
-    for (section, wanted) in &SECTIONS {
-        let symbol = symbol(rt.alloc(), (0, STB_LOCAL, STT_TLS, STV_DEFAULT, *section))?;
-        let found = [
-            symbol.is_undefined(),
-            symbol.is_absolute(),
-            symbol.is_in_section(),
-        ];
-        if found != *wanted {
-            return Err((*section).into());
+    for line in SECTIONS.lines() {
+        if !is_told(rt.alloc(), line)? {
+            return Err(line.into());
         }
-        assert!(rt; symbol.is_local() && symbol.is_tls());
     }
     Ok(())
 }

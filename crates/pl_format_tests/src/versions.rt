@@ -226,34 +226,44 @@ fn edited(alloc: Global, section: &[u8], edit: &[u64]) -> Result<Vec<u8>, Fail> 
     Ok(section)
 }
 
-/// What is read of the sections with one of them edited.
-fn answer_to(alloc: Global, section: &str, edit: &[u64]) -> Result<String, Fail> {
-    let whole = if section == "linked" {
-        linked()
-    } else {
-        made()
-    };
-    if section == "versym" {
-        let versym = edited(alloc, whole.versym, edit)?;
-        let versym = versym.as_slice();
-        return Ok(answer(alloc, &Sections { versym, ..whole })?);
+/// The section of a word, as it is before an edit.
+fn section(word: &str) -> &'static [u8] {
+    match word {
+        "versym" => &VERSYM,
+        "verneed" => &VERNEED,
+        "verdef" => &VERDEF,
+        _ => &LINKED_VERDEF,
     }
-    if section == "verneed" {
-        let verneed = edited(alloc, whole.verneed, edit)?;
-        let verneed = verneed.as_slice();
-        return Ok(answer(alloc, &Sections { verneed, ..whole })?);
+}
+
+/// The sections with the bytes of one of them.
+fn with<'a>(word: &str, bytes: &'a [u8]) -> Sections<'a> {
+    match word {
+        "versym" => Sections {
+            versym: bytes,
+            ..made()
+        },
+        "verneed" => Sections {
+            verneed: bytes,
+            ..made()
+        },
+        "verdef" => Sections {
+            verdef: bytes,
+            ..made()
+        },
+        _ => Sections {
+            verdef: bytes,
+            ..linked()
+        },
     }
-    let verdef = edited(alloc, whole.verdef, edit)?;
-    let verdef = verdef.as_slice();
-    Ok(answer(alloc, &Sections { verdef, ..whole })?)
 }
 
 /// Whether the edit of a line is read as the line says.
 fn is_answered(alloc: Global, line: &str) -> Result<bool, Fail> {
     let (edit, wanted) = parts(line)?;
-    let (section, edit) = edit.split_once(' ').ok_or("a section")?;
-    let answer = answer_to(alloc, section, &numbers(alloc, edit)?)?;
-    Ok(answer.as_str() == wanted)
+    let (word, edit) = edit.split_once(' ').ok_or("a section")?;
+    let bytes = edited(alloc, section(word), &numbers(alloc, edit)?)?;
+    Ok(answer(alloc, &with(word, &bytes))?.as_str() == wanted)
 }
 
 #[test]

@@ -573,23 +573,6 @@ const ORDER: &str = "\
 --order|c|--region|0-1000\tusage\n\
 -o|c\tusage";
 
-const TABLES: [&str; 14] = [
-    NO_COMMAND,
-    LOAD,
-    BUSY,
-    POLICY,
-    LOAD_WITH_OTHERS,
-    ALL,
-    UNDO,
-    VERIFY,
-    PRINT,
-    STORE,
-    DEMO,
-    WEAVE,
-    FIX,
-    ORDER,
-];
-
 fn words_in(alloc: Global, text: &str) -> Result<Vec<String>, AllocError> {
     let mut words = Vec::new(alloc);
     if text == "<none>" {
@@ -704,9 +687,71 @@ fn check_table(alloc: Global, table: &str) -> Result<(), Fail> {
 }
 
 #[test]
-fn reads_the_tables(rt: HostRuntime) -> Result<(), Fail> {
-    for table in TABLES {
-        check_table(rt.alloc(), table)?;
-    }
-    Ok(())
+fn refuses_what_is_no_command(rt: HostRuntime) -> Result<(), Fail> {
+    check_table(rt.alloc(), NO_COMMAND)
+}
+
+#[test]
+fn reads_loads(rt: HostRuntime) -> Result<(), Fail> {
+    check_table(rt.alloc(), LOAD)
+}
+
+#[test]
+fn reads_busy_ranges(rt: HostRuntime) -> Result<(), Fail> {
+    check_table(rt.alloc(), BUSY)
+}
+
+#[test]
+fn reads_policies(rt: HostRuntime) -> Result<(), Fail> {
+    check_table(rt.alloc(), POLICY)
+}
+
+#[test]
+fn refuses_loads_with_others(rt: HostRuntime) -> Result<(), Fail> {
+    check_table(rt.alloc(), LOAD_WITH_OTHERS)
+}
+
+#[test]
+fn reads_all(rt: HostRuntime) -> Result<(), Fail> {
+    check_table(rt.alloc(), ALL)
+}
+
+#[test]
+fn reads_undo(rt: HostRuntime) -> Result<(), Fail> {
+    check_table(rt.alloc(), UNDO)
+}
+
+#[test]
+fn reads_verify(rt: HostRuntime) -> Result<(), Fail> {
+    check_table(rt.alloc(), VERIFY)
+}
+
+#[test]
+fn reads_print(rt: HostRuntime) -> Result<(), Fail> {
+    check_table(rt.alloc(), PRINT)
+}
+
+#[test]
+fn reads_install_remove_and_make(rt: HostRuntime) -> Result<(), Fail> {
+    check_table(rt.alloc(), STORE)
+}
+
+#[test]
+fn reads_demo(rt: HostRuntime) -> Result<(), Fail> {
+    check_table(rt.alloc(), DEMO)
+}
+
+#[test]
+fn reads_weave(rt: HostRuntime) -> Result<(), Fail> {
+    check_table(rt.alloc(), WEAVE)
+}
+
+#[test]
+fn reads_fix_and_unfix(rt: HostRuntime) -> Result<(), Fail> {
+    check_table(rt.alloc(), FIX)
+}
+
+#[test]
+fn reads_order(rt: HostRuntime) -> Result<(), Fail> {
+    check_table(rt.alloc(), ORDER)
 }

@@ -1,5 +1,5 @@
 -- The link tables of a file whose headers are read are ranges of 64 bits.
-use Rattle.std.proofs.Common.{◌≡◌, ◌<◌, ◌^◌, ℕ, false, List, length, Ok, refl, ap}
+use Rattle.std.proofs.Common.{◌≡◌, ◌<◌, ◌^◌, ℕ, true, false, List, length, Ok, refl, ap}
 use Rattle.std.specs.List.{All}
 use Rattle.pl_base.specs.Windows.{end_of}
 use Rattle.pl_elf.specs.Headers.{segments, sections}
@@ -8,7 +8,9 @@ use Rattle.pl_dyn.specs.declared.tags.Tag.{Tag}
 use Rattle.pl_dyn.specs.declared.dynamic.Dynamic.{Dynamic}
 use Rattle.pl_object.specs.Tables.{link_windows, static_windows}
 use Rattle.pl_object.specs.TableClauses.{check_tables}
-use Rattle.pl_object.specs.Reads.{IsRead, headers, layout, linking, checked, dynamic_object}
+use Rattle.pl_base.specs.Answers.{because}
+use Rattle.pl_object.specs.Refusals.{of_dynamic}
+use Rattle.pl_object.specs.Reads.{IsRead, headers, dynamic, layout, linking, checked, dynamic_object, static_program, parts}
 use Rattle.pl_object.specs.declared.headers.Headers.{Headers}
 use Rattle.pl_object.specs.declared.layout.Layout.{Layout}
 use Rattle.pl_object.specs.declared.linking.Linking.{Linking}
@@ -34,3 +36,12 @@ pub dynamic_object_is : (bytes : List ℕ) (f : Headers) (d : Dynamic) (u : Unit
     → dynamic_object bytes f d ≡ checked bytes f d l places
 unfolding dynamic_object
 dynamic_object_is bytes f d u l places tables names is = rw (tables, names, is) refl
+
+-- a static program goes by its size alone, every other file by its dynamic table
+pub parts_static : (bytes : List ℕ) (f : Headers) → is_static_file bytes f.header ≡ true → parts bytes f ≡ static_program bytes f
+unfolding parts
+parts_static bytes f is = rw is refl
+
+pub parts_dynamic : (bytes : List ℕ) (f : Headers) (d : Dynamic) → is_static_file bytes f.header ≡ false → because of_dynamic (dynamic bytes f.segments) ≡ Ok d → parts bytes f ≡ dynamic_object bytes f d
+unfolding parts
+parts_dynamic bytes f d not_static read = rw (not_static, read) refl

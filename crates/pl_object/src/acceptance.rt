@@ -1,16 +1,18 @@
-ghost use Rattle.std.specs.Prelude.{◌≡◌, ◌<◌, ◌≤◌, ◌^◌, ◌∷◌, length, map, false, IfOk};
+ghost use Rattle.std.specs.Prelude.{◌≡◌, ◌<◌, ◌≤◌, ◌^◌, ◌∷◌, ◌++◌, length, map, false, IfOk};
 ghost use Rattle.std.specs.List.{All};
-ghost use Rattle.pl_base.specs.Answers.{Answers, NeverMemory};
+ghost use Rattle.pl_base.specs.Answers.{Answers, AnswersAs, NeverMemory, because};
 ghost use Rattle.pl_base.specs.Windows.{end_of};
 ghost use Rattle.pl_elf.specs.Headers.{HasSections, HasSegments, loads};
 ghost use Rattle.pl_elf.specs.Clauses.{AreLoads};
 ghost use Rattle.pl_elf.specs.Clauses as elf;
-ghost use Rattle.pl_dyn.specs.Read as dyn;
 ghost use Rattle.pl_object.specs.Accepted.{Accepted};
+ghost use Rattle.pl_object.specs.FilePart as file;
+ghost use Rattle.pl_object.specs.Relocations as rows;
 ghost use Rattle.pl_object.specs.Tables as tables;
-ghost use Rattle.pl_object.specs.Refusals.{is_memory};
+ghost use Rattle.pl_object.specs.Refusals.{is_memory, of_dynamic};
 ghost use Rattle.pl_object.specs.Reads as spec;
 
+use crate::contents::Contents;
 use crate::file_part::{in_file_part, loaded};
 use crate::headers::Headers;
 use crate::layout::Layout;
@@ -27,7 +29,7 @@ use crate::tables::{link_windows, sections_window, static_windows};
 use crate::tags::{dynamic_memory, jmprel_memory, rela_memory};
 use crate::{Object, Refusal, Reloc, Window};
 use pl_base::Rows;
-use pl_dyn::{DynFault, Dynamic, Tag, read_dynamic};
+use pl_dyn::{Dynamic, Tag, read_dynamic};
 use pl_elf::constants::{ET_EXEC, RELR_SIZE};
 use pl_elf::{
     Header, Kind, Range, Segment, is_static_file, read_header, read_sections, read_segments,
@@ -38,15 +40,16 @@ use std::alloc::{AllocError, Global};
 
 /// The dynamic table: clauses 9 to 11.
 #[tactic(auto, unfolding(crate::specs::Reads::dynamic))]
-fn dynamic(alloc: Global, bytes: &[u8], segments: &[Segment]) -> Result<Dynamic, DynFault>
+fn dynamic(alloc: Global, bytes: &[u8], segments: &[Segment]) -> Result<Dynamic, Refusal>
     requires { length bytes.now < 2 ^ 32 }
-    ensures { Answers dyn.is_memory result (spec.dynamic bytes.now segments.now) }
+    ensures { Answers is_memory result (because of_dynamic (spec.dynamic bytes.now segments.now)) }
 {
     let memory = dynamic_memory(segments);
     if !in_file_part(segments, memory) {
-        return Err(DynFault::NoEnd);
+        return Err(Refusal::clause(9));
     }
-    read_dynamic(alloc, loaded(bytes, segments, memory))
+    let dynamic = read_dynamic(alloc, loaded(bytes, segments, memory))?;
+    Ok(dynamic)
 }
 
 /// The names: clauses 15 to 18.
@@ -94,6 +97,40 @@ fn packed_places(
     }
 }
 
+/// The relocations of both tables of rows.
+fn table_relocs(
+    alloc: Global,
+    bytes: &[u8],
+    segments: &[Segment],
+    tags: &[Tag],
+    symbols: &[Symbol],
+) -> Result<Vec<Reloc>, AllocError>
+    ensures { IfOk result (λ v. v.items
+        ≡ rows.relocs symbols.now (file.loaded bytes.now segments.now (tables.rela_memory tags.now))
+        ++ rows.relocs symbols.now
+        (file.loaded bytes.now segments.now (tables.jmprel_memory tags.now))) }
+{
+    let mut all = relocs(alloc, symbols, loaded(bytes, segments, rela_memory(tags)))?;
+    let slots = relocs(alloc, symbols, loaded(bytes, segments, jmprel_memory(tags)))?;
+    all.extend_from_slice(&slots)?;
+    Ok(all)
+}
+
+/// The relocations of packed places.
+fn place_relocs(
+    alloc: Global,
+    bytes: &[u8],
+    segments: &[Segment],
+    packed: &[u64],
+) -> Result<Vec<Reloc>, AllocError>
+    requires { AreLoads (loads segments.now) }
+    ensures { IfOk result (λ v. v.items
+        ≡ rows.packed_relocs bytes.now segments.now packed.now) }
+{
+    let loads = Loads::new(alloc, segments)?;
+    packed_relocs(alloc, bytes, &loads, packed)
+}
+
 /// The relocations of both tables of rows, then those of the packed places.
 #[tactic(auto, unfolding(crate::specs::Reads::relocations))]
 fn relocations(
@@ -109,11 +146,9 @@ fn relocations(
     ensures { IfOk result (λ v. v.items ≡ spec.relocations bytes.now segments.now tags.now
         symbols.now) }
 {
-    let mut all = relocs(alloc, symbols, loaded(bytes, segments, rela_memory(tags)))?;
-    let slots = relocs(alloc, symbols, loaded(bytes, segments, jmprel_memory(tags)))?;
-    all.extend_from_slice(&slots)?;
-    let loads = Loads::new(alloc, segments)?;
-    all.extend_from_slice(&packed_relocs(alloc, bytes, &loads, packed)?)?;
+    let mut all = table_relocs(alloc, bytes, segments, tags, symbols)?;
+    let packed = place_relocs(alloc, bytes, segments, packed)?;
+    all.extend_from_slice(&packed)?;
     Ok(all)
 }
 
@@ -243,19 +278,18 @@ fn object_of(
     }
 }
 
-fn object(
-    alloc: Global,
+/// An object of what was read of a file, its names and tables as one value.
+fn contents_object(
     headers: Headers,
     dynamic: &Dynamic,
-    linking: Linking,
-    layout: Layout,
-) -> Result<Object, AllocError>
+    contents: Contents,
+    ranges: Rows<Range>,
+) -> Object
     requires loads { AreLoads (loads headers.segments) }
-    requires windows { All (λ w. end_of w < 2 ^ 64) layout.windows }
-    ensures { IfOk result (λ o. o ≡ spec.object headers dynamic.now linking layout) }
+    requires ranges { ranges ≡ map tables.window_range contents.layout.windows }
+    ensures { result ≡ spec.object headers dynamic.now contents.linking contents.layout }
 {
-    let ranges = ranges_of(alloc, layout.windows.as_slice())?;
-    Ok(object_of(headers, dynamic, linking, layout, ranges))
+    object_of(headers, dynamic, contents.linking, contents.layout, ranges)
 }
 
 /// A static program by what was read of its headers, and where its link tables stand.
@@ -290,33 +324,82 @@ fn static_object_of(alloc: Global, headers: Headers, ranges: Rows<Range>) -> Obj
     }
 }
 
-fn static_object(alloc: Global, headers: Headers) -> Result<Object, AllocError>
-    requires loads { AreLoads (loads headers.segments) }
-    requires windows { All (λ w. end_of w < 2 ^ 64)
-        (tables.static_windows headers.header headers.sections) }
-    ensures { IfOk result (λ o. o ≡ spec.static_object headers) }
+/// Where the link tables of a static program stand in the file.
+fn static_ranges(alloc: Global, headers: &Headers) -> Result<Rows<Range>, AllocError>
+    requires { All (λ w. end_of w < 2 ^ 64)
+        (tables.static_windows headers.now.header headers.now.sections) }
+    ensures { IfOk result (λ ranges. ranges ≡ map tables.window_range
+        (tables.static_windows headers.now.header headers.now.sections)) }
 {
     let windows = static_windows(alloc, &headers.header, headers.sections.as_slice())?;
-    let ranges = ranges_of(alloc, &windows)?;
-    Ok(static_object_of(alloc, headers, ranges))
+    ranges_of(alloc, &windows)
 }
 
+/// The names and the tables of a file: clauses 15 to 18.
+fn contents(
+    alloc: Global,
+    bytes: &[u8],
+    headers: &Headers,
+    dynamic: &Dynamic,
+) -> Result<Contents, Refusal>
+    requires few { length bytes.now < 2 ^ 32 }
+    requires loads { AreLoads (loads headers.now.segments) }
+    ensures linking { AnswersAs (λ c. c.linking) is_memory result
+        (spec.linking bytes.now headers.now dynamic.now.tags) }
+    ensures layout { IfOk result (λ c. c.layout
+        ≡ spec.layout bytes.now headers.now dynamic.now.tags c.linking) }
+    ensures few { IfOk result (λ c. length c.linking.symbols ≤ length bytes.now) }
+{
+    let linking = linking(alloc, bytes, headers, dynamic)?;
+    let layout = layout(alloc, bytes, headers, dynamic.tags.as_slice(), &linking)?;
+    Ok(Contents { linking, layout })
+}
+
+/// Where the link tables stand in the file, where none of clauses 20 to 31 refuses it.
+fn checked_ranges(
+    alloc: Global,
+    bytes: &[u8],
+    headers: &Headers,
+    dynamic: &Dynamic,
+    contents: &Contents,
+) -> Result<Rows<Range>, Refusal>
+    requires few { length contents.now.linking.symbols < 2 ^ 32 }
+    requires loads { AreLoads (loads headers.now.segments) }
+    requires windows { All (λ w. end_of w < 2 ^ 64) contents.now.layout.windows }
+    ensures check { AnswersAs (λ _. tt) is_memory result (spec.check bytes.now headers.now
+        dynamic.now.tags contents.now.linking contents.now.layout) }
+    ensures ranges { IfOk result (λ ranges. ranges
+        ≡ map tables.window_range contents.now.layout.windows) }
+{
+    check(
+        alloc,
+        bytes,
+        headers,
+        dynamic,
+        &contents.linking,
+        &contents.layout,
+    )?;
+    let ranges = ranges_of(alloc, contents.layout.windows.as_slice())?;
+    Ok(ranges)
+}
+
+/// The object, where none of clauses 20 to 31 refuses the file.
 #[tactic(auto, unfolding(crate::specs::Reads::checked))]
 fn checked(
     alloc: Global,
     bytes: &[u8],
     headers: Headers,
     dynamic: &Dynamic,
-    linking: Linking,
-    layout: Layout,
+    contents: Contents,
 ) -> Result<Object, Refusal>
-    requires few { length linking.symbols < 2 ^ 32 }
+    requires few { length contents.linking.symbols < 2 ^ 32 }
     requires loads { AreLoads (loads headers.segments) }
-    requires windows { All (λ w. end_of w < 2 ^ 64) layout.windows }
-    ensures { Answers is_memory result (spec.checked bytes.now headers dynamic.now linking layout) }
+    requires windows { All (λ w. end_of w < 2 ^ 64) contents.layout.windows }
+    ensures { Answers is_memory result (spec.checked bytes.now headers dynamic.now contents.linking
+        contents.layout) }
 {
-    check(alloc, bytes, &headers, dynamic, &linking, &layout)?;
-    Ok(object(alloc, headers, dynamic, linking, layout)?)
+    let ranges = checked_ranges(alloc, bytes, &headers, dynamic, &contents)?;
+    Ok(contents_object(headers, dynamic, contents, ranges))
 }
 
 /// A program or library by its dynamic table: clauses 12 to 31.
@@ -340,9 +423,8 @@ fn dynamic_object(
         headers.sections.as_slice(),
         dynamic.tags.as_slice(),
     )?;
-    let linking = linking(alloc, bytes, &headers, dynamic)?;
-    let layout = layout(alloc, bytes, &headers, dynamic.tags.as_slice(), &linking)?;
-    checked(alloc, bytes, headers, dynamic, linking, layout)
+    let contents = contents(alloc, bytes, &headers, dynamic)?;
+    checked(alloc, bytes, headers, dynamic, contents)
 }
 
 /// A static program: of the clauses after 8 the 30th alone.
@@ -355,7 +437,20 @@ fn static_program(alloc: Global, bytes: &[u8], headers: Headers) -> Result<Objec
     if too_large(bytes) {
         return Err(Refusal::clause(30));
     }
-    Ok(static_object(alloc, headers)?)
+    let ranges = static_ranges(alloc, &headers)?;
+    Ok(static_object_of(alloc, headers, ranges))
+}
+
+/// Clauses 9 to 31 for a file that is no static program.
+#[tactic(auto, unfolding(crate::specs::Reads::parts))]
+fn dynamic_parts(alloc: Global, bytes: &[u8], headers: Headers) -> Result<Object, Refusal>
+    requires few { length bytes.now < 2 ^ 32 }
+    requires read { spec.IsRead bytes.now headers }
+    requires dynamic { elf.is_static_file bytes.now headers.header ≡ false }
+    ensures { Answers is_memory result (spec.parts bytes.now headers) }
+{
+    let dynamic = dynamic(alloc, bytes, headers.segments.as_slice())?;
+    dynamic_object(alloc, bytes, headers, &dynamic)
 }
 
 /// Clauses 9 to 31.
@@ -366,10 +461,10 @@ fn parts(alloc: Global, bytes: &[u8], headers: Headers) -> Result<Object, Refusa
     ensures { Answers is_memory result (spec.parts bytes.now headers) }
 {
     if is_static_file(bytes, &headers.header) {
-        return static_program(alloc, bytes, headers);
+        static_program(alloc, bytes, headers)
+    } else {
+        dynamic_parts(alloc, bytes, headers)
     }
-    let dynamic = dynamic(alloc, bytes, headers.segments.as_slice())?;
-    dynamic_object(alloc, bytes, headers, &dynamic)
 }
 
 #[tactic(auto, unfolding(crate::specs::Reads::headers))]

@@ -75,8 +75,28 @@ fn version_key(
     }
 }
 
-/// The names of the definers with those of their versions.
+/// The names of the definers with those of their versions, by the places of the versions.
 #[tactic(auto, using(crate::proofs::KeyLaws::key_next))]
+fn placed_keys(
+    alloc: Global,
+    versions: &Versions,
+    places: &[Option<usize>],
+    program: bool,
+    symbols: &[Symbol],
+) -> Result<Rows<Rows<u8>>, AllocError>
+    requires { spec.ArePlaces versions.now.names places.now }
+    ensures { IfOk result (λ keys. keys ≡ spec.keys (spec.version_key (Some versions.now) program)
+        symbols.now) }
+{
+    let mut keys = Rows::new(alloc);
+    for symbol in symbols {
+        let key = version_key(alloc, versions, places, program, symbol)?;
+        push_key(&mut keys, key)?;
+    }
+    Ok(keys)
+}
+
+/// The names of the definers with those of their versions.
 fn version_keys(
     alloc: Global,
     versions: &Versions,
@@ -87,12 +107,7 @@ fn version_keys(
         symbols.now) }
 {
     let places = first_places(alloc, versions.names.as_slice())?;
-    let mut keys = Rows::new(alloc);
-    for symbol in symbols {
-        let key = version_key(alloc, versions, &places, program, symbol)?;
-        push_key(&mut keys, key)?;
-    }
-    Ok(keys)
+    placed_keys(alloc, versions, &places, program, symbols)
 }
 
 /// The keys of all symbols, in order; none where the object has no versions.

@@ -3,6 +3,7 @@
 
 mod acceptance;
 pub mod constants;
+mod contents;
 mod crossing;
 mod file_part;
 mod headers;

@@ -35,7 +35,7 @@ fn sort_windows(windows: &mut [Window])
     ensures len { length windows.new ≡ length windows.old }
     ensures rising { IsNonDecreasingBy (λ w. w.at) windows.new }
 {
-    windows.sort_unstable_by_key(|window| window.at());
+    windows.sort_unstable_by_key(Window::at);
 }
 
 /// Whether two of the windows share a byte. They are sorted once: the time grows as `n log n`.

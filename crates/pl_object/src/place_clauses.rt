@@ -44,9 +44,7 @@ fn first_bad(count: u32, relocs: &[Reloc]) -> Option<Reloc>
 pub fn last_load(segments: &[Segment]) -> Option<Segment>
     ensures { result ≡ spec.last_load segments.now }
 {
-    segments
-        .iter()
-        .fold(None, |found, segment| later_load(found, segment))
+    segments.iter().fold(None, later_load)
 }
 
 fn later_load(found: Option<Segment>, segment: &Segment) -> Option<Segment>
@@ -93,7 +91,7 @@ fn reloc_outside(program: bool, loads: &Loads, relocs: &[Reloc]) -> bool
     let last = last_load(loads.segments());
     relocs
         .iter()
-        .map(|reloc| place(reloc))
+        .map(place)
         .any(|memory| !is_held(program, loads, last, memory))
 }
 
@@ -122,7 +120,7 @@ fn spots(alloc: Global, loads: &Loads, relocs: &[Reloc]) -> Result<Vec<Window>, 
 {
     relocs
         .iter()
-        .map(|reloc| place(reloc))
+        .map(place)
         .map(|memory| loads.file_window(memory))
         .collect(alloc)
 }
@@ -156,7 +154,7 @@ fn is_odd(reloc: &Reloc) -> bool
 fn odd_addend(relocs: &[Reloc]) -> bool
     ensures { result ≡ spec.odd_addend relocs.now }
 {
-    relocs.iter().any(|reloc| is_odd(reloc))
+    relocs.iter().any(is_odd)
 }
 
 #[tactic(auto, unfolding(crate::specs::PlaceClauses::is_misplaced_copy))]

@@ -131,5 +131,5 @@ pub fn place(reloc: &Reloc) -> Window
 pub fn places(alloc: Global, relocs: &[Reloc]) -> Result<Vec<Window>, AllocError>
     ensures { IfOk result (λ v. v.items ≡ spec.places relocs.now) }
 {
-    relocs.iter().map(|reloc| place(reloc)).collect(alloc)
+    relocs.iter().map(place).collect(alloc)
 }

@@ -173,7 +173,7 @@ fn is_incomplete(alloc: Global, symbols: &[Symbol], table: &Table) -> Result<boo
 fn any_defines(symbols: &[Symbol]) -> bool
     ensures { result ≡ list_any spec.defines symbols.now }
 {
-    symbols.iter().any(|symbol| defines(symbol))
+    symbols.iter().any(defines)
 }
 
 fn any_incomplete(alloc: Global, tables: &[Table], symbols: &[Symbol]) -> Result<bool, AllocError>
@@ -210,7 +210,7 @@ fn is_ifunc(symbol: &Symbol) -> bool
 pub fn has_ifunc(symbols: &[Symbol]) -> bool
     ensures { result ≡ spec.has_ifunc symbols.now }
 {
-    symbols.iter().any(|symbol| is_ifunc(symbol))
+    symbols.iter().any(is_ifunc)
 }
 
 /// The first of clauses 20 to 22 that refuses the file.

@@ -1,14 +1,15 @@
 //! Where the tables of an object stand in the file, as windows of it.
-ghost use Rattle.std.specs.Prelude.{◌≡◌, ◌++◌, map, IfOk};
-ghost use Rattle.pl_object.specs.FilePart as part;
+ghost use Rattle.std.specs.Prelude.{◌≡◌, ◌++◌, IfOk};
 ghost use Rattle.pl_object.specs.Tables as spec;
 
 use crate::Window;
 use crate::file_part::file_window;
 use crate::tags::{
-    dynamic_memory, jmprel_memory, rela_memory, relr_memory, symbols_memory, tables_memory,
+    dynamic_memory, jmprel_memory, rela_memory, relr_memory, section_memory, strings_memory,
+    symbols_memory,
 };
 use pl_dyn::Tag;
+use pl_dyn::constants::{DT_GNU_HASH, DT_HASH, DT_VERDEF, DT_VERNEED, DT_VERSYM};
 use pl_elf::constants::{HEADER_SIZE, SECTION_SIZE, SEGMENT_SIZE, SHT_SYMTAB};
 use pl_elf::{Header, Section, Segment};
 use std::alloc::{AllocError, Global};
@@ -54,7 +55,7 @@ pub fn symtab_windows(alloc: Global, sections: &[Section]) -> Result<Vec<Window>
     sections
         .iter()
         .filter(|section| section.kind == SHT_SYMTAB)
-        .map(|section| section_window(section))
+        .map(section_window)
         .collect(alloc)
 }
 
@@ -95,21 +96,8 @@ fn with_symtabs(
     Ok(all)
 }
 
-fn file_windows(
-    alloc: Global,
-    segments: &[Segment],
-    ranges: &[Window],
-) -> Result<Vec<Window>, AllocError>
-    ensures { IfOk result (λ v. v.items ≡ map (part.file_window segments.now) ranges.now) }
-{
-    ranges
-        .iter()
-        .map(|memory| file_window(segments, *memory))
-        .collect(alloc)
-}
-
 /// The link tables of an object with a PT_DYNAMIC in the file, in the order of `Object::tables`. It fails only for want of memory.
-#[tactic(auto, unfolding(crate::specs::Tables::link_windows))]
+#[tactic(auto, unfolding(crate::specs::Tables::link_windows, crate::specs::Tables::tables_memory))]
 pub fn link_windows(
     alloc: Global,
     header: &Header,
@@ -120,17 +108,21 @@ pub fn link_windows(
     ensures { IfOk result (λ v. v.items ≡ spec.link_windows header.now segments.now sections.now
         tags.now) }
 {
-    let named = file_windows(alloc, segments, &tables_memory(tags, sections))?;
-    let mut windows = Vec::from_array(
-        alloc,
-        [
-            header_window(),
-            segments_window(header),
-            file_window(segments, dynamic_memory(segments)),
-        ],
-    )?;
-    windows.extend_from_slice(&named)?;
-    windows.push(file_window(segments, relr_memory(tags)))?;
+    let windows = [
+        header_window(),
+        segments_window(header),
+        file_window(segments, dynamic_memory(segments)),
+        file_window(segments, symbols_memory(tags, sections)),
+        file_window(segments, strings_memory(tags)),
+        file_window(segments, rela_memory(tags)),
+        file_window(segments, jmprel_memory(tags)),
+        file_window(segments, section_memory(tags, sections, DT_HASH)),
+        file_window(segments, section_memory(tags, sections, DT_GNU_HASH)),
+        file_window(segments, section_memory(tags, sections, DT_VERSYM)),
+        file_window(segments, section_memory(tags, sections, DT_VERDEF)),
+        file_window(segments, section_memory(tags, sections, DT_VERNEED)),
+        file_window(segments, relr_memory(tags)),
+    ];
     with_symtabs(alloc, &windows, sections)
 }
 

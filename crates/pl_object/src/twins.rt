@@ -125,15 +125,12 @@ fn are_twins(
 ) -> bool
     ensures { result ≡ spec.are_twins versions.now program symbols.now entry.now other.now }
 {
-    if entry.hash != other.hash {
-        return false;
-    }
-    let Some(symbol) = symbols.get(entry.index as usize) else {
-        return false;
-    };
-    match symbols.get(other.index as usize) {
+    match symbols.get(entry.index as usize) {
         None => false,
-        Some(other) => is_twin(versions, program, symbol, other),
+        Some(symbol) => match symbols.get(other.index as usize) {
+            None => false,
+            Some(twin) => entry.hash == other.hash && is_twin(versions, program, symbol, twin),
+        },
     }
 }
 

@@ -1,3 +1,4 @@
+pub mod CopyLemmas
 pub mod LedLaws
 pub mod ManyLaws
 pub mod WovenLaws

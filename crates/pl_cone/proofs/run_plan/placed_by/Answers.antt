@@ -1,4 +1,4 @@
-use Rattle.std.proofs.Common.{◌≡◌, List, ℕ, ap, ◌∙◌, subst}
+use Rattle.std.proofs.Common.{List, ℕ, ap, ◌∙◌, subst}
 use Rattle.pl_base.specs.Answers.{Answers}
 use Rattle.pl_cone.specs.Faults.{is_memory}
 use Rattle.pl_cone.specs.RunPlan.{placed}
