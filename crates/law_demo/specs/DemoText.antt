@@ -4,7 +4,7 @@ use Rattle.std.specs.List.{flat_map}
 use Rattle.pl_cli.specs.Demo.{demo_text, lines, load_texts, text_of}
 use Rattle.pl_demo.specs.Demo.{counts, folder, programs}
 use Rattle.pl_gen.specs.Set as drawn
-use Rattle.pl_rewrite.specs.Skips.{skip_causes}
+use Rattle.pl_cone.specs.Skipped.{skip_causes}
 use Rattle.law_loads.specs.Answers.{ordinary}
 use Rattle.pl_words.specs.declared.command.Policy.TheVariants.{Lowest}
 

@@ -28,17 +28,17 @@ use Rattle.pl_form.specs.declared.constants.TheConstants.{STORED}
 use Rattle.pl_form.specs.declared.file.Marked.{Marked}
 use Rattle.pl_form.specs.declared.fault.FormFault.{FormFault}
 use Rattle.pl_form.specs.declared.fault.FormFault.TheVariants as forms
-use Rattle.pl_rewrite.specs.Faults.{fault_by, fault_in, fault_number}
-use Rattle.pl_rewrite.specs.Fits.{fit_in, links}
-use Rattle.pl_rewrite.specs.Plans.{is_candidate, is_current}
-use Rattle.pl_rewrite.specs.Skips.{fault_at, of_refusal, skip_causes, skip_of}
-use Rattle.pl_rewrite.proofs.LinkLaws.{each_read, links_is}
+use Rattle.pl_cone.specs.Faults.{fault_by, fault_in, fault_number}
+use Rattle.pl_cone.specs.Fits.{fit_in, links}
+use Rattle.pl_cone.specs.Plans.{is_candidate, is_current}
+use Rattle.pl_cone.specs.Skipped.{fault_at, of_refusal, skip_causes, skip_of}
+use Rattle.pl_cone.proofs.LinkLaws.{each_read, links_is}
 use Rattle.pl_object.specs.PlaceClauses.{last_load}
 use Rattle.pl_object.specs.Reads.{reads}
 use Rattle.pl_object.specs.declared.object.Object.{Object}
 use Rattle.pl_object.specs.declared.refusal.Refusal.{Refusal}
 use Rattle.pl_object.specs.declared.refusal.Refusal.TheVariants as refusals
-use Rattle.pl_cone.specs.declared.run_plan.RunPlan.{RunPlan}
+use Rattle.pl_cone.specs.Plans.{RunPlan}
 use Rattle.pl_rewrite.specs.Changes.{next}
 use Rattle.pl_rewrite.specs.Reports.{marked_at, report, row_of, state_after, state_by, state_of}
 use Rattle.pl_rewrite.specs.declared.report.Report.{Report}

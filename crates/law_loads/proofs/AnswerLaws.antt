@@ -32,7 +32,7 @@ use Rattle.law_sound.specs.Rule.{Mark, mark_at, matches, tells_walk, walk_in}
 use Rattle.pl_words.specs.declared.command.Policy.{Policy}
 use Rattle.pl_loader.specs.Started.{Start, load}
 use Rattle.pl_loader.specs.declared.fault.LoadFault.{LoadFault}
-use Rattle.pl_weave.specs.Given.{first_by, first_of, given_from, given_of}
+use Rattle.pl_loader.specs.Given.{first_by, first_of, given_from, given_of}
 use Rattle.pl_cli.specs.Answer.{done, refuses, load_answer}
 use Rattle.pl_cli.specs.Files.{valid_file, of_file, file_in}
 use Rattle.pl_cli.specs.Load.{choice, load_result, loading_file}

@@ -16,7 +16,7 @@ use Rattle.pl_conflict.specs.Format.{is_fast}
 use Rattle.law_folder.specs.Sound.{KeepsTheRule}
 use Rattle.law_folder.specs.Steps.{IsPastAll}
 use Rattle.pl_elf.specs.declared.range.Range.{Range}
-use Rattle.pl_rewrite.specs.Skips.{skip_causes}
+use Rattle.pl_cone.specs.Skipped.{skip_causes}
 use Rattle.pl_loader.specs.Loading.{Loading}
 use Rattle.pl_loader.specs.Started.{Start, load}
 use Rattle.pl_loader.specs.declared.fault.LoadFault.{LoadFault}
@@ -27,7 +27,7 @@ use Rattle.pl_place.specs.Policies.{lowest}
 use Rattle.pl_script.specs.declared.script.Event.{Event}
 use Rattle.pl_script.specs.declared.script.Event.TheVariants.{Open, Rename}
 use Rattle.pl_script.specs.declared.script.Script.{Script}
-use Rattle.pl_weave.specs.Given.{given_from}
+use Rattle.pl_loader.specs.Given.{given_from}
 use Rattle.pl_weave.specs.Opening.{Opened, came_to, ended, led_to, opened, seen_of, taken_as, wanted}
 use Rattle.pl_weave.specs.Runs.{begun, progress}
 use Rattle.pl_weave.specs.Taking.{held_file}

@@ -13,13 +13,13 @@ use Rattle.pl_cli.specs.declared.cause.Cause.TheVariants as causes
 use Rattle.pl_conflict.specs.Format.{is_fast}
 use Rattle.law_folder.specs.Sound.{KeepsTheRule}
 use Rattle.law_folder.specs.Steps.{IsPastAll}
-use Rattle.pl_rewrite.specs.Skips.{skip_causes}
+use Rattle.pl_cone.specs.Skipped.{skip_causes}
 use Rattle.pl_loader.specs.Started.{Start, load}
 use Rattle.pl_loader.specs.declared.fault.LoadFault.TheVariants.{NotThere}
 use Rattle.law_loads.specs.Answers.{loading_folder}
 use Rattle.law_loads.specs.Paths.{ordinary_load}
 use Rattle.pl_place.specs.Policies.{lowest}
-use Rattle.pl_weave.specs.Given.{given_from}
+use Rattle.pl_loader.specs.Given.{given_from}
 use Rattle.pl_weave.specs.Opening.{Opened, wanted}
 use Rattle.pl_weave.specs.Runs.{progress}
 use Rattle.pl_weave.specs.Weaving.{Weaving, woven}

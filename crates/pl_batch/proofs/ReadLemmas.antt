@@ -14,8 +14,8 @@ use Rattle.pl_folder.specs.Calls.{Calls}
 use Rattle.pl_folder.specs.Seen.{Seen, Done}
 use Rattle.pl_journal.specs.Parts.{Looking}
 use Rattle.pl_elf.specs.declared.range.Range.{Range}
-use Rattle.pl_rewrite.specs.Taken.{IsTaken, names_of, taken_of}
-use Rattle.pl_rewrite.specs.declared.taken.Taken.{Taken}
+use Rattle.pl_cone.specs.Taken.{IsTaken, names_of, taken_of}
+use Rattle.pl_cone.specs.declared.taken.Taken.{Taken}
 use Rattle.pl_batch.specs.Answers.{Finds}
 use Rattle.pl_batch.specs.Folder.{all_files}
 use Rattle.pl_batch.specs.Names.{file_of}

@@ -3,7 +3,7 @@ ghost use Rattle.std.specs.Prelude.{◌≡◌, All, IfOk, filter, length, map, s
 ghost use Rattle.pl_base.specs.Names.{IsNameLength, is_valid_name};
 ghost use Rattle.pl_cache.specs.Spelling.{cache_bytes};
 ghost use Rattle.pl_form.specs.Files.{original_in};
-ghost use Rattle.pl_rewrite.specs.Taken.{IsTaken, names_of};
+ghost use Rattle.pl_cone.specs.Taken.{IsTaken, names_of};
 ghost use Rattle.pl_batch.specs.Answers.{Finds, BatchMeansAlone};
 ghost use Rattle.pl_batch.specs.Folder as spec;
 ghost use Rattle.pl_batch.specs.Names.{file_of};
@@ -12,11 +12,11 @@ use crate::taking::take;
 use crate::{BatchFault, Cause};
 use pl_base::{Rows, Text, is_valid_name};
 use pl_cache::{Cache, CacheFault, read_cache, write_cache};
+use pl_cone::{Taken, take_file};
 use pl_elf::Range;
 use pl_folder::{Folder, FolderFault};
 use pl_form::{Entry, File};
 use pl_io::NoMemory;
-use pl_rewrite::{Taken, take_file};
 use std::alloc::Global;
 
 /// How many bytes the originals of a folder have together at most, for a run that prelinks everything: 1 GiB.

@@ -15,7 +15,7 @@ use Rattle.pl_cli.specs.declared.stop.Stop.{Stop}
 use Rattle.pl_cli.specs.declared.stop.Stop.TheVariants as stops
 use Rattle.pl_cli.specs.Came.{HasGiven, HasTaken}
 use Rattle.pl_cli.specs.Files.{file_in}
-use Rattle.pl_weave.specs.Given.{given_from}
+use Rattle.pl_loader.specs.Given.{given_from}
 use Rattle.pl_cli.specs.Load.{given_file, loading_file}
 use Rattle.pl_cli.specs.Stops.{MeansAlone, StopsAlone, items_of, of_load_fault}
 use Rattle.pl_cli.proofs.CallLemmas.{asked_all}

@@ -28,7 +28,7 @@ use Rattle.pl_cli.specs.declared.stop.Stop.{Stop}
 use Rattle.pl_cli.specs.declared.stop.Stop.TheVariants as stops
 use Rattle.pl_cli.specs.Came.{HasGiven, HasLoaded}
 use Rattle.pl_cli.specs.Files.{file_in}
-use Rattle.pl_weave.specs.Given.{given_from}
+use Rattle.pl_loader.specs.Given.{given_from}
 use Rattle.pl_cli.specs.Load.{choice, given_file, load_result, loaded_files, loaded_object, loading_file}
 use Rattle.pl_cli.specs.Looks.{stepped, takes}
 use Rattle.pl_cli.specs.Stops.{of_load_fault}

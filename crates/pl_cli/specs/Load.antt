@@ -15,7 +15,7 @@ use Rattle.pl_loader.specs.Loading as loading
 use Rattle.pl_loader.specs.Started.{Start, load, started}
 use Rattle.pl_loader.specs.Walk as walk
 use Rattle.pl_loader.specs.declared.object_file.ObjectFile.{ObjectFile}
-use Rattle.pl_weave.specs.Given.{given_from, given_of}
+use Rattle.pl_loader.specs.Given.{given_from, given_of}
 use Rattle.pl_cli.specs.Files.{file_in}
 use Rattle.pl_cli.specs.Looks.{ObjectOf}
 use Rattle.pl_cli.specs.declared.cause.Cause.{Cause}

@@ -8,8 +8,8 @@ use crate::chosen::chosen;
 use crate::stop::Stop;
 use crate::take::take;
 use pl_folder::Folder;
+use pl_loader::given_file;
 use pl_place::{Holes, Placer};
-use pl_weave::given_file;
 use pl_words::Policy;
 use std::alloc::Global;
 

@@ -33,7 +33,7 @@ row_told f member (r ∷ rs) i whole lt told so_far =
     row_past f member (r ∷ rs) i r v.0 whole lt v.1 so_far
 
 -- one that was looked up
-link_ok : (r : Result Meaning LinkFault) → done r ≡ Ok tt → (g : Meaning) × (r ≡ Ok g)
+pub link_ok : (r : Result Meaning LinkFault) → done r ≡ Ok tt → (g : Meaning) × (r ≡ Ok g)
 link_ok (Ok g) e = (g, refl)
 link_ok (Err fault) e = absurd cc
 
@@ -78,14 +78,14 @@ front_same : (front : List Meaning) (r : Result (List Meaning) LinkFault) → do
 front_same front (Ok gs) = refl
 front_same front (Err fault) = refl
 
-have_more : (f : Row → Result Meaning LinkFault) (xs ys : List Row) → each_has f xs ≡ Ok tt → each_has f (xs ++ ys) ≡ each_has f ys
+pub have_more : (f : Row → Result Meaning LinkFault) (xs ys : List Row) → each_has f xs ≡ Ok tt → each_has f (xs ++ ys) ≡ each_has f ys
 have_more f xs ys h =
     let p = each_ok (each f xs) h in
     let whole : each f (xs ++ ys) ≡ with_front p.0 (each f ys) =
     sym (front_nothing (each f (xs ++ ys))) ∙ front_more f xs ys [] p.0 (front_nothing (each f xs) ∙ p.1) in
     ap (λ (r : Result (List Meaning) LinkFault). done r) whole ∙ front_same p.0 (each f ys)
 
-have_stops : (f : Row → Result Meaning LinkFault) (xs ys : List Row) (fault : LinkFault) → ◌≡◌ {A = Result (Unit {0}) LinkFault} (each_has f xs) (Err fault) → each_has f (xs ++ ys) ≡ Err fault
+pub have_stops : (f : Row → Result Meaning LinkFault) (xs ys : List Row) (fault : LinkFault) → ◌≡◌ {A = Result (Unit {0}) LinkFault} (each_has f xs) (Err fault) → each_has f (xs ++ ys) ≡ Err fault
 have_stops f xs ys fault h =
     let stop : each f (xs ++ ys) ≡ Err fault = sym (front_nothing (each f (xs ++ ys))) ∙ front_stops f xs ys [] fault (front_nothing (each f xs) ∙ each_err (each f xs) fault h) in
     ap (λ (r : Result (List Meaning) LinkFault). done r) stop

@@ -1,7 +1,6 @@
 -- The names that a run prelinks: programs and libraries whose walk has no refusal, no member of which has a form fault, and, for a program, which link.
-use Rattle.std.specs.Prelude.{ℕ, Bool, ◌==◌, List, [], ◌∷◌, map, length, replicate, slice_get, Option, Some, None, Result, Ok, if◌then◌else◌}
-use Rattle.std.specs.Result.{is_ok}
-use Rattle.pl_base.specs.Answers.{◌>>=◌, Answers, because, unless, unless_found}
+use Rattle.std.specs.Prelude.{ℕ, ◌==◌, List, [], ◌∷◌, map, length, replicate, slice_get, Option, Some, None, Result, Ok, if◌then◌else◌}
+use Rattle.pl_base.specs.Answers.{◌>>=◌, because, unless, unless_found}
 use Rattle.pl_base.specs.Each.{run}
 use Rattle.pl_elf.specs.Kinds.{is_program, is_static}
 use Rattle.pl_elf.specs.declared.kind.Kind.{Kind}
@@ -17,17 +16,11 @@ use Rattle.pl_tls.specs.declared.module.Module.{Module}
 use Rattle.pl_value.specs.Meanings.{meanings}
 use Rattle.pl_value.specs.declared.fault.LinkFault.{LinkFault}
 use Rattle.pl_value.specs.declared.fault.LinkFault.TheVariants as link
-use Rattle.pl_cone.specs.Known.{object_of, fault_of}
-use Rattle.pl_cone.specs.Skips.{is_memory, of_walk, of_tls}
-use Rattle.pl_cone.specs.declared.known.Known.{Known}
+use Rattle.pl_cone.specs.Skips.{of_walk, of_tls}
 use Rattle.pl_cone.specs.declared.skip.Skip.{Skip}
 use Rattle.pl_cone.specs.declared.skip.Skip.TheVariants as skips
 
--- ---- the walk
-
--- the walk of a name over the originals, or the first refusal
-unfoldable pub walk_in : List Known → List ℕ → Result Walked Skip
-walk_in files n = walk of_walk (object_of files) n
+-- ---- kinds
 
 -- what the first object of a walk is
 abbrev pub kind_of : Walked → Kind
@@ -83,10 +76,6 @@ zeros walked = replicate (length walked) 0
 unfoldable pub resolved : Walked → List Module → Result (Unit {0}) Skip
 resolved walked modules = because (of_link walked) (meanings (objects walked) (zeros walked) modules) >>= λ gs. Ok tt
 
--- the answer says that, or memory lacked
-abbrev pub AnswersResolved : Walked → List Module → Result (Unit {0}) Skip → Type 0
-AnswersResolved walked modules answer = Answers is_memory answer (resolved walked modules)
-
 -- the members link
 unfoldable pub check_links : Walked → Result (Unit {0}) Skip
 check_links walked = because of_tls (offsets (blocks walked)) >>= λ modules. resolved walked modules
@@ -102,10 +91,3 @@ fit faults n walked =
 -- that a name may be prelinked, or the first cause why it may not, by the objects and the form faults of names
 abbrev pub prelinkable_by : (List ℕ → Result Object Skip) → (List ℕ → Option ℕ) → List ℕ → Result (Unit {0}) Skip
 prelinkable_by objects faults n = walk of_walk objects n >>= fit faults n
-
--- the same by what is known of them
-unfoldable pub prelinkable : List Known → List ℕ → Result (Unit {0}) Skip
-prelinkable files n = walk_in files n >>= fit (fault_of files) n
-
-abbrev pub is_candidate : List Known → List ℕ → Bool
-is_candidate files n = is_ok (prelinkable files n)

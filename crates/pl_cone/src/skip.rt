@@ -199,3 +199,11 @@ impl From<NoMemory> for ConeFault {
         ConeFault::NoMemory
     }
 }
+
+impl From<AllocError> for ConeFault {
+    ghost from_gives = { λ _ fault. fault ≡ stops.NoMemory };
+
+    fn from(_: AllocError) -> ConeFault {
+        ConeFault::NoMemory
+    }
+}

@@ -16,3 +16,5 @@ pub mod FormatLaws
 pub mod StandLaws
 pub mod SetLaws
 pub mod FolderLaws
+pub mod FormWordLaws
+pub mod BetweenLaws

@@ -1,4 +1,6 @@
 pub mod Own
+pub mod Between
+pub mod Held
 pub mod Conflicts
 pub mod Among
 pub mod Compared

@@ -144,8 +144,8 @@ fn word_in(bytes: &[u8]) -> u64
     word64(bytes, 0)
 }
 
-/// The word that the first object of files holds at the place of a relocation of it.
-fn word_held(
+/// The word that the first object of files holds at the place of a relocation of it, where it is loaded at a place. It fails only for want of memory.
+pub fn word_held(
     alloc: Global,
     file: &[LoadedObject<'_>],
     place: u64,

@@ -9,11 +9,11 @@ mod remaining;
 mod rows;
 
 pub use among::{ConflictFree, meaning_of, meanings_among};
-pub use conflict_free::{conflict_free_of, words_held};
+pub use conflict_free::{conflict_free_of, word_held, words_held};
 pub use law::{
     conflicts_are_complete, fast_images_are_ordinary, fast_is_ordinary, format_is_kept,
-    prelinked_are_forms,
+    forms_hold_words, prelinked_are_forms,
 };
-pub use own::own_words;
+pub use own::{own_words, own_words_by};
 pub use remaining::conflicts_among;
 pub use rows::{conflicts, conflicts_by};

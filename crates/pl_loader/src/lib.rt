@@ -5,6 +5,7 @@ mod bounds;
 pub mod constants;
 mod fast;
 mod fault;
+mod given;
 mod linking;
 mod loader;
 mod modules;
@@ -20,6 +21,7 @@ mod walk_files;
 
 pub use constants::{REGION_END, REGION_START};
 pub use fault::LoadFault;
+pub use given::{given_file, given_if_there};
 pub use loader::Loader;
 pub use object_file::{Mark, ObjectFile};
 pub use placed::Placed;

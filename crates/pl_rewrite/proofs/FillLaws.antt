@@ -73,7 +73,7 @@ read_none m start size e = empty (read m start size) (read_length m start size �
 own_hit : (n size : ℕ) → 0 < size → is_within n size n ≡ true
 own_hit n size some = within_is n size n (omega arith) (omega (arith, some))
 
-place_read : (m : Memory) (pieces : List Piece) (r : Reloc) → IsHeld 0 pieces r → read m (plus 0 r.address) r.width ≡ read m r.address r.width
+pub place_read : (m : Memory) (pieces : List Piece) (r : Reloc) → IsHeld 0 pieces r → read m (plus 0 r.address) r.width ≡ read m r.address r.width
 place_read m pieces r held = elim (cases_lt 0 r.width) [
   | inl some ↦
       let straight : plus 0 r.address ≡ r.address = held.start (plus 0 r.address) (own_hit (plus 0 r.address) r.width some) ∙ zero-add r.address in

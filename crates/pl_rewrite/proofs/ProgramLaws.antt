@@ -44,7 +44,7 @@ use Rattle.pl_value.specs.Ordinary.{ArePlaced, loaded_objects}
 use Rattle.pl_value.specs.declared.meaning.Meaning.{Meaning}
 use Rattle.pl_value.proofs.PlaceLaws.{relocs_held}
 use Rattle.pl_rewrite.specs.Fills.{fills, fills_of, memory_of}
-use Rattle.pl_rewrite.specs.Programs.{AreFirstFills, IsProgramSet, conflicts_with, form_of, result_ok}
+use Rattle.pl_rewrite.specs.Fills.{AreFirstFills, IsProgramSet, conflicts_with, form_of, result_ok}
 use Rattle.pl_rewrite.specs.Sources.{AreSources, firm}
 use Rattle.pl_rewrite.proofs.FillLaws.{are_fills, flat_same}
 use Rattle.pl_rewrite.proofs.FirmLaws.{accepted_all, own_all, version_back}

@@ -8,8 +8,8 @@ use Rattle.pl_conflict.specs.Prelinked.{Firm, are_set, file_of, has_numbers, lib
 use Rattle.pl_conflict.proofs.MemberLaws.{IsSet, set_is}
 use Rattle.pl_elf.specs.Kinds.{is_library}
 use Rattle.pl_form.specs.Back.{when}
-use Rattle.pl_rewrite.specs.Libraries.{HasFormWith, HasNumbers, IsLibraryWalk, file_with}
-use Rattle.pl_rewrite.specs.Programs.{IsProgramSet}
+use Rattle.pl_rewrite.specs.Forms.{HasFormWith, HasNumbers, IsLibraryWalk, file_with}
+use Rattle.pl_rewrite.specs.Fills.{IsProgramSet}
 use Rattle.pl_rewrite.specs.Sources.{AreSources, members}
 use Rattle.pl_rewrite.proofs.FirmLaws.{firm_all, true_all}
 use Rattle.pl_rewrite.proofs.LibraryLaws.{file_is, form_with}

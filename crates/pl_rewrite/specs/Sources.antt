@@ -1,5 +1,5 @@
 -- The members of a walk as they are handed in.
-use Rattle.std.specs.Prelude.{◌≡◌, ◌≤◌, ℕ, List, Some, map, length}
+use Rattle.std.specs.Prelude.{◌≡◌, ◌≤◌, ℕ, List, [], ◌∷◌, Some, map, length}
 use Rattle.std.specs.List.{All, IsDistinct}
 use Rattle.std.specs.Str.{bytes_eq}
 use Rattle.pl_conflict.specs.Format.{number_of}
@@ -26,3 +26,11 @@ pub record AreSources (rs : List Firm) : Type 0 where
   pub few : length rs ≤ MAX_MEMBERS
   pub firm : All (λ r. firm_of r.member ≡ Some r) rs
   pub distinct : IsDistinct bytes_eq (member_names rs)
+
+-- the first in another version
+abbrev pub versioned : Version → Firm → Firm
+versioned v r = firm r.member.name r.member.original r.object v r.member.slot r.member.stamp
+
+abbrev pub in_version : Version → List Firm → List Firm
+in_version v [] = []
+in_version v (r ∷ rs) = versioned v r ∷ rs

@@ -1,117 +1,207 @@
 // Whether a file is the prelinked file of the originals that are there.
-ghost use Rattle.std.specs.Prelude.{◌≡◌, Ok, IfOk, Some};
+ghost use Rattle.std.specs.Prelude.{◌≡◌, ◌<◌, true, IfOk, Some, length, map};
 ghost use Rattle.std.specs.Option.{option_map};
-ghost use Rattle.pl_cone.specs.Candidates as cone;
-ghost use Rattle.pl_cone.specs.Known.{AreAccepted};
-ghost use Rattle.pl_rewrite.specs.Taken.{files_in};
-ghost use Rattle.law_sound.specs.Rule as rule;
-ghost use Rattle.pl_rewrite.specs.Members as members;
+ghost use Rattle.pl_cone.specs.Table.{AreBelow};
+ghost use Rattle.pl_cone.specs.Taken.{WereTaken, files_in};
+ghost use Rattle.pl_rewrite.specs.Contents as contents;
+ghost use Rattle.pl_rewrite.specs.Digests.{AreDigests};
+ghost use Rattle.pl_rewrite.specs.Rows as rows;
+ghost use Rattle.pl_rewrite.specs.RowWords as by_rows;
 ghost use Rattle.pl_rewrite.specs.Verify as spec;
 
-use crate::candidates::walk_of;
-use crate::running::find;
-use crate::sources::{marked_in, original_of};
-use crate::{Source, Taken, known_files, prelink};
-use pl_cone::Known;
-use pl_form::Marked;
+use crate::library::{new_library, storable_library};
+use crate::lists::digests_of;
+use crate::numbers::Numbered;
+use crate::outcome::NewProgram;
+use crate::program::{Work, program_file};
+use crate::row_words::{Needed, RowWords, words_of_rows};
+use pl_base::Rows;
+use pl_cone::{Link, RunTable, Taken};
+use pl_form::{Marked, Version};
 use pl_io::NoMemory;
-use pl_object::Object;
-use pl_scope::{Member, Scope};
 use std::alloc::{AllocError, Global};
 
-/// The files of a folder, and what is known of them.
-#[derive(Drop)]
-struct View<'a> {
-    files: &'a [Taken],
-    known: &'a [Known<'a>],
-}
-
-/// A member of a walk, as its prelinked file bears it.
-fn source_by<'a>(taken: &'a Taken, object: &'a Object, marked: &'a Marked) -> Source<'a>
-    ensures { result ≡ spec.source_by taken.now object.now marked.now }
+/// The slot that a file bears; 0 where it is not prelinked.
+fn slot_borne(taken: &Taken) -> u64
+    ensures { result ≡ spec.slot_borne taken.now }
 {
-    Source {
-        name: taken.name.as_str(),
-        original: marked.original.as_slice(),
-        object,
-        version: marked.version,
-        slot: marked.slot,
-        stamp: marked.stamp,
+    match taken.marked() {
+        None => 0,
+        Some(marked) => marked.slot,
     }
 }
 
-/// A member of a walk, as its prelinked file bears it, by its file, if that is prelinked.
-fn source_in<'a>(taken: &'a Taken, object: &'a Object) -> Option<Source<'a>>
-    ensures { result ≡ spec.source_of object.now (Some taken.now) }
+/// The stamp that it bears.
+fn stamp_borne(taken: &Taken) -> u32
+    ensures { result ≡ spec.stamp_borne taken.now }
 {
-    match marked_in(&taken.entry) {
-        None => None,
-        Some(marked) => Some(source_by(taken, object, marked)),
+    match taken.marked() {
+        None => 0,
+        Some(marked) => marked.stamp,
     }
 }
 
-/// A member of a walk, as its prelinked file bears it, by its name, if its file is prelinked.
-fn source_of<'a>(files: &'a [Taken], member: &Member<'a>) -> Option<Source<'a>>
-    ensures { result ≡ spec.source files.now member.now }
+/// The slots that files bear, in their order.
+fn slots_borne(alloc: Global, files: &[Taken]) -> Result<Rows<u64>, AllocError>
+    ensures { IfOk result (λ v. v ≡ map spec.slot_borne files.now) }
 {
-    match find(files, member.name.as_str()) {
-        None => None,
-        Some(taken) => source_in(taken, member.object),
+    let mut slots = Rows::new(alloc);
+    for taken in files {
+        slots.push(slot_borne(taken))?;
     }
+    Ok(slots)
 }
 
-/// All members, where each file is prelinked.
-fn sources_of<'a>(
+/// The stamps that they bear.
+fn stamps_borne(alloc: Global, files: &[Taken]) -> Result<Rows<u32>, AllocError>
+    ensures { IfOk result (λ v. v ≡ map spec.stamp_borne files.now) }
+{
+    let mut stamps = Rows::new(alloc);
+    for taken in files {
+        stamps.push(stamp_borne(taken))?;
+    }
+    Ok(stamps)
+}
+
+/// Whether the files of rows are prelinked.
+fn are_marked(files: &[Taken], walk: &[u32]) -> bool
+    requires { rows.AreRowsOf files.now walk.now }
+    ensures { result ≡ spec.are_marked files.now walk.now }
+{
+    walk.iter()
+        .all(|row| files[*row as usize].marked().is_some())
+}
+
+/// A flag for each of so many rows, set for these.
+fn flags_of(alloc: Global, count: usize, walk: &[u32]) -> Result<Vec<bool>, AllocError>
+    requires { AreBelow count walk.now }
+    ensures { IfOk result (λ v. v.items ≡ spec.flags_of count walk.now) }
+{
+    let mut flags = Vec::from_elem(alloc, false, count)?;
+    for row in walk {
+        flags[*row as usize] = true;
+    }
+    Ok(flags)
+}
+
+/// The prelinked file of the library of a row, in a version.
+fn library_meant(
     alloc: Global,
-    files: &'a [Taken],
-    members: &[Member<'a>],
-) -> Result<Option<Vec<Source<'a>>>, AllocError>
-    ensures { IfOk result (λ all. option_map (λ v. v.items) all
-        ≡ spec.sources files.now members.now) }
-{
-    let mut sources = Vec::new(alloc);
-    for member in members {
-        let Some(source) = source_of(files, member) else {
-            return Ok(None);
-        };
-        sources.push(source)?;
-    }
-    Ok(Some(sources))
-}
-
-/// The file that is meant of a name with this walk.
-fn meant_by<'a>(
-    alloc: Global,
-    view: &View<'a>,
-    name: &str,
-    scope: &Scope<'a>,
+    numbered: &Numbered<'_>,
+    digests: &[Option<[u8; 32]>],
+    row_words: Vec<RowWords>,
+    row: usize,
+    version: Version,
 ) -> Result<Option<Vec<u8>>, NoMemory>
-    requires view { spec.IsView view.now }
-    requires walk { cone.walk_in view.now.known.now name.now ≡ Ok scope.now }
-    ensures { IfOk result (λ file. option_map (λ v. v.items) file
-        ≡ spec.prelinked_in (spec.viewed_files view.now) name.now) }
+    requires numbered { rows.IsNumbered numbered.now }
+    requires row { row < length numbered.now.files.now }
+    requires walk { rows.IsWalkRow numbered.now row }
+    requires library { rows.is_library_row numbered.now row ≡ true }
+    requires digests { AreDigests numbered.now.files.now digests.now }
+    requires row_words { spec.HasWords numbered.now row row_words.items }
+    ensures { IfOk result (spec.IsMeantAt numbered.now row version) }
 {
-    match sources_of(alloc, view.files, scope.members())? {
+    let mut row_words = row_words;
+    let RowWords { words, .. } = row_words.remove(row);
+    match new_library(alloc, numbered, digests, row, words)? {
         None => Ok(None),
-        Some(sources) => prelink(alloc, &sources),
+        Some(parts) => storable_library(alloc, &numbered.files[row], &parts, version),
     }
 }
 
-/// The file that is meant of a name: that of its walk's originals, at the versions, slots and stamps that their files bear. None where there is none.
-fn meant(alloc: Global, view: &View<'_>, name: &str) -> Result<Option<Vec<u8>>, NoMemory>
-    requires { spec.IsView view.now }
-    ensures { IfOk result (λ file. option_map (λ v. v.items) file
-        ≡ spec.prelinked_in (spec.viewed_files view.now) name.now) }
+/// The prelinked file of the program of a row, in a version.
+fn program_meant(
+    alloc: Global,
+    work: &Work<'_>,
+    row: usize,
+    version: Version,
+) -> Result<Option<Vec<u8>>, NoMemory>
+    requires work { contents.IsWork work.now }
+    requires row { row < length work.now.numbered.now.files.now }
+    requires program { contents.IsProgramRow work.now row }
+    ensures { IfOk result (spec.IsMeantAt work.now.numbered.now row version) }
 {
-    match walk_of(alloc, view.known, name)? {
+    match program_file(alloc, work, row, version)? {
         None => Ok(None),
-        Some(scope) => meant_by(alloc, view, name, &scope),
+        Some(NewProgram { file, .. }) => Ok(Some(file)),
     }
+}
+
+/// The file that is meant of a row whose name may be prelinked, at the slots and stamps that the files bear.
+fn meant_with(
+    alloc: Global,
+    numbered: &Numbered<'_>,
+    links: Rows<Link>,
+    row: usize,
+    version: Version,
+) -> Result<Option<Vec<u8>>, NoMemory>
+    requires numbered { rows.IsNumbered numbered.now }
+    requires row { row < length numbered.now.files.now }
+    requires walk { rows.IsWalkRow numbered.now row }
+    requires links { by_rows.AreLinks numbered.now (spec.is_used numbered.now row) links }
+    ensures { IfOk result (spec.IsMeantAt numbered.now row version) }
+{
+    let count = numbered.files.len();
+    let none = flags_of(alloc, count, &[])?;
+    let digests = digests_of(alloc, numbered.files, &none)?;
+    let made = flags_of(alloc, count, &[row as u32])?;
+    if numbered.files[row].is_library() {
+        let needed = Needed {
+            made: &made,
+            held: &none,
+        };
+        let row_words = words_of_rows(alloc, numbered, links, &needed)?;
+        return library_meant(alloc, numbered, &digests, row_words, row, version);
+    }
+    let held = flags_of(alloc, count, numbered.walk(row))?;
+    let needed = Needed {
+        made: &made,
+        held: &held,
+    };
+    let row_words = words_of_rows(alloc, numbered, links, &needed)?;
+    let work = Work {
+        numbered,
+        row_words: &row_words,
+        digests: &digests,
+    };
+    program_meant(alloc, &work, row, version)
+}
+
+/// The file that is meant of a row: that of its walk's originals, in a version, at the slots and stamps that their files bear. None where there is none.
+fn meant(
+    alloc: Global,
+    files: &[Taken],
+    row: usize,
+    version: Version,
+) -> Result<Option<Vec<u8>>, NoMemory>
+    requires { WereTaken files.now }
+    ensures { IfOk result (spec.IsMeantIn files.now row version) }
+{
+    let table = RunTable::of(alloc, files)?;
+    if !table.is_candidate(row) || !are_marked(files, table.walk(row)) {
+        return Ok(None);
+    }
+    let places = slots_borne(alloc, files)?;
+    let stamps = stamps_borne(alloc, files)?;
+    let RunTable {
+        walks,
+        index,
+        links,
+        ..
+    } = table;
+    let numbered = Numbered {
+        files,
+        walks: walks.as_slice(),
+        index: &index,
+        places: places.as_slice(),
+        stamps: stamps.as_slice(),
+    };
+    meant_with(alloc, &numbered, links, row, version)
 }
 
 /// Whether a file that may be there is this one.
 fn is_same(file: Option<Vec<u8>>, bytes: &[u8]) -> bool
-    ensures { result ≡ rule.is_same (option_map (λ v. v.items) file) (Some bytes.now) }
+    ensures { result ≡ spec.is_same (option_map (λ v. v.items) file) bytes.now }
 {
     match file {
         None => false,
@@ -119,79 +209,56 @@ fn is_same(file: Option<Vec<u8>>, bytes: &[u8]) -> bool
     }
 }
 
-/// Whether a file is the one that is meant of its name.
-fn is_meant(alloc: Global, files: &[Taken], taken: &Taken) -> Result<bool, NoMemory>
-    requires { spec.WereTaken files.now }
-    ensures { IfOk result (λ same. same ≡ rule.is_same
-        (spec.prelinked_in (files_in files.now) taken.now.name) (Some taken.now.bytes)) }
+/// The original of a prelinked file of a row, if the file is the one that is meant of it.
+fn original_if_meant<'f>(
+    alloc: Global,
+    files: &'f [Taken],
+    row: usize,
+    marked: &'f Marked,
+) -> Result<Option<&'f [u8]>, NoMemory>
+    requires { WereTaken files.now }
+    ensures { IfOk result (spec.IsOriginalIfMeant files.now row) }
 {
-    let known = known_files(alloc, files)?;
-    let view = View {
-        files,
-        known: known.as_slice(),
-    };
-    let file = meant(alloc, &view, taken.name.as_str())?;
-    Ok(is_same(file, taken.bytes.as_slice()))
+    let file = meant(alloc, files, row, marked.version)?;
+    if is_same(file, files[row].bytes.as_slice()) {
+        return Ok(Some(marked.original.as_slice()));
+    }
+    Ok(None)
 }
 
-/// Whether a file is prelinked, and is the one that is meant of its name.
-fn is_verified_file(alloc: Global, files: &[Taken], taken: &Taken) -> Result<bool, NoMemory>
-    requires taken { spec.WereTaken files.now }
-    requires found { members.found files.now taken.now.name ≡ Some taken.now }
-    ensures { IfOk result (λ verified. verified
-        ≡ spec.is_verified (files_in files.now) taken.now.name) }
+fn is_named(taken: &Taken, name: &str) -> bool
+    ensures { result ≡ spec.is_named name.now taken.now }
 {
-    if marked_in(&taken.entry).is_none() {
-        return Ok(false);
+    taken.name.as_str() == name
+}
+
+/// The original of the file of a name, where that is prelinked, and is byte for byte the file that the originals of its walk give, with the versions, slots and stamps that their files bear; None where it is not. It fails only for want of memory.
+///
+/// `take_file` of pl_cone gave the files, and no name stands twice.
+pub fn verified_original<'f>(
+    alloc: Global,
+    files: &'f [Taken],
+    name: &str,
+) -> Result<Option<&'f [u8]>, NoMemory>
+    requires { WereTaken files.now }
+    ensures { IfOk result (λ original. option_map (λ bytes. bytes.now) original
+        ≡ spec.verified_original (files_in files.now) name.now) }
+{
+    let Some(row) = files.iter().position(|taken| is_named(taken, name)) else {
+        return Ok(None);
+    };
+    match files[row].marked() {
+        None => Ok(None),
+        Some(marked) => original_if_meant(alloc, files, row, marked),
     }
-    is_meant(alloc, files, taken)
 }
 
 /// Whether the file of a name is prelinked, and is byte for byte the file that the originals of its walk give, with the versions, slots and stamps that their files bear. It fails only for want of memory.
 ///
-/// `take_file` gave the files, and no name stands twice.
+/// `take_file` of pl_cone gave the files, and no name stands twice.
 pub fn is_verified(alloc: Global, files: &[Taken], name: &str) -> Result<bool, NoMemory>
-    requires { spec.WereTaken files.now }
-    ensures { IfOk result (λ verified. verified
-        ≡ spec.is_verified (files_in files.now) name.now) }
+    requires { WereTaken files.now }
+    ensures { IfOk result (λ verified. verified ≡ spec.is_verified (files_in files.now) name.now) }
 {
-    match find(files, name) {
-        None => Ok(false),
-        Some(taken) => is_verified_file(alloc, files, taken),
-    }
-}
-
-/// The original of a file that is verified.
-fn original_if_verified<'a>(
-    alloc: Global,
-    files: &[Taken],
-    taken: &'a Taken,
-) -> Result<Option<&'a [u8]>, NoMemory>
-    requires taken { spec.WereTaken files.now }
-    requires found { members.found files.now taken.now.name ≡ Some taken.now }
-    ensures { IfOk result (λ original. option_map (λ bytes. bytes.now) original
-        ≡ spec.verified_original (files_in files.now) taken.now.name) }
-{
-    if !is_verified_file(alloc, files, taken)? {
-        return Ok(None);
-    }
-    Ok(Some(original_of(taken)))
-}
-
-/// The original of the file of a name, where `is_verified` holds of the name; None where it does not.
-///
-/// `take_file` gave the files, and no name stands twice.
-pub fn verified_original<'a>(
-    alloc: Global,
-    files: &'a [Taken],
-    name: &str,
-) -> Result<Option<&'a [u8]>, NoMemory>
-    requires { spec.WereTaken files.now }
-    ensures { IfOk result (λ original. option_map (λ bytes. bytes.now) original
-        ≡ spec.verified_original (files_in files.now) name.now) }
-{
-    match find(files, name) {
-        None => Ok(None),
-        Some(taken) => original_if_verified(alloc, files, taken),
-    }
+    Ok(verified_original(alloc, files, name)?.is_some())
 }

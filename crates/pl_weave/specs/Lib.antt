@@ -1,5 +1,4 @@
 pub mod Taking
-pub mod Given
 pub mod Opening
 pub mod Runs
 pub mod Running

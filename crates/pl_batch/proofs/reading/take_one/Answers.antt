@@ -1,5 +1,5 @@
 use Rattle.std.proofs.Common.{ℕ, List, ◌∙◌, ap}
-use Rattle.pl_rewrite.specs.Taken.{taken_of}
+use Rattle.pl_cone.specs.Taken.{taken_of}
 use Rattle.pl_batch.specs.Answers.{Finds}
 use Rattle.pl_batch.specs.Names.{file_of}
 use Rattle.pl_batch.specs.declared.fault.BatchFault.TheVariants.{NoMemory}

@@ -7,8 +7,8 @@ use Rattle.std.specs.declared.alloc.Global.{Global}
 use Rattle.pl_base.specs.Names.{is_valid_name}
 use Rattle.pl_journal.specs.Lists.{texts}
 use Rattle.pl_journal.proofs.RecoverLemmas.{names_from}
-use Rattle.pl_rewrite.specs.Taken.{IsTaken}
-use Rattle.pl_rewrite.specs.declared.taken.Taken.{Taken}
+use Rattle.pl_cone.specs.Taken.{IsTaken}
+use Rattle.pl_cone.specs.declared.taken.Taken.{Taken}
 use Rattle.pl_batch.specs.Answers.{Finds}
 use Rattle.pl_batch.specs.Folder.{all_files}
 use Rattle.pl_batch.specs.Names.{file_of}

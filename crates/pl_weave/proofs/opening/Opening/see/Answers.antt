@@ -1,7 +1,7 @@
 use Rattle.std.proofs.Common.{◌≡◌, ◌∙◌, ◌++◌, ◌∷◌, [], ℕ, List, Some, refl, sym, ap, subst, rules}
 use Rattle.std.specs.Option.{option_map}
 use Rattle.pl_place.specs.Policy.{Follows}
-use Rattle.pl_weave.specs.Given.{given}
+use Rattle.pl_loader.specs.Given.{given}
 use Rattle.pl_weave.specs.Opening.{Opened, Sees, seen_of, wanted}
 use Rattle.pl_weave.proofs.SeesLemmas.{give_name, is_told, led_off, led_on, on_both, sees_given, sees_none, unrefused_yet}
 use Rattle.pl_weave.proofs.opening.Opening.see.Goals as goal

@@ -1,0 +1,123 @@
+-- A plan by the rows of a table is the one of its files.
+use Rattle.std.proofs.Common.{◌≡◌, ℕ, Bool, true, false, List, [], ◌∷◌, length, map, Option, Some, None, Result, Ok, Err, refl, sym, ap, ◌∙◌}
+use Rattle.std.specs.Prelude.{MatchBool, ⊤, filter}
+use Rattle.std.proofs.lemmas.List.{length-map}
+use Rattle.std.proofs.lemmas.List.FromFn.{length-map-range_with_len}
+use Rattle.pl_base.specs.Answers.{◌>>=◌, Answers, AnswersAs, because}
+use Rattle.pl_elf.specs.declared.range.Range.{Range}
+use Rattle.pl_slots.specs.declared.slot.Slot.{Slot}
+use Rattle.pl_cone.specs.Currency.{held_rows, run_stamp, stale_at, stale_rows, stamps_of}
+use Rattle.pl_cone.specs.Faulted.{is_memory, of_cone}
+use Rattle.pl_cone.specs.Plans as plans
+use Rattle.pl_cone.specs.Plans.{RunPlan, Standing, cause_of, is_stale, planned, slot_of, standing, standings}
+use Rattle.pl_cone.specs.Skipped.{skip_of}
+use Rattle.pl_cone.specs.Skips.{stops_memory}
+use Rattle.pl_cone.specs.Slots.{HaveWantedNames, position_at, positions, slots_by, start_at, wants}
+use Rattle.pl_cone.specs.Table.{IsPlan, IsRunTable, names_where, planned_by, standings_by}
+use Rattle.pl_cone.specs.Taken as files
+use Rattle.pl_cone.specs.Taken.{files_in}
+use Rattle.pl_cone.specs.declared.asked.Asked.{Asked}
+use Rattle.pl_cone.specs.declared.fault.PlanningFault.{PlanningFault}
+use Rattle.pl_cone.specs.declared.plan.RowPlan.{RowPlan}
+use Rattle.pl_cone.specs.declared.skip.ConeFault.{ConeFault}
+use Rattle.pl_cone.specs.declared.skip.ConeFault.TheVariants as cone
+use Rattle.pl_cone.specs.declared.skip.Skip.{Skip}
+use Rattle.pl_cone.specs.declared.table.RunTable.{RunTable}
+use Rattle.pl_cone.specs.declared.taken.Taken.{Taken}
+use Rattle.pl_cone.proofs.CurrencyLaws.{names_flagged, stale_column, stamp_is, stamps_are}
+use Rattle.pl_cone.proofs.WantLaws.{places_are, slots_are}
+
+-- ---- how names stand
+
+abbrev of_cause : List ℕ → Option Skip → Standing
+of_cause n cause = record { name = n; cause = cause }
+
+standings_with : (g : Taken → Option Skip) (f : List ℕ → Standing) → ((x : Taken) → of_cause x.name (g x) ≡ f x.name) → (ts : List Taken) → standings_by ts (map g ts) ≡ map f (files.names_of ts)
+unfolding standings_by
+standings_with g f same [] = refl
+standings_with g f same (x ∷ ts) = ap (λ (s : Standing). s ∷ standings_by ts (map g ts)) (same x) ∙ ap (λ (ss : List Standing). f x.name ∷ ss) (standings_with g f same ts)
+
+pub standings_are : (region : Range) (t : RunTable) → IsRunTable region t → standings_by t.files.now t.causes ≡ standings (files_in t.files.now) region (files.names_of t.files.now)
+standings_are region t is =
+    ap (standings_by t.files.now) is.causes
+    ∙ standings_with (λ (x : Taken). cause_of (skip_of (files_in t.files.now) region x.name)) (standing (files_in t.files.now) region) (λ x. refl) t.files.now
+
+-- ---- the whole
+
+abbrev with_stamp : Asked → List Taken → List Slot → ℕ → Result RunPlan PlanningFault
+with_stamp a ts slots stamp = Ok (record { standings = standings (files_in ts) a.region (files.names_of ts); slots = slots; stale = plans.stale (files_in ts) a.region slots (files.names_of ts); stamp = stamp })
+
+abbrev with_slots : Asked → List Taken → List Slot → Result RunPlan PlanningFault
+with_slots a ts slots = plans.stamp_for (files_in ts) (files.names_of ts) a (plans.stale (files_in ts) a.region slots (files.names_of ts)) >>= λ stamp. with_stamp a ts slots stamp
+
+-- no slot is left
+pub plan_stops : (a : Asked) (t : RunTable) (e : PlanningFault) → IsRunTable a.region t → slots_by t a ≡ Err e → planned (files_in t.files.now) (files.names_of t.files.now) a ≡ Err e
+unfolding planned
+plan_stops a t e is none = ap (λ (r : Result (List Slot) PlanningFault). r >>= with_slots a t.files.now) (sym (slots_are a t is) ∙ none)
+
+plan_with : (a : Asked) (t : RunTable) (slots : List Slot) → IsRunTable a.region t → slots_by t a ≡ Ok slots → planned (files_in t.files.now) (files.names_of t.files.now) a ≡ with_slots a t.files.now slots
+unfolding planned
+plan_with a t slots is there = ap (λ (r : Result (List Slot) PlanningFault). r >>= with_slots a t.files.now) (sym (slots_are a t is) ∙ there)
+
+-- the same, or a want of memory
+stops_with : (a : Asked) (t : RunTable) (e : PlanningFault) (b : Bool) → IsRunTable a.region t → MatchBool b ⊤ (slots_by t a ≡ Err e) → MatchBool b ⊤ (planned (files_in t.files.now) (files.names_of t.files.now) a ≡ Err e)
+stops_with a t e true is answer = tt
+stops_with a t e false is answer = plan_stops a t e is answer
+
+pub slots_stop : (a : Asked) (t : RunTable) (e : PlanningFault) → IsRunTable a.region t → Answers is_memory (Err e) (slots_by t a) → AnswersAs (planned_by t) is_memory (Err e) (planned (files_in t.files.now) (files.names_of t.files.now) a)
+slots_stop a t e is answer = stops_with a t e (is_memory e) is answer
+
+pub places_long : (t : RunTable) (slots : List Slot) (places : List ℕ) → places ≡ map (start_at slots) (positions t) → length places ≡ length t.files.now
+places_long t slots places is = ap length is ∙ (length-map (positions t) (start_at slots) ∙ length-map-range_with_len (position_at t) 0 (length t.files.now))
+
+pub stale_long : (t : RunTable) (places : List ℕ) (stale : List Bool) → stale ≡ stale_rows t places → length stale ≡ length t.files.now
+stale_long t places stale is = ap length is ∙ length-map-range_with_len (stale_at t (held_rows t places)) 0 (length t.files.now)
+
+-- what is planned where libraries have slots, each row its place
+pub record Follows (a : Asked) (t : RunTable) (slots : List Slot) (places : List ℕ) (stale : List Bool) : Type 0 where
+  pub table : IsRunTable a.region t
+  pub given : slots_by t a ≡ Ok slots
+  pub named : HaveWantedNames (wants t) slots
+  pub laid : places ≡ map (start_at slots) (positions t)
+  pub flagged : stale ≡ stale_rows t places
+
+module _ (a : Asked) (t : RunTable) (slots : List Slot) (places : List ℕ) (stale : List Bool) (is : Follows a t slots places stale) where
+  abbrev ts : List Taken
+  ts = t.files.now
+
+  pub placed : places ≡ map (λ x. slot_of slots x.name) ts
+  placed = is.laid ∙ places_are a.region t slots is.table is.named
+
+  pub flags : stale ≡ map (λ x. is_stale (files_in ts) a.region slots x.name) ts
+  flags = is.flagged ∙ stale_column a.region t slots places is.table placed
+
+  pub stale_names : names_where ts stale ≡ plans.stale (files_in ts) a.region slots (files.names_of ts)
+  stale_names = ap (names_where ts) flags ∙ names_flagged (is_stale (files_in ts) a.region slots) ts
+
+  stamp_for : because of_cone (run_stamp ts stale a.last a.moment) ≡ plans.stamp_for (files_in ts) (files.names_of ts) a (plans.stale (files_in ts) a.region slots (files.names_of ts))
+  stamp_for = ap (λ (flags : List Bool). because of_cone (run_stamp ts flags a.last a.moment)) flags ∙ stamp_is a ts (is_stale (files_in ts) a.region slots) is.table.taken
+
+  -- no stamp is left
+  pub stamp_stops : (e : ConeFault) → run_stamp ts stale a.last a.moment ≡ Err e → planned (files_in ts) (files.names_of ts) a ≡ Err (of_cone e)
+  stamp_stops e none =
+      plan_with a t slots is.table is.given
+      ∙ ap (λ (r : Result ℕ PlanningFault). r >>= with_stamp a ts slots) (sym stamp_for ∙ ap (because of_cone) none)
+
+  pub stamp_stop : (e : ConeFault) → Answers stops_memory (Err e) (run_stamp ts stale a.last a.moment) → AnswersAs (planned_by t) is_memory (Err (of_cone e)) (planned (files_in ts) (files.names_of ts) a)
+  stamp_stop (cone.StampsSpent stamp) answer = stamp_stops (cone.StampsSpent stamp) answer
+  stamp_stop cone.NoMemory answer = tt
+
+  pub all_planned : (stamp : ℕ) (stamps : List ℕ) → run_stamp ts stale a.last a.moment ≡ Ok stamp
+      → planned (files_in ts) (files.names_of ts) a ≡ Ok (planned_by t (record { slots = slots; places = places; stale = stale; stamps = stamps; stamp = stamp }))
+  all_planned stamp stamps there =
+      plan_with a t slots is.table is.given
+      ∙ (ap (λ (r : Result ℕ PlanningFault). r >>= with_stamp a ts slots) (sym stamp_for ∙ ap (because of_cone) there)
+      ∙ (ap (λ (ss : List Standing). Ok (record { standings = ss; slots = slots; stale = plans.stale (files_in ts) a.region slots (files.names_of ts); stamp = stamp })) (sym (standings_are a.region t is.table))
+      ∙ ap (λ (ns : List (List ℕ)). Ok (record { standings = standings_by ts t.causes; slots = slots; stale = ns; stamp = stamp })) (sym stale_names)))
+
+  pub rows_planned : (stamp : ℕ) (stamps : List ℕ) → stamps ≡ stamps_of ts stale stamp → IsPlan t a (record { slots = slots; places = places; stale = stale; stamps = stamps; stamp = stamp })
+  rows_planned stamp stamps same = record {
+    places = placed;
+    stale = flags;
+    stamps = same ∙ (ap (λ (bs : List Bool). stamps_of ts bs stamp) flags ∙ stamps_are a.region ts slots stamp is.table.taken);
+  }

@@ -1,0 +1,22 @@
+use Rattle.pl_cone.proofs.AmongLaws.{index_among}
+use Rattle.pl_cone.proofs.LinkingLaws.{put_is}
+use Rattle.pl_cone.proofs.LinkedLaws.{program_found}
+use Rattle.pl_cone.proofs.TellLaws.{program_tells}
+use Rattle.pl_cone.proofs.FormedLaws.{rows_formed}
+use Rattle.pl_cone.proofs.RemainingLaws.{numbers_decide}
+use Rattle.pl_cone.proofs.ProgramLaws.{linked_is}
+use Rattle.pl_cone.proofs.PlanLaws.{plan_stops}
+use Rattle.pl_cone.proofs.ServeLaws.{shared_names}
+use Rattle.pl_cone.proofs.CallLaws.{cone_is}
+use Rattle.pl_cone.proofs.RuleLaws.{rule_is_one}
+use Rattle.pl_cone.proofs.TakenLaws.{marked_read}
+use Rattle.pl_cone.proofs.ColumnLaws.{refusals_are}
+use Rattle.pl_cone.proofs.MemberLaws.{few_blocks}
+use Rattle.pl_cone.proofs.NamedFileLaws.{file_at}
+use Rattle.pl_cone.proofs.NeedLaws.{files_small}
+use Rattle.pl_cone.proofs.SkipLaws.{stops_as}
+use Rattle.pl_cone.proofs.SoundCandidateLaws.{sound_is}
+use Rattle.pl_cone.proofs.TableLaws.{links_are}
+use Rattle.pl_cone.proofs.UnderLaws.{under_ends}
+use Rattle.pl_cone.proofs.WalkingLaws.{walking_same}
+use Rattle.pl_cone.proofs.faults.number_of.Goals as goal

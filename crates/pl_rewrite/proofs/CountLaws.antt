@@ -1,0 +1,34 @@
+-- A program's file bears the conflict rows that were made.
+use Rattle.std.proofs.Common.{◌≡◌, ℕ, ◌≤◌, true, false, List, ◌∷◌, length, map, Some, Ok, refl, sym, ap, subst, ◌∙◌}
+use Rattle.std.proofs.lemmas.Option.{same_Some}
+use Rattle.pl_base.proofs.AnswerLaws.{ok_same}
+use Rattle.pl_conflict.specs.Conflicts.{conflicts}
+use Rattle.pl_conflict.specs.Prelinked.{Firm, are_set, objects_of, parts_of, program_file, slots_of}
+use Rattle.pl_conflict.proofs.MadeLaws.{IsProgramOf, program_is_form, program_made, program_of}
+use Rattle.pl_conflict.proofs.MemberLaws.{set_is}
+use Rattle.pl_elf.specs.Kinds.{is_library}
+use Rattle.pl_form.specs.Files.{marked_in}
+use Rattle.pl_form.specs.Marks.{IsFormOf}
+use Rattle.pl_form.specs.declared.constants.TheConstants.{STORED}
+use Rattle.pl_form.specs.declared.file.Marked.{Marked}
+use Rattle.pl_form.proofs.BytesLaws.{forms_are_bytes}
+use Rattle.pl_form.proofs.FilesLaws.{forms_are_read}
+use Rattle.pl_lists.specs.declared.conflict_row.ConflictRow.{ConflictRow}
+use Rattle.pl_tls.specs.Layout.{offsets}
+use Rattle.pl_tls.specs.declared.module.Module.{Module}
+use Rattle.pl_rewrite.specs.Sources.{AreSources}
+use Rattle.pl_rewrite.proofs.FirmLaws.{own_all}
+
+made_rows : (r : Firm) (rs : List Firm) (rows : List ConflictRow) → (program_made r rs rows).conflicts ≡ rows
+unfolding program_made
+made_rows r rs rows = refl
+
+pub rows_borne : (r : Firm) (rs : List Firm) (file : List ℕ) (modules : List Module) (rows : List ConflictRow) (m : Marked) → AreSources (r ∷ rs) → is_library r.object.kind ≡ false → are_set (r ∷ rs) ≡ true → program_file (r ∷ rs) ≡ Some file → length file ≤ STORED
+    → offsets (map (λ o. o.tls) (objects_of (r ∷ rs))) ≡ Ok modules → conflicts (objects_of (r ∷ rs)) (parts_of (r ∷ rs)) (slots_of (r ∷ rs)) modules ≡ Ok rows → marked_in file ≡ Some m → m.conflicts ≡ rows
+rows_borne r rs file modules rows m are other set is small numbered made read =
+    let p = program_of r rs file is in
+    let form : IsFormOf file (program_made r rs p.rows) = program_is_form r rs file p (own_all (r ∷ rs) are) other (set_is r rs set) small in
+    let borne : program_made r rs p.rows ≡ m = same_Some (program_made r rs p.rows) m (sym (forms_are_read file (program_made r rs p.rows) (forms_are_bytes file (program_made r rs p.rows) form) form) ∙ read) in
+    let same : p.modules ≡ modules = ok_same p.modules modules (sym p.numbered ∙ numbered) in
+    let given : conflicts (objects_of (r ∷ rs)) (parts_of (r ∷ rs)) (slots_of (r ∷ rs)) modules ≡ Ok p.rows = subst (λ (ms : List Module). conflicts (objects_of (r ∷ rs)) (parts_of (r ∷ rs)) (slots_of (r ∷ rs)) ms ≡ Ok p.rows) same p.conflicts in
+    ap (λ (x : Marked). x.conflicts) (sym borne) ∙ made_rows r rs p.rows ∙ ok_same p.rows rows (sym given ∙ made)
