@@ -39,3 +39,4 @@ pub mod ServeLaws
 pub mod CallLaws
 pub mod NamedFileLaws
 pub mod SoundCandidateLaws
+pub mod WalkRowLaws

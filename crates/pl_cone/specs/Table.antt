@@ -148,6 +148,7 @@ pub record IsRunTable (region : Range) (t : RunTable) : Type 0 where
   pub taken : AreTaken region t.files.now
   pub walks : AreWalks t.files.now (record { walks = t.walks; causes = refusals t })
   pub index : IsFolderIndex (folder_objects t.files.now) t.index
+  pub sized : length t.links ≡ length t.files.now
   pub links : (row : ℕ) (rows : List ℕ) (l : Link) → slice_get t.causes row ≡ Some None → slice_get t.walks row ≡ Some rows → slice_get t.links row ≡ Some l → IsLinkBy t.files.now t.index rows l
   pub causes : t.causes ≡ map (λ x. cause_of (skip_of (files_in t.files.now) region x.name)) t.files.now
 
