@@ -40,3 +40,4 @@ pub mod CallLaws
 pub mod NamedFileLaws
 pub mod SoundCandidateLaws
 pub mod WalkRowLaws
+pub mod ProgramLinkLaws
