@@ -41,3 +41,4 @@ pub mod NamedFileLaws
 pub mod SoundCandidateLaws
 pub mod WalkRowLaws
 pub mod ProgramLinkLaws
+pub mod PrelinkableLaws

@@ -24,18 +24,18 @@ pub walks_are : (ts : List Taken) (w : FolderWalks) → AreWalks ts w → AreWal
 walks_are ts w are = subst (λ (causes : List (Option Skip)). AreWalks ts (record { walks = w.walks; causes = causes })) (refusals_are ts w are) are
 
 -- the first causes of all rows
-pub causes_are : (region : Range) (w : walked.WalkedFiles) (l : Linked) → AreTaken region w.files.now → AreLinked w l → l.causes.items ≡ map (λ x. cause_of (skip_of (files_in w.files.now) region x.name)) w.files.now
-causes_are region w l taken linked = same_by l.causes.items (map meant w.files.now) (linked.0.causes ∙ sym (length-map w.files.now meant)) each
-  where
-    meant : Taken → Option Skip
-    meant x = cause_of (skip_of (files_in w.files.now) region x.name)
+abbrev meant_of : Range → List Taken → Taken → Option Skip
+meant_of region ts x = cause_of (skip_of (files_in ts) region x.name)
 
-    each : (k : ℕ) (cause : Option Skip) → slice_get l.causes.items k ≡ Some cause → slice_get (map meant w.files.now) k ≡ Some cause
+pub causes_are : (region : Range) (w : walked.WalkedFiles) (l : Linked) → AreLinked w l → AreTaken region w.files.now → l.causes.items ≡ map (λ x. cause_of (skip_of (files_in w.files.now) region x.name)) w.files.now
+causes_are region w l linked taken = same_by l.causes.items (map (meant_of region w.files.now) w.files.now) (linked.0.causes ∙ sym (length-map w.files.now (meant_of region w.files.now))) each
+  where
+    each : (k : ℕ) (cause : Option Skip) → slice_get l.causes.items k ≡ Some cause → slice_get (map (meant_of region w.files.now) w.files.now) k ≡ Some cause
     each k cause at =
         let within = slice_get_within l.causes.items k cause at in
         let lt : k < length w.files.now = omega (arith, within, linked.0.causes) in
         let file = slice_get_at w.files.now k lt in
-        slice_get-map meant w.files.now k ∙ ap (option_map meant) file.1 ∙ sym ((linked.1 k lt).meant region file.0 taken file.1) ∙ at
+        slice_get-map (meant_of region w.files.now) w.files.now k ∙ ap (option_map (meant_of region w.files.now)) file.1 ∙ sym ((linked.1 k lt).meant region file.0 taken file.1) ∙ at
 
 -- what is found of a row without a cause
 pub links_are : (w : walked.WalkedFiles) (l : Linked) → AreLinked w l → (row : ℕ) (rows : List ℕ) (link : Link) → slice_get l.causes.items row ≡ Some None → slice_get w.walks.now row ≡ Some rows → slice_get l.links.items row ≡ Some link → IsLinkBy w.files.now w.index.now rows link

@@ -1,5 +1,5 @@
 -- Whether one name may be prelinked, and what a run at given slots rewrites.
-use Rattle.std.specs.Prelude.{◌≡◌, ◌<◌, ℕ, Bool, List, map, length, slice_get, Option, Some, None, Result, Ok, Err, ◌==◌, if◌then◌else◌}
+use Rattle.std.specs.Prelude.{◌≡◌, ◌<◌, ℕ, Bool, true, List, map, find, length, slice_get, Option, Some, None, Result, Ok, Err, ◌==◌, if◌then◌else◌}
 use Rattle.std.specs.Str.{bytes_eq}
 use Rattle.pl_base.specs.Answers.{◌>>=◌}
 use Rattle.pl_elf.specs.declared.range.Range.{Range}
@@ -16,6 +16,11 @@ abbrev pub is_named : List ℕ → Taken → Bool
 is_named n t = bytes_eq t.name n
 
 -- ---- one name
+
+-- the row of a name's file; none where the name has no file
+abbrev pub IsRowOf : List Taken → List ℕ → Option ℕ → Type 0
+IsRowOf ts n None = find (is_named n) ts ≡ None
+IsRowOf ts n (Some row) = (t : Taken) × (slice_get ts row ≡ Some t) × (is_named n t ≡ true)
 
 abbrev pub IsRowNumber : RunTable → ℕ → Type 0
 IsRowNumber t row = row < length t.causes

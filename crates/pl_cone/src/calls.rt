@@ -32,6 +32,18 @@ fn is_named(taken: &Taken, name: &str) -> bool
     taken.name.as_str() == name
 }
 
+/// The row of the file of a name, if there is one.
+fn row_of(files: &[Taken], name: &str) -> Option<usize>
+    ensures { spec.IsRowOf files.now name.now result }
+{
+    for row in 0..files.len() {
+        if is_named(&files[row], name) {
+            return Some(row);
+        }
+    }
+    None
+}
+
 /// The cause of a row, taken out of the table.
 fn cause_at(table: RunTable<'_>, row: usize) -> Result<(), Skip>
     requires { spec.IsRowNumber table row }
@@ -53,7 +65,7 @@ pub fn prelinkable(alloc: Global, files: &[Taken], name: &str) -> Result<(), Ski
     ensures { (region : Range) → AreTaken region files.now →
         Answers is_memory result (skip_of (files_in files.now) region name.now) }
 {
-    let Some(row) = files.iter().position(|taken| is_named(taken, name)) else {
+    let Some(row) = row_of(files, name) else {
         return Err(Skip::NotThere(Text::copy_of(alloc, name)?));
     };
     let table = RunTable::of(alloc, files)?;
@@ -116,8 +128,8 @@ pub fn cone_of(
         Answers stops_memory result (spec.cone region table.now slots.now last now) }
 {
     let places = places_of(alloc, slots, table.files)?;
-    let stale = stale_rows(alloc, table, places.as_slice())?;
-    let stamp = run_stamp(table.files, stale.as_slice(), last, now)?;
-    let stale = names_where(alloc, table.files, stale.as_slice())?;
+    let flags = stale_rows(alloc, table, places.as_slice())?;
+    let stamp = run_stamp(table.files, flags.as_slice(), last, now)?;
+    let stale = names_where(alloc, table.files, flags.as_slice())?;
     Ok(Cone { stale, stamp })
 }

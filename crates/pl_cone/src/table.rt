@@ -62,14 +62,16 @@ impl<'f> RunTable<'f> {
         ensures files { IfOk result (λ t. t.files.now ≡ files.now) }
         ensures table { IfOk result spec.IsRunTableOfAny }
     {
-        let FolderWalks { walks, causes } = walks_of(alloc, files)?;
+        let made = walks_of(alloc, files)?;
+        let FolderWalks { walks, causes } = made;
         let index = index_of(alloc, files)?;
         let walked = WalkedFiles {
             files,
             walks: walks.as_slice(),
             index: &index,
         };
-        let Linked { links, causes } = links_of(alloc, &walked, causes)?;
+        let linked = links_of(alloc, &walked, causes)?;
+        let Linked { links, causes } = linked;
         Ok(RunTable {
             files,
             walks,
