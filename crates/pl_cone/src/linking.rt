@@ -138,10 +138,7 @@ fn refused(alloc: Global, scope: &Scope<'_>, fault: OrdinaryFault) -> Result<Ski
 }
 
 /// What each relocation of the first member finds, in their order; or the first without a value.
-fn own_found(
-    alloc: Global,
-    linking: &WalkLinking<'_, '_>,
-) -> Result<Rows<Option<Found>>, Skip>
+fn own_found(alloc: Global, linking: &WalkLinking<'_, '_>) -> Result<Rows<Option<Found>>, Skip>
     requires linking { by_walk.IsLinking linking.now }
     requires some { 0 < length linking.now.scope.now }
     ensures { by_walk.FindsOwn linking.now result }

@@ -19,4 +19,7 @@ use Rattle.pl_cone.proofs.SoundCandidateLaws.{sound_is}
 use Rattle.pl_cone.proofs.TableLaws.{links_are}
 use Rattle.pl_cone.proofs.UnderLaws.{under_ends}
 use Rattle.pl_cone.proofs.WalkingLaws.{walking_same}
+use Rattle.pl_cone.proofs.WalkRowLaws.{member_candidate}
+use Rattle.pl_cone.proofs.ProgramLinkLaws.{others_refuse}
+use Rattle.pl_cone.proofs.PrelinkableLaws.{cone_given}
 use Rattle.pl_cone.proofs.faults.number_of.Goals as goal
