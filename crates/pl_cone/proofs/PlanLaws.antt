@@ -1,21 +1,26 @@
 -- A plan by the rows of a table is the one of its files.
 use Rattle.std.proofs.Common.{◌≡◌, ℕ, Bool, true, false, List, [], ◌∷◌, length, map, Option, Some, None, Result, Ok, Err, refl, sym, ap, ◌∙◌}
-use Rattle.std.specs.Prelude.{MatchBool, ⊤, filter}
+use Rattle.std.specs.Prelude.{MatchBool, ⊤, filter, slice_get, if◌then◌else◌}
+use Rattle.std.specs.Option.{option_map}
 use Rattle.std.proofs.lemmas.List.{length-map}
 use Rattle.std.proofs.lemmas.List.FromFn.{length-map-range_with_len}
+use Rattle.std.proofs.lemmas.Option.{same_Some, slice_get-map, slice_get_within}
 use Rattle.pl_base.specs.Answers.{◌>>=◌, Answers, AnswersAs, because}
 use Rattle.pl_elf.specs.declared.range.Range.{Range}
+use Rattle.pl_form.specs.declared.file.Entry.{Entry}
+use Rattle.pl_form.specs.declared.file.Entry.TheVariants.{There, BadMark, Refused}
 use Rattle.pl_slots.specs.declared.slot.Slot.{Slot}
+use Rattle.pl_slots.specs.declared.slot.Want.{Want}
 use Rattle.pl_cone.specs.Currency.{held_rows, run_stamp, stale_at, stale_rows, stamps_of}
 use Rattle.pl_cone.specs.Faulted.{is_memory, of_cone}
 use Rattle.pl_cone.specs.Plans as plans
 use Rattle.pl_cone.specs.Plans.{RunPlan, Standing, cause_of, is_stale, planned, slot_of, standing, standings}
 use Rattle.pl_cone.specs.Skipped.{skip_of}
 use Rattle.pl_cone.specs.Skips.{stops_memory}
-use Rattle.pl_cone.specs.Slots.{HaveWantedNames, position_at, positions, slots_by, start_at, wants}
-use Rattle.pl_cone.specs.Table.{IsPlan, IsRunTable, names_where, planned_by, standings_by}
+use Rattle.pl_cone.specs.Slots.{HaveWantedNames, count_before, is_there, object_told, position_at, position_if, positions, slots_by, start_at, want_in, wants}
+use Rattle.pl_cone.specs.Table.{IsPlan, IsRunTable, is_candidate, names_where, planned_by, standings_by}
 use Rattle.pl_cone.specs.Taken as files
-use Rattle.pl_cone.specs.Taken.{files_in}
+use Rattle.pl_cone.specs.Taken.{files_in, is_library_entry, object_by}
 use Rattle.pl_cone.specs.declared.asked.Asked.{Asked}
 use Rattle.pl_cone.specs.declared.fault.PlanningFault.{PlanningFault}
 use Rattle.pl_cone.specs.declared.plan.RowPlan.{RowPlan}
@@ -24,7 +29,7 @@ use Rattle.pl_cone.specs.declared.skip.ConeFault.TheVariants as cone
 use Rattle.pl_cone.specs.declared.skip.Skip.{Skip}
 use Rattle.pl_cone.specs.declared.table.RunTable.{RunTable}
 use Rattle.pl_cone.specs.declared.taken.Taken.{Taken}
-use Rattle.pl_cone.proofs.CurrencyLaws.{names_flagged, stale_column, stamp_is, stamps_are}
+use Rattle.pl_cone.proofs.CurrencyLaws.{column_at, names_flagged, stale_column, stamp_is, stamps_are}
 use Rattle.pl_cone.proofs.WantLaws.{places_are, slots_are}
 
 -- ---- how names stand
@@ -73,6 +78,30 @@ places_long t slots places is = ap length is ∙ (length-map (positions t) (star
 pub stale_long : (t : RunTable) (places : List ℕ) (stale : List Bool) → stale ≡ stale_rows t places → length stale ≡ length t.files.now
 stale_long t places stale is = ap length is ∙ length-map-range_with_len (stale_at t (held_rows t places)) 0 (length t.files.now)
 
+-- ---- what is no library has no slot
+
+none_wanted : (n : List ℕ) (e : Entry) → is_library_entry e ≡ false → object_told n (object_by e) ≡ None
+none_wanted n (There file) out = rw out refl
+none_wanted n BadMark out = refl
+none_wanted n (Refused number argument) out = refl
+
+want_if : (b : Bool) (want : Option Want) → want ≡ None → (if b then want else None) ≡ None
+want_if true want is = is
+want_if false want is = refl
+
+no_want : (t : RunTable) (row : ℕ) (x : Taken) → slice_get t.files.now row ≡ Some x → is_library_entry x.entry ≡ false → position_at t row ≡ None
+no_want t row x at out =
+    ap (λ (want : Option Want). position_if (is_there want) (count_before t row)) (want_if (is_candidate t row) (want_in (slice_get t.files.now row)) (ap want_in at ∙ none_wanted x.name x.entry out))
+
+pub no_slot : (region : Range) (t : RunTable) (slots : List Slot) (row : ℕ) (x : Taken) → IsRunTable region t → HaveWantedNames (wants t) slots → slice_get t.files.now row ≡ Some x → is_library_entry x.entry ≡ false → slot_of slots x.name ≡ 0
+no_slot region t slots row x is named at out =
+    let ts : List Taken = t.files.now in
+    let by_name : slice_get (map (λ (y : Taken). slot_of slots y.name) ts) row ≡ Some (slot_of slots x.name) = slice_get-map (λ (y : Taken). slot_of slots y.name) ts row ∙ ap (option_map (λ (y : Taken). slot_of slots y.name)) at in
+    let by_row : slice_get (map (start_at slots) (positions t)) row ≡ Some (start_at slots (position_at t row)) =
+    slice_get-map (start_at slots) (positions t) row ∙ ap (option_map (start_at slots)) (column_at (position_at t) (length ts) row (slice_get_within ts row x at)) in
+    let same : slice_get (map (start_at slots) (positions t)) row ≡ slice_get (map (λ (y : Taken). slot_of slots y.name) ts) row = ap (λ (ps : List ℕ). slice_get ps row) (places_are region t slots is named) in
+    same_Some (slot_of slots x.name) (start_at slots (position_at t row)) (sym by_name ∙ (sym same ∙ by_row)) ∙ ap (start_at slots) (no_want t row x at out)
+
 -- what is planned where libraries have slots, each row its place
 pub record Follows (a : Asked) (t : RunTable) (slots : List Slot) (places : List ℕ) (stale : List Bool) : Type 0 where
   pub table : IsRunTable a.region t
@@ -118,6 +147,7 @@ module _ (a : Asked) (t : RunTable) (slots : List Slot) (places : List ℕ) (sta
   pub rows_planned : (stamp : ℕ) (stamps : List ℕ) → stamps ≡ stamps_of ts stale stamp → IsPlan t a (record { slots = slots; places = places; stale = stale; stamps = stamps; stamp = stamp })
   rows_planned stamp stamps same = record {
     places = placed;
+    programs = λ row x at out. no_slot a.region t slots row x is.table is.named at out;
     stale = flags;
     stamps = same ∙ (ap (λ (bs : List Bool). stamps_of ts bs stamp) flags ∙ stamps_are a.region ts slots stamp is.table.taken);
   }

@@ -21,7 +21,7 @@ use Rattle.pl_conflict.specs.Own.{FindAll}
 use Rattle.pl_cone.specs.Plans as plans
 use Rattle.pl_cone.specs.Plans.{RunPlan, Standing, cause_of, is_stale, slot_of}
 use Rattle.pl_cone.specs.Skipped.{skip_causes, skip_of}
-use Rattle.pl_cone.specs.Taken.{AreTaken, files_in, object_by}
+use Rattle.pl_cone.specs.Taken.{AreTaken, files_in, is_library_entry, object_by}
 use Rattle.pl_cone.specs.declared.asked.Asked.{Asked}
 use Rattle.pl_cone.specs.declared.link.Link.{Link}
 use Rattle.pl_cone.specs.declared.plan.RowPlan.{RowPlan}
@@ -195,8 +195,9 @@ names_where (t ∷ ts) (b ∷ flags) = if b then t.name ∷ names_where ts flags
 abbrev pub planned_by : RunTable → RowPlan → RunPlan
 planned_by t p = record { standings = standings_by t.files.now t.causes; slots = p.slots; stale = names_where t.files.now p.stale; stamp = p.stamp }
 
--- the columns agree with the slots, the stale names and the stamp
+-- the columns agree with the slots, the stale names and the stamp; what is no library has no slot
 pub record IsPlan (t : RunTable) (a : Asked) (p : RowPlan) : Type 0 where
   pub places : p.places ≡ map (λ x. slot_of p.slots x.name) t.files.now
+  pub programs : (row : ℕ) (x : Taken) → slice_get t.files.now row ≡ Some x → is_library_entry x.entry ≡ false → slot_of p.slots x.name ≡ 0
   pub stale : p.stale ≡ map (λ x. is_stale (files_in t.files.now) a.region p.slots x.name) t.files.now
   pub stamps : p.stamps ≡ map (λ x. plans.next_stamp (files_in t.files.now) a.region p.slots p.stamp x.name) t.files.now
