@@ -81,8 +81,8 @@ first_row : (ts : List Taken) (row first : ℕ) (others : List ℕ) (t : Taken) 
 first_row ts row first others t distinct at rows told =
     let h : HasMember ts (first ∷ others) 0 first = has_member_at ts (first ∷ others) 0 first rows.each refl in
     let is : IsMember (walked_by ts (first ∷ others)) 0 t.name = first_member ts t.name (walked_by ts (first ∷ others)) told in
-    let name : h.taken.name ≡ t.name = ap (λ (p : List ℕ × Object). p.0) (same_Some (h.taken.name, h.object) (t.name, is.object) (sym h.at ∙ is.at)) in
-    same_row ts first row h.taken t distinct h.file at name
+    let pair : (h.taken.name, h.object) ≡ (t.name, is.object) = same_Some (h.taken.name, h.object) (t.name, is.object) (sym h.at ∙ is.at) in
+    same_row ts first row h.taken t distinct h.file at (ap (λ (p : List ℕ × Object). p.0) pair)
 
 -- a walk that is told by rows
 pub told_walk : (region : Range) (ts : List Taken) (walks : List (List ℕ)) (row : ℕ) (t : Taken) (rows : List ℕ) → AreTaken region ts → slice_get ts row ≡ Some t → slice_get walks row ≡ Some rows → AreRows ts rows → walk_for ts t.name ≡ Ok (walked_by ts rows) → HasOwnWalk ts walks row

@@ -174,6 +174,6 @@ among_whole os among name class version m f is e =
     let d = member_defines os name class version m f e in
     subst (λ (n : List ℕ). list_any (λ (x : Entry). x.member == m) (filter_map (placed among.positions.now) (entries_of among.index.now (gnu n))) ≡ true) d.named (is.whole m d.index d.object d.symbol d.object_at d.symbol_at d.defines)
 
--- a row's member is one of the scope
-pub stands_within : (os : List Object) (among : Among) (e : Entry) (x : Option ℕ) (m : ℕ) → IsIndexAmong os among → x ≡ position_of among.positions.now e → x ≡ Some m → m < length os
-stands_within os among e x m is at stands = is.within e.member m (sym at ∙ stands)
+-- where a row stands is a member of the scope
+pub within_by : (os : List Object) (among : Among) (row m : ℕ) (x : Option ℕ) → IsIndexAmong os among → x ≡ position_in (slice_get among.positions.now row) → x ≡ Some m → m < length os
+within_by os among row m x is at stands = is.within row m (sym at ∙ stands)

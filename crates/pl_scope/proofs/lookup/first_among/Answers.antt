@@ -1,4 +1,4 @@
-use Rattle.std.proofs.Common.{◌≡◌, ℕ, List, length, true, ap, sym, subst, ◌∙◌}
+use Rattle.std.proofs.Common.{◌≡◌, ℕ, ◌<◌, List, length, true, ap, sym, subst, ◌∙◌}
 use Rattle.std.specs.List.{filter_map, list_any}
 use Rattle.std.specs.Option.{option_map}
 use Rattle.std.specs.Prelude.{◌==◌}
@@ -7,8 +7,12 @@ use Rattle.pl_scope.specs.Index.{entries_of}
 use Rattle.pl_scope.specs.Scope.{objects}
 use Rattle.pl_scope.specs.declared.index.Entry.{Entry}
 use Rattle.pl_scope.proofs.MemberLaws.{length_objects}
-use Rattle.pl_scope.proofs.FolderLaws.{among_more, among_done, among_whole}
+use Rattle.pl_scope.proofs.FolderLaws.{among_more, among_done, among_whole, within_by}
 use Rattle.pl_scope.proofs.lookup.first_among.Goals as goal
+
+pub best_at-best-requires-clause-within : goal.best_at-best-requires-clause-within
+best_at-best-requires-clause-within c = λ m is.
+    subst (λ (count : ℕ). m < count) (length_objects c.args.scope.now) (within_by (objects c.args.scope.now) c.args.among.now _ m c.position_of.result c.requires.index c.position_of.ensures is)
 
 pub loop-entry-preserved : goal.loop-entry-preserved
 loop-entry-preserved c =
