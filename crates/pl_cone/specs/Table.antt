@@ -21,7 +21,7 @@ use Rattle.pl_conflict.specs.Own.{FindAll}
 use Rattle.pl_cone.specs.Plans as plans
 use Rattle.pl_cone.specs.Plans.{RunPlan, Standing, cause_of, is_stale, slot_of}
 use Rattle.pl_cone.specs.Skipped.{skip_causes, skip_of}
-use Rattle.pl_cone.specs.Taken.{AreTaken, files_in, object_by}
+use Rattle.pl_cone.specs.Taken.{AreTaken, files_in, is_library_entry, object_by}
 use Rattle.pl_cone.specs.declared.asked.Asked.{Asked}
 use Rattle.pl_cone.specs.declared.link.Link.{Link}
 use Rattle.pl_cone.specs.declared.plan.RowPlan.{RowPlan}
@@ -148,6 +148,7 @@ pub record IsRunTable (region : Range) (t : RunTable) : Type 0 where
   pub taken : AreTaken region t.files.now
   pub walks : AreWalks t.files.now (record { walks = t.walks; causes = refusals t })
   pub index : IsFolderIndex (folder_objects t.files.now) t.index
+  pub sized : length t.links ≡ length t.files.now
   pub links : (row : ℕ) (rows : List ℕ) (l : Link) → slice_get t.causes row ≡ Some None → slice_get t.walks row ≡ Some rows → slice_get t.links row ≡ Some l → IsLinkBy t.files.now t.index rows l
   pub causes : t.causes ≡ map (λ x. cause_of (skip_of (files_in t.files.now) region x.name)) t.files.now
 
@@ -197,5 +198,6 @@ planned_by t p = record { standings = standings_by t.files.now t.causes; slots =
 -- the columns agree with the slots, the stale names and the stamp
 pub record IsPlan (t : RunTable) (a : Asked) (p : RowPlan) : Type 0 where
   pub places : p.places ≡ map (λ x. slot_of p.slots x.name) t.files.now
+  pub programs : (row : ℕ) (x : Taken) → slice_get t.files.now row ≡ Some x → is_library_entry x.entry ≡ false → slot_of p.slots x.name ≡ 0
   pub stale : p.stale ≡ map (λ x. is_stale (files_in t.files.now) a.region p.slots x.name) t.files.now
   pub stamps : p.stamps ≡ map (λ x. plans.next_stamp (files_in t.files.now) a.region p.slots p.stamp x.name) t.files.now

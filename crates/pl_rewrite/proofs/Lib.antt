@@ -41,3 +41,4 @@ pub mod VersionLaws
 pub mod PlacedRowLaws
 pub mod FinishingLaws
 pub mod CountLaws
+pub mod FlagLaws
