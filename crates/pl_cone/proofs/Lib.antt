@@ -39,3 +39,5 @@ pub mod ServeLaws
 pub mod CallLaws
 pub mod NamedFileLaws
 pub mod SoundCandidateLaws
+pub mod WalkRowLaws
+pub mod ProgramLinkLaws

@@ -44,7 +44,7 @@ taken_fault region t is = ap (λ (s : Taken). s.fault) is.is
 
 -- ---- a name's file is found
 
-differ_at : (P : List ℕ → Type 0) (ts : List Taken) (i : ℕ) (t : Taken) → AllByRecursion P (names_of ts) → slice_get ts i ≡ Some t → P t.name
+pub differ_at : (P : List ℕ → Type 0) (ts : List Taken) (i : ℕ) (t : Taken) → AllByRecursion P (names_of ts) → slice_get ts i ≡ Some t → P t.name
 differ_at P [] i t all at = absurd (none-some t at)
 differ_at P (x ∷ ts) zero t all at = subst (λ (y : Taken). P y.name) (same_Some x t at) all.0
 differ_at P (x ∷ ts) (suc i) t all at = differ_at P ts i t all.1 at

@@ -86,7 +86,7 @@ formed_step : (faults : List ℕ → Option ℕ) (n : List ℕ) (ns : List (List
 formed_step faults n ns None is = (refl, is)
 formed_step faults n ns (Some number) is = absurd (err_ok (skips.Form n number) tt is)
 
-formed_each : (faults : List ℕ → Option ℕ) (ns : List (List ℕ)) → all_formed faults ns ≡ Ok tt → (n : List ℕ) → has ns n ≡ true → faults n ≡ None
+pub formed_each : (faults : List ℕ → Option ℕ) (ns : List (List ℕ)) → all_formed faults ns ≡ Ok tt → (n : List ℕ) → has ns n ≡ true → faults n ≡ None
 unfolding all_formed run
 formed_each faults [] is n t = absurd cc
 formed_each faults (m ∷ ns) is n t =

@@ -14,6 +14,7 @@ pub mod Links
 pub mod Needs
 pub mod Table
 pub mod Linking
+pub mod WalkRows
 pub mod Currency
 pub mod Slots
 pub mod Calls

@@ -1,9 +1,9 @@
 -- What the relocations of a walk find, and whether each has a value.
 use Rattle.std.specs.Prelude.{◌≡◌, ◌<◌, ℕ, List, [], map, drop, length, slice_get, slice_index_or, Option, Some, None, Result, Ok, Err}
 use Rattle.std.specs.List.{All}
-use Rattle.pl_base.specs.Answers.{◌>>=◌, Answers}
+use Rattle.pl_base.specs.Answers.{◌>>=◌, Answers, because}
 use Rattle.pl_base.specs.Each.{each}
-use Rattle.pl_cone.specs.Candidates.{check_links, of_link, zeros}
+use Rattle.pl_cone.specs.Candidates.{blocks, check_links, of_link, zeros}
 use Rattle.pl_cone.specs.OneWord.{GivesOneWordBy}
 use Rattle.pl_cone.specs.Skips.{is_memory}
 use Rattle.pl_conflict.specs.Between.{HoldsBetween}
@@ -19,6 +19,7 @@ use Rattle.pl_scope.specs.Scope.{objects}
 use Rattle.pl_scope.specs.Walk.{Walked}
 use Rattle.pl_scope.specs.declared.found.Found.{Found}
 use Rattle.pl_scope.specs.declared.index.Entry.{Entry}
+use Rattle.pl_tls.specs.Layout.{offsets}
 use Rattle.pl_value.specs.Meanings.{Row, meaning, meanings, row, rows_from}
 use Rattle.pl_value.specs.Values.{relocations_in}
 use Rattle.pl_value.specs.declared.fault.LinkFault.{LinkFault}
@@ -115,10 +116,21 @@ FindsFirst l (Ok found) = FindAll (objects_of l) found × (rows_have_in l (first
 FindsFirst l (Err ordinary.NoMemory) = Unit {0}
 FindsFirst l (Err (ordinary.Link fault)) = rows_have_in l (first_rows l) ≡ Err fault
 
+-- a walk is linked with each member at 0
+pub record IsLinkingAtZero (l : WalkLinking) : Type 0 where
+  pub is : IsLinking l
+  pub places : l.places.now ≡ zeros l.scope.now
+  pub tls : offsets (blocks l.scope.now) ≡ Ok l.modules.now
+
 -- a refusal by names
 abbrev pub of_ordinary : Walked → OrdinaryFault → Skip
 of_ordinary walked (ordinary.Link fault) = of_link walked fault
 of_ordinary walked ordinary.NoMemory = skips.NoMemory
+
+-- the same by names
+abbrev pub FindsOwn : WalkLinking → Result (List (Option Found)) Skip → Type 0
+FindsOwn l (Ok found) = FindAll (objects_of l) found × (rows_have_in l (first_rows l) ≡ Ok tt)
+FindsOwn l (Err skip) = Answers is_memory (Err skip) (because (of_link l.scope.now) (rows_have_in l (first_rows l)))
 
 -- ---- a program by its walk
 

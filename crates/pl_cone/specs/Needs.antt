@@ -162,6 +162,12 @@ pub record IsPast (w : walking.NumberWalk) (walks k : ℕ) : Type 0 where
 pub record MayBeginNext (n : Needs) (walks : ℕ) (w : walking.NumberWalk) : Type 0 where
   pub seen : (k : ℕ) → k < length (all_names n) → IsPast w walks k
 
+-- the walk of a row has begun: the row is its first number
+pub record HasBegun (n : Needs) (row : ℕ) (w : walking.NumberWalk) : Type 0 where
+  pub walking : IsNumberWalk n w
+  pub walk : w.walk ≡ row + 1
+  pub numbers : w.numbers.items ≡ row ∷ []
+
 -- the same walk with more numbers
 pub record IsMore (before after : walking.NumberWalk) : Type 0 where
   pub walk : after.walk ≡ before.walk

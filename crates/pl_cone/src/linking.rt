@@ -1,6 +1,6 @@
 // Which names may be prelinked, and what their relocations find.
 ghost use Rattle.std.specs.Prelude.{◌≡◌, ◌<◌, ◌+◌, IfOk, OnOk, length, true, false};
-ghost use Rattle.pl_base.specs.Answers.{Answers};
+ghost use Rattle.pl_base.specs.Answers.{Answers, because};
 ghost use Rattle.pl_cone.specs.Candidates as candidates;
 ghost use Rattle.pl_cone.specs.Linking as spec;
 ghost use Rattle.pl_cone.specs.Links as by_walk;
@@ -128,13 +128,68 @@ fn library_link(alloc: Global, own: &WalkScope<'_>, index: &Index) -> Result<Lin
 }
 
 /// A refusal of a program's relocations, by names.
-fn refused(alloc: Global, own: &WalkScope<'_>, fault: OrdinaryFault) -> Result<Skip, AllocError>
-    ensures { IfOk result (λ skip. skip ≡ by_walk.of_ordinary own.now.scope fault) }
+fn refused(alloc: Global, scope: &Scope<'_>, fault: OrdinaryFault) -> Result<Skip, AllocError>
+    ensures { IfOk result (λ skip. skip ≡ by_walk.of_ordinary scope.now fault) }
 {
     match fault {
-        OrdinaryFault::Link(fault) => of_link(alloc, own.scope.members(), fault),
+        OrdinaryFault::Link(fault) => of_link(alloc, scope.members(), fault),
         OrdinaryFault::NoMemory => Ok(Skip::NoMemory),
     }
+}
+
+/// What each relocation of the first member finds, in their order; or the first without a value.
+fn own_found(
+    alloc: Global,
+    linking: &WalkLinking<'_, '_>,
+) -> Result<Rows<Option<Found>>, Skip>
+    requires linking { by_walk.IsLinking linking.now }
+    requires some { 0 < length linking.now.scope.now }
+    ensures { by_walk.FindsOwn linking.now result }
+{
+    match first_found(alloc, linking) {
+        Ok(found) => Ok(found),
+        Err(fault) => Err(refused(alloc, linking.scope, fault)?),
+    }
+}
+
+/// Refuses the first relocation of the other members without a value.
+fn others_linked(
+    alloc: Global,
+    linking: &WalkLinking<'_, '_>,
+    walk: &[u32],
+    links: &[Link],
+) -> Result<(), Skip>
+    requires linking { by_walk.IsLinking linking.now }
+    requires walk { by_walk.HaveLinks linking.now.scope.now walk.now links.now }
+    requires links { by_walk.TellOfOthers linking.now walk.now links.now }
+    ensures { Answers is_memory result (because (candidates.of_link linking.now.scope.now)
+        (by_walk.others_have linking.now)) }
+{
+    match others_have_values(linking, walk, links) {
+        Ok(()) => Ok(()),
+        Err(fault) => Err(of_link(alloc, linking.scope.members(), fault)?),
+    }
+}
+
+/// What the relocations of a program, the first member of a walk that is linked at 0, find there; or the first of the walk that has no value.
+fn linked_by(
+    alloc: Global,
+    linking: &WalkLinking<'_, '_>,
+    walk: &[u32],
+    links: &[Link],
+) -> Result<Link, Skip>
+    requires linking { by_walk.IsLinkingAtZero linking.now }
+    requires some { 0 < length linking.now.scope.now }
+    requires walk { by_walk.HaveLinks linking.now.scope.now walk.now links.now }
+    requires links { by_walk.TellLinks linking.now.scope.now walk.now links.now }
+    ensures { by_walk.LinksProgram linking.now.scope.now result }
+{
+    let found = own_found(alloc, linking)?;
+    others_linked(alloc, linking, walk, links)?;
+    Ok(Link {
+        found,
+        remaining: Rows::new(alloc),
+    })
 }
 
 /// What the relocations of a program, the first member of its walk, find there; or the first of the walk that has no value, or that thread-local storage is too large.
@@ -159,17 +214,7 @@ fn program_link(
         modules: modules.as_slice(),
         among: own.among(index),
     };
-    let found = match first_found(alloc, &linking) {
-        Ok(found) => found,
-        Err(fault) => return Err(refused(alloc, own, fault)?),
-    };
-    match others_have_values(&linking, walk, links) {
-        Ok(()) => Ok(Link {
-            found,
-            remaining: Rows::new(alloc),
-        }),
-        Err(fault) => Err(of_link(alloc, own.scope.members(), fault)?),
-    }
+    linked_by(alloc, &linking, walk, links)
 }
 
 /// What the own relocations of a row's library find; or the first cause why its name may not be prelinked.

@@ -1,5 +1,5 @@
 // The walks of all names, by the numbers of their rows.
-ghost use Rattle.std.specs.Prelude.{◌≡◌, ◌<◌, ◌≤◌, ◌+◌, ◌∷◌, ◌==◌, [], Some, Ok, Err, IfOk, IfErr, OnOk, length, slice_get};
+ghost use Rattle.std.specs.Prelude.{◌≡◌, ◌<◌, ◌≤◌, ◌+◌, ◌==◌, Some, Ok, Err, IfOk, IfErr, OnOk, length, slice_get};
 ghost use Rattle.std.specs.List.{list_any};
 ghost use Rattle.pl_base.specs.Answers.{Answers, AnswersAs};
 ghost use Rattle.pl_base.specs.Each.{run};
@@ -46,9 +46,7 @@ fn begin(walking: &mut NumberWalk, needs: &Needs<'_>, row: u32) -> Result<(), Al
     requires walking { spec.MayBeginNext needs.now row walking.old }
     requires row { row < length (spec.all_names needs.now) }
     ensures ready { spec.MayBeginNext needs.now (row + 1) walking.new }
-    ensures walking { OnOk result (spec.IsNumberWalk needs.now walking.new) }
-    ensures walk { OnOk result (walking.new.walk ≡ row + 1) }
-    ensures begun { OnOk result (walking.new.numbers.items ≡ row ∷ []) }
+    ensures begun { OnOk result (spec.HasBegun needs.now row walking.new) }
 {
     walking.walk = row + 1;
     walking.numbers.clear();

@@ -22,8 +22,12 @@ returns-clause-ready c =
     let after : NumberWalk = record { numbers = c.push.new.self; last = with_item c.args.walking.now.last c.args.row (c.args.row + 1); walk = c.args.row + 1 } in
     ready_after c.args.needs.now (c.args.row + 1) after (begun_walking c.args.needs.now c.args.row c.args.walking.now after c.requires.walking c.requires.row numbers refl refl) refl
 
-pub returns-clause-walking : goal.returns-clause-walking
-returns-clause-walking c =
+pub returns-clause-begun : goal.returns-clause-begun
+returns-clause-begun c =
     let numbers = c.in_ok-push.ensures.items ∙ ap (λ (xs : List ℕ). xs ++ c.args.row ∷ []) c.clear.ensures.items in
     let after : NumberWalk = record { numbers = c.push.new.self; last = with_item c.args.walking.now.last c.args.row (c.args.row + 1); walk = c.args.row + 1 } in
-    begun_walking c.args.needs.now c.args.row c.args.walking.now after c.requires.walking c.requires.row numbers refl refl
+    record {
+      walking = begun_walking c.args.needs.now c.args.row c.args.walking.now after c.requires.walking c.requires.row numbers refl refl;
+      walk = refl;
+      numbers = numbers;
+    }

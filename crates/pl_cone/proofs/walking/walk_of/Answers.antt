@@ -13,7 +13,7 @@ pub begin-requires-clause-row : goal.begin-requires-clause-row
 begin-requires-clause-row c = let few = files_few c.args.needs.now c.requires.folder.needs in omega (arith, few, c.requires.row)
 
 pub loop-index-init : goal.loop-index-init
-loop-index-init c = under_begins c.args.needs.now c.args.row c.begin.new.walking c.in_ok-begin.ensures.walking c.in_ok-begin.ensures.walk c.in_ok-begin.ensures.begun
+loop-index-init c = under_begins c.args.needs.now c.args.row c.begin.new.walking c.in_ok-begin.ensures.begun.walking c.in_ok-begin.ensures.begun.walk c.in_ok-begin.ensures.begun.numbers
 
 pub returns-in_err-enter-clause-err : goal.returns-in_err-enter-clause-err
 returns-in_err-enter-clause-err c =
