@@ -42,3 +42,6 @@ pub mod PlacedRowLaws
 pub mod FinishingLaws
 pub mod CountLaws
 pub mod FlagLaws
+pub mod LaterMemberLaws
+pub mod MemberFormLaws
+pub mod LibraryAtLaws

@@ -4,11 +4,13 @@ use Rattle.std.specs.Prelude.{slice_get}
 use Rattle.std.specs.List.{All}
 use Rattle.std.proofs.lemmas.List.Elements.{All-nil}
 use Rattle.std.proofs.lemmas.Option.{slice_get_cases}
-use Rattle.pl_cone.specs.Table.{AreRows, IsWalkOfFile, refusal_of, walk_for, walked_by}
+use Rattle.pl_cone.specs.Table.{AreRows, IsWalkOfFile, refusal_of, rows_in, walk_for}
+use Rattle.pl_cone.specs.WalkRows.{HasOwnWalk}
 use Rattle.pl_cone.specs.declared.skip.Skip.{Skip}
 use Rattle.pl_cone.specs.declared.taken.Taken.{Taken}
 use Rattle.pl_cone.proofs.WalkLaws.{refusal_at}
-use Rattle.pl_rewrite.specs.Rows.{AreInColumn, IsNumbered, IsWalkRow, rows_in, walk_of}
+use Rattle.pl_cone.proofs.WalkRowLaws.{own_walk_read}
+use Rattle.pl_rewrite.specs.Rows.{AreInColumn, IsNumbered, IsWalkRow, walk_of}
 use Rattle.pl_rewrite.specs.declared.numbers.Numbered.{Numbered}
 use Rattle.pl_scope.specs.Walk.{Walked}
 
@@ -19,14 +21,13 @@ by_walk : (ts : List Taken) (t : Taken) (rows : List ℕ) (r : Result Walked Ski
 by_walk ts t rows (Ok ws) is = is.0
 by_walk ts t rows (Err e) is = subst (AreRows ts) (sym is.0) (none_rows ts)
 
--- what is told of the walk of a row
-walk_at : (n : Numbered) (row : ℕ) (t : Taken) (rows : List ℕ) → IsNumbered n → slice_get n.files.now row ≡ Some t → slice_get n.walks.now row ≡ Some rows → IsWalkOfFile n.files.now t rows (refusal_of (walk_for n.files.now t.name))
-walk_at n row t rows numbered file walk = numbered.walks.each row t rows (refusal_of (walk_for n.files.now t.name)) file walk (refusal_at n.files.now row t file)
-
+-- the rows of a walk, whether it is refused or not
 pub walk_rows : (n : Numbered) (row : ℕ) → IsNumbered n → AreRows n.files.now (walk_of n row)
 walk_rows n row numbered = elim (slice_get_cases n.walks.now row).1 [
   | inl p ↦ elim (slice_get_cases n.files.now row).1 [
-    | inl q ↦ subst (λ (rs : Option (List ℕ)). AreRows n.files.now (rows_in rs)) (sym p.2) (by_walk n.files.now q.0 p.0 (walk_for n.files.now q.0.name) (walk_at n row q.0 p.0 numbered q.2 p.2))
+    | inl q ↦
+        subst (λ (rs : Option (List ℕ)). AreRows n.files.now (rows_in rs)) (sym p.2)
+        (by_walk n.files.now q.0 p.0 (walk_for n.files.now q.0.name) (numbered.walks.each row q.0 p.0 (refusal_of (walk_for n.files.now q.0.name)) q.2 p.2 (refusal_at n.files.now row q.0 q.2)))
     | inr none ↦ absurd (omega (arith, none.0, numbered.walks.walks, p.1))
   ]
   | inr none ↦ subst (λ (rs : Option (List ℕ)). AreRows n.files.now (rows_in rs)) (sym none.1) (none_rows n.files.now)
@@ -40,30 +41,14 @@ walk_below n row numbered = λ k d lt. subst (λ (count : ℕ). get_or (walk_of 
 
 -- ---- a row that has a walk
 
-no_rows : (ts : List Taken) (t : Taken) (row : ℕ) (rows others : List ℕ) (r : Result Walked Skip) → rows ≡ row ∷ others → walk_for ts t.name ≡ r → IsWalkOfFile ts t rows (refusal_of r) → walk_for ts t.name ≡ Ok (walked_by ts rows)
-no_rows ts t row rows others (Ok ws) some is told = told.1
-no_rows ts t row rows others (Err e) some is told = absurd (empty (sym told.0 ∙ some))
-  where
-    empty : ◌≡◌ {A = List ℕ} [] (row ∷ others) → ⊥
-    empty e = cc
+pub has_walk : (n : Numbered) (row : ℕ) → IsNumbered n → IsWalkRow n row → HasOwnWalk n.files.now n.walks.now row
+has_walk n row numbered walk = own_walk_read numbered.taken.0 n.files.now n.walks.now row row walk.others numbered.taken.1 numbered.walks walk.is
 
--- the file and the walk of a row
-pub record HasWalkOf (n : Numbered) (row : ℕ) : Type 0 where
-  pub taken : Taken
-  pub file : slice_get n.files.now row ≡ Some taken
-  pub told : walk_for n.files.now taken.name ≡ Ok (walked_by n.files.now (walk_of n row))
+pub walk_is : (n : Numbered) (row : ℕ) → (h : HasOwnWalk n.files.now n.walks.now row) → walk_of n row ≡ row ∷ h.others
+walk_is n row h = ap rows_in h.walk
 
-pub has_walk : (n : Numbered) (row : ℕ) → IsNumbered n → IsWalkRow n row → HasWalkOf n row
-has_walk n row numbered walk = elim (slice_get_cases n.walks.now row).1 [
-  | inl p ↦ elim (slice_get_cases n.files.now row).1 [
-    | inl q ↦
-        let same : walk_of n row ≡ p.0 = ap rows_in p.2 in
-        let told = no_rows n.files.now q.0 row p.0 walk.others (walk_for n.files.now q.0.name) (sym same ∙ walk.is) refl (walk_at n row q.0 p.0 numbered q.2 p.2) in
-        record { taken = q.0; file = q.2; told = told ∙ ap (λ (rs : List ℕ). Ok (walked_by n.files.now rs)) (sym same) }
-    | inr none ↦ absurd (omega (arith, none.0, numbered.walks.walks, p.1))
-  ]
-  | inr none ↦ absurd (nothing (sym (ap rows_in none.1) ∙ walk.is))
-]
-  where
-    nothing : ◌≡◌ {A = List ℕ} [] (row ∷ walk.others) → ⊥
-    nothing e = cc
+-- its row is a file's
+pub row_within : (n : Numbered) (row : ℕ) → IsWalkRow n row → row < length n.files.now
+row_within n row walk =
+    let rows : AreRows n.files.now (row ∷ walk.others) = subst (AreRows n.files.now) walk.is walk.rows in
+    rows.within 0 row (omega arith)

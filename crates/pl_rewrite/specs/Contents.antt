@@ -27,7 +27,7 @@ use Rattle.pl_value.specs.declared.meaning.Meaning.{Meaning}
 use Rattle.pl_rewrite.specs.Rows.{IsNumbered, IsWalkRow, firms_of, file_meant, is_library_row, places_of, walk_of}
 use Rattle.pl_rewrite.specs.Digests.{AreDigests}
 use Rattle.pl_rewrite.specs.Sources.{in_version}
-use Rattle.pl_rewrite.specs.RowWords.{AreHeldAt, AreRowWords, IsLinkAt}
+use Rattle.pl_rewrite.specs.RowWords.{AreHeldAt, AreRowWords, FindsRow, IsLinkAt}
 
 -- what the libraries of each program's walk hold is told
 pub record IsWork (w : Work) : Type 0 where
@@ -42,10 +42,11 @@ pub record IsHeldRow (n : Numbered) (row : ℕ) (s : RowWords) : Type 0 where
   pub is : IsLinkAt n row link
   pub held : AreHeldAt n row link.remaining s.held
 
--- a program, the libraries of whose walk are told
+-- a program, what whose relocations find is told, and the libraries of whose walk are told
 pub record IsProgramRow (w : Work) (row : ℕ) : Type 0 where
   pub walk : IsWalkRow w.numbered.now row
   pub program : is_library_row w.numbered.now row ≡ false
+  pub found : (s : RowWords) → slice_get w.row_words.now row ≡ Some s → FindsRow w.numbered.now row s.found
   pub held : (m r : ℕ) (s : RowWords) → 0 < m → slice_get (walk_of w.numbered.now row) m ≡ Some r → slice_get w.row_words.now r ≡ Some s → IsHeldRow w.numbered.now r s
 
 -- the linking of a row's walk at its places

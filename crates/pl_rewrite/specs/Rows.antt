@@ -4,7 +4,7 @@ use Rattle.std.specs.List.{All, filter_map}
 use Rattle.std.specs.Option.{option_map}
 use Rattle.pl_base.specs.Names.{is_valid_name}
 use Rattle.pl_base.specs.Windows.{Window}
-use Rattle.pl_cone.specs.Table.{AreRows, AreWalks, IsWalkScope, folder_objects, refusals_in}
+use Rattle.pl_cone.specs.Table.{AreRows, AreWalks, IsWalkScope, folder_objects, refusals_in, rows_in}
 use Rattle.pl_cone.specs.Taken.{AreTaken, object_by}
 use Rattle.pl_cone.specs.declared.taken.Taken.{Taken}
 use Rattle.pl_conflict.specs.Format.{number_of}
@@ -35,10 +35,6 @@ unless_none (Some n) = n
 
 abbrev pub number_at : List ℕ → ℕ → ℕ
 number_at column row = unless_none (slice_get column row)
-
-abbrev pub rows_in : Option (List ℕ) → List ℕ
-rows_in None = []
-rows_in (Some rows) = rows
 
 abbrev pub walk_of : Numbered → ℕ → List ℕ
 walk_of n row = rows_in (slice_get n.walks.now row)

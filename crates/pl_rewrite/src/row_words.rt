@@ -198,9 +198,11 @@ pub fn words_of_rows(
     ensures { IfOk result (λ v. by_rows.AreRowWords numbered.now needed.now v.items) }
 {
     let mut all = Vec::new(alloc);
-    for link in links.into_vec() {
+    let items = links.into_vec();
+    for link in items {
         let row = all.len();
-        all.push(row_words_of(alloc, numbered, row, link, needed)?)?;
+        let one = row_words_of(alloc, numbered, row, link, needed)?;
+        all.push(one)?;
     }
     Ok(all)
 }
