@@ -45,3 +45,4 @@ pub mod FlagLaws
 pub mod LaterMemberLaws
 pub mod MemberFormLaws
 pub mod LibraryAtLaws
+pub mod ProgramContentLaws

@@ -20,12 +20,11 @@ use Rattle.pl_rewrite.specs.declared.row_words.RowWords.{RowWords}
 use Rattle.pl_tls.specs.declared.module.Module.{Module}
 use Rattle.pl_tls.specs.declared.fault.TlsFault.{TlsFault}
 use Rattle.pl_value.specs.Meanings.{meanings}
-use Rattle.pl_value.specs.declared.fault.LinkFault.{LinkFault}
 use Rattle.pl_value.specs.declared.fault.OrdinaryFault.{OrdinaryFault}
-use Rattle.pl_value.specs.declared.fault.OrdinaryFault.TheVariants as faults
 use Rattle.pl_value.specs.declared.meaning.Meaning.{Meaning}
 use Rattle.pl_rewrite.specs.Rows.{IsNumbered, IsWalkRow, firms_of, file_meant, is_library_row, places_of, walk_of}
 use Rattle.pl_rewrite.specs.Digests.{AreDigests}
+use Rattle.pl_rewrite.specs.RemainingRows.{RefusesAll}
 use Rattle.pl_rewrite.specs.Sources.{in_version}
 use Rattle.pl_rewrite.specs.RowWords.{AreHeldAt, AreRowWords, FindsRow, IsLinkAt}
 
@@ -67,11 +66,17 @@ count_in (Some m) = length m.conflicts
 abbrev pub conflicts_in : List ℕ → ℕ
 conflicts_in file = count_in (marked_in file)
 
--- the conflict rows and the fills are those of the program's file, where its relocations have values; no module is lacking for want of memory
-pub record IsContents (w : Work) (row : ℕ) (l : WalkLinking) (result : Result Contents OrdinaryFault) : Type 0 where
-  pub rows : (c : Contents) → result ≡ Ok c → conflicts_with (firms_of w.numbered.now row) l.modules.now ≡ Some c.rows.items
-  pub fills : (c : Contents) (gs : List Meaning) → result ≡ Ok c → meanings (objects_of (firms_of w.numbered.now row)) (slots_of (firms_of w.numbered.now row)) l.modules.now ≡ Ok gs → c.fills.items ≡ fills_of (firms_of w.numbered.now row) (memory_of (firms_of w.numbered.now row) gs)
-  pub refused : (fault : LinkFault) → result ≡ Err (faults.Link fault) → conflicts_with (firms_of w.numbered.now row) l.modules.now ≡ None
+-- the conflict rows and the fills are those of the program's file, and its relocations have values
+pub record HasContents (w : Work) (row : ℕ) (l : WalkLinking) (c : Contents) : Type 0 where
+  pub given : List Meaning
+  pub values : meanings (objects_of (firms_of w.numbered.now row)) (slots_of (firms_of w.numbered.now row)) l.modules.now ≡ Ok given
+  pub rows : conflicts_with (firms_of w.numbered.now row) l.modules.now ≡ Some c.rows.items
+  pub fills : c.fills.items ≡ fills_of (firms_of w.numbered.now row) (memory_of (firms_of w.numbered.now row) given)
+
+-- or the first relocation that has no value
+abbrev pub IsContents : Work → ℕ → WalkLinking → Result Contents OrdinaryFault → Type 0
+IsContents w row l (Ok c) = HasContents w row l c
+IsContents w row l (Err fault) = RefusesAll l fault
 
 -- the form of the program of a row with contents; none where it is longer than a folder stores
 abbrev pub IsProgramForm : Work → ℕ → Version → Contents → Option NewProgram → Type 0

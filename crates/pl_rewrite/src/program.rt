@@ -57,21 +57,18 @@ fn contents_of(
     let walk = work.numbered.walk(row);
     let found = work.row_words[row].found.as_slice();
     let meanings = own_meanings(alloc, linking, found)?;
-    let RemainingRows { rows, near } = remaining_rows(
-        alloc,
-        linking,
-        walk,
-        work.row_words,
-        meanings.as_slice(),
-    )?;
-    let near = patches_of(alloc, &near)?;
+    let own = meanings.as_slice();
+    let made = remaining_rows(alloc, linking, walk, work.row_words, own)?;
+    let RemainingRows { rows, near } = made;
+    let patches = patches_of(alloc, &near)?;
     let filling = Filling {
         numbered: work.numbered,
         walk,
-        near: &near,
+        near: &patches,
     };
-    let relocs = linking.scope.object(0).relocations.as_slice();
-    let fills = fills_of(alloc, &filling, relocs, meanings.as_slice())?;
+    let object = linking.scope.object(0);
+    let relocs = object.relocations.as_slice();
+    let fills = fills_of(alloc, &filling, relocs, own)?;
     Ok(Contents { fills, rows })
 }
 
