@@ -46,3 +46,6 @@ pub mod LaterMemberLaws
 pub mod MemberFormLaws
 pub mod LibraryAtLaws
 pub mod ProgramContentLaws
+pub mod ProgramFormLaws
+pub mod ProgramFileLaws
+pub mod FileContentLaws

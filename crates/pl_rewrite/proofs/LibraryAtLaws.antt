@@ -1,6 +1,7 @@
 -- The libraries of a program's walk, with what is told of them.
 use Rattle.std.proofs.Common.{◌≡◌, ℕ, zero, suc, ◌+◌, ◌<◌, Bool, true, false, List, [], ◌∷◌, length, map, get_or, Option, Some, None, Result, Ok, Err, refl, sym, ap, subst, ◌∙◌, arith, inl, inr}
 use Rattle.std.specs.Prelude.{slice_get}
+use Rattle.std.specs.List.{All}
 use Rattle.std.specs.Option.{option_map}
 use Rattle.std.proofs.lemmas.Option.{get_or_from_slice_get, none-some, same_Some, slice_get_within, slice_get-map}
 use Rattle.pl_base.proofs.AnswerLaws.{ok_same}
@@ -46,7 +47,7 @@ use Rattle.pl_rewrite.specs.RemainingRows.{AreAllTold, TellsHeldOf, told_at, tol
 use Rattle.pl_rewrite.specs.Forms.{IsLibraryWalk}
 use Rattle.pl_rewrite.specs.Rows.{IsNumbered, IsWalkRow, firms_of, number_at, of_firm, places_of, walk_of}
 use Rattle.pl_rewrite.specs.RowWords.{IsLinkAt, own_words_at}
-use Rattle.pl_rewrite.specs.Sources.{AreSources}
+use Rattle.pl_rewrite.specs.Sources.{AreSources, AreVersionsOf, versioned}
 use Rattle.pl_rewrite.specs.declared.held.HeldWord.{HeldWord}
 use Rattle.pl_rewrite.specs.declared.numbers.Numbered.{Numbered}
 use Rattle.pl_rewrite.specs.declared.program.Work.{Work}
@@ -54,7 +55,7 @@ use Rattle.pl_rewrite.specs.declared.row_words.RowWords.{RowWords}
 use Rattle.pl_rewrite.proofs.ContentRowLaws.{Holds}
 use Rattle.pl_rewrite.proofs.FirmRowLaws.{firm_objects, firm_slots, firms_named, named_of}
 use Rattle.pl_rewrite.proofs.LaterMemberLaws.{IsLater, first_linked, later, later_kind, later_row, same_name}
-use Rattle.pl_rewrite.proofs.MemberFormLaws.{later_walk, own_form}
+use Rattle.pl_rewrite.proofs.MemberFormLaws.{later_walk}
 use Rattle.pl_rewrite.proofs.NewLibraryLaws.{IsFirst, first_is}
 use Rattle.pl_rewrite.proofs.NumberedLaws.{has_walk, walk_is}
 use Rattle.pl_rewrite.proofs.OwnWalkLaws.{own_walk_is}
@@ -63,6 +64,7 @@ use Rattle.pl_rewrite.proofs.QuietLaws.{IsOwnForm}
 use Rattle.pl_rewrite.proofs.RowWordLaws.{link_of}
 use Rattle.pl_rewrite.proofs.SceneLaws.{IsMemberAt, member_at}
 use Rattle.pl_rewrite.proofs.ToldLaws.{IsLibraryAt, are_told, library_tells}
+use Rattle.pl_rewrite.proofs.VersionLaws.{HasVersion, firms_in_two, form_versions, member_versions, own_versions}
 use Rattle.pl_rewrite.proofs.WholeLaws.{whole_program}
 
 -- ---- what is loaded of a member
@@ -103,7 +105,7 @@ object_linked n row numbered h linked o is =
     let same : h.object ≡ o = ok_same h.object o (sym (known.object ∙ object_known h.taken.name h.taken.entry h.object h.there) ∙ is) in
     subst (λ (p : Object). IsLinked p.kind) same linked
 
-told_walk : (n : Numbered) (row : ℕ) → (h : HasOwnWalk n.files.now n.walks.now row) → walk_for n.files.now h.taken.name ≡ Ok (walked_by n.files.now (walk_of n row))
+pub told_walk : (n : Numbered) (row : ℕ) → (h : HasOwnWalk n.files.now n.walks.now row) → walk_for n.files.now h.taken.name ≡ Ok (walked_by n.files.now (walk_of n row))
 told_walk n row h = h.told ∙ ap (λ (rs : List ℕ). Ok (walked_by n.files.now rs)) (sym (walk_is n row h))
 
 -- the own walk of a later member is that of its row
@@ -119,16 +121,16 @@ own_later n row m o numbered walk x inner =
 
 -- ---- a later member, with what is told of it
 
-module _ (w : Work) (row : ℕ) (l : WalkLinking) (work : IsWork w) (program : IsProgramRow w row) (linking : IsLinkingOfRow w row l) (set : are_set (firms_of w.numbered.now row) ≡ true) where
+module _ (w : Work) (row : ℕ) (l : WalkLinking) (work : IsWork w) (program : IsProgramRow w row) (linking : IsLinkingOfRow w row l) (set : are_set (firms_of w.numbered.now row) ≡ true) (ss : List Firm) (are : AreVersionsOf (firms_of w.numbered.now row) ss) where
   abbrev n : Numbered
   n = w.numbered.now
 
   abbrev rs : List Firm
   rs = firms_of w.numbered.now row
 
-  -- the files with which the members are compared
+  -- the files with which the members are compared, each in its version
   abbrev files : List LoadedObject
-  files = loaded_objects l.places.now (parts_of rs) (links.objects_of l)
+  files = loaded_objects l.places.now (parts_of ss) (links.objects_of l)
 
   first : IsFirst n row
   first = first_is n row program.walk
@@ -155,20 +157,27 @@ module _ (w : Work) (row : ℕ) (l : WalkLinking) (work : IsWork w) (program : I
       let object : get_or (objects_of rs) m x.firm.object ≡ x.firm.object = get_or_from_slice_get (objects_of rs) m x.firm.object x.firm.object member.object in
       subst (λ (b : ℕ). IsPlaced b x.firm.object) member.place (subst (λ (p : Object). IsPlaced (base_of (slots_of rs) m) p) object placed)
 
-  -- and its own walk gives its form
+  -- its own walk, in those versions
+  own_there : (m : ℕ) (o : Object) → (x : IsLater n row m o) → IsWalkRow n x.number → AreVersionsOf (firms_of n x.number) (own_walk ss x.firm.member.name)
+  own_there m o x inner = subst (λ (ms : List Firm). AreVersionsOf ms (own_walk ss x.firm.member.name)) (own_later n row m o work.numbered program.walk x inner) (own_versions rs ss x.firm.member.name are)
+
+  -- and it gives its form
   form_of : (m : ℕ) (o : Object) → (x : IsLater n row m o) → (inner : IsWalkRow n x.number)
-      → IsOwnForm (objects_of (firms_of n x.number)) (slots_of (firms_of n x.number)) x.firm.member.original (library_file (firms_of n x.number)) x.firm.object x.firm.member.slot
+      → IsOwnForm (objects_of (firms_of n x.number)) (slots_of (firms_of n x.number)) x.firm.member.original (library_file (own_walk ss x.firm.member.name)) x.firm.object x.firm.member.slot
   form_of m o x inner =
       let f : IsFirst n x.number = first_is n x.number inner in
       let same : f.firm ≡ x.firm = same_Some f.firm x.firm (sym f.at ∙ x.is) in
+      let file : List ℕ = library_file (own_walk ss x.firm.member.name) in
       let sources : AreSources (f.firm ∷ f.others) = subst AreSources f.is inner.sources in
       let walk : IsLibraryWalk (f.firm ∷ f.others) = subst IsLibraryWalk f.is (later_walk n row m o work.numbered program.walk first other set x inner) in
       let placed : IsPlaced f.firm.member.slot f.firm.object = subst (λ (y : Firm). IsPlaced y.member.slot y.object) (sym same) (placed_at m o x) in
+      let versions : AreVersionsOf (f.firm ∷ f.others) (own_walk ss x.firm.member.name) = subst (λ (ms : List Firm). AreVersionsOf ms (own_walk ss x.firm.member.name)) f.is (own_there m o x inner) in
+      let has : All HasVersion (f.firm ∷ f.others) = subst (All HasVersion) f.is (firms_in_two n x.number inner) in
       let ms : List Firm = f.firm ∷ f.others in
-      let own : IsOwnForm (objects_of ms) (slots_of ms) f.firm.member.original (library_file ms) f.firm.object f.firm.member.slot = own_form f.firm f.others sources walk placed in
-      let moved : IsOwnForm (objects_of ms) (slots_of ms) x.firm.member.original (library_file ms) x.firm.object x.firm.member.slot =
-      subst (λ (y : Firm). IsOwnForm (objects_of ms) (slots_of ms) y.member.original (library_file ms) y.object y.member.slot) same own in
-      subst (λ (ys : List Firm). IsOwnForm (objects_of ys) (slots_of ys) x.firm.member.original (library_file ys) x.firm.object x.firm.member.slot) (sym f.is) moved
+      let own : IsOwnForm (objects_of ms) (slots_of ms) f.firm.member.original file f.firm.object f.firm.member.slot = form_versions f.firm f.others (own_walk ss x.firm.member.name) versions has sources walk placed in
+      let moved : IsOwnForm (objects_of ms) (slots_of ms) x.firm.member.original file x.firm.object x.firm.member.slot =
+      subst (λ (y : Firm). IsOwnForm (objects_of ms) (slots_of ms) y.member.original file y.object y.member.slot) same own in
+      subst (λ (ys : List Firm). IsOwnForm (objects_of ys) (slots_of ys) x.firm.member.original file x.firm.object x.firm.member.slot) (sym f.is) moved
 
   -- the relocations that are not among the remaining ones give one word
   remaining_of : (m : ℕ) (o : Object) → (x : IsLater n row m o) → (link : Link) → (is : IsLinkAt n x.number link) → AreRemaining n.index.now (objects_of (firms_of n x.number)) x.firm.object.relocations link.remaining
@@ -210,15 +219,16 @@ module _ (w : Work) (row : ℕ) (l : WalkLinking) (work : IsWork w) (program : I
   told_row m k s at there = ap (λ (i : ℕ). told_of (slice_get w.row_words.now i)) (get_or_from_slice_get (walk_of n row) m k 0 at) ∙ ap told_of there
 
   -- the member's file at its place
-  file_of : (m : ℕ) (o : Object) → (x : IsLater n row m o) → (inner : IsWalkRow n x.number) → slice_get files m ≡ Some (loaded_at x.firm.member.slot (library_file (firms_of n x.number)) x.firm.object)
-  file_of m o x inner =
+  file_of : (m : ℕ) (o : Object) → (x : IsLater n row m o) → slice_get files m ≡ Some (loaded_at x.firm.member.slot (library_file (own_walk ss x.firm.member.name)) x.firm.object)
+  file_of m o x =
       let member : IsMemberAt rs m x.firm = member_at rs m x.firm x.at in
+      let there = member_versions rs ss m x.firm are x.at in
+      let s : Firm = versioned there.0 x.firm in
       let at : slice_get (links.objects_of l) m ≡ Some x.firm.object = ap (λ (os : List Object). slice_get os m) holds.objects ∙ member.object in
       let base : base_of l.places.now m ≡ x.firm.member.slot = ap (λ (ps : List ℕ). base_of ps m) holds.places ∙ member.place in
-      let file : ordinary.part_of (parts_of rs) m ≡ library_file (firms_of n x.number) =
-      part_at rs m x.firm x.at ∙ (part_library rs x.firm (later_kind n row m o x) ∙ ap library_file (own_later n row m o work.numbered program.walk x inner)) in
-      loaded_member l.places.now (parts_of rs) m (links.objects_of l) x.firm.object at
-      ∙ (ap (λ (b : ℕ). Some (loaded_at b (ordinary.part_of (parts_of rs) m) x.firm.object)) base ∙ ap (λ (bs : List ℕ). Some (loaded_at x.firm.member.slot bs x.firm.object)) file)
+      let file : ordinary.part_of (parts_of ss) m ≡ library_file (own_walk ss x.firm.member.name) = part_at ss m s there.1 ∙ part_library ss s (later_kind n row m o x) in
+      loaded_member l.places.now (parts_of ss) m (links.objects_of l) x.firm.object at
+      ∙ (ap (λ (b : ℕ). Some (loaded_at b (ordinary.part_of (parts_of ss) m) x.firm.object)) base ∙ ap (λ (bs : List ℕ). Some (loaded_at x.firm.member.slot bs x.firm.object)) file)
 
   by_row : (m : ℕ) (o : Object) → (x : IsLater n row m o) → (s : RowWords) → slice_get w.row_words.now x.number ≡ Some s → (held : IsHeldRow n x.number s) → IsLibraryAt n.index.now l files m x.firm.object held.link.remaining (told_at (walk_of n row) w.row_words.now m)
   by_row m o x s there held =
@@ -228,13 +238,13 @@ module _ (w : Work) (row : ℕ) (l : WalkLinking) (work : IsWork w) (program : I
         own = objects_of (firms_of n x.number);
         places = slots_of (firms_of n x.number);
         original = x.firm.member.original;
-        file = library_file (firms_of n x.number);
+        file = library_file (own_walk ss x.firm.member.name);
         slot = x.firm.member.slot;
         form = form_of m o x held.is.walk;
         of_one_word = remaining_of m o x held.link held.is;
         one_word = λ r known. word_of m o x held.is.walk r known;
         held = subst (λ (hs : List HeldWord). AreHeld x.firm.member.original x.firm.object (own_words_at n x.number) held.link.remaining hs) (sym told) (held.held x.firm x.is);
-        there = file_of m o x held.is.walk;
+        there = file_of m o x;
         base = ap (λ (ps : List ℕ). base_of ps m) holds.places ∙ member.place;
       }
 

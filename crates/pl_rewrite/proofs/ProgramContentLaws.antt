@@ -19,6 +19,7 @@ use Rattle.pl_conflict.proofs.MemberLaws.{HasOwn, IsSet, program_numbers, set_is
 use Rattle.pl_conflict.proofs.ScopeLaws.{read_all}
 use Rattle.pl_conflict.proofs.SetLaws.{HasLibrary, program_scope}
 use Rattle.pl_elf.specs.Kinds.{is_library}
+use Rattle.pl_form.specs.declared.version.Version.TheVariants.{Two}
 use Rattle.pl_lists.specs.declared.conflict_row.ConflictRow.{ConflictRow}
 use Rattle.pl_object.specs.declared.object.Object.{Object}
 use Rattle.pl_scope.specs.declared.found.Found.{Found}
@@ -35,11 +36,11 @@ use Rattle.pl_value.specs.declared.meaning.Meaning.{Meaning}
 use Rattle.pl_value.proofs.ApartLaws.{places_are_apart}
 use Rattle.pl_rewrite.specs.Contents.{HasContents, IsLinkingOfRow, IsProgramRow, IsWork}
 use Rattle.pl_rewrite.specs.Copies.{AreFillsOf, AreProgramFills, IsFilling, IsPlacedRow}
-use Rattle.pl_rewrite.specs.Fills.{conflicts_with}
+use Rattle.pl_rewrite.specs.Fills.{IsProgramSet, conflicts_with}
 use Rattle.pl_rewrite.specs.Ranges.{ranges_of}
 use Rattle.pl_rewrite.specs.RemainingRows.{AreConflictRows, AreNear, CanListRows, FindFirst, GivesFirst, RefusesAll, all_given, given_in, is_near_word, relocs_of}
 use Rattle.pl_rewrite.specs.Rows.{IsFirmAt, IsNumbered, firms_of, of_firm, walk_of}
-use Rattle.pl_rewrite.specs.Sources.{AreSources}
+use Rattle.pl_rewrite.specs.Sources.{AreSources, AreVersionsOf}
 use Rattle.pl_rewrite.specs.declared.copies.Filling.{Filling}
 use Rattle.pl_rewrite.specs.declared.numbers.Numbered.{Numbered}
 use Rattle.pl_rewrite.specs.declared.program.Contents.{Contents}
@@ -57,6 +58,7 @@ use Rattle.pl_rewrite.proofs.ProgramLaws.{are_compared, first_made, ok_of, origi
 use Rattle.pl_rewrite.proofs.RowsLaws.{first_stops}
 use Rattle.pl_rewrite.proofs.SceneLaws.{IsScene}
 use Rattle.pl_rewrite.proofs.SeenLaws.{near_seen}
+use Rattle.pl_rewrite.proofs.VersionLaws.{all_in, begins_program, firms_in_two, in_versions, objects_versions, set_versions, slots_versions, sources_versions}
 
 module _ (w : Work) (row : ℕ) (l : WalkLinking) (work : IsWork w) (program : IsProgramRow w row) (linking : IsLinkingOfRow w row l) (set : are_set (firms_of w.numbered.now row) ≡ true) where
   abbrev n : Numbered
@@ -68,8 +70,18 @@ module _ (w : Work) (row : ℕ) (l : WalkLinking) (work : IsWork w) (program : I
   abbrev modules : List Module
   modules = l.modules.now
 
+  -- the members in version 2
+  abbrev two : List Firm
+  two = all_in Two rs
+
+  are_two : AreVersionsOf rs two
+  are_two = in_versions Two rs
+
   held : Holds l rs
-  held = holds w row l work program linking set
+  held = holds w row l work program linking set two are_two
+
+  whole_set : IsProgramSet rs
+  whole_set = whole w row l work program linking set two are_two
 
   first : IsFirst n row
   first = first_is n row program.walk
@@ -104,7 +116,7 @@ module _ (w : Work) (row : ℕ) (l : WalkLinking) (work : IsWork w) (program : I
     one_each = sym members_count;
     within = λ k d lt. let below = program.walk.rows.within k d lt in omega (arith, below, work.row_words.count);
     first = own_given own gives;
-    others = others_tell w row l work program linking set;
+    others = others_tell w row l work program linking set two are_two;
   })
 
   -- ---- what is refused
@@ -118,7 +130,7 @@ module _ (w : Work) (row : ℕ) (l : WalkLinking) (work : IsWork w) (program : I
   filling_is f same walk =
       let within : All (λ k. k < length n.files.now) (walk_of n row) = program.walk.rows.within in
       let some : 0 < length (walk_of n row) = omega (arith, ap length program.walk.is) in
-      let placed : All (IsPlacedRow n) (walk_of n row) = placed_rows n row program.walk (whole w row l work program linking set) in
+      let placed : All (IsPlacedRow n) (walk_of n row) = placed_rows n row program.walk whole_set in
       record {
         numbered = subst IsNumbered (sym same) work.numbered;
         some = subst (λ (ks : List ℕ). 0 < length ks) (sym walk) some;
@@ -145,11 +157,17 @@ module _ (w : Work) (row : ℕ) (l : WalkLinking) (work : IsWork w) (program : I
       own_fills f (links.objects_of l) l.places.now modules o.relocations own (members_count ∙ ap length (sym walk)) (own_given own gives o at)
 
   -- all relocations have values where there are conflict rows
-  values_of : (rows : List ConflictRow) → conflicts (objects_of rs) (parts_of rs) (slots_of rs) modules ≡ Ok rows → (gs : List Meaning) × (meanings (objects_of rs) (slots_of rs) modules ≡ Ok gs)
+  values_of : (ss : List Firm) (rows : List ConflictRow) → conflicts (objects_of ss) (parts_of ss) (slots_of ss) modules ≡ Ok rows → (gs : List Meaning) × (meanings (objects_of ss) (slots_of ss) modules ≡ Ok gs)
   unfolding conflicts
-  values_of rows is =
-      let p = bind_ok (meanings (objects_of rs) (slots_of rs) modules) (λ gs. Ok (ascending (rows_of (loaded_objects (slots_of rs) (parts_of rs) (objects_of rs)) gs))) rows is in
+  values_of ss rows is =
+      let p = bind_ok (meanings (objects_of ss) (slots_of ss) modules) (λ gs. Ok (ascending (rows_of (loaded_objects (slots_of ss) (parts_of ss) (objects_of ss)) gs))) rows is in
       (p.0, p.1)
+
+  -- those of the members in other versions are the same
+  same_values : (ss : List Firm) (gs : List Meaning) → AreVersionsOf rs ss → meanings (objects_of ss) (slots_of ss) modules ≡ Ok gs → meanings (objects_of rs) (slots_of rs) modules ≡ Ok gs
+  same_values ss gs are is =
+      subst (λ (ps : List ℕ). meanings (objects_of rs) ps modules ≡ Ok gs) (slots_versions rs ss are)
+      (subst (λ (os : List Object). meanings os (slots_of ss) modules ≡ Ok gs) (objects_versions rs ss are) is)
 
   all_values : (gs : List Meaning) → meanings (objects_of rs) (slots_of rs) modules ≡ Ok gs → all_given l ≡ Ok gs
   all_values gs is =
@@ -171,7 +189,7 @@ module _ (w : Work) (row : ℕ) (l : WalkLinking) (work : IsWork w) (program : I
       (program_numbers first.firm s.first other).0
 
   placed : ArePlaced (slots_of rs) (originals_of rs) (objects_of rs)
-  placed = originals_placed rs program.walk.sources (whole w row l work program linking set)
+  placed = originals_placed rs program.walk.sources whole_set
 
   scene_is : (f : Filling) (gs own near : List Meaning) → f.numbered.now ≡ n → f.walk.now ≡ walk_of n row → f.near.now ≡ words near → AreNear l own near → meanings (objects_of rs) (slots_of rs) modules ≡ Ok gs → IsScene f rs gs (is_near_word (ranges_of own))
   scene_is f gs own near same walk patches nears is =
@@ -198,23 +216,42 @@ module _ (w : Work) (row : ℕ) (l : WalkLinking) (work : IsWork w) (program : I
     seen = λ i e m from size k g lt word inside last hit. near_seen own i e m from size k g lt word inside last hit;
   }
 
+  -- the members in other versions
+
+  holds_versions : (ss : List Firm) → AreVersionsOf rs ss → Holds l ss
+  holds_versions ss are = record {
+    objects = held.objects ∙ sym (objects_versions rs ss are);
+    places = held.places ∙ sym (slots_versions rs ss are);
+  }
+
+  set_in : (ss : List Firm) → AreVersionsOf rs ss → are_set ss ≡ true
+  set_in ss are = set_versions rs ss are (firms_in_two n row program.walk) ∙ set
+
+  pub whole_versions : (ss : List Firm) → AreVersionsOf rs ss → IsProgramSet ss
+  whole_versions ss are = record { first = begins_program rs ss are whole_set.first; set = set_in ss are }
+
+  rows_in : (ss : List Firm) (rows : List ConflictRow) (walk : List ℕ) → walk ≡ walk_of n row → AreConflictRows l walk w.row_words.now rows → AreVersionsOf rs ss → conflicts_with ss modules ≡ Some rows
+  rows_in ss rows walk walked listed are =
+      let there : AreConflictRows l (walk_of n row) w.row_words.now rows = subst (λ (ks : List ℕ). AreConflictRows l ks w.row_words.now rows) walked listed in
+      let compared = are_compared ss (sources_versions rs ss are program.walk.sources) (whole_versions ss are) in
+      rows_made l ss (walk_of n row) w.row_words.now rows (holds_versions ss are) compared there (all_told w row l work program linking set ss are)
+
   pub contents_are : (c : Contents) (f : Filling) (walk : List ℕ) (own near : List Meaning) (o : Object) → walk ≡ walk_of n row → f.numbered.now ≡ n → f.walk.now ≡ walk_of n row → f.near.now ≡ words near → GivesFirst l (Ok own) → AreConflictRows l walk w.row_words.now c.rows.items
       → AreNear l own near → slice_get (links.objects_of l) 0 ≡ Some o → AreProgramFills f o.relocations own c.fills.items → HasContents w row l c
   contents_are c f walk own near o walked same is patches gives listed nears at filled =
-      let rows : conflicts_with rs modules ≡ Some c.rows.items =
-      rows_made l rs (walk_of n row) w.row_words.now c.rows.items held (are_compared rs program.walk.sources (whole w row l work program linking set))
-      (subst (λ (ks : List ℕ). AreConflictRows l ks w.row_words.now c.rows.items) walked listed) (all_told w row l work program linking set) in
-      let made : conflicts (objects_of rs) (parts_of rs) (slots_of rs) modules ≡ Ok c.rows.items = ok_of (conflicts (objects_of rs) (parts_of rs) (slots_of rs) modules) c.rows.items (sym rows) in
-      let gs = values_of c.rows.items made in
+      let rows : conflicts_with two modules ≡ Some c.rows.items = rows_in two c.rows.items walk walked listed are_two in
+      let made : conflicts (objects_of two) (parts_of two) (slots_of two) modules ≡ Ok c.rows.items = ok_of (conflicts (objects_of two) (parts_of two) (slots_of two) modules) c.rows.items (sym rows) in
+      let gs = values_of two c.rows.items made in
+      let values : meanings (objects_of rs) (slots_of rs) modules ≡ Ok gs.0 = same_values two gs.0 are_two gs.1 in
       let fills_made : AreProgramFills f first.firm.object.relocations own c.fills.items = subst (λ (p : Object). AreProgramFills f p.relocations own c.fills.items) (first_object o at) filled in
-      let whole_fills = all_filled f rs gs.0 own modules (is_near_word (ranges_of own)) first.firm first.others c.fills.items (program_scene f gs.0 own near same is patches nears gives gs.1) fills_made in
+      let whole_fills = all_filled f rs gs.0 own modules (is_near_word (ranges_of own)) first.firm first.others c.fills.items (program_scene f gs.0 own near same is patches nears gives values) fills_made in
       record {
         given = gs.0;
-        values = gs.1;
-        rows = rows;
+        values = values;
+        rows = λ ss are. rows_in ss c.rows.items walk walked listed are;
         fills = first_made rs first.firm first.others gs.0 c.fills.items first.is whole_fills;
       }
 
--- a relocation without a value leaves no rows
-pub contents_refused : (w : Work) (row : ℕ) (l : WalkLinking) (work : IsWork w) (program : IsProgramRow w row) (linking : IsLinkingOfRow w row l) (set : are_set (firms_of w.numbered.now row) ≡ true) (fault : LinkFault) → RefusesAll l (Link fault) → conflicts_with (firms_of w.numbered.now row) l.modules.now ≡ None
-contents_refused w row l work program linking set fault refuses = rows_refused l (firms_of w.numbered.now row) fault (holds w row l work program linking set) refuses
+  -- a relocation without a value leaves no rows
+  pub contents_refused : (fault : LinkFault) (ss : List Firm) → AreVersionsOf rs ss → RefusesAll l (Link fault) → conflicts_with ss modules ≡ None
+  contents_refused fault ss are refuses = rows_refused l ss fault (holds_versions ss are) refuses

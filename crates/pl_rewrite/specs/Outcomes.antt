@@ -21,7 +21,7 @@ use Rattle.pl_rewrite.specs.Flags.{flagged}
 use Rattle.pl_rewrite.specs.Libraries.{storable_library}
 use Rattle.pl_rewrite.specs.Libraries as libraries
 use Rattle.pl_rewrite.specs.Reports as reports
-use Rattle.pl_rewrite.specs.Rows.{IsWalkRow, file_meant, is_library_row, walk_of}
+use Rattle.pl_rewrite.specs.Rows.{IsFileMeant, IsWalkRow, is_library_row, walk_of}
 use Rattle.pl_rewrite.specs.RowWords.{is_set, own_words_at}
 use Rattle.pl_rewrite.specs.Contents.{IsNewProgram, IsProgramRow}
 use Rattle.pl_rewrite.specs.declared.finishing.MadeFiles.{MadeFiles}
@@ -178,7 +178,7 @@ IsTooLarge n row cause = (t : Taken) → slice_get n.files.now row ≡ Some t �
 -- the outcome of a file that is made anew: the one that is meant, or the original where there is none
 abbrev pub IsMadeAt : Numbered → ℕ → RowOutcome → Type 0
 IsMadeAt n row (outcomes.Program p) = (is_library_row n row ≡ false) × IsNewProgram n row Two (Some p)
-IsMadeAt n row (outcomes.Original cause) = IsTooLarge n row cause × (file_meant n row Two ≡ None)
+IsMadeAt n row (outcomes.Original cause) = IsTooLarge n row cause × IsFileMeant n row Two None
 IsMadeAt n row (outcomes.Unchanged state) = ⊥
 IsMadeAt n row (outcomes.Library parts) = (is_library_row n row ≡ true) × libraries.IsNewIfAny n row (Some parts)
 

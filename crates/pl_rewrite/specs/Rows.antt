@@ -9,14 +9,14 @@ use Rattle.pl_cone.specs.Taken.{AreTaken, object_by}
 use Rattle.pl_cone.specs.declared.taken.Taken.{Taken}
 use Rattle.pl_conflict.specs.Format.{number_of}
 use Rattle.pl_conflict.specs.Prelinked as firm
-use Rattle.pl_conflict.specs.Prelinked.{Firm, prelinked}
+use Rattle.pl_conflict.specs.Prelinked.{Firm}
 use Rattle.pl_elf.specs.Kinds.{is_library}
 use Rattle.pl_elf.specs.declared.range.Range.{Range}
 use Rattle.pl_form.specs.Files.{original_in}
 use Rattle.pl_form.specs.declared.version.Version.{Version}
 use Rattle.pl_form.specs.declared.version.Version.TheVariants.{Two}
 use Rattle.pl_object.specs.declared.object.Object.{Object}
-use Rattle.pl_rewrite.specs.Sources.{AreSources, in_version, members}
+use Rattle.pl_rewrite.specs.Sources.{AreSources, IsPrelinkedIn}
 use Rattle.pl_rewrite.specs.declared.numbers.Numbered.{Numbered}
 use Rattle.pl_rewrite.specs.declared.numbers.PlacedWalk.{PlacedWalk}
 use Rattle.pl_scope.specs.Folder.{IsFolderIndex}
@@ -52,7 +52,7 @@ pub record IsNumbered (n : Numbered) : Type 0 where
 
 pub record IsPlacedWalk (n : Numbered) (row : ℕ) (p : PlacedWalk) : Type 0 where
   pub walk : IsWalkScope n.files.now (walk_of n row) p.walk
-  pub places : p.places.now ≡ places_of n.places.now (walk_of n row)
+  pub places : p.places ≡ places_of n.places.now (walk_of n row)
 
 -- ---- members
 
@@ -118,5 +118,5 @@ pub record IsLibraryRow (n : Numbered) (row : ℕ) : Type 0 where
   pub library : is_library_row n row ≡ true
 
 -- the file that is meant of a row, in a version
-abbrev pub file_meant : Numbered → ℕ → Version → Option (List ℕ)
-file_meant n row version = prelinked (members (in_version version (firms_of n row)))
+abbrev pub IsFileMeant : Numbered → ℕ → Version → Option (List ℕ) → Type 0
+IsFileMeant n row version file = IsPrelinkedIn (firms_of n row) version file

@@ -96,25 +96,24 @@ fn form_of(
         contents.now.fills.items }
     ensures { IfOk result (contents.IsProgramForm work.now row version contents.now) }
 {
-    let taken = &work.numbered.files[row];
+    let numbered = work.numbered;
+    let files = numbered.files;
+    let taken = &files[row];
     let Some(object) = taken.object() else {
         return Ok(None);
     };
-    let list = list_of(alloc, work.numbered, work.digests, row)?;
-    let digest = digest_at(work.numbered.files, work.digests, row);
+    let list = list_of(alloc, numbered, work.digests, row)?;
+    let digest = digest_at(files, work.digests, row);
+    let original = taken.original();
+    let listed = list.as_slice();
+    let fills = contents.fills.as_slice();
+    let rows = contents.rows.as_slice();
     match form_program_with(
-        alloc,
-        taken.original(),
-        object,
-        list.as_slice(),
-        &contents.fills,
-        &contents.rows,
-        version,
-        &digest,
+        alloc, original, object, listed, fills, rows, version, &digest,
     ) {
         Ok(file) => Ok(Some(NewProgram {
             file: trimmed(file),
-            conflicts: contents.rows.len() as u64,
+            conflicts: rows.len() as u64,
         })),
         Err(FormFault::TooLarge) => Ok(None),
         Err(_) => Err(NoMemory),
@@ -136,11 +135,12 @@ fn file_with(
     requires placed { spec.IsPlacedWalk work.now.numbered.now row placed.now }
     ensures { IfOk result (contents.IsProgramWith work.now row version modules.now) }
 {
+    let among = placed.walk.among(work.numbered.index);
     let linking = WalkLinking {
         scope: &placed.walk.scope,
         places: &placed.places,
         modules,
-        among: placed.walk.among(work.numbered.index),
+        among,
     };
     match contents_of(alloc, work, row, &linking) {
         Ok(contents) => form_of(alloc, work, row, version, &contents),
