@@ -33,7 +33,7 @@ module _ (w : Work) (row : ℕ) (l : WalkLinking) (work : IsWork w) (program : I
   abbrev modules : List Module
   modules = l.modules.now
 
-  -- the file of its form, files its conflict rows
+  -- the file of its form, with its conflict rows
   pub file_of_form : (c : Contents) (version : Version) (made : Option NewProgram) → HasContents w row l c → IsProgramForm w row version c made → IsProgramWith w row version modules made
   file_of_form c version made has form = λ ss are.
       let sources : AreSources ss = sources_versions rs ss are.0 program.walk.sources in

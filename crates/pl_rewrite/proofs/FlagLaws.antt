@@ -69,7 +69,7 @@ flags_done rows i before flags le are = subst (λ (rs : List ℕ). FlagsAll rs b
 
 -- ---- flags of which none was set
 
-none_set : (size row : ℕ) (b : Bool) → slice_get (replicate size false) row ≡ Some b → b ≡ false
+pub none_set : (size row : ℕ) (b : Bool) → slice_get (replicate size false) row ≡ Some b → b ≡ false
 none_set size row b at =
     let within : row < length (replicate size false) = slice_get_within (replicate size false) row b at in
     sym (get_or_from_slice_get (replicate size false) row b b at) ∙ get_or-replicate size row false b (omega (arith, within, length-replicate size false))

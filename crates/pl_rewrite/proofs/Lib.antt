@@ -49,3 +49,7 @@ pub mod ProgramContentLaws
 pub mod ProgramFormLaws
 pub mod ProgramFileLaws
 pub mod FileContentLaws
+pub mod RowByRowLaws
+pub mod StaleLaws
+pub mod ProgramRowLaws
+pub mod MadeRowLaws

@@ -1,7 +1,6 @@
 -- The prelinked file of a row's program, in a version.
 use Rattle.std.proofs.Common.{◌≡◌, ℕ, Bool, true, false, List, [], ◌∷◌, map, Option, Some, None, Ok, Err, refl, sym, ap, subst, ◌∙◌}
 use Rattle.pl_cone.specs.Candidates.{blocks}
-use Rattle.pl_conflict.specs.Prelinked as firm
 use Rattle.pl_conflict.specs.Prelinked.{Firm, are_set, objects_of, prelinked, program_file, stored}
 use Rattle.pl_elf.specs.Kinds.{is_library}
 use Rattle.pl_form.specs.declared.version.Version.{Version}

@@ -72,7 +72,12 @@ fn is_stale_program(numbered: &Numbered<'_>, stale: &[bool], row: usize) -> bool
     requires one_each { length stale.now ≡ length numbered.now.files.now }
     ensures { result ≡ spec.is_stale_program numbered.now stale.now row }
 {
-    stale[row] && !numbered.files[row].is_library()
+    let asked = stale[row];
+    if !asked {
+        return false;
+    }
+    let library = numbered.files[row].is_library();
+    !library
 }
 
 /// Whether a row is that of a stale library.
@@ -81,7 +86,11 @@ fn is_stale_library(numbered: &Numbered<'_>, stale: &[bool], row: usize) -> bool
     requires one_each { length stale.now ≡ length numbered.now.files.now }
     ensures { result ≡ spec.is_stale_library numbered.now stale.now row }
 {
-    stale[row] && numbered.files[row].is_library()
+    let asked = stale[row];
+    if !asked {
+        return false;
+    }
+    numbered.files[row].is_library()
 }
 
 /// The rows of the walk of a row, where that is a stale program's.
@@ -90,7 +99,8 @@ fn held_by<'t>(numbered: &Numbered<'t>, stale: &[bool], row: usize) -> &'t [u32]
     requires one_each { length stale.now ≡ length numbered.now.files.now }
     ensures { result.now ≡ spec.held_by numbered.now stale.now row }
 {
-    if !is_stale_program(numbered, stale, row) {
+    let program = is_stale_program(numbered, stale, row);
+    if !program {
         return &[];
     }
     numbered.walk(row)
@@ -106,9 +116,11 @@ fn held_by_programs(
     requires one_each { length stale.now ≡ length numbered.now.files.now }
     ensures { IfOk result (λ v. spec.AreHeldFlags numbered.now stale.now v.items) }
 {
-    let mut held = Vec::from_elem(alloc, false, numbered.files.len())?;
-    for row in 0..numbered.files.len() {
-        flag_all(&mut held, held_by(numbered, stale, row));
+    let count = numbered.files.len();
+    let mut held = Vec::from_elem(alloc, false, count)?;
+    for row in 0..count {
+        let walk = held_by(numbered, stale, row);
+        flag_all(&mut held, walk);
     }
     Ok(held)
 }
@@ -145,7 +157,8 @@ fn program_if(
     requires programs { spec.AreProgramRows work.now stale.now }
     ensures { IfOk result (spec.IsProgramIf work.now.numbered.now stale.now row) }
 {
-    if !is_stale_program(work.numbered, stale, row) {
+    let program = is_stale_program(work.numbered, stale, row);
+    if !program {
         return Ok(None);
     }
     let outcome = program_outcome(alloc, work, row)?;
@@ -211,7 +224,8 @@ fn library_if(
     requires words { spec.HasWordsIf numbered.now stale.now row words }
     ensures { IfOk result (spec.IsLibraryIf numbered.now stale.now row) }
 {
-    if !is_stale_library(numbered, stale, row) {
+    let library = is_stale_library(numbered, stale, row);
+    if !library {
         return Ok(None);
     }
     let outcome = library_outcome(alloc, numbered, digests, row, words)?;
@@ -260,8 +274,9 @@ fn with_libraries(
         let RowWords { words, .. } = one;
         let row = all.len();
         let library = library_if(alloc, numbered, digests, stale, row, words)?;
-        let program = programs.next();
-        let made = either(library, joined(program));
+        let next = programs.next();
+        let program = joined(next);
+        let made = either(library, program);
         all.push(made)?;
     }
     Ok(all)
@@ -279,20 +294,20 @@ fn made_of(
     requires links { by_rows.AreLinks numbered.now (spec.is_used numbered.now stale.now) links }
     ensures { IfOk result (λ v. spec.AreMade numbered.now stale.now v.items) }
 {
-    let held = held_by_programs(alloc, numbered, stale)?;
-    let digests = digests_of(alloc, numbered.files, stale)?;
-    let needed = Needed {
-        made: stale,
-        held: &held,
-    };
+    let flags = held_by_programs(alloc, numbered, stale)?;
+    let held = flags.as_slice();
+    let made = digests_of(alloc, numbered.files, stale)?;
+    let digests = made.as_slice();
+    let needed = Needed { made: stale, held };
     let row_words = words_of_rows(alloc, numbered, links, &needed)?;
+    let told = row_words.as_slice();
     let work = Work {
         numbered,
-        row_words: &row_words,
-        digests: &digests,
+        row_words: told,
+        digests,
     };
     let programs = program_outcomes(alloc, &work, stale)?;
-    with_libraries(alloc, numbered, &digests, stale, row_words, programs)
+    with_libraries(alloc, numbered, digests, stale, row_words, programs)
 }
 
 // ---- all files
@@ -325,10 +340,12 @@ fn all_outcomes(
 {
     let mut made = made.into_iter();
     let mut all = Vec::new(alloc);
-    for cause in causes.into_vec() {
+    let items = causes.into_vec();
+    for cause in items {
         let row = all.len();
         let next = made.next();
-        let outcome = outcome_for(alloc, &files[row], cause, joined(next))?;
+        let one = joined(next);
+        let outcome = outcome_for(alloc, &files[row], cause, one)?;
         all.push(outcome)?;
     }
     Ok(all)
