@@ -53,3 +53,5 @@ pub mod RowByRowLaws
 pub mod StaleLaws
 pub mod ProgramRowLaws
 pub mod MadeRowLaws
+pub mod CandidateRowLaws
+pub mod PlannedFileLaws

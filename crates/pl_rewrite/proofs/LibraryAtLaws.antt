@@ -93,7 +93,7 @@ part_library rs r library = rw library refl
 part_at : (rs : List Firm) (m : ℕ) (r : Firm) → slice_get rs m ≡ Some r → ordinary.part_of (parts_of rs) m ≡ firm.part_of rs r
 part_at rs m r at = get_or_from_slice_get (parts_of rs) m (firm.part_of rs r) [] (slice_get-map (firm.part_of rs) rs m ∙ ap (option_map (firm.part_of rs)) at)
 
-object_known : (n : List ℕ) (e : Entry) (o : Object) → object_by e ≡ Some o → object_for n e ≡ Ok o
+pub object_known : (n : List ℕ) (e : Entry) (o : Object) → object_by e ≡ Some o → object_for n e ≡ Ok o
 object_known n (There file) o is = ap (λ (p : Object). Ok p) (same_Some (object_of file) o is)
 object_known n BadMark o is = absurd (none-some o is)
 object_known n (Refused number argument) o is = absurd (none-some o is)

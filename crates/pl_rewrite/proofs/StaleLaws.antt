@@ -56,7 +56,7 @@ held_begin n stale flags none = record {
   each = λ row b at. none_set (length n.files.now) row b (ap (λ (fs : List Bool). slice_get fs row) (sym none) ∙ at);
 }
 
-held_before_more : (n : Numbered) (stale : List Bool) (size row : ℕ) → (is_held_before n stale size row || flagged (held_by n stale size) row) ≡ is_held_before n stale (suc size) row
+pub held_before_more : (n : Numbered) (stale : List Bool) (size row : ℕ) → (is_held_before n stale size row || flagged (held_by n stale size) row) ≡ is_held_before n stale (suc size) row
 unfolding is_held_before
 held_before_more n stale size row = refl
 
