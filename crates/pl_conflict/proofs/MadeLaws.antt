@@ -283,7 +283,7 @@ pub record IsPrelinked (m : Member) (ms : List Member) (file : List ℕ) : Type 
   pub is : file_of (r ∷ rs) ≡ Some file
   pub small : length file ≤ STORED
 
-stored_some : (o : Option (List ℕ)) (file : List ℕ) → stored o ≡ Some file → (o ≡ Some file) × (length file ≤ STORED)
+pub stored_some : (o : Option (List ℕ)) (file : List ℕ) → stored o ≡ Some file → (o ≡ Some file) × (length file ≤ STORED)
 stored_some None file e = absurd (none-some file e)
 stored_some (Some form) file e =
     let p = when_some (nat_le (length form) STORED) (Some form) file e in

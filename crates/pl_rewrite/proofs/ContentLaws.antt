@@ -82,7 +82,7 @@ own_at os places modules rs own i d e is lt =
     ap (meaning os places modules) (sym (get_or-map (row 0) rs i d (row 0 d) lt))
     ∙ zip_at (λ x g. meaning os places modules x ≡ Ok g) (map (row 0) rs) own i (row 0 d) e (each_zip (meaning os places modules) (map (row 0) rs) own is) within
 
-own_count : (os : List Object) (places : List ℕ) (modules : List Module) (rs : List Reloc) (own : List Meaning) → each (meaning os places modules) (map (row 0) rs) ≡ Ok own → length own ≡ length rs
+pub own_count : (os : List Object) (places : List ℕ) (modules : List Module) (rs : List Reloc) (own : List Meaning) → each (meaning os places modules) (map (row 0) rs) ≡ Ok own → length own ≡ length rs
 own_count os places modules rs own is = length-each (meaning os places modules) (map (row 0) rs) own is ∙ length-map rs (row 0)
 
 -- ---- a program's walk

@@ -41,3 +41,17 @@ pub mod VersionLaws
 pub mod PlacedRowLaws
 pub mod FinishingLaws
 pub mod CountLaws
+pub mod FlagLaws
+pub mod LaterMemberLaws
+pub mod MemberFormLaws
+pub mod LibraryAtLaws
+pub mod ProgramContentLaws
+pub mod ProgramFormLaws
+pub mod ProgramFileLaws
+pub mod FileContentLaws
+pub mod RowByRowLaws
+pub mod StaleLaws
+pub mod ProgramRowLaws
+pub mod MadeRowLaws
+pub mod CandidateRowLaws
+pub mod PlannedFileLaws

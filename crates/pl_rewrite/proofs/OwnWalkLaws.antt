@@ -1,14 +1,17 @@
 -- The own walk of a member among the members of a walk is that of its row.
 use Rattle.std.proofs.Common.{◌≡◌, ℕ, zero, suc, ◌+◌, ◌<◌, Bool, true, false, List, [], ◌∷◌, length, map, Option, Some, None, Result, Ok, refl, sym, ap, subst, ◌∙◌, arith, inl, inr}
 use Rattle.std.specs.Prelude.{◌||◌, find, slice_get}
-use Rattle.std.specs.List.{AllByRecursion, AllZip, IsDistinct, cons_option, filter_map, list_any}
+use Rattle.std.specs.List.{All, AllByRecursion, AllZip, IsDistinct, cons_option, filter_map, list_any}
 use Rattle.std.specs.Str.{bytes_eq}
 use Rattle.std.proofs.lemmas.Bool.{cases_Bool, false≢true, or_right}
+use Rattle.std.proofs.lemmas.List.Elements.{All-cons, All-nil}
 use Rattle.std.proofs.lemmas.Option.{none-some, same_Some}
 use Rattle.pl_base.proofs.AnswerLaws.{ok_same}
 use Rattle.pl_cone.specs.Table.{AreRows, walked_by}
 use Rattle.pl_cone.specs.Taken.{files_in, names_of}
 use Rattle.pl_cone.specs.declared.taken.Taken.{Taken}
+use Rattle.pl_cone.specs.Folder.{IsWithin}
+use Rattle.pl_cone.proofs.RowLaws.{found_holds}
 use Rattle.pl_conflict.specs.Format.{Causes, format}
 use Rattle.pl_conflict.specs.Prelinked.{Firm, named, names_in, own_walk, walked_of}
 use Rattle.pl_object.specs.declared.object.Object.{Object}
@@ -111,3 +114,24 @@ own_walk_is causes n row other name k distinct are others walks own linked some 
     let subset : (j : List ℕ) → has (names (map named_of inner)) j ≡ true → has (names (map named_of rs)) j ≡ true = λ j there.
     subst (λ (vs : Walked). has (names vs) j ≡ true) (sym (firms_named n row)) (within.subset j (subst (λ (vs : Walked). has (names vs) j ≡ true) (firms_named n other ∙ sym same_within) there)) in
     own_by rs (map named_of inner) k over ∙ own_found n rs (walk_of n row) (walk_of n other) inner distinct (firms_zip n row are) (firms_zip n other others) subset
+
+-- ---- what holds of all members of a walk holds of those of a walk within it
+
+inner_all : (P : Firm → Type 0) (n : Numbered) (rs : List Firm) (rows : List ℕ) (walk : List ℕ) (inner : List Firm) → IsDistinct bytes_eq (names_of n.files.now) → AllZip (IsFirmAt n) rows rs → AllZip (IsFirmAt n) walk inner
+    → ((k : List ℕ) → has (names (map named_of inner)) k ≡ true → has (names (map named_of rs)) k ≡ true) → All P rs → All P inner
+inner_all P n rs rows [] [] distinct zip own within all = All-nil P
+inner_all P n rs rows [] (r ∷ inner) distinct zip own within all = absurd own
+inner_all P n rs rows (row ∷ walk) [] distinct zip own within all = absurd own
+inner_all P n rs rows (row ∷ walk) (r ∷ inner) distinct zip own within all =
+    let first : has (names (map named_of (r ∷ inner))) r.member.name ≡ true = rw (eq_refl r.member.name) refl in
+    let one = there n rows rs r.member.name zip (within r.member.name first) in
+    let same : one.firm ≡ r = firm_same n one.row row one.firm r distinct one.at own.0 one.name in
+    let later : (k : List ℕ) → has (names (map named_of inner)) k ≡ true → has (names (map named_of rs)) k ≡ true = λ k some. within k (or_right (bytes_eq r.member.name k) (has (names (map named_of inner)) k) some) in
+    All-cons P r inner (subst P same (found_holds P (λ (x : Firm). bytes_eq x.member.name r.member.name) rs one.firm all one.is)) (inner_all P n rs rows walk inner distinct zip own.1 later all)
+
+pub members_within : (P : Firm → Type 0) (n : Numbered) (row other : ℕ) → IsDistinct bytes_eq (names_of n.files.now) → AreRows n.files.now (walk_of n row) → AreRows n.files.now (walk_of n other)
+    → IsWithin (walked_by n.files.now (walk_of n other)) (walked_by n.files.now (walk_of n row)) → All P (firms_of n row) → All P (firms_of n other)
+members_within P n row other distinct are others within all =
+    inner_all P n (firms_of n row) (walk_of n row) (walk_of n other) (firms_of n other) distinct (firms_zip n row are) (firms_zip n other others)
+    (λ j there.
+    subst (λ (vs : Walked). has (names vs) j ≡ true) (sym (firms_named n row)) (within j (subst (λ (vs : Walked). has (names vs) j ≡ true) (firms_named n other) there))) all

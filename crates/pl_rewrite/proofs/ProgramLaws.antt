@@ -243,7 +243,7 @@ no_form (r ∷ rs) fs rows none = absurd (omega (arith, none))
 
 -- ---- the form as it is written
 
-form_firm : (r : Firm) (rs : List Firm) (fs : List Fill) (rows : List ConflictRow) (list : List ListRow) (v : Version) → r.member.version ≡ number_of v → list ≡ list_of rs → Some (form.program_form r.member.original list fs rows v) ≡ form_of (r ∷ rs) fs rows
+pub form_firm : (r : Firm) (rs : List Firm) (fs : List Fill) (rows : List ConflictRow) (list : List ListRow) (v : Version) → r.member.version ≡ number_of v → list ≡ list_of rs → Some (form.program_form r.member.original list fs rows v) ≡ form_of (r ∷ rs) fs rows
 form_firm r rs fs rows list v version is =
     let same : version_of r.member.version ≡ v = ap version_of version ∙ version_back v in
     ap (λ (ls : List ListRow). Some (form.program_form r.member.original ls fs rows v)) is

@@ -121,7 +121,7 @@ by_kind Static ts index rows l is by = absurd (false≢true is)
 kind_named : (rs others : List Firm) (r : Firm) → rs ≡ r ∷ others → candidates.kind_of (map named_of rs) ≡ r.object.kind
 kind_named rs others r is = ap (λ (xs : List Firm). candidates.kind_of (map named_of xs)) is
 
-link_of : (n : Numbered) (row : ℕ) (l : Link) → IsLinkAt n row l → is_library_row n row ≡ true → IsLinkOf n.index.now (walked_by n.files.now (walk_of n row)) l
+pub link_of : (n : Numbered) (row : ℕ) (l : Link) → IsLinkAt n row l → is_library_row n row ≡ true → IsLinkOf n.index.now (walked_by n.files.now (walk_of n row)) l
 link_of n row l link library =
     let first = first_is n row link.walk in
     let kind : candidates.kind_of (walked_by n.files.now (walk_of n row)) ≡ first.firm.object.kind = ap candidates.kind_of (sym (firms_named n row)) ∙ kind_named (firms_of n row) first.others first.firm first.is in
@@ -195,3 +195,11 @@ pushed n asked all s one so_far = λ row x at. elim (cases_lt row (length all)) 
 
 pub row_words_more : (n : Numbered) (asked : Needed) (all after : List RowWords) (s : RowWords) (link : Link) → (is_needed asked (length all) ≡ true → IsLinkAt n (length all) link) → AreRowWordsBy n (length all) asked link s → after ≡ all ++ s ∷ [] → RowWordsTo n asked all → RowWordsTo n asked after
 row_words_more n asked all after s link is by more so_far = subst (RowWordsTo n asked) (sym more) (pushed n asked all s (record { link = link; is = is; by = by }) so_far)
+
+pub row_words_none : (n : Numbered) (asked : Needed) (all : List RowWords) → all ≡ [] → RowWordsTo n asked all
+row_words_none n asked all none = subst (RowWordsTo n asked) (sym none) (λ row s at. absurd (none-some s at))
+
+-- the same, where the row is counted
+pub row_words_next : (n : Numbered) (asked : Needed) (all after : List RowWords) (s : RowWords) (link : Link) (row : ℕ) → row ≡ length all → (is_needed asked row ≡ true → IsLinkAt n row link) → AreRowWordsBy n row asked link s → after ≡ all ++ s ∷ [] → RowWordsTo n asked all → RowWordsTo n asked after
+row_words_next n asked all after s link row same is by more so_far =
+    row_words_more n asked all after s link (λ need. subst (λ (k : ℕ). IsLinkAt n k link) same (is (ap (λ (k : ℕ). is_needed asked k) same ∙ need))) (subst (λ (k : ℕ). AreRowWordsBy n k asked link s) same by) more so_far

@@ -230,6 +230,13 @@ listed_stops l walk row_words ranges i o made near e at stop s =
     let f = value l in
     member_stops f (objects_of l) i o s.front e (each f (rows (objects_of l))) at (front_err s.front (each f (map (row i) o.relocations)) e stop) s.rest
 
+-- where the first member refuses
+pub first_stops : (l : WalkLinking) (o : Object) (e : OrdinaryFault) → slice_get (objects_of l) 0 ≡ Some o → RefusesOne l 0 o.relocations e → MatchBool (is_memory e) ⊤ (because Link (all_given l) ≡ Err e)
+unfolding meanings
+first_stops l o e at stop =
+    let f = value l in
+    member_stops f (objects_of l) 0 o [] e (each f (rows (objects_of l))) at (front_err [] (each f (map (row 0) o.relocations)) e stop) (front_nothing (each f (rows (objects_of l))))
+
 pub listed_done : (l : WalkLinking) (walk : List ℕ) (row_words : List RowWords) (ranges : List Range) (i : ℕ) (made : List ConflictRow) (near : List Meaning) → length (objects_of l) ≤ i → Listed l walk row_words ranges i made near → AreListed l walk row_words ranges made near
 unfolding meanings
 listed_done l walk row_words ranges i made near le s = record {

@@ -139,3 +139,8 @@ tells_of definers own l m o remaining told of_one_word one is =
     let r = get_or o.relocations i d in
     let w = one r (each d) in
     (given l.places.now (row m r) w.0, given_value l m r w.0 (w.1 l.modules.now))) of_one_word)
+
+-- the same of a library of a walk
+pub library_tells : (definers : List Entry) (l : WalkLinking) (files : List LoadedObject) (m : ℕ) (o : Object) (remaining : List ℕ) (told : List HeldWord) → IsLibraryAt definers l files m o remaining told → TellsHeldOf l m o.relocations told
+library_tells definers l files m o remaining told s =
+    tells_of definers s.own l m o remaining told s.of_one_word (λ r of_one_word. let w = s.one_word r of_one_word in (w.0, w.2)) (told_numbers (loaded_at 0 s.original o ∷ []) o.relocations (own_words s.own s.places) remaining told s.held)

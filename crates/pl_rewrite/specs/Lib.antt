@@ -1,6 +1,7 @@
 pub mod Changes
 pub mod Reports
 pub mod Words
+pub mod Flags
 pub mod Fills
 pub mod Sources
 pub mod Forms

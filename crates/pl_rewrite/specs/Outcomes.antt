@@ -1,6 +1,6 @@
 -- What a run makes of each file, and what is made of files by it.
-use Rattle.std.specs.Prelude.{◌≡◌, ◌<◌, ⊤, ⊥, ℕ, Bool, true, false, not, ◌&&◌, ◌||◌, List, [], ◌∷◌, ◌++◌, length, slice_get, ◌==◌, ◌+◌, Ok, Option, Some, None, is_some, if◌then◌else◌}
-use Rattle.std.specs.List.{AllZip, concat, cons_option, list_any}
+use Rattle.std.specs.Prelude.{◌≡◌, ⊤, ⊥, ℕ, zero, suc, Bool, true, false, not, ◌&&◌, ◌||◌, List, [], ◌∷◌, ◌++◌, length, slice_get, Ok, Option, Some, None, if◌then◌else◌}
+use Rattle.std.specs.List.{AllZip, cons_option}
 use Rattle.pl_cone.specs.Plans as plans
 use Rattle.pl_cone.specs.Plans.{RunPlan, planned}
 use Rattle.pl_cone.specs.Table.{IsPlan, IsRunTable, planned_by, names_where}
@@ -17,10 +17,11 @@ use Rattle.pl_form.specs.declared.file.Marked.{Marked}
 use Rattle.pl_form.specs.declared.version.Version.TheVariants.{Two}
 use Rattle.law_sound.specs.Rule.{Files}
 use Rattle.pl_rewrite.specs.Changes as changes
+use Rattle.pl_rewrite.specs.Flags.{flagged}
 use Rattle.pl_rewrite.specs.Libraries.{storable_library}
 use Rattle.pl_rewrite.specs.Libraries as libraries
 use Rattle.pl_rewrite.specs.Reports as reports
-use Rattle.pl_rewrite.specs.Rows.{IsWalkRow, file_meant, is_library_row, walk_of}
+use Rattle.pl_rewrite.specs.Rows.{IsFileMeant, IsWalkRow, is_library_row, walk_of}
 use Rattle.pl_rewrite.specs.RowWords.{is_set, own_words_at}
 use Rattle.pl_rewrite.specs.Contents.{IsNewProgram, IsProgramRow}
 use Rattle.pl_rewrite.specs.declared.finishing.MadeFiles.{MadeFiles}
@@ -116,16 +117,10 @@ kept_by t None (Some m) = outcomes.Unchanged (current_state m)
 abbrev pub KeepsFile : Taken → Option Skip → RowOutcome → Type 0
 KeepsFile t cause o = o ≡ kept_by t cause (marked_by t.entry)
 
-unfoldable pub flagged : List ℕ → ℕ → Bool
-flagged rows row = list_any (λ r. r == row) rows
+-- ---- which files are made
 
--- the flags of rows are set, and no other changes
-abbrev pub FlagsAll : List ℕ → List Bool → List Bool → Type 0
-FlagsAll rows before after = (length after ≡ length before) × ((row : ℕ) (b : Bool) → slice_get before row ≡ Some b → slice_get after row ≡ Some (b || flagged rows row))
-
-unfoldable pub held_from : Numbered → ℕ → List Bool → List (List ℕ)
-held_from n row [] = []
-held_from n row (b ∷ stale) = (if b && not (is_library_at n row) then walk_of n row else []) ∷ held_from n (row + 1) stale
+abbrev pub is_stale : List Bool → ℕ → Bool
+is_stale stale row = is_set (slice_get stale row)
 
 abbrev pub is_library_taken : Option Taken → Bool
 is_library_taken None = false
@@ -134,13 +129,47 @@ is_library_taken (Some t) = is_library_entry t.entry
 abbrev pub is_library_at : Numbered → ℕ → Bool
 is_library_at n row = is_library_taken (slice_get n.files.now row)
 
--- the rows that the walks of stale programs hold
-abbrev pub held_by_programs : Numbered → List Bool → List Bool
-held_by_programs n stale = flags_from (concat (held_from n 0 stale)) 0 n.files.now
+abbrev pub is_stale_program : Numbered → List Bool → ℕ → Bool
+is_stale_program n stale row = is_stale stale row && not (is_library_at n row)
 
-unfoldable pub flags_from : List ℕ → ℕ → List Taken → List Bool
-flags_from rows row [] = []
-flags_from rows row (t ∷ ts) = flagged rows row ∷ flags_from rows (row + 1) ts
+abbrev pub is_stale_library : Numbered → List Bool → ℕ → Bool
+is_stale_library n stale row = is_stale stale row && is_library_at n row
+
+-- the walk of a row, where that is a stale program's
+abbrev pub held_by : Numbered → List Bool → ℕ → List ℕ
+held_by n stale row = if is_stale_program n stale row then walk_of n row else []
+
+-- the walk of a stale program among so many first rows holds a row
+unfoldable pub is_held_before : Numbered → List Bool → ℕ → ℕ → Bool
+is_held_before n stale zero row = false
+is_held_before n stale (suc count) row = is_held_before n stale count row || flagged (held_by n stale count) row
+
+-- flags of all rows tell it
+pub record AreHeldBefore (n : Numbered) (stale : List Bool) (size : ℕ) (flags : List Bool) : Type 0 where
+  pub count : length flags ≡ length n.files.now
+  pub each : (row : ℕ) (b : Bool) → slice_get flags row ≡ Some b → b ≡ is_held_before n stale size row
+
+abbrev pub AreHeldFlags : Numbered → List Bool → List Bool → Type 0
+AreHeldFlags n stale flags = AreHeldBefore n stale (length n.files.now) flags
+
+-- the walk of a stale program holds a row
+abbrev pub is_held : Numbered → List Bool → ℕ → Bool
+is_held n stale row = is_held_before n stale (length n.files.now) row
+
+-- what the relocations of these find is needed: of stale files, and of the members of stale programs' walks
+abbrev pub is_used : Numbered → List Bool → ℕ → Bool
+is_used n stale row = is_stale stale row || is_held n stale row
+
+-- a stale file's row has a walk
+abbrev pub HaveWalks : Numbered → List Bool → Type 0
+HaveWalks n stale = (row : ℕ) → is_stale stale row ≡ true → IsWalkRow n row
+
+-- a flag for each row; those that are set are of rows with walks
+pub record IsStaleColumn (n : Numbered) (stale : List Bool) : Type 0 where
+  pub count : length stale ≡ length n.files.now
+  pub walks : HaveWalks n stale
+
+-- ---- what is made of them
 
 -- that the form of the file of a row is too large
 abbrev pub IsTooLarge : Numbered → ℕ → Skip → Type 0
@@ -149,7 +178,7 @@ IsTooLarge n row cause = (t : Taken) → slice_get n.files.now row ≡ Some t �
 -- the outcome of a file that is made anew: the one that is meant, or the original where there is none
 abbrev pub IsMadeAt : Numbered → ℕ → RowOutcome → Type 0
 IsMadeAt n row (outcomes.Program p) = (is_library_row n row ≡ false) × IsNewProgram n row Two (Some p)
-IsMadeAt n row (outcomes.Original cause) = IsTooLarge n row cause × (file_meant n row Two ≡ None)
+IsMadeAt n row (outcomes.Original cause) = IsTooLarge n row cause × IsFileMeant n row Two None
 IsMadeAt n row (outcomes.Unchanged state) = ⊥
 IsMadeAt n row (outcomes.Library parts) = (is_library_row n row ≡ true) × libraries.IsNewIfAny n row (Some parts)
 
@@ -159,19 +188,16 @@ IsIf true P None = ⊥
 IsIf true P (Some o) = P o
 IsIf false P o = o ≡ None
 
-abbrev pub is_stale : List Bool → ℕ → Bool
-is_stale stale row = is_set (slice_get stale row)
+abbrev pub IsProgramIf : Numbered → List Bool → ℕ → Option RowOutcome → Type 0
+IsProgramIf n stale row o = IsIf (is_stale_program n stale row) (IsMadeAt n row) o
+
+abbrev pub IsLibraryIf : Numbered → List Bool → ℕ → Option RowOutcome → Type 0
+IsLibraryIf n stale row o = IsIf (is_stale_library n stale row) (IsMadeAt n row) o
 
 -- of stale programs
 pub record AreProgramsMade (n : Numbered) (stale : List Bool) (all : List (Option RowOutcome)) : Type 0 where
   pub count : length all ≡ length stale
-  pub each : (row : ℕ) (o : Option RowOutcome) → slice_get all row ≡ Some o → IsIf (is_stale stale row && not (is_library_at n row)) (IsMadeAt n row) o
-
--- the stale libraries have outcomes, and no other row changes
-pub record HasLibraryOutcomes (n : Numbered) (stale : List Bool) (before after : List (Option RowOutcome)) : Type 0 where
-  pub count : length after ≡ length before
-  pub each : (row : ℕ) (o : Option RowOutcome) → slice_get after row ≡ Some o → (is_stale stale row && is_library_at n row) ≡ true → IsIf true (IsMadeAt n row) o
-  pub same : (row : ℕ) → (is_stale stale row && is_library_at n row) ≡ false → slice_get after row ≡ slice_get before row
+  pub each : (row : ℕ) (o : Option RowOutcome) → slice_get all row ≡ Some o → IsProgramIf n stale row o
 
 -- of stale files
 pub record AreMade (n : Numbered) (stale : List Bool) (all : List (Option RowOutcome)) : Type 0 where
@@ -180,28 +206,30 @@ pub record AreMade (n : Numbered) (stale : List Bool) (all : List (Option RowOut
 
 -- each stale program can be made
 abbrev pub AreProgramRows : Work → List Bool → Type 0
-AreProgramRows w stale = (row : ℕ) → (is_stale stale row && not (is_library_at w.numbered.now row)) ≡ true → IsProgramRow w row
+AreProgramRows w stale = (row : ℕ) → is_stale_program w.numbered.now stale row ≡ true → IsProgramRow w row
+
+-- these are the own words of a row, where that is a stale library's
+abbrev pub HasWordsIf : Numbered → List Bool → ℕ → List (Option ℕ) → Type 0
+HasWordsIf n stale row words = is_stale_library n stale row ≡ true → words ≡ own_words_at n row
 
 -- the own words of stale libraries are there, one row for each file
 pub record HaveWords (n : Numbered) (stale : List Bool) (all : List RowWords) : Type 0 where
   pub count : length all ≡ length n.files.now
-  pub each : (row : ℕ) (s : RowWords) → slice_get all row ≡ Some s → (is_stale stale row && is_library_at n row) ≡ true → s.words ≡ own_words_at n row
+  pub each : (row : ℕ) (s : RowWords) → slice_get all row ≡ Some s → HasWordsIf n stale row s.words
 
--- what the relocations of these find is needed: of stale files, and of the members of stale programs' walks
-abbrev pub is_used : Numbered → List Bool → ℕ → Bool
-is_used n stale row = is_stale stale row || is_stale (held_by_programs n stale) row
+abbrev pub joined : Option (Option RowOutcome) → Option RowOutcome
+joined None = None
+joined (Some outcome) = outcome
 
--- a stale file's row has a walk
-abbrev pub HaveWalks : Numbered → List Bool → Type 0
-HaveWalks n stale = (row : ℕ) → is_stale stale row ≡ true → IsWalkRow n row
+-- what was made of a file; or, where nothing was, that it stays or gets its original
+abbrev pub IsOutcomeFor : Taken → Option Skip → Option RowOutcome → RowOutcome → Type 0
+IsOutcomeFor t cause None o = KeepsFile t cause o
+IsOutcomeFor t cause (Some made) o = o ≡ made
 
-unfoldable pub AreAll : List Taken → List (Option Skip) → List (Option RowOutcome) → List RowOutcome → Type 0
-AreAll [] causes made os = os ≡ []
-AreAll (t ∷ ts) [] made os = os ≡ []
-AreAll (t ∷ ts) (c ∷ cs) [] os = ⊥
-AreAll (t ∷ ts) (c ∷ cs) (m ∷ ms) [] = ⊥
-AreAll (t ∷ ts) (c ∷ cs) (None ∷ ms) (o ∷ os) = KeepsFile t c o × AreAll ts cs ms os
-AreAll (t ∷ ts) (c ∷ cs) (Some made ∷ ms) (o ∷ os) = (o ≡ made) × AreAll ts cs ms os
+-- one for each file
+pub record AreAll (ts : List Taken) (causes : List (Option Skip)) (made : List (Option RowOutcome)) (os : List RowOutcome) : Type 0 where
+  pub count : length os ≡ length ts
+  pub each : (row : ℕ) (t : Taken) (c : Option Skip) (m : Option RowOutcome) (o : RowOutcome) → slice_get ts row ≡ Some t → slice_get causes row ≡ Some c → slice_get made row ≡ Some m → slice_get os row ≡ Some o → IsOutcomeFor t c m o
 
 -- ---- the whole
 

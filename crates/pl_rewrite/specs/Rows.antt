@@ -1,22 +1,22 @@
 -- Rows of a folder's files with their numbers, and the members that they are.
-use Rattle.std.specs.Prelude.{◌≡◌, ◌<◌, ℕ, Bool, false, List, [], ◌∷◌, ◌++◌, ◌+◌, map, length, slice_get, Option, Some, None, Result, Ok, Err}
+use Rattle.std.specs.Prelude.{◌≡◌, ◌<◌, ℕ, Bool, true, false, List, [], ◌∷◌, ◌++◌, ◌+◌, map, length, slice_get, Option, Some, None, Result, Ok, Err}
 use Rattle.std.specs.List.{All, filter_map}
 use Rattle.std.specs.Option.{option_map}
 use Rattle.pl_base.specs.Names.{is_valid_name}
 use Rattle.pl_base.specs.Windows.{Window}
-use Rattle.pl_cone.specs.Table.{AreRows, IsWalkScope, folder_objects}
+use Rattle.pl_cone.specs.Table.{AreRows, AreWalks, IsWalkScope, folder_objects, refusals_in, rows_in}
 use Rattle.pl_cone.specs.Taken.{AreTaken, object_by}
 use Rattle.pl_cone.specs.declared.taken.Taken.{Taken}
 use Rattle.pl_conflict.specs.Format.{number_of}
 use Rattle.pl_conflict.specs.Prelinked as firm
-use Rattle.pl_conflict.specs.Prelinked.{Firm, prelinked}
+use Rattle.pl_conflict.specs.Prelinked.{Firm}
 use Rattle.pl_elf.specs.Kinds.{is_library}
 use Rattle.pl_elf.specs.declared.range.Range.{Range}
 use Rattle.pl_form.specs.Files.{original_in}
 use Rattle.pl_form.specs.declared.version.Version.{Version}
 use Rattle.pl_form.specs.declared.version.Version.TheVariants.{Two}
 use Rattle.pl_object.specs.declared.object.Object.{Object}
-use Rattle.pl_rewrite.specs.Sources.{AreSources, in_version, members}
+use Rattle.pl_rewrite.specs.Sources.{AreSources, IsPrelinkedIn}
 use Rattle.pl_rewrite.specs.declared.numbers.Numbered.{Numbered}
 use Rattle.pl_rewrite.specs.declared.numbers.PlacedWalk.{PlacedWalk}
 use Rattle.pl_scope.specs.Folder.{IsFolderIndex}
@@ -36,28 +36,23 @@ unless_none (Some n) = n
 abbrev pub number_at : List ℕ → ℕ → ℕ
 number_at column row = unless_none (slice_get column row)
 
-abbrev pub rows_in : Option (List ℕ) → List ℕ
-rows_in None = []
-rows_in (Some rows) = rows
-
 abbrev pub walk_of : Numbered → ℕ → List ℕ
 walk_of n row = rows_in (slice_get n.walks.now row)
 
 abbrev pub places_of : List ℕ → List ℕ → List ℕ
 places_of places rows = map (number_at places) rows
 
--- files that were taken, with walks of some of them, the index of what they define, and a slot and a stamp for each
+-- files that were taken, with the walk of each name, the index of what they define, and a slot and a stamp for each
 pub record IsNumbered (n : Numbered) : Type 0 where
   pub taken : (region : Range) × AreTaken region n.files.now
-  pub rows : All (AreRows n.files.now) n.walks.now
-  pub one_each : length n.walks.now ≡ length n.files.now
+  pub walks : AreWalks n.files.now (record { walks = n.walks.now; causes = refusals_in n.files.now })
   pub index : IsFolderIndex (folder_objects n.files.now) n.index.now
   pub places : length n.places.now ≡ length n.files.now
   pub stamps : length n.stamps.now ≡ length n.files.now
 
 pub record IsPlacedWalk (n : Numbered) (row : ℕ) (p : PlacedWalk) : Type 0 where
   pub walk : IsWalkScope n.files.now (walk_of n row) p.walk
-  pub places : p.places.now ≡ places_of n.places.now (walk_of n row)
+  pub places : p.places ≡ places_of n.places.now (walk_of n row)
 
 -- ---- members
 
@@ -116,6 +111,12 @@ pub record IsWalkRow (n : Numbered) (row : ℕ) : Type 0 where
   pub rows : AreRows n.files.now (walk_of n row)
   pub sources : AreSources (firms_of n row)
 
+-- a row of a library, which has a walk
+pub record IsLibraryRow (n : Numbered) (row : ℕ) : Type 0 where
+  pub within : row < length n.files.now
+  pub walk : IsWalkRow n row
+  pub library : is_library_row n row ≡ true
+
 -- the file that is meant of a row, in a version
-abbrev pub file_meant : Numbered → ℕ → Version → Option (List ℕ)
-file_meant n row version = prelinked (members (in_version version (firms_of n row)))
+abbrev pub IsFileMeant : Numbered → ℕ → Version → Option (List ℕ) → Type 0
+IsFileMeant n row version file = IsPrelinkedIn (firms_of n row) version file

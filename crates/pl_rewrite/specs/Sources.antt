@@ -1,9 +1,9 @@
 -- The members of a walk as they are handed in.
-use Rattle.std.specs.Prelude.{◌≡◌, ◌≤◌, ℕ, List, [], ◌∷◌, Some, map, length}
-use Rattle.std.specs.List.{All, IsDistinct}
+use Rattle.std.specs.Prelude.{◌≡◌, ◌≤◌, ℕ, true, List, [], ◌∷◌, Option, Some, map, length}
+use Rattle.std.specs.List.{All, AllZip, IsDistinct}
 use Rattle.std.specs.Str.{bytes_eq}
 use Rattle.pl_conflict.specs.Format.{number_of}
-use Rattle.pl_conflict.specs.Prelinked.{Firm, firm_of}
+use Rattle.pl_conflict.specs.Prelinked.{Firm, firm_of, is_version, prelinked}
 use Rattle.pl_form.specs.declared.version.Version.{Version}
 use Rattle.pl_object.specs.declared.object.Object.{Object}
 use Rattle.pl_scope.specs.declared.constants.TheConstants.{MAX_MEMBERS}
@@ -27,10 +27,26 @@ pub record AreSources (rs : List Firm) : Type 0 where
   pub firm : All (λ r. firm_of r.member ≡ Some r) rs
   pub distinct : IsDistinct bytes_eq (member_names rs)
 
--- the first in another version
-abbrev pub versioned : Version → Firm → Firm
-versioned v r = firm r.member.name r.member.original r.object v r.member.slot r.member.stamp
+-- ---- versions
 
-abbrev pub in_version : Version → List Firm → List Firm
-in_version v [] = []
-in_version v (r ∷ rs) = versioned v r ∷ rs
+-- in a version of this number
+abbrev pub versioned : ℕ → Firm → Firm
+versioned number r = record {
+  member = record { name = r.member.name; original = r.member.original; version = number; slot = r.member.slot; stamp = r.member.stamp };
+  object = r.object;
+}
+
+abbrev pub IsVersionOf : Firm → Firm → Type 0
+IsVersionOf r s = (number : ℕ) × (is_version number ≡ true) × (s ≡ versioned number r)
+
+-- the same members, each in any version
+abbrev pub AreVersionsOf : List Firm → List Firm → Type 0
+AreVersionsOf rs ss = AllZip IsVersionOf rs ss
+
+abbrev pub BeginsIn : Version → List Firm → Type 0
+BeginsIn version [] = Unit {0}
+BeginsIn version (s ∷ ss) = s.member.version ≡ number_of version
+
+-- the file that the members prelink in a version of the first, whichever those of the others are
+abbrev pub IsPrelinkedIn : List Firm → Version → Option (List ℕ) → Type 0
+IsPrelinkedIn rs version file = (ss : List Firm) → AreVersionsOf rs ss → BeginsIn version ss → file ≡ prelinked (members ss)

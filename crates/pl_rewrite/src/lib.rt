@@ -7,6 +7,7 @@ mod apart;
 mod conflict;
 mod copies;
 mod finishing;
+mod flags;
 mod given;
 mod held;
 mod laws;

@@ -1,5 +1,5 @@
 // The prelinked file of a library.
-ghost use Rattle.std.specs.Prelude.{◌≡◌, ◌<◌, true, IfOk, length, nat_le};
+ghost use Rattle.std.specs.Prelude.{◌≡◌, IfOk, length, nat_le};
 ghost use Rattle.std.specs.Option.{option_map};
 ghost use Rattle.pl_cone.specs.Taken.{HasItsEntry};
 ghost use Rattle.pl_rewrite.specs.Libraries as spec;
@@ -26,9 +26,7 @@ pub fn new_library(
     words: OwnWords,
 ) -> Result<Option<NewLibrary>, NoMemory>
     requires numbered { rows.IsNumbered numbered.now }
-    requires row { row < length numbered.now.files.now }
-    requires walk { rows.IsWalkRow numbered.now row }
-    requires library { rows.is_library_row numbered.now row ≡ true }
+    requires row { rows.IsLibraryRow numbered.now row }
     requires digests { told_digests.HaveDigests numbered.now digests.now }
     requires words { words ≡ by_rows.own_words_at numbered.now row }
     ensures { IfOk result (spec.IsNewIfAny numbered.now row) }

@@ -64,10 +64,9 @@ impl<'t> Numbered<'t> {
         requires { spec.IsNumbered self.now }
         ensures { IfOk result (spec.IsPlacedWalk self.now row) }
     {
-        let walk = self.walk(row);
-        Ok(PlacedWalk {
-            walk: WalkScope::of(alloc, self.files, walk)?,
-            places: places_of(alloc, self.places, walk)?,
-        })
+        let rows = self.walk(row);
+        let walk = WalkScope::of(alloc, self.files, rows)?;
+        let places = places_of(alloc, self.places, rows)?;
+        Ok(PlacedWalk { walk, places })
     }
 }

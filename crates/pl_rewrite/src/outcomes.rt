@@ -1,6 +1,6 @@
 // What a run makes of each file.
-ghost use Rattle.std.specs.Prelude.{◌≡◌, ◌<◌, true, IfOk, OnOk, length};
-ghost use Rattle.pl_cone.specs.Table as table;
+ghost use Rattle.std.specs.Prelude.{◌≡◌, ◌<◌, IfOk, length};
+ghost use Rattle.std.specs.Option.{option_or};
 ghost use Rattle.pl_rewrite.specs.Outcomes as spec;
 ghost use Rattle.pl_rewrite.specs.Digests as told_digests;
 ghost use Rattle.pl_rewrite.specs.Rows as rows;
@@ -8,6 +8,7 @@ ghost use Rattle.pl_rewrite.specs.RowWords as by_rows;
 ghost use Rattle.pl_rewrite.specs.Contents as contents;
 
 use crate::RowState;
+use crate::flags::flag_all;
 use crate::library::new_library;
 use crate::lists::digests_of;
 use crate::numbers::Numbered;
@@ -63,19 +64,49 @@ fn kept(alloc: Global, taken: &Taken, cause: Option<Skip>) -> Result<RowOutcome,
     }
 }
 
-// ---- files that are made
+// ---- which files are made
 
-/// Flags the rows of a walk.
-fn flag_all(flags: &mut [bool], walk: &[u32])
-    requires { table.AreBelow (length flags.old) walk.now }
-    ensures { spec.FlagsAll walk.now flags.old flags.new }
+/// Whether a row is that of a stale program.
+fn is_stale_program(numbered: &Numbered<'_>, stale: &[bool], row: usize) -> bool
+    requires row { row < length numbered.now.files.now }
+    requires one_each { length stale.now ≡ length numbered.now.files.now }
+    ensures { result ≡ spec.is_stale_program numbered.now stale.now row }
 {
-    for row in walk {
-        flags[*row as usize] = true;
+    let asked = stale[row];
+    if !asked {
+        return false;
     }
+    let library = numbered.files[row].is_library();
+    !library
 }
 
-/// The rows that the walks of stale programs hold.
+/// Whether a row is that of a stale library.
+fn is_stale_library(numbered: &Numbered<'_>, stale: &[bool], row: usize) -> bool
+    requires row { row < length numbered.now.files.now }
+    requires one_each { length stale.now ≡ length numbered.now.files.now }
+    ensures { result ≡ spec.is_stale_library numbered.now stale.now row }
+{
+    let asked = stale[row];
+    if !asked {
+        return false;
+    }
+    numbered.files[row].is_library()
+}
+
+/// The rows of the walk of a row, where that is a stale program's.
+fn held_by<'t>(numbered: &Numbered<'t>, stale: &[bool], row: usize) -> &'t [u32]
+    requires row { row < length numbered.now.files.now }
+    requires one_each { length stale.now ≡ length numbered.now.files.now }
+    ensures { result.now ≡ spec.held_by numbered.now stale.now row }
+{
+    let program = is_stale_program(numbered, stale, row);
+    if !program {
+        return &[];
+    }
+    numbered.walk(row)
+}
+
+/// A flag for each row, set where the walk of a stale program holds it.
 fn held_by_programs(
     alloc: Global,
     numbered: &Numbered<'_>,
@@ -83,16 +114,18 @@ fn held_by_programs(
 ) -> Result<Vec<bool>, AllocError>
     requires numbered { rows.IsNumbered numbered.now }
     requires one_each { length stale.now ≡ length numbered.now.files.now }
-    ensures { IfOk result (λ v. v.items ≡ spec.held_by_programs numbered.now stale.now) }
+    ensures { IfOk result (λ v. spec.AreHeldFlags numbered.now stale.now v.items) }
 {
-    let mut held = Vec::from_elem(alloc, false, numbered.files.len())?;
-    for row in 0..numbered.files.len() {
-        if stale[row] && !numbered.files[row].is_library() {
-            flag_all(&mut held, numbered.walk(row));
-        }
+    let count = numbered.files.len();
+    let mut held = Vec::from_elem(alloc, false, count)?;
+    for row in 0..count {
+        let walk = held_by(numbered, stale, row);
+        flag_all(&mut held, walk);
     }
     Ok(held)
 }
+
+// ---- files that are made
 
 /// What a run makes of the program of a row, whose name is stale.
 fn program_outcome(alloc: Global, work: &Work<'_>, row: usize) -> Result<RowOutcome, NoMemory>
@@ -101,10 +134,35 @@ fn program_outcome(alloc: Global, work: &Work<'_>, row: usize) -> Result<RowOutc
     requires program { contents.IsProgramRow work.now row }
     ensures { IfOk result (spec.IsMadeAt work.now.numbered.now row) }
 {
-    match program_file(alloc, work, row, Version::Two)? {
+    let made = program_file(alloc, work, row, Version::Two)?;
+    match made {
         Some(program) => Ok(RowOutcome::Program(program)),
-        None => Ok(RowOutcome::Original(too_large(alloc, &work.numbered.files[row])?)),
+        None => {
+            let cause = too_large(alloc, &work.numbered.files[row])?;
+            Ok(RowOutcome::Original(cause))
+        }
     }
+}
+
+/// What a run makes of the file of a row, if that is a stale program.
+fn program_if(
+    alloc: Global,
+    work: &Work<'_>,
+    stale: &[bool],
+    row: usize,
+) -> Result<Option<RowOutcome>, NoMemory>
+    requires work { contents.IsWork work.now }
+    requires row { row < length work.now.numbered.now.files.now }
+    requires one_each { length stale.now ≡ length work.now.numbered.now.files.now }
+    requires programs { spec.AreProgramRows work.now stale.now }
+    ensures { IfOk result (spec.IsProgramIf work.now.numbered.now stale.now row) }
+{
+    let program = is_stale_program(work.numbered, stale, row);
+    if !program {
+        return Ok(None);
+    }
+    let outcome = program_outcome(alloc, work, row)?;
+    Ok(Some(outcome))
 }
 
 /// What a run makes of all stale programs, by their rows; None of every other row.
@@ -120,17 +178,13 @@ fn program_outcomes(
 {
     let mut all = Vec::new(alloc);
     for row in 0..stale.len() {
-        let outcome = if stale[row] && !work.numbered.files[row].is_library() {
-            Some(program_outcome(alloc, work, row)?)
-        } else {
-            None
-        };
+        let outcome = program_if(alloc, work, stale, row)?;
         all.push(outcome)?;
     }
     Ok(all)
 }
 
-/// What a run makes of the library of a row, whose name is stale.
+/// What a run makes of the library of a row, whose name is stale, with its own words.
 fn library_outcome(
     alloc: Global,
     numbered: &Numbered<'_>,
@@ -139,44 +193,93 @@ fn library_outcome(
     words: OwnWords,
 ) -> Result<RowOutcome, NoMemory>
     requires numbered { rows.IsNumbered numbered.now }
-    requires row { row < length numbered.now.files.now }
-    requires walk { rows.IsWalkRow numbered.now row }
-    requires library { rows.is_library_row numbered.now row ≡ true }
+    requires row { rows.IsLibraryRow numbered.now row }
     requires digests { told_digests.HaveDigests numbered.now digests.now }
     requires words { words ≡ by_rows.own_words_at numbered.now row }
     ensures { IfOk result (spec.IsMadeAt numbered.now row) }
 {
-    match new_library(alloc, numbered, digests, row, words)? {
+    let made = new_library(alloc, numbered, digests, row, words)?;
+    match made {
         Some(library) => Ok(RowOutcome::Library(library)),
-        None => Ok(RowOutcome::Original(too_large(alloc, &numbered.files[row])?)),
+        None => {
+            let cause = too_large(alloc, &numbered.files[row])?;
+            Ok(RowOutcome::Original(cause))
+        }
     }
 }
 
-/// Puts in what a run makes of the stale libraries.
-fn add_libraries(
+/// What a run makes of the file of a row, if that is a stale library.
+fn library_if(
+    alloc: Global,
+    numbered: &Numbered<'_>,
+    digests: &[Option<[u8; 32]>],
+    stale: &[bool],
+    row: usize,
+    words: OwnWords,
+) -> Result<Option<RowOutcome>, NoMemory>
+    requires numbered { rows.IsNumbered numbered.now }
+    requires row { row < length numbered.now.files.now }
+    requires stale { spec.IsStaleColumn numbered.now stale.now }
+    requires digests { told_digests.HaveDigests numbered.now digests.now }
+    requires words { spec.HasWordsIf numbered.now stale.now row words }
+    ensures { IfOk result (spec.IsLibraryIf numbered.now stale.now row) }
+{
+    let library = is_stale_library(numbered, stale, row);
+    if !library {
+        return Ok(None);
+    }
+    let outcome = library_outcome(alloc, numbered, digests, row, words)?;
+    Ok(Some(outcome))
+}
+
+/// The outcome of a row, if there is one.
+fn joined(outcome: Option<Option<RowOutcome>>) -> Option<RowOutcome>
+    ensures { result ≡ spec.joined outcome }
+{
+    match outcome {
+        Some(outcome) => outcome,
+        None => None,
+    }
+}
+
+/// The first of two outcomes that is there.
+fn either(first: Option<RowOutcome>, second: Option<RowOutcome>) -> Option<RowOutcome>
+    ensures { result ≡ option_or first second }
+{
+    match first {
+        Some(outcome) => Some(outcome),
+        None => second,
+    }
+}
+
+/// What a run makes of the stale libraries, by their rows, and of the stale programs, which is handed in; None of every other row.
+fn with_libraries(
     alloc: Global,
     numbered: &Numbered<'_>,
     digests: &[Option<[u8; 32]>],
     stale: &[bool],
     row_words: Vec<RowWords>,
-    all: &mut [Option<RowOutcome>],
-) -> Result<(), NoMemory>
+    programs: Vec<Option<RowOutcome>>,
+) -> Result<Vec<Option<RowOutcome>>, NoMemory>
     requires numbered { rows.IsNumbered numbered.now }
-    requires one_each { length stale.now ≡ length numbered.now.files.now }
-    requires rows { length all.old ≡ length numbered.now.files.now }
-    requires walks { spec.HaveWalks numbered.now stale.now }
+    requires stale { spec.IsStaleColumn numbered.now stale.now }
     requires digests { told_digests.HaveDigests numbered.now digests.now }
     requires row_words { spec.HaveWords numbered.now stale.now row_words.items }
-    ensures { OnOk result (spec.HasLibraryOutcomes numbered.now stale.now all.old all.new) }
+    requires programs { spec.AreProgramsMade numbered.now stale.now programs.items }
+    ensures { IfOk result (λ v. spec.AreMade numbered.now stale.now v.items) }
 {
-    for (row, one) in row_words.into_iter().enumerate() {
+    let mut programs = programs.into_iter();
+    let mut all = Vec::new(alloc);
+    for one in row_words {
         let RowWords { words, .. } = one;
-        if stale[row] && numbered.files[row].is_library() {
-            let outcome = library_outcome(alloc, numbered, digests, row, words)?;
-            all[row] = Some(outcome);
-        }
+        let row = all.len();
+        let library = library_if(alloc, numbered, digests, stale, row, words)?;
+        let next = programs.next();
+        let program = joined(next);
+        let made = either(library, program);
+        all.push(made)?;
     }
-    Ok(())
+    Ok(all)
 }
 
 /// What a run makes of the stale files, by their rows; None of the others.
@@ -187,31 +290,44 @@ fn made_of(
     stale: &[bool],
 ) -> Result<Vec<Option<RowOutcome>>, NoMemory>
     requires numbered { rows.IsNumbered numbered.now }
-    requires one_each { length stale.now ≡ length numbered.now.files.now }
-    requires walks { spec.HaveWalks numbered.now stale.now }
+    requires stale { spec.IsStaleColumn numbered.now stale.now }
     requires links { by_rows.AreLinks numbered.now (spec.is_used numbered.now stale.now) links }
     ensures { IfOk result (λ v. spec.AreMade numbered.now stale.now v.items) }
 {
-    let held = held_by_programs(alloc, numbered, stale)?;
-    let digests = digests_of(alloc, numbered.files, stale)?;
-    let needed = Needed {
-        made: stale,
-        held: &held,
-    };
+    let flags = held_by_programs(alloc, numbered, stale)?;
+    let held = flags.as_slice();
+    let made = digests_of(alloc, numbered.files, stale)?;
+    let digests = made.as_slice();
+    let needed = Needed { made: stale, held };
     let row_words = words_of_rows(alloc, numbered, links, &needed)?;
+    let told = row_words.as_slice();
     let work = Work {
         numbered,
-        row_words: &row_words,
-        digests: &digests,
+        row_words: told,
+        digests,
     };
-    let mut all = program_outcomes(alloc, &work, stale)?;
-    add_libraries(alloc, numbered, &digests, stale, row_words, &mut all)?;
-    Ok(all)
+    let programs = program_outcomes(alloc, &work, stale)?;
+    with_libraries(alloc, numbered, digests, stale, row_words, programs)
 }
 
 // ---- all files
 
-/// What is made of each file: what was made of it, or that it stays or gets its original.
+/// What is made of a file: what was made of it, or that it stays or gets its original.
+fn outcome_for(
+    alloc: Global,
+    taken: &Taken,
+    cause: Option<Skip>,
+    made: Option<RowOutcome>,
+) -> Result<RowOutcome, AllocError>
+    ensures { IfOk result (spec.IsOutcomeFor taken.now cause made) }
+{
+    match made {
+        Some(outcome) => Ok(outcome),
+        None => kept(alloc, taken, cause),
+    }
+}
+
+/// What is made of each file, by the causes of all rows and what was made of some.
 fn all_outcomes(
     alloc: Global,
     files: &[Taken],
@@ -224,11 +340,12 @@ fn all_outcomes(
 {
     let mut made = made.into_iter();
     let mut all = Vec::new(alloc);
-    for (row, cause) in causes.into_vec().into_iter().enumerate() {
-        let outcome = match made.next() {
-            Some(Some(outcome)) => outcome,
-            _ => kept(alloc, &files[row], cause)?,
-        };
+    let items = causes.into_vec();
+    for cause in items {
+        let row = all.len();
+        let next = made.next();
+        let one = joined(next);
+        let outcome = outcome_for(alloc, &files[row], cause, one)?;
         all.push(outcome)?;
     }
     Ok(all)

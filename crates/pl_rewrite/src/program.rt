@@ -57,21 +57,18 @@ fn contents_of(
     let walk = work.numbered.walk(row);
     let found = work.row_words[row].found.as_slice();
     let meanings = own_meanings(alloc, linking, found)?;
-    let RemainingRows { rows, near } = remaining_rows(
-        alloc,
-        linking,
-        walk,
-        work.row_words,
-        meanings.as_slice(),
-    )?;
-    let near = patches_of(alloc, &near)?;
+    let own = meanings.as_slice();
+    let made = remaining_rows(alloc, linking, walk, work.row_words, own)?;
+    let RemainingRows { rows, near } = made;
+    let patches = patches_of(alloc, &near)?;
     let filling = Filling {
         numbered: work.numbered,
         walk,
-        near: &near,
+        near: &patches,
     };
-    let relocs = linking.scope.object(0).relocations.as_slice();
-    let fills = fills_of(alloc, &filling, relocs, meanings.as_slice())?;
+    let object = linking.scope.object(0);
+    let relocs = object.relocations.as_slice();
+    let fills = fills_of(alloc, &filling, relocs, own)?;
     Ok(Contents { fills, rows })
 }
 
@@ -99,25 +96,24 @@ fn form_of(
         contents.now.fills.items }
     ensures { IfOk result (contents.IsProgramForm work.now row version contents.now) }
 {
-    let taken = &work.numbered.files[row];
+    let numbered = work.numbered;
+    let files = numbered.files;
+    let taken = &files[row];
     let Some(object) = taken.object() else {
         return Ok(None);
     };
-    let list = list_of(alloc, work.numbered, work.digests, row)?;
-    let digest = digest_at(work.numbered.files, work.digests, row);
+    let list = list_of(alloc, numbered, work.digests, row)?;
+    let digest = digest_at(files, work.digests, row);
+    let original = taken.original();
+    let listed = list.as_slice();
+    let fills = contents.fills.as_slice();
+    let rows = contents.rows.as_slice();
     match form_program_with(
-        alloc,
-        taken.original(),
-        object,
-        list.as_slice(),
-        &contents.fills,
-        &contents.rows,
-        version,
-        &digest,
+        alloc, original, object, listed, fills, rows, version, &digest,
     ) {
         Ok(file) => Ok(Some(NewProgram {
             file: trimmed(file),
-            conflicts: contents.rows.len() as u64,
+            conflicts: rows.len() as u64,
         })),
         Err(FormFault::TooLarge) => Ok(None),
         Err(_) => Err(NoMemory),
@@ -139,11 +135,12 @@ fn file_with(
     requires placed { spec.IsPlacedWalk work.now.numbered.now row placed.now }
     ensures { IfOk result (contents.IsProgramWith work.now row version modules.now) }
 {
+    let among = placed.walk.among(work.numbered.index);
     let linking = WalkLinking {
         scope: &placed.walk.scope,
         places: &placed.places,
         modules,
-        among: placed.walk.among(work.numbered.index),
+        among,
     };
     match contents_of(alloc, work, row, &linking) {
         Ok(contents) => form_of(alloc, work, row, version, &contents),

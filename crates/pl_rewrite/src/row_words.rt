@@ -70,9 +70,7 @@ fn held_of(
     remaining: &[u32],
 ) -> Result<Rows<HeldWord>, AllocError>
     requires numbered { spec.IsNumbered numbered.now }
-    requires row { row < length numbered.now.files.now }
-    requires walk { spec.IsWalkRow numbered.now row }
-    requires library { spec.is_library_row numbered.now row ≡ true }
+    requires row { spec.IsLibraryRow numbered.now row }
     requires words { words.now ≡ by_rows.own_words_at numbered.now row }
     requires remaining { by_rows.AreOfRow numbered.now row remaining.now }
     ensures { IfOk result (by_rows.AreHeldAt numbered.now row remaining.now) }
@@ -95,9 +93,7 @@ fn held_if(
     asked: bool,
 ) -> Result<Rows<HeldWord>, AllocError>
     requires numbered { spec.IsNumbered numbered.now }
-    requires row { row < length numbered.now.files.now }
-    requires walk { spec.IsWalkRow numbered.now row }
-    requires library { spec.is_library_row numbered.now row ≡ true }
+    requires row { spec.IsLibraryRow numbered.now row }
     requires words { words.now ≡ by_rows.own_words_at numbered.now row }
     requires remaining { by_rows.AreOfRow numbered.now row remaining.now }
     ensures { IfOk result (λ held. asked ≡ true
@@ -127,7 +123,11 @@ fn is_needed(needed: &Needed<'_>, row: usize) -> bool
     requires held { row < length needed.now.held.now }
     ensures { result ≡ by_rows.is_needed needed.now row }
 {
-    needed.made[row] || needed.held[row]
+    let made = needed.made[row];
+    if made {
+        return true;
+    }
+    needed.held[row]
 }
 
 /// What is asked of a library.
@@ -198,9 +198,11 @@ pub fn words_of_rows(
     ensures { IfOk result (λ v. by_rows.AreRowWords numbered.now needed.now v.items) }
 {
     let mut all = Vec::new(alloc);
-    for link in links.into_vec() {
+    let items = links.into_vec();
+    for link in items {
         let row = all.len();
-        all.push(row_words_of(alloc, numbered, row, link, needed)?)?;
+        let one = row_words_of(alloc, numbered, row, link, needed)?;
+        all.push(one)?;
     }
     Ok(all)
 }

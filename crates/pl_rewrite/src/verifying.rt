@@ -94,9 +94,7 @@ fn library_meant(
     version: Version,
 ) -> Result<Option<Vec<u8>>, NoMemory>
     requires numbered { rows.IsNumbered numbered.now }
-    requires row { row < length numbered.now.files.now }
-    requires walk { rows.IsWalkRow numbered.now row }
-    requires library { rows.is_library_row numbered.now row ≡ true }
+    requires row { rows.IsLibraryRow numbered.now row }
     requires digests { AreDigests numbered.now.files.now digests.now }
     requires row_words { spec.HasWords numbered.now row row_words.items }
     ensures { IfOk result (spec.IsMeantAt numbered.now row version) }

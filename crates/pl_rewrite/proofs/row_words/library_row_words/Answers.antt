@@ -1,5 +1,4 @@
-use Rattle.std.proofs.Common.{◌∙◌, subst, arith}
-use Rattle.pl_rewrite.specs.RowWords.{AreHeldAt}
+use Rattle.std.proofs.Common.{◌∙◌, arith}
 use Rattle.pl_rewrite.proofs.RowWordLaws.{asked_is, link_finds, link_numbers, row_words_library}
 use Rattle.pl_rewrite.proofs.row_words.library_row_words.Goals as goal
 
@@ -9,8 +8,8 @@ own_words_at-requires-clause-walk c = c.requires.link.walk
 pub own_words_at-requires-clause-found : goal.own_words_at-requires-clause-found
 own_words_at-requires-clause-found c = rw c.as_slice.ensures (link_finds c.args.numbered.now c.args.row c.args.link.now c.requires.link c.requires.library)
 
-pub held_if-requires-clause-walk : goal.held_if-requires-clause-walk
-held_if-requires-clause-walk c = c.requires.link.walk
+pub held_if-requires-clause-row : goal.held_if-requires-clause-row
+held_if-requires-clause-row c = record { within = c.requires.row; walk = c.requires.link.walk; library = c.requires.library }
 
 pub held_if-requires-clause-words : goal.held_if-requires-clause-words
 held_if-requires-clause-words c = c.as_slice-own.ensures ∙ c.in_ok-words.ensures

@@ -1,0 +1,12 @@
+use Rattle.pl_rewrite.proofs.MadeRowLaws.{program_none, program_there}
+use Rattle.pl_rewrite.proofs.RowTestLaws.{file_at}
+use Rattle.pl_rewrite.proofs.outcomes.program_outcome.Goals as goal
+
+pub returns-in-Some : goal.returns-in-Some
+returns-in-Some c = program_there c.args.work.now.numbered.now c.args.row c.in_ok-made.made c.in-Some.program c.requires.program.program c.in-Some.is c.in_ok-made.ensures
+
+pub returns-in-None : goal.returns-in-None
+returns-in-None c =
+    let n = c.args.work.now.numbered.now in
+    let at = file_at n c.args.row c.index-files-row.result c.requires.row c.index-files-row.is in
+    program_none n c.args.row c.in_ok-made.made c.index-files-row.result c.in_ok-cause.cause c.in-None.is c.in_ok-made.ensures at c.in_ok-cause.ensures
